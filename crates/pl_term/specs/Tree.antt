@@ -12,6 +12,7 @@ mutual
     int : ℤ → Tree
     atom : Chars → Tree
     comp : Chars → Tree → Trees → Tree
+
   pub data Trees : Type 0 where
     none : Trees
     more : Tree → Trees → Trees

@@ -1,0 +1,4 @@
+//! The definitions that a reader must believe, and the laws that stand above them.
+#![tactic(auto)]
+
+pub mod syntax;
