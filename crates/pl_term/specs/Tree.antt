@@ -1,6 +1,6 @@
 -- Terms (ISO 6.1.2): a variable by its number, an integer, an atom, or a compound term with one or more
 -- arguments. The first argument stands apart, so that no compound term without arguments can be written.
-use Rattle.std.specs.Prelude.{ℕ, ℤ, List, [], ◌∷◌, ◌+◌, suc, zero}
+use Rattle.std.specs.Prelude.{ℕ, ℤ, List, [], ◌∷◌, suc, zero}
 
 -- A text as the list of its code points.
 abbrev pub Chars : Type 0

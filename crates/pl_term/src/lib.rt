@@ -1,8 +1,12 @@
 //! Texts, trees and flat terms.
 #![tactic(auto)]
 
-ghost use Rattle.std.specs.Prelude.{◌≡◌};
+mod flat;
+mod memory;
+mod node;
+mod text;
 
-/// Want of memory: the one refusal that every call which allocates may give.
-#[derive(Debug, Clone, Copy, PartialEq, Eq, Drop)]
-pub struct Memory;
+pub use flat::Flat;
+pub use memory::Memory;
+pub use node::Node;
+pub use text::Text;
