@@ -1,2 +1,6 @@
+pub mod Cells
 pub mod Nodes
+pub mod Order
 pub mod Tree
+pub mod Variables
+pub mod Variant
