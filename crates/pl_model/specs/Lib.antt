@@ -1,2 +1,4 @@
+pub mod Grammar
 pub mod Operators
+pub mod Tokens
 pub mod Unify

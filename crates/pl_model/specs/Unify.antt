@@ -1,7 +1,7 @@
 -- Unification (ISO 7.3.2, the Herbrand algorithm) with the occurs check: as long as the two terms differ, the
 -- variable at their leftmost difference is bound to the term that faces it, and replaced everywhere. Of two
 -- variables the one with the greater number is bound.
-use Rattle.std.specs.Prelude.{ℕ, zero, suc, ◌+◌, Bool, true, false, ◌&&◌, ◌||◌, if◌then◌else◌, nat_lt, ◌==◌, bytes_eq, List, [], ◌∷◌, ◌++◌, length, Option, Some, None}
+use Rattle.std.specs.Prelude.{ℕ, zero, suc, ◌+◌, Bool, false, ◌&&◌, ◌||◌, if◌then◌else◌, nat_lt, ◌==◌, bytes_eq, List, [], ◌∷◌, ◌++◌, length, Option, Some, None}
 use Rattle.std.specs.Ordering.{int_eq}
 use Rattle.pl_term.specs.Tree.{Tree, Trees, var, int, atom, comp, none, more, count}
 

@@ -1,4 +1,5 @@
 //! The definitions that a reader must believe, and the laws that stand above them.
 #![tactic(auto)]
 
+pub mod reading;
 pub mod syntax;
