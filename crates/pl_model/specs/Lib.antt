@@ -1,2 +1,4 @@
+pub mod Characters
 pub mod Operators
 pub mod Unify
+pub mod Writing

@@ -2,3 +2,4 @@
 #![tactic(auto)]
 
 pub mod syntax;
+pub mod writing;
