@@ -1,4 +1,16 @@
-pub mod Grammar
+pub mod Characters
 pub mod Operators
 pub mod Tokens
+pub mod Grammar
 pub mod Unify
+pub mod Writing
+pub mod History
+pub mod World
+pub mod Errors
+pub mod Bodies
+pub mod Serve
+pub mod Machine
+pub mod Run
+pub mod Program
+pub mod Complete
+pub mod Transcript
