@@ -1,7 +1,7 @@
 -- The command line, and the lines that are written where no goal is run.
-use Rattle.std.specs.Prelude.{ℕ, List, [], ◌∷◌, ◌++◌, Bool, false, not, ◌&&◌, ◌==◌, Option, Some, None, bytes_eq, codes, if◌then◌else◌}
+use Rattle.std.specs.Prelude.{ℕ, suc, take, List, [], ◌∷◌, ◌++◌, Bool, false, not, ◌&&◌, ◌==◌, Option, Some, None, bytes_eq, codes, if◌then◌else◌}
 use Rattle.pl_term.specs.Tree.{Chars}
-use Rattle.pl_model.specs.Machine.{Job}
+use Rattle.pl_model.specs.Machine.{Job, most_bytes}
 
 -- The command: the name of the file, and the word of the goal.
 pub record Command : Type 0 where
@@ -24,9 +24,15 @@ command _ = None
 abbrev pub most_inferences : ℕ
 most_inferences = 10000000
 
--- What the engine `main` has to do.
+-- What the engine `main` has to do. Of a file that is too large, only the first bytes are read that show it.
 abbrev pub main_job : Command → List ℕ → Job
-main_job c bytes = record { file = bytes; word = c.goal; inferences = most_inferences; solutions = 1 }
+main_job c bytes =
+    record {
+      file = take (suc most_bytes) bytes;
+      word = c.goal;
+      inferences = most_inferences;
+      solutions = 1;
+    }
 
 abbrev pub newline : Chars
 newline = 10 ∷ []
