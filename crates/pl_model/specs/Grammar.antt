@@ -41,7 +41,7 @@ moved r place = record r { at = place }
 abbrev pub refused : {A : Type 0} → SyntaxKind → ℕ → Outcome A
 refused kind at = Err (record { kind = kind; at = at })
 
--- Variables (ISO 6.3.1.1): `_` is a new one each time, any other name stands for one variable throughout a clause.
+-- Variables (ISO 6.3.2): `_` is a new one each time, any other name stands for one variable throughout a clause.
 
 abbrev pub number_of : List (Chars × ℕ) → Chars → Option ℕ
 number_of [] name = None
