@@ -78,16 +78,22 @@ consult_section name kept = with_lines [] (map (kept_line name) kept)
 -- The goal
 
 -- Name = Term, for each variable that is shown
-abbrev pub bindings_text : Operators → List Chars → List Tree → Chars
-bindings_text ops [] ts = []
-bindings_text ops (n ∷ ns) [] = []
-bindings_text ops (n ∷ []) (t ∷ ts) = n ++ (codes " = " ++ writeq ops 699 t)
-bindings_text ops (n ∷ (m ∷ ms)) (t ∷ ts) =
-    n ++ (codes " = " ++ (writeq ops 699 t ++ (codes ", " ++ bindings_text ops (m ∷ ms) ts)))
+abbrev pub binding_texts : Operators → List Chars → List Tree → List Chars
+binding_texts ops [] ts = []
+binding_texts ops (n ∷ ns) [] = []
+binding_texts ops (n ∷ ns) (t ∷ ts) = (n ++ (codes " = " ++ writeq ops 699 t)) ∷ binding_texts ops ns ts
+
+abbrev pub with_commas : List Chars → Chars
+with_commas [] = []
+with_commas (b ∷ []) = b
+with_commas (b ∷ (c ∷ cs)) = b ++ (codes ", " ++ with_commas (c ∷ cs))
+
+abbrev pub solution_text : List Chars → Chars
+solution_text [] = codes "true."
+solution_text (b ∷ bs) = stopped (with_commas (b ∷ bs))
 
 abbrev pub solution_line : List Chars → Solution → Chars
-solution_line [] s = codes "true."
-solution_line (n ∷ ns) s = stopped (bindings_text s.operators (n ∷ ns) s.answer)
+solution_line names s = solution_text (binding_texts s.operators names s.answer)
 
 -- The last line of a goal's section. A ball is written under the operators at its engine's end.
 abbrev pub end_lines : Operators → Option (SyntaxKind × ℕ) → How → List Chars
