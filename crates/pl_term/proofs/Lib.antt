@@ -1,2 +1,5 @@
+pub mod Distinct
+pub mod OrderLemmas
 pub mod Spelled
+pub mod TextOrder
 pub mod Texts

@@ -4,6 +4,7 @@
 mod flat;
 mod memory;
 mod node;
+mod order;
 mod text;
 
 pub use flat::Flat;
