@@ -1,11 +1,9 @@
 -- The standard order of two terms is that of their lists of nodes, one node after the other.
-use Rattle.std.proofs.Common.{◌≡◌, ◌<◌, ◌≤◌, ◌+◌, ℕ, suc, Bool, false, List, [], ◌∷◌, ◌++◌, length, drop, get_or, min, refl, sym, ◌∙◌, ap, arith, rules, append_assoc, append-nil, length-drop, ◌-◌, drop-cons, add-one}
+use Rattle.std.proofs.Common.{◌≡◌, ◌<◌, ◌≤◌, ◌+◌, ℕ, suc, false, List, [], ◌∷◌, ◌++◌, length, drop, get_or, min, refl, sym, ◌∙◌, ap, arith, append_assoc, append-nil, length-drop, ◌-◌, drop-cons, add-one}
 use Rattle.std.proofs.lemmas.Bool.Decides.{nat_tests}
 use Rattle.std.proofs.lemmas.Cmp.{ranked}
-use Rattle.std.proofs.lemmas.List.{drop_all}
-use Rattle.std.specs.Cmp.{nat_cmp_is}
 use Rattle.std.specs.Cmp.Lexicographic.{slice_cmp}
-use Rattle.std.specs.Ordering.{nat_cmp, ordering_then, is_ne, MatchOrdering}
+use Rattle.std.specs.Ordering.{nat_cmp, ordering_then, is_ne}
 use Rattle.std.specs.declared.cmp.Ordering.{Ordering}
 use Rattle.std.specs.declared.cmp.Ordering.TheVariants.{Less, Equal, Greater}
 use Rattle.pl_term.specs.declared.node.Node.{Node}
@@ -13,12 +11,12 @@ use Rattle.pl_term.specs.Tree.{Tree, Trees, var, int, atom, comp, none, more, co
 use Rattle.pl_term.specs.Nodes.{nodes, nodes_all}
 use Rattle.pl_term.specs.Order.{order, order_all, text_order}
 use Rattle.pl_term.specs.NodeLists.{node_order}
-use Rattle.pl_term.proofs.TextOrder.{then_assoc, nat_cmp-less, nat_cmp-greater, nat_cmp-same, nat_cmp-plus}
+use Rattle.pl_term.proofs.TextOrder.{then_assoc, nat_cmp-less, nat_cmp-greater}
 
 nat_cmp-suc : (k l : ℕ) → nat_cmp (suc k) (suc l) ≡ nat_cmp k l
 nat_cmp-suc k l = grind (arith, nat_tests)
 
-equal_from : (k l : ℕ) → nat_cmp k l ≡ Equal → k ≡ l
+pub equal_from : (k l : ℕ) → nat_cmp k l ≡ Equal → k ≡ l
 equal_from k l e = ranked k l Equal (sym e)
 
 -- A compound term is compared by its arity, then by its name, then by what comes behind these.

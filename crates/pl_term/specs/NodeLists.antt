@@ -1,11 +1,11 @@
 -- What the definitions on terms are on the lists of their nodes.
-use Rattle.std.specs.Prelude.{ℕ, ◌+◌, List, [], ◌∷◌, ◌++◌, length, map, if◌then◌else◌}
+use Rattle.std.specs.Prelude.{Option, Some, None, ℕ, ◌+◌, List, [], ◌∷◌, ◌++◌, length, if◌then◌else◌}
 use Rattle.std.specs.Ordering.{nat_cmp, int_cmp, ordering_then}
 use Rattle.std.specs.declared.cmp.Ordering.{Ordering}
 use Rattle.pl_term.specs.declared.node.Node.{Node}
 use Rattle.pl_term.specs.declared.node.Node.TheVariants.{Var, Int, Atom, Comp}
 use Rattle.pl_term.specs.Order.{text_order}
-use Rattle.pl_term.specs.Variables.{is_in, distinct}
+use Rattle.pl_term.specs.Variables.{is_in, place, distinct}
 
 -- A variable comes before an integer, that before an atom, and that before a compound term.
 abbrev pub node_rank : Node → ℕ
@@ -65,3 +65,18 @@ met_with (Var x) xs = with x xs
 met_with (Int i) xs = xs
 met_with (Atom a) xs = xs
 met_with (Comp f k) xs = xs
+
+-- The cells that a node adds to those of the nodes before it.
+abbrev pub added_cells : Node → List Node → ℕ
+added_cells (Var x) ns = if is_in x (variables_of ns) then 0 else 1
+added_cells (Int i) ns = 0
+added_cells (Atom a) ns = 0
+added_cells (Comp f k) ns = k + 1
+
+-- The place of a number that is in the list.
+abbrev pub place_if : ℕ → List ℕ → Option ℕ
+place_if x xs = if is_in x xs then Some (place x xs) else None
+
+-- The node in which a variable goes by its place among those met.
+abbrev pub numbered_node : Node → List ℕ → Node
+numbered_node n xs = rename_node (λ x. place x xs) n

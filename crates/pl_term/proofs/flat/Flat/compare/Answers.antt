@@ -3,7 +3,6 @@ use Rattle.std.specs.Cmp.Lexicographic.{slice_cmp}
 use Rattle.pl_term.specs.Nodes.{nodes}
 use Rattle.pl_term.specs.NodeLists.{node_order}
 use Rattle.pl_term.proofs.OrderLemmas.{order_by_nodes}
-use Rattle.pl_term.proofs.Distinct.{distinct-append}
 use Rattle.pl_term.proofs.flat.Flat.compare.Goals as goal
 
 pub returns : goal.returns
