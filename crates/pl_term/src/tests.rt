@@ -36,6 +36,8 @@ fn texts(rt: HostRuntime) -> Result<(), Fail> {
     let text = Text::from_str(alloc, "ab")?;
     assert!(rt; text.is("ab") && !text.is("a"));
     assert_eq!(rt; text.as_str(), "ab");
+    assert_eq!(rt; text.size(), 2);
+    assert_eq!(rt; Text::from_str(alloc, "é\u{10000}")?.size(), 6);
     assert!(rt; text.copy(alloc)?.same(&text));
     let ascending = [
         "",
@@ -69,6 +71,9 @@ fn terms_and_their_copies(rt: HostRuntime) -> Result<(), Fail> {
     match second.nodes() {
         [Node::Comp(g, 2), Node::Int(1), Node::Atom(a)] => assert!(rt; g.is("g") && a.is("a")),
         _ => assert!(rt; false),
+    }
+    for n in second.nodes() {
+        assert!(rt; n.copy(alloc)?.same(n));
     }
     assert!(rt; first.copy(alloc)?.same(&first));
     assert!(rt; second.copy(alloc)?.same(&second));
