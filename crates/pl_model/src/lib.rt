@@ -4,4 +4,5 @@
 pub mod ends;
 pub mod reading;
 pub mod syntax;
+pub mod unification;
 pub mod writing;
