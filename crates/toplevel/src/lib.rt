@@ -1,0 +1,4 @@
+//! The program: from the words of a command to its transcript.
+#![tactic(auto)]
+
+pub mod lexer;
