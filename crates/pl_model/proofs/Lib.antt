@@ -5,3 +5,6 @@ pub mod UnifyTurns
 pub mod UnifySolved
 pub mod UnifyGeneral
 pub mod UnifyLaws
+pub mod Depth
+pub mod Runs
+pub mod TokenPlaces

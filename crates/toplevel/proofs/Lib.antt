@@ -1,2 +1,3 @@
 pub mod UnifyNodes
 pub mod UnifySubterms
+pub mod LexerRuns

@@ -1,1 +1,2 @@
 pub mod Subterms
+pub mod LexerViews

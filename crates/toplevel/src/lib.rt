@@ -2,3 +2,7 @@
 #![tactic(auto)]
 
 pub mod subterms;
+//! The program: from the words of a command to its transcript.
+#![tactic(auto)]
+
+pub mod lexer;
