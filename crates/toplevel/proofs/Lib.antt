@@ -1,0 +1,2 @@
+pub mod WriterShown
+pub mod WriterTexts

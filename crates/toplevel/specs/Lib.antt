@@ -1,0 +1,2 @@
+pub mod WriterNames
+pub mod WriterPage

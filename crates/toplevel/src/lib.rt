@@ -1,0 +1,6 @@
+//! The Prolog system: from words and files to a transcript.
+#![tactic(auto)]
+
+mod writer_names;
+mod writer_page;
+mod writer_quotes;
