@@ -1,2 +1,4 @@
+pub mod WriterEdges
+pub mod WriterPuts
 pub mod WriterShown
 pub mod WriterTexts

@@ -1,5 +1,5 @@
 -- What a page shows once a piece is put.
-use Rattle.std.proofs.Common.{◌≡◌, ◌<◌, ℕ, Bool, true, false, cond, List, [], ◌∷◌, ◌++◌, refl, sym, ◌∙◌, ap, append_assoc, append-nil, lit<}
+use Rattle.std.proofs.Common.{◌≡◌, ◌<◌, ℕ, Bool, true, false, List, [], ◌∷◌, ◌++◌, refl, sym, ◌∙◌, ap, append_assoc, lit<}
 use Rattle.std.specs.Str.{encode_utf8_all}
 use Rattle.std.specs.Prelude.{if◌then◌else◌, codes}
 use Rattle.std.proofs.lemmas.Str.{encodes-append, encode_ascii}
@@ -7,7 +7,7 @@ use Rattle.pl_term.specs.Tree.{Chars}
 use Rattle.pl_model.specs.Writing.{last_character}
 use Rattle.toplevel.specs.declared.writer_page.Edge.{Edge}
 use Rattle.toplevel.specs.declared.writer_page.Edge.TheVariants.{Symbol, Word, Quote, Other}
-use Rattle.toplevel.specs.WriterPage.{edge, joins, gap_bytes, gap_at, edge_after, behind, shown}
+use Rattle.toplevel.specs.WriterPage.{edge, joins, gap_bytes, behind, shown}
 
 -- A space is one byte.
 space_encodes : (b : Bool) → encode_utf8_all (if b then codes " " else []) ≡ (if b then codes " " else [])

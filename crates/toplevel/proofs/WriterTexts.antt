@@ -1,6 +1,6 @@
 -- Names as texts in UTF-8: their characters, and tests of all of them.
-use Rattle.std.proofs.Common.{◌≡◌, ◌<◌, ◌≤◌, ℕ, Bool, true, false, cond, List, [], ◌∷◌, ◌++◌, length, Option, Some, None, IsTrue, ◌↔◌, MatchOption, refl, sym, ◌∙◌, ap, append_assoc, ⊎_elim, arith}
-use Rattle.std.specs.Prelude.{nat_lt, map, not, ◌&&◌, ◌||◌, ◌==◌, bytes_eq, chars, codes}
+use Rattle.std.proofs.Common.{◌≡◌, ◌<◌, ◌≤◌, ℕ, Bool, true, false, List, [], ◌∷◌, ◌++◌, length, Option, Some, None, IsTrue, ◌↔◌, MatchOption, refl, sym, ◌∙◌, ap, append_assoc, ⊎_elim, arith}
+use Rattle.std.specs.Prelude.{nat_lt, map, not, ◌&&◌, ◌==◌, bytes_eq, chars, codes}
 use Rattle.std.specs.Char.{is_ascii}
 use Rattle.std.specs.List.{list_all, list_any, flat_map}
 use Rattle.std.specs.Str.{encode_utf8_all, IsUtf8}

@@ -1,5 +1,5 @@
 -- How a name is spelled when it is written.
-use Rattle.std.specs.Prelude.{List, ℕ, if◌then◌else◌}
+use Rattle.std.specs.Prelude.{if◌then◌else◌}
 use Rattle.pl_term.specs.Tree.{Chars}
 use Rattle.pl_model.specs.Characters.{is_letter_name, is_symbol_name, is_solo_name}
 use Rattle.toplevel.specs.declared.writer_names.Spelling.{Spelling}

@@ -5,6 +5,7 @@ use Rattle.pl_term.specs.Tree.{Chars}
 use Rattle.pl_model.specs.Characters.{is_symbol, continues_name}
 use Rattle.pl_model.specs.Writing.{last_character}
 use Rattle.toplevel.specs.declared.writer_page.Edge.{Edge}
+use Rattle.toplevel.specs.declared.writer_page.Page.{Page}
 use Rattle.toplevel.specs.declared.writer_page.Edge.TheVariants.{Symbol, Word, Quote, Other}
 
 -- The kind of a character.
@@ -42,3 +43,7 @@ shown bytes e ps = bytes ++ encode_utf8_all (behind e ps)
 -- The first list is where the second begins.
 abbrev pub Grows : List ℕ → List ℕ → Type 0
 Grows before after = (more : List ℕ) × (after ≡ before ++ more)
+
+-- These pieces were put on the page: it shows what it would have shown with them in front.
+abbrev pub Puts : Page → Page → List Chars → Type 0
+Puts old new qs = (ps : List Chars) → shown new.bytes.items new.last ps ≡ shown old.bytes.items old.last (qs ++ ps)

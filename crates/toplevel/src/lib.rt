@@ -3,4 +3,5 @@
 
 mod writer_names;
 mod writer_page;
+mod writer_pieces;
 mod writer_quotes;

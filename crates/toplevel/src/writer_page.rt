@@ -1,7 +1,7 @@
 //! A page: a text that grows by pieces, with a space between two that would be read as one.
-ghost use Rattle.std.specs.Prelude.{◌≡◌, ◌<◌, ◌++◌, ◌∷◌, [], List, ℕ, OnOk, if◌then◌else◌};
+ghost use Rattle.std.specs.Prelude.{◌≡◌, ◌<◌, ◌++◌, ◌∷◌, [], OnOk};
 ghost use Rattle.toplevel.specs.declared.writer_page.Edge.{Edge};
-ghost use Rattle.toplevel.specs.WriterPage.{Grows, edge, gap_bytes, joins, shown};
+ghost use Rattle.toplevel.specs.WriterPage.{Grows, Puts, edge, gap_bytes};
 
 use pl_term::Memory;
 
@@ -52,9 +52,7 @@ impl Page {
     pub fn put_mark(&mut self, mark: u8) -> Result<(), Memory>
         requires ascii { mark < 128 }
         requires other { edge mark ≡ Edge.Other }
-        ensures shown { OnOk result
-            ((ps : List (List ℕ)) → shown self.new.bytes.items self.new.last ps
-            ≡ shown self.old.bytes.items self.old.last ((mark ∷ []) ∷ ps)) }
+        ensures puts { OnOk result (Puts self.old self.new ((mark ∷ []) ∷ [])) }
         ensures grows { Grows self.old.bytes.items self.new.bytes.items }
     {
         self.bytes.push(mark)?;
