@@ -6,3 +6,10 @@ pub mod subterms;
 #![tactic(auto)]
 
 pub mod lexer;
+//! The Prolog system: from words and files to a transcript.
+#![tactic(auto)]
+
+mod writer_names;
+mod writer_page;
+mod writer_pieces;
+mod writer_quotes;
