@@ -8,3 +8,4 @@ pub mod UnifyLaws
 pub mod Depth
 pub mod Runs
 pub mod TokenPlaces
+pub mod WorkedRuns
