@@ -3,7 +3,8 @@ use Rattle.std.specs.Prelude.{ℕ, List, [], ◌∷◌, codes, pos}
 use Rattle.pl_term.specs.Tree.{Chars, Tree, var, int, atom, comp, none}
 use Rattle.pl_model.specs.declared.ends.How.TheVariants.{Solved, False, Threw}
 use Rattle.pl_model.specs.History.{Proc, Kind, History, add_last, consult, finish}
-use Rattle.pl_model.specs.Errors.{error_ball, consult_proc, not_callable, unknown_procedure}
+use Rattle.pl_model.specs.Errors.{error_ball, consult_proc, not_callable, unknown_procedure, no_inferences}
+use Rattle.pl_model.specs.Machine.{Job}
 use Rattle.pl_model.specs.Program.{Command}
 use Rattle.pl_model.specs.Complete.{Told}
 
@@ -75,3 +76,45 @@ rule = consulted (proc (codes "q") 1) (comp (codes "q") (var 0) none) (comp (cod
 
 abbrev pub rule_told : Told
 rule_told = told_of (fact ∷ rule ∷ finish Solved 10 ∷ []) (0 ∷ 0 ∷ 1 ∷ 1 ∷ 2 ∷ 2 ∷ 2 ∷ 2 ∷ 2 ∷ [])
+
+-- The goals a(X), X = 2 and a(2), with a file of two facts.
+abbrev pub facts_file : List ℕ
+facts_file = codes "a(1). a(2)."
+
+abbrev pub first_fact : Kind
+first_fact = consulted (proc (codes "a") 1) (comp (codes "a") (int (pos 1)) none) (atom (codes "true")) 0
+
+abbrev pub second_fact : Kind
+second_fact = consulted (proc (codes "a") 1) (comp (codes "a") (int (pos 2)) none) (atom (codes "true")) 0
+
+abbrev pub retry_told : Told
+retry_told = told_of (first_fact ∷ second_fact ∷ finish Solved 14 ∷ []) (0 ∷ 0 ∷ 1 ∷ 1 ∷ 2 ∷ 2 ∷ 2 ∷ 2 ∷ [])
+
+abbrev pub one_told : Told
+one_told = told_of (first_fact ∷ second_fact ∷ finish Solved 9 ∷ []) (0 ∷ 0 ∷ 1 ∷ 1 ∷ 2 ∷ 2 ∷ 2 ∷ 2 ∷ [])
+
+-- The goal _A = (=), X = _A, with an empty file.
+abbrev pub names_told : Told
+names_told = told_of (finish Solved 6 ∷ []) (0 ∷ 0 ∷ 0 ∷ [])
+
+-- The goal X, with an empty file.
+abbrev pub variable_ball : Tree
+variable_ball = error_ball (unknown_procedure (proc (codes "call") 1)) (proc (codes "call") 1)
+
+abbrev pub variable_told : Told
+variable_told = told_of (finish (Threw variable_ball) 3 ∷ []) (0 ∷ 0 ∷ 0 ∷ [])
+
+-- The goal l with the file l:-l. and no more than two inferences.
+abbrev pub loop_job : Job
+loop_job = record { file = codes "l:-l."; word = codes "l"; inferences = 2; solutions = 1 }
+
+abbrev pub loop_ball : Tree
+loop_ball = error_ball no_inferences (proc (codes "l") 0)
+
+abbrev pub loop_history : History
+loop_history =
+    by_main
+    (consulted (proc (codes "l") 0) (atom (codes "l")) (atom (codes "l")) 0 ∷ finish (Threw loop_ball) 7 ∷ [])
+
+abbrev pub loop_generations : List ℕ
+loop_generations = 0 ∷ 0 ∷ 1 ∷ 1 ∷ 1 ∷ 1 ∷ []
