@@ -13,4 +13,5 @@ pub mod Machine
 pub mod Run
 pub mod Program
 pub mod Complete
+pub mod Reached
 pub mod Transcript

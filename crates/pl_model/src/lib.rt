@@ -3,5 +3,6 @@
 
 pub mod ends;
 pub mod reading;
+pub mod runs;
 pub mod syntax;
 pub mod writing;

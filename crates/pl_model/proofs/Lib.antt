@@ -1,0 +1,4 @@
+pub mod Stable
+pub mod Entries
+pub mod Reached
+pub mod Alone
