@@ -2,3 +2,10 @@ pub mod Stable
 pub mod Entries
 pub mod Reached
 pub mod Alone
+pub mod UnifyReplace
+pub mod UnifyDifference
+pub mod UnifyEnough
+pub mod UnifyTurns
+pub mod UnifySolved
+pub mod UnifyGeneral
+pub mod UnifyLaws

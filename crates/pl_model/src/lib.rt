@@ -5,4 +5,5 @@ pub mod ends;
 pub mod reading;
 pub mod runs;
 pub mod syntax;
+pub mod unification;
 pub mod writing;
