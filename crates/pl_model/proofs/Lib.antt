@@ -1,3 +1,7 @@
+pub mod Stable
+pub mod Entries
+pub mod Reached
+pub mod Alone
 pub mod UnifyReplace
 pub mod UnifyDifference
 pub mod UnifyEnough

@@ -13,5 +13,6 @@ pub mod Machine
 pub mod Run
 pub mod Program
 pub mod Complete
+pub mod Reached
 pub mod Transcript
 pub mod Rows

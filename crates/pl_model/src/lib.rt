@@ -4,6 +4,7 @@
 pub mod ends;
 pub mod reading;
 pub mod rows;
+pub mod runs;
 pub mod syntax;
 pub mod unification;
 pub mod writing;
