@@ -10,6 +10,6 @@ pub mod UnifySolved
 pub mod UnifyGeneral
 pub mod UnifyLaws
 pub mod Depth
-pub mod Runs
+pub mod CharacterRuns
 pub mod TokenPlaces
 pub mod WorkedRuns

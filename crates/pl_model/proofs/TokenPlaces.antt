@@ -12,7 +12,7 @@ use Rattle.pl_model.specs.declared.syntax.TokenKind.{TokenKind}
 use Rattle.pl_model.specs.declared.syntax.TokenKind.TheVariants.{Name, Numeral, EndToken}
 use Rattle.pl_model.specs.declared.syntax.Lexeme.TheVariants.{End}
 use Rattle.pl_model.specs.Tokens.{Front, nothing, scalar, broken, front, run_end, decimal, is_symbol_name, closes_clause, Blank, passes, stops, spoils, blank, blank_at, skip_layout, Lexed, token, token_of, numeral, symbols, is_symbol, continues_name, class_of, lexeme_at, token_at}
-use Rattle.pl_model.proofs.Runs.{front-bounds, run-within}
+use Rattle.pl_model.proofs.CharacterRuns.{front-bounds, run-within}
 
 abbrev after_blank : ℕ → List ℕ → Blank → Result ℕ SyntaxFault
 after_blank at bs (passes n) = skip_layout (suc at) (n - 1) bs

@@ -10,7 +10,7 @@ use Rattle.std.proofs.lemmas.Str.{is_utf8-from_IsUtf8, IsUtf8-from_is_utf8}
 use Rattle.pl_model.specs.declared.syntax.SyntaxFault.{SyntaxFault}
 use Rattle.pl_model.specs.declared.syntax.SyntaxKind.TheVariants.{BadUtf8, OpenComment}
 use Rattle.pl_model.specs.Tokens.{Front, nothing, scalar, broken, front, front_of, wide_front, run, run_end, line_length, block_length, decimal, comment, block, Blank, passes, stops, spoils, blank, skip_layout}
-use Rattle.pl_model.proofs.Runs.{front-wide, run-passes, run-stops, run-broken}
+use Rattle.pl_model.proofs.CharacterRuns.{front-wide, run-passes, run-stops, run-broken}
 use Rattle.pl_model.proofs.TokenPlaces.{skip_layout-passes, skip_layout-stops, skip_layout-spoils, blank-scalar}
 use Rattle.toplevel.specs.LexerViews.{character_of, blank_result}
 
