@@ -146,8 +146,13 @@ ends c bytes told =
       how = goal_how (end_state c bytes told 1).word_fault (how_of (end_in told.history 1));
     } ∷ []
 
+abbrev pub is_solved_so : How → Bool
+is_solved_so Solved = true
+is_solved_so False = false
+is_solved_so (Threw ball) = false
+
 abbrev pub is_solved : GoalEnd → Bool
-is_solved g = elim g.how [ EndedSo how ↦ elim how [ Solved ↦ true | _ ↦ false ] | _ ↦ false ]
+is_solved g = elim g.how [ EndedSo how ↦ is_solved_so how | _ ↦ false ]
 
 abbrev pub all_solved : List GoalEnd → Bool
 all_solved [] = true
