@@ -1,5 +1,5 @@
 -- A count of faults that rose in a call rose in every stretch around the call.
-use Rattle.std.proofs.Common.{ℕ, ◌≤◌, ◌<◌, ◌-◌, ◌^◌, inl, inr, arith}
+use Rattle.std.proofs.Common.{ℕ, ◌≤◌, ◌-◌, ◌^◌, inl, inr, arith}
 use Rattle.std.proofs.lemmas.Bool.{cases_lt}
 use Rattle.pl_io.specs.Faults.{Rose}
 

@@ -1,5 +1,5 @@
 -- What a change of the files in memory does to the bytes and the counts of each name.
-use Rattle.std.proofs.Common.{◌≡◌, ◌≢◌, ℕ, ◌≤◌, ◌-◌, ◌^◌, ◌+◌, Bool, true, false, List, ◌∷◌, ◌++◌, get_or, set, Option, Some, None, refl, sym, ◌∙◌, ap, subst, arith, inl, inr}
+use Rattle.std.proofs.Common.{◌≡◌, ◌≢◌, ℕ, ◌≤◌, Bool, true, false, List, get_or, Option, Some, None, refl, sym, ◌∙◌, ap, subst, arith, inl, inr}
 use Rattle.std.specs.Prelude.{◌||◌, ◌==◌}
 use Rattle.std.specs.List.{find, list_any, position}
 use Rattle.std.specs.Option.{MatchOption, option_map, option_map_or, is_none}

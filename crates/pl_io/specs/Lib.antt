@@ -1,3 +1,4 @@
+pub mod ErrorTexts
 pub mod Faults
 pub mod MemoryFilesState
 pub mod MemorySinkState

@@ -6,7 +6,7 @@ use Rattle.std.specs.Prelude.{◌≡◌, ◌<◌, ◌≤◌, ◌↔◌, ◌-◌,
 pub record Reads (bytes : List ℕ) (at k len : ℕ) (buffer : List ℕ) : Type 0 where
   pub in_file : k ≤ length bytes - at
   pub same : take k buffer ≡ take k (drop at bytes)
-  pub at_end : 0 < len → (k ≡ 0) ↔ (length bytes ≤ at)
+  pub at_end : 0 < len → ((k ≡ 0) ↔ (length bytes ≤ at))
 
 -- `k` bytes of a file were put at the end of a list: those that come behind as many as the list had. There is none
 -- exactly at or past the end of the file.

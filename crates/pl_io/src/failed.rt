@@ -1,5 +1,6 @@
 //! The errors of reading and writing.
-ghost use Rattle.std.specs.Prelude.{◌≡◌};
+ghost use Rattle.std.specs.Prelude.{◌≡◌, Some, codes};
+ghost use Rattle.pl_io.specs.ErrorTexts.{read_all_error_text};
 ghost use Rattle.pl_io.specs.declared.failed.ReadAllError.TheVariants.{Failed as ReadFailed, Memory as NoMemory};
 
 use pl_term::Memory;
@@ -13,6 +14,8 @@ use std::fmt;
 pub struct Failed;
 
 impl fmt::Display for Failed {
+    ghost output = { λ _. Some (codes "a read or a write failed") };
+
     fn fmt<W: fmt::Write>(&self, f: &mut fmt::Formatter<W>) -> fmt::Result {
         write!(f, "a read or a write failed")
     }
@@ -30,6 +33,8 @@ pub enum ReadAllError {
 }
 
 impl fmt::Display for ReadAllError {
+    ghost output = { λ e. Some (read_all_error_text e) };
+
     fn fmt<W: fmt::Write>(&self, f: &mut fmt::Formatter<W>) -> fmt::Result {
         match self {
             ReadAllError::Failed => write!(f, "a read failed"),

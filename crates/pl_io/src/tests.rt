@@ -69,7 +69,11 @@ fn a_read_that_is_to_fail_fails(rt: HostRuntime) -> Result<(), Fail> {
         let mut files = three_files(alloc, vec![in alloc; call]?)?;
         let got = read_all(alloc, &mut files, &long, 16_777_216);
         assert_eq!(rt; got.is_ok(), call == 4, "call {call}");
-        assert_eq!(rt; got.err() == Some(ReadAllError::Failed), call < 4, "call {call}");
+        assert_eq!(rt;
+            got.err() == Some(ReadAllError::Failed),
+            call < 4,
+            "call {call}"
+        );
         assert_eq!(rt; files.faults(&long), u64::from(call < 4));
         assert_eq!(rt; files.faults(&short), 0);
         assert_eq!(rt; files.calls(), (call + 1).min(4));
@@ -151,7 +155,11 @@ fn a_sink_takes_a_text_or_a_front_of_it(rt: HostRuntime) -> Result<(), Fail> {
         let want = text.get(..bytes).ok_or("a front")?;
         let got = written(&rt, alloc, room, most, failing, want)?;
         let is_whole = bytes == text.len();
-        assert_eq!(rt; got, (is_whole, calls, u64::from(!is_whole)), "room {room}, most {most}, failing {failing}");
+        assert_eq!(rt;
+            got,
+            (is_whole, calls, u64::from(!is_whole)),
+            "room {room}, most {most}, failing {failing}"
+        );
     }
     Ok(())
 }

@@ -1,4 +1,4 @@
-use Rattle.std.proofs.Common.{◌≡◌, ◌<◌, ◌≤◌, ◌+◌, ◌∙◌, ap, arith, rules, length, vec_len, List, ℕ, take, Some}
+use Rattle.std.proofs.Common.{◌≡◌, ◌≤◌, ◌+◌, ◌∙◌, ap, arith, rules, length, vec_len, ℕ, take}
 use Rattle.pl_io.proofs.Fronts.{longer_front, front_to_end}
 use Rattle.pl_io.proofs.whole.read_all.Goals as goal
 use Rattle.pl_io.proofs.whole.read_all.Goals.{else-loop-buffer-test, then-loop-buffer-test+in_ok-read_more+then-branch-eq0}

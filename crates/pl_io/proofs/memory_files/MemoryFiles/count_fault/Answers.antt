@@ -1,8 +1,7 @@
-use Rattle.std.proofs.Common.{◌≡◌, ◌≤◌, Some, None, refl, sym, ◌∙◌, arith, get_or, ap}
+use Rattle.std.proofs.Common.{◌≡◌, Some, None, refl, arith, ap}
 use Rattle.std.specs.List.{position}
 use Rattle.pl_io.specs.contracts.memory_files.MemoryFiles.{the_view}
 use Rattle.pl_io.specs.declared.memory_files.MemoryFile.{MemoryFile}
-use Rattle.pl_io.specs.Faults.{one_more}
 use Rattle.pl_io.specs.MemoryFilesState.{is_named}
 use Rattle.pl_io.proofs.Named.{rewritten, find_nowhere}
 use Rattle.pl_io.proofs.FileStates.{file_counts, others_count}

@@ -1,4 +1,4 @@
-use Rattle.std.proofs.Common.{◌≡◌, Some, None, refl, sym, subst, List, ◌∷◌, [], ◌++◌}
+use Rattle.std.proofs.Common.{◌≡◌, Some, None, refl, sym, subst}
 use Rattle.std.specs.List.{position}
 use Rattle.pl_io.specs.contracts.memory_files.MemoryFiles.{the_view}
 use Rattle.pl_io.specs.declared.memory_files.MemoryFile.{MemoryFile}

@@ -1,4 +1,4 @@
-use Rattle.std.proofs.Common.{◌≡◌, ◌∙◌, Bool, false, sym}
+use Rattle.std.proofs.Common.{◌≡◌, false}
 use Rattle.std.specs.Prelude.{◌==◌}
 use Rattle.std.specs.List.{list_any, position}
 use Rattle.pl_io.specs.contracts.memory_files.MemoryFiles.{the_view}

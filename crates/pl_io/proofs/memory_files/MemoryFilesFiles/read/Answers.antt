@@ -1,6 +1,5 @@
-use Rattle.std.proofs.Common.{◌≡◌, ◌∙◌, Some, sym, subst, ap, length, ◌-◌}
+use Rattle.std.proofs.Common.{◌≡◌, Some, subst, length, ◌-◌}
 use Rattle.std.specs.Prelude.{min}
-use Rattle.pl_io.specs.contracts.memory_files.MemoryFiles.{the_view}
 use Rattle.pl_io.specs.MemoryFilesState.{content}
 use Rattle.pl_io.specs.Reading.{Reads}
 use Rattle.pl_io.proofs.FileStates.{content_found}
