@@ -1,0 +1,2 @@
+pub mod UnifyNodes
+pub mod UnifySubterms
