@@ -1,2 +1,11 @@
+pub mod CellLemmas
+pub mod Distinct
+pub mod NodeLemmas
+pub mod OrderLemmas
+pub mod Places
+pub mod Renaming
 pub mod Spelled
+pub mod TextOrder
 pub mod Texts
+pub mod VariantNodes
+pub mod Variants

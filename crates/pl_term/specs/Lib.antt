@@ -1,4 +1,5 @@
 pub mod Cells
+pub mod NodeLists
 pub mod Nodes
 pub mod Order
 pub mod Tree

@@ -40,4 +40,14 @@ impl Node {
             _ => false,
         }
     }
+
+    /// Whether the node is the variable with the number `x`.
+    pub fn is_variable(&self, x: u64) -> bool
+        ensures { IsTrue result ↔ (self.now ≡ Node.Var x) }
+    {
+        match self {
+            Node::Var(y) => x == *y,
+            _ => false,
+        }
+    }
 }

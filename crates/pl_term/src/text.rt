@@ -1,9 +1,11 @@
 //! Texts: finite lists of code points.
 ghost use Rattle.std.specs.Prelude.{◌≡◌, ◌↔◌, IfOk, IsTrue, true};
 ghost use Rattle.std.specs.Str.{all_scalars, chars, encode_utf8_all};
+ghost use Rattle.pl_term.specs.Order.{text_order};
 
 use crate::memory::Memory;
 use std::alloc::Global;
+use std::cmp::Ordering;
 use std::convert::AsStr;
 use std::marker::Model;
 
@@ -50,6 +52,13 @@ impl Text {
         ensures { IsTrue result ↔ (self.now ≡ chars s.now) }
     {
         self.utf8.as_str() == s
+    }
+
+    /// The order of two texts by the codes of their characters; a text comes before those that it begins.
+    pub fn compare(&self, other: &Text) -> Ordering
+        ensures { result ≡ text_order self.now other.now }
+    {
+        self.utf8.as_str().cmp(other.utf8.as_str())
     }
 
     /// Every code point of a text is a Unicode scalar value.
