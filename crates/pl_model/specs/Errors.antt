@@ -3,7 +3,7 @@ use Rattle.std.specs.Prelude.{pos, codes}
 use Rattle.pl_term.specs.Tree.{Chars, Tree, atom, int, comp, none, more}
 use Rattle.pl_model.specs.History.{Proc}
 
--- The term Name/Arity (ISO 6.1.3).
+-- The term Name/Arity (ISO 7.1.6.6).
 abbrev pub indicator : Proc → Tree
 indicator p = comp (codes "/") (atom p.name) (more (int (pos p.arity)) none)
 

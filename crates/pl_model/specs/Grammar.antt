@@ -41,7 +41,7 @@ moved r place = record r { at = place }
 abbrev pub refused : {A : Type 0} → SyntaxKind → ℕ → Outcome A
 refused kind at = Err (record { kind = kind; at = at })
 
--- Variables (ISO 6.3.1.1): `_` is a new one each time, any other name stands for one variable throughout a clause.
+-- Variables (ISO 6.3.2): `_` is a new one each time, any other name stands for one variable throughout a clause.
 
 abbrev pub number_of : List (Chars × ℕ) → Chars → Option ℕ
 number_of [] name = None
@@ -166,16 +166,21 @@ abbrev pub item : Outcome Item → Item
 item (Ok i) = i
 item (Err f) = fault f.kind f.at
 
-abbrev pub clause_at : List ℕ → Operators → ℕ → ℕ → Outcome Item
-clause_at text ops at start =
+-- The item at a place, read no deeper than a number.
+abbrev pub clause_at : ℕ → List ℕ → Operators → ℕ → ℕ → Outcome Item
+clause_at depth text ops at start =
     and_then
-    (term text ops (suc (length text)) 1200 (record { at = at; names = []; next = 0 }))
+    (term text ops depth 1200 (record { at = at; names = []; next = 0 }))
     (λ p. ended text start p (token_at text p.reading.at))
 
-abbrev pub item_from : List ℕ → ℕ → Operators → Lexed → Item
-item_from text at ops (Err f) = fault f.kind f.at
-item_from text at ops (Ok End) = end_of_text
-item_from text at ops (Ok (Token kind start end)) = item (clause_at text ops at start)
+abbrev pub item_from : ℕ → List ℕ → ℕ → Operators → Lexed → Item
+item_from depth text at ops (Err f) = fault f.kind f.at
+item_from depth text at ops (Ok End) = end_of_text
+item_from depth text at ops (Ok (Token kind start end)) = item (clause_at depth text ops at start)
 
+abbrev pub item_within : ℕ → List ℕ → ℕ → Operators → Item
+item_within depth text at ops = item_from depth text at ops (token_at text at)
+
+-- The item at a place. No text has an item deeper than the number of its bytes.
 unfoldable pub item_of : List ℕ → ℕ → Operators → Item
-item_of text at ops = item_from text at ops (token_at text at)
+item_of text at ops = item_within (suc (length text)) text at ops

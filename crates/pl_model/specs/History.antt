@@ -5,7 +5,7 @@ use Rattle.pl_term.specs.Tree.{Chars, Tree}
 use Rattle.pl_model.specs.Operators.{Operator}
 use Rattle.pl_model.specs.declared.ends.How.{How}
 
--- A predicate by its name and arity (ISO 6.1.3, predicate indicator).
+-- A predicate by its name and arity (ISO 7.1.6.6, predicate indicator).
 pub record Proc : Type 0 where
   pub name : Chars
   pub arity : ℕ

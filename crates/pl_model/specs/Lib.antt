@@ -14,3 +14,4 @@ pub mod Run
 pub mod Program
 pub mod Complete
 pub mod Transcript
+pub mod Rows

@@ -233,7 +233,7 @@ with_clauses s goal rest (c ∷ (d ∷ ds)) =
     (length s.choices)
     c.clause
 
--- Failure: the newest choice point is gone back to (ISO 7.7.9). Where none is left, the goal has no further solution.
+-- Failure: the newest choice point is gone back to (ISO 7.7.8). Where none is left, the goal has no further solution.
 abbrev pub retried : State → List Choice → State
 retried s [] = record s { doing = ended False }
 retried s (others goal cs rest ∷ older) = with_clauses (record s { choices = older }) goal rest cs

@@ -102,7 +102,7 @@ block bs (Some size) = comment bs (2 + size)
 abbrev pub blank_at : List ℕ → ℕ → ℕ → Blank
 blank_at bs c size =
     if is_whitespace c then passes size else
-    if c == 37 then comment bs (line_length bs) else
+    if c == 37 then comment bs (suc (line_length (drop 1 bs))) else
     if c == 47 && slice_index bs 1 == 42 then block bs (block_length (drop 2 bs)) else stops
 
 abbrev pub blank : List ℕ → Blank

@@ -1,5 +1,5 @@
 -- The transcript: what is written of the file and of the goal, from the state in which the engine ended.
-use Rattle.std.specs.Prelude.{ℕ, List, [], ◌∷◌, ◌++◌, map, length, Bool, true, false, not, ◌==◌, Option, Some, None, codes, decimal, if◌then◌else◌}
+use Rattle.std.specs.Prelude.{ℕ, zero, suc, List, [], ◌∷◌, ◌++◌, map, Bool, true, false, not, ◌==◌, Option, Some, None, codes, decimal, if◌then◌else◌}
 use Rattle.pl_term.specs.Tree.{Chars, Tree}
 use Rattle.pl_model.specs.declared.ends.How.{How}
 use Rattle.pl_model.specs.declared.ends.How.TheVariants.{Solved, False, Threw}
@@ -13,6 +13,7 @@ use Rattle.pl_model.specs.declared.syntax.SyntaxKind.TheVariants.{BadUtf8, BadEs
 use Rattle.pl_model.specs.Characters.{is_symbol}
 use Rattle.pl_model.specs.Operators.{Operators}
 use Rattle.pl_model.specs.Writing.{writeq}
+use Rattle.pl_model.specs.History.{History, finish}
 use Rattle.pl_model.specs.World.{world}
 use Rattle.pl_model.specs.Machine.{State, Kept, too_large, syntax_error, refused_clause, Solution}
 use Rattle.pl_model.specs.Program.{Command, newline}
@@ -77,16 +78,22 @@ consult_section name kept = with_lines [] (map (kept_line name) kept)
 -- The goal
 
 -- Name = Term, for each variable that is shown
-abbrev pub bindings_text : Operators → List Chars → List Tree → Chars
-bindings_text ops [] ts = []
-bindings_text ops (n ∷ ns) [] = []
-bindings_text ops (n ∷ []) (t ∷ ts) = n ++ (codes " = " ++ writeq ops 699 t)
-bindings_text ops (n ∷ (m ∷ ms)) (t ∷ ts) =
-    n ++ (codes " = " ++ (writeq ops 699 t ++ (codes ", " ++ bindings_text ops (m ∷ ms) ts)))
+abbrev pub binding_texts : Operators → List Chars → List Tree → List Chars
+binding_texts ops [] ts = []
+binding_texts ops (n ∷ ns) [] = []
+binding_texts ops (n ∷ ns) (t ∷ ts) = (n ++ (codes " = " ++ writeq ops 699 t)) ∷ binding_texts ops ns ts
+
+abbrev pub with_commas : List Chars → Chars
+with_commas [] = []
+with_commas (b ∷ []) = b
+with_commas (b ∷ (c ∷ cs)) = b ++ (codes ", " ++ with_commas (c ∷ cs))
+
+abbrev pub solution_text : List Chars → Chars
+solution_text [] = codes "true."
+solution_text (b ∷ bs) = stopped (with_commas (b ∷ bs))
 
 abbrev pub solution_line : List Chars → Solution → Chars
-solution_line [] s = codes "true."
-solution_line (n ∷ ns) s = stopped (bindings_text s.operators (n ∷ ns) s.answer)
+solution_line names s = solution_text (binding_texts s.operators names s.answer)
 
 -- The last line of a goal's section. A ball is written under the operators at its engine's end.
 abbrev pub end_lines : Operators → Option (SyntaxKind × ℕ) → How → List Chars
@@ -109,14 +116,20 @@ abbrev pub how_of : Option Ended → How
 how_of None = Solved
 how_of (Some end) = end.how
 
--- The operators at the end of the history.
-abbrev pub last_operators : Told → Operators
-last_operators told = (world told.history (length told.history)).operators
+-- The place of the engine's end in a history that begins at the place `k`, or the place behind all entries.
+abbrev pub end_place : ℕ → History → ℕ → ℕ
+end_place e [] k = k
+end_place e (x ∷ xs) k =
+    if x.engine == e then elim x.kind [ finish how n ↦ k | _ ↦ end_place e xs (suc k) ] else end_place e xs (suc k)
+
+-- The operators at the engine's end, which is its last visit.
+abbrev pub end_operators : Told → ℕ → Operators
+end_operators told e = (world told.history (end_place e told.history zero)).operators
 
 -- The text of the whole command.
 abbrev pub transcript : Command → List ℕ → Told → Chars
 transcript c bytes told =
-    section_texts (last_operators told) c (end_state c bytes told 1) (how_of (end_in told.history 1))
+    section_texts (end_operators told 1) c (end_state c bytes told 1) (how_of (end_in told.history 1))
 
 -- Ends
 

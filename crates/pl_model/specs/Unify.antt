@@ -1,46 +1,18 @@
 -- Unification (ISO 7.3.2, the Herbrand algorithm) with the occurs check: as long as the two terms differ, the
 -- variable at their leftmost difference is bound to the term that faces it, and replaced everywhere. Of two
 -- variables the one with the greater number is bound.
-use Rattle.std.specs.Prelude.{ℕ, zero, suc, ◌+◌, Bool, false, ◌&&◌, ◌||◌, if◌then◌else◌, nat_lt, ◌==◌, bytes_eq, List, [], ◌∷◌, ◌++◌, length, Option, Some, None}
+use Rattle.std.specs.Prelude.{ℕ, zero, suc, ◌+◌, ◌&&◌, if◌then◌else◌, nat_lt, ◌==◌, bytes_eq, List, [], ◌∷◌, ◌++◌, length, map, Option, Some, None}
 use Rattle.std.specs.Ordering.{int_eq}
 use Rattle.pl_term.specs.Tree.{Tree, Trees, var, int, atom, comp, none, more, count}
-
--- The variables of a term (ISO 7.1.1.1), each as often as it occurs, from left to right.
-abbrev mutual
-  pub variable_list : Tree → List ℕ
-  variable_list (var x) = x ∷ []
-  variable_list (int i) = []
-  variable_list (atom a) = []
-  variable_list (comp f t ts) = variable_list t ++ variable_list_all ts
-
-  pub variable_list_all : Trees → List ℕ
-  variable_list_all none = []
-  variable_list_all (more t ts) = variable_list t ++ variable_list_all ts
-
--- Whether the number is in the list.
-abbrev pub is_in : ℕ → List ℕ → Bool
-is_in x [] = false
-is_in x (y ∷ ys) = x == y || is_in x ys
-
--- Whether the variable occurs in the term.
-abbrev pub occurs : ℕ → Tree → Bool
-occurs x t = is_in x (variable_list t)
-
--- The term with each occurrence of the variable replaced.
-abbrev mutual
-  pub replace : ℕ → Tree → Tree → Tree
-  replace x s (var y) = if x == y then s else var y
-  replace x s (int i) = int i
-  replace x s (atom a) = atom a
-  replace x s (comp f t ts) = comp f (replace x s t) (replace_all x s ts)
-
-  pub replace_all : ℕ → Tree → Trees → Trees
-  replace_all x s none = none
-  replace_all x s (more t ts) = more (replace x s t) (replace_all x s ts)
+use Rattle.pl_term.specs.Variables.{occurrences_all, has, replace, replace_all}
 
 -- Bindings, each a variable with the term that replaces it, in the order in which they were made.
 abbrev pub Bindings : Type 0
 Bindings = List (ℕ × Tree)
+
+-- The variables that are bound.
+abbrev pub bound_variables : Bindings → List ℕ
+bound_variables bs = map (λ b. b.0) bs
 
 -- The term with the replacements made, in their order.
 abbrev pub bound : Bindings → Tree → Tree
@@ -85,7 +57,7 @@ abbrev pub turn : (Bindings → Trees → Trees → Option Bindings) → Binding
 turn next bs ts us same = Some bs
 turn next bs ts us clash = None
 turn next bs ts us (binds x t) =
-    if occurs x t then None else next (bs ++ (x, t) ∷ []) (replace_all x t ts) (replace_all x t us)
+    if has x t then None else next (bs ++ (x, t) ∷ []) (replace_all x t ts) (replace_all x t us)
 
 -- At most so many turns, after these bindings.
 abbrev pub solve : ℕ → Bindings → Trees → Trees → Option Bindings
@@ -94,7 +66,7 @@ solve (suc n) bs ts us = turn (solve n) bs ts us (differences ts us)
 
 -- As many turns as there are occurrences of variables, and one more: each turn but the last takes a variable away.
 unfoldable pub solve_all : Bindings → Trees → Trees → Option Bindings
-solve_all bs ts us = solve (suc (length (variable_list_all ts) + length (variable_list_all us))) bs ts us
+solve_all bs ts us = solve (suc (length (occurrences_all ts) + length (occurrences_all us))) bs ts us
 
 -- The bindings that unify the terms, or none where no substitution does.
 unfoldable pub unify : Tree → Tree → Option Bindings

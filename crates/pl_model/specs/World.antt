@@ -21,15 +21,17 @@ pub record World : Type 0 where
 abbrev pub same_proc : Proc → Proc → Bool
 same_proc p q = bytes_eq p.name q.name && (p.arity == q.arity)
 
--- The procedures that are there at the start and that no program can change: the control constructs, the
--- built-in predicates, and the names of the two kinds of items that are no facts.
+-- The procedures that are there at the start and that no program can change: the control constructs and built-in
+-- predicates that there are, and the names of the kinds of items that are no facts.
 abbrev pub static_procedures : List Proc
 static_procedures =
     record { name = codes "true"; arity = 0 }
     ∷ record { name = codes ","; arity = 2 }
     ∷ record { name = codes "="; arity = 2 }
     ∷ record { name = codes ":-"; arity = 1 }
-    ∷ record { name = codes ":-"; arity = 2 } ∷ []
+    ∷ record { name = codes ":-"; arity = 2 }
+    ∷ record { name = codes "?-"; arity = 1 }
+    ∷ record { name = codes "-->"; arity = 2 } ∷ []
 
 abbrev pub is_among : Proc → List Proc → Bool
 is_among p [] = false
@@ -49,7 +51,8 @@ abbrev pub erased_where : (Stored → Bool) → ℕ → Stored → Stored
 erased_where test k s =
     elim s.erased [ None ↦ (if test s then record s { erased = Some k } else s) | Some j ↦ s ]
 
--- The state after the entry at the place `k`. The other kinds change no clause and no operator.
+-- The state after the entry at the place `k`. No text that is read today makes an entry of the other kinds; what they
+-- change comes with them.
 abbrev pub change : ℕ → Kind → World → World
 change k (add_first p c o) w = record w { database = fresh_clause k p c ∷ w.database }
 change k (add_last p c o) w = record w { database = w.database ++ fresh_clause k p c ∷ [] }
@@ -109,7 +112,7 @@ not_excluded goal [] = []
 not_excluded goal (s ∷ ss) =
     if is_excluded goal s.clause.head then not_excluded goal ss else s ∷ not_excluded goal ss
 
--- The predicate indicator of a goal (ISO 6.1.3). A variable stands for call/1 of it.
+-- The predicate indicator of a goal (ISO 7.1.6.6). A variable stands for call/1 of it.
 abbrev pub proc_of : Tree → Proc
 proc_of (var x) = record { name = codes "call"; arity = 1 }
 proc_of (int i) = record { name = []; arity = 0 }

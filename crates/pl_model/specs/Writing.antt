@@ -6,7 +6,7 @@ use Rattle.std.specs.Fmt.{signed_decimal}
 use Rattle.std.specs.List.{list_any, flat_map}
 use Rattle.pl_term.specs.Tree.{Chars, Tree, Trees, var, int, atom, comp, none, more, count}
 use Rattle.pl_model.specs.Characters.{is_symbol, continues_name, is_symbol_name, is_bare_name}
-use Rattle.pl_model.specs.Operators.{Specifier, yfx, yf, Operator, Operators, infix_of, left_max, right_max}
+use Rattle.pl_model.specs.Operators.{Specifier, yfx, xf, yf, Operator, Operators, infix_of, left_max, right_max}
 
 -- Names
 
@@ -42,7 +42,7 @@ name f = if is_bare_name f then f else quoted f
 abbrev pub functor : Chars → Chars
 functor f = if bytes_eq f (codes "[]") || bytes_eq f (codes "{}") then quoted f else name f
 
--- ISO 7.10.5 d: a variable as `_` and its number.
+-- ISO 7.10.5 a: a variable as `_` and its number.
 abbrev pub variable : ℕ → Chars
 variable n = codes "_" ++ decimal n
 
@@ -72,7 +72,7 @@ abbrev pub atom_pieces : Operators → Place → Chars → List Chars
 atom_pieces ops place f = parenthesized (is_operand place && is_operator ops f) (name f ∷ [])
 
 abbrev pub is_left_associative : Specifier → Bool
-is_left_associative s = elim s [ yfx ↦ true | yf ↦ true | _ ↦ false ]
+is_left_associative s = elim s [ yfx ↦ true | xf ↦ true | yf ↦ true | _ ↦ false ]
 
 -- Whether a term of this operator has its priority, though not its associativity, from the operator on whose left
 -- it stands.

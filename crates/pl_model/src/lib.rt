@@ -3,5 +3,7 @@
 
 pub mod ends;
 pub mod reading;
+pub mod rows;
 pub mod syntax;
+pub mod unification;
 pub mod writing;

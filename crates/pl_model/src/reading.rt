@@ -1,9 +1,9 @@
 //! Laws of the reader's definition: texts with what they read as.
-ghost use Rattle.std.specs.Prelude.{◌≡◌, ◌∷◌, [], ◌++◌, Ok, Err, codes, pos};
+ghost use Rattle.std.specs.Prelude.{◌≡◌, ◌<◌, ℕ, List, ◌∷◌, [], ◌++◌, Ok, Err, codes, length, pos};
 ghost use Rattle.pl_term.specs.Tree.{var, int, atom, comp, none, more};
 ghost use Rattle.pl_model.specs.Tokens.{token_at, token};
-ghost use Rattle.pl_model.specs.Grammar.{item_of, clause, fault, end_of_text};
-ghost use Rattle.pl_model.specs.Operators.{opening_operators};
+ghost use Rattle.pl_model.specs.Grammar.{item_of, item_within, clause, fault, end_of_text};
+ghost use Rattle.pl_model.specs.Operators.{Operators, opening_operators};
 ghost use Rattle.pl_model.specs.declared.syntax.TokenKind.TheVariants.{Name};
 ghost use Rattle.pl_model.specs.declared.syntax.SyntaxKind.TheVariants.{UnexpectedToken, UnexpectedEnd, LoneCharacter, OpenComment, FloatNumeral};
 
@@ -39,4 +39,10 @@ pub fn reads_faults()
     ensures comment { item_of (codes "p /* (a).") 0 opening_operators ≡ fault OpenComment 2 }
     ensures float { item_of (codes "p(1.5).") 0 opening_operators ≡ fault FloatNumeral 2 }
     ensures blank { item_of (codes "% nothing") 0 opening_operators ≡ end_of_text }
+{}
+
+/// The bound on depth is no part of what a text reads as: every bound above the number of its bytes gives the same.
+#[tactic(auto, using(crate::proofs::Depth::depth_enough))]
+pub fn depth_is_enough()
+    ensures { (text : List ℕ) (ops : Operators) (depth at : ℕ) → length text < depth → item_within depth text at ops ≡ item_of text at ops }
 {}

@@ -7,9 +7,9 @@ use Rattle.pl_term.specs.Tree.{Tree, Trees, var, int, atom, comp, none, more, co
 use Rattle.pl_term.specs.Nodes.{nodes, nodes_all}
 use Rattle.pl_term.specs.Variables.{is_in, distinct, without, occurrences, occurrences_all}
 use Rattle.pl_term.specs.Cells.{compound_cells, compound_cells_all, cells}
-use Rattle.pl_term.specs.NodeLists.{variables_of, node_cells, compound_cells_of, cells_of, added_cells, with}
+use Rattle.pl_term.specs.NodeLists.{variables_of, node_cells, compound_cells_of, cells_of, added_cells, added_variables, with, met_with}
 use Rattle.pl_term.proofs.Distinct.{is_in-distinct}
-use Rattle.pl_term.proofs.NodeLemmas.{met, met-push, met-nodes, length-met_take, compound_cells_of-append, compound_cells_of-nodes}
+use Rattle.pl_term.proofs.NodeLemmas.{met, met_more, met-push, met-nodes, length-met_take, compound_cells_of-append, compound_cells_of-nodes}
 
 length-with : (x : ℕ) (xs : List ℕ) → length (with x xs) ≡ length xs + cond (is_in x xs) 0 1
 length-with x xs =
@@ -134,3 +134,30 @@ pub node_fits : (t : Tree) (ns : List Node) (i : ℕ) (n : Node)
     → n ≡ get_or ns i n
     → node_cells n < 2 ^ 64
 node_fits t ns i n is few h e = omega (arith, cells_fit t ns i n is few h e, node_cells-le n (take i ns))
+
+count_by : (n : Node) (ns : List Node) → length (met_with n (met ns)) ≡ length (met ns) + added_variables n ns
+count_by (Var x) ns =
+    let one : Bool → ℕ = λ b. cond b 0 1 in
+    let seen : one (is_in x (met ns)) ≡ one (is_in x (variables_of ns)) =
+    ap one (is_in-distinct x (variables_of ns)) in
+    omega (arith, length-with x (met ns), seen)
+count_by (Int i) ns = omega arith
+count_by (Atom a) ns = omega arith
+count_by (Comp f k) ns = omega arith
+
+-- The variables of one node more.
+pub count_more : (ns : List Node) (i : ℕ) (n : Node)
+    → i < length ns
+    → n ≡ get_or ns i n
+    → length (met (take (i + 1) ns)) ≡ length (met (take i ns)) + added_variables n (take i ns)
+count_more ns i n h e = ap length (met_more ns i n h e) ∙ count_by n (take i ns)
+
+length-variables_of : (ns : List Node) → length (variables_of ns) ≤ length ns
+length-variables_of [] = omega arith
+length-variables_of (Var x ∷ ns) = omega (arith, length-variables_of ns)
+length-variables_of (Int i ∷ ns) = omega (arith, length-variables_of ns)
+length-variables_of (Atom a ∷ ns) = omega (arith, length-variables_of ns)
+length-variables_of (Comp f k ∷ ns) = omega (arith, length-variables_of ns)
+
+pub length-met : (ns : List Node) → length (met ns) ≤ length ns
+length-met ns = omega (arith, length-distinct (variables_of ns), length-variables_of ns)

@@ -1,4 +1,5 @@
 pub mod CellLemmas
+pub mod Chain
 pub mod Distinct
 pub mod NodeLemmas
 pub mod OrderLemmas

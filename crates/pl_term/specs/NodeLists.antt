@@ -66,6 +66,13 @@ met_with (Int i) xs = xs
 met_with (Atom a) xs = xs
 met_with (Comp f k) xs = xs
 
+-- How many variables a node adds to those of the nodes before it.
+abbrev pub added_variables : Node → List Node → ℕ
+added_variables (Var x) ns = if is_in x (variables_of ns) then 0 else 1
+added_variables (Int i) ns = 0
+added_variables (Atom a) ns = 0
+added_variables (Comp f k) ns = 0
+
 -- The cells that a node adds to those of the nodes before it.
 abbrev pub added_cells : Node → List Node → ℕ
 added_cells (Var x) ns = if is_in x (variables_of ns) then 0 else 1

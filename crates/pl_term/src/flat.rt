@@ -1,5 +1,5 @@
 //! Flat terms: a term as the vector of its nodes in prefix order.
-ghost use Rattle.std.specs.Prelude.{◌≡◌, ◌<◌, ◌++◌, IfOk, OnOk, length};
+ghost use Rattle.std.specs.Prelude.{◌≡◌, ◌<◌, ◌++◌, ◌↔◌, IfOk, IsTrue, OnOk, length};
 ghost use Rattle.pl_term.specs.Tree.{Tree, var, int, atom, compound};
 ghost use Rattle.pl_term.specs.Nodes.{nodes};
 
@@ -91,6 +91,13 @@ impl Flat {
         append(alloc, &mut all, self.nodes())?;
         Ok(Flat { all })
     }
+
+    /// Whether both terms are the same, their variables' numbers too.
+    pub fn same(&self, other: &Flat) -> bool
+        ensures { IsTrue result ↔ (self.now ≡ other.now) }
+    {
+        same_nodes(self.nodes(), other.nodes())
+    }
 }
 
 /// Puts copies of these nodes at the end of `all`. After want of memory, `all` has got some of them.
@@ -101,4 +108,19 @@ fn append(alloc: Global, all: &mut Vec<Node>, more: &[Node]) -> Result<(), Memor
         all.push(n.copy(alloc)?)?;
     }
     Ok(())
+}
+
+/// Whether both lists have the same nodes.
+fn same_nodes(left: &[Node], right: &[Node]) -> bool
+    ensures { IsTrue result ↔ (left.now ≡ right.now) }
+{
+    if left.len() != right.len() {
+        return false;
+    }
+    for i in 0..left.len() {
+        if !left[i].same(&right[i]) {
+            return false;
+        }
+    }
+    true
 }

@@ -2,6 +2,7 @@
 ghost use Rattle.std.specs.Prelude.{◌≡◌, ◌↔◌, IfOk, IsTrue, true};
 ghost use Rattle.std.specs.Str.{all_scalars, chars, encode_utf8_all};
 ghost use Rattle.pl_term.specs.Order.{text_order};
+ghost use Rattle.pl_term.specs.Texts.{size};
 
 use crate::memory::Memory;
 use std::alloc::Global;
@@ -59,6 +60,13 @@ impl Text {
         ensures { result ≡ text_order self.now other.now }
     {
         self.utf8.as_str().cmp(other.utf8.as_str())
+    }
+
+    /// How many bytes the text takes in UTF-8.
+    pub fn size(&self) -> usize
+        ensures { result ≡ size self.now }
+    {
+        self.utf8.as_str().len()
     }
 
     /// Every code point of a text is a Unicode scalar value.

@@ -1,1 +1,4 @@
 pub mod Subterms
+pub mod LexerViews
+pub mod WriterNames
+pub mod WriterPage

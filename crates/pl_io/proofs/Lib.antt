@@ -1,0 +1,4 @@
+pub mod Counts
+pub mod FileStates
+pub mod Fronts
+pub mod Named

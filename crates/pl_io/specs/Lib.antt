@@ -1,0 +1,4 @@
+pub mod Faults
+pub mod MemoryFilesState
+pub mod MemorySinkState
+pub mod Reading

@@ -1,0 +1,11 @@
+pub mod UnifyReplace
+pub mod UnifyDifference
+pub mod UnifyEnough
+pub mod UnifyTurns
+pub mod UnifySolved
+pub mod UnifyGeneral
+pub mod UnifyLaws
+pub mod Depth
+pub mod Runs
+pub mod TokenPlaces
+pub mod WorkedRuns
