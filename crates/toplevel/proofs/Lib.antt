@@ -1,6 +1,12 @@
+pub mod BallsWords
+pub mod BodiesConverted
+pub mod BodiesNodes
+pub mod LexerRuns
 pub mod UnifyNodes
 pub mod UnifySubterms
-pub mod LexerRuns
+pub mod WorldIndex
+pub mod WorldProcedures
+pub mod WorldStored
 pub mod WriterEdges
 pub mod WriterPuts
 pub mod WriterShown

@@ -1,4 +1,9 @@
-pub mod Subterms
+pub mod BodyNodes
+pub mod Clauses
+pub mod Index
 pub mod LexerViews
+pub mod Procedures
+pub mod Shared
+pub mod Subterms
 pub mod WriterNames
 pub mod WriterPage

@@ -1,14 +1,12 @@
-//! The top of the program: all that it does stands here.
-#![tactic(auto)]
-
-pub mod subterms;
-//! The program: from the words of a command to its transcript.
-#![tactic(auto)]
-
-pub mod lexer;
 //! The Prolog system: from words and files to a transcript.
 #![tactic(auto)]
 
+pub mod balls;
+pub mod bodies;
+pub mod lexer;
+pub mod procedures;
+pub mod subterms;
+pub mod world;
 mod writer_names;
 mod writer_page;
 mod writer_pieces;
