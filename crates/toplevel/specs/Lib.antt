@@ -1,2 +1,4 @@
 pub mod WriterNames
+pub mod WriterOperators
 pub mod WriterPage
+pub mod WriterWork

@@ -1,7 +1,9 @@
 //! The Prolog system: from words and files to a transcript.
 #![tactic(auto)]
 
+mod writer;
 mod writer_names;
+mod writer_operators;
 mod writer_page;
 mod writer_pieces;
 mod writer_quotes;
