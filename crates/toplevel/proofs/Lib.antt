@@ -7,7 +7,11 @@ pub mod UnifySubterms
 pub mod WorldIndex
 pub mod WorldProcedures
 pub mod WorldStored
+pub mod WriterAhead
 pub mod WriterEdges
+pub mod WriterOpens
 pub mod WriterPuts
+pub mod WriterRest
 pub mod WriterShown
 pub mod WriterTexts
+pub mod WriterWhole

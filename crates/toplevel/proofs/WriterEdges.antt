@@ -1,11 +1,11 @@
 -- The kinds of the characters with which pieces begin and end.
-use Rattle.std.proofs.Common.{◌≡◌, ◌<◌, ◌^◌, ℕ, suc, Bool, true, false, [], ◌∷◌, ◌++◌, length, refl, sym, ◌∙◌, ap, subst, ⊎_elim, ℤ, pos, negsuc, arith}
-use Rattle.std.specs.Prelude.{nat_le, not, ◌&&◌, bytes_eq, codes, decimal}
+use Rattle.std.proofs.Common.{◌≡◌, ◌<◌, ◌^◌, ℕ, suc, Bool, true, false, cond, List, [], ◌∷◌, ◌++◌, length, refl, sym, ◌∙◌, ap, subst, ⊎_elim, ℤ, pos, negsuc, arith}
+use Rattle.std.specs.Prelude.{nat_le, ◌==◌, ◌||◌, not, ◌&&◌, bytes_eq, codes, decimal}
 use Rattle.std.specs.Char.{is_ascii_digit}
 use Rattle.std.specs.Fmt.{signed_decimal}
 use Rattle.std.specs.List.{list_all, flat_map}
 use Rattle.std.specs.Str.{all_ascii_digits}
-use Rattle.std.proofs.lemmas.Bool.{and_parts, and_from, or_cases, cond-true, cond-false, false_from_ne_true, false≢true, true_from_ne_false, not_from_false, leb-true, ltb-true, agree_below_at}
+use Rattle.std.proofs.lemmas.Bool.{and_parts, and_from, or_cases, cond-true, cond-false, false_from_ne_true, false≢true, true_from_ne_false, not_from_false, leb-true, eqb-true, ltb-true, agree_below_at}
 use Rattle.std.proofs.lemmas.Fmt.{digits_decimal, decimal_nonempty}
 use Rattle.std.proofs.lemmas.Slice.Eq.{bytes_eq-Decides}
 use Rattle.std.proofs.lemmas.Str.Parse.{numerals_by_value, tells_all_ascii_digits}
@@ -14,10 +14,10 @@ use mir.Syntax.{w64}
 use mir.Val.{SFits}
 use Rattle.pl_term.specs.Tree.{Chars}
 use Rattle.pl_model.specs.Characters.{is_symbol, begins_name, continues_name, is_letter_name, is_symbol_name, is_solo_name}
-use Rattle.pl_model.specs.Writing.{last_character, escaped, quoted, variable}
+use Rattle.pl_model.specs.Writing.{last_character, escaped, quoted, variable, gap, would_join, text_behind}
 use Rattle.toplevel.specs.declared.writer_page.Edge.{Edge}
 use Rattle.toplevel.specs.declared.writer_page.Edge.TheVariants.{Symbol, Word, Quote, Other}
-use Rattle.toplevel.specs.WriterPage.{edge}
+use Rattle.toplevel.specs.WriterPage.{edge, joins, gap_at, edge_after, behind}
 use Rattle.toplevel.proofs.WriterTexts.{symbol_ascii, begins_continues}
 
 -- The piece begins and ends with characters of these kinds.
@@ -129,3 +129,113 @@ ends_from_zero (pos n) fits t =
     let h : n < 2 ^ 64 = omega (arith, fits.sfits) in
     ends_decimal n h
 ends_from_zero (negsuc n) fits t = absurd (false≢true (sym t))
+
+-- The kinds of two characters tell whether a space stands between them.
+
+symbol_edge : Edge → Bool
+symbol_edge Symbol = true
+symbol_edge Word = false
+symbol_edge Quote = false
+symbol_edge Other = false
+
+word_edge : Edge → Bool
+word_edge Symbol = false
+word_edge Word = true
+word_edge Quote = false
+word_edge Other = false
+
+quote_edge : Edge → Bool
+quote_edge Symbol = false
+quote_edge Word = false
+quote_edge Quote = true
+quote_edge Other = false
+
+joins_by : (e f : Edge)
+    → ((symbol_edge e && symbol_edge f) || ((word_edge e && word_edge f) || (quote_edge e && quote_edge f))) ≡ joins e f
+unfolding symbol_edge word_edge quote_edge
+joins_by Symbol Symbol = refl
+joins_by Symbol Word = refl
+joins_by Symbol Quote = refl
+joins_by Symbol Other = refl
+joins_by Word Symbol = refl
+joins_by Word Word = refl
+joins_by Word Quote = refl
+joins_by Word Other = refl
+joins_by Quote Symbol = refl
+joins_by Quote Word = refl
+joins_by Quote Quote = refl
+joins_by Quote Other = refl
+joins_by Other Symbol = refl
+joins_by Other Word = refl
+joins_by Other Quote = refl
+joins_by Other Other = refl
+
+kind : Bool → Bool → Bool → Edge
+kind s w q = cond s Symbol (cond w Word (cond q Quote Other))
+
+kind_symbol : (s w q : Bool) → symbol_edge (kind s w q) ≡ s
+unfolding symbol_edge kind
+kind_symbol true w q = refl
+kind_symbol false true q = refl
+kind_symbol false false true = refl
+kind_symbol false false false = refl
+
+kind_word : (s w q : Bool) → (s ≡ true → w ≡ false) → word_edge (kind s w q) ≡ w
+unfolding word_edge kind
+kind_word true w q only = sym (only refl)
+kind_word false true q only = refl
+kind_word false false true only = refl
+kind_word false false false only = refl
+
+kind_quote : (s w q : Bool) → (s ≡ true → q ≡ false) → (w ≡ true → q ≡ false) → quote_edge (kind s w q) ≡ q
+unfolding quote_edge kind
+kind_quote true w q s_only w_only = sym (s_only refl)
+kind_quote false true q s_only w_only = sym (w_only refl)
+kind_quote false false true s_only w_only = refl
+kind_quote false false false s_only w_only = refl
+
+no_word : (c : ℕ) → is_symbol c ≡ true → continues_name c ≡ false
+no_word c s = false_from_ne_true (continues_name c) (λ t. false≢true (sym (no_symbol c t) ∙ s))
+
+no_quote : (c : ℕ) (p : ℕ → Bool) → p 39 ≡ false → p c ≡ true → (c == 39) ≡ false
+no_quote c p not_quote t =
+    false_from_ne_true (c == 39) (λ e. false≢true (sym not_quote ∙ ap p (sym (eqb-true c 39 e)) ∙ t))
+
+edge_is_symbol : (c : ℕ) → symbol_edge (edge c) ≡ is_symbol c
+unfolding kind
+edge_is_symbol c = kind_symbol (is_symbol c) (continues_name c) (c == 39)
+
+edge_is_word : (c : ℕ) → word_edge (edge c) ≡ continues_name c
+unfolding kind
+edge_is_word c = kind_word (is_symbol c) (continues_name c) (c == 39) (no_word c)
+
+edge_is_quote : (c : ℕ) → quote_edge (edge c) ≡ (c == 39)
+unfolding kind
+edge_is_quote c =
+    kind_quote (is_symbol c) (continues_name c) (c == 39) (no_quote c is_symbol refl) (no_quote c continues_name refl)
+
+joins_edges : (c d : ℕ) → would_join c d ≡ joins (edge c) (edge d)
+joins_edges c d =
+    ap (λ b. (b && is_symbol d) || ((continues_name c && continues_name d) || ((c == 39) && (d == 39)))) (sym (edge_is_symbol c))
+    ∙ ap (λ b. (symbol_edge (edge c) && b) || ((continues_name c && continues_name d) || ((c == 39) && (d == 39)))) (sym (edge_is_symbol d))
+    ∙ ap (λ b. (symbol_edge (edge c) && symbol_edge (edge d)) || ((b && continues_name d) || ((c == 39) && (d == 39)))) (sym (edge_is_word c))
+    ∙ ap (λ b. (symbol_edge (edge c) && symbol_edge (edge d)) || ((word_edge (edge c) && b) || ((c == 39) && (d == 39)))) (sym (edge_is_word d))
+    ∙ ap (λ b. (symbol_edge (edge c) && symbol_edge (edge d)) || ((word_edge (edge c) && word_edge (edge d)) || (b && (d == 39)))) (sym (edge_is_quote c))
+    ∙ ap (λ b. (symbol_edge (edge c) && symbol_edge (edge d)) || ((word_edge (edge c) && word_edge (edge d)) || (quote_edge (edge c) && b))) (sym (edge_is_quote d))
+    ∙ joins_by (edge c) (edge d)
+
+gap_edge : (c : ℕ) (p : Chars) → gap c p ≡ gap_at (edge c) p
+gap_edge c [] = refl
+gap_edge c (d ∷ ds) = ap (λ b. cond b (codes " ") []) (joins_edges c d)
+
+last_edge_after : (c : ℕ) (p : Chars) → edge (last_character c p) ≡ edge_after (edge c) p
+last_edge_after c [] = refl
+last_edge_after c (d ∷ ds) = refl
+
+-- The text of pieces depends on the kind of the character before them alone.
+pub text_by_edge : (c : ℕ) (ps : List Chars) → text_behind c ps ≡ behind (edge c) ps
+text_by_edge c [] = refl
+text_by_edge c (p ∷ ps) =
+    ap (λ g. g ++ (p ++ text_behind (last_character c p) ps)) (gap_edge c p)
+    ∙ ap (λ t. gap_at (edge c) p ++ (p ++ t)) (text_by_edge (last_character c p) ps)
+    ∙ ap (λ e. gap_at (edge c) p ++ (p ++ behind e ps)) (last_edge_after c p)

@@ -6,4 +6,6 @@ pub mod Procedures
 pub mod Shared
 pub mod Subterms
 pub mod WriterNames
+pub mod WriterOperators
 pub mod WriterPage
+pub mod WriterWork
