@@ -15,3 +15,6 @@ pub mod WriterRest
 pub mod WriterShown
 pub mod WriterTexts
 pub mod WriterWhole
+pub mod AddsLemmas
+pub mod Endings
+pub mod TranscriptLemmas

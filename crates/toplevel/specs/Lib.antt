@@ -9,3 +9,6 @@ pub mod WriterNames
 pub mod WriterOperators
 pub mod WriterPage
 pub mod WriterWork
+pub mod Adds
+pub mod Lines
+pub mod Outcome

@@ -1,12 +1,16 @@
 //! The Prolog system: from words and files to a transcript.
 #![tactic(auto)]
 
-pub mod balls;
-pub mod bodies;
-pub mod lexer;
-pub mod procedures;
-pub mod subterms;
-pub mod world;
+mod balls;
+mod bodies;
+mod command;
+mod lexer;
+mod lines;
+mod outcome;
+mod procedures;
+mod subterms;
+mod transcript;
+mod world;
 mod writer;
 mod writer_names;
 mod writer_operators;

@@ -72,7 +72,8 @@ fn is_solo_name(f: &Text) -> bool
     is_named(f, "!") || is_named(f, ";") || is_named(f, "[]") || is_named(f, "{}")
 }
 
-fn first_character(f: &Text) -> Option<char>
+/// The first character of a text.
+pub fn first_character(f: &Text) -> Option<char>
     ensures { MatchOption result (f.now ≡ []) (λ c. (cs : List ℕ) × (f.now ≡ c ∷ cs)) }
 {
     f.as_str().chars().next()
