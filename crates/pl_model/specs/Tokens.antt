@@ -2,10 +2,11 @@
 -- that goes on in its class. The text is a list of bytes, and a place is the number of bytes before it.
 use Rattle.std.specs.Prelude.{ℕ, List, [], ◌∷◌, Bool, true, false, Option, Some, None, Result, Ok, Err, ◌+◌, ◌-◌, ◌*◌, ◌^◌, suc, zero, ◌&&◌, ◌||◌, ◌==◌, nat_lt, if◌then◌else◌, bytes_eq, codes, length, take, drop, slice_index, fold, option_map}
 use Rattle.std.specs.List.{list_any}
-use Rattle.std.specs.Char.{is_whitespace, is_ascii_lowercase, is_ascii_uppercase, is_ascii_digit, is_ascii_alphanumeric}
+use Rattle.std.specs.Char.{is_whitespace, is_ascii_lowercase, is_ascii_uppercase, is_ascii_digit}
 use Rattle.std.specs.Str.{chars, is_utf8, continuation_len}
-use Rattle.unicode_ident.specs.Ident.{is_xid_start, is_xid_continue}
+use Rattle.unicode_ident.specs.Ident.{is_xid_start}
 use Rattle.pl_term.specs.Tree.{Chars}
+pub use Rattle.pl_model.specs.Characters.{is_symbol, continues_name}
 use Rattle.pl_model.specs.declared.syntax.SyntaxKind.{SyntaxKind}
 use Rattle.pl_model.specs.declared.syntax.SyntaxKind.TheVariants.{BadUtf8, FloatNumeral, IntegerTooLarge, LoneCharacter, OpenComment}
 use Rattle.pl_model.specs.declared.syntax.SyntaxFault.{SyntaxFault}
@@ -47,9 +48,6 @@ spelling text start end = chars (take (end - start) (drop start text))
 
 -- Characters (ISO 6.5).
 
-abbrev pub is_symbol : ℕ → Bool
-is_symbol c = list_any (λ d. d == c) (codes "+-*/\\^<>=~:.?@#&$")
-
 -- What a character begins. The letters past ASCII are those that may begin an identifier (UAX 31).
 abbrev pub ascii_class : ℕ → CharacterClass
 ascii_class c =
@@ -63,10 +61,6 @@ ascii_class c =
 
 abbrev pub class_of : ℕ → CharacterClass
 class_of c = if nat_lt c 128 then ascii_class c else if is_xid_start c then Letter else Other
-
--- The characters that go on in a name or a variable: those that may continue an identifier.
-abbrev pub continues_name : ℕ → Bool
-continues_name c = if nat_lt c 128 then is_ascii_alphanumeric c || c == 95 else is_xid_continue c
 
 -- Layout (ISO 6.4.1): white space, and comments.
 
