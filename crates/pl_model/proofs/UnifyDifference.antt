@@ -102,7 +102,7 @@ Pairs d t u = Says d (t ≡ u) (occurrences t ++ occurrences u) (λ σ. instance
 abbrev pub PairsAll : Difference → Trees → Trees → Type 0
 PairsAll d ts us = Says d (ts ≡ us) (occurrences_all ts ++ occurrences_all us) (λ σ. instances σ ts ≡ instances σ us)
 
-and-true : (a b : Bool) → (a && b) ≡ true → (a ≡ true) × (b ≡ true)
+pub and-true : (a b : Bool) → (a && b) ≡ true → (a ≡ true) × (b ≡ true)
 and-true true b h = (refl, h)
 and-true false b h = absurd (false≢true h)
 

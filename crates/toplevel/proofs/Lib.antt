@@ -18,3 +18,8 @@ pub mod WriterWhole
 pub mod AddsLemmas
 pub mod Endings
 pub mod TranscriptLemmas
+pub mod UnifyFacing
+pub mod UnifyPutIn
+pub mod UnifyCode
+pub mod UnifyFronts
+pub mod UnifyLoop

@@ -12,3 +12,5 @@ pub mod WriterWork
 pub mod Adds
 pub mod Lines
 pub mod Outcome
+pub mod UnifySides
+pub mod UnifyTurns
