@@ -13,3 +13,4 @@ pub mod Depth
 pub mod CharacterRuns
 pub mod TokenPlaces
 pub mod WorkedRuns
+pub mod TokenTexts

@@ -108,14 +108,14 @@ lies_same : (text : List ℕ) (start next end : ℕ) (s e : ℕ) → start < nex
     → (s ≡ start) × (e ≡ end) → Lies text start s e
 lies_same text start next end s e below behind within is = record { begins = is.0; ends = omega (arith, is.1); within = omega (arith, is.1) }
 
-numeral-places : (text : List ℕ) (start end : ℕ) (kind : TokenKind) (s e : ℕ) → numeral text start end ≡ token kind s e → (s ≡ start) × (e ≡ end)
+pub numeral-places : (text : List ℕ) (start end : ℕ) (kind : TokenKind) (s e : ℕ) → numeral text start end ≡ token kind s e → (s ≡ start) × (e ≡ end)
 numeral-places text start end kind s e is =
     let value = decimal (take (end - start) (drop start text)) in
     let got = fault_fault (nat_lt (2 ^ 63) value) (slice_index text end == 46 && is_ascii_digit (slice_index text (end + 1)))
     (record { kind = IntegerTooLarge; at = start }) (record { kind = FloatNumeral; at = start }) (Numeral value) kind start end s e is in
     (cc, cc)
 
-symbols-places : (text : List ℕ) (start end : ℕ) (kind : TokenKind) (s e : ℕ) → symbols text start end ≡ token kind s e → (s ≡ start) × (e ≡ end)
+pub symbols-places : (text : List ℕ) (start end : ℕ) (kind : TokenKind) (s e : ℕ) → symbols text start end ≡ token kind s e → (s ≡ start) × (e ≡ end)
 symbols-places text start end kind s e is =
     let name = take (end - start) (drop start text) in
     token_token (is_symbol_name name) (bytes_eq name (codes ".") && closes_clause (drop end text))
@@ -152,6 +152,9 @@ lexeme_at-front text start = by (front (drop start text)) where
   by nothing = refl
   by (scalar c k) = refl
   by broken = refl
+
+pub lexeme_at-nothing : (text : List ℕ) (start : ℕ) → front (drop start text) ≡ nothing → lexeme_at text start ≡ Ok End
+lexeme_at-nothing text start e = lexeme_at-front text start ∙ ap (from_front text start) e
 
 pub lexeme_at-scalar : (text : List ℕ) (start c k : ℕ) → front (drop start text) ≡ scalar c k
     → lexeme_at text start ≡ token_of text (class_of c) start (start + k)
@@ -197,7 +200,7 @@ closes_clause-scalar bs c k e = closes_clause-front bs ∙ ap closes_front e
 pub closes_clause-broken : (bs : List ℕ) → front bs ≡ broken → closes_clause bs ≡ false
 closes_clause-broken bs e = closes_clause-front bs ∙ ap closes_front e
 
-front-lies : (text : List ℕ) (start : ℕ) (f : Front) (kind : TokenKind) (s e : ℕ)
+pub front-lies : (text : List ℕ) (start : ℕ) (f : Front) (kind : TokenKind) (s e : ℕ)
     → front (drop start text) ≡ f → from_front text start f ≡ token kind s e → Lies text start s e
 front-lies text start nothing kind s e at is = cc
 front-lies text start (scalar c k) kind s e at is =

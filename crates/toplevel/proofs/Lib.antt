@@ -23,3 +23,9 @@ pub mod UnifyPutIn
 pub mod UnifyCode
 pub mod UnifyFronts
 pub mod UnifyLoop
+pub mod ReaderEnds
+pub mod ReaderItem
+pub mod ReaderParts
+pub mod ReaderSpelled
+pub mod ReaderTexts
+pub mod ReaderTurns

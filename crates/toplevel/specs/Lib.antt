@@ -14,3 +14,8 @@ pub mod Lines
 pub mod Outcome
 pub mod UnifySides
 pub mod UnifyTurns
+pub mod ReaderItems
+pub mod ReaderNames
+pub mod ReaderOperators
+pub mod ReaderPieces
+pub mod ReaderStack

@@ -20,3 +20,8 @@ mod writer_operators;
 mod writer_page;
 mod writer_pieces;
 mod writer_quotes;
+pub mod reader;
+pub mod reader_names;
+pub mod reader_operators;
+mod reader_pieces;
+mod reader_stack;
