@@ -16,7 +16,7 @@ use Rattle.pl_model.specs.declared.syntax.TokenKind.{TokenKind}
 use Rattle.pl_model.specs.declared.syntax.TokenKind.TheVariants.{Name, Variable, Open as OpenToken, Close as CloseToken, Comma as CommaToken}
 use Rattle.pl_model.specs.declared.syntax.Lexeme.TheVariants.{Token, End}
 use Rattle.pl_model.specs.Tokens.{Front, nothing, scalar, broken, front, front_of, wide_front, run, run_end, skip_layout, Lexed, token, token_of, is_symbol, continues_name, class_of, lexeme_at, token_at}
-use Rattle.pl_model.proofs.Runs.{front-ascii, front-wide, front-bounds, run-passes, run-stops, run-broken}
+use Rattle.pl_model.proofs.CharacterRuns.{front-ascii, front-wide, front-bounds, run-passes, run-stops, run-broken}
 use Rattle.pl_model.proofs.TokenPlaces.{numeral-places, symbols-places, lexeme_at-nothing, lexeme_at-scalar, lexeme_at-broken, token_at-start, token_at-fault}
 
 take-add : (m n : ℕ) (bs : List ℕ) → take (m + n) bs ≡ take m bs ++ take n (drop m bs)

@@ -13,7 +13,7 @@ returns-in_err-mode-in-Term-clause-stops c =
     let ops = operators c.args.ops.now in
     let mode = Term c.in-Term.max in
     let here : outcome c.args.text.now ops c.loop-mode.reader mode ≡ whole c.args.text.now ops 1200 (start_at c.args.at)
-        = rw c.in-Term.is at c.loop-mode.invariant.1 in
+    = rw c.in-Term.is at c.loop-mode.invariant.1 in
     rw (p.1, p.2)
     (turns-stop c.args.text.now ops (outcome c.args.text.now ops c.loop-mode.reader mode) (whole c.args.text.now ops 1200 (start_at c.args.at))
     (turns_left c.args.text.now c.loop-mode.reader mode) c.primary.new.self c.in_err-mode-in-Term.field-0.0 here (c.in_err-mode-in-Term.ensures ops))
@@ -24,8 +24,7 @@ returns-in_err-mode-in-Ended-clause-stops c =
     let ops = operators c.args.ops.now in
     let mode = Ended c.in-Ended.priority c.in-Ended.start in
     let here : outcome c.args.text.now ops c.loop-mode.reader mode ≡ whole c.args.text.now ops 1200 (start_at c.args.at)
-        = rw c.in-Ended.is at c.loop-mode.invariant.1 in
+    = rw c.in-Ended.is at c.loop-mode.invariant.1 in
     rw (p.1, p.2)
     (turns-stop c.args.text.now ops (outcome c.args.text.now ops c.loop-mode.reader mode) (whole c.args.text.now ops 1200 (start_at c.args.at))
     (turns_left c.args.text.now c.loop-mode.reader mode) c.ended.new.self c.in_err-mode-in-Ended.field-0.0 here (c.in_err-mode-in-Ended.ensures ops))
-
