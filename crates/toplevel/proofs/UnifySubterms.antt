@@ -162,3 +162,7 @@ second (atom a) l middle b first end = absurd b
 second (comp f t none) l middle b first end = absurd b
 second (comp f t (more u none)) l middle b first end = second_of f t u l middle first end
 second (comp f t (more u (more v ts))) l middle b first end = absurd b
+
+-- The nodes of a term begin with them.
+pub StartsTerm-nodes : (t : Tree) (ns : List Node) → ns ≡ nodes t → StartsTerm ns
+StartsTerm-nodes t ns e = record { term = t; rest = []; parts = e ∙ sym (append-nil (nodes t)) }

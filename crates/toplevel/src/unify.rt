@@ -11,6 +11,9 @@ use pl_term::{Flat, Memory, Node};
 use std::alloc::Global;
 use std::marker::Model;
 
+#[cfg(test)]
+mod tests;
+
 /// Bindings, each a variable with the term that replaces it, in the order in which they were made.
 pub type Bindings = Vec<(u64, Flat)>;
 
