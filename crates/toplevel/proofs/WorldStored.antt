@@ -2,7 +2,7 @@
 use Rattle.std.proofs.Common.{◌≡◌, ◌≤◌, ◌<◌, ℕ, zero, suc, ◌+◌, List, [], ◌∷◌, ◌++◌, Bool, true, false, length, take, map, Option, Some, None, refl, sym, ap, ap₂, subst, zero-add, ◌∙◌, arith, append_assoc, append-nil}
 use Rattle.std.proofs.lemmas.List.{length-map}
 use Rattle.std.specs.Prelude.{◌&&◌, ◌||◌, IsTrue, slice_get, option_map, if◌then◌else◌}
-use Rattle.std.specs.List.{All}
+use Rattle.std.specs.List.{All, Contains}
 use Rattle.std.proofs.Math.Seq.{take-length}
 use Rattle.std.proofs.lemmas.List.{take-map}
 use Rattle.std.proofs.lemmas.List.Elements.{All-nil, All-cons, All-head, All-tail, All-weaker, All-same}
@@ -312,17 +312,25 @@ places-below es p ks n e whole =
     (places_from zero es p)
     (places-within zero es p))
 
+each-contained : (P : ℕ → Type 0) (ks : List ℕ) → All P ks → (k : ℕ) → Contains ks k → P k
+each-contained P ks all k (i, within, is) = subst P is (all i k within)
+
 pub chosen-are_clauses : (es : List Entry) (h : History) (goal : Tree) (ks js : List ℕ)
     → h ≡ map entry_of es
     → ks ≡ places_from zero es (proc_of goal)
     → js ≡ chosen_from es ks goal
-    → All (IsClause h) js
+    → (k : ℕ)
+    → Contains js k
+    → IsClause h k
 chosen-are_clauses es h goal ks js whole e f =
     rw
     (whole, f, e)
+    (each-contained
+    (IsClause (map entry_of es))
+    (chosen_from es (places_from zero es (proc_of goal)) goal)
     (chosen-clauses
     (IsClause (map entry_of es))
     es
     (places_from zero es (proc_of goal))
     goal
-    (places-clauses zero es es (proc_of goal) (stands_all es)))
+    (places-clauses zero es es (proc_of goal) (stands_all es))))

@@ -1,6 +1,6 @@
 -- What the shared state of an engine stands for in the definitions.
 use Rattle.std.specs.Prelude.{ℕ, List, [], ◌∷◌, map, length, Option, Some, None, Bool, true, false, IsTrue, slice_get}
-use Rattle.std.specs.List.{All}
+use Rattle.std.specs.List.{Contains}
 use Rattle.pl_term.specs.Tree.{Tree, atom}
 use Rattle.pl_model.specs.History.{Entry, History, consult, add_last, finish}
 use Rattle.pl_model.specs.World.{Stored, fresh_clause, world, proc_of}
@@ -62,5 +62,5 @@ answer_of h goal Unknown = refused (unknown_procedure (proc_of goal))
 
 -- Each place is that of a clause.
 abbrev pub AreClauses : History → Listed → Type 0
-AreClauses h (Clauses places) = All (IsClause h) places.items
+AreClauses h (Clauses places) = (k : ℕ) → Contains places.items k → IsClause h k
 AreClauses h Unknown = Unit {0}

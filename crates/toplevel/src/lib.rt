@@ -17,6 +17,14 @@ mod subterms;
 mod transcript;
 mod unify;
 mod world;
+pub mod balls;
+pub mod bodies;
+pub mod lexer;
+pub mod procedures;
+pub mod subterms;
+pub mod world;
+#[cfg(test)]
+mod world_tests;
 mod writer;
 mod writer_names;
 mod writer_operators;

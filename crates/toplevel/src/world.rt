@@ -32,6 +32,17 @@ pub struct Front {
     generations: Vec<u64>,
 }
 
+impl Front {
+    ghost use Rattle.pl_model.specs.World.{world};
+    ghost use Rattle.pl_model.specs.Operators.{opening_operators};
+    ghost use Rattle.toplevel.specs.Shared.{told};
+
+    /// No entry changes an operator.
+    pub fn keeps_operators(&self)
+        ensures { (g : ℕ) → (world (told self.now).history g).operators ≡ opening_operators }
+    {}
+}
+
 /// The places of a procedure's clauses in the history, in their order.
 #[derive(Debug, Drop)]
 struct Row {
