@@ -17,12 +17,6 @@ mod subterms;
 mod transcript;
 mod unify;
 mod world;
-pub mod balls;
-pub mod bodies;
-pub mod lexer;
-pub mod procedures;
-pub mod subterms;
-pub mod world;
 #[cfg(test)]
 mod world_tests;
 mod writer;
