@@ -29,3 +29,12 @@ pub mod ReaderParts
 pub mod ReaderSpelled
 pub mod ReaderTexts
 pub mod ReaderTurns
+pub mod MachineAsks
+pub mod MachineChoices
+pub mod MachineControl
+pub mod MachineItems
+pub mod MachineNodes
+pub mod MachineSorts
+pub mod MachineSteps
+pub mod RunLemmas
+pub mod MachineRuns

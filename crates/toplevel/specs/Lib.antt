@@ -19,3 +19,9 @@ pub mod ReaderNames
 pub mod ReaderOperators
 pub mod ReaderPieces
 pub mod ReaderStack
+pub mod Controls
+pub mod Items
+pub mod Names
+pub mod States
+pub mod Steps
+pub mod Headline

@@ -1,10 +1,9 @@
 -- What the outcome of a run stands for in the definitions.
-use Rattle.std.specs.Prelude.{◌≡◌, ℕ, map, Option, Some, option_map}
+use Rattle.std.specs.Prelude.{◌≡◌, ℕ, map, Option, option_map}
 use Rattle.pl_model.specs.declared.syntax.SyntaxKind.{SyntaxKind}
 use Rattle.pl_model.specs.declared.syntax.SyntaxFault.{SyntaxFault}
 use Rattle.pl_model.specs.Operators.{opening_operators}
-use Rattle.pl_model.specs.Machine.{Job, State, Kept as KeptFault, too_large, syntax_error, refused_clause, Solution as Answered}
-use Rattle.pl_model.specs.Complete.{end_in}
+use Rattle.pl_model.specs.Machine.{Job, State, ended, Kept as KeptFault, too_large, syntax_error, refused_clause, Solution as Answered}
 use Rattle.pl_model.specs.Reached.{Finished as WholeRun}
 use Rattle.toplevel.specs.Shared.{told}
 use Rattle.toplevel.specs.declared.outcome.Kept.{Kept}
@@ -35,4 +34,4 @@ pub record IsFinished (job : Job) (done : Finished) : Type 0 where
   pub state : State
   pub whole : WholeRun job (told done.front) state
   pub outcome : IsOutcome done state
-  pub end_is : end_in (told done.front).history 1 ≡ Some (record { how = done.how; steps = done.steps })
+  pub ended : state.doing ≡ ended done.how
