@@ -8,9 +8,9 @@ use Rattle.pl_model.specs.declared.syntax.SyntaxFault.{SyntaxFault}
 use Rattle.pl_model.specs.declared.syntax.SyntaxKind.TheVariants.{UnexpectedEnd, UnexpectedToken}
 use Rattle.pl_model.specs.declared.syntax.TokenKind.TheVariants.{Close, Comma}
 use Rattle.pl_model.specs.declared.syntax.Lexeme.TheVariants.{Token, End}
-use Rattle.pl_model.specs.Operators.{Operators}
+use Rattle.pl_model.specs.Operators.{Operator, Operators}
 use Rattle.pl_model.specs.Tokens.{Lexed, token_at}
-use Rattle.pl_model.specs.Grammar.{Reading, Part, Parts, Outcome, and_then, closed}
+use Rattle.pl_model.specs.Grammar.{Reading, Part, Parts, Outcome, and_then, closed, operation}
 use Rattle.pl_model.proofs.Depth.{whole, rest, tail}
 use Rattle.toplevel.specs.declared.reader_stack.Frame.{Frame}
 use Rattle.toplevel.specs.declared.reader_stack.Frame.TheVariants.{Enclosed, Arguments, Operand}
@@ -156,6 +156,25 @@ abbrev pub Turns : List ℕ → Operators → Outcome Part → ℕ → Reader �
 Turns text ops m bound new (Ok mode) = IsSound text new mode × (turns_left text new mode < bound) × Gives text ops new mode m
 Turns text ops m bound new (Err Memory) = Unit {0}
 Turns text ops m bound new (Err (Fault f)) = m ≡ Err f
+
+-- A turn was made from here.
+abbrev pub TurnsFrom : List ℕ → Operators → Reader → Mode → Reader → Result Mode Stop → Type 0
+TurnsFrom text ops old mode new r = Turns text ops (outcome text ops old mode) (turns_left text old mode) new r
+
+-- What a frame makes of a term that has ended.
+abbrev pub taken : List ℕ → Operators → Reader → Frame → ℕ → ℕ → Outcome Part
+taken text ops r f priority start = plug text ops (f ∷ stack r) (take start r.pieces.items) (Ok (part_at r priority start))
+
+-- A frame took the term that had ended.
+abbrev pub Takes : List ℕ → Operators → Reader → Frame → ℕ → ℕ → Reader → Result Mode Stop → Type 0
+Takes text ops old f priority start new r =
+    Turns text ops (taken text ops old f priority start) (turns_left text old (Ended priority start) + 2) new r
+
+-- What a left part, with the operator behind it if it is one, goes on to give.
+abbrev pub operates : List ℕ → Operators → Reader → ℕ → ℕ → ℕ → ℕ → Option Operator → Outcome Part
+operates text ops r max priority start end o =
+    plug text ops (stack r) (take start r.pieces.items)
+    (operation text ops (whole text ops) (rest text ops max) max (part_at r priority start) end o)
 
 -- Why reading stops: want of memory, or this outcome's fault.
 abbrev pub Stops : {A : Type 0} → Outcome A → Stop → Type 0

@@ -5,6 +5,9 @@ ghost use Rattle.std.specs.Str.{continuation_len};
 ghost use Rattle.pl_model.specs.Tokens.{front, wide_front, run_end, line_length, block_length, blank, block, comment, skip_layout, ascii_class, class_of, decimal, numeral, symbols, is_symbol, is_symbol_name, continues_name, closes_clause, token_of, lexeme_at, token_at};
 ghost use Rattle.toplevel.specs.LexerViews.{character_of, passes_run, blank_result};
 
+#[cfg(test)]
+mod tests;
+
 use pl_model::syntax::{CharacterClass, Lexeme, SyntaxFault, SyntaxKind, TokenKind};
 
 /// A fault of the lexer.

@@ -6,6 +6,9 @@ ghost use Rattle.toplevel.specs.ReaderItems.{Reads, clause_end};
 ghost use Rattle.toplevel.specs.ReaderOperators.{operators};
 ghost use Rattle.toplevel.specs.ReaderStack.{Stops, IsRead, start_at};
 
+#[cfg(test)]
+mod tests;
+
 use crate::lexer;
 use crate::reader_names::NamedVariable;
 use crate::reader_operators::Ops;
@@ -122,31 +125,5 @@ fn read_whole(alloc: Global, text: &[u8], at: usize, ops: &Ops) -> Result<Reader
             Mode::Ended { priority, start } => reader.ended(text, priority, start)?,
             Mode::Whole => return Ok(reader),
         };
-    }
-}
-
-#[cfg(test)]
-mod tests {
-    use super::*;
-    use std::test::Fail;
-
-    #[test]
-    fn reads(rt: HostRuntime) -> Result<(), Fail> {
-        let text = b"q(X) :- p(X, _, Y)/2/3, (Y = a). % c";
-        match read_term(rt.alloc(), text, 0, &Ops::opening()) {
-            Read::Clause {
-                term,
-                names,
-                start,
-                next,
-            } => {
-                println!(&rt; "{term:?} {names:?} {start} {next}")?;
-            }
-            Read::End => println!(&rt; "end")?,
-            Read::Syntax { kind, at } => println!(&rt; "{kind:?} {at}")?,
-            Read::Memory => println!(&rt; "memory")?,
-        }
-        assert!(rt; false);
-        Ok(())
     }
 }

@@ -4,10 +4,8 @@ ghost use Rattle.std.specs.Prelude.{◌≡◌, [], ◌∷◌, ◌+◌, ◌-◌, 
 ghost use Rattle.std.specs.Str.{IsUtf8};
 ghost use Rattle.pl_model.specs.Operators.{Operators, infix_of};
 ghost use Rattle.pl_model.specs.Tokens.{spelling, token_at};
-ghost use Rattle.pl_model.specs.Grammar.{operation};
-ghost use Rattle.pl_model.proofs.Depth.{whole, rest};
 ghost use Rattle.toplevel.specs.ReaderOperators.{operators};
-ghost use Rattle.toplevel.specs.ReaderStack.{close_end, comma_end, fault_of, plug, stack, reading, part_at, IsAt, IsBuilt, IsSound, outcome, turns_left, Turns, PutsLeaf, Pushes};
+ghost use Rattle.toplevel.specs.ReaderStack.{close_end, comma_end, fault_of, stack, reading, IsAt, IsBuilt, IsSound, turns_left, Turns, TurnsFrom, Takes, operates, PutsLeaf, Pushes, start_at};
 
 use crate::lexer;
 use crate::reader_names::Names;
@@ -118,7 +116,7 @@ impl Reader {
     pub fn new(alloc: Global, text: &[u8], at: usize) -> Reader
         requires { at ≤ length text.now }
         ensures sound { IsSound text.now result (Mode.Term 1200) }
-        ensures reading { reading result ≡ record { at = at; names = []; next = 0 } }
+        ensures reading { reading result ≡ start_at at }
         ensures stack { result.frames.items ≡ [] }
         ensures pieces { result.pieces.items ≡ [] }
     {
@@ -142,7 +140,7 @@ impl Reader {
     /// Begins a term of at most the priority `max`, and goes behind it where it is an atom, a variable or a number.
     pub fn primary(&mut self, alloc: Global, text: &[u8], max: u64) -> Result<Mode, Stop>
         requires { IsSound text.now self.old (Mode.Term max) }
-        ensures { (ops : Operators) → Turns text.now ops (outcome text.now ops self.old (Mode.Term max)) (turns_left text.now self.old (Mode.Term max)) self.new result }
+        ensures { (ops : Operators) → TurnsFrom text.now ops self.old (Mode.Term max) self.new result }
     {
         match self.ahead {
             Ok(Lexeme::Token { kind, start, end }) => match kind {
@@ -170,7 +168,7 @@ impl Reader {
     ) -> Result<Mode, Stop>
         requires sound { IsSound text.now self.old (Mode.Term max) }
         requires token { self.old.ahead ≡ Ok (Lexeme.Token TokenKind.Name start end) }
-        ensures { (ops : Operators) → Turns text.now ops (outcome text.now ops self.old (Mode.Term max)) (turns_left text.now self.old (Mode.Term max)) self.new result }
+        ensures { (ops : Operators) → TurnsFrom text.now ops self.old (Mode.Term max) self.new result }
     {
         if end - start > 248 {
             return Err(refused(SyntaxKind::AtomTooLong, start));
@@ -185,7 +183,8 @@ impl Reader {
     /// The arguments of a compound term, whose opening parenthesis is at `end`.
     fn compound(&mut self, text: &[u8], max: u64, name: Text, end: usize) -> Result<Mode, Stop>
         requires { end < length text.now }
-        ensures pushes { IfOk result (λ _. Pushes text.now self.old self.new (Frame.Arguments max name 0 (length self.old.pieces.items)) (end + 1)) }
+        ensures pushes { let frame = Frame.Arguments max name 0 (length self.old.pieces.items) in
+            IfOk result (λ _. Pushes text.now self.old self.new frame (end + 1)) }
         ensures mode { IfOk result (λ m. m ≡ Mode.Term 999) }
         ensures stop { IfErr result (λ e. e ≡ Stop.Memory) }
     {
@@ -220,7 +219,7 @@ impl Reader {
     ) -> Result<Mode, Stop>
         requires sound { IsSound text.now self.old (Mode.Term max) }
         requires token { self.old.ahead ≡ Ok (Lexeme.Token TokenKind.Variable start end) }
-        ensures { (ops : Operators) → Turns text.now ops (outcome text.now ops self.old (Mode.Term max)) (turns_left text.now self.old (Mode.Term max)) self.new result }
+        ensures { (ops : Operators) → TurnsFrom text.now ops self.old (Mode.Term max) self.new result }
     {
         let name = name_of(alloc, text, start, end)?;
         let number = self.names.number(name)?;
@@ -238,7 +237,7 @@ impl Reader {
     ) -> Result<Mode, Stop>
         requires sound { IsSound text.now self.old (Mode.Term max) }
         requires token { self.old.ahead ≡ Ok (Lexeme.Token (TokenKind.Numeral value) start end) }
-        ensures { (ops : Operators) → Turns text.now ops (outcome text.now ops self.old (Mode.Term max)) (turns_left text.now self.old (Mode.Term max)) self.new result }
+        ensures { (ops : Operators) → TurnsFrom text.now ops self.old (Mode.Term max) self.new result }
     {
         if value > i64::MAX as u64 {
             return Err(refused(SyntaxKind::IntegerTooLarge, start));
@@ -273,7 +272,7 @@ impl Reader {
     fn enclosed(&mut self, text: &[u8], max: u64, start: usize, end: usize) -> Result<Mode, Stop>
         requires sound { IsSound text.now self.old (Mode.Term max) }
         requires token { self.old.ahead ≡ Ok (Lexeme.Token TokenKind.Open start end) }
-        ensures { (ops : Operators) → Turns text.now ops (outcome text.now ops self.old (Mode.Term max)) (turns_left text.now self.old (Mode.Term max)) self.new result }
+        ensures { (ops : Operators) → TurnsFrom text.now ops self.old (Mode.Term max) self.new result }
     {
         self.push(text, Frame::Enclosed { max }, end)?;
         Ok(Mode::Term { max: 1200 })
@@ -290,7 +289,7 @@ impl Reader {
         start: usize,
     ) -> Result<Mode, Stop>
         requires { IsSound text.now self.old (Mode.Part max priority start) }
-        ensures { Turns text.now (operators ops.now) (outcome text.now (operators ops.now) self.old (Mode.Part max priority start)) (turns_left text.now self.old (Mode.Part max priority start)) self.new result }
+        ensures { TurnsFrom text.now (operators ops.now) self.old (Mode.Part max priority start) self.new result }
     {
         match self.ahead {
             Ok(
@@ -333,8 +332,7 @@ impl Reader {
         requires sound { IsSound text.now self.old (Mode.Part max priority start) }
         requires forward { self.old.at < end }
         requires within { end ≤ length text.now }
-        ensures { Turns text.now (operators ops.now) (plug text.now (operators ops.now) (stack self.old) (take start self.old.pieces.items)
-            (operation text.now (operators ops.now) (whole text.now (operators ops.now)) (rest text.now (operators ops.now) max) max (part_at self.old priority start) end (infix_of (operators ops.now) name)))
+        ensures { Turns text.now (operators ops.now) (operates text.now (operators ops.now) self.old max priority start end (infix_of (operators ops.now) name))
             (turns_left text.now self.old (Mode.Part max priority start)) self.new result }
     {
         let Some(o) = ops.infix_of(&name) else {
@@ -356,7 +354,7 @@ impl Reader {
     /// A term of this priority has ended, whose pieces begin at `start`: what waits for it takes it.
     pub fn ended(&mut self, text: &[u8], priority: u64, start: usize) -> Result<Mode, Stop>
         requires { IsSound text.now self.old (Mode.Ended priority start) }
-        ensures { (ops : Operators) → Turns text.now ops (outcome text.now ops self.old (Mode.Ended priority start)) (turns_left text.now self.old (Mode.Ended priority start)) self.new result }
+        ensures { (ops : Operators) → TurnsFrom text.now ops self.old (Mode.Ended priority start) self.new result }
     {
         match self.frames.pop() {
             None => Ok(Mode::Whole),
@@ -393,8 +391,7 @@ impl Reader {
     ) -> Result<Mode, Stop>
         requires place { IsAt text.now self.old }
         requires built { IsBuilt (Frame.Operand max name own left ∷ stack self.old) self.old start }
-        ensures { (ops : Operators) → Turns text.now ops (plug text.now ops (Frame.Operand max name own left ∷ stack self.old) (take start self.old.pieces.items) (Ok (part_at self.old priority start)))
-            (turns_left text.now self.old (Mode.Ended priority start) + 2) self.new result }
+        ensures { (ops : Operators) → Takes text.now ops self.old (Frame.Operand max name own left) priority start self.new result }
     {
         put_front(&mut self.pieces, left, Node::Comp(name, 2))?;
         Ok(Mode::Part {
@@ -408,8 +405,7 @@ impl Reader {
     fn close(&mut self, text: &[u8], max: u64, priority: u64, start: usize) -> Result<Mode, Stop>
         requires place { IsAt text.now self.old }
         requires built { IsBuilt (Frame.Enclosed max ∷ stack self.old) self.old start }
-        ensures { (ops : Operators) → Turns text.now ops (plug text.now ops (Frame.Enclosed max ∷ stack self.old) (take start self.old.pieces.items) (Ok (part_at self.old priority start)))
-            (turns_left text.now self.old (Mode.Ended priority start) + 2) self.new result }
+        ensures { (ops : Operators) → Takes text.now ops self.old (Frame.Enclosed max) priority start self.new result }
     {
         let Some(end) = close_end(self.ahead) else {
             return Err(unexpected(text, self.ahead));
@@ -436,8 +432,7 @@ impl Reader {
     ) -> Result<Mode, Stop>
         requires place { IsAt text.now self.old }
         requires built { IsBuilt (Frame.Arguments max name count start ∷ stack self.old) self.old last }
-        ensures { (ops : Operators) → Turns text.now ops (plug text.now ops (Frame.Arguments max name count start ∷ stack self.old) (take last self.old.pieces.items) (Ok (part_at self.old priority last)))
-            (turns_left text.now self.old (Mode.Ended priority last) + 2) self.new result }
+        ensures { (ops : Operators) → Takes text.now ops self.old (Frame.Arguments max name count start) priority last self.new result }
     {
         if let Some(end) = comma_end(self.ahead) {
             let frame = Frame::Arguments {
