@@ -1,0 +1,747 @@
+//! Whole commands over memory. What is to be written was taken from another implementation of the same standard, and
+//! not from what this one writes.
+use crate::run::{Report, run};
+use pl_io::{Bytes, Gate, MemoryFiles, MemorySink, Open};
+use pl_model::ends::End;
+use pl_term::{Memory, Text};
+use std::alloc::Global;
+use std::convert::AsStr;
+use std::process::Abort;
+use std::sync::Wait;
+use std::sync::atomic::AtomicU64;
+use std::sync::atomic::Ordering::SeqCst;
+use std::test::Fail;
+use std::thread::Threads;
+
+/// The text of the file f.pl, the goal's word, what is to be written, and the status.
+type Row = (&'static str, &'static str, &'static str, u8);
+
+/// Goals that are solved, or have no solution.
+const GOALS: [Row; 27] = [
+    ("", "true", "?- true.\ntrue.\n", 0),
+    ("", "X = f(X)", "?- X = f(X).\nfalse.\n", 1),
+    (
+        "",
+        "foo(1)",
+        "?- foo(1).\nerror: error(existence_error(procedure,foo/1),foo/1).\n",
+        1,
+    ),
+    ("p(1). q(X) :- p(X).", "q(Y)", "?- q(Y).\nY = 1.\n", 0),
+    (
+        "p(1). q(2). r(X, Y) :- p(X), q(Y).",
+        "r(A, B)",
+        "?- r(A, B).\nA = 1, B = 2.\n",
+        0,
+    ),
+    (
+        "p(1). p(2). p(3). r(2). r(3). s(3).",
+        "p(X), r(X), s(X)",
+        "?- p(X), r(X), s(X).\nX = 3.\n",
+        0,
+    ),
+    (
+        "p(1). p(2). p(3). r(2). r(3). s(3).",
+        "p(X), r(X)",
+        "?- p(X), r(X).\nX = 2.\n",
+        0,
+    ),
+    (
+        "p(1). p(2). p(3). r(2). r(3). s(3).",
+        "p(X), r(Y), X = Y, s(Y)",
+        "?- p(X), r(Y), X = Y, s(Y).\nX = 3, Y = 3.\n",
+        0,
+    ),
+    (
+        "p(1). p(2). p(3). r(2). r(3). s(3).",
+        "p(X), s(f(X))",
+        "?- p(X), s(f(X)).\nfalse.\n",
+        1,
+    ),
+    ("p(1). q(X) :- p(X).", "p(1)", "?- p(1).\ntrue.\n", 0),
+    ("p(1). q(X) :- p(X).", "q(_)", "?- q(_).\ntrue.\n", 0),
+    ("p(1). q(X) :- p(X).", "q(_A)", "?- q(_A).\ntrue.\n", 0),
+    (
+        "p(1). q(X) :- p(X).",
+        "q(_A), X = _A",
+        "?- q(_A), X = _A.\nX = 1.\n",
+        0,
+    ),
+    (
+        "",
+        "X = Y, Z = f(X, W, _)",
+        "?- X = Y, Z = f(X, W, _).\nX = _0, Y = _0, Z = f(_0,_3,_4), W = _3.\n",
+        0,
+    ),
+    ("f(a). g :- f(b).", "g", "?- g.\nfalse.\n", 1),
+    ("f(a). g :- f(b). g.", "g", "?- g.\ntrue.\n", 0),
+    (
+        "",
+        "X = (a :- b, c = d / e)",
+        "?- X = (a :- b, c = d / e).\nX = (a:-b,c=d/e).\n",
+        0,
+    ),
+    (
+        "",
+        "X = a/b/c, Y = a/(b/c)",
+        "?- X = a/b/c, Y = a/(b/c).\nX = a/b/c, Y = a/(b/c).\n",
+        0,
+    ),
+    (
+        "",
+        "X = (:-), f(=, /) = Z",
+        "?- X = (:-), f(=, /) = Z.\nX = :-, Z = f(=,/).\n",
+        0,
+    ),
+    ("", "true, true", "?- true, true.\ntrue.\n", 0),
+    ("", "X = 1, X = 2", "?- X = 1, X = 2.\nfalse.\n", 1),
+    (
+        "",
+        "X = 007, Y = 9223372036854775807",
+        "?- X = 007, Y = 9223372036854775807.\nX = 7, Y = 9223372036854775807.\n",
+        0,
+    ),
+    ("é(ñ).", "é(X)", "?- é(X).\nX = ñ.\n", 0),
+    (
+        "% a comment\np(/* within */ a). % last",
+        "p(X)",
+        "?- p(X).\nX = a.\n",
+        0,
+    ),
+    (
+        "p(X, Y, X).",
+        "p(A, b, C)",
+        "?- p(A, b, C).\nA = _0, C = _0.\n",
+        0,
+    ),
+    ("p(_, _).", "p(A, B)", "?- p(A, B).\nA = _0, B = _1.\n", 0),
+    (
+        "len(e, 0). len(c(_, L), s(N)) :- len(L, N).",
+        "len(c(a, c(b, e)), N)",
+        "?- len(c(a, c(b, e)), N).\nN = s(s(0)).\n",
+        0,
+    ),
+];
+
+/// Goals that end by a ball.
+const ERRORS: [Row; 13] = [
+    (
+        "",
+        "X",
+        "?- X.\nerror: error(existence_error(procedure,call/1),call/1).\n",
+        1,
+    ),
+    (
+        "",
+        "1",
+        "?- 1.\nerror: error(type_error(callable,1),consult/1).\n",
+        1,
+    ),
+    (
+        "",
+        "(true, 1)",
+        "?- (true, 1).\nerror: error(type_error(callable,(true,1)),consult/1).\n",
+        1,
+    ),
+    (
+        "",
+        "X = 1, Y",
+        "?- X = 1, Y.\nerror: error(existence_error(procedure,call/1),call/1).\n",
+        1,
+    ),
+    (
+        "",
+        "f(1)",
+        "?- f(1).\nerror: error(existence_error(procedure,f/1),f/1).\n",
+        1,
+    ),
+    (
+        "",
+        "call(true)",
+        "?- call(true).\nerror: error(existence_error(procedure,call/1),call/1).\n",
+        1,
+    ),
+    (
+        "",
+        "fail",
+        "?- fail.\nerror: error(existence_error(procedure,fail/0),fail/0).\n",
+        1,
+    ),
+    (
+        "p(1).",
+        "p(X), q(X, f(Y))",
+        "?- p(X), q(X, f(Y)).\nerror: error(existence_error(procedure,q/2),q/2).\n",
+        1,
+    ),
+    (
+        "p :- q.",
+        "p",
+        "?- p.\nerror: error(existence_error(procedure,q/0),q/0).\n",
+        1,
+    ),
+    (
+        "p :- X.",
+        "p",
+        "?- p.\nerror: error(existence_error(procedure,call/1),call/1).\n",
+        1,
+    ),
+    ("", "(a :- b)", "?- (a :- b).\nfalse.\n", 1),
+    (
+        "",
+        "a / b",
+        "?- a / b.\nerror: error(existence_error(procedure,(/)/2),(/)/2).\n",
+        1,
+    ),
+    (
+        "",
+        "X = 1, foo(X, Y, a = b)",
+        "?- X = 1, foo(X, Y, a = b).\nerror: error(existence_error(procedure,foo/3),foo/3).\n",
+        1,
+    ),
+];
+
+/// Files with a fault that is kept.
+const FILES: [Row; 32] = [
+    (
+        "(a :- b) :- c.",
+        "true",
+        "f.pl:0: error(permission_error(modify,static_procedure,(:-)/2),consult/1)\n?- true.\ntrue.\n",
+        1,
+    ),
+    (
+        "X :- a.",
+        "true",
+        "f.pl:0: error(instantiation_error,consult/1)\n?- true.\ntrue.\n",
+        1,
+    ),
+    (
+        "1.",
+        "true",
+        "f.pl:0: error(type_error(callable,1),consult/1)\n?- true.\ntrue.\n",
+        1,
+    ),
+    (
+        "X.",
+        "true",
+        "f.pl:0: error(instantiation_error,consult/1)\n?- true.\ntrue.\n",
+        1,
+    ),
+    (
+        "true.",
+        "true",
+        "f.pl:0: error(permission_error(modify,static_procedure,true/0),consult/1)\n?- true.\ntrue.\n",
+        1,
+    ),
+    (
+        "true :- a.",
+        "true",
+        "f.pl:0: error(permission_error(modify,static_procedure,true/0),consult/1)\n?- true.\ntrue.\n",
+        1,
+    ),
+    (
+        "p :- (a, 1).",
+        "true",
+        "f.pl:0: error(type_error(callable,(a,1)),consult/1)\n?- true.\ntrue.\n",
+        1,
+    ),
+    (
+        "(a, b).",
+        "true",
+        "f.pl:0: error(permission_error(modify,static_procedure,(',')/2),consult/1)\n?- true.\ntrue.\n",
+        1,
+    ),
+    (
+        "a = b.",
+        "true",
+        "f.pl:0: error(permission_error(modify,static_procedure,(=)/2),consult/1)\n?- true.\ntrue.\n",
+        1,
+    ),
+    (
+        "p :- 1.",
+        "true",
+        "f.pl:0: error(type_error(callable,1),consult/1)\n?- true.\ntrue.\n",
+        1,
+    ),
+    (
+        "1 :- a.",
+        "true",
+        "f.pl:0: error(type_error(callable,1),consult/1)\n?- true.\ntrue.\n",
+        1,
+    ),
+    (
+        ":-(a, 1).",
+        "true",
+        "f.pl:0: error(type_error(callable,1),consult/1)\n?- true.\ntrue.\n",
+        1,
+    ),
+    (
+        "f(X) :- 2. f(a).",
+        "f(Y)",
+        "f.pl:0: error(type_error(callable,2),consult/1)\n?- f(Y).\nY = a.\n",
+        1,
+    ),
+    (
+        "p(1). true. p(2).",
+        "p(X), X = 2",
+        "f.pl:6: error(permission_error(modify,static_procedure,true/0),consult/1)\n?- p(X), X = 2.\nX = 2.\n",
+        1,
+    ),
+    (
+        "p(1. p(2).",
+        "p(X)",
+        "f.pl:3: syntax error: unexpected_token\n?- p(X).\nerror: error(existence_error(procedure,p/1),p/1).\n",
+        1,
+    ),
+    (
+        "p(1). p(2) p(3).",
+        "p(X)",
+        "f.pl:11: syntax error: unexpected_token\n?- p(X).\nX = 1.\n",
+        1,
+    ),
+    (
+        "p(1). p('a').",
+        "p(X)",
+        "f.pl:8: syntax error: lone_character\n?- p(X).\nX = 1.\n",
+        1,
+    ),
+    (
+        "p(1). p(",
+        "p(X)",
+        "f.pl:8: syntax error: unexpected_end\n?- p(X).\nX = 1.\n",
+        1,
+    ),
+    (
+        "p(1)",
+        "true",
+        "f.pl:4: syntax error: unexpected_end\n?- true.\ntrue.\n",
+        1,
+    ),
+    (
+        "p(1). )",
+        "p(X)",
+        "f.pl:6: syntax error: unexpected_token\n?- p(X).\nX = 1.\n",
+        1,
+    ),
+    (
+        "p(1). p :- q :- r.",
+        "p(X)",
+        "f.pl:13: syntax error: unexpected_token\n?- p(X).\nX = 1.\n",
+        1,
+    ),
+    (
+        "p(1). a = b = c.",
+        "p(X)",
+        "f.pl:12: syntax error: unexpected_token\n?- p(X).\nX = 1.\n",
+        1,
+    ),
+    (
+        "p(1). /* p(2).",
+        "p(X)",
+        "f.pl:6: syntax error: open_comment\n?- p(X).\nX = 1.\n",
+        1,
+    ),
+    (
+        "p(1.5).",
+        "true",
+        "f.pl:2: syntax error: float_numeral\n?- true.\ntrue.\n",
+        1,
+    ),
+    (
+        "p(9223372036854775808).",
+        "true",
+        "f.pl:2: syntax error: integer_too_large\n?- true.\ntrue.\n",
+        1,
+    ),
+    (
+        "a.b.",
+        "true",
+        "f.pl:1: syntax error: lone_character\n?- true.\ntrue.\n",
+        1,
+    ),
+    (
+        ":- p.",
+        "true",
+        "f.pl:3: syntax error: unexpected_token\n?- true.\ntrue.\n",
+        1,
+    ),
+    (
+        "p(-1).",
+        "true",
+        "f.pl:2: syntax error: lone_character\n?- true.\ntrue.\n",
+        1,
+    ),
+    (
+        "p(1). p(f()).",
+        "p(X)",
+        "f.pl:10: syntax error: unexpected_token\n?- p(X).\nX = 1.\n",
+        1,
+    ),
+    (
+        "p(,).",
+        "true",
+        "f.pl:2: syntax error: unexpected_token\n?- true.\ntrue.\n",
+        1,
+    ),
+    (
+        "p (1).",
+        "true",
+        "f.pl:2: syntax error: unexpected_token\n?- true.\ntrue.\n",
+        1,
+    ),
+    (
+        "p(X) --> q.",
+        "true",
+        "f.pl:5: syntax error: lone_character\n?- true.\ntrue.\n",
+        1,
+    ),
+];
+
+/// Words that are no goal.
+const WORDS: [Row; 21] = [
+    ("", "", "?- .\nsyntax error: unexpected_token at 1.\n", 1),
+    ("", " ", "?-  .\nsyntax error: unexpected_token at 2.\n", 1),
+    ("", "a. b", "?- a. b.\nsyntax error: after_end at 1.\n", 1),
+    ("", "a.", "?- a. .\nsyntax error: after_end at 1.\n", 1),
+    ("", "a. ", "?- a. .\nsyntax error: after_end at 1.\n", 1),
+    (
+        "",
+        "p(",
+        "?- p(.\nsyntax error: unexpected_token at 3.\n",
+        1,
+    ),
+    (
+        "",
+        "p(1",
+        "?- p(1.\nsyntax error: unexpected_token at 4.\n",
+        1,
+    ),
+    (
+        "",
+        "p 1",
+        "?- p 1.\nsyntax error: unexpected_token at 2.\n",
+        1,
+    ),
+    ("", ")", "?- ).\nsyntax error: unexpected_token at 0.\n", 1),
+    (
+        "",
+        "X = ",
+        "?- X = .\nsyntax error: unexpected_token at 5.\n",
+        1,
+    ),
+    (
+        "",
+        "= X",
+        "?- = X.\nsyntax error: unexpected_token at 2.\n",
+        1,
+    ),
+    (
+        "",
+        "'a'",
+        "?- 'a'.\nsyntax error: lone_character at 0.\n",
+        1,
+    ),
+    (
+        "",
+        "a :- b :- c",
+        "?- a :- b :- c.\nsyntax error: unexpected_token at 7.\n",
+        1,
+    ),
+    ("", "[]", "?- [].\nsyntax error: lone_character at 0.\n", 1),
+    (
+        "",
+        "% nothing",
+        "?- % nothing.\nsyntax error: unexpected_end at 11.\n",
+        1,
+    ),
+    (
+        "",
+        "true % at the end",
+        "?- true % at the end.\nsyntax error: unexpected_end at 19.\n",
+        1,
+    ),
+    (
+        "",
+        "/* open",
+        "?- /* open.\nsyntax error: open_comment at 0.\n",
+        1,
+    ),
+    ("", "1.5", "?- 1.5.\nsyntax error: float_numeral at 0.\n", 1),
+    (
+        "",
+        "f(,)",
+        "?- f(,).\nsyntax error: unexpected_token at 2.\n",
+        1,
+    ),
+    (
+        "",
+        "9223372036854775808",
+        "?- 9223372036854775808.\nsyntax error: integer_too_large at 0.\n",
+        1,
+    ),
+    (
+        "p(1. p(2).",
+        "p(1",
+        "f.pl:3: syntax error: unexpected_token\n?- p(1.\nsyntax error: unexpected_token at 4.\n",
+        1,
+    ),
+];
+
+/// The room of a sink, in bytes.
+const ROOM: usize = 1_000_000;
+
+/// The words as texts.
+fn texts(alloc: Global, words: &[&str]) -> Result<Vec<Text>, Memory> {
+    let mut all = Vec::new(alloc);
+    for word in words {
+        all.push(Text::from_str(alloc, word)?)?;
+    }
+    Ok(all)
+}
+
+/// Files with f.pl alone; the reads with the numbers in `failing` fail.
+fn one_file(alloc: Global, text: &str, failing: Vec<u64>) -> Result<MemoryFiles, Fail> {
+    let mut files = MemoryFiles::new(alloc, failing);
+    files.insert(
+        Text::from_str(alloc, "f.pl")?,
+        Bytes::from_slice(alloc, text.as_bytes())?,
+    )?;
+    Ok(files)
+}
+
+/// Runs a goal on a file with this text, and checks what is written, the end and the status.
+fn check_goal<R: Threads + Wait + Sync + Abort>(
+    rt: &R,
+    alloc: Global,
+    text: &str,
+    goal: &str,
+    want: &str,
+    status: u8,
+) -> Result<(), Fail> {
+    let mut files = one_file(alloc, text, Vec::new(alloc))?;
+    let mut out = MemorySink::with_room(alloc, ROOM, Vec::new(alloc))?;
+    let words = texts(alloc, &["run", "f.pl", goal])?;
+    let report = run(rt, alloc, &words, &mut files, &mut out, &Open);
+    assert!(rt;
+        out.bytes() == want.as_bytes(),
+        "{goal:?} writes something else"
+    );
+    assert_eq!(rt; report.status, status, "{goal:?}");
+    assert!(rt; report.front.is_some());
+    assert_eq!(rt; report.ends.len(), 1);
+    Ok(())
+}
+
+/// Checks each of these rows.
+fn check_rows<R: Threads + Wait + Sync + Abort>(
+    rt: &R,
+    alloc: Global,
+    rows: &[Row],
+) -> Result<(), Fail> {
+    for (text, goal, want, status) in rows {
+        check_goal(rt, alloc, text, goal, want, *status)?;
+    }
+    Ok(())
+}
+
+#[test]
+fn goals_are_solved_or_not(rt: HostRuntime) -> Result<(), Fail> {
+    check_rows(&rt, rt.alloc(), &GOALS)
+}
+
+#[test]
+fn balls_and_faults_are_written(rt: HostRuntime) -> Result<(), Fail> {
+    check_rows(&rt, rt.alloc(), &ERRORS)?;
+    check_rows(&rt, rt.alloc(), &FILES)?;
+    check_rows(&rt, rt.alloc(), &WORDS)
+}
+
+/// Runs these words where f.pl is empty, reads fail by `failing_reads` and writes by `failing_writes`, of at most
+/// `most` bytes each.
+fn outcome<R: Threads + Wait + Sync>(
+    rt: &R,
+    alloc: Global,
+    words: &[&str],
+    failing_reads: Vec<u64>,
+    failing_writes: Vec<u64>,
+    most: usize,
+) -> Result<(Report, MemorySink), Fail> {
+    let mut files = one_file(alloc, "p(1). p(2).", failing_reads)?;
+    let mut out = MemorySink::with_room(alloc, ROOM, failing_writes)?;
+    out.take_at_most(most);
+    let words = texts(alloc, words)?;
+    let report = run(rt, alloc, &words, &mut files, &mut out, &Open);
+    Ok((report, out))
+}
+
+#[test]
+fn words_that_are_no_command_are_refused(rt: HostRuntime) -> Result<(), Fail> {
+    let alloc = rt.alloc();
+    let usage = "usage: plt run [OPTIONS] FILE [GOAL]... | plt check FILE | plt load SEED SIZE\n";
+    let rows: [&[&str]; 9] = [
+        &["run"],
+        &[],
+        &["run", "f.pl"],
+        &["run", "f.pl", "p(1)", "p(2)"],
+        &["check", "f.pl", "p(1)"],
+        &["run", "-f.pl", "p(1)"],
+        &["run", "f.pl", "-p(1)"],
+        &["RUN", "f.pl", "p(1)"],
+        &["", "f.pl", "p(1)"],
+    ];
+    for words in rows {
+        let none = Vec::new(alloc);
+        let (report, out) = outcome(&rt, alloc, words, none, Vec::new(alloc), 100)?;
+        assert_eq!(rt; report.end, End::Usage, "{words:?}");
+        assert_eq!(rt; report.status, 2);
+        assert!(rt; report.front.is_none());
+        assert!(rt; out.bytes() == usage.as_bytes());
+    }
+    Ok(())
+}
+
+#[test]
+fn a_file_that_cannot_be_read_is_told(rt: HostRuntime) -> Result<(), Fail> {
+    let alloc = rt.alloc();
+    // the call of read that fails: the first, and the one that finds the end of the file; the name of the file
+    for (call, name, want) in [
+        (0, "f.pl", "plt: cannot read f.pl\n"),
+        (1, "f.pl", "plt: cannot read f.pl\n"),
+        (9, "absent.pl", "plt: cannot read absent.pl\n"),
+    ] {
+        let failing = vec![in alloc; call]?;
+        let words = ["run", name, "p(X)"];
+        let (report, out) = outcome(&rt, alloc, &words, failing, Vec::new(alloc), 100)?;
+        assert_eq!(rt; report.end, End::ReadFault, "{name} {call}");
+        assert_eq!(rt; report.status, 5);
+        assert!(rt; report.front.is_none());
+        assert!(rt; out.bytes() == want.as_bytes());
+    }
+    Ok(())
+}
+
+#[test]
+fn a_write_that_fails_leaves_a_front(rt: HostRuntime) -> Result<(), Fail> {
+    let alloc = rt.alloc();
+    let text = "?- p(X).\nX = 1.\n";
+    for (call, most, count) in [(0, 100, 0), (2, 1, 2), (1, 5, 5), (15, 1, 15)] {
+        let failing = vec![in alloc; call]?;
+        let words = ["run", "f.pl", "p(X)"];
+        let (report, out) = outcome(&rt, alloc, &words, Vec::new(alloc), failing, most)?;
+        let want = text.as_bytes().get(..count).ok_or("a front")?;
+        assert_eq!(rt; report.end, End::WriteFault, "{call} {most}");
+        assert_eq!(rt; report.status, 6);
+        assert!(rt; out.bytes() == want);
+    }
+    let words = ["run", "f.pl", "p(X)"];
+    let (report, out) = outcome(&rt, alloc, &words, Vec::new(alloc), Vec::new(alloc), 1)?;
+    assert_eq!(rt; report.end, End::Done);
+    assert!(rt; out.bytes() == text.as_bytes());
+    Ok(())
+}
+
+/// A gate that counts its calls, and apart from them those that are not for worker 0 and engine 1.
+#[derive(Drop)]
+struct Counting {
+    visits: AtomicU64,
+    others: AtomicU64,
+}
+
+impl Gate for Counting {
+    fn before_visit(&self, worker: u32, engine: u64) {
+        self.visits.fetch_add(1, SeqCst);
+        if worker != 0 || engine != 1 {
+            self.others.fetch_add(1, SeqCst);
+        }
+    }
+}
+
+#[test]
+fn the_gate_is_called_before_each_visit(rt: HostRuntime) -> Result<(), Fail> {
+    let alloc = rt.alloc();
+    let mut files = one_file(alloc, "p(1). p(2).", Vec::new(alloc))?;
+    let mut out = MemorySink::with_room(alloc, 100, Vec::new(alloc))?;
+    let words = texts(alloc, &["run", "f.pl", "p(X)"])?;
+    let gate = Counting {
+        visits: AtomicU64::new(0),
+        others: AtomicU64::new(0),
+    };
+    let report = run(&rt, alloc, &words, &mut files, &mut out, &gate);
+    assert_eq!(rt; report.status, 0);
+    // two items are taken up and added, the end of the file is found, the word is read, p/1 is called, and the
+    // solution is kept
+    assert_eq!(rt; gate.visits.load(SeqCst), 8);
+    assert_eq!(rt; gate.others.load(SeqCst), 0);
+    Ok(())
+}
+
+/// The facts `p(0).` to `p(9999).`
+fn ten_thousand_facts(alloc: Global) -> Result<String, Fail> {
+    let mut text = String::new(alloc);
+    for i in 0..10_000u32 {
+        text.push_str(format!(in alloc; "p({i}, {i}).\n")?.as_str())?;
+    }
+    Ok(text)
+}
+
+#[test]
+fn the_last_of_ten_thousand_facts_is_found(rt: HostRuntime) -> Result<(), Fail> {
+    let alloc = rt.alloc();
+    let text = ten_thousand_facts(alloc)?;
+    let last = "?- p(9999, X).\nX = 9999.\n";
+    check_goal(&rt, alloc, text.as_str(), "p(9999, X)", last, 0)?;
+    let tried = "?- p(X, 9999).\nX = 9999.\n";
+    check_goal(&rt, alloc, text.as_str(), "p(X, 9999)", tried, 0)?;
+    let none = "?- p(10000, X).\nfalse.\n";
+    check_goal(&rt, alloc, text.as_str(), "p(10000, X)", none, 1)
+}
+
+/// So many times the text `part`.
+fn repeated(alloc: Global, part: &str, count: u32) -> Result<String, Fail> {
+    let mut text = String::new(alloc);
+    for _ in 0..count {
+        text.push_str(part)?;
+    }
+    Ok(text)
+}
+
+/// The numeral of so many `s(` around 0.
+fn numeral(alloc: Global, count: u32) -> Result<String, Fail> {
+    let mut text = repeated(alloc, "s(", count)?;
+    text.push_str("0")?;
+    text.push_str(repeated(alloc, ")", count)?.as_str())?;
+    Ok(text)
+}
+
+#[test]
+fn deep_terms_are_read_unified_and_written(rt: HostRuntime) -> Result<(), Fail> {
+    let alloc = rt.alloc();
+    let deep = numeral(alloc, 2_000)?;
+    let text = format!(in alloc; "t({}).\nu(X, X).\n", deep.as_str())?;
+    let want = format!(in alloc;
+        "?- t(X), u(X, Y), t(Y).\nX = {}, Y = {}.\n",
+        deep.as_str(),
+        deep.as_str()
+    )?;
+    check_goal(
+        &rt,
+        alloc,
+        text.as_str(),
+        "t(X), u(X, Y), t(Y)",
+        want.as_str(),
+        0,
+    )?;
+    let other = numeral(alloc, 2_001)?;
+    let goal = format!(in alloc; "t({})", other.as_str())?;
+    let want = format!(in alloc; "?- {}.\nfalse.\n", goal.as_str())?;
+    check_goal(&rt, alloc, text.as_str(), goal.as_str(), want.as_str(), 1)?;
+    let open = repeated(alloc, "(", 2_000)?;
+    let closed = repeated(alloc, ")", 2_000)?;
+    let goal = format!(in alloc; "X = {}a{}", open.as_str(), closed.as_str())?;
+    let want = format!(in alloc; "?- {}.\nX = a.\n", goal.as_str())?;
+    check_goal(&rt, alloc, "", goal.as_str(), want.as_str(), 0)
+}
+
+#[test]
+fn a_goal_runs_out_of_inferences(rt: HostRuntime) -> Result<(), Fail> {
+    let want = "?- p.\nerror: error(resource_error(inferences),p/0).\n";
+    check_goal(&rt, rt.alloc(), "p :- p.", "p", want, 1)
+}
