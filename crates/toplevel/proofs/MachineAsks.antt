@@ -94,31 +94,31 @@ solution_state : (job : Job) (m : Machine) (node : Node) (d : Doing) (v : Vec So
     → count ≡ length v.items
     → doing_of d ≡ (if nat_le job.solutions count then ended Solved else failing)
     → state_of (record m { doing = d; solutions = v; world = w })
-      ≡ with_solution job (state_at m (running (node_of node))) (node_of node) opening_operators
+    ≡ with_solution job (state_at m (running (node_of node))) (node_of node) opening_operators
 solution_state job m node d v w count history_is kept counted doing_is =
     let s : State = state_at m (running (node_of node))
     in let one : List Answered = record { operators = opening_operators; answer = node.answer.items } ∷ []
     in let all : map solution_of v.items ≡ s.solutions ++ one =
-      ap (map solution_of) kept ∙ map-append solution_of m.solutions.items (record { answer = node.answer } ∷ [])
+    ap (map solution_of) kept ∙ map-append solution_of m.solutions.items (record { answer = node.answer } ∷ [])
     in let more : count ≡ suc (length s.solutions) =
-      counted
-      ∙ sym (length-map v.items solution_of)
-      ∙ ap length all
-      ∙ omega (arith, length-append s.solutions one)
+    counted
+    ∙ sym (length-map v.items solution_of)
+    ∙ ap length all
+    ∙ omega (arith, length-append s.solutions one)
     in ap
-      (λ h.
-      let t : State =
-        record s {
-          doing = doing_of d;
-          choices = choices_of h m.choices.items;
-          solutions = map solution_of v.items;
-        }
-      in t)
-      history_is
-      ∙ ap (λ ts. let t : State = record s { doing = doing_of d; solutions = ts } in t) all
-      ∙ ap
-        (λ x. let t : State = record s { doing = x; solutions = s.solutions ++ one } in t)
-        (doing_is ∙ ap (λ i. if nat_le job.solutions i then ended Solved else failing) more)
+    (λ h.
+    let t : State =
+    record s {
+      doing = doing_of d;
+      choices = choices_of h m.choices.items;
+      solutions = map solution_of v.items;
+    }
+    in t)
+    history_is
+    ∙ ap (λ ts. let t : State = record s { doing = doing_of d; solutions = ts } in t) all
+    ∙ ap
+    (λ x. let t : State = record s { doing = x; solutions = s.solutions ++ one } in t)
+    (doing_is ∙ ap (λ i. if nat_le job.solutions i then ended Solved else failing) more)
 
 pub solution_asks : (job : Job) (m : Machine) (node : Node) (d : Doing) (v : Vec Solution Global) (w : World) (count : ℕ)
     → (node_of node).goals ≡ []
@@ -152,20 +152,20 @@ pub call_out : (job : Job) (m n : Machine) (rest : Node) (p : Pending)
 call_out job m n rest p sort none_left state_is keeps =
     let d : Phase = running (with_pending p (node_of rest))
     in went
-      (goes_kept
-      job
-      m
-      n
-      d
-      (raised (state_at m d) (error_ball no_inferences (proc_of p.goal)))
-      (step_known job m p (node_of rest) user (is_user (control p.goal) sort)
-      ∙ costs_out job (state_at m d) p.goal (asks (clauses p.goal)) none_left)
-      (state_is d)
-      keeps)
+    (goes_kept
+    job
+    m
+    n
+    d
+    (raised (state_at m d) (error_ball no_inferences (proc_of p.goal)))
+    (step_known job m p (node_of rest) user (is_user (control p.goal) sort)
+    ∙ costs_out job (state_at m d) p.goal (asks (clauses p.goal)) none_left)
+    (state_is d)
+    keeps)
 
 resume_call : (job : Job) (m : Machine) (h : History) (p : Pending) (n : Frame) (l : Listed)
     → resume job (state_at m (running (with_pending p n))) (listed_answer h p.goal l)
-      ≡ after_call (inferred (state_at m (running (with_pending p n)))) p.goal n (listed_answer h p.goal l)
+    ≡ after_call (inferred (state_at m (running (with_pending p n)))) p.goal n (listed_answer h p.goal l)
 unfolding resume
 resume_call job m h p n (Clauses places) = refl
 resume_call job m h p n Unknown = refl
@@ -179,45 +179,44 @@ pub call_in : (job : Job) (m n : Machine) (rest : Node) (p : Pending) (l : Liste
     → generations_of w ≡ generations_of m.world ++ length (history_of m.world) ∷ []
     → ((d : Phase)
     → state_of n
-      ≡ after_call
-        (state_at (record m { inferences = i; world = w }) d)
-        p.goal
-        (node_of rest)
-        (listed_answer (history_of w) p.goal l))
+    ≡ after_call
+    (state_at (record m { inferences = i; world = w }) d)
+    p.goal
+    (node_of rest)
+    (listed_answer (history_of w) p.goal l))
     → n.world ≡ w
     → Advances job (during m (running (with_pending p (node_of rest)))) (seen_of n)
 call_in job m n rest p l w i sort left counted served_is history_is gens_is state_is world_is =
     let d : Phase = running (with_pending p (node_of rest))
     in let h : History = history_of m.world
     in asked
-      (asks_by
-      job
-      m
-      n
-      d
-      (clauses p.goal)
-      (listed_answer h p.goal l)
-      (step_known job m p (node_of rest) user (is_user (control p.goal) sort)
-      ∙ costs_in job (state_at m d) p.goal (asks (clauses p.goal)) left)
-      served_is
-      (state_is d
-      ∙ ap
-        (λ j.
-        after_call
-        (state_at (record m { inferences = j; world = w }) d)
-        p.goal
-        (node_of rest)
-        (listed_answer (history_of w) p.goal l))
-        (counted ∙ add-one m.inferences)
-      ∙ ap
-        (λ g.
-        after_call
-        (record (state_at m d) { choices = choices_of g m.choices.items; inferences = suc m.inferences })
-        p.goal
-        (node_of rest)
-        (listed_answer g p.goal l))
-        history_is
-      ∙ sym (resume_call job m h p (node_of rest) l))
-      (ap history_of world_is ∙ history_is)
-      (ap generations_of world_is ∙ gens_is))
-
+    (asks_by
+    job
+    m
+    n
+    d
+    (clauses p.goal)
+    (listed_answer h p.goal l)
+    (step_known job m p (node_of rest) user (is_user (control p.goal) sort)
+    ∙ costs_in job (state_at m d) p.goal (asks (clauses p.goal)) left)
+    served_is
+    (state_is d
+    ∙ ap
+    (λ j.
+    after_call
+    (state_at (record m { inferences = j; world = w }) d)
+    p.goal
+    (node_of rest)
+    (listed_answer (history_of w) p.goal l))
+    (counted ∙ add-one m.inferences)
+    ∙ ap
+    (λ g.
+    after_call
+    (record (state_at m d) { choices = choices_of g m.choices.items; inferences = suc m.inferences })
+    p.goal
+    (node_of rest)
+    (listed_answer g p.goal l))
+    history_is
+    ∙ sym (resume_call job m h p (node_of rest) l))
+    (ap history_of world_is ∙ history_is)
+    (ap generations_of world_is ∙ gens_is))

@@ -37,10 +37,10 @@ pub tried_out : (s : State) (goal : Tree) (rest : Frame) (cut : ℕ) (c : Clause
 tried_out s goal rest cut c v e past =
     let above : 2 ^ 64 ≤ s.next + c.variables = omega (arith, e, past)
     in if_false
-      (nat_lt (s.next + c.variables) (2 ^ 64))
-      _
-      _
-      (le-ltb (s.next + c.variables) (2 ^ 64) above)
+    (nat_lt (s.next + c.variables) (2 ^ 64))
+    _
+    _
+    (le-ltb (s.next + c.variables) (2 ^ 64) above)
 
 -- The stack
 
@@ -80,12 +80,12 @@ pub last_tried : (h : History) (s : State) (goal : Tree) (rest : Frame) (places 
     → place ≡ get_or places i place
     → cut ≡ length s.choices
     → tried s goal rest cut (stored_at h place).clause
-      ≡ with_clauses s goal rest (map (stored_at h) (drop i places))
+    ≡ with_clauses s goal rest (map (stored_at h) (drop i places))
 last_tried h s goal rest places i place cut last item height =
     ap (λ k. tried s goal rest k (stored_at h place).clause) height
     ∙ ap
-      (λ ks. with_clauses s goal rest (stored_at h place ∷ map (stored_at h) ks))
-      (sym (drop_all (suc i) places (omega (arith, last))))
+    (λ ks. with_clauses s goal rest (stored_at h place ∷ map (stored_at h) ks))
+    (sym (drop_all (suc i) places (omega (arith, last))))
     ∙ ap (with_clauses s goal rest) (sym (clauses_from h places i place (omega (arith, last)) item))
 
 -- Another one is tried with a choice point for those behind it.
@@ -94,40 +94,40 @@ pub more_tried : (h : History) (s : State) (goal : Tree) (rest : Frame) (places 
     → place ≡ get_or places i place
     → cut ≡ length s.choices
     → tried
-      (record s { choices = others goal (map (stored_at h) (drop (i + 1) places)) rest ∷ s.choices })
-      goal
-      rest
-      cut
-      (stored_at h place).clause
-      ≡ with_clauses s goal rest (map (stored_at h) (drop i places))
+    (record s { choices = others goal (map (stored_at h) (drop (i + 1) places)) rest ∷ s.choices })
+    goal
+    rest
+    cut
+    (stored_at h place).clause
+    ≡ with_clauses s goal rest (map (stored_at h) (drop i places))
 more_tried h s goal rest places i place cut more item height =
     let below : i + 1 < length places = more
     in let from : map (stored_at h) (drop (i + 1) places) ≡
-      stored_at h (get_or places (i + 1) 0) ∷ map (stored_at h) (drop (suc (i + 1)) places) =
-      clauses_from h places (i + 1) (get_or places (i + 1) 0) below (get_or_default places (i + 1) 0 _ below)
+    stored_at h (get_or places (i + 1) 0) ∷ map (stored_at h) (drop (suc (i + 1)) places) =
+    clauses_from h places (i + 1) (get_or places (i + 1) 0) below (get_or_default places (i + 1) 0 _ below)
     in ap
-      (λ k.
-      tried
-      (record s { choices = others goal (map (stored_at h) (drop (i + 1) places)) rest ∷ s.choices })
-      goal
-      rest
-      k
-      (stored_at h place).clause)
-      height
-      ∙ ap
-        (λ cs.
-        tried
-        (record s { choices = others goal cs rest ∷ s.choices })
-        goal
-        rest
-        (length s.choices)
-        (stored_at h place).clause)
-        from
-      ∙ ap (λ cs. with_clauses s goal rest (stored_at h place ∷ cs)) (sym from)
-      ∙ ap
-        (λ j. with_clauses s goal rest (stored_at h place ∷ map (stored_at h) (drop j places)))
-        (add-one i)
-      ∙ ap (with_clauses s goal rest) (sym (clauses_from h places i place (omega (arith, more)) item))
+    (λ k.
+    tried
+    (record s { choices = others goal (map (stored_at h) (drop (i + 1) places)) rest ∷ s.choices })
+    goal
+    rest
+    k
+    (stored_at h place).clause)
+    height
+    ∙ ap
+    (λ cs.
+    tried
+    (record s { choices = others goal cs rest ∷ s.choices })
+    goal
+    rest
+    (length s.choices)
+    (stored_at h place).clause)
+    from
+    ∙ ap (λ cs. with_clauses s goal rest (stored_at h place ∷ cs)) (sym from)
+    ∙ ap
+    (λ j. with_clauses s goal rest (stored_at h place ∷ map (stored_at h) (drop j places)))
+    (add-one i)
+    ∙ ap (with_clauses s goal rest) (sym (clauses_from h places i place (omega (arith, more)) item))
 
 -- A choice point is gone back to by its last clause.
 pub gone_back_last : (m n : Machine) (c : Choice) (place cut : ℕ)
@@ -136,27 +136,27 @@ pub gone_back_last : (m n : Machine) (c : Choice) (place cut : ℕ)
     → cut ≡ length m.choices.items
     → (d : Phase)
     → state_of n
-      ≡ tried (state_at m d) c.goal (node_of c.node) cut (stored_at (history_of m.world) place).clause
+    ≡ tried (state_at m d) c.goal (node_of c.node) cut (stored_at (history_of m.world) place).clause
     → state_of n
-      ≡ with_clauses
-        (state_at m d)
-        c.goal
-        (node_of c.node)
-        (map (stored_at (history_of m.world)) (drop c.next c.places.items))
+    ≡ with_clauses
+    (state_at m d)
+    c.goal
+    (node_of c.node)
+    (map (stored_at (history_of m.world)) (drop c.next c.places.items))
 gone_back_last m n c place cut last item height d state_is =
     state_is
     ∙ last_tried
-      (history_of m.world)
-      (state_at m d)
-      c.goal
-      (node_of c.node)
-      c.places.items
-      c.next
-      place
-      cut
-      last
-      item
-      (height ∙ sym (choices_height (history_of m.world) m.choices.items))
+    (history_of m.world)
+    (state_at m d)
+    c.goal
+    (node_of c.node)
+    c.places.items
+    c.next
+    place
+    cut
+    last
+    item
+    (height ∙ sym (choices_height (history_of m.world) m.choices.items))
 
 -- A choice point is gone back to by another clause, where one with those behind it is put in its place.
 pub gone_back : (m n : Machine) (c : Choice) (place cut : ℕ) (pushed : List Choice) (goal : Tree) (node : Frame)
@@ -168,60 +168,60 @@ pub gone_back : (m n : Machine) (c : Choice) (place cut : ℕ) (pushed : List Ch
     → node ≡ node_of c.node
     → (d : Phase)
     → state_of n
-      ≡ tried
-        (record (state_at m d) { choices = choices_of (history_of m.world) pushed })
-        goal
-        node
-        cut
-        (stored_at (history_of m.world) place).clause
+    ≡ tried
+    (record (state_at m d) { choices = choices_of (history_of m.world) pushed })
+    goal
+    node
+    cut
+    (stored_at (history_of m.world) place).clause
     → state_of n
-      ≡ with_clauses
-        (state_at m d)
-        c.goal
-        (node_of c.node)
-        (map (stored_at (history_of m.world)) (drop c.next c.places.items))
+    ≡ with_clauses
+    (state_at m d)
+    c.goal
+    (node_of c.node)
+    (map (stored_at (history_of m.world)) (drop c.next c.places.items))
 gone_back m n c place cut pushed goal node more item height pushed_is goal_is node_is d state_is =
     let h : History = history_of m.world
     in state_is
-      ∙ ap
-        (λ g.
-        tried
-        (record (state_at m d) { choices = choices_of h pushed })
-        g
-        node
-        cut
-        (stored_at h place).clause)
-        goal_is
-      ∙ ap
-        (λ k.
-        tried
-        (record (state_at m d) { choices = choices_of h pushed })
-        c.goal
-        k
-        cut
-        (stored_at h place).clause)
-        node_is
-      ∙ ap
-        (λ cs.
-        tried
-        (record (state_at m d) { choices = cs })
-        c.goal
-        (node_of c.node)
-        cut
-        (stored_at h place).clause)
-        (ap (choices_of h) pushed_is ∙ choices_pushed h m.choices.items (record c { next = c.next + 1 }))
-      ∙ more_tried
-        h
-        (state_at m d)
-        c.goal
-        (node_of c.node)
-        c.places.items
-        c.next
-        place
-        cut
-        more
-        item
-        (height ∙ sym (choices_height h m.choices.items))
+    ∙ ap
+    (λ g.
+    tried
+    (record (state_at m d) { choices = choices_of h pushed })
+    g
+    node
+    cut
+    (stored_at h place).clause)
+    goal_is
+    ∙ ap
+    (λ k.
+    tried
+    (record (state_at m d) { choices = choices_of h pushed })
+    c.goal
+    k
+    cut
+    (stored_at h place).clause)
+    node_is
+    ∙ ap
+    (λ cs.
+    tried
+    (record (state_at m d) { choices = cs })
+    c.goal
+    (node_of c.node)
+    cut
+    (stored_at h place).clause)
+    (ap (choices_of h) pushed_is ∙ choices_pushed h m.choices.items (record c { next = c.next + 1 }))
+    ∙ more_tried
+    h
+    (state_at m d)
+    c.goal
+    (node_of c.node)
+    c.places.items
+    c.next
+    place
+    cut
+    more
+    item
+    (height ∙ sym (choices_height h m.choices.items))
 
 step_failing : (job : Job) (m : Machine) (cs : List Open)
     → choices_of (history_of m.world) m.choices.items ≡ cs
@@ -235,32 +235,32 @@ pub retry_goes : (m n : Machine) (cs : List Choice) (c : Choice)
     → n.world ≡ m.world
     → ((d : Phase)
     → state_of n
-      ≡ with_clauses
-        (record (state_at m d) { choices = choices_of (history_of m.world) cs })
-        c.goal
-        (node_of c.node)
-        (map (stored_at (history_of m.world)) (drop c.next c.places.items)))
+    ≡ with_clauses
+    (record (state_at m d) { choices = choices_of (history_of m.world) cs })
+    c.goal
+    (node_of c.node)
+    (map (stored_at (history_of m.world)) (drop c.next c.places.items)))
     → (job : Job)
     → GoesTo job (during m failing) (seen_of n)
 retry_goes m n cs c popped world_is state_is job =
     let h : History = history_of m.world
     in goes_by
-      job
-      (during m failing)
-      (seen_of n)
-      (with_clauses
-      (record (state_at m failing) { choices = choices_of h cs })
-      c.goal
-      (node_of c.node)
-      (map (stored_at h) (drop c.next c.places.items)))
-      (step_failing
-      job
-      m
-      (choice_of h c ∷ choices_of h cs)
-      (ap (choices_of h) popped ∙ choices_pushed h cs c))
-      (state_is failing)
-      (ap history_of world_is)
-      (ap generations_of world_is)
+    job
+    (during m failing)
+    (seen_of n)
+    (with_clauses
+    (record (state_at m failing) { choices = choices_of h cs })
+    c.goal
+    (node_of c.node)
+    (map (stored_at h) (drop c.next c.places.items)))
+    (step_failing
+    job
+    m
+    (choice_of h c ∷ choices_of h cs)
+    (ap (choices_of h) popped ∙ choices_pushed h cs c))
+    (state_is failing)
+    (ap history_of world_is)
+    (ap generations_of world_is)
 
 empty_items : (cs : List Choice) → length cs ≡ 0 → cs ≡ []
 empty_items [] e = refl
@@ -279,8 +279,8 @@ retry_ends m v popped none job =
       goes_is =
           step_failing job m [] (ap (choices_of (history_of m.world)) before)
           ∙ ap
-            (λ cs. goes (record (state_at m failing) { doing = ended False; choices = choices_of (history_of m.world) cs }))
-            (before ∙ sym empty);
+          (λ cs. goes (record (state_at m failing) { doing = ended False; choices = choices_of (history_of m.world) cs }))
+          (before ∙ sym empty);
       history_is = refl;
       gens_is = refl;
     }

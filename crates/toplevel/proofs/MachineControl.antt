@@ -47,8 +47,8 @@ pub equals_equal : (f : Chars) (a b : Bool)
 equals_equal f a b h t i r u =
     ap (λ x. if x then Equal else User) (sym (spelled f (chars (61 ∷ [])) (codes "=") b r chars-equals i u))
     ∙ ap
-      (λ x. if x then Both else (if bytes_eq f (codes "=") then Equal else User))
-      (sym (spelled f (chars (44 ∷ [])) (codes ",") a false chars-comma h t))
+    (λ x. if x then Both else (if bytes_eq f (codes "=") then Equal else User))
+    (sym (spelled f (chars (44 ∷ [])) (codes ",") a false chars-comma h t))
 
 pub atom_sort : (n : Node) (a : Chars) (b : Bool)
     → n ≡ Atom a
@@ -66,10 +66,12 @@ binary : (f : Chars) (t u : Tree) → binary_sort_by f ≡ sort_of (control (com
 binary f t u =
     elim (bytes_eq f (codes ",")) as (λ b.
     (if b then Both else (if bytes_eq f (codes "=") then Equal else User)) ≡
-    sort_of (if b then both t u else (if bytes_eq f (codes "=") then equal t u else user)))
-    [ true ↦ refl | false ↦
-    elim (bytes_eq f (codes "=")) as (λ b. (if b then Equal else User) ≡ sort_of (if b then equal t u else user))
-    [ true ↦ refl | false ↦ refl ] ]
+    sort_of (if b then both t u else (if bytes_eq f (codes "=") then equal t u else user))) [
+      | true ↦ refl
+      | false ↦
+          elim (bytes_eq f (codes "=")) as (λ b. (if b then Equal else User) ≡ sort_of (if b then equal t u else user))
+          [ true ↦ refl | false ↦ refl ]
+    ]
 
 atomic : (a : Chars) → sort_by (Atom a) ≡ sort_of (control (atom a))
 atomic a =

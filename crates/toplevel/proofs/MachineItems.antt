@@ -32,7 +32,7 @@ step_taking job m at = refl
 -- An item of the file is taken up.
 pub item_asks : (job : Job) (m n : Machine) (at : ℕ) (w : World) (i : Item) → served_now (history_of m.world) look ≡ answers (standing opening_operators) None → history_of w ≡ history_of m.world → generations_of w ≡ generations_of m.world ++ length (history_of m.world) ∷ [] → item_is i ≡ item_of job.file at opening_operators → ((d : Phase) → state_of n ≡ with_item (state_at (record m { world = w }) d) opening_operators (item_is i)) → Keeps (record m { world = w }) n → AsksTo 1 job (during m (taking at)) (seen_of n)
 item_asks job m n at w i served history gens item state keeps =
-  looks_by
+    looks_by
     job
     m
     n
@@ -40,8 +40,8 @@ item_asks job m n at w i served history gens item state keeps =
     (step_taking job m at)
     served
     (state (taking at)
-      ∙ ap (λ s. with_item s opening_operators (item_is i)) (state_world m w (taking at) history)
-      ∙ ap (λ x. with_item (state_at m (taking at)) opening_operators x) item)
+    ∙ ap (λ s. with_item s opening_operators (item_is i)) (state_world m w (taking at) history)
+    ∙ ap (λ x. with_item (state_at m (taking at)) opening_operators x) item)
     (ap history_of keeps.world_is ∙ history)
     (ap generations_of keeps.world_is ∙ gens)
 
@@ -52,7 +52,7 @@ step_beginning job m = refl
 -- The word of the goal is read.
 pub word_asks : (job : Job) (m n : Machine) (w : World) (i : Item) (size : ℕ) → served_now (history_of m.world) look ≡ answers (standing opening_operators) None → history_of w ≡ history_of m.world → generations_of w ≡ generations_of m.world ++ length (history_of m.world) ∷ [] → item_is i ≡ item_of (goal_text job.word) 0 opening_operators → size ≡ length (goal_text job.word) → ((d : Phase) → state_of n ≡ with_word (state_at (record m { world = w }) d) size (item_is i)) → Keeps (record m { world = w }) n → AsksTo 1 job (during m beginning) (seen_of n)
 word_asks job m n w i size served history gens item size_is state keeps =
-  looks_by
+    looks_by
     job
     m
     n
@@ -60,22 +60,22 @@ word_asks job m n w i size served history gens item size_is state keeps =
     (step_beginning job m)
     served
     (state beginning
-      ∙ ap (λ s. with_word s size (item_is i)) (state_world m w beginning history)
-      ∙ ap (λ k. with_word (state_at m beginning) k (item_is i)) size_is
-      ∙ ap (λ x. with_word (state_at m beginning) (length (goal_text job.word)) x) item)
+    ∙ ap (λ s. with_word s size (item_is i)) (state_world m w beginning history)
+    ∙ ap (λ k. with_word (state_at m beginning) k (item_is i)) size_is
+    ∙ ap (λ x. with_word (state_at m beginning) (length (goal_text job.word)) x) item)
     (ap history_of keeps.world_is ∙ history)
     (ap generations_of keeps.world_is ∙ gens)
 
 -- A term that ends before the word does.
 pub word_after : (s : State) (size next n start : ℕ) (t : Tree) (ns : List (Chars × ℕ)) → (next ≡ size → ⊥) → n ≡ next - 1 → with_word_fault s AfterEnd n ≡ with_word s size (clause t ns start next)
 word_after s size next n start t ns ne e =
-  ap (with_word_fault s AfterEnd) e
-  ∙ ap (λ b. if b then with_goal s t ns (converted t) else with_word_fault s AfterEnd (next - 1)) (sym (eqb_other next size ne))
+    ap (with_word_fault s AfterEnd) e
+    ∙ ap (λ b. if b then with_goal s t ns (converted t) else with_word_fault s AfterEnd (next - 1)) (sym (eqb_other next size ne))
 
 -- The goal that a term is converted to is run.
 pub goal_begins : (s : State) (t goal : Tree) (ns : List (Chars × ℕ)) (count : ℕ) → count ≡ length (variables t) → Some goal ≡ converted t → started_goal s goal count ns ≡ with_goal s t ns (converted t)
 goal_begins s t goal ns count e f =
-  ap (λ k. started_goal s goal k ns) e ∙ ap (λ g. with_goal s t ns g) f
+    ap (λ k. started_goal s goal k ns) e ∙ ap (λ g. with_goal s t ns g) f
 
 -- Entries behind the place of a clause change nothing of it.
 later_stored : (h more : History) (k : ℕ) → IsClause h k → stored_at (h ++ more) k ≡ stored_at h k
@@ -95,8 +95,8 @@ later_clause h more k is = by (slice_get h k) refl is
 later_places : (h more : History) (ks : List ℕ) → ((k : ℕ) → Contains ks k → IsClause h k) → map (stored_at (h ++ more)) ks ≡ map (stored_at h) ks
 later_places h more [] all = refl
 later_places h more (k ∷ ks) all =
-  ap (λ x. x ∷ map (stored_at (h ++ more)) ks) (later_stored h more k (all k (0, omega arith, refl)))
-  ∙ ap (λ xs. stored_at h k ∷ xs) (later_places h more ks (λ j c. all j (suc c.0, omega (arith, c.1), c.2)))
+    ap (λ x. x ∷ map (stored_at (h ++ more)) ks) (later_stored h more k (all k (0, omega arith, refl)))
+    ∙ ap (λ xs. stored_at h k ∷ xs) (later_places h more ks (λ j c. all j (suc c.0, omega (arith, c.1), c.2)))
 
 dropped-contains : (ks : List ℕ) (i k : ℕ) → Contains (drop i ks) k → Contains ks k
 dropped-contains ks zero k c = c
@@ -106,14 +106,14 @@ dropped-contains (j ∷ ks) (suc i) k c = let r = dropped-contains ks i k c in (
 later_choices : (h more : History) (cs : List Choice) → AllOpen h cs → map (choice_of (h ++ more)) cs ≡ map (choice_of h) cs
 later_choices h more [] opened = refl
 later_choices h more (c ∷ cs) opened =
-  ap (λ xs. others c.goal xs (node_of c.node) ∷ map (choice_of (h ++ more)) cs)
+    ap (λ xs. others c.goal xs (node_of c.node) ∷ map (choice_of (h ++ more)) cs)
     (later_places h more (drop c.next c.places.items) (λ k d. opened.0.clauses k (dropped-contains c.places.items c.next k d)))
-  ∙ ap (λ xs. choice_of h c ∷ xs) (later_choices h more cs opened.1)
+    ∙ ap (λ xs. choice_of h c ∷ xs) (later_choices h more cs opened.1)
 
 later_open : (h more : History) (cs : List Choice) → AllOpen h cs → AllOpen (h ++ more) cs
 later_open h more [] opened = tt
 later_open h more (c ∷ cs) opened =
-  (record { left = opened.0.left; clauses = λ k d. later_clause h more k (opened.0.clauses k d) }, later_open h more cs opened.1)
+    (record { left = opened.0.left; clauses = λ k d. later_clause h more k (opened.0.clauses k d) }, later_open h more cs opened.1)
 
 -- A list read from its other end, as an induction over its members.
 open_all : (h : History) (cs ds : List Choice) → AllOpen h cs → AllOpen h ds → AllOpen h (cs ++ ds)
@@ -127,18 +127,18 @@ open_reversed h (c ∷ cs) p = let P : List Choice → Type 0 = AllOpen h in sub
 -- The state of a machine whose shared state has gained entries.
 pub state_later : (m : Machine) (w : World) (d : Phase) (more : History) → IsSound m → history_of w ≡ history_of m.world ++ more → state_at (record m { world = w }) d ≡ state_at m d
 state_later m w d more sound e =
-  ap (λ h. let s : State = record (state_at m d) { choices = choices_of h m.choices.items } in s) e
-  ∙ ap (λ cs. let s : State = record (state_at m d) { choices = cs } in s)
+    ap (λ h. let s : State = record (state_at m d) { choices = choices_of h m.choices.items } in s) e
+    ∙ ap (λ cs. let s : State = record (state_at m d) { choices = cs } in s)
     (later_choices (history_of m.world) more (reverse m.choices.items) (open_reversed (history_of m.world) m.choices.items sound))
 
 pub sound_later : (m n : Machine) (w : World) (more : History) → IsSound m → history_of w ≡ history_of m.world ++ more → Keeps (record m { world = w }) n → IsSound n
 sound_later m n w more sound e keeps =
-  let P : History → Type 0 = λ h. AllOpen h m.choices.items in
-  let here : AllOpen (history_of w) m.choices.items = subst P (sym e) (later_open (history_of m.world) more m.choices.items sound) in
-  let Q : History → Type 0 = λ h. AllOpen h m.choices.items in
-  let there : AllOpen (history_of n.world) m.choices.items = subst Q (sym (ap history_of keeps.world_is)) here in
-  let R : List Choice → Type 0 = λ cs. AllOpen (history_of n.world) cs in
-  subst R (sym (ap (λ v. v.items) keeps.choices_is)) there
+    let P : History → Type 0 = λ h. AllOpen h m.choices.items in
+    let here : AllOpen (history_of w) m.choices.items = subst P (sym e) (later_open (history_of m.world) more m.choices.items sound) in
+    let Q : History → Type 0 = λ h. AllOpen h m.choices.items in
+    let there : AllOpen (history_of n.world) m.choices.items = subst Q (sym (ap history_of keeps.world_is)) here in
+    let R : List Choice → Type 0 = λ cs. AllOpen (history_of n.world) cs in
+    subst R (sym (ap (λ v. v.items) keeps.choices_is)) there
 
 step_adding : (job : Job) (m : Machine) (start next : ℕ) (p : Proc) (c : Clause) → step job (state_at m (adding opening_operators start next p c)) ≡ asks (addition p c)
 unfolding step
@@ -163,18 +163,18 @@ entry-is p c false = refl
 -- A clause is added, or is refused.
 pub adding_asks : (m n : Machine) (start next : ℕ) (p q : Proc) (c : Clause) (w : World) (done : Bool) → IsSound m → served_now (history_of m.world) (addition p c) ≡ answered p c done → history_of w ≡ history_of m.world ++ (if done then record { engine = 1; kind = add_last p c consult } ∷ [] else []) → generations_of w ≡ generations_of m.world ++ length (history_of m.world) ∷ [] → q ≡ p → ((d : Phase) → state_of n ≡ with_addition (state_at (record m { world = w }) d) opening_operators start next (if done then added else refused (static_procedure q))) → Keeps (record m { world = w }) n → (job : Job) → AsksTo 1 job (during m (adding opening_operators start next p c)) (seen_of n)
 adding_asks m n start next p q c w done sound served history gens same state keeps job =
-  record {
-    request = addition p c;
-    asks_is = step_adding job m start next p c;
-    state_is =
-      state (adding opening_operators start next p c)
-      ∙ ap (λ r. with_addition (state_at (record m { world = w }) (adding opening_operators start next p c)) opening_operators start next (if done then added else refused (static_procedure r))) same
-      ∙ ap (λ s. with_addition s opening_operators start next (if done then added else refused (static_procedure p)))
-        (state_later m w (adding opening_operators start next p c) _ sound history)
-      ∙ resume_adding job m start next p c done
-      ∙ ap (resume job (state_at m (adding opening_operators start next p c))) (sym (ap answer_of served ∙ answer-is p c done));
-    history_is =
-      ap history_of keeps.world_is ∙ history
-      ∙ ap (λ e. history_of m.world ++ e) (sym (ap (λ s. entry_by 1 (update_of s)) served ∙ entry-is p c done));
-    gens_is = ap generations_of keeps.world_is ∙ gens
-  }
+    record {
+      request = addition p c;
+      asks_is = step_adding job m start next p c;
+      state_is =
+          state (adding opening_operators start next p c)
+          ∙ ap (λ r. with_addition (state_at (record m { world = w }) (adding opening_operators start next p c)) opening_operators start next (if done then added else refused (static_procedure r))) same
+          ∙ ap (λ s. with_addition s opening_operators start next (if done then added else refused (static_procedure p)))
+          (state_later m w (adding opening_operators start next p c) _ sound history)
+          ∙ resume_adding job m start next p c done
+          ∙ ap (resume job (state_at m (adding opening_operators start next p c))) (sym (ap answer_of served ∙ answer-is p c done));
+      history_is =
+          ap history_of keeps.world_is ∙ history
+          ∙ ap (λ e. history_of m.world ++ e) (sym (ap (λ s. entry_by 1 (update_of s)) served ∙ entry-is p c done));
+      gens_is = ap generations_of keeps.world_is ∙ gens;
+    }

@@ -49,8 +49,8 @@ pub instance_none : (n : Frame) → n ≡ instance_of [] n
 instance_none n =
     ap (λ gs. let m : Frame = record { goals = gs; answer = n.answer } in m) (sym (map_same _ (λ p. refl) n.goals))
     ∙ ap
-      (λ ts. let m : Frame = record { goals = map (λ p. record { goal = bound [] p.goal; cut = p.cut }) n.goals; answer = ts } in m)
-      (sym (map_same (bound []) (λ t. refl) n.answer))
+    (λ ts. let m : Frame = record { goals = map (λ p. record { goal = bound [] p.goal; cut = p.cut }) n.goals; answer = ts } in m)
+    (sym (map_same (bound []) (λ t. refl) n.answer))
 
 pub no_bindings : (bs : Bindings) (b : Bool) → b ≡ (length bs == 0) → b ≡ true → bs ≡ []
 no_bindings [] b e t = refl
@@ -66,11 +66,11 @@ instance_made bs n m gs ts =
     (λ xs. let f : Frame = record { goals = xs; answer = n.answer.items } in f)
     (instances_reversed bs n.goals.items m.goals.items gs)
     ∙ ap
-      (λ xs.
-      let f : Frame =
-        record { goals = map (bound_pending bs) (map pending_of (reverse m.goals.items)); answer = xs }
-      in f)
-      ts
+    (λ xs.
+    let f : Frame =
+    record { goals = map (bound_pending bs) (map pending_of (reverse m.goals.items)); answer = xs }
+    in f)
+    ts
 
 bound-more : (bs : Bindings) (b : ℕ × Tree) (t : Tree) → bound (bs ++ b ∷ []) t ≡ replace b.0 b.1 (bound bs t)
 bound-more [] b t = refl

@@ -16,10 +16,10 @@ use Rattle.toplevel.specs.declared.state.Doing.{Doing}
 -- At the start nothing has happened.
 pub starts_alone : (job : Job) (m : Machine) → state_of m ≡ at_start job → history_of m.world ≡ [] → generations_of m.world ≡ [] → Alone job (seen_of m) 0
 starts_alone job m state history gens =
-  let P : Seen → Type 0 = λ s. Alone job s 0 in
-  let same : record { state = at_start job; history = []; gens = [] } ≡ seen_of m =
+    let P : Seen → Type 0 = λ s. Alone job s 0 in
+    let same : record { state = at_start job; history = []; gens = [] } ≡ seen_of m =
     ap (λ s. the_seen s [] []) (sym state) ∙ ap (λ h. the_seen (state_of m) h []) (sym history) ∙ ap (λ g. the_seen (state_of m) (history_of m.world) g) (sym gens) in
-  subst P same (alone_start job)
+    subst P same (alone_start job)
   where
     the_seen : State → History → List ℕ → Seen
     the_seen s h g = record { state = s; history = h; gens = g }
@@ -35,15 +35,15 @@ moved job old new n (asked a) alone = alone_asks job old new n a alone
 -- The engine has made a step.
 pub advances_alone : (job : Job) (m k n : Machine) (d : Doing) (steps : ℕ) → d ≡ m.doing → k ≡ record m { doing = k.doing } → Advances job (during k (doing_of d)) (seen_of n) → Alone job (seen_of m) steps → Alone job (seen_of n) (steps + 1)
 advances_alone job m k n d steps same rest by alone =
-  let P : Seen → Type 0 = λ s. Alone job s steps in
-  let Q : ℕ → Type 0 = λ j. Alone job (seen_of n) j in
-  subst Q (sym (add-one steps)) (moved job (during k (doing_of d)) (seen_of n) steps by (subst P (taken m k d same rest) alone))
+    let P : Seen → Type 0 = λ s. Alone job s steps in
+    let Q : ℕ → Type 0 = λ j. Alone job (seen_of n) j in
+    subst Q (sym (add-one steps)) (moved job (during k (doing_of d)) (seen_of n) steps by (subst P (taken m k d same rest) alone))
 
 -- The engine has ended.
 pub ended_alone : (job : Job) (m k n : Machine) (d : Doing) (how : How) (steps : ℕ) → d ≡ m.doing → k ≡ record m { doing = k.doing } → doing_of d ≡ ended how → n ≡ k → Alone job (seen_of m) steps → Alone job (during n (ended how)) steps
 ended_alone job m k n d how steps same rest is kept alone =
-  let P : Seen → Type 0 = λ s. Alone job s steps in
-  subst P (taken m k d same rest ∙ ap (during k) is ∙ ap (λ x. during x (ended how)) (sym kept)) alone
+    let P : Seen → Type 0 = λ s. Alone job s steps in
+    subst P (taken m k d same rest ∙ ap (during k) is ∙ ap (λ x. during x (ended how)) (sym kept)) alone
 
 -- What is known of an answer by its case.
 pub at_none : {X : Type 0} (o : Option X) (P : Type 0) (Q : X → Type 0) → o ≡ None → MatchOption o P Q → P

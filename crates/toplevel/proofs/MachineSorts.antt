@@ -53,11 +53,11 @@ pub both_arguments : (g a b : Tree)
 both_arguments g a b e (f, is) =
     ap control is
     ∙ both_by
-      (bytes_eq f (codes ","))
-      (bytes_eq f (codes "="))
-      a
-      b
-      (e ∙ ap (λ t. sort_of (control t)) is)
+    (bytes_eq f (codes ","))
+    (bytes_eq f (codes "="))
+    a
+    b
+    (e ∙ ap (λ t. sort_of (control t)) is)
 
 pub equal_arguments : (g a b : Tree)
     → Equal ≡ sort_of (control g)
@@ -66,8 +66,8 @@ pub equal_arguments : (g a b : Tree)
 equal_arguments g a b e (f, is) =
     ap control is
     ∙ equal_by
-      (bytes_eq f (codes ","))
-      (bytes_eq f (codes "="))
-      a
-      b
-      (e ∙ ap (λ t. sort_of (control t)) is)
+    (bytes_eq f (codes ","))
+    (bytes_eq f (codes "="))
+    a
+    b
+    (e ∙ ap (λ t. sort_of (control t)) is)

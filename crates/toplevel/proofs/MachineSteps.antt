@@ -63,21 +63,21 @@ goes_kept job m n d s step_is state_is keeps =
 -- The step by which a goal is taken up.
 pub step_pending : (job : Job) (m : Machine) (p : Pending) (n : Frame)
     → step job (state_at m (running (with_pending p n)))
-      ≡ take_up job (state_at m (running (with_pending p n))) n (pending_of p) (control p.goal)
+    ≡ take_up job (state_at m (running (with_pending p n))) n (pending_of p) (control p.goal)
 unfolding step
 step_pending job m p n = refl
 
 pub step_known : (job : Job) (m : Machine) (p : Pending) (n : Frame) (k : Known)
     → control p.goal ≡ k
     → step job (state_at m (running (with_pending p n)))
-      ≡ take_up job (state_at m (running (with_pending p n))) n (pending_of p) k
+    ≡ take_up job (state_at m (running (with_pending p n))) n (pending_of p) k
 step_known job m p n k e =
     step_pending job m p n ∙ ap (take_up job (state_at m (running (with_pending p n))) n (pending_of p)) e
 
 -- Two goals put behind others, the last one to be run first.
 two_goals : (gs : List Pending) (x y : Pending)
     → map pending_of (reverse ((gs ++ y ∷ []) ++ x ∷ []))
-      ≡ pending_of x ∷ (pending_of y ∷ map pending_of (reverse gs))
+    ≡ pending_of x ∷ (pending_of y ∷ map pending_of (reverse gs))
 two_goals gs x y =
     ap (map pending_of) (reverse_last (gs ++ y ∷ []) x)
     ∙ ap (λ ps. pending_of x ∷ map pending_of ps) (reverse_last gs y)
@@ -103,22 +103,22 @@ pub both_goes : (m : Machine) (rest node : Node) (p x y : Pending) (gs : List Pe
 both_goes m rest node p x y gs sort arguments cut_x cut_y one two answer job =
     let k : control p.goal ≡ both x.goal y.goal = both_arguments p.goal x.goal y.goal sort arguments
     in let goals_are : map pending_of (reverse node.goals.items) ≡ pending_of x ∷ (pending_of y ∷ (node_of rest).goals) =
-      ap (λ ps. map pending_of (reverse ps)) (two ∙ ap (λ ps. ps ++ x ∷ []) one) ∙ two_goals rest.goals.items x y
+    ap (λ ps. map pending_of (reverse ps)) (two ∙ ap (λ ps. ps ++ x ∷ []) one) ∙ two_goals rest.goals.items x y
     in record {
       goes_is =
           step_known job m p (node_of rest) (both x.goal y.goal) k
           ∙ ap
-            (λ i. goes (state_at m (running (both_node rest x y i p.cut))))
-            (sym cut_x)
+          (λ i. goes (state_at m (running (both_node rest x y i p.cut))))
+          (sym cut_x)
           ∙ ap
-            (λ i. goes (state_at m (running (both_node rest x y x.cut i))))
-            (sym cut_y)
+          (λ i. goes (state_at m (running (both_node rest x y x.cut i))))
+          (sym cut_y)
           ∙ ap
-            (λ ps. goes (state_at m (running (record { goals = ps; answer = rest.answer.items }))))
-            (sym goals_are)
+          (λ ps. goes (state_at m (running (record { goals = ps; answer = rest.answer.items }))))
+          (sym goals_are)
           ∙ ap
-            (λ ts. goes (state_at m (running (record { goals = (node_of node).goals; answer = ts }))))
-            (sym answer);
+          (λ ts. goes (state_at m (running (record { goals = (node_of node).goals; answer = ts }))))
+          (sym answer);
       history_is = refl;
       gens_is = refl;
     }
@@ -147,20 +147,20 @@ exhausted_equal : (job : Job) (m n : Machine) (rest : Node) (p : Pending)
 exhausted_equal job m n rest p k none_left state_is keeps =
     let d : Phase = running (with_pending p (node_of rest))
     in goes_kept
-      job
-      m
-      n
-      d
-      (raised (state_at m d) (error_ball no_inferences (proc_of p.goal)))
-      (step_known job m p (node_of rest) (equal k.left k.right) k.is
-      ∙ costs_out
-        job
-        (state_at m d)
-        p.goal
-        (goes (unified (inferred (state_at m d)) (node_of rest) (unify k.left k.right)))
-        none_left)
-      (state_is d)
-      keeps
+    job
+    m
+    n
+    d
+    (raised (state_at m d) (error_ball no_inferences (proc_of p.goal)))
+    (step_known job m p (node_of rest) (equal k.left k.right) k.is
+    ∙ costs_out
+    job
+    (state_at m d)
+    p.goal
+    (goes (unified (inferred (state_at m d)) (node_of rest) (unify k.left k.right)))
+    none_left)
+    (state_is d)
+    keeps
 
 pub equal_out : (job : Job) (m n : Machine) (rest : Node) (p : Pending)
     → Equal ≡ sort_of (control p.goal)
@@ -182,23 +182,23 @@ pub equal_in : (job : Job) (m n : Machine) (rest : Node) (p : Pending) (a b : Tr
 equal_in job m n rest p a b i sort arguments left counted state_is keeps =
     let d : Phase = running (with_pending p (node_of rest))
     in goes_by
-      job
-      (during m d)
-      (seen_of n)
-      (unified (inferred (state_at m d)) (node_of rest) (unify a b))
-      (step_known job m p (node_of rest) (equal a b) (equal_arguments p.goal a b sort arguments)
-      ∙ costs_in
-        job
-        (state_at m d)
-        p.goal
-        (goes (unified (inferred (state_at m d)) (node_of rest) (unify a b)))
-        left)
-      (state_is d
-      ∙ ap
-        (λ j. unified (state_at (record m { inferences = j }) d) (node_of rest) (unify a b))
-        (counted ∙ add-one m.inferences))
-      (ap history_of keeps.world_is)
-      (ap generations_of keeps.world_is)
+    job
+    (during m d)
+    (seen_of n)
+    (unified (inferred (state_at m d)) (node_of rest) (unify a b))
+    (step_known job m p (node_of rest) (equal a b) (equal_arguments p.goal a b sort arguments)
+    ∙ costs_in
+    job
+    (state_at m d)
+    p.goal
+    (goes (unified (inferred (state_at m d)) (node_of rest) (unify a b)))
+    left)
+    (state_is d
+    ∙ ap
+    (λ j. unified (state_at (record m { inferences = j }) d) (node_of rest) (unify a b))
+    (counted ∙ add-one m.inferences))
+    (ap history_of keeps.world_is)
+    (ap generations_of keeps.world_is)
 
 pub succeeds_goes : (job : Job) (m : Machine) (rest : Node) (p : Pending)
     → Succeeds ≡ sort_of (control p.goal)

@@ -61,13 +61,13 @@ the_first xs = (0, omega arith, refl)
 how-is : (c : Command) (bytes : List ℕ) (job : Job) (done : Finished) → (f : IsFinished job done) → job ≡ main_job c bytes → how_of (end_in (told done.front).history 1) ≡ done.how
 unfolding end_state
 how-is c bytes job done f e =
-  let t = told done.front in
-  let r = (f.whole.complete c bytes e).each 1 (the_first (started t.history)) in
-  let last : (run (job_of c bytes 1) t.history (generations_in t.generations 1) r.end.steps).state ≡ f.state =
+    let t = told done.front in
+    let r = (f.whole.complete c bytes e).each 1 (the_first (started t.history)) in
+    let last : (run (job_of c bytes 1) t.history (generations_in t.generations 1) r.end.steps).state ≡ f.state =
     ap (λ x. (run (job_of c bytes 1) t.history (generations_in t.generations 1) (steps_of x)).state) (sym r.end_is) ∙ f.whole.end_state_is c bytes e in
-  let same : ended r.end.how ≡ ended done.how = sym r.lawful.end_is ∙ ap (λ s. s.doing) last ∙ f.ended in
-  let hows : r.end.how ≡ done.how = cc in
-  ap how_of r.end_is ∙ hows
+    let same : ended r.end.how ≡ ended done.how = sym r.lawful.end_is ∙ ap (λ s. s.doing) last ∙ f.ended in
+    let hows : r.end.how ≡ done.how = cc in
+    ap how_of r.end_is ∙ hows
 
 -- The transcript, from the state in which the engine ended.
 pub transcript-is : (c : Command) (bytes : List ℕ) (job : Job) (done : Finished) → (f : IsFinished job done) → job ≡ main_job c bytes → section_texts opening_operators c f.state done.how ≡ transcript c bytes (told done.front)

@@ -57,7 +57,13 @@ impl Machine {
 
     /// Makes the step of an engine that is doing this, or answers how it has ended. The gate is called before a visit to
     /// the shared state. The only error is want of memory.
-    fn advance<G: Gate>(&mut self, alloc: Global, task: &Task, gate: &G, doing: Doing) -> Result<Option<How>, Memory>
+    fn advance<G: Gate>(
+        &mut self,
+        alloc: Global,
+        task: &Task,
+        gate: &G,
+        doing: Doing,
+    ) -> Result<Option<How>, Memory>
         requires { IsSound self.old }
         ensures advances { IfOk result (λ r. MatchOption r
             (Advances (job_of task.now) (during self.old (doing_of doing)) (seen_of self.new))
@@ -172,10 +178,10 @@ pub fn run_engine<G: Gate>(
     gate: &G,
 ) -> Result<Finished, Memory>
     ensures { IfOk result (λ done. IsFinished (record {
-        file = file.now;
-        word = word.now;
-        inferences = inferences;
-        solutions = solutions;
+      file = file.now;
+      word = word.now;
+      inferences = inferences;
+      solutions = solutions;
     }) done) }
 {
     let text = text_of(alloc, word)?;

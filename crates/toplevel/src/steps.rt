@@ -29,7 +29,13 @@ use std::alloc::Global;
 impl Machine {
     /// Runs the goals of a node: takes up the next one, or keeps a solution where none is left. The only error is want
     /// of memory.
-    pub fn run_node<G: Gate>(&mut self, alloc: Global, task: &Task, gate: &G, node: Node) -> Result<(), Memory>
+    pub fn run_node<G: Gate>(
+        &mut self,
+        alloc: Global,
+        task: &Task,
+        gate: &G,
+        node: Node,
+    ) -> Result<(), Memory>
         requires { IsSound self.old }
         ensures advances { OnOk result (Advances (job_of task.now) (during self.old (running (node_of node))) (seen_of self.new)) }
         ensures sound { OnOk result (IsSound self.new) }
@@ -106,7 +112,13 @@ impl Machine {
     }
 
     /// Takes up a unification, which is an inference.
-    fn take_equal(&mut self, alloc: Global, task: &Task, rest: Node, next: Pending) -> Result<(), Memory>
+    fn take_equal(
+        &mut self,
+        alloc: Global,
+        task: &Task,
+        rest: Node,
+        next: Pending,
+    ) -> Result<(), Memory>
         requires { GoalSort.Equal ≡ sort_of (control next.goal) }
         ensures goes { OnOk result (GoesTo (job_of task.now)
             (during self.old (running (with_pending next (node_of rest)))) (seen_of self.new)) }
@@ -121,7 +133,13 @@ impl Machine {
     }
 
     /// Goes on with the instance of a node by which two terms are equal, or fails where there is none.
-    fn unify_terms(&mut self, alloc: Global, left: &Flat, right: &Flat, node: Node) -> Result<(), Memory>
+    fn unify_terms(
+        &mut self,
+        alloc: Global,
+        left: &Flat,
+        right: &Flat,
+        node: Node,
+    ) -> Result<(), Memory>
         ensures state { OnOk result ((d : Phase)
             → state_of self.new ≡ unified (state_at self.old d) (node_of node) (unifier left.now right.now)) }
         ensures keeps { OnOk result (Keeps self.old self.new) }
@@ -163,7 +181,13 @@ impl Machine {
     }
 
     /// Goes on by the clauses of a call, or by the error that there is no such procedure.
-    fn run_clauses(&mut self, alloc: Global, rest: Node, goal: Flat, listed: Listed) -> Result<(), Memory>
+    fn run_clauses(
+        &mut self,
+        alloc: Global,
+        rest: Node,
+        goal: Flat,
+        listed: Listed,
+    ) -> Result<(), Memory>
         requires places { AreClauses (history_of self.old.world) listed }
         requires sound { IsSound self.old }
         ensures state { OnOk result ((d : Phase) → state_of self.new
@@ -182,7 +206,13 @@ impl Machine {
     }
 
     /// Tries the clauses at these places in their order (ISO 7.7.10).
-    fn try_clauses(&mut self, alloc: Global, rest: Node, goal: Flat, places: Vec<usize>) -> Result<(), Memory>
+    fn try_clauses(
+        &mut self,
+        alloc: Global,
+        rest: Node,
+        goal: Flat,
+        places: Vec<usize>,
+    ) -> Result<(), Memory>
         requires places { (k : ℕ) → Contains places.items k → IsClause (history_of self.old.world) k }
         requires sound { IsSound self.old }
         ensures state { OnOk result ((d : Phase) → state_of self.new ≡ with_clauses (state_at self.old d) goal
@@ -264,7 +294,14 @@ impl Machine {
 
     /// Tries the clause at this place for a goal, behind which `rest` stands (ISO 7.7.10, step 4). A cut in its body goes
     /// back to the height `cut`.
-    fn try_clause(&mut self, alloc: Global, goal: &Flat, rest: Node, cut: usize, place: usize) -> Result<(), Memory>
+    fn try_clause(
+        &mut self,
+        alloc: Global,
+        goal: &Flat,
+        rest: Node,
+        cut: usize,
+        place: usize,
+    ) -> Result<(), Memory>
         requires { IsClause (history_of self.old.world) place }
         ensures state { OnOk result ((d : Phase) → state_of self.new ≡ tried (state_at self.old d) goal.now (node_of rest)
             cut (stored_at (history_of self.old.world) place).clause) }

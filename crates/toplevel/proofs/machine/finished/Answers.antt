@@ -9,13 +9,13 @@ use Rattle.toplevel.proofs.machine.finished.Goals as goal
 
 pub returns : goal.returns
 returns c job alone =
-  let seen = during c.args.machine (ended c.args.how) in
-  let same : told c.in_ok-front.front ≡ told_at_end seen c.args.how c.args.steps =
+    let seen = during c.args.machine (ended c.args.how) in
+    let same : told c.in_ok-front.front ≡ told_at_end seen c.args.how c.args.steps =
     c.in_ok-front.ensures ∙ ap (λ h. told_at_end seen h c.args.steps) c.in_ok-told.ensures in
-  let P : Told → Type 0 = λ t. WholeRun job t seen.state in
-  record {
-    state = seen.state;
-    whole = subst P (sym same) (alone_end job seen c.args.steps c.args.how alone refl);
-    outcome = record { kept_is = refl; names_are = refl; solutions_are = refl; word_fault_is = refl };
-    ended = refl
-  }
+    let P : Told → Type 0 = λ t. WholeRun job t seen.state in
+    record {
+      state = seen.state;
+      whole = subst P (sym same) (alone_end job seen c.args.steps c.args.how alone refl);
+      outcome = record { kept_is = refl; names_are = refl; solutions_are = refl; word_fault_is = refl };
+      ended = refl;
+    }

@@ -9,8 +9,8 @@ pub returns-then-is_empty : goal.returns-then-is_empty
 returns-then-is_empty c =
     instance_none (node_of c.args.node)
     ∙ ap
-      (λ bs. instance_of bs (node_of c.args.node))
-      (sym (no_bindings c.args.bindings.now c.is_empty.result c.is_empty.ensures c.if-is_empty.true))
+    (λ bs. instance_of bs (node_of c.args.node))
+    (sym (no_bindings c.args.bindings.now c.is_empty.result c.is_empty.ensures c.if-is_empty.true))
 
 pub returns : goal.returns
 returns c =

@@ -10,6 +10,6 @@ use Rattle.toplevel.proofs.state.Machine.place_addition.Goals as goal
 
 pub returns-clause-state : goal.returns-clause-state
 returns-clause-state c d =
-  c.in_ok-refuse.ensures.state (taking c.args.next)
-  ∙ ap (λ e. with_addition (state_at c.args.self.now d) opening_operators c.args.start c.args.next (refused e)) c.in_ok-error.ensures
-  ∙ ap (λ b. with_addition (state_at c.args.self.now d) opening_operators c.args.start c.args.next (if b then added else refused (static_procedure (proc_of_procedure c.args.culprit.now)))) (sym c.if-done.false)
+    c.in_ok-refuse.ensures.state (taking c.args.next)
+    ∙ ap (λ e. with_addition (state_at c.args.self.now d) opening_operators c.args.start c.args.next (refused e)) c.in_ok-error.ensures
+    ∙ ap (λ b. with_addition (state_at c.args.self.now d) opening_operators c.args.start c.args.next (if b then added else refused (static_procedure (proc_of_procedure c.args.culprit.now)))) (sym c.if-done.false)

@@ -7,5 +7,5 @@ use Rattle.toplevel.proofs.state.Machine.place_prepared.Goals as goal
 
 pub returns-in_ok-refuse-in-Faulty-clause-state : goal.returns-in_ok-refuse-in-Faulty-clause-state
 returns-in_ok-refuse-in-Faulty-clause-state c d =
-  c.in_ok-refuse-in-Faulty.ensures.state (taking c.args.next)
-  ∙ ap (λ p. with_prepared (state_at c.args.self.now d) opening_operators c.args.start c.args.next (prepared_of p)) (sym c.in-Faulty.is)
+    c.in_ok-refuse-in-Faulty.ensures.state (taking c.args.next)
+    ∙ ap (λ p. with_prepared (state_at c.args.self.now d) opening_operators c.args.start c.args.next (prepared_of p)) (sym c.in-Faulty.is)

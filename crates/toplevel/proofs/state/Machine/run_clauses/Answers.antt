@@ -16,14 +16,14 @@ returns-in_ok-error-in-Unknown-clause-state c =
     (λ h d.
     h d
     ∙ ap
-      (λ e. raised (state_at c.args.self.now d) (error_ball e (proc_of c.args.goal)))
-      (c.in_ok-error-in-Unknown.ensures ∙ ap unknown_procedure c.in_ok-procedure-in-Unknown.ensures)
+    (λ e. raised (state_at c.args.self.now d) (error_ball e (proc_of c.args.goal)))
+    (c.in_ok-error-in-Unknown.ensures ∙ ap unknown_procedure c.in_ok-procedure-in-Unknown.ensures)
     ∙ ap
-      (λ l.
-      after_call
-      (state_at c.args.self.now d)
-      c.args.goal
-      (node_of c.args.rest)
-      (answer_of (history_of c.args.self.now.world) c.args.goal l))
-      (sym c.in-Unknown.is))
+    (λ l.
+    after_call
+    (state_at c.args.self.now d)
+    c.args.goal
+    (node_of c.args.rest)
+    (answer_of (history_of c.args.self.now.world) c.args.goal l))
+    (sym c.in-Unknown.is))
     c.raise.ensures.state

@@ -12,13 +12,13 @@ returns-in-None-clause-state c =
     (λ h d.
     h d
     ∙ sym
-      (tried_out
-      (state_at c.args.self.now d)
-      c.args.goal.now
-      (node_of c.args.rest)
-      c.args.cut
-      (stored_at (history_of c.args.self.now.world) c.args.place).clause
-      c.clause_at.result.now.variables
-      (ap (λ k. k.variables) c.clause_at.ensures)
-      c.in-None.ensures))
+    (tried_out
+    (state_at c.args.self.now d)
+    c.args.goal.now
+    (node_of c.args.rest)
+    c.args.cut
+    (stored_at (history_of c.args.self.now.world) c.args.place).clause
+    c.clause_at.result.now.variables
+    (ap (λ k. k.variables) c.clause_at.ensures)
+    c.in-None.ensures))
     c.exhaust.ensures.state
