@@ -1,15 +1,14 @@
 -- The requests of an engine.
-use Rattle.std.proofs.Common.{◌≡◌, ◌≤◌, ◌<◌, ◌+◌, ℕ, zero, suc, List, [], ◌∷◌, ◌++◌, map, length, Option, Some, None, Bool, true, false, refl, ap, sym, ◌∙◌, subst, add-one, append-nil, length-append}
+use Rattle.std.proofs.Common.{◌≡◌, ◌≤◌, ◌<◌, ◌+◌, ℕ, suc, List, [], ◌∷◌, ◌++◌, map, length, None, refl, ap, sym, ◌∙◌, add-one, append-nil, length-append}
 use Rattle.std.specs.Prelude.{if◌then◌else◌, nat_le}
-use Rattle.pl_term.specs.Tree.{Tree}
 use Rattle.pl_model.specs.Operators.{opening_operators}
-use Rattle.pl_model.specs.History.{Kind, History}
+use Rattle.pl_model.specs.History.{History}
 use Rattle.pl_model.specs.World.{proc_of}
 use Rattle.pl_model.specs.Errors.{error_ball, no_inferences}
-use Rattle.pl_model.specs.Serve.{Request, look, clauses, Answer, standing, listed, refused, added, Served, answers, serve}
+use Rattle.pl_model.specs.Serve.{Request, look, clauses, Answer, standing, answers}
 use Rattle.pl_model.specs.declared.ends.How.TheVariants.{Solved}
-use Rattle.pl_model.specs.Machine.{Job, State, Next, goes, asks, Doing as Phase, running, failing, ended, Pending as Waiting, Node as Frame, Control as Known, user, control, costs, inferred, raised, step, resume, resume_by, looked, with_solution, run_node, Solution as Answered}
-use Rattle.pl_model.specs.Reached.{Seen, AsksTo, GoesTo, answer_of, update_of, entry_by, served_now}
+use Rattle.pl_model.specs.Machine.{Job, State, asks, Doing as Phase, running, failing, ended, Node as Frame, user, control, inferred, raised, step, resume, looked, with_solution, run_node, Solution as Answered}
+use Rattle.pl_model.specs.Reached.{AsksTo, answer_of, update_of, entry_by, served_now}
 use Rattle.toplevel.specs.declared.control.GoalSort.TheVariants.{User}
 use Rattle.toplevel.specs.declared.state.Pending.{Pending}
 use Rattle.toplevel.specs.declared.state.Node.{Node}
@@ -24,7 +23,7 @@ use Rattle.toplevel.specs.declared.world.Listed.{Listed}
 use Rattle.toplevel.specs.declared.world.Listed.TheVariants.{Clauses, Unknown}
 use Rattle.toplevel.specs.Controls.{sort_of}
 use Rattle.toplevel.specs.Shared.{history_of, generations_of, answer_of as listed_answer}
-use Rattle.toplevel.specs.States.{pending_of, doing_of, node_of, with_pending, choices_of, state_at, state_of, during, seen_of, Keeps}
+use Rattle.toplevel.specs.States.{doing_of, node_of, with_pending, choices_of, state_at, state_of, during, seen_of, Keeps}
 use Rattle.toplevel.specs.Steps.{Advances, went, asked, after_call}
 use Rattle.toplevel.proofs.MachineSorts.{is_user}
 use Rattle.toplevel.proofs.MachineSteps.{goes_kept, step_known, costs_in, costs_out}

@@ -1,26 +1,21 @@
 -- Choice points, and the clauses that they have left.
-use Rattle.std.proofs.Common.{◌≡◌, ◌≤◌, ◌<◌, ◌+◌, ℕ, zero, suc, List, [], ◌∷◌, ◌++◌, map, reverse, drop, take, length, get_or, Option, Some, None, Bool, true, false, refl, ap, sym, ◌∙◌, subst, arith, add-one, drop-cons, length-drop}
+use Rattle.std.proofs.Common.{◌≡◌, ◌≤◌, ◌<◌, ◌+◌, ℕ, suc, List, [], ◌∷◌, ◌++◌, map, reverse, drop, length, get_or, Bool, true, false, refl, ap, sym, ◌∙◌, subst, arith, add-one, drop-cons}
 use Rattle.std.specs.Prelude.{if◌then◌else◌, nat_lt, ◌^◌}
-use Rattle.std.specs.Bool.{IsTrue}
-use Rattle.std.specs.List.{Contains, slice_get}
-use Rattle.std.specs.Option.{option_to_list}
 use Rattle.std.proofs.lemmas.Bool.{le-ltb}
-use Rattle.std.proofs.lemmas.List.{take-append-drop, length-map, length-reverse, drop_all, get_or_default}
-use Rattle.std.proofs.lemmas.List.Elements.{Contains-append_right}
+use Rattle.std.proofs.lemmas.List.{length-map, length-reverse, drop_all, get_or_default}
 use Rattle.pl_term.specs.Tree.{Tree}
-use Rattle.pl_model.specs.History.{Clause, Entry, History}
-use Rattle.pl_model.specs.World.{Stored, proc_of}
+use Rattle.pl_model.specs.History.{Clause, History}
+use Rattle.pl_model.specs.World.{proc_of}
 use Rattle.pl_model.specs.Errors.{error_ball, no_inferences}
 use Rattle.pl_model.specs.Machine.{Job, State, goes, ended, failing, Doing as Phase, Node as Frame, Choice as Open, others, raised, tried, with_clauses, retried, step}
 use Rattle.pl_model.specs.declared.ends.How.TheVariants.{False}
 use Rattle.pl_model.specs.Reached.{GoesTo}
-use Rattle.toplevel.specs.declared.state.Node.{Node}
 use Rattle.toplevel.specs.declared.state.Choice.{Choice}
 use Rattle.toplevel.specs.declared.state.Machine.{Machine}
 use Rattle.toplevel.specs.declared.state.Doing.TheVariants.{Ended}
 use Rattle.std.proofs.Common.{Vec, Global}
 use Rattle.toplevel.specs.declared.world.World.{World}
-use Rattle.toplevel.specs.Shared.{history_of, generations_of, stored_at, IsClause, adds_clause}
+use Rattle.toplevel.specs.Shared.{history_of, generations_of, stored_at}
 use Rattle.toplevel.specs.States.{node_of, choice_of, choices_of, state_at, state_of, during, seen_of, IsOpen, AllOpen, IsSound, Keeps}
 use Rattle.toplevel.proofs.MachineNodes.{reverse_last}
 use Rattle.toplevel.proofs.MachineSteps.{goes_by}

@@ -1,14 +1,13 @@
 -- What a goal is shows at its first node.
-use Rattle.std.proofs.Common.{◌≡◌, ◌<◌, ◌≤◌, ◌==◌, ℕ, zero, suc, List, [], ◌∷◌, ◌++◌, length, get_or, Bool, true, false, refl, ap, sym, ◌∙◌, arith}
+use Rattle.std.proofs.Common.{◌≡◌, ◌<◌, ◌==◌, ℕ, suc, [], ◌∷◌, length, get_or, Bool, true, false, refl, ap, sym, ◌∙◌, arith}
 use Rattle.std.specs.Prelude.{bytes_eq, codes, if◌then◌else◌}
 use Rattle.std.specs.Str.{chars}
 use Rattle.std.proofs.lemmas.Bool.{ne_eqb}
 use Rattle.pl_term.specs.declared.node.Node.{Node}
-use Rattle.pl_term.specs.declared.node.Node.TheVariants.{Var, Int, Atom, Comp}
-use Rattle.pl_term.specs.Tree.{Chars, Tree, Trees, var, int, atom, comp, none, more, count}
-use Rattle.pl_term.specs.Nodes.{nodes, nodes_all}
-use Rattle.pl_model.specs.Machine.{Control as Known, succeeds, both, equal, user, control}
-use Rattle.toplevel.specs.declared.control.GoalSort.{GoalSort}
+use Rattle.pl_term.specs.declared.node.Node.TheVariants.{Atom}
+use Rattle.pl_term.specs.Tree.{Chars, Tree, var, int, atom, comp, none, more, count}
+use Rattle.pl_term.specs.Nodes.{nodes}
+use Rattle.pl_model.specs.Machine.{succeeds, both, equal, user, control}
 use Rattle.toplevel.specs.declared.control.GoalSort.TheVariants.{Succeeds, Both, Equal, User}
 use Rattle.toplevel.specs.Controls.{sort_of, binary_sort_by, sort_by}
 

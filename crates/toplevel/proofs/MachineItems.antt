@@ -1,6 +1,6 @@
 -- The requests of an engine that consults its file and reads its goal.
 use Rattle.std.proofs.Common.{◌≡◌, ◌-◌, ℕ, zero, suc, List, [], ◌∷◌, ◌++◌, length, map, drop, reverse, subst, arith, Option, Some, None, Bool, true, false, refl, sym, ◌∙◌, ap}
-use Rattle.std.specs.Prelude.{if◌then◌else◌, ◌==◌, Contains, IsTrue, slice_get}
+use Rattle.std.specs.Prelude.{if◌then◌else◌, Contains, IsTrue, slice_get}
 use Rattle.pl_model.proofs.UnifyReplace.{eqb_other}
 use Rattle.std.proofs.lemmas.Bool.{false≢true}
 use Rattle.std.proofs.lemmas.List.{reverse-append}
@@ -13,17 +13,17 @@ use Rattle.pl_model.specs.Operators.{opening_operators}
 use Rattle.pl_model.specs.Grammar.{item_of, clause}
 use Rattle.pl_model.specs.History.{Entry, History, Proc, Clause, add_last, consult}
 use Rattle.pl_model.specs.Errors.{static_procedure}
-use Rattle.pl_model.specs.Serve.{look, addition, standing, added, refused, answers, Answer, Served}
+use Rattle.pl_model.specs.Serve.{look, addition, standing, added, refused, answers, Served}
 use Rattle.pl_model.specs.Machine.{Job, State, Doing as Phase, asks, taking, adding, beginning, others, goal_text, with_item, with_addition, with_word, with_word_fault, with_goal, step, resume}
 use Rattle.pl_model.specs.Reached.{AsksTo, served_now, answer_of, update_of, entry_by}
 use Rattle.toplevel.specs.Shared.{history_of, generations_of, stored_at, stored_by, adds_clause, IsClause}
-use Rattle.toplevel.specs.States.{state_at, state_of, during, seen_of, started_goal, node_of, choice_of, choices_of, AllOpen, IsOpen, IsSound, Keeps}
+use Rattle.toplevel.specs.States.{state_at, state_of, during, seen_of, started_goal, node_of, choice_of, choices_of, AllOpen, IsSound, Keeps}
 use Rattle.toplevel.specs.declared.state.Choice.{Choice}
 use Rattle.toplevel.specs.Items.{item_is}
 use Rattle.toplevel.specs.declared.items.Item.{Item}
 use Rattle.toplevel.specs.declared.state.Machine.{Machine}
 use Rattle.toplevel.specs.declared.world.World.{World}
-use Rattle.toplevel.proofs.MachineAsks.{state_world, looks_by, asks_by}
+use Rattle.toplevel.proofs.MachineAsks.{state_world, looks_by}
 
 step_taking : (job : Job) (m : Machine) (at : ℕ) → step job (state_at m (taking at)) ≡ asks look
 unfolding step

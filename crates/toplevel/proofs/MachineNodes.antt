@@ -9,7 +9,7 @@ use Rattle.std.proofs.lemmas.List.{take_more}
 use Rattle.pl_term.specs.Variables.{has, replace}
 use Rattle.pl_model.proofs.UnifyReplace.{replace-absent}
 use Rattle.pl_model.specs.Unify.{Bindings, bound}
-use Rattle.pl_model.specs.Machine.{Pending as Waiting, Node as Frame, instance_of}
+use Rattle.pl_model.specs.Machine.{Node as Frame, instance_of}
 use Rattle.toplevel.specs.declared.state.Pending.{Pending}
 use Rattle.toplevel.specs.declared.state.Node.{Node}
 use Rattle.toplevel.specs.States.{pending_of, node_of, bound_pending}

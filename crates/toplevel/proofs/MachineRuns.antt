@@ -1,13 +1,12 @@
 -- Whole runs of an engine.
 use Rattle.std.specs.Prelude.{MatchOption, IfOk}
-use Rattle.std.proofs.Common.{Option, Some, None, Result, Ok, Err, ◌≡◌, ◌+◌, ℕ, suc, List, [], ◌∷◌, ◌++◌, refl, sym, ◌∙◌, ap, subst, add-one}
+use Rattle.std.proofs.Common.{Option, Some, None, Result, Ok, Err, ◌≡◌, ◌+◌, ℕ, suc, List, [], sym, ◌∙◌, ap, subst, add-one}
 use Rattle.pl_model.specs.declared.ends.How.{How}
-use Rattle.pl_model.specs.Machine.{Job, State, Doing as Phase, ended, at_start}
+use Rattle.pl_model.specs.Machine.{Job, State, ended, at_start}
 use Rattle.pl_model.specs.History.{History}
-use Rattle.pl_model.specs.Complete.{Told}
-use Rattle.pl_model.specs.Reached.{Seen, Alone, Finished as WholeRun, told_at_end}
-use Rattle.pl_model.proofs.Alone.{alone_start, alone_goes, alone_asks, alone_end}
-use Rattle.toplevel.specs.Shared.{told, history_of, generations_of}
+use Rattle.pl_model.specs.Reached.{Seen, Alone}
+use Rattle.pl_model.proofs.Alone.{alone_start, alone_goes, alone_asks}
+use Rattle.toplevel.specs.Shared.{history_of, generations_of}
 use Rattle.toplevel.specs.Steps.{Advances, went, asked}
 use Rattle.toplevel.specs.States.{doing_of, state_of, during, seen_of}
 use Rattle.toplevel.specs.declared.state.Machine.{Machine}

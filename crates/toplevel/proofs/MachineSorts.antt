@@ -1,9 +1,8 @@
 -- What is known of a goal by its sort.
-use Rattle.std.proofs.Common.{◌≡◌, ℕ, Bool, true, false, refl, ap, sym, ◌∙◌}
+use Rattle.std.proofs.Common.{◌≡◌, Bool, true, false, refl, ap, ◌∙◌}
 use Rattle.std.specs.Prelude.{bytes_eq, codes, if◌then◌else◌}
-use Rattle.pl_term.specs.Tree.{Chars, Tree, Trees, var, int, atom, comp, none, more}
+use Rattle.pl_term.specs.Tree.{Chars, Tree, comp, none, more}
 use Rattle.pl_model.specs.Machine.{Control as Known, succeeds, both, equal, user, control}
-use Rattle.toplevel.specs.declared.control.GoalSort.{GoalSort}
 use Rattle.toplevel.specs.declared.control.GoalSort.TheVariants.{Succeeds, Both, Equal, User}
 use Rattle.toplevel.specs.Controls.{sort_of}
 

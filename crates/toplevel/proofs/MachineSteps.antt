@@ -1,28 +1,24 @@
 -- The steps of an engine that runs a goal.
-use Rattle.std.proofs.Common.{◌≡◌, ◌≤◌, ◌<◌, ◌+◌, ℕ, suc, List, [], ◌∷◌, ◌++◌, map, reverse, length, Result, Ok, Err, Option, Some, None, Bool, true, false, refl, ap, sym, ◌∙◌, add-one, append-nil, OnOk}
-use Rattle.std.specs.Prelude.{if◌then◌else◌, nat_lt}
+use Rattle.std.proofs.Common.{◌≡◌, ◌≤◌, ◌<◌, ◌+◌, ℕ, List, [], ◌∷◌, ◌++◌, map, reverse, Result, Ok, Err, refl, ap, sym, ◌∙◌, add-one, OnOk}
+use Rattle.std.specs.Prelude.{if◌then◌else◌}
 use Rattle.std.proofs.lemmas.Bool.{lt-ltb, le-ltb}
 use Rattle.pl_term.specs.Tree.{Chars, Tree, comp, more, none}
-use Rattle.pl_model.specs.History.{History, Kind}
-use Rattle.pl_model.specs.World.{proc_of, world}
+use Rattle.pl_model.specs.World.{proc_of}
 use Rattle.pl_model.specs.Errors.{error_ball, no_inferences}
-use Rattle.pl_model.specs.Serve.{Request, Answer, Served, answers, serve, clauses}
-use Rattle.pl_model.specs.Unify.{Bindings, unify}
-use Rattle.pl_model.specs.Machine.{Job, State, Next, goes, asks, Doing as Phase, running, failing, Pending as Waiting, Node as Frame, Control as Known, succeeds, both, equal, user, control, costs, inferred, unified, raised, take_up, step, step_by, resume, resume_by}
-use Rattle.pl_model.specs.Reached.{Seen, GoesTo, AsksTo, answer_of, update_of, served_now, entry_by}
-use Rattle.toplevel.specs.declared.control.GoalSort.{GoalSort}
-use Rattle.toplevel.specs.declared.control.GoalSort.TheVariants.{Succeeds, Both, Equal, User}
+use Rattle.pl_model.specs.Unify.{unify}
+use Rattle.pl_model.specs.Machine.{Job, State, Next, goes, Doing as Phase, running, Node as Frame, Control as Known, succeeds, both, equal, control, costs, inferred, unified, raised, take_up, step}
+use Rattle.pl_model.specs.Reached.{Seen, GoesTo}
+use Rattle.toplevel.specs.declared.control.GoalSort.TheVariants.{Succeeds, Both, Equal}
 use Rattle.toplevel.specs.declared.state.Pending.{Pending}
 use Rattle.toplevel.specs.declared.state.Node.{Node}
 use Rattle.toplevel.specs.declared.state.Doing.TheVariants.{Running}
 use Rattle.toplevel.specs.declared.state.Machine.{Machine}
-use Rattle.toplevel.specs.declared.state.Task.{Task}
 use Rattle.toplevel.specs.Controls.{sort_of}
 use Rattle.toplevel.specs.Shared.{history_of, generations_of}
-use Rattle.toplevel.specs.States.{job_of, pending_of, node_of, with_pending, state_at, state_of, during, seen_of, Keeps}
-use Rattle.toplevel.specs.Steps.{Advances, went, asked}
+use Rattle.toplevel.specs.States.{pending_of, node_of, with_pending, state_at, state_of, during, seen_of, Keeps}
+use Rattle.toplevel.specs.Steps.{Advances, went}
 use Rattle.toplevel.proofs.MachineNodes.{reverse_last}
-use Rattle.toplevel.proofs.MachineSorts.{is_succeeds, is_user, IsEqual, is_equal, both_arguments, equal_arguments}
+use Rattle.toplevel.proofs.MachineSorts.{is_succeeds, IsEqual, is_equal, both_arguments, equal_arguments}
 
 -- What follows from a fact after a success.
 pub on_ok : {T E : Type 0} (r : Result T E) {P Q : Type 0} → (P → Q) → OnOk r P → OnOk r Q

@@ -1,41 +1,26 @@
 -- The turns of reading with a stack, each an equation of the grammar: what takes a term that has ended.
-use Rattle.std.proofs.Common.{◌≡◌, ℕ, zero, suc, ◌+◌, ◌-◌, ◌*◌, ◌^◌, ◌<◌, ◌≤◌, Bool, true, false, cond, codes, nat_lt, ◌==◌, List, [], ◌∷◌, ◌++◌, length, take, drop, slice_index, Result, Ok, Err, Option, Some, None, IfOk, IfErr, Vec, Global, pos, reverse, append-nil, refl, sym, ap, subst, ◌∙◌, arith, length-append}
-use Rattle.std.proofs.lemmas.Bool.{cond-true, cond-false}
-use Rattle.std.proofs.lemmas.Bool.Decides.{nat_tests}
+use Rattle.std.proofs.Common.{◌≡◌, ℕ, ◌+◌, ◌<◌, ◌≤◌, List, [], ◌∷◌, ◌++◌, length, take, drop, Result, Ok, Err, Some, None, Vec, Global, reverse, append-nil, refl, sym, ap, subst, ◌∙◌, arith, length-append}
 use Rattle.std.proofs.lemmas.List.{take-take, length-take-le}
-use Rattle.pl_term.specs.Tree.{Chars, Tree, Trees, var, int, atom, comp, none, more, count, join}
-use Rattle.pl_term.specs.Nodes.{nodes, nodes_all, tree, tree-nodes, forest}
+use Rattle.pl_term.specs.Tree.{Chars, Tree, Trees, comp, none, more, count, join}
+use Rattle.pl_term.specs.Nodes.{nodes, nodes_all, tree, forest}
 use Rattle.pl_term.specs.declared.node.Node.{Node}
 use Rattle.pl_term.specs.declared.node.Node.TheVariants.{Comp}
 use Rattle.pl_term.proofs.Spelled.{tree_spelled, nodes_spelled}
-use Rattle.pl_model.specs.declared.syntax.SyntaxFault.{SyntaxFault}
-use Rattle.pl_model.specs.declared.syntax.SyntaxKind.TheVariants.{AtomTooLong, IntegerTooLarge}
-use Rattle.pl_model.specs.declared.syntax.TokenKind.{TokenKind}
 use Rattle.pl_model.specs.declared.syntax.TokenKind.TheVariants.{Name, Variable, Numeral, Open, Close, Comma, EndToken}
 use Rattle.pl_model.specs.declared.syntax.Lexeme.TheVariants.{Token, End}
-use Rattle.pl_model.specs.Operators.{Operator, Operators, infix_of, left_max, right_max}
-use Rattle.pl_model.specs.Tokens.{Lexed, spelling, token_at}
+use Rattle.pl_model.specs.Operators.{Operators}
+use Rattle.pl_model.specs.Tokens.{Lexed, token_at}
 use Rattle.pl_model.specs.Grammar.{Reading, Part, Parts, Outcome, and_then, moved, closed, arguments}
-use Rattle.pl_model.proofs.Depth.{whole, rest, tail, rest-is, tail-is}
-use Rattle.pl_model.proofs.TokenPlaces.{Follows, token_at-follows}
-use Rattle.pl_model.proofs.TokenTexts.{token_at-text}
-use Rattle.std.specs.Str.{IsUtf8}
-use Rattle.toplevel.specs.declared.reader_names.Names.{Names}
+use Rattle.pl_model.proofs.Depth.{whole, rest, tail, tail-is}
 use Rattle.toplevel.specs.declared.reader_stack.Frame.{Frame}
 use Rattle.toplevel.specs.declared.reader_stack.Frame.TheVariants.{Enclosed, Arguments, Operand}
 use Rattle.toplevel.specs.declared.reader_stack.Mode.{Mode}
 use Rattle.toplevel.specs.declared.reader_stack.Mode.TheVariants.{Term as TermMode, Part as PartMode, Ended, Whole}
 use Rattle.toplevel.specs.declared.reader_stack.Reader.{Reader}
 use Rattle.toplevel.specs.declared.reader_stack.Stop.{Stop}
-use Rattle.toplevel.specs.declared.reader_stack.Stop.TheVariants.{Memory, Fault}
-use Rattle.toplevel.specs.ReaderNames.{reading_at, pairs, Numbers}
 use Rattle.toplevel.specs.ReaderPieces.{spelled}
-use Rattle.toplevel.specs.ReaderStack.{close_end, comma_end, fault_of, compound_of, applied, operated, plug, Holds, stack, reading, part_at, IsBuilt, IsAt, IsSound, outcome, Gives, turns_left, Turns, PutsLeaf, Pushes}
+use Rattle.toplevel.specs.ReaderStack.{close_end, comma_end, fault_of, compound_of, applied, operated, plug, Holds, stack, reading, part_at, IsBuilt, IsAt, IsSound, outcome, turns_left, Turns, Pushes}
 use Rattle.toplevel.proofs.ReaderSpelled.{join-assoc, count-join, nodes_all-push, nodes-compound, forest-all, spelled-split}
-use Rattle.std.specs.Prelude.{nat_le, ◌&&◌, option_map}
-use Rattle.toplevel.specs.declared.reader_operators.InfixLimits.{InfixLimits}
-use Rattle.toplevel.specs.ReaderOperators.{infix_limits}
-use Rattle.toplevel.proofs.ReaderTexts.{infix_of-name}
 use Rattle.toplevel.proofs.ReaderParts.{turns-same}
 use Rattle.toplevel.proofs.ReaderTurns.{ahead-follows, holds-same, stack-push, push-turns, plug-fault, plug-same}
 

@@ -1,5 +1,5 @@
 -- The item at a place, from what was read of it.
-use Rattle.std.proofs.Common.{◌≡◌, ℕ, ◌<◌, ◌≤◌, List, length, Option, Some, None, Result, Ok, Err, refl, sym, ap, ◌∙◌, arith}
+use Rattle.std.proofs.Common.{◌≡◌, ℕ, ◌≤◌, List, length, Some, None, Ok, Err, refl, sym, ap, ◌∙◌, arith}
 use Rattle.pl_term.specs.Tree.{Tree}
 use Rattle.pl_term.specs.Nodes.{nodes, tree, tree-nodes}
 use Rattle.pl_model.specs.declared.syntax.SyntaxFault.{SyntaxFault}
@@ -8,18 +8,15 @@ use Rattle.pl_model.specs.declared.syntax.TokenKind.TheVariants.{Name, Variable,
 use Rattle.pl_model.specs.declared.syntax.Lexeme.TheVariants.{Token, End}
 use Rattle.pl_model.specs.Operators.{Operators}
 use Rattle.pl_model.specs.Tokens.{Lexed, token_at}
-use Rattle.pl_model.specs.Grammar.{Part, Outcome, Item, clause, fault, end_of_text, and_then, ended, item, item_of}
+use Rattle.pl_model.specs.Grammar.{Part, Outcome, clause, fault, and_then, ended, item, item_of}
 use Rattle.pl_model.proofs.Depth.{whole, clause_whole, item_by, item_of-whole}
 use Rattle.pl_model.proofs.TokenPlaces.{token_at-follows}
-use Rattle.toplevel.specs.declared.reader.Read.{Read}
-use Rattle.toplevel.specs.declared.reader.Read.TheVariants.{Clause, Syntax, Memory as NoMemory}
-use Rattle.toplevel.specs.declared.reader_stack.Mode.{Mode}
 use Rattle.toplevel.specs.declared.reader_stack.Reader.{Reader}
 use Rattle.toplevel.specs.declared.reader_stack.Stop.{Stop}
 use Rattle.toplevel.specs.declared.reader_stack.Stop.TheVariants.{Memory, Fault}
 use Rattle.toplevel.specs.ReaderNames.{pairs}
 use Rattle.toplevel.specs.ReaderPieces.{spelled}
-use Rattle.toplevel.specs.ReaderItems.{Reads, clause_end}
+use Rattle.toplevel.specs.ReaderItems.{clause_end}
 use Rattle.toplevel.specs.ReaderStack.{fault_of, part_at, Stops, Turns, IsRead, start_at}
 
 -- A stop of a turn is one of what the turn was to give.

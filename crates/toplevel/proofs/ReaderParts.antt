@@ -1,41 +1,27 @@
 -- The turns of reading with a stack, each an equation of the grammar: what follows a left part.
-use Rattle.std.proofs.Common.{◌≡◌, ℕ, zero, suc, ◌+◌, ◌-◌, ◌*◌, ◌^◌, ◌<◌, ◌≤◌, Bool, true, false, cond, codes, nat_lt, ◌==◌, List, [], ◌∷◌, ◌++◌, length, take, drop, slice_index, Result, Ok, Err, Option, Some, None, IfOk, IfErr, Vec, pos, reverse, refl, sym, ap, subst, ◌∙◌, arith, length-append}
+use Rattle.std.proofs.Common.{◌≡◌, ℕ, ◌<◌, ◌≤◌, true, false, codes, List, length, take, drop, Result, Ok, Err, Option, Some, None, refl, sym, ap, subst, ◌∙◌, arith}
 use Rattle.std.proofs.lemmas.Bool.{cond-true, cond-false}
-use Rattle.std.proofs.lemmas.Bool.Decides.{nat_tests}
-use Rattle.std.proofs.lemmas.List.{take_all, drop_all}
-use Rattle.pl_term.specs.Tree.{Chars, Tree, Trees, var, int, atom, comp, none, more, count}
-use Rattle.pl_term.specs.Nodes.{nodes, nodes_all, tree, tree-nodes, forest}
-use Rattle.pl_term.specs.declared.node.Node.{Node}
-use Rattle.pl_term.proofs.Spelled.{tree_spelled, nodes_spelled}
+use Rattle.pl_term.specs.Tree.{Chars}
+use Rattle.pl_term.specs.Nodes.{tree}
 use Rattle.pl_model.specs.declared.syntax.SyntaxFault.{SyntaxFault}
-use Rattle.pl_model.specs.declared.syntax.SyntaxKind.TheVariants.{AtomTooLong, IntegerTooLarge}
-use Rattle.pl_model.specs.declared.syntax.TokenKind.{TokenKind}
 use Rattle.pl_model.specs.declared.syntax.TokenKind.TheVariants.{Name, Comma}
 use Rattle.pl_model.specs.declared.syntax.Lexeme.TheVariants.{Token}
-use Rattle.pl_model.specs.Operators.{Operator, Operators, infix_of, left_max, right_max}
-use Rattle.pl_model.specs.Tokens.{Lexed, spelling, token_at}
-use Rattle.pl_model.specs.Grammar.{Reading, Part, Parts, Outcome, and_then, moved, joined, fits, operation, infix_term}
-use Rattle.pl_model.proofs.Depth.{whole, rest, tail, rest-is, tail-is}
-use Rattle.pl_model.proofs.TokenPlaces.{Follows, token_at-follows}
-use Rattle.pl_model.proofs.TokenTexts.{token_at-text}
-use Rattle.std.specs.Str.{IsUtf8}
-use Rattle.toplevel.specs.declared.reader_names.Names.{Names}
-use Rattle.toplevel.specs.declared.reader_stack.Frame.{Frame}
-use Rattle.toplevel.specs.declared.reader_stack.Frame.TheVariants.{Enclosed, Arguments, Operand}
+use Rattle.pl_model.specs.Operators.{Operator, Operators, infix_of, right_max}
+use Rattle.pl_model.specs.Tokens.{Lexed, spelling}
+use Rattle.pl_model.specs.Grammar.{Part, Outcome, and_then, moved, joined, fits, operation, infix_term}
+use Rattle.pl_model.proofs.Depth.{whole, rest, rest-is}
+use Rattle.toplevel.specs.declared.reader_stack.Frame.TheVariants.{Operand}
 use Rattle.toplevel.specs.declared.reader_stack.Mode.{Mode}
-use Rattle.toplevel.specs.declared.reader_stack.Mode.TheVariants.{Term as TermMode, Part as PartMode, Ended, Whole}
+use Rattle.toplevel.specs.declared.reader_stack.Mode.TheVariants.{Term as TermMode, Part as PartMode, Ended}
 use Rattle.toplevel.specs.declared.reader_stack.Reader.{Reader}
 use Rattle.toplevel.specs.declared.reader_stack.Stop.{Stop}
-use Rattle.toplevel.specs.declared.reader_stack.Stop.TheVariants.{Memory, Fault}
-use Rattle.toplevel.specs.ReaderNames.{reading_at, pairs, Numbers}
 use Rattle.toplevel.specs.ReaderPieces.{spelled}
-use Rattle.toplevel.specs.ReaderStack.{applied, operated, plug, Holds, stack, reading, part_at, IsBuilt, IsAt, IsSound, outcome, Gives, turns_left, Turns, PutsLeaf, Pushes}
-use Rattle.toplevel.proofs.ReaderSpelled.{reverse-push}
+use Rattle.toplevel.specs.ReaderStack.{operated, plug, stack, reading, part_at, IsAt, IsSound, outcome, turns_left, Turns, Pushes}
 use Rattle.std.specs.Prelude.{nat_le, ◌&&◌, option_map}
 use Rattle.toplevel.specs.declared.reader_operators.InfixLimits.{InfixLimits}
 use Rattle.toplevel.specs.ReaderOperators.{infix_limits}
 use Rattle.toplevel.proofs.ReaderTexts.{infix_of-name}
-use Rattle.toplevel.proofs.ReaderTurns.{push-turns, plug-fault, plug-same}
+use Rattle.toplevel.proofs.ReaderTurns.{push-turns, plug-fault}
 
 -- A turn from another outcome, or within another bound, that is the same.
 pub turns-same : (text : List ℕ) (ops : Operators) (m n : Outcome Part) (b c : ℕ) (new : Reader) (r : Result Mode Stop)

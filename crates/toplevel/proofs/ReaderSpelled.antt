@@ -1,10 +1,9 @@
 -- Trees and pieces: what the nodes of several terms spell.
-use Rattle.std.proofs.Common.{◌≡◌, ℕ, zero, suc, ◌+◌, ◌<◌, ◌≤◌, List, [], ◌∷◌, ◌++◌, length, take, drop, Vec, refl, sym, ap, ◌∙◌, arith, append_assoc, append-nil, length-append}
+use Rattle.std.proofs.Common.{◌≡◌, ℕ, zero, suc, ◌+◌, ◌≤◌, List, [], ◌∷◌, ◌++◌, length, take, drop, Vec, refl, sym, ap, ◌∙◌, arith, append_assoc, append-nil}
 use Rattle.std.specs.Prelude.{reverse}
-use Rattle.std.specs.List.{flat_map}
-use Rattle.std.proofs.lemmas.List.{reverse-append, take-append-drop, drop-append-le, take-take, length-take-le}
-use Rattle.pl_term.specs.Tree.{Chars, Tree, Trees, atom, comp, none, more, count, join}
-use Rattle.pl_term.specs.Nodes.{nodes, nodes_all, forest, tree, forest-nodes_all, tree-nodes}
+use Rattle.std.proofs.lemmas.List.{reverse-append, take-append-drop, drop-append-le, length-take-le}
+use Rattle.pl_term.specs.Tree.{Chars, Tree, Trees, none, more, count, join}
+use Rattle.pl_term.specs.Nodes.{nodes, nodes_all, forest, forest-nodes_all}
 use Rattle.pl_term.specs.declared.node.Node.{Node}
 use Rattle.pl_term.specs.declared.node.Node.TheVariants.{Comp}
 use Rattle.toplevel.specs.ReaderPieces.{spelled}

@@ -1,10 +1,10 @@
 -- The turns of reading with a stack, each an equation of the grammar: what begins a term.
-use Rattle.std.proofs.Common.{◌≡◌, ℕ, zero, suc, ◌+◌, ◌-◌, ◌*◌, ◌^◌, ◌<◌, ◌≤◌, Bool, true, false, cond, nat_lt, ◌==◌, List, [], ◌∷◌, ◌++◌, length, take, drop, slice_index, Result, Ok, Err, Option, Some, None, IfOk, IfErr, Vec, pos, reverse, refl, sym, ap, subst, ◌∙◌, arith, length-append}
+use Rattle.std.proofs.Common.{◌≡◌, ℕ, ◌+◌, ◌-◌, ◌^◌, ◌<◌, ◌≤◌, true, false, nat_lt, ◌==◌, List, [], ◌∷◌, ◌++◌, length, take, drop, slice_index, Result, Ok, Err, IfOk, IfErr, Vec, pos, reverse, refl, sym, ap, subst, ◌∙◌, arith, length-append}
 use Rattle.std.proofs.lemmas.Bool.{cond-true, cond-false}
 use Rattle.std.proofs.lemmas.Bool.Decides.{nat_tests}
 use Rattle.std.proofs.lemmas.List.{take_all, drop_all}
-use Rattle.pl_term.specs.Tree.{Chars, Tree, Trees, var, int, atom, comp, none, more, count}
-use Rattle.pl_term.specs.Nodes.{nodes, nodes_all, tree, tree-nodes, forest}
+use Rattle.pl_term.specs.Tree.{Chars, Tree, Trees, var, int, atom, count}
+use Rattle.pl_term.specs.Nodes.{nodes, nodes_all, forest}
 use Rattle.pl_term.specs.declared.node.Node.{Node}
 use Rattle.pl_term.proofs.Spelled.{tree_spelled, nodes_spelled}
 use Rattle.pl_model.specs.declared.syntax.SyntaxFault.{SyntaxFault}
@@ -14,7 +14,7 @@ use Rattle.pl_model.specs.declared.syntax.TokenKind.TheVariants.{Name, Variable,
 use Rattle.pl_model.specs.declared.syntax.Lexeme.TheVariants.{Token}
 use Rattle.pl_model.specs.Operators.{Operators}
 use Rattle.pl_model.specs.Tokens.{Lexed, spelling, token_at}
-use Rattle.pl_model.specs.Grammar.{Reading, Part, Parts, Outcome, and_then, moved, primary, functional, closed}
+use Rattle.pl_model.specs.Grammar.{Reading, Part, Outcome, and_then, moved, primary, functional}
 use Rattle.pl_model.proofs.Depth.{whole, rest, tail, whole-is}
 use Rattle.pl_model.proofs.TokenPlaces.{Follows, token_at-follows}
 use Rattle.pl_model.proofs.TokenTexts.{token_at-text}
@@ -23,13 +23,13 @@ use Rattle.toplevel.specs.declared.reader_names.Names.{Names}
 use Rattle.toplevel.specs.declared.reader_stack.Frame.{Frame}
 use Rattle.toplevel.specs.declared.reader_stack.Frame.TheVariants.{Enclosed, Arguments, Operand}
 use Rattle.toplevel.specs.declared.reader_stack.Mode.{Mode}
-use Rattle.toplevel.specs.declared.reader_stack.Mode.TheVariants.{Term as TermMode, Part as PartMode, Ended, Whole}
+use Rattle.toplevel.specs.declared.reader_stack.Mode.TheVariants.{Term as TermMode, Part as PartMode, Whole}
 use Rattle.toplevel.specs.declared.reader_stack.Reader.{Reader}
 use Rattle.toplevel.specs.declared.reader_stack.Stop.{Stop}
 use Rattle.toplevel.specs.declared.reader_stack.Stop.TheVariants.{Memory, Fault}
-use Rattle.toplevel.specs.ReaderNames.{reading_at, pairs, Numbers}
+use Rattle.toplevel.specs.ReaderNames.{reading_at, Numbers}
 use Rattle.toplevel.specs.ReaderPieces.{spelled}
-use Rattle.toplevel.specs.ReaderStack.{applied, plug, Holds, stack, reading, part_at, IsBuilt, IsAt, IsSound, outcome, Gives, turns_left, Turns, PutsLeaf, Pushes}
+use Rattle.toplevel.specs.ReaderStack.{applied, plug, Holds, stack, reading, part_at, IsBuilt, IsAt, IsSound, outcome, turns_left, Turns, PutsLeaf, Pushes}
 use Rattle.toplevel.proofs.ReaderSpelled.{reverse-push}
 
 -- The token ahead lies behind the place of the reader.

@@ -1,8 +1,8 @@
 -- What a run's outcome gives the report.
-use Rattle.std.proofs.Common.{◌≡◌, ◌<◌, ◌≤◌, ◌+◌, ℕ, zero, suc, Bool, true, false, List, [], ◌∷◌, ◌++◌, length, get_or, take, Option, Some, None, refl, sym, ◌∙◌, ap, subst, arith}
-use Rattle.std.specs.Prelude.{codes, Result, Ok, Err, OnOk, OnErr}
+use Rattle.std.proofs.Common.{◌≡◌, ◌<◌, ◌≤◌, ℕ, zero, suc, true, false, List, [], ◌∷◌, length, get_or, take, Option, Some, None, refl, sym, ◌∙◌, ap, subst, arith}
+use Rattle.std.proofs.lemmas.Bool.{false≢true}
+use Rattle.std.specs.Prelude.{codes, map, is_some, if◌then◌else◌, Result, Ok, Err, OnOk, OnErr}
 use Rattle.std.proofs.Common.{inl, inr}
-use Rattle.std.specs.Str.{encode_utf8_all}
 use Rattle.std.proofs.lemmas.List.{take_all}
 use Rattle.pl_term.specs.Tree.{Chars}
 use Rattle.pl_model.specs.declared.ends.How.{How}
@@ -10,17 +10,19 @@ use Rattle.pl_model.specs.declared.ends.End.{End}
 use Rattle.pl_model.specs.declared.ends.GoalEnd.{GoalEnd}
 use Rattle.pl_model.specs.declared.ends.GoalHow.{GoalHow}
 use Rattle.pl_model.specs.declared.syntax.SyntaxKind.{SyntaxKind}
-use Rattle.pl_model.specs.Operators.{Operators, opening_operators}
+use Rattle.pl_model.specs.Operators.{opening_operators}
 use Rattle.pl_model.specs.History.{Kind, History, add_first, add_last, erase, abolish, set_dynamic, set_flag, set_op, make_queue, drop_queue, send, take as take_message, start, finish, join}
 use Rattle.pl_model.specs.World.{World, change, changes, opening, world}
-use Rattle.pl_model.specs.Machine.{Job, State, ended, most_bytes}
+use Rattle.pl_model.specs.Machine.{Job, ended, most_bytes, Kept}
+use Rattle.pl_model.specs.declared.syntax.SyntaxFault.{SyntaxFault}
+use Rattle.toplevel.specs.declared.outcome.Kept.{Kept as KeptFault}
 use Rattle.pl_model.specs.Program.{Command, command, main_job}
 use Rattle.pl_model.specs.Complete.{Told, end_in, end_state, started, generations_in, steps_of, job_of}
 use Rattle.pl_model.specs.Run.{run}
 use Rattle.std.specs.Prelude.{Contains}
-use Rattle.pl_model.specs.Transcript.{end_place, end_operators, section_texts, transcript, goal_how, ends, how_of, end_of}
+use Rattle.pl_model.specs.Transcript.{end_place, end_operators, section_texts, transcript, goal_how, ends, how_of, end_of, all_solved, none_kept, is_solved_so}
 use Rattle.toplevel.specs.Shared.{told}
-use Rattle.toplevel.specs.Outcome.{IsFinished, fault_of}
+use Rattle.toplevel.specs.Outcome.{IsFinished, fault_of, kept_of}
 use Rattle.pl_model.specs.declared.ends.End.TheVariants.{Done, GoalFailed, Usage, Memory, ReadFault, WriteFault}
 use Rattle.toplevel.specs.Headline.{AreRead, IsWritten, IsPartlyWritten, IsWrittenUnless, GaveUp, Promised}
 use Rattle.toplevel.specs.declared.run.Report.{Report}
@@ -120,3 +122,23 @@ three (x ∷ (y ∷ [])) v f g low high a b c = absurd (omega (arith, low))
 three (x ∷ (y ∷ (z ∷ []))) v f g low high a b c =
     ap (λ w. command (w ∷ (y ∷ (z ∷ [])))) (sym a) ∙ ap (λ w. command (v ∷ (w ∷ (z ∷ [])))) (sym b) ∙ ap (λ w. command (v ∷ (f ∷ (w ∷ [])))) (sym c)
 three (x ∷ (y ∷ (z ∷ (w ∷ ws)))) v f g low high a b c = absurd (omega (arith, high))
+
+-- The end that a goal's end and the faults that were kept give.
+abbrev pub given : Option (SyntaxKind × ℕ) → How → List Kept → End
+given fault how kept =
+    if all_solved (record { engine = 1; name = codes "main"; how = goal_how fault how } ∷ []) then (if none_kept kept then Done else GoalFailed) else GoalFailed
+
+pub end-given : (c : Command) (bytes : List ℕ) (job : Job) (done : Finished) → IsFinished job done → job ≡ main_job c bytes → given (fault_of done.word_fault) done.how (map kept_of done.kept.items) ≡ end_of c bytes (told done.front)
+end-given c bytes job done f e =
+    ap (λ es. if all_solved es then (if none_kept (map kept_of done.kept.items) then Done else GoalFailed) else GoalFailed) (ends-are c bytes job done f e)
+    ∙ ap (λ k. if all_solved (ends c bytes (told done.front)) then (if none_kept k then Done else GoalFailed) else GoalFailed)
+    (sym f.outcome.kept_is ∙ ap (λ s. s.kept) (sym (f.whole.end_state_is c bytes e)))
+
+pub goal_failed : (fault : Option SyntaxFault) (how : How) (kept : List Kept) → is_solved_so how ≡ false → GoalFailed ≡ given (fault_of fault) how kept
+goal_failed None how kept e = ap (λ b. if (if b then true else false) then (if none_kept kept then Done else GoalFailed) else GoalFailed) (sym e)
+goal_failed (Some x) how kept e = refl
+
+pub all_done : (fault : Option SyntaxFault) (how : How) (kept : List KeptFault) → is_some fault ≡ false → is_solved_so how ≡ true → length kept ≡ 0 → Done ≡ given (fault_of fault) how (map kept_of kept)
+all_done (Some x) how kept d e f = absurd (false≢true (sym d))
+all_done None how [] d e f = ap (λ b. if (if b then true else false) then Done else GoalFailed) (sym e)
+all_done None how (k ∷ ks) d e f = absurd (omega (arith, f))

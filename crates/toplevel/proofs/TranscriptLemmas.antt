@@ -1,12 +1,12 @@
 -- Lines one below the other, and bindings with commas between them.
-use Rattle.std.proofs.Common.{Option, ◌≡◌, ◌<◌, ◌≤◌, ◌+◌, min, ℕ, zero, suc, Bool, true, false, List, [], ◌∷◌, ◌++◌, map, length, get_or, take, refl, sym, ◌∙◌, ap, append_assoc, append-nil, arith, add-one}
+use Rattle.std.proofs.Common.{Option, ◌≡◌, ◌<◌, ◌≤◌, ◌+◌, min, ℕ, zero, suc, Bool, false, List, [], ◌∷◌, ◌++◌, map, length, get_or, take, refl, sym, ◌∙◌, ap, append_assoc, append-nil, arith, add-one}
 use Rattle.std.proofs.lemmas.Bool.{lt-ltb, false≢true}
 use Rattle.std.specs.Prelude.{codes, nat_lt, not, if◌then◌else◌, ◌==◌}
 use Rattle.pl_term.specs.Tree.{Chars, Tree}
 use Rattle.pl_model.specs.Operators.{Operators}
 use Rattle.pl_model.specs.Writing.{writeq}
 use Rattle.pl_model.specs.Program.{newline}
-use Rattle.pl_model.specs.Transcript.{last_of, is_open, with_line, with_lines, binding_texts, with_commas, solution_text, solution_line, stopped, end_lines, goal_section}
+use Rattle.pl_model.specs.Transcript.{last_of, is_open, with_lines, binding_texts, with_commas, solution_text, solution_line, stopped, end_lines, goal_section}
 use Rattle.pl_model.specs.Machine.{State, Solution}
 use Rattle.pl_model.specs.declared.ends.How.{How}
 use Rattle.pl_model.specs.declared.syntax.SyntaxKind.{SyntaxKind}

@@ -1,5 +1,5 @@
 -- What the reader answers, as the grammar has it.
-use Rattle.std.specs.Prelude.{◌≡◌, ℕ, Option, Some, None, Ok, Err}
+use Rattle.std.specs.Prelude.{◌≡◌, ℕ, Option, Some, None, Ok}
 use Rattle.pl_model.specs.declared.syntax.TokenKind.TheVariants.{EndToken}
 use Rattle.pl_model.specs.declared.syntax.Lexeme.TheVariants.{Token}
 use Rattle.pl_model.specs.Tokens.{Lexed}

@@ -23,6 +23,8 @@ pub mod run;
 mod state;
 mod steps;
 mod subterms;
+#[cfg(test)]
+mod tests;
 mod transcript;
 mod unify;
 mod world;

@@ -1,4 +1,4 @@
-use Rattle.std.proofs.Common.{◌≡◌, length, sym, ◌∙◌, eqb-true}
+use Rattle.std.proofs.Common.{sym, ◌∙◌, eqb-true}
 use Rattle.toplevel.proofs.Endings.{last_tells, is_not_empty}
 use Rattle.toplevel.proofs.lines.ends_in_symbol.Goals as goal
 

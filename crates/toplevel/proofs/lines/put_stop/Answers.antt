@@ -1,5 +1,4 @@
 use Rattle.std.proofs.Common.{◌∙◌, sym}
-use Rattle.toplevel.specs.Adds.{Adds}
 use Rattle.toplevel.proofs.AddsLemmas.{on_ok, stops_apart, stops_at_once}
 use Rattle.toplevel.proofs.lines.put_stop.Goals as goal
 

@@ -1,4 +1,3 @@
-use Rattle.std.proofs.Common.{◌≡◌}
 use Rattle.pl_model.specs.Reached.{Alone}
 use Rattle.toplevel.specs.States.{job_of, seen_of, IsSound}
 use Rattle.toplevel.proofs.machine.drive.Given as goal

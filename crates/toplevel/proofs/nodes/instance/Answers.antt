@@ -1,6 +1,5 @@
-use Rattle.std.proofs.Common.{◌≡◌, ◌∙◌, ap, sym, List, []}
-use Rattle.pl_model.specs.Unify.{Bindings}
-use Rattle.pl_model.specs.Machine.{Node as Frame, instance_of}
+use Rattle.std.proofs.Common.{◌∙◌, ap, sym}
+use Rattle.pl_model.specs.Machine.{instance_of}
 use Rattle.toplevel.specs.States.{node_of}
 use Rattle.toplevel.proofs.MachineNodes.{instance_none, instance_made, no_bindings}
 use Rattle.toplevel.proofs.nodes.instance.Goals as goal

@@ -1,4 +1,4 @@
-use Rattle.std.proofs.Common.{◌≡◌, ◌∙◌, Ok, Err, sym, rules}
+use Rattle.std.proofs.Common.{◌≡◌, Ok, Err, sym, rules}
 use Rattle.pl_model.specs.declared.syntax.Lexeme.TheVariants.{Token, End}
 use Rattle.pl_model.specs.Tokens.{token_at}
 use Rattle.toplevel.specs.ReaderOperators.{operators}

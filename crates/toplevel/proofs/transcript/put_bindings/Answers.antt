@@ -1,6 +1,5 @@
-use Rattle.std.proofs.Common.{◌≡◌, ◌≤◌, ◌+◌, map, take, length, sym, ◌∙◌, ap, arith}
+use Rattle.std.proofs.Common.{sym, ap, arith}
 use Rattle.pl_model.specs.Transcript.{with_commas}
-use Rattle.toplevel.specs.Outcome.{kept_of}
 use Rattle.toplevel.proofs.AddsLemmas.{adds_then, adds_none, adds_same}
 use Rattle.toplevel.proofs.TranscriptLemmas.{binding_more, texts_all}
 use Rattle.pl_model.specs.Operators.{opening_operators}

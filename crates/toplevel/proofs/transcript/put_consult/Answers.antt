@@ -1,6 +1,6 @@
 use Rattle.std.proofs.lemmas.List.{take_all}
 use Rattle.toplevel.specs.Lines.{lines_text}
-use Rattle.std.proofs.Common.{◌≡◌, ◌≤◌, ◌+◌, map, take, length, sym, ◌∙◌, ap, arith}
+use Rattle.std.proofs.Common.{◌≡◌, map, take, sym, ◌∙◌, ap}
 use Rattle.pl_model.specs.Transcript.{kept_line}
 use Rattle.toplevel.specs.Outcome.{kept_of}
 use Rattle.toplevel.proofs.AddsLemmas.{adds_then, adds_none, adds_same}

@@ -1,4 +1,4 @@
-use Rattle.std.proofs.Common.{◌≡◌, arith, length, sym, ◌∙◌, eqb-true}
+use Rattle.std.proofs.Common.{arith, sym, ◌∙◌, eqb-true}
 use Rattle.pl_model.specs.Operators.{opening_operators}
 use Rattle.toplevel.proofs.AddsLemmas.{adds_same, on_ok}
 use Rattle.toplevel.proofs.TranscriptLemmas.{no_names, no_answer, shows, positive}

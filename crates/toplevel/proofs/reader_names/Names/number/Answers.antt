@@ -1,4 +1,4 @@
-use Rattle.std.proofs.Common.{◌≡◌, ℕ, ◌+◌, ◌++◌, ◌∷◌, [], ◌∙◌, List, codes, refl, sym, ap}
+use Rattle.std.proofs.Common.{◌≡◌, ℕ, ◌+◌, ◌++◌, ◌∷◌, [], ◌∙◌, List, refl, sym, ap}
 use Rattle.std.proofs.lemmas.List.{map_push}
 use Rattle.pl_term.specs.Tree.{Chars, var}
 use Rattle.pl_model.specs.Grammar.{number_of, variable}

@@ -1,4 +1,4 @@
-use Rattle.std.proofs.Common.{◌≡◌, ◌∙◌, codes, refl, sym}
+use Rattle.std.proofs.Common.{◌∙◌, codes, refl, sym}
 use Rattle.toplevel.proofs.ReaderTexts.{infix_at, no_infix, chars-neck, chars-comma, chars-equal, chars-slash}
 use Rattle.toplevel.proofs.reader_operators.Ops.infix_of.Goals as goal
 

@@ -1,7 +1,7 @@
 use Rattle.std.proofs.Common.{arith, rules}
 use Rattle.std.proofs.lemmas.List.{nil_from_length}
 use Rattle.toplevel.specs.declared.reader_stack.Frame.TheVariants.{Enclosed, Arguments, Operand}
-use Rattle.toplevel.proofs.ReaderEnds.{whole-turns, popped-turns, popped-built}
+use Rattle.toplevel.proofs.ReaderEnds.{whole-turns, popped-turns}
 use Rattle.toplevel.proofs.reader_stack.Reader.ended.Goals as goal
 
 pub returns-in-None : goal.returns-in-None

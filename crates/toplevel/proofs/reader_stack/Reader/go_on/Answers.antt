@@ -1,4 +1,4 @@
-use Rattle.std.proofs.Common.{◌≡◌, ◌∙◌, Ok, Err, refl, arith, rules}
+use Rattle.std.proofs.Common.{◌≡◌, ◌∙◌, Ok, refl, arith, rules}
 use Rattle.pl_model.specs.declared.syntax.TokenKind.TheVariants.{Name, Variable, Numeral, Open, Close, Comma, EndToken}
 use Rattle.pl_model.specs.declared.syntax.Lexeme.TheVariants.{Token, End}
 use Rattle.toplevel.specs.ReaderOperators.{operators}

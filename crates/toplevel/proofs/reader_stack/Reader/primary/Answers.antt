@@ -1,8 +1,6 @@
-use Rattle.std.proofs.Common.{◌≡◌, ◌∙◌, Ok, Err, ap, length, rules}
+use Rattle.std.proofs.Common.{◌≡◌, Ok, Err, length, rules}
 use Rattle.pl_model.specs.declared.syntax.SyntaxKind.TheVariants.{UnexpectedToken, UnexpectedEnd}
-use Rattle.pl_model.specs.declared.syntax.TokenKind.{TokenKind}
 use Rattle.pl_model.specs.declared.syntax.TokenKind.TheVariants.{Close, Comma, EndToken}
-use Rattle.pl_model.specs.declared.syntax.Lexeme.{Lexeme}
 use Rattle.pl_model.specs.declared.syntax.Lexeme.TheVariants.{Token, End}
 use Rattle.toplevel.proofs.ReaderTurns.{term-fault, primary-token}
 use Rattle.toplevel.proofs.reader_stack.Reader.primary.Goals as goal

@@ -2,7 +2,6 @@ use Rattle.std.proofs.Common.{subst, refl, arith}
 use Rattle.pl_term.specs.Tree.{var, Chars}
 use Rattle.pl_term.specs.declared.node.Node.TheVariants.{Var}
 use Rattle.pl_model.specs.declared.syntax.TokenKind.TheVariants.{Variable}
-use Rattle.pl_model.proofs.TokenTexts.{token_at-text}
 use Rattle.toplevel.specs.ReaderNames.{Numbers}
 use Rattle.toplevel.proofs.ReaderTurns.{ahead-follows, ahead-text, leaf-result, variable-part}
 use Rattle.toplevel.proofs.reader_stack.Reader.variable.Goals as goal

@@ -1,4 +1,4 @@
-use Rattle.std.proofs.Common.{sym, ◌∙◌, ap, length}
+use Rattle.std.proofs.Common.{◌∙◌, ap, length}
 use Rattle.pl_model.specs.Grammar.{item_of}
 use Rattle.pl_model.specs.Operators.{opening_operators}
 use Rattle.toplevel.specs.States.{job_of}

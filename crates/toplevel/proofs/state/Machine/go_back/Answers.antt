@@ -1,4 +1,4 @@
-use Rattle.std.proofs.Common.{◌≡◌, ◌<◌, ◌+◌, ◌∙◌, length, arith}
+use Rattle.std.proofs.Common.{◌<◌, ◌+◌, ◌∙◌, length, arith}
 use Rattle.toplevel.specs.States.{node_of}
 use Rattle.toplevel.proofs.MachineSteps.{on_ok}
 use Rattle.toplevel.proofs.MachineChoices.{gone_back, sound_kept, sound_pushed}

@@ -1,4 +1,4 @@
-use Rattle.std.proofs.Common.{◌∙◌, ◌≡◌, List, sym, subst, ap}
+use Rattle.std.proofs.Common.{◌∙◌, List, sym, subst}
 use Rattle.toplevel.specs.declared.state.Choice.{Choice}
 use Rattle.toplevel.specs.Shared.{history_of}
 use Rattle.toplevel.specs.States.{AllOpen}

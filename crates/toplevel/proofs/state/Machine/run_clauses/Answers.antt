@@ -1,5 +1,4 @@
 use Rattle.std.proofs.Common.{◌∙◌, ap, sym}
-use Rattle.pl_model.specs.History.{Proc}
 use Rattle.pl_model.specs.World.{proc_of}
 use Rattle.pl_model.specs.Errors.{error_ball, unknown_procedure}
 use Rattle.pl_model.specs.Machine.{raised}

@@ -1,4 +1,4 @@
-use Rattle.std.proofs.Common.{◌∙◌, ◌+◌, refl}
+use Rattle.std.proofs.Common.{◌+◌, refl}
 use Rattle.toplevel.specs.States.{job_of}
 use Rattle.toplevel.proofs.MachineSteps.{on_both}
 use Rattle.toplevel.proofs.MachineAsks.{call_out, call_in}
