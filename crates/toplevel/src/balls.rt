@@ -11,7 +11,7 @@ use crate::procedures::Procedure;
 use pl_term::{Flat, Memory, Text};
 use std::alloc::Global;
 
-/// The term Name/Arity (ISO 6.1.3). The only error is want of memory.
+/// The term Name/Arity (ISO 7.1.6.6). The only error is want of memory.
 pub fn indicator(alloc: Global, procedure: &Procedure) -> Result<Flat, Memory>
     ensures { IfOk result (λ t. t ≡ indicator_of (proc_of_procedure procedure.now)) }
 {

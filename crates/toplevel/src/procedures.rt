@@ -7,7 +7,7 @@ ghost use Rattle.pl_term.specs.Variables.{has};
 use pl_term::{Flat, Memory, Node, Text};
 use std::alloc::Global;
 
-/// A predicate by its name and the number of its arguments (ISO 6.1.3, predicate indicator). No term in memory has
+/// A predicate by its name and the number of its arguments (ISO 7.1.6.6, predicate indicator). No term in memory has
 /// 2^63 arguments.
 #[derive(Debug, Drop)]
 pub struct Procedure {
