@@ -1,5 +1,5 @@
 -- A lone engine's run is the whole of what a command did.
-use Rattle.std.proofs.Common.{◌≡◌, ◌<◌, ℕ, zero, suc, List, [], ◌∷◌, ◌++◌, length, Option, Some, None, true, false, refl, ap, sym, ◌∙◌, arith, subst, ◌⊎◌, inl, inr, get_or, eq-eqb}
+use Rattle.std.proofs.Common.{◌≡◌, ◌<◌, ℕ, zero, suc, List, [], ◌∷◌, ◌++◌, length, Option, Some, None, true, false, refl, ap, sym, ◌∙◌, arith, subst, ◌⊎◌, inl, inr, ◌==◌, get_or, eq-eqb}
 use Rattle.std.specs.Prelude.{if◌then◌else◌}
 use Rattle.std.specs.List.{Contains}
 use Rattle.std.proofs.lemmas.List.Elements.{Contains-append_cases}
@@ -9,15 +9,15 @@ use Rattle.pl_model.specs.World.{World, is_static, is_known, proc_of, choices, w
 use Rattle.pl_model.specs.Serve.{Request, look, clauses, addition, answers, listed, refused, added, serve}
 use Rattle.pl_model.specs.Errors.{unknown_procedure, static_procedure}
 use Rattle.pl_model.specs.Machine.{Job, ended, at_start}
-use Rattle.pl_model.specs.Run.{run}
+use Rattle.pl_model.specs.Run.{run, IsLawful}
 use Rattle.pl_model.specs.Program.{Command, main_job}
-use Rattle.pl_model.specs.Complete.{Ended, started, engines, end_among, end_in, RanToEnd, IsComplete, steps_of, end_state}
+use Rattle.pl_model.specs.Complete.{Ended, started, engines, end_among, end_in, RanToEnd, IsComplete, start_among, steps_of, end_state}
 use Rattle.pl_model.specs.Reached.{Seen, entry_by, update_of, served_now, GoesTo, AsksTo, IsPlain, AllPlain, Alone, Finished, told_at_end}
 use Rattle.pl_model.proofs.Entries.{mine-append}
 use Rattle.pl_model.proofs.Reached.{reached_start, reached_goes, reached_asks, reached_end, reached_state}
 
 pub alone_start : (job : Job) → Alone job (record { state = at_start job; history = []; gens = [] }) 0
-alone_start job = record { reached = reached_start 1 job [] refl; plain = tt }
+alone_start job = record { reached = reached_start 1 job zero [] refl (omega arith); plain = tt }
 
 pub alone_goes : (job : Job) (old new : Seen) (n : ℕ)
     → GoesTo job old new
@@ -25,7 +25,7 @@ pub alone_goes : (job : Job) (old new : Seen) (n : ℕ)
     → Alone job new (suc n)
 alone_goes job old new n g a =
     record {
-      reached = reached_goes 1 job old new n g a.reached;
+      reached = reached_goes 1 job zero old new n g a.reached;
       plain = subst (λ (h : History). AllPlain 1 h) (sym g.history_is) a.plain;
     }
 
@@ -34,15 +34,15 @@ abbrev IsPlainUpdate : Option Kind → Type 0
 IsPlainUpdate None = Unit {0}
 IsPlainUpdate (Some k) = IsPlain k
 
-plain_served : (q : Request) (w : World) (g : ℕ) → IsPlainUpdate (update_of (serve q w g))
-plain_served look w g = tt
-plain_served (clauses goal) w g =
+plain_served : (e : ℕ) (q : Request) (w : World) (g : ℕ) → IsPlainUpdate (update_of (serve e q w g))
+plain_served e look w g = tt
+plain_served e (clauses goal) w g =
     elim (is_known w (proc_of goal)) as (λ b. IsPlainUpdate
     (update_of
     (if b
     then answers (listed (choices w g goal)) None
     else answers (refused (unknown_procedure (proc_of goal))) None))) [ true ↦ tt | false ↦ tt ]
-plain_served (addition p c) w g =
+plain_served e (addition p c) w g =
     elim (is_static p) as (λ b. IsPlainUpdate
     (update_of
     (if b
@@ -63,18 +63,18 @@ pub alone_asks : (job : Job) (old new : Seen) (n : ℕ)
     → Alone job new (suc n)
 alone_asks job old new n g a =
     record {
-      reached = reached_asks 1 job old new n g a.reached;
+      reached = reached_asks 1 job zero old new n g a.reached;
       plain =
           subst
           (λ (h : History). AllPlain 1 h)
           (sym g.history_is)
           (plain_append
           old.history
-          (entry_by 1 (update_of (served_now old.history g.request)))
+          (entry_by 1 (update_of (served_now 1 old.history g.request)))
           a.plain
           (plain_entry
-          (update_of (served_now old.history g.request))
-          (plain_served g.request (world old.history (length old.history)) (length old.history))));
+          (update_of (served_now 1 old.history g.request))
+          (plain_served 1 g.request (world old.history (length old.history)) (length old.history))));
     }
 
 -- The entries of a lone engine are its own.
@@ -141,6 +141,21 @@ end_found seen how n p =
     ap end_among (mine-append seen.history (record { engine = 1; kind = finish how n } ∷ []) 1)
     ∙ end_mine seen.history how n p
 
+-- The first engine begins at 0.
+start_one : (k : Kind) (m p : ℕ)
+    → IsPlain k
+    → (elim k [ start n goal alias ↦ if n == 1 then m else p | _ ↦ p ]) ≡ p
+start_one (start n goal alias) m p plain = absurd plain
+start_one _ m p plain = refl
+
+start_none : (place : ℕ) (h : History) (how : How) (n : ℕ)
+    → AllPlain 1 h
+    → start_among place (h ++ record { engine = 1; kind = finish how n } ∷ []) 1 ≡ 0
+start_none place [] how n p = refl
+start_none place (x ∷ h) how n p =
+    start_one x.kind (suc place) (start_among (suc place) (h ++ record { engine = 1; kind = finish how n } ∷ []) 1) p.1
+    ∙ start_none (suc place) h how n p.2
+
 ran_to_end : (c : Command) (bytes : List ℕ) (seen : Seen) (n : ℕ) (how : How)
     → Alone (main_job c bytes) seen n
     → seen.state.doing ≡ ended how
@@ -149,7 +164,12 @@ ran_to_end c bytes seen n how a is_ended =
     record {
       end = record { how = how; steps = n };
       end_is = end_found seen how n a.plain;
-      lawful = reached_end 1 (main_job c bytes) seen n how a.reached is_ended;
+      lawful =
+          subst
+          (λ (low : ℕ).
+          IsLawful 1 (main_job c bytes) low (told_at_end seen how n).history seen.gens n how)
+          (sym (start_none 0 seen.history how n a.plain))
+          (reached_end 1 (main_job c bytes) zero seen n how a.reached is_ended);
     }
 
 complete_at_end : (c : Command) (bytes : List ℕ) (seen : Seen) (n : ℕ) (how : How)
@@ -182,9 +202,9 @@ state_at_end : (c : Command) (bytes : List ℕ) (seen : Seen) (n : ℕ) (how : H
 unfolding end_state
 state_at_end c bytes seen n how a =
     ap
-    (λ o. (run (main_job c bytes) (told_at_end seen how n).history seen.gens (steps_of o)).state)
+    (λ o. (run 1 (main_job c bytes) (told_at_end seen how n).history seen.gens (steps_of o)).state)
     (end_found seen how n a.plain)
-    ∙ reached_state 1 (main_job c bytes) seen n (record { engine = 1; kind = finish how n } ∷ []) a.reached
+    ∙ reached_state 1 (main_job c bytes) zero seen n (record { engine = 1; kind = finish how n } ∷ []) a.reached
 
 pub alone_end : (job : Job) (seen : Seen) (n : ℕ) (how : How)
     → Alone job seen n

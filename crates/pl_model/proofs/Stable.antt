@@ -26,37 +26,38 @@ rises_at_most low (x ∷ gens) high r zero g e =
     let same : x ≡ g = cc in subst (λ (y : ℕ). y ≤ high) same (first_at_most x gens high r.1)
 rises_at_most low (x ∷ gens) high r (suc i) g e = rises_at_most x gens high r.1 i g e
 
-at_generation_later : (job : Job) (h later : History) (a : At) (r : Request) (o : Option ℕ)
+at_generation_later : (e : ℕ) (job : Job) (h later : History) (a : At) (r : Request) (o : Option ℕ)
     → ((g : ℕ) → o ≡ Some g → g ≤ length h)
-    → at_generation job (h ++ later) a r o ≡ at_generation job h a r o
-at_generation_later job h later a r None within = refl
-at_generation_later job h later a r (Some g) within =
-    ap (λ w. after_answer job a g (serve r w g)) (world_later h later g (within g refl))
+    → at_generation e job (h ++ later) a r o ≡ at_generation e job h a r o
+at_generation_later e job h later a r None within = refl
+at_generation_later e job h later a r (Some g) within =
+    ap (λ w. after_answer job a g (serve e r w g)) (world_later h later g (within g refl))
 
-advanced_later : (job : Job) (h later : History) (gens : List ℕ) (a : At) (nx : Next)
+advanced_later : (e : ℕ) (job : Job) (h later : History) (gens : List ℕ) (a : At) (nx : Next)
     → AllAtMost gens (length h)
-    → advanced job (h ++ later) gens a nx ≡ advanced job h gens a nx
-advanced_later job h later gens a (goes s) within = refl
-advanced_later job h later gens a (asks r) within =
-    at_generation_later job h later a r (slice_get gens a.asked) (within a.asked)
-advanced_later job h later gens a (stops how) within = refl
+    → advanced e job (h ++ later) gens a nx ≡ advanced e job h gens a nx
+advanced_later e job h later gens a (goes s) within = refl
+advanced_later e job h later gens a (asks r) within =
+    at_generation_later e job h later a r (slice_get gens a.asked) (within a.asked)
+advanced_later e job h later gens a (stops how) within = refl
 
-run_within : (job : Job) (h later : History) (gens : List ℕ) (n : ℕ)
+run_within : (e : ℕ) (job : Job) (h later : History) (gens : List ℕ) (n : ℕ)
     → AllAtMost gens (length h)
-    → run job (h ++ later) gens n ≡ run job h gens n
-run_within job h later gens zero within = refl
-run_within job h later gens (suc n) within =
-    ap (λ a. advanced job (h ++ later) gens a (step job a.state)) (run_within job h later gens n within)
+    → run e job (h ++ later) gens n ≡ run e job h gens n
+run_within e job h later gens zero within = refl
+run_within e job h later gens (suc n) within =
+    ap (λ a. advanced e job (h ++ later) gens a (step job a.state)) (run_within e job h later gens n within)
     ∙ advanced_later
+    e
     job
     h
     later
     gens
-    (run job h gens n)
-    (step job (run job h gens n).state)
+    (run e job h gens n)
+    (step job (run e job h gens n).state)
     within
 
-pub run_later : (job : Job) (h later : History) (gens : List ℕ) (n : ℕ)
+pub run_later : (e : ℕ) (job : Job) (h later : History) (gens : List ℕ) (n : ℕ)
     → Rises zero gens (length h)
-    → run job (h ++ later) gens n ≡ run job h gens n
-run_later job h later gens n rises = run_within job h later gens n (rises_at_most zero gens (length h) rises)
+    → run e job (h ++ later) gens n ≡ run e job h gens n
+run_later e job h later gens n rises = run_within e job h later gens n (rises_at_most zero gens (length h) rises)

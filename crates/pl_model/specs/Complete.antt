@@ -1,5 +1,5 @@
 -- When a history, with the generations of each engine's requests, is the whole of what a command did.
-use Rattle.std.specs.Prelude.{◌≡◌, ℕ, List, [], ◌∷◌, Option, Some, None, Contains, if◌then◌else◌, ◌==◌}
+use Rattle.std.specs.Prelude.{◌≡◌, ℕ, suc, List, [], ◌∷◌, Option, Some, None, Contains, if◌then◌else◌, ◌==◌}
 use Rattle.pl_model.specs.declared.ends.How.{How}
 use Rattle.pl_model.specs.History.{Kind, Entry, History, finish, start, mine}
 use Rattle.pl_model.specs.Machine.{Job, State}
@@ -23,6 +23,18 @@ started (x ∷ xs) = elim x.kind [ start n goal alias ↦ n ∷ started xs | _ �
 abbrev pub engines : History → List ℕ
 engines h = 1 ∷ started h
 
+-- The generation at which an engine begins: that of the first one is 0, any other begins behind the Start that names it.
+abbrev pub start_among : ℕ → History → ℕ → ℕ
+start_among place [] e = 0
+start_among place (x ∷ xs) e =
+    elim x.kind [
+      | start n goal alias ↦ if n == e then suc place else start_among (suc place) xs e
+      | _ ↦ start_among (suc place) xs e
+    ]
+
+abbrev pub start_in : History → ℕ → ℕ
+start_in h e = start_among 0 h e
+
 -- How an engine ended, and after how many steps.
 pub record Ended : Type 0 where
   pub how : How
@@ -43,7 +55,15 @@ job_of c bytes e = main_job c bytes
 pub record RanToEnd (c : Command) (bytes : List ℕ) (told : Told) (e : ℕ) : Type 0 where
   pub end : Ended
   pub end_is : end_in told.history e ≡ Some end
-  pub lawful : IsLawful e (job_of c bytes e) told.history (generations_in told.generations e) end.steps end.how
+  pub lawful :
+      IsLawful
+      e
+      (job_of c bytes e)
+      (start_in told.history e)
+      told.history
+      (generations_in told.generations e)
+      end.steps
+      end.how
 
 pub record IsComplete (c : Command) (bytes : List ℕ) (told : Told) : Type 0 where
   -- nobody else makes an entry
@@ -57,4 +77,4 @@ steps_of (Some end) = end.steps
 
 unfoldable pub end_state : Command → List ℕ → Told → ℕ → State
 end_state c bytes told e =
-    (run (job_of c bytes e) told.history (generations_in told.generations e) (steps_of (end_in told.history e))).state
+    (run e (job_of c bytes e) told.history (generations_in told.generations e) (steps_of (end_in told.history e))).state

@@ -15,21 +15,21 @@ pub record Seen : Type 0 where
   pub history : History
   pub gens : List ℕ
 
--- The engine with the number `e` has come to this state in `n` steps, in none of which it had ended, and its updates
--- stand in the history. This is so whatever entries and generations follow.
-pub record Reached (e : ℕ) (job : Job) (seen : Seen) (n : ℕ) : Type 0 where
+-- The engine with the number `e`, which began at the generation `low`, has come to this state in `n` steps, in none of
+-- which it had ended, and its updates stand in the history. This is so whatever entries and generations follow.
+pub record Reached (e : ℕ) (job : Job) (low : ℕ) (seen : Seen) (n : ℕ) : Type 0 where
   pub at : At
-  pub reaches : (later : History) (more : List ℕ) → run job (seen.history ++ later) (seen.gens ++ more) n ≡ at
+  pub reaches : (later : History) (more : List ℕ) → run e job (seen.history ++ later) (seen.gens ++ more) n ≡ at
   pub state_is : at.state ≡ seen.state
   pub asked : at.asked ≡ length seen.gens
-  pub rises : Rises zero seen.gens (length seen.history)
+  pub rises : Rises low seen.gens (length seen.history)
   pub stand : AllStand e seen.history seen.gens at.made
   pub mine_is : mine seen.history e ≡ map (λ m. m.kind) at.made
   pub runs :
       (later : History) (more : List ℕ) (k : ℕ)
       → k < n
       → (x : How)
-      → (run job (seen.history ++ later) (seen.gens ++ more) k).state.doing ≡ ended x
+      → (run e job (seen.history ++ later) (seen.gens ++ more) k).state.doing ≡ ended x
       → ⊥
 
 -- The entry that an engine's update is in the history.
@@ -43,9 +43,9 @@ answer_of (answers a k) = a
 abbrev pub update_of : Served → Option Kind
 update_of (answers a k) = k
 
--- What a request is answered when it is made behind all entries.
-abbrev pub served_now : History → Request → Served
-served_now h r = serve r (world h (length h)) (length h)
+-- What a request of the engine `e` is answered when it is made behind all entries.
+abbrev pub served_now : ℕ → History → Request → Served
+served_now e h r = serve e r (world h (length h)) (length h)
 
 -- The engine went on by a step of its own.
 pub record GoesTo (job : Job) (old new : Seen) : Type 0 where
@@ -57,8 +57,8 @@ pub record GoesTo (job : Job) (old new : Seen) : Type 0 where
 pub record AsksTo (e : ℕ) (job : Job) (old new : Seen) : Type 0 where
   pub request : Request
   pub asks_is : step job old.state ≡ asks request
-  pub state_is : new.state ≡ resume job old.state (answer_of (served_now old.history request))
-  pub history_is : new.history ≡ old.history ++ entry_by e (update_of (served_now old.history request))
+  pub state_is : new.state ≡ resume job old.state (answer_of (served_now e old.history request))
+  pub history_is : new.history ≡ old.history ++ entry_by e (update_of (served_now e old.history request))
   pub gens_is : new.gens ≡ old.gens ++ length old.history ∷ []
 
 -- The engine has ended so, and nothing changed.
@@ -77,7 +77,7 @@ AllPlain e (x ∷ xs) = (x.engine ≡ e) × IsPlain x.kind × AllPlain e xs
 
 -- The first engine has come to this state in `n` steps, and nobody else made an entry.
 pub record Alone (job : Job) (seen : Seen) (n : ℕ) : Type 0 where
-  pub reached : Reached 1 job seen n
+  pub reached : Reached 1 job zero seen n
   pub plain : AllPlain 1 seen.history
 
 -- What is told where the first engine has ended after `n` steps, and nobody else made an entry.

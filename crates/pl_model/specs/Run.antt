@@ -28,21 +28,21 @@ after_answer job a g (answers x k) =
     record { state = resume job a.state x; asked = suc a.asked; made = a.made ++ made_by a.asked g k }
 
 -- The request is answered in the state of its generation, if it has one.
-abbrev pub at_generation : Job → History → At → Request → Option ℕ → At
-at_generation job h a r None = a
-at_generation job h a r (Some g) = after_answer job a g (serve r (world h g) g)
+abbrev pub at_generation : ℕ → Job → History → At → Request → Option ℕ → At
+at_generation e job h a r None = a
+at_generation e job h a r (Some g) = after_answer job a g (serve e r (world h g) g)
 
-abbrev pub advanced : Job → History → List ℕ → At → Next → At
-advanced job h gens a (goes s) = record a { state = s }
-advanced job h gens a (asks r) = at_generation job h a r (slice_get gens a.asked)
-advanced job h gens a (stops how) = a
+abbrev pub advanced : ℕ → Job → History → List ℕ → At → Next → At
+advanced e job h gens a (goes s) = record a { state = s }
+advanced e job h gens a (asks r) = at_generation e job h a r (slice_get gens a.asked)
+advanced e job h gens a (stops how) = a
 
--- Where an engine with this job stands after `n` steps, if its k-th request is answered at the generation gens[k].
-abbrev pub run : Job → History → List ℕ → ℕ → At
-run job h gens zero = record { state = at_start job; asked = zero; made = [] }
-run job h gens (suc n) = let a = run job h gens n in advanced job h gens a (step job a.state)
+-- Where the engine `e` with this job stands after `n` steps, if its k-th request is answered at the generation gens[k].
+abbrev pub run : ℕ → Job → History → List ℕ → ℕ → At
+run e job h gens zero = record { state = at_start job; asked = zero; made = [] }
+run e job h gens (suc n) = let a = run e job h gens n in advanced e job h gens a (step job a.state)
 
--- The generations never fall, and lie within the history.
+-- The generations never fall, and lie from the first of these numbers to the last.
 abbrev pub Rises : ℕ → List ℕ → ℕ → Type 0
 Rises low [] high = low ≤ high
 Rises low (g ∷ gs) high = (low ≤ g) × Rises g gs high
@@ -57,12 +57,15 @@ abbrev pub AllStand : ℕ → History → List ℕ → List Made → Type 0
 AllStand e h gens [] = Unit {0}
 AllStand e h gens (m ∷ ms) = Stands e h gens m × AllStand e h gens ms
 
--- The generations are lawful for the engine, which ended in this way after this number of steps: its updates stand in
--- the history exactly once, in its own order, followed by its end.
-pub record IsLawful (e : ℕ) (job : Job) (h : History) (gens : List ℕ) (n : ℕ) (how : How) : Type 0 where
-  pub rises : Rises zero gens (length h)
-  pub each : (run job h gens n).asked ≡ length gens
-  pub stand : AllStand e h gens (run job h gens n).made
-  pub mine_is : mine h e ≡ map (λ m. m.kind) (run job h gens n).made ++ finish how n ∷ []
-  pub end_is : (run job h gens n).state.doing ≡ ended how
-  pub first : (k : ℕ) → k < n → (x : How) → (run job h gens k).state.doing ≡ ended x → ⊥
+-- The generations are lawful for the engine, which began at the generation `low` and ended in this way after this
+-- number of steps: they lie between its beginning and its end, and its updates stand in the history exactly once, in
+-- its own order, followed by its end.
+pub record IsLawful (e : ℕ) (job : Job) (low : ℕ) (h : History) (gens : List ℕ) (n : ℕ) (how : How) : Type 0 where
+  pub place : ℕ
+  pub ends : slice_get h place ≡ Some (record { engine = e; kind = finish how n })
+  pub rises : Rises low gens place
+  pub each : (run e job h gens n).asked ≡ length gens
+  pub stand : AllStand e h gens (run e job h gens n).made
+  pub mine_is : mine h e ≡ map (λ m. m.kind) (run e job h gens n).made ++ finish how n ∷ []
+  pub end_is : (run e job h gens n).state.doing ≡ ended how
+  pub first : (k : ℕ) → k < n → (x : How) → (run e job h gens k).state.doing ≡ ended x → ⊥

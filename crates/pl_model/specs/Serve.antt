@@ -25,14 +25,14 @@ pub data Answer : Type 0 where
 pub data Served : Type 0 where
   answers : Answer → Option Kind → Served
 
--- The answer in this state, of the generation `g`.
-abbrev pub serve : Request → World → ℕ → Served
-serve look w g = answers (standing w.operators) None
-serve (clauses goal) w g =
+-- The answer to the engine `e` in this state, of the generation `g`.
+abbrev pub serve : ℕ → Request → World → ℕ → Served
+serve e look w g = answers (standing w.operators) None
+serve e (clauses goal) w g =
     if is_known w (proc_of goal)
     then answers (listed (choices w g goal)) None
     else answers (refused (unknown_procedure (proc_of goal))) None
-serve (addition p c) w g =
+serve e (addition p c) w g =
     if is_static p
     then answers (refused (static_procedure p)) None
     else answers added (Some (add_last p c consult))

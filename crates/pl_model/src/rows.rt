@@ -105,5 +105,5 @@ pub fn refuses_a_second_end()
 
 /// A goal that calls itself for ever: with two inferences the third call raises a resource error.
 pub fn runs_out_of_inferences()
-    ensures lawful { IsLawful 1 loop_job loop_history loop_generations 7 (Threw loop_ball) }
+    ensures lawful { IsLawful 1 loop_job 0 loop_history loop_generations 7 (Threw loop_ball) }
 {}

@@ -9,58 +9,59 @@ ghost use Rattle.pl_model.specs.Reached.{Seen, Reached, GoesTo, AsksTo, Alone, F
 /// Entries behind the generations of a run change nothing of it.
 #[tactic(auto, using(crate::proofs::Stable::run_later))]
 pub fn later_changes_nothing()
-    ensures { (job : Job) (h later : History) (gens : List ℕ) (n : ℕ)
+    ensures { (e : ℕ) (job : Job) (h later : History) (gens : List ℕ) (n : ℕ)
         → Rises zero gens (length h)
-        → run job (h ++ later) gens n ≡ run job h gens n }
+        → run e job (h ++ later) gens n ≡ run e job h gens n }
 {}
 
 /// At the start nothing has happened.
 #[tactic(auto, using(crate::proofs::Reached::reached_start))]
 pub fn starts_reached()
-    ensures { (e : ℕ) (job : Job) (h : History)
+    ensures { (e : ℕ) (job : Job) (low : ℕ) (h : History)
         → mine h e ≡ []
-        → Reached e job (record { state = at_start job; history = h; gens = [] }) 0 }
+        → low ≤ length h
+        → Reached e job low (record { state = at_start job; history = h; gens = [] }) 0 }
 {}
 
 /// Entries of other engines change nothing of what an engine has reached.
 #[tactic(auto, using(crate::proofs::Reached::reached_later))]
 pub fn stays_reached()
-    ensures { (e : ℕ) (job : Job) (seen : Seen) (n : ℕ) (later : History)
+    ensures { (e : ℕ) (job : Job) (low : ℕ) (seen : Seen) (n : ℕ) (later : History)
         → mine later e ≡ []
-        → Reached e job seen n
-        → Reached e job (record seen { history = seen.history ++ later }) n }
+        → Reached e job low seen n
+        → Reached e job low (record seen { history = seen.history ++ later }) n }
 {}
 
 /// A step of the engine's own.
 #[tactic(auto, using(crate::proofs::Reached::reached_goes))]
 pub fn goes_reached()
-    ensures { (e : ℕ) (job : Job) (old new : Seen) (n : ℕ)
+    ensures { (e : ℕ) (job : Job) (low : ℕ) (old new : Seen) (n : ℕ)
         → GoesTo job old new
-        → Reached e job old n
-        → Reached e job new (suc n) }
+        → Reached e job low old n
+        → Reached e job low new (suc n) }
 {}
 
 /// A step by a request behind all entries.
 pub fn asks_reached()
-    ensures { (e : ℕ) (job : Job) (old new : Seen) (n : ℕ)
+    ensures { (e : ℕ) (job : Job) (low : ℕ) (old new : Seen) (n : ℕ)
         → AsksTo e job old new
-        → Reached e job old n
-        → Reached e job new (suc n) }
+        → Reached e job low old n
+        → Reached e job low new (suc n) }
 {}
 
 /// The run, with whatever entries follow, stands at the state that is reached.
 pub fn is_at_the_state()
-    ensures { (e : ℕ) (job : Job) (seen : Seen) (n : ℕ) (later : History)
-        → Reached e job seen n
-        → (run job (seen.history ++ later) seen.gens n).state ≡ seen.state }
+    ensures { (e : ℕ) (job : Job) (low : ℕ) (seen : Seen) (n : ℕ) (later : History)
+        → Reached e job low seen n
+        → (run e job (seen.history ++ later) seen.gens n).state ≡ seen.state }
 {}
 
 /// What has ended is lawful once its end is entered.
 pub fn ends_lawful()
-    ensures { (e : ℕ) (job : Job) (seen : Seen) (n : ℕ) (how : How)
-        → Reached e job seen n
+    ensures { (e : ℕ) (job : Job) (low : ℕ) (seen : Seen) (n : ℕ) (how : How)
+        → Reached e job low seen n
         → seen.state.doing ≡ ended how
-        → IsLawful e job (seen.history ++ record { engine = e; kind = finish how n } ∷ []) seen.gens n how }
+        → IsLawful e job low (seen.history ++ record { engine = e; kind = finish how n } ∷ []) seen.gens n how }
 {}
 
 /// At the start the first engine is alone.

@@ -37,7 +37,7 @@ state_world m w d e = ap (λ h. let s : State = record (state_at m d) { choices 
 -- A request that made no entry.
 pub asks_by : (job : Job) (m n : Machine) (d : Phase) (q : Request) (a : Answer)
     → step job (state_at m d) ≡ asks q
-    → served_now (history_of m.world) q ≡ answers a None
+    → served_now 1 (history_of m.world) q ≡ answers a None
     → state_of n ≡ resume job (state_at m d) a
     → history_of n.world ≡ history_of m.world
     → generations_of n.world ≡ generations_of m.world ++ length (history_of m.world) ∷ []
@@ -61,7 +61,7 @@ resume_looked job s = refl
 -- A reading of the state.
 pub looks_by : (job : Job) (m n : Machine) (d : Phase)
     → step job (state_at m d) ≡ asks look
-    → served_now (history_of m.world) look ≡ answers (standing opening_operators) None
+    → served_now 1 (history_of m.world) look ≡ answers (standing opening_operators) None
     → state_of n ≡ looked job (state_at m d) d opening_operators
     → history_of n.world ≡ history_of m.world
     → generations_of n.world ≡ generations_of m.world ++ length (history_of m.world) ∷ []
@@ -121,7 +121,7 @@ solution_state job m node d v w count history_is kept counted doing_is =
 
 pub solution_asks : (job : Job) (m : Machine) (node : Node) (d : Doing) (v : Vec Solution Global) (w : World) (count : ℕ)
     → (node_of node).goals ≡ []
-    → served_now (history_of m.world) look ≡ answers (standing opening_operators) None
+    → served_now 1 (history_of m.world) look ≡ answers (standing opening_operators) None
     → history_of w ≡ history_of m.world
     → generations_of w ≡ generations_of m.world ++ length (history_of m.world) ∷ []
     → v.items ≡ m.solutions.items ++ record { answer = node.answer } ∷ []
@@ -173,7 +173,7 @@ pub call_in : (job : Job) (m n : Machine) (rest : Node) (p : Pending) (l : Liste
     → User ≡ sort_of (control p.goal)
     → m.inferences < job.inferences
     → i ≡ m.inferences + 1
-    → served_now (history_of m.world) (clauses p.goal) ≡ answers (listed_answer (history_of m.world) p.goal l) None
+    → served_now 1 (history_of m.world) (clauses p.goal) ≡ answers (listed_answer (history_of m.world) p.goal l) None
     → history_of w ≡ history_of m.world
     → generations_of w ≡ generations_of m.world ++ length (history_of m.world) ∷ []
     → ((d : Phase)

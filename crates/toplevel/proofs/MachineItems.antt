@@ -30,7 +30,7 @@ unfolding step
 step_taking job m at = refl
 
 -- An item of the file is taken up.
-pub item_asks : (job : Job) (m n : Machine) (at : ℕ) (w : World) (i : Item) → served_now (history_of m.world) look ≡ answers (standing opening_operators) None → history_of w ≡ history_of m.world → generations_of w ≡ generations_of m.world ++ length (history_of m.world) ∷ [] → item_is i ≡ item_of job.file at opening_operators → ((d : Phase) → state_of n ≡ with_item (state_at (record m { world = w }) d) opening_operators (item_is i)) → Keeps (record m { world = w }) n → AsksTo 1 job (during m (taking at)) (seen_of n)
+pub item_asks : (job : Job) (m n : Machine) (at : ℕ) (w : World) (i : Item) → served_now 1 (history_of m.world) look ≡ answers (standing opening_operators) None → history_of w ≡ history_of m.world → generations_of w ≡ generations_of m.world ++ length (history_of m.world) ∷ [] → item_is i ≡ item_of job.file at opening_operators → ((d : Phase) → state_of n ≡ with_item (state_at (record m { world = w }) d) opening_operators (item_is i)) → Keeps (record m { world = w }) n → AsksTo 1 job (during m (taking at)) (seen_of n)
 item_asks job m n at w i served history gens item state keeps =
     looks_by
     job
@@ -50,7 +50,7 @@ unfolding step
 step_beginning job m = refl
 
 -- The word of the goal is read.
-pub word_asks : (job : Job) (m n : Machine) (w : World) (i : Item) (size : ℕ) → served_now (history_of m.world) look ≡ answers (standing opening_operators) None → history_of w ≡ history_of m.world → generations_of w ≡ generations_of m.world ++ length (history_of m.world) ∷ [] → item_is i ≡ item_of (goal_text job.word) 0 opening_operators → size ≡ length (goal_text job.word) → ((d : Phase) → state_of n ≡ with_word (state_at (record m { world = w }) d) size (item_is i)) → Keeps (record m { world = w }) n → AsksTo 1 job (during m beginning) (seen_of n)
+pub word_asks : (job : Job) (m n : Machine) (w : World) (i : Item) (size : ℕ) → served_now 1 (history_of m.world) look ≡ answers (standing opening_operators) None → history_of w ≡ history_of m.world → generations_of w ≡ generations_of m.world ++ length (history_of m.world) ∷ [] → item_is i ≡ item_of (goal_text job.word) 0 opening_operators → size ≡ length (goal_text job.word) → ((d : Phase) → state_of n ≡ with_word (state_at (record m { world = w }) d) size (item_is i)) → Keeps (record m { world = w }) n → AsksTo 1 job (during m beginning) (seen_of n)
 word_asks job m n w i size served history gens item size_is state keeps =
     looks_by
     job
@@ -161,7 +161,7 @@ entry-is p c true = refl
 entry-is p c false = refl
 
 -- A clause is added, or is refused.
-pub adding_asks : (m n : Machine) (start next : ℕ) (p q : Proc) (c : Clause) (w : World) (done : Bool) → IsSound m → served_now (history_of m.world) (addition p c) ≡ answered p c done → history_of w ≡ history_of m.world ++ (if done then record { engine = 1; kind = add_last p c consult } ∷ [] else []) → generations_of w ≡ generations_of m.world ++ length (history_of m.world) ∷ [] → q ≡ p → ((d : Phase) → state_of n ≡ with_addition (state_at (record m { world = w }) d) opening_operators start next (if done then added else refused (static_procedure q))) → Keeps (record m { world = w }) n → (job : Job) → AsksTo 1 job (during m (adding opening_operators start next p c)) (seen_of n)
+pub adding_asks : (m n : Machine) (start next : ℕ) (p q : Proc) (c : Clause) (w : World) (done : Bool) → IsSound m → served_now 1 (history_of m.world) (addition p c) ≡ answered p c done → history_of w ≡ history_of m.world ++ (if done then record { engine = 1; kind = add_last p c consult } ∷ [] else []) → generations_of w ≡ generations_of m.world ++ length (history_of m.world) ∷ [] → q ≡ p → ((d : Phase) → state_of n ≡ with_addition (state_at (record m { world = w }) d) opening_operators start next (if done then added else refused (static_procedure q))) → Keeps (record m { world = w }) n → (job : Job) → AsksTo 1 job (during m (adding opening_operators start next p c)) (seen_of n)
 adding_asks m n start next p q c w done sound served history gens same state keeps job =
     record {
       request = addition p c;

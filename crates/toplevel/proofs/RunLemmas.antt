@@ -65,8 +65,8 @@ unfolding end_state
 how-is c bytes job done f e =
     let t = told done.front in
     let r = (f.whole.complete c bytes e).each 1 (the_first (started t.history)) in
-    let last : (run (job_of c bytes 1) t.history (generations_in t.generations 1) r.end.steps).state ≡ f.state =
-    ap (λ x. (run (job_of c bytes 1) t.history (generations_in t.generations 1) (steps_of x)).state) (sym r.end_is) ∙ f.whole.end_state_is c bytes e in
+    let last : (run 1 (job_of c bytes 1) t.history (generations_in t.generations 1) r.end.steps).state ≡ f.state =
+    ap (λ x. (run 1 (job_of c bytes 1) t.history (generations_in t.generations 1) (steps_of x)).state) (sym r.end_is) ∙ f.whole.end_state_is c bytes e in
     let same : ended r.end.how ≡ ended done.how = sym r.lawful.end_is ∙ ap (λ s. s.doing) last ∙ f.ended in
     let hows : r.end.how ≡ done.how = cc in
     ap how_of r.end_is ∙ hows

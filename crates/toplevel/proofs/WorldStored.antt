@@ -236,7 +236,7 @@ served-clauses es goal =
     let p : Proc = proc_of goal
     in let g : ℕ = length (map entry_of es)
     in let few : zero + length es ≤ g = omega (arith, length-map es entry_of)
-    in ap (λ w. serve (clauses goal) w g) (world-entries es)
+    in ap (λ w. serve 1 (clauses goal) w g) (world-entries es)
     ∙ ap₂
     (λ a ss. if is_static p || a then answers (listed ss) None else answers (refused (unknown_procedure p)) None)
     (is_added-places zero es p)

@@ -31,7 +31,7 @@ generations_of w = w.front.generations.items
 
 -- What a request is answered behind all entries.
 abbrev pub served : History → Request → Served
-served h r = serve r (world h (length h)) (length h)
+served h r = serve 1 r (world h (length h)) (length h)
 
 -- What stands for a clause at a place at which none was added.
 abbrev pub no_clause : ℕ → Stored

@@ -206,9 +206,10 @@ row =
       a = at13;
       before = reach13;
       last = goes_on at14 step14 reach13;
-      ends = record { runs = refl; doing = refl; rise = refl; each = refl; stand = (record { entry = refl; own = refl; next = above 0 (Some 1) refl }, (record { entry = refl; own = refl; next = above 1 (Some 2) refl }, tt)); mine_is = refl };
+      ends = record { runs = refl; doing = refl; entry = refl; rise = refl; each = refl; stand = (record { entry = refl; own = refl; next = above 0 (Some 1) refl }, (record { entry = refl; own = refl; next = above 1 (Some 2) refl }, tt)); mine_is = refl };
       one = refl;
       end = refl;
+      begun = refl;
       operators = refl;
     }
 

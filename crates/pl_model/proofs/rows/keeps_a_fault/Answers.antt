@@ -82,9 +82,10 @@ row =
       a = at3;
       before = reach3;
       last = goes_on at4 step4 reach3;
-      ends = record { runs = refl; doing = refl; rise = refl; each = refl; stand = tt; mine_is = refl };
+      ends = record { runs = refl; doing = refl; entry = refl; rise = refl; each = refl; stand = tt; mine_is = refl };
       one = refl;
       end = refl;
+      begun = refl;
       operators = refl;
     }
 

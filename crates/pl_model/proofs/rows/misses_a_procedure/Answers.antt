@@ -67,9 +67,10 @@ row =
       a = at2;
       before = reach2;
       last = goes_on at3 step3 reach2;
-      ends = record { runs = refl; doing = refl; rise = refl; each = refl; stand = tt; mine_is = refl };
+      ends = record { runs = refl; doing = refl; entry = refl; rise = refl; each = refl; stand = tt; mine_is = refl };
       one = refl;
       end = refl;
+      begun = refl;
       operators = refl;
     }
 

@@ -58,9 +58,10 @@ row =
       a = at1;
       before = reach1;
       last = goes_on at2 step2 reach1;
-      ends = record { runs = refl; doing = refl; rise = refl; each = refl; stand = tt; mine_is = refl };
+      ends = record { runs = refl; doing = refl; entry = refl; rise = refl; each = refl; stand = tt; mine_is = refl };
       one = refl;
       end = refl;
+      begun = refl;
       operators = refl;
     }
 

@@ -158,9 +158,10 @@ row =
       a = at9;
       before = reach9;
       last = goes_on at10 step10 reach9;
-      ends = record { runs = refl; doing = refl; rise = refl; each = refl; stand = (record { entry = refl; own = refl; next = above 0 (Some 1) refl }, (record { entry = refl; own = refl; next = above 1 (Some 2) refl }, tt)); mine_is = refl };
+      ends = record { runs = refl; doing = refl; entry = refl; rise = refl; each = refl; stand = (record { entry = refl; own = refl; next = above 0 (Some 1) refl }, (record { entry = refl; own = refl; next = above 1 (Some 2) refl }, tt)); mine_is = refl };
       one = refl;
       end = refl;
+      begun = refl;
       operators = refl;
     }
 

@@ -99,11 +99,12 @@ reach5 = goes_on at5 step5 reach4
 reach6 : Reaches loop_job loop_history loop_generations 6 at6
 reach6 = goes_on at6 step6 reach5
 
-ends : Ends 1 loop_history loop_generations 6 (Threw loop_ball) at6 at7
+ends : Ends loop_history loop_generations 6 (Threw loop_ball) at6 at7
 ends =
     record {
       runs = refl;
       doing = refl;
+      entry = refl;
       rise = refl;
       each = refl;
       stand = (record { entry = refl; own = refl; next = above 0 (Some 1) refl }, tt);
@@ -113,5 +114,5 @@ ends =
 pub returns : goal.returns
 returns c =
     record {
-      lawful = lawful 1 loop_job loop_history loop_generations 6 (Threw loop_ball) at6 at7 reach6 (goes_on at7 step7 reach6) ends;
+      lawful = lawful loop_job loop_history loop_generations 6 (Threw loop_ball) at6 at7 reach6 (goes_on at7 step7 reach6) ends;
     }

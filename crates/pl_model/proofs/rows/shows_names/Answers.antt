@@ -106,9 +106,10 @@ row =
       a = at5;
       before = reach5;
       last = goes_on at6 step6 reach5;
-      ends = record { runs = refl; doing = refl; rise = refl; each = refl; stand = tt; mine_is = refl };
+      ends = record { runs = refl; doing = refl; entry = refl; rise = refl; each = refl; stand = tt; mine_is = refl };
       one = refl;
       end = refl;
+      begun = refl;
       operators = refl;
     }
 
