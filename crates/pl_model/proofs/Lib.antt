@@ -14,3 +14,4 @@ pub mod CharacterRuns
 pub mod TokenPlaces
 pub mod WorkedRuns
 pub mod TokenTexts
+pub mod LexicalPieces

@@ -1,7 +1,12 @@
 pub mod Characters
 pub mod Operators
+pub mod OperatorTable
 pub mod Tokens
+pub mod LexicalCharacters
+pub mod LexicalQuoted
+pub mod LexicalTokens
 pub mod Grammar
+pub mod TermGrammar
 pub mod Unify
 pub mod Writing
 pub mod History
@@ -16,3 +21,4 @@ pub mod Complete
 pub mod Reached
 pub mod Transcript
 pub mod Rows
+pub mod Evaluables

@@ -2,6 +2,10 @@
 #![tactic(auto)]
 
 pub mod ends;
+pub mod evaluables;
+pub mod grammar;
+pub mod lexical;
+pub mod operators;
 pub mod reading;
 pub mod rows;
 pub mod runs;

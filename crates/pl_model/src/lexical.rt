@@ -1,0 +1,185 @@
+//! Tokens in full (ISO 6.4): what a text is made of, with the value of each token, and the laws of their definition.
+//!
+//! The lexer of the running program still reads the subset of `syntax`.
+
+ghost use Rattle.std.specs.Prelude.{◌≡◌, ◌∷◌, [], ◌^◌, Ok, codes};
+ghost use Rattle.pl_model.specs.LexicalTokens.{lex_fault, token, token_at};
+ghost use Rattle.pl_model.specs.declared.syntax.SyntaxKind.TheVariants.{BadEscape, BadUtf8, FloatNumeral, IntegerTooLarge, LoneCharacter, OpenComment, OpenQuote};
+ghost use Rattle.pl_model.specs.declared.lexical.Lexeme.TheVariants.{End};
+ghost use Rattle.pl_model.specs.declared.lexical.Mark.TheVariants.{Bar, Open, OpenCt};
+ghost use Rattle.pl_model.specs.declared.lexical.TokenKind.TheVariants.{BackQuoted, DoubleQuoted, EndToken, Integer, Name, Punctuation, Quoted, Variable};
+
+use crate::syntax::SyntaxKind;
+use pl_term::Text;
+
+/// A punctuation token (ISO 6.4).
+#[derive(Debug, Clone, Copy, PartialEq, Eq, Drop)]
+pub enum Mark {
+    /// `(` behind layout, or where no name stands before it: the open token (6.4.8).
+    Open,
+    /// `(` at the very place that was asked for, as it stands directly behind a name (open ct, 6.4.8).
+    OpenCt,
+    /// `)`.
+    Close,
+    /// `[`.
+    OpenList,
+    /// `]`.
+    CloseList,
+    /// `{`.
+    OpenCurly,
+    /// `}`.
+    CloseCurly,
+    /// `|`, the head tail separator.
+    Bar,
+    /// `,`.
+    Comma,
+}
+
+/// What begins with a character (ISO 6.5).
+#[derive(Debug, Clone, Copy, PartialEq, Eq, Drop)]
+pub enum Begins {
+    /// A name, with a letter that is no capital letter of ASCII.
+    Name,
+    /// A variable, with a capital letter of ASCII or an underscore.
+    Variable,
+    /// A numeral.
+    Digit,
+    /// A name of symbol characters, or the end token.
+    Symbol,
+    /// A name of this one character: the cut or the semicolon.
+    Solo,
+    /// A quoted text.
+    Quote,
+    /// Punctuation.
+    Punctuation(Mark),
+    /// No token.
+    Other,
+}
+
+/// A token with its value (ISO 6.4).
+#[derive(Debug, Drop)]
+pub enum TokenKind {
+    /// A name without quotes (6.4.2).
+    Name(Text),
+    /// A name in single quotes (6.4.2), with the text that it stands for.
+    Quoted(Text),
+    /// A variable (6.4.3) with its name.
+    Variable(Text),
+    /// An integer (6.4.4), without a sign. It is at most 2^63.
+    Integer(u64),
+    /// A text in double quotes (6.4.6).
+    DoubleQuoted(Text),
+    /// A text in back quotes (6.4.7).
+    BackQuoted(Text),
+    /// Punctuation (6.4).
+    Punctuation(Mark),
+    /// The end token (6.4.8): a full stop that closes a clause.
+    EndToken,
+}
+
+/// What is read next in a text. Places are byte offsets.
+#[derive(Debug, Drop)]
+pub enum Lexeme {
+    /// A token, with the place of its first byte and the place behind its last one.
+    Token {
+        kind: TokenKind,
+        start: usize,
+        end: usize,
+    },
+    /// The end of the text.
+    End,
+}
+
+/// What stands at the front of bytes at which no layout stands.
+#[derive(Debug, Drop)]
+pub enum Reading {
+    /// A token of this number of bytes.
+    Token(TokenKind, usize),
+    /// A fault, this number of bytes behind the front.
+    Fault(SyntaxKind, usize),
+    /// No byte is left.
+    Nothing,
+}
+
+/// A piece of a quoted text behind its opening quote (ISO 6.4.2.1).
+#[derive(Debug, Clone, Copy, PartialEq, Eq, Drop)]
+pub enum Piece {
+    /// A character of the text, which is written with this number of bytes.
+    Character(char, usize),
+    /// A continuation escape sequence of this number of bytes: no character.
+    Continuation(usize),
+    /// The closing quote.
+    Close,
+    /// A fault at the piece's first byte, and the number of bytes that are passed with it.
+    Bad(SyntaxKind, usize),
+}
+
+/// Names and variables (6.4.2, 6.4.3).
+pub fn reads_names()
+    ensures name { token_at (codes "ab.") 0 ≡ token (Name (codes "ab")) 0 2 }
+    ensures variable { token_at (codes " _G1 ") 0 ≡ token (Variable (codes "_G1")) 1 4 }
+    ensures symbols { token_at (codes "a=..b") 1 ≡ token (Name (codes "=..")) 1 4 }
+    ensures solo { token_at (codes "!;") 1 ≡ token (Name (codes ";")) 1 2 }
+    ensures lone { token_at (97 ∷ 32 ∷ 127 ∷ []) 1 ≡ lex_fault LoneCharacter 2 }
+    ensures byte { token_at (97 ∷ 255 ∷ []) 1 ≡ lex_fault BadUtf8 1 }
+{}
+
+/// Punctuation, layout and the end token (6.4, 6.4.1, 6.4.8).
+pub fn reads_marks()
+    ensures functional { token_at (codes "f(") 1 ≡ token (Punctuation OpenCt) 1 2 }
+    ensures opening { token_at (codes "f (") 1 ≡ token (Punctuation Open) 2 3 }
+    ensures bar { token_at (codes "[a|") 2 ≡ token (Punctuation Bar) 2 3 }
+    ensures comment { token_at (codes " /* a */ b") 0 ≡ token (Name (codes "b")) 9 10 }
+    ensures unclosed { token_at (codes " /* a") 0 ≡ lex_fault OpenComment 1 }
+    ensures nothing { token_at (codes "a % b") 1 ≡ Ok End }
+    ensures closes { token_at (codes "a.%") 1 ≡ token EndToken 1 2 }
+    ensures last { token_at (codes "a.") 1 ≡ token EndToken 1 2 }
+    ensures inside { token_at (codes "a.b") 1 ≡ token (Name (codes ".")) 1 2 }
+    ensures two { token_at (codes "a..") 1 ≡ token (Name (codes "..")) 1 3 }
+{}
+
+/// Integers (6.4.4).
+pub fn reads_integers()
+    ensures decimal { token_at (codes "007.") 0 ≡ token (Integer 7) 0 3 }
+    ensures hexadecimal { token_at (codes "0xFf") 0 ≡ token (Integer 255) 0 4 }
+    ensures octal { token_at (codes "0o17") 0 ≡ token (Integer 15) 0 4 }
+    ensures binary { token_at (codes "0b101") 0 ≡ token (Integer 5) 0 5 }
+    ensures none { token_at (codes "0b2") 0 ≡ token (Integer 0) 0 1 }
+    ensures largest { token_at (codes "9223372036854775808") 0 ≡ token (Integer (2 ^ 63)) 0 19 }
+    ensures large { token_at (codes "9223372036854775809") 0 ≡ lex_fault IntegerTooLarge 0 }
+    ensures float { token_at (codes "a 1.5") 1 ≡ lex_fault FloatNumeral 2 }
+{}
+
+/// Character codes (6.4.4).
+pub fn reads_character_codes()
+    ensures letter { token_at (codes "0'a") 0 ≡ token (Integer 97) 0 3 }
+    ensures quote { token_at (codes "0'''") 0 ≡ token (Integer 39) 0 4 }
+    ensures control { token_at (codes "0'\\n") 0 ≡ token (Integer 10) 0 4 }
+    ensures coded { token_at (codes "0'\\x41\\") 0 ≡ token (Integer 65) 0 7 }
+    ensures last { token_at (codes "0'") 0 ≡ token (Integer 0) 0 1 }
+    ensures lone { token_at (codes "0'' ") 0 ≡ lex_fault BadEscape 0 }
+    ensures newline { token_at (48 ∷ 39 ∷ 10 ∷ []) 0 ≡ lex_fault BadEscape 0 }
+    ensures bad { token_at (codes "0'\\q") 0 ≡ lex_fault BadEscape 2 }
+{}
+
+/// Quoted texts (6.4.2.1, 6.4.6, 6.4.7).
+pub fn reads_quoted_texts()
+    ensures doubled { token_at (codes "'a''b'") 0 ≡ token (Quoted (codes "a'b")) 0 6 }
+    ensures coded { token_at (codes "'\\x41\\\\101\\\\u0041\\\\'") 0 ≡ token (Quoted (codes "AAA\\")) 0 20 }
+    ensures continued { token_at (39 ∷ 97 ∷ 92 ∷ 10 ∷ 98 ∷ 39 ∷ []) 0 ≡ token (Quoted (codes "ab")) 0 6 }
+    ensures newline { token_at (39 ∷ 10 ∷ 39 ∷ []) 0 ≡ token (Quoted (10 ∷ [])) 0 3 }
+    ensures empty { token_at (codes "''") 0 ≡ token (Quoted []) 0 2 }
+    ensures double { token_at (codes "\"a'b\"") 0 ≡ token (DoubleQuoted (codes "a'b")) 0 5 }
+    ensures back { token_at (codes "`a`") 0 ≡ token (BackQuoted (codes "a")) 0 3 }
+{}
+
+/// Faults of quoted texts: one that stays open is that fault, else the first one in it counts.
+pub fn refuses_quoted_texts()
+    ensures unclosed { token_at (codes " 'a") 0 ≡ lex_fault OpenQuote 1 }
+    ensures before { token_at (codes " 'a\\q") 0 ≡ lex_fault OpenQuote 1 }
+    ensures escape { token_at (codes "'a\\qb'") 0 ≡ lex_fault BadEscape 2 }
+    ensures surrogate { token_at (codes "'\\xD800 '") 0 ≡ lex_fault BadEscape 1 }
+    ensures passed { token_at (codes "'\\x110000\\'") 0 ≡ lex_fault OpenQuote 0 }
+    ensures byte { token_at (39 ∷ 255 ∷ 39 ∷ []) 0 ≡ lex_fault BadUtf8 1 }
+    ensures first { token_at (39 ∷ 255 ∷ 92 ∷ 113 ∷ 39 ∷ []) 0 ≡ lex_fault BadUtf8 1 }
+{}
