@@ -1,6 +1,8 @@
 -- Pieces of quoted texts: how many bytes each has, and how a quoted text goes on behind one.
 use Rattle.std.proofs.Common.{◌≡◌, ℕ, ◌+◌, ◌-◌, ◌<◌, ◌≤◌, zero, suc, Bool, true, false, cond, nat_lt, ◌==◌, ◌||◌, List, [], ◌∷◌, length, take, drop, get_or, slice_index, Option, Some, None, option_map, Ok, Err, refl, sym, ap, ◌∙◌, arith}
 use Rattle.std.specs.Str.{all_scalars}
+use Rattle.std.specs.Str.Parse.{digits_value}
+use Rattle.std.proofs.lemmas.Bool.{cond-true, cond-false}
 use Rattle.std.proofs.lemmas.Bool.Decides.{nat_tests}
 use Rattle.std.proofs.lemmas.List.{length-drop, length-take}
 use Rattle.pl_model.specs.Tokens.{Front, nothing, scalar, broken, front, run}
@@ -8,19 +10,8 @@ use Rattle.pl_model.specs.declared.syntax.SyntaxKind.{SyntaxKind}
 use Rattle.pl_model.specs.declared.syntax.SyntaxKind.TheVariants.{BadUtf8, BadEscape}
 use Rattle.pl_model.specs.declared.lexical.Piece.{Piece}
 use Rattle.pl_model.specs.declared.lexical.Piece.TheVariants.{Character, Continuation, Close, Bad}
-use Rattle.pl_model.specs.LexicalQuoted.{is_digit, digit_count, magnitude, simple_escape, coded, digits_escape, four_digits_escape, simple_piece, escape, begins_with, piece_of, piece, closing, Spelled, behind, spelled}
+use Rattle.pl_model.specs.LexicalQuoted.{is_digit, digit_count, simple_escape, coded, digits_escape, four_digits_escape, simple_piece, escape, begins_with, piece_of, piece, piece_size, HasSize, closing, Spelled, behind, spelled}
 use Rattle.pl_model.proofs.CharacterRuns.{front-bounds, run-within}
-
--- The number of bytes of a piece.
-abbrev pub piece_size : Piece → ℕ
-piece_size (Character c k) = k
-piece_size (Continuation k) = k
-piece_size Close = 1
-piece_size (Bad kind k) = k
-
--- A piece of at least one byte, and no more than this number.
-abbrev pub HasSize : ℕ → Piece → Type 0
-HasSize n p = (0 < piece_size p) × (piece_size p ≤ n)
 
 either : (n : ℕ) (t : Bool) (p q : Piece) → (t ≡ true → HasSize n p) → (t ≡ false → HasSize n q) → HasSize n (cond t p q)
 either n true p q f g = f refl
@@ -54,8 +45,8 @@ digits_escape-size radix before bs some two =
     let fits : size ≤ before + length bs
     = chosen (slice_index bs n == 92) (before + n + 1) (before + n) (before + length bs) (λ t. omega (arith, inside bs n t)) (omega arith) in
     let least : 0 < size = some_of (slice_index bs n == 92) (before + n + 1) (before + n) (omega arith) (omega arith) in
-    either (before + length bs) (n == 0) (Bad BadEscape 2) (coded (magnitude radix (take n bs)) size) (λ _. (omega arith, two))
-    (λ _. coded-size (before + length bs) (magnitude radix (take n bs)) size least fits two)
+    either (before + length bs) (n == 0) (Bad BadEscape 2) (coded (digits_value radix (take n bs)) size) (λ _. (omega arith, two))
+    (λ _. coded-size (before + length bs) (digits_value radix (take n bs)) size least fits two)
 
 four_digits_escape-size : (bs : List ℕ) → HasSize (2 + length bs) (four_digits_escape bs)
 four_digits_escape-size bs =
@@ -63,8 +54,8 @@ four_digits_escape-size bs =
     let within : n ≤ length (take 4 bs) = run-within (is_digit 16) 0 (take 4 bs) in
     let front : length (take 4 bs) ≤ length bs = omega (arith, length-take 4 bs) in
     let full : (n == 4) ≡ true → n ≡ 4 = λ (t : (n == 4) ≡ true). grind (arith, nat_tests) in
-    either (2 + length bs) (n == 4) (coded (magnitude 16 (take 4 bs)) 6) (Bad BadEscape 2)
-    (λ t. let is : n ≡ 4 = full t in coded-size (2 + length bs) (magnitude 16 (take 4 bs)) 6 (omega arith) (omega arith) (omega arith))
+    either (2 + length bs) (n == 4) (coded (digits_value 16 (take 4 bs)) 6) (Bad BadEscape 2)
+    (λ t. let is : n ≡ 4 = full t in coded-size (2 + length bs) (digits_value 16 (take 4 bs)) 6 (omega arith) (omega arith) (omega arith))
     (λ _. (omega arith, omega arith))
 
 simple_piece-size : (o : Option ℕ) (bs : List ℕ) (c k : ℕ) → 0 < length bs → 0 < k → k ≤ length bs → HasSize (1 + length bs) (simple_piece o bs c k)
@@ -133,6 +124,17 @@ piece_front-size quote bs nothing some e = (omega arith, omega arith)
 piece_front-size quote bs (scalar c k) some e = let bounds = front-bounds bs c k e in piece_of-size quote bs c k bounds.0 bounds.1
 piece_front-size quote bs broken some e = (omega arith, omega arith)
 
+pub piece-scalar : (quote : ℕ) (bs : List ℕ) (c k : ℕ) → front bs ≡ scalar c k → piece quote bs ≡ piece_of quote bs c k
+piece-scalar quote bs c k e = piece-front quote bs ∙ ap (piece_front quote bs) e
+
+-- A backslash begins an escape sequence.
+pub piece-escape : (quote : ℕ) (bs : List ℕ) (c k : ℕ) → front bs ≡ scalar c k → (c ≡ quote → ⊥) → c ≡ 92 → piece quote bs ≡ escape (drop 1 bs)
+piece-escape quote bs c k e other is =
+    let differs : (c == quote) ≡ false = grind (arith, nat_tests) in
+    let backslash : (c == 92) ≡ true = grind (arith, nat_tests) in
+    piece-scalar quote bs c k e ∙ cond-false (c == quote) (cond (begins_with quote (drop 1 bs)) (Character quote 2) Close) _ differs
+    ∙ cond-true (c == 92) (escape (drop 1 bs)) (Character c k) backslash
+
 -- A piece has at least one byte, and no more than there are.
 pub piece-size : (quote : ℕ) (bs : List ℕ) → 0 < length bs → HasSize (length bs) (piece quote bs)
 piece-size quote bs some = rw (piece-front quote bs) (piece_front-size quote bs (front bs) some refl)
@@ -153,13 +155,13 @@ closing-inside quote (suc k) [] h = absurd (omega arith)
 closing-inside quote (suc k) (b ∷ bs) h =
     ap (option_map (λ n. suc n)) (closing-inside quote k bs (omega arith)) ∙ mapped_twice k (closing quote 0 (drop k bs))
 
-abbrev closing_piece : ℕ → List ℕ → Piece → Option ℕ
+abbrev pub closing_piece : ℕ → List ℕ → Piece → Option ℕ
 closing_piece quote bs (Character c k) = option_map (λ n. suc n) (closing quote (k - 1) bs)
 closing_piece quote bs (Continuation k) = option_map (λ n. suc n) (closing quote (k - 1) bs)
 closing_piece quote bs Close = Some 0
 closing_piece quote bs (Bad kind k) = option_map (λ n. suc n) (closing quote (k - 1) bs)
 
-closing-piece : (quote b : ℕ) (bs : List ℕ) → closing quote 0 (b ∷ bs) ≡ closing_piece quote bs (piece quote (b ∷ bs))
+pub closing-piece : (quote b : ℕ) (bs : List ℕ) → closing quote 0 (b ∷ bs) ≡ closing_piece quote bs (piece quote (b ∷ bs))
 closing-piece quote b bs = by (piece quote (b ∷ bs)) where
   by : (p : Piece) → elim p [
     | Character c k ↦ option_map (λ n. suc n) (closing quote (k - 1) bs)
@@ -211,13 +213,13 @@ spelled-inside quote at (suc k) [] h = absurd (omega arith)
 spelled-inside quote at (suc k) (b ∷ bs) h =
     spelled-inside quote (suc at) k bs (omega arith) ∙ ap (λ n. spelled quote n 0 (drop k bs)) (omega arith)
 
-abbrev spelled_piece : ℕ → ℕ → List ℕ → Piece → Spelled
+abbrev pub spelled_piece : ℕ → ℕ → List ℕ → Piece → Spelled
 spelled_piece quote at bs (Character c k) = behind c (spelled quote (suc at) (k - 1) bs)
 spelled_piece quote at bs (Continuation k) = spelled quote (suc at) (k - 1) bs
 spelled_piece quote at bs Close = Ok []
 spelled_piece quote at bs (Bad kind k) = Err (kind, at)
 
-spelled-piece : (quote at b : ℕ) (bs : List ℕ) → spelled quote at 0 (b ∷ bs) ≡ spelled_piece quote at bs (piece quote (b ∷ bs))
+pub spelled-piece : (quote at b : ℕ) (bs : List ℕ) → spelled quote at 0 (b ∷ bs) ≡ spelled_piece quote at bs (piece quote (b ∷ bs))
 spelled-piece quote at b bs = by (piece quote (b ∷ bs)) where
   by : (p : Piece) → elim p [
     | Character c k ↦ behind c (spelled quote (suc at) (k - 1) bs)

@@ -15,3 +15,14 @@ pub mod TokenPlaces
 pub mod WorkedRuns
 pub mod TokenTexts
 pub mod LexicalPieces
+pub mod LexicalPlaces
+pub mod LexicalFollows
+pub mod TermDepth
+pub mod KeyOrder
+pub mod OperatorEntries
+pub mod FloorDivision
+pub mod TableLaws
+pub mod LexicalFronts
+pub mod LexicalReads
+pub mod LexicalWritten
+pub mod LexicalSpans

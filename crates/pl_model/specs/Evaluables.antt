@@ -3,7 +3,6 @@
 use Rattle.std.specs.Prelude.{ℕ, ℤ, pos, negsuc, suc, ◌+◌, ◌/◌, ◌^◌, ◌+ℤ◌, ◌-ℤ◌, ◌*ℤ◌, neg_ℤ, unsigned_abs, int_div, int_rem, nat_lt, bytes_eq, codes, List, [], ◌∷◌, length, Bool, Option, Some, None, Result, Ok, Err, if◌then◌else◌}
 use Rattle.std.specs.Ordering.{int_eq}
 use Rattle.std.specs.Int.{w64, div_ceil, int_min, int_max, int_signum, int_pow, int_bit_and, int_bit_or, int_bit_not}
-use Rattle.pl_term.specs.declared.node.Node.{Node}
 use Rattle.pl_term.specs.declared.node.Node.TheVariants.{Atom, Comp}
 use Rattle.pl_term.specs.Tree.{Chars, Tree, Trees, var, int, atom, comp, none, more}
 use Rattle.pl_model.specs.declared.evaluables.Op1.{Op1}

@@ -1,6 +1,6 @@
 -- The history of the updates of the shared state, in the order in which they were made: each entry says which
 -- engine made which update. All names in it are texts and numbers.
-use Rattle.std.specs.Prelude.{ℕ, List, [], ◌∷◌, Option, if◌then◌else◌, ◌==◌}
+use Rattle.std.specs.Prelude.{ℕ, List, [], ◌∷◌, Option, Bool, true, false, if◌then◌else◌, ◌==◌, ◌||◌}
 use Rattle.pl_term.specs.Tree.{Chars, Tree}
 use Rattle.pl_model.specs.Operators.{Operator}
 use Rattle.pl_model.specs.declared.ends.How.{How}
@@ -59,3 +59,18 @@ History = List Entry
 abbrev pub mine : History → ℕ → List Kind
 mine [] e = []
 mine (x ∷ xs) e = if x.engine == e then x.kind ∷ mine xs e else mine xs e
+
+-- Whether the update is its engine's end.
+abbrev pub is_end : Kind → Bool
+is_end (finish how steps) = true
+is_end _ = false
+
+-- Whether the update begins the engine `e`.
+abbrev pub begins : ℕ → Kind → Bool
+begins e (start n goal alias) = n == e
+begins e _ = false
+
+-- Whether the engine `e` has begun: it is engine 1, or an update began it.
+abbrev pub has_begun : History → ℕ → Bool
+has_begun [] e = e == 1
+has_begun (x ∷ xs) e = begins e x.kind || has_begun xs e

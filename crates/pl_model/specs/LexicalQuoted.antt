@@ -1,7 +1,8 @@
 -- Quoted texts (ISO 6.4.2.1, 6.4.6, 6.4.7): their pieces, where they close, and the characters that they spell.
-use Rattle.std.specs.Prelude.{ℕ, List, [], ◌∷◌, Bool, false, Option, Some, None, Result, Ok, Err, ◌+◌, ◌-◌, ◌*◌, suc, zero, ◌&&◌, ◌||◌, ◌==◌, not, nat_lt, if◌then◌else◌, take, drop, slice_index, fold, option_map}
+use Rattle.std.specs.Prelude.{ℕ, List, [], ◌∷◌, Bool, false, Option, Some, None, Result, Ok, Err, ◌+◌, ◌-◌, ◌<◌, ◌≤◌, suc, zero, ◌&&◌, ◌||◌, ◌==◌, not, nat_lt, if◌then◌else◌, take, drop, slice_index, option_map}
 use Rattle.std.specs.Char.{digit_value}
 use Rattle.std.specs.Str.{all_scalars}
+use Rattle.std.specs.Str.Parse.{digits_value}
 use Rattle.pl_term.specs.Tree.{Chars}
 use Rattle.pl_model.specs.Tokens.{Front, nothing, scalar, broken, front, run}
 use Rattle.pl_model.specs.declared.syntax.SyntaxKind.{SyntaxKind}
@@ -21,10 +22,6 @@ is_digit radix c = nat_lt (digit_value c) radix
 -- How many digits of a radix stand at the front.
 abbrev pub digit_count : ℕ → List ℕ → ℕ
 digit_count radix bs = run (is_digit radix) 0 bs
-
--- The number that digits of a radix write.
-abbrev pub magnitude : ℕ → List ℕ → ℕ
-magnitude radix ds = fold (λ v d. radix * v + digit_value d) 0 ds
 
 -- Escape sequences (6.4.2.1). The bytes are those behind the backslash; the number of bytes counts it too.
 
@@ -52,11 +49,11 @@ abbrev pub digits_escape : ℕ → ℕ → List ℕ → Piece
 digits_escape radix before bs =
     let n = digit_count radix bs in
     if n == 0 then Bad BadEscape 2 else
-    coded (magnitude radix (take n bs)) (if slice_index bs n == 92 then before + n + 1 else before + n)
+    coded (digits_value radix (take n bs)) (if slice_index bs n == 92 then before + n + 1 else before + n)
 
 -- `\u` and four hexadecimal digits.
 abbrev pub four_digits_escape : List ℕ → Piece
-four_digits_escape bs = if digit_count 16 (take 4 bs) == 4 then coded (magnitude 16 (take 4 bs)) 6 else Bad BadEscape 2
+four_digits_escape bs = if digit_count 16 (take 4 bs) == 4 then coded (digits_value 16 (take 4 bs)) 6 else Bad BadEscape 2
 
 abbrev pub simple_piece : Option ℕ → List ℕ → ℕ → ℕ → Piece
 simple_piece (Some code) bs c size = Character code 2
@@ -69,6 +66,17 @@ simple_piece None bs c size =
 -- What a backslash and the bytes behind it are. A sequence that is none is passed with one character.
 abbrev pub escape : List ℕ → Piece
 escape bs = elim (front bs) [ nothing ↦ Bad BadEscape 1 | scalar c k ↦ simple_piece (simple_escape c) bs c k | broken ↦ Bad BadEscape 2 ]
+
+-- The number of bytes of a piece.
+abbrev pub piece_size : Piece → ℕ
+piece_size (Character c k) = k
+piece_size (Continuation k) = k
+piece_size Close = 1
+piece_size (Bad kind k) = k
+
+-- A piece of at least one byte, and no more than this number.
+abbrev pub HasSize : ℕ → Piece → Type 0
+HasSize n p = (0 < piece_size p) × (piece_size p ≤ n)
 
 -- Whether this byte stands at the front.
 abbrev pub begins_with : ℕ → List ℕ → Bool

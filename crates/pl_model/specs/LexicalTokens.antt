@@ -3,10 +3,11 @@
 use Rattle.std.specs.Prelude.{ℕ, List, [], ◌∷◌, Bool, true, false, Option, Some, None, Result, Ok, Err, ◌+◌, ◌-◌, ◌^◌, ◌&&◌, ◌==◌, nat_lt, if◌then◌else◌, length, take, drop, slice_index}
 use Rattle.std.specs.Char.{is_ascii_digit}
 use Rattle.std.specs.Str.{chars}
+use Rattle.std.specs.Str.Parse.{digits_value}
 use Rattle.pl_model.specs.Characters.{is_symbol, continues_name}
 use Rattle.pl_model.specs.Tokens.{Front, nothing, scalar, broken, front, run, skip_layout, closes_clause}
 use Rattle.pl_model.specs.LexicalCharacters.{begins}
-use Rattle.pl_model.specs.LexicalQuoted.{is_digit, digit_count, magnitude, piece, quoted}
+use Rattle.pl_model.specs.LexicalQuoted.{is_digit, digit_count, piece, quoted}
 use Rattle.pl_model.specs.declared.syntax.SyntaxKind.{SyntaxKind}
 use Rattle.pl_model.specs.declared.syntax.SyntaxKind.TheVariants.{BadUtf8, BadEscape, FloatNumeral, IntegerTooLarge, LoneCharacter}
 use Rattle.pl_model.specs.declared.syntax.SyntaxFault.{SyntaxFault}
@@ -37,13 +38,13 @@ integer value size = if nat_lt (2 ^ 63) value then Fault IntegerTooLarge 0 else 
 -- `0b`, `0o` or `0x` and digits of that radix.
 abbrev pub radix_constant : ℕ → List ℕ → Reading
 radix_constant radix bs =
-    let n = digit_count radix (drop 2 bs) in integer (magnitude radix (take n (drop 2 bs))) (n + 2)
+    let n = digit_count radix (drop 2 bs) in integer (digits_value radix (take n (drop 2 bs))) (n + 2)
 
 -- Decimal digits. Digits, a full stop and a digit would be a floating point number (6.4.5).
 abbrev pub decimal_constant : List ℕ → Reading
 decimal_constant bs =
     let n = digit_count 10 bs in
-    let value = magnitude 10 (take n bs) in
+    let value = digits_value 10 (take n bs) in
     if nat_lt (2 ^ 63) value then Fault IntegerTooLarge 0 else
     if (slice_index bs n == 46) && is_ascii_digit (slice_index bs (n + 1)) then Fault FloatNumeral 0 else
     Token (Integer value) n
@@ -89,7 +90,7 @@ token_of direct bs NameBegins c size = Token (Name (chars (take (word_size size 
 token_of direct bs VariableBegins c size = Token (Variable (chars (take (word_size size bs) bs))) (word_size size bs)
 token_of direct bs Digit c size = numeral bs
 token_of direct bs Symbol c size = symbols bs
-token_of direct bs Solo c size = Token (Name (c ∷ [])) size
+token_of direct bs Solo c size = Token (Name (chars (take size bs))) size
 token_of direct bs Quote c size = quoted c (drop 1 bs)
 token_of direct bs (PunctuationBegins mark) c size = Token (Punctuation (mark_at direct mark)) size
 token_of direct bs Other c size = Fault LoneCharacter 0

@@ -5,11 +5,14 @@ pub mod Tokens
 pub mod LexicalCharacters
 pub mod LexicalQuoted
 pub mod LexicalTokens
+pub mod LexicalLaws
 pub mod Grammar
 pub mod TermGrammar
 pub mod Unify
 pub mod Writing
+pub mod TermWriting
 pub mod History
+pub mod Shown
 pub mod World
 pub mod Errors
 pub mod Bodies

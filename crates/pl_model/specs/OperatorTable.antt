@@ -1,7 +1,7 @@
 -- The table of operators (ISO 6.3.4, 8.14.3 op/3, 8.14.4 current_op/3): a finite map from a name and a place to a
 -- priority and a specifier.
-use Rattle.std.specs.Prelude.{◌≡◌, ℕ, zero, suc, ◌&&◌, ◌==◌, List, [], ◌∷◌, ◌++◌, Bool, true, false, Option, Some, None, refl, bytes_eq, if◌then◌else◌, codes, nat_lt, map}
-use Rattle.std.specs.List.{list_any}
+use Rattle.std.specs.Prelude.{◌≡◌, ℕ, zero, suc, ◌&&◌, ◌==◌, List, [], ◌∷◌, ◌++◌, Bool, false, Option, Some, None, IfSome, IsSome, ◌<◌, ◌≤◌, refl, bytes_eq, if◌then◌else◌, codes, nat_lt, map}
+use Rattle.std.specs.List.{list_all, list_any}
 use Rattle.std.specs.Option.{option_map}
 use Rattle.std.specs.Ordering.{nat_cmp, ordering_then}
 use Rattle.std.specs.declared.cmp.Ordering.{Ordering}
@@ -59,7 +59,8 @@ operators t = finite.entries t
 abbrev pub highest_priority : ℕ
 highest_priority = 1200
 
--- Names that cannot be made operators (ISO 8.14.3.3 with Cor. 2:2012: `[]`, `{}` and `|`), and `.`, which ends clauses.
+-- Names that cannot be made operators: `[]` and `{}` (ISO 8.14.3.3, Cor. 2:2012), `|`, which separates the tail of a
+-- list, at every priority, and `.`, which ends clauses.
 abbrev pub reserved_names : List Chars
 reserved_names = codes "." ∷ codes "|" ∷ codes "[]" ∷ codes "{}" ∷ []
 
@@ -107,7 +108,7 @@ changed t p k f =
 abbrev pub row : ℕ → Kind → List Chars → List (Key × Entry)
 row p k fs = map (λ (f : Chars). ((f, place_of k), (p, k))) fs
 
--- The operators at the start (ISO 6.3.4.4, table 7, without `:` and with those of SWI-Prolog at 1150).
+-- The operators at the start: those of ISO 6.3.4.4, table 7, `div` of Cor. 2:2012, and at 1150 those of SWI-Prolog.
 abbrev pub opening_rows : List (Key × Entry)
 opening_rows =
     row 1200 Xfx (codes ":-" ∷ codes "-->" ∷ [])
@@ -144,6 +145,17 @@ operator_of e = record { name = e.0.0; priority = e.1.0; specifier = specifier_o
 -- The table as a list of operators.
 abbrev pub listed : OperatorTable → Operators
 listed t = map operator_of (operators t)
+
+-- Each operator's specifier is one of its place.
+abbrev pub is_placed : OperatorTable → Bool
+is_placed t = list_all (λ (e : Key × Entry). place_rank (place_of e.1.1) == place_rank e.0.1) (operators t)
+
+-- What each table keeps (ISO 6.3.4.2, 6.3.4.3): an operator's specifier is one of its place, its priority is from 1 to
+-- 1200, and no name is both an infix and a postfix operator.
+pub record IsSound (t : OperatorTable) : Type 0 where
+  pub placed : (f : Chars) (p : Place) → IfSome (operator_at t f p) (λ e. place_of e.1 ≡ p)
+  pub bounded : (f : Chars) (p : Place) → IfSome (operator_at t f p) (λ e. (0 < e.0) × (e.0 ≤ highest_priority))
+  pub apart : (f : Chars) → IsSome (operator_at t f Infix) → operator_at t f Postfix ≡ None
 
 -- The infix operator of a name, as the grammar asks for it.
 abbrev pub infix_operator : OperatorTable → Chars → Option Operator

@@ -1,19 +1,16 @@
 -- Terms and clauses in full (ISO 6.2, 6.3): a term is a primary, and then as many infix and postfix operators as fit.
 -- Reading goes from a place of the text to another, one token at a time, and ends at the first fault that a reader
 -- meets who looks one token ahead.
-use Rattle.std.specs.Prelude.{ℕ, List, [], ◌∷◌, Bool, true, false, not, Option, Some, None, Result, Ok, Err, ◌+◌, ◌-◌, ◌^◌, suc, zero, ◌&&◌, ◌||◌, ◌==◌, nat_lt, nat_le, if◌then◌else◌, bytes_eq, codes, is_some, length, map, slice_index, pos, neg_ℤ}
+use Rattle.std.specs.Prelude.{ℕ, List, [], ◌∷◌, Bool, true, false, not, Option, Some, None, Ok, Err, ◌+◌, ◌-◌, ◌^◌, suc, zero, ◌&&◌, ◌||◌, ◌==◌, nat_lt, nat_le, if◌then◌else◌, bytes_eq, codes, is_some, length, map, slice_index, pos, neg_ℤ}
 use Rattle.std.specs.Char.{is_ascii_digit}
-use Rattle.pl_term.specs.Tree.{Chars, Tree, Trees, var, int, atom, comp, none, more}
+use Rattle.pl_term.specs.Tree.{Chars, Tree, Trees, int, atom, comp, none, more}
 use Rattle.pl_term.specs.Texts.{size}
-use Rattle.pl_model.specs.declared.syntax.SyntaxKind.{SyntaxKind}
 use Rattle.pl_model.specs.declared.syntax.SyntaxKind.TheVariants.{AtomTooLong, IntegerTooLarge, UnexpectedToken, UnexpectedEnd, PriorityClash}
 use Rattle.pl_model.specs.declared.lexical.Mark.{Mark}
 use Rattle.pl_model.specs.declared.lexical.Mark.TheVariants.{Open, OpenCt, Close, OpenList, CloseList, OpenCurly, CloseCurly, Bar, Comma}
-use Rattle.pl_model.specs.declared.lexical.TokenKind.{TokenKind}
 use Rattle.pl_model.specs.declared.lexical.TokenKind.TheVariants.{Name, Quoted, Variable, Integer, DoubleQuoted, BackQuoted, Punctuation, EndToken}
 use Rattle.pl_model.specs.declared.lexical.Lexeme.TheVariants.{Token, End}
-use Rattle.pl_model.specs.declared.operators.Kind.{Kind}
-use Rattle.pl_model.specs.declared.operators.Kind.TheVariants.{Xfx, Xfy, Yfx, Fy, Fx, Xf, Yf}
+use Rattle.pl_model.specs.declared.operators.Kind.TheVariants.{Xfx, Xfy, Yfx, Fy, Fx, Yf}
 use Rattle.pl_model.specs.declared.operators.Place.{Place}
 use Rattle.pl_model.specs.declared.operators.Place.TheVariants.{Prefix, Infix, Postfix}
 use Rattle.pl_model.specs.declared.grammar.Quotes.{Quotes}
@@ -247,12 +244,16 @@ module _ (text : List ℕ) (ops : Lookup) (quotes : Quotes) where
   further items p (Some end) =
       and_then (items (moved p.reading end)) (λ q. Ok (record { first = p.term; others = more q.first q.others; reading = q.reading }))
 
+  -- A term of at most a priority: its primary, and what follows it.
+  abbrev pub term_by : (ℕ → Reading → Outcome Part) → (Reading → Outcome Items) → (ℕ → Part → Outcome Part) → ℕ → Reading → Outcome Part
+  term_by inner items next max r = and_then (primary inner items max r (token_at text r.at)) (next max)
+
   -- A term of at most a priority, what may follow a left part in it, and some terms with commas between them. The number
   -- bounds how deep reading goes; one more than the bytes that are left is enough, since each step takes a token.
   unfoldable mutual
     pub term : ℕ → ℕ → Reading → Outcome Part
     term zero max r = refused UnexpectedEnd (length text)
-    term (suc n) max r = and_then (primary (term n) (items n) max r (token_at text r.at)) (operations n max)
+    term (suc n) max r = term_by (term n) (items n) (operations n) max r
 
     pub operations : ℕ → ℕ → Part → Outcome Part
     operations zero max p = refused UnexpectedEnd (length text)
@@ -260,7 +261,10 @@ module _ (text : List ℕ) (ops : Lookup) (quotes : Quotes) where
 
     pub items : ℕ → Reading → Outcome Items
     items zero r = refused UnexpectedEnd (length text)
-    items (suc n) r = and_then (term n 999 r) (λ p. further (items n) p (behind_mark Comma (token_at text p.reading.at)))
+    items (suc n) r =
+        and_then
+        (term_by (term n) (items n) (operations n) 999 r)
+        (λ p. further (items n) p (behind_mark Comma (token_at text p.reading.at)))
 
 -- A clause is a term of at most priority 1200 and an end token (ISO 6.2.1).
 abbrev pub ended : List ℕ → ℕ → Part → Lexed → Outcome Item
@@ -293,7 +297,10 @@ item_of text at ops quotes = item_by text at (operator_at ops) quotes
 
 -- A few operators for worked texts.
 abbrev pub small_prefix : Chars → Option Entry
-small_prefix f = if bytes_eq f (codes "-") then Some (200, Fy) else if bytes_eq f (codes ":-") then Some (1200, Fx) else None
+small_prefix f =
+    if bytes_eq f (codes "-") then Some (200, Fy) else
+    if bytes_eq f (codes ":-") then Some (1200, Fx) else
+    if bytes_eq f (codes "\\+") then Some (900, Fy) else None
 
 abbrev pub small_infix : Chars → Option Entry
 small_infix f =
@@ -301,7 +308,10 @@ small_infix f =
     if bytes_eq f (codes "-") then Some (500, Yfx) else
     if bytes_eq f (codes "=") then Some (700, Xfx) else None
 
+abbrev pub small_postfix : Chars → Option Entry
+small_postfix f = if bytes_eq f (codes "++") then Some (300, Yf) else None
+
 abbrev pub small_operators : Lookup
 small_operators f Prefix = small_prefix f
 small_operators f Infix = small_infix f
-small_operators f Postfix = None
+small_operators f Postfix = small_postfix f

@@ -1,10 +1,10 @@
 //! Evaluable functors, why a term has no value (ISO 7.9, 9.1, 9.3, 9.4), and worked values.
-ghost use Rattle.std.specs.Prelude.{◌≡◌, codes, pos, negsuc, Ok, Err};
+ghost use Rattle.std.specs.Prelude.{◌≡◌, ◌≢◌, ◌<◌, codes, ℤ, pos, negsuc, ◌+ℤ◌, ◌*ℤ◌, ◌≤ℤ◌, ◌<ℤ◌, unsigned_abs, int_div, int_rem, Ok, Err};
 ghost use Rattle.pl_term.specs.declared.node.Node.TheVariants.{Atom, Comp};
 ghost use Rattle.pl_term.specs.Tree.{Tree, var, int, atom, comp, none, more};
-ghost use Rattle.pl_model.specs.Evaluables.{applied1, applied2, evaluated};
+ghost use Rattle.pl_model.specs.Evaluables.{applied1, applied2, evaluated, floor_div, modulo};
 
-use pl_term::Node;
+use pl_term::{Memory, Node};
 
 /// An evaluable functor of one argument.
 #[derive(Debug, Clone, Copy, PartialEq, Eq, Drop)]
@@ -81,6 +81,27 @@ pub enum EvalFault {
     /// Want of memory.
     Memory,
 }
+
+impl From<Memory> for EvalFault {
+    ghost use Rattle.pl_model.specs.declared.evaluables.EvalFault.{EvalFault};
+
+    ghost from_gives = { λ _ f. f ≡ EvalFault.Memory };
+
+    fn from(_e: Memory) -> EvalFault {
+        EvalFault::Memory
+    }
+}
+
+/// Each of the two quotients and its rest make up the dividend. The rest of the quotient rounded toward zero is smaller
+/// than the divisor; that of the quotient rounded downward has the divisor's sign besides, so that the quotient is the
+/// greatest integer that is not above the exact one.
+pub fn division_leaves_a_rest()
+    ensures toward_zero { (x y : ℤ) → int_div x y *ℤ y +ℤ int_rem x y ≡ x }
+    ensures smaller { (x y : ℤ) → y ≢ pos 0 → unsigned_abs (int_rem x y) < unsigned_abs y }
+    ensures downward { (x y : ℤ) → floor_div x y *ℤ y +ℤ modulo x y ≡ x }
+    ensures positive { (x y : ℤ) → pos 0 <ℤ y → (pos 0 ≤ℤ modulo x y) × (modulo x y <ℤ y) }
+    ensures negative { (x y : ℤ) → y <ℤ pos 0 → (y <ℤ modulo x y) × (modulo x y ≤ℤ pos 0) }
+{}
 
 /// `1 + 2 * 3` is 7.
 pub fn sums_a_product()

@@ -2,11 +2,26 @@
 //!
 //! The lexer of the running program still reads the subset of `syntax`.
 
-ghost use Rattle.std.specs.Prelude.{◌≡◌, ◌∷◌, [], ◌^◌, Ok, codes};
-ghost use Rattle.pl_model.specs.LexicalTokens.{lex_fault, token, token_at};
+ghost use Rattle.std.specs.Prelude.{◌≡◌, ◌∷◌, ◌++◌, [], ◌^◌, ◌≤◌, ◌+◌, ◌==◌, ℕ, List, Bool, true, false, Ok, codes, length};
+ghost use Rattle.std.specs.Fmt.{decimal};
+ghost use Rattle.std.specs.List.{list_all};
+ghost use Rattle.std.specs.Char.{IsScalar, encode_utf8};
+ghost use Rattle.std.specs.Str.{all_scalars, encode_utf8_all};
+ghost use Rattle.std.specs.Str.Parse.{IsNumeral, digits_value};
+ghost use Rattle.pl_term.specs.Texts.{size};
+ghost use Rattle.pl_term.specs.Tree.{Chars};
+ghost use Rattle.pl_model.specs.Characters.{continues_name, is_letter_name, is_symbol};
+ghost use Rattle.pl_model.specs.LexicalCharacters.{is_solo};
+ghost use Rattle.pl_model.specs.LexicalLaws.{EndsNumeral, NextTo, in_quotes, is_variable_name};
+ghost use Rattle.pl_model.specs.LexicalQuoted.{begins_with, digit_count};
+ghost use Rattle.pl_model.specs.LexicalTokens.{lex_fault, token, token_at, token_front};
+ghost use Rattle.pl_model.specs.Tokens.{closes_clause, run};
+ghost use Rattle.pl_model.specs.Writing.{quoted};
+ghost use Rattle.pl_model.specs.declared.lexical.Reading.TheVariants.{Token};
+ghost use Rattle.pl_model.specs.declared.lexical.TokenKind.{TokenKind};
 ghost use Rattle.pl_model.specs.declared.syntax.SyntaxKind.TheVariants.{BadEscape, BadUtf8, FloatNumeral, IntegerTooLarge, LoneCharacter, OpenComment, OpenQuote};
 ghost use Rattle.pl_model.specs.declared.lexical.Lexeme.TheVariants.{End};
-ghost use Rattle.pl_model.specs.declared.lexical.Mark.TheVariants.{Bar, Open, OpenCt};
+ghost use Rattle.pl_model.specs.declared.lexical.Mark.TheVariants.{Bar, Close, CloseCurly, CloseList, Comma, Open, OpenCt, OpenCurly, OpenList};
 ghost use Rattle.pl_model.specs.declared.lexical.TokenKind.TheVariants.{BackQuoted, DoubleQuoted, EndToken, Integer, Name, Punctuation, Quoted, Variable};
 
 use crate::syntax::SyntaxKind;
@@ -182,4 +197,96 @@ pub fn refuses_quoted_texts()
     ensures passed { token_at (codes "'\\x110000\\'") 0 ≡ lex_fault OpenQuote 0 }
     ensures byte { token_at (39 ∷ 255 ∷ 39 ∷ []) 0 ≡ lex_fault BadUtf8 1 }
     ensures first { token_at (39 ∷ 255 ∷ 92 ∷ 113 ∷ 39 ∷ []) 0 ≡ lex_fault BadUtf8 1 }
+{}
+
+/// Whatever stands at a place, what is found there lies in the text behind it: layout and then the token, which has
+/// one byte at least. So tokens and the layout between them cover a text.
+pub fn tokens_cover_the_text()
+    ensures { (text : List ℕ) (at : ℕ) (kind : TokenKind) (start stop : ℕ)
+        → token_at text at ≡ token kind start stop → NextTo text at start stop }
+{}
+
+/// A letter digit token (6.4.2) is read as that name where what stands behind it does not continue it.
+pub fn names_are_read()
+    ensures { (direct : Bool) (cs : Chars) (rest : List ℕ)
+        → all_scalars cs ≡ true → is_letter_name cs ≡ true → run continues_name 0 rest ≡ 0
+        → token_front direct (encode_utf8_all cs ++ rest) ≡ Token (Name cs) (size cs) }
+{}
+
+/// A variable (6.4.3) is read as that variable.
+pub fn variables_are_read()
+    ensures { (direct : Bool) (cs : Chars) (rest : List ℕ)
+        → all_scalars cs ≡ true → is_variable_name cs ≡ true → run continues_name 0 rest ≡ 0
+        → token_front direct (encode_utf8_all cs ++ rest) ≡ Token (Variable cs) (size cs) }
+{}
+
+/// A graphic token (6.4.2) is read as that name, unless it is the end token.
+pub fn symbol_names_are_read()
+    ensures { (direct : Bool) (c : ℕ) (cs : Chars) (rest : List ℕ)
+        → list_all is_symbol (c ∷ cs) ≡ true → run is_symbol 0 rest ≡ 0
+        → ((c ∷ cs ≡ 46 ∷ []) → closes_clause rest ≡ false)
+        → token_front direct (encode_utf8_all (c ∷ cs) ++ rest) ≡ Token (Name (c ∷ cs)) (size (c ∷ cs)) }
+{}
+
+/// A full stop before white space, `%` or the end of the text is the end token (6.4.8).
+pub fn end_tokens_are_read()
+    ensures { (direct : Bool) (rest : List ℕ) → closes_clause rest ≡ true → token_front direct (46 ∷ rest) ≡ Token EndToken 1 }
+{}
+
+/// An integer written in decimal (6.4.4) is read as that integer.
+pub fn integers_are_read()
+    ensures { (direct : Bool) (n : ℕ) (rest : List ℕ) → n ≤ 2 ^ 63 → EndsNumeral rest
+        → token_front direct (decimal n ++ rest) ≡ Token (Integer n) (length (decimal n)) }
+{}
+
+/// A text that `writeq` puts in quotes, with its escape sequences, is read back as that text (6.4.2.1).
+pub fn quoted_names_are_read()
+    ensures { (direct : Bool) (cs : Chars) (rest : List ℕ) → all_scalars cs ≡ true → begins_with 39 rest ≡ false
+        → token_front direct (encode_utf8_all (quoted cs) ++ rest) ≡ Token (Quoted cs) (size (quoted cs)) }
+{}
+
+/// A text in quotes, in which the quote is doubled and a backslash escaped, is read as that text (6.4.2, 6.4.6,
+/// 6.4.7).
+pub fn texts_in_quotes_are_read()
+    ensures single { (direct : Bool) (cs : Chars) (rest : List ℕ) → all_scalars cs ≡ true → begins_with 39 rest ≡ false
+        → token_front direct (encode_utf8_all (in_quotes 39 cs) ++ rest) ≡ Token (Quoted cs) (size (in_quotes 39 cs)) }
+    ensures double { (direct : Bool) (cs : Chars) (rest : List ℕ) → all_scalars cs ≡ true → begins_with 34 rest ≡ false
+        → token_front direct (encode_utf8_all (in_quotes 34 cs) ++ rest) ≡ Token (DoubleQuoted cs) (size (in_quotes 34 cs)) }
+    ensures back { (direct : Bool) (cs : Chars) (rest : List ℕ) → all_scalars cs ≡ true → begins_with 96 rest ≡ false
+        → token_front direct (encode_utf8_all (in_quotes 96 cs) ++ rest) ≡ Token (BackQuoted cs) (size (in_quotes 96 cs)) }
+{}
+
+/// `0'` and a character other than a single quote, a backslash and a newline is read as the character's code (6.4.4).
+pub fn character_codes_are_read()
+    ensures { (direct : Bool) (c : ℕ) (rest : List ℕ) → IsScalar c → (c == 39) ≡ false → (c == 92) ≡ false → (c == 10) ≡ false
+        → token_front direct (48 ∷ 39 ∷ (encode_utf8 c ++ rest)) ≡ Token (Integer c) (length (encode_utf8 c) + 2) }
+{}
+
+/// `0x`, `0o` and `0b` with digits of their radix are read as the number that the digits write (6.4.4).
+pub fn radix_constants_are_read()
+    ensures hexadecimal { (direct : Bool) (ds rest : List ℕ) → IsNumeral 16 ds → digits_value 16 ds ≤ 2 ^ 63 → digit_count 16 rest ≡ 0
+        → token_front direct (48 ∷ 120 ∷ (ds ++ rest)) ≡ Token (Integer (digits_value 16 ds)) (length ds + 2) }
+    ensures octal { (direct : Bool) (ds rest : List ℕ) → IsNumeral 8 ds → digits_value 8 ds ≤ 2 ^ 63 → digit_count 8 rest ≡ 0
+        → token_front direct (48 ∷ 111 ∷ (ds ++ rest)) ≡ Token (Integer (digits_value 8 ds)) (length ds + 2) }
+    ensures binary { (direct : Bool) (ds rest : List ℕ) → IsNumeral 2 ds → digits_value 2 ds ≤ 2 ^ 63 → digit_count 2 rest ≡ 0
+        → token_front direct (48 ∷ 98 ∷ (ds ++ rest)) ≡ Token (Integer (digits_value 2 ds)) (length ds + 2) }
+{}
+
+/// Each punctuation token is its character, whatever stands behind it (6.4); `(` is open ct where no layout stands
+/// before it, and open behind layout (6.4.8).
+pub fn punctuation_is_read()
+    ensures functional { (rest : List ℕ) → token_front true (40 ∷ rest) ≡ Token (Punctuation OpenCt) 1 }
+    ensures opening { (rest : List ℕ) → token_front false (40 ∷ rest) ≡ Token (Punctuation Open) 1 }
+    ensures close { (direct : Bool) (rest : List ℕ) → token_front direct (41 ∷ rest) ≡ Token (Punctuation Close) 1 }
+    ensures open_list { (direct : Bool) (rest : List ℕ) → token_front direct (91 ∷ rest) ≡ Token (Punctuation OpenList) 1 }
+    ensures close_list { (direct : Bool) (rest : List ℕ) → token_front direct (93 ∷ rest) ≡ Token (Punctuation CloseList) 1 }
+    ensures open_curly { (direct : Bool) (rest : List ℕ) → token_front direct (123 ∷ rest) ≡ Token (Punctuation OpenCurly) 1 }
+    ensures close_curly { (direct : Bool) (rest : List ℕ) → token_front direct (125 ∷ rest) ≡ Token (Punctuation CloseCurly) 1 }
+    ensures bar { (direct : Bool) (rest : List ℕ) → token_front direct (124 ∷ rest) ≡ Token (Punctuation Bar) 1 }
+    ensures comma { (direct : Bool) (rest : List ℕ) → token_front direct (44 ∷ rest) ≡ Token (Punctuation Comma) 1 }
+{}
+
+/// The cut and the semicolon are names of one character (6.4.2).
+pub fn solo_names_are_read()
+    ensures { (direct : Bool) (c : ℕ) (rest : List ℕ) → is_solo c ≡ true → token_front direct (c ∷ rest) ≡ Token (Name (c ∷ [])) 1 }
 {}

@@ -9,6 +9,8 @@ pub mod operators;
 pub mod reading;
 pub mod rows;
 pub mod runs;
+pub mod shows;
 pub mod syntax;
+pub mod term_writing;
 pub mod unification;
 pub mod writing;

@@ -1,0 +1,8 @@
+use Rattle.std.proofs.Common.{refl}
+use Rattle.std.specs.Fmt.{digits}
+use Rattle.pl_model.specs.TermWriting.{text_of, pieces}
+use Rattle.pl_model.proofs.term_writing.writes_in_manners.Goals as goal
+
+pub returns : goal.returns
+unfolding text_of pieces digits
+returns c = record { quotes = refl; bare = refl; canonical = refl; empty = refl }
