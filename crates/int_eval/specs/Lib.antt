@@ -1,0 +1,4 @@
+pub mod Division
+pub mod Magnitude
+pub mod NodeValues
+pub mod Powers
