@@ -1,0 +1,3 @@
+pub mod LexRuns
+pub mod LexQuoted
+pub mod LexTokens
