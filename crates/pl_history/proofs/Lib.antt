@@ -1,0 +1,4 @@
+pub mod Totals
+pub mod Lives
+pub mod Keeps
+pub mod Moves
