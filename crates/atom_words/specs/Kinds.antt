@@ -1,0 +1,161 @@
+-- The kinds of steps: what each asks of the words and of the seat's view, what it does to the words, and the view after it.
+use Rattle.std.specs.Prelude.{◌≡◌, ◌≢◌, ◌⊎◌, ℕ, ◌+◌, ◌-◌, ◌*◌, ◌/◌, ◌%◌, ◌^◌, ◌<◌, ◌≤◌, ◌==◌, ◌&&◌, ◌||◌, nat_lt, Bool, true, false, if◌then◌else◌, List, [], ◌∷◌, ◌++◌, length, take, set, get_or, slice_index, Option, Some, None, option_map}
+use mathlib.Core.Option.{some}
+use lib.ListN.{get_elem?}
+use Rattle.atom_words.specs.Layout.{state_of, mark_of, first_of, closed_of, version_of, head_word, worn}
+use Rattle.atom_words.specs.Texts.{bucket}
+use Rattle.atom_words.specs.Board.{Board, laid, atom, link, head, text_of, with_atom, with_link, with_head, with_text}
+use Rattle.atom_words.specs.Chains.{In}
+use Rattle.atom_words.specs.Views.{uncounted}
+use Rattle.atom_words.specs.declared.size.Size.{Size}
+use Rattle.atom_words.specs.declared.view.Held.{Held}
+use Rattle.atom_words.specs.declared.view.Counted.{Counted}
+use Rattle.atom_words.specs.declared.view.Own.{Own}
+use Rattle.atom_words.specs.declared.view.Walk.{Walk}
+use Rattle.atom_words.specs.declared.view.Passing.{Passing}
+use Rattle.atom_words.specs.declared.view.Pass.{Pass}
+use Rattle.atom_words.specs.declared.view.Cause.{Cause}
+use Rattle.atom_words.specs.declared.view.Cause.TheVariants.{Moved, Pending, Closed}
+use Rattle.atom_words.specs.declared.view.Refusal.{Refusal}
+use Rattle.atom_words.specs.declared.view.Refusal.TheVariants.{Full, Again, Worn}
+use Rattle.atom_words.specs.declared.view.View.{View}
+use Rattle.atom_words.specs.declared.kind.Kind.{Kind}
+use Rattle.atom_words.specs.declared.kind.Kind.TheVariants.{Reserve, PutWord, PutLink, Link, Validate, Release, Load, Refused, Start, Read, Next, Hold, Keep, Fix, StartPass, EndPass, Refuse, Ask, Protect, Fetch, Register, Unregister}
+
+-- the word with its mark set
+abbrev pub marked : ℕ → ℕ
+marked w = w + 4 * (1 - mark_of w)
+
+-- a slot that was just reserved
+abbrev pub fresh : ℕ → Own
+fresh k = record { slot = k; text = []; link = None; linked = false }
+
+abbrev pub putting : ℕ → Own → Own
+putting x o = record o { text = o.text ++ x ∷ [] }
+
+abbrev pub linking : ℕ → Own → Own
+linking l o = record o { link = Some l }
+
+abbrev pub linked_own : Own → Own
+linked_own o = record o { linked = true }
+
+abbrev pub held_own : Option Own → List Held
+held_own None = []
+held_own (Some o) = record { slot = o.slot; text = o.text } ∷ []
+
+-- the slot at a walk's hand, with what was read of its text
+abbrev pub at_hand : Walk → Held
+at_hand w = record { slot = w.place - 1; text = w.part }
+
+abbrev pub held_at_hand : Option Walk → List Held
+held_at_hand None = []
+held_at_hand (Some w) = at_hand w ∷ []
+
+abbrev pub starting : ℕ → ℕ → Walk
+starting h x = record { head = h; word = x; place = first_of x; part = []; guarded = false; seen = [] }
+
+abbrev pub reading : ℕ → Walk → Walk
+reading x w = record w { part = w.part ++ x ∷ [] }
+
+abbrev pub going_on : ℕ → Walk → Walk
+going_on x w = record w { place = x; part = []; guarded = false; seen = w.seen ++ at_hand w ∷ [] }
+
+-- the slot k was found with the word x as its mark was set
+abbrev pub guarding : ℕ → ℕ → Walk → Walk
+guarding k x w = record w { guarded = w.guarded || ((w.place == k + 1) && (state_of x == 3)) }
+
+-- the keeper's count and text of a slot
+abbrev pub counted : List Counted → ℕ → Counted
+counted cs k = get_or cs k uncounted
+
+abbrev pub once_more : Held → List Counted → List Counted
+once_more a cs = set cs a.slot (record { count = (counted cs a.slot).count + 1; text = a.text })
+
+abbrev pub once_less : ℕ → List Counted → List Counted
+once_less k cs = set cs k (record { count = (counted cs k).count - 1; text = (counted cs k).text })
+
+abbrev pub held_counted : ℕ → Option (List Counted) → List Held
+held_counted k None = []
+held_counted k (Some cs) = record { slot = k; text = (counted cs k).text } ∷ []
+
+-- The pass goes on where the slot k, which was not free, follows the last one that it counted
+abbrev pub counting : ℕ → ℕ → Passing → Passing
+counting slots k p = if p.counted == 0 then record p { first = k; counted = 1 }
+    else (if nat_lt p.counted slots && (k == (p.first + p.counted) % slots) then record p { counted = p.counted + 1 } else p)
+
+-- what a pass that ended at the epoch word x is answered with
+abbrev pub full_pass : View → ℕ → Passing → Pass
+full_pass v x p = record { counted = p.counted; seat = v.cycle.engine; began = p.began; ended = x }
+
+abbrev pub full : View → ℕ → Option Passing → List Refusal
+full v x None = []
+full v x (Some p) = if p.counted == v.size.slots then Full (full_pass v x p) ∷ [] else []
+
+-- THE VIEW AFTER A STEP
+abbrev pub view_after : View → Kind → View
+view_after v (Reserve k) = record v { own = Some (fresh k); made = v.made ++ Reserve k ∷ [] }
+view_after v (PutWord x) = record v { own = option_map (putting x) v.own; made = v.made ++ PutWord x ∷ [] }
+view_after v (PutLink l) = record v { own = option_map (linking l) v.own; made = v.made ++ PutLink l ∷ [] }
+view_after v Link = record v { own = option_map linked_own v.own; walk = None; made = v.made ++ Link ∷ [] }
+view_after v Validate = record v { own = None; held = v.held ++ held_own v.own; made = v.made ++ Validate ∷ [] }
+view_after v Release = record v { own = None; made = v.made ++ Release ∷ [] }
+view_after v (Refused k old found) = record v { pass = option_map (counting v.size.slots k) v.pass; made = v.made ++ Refused k old found ∷ [] }
+view_after v (Start h x) = record v { walk = Some (starting h x); made = v.made ++ Start h x ∷ [] }
+view_after v (Read x) = record v { walk = option_map (reading x) v.walk; made = v.made ++ Read x ∷ [] }
+view_after v (Next x) = record v { walk = option_map (going_on x) v.walk; made = v.made ++ Next x ∷ [] }
+view_after v Hold = record v { held = v.held ++ held_at_hand v.walk; walk = None; made = v.made ++ Hold ∷ [] }
+view_after v (Keep those) = record v { held = those; made = v.made ++ Keep those ∷ [] }
+view_after v (Fix a) = record v { fixed = v.fixed ++ a ∷ []; made = v.made ++ Fix a ∷ [] }
+view_after v (StartPass x) = record v { pass = Some (record { began = x; first = 0; counted = 0 }); made = v.made ++ StartPass x ∷ [] }
+view_after v (EndPass x) = record v { pass = None; refusals = v.refusals ++ full v x v.pass; made = v.made ++ EndPass x ∷ [] }
+view_after v (Refuse r) = record v { refusals = v.refusals ++ r ∷ []; made = v.made ++ Refuse r ∷ [] }
+view_after v (Ask t) = record v { asked = v.asked ++ t ∷ []; made = v.made ++ Ask t ∷ [] }
+view_after v (Protect k x) = record v { walk = option_map (guarding k x) v.walk; made = v.made ++ Protect k x ∷ [] }
+view_after v (Fetch k) = record v { held = v.held ++ held_counted k v.counts; made = v.made ++ Fetch k ∷ [] }
+view_after v (Register a) = record v { counts = option_map (once_more a) v.counts; made = v.made ++ Register a ∷ [] }
+view_after v (Unregister k) = record v { counts = option_map (once_less k) v.counts; made = v.made ++ Unregister k ∷ [] }
+view_after v kind = record v { made = v.made ++ kind ∷ [] }
+
+-- the view after several steps
+abbrev pub after : View → List Kind → View
+after v [] = v
+after v (kind ∷ kinds) = after (view_after v kind) kinds
+
+-- A walk went to the end of the chain of the text's bucket, and saw the text in no slot
+abbrev pub Ended : ℕ → Own → Walk → Type 0
+Ended row o w = (bucket row o.text ≡ w.head) × (w.place ≡ 0) × ((i : ℕ) (a : Held) → get_elem? w.seen i ≡ some a → a.text ≢ take (length a.text) o.text)
+
+-- A refusal's cause, as a step finds it
+abbrev pub Shows : Size → Board → View → Refusal → Type 0
+Shows z b v (Full p) = ⊥
+Shows z b v (Again (Moved old new)) = (w : Walk) × (v.walk ≡ Some w) × (w.word ≡ old) × (w.head < z.heads) × (head b w.head ≡ new) × (version_of new ≢ version_of old)
+Shows z b v (Again (Pending k x)) = (w : Walk) × (v.walk ≡ Some w) × (w.place ≡ k + 1) × (k < z.slots) × (atom b k ≡ x) × (state_of x ≡ 1) × ((o : Own) → v.own ≡ Some o → o.slot ≢ k)
+Shows z b v (Again (Closed x)) = (h : ℕ) × (h < z.heads) × (head b h ≡ x) × (closed_of x ≡ 1)
+Shows z b v (Worn w) = (w.head < z.heads) × (head b w.head ≡ w.word) × (worn ≤ version_of w.word) × (w.start ≡ z.start)
+
+-- WHAT A STEP ASKS AND DOES: the seat's step of this kind makes b' of the words b. The kinds of the cycle, of unlinking and of growth are still to come
+abbrev pub Does : Size → Board → View → Kind → Board → Type 0
+Does z b v (Reserve k) b' = (k < z.slots) × (v.own ≡ None) × (state_of (atom b k) ≡ 0) × (b' ≡ with_atom b k 1)
+Does z b v (PutWord x) b' = (o : Own) × (v.own ≡ Some o) × (o.linked ≡ false) × (length o.text < 32) × (b' ≡ with_text b (32 * o.slot + length o.text) x)
+Does z b v (PutLink l) b' = (o : Own) × (v.own ≡ Some o) × (o.linked ≡ false) × (b' ≡ with_link b o.slot l)
+Does z b v Link b' = (o : Own) × (w : Walk) × (v.own ≡ Some o) × (v.walk ≡ Some w) × (o.linked ≡ false) × (length o.text ≡ 32) × (o.link ≡ Some (first_of w.word)) × Ended b.row o w
+    × (head b w.head ≡ w.word) × (closed_of w.word ≡ 0) × (version_of w.word < worn) × (b' ≡ with_head b w.head (head_word (o.slot + 1) 0 (version_of w.word + 1)))
+Does z b v Validate b' = (o : Own) × (v.own ≡ Some o) × (o.linked ≡ true) × (b' ≡ with_atom b o.slot 7)
+Does z b v Release b' = (o : Own) × (v.own ≡ Some o) × (o.linked ≡ false) × (b' ≡ with_atom b o.slot 0)
+Does z b v (Load i x) b' = (slice_index (laid b) i ≡ x) × (b' ≡ b)
+Does z b v (Refused k old found) b' = (k < z.slots) × (atom b k ≡ found) × (state_of old ≡ 0) × (found ≢ old) × (b' ≡ b)
+Does z b v (Start h x) b' = (h < z.heads) × (head b h ≡ x) × (b' ≡ b)
+Does z b v (Read x) b' = (w : Walk) × (k : ℕ) × (v.walk ≡ Some w) × (w.place ≡ k + 1) × (length w.part < 32) × (slice_index (text_of b.texts k) (length w.part) ≡ x) × (b' ≡ b)
+Does z b v (Next x) b' = (w : Walk) × (k : ℕ) × (v.walk ≡ Some w) × (w.place ≡ k + 1) × (link b k ≡ x) × (b' ≡ b)
+Does z b v Hold b' = (w : Walk) × (k : ℕ) × (v.walk ≡ Some w) × (w.place ≡ k + 1) × (w.guarded ≡ true) × (length w.part ≡ 32) × (version_of (head b w.head) ≡ version_of w.word) × (b' ≡ b)
+Does z b v (Keep those) b' = ((a : Held) → In a those → In a v.held) × (b' ≡ b)
+Does z b v (Fix a) b' = In a v.held × (a.slot < 256) × (b' ≡ b)
+Does z b v (StartPass x) b' = (b.epoch ≡ x) × (b' ≡ b)
+Does z b v (EndPass x) b' = (p : Passing) × (v.pass ≡ Some p) × (b.epoch ≡ x) × (b' ≡ b)
+Does z b v (Refuse r) b' = Shows z b v r × (b' ≡ b)
+Does z b v (Ask t) b' = b' ≡ b
+Does z b v (Protect k x) b' = (k < z.slots) × (atom b k ≡ x) × (b' ≡ with_atom b k (marked x))
+Does z b v (Fetch k) b' = (cs : List Counted) × (v.counts ≡ Some cs) × (k < z.slots) × (0 < (counted cs k).count) × (b' ≡ with_atom b k (marked (atom b k)))
+Does z b v (Register a) b' = (cs : List Counted) × (v.counts ≡ Some cs) × (In a v.held ⊎ In a v.fixed) × ((counted cs a.slot).count < 2305843009213693951) × (b' ≡ with_atom b a.slot (atom b a.slot + 8))
+Does z b v (Unregister k) b' = (cs : List Counted) × (v.counts ≡ Some cs) × (k < z.slots) × (0 < (counted cs k).count) × (b' ≡ with_atom b k (atom b k - 8))
+Does z b v kind b' = ⊥

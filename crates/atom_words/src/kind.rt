@@ -1,0 +1,86 @@
+//! The kinds of steps.
+use crate::view::{Held, Refusal};
+use std::collections::LinkedList;
+
+/// The kind of a step. `specs/Kinds.antt` says what each asks and does. No value of it is made.
+#[derive(Drop)]
+pub enum Kind {
+    // Birth
+    /// Takes a free slot.
+    Reserve(u64),
+    /// Puts the next word of the text of the seat's own slot.
+    PutWord(u64),
+    /// Puts the link word of the seat's own slot.
+    PutLink(u64),
+    /// Links the seat's own slot in front of its bucket's chain.
+    Link,
+    /// Makes the seat's own slot valid; it is then held.
+    Validate,
+    /// Gives the seat's own slot back.
+    Release,
+
+    // Use: loads, by what the seat keeps of them
+    /// The word at that place was that number.
+    Load(u64, u64),
+    /// A slot was not free, or the exchange from that free word was lost: the slot, the word that was expected, the word that was found.
+    Refused(u64, u64, u64),
+    /// A walk begins at that head, whose word is that number.
+    Start(u64, u64),
+    /// The walk reads the next word of the text at hand.
+    Read(u64),
+    /// The walk goes on, by the link word that it reads.
+    Next(u64),
+    /// The walk ends at its version, and holds the slot at hand.
+    Hold,
+    /// Only these slots are held on.
+    Keep(LinkedList<Held>),
+    /// A held slot becomes one of the fixed atoms.
+    Fix(Held),
+    /// A pass over all slots begins, at that epoch word.
+    StartPass(u64),
+    /// The pass at hand ends, at that epoch word.
+    EndPass(u64),
+    /// A try is refused with that cause.
+    Refuse(Refusal),
+    /// A text is asked of the seat.
+    Ask(LinkedList<u64>),
+    // Use: the others
+    /// Sets a slot's mark: the slot, and the word that was found.
+    Protect(u64, u64),
+    /// Sets the mark of a held or fixed slot.
+    Scan(u64),
+    /// Sets the mark of a counted slot, which is held from then on.
+    Fetch(u64),
+    /// The keeper counts a held or fixed slot once more.
+    Register(Held),
+    /// The keeper counts a slot once less.
+    Unregister(u64),
+    /// A new seat is made.
+    Make,
+    /// The seat is split.
+    Split,
+    /// The seat takes in another.
+    Join,
+
+    // Cycle
+    Begin,
+    Ack,
+    Check(u64),
+    ToSweep,
+    Condemn,
+    Pass,
+
+    // Unlinking
+    UnlinkAt(u64),
+    UnlinkHead,
+    Bump,
+    Free,
+    End,
+
+    // Growth
+    Close(u64),
+    MoveHead(u64),
+    MoveLink(u64),
+    Publish(u64),
+    PublishRow(u64),
+}

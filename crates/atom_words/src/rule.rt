@@ -1,0 +1,22 @@
+//! The rule of the table, and what every state that it allows keeps.
+ghost use Rattle.std.specs.Prelude.{ℕ, List};
+ghost use Rattle.atom_words.specs.Board.{Board};
+ghost use Rattle.atom_words.specs.Rule.{Reached};
+ghost use Rattle.atom_words.specs.Kept.{Kept};
+ghost use Rattle.atom_words.specs.declared.view.View.{View};
+
+use crate::size::Size;
+use crate::view::View;
+use atomic_table::TableRule;
+
+/// The rule: the state was reached by steps of the kinds.
+pub struct AtomRule;
+
+impl TableRule<(), View, Size> for AtomRule {
+    ghost use Rattle.atom_words.specs.Rule.{Rule};
+    ghost use Rattle.atom_words.specs.Views.{first_view};
+
+    ghost holds = { Rule };
+
+    ghost first = { first_view };
+}

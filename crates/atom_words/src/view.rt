@@ -1,0 +1,143 @@
+//! What a seat knows. Of `View` and its parts no value is made but of what answers carry: contracts and the rule speak of them.
+use crate::kind::Kind;
+use crate::size::Size;
+use std::collections::LinkedList;
+
+/// A slot with the words of its text.
+#[derive(Drop)]
+pub struct Held {
+    pub slot: u64,
+    pub text: LinkedList<u64>,
+}
+
+/// How often the stored clauses and messages name a slot, and the words of its text.
+#[derive(Drop)]
+pub struct Counted {
+    pub count: u64,
+    pub text: LinkedList<u64>,
+}
+
+/// The slot that the seat has reserved.
+#[derive(Drop)]
+pub struct Own {
+    pub slot: u64,
+    /// The words of its text that are put.
+    pub text: LinkedList<u64>,
+    /// What its link word holds, once the seat has put it.
+    pub link: Option<u64>,
+    pub linked: bool,
+}
+
+/// The walk at hand over the chain of one bucket.
+#[derive(Drop)]
+pub struct Walk {
+    pub head: u64,
+    /// The head's word as the walk found it.
+    pub word: u64,
+    /// 0 at the end, or 1 more than the slot at hand.
+    pub place: u64,
+    /// What is read of the text of the slot at hand.
+    pub part: LinkedList<u64>,
+    /// The slot at hand was protected, and was valid.
+    pub guarded: bool,
+    /// The slots that the walk has passed, each with what it read of the text.
+    pub seen: LinkedList<Held>,
+}
+
+/// The pass at hand over all slots, which counts those that are taken.
+#[derive(Drop)]
+pub struct Passing {
+    /// The epoch word as the pass began.
+    pub began: u64,
+    /// The slot that was counted first.
+    pub first: u64,
+    /// How many were counted, from the first on, where slot 0 follows the last one.
+    pub counted: u64,
+}
+
+/// A pass that counted every slot as taken.
+#[derive(Clone, Copy, Debug, PartialEq, Eq, Drop)]
+pub struct Pass {
+    counted: u64,
+    seat: u64,
+    began: u64,
+    ended: u64,
+}
+
+/// A head whose version is one of the last two, so that its bucket takes no new atom.
+#[derive(Clone, Copy, Debug, PartialEq, Eq, Drop)]
+pub struct WornWord {
+    head: u64,
+    word: u64,
+    start: u64,
+}
+
+/// Why an attempt to intern a text is to be made again.
+#[derive(Clone, Copy, Debug, PartialEq, Eq, Drop)]
+pub enum Cause {
+    /// The head was loaded with two versions.
+    Moved { old: u64, new: u64 },
+    /// That slot of the chain was read reserved, by another seat.
+    Pending { index: u32, word: u64 },
+    /// The head was read closed.
+    Closed { word: u64 },
+}
+
+/// What was refused to a seat.
+#[derive(Clone, Copy, Debug, PartialEq, Eq, Drop)]
+pub enum Refusal {
+    Full(Pass),
+    Again(Cause),
+    Worn(WornWord),
+}
+
+/// What the seat of an engine knows of the cycle of collection.
+#[derive(Drop)]
+pub struct Cycling {
+    /// The engine's number, from 1, or 0.
+    pub engine: u64,
+    /// The last epoch that it acknowledged.
+    pub acked: u64,
+    /// The epoch in which it scanned last.
+    pub scanned_at: u64,
+    pub scanned: LinkedList<u64>,
+}
+
+/// What the collector's seat knows.
+#[derive(Drop)]
+pub struct Sweeping {
+    pub cursor: u64,
+    /// How many engines it has found to have acknowledged this epoch.
+    pub checked: u64,
+    /// 0, or 1 more than the slot that it has condemned.
+    pub dying: u64,
+    /// The version of that slot's head at the unlinking.
+    pub unlinked_at: Option<u64>,
+    /// 0, or 1 more than the slot that it is moving to another row.
+    pub moving: u64,
+}
+
+/// What a seat knows.
+#[derive(Drop)]
+pub struct View {
+    /// Another seat has taken this one in.
+    pub gone: bool,
+    pub size: Size,
+    pub own: Option<Own>,
+    pub held: LinkedList<Held>,
+    /// The fixed atoms, which are used without being held.
+    pub fixed: LinkedList<Held>,
+    /// The keeper's counts, one for each slot.
+    pub counts: Option<LinkedList<Counted>>,
+    pub walk: Option<Walk>,
+    pub pass: Option<Passing>,
+    pub refusals: LinkedList<Refusal>,
+    /// The texts that were asked of this seat.
+    pub asked: LinkedList<LinkedList<u64>>,
+    /// How many engines have no seat yet.
+    pub undealt: u64,
+    pub cycle: Cycling,
+    pub sweep: Option<Sweeping>,
+    /// The steps that it has made.
+    pub made: LinkedList<Kind>,
+}
