@@ -116,7 +116,7 @@ pub keep_atom : (z : Size) (b : Board) (vs : List View) (r : Kept z b vs) (owner
     → SeatOk z (with_atom b k x) (record r.plan { owner = owner' }) id w → Kept z (with_atom b k x) (set vs id w)
 keep_atom z b vs r owner' id k x w soft mine = record {
   plan = record r.plan { owner = owner' };
-  sized = record { acks = r.sized.acks; atoms = length-set b.atoms k x ∙ r.sized.atoms; links = r.sized.links; heads = r.sized.heads; texts = r.sized.texts };
+  sized = record { small = r.sized.small; acks = r.sized.acks; atoms = length-set b.atoms k x ∙ r.sized.atoms; links = r.sized.links; heads = r.sized.heads; texts = r.sized.texts };
   row = r.row;
   rows = r.rows;
   slots = soft_slots z b.atoms r.plan owner' id k x soft r.slots;

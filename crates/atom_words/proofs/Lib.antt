@@ -3,3 +3,7 @@ pub mod Regions
 pub mod Slices
 pub mod Frames
 pub mod Loads
+pub mod Puts
+pub mod AtomSteps
+pub mod TextSteps
+pub mod LinkStep

@@ -1,5 +1,5 @@
 -- The words of a table, by region.
-use Rattle.std.specs.Prelude.{◌≡◌, ℕ, ◌+◌, ◌*◌, List, [], ◌∷◌, ◌++◌, length, take, drop, set, slice_index}
+use Rattle.std.specs.Prelude.{◌≡◌, ℕ, ◌+◌, ◌*◌, ◌<◌, List, [], ◌∷◌, ◌++◌, length, take, drop, set, slice_index}
 use Rattle.atom_words.specs.declared.size.Size.{Size}
 
 pub record Board : Type 0 where
@@ -22,6 +22,8 @@ abbrev pub laid : Board → List ℕ
 laid b = (b.epoch ∷ b.row ∷ b.acks) ++ (b.atoms ++ (b.links ++ (b.heads ++ b.texts)))
 
 pub record Sized (z : Size) (b : Board) : Type 0 where
+  -- a slot's number plus one fits the 21 bits of a head
+  pub small : z.slots + 1 < 2097152
   pub acks : length b.acks ≡ z.engines
   pub atoms : length b.atoms ≡ z.slots
   pub links : length b.links ≡ z.slots

@@ -1,0 +1,198 @@
+-- Linking a slot in front of its bucket's chain keeps the rule.
+use Rattle.std.proofs.Common.{◌≡◌, ◌≢◌, ◌⊎◌, ℕ, ◌+◌, ◌-◌, ◌*◌, ◌/◌, ◌%◌, ◌<◌, ◌≤◌, true, false, List, [], ◌∷◌, ◌++◌, length, get_or, set, take, refl, sym, ap, ◌∙◌, subst, inl, inr, ⊎_elim, arith, Option, Some, None, length-set, take_all, get_or-set_same, get_or-set_other}
+use mathlib.Core.Option.{some}
+use native.Mathlib.Decide.{ℕ_discrete}
+use lib.ListN.{get_elem?}
+use Rattle.atom_words.specs.Layout.{state_of, first_of, version_of, head_word, worn}
+use Rattle.atom_words.specs.Texts.{bucket}
+use Rattle.atom_words.specs.Board.{Board, Sized, text_of, with_head}
+use Rattle.atom_words.specs.Chains.{In, Chain, Linked}
+use Rattle.atom_words.specs.Kinds.{linked_own, view_after, Ended, Does}
+use Rattle.atom_words.specs.Kept.{Plan, OwnOk, HeldOk, CountsOk, Seen, Unwalked, WalkOk, SeatOk, Rows, Slots, Kept}
+use Rattle.atom_words.specs.declared.size.Size.{Size}
+use Rattle.atom_words.specs.declared.view.Held.{Held}
+use Rattle.atom_words.specs.declared.view.Counted.{Counted}
+use Rattle.atom_words.specs.declared.view.Own.{Own}
+use Rattle.atom_words.specs.declared.view.Walk.{Walk}
+use Rattle.atom_words.specs.declared.view.View.{View}
+use Rattle.atom_words.specs.declared.kind.Kind.TheVariants.{Link}
+use Rattle.atom_words.proofs.Layouts.{first-head_word, version-head_word}
+use Rattle.atom_words.proofs.Slices.{some_same, in_none, in_later, in_cases, text_short, word_after}
+use Rattle.atom_words.proofs.Puts.{put, put_here, put_else, unmapped}
+use Rattle.atom_words.proofs.Frames.{seats_stay}
+
+-- THE SLOT k STANDS IN FRONT OF THE CHAIN OF h
+module _ (z : Size) (chain : ℕ → List ℕ) (h k : ℕ) (inside : h < z.heads) where
+  abbrev pub longer : ℕ → List ℕ
+  longer = put chain h (k ∷ chain h)
+
+  at_h : put chain h (k ∷ chain h) h ≡ k ∷ chain h
+  at_h = put_here chain h (k ∷ chain h)
+
+  at_else : (g : ℕ) → g ≢ h → put chain h (k ∷ chain h) g ≡ chain g
+  at_else g ne = put_else chain h (k ∷ chain h) g ne
+
+  pub still_linked : (q : ℕ) → Linked z.heads chain q → Linked z.heads (put chain h (k ∷ chain h)) q
+  still_linked q l = (l.0, l.1, elim (ℕ_discrete l.0 h) as (λ _. In q (put chain h (k ∷ chain h) l.0)) [
+    | yes e ↦ subst (λ (g : ℕ). In q (put chain h (k ∷ chain h) g)) (sym e) (subst (In q) (sym at_h) (in_later q k (chain h) (subst (λ (g : ℕ). In q (chain g)) e l.2)))
+    | no ne ↦ subst (In q) (sym (at_else l.0 ne)) l.2
+  ])
+
+  pub now_linked : Linked z.heads (put chain h (k ∷ chain h)) k
+  now_linked = (h, inside, subst (In k) (sym at_h) (0, refl))
+
+  pub was_linked : (q : ℕ) → Linked z.heads (put chain h (k ∷ chain h)) q → (k ≡ q) ⊎ Linked z.heads chain q
+  was_linked q l = elim (ℕ_discrete l.0 h) as (λ _. (k ≡ q) ⊎ Linked z.heads chain q) [
+    | yes e ↦ ⊎_elim (λ (t : k ≡ q). inl t) (λ (t : In q (chain h)). inr (h, inside, t)) (in_cases q k (chain h) (subst (In q) at_h (subst (λ (g : ℕ). In q (put chain h (k ∷ chain h) g)) e l.2)))
+    | no ne ↦ inr (l.0, l.1, subst (In q) (at_else l.0 ne) l.2)
+  ]
+
+  held_linked : (atoms texts : List ℕ) (a : Held) → HeldOk z atoms texts chain a → HeldOk z atoms texts (put chain h (k ∷ chain h)) a
+  held_linked atoms texts a ok = record { inside = ok.inside; valid = ok.valid; linked = still_linked a.slot ok.linked; text = ok.text }
+
+  counts_linked : (atoms texts : List ℕ) (keeper j : ℕ) (cs : List Counted) → CountsOk z atoms texts chain keeper j cs → CountsOk z atoms texts (put chain h (k ∷ chain h)) keeper j cs
+  counts_linked atoms texts keeper j cs ok = record { mine = ok.mine; each_slot = ok.each_slot; counts = ok.counts; live = λ q c at some_. held_linked atoms texts (record { slot = q; text = c.text }) (ok.live q c at some_) }
+
+  -- a walk over that chain knows nothing any more, since the version has moved; the others are not concerned
+  walk_linked : (atoms links heads texts : List ℕ) (n : ℕ) (w : Walk) → h < length heads → version_of n ≡ version_of (get_or heads h 0) + 1 → WalkOk z atoms links heads texts chain w
+      → WalkOk z atoms links (set heads h n) texts (put chain h (k ∷ chain h)) w
+  walk_linked atoms links heads texts n w there moved ok = let past = ok.past in record {
+    inside = ok.inside;
+    short = ok.short;
+    past = word_after (λ y. version_of w.word ≤ version_of y) heads h n w.head there
+        (λ e. let here : version_of w.word ≤ version_of (get_or heads h 0) = subst (λ (g : ℕ). version_of w.word ≤ version_of (get_or heads g 0)) e past in omega arith) (λ _. past);
+    claim = λ same. elim (ℕ_discrete w.head h) as (λ _. Unwalked atoms links texts w (put chain h (k ∷ chain h) w.head)) [
+      | yes e ↦ absurd (let here : version_of w.word ≤ version_of (get_or heads h 0) = subst (λ (g : ℕ). version_of w.word ≤ version_of (get_or heads g 0)) e past in
+          let now : version_of n ≡ version_of w.word = sym (ap version_of (get_or-set_same heads h n 0 there)) ∙ (ap (λ (g : ℕ). version_of (get_or (set heads h n) g 0)) (sym e) ∙ same) in omega arith)
+      | no ne ↦ subst (Unwalked atoms links texts w) (sym (at_else w.head ne)) (ok.claim (ap version_of (sym (get_or-set_other heads h w.head n 0 ne)) ∙ same))
+    ];
+  }
+
+module _ (z : Size) (b : Board) (vs : List View) (r : Kept z b vs) (id : ℕ) (v : View) (s : SeatOk z b r.plan id v) (o : Own) (w : Walk) (own : v.own ≡ Some o) (walk : v.walk ≡ Some w)
+    (unlinked : o.linked ≡ false) (whole : length o.text ≡ 32) (link : o.link ≡ Some (first_of w.word)) (ended : Ended b.row o w) (found : get_or b.heads w.head 0 ≡ w.word) (fresh : version_of w.word < worn) where
+  ok : OwnOk z b.atoms b.links b.texts r.plan.chain r.plan.owner id o
+  ok = s.own o own
+
+  walked : WalkOk z b.atoms b.links b.heads b.texts r.plan.chain w
+  walked = s.walk w walk
+
+  abbrev n : ℕ
+  n = head_word (o.slot + 1) 0 (version_of w.word + 1)
+
+  abbrev chain' : ℕ → List ℕ
+  chain' = put r.plan.chain w.head (o.slot ∷ r.plan.chain w.head)
+
+  abbrev place' : ℕ → ℕ
+  place' = put r.plan.place o.slot w.head
+
+  there : w.head < length b.heads
+  there = let i = walked.inside in omega (arith, r.sized.heads)
+
+  first_is : first_of (head_word (o.slot + 1) 0 (version_of w.word + 1)) ≡ o.slot + 1
+  first_is = let i = ok.inside in let sm = r.sized.small in first-head_word (o.slot + 1) 0 (version_of w.word + 1) (omega arith) (omega arith)
+
+  version_is : version_of (head_word (o.slot + 1) 0 (version_of w.word + 1)) ≡ version_of (get_or b.heads w.head 0) + 1
+  version_is = let i = ok.inside in let sm = r.sized.small in version-head_word (o.slot + 1) 0 (version_of w.word + 1) (omega arith) (omega arith) ∙ ap (λ (y : ℕ). version_of y + 1) (sym found)
+
+  text_is : text_of b.texts o.slot ≡ o.text
+  text_is = let short = text_short b.texts o.slot in sym (take_all (length o.text) (text_of b.texts o.slot) (omega arith)) ∙ ok.text
+
+  apart : (q : ℕ) → Linked z.heads r.plan.chain q → q ≢ o.slot
+  apart q l e = ok.apart unlinked (subst (Linked z.heads r.plan.chain) e l)
+
+  -- no slot of the chain has the text
+  new_text : (q : ℕ) → In q (r.plan.chain w.head) → text_of b.texts q ≢ o.text
+  new_text q i e = let u = walked.claim (ap version_of found) in ⊎_elim
+      (λ (t : Seen b.texts w.seen q). ended.2 t.0 t.1 t.2 (sym t.4 ∙ ap (take (length t.1.text)) e))
+      (λ (t : In q u.path). in_none q (subst (In q) (over u.path u.reached) t))
+      (u.each q i)
+    where
+      over : (path : List ℕ) → Chain b.links w.place path → path ≡ []
+      over [] c = refl
+      over (k ∷ ks) c = absurd (let at : w.place ≡ k + 1 = c.0 in omega (arith, ended.1))
+
+  -- facts of each slot of a chain, by whether it is the new one
+  on_chain : (P : ℕ → ℕ → Type 0) → P w.head o.slot → ((g q : ℕ) → g < z.heads → In q (r.plan.chain g) → P g q) → (g q : ℕ) → g < z.heads → In q (put r.plan.chain w.head (o.slot ∷ r.plan.chain w.head) g) → P g q
+  on_chain P new old g q inside i = elim (ℕ_discrete g w.head) as (λ _. P g q) [
+    | yes e ↦ subst (λ (y : ℕ). P y q) (sym e) (⊎_elim (λ (t : o.slot ≡ q). subst (P w.head) t new) (λ (t : In q (r.plan.chain w.head)). old w.head q walked.inside t)
+        (in_cases q o.slot (r.plan.chain w.head) (subst (In q) (put_here r.plan.chain w.head (o.slot ∷ r.plan.chain w.head)) (subst (λ (y : ℕ). In q (put r.plan.chain w.head (o.slot ∷ r.plan.chain w.head) y)) e i))))
+    | no ne ↦ old g q inside (subst (In q) (put_else r.plan.chain w.head (o.slot ∷ r.plan.chain w.head) g ne) i)
+  ]
+
+  rows_linked : Rows z b.row b.links (set b.heads w.head (head_word (o.slot + 1) 0 (version_of w.word + 1))) b.texts (put r.plan.chain w.head (o.slot ∷ r.plan.chain w.head)) (put r.plan.place o.slot w.head)
+  rows_linked = record {
+    chains = λ g inside. elim (ℕ_discrete g w.head) as (λ _. Chain b.links (first_of (get_or (set b.heads w.head n) g 0)) (put r.plan.chain w.head (o.slot ∷ r.plan.chain w.head) g)) [
+      | yes e ↦ subst (λ (y : ℕ). Chain b.links (first_of (get_or (set b.heads w.head n) y 0)) (put r.plan.chain w.head (o.slot ∷ r.plan.chain w.head) y)) (sym e)
+          (subst (Chain b.links (first_of (get_or (set b.heads w.head n) w.head 0))) (sym (put_here r.plan.chain w.head (o.slot ∷ r.plan.chain w.head)))
+          (ap first_of (get_or-set_same b.heads w.head n 0 there) ∙ first_is, omega (arith, ok.inside, r.sized.links),
+          subst (λ (y : ℕ). Chain b.links y (r.plan.chain w.head)) (ap first_of found ∙ sym (ok.link (first_of w.word) link unlinked)) (r.rows.chains w.head walked.inside)))
+      | no ne ↦ subst (Chain b.links (first_of (get_or (set b.heads w.head n) g 0))) (sym (put_else r.plan.chain w.head (o.slot ∷ r.plan.chain w.head) g ne))
+          (subst (λ (y : ℕ). Chain b.links (first_of y) (r.plan.chain g)) (sym (get_or-set_other b.heads w.head g n 0 ne)) (r.rows.chains g inside))
+    ];
+    once = on_chain (λ g q. put r.plan.place o.slot w.head q ≡ g) (put_here r.plan.place o.slot w.head)
+        (λ g q inside i. put_else r.plan.place o.slot w.head q (apart q (g, inside, i)) ∙ r.rows.once g q inside i);
+    stands = on_chain (λ g q. bucket b.row (text_of b.texts q) ≡ g) (ap (bucket b.row) text_is ∙ ended.0) r.rows.stands;
+    unlike = λ g k q inside i j e. elim (ℕ_discrete g w.head) as (λ _. k ≡ q) [
+      | yes is ↦ let here : (y : ℕ) → In y (put r.plan.chain w.head (o.slot ∷ r.plan.chain w.head) g) → (o.slot ≡ y) ⊎ In y (r.plan.chain w.head) =
+            (λ y l. in_cases y o.slot (r.plan.chain w.head) (subst (In y) (put_here r.plan.chain w.head (o.slot ∷ r.plan.chain w.head)) (subst (λ (x : ℕ). In y (put r.plan.chain w.head (o.slot ∷ r.plan.chain w.head) x)) is l))) in
+          ⊎_elim
+          (λ (a : o.slot ≡ k). ⊎_elim (λ (c : o.slot ≡ q). sym a ∙ c) (λ (c : In q (r.plan.chain w.head)). absurd (new_text q c (sym e ∙ (ap (text_of b.texts) (sym a) ∙ text_is)))) (here q j))
+          (λ (a : In k (r.plan.chain w.head)). ⊎_elim (λ (c : o.slot ≡ q). absurd (new_text k a (e ∙ (ap (text_of b.texts) (sym c) ∙ text_is)))) (λ (c : In q (r.plan.chain w.head)). r.rows.unlike w.head k q walked.inside a c e) (here q j))
+          (here k i)
+      | no ne ↦ r.rows.unlike g k q inside (subst (In k) (put_else r.plan.chain w.head (o.slot ∷ r.plan.chain w.head) g ne) i) (subst (In q) (put_else r.plan.chain w.head (o.slot ∷ r.plan.chain w.head) g ne) j) e
+    ];
+  }
+
+  slots_linked : Slots z b.atoms (put r.plan.chain w.head (o.slot ∷ r.plan.chain w.head))
+  slots_linked = record {
+    live = λ q l. ⊎_elim (λ (t : o.slot ≡ q). subst (λ (y : ℕ). state_of (get_or b.atoms y 0) ≢ 0) t (λ e. let one = ok.state in omega arith)) (r.slots.live q) (was_linked z r.plan.chain w.head o.slot walked.inside q l);
+    zero = r.slots.zero;
+  }
+
+  abbrev plan' : Plan
+  plan' = record r.plan { chain = put r.plan.chain w.head (o.slot ∷ r.plan.chain w.head); place = put r.plan.place o.slot w.head }
+
+  others_linked : (j : ℕ) (y : View) → j ≢ id → SeatOk z b r.plan j y → SeatOk z (with_head b w.head n) plan' j y
+  others_linked j y other sj = record {
+    size = sj.size;
+    own = λ m e. let k = sj.own m e in record { inside = k.inside; mine = k.mine; state = k.state; short = k.short; text = k.text; link = k.link;
+        apart = λ un l. ⊎_elim (λ (t : o.slot ≡ m.slot). other (sym k.mine ∙ (ap r.plan.owner (sym t) ∙ ok.mine))) (k.apart un) (was_linked z r.plan.chain w.head o.slot walked.inside m.slot l);
+        linked = λ on. let t = k.linked on in (still_linked z r.plan.chain w.head o.slot walked.inside m.slot t.0, t.1) };
+    held = λ i a e. held_linked z r.plan.chain w.head o.slot walked.inside b.atoms b.texts a (sj.held i a e);
+    fixed = λ i a e. held_linked z r.plan.chain w.head o.slot walked.inside b.atoms b.texts a (sj.fixed i a e);
+    counts = λ cs e. counts_linked z r.plan.chain w.head o.slot walked.inside b.atoms b.texts r.plan.keeper j cs (sj.counts cs e);
+    walk = λ t e. walk_linked z r.plan.chain w.head o.slot walked.inside b.atoms b.links b.heads b.texts n t there version_is (sj.walk t e);
+  }
+
+  mine_linked : SeatOk z (with_head b w.head n) plan' id (view_after v Link)
+  mine_linked = record {
+    size = s.size;
+    own = λ m e. let was = unmapped linked_own v.own m e in let same : o ≡ was.0 = some_same o was.0 v.own own was.1 in
+        subst (λ y. OwnOk z b.atoms b.links b.texts (put r.plan.chain w.head (o.slot ∷ r.plan.chain w.head)) r.plan.owner id y) (ap linked_own same ∙ was.2) record {
+          inside = ok.inside;
+          mine = ok.mine;
+          state = ok.state;
+          short = ok.short;
+          text = ok.text;
+          link = λ l is no. cc;
+          apart = λ no. cc;
+          linked = λ _. (now_linked z r.plan.chain w.head o.slot walked.inside, whole);
+        };
+    held = λ i a e. held_linked z r.plan.chain w.head o.slot walked.inside b.atoms b.texts a (s.held i a e);
+    fixed = λ i a e. held_linked z r.plan.chain w.head o.slot walked.inside b.atoms b.texts a (s.fixed i a e);
+    counts = λ cs e. counts_linked z r.plan.chain w.head o.slot walked.inside b.atoms b.texts r.plan.keeper id cs (s.counts cs e);
+    walk = λ t e. cc;
+  }
+
+  pub link_at : Kept z (with_head b w.head (head_word (o.slot + 1) 0 (version_of w.word + 1))) (set vs id (view_after v Link))
+  link_at = record {
+    plan = plan';
+    sized = record { small = r.sized.small; acks = r.sized.acks; atoms = r.sized.atoms; links = r.sized.links; heads = length-set b.heads w.head n ∙ r.sized.heads; texts = r.sized.texts };
+    row = r.row;
+    rows = rows_linked;
+    slots = slots_linked;
+    seats = seats_stay (SeatOk z (with_head b w.head n) plan') vs id (view_after v Link) (λ _. mine_linked) (λ j y other at here. others_linked j y other (r.seats j y at here));
+  }
+
+pub keep_link : (z : Size) (b : Board) (vs : List View) (r : Kept z b vs) (id : ℕ) (v : View) → SeatOk z b r.plan id v → (b' : Board) → Does z b v Link b' → Kept z b' (set vs id (view_after v Link))
+keep_link z b vs r id v s b' d = subst (λ y. Kept z y (set vs id (view_after v Link))) (sym d.11) (link_at z b vs r id v s d.0 d.1 d.2 d.3 d.4 d.5 d.6 d.7 d.8 d.10)

@@ -1,0 +1,172 @@
+-- A step on a text word or on a link word of the seat's own slot keeps the rule.
+use Rattle.std.proofs.Common.{◌≡◌, ◌≢◌, ◌⊎◌, ℕ, ◌+◌, ◌-◌, ◌*◌, ◌/◌, ◌%◌, ◌<◌, ◌≤◌, true, false, List, [], ◌∷◌, ◌++◌, length, get_or, set, take, refl, sym, ap, ◌∙◌, subst, inl, inr, ⊎_elim, arith, Option, Some, None, length-set, length-append, get_or-set_same, get_or-set_other}
+use mathlib.Core.Option.{some}
+use lib.ListN.{get_elem?}
+use Rattle.atom_words.specs.Layout.{state_of, first_of, version_of}
+use Rattle.atom_words.specs.Texts.{bucket}
+use Rattle.atom_words.specs.Board.{Board, Sized, text_of, with_text, with_link}
+use Rattle.atom_words.specs.Chains.{In, Chain, Linked}
+use Rattle.atom_words.specs.Kinds.{putting, linking, view_after, Does}
+use Rattle.atom_words.specs.Kept.{Plan, OwnOk, HeldOk, CountsOk, Seen, Unwalked, WalkOk, SeatOk, Rows, Kept}
+use Rattle.atom_words.specs.declared.size.Size.{Size}
+use Rattle.atom_words.specs.declared.view.Held.{Held}
+use Rattle.atom_words.specs.declared.view.Counted.{Counted}
+use Rattle.atom_words.specs.declared.view.Own.{Own}
+use Rattle.atom_words.specs.declared.view.Walk.{Walk}
+use Rattle.atom_words.specs.declared.view.View.{View}
+use Rattle.atom_words.specs.declared.kind.Kind.TheVariants.{PutWord, PutLink}
+use Rattle.atom_words.proofs.Slices.{some_same, text_else, text_put, chain_at, chain_else}
+use Rattle.atom_words.proofs.Puts.{unmapped}
+use Rattle.atom_words.proofs.Frames.{seats_stay}
+
+-- the texts of linked slots stay
+module _ (z : Size) (texts texts' : List ℕ) (chain : ℕ → List ℕ) (same : (q : ℕ) → Linked z.heads chain q → text_of texts' q ≡ text_of texts q) where
+  pub held_text : (atoms : List ℕ) (a : Held) → HeldOk z atoms texts chain a → HeldOk z atoms texts' chain a
+  held_text atoms a h = record { inside = h.inside; valid = h.valid; linked = h.linked; text = same a.slot h.linked ∙ h.text }
+
+  pub counts_text : (atoms : List ℕ) (keeper j : ℕ) (cs : List Counted) → CountsOk z atoms texts chain keeper j cs → CountsOk z atoms texts' chain keeper j cs
+  counts_text atoms keeper j cs h = record { mine = h.mine; each_slot = h.each_slot; counts = h.counts; live = λ k c at some_. held_text atoms (record { slot = k; text = c.text }) (h.live k c at some_) }
+
+  pub walk_text : (atoms links heads : List ℕ) (w : Walk) → WalkOk z atoms links heads texts chain w → WalkOk z atoms links heads texts' chain w
+  walk_text atoms links heads w h = record {
+    inside = h.inside;
+    short = h.short;
+    past = h.past;
+    claim = λ e. let u = h.claim e in let on : (k : ℕ) → In k (chain w.head) → text_of texts' k ≡ text_of texts k = λ k i. same k (w.head, h.inside, i) in record {
+      path = u.path;
+      reached = u.reached;
+      each = λ k i. ⊎_elim (λ (t : Seen texts w.seen k). inl (t.0, t.1, t.2, t.3, ap (take (length t.1.text)) (on k i) ∙ t.4)) (λ (t : In k u.path). inr t) (u.each k i);
+      inside = u.inside;
+      part = λ k at. let c = chain_at links k u.path (subst (λ (n : ℕ). Chain links n u.path) at u.reached) in
+          ap (take (length w.part)) (on k (u.inside k (subst (In k) (sym c.1) (0, refl)))) ∙ u.part k at;
+      guard = u.guard;
+    };
+  }
+
+  pub rows_text : (row : ℕ) (links heads : List ℕ) (place : ℕ → ℕ) → Rows z row links heads texts chain place → Rows z row links heads texts' chain place
+  rows_text row links heads place r = record {
+    chains = r.chains;
+    once = r.once;
+    stands = λ h k inside i. ap (bucket row) (same k (h, inside, i)) ∙ r.stands h k inside i;
+    unlike = λ h k q inside i j e. r.unlike h k q inside i j (sym (same k (h, inside, i)) ∙ (e ∙ same q (h, inside, j)));
+  }
+
+module _ (z : Size) (b : Board) (vs : List View) (r : Kept z b vs) (id : ℕ) (v : View) (s : SeatOk z b r.plan id v) where
+  -- another seat's own slot is another
+  other_slot : (j : ℕ) (w : View) (o : Own) (n : Own) → v.own ≡ Some o → j ≢ id → SeatOk z b r.plan j w → w.own ≡ Some n → n.slot ≢ o.slot
+  other_slot j w o n own other sj owns e = other (sym (sj.own n owns).mine ∙ (ap r.plan.owner e ∙ (s.own o own).mine))
+
+  -- PUT A WORD OF THE TEXT
+  module _ (o : Own) (x : ℕ) (own : v.own ≡ Some o) (unlinked : o.linked ≡ false) (more : length o.text < 32) where
+    texts' : List ℕ
+    texts' = set b.texts (32 * o.slot + length o.text) x
+
+    linked_text : (q : ℕ) → Linked z.heads r.plan.chain q → text_of (set b.texts (32 * o.slot + length o.text) x) q ≡ text_of b.texts q
+    linked_text q l = text_else b.texts o.slot (length o.text) x q more (λ e. (s.own o own).apart unlinked (subst (Linked z.heads r.plan.chain) e l))
+
+    others_text : (j : ℕ) (w : View) → j ≢ id → SeatOk z b r.plan j w → SeatOk z (with_text b (32 * o.slot + length o.text) x) r.plan j w
+    others_text j w other sj = let t : List ℕ = set b.texts (32 * o.slot + length o.text) x in record {
+      size = sj.size;
+      own = λ n e. let h = sj.own n e in record { inside = h.inside; mine = h.mine; state = h.state; short = h.short;
+          text = ap (take (length n.text)) (text_else b.texts o.slot (length o.text) x n.slot more (other_slot j w o n own other sj e)) ∙ h.text; link = h.link; apart = h.apart; linked = h.linked };
+      held = λ i a e. held_text z b.texts t r.plan.chain linked_text b.atoms a (sj.held i a e);
+      fixed = λ i a e. held_text z b.texts t r.plan.chain linked_text b.atoms a (sj.fixed i a e);
+      counts = λ cs e. counts_text z b.texts t r.plan.chain linked_text b.atoms r.plan.keeper j cs (sj.counts cs e);
+      walk = λ w e. walk_text z b.texts t r.plan.chain linked_text b.atoms b.links b.heads w (sj.walk w e);
+    }
+
+    mine_text : SeatOk z (with_text b (32 * o.slot + length o.text) x) r.plan id (view_after v (PutWord x))
+    mine_text = let t : List ℕ = set b.texts (32 * o.slot + length o.text) x in record {
+      size = s.size;
+      own = λ n e. let was = unmapped (putting x) v.own n e in let same : o ≡ was.0 = some_same o was.0 v.own own was.1 in
+          subst (λ y. OwnOk z b.atoms b.links t r.plan.chain r.plan.owner id y) (ap (putting x) same ∙ was.2) (let h = s.own o own in record {
+            inside = h.inside;
+            mine = h.mine;
+            state = h.state;
+            short = simp (length-append {A = ℕ}) (omega arith);
+            text = let n : length (o.text ++ x ∷ []) ≡ length o.text + 1 = simp (length-append {A = ℕ}) refl in ap (λ (i : ℕ). take i (text_of t o.slot)) n
+                ∙ (text_put b.texts o.slot (length o.text) x z.slots r.sized.texts h.inside more ∙ ap (λ y. y ++ x ∷ []) h.text);
+            link = h.link;
+            apart = h.apart;
+            linked = λ l. let no : true ≡ false = sym l ∙ unlinked in cc;
+          });
+      held = λ i a e. held_text z b.texts t r.plan.chain linked_text b.atoms a (s.held i a e);
+      fixed = λ i a e. held_text z b.texts t r.plan.chain linked_text b.atoms a (s.fixed i a e);
+      counts = λ cs e. counts_text z b.texts t r.plan.chain linked_text b.atoms r.plan.keeper id cs (s.counts cs e);
+      walk = λ w e. walk_text z b.texts t r.plan.chain linked_text b.atoms b.links b.heads w (s.walk w e);
+    }
+
+    put_word_at : Kept z (with_text b (32 * o.slot + length o.text) x) (set vs id (view_after v (PutWord x)))
+    put_word_at = record {
+      plan = r.plan;
+      sized = record { small = r.sized.small; acks = r.sized.acks; atoms = r.sized.atoms; links = r.sized.links; heads = r.sized.heads; texts = length-set b.texts (32 * o.slot + length o.text) x ∙ r.sized.texts };
+      row = r.row;
+      rows = rows_text z b.texts (set b.texts (32 * o.slot + length o.text) x) r.plan.chain linked_text b.row b.links b.heads r.plan.place r.rows;
+      slots = r.slots;
+      seats = seats_stay (SeatOk z (with_text b (32 * o.slot + length o.text) x) r.plan) vs id (view_after v (PutWord x)) (λ _. mine_text) (λ j w other at here. others_text j w other (r.seats j w at here));
+    }
+
+  pub keep_put_word : (x : ℕ) (b' : Board) → Does z b v (PutWord x) b' → Kept z b' (set vs id (view_after v (PutWord x)))
+  keep_put_word x b' d = subst (λ y. Kept z y (set vs id (view_after v (PutWord x)))) (sym d.4) (put_word_at d.0 x d.1 d.2 d.3)
+
+  -- PUT THE LINK WORD
+  module _ (o : Own) (l : ℕ) (own : v.own ≡ Some o) (unlinked : o.linked ≡ false) where
+    not_on : (h : ℕ) → h < z.heads → ¬ In o.slot (r.plan.chain h)
+    not_on h inside i = (s.own o own).apart unlinked (h, inside, i)
+
+    walk_link_word : (w : Walk) → WalkOk z b.atoms b.links b.heads b.texts r.plan.chain w → WalkOk z b.atoms (set b.links o.slot l) b.heads b.texts r.plan.chain w
+    walk_link_word w h = record {
+      inside = h.inside;
+      short = h.short;
+      past = h.past;
+      claim = λ e. let u = h.claim e in record { path = u.path; reached = chain_else b.links o.slot l w.place u.path u.reached (λ i. not_on w.head h.inside (u.inside o.slot i)); each = u.each; inside = u.inside; part = u.part; guard = u.guard };
+    }
+
+    others_link_word : (j : ℕ) (w : View) → j ≢ id → SeatOk z b r.plan j w → SeatOk z (with_link b o.slot l) r.plan j w
+    others_link_word j w other sj = record {
+      size = sj.size;
+      own = λ n e. let h = sj.own n e in record { inside = h.inside; mine = h.mine; state = h.state; short = h.short; text = h.text;
+          link = λ m is un. get_or-set_other b.links o.slot n.slot l 0 (other_slot j w o n own other sj e) ∙ h.link m is un; apart = h.apart; linked = h.linked };
+      held = sj.held;
+      fixed = sj.fixed;
+      counts = sj.counts;
+      walk = λ t e. walk_link_word t (sj.walk t e);
+    }
+
+    mine_link_word : SeatOk z (with_link b o.slot l) r.plan id (view_after v (PutLink l))
+    mine_link_word = record {
+      size = s.size;
+      own = λ n e. let was = unmapped (linking l) v.own n e in let same : o ≡ was.0 = some_same o was.0 v.own own was.1 in
+          subst (λ y. OwnOk z b.atoms (set b.links o.slot l) b.texts r.plan.chain r.plan.owner id y) (ap (linking l) same ∙ was.2) (let h = s.own o own in record {
+            inside = h.inside;
+            mine = h.mine;
+            state = h.state;
+            short = h.short;
+            text = h.text;
+            link = λ m is un. let now : l ≡ m = cc in get_or-set_same b.links o.slot l 0 (omega (arith, h.inside, r.sized.links)) ∙ now;
+            apart = h.apart;
+            linked = h.linked;
+          });
+      held = s.held;
+      fixed = s.fixed;
+      counts = s.counts;
+      walk = λ t e. walk_link_word t (s.walk t e);
+    }
+
+    put_link_at : Kept z (with_link b o.slot l) (set vs id (view_after v (PutLink l)))
+    put_link_at = record {
+      plan = r.plan;
+      sized = record { small = r.sized.small; acks = r.sized.acks; atoms = r.sized.atoms; links = length-set b.links o.slot l ∙ r.sized.links; heads = r.sized.heads; texts = r.sized.texts };
+      row = r.row;
+      rows = record {
+        chains = λ h inside. chain_else b.links o.slot l (first_of (get_or b.heads h 0)) (r.plan.chain h) (r.rows.chains h inside) (not_on h inside);
+        once = r.rows.once;
+        stands = r.rows.stands;
+        unlike = r.rows.unlike;
+      };
+      slots = r.slots;
+      seats = seats_stay (SeatOk z (with_link b o.slot l) r.plan) vs id (view_after v (PutLink l)) (λ _. mine_link_word) (λ j w other at here. others_link_word j w other (r.seats j w at here));
+    }
+
+  pub keep_put_link : (l : ℕ) (b' : Board) → Does z b v (PutLink l) b' → Kept z b' (set vs id (view_after v (PutLink l)))
+  keep_put_link l b' d = subst (λ y. Kept z y (set vs id (view_after v (PutLink l)))) (sym d.3) (put_link_at d.0 l d.1 d.2)
