@@ -7,3 +7,5 @@ pub mod Puts
 pub mod AtomSteps
 pub mod TextSteps
 pub mod LinkStep
+pub mod SeatSteps
+pub mod Every

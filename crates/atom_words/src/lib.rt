@@ -16,6 +16,6 @@ mod view;
 mod rule;
 
 pub use kind::Kind;
-pub use rule::AtomRule;
+pub use rule::{AtomRule, every_state};
 pub use size::Size;
 pub use view::{Cause, Counted, Cycling, Held, Own, Pass, Passing, Refusal, Sweeping, View, Walk, WornWord};

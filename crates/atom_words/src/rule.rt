@@ -20,3 +20,12 @@ impl TableRule<(), View, Size> for AtomRule {
 
     ghost first = { first_view };
 }
+
+/// The theorem of the table: every state that is reached by any list of steps, through any number of seats, keeps the
+/// invariants of `specs/Kept.antt`. It does nothing.
+#[tactic(auto, using(crate::proofs::Every::every))]
+pub fn every_state(size: Size)
+    ensures { (n : ℕ) (b : Board) (vs : List View) → Reached n size b vs → Kept size b vs }
+{
+    let _ = size;
+}
