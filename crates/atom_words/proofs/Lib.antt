@@ -9,3 +9,4 @@ pub mod TextSteps
 pub mod LinkStep
 pub mod SeatSteps
 pub mod Every
+pub mod Adapters
