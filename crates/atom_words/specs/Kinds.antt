@@ -78,10 +78,15 @@ abbrev pub held_counted : ℕ → Option (List Counted) → List Held
 held_counted k None = []
 held_counted k (Some cs) = record { slot = k; text = (counted cs k).text } ∷ []
 
--- The pass goes on where the slot k, which was not free, follows the last one that it counted
+-- A pass goes on where the slot k, which was not free, follows the last one that it counted
+abbrev pub next_first : ℕ → ℕ → ℕ → ℕ
+next_first k first counted = if counted == 0 then k else first
+
+abbrev pub next_counted : ℕ → ℕ → ℕ → ℕ → ℕ
+next_counted slots k first counted = if counted == 0 then 1 else (if nat_lt counted slots && (k == (first + counted) % slots) then counted + 1 else counted)
+
 abbrev pub counting : ℕ → ℕ → Passing → Passing
-counting slots k p = if p.counted == 0 then record p { first = k; counted = 1 }
-    else (if nat_lt p.counted slots && (k == (p.first + p.counted) % slots) then record p { counted = p.counted + 1 } else p)
+counting slots k p = record p { first = next_first k p.first p.counted; counted = next_counted slots k p.first p.counted }
 
 -- what a pass that ended at the epoch word x is answered with
 abbrev pub full_pass : View → ℕ → Passing → Pass

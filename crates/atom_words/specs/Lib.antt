@@ -6,3 +6,6 @@ pub mod Views
 pub mod Kinds
 pub mod Rule
 pub mod Kept
+pub mod Ties
+pub mod Seats
+pub mod Plays

@@ -11,11 +11,18 @@
 #![tactic(auto)]
 
 mod kind;
+mod plays;
+mod rule;
 mod size;
 mod view;
-mod rule;
+mod words;
 
 pub use kind::Kind;
 pub use rule::{AtomRule, every_state};
 pub use size::Size;
 pub use view::{Cause, Counted, Cycling, Held, Own, Pass, Passing, Refusal, Sweeping, View, Walk, WornWord};
+pub use plays::{
+    EndingPass, Protecting, PuttingWord, Registering, Releasing, Reserving, ReservingMarked, StartingPass,
+    Unregistering, Validating,
+};
+pub use words::{AtomSeat, Words};

@@ -1,0 +1,34 @@
+-- What the calls say of a table and a seat.
+use Rattle.std.specs.Prelude.{◌≡◌, ◌≢◌, ◌⊎◌, ℕ, false, List, [], ◌∷◌, map, None}
+use Rattle.atom_words.specs.Layout.{state_of}
+use Rattle.atom_words.specs.Texts.{row_of}
+use Rattle.atom_words.specs.Board.{atom_at}
+use Rattle.atom_words.specs.Kinds.{after}
+use Rattle.atom_words.specs.declared.view.View.{View}
+use Rattle.atom_words.specs.declared.kind.Kind.{Kind}
+use Rattle.atom_words.specs.declared.kind.Kind.TheVariants.{Reserve, Load, Refused, PutWord}
+use Rattle.atom_words.specs.declared.words.Words.{Words}
+use Rattle.atom_words.specs.declared.words.AtomSeat.{AtomSeat}
+
+-- the seat's view
+abbrev pub seen : AtomSeat → View
+seen s = s.seat.me.0
+
+-- the seat is one of this table's, and no other seat has taken it in
+abbrev pub Fits : Words → AtomSeat → Type 0
+Fits w s = (s.seat.table_id ≡ w.table.shared.table_id) × ((seen s).size ≡ w.size) × ((seen s).gone ≡ false)
+
+-- it is the same seat
+abbrev pub Same : AtomSeat → AtomSeat → Type 0
+Same s t = (t.seat.table_id ≡ s.seat.table_id) × (t.seat.id ≡ s.seat.id)
+
+-- The steps of a reserve that takes the slot: the exchange; or it finds the slot free with its mark set, and then the exchange
+abbrev pub Reserves : View → ℕ → View → Type 0
+Reserves v k w = (w ≡ after v (Reserve k ∷ [])) ⊎ (w ≡ after v (Load (atom_at v.size k) 4 ∷ Reserve k ∷ []))
+
+-- The steps of a reserve that is refused with the word x: the slot is not free; or it was free with its mark set, and the exchange is lost
+abbrev pub FindsTaken : View → ℕ → ℕ → View → Type 0
+FindsTaken v k x w = ((state_of x ≢ 0) × (w ≡ after v (Refused k 0 x ∷ []))) ⊎ ((x ≢ 4) × (w ≡ after v (Load (atom_at v.size k) 4 ∷ Refused k 4 x ∷ [])))
+
+abbrev pub puts : List ℕ → List Kind
+puts ws = map (λ x. PutWord x) ws
