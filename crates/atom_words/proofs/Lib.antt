@@ -10,3 +10,4 @@ pub mod LinkStep
 pub mod SeatSteps
 pub mod Every
 pub mod Adapters
+pub mod Steps

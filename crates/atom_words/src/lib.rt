@@ -11,6 +11,7 @@
 #![tactic(auto)]
 
 mod kind;
+mod places;
 mod plays;
 mod rule;
 mod size;

@@ -1,0 +1,112 @@
+-- Each raw step of the calls is of its kind.
+use Rattle.std.proofs.Common.{◌≡◌, ◌≢◌, ◌⊎◌, ℕ, ◌+◌, ◌-◌, ◌*◌, ◌/◌, ◌%◌, ◌^◌, ◌<◌, ◌≤◌, eqb, true, false, List, [], length, get_or, set, bit_and, bit_or, refl, sym, ap, ◌∙◌, subst, inl, inr, arith, Option, Some, None}
+use Rattle.std.proofs.lemmas.Nat.Bits.{and_pow}
+use Rattle.std.specs.Int.Bits.{or_add_and}
+use mathlib.Core.Logic.{dite}
+use mathlib.Core.Option.{none, some}
+use native.Mathlib.Decide.{ℕ_discrete}
+use lib.ListN.{get_elem?}
+use prog.Atomic.{either}
+use Rattle.atomic_table.specs.Table.{step, Allows}
+use Rattle.atom_words.specs.Layout.{state_of, mark_of, count_of}
+use Rattle.atom_words.specs.Board.{Board, atom, atom_at, text_at, with_atom}
+use Rattle.atom_words.specs.Chains.{In}
+use Rattle.atom_words.specs.Views.{uncounted}
+use Rattle.atom_words.specs.Kinds.{marked, counted, view_after}
+use Rattle.atom_words.specs.Rule.{Rule}
+use Rattle.atom_words.specs.Kept.{Kept}
+use Rattle.atom_words.specs.Plays.{reserved, reserved_marked, word_put, validated, released, protected, registered, unregistered, pass_started, pass_ended}
+use Rattle.atom_words.specs.declared.size.Size.{Size}
+use Rattle.atom_words.specs.declared.view.Held.{Held}
+use Rattle.atom_words.specs.declared.view.Counted.{Counted}
+use Rattle.atom_words.specs.declared.view.Own.{Own}
+use Rattle.atom_words.specs.declared.view.Passing.{Passing}
+use Rattle.atom_words.specs.declared.view.View.{View}
+use Rattle.atom_words.specs.declared.kind.Kind.TheVariants.{Reserve, PutWord, Validate, Release, Load, Refused, StartPass, EndPass, Protect, Register, Unregister}
+use Rattle.atom_words.proofs.Regions.{atom_read}
+use Rattle.atom_words.proofs.Slices.{or_at}
+use Rattle.atom_words.proofs.AtomSteps.{has}
+use Rattle.atom_words.proofs.Adapters.{Sat, atom_goes, atom_exchange, text_goes, epoch_load}
+
+pub or_mark : (n : ℕ) → bit_or n 4 ≡ marked n
+or_mark n = let a : bit_or n 4 + bit_and n 4 ≡ n + 4 = or_add_and n 4 in let m : bit_and n 4 ≡ n / 4 % 2 * 4 = and_pow n 2 in omega arith
+
+-- a free slot's word has no count, so it is 0 or 4
+free_word : (n : ℕ) → n ≢ 0 → n ≢ 4 → state_of n ≡ 0 → count_of n ≡ 0 → ⊥
+free_word n zero four state count = omega arith
+
+module _ (key : Size) (slots id : ℕ) (me : Sat) (is : key ≡ me.0.size) (here : me.0.gone ≡ false) where
+  abbrev z : Size
+  z = me.0.size
+
+  pub reserving : (i k : ℕ) → i ≡ atom_at me.0.size k → k < me.0.size.slots → me.0.own ≡ None
+      → Allows (Rule key) slots id me i (λ n. either (eqb n 0) 1 n) (reserved (step slots i 0 1 none) me)
+  reserving i k at inside unowned = subst (λ (w : ℕ). Allows (Rule key) slots id me w (λ n. either (eqb n 0) 1 n) (reserved (step slots w 0 1 none) me)) (sym at)
+      (atom_exchange key me.0.size slots id me k 0 1 (reserved (step slots (atom_at me.0.size k) 0 1 none) me) is here inside
+      (λ b vs r seen hit. (Reserve k, (inside, unowned, ap state_of hit, refl), (refl, λ j e. let same : k ≡ j = omega arith in
+          ((λ _. ap (λ (x : ℕ). view_after me.0 (Reserve x)) same), (λ four. absurd (omega arith)), (λ ne. absurd (ne hit))))))
+      (λ b vs r seen miss. dite (ℕ_discrete (atom b k) 4)
+          (λ four. (Load (atom_at me.0.size k) 4, (atom_read me.0.size b r.sized k inside ∙ four, refl), (refl, λ j e. let same : k ≡ j = omega arith in
+              ((λ zero. absurd (miss zero)), (λ _. ap (λ (x : ℕ). view_after me.0 (Load (atom_at me.0.size x) 4)) same), (λ _ ne. absurd (ne four))))))
+          (λ other. (Refused k 0 (atom b k), (inside, refl, refl, miss, refl), (refl, λ j e. let same : k ≡ j = omega arith in
+              ((λ zero. absurd (miss zero)), (λ four. absurd (other four)),
+              λ _ _. ((λ free. free_word (atom b k) miss other free (r.slots.zero k (λ three. omega arith))), ap (λ (x : ℕ). view_after me.0 (Refused x 0 (atom b k))) same)))))))
+
+  pub reserving_marked : (i k : ℕ) → i ≡ atom_at me.0.size k → k < me.0.size.slots → me.0.own ≡ None
+      → Allows (Rule key) slots id me i (λ n. either (eqb n 4) 1 n) (reserved_marked (step slots i 4 1 none) me)
+  reserving_marked i k at inside unowned = subst (λ (w : ℕ). Allows (Rule key) slots id me w (λ n. either (eqb n 4) 1 n) (reserved_marked (step slots w 4 1 none) me)) (sym at)
+      (atom_exchange key me.0.size slots id me k 4 1 (reserved_marked (step slots (atom_at me.0.size k) 4 1 none) me) is here inside
+      (λ b vs r seen hit. (Reserve k, (inside, unowned, ap state_of hit, refl), (refl, λ j e. let same : k ≡ j = omega arith in
+          ((λ _. ap (λ (x : ℕ). view_after me.0 (Reserve x)) same), λ ne. absurd (ne hit)))))
+      (λ b vs r seen miss. (Refused k 4 (atom b k), (inside, refl, refl, miss, refl), (refl, λ j e. let same : k ≡ j = omega arith in
+          ((λ four. absurd (miss four)), λ _. ap (λ (x : ℕ). view_after me.0 (Refused x 4 (atom b k))) same)))))
+
+  pub putting_word : (i x : ℕ) (o : Own) → me.0.own ≡ Some o → o.linked ≡ false → length o.text < 32 → i ≡ text_at me.0.size (32 * o.slot + length o.text)
+      → Allows (Rule key) slots id me i (λ _. x) (λ _. word_put (step slots i x 0 none) me x)
+  putting_word i x o own un short at = subst (λ (w : ℕ). Allows (Rule key) slots id me w (λ _. x) (λ _. word_put (step slots w x 0 none) me x)) (sym at)
+      (text_goes key me.0.size slots id me (32 * o.slot + length o.text) (λ _. x) (λ _. word_put (step slots (text_at me.0.size (32 * o.slot + length o.text)) x 0 none) me x) is here
+      (λ b vs r seen small. (PutWord x, (o, own, un, short, refl), (refl, refl))))
+
+  pub validating : (i : ℕ) (o : Own) → me.0.own ≡ Some o → o.linked ≡ true → o.slot < me.0.size.slots → i ≡ atom_at me.0.size o.slot
+      → Allows (Rule key) slots id me i (λ _. 7) (λ _. validated (step slots i 7 0 none) me 7)
+  validating i o own on inside at = subst (λ (w : ℕ). Allows (Rule key) slots id me w (λ _. 7) (λ _. validated (step slots w 7 0 none) me 7)) (sym at)
+      (atom_goes key me.0.size slots id me o.slot (λ _. 7) (λ _. validated (step slots (atom_at me.0.size o.slot) 7 0 none) me 7) is here inside
+      (λ b vs r seen small. (Validate, (o, own, on, refl), (refl, refl))))
+
+  pub releasing : (i : ℕ) (o : Own) → me.0.own ≡ Some o → o.linked ≡ false → o.slot < me.0.size.slots → i ≡ atom_at me.0.size o.slot
+      → Allows (Rule key) slots id me i (λ _. 0) (λ _. released (step slots i 0 0 none) me 0)
+  releasing i o own un inside at = subst (λ (w : ℕ). Allows (Rule key) slots id me w (λ _. 0) (λ _. released (step slots w 0 0 none) me 0)) (sym at)
+      (atom_goes key me.0.size slots id me o.slot (λ _. 0) (λ _. released (step slots (atom_at me.0.size o.slot) 0 0 none) me 0) is here inside
+      (λ b vs r seen small. (Release, (o, own, un, refl), (refl, refl))))
+
+  pub protecting : (i k : ℕ) → i ≡ atom_at me.0.size k → k < me.0.size.slots → Allows (Rule key) slots id me i (λ n. bit_or n 4) (protected (step slots i 4 0 none) me)
+  protecting i k at inside = subst (λ (w : ℕ). Allows (Rule key) slots id me w (λ n. bit_or n 4) (protected (step slots w 4 0 none) me)) (sym at)
+      (atom_goes key me.0.size slots id me k (λ n. bit_or n 4) (protected (step slots (atom_at me.0.size k) 4 0 none) me) is here inside
+      (λ b vs r seen small. (Protect k (atom b k), (inside, refl, ap (with_atom b k) (or_mark (atom b k))), (refl, λ j e. let same : k ≡ j = omega arith in ap (λ (x : ℕ). view_after me.0 (Protect x (atom b k))) same))))
+
+  pub registering : (i : ℕ) (cs : List Counted) (a : Held) → i ≡ atom_at me.0.size a.slot → a.slot < me.0.size.slots → me.0.counts ≡ Some cs → In a me.0.held ⊎ In a me.0.fixed → (counted cs a.slot).count < 2305843009213693951
+      → Allows (Rule key) slots id me i (λ n. (n + 8) % 2 ^ 64) (registered (step slots i 8 0 none) me)
+  registering i cs a at inside counts ours room = subst (λ (w : ℕ). Allows (Rule key) slots id me w (λ n. (n + 8) % 2 ^ 64) (registered (step slots w 8 0 none) me)) (sym at)
+      (atom_goes key me.0.size slots id me a.slot (λ n. (n + 8) % 2 ^ 64) (registered (step slots (atom_at me.0.size a.slot) 8 0 none) me) is here inside
+      (λ b vs r seen small. let s = r.seats id me.0 seen here in let ok = s.counts cs counts in
+          let was : count_of (atom b a.slot) ≡ (counted cs a.slot).count = ok.counts a.slot (counted cs a.slot) (or_at cs a.slot uncounted (omega (arith, ok.each_slot))) in
+          let fits : (atom b a.slot + 8) % 18446744073709551616 ≡ atom b a.slot + 8 = omega arith in
+          let k = has me.0.size b vs r id me.0 s a ours in
+          (Register a, (cs, counts, ours, room, ap (with_atom b a.slot) fits), (refl, λ x too e. let h = has me.0.size b vs r id me.0 s x too in let same : a.slot ≡ x.slot = omega arith in
+              let text : a.text ≡ x.text = sym k.text ∙ (ap (Rattle.atom_words.specs.Board.text_of b.texts) same ∙ h.text) in
+              λ j. view_after me.0 (Register (record { slot = same j; text = text j }))))))
+
+  pub unregistering : (i k : ℕ) (cs : List Counted) → i ≡ atom_at me.0.size k → k < me.0.size.slots → me.0.counts ≡ Some cs → 0 < (counted cs k).count
+      → Allows (Rule key) slots id me i (λ n. (n + (2 ^ 64 - 8)) % 2 ^ 64) (unregistered (step slots i 8 0 none) me)
+  unregistering i k cs at inside counts some_ = subst (λ (w : ℕ). Allows (Rule key) slots id me w (λ n. (n + (2 ^ 64 - 8)) % 2 ^ 64) (unregistered (step slots w 8 0 none) me)) (sym at)
+      (atom_goes key me.0.size slots id me k (λ n. (n + (2 ^ 64 - 8)) % 2 ^ 64) (unregistered (step slots (atom_at me.0.size k) 8 0 none) me) is here inside
+      (λ b vs r seen small. let s = r.seats id me.0 seen here in let ok = s.counts cs counts in
+          let was : count_of (atom b k) ≡ (counted cs k).count = ok.counts k (counted cs k) (or_at cs k uncounted (omega (arith, ok.each_slot))) in
+          let fits : (atom b k + (18446744073709551616 - 8)) % 18446744073709551616 ≡ atom b k - 8 = omega arith in
+          (Unregister k, (cs, counts, inside, some_, ap (with_atom b k) fits), (refl, λ j e. let same : k ≡ j = omega arith in ap (λ (x : ℕ). view_after me.0 (Unregister x)) same))))
+
+  pub starting_pass : Allows (Rule key) slots id me 0 (λ n. n) (pass_started (step slots 0 0 0 none) me)
+  starting_pass = epoch_load key me.0.size slots id me (pass_started (step slots 0 0 0 none) me) is here (λ b vs r seen small. (StartPass b.epoch, (refl, refl), (refl, refl)))
+
+  pub ending_pass : (p : Passing) → me.0.pass ≡ Some p → Allows (Rule key) slots id me 0 (λ n. n) (pass_ended (step slots 0 0 0 none) me)
+  ending_pass p pass = epoch_load key me.0.size slots id me (pass_ended (step slots 0 0 0 none) me) is here (λ b vs r seen small. (EndPass b.epoch, (p, pass, refl, refl), (refl, refl)))
