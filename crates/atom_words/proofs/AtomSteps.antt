@@ -99,7 +99,7 @@ module _ (z : Size) (b : Board) (vs : List View) (r : Kept z b vs) (id : ℕ) (v
       knows o.slot 7 r.plan.owner (view_after v Validate) soft refl
       (λ q e. cc)
       (λ i a e. ⊎_elim (held_as o.slot 7 r.plan.owner soft i a) (λ (t : (i ≡ length v.held) × (record { slot = o.slot; text = o.text } ≡ a)). subst (HeldOk z (set b.atoms o.slot 7) b.texts r.plan.chain) t.1 held)
-          (at_snoc v.held (record { slot = o.slot; text = o.text }) a i (sym (ap (λ y. get_elem? (v.held ++ held_own y) i) own) ∙ e)))
+      (at_snoc v.held (record { slot = o.slot; text = o.text }) a i (sym (ap (λ y. get_elem? (v.held ++ held_own y) i) own) ∙ e)))
       refl (counts_as o.slot 7 r.plan.owner soft (sym none_counted)) (walk_as o.slot 7 r.plan.owner soft)
 
   pub keep_validate : (b' : Board) → Does z b v Validate b' → Kept z b' (set vs id (view_after v Validate))
@@ -135,8 +135,11 @@ module _ (z : Size) (b : Board) (vs : List View) (r : Kept z b vs) (id : ℕ) (v
 
   own_marked : (k : ℕ) → k < z.slots → (o : Own) → v.own ≡ Some o → OwnOk z (set b.atoms k (marked (get_or b.atoms k 0))) b.links b.texts r.plan.chain r.plan.owner id o
   own_marked k inside o e = own_stays z b.atoms (set b.atoms k (marked (get_or b.atoms k 0))) b.links b.texts r.plan.chain r.plan.owner r.plan.owner id o
-      (λ mine reserved. (mine, word_after (λ n. state_of n ≡ 1) b.atoms k (marked (get_or b.atoms k 0)) o.slot (in_atoms k inside)
-          (λ q. state-marked (get_or b.atoms k 0) ∙ subst (λ (i : ℕ). state_of (get_or b.atoms i 0) ≡ 1) q reserved) (λ _. reserved))) (s.own o e)
+      (λ mine reserved. (
+        mine,
+        word_after (λ n. state_of n ≡ 1) b.atoms k (marked (get_or b.atoms k 0)) o.slot (in_atoms k inside)
+            (λ q. state-marked (get_or b.atoms k 0) ∙ subst (λ (i : ℕ). state_of (get_or b.atoms i 0) ≡ 1) q reserved) (λ _. reserved),
+      )) (s.own o e)
 
   guard_ok : (k x : ℕ) → k < z.slots → get_or b.atoms k 0 ≡ x → (w : Walk) → v.walk ≡ Some w → WalkOk z (set b.atoms k (marked (get_or b.atoms k 0))) b.links b.heads b.texts r.plan.chain (guarding k x w)
   guard_ok k x inside found w e = let n : ℕ = get_or b.atoms k 0 in let ok = walk_as k (marked n) r.plan.owner (mark_soft k inside) w e in record {
@@ -151,8 +154,8 @@ module _ (z : Size) (b : Board) (vs : List View) (r : Kept z b vs) (id : ℕ) (v
       part = u.part;
       guard = λ q at g. ⊎_elim (u.guard q at)
           (λ (t : ((w.place == k + 1) && (state_of x == 3)) ≡ true). let both = and_true (w.place == k + 1) (state_of x == 3) t in let here : w.place ≡ k + 1 = eqb-true w.place (k + 1) both.0 in let there : k ≡ q = omega arith in
-              let valid : state_of x ≡ 3 = eqb-true (state_of x) 3 both.1 in
-              subst (λ (i : ℕ). state_of (get_or (set b.atoms k (marked n)) i 0) ≡ 3) there (ap state_of (get_or-set_same b.atoms k (marked n) 0 (in_atoms k inside)) ∙ (state-marked n ∙ (ap state_of found ∙ valid))))
+          let valid : state_of x ≡ 3 = eqb-true (state_of x) 3 both.1 in
+          subst (λ (i : ℕ). state_of (get_or (set b.atoms k (marked n)) i 0) ≡ 3) there (ap state_of (get_or-set_same b.atoms k (marked n) 0 (in_atoms k inside)) ∙ (state-marked n ∙ (ap state_of found ∙ valid))))
           (or_true w.guarded ((w.place == k + 1) && (state_of x == 3)) g);
     };
   }
@@ -167,8 +170,8 @@ module _ (z : Size) (b : Board) (vs : List View) (r : Kept z b vs) (id : ℕ) (v
       let ours : HeldOk z b.atoms b.texts r.plan.chain a = ok.live k c (or_at d.0 k uncounted (omega (arith, ok.each_slot, d.2))) d.3 in
       subst (λ y. Kept z y (set vs id (view_after v (Fetch k)))) (sym d.4) (knows k (marked n) r.plan.owner (view_after v (Fetch k)) soft refl (own_marked k d.2)
       (λ i q e. ⊎_elim (held_as k (marked n) r.plan.owner soft i q)
-          (λ (t : (i ≡ length v.held) × (a ≡ q)). subst (HeldOk z (set b.atoms k (marked n)) b.texts r.plan.chain) t.1 (held_stays z b.atoms (set b.atoms k (marked n)) b.texts r.plan.chain a (soft_valid z b.atoms r.plan r.plan.owner id k (marked n) soft) ours))
-          (at_snoc v.held a q i (sym (ap (λ y. get_elem? (v.held ++ held_counted k y) i) d.1) ∙ e)))
+      (λ (t : (i ≡ length v.held) × (a ≡ q)). subst (HeldOk z (set b.atoms k (marked n)) b.texts r.plan.chain) t.1 (held_stays z b.atoms (set b.atoms k (marked n)) b.texts r.plan.chain a (soft_valid z b.atoms r.plan r.plan.owner id k (marked n) soft) ours))
+      (at_snoc v.held a q i (sym (ap (λ y. get_elem? (v.held ++ held_counted k y) i) d.1) ∙ e)))
       refl (counts_as k (marked n) r.plan.owner soft (count-marked n)) (walk_as k (marked n) r.plan.owner soft))
 
   -- THE KEEPER COUNTS
@@ -198,15 +201,18 @@ module _ (z : Size) (b : Board) (vs : List View) (r : Kept z b vs) (id : ℕ) (v
         (at_set cs k q c y e);
     live = λ q y e some_. let stays = soft_valid z b.atoms r.plan r.plan.owner id k x soft in ⊎_elim
         (λ (t : (q ≡ k) × (c ≡ y)). held_stays z b.atoms (set b.atoms k x) b.texts r.plan.chain (record { slot = q; text = y.text }) stays
-            (subst (λ (i : ℕ × Counted). HeldOk z b.atoms b.texts r.plan.chain (record { slot = i.0; text = i.1.text })) (λ i. (sym t.0 i, t.1 i)) held))
+        (subst (λ (i : ℕ × Counted). HeldOk z b.atoms b.texts r.plan.chain (record { slot = i.0; text = i.1.text })) (λ i. (sym t.0 i, t.1 i)) held))
         (λ (t : (q ≢ k) × (get_elem? cs q ≡ some y)). held_stays z b.atoms (set b.atoms k x) b.texts r.plan.chain (record { slot = q; text = y.text }) stays (ok.live q y t.1 some_))
         (at_set cs k q c y e);
   }
 
   own_counted : (k x : ℕ) → Soft z b.atoms r.plan r.plan.owner id k x → state_of (get_or b.atoms k 0) ≡ 3 → (o : Own) → v.own ≡ Some o → OwnOk z (set b.atoms k x) b.links b.texts r.plan.chain r.plan.owner id o
   own_counted k x soft valid o e = own_stays z b.atoms (set b.atoms k x) b.links b.texts r.plan.chain r.plan.owner r.plan.owner id o
-      (λ mine reserved. (mine, word_after (λ n. state_of n ≡ 1) b.atoms k x o.slot soft.inside
-          (λ q. let here : state_of (get_or b.atoms k 0) ≡ 1 = subst (λ (i : ℕ). state_of (get_or b.atoms i 0) ≡ 1) q reserved in absurd (omega arith)) (λ _. reserved))) (s.own o e)
+      (λ mine reserved. (
+        mine,
+        word_after (λ n. state_of n ≡ 1) b.atoms k x o.slot soft.inside
+            (λ q. let here : state_of (get_or b.atoms k 0) ≡ 1 = subst (λ (i : ℕ). state_of (get_or b.atoms i 0) ≡ 1) q reserved in absurd (omega arith)) (λ _. reserved),
+      )) (s.own o e)
 
   pub keep_register : (a : Held) (b' : Board) → Does z b v (Register a) b' → Kept z b' (set vs id (view_after v (Register a)))
   keep_register a b' d = let cs : List Counted = d.0 in let ok = s.counts cs d.1 in let h = has a d.2 in let k : ℕ = a.slot in let n : ℕ = get_or b.atoms k 0 in let x : ℕ = n + 8 in let valid = h.valid in
@@ -214,7 +220,7 @@ module _ (z : Size) (b : Board) (vs : List View) (r : Kept z b vs) (id : ℕ) (v
       let soft = count_soft k x h.inside valid (omega arith) ok.mine in
       subst (λ y. Kept z y (set vs id (view_after v (Register a)))) (sym d.4) (knows k x r.plan.owner (view_after v (Register a)) soft refl (own_counted k x soft valid) (held_as k x r.plan.owner soft) refl
       (λ y e. let is = unmapped (once_more a) v.counts y e in let same : cs ≡ is.0 = some_same cs is.0 v.counts d.1 is.1 in
-          subst (λ i. CountsOk z (set b.atoms k x) b.texts r.plan.chain r.plan.keeper id i) (ap (once_more a) same ∙ is.2) (counts_set k x cs c soft ok (omega arith) h))
+      subst (λ i. CountsOk z (set b.atoms k x) b.texts r.plan.chain r.plan.keeper id i) (ap (once_more a) same ∙ is.2) (counts_set k x cs c soft ok (omega arith) h))
       (walk_as k x r.plan.owner soft))
 
   pub keep_unregister : (k : ℕ) (b' : Board) → Does z b v (Unregister k) b' → Kept z b' (set vs id (view_after v (Unregister k)))
@@ -224,5 +230,5 @@ module _ (z : Size) (b : Board) (vs : List View) (r : Kept z b vs) (id : ℕ) (v
       let soft = count_soft k x d.2 valid (omega arith) ok.mine in
       subst (λ y. Kept z y (set vs id (view_after v (Unregister k)))) (sym d.4) (knows k x r.plan.owner (view_after v (Unregister k)) soft refl (own_counted k x soft valid) (held_as k x r.plan.owner soft) refl
       (λ y e. let is = unmapped (once_less k) v.counts y e in let same : cs ≡ is.0 = some_same cs is.0 v.counts d.1 is.1 in
-          subst (λ i. CountsOk z (set b.atoms k x) b.texts r.plan.chain r.plan.keeper id i) (ap (once_less k) same ∙ is.2) (counts_set k x cs c soft ok (omega arith) h))
+      subst (λ i. CountsOk z (set b.atoms k x) b.texts r.plan.chain r.plan.keeper id i) (ap (once_less k) same ∙ is.2) (counts_set k x cs c soft ok (omega arith) h))
       (walk_as k x r.plan.owner soft))

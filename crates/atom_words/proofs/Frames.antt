@@ -91,7 +91,7 @@ module _ (z : Size) (atoms : List ℕ) (p : Plan) (owner' : ℕ → ℕ) (id k x
   soft_state : (j q : ℕ) → j ≢ id → p.owner q ≡ j → state_of (get_or atoms q 0) ≡ 1 → state_of (get_or (set atoms k x) q 0) ≡ 1
   soft_state j q other mine reserved = word_after (λ n. state_of n ≡ 1) atoms k x q soft.inside
       (λ e. ⊎_elim (λ (h : p.owner k ≡ id). absurd (other (sym mine ∙ (ap p.owner e ∙ h)))) (λ (h : (state_of x ≡ 1) × (owner' k ≡ p.owner k)). h.0)
-          (soft.mine (subst (λ (i : ℕ). state_of (get_or atoms i 0) ≡ 1) e reserved)))
+      (soft.mine (subst (λ (i : ℕ). state_of (get_or atoms i 0) ≡ 1) e reserved)))
       (λ _. reserved)
 
   soft_seat : (b : Board) → b.atoms ≡ atoms → (j : ℕ) (v : View) → j ≢ id → SeatOk z (record b { atoms = atoms }) p j v → SeatOk z (record b { atoms = set atoms k x }) (record p { owner = owner' }) j v

@@ -11,3 +11,4 @@ pub mod SeatSteps
 pub mod Every
 pub mod Adapters
 pub mod Steps
+pub mod Tied

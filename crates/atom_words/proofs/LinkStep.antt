@@ -33,10 +33,14 @@ module _ (z : Size) (chain : ℕ → List ℕ) (h k : ℕ) (inside : h < z.heads
   at_else g ne = put_else chain h (k ∷ chain h) g ne
 
   pub still_linked : (q : ℕ) → Linked z.heads chain q → Linked z.heads (put chain h (k ∷ chain h)) q
-  still_linked q l = (l.0, l.1, elim (ℕ_discrete l.0 h) as (λ _. In q (put chain h (k ∷ chain h) l.0)) [
-    | yes e ↦ subst (λ (g : ℕ). In q (put chain h (k ∷ chain h) g)) (sym e) (subst (In q) (sym at_h) (in_later q k (chain h) (subst (λ (g : ℕ). In q (chain g)) e l.2)))
-    | no ne ↦ subst (In q) (sym (at_else l.0 ne)) l.2
-  ])
+  still_linked q l = (
+    l.0,
+    l.1,
+    elim (ℕ_discrete l.0 h) as (λ _. In q (put chain h (k ∷ chain h) l.0)) [
+      | yes e ↦ subst (λ (g : ℕ). In q (put chain h (k ∷ chain h) g)) (sym e) (subst (In q) (sym at_h) (in_later q k (chain h) (subst (λ (g : ℕ). In q (chain g)) e l.2)))
+      | no ne ↦ subst (In q) (sym (at_else l.0 ne)) l.2
+    ],
+  )
 
   pub now_linked : Linked z.heads (put chain h (k ∷ chain h)) k
   now_linked = (h, inside, subst (In k) (sym at_h) (0, refl))
@@ -123,9 +127,11 @@ module _ (z : Size) (b : Board) (vs : List View) (r : Kept z b vs) (id : ℕ) (v
   rows_linked = record {
     chains = λ g inside. elim (ℕ_discrete g w.head) as (λ _. Chain b.links (first_of (get_or (set b.heads w.head n) g 0)) (put r.plan.chain w.head (o.slot ∷ r.plan.chain w.head) g)) [
       | yes e ↦ subst (λ (y : ℕ). Chain b.links (first_of (get_or (set b.heads w.head n) y 0)) (put r.plan.chain w.head (o.slot ∷ r.plan.chain w.head) y)) (sym e)
-          (subst (Chain b.links (first_of (get_or (set b.heads w.head n) w.head 0))) (sym (put_here r.plan.chain w.head (o.slot ∷ r.plan.chain w.head)))
-          (ap first_of (get_or-set_same b.heads w.head n 0 there) ∙ first_is, omega (arith, ok.inside, r.sized.links),
-          subst (λ (y : ℕ). Chain b.links y (r.plan.chain w.head)) (ap first_of found ∙ sym (ok.link (first_of w.word) link unlinked)) (r.rows.chains w.head walked.inside)))
+          (subst (Chain b.links (first_of (get_or (set b.heads w.head n) w.head 0))) (sym (put_here r.plan.chain w.head (o.slot ∷ r.plan.chain w.head))) (
+            ap first_of (get_or-set_same b.heads w.head n 0 there) ∙ first_is,
+            omega (arith, ok.inside, r.sized.links),
+            subst (λ (y : ℕ). Chain b.links y (r.plan.chain w.head)) (ap first_of found ∙ sym (ok.link (first_of w.word) link unlinked)) (r.rows.chains w.head walked.inside),
+          ))
       | no ne ↦ subst (Chain b.links (first_of (get_or (set b.heads w.head n) g 0))) (sym (put_else r.plan.chain w.head (o.slot ∷ r.plan.chain w.head) g ne))
           (subst (λ (y : ℕ). Chain b.links (first_of y) (r.plan.chain g)) (sym (get_or-set_other b.heads w.head g n 0 ne)) (r.rows.chains g inside))
     ];
@@ -134,7 +140,7 @@ module _ (z : Size) (b : Board) (vs : List View) (r : Kept z b vs) (id : ℕ) (v
     stands = on_chain (λ g q. bucket b.row (text_of b.texts q) ≡ g) (ap (bucket b.row) text_is ∙ ended.0) r.rows.stands;
     unlike = λ g k q inside i j e. elim (ℕ_discrete g w.head) as (λ _. k ≡ q) [
       | yes is ↦ let here : (y : ℕ) → In y (put r.plan.chain w.head (o.slot ∷ r.plan.chain w.head) g) → (o.slot ≡ y) ⊎ In y (r.plan.chain w.head) =
-            (λ y l. in_cases y o.slot (r.plan.chain w.head) (subst (In y) (put_here r.plan.chain w.head (o.slot ∷ r.plan.chain w.head)) (subst (λ (x : ℕ). In y (put r.plan.chain w.head (o.slot ∷ r.plan.chain w.head) x)) is l))) in
+          (λ y l. in_cases y o.slot (r.plan.chain w.head) (subst (In y) (put_here r.plan.chain w.head (o.slot ∷ r.plan.chain w.head)) (subst (λ (x : ℕ). In y (put r.plan.chain w.head (o.slot ∷ r.plan.chain w.head) x)) is l))) in
           ⊎_elim
           (λ (a : o.slot ≡ k). ⊎_elim (λ (c : o.slot ≡ q). sym a ∙ c) (λ (c : In q (r.plan.chain w.head)). absurd (new_text q c (sym e ∙ (ap (text_of b.texts) (sym a) ∙ text_is)))) (here q j))
           (λ (a : In k (r.plan.chain w.head)). ⊎_elim (λ (c : o.slot ≡ q). absurd (new_text k a (e ∙ (ap (text_of b.texts) (sym c) ∙ text_is)))) (λ (c : In q (r.plan.chain w.head)). r.rows.unlike w.head k q walked.inside a c e) (here q j))
@@ -155,9 +161,16 @@ module _ (z : Size) (b : Board) (vs : List View) (r : Kept z b vs) (id : ℕ) (v
   others_linked : (j : ℕ) (y : View) → j ≢ id → SeatOk z b r.plan j y → SeatOk z (with_head b w.head n) plan' j y
   others_linked j y other sj = record {
     size = sj.size;
-    own = λ m e. let k = sj.own m e in record { inside = k.inside; mine = k.mine; state = k.state; short = k.short; text = k.text; link = k.link;
-        apart = λ un l. ⊎_elim (λ (t : o.slot ≡ m.slot). other (sym k.mine ∙ (ap r.plan.owner (sym t) ∙ ok.mine))) (k.apart un) (was_linked z r.plan.chain w.head o.slot walked.inside m.slot l);
-        linked = λ on. let t = k.linked on in (still_linked z r.plan.chain w.head o.slot walked.inside m.slot t.0, t.1) };
+    own = λ m e. let k = sj.own m e in record {
+      inside = k.inside;
+      mine = k.mine;
+      state = k.state;
+      short = k.short;
+      text = k.text;
+      link = k.link;
+      apart = λ un l. ⊎_elim (λ (t : o.slot ≡ m.slot). other (sym k.mine ∙ (ap r.plan.owner (sym t) ∙ ok.mine))) (k.apart un) (was_linked z r.plan.chain w.head o.slot walked.inside m.slot l);
+      linked = λ on. let t = k.linked on in (still_linked z r.plan.chain w.head o.slot walked.inside m.slot t.0, t.1);
+    };
     held = λ i a e. held_linked z r.plan.chain w.head o.slot walked.inside b.atoms b.texts a (sj.held i a e);
     fixed = λ i a e. held_linked z r.plan.chain w.head o.slot walked.inside b.atoms b.texts a (sj.fixed i a e);
     counts = λ cs e. counts_linked z r.plan.chain w.head o.slot walked.inside b.atoms b.texts r.plan.keeper j cs (sj.counts cs e);

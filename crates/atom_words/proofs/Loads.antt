@@ -96,9 +96,9 @@ module _ (z : Size) (b : Board) (vs : List View) (r : Kept z b vs) (id : ℕ) (v
       each = λ q i. ⊎_elim
           (λ (t : Seen b.texts w.seen q). inl (t.0, t.1, at_longer w.seen (at_hand w ∷ []) t.0 t.1 t.2, t.3, t.4))
           (λ (t : In q u.path). ⊎_elim
-              (λ (e : k ≡ q). inl (length w.seen, at_hand w, at_last w.seen (at_hand w) (length w.seen) refl, omega arith, subst (λ (n : ℕ). take (length w.part) (text_of b.texts n) ≡ w.part) e (u.part k place)))
-              (λ (l : In q c.0). inr l)
-              (in_cases q k c.0 (subst (In q) c.1 t)))
+          (λ (e : k ≡ q). inl (length w.seen, at_hand w, at_last w.seen (at_hand w) (length w.seen) refl, omega arith, subst (λ (n : ℕ). take (length w.part) (text_of b.texts n) ≡ w.part) e (u.part k place)))
+          (λ (l : In q c.0). inr l)
+          (in_cases q k c.0 (subst (In q) c.1 t)))
           (u.each q i);
       inside = λ q i. u.inside q (subst (In q) (sym c.1) (in_later q k c.0 i));
       part = λ q e. refl;

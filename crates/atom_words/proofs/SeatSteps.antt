@@ -104,7 +104,7 @@ module _ (z : Size) (b : Board) (vs : List View) (r : Kept z b vs) where
           (λ j y ne e alive. ⊎_elim
           (λ (t : (j ≡ id) × (with_keeper v w ≡ y)). subst (λ (x : ℕ × View). K x.0 x.1) (λ i. (sym t.0 i, t.1 i)) joined)
           (λ (t : (j ≢ id) × (get_elem? vs j ≡ some y)). rekept z b r.plan (keeper_at r.plan.keeper id w.counts) j y
-              (λ cs has mine. keeper_else r.plan.keeper id other j w.counts (λ ws has_too. (theirs.counts ws has_too).mine) ne mine) (r.seats j y t.1 alive))
+          (λ cs has mine. keeper_else r.plan.keeper id other j w.counts (λ ws has_too. (theirs.counts ws has_too).mine) ne mine) (r.seats j y t.1 alive))
           (at_set vs id j (with_keeper v w) y e));
     }
 

@@ -117,8 +117,11 @@ chain_same links p (x ∷ xs) (y ∷ ys) c d = let e : x ≡ y = omega (arith, c
 -- a link word outside the chain may change
 pub chain_else : (links : List ℕ) (s x p : ℕ) (ks : List ℕ) → Chain links p ks → ¬ In s ks → Chain (set links s x) p ks
 chain_else links s x p [] c out = c
-chain_else links s x p (k ∷ ks) c out = let ne : k ≢ s = (λ e. out (0, ap some e)) in (c.0, omega (arith, c.1, length-set links s x),
-    subst (λ (j : ℕ). Chain (set links s x) j ks) (sym (get_or-set_other links s k x 0 ne)) (chain_else links s x (get_or links k 0) ks c.2 (λ i. out (in_later s k ks i))))
+chain_else links s x p (k ∷ ks) c out = let ne : k ≢ s = (λ e. out (0, ap some e)) in (
+  c.0,
+  omega (arith, c.1, length-set links s x),
+  subst (λ (j : ℕ). Chain (set links s x) j ks) (sym (get_or-set_other links s k x 0 ne)) (chain_else links s x (get_or links k 0) ks c.2 (λ i. out (in_later s k ks i))),
+)
 
 pub chain_inside : (links : List ℕ) (p k : ℕ) (ks : List ℕ) → Chain links p ks → In k ks → k < length links
 chain_inside links p k [] c i = absurd (in_none k i)

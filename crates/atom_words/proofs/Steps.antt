@@ -43,23 +43,60 @@ module _ (key : Size) (slots id : ℕ) (me : Sat) (is : key ≡ me.0.size) (here
       → Allows (Rule key) slots id me i (λ n. either (eqb n 0) 1 n) (reserved (step slots i 0 1 none) me)
   reserving i k at inside unowned = subst (λ (w : ℕ). Allows (Rule key) slots id me w (λ n. either (eqb n 0) 1 n) (reserved (step slots w 0 1 none) me)) (sym at)
       (atom_exchange key me.0.size slots id me k 0 1 (reserved (step slots (atom_at me.0.size k) 0 1 none) me) is here inside
-      (λ b vs r seen hit. (Reserve k, (inside, unowned, ap state_of hit, refl), (refl, λ j e. let same : k ≡ j = omega arith in
-          ((λ _. ap (λ (x : ℕ). view_after me.0 (Reserve x)) same), (λ four. absurd (omega arith)), (λ ne. absurd (ne hit))))))
+      (λ b vs r seen hit. (
+        Reserve k,
+        (inside, unowned, ap state_of hit, refl),
+        (
+          refl,
+          λ j e. let same : k ≡ j = omega arith in
+              ((λ _. ap (λ (x : ℕ). view_after me.0 (Reserve x)) same), (λ four. absurd (omega arith)), (λ ne. absurd (ne hit))),
+        ),
+      ))
       (λ b vs r seen miss. dite (ℕ_discrete (atom b k) 4)
-          (λ four. (Load (atom_at me.0.size k) 4, (atom_read me.0.size b r.sized k inside ∙ four, refl), (refl, λ j e. let same : k ≡ j = omega arith in
-              ((λ zero. absurd (miss zero)), (λ _. ap (λ (x : ℕ). view_after me.0 (Load (atom_at me.0.size x) 4)) same), (λ _ ne. absurd (ne four))))))
-          (λ other. (Refused k 0 (atom b k), (inside, refl, refl, miss, refl), (refl, λ j e. let same : k ≡ j = omega arith in
-              ((λ zero. absurd (miss zero)), (λ four. absurd (other four)),
-              λ _ _. ((λ free. free_word (atom b k) miss other free (r.slots.zero k (λ three. omega arith))), ap (λ (x : ℕ). view_after me.0 (Refused x 0 (atom b k))) same)))))))
+      (λ four. (
+        Load (atom_at me.0.size k) 4,
+        (atom_read me.0.size b r.sized k inside ∙ four, refl),
+        (
+          refl,
+          λ j e. let same : k ≡ j = omega arith in
+              ((λ zero. absurd (miss zero)), (λ _. ap (λ (x : ℕ). view_after me.0 (Load (atom_at me.0.size x) 4)) same), (λ _ ne. absurd (ne four))),
+        ),
+      ))
+      (λ other. (
+        Refused k 0 (atom b k),
+        (inside, refl, refl, miss, refl),
+        (
+          refl,
+          λ j e. let same : k ≡ j = omega arith in (
+            (λ zero. absurd (miss zero)),
+            (λ four. absurd (other four)),
+            λ _ _. ((λ free. free_word (atom b k) miss other free (r.slots.zero k (λ three. omega arith))), ap (λ (x : ℕ). view_after me.0 (Refused x 0 (atom b k))) same),
+          ),
+        ),
+      ))))
 
   pub reserving_marked : (i k : ℕ) → i ≡ atom_at me.0.size k → k < me.0.size.slots → me.0.own ≡ None
       → Allows (Rule key) slots id me i (λ n. either (eqb n 4) 1 n) (reserved_marked (step slots i 4 1 none) me)
   reserving_marked i k at inside unowned = subst (λ (w : ℕ). Allows (Rule key) slots id me w (λ n. either (eqb n 4) 1 n) (reserved_marked (step slots w 4 1 none) me)) (sym at)
       (atom_exchange key me.0.size slots id me k 4 1 (reserved_marked (step slots (atom_at me.0.size k) 4 1 none) me) is here inside
-      (λ b vs r seen hit. (Reserve k, (inside, unowned, ap state_of hit, refl), (refl, λ j e. let same : k ≡ j = omega arith in
-          ((λ _. ap (λ (x : ℕ). view_after me.0 (Reserve x)) same), λ ne. absurd (ne hit)))))
-      (λ b vs r seen miss. (Refused k 4 (atom b k), (inside, refl, refl, miss, refl), (refl, λ j e. let same : k ≡ j = omega arith in
-          ((λ four. absurd (miss four)), λ _. ap (λ (x : ℕ). view_after me.0 (Refused x 4 (atom b k))) same)))))
+      (λ b vs r seen hit. (
+        Reserve k,
+        (inside, unowned, ap state_of hit, refl),
+        (
+          refl,
+          λ j e. let same : k ≡ j = omega arith in
+              ((λ _. ap (λ (x : ℕ). view_after me.0 (Reserve x)) same), λ ne. absurd (ne hit)),
+        ),
+      ))
+      (λ b vs r seen miss. (
+        Refused k 4 (atom b k),
+        (inside, refl, refl, miss, refl),
+        (
+          refl,
+          λ j e. let same : k ≡ j = omega arith in
+              ((λ four. absurd (miss four)), λ _. ap (λ (x : ℕ). view_after me.0 (Refused x 4 (atom b k))) same),
+        ),
+      )))
 
   pub putting_word : (i x : ℕ) (o : Own) → me.0.own ≡ Some o → o.linked ≡ false → length o.text < 32 → i ≡ text_at me.0.size (32 * o.slot + length o.text)
       → Allows (Rule key) slots id me i (λ _. x) (λ _. word_put (step slots i x 0 none) me x)
@@ -89,21 +126,27 @@ module _ (key : Size) (slots id : ℕ) (me : Sat) (is : key ≡ me.0.size) (here
   registering i cs a at inside counts ours room = subst (λ (w : ℕ). Allows (Rule key) slots id me w (λ n. (n + 8) % 2 ^ 64) (registered (step slots w 8 0 none) me)) (sym at)
       (atom_goes key me.0.size slots id me a.slot (λ n. (n + 8) % 2 ^ 64) (registered (step slots (atom_at me.0.size a.slot) 8 0 none) me) is here inside
       (λ b vs r seen small. let s = r.seats id me.0 seen here in let ok = s.counts cs counts in
-          let was : count_of (atom b a.slot) ≡ (counted cs a.slot).count = ok.counts a.slot (counted cs a.slot) (or_at cs a.slot uncounted (omega (arith, ok.each_slot))) in
-          let fits : (atom b a.slot + 8) % 18446744073709551616 ≡ atom b a.slot + 8 = omega arith in
-          let k = has me.0.size b vs r id me.0 s a ours in
-          (Register a, (cs, counts, ours, room, ap (with_atom b a.slot) fits), (refl, λ x too e. let h = has me.0.size b vs r id me.0 s x too in let same : a.slot ≡ x.slot = omega arith in
+      let was : count_of (atom b a.slot) ≡ (counted cs a.slot).count = ok.counts a.slot (counted cs a.slot) (or_at cs a.slot uncounted (omega (arith, ok.each_slot))) in
+      let fits : (atom b a.slot + 8) % 18446744073709551616 ≡ atom b a.slot + 8 = omega arith in
+      let k = has me.0.size b vs r id me.0 s a ours in (
+        Register a,
+        (cs, counts, ours, room, ap (with_atom b a.slot) fits),
+        (
+          refl,
+          λ x too e. let h = has me.0.size b vs r id me.0 s x too in let same : a.slot ≡ x.slot = omega arith in
               let text : a.text ≡ x.text = sym k.text ∙ (ap (Rattle.atom_words.specs.Board.text_of b.texts) same ∙ h.text) in
-              λ j. view_after me.0 (Register (record { slot = same j; text = text j }))))))
+              λ j. view_after me.0 (Register (record { slot = same j; text = text j })),
+        ),
+      )))
 
   pub unregistering : (i k : ℕ) (cs : List Counted) → i ≡ atom_at me.0.size k → k < me.0.size.slots → me.0.counts ≡ Some cs → 0 < (counted cs k).count
       → Allows (Rule key) slots id me i (λ n. (n + (2 ^ 64 - 8)) % 2 ^ 64) (unregistered (step slots i 8 0 none) me)
   unregistering i k cs at inside counts some_ = subst (λ (w : ℕ). Allows (Rule key) slots id me w (λ n. (n + (2 ^ 64 - 8)) % 2 ^ 64) (unregistered (step slots w 8 0 none) me)) (sym at)
       (atom_goes key me.0.size slots id me k (λ n. (n + (2 ^ 64 - 8)) % 2 ^ 64) (unregistered (step slots (atom_at me.0.size k) 8 0 none) me) is here inside
       (λ b vs r seen small. let s = r.seats id me.0 seen here in let ok = s.counts cs counts in
-          let was : count_of (atom b k) ≡ (counted cs k).count = ok.counts k (counted cs k) (or_at cs k uncounted (omega (arith, ok.each_slot))) in
-          let fits : (atom b k + (18446744073709551616 - 8)) % 18446744073709551616 ≡ atom b k - 8 = omega arith in
-          (Unregister k, (cs, counts, inside, some_, ap (with_atom b k) fits), (refl, λ j e. let same : k ≡ j = omega arith in ap (λ (x : ℕ). view_after me.0 (Unregister x)) same))))
+      let was : count_of (atom b k) ≡ (counted cs k).count = ok.counts k (counted cs k) (or_at cs k uncounted (omega (arith, ok.each_slot))) in
+      let fits : (atom b k + (18446744073709551616 - 8)) % 18446744073709551616 ≡ atom b k - 8 = omega arith in
+      (Unregister k, (cs, counts, inside, some_, ap (with_atom b k) fits), (refl, λ j e. let same : k ≡ j = omega arith in ap (λ (x : ℕ). view_after me.0 (Unregister x)) same))))
 
   pub starting_pass : Allows (Rule key) slots id me 0 (λ n. n) (pass_started (step slots 0 0 0 none) me)
   starting_pass = epoch_load key me.0.size slots id me (pass_started (step slots 0 0 0 none) me) is here (λ b vs r seen small. (StartPass b.epoch, (refl, refl), (refl, refl)))

@@ -67,8 +67,16 @@ module _ (z : Size) (b : Board) (vs : List View) (r : Kept z b vs) (id : ℕ) (v
     others_text : (j : ℕ) (w : View) → j ≢ id → SeatOk z b r.plan j w → SeatOk z (with_text b (32 * o.slot + length o.text) x) r.plan j w
     others_text j w other sj = let t : List ℕ = set b.texts (32 * o.slot + length o.text) x in record {
       size = sj.size;
-      own = λ n e. let h = sj.own n e in record { inside = h.inside; mine = h.mine; state = h.state; short = h.short;
-          text = ap (take (length n.text)) (text_else b.texts o.slot (length o.text) x n.slot more (other_slot j w o n own other sj e)) ∙ h.text; link = h.link; apart = h.apart; linked = h.linked };
+      own = λ n e. let h = sj.own n e in record {
+        inside = h.inside;
+        mine = h.mine;
+        state = h.state;
+        short = h.short;
+        text = ap (take (length n.text)) (text_else b.texts o.slot (length o.text) x n.slot more (other_slot j w o n own other sj e)) ∙ h.text;
+        link = h.link;
+        apart = h.apart;
+        linked = h.linked;
+      };
       held = λ i a e. held_text z b.texts t r.plan.chain linked_text b.atoms a (sj.held i a e);
       fixed = λ i a e. held_text z b.texts t r.plan.chain linked_text b.atoms a (sj.fixed i a e);
       counts = λ cs e. counts_text z b.texts t r.plan.chain linked_text b.atoms r.plan.keeper j cs (sj.counts cs e);
@@ -125,8 +133,16 @@ module _ (z : Size) (b : Board) (vs : List View) (r : Kept z b vs) (id : ℕ) (v
     others_link_word : (j : ℕ) (w : View) → j ≢ id → SeatOk z b r.plan j w → SeatOk z (with_link b o.slot l) r.plan j w
     others_link_word j w other sj = record {
       size = sj.size;
-      own = λ n e. let h = sj.own n e in record { inside = h.inside; mine = h.mine; state = h.state; short = h.short; text = h.text;
-          link = λ m is un. get_or-set_other b.links o.slot n.slot l 0 (other_slot j w o n own other sj e) ∙ h.link m is un; apart = h.apart; linked = h.linked };
+      own = λ n e. let h = sj.own n e in record {
+        inside = h.inside;
+        mine = h.mine;
+        state = h.state;
+        short = h.short;
+        text = h.text;
+        link = λ m is un. get_or-set_other b.links o.slot n.slot l 0 (other_slot j w o n own other sj e) ∙ h.link m is un;
+        apart = h.apart;
+        linked = h.linked;
+      };
       held = sj.held;
       fixed = sj.fixed;
       counts = sj.counts;

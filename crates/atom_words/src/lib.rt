@@ -15,15 +15,18 @@ mod places;
 mod plays;
 mod rule;
 mod size;
+mod slots;
 mod view;
 mod words;
 
 pub use kind::Kind;
+pub use plays::{
+    EndingPass, Protecting, PuttingWord, Registering, Releasing, Reserving, ReservingMarked,
+    StartingPass, Unregistering, Validating,
+};
 pub use rule::{AtomRule, every_state};
 pub use size::Size;
-pub use view::{Cause, Counted, Cycling, Held, Own, Pass, Passing, Refusal, Sweeping, View, Walk, WornWord};
-pub use plays::{
-    EndingPass, Protecting, PuttingWord, Registering, Releasing, Reserving, ReservingMarked, StartingPass,
-    Unregistering, Validating,
+pub use view::{
+    Cause, Counted, Cycling, Held, Own, Pass, Passing, Refusal, Sweeping, View, Walk, WornWord,
 };
 pub use words::{AtomSeat, Words};

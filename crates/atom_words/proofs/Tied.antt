@@ -1,0 +1,38 @@
+-- What a seat keeps at run time stays tied to its view.
+use Rattle.std.proofs.Common.{◌≡◌, ◌≢◌, ℕ, ◌+◌, ◌<◌, [], ◌∷◌, refl, sym, ap, ◌∙◌, subst, arith, Option, Some, None, option_map}
+use Rattle.atom_words.specs.Kinds.{fresh, putting, linking, linked_own, reading, going_on, guarding, next_first, next_counted, counting, view_after}
+use Rattle.atom_words.specs.Ties.{own_slot, walk_head, walk_word, pass_began, pass_first, pass_counted, OwnTied, WalkTied, PassTied}
+use Rattle.atom_words.specs.declared.view.Own.{Own}
+use Rattle.atom_words.specs.declared.view.Walk.{Walk}
+use Rattle.atom_words.specs.declared.view.Passing.{Passing}
+use Rattle.atom_words.specs.declared.view.View.{View}
+use Rattle.atom_words.specs.declared.kind.Kind.{Kind}
+
+-- views that agree on the own slot, the walk or the pass are tied alike
+pub own_tied : (v w : View) (own : ℕ) → w ≡ v → OwnTied v own → OwnTied w own
+own_tied v w own e = subst (λ y. OwnTied y own) (sym e)
+
+pub walk_tied : (v w : View) (head word : ℕ) → w ≡ v → WalkTied v head word → WalkTied w head word
+walk_tied v w head word e = subst (λ y. WalkTied y head word) (sym e)
+
+pub pass_tied : (v w : View) (began first counted : ℕ) → w ≡ v → PassTied v began first counted → PassTied w began first counted
+pass_tied v w began first counted e = subst (λ y. PassTied y began first counted) (sym e)
+
+-- the number of the own slot stays as words are put
+pub own_put : (f : Own → Own) (o : Option Own) (d : ℕ) → ((x : Own) → (f x).slot ≡ x.slot) → own_slot d o ≡ d → own_slot d (option_map f o) ≡ d
+own_put f None d same e = e
+own_put f (Some x) d same e = same x ∙ e
+
+pub walk_head_on : (f : Walk → Walk) (o : Option Walk) (d : ℕ) → ((x : Walk) → (f x).head ≡ x.head) → walk_head d o ≡ d → walk_head d (option_map f o) ≡ d
+walk_head_on f None d same e = e
+walk_head_on f (Some x) d same e = same x ∙ e
+
+pub walk_word_on : (f : Walk → Walk) (o : Option Walk) (d : ℕ) → ((x : Walk) → (f x).word ≡ x.word) → walk_word d o ≡ d → walk_word d (option_map f o) ≡ d
+walk_word_on f None d same e = e
+walk_word_on f (Some x) d same e = same x ∙ e
+
+-- a pass counts on
+pub pass_on : (slots k : ℕ) (o : Option Passing) (b f c : ℕ) → (pass_began b o ≡ b) × (pass_first f o ≡ f) × (pass_counted c o ≡ c)
+    → (pass_began b (option_map (counting slots k) o) ≡ b) × (pass_first (next_first k f c) (option_map (counting slots k) o) ≡ next_first k f c) × (pass_counted (next_counted slots k f c) (option_map (counting slots k) o) ≡ next_counted slots k f c)
+pass_on slots k None b f c e = (refl, refl, refl)
+pass_on slots k (Some p) b f c e = (e.0, (λ i. next_first k (e.1 i) (e.2 i)), (λ i. next_counted slots k (e.1 i) (e.2 i)))

@@ -1,0 +1,144 @@
+//! Slots are taken, made valid, given back and marked.
+ghost use Rattle.std.specs.Prelude.{◌≡◌, ◌≢◌, ◌⊎◌, ℕ, ◌+◌, ◌^◌, ◌<◌, ◌≤◌, true, false, None, Some, [], ◌∷◌, MatchResult};
+ghost use Rattle.atom_words.specs.Layout.{state_of};
+ghost use Rattle.atom_words.specs.Board.{atom_at};
+ghost use Rattle.atom_words.specs.Kinds.{view_after, after, next_first, next_counted};
+ghost use Rattle.atom_words.specs.Seats.{seen, Fits, Same, Reserves, FindsTaken};
+ghost use Rattle.atom_words.specs.declared.kind.Kind.TheVariants.{Reserve, Load, Refused, Validate, Release, Protect};
+ghost use Rattle.atom_words.specs.declared.view.Own.{Own};
+ghost use Rattle.atom_words.specs.declared.view.View.{View};
+
+use crate::plays::{Protecting, Releasing, Reserving, ReservingMarked, Validating};
+use crate::view::View;
+use crate::words::{AtomSeat, Words};
+use atomic_table::Seat;
+
+// The slot that a pass counted first, after one more was found taken.
+fn next_first(slot: u32, first: u32, counted: u32) -> u32
+    ensures { result ≡ next_first slot first counted }
+{
+    if counted == 0 { slot } else { first }
+}
+
+// How many slots a pass has counted, after one more was found taken.
+fn next_counted(slots: u64, slot: u32, first: u32, counted: u32) -> u32
+    requires { (0 < slots) × (slots < 2 ^ 32) }
+    ensures { result ≡ next_counted slots slot first counted }
+{
+    if counted == 0 {
+        1
+    } else if (counted as u64) < slots && slot as u64 == (first as u64 + counted as u64) % slots {
+        counted + 1
+    } else {
+        counted
+    }
+}
+
+impl Words {
+    // The exchange of a free slot's word without a mark.
+    fn exchange_free(&self, seat: &mut Seat<(), View>, slot: u32) -> u64
+        requires fits { (seat.old.table_id ≡ self.now.table.shared.table_id) × (seat.old.me.0.size ≡ self.now.size) × (seat.old.me.0.gone ≡ false) }
+        requires slot { slot < self.now.size.slots }
+        requires none { seat.old.me.0.own ≡ None }
+        ensures same { (seat.new.table_id ≡ seat.old.table_id) × (seat.new.id ≡ seat.old.id) × (seat.new.me.1 ≡ seat.old.me.1) }
+        ensures took { result ≡ 0 → seat.new.me.0 ≡ view_after seat.old.me.0 (Reserve slot) }
+        ensures marked { result ≡ 4 → seat.new.me.0 ≡ view_after seat.old.me.0 (Load (atom_at seat.old.me.0.size slot) 4) }
+        ensures taken { result ≢ 0 → result ≢ 4 → (state_of result ≢ 0) × (seat.new.me.0 ≡ view_after seat.old.me.0 (Refused slot 0 result)) }
+    {
+        let place = self.atom_place(slot);
+        self.table
+            .shared
+            .compare_exchange::<Reserving>(seat, place, 0, 1)
+    }
+
+    // The exchange of a free slot's word with its mark set.
+    fn exchange_marked(&self, seat: &mut Seat<(), View>, slot: u32) -> u64
+        requires fits { (seat.old.table_id ≡ self.now.table.shared.table_id) × (seat.old.me.0.size ≡ self.now.size) × (seat.old.me.0.gone ≡ false) }
+        requires slot { slot < self.now.size.slots }
+        requires none { seat.old.me.0.own ≡ None }
+        ensures same { (seat.new.table_id ≡ seat.old.table_id) × (seat.new.id ≡ seat.old.id) × (seat.new.me.1 ≡ seat.old.me.1) }
+        ensures took { result ≡ 4 → seat.new.me.0 ≡ view_after seat.old.me.0 (Reserve slot) }
+        ensures lost { result ≢ 4 → seat.new.me.0 ≡ view_after seat.old.me.0 (Refused slot 4 result) }
+    {
+        let place = self.atom_place(slot);
+        self.table
+            .shared
+            .compare_exchange::<ReservingMarked>(seat, place, 4, 1)
+    }
+
+    /// Takes a free slot for the seat. A free slot may have its mark set, which is found by a second exchange.
+    ///
+    /// # Errors
+    /// The word that was found, where the slot is not free, or where it was free with its mark set and another seat took
+    /// it meanwhile. Where a pass is at hand, the slot is counted.
+    pub fn reserve(&self, seat: &mut AtomSeat, slot: u32) -> Result<(), u64>
+        requires fits { Fits self.now seat.old }
+        requires slot { slot < self.now.size.slots }
+        requires none { (seen seat.old).own ≡ None }
+        ensures same { Same seat.old seat.new }
+        ensures steps { MatchResult result (λ _. Reserves (seen seat.old) slot (seen seat.new)) (λ x. FindsTaken (seen seat.old) slot x (seen seat.new)) }
+    {
+        let mut found = self.exchange_free(&mut seat.seat, slot);
+        if found == 0 {
+            seat.own = slot;
+            return Ok(());
+        }
+        if found == 4 {
+            found = self.exchange_marked(&mut seat.seat, slot);
+            if found == 4 {
+                seat.own = slot;
+                return Ok(());
+            }
+        }
+        let first = next_first(slot, seat.first, seat.counted);
+        seat.counted = next_counted(self.size.slots, slot, seat.first, seat.counted);
+        seat.first = first;
+        Err(found)
+    }
+
+    /// Makes the seat's own slot valid, with its mark set, and answers it. The seat then holds it.
+    pub fn validate(&self, seat: &mut AtomSeat) -> u32
+        requires fits { Fits self.now seat.old }
+        requires linked { (o : Own) × ((seen seat.old).own ≡ Some o) × (o.linked ≡ true) }
+        ensures same { Same seat.old seat.new }
+        ensures steps { seen seat.new ≡ after (seen seat.old) (Validate ∷ []) }
+        ensures slot { (o : Own) → (seen seat.old).own ≡ Some o → result ≡ o.slot }
+    {
+        let place = self.atom_place(seat.own);
+        self.table
+            .shared
+            .store::<Validating>(&mut seat.seat, place, 7);
+        seat.own
+    }
+
+    /// Gives the seat's own slot back, which is not linked.
+    pub fn release(&self, seat: &mut AtomSeat)
+        requires fits { Fits self.now seat.old }
+        requires unlinked { (o : Own) × ((seen seat.old).own ≡ Some o) × (o.linked ≡ false) }
+        ensures same { Same seat.old seat.new }
+        ensures steps { seen seat.new ≡ after (seen seat.old) (Release ∷ []) }
+    {
+        let place = self.atom_place(seat.own);
+        self.table
+            .shared
+            .store::<Releasing>(&mut seat.seat, place, 0);
+    }
+
+    /// Sets a slot's mark, by one exchange, whatever the phase of the cycle.
+    ///
+    /// # Errors
+    /// The word that was found, where the slot is not valid; its mark is set all the same.
+    pub fn protect(&self, seat: &mut AtomSeat, slot: u32) -> Result<(), u64>
+        requires fits { Fits self.now seat.old }
+        requires slot { slot < self.now.size.slots }
+        ensures same { Same seat.old seat.new }
+        ensures steps { MatchResult result (λ _. (x : ℕ) × (state_of x ≡ 3) × (seen seat.new ≡ after (seen seat.old) (Protect slot x ∷ []))) (λ x. (state_of x ≢ 3) × (seen seat.new ≡ after (seen seat.old) (Protect slot x ∷ []))) }
+    {
+        let place = self.atom_place(slot);
+        let found = self
+            .table
+            .shared
+            .fetch_or::<Protecting>(&mut seat.seat, place, 4);
+        if found % 4 == 3 { Ok(()) } else { Err(found) }
+    }
+}
