@@ -12,3 +12,4 @@ pub mod Every
 pub mod Adapters
 pub mod Steps
 pub mod Tied
+pub mod Putting

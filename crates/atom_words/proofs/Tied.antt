@@ -2,6 +2,7 @@
 use Rattle.std.proofs.Common.{◌≡◌, ◌≢◌, ℕ, ◌+◌, ◌<◌, [], ◌∷◌, refl, sym, ap, ◌∙◌, subst, arith, Option, Some, None, option_map}
 use Rattle.atom_words.specs.Kinds.{fresh, putting, linking, linked_own, reading, going_on, guarding, next_first, next_counted, counting, view_after}
 use Rattle.atom_words.specs.Ties.{own_slot, walk_head, walk_word, pass_began, pass_first, pass_counted, OwnTied, WalkTied, PassTied}
+use Rattle.atom_words.specs.declared.size.Size.{Size}
 use Rattle.atom_words.specs.declared.view.Own.{Own}
 use Rattle.atom_words.specs.declared.view.Walk.{Walk}
 use Rattle.atom_words.specs.declared.view.Passing.{Passing}
@@ -36,3 +37,13 @@ pub pass_on : (slots k : ℕ) (o : Option Passing) (b f c : ℕ) → (pass_began
     → (pass_began b (option_map (counting slots k) o) ≡ b) × (pass_first (next_first k f c) (option_map (counting slots k) o) ≡ next_first k f c) × (pass_counted (next_counted slots k f c) (option_map (counting slots k) o) ≡ next_counted slots k f c)
 pass_on slots k None b f c e = (refl, refl, refl)
 pass_on slots k (Some p) b f c e = (e.0, (λ i. next_first k (e.1 i) (e.2 i)), (λ i. next_counted slots k (e.1 i) (e.2 i)))
+
+-- views that agree in part
+pub same_owns : (v w : View) (own : ℕ) → w.own ≡ v.own → w.size ≡ v.size → OwnTied v own → OwnTied w own
+same_owns v w own e z t = (ap (own_slot own) e ∙ t.0, subst (λ (y : Size). own < y.slots) (sym z) t.1)
+
+pub same_walks : (v w : View) (head word : ℕ) → w.walk ≡ v.walk → w.size ≡ v.size → WalkTied v head word → WalkTied w head word
+same_walks v w head word e z t = (ap (walk_head head) e ∙ t.0, ap (walk_word word) e ∙ t.1, subst (λ (y : Size). head < y.heads) (sym z) t.2)
+
+pub same_passes : (v w : View) (began first counted : ℕ) → w.pass ≡ v.pass → PassTied v began first counted → PassTied w began first counted
+same_passes v w began first counted e t = (ap (pass_began began) e ∙ t.0, ap (pass_first first) e ∙ t.1, ap (pass_counted counted) e ∙ t.2)

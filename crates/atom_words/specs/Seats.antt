@@ -1,9 +1,14 @@
 -- What the calls say of a table and a seat.
-use Rattle.std.specs.Prelude.{◌≡◌, ◌≢◌, ◌⊎◌, ℕ, false, List, [], ◌∷◌, map, None}
+use Rattle.std.specs.Prelude.{◌≡◌, ◌≢◌, ◌⊎◌, ℕ, false, List, [], ◌∷◌, map, Option, Some, None}
 use Rattle.atom_words.specs.Layout.{state_of}
 use Rattle.atom_words.specs.Texts.{row_of}
 use Rattle.atom_words.specs.Board.{atom_at}
+use Rattle.atom_words.specs.Chains.{In}
 use Rattle.atom_words.specs.Kinds.{after}
+use Rattle.atom_words.specs.declared.view.Held.{Held}
+use Rattle.atom_words.specs.declared.view.Pass.{Pass}
+use Rattle.atom_words.specs.declared.view.Refusal.{Refusal}
+use Rattle.atom_words.specs.declared.view.Refusal.TheVariants.{Full}
 use Rattle.atom_words.specs.declared.view.View.{View}
 use Rattle.atom_words.specs.declared.kind.Kind.{Kind}
 use Rattle.atom_words.specs.declared.kind.Kind.TheVariants.{Reserve, Load, Refused, PutWord}
@@ -29,6 +34,15 @@ Reserves v k w = (w ≡ after v (Reserve k ∷ [])) ⊎ (w ≡ after v (Load (at
 -- The steps of a reserve that is refused with the word x: the slot is not free; or it was free with its mark set, and the exchange is lost
 abbrev pub FindsTaken : View → ℕ → ℕ → View → Type 0
 FindsTaken v k x w = ((state_of x ≢ 0) × (w ≡ after v (Refused k 0 x ∷ []))) ⊎ ((x ≢ 4) × (w ≡ after v (Load (atom_at v.size k) 4 ∷ Refused k 4 x ∷ [])))
+
+-- the seat holds the slot with its text, or it is one of the fixed atoms
+abbrev pub Has : View → Held → Type 0
+Has v a = In a v.held ⊎ In a v.fixed
+
+-- what a pass is answered with, as a refusal
+abbrev pub answered : Option Pass → List Refusal
+answered None = []
+answered (Some p) = Full p ∷ []
 
 abbrev pub puts : List ℕ → List Kind
 puts ws = map (λ x. PutWord x) ws

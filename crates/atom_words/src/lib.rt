@@ -10,12 +10,15 @@
 //! and Practice of Logic Programming, 2016; `docs/ATOM_TABLE.md` says where it differs.
 #![tactic(auto)]
 
+mod counts;
 mod kind;
+mod passes;
 mod places;
 mod plays;
 mod rule;
 mod size;
 mod slots;
+mod texts;
 mod view;
 mod words;
 
@@ -26,6 +29,7 @@ pub use plays::{
 };
 pub use rule::{AtomRule, every_state};
 pub use size::Size;
+pub use texts::MOST_BYTES;
 pub use view::{
     Cause, Counted, Cycling, Held, Own, Pass, Passing, Refusal, Sweeping, View, Walk, WornWord,
 };

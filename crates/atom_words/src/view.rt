@@ -1,4 +1,6 @@
 //! What a seat knows. Of `View` and its parts no value is made but of what answers carry: contracts and the rule speak of them.
+ghost use Rattle.std.specs.Prelude.{◌≡◌};
+
 use crate::kind::Kind;
 use crate::size::Size;
 use std::collections::LinkedList;
@@ -58,18 +60,71 @@ pub struct Passing {
 /// A pass that counted every slot as taken.
 #[derive(Clone, Copy, Debug, PartialEq, Eq, Drop)]
 pub struct Pass {
-    counted: u64,
-    seat: u64,
-    began: u64,
-    ended: u64,
+    pub(crate) counted: u64,
+    pub(crate) seat: u64,
+    pub(crate) began: u64,
+    pub(crate) ended: u64,
+}
+
+impl Pass {
+    /// How many slots the pass counted, which are all.
+    pub fn counted(&self) -> u64
+        ensures { result ≡ self.now.counted }
+    {
+        self.counted
+    }
+
+    /// The number of the engine whose seat made the pass, from 1.
+    pub fn seat(&self) -> u64
+        ensures { result ≡ self.now.seat }
+    {
+        self.seat
+    }
+
+    /// The epoch word as the pass began.
+    pub fn began(&self) -> u64
+        ensures { result ≡ self.now.began }
+    {
+        self.began
+    }
+
+    /// The epoch word as the pass ended.
+    pub fn ended(&self) -> u64
+        ensures { result ≡ self.now.ended }
+    {
+        self.ended
+    }
 }
 
 /// A head whose version is one of the last two, so that its bucket takes no new atom.
 #[derive(Clone, Copy, Debug, PartialEq, Eq, Drop)]
 pub struct WornWord {
-    head: u64,
-    word: u64,
-    start: u64,
+    pub(crate) head: u64,
+    pub(crate) word: u64,
+    pub(crate) start: u64,
+}
+
+impl WornWord {
+    /// The bucket's head.
+    pub fn head(&self) -> u64
+        ensures { result ≡ self.now.head }
+    {
+        self.head
+    }
+
+    /// The head's word.
+    pub fn word(&self) -> u64
+        ensures { result ≡ self.now.word }
+    {
+        self.word
+    }
+
+    /// The version that the table began with.
+    pub fn start(&self) -> u64
+        ensures { result ≡ self.now.start }
+    {
+        self.start
+    }
 }
 
 /// Why an attempt to intern a text is to be made again.

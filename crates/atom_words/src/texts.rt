@@ -1,0 +1,81 @@
+//! The text of a reserved slot is put.
+ghost use Rattle.std.specs.Prelude.{◌≡◌, ℕ, ◌+◌, ◌*◌, ◌<◌, ◌≤◌, false, [], length, get_or, drop, Some};
+ghost use Rattle.atom_words.specs.Texts.{packed, row_of};
+ghost use Rattle.atom_words.specs.Kinds.{after};
+ghost use Rattle.atom_words.specs.Seats.{seen, Fits, Same, puts};
+ghost use Rattle.atom_words.specs.declared.view.Own.{Own};
+
+use crate::plays::PuttingWord;
+use crate::view::View;
+use crate::words::{AtomSeat, Words};
+use atomic_table::Seat;
+
+/// The most bytes that a text may have.
+pub const MOST_BYTES: usize = 248;
+
+fn byte_at(text: &[u8], i: usize) -> u64
+    ensures byte { result ≡ get_or text.now i 0 }
+    ensures small { result < 256 }
+{
+    if i < text.len() { text[i] as u64 } else { 0 }
+}
+
+// Eight bytes from `from` on, lowest first.
+fn packed(text: &[u8], from: usize) -> u64
+    requires { from < 1000 }
+    ensures { result ≡ packed (drop from text.now) }
+{
+    byte_at(text, from)
+        + 256 * byte_at(text, from + 1)
+        + 65_536 * byte_at(text, from + 2)
+        + 16_777_216 * byte_at(text, from + 3)
+        + 4_294_967_296 * byte_at(text, from + 4)
+        + 1_099_511_627_776 * byte_at(text, from + 5)
+        + 281_474_976_710_656 * byte_at(text, from + 6)
+        + 72_057_594_037_927_936 * byte_at(text, from + 7)
+}
+
+// One of the 32 words of a text.
+fn row_word(text: &[u8], i: usize) -> u64
+    requires index { i < 32 }
+    requires short { length text.now ≤ 248 }
+    ensures { result ≡ get_or (row_of text.now) i 0 }
+{
+    if i == 0 {
+        text.len() as u64
+    } else {
+        packed(text, 8 * (i - 1))
+    }
+}
+
+impl Words {
+    // Puts the words of the text, one after the other.
+    fn put_words(&self, seat: &mut Seat<(), View>, own: u32, text: &[u8])
+        requires fits { (seat.old.table_id ≡ self.now.table.shared.table_id) × (seat.old.me.0.size ≡ self.now.size) × (seat.old.me.0.gone ≡ false) }
+        requires slot { own < self.now.size.slots }
+        requires short { length text.now ≤ 248 }
+        requires own { (o : Own) × (seat.old.me.0.own ≡ Some o) × (o.linked ≡ false) × (o.text ≡ []) × (o.slot ≡ own) }
+        ensures same { (seat.new.table_id ≡ seat.old.table_id) × (seat.new.id ≡ seat.old.id) × (seat.new.me.1 ≡ seat.old.me.1) }
+        ensures steps { seat.new.me.0 ≡ after seat.old.me.0 (puts (row_of text.now)) }
+    {
+        let place = self.text_place(own);
+        for i in 0..32 {
+            let word = row_word(text, i);
+            self.table
+                .shared
+                .store::<PuttingWord>(seat, place + i, word);
+        }
+    }
+
+    /// Puts all words of the text of the seat's own slot, which is not linked and has no text yet. A text has at most 248 bytes.
+    pub fn put_text(&self, seat: &mut AtomSeat, text: &[u8])
+        requires fits { Fits self.now seat.old }
+        requires short { length text.now ≤ 248 }
+        requires own { (o : Own) × ((seen seat.old).own ≡ Some o) × (o.linked ≡ false) × (o.text ≡ []) }
+        ensures same { Same seat.old seat.new }
+        ensures steps { seen seat.new ≡ after (seen seat.old) (puts (row_of text.now)) }
+    {
+        let own = seat.own;
+        self.put_words(&mut seat.seat, own, text);
+    }
+}
