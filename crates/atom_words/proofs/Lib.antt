@@ -13,3 +13,4 @@ pub mod Adapters
 pub mod Steps
 pub mod Tied
 pub mod Putting
+pub mod Openings

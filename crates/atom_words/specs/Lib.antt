@@ -9,3 +9,4 @@ pub mod Kept
 pub mod Ties
 pub mod Seats
 pub mod Plays
+pub mod Opening

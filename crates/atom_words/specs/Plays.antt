@@ -4,6 +4,7 @@ use Rattle.atomic_table.specs.Table.{Me, Step}
 use Rattle.atom_words.specs.Layout.{state_of}
 use Rattle.atom_words.specs.Board.{atom_at, head_at}
 use Rattle.atom_words.specs.Chains.{In}
+use Rattle.atom_words.specs.Views.{newcomer}
 use Rattle.atom_words.specs.Kinds.{view_after}
 use Rattle.atom_words.specs.declared.view.Held.{Held}
 use Rattle.atom_words.specs.declared.view.View.{View}
@@ -52,3 +53,7 @@ pass_started st m r m' = Is (StartPass r) m m'
 
 abbrev pub pass_ended : At → Sat → ℕ → Sat → Type 0
 pass_ended st m r m' = Is (EndPass r) m m'
+
+-- a new seat
+abbrev pub seated : At → Sat → ℕ → Sat → Type 0
+seated st m r m' = m'.0 ≡ newcomer m.0.size

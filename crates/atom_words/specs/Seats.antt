@@ -46,3 +46,7 @@ answered (Some p) = Full p ∷ []
 
 abbrev pub puts : List ℕ → List Kind
 puts ws = map (λ x. PutWord x) ws
+
+-- a seat of this table
+abbrev pub AtTable : Words → AtomSeat → Type 0
+AtTable w s = s.seat.table_id ≡ w.table.shared.table_id

@@ -12,10 +12,12 @@
 
 mod counts;
 mod kind;
+mod opening;
 mod passes;
 mod places;
 mod plays;
 mod rule;
+mod seats;
 mod size;
 mod slots;
 mod texts;
@@ -24,8 +26,9 @@ mod words;
 
 pub use kind::Kind;
 pub use plays::{
-    EndingPass, Protecting, PuttingWord, Registering, Releasing, Reserving, ReservingMarked,
-    StartingPass, Unregistering, Validating,
+    Dealing, EndingPass, PartingCollector, PartingKeeper, Protecting, PuttingWord, Registering,
+    Releasing, Reserving, ReservingMarked, Seating, StartingPass, Unregistering, Validating,
+    WithKeeper,
 };
 pub use rule::{AtomRule, every_state};
 pub use size::Size;

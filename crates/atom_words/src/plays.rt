@@ -1,8 +1,9 @@
 //! What each step tells its caller.
-ghost use Rattle.atom_words.specs.Plays.{reserved, reserved_marked, word_put, validated, released, protected, registered, unregistered, pass_started, pass_ended};
+ghost use Rattle.atom_words.specs.Plays.{reserved, reserved_marked, word_put, validated, released, protected, registered, unregistered, pass_started, pass_ended, seated};
+ghost use Rattle.atom_words.specs.Views.{spent, with_keeper, without_keeper, keeper_of, without_collector, collector_of, with_one_dealt, engine_of};
 
 use crate::view::View;
-use atomic_table::Play;
+use atomic_table::{Join, Play, Split};
 
 /// The exchange that takes a free slot without a mark.
 pub struct Reserving;
@@ -72,4 +73,47 @@ pub struct EndingPass;
 
 impl Play<(), View> for EndingPass {
     ghost then = { pass_ended };
+}
+
+/// The load that makes a new seat.
+pub struct Seating;
+
+impl Play<(), View> for Seating {
+    ghost then = { seated };
+}
+
+/// The seat takes in the keeper's.
+pub struct WithKeeper;
+
+impl Join<View> for WithKeeper {
+    ghost both = { with_keeper };
+
+    ghost spent = { spent };
+}
+
+/// The keeper's seat is cut off.
+pub struct PartingKeeper;
+
+impl Split<View> for PartingKeeper {
+    ghost left = { without_keeper };
+
+    ghost right = { keeper_of };
+}
+
+/// The collector's seat is cut off.
+pub struct PartingCollector;
+
+impl Split<View> for PartingCollector {
+    ghost left = { without_collector };
+
+    ghost right = { collector_of };
+}
+
+/// An engine's seat is cut off.
+pub struct Dealing;
+
+impl Split<View> for Dealing {
+    ghost left = { with_one_dealt };
+
+    ghost right = { engine_of };
 }

@@ -1,6 +1,7 @@
 //! The words of a table, and the seats that step on them.
 ghost use Rattle.std.specs.Prelude.{◌≡◌, ◌<◌, ◌≤◌, []};
 ghost use Rattle.atom_words.specs.Board.{word_count};
+ghost use Rattle.atom_words.specs.Opening.{Allowed};
 ghost use Rattle.atom_words.specs.Ties.{OwnTied, WalkTied, PassTied};
 
 use crate::rule::AtomRule;
@@ -16,7 +17,7 @@ pub struct Words {
     pub size: Size,
     pub ghost keyed: { table.shared.key ≡ size },
     pub ghost counted: { table.shared.table_id.words ≡ word_count size },
-    pub ghost small: { (size.slots ≤ 1048576) × (size.engines ≤ 64) × (size.heads ≤ 4194304) },
+    pub ghost allowed: { Allowed size },
 }
 
 /// A seat at an atom table: its view, which has no bytes, and what of the view is needed at run time.
