@@ -20,6 +20,8 @@ mod rule;
 mod seats;
 mod size;
 mod slots;
+#[cfg(test)]
+mod tests;
 mod texts;
 mod view;
 mod words;

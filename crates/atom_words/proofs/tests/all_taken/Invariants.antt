@@ -1,0 +1,9 @@
+use Rattle.std.proofs.Common.{◌≡◌, None}
+use Rattle.atom_words.specs.Seats.{seen, Fits}
+use Rattle.atom_words.proofs.tests.all_taken.Given as goal
+
+abbrev pub invariant-loop-i : goal.invariant-loop-i
+invariant-loop-i l = record {
+  fits : Fits l.words l.seat;
+  unowned : (seen l.seat).own ≡ None;
+}

@@ -1,0 +1,107 @@
+ghost use Rattle.std.specs.Prelude.{◌≡◌, ◌<◌, ◌≤◌, false, [], length, Some, None};
+ghost use Rattle.atom_words.specs.declared.view.Own.{Own};
+ghost use Rattle.atom_words.specs.Seats.{seen, Fits};
+
+use crate::size::Size;
+use crate::words::{AtomSeat, Words};
+use std::test::Fail;
+
+const SMALL: Size = Size {
+    slots: 512,
+    engines: 2,
+    heads: 768,
+    start: 0,
+    fixed: 0,
+};
+
+// Whether a slot is not free.
+fn is_taken(words: &Words, seat: &mut AtomSeat, slot: u32) -> bool
+    requires fits { Fits words.now seat.old }
+    requires slot { slot < words.now.size.slots }
+    requires none { (seen seat.old).own ≡ None }
+    ensures fits { Fits words.now seat.new }
+    ensures none { (seen seat.new).own ≡ None }
+{
+    match words.reserve(seat, slot) {
+        Ok(()) => {
+            words.release(seat);
+            false
+        }
+        Err(_) => true,
+    }
+}
+
+// Puts a text in the seat's own slot, and gives the slot back.
+fn put_and_release(words: &Words, seat: &mut AtomSeat, text: &[u8])
+    requires fits { Fits words.now seat.old }
+    requires short { length text.now ≤ 248 }
+    requires own { (o : Own) × ((seen seat.old).own ≡ Some o) × (o.linked ≡ false) × (o.text ≡ []) }
+    ensures fits { Fits words.now seat.new }
+    ensures none { (seen seat.new).own ≡ None }
+{
+    words.put_text(seat, text);
+    words.release(seat);
+}
+
+// Whether all slots were found taken, from `from` on.
+fn all_taken(words: &Words, seat: &mut AtomSeat, from: u32) -> bool
+    requires fits { Fits words.now seat.old }
+    requires slots { (words.now.size.slots ≡ 512) × (from < 512) }
+    requires none { (seen seat.old).own ≡ None }
+    ensures fits { Fits words.now seat.new }
+    ensures none { (seen seat.new).own ≡ None }
+{
+    let mut all = true;
+    for i in 0..512u32 {
+        let slot = (from + i) % 512;
+        all = is_taken(words, seat, slot) && all;
+    }
+    all
+}
+
+#[test]
+fn a_slot_is_reserved_once(rt: HostRuntime) -> Result<(), Fail> {
+    let (words, mut first) = Words::new(rt.alloc(), SMALL)?;
+    let mut one = words.deal(&mut first, 2);
+    let mut two = words.deal(&mut first, 1);
+    assert!(rt; words.reserve(&mut two, 255) == Err(1));
+    assert!(rt; !is_taken(&words, &mut two, 300));
+    assert!(rt; words.protect(&mut two, 300) == Err(0));
+    assert!(rt; words.table.shared.peek(words.atom_place(300)) == 4);
+    assert!(rt; words.reserve(&mut one, 300) == Ok(()));
+    assert!(rt; is_taken(&words, &mut two, 300));
+    assert!(rt; words.protect(&mut two, 300) == Err(1));
+    put_and_release(&words, &mut one, b"ab");
+    assert!(rt; words.table.shared.peek(words.atom_place(300)) == 0);
+    Ok(())
+}
+
+#[test]
+fn a_text_has_32_words(rt: HostRuntime) -> Result<(), Fail> {
+    let (words, mut first) = Words::new(rt.alloc(), SMALL)?;
+    assert!(rt; words.reserve(&mut first, 511) == Ok(()));
+    put_and_release(&words, &mut first, b"ab");
+    let text = words.text_place(511);
+    let found = [
+        words.table.shared.peek(text),
+        words.table.shared.peek(text + 1),
+        words.table.shared.peek(text + 2),
+        words.table.shared.peek(text + 31),
+    ];
+    assert!(rt; found == [2, 25_185, 0, 0]);
+    Ok(())
+}
+
+#[test]
+fn a_pass_counts_all_slots(rt: HostRuntime) -> Result<(), Fail> {
+    let (words, mut first) = Words::new(rt.alloc(), SMALL)?;
+    let keeper = words.part_keeper(&mut first);
+    let collector = words.part_collector(&mut first);
+    let mut one = words.deal(&mut first, 2);
+    words.with_keeper(&mut one, keeper);
+    let keeper = words.part_keeper(&mut one);
+    words.start_pass(&mut one);
+    assert!(rt; words.end_pass(&mut one).is_none());
+    assert!(rt; one.engine == 2 && keeper.engine == 0 && collector.engine == 0);
+    Ok(())
+}
