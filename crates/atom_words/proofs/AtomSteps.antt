@@ -146,6 +146,7 @@ module _ (z : Size) (b : Board) (vs : List View) (r : Kept z b vs) (id : ℕ) (v
     inside = ok.inside;
     short = ok.short;
     past = ok.past;
+    word = ok.word;
     claim = λ same. let u = ok.claim same in record {
       path = u.path;
       reached = u.reached;

@@ -31,7 +31,7 @@ module _ (z : Size) (b : Board) (vs : List View) (r : Kept z b vs) (id : ℕ) (v
   keep_kind (Next x) d = keep_next z b vs r id v s x b' d
   keep_kind Hold d = keep_hold z b vs r id v s b' d
   keep_kind (Keep those) d = keep_keep z b vs r id v s those b' d
-  keep_kind (Fix a) d = keep_fix z b vs r id v s a b' d
+  keep_kind Fix d = keep_fix z b vs r id v s b' d
   keep_kind (StartPass x) d = keep_start_pass z b vs r id v s x b' d
   keep_kind (EndPass x) d = keep_end_pass z b vs r id v s x b' d
   keep_kind (Refuse c) d = keep_refuse z b vs r id v s c b' d

@@ -61,6 +61,7 @@ module _ (z : Size) (atoms atoms' : List ℕ) where
     inside = h.inside;
     short = h.short;
     past = h.past;
+    word = h.word;
     claim = λ same. let u = h.claim same in record { path = u.path; reached = u.reached; each = u.each; inside = u.inside; part = u.part; guard = λ k at guarded. stays k (u.guard k at guarded) };
   }
 

@@ -14,3 +14,5 @@ pub mod Steps
 pub mod Tied
 pub mod Putting
 pub mod Openings
+pub mod WalkSteps
+pub mod RowBytes

@@ -65,6 +65,11 @@ module _ (z : Size) (chain : ℕ → List ℕ) (h k : ℕ) (inside : h < z.heads
     short = ok.short;
     past = word_after (λ y. version_of w.word ≤ version_of y) heads h n w.head there
         (λ e. let here : version_of w.word ≤ version_of (get_or heads h 0) = subst (λ (g : ℕ). version_of w.word ≤ version_of (get_or heads g 0)) e past in omega arith) (λ _. past);
+    word = λ same. elim (ℕ_discrete w.head h) as (λ _. get_or (set heads h n) w.head 0 ≡ w.word) [
+      | yes e ↦ absurd (let here : version_of w.word ≤ version_of (get_or heads h 0) = subst (λ (g : ℕ). version_of w.word ≤ version_of (get_or heads g 0)) e past in
+          let now : version_of n ≡ version_of w.word = sym (ap version_of (get_or-set_same heads h n 0 there)) ∙ (ap (λ (g : ℕ). version_of (get_or (set heads h n) g 0)) (sym e) ∙ same) in omega arith)
+      | no ne ↦ get_or-set_other heads h w.head n 0 ne ∙ ok.word (ap version_of (sym (get_or-set_other heads h w.head n 0 ne)) ∙ same)
+    ];
     claim = λ same. elim (ℕ_discrete w.head h) as (λ _. Unwalked atoms links texts w (put chain h (k ∷ chain h) w.head)) [
       | yes e ↦ absurd (let here : version_of w.word ≤ version_of (get_or heads h 0) = subst (λ (g : ℕ). version_of w.word ≤ version_of (get_or heads g 0)) e past in
           let now : version_of n ≡ version_of w.word = sym (ap version_of (get_or-set_same heads h n 0 there)) ∙ (ap (λ (g : ℕ). version_of (get_or (set heads h n) g 0)) (sym e) ∙ same) in omega arith)

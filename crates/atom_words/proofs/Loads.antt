@@ -14,7 +14,7 @@ use Rattle.atom_words.specs.declared.view.Walk.{Walk}
 use Rattle.atom_words.specs.declared.view.View.{View}
 use Rattle.atom_words.specs.declared.kind.Kind.{Kind}
 use Rattle.atom_words.specs.declared.kind.Kind.TheVariants.{Load, Refused, Start, Read, Next, Hold, Keep, Fix, StartPass, EndPass, Refuse, Ask}
-use Rattle.atom_words.proofs.Slices.{mapped, in_later, in_cases, at_snoc, at_inside, text_length, text_short, read_more, chain_at}
+use Rattle.atom_words.proofs.Slices.{mapped, in_none, in_append, in_later, in_cases, at_snoc, at_inside, text_length, text_short, read_more, chain_at}
 use Rattle.atom_words.proofs.Frames.{keep_view}
 
 module _ (z : Size) (b : Board) (p : Plan) (j : ℕ) (v : View) (s : SeatOk z b p j v) where
@@ -55,6 +55,7 @@ module _ (z : Size) (b : Board) (vs : List View) (r : Kept z b vs) (id : ℕ) (v
     inside = inside;
     short = omega arith;
     past = subst (λ (n : ℕ). version_of x ≤ version_of n) (sym found) (omega arith);
+    word = λ _. found;
     claim = λ _. record {
       path = r.plan.chain h;
       reached = subst (λ (n : ℕ). Chain b.links (first_of n) (r.plan.chain h)) found (r.rows.chains h inside);
@@ -72,6 +73,7 @@ module _ (z : Size) (b : Board) (vs : List View) (r : Kept z b vs) (id : ℕ) (v
     inside = ok.inside;
     short = simp (length-append {A = ℕ}) (omega arith);
     past = ok.past;
+    word = ok.word;
     claim = λ same_. let u = ok.claim same_ in let c = chain_at b.links k u.path (subst (λ (n : ℕ). Chain b.links n u.path) place u.reached) in
         let wide : length (text_of b.texts k) ≡ 32 = text_length b.texts k z.slots r.sized.texts (omega (arith, c.2, r.sized.links)) in record {
           path = u.path;
@@ -90,6 +92,7 @@ module _ (z : Size) (b : Board) (vs : List View) (r : Kept z b vs) (id : ℕ) (v
     inside = ok.inside;
     short = omega arith;
     past = ok.past;
+    word = ok.word;
     claim = λ same_. let u = ok.claim same_ in let c = chain_at b.links k u.path (subst (λ (n : ℕ). Chain b.links n u.path) place u.reached) in record {
       path = c.0;
       reached = subst (λ (n : ℕ). Chain b.links n c.0) found c.3;
@@ -152,12 +155,12 @@ module _ (z : Size) (b : Board) (vs : List View) (r : Kept z b vs) (id : ℕ) (v
     walk = s.walk;
   }
 
-  pub keep_fix : (a : Held) (b' : Board) → Does z b v (Fix a) b' → Kept z b' (set vs id (view_after v (Fix a)))
-  keep_fix a b' d = keep_same b' (view_after v (Fix a)) d.2 record {
+  pub keep_fix : (b' : Board) → Does z b v Fix b' → Kept z b' (set vs id (view_after v Fix))
+  keep_fix b' d = keep_same b' (view_after v Fix) d.1 record {
     size = s.size;
     own = s.own;
-    held = s.held;
-    fixed = λ i x e. ⊎_elim (s.fixed i x) (λ (t : (i ≡ length v.fixed) × (a ≡ x)). subst (HeldOk z b.atoms b.texts r.plan.chain) t.1 (s.held d.0.0 a d.0.1)) (at_snoc v.fixed a x i e);
+    held = λ i a e. absurd (in_none a (i, e));
+    fixed = λ i a e. ⊎_elim (λ (t : get_elem? v.fixed i ≡ some a). s.fixed i a t) (λ (t : In a v.held). s.held t.0 a t.1) (in_append v.fixed v.held i a e);
     counts = s.counts;
     walk = s.walk;
   }

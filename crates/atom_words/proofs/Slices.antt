@@ -45,6 +45,11 @@ module _ {A : Type 0} where
   at_snoc (x ∷ xs) a b zero e = inl e
   at_snoc (x ∷ xs) a b (suc j) e = ⊎_elim (λ h. inl h) (λ (t : (j ≡ length xs) × (a ≡ b)). inr (ap suc t.0, t.1)) (at_snoc xs a b j e)
 
+  pub in_append : (xs ys : List A) (i : ℕ) (a : A) → get_elem? (xs ++ ys) i ≡ some a → (get_elem? xs i ≡ some a) ⊎ In a ys
+  in_append [] ys i a e = inr (i, e)
+  in_append (x ∷ xs) ys zero a e = inl e
+  in_append (x ∷ xs) ys (suc i) a e = in_append xs ys i a e
+
   pub at_inside : (l : List A) (i : ℕ) (a : A) → get_elem? l i ≡ some a → i < length l
   at_inside [] i a e = absurd (some-ne-none a (sym e))
   at_inside (x ∷ xs) zero a e = omega arith
@@ -126,3 +131,13 @@ chain_else links s x p (k ∷ ks) c out = let ne : k ≢ s = (λ e. out (0, ap s
 pub chain_inside : (links : List ℕ) (p k : ℕ) (ks : List ℕ) → Chain links p ks → In k ks → k < length links
 chain_inside links p k [] c i = absurd (in_none k i)
 chain_inside links p k (q ∷ ks) c i = ⊎_elim (λ (e : q ≡ k). subst (λ (j : ℕ). j < length links) e c.1) (λ (t : In k ks). chain_inside links (get_or links q 0) k ks c.2 t) (in_cases k q ks i)
+
+chain_drop : (links : List ℕ) (p : ℕ) (xs : List ℕ) (i k : ℕ) → Chain links p xs → get_elem? xs i ≡ some k → Chain links (k + 1) (drop i xs)
+chain_drop links p [] i k c e = absurd (some-ne-none k (sym e))
+chain_drop links p (x ∷ xs) zero k c e = subst (λ (n : ℕ). Chain links n (x ∷ xs)) (let same : x ≡ k = some-injective x k e in c.0 ∙ ap (λ (n : ℕ). n + 1) same) c
+chain_drop links p (x ∷ xs) (suc i) k c e = chain_drop links (get_or links x 0) xs i k c.2 e
+
+-- no slot stands twice in a chain
+pub chain_once : (links : List ℕ) (p : ℕ) (xs : List ℕ) (i j k : ℕ) → Chain links p xs → get_elem? xs i ≡ some k → get_elem? xs j ≡ some k → i ≡ j
+chain_once links p xs i j k c e f = let same = ap length (chain_same links (k + 1) (drop i xs) (drop j xs) (chain_drop links p xs i k c e) (chain_drop links p xs j k c f)) in
+    let long : length xs - i ≡ length xs - j = sym (length-drop i xs) ∙ (same ∙ length-drop j xs) in let a = at_inside xs i k e in let b = at_inside xs j k f in omega arith

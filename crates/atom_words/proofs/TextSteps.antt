@@ -32,6 +32,7 @@ module _ (z : Size) (texts texts' : List ℕ) (chain : ℕ → List ℕ) (same :
     inside = h.inside;
     short = h.short;
     past = h.past;
+    word = h.word;
     claim = λ e. let u = h.claim e in let on : (k : ℕ) → In k (chain w.head) → text_of texts' k ≡ text_of texts k = λ k i. same k (w.head, h.inside, i) in record {
       path = u.path;
       reached = u.reached;
@@ -127,6 +128,7 @@ module _ (z : Size) (b : Board) (vs : List View) (r : Kept z b vs) (id : ℕ) (v
       inside = h.inside;
       short = h.short;
       past = h.past;
+      word = h.word;
       claim = λ e. let u = h.claim e in record { path = u.path; reached = chain_else b.links o.slot l w.place u.path u.reached (λ i. not_on w.head h.inside (u.inside o.slot i)); each = u.each; inside = u.inside; part = u.part; guard = u.guard };
     }
 

@@ -63,6 +63,7 @@ pub record WalkOk (z : Size) (atoms links heads texts : List ℕ) (chain : ℕ �
   pub inside : w.head < z.heads
   pub short : length w.part ≤ 32
   pub past : version_of w.word ≤ version_of (slice_index heads w.head)
+  pub word : version_of (slice_index heads w.head) ≡ version_of w.word → slice_index heads w.head ≡ w.word
   pub claim : version_of (slice_index heads w.head) ≡ version_of w.word → Unwalked atoms links texts w (chain w.head)
 
 -- what the seat j knows is so

@@ -110,7 +110,7 @@ view_after v (Read x) = record v { walk = option_map (reading x) v.walk; made = 
 view_after v (Next x) = record v { walk = option_map (going_on x) v.walk; made = v.made ++ Next x ∷ [] }
 view_after v Hold = record v { held = v.held ++ held_at_hand v.walk; walk = None; made = v.made ++ Hold ∷ [] }
 view_after v (Keep those) = record v { held = those; made = v.made ++ Keep those ∷ [] }
-view_after v (Fix a) = record v { fixed = v.fixed ++ a ∷ []; made = v.made ++ Fix a ∷ [] }
+view_after v Fix = record v { held = []; fixed = v.fixed ++ v.held; made = v.made ++ Fix ∷ [] }
 view_after v (StartPass x) = record v { pass = Some (record { began = x; first = 0; counted = 0 }); made = v.made ++ StartPass x ∷ [] }
 view_after v (EndPass x) = record v { pass = None; refusals = v.refusals ++ full v x v.pass; made = v.made ++ EndPass x ∷ [] }
 view_after v (Refuse r) = record v { refusals = v.refusals ++ r ∷ []; made = v.made ++ Refuse r ∷ [] }
@@ -154,7 +154,7 @@ Does z b v (Read x) b' = (w : Walk) × (k : ℕ) × (v.walk ≡ Some w) × (w.pl
 Does z b v (Next x) b' = (w : Walk) × (k : ℕ) × (v.walk ≡ Some w) × (w.place ≡ k + 1) × (link b k ≡ x) × (b' ≡ b)
 Does z b v Hold b' = (w : Walk) × (k : ℕ) × (v.walk ≡ Some w) × (w.place ≡ k + 1) × (w.guarded ≡ true) × (length w.part ≡ 32) × (version_of (head b w.head) ≡ version_of w.word) × (b' ≡ b)
 Does z b v (Keep those) b' = ((a : Held) → In a those → In a v.held) × (b' ≡ b)
-Does z b v (Fix a) b' = In a v.held × (a.slot < 256) × (b' ≡ b)
+Does z b v Fix b' = ((a : Held) → In a v.held → a.slot < 256) × (b' ≡ b)
 Does z b v (StartPass x) b' = (b.epoch ≡ x) × (b' ≡ b)
 Does z b v (EndPass x) b' = (p : Passing) × (v.pass ≡ Some p) × (b.epoch ≡ x) × (b' ≡ b)
 Does z b v (Refuse r) b' = Shows z b v r × (b' ≡ b)

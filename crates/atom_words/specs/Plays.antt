@@ -1,15 +1,18 @@
 -- What each step tells its caller: of the step, the seat before, the number found (at a store, the number stored) and the seat after.
-use Rattle.std.specs.Prelude.{◌≡◌, ◌≢◌, ◌⊎◌, ℕ}
+use Rattle.std.specs.Prelude.{◌≡◌, ◌≢◌, ◌⊎◌, ◌<◌, ◌≤◌, ℕ, List, Some}
 use Rattle.atomic_table.specs.Table.{Me, Step}
-use Rattle.atom_words.specs.Layout.{state_of}
+use Rattle.atom_words.specs.Layout.{state_of, closed_of, version_of, worn}
 use Rattle.atom_words.specs.Board.{atom_at, head_at}
 use Rattle.atom_words.specs.Chains.{In}
 use Rattle.atom_words.specs.Views.{newcomer}
 use Rattle.atom_words.specs.Kinds.{view_after}
 use Rattle.atom_words.specs.declared.view.Held.{Held}
+use Rattle.atom_words.specs.declared.view.Walk.{Walk}
+use Rattle.atom_words.specs.declared.view.Cause.TheVariants.{Moved, Pending, Closed}
+use Rattle.atom_words.specs.declared.view.Refusal.TheVariants.{Again, Worn}
 use Rattle.atom_words.specs.declared.view.View.{View}
 use Rattle.atom_words.specs.declared.kind.Kind.{Kind}
-use Rattle.atom_words.specs.declared.kind.Kind.TheVariants.{Reserve, PutWord, PutLink, Link, Validate, Release, Load, Refused, Start, Read, Next, Hold, StartPass, EndPass, Protect, Fetch, Register, Unregister}
+use Rattle.atom_words.specs.declared.kind.Kind.TheVariants.{Reserve, PutWord, PutLink, Link, Validate, Release, Load, Refused, Start, Read, Next, Hold, StartPass, EndPass, Protect, Fetch, Register, Unregister, Refuse, Keep, Fix, Ask}
 
 abbrev Sat : Type 0
 Sat = Me (Unit {0}) View
@@ -53,6 +56,61 @@ pass_started st m r m' = Is (StartPass r) m m'
 
 abbrev pub pass_ended : At → Sat → ℕ → Sat → Type 0
 pass_ended st m r m' = Is (EndPass r) m m'
+
+-- FOR THE CRATES ABOVE
+-- a load that the seat keeps nothing of
+abbrev pub loaded : At → Sat → ℕ → Sat → Type 0
+loaded st m r m' = Is (Load st.word r) m m'
+
+-- a walk begins at an open head; a closed one refuses
+abbrev pub walk_started : At → Sat → ℕ → Sat → Type 0
+walk_started st m r m' = (m'.1 ≡ m.1) × ((h : ℕ) → st.word ≡ head_at m.0.size h
+    → (closed_of r ≡ 0 → m'.0 ≡ view_after m.0 (Start h r)) × (closed_of r ≢ 0 → m'.0 ≡ view_after m.0 (Refuse (Again (Closed r)))))
+
+-- the walk reads the next word of the text at hand
+abbrev pub word_read : At → Sat → ℕ → Sat → Type 0
+word_read st m r m' = Is (Read r) m m'
+
+-- the walk goes on by the link word of the slot at hand
+abbrev pub gone_on : At → Sat → ℕ → Sat → Type 0
+gone_on st m r m' = Is (Next r) m m'
+
+-- the walk ends with the slot at hand held, where the head has its version; otherwise that refuses
+abbrev pub slot_held : At → Sat → ℕ → Sat → Type 0
+slot_held st m r m' = (m'.1 ≡ m.1) × ((w : Walk) → m.0.walk ≡ Some w
+    → (version_of r ≡ version_of w.word → m'.0 ≡ view_after m.0 Hold) × (version_of r ≢ version_of w.word → m'.0 ≡ view_after m.0 (Refuse (Again (Moved w.word r)))))
+
+-- the slot at hand is reserved by another seat, which refuses; or it is not
+abbrev pub pending_found : At → Sat → ℕ → Sat → Type 0
+pending_found st m r m' = (m'.1 ≡ m.1) × ((k : ℕ) → st.word ≡ atom_at m.0.size k
+    → (state_of r ≡ 1 → m'.0 ≡ view_after m.0 (Refuse (Again (Pending k r)))) × (state_of r ≢ 1 → m'.0 ≡ view_after m.0 (Load (atom_at m.0.size k) r)))
+
+-- the head is worn, which refuses; or it is not
+abbrev pub worn_found : At → Sat → ℕ → Sat → Type 0
+worn_found st m r m' = (m'.1 ≡ m.1) × ((h : ℕ) → st.word ≡ head_at m.0.size h
+    → (worn ≤ version_of r → m'.0 ≡ view_after m.0 (Refuse (Worn (record { head = h; word = r; start = m.0.size.start })))) × (version_of r < worn → m'.0 ≡ view_after m.0 (Load (head_at m.0.size h) r)))
+
+-- the own slot's link word is put
+abbrev pub link_put : At → Sat → ℕ → Sat → Type 0
+link_put st m r m' = Is (PutLink r) m m'
+
+-- the own slot is linked, where the head is still the word that the walk found; otherwise its version is another, which refuses
+abbrev pub slot_linked : At → Sat → ℕ → Sat → Type 0
+slot_linked st m r m' = (m'.1 ≡ m.1) × (r ≡ st.first → m'.0 ≡ view_after m.0 Link) × (r ≢ st.first → (version_of r ≢ version_of st.first) × (m'.0 ≡ view_after m.0 (Refuse (Again (Moved st.first r)))))
+
+-- a counted slot is marked and held
+abbrev pub fetched : At → Sat → ℕ → Sat → Type 0
+fetched st m r m' = (m'.1 ≡ m.1) × ((k : ℕ) → st.word ≡ atom_at m.0.size k → m'.0 ≡ view_after m.0 (Fetch k))
+
+-- the held slots become fixed atoms; only those slots are held on; a text is asked
+abbrev pub fixed : At → Sat → ℕ → Sat → Type 0
+fixed st m r m' = Is Fix m m'
+
+abbrev pub kept : List Held → At → Sat → ℕ → Sat → Type 0
+kept those st m r m' = Is (Keep those) m m'
+
+abbrev pub asked : List ℕ → At → Sat → ℕ → Sat → Type 0
+asked text st m r m' = Is (Ask text) m m'
 
 -- a new seat
 abbrev pub seated : At → Sat → ℕ → Sat → Type 0

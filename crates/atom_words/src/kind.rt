@@ -34,8 +34,8 @@ pub enum Kind {
     Hold,
     /// Only these slots are held on.
     Keep(LinkedList<Held>),
-    /// A held slot becomes one of the fixed atoms.
-    Fix(Held),
+    /// The held slots become fixed atoms.
+    Fix,
     /// A pass over all slots begins, at that epoch word.
     StartPass(u64),
     /// The pass at hand ends, at that epoch word.

@@ -28,9 +28,10 @@ mod words;
 
 pub use kind::Kind;
 pub use plays::{
-    Dealing, EndingPass, PartingCollector, PartingKeeper, Protecting, PuttingWord, Registering,
-    Releasing, Reserving, ReservingMarked, Seating, StartingPass, Unregistering, Validating,
-    WithKeeper,
+    Asking, Dealing, EndingPass, Fetching, FindingPending, FindingWorn, Fixing, GoingOn, Holding,
+    Keeping, Keeps, Linking, Loading, PartingCollector, PartingKeeper, Protecting, PuttingLink,
+    PuttingWord, ReadingWord, Registering, Releasing, Reserving, ReservingMarked, Seating, Spells,
+    StartingPass, StartingWalk, Unregistering, Validating, WithKeeper,
 };
 pub use rule::{AtomRule, every_state};
 pub use size::Size;

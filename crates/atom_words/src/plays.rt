@@ -1,9 +1,10 @@
 //! What each step tells its caller.
-ghost use Rattle.atom_words.specs.Plays.{reserved, reserved_marked, word_put, validated, released, protected, registered, unregistered, pass_started, pass_ended, seated};
+ghost use Rattle.atom_words.specs.Plays.{reserved, reserved_marked, word_put, validated, released, protected, registered, unregistered, pass_started, pass_ended, seated, loaded, walk_started, word_read, gone_on, slot_held, pending_found, worn_found, link_put, slot_linked, fetched, fixed, kept, asked};
 ghost use Rattle.atom_words.specs.Views.{spent, with_keeper, without_keeper, keeper_of, without_collector, collector_of, with_one_dealt, engine_of};
 
 use crate::view::View;
 use atomic_table::{Join, Play, Split};
+use std::marker::PhantomData;
 
 /// The exchange that takes a free slot without a mark.
 pub struct Reserving;
@@ -116,4 +117,114 @@ impl Split<View> for Dealing {
     ghost left = { with_one_dealt };
 
     ghost right = { engine_of };
+}
+
+/// A load that the seat keeps nothing of.
+pub struct Loading;
+
+impl Play<(), View> for Loading {
+    ghost then = { loaded };
+}
+
+/// The load of a head that a walk begins with, where it is open.
+pub struct StartingWalk;
+
+impl Play<(), View> for StartingWalk {
+    ghost then = { walk_started };
+}
+
+/// The load of the next word of the text at a walk's hand.
+pub struct ReadingWord;
+
+impl Play<(), View> for ReadingWord {
+    ghost then = { word_read };
+}
+
+/// The load of the link word of the slot at a walk's hand.
+pub struct GoingOn;
+
+impl Play<(), View> for GoingOn {
+    ghost then = { gone_on };
+}
+
+/// The load of the head that a walk ends with, with the slot at hand held where the version is the same.
+pub struct Holding;
+
+impl Play<(), View> for Holding {
+    ghost then = { slot_held };
+}
+
+/// The load of the atom word of the slot at a walk's hand, which refuses where it is reserved.
+pub struct FindingPending;
+
+impl Play<(), View> for FindingPending {
+    ghost then = { pending_found };
+}
+
+/// The load of a head, which refuses where it is worn.
+pub struct FindingWorn;
+
+impl Play<(), View> for FindingWorn {
+    ghost then = { worn_found };
+}
+
+/// The store of a link word.
+pub struct PuttingLink;
+
+impl Play<(), View> for PuttingLink {
+    ghost then = { link_put };
+}
+
+/// The exchange that links a slot.
+pub struct Linking;
+
+impl Play<(), View> for Linking {
+    ghost then = { slot_linked };
+}
+
+/// The exchange that marks a counted slot, which is then held.
+pub struct Fetching;
+
+impl Play<(), View> for Fetching {
+    ghost then = { fetched };
+}
+
+/// The load with which the held slots become fixed atoms.
+pub struct Fixing;
+
+impl Play<(), View> for Fixing {
+    ghost then = { fixed };
+}
+
+/// Which slots a seat goes on to hold. A call picks it.
+pub trait Keeps {
+    ghost use Rattle.std.specs.Prelude.{List};
+    ghost use Rattle.atom_words.specs.declared.view.Held.{Held};
+
+    ghost those: { List Held };
+}
+
+/// The load with which only some slots are held on.
+pub struct Keeping<K> {
+    those: PhantomData<K>,
+}
+
+impl<K: Keeps> Play<(), View> for Keeping<K> {
+    ghost then = { kept K.those };
+}
+
+/// Which text is asked of a seat, as its 32 words. A call picks it.
+pub trait Spells {
+    ghost use Rattle.std.specs.Prelude.{List, ℕ};
+
+    ghost words: { List ℕ };
+}
+
+/// The load with which a text is asked.
+pub struct Asking<T> {
+    words: PhantomData<T>,
+}
+
+impl<T: Spells> Play<(), View> for Asking<T> {
+    ghost then = { asked T.words };
 }

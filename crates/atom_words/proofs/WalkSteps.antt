@@ -1,0 +1,154 @@
+-- Each raw step of a walk, of linking and of fetching is of its kind. For the crates above.
+use Rattle.std.proofs.Common.{◌≡◌, ◌≢◌, ◌⊎◌, ℕ, ◌+◌, ◌-◌, ◌*◌, ◌/◌, ◌%◌, ◌<◌, ◌≤◌, eqb, true, false, List, [], length, get_or, take, drop, bit_or, refl, sym, ap, ◌∙◌, subst, arith, Option, Some, None, get_or-drop, get_or-take}
+use mathlib.Core.Logic.{dite}
+use mathlib.Core.Option.{none, some}
+use native.Mathlib.Decide.{ℕ_discrete, dec_le}
+use prog.Atomic.{either}
+use Rattle.atomic_table.specs.Table.{step, Allows}
+use Rattle.atom_words.specs.Layout.{state_of, first_of, closed_of, version_of, head_word, worn}
+use Rattle.atom_words.specs.Texts.{bucket}
+use Rattle.atom_words.specs.Board.{Board, laid, atom, link, head, atom_at, link_at, head_at, text_at, text_of, with_atom}
+use Rattle.atom_words.specs.Chains.{In}
+use Rattle.atom_words.specs.Kinds.{marked, counted, view_after, Ended}
+use Rattle.atom_words.specs.Rule.{Rule}
+use Rattle.atom_words.specs.Plays.{loaded, walk_started, word_read, gone_on, slot_held, pending_found, worn_found, link_put, slot_linked, fetched, fixed, kept, asked}
+use Rattle.atom_words.specs.declared.size.Size.{Size}
+use Rattle.atom_words.specs.declared.view.Held.{Held}
+use Rattle.atom_words.specs.declared.view.Counted.{Counted}
+use Rattle.atom_words.specs.declared.view.Own.{Own}
+use Rattle.atom_words.specs.declared.view.Walk.{Walk}
+use Rattle.atom_words.specs.declared.view.View.{View}
+use Rattle.atom_words.specs.declared.view.Cause.TheVariants.{Moved, Pending, Closed}
+use Rattle.atom_words.specs.declared.view.Refusal.TheVariants.{Again, Worn}
+use Rattle.atom_words.specs.declared.kind.Kind.TheVariants.{Load, Start, Read, Next, Hold, PutLink, Link, Fetch, Refuse, Keep, Fix, Ask}
+use Rattle.atom_words.proofs.Regions.{atom_read, head_read}
+use Rattle.atom_words.proofs.Slices.{some_same}
+use Rattle.atom_words.proofs.Steps.{or_mark}
+use Rattle.atom_words.proofs.Adapters.{Sat, load_at, atom_load, link_load, head_load, text_load, epoch_load, atom_goes, link_goes, head_exchange}
+
+-- a word of a slot's text stands among the texts
+pub text_word : (texts : List ℕ) (k n : ℕ) → n < 32 → get_or (text_of texts k) n 0 ≡ get_or texts (32 * k + n) 0
+text_word texts k n h = get_or-take 32 (drop (32 * k) texts) n 0 h ∙ get_or-drop (32 * k) texts n 0
+
+module _ (key : Size) (slots id : ℕ) (me : Sat) (is : key ≡ me.0.size) (here : me.0.gone ≡ false) where
+  pub loading : (i : ℕ) → Allows (Rule key) slots id me i (λ n. n) (loaded (step slots i 0 0 none) me)
+  loading i = load_at key me.0.size slots id me i (loaded (step slots i 0 0 none) me) (λ b. get_or (laid b) i 0) (λ b sz. refl) is here
+      (λ b vs r seen small. (Load i (get_or (laid b) i 0), (refl, refl), (refl, refl)))
+
+  pub starting_walk : (i h : ℕ) → i ≡ head_at me.0.size h → h < me.0.size.heads → Allows (Rule key) slots id me i (λ n. n) (walk_started (step slots i 0 0 none) me)
+  starting_walk i h at inside = subst (λ (w : ℕ). Allows (Rule key) slots id me w (λ n. n) (walk_started (step slots w 0 0 none) me)) (sym at)
+      (head_load key me.0.size slots id me h (walk_started (step slots (head_at me.0.size h) 0 0 none) me) is here inside
+      (λ b vs r seen small. dite (ℕ_discrete (closed_of (head b h)) 0)
+      (λ open_. (Start h (head b h), (inside, refl, refl), (refl, λ j e. let same : h ≡ j = omega arith in ((λ _. ap (λ (x : ℕ). view_after me.0 (Start x (head b h))) same), λ ne. absurd (ne open_)))))
+      (λ closed. (Refuse (Again (Closed (head b h))), ((h, inside, refl, omega arith), refl), (refl, λ j e. ((λ o. absurd (closed o)), λ _. refl))))))
+
+  pub reading_word : (i k : ℕ) (w : Walk) → me.0.walk ≡ Some w → w.place ≡ k + 1 → length w.part < 32 → i ≡ text_at me.0.size (32 * k + length w.part) → Allows (Rule key) slots id me i (λ n. n) (word_read (step slots i 0 0 none) me)
+  reading_word i k w walk place more at = subst (λ (x : ℕ). Allows (Rule key) slots id me x (λ n. n) (word_read (step slots x 0 0 none) me)) (sym at)
+      (text_load key me.0.size slots id me (32 * k + length w.part) (word_read (step slots (text_at me.0.size (32 * k + length w.part)) 0 0 none) me) is here
+      (λ b vs r seen small. let x : ℕ = get_or b.texts (32 * k + length w.part) 0 in (Read x, (w, k, walk, place, more, text_word b.texts k (length w.part) more, refl), (refl, refl))))
+
+  pub going : (i k : ℕ) (w : Walk) → me.0.walk ≡ Some w → w.place ≡ k + 1 → k < me.0.size.slots → i ≡ link_at me.0.size k → Allows (Rule key) slots id me i (λ n. n) (gone_on (step slots i 0 0 none) me)
+  going i k w walk place inside at = subst (λ (x : ℕ). Allows (Rule key) slots id me x (λ n. n) (gone_on (step slots x 0 0 none) me)) (sym at)
+      (link_load key me.0.size slots id me k (gone_on (step slots (link_at me.0.size k) 0 0 none) me) is here inside
+      (λ b vs r seen small. (Next (link b k), (w, k, walk, place, refl, refl), (refl, refl))))
+
+  pub holding : (i k : ℕ) (w : Walk) → me.0.walk ≡ Some w → w.place ≡ k + 1 → w.guarded ≡ true → length w.part ≡ 32 → w.head < me.0.size.heads → i ≡ head_at me.0.size w.head
+      → Allows (Rule key) slots id me i (λ n. n) (slot_held (step slots i 0 0 none) me)
+  holding i k w walk place guarded whole inside at = subst (λ (x : ℕ). Allows (Rule key) slots id me x (λ n. n) (slot_held (step slots x 0 0 none) me)) (sym at)
+      (head_load key me.0.size slots id me w.head (slot_held (step slots (head_at me.0.size w.head) 0 0 none) me) is here inside
+      (λ b vs r seen small. dite (ℕ_discrete (version_of (head b w.head)) (version_of w.word))
+      (λ same. (
+        Hold,
+        (w, k, walk, place, guarded, whole, same, refl),
+        (
+          refl,
+          λ y e. let one : w ≡ y = some_same w y me.0.walk walk e in
+              ((λ _. refl), λ ne. absurd (ne (same ∙ ap (λ (t : Walk). version_of t.word) one))),
+        ),
+      ))
+      (λ moved. (
+        Refuse (Again (Moved w.word (head b w.head))),
+        ((w, walk, refl, inside, refl, moved), refl),
+        (
+          refl,
+          λ y e. let one : w ≡ y = some_same w y me.0.walk walk e in
+              ((λ same. absurd (moved (same ∙ ap (λ (t : Walk). version_of t.word) (sym one)))), λ _. ap (λ (t : Walk). view_after me.0 (Refuse (Again (Moved t.word (head b w.head))))) one),
+        ),
+      ))))
+
+  pub finding_pending : (i k : ℕ) (w : Walk) → me.0.walk ≡ Some w → w.place ≡ k + 1 → k < me.0.size.slots → ((o : Own) → me.0.own ≡ Some o → o.slot ≢ k) → i ≡ atom_at me.0.size k
+      → Allows (Rule key) slots id me i (λ n. n) (pending_found (step slots i 0 0 none) me)
+  finding_pending i k w walk place inside other at = subst (λ (x : ℕ). Allows (Rule key) slots id me x (λ n. n) (pending_found (step slots x 0 0 none) me)) (sym at)
+      (atom_load key me.0.size slots id me k (pending_found (step slots (atom_at me.0.size k) 0 0 none) me) is here inside
+      (λ b vs r seen small. dite (ℕ_discrete (state_of (atom b k)) 1)
+      (λ reserved. (
+        Refuse (Again (Pending k (atom b k))),
+        ((w, walk, place, inside, refl, reserved, other), refl),
+        (
+          refl,
+          λ j e. let same : k ≡ j = omega arith in
+              ((λ _. ap (λ (x : ℕ). view_after me.0 (Refuse (Again (Pending x (atom b k))))) same), λ ne. absurd (ne reserved)),
+        ),
+      ))
+      (λ not_. (
+        Load (atom_at me.0.size k) (atom b k),
+        (atom_read me.0.size b r.sized k inside, refl),
+        (
+          refl,
+          λ j e. let same : k ≡ j = omega arith in
+              ((λ y. absurd (not_ y)), λ _. ap (λ (x : ℕ). view_after me.0 (Load (atom_at me.0.size x) (atom b k))) same),
+        ),
+      ))))
+
+  pub finding_worn : (i h : ℕ) → i ≡ head_at me.0.size h → h < me.0.size.heads → Allows (Rule key) slots id me i (λ n. n) (worn_found (step slots i 0 0 none) me)
+  finding_worn i h at inside = subst (λ (w : ℕ). Allows (Rule key) slots id me w (λ n. n) (worn_found (step slots w 0 0 none) me)) (sym at)
+      (head_load key me.0.size slots id me h (worn_found (step slots (head_at me.0.size h) 0 0 none) me) is here inside
+      (λ b vs r seen small. dite (dec_le worn (version_of (head b h)))
+      (λ le. (
+        Refuse (Worn (record { head = h; word = head b h; start = me.0.size.start })),
+        ((inside, refl, le, refl), refl),
+        (
+          refl,
+          λ j e. let same : h ≡ j = omega arith in
+              ((λ _. ap (λ (x : ℕ). view_after me.0 (Refuse (Worn (record { head = x; word = head b h; start = me.0.size.start })))) same), λ lt. absurd (omega arith)),
+        ),
+      ))
+      (λ gt. (
+        Load (head_at me.0.size h) (head b h),
+        (head_read me.0.size b r.sized h inside, refl),
+        (
+          refl,
+          λ j e. let same : h ≡ j = omega arith in
+              ((λ le. absurd (gt le)), λ _. ap (λ (x : ℕ). view_after me.0 (Load (head_at me.0.size x) (head b h))) same),
+        ),
+      ))))
+
+  pub putting_link : (i x : ℕ) (o : Own) → me.0.own ≡ Some o → o.linked ≡ false → o.slot < me.0.size.slots → i ≡ link_at me.0.size o.slot → Allows (Rule key) slots id me i (λ _. x) (λ _. link_put (step slots i x 0 none) me x)
+  putting_link i x o own un inside at = subst (λ (w : ℕ). Allows (Rule key) slots id me w (λ _. x) (λ _. link_put (step slots w x 0 none) me x)) (sym at)
+      (link_goes key me.0.size slots id me o.slot (λ _. x) (λ _. link_put (step slots (link_at me.0.size o.slot) x 0 none) me x) is here inside
+      (λ b vs r seen small. (PutLink x, (o, own, un, refl), (refl, refl))))
+
+  -- the bucket is that of the first row, whose size the row word has
+  pub linking : (i : ℕ) (o : Own) (w : Walk) → me.0.own ≡ Some o → me.0.walk ≡ Some w → o.linked ≡ false → length o.text ≡ 32 → o.link ≡ Some (first_of w.word) → Ended 8 o w → closed_of w.word ≡ 0 → version_of w.word < worn
+      → w.head < me.0.size.heads → i ≡ head_at me.0.size w.head
+      → Allows (Rule key) slots id me i (λ n. either (eqb n w.word) (head_word (o.slot + 1) 0 (version_of w.word + 1)) n) (slot_linked (step slots i w.word (head_word (o.slot + 1) 0 (version_of w.word + 1)) none) me)
+  linking i o w own walk un whole link_is ended open_ fresh inside at = let new : ℕ = head_word (o.slot + 1) 0 (version_of w.word + 1) in
+      subst (λ (x : ℕ). Allows (Rule key) slots id me x (λ n. either (eqb n w.word) new n) (slot_linked (step slots x w.word new none) me)) (sym at)
+      (head_exchange key me.0.size slots id me w.head w.word new (slot_linked (step slots (head_at me.0.size w.head) w.word new none) me) is here inside
+      (λ b vs r seen hit. (Link, (o, w, own, walk, un, whole, link_is, subst (λ (n : ℕ). Ended n o w) (sym r.row) ended, hit, open_, fresh, refl), (refl, (λ _. refl), λ ne. absurd (ne hit))))
+      (λ b vs r seen miss. let moved : version_of (head b w.head) ≢ version_of w.word = (λ same. miss (((r.seats id me.0 seen here).walk w walk).word same)) in
+      (Refuse (Again (Moved w.word (head b w.head))), ((w, walk, refl, inside, refl, moved), refl), (refl, (λ e. absurd (miss e)), λ _. (moved, refl)))))
+
+  pub fetching : (i k : ℕ) (cs : List Counted) → i ≡ atom_at me.0.size k → k < me.0.size.slots → me.0.counts ≡ Some cs → 0 < (counted cs k).count → Allows (Rule key) slots id me i (λ n. bit_or n 4) (fetched (step slots i 4 0 none) me)
+  fetching i k cs at inside counts some_ = subst (λ (w : ℕ). Allows (Rule key) slots id me w (λ n. bit_or n 4) (fetched (step slots w 4 0 none) me)) (sym at)
+      (atom_goes key me.0.size slots id me k (λ n. bit_or n 4) (fetched (step slots (atom_at me.0.size k) 4 0 none) me) is here inside
+      (λ b vs r seen small. (Fetch k, (cs, counts, inside, some_, ap (with_atom b k) (or_mark (atom b k))), (refl, λ j e. let same : k ≡ j = omega arith in ap (λ (x : ℕ). view_after me.0 (Fetch x)) same))))
+
+  pub fixing : ((a : Held) → In a me.0.held → a.slot < 256) → Allows (Rule key) slots id me 0 (λ n. n) (fixed (step slots 0 0 0 none) me)
+  fixing low = epoch_load key me.0.size slots id me (fixed (step slots 0 0 0 none) me) is here (λ b vs r seen small. (Fix, (low, refl), (refl, refl)))
+
+  pub keeping : (those : List Held) → ((a : Held) → In a those → In a me.0.held) → Allows (Rule key) slots id me 0 (λ n. n) (kept those (step slots 0 0 0 none) me)
+  keeping those ours = epoch_load key me.0.size slots id me (kept those (step slots 0 0 0 none) me) is here (λ b vs r seen small. (Keep those, (ours, refl), (refl, refl)))
+
+  pub asking : (text : List ℕ) → Allows (Rule key) slots id me 0 (λ n. n) (asked text (step slots 0 0 0 none) me)
+  asking text = epoch_load key me.0.size slots id me (asked text (step slots 0 0 0 none) me) is here (λ b vs r seen small. (Ask text, refl, (refl, refl)))
