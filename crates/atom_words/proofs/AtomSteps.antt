@@ -1,6 +1,8 @@
 -- Each step on an atom word keeps the rule.
 use Rattle.std.proofs.Common.{◌≡◌, ◌≢◌, ◌⊎◌, ℕ, ◌+◌, ◌-◌, ◌*◌, ◌/◌, ◌%◌, ◌<◌, ◌≤◌, ◌==◌, ◌&&◌, true, false, List, [], ◌∷◌, ◌++◌, length, get_or, set, take, refl, sym, ap, ◌∙◌, subst, inl, inr, ⊎_elim, arith, Option, Some, None, take_all, length-set, eqb-true, get_or-set_same}
 use mathlib.Core.Option.{some}
+use mathlib.Core.Logic.{dite}
+use native.Mathlib.Decide.{dec_le}
 use lib.ListN.{get_elem?}
 use Rattle.atomic_table.proofs.Lists.{at_set}
 use Rattle.atom_words.specs.Layout.{state_of, count_of, version_of}
@@ -52,6 +54,12 @@ module _ (z : Size) (b : Board) (vs : List View) (r : Kept z b vs) (id : ℕ) (v
   walk_as : (k x : ℕ) (owner' : ℕ → ℕ) → Soft z b.atoms r.plan owner' id k x → (t : Walk) → v.walk ≡ Some t → WalkOk z (set b.atoms k x) b.links b.heads b.texts r.plan.chain t
   walk_as k x owner' soft t e = walk_stays z b.atoms (set b.atoms k x) b.links b.heads b.texts r.plan.chain t (soft_valid z b.atoms r.plan owner' id k x soft) (s.walk t e)
 
+  -- a free slot is for the fixed atoms, or not among the first 256
+  usable_slot : (k : ℕ) → k < z.slots → state_of (get_or b.atoms k 0) ≡ 0 → (k < z.fixed) ⊎ (256 ≤ k)
+  usable_slot k inside free = dite (dec_le z.fixed k)
+      (λ (f : z.fixed ≤ k). dite (dec_le 256 k) (λ (h : 256 ≤ k). inr h) (λ (l : ¬ (256 ≤ k)). absurd (let one = r.slots.shut k inside f (omega arith) in omega arith)))
+      (λ (f : ¬ (z.fixed ≤ k)). inl (omega arith))
+
   -- RESERVE
   pub keep_reserve : (k : ℕ) (b' : Board) → Does z b v (Reserve k) b' → Kept z b' (set vs id (view_after v (Reserve k)))
   keep_reserve k b' d = let free = d.2 in let none_counted : count_of (get_or b.atoms k 0) ≡ 0 = r.slots.zero k (λ e. omega arith) in
@@ -63,11 +71,13 @@ module _ (z : Size) (b : Board) (vs : List View) (r : Kept z b vs) (id : ℕ) (v
         count = inl (sym none_counted);
         live = λ l. absurd (r.slots.live k l free);
         zero = λ _. refl;
+        shut = λ _ _ e. absurd (omega arith);
       } in
       subst (λ y. Kept z y (set vs id (view_after v (Reserve k)))) (sym d.3) (knows k 1 (put r.plan.owner k id) (view_after v (Reserve k)) soft refl
       (λ o e. let is : fresh k ≡ o = cc in subst (λ y. OwnOk z (set b.atoms k 1) b.links b.texts r.plan.chain (put r.plan.owner k id) id y) is record {
         inside = d.0;
         mine = put_here r.plan.owner k id;
+        usable = usable_slot k d.0 free;
         state = ap state_of (get_or-set_same b.atoms k 1 0 (in_atoms k d.0));
         short = omega arith;
         text = refl;
@@ -88,6 +98,7 @@ module _ (z : Size) (b : Board) (vs : List View) (r : Kept z b vs) (id : ℕ) (v
         count = inl (sym none_counted);
         live = λ _ e. cc;
         zero = λ n. absurd (n refl);
+        shut = λ f l _. ⊎_elim (λ (t : o.slot < z.fixed). absurd (omega arith)) (λ (t : 256 ≤ o.slot). absurd (omega arith)) ok.usable;
       } in
       let short = text_short b.texts o.slot in let whole = on.1 in
       let held : HeldOk z (set b.atoms o.slot 7) b.texts r.plan.chain (record { slot = o.slot; text = o.text }) = record {
@@ -115,6 +126,7 @@ module _ (z : Size) (b : Board) (vs : List View) (r : Kept z b vs) (id : ℕ) (v
         count = inl (sym none_counted);
         live = λ l. absurd (ok.apart unlinked l);
         zero = λ _. refl;
+        shut = λ f l _. ⊎_elim (λ (t : o.slot < z.fixed). absurd (omega arith)) (λ (t : 256 ≤ o.slot). absurd (omega arith)) ok.usable;
       } in
       knows o.slot 0 r.plan.owner (view_after v Release) soft refl (λ q e. cc) (held_as o.slot 0 r.plan.owner soft) refl (counts_as o.slot 0 r.plan.owner soft (sym none_counted)) (walk_as o.slot 0 r.plan.owner soft)
 
@@ -131,6 +143,7 @@ module _ (z : Size) (b : Board) (vs : List View) (r : Kept z b vs) (id : ℕ) (v
     count = inl (count-marked n);
     live = λ l e. r.slots.live k l (sym (state-marked n) ∙ e);
     zero = λ ne. count-marked n ∙ r.slots.zero k (λ e. ne (state-marked n ∙ e));
+    shut = λ _ _ e. state-marked n ∙ e;
   }
 
   own_marked : (k : ℕ) → k < z.slots → (o : Own) → v.own ≡ Some o → OwnOk z (set b.atoms k (marked (get_or b.atoms k 0))) b.links b.texts r.plan.chain r.plan.owner id o
@@ -188,6 +201,7 @@ module _ (z : Size) (b : Board) (vs : List View) (r : Kept z b vs) (id : ℕ) (v
     count = inr mine;
     live = λ _ e. omega arith;
     zero = λ ne. absurd (ne now);
+    shut = λ _ _ e. absurd (omega arith);
   }
 
   -- after a count of the slot k has become c, and its word x

@@ -45,7 +45,7 @@ module _ (z : Size) (atoms atoms' : List ℕ) where
   pub own_stays : (links texts : List ℕ) (chain : ℕ → List ℕ) (owner owner' : ℕ → ℕ) (j : ℕ) (o : Own)
       → (owner o.slot ≡ j → state_of (get_or atoms o.slot 0) ≡ 1 → (owner' o.slot ≡ j) × (state_of (get_or atoms' o.slot 0) ≡ 1)) → OwnOk z atoms links texts chain owner j o → OwnOk z atoms' links texts chain owner' j o
   own_stays links texts chain owner owner' j o stays h = let now = stays h.mine h.state in
-      record { inside = h.inside; mine = now.0; state = now.1; short = h.short; text = h.text; link = h.link; apart = h.apart; linked = h.linked }
+      record { inside = h.inside; mine = now.0; usable = h.usable; state = now.1; short = h.short; text = h.text; link = h.link; apart = h.apart; linked = h.linked }
 
   pub counts_stay : (texts : List ℕ) (chain : ℕ → List ℕ) (keeper j : ℕ) (cs : List Counted) → StaysValid → ((q : ℕ) → count_of (get_or atoms' q 0) ≡ count_of (get_or atoms q 0))
       → CountsOk z atoms texts chain keeper j cs → CountsOk z atoms' texts chain keeper j cs
@@ -74,6 +74,7 @@ pub record Soft (z : Size) (atoms : List ℕ) (p : Plan) (owner' : ℕ → ℕ) 
   pub count : (count_of x ≡ count_of (get_or atoms k 0)) ⊎ (p.keeper ≡ id)
   pub live : Linked z.heads p.chain k → state_of x ≢ 0
   pub zero : state_of x ≢ 3 → count_of x ≡ 0
+  pub shut : z.fixed ≤ k → k < 256 → state_of (get_or atoms k 0) ≡ 1 → state_of x ≡ 1
 
 module _ (z : Size) (atoms : List ℕ) (p : Plan) (owner' : ℕ → ℕ) (id k x : ℕ) (soft : Soft z atoms p owner' id k x) where
   pub soft_valid : StaysValid z atoms (set atoms k x)
@@ -110,6 +111,9 @@ module _ (z : Size) (atoms : List ℕ) (p : Plan) (owner' : ℕ → ℕ) (id k x
   soft_slots s = record {
     live = λ q l. word_after (λ n. state_of n ≢ 0) atoms k x q soft.inside (λ e. soft.live (subst (Linked z.heads p.chain) e l)) (λ _. s.live q l);
     zero = λ q. word_after (λ n. state_of n ≢ 3 → count_of n ≡ 0) atoms k x q soft.inside (λ _. soft.zero) (λ _. s.zero q);
+    shut = λ q inside fixed low. word_after (λ n. state_of n ≡ 1) atoms k x q soft.inside
+        (λ e. soft.shut (subst (λ (i : ℕ). z.fixed ≤ i) e fixed) (subst (λ (i : ℕ). i < 256) e low) (subst (λ (i : ℕ). state_of (get_or atoms i 0) ≡ 1) e (s.shut q inside fixed low)))
+        (λ _. s.shut q inside fixed low);
   }
 
 -- a step on an atom word keeps the rule where it keeps it of that slot and of the seat's own view

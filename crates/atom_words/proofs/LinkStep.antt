@@ -158,6 +158,7 @@ module _ (z : Size) (b : Board) (vs : List View) (r : Kept z b vs) (id : ℕ) (v
   slots_linked = record {
     live = λ q l. ⊎_elim (λ (t : o.slot ≡ q). subst (λ (y : ℕ). state_of (get_or b.atoms y 0) ≢ 0) t (λ e. let one = ok.state in omega arith)) (r.slots.live q) (was_linked z r.plan.chain w.head o.slot walked.inside q l);
     zero = r.slots.zero;
+    shut = r.slots.shut;
   }
 
   abbrev plan' : Plan
@@ -169,6 +170,7 @@ module _ (z : Size) (b : Board) (vs : List View) (r : Kept z b vs) (id : ℕ) (v
     own = λ m e. let k = sj.own m e in record {
       inside = k.inside;
       mine = k.mine;
+      usable = k.usable;
       state = k.state;
       short = k.short;
       text = k.text;
@@ -189,6 +191,7 @@ module _ (z : Size) (b : Board) (vs : List View) (r : Kept z b vs) (id : ℕ) (v
         subst (λ y. OwnOk z b.atoms b.links b.texts (put r.plan.chain w.head (o.slot ∷ r.plan.chain w.head)) r.plan.owner id y) (ap linked_own same ∙ was.2) record {
           inside = ok.inside;
           mine = ok.mine;
+          usable = ok.usable;
           state = ok.state;
           short = ok.short;
           text = ok.text;

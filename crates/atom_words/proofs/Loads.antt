@@ -128,7 +128,7 @@ module _ (z : Size) (b : Board) (vs : List View) (r : Kept z b vs) (id : ℕ) (v
   keep_load i x b' d = keep_same b' (view_after v (Load i x)) d.1 (same z b r.plan id v s (view_after v (Load i x)) refl refl refl refl refl refl)
 
   pub keep_refused : (k old found : ℕ) (b' : Board) → Does z b v (Refused k old found) b' → Kept z b' (set vs id (view_after v (Refused k old found)))
-  keep_refused k old found b' d = keep_same b' (view_after v (Refused k old found)) d.4 (same z b r.plan id v s (view_after v (Refused k old found)) refl refl refl refl refl refl)
+  keep_refused k old found b' d = keep_same b' (view_after v (Refused k old found)) d.3 (same z b r.plan id v s (view_after v (Refused k old found)) refl refl refl refl refl refl)
 
   pub keep_start : (h x : ℕ) (b' : Board) → Does z b v (Start h x) b' → Kept z b' (set vs id (view_after v (Start h x)))
   keep_start h x b' d = keep_same b' (view_after v (Start h x)) d.2 (walks z b r.plan id v s (view_after v (Start h x)) refl refl refl refl refl

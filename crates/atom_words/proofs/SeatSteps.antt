@@ -167,6 +167,7 @@ keep_open z b vs o = let none : Plan = record { chain = λ _. []; place = λ _. 
       slots = record {
         live = λ k l _. in_none k l.2;
         zero = λ k _. not_counted k;
+        shut = λ k inside fixed low. ap state_of (o.closed_off k inside fixed low);
       };
       seats = λ j v at alive. ⊎_elim (λ (t : (j ≡ 0) × (first_view z ≡ v)). subst (SeatOk z b none j) t.1 record {
         size = refl;

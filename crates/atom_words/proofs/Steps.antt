@@ -1,5 +1,5 @@
 -- Each raw step of the calls is of its kind.
-use Rattle.std.proofs.Common.{◌≡◌, ◌≢◌, ◌⊎◌, ℕ, ◌+◌, ◌-◌, ◌*◌, ◌/◌, ◌%◌, ◌^◌, ◌<◌, ◌≤◌, eqb, true, false, List, [], length, get_or, set, bit_and, bit_or, refl, sym, ap, ◌∙◌, subst, inl, inr, arith, Option, Some, None}
+use Rattle.std.proofs.Common.{◌≡◌, ◌≢◌, ◌⊎◌, ℕ, ◌+◌, ◌-◌, ◌*◌, ◌/◌, ◌%◌, ◌^◌, ◌<◌, ◌≤◌, eqb, true, false, List, [], length, get_or, set, bit_and, bit_or, refl, sym, ap, ◌∙◌, subst, inl, inr, arith, Option, Some, None, ◌∷◌, ◌++◌}
 use Rattle.std.proofs.lemmas.Nat.Bits.{and_pow}
 use Rattle.std.specs.Int.Bits.{or_add_and}
 use mathlib.Core.Logic.{dite}
@@ -22,6 +22,7 @@ use Rattle.atom_words.specs.declared.view.Counted.{Counted}
 use Rattle.atom_words.specs.declared.view.Own.{Own}
 use Rattle.atom_words.specs.declared.view.Passing.{Passing}
 use Rattle.atom_words.specs.declared.view.View.{View}
+use Rattle.atom_words.specs.declared.kind.Kind.{Kind}
 use Rattle.atom_words.specs.declared.kind.Kind.TheVariants.{Reserve, PutWord, Validate, Release, Load, Refused, StartPass, EndPass, Protect, Register, Unregister}
 use Rattle.atom_words.proofs.Regions.{atom_read}
 use Rattle.atom_words.proofs.Slices.{or_at}
@@ -64,7 +65,7 @@ module _ (key : Size) (slots id : ℕ) (me : Sat) (is : key ≡ me.0.size) (here
       ))
       (λ other. (
         Refused k 0 (atom b k),
-        (inside, refl, refl, miss, refl),
+        (inside, refl, inl (λ free. free_word (atom b k) miss other free (r.slots.zero k (λ three. omega arith))), refl),
         (
           refl,
           λ j e. let same : k ≡ j = omega arith in (
@@ -75,9 +76,9 @@ module _ (key : Size) (slots id : ℕ) (me : Sat) (is : key ≡ me.0.size) (here
         ),
       ))))
 
-  pub reserving_marked : (i k : ℕ) → i ≡ atom_at me.0.size k → k < me.0.size.slots → me.0.own ≡ None
+  pub reserving_marked : (i k : ℕ) → i ≡ atom_at me.0.size k → k < me.0.size.slots → me.0.own ≡ None → (before : List Kind) → me.0.made ≡ before ++ Load (atom_at me.0.size k) 4 ∷ []
       → Allows (Rule key) slots id me i (λ n. either (eqb n 4) 1 n) (reserved_marked (step slots i 4 1 none) me)
-  reserving_marked i k at inside unowned = subst (λ (w : ℕ). Allows (Rule key) slots id me w (λ n. either (eqb n 4) 1 n) (reserved_marked (step slots w 4 1 none) me)) (sym at)
+  reserving_marked i k at inside unowned before last = subst (λ (w : ℕ). Allows (Rule key) slots id me w (λ n. either (eqb n 4) 1 n) (reserved_marked (step slots w 4 1 none) me)) (sym at)
       (atom_exchange key me.0.size slots id me k 4 1 (reserved_marked (step slots (atom_at me.0.size k) 4 1 none) me) is here inside
       (λ b vs r seen hit. (
         Reserve k,
@@ -90,7 +91,7 @@ module _ (key : Size) (slots id : ℕ) (me : Sat) (is : key ≡ me.0.size) (here
       ))
       (λ b vs r seen miss. (
         Refused k 4 (atom b k),
-        (inside, refl, refl, miss, refl),
+        (inside, refl, inr (refl, miss, (before, last)), refl),
         (
           refl,
           λ j e. let same : k ≡ j = omega arith in

@@ -71,6 +71,7 @@ module _ (z : Size) (b : Board) (vs : List View) (r : Kept z b vs) (id : ℕ) (v
       own = λ n e. let h = sj.own n e in record {
         inside = h.inside;
         mine = h.mine;
+        usable = h.usable;
         state = h.state;
         short = h.short;
         text = ap (take (length n.text)) (text_else b.texts o.slot (length o.text) x n.slot more (other_slot j w o n own other sj e)) ∙ h.text;
@@ -91,6 +92,7 @@ module _ (z : Size) (b : Board) (vs : List View) (r : Kept z b vs) (id : ℕ) (v
           subst (λ y. OwnOk z b.atoms b.links t r.plan.chain r.plan.owner id y) (ap (putting x) same ∙ was.2) (let h = s.own o own in record {
             inside = h.inside;
             mine = h.mine;
+            usable = h.usable;
             state = h.state;
             short = simp (length-append {A = ℕ}) (omega arith);
             text = let n : length (o.text ++ x ∷ []) ≡ length o.text + 1 = simp (length-append {A = ℕ}) refl in ap (λ (i : ℕ). take i (text_of t o.slot)) n
@@ -138,6 +140,7 @@ module _ (z : Size) (b : Board) (vs : List View) (r : Kept z b vs) (id : ℕ) (v
       own = λ n e. let h = sj.own n e in record {
         inside = h.inside;
         mine = h.mine;
+        usable = h.usable;
         state = h.state;
         short = h.short;
         text = h.text;
@@ -158,6 +161,7 @@ module _ (z : Size) (b : Board) (vs : List View) (r : Kept z b vs) (id : ℕ) (v
           subst (λ y. OwnOk z b.atoms (set b.links o.slot l) b.texts r.plan.chain r.plan.owner id y) (ap (linking l) same ∙ was.2) (let h = s.own o own in record {
             inside = h.inside;
             mine = h.mine;
+            usable = h.usable;
             state = h.state;
             short = h.short;
             text = h.text;

@@ -24,6 +24,7 @@ pub record Plan : Type 0 where
 pub record OwnOk (z : Size) (atoms links texts : List ℕ) (chain : ℕ → List ℕ) (owner : ℕ → ℕ) (j : ℕ) (o : Own) : Type 0 where
   pub inside : o.slot < z.slots
   pub mine : owner o.slot ≡ j
+  pub usable : (o.slot < z.fixed) ⊎ (256 ≤ o.slot)
   pub state : state_of (slice_index atoms o.slot) ≡ 1
   pub short : length o.text ≤ 32
   pub text : take (length o.text) (text_of texts o.slot) ≡ o.text
@@ -82,10 +83,11 @@ pub record Rows (z : Size) (row : ℕ) (links heads texts : List ℕ) (chain : �
   pub stands : (h k : ℕ) → h < z.heads → In k (chain h) → bucket row (text_of texts k) ≡ h
   pub unlike : (h k q : ℕ) → h < z.heads → In k (chain h) → In q (chain h) → text_of texts k ≡ text_of texts q → k ≡ q
 
--- the states of the slots: a linked slot is not free, and one that is not valid is not counted
+-- the states of the slots: a linked slot is not free, one that is not valid is not counted, and those below 256 that hold no fixed atom stand reserved
 pub record Slots (z : Size) (atoms : List ℕ) (chain : ℕ → List ℕ) : Type 0 where
   pub live : (k : ℕ) → Linked z.heads chain k → state_of (slice_index atoms k) ≢ 0
   pub zero : (k : ℕ) → state_of (slice_index atoms k) ≢ 3 → count_of (slice_index atoms k) ≡ 0
+  pub shut : (k : ℕ) → k < z.slots → z.fixed ≤ k → k < 256 → state_of (slice_index atoms k) ≡ 1
 
 -- WHAT IS KEPT
 pub record Kept (z : Size) (b : Board) (vs : List View) : Type 0 where

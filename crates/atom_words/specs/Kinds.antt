@@ -4,7 +4,7 @@ use mathlib.Core.Option.{some}
 use lib.ListN.{get_elem?}
 use Rattle.atom_words.specs.Layout.{state_of, mark_of, first_of, closed_of, version_of, head_word, worn}
 use Rattle.atom_words.specs.Texts.{bucket}
-use Rattle.atom_words.specs.Board.{Board, laid, atom, link, head, text_of, with_atom, with_link, with_head, with_text}
+use Rattle.atom_words.specs.Board.{Board, laid, atom_at, atom, link, head, text_of, with_atom, with_link, with_head, with_text}
 use Rattle.atom_words.specs.Chains.{In}
 use Rattle.atom_words.specs.Views.{uncounted}
 use Rattle.atom_words.specs.declared.size.Size.{Size}
@@ -138,6 +138,10 @@ Shows z b v (Again (Pending k x)) = (w : Walk) × (v.walk ≡ Some w) × (w.plac
 Shows z b v (Again (Closed x)) = (h : ℕ) × (h < z.heads) × (head b h ≡ x) × (closed_of x ≡ 1)
 Shows z b v (Worn w) = (w.head < z.heads) × (head b w.head ≡ w.word) × (worn ≤ version_of w.word) × (w.start ≡ z.start)
 
+-- The seat loaded the slot's word just before, found it free, and the exchange of that word finds another
+abbrev pub Lost : Size → View → ℕ → ℕ → ℕ → Type 0
+Lost z v k old found = (state_of old ≡ 0) × (found ≢ old) × ((before : List Kind) × (v.made ≡ before ++ Load (atom_at z k) old ∷ []))
+
 -- WHAT A STEP ASKS AND DOES: the seat's step of this kind makes b' of the words b. The kinds of the cycle, of unlinking and of growth are still to come
 abbrev pub Does : Size → Board → View → Kind → Board → Type 0
 Does z b v (Reserve k) b' = (k < z.slots) × (v.own ≡ None) × (state_of (atom b k) ≡ 0) × (b' ≡ with_atom b k 1)
@@ -148,7 +152,7 @@ Does z b v Link b' = (o : Own) × (w : Walk) × (v.own ≡ Some o) × (v.walk �
 Does z b v Validate b' = (o : Own) × (v.own ≡ Some o) × (o.linked ≡ true) × (b' ≡ with_atom b o.slot 7)
 Does z b v Release b' = (o : Own) × (v.own ≡ Some o) × (o.linked ≡ false) × (b' ≡ with_atom b o.slot 0)
 Does z b v (Load i x) b' = (slice_index (laid b) i ≡ x) × (b' ≡ b)
-Does z b v (Refused k old found) b' = (k < z.slots) × (atom b k ≡ found) × (state_of old ≡ 0) × (found ≢ old) × (b' ≡ b)
+Does z b v (Refused k old found) b' = (k < z.slots) × (atom b k ≡ found) × ((state_of found ≢ 0) ⊎ Lost z v k old found) × (b' ≡ b)
 Does z b v (Start h x) b' = (h < z.heads) × (head b h ≡ x) × (b' ≡ b)
 Does z b v (Read x) b' = (w : Walk) × (k : ℕ) × (v.walk ≡ Some w) × (w.place ≡ k + 1) × (length w.part < 32) × (slice_index (text_of b.texts k) (length w.part) ≡ x) × (b' ≡ b)
 Does z b v (Next x) b' = (w : Walk) × (k : ℕ) × (v.walk ≡ Some w) × (w.place ≡ k + 1) × (link b k ≡ x) × (b' ≡ b)

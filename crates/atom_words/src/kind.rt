@@ -22,7 +22,7 @@ pub enum Kind {
     // Use: loads, by what the seat keeps of them
     /// The word at that place was that number.
     Load(u64, u64),
-    /// A slot was not free, or the exchange from that free word was lost: the slot, the word that was expected, the word that was found.
+    /// A slot was not free, or the exchange of its free word was lost: the slot, the word that was expected, the word that was found.
     Refused(u64, u64, u64),
     /// A walk begins at that head, whose word is that number.
     Start(u64, u64),

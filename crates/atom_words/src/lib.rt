@@ -25,6 +25,7 @@ mod tests;
 mod texts;
 mod view;
 mod words;
+mod worn;
 
 pub use kind::Kind;
 pub use plays::{
@@ -40,3 +41,4 @@ pub use view::{
     Cause, Counted, Cycling, Held, Own, Pass, Passing, Refusal, Sweeping, View, Walk, WornWord,
 };
 pub use words::{AtomSeat, Words};
+pub use worn::WORN;

@@ -1,9 +1,10 @@
 //! Slots are taken, made valid, given back and marked.
-ghost use Rattle.std.specs.Prelude.{◌≡◌, ◌≢◌, ◌⊎◌, ℕ, ◌+◌, ◌^◌, ◌<◌, ◌≤◌, true, false, None, Some, [], ◌∷◌, MatchResult};
+ghost use Rattle.std.specs.Prelude.{◌≡◌, ◌≢◌, ◌⊎◌, ℕ, ◌+◌, ◌^◌, ◌<◌, ◌≤◌, true, false, None, Some, List, [], ◌∷◌, ◌++◌, MatchResult};
 ghost use Rattle.atom_words.specs.Layout.{state_of};
 ghost use Rattle.atom_words.specs.Board.{atom_at};
 ghost use Rattle.atom_words.specs.Kinds.{view_after, after, next_first, next_counted};
 ghost use Rattle.atom_words.specs.Seats.{seen, Fits, Same, Reserves, FindsTaken};
+ghost use Rattle.atom_words.specs.declared.kind.Kind.{Kind};
 ghost use Rattle.atom_words.specs.declared.kind.Kind.TheVariants.{Reserve, Load, Refused, Validate, Release, Protect};
 ghost use Rattle.atom_words.specs.declared.view.Own.{Own};
 ghost use Rattle.atom_words.specs.declared.view.View.{View};
@@ -56,6 +57,7 @@ impl Words {
         requires fits { (seat.old.table_id ≡ self.now.table.shared.table_id) × (seat.old.me.0.size ≡ self.now.size) × (seat.old.me.0.gone ≡ false) }
         requires slot { slot < self.now.size.slots }
         requires none { seat.old.me.0.own ≡ None }
+        requires loaded { (before : List Kind) × (seat.old.me.0.made ≡ before ++ Load (atom_at seat.old.me.0.size slot) 4 ∷ []) }
         ensures same { (seat.new.table_id ≡ seat.old.table_id) × (seat.new.id ≡ seat.old.id) × (seat.new.me.1 ≡ seat.old.me.1) }
         ensures took { result ≡ 4 → seat.new.me.0 ≡ view_after seat.old.me.0 (Reserve slot) }
         ensures lost { result ≢ 4 → seat.new.me.0 ≡ view_after seat.old.me.0 (Refused slot 4 result) }

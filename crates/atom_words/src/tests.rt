@@ -105,3 +105,20 @@ fn a_pass_counts_all_slots(rt: HostRuntime) -> Result<(), Fail> {
     assert!(rt; one.engine == 2 && keeper.engine == 0 && collector.engine == 0);
     Ok(())
 }
+
+#[test]
+fn a_worn_bucket_is_found(rt: HostRuntime) -> Result<(), Fail> {
+    let old = Size {
+        start: 4_398_046_511_103,
+        ..SMALL
+    };
+    let (words, mut first) = Words::new(rt.alloc(), old)?;
+    let Some(found) = words.find_worn(&mut first, 5) else {
+        panic!(rt; "the bucket was not worn")
+    };
+    assert!(rt; found.head() == 5 && found.start() == 4_398_046_511_103);
+    assert!(rt; found.word() == 18_446_744_073_705_357_312);
+    let (words, mut first) = Words::new(rt.alloc(), SMALL)?;
+    assert!(rt; words.find_worn(&mut first, 5).is_none());
+    Ok(())
+}

@@ -9,5 +9,5 @@ compare_exchange-requires c = let same : c.args.self.now.size ≡ c.args.seat.no
   c.requires.fits.0,
   c.atom_place-place.ensures.inside,
   reserving_marked c.args.self.now.table.shared.key c.args.self.now.table.shared.table_id.slots c.args.seat.now.id c.args.seat.now.me (c.args.self.now.keyed ∙ same) c.requires.fits.2 c.atom_place-place.result c.args.slot
-      (c.atom_place-place.ensures.place ∙ ap (λ (y : Size). atom_at y c.args.slot) same) (subst (λ (y : Size). c.args.slot < y.slots) same c.requires.slot) c.requires.none,
+      (c.atom_place-place.ensures.place ∙ ap (λ (y : Size). atom_at y c.args.slot) same) (subst (λ (y : Size). c.args.slot < y.slots) same c.requires.slot) c.requires.none c.requires.loaded.0 c.requires.loaded.1,
 )
