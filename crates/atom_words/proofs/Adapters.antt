@@ -1,5 +1,5 @@
 -- What a kind of step gives to a step of the table. The first four serve every call; an upper crate uses them for the kinds that it makes.
-use Rattle.std.proofs.Common.{◌≡◌, ◌≢◌, ℕ, suc, ◌+◌, ◌<◌, eqb, false, List, [], get_or, set, refl, sym, ap, ◌∙◌, subst, Option}
+use Rattle.std.proofs.Common.{◌≡◌, ◌≢◌, ℕ, suc, ◌<◌, eqb, false, List, get_or, set, refl, sym, ap, ◌∙◌, subst}
 use mathlib.Core.Option.{some}
 use lib.ListN.{get_elem?}
 use lib.Seq.{set-get_or}
@@ -8,7 +8,7 @@ use Rattle.atomic_table.specs.Table.{State, Me, Act, keeps, stepped, Allows}
 use Rattle.atomic_table.proofs.Lists.{exchanged}
 use Rattle.atom_words.specs.Board.{Board, Sized, laid, atom, link, head, atom_at, link_at, head_at, text_at, with_atom, with_link, with_head, with_text}
 use Rattle.atom_words.specs.Kinds.{view_after, Does}
-use Rattle.atom_words.specs.Rule.{goes, Goes, Reached, Rule}
+use Rattle.atom_words.specs.Rule.{goes, Rule}
 use Rattle.atom_words.specs.Kept.{Kept}
 use Rattle.atom_words.specs.declared.size.Size.{Size}
 use Rattle.atom_words.specs.declared.view.View.{View}

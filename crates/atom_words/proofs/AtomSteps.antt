@@ -1,16 +1,16 @@
 -- Each step on an atom word keeps the rule.
-use Rattle.std.proofs.Common.{◌≡◌, ◌≢◌, ◌⊎◌, ℕ, ◌+◌, ◌-◌, ◌*◌, ◌/◌, ◌%◌, ◌<◌, ◌≤◌, ◌==◌, ◌&&◌, true, false, List, [], ◌∷◌, ◌++◌, length, get_or, set, take, refl, sym, ap, ◌∙◌, subst, inl, inr, ⊎_elim, arith, Option, Some, None, take_all, length-set, eqb-true, get_or-set_same}
+use Rattle.std.proofs.Common.{◌≡◌, ◌≢◌, ◌⊎◌, ℕ, ◌+◌, ◌-◌, ◌<◌, ◌≤◌, ◌==◌, ◌&&◌, true, false, List, ◌++◌, length, get_or, set, refl, sym, ap, ◌∙◌, subst, inl, inr, ⊎_elim, arith, Some, take_all, length-set, eqb-true, get_or-set_same}
 use mathlib.Core.Option.{some}
 use mathlib.Core.Logic.{dite}
 use native.Mathlib.Decide.{dec_le}
 use lib.ListN.{get_elem?}
 use Rattle.atomic_table.proofs.Lists.{at_set}
-use Rattle.atom_words.specs.Layout.{state_of, count_of, version_of}
-use Rattle.atom_words.specs.Board.{Board, Sized, text_of, with_atom}
-use Rattle.atom_words.specs.Chains.{In, Chain, Linked}
+use Rattle.atom_words.specs.Layout.{state_of, count_of}
+use Rattle.atom_words.specs.Board.{Board, text_of, with_atom}
+use Rattle.atom_words.specs.Chains.{In}
 use Rattle.atom_words.specs.Views.{uncounted}
 use Rattle.atom_words.specs.Kinds.{marked, fresh, held_own, held_counted, counted, once_more, once_less, guarding, view_after, Does}
-use Rattle.atom_words.specs.Kept.{Plan, OwnOk, HeldOk, CountsOk, WalkOk, SeatOk, Kept}
+use Rattle.atom_words.specs.Kept.{OwnOk, HeldOk, CountsOk, WalkOk, SeatOk, Kept}
 use Rattle.atom_words.specs.declared.size.Size.{Size}
 use Rattle.atom_words.specs.declared.view.Held.{Held}
 use Rattle.atom_words.specs.declared.view.Counted.{Counted}
@@ -19,9 +19,9 @@ use Rattle.atom_words.specs.declared.view.Walk.{Walk}
 use Rattle.atom_words.specs.declared.view.View.{View}
 use Rattle.atom_words.specs.declared.kind.Kind.TheVariants.{Reserve, Validate, Release, Protect, Fetch, Register, Unregister}
 use Rattle.atom_words.proofs.Layouts.{state-marked, count-marked}
-use Rattle.atom_words.proofs.Slices.{some_same, or_true, and_true, at_snoc, at_inside, at_or, or_at, word_after, text_short}
+use Rattle.atom_words.proofs.Slices.{some_same, or_true, and_true, at_snoc, or_at, word_after, text_short}
 use Rattle.atom_words.proofs.Puts.{put, put_here, put_else, unmapped}
-use Rattle.atom_words.proofs.Frames.{StaysValid, held_stays, own_stays, counts_stay, walk_stays, Soft, soft_valid, soft_count, keep_atom}
+use Rattle.atom_words.proofs.Frames.{held_stays, own_stays, counts_stay, walk_stays, Soft, soft_valid, soft_count, keep_atom}
 
 module _ (z : Size) (b : Board) (vs : List View) (r : Kept z b vs) (id : ℕ) (v : View) (s : SeatOk z b r.plan id v) where
   in_atoms : (k : ℕ) → k < z.slots → k < length b.atoms

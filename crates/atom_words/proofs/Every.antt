@@ -1,10 +1,8 @@
 -- Every reached state keeps the rule.
-use Rattle.std.proofs.Common.{◌≡◌, ℕ, zero, suc, false, List, [], ◌∷◌, ◌++◌, set, sym, subst}
-use mathlib.Core.Option.{some}
-use lib.ListN.{get_elem?}
+use Rattle.std.proofs.Common.{ℕ, zero, suc, List, set, sym, subst}
 use Rattle.atom_words.specs.Board.{Board}
 use Rattle.atom_words.specs.Kinds.{view_after, Does}
-use Rattle.atom_words.specs.Rule.{Goes, Splits, Joins, Moves, goes, makes, joins, splits, Reached}
+use Rattle.atom_words.specs.Rule.{Goes, Moves, goes, makes, joins, splits, Reached}
 use Rattle.atom_words.specs.Kept.{SeatOk, Kept}
 use Rattle.atom_words.specs.declared.size.Size.{Size}
 use Rattle.atom_words.specs.declared.view.View.{View}

@@ -1,20 +1,20 @@
 -- What a step leaves as it was. Each lemma takes a part of the rule over a change that does not concern it.
-use Rattle.std.proofs.Common.{◌≡◌, ◌≢◌, ◌⊎◌, ℕ, ◌+◌, ◌-◌, ◌*◌, ◌/◌, ◌%◌, ◌<◌, ◌≤◌, true, false, List, [], ◌∷◌, ◌++◌, length, get_or, set, refl, sym, ap, ◌∙◌, subst, inl, inr, ⊎_elim, arith, Option, Some, None, length-set}
+use Rattle.std.proofs.Common.{◌≡◌, ◌≢◌, ◌⊎◌, ℕ, ◌<◌, ◌≤◌, false, List, length, get_or, set, refl, sym, ap, ◌∙◌, subst, ⊎_elim, length-set}
 use mathlib.Core.Option.{some}
 use native.Mathlib.Decide.{ℕ_discrete}
 use lib.ListN.{get_elem?}
 use Rattle.atomic_table.proofs.Lists.{at_set}
-use Rattle.atom_words.specs.Layout.{state_of, count_of, version_of}
-use Rattle.atom_words.specs.Board.{Board, Sized, with_atom}
-use Rattle.atom_words.specs.Chains.{In, Linked}
-use Rattle.atom_words.specs.Kept.{Plan, OwnOk, HeldOk, CountsOk, Seen, Unwalked, WalkOk, SeatOk, Rows, Slots, Kept}
+use Rattle.atom_words.specs.Layout.{state_of, count_of}
+use Rattle.atom_words.specs.Board.{Board, with_atom}
+use Rattle.atom_words.specs.Chains.{Linked}
+use Rattle.atom_words.specs.Kept.{Plan, OwnOk, HeldOk, CountsOk, WalkOk, SeatOk, Slots, Kept}
 use Rattle.atom_words.specs.declared.size.Size.{Size}
 use Rattle.atom_words.specs.declared.view.Held.{Held}
 use Rattle.atom_words.specs.declared.view.Counted.{Counted}
 use Rattle.atom_words.specs.declared.view.Own.{Own}
 use Rattle.atom_words.specs.declared.view.Walk.{Walk}
 use Rattle.atom_words.specs.declared.view.View.{View}
-use Rattle.atom_words.proofs.Slices.{word_after, at_inside, or_at, at_or}
+use Rattle.atom_words.proofs.Slices.{word_after}
 
 -- a fact of each seat, after the view of one has changed
 pub seats_stay : (K : ℕ → View → Type 0) (vs : List View) (me : ℕ) (w : View) → (w.gone ≡ false → K me w) → ((j : ℕ) (v : View) → j ≢ me → get_elem? vs j ≡ some v → v.gone ≡ false → K j v)

@@ -1,5 +1,5 @@
 -- Each word reads back as it was made.
-use Rattle.std.proofs.Common.{◌≡◌, ℕ, ◌+◌, ◌-◌, ◌*◌, ◌/◌, ◌%◌, ◌<◌, arith}
+use Rattle.std.proofs.Common.{◌≡◌, ℕ, ◌<◌, arith}
 use Rattle.atom_words.specs.Layout.{atom_word, state_of, mark_of, count_of, head_word, first_of, closed_of, version_of, epoch_word, phase_of, epoch_of}
 use Rattle.atom_words.specs.Kinds.{marked}
 

@@ -1,20 +1,19 @@
 -- Each load keeps the rule.
-use Rattle.std.proofs.Common.{◌≡◌, ◌≢◌, ◌⊎◌, ℕ, ◌+◌, ◌-◌, ◌*◌, ◌/◌, ◌%◌, ◌<◌, ◌≤◌, true, false, List, [], ◌∷◌, ◌++◌, length, get_or, set, take, refl, sym, ap, ◌∙◌, subst, inl, inr, ⊎_elim, arith, Option, Some, None, take_all, length-append}
+use Rattle.std.proofs.Common.{◌≡◌, ℕ, ◌+◌, ◌-◌, ◌<◌, ◌≤◌, true, List, [], ◌∷◌, ◌++◌, length, get_or, set, take, refl, sym, ap, ◌∙◌, subst, inl, inr, ⊎_elim, arith, Some, None, take_all, length-append}
 use mathlib.Core.Option.{some}
 use lib.ListN.{get_elem?}
 use Rattle.atomic_table.proofs.Lists.{at_longer, at_last}
-use Rattle.atom_words.specs.Layout.{state_of, first_of, version_of}
-use Rattle.atom_words.specs.Board.{Board, Sized, text_of}
-use Rattle.atom_words.specs.Chains.{In, Chain, Linked}
+use Rattle.atom_words.specs.Layout.{first_of, version_of}
+use Rattle.atom_words.specs.Board.{Board, text_of}
+use Rattle.atom_words.specs.Chains.{In, Chain}
 use Rattle.atom_words.specs.Kinds.{starting, reading, going_on, at_hand, held_at_hand, view_after, Does}
-use Rattle.atom_words.specs.Kept.{Plan, HeldOk, Seen, Unwalked, WalkOk, SeatOk, Kept}
+use Rattle.atom_words.specs.Kept.{Plan, HeldOk, Seen, WalkOk, SeatOk, Kept}
 use Rattle.atom_words.specs.declared.size.Size.{Size}
 use Rattle.atom_words.specs.declared.view.Held.{Held}
 use Rattle.atom_words.specs.declared.view.Walk.{Walk}
 use Rattle.atom_words.specs.declared.view.View.{View}
-use Rattle.atom_words.specs.declared.kind.Kind.{Kind}
 use Rattle.atom_words.specs.declared.kind.Kind.TheVariants.{Load, Refused, Start, Read, Next, Hold, Keep, Fix, StartPass, EndPass, Refuse, Ask}
-use Rattle.atom_words.proofs.Slices.{mapped, in_none, in_append, in_later, in_cases, at_snoc, at_inside, text_length, text_short, read_more, chain_at}
+use Rattle.atom_words.proofs.Slices.{mapped, in_none, in_append, in_later, in_cases, at_snoc, text_length, text_short, read_more, chain_at}
 use Rattle.atom_words.proofs.Frames.{keep_view}
 
 module _ (z : Size) (b : Board) (p : Plan) (j : ℕ) (v : View) (s : SeatOk z b p j v) where

@@ -1,17 +1,16 @@
 -- A new table meets the rule; and seats are made, joined and split under it.
-use Rattle.std.proofs.Common.{◌≡◌, ◌≢◌, ◌⊎◌, ℕ, zero, suc, ◌+◌, ◌-◌, ◌*◌, ◌<◌, ◌≤◌, false, List, [], ◌∷◌, ◌++◌, length, get_or, set, replicate, refl, sym, ap, ◌∙◌, subst, inl, inr, ⊎_elim, arith, length-append}
+use Rattle.std.proofs.Common.{◌≡◌, ℕ, suc, ◌-◌, ◌*◌, ◌<◌, ◌≤◌, false, List, [], ◌∷◌, ◌++◌, get_or, replicate, refl, sym, ◌∙◌, ⊎_elim, arith, length-append}
 use Rattle.std.proofs.lemmas.List.{get_or-replicate, get_or-append_right}
-use mathlib.Core.Option.{some}
 use mathlib.Core.Logic.{dite}
 use native.Mathlib.Decide.{dec_le}
-use lib.ListN.{get_elem?, get_or-append, length-replicate}
+use lib.ListN.{get_or-append, length-replicate}
 use Rattle.atomic_table.specs.Table.{State, opening}
 use Rattle.atomic_table.specs.Table as table
 use Rattle.atomic_table.proofs.Lists.{set_else}
 use Rattle.atom_words.specs.Layout.{head_word}
-use Rattle.atom_words.specs.Board.{Board, Sized, laid, atom, head}
+use Rattle.atom_words.specs.Board.{laid}
 use Rattle.atom_words.specs.Views.{first_view, newcomer, spent, with_keeper}
-use Rattle.atom_words.specs.Rule.{Cut, Splits, Joins, goes, makes, joins, splits, Opens, Rule}
+use Rattle.atom_words.specs.Rule.{Cut, makes, joins, splits, Opens, Rule}
 use Rattle.atom_words.specs.Opening.{Allowed, opening_board}
 use Rattle.atom_words.specs.declared.size.Size.{Size}
 use Rattle.atom_words.specs.declared.view.View.{View}

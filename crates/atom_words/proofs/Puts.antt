@@ -1,5 +1,5 @@
 -- Functions that are changed at one number, and options under a function.
-use Rattle.std.proofs.Common.{◌≡◌, ◌≢◌, ℕ, Bool, cond, eqb, refl, ap, sym, ◌∙◌, eq-eqb, ne_eqb, Option, Some, None, option_map}
+use Rattle.std.proofs.Common.{◌≡◌, ◌≢◌, ℕ, cond, eqb, refl, ap, eq-eqb, ne_eqb, Option, Some, None, option_map}
 
 abbrev pub put : {A : Type 0} → (ℕ → A) → ℕ → A → ℕ → A
 put f i c j = cond (eqb j i) c (f j)

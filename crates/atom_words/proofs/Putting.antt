@@ -1,5 +1,5 @@
 -- The words of a text, and the view as they are put one after the other.
-use Rattle.std.proofs.Common.{◌≡◌, ◌≢◌, ℕ, zero, suc, ◌+◌, ◌-◌, ◌*◌, ◌<◌, ◌≤◌, false, List, [], ◌∷◌, ◌++◌, map, length, get_or, take, drop, refl, sym, ap, ◌∙◌, arith, Option, Some, None, option_map, append_assoc, append-nil, drop-drop, length-append}
+use Rattle.std.proofs.Common.{◌≡◌, ◌≢◌, ℕ, zero, suc, ◌+◌, ◌-◌, ◌*◌, ◌<◌, List, [], ◌∷◌, ◌++◌, length, get_or, take, drop, refl, sym, ap, ◌∙◌, arith, Some, option_map, append_assoc, append-nil, drop-drop}
 use Rattle.std.proofs.lemmas.List.{take_more}
 use mathlib.Core.List.{map-append}
 use Rattle.atom_words.specs.Texts.{packed, packs, row_of}

@@ -1,9 +1,9 @@
 -- Reads and writes of the words, region by region.
-use Rattle.std.proofs.Common.{◌≡◌, ℕ, ◌+◌, ◌-◌, ◌*◌, ◌<◌, List, [], ◌∷◌, ◌++◌, length, get_or, set, refl, sym, ap, ◌∙◌, subst, arith, length-append, get_or-append-add}
+use Rattle.std.proofs.Common.{◌≡◌, ℕ, ◌+◌, ◌-◌, ◌<◌, List, ◌∷◌, ◌++◌, length, get_or, set, refl, ap, ◌∙◌, subst, arith, length-append, get_or-append-add}
 use lib.ListN.{get_or-append}
 use lib.Seq.{set-append_left}
 use Rattle.std.proofs.lemmas.List.{set-append_right}
-use Rattle.atom_words.specs.Board.{Board, Sized, laid, ack_at, atom_at, link_at, head_at, text_at, word_count, with_atom, with_link, with_head, with_text}
+use Rattle.atom_words.specs.Board.{Board, Sized, laid, atom_at, link_at, head_at, text_at, word_count, with_atom, with_link, with_head, with_text}
 use Rattle.atom_words.specs.declared.size.Size.{Size}
 
 skip : (xs ys : List ℕ) (n i : ℕ) → length xs ≡ n → get_or (xs ++ ys) (n + i) 0 ≡ get_or ys i 0

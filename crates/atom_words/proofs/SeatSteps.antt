@@ -1,22 +1,21 @@
 -- A new seat, two seats made one, and a seat cut in two keep the rule; and a new table meets it.
-use Rattle.std.proofs.Common.{◌≡◌, ◌≢◌, ◌⊎◌, ℕ, zero, suc, ◌+◌, ◌-◌, ◌*◌, ◌/◌, ◌%◌, ◌<◌, ◌≤◌, true, false, List, [], ◌∷◌, ◌++◌, length, get_or, set, replicate, refl, sym, ap, ◌∙◌, subst, inl, inr, ⊎_elim, arith, Option, Some, None, length-set}
-use mathlib.Core.Option.{some, some-injective, some-ne-none}
+use Rattle.std.proofs.Common.{◌≡◌, ◌≢◌, ◌⊎◌, ℕ, zero, suc, ◌≤◌, false, List, [], ◌∷◌, ◌++◌, length, get_or, set, replicate, refl, sym, ap, ◌∙◌, subst, inl, inr, ⊎_elim, arith, Option, Some, None, length-set}
+use mathlib.Core.Option.{some, some-ne-none}
 use mathlib.Core.Logic.{dite}
-use native.Mathlib.Decide.{ℕ_discrete, dec_le}
+use native.Mathlib.Decide.{dec_le}
 use lib.ListN.{get_elem?, length-replicate}
 use Rattle.atomic_table.proofs.Lists.{at_set}
-use Rattle.atom_words.specs.Layout.{state_of, count_of, first_of, head_word}
-use Rattle.atom_words.specs.Board.{Board, Sized}
-use Rattle.atom_words.specs.Chains.{In, Chain, Linked}
+use Rattle.atom_words.specs.Layout.{state_of, count_of, first_of}
+use Rattle.atom_words.specs.Board.{Board}
 use Rattle.atom_words.specs.Views.{uncounted, first_view, newcomer, spent, with_keeper, without_keeper, keeper_of, without_collector, collector_of, with_one_dealt, engine_of}
-use Rattle.atom_words.specs.Rule.{Cut, keeper, collector, engine, Splits, Joins, Opens}
-use Rattle.atom_words.specs.Kept.{Plan, HeldOk, CountsOk, SeatOk, Rows, Slots, Kept}
+use Rattle.atom_words.specs.Rule.{Cut, keeper, collector, engine, Opens}
+use Rattle.atom_words.specs.Kept.{Plan, HeldOk, CountsOk, SeatOk, Kept}
 use Rattle.atom_words.specs.declared.size.Size.{Size}
 use Rattle.atom_words.specs.declared.view.Held.{Held}
 use Rattle.atom_words.specs.declared.view.Counted.{Counted}
 use Rattle.atom_words.specs.declared.view.View.{View}
 use Rattle.atom_words.proofs.Layouts.{first-head_word}
-use Rattle.atom_words.proofs.Slices.{in_none, at_snoc, at_inside, at_replicate, or_beyond}
+use Rattle.atom_words.proofs.Slices.{in_none, at_snoc, at_replicate, or_beyond}
 use Rattle.atom_words.proofs.Frames.{seats_stay}
 
 -- the rule under another keeper, where the seat's counts stay

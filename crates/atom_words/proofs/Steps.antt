@@ -1,27 +1,24 @@
 -- Each raw step of the calls is of its kind.
-use Rattle.std.proofs.Common.{◌≡◌, ◌≢◌, ◌⊎◌, ℕ, ◌+◌, ◌-◌, ◌*◌, ◌/◌, ◌%◌, ◌^◌, ◌<◌, ◌≤◌, eqb, true, false, List, [], length, get_or, set, bit_and, bit_or, refl, sym, ap, ◌∙◌, subst, inl, inr, arith, Option, Some, None, ◌∷◌, ◌++◌}
+use Rattle.std.proofs.Common.{◌≡◌, ◌≢◌, ◌⊎◌, ℕ, ◌+◌, ◌-◌, ◌*◌, ◌/◌, ◌%◌, ◌^◌, ◌<◌, eqb, true, false, List, [], length, bit_and, bit_or, refl, sym, ap, ◌∙◌, subst, inl, inr, arith, Some, None, ◌∷◌, ◌++◌}
 use Rattle.std.proofs.lemmas.Nat.Bits.{and_pow}
 use Rattle.std.specs.Int.Bits.{or_add_and}
 use mathlib.Core.Logic.{dite}
-use mathlib.Core.Option.{none, some}
+use mathlib.Core.Option.{none}
 use native.Mathlib.Decide.{ℕ_discrete}
-use lib.ListN.{get_elem?}
 use prog.Atomic.{either}
 use Rattle.atomic_table.specs.Table.{step, Allows}
-use Rattle.atom_words.specs.Layout.{state_of, mark_of, count_of}
+use Rattle.atom_words.specs.Layout.{state_of, count_of}
 use Rattle.atom_words.specs.Board.{Board, atom, atom_at, text_at, with_atom}
 use Rattle.atom_words.specs.Chains.{In}
 use Rattle.atom_words.specs.Views.{uncounted}
 use Rattle.atom_words.specs.Kinds.{marked, counted, view_after}
 use Rattle.atom_words.specs.Rule.{Rule}
-use Rattle.atom_words.specs.Kept.{Kept}
 use Rattle.atom_words.specs.Plays.{reserved, reserved_marked, word_put, validated, released, protected, registered, unregistered, pass_started, pass_ended}
 use Rattle.atom_words.specs.declared.size.Size.{Size}
 use Rattle.atom_words.specs.declared.view.Held.{Held}
 use Rattle.atom_words.specs.declared.view.Counted.{Counted}
 use Rattle.atom_words.specs.declared.view.Own.{Own}
 use Rattle.atom_words.specs.declared.view.Passing.{Passing}
-use Rattle.atom_words.specs.declared.view.View.{View}
 use Rattle.atom_words.specs.declared.kind.Kind.{Kind}
 use Rattle.atom_words.specs.declared.kind.Kind.TheVariants.{Reserve, PutWord, Validate, Release, Load, Refused, StartPass, EndPass, Protect, Register, Unregister}
 use Rattle.atom_words.proofs.Regions.{atom_read}

@@ -1,13 +1,11 @@
 -- A step on a text word or on a link word of the seat's own slot keeps the rule.
-use Rattle.std.proofs.Common.{◌≡◌, ◌≢◌, ◌⊎◌, ℕ, ◌+◌, ◌-◌, ◌*◌, ◌/◌, ◌%◌, ◌<◌, ◌≤◌, true, false, List, [], ◌∷◌, ◌++◌, length, get_or, set, take, refl, sym, ap, ◌∙◌, subst, inl, inr, ⊎_elim, arith, Option, Some, None, length-set, length-append, get_or-set_same, get_or-set_other}
-use mathlib.Core.Option.{some}
-use lib.ListN.{get_elem?}
-use Rattle.atom_words.specs.Layout.{state_of, first_of, version_of}
+use Rattle.std.proofs.Common.{◌≡◌, ◌≢◌, ℕ, ◌+◌, ◌*◌, ◌<◌, true, false, List, [], ◌∷◌, ◌++◌, length, get_or, set, take, refl, sym, ap, ◌∙◌, subst, inl, inr, ⊎_elim, arith, Some, length-set, length-append, get_or-set_same, get_or-set_other}
+use Rattle.atom_words.specs.Layout.{first_of}
 use Rattle.atom_words.specs.Texts.{bucket}
-use Rattle.atom_words.specs.Board.{Board, Sized, text_of, with_text, with_link}
+use Rattle.atom_words.specs.Board.{Board, text_of, with_text, with_link}
 use Rattle.atom_words.specs.Chains.{In, Chain, Linked}
 use Rattle.atom_words.specs.Kinds.{putting, linking, view_after, Does}
-use Rattle.atom_words.specs.Kept.{Plan, OwnOk, HeldOk, CountsOk, Seen, Unwalked, WalkOk, SeatOk, Rows, Kept}
+use Rattle.atom_words.specs.Kept.{OwnOk, HeldOk, CountsOk, Seen, WalkOk, SeatOk, Rows, Kept}
 use Rattle.atom_words.specs.declared.size.Size.{Size}
 use Rattle.atom_words.specs.declared.view.Held.{Held}
 use Rattle.atom_words.specs.declared.view.Counted.{Counted}

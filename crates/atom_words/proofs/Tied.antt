@@ -1,13 +1,12 @@
 -- What a seat keeps at run time stays tied to its view.
-use Rattle.std.proofs.Common.{◌≡◌, ◌≢◌, ℕ, ◌+◌, ◌<◌, [], ◌∷◌, refl, sym, ap, ◌∙◌, subst, arith, Option, Some, None, option_map}
-use Rattle.atom_words.specs.Kinds.{fresh, putting, linking, linked_own, reading, going_on, guarding, next_first, next_counted, counting, view_after}
+use Rattle.std.proofs.Common.{◌≡◌, ℕ, ◌<◌, refl, sym, ap, ◌∙◌, subst, Option, Some, None, option_map}
+use Rattle.atom_words.specs.Kinds.{next_first, next_counted, counting}
 use Rattle.atom_words.specs.Ties.{own_slot, walk_head, walk_word, pass_began, pass_first, pass_counted, OwnTied, WalkTied, PassTied}
 use Rattle.atom_words.specs.declared.size.Size.{Size}
 use Rattle.atom_words.specs.declared.view.Own.{Own}
 use Rattle.atom_words.specs.declared.view.Walk.{Walk}
 use Rattle.atom_words.specs.declared.view.Passing.{Passing}
 use Rattle.atom_words.specs.declared.view.View.{View}
-use Rattle.atom_words.specs.declared.kind.Kind.{Kind}
 
 -- views that agree on the own slot, the walk or the pass are tied alike
 pub own_tied : (v w : View) (own : ℕ) → w ≡ v → OwnTied v own → OwnTied w own

@@ -1,15 +1,14 @@
 -- Each raw step of a walk, of linking and of fetching is of its kind. For the crates above.
-use Rattle.std.proofs.Common.{◌≡◌, ◌≢◌, ◌⊎◌, ℕ, ◌+◌, ◌-◌, ◌*◌, ◌/◌, ◌%◌, ◌<◌, ◌≤◌, eqb, true, false, List, [], length, get_or, take, drop, bit_or, refl, sym, ap, ◌∙◌, subst, arith, Option, Some, None, get_or-drop, get_or-take}
+use Rattle.std.proofs.Common.{◌≡◌, ◌≢◌, ℕ, ◌+◌, ◌*◌, ◌<◌, eqb, true, false, List, length, get_or, drop, bit_or, refl, sym, ap, ◌∙◌, subst, arith, Some, get_or-drop, get_or-take}
 use mathlib.Core.Logic.{dite}
-use mathlib.Core.Option.{none, some}
+use mathlib.Core.Option.{none}
 use native.Mathlib.Decide.{ℕ_discrete, dec_le}
 use prog.Atomic.{either}
 use Rattle.atomic_table.specs.Table.{step, Allows}
 use Rattle.atom_words.specs.Layout.{state_of, first_of, closed_of, version_of, head_word, worn}
-use Rattle.atom_words.specs.Texts.{bucket}
-use Rattle.atom_words.specs.Board.{Board, laid, atom, link, head, atom_at, link_at, head_at, text_at, text_of, with_atom}
+use Rattle.atom_words.specs.Board.{laid, atom, link, head, atom_at, link_at, head_at, text_at, text_of, with_atom}
 use Rattle.atom_words.specs.Chains.{In}
-use Rattle.atom_words.specs.Kinds.{marked, counted, view_after, Ended}
+use Rattle.atom_words.specs.Kinds.{counted, view_after, Ended}
 use Rattle.atom_words.specs.Rule.{Rule}
 use Rattle.atom_words.specs.Plays.{loaded, walk_started, word_read, gone_on, slot_held, pending_found, worn_found, link_put, slot_linked, fetched, fixed, kept, asked}
 use Rattle.atom_words.specs.declared.size.Size.{Size}
@@ -17,7 +16,6 @@ use Rattle.atom_words.specs.declared.view.Held.{Held}
 use Rattle.atom_words.specs.declared.view.Counted.{Counted}
 use Rattle.atom_words.specs.declared.view.Own.{Own}
 use Rattle.atom_words.specs.declared.view.Walk.{Walk}
-use Rattle.atom_words.specs.declared.view.View.{View}
 use Rattle.atom_words.specs.declared.view.Cause.TheVariants.{Moved, Pending, Closed}
 use Rattle.atom_words.specs.declared.view.Refusal.TheVariants.{Again, Worn}
 use Rattle.atom_words.specs.declared.kind.Kind.TheVariants.{Load, Start, Read, Next, Hold, PutLink, Link, Fetch, Refuse, Keep, Fix, Ask}

@@ -1,5 +1,5 @@
 -- The words of a table, by region.
-use Rattle.std.specs.Prelude.{◌≡◌, ℕ, ◌+◌, ◌*◌, ◌<◌, List, [], ◌∷◌, ◌++◌, length, take, drop, set, slice_index}
+use Rattle.std.specs.Prelude.{◌≡◌, ℕ, ◌+◌, ◌*◌, ◌<◌, List, ◌∷◌, ◌++◌, length, take, drop, set, slice_index}
 use Rattle.atom_words.specs.declared.size.Size.{Size}
 
 pub record Board : Type 0 where

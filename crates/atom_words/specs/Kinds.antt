@@ -1,5 +1,5 @@
 -- The kinds of steps: what each asks of the words and of the seat's view, what it does to the words, and the view after it.
-use Rattle.std.specs.Prelude.{◌≡◌, ◌≢◌, ◌⊎◌, ℕ, ◌+◌, ◌-◌, ◌*◌, ◌/◌, ◌%◌, ◌^◌, ◌<◌, ◌≤◌, ◌==◌, ◌&&◌, ◌||◌, nat_lt, Bool, true, false, if◌then◌else◌, List, [], ◌∷◌, ◌++◌, length, take, set, get_or, slice_index, Option, Some, None, option_map}
+use Rattle.std.specs.Prelude.{◌≡◌, ◌≢◌, ◌⊎◌, ℕ, ◌+◌, ◌-◌, ◌*◌, ◌%◌, ◌<◌, ◌≤◌, ◌==◌, ◌&&◌, ◌||◌, nat_lt, true, false, if◌then◌else◌, List, [], ◌∷◌, ◌++◌, length, take, set, get_or, slice_index, Option, Some, None, option_map}
 use mathlib.Core.Option.{some}
 use lib.ListN.{get_elem?}
 use Rattle.atom_words.specs.Layout.{state_of, mark_of, first_of, closed_of, version_of, head_word, worn}
@@ -14,7 +14,6 @@ use Rattle.atom_words.specs.declared.view.Own.{Own}
 use Rattle.atom_words.specs.declared.view.Walk.{Walk}
 use Rattle.atom_words.specs.declared.view.Passing.{Passing}
 use Rattle.atom_words.specs.declared.view.Pass.{Pass}
-use Rattle.atom_words.specs.declared.view.Cause.{Cause}
 use Rattle.atom_words.specs.declared.view.Cause.TheVariants.{Moved, Pending, Closed}
 use Rattle.atom_words.specs.declared.view.Refusal.{Refusal}
 use Rattle.atom_words.specs.declared.view.Refusal.TheVariants.{Full, Again, Worn}

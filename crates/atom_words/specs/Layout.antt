@@ -1,5 +1,5 @@
 -- What the bits of each word say.
-use Rattle.std.specs.Prelude.{ℕ, ◌+◌, ◌*◌, ◌/◌, ◌%◌, ◌^◌}
+use Rattle.std.specs.Prelude.{ℕ, ◌+◌, ◌*◌, ◌/◌, ◌%◌}
 
 -- An atom word: bits 0 and 1 the state (0 free, 1 reserved, 3 valid, 2 dying), bit 2 the mark, bits 3 to 63 the count
 abbrev pub atom_word : ℕ → ℕ → ℕ → ℕ

@@ -1,5 +1,5 @@
 -- The words of a new table.
-use Rattle.std.specs.Prelude.{◌≡◌, ℕ, ◌+◌, ◌-◌, ◌*◌, ◌^◌, ◌<◌, ◌≤◌, List, ◌++◌, replicate}
+use Rattle.std.specs.Prelude.{◌-◌, ◌*◌, ◌^◌, ◌<◌, ◌≤◌, ◌++◌, replicate}
 use Rattle.atom_words.specs.Layout.{head_word}
 use Rattle.atom_words.specs.Board.{Board}
 use Rattle.atom_words.specs.declared.size.Size.{Size}

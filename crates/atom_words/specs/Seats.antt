@@ -1,7 +1,6 @@
 -- What the calls say of a table and a seat.
 use Rattle.std.specs.Prelude.{◌≡◌, ◌≢◌, ◌⊎◌, ℕ, false, List, [], ◌∷◌, map, Option, Some, None}
 use Rattle.atom_words.specs.Layout.{state_of}
-use Rattle.atom_words.specs.Texts.{row_of}
 use Rattle.atom_words.specs.Board.{atom_at}
 use Rattle.atom_words.specs.Chains.{In}
 use Rattle.atom_words.specs.Kinds.{after}

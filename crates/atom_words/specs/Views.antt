@@ -1,16 +1,9 @@
 -- The views of seats, at their making, splitting and joining.
-use Rattle.std.specs.Prelude.{◌≡◌, ℕ, ◌-◌, false, true, List, [], ◌∷◌, ◌++◌, replicate, Some, None, Option}
+use Rattle.std.specs.Prelude.{ℕ, ◌-◌, false, true, [], ◌∷◌, ◌++◌, replicate, Some, None}
 use Rattle.atom_words.specs.declared.size.Size.{Size}
-use Rattle.atom_words.specs.declared.view.Held.{Held}
 use Rattle.atom_words.specs.declared.view.Counted.{Counted}
-use Rattle.atom_words.specs.declared.view.Own.{Own}
-use Rattle.atom_words.specs.declared.view.Walk.{Walk}
-use Rattle.atom_words.specs.declared.view.Passing.{Passing}
-use Rattle.atom_words.specs.declared.view.Refusal.{Refusal}
 use Rattle.atom_words.specs.declared.view.Cycling.{Cycling}
-use Rattle.atom_words.specs.declared.view.Sweeping.{Sweeping}
 use Rattle.atom_words.specs.declared.view.View.{View}
-use Rattle.atom_words.specs.declared.kind.Kind.{Kind}
 use Rattle.atom_words.specs.declared.kind.Kind.TheVariants.{Make, Split, Join}
 
 abbrev pub no_cycle : ℕ → Cycling

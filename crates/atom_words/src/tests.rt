@@ -1,4 +1,4 @@
-ghost use Rattle.std.specs.Prelude.{◌≡◌, ◌<◌, ◌≤◌, false, [], length, Some, None};
+ghost use Rattle.std.specs.Prelude.{◌≡◌, ◌<◌, ◌≤◌, false, [], length, Some, None, IsSome};
 ghost use Rattle.atom_words.specs.declared.view.Own.{Own};
 ghost use Rattle.atom_words.specs.Seats.{seen, Fits};
 
@@ -14,13 +14,14 @@ const SMALL: Size = Size {
     fixed: 0,
 };
 
-// Whether a slot is not free.
+// Whether a slot is not free. A pass at hand goes on.
 fn is_taken(words: &Words, seat: &mut AtomSeat, slot: u32) -> bool
     requires fits { Fits words.now seat.old }
     requires slot { slot < words.now.size.slots }
     requires none { (seen seat.old).own ≡ None }
     ensures fits { Fits words.now seat.new }
     ensures none { (seen seat.new).own ≡ None }
+    ensures pass { IsSome (seen seat.old).pass → IsSome (seen seat.new).pass }
 {
     match words.reserve(seat, slot) {
         Ok(()) => {
@@ -43,20 +44,33 @@ fn put_and_release(words: &Words, seat: &mut AtomSeat, text: &[u8])
     words.release(seat);
 }
 
-// Whether all slots were found taken, from `from` on.
-fn all_taken(words: &Words, seat: &mut AtomSeat, from: u32) -> bool
+// How many slots are found taken, from `from` on in a circle.
+fn count_taken(words: &Words, seat: &mut AtomSeat, from: u32) -> u32
     requires fits { Fits words.now seat.old }
     requires slots { (words.now.size.slots ≡ 512) × (from < 512) }
     requires none { (seen seat.old).own ≡ None }
+    requires pass { IsSome (seen seat.old).pass }
     ensures fits { Fits words.now seat.new }
     ensures none { (seen seat.new).own ≡ None }
+    ensures pass { IsSome (seen seat.new).pass }
 {
-    let mut all = true;
+    let mut taken = 0;
     for i in 0..512u32 {
-        let slot = (from + i) % 512;
-        all = is_taken(words, seat, slot) && all;
+        if is_taken(words, seat, (from + i) % 512) {
+            taken += 1;
+        }
     }
-    all
+    taken
+}
+
+// Takes the slots from 256 on, each through a seat of its own.
+fn take_all(words: &Words)
+    requires { words.now.size.slots ≡ 512 }
+{
+    for slot in 256..512u32 {
+        let mut seat = words.make();
+        let _ = words.reserve(&mut seat, slot);
+    }
 }
 
 #[test]
@@ -101,7 +115,20 @@ fn a_pass_counts_all_slots(rt: HostRuntime) -> Result<(), Fail> {
     words.with_keeper(&mut one, keeper);
     let keeper = words.part_keeper(&mut one);
     words.start_pass(&mut one);
-    assert!(rt; words.end_pass(&mut one).is_none());
+    let found = count_taken(&words, &mut one, 300);
+    let early = words.end_pass(&mut one);
+    assert!(rt; found == 256 && early.is_none());
+    take_all(&words);
+    words.start_pass(&mut one);
+    let found = count_taken(&words, &mut one, 300);
+    let pass = words.end_pass(&mut one);
+    assert!(rt;
+        found == 512
+            && pass.is_some_and(|p| p.counted() == 512
+                && p.seat() == 2
+                && p.began() == 0
+                && p.ended() == 0)
+    );
     assert!(rt; one.engine == 2 && keeper.engine == 0 && collector.engine == 0);
     Ok(())
 }

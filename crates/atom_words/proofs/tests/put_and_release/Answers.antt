@@ -1,7 +1,6 @@
-use Rattle.std.proofs.Common.{◌≡◌, ◌++◌, false, List, ℕ, refl, ap, ◌∙◌, Some}
+use Rattle.std.proofs.Common.{◌++◌, List, ℕ, refl, ap, ◌∙◌}
 use Rattle.atom_words.specs.Texts.{row_of}
-use Rattle.atom_words.specs.Seats.{seen, puts}
-use Rattle.atom_words.specs.declared.view.Own.{Own}
+use Rattle.atom_words.specs.Seats.{seen}
 use Rattle.atom_words.specs.declared.view.View.{View}
 use Rattle.atom_words.proofs.Putting.{puts_keep, puts_own}
 use Rattle.atom_words.proofs.tests.put_and_release.Goals as goal

@@ -1,4 +1,4 @@
-use Rattle.std.proofs.Common.{rules, sym, ap, ◌∙◌, ◌≢◌, ℕ, ◌<◌, ◌≡◌, arith, get_or}
+use Rattle.std.proofs.Common.{rules, sym, ap, ◌∙◌, ◌≢◌, ℕ, ◌≡◌, get_or}
 use Rattle.atom_words.specs.Texts.{row_of}
 use Rattle.atom_words.proofs.Putting.{row_first, row_word_is}
 use Rattle.atom_words.proofs.texts.row_word.Goals as goal

@@ -1,4 +1,4 @@
-use Rattle.std.proofs.Common.{arith, refl, ap}
+use Rattle.std.proofs.Common.{arith}
 use Rattle.atom_words.proofs.Openings.{make_at}
 use Rattle.atom_words.proofs.words.Words.make.Goals as goal
 

@@ -1,4 +1,4 @@
-use Rattle.std.proofs.Common.{◌≡◌, ◌∙◌, sym, rules}
+use Rattle.std.proofs.Common.{◌≡◌, ◌∙◌}
 use Rattle.atom_words.specs.Board.{laid}
 use Rattle.atom_words.specs.Opening.{opening_board}
 use Rattle.atom_words.proofs.Openings.{opens_rule}

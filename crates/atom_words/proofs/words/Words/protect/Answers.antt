@@ -1,7 +1,6 @@
-use Rattle.std.proofs.Common.{◌≡◌, ◌<◌, ℕ, refl, sym, ap, ◌∙◌, subst}
+use Rattle.std.proofs.Common.{◌≡◌, ◌<◌, refl, sym, ap, ◌∙◌, subst}
 use Rattle.atom_words.specs.Board.{atom_at}
 use Rattle.atom_words.specs.Kinds.{guarding, view_after}
-use Rattle.atom_words.specs.Ties.{OwnTied, WalkTied, PassTied}
 use Rattle.atom_words.specs.declared.size.Size.{Size}
 use Rattle.atom_words.specs.declared.view.View.{View}
 use Rattle.atom_words.specs.declared.kind.Kind.TheVariants.{Protect}

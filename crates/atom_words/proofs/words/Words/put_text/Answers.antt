@@ -1,4 +1,4 @@
-use Rattle.std.proofs.Common.{◌≡◌, ◌<◌, ℕ, ◌++◌, List, refl, sym, ap, ◌∙◌, subst, Some}
+use Rattle.std.proofs.Common.{◌≡◌, ◌<◌, ℕ, List, refl, sym, ap, ◌∙◌, subst}
 use Rattle.atom_words.specs.Texts.{row_of}
 use Rattle.atom_words.specs.Kinds.{after}
 use Rattle.atom_words.specs.Seats.{puts}

@@ -1,7 +1,6 @@
 use Rattle.std.proofs.Common.{◌≡◌, ◌<◌, ℕ, sym, ap, ◌∙◌, subst}
 use Rattle.atom_words.specs.Board.{atom_at}
 use Rattle.atom_words.specs.Ties.{own_slot}
-use Rattle.atom_words.specs.declared.size.Size.{Size}
 use Rattle.atom_words.proofs.Steps.{releasing}
 use Rattle.atom_words.proofs.words.Words.release.Goals as goal
 

@@ -1,4 +1,4 @@
-use Rattle.std.proofs.Common.{◌≡◌, ◌<◌, ℕ, sym, ◌∙◌, arith}
+use Rattle.std.proofs.Common.{◌≡◌, sym, ◌∙◌, arith}
 use Rattle.atom_words.proofs.Steps.{starting_pass}
 use Rattle.atom_words.proofs.words.Words.start_pass.Goals as goal
 

@@ -1,8 +1,7 @@
-use Rattle.std.proofs.Common.{◌≡◌, ◌<◌, ℕ, sym, ap, ◌∙◌, subst, List}
+use Rattle.std.proofs.Common.{◌≡◌, ◌<◌, sym, ap, ◌∙◌, subst}
 use Rattle.atom_words.specs.Board.{atom_at}
-use Rattle.atom_words.specs.Kinds.{counted, view_after}
+use Rattle.atom_words.specs.Kinds.{view_after}
 use Rattle.atom_words.specs.declared.size.Size.{Size}
-use Rattle.atom_words.specs.declared.view.Counted.{Counted}
 use Rattle.atom_words.specs.declared.view.View.{View}
 use Rattle.atom_words.specs.declared.kind.Kind.TheVariants.{Unregister}
 use Rattle.atom_words.proofs.Tied.{own_tied, walk_tied, pass_tied}
