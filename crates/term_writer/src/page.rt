@@ -73,7 +73,9 @@ pub fn last_of(before: char, text: &str) -> char
 fn would_join(c: char, d: char) -> bool
     ensures { result ≡ would_join c d }
 {
-    (is_symbol(c) && is_symbol(d)) || (continues_name(c) && continues_name(d)) || (c == '\'' && d == '\'')
+    (is_symbol(c) && is_symbol(d))
+        || (continues_name(c) && continues_name(d))
+        || (c == '\'' && d == '\'')
 }
 
 /// Whether a prefix operator would be read as a functor, or as a sign, before a character.

@@ -10,9 +10,13 @@ ghost use Rattle.term_writer.specs.Styles.{lookup_of, manner_of, place_of};
 ghost use Rattle.term_writer.specs.Work.{Ahead, coming, continues_view, left, reads, tail_node};
 
 use crate::names::is_named;
-use crate::operators::{Position, Shape, Style, encloses, encloses_atom, left_max, right_max, shape_of};
+use crate::operators::{
+    Position, Shape, Style, encloses, encloses_atom, left_max, right_max, shape_of,
+};
 use crate::page::Page;
-use crate::pieces::{put_functor, put_infix, put_integer, put_name, put_operator, put_postfix, put_variable};
+use crate::pieces::{
+    put_functor, put_infix, put_integer, put_name, put_operator, put_postfix, put_variable,
+};
 use op_table::OpTable;
 use pl_term::{Flat, Memory, Node, Text};
 use std::alloc::Global;
@@ -291,7 +295,13 @@ fn turn<'a>(
     }
 }
 
-fn write_nodes<'a>(alloc: Global, style: Style, all: &'a [Node], max: u16, page: &mut Page<'a>) -> Result<(), Memory>
+fn write_nodes<'a>(
+    alloc: Global,
+    style: Style,
+    all: &'a [Node],
+    max: u16,
+    page: &mut Page<'a>,
+) -> Result<(), Memory>
     requires { (t : Tree) × (all.now ≡ nodes t) }
     ensures shows { OnOk result
         (shown page.new.bytes.items (behind_page page.new) []
@@ -307,7 +317,13 @@ fn write_nodes<'a>(alloc: Global, style: Style, all: &'a [Node], max: u16, page:
     Ok(())
 }
 
-fn write_text(alloc: Global, style: Style, t: &Flat, max: u16, out: &mut Vec<u8>) -> Result<(), Memory>
+fn write_text(
+    alloc: Global,
+    style: Style,
+    t: &Flat,
+    max: u16,
+    out: &mut Vec<u8>,
+) -> Result<(), Memory>
     ensures written { OnOk result (out.new.items
         ≡ out.old.items ++ encode_utf8_all (text_of (manner_of style.entry) (lookup_of style.entry.operators) max t.now)) }
     ensures grows { Grows out.old.items out.new.items }
@@ -331,7 +347,13 @@ fn write_text(alloc: Global, style: Style, t: &Flat, max: u16, out: &mut Vec<u8>
 /// quotes where they would not read back without them, and under the operators of `ops`. `max` is the largest
 /// priority of an operator that may stand without parentheses. The only error is want of memory: then `out` holds
 /// what it held, and behind it may be a part of the text.
-pub fn writeq(alloc: Global, t: &Flat, ops: &OpTable, max: u16, out: &mut Vec<u8>) -> Result<(), Memory>
+pub fn writeq(
+    alloc: Global,
+    t: &Flat,
+    ops: &OpTable,
+    max: u16,
+    out: &mut Vec<u8>,
+) -> Result<(), Memory>
     ensures written { OnOk result (out.new.items ≡ out.old.items ++ encode_utf8_all (writeq ops.now max t.now)) }
     ensures grows { Grows out.old.items out.new.items }
 {
@@ -344,7 +366,13 @@ pub fn writeq(alloc: Global, t: &Flat, ops: &OpTable, max: u16, out: &mut Vec<u8
 }
 
 /// Writes the text of a term as write/1 does (ISO 8.14.2.3): as `writeq`, but without quotes.
-pub fn write(alloc: Global, t: &Flat, ops: &OpTable, max: u16, out: &mut Vec<u8>) -> Result<(), Memory>
+pub fn write(
+    alloc: Global,
+    t: &Flat,
+    ops: &OpTable,
+    max: u16,
+    out: &mut Vec<u8>,
+) -> Result<(), Memory>
     ensures written { OnOk result (out.new.items ≡ out.old.items ++ encode_utf8_all (write ops.now max t.now)) }
     ensures grows { Grows out.old.items out.new.items }
 {
