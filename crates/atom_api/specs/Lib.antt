@@ -1,0 +1,3 @@
+pub mod Fixed
+pub mod Interns
+pub mod Names
