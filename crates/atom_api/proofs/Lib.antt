@@ -1,1 +1,4 @@
 pub mod FixedTexts
+pub mod PlainFixed
+pub mod SlotNames
+pub mod Sweeping

@@ -1,3 +1,5 @@
 pub mod Fixed
 pub mod Interns
 pub mod Names
+pub mod SlotLaws
+pub mod Slots

@@ -221,8 +221,7 @@ pub fn fixed_atoms(alloc: Global) -> Result<Vec<(Atom, Text)>, Memory>
 pub fn fixed_atoms_differ()
     ensures apart { (a b : ℕ) (t : Chars) → fixed a ≡ Some t → fixed b ≡ Some t → a ≡ b }
     ensures within { (a : ℕ) (t : Chars) → fixed a ≡ Some t → (a < 256) × (size t ≤ 248) }
-{
-}
+{}
 
 /// The rows of a table of atoms and their texts.
 fn rows_of(alloc: Global, table: &[(u32, &str)]) -> Result<Vec<(Atom, Text)>, Memory>

@@ -6,6 +6,10 @@ mod atoms;
 pub mod fixed;
 mod fixed_table;
 mod interned;
+mod plain;
+mod slots;
+#[cfg(test)]
+mod tests;
 mod text_buf;
 
 pub use atom::Atom;
@@ -13,4 +17,5 @@ pub use atom_words::{Cause, Pass, Refusal, WornWord};
 pub use atoms::Atoms;
 pub use fixed_table::{fixed_atoms, fixed_atoms_differ};
 pub use interned::Interned;
+pub use plain::PlainAtoms;
 pub use text_buf::TextBuf;

@@ -9,7 +9,7 @@ use std::convert::AsStr;
 use std::marker::Model;
 
 /// How many bytes a buffer has, the most that the text of an atom may have.
-const ROOM: usize = 248;
+pub const ROOM: usize = 248;
 
 /// A buffer for the text of an atom, seen by contracts as that text.
 #[derive(Debug, Drop)]

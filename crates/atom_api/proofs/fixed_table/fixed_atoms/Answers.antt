@@ -1,4 +1,4 @@
-use Rattle.std.proofs.Common.{sym, subst}
+use Rattle.std.proofs.Common.{sym}
 use Rattle.atom_api.proofs.FixedTexts.{rows_agree}
 use Rattle.atom_api.proofs.fixed_table.fixed_atoms.Goals as goal
 

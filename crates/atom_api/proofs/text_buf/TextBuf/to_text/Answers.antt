@@ -1,5 +1,4 @@
-use Rattle.std.proofs.Common.{◌≡◌, sym, ◌∙◌, ap, arith}
-use Rattle.std.specs.Str.{chars}
+use Rattle.std.proofs.Common.{sym}
 use Rattle.std.proofs.lemmas.Str.{chars_from_encodes}
 use Rattle.atom_api.proofs.text_buf.TextBuf.to_text.Goals as goal
 

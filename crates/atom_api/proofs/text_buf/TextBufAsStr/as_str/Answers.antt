@@ -1,7 +1,6 @@
 use Rattle.std.proofs.Common.{◌≡◌, sym, ◌∙◌, ap, take, refl}
 use Rattle.std.specs.Prelude.{Result, Ok, Err, encode_utf8_all, MatchResult}
 use Rattle.std.specs.Result.{IsOk}
-use Rattle.std.specs.Str.{IsUtf8}
 use Rattle.std.proofs.lemmas.Str.{IsUtf8-from_is_utf8, encodes-chars}
 use Rattle.atom_api.proofs.text_buf.TextBufAsStr.as_str.Goals as goal
 
