@@ -77,3 +77,49 @@ fn a_buffer_takes_texts(rt: HostRuntime) -> Result<(), Fail> {
     assert!(rt; buf.to_text(rt.alloc())?.is("ab"));
     Ok(())
 }
+
+/// Whether a text, interned, is read back; its atom.
+fn read_back<A: Atoms>(alloc: Global, atoms: &mut A, s: &str) -> Result<Option<Atom>, Memory> {
+    let text = Text::from_str(alloc, s)?;
+    match atoms.intern(&text) {
+        Interned::Is(a) => {
+            let mut buf = TextBuf::new();
+            atoms.text(a, &mut buf);
+            Ok(if buf.as_str() == s { Some(a) } else { None })
+        }
+        _ => Ok(None),
+    }
+}
+
+#[test]
+fn three_hundred_texts_are_read_back(rt: HostRuntime) -> Result<(), Fail> {
+    let mut atoms = PlainAtoms::new(rt.alloc())?;
+    for i in 0..300u32 {
+        let text = format!(in rt.alloc(); "name{i}")?;
+        let first = read_back(rt.alloc(), &mut atoms, text.as_str())?;
+        assert_eq!(rt; first, Some(Atom::at(193 + i)));
+    }
+    for i in 0..300u32 {
+        let text = format!(in rt.alloc(); "name{i}")?;
+        assert_eq!(rt;
+            interned(rt.alloc(), &mut atoms, text.as_str())?,
+            Some(Atom::at(193 + i))
+        );
+    }
+    Ok(())
+}
+
+#[test]
+fn what_is_not_kept_makes_room(rt: HostRuntime) -> Result<(), Fail> {
+    let mut atoms = PlainAtoms::new(rt.alloc())?;
+    let one = interned(rt.alloc(), &mut atoms, "one")?.ok_or("no atom")?;
+    let two = interned(rt.alloc(), &mut atoms, "two")?.ok_or("no atom")?;
+    atoms.keep_only(&[two]);
+    assert_eq!(rt; read_back(rt.alloc(), &mut atoms, "two")?, Some(two));
+    assert_eq!(rt; read_back(rt.alloc(), &mut atoms, "three")?, Some(one));
+    assert_eq!(rt;
+        read_back(rt.alloc(), &mut atoms, "true")?,
+        Some(fixed::TRUE)
+    );
+    Ok(())
+}
