@@ -14,6 +14,8 @@ pub mod TermWriting
 pub mod History
 pub mod Shown
 pub mod World
+pub mod Database
+pub mod Requests
 pub mod Errors
 pub mod Bodies
 pub mod Serve
