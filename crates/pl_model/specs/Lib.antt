@@ -15,7 +15,13 @@ pub mod History
 pub mod Shown
 pub mod World
 pub mod Database
+pub mod Threads
+pub mod Flags
+pub mod SharedState
 pub mod Requests
+pub mod ErrorTerms
+pub mod Service
+pub mod SharedRows
 pub mod Errors
 pub mod Bodies
 pub mod Serve
