@@ -26,3 +26,4 @@ pub mod LexicalFronts
 pub mod LexicalReads
 pub mod LexicalWritten
 pub mod LexicalSpans
+pub mod UpdateView

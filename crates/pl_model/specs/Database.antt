@@ -107,6 +107,10 @@ is_erased s = is_some s.erased
 abbrev pub seen : {C : Type 0} → ℕ → Proc → Database C → List (Stored C)
 seen g p d = filter (λ s. is_of p s && is_visible g s) d.clauses
 
+-- What a call knows of a clause: the place that names it, and the clause.
+abbrev pub named_clauses : {C : Type 0} → List (Stored C) → List (ℕ × C)
+named_clauses ss = map (λ s. (s.place, s.clause)) ss
+
 -- Of these, the clauses that a test on the first argument does not exclude: those that a call tries (ISO 7.7.10).
 abbrev pub choices : {C : Type 0} → (C → Bool) → ℕ → Proc → Database C → List (Stored C)
 choices is_excluded g p d = filter (λ s. not (is_excluded s.clause)) (seen g p d)
