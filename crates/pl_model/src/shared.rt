@@ -1,16 +1,19 @@
 //! Laws that compute worked visits to the shared state: requests of engines with the answers and updates that are due.
-ghost use Rattle.std.specs.Prelude.{◌≡◌, ◌≤◌, ℕ, ◌-◌, ◌^◌, [], ◌∷◌, Some, None, true, false, codes, map};
+ghost use Rattle.std.specs.Prelude.{pos, negsuc, ◌≡◌, ◌≤◌, ℕ, ◌-◌, ◌^◌, [], ◌∷◌, Some, None, true, false, codes, map};
 ghost use Rattle.pl_term.specs.Tree.{Tree, var, int, atom, comp, none, more};
+ghost use Rattle.pl_model.specs.declared.grammar.Quotes.TheVariants.{Chars as Characters};
+ghost use Rattle.pl_model.specs.Operators.{xfx};
+ghost use Rattle.pl_model.specs.OperatorTable.{opening_table};
 ghost use Rattle.pl_model.specs.declared.operators.Kind.TheVariants.{Xfx};
 ghost use Rattle.pl_model.specs.declared.ends.How.TheVariants.{Solved};
-ghost use Rattle.pl_model.specs.History.{Proc, History, assert, consult, add_first, add_last, erase, abolish, set_dynamic, set_flag, make_queue, drop_queue, send, take, start, finish, join};
+ghost use Rattle.pl_model.specs.History.{Proc, History, assert, consult, add_first, add_last, erase, abolish, set_dynamic, set_flag, set_op, make_queue, drop_queue, send, take, start, finish, join};
 ghost use Rattle.pl_model.specs.Errors.{unknown_procedure, static_procedure, indicator};
 ghost use Rattle.pl_model.specs.ErrorTerms.{existence_error, permission_error, resource_error, private_procedure};
 ghost use Rattle.pl_model.specs.World.{is_excluded};
 ghost use Rattle.pl_model.specs.Database.{seen, choices, named_clauses};
 ghost use Rattle.pl_model.specs.Threads.{goal_alias};
 ghost use Rattle.pl_model.specs.SharedState.{opening_state, change, state_at};
-ghost use Rattle.pl_model.specs.Requests.{call_clauses, inspected_clauses, retracted_clauses, cleared_clauses, erase_clause, assert_first, assert_last, consult_clause, abolish_procedure, make_dynamic, all_procedures, put_operators, put_flag, all_flags, own_name, create_thread, start_goal, join_thread, send_message, get_message, peek_message, create_queue, destroy_queue, listed, procedures, named, message, no_message, status, done, gone, refused};
+ghost use Rattle.pl_model.specs.Requests.{call_clauses, inspected_clauses, retracted_clauses, cleared_clauses, erase_clause, assert_first, assert_last, consult_clause, abolish_procedure, make_dynamic, all_procedures, put_operators, put_flag, all_flags, read_operators, own_name, create_thread, start_goal, join_thread, send_message, get_message, peek_message, create_queue, destroy_queue, standing, flags, listed, procedures, named, message, no_message, status, done, gone, refused};
 ghost use Rattle.pl_model.specs.Service.{serve, answers, waits, reads, refuses};
 ghost use Rattle.pl_model.specs.SharedRows.{played, left_by, named_proc, term_of, fact, number_term, stored_fact, with_engines, changed_database, places};
 
@@ -207,4 +210,21 @@ pub fn refuses_operators()
         ≡ refuses (permission_error (codes "modify") (codes "operator") (atom (codes ","))) }
     ensures reserved { serve 1 (put_operators 0 Xfx (codes "|" ∷ codes "," ∷ [])) (opening_state 1) 0
         ≡ refuses (permission_error (codes "create") (codes "operator") (atom (codes "|"))) }
+{}
+
+/// A new infix operator, and a value of each flag that can be changed, which texts are then read by.
+#[tactic(auto, unfolding(crate::specs::Service::serve))]
+pub fn puts_operators_and_flags()
+    ensures operator { serve 1 (put_operators 700 Xfx (codes "===>" ∷ [])) (opening_state 1) 0
+        ≡ answers done (Some (set_op (record { name = codes "===>"; priority = 700; specifier = xfx } ∷ []))) }
+    ensures flag { played 0 (opening_state 1) ((1, put_flag (codes "double_quotes") (codes "chars")) ∷ (1, read_operators) ∷ (1, all_flags) ∷ [])
+        ≡ answers done (Some (set_flag (codes "double_quotes") (codes "chars")))
+        ∷ reads (standing opening_table Characters)
+        ∷ reads (flags
+        ((codes "bounded", atom (codes "true"))
+        ∷ (codes "double_quotes", atom (codes "chars"))
+        ∷ (codes "integer_rounding_function", atom (codes "toward_zero"))
+        ∷ (codes "max_integer", int (pos 9223372036854775807))
+        ∷ (codes "min_integer", int (negsuc 9223372036854775807))
+        ∷ (codes "unknown", atom (codes "error")) ∷ [])) ∷ [] }
 {}
