@@ -27,3 +27,6 @@ pub mod LexicalReads
 pub mod LexicalWritten
 pub mod LexicalSpans
 pub mod UpdateView
+pub mod PresentView
+pub mod NumbersGiven
+pub mod UpdatesFit

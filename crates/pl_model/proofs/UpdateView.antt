@@ -1,7 +1,7 @@
 -- What a generation sees is the same whatever updates follow (the logical update view).
-use Rattle.std.proofs.Common.{◌≡◌, ◌≤◌, ℕ, zero, suc, List, [], ◌∷◌, ◌++◌, map, Option, Some, None, Bool, true, false, refl, ap, sym, ◌∙◌, arith, le-ltb, le-leb}
-use Rattle.std.specs.Prelude.{if◌then◌else◌, cond, ◌&&◌, not, filter, take, nat_lt, nat_le, ◌+◌}
-use Rattle.std.proofs.lemmas.List.{append-nil, map-append}
+use Rattle.std.proofs.Common.{◌≡◌, ◌≤◌, ℕ, zero, suc, List, [], ◌∷◌, ◌++◌, map, Option, Some, None, Bool, true, false, refl, ap, ◌∙◌, arith, le-ltb, le-leb}
+use Rattle.std.specs.Prelude.{if◌then◌else◌, cond, ◌&&◌, not, filter, take, nat_lt, ◌+◌}
+use Rattle.std.proofs.lemmas.List.{append-nil}
 use Rattle.std.proofs.lemmas.List.Elements.{filter-append}
 use Rattle.pl_model.specs.World.{same_proc}
 use Rattle.pl_model.specs.History.{Proc, Clause, Kind, History, add_first, add_last, erase, abolish, set_dynamic, set_flag, set_op, make_queue, drop_queue, send, start, finish, join}

@@ -1,5 +1,5 @@
 -- Prolog flags (ISO 7.11). Two of them can be changed: `double_quotes` and `unknown`.
-use Rattle.std.specs.Prelude.{ℕ, ◌-◌, ◌^◌, List, [], ◌∷◌, Option, Some, None, unwrap_or, Bool, if◌then◌else◌, bytes_eq, codes, pos, negsuc}
+use Rattle.std.specs.Prelude.{◌-◌, ◌^◌, List, [], ◌∷◌, Option, Some, None, unwrap_or, Bool, if◌then◌else◌, bytes_eq, codes, pos, negsuc}
 use Rattle.std.specs.List.{list_any}
 use Rattle.pl_term.specs.Tree.{Chars, Tree, int, atom}
 use Rattle.pl_model.specs.declared.grammar.Quotes.{Quotes}

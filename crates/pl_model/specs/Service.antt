@@ -1,12 +1,11 @@
 -- What the shared state answers to a request, and the update that the history gains by it: at most one. The errors of a
 -- request stand in the order in which they are checked (ISO 8.8, 8.9, 8.14.3, 8.17.1; SWI-Prolog manual, section
 -- 'Multithreaded applications'). A predicate checks what its arguments alone decide before it asks.
-use Rattle.std.specs.Prelude.{ℕ, suc, zero, ◌^◌, List, [], ◌∷◌, map, max, Option, Some, None, is_some, option_and_then, Bool, true, false, if◌then◌else◌, not, ◌==◌, ◌||◌, nat_le, codes, pos, negsuc}
+use Rattle.std.specs.Prelude.{ℕ, zero, ◌^◌, List, [], ◌∷◌, map, length, Option, Some, None, is_some, option_and_then, Bool, true, false, if◌then◌else◌, ◌==◌, nat_le, codes, pos, negsuc}
 use Rattle.pl_term.specs.Tree.{Chars, Tree, var, int, atom, comp, none, more}
-use Rattle.pl_term.specs.Variables.{occurrences, rename}
+use Rattle.pl_term.specs.Variables.{rename, variables}
 use Rattle.pl_term.specs.Cells.{cells_all}
 use Rattle.pl_model.specs.declared.operators.Kind.{Kind as OperatorKind}
-use Rattle.pl_model.specs.Operators.{Operator}
 use Rattle.pl_model.specs.OperatorTable.{OperatorTable, Refusal, priority, specifier, comma, reserved, infix_postfix, refusal, specifier_of}
 use Rattle.pl_model.specs.Unify.{unify}
 use Rattle.pl_model.specs.World.{proc_of, is_excluded}
@@ -14,7 +13,7 @@ use Rattle.pl_model.specs.History.{Proc, Clause, Kind, consult, assert, add_firs
 use Rattle.pl_model.specs.Errors.{unknown_procedure, static_procedure}
 use Rattle.pl_model.specs.ErrorTerms.{domain_error, existence_error, permission_error, resource_error, private_procedure}
 use Rattle.pl_model.specs.Flags.{Unknown, raises, fails, listed_flags}
-use Rattle.pl_model.specs.Database.{Database, Stored, is_system, is_static, is_known, choices, is_there, current_procedures, has_room}
+use Rattle.pl_model.specs.Database.{Stored, is_system, is_static, is_known, choices, is_there, current_procedures, has_room}
 use Rattle.pl_model.specs.Threads.{Name, number, alias, Status, succeeded, failed, exception, exited, halted, atom_space, Message, Queue, Thread, Threads, is_alias, alias_of, queue_numbered, queue_named, thread_named, first_message, has_engine, goal_alias}
 use Rattle.pl_model.specs.SharedState.{SharedState}
 use Rattle.pl_model.specs.Requests.{Request, look, call_clauses, inspected_clauses, retracted_clauses, cleared_clauses, erase_clause, assert_first, assert_last, consult_clause, abolish_procedure, make_dynamic, all_procedures, put_operators, read_operators, put_flag, all_flags, own_name, create_thread, start_goal, join_thread, send_message, get_message, peek_message, create_queue, destroy_queue, collect_atoms, collect_clauses, Reply, standing, listed, procedures, flags, named, message, no_message, status, done, gone, refused}
@@ -24,6 +23,11 @@ pub data Served : Type 0 where
   answers : Reply → Option Kind → Served
   -- the engine waits: for a message, or for the end of a thread
   waits : Served
+
+-- The update that is made, where one is.
+abbrev pub update_of : Served → Option Kind
+update_of (answers r k) = k
+update_of waits = None
 
 -- A request that only reads, one that is refused, and one that makes an update. No update but the end of an engine is made
 -- on a history of 2^47 updates or more; this is checked last.
@@ -122,14 +126,9 @@ status_term atom_space = comp (codes "exception") (resource_error (codes "atom_s
 abbrev pub no_queue : Tree → Served
 no_queue x = refuses (existence_error (codes "message_queue") x)
 
--- A number that is above those of these variables.
-abbrev pub above : List ℕ → ℕ
-above [] = zero
-above (x ∷ xs) = max (suc x) (above xs)
-
--- Whether the message, its variables renamed apart, unifies with the term.
+-- Whether the message unifies with the term, both renamed so that no variable is in both.
 abbrev pub matches : Tree → Tree → Bool
-matches t m = is_some (unify t (rename (above (occurrences t)) m))
+matches t m = is_some (unify (rename zero t) (rename (length (variables t)) m))
 
 abbrev pub got : ℕ → Option (Message Tree) → Served
 got g None = waits

@@ -1,19 +1,14 @@
 -- Worked visits: requests of engines, one after the other, with the answers that are due.
-use Rattle.std.specs.Prelude.{ℕ, suc, zero, ◌+◌, List, [], ◌∷◌, ◌++◌, map, Option, Some, None, codes, pos}
-use Rattle.pl_term.specs.Tree.{Chars, Tree, var, int, atom, comp, none, more}
-use Rattle.pl_model.specs.declared.ends.How.TheVariants.{Solved}
-use Rattle.pl_model.specs.History.{Proc, Clause, Kind, Entry, History, assert, consult, add_first, add_last, erase, abolish, set_dynamic, start, finish}
-use Rattle.pl_model.specs.Database.{Database, Stored, opening_database, with_first, with_last, without_clause, without_procedure, with_dynamic_procedures}
+use Rattle.std.specs.Prelude.{ℕ, suc, zero, ◌+◌, List, [], ◌∷◌, map, Option, Some, None, codes, pos}
+use Rattle.pl_term.specs.Tree.{Chars, Tree, int, atom, comp, none}
+use Rattle.pl_model.specs.History.{Proc, Clause, Kind, assert}
+use Rattle.pl_model.specs.Database.{Database, Stored, opening_database, with_first, with_last, without_clause}
 use Rattle.pl_model.specs.Threads.{Threads, opening_threads, thread_started}
 use Rattle.pl_model.specs.SharedState.{SharedState, opening_state, change}
 use Rattle.pl_model.specs.Requests.{Request}
-use Rattle.pl_model.specs.Service.{Served, answers, waits, serve}
+use Rattle.pl_model.specs.Service.{Served, update_of, serve}
 
 -- What a visit leaves: the update that it made is the next of the history.
-abbrev pub update_of : Served → Option Kind
-update_of (answers r k) = k
-update_of waits = None
-
 abbrev pub generation_after : ℕ → Option Kind → ℕ
 generation_after g None = g
 generation_after g (Some k) = suc g

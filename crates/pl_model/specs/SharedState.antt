@@ -1,6 +1,6 @@
 -- The shared state at a generation: what the updates before it made of the state at the start. A generation is a number
 -- of updates.
-use Rattle.std.specs.Prelude.{ℕ, suc, zero, List, [], ◌∷◌, take}
+use Rattle.std.specs.Prelude.{ℕ, suc, zero, List, [], ◌∷◌, take, Option, Some, None}
 use Rattle.pl_term.specs.Tree.{Tree}
 use Rattle.pl_term.specs.Variables.{rename}
 use Rattle.pl_model.specs.declared.ends.How.{How}
@@ -70,6 +70,12 @@ change k e (entries.take j) s = record s { threads = message_taken j s.threads }
 change k e (start n t a) s = record s { threads = thread_started n a s.threads; count = counted n s.count }
 change k e (finish how steps) s = record s { threads = thread_ended e (status_of how) s.threads }
 change k e (join n) s = record s { threads = thread_joined n s.threads }
+
+-- The number that the update gives to a thread or a queue.
+abbrev pub number_given : Kind → Option ℕ
+number_given (make_queue n a) = Some n
+number_given (start n t a) = Some n
+number_given _ = None
 
 -- The state after these updates, of which the first is at the place `k`.
 abbrev pub changes : ℕ → History → SharedState → SharedState

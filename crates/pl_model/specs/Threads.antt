@@ -1,7 +1,7 @@
 -- Threads and their message queues (SWI-Prolog manual, section 'Multithreaded applications': 'Creating and destroying
 -- Prolog threads', 'Thread communication'). A thread is an engine with its number; it has a queue of its own, which is
 -- there until the thread ends. Messages are of any type `M`.
-use Rattle.std.specs.Prelude.{ℕ, suc, ◌+◌, List, [], ◌∷◌, ◌++◌, map, filter, find, length, Option, Some, None, is_some, is_none, option_map, option_and_then, Bool, true, false, if◌then◌else◌, ◌==◌, ◌&&◌, ◌||◌, nat_lt, nat_le, not, bytes_eq, codes, decimal}
+use Rattle.std.specs.Prelude.{ℕ, suc, List, [], ◌∷◌, ◌++◌, map, filter, find, length, Option, Some, None, is_none, option_map, option_and_then, Bool, true, false, if◌then◌else◌, ◌==◌, nat_lt, not, bytes_eq, codes, decimal}
 use Rattle.std.specs.List.{list_any}
 use Rattle.pl_term.specs.Tree.{Chars}
 use Rattle.pl_term.specs.Variables.{is_in}

@@ -1,20 +1,20 @@
 //! Laws that compute worked visits to the shared state: requests of engines with the answers and updates that are due.
-ghost use Rattle.std.specs.Prelude.{pos, negsuc, ◌≡◌, ◌≤◌, ℕ, ◌-◌, ◌^◌, [], ◌∷◌, Some, None, true, false, codes, map};
+ghost use Rattle.std.specs.Prelude.{◌<◌, ◌&&◌, not, filter, slice_get, IfSome, pos, negsuc, ◌≡◌, ◌≤◌, ℕ, ◌-◌, ◌^◌, [], ◌∷◌, Some, None, true, false, codes, map};
 ghost use Rattle.pl_term.specs.Tree.{Tree, var, int, atom, comp, none, more};
 ghost use Rattle.pl_model.specs.declared.grammar.Quotes.TheVariants.{Chars as Characters};
 ghost use Rattle.pl_model.specs.Operators.{xfx};
 ghost use Rattle.pl_model.specs.OperatorTable.{opening_table};
 ghost use Rattle.pl_model.specs.declared.operators.Kind.TheVariants.{Xfx};
 ghost use Rattle.pl_model.specs.declared.ends.How.TheVariants.{Solved};
-ghost use Rattle.pl_model.specs.History.{Proc, History, assert, consult, add_first, add_last, erase, abolish, set_dynamic, set_flag, set_op, make_queue, drop_queue, send, take, start, finish, join};
+ghost use Rattle.pl_model.specs.History.{Proc, History, is_end, assert, consult, add_first, add_last, erase, abolish, set_dynamic, set_flag, set_op, make_queue, drop_queue, send, take, start, finish, join};
 ghost use Rattle.pl_model.specs.Errors.{unknown_procedure, static_procedure, indicator};
 ghost use Rattle.pl_model.specs.ErrorTerms.{existence_error, permission_error, resource_error, private_procedure};
 ghost use Rattle.pl_model.specs.World.{is_excluded};
-ghost use Rattle.pl_model.specs.Database.{seen, choices, named_clauses};
+ghost use Rattle.pl_model.specs.Database.{seen, choices, named_clauses, is_of, is_erased};
 ghost use Rattle.pl_model.specs.Threads.{goal_alias};
-ghost use Rattle.pl_model.specs.SharedState.{opening_state, change, state_at};
-ghost use Rattle.pl_model.specs.Requests.{call_clauses, inspected_clauses, retracted_clauses, cleared_clauses, erase_clause, assert_first, assert_last, consult_clause, abolish_procedure, make_dynamic, all_procedures, put_operators, put_flag, all_flags, read_operators, own_name, create_thread, start_goal, join_thread, send_message, get_message, peek_message, create_queue, destroy_queue, standing, flags, listed, procedures, named, message, no_message, status, done, gone, refused};
-ghost use Rattle.pl_model.specs.Service.{serve, answers, waits, reads, refuses};
+ghost use Rattle.pl_model.specs.SharedState.{SharedState, opening_state, change, state_at, number_given};
+ghost use Rattle.pl_model.specs.Requests.{Request, call_clauses, inspected_clauses, retracted_clauses, cleared_clauses, erase_clause, assert_first, assert_last, consult_clause, abolish_procedure, make_dynamic, all_procedures, put_operators, put_flag, all_flags, read_operators, own_name, create_thread, start_goal, join_thread, send_message, get_message, peek_message, create_queue, destroy_queue, standing, flags, listed, procedures, named, message, no_message, status, done, gone, refused};
+ghost use Rattle.pl_model.specs.Service.{serve, update_of, answers, waits, reads, refuses};
 ghost use Rattle.pl_model.specs.SharedRows.{played, left_by, named_proc, term_of, fact, number_term, stored_fact, with_engines, changed_database, places};
 
 /// A call of a procedure that is not there, the addition of a clause, a call, the clause's erasure, one more erasure of
@@ -50,6 +50,24 @@ pub fn sees_by_generations()
 pub fn later_updates_change_no_view()
     ensures { (goals : ℕ) (h : History) (g m : ℕ) (p : Proc) → g ≤ m
         → named_clauses (seen g p (state_at goals h m).database) ≡ named_clauses (seen g p (state_at goals h g).database) }
+{}
+
+/// What a call sees at the generation of the state is what was not erased.
+pub fn present_clauses_are_seen()
+    ensures { (goals : ℕ) (h : History) (g : ℕ) (p : Proc)
+        → seen g p (state_at goals h g).database ≡ filter (λ s. is_of p s && not (is_erased s)) (state_at goals h g).database.clauses }
+{}
+
+/// The number that the next thread or queue gets is above each number that was given before.
+pub fn numbers_are_new()
+    ensures { (goals : ℕ) (h : History) (g i : ℕ) → i < g
+        → IfSome (slice_get h i) (λ x. IfSome (number_given x.kind) (λ n. n < (state_at goals h g).count)) }
+{}
+
+/// A visit makes an update only on a history of fewer than 2^47 updates, and none that ends an engine.
+pub fn updates_have_room()
+    ensures { (e : ℕ) (r : Request) (s : SharedState) (g : ℕ)
+        → IfSome (update_of (serve e r s g)) (λ k. (g < 2 ^ 47) × (is_end k ≡ false)) }
 {}
 
 /// A first argument that is a constant excludes the clauses with another one; a variable excludes none.

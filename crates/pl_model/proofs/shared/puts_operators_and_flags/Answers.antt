@@ -8,7 +8,7 @@ use Rattle.pl_model.specs.declared.operators.Place.TheVariants.{Postfix}
 use Rattle.pl_model.specs.History.{set_op}
 use Rattle.pl_model.specs.SharedState.{opening_state}
 use Rattle.pl_model.specs.Requests.{put_operators, done}
-use Rattle.pl_model.specs.Service.{Served, answers, serve, operator_error, operators_put}
+use Rattle.pl_model.specs.Service.{answers, serve, operator_error, operators_put}
 use Rattle.pl_model.proofs.KeyOrder.{key_order_total}
 use Rattle.pl_model.proofs.shared.puts_operators_and_flags.Goals as goal
 
