@@ -7,7 +7,10 @@ use Rattle.pl_model.specs.History.{Proc, Clause, Kind, is_end}
 use Rattle.pl_model.specs.Errors.{static_procedure}
 use Rattle.pl_model.specs.Flags.{Unknown, raises, fails}
 use Rattle.pl_model.specs.Database.{Stored, is_static}
-use Rattle.pl_model.specs.Threads.{Message, Queue, Thread, Status, is_alias}
+use Rattle.pl_model.specs.declared.threads.Message.{Message}
+use Rattle.pl_model.specs.declared.threads.Status.{Status}
+use Rattle.pl_model.specs.declared.threads.Thread.{Thread}
+use Rattle.pl_model.specs.Threads.{Queue, is_alias}
 use Rattle.pl_model.specs.SharedState.{SharedState}
 use Rattle.pl_model.specs.Requests.{Request, Reply, look, call_clauses, inspected_clauses, retracted_clauses, cleared_clauses, erase_clause, assert_first, assert_last, consult_clause, abolish_procedure, make_dynamic, all_procedures, put_operators, read_operators, put_flag, all_flags, own_name, create_thread, start_goal, join_thread, send_message, get_message, peek_message, create_queue, destroy_queue, collect_atoms, collect_clauses}
 use Rattle.pl_model.specs.Service.{Served, answers, waits, update_of, most_updates, updates, serve, refuses, alias_taken, unknown_called, cleared, added, modified, operators_put, got, peeked, with_queue, ended, joined, started, created}

@@ -6,6 +6,12 @@ use Rattle.pl_term.specs.Tree.{Chars, Tree, var, int, atom, comp, none, more}
 use Rattle.pl_term.specs.Variables.{rename, variables}
 use Rattle.pl_term.specs.Cells.{cells_all}
 use Rattle.pl_model.specs.declared.operators.Kind.{Kind as OperatorKind}
+use Rattle.pl_model.specs.declared.threads.Name.{Name}
+use Rattle.pl_model.specs.declared.threads.Name.TheVariants.{Number, Alias}
+use Rattle.pl_model.specs.declared.threads.Message.{Message}
+use Rattle.pl_model.specs.declared.threads.Status.{Status}
+use Rattle.pl_model.specs.declared.threads.Status.TheVariants.{Succeeded, Failed, Exception, Exited, Halted, AtomSpace}
+use Rattle.pl_model.specs.declared.threads.Thread.{Thread}
 use Rattle.pl_model.specs.OperatorTable.{OperatorTable, Refusal, priority, specifier, comma, reserved, infix_postfix, refusal, specifier_of}
 use Rattle.pl_model.specs.Unify.{unify}
 use Rattle.pl_model.specs.World.{proc_of, is_excluded}
@@ -14,7 +20,7 @@ use Rattle.pl_model.specs.Errors.{unknown_procedure, static_procedure}
 use Rattle.pl_model.specs.ErrorTerms.{domain_error, existence_error, permission_error, resource_error, private_procedure}
 use Rattle.pl_model.specs.Flags.{Unknown, raises, fails, listed_flags}
 use Rattle.pl_model.specs.Database.{Stored, is_system, is_static, is_known, choices, is_there, current_procedures, has_room}
-use Rattle.pl_model.specs.Threads.{Name, number, alias, Status, succeeded, failed, exception, exited, halted, atom_space, Message, Queue, Thread, Threads, is_alias, alias_of, queue_numbered, queue_named, thread_named, first_message, has_engine, goal_alias}
+use Rattle.pl_model.specs.Threads.{Queue, Threads, is_alias, alias_of, queue_numbered, queue_named, thread_named, first_message, has_engine, goal_alias}
 use Rattle.pl_model.specs.SharedState.{SharedState}
 use Rattle.pl_model.specs.Requests.{Request, look, call_clauses, inspected_clauses, retracted_clauses, cleared_clauses, erase_clause, assert_first, assert_last, consult_clause, abolish_procedure, make_dynamic, all_procedures, put_operators, read_operators, put_flag, all_flags, own_name, create_thread, start_goal, join_thread, send_message, get_message, peek_message, create_queue, destroy_queue, collect_atoms, collect_clauses, Reply, standing, listed, procedures, flags, named, message, no_message, status, done, gone, refused}
 
@@ -98,8 +104,8 @@ operators_put g p k fs None =
 
 -- What a term names: an atom an alias, an integer a number, and any other term nothing.
 abbrev pub name_of : Tree → Option Name
-name_of (atom a) = Some (alias a)
-name_of (int (pos n)) = Some (number n)
+name_of (atom a) = Some (Alias a)
+name_of (int (pos n)) = Some (Number n)
 name_of (int (negsuc n)) = None
 name_of (var x) = None
 name_of (comp f t ts) = None
@@ -116,12 +122,12 @@ name_term n (Some a) = atom a
 
 -- The status as thread_join/2 gives it.
 abbrev pub status_term : Status Tree → Tree
-status_term succeeded = atom (codes "true")
-status_term failed = atom (codes "false")
-status_term (exception b) = comp (codes "exception") b none
-status_term (exited t) = comp (codes "exited") t none
-status_term (halted n) = comp (codes "halted") (int (pos n)) none
-status_term atom_space = comp (codes "exception") (resource_error (codes "atom_space")) none
+status_term Succeeded = atom (codes "true")
+status_term Failed = atom (codes "false")
+status_term (Exception b) = comp (codes "exception") b none
+status_term (Exited t) = comp (codes "exited") t none
+status_term (Halted n) = comp (codes "halted") (int (pos n)) none
+status_term AtomSpace = comp (codes "exception") (resource_error (codes "atom_space")) none
 
 abbrev pub no_queue : Tree → Served
 no_queue x = refuses (existence_error (codes "message_queue") x)

@@ -5,6 +5,8 @@ use Rattle.pl_term.specs.Tree.{Tree}
 use Rattle.pl_term.specs.Variables.{rename}
 use Rattle.pl_model.specs.declared.ends.How.{How}
 use Rattle.pl_model.specs.declared.ends.How.TheVariants.{Solved, False, Threw}
+use Rattle.pl_model.specs.declared.threads.Status.{Status}
+use Rattle.pl_model.specs.declared.threads.Status.TheVariants.{Succeeded, Failed, Exception}
 use Rattle.pl_model.specs.declared.operators.Kind.{Kind as OperatorKind}
 use Rattle.pl_model.specs.declared.operators.Kind.TheVariants.{Xfx, Xfy, Yfx, Fy, Fx, Xf, Yf}
 use Rattle.pl_model.specs.Operators.{Operator, Specifier, xfx, xfy, yfx, fx, fy, xf, yf}
@@ -13,7 +15,7 @@ use Rattle.pl_model.specs.History.{Clause, Kind, History, add_first, add_last, e
 use Rattle.pl_model.specs.History as entries
 use Rattle.pl_model.specs.Flags.{Flags, opening_flags, with_flag}
 use Rattle.pl_model.specs.Database.{Database, opening_database, with_first, with_last, without_clause, without_procedure, with_dynamic_procedures}
-use Rattle.pl_model.specs.Threads.{Threads, Status, succeeded, failed, exception, opening_threads, opening_count, counted, queue_made, queue_dropped, message_sent, message_taken, thread_started, thread_ended, thread_joined}
+use Rattle.pl_model.specs.Threads.{Threads, opening_threads, opening_count, counted, queue_made, queue_dropped, message_sent, message_taken, thread_started, thread_ended, thread_joined}
 
 pub record SharedState : Type 0 where
   pub database : Database Clause
@@ -50,9 +52,9 @@ with_operators (o ∷ os) t = with_operators os (changed t o.priority (kind_of o
 
 -- How a thread ended, by how its engine did. A ball is kept as a copy.
 abbrev pub status_of : How → Status Tree
-status_of Solved = succeeded
-status_of False = failed
-status_of (Threw ball) = exception (rename zero ball)
+status_of Solved = Succeeded
+status_of False = Failed
+status_of (Threw ball) = Exception (rename zero ball)
 
 -- The state after the update that the engine `e` made at the place `k`.
 abbrev pub change : ℕ → ℕ → Kind → SharedState → SharedState

@@ -5,27 +5,13 @@ use Rattle.std.specs.Prelude.{ℕ, suc, List, [], ◌∷◌, ◌++◌, map, filt
 use Rattle.std.specs.List.{list_any}
 use Rattle.pl_term.specs.Tree.{Chars}
 use Rattle.pl_term.specs.Variables.{is_in}
+use Rattle.pl_model.specs.declared.threads.Name.{Name}
+use Rattle.pl_model.specs.declared.threads.Name.TheVariants.{Number, Alias}
+use Rattle.pl_model.specs.declared.threads.Message.{Message}
+use Rattle.pl_model.specs.declared.threads.Status.{Status}
+use Rattle.pl_model.specs.declared.threads.Thread.{Thread}
 
--- What names a thread or a queue: its number, or its alias.
-pub data Name : Type 0 where
-  number : ℕ → Name
-  alias : Chars → Name
-
--- How a thread ended, as thread_join/2 tells it: its goal succeeded or failed, or ended in a ball; thread_exit/1 ended
--- it with a term; halt/1 ended it with a status; or it ended for want of atoms.
-pub data Status (M : Type 0) : Type 0 where
-  succeeded : Status M
-  failed : Status M
-  exception : M → Status M
-  exited : M → Status M
-  halted : ℕ → Status M
-  atom_space : Status M
-
--- A message with the place of the update that sent it, which names it.
-pub record Message (M : Type 0) : Type 0 where
-  pub place : ℕ
-  pub content : M
-
+-- A queue. Its messages have the places of the updates that sent them, which name them.
 pub record Queue (M : Type 0) : Type 0 where
   pub number : ℕ
   -- whether it is the queue of the thread with this number
@@ -33,16 +19,11 @@ pub record Queue (M : Type 0) : Type 0 where
   -- the messages in the order in which they were sent
   pub messages : List (Message M)
 
--- A thread that has not been joined.
-pub record Thread (M : Type 0) : Type 0 where
-  pub number : ℕ
-  -- how it ended, where it has
-  pub status : Option (Status M)
-
 pub record Threads (M : Type 0) : Type 0 where
   -- the aliases of threads and queues, of which no two are equal, with the numbers that they name
   pub aliases : List (Chars × ℕ)
   pub queues : List (Queue M)
+  -- the threads that have not been joined, with how they ended where they have
   pub threads : List (Thread M)
   -- the numbers of the threads that have been joined
   pub joined : List ℕ
@@ -69,8 +50,8 @@ abbrev pub is_alias : {M : Type 0} → Threads M → Chars → Bool
 is_alias t a = list_any (λ (x : Chars × ℕ). bytes_eq x.0 a) t.aliases
 
 abbrev pub number_of : {M : Type 0} → Threads M → Name → Option ℕ
-number_of t (number n) = Some n
-number_of t (alias a) = option_map (λ (x : Chars × ℕ). x.1) (find (λ (x : Chars × ℕ). bytes_eq x.0 a) t.aliases)
+number_of t (Number n) = Some n
+number_of t (Alias a) = option_map (λ (x : Chars × ℕ). x.1) (find (λ (x : Chars × ℕ). bytes_eq x.0 a) t.aliases)
 
 -- The alias of the thread or queue with the number, where it has one.
 abbrev pub alias_of : {M : Type 0} → Threads M → ℕ → Option Chars
@@ -96,8 +77,8 @@ thread_named t x = option_and_then (thread_numbered t) (number_of t x)
 
 -- Whether the name is the number of a thread that was joined. An alias is free again after the join.
 abbrev pub is_joined : {M : Type 0} → Threads M → Name → Bool
-is_joined t (number n) = is_in n t.joined
-is_joined t (alias a) = false
+is_joined t (Number n) = is_in n t.joined
+is_joined t (Alias a) = false
 
 -- Engines that have not ended; there are at most 64 of them, engine 1 among them.
 abbrev pub is_running : {M : Type 0} → Thread M → Bool
@@ -133,7 +114,7 @@ goal_alias n = codes "goal" ++ decimal n
 
 abbrev pub with_alias : {M : Type 0} → ℕ → Option Chars → Threads M → List (Chars × ℕ)
 with_alias n None t = t.aliases
-with_alias n (Some a) t = (a, n) ∷ t.aliases
+with_alias n (Some a) t = t.aliases ++ (a, n) ∷ []
 
 abbrev pub without_alias : {M : Type 0} → ℕ → Threads M → List (Chars × ℕ)
 without_alias n t = filter (λ (x : Chars × ℕ). not (x.1 == n)) t.aliases
@@ -189,5 +170,5 @@ thread_joined n t =
     record t {
       aliases = without_alias n t;
       threads = filter (λ h. not (is_thread n h)) t.threads;
-      joined = n ∷ t.joined;
+      joined = t.joined ++ n ∷ [];
     }

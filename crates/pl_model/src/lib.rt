@@ -13,5 +13,6 @@ pub mod shared;
 pub mod shows;
 pub mod syntax;
 pub mod term_writing;
+pub mod threads;
 pub mod unification;
 pub mod writing;
