@@ -6,6 +6,7 @@ pub mod LexicalCharacters
 pub mod LexicalQuoted
 pub mod LexicalTokens
 pub mod LexicalLaws
+pub mod Skipping
 pub mod Grammar
 pub mod TermGrammar
 pub mod Unify

@@ -11,6 +11,7 @@ pub mod rows;
 pub mod runs;
 pub mod shared;
 pub mod shows;
+pub mod skipping;
 pub mod syntax;
 pub mod term_writing;
 pub mod threads;

@@ -1,0 +1,38 @@
+//! Skipping, with texts and the places to which it goes.
+ghost use Rattle.std.specs.Prelude.{◌≡◌, ◌∷◌, [], codes};
+ghost use Rattle.pl_model.specs.Skipping.{skip};
+
+/// What stands at the front of some bytes, as skipping meets it.
+#[derive(Debug, Clone, Copy, PartialEq, Eq, Drop)]
+pub enum Passing {
+    /// This number of bytes, which are passed.
+    Through(usize),
+    /// An end token of this number of bytes.
+    Ends(usize),
+    /// A quoted text or a comment that stays open.
+    StaysOpen,
+}
+
+/// End tokens (ISO 6.4.8): the first one ends, wherever skipping begins; a full stop in a name, a quoted text or a
+/// comment is none.
+pub fn skips_to_end_tokens()
+    ensures first { skip (codes "a. b. ") 0 ≡ 2 }
+    ensures second { skip (codes "a. b. ") 2 ≡ 5 }
+    ensures inside { skip (codes "a.. 'b. ' /* . */ %. ") 0 ≡ 21 }
+    ensures code { skip (codes "X = 0'. .") 0 ≡ 9 }
+    ensures nothing { skip (codes "a b") 0 ≡ 3 }
+    ensures behind { skip (codes "a.") 7 ≡ 2 }
+{}
+
+/// Faults: a quoted text or a comment is passed whole, `0'` with one character, anything else by one character or one
+/// byte.
+pub fn skips_faults()
+    ensures escape { skip (codes "'\\q. ' .") 0 ≡ 8 }
+    ensures byte { skip (255 ∷ 46 ∷ 32 ∷ 97 ∷ []) 0 ≡ 2 }
+    ensures comment { skip (37 ∷ 255 ∷ 46 ∷ 10 ∷ 46 ∷ []) 0 ≡ 5 }
+    ensures block { skip (47 ∷ 42 ∷ 255 ∷ 46 ∷ 42 ∷ 47 ∷ 46 ∷ []) 0 ≡ 7 }
+    ensures code { skip (codes "0'' . a") 0 ≡ 5 }
+    ensures float { skip (codes "1.5. a") 0 ≡ 4 }
+    ensures quote { skip (codes "'a. b") 0 ≡ 5 }
+    ensures opening { skip (codes "/* a. b") 0 ≡ 7 }
+{}
