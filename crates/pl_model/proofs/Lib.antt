@@ -30,3 +30,4 @@ pub mod UpdateView
 pub mod PresentView
 pub mod NumbersGiven
 pub mod UpdatesFit
+pub mod SkippingPlaces

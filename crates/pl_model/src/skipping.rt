@@ -1,6 +1,10 @@
 //! Skipping, with texts and the places to which it goes.
-ghost use Rattle.std.specs.Prelude.{◌≡◌, ◌∷◌, [], codes};
+ghost use Rattle.std.specs.Prelude.{◌≡◌, ◌∷◌, [], ℕ, List, Ok, codes, length};
+ghost use Rattle.pl_model.specs.LexicalTokens.{token, token_at};
 ghost use Rattle.pl_model.specs.Skipping.{skip};
+ghost use Rattle.pl_model.specs.declared.lexical.Lexeme.TheVariants.{End};
+ghost use Rattle.pl_model.specs.declared.lexical.TokenKind.{TokenKind};
+ghost use Rattle.pl_model.specs.declared.lexical.TokenKind.TheVariants.{EndToken};
 
 /// What stands at the front of some bytes, as skipping meets it.
 #[derive(Debug, Clone, Copy, PartialEq, Eq, Drop)]
@@ -35,4 +39,14 @@ pub fn skips_faults()
     ensures float { skip (codes "1.5. a") 0 ≡ 4 }
     ensures quote { skip (codes "'a. b") 0 ≡ 5 }
     ensures opening { skip (codes "/* a. b") 0 ≡ 7 }
+{}
+
+/// Skipping goes from token to token (ISO 6.4): it ends behind the first end token, goes on behind any other token, and
+/// ends with the text.
+#[tactic(auto, using(crate::proofs::SkippingPlaces::ends_at, crate::proofs::SkippingPlaces::passes_at, crate::proofs::SkippingPlaces::nothing_at))]
+pub fn skips_tokens()
+    ensures ends { (text : List ℕ) (at start stop : ℕ) → token_at text at ≡ token EndToken start stop → skip text at ≡ stop }
+    ensures passes { (text : List ℕ) (at : ℕ) (kind : TokenKind) (start stop : ℕ)
+        → (kind ≡ EndToken → ⊥) → token_at text at ≡ token kind start stop → skip text at ≡ skip text stop }
+    ensures nothing { (text : List ℕ) (at : ℕ) → token_at text at ≡ Ok End → skip text at ≡ length text }
 {}
