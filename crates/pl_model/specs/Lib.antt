@@ -34,3 +34,6 @@ pub mod Reached
 pub mod Transcript
 pub mod Rows
 pub mod Evaluables
+pub mod Terms
+pub mod Balls
+pub mod BodyChecks
