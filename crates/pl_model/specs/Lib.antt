@@ -37,3 +37,8 @@ pub mod Evaluables
 pub mod Terms
 pub mod Balls
 pub mod BodyChecks
+pub mod BuiltinRows
+pub mod Resolution
+pub mod Control
+pub mod Searches
+pub mod SearchRows

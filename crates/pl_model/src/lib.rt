@@ -9,6 +9,7 @@ pub mod operators;
 pub mod reading;
 pub mod rows;
 pub mod runs;
+pub mod searches;
 pub mod shared;
 pub mod shows;
 pub mod skipping;
