@@ -81,7 +81,7 @@ row_of_two f t u =
     else test_row (comparison f (order t u)) (more t (more u none))
 
 -- The row of the predicate with this name and these arguments, or none where there is no such predicate.
-abbrev pub row : Chars → Trees → ℕ → Option Row
+unfoldable pub row : Chars → Trees → ℕ → Option Row
 row f none next = None
 row f (more t none) next = test_row (type_test f t) (more t none)
 row f (more t (more u none)) next = row_of_two f t u

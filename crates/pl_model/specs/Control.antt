@@ -1,9 +1,9 @@
 -- The steps of resolution (ISO 7.7, 7.8). What a step costs and checks comes in this order: the inference, the arguments,
 -- the body that is to be called, the request to the shared state, the choice point, the numbers of new variables, and the
 -- cells. The first that fails raises its error.
-use Rattle.std.specs.Prelude.{ℕ, ℤ, suc, ◌+◌, ◌^◌, pos, negsuc, List, [], ◌∷◌, ◌++◌, length, Bool, true, false, Option, Some, None, Result, Ok, Err, bytes_eq, codes, if◌then◌else◌, ◌==◌, ◌&&◌, ◌||◌, is_some, nat_le, nat_lt}
+use Rattle.std.specs.Prelude.{ℕ, ℤ, suc, ◌+◌, ◌^◌, pos, negsuc, List, [], ◌∷◌, ◌++◌, map, length, Bool, true, false, Option, Some, None, Result, Ok, Err, bytes_eq, codes, if◌then◌else◌, ◌==◌, ◌&&◌, ◌||◌, is_some, nat_le, nat_lt}
 use Rattle.pl_term.specs.Tree.{Chars, Tree, Trees, var, int, atom, comp, none, more, count}
-use Rattle.pl_term.specs.Variables.{rename}
+use Rattle.pl_term.specs.Variables.{variables, rename}
 use Rattle.pl_term.specs.Cells.{cells}
 use Rattle.pl_model.specs.OperatorTable.{OperatorTable}
 use Rattle.pl_model.specs.Unify.{Bindings, bound, unify, solve_all}
@@ -13,11 +13,13 @@ use Rattle.pl_model.specs.World.{proc_of}
 use Rattle.pl_model.specs.Database.{Stored}
 use Rattle.pl_model.specs.Terms.{is_variable, arguments, extended, list_term, is_list_or_partial, variable_count, raised_by, clause_cells}
 use Rattle.pl_model.specs.Balls.{error_ball, instantiation_error, type_error, no_inferences, no_cells, no_choices}
-use Rattle.pl_model.specs.ErrorTerms.{domain_error}
-use Rattle.pl_model.specs.BodyChecks.{if_callable, body_of, called_goal, rule}
+use Rattle.pl_model.specs.ErrorTerms.{domain_error, permission_error}
+use Rattle.pl_model.specs.Checks.{first_error, bound_error, callable_error}
+use Rattle.pl_model.specs.BodyChecks.{if_callable, body_of, called_goal, rule, head_part, body_part, clause_of_term}
 use Rattle.pl_model.specs.BuiltinRows.{Answer, Row, gives, table, error, row}
-use Rattle.pl_model.specs.Requests.{look, call_clauses, erase_clause, read_operators, Reply, standing, listed, done, gone, refused}
-use Rattle.pl_model.specs.Resolution.{Limits, Pending, goal, commit, refute, leave, collect, Node, Purpose, resolving, inspecting, retracting, Choice, clauses, answers, branch, barrier, catch, findall, solved, no_more, threw, halted, Doing, running, failing, throwing, erasing, clearing, answering, ended, text, solution, State, Next, goes, asks, stops, up_to, node_instance, collected_cells, solution_count}
+use Rattle.pl_model.specs.SharedBuiltins.{Shared, gives_row, asks_for, shared}
+use Rattle.pl_model.specs.Requests.{look, call_clauses, inspected_clauses, retracted_clauses, cleared_clauses, erase_clause, read_operators, Reply, standing, listed, done, gone, refused}
+use Rattle.pl_model.specs.Resolution.{Limits, Pending, goal, commit, refute, leave, collect, Node, Purpose, resolving, inspecting, retracting, Choice, clauses, answers, branch, barrier, catch, findall, solved, no_more, threw, exited, halted, Doing, running, failing, throwing, erasing, clearing, answering, ended, text, solution, State, Next, goes, asks, stops, up_to, node_instance, collected_cells, solution_count}
 
 abbrev pub proc : Chars → ℕ → Proc
 proc f n = record { name = f; arity = n }
@@ -103,7 +105,7 @@ tried l p s t n h c =
     (λ s' n'. clause_unified p s' n' h c.place (raised_by s.next c.clause.body) (unify t (raised_by s.next (pattern p c.clause))))
 
 -- The clauses are tried in their order. Those behind the first one are a choice point; the last one leaves none.
-abbrev pub next_clause : Limits → Purpose → State → Tree → Node → List (Stored Clause) → State
+unfoldable pub next_clause : Limits → Purpose → State → Tree → Node → List (Stored Clause) → State
 next_clause l p s t n [] = failed s
 next_clause l p s t n (c ∷ []) = tried l p s t n (length s.choices) c
 next_clause l p s t n (c ∷ (d ∷ ds)) =
@@ -148,7 +150,7 @@ abbrev pub unifying : Trees → List Answer → List Answer
 unifying ts [] = []
 unifying ts (a ∷ xs) = if is_some (solve_all [] ts a.terms) then a ∷ unifying ts xs else unifying ts xs
 
-abbrev pub with_row : Limits → State → Node → Proc → Trees → Row → State
+unfoldable pub with_row : Limits → State → Node → Proc → Trees → Row → State
 with_row l s n p ts (gives xs) = first_answer l s n p ts xs
 with_row l s n p ts (table xs) = first_answer l s n p ts (unifying ts xs)
 with_row l s n p ts (error e) = raised s n e p
@@ -170,6 +172,11 @@ pub data Construct : Type 0 where
   throws : Tree → Construct
   finds_all : Tree → Tree → Tree → Construct
   halts : Tree → Construct
+  exits : Tree → Construct
+  -- clause/2, retract/1 and retractall/1
+  inspects : Tree → Tree → Construct
+  retracts : Tree → Construct
+  clears : Tree → Construct
   -- writes the text that the operators give
   writes : (OperatorTable → Chars) → Construct
   -- writes a text
@@ -192,6 +199,9 @@ construct_of_one f t =
     if bytes_eq f (codes "once") then once t else
     if bytes_eq f (codes "throw") then throws t else
     if bytes_eq f (codes "halt") then halts t else
+    if bytes_eq f (codes "thread_exit") then exits t else
+    if bytes_eq f (codes "retract") then retracts t else
+    if bytes_eq f (codes "retractall") then clears t else
     if bytes_eq f (codes "write") then writes (λ ops. write ops 1200 t) else
     if bytes_eq f (codes "writeq") || bytes_eq f (codes "print") then writes (λ ops. writeq ops 1200 t) else
     if bytes_eq f (codes "write_canonical") then prints (write_canonical t) else other
@@ -205,7 +215,8 @@ abbrev pub construct_of_two : Chars → Tree → Tree → Construct
 construct_of_two f t u =
     if bytes_eq f (codes ",") then conjunction t u else
     if bytes_eq f (codes ";") then or_else t u else
-    if bytes_eq f (codes "->") then if_then t u else other
+    if bytes_eq f (codes "->") then if_then t u else
+    if bytes_eq f (codes "clause") then inspects t u else other
 
 abbrev pub construct_of_three : Chars → Tree → Tree → Tree → Construct
 construct_of_three f t u v =
@@ -219,7 +230,7 @@ construct_by_count f t (more u (more v none)) = construct_of_three f t u v
 construct_by_count f t ts = other
 
 -- call/1 to call/8 (ISO 7.8.3, Cor.2 8.15.4)
-abbrev pub construct : Tree → Construct
+unfoldable pub construct : Tree → Construct
 construct (var x) = other
 construct (int i) = other
 construct (atom a) = construct_of_none a
@@ -286,13 +297,59 @@ abbrev pub with_operators : State → Node → (OperatorTable → Chars) → Rep
 with_operators s n t (standing ops quotes) = with_text s n (t ops)
 with_operators s n t _ = s
 
--- A built-in predicate, or else a call of the program's clauses.
+-- thread_exit/1 (SWI-Prolog manual): a thread that runs the file or a goal of the command is not left.
+abbrev pub with_exit : Limits → State → Node → Tree → Tree → State
+with_exit l s n g t =
+    elim l.stays [
+      | None ↦ record s { doing = ended (exited t) }
+      | Some name ↦ raised s n (permission_error (codes "exit") (codes "thread") (atom name)) (proc_of g)
+    ]
+
+-- The request, unless the arguments are refused.
+abbrev pub unless : State → Node → Tree → Option Tree → Next → Next
+unless s n g None next = next
+unless s n g (Some e) next = goes (raised s n e (proc_of g))
+
+-- clause/2 (ISO 8.8.1)
+abbrev pub with_inspection : Limits → State → Node → Tree → Tree → Tree → Next
+with_inspection l s n g h b =
+    unless s n g (first_error (bound_error h ∷ callable_error h ∷ callable_error b ∷ []))
+    (asks (inspected_clauses h) (with_clauses l inspecting s (rule h b) n))
+
+-- retract/1 (ISO 8.9.3) checks its clause-term as assertz/1 does.
+abbrev pub error_of : {A : Type 0} → Result A Tree → Option Tree
+error_of (Ok a) = None
+error_of (Err e) = Some e
+
+abbrev pub with_retraction : Limits → State → Node → Tree → Tree → Next
+with_retraction l s n g t =
+    unless s n g (error_of (clause_of_term t))
+    (asks (retracted_clauses (head_part t)) (with_clauses l retracting s (rule (head_part t) (body_part t)) n))
+
+-- retractall/1 (ISO Cor.2 8.9.5)
+abbrev pub to_clear : State → Node → Tree → Reply → State
+to_clear s n h (listed cs) = record s { doing = clearing h cs n }
+to_clear s n h (refused e) = raised s n e (proc (codes "retractall") 1)
+to_clear s n h _ = s
+
+abbrev pub with_clearing : State → Node → Tree → Tree → Next
+with_clearing s n g h =
+    unless s n g (first_error (bound_error h ∷ callable_error h ∷ [])) (asks (cleared_clauses h) (to_clear s n h))
+
+-- A predicate of the shared state, or else a call of the program's clauses (ISO 7.7.10).
+abbrev pub with_shared : Limits → State → Node → Tree → Option Shared → Next
+with_shared l s n g (Some (gives_row r)) = goes (with_row l s n (proc_of g) (arguments g) r)
+with_shared l s n g (Some (asks_for q r)) =
+    asks q (λ reply. with_row l s n (proc_of g) (arguments g) (r reply s.next))
+with_shared l s n g None = asks (call_clauses g) (with_clauses l resolving s g n)
+
+-- A built-in predicate of its own arguments alone comes first.
 abbrev pub with_other : Limits → State → Node → Tree → Option Row → Next
 with_other l s n g (Some r) = goes (with_row l s n (proc_of g) (arguments g) r)
-with_other l s n g None = asks (call_clauses g) (with_clauses l resolving s g n)
+with_other l s n g None = with_shared l s n g (shared (name_of g) (arguments g))
 
 -- A goal is taken up at the node behind it; a cut in it goes back to the height `h`.
-abbrev pub take_up : Limits → State → Node → Tree → ℕ → Construct → Next
+unfoldable pub take_up : Limits → State → Node → Tree → ℕ → Construct → Next
 take_up l s n g h succeeds = goes (run_on s n)
 take_up l s n g h cuts = goes (record s { choices = up_to h s.choices; doing = running n })
 take_up l s n g h (conjunction t u) = goes (run_on s (before (goal t h ∷ goal u h ∷ []) n))
@@ -310,6 +367,10 @@ take_up l s n g h (catches t c r) = costing l s n g (λ s. goes (with_catch l s 
 take_up l s n g h (throws t) = costing l s n g (λ s. goes (with_throw s n g t))
 take_up l s n g h (finds_all x t list) = costing l s n g (λ s. goes (with_findall l s n g x t list))
 take_up l s n g h (halts t) = costing l s n g (λ s. goes (with_status s n g t))
+take_up l s n g h (exits t) = costing l s n g (λ s. goes (with_exit l s n g t))
+take_up l s n g h (inspects t b) = costing l s n g (λ s. with_inspection l s n g t b)
+take_up l s n g h (retracts t) = costing l s n g (λ s. with_retraction l s n g t)
+take_up l s n g h (clears t) = costing l s n g (λ s. with_clearing s n g t)
 take_up l s n g h (writes t) = costing l s n g (λ s. asks read_operators (with_operators s n t))
 take_up l s n g h (prints t) = costing l s n g (λ s. goes (with_text s n t))
 take_up l s n g h other = costing l s n g (λ s. with_other l s n g (row (name_of g) (arguments g) s.next))
@@ -340,7 +401,7 @@ list_made l s n list ts =
     taking l s n findall_proc 0 (cells (list_term ts)) (λ s' n'. unified s' n' (unify list (list_term ts)))
 
 -- Failure: the newest choice point is gone back to (ISO 7.7.8). Where none is left, there is no further solution.
-abbrev pub gone_back : Limits → State → List Choice → State
+unfoldable pub gone_back : Limits → State → List Choice → State
 gone_back l s [] = record s { doing = ended no_more }
 gone_back l s (clauses p t cs n ∷ older) = next_clause l p (record s { choices = older }) t n cs
 gone_back l s (answers p ts xs n ∷ older) = next_answer l (record s { choices = older }) n p ts xs
@@ -395,7 +456,7 @@ caught l s ball outer (catch catcher recovery n ∷ older) =
 caught l s ball outer _ = record s { doing = throwing ball outer }
 
 -- The innermost active catch: the first exit that is still to be done. Where there is none, nothing catches the ball.
-abbrev pub thrown : Limits → State → Tree → List Pending → State
+unfoldable pub thrown : Limits → State → Tree → List Pending → State
 thrown l s ball [] = record s { doing = ended (threw ball) }
 thrown l s ball (leave h ∷ ps) = caught l s ball ps (up_to (suc h) s.choices)
 thrown l s ball (goal t h ∷ ps) = thrown l s ball ps
@@ -475,17 +536,16 @@ step l s = step_by l s s.doing
 abbrev pub consult_proc : Proc
 consult_proc = proc (codes "consult") 1
 
--- A goal whose variables are numbered from 0, with the terms that are shown of each solution, before its first step: it
--- is checked whole, and takes its own cells.
-abbrev pub start_node : List Tree → Node
-start_node shown = record { goals = []; answer = shown; used = 0 }
+-- The search for the solutions of a goal whose variables are numbered from 0, before its first step: the goal is checked
+-- whole, and takes its own cells. An answer has the terms of all variables of the goal, in their order.
+abbrev pub start_node : Tree → Node
+start_node t = record { goals = []; answer = map var (variables t); used = 0 }
 
-abbrev pub start_state : ℕ → List Tree → State
-start_state next shown = record { doing = running (start_node shown); choices = []; next = next; inferences = 0; output = [] }
+abbrev pub start_state : Tree → State
+start_state t =
+    record { doing = running (start_node t); choices = []; next = variable_count t; inferences = 0; output = [] }
 
-unfoldable pub start : Limits → Tree → List Tree → State
-start l t shown =
-    let s = start_state (variable_count t) shown
-    in let n = start_node shown
-    in checked s n consult_proc (body_of t)
-    (λ body. taking l s n (proc_of t) 0 (cells t) (λ s' n'. run_on s' (before (goal body 0 ∷ []) n')))
+unfoldable pub start : Limits → Tree → State
+start l t =
+    checked (start_state t) (start_node t) consult_proc (body_of t)
+    (λ body. taking l (start_state t) (start_node t) (proc_of t) 0 (cells t) (λ s n. run_on s (before (goal body 0 ∷ []) n)))

@@ -37,7 +37,9 @@ pub mod Evaluables
 pub mod Terms
 pub mod Balls
 pub mod BodyChecks
+pub mod Checks
 pub mod BuiltinRows
+pub mod SharedBuiltins
 pub mod Resolution
 pub mod Control
 pub mod Searches

@@ -1,5 +1,5 @@
 -- Resolution (ISO 7.7): the states of the search for the solutions of one goal.
-use Rattle.std.specs.Prelude.{ℕ, suc, ◌+◌, ◌-◌, List, [], ◌∷◌, map, length, drop}
+use Rattle.std.specs.Prelude.{ℕ, suc, ◌+◌, ◌-◌, List, [], ◌∷◌, Option, map, length, drop}
 use Rattle.pl_term.specs.Tree.{Chars, Tree, Trees}
 use Rattle.pl_term.specs.Cells.{cells}
 use Rattle.pl_model.specs.OperatorTable.{OperatorTable}
@@ -15,6 +15,8 @@ pub record Limits : Type 0 where
   pub cells : ℕ
   pub choices : ℕ
   pub solutions : ℕ
+  -- the name of the thread, where it runs the file or a goal of the command: thread_exit/1 cannot leave it
+  pub stays : Option Chars
 
 -- What is still to be done at a node. A height is a number of choice points from the oldest one on.
 pub data Pending : Type 0 where

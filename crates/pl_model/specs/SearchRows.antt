@@ -8,19 +8,19 @@ use Rattle.pl_model.specs.Resolution.{Limits}
 use Rattle.pl_model.specs.Control.{proc}
 
 abbrev pub wanting : ℕ → Limits
-wanting n = record { inferences = 100; cells = 1000; choices = 100; solutions = n }
+wanting n = record { inferences = 100; cells = 1000; choices = 100; solutions = n; stays = None }
 
 abbrev pub ample : Limits
 ample = wanting 1
 
 abbrev pub with_inferences : ℕ → Limits
-with_inferences n = record { inferences = n; cells = 1000; choices = 100; solutions = 1 }
+with_inferences n = record { inferences = n; cells = 1000; choices = 100; solutions = 1; stays = None }
 
 abbrev pub with_cells : ℕ → Limits
-with_cells n = record { inferences = 100; cells = n; choices = 100; solutions = 1 }
+with_cells n = record { inferences = 100; cells = n; choices = 100; solutions = 1; stays = None }
 
 abbrev pub with_choices : ℕ → Limits
-with_choices n = record { inferences = 100; cells = 1000; choices = n; solutions = 1 }
+with_choices n = record { inferences = 100; cells = 1000; choices = n; solutions = 1; stays = None }
 
 abbrev pub word : Chars → Tree
 word f = atom f

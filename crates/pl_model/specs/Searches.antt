@@ -25,9 +25,9 @@ abbrev pub searched : Limits → ℕ → Search → Search
 searched l zero a = a
 searched l (suc n) a = searched l n (stepped a (step l a.state))
 
--- With these replies the search for the solutions of a goal, whose terms are shown, writes this output and ends so, after
+-- With these replies the search for the solutions of a goal writes this output and ends so, after
 -- so many steps.
-pub record Finds (l : Limits) (t : Tree) (shown : List Tree) (replies : List Reply) (n : ℕ) (output : List Output) (how : Ending) : Type 0 where
-  pub ends : (searched l n (record { state = start l t shown; replies = replies })).state.doing ≡ ended how
-  pub output_is : (searched l n (record { state = start l t shown; replies = replies })).state.output ≡ output
-  pub all_given : (searched l n (record { state = start l t shown; replies = replies })).replies ≡ []
+pub record Finds (l : Limits) (t : Tree) (replies : List Reply) (n : ℕ) (output : List Output) (how : Ending) : Type 0 where
+  pub ends : (searched l n (record { state = start l t; replies = replies })).state.doing ≡ ended how
+  pub output_is : (searched l n (record { state = start l t; replies = replies })).state.output ≡ output
+  pub all_given : (searched l n (record { state = start l t; replies = replies })).replies ≡ []
