@@ -44,3 +44,6 @@ pub mod Resolution
 pub mod Control
 pub mod Searches
 pub mod SearchRows
+pub mod Execution
+pub mod Lawful
+pub mod Report
