@@ -31,3 +31,11 @@ pub mod PresentView
 pub mod NumbersGiven
 pub mod UpdatesFit
 pub mod SkippingPlaces
+pub mod UnifyNodes
+pub mod UnifySubterms
+pub mod UnifyFacing
+pub mod UnifyPutIn
+pub mod UnifyCode
+pub mod UnifyFronts
+pub mod UnifyLoop
+pub mod KeptKeys

@@ -47,3 +47,10 @@ pub mod SearchRows
 pub mod Execution
 pub mod Lawful
 pub mod Report
+pub mod FirstArgumentOrder
+pub mod FirstArguments
+pub mod KeptNodes
+pub mod FirstArgumentLaws
+pub mod Subterms
+pub mod UnifySides
+pub mod UnifyTurns

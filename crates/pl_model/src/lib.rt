@@ -3,7 +3,9 @@
 
 pub mod ends;
 pub mod evaluables;
+pub mod first_argument;
 pub mod grammar;
+pub mod kept;
 pub mod lexical;
 pub mod operators;
 pub mod reading;
@@ -13,8 +15,10 @@ pub mod searches;
 pub mod shared;
 pub mod shows;
 pub mod skipping;
+mod subterms;
 pub mod syntax;
 pub mod term_writing;
 pub mod threads;
 pub mod unification;
+pub mod unifying;
 pub mod writing;
