@@ -1,0 +1,12 @@
+pub mod NameTexts
+pub mod ListNodes
+pub mod Fronts
+pub mod IntegerBounds
+pub mod Turns
+pub mod Primaries
+pub mod Advances
+pub mod Starts
+pub mod Joins
+pub mod Ends
+pub mod ListElements
+pub mod Clauses

@@ -1,0 +1,6 @@
+pub mod Ahead
+pub mod Names
+pub mod Pieces
+pub mod Operations
+pub mod Stack
+pub mod Items
