@@ -29,6 +29,7 @@ pub mod Serve
 pub mod Machine
 pub mod Run
 pub mod Program
+pub mod CommandLine
 pub mod Complete
 pub mod Reached
 pub mod Transcript

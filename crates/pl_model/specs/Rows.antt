@@ -21,7 +21,7 @@ proc f n = record { name = f; arity = n }
 
 -- The command that runs a goal with the file named f.pl.
 abbrev pub goal_of : Chars → Command
-goal_of word = record { file = codes "f.pl"; goal = word }
+goal_of word = record { file = codes "f.pl"; goal = word; solutions = 1; inferences = 10000000 }
 
 -- An update: a clause of the file that becomes the last one of its procedure.
 abbrev pub consulted : Proc → Tree → Tree → ℕ → Kind

@@ -1,6 +1,7 @@
 //! The definitions that a reader must believe, and the laws that stand above them.
 #![tactic(auto)]
 
+pub mod command_line;
 pub mod ends;
 pub mod evaluables;
 pub mod first_argument;

@@ -16,7 +16,7 @@ use Rattle.pl_model.specs.World.{World, change, changes, opening, world}
 use Rattle.pl_model.specs.Machine.{Job, ended, most_bytes, Kept}
 use Rattle.pl_model.specs.declared.syntax.SyntaxFault.{SyntaxFault}
 use Rattle.toplevel.specs.declared.outcome.Kept.{Kept as KeptFault}
-use Rattle.pl_model.specs.Program.{Command, command, main_job}
+use Rattle.pl_model.specs.Program.{Command, main_job}
 use Rattle.pl_model.specs.Complete.{Told, end_in, end_state, started, generations_in, steps_of, job_of}
 use Rattle.pl_model.specs.Run.{run}
 use Rattle.std.specs.Prelude.{Contains}
@@ -113,15 +113,6 @@ unread rr wr c file old new report Usage rose h = absurd h
 unread rr wr c file old new report Memory rose h = h
 unread rr wr c file old new report ReadFault rose h = (h.0, rose, h.1)
 unread rr wr c file old new report WriteFault rose h = absurd h
-
--- Three words.
-pub three : (ws : List Chars) (v f g : Chars) → 3 ≤ length ws → length ws < 4 → v ≡ get_or ws 0 v → f ≡ get_or ws 1 f → g ≡ get_or ws 2 g → command ws ≡ command (v ∷ (f ∷ (g ∷ [])))
-three [] v f g low high a b c = absurd (omega (arith, low))
-three (x ∷ []) v f g low high a b c = absurd (omega (arith, low))
-three (x ∷ (y ∷ [])) v f g low high a b c = absurd (omega (arith, low))
-three (x ∷ (y ∷ (z ∷ []))) v f g low high a b c =
-    ap (λ w. command (w ∷ (y ∷ (z ∷ [])))) (sym a) ∙ ap (λ w. command (v ∷ (w ∷ (z ∷ [])))) (sym b) ∙ ap (λ w. command (v ∷ (f ∷ (w ∷ [])))) (sym c)
-three (x ∷ (y ∷ (z ∷ (w ∷ ws)))) v f g low high a b c = absurd (omega (arith, high))
 
 -- The end that a goal's end and the faults that were kept give.
 abbrev pub given : Option (SyntaxKind × ℕ) → How → List Kept → End

@@ -24,4 +24,5 @@ pub mod Items
 pub mod Names
 pub mod States
 pub mod Steps
+pub mod CommandLine
 pub mod Headline

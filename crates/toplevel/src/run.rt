@@ -3,13 +3,15 @@ ghost use Rattle.std.specs.Prelude.{◌≡◌, ◌≢◌, ◌↔◌, ◌∷◌, 
 ghost use Rattle.std.specs.Str.{encode_utf8_all};
 ghost use Rattle.pl_io.specs.Faults.{Rose};
 ghost use Rattle.pl_model.specs.Machine.{Job, most_bytes};
-ghost use Rattle.pl_model.specs.Program.{Command as CommandOf, command, main_job, usage_line, unread_line};
+ghost use Rattle.pl_model.specs.CommandLine.{command};
+ghost use Rattle.pl_model.specs.Program.{Command as CommandOf, main_job, usage_line, unread_line};
 ghost use Rattle.pl_model.specs.Transcript.{status_of, end_of, is_solved_so, goal_how, ends};
+ghost use Rattle.toplevel.specs.CommandLine.{told_command};
 ghost use Rattle.toplevel.specs.Outcome.{IsFinished, fault_of};
 ghost use Rattle.toplevel.specs.Shared.{told};
 ghost use Rattle.toplevel.specs.Headline.{HasRun, AreRead, IsReady, IsWritten, IsWrittenUnless, GaveUp, Promised, Ran, RanUnwritten};
 
-use crate::command::read_command;
+use crate::command::{Command, read_command};
 use crate::lines::{put, put_words};
 use crate::machine::run_engine;
 use crate::outcome::Finished;
@@ -26,11 +28,6 @@ use std::thread::Threads;
 
 /// A file has at most 16 MiB; one byte more is read, which shows that it is too large.
 const MOST_BYTES: u64 = 16_777_216;
-
-/// The inferences that a goal may take, and the solutions that are wanted of it.
-const MOST_INFERENCES: u64 = 10_000_000;
-
-const SOLUTIONS: u64 = 1;
 
 /// What is written where the words are no command.
 const USAGE: &str =
@@ -147,16 +144,22 @@ fn main_name(alloc: Global) -> Result<Text, Memory>
 /// memory.
 fn settle<G: Gate>(
     alloc: Global,
-    file: &Text,
-    goal: &Text,
+    command: &Command,
     bytes: &[u8],
     gate: &G,
 ) -> Result<Ready, Memory>
     ensures { (all : List ℕ) → bytes.now ≡ take (suc most_bytes) all
-        → IfOk result (λ ready. IsReady (record { file = file.now; goal = goal.now }) all ready) }
+        → IfOk result (λ ready. IsReady (told_command command.now) all ready) }
 {
-    let done = run_engine(alloc, bytes, goal, MOST_INFERENCES, SOLUTIONS, gate)?;
-    let text = transcript(alloc, file, goal, &done)?;
+    let done = run_engine(
+        alloc,
+        bytes,
+        &command.goal,
+        command.inferences,
+        command.solutions,
+        gate,
+    )?;
+    let text = transcript(alloc, &command.file, &command.goal, &done)?;
     let end = end_of(&done);
     let Finished {
         front,
@@ -180,18 +183,17 @@ fn settle<G: Gate>(
 /// `Failed`: a read failed; the count of faults of the file's name rose. `Memory`: there is no memory.
 fn prepare<F: Files, G: Gate>(
     alloc: Global,
-    file: &Text,
-    goal: &Text,
+    command: &Command,
     files: &mut F,
     gate: &G,
 ) -> Result<Ready, ReadAllError>
     ensures failed { IfErr result (λ e. e ≡ ReadAllError.Failed
-        → Rose (F.faults files.old file.now) (F.faults files.new file.now)) }
-    ensures ready { IfOk result (λ ready. (bytes : List ℕ) × (AreRead (F.told files.old file.now) bytes
-        × IsReady (record { file = file.now; goal = goal.now }) bytes ready)) }
+        → Rose (F.faults files.old command.now.file) (F.faults files.new command.now.file)) }
+    ensures ready { IfOk result (λ ready. (bytes : List ℕ) × (AreRead (F.told files.old command.now.file) bytes
+        × IsReady (told_command command.now) bytes ready)) }
 {
-    let bytes = read_all(alloc, files, file, MOST_BYTES)?;
-    let ready = settle(alloc, file, goal, bytes.as_slice(), gate)?;
+    let bytes = read_all(alloc, files, &command.file, MOST_BYTES)?;
+    let ready = settle(alloc, command, bytes.as_slice(), gate)?;
     Ok(ready)
 }
 
@@ -259,20 +261,19 @@ fn give_up<S: Sink>(alloc: Global, file: &Text, out: &mut S) -> Report
 /// Runs a command.
 fn run_command<F: Files, S: Sink, G: Gate>(
     alloc: Global,
-    file: &Text,
-    goal: &Text,
+    command: &Command,
     files: &mut F,
     out: &mut S,
     gate: &G,
 ) -> Report
     ensures status { result.status ≡ status_of result.end }
-    ensures promised { Promised (Rose (F.faults files.old file.now) (F.faults files.new file.now))
-        (Rose (S.faults out.old) (S.faults out.new)) (record { file = file.now; goal = goal.now })
-        (F.told files.old file.now) (S.written out.old) (S.written out.new) result result.end }
+    ensures promised { Promised (Rose (F.faults files.old command.now.file) (F.faults files.new command.now.file))
+        (Rose (S.faults out.old) (S.faults out.new)) (told_command command.now)
+        (F.told files.old command.now.file) (S.written out.old) (S.written out.new) result result.end }
 {
-    match prepare(alloc, file, goal, files, gate) {
+    match prepare(alloc, command, files, gate) {
         Ok(ready) => deliver(ready, out),
-        Err(ReadAllError::Failed) => give_up(alloc, file, out),
+        Err(ReadAllError::Failed) => give_up(alloc, &command.file, out),
         Err(ReadAllError::Memory) => bare_report(alloc, End::Memory),
     }
 }
@@ -313,8 +314,9 @@ pub fn run<R: Threads + Wait + Sync, F: Files, S: Sink, G: Gate + Sync>(
     ensures memory { result.end ≡ End.Memory → (result.front ≡ None) × (S.written out.new ≡ S.written out.old) }
 {
     let _ = rt;
-    match read_command(words) {
-        None => refuse(alloc, out),
-        Some(c) => run_command(alloc, c.file, c.goal, files, out, gate),
+    match read_command(alloc, words) {
+        Ok(None) => refuse(alloc, out),
+        Ok(Some(command)) => run_command(alloc, &command, files, out, gate),
+        Err(_) => bare_report(alloc, End::Memory),
     }
 }

@@ -1,3 +1,4 @@
+use Rattle.toplevel.specs.CommandLine.{told_command}
 use Rattle.toplevel.proofs.RunLemmas.{unread}
 use Rattle.toplevel.proofs.run.run_command.Goals as goal
 
@@ -6,7 +7,7 @@ returns-in-Err-Failed-clause-promised g c =
     unread
     _
     _
-    (record { file = c.args.file.now; goal = c.args.goal.now })
+    (told_command c.args.command.now)
     _
     _
     _
