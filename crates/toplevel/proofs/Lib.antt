@@ -37,4 +37,5 @@ pub mod MachineNodes
 pub mod MachineSorts
 pub mod MachineSteps
 pub mod RunLemmas
+pub mod CommandLemmas
 pub mod MachineRuns

@@ -5,7 +5,7 @@ use Rattle.toplevel.specs.declared.command.Command.{Command}
 
 -- The same command in the definition's terms.
 abbrev pub told_command : Command → CommandOf
-told_command c = record { file = c.file.now; goal = c.goal.now; solutions = c.solutions; inferences = c.inferences }
+told_command c = record { file = c.file; goal = c.goal; solutions = c.solutions; inferences = c.inferences }
 
 abbrev pub IsCommand : Option Command → Option CommandOf → Type 0
 IsCommand None wanted = wanted ≡ None

@@ -1,6 +1,7 @@
 //! The command line, read with clap.
-ghost use Rattle.std.specs.Prelude.{◌≡◌, ◌×◌, false, codes, IfOk};
-ghost use Rattle.clap.specs.Words.{app_of, fields_of, found_of, one_of, rows_of, rule_of, subcommand_rows_of};
+ghost use Rattle.std.specs.Prelude.{◌≡◌, false, codes, IfOk};
+ghost use Rattle.clap.specs.declared.builder.command.Command.TheViews.{out-Command as fields_of};
+ghost use Rattle.clap.specs.Words.{app_of, found_of, one_of, rows_of, rule_of, subcommand_rows_of};
 ghost use Rattle.pl_model.specs.CommandLine.{command, command_of, number_of, number_option, plt_app, required_word, run_app, run_command};
 ghost use Rattle.toplevel.specs.CommandLine.{IsCommand};
 

@@ -554,7 +554,84 @@ fn balls_and_faults_are_written(rt: HostRuntime) -> Result<(), Fail> {
     check_rows(&rt, rt.alloc(), &WORDS)
 }
 
-/// Runs these words where f.pl is empty, reads fail by `failing_reads` and writes by `failing_writes`, of at most
+/// Words with options, what is to be written, and the status, where f.pl has two facts.
+const OPTIONS: [(&[&str], &str, u8); 9] = [
+    (
+        &["run", "--solutions", "9", "f.pl", "p(X)"],
+        "?- p(X).\nX = 1.\nX = 2.\nfalse.\n",
+        1,
+    ),
+    (
+        &["run", "f.pl", "p(X)", "--solutions=2"],
+        "?- p(X).\nX = 1.\nX = 2.\n",
+        0,
+    ),
+    (
+        &["run", "f.pl", "--solutions", "1", "p(X)"],
+        "?- p(X).\nX = 1.\n",
+        0,
+    ),
+    (
+        &[
+            "run",
+            "--inferences",
+            "3",
+            "f.pl",
+            "X = 1, Y = 2, Z = 3",
+        ],
+        "?- X = 1, Y = 2, Z = 3.\nX = 1, Y = 2, Z = 3.\n",
+        0,
+    ),
+    (
+        &[
+            "run",
+            "--inferences",
+            "3",
+            "f.pl",
+            "X = 1, Y = 2, Z = 3, W = 4",
+        ],
+        "?- X = 1, Y = 2, Z = 3, W = 4.\nerror: error(resource_error(inferences),(=)/2).\n",
+        1,
+    ),
+    (
+        &[
+            "run",
+            "f.pl",
+            "--inferences",
+            "1",
+            "true",
+            "--solutions",
+            "2",
+        ],
+        "?- true.\ntrue.\nfalse.\n",
+        1,
+    ),
+    (
+        &["run", "f.pl", "--", "-X = -p"],
+        "?- -X = -p.\nX = p.\n",
+        0,
+    ),
+    (&["run", "--", "f.pl", "p(1)"], "?- p(1).\ntrue.\n", 0),
+    (
+        &["run", "--solutions", "3", "--", "f.pl", "p(1)"],
+        "?- p(1).\ntrue.\nfalse.\n",
+        1,
+    ),
+];
+
+#[test]
+fn options_are_obeyed(rt: HostRuntime) -> Result<(), Fail> {
+    let alloc = rt.alloc();
+    for (words, want, status) in OPTIONS {
+        let none = Vec::new(alloc);
+        let (report, out) = outcome(&rt, alloc, words, none, Vec::new(alloc), 100)?;
+        assert!(rt; out.bytes() == want.as_bytes(), "{words:?}");
+        assert_eq!(rt; report.status, status, "{words:?}");
+    }
+    Ok(())
+}
+
+/// Runs these words where f.pl has two facts, reads fail by `failing_reads` and writes by `failing_writes`, of at most
 /// `most` bytes each.
 fn outcome<R: Threads + Wait + Sync>(
     rt: &R,
@@ -576,10 +653,28 @@ fn outcome<R: Threads + Wait + Sync>(
 fn words_that_are_no_command_are_refused(rt: HostRuntime) -> Result<(), Fail> {
     let alloc = rt.alloc();
     let usage = "usage: plt run [OPTIONS] FILE [GOAL]... | plt check FILE | plt load SEED SIZE\n";
-    let rows: [&[&str]; 9] = [
+    let rows: [&[&str]; 19] = [
         &["run"],
         &[],
+        &["help"],
+        &["--help"],
+        &["run", "--help"],
         &["run", "f.pl"],
+        &["run", "--solutions", "0", "f.pl", "p(1)"],
+        &["run", "--solutions", "1000001", "f.pl", "p(1)"],
+        &["run", "--solutions", "-1", "f.pl", "p(1)"],
+        &["run", "--solutions=", "f.pl", "p(1)"],
+        &["run", "--inferences", "1000000001", "f.pl", "p(1)"],
+        &[
+            "run",
+            "--solutions",
+            "1",
+            "--solutions",
+            "2",
+            "f.pl",
+            "p(1)",
+        ],
+        &["run", "--workers", "2", "f.pl", "p(1)"],
         &["run", "f.pl", "p(1)", "p(2)"],
         &["check", "f.pl", "p(1)"],
         &["run", "-f.pl", "p(1)"],

@@ -21,7 +21,7 @@ returns g c all e =
     the_job b =
         record {
           file = b;
-          word = c.args.command.now.goal.now;
+          word = c.args.command.now.goal;
           inferences = c.args.command.now.inferences;
           solutions = c.args.command.now.solutions;
         }
