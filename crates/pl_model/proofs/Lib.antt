@@ -2,6 +2,10 @@ pub mod Stable
 pub mod Entries
 pub mod Reached
 pub mod Alone
+pub mod LawfulEntries
+pub mod LawfulStable
+pub mod Progress
+pub mod LawfulAlone
 pub mod UnifyReplace
 pub mod UnifyDifference
 pub mod UnifyEnough

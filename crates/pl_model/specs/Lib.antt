@@ -55,3 +55,4 @@ pub mod FirstArgumentLaws
 pub mod Subterms
 pub mod UnifySides
 pub mod UnifyTurns
+pub mod Progress

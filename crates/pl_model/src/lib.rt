@@ -5,6 +5,7 @@ pub mod command_line;
 pub mod ends;
 pub mod evaluables;
 pub mod first_argument;
+pub mod executions;
 pub mod grammar;
 pub mod kept;
 pub mod lexical;
