@@ -13,6 +13,7 @@ pub mod UnifyTurns
 pub mod UnifySolved
 pub mod UnifyGeneral
 pub mod UnifyLaws
+pub mod UnifyMore
 pub mod Depth
 pub mod CharacterRuns
 pub mod TokenPlaces

@@ -1,5 +1,6 @@
 //! The laws of unification (ISO 7.3.2). Each function does nothing: its contract is the law.
 ghost use Rattle.std.specs.Prelude.{◌≡◌, ◌≢◌, ℕ, ◌+◌, ◌<◌, List, [], ◌∷◌, ◌++◌, length, codes, true, false, All, pos};
+ghost use Rattle.std.specs.Option.{option_map};
 ghost use Rattle.pl_term.specs.Tree.{Tree, Trees, var, int, atom, comp, none, more};
 ghost use Rattle.pl_term.specs.Variables.{is_in, has, occurrences, occurrences_all};
 ghost use Rattle.pl_model.specs.Unify.{Bindings, bound, bound_variables, solve, solve_all, unify, instance};
@@ -42,6 +43,14 @@ pub fn bound_variables_are_gone()
 pub fn greater_variable_is_bound()
     ensures { (a b : Tree) (bs : Bindings) → unify a b ≡ Some bs
         → All (λ p. (y : ℕ) → p.1 ≡ var y → y < p.0) bs }
+{}
+
+/// Unification goes on from bindings that were made before, which then stand before the new ones; a term under both
+/// is the term under the earlier ones put into the later ones.
+pub fn bindings_go_on()
+    ensures solved { (bs : Bindings) (ts us : Trees)
+        → solve_all bs ts us ≡ option_map (λ more. bs ++ more) (solve_all [] ts us) }
+    ensures bound { (bs cs : Bindings) (t : Tree) → bound (bs ++ cs) t ≡ bound cs (bound bs t) }
 {}
 
 /// `X = f(X)` fails, since `X` occurs in the other term.
