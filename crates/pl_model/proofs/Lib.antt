@@ -14,6 +14,7 @@ pub mod UnifySolved
 pub mod UnifyGeneral
 pub mod UnifyLaws
 pub mod UnifyMore
+pub mod ControlLaws
 pub mod Depth
 pub mod CharacterRuns
 pub mod TokenPlaces

@@ -2,6 +2,7 @@
 #![tactic(auto)]
 
 pub mod command_line;
+pub mod control;
 pub mod ends;
 pub mod evaluables;
 pub mod first_argument;
