@@ -51,9 +51,9 @@ given_by rows f g s i a b c d = rw (a, b, c, d) refl
 -- Words that are refused for another reason than want of memory are no command.
 pub refused_words : (kinds : Kinds) (e : Error) (c : Option Command) → HasKind kinds e → (e.kind ≡ OutOfMemory → ⊥) → unless_refused kinds c ≡ None
 refused_words [] e c h other = elim h [
-    | inl m ↦ absurd (other m)
-    | inr a ↦ absurd a
-  ]
+  | inl m ↦ absurd (other m)
+  | inr a ↦ absurd a
+]
 refused_words (k ∷ ks) e c h other = refl
 
 pub taken_words : (kinds : Kinds) (c : Option Command) → kinds ≡ [] → unless_refused kinds c ≡ c

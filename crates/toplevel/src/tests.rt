@@ -572,13 +572,7 @@ const OPTIONS: [(&[&str], &str, u8); 9] = [
         0,
     ),
     (
-        &[
-            "run",
-            "--inferences",
-            "3",
-            "f.pl",
-            "X = 1, Y = 2, Z = 3",
-        ],
+        &["run", "--inferences", "3", "f.pl", "X = 1, Y = 2, Z = 3"],
         "?- X = 1, Y = 2, Z = 3.\nX = 1, Y = 2, Z = 3.\n",
         0,
     ),
