@@ -1,0 +1,91 @@
+-- What an answer says of the shared state before and after.
+use Rattle.std.specs.Prelude.{◌≡◌, ◌<◌, ℕ, List, [], ◌∷◌, ◌++◌, length, Option, Some, None, IsSome, true}
+use Rattle.std.specs.List.{All, Contains}
+use Rattle.pl_term.specs.Tree.{Chars, Tree}
+use Rattle.pl_model.specs.History.{Kind, History}
+use Rattle.pl_model.specs.Service.{answers, waits}
+use Rattle.pl_model.specs.Requests.{Request}
+use Rattle.pl_model.specs.Requests as requests
+use Rattle.pl_model.specs.Progress.{entry_by, served_now}
+use Rattle.atom_words.specs.declared.view.Refusal.{Refusal}
+use Rattle.atom_words.specs.declared.view.Refusal.TheVariants.{Full as RefusalFull, Again as RefusalAgain, Worn as RefusalWorn}
+use Rattle.world_api.specs.declared.visit.Procedure.{Procedure}
+use Rattle.world_api.specs.declared.visit.Visit.{Visit}
+use Rattle.world_api.specs.declared.visit.Visit.TheVariants.{Next}
+use Rattle.world_api.specs.declared.reply.Reply.{Reply}
+use Rattle.world_api.specs.declared.reply.Found.{Found}
+use Rattle.world_api.specs.declared.reply.Reply.TheVariants.{Clauses}
+use Rattle.world_api.specs.declared.answer.Answer.{Answer}
+use Rattle.world_api.specs.declared.answer.Answer.TheVariants.{Served, Waits, NeedsAtoms, Retry, Worn, Memory}
+use Rattle.world_api.specs.Told.{Told, Follows, clause_list, behind, has_place}
+use Rattle.world_api.specs.Visits.{IsGoal, Asks}
+use Rattle.world_api.specs.Replies.{IsFront, Says}
+
+-- The refusals of atoms that an answer hands on.
+abbrev pub refusals_by : {T : Type 0} → Answer T → List Refusal
+refusals_by (Served r g) = []
+refusals_by (Waits on g) = []
+refusals_by (NeedsAtoms p) = RefusalFull p ∷ []
+refusals_by (Retry c) = RefusalAgain c ∷ []
+refusals_by (Worn w) = RefusalWorn w ∷ []
+refusals_by Memory = []
+
+-- All but what the engine has seen and asked stays.
+abbrev pub seen_as : Told → History → List ℕ → Told
+seen_as t h gens = record t { history = h; gens = gens }
+
+module _ {T K : Type 0} (term : (ℕ → Chars) → T → Tree) (key : T → K) where
+  -- A clause of the list of a goal at a generation of the engine's own.
+  pub record IsPlace (text : ℕ → Chars) (p : Procedure) (k : K) (g place : ℕ) (t : Told) : Type 0 where
+    pub own : Contains t.gens g
+    pub goal : Tree
+    pub asked : IsGoal term key text p k goal
+    pub among : has_place place (clause_list t.goals t.history g goal) ≡ true
+
+  -- A list goes on behind one of its clauses.
+  abbrev pub CanVisit : (ℕ → Chars) → Visit T K → Told → Type 0
+  CanVisit text (Next p k g place) t = IsPlace text p k g place t
+  CanVisit text v t = Unit {0}
+
+  -- The visit stood behind all entries `before`; what it asks for is answered so there, and the history gained the update.
+  pub record IsServed (old_text new_text : ℕ → Chars) (v : Visit T K) (r : Reply T) (g : ℕ) (old : Told) (before : History) (new : Told) : Type 0 where
+    pub generation : g ≡ length before
+    pub update : Option Kind
+    pub serves :
+        (q : Request)
+        → Asks term key old_text v q
+        → (reply : requests.Reply)
+        × (served_now old.engine old.goals before q ≡ answers reply update)
+        × Says term new_text r reply
+    pub told : new ≡ seen_as old (before ++ entry_by old.engine update) (old.gens ++ length before ∷ [])
+
+  -- The next clause of the list of a goal at a generation. The engine has seen all entries, and no more has changed.
+  pub record IsNext (old_text new_text : ℕ → Chars) (p : Procedure) (k : K) (h place : ℕ) (r : Reply T) (g : ℕ) (old : Told) (before : History) (new : Told) : Type 0 where
+    pub generation : g ≡ h
+    pub front :
+        (goal : Tree)
+        → IsGoal term key old_text p k goal
+        → (f : Option (Found T)) × (r ≡ Clauses f) × IsFront term new_text f (behind place (clause_list old.goals before h goal))
+    pub told : new ≡ seen_as old before old.gens
+
+  abbrev pub Serves : (ℕ → Chars) → (ℕ → Chars) → Visit T K → Reply T → ℕ → Told → History → Told → Type 0
+  Serves old_text new_text (Next p k h place) r g old before new = IsNext old_text new_text p k h place r g old before new
+  Serves old_text new_text v r g old before new = IsServed old_text new_text v r g old before new
+
+  -- What the visit asks for waits there.
+  pub record IsWaiting (text : ℕ → Chars) (v : Visit T K) (g : ℕ) (old : Told) (before : History) (new : Told) : Type 0 where
+    pub generation : g ≡ length before
+    pub waiting : (q : Request) → Asks term key text v q → served_now old.engine old.goals before q ≡ waits
+    pub told : new ≡ seen_as old before old.gens
+
+  -- The entries before the visit are those that the engine had seen and others that came meanwhile. A visit that is refused
+  -- changes nothing.
+  abbrev pub Visited : (ℕ → Chars) → (ℕ → Chars) → Visit T K → Answer T → Told → History → Told → Type 0
+  Visited old_text new_text v (Served r g) old before new =
+      Follows old.engine old.history before × Serves old_text new_text v r g old before new
+  Visited old_text new_text v (Waits on g) old before new =
+      Follows old.engine old.history before × IsWaiting old_text v g old before new
+  Visited old_text new_text v (NeedsAtoms p) old before new = new ≡ old
+  Visited old_text new_text v (Retry c) old before new = new ≡ old
+  Visited old_text new_text v (Worn w) old before new = new ≡ old
+  Visited old_text new_text v Memory old before new = new ≡ old

@@ -1,0 +1,5 @@
+pub mod Texts
+pub mod Told
+pub mod Visits
+pub mod Replies
+pub mod Answers
