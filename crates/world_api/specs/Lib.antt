@@ -3,3 +3,4 @@ pub mod Told
 pub mod Visits
 pub mod Replies
 pub mod Answers
+pub mod Courses

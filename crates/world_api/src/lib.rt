@@ -2,6 +2,7 @@
 #![tactic(auto)]
 
 mod answer;
+pub mod courses;
 mod named;
 mod reply;
 mod visit;
