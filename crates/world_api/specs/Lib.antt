@@ -4,3 +4,5 @@ pub mod Visits
 pub mod Replies
 pub mod Answers
 pub mod Courses
+pub mod Scripts
+pub mod Residents

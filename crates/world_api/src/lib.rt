@@ -3,14 +3,20 @@
 
 mod answer;
 pub mod courses;
+mod how;
 mod named;
 mod reply;
+mod resident;
+mod script;
 mod visit;
 mod world;
 
 pub use answer::{Answer, On};
 pub use atom_api::{Cause, Pass, WornWord};
+pub use how::{AtomRecord, How};
 pub use named::Named;
 pub use reply::{FlagValue, Found, Name, Reply};
+pub use resident::Resident;
+pub use script::{Next, Script};
 pub use visit::{Procedure, Visit};
 pub use world::World;

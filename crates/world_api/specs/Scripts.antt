@@ -1,0 +1,89 @@
+-- Scripts: how an execution comes to its next item.
+use Rattle.std.specs.Prelude.{◌≡◌, ℕ, ◌+◌, List, [], ◌∷◌, ◌++◌, Bool, true, false, Option, Some, None, encode_utf8_all}
+use Rattle.pl_term.specs.Tree.{Chars, Tree}
+use Rattle.pl_model.specs.Resolution.{Ending, solved, no_more, threw, exited, halted, Doing, ended, Output, State}
+use Rattle.pl_model.specs.Control.{start}
+use Rattle.pl_model.specs.Execution.{Script, Job, Consulted, Activity, directing, over, Execution, texts_of}
+use Rattle.pl_model.specs.Progress.{Reached}
+use Rattle.pl_model.specs.Report.{all_consulted}
+use Rattle.atom_words.specs.declared.view.Refusal.{Refusal}
+use Rattle.atom_words.specs.declared.view.Refusal.TheVariants.{Full as RefusalFull, Again as RefusalAgain, Worn as RefusalWorn}
+use Rattle.world_api.specs.declared.how.How.{How}
+use Rattle.world_api.specs.declared.how.How.TheVariants.{Solved, False, Threw, Exited, Halted, AtomSpace}
+use Rattle.world_api.specs.declared.script.Next.{Next}
+use Rattle.world_api.specs.declared.script.Next.TheVariants.{Item, Done, NeedsAtoms, Retry, Worn, Memory}
+use Rattle.world_api.specs.Told.{Told}
+use Rattle.world_api.specs.Courses.{Part, of_goal, of_directive, limits_of, with_search, seen_in}
+
+abbrev pub next_refusals : {T : Type 0} → Next T → List Refusal
+next_refusals (Item t d) = []
+next_refusals Done = []
+next_refusals (NeedsAtoms p) = RefusalFull p ∷ []
+next_refusals (Retry c) = RefusalAgain c ∷ []
+next_refusals (Worn w) = RefusalWorn w ∷ []
+next_refusals Memory = []
+
+-- How a search ended, by its state's end. Want of atoms is no end of a search.
+abbrev pub EndsAs : {T : Type 0} → ((ℕ → Chars) → T → Tree) → (ℕ → Chars) → How T → Ending → Type 0
+EndsAs term text Solved solved = Unit {0}
+EndsAs term text False no_more = Unit {0}
+EndsAs term text (Threw t) (threw b) = term text t ≡ b
+EndsAs term text (Exited t) (exited u) = term text t ≡ u
+EndsAs term text (Halted n) (halted k) = n ≡ k
+EndsAs term text _ _ = ⊥
+
+-- An item at hand has ended, or there is none.
+abbrev pub IsAsked : {A B : Type 0} → Option A → Option B → Type 0
+IsAsked None None = Unit {0}
+IsAsked (Some a) (Some b) = Unit {0}
+IsAsked _ _ = ⊥
+
+abbrev pub is_directive : Part → Bool
+is_directive of_goal = false
+is_directive (of_directive place rest) = true
+
+-- What is written of the file, with the texts of a directive that has not been reported.
+abbrev pub texts_at : Activity → List Consulted
+texts_at (directing place rest s) = texts_of s.output
+texts_at _ = []
+
+abbrev pub written_at : Execution → List Consulted
+written_at x = x.consulted ++ texts_at x.activity
+
+-- Whatever run has come to the one state has come to the other so many moves later.
+pub record Comes (job : Job) (x : Execution) (t : Told) (y : Execution) (u : Told) : Type 0 where
+  pub engine : u.engine ≡ t.engine
+  pub goals : u.goals ≡ t.goals
+  pub moves : ℕ
+  pub comes : (low m : ℕ) → Reached t.engine t.goals job low (seen_in t x) m → Reached t.engine t.goals job low (seen_in u y) (moves + m)
+
+module _ {S T : Type 0} (execution : (ℕ → Chars) → S → List Consulted → Execution) (part : S → Option Part) (term : (ℕ → Chars) → T → Tree) where
+  -- The execution as the next item is asked for.
+  abbrev pub StandsBefore : (ℕ → Chars) → S → Option Part → Option (How T) → List Consulted → Execution → Type 0
+  StandsBefore text s None None cs x = x ≡ execution text s cs
+  StandsBefore text s (Some p) (Some how) cs x =
+      (r : State) × (ending : Ending) × (r.doing ≡ ended ending) × EndsAs term text how ending
+      × (x ≡ with_search (execution text s cs) p r)
+  StandsBefore text s _ _ cs x = ⊥
+
+  -- The execution as the next item is given, or as there is none, or as it stays at hand.
+  abbrev pub StandsAfter : (ℕ → Chars) → S → Job → Next T → List Consulted → Execution → Type 0
+  StandsAfter text s job (Item t directive) cs y =
+      (p : Part) × (part s ≡ Some p) × (is_directive p ≡ directive)
+      × (y ≡ with_search (execution text s cs) p (start (limits_of job p) (term text t)))
+  StandsAfter text s job Done cs y =
+      (ending : Ending) × (os : List Output) × (y ≡ record (execution text s cs) { activity = over ending; output = os })
+  StandsAfter text s job Memory cs y = Unit {0}
+  StandsAfter text s job _ cs y = (part s ≡ None) × (y ≡ execution text s cs)
+
+  -- Whatever execution of this script it is, it comes from the one to the other, and the text of the file with it.
+  abbrev pub Given : Script → Chars → (ℕ → Chars) → (ℕ → Chars) → S → Option (How T) → Told → List ℕ → Next T → S → Told → List ℕ → Type 0
+  Given script name old_text new_text old how t bytes next new u more =
+      (job : Job) (cs : List Consulted) (x : Execution)
+      → job.script ≡ script
+      → StandsBefore old_text old (part old) how cs x
+      → bytes ≡ encode_utf8_all (all_consulted name [] (written_at x))
+      → (ds : List Consulted) × (y : Execution)
+      × Comes job x t y u
+      × StandsAfter new_text new job next ds y
+      × (more ≡ encode_utf8_all (all_consulted name [] ds))

@@ -1,0 +1,68 @@
+//! The trait of scripts.
+ghost use Rattle.std.specs.Prelude.{◌≡◌, ◌++◌, ℕ, false, List, Option};
+ghost use Rattle.std.specs.Option.{option_map};
+ghost use Rattle.pl_term.specs.Tree.{Chars};
+ghost use Rattle.pl_model.specs.Execution.{Script as ScriptOf, Consulted, Execution};
+ghost use Rattle.world_api.specs.Texts.{text_of, Holds};
+ghost use Rattle.world_api.specs.Told.{Told, has_ended};
+ghost use Rattle.world_api.specs.Courses.{Part};
+ghost use Rattle.world_api.specs.Scripts.{IsAsked, Given, next_refusals};
+
+use crate::how::How;
+use crate::named::Named;
+use crate::world::World;
+use atom_api::{Atoms, Cause, Pass, WornWord};
+
+/// What a script has next.
+#[derive(Drop)]
+pub enum Next<T> {
+    /// A goal that is to be searched for, its variables numbered from 0 in order of first occurrence, and whether it is
+    /// that of a directive.
+    Item { goal: T, directive: bool },
+    /// There is no further item.
+    Done,
+    /// An atom of the item has no place, as that pass over all slots shows. The item stays at hand.
+    NeedsAtoms(Pass),
+    /// Others stepped in between: the call is to be made again.
+    Retry(Cause),
+    /// An atom of the item is one of a bucket that takes no new atom.
+    Worn(WornWord),
+    /// Want of memory.
+    Memory,
+}
+
+/// The items that an engine runs one after the other.
+pub trait Script {
+    /// The terms of its items.
+    type Term: Named;
+
+    // The execution that it stands for, where so much is written of the file. Where an item is at hand, its search is
+    // put into it.
+    ghost execution: { (ℕ → Chars) → Self → List Consulted → Execution };
+
+    // The part of the execution that the item at hand is, if there is one.
+    ghost part: { Self → Option Part };
+
+    // What it consults or runs, and the name of the file.
+    ghost script: { (ℕ → Chars) → Self → ScriptOf };
+
+    ghost name: { Self → Chars };
+
+    /// The next item. `ended` says how the item at hand has ended, if there is one. Lines that are written of the file
+    /// are put behind its text.
+    fn next<W: World<Term = Self::Term>>(
+        &mut self,
+        ended: Option<&How<Self::Term>>,
+        world: &mut W,
+        atoms: &mut W::A,
+        text: &mut Vec<u8>,
+    ) -> Next<Self::Term>
+        requires runs { has_ended (W.told world.old).engine (W.told world.old).history ≡ false }
+        requires asked { IsAsked (part self.old) (option_map (λ b. b.now) ended) }
+        ensures given { Given execution part Self.Term.term (script (text_of (W.A.held atoms.old)) self.old) (name self.old)
+            (text_of (W.A.held atoms.old)) (text_of (W.A.held atoms.new)) self.old (option_map (λ b. b.now) ended.entry) (W.told world.old) text.old.items
+            result self.new (W.told world.new) text.new.items }
+        ensures runs { has_ended (W.told world.new).engine (W.told world.new).history ≡ false }
+        ensures holds { Holds (W.A.held atoms.old) (W.A.held atoms.new) }
+        ensures refusals { W.A.refusals atoms.new ≡ W.A.refusals atoms.old ++ next_refusals result };
+}
