@@ -1,3 +1,5 @@
 pub mod LexRuns
 pub mod LexQuoted
 pub mod LexTokens
+pub mod LexPassing
+pub mod LexDecimals

@@ -141,7 +141,7 @@ fn is_solo(c: char) -> bool
 }
 
 /// Whether a character is a quote.
-fn is_quote(c: char) -> bool
+pub fn is_quote(c: char) -> bool
     ensures { result ≡ is_quote c }
 {
     c == '\'' || (c == '"' || c == '`')

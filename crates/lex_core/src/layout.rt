@@ -42,7 +42,7 @@ fn blank(text: &[u8], at: usize) -> Result<Option<usize>, SyntaxFault>
 }
 
 /// Whether `/*` stands at `at`, where a `/` does.
-fn begins_block(text: &[u8], at: usize) -> bool
+pub fn begins_block(text: &[u8], at: usize) -> bool
     requires { at < length text.now }
     ensures { result ≡ (slice_index (drop at text.now) 1 == 42) }
 {
@@ -82,7 +82,7 @@ fn comment(text: &[u8], at: usize, end: usize) -> Result<Option<usize>, SyntaxFa
 }
 
 /// The place of the next newline at `at` or behind it, or the end of the text.
-fn line_end(text: &[u8], at: usize) -> usize
+pub fn line_end(text: &[u8], at: usize) -> usize
     requires { at ≤ length text.now }
     ensures value { result ≡ at + line_length (drop at text.now) }
     ensures within { (at ≤ result) × (result ≤ length text.now) }
@@ -96,7 +96,7 @@ fn line_end(text: &[u8], at: usize) -> usize
 }
 
 /// The place behind the next `*/` at `at` or behind it.
-fn block_end(text: &[u8], at: usize) -> Option<usize>
+pub fn block_end(text: &[u8], at: usize) -> Option<usize>
     requires { at ≤ length text.now }
     ensures value { result ≡ option_map (λ n. at + n) (block_length (drop at text.now)) }
     ensures within { IfSome result (λ e. (at < e) × (e ≤ length text.now)) }

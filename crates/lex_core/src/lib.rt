@@ -6,10 +6,13 @@ mod characters;
 mod layout;
 mod lex_fault;
 mod numerals;
+mod passing;
 mod quoted;
 #[cfg(test)]
 mod tests;
 mod tokens;
 
 pub use lex_fault::LexFault;
+pub use passing::pass;
+pub use pl_model::skipping::Passing;
 pub use tokens::next;

@@ -25,21 +25,21 @@ pub fn numeral(bytes: &[u8]) -> Reading
 }
 
 /// Whether `0'` and one byte more stand at the front.
-fn begins_code(bytes: &[u8]) -> bool
+pub fn begins_code(bytes: &[u8]) -> bool
     ensures { result ≡ ((slice_index bytes.now 0 == 48) && ((slice_index bytes.now 1 == 39) && nat_lt 2 (length bytes.now))) }
 {
     byte_at(bytes, 0) == b'0' && (byte_at(bytes, 1) == b'\'' && 2 < bytes.len())
 }
 
 /// Whether a numeral in this radix stands at the front.
-fn begins_radix(bytes: &[u8], radix: u32) -> bool
+pub fn begins_radix(bytes: &[u8], radix: u32) -> bool
     ensures { result ≡ ((slice_index bytes.now 0 == 48) && is_digit radix (slice_index bytes.now 2)) }
 {
     byte_at(bytes, 0) == b'0' && is_digit(radix, char::from(byte_at(bytes, 2)))
 }
 
 /// The radix that a letter behind `0` stands for, or 0.
-fn radix_of(letter: u8) -> u32
+pub fn radix_of(letter: u8) -> u32
     ensures { result ≡ radix_of letter }
 {
     match letter {

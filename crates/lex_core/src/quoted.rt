@@ -46,7 +46,7 @@ fn quoted_kind(quote: char, text: Text) -> TokenKind
 }
 
 /// The number of bytes before the closing quote, or none where the text stays open.
-fn closing(bytes: &[u8], quote: char) -> Option<usize>
+pub fn closing(bytes: &[u8], quote: char) -> Option<usize>
     ensures value { result ≡ closing quote 0 bytes.now }
     ensures within { IfSome result (λ n. n < length bytes.now) }
 {

@@ -119,7 +119,7 @@ fn symbols(alloc: Global, bytes: &[u8]) -> Result<Reading, Memory>
 }
 
 /// Whether `n` symbol characters at the front are the end token.
-fn is_end_token(bytes: &[u8], n: usize) -> bool
+pub fn is_end_token(bytes: &[u8], n: usize) -> bool
     ensures { result ≡ ((n == 1) && ((slice_index bytes.now 0 == 46) && closes_clause (drop 1 bytes.now))) }
 {
     n == 1 && (byte_at(bytes, 0) == b'.' && closes_clause(bytes, 1))

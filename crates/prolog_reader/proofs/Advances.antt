@@ -1,9 +1,8 @@
 -- Turns in which reading first goes behind the token that begins a term.
-use Rattle.std.proofs.Common.{◌≡◌, ℕ, ◌+◌, ◌-◌, ◌<◌, ◌≤◌, List, [], ◌∷◌, ◌++◌, length, take, drop, Result, Ok, Err, Option, Some, None, IfOk, IfErr, Vec, Global, refl, sym, ap, subst, ◌∙◌, arith}
+use Rattle.std.proofs.Common.{◌≡◌, ℕ, ◌+◌, ◌<◌, ◌≤◌, List, [], ◌∷◌, ◌++◌, length, take, drop, Result, Ok, Err, Some, IfOk, IfErr, Vec, Global, refl, sym, ap, subst, ◌∙◌, arith}
 use Rattle.pl_term.specs.Tree.{Tree}
 use Rattle.pl_term.specs.Nodes.{nodes}
 use Rattle.pl_term.specs.declared.node.Node.{Node}
-use Rattle.pl_model.specs.declared.syntax.SyntaxFault.{SyntaxFault}
 use Rattle.pl_model.specs.declared.lexical.Lexeme.TheVariants.{Token}
 use Rattle.pl_model.specs.declared.lexical.TokenKind.{TokenKind}
 use Rattle.pl_model.specs.declared.grammar.Quotes.{Quotes}
@@ -12,9 +11,7 @@ use Rattle.pl_model.specs.LexicalTokens.{Lexed, token_at}
 use Rattle.pl_model.specs.Grammar.{Part, Outcome}
 use Rattle.pl_model.specs.TermGrammar.{Lookup, behind_mark}
 use Rattle.pl_model.proofs.TermDepth.{mark-token}
-use Rattle.pl_model.proofs.TokenPlaces.{Follows}
 use Rattle.pl_model.proofs.LexicalFollows.{token_at-follows}
-use Rattle.prolog_reader.specs.declared.names.Numbered.{Numbered}
 use Rattle.prolog_reader.specs.declared.stack.Frame.{Frame}
 use Rattle.prolog_reader.specs.declared.stack.Mode.{Mode}
 use Rattle.prolog_reader.specs.declared.stack.Mode.TheVariants.{Part as PartMode, Term as TermMode}
@@ -23,7 +20,7 @@ use Rattle.prolog_reader.specs.declared.stop.Stop.{Stop}
 use Rattle.prolog_reader.specs.declared.stop.Stop.TheVariants.{Memory, Fault}
 use Rattle.prolog_reader.specs.Names.{reading_at}
 use Rattle.prolog_reader.specs.Pieces.{spelled}
-use Rattle.prolog_reader.specs.Stack.{stack, Begins, Turns, TurnsBy, turns_left, PutsNodes, Pushes}
+use Rattle.prolog_reader.specs.Stack.{Begins, Turns, TurnsBy, turns_left, PutsNodes, Pushes}
 use Rattle.prolog_reader.proofs.Turns.{leaf-result}
 use Rattle.prolog_reader.proofs.Primaries.{PutsOne}
 

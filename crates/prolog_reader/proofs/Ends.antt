@@ -1,30 +1,27 @@
 -- The turns of reading with a stack: what takes a term that has ended.
-use Rattle.std.proofs.Common.{◌≡◌, ℕ, ◌+◌, ◌<◌, ◌≤◌, List, [], ◌∷◌, ◌++◌, length, take, drop, Result, Ok, Err, Option, Some, None, Vec, Global, codes, reverse, append_assoc, append-nil, refl, sym, ap, subst, ◌∙◌, arith, length-append}
+use Rattle.std.proofs.Common.{◌≡◌, ℕ, ◌+◌, ◌<◌, ◌≤◌, List, ◌∷◌, ◌++◌, length, take, drop, Ok, Err, Option, Some, None, Vec, Global, refl, sym, ap, subst, ◌∙◌, arith}
 use Rattle.std.proofs.lemmas.List.{take-take, length-take-le}
-use Rattle.pl_term.specs.Tree.{Chars, Tree, Trees, atom, comp, none, more, count, join}
+use Rattle.pl_term.specs.Tree.{Chars, Tree, Trees, none, more, count, join}
 use Rattle.pl_term.specs.Nodes.{nodes, nodes_all, tree, forest}
 use Rattle.pl_term.specs.declared.node.Node.{Node}
-use Rattle.pl_term.specs.declared.node.Node.TheVariants.{Atom, Comp}
+use Rattle.pl_term.specs.declared.node.Node.TheVariants.{Comp}
 use Rattle.pl_term.proofs.Spelled.{tree_spelled, nodes_spelled}
 use Rattle.pl_model.specs.declared.lexical.Mark.{Mark}
-use Rattle.pl_model.specs.declared.lexical.Mark.TheVariants.{Close, CloseList, Bar, Comma}
+use Rattle.pl_model.specs.declared.lexical.Mark.TheVariants.{Close, Comma}
 use Rattle.pl_model.specs.declared.lexical.Lexeme.TheVariants.{Token, End}
 use Rattle.pl_model.specs.declared.grammar.Quotes.{Quotes}
 use Rattle.pl_model.specs.LexicalTokens.{Lexed, token_at}
 use Rattle.pl_model.specs.Grammar.{Reading, Part, Outcome, and_then, moved}
-use Rattle.pl_model.specs.TermGrammar.{Items, Lookup, cons, list_with, behind_mark, complete, unexpected, closed_by, closed, further}
+use Rattle.pl_model.specs.TermGrammar.{Items, Lookup, behind_mark, complete, unexpected, closed_by, closed, further}
 use Rattle.pl_model.proofs.TermDepth.{whole, rest, sequence, further_at, sequence-is}
-use Rattle.prolog_reader.specs.declared.stack.Frame.{Frame}
-use Rattle.prolog_reader.specs.declared.stack.Frame.TheVariants.{Behind, Closing, Arguments, Elements}
-use Rattle.prolog_reader.specs.declared.stack.Mode.{Mode}
-use Rattle.prolog_reader.specs.declared.stack.Mode.TheVariants.{Term as TermMode, Part as PartMode, Ended, Whole}
+use Rattle.prolog_reader.specs.declared.stack.Frame.TheVariants.{Behind, Closing, Arguments}
+use Rattle.prolog_reader.specs.declared.stack.Mode.TheVariants.{Term as TermMode, Part as PartMode, Ended}
 use Rattle.prolog_reader.specs.declared.stack.Reader.{Reader}
-use Rattle.prolog_reader.specs.declared.stop.Stop.{Stop}
 use Rattle.prolog_reader.specs.Ahead.{fault_of}
 use Rattle.prolog_reader.specs.Pieces.{spelled}
-use Rattle.prolog_reader.specs.Stack.{compound_of, behind, IsFront, completed, enclosed_by, applied, tailed, listed, plug, Holds, stack, reading, part_at, IsBuilt, IsAt, IsSound, outcome, turns_left, Turns, TurnsFrom, Takes, taken, Pushes}
-use Rattle.prolog_reader.proofs.Fronts.{join-assoc, count-join, nodes_all-push, nodes-compound, forest-all, spelled-split, behind-cell, front-cell}
-use Rattle.prolog_reader.proofs.Turns.{holds-same, stack-push, push-turns, plug-fault, plug-same, turns-same}
+use Rattle.prolog_reader.specs.Stack.{compound_of, behind, completed, enclosed_by, applied, plug, Holds, stack, reading, part_at, IsBuilt, IsAt, turns_left, Takes, taken, Pushes}
+use Rattle.prolog_reader.proofs.Fronts.{join-assoc, count-join, nodes_all-push, nodes-compound, forest-all, spelled-split}
+use Rattle.prolog_reader.proofs.Turns.{holds-same, push-turns, plug-fault, plug-same}
 use Rattle.prolog_reader.proofs.Primaries.{then-pointwise, then-made}
 use Rattle.prolog_reader.proofs.Advances.{advanced, mark-follows}
 use Rattle.prolog_reader.proofs.Joins.{PutsFront}

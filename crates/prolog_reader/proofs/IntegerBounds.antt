@@ -1,16 +1,16 @@
 -- The value of an integer token is at most 2^63.
-use Rattle.std.proofs.Common.{◌≡◌, ℕ, ◌+◌, ◌-◌, ◌<◌, ◌≤◌, ◌^◌, zero, suc, Bool, true, false, cond, nat_lt, ◌==◌, ◌&&◌, ◌||◌, List, [], ◌∷◌, length, take, drop, slice_index, Option, Some, None, Result, Ok, Err, refl, sym, ap, subst, ◌∙◌, arith}
+use Rattle.std.proofs.Common.{◌≡◌, ℕ, ◌+◌, ◌<◌, ◌≤◌, ◌^◌, Bool, true, false, cond, nat_lt, ◌==◌, ◌&&◌, ◌||◌, List, [], ◌∷◌, length, take, drop, slice_index, Option, Some, None, Result, Ok, Err, refl, sym, subst, ◌∙◌, arith}
 use Rattle.std.proofs.lemmas.Bool.Decides.{nat_tests}
 use Rattle.std.proofs.lemmas.Str.{scalars-chars, IsUtf8-from_is_utf8}
 use Rattle.std.proofs.Math.Utf8.{scalar, scalar_fits}
 use Rattle.std.specs.Char.{is_ascii_digit}
-use Rattle.std.specs.Str.{all_scalars, chars, is_utf8, continuation_len}
+use Rattle.std.specs.Str.{all_scalars, chars, is_utf8}
 use Rattle.std.specs.Str.Parse.{digits_value}
 use Rattle.pl_model.specs.Tokens.{Front, nothing, scalar as scalar_front, broken, front, front_of, skip_layout, closes_clause, run}
 use Rattle.pl_model.specs.Characters.{is_symbol}
 use Rattle.pl_model.specs.LexicalCharacters.{begins}
-use Rattle.pl_model.specs.LexicalQuoted.{is_digit, digit_count, simple_escape, coded, digits_escape, four_digits_escape, simple_piece, escape, begins_with, piece_of, piece, Spelled, closed, quoted_by, quoted, closing, spelled}
-use Rattle.pl_model.specs.LexicalTokens.{integer, radix_constant, decimal_constant, coded_character, character_code, radix_of, numeral, symbols, mark_at, token_of, token_front, placed, from_start, token, token_at}
+use Rattle.pl_model.specs.LexicalQuoted.{is_digit, digit_count, simple_escape, coded, digits_escape, four_digits_escape, simple_piece, escape, begins_with, piece_of, piece, Spelled, closed, quoted_by, closing, spelled}
+use Rattle.pl_model.specs.LexicalTokens.{integer, radix_constant, decimal_constant, coded_character, character_code, radix_of, numeral, token_of, token_front, placed, from_start, token, token_at}
 use Rattle.pl_model.specs.declared.syntax.SyntaxKind.TheVariants.{BadUtf8, BadEscape, FloatNumeral, IntegerTooLarge}
 use Rattle.pl_model.specs.declared.syntax.SyntaxFault.{SyntaxFault}
 use Rattle.pl_model.specs.declared.lexical.Begins.{Begins}

@@ -1,5 +1,5 @@
 -- The turns of reading with a stack: how a left part goes on.
-use Rattle.std.proofs.Common.{◌≡◌, ℕ, ◌+◌, ◌<◌, ◌≤◌, Bool, true, false, cond, List, [], ◌∷◌, ◌++◌, length, take, drop, Result, Ok, Err, Option, Some, None, Vec, Global, codes, refl, sym, ap, subst, ◌∙◌, arith, append-nil}
+use Rattle.std.proofs.Common.{◌≡◌, ℕ, ◌<◌, ◌≤◌, Bool, true, false, cond, List, ◌∷◌, length, take, drop, Result, Ok, Err, Option, Some, None, Vec, Global, codes, refl, sym, ap, subst, ◌∙◌, arith, append-nil}
 use Rattle.pl_term.specs.Tree.{Chars, Tree, comp, more, none}
 use Rattle.pl_term.specs.Nodes.{nodes, tree}
 use Rattle.pl_term.specs.declared.node.Node.{Node}
@@ -8,7 +8,7 @@ use Rattle.pl_term.proofs.Spelled.{tree_spelled, nodes_spelled}
 use Rattle.pl_model.specs.declared.syntax.SyntaxFault.{SyntaxFault}
 use Rattle.pl_model.specs.declared.lexical.Mark.TheVariants.{Comma}
 use Rattle.pl_model.specs.declared.lexical.Lexeme.{Lexeme}
-use Rattle.pl_model.specs.declared.lexical.Lexeme.TheVariants.{Token, End}
+use Rattle.pl_model.specs.declared.lexical.Lexeme.TheVariants.{Token}
 use Rattle.pl_model.specs.declared.lexical.TokenKind.{TokenKind}
 use Rattle.pl_model.specs.declared.lexical.TokenKind.TheVariants.{Name, Quoted, Punctuation}
 use Rattle.pl_model.specs.declared.operators.Place.TheVariants.{Infix as InfixPlace, Postfix as PostfixPlace}
@@ -21,15 +21,14 @@ use Rattle.pl_model.proofs.TermDepth.{whole, rest, rest-is}
 use Rattle.prolog_reader.specs.declared.operations.Joining.{Joining}
 use Rattle.prolog_reader.specs.declared.operations.Operation.{Operation}
 use Rattle.prolog_reader.specs.declared.operations.Operation.TheVariants.{Infix, Postfix, Ends}
-use Rattle.prolog_reader.specs.declared.stack.Frame.{Frame}
 use Rattle.prolog_reader.specs.declared.stack.Frame.TheVariants.{Behind}
 use Rattle.prolog_reader.specs.declared.stack.Mode.{Mode}
-use Rattle.prolog_reader.specs.declared.stack.Mode.TheVariants.{Term as TermMode, Part as PartMode, Ended, Whole}
+use Rattle.prolog_reader.specs.declared.stack.Mode.TheVariants.{Term as TermMode, Part as PartMode, Ended}
 use Rattle.prolog_reader.specs.declared.stack.Reader.{Reader}
 use Rattle.prolog_reader.specs.declared.stop.Stop.{Stop}
 use Rattle.prolog_reader.specs.Operations.{is_fitting, operation_by, operation_of, joining_named, joining_ahead}
 use Rattle.prolog_reader.specs.Pieces.{spelled}
-use Rattle.prolog_reader.specs.Stack.{completed, joined, joined_by, plug, Holds, stack, reading, part_at, IsBuilt, IsAt, IsSound, outcome, turns_left, Turns, TurnsFrom, Joins, Pushes}
+use Rattle.prolog_reader.specs.Stack.{completed, joined, joined_by, plug, Holds, stack, reading, part_at, IsAt, IsSound, outcome, turns_left, Turns, TurnsFrom, Joins, Pushes}
 use Rattle.prolog_reader.proofs.Fronts.{behind-infix, front-infix}
 use Rattle.prolog_reader.proofs.Turns.{holds-same, plug-same, plug-fault, push-turns, turns-same}
 use Rattle.prolog_reader.proofs.Primaries.{then-pointwise}

@@ -1,34 +1,31 @@
 -- The turns of reading with a stack: the elements of lists, and the frame that is popped.
-use Rattle.std.proofs.Common.{◌≡◌, ℕ, ◌+◌, ◌<◌, ◌≤◌, List, [], ◌∷◌, ◌++◌, length, take, drop, Result, Ok, Err, Option, Some, None, Vec, Global, codes, reverse, append_assoc, append-nil, refl, sym, ap, subst, ◌∙◌, arith, length-append}
+use Rattle.std.proofs.Common.{◌≡◌, ℕ, ◌+◌, ◌<◌, ◌≤◌, List, [], ◌∷◌, ◌++◌, length, take, drop, Result, Ok, Err, Option, Some, None, Vec, Global, codes, reverse, refl, sym, ap, subst, ◌∙◌, arith, length-append}
 use Rattle.std.proofs.lemmas.List.{take-take, length-take-le}
-use Rattle.pl_term.specs.Tree.{Chars, Tree, Trees, atom, comp, none, more, count, join}
-use Rattle.pl_term.specs.Nodes.{nodes, nodes_all, tree, forest}
+use Rattle.pl_term.specs.Tree.{Chars, Tree, atom, none}
+use Rattle.pl_term.specs.Nodes.{nodes, tree}
 use Rattle.pl_term.specs.declared.node.Node.{Node}
 use Rattle.pl_term.specs.declared.node.Node.TheVariants.{Atom, Comp}
-use Rattle.pl_term.proofs.Spelled.{tree_spelled, nodes_spelled}
-use Rattle.pl_model.specs.declared.lexical.Mark.{Mark}
-use Rattle.pl_model.specs.declared.lexical.Mark.TheVariants.{Close, CloseList, Bar, Comma}
-use Rattle.pl_model.specs.declared.lexical.Lexeme.TheVariants.{Token, End}
+use Rattle.pl_model.specs.declared.lexical.Mark.TheVariants.{CloseList, Bar, Comma}
 use Rattle.pl_model.specs.declared.grammar.Quotes.{Quotes}
-use Rattle.pl_model.specs.LexicalTokens.{Lexed, token_at}
+use Rattle.pl_model.specs.LexicalTokens.{token_at}
 use Rattle.pl_model.specs.Grammar.{Reading, Part, Outcome, and_then, moved}
-use Rattle.pl_model.specs.TermGrammar.{Items, Lookup, cons, list_with, behind_mark, complete, unexpected, closed_by, closed, further}
-use Rattle.pl_model.proofs.TermDepth.{whole, rest, sequence, further_at, sequence-is}
+use Rattle.pl_model.specs.TermGrammar.{Items, Lookup, list_with, behind_mark, closed}
+use Rattle.pl_model.proofs.TermDepth.{whole, rest, further_at}
 use Rattle.prolog_reader.specs.declared.stack.Frame.{Frame}
-use Rattle.prolog_reader.specs.declared.stack.Frame.TheVariants.{Behind, Closing, Arguments, Elements}
+use Rattle.prolog_reader.specs.declared.stack.Frame.TheVariants.{Closing, Elements}
 use Rattle.prolog_reader.specs.declared.stack.Mode.{Mode}
 use Rattle.prolog_reader.specs.declared.stack.Mode.TheVariants.{Term as TermMode, Part as PartMode, Ended, Whole}
 use Rattle.prolog_reader.specs.declared.stack.Reader.{Reader}
 use Rattle.prolog_reader.specs.declared.stop.Stop.{Stop}
 use Rattle.prolog_reader.specs.Ahead.{fault_of}
 use Rattle.prolog_reader.specs.Pieces.{spelled}
-use Rattle.prolog_reader.specs.Stack.{compound_of, behind, IsFront, completed, enclosed_by, applied, tailed, listed, plug, Holds, stack, reading, part_at, IsBuilt, IsAt, IsSound, outcome, turns_left, Turns, TurnsFrom, Takes, taken, Pushes}
-use Rattle.prolog_reader.proofs.Fronts.{join-assoc, count-join, nodes_all-push, nodes-compound, forest-all, spelled-split, behind-cell, front-cell}
+use Rattle.prolog_reader.specs.Stack.{behind, enclosed_by, tailed, listed, plug, Holds, stack, reading, part_at, IsBuilt, IsAt, IsSound, outcome, turns_left, TurnsFrom, Takes, taken, Pushes}
+use Rattle.prolog_reader.proofs.Fronts.{spelled-split, behind-cell, front-cell}
 use Rattle.prolog_reader.proofs.Turns.{holds-same, stack-push, push-turns, plug-fault, plug-same, turns-same}
-use Rattle.prolog_reader.proofs.Primaries.{then-pointwise, then-made}
-use Rattle.prolog_reader.proofs.Advances.{advanced, mark-follows}
+use Rattle.prolog_reader.proofs.Primaries.{then-pointwise}
+use Rattle.prolog_reader.proofs.Advances.{mark-follows}
 use Rattle.prolog_reader.proofs.Joins.{PutsFront}
-use Rattle.prolog_reader.proofs.Ends.{closed-none, closed-some, grown, further-none, pushed, sequence-more}
+use Rattle.prolog_reader.proofs.Ends.{closed-none, closed-some, further-none, pushed, sequence-more}
 
 -- The cells of a list with one more element.
 record Celled {Z : Type 0} (front : List Node) (t : Tree) (old new : List (Vec Node Z)) (start last : ℕ) : Type 0 where

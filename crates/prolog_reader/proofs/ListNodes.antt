@@ -3,7 +3,7 @@ use Rattle.std.proofs.Common.{◌≡◌, ℕ, ℤ, List, [], ◌∷◌, ◌++◌
 use Rattle.std.specs.Char.{IsScalar, encode_utf8}
 use Rattle.std.specs.Str.{chars, encode_utf8_all, IsUtf8}
 use Rattle.std.proofs.lemmas.Str.{chars_from_encodes, chars_past_char, chars-nil, IsUtf8-encode}
-use Rattle.pl_term.specs.Tree.{Chars, Tree, int, atom}
+use Rattle.pl_term.specs.Tree.{Chars}
 use Rattle.pl_term.specs.Nodes.{nodes}
 use Rattle.pl_term.specs.declared.node.Node.{Node}
 use Rattle.pl_term.specs.declared.node.Node.TheVariants.{Comp, Int, Atom}

@@ -1,5 +1,5 @@
 -- The turns of reading with a stack: what begins a term.
-use Rattle.std.proofs.Common.{◌≡◌, ℕ, ◌+◌, ◌-◌, ◌^◌, ◌<◌, ◌≤◌, true, false, Bool, cond, nat_lt, ◌==◌, List, [], ◌∷◌, ◌++◌, length, take, drop, Result, Ok, Err, Option, Some, None, Vec, Global, codes, pos, slice_index, refl, sym, ap, subst, ◌∙◌, arith}
+use Rattle.std.proofs.Common.{◌≡◌, ℕ, ◌+◌, ◌^◌, ◌<◌, ◌≤◌, true, false, cond, nat_lt, ◌==◌, List, [], ◌∷◌, length, take, drop, Ok, Err, Option, Some, None, Vec, Global, codes, pos, slice_index, refl, sym, ap, subst, ◌∙◌, arith}
 use Rattle.std.proofs.lemmas.Bool.{cond-true, cond-false}
 use Rattle.std.proofs.lemmas.Bool.Decides.{nat_tests}
 use Rattle.std.proofs.lemmas.List.{take_all, drop_all}
@@ -20,21 +20,17 @@ use Rattle.pl_model.specs.declared.grammar.Quotes.{Quotes}
 use Rattle.pl_model.specs.declared.grammar.Quotes.TheVariants.{Atom as AtomText}
 use Rattle.pl_model.specs.OperatorTable.{Entry}
 use Rattle.pl_model.specs.LexicalTokens.{Lexed, token_at}
-use Rattle.pl_model.specs.Grammar.{Reading, Part, Outcome, and_then, moved, refused}
-use Rattle.pl_model.specs.TermGrammar.{Items, Lookup, is_too_long, list_with, behind_mark, closed, right_argument, functional, named_term, atom_or_operator, prefix_term, stands_alone, list_term, with_tail, curly_term, complete, enclosed, negative, double_quoted, integer, is_minus}
+use Rattle.pl_model.specs.Grammar.{Reading, Part, Outcome, and_then, moved}
+use Rattle.pl_model.specs.TermGrammar.{Items, Lookup, list_with, behind_mark, closed, right_argument, functional, named_term, atom_or_operator, prefix_term, stands_alone, list_term, with_tail, curly_term, complete, enclosed, negative, double_quoted, integer}
 use Rattle.pl_model.proofs.TermDepth.{whole, rest, sequence, further_at, sequence-is}
-use Rattle.prolog_reader.specs.declared.names.Numbered.{Numbered}
-use Rattle.prolog_reader.specs.declared.stack.Frame.{Frame}
 use Rattle.prolog_reader.specs.declared.stack.Frame.TheVariants.{Behind, Closing, Arguments, Elements}
-use Rattle.prolog_reader.specs.declared.stack.Mode.{Mode}
-use Rattle.prolog_reader.specs.declared.stack.Mode.TheVariants.{Term as TermMode, Part as PartMode, Whole}
+use Rattle.prolog_reader.specs.declared.stack.Mode.TheVariants.{Term as TermMode}
 use Rattle.prolog_reader.specs.declared.stack.Reader.{Reader}
 use Rattle.prolog_reader.specs.Ahead.{fault_of, integer_ahead}
-use Rattle.prolog_reader.specs.Names.{reading_at}
 use Rattle.prolog_reader.specs.Pieces.{spelled}
-use Rattle.prolog_reader.specs.Stack.{behind, IsFront, completed, enclosed_by, applied, tailed, listed, in_parentheses, plug, going, Holds, stack, reading, Begins, turns_left, TurnsBy, PutsNodes, Pushes}
+use Rattle.prolog_reader.specs.Stack.{completed, enclosed_by, applied, tailed, listed, in_parentheses, Holds, stack, reading, Begins, turns_left, TurnsBy, Pushes}
 use Rattle.prolog_reader.proofs.Fronts.{behind-none, front-none, behind-prefix, front-prefix}
-use Rattle.prolog_reader.proofs.Turns.{holds-same, plug-same, push-turns, leaf-turns}
+use Rattle.prolog_reader.proofs.Turns.{holds-same, plug-same, push-turns}
 
 -- Outcomes one behind the other.
 

@@ -1,10 +1,10 @@
 -- The turn that begins a term, from the token that was taken.
-use Rattle.std.proofs.Common.{◌≡◌, ℕ, ◌<◌, ◌≤◌, List, length, Result, Ok, Err, refl, sym, ap, subst, ◌∙◌, arith}
+use Rattle.std.proofs.Common.{◌≡◌, ℕ, List, Result, Ok, Err, refl, sym, subst, ◌∙◌, arith}
 use Rattle.pl_model.specs.declared.lexical.TokenKind.{TokenKind}
 use Rattle.pl_model.specs.declared.lexical.Lexeme.TheVariants.{Token, End}
 use Rattle.pl_model.specs.declared.syntax.SyntaxFault.{SyntaxFault}
 use Rattle.pl_model.specs.declared.grammar.Quotes.{Quotes}
-use Rattle.pl_model.specs.LexicalTokens.{Lexed, token_at}
+use Rattle.pl_model.specs.LexicalTokens.{Lexed}
 use Rattle.pl_model.specs.Grammar.{Part, Outcome}
 use Rattle.pl_model.specs.TermGrammar.{Lookup, primary}
 use Rattle.pl_model.proofs.TermDepth.{whole, sequence}

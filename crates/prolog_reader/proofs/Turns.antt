@@ -1,6 +1,6 @@
 -- The turns of reading with a stack, each an equation of the grammar: leaves and frames.
-use Rattle.std.proofs.Common.{◌≡◌, ℕ, ◌+◌, ◌-◌, ◌<◌, ◌≤◌, List, [], ◌∷◌, ◌++◌, length, take, drop, Result, Ok, Err, IfOk, IfErr, Vec, reverse, refl, sym, ap, subst, ◌∙◌, arith, length-append}
-use Rattle.pl_term.specs.Tree.{Chars, Tree}
+use Rattle.std.proofs.Common.{◌≡◌, ℕ, ◌+◌, ◌<◌, ◌≤◌, List, [], ◌∷◌, ◌++◌, length, take, drop, Result, Ok, Err, IfOk, IfErr, Vec, reverse, refl, sym, ap, subst, ◌∙◌, arith, length-append}
+use Rattle.pl_term.specs.Tree.{Tree}
 use Rattle.pl_term.specs.Nodes.{nodes}
 use Rattle.pl_term.specs.declared.node.Node.{Node}
 use Rattle.pl_term.proofs.Spelled.{tree_spelled, nodes_spelled}
@@ -9,7 +9,7 @@ use Rattle.pl_model.specs.declared.lexical.TokenKind.{TokenKind}
 use Rattle.pl_model.specs.declared.lexical.Lexeme.TheVariants.{Token}
 use Rattle.pl_model.specs.declared.grammar.Quotes.{Quotes}
 use Rattle.pl_model.specs.LexicalTokens.{Lexed, token_at}
-use Rattle.pl_model.specs.Grammar.{Reading, Part, Outcome, and_then, moved}
+use Rattle.pl_model.specs.Grammar.{Reading, Part, Outcome, moved}
 use Rattle.pl_model.specs.TermGrammar.{Lookup, primary}
 use Rattle.pl_model.proofs.TermDepth.{whole, rest, sequence, whole-is}
 use Rattle.pl_model.proofs.TokenPlaces.{Follows}
@@ -24,7 +24,7 @@ use Rattle.prolog_reader.specs.declared.stop.Stop.{Stop}
 use Rattle.prolog_reader.specs.declared.stop.Stop.TheVariants.{Memory, Fault}
 use Rattle.prolog_reader.specs.Names.{reading_at}
 use Rattle.prolog_reader.specs.Pieces.{spelled}
-use Rattle.prolog_reader.specs.Stack.{plug, going, Holds, stack, reading, part_at, IsBuilt, IsAt, IsSound, outcome, turns_left, Turns, TurnsBy, PutsNodes, Pushes}
+use Rattle.prolog_reader.specs.Stack.{plug, going, Holds, stack, reading, part_at, IsBuilt, IsAt, outcome, turns_left, Turns, TurnsBy, PutsNodes, Pushes}
 use Rattle.prolog_reader.proofs.Fronts.{reverse-push}
 
 -- The token ahead lies behind the place of the reader.

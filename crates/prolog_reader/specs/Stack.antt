@@ -4,14 +4,13 @@ use Rattle.std.specs.Prelude.{◌≡◌, ℕ, List, [], ◌∷◌, ◌++◌, Res
 use Rattle.pl_term.specs.Tree.{Chars, Tree, Trees, atom, comp, none, more, count, join}
 use Rattle.pl_term.specs.Nodes.{nodes, nodes_all, forest, tree}
 use Rattle.pl_term.specs.declared.node.Node.{Node}
-use Rattle.pl_model.specs.declared.syntax.SyntaxFault.{SyntaxFault}
 use Rattle.pl_model.specs.declared.lexical.Mark.{Mark}
 use Rattle.pl_model.specs.declared.lexical.Mark.TheVariants.{Close, CloseList, Bar}
 use Rattle.pl_model.specs.declared.grammar.Quotes.{Quotes}
-use Rattle.pl_model.specs.LexicalTokens.{Lexed, token_at}
+use Rattle.pl_model.specs.LexicalTokens.{token_at}
 use Rattle.pl_model.specs.Grammar.{Reading, Part, Outcome, and_then, moved}
 use Rattle.pl_model.specs.TermGrammar.{Items, Lookup, list_with, behind_mark, closed}
-use Rattle.pl_model.proofs.TermDepth.{whole, rest, sequence, further_at}
+use Rattle.pl_model.proofs.TermDepth.{whole, rest, further_at}
 use Rattle.prolog_reader.specs.declared.operations.Joining.{Joining}
 use Rattle.prolog_reader.specs.declared.operations.Operation.{Operation}
 use Rattle.prolog_reader.specs.declared.operations.Operation.TheVariants.{Infix, Postfix, Ends}

@@ -9,9 +9,11 @@ mod operations;
 mod pieces;
 mod primary;
 mod read;
+mod skipping;
 mod stack;
 mod stop;
 
 pub use names::NamedVariable;
 pub use pl_model::grammar::Quotes;
 pub use read::{Read, read_term};
+pub use skipping::skip;

@@ -1,4 +1,4 @@
-use Rattle.std.proofs.Common.{◌≡◌, ◌∙◌, ◌&&◌, Bool, refl, sym, ap, codes, slice_index}
+use Rattle.std.proofs.Common.{◌∙◌, ◌&&◌, Bool, refl, sym, ap, codes, slice_index}
 use Rattle.std.specs.Char.{is_ascii_digit}
 use Rattle.prolog_reader.proofs.NameTexts.{same_name, other_name, chars-minus}
 use Rattle.prolog_reader.proofs.ahead.is_minus.Goals as goal

@@ -1,8 +1,8 @@
-use Rattle.std.proofs.Common.{◌≡◌, Ok, Err, refl, sym, ap, subst, ◌∙◌}
+use Rattle.std.proofs.Common.{◌≡◌, Ok, Err, sym, ap, subst, ◌∙◌}
 use Rattle.pl_model.specs.OperatorTable.{operator_at}
 use Rattle.pl_model.specs.declared.lexical.Lexeme.{Lexeme}
 use Rattle.pl_model.specs.declared.lexical.Lexeme.TheVariants.{Token, End}
-use Rattle.pl_model.specs.LexicalTokens.{Lexed, token_at}
+use Rattle.pl_model.specs.LexicalTokens.{token_at}
 use Rattle.pl_model.specs.Grammar.{Item}
 use Rattle.prolog_reader.specs.Items.{Reads}
 use Rattle.prolog_reader.proofs.Clauses.{item-token, place-inside}

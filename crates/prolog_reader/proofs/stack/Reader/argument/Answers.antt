@@ -1,4 +1,3 @@
-use Rattle.std.proofs.Common.{◌≡◌}
 use Rattle.prolog_reader.proofs.Ends.{argument-fault, argument-closes, argument-goes_on}
 use Rattle.prolog_reader.proofs.stack.Reader.argument.Goals as goal
 

@@ -1,4 +1,3 @@
-use Rattle.std.proofs.Common.{◌≡◌}
 use Rattle.prolog_reader.proofs.Ends.{close-fault, close-turns}
 use Rattle.prolog_reader.proofs.stack.Reader.close.Goals as goal
 

@@ -1,6 +1,5 @@
-use Rattle.std.proofs.Common.{◌≡◌, Ok, ◌∷◌, [], ◌∙◌, List, codes, length, refl, sym, ap, subst, rules}
+use Rattle.std.proofs.Common.{◌≡◌, Ok, ◌∷◌, [], ◌∙◌, length, refl, sym, ap, subst, rules}
 use Rattle.pl_term.specs.Tree.{Chars, Tree, atom}
-use Rattle.pl_term.specs.declared.node.Node.{Node}
 use Rattle.pl_term.specs.declared.node.Node.TheVariants.{Atom, Comp}
 use Rattle.pl_model.specs.declared.lexical.Mark.TheVariants.{CloseCurly}
 use Rattle.pl_model.specs.Grammar.{Part, Outcome, moved}

@@ -1,4 +1,4 @@
-use Rattle.std.proofs.Common.{◌≡◌, ◌≤◌, ◌∷◌, [], ◌∙◌, refl, ap, sym, arith}
+use Rattle.std.proofs.Common.{◌∷◌, [], ◌∙◌, refl, ap, arith}
 use Rattle.pl_term.specs.Tree.{atom}
 use Rattle.pl_term.specs.declared.node.Node.TheVariants.{Atom}
 use Rattle.pl_model.specs.declared.syntax.SyntaxKind.TheVariants.{AtomTooLong}

@@ -1,4 +1,4 @@
-use Rattle.std.proofs.Common.{◌≡◌, ◌∷◌, ◌∙◌, codes, drop, ap}
+use Rattle.std.proofs.Common.{◌∷◌, ◌∙◌, codes, drop, ap}
 use Rattle.pl_term.specs.declared.node.Node.{Node}
 use Rattle.pl_term.specs.declared.node.Node.TheVariants.{Comp}
 use Rattle.prolog_reader.specs.Pieces.{spelled}

@@ -1,4 +1,4 @@
-use Rattle.std.proofs.Common.{◌≡◌, Ok, sym, ap}
+use Rattle.std.proofs.Common.{Ok, sym, ap}
 use Rattle.pl_model.specs.declared.lexical.Mark.{Mark}
 use Rattle.pl_model.specs.declared.lexical.Lexeme.TheVariants.{Token}
 use Rattle.pl_model.specs.declared.lexical.TokenKind.TheVariants.{Punctuation}

@@ -1,6 +1,5 @@
 use Rattle.std.proofs.Common.{◌≡◌, Ok, ◌++◌, ◌∷◌, [], arith, rules}
 use Rattle.std.proofs.lemmas.List.{nil_from_length}
-use Rattle.prolog_reader.specs.Stack.{stack, IsAt, IsBuilt}
 use Rattle.prolog_reader.specs.declared.stack.Frame.TheVariants.{Behind, Closing, Arguments, Elements}
 use Rattle.prolog_reader.specs.declared.stack.Mode.TheVariants.{Part as PartMode}
 use Rattle.prolog_reader.proofs.Ends.{behind-turns}

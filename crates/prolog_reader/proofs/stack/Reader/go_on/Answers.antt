@@ -1,4 +1,4 @@
-use Rattle.std.proofs.Common.{◌≡◌, Ok, Err, Some, None, ◌∙◌, refl, sym, ap, arith}
+use Rattle.std.proofs.Common.{Ok, Some, None, ◌∙◌, refl, sym, ap, arith}
 use Rattle.pl_model.specs.OperatorTable.{operator_at}
 use Rattle.pl_model.specs.declared.lexical.Lexeme.{Lexeme}
 use Rattle.prolog_reader.specs.declared.stack.Mode.TheVariants.{Ended}

@@ -1,4 +1,4 @@
-use Rattle.std.proofs.Common.{◌<◌, ◌^◌, ◌≡◌, ◌∷◌, [], ℤ, IfOk, pos, refl, subst, arith, w64}
+use Rattle.std.proofs.Common.{◌<◌, ◌^◌, ◌∷◌, [], ℤ, IfOk, pos, refl, subst, arith, w64}
 use Rattle.std.proofs.lemmas.Int.{to_z_pos}
 use Rattle.pl_term.specs.Tree.{int}
 use Rattle.pl_term.specs.declared.node.Node.TheVariants.{Int}

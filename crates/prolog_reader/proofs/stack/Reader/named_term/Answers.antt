@@ -1,4 +1,4 @@
-use Rattle.std.proofs.Common.{◌≡◌, ◌+◌, ◌∷◌, [], Some, None, ◌∙◌, refl, sym, ap, arith}
+use Rattle.std.proofs.Common.{◌∷◌, [], Some, None, ◌∙◌, refl, sym, arith}
 use Rattle.pl_term.specs.Tree.{atom}
 use Rattle.pl_term.specs.declared.node.Node.TheVariants.{Atom}
 use Rattle.pl_model.specs.OperatorTable.{operator_at}

@@ -1,9 +1,8 @@
-use Rattle.std.proofs.Common.{◌≡◌, ℤ, Ok, IfOk, ◌∷◌, [], ◌∙◌, pos, refl, sym, ap, subst, rules, w64}
+use Rattle.std.proofs.Common.{ℤ, Ok, IfOk, ◌∷◌, [], ◌∙◌, refl, sym, ap, subst, rules, w64}
 use Rattle.std.proofs.lemmas.Int.{to_z-of_z}
 use mir.Val.{SFits}
 use Rattle.pl_term.specs.Tree.{Tree, int}
 use Rattle.pl_term.specs.declared.node.Node.TheVariants.{Int}
-use Rattle.pl_model.specs.declared.lexical.Lexeme.TheVariants.{Token}
 use Rattle.pl_model.specs.declared.lexical.TokenKind.TheVariants.{Integer}
 use Rattle.pl_model.specs.Grammar.{Part, Outcome}
 use Rattle.pl_model.specs.TermGrammar.{negative}

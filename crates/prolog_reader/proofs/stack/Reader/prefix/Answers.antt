@@ -1,4 +1,4 @@
-use Rattle.std.proofs.Common.{◌≡◌, ◌≤◌, ◌<◌, Some, Ok, Err, ◌∷◌, [], ◌∙◌, true, false, length, refl, sym, ap, subst, rules, arith}
+use Rattle.std.proofs.Common.{◌≡◌, Some, Ok, ◌∷◌, [], ◌∙◌, length, refl, sym, ap, subst, rules, arith}
 use Rattle.pl_term.specs.Tree.{atom}
 use Rattle.pl_term.specs.declared.node.Node.TheVariants.{Atom, Comp}
 use Rattle.pl_model.specs.declared.syntax.SyntaxKind.TheVariants.{PriorityClash}

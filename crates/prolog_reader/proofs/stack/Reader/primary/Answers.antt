@@ -1,6 +1,5 @@
-use Rattle.std.proofs.Common.{◌≡◌, Ok, Err, ◌∙◌, length, refl, sym, ap}
+use Rattle.std.proofs.Common.{Ok, Err, ◌∙◌, length, refl, sym, ap}
 use Rattle.pl_model.specs.OperatorTable.{operator_at}
-use Rattle.pl_model.specs.LexicalTokens.{Lexed}
 use Rattle.pl_model.specs.declared.lexical.Lexeme.{Lexeme}
 use Rattle.pl_model.specs.declared.lexical.Lexeme.TheVariants.{Token, End}
 use Rattle.pl_model.specs.declared.syntax.SyntaxKind.TheVariants.{UnexpectedEnd}

@@ -1,9 +1,8 @@
-use Rattle.std.proofs.Common.{◌≡◌, Ok, ◌∙◌, refl, sym, ap, arith}
+use Rattle.std.proofs.Common.{Ok, ◌∙◌, sym, ap, arith}
 use Rattle.std.proofs.lemmas.Bool.{cond-true, cond-false}
 use Rattle.pl_model.specs.OperatorTable.{operator_at}
 use Rattle.pl_model.specs.declared.lexical.Lexeme.TheVariants.{Token}
 use Rattle.pl_model.specs.declared.lexical.TokenKind.{TokenKind}
-use Rattle.pl_model.specs.declared.lexical.TokenKind.TheVariants.{Name}
 use Rattle.pl_model.specs.declared.syntax.SyntaxKind.TheVariants.{UnexpectedToken}
 use Rattle.pl_model.specs.LexicalTokens.{token_at}
 use Rattle.pl_model.specs.Grammar.{Part, Outcome}
