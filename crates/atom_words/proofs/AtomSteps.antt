@@ -1,15 +1,17 @@
 -- Each step on an atom word keeps the rule.
-use Rattle.std.proofs.Common.{◌≡◌, ◌≢◌, ◌⊎◌, ℕ, ◌+◌, ◌-◌, ◌<◌, ◌≤◌, ◌==◌, ◌&&◌, true, false, List, ◌++◌, length, get_or, set, refl, sym, ap, ◌∙◌, subst, inl, inr, ⊎_elim, arith, Some, take_all, length-set, eqb-true, get_or-set_same}
+use Rattle.std.proofs.Common.{◌≡◌, ◌≢◌, ◌⊎◌, ℕ, ◌+◌, ◌-◌, ◌<◌, ◌≤◌, ◌==◌, ◌&&◌, not, true, false, List, ◌++◌, length, get_or, set, refl, sym, ap, ◌∙◌, subst, inl, inr, ⊎_elim, arith, Some, take_all, length-set, eqb-true, get_or-set_same}
 use mathlib.Core.Option.{some}
 use mathlib.Core.Logic.{dite}
 use native.Mathlib.Decide.{dec_le}
 use lib.ListN.{get_elem?}
 use Rattle.atomic_table.proofs.Lists.{at_set}
 use Rattle.atom_words.specs.Layout.{state_of, count_of}
+use Rattle.atom_words.specs.Texts.{bucket}
 use Rattle.atom_words.specs.Board.{Board, text_of, with_atom}
-use Rattle.atom_words.specs.Chains.{In}
+use Rattle.atom_words.specs.Chains.{In, Chain, Linked}
 use Rattle.atom_words.specs.Views.{uncounted}
 use Rattle.atom_words.specs.Kinds.{marked, fresh, held_own, held_counted, counted, once_more, once_less, guarding, view_after, Does}
+use Rattle.atom_words.specs.Plays.{Alone}
 use Rattle.atom_words.specs.Kept.{OwnOk, HeldOk, CountsOk, WalkOk, SeatOk, Kept}
 use Rattle.atom_words.specs.declared.size.Size.{Size}
 use Rattle.atom_words.specs.declared.view.Held.{Held}
@@ -19,13 +21,17 @@ use Rattle.atom_words.specs.declared.view.Walk.{Walk}
 use Rattle.atom_words.specs.declared.view.View.{View}
 use Rattle.atom_words.specs.declared.kind.Kind.TheVariants.{Reserve, Validate, Release, Protect, Fetch, Register, Unregister}
 use Rattle.atom_words.proofs.Layouts.{state-marked, count-marked}
-use Rattle.atom_words.proofs.Slices.{some_same, or_true, and_true, at_snoc, or_at, word_after, text_short}
+use Rattle.atom_words.proofs.Slices.{some_same, or_true, and_true, not_equal, chain_at, at_snoc, or_at, word_after, text_short}
 use Rattle.atom_words.proofs.Puts.{put, put_here, put_else, unmapped}
 use Rattle.atom_words.proofs.Frames.{held_stays, own_stays, counts_stay, walk_stays, Soft, soft_valid, soft_count, keep_atom}
 
 module _ (z : Size) (b : Board) (vs : List View) (r : Kept z b vs) (id : ℕ) (v : View) (s : SeatOk z b r.plan id v) where
   in_atoms : (k : ℕ) → k < z.slots → k < length b.atoms
   in_atoms k h = omega (arith, r.sized.atoms)
+
+  -- a linked slot is not free
+  not_free : (k : ℕ) → Linked z.heads r.plan.chain k → state_of (get_or b.atoms k 0) ≡ 0 → ⊥
+  not_free k l free = ⊎_elim (λ (e : state_of (get_or b.atoms k 0) ≡ 1). omega arith) (λ (e : state_of (get_or b.atoms k 0) ≡ 3). omega arith) (r.slots.live k l)
 
   -- what the seat knows, after the atom word k became x, beside its own slot, its counts and its walk
   knows : (k x : ℕ) (owner' : ℕ → ℕ) (w : View) → Soft z b.atoms r.plan owner' id k x → w.size ≡ v.size
@@ -69,7 +75,7 @@ module _ (z : Size) (b : Board) (vs : List View) (r : Kept z b vs) (id : ℕ) (v
         mine = λ e. absurd (omega arith);
         others = λ q ne. put_else r.plan.owner k id q ne;
         count = inl (sym none_counted);
-        live = λ l. absurd (r.slots.live k l free);
+        live = λ l. absurd (not_free k l free);
         zero = λ _. refl;
         shut = λ _ _ e. absurd (omega arith);
       } in
@@ -82,7 +88,7 @@ module _ (z : Size) (b : Board) (vs : List View) (r : Kept z b vs) (id : ℕ) (v
         short = omega arith;
         text = refl;
         link = λ l no. cc;
-        apart = λ _ l. r.slots.live k l free;
+        apart = λ _ l. not_free k l free;
         linked = λ no. cc;
       })
       (held_as k 1 (put r.plan.owner k id) soft) refl (counts_as k 1 (put r.plan.owner k id) soft (sym none_counted)) (walk_as k 1 (put r.plan.owner k id) soft))
@@ -96,7 +102,7 @@ module _ (z : Size) (b : Board) (vs : List View) (r : Kept z b vs) (id : ℕ) (v
         mine = λ _. inl ok.mine;
         others = λ q _. refl;
         count = inl (sym none_counted);
-        live = λ _ e. cc;
+        live = λ _. inr refl;
         zero = λ n. absurd (n refl);
         shut = λ f l _. ⊎_elim (λ (t : o.slot < z.fixed). absurd (omega arith)) (λ (t : 256 ≤ o.slot). absurd (omega arith)) ok.usable;
       } in
@@ -141,7 +147,7 @@ module _ (z : Size) (b : Board) (vs : List View) (r : Kept z b vs) (id : ℕ) (v
     mine = λ e. inr (state-marked n ∙ e, refl);
     others = λ q _. refl;
     count = inl (count-marked n);
-    live = λ l e. r.slots.live k l (sym (state-marked n) ∙ e);
+    live = λ l. ⊎_elim (λ (e : state_of (get_or b.atoms k 0) ≡ 1). inl (state-marked n ∙ e)) (λ (e : state_of (get_or b.atoms k 0) ≡ 3). inr (state-marked n ∙ e)) (r.slots.live k l);
     zero = λ ne. count-marked n ∙ r.slots.zero k (λ e. ne (state-marked n ∙ e));
     shut = λ _ _ e. state-marked n ∙ e;
   }
@@ -165,12 +171,16 @@ module _ (z : Size) (b : Board) (vs : List View) (r : Kept z b vs) (id : ℕ) (v
       reached = u.reached;
       each = u.each;
       inside = u.inside;
+      few = u.few;
       part = u.part;
       guard = λ q at g. ⊎_elim (u.guard q at)
-          (λ (t : ((w.place == k + 1) && (state_of x == 3)) ≡ true). let both = and_true (w.place == k + 1) (state_of x == 3) t in let here : w.place ≡ k + 1 = eqb-true w.place (k + 1) both.0 in let there : k ≡ q = omega arith in
-          let valid : state_of x ≡ 3 = eqb-true (state_of x) 3 both.1 in
+          (λ (t : ((w.place == k + 1) && not (state_of x == 1)) ≡ true). let both = and_true (w.place == k + 1) (not (state_of x == 1)) t in let here : w.place ≡ k + 1 = eqb-true w.place (k + 1) both.0 in let there : k ≡ q = omega arith in
+          let not_reserved : state_of x ≢ 1 = not_equal (state_of x) 1 both.1 in
+          let c = chain_at b.links k u.path (subst (λ (n : ℕ). Chain b.links n u.path) here u.reached) in
+          let on : Linked z.heads r.plan.chain k = (w.head, ok.inside, u.inside k (subst (In k) (sym c.1) (0, refl))) in
+          let valid : state_of x ≡ 3 = ⊎_elim (λ (y : state_of (get_or b.atoms k 0) ≡ 1). absurd (not_reserved (ap state_of (sym found) ∙ y))) (λ (y : state_of (get_or b.atoms k 0) ≡ 3). ap state_of (sym found) ∙ y) (r.slots.live k on) in
           subst (λ (i : ℕ). state_of (get_or (set b.atoms k (marked n)) i 0) ≡ 3) there (ap state_of (get_or-set_same b.atoms k (marked n) 0 (in_atoms k inside)) ∙ (state-marked n ∙ (ap state_of found ∙ valid))))
-          (or_true w.guarded ((w.place == k + 1) && (state_of x == 3)) g);
+          (or_true w.guarded ((w.place == k + 1) && not (state_of x == 1)) g);
     };
   }
 
@@ -192,6 +202,14 @@ module _ (z : Size) (b : Board) (vs : List View) (r : Kept z b vs) (id : ℕ) (v
   pub has : (a : Held) → In a v.held ⊎ In a v.fixed → HeldOk z b.atoms b.texts r.plan.chain a
   has a h = ⊎_elim (λ (t : In a v.held). s.held t.0 a t.1) (λ (t : In a v.fixed). s.fixed t.0 a t.1) h
 
+  -- linked slots with equal texts are one
+  same_slot : (q k : ℕ) → Linked z.heads r.plan.chain q → Linked z.heads r.plan.chain k → text_of b.texts q ≡ text_of b.texts k → q ≡ k
+  same_slot q k l m e = let at : m.0 ≡ l.0 = sym (r.rows.stands m.0 k m.1 m.2) ∙ (ap (bucket b.row) (sym e) ∙ r.rows.stands l.0 q l.1 l.2) in
+      r.rows.unlike l.0 q k l.1 l.2 (subst (λ (h : ℕ). In k (r.plan.chain h)) at m.2) e
+
+  pub alone_at : (k : ℕ) (t : List ℕ) → Linked z.heads r.plan.chain k → text_of b.texts k ≡ t → Alone v k t
+  alone_at k t on is a ours = let ok = has a ours in ((λ e. sym ok.text ∙ (ap (text_of b.texts) e ∙ is)), λ e. same_slot a.slot k ok.linked on (ok.text ∙ (e ∙ sym is)))
+
   count_soft : (k x : ℕ) → k < z.slots → state_of (get_or b.atoms k 0) ≡ 3 → state_of x ≡ 3 → r.plan.keeper ≡ id → Soft z b.atoms r.plan r.plan.owner id k x
   count_soft k x inside was now mine = record {
     inside = in_atoms k inside;
@@ -199,7 +217,7 @@ module _ (z : Size) (b : Board) (vs : List View) (r : Kept z b vs) (id : ℕ) (v
     mine = λ e. absurd (omega arith);
     others = λ q _. refl;
     count = inr mine;
-    live = λ _ e. omega arith;
+    live = λ _. inr now;
     zero = λ ne. absurd (ne now);
     shut = λ _ _ e. absurd (omega arith);
   }

@@ -62,7 +62,7 @@ module _ (z : Size) (atoms atoms' : List ℕ) where
     short = h.short;
     past = h.past;
     word = h.word;
-    claim = λ same. let u = h.claim same in record { path = u.path; reached = u.reached; each = u.each; inside = u.inside; part = u.part; guard = λ k at guarded. stays k (u.guard k at guarded) };
+    claim = λ same. let u = h.claim same in record { path = u.path; reached = u.reached; each = u.each; inside = u.inside; few = u.few; part = u.part; guard = λ k at guarded. stays k (u.guard k at guarded) };
   }
 
 -- The seat id makes the atom word k from what it was into x
@@ -72,7 +72,7 @@ pub record Soft (z : Size) (atoms : List ℕ) (p : Plan) (owner' : ℕ → ℕ) 
   pub mine : state_of (get_or atoms k 0) ≡ 1 → (p.owner k ≡ id) ⊎ ((state_of x ≡ 1) × (owner' k ≡ p.owner k))
   pub others : (q : ℕ) → q ≢ k → owner' q ≡ p.owner q
   pub count : (count_of x ≡ count_of (get_or atoms k 0)) ⊎ (p.keeper ≡ id)
-  pub live : Linked z.heads p.chain k → state_of x ≢ 0
+  pub live : Linked z.heads p.chain k → (state_of x ≡ 1) ⊎ (state_of x ≡ 3)
   pub zero : state_of x ≢ 3 → count_of x ≡ 0
   pub shut : z.fixed ≤ k → k < 256 → state_of (get_or atoms k 0) ≡ 1 → state_of x ≡ 1
 
@@ -109,7 +109,7 @@ module _ (z : Size) (atoms : List ℕ) (p : Plan) (owner' : ℕ → ℕ) (id k x
 
   soft_slots : Slots z atoms p.chain → Slots z (set atoms k x) p.chain
   soft_slots s = record {
-    live = λ q l. word_after (λ n. state_of n ≢ 0) atoms k x q soft.inside (λ e. soft.live (subst (Linked z.heads p.chain) e l)) (λ _. s.live q l);
+    live = λ q l. word_after (λ n. (state_of n ≡ 1) ⊎ (state_of n ≡ 3)) atoms k x q soft.inside (λ e. soft.live (subst (Linked z.heads p.chain) e l)) (λ _. s.live q l);
     zero = λ q. word_after (λ n. state_of n ≢ 3 → count_of n ≡ 0) atoms k x q soft.inside (λ _. soft.zero) (λ _. s.zero q);
     shut = λ q inside fixed low. word_after (λ n. state_of n ≡ 1) atoms k x q soft.inside
         (λ e. soft.shut (subst (λ (i : ℕ). z.fixed ≤ i) e fixed) (subst (λ (i : ℕ). i < 256) e low) (subst (λ (i : ℕ). state_of (get_or atoms i 0) ≡ 1) e (s.shut q inside fixed low)))

@@ -154,7 +154,7 @@ module _ (z : Size) (b : Board) (vs : List View) (r : Kept z b vs) (id : ℕ) (v
 
   slots_linked : Slots z b.atoms (put r.plan.chain w.head (o.slot ∷ r.plan.chain w.head))
   slots_linked = record {
-    live = λ q l. ⊎_elim (λ (t : o.slot ≡ q). subst (λ (y : ℕ). state_of (get_or b.atoms y 0) ≢ 0) t (λ e. let one = ok.state in omega arith)) (r.slots.live q) (was_linked z r.plan.chain w.head o.slot walked.inside q l);
+    live = λ q l. ⊎_elim (λ (t : o.slot ≡ q). subst (λ (y : ℕ). (state_of (get_or b.atoms y 0) ≡ 1) ⊎ (state_of (get_or b.atoms y 0) ≡ 3)) t (inl ok.state)) (r.slots.live q) (was_linked z r.plan.chain w.head o.slot walked.inside q l);
     zero = r.slots.zero;
     shut = r.slots.shut;
   }

@@ -1,5 +1,5 @@
 -- Each load keeps the rule.
-use Rattle.std.proofs.Common.{◌≡◌, ℕ, ◌+◌, ◌-◌, ◌<◌, ◌≤◌, true, List, [], ◌∷◌, ◌++◌, length, get_or, set, take, refl, sym, ap, ◌∙◌, subst, inl, inr, ⊎_elim, arith, Some, None, take_all, length-append}
+use Rattle.std.proofs.Common.{◌≡◌, ℕ, suc, ◌+◌, ◌-◌, ◌<◌, ◌≤◌, true, List, [], ◌∷◌, ◌++◌, length, get_or, set, take, refl, sym, ap, ◌∙◌, subst, inl, inr, ⊎_elim, arith, Some, None, take_all, length-append}
 use mathlib.Core.Option.{some}
 use lib.ListN.{get_elem?}
 use Rattle.atomic_table.proofs.Lists.{at_longer, at_last}
@@ -13,7 +13,7 @@ use Rattle.atom_words.specs.declared.view.Held.{Held}
 use Rattle.atom_words.specs.declared.view.Walk.{Walk}
 use Rattle.atom_words.specs.declared.view.View.{View}
 use Rattle.atom_words.specs.declared.kind.Kind.TheVariants.{Load, Refused, Start, Read, Next, Hold, Keep, Fix, StartPass, EndPass, Refuse, Ask}
-use Rattle.atom_words.proofs.Slices.{mapped, in_none, in_append, in_later, in_cases, at_snoc, text_length, text_short, read_more, chain_at}
+use Rattle.atom_words.proofs.Slices.{mapped, in_none, in_append, in_later, in_cases, at_snoc, text_length, text_short, read_more, chain_at, chain_few}
 use Rattle.atom_words.proofs.Frames.{keep_view}
 
 module _ (z : Size) (b : Board) (p : Plan) (j : ℕ) (v : View) (s : SeatOk z b p j v) where
@@ -60,6 +60,7 @@ module _ (z : Size) (b : Board) (vs : List View) (r : Kept z b vs) (id : ℕ) (v
       reached = subst (λ (n : ℕ). Chain b.links (first_of n) (r.plan.chain h)) found (r.rows.chains h inside);
       each = λ k i. inr i;
       inside = λ k i. i;
+      few = let f = chain_few b.links (first_of (get_or b.heads h 0)) (r.plan.chain h) (r.rows.chains h inside) in omega (arith, f);
       part = λ k e. refl;
       guard = λ k e g. cc;
     };
@@ -79,6 +80,7 @@ module _ (z : Size) (b : Board) (vs : List View) (r : Kept z b vs) (id : ℕ) (v
           reached = u.reached;
           each = u.each;
           inside = u.inside;
+          few = u.few;
           part = λ q e. let at : k ≡ q = omega arith in subst (λ (i : ℕ). take (length (w.part ++ x ∷ [])) (text_of b.texts i) ≡ w.part ++ x ∷ []) at
               (subst (λ (y : ℕ). take (length (w.part ++ y ∷ [])) (text_of b.texts k) ≡ w.part ++ y ∷ []) found (read_more (text_of b.texts k) w.part (omega arith) (u.part k place)));
           guard = u.guard;
@@ -103,6 +105,7 @@ module _ (z : Size) (b : Board) (vs : List View) (r : Kept z b vs) (id : ℕ) (v
           (in_cases q k c.0 (subst (In q) c.1 t)))
           (u.each q i);
       inside = λ q i. u.inside q (subst (In q) (sym c.1) (in_later q k c.0 i));
+      few = let long : length u.path ≡ suc (length c.0) = ap length c.1 in let f = u.few in simp (length-append {A = Held}) (omega arith);
       part = λ q e. refl;
       guard = λ q e g. cc;
     };

@@ -164,7 +164,7 @@ keep_open z b vs o = let none : Plan = record { chain = λ _. []; place = λ _. 
         unlike = λ h k q inside i j e. absurd (in_none k i);
       };
       slots = record {
-        live = λ k l _. in_none k l.2;
+        live = λ k l. absurd (in_none k l.2);
         zero = λ k _. not_counted k;
         shut = λ k inside fixed low. ap state_of (o.closed_off k inside fixed low);
       };

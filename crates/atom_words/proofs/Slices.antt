@@ -1,6 +1,9 @@
 -- Lists that are read by `get_elem?`, text rows, and chains.
-use Rattle.std.proofs.Common.{◌≡◌, ◌≢◌, ◌⊎◌, ℕ, zero, suc, ◌+◌, ◌-◌, ◌*◌, ◌<◌, ◌≤◌, Bool, true, false, ◌&&◌, ◌||◌, List, [], ◌∷◌, ◌++◌, length, get_or, set, take, drop, replicate, refl, sym, ap, ◌∙◌, subst, inl, inr, ⊎_elim, arith, Option, Some, None, option_map, get_or-set_same, get_or-set_other, length-drop, length-take, length-set, take_all, drop-set-lt}
+use Rattle.std.proofs.Common.{◌≡◌, ◌≢◌, ◌⊎◌, ℕ, zero, suc, ◌+◌, ◌-◌, ◌*◌, ◌<◌, ◌≤◌, Bool, true, false, ◌==◌, ◌&&◌, ◌||◌, not, eqb, eq-eqb, eqb-true, Decides, List, [], ◌∷◌, ◌++◌, length, get_or, set, take, drop, replicate, refl, sym, ap, ◌∙◌, subst, inl, inr, ⊎_elim, arith, Option, Some, None, option_map, get_or-set_same, get_or-set_other, length-drop, length-take, length-set, take_all, drop-set-lt}
 use Rattle.std.proofs.lemmas.List.{take-take, take-set-le, drop-set-add, take_more, take_more_set, get_or-replicate}
+use Rattle.std.proofs.lemmas.List.Folds.{Any-from_list_any}
+use Rattle.std.proofs.lemmas.Map.Made.{IsDistinct-from_AllPairs}
+use Rattle.std.proofs.lemmas.Map.Steps.{length-le_from_distinct_below}
 use mathlib.Core.Logic.{dite}
 use mathlib.Core.Option.{some, some-injective, some-ne-none}
 use native.Mathlib.Decide.{dec_le, ℕ_discrete}
@@ -23,6 +26,9 @@ or_true false b e = inr e
 pub and_true : (a b : Bool) → (a && b) ≡ true → (a ≡ true) × (b ≡ true)
 and_true true b e = (refl, e)
 and_true false b e = cc
+
+pub not_equal : (a b : ℕ) → not (a == b) ≡ true → a ≢ b
+not_equal a b t e = let same : (a == b) ≡ true = eq-eqb a b e in let no : not true ≡ true = ap not (sym same) ∙ t in cc
 
 -- MEMBERS
 module _ {A : Type 0} where
@@ -73,6 +79,19 @@ module _ {A : Type 0} where
   pub at_replicate : (n i : ℕ) (a b : A) → get_elem? (replicate n a) i ≡ some b → a ≡ b
   at_replicate n i a b e = let h = at_inside (replicate n a) i b e in let l = length-replicate n a in
       sym (get_or-replicate n i a a (omega arith)) ∙ at_or (replicate n a) i b a e
+
+-- lists with the same last element
+last_or : {A : Type 0} → List A → A → A
+last_or [] d = d
+last_or (x ∷ xs) d = last_or xs x
+
+last_is : {A : Type 0} (xs : List A) (x d : A) → last_or (xs ++ x ∷ []) d ≡ x
+unfolding last_or
+last_is [] x d = refl
+last_is (y ∷ xs) x d = last_is xs x y
+
+pub last_same : {A : Type 0} (xs ys : List A) (x y : A) → xs ++ x ∷ [] ≡ ys ++ y ∷ [] → x ≡ y
+last_same xs ys x y e = sym (last_is xs x x) ∙ (ap (λ l. last_or l x) e ∙ last_is ys y x)
 
 -- a fact of the word q, after the word k was written
 pub word_after : (P : ℕ → Type 0) (l : List ℕ) (k x q : ℕ) → k < length l → (q ≡ k → P x) → (q ≢ k → P (get_or l q 0)) → P (get_or (set l k x) q 0)
@@ -141,3 +160,13 @@ chain_drop links p (x ∷ xs) (suc i) k c e = chain_drop links (get_or links x 0
 pub chain_once : (links : List ℕ) (p : ℕ) (xs : List ℕ) (i j k : ℕ) → Chain links p xs → get_elem? xs i ≡ some k → get_elem? xs j ≡ some k → i ≡ j
 chain_once links p xs i j k c e f = let same = ap length (chain_same links (k + 1) (drop i xs) (drop j xs) (chain_drop links p xs i k c e) (chain_drop links p xs j k c f)) in
     let long : length xs - i ≡ length xs - j = sym (length-drop i xs) ∙ (same ∙ length-drop j xs) in let a = at_inside xs i k e in let b = at_inside xs j k f in omega arith
+
+-- so it has no more slots than there are
+pub chain_few : (links : List ℕ) (p : ℕ) (xs : List ℕ) → Chain links p xs → length xs ≤ length links
+chain_few links p xs c = length-le_from_distinct_below xs (length links)
+    (IsDistinct-from_AllPairs nat_decides xs (λ i j d l m e. let once = chain_once links p xs i j (get_or xs i d) c (or_at xs i d (omega arith)) (or_at xs j d m ∙ ap some (sym e)) in omega arith))
+    (λ q t. let y = Any-from_list_any (eqb q) xs t in let same : q ≡ y.1 = eqb-true q y.1 y.4 in
+    chain_inside links p q xs c (y.0, or_at xs y.0 y.1 y.2 ∙ ap some (y.3 ∙ sym same)))
+  where
+    nat_decides : (a b : ℕ) → Decides (eqb a b) (a ≡ b)
+    nat_decides a b = (eqb-true a b, eq-eqb a b)

@@ -1,5 +1,5 @@
 -- Each raw step of the calls is of its kind.
-use Rattle.std.proofs.Common.{◌≡◌, ◌≢◌, ◌⊎◌, ℕ, ◌+◌, ◌-◌, ◌*◌, ◌/◌, ◌%◌, ◌^◌, ◌<◌, eqb, true, false, List, [], length, bit_and, bit_or, refl, sym, ap, ◌∙◌, subst, inl, inr, arith, Some, None, ◌∷◌, ◌++◌}
+use Rattle.std.proofs.Common.{◌≡◌, ◌≢◌, ◌⊎◌, ℕ, ◌+◌, ◌-◌, ◌*◌, ◌/◌, ◌%◌, ◌^◌, ◌<◌, eqb, true, false, List, [], length, bit_and, bit_or, refl, sym, ap, ◌∙◌, subst, inl, inr, arith, Some, None, ◌∷◌, ◌++◌, take_all}
 use Rattle.std.proofs.lemmas.Nat.Bits.{and_pow}
 use Rattle.std.specs.Int.Bits.{or_add_and}
 use mathlib.Core.Logic.{dite}
@@ -8,12 +8,12 @@ use native.Mathlib.Decide.{ℕ_discrete}
 use prog.Atomic.{either}
 use Rattle.atomic_table.specs.Table.{step, Allows}
 use Rattle.atom_words.specs.Layout.{state_of, count_of}
-use Rattle.atom_words.specs.Board.{Board, atom, atom_at, text_at, with_atom}
+use Rattle.atom_words.specs.Board.{Board, atom, atom_at, text_at, text_of, with_atom}
 use Rattle.atom_words.specs.Chains.{In}
 use Rattle.atom_words.specs.Views.{uncounted}
 use Rattle.atom_words.specs.Kinds.{marked, counted, view_after}
 use Rattle.atom_words.specs.Rule.{Rule}
-use Rattle.atom_words.specs.Plays.{reserved, reserved_marked, word_put, validated, released, protected, registered, unregistered, pass_started, pass_ended}
+use Rattle.atom_words.specs.Plays.{Alone, reserved, reserved_marked, word_put, validated, released, protected, registered, unregistered, pass_started, pass_ended}
 use Rattle.atom_words.specs.declared.size.Size.{Size}
 use Rattle.atom_words.specs.declared.view.Held.{Held}
 use Rattle.atom_words.specs.declared.view.Counted.{Counted}
@@ -22,8 +22,8 @@ use Rattle.atom_words.specs.declared.view.Passing.{Passing}
 use Rattle.atom_words.specs.declared.kind.Kind.{Kind}
 use Rattle.atom_words.specs.declared.kind.Kind.TheVariants.{Reserve, PutWord, Validate, Release, Load, Refused, StartPass, EndPass, Protect, Register, Unregister}
 use Rattle.atom_words.proofs.Regions.{atom_read}
-use Rattle.atom_words.proofs.Slices.{or_at}
-use Rattle.atom_words.proofs.AtomSteps.{has}
+use Rattle.atom_words.proofs.Slices.{some_same, or_at, text_short}
+use Rattle.atom_words.proofs.AtomSteps.{has, alone_at}
 use Rattle.atom_words.proofs.Adapters.{Sat, atom_goes, atom_exchange, text_goes, epoch_load}
 
 pub or_mark : (n : ℕ) → bit_or n 4 ≡ marked n
@@ -106,7 +106,12 @@ module _ (key : Size) (slots id : ℕ) (me : Sat) (is : key ≡ me.0.size) (here
       → Allows (Rule key) slots id me i (λ _. 7) (λ _. validated (step slots i 7 0 none) me 7)
   validating i o own on inside at = subst (λ (w : ℕ). Allows (Rule key) slots id me w (λ _. 7) (λ _. validated (step slots w 7 0 none) me 7)) (sym at)
       (atom_goes key me.0.size slots id me o.slot (λ _. 7) (λ _. validated (step slots (atom_at me.0.size o.slot) 7 0 none) me 7) is here inside
-      (λ b vs r seen small. (Validate, (o, own, on, refl), (refl, refl))))
+      (λ b vs r seen small. let s = r.seats id me.0 seen here in let ok = s.own o own in let live = ok.linked on in let short = text_short b.texts o.slot in
+      let text : text_of b.texts o.slot ≡ o.text = sym (take_all (length o.text) (text_of b.texts o.slot) (omega (arith, live.1))) ∙ ok.text in (
+        Validate,
+        (o, own, on, refl),
+        ((refl, refl), λ p too. let one : o ≡ p = some_same o p me.0.own own too in subst (λ (y : Own). Alone me.0 y.slot y.text) one (alone_at me.0.size b vs r id me.0 s o.slot o.text live.0 text)),
+      )))
 
   pub releasing : (i : ℕ) (o : Own) → me.0.own ≡ Some o → o.linked ≡ false → o.slot < me.0.size.slots → i ≡ atom_at me.0.size o.slot
       → Allows (Rule key) slots id me i (λ _. 0) (λ _. released (step slots i 0 0 none) me 0)

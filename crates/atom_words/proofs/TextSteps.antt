@@ -36,6 +36,7 @@ module _ (z : Size) (texts texts' : List ℕ) (chain : ℕ → List ℕ) (same :
       reached = u.reached;
       each = λ k i. ⊎_elim (λ (t : Seen texts w.seen k). inl (t.0, t.1, t.2, t.3, ap (take (length t.1.text)) (on k i) ∙ t.4)) (λ (t : In k u.path). inr t) (u.each k i);
       inside = u.inside;
+      few = u.few;
       part = λ k at. let c = chain_at links k u.path (subst (λ (n : ℕ). Chain links n u.path) at u.reached) in
           ap (take (length w.part)) (on k (u.inside k (subst (In k) (sym c.1) (0, refl)))) ∙ u.part k at;
       guard = u.guard;
@@ -129,7 +130,7 @@ module _ (z : Size) (b : Board) (vs : List View) (r : Kept z b vs) (id : ℕ) (v
       short = h.short;
       past = h.past;
       word = h.word;
-      claim = λ e. let u = h.claim e in record { path = u.path; reached = chain_else b.links o.slot l w.place u.path u.reached (λ i. not_on w.head h.inside (u.inside o.slot i)); each = u.each; inside = u.inside; part = u.part; guard = u.guard };
+      claim = λ e. let u = h.claim e in record { path = u.path; reached = chain_else b.links o.slot l w.place u.path u.reached (λ i. not_on w.head h.inside (u.inside o.slot i)); each = u.each; inside = u.inside; few = let f = u.few in omega (arith, length-set b.links o.slot l); part = u.part; guard = u.guard };
     }
 
     others_link_word : (j : ℕ) (w : View) → j ≢ id → SeatOk z b r.plan j w → SeatOk z (with_link b o.slot l) r.plan j w

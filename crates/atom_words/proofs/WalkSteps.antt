@@ -1,16 +1,20 @@
 -- Each raw step of a walk, of linking and of fetching is of its kind. For the crates above.
-use Rattle.std.proofs.Common.{◌≡◌, ◌≢◌, ℕ, ◌+◌, ◌*◌, ◌<◌, eqb, true, false, List, length, get_or, drop, bit_or, refl, sym, ap, ◌∙◌, subst, arith, Some, get_or-drop, get_or-take}
+use Rattle.std.proofs.Common.{◌≡◌, ◌≢◌, ◌⊎◌, ℕ, ◌+◌, ◌-◌, ◌*◌, ◌<◌, ◌≤◌, eqb, true, false, List, [], ◌∷◌, ◌++◌, length, get_or, take, drop, bit_or, refl, sym, ap, ◌∙◌, subst, ⊎_elim, arith, Some, take_all, get_or-drop, get_or-take}
 use mathlib.Core.Logic.{dite}
-use mathlib.Core.Option.{none}
+use mathlib.Core.Option.{none, some}
+use lib.ListN.{get_elem?}
 use native.Mathlib.Decide.{ℕ_discrete, dec_le}
 use prog.Atomic.{either}
 use Rattle.atomic_table.specs.Table.{step, Allows}
 use Rattle.atom_words.specs.Layout.{state_of, first_of, closed_of, version_of, head_word, worn}
-use Rattle.atom_words.specs.Board.{laid, atom, link, head, atom_at, link_at, head_at, text_at, text_of, with_atom}
-use Rattle.atom_words.specs.Chains.{In}
+use Rattle.atom_words.specs.Board.{Board, laid, atom, link, head, atom_at, link_at, head_at, text_at, text_of, with_atom}
+use Rattle.atom_words.specs.Chains.{In, Chain}
+use Rattle.atom_words.specs.Views.{uncounted}
 use Rattle.atom_words.specs.Kinds.{counted, view_after, Ended}
 use Rattle.atom_words.specs.Rule.{Rule}
-use Rattle.atom_words.specs.Plays.{loaded, walk_started, word_read, gone_on, slot_held, pending_found, worn_found, link_put, slot_linked, fetched, fixed, kept, asked}
+use Rattle.atom_words.specs.Kept.{Kept}
+use Rattle.atom_words.specs.Plays.{loaded, walk_started, word_read, gone_on, slot_held, pending_shown, moved_found, held_word_read, worn_found, link_put, slot_linked, fetched, fixed, kept, asked, Alone, Stale}
+use Rattle.atom_words.specs.declared.size.Size.{Size}
 use Rattle.atom_words.specs.declared.size.Size.{Size}
 use Rattle.atom_words.specs.declared.view.Held.{Held}
 use Rattle.atom_words.specs.declared.view.Counted.{Counted}
@@ -18,11 +22,14 @@ use Rattle.atom_words.specs.declared.view.Own.{Own}
 use Rattle.atom_words.specs.declared.view.Walk.{Walk}
 use Rattle.atom_words.specs.declared.view.Cause.TheVariants.{Moved, Pending, Closed}
 use Rattle.atom_words.specs.declared.view.Refusal.TheVariants.{Again, Worn}
-use Rattle.atom_words.specs.declared.kind.Kind.TheVariants.{Load, Start, Read, Next, Hold, PutLink, Link, Fetch, Refuse, Keep, Fix, Ask}
-use Rattle.atom_words.proofs.Regions.{atom_read, head_read}
-use Rattle.atom_words.proofs.Slices.{some_same}
+use Rattle.atom_words.specs.declared.view.View.{View}
+use Rattle.atom_words.specs.declared.kind.Kind.{Kind}
+use Rattle.atom_words.specs.declared.kind.Kind.TheVariants.{Load, Protect, Start, Read, Next, Hold, PutLink, Link, Fetch, Refuse, Keep, Fix, Ask}
+use Rattle.atom_words.proofs.Regions.{head_read, text_read}
+use Rattle.atom_words.proofs.Slices.{some_same, or_at, last_same, text_short, chain_at}
+use Rattle.atom_words.proofs.AtomSteps.{has, alone_at}
 use Rattle.atom_words.proofs.Steps.{or_mark}
-use Rattle.atom_words.proofs.Adapters.{Sat, load_at, atom_load, link_load, head_load, text_load, epoch_load, atom_goes, link_goes, head_exchange}
+use Rattle.atom_words.proofs.Adapters.{Sat, load_at, link_load, head_load, text_load, epoch_load, atom_goes, link_goes, head_exchange}
 
 -- a word of a slot's text stands among the texts
 pub text_word : (texts : List ℕ) (k n : ℕ) → n < 32 → get_or (text_of texts k) n 0 ≡ get_or texts (32 * k + n) 0
@@ -50,6 +57,12 @@ module _ (key : Size) (slots id : ℕ) (me : Sat) (is : key ≡ me.0.size) (here
       (link_load key me.0.size slots id me k (gone_on (step slots (link_at me.0.size k) 0 0 none) me) is here inside
       (λ b vs r seen small. (Next (link b k), (w, k, walk, place, refl, refl), (refl, refl))))
 
+  -- what the walk ends with is alone
+  alone_held : (k : ℕ) (w : Walk) → me.0.walk ≡ Some w → w.place ≡ k + 1 → length w.part ≡ 32 → (b : Board) (vs : List View) (r : Kept me.0.size b vs) → version_of (head b w.head) ≡ version_of w.word → get_elem? vs id ≡ some me.0 → Alone me.0 (w.place - 1) w.part
+  alone_held k w walk place whole b vs r same seen = let s = r.seats id me.0 seen here in let ok = s.walk w walk in let u = ok.claim same in let c = chain_at b.links k u.path (subst (λ (n : ℕ). Chain b.links n u.path) place u.reached) in
+      let short = text_short b.texts k in let all : take (length w.part) (text_of b.texts k) ≡ text_of b.texts k = take_all (length w.part) (text_of b.texts k) (omega arith) in let slot : k ≡ w.place - 1 = omega arith in
+      subst (λ (n : ℕ). Alone me.0 n w.part) slot (alone_at me.0.size b vs r id me.0 s k w.part (w.head, ok.inside, u.inside k (subst (In k) (sym c.1) (0, refl))) (sym all ∙ u.part k place))
+
   pub holding : (i k : ℕ) (w : Walk) → me.0.walk ≡ Some w → w.place ≡ k + 1 → w.guarded ≡ true → length w.part ≡ 32 → w.head < me.0.size.heads → i ≡ head_at me.0.size w.head
       → Allows (Rule key) slots id me i (λ n. n) (slot_held (step slots i 0 0 none) me)
   holding i k w walk place guarded whole inside at = subst (λ (x : ℕ). Allows (Rule key) slots id me x (λ n. n) (slot_held (step slots x 0 0 none) me)) (sym at)
@@ -61,7 +74,7 @@ module _ (key : Size) (slots id : ℕ) (me : Sat) (is : key ≡ me.0.size) (here
         (
           refl,
           λ y e. let one : w ≡ y = some_same w y me.0.walk walk e in
-              ((λ _. refl), λ ne. absurd (ne (same ∙ ap (λ (t : Walk). version_of t.word) one))),
+              ((λ _. (refl, subst (λ (t : Walk). Alone me.0 (t.place - 1) t.part) one (alone_held k w walk place whole b vs r same seen))), λ ne. absurd (ne (same ∙ ap (λ (t : Walk). version_of t.word) one))),
         ),
       ))
       (λ moved. (
@@ -74,29 +87,56 @@ module _ (key : Size) (slots id : ℕ) (me : Sat) (is : key ≡ me.0.size) (here
         ),
       ))))
 
-  pub finding_pending : (i k : ℕ) (w : Walk) → me.0.walk ≡ Some w → w.place ≡ k + 1 → k < me.0.size.slots → ((o : Own) → me.0.own ≡ Some o → o.slot ≢ k) → i ≡ atom_at me.0.size k
-      → Allows (Rule key) slots id me i (λ n. n) (pending_found (step slots i 0 0 none) me)
-  finding_pending i k w walk place inside other at = subst (λ (x : ℕ). Allows (Rule key) slots id me x (λ n. n) (pending_found (step slots x 0 0 none) me)) (sym at)
-      (atom_load key me.0.size slots id me k (pending_found (step slots (atom_at me.0.size k) 0 0 none) me) is here inside
-      (λ b vs r seen small. dite (ℕ_discrete (state_of (atom b k)) 1)
-      (λ reserved. (
-        Refuse (Again (Pending k (atom b k))),
-        ((w, walk, place, inside, refl, reserved, other), refl),
+  pub showing_pending : (k x : ℕ) (w : Walk) (before : List Kind) → me.0.walk ≡ Some w → w.place ≡ k + 1 → k < me.0.size.slots → state_of x ≡ 1 → ((o : Own) → me.0.own ≡ Some o → o.slot ≢ k) → me.0.made ≡ before ++ Protect k x ∷ []
+      → Allows (Rule key) slots id me 0 (λ n. n) (pending_shown (step slots 0 0 0 none) me)
+  showing_pending k x w before walk place inside reserved other made = epoch_load key me.0.size slots id me (pending_shown (step slots 0 0 0 none) me) is here
+      (λ b vs r seen small. (
+        Refuse (Again (Pending k x)),
+        ((w, walk, place, inside, reserved, other, (before, made)), refl),
         (
           refl,
-          λ j e. let same : k ≡ j = omega arith in
-              ((λ _. ap (λ (x : ℕ). view_after me.0 (Refuse (Again (Pending x (atom b k))))) same), λ ne. absurd (ne reserved)),
+          λ j y front e. let same : Protect k x ≡ Protect j y = last_same before front (Protect k x) (Protect j y) (sym made ∙ e) in
+              let slot : k ≡ j = cc in let word : x ≡ y = cc in λ i. view_after me.0 (Refuse (Again (Pending (slot i) (word i)))),
         ),
       ))
-      (λ not_. (
-        Load (atom_at me.0.size k) (atom b k),
-        (atom_read me.0.size b r.sized k inside, refl),
+
+  -- at the walk's version it would stand at a slot of the chain, and would not have passed them all
+  not_stale : (z : Size) (links : List ℕ) (w : Walk) (path : List ℕ) → length links ≡ z.slots → Chain links w.place path → length w.seen + length path ≤ length links → Stale z w → ⊥
+  not_stale z links w [] long c few stale = stale.0 c
+  not_stale z links w (k ∷ ks) long c few stale = let at : w.place ≡ k + 1 = c.0 in let inside : k < length links = c.1 in
+      ⊎_elim (λ (h : z.slots < w.place). omega arith) (λ (h : z.slots ≤ length w.seen). omega arith) stale.1
+
+  pub finding_moved : (i : ℕ) (w : Walk) → me.0.walk ≡ Some w → Stale me.0.size w → w.head < me.0.size.heads → i ≡ head_at me.0.size w.head → Allows (Rule key) slots id me i (λ n. n) (moved_found (step slots i 0 0 none) me)
+  finding_moved i w walk stale inside at = subst (λ (x : ℕ). Allows (Rule key) slots id me x (λ n. n) (moved_found (step slots x 0 0 none) me)) (sym at)
+      (head_load key me.0.size slots id me w.head (moved_found (step slots (head_at me.0.size w.head) 0 0 none) me) is here inside
+      (λ b vs r seen small. let moved : version_of (head b w.head) ≢ version_of w.word = (λ same. let u = ((r.seats id me.0 seen here).walk w walk).claim same in not_stale me.0.size b.links w u.path r.sized.links u.reached u.few stale) in (
+        Refuse (Again (Moved w.word (head b w.head))),
+        ((w, walk, refl, inside, refl, moved), refl),
         (
           refl,
-          λ j e. let same : k ≡ j = omega arith in
-              ((λ y. absurd (not_ y)), λ _. ap (λ (x : ℕ). view_after me.0 (Load (atom_at me.0.size x) (atom b k))) same),
+          λ y e. let one : w ≡ y = some_same w y me.0.walk walk e in (
+            (λ same. moved (same ∙ ap (λ (t : Walk). version_of t.word) (sym one))),
+            ap (λ (t : Walk). view_after me.0 (Refuse (Again (Moved t.word (head b w.head))))) one,
+          ),
         ),
-      ))))
+      )))
+
+  pub reading_held : (i n : ℕ) (a : Held) → In a me.0.held ⊎ In a me.0.fixed → n < 32 → i ≡ text_at me.0.size (32 * a.slot + n) → Allows (Rule key) slots id me i (λ n. n) (held_word_read (step slots i 0 0 none) me)
+  reading_held i n a ours more at = subst (λ (x : ℕ). Allows (Rule key) slots id me x (λ n. n) (held_word_read (step slots x 0 0 none) me)) (sym at)
+      (text_load key me.0.size slots id me (32 * a.slot + n) (held_word_read (step slots (text_at me.0.size (32 * a.slot + n)) 0 0 none) me) is here
+      (λ b vs r seen small. let x : ℕ = get_or b.texts (32 * a.slot + n) 0 in (
+        Load (text_at me.0.size (32 * a.slot + n)) x,
+        (text_read me.0.size b r.sized (32 * a.slot + n), refl),
+        (
+          (refl, refl),
+          λ q j too below e. let ok = has me.0.size b vs r id me.0 (r.seats id me.0 seen here) q too in let same : 32 * a.slot + n ≡ 32 * q.slot + j = omega arith in
+              ap (λ (y : ℕ). get_or b.texts y 0) same ∙ (sym (text_word b.texts q.slot j below) ∙ ap (λ (l : List ℕ). get_or l j 0) ok.text),
+        ),
+      )))
+
+  -- versions never fall
+  later : (b : Board) (vs : List View) → Kept me.0.size b vs → get_elem? vs id ≡ some me.0 → (h j : ℕ) → h ≡ j → (w : Walk) → me.0.walk ≡ Some w → w.head ≡ j → version_of w.word ≤ version_of (head b h)
+  later b vs r seen h j same w walk at = subst (λ (g : ℕ). version_of w.word ≤ version_of (head b g)) (at ∙ sym same) ((r.seats id me.0 seen here).walk w walk).past
 
   pub finding_worn : (i h : ℕ) → i ≡ head_at me.0.size h → h < me.0.size.heads → Allows (Rule key) slots id me i (λ n. n) (worn_found (step slots i 0 0 none) me)
   finding_worn i h at inside = subst (λ (w : ℕ). Allows (Rule key) slots id me w (λ n. n) (worn_found (step slots w 0 0 none) me)) (sym at)
@@ -108,7 +148,7 @@ module _ (key : Size) (slots id : ℕ) (me : Sat) (is : key ≡ me.0.size) (here
         (
           refl,
           λ j e. let same : h ≡ j = omega arith in
-              ((λ _. ap (λ (x : ℕ). view_after me.0 (Refuse (Worn (record { head = x; word = head b h; start = me.0.size.start })))) same), λ lt. absurd (omega arith)),
+              ((λ _. ap (λ (x : ℕ). view_after me.0 (Refuse (Worn (record { head = x; word = head b h; start = me.0.size.start })))) same), (λ lt. absurd (omega arith)), later b vs r seen h j same),
         ),
       ))
       (λ gt. (
@@ -117,7 +157,7 @@ module _ (key : Size) (slots id : ℕ) (me : Sat) (is : key ≡ me.0.size) (here
         (
           refl,
           λ j e. let same : h ≡ j = omega arith in
-              ((λ le. absurd (gt le)), λ _. ap (λ (x : ℕ). view_after me.0 (Load (head_at me.0.size x) (head b h))) same),
+              ((λ le. absurd (gt le)), (λ _. ap (λ (x : ℕ). view_after me.0 (Load (head_at me.0.size x) (head b h))) same), later b vs r seen h j same),
         ),
       ))))
 
@@ -140,7 +180,18 @@ module _ (key : Size) (slots id : ℕ) (me : Sat) (is : key ≡ me.0.size) (here
   pub fetching : (i k : ℕ) (cs : List Counted) → i ≡ atom_at me.0.size k → k < me.0.size.slots → me.0.counts ≡ Some cs → 0 < (counted cs k).count → Allows (Rule key) slots id me i (λ n. bit_or n 4) (fetched (step slots i 4 0 none) me)
   fetching i k cs at inside counts some_ = subst (λ (w : ℕ). Allows (Rule key) slots id me w (λ n. bit_or n 4) (fetched (step slots w 4 0 none) me)) (sym at)
       (atom_goes key me.0.size slots id me k (λ n. bit_or n 4) (fetched (step slots (atom_at me.0.size k) 4 0 none) me) is here inside
-      (λ b vs r seen small. (Fetch k, (cs, counts, inside, some_, ap (with_atom b k) (or_mark (atom b k))), (refl, λ j e. let same : k ≡ j = omega arith in ap (λ (x : ℕ). view_after me.0 (Fetch x)) same))))
+      (λ b vs r seen small. (
+        Fetch k,
+        (cs, counts, inside, some_, ap (with_atom b k) (or_mark (atom b k))),
+        (
+          refl,
+          λ j e. let same : k ≡ j = omega arith in (
+            ap (λ (x : ℕ). view_after me.0 (Fetch x)) same,
+            λ ds too. let one : cs ≡ ds = some_same cs ds me.0.counts counts too in let ok = (r.seats id me.0 seen here).counts cs counts in let held = ok.live k (counted cs k) (or_at cs k uncounted (omega (arith, ok.each_slot))) some_ in
+                subst (λ (n : ℕ). Alone me.0 n (counted ds n).text) same (subst (λ (l : List Counted). Alone me.0 k (counted l k).text) one (alone_at me.0.size b vs r id me.0 (r.seats id me.0 seen here) k (counted cs k).text held.linked held.text)),
+          ),
+        ),
+      )))
 
   pub fixing : ((a : Held) → In a me.0.held → a.slot < 256) → Allows (Rule key) slots id me 0 (λ n. n) (fixed (step slots 0 0 0 none) me)
   fixing low = epoch_load key me.0.size slots id me (fixed (step slots 0 0 0 none) me) is here (λ b vs r seen small. (Fix, (low, refl), (refl, refl)))

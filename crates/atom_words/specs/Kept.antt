@@ -50,12 +50,13 @@ pub record CountsOk (z : Size) (atoms texts : List ℕ) (chain : ℕ → List �
 abbrev pub Seen : List ℕ → List Held → ℕ → Type 0
 Seen texts seen k = (i : ℕ) × (a : Held) × (get_elem? seen i ≡ some a) × (a.slot ≡ k) × (take (length a.text) (text_of texts k) ≡ a.text)
 
--- of the chain, each slot was seen or is still to come
+-- of the chain, each slot was seen or is still to come; and all are no more than there are slots
 pub record Unwalked (atoms links texts : List ℕ) (w : Walk) (chain : List ℕ) : Type 0 where
   pub path : List ℕ
   pub reached : Chain links w.place path
   pub each : (k : ℕ) → In k chain → Seen texts w.seen k ⊎ In k path
   pub inside : (k : ℕ) → In k path → In k chain
+  pub few : length w.seen + length path ≤ length links
   pub part : (k : ℕ) → w.place ≡ k + 1 → take (length w.part) (text_of texts k) ≡ w.part
   pub guard : (k : ℕ) → w.place ≡ k + 1 → w.guarded ≡ true → state_of (slice_index atoms k) ≡ 3
 
@@ -83,9 +84,9 @@ pub record Rows (z : Size) (row : ℕ) (links heads texts : List ℕ) (chain : �
   pub stands : (h k : ℕ) → h < z.heads → In k (chain h) → bucket row (text_of texts k) ≡ h
   pub unlike : (h k q : ℕ) → h < z.heads → In k (chain h) → In q (chain h) → text_of texts k ≡ text_of texts q → k ≡ q
 
--- the states of the slots: a linked slot is not free, one that is not valid is not counted, and those below 256 that hold no fixed atom stand reserved
+-- the states of the slots: a linked slot is reserved or valid, one that is not valid is not counted, and those below 256 that hold no fixed atom stand reserved
 pub record Slots (z : Size) (atoms : List ℕ) (chain : ℕ → List ℕ) : Type 0 where
-  pub live : (k : ℕ) → Linked z.heads chain k → state_of (slice_index atoms k) ≢ 0
+  pub live : (k : ℕ) → Linked z.heads chain k → (state_of (slice_index atoms k) ≡ 1) ⊎ (state_of (slice_index atoms k) ≡ 3)
   pub zero : (k : ℕ) → state_of (slice_index atoms k) ≢ 3 → count_of (slice_index atoms k) ≡ 0
   pub shut : (k : ℕ) → k < z.slots → z.fixed ≤ k → k < 256 → state_of (slice_index atoms k) ≡ 1
 

@@ -1,5 +1,5 @@
 -- The kinds of steps: what each asks of the words and of the seat's view, what it does to the words, and the view after it.
-use Rattle.std.specs.Prelude.{◌≡◌, ◌≢◌, ◌⊎◌, ℕ, ◌+◌, ◌-◌, ◌*◌, ◌%◌, ◌<◌, ◌≤◌, ◌==◌, ◌&&◌, ◌||◌, nat_lt, true, false, if◌then◌else◌, List, [], ◌∷◌, ◌++◌, length, take, set, get_or, slice_index, Option, Some, None, option_map}
+use Rattle.std.specs.Prelude.{◌≡◌, ◌≢◌, ◌⊎◌, ℕ, ◌+◌, ◌-◌, ◌*◌, ◌%◌, ◌<◌, ◌≤◌, ◌==◌, ◌&&◌, ◌||◌, not, nat_lt, true, false, if◌then◌else◌, List, [], ◌∷◌, ◌++◌, length, take, set, get_or, slice_index, Option, Some, None, option_map}
 use mathlib.Core.Option.{some}
 use lib.ListN.{get_elem?}
 use Rattle.atom_words.specs.Layout.{state_of, mark_of, first_of, closed_of, version_of, head_word, worn}
@@ -61,7 +61,7 @@ going_on x w = record w { place = x; part = []; guarded = false; seen = w.seen +
 
 -- the slot k was found with the word x as its mark was set
 abbrev pub guarding : ℕ → ℕ → Walk → Walk
-guarding k x w = record w { guarded = w.guarded || ((w.place == k + 1) && (state_of x == 3)) }
+guarding k x w = record w { guarded = w.guarded || ((w.place == k + 1) && not (state_of x == 1)) }
 
 -- the keeper's count and text of a slot
 abbrev pub counted : List Counted → ℕ → Counted
@@ -129,11 +129,11 @@ after v (kind ∷ kinds) = after (view_after v kind) kinds
 abbrev pub Ended : ℕ → Own → Walk → Type 0
 Ended row o w = (bucket row o.text ≡ w.head) × (w.place ≡ 0) × ((i : ℕ) (a : Held) → get_elem? w.seen i ≡ some a → a.text ≢ take (length a.text) o.text)
 
--- A refusal's cause, as a step finds it
+-- A refusal's cause, as a step finds it; of a slot that is reserved, as the step just before found it
 abbrev pub Shows : Size → Board → View → Refusal → Type 0
 Shows z b v (Full p) = ⊥
 Shows z b v (Again (Moved old new)) = (w : Walk) × (v.walk ≡ Some w) × (w.word ≡ old) × (w.head < z.heads) × (head b w.head ≡ new) × (version_of new ≢ version_of old)
-Shows z b v (Again (Pending k x)) = (w : Walk) × (v.walk ≡ Some w) × (w.place ≡ k + 1) × (k < z.slots) × (atom b k ≡ x) × (state_of x ≡ 1) × ((o : Own) → v.own ≡ Some o → o.slot ≢ k)
+Shows z b v (Again (Pending k x)) = (w : Walk) × (v.walk ≡ Some w) × (w.place ≡ k + 1) × (k < z.slots) × (state_of x ≡ 1) × ((o : Own) → v.own ≡ Some o → o.slot ≢ k) × ((before : List Kind) × (v.made ≡ before ++ Protect k x ∷ []))
 Shows z b v (Again (Closed x)) = (h : ℕ) × (h < z.heads) × (head b h ≡ x) × (closed_of x ≡ 1)
 Shows z b v (Worn w) = (w.head < z.heads) × (head b w.head ≡ w.word) × (worn ≤ version_of w.word) × (w.start ≡ z.start)
 

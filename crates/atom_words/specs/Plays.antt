@@ -1,12 +1,15 @@
 -- What each step tells its caller: of the step, the seat before, the number found (at a store, the number stored) and the seat after.
-use Rattle.std.specs.Prelude.{◌≡◌, ◌≢◌, ◌⊎◌, ◌<◌, ◌≤◌, ℕ, List, Some}
+use Rattle.std.specs.Prelude.{◌≡◌, ◌≢◌, ◌⊎◌, ◌+◌, ◌-◌, ◌*◌, ◌<◌, ◌≤◌, ℕ, List, [], ◌∷◌, ◌++◌, length, get_or, Some}
 use Rattle.atomic_table.specs.Table.{Me, Step}
 use Rattle.atom_words.specs.Layout.{state_of, closed_of, version_of, worn}
-use Rattle.atom_words.specs.Board.{atom_at, head_at}
+use Rattle.atom_words.specs.Board.{atom_at, head_at, text_at}
 use Rattle.atom_words.specs.Chains.{In}
 use Rattle.atom_words.specs.Views.{newcomer}
-use Rattle.atom_words.specs.Kinds.{view_after}
+use Rattle.atom_words.specs.Kinds.{counted, view_after}
+use Rattle.atom_words.specs.declared.size.Size.{Size}
 use Rattle.atom_words.specs.declared.view.Held.{Held}
+use Rattle.atom_words.specs.declared.view.Counted.{Counted}
+use Rattle.atom_words.specs.declared.view.Own.{Own}
 use Rattle.atom_words.specs.declared.view.Walk.{Walk}
 use Rattle.atom_words.specs.declared.view.Cause.TheVariants.{Moved, Pending, Closed}
 use Rattle.atom_words.specs.declared.view.Refusal.TheVariants.{Again, Worn}
@@ -19,6 +22,14 @@ Sat = Me (Unit {0}) View
 
 abbrev At : Type 0
 At = Step (Unit {0})
+
+-- among the slots that the seat holds and the fixed atoms, this text and this slot are of one alone
+abbrev pub Alone : View → ℕ → List ℕ → Type 0
+Alone v slot text = (a : Held) → In a v.held ⊎ In a v.fixed → (a.slot ≡ slot → a.text ≡ text) × (a.text ≡ text → a.slot ≡ slot)
+
+-- the walk stands at no slot of the table, or has passed as many slots as there are
+abbrev pub Stale : Size → Walk → Type 0
+Stale z w = (w.place ≢ 0) × ((z.slots < w.place) ⊎ (z.slots ≤ length w.seen))
 
 -- the step is of that kind
 abbrev pub Is : Kind → Sat → Sat → Type 0
@@ -37,7 +48,7 @@ abbrev pub word_put : At → Sat → ℕ → Sat → Type 0
 word_put st m r m' = Is (PutWord r) m m'
 
 abbrev pub validated : At → Sat → ℕ → Sat → Type 0
-validated st m r m' = Is Validate m m'
+validated st m r m' = Is Validate m m' × ((o : Own) → m.0.own ≡ Some o → Alone m.0 o.slot o.text)
 
 abbrev pub released : At → Sat → ℕ → Sat → Type 0
 released st m r m' = Is Release m m'
@@ -78,17 +89,24 @@ gone_on st m r m' = Is (Next r) m m'
 -- the walk ends with the slot at hand held, where the head has its version; otherwise that refuses
 abbrev pub slot_held : At → Sat → ℕ → Sat → Type 0
 slot_held st m r m' = (m'.1 ≡ m.1) × ((w : Walk) → m.0.walk ≡ Some w
-    → (version_of r ≡ version_of w.word → m'.0 ≡ view_after m.0 Hold) × (version_of r ≢ version_of w.word → m'.0 ≡ view_after m.0 (Refuse (Again (Moved w.word r)))))
+    → (version_of r ≡ version_of w.word → (m'.0 ≡ view_after m.0 Hold) × Alone m.0 (w.place - 1) w.part) × (version_of r ≢ version_of w.word → m'.0 ≡ view_after m.0 (Refuse (Again (Moved w.word r)))))
 
--- the slot at hand is reserved by another seat, which refuses; or it is not
-abbrev pub pending_found : At → Sat → ℕ → Sat → Type 0
-pending_found st m r m' = (m'.1 ≡ m.1) × ((k : ℕ) → st.word ≡ atom_at m.0.size k
-    → (state_of r ≡ 1 → m'.0 ≡ view_after m.0 (Refuse (Again (Pending k r)))) × (state_of r ≢ 1 → m'.0 ≡ view_after m.0 (Load (atom_at m.0.size k) r)))
+-- the slot at hand, which the step just before protected, was found reserved by another seat, which refuses
+abbrev pub pending_shown : At → Sat → ℕ → Sat → Type 0
+pending_shown st m r m' = (m'.1 ≡ m.1) × ((k x : ℕ) (before : List Kind) → m.0.made ≡ before ++ Protect k x ∷ [] → m'.0 ≡ view_after m.0 (Refuse (Again (Pending k x))))
 
--- the head is worn, which refuses; or it is not
+-- the walk is stale, so its head has another version, which refuses
+abbrev pub moved_found : At → Sat → ℕ → Sat → Type 0
+moved_found st m r m' = (m'.1 ≡ m.1) × ((w : Walk) → m.0.walk ≡ Some w → (version_of r ≢ version_of w.word) × (m'.0 ≡ view_after m.0 (Refuse (Again (Moved w.word r)))))
+
+-- a word of the text of a slot that the seat holds, or of a fixed atom
+abbrev pub held_word_read : At → Sat → ℕ → Sat → Type 0
+held_word_read st m r m' = Is (Load st.word r) m m' × ((a : Held) (i : ℕ) → In a m.0.held ⊎ In a m.0.fixed → i < 32 → st.word ≡ text_at m.0.size (32 * a.slot + i) → r ≡ get_or a.text i 0)
+
+-- the head is worn, which refuses; or it is not. Its version is that of the walk over it at least
 abbrev pub worn_found : At → Sat → ℕ → Sat → Type 0
 worn_found st m r m' = (m'.1 ≡ m.1) × ((h : ℕ) → st.word ≡ head_at m.0.size h
-    → (worn ≤ version_of r → m'.0 ≡ view_after m.0 (Refuse (Worn (record { head = h; word = r; start = m.0.size.start })))) × (version_of r < worn → m'.0 ≡ view_after m.0 (Load (head_at m.0.size h) r)))
+    → (worn ≤ version_of r → m'.0 ≡ view_after m.0 (Refuse (Worn (record { head = h; word = r; start = m.0.size.start })))) × (version_of r < worn → m'.0 ≡ view_after m.0 (Load (head_at m.0.size h) r)) × ((w : Walk) → m.0.walk ≡ Some w → w.head ≡ h → version_of w.word ≤ version_of r))
 
 -- the own slot's link word is put
 abbrev pub link_put : At → Sat → ℕ → Sat → Type 0
@@ -100,7 +118,7 @@ slot_linked st m r m' = (m'.1 ≡ m.1) × (r ≡ st.first → m'.0 ≡ view_afte
 
 -- a counted slot is marked and held
 abbrev pub fetched : At → Sat → ℕ → Sat → Type 0
-fetched st m r m' = (m'.1 ≡ m.1) × ((k : ℕ) → st.word ≡ atom_at m.0.size k → m'.0 ≡ view_after m.0 (Fetch k))
+fetched st m r m' = (m'.1 ≡ m.1) × ((k : ℕ) → st.word ≡ atom_at m.0.size k → (m'.0 ≡ view_after m.0 (Fetch k)) × ((cs : List Counted) → m.0.counts ≡ Some cs → Alone m.0 k (counted cs k).text))
 
 -- the held slots become fixed atoms; only those slots are held on; a text is asked
 abbrev pub fixed : At → Sat → ℕ → Sat → Type 0

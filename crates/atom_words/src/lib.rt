@@ -29,14 +29,15 @@ mod worn;
 
 pub use kind::Kind;
 pub use plays::{
-    Asking, Dealing, EndingPass, Fetching, FindingPending, FindingWorn, Fixing, GoingOn, Holding,
+    Asking, Dealing, EndingPass, Fetching, FindingMoved, FindingWorn, Fixing, GoingOn, Holding,
     Keeping, Keeps, Linking, Loading, PartingCollector, PartingKeeper, Protecting, PuttingLink,
-    PuttingWord, ReadingWord, Registering, Releasing, Reserving, ReservingMarked, Seating, Spells,
-    StartingPass, StartingWalk, Unregistering, Validating, WithKeeper,
+    PuttingWord, ReadingHeld, ReadingWord, Registering, Releasing, Reserving, ReservingMarked,
+    Seating, ShowingPending, Spells, StartingPass, StartingWalk, Unregistering, Validating,
+    WithKeeper,
 };
 pub use rule::{AtomRule, every_state};
 pub use size::Size;
-pub use texts::MOST_BYTES;
+pub use texts::{MOST_BYTES, row_word};
 pub use view::{
     Cause, Counted, Cycling, Held, Own, Pass, Passing, Refusal, Sweeping, View, Walk, WornWord,
 };

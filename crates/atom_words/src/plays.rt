@@ -1,5 +1,5 @@
 //! What each step tells its caller.
-ghost use Rattle.atom_words.specs.Plays.{reserved, reserved_marked, word_put, validated, released, protected, registered, unregistered, pass_started, pass_ended, seated, loaded, walk_started, word_read, gone_on, slot_held, pending_found, worn_found, link_put, slot_linked, fetched, fixed, kept, asked};
+ghost use Rattle.atom_words.specs.Plays.{reserved, reserved_marked, word_put, validated, released, protected, registered, unregistered, pass_started, pass_ended, seated, loaded, walk_started, word_read, gone_on, slot_held, pending_shown, moved_found, held_word_read, worn_found, link_put, slot_linked, fetched, fixed, kept, asked};
 ghost use Rattle.atom_words.specs.Views.{spent, with_keeper, without_keeper, keeper_of, without_collector, collector_of, with_one_dealt, engine_of};
 
 use crate::view::View;
@@ -154,11 +154,25 @@ impl Play<(), View> for Holding {
     ghost then = { slot_held };
 }
 
-/// The load of the atom word of the slot at a walk's hand, which refuses where it is reserved.
-pub struct FindingPending;
+/// The load with which a slot that was found reserved as its mark was set refuses.
+pub struct ShowingPending;
 
-impl Play<(), View> for FindingPending {
-    ghost then = { pending_found };
+impl Play<(), View> for ShowingPending {
+    ghost then = { pending_shown };
+}
+
+/// The load of the head of a stale walk, which refuses.
+pub struct FindingMoved;
+
+impl Play<(), View> for FindingMoved {
+    ghost then = { moved_found };
+}
+
+/// The load of a word of the text of a slot that is held, or of a fixed atom.
+pub struct ReadingHeld;
+
+impl Play<(), View> for ReadingHeld {
+    ghost then = { held_word_read };
 }
 
 /// The load of a head, which refuses where it is worn.

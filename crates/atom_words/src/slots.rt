@@ -3,6 +3,7 @@ ghost use Rattle.std.specs.Prelude.{◌≡◌, ◌≢◌, ◌⊎◌, ℕ, ◌+�
 ghost use Rattle.atom_words.specs.Layout.{state_of};
 ghost use Rattle.atom_words.specs.Board.{atom_at};
 ghost use Rattle.atom_words.specs.Kinds.{view_after, after, next_first, next_counted};
+ghost use Rattle.atom_words.specs.Plays.{Alone};
 ghost use Rattle.atom_words.specs.Seats.{seen, Fits, Same, Reserves, FindsTaken};
 ghost use Rattle.atom_words.specs.declared.kind.Kind.{Kind};
 ghost use Rattle.atom_words.specs.declared.kind.Kind.TheVariants.{Reserve, Load, Refused, Validate, Release, Protect};
@@ -98,13 +99,15 @@ impl Words {
         Err(found)
     }
 
-    /// Makes the seat's own slot valid, with its mark set, and answers it. The seat then holds it.
+    /// Makes the seat's own slot valid, with its mark set, and answers it. The seat then holds it. No other slot that it
+    /// holds has that text.
     pub fn validate(&self, seat: &mut AtomSeat) -> u32
         requires fits { Fits self.now seat.old }
         requires linked { (o : Own) × ((seen seat.old).own ≡ Some o) × (o.linked ≡ true) }
         ensures same { Same seat.old seat.new }
         ensures steps { seen seat.new ≡ after (seen seat.old) (Validate ∷ []) }
         ensures slot { (o : Own) → (seen seat.old).own ≡ Some o → result ≡ o.slot }
+        ensures alone { (o : Own) → (seen seat.old).own ≡ Some o → Alone (seen seat.old) o.slot o.text }
     {
         let place = self.atom_place(seat.own);
         self.table

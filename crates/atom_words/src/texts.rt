@@ -35,8 +35,8 @@ fn packed(text: &[u8], from: usize) -> u64
         + 72_057_594_037_927_936 * byte_at(text, from + 7)
 }
 
-// One of the 32 words of a text.
-fn row_word(text: &[u8], i: usize) -> u64
+/// One of the 32 words of a text of at most 248 bytes: its length, or eight of its bytes.
+pub fn row_word(text: &[u8], i: usize) -> u64
     requires index { i < 32 }
     requires short { length text.now ≤ 248 }
     ensures { result ≡ get_or (row_of text.now) i 0 }

@@ -1,4 +1,4 @@
-use Rattle.std.proofs.Common.{◌≡◌, ◌⊎◌, ◌<◌, ℕ, sym, ap, ◌∙◌, subst, inl, inr, ⊎_elim, arith}
+use Rattle.std.proofs.Common.{◌≡◌, ◌⊎◌, ◌<◌, ◌≤◌, ℕ, sym, ap, ◌∙◌, subst, inl, inr, ⊎_elim, arith}
 use mathlib.Core.Logic.{dite}
 use native.Mathlib.Decide.{dec_le}
 use Rattle.atom_words.specs.Layout.{version_of, worn}
@@ -33,3 +33,8 @@ invariant_of-seat c = let same : c.args.self.now.size ≡ c.args.seat.now.seat.m
       walks = ⊎_elim (λ (e : w ≡ a). walk_tied a w s.head s.word e s.walks) (λ (e : w ≡ b). walk_tied b w s.head s.word e s.walks) is;
       passes = ⊎_elim (λ (e : w ≡ a). pass_tied a w s.began s.first s.counted e s.passes) (λ (e : w ≡ b). pass_tied b w s.began s.first s.counted e s.passes) is;
     }
+
+pub returns-else-word-ge-WORN-clause-later : goal.returns-else-word-ge-WORN-clause-later
+returns-else-word-ge-WORN-clause-later c = λ w walk at worn_. let same : c.args.self.now.size ≡ c.args.seat.now.seat.me.0.size = sym c.requires.fits.1 in
+    let told = c.load-word.ensures.2.1 c.args.head (c.head_place-place.ensures.place ∙ ap (λ (y : Size). head_at y c.args.head) same) in
+    let past : version_of w.word ≤ version_of c.load-word.result = told.2 w walk at in let below = c.if-word-ge-WORN.false in absurd (omega arith)
