@@ -4,7 +4,7 @@ ghost use Rattle.atom_words.specs.Views.{spent, with_keeper, without_keeper, kee
 
 use crate::view::View;
 use atomic_table::{Join, Play, Split};
-use std::marker::PhantomData;
+use std::marker::{Brand, PhantomData};
 
 /// The exchange that takes a free slot without a mark.
 pub struct Reserving;
@@ -218,6 +218,12 @@ pub trait Keeps {
     ghost those: { List Held };
 }
 
+impl Keeps for Brand {
+    ghost use Rattle.std.specs.Prelude.{[]};
+
+    ghost those = { [] };
+}
+
 /// The load with which only some slots are held on.
 pub struct Keeping<K> {
     those: PhantomData<K>,
@@ -232,6 +238,12 @@ pub trait Spells {
     ghost use Rattle.std.specs.Prelude.{List, ℕ};
 
     ghost words: { List ℕ };
+}
+
+impl Spells for Brand {
+    ghost use Rattle.std.specs.Prelude.{[]};
+
+    ghost words = { [] };
 }
 
 /// The load with which a text is asked.

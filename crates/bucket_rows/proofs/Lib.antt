@@ -1,0 +1,4 @@
+pub mod Hashing
+pub mod Reading
+pub mod Told
+pub mod Making

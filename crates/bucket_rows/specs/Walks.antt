@@ -1,0 +1,117 @@
+-- What walks over a bucket's chain, and links of a slot, make of the seat's view.
+use Rattle.std.specs.Prelude.{◌≡◌, ◌≢◌, ◌⊎◌, ℕ, ◌≤◌, false, List, [], ◌∷◌, ◌++◌, length, take, map, Option, Some, None, Result, Ok, Err, encode_utf8_all}
+use mathlib.Core.Option.{some}
+use lib.ListN.{get_elem?}
+use Rattle.pl_term.specs.Tree.{Chars}
+use Rattle.atom_words.specs.Layout.{state_of, first_of, closed_of, version_of, worn}
+use Rattle.atom_words.specs.Texts.{row_of, bucket}
+use Rattle.atom_words.specs.Kinds.{after}
+use Rattle.atom_words.specs.declared.view.Held.{Held}
+use Rattle.atom_words.specs.declared.view.Own.{Own}
+use Rattle.atom_words.specs.declared.view.Walk.{Walk}
+use Rattle.atom_words.specs.declared.view.Cause.TheVariants.{Moved as CauseMoved, Pending as CausePending, Closed as CauseClosed}
+use Rattle.atom_words.specs.declared.view.Refusal.TheVariants.{Again, Worn as RefusalWorn}
+use Rattle.atom_words.specs.declared.view.View.{View}
+use Rattle.atom_words.specs.declared.kind.Kind.{Kind}
+use Rattle.atom_words.specs.declared.kind.Kind.TheVariants.{Start, Read, Next, Protect, Hold, Refuse, PutLink, Link}
+use Rattle.bucket_rows.specs.declared.missed.Missed.{Missed}
+use Rattle.bucket_rows.specs.declared.missed.Missed.TheVariants.{Moved, Pending, Closed, Worn}
+
+-- the 32 words of a text
+abbrev pub spelled : Chars → List ℕ
+spelled t = row_of (encode_utf8_all t)
+
+-- What a walk reads of a slot that it passes: the beginning of its text, and its link word
+pub record Passed : Type 0 where
+  pub part : List ℕ
+  pub link : ℕ
+
+abbrev pub reads : List ℕ → List Kind
+reads ws = map (λ x. Read x) ws
+
+abbrev pub passes : List Passed → List Kind
+passes [] = []
+passes (p ∷ ps) = reads p.part ++ (Next p.link ∷ passes ps)
+
+-- each slot that was passed has another text
+abbrev pub Others : List ℕ → List Passed → Type 0
+Others row ps = (i : ℕ) (p : Passed) → get_elem? ps i ≡ some p → p.part ≢ take (length p.part) row
+
+-- The steps of a walk behind its start, where it passes the slots ps, and makes the steps ks at the end
+pub record WalksBy (row : List ℕ) (v : View) (ks : List Kind) (w : View) : Type 0 where
+  pub passed : List Passed
+  pub few : length passed ≤ v.size.slots
+  pub others : Others row passed
+  pub steps : w ≡ after v (passes passed ++ ks)
+
+-- at a slot of the text: its text is read, and it is protected, found with the word x
+abbrev pub meets : List ℕ → ℕ → ℕ → List Kind → List Kind
+meets row k x ks = reads row ++ (Protect k x ∷ ks)
+
+-- THE STEPS OF A WALK for a text behind its start, by its answer
+abbrev pub Goes : List ℕ → View → Result (Option ℕ) Missed → View → Type 0
+Goes row v (Ok None) w = WalksBy row v [] w
+Goes row v (Ok (Some k)) w = (x : ℕ) × (state_of x ≢ 1) × WalksBy row v (meets row k x (Hold ∷ [])) w
+Goes row v (Err (Moved old new)) w = (version_of new ≢ version_of old) × (WalksBy row v (Refuse (Again (CauseMoved old new)) ∷ []) w
+    ⊎ ((k : ℕ) × (x : ℕ) × WalksBy row v (meets row k x (Refuse (Again (CauseMoved old new)) ∷ [])) w))
+Goes row v (Err (Pending k x)) w = (state_of x ≡ 1) × WalksBy row v (meets row k x (Refuse (Again (CausePending k x)) ∷ [])) w
+Goes row v (Err (Closed x)) w = ⊥
+Goes row v (Err (Worn x)) w = ⊥
+
+-- THE STEPS OF A WALK for a text over the chain of the head h: it begins at the head's word x, where the head is open
+abbrev pub Begins : List ℕ → ℕ → View → Result (Option ℕ) Missed → View → Type 0
+Begins row h v r w = (x : ℕ) × (closed_of x ≡ 0) × Goes row (after v (Start h x ∷ [])) r w
+
+abbrev pub Walks : List ℕ → ℕ → View → Result (Option ℕ) Missed → View → Type 0
+Walks row h v (Ok o) w = Begins row h v (Ok o) w
+Walks row h v (Err (Moved old new)) w = (closed_of old ≡ 0) × Goes row (after v (Start h old ∷ [])) (Err (Moved old new)) w
+Walks row h v (Err (Pending k x)) w = Begins row h v (Err (Pending k x)) w
+Walks row h v (Err (Closed x)) w = (closed_of x ≢ 0) × (w ≡ after v (Refuse (Again (CauseClosed x)) ∷ []))
+Walks row h v (Err (Worn x)) w = ⊥
+
+-- The walk at hand went over an open head to the end of the chain, and saw the text in no slot
+pub record Missing (row : List ℕ) (h : ℕ) (v : View) : Type 0 where
+  pub walk : Walk
+  pub at : v.walk ≡ Some walk
+  pub head : walk.head ≡ h
+  pub unclosed : closed_of walk.word ≡ 0
+  pub ended : walk.place ≡ 0
+  pub others : (i : ℕ) (a : Held) → get_elem? walk.seen i ≡ some a → a.text ≢ take (length a.text) row
+
+-- The seat has reserved a slot and put the text in it, and its walk shows that no slot of the bucket's chain has the text
+abbrev pub Ready : View → Type 0
+Ready v = (o : Own) × (v.own ≡ Some o) × (o.linked ≡ false) × (length o.text ≡ 32) × Missing o.text (bucket 8 o.text) v
+
+-- the walk, the slots held, the refusals and the steps made aside, the view w is v
+pub record Aside (v w : View) : Type 0 where
+  pub gone : w.gone ≡ v.gone
+  pub size : w.size ≡ v.size
+  pub own : w.own ≡ v.own
+  pub fixed : w.fixed ≡ v.fixed
+  pub counts : w.counts ≡ v.counts
+  pub pass : w.pass ≡ v.pass
+  pub asked : w.asked ≡ v.asked
+  pub undealt : w.undealt ≡ v.undealt
+  pub cycle : w.cycle ≡ v.cycle
+  pub sweep : w.sweep ≡ v.sweep
+
+-- what is held and refused after a walk
+abbrev pub held_after : List ℕ → View → Result (Option ℕ) Missed → List Held
+held_after row v (Ok None) = v.held
+held_after row v (Ok (Some k)) = v.held ++ record { slot = k; text = row } ∷ []
+held_after row v (Err e) = v.held
+
+abbrev pub refused_after : View → Result (Option ℕ) Missed → List Rattle.atom_words.specs.declared.view.Refusal.Refusal
+refused_after v (Ok o) = v.refusals
+refused_after v (Err (Moved old new)) = v.refusals ++ Again (CauseMoved old new) ∷ []
+refused_after v (Err (Pending k x)) = v.refusals ++ Again (CausePending k x) ∷ []
+refused_after v (Err (Closed x)) = v.refusals ++ Again (CauseClosed x) ∷ []
+refused_after v (Err (Worn w)) = v.refusals ++ RefusalWorn w ∷ []
+
+-- THE STEPS OF A LINK after the walk t, by its answer
+abbrev pub Links : View → Walk → Result (Unit {0}) Missed → View → Type 0
+Links v t (Ok _) w = w ≡ after v (PutLink (first_of t.word) ∷ Link ∷ [])
+Links v t (Err (Moved old new)) w = (old ≡ t.word) × (version_of new ≢ version_of old) × (w ≡ after v (PutLink (first_of t.word) ∷ Refuse (Again (CauseMoved old new)) ∷ []))
+Links v t (Err (Pending k x)) w = ⊥
+Links v t (Err (Closed x)) w = ⊥
+Links v t (Err (Worn x)) w = (x.head ≡ t.head) × (worn ≤ version_of x.word) × (w ≡ after v (Refuse (RefusalWorn x) ∷ []))
