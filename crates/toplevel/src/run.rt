@@ -159,7 +159,7 @@ fn settle<G: Gate>(
         command.solutions,
         gate,
     )?;
-    let text = transcript(alloc, &command.file, &command.goal, &done)?;
+    let text = transcript(alloc, command, &done)?;
     let end = end_of(&done);
     let Finished {
         front,

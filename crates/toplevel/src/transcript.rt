@@ -6,13 +6,14 @@ ghost use Rattle.std.specs.Str.{encode_utf8_all};
 ghost use Rattle.pl_model.specs.declared.ends.How.TheVariants.{Solved, False, Threw};
 ghost use Rattle.pl_model.specs.Machine.{State};
 ghost use Rattle.pl_model.specs.Operators.{opening_operators};
-ghost use Rattle.pl_model.specs.Program.{Command};
+ghost use Rattle.toplevel.specs.CommandLine.{told_command};
 ghost use Rattle.pl_model.specs.Transcript.{at_place, kind_text, kept_line, binding_texts, with_commas, solution_line, end_lines, stopped, consult_section, goal_section, section_texts};
 ghost use Rattle.pl_model.specs.Writing.{writeq};
 ghost use Rattle.toplevel.specs.Adds.{Adds};
 ghost use Rattle.toplevel.specs.Lines.{lines_text};
 ghost use Rattle.toplevel.specs.Outcome.{kept_of, solution_of, fault_of, IsOutcome};
 
+use crate::command::Command;
 use crate::lines::{end_line, put, put_number, put_stop, put_words};
 use crate::outcome::{Finished, Kept, Solution};
 use crate::writer::writeq;
@@ -291,17 +292,12 @@ fn put_goal(alloc: Global, out: &mut Vec<u8>, word: &Text, done: &Finished) -> R
 
 /// The text of a run: what is said of the faults of the file, and then the goal's section. The only error is want
 /// of memory.
-pub fn transcript(
-    alloc: Global,
-    file: &Text,
-    goal: &Text,
-    done: &Finished,
-) -> Result<Vec<u8>, Memory>
+pub fn transcript(alloc: Global, command: &Command, done: &Finished) -> Result<Vec<u8>, Memory>
     ensures { (s : State) → IsOutcome done.now s → IfOk result (λ v. v.items
-        ≡ encode_utf8_all (section_texts opening_operators (record { file = file.now; goal = goal.now }) s done.now.how)) }
+        ≡ encode_utf8_all (section_texts opening_operators (told_command command.now) s done.now.how)) }
 {
     let mut out = Vec::new(alloc);
-    put_consult(alloc, &mut out, file, &done.kept)?;
-    put_goal(alloc, &mut out, goal, done)?;
+    put_consult(alloc, &mut out, &command.file, &done.kept)?;
+    put_goal(alloc, &mut out, &command.goal, done)?;
     Ok(out)
 }

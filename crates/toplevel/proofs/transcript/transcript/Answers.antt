@@ -9,4 +9,4 @@ pub returns : goal.returns
 returns c s o =
     let both = adds_then (rw c.deref.ensures.value at c.in_ok-put_consult.ensures) (c.in_ok-put_goal.ensures s o) in
     rw (c.new-out.ensures.items) at both.added
-    ∙ ap (λ k. encode_utf8_all (consult_section c.args.file.now k ++ goal_section opening_operators c.args.goal.now s c.args.done.now.how)) (sym o.kept_is)
+    ∙ ap (λ k. encode_utf8_all (consult_section c.args.command.now.file k ++ goal_section opening_operators c.args.command.now.goal s c.args.done.now.how)) (sym o.kept_is)
