@@ -56,7 +56,7 @@ pub prefix-behind : (b : Behind) (o : Option Chars) (p : Chars) (d : ℕ) (ds : 
 prefix-behind b o p d ds e = ap (λ cs. (behind b o cs).prefix) e
 
 module _ (text : List ℕ) (ops : Lookup) (quotes : Quotes) (regular : IsRegular ops) where
-  not_comma : (f : Chars) (e : Entry) → ops f Prefix ≡ Some e → bytes_eq f (codes ",") ≡ false
+  pub not_comma : (f : Chars) (e : Entry) → ops f Prefix ≡ Some e → bytes_eq f (codes ",") ≡ false
   not_comma f e is =
       other_text f (codes ",") (λ same. let none_here : None ≡ Some e = sym regular.no_prefix ∙ ap (λ g. ops g Prefix) (sym same) ∙ is in cc)
 

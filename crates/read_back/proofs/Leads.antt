@@ -57,11 +57,11 @@ pub leads-plain : (c : ℕ) (cs : Chars) (ps : List Piece) → IsScalar c → Le
 leads-plain c cs ps is = record { piece = plain (c ∷ cs); others = ps; first = c; more = cs; is = refl; spelled = refl; some = is }
 
 -- A text with a first character.
-record Spelled (cs : Chars) : Type 0 where
-  first : ℕ
-  more : Chars
-  spelled : cs ≡ first ∷ more
-  some : IsScalar first
+pub record Spelled (cs : Chars) : Type 0 where
+  pub first : ℕ
+  pub more : Chars
+  pub spelled : cs ≡ first ∷ more
+  pub some : IsScalar first
 
 spelled-is : (c : ℕ) (cs : Chars) → IsScalar c → Spelled (c ∷ cs)
 spelled-is c cs is = record { first = c; more = cs; spelled = refl; some = is }
@@ -88,13 +88,13 @@ name-spelled f scalars = by (bytes_eq f (codes "[]") || bytes_eq f (codes "{}"))
 functor-spelled : (f : Chars) → all_scalars f ≡ true → Spelled (functor f)
 functor-spelled f scalars = read-spelled f (functor f) [] (functor-token f nowhere None [] scalars tt tt)
 
-operator-spelled : (f : Chars) → all_scalars f ≡ true → Spelled (operator_name quoting f)
+pub operator-spelled : (f : Chars) → all_scalars f ≡ true → Spelled (operator_name quoting f)
 operator-spelled f scalars =
     choose Spelled (bytes_eq f (codes ",")) f (name f)
     (λ e. subst Spelled (sym (same_text f (codes ",") e)) (spelled-is 44 [] refl))
     (λ _. name-spelled f scalars)
 
-leads-text : (cs : Chars) (ps : List Piece) → Spelled cs → Leads (plain cs ∷ ps)
+pub leads-text : (cs : Chars) (ps : List Piece) → Spelled cs → Leads (plain cs ∷ ps)
 leads-text cs ps s = record { piece = plain cs; others = ps; first = s.first; more = s.more; is = refl; spelled = s.spelled; some = s.some }
 
 leads-prefix : (f cs : Chars) (ps : List Piece) → Spelled cs → Leads (before_operand f cs ∷ ps)

@@ -13,6 +13,7 @@ pub mod Operations
 pub mod Affixes
 pub mod Bracketed
 pub mod Numbering
+pub mod Clear
 pub mod Written
 pub mod ReadBack
 pub mod KeptNames

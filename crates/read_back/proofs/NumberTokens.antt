@@ -31,11 +31,11 @@ use Rattle.pl_model.specs.declared.lexical.Lexeme.TheVariants.{Token as TokenLex
 use Rattle.read_back.proofs.Places.{Ahead, Exact, Next, token-here, piece-next, byte-at}
 
 -- A digit.
-record Digit (d : ℕ) : Type 0 where
-  least : 48 ≤ d
-  most : d ≤ 57
+pub record Digit (d : ℕ) : Type 0 where
+  pub least : 48 ≤ d
+  pub most : d ≤ 57
 
-digit : (d : ℕ) (ds : Chars) → AllDigits 10 (d ∷ ds) → Digit d
+pub digit : (d : ℕ) (ds : Chars) → AllDigits 10 (d ∷ ds) → Digit d
 digit d ds digits = let range = digit_from_value d digits.0 in record { least = range.0; most = range.1 }
 
 plain_digit : (d : ℕ) → Digit d → (nat_lt d 128 ≡ true) × (is_whitespace d ≡ false) × ((d == 37) ≡ false) × ((d == 47) ≡ false) × (is_symbol d ≡ false) × (continues_name d ≡ true) × (is_ascii_digit d ≡ true)
@@ -44,7 +44,7 @@ plain_digit d is =
     let most = is.most in
     (grind (arith, nat_tests), grind (arith, nat_tests), grind (arith, nat_tests), grind (arith, nat_tests), grind (arith, nat_tests), grind (arith, nat_tests), grind (arith, nat_tests))
 
-digits-bytes : (ds : Chars) → AllDigits 10 ds → encode_utf8_all ds ≡ ds
+pub digits-bytes : (ds : Chars) → AllDigits 10 ds → encode_utf8_all ds ≡ ds
 digits-bytes [] digits = refl
 digits-bytes (d ∷ ds) digits =
     let is = digit d ds digits in
@@ -61,7 +61,7 @@ digits-continue : (ds : Chars) → AllDigits 10 ds → list_all continues_name d
 digits-continue [] digits = refl
 digits-continue (d ∷ ds) digits = all_true (continues_name d) (list_all continues_name ds) (plain_digit d (digit d ds digits)).5 (digits-continue ds digits.1)
 
-digit-layout : (d : ℕ) (bs : List ℕ) → Digit d → NoLayout (d ∷ bs)
+pub digit-layout : (d : ℕ) (bs : List ℕ) → Digit d → NoLayout (d ∷ bs)
 digit-layout d bs is =
     let t = plain_digit d is in
     no_layout (d ∷ bs) d 1 (front-ascii d bs t.0) t.1 t.2 (first_false (d == 47) _ t.3)

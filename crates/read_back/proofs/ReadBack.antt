@@ -1,5 +1,5 @@
 -- What writeq writes is read back.
-use Rattle.std.proofs.Common.{◌≡◌, true, codes, List, [], ◌∷◌, ◌++◌, None, append_assoc, refl, sym, ap, ◌∙◌}
+use Rattle.std.proofs.Common.{◌≡◌, true, codes, List, [], ◌∷◌, ◌++◌, append_assoc, refl, sym, ap, ◌∙◌}
 use Rattle.std.specs.Str.{encode_utf8_all}
 use Rattle.pl_term.specs.Tree.{Tree}
 use Rattle.pl_model.specs.declared.grammar.Quotes.{Quotes}
@@ -11,6 +11,7 @@ use Rattle.read_back.specs.ReadingBack.{is_readable, IsRegular, KeepsNames, Chan
 use Rattle.read_back.proofs.Seams.{after_piece, text-piece, chars_of}
 use Rattle.read_back.proofs.Places.{no_gap, joins_nothing, space_binds}
 use Rattle.read_back.proofs.Steps.{told}
+use Rattle.read_back.proofs.Clear.{start_of_text}
 use Rattle.read_back.proofs.Written.{clause-read}
 use Rattle.read_back.proofs.Numbering.{nothing_met, told-variant}
 use Rattle.read_back.proofs.KeptNames.{keeps}
@@ -32,12 +33,9 @@ text-append b (p ∷ ps) qs =
 end-text : (b : Behind) → text_behind b (plain (codes " ") ∷ plain (codes ".") ∷ []) ≡ codes " ."
 end-text b = ap (λ cs. cs ++ codes ".") (no_gap b 32 [] (joins_nothing b.last 32 refl refl refl) (space_binds b.prefix))
 
-start_of_text : Behind
-start_of_text = record { last = 32; prefix = None }
-
 with_end-text : (ops : Lookup) (t : Tree)
     → with_end (text_of quoting ops 1200 t) ≡ encode_utf8_all (text_behind start_of_text (pieces quoting ops 1200 alone t ++ plain (codes " ") ∷ plain (codes ".") ∷ []))
-unfolding text_of start_of_text
+unfolding text_of
 with_end-text ops t =
     let ps = pieces quoting ops 1200 alone t in
     ap encode_utf8_all
@@ -46,8 +44,8 @@ with_end-text ops t =
 pub reads_as : (ops : Lookup) (quotes : Quotes) (t : Tree) → IsRegular ops → is_readable t ≡ true → ReadsAs ops quotes t
 reads_as ops quotes t regular e =
     let text = with_end (text_of quoting ops 1200 t) in
-    let c = clause-read text ops quotes regular t start_of_text e (with_end-text ops t) in
-    record { term = told t nothing_met; names = c.names; start = c.start; is = c.is; variant = told-variant t e }
+    let c = clause-read text ops quotes regular t e (with_end-text ops t) in
+    record { term = told t nothing_met; names = c.names; is = c.is; variant = told-variant t e }
 
 regular_table : (ops : OperatorTable) → IsSound ops → KeepsNames ops → IsRegular (operator_at ops)
 regular_table ops sound kept = record {
@@ -63,7 +61,7 @@ regular_table ops sound kept = record {
 pub reads_back : (ops : OperatorTable) (quotes : Quotes) (t : Tree) → IsSound ops → KeepsNames ops → is_readable t ≡ true → ReadsBack ops quotes t
 reads_back ops quotes t sound kept e =
     let r = reads_as (operator_at ops) quotes t (regular_table ops sound kept) e in
-    record { term = r.term; names = r.names; start = r.start; is = r.is; variant = r.variant }
+    record { term = r.term; names = r.names; is = r.is; variant = r.variant }
 
 pub reads_back_after : (cs : List Change) (quotes : Quotes) (t : Tree) → is_readable t ≡ true → ReadsBack (table_after cs) quotes t
 reads_back_after cs quotes t e = let kept = keeps cs in reads_back (table_after cs) quotes t kept.sound kept.names e

@@ -1,5 +1,5 @@
 -- Each term is read as it is written; and a whole text of one, with an end behind it.
-use Rattle.std.proofs.Common.{◌≡◌, ℕ, ◌<◌, ◌≤◌, true, ◌&&◌, not, codes, List, [], ◌∷◌, ◌++◌, length, drop, Some, Ok, Err, IfSome, refl, ap, subst, ◌∙◌, arith, pos, negsuc}
+use Rattle.std.proofs.Common.{◌≡◌, ℕ, ◌<◌, ◌≤◌, true, ◌&&◌, not, codes, List, [], ◌∷◌, ◌++◌, length, drop, Some, Ok, Err, IfSome, refl, sym, ap, subst, ◌∙◌, arith, pos, negsuc}
 use Rattle.std.specs.Str.{all_scalars}
 use Rattle.pl_term.specs.Tree.{Chars, Tree, Trees, var, int, atom, comp, none, more, count}
 use Rattle.pl_model.specs.declared.lexical.TokenKind.TheVariants.{EndToken}
@@ -15,11 +15,16 @@ use Rattle.pl_model.specs.TermWriting.{parenthesized, needs_parentheses, plain, 
 use Rattle.pl_model.proofs.TermDepth.{whole, item_whole, item_by-whole}
 use Rattle.pl_model.proofs.LexicalReads.{end-reads}
 use Rattle.pl_model.proofs.LexicalFollows.{token_at-follows}
+use Rattle.pl_model.proofs.LexicalSpans.{token_next}
+use Rattle.pl_model.specs.Tokens.{skip_layout}
+use Rattle.pl_model.specs.declared.lexical.TokenKind.{TokenKind}
+use Rattle.read_back.proofs.Leads.{leads-first, leads-plain}
+use Rattle.read_back.proofs.Clear.{start_of_text, clear-term}
 use Rattle.std.proofs.lemmas.List.{length-drop}
 use Rattle.std.proofs.Math.Utf8.{encode}
 use Rattle.read_back.specs.ReadingBack.{is_readable, all_readable, is_readable_text, IsRegular}
 use Rattle.read_back.proofs.Bits.{both}
-use Rattle.read_back.proofs.FirstBytes.{no_layout}
+use Rattle.read_back.proofs.FirstBytes.{NoLayout, no_layout}
 use Rattle.read_back.proofs.Places.{Exact, exact-ahead, space-ahead, Next, piece-next, behind_one}
 use Rattle.read_back.proofs.Followers.{follow-put}
 use Rattle.read_back.proofs.Shapes.{OfOne, in_curly, prefixed, postfixed, called, of_one, OfTwo, listed, infixed, called_two, of_two, of_more, pieces-form, right-more}
@@ -147,19 +152,24 @@ module _ (text : List ℕ) (ops : Lookup) (quotes : Quotes) (regular : IsRegular
   -- A text of a term is read as a clause of it.
   pub record Clause (t : Tree) : Type 0 where
     pub names : List (Chars × ℕ)
-    pub start : ℕ
-    pub is : item_by text 0 ops quotes ≡ clause (told t nothing_met) names start (length text)
+    pub is : item_by text 0 ops quotes ≡ clause (told t nothing_met) names 0 (length text)
 
-  begun : (o : Lexed) (r : Outcome Part) (P : Part) (stop_start stop : ℕ) → begins_term o ≡ true → r ≡ Ok P → whole text ops quotes 1200 (standing 0 nothing_met) ≡ r
+  -- The first token begins where the text begins.
+  starts-text : (kind : TokenKind) (start end : ℕ) → token_at text 0 ≡ Ok (Token kind start end) → NoLayout text → start ≡ 0
+  starts-text kind start end here clear =
+      let found = token_next text 0 kind start end here in
+      let same : skip_layout 0 0 text ≡ Ok start = found.layout in
+      let both_are : Ok 0 ≡ Ok start = sym (clear 0) ∙ same in cc
+
+  begun : (o : Lexed) (P : Part) (stop_start stop : ℕ) → token_at text 0 ≡ o → NoLayout text → begins_term o ≡ true → whole text ops quotes 1200 (standing 0 nothing_met) ≡ Ok P
       → token_at text P.reading.at ≡ Ok (Token EndToken stop_start stop)
-      → (start : ℕ) × (item_whole text ops quotes 0 o ≡ clause P.term P.reading.names start stop)
-  begun (Err f) r P a stop begins is read last = cc
-  begun (Ok End) r P a stop begins is read last = cc
-  begun (Ok (Token kind start end)) r P a stop begins is read last = (
-    start,
-    ap (λ (o : Outcome Part). item (and_then o (λ p. ended text start p (token_at text p.reading.at)))) (read ∙ is)
-        ∙ ap (λ l. item (ended text start P l)) last,
-  )
+      → item_whole text ops quotes 0 o ≡ clause P.term P.reading.names 0 stop
+  begun (Err f) P a stop here clear begins read last = cc
+  begun (Ok End) P a stop here clear begins read last = cc
+  begun (Ok (Token kind start end)) P a stop here clear begins read last =
+      ap (λ n. item_whole text ops quotes 0 (Ok (Token kind n end))) (starts-text kind start end here clear)
+      ∙ ap (λ (o : Outcome Part). item (and_then o (λ p. ended text 0 p (token_at text p.reading.at)))) read
+      ∙ ap (λ l. item (ended text 0 P l)) last
 
   -- The end token is the last one of the text.
   ends-text : (at start end : ℕ) → token_at text at ≡ Ok (Token EndToken start end) → drop end text ≡ [] → end ≡ length text
@@ -167,15 +177,18 @@ module _ (text : List ℕ) (ops : Lookup) (quotes : Quotes) (regular : IsRegular
       let within = token_at-follows text at EndToken start end is in
       omega (arith, within.within, length-drop end text, ap length nothing)
 
-  pub clause-read : (t : Tree) (b : Behind) → is_readable t ≡ true → Exact text b (pieces quoting ops 1200 alone t ++ plain (codes " ") ∷ plain (codes ".") ∷ []) 0 → Clause t
-  clause-read t b e exact =
+  pub clause-read : (t : Tree) → is_readable t ≡ true → Exact text start_of_text (pieces quoting ops 1200 alone t ++ plain (codes " ") ∷ plain (codes ".") ∷ []) 0 → Clause t
+  clause-read t e exact =
       let qs = plain (codes " ") ∷ plain (codes ".") ∷ [] in
-      let g = (term-read t e 1200 alone 1200 nothing_met b qs 0 (omega arith) tt (exact-ahead text b (pieces quoting ops 1200 alone t ++ qs) 0 exact) end-follow (λ _. end-closes)).got in
+      let ps = pieces quoting ops 1200 alone t ++ qs in
+      let g = (term-read t e 1200 alone 1200 nothing_met start_of_text qs 0 (omega arith) tt (exact-ahead text start_of_text ps 0 exact) end-follow (λ _. end-closes)).got in
       let P : Part = record { term = told t nothing_met; priority = g.priority; reading = standing g.to (after t nothing_met) } in
       let last = point-next g.b g.to g.exact in
-      let r = begun (token_at text 0) (Ok P) P last.start last.end g.begins refl (g.is ∙ end-follow.stops g.b g.to g.exact 1200 (omega arith) P refl) last.is in
+      let clear = clear-term ops regular t e 1200 alone qs (λ b. leads-first b qs (leads-plain 32 [] (plain (codes ".") ∷ []) refl)) in
       record {
         names = (after t nothing_met).0;
-        start = r.0;
-        is = item_by-whole text ops quotes 0 ∙ r.1 ∙ ap (clause (told t nothing_met) (after t nothing_met).0 r.0) (ends-text g.to last.start last.end last.is last.exact);
+        is =
+            item_by-whole text ops quotes 0
+            ∙ begun (token_at text 0) P last.start last.end refl (subst NoLayout (sym exact) clear) g.begins (g.is ∙ end-follow.stops g.b g.to g.exact 1200 (omega arith) P refl) last.is
+            ∙ ap (clause (told t nothing_met) (after t nothing_met).0 0) (ends-text g.to last.start last.end last.is last.exact);
       }

@@ -72,19 +72,18 @@ table_after (c ∷ cs) = let t = table_after cs in after_change t c (refusal t c
 abbrev pub with_end : Chars → List ℕ
 with_end cs = encode_utf8_all (cs ++ codes " .")
 
--- What is written of a term is read as one clause, up to the end of the text, and the clause is a variant of the term.
+-- What is written of a term is read as one clause, from the first byte of the text to the last, whose term is a variant of
+-- it.
 pub record ReadsAs (ops : Lookup) (quotes : Quotes) (t : Tree) : Type 0 where
   pub term : Tree
   pub names : List (Chars × ℕ)
-  pub start : ℕ
-  pub is : item_by (with_end (text_of quoting ops 1200 t)) 0 ops quotes ≡ clause term names start (length (with_end (text_of quoting ops 1200 t)))
+  pub is : item_by (with_end (text_of quoting ops 1200 t)) 0 ops quotes ≡ clause term names 0 (length (with_end (text_of quoting ops 1200 t)))
   pub variant : IsVariant t term
 
 pub record ReadsBack (ops : OperatorTable) (quotes : Quotes) (t : Tree) : Type 0 where
   pub term : Tree
   pub names : List (Chars × ℕ)
-  pub start : ℕ
-  pub is : item_of (with_end (writeq ops 1200 t)) 0 ops quotes ≡ clause term names start (length (with_end (writeq ops 1200 t)))
+  pub is : item_of (with_end (writeq ops 1200 t)) 0 ops quotes ≡ clause term names 0 (length (with_end (writeq ops 1200 t)))
   pub variant : IsVariant t term
 
 -- Worked terms: a term without variables that is read back as it is, and an operator that no table has.
