@@ -23,6 +23,11 @@ next_refusals (Retry c) = RefusalAgain c ∷ []
 next_refusals (Worn w) = RefusalWorn w ∷ []
 next_refusals Memory = []
 
+-- The atoms that an item names.
+abbrev pub next_names : {T : Type 0} → (T → List ℕ) → Next T → List ℕ
+next_names names (Item t d) = names t
+next_names names _ = []
+
 -- How a search ended, by its state's end. Want of atoms is no end of a search.
 abbrev pub EndsAs : {T : Type 0} → ((ℕ → Chars) → T → Tree) → (ℕ → Chars) → How T → Ending → Type 0
 EndsAs term text Solved solved = Unit {0}
@@ -77,13 +82,14 @@ module _ {S T : Type 0} (execution : (ℕ → Chars) → S → List Consulted �
   StandsAfter text s job _ cs y = (part s ≡ None) × (y ≡ execution text s cs)
 
   -- Whatever execution of this script it is, it comes from the one to the other, and the text of the file with it.
-  abbrev pub Given : Script → Chars → (ℕ → Chars) → (ℕ → Chars) → S → Option (How T) → Told → List ℕ → Next T → S → Told → List ℕ → Type 0
-  Given script name old_text new_text old how t bytes next new u more =
+  abbrev pub Given : ((ℕ → Chars) → S → Script → Type 0) → Chars → (ℕ → Chars) → (ℕ → Chars) → S → Option (How T) → Told → List ℕ → Next T → S → Told → List ℕ → Type 0
+  Given plays name old_text new_text old how t bytes next new u more =
       (job : Job) (cs : List Consulted) (x : Execution)
-      → job.script ≡ script
+      → plays old_text old job.script
       → StandsBefore old_text old (part old) how cs x
       → bytes ≡ encode_utf8_all (all_consulted name [] (written_at x))
       → (ds : List Consulted) × (y : Execution)
       × Comes job x t y u
       × StandsAfter new_text new job next ds y
+      × plays new_text new job.script
       × (more ≡ encode_utf8_all (all_consulted name [] ds))

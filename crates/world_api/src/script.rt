@@ -1,12 +1,13 @@
 //! The trait of scripts.
-ghost use Rattle.std.specs.Prelude.{◌≡◌, ◌++◌, ℕ, false, List, Option};
+ghost use Rattle.std.specs.Prelude.{◌≡◌, ◌++◌, ℕ, false, List, Option, IsSome};
 ghost use Rattle.std.specs.Option.{option_map};
+ghost use Rattle.std.specs.List.{All};
 ghost use Rattle.pl_term.specs.Tree.{Chars};
 ghost use Rattle.pl_model.specs.Execution.{Script as ScriptOf, Consulted, Execution};
 ghost use Rattle.world_api.specs.Texts.{text_of, Holds};
 ghost use Rattle.world_api.specs.Told.{Told, has_ended};
 ghost use Rattle.world_api.specs.Courses.{Part};
-ghost use Rattle.world_api.specs.Scripts.{IsAsked, Given, next_refusals};
+ghost use Rattle.world_api.specs.Scripts.{IsAsked, Given, next_refusals, next_names};
 
 use crate::how::How;
 use crate::named::Named;
@@ -43,10 +44,14 @@ pub trait Script {
     // The part of the execution that the item at hand is, if there is one.
     ghost part: { Self → Option Part };
 
-    // What it consults or runs, and the name of the file.
-    ghost script: { (ℕ → Chars) → Self → ScriptOf };
+    // What it consults or runs may be this.
+    ghost plays: { (ℕ → Chars) → Self → ScriptOf → Type 0 };
 
+    // The name of the file.
     ghost name: { Self → Chars };
+
+    // The atoms that it names.
+    ghost names: { Self → List ℕ };
 
     /// The next item. `ended` says how the item at hand has ended, if there is one. Lines that are written of the file
     /// are put behind its text.
@@ -59,10 +64,17 @@ pub trait Script {
     ) -> Next<Self::Term>
         requires runs { has_ended (W.told world.old).engine (W.told world.old).history ≡ false }
         requires asked { IsAsked (part self.old) (option_map (λ b. b.now) ended) }
-        ensures given { Given execution part Self.Term.term (script (text_of (W.A.held atoms.old)) self.old) (name self.old)
+        requires held { All (λ a. IsSome (W.A.held atoms.old a)) (names self.old) }
+        ensures given { Given execution part Self.Term.term plays (name self.old)
             (text_of (W.A.held atoms.old)) (text_of (W.A.held atoms.new)) self.old (option_map (λ b. b.now) ended.entry) (W.told world.old) text.old.items
             result self.new (W.told world.new) text.new.items }
+        ensures held { All (λ a. IsSome (W.A.held atoms.new a)) (names self.new ++ next_names Self.Term.names result) }
         ensures runs { has_ended (W.told world.new).engine (W.told world.new).history ≡ false }
         ensures holds { Holds (W.A.held atoms.old) (W.A.held atoms.new) }
         ensures refusals { W.A.refusals atoms.new ≡ W.A.refusals atoms.old ++ next_refusals result };
+
+    // It stands for the same execution under texts that agree on the atoms that it names, and plays the same.
+    ghost names_tell: { (s : Self) (text other : ℕ → Chars) → All (λ a. text a ≡ other a) (names s)
+        → ((cs : List Consulted) → execution text s cs ≡ execution other s cs)
+        × ((x : ScriptOf) → plays text s x → plays other s x) };
 }
