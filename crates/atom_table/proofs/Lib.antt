@@ -1,0 +1,5 @@
+pub mod Tries
+pub mod Adding
+pub mod Telling
+pub mod Settling
+pub mod Counting

@@ -1,0 +1,18 @@
+//! The table of atoms that all threads share without a lock.
+//!
+//! A thread interns texts through a seat. What a seat holds is an atom with its text as long as it holds it: equal texts
+//! have equal atoms, whichever seats intern them. Every step is one exchange on one word of the table, of a kind that
+//! `atom_words` lists.
+#![tactic(auto)]
+
+mod interning;
+mod making;
+mod opening;
+mod seats;
+mod table;
+
+pub use atom_api::{Atom, Cause, Interned, Pass, WornWord};
+pub use atom_words::AtomSeat;
+pub use opening::Opened;
+pub use seats::{Collector, Keeper};
+pub use table::AtomTable;
