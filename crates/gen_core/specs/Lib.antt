@@ -1,0 +1,5 @@
+pub mod Index
+pub mod Visible
+pub mod Hits
+pub mod Numbers
+pub mod Shelf

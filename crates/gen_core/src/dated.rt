@@ -1,0 +1,114 @@
+//! Dated lists: the clauses of a procedure in database order, with what each generation sees of them.
+ghost use Rattle.std.specs.Prelude.{◌≡◌, ◌<◌, ◌^◌, ◌++◌, ◌∷◌, [], ◌&&◌, ◌==◌, false, All, IfErr, IfOk, IfSome, IfNone, MatchOption, OnErr, OnOk, filter, map, sum_by};
+ghost use Rattle.std.specs.List.{list_any};
+ghost use Rattle.gen_core.specs.Visible.{is_visible, is_droppable, is_live, fresh, erased_by, counted, behind, is_choice, first_choice, DropsOne};
+ghost use Rattle.gen_core.specs.Hits.{hit_of};
+
+use crate::hit::Hit;
+use crate::numbers::{first_number, last_number};
+use crate::shelf::Shelf;
+use pl_model::kept::Kept;
+use pl_term::Memory;
+use std::alloc::Global;
+use std::marker::Model;
+
+/// The clauses of a procedure, seen by contracts as the list of them in database order, each with the places of the
+/// updates that added and that erased it. A call finds its next clause by the key of its first argument and passes over
+/// no clause of another key.
+#[derive(Drop)]
+pub struct Dated<C: Kept> {
+    shelf: Shelf<C>,
+}
+
+impl<C: Kept> Model for Dated<C> {
+    ghost use Rattle.std.specs.Prelude.{List};
+    ghost use Rattle.gen_core.specs.declared.dated_clause.DatedClause.{DatedClause};
+    ghost use Rattle.gen_core.specs.Shelf.{IsSound, clauses_of};
+
+    ghost Value = { List (DatedClause C) };
+
+    ghost view = { λ d. clauses_of d.shelf.clauses };
+
+    ghost invariant = { λ d. IsSound C.Key.Ord.cmp C.any C.key_of d.shelf };
+}
+
+impl<C: Kept> Dated<C> {
+    /// No clauses. It takes no memory.
+    pub fn new(alloc: Global) -> Dated<C>
+        ensures { result ≡ [] }
+    {
+        Dated {
+            shelf: Shelf::new(alloc),
+        }
+    }
+
+    /// Whether the generation `g` sees a clause. It takes no memory.
+    pub fn visible(&self, g: u64) -> bool
+        ensures { result ≡ list_any (is_visible g) self.now }
+    {
+        self.shelf.any_visible(g)
+    }
+
+    /// The first clause of a call at the generation `g` whose first argument has the key `first`, or the next one behind
+    /// that which was added at `place`, with its place and whether more follow. It takes no memory.
+    pub fn next_after(&self, place: Option<u64>, g: u64, first: &C::Key) -> Option<Hit<'_, C>>
+        ensures { hit_of result ≡ first_choice (filter (is_choice C.Key.Ord.cmp C.any C.key_of g first.now) (behind place self.now)) }
+    {
+        self.shelf.next_after(place, g, first)
+    }
+
+    /// Whether one of the first `floor` updates erased a clause. It takes no memory.
+    pub fn droppable(&self, floor: u64) -> bool
+        ensures { result ≡ list_any (is_droppable floor) self.now }
+    {
+        self.shelf.droppable(floor)
+    }
+
+    /// How many clauses are erased. It takes no memory.
+    pub fn erased_len(&self) -> usize
+        ensures { result ≡ sum_by counted self.now }
+    {
+        self.shelf.erased_len()
+    }
+
+    /// Adds a clause as the first one (ISO 8.9.1), by the update at `place`, which is above the places of all earlier
+    /// additions. A refused clause is handed back, and the list is as it was; the only cause is want of memory.
+    pub fn add_first(&mut self, clause: C, place: u64) -> Result<(), (C, Memory)>
+        requires bound { place < 2 ^ 49 }
+        requires later { All (λ d. d.place < place) self.old }
+        ensures ok { OnOk result (self.new ≡ fresh place clause ∷ self.old) }
+        ensures err { IfErr result (λ e. (e.0 ≡ clause) × (self.new ≡ self.old)) }
+    {
+        self.shelf.add(clause, place, first_number(place))
+    }
+
+    /// Adds a clause as the last one (ISO 8.9.2), by the update at `place`, which is above the places of all earlier
+    /// additions. A refused clause is handed back, and the list is as it was; the only cause is want of memory.
+    pub fn add_last(&mut self, clause: C, place: u64) -> Result<(), (C, Memory)>
+        requires bound { place < 2 ^ 49 }
+        requires later { All (λ d. d.place < place) self.old }
+        ensures ok { OnOk result (self.new ≡ self.old ++ fresh place clause ∷ []) }
+        ensures err { IfErr result (λ e. (e.0 ≡ clause) × (self.new ≡ self.old)) }
+    {
+        self.shelf.add(clause, place, last_number(place))
+    }
+
+    /// Erases the clause that was added at the place `clause`, by the update at `place`, and says whether it was there and
+    /// not erased before (ISO 8.9.3). The only error is want of memory; after it the list is as it was.
+    pub fn erase(&mut self, clause: u64, place: u64) -> Result<bool, Memory>
+        ensures was { IfOk result (λ b. b ≡ list_any (λ d. (d.place == clause) && is_live d) self.old) }
+        ensures ok { OnOk result (self.new ≡ map (erased_by clause place) self.old) }
+        ensures err { OnErr result (self.new ≡ self.old) }
+    {
+        self.shelf.erase(clause, place)
+    }
+
+    /// Takes out a clause that one of the first `floor` updates erased, the one that was erased first, if there is one,
+    /// and hands it out. It takes no memory.
+    pub fn drop_erased(&mut self, floor: u64) -> Option<C>
+        ensures some { IfSome result (λ c. DropsOne floor c self.old self.new) }
+        ensures none { IfNone result ((list_any (is_droppable floor) self.old ≡ false) × (self.new ≡ self.old)) }
+    {
+        self.shelf.drop_erased(floor)
+    }
+}
