@@ -6,3 +6,5 @@ pub mod Answers
 pub mod Courses
 pub mod Scripts
 pub mod Residents
+pub mod Onces
+pub mod OnceGiven

@@ -23,6 +23,10 @@ next_refusals (Retry c) = RefusalAgain c ∷ []
 next_refusals (Worn w) = RefusalWorn w ∷ []
 next_refusals Memory = []
 
+abbrev pub is_done : {T : Type 0} → Next T → Bool
+is_done Done = true
+is_done _ = false
+
 -- The atoms that an item names.
 abbrev pub next_names : {T : Type 0} → (T → List ℕ) → Next T → List ℕ
 next_names names (Item t d) = names t

@@ -1,5 +1,5 @@
 //! The trait of scripts.
-ghost use Rattle.std.specs.Prelude.{◌≡◌, ◌++◌, ℕ, false, List, Option, IsSome};
+ghost use Rattle.std.specs.Prelude.{◌≡◌, ◌++◌, ℕ, Bool, false, List, Option, IsSome};
 ghost use Rattle.std.specs.Option.{option_map};
 ghost use Rattle.std.specs.List.{All};
 ghost use Rattle.pl_term.specs.Tree.{Chars};
@@ -7,7 +7,7 @@ ghost use Rattle.pl_model.specs.Execution.{Script as ScriptOf, Consulted, Execut
 ghost use Rattle.world_api.specs.Texts.{text_of, Holds};
 ghost use Rattle.world_api.specs.Told.{Told, has_ended};
 ghost use Rattle.world_api.specs.Courses.{Part};
-ghost use Rattle.world_api.specs.Scripts.{IsAsked, Given, next_refusals, next_names};
+ghost use Rattle.world_api.specs.Scripts.{IsAsked, Given, next_refusals, next_names, is_done};
 
 use crate::how::How;
 use crate::named::Named;
@@ -47,6 +47,9 @@ pub trait Script {
     // What it consults or runs may be this.
     ghost plays: { (ℕ → Chars) → Self → ScriptOf → Type 0 };
 
+    // Whether it has answered that there is no further item.
+    ghost over: { Self → Bool };
+
     // The name of the file.
     ghost name: { Self → Chars };
 
@@ -64,10 +67,12 @@ pub trait Script {
     ) -> Next<Self::Term>
         requires runs { has_ended (W.told world.old).engine (W.told world.old).history ≡ false }
         requires asked { IsAsked (part self.old) (option_map (λ b. b.now) ended) }
+        requires goes_on { over self.old ≡ false }
         requires held { All (λ a. IsSome (W.A.held atoms.old a)) (names self.old) }
         ensures given { Given execution part Self.Term.term plays (name self.old)
             (text_of (W.A.held atoms.old)) (text_of (W.A.held atoms.new)) self.old (option_map (λ b. b.now) ended.entry) (W.told world.old) text.old.items
             result self.new (W.told world.new) text.new.items }
+        ensures over { over self.new ≡ is_done result }
         ensures held { All (λ a. IsSome (W.A.held atoms.new a)) (names self.new ++ next_names Self.Term.names result) }
         ensures runs { has_ended (W.told world.new).engine (W.told world.new).history ≡ false }
         ensures holds { Holds (W.A.held atoms.old) (W.A.held atoms.new) }

@@ -1,0 +1,57 @@
+use Rattle.std.proofs.Common.{◌≡◌, refl, sym, subst}
+use Rattle.pl_model.specs.Requests.{look}
+use Rattle.world_api.specs.Texts.{text_of}
+use Rattle.world_api.specs.declared.once.Stage.{Stage}
+use Rattle.world_api.specs.declared.script.Next.{Next}
+use Rattle.world_api.specs.OnceGiven.{TakenUp}
+use Rattle.world_api.proofs.OnceLaws.{look_serves, looked_of}
+use Rattle.world_api.proofs.once.take_up.Goals.{in-Served, in-NeedsAtoms, in-Retry, in-Worn, in-Memory}
+use Rattle.world_api.proofs.once.take_up.Goals as goal
+
+pub unreachable-requires : goal.unreachable-requires
+unreachable-requires g c =
+    let v = c.in-Waits.ensures.visited in look_serves _ _ v.0 (v.1.1.waiting look refl)
+
+pub returns-clause-taken : goal.returns-clause-taken
+returns-clause-taken g c =
+    elim c.match-visit.branch [
+      | in-Served w ↦
+          subst
+          (λ (r : Stage g.row.T.Denot × Next g.row.T.Denot). TakenUp c.args.goal (g.W.World.told c.args.world.now) r.1 r.0 (g.W.World.told c.visit.new.self))
+          (sym w.result-is) (
+            refl,
+            refl,
+            refl,
+            looked_of
+                g.T.Kept.term
+                g.T.Kept.key_of
+                (text_of (g.W.A.Atoms.held c.args.atoms.now))
+                (text_of (g.W.A.Atoms.held c.visit.new.atoms))
+                w.in-Served.reply
+                w.in-Served.generation
+                (g.W.World.told c.args.world.now)
+                w.in-Served.ensures.visited.0
+                (g.W.World.told c.visit.new.self)
+                w.in-Served.ensures.visited.1,
+          )
+      | in-NeedsAtoms w ↦
+          subst
+          (λ (r : Stage g.row.T.Denot × Next g.row.T.Denot). TakenUp c.args.goal (g.W.World.told c.args.world.now) r.1 r.0 (g.W.World.told c.visit.new.self))
+          (sym w.result-is)
+          (refl, w.in-NeedsAtoms.ensures.visited.1)
+      | in-Retry w ↦
+          subst
+          (λ (r : Stage g.row.T.Denot × Next g.row.T.Denot). TakenUp c.args.goal (g.W.World.told c.args.world.now) r.1 r.0 (g.W.World.told c.visit.new.self))
+          (sym w.result-is)
+          (refl, w.in-Retry.ensures.visited.1)
+      | in-Worn w ↦
+          subst
+          (λ (r : Stage g.row.T.Denot × Next g.row.T.Denot). TakenUp c.args.goal (g.W.World.told c.args.world.now) r.1 r.0 (g.W.World.told c.visit.new.self))
+          (sym w.result-is)
+          (refl, w.in-Worn.ensures.visited.1)
+      | in-Memory w ↦
+          subst
+          (λ (r : Stage g.row.T.Denot × Next g.row.T.Denot). TakenUp c.args.goal (g.W.World.told c.args.world.now) r.1 r.0 (g.W.World.told c.visit.new.self))
+          (sym w.result-is)
+          (refl, w.in-Memory.ensures.visited.1)
+    ]

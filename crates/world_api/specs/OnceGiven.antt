@@ -1,0 +1,28 @@
+-- How the goal of a script of one goal is taken up.
+use Rattle.std.specs.Prelude.{◌≡◌, ℕ, List, [], ◌∷◌, ◌++◌, length, Bool, true, false, Option}
+use Rattle.pl_model.specs.History.{Kind, History}
+use Rattle.pl_model.specs.Requests.{look}
+use Rattle.pl_model.specs.Requests as requests
+use Rattle.pl_model.specs.Service.{answers}
+use Rattle.pl_model.specs.Progress.{entry_by, served_now}
+use Rattle.world_api.specs.declared.script.Next.{Next}
+use Rattle.world_api.specs.declared.script.Next.TheVariants.{Item, Done}
+use Rattle.world_api.specs.declared.once.Stage.{Stage}
+use Rattle.world_api.specs.declared.once.Stage.TheVariants.{Fresh, AtHand}
+use Rattle.world_api.specs.Told.{Told, Follows}
+use Rattle.world_api.specs.Answers.{seen_as}
+
+-- A look behind all entries.
+pub record Looked (t u : Told) : Type 0 where
+  pub before : History
+  pub reply : requests.Reply
+  pub update : Option Kind
+  pub follows : Follows t.engine t.history before
+  pub served : served_now t.engine t.goals before look ≡ answers reply update
+  pub told : u ≡ seen_as t (before ++ entry_by t.engine update) (t.gens ++ length before ∷ [])
+
+-- The goal is given as an item, or is kept and nothing was told.
+abbrev pub TakenUp : {T : Type 0} → T → Told → Next T → Stage T → Told → Type 0
+TakenUp goal t (Item g directive) stage u = (g ≡ goal) × (directive ≡ false) × (stage ≡ AtHand) × Looked t u
+TakenUp goal t Done stage u = ⊥
+TakenUp goal t _ stage u = (stage ≡ Fresh goal) × (u ≡ t)

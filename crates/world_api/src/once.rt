@@ -1,0 +1,109 @@
+//! The script of an engine that was started with a goal.
+ghost use Rattle.std.specs.Prelude.{◌≡◌, ◌++◌, false, IsSome, None};
+ghost use Rattle.std.specs.List.{All};
+ghost use Rattle.world_api.specs.Texts.{text_of, Holds};
+ghost use Rattle.world_api.specs.Told.{has_ended};
+ghost use Rattle.world_api.specs.Scripts.{next_refusals};
+ghost use Rattle.world_api.specs.OnceGiven.{TakenUp};
+
+use crate::answer::Answer;
+use crate::how::How;
+use crate::named::Named;
+use crate::script::{Next, Script};
+use crate::visit::Visit;
+use crate::world::World;
+use std::mem;
+
+/// How far a script of one goal has come.
+#[derive(Drop)]
+pub enum Stage<T> {
+    /// The goal is to be taken up.
+    Fresh(T),
+    /// It is searched for.
+    AtHand,
+    /// Its search has ended.
+    Over,
+}
+
+/// The script of an engine that was started with a goal: the goal, once.
+#[derive(Drop)]
+pub struct Once<T> {
+    stage: Stage<T>,
+}
+
+impl<T: Named + Drop> Once<T> {
+    /// The script of an engine that was started with this goal, whose variables are numbered from 0.
+    pub fn new(goal: T) -> Once<T> {
+        Once {
+            stage: Stage::Fresh(goal),
+        }
+    }
+}
+
+impl<T: Named + Drop> Script for Once<T> {
+    ghost use Rattle.std.specs.Prelude.{[]};
+    ghost use Rattle.world_api.specs.Onces.{execution_of, part_of, plays_of, names_of, over_of, same_under};
+
+    type Term = T;
+
+    ghost execution = { λ text s cs. execution_of T.term text s.stage cs };
+
+    ghost part = { λ s. part_of s.stage };
+
+    ghost plays = { λ text s x. plays_of T.term text s.stage x };
+
+    ghost over = { λ s. over_of s.stage };
+
+    ghost name = { λ _. [] };
+
+    ghost names = { λ s. names_of T.names s.stage };
+
+    ghost names_tell = { λ s text other same. same_under T.term T.names T.names_tell s.stage text other same };
+
+    fn next<W: World<Term = T>>(
+        &mut self,
+        _ended: Option<&How<T>>,
+        world: &mut W,
+        atoms: &mut W::A,
+        _text: &mut Vec<u8>,
+    ) -> Next<T> {
+        match mem::replace(&mut self.stage, Stage::Over) {
+            Stage::Fresh(goal) => {
+                let (stage, next) = take_up(goal, world, atoms);
+                self.stage = stage;
+                next
+            }
+            Stage::AtHand => Next::Done,
+            Stage::Over => unreachable!(),
+        }
+    }
+}
+
+/// The goal is taken up by a look at the shared state: how far the script has come then, and what it has next.
+fn take_up<T: Named + Drop, W: World<Term = T>>(
+    goal: T,
+    world: &mut W,
+    atoms: &mut W::A,
+) -> (Stage<T>, Next<T>)
+    requires runs { has_ended (W.told world.old).engine (W.told world.old).history ≡ false }
+    requires held { All (λ a. IsSome (W.A.held atoms.old a)) (T.names goal) }
+    ensures taken { TakenUp goal (W.told world.old) result.1 result.0 (W.told world.new) }
+    ensures runs { has_ended (W.told world.new).engine (W.told world.new).history ≡ false }
+    ensures holds { Holds (W.A.held atoms.old) (W.A.held atoms.new) }
+    ensures refusals { W.A.refusals atoms.new ≡ W.A.refusals atoms.old ++ next_refusals result.1 }
+{
+    match world.visit(Visit::Look, atoms) {
+        Answer::Served { .. } => (
+            Stage::AtHand,
+            Next::Item {
+                goal,
+                directive: false,
+            },
+        ),
+        Answer::Waits { .. } => unreachable!(),
+        Answer::NeedsAtoms(pass) => (Stage::Fresh(goal), Next::NeedsAtoms(pass)),
+        Answer::Retry(cause) => (Stage::Fresh(goal), Next::Retry(cause)),
+        Answer::Worn(word) => (Stage::Fresh(goal), Next::Worn(word)),
+        Answer::Memory => (Stage::Fresh(goal), Next::Memory),
+    }
+}
