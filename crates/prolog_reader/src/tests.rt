@@ -5,6 +5,29 @@ use std::alloc::{AllocError, Global};
 use std::convert::AsStr;
 use std::test::Fail;
 
+/// The operators at the start.
+pub fn operators(alloc: Global) -> Result<OpTable, AllocError> {
+    match OpTable::iso(alloc) {
+        Ok(ops) => Ok(ops),
+        Err(_) => Err(AllocError),
+    }
+}
+
+/// Makes an operator.
+pub fn add(
+    alloc: Global,
+    ops: &mut OpTable,
+    priority: u16,
+    kind: Kind,
+    name: &str,
+) -> Result<(), AllocError> {
+    let Ok(name) = Text::from_str(alloc, name) else {
+        return Err(AllocError);
+    };
+    let _ = ops.add(priority, kind, &name);
+    Ok(())
+}
+
 /// What was read: the nodes of a clause's term in prefix order, its named variables and its places, or the fault.
 pub fn described(alloc: Global, read: &Read) -> Result<String, AllocError> {
     match read {
@@ -104,7 +127,7 @@ fn reads_primaries(rt: HostRuntime) -> Result<(), Fail> {
         (b"\\ a.", "\\/1 a 0-4"),
         (b"\\ (a).", "\\/1 a 0-6"),
     ];
-    let ops = OpTable::iso(rt.alloc()).map_err(|_| AllocError)?;
+    let ops = operators(rt.alloc())?;
     for (text, expected) in cases {
         let read = read_term(rt.alloc(), text, 0, &ops, Quotes::Codes);
         assert_eq!(rt; described(rt.alloc(), &read)?.as_str(), expected);
@@ -166,7 +189,7 @@ fn reads_operations(rt: HostRuntime) -> Result<(), Fail> {
         (b"f(a ',' b).", "UnexpectedToken 4"),
         (b"','(a,b).", ",/2 a b 0-9"),
     ];
-    let ops = OpTable::iso(rt.alloc()).map_err(|_| AllocError)?;
+    let ops = operators(rt.alloc())?;
     for (text, expected) in cases {
         let read = read_term(rt.alloc(), text, 0, &ops, Quotes::Codes);
         assert_eq!(rt; described(rt.alloc(), &read)?.as_str(), expected);
@@ -228,7 +251,7 @@ fn finds_faults(rt: HostRuntime) -> Result<(), Fail> {
         (b"1.5.", "FloatNumeral 0"),
         (b"a 9223372036854775808.", "UnexpectedToken 2"),
     ];
-    let ops = OpTable::iso(rt.alloc()).map_err(|_| AllocError)?;
+    let ops = operators(rt.alloc())?;
     for (text, expected) in cases {
         let read = read_term(rt.alloc(), text, 0, &ops, Quotes::Codes);
         assert_eq!(rt; described(rt.alloc(), &read)?.as_str(), expected);
@@ -280,7 +303,7 @@ fn reads_tokens(rt: HostRuntime) -> Result<(), Fail> {
         (b"!;!.", ";/2 ! ! 0-4"),
         (b"a:- \\+b,!.", ":-/2 a ,/2 \\+/1 b ! 0-10"),
     ];
-    let ops = OpTable::iso(rt.alloc()).map_err(|_| AllocError)?;
+    let ops = operators(rt.alloc())?;
     for (text, expected) in cases {
         let read = read_term(rt.alloc(), text, 0, &ops, Quotes::Codes);
         assert_eq!(rt; described(rt.alloc(), &read)?.as_str(), expected);
@@ -304,7 +327,7 @@ fn reads_bytes(rt: HostRuntime) -> Result<(), Fail> {
         (b"a'\xff", "OpenQuote 1"),
         (b"% \xff\na.", "BadUtf8 2"),
     ];
-    let ops = OpTable::iso(rt.alloc()).map_err(|_| AllocError)?;
+    let ops = operators(rt.alloc())?;
     for (text, expected) in cases {
         let read = read_term(rt.alloc(), text, 0, &ops, Quotes::Codes);
         assert_eq!(rt; described(rt.alloc(), &read)?.as_str(), expected);
@@ -326,7 +349,7 @@ fn reads_characters(rt: HostRuntime) -> Result<(), Fail> {
         (b"a \"=\" b.", "UnexpectedToken 2"),
         (b"`a`.", "./2 97 [] 0-4"),
     ];
-    let ops = OpTable::iso(rt.alloc()).map_err(|_| AllocError)?;
+    let ops = operators(rt.alloc())?;
     for (text, expected) in cases {
         let read = read_term(rt.alloc(), text, 0, &ops, Quotes::Chars);
         assert_eq!(rt; described(rt.alloc(), &read)?.as_str(), expected);
@@ -348,7 +371,7 @@ fn reads_atoms(rt: HostRuntime) -> Result<(), Fail> {
         (b"a \"=\" b.", "UnexpectedToken 2"),
         (b"`a`.", "./2 97 [] 0-4"),
     ];
-    let ops = OpTable::iso(rt.alloc()).map_err(|_| AllocError)?;
+    let ops = operators(rt.alloc())?;
     for (text, expected) in cases {
         let read = read_term(rt.alloc(), text, 0, &ops, Quotes::Atom);
         assert_eq!(rt; described(rt.alloc(), &read)?.as_str(), expected);
@@ -360,7 +383,7 @@ fn reads_atoms(rt: HostRuntime) -> Result<(), Fail> {
 #[test]
 fn reads_added_operators(rt: HostRuntime) -> Result<(), Fail> {
     let alloc = rt.alloc();
-    let mut ops = OpTable::iso(alloc).map_err(|_| AllocError)?;
+    let mut ops = operators(alloc)?;
     let added = [
         (300, Kind::Yf, "fact"),
         (300, Kind::Xf, "once"),
@@ -369,8 +392,7 @@ fn reads_added_operators(rt: HostRuntime) -> Result<(), Fail> {
         (999, Kind::Fy, "not"),
     ];
     for (priority, kind, name) in added {
-        let name = Text::from_str(alloc, name).map_err(|_| AllocError)?;
-        let _ = ops.add(priority, kind, &name);
+        add(alloc, &mut ops, priority, kind, name)?;
     }
     let cases: [(&[u8], &str); 23] = [
         (b"a fact.", "fact/1 a 0-7"),
@@ -436,7 +458,7 @@ fn nodes_read(alloc: Global, ops: &OpTable, text: &[u8]) -> Option<usize> {
 #[test]
 fn reads_deep_parentheses(rt: HostRuntime) -> Result<(), Fail> {
     let alloc = rt.alloc();
-    let ops = OpTable::iso(alloc).map_err(|_| AllocError)?;
+    let ops = operators(alloc)?;
     let text = repeated(alloc, b"(", b"a", b")", 100_000)?;
     assert_eq!(rt; nodes_read(alloc, &ops, &text), Some(1));
     Ok(())
@@ -445,7 +467,7 @@ fn reads_deep_parentheses(rt: HostRuntime) -> Result<(), Fail> {
 #[test]
 fn reads_deep_compound_terms(rt: HostRuntime) -> Result<(), Fail> {
     let alloc = rt.alloc();
-    let ops = OpTable::iso(alloc).map_err(|_| AllocError)?;
+    let ops = operators(alloc)?;
     let text = repeated(alloc, b"f(", b"a", b")", 100_000)?;
     assert_eq!(rt; nodes_read(alloc, &ops, &text), Some(100_001));
     Ok(())
@@ -454,7 +476,7 @@ fn reads_deep_compound_terms(rt: HostRuntime) -> Result<(), Fail> {
 #[test]
 fn reads_deep_lists(rt: HostRuntime) -> Result<(), Fail> {
     let alloc = rt.alloc();
-    let ops = OpTable::iso(alloc).map_err(|_| AllocError)?;
+    let ops = operators(alloc)?;
     let text = repeated(alloc, b"[", b"a", b"]", 100_000)?;
     assert_eq!(rt; nodes_read(alloc, &ops, &text), Some(200_001));
     Ok(())
@@ -463,7 +485,7 @@ fn reads_deep_lists(rt: HostRuntime) -> Result<(), Fail> {
 #[test]
 fn reads_deep_prefix_operators(rt: HostRuntime) -> Result<(), Fail> {
     let alloc = rt.alloc();
-    let ops = OpTable::iso(alloc).map_err(|_| AllocError)?;
+    let ops = operators(alloc)?;
     let text = repeated(alloc, b"- ", b"a", b"", 100_000)?;
     assert_eq!(rt; nodes_read(alloc, &ops, &text), Some(100_001));
     Ok(())
@@ -473,7 +495,7 @@ fn reads_deep_prefix_operators(rt: HostRuntime) -> Result<(), Fail> {
 #[test]
 fn reads_long_conjunctions(rt: HostRuntime) -> Result<(), Fail> {
     let alloc = rt.alloc();
-    let ops = OpTable::iso(alloc).map_err(|_| AllocError)?;
+    let ops = operators(alloc)?;
     let conjunction = repeated(alloc, b"", b"a", b",a", 100_000)?;
     assert_eq!(rt; nodes_read(alloc, &ops, &conjunction), Some(200_001));
     Ok(())
@@ -482,7 +504,7 @@ fn reads_long_conjunctions(rt: HostRuntime) -> Result<(), Fail> {
 #[test]
 fn reads_long_sums(rt: HostRuntime) -> Result<(), Fail> {
     let alloc = rt.alloc();
-    let ops = OpTable::iso(alloc).map_err(|_| AllocError)?;
+    let ops = operators(alloc)?;
     let sums = repeated(alloc, b"", b"a", b"+a", 100_000)?;
     assert_eq!(rt; nodes_read(alloc, &ops, &sums), Some(200_001));
     Ok(())
@@ -501,7 +523,7 @@ fn skips_long_numerals(rt: HostRuntime) -> Result<(), Fail> {
 #[test]
 fn reads_names_up_to_248_bytes(rt: HostRuntime) -> Result<(), Fail> {
     let alloc = rt.alloc();
-    let ops = OpTable::iso(alloc).map_err(|_| AllocError)?;
+    let ops = operators(alloc)?;
     let fits = repeated(alloc, b"a", b"", b"", 248)?;
     let longer = repeated(alloc, b"a", b"", b"", 249)?;
     let operand = repeated(alloc, b"", b"b ", b"a", 249)?;
@@ -520,6 +542,121 @@ fn reads_names_up_to_248_bytes(rt: HostRuntime) -> Result<(), Fail> {
     assert_eq!(rt;
         described(alloc, &read_term(alloc, &operand, 0, &ops, Quotes::Codes))?.as_str(),
         "UnexpectedToken 2"
+    );
+    Ok(())
+}
+
+/// What a whole text is read as: each clause, and each fault, behind which reading goes on where skipping goes.
+fn items(alloc: Global, ops: &OpTable, text: &[u8]) -> Result<String, AllocError> {
+    let mut shown = String::new(alloc);
+    let mut at = 0;
+    for _ in 0..text.len() {
+        let read = read_term(alloc, text, at, ops, Quotes::Codes);
+        let Some(next) = place_behind(text, at, &read) else {
+            return Ok(shown);
+        };
+        shown.push_str(described(alloc, &read)?.as_str())?;
+        shown.push_str("; ")?;
+        at = next;
+    }
+    Ok(shown)
+}
+
+/// Where reading goes on behind what was read at a place, if it does.
+fn place_behind(text: &[u8], at: usize, read: &Read) -> Option<usize> {
+    match read {
+        Read::Clause { next, .. } => Some(*next),
+        Read::Syntax { .. } => Some(skip(text, at)),
+        _ => None,
+    }
+}
+
+/// Whole texts, some of them cut off: reading goes on behind each clause and each fault.
+#[test]
+fn reads_whole_texts(rt: HostRuntime) -> Result<(), Fail> {
+    let alloc = rt.alloc();
+    let mut ops = operators(alloc)?;
+    add(alloc, &mut ops, 700, Kind::Xfx, "===>")?;
+    let cases: [(&[u8], &str); 32] = [
+        (b"", ""),
+        (b"p", "UnexpectedEnd 1; "),
+        (b"p(", "UnexpectedEnd 2; "),
+        (b"p('", "OpenQuote 2; "),
+        (b"p('a", "OpenQuote 2; "),
+        (b"p('ab", "OpenQuote 2; "),
+        (b"p('ab'", "UnexpectedEnd 6; "),
+        (b"p('ab')", "UnexpectedEnd 7; "),
+        (b"p('ab').", "p/1 ab 0-8; "),
+        (b"p('ab'). ", "p/1 ab 0-8; "),
+        (b"p('ab'). q", "p/1 ab 0-8; UnexpectedEnd 10; "),
+        (b"p('ab'). q.", "p/1 ab 0-8; q 9-11; "),
+        (
+            b"p(1).\np(2).\np('ab",
+            "p/1 1 0-5; p/1 2 6-11; OpenQuote 14; ",
+        ),
+        (b"p(1. p(2).", "UnexpectedToken 3; p/1 2 5-10; "),
+        (
+            b":- op(700,xfx,===>). r(a ===> b).",
+            ":-/1 op/3 700 xfx ===> 0-20; r/1 ===>/2 a b 21-33; ",
+        ),
+        (
+            b"p(1). q(X) :- p(X).",
+            "p/1 1 0-5; :-/2 q/1 _0 p/1 _0 X=0 6-19; ",
+        ),
+        (b"a- 1 .", "-/2 a 1 0-6; "),
+        (b"\xff", "BadUtf8 0; "),
+        (b"\xff. a.", "BadUtf8 0; a 3-5; "),
+        (b"p. q(. r.", "p 0-2; UnexpectedToken 5; r 7-9; "),
+        (b"p('\\q. '). q.", "BadEscape 3; q 11-13; "),
+        (b"p(1.5). q.", "FloatNumeral 2; q 8-10; "),
+        (b"0''. a. b.", "BadEscape 0; a 5-7; b 8-10; "),
+        (
+            b"a b. c /* . */ d. e.",
+            "UnexpectedToken 2; UnexpectedToken 15; e 18-20; ",
+        ),
+        (b"a. /* b", "a 0-2; OpenComment 3; "),
+        (b"a. 'b. c.", "a 0-2; OpenQuote 3; "),
+        (b"). a.", "UnexpectedToken 0; a 3-5; "),
+        (b". . a.", "UnexpectedToken 0; UnexpectedToken 2; a 4-6; "),
+        (b"f(:- a). b.", "PriorityClash 2; b 9-11; "),
+        (
+            b"\x00. a. \x00 b. c.",
+            "LoneCharacter 0; a 3-5; LoneCharacter 6; c 11-13; ",
+        ),
+        (
+            b"p(X,Y). q(Y,X).",
+            "p/2 _0 _1 X=0 Y=1 0-7; q/2 _0 _1 Y=0 X=1 8-15; ",
+        ),
+        (b"% a.\nb.\n% c.", "b 5-7; "),
+    ];
+    for (text, expected) in cases {
+        assert_eq!(rt; items(alloc, &ops, text)?.as_str(), expected);
+    }
+    Ok(())
+}
+
+/// An argument of 249 bytes, and a text that only opens.
+#[test]
+fn finds_faults_far_inside(rt: HostRuntime) -> Result<(), Fail> {
+    let alloc = rt.alloc();
+    let ops = operators(alloc)?;
+    let mut long = Vec::new(alloc);
+    long.extend_from_slice(b"atom_length('")?;
+    for _ in 0..249 {
+        long.push(b'a')?;
+    }
+    long.extend_from_slice(b"',N).")?;
+    let opened = repeated(alloc, b"f(", b"", b"", 100_000)?;
+    let Some((_, open)) = opened.split_last() else {
+        return Ok(());
+    };
+    assert_eq!(rt;
+        described(alloc, &read_term(alloc, &long, 0, &ops, Quotes::Codes))?.as_str(),
+        "AtomTooLong 12"
+    );
+    assert_eq!(rt;
+        described(alloc, &read_term(alloc, open, 0, &ops, Quotes::Codes))?.as_str(),
+        "UnexpectedEnd 200000"
     );
     Ok(())
 }

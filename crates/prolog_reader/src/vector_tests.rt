@@ -1,15 +1,13 @@
-use crate::tests::described;
+use crate::tests::{add, described, operators};
 use crate::*;
-use op_table::{Kind, OpTable};
-use pl_term::Text;
-use std::alloc::AllocError;
+use op_table::Kind;
 use std::test::Fail;
 
 /// Escape sequences (ISO 6.4.2.1).
 #[test]
 fn reads_good_escapes(rt: HostRuntime) -> Result<(), Fail> {
     let alloc = rt.alloc();
-    let ops = OpTable::iso(alloc).map_err(|_| AllocError)?;
+    let ops = operators(alloc)?;
     let cases: [(&[u8], &str); 47] = [
         (b"'\\a'.", "\u{7} 0-5"),
         (b"'\\b'.", "\u{8} 0-5"),
@@ -70,7 +68,7 @@ fn reads_good_escapes(rt: HostRuntime) -> Result<(), Fail> {
 #[test]
 fn refuses_bad_escapes(rt: HostRuntime) -> Result<(), Fail> {
     let alloc = rt.alloc();
-    let ops = OpTable::iso(alloc).map_err(|_| AllocError)?;
+    let ops = operators(alloc)?;
     let cases: [(&[u8], &str); 38] = [
         (b"'\\q'.", "BadEscape 1"),
         (b"'\\z'.", "BadEscape 1"),
@@ -122,7 +120,7 @@ fn refuses_bad_escapes(rt: HostRuntime) -> Result<(), Fail> {
 #[test]
 fn reads_numerals(rt: HostRuntime) -> Result<(), Fail> {
     let alloc = rt.alloc();
-    let ops = OpTable::iso(alloc).map_err(|_| AllocError)?;
+    let ops = operators(alloc)?;
     let cases: [(&[u8], &str); 48] = [
         (b"0.", "0 0-2"),
         (b"007.", "7 0-4"),
@@ -184,7 +182,7 @@ fn reads_numerals(rt: HostRuntime) -> Result<(), Fail> {
 #[test]
 fn reads_more_numerals(rt: HostRuntime) -> Result<(), Fail> {
     let alloc = rt.alloc();
-    let ops = OpTable::iso(alloc).map_err(|_| AllocError)?;
+    let ops = operators(alloc)?;
     let cases: [(&[u8], &str); 48] = [
         (b"0b2.", "UnexpectedToken 1"),
         (b"0b.", "UnexpectedToken 1"),
@@ -246,7 +244,7 @@ fn reads_more_numerals(rt: HostRuntime) -> Result<(), Fail> {
 #[test]
 fn reads_listed_terms(rt: HostRuntime) -> Result<(), Fail> {
     let alloc = rt.alloc();
-    let ops = OpTable::iso(alloc).map_err(|_| AllocError)?;
+    let ops = operators(alloc)?;
     let cases: [(&[u8], &str); 48] = [
         (b"a.b", "UnexpectedToken 1"),
         (b"a. b", "a 0-2"),
@@ -308,7 +306,7 @@ fn reads_listed_terms(rt: HostRuntime) -> Result<(), Fail> {
 #[test]
 fn reads_chains(rt: HostRuntime) -> Result<(), Fail> {
     let alloc = rt.alloc();
-    let ops = OpTable::iso(alloc).map_err(|_| AllocError)?;
+    let ops = operators(alloc)?;
     let cases: [(&[u8], &str); 48] = [
         (b"a:-b,c;d->e.", ":-/2 a ;/2 ,/2 b c ->/2 d e 0-12"),
         (b"a->b->c.", "->/2 a ->/2 b c 0-8"),
@@ -370,7 +368,7 @@ fn reads_chains(rt: HostRuntime) -> Result<(), Fail> {
 #[test]
 fn refuses_priorities(rt: HostRuntime) -> Result<(), Fail> {
     let alloc = rt.alloc();
-    let ops = OpTable::iso(alloc).map_err(|_| AllocError)?;
+    let ops = operators(alloc)?;
     let cases: [(&[u8], &str); 48] = [
         (b"f(a:-b).", "UnexpectedToken 3"),
         (b"f(:- b).", "PriorityClash 2"),
@@ -432,7 +430,7 @@ fn refuses_priorities(rt: HostRuntime) -> Result<(), Fail> {
 #[test]
 fn reads_operators_by_kind(rt: HostRuntime) -> Result<(), Fail> {
     let alloc = rt.alloc();
-    let mut ops = OpTable::iso(alloc).map_err(|_| AllocError)?;
+    let mut ops = operators(alloc)?;
     let added = [
         (700, Kind::Xfx, "likes"),
         (700, Kind::Xfy, "then"),
@@ -448,8 +446,7 @@ fn reads_operators_by_kind(rt: HostRuntime) -> Result<(), Fail> {
         (1000, Kind::Fx, "comma"),
     ];
     for (priority, kind, name) in added {
-        let name = Text::from_str(alloc, name).map_err(|_| AllocError)?;
-        let _ = ops.add(priority, kind, &name);
+        add(alloc, &mut ops, priority, kind, name)?;
     }
     let cases: [(&[u8], &str); 48] = [
         (b"a likes b.", "likes/2 a b 0-10"),
@@ -512,7 +509,7 @@ fn reads_operators_by_kind(rt: HostRuntime) -> Result<(), Fail> {
 #[test]
 fn reads_layout_and_bytes(rt: HostRuntime) -> Result<(), Fail> {
     let alloc = rt.alloc();
-    let ops = OpTable::iso(alloc).map_err(|_| AllocError)?;
+    let ops = operators(alloc)?;
     let cases: [(&[u8], &str); 48] = [
         (b"", "end"),
         (b" ", "end"),
@@ -574,7 +571,7 @@ fn reads_layout_and_bytes(rt: HostRuntime) -> Result<(), Fail> {
 #[test]
 fn reads_names_and_quotes(rt: HostRuntime) -> Result<(), Fail> {
     let alloc = rt.alloc();
-    let ops = OpTable::iso(alloc).map_err(|_| AllocError)?;
+    let ops = operators(alloc)?;
     let cases: [(&[u8], &str); 48] = [
         (b"'a", "OpenQuote 0"),
         (b"'a''", "OpenQuote 0"),
@@ -636,7 +633,7 @@ fn reads_names_and_quotes(rt: HostRuntime) -> Result<(), Fail> {
 #[test]
 fn reads_characters_of_texts(rt: HostRuntime) -> Result<(), Fail> {
     let alloc = rt.alloc();
-    let ops = OpTable::iso(alloc).map_err(|_| AllocError)?;
+    let ops = operators(alloc)?;
     let cases: [(&[u8], &str); 17] = [
         (b"\"a\".", "./2 a [] 0-4"),
         (b"\"ab\".", "./2 a ./2 b [] 0-5"),
@@ -667,7 +664,7 @@ fn reads_characters_of_texts(rt: HostRuntime) -> Result<(), Fail> {
 #[test]
 fn reads_texts_as_atoms(rt: HostRuntime) -> Result<(), Fail> {
     let alloc = rt.alloc();
-    let ops = OpTable::iso(alloc).map_err(|_| AllocError)?;
+    let ops = operators(alloc)?;
     let cases: [(&[u8], &str); 18] = [
         (b"\"a\".", "a 0-4"),
         (b"\"ab\".", "ab 0-5"),
