@@ -1,0 +1,17 @@
+use Rattle.std.proofs.Common.{◌≡◌, ◌++◌, drop, length, sym, ap, subst, ◌∙◌}
+use Rattle.std.specs.List.{All}
+use Rattle.std.proofs.Math.Seq.{drop-append_seam}
+use Rattle.term_store.specs.Cells.{heap_of}
+use Rattle.term_store.specs.Fit.{IsIn}
+use Rattle.term_store.proofs.Stacking.{taken_inside}
+use Rattle.term_store.proofs.build.join_words.Goals as goal
+
+pub finish_compound-requires-clause-inside : goal.finish_compound-requires-clause-inside
+finish_compound-requires-clause-inside c =
+    let h = heap_of c.args.cells.now in
+    let t = c.in-Ok.ensures.ok in
+    let behind : drop c.len-start.result c.move_words.new.args.items ≡ t.taken =
+    ap (λ n. drop n c.move_words.new.args.items) (c.len-start.ensures ∙ c.args.cells.now.args.ok.0)
+    ∙ ap (drop (length h.args)) t.moved ∙ drop-append_seam h.args t.taken in
+    subst (λ ws. All (IsIn h) ws) (sym behind)
+    (taken_inside (IsIn h) c.args.stack.now.items c.move_words.new.stack.items t.taken t.split c.requires.words)

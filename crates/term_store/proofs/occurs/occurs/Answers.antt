@@ -1,0 +1,48 @@
+use Rattle.std.proofs.Common.{◌||◌, sym, ap, ◌∙◌}
+use Rattle.term_store.specs.Cells.{heap_of}
+use Rattle.term_store.specs.Fit.{IsIn}
+use Rattle.term_store.specs.Heap.{meaning, numbered}
+use Rattle.term_store.specs.Unifying.{any_has}
+use Rattle.pl_term.specs.Variables.{has}
+use Rattle.term_store.proofs.Occurring.{empty_list, started, popped, ended, looked}
+use Rattle.term_store.proofs.occurs.occurs.Goals as goal
+
+pub loop-init : goal.loop-init
+loop-init c =
+    let h = heap_of c.args.cells.now in
+    let s = started h (numbered h c.args.slot) c.push.new.self.items c.clear.new.self.items c.args.word c.in_ok-push.ensures.items c.clear.ensures.items c.requires.inside in
+    record { others = s.0; same = s.1 }
+
+pub returns-in_default : goal.returns-in_default
+returns-in_default c =
+    let h = heap_of c.args.cells.now in
+    ended h (numbered h c.args.slot) c.loop.walk.items (has (numbered h c.args.slot) (meaning h c.args.word))
+    (empty_list c.loop.walk.items (sym c.loop.walk.ok.0 ∙ c.in_default.ensures.cases.0)) c.loop.invariant.same
+
+pub deref-at-requires-clause-inside : goal.deref-at-requires-clause-inside
+deref-at-requires-clause-inside c =
+    (popped (IsIn (heap_of c.args.cells.now)) c.loop.walk.items c.pop.new.self.items c.in-Some.next c.in-Some.ensures.items c.loop.invariant.others).1
+
+pub is_here-requires-clause-others : goal.is_here-requires-clause-others
+is_here-requires-clause-others c =
+    (popped (IsIn (heap_of c.args.cells.now)) c.loop.walk.items c.pop.new.self.items c.in-Some.next c.in-Some.ensures.items c.loop.invariant.others).0
+
+pub returns-then-branch : goal.returns-then-branch
+returns-then-branch c =
+    let h = heap_of c.args.cells.now in
+    let x = numbered h c.args.slot in
+    ap (λ q. q || any_has x h c.is_here.new.walk.items) (sym c.if-branch.true) ∙ c.in_ok-is_here.ensures.found
+    ∙ looked h x c.loop.walk.items c.pop.new.self.items c.in-Some.next c.deref-at.result (has x (meaning h c.args.word)) c.in-Some.ensures.items
+    c.loop.invariant.same c.deref-at.ensures.means
+
+pub loop-preserved : goal.loop-preserved
+loop-preserved c =
+    let h = heap_of c.args.cells.now in
+    let x = numbered h c.args.slot in
+    record {
+      others = c.in_ok-is_here.ensures.others;
+      same =
+          ap (λ q. q || any_has x h c.is_here.new.walk.items) (sym c.if-branch.false) ∙ c.in_ok-is_here.ensures.found
+          ∙ looked h x c.loop.walk.items c.pop.new.self.items c.in-Some.next c.deref-at.result (has x (meaning h c.args.word)) c.in-Some.ensures.items
+          c.loop.invariant.same c.deref-at.ensures.means;
+    }

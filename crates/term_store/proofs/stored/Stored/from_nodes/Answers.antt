@@ -1,0 +1,20 @@
+use Rattle.std.proofs.Common.{◌≡◌, ◌+◌, get_or, refl, rules}
+use Rattle.term_store.specs.declared.nodes.AtomNode.TheVariants.{Var}
+use Rattle.term_store.proofs.Renumbering.{numbered_more, numbered_stored, numbered_tree}
+use Rattle.term_store.proofs.stored.Stored.from_nodes.Goals as goal
+
+pub loop-n-preserved : goal.loop-n-preserved
+loop-n-preserved c =
+    numbered_more c.args.nodes.now c.loop-n.n-index c.loop-n.met c.renumbered.new.met c.loop-n.all.items c.push.new.self.items c.loop-n.sum c.in_ok-sum.sum
+    (get_or c.args.nodes.now c.loop-n.n-index (Var 0)) (Var 0) c.in_ok-m.m c.loop-n.invariant c.loop-n-test.true refl c.in_ok-m.ensures.met
+    c.in_ok-m.ensures.renamed c.in_ok-m.ensures.below c.in_ok-sum.ensures c.in_ok-push.ensures.items
+
+pub invariant_of-result : goal.invariant_of-result
+invariant_of-result c =
+    let total : c.in-Some.cells ≡ c.loop-n.sum + c.len-variables.result = search rules in
+    numbered_stored c.requires.0 c.args.nodes.now c.requires.1 c.loop-n.n-index c.loop-n.met c.loop-n.all.items c.loop-n.sum c.loop-n.invariant c.loop-n-test.false
+    c.len-variables.result c.in-Some.cells c.len-variables.ensures total
+
+pub returns : goal.returns
+returns c =
+    numbered_tree c.requires.0 c.args.nodes.now c.requires.1 c.loop-n.n-index c.loop-n.met c.loop-n.all.items c.loop-n.sum c.loop-n.invariant c.loop-n-test.false

@@ -1,0 +1,48 @@
+use Rattle.std.proofs.Common.{◌≡◌, true, false, sym, subst, ◌∙◌}
+use Rattle.term_store.specs.declared.words.Plan.{Plan}
+use Rattle.term_store.specs.declared.words.Plan.TheVariants.{Same, Clash, Bind, Open}
+use Rattle.term_store.specs.declared.words.Word.{Word}
+use Rattle.term_store.specs.Cells.{IsFit, IsFree, heap_of}
+use Rattle.term_store.specs.Fit.{IsIn, Fit}
+use Rattle.term_store.specs.Heap.{Heap, pushed}
+use Rattle.term_store.specs.Unifying.{plan_of, Goes}
+use Rattle.term_store.proofs.Planning.{Planned, planned}
+use Rattle.term_store.proofs.Turning.{goes_same, goes_bind, never_clash, never_occurs}
+use Rattle.term_store.proofs.unify.make_equal.Goals as goal
+
+-- What the plan says of the two words.
+as_planned : (h : Heap) (a b : Word) (p q : Plan) → Fit h → IsIn h a → IsIn h b → IsFree h a → IsFree h b → p ≡ plan_of a b → p ≡ q → Planned h a b q
+as_planned h a b p q fit i j f g e k = subst (Planned h a b) (sym e ∙ k) (planned h a b fit i j f g)
+
+pub returns-in-Same-clause-moves : goal.returns-in-Same-clause-moves
+returns-in-Same-clause-moves c =
+    let h = heap_of c.args.cells.now in
+    let r = c.requires in
+    goes_same h c.args.todo.now.items c.args.left c.args.right
+    (as_planned h c.args.left c.args.right c.compare_words.result Same r.fit.fit r.left r.right r.left_free r.right_free c.compare_words.ensures c.in-Same.is)
+
+pub returns-in-Clash-clause-moves : goal.returns-in-Clash-clause-moves
+returns-in-Clash-clause-moves c =
+    let h = heap_of c.args.cells.now in
+    let r = c.requires in
+    never_clash h c.args.todo.now.items c.args.left c.args.right h c.args.todo.now.items
+    (as_planned h c.args.left c.args.right c.compare_words.result Clash r.fit.fit r.left r.right r.left_free r.right_free c.compare_words.ensures c.in-Clash.is)
+
+pub returns-then-branch-clause-moves : goal.returns-then-branch-clause-moves
+returns-then-branch-clause-moves c =
+    let h = heap_of c.args.cells.now in
+    let r = c.requires in
+    never_occurs h c.args.todo.now.items c.args.left c.args.right h c.args.todo.now.items c.in-Bind.slot c.in-Bind.word
+    (as_planned h c.args.left c.args.right c.compare_words.result (Bind c.in-Bind.slot c.in-Bind.word) r.fit.fit r.left r.right r.left_free r.right_free
+    c.compare_words.ensures c.in-Bind.is)
+    (sym c.in_ok-occurs-in-Bind.ensures ∙ c.if-branch.true)
+
+pub returns-in_ok-bind-in-Bind-clause-moves : goal.returns-in_ok-bind-in-Bind-clause-moves
+returns-in_ok-bind-in-Bind-clause-moves c =
+    let h = heap_of c.args.cells.now in
+    let r = c.requires in
+    subst (λ d. Goes h c.args.todo.now.items c.args.left c.args.right d c.args.todo.now.items) (sym c.in_ok-bind-in-Bind.ensures.bound)
+    (goes_bind h c.args.todo.now.items c.args.left c.args.right c.in-Bind.slot c.in-Bind.word
+    (as_planned h c.args.left c.args.right c.compare_words.result (Bind c.in-Bind.slot c.in-Bind.word) r.fit.fit r.left r.right r.left_free r.right_free
+    c.compare_words.ensures c.in-Bind.is)
+    (sym c.in_ok-occurs-in-Bind.ensures ∙ c.if-branch.false))

@@ -1,0 +1,21 @@
+-- What contracts see of the vectors of a store.
+use Rattle.std.specs.Prelude.{◌≡◌, None}
+use Rattle.term_store.specs.declared.words.Word.{Word}
+use Rattle.term_store.specs.declared.words.Word.TheVariants.{Var, Int, Atom, Comp}
+use Rattle.term_store.specs.declared.cells.Cells.{Cells}
+use Rattle.term_store.specs.Heap.{Heap, find}
+use Rattle.term_store.specs.Fit.{Fit, IsCache}
+
+abbrev pub heap_of : Cells → Heap
+heap_of c = record { heads = c.heads.items; args = c.args.items; numbers = c.numbers.items; trail = c.trail.items }
+
+pub record IsFit (c : Cells) : Type 0 where
+  pub fit : Fit (heap_of c)
+  pub cache : IsCache c.values.items (heap_of c)
+
+-- A word that is not a bound variable.
+abbrev pub IsFree : Heap → Word → Type 0
+IsFree h (Var i) = find i h.trail ≡ None
+IsFree h (Int i) = Unit {0}
+IsFree h (Atom a) = Unit {0}
+IsFree h (Comp k) = Unit {0}

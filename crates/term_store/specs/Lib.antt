@@ -1,0 +1,10 @@
+pub mod Cells
+pub mod Codes
+pub mod Contents
+pub mod Fit
+pub mod Heap
+pub mod Making
+pub mod Marks
+pub mod Nodes
+pub mod StoredTerms
+pub mod Unifying

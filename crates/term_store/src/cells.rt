@@ -1,0 +1,69 @@
+//! The vectors of a store, and how its words are read.
+ghost use Rattle.std.specs.Prelude.{◌≡◌, ◌<◌, length, pos, slice_index_or};
+ghost use Rattle.term_store.specs.Cells.{IsFit, IsFree, heap_of};
+ghost use Rattle.term_store.specs.Heap.{blank_heap, meaning};
+ghost use Rattle.term_store.specs.Fit.{IsIn, no_head};
+
+use crate::words::{Bond, Head, Word};
+use std::alloc::Global;
+
+/// The compound terms by their heads and arguments, the variables' numbers, which rise with the slots, and the
+/// bindings in the order in which they were made. `values` has each slot's binding once more, for reading.
+#[derive(Drop)]
+pub struct Cells {
+    pub heads: Vec<Head>,
+    pub args: Vec<Word>,
+    pub numbers: Vec<u64>,
+    pub values: Vec<Option<Word>>,
+    pub trail: Vec<Bond>,
+}
+
+impl Cells {
+    /// No terms and no variables.
+    pub fn new(alloc: Global) -> Cells
+        ensures fit { IsFit result }
+        ensures blank { heap_of result ≡ blank_heap }
+    {
+        Cells {
+            heads: Vec::new(alloc),
+            args: Vec::new(alloc),
+            numbers: Vec::new(alloc),
+            values: Vec::new(alloc),
+            trail: Vec::new(alloc),
+        }
+    }
+}
+
+/// The word that this word stands for once bound variables are followed.
+pub fn deref(cells: &Cells, word: Word) -> Word
+    requires fit { IsFit cells.now }
+    requires inside { IsIn (heap_of cells.now) word }
+    ensures means { meaning (heap_of cells.now) result ≡ meaning (heap_of cells.now) word }
+    ensures free { IsFree (heap_of cells.now) result }
+    ensures inside { IsIn (heap_of cells.now) result }
+{
+    let mut at = word;
+    while let Word::Var(slot) = at {
+        match cells.values[slot] {
+            None => return at,
+            Some(next) => at = next,
+        }
+    }
+    at
+}
+
+/// The head of a compound term.
+pub fn head_at(cells: &Cells, k: usize) -> Head
+    requires { k < length cells.now.heads.items }
+    ensures { result ≡ slice_index_or cells.now.heads.items k no_head }
+{
+    cells.heads[k]
+}
+
+/// The argument at a place.
+pub fn word_at(cells: &Cells, at: usize) -> Word
+    requires { at < length cells.now.args.items }
+    ensures { result ≡ slice_index_or cells.now.args.items at (Word.Int (pos 0)) }
+{
+    cells.args[at]
+}

@@ -1,0 +1,26 @@
+//! The store of terms that an engine works on: compound terms and variables in vectors of their own, bound by
+//! unification, and given back on backtracking.
+#![tactic(auto)]
+
+mod bind;
+mod build;
+mod cells;
+mod faults;
+mod load;
+mod make;
+mod nodes;
+mod numbering;
+mod occurs;
+mod store;
+mod stored;
+mod undo;
+mod unify;
+mod views;
+mod words;
+
+pub use faults::StoreFault;
+pub use nodes::AtomNode;
+pub use store::Store;
+pub use stored::Stored;
+pub use views::{Arguments, View};
+pub use words::{Place, StoreMark};

@@ -1,0 +1,88 @@
+//! Making variables and compound terms.
+ghost use Rattle.std.specs.Prelude.{◌≡◌, ◌+◌, ◌<◌, ◌++◌, length, map, take, drop, IfOk, OnOk, OnErr};
+ghost use Rattle.std.specs.List.{All};
+ghost use Rattle.term_store.specs.Cells.{IsFit, heap_of};
+ghost use Rattle.term_store.specs.Fit.{IsIn, Fit, IsCache};
+ghost use Rattle.term_store.specs.Making.{Made, with_args, with_number};
+
+use crate::cells::Cells;
+use crate::words::{Head, Place, Word};
+use pl_term::Memory;
+
+/// A new variable with this number, which is above the numbers of all variables. The only error is want of memory.
+pub fn make_variable(cells: &mut Cells, number: u64) -> Result<Word, Memory>
+    requires fit { IsFit cells.old }
+    requires above { All (λ n. n < number) cells.old.numbers.items }
+    ensures fit { IsFit cells.new }
+    ensures made { OnOk result (heap_of cells.new ≡ with_number (heap_of cells.old) number) }
+    ensures slot { IfOk result (λ w. w ≡ Word.Var (length cells.old.numbers.items)) }
+    ensures kept { OnErr result (heap_of cells.new ≡ heap_of cells.old) }
+{
+    let slot = cells.numbers.len();
+    cells.values.push(None)?;
+    match cells.numbers.push(number) {
+        Ok(()) => Ok(Word::Var(slot)),
+        Err(_) => {
+            cells.values.truncate(slot);
+            Err(Memory)
+        }
+    }
+}
+
+/// The compound term with this name and these arguments, of which there is at least one. The only error is want of
+/// memory.
+pub fn make_compound(cells: &mut Cells, name: u32, places: &[Place]) -> Result<Word, Memory>
+    requires fit { IsFit cells.old }
+    requires full { 0 < length places.now }
+    requires inside { All (λ p. IsIn (heap_of cells.old) p.word) places.now }
+    ensures fit { IsFit cells.new }
+    ensures made { IfOk result (λ w. Made (heap_of cells.old) name (map (λ p. p.word) places.now) (heap_of cells.new) w) }
+    ensures kept { OnErr result (heap_of cells.new ≡ heap_of cells.old) }
+{
+    let start = cells.args.len();
+    match push_places(&mut cells.args, places) {
+        Ok(()) => finish_compound(cells, name, start, places.len()),
+        Err(_) => {
+            cells.args.truncate(start);
+            Err(Memory)
+        }
+    }
+}
+
+/// Puts the words of the places behind the others. After want of memory some of them are there.
+fn push_places(args: &mut Vec<Word>, places: &[Place]) -> Result<(), Memory>
+    ensures ok { OnOk result (args.new.items ≡ args.old.items ++ map (λ p. p.word) places.now) }
+    ensures kept { take (length args.old.items) args.new.items ≡ args.old.items }
+{
+    for p in places {
+        args.push(p.word)?;
+    }
+    Ok(())
+}
+
+/// The compound term whose arguments are the words from a place on. After want of memory these are taken off.
+pub fn finish_compound(
+    cells: &mut Cells,
+    name: u32,
+    start: usize,
+    count: usize,
+) -> Result<Word, Memory>
+    requires cache { IsCache cells.old.values.items (heap_of cells.old) }
+    requires full { 0 < count }
+    requires within { start + count ≡ length cells.old.args.items }
+    requires inside { All (IsIn (heap_of cells.old)) (drop start cells.old.args.items) }
+    requires unused { Fit (with_args (heap_of cells.old) (take start cells.old.args.items)) }
+    ensures fit { IsFit cells.new }
+    ensures made { IfOk result (λ w. Made (with_args (heap_of cells.old) (take start cells.old.args.items)) name
+        (drop start cells.old.args.items) (heap_of cells.new) w) }
+    ensures kept { OnErr result (heap_of cells.new ≡ with_args (heap_of cells.old) (take start cells.old.args.items)) }
+{
+    let k = cells.heads.len();
+    match cells.heads.push(Head { name, start, count }) {
+        Ok(()) => Ok(Word::Comp(k)),
+        Err(_) => {
+            cells.args.truncate(start);
+            Err(Memory)
+        }
+    }
+}

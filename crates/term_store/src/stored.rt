@@ -1,0 +1,119 @@
+//! Terms outside of a store.
+ghost use Rattle.std.specs.Prelude.{◌≡◌, ◌+◌, ◌<◌, ◌^◌, length, zero, IfOk, OnOk};
+ghost use Rattle.std.specs.List.{All};
+ghost use Rattle.pl_term.specs.Cells.{cells};
+ghost use Rattle.pl_term.specs.NodeLists.{met_with, node_cells, rename_node};
+ghost use Rattle.pl_term.specs.Nodes.{nodes, tree};
+ghost use Rattle.pl_term.specs.Variables.{place, rename, variables};
+ghost use Rattle.term_store.specs.Nodes.{IsNodeBelow, IsSpelled, node_view, node_views};
+
+use crate::nodes::AtomNode;
+use crate::numbering::Numbering;
+use pl_term::Memory;
+use std::alloc::Global;
+use std::marker::Model;
+
+/// A term outside of a store, seen by contracts as a term whose names stand for atoms. Its variables are numbered from 0
+/// on in the order in which they first occur. It is kept as its nodes in prefix order, with the number of its variables
+/// and of its cells.
+#[derive(Debug, Drop)]
+pub struct Stored {
+    nodes: Vec<AtomNode>,
+    variables: u64,
+    cells: u64,
+}
+
+impl Model for Stored {
+    ghost use Rattle.pl_term.specs.Tree.{Tree};
+    ghost use Rattle.pl_term.specs.Nodes.{tree, coded_tree};
+    ghost use Rattle.term_store.specs.Nodes.{node_views};
+    ghost use Rattle.term_store.specs.StoredTerms.{IsStored};
+
+    ghost Value = { Tree };
+
+    ghost coded = { coded_tree };
+
+    ghost view = { λ s. tree (node_views s.nodes.items) };
+
+    ghost invariant = { λ s. IsStored s.nodes.items s.variables s.cells };
+}
+
+impl Stored {
+    /// The term that these nodes spell in prefix order, its variables numbered from 0 on in the order in which they
+    /// first occur. The only error is want of memory.
+    pub fn from_nodes(alloc: Global, nodes: &[AtomNode]) -> Result<Stored, Memory>
+        requires { IsSpelled nodes.now }
+        ensures { IfOk result (λ s. s ≡ rename zero (tree (node_views nodes.now))) }
+    {
+        let mut met = Numbering::new(alloc);
+        let mut all = Vec::new(alloc);
+        let mut sum: u64 = 0;
+        for n in nodes {
+            let m = renumbered(n, &mut met)?;
+            sum = with_cells(sum, &m)?;
+            all.push(m)?;
+        }
+        let variables = met.len();
+        let Some(cells) = sum.checked_add(variables) else {
+            return Err(Memory);
+        };
+        Ok(Stored {
+            nodes: all,
+            variables,
+            cells,
+        })
+    }
+
+    /// The term's nodes in prefix order.
+    pub fn nodes(&self) -> &[AtomNode]
+        ensures spelled { node_views result.now ≡ nodes self.now }
+        ensures numbered { rename zero self.now ≡ self.now }
+        ensures below { All (IsNodeBelow (length (variables self.now))) result.now }
+    {
+        self.nodes.as_slice()
+    }
+
+    /// How many variables the term has.
+    pub fn variables(&self) -> u64
+        ensures { result ≡ length (variables self.now) }
+    {
+        self.variables
+    }
+
+    /// The term's cells: n + 1 for each compound term of n arguments, and one for each variable.
+    pub fn cells(&self) -> u64
+        ensures { result ≡ cells self.now }
+    {
+        self.cells
+    }
+}
+
+/// The node in which a variable has the number of its place among those met.
+fn renumbered(n: &AtomNode, met: &mut Numbering) -> Result<AtomNode, Memory>
+    ensures met { OnOk result (met.new ≡ met_with (node_view n.now) met.old) }
+    ensures renamed { IfOk result (λ m. node_view m ≡ rename_node (λ x. zero + place x met.new) (node_view n.now)) }
+    ensures below { IfOk result (IsNodeBelow (length met.new)) }
+{
+    match n {
+        AtomNode::Var(x) => Ok(AtomNode::Var(met.number(*x)?)),
+        AtomNode::Int(i) => Ok(AtomNode::Int(*i)),
+        AtomNode::Atom(a) => Ok(AtomNode::Atom(*a)),
+        AtomNode::Comp(f, k) => Ok(AtomNode::Comp(*f, *k)),
+    }
+}
+
+/// The sum and the cells of the compound term that the node begins. It refuses a sum of 2^64 and more.
+fn with_cells(sum: u64, n: &AtomNode) -> Result<u64, Memory>
+    ensures { IfOk result (λ s. s ≡ sum + node_cells (node_view n.now)) }
+{
+    let AtomNode::Comp(_, k) = n else {
+        return Ok(sum);
+    };
+    let Some(more) = sum.checked_add(*k as u64) else {
+        return Err(Memory);
+    };
+    match more.checked_add(1) {
+        Some(all) => Ok(all),
+        None => Err(Memory),
+    }
+}

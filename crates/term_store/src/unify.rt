@@ -1,0 +1,163 @@
+//! Unification (ISO/IEC 13211-1:1995, 7.3.2).
+ghost use Rattle.std.specs.Prelude.{◌≡◌, ◌<◌, ◌≤◌, ◌+◌, length, take, drop, reverse, IfOk, OnOk, ◌++◌};
+ghost use Rattle.std.specs.List.{All};
+ghost use Rattle.term_store.specs.Cells.{IsFit, IsFree, heap_of};
+ghost use Rattle.term_store.specs.Fit.{IsIn};
+ghost use Rattle.term_store.specs.Unifying.{plan_of, IsPairIn, Grown, Moves, Solves, zip_words};
+
+use crate::bind::bind;
+use crate::cells::{Cells, deref, head_at, word_at};
+use crate::occurs::occurs;
+use crate::words::{Pair, Plan, Word};
+use pl_term::Memory;
+
+/// Binds variables until two words stand for the same term. Where no bindings make them the same it answers false, and
+/// some bindings may have been made. `todo` and `walk` are room for what is still to be done.
+pub fn unify(
+    cells: &mut Cells,
+    todo: &mut Vec<Pair>,
+    walk: &mut Vec<Word>,
+    left: Word,
+    right: Word,
+) -> Result<bool, Memory>
+    requires fit { IsFit cells.old }
+    requires left { IsIn (heap_of cells.old) left }
+    requires right { IsIn (heap_of cells.old) right }
+    ensures fit { IsFit cells.new }
+    ensures grown { Grown (heap_of cells.old) (heap_of cells.new) }
+    ensures solves { IfOk result (λ r. Solves r (heap_of cells.old) left right (heap_of cells.new)) }
+{
+    todo.clear();
+    todo.push(Pair { left, right })?;
+    for _ in 0..u64::MAX {
+        let Some(pair) = todo.pop() else {
+            return Ok(true);
+        };
+        let a = deref(cells, pair.left);
+        let b = deref(cells, pair.right);
+        if !make_equal(cells, todo, walk, a, b)? {
+            return Ok(false);
+        }
+    }
+    Err(Memory)
+}
+
+/// Makes two words equal, of which neither is a bound variable: by a binding, or by making the pairs of their arguments
+/// equal, which are put on the stack. It answers false where no bindings make them the same.
+fn make_equal(
+    cells: &mut Cells,
+    todo: &mut Vec<Pair>,
+    walk: &mut Vec<Word>,
+    left: Word,
+    right: Word,
+) -> Result<bool, Memory>
+    requires fit { IsFit cells.old }
+    requires left { IsIn (heap_of cells.old) left }
+    requires right { IsIn (heap_of cells.old) right }
+    requires left_free { IsFree (heap_of cells.old) left }
+    requires right_free { IsFree (heap_of cells.old) right }
+    requires pairs { All (IsPairIn (heap_of cells.old)) todo.old.items }
+    ensures fit { IsFit cells.new }
+    ensures grown { Grown (heap_of cells.old) (heap_of cells.new) }
+    ensures pairs { OnOk result (All (IsPairIn (heap_of cells.new)) todo.new.items) }
+    ensures moves { IfOk result (λ r. Moves r (heap_of cells.old) todo.old.items left right (heap_of cells.new) todo.new.items) }
+{
+    match compare_words(left, right) {
+        Plan::Same => Ok(true),
+        Plan::Clash => Ok(false),
+        Plan::Bind(slot, word) => {
+            if occurs(cells, walk, slot, word)? {
+                return Ok(false);
+            }
+            bind(cells, slot, word)?;
+            Ok(true)
+        }
+        Plan::Open(k, l) => open_pair(cells, todo, k, l),
+    }
+}
+
+/// What is left to do for two words to become equal.
+fn compare_words(left: Word, right: Word) -> Plan
+    ensures { result ≡ plan_of left right }
+{
+    match left {
+        Word::Var(i) => match right {
+            Word::Var(j) => {
+                if i == j {
+                    Plan::Same
+                } else if i < j {
+                    Plan::Bind(j, left)
+                } else {
+                    Plan::Bind(i, right)
+                }
+            }
+            Word::Int(_) => Plan::Bind(i, right),
+            Word::Atom(_) => Plan::Bind(i, right),
+            Word::Comp(_) => Plan::Bind(i, right),
+        },
+        Word::Int(i) => match right {
+            Word::Var(j) => Plan::Bind(j, left),
+            Word::Int(j) => { if i == j { Plan::Same } else { Plan::Clash } }
+            Word::Atom(_) => Plan::Clash,
+            Word::Comp(_) => Plan::Clash,
+        },
+        Word::Atom(a) => match right {
+            Word::Var(j) => Plan::Bind(j, left),
+            Word::Int(_) => Plan::Clash,
+            Word::Atom(b) => { if a == b { Plan::Same } else { Plan::Clash } }
+            Word::Comp(_) => Plan::Clash,
+        },
+        Word::Comp(k) => match right {
+            Word::Var(j) => Plan::Bind(j, left),
+            Word::Int(_) => Plan::Clash,
+            Word::Atom(_) => Plan::Clash,
+            Word::Comp(l) => { if k == l { Plan::Same } else { Plan::Open(k, l) } }
+        },
+    }
+}
+
+/// Puts the pairs of the arguments of two compound terms on the stack, the first on top. It answers false, and puts
+/// none, where the terms differ in their name or their number of arguments.
+fn open_pair(cells: &Cells, todo: &mut Vec<Pair>, k: usize, l: usize) -> Result<bool, Memory>
+    requires fit { IsFit cells.now }
+    requires left { k < length cells.now.heads.items }
+    requires right { l < length cells.now.heads.items }
+    requires pairs { All (IsPairIn (heap_of cells.now)) todo.old.items }
+    ensures pairs { OnOk result (All (IsPairIn (heap_of cells.now)) todo.new.items) }
+    ensures moves { IfOk result (λ r. Moves r (heap_of cells.now) todo.old.items (Word.Comp k) (Word.Comp l) (heap_of cells.now) todo.new.items) }
+{
+    let left = head_at(cells, k);
+    let right = head_at(cells, l);
+    if left.name != right.name {
+        return Ok(false);
+    }
+    if left.count != right.count {
+        return Ok(false);
+    }
+    push_pairs(cells, todo, left.start, right.start, left.count)?;
+    Ok(true)
+}
+
+/// Puts the pairs of the words from two places on the stack, the last ones first.
+fn push_pairs(
+    cells: &Cells,
+    todo: &mut Vec<Pair>,
+    left: usize,
+    right: usize,
+    count: usize,
+) -> Result<(), Memory>
+    requires left { left + count ≤ length cells.now.args.items }
+    requires right { right + count ≤ length cells.now.args.items }
+    ensures { OnOk result (todo.new.items ≡ todo.old.items
+        ++ reverse (zip_words (take count (drop left cells.now.args.items)) (take count (drop right cells.now.args.items)))) }
+{
+    let mut i = count;
+    while i > 0 {
+        i -= 1;
+        todo.push(Pair {
+            left: word_at(cells, left + i),
+            right: word_at(cells, right + i),
+        })?;
+    }
+    Ok(())
+}
