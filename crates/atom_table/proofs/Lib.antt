@@ -3,3 +3,5 @@ pub mod Adding
 pub mod Telling
 pub mod Settling
 pub mod Counting
+pub mod Spelling
+pub mod Loading

@@ -1,5 +1,5 @@
 -- What a seat of an atom table holds.
-use Rattle.std.specs.Prelude.{◌≡◌, ◌≢◌, ℕ, ◌<◌, ◌≤◌, true, List, [], ◌∷◌, ◌++◌, length, map, Some, None, encode_utf8_all}
+use Rattle.std.specs.Prelude.{◌≡◌, ◌≢◌, ℕ, ◌+◌, ◌<◌, ◌≤◌, true, List, [], ◌∷◌, ◌++◌, length, map, Some, None, encode_utf8_all}
 use Rattle.std.specs.Str.{all_scalars}
 use Rattle.pl_term.specs.Tree.{Chars}
 use Rattle.pl_term.specs.Texts.{size}
@@ -10,6 +10,8 @@ use Rattle.atom_words.specs.Kinds.{counted}
 use Rattle.atom_words.specs.declared.view.Held.{Held}
 use Rattle.atom_words.specs.declared.view.Counted.{Counted}
 use Rattle.atom_words.specs.declared.view.View.{View}
+use Rattle.atom_words.specs.declared.kind.Kind.{Kind}
+use Rattle.atom_words.specs.declared.kind.Kind.TheVariants.{Load}
 use Rattle.atom_words.specs.declared.words.Words.{Words}
 use Rattle.atom_words.specs.declared.words.AtomSeat.{AtomSeat}
 use Rattle.bucket_rows.specs.Walks.{spelled}
@@ -66,3 +68,8 @@ asked_after row (Again c) asked = asked ++ row ∷ []
 asked_after row (TooLong b) asked = asked
 asked_after row (Worn x) asked = asked ++ row ∷ []
 asked_after row Memory asked = asked
+
+-- loads of words that follow each other, from the place p on
+abbrev pub loads : ℕ → List ℕ → List Kind
+loads p [] = []
+loads p (x ∷ xs) = Load p x ∷ loads (p + 1) xs

@@ -10,8 +10,9 @@ mod making;
 mod opening;
 mod seats;
 mod table;
+mod texts;
 
-pub use atom_api::{Atom, Cause, Interned, Pass, WornWord};
+pub use atom_api::{Atom, Cause, Interned, Pass, TextBuf, WornWord};
 pub use atom_words::AtomSeat;
 pub use opening::Opened;
 pub use seats::{Collector, Keeper};
