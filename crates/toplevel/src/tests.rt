@@ -555,7 +555,7 @@ fn balls_and_faults_are_written(rt: HostRuntime) -> Result<(), Fail> {
 }
 
 /// Words with options, what is to be written, and the status, where f.pl has two facts.
-const OPTIONS: [(&[&str], &str, u8); 9] = [
+const OPTIONS: [(&[&str], &str, u8); 8] = [
     (
         &["run", "--solutions", "9", "f.pl", "p(X)"],
         "?- p(X).\nX = 1.\nX = 2.\nfalse.\n",
@@ -599,11 +599,6 @@ const OPTIONS: [(&[&str], &str, u8); 9] = [
         ],
         "?- true.\ntrue.\nfalse.\n",
         1,
-    ),
-    (
-        &["run", "f.pl", "--", "-X = -p"],
-        "?- -X = -p.\nX = p.\n",
-        0,
     ),
     (&["run", "--", "f.pl", "p(1)"], "?- p(1).\ntrue.\n", 0),
     (
