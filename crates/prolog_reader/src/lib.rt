@@ -12,10 +12,6 @@ mod read;
 mod skipping;
 mod stack;
 mod stop;
-#[cfg(test)]
-mod tests;
-#[cfg(test)]
-mod vector_tests;
 
 pub use names::NamedVariable;
 pub use pl_model::grammar::Quotes;
