@@ -14,5 +14,6 @@ pub mod Planning
 pub mod Renumbering
 pub mod Spelling
 pub mod Stacking
+pub mod Storing
 pub mod Turning
 pub mod Unbinding

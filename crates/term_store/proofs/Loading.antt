@@ -1,5 +1,5 @@
 -- Variables made one after the other, and a term built over them.
-use Rattle.std.proofs.Common.{◌≡◌, ◌≢◌, ℕ, zero, suc, ◌+◌, ◌-◌, ◌<◌, ◌≤◌, Bool, true, false, ◌==◌, ◌||◌, List, [], ◌∷◌, ◌++◌, length, get_or, Result, Ok, Err, IfOk, OnOk, refl, sym, ap, ap₂, subst, ◌∙◌, arith, append_assoc, append-nil, length-append, add-zero}
+use Rattle.std.proofs.Common.{◌≡◌, ◌≢◌, ℕ, zero, suc, ◌+◌, ◌-◌, ◌<◌, Bool, true, false, ◌==◌, ◌||◌, List, [], ◌∷◌, ◌++◌, length, get_or, Result, Ok, Err, IfOk, OnOk, refl, sym, ap, ap₂, subst, ◌∙◌, arith, append_assoc, append-nil, length-append}
 use Rattle.std.specs.List.{All}
 use Rattle.std.proofs.Math.Seq.{get_or-append_seam}
 use Rattle.std.proofs.lemmas.Bool.{false≢true}
@@ -9,28 +9,25 @@ use Rattle.std.proofs.lemmas.List.Elements.{All-nil, All-push, All-append, All-w
 use Rattle.pl_term.specs.Tree.{Tree}
 use Rattle.pl_term.specs.Nodes.{nodes, tree}
 use Rattle.pl_term.specs.NodeLists.{variables_of}
-use Rattle.pl_term.specs.Variables.{is_in, occurrences, rename, rename_by}
+use Rattle.pl_term.specs.Variables.{is_in, occurrences, rename_by}
 use Rattle.pl_term.proofs.NodeLemmas.{variables_of-nodes}
 use Rattle.pl_term.proofs.Renaming.{rename_same}
 use Rattle.pl_term.proofs.Spelled.{tree_spelled}
 use Rattle.term_store.specs.declared.nodes.AtomNode.{AtomNode}
 use Rattle.term_store.specs.declared.nodes.AtomNode.TheVariants.{Var, Int, Atom, Comp}
 use Rattle.term_store.specs.declared.words.Word.{Word}
-use Rattle.term_store.specs.declared.words.Head.{Head}
-use Rattle.term_store.specs.declared.words.Bond.{Bond}
 use Rattle.term_store.specs.Contents.{upwards}
 use Rattle.term_store.specs.Heap.{Heap, numbered}
 use Rattle.term_store.specs.Fit.{IsBond, Fit}
 use Rattle.term_store.specs.Making.{with_more, with_number, with_numbers, Longer, Keeps}
-use Rattle.term_store.specs.Nodes.{Gains, IsNodeBelow, StandsFor, node_views}
+use Rattle.term_store.specs.Nodes.{IsNodeBelow, StandsFor, node_views}
 use Rattle.term_store.proofs.Growing.{keeps_longer}
-use Rattle.term_store.proofs.Renumbering.{raised_numbered}
 
 pub length-upwards : (from k : ℕ) → length (upwards from k) ≡ k
 length-upwards from zero = refl
 length-upwards from (suc k) = length-append (upwards from k) ((from + k) ∷ []) ∙ omega (arith, length-upwards from k)
 
-upwards_below : (from k : ℕ) → All (λ n. n < from + k) (upwards from k)
+pub upwards_below : (from k : ℕ) → All (λ n. n < from + k) (upwards from k)
 upwards_below from zero = All-nil (λ n. n < from + zero)
 upwards_below from (suc k) =
     All-push (λ n. n < from + suc k) (upwards from k) (from + k)

@@ -13,6 +13,7 @@ mod numbering;
 mod occurs;
 mod store;
 mod stored;
+mod terms;
 mod undo;
 mod unify;
 mod views;

@@ -1,5 +1,4 @@
 use Rattle.std.proofs.Common.{refl}
-use Rattle.term_store.specs.declared.words.Word.{Word}
 use Rattle.term_store.proofs.Answering.{slot_binds, if_ok, adds_bind}
 use Rattle.term_store.proofs.store.Store.bind.Goals as goal
 

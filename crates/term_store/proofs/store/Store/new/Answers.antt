@@ -1,6 +1,4 @@
 use Rattle.std.proofs.Common.{ap, arith}
-use Rattle.term_store.specs.Contents.{Contents}
-use Rattle.term_store.specs.Heap.{Heap}
 use Rattle.term_store.proofs.store.Store.new.Goals as goal
 
 pub invariant_of-result : goal.invariant_of-result
