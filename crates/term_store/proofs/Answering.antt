@@ -1,13 +1,12 @@
 -- Turns of unification as its definition, and bindings as callers see them.
-use Rattle.std.proofs.Common.{◌≡◌, ◌⊎◌, inl, inr, ℕ, suc, ◌+◌, ◌<◌, ◌≤◌, Bool, true, false, [], ◌∷◌, length, Option, Some, None, Result, Ok, Err, IfOk, OnOk, OnErr, refl, sym, ap, ap₂, subst, ◌∙◌, arith, append-nil}
+use Rattle.std.proofs.Common.{◌≡◌, ◌⊎◌, inl, inr, ℕ, suc, ◌+◌, ◌<◌, ◌≤◌, Bool, true, false, [], ◌∷◌, length, None, Result, Ok, Err, IfOk, OnOk, OnErr, sym, ap, ap₂, subst, ◌∙◌, arith, append-nil}
 use Rattle.std.proofs.lemmas.Bool.{cases_lt}
 use Rattle.pl_term.specs.Tree.{Tree, var, none, more}
 use Rattle.pl_term.specs.Variables.{has, replace, occurrences_all}
-use Rattle.pl_model.specs.Unify.{Bindings, bound, solve, unify}
+use Rattle.pl_model.specs.Unify.{solve, unify}
 use Rattle.pl_model.proofs.UnifyEnough.{turns_enough}
 use Rattle.term_store.specs.declared.words.Word.{Word}
 use Rattle.term_store.specs.declared.words.Word.TheVariants.{Var, Int, Atom, Comp}
-use Rattle.term_store.specs.declared.words.Bond.{Bond}
 use Rattle.term_store.specs.declared.words.Place.{Place}
 use Rattle.term_store.specs.declared.words.StoreMark.{StoreMark}
 use Rattle.term_store.specs.Heap.{Heap, meaning, numbered, find, pushed, with_trail}

@@ -1,6 +1,5 @@
 -- A heap with one more binding.
 use Rattle.std.proofs.Common.{◌≡◌, ◌≢◌, ℕ, ◌<◌, Bool, true, false, cond, ◌==◌, List, [], ◌∷◌, ◌++◌, length, get_or, set, Option, Some, None, refl, sym, ap, subst, ◌∙◌, append_assoc, append-nil, get_or-set_same, get_or-set_other}
-use Rattle.std.specs.List.{All}
 use Rattle.std.proofs.Math.ListN.{length-set}
 use Rattle.std.proofs.lemmas.Bool.{false≢true}
 use Rattle.std.proofs.lemmas.Bool.Decides.{Decides-eqb}
@@ -8,12 +7,12 @@ use Rattle.std.proofs.lemmas.List.{get_or_read}
 use Rattle.std.proofs.lemmas.List.Elements.{All-push}
 use Rattle.pl_term.specs.Tree.{Tree}
 use Rattle.pl_term.specs.Variables.{has, replace}
-use Rattle.pl_model.specs.Unify.{Bindings, bound}
+use Rattle.pl_model.specs.Unify.{bound}
 use Rattle.pl_model.proofs.UnifyReplace.{eqb_same, eqb_other}
 use Rattle.term_store.specs.declared.words.Word.{Word}
 use Rattle.term_store.specs.declared.words.Bond.{Bond}
-use Rattle.term_store.specs.Heap.{Heap, word_tree, compounds, raw, numbered, equations_of, equations, solved, bindings, meaning, find, pushed, named, fair}
-use Rattle.term_store.specs.Fit.{IsWord, IsIn, Below, IsBond, OnceFrom, Fit, IsCache}
+use Rattle.term_store.specs.Heap.{Heap, word_tree, compounds, raw, numbered, equations_of, equations, solved, bindings, meaning, find, pushed, fair}
+use Rattle.term_store.specs.Fit.{IsIn, Below, IsBond, OnceFrom, Fit, IsCache}
 use Rattle.term_store.proofs.Equations.{bound-append, solved-snoc, fair-snoc, named-solved}
 use Rattle.term_store.proofs.Following.{missing}
 

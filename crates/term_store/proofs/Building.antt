@@ -1,14 +1,14 @@
 -- Compound terms in the order in which they were made.
-use Rattle.std.proofs.Common.{◌≡◌, ℕ, zero, suc, ◌+◌, ◌<◌, ◌≤◌, List, [], ◌∷◌, ◌++◌, length, get_or, take, drop, map, refl, sym, ap, ap₂, subst, length-drop, ◌∙◌, append_assoc, append-nil, arith, length-append, add-suc, add-zero}
+use Rattle.std.proofs.Common.{◌≡◌, ℕ, zero, suc, ◌+◌, ◌<◌, ◌≤◌, List, [], ◌∷◌, ◌++◌, length, get_or, take, drop, map, refl, sym, ap, ap₂, subst, length-drop, ◌∙◌, arith, length-append, add-zero}
 use Rattle.std.specs.List.{All}
 use Rattle.std.proofs.Math.Seq.{get_or-append_seam}
 use Rattle.std.proofs.lemmas.List.{take-append-le, drop-append-le, get_or_append_left}
 use Rattle.std.proofs.lemmas.List.Elements.{All-head, All-tail}
-use Rattle.pl_term.specs.Tree.{Chars, Tree, Trees, var, int, atom, comp, none, more, trees, compound}
+use Rattle.pl_term.specs.Tree.{Tree, var, atom, compound}
 use Rattle.term_store.specs.declared.words.Word.{Word}
 use Rattle.term_store.specs.declared.words.Word.TheVariants.{Var, Int, Atom, Comp}
 use Rattle.term_store.specs.declared.words.Head.{Head}
-use Rattle.term_store.specs.Heap.{Heap, atom_name, word_tree, words_of, head_tree, built}
+use Rattle.term_store.specs.Heap.{atom_name, word_tree, words_of, head_tree, built}
 use Rattle.term_store.specs.Fit.{IsWord, IsHead, no_head}
 
 pub built-append : (numbers : List ℕ) (args : List Word) (hs gs : List Head) (done : List Tree)

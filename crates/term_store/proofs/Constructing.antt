@@ -1,10 +1,8 @@
 -- A term is built from its last node to its first.
-use Rattle.std.proofs.Common.{◌≡◌, ℕ, zero, suc, ◌+◌, ◌-◌, ◌<◌, ◌≤◌, List, [], ◌∷◌, ◌++◌, length, get_or, map, reverse, drop, drop-cons, refl, sym, ap, ap₂, subst, ◌∙◌, arith, append-nil}
+use Rattle.std.proofs.Common.{◌≡◌, ℕ, suc, ◌+◌, ◌-◌, ◌<◌, ◌≤◌, List, [], ◌∷◌, ◌++◌, length, get_or, map, drop, drop-cons, sym, ap, ap₂, subst, ◌∙◌, arith, append-nil}
 use Rattle.std.specs.List.{All}
 use Rattle.std.proofs.lemmas.List.{drop-map, drop_all, length-map}
-use Rattle.std.proofs.lemmas.List.Elements.{All-nil}
-use Rattle.pl_term.specs.declared.node.Node.{Node}
-use Rattle.pl_term.specs.Tree.{Tree, Trees, none, more, count}
+use Rattle.pl_term.specs.Tree.{Trees, none, more, count}
 use Rattle.pl_term.specs.Nodes.{forest, nodes, tree, forest-nodes, tree-nodes}
 use Rattle.pl_term.specs.Variables.{rename_by, rename_all_by}
 use Rattle.pl_term.proofs.NodeLemmas.{count-rename_all_by}

@@ -1,8 +1,8 @@
 -- Bindings made of equations one after the other.
-use Rattle.std.proofs.Common.{◌≡◌, ℕ, Bool, true, false, cond, not, ◌&&◌, ◌==◌, List, [], ◌∷◌, ◌++◌, Option, Some, None, refl, sym, ap, ap₂, ◌∙◌, append_assoc, append-nil}
+use Rattle.std.proofs.Common.{◌≡◌, ℕ, Bool, true, false, cond, not, ◌&&◌, ◌==◌, [], ◌∷◌, ◌++◌, Option, Some, None, refl, sym, ap, ap₂, ◌∙◌, append_assoc, append-nil}
 use Rattle.std.proofs.lemmas.Bool.{false≢true}
 use Rattle.std.proofs.lemmas.Bool.Decides.{Decides-eqb}
-use Rattle.pl_term.specs.Tree.{Chars, Tree, Trees, var, int, atom, comp, none, more, trees, compound}
+use Rattle.pl_term.specs.Tree.{Chars, Tree, Trees, var, int, atom, comp}
 use Rattle.pl_term.specs.Variables.{has, replace, replace_all}
 use Rattle.pl_model.specs.Unify.{Bindings, bound, bound_all}
 use Rattle.pl_model.proofs.UnifyReplace.{cond_cases, eqb_same, replace-absent}

@@ -1,17 +1,16 @@
 -- What a bound variable and a free one stand for.
-use Rattle.std.proofs.Common.{◌≡◌, ◌≢◌, ℕ, zero, suc, ◌+◌, ◌<◌, ◌≤◌, Bool, true, false, cond, ◌==◌, List, [], ◌∷◌, ◌++◌, length, get_or, Option, Some, None, refl, sym, ap, subst, ◌∙◌, ◌⊎◌, inl, inr, arith}
+use Rattle.std.proofs.Common.{◌≡◌, ℕ, zero, suc, ◌<◌, ◌≤◌, Bool, true, false, cond, ◌==◌, List, [], ◌∷◌, length, get_or, Some, None, refl, sym, ap, subst, ◌∙◌, ◌⊎◌, inl, inr, arith}
 use Rattle.std.specs.List.{All}
 use Rattle.std.proofs.lemmas.Bool.{false≢true, cases_lt}
 use Rattle.std.proofs.lemmas.Bool.Decides.{Decides-eqb}
 use Rattle.std.proofs.lemmas.List.Elements.{All-head, All-tail}
-use Rattle.pl_term.specs.Tree.{Tree, var, atom}
-use Rattle.pl_model.specs.Unify.{Bindings, bound}
+use Rattle.pl_term.specs.Tree.{Tree, var}
 use Rattle.pl_model.proofs.UnifyReplace.{eqb_other}
 use Rattle.term_store.specs.declared.words.Word.{Word}
 use Rattle.term_store.specs.declared.words.Word.TheVariants.{Var, Int, Atom, Comp}
 use Rattle.term_store.specs.declared.words.Bond.{Bond}
-use Rattle.term_store.specs.Heap.{Heap, word_tree, compounds, raw, numbered, equations_of, equations, solved, bindings, meaning, find, named, fair}
-use Rattle.term_store.specs.Fit.{IsWord, IsIn, Below, IsBond, Fit, IsCache}
+use Rattle.term_store.specs.Heap.{Heap, word_tree, compounds, raw, numbered, equations_of, equations, bindings, meaning, find, named}
+use Rattle.term_store.specs.Fit.{IsWord, IsIn, Below, IsBond, Fit}
 use Rattle.term_store.proofs.Equations.{lookup, follows, unnamed, named-solved}
 
 -- A measure for following bound variables: their slots fall.

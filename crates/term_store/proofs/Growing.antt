@@ -1,22 +1,22 @@
 -- A heap that has gained variables and compound terms.
-use Rattle.std.proofs.Common.{◌≡◌, ◌⊎◌, inl, inr, ℕ, zero, suc, ◌+◌, ◌-◌, ◌<◌, ◌≤◌, List, [], ◌∷◌, ◌++◌, length, get_or, map, take, drop, Option, Some, None, cond, length-take, length-drop, refl, sym, ap, ap₂, subst, ◌∙◌, arith, length-append, append-nil, add-zero}
+use Rattle.std.proofs.Common.{◌≡◌, ◌⊎◌, inl, inr, ℕ, zero, ◌+◌, ◌-◌, ◌<◌, ◌≤◌, List, [], ◌∷◌, ◌++◌, length, get_or, map, take, drop, Option, Some, None, cond, length-take, length-drop, refl, sym, ap, ap₂, subst, ◌∙◌, arith, length-append, append-nil}
 use Rattle.std.specs.List.{All}
 use Rattle.std.proofs.Math.Seq.{get_or-append_seam, drop-append_seam, take-length}
 use Rattle.std.proofs.lemmas.Bool.{cases_lt}
-use Rattle.std.proofs.lemmas.List.{get_or_append_left, get_or-append_right, take-append-le, take-append-drop}
+use Rattle.std.proofs.lemmas.List.{get_or_append_left, get_or-append_right, take-append-drop}
 use Rattle.std.proofs.lemmas.List.Elements.{All-head, All-tail, All-nil, All-weaker}
-use Rattle.pl_term.specs.Tree.{Tree, atom, compound}
-use Rattle.pl_model.specs.Unify.{Bindings, bound}
+use Rattle.pl_term.specs.Tree.{atom, compound}
+use Rattle.pl_model.specs.Unify.{bound}
 use Rattle.pl_model.proofs.UnifyReplace.{eqb_other}
 use Rattle.term_store.specs.declared.words.Word.{Word}
 use Rattle.term_store.specs.declared.words.Word.TheVariants.{Var, Int, Atom, Comp}
 use Rattle.term_store.specs.declared.words.Head.{Head}
 use Rattle.term_store.specs.declared.words.Bond.{Bond}
-use Rattle.term_store.specs.Heap.{Heap, atom_name, word_tree, words_of, built, compounds, raw, equations_of, equations, solved, bindings, meaning, fair, find}
+use Rattle.term_store.specs.Heap.{Heap, atom_name, words_of, built, compounds, raw, equations_of, solved, bindings, meaning, fair, find}
 use Rattle.term_store.specs.Fit.{IsWord, IsIn, IsHead, IsBond, OnceFrom, Fit, IsCache, no_head}
-use Rattle.term_store.specs.Making.{with_more, with_args, with_number, Longer, Keeps, Made}
+use Rattle.term_store.specs.Making.{with_more, with_args, with_number, Keeps, Made}
 use Rattle.term_store.proofs.Building.{built-append, length-built, built-keeps, built-longer, heads_from, word_tree-same, words_of-longer, map-same}
-use Rattle.term_store.proofs.Opening.{opened, weaker_word}
+use Rattle.term_store.proofs.Opening.{opened}
 
 compounds-longer : (h : Heap) (gs : List Head) (ws : List Word) (ns : List ℕ) → Fit h → (j : ℕ) → j < length h.heads
     → get_or (compounds (h.numbers ++ ns) (h.args ++ ws) (h.heads ++ gs)) j (atom []) ≡ get_or (compounds h.numbers h.args h.heads) j (atom [])

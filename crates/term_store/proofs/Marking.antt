@@ -1,9 +1,8 @@
 -- What a heap was at a mark, when it has gained bindings, terms and variables since.
-use Rattle.std.proofs.Common.{◌≡◌, ℕ, ◌+◌, ◌<◌, ◌≤◌, List, ◌++◌, length, take, refl, sym, ap, ap₂, subst, ◌∙◌, arith, length-append, length-take}
+use Rattle.std.proofs.Common.{◌≡◌, ℕ, ◌≤◌, List, ◌++◌, length, take, sym, ap, ap₂, subst, ◌∙◌, arith, length-append, length-take}
 use Rattle.std.proofs.Math.Seq.{take-length}
 use Rattle.std.proofs.lemmas.List.{take-append-le, take-take}
 use Rattle.term_store.specs.declared.words.Word.{Word}
-use Rattle.term_store.specs.declared.words.Word.TheVariants.{Var, Int, Atom, Comp}
 use Rattle.term_store.specs.declared.words.Head.{Head}
 use Rattle.term_store.specs.declared.words.Bond.{Bond}
 use Rattle.term_store.specs.declared.words.StoreMark.{StoreMark}

@@ -1,14 +1,14 @@
 -- What a compound term of a heap is made of.
-use Rattle.std.proofs.Common.{◌≡◌, ℕ, zero, ◌+◌, ◌<◌, ◌≤◌, List, [], ◌∷◌, ◌++◌, length, get_or, take, drop, map, refl, sym, ap, ap₂, subst, ◌∙◌, arith, zero-add, length-take}
+use Rattle.std.proofs.Common.{◌≡◌, ℕ, ◌<◌, ◌≤◌, List, [], ◌∷◌, length, get_or, take, drop, map, refl, sym, ap, ◌∙◌, arith, zero-add, length-take}
 use Rattle.std.proofs.lemmas.List.{take-append-drop}
-use Rattle.pl_term.specs.Tree.{Chars, Tree, Trees, var, int, atom, comp, none, more, trees, compound}
+use Rattle.pl_term.specs.Tree.{Chars, Tree, Trees, atom, comp, none, more, trees, compound}
 use Rattle.pl_term.specs.Variables.{replace, replace_all}
 use Rattle.pl_model.specs.Unify.{Bindings, bound, bound_all}
 use Rattle.term_store.specs.declared.words.Word.{Word}
 use Rattle.term_store.specs.declared.words.Word.TheVariants.{Var, Int, Atom, Comp}
 use Rattle.term_store.specs.declared.words.Head.{Head}
-use Rattle.term_store.specs.Heap.{Heap, atom_name, word_tree, words_of, head_tree, built, compounds, raw, bindings, meaning}
-use Rattle.term_store.specs.Fit.{IsWord, IsIn, IsHead, Fit, no_head}
+use Rattle.term_store.specs.Heap.{Heap, atom_name, word_tree, words_of, built, compounds, raw, bindings, meaning}
+use Rattle.term_store.specs.Fit.{IsWord, Fit, no_head}
 use Rattle.term_store.proofs.Building.{built-append, length-built, built-keeps, built-at, word_tree-same, map-same}
 use Rattle.term_store.proofs.Equations.{bound-atom, bound-comp}
 

@@ -1,9 +1,9 @@
 -- The pairs on the stack.
-use Rattle.std.proofs.Common.{◌≡◌, ℕ, zero, suc, ◌+◌, ◌<◌, ◌≤◌, List, [], ◌∷◌, ◌++◌, length, get_or, map, reverse, take, drop, ◌-◌, drop-cons, refl, sym, ap, ap₂, subst, ◌∙◌, arith, append_assoc, append-nil}
+use Rattle.std.proofs.Common.{◌≡◌, ℕ, zero, suc, ◌<◌, ◌≤◌, List, [], ◌∷◌, ◌++◌, length, get_or, map, reverse, drop, ◌-◌, drop-cons, refl, sym, ap, ap₂, subst, ◌∙◌, arith, append_assoc}
 use Rattle.std.specs.List.{All}
 use Rattle.std.proofs.lemmas.List.{reverse-append}
-use Rattle.std.proofs.lemmas.List.Elements.{All-head, All-tail, All-append, All-push, All-nil}
-use Rattle.pl_term.specs.Tree.{Tree, Trees, none, more, join, trees}
+use Rattle.std.proofs.lemmas.List.Elements.{All-head, All-tail, All-push, All-nil}
+use Rattle.pl_term.specs.Tree.{Tree, Trees, more, join, trees}
 use Rattle.pl_term.specs.Variables.{replace, replace_all}
 use Rattle.term_store.specs.declared.words.Word.{Word}
 use Rattle.term_store.specs.declared.words.Pair.{Pair}

@@ -1,13 +1,13 @@
 -- What is left to do for two words to become equal, on the terms that they stand for.
-use Rattle.std.proofs.Common.{◌≡◌, ◌≢◌, ◌⊎◌, inl, inr, ℕ, suc, ◌<◌, ◌≤◌, ◌+◌, Bool, true, false, cond, ◌&&◌, ◌==◌, nat_lt, List, [], ◌∷◌, length, get_or, map, drop, length-take, length-drop, Option, None, refl, sym, ap, ap₂, subst, ◌∙◌, arith}
+use Rattle.std.proofs.Common.{◌≡◌, ◌≢◌, ◌⊎◌, inl, inr, ℕ, ◌<◌, ◌≤◌, ◌+◌, Bool, true, false, cond, ◌==◌, nat_lt, List, [], ◌∷◌, length, get_or, map, drop, length-take, length-drop, None, refl, sym, ap, ap₂, subst, ◌∙◌, arith}
 use Rattle.std.specs.Ordering.{int_eq}
 use Rattle.std.specs.Str.{bytes_eq}
 use Rattle.std.proofs.lemmas.Bool.{false≢true, cases_lt}
 use Rattle.std.proofs.lemmas.Bool.Decides.{Decides-eqb, Decides-int_eq, Decides-ltb}
 use Rattle.std.proofs.lemmas.Slice.Eq.{bytes_eq-Decides}
-use Rattle.pl_term.specs.Tree.{Chars, Tree, Trees, var, int, atom, comp, none, more, count, trees, compound}
+use Rattle.pl_term.specs.Tree.{Chars, Tree, var, int, atom, comp, trees, compound}
 use Rattle.pl_term.specs.Variables.{has, replace}
-use Rattle.pl_model.specs.Unify.{Difference, same, clash, binds, or_later, difference, differences}
+use Rattle.pl_model.specs.Unify.{same, clash, binds, difference}
 use Rattle.pl_model.proofs.UnifyReplace.{eqb_same, eqb_other, replace-absent}
 use Rattle.term_store.specs.declared.words.Word.{Word}
 use Rattle.term_store.specs.declared.words.Word.TheVariants.{Var, Int, Atom, Comp}
@@ -15,11 +15,11 @@ use Rattle.term_store.specs.declared.words.Head.{Head}
 use Rattle.term_store.specs.declared.words.Plan.{Plan}
 use Rattle.term_store.specs.declared.words.Plan.TheVariants.{Same, Clash, Bind, Open}
 use Rattle.term_store.specs.Heap.{Heap, atom_name, words_of, bindings, meaning, numbered, find}
-use Rattle.term_store.specs.Fit.{IsIn, IsHead, Fit, Below, no_head}
+use Rattle.term_store.specs.Fit.{IsIn, Fit, Below, no_head}
 use Rattle.term_store.specs.Cells.{IsFree}
 use Rattle.term_store.specs.Unifying.{plan_of}
 use Rattle.term_store.proofs.Equations.{bound-int, bound-atom}
-use Rattle.term_store.proofs.Following.{stands, same_slot}
+use Rattle.term_store.proofs.Following.{stands}
 use Rattle.term_store.proofs.Opening.{opened}
 
 -- The variable of a slot faces a term, and is to be bound to a word that stands for it.

@@ -1,5 +1,5 @@
 -- A term whose variables are numbered in the order in which they first occur.
-use Rattle.std.proofs.Common.{◌≡◌, ◌==◌, ◌||◌, ℕ, zero, suc, ◌+◌, ◌<◌, ◌≤◌, true, false, not, cond, List, [], ◌∷◌, ◌++◌, length, map, get_or, take, drop, refl, sym, ap, subst, ◌∙◌, ⊎_elim, arith, zero-add}
+use Rattle.std.proofs.Common.{◌≡◌, ◌==◌, ◌||◌, ℕ, zero, suc, ◌+◌, ◌<◌, ◌≤◌, true, false, not, cond, List, [], ◌∷◌, ◌++◌, length, map, get_or, take, refl, sym, ap, subst, ◌∙◌, ⊎_elim, arith, zero-add}
 use Rattle.std.specs.List.{All}
 use Rattle.std.proofs.Math.ListN.{get_or-map}
 use Rattle.std.proofs.lemmas.Bool.{eq-eqb, ne_eqb, cases_eq, or_right}
@@ -8,7 +8,7 @@ use Rattle.std.proofs.lemmas.List.Elements.{All-push, All-weaker}
 use Rattle.pl_term.specs.declared.node.Node.{Node}
 use Rattle.pl_term.specs.Tree.{Tree}
 use Rattle.pl_term.specs.Cells.{cells, compound_cells}
-use Rattle.pl_term.specs.Nodes.{nodes, tree, tree-nodes}
+use Rattle.pl_term.specs.Nodes.{nodes, tree}
 use Rattle.pl_term.specs.NodeLists.{compound_cells_of, met_with, node_cells, rename_node}
 use Rattle.pl_term.specs.Variables.{is_in, place, without, distinct, occurrences, variables, rename, rename_by}
 use Rattle.pl_term.proofs.Distinct.{is_in-distinct, get_or-place}

@@ -1,17 +1,14 @@
 -- The nodes of a term from its last node to its first.
-use Rattle.std.proofs.Common.{◌≡◌, ℕ, zero, suc, ◌+◌, ◌<◌, ◌≤◌, List, [], ◌∷◌, ◌++◌, length, map, reverse, take, drop, refl, sym, ap, ap₂, subst, ◌∙◌, arith, append_assoc, append-nil}
-use Rattle.std.proofs.lemmas.List.{length-map, length-reverse, take-map, drop-map}
+use Rattle.std.proofs.Common.{◌≡◌, ℕ, zero, suc, ◌+◌, ◌<◌, ◌≤◌, List, [], ◌∷◌, ◌++◌, length, take, drop, refl, sym, ap, ap₂, ◌∙◌, arith, append_assoc, append-nil}
 use Rattle.pl_term.specs.declared.node.Node.{Node}
 use Rattle.pl_term.specs.declared.node.Node.TheVariants as terms
 use Rattle.pl_term.specs.Tree.{Chars, Tree, Trees, var, int, atom, comp, none, more, count, join, first, after, trees, compound}
-use Rattle.pl_term.specs.Nodes.{build, forest, nodes, nodes_all, forest-nodes_all, tree}
+use Rattle.pl_term.specs.Nodes.{build, forest, nodes, nodes_all, forest-nodes_all}
 use Rattle.pl_term.specs.Variables.{rename_by, rename_all_by}
-use Rattle.pl_term.proofs.NodeLemmas.{count-rename_all_by}
-use Rattle.pl_term.proofs.Spelled.{count-trees}
 use Rattle.term_store.specs.declared.nodes.AtomNode.{AtomNode}
 use Rattle.term_store.specs.declared.nodes.AtomNode.TheVariants.{Var, Int, Atom, Comp}
 use Rattle.term_store.specs.Heap.{atom_name}
-use Rattle.term_store.specs.Nodes.{node_view, node_views, IsNodeReady, placed}
+use Rattle.term_store.specs.Nodes.{node_view, IsNodeReady, placed}
 
 count-join : (ts us : Trees) → count (join ts us) ≡ count ts + count us
 count-join none us = sym (zero_left (count us))

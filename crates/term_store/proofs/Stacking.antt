@@ -1,21 +1,20 @@
 -- Words on a stack that become the arguments of a compound term.
-use Rattle.std.proofs.Common.{◌≡◌, ℕ, zero, suc, ◌+◌, ◌-◌, ◌<◌, ◌≤◌, List, [], ◌∷◌, ◌++◌, length, map, reverse, take, drop, Result, Ok, Err, IfOk, OnOk, OnErr, refl, sym, ap, ap₂, subst, ◌∙◌, arith, append_assoc, append-nil, length-append}
+use Rattle.std.proofs.Common.{◌≡◌, ℕ, ◌+◌, ◌<◌, List, [], ◌∷◌, ◌++◌, length, map, reverse, take, drop, Result, Ok, Err, IfOk, OnOk, OnErr, refl, sym, ap, ap₂, subst, ◌∙◌, arith, append_assoc, append-nil, length-append}
 use Rattle.std.specs.List.{All}
 use Rattle.std.proofs.Math.Seq.{take-append_seam, drop-append_seam}
 use Rattle.std.proofs.lemmas.List.{length-map, length-reverse, reverse-append, reverse-reverse, map-append}
-use Rattle.std.proofs.lemmas.List.Elements.{All-head, All-tail, All-nil, All-push, All-take, All-drop, All-weaker, All-append}
-use Rattle.pl_term.specs.Tree.{Tree, Trees, var, int, atom, more, none, trees, compound, count}
+use Rattle.std.proofs.lemmas.List.Elements.{All-head, All-tail, All-nil, All-push, All-take, All-drop, All-weaker}
+use Rattle.pl_term.specs.Tree.{Tree, var, int, atom, more, trees, compound, count}
 use Rattle.pl_term.specs.Nodes.{build}
 use Rattle.pl_term.proofs.Spelled.{count-trees}
 use Rattle.term_store.specs.declared.words.Word.{Word}
-use Rattle.term_store.specs.declared.words.Word.TheVariants.{Var, Int, Atom, Comp}
+use Rattle.term_store.specs.declared.words.Word.TheVariants.{Var, Int, Atom}
 use Rattle.term_store.specs.declared.nodes.AtomNode.{AtomNode}
 use Rattle.term_store.specs.declared.nodes.AtomNode.TheVariants as nodes
 use Rattle.term_store.specs.declared.words.Head.{Head}
-use Rattle.term_store.specs.declared.words.Bond.{Bond}
-use Rattle.term_store.specs.Heap.{Heap, atom_name, bindings, meaning, numbered, find}
+use Rattle.term_store.specs.Heap.{Heap, atom_name, bindings, meaning, numbered}
 use Rattle.term_store.specs.Fit.{IsIn, Fit}
-use Rattle.term_store.specs.Making.{with_more, Longer, Keeps, Made}
+use Rattle.term_store.specs.Making.{with_more, Keeps, Made}
 use Rattle.term_store.specs.Nodes.{Gains, Taken, Joined, standing, placed}
 use Rattle.term_store.proofs.Building.{map-same}
 use Rattle.term_store.proofs.Equations.{bound-int, bound-atom}

@@ -1,11 +1,11 @@
 -- What each step on the heap is in turns of unification.
-use Rattle.std.proofs.Common.{◌≡◌, ◌≢◌, ℕ, zero, suc, ◌+◌, ◌<◌, ◌≤◌, Bool, true, false, cond, ◌&&◌, ◌==◌, List, [], ◌∷◌, ◌++◌, length, get_or, map, reverse, take, drop, length-take, length-drop, Option, Some, None, refl, sym, ap, ap₂, subst, ◌∙◌, arith, zero-add, append-nil, append_assoc}
+use Rattle.std.proofs.Common.{◌≡◌, ◌≢◌, ℕ, zero, suc, ◌+◌, ◌<◌, ◌≤◌, Bool, true, false, cond, ◌&&◌, ◌==◌, List, [], ◌∷◌, ◌++◌, length, get_or, map, reverse, take, drop, length-take, length-drop, refl, sym, ap, ap₂, subst, ◌∙◌, arith, zero-add, append-nil, append_assoc}
 use Rattle.std.specs.Str.{bytes_eq}
 use Rattle.std.specs.List.{All}
 use Rattle.std.proofs.lemmas.List.{length-map}
 use Rattle.std.proofs.lemmas.List.Elements.{All-append}
-use Rattle.pl_term.specs.Tree.{Chars, Tree, Trees, var, int, atom, comp, none, more, count, join, trees}
-use Rattle.pl_term.specs.Variables.{has, replace, replace_all}
+use Rattle.pl_term.specs.Tree.{comp, none, more, count, trees}
+use Rattle.pl_term.specs.Variables.{has}
 use Rattle.pl_term.proofs.Spelled.{count-trees}
 use Rattle.pl_model.specs.Unify.{Bindings, bound, solve, clash, or_later, difference, differences}
 use Rattle.pl_model.proofs.UnifyReplace.{eqb_other}
@@ -16,7 +16,7 @@ use Rattle.term_store.specs.declared.words.Head.{Head}
 use Rattle.term_store.specs.declared.words.Pair.{Pair}
 use Rattle.term_store.specs.Heap.{Heap, atom_name, words_of, meaning, numbered, pushed}
 use Rattle.term_store.specs.Fit.{IsIn, Fit, no_head}
-use Rattle.term_store.specs.Unifying.{IsPairIn, lefts, rights, zip_words, Binds, Goes, Moves, Unifies, Solves}
+use Rattle.term_store.specs.Unifying.{IsPairIn, lefts, rights, zip_words, Goes, Moves, Unifies, Solves}
 use Rattle.term_store.proofs.Equations.{bound-append}
 use Rattle.term_store.proofs.Binding.{meaning-pushed}
 use Rattle.term_store.proofs.Planning.{Facing, IsOpened, is_opened, names-differ}

@@ -1,5 +1,5 @@
 -- What contracts see of a store: its heap, the cells used and the cells that may be used.
-use Rattle.std.specs.Prelude.{◌≡◌, ℕ, zero, suc, ◌+◌, ◌<◌, ◌≤◌, Bool, true, false, List, [], ◌∷◌, ◌++◌, length, map, take, drop, Option, Some, None}
+use Rattle.std.specs.Prelude.{◌≡◌, ℕ, zero, suc, ◌+◌, ◌<◌, ◌≤◌, Bool, true, false, List, [], ◌∷◌, ◌++◌, length, map, take, drop, Some, None}
 use Rattle.std.specs.List.{All}
 use Rattle.pl_term.specs.Tree.{Tree, var, int, atom, compound}
 use Rattle.pl_term.specs.Variables.{has, replace, rename, variables}

@@ -3,7 +3,6 @@ use Rattle.std.specs.Prelude.{◌≡◌, ℕ, List, [], ◌∷◌, ◌++◌, map
 use Rattle.pl_term.specs.Tree.{compound}
 use Rattle.term_store.specs.declared.words.Word.{Word}
 use Rattle.term_store.specs.declared.words.Head.{Head}
-use Rattle.term_store.specs.declared.words.Bond.{Bond}
 use Rattle.term_store.specs.Heap.{Heap, atom_name, meaning}
 use Rattle.term_store.specs.Fit.{IsIn}
 

@@ -1,5 +1,5 @@
 -- The nodes of a term over atoms, and a stack of words that stand for terms.
-use Rattle.std.specs.Prelude.{◌≡◌, ℕ, ◌+◌, ◌<◌, ◌≤◌, ◌++◌, List, map, reverse, length}
+use Rattle.std.specs.Prelude.{◌≡◌, ℕ, ◌<◌, ◌≤◌, ◌++◌, List, map, reverse, length}
 use Rattle.pl_term.specs.declared.node.Node.{Node}
 use Rattle.pl_term.specs.declared.node.Node.TheVariants as terms
 use Rattle.pl_term.specs.Tree.{Tree, Trees, var, int, atom, more, trees}

@@ -12,10 +12,10 @@ use crate::words::{Pair, Plan, Word};
 use pl_term::Memory;
 
 /// Binds variables until two words stand for the same term. Where no bindings make them the same it answers false, and
-/// some bindings may have been made. `todo` and `walk` are room for what is still to be done.
+/// some bindings may have been made. `pending` and `walk` are room for what is still to be done.
 pub fn unify(
     cells: &mut Cells,
-    todo: &mut Vec<Pair>,
+    pending: &mut Vec<Pair>,
     walk: &mut Vec<Word>,
     left: Word,
     right: Word,
@@ -27,15 +27,15 @@ pub fn unify(
     ensures grown { Grown (heap_of cells.old) (heap_of cells.new) }
     ensures solves { IfOk result (λ r. Solves r (heap_of cells.old) left right (heap_of cells.new)) }
 {
-    todo.clear();
-    todo.push(Pair { left, right })?;
+    pending.clear();
+    pending.push(Pair { left, right })?;
     for _ in 0..u64::MAX {
-        let Some(pair) = todo.pop() else {
+        let Some(pair) = pending.pop() else {
             return Ok(true);
         };
         let a = deref(cells, pair.left);
         let b = deref(cells, pair.right);
-        if !make_equal(cells, todo, walk, a, b)? {
+        if !make_equal(cells, pending, walk, a, b)? {
             return Ok(false);
         }
     }
@@ -46,7 +46,7 @@ pub fn unify(
 /// equal, which are put on the stack. It answers false where no bindings make them the same.
 fn make_equal(
     cells: &mut Cells,
-    todo: &mut Vec<Pair>,
+    pending: &mut Vec<Pair>,
     walk: &mut Vec<Word>,
     left: Word,
     right: Word,
@@ -56,11 +56,11 @@ fn make_equal(
     requires right { IsIn (heap_of cells.old) right }
     requires left_free { IsFree (heap_of cells.old) left }
     requires right_free { IsFree (heap_of cells.old) right }
-    requires pairs { All (IsPairIn (heap_of cells.old)) todo.old.items }
+    requires pairs { All (IsPairIn (heap_of cells.old)) pending.old.items }
     ensures fit { IsFit cells.new }
     ensures grown { Grown (heap_of cells.old) (heap_of cells.new) }
-    ensures pairs { OnOk result (All (IsPairIn (heap_of cells.new)) todo.new.items) }
-    ensures moves { IfOk result (λ r. Moves r (heap_of cells.old) todo.old.items left right (heap_of cells.new) todo.new.items) }
+    ensures pairs { OnOk result (All (IsPairIn (heap_of cells.new)) pending.new.items) }
+    ensures moves { IfOk result (λ r. Moves r (heap_of cells.old) pending.old.items left right (heap_of cells.new) pending.new.items) }
 {
     match compare_words(left, right) {
         Plan::Same => Ok(true),
@@ -72,7 +72,7 @@ fn make_equal(
             bind(cells, slot, word)?;
             Ok(true)
         }
-        Plan::Open(k, l) => open_pair(cells, todo, k, l),
+        Plan::Open(k, l) => open_pair(cells, pending, k, l),
     }
 }
 
@@ -118,13 +118,13 @@ fn compare_words(left: Word, right: Word) -> Plan
 
 /// Puts the pairs of the arguments of two compound terms on the stack, the first on top. It answers false, and puts
 /// none, where the terms differ in their name or their number of arguments.
-fn open_pair(cells: &Cells, todo: &mut Vec<Pair>, k: usize, l: usize) -> Result<bool, Memory>
+fn open_pair(cells: &Cells, pending: &mut Vec<Pair>, k: usize, l: usize) -> Result<bool, Memory>
     requires fit { IsFit cells.now }
     requires left { k < length cells.now.heads.items }
     requires right { l < length cells.now.heads.items }
-    requires pairs { All (IsPairIn (heap_of cells.now)) todo.old.items }
-    ensures pairs { OnOk result (All (IsPairIn (heap_of cells.now)) todo.new.items) }
-    ensures moves { IfOk result (λ r. Moves r (heap_of cells.now) todo.old.items (Word.Comp k) (Word.Comp l) (heap_of cells.now) todo.new.items) }
+    requires pairs { All (IsPairIn (heap_of cells.now)) pending.old.items }
+    ensures pairs { OnOk result (All (IsPairIn (heap_of cells.now)) pending.new.items) }
+    ensures moves { IfOk result (λ r. Moves r (heap_of cells.now) pending.old.items (Word.Comp k) (Word.Comp l) (heap_of cells.now) pending.new.items) }
 {
     let left = head_at(cells, k);
     let right = head_at(cells, l);
@@ -134,27 +134,27 @@ fn open_pair(cells: &Cells, todo: &mut Vec<Pair>, k: usize, l: usize) -> Result<
     if left.count != right.count {
         return Ok(false);
     }
-    push_pairs(cells, todo, left.start, right.start, left.count)?;
+    push_pairs(cells, pending, left.start, right.start, left.count)?;
     Ok(true)
 }
 
 /// Puts the pairs of the words from two places on the stack, the last ones first.
 fn push_pairs(
     cells: &Cells,
-    todo: &mut Vec<Pair>,
+    pending: &mut Vec<Pair>,
     left: usize,
     right: usize,
     count: usize,
 ) -> Result<(), Memory>
     requires left { left + count ≤ length cells.now.args.items }
     requires right { right + count ≤ length cells.now.args.items }
-    ensures { OnOk result (todo.new.items ≡ todo.old.items
+    ensures { OnOk result (pending.new.items ≡ pending.old.items
         ++ reverse (zip_words (take count (drop left cells.now.args.items)) (take count (drop right cells.now.args.items)))) }
 {
     let mut i = count;
     while i > 0 {
         i -= 1;
-        todo.push(Pair {
+        pending.push(Pair {
             left: word_at(cells, left + i),
             right: word_at(cells, right + i),
         })?;

@@ -1,5 +1,5 @@
 use Rattle.std.proofs.Common.{◌≡◌, set, Some, sym, subst}
-use Rattle.term_store.specs.Heap.{Heap, pushed}
+use Rattle.term_store.specs.Heap.{pushed}
 use Rattle.term_store.specs.Fit.{Fit, IsCache}
 use Rattle.term_store.specs.Cells.{heap_of}
 use Rattle.term_store.proofs.Binding.{fit_pushed, cache_pushed}

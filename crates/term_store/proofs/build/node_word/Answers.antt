@@ -1,5 +1,4 @@
 use Rattle.std.proofs.Common.{◌≡◌, ◌+◌, ◌-◌, ◌<◌, length, sym, ap, subst, ◌∙◌, arith, rules}
-use Rattle.term_store.specs.declared.nodes.AtomNode.TheVariants.{Var, Int, Atom, Comp}
 use Rattle.term_store.specs.Cells.{heap_of}
 use Rattle.term_store.specs.declared.words.Word.TheVariants as words
 use Rattle.pl_term.specs.Tree.{more}

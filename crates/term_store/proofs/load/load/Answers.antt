@@ -1,4 +1,4 @@
-use Rattle.std.proofs.Common.{◌≡◌, length, ◌∙◌}
+use Rattle.std.proofs.Common.{◌∙◌}
 use Rattle.term_store.specs.Cells.{heap_of}
 use Rattle.term_store.specs.Contents.{upwards}
 use Rattle.term_store.proofs.Loading.{keeps_of, longer_numbers, longer_twice, nodes_below, raised_if}

@@ -1,6 +1,5 @@
-use Rattle.std.proofs.Common.{◌≡◌, refl, arith}
 use Rattle.term_store.specs.Cells.{heap_of}
-use Rattle.term_store.proofs.Loading.{numbers_above, one_more_number}
+use Rattle.term_store.proofs.Loading.{numbers_above}
 use Rattle.term_store.proofs.load.make_variables.Goals as goal
 
 pub make_variable-requires-clause-above : goal.make_variable-requires-clause-above

@@ -1,4 +1,4 @@
-use Rattle.std.proofs.Common.{◌≡◌, ◌++◌, ◌∷◌, [], length, refl, ◌∙◌}
+use Rattle.std.proofs.Common.{length, refl, ◌∙◌}
 use Rattle.term_store.specs.Cells.{heap_of}
 use Rattle.term_store.proofs.Growing.{finished}
 use Rattle.term_store.proofs.make.finish_compound.Goals as goal

@@ -1,6 +1,5 @@
-use Rattle.std.proofs.Common.{◌≡◌, ◌++◌, ◌∷◌, [], None, length, sym, subst, ◌∙◌}
+use Rattle.std.proofs.Common.{◌++◌, ◌∷◌, [], sym, subst}
 use Rattle.term_store.specs.Cells.{heap_of}
-use Rattle.term_store.specs.Heap.{Heap}
 use Rattle.term_store.specs.Fit.{Fit, IsCache}
 use Rattle.term_store.proofs.Growing.{fit_number, cache_number}
 use Rattle.term_store.proofs.make.make_variable.Goals as goal

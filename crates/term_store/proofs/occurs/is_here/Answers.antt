@@ -1,6 +1,6 @@
 use Rattle.term_store.specs.Heap.{numbered}
 use Rattle.term_store.specs.Cells.{heap_of}
-use Rattle.std.proofs.Common.{◌≡◌, None, subst}
+use Rattle.std.proofs.Common.{subst}
 use Rattle.term_store.specs.Cells.{IsFree}
 use Rattle.term_store.proofs.Occurring.{var_found, int_found, atom_found, comp_found, comp_inside}
 use Rattle.term_store.proofs.occurs.is_here.Goals as goal

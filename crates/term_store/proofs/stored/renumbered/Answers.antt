@@ -1,6 +1,5 @@
-use Rattle.std.proofs.Common.{◌<◌, length, sym, ap, subst, ◌∙◌, arith}
+use Rattle.std.proofs.Common.{length, ap, arith}
 use Rattle.pl_term.specs.Variables.{place}
-use Rattle.pl_term.specs.NodeLists.{with}
 use Rattle.pl_term.proofs.Places.{place-with}
 use Rattle.term_store.proofs.stored.renumbered.Goals as goal
 

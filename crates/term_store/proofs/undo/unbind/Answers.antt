@@ -1,8 +1,6 @@
-use Rattle.std.proofs.Common.{◌≡◌, ◌<◌, ◌≤◌, ◌+◌, [], ◌∷◌, ◌++◌, length, set, None, Some, sym, ap, subst, ◌∙◌, arith, length-append}
-use Rattle.std.specs.List.{All}
+use Rattle.std.proofs.Common.{◌≡◌, ◌<◌, ◌+◌, [], ◌∷◌, ◌++◌, length, set, None, Some, sym, ap, subst, ◌∙◌, arith, length-append}
 use Rattle.std.proofs.Math.ListN.{length-set}
 use Rattle.std.proofs.lemmas.List.Elements.{All-pop, All-weaker}
-use Rattle.term_store.specs.declared.words.Bond.{Bond}
 use Rattle.term_store.specs.Fit.{Cached, OnceFrom}
 use Rattle.term_store.proofs.Unbinding.{OnceFrom-last, Cached-popped, taken_popped}
 use Rattle.term_store.proofs.undo.unbind.Goals as goal

@@ -1,4 +1,4 @@
-use Rattle.std.proofs.Common.{◌≡◌, ◌<◌, ◌≤◌, [], length, take, ℕ}
+use Rattle.std.proofs.Common.{◌≡◌, ◌<◌, ◌≤◌, [], length, take}
 use Rattle.std.specs.List.{All}
 use Rattle.term_store.specs.Fit.{Cached, OnceFrom}
 use Rattle.term_store.proofs.undo.unbind.Given as goal

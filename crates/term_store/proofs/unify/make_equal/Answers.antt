@@ -1,10 +1,10 @@
-use Rattle.std.proofs.Common.{◌≡◌, true, false, sym, subst, ◌∙◌}
+use Rattle.std.proofs.Common.{◌≡◌, sym, subst, ◌∙◌}
 use Rattle.term_store.specs.declared.words.Plan.{Plan}
-use Rattle.term_store.specs.declared.words.Plan.TheVariants.{Same, Clash, Bind, Open}
+use Rattle.term_store.specs.declared.words.Plan.TheVariants.{Same, Clash, Bind}
 use Rattle.term_store.specs.declared.words.Word.{Word}
-use Rattle.term_store.specs.Cells.{IsFit, IsFree, heap_of}
+use Rattle.term_store.specs.Cells.{IsFree, heap_of}
 use Rattle.term_store.specs.Fit.{IsIn, Fit}
-use Rattle.term_store.specs.Heap.{Heap, pushed}
+use Rattle.term_store.specs.Heap.{Heap}
 use Rattle.term_store.specs.Unifying.{plan_of, Goes}
 use Rattle.term_store.proofs.Planning.{Planned, planned}
 use Rattle.term_store.proofs.Turning.{goes_same, goes_bind, never_clash, never_occurs}
@@ -18,21 +18,21 @@ pub returns-in-Same-clause-moves : goal.returns-in-Same-clause-moves
 returns-in-Same-clause-moves c =
     let h = heap_of c.args.cells.now in
     let r = c.requires in
-    goes_same h c.args.todo.now.items c.args.left c.args.right
+    goes_same h c.args.pending.now.items c.args.left c.args.right
     (as_planned h c.args.left c.args.right c.compare_words.result Same r.fit.fit r.left r.right r.left_free r.right_free c.compare_words.ensures c.in-Same.is)
 
 pub returns-in-Clash-clause-moves : goal.returns-in-Clash-clause-moves
 returns-in-Clash-clause-moves c =
     let h = heap_of c.args.cells.now in
     let r = c.requires in
-    never_clash h c.args.todo.now.items c.args.left c.args.right h c.args.todo.now.items
+    never_clash h c.args.pending.now.items c.args.left c.args.right h c.args.pending.now.items
     (as_planned h c.args.left c.args.right c.compare_words.result Clash r.fit.fit r.left r.right r.left_free r.right_free c.compare_words.ensures c.in-Clash.is)
 
 pub returns-then-branch-clause-moves : goal.returns-then-branch-clause-moves
 returns-then-branch-clause-moves c =
     let h = heap_of c.args.cells.now in
     let r = c.requires in
-    never_occurs h c.args.todo.now.items c.args.left c.args.right h c.args.todo.now.items c.in-Bind.slot c.in-Bind.word
+    never_occurs h c.args.pending.now.items c.args.left c.args.right h c.args.pending.now.items c.in-Bind.slot c.in-Bind.word
     (as_planned h c.args.left c.args.right c.compare_words.result (Bind c.in-Bind.slot c.in-Bind.word) r.fit.fit r.left r.right r.left_free r.right_free
     c.compare_words.ensures c.in-Bind.is)
     (sym c.in_ok-occurs-in-Bind.ensures ∙ c.if-branch.true)
@@ -41,8 +41,8 @@ pub returns-in_ok-bind-in-Bind-clause-moves : goal.returns-in_ok-bind-in-Bind-cl
 returns-in_ok-bind-in-Bind-clause-moves c =
     let h = heap_of c.args.cells.now in
     let r = c.requires in
-    subst (λ d. Goes h c.args.todo.now.items c.args.left c.args.right d c.args.todo.now.items) (sym c.in_ok-bind-in-Bind.ensures.bound)
-    (goes_bind h c.args.todo.now.items c.args.left c.args.right c.in-Bind.slot c.in-Bind.word
+    subst (λ d. Goes h c.args.pending.now.items c.args.left c.args.right d c.args.pending.now.items) (sym c.in_ok-bind-in-Bind.ensures.bound)
+    (goes_bind h c.args.pending.now.items c.args.left c.args.right c.in-Bind.slot c.in-Bind.word
     (as_planned h c.args.left c.args.right c.compare_words.result (Bind c.in-Bind.slot c.in-Bind.word) r.fit.fit r.left r.right r.left_free r.right_free
     c.compare_words.ensures c.in-Bind.is)
     (sym c.in_ok-occurs-in-Bind.ensures ∙ c.if-branch.false))

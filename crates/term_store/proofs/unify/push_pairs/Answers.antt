@@ -1,4 +1,4 @@
-use Rattle.std.proofs.Common.{◌≡◌, ◌≤◌, ◌<◌, ◌+◌, ◌-◌, ◌++◌, length, take, drop, get_or, reverse, pos, sym, ap, ap₂, ◌∙◌, arith, append-nil, length-take, length-drop}
+use Rattle.std.proofs.Common.{◌≡◌, ◌-◌, ◌++◌, length, take, drop, reverse, pos, sym, ap, ap₂, ◌∙◌, arith, append-nil, length-take, length-drop}
 use Rattle.std.proofs.lemmas.List.{get_or-take, get_or-drop}
 use Rattle.term_store.specs.declared.words.Word.TheVariants.{Int}
 use Rattle.term_store.proofs.Pairing.{drop-zip_all, pair_pushed}
@@ -12,8 +12,8 @@ loop-i-init c =
     record {
       within = omega arith;
       pushed =
-          sym (ap (λ ps. c.args.todo.now.items ++ reverse ps)
-          (drop-zip_all vs ws c.args.count (omega (arith, length-take c.args.count (drop c.args.left args)))) ∙ append-nil c.args.todo.now.items);
+          sym (ap (λ ps. c.args.pending.now.items ++ reverse ps)
+          (drop-zip_all vs ws c.args.count (omega (arith, length-take c.args.count (drop c.args.left args)))) ∙ append-nil c.args.pending.now.items);
     }
 
 pub loop-i-preserved : goal.loop-i-preserved
@@ -29,7 +29,7 @@ loop-i-preserved c =
     record {
       within = omega arith;
       pushed =
-          pair_pushed c.args.todo.now.items c.loop-i.todo.items c.push.new.self.items vs ws c.loop-i.i
+          pair_pushed c.args.pending.now.items c.loop-i.pending.items c.push.new.self.items vs ws c.loop-i.i
           (record { left = c.word_at.result; right = c.word_at-in-loop-i.result }) (Int (pos 0)) (omega arith) (omega arith) (len_left ∙ sym len_right)
           c.loop-i.invariant.pushed c.in_ok-push.ensures.items
           (ap₂ (λ v w. record { left = v; right = w })

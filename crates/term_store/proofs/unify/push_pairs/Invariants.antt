@@ -7,8 +7,8 @@ invariant-loop-i l =
     record {
       within : l.i ≤ l.fn.count;
       pushed :
-          l.todo.items
-          ≡ l.initial.todo.items
+          l.pending.items
+          ≡ l.initial.pending.items
           ++ reverse (drop l.i (zip_words (take l.fn.count (drop l.fn.left l.cells.args.items)) (take l.fn.count (drop l.fn.right l.cells.args.items))));
     }
 

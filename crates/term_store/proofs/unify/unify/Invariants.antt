@@ -9,6 +9,6 @@ invariant-loop l =
     record {
       fit : IsFit l.cells;
       grown : Grown (heap_of l.fn.cells) (heap_of l.cells);
-      pairs : All (IsPairIn (heap_of l.cells)) l.todo.items;
-      goes : Goes (heap_of l.fn.cells) [] l.fn.left l.fn.right (heap_of l.cells) l.todo.items;
+      pairs : All (IsPairIn (heap_of l.cells)) l.pending.items;
+      goes : Goes (heap_of l.fn.cells) [] l.fn.left l.fn.right (heap_of l.cells) l.pending.items;
     }

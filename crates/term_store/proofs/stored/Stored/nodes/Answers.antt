@@ -1,4 +1,4 @@
-use Rattle.std.proofs.Common.{◌≡◌, List, length, ap, sym, subst, ◌∙◌}
+use Rattle.std.proofs.Common.{◌≡◌, length, ap, sym, subst, ◌∙◌}
 use Rattle.std.specs.List.{All}
 use Rattle.pl_term.specs.Nodes.{nodes}
 use Rattle.pl_term.specs.Variables.{rename, variables}
