@@ -6,6 +6,7 @@ pub mod Equations
 pub mod Following
 pub mod Growing
 pub mod Loading
+pub mod Looking
 pub mod Marking
 pub mod Occurring
 pub mod Opening
@@ -17,3 +18,4 @@ pub mod Stacking
 pub mod Storing
 pub mod Turning
 pub mod Unbinding
+pub mod Walking

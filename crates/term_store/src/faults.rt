@@ -24,3 +24,14 @@ impl fmt::Display for StoreFault {
 }
 
 impl Error for StoreFault {}
+
+impl From<Memory> for StoreFault {
+    ghost use Rattle.std.specs.Prelude.{◌≡◌};
+    ghost use Rattle.term_store.specs.declared.faults.StoreFault.TheVariants as store;
+
+    ghost from_gives = { λ _ f. f ≡ store.Memory };
+
+    fn from(_e: Memory) -> StoreFault {
+        StoreFault::Memory
+    }
+}
