@@ -1,2 +1,11 @@
+pub mod Cutting
+pub mod Growing
+pub mod Heights
+pub mod Instances
+pub mod Over
+pub mod Resting
+pub mod Resuming
 pub mod Spelt
+pub mod Stacked
 pub mod Texts
+pub mod Turning

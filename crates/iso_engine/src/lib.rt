@@ -1,4 +1,11 @@
 //! The engine: resolution of goals on a store of terms (ISO/IEC 13211-1:1995, 7.7 and 7.8).
 #![tactic(auto)]
 
+pub mod choices;
+pub mod control;
+pub mod equal;
+pub mod failure;
+pub mod frames;
+pub mod outcome;
+pub mod search;
 pub mod spelling;
