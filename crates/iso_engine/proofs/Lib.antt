@@ -1,4 +1,7 @@
+pub mod Catching
+pub mod Charging
 pub mod Cutting
+pub mod Equalling
 pub mod Growing
 pub mod Heights
 pub mod Instances

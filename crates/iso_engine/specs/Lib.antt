@@ -1,7 +1,10 @@
+pub mod Budgeting
 pub mod Choices
+pub mod Errors
 pub mod Failures
 pub mod Frames
 pub mod Outcomes
 pub mod Reading
 pub mod Searching
 pub mod Spelling
+pub mod Throwing

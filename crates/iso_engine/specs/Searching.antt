@@ -1,6 +1,7 @@
 -- What a search stands for.
-use Rattle.std.specs.Prelude.{ℕ, List, reverse}
+use Rattle.std.specs.Prelude.{◌≡◌, ℕ, List, reverse, length, ◌≤◌}
 use Rattle.pl_model.specs.Resolution.{Node, Choice, Doing, Output, State}
+use Rattle.term_store.specs.Contents.{IsAbove}
 use Rattle.iso_engine.specs.declared.search.Search.{Search}
 use Rattle.iso_engine.specs.Frames.{tasks}
 use Rattle.iso_engine.specs.Reading.{View, reads, node_at}
@@ -21,3 +22,5 @@ state_of v e doing output =
 pub record IsWhole (e : Search) : Type 0 where
   pub base : IsBase e.answer.items e.store e.frames.items
   pub rests : AreRests e.answer.items e.store e.frames.items (reverse e.choices.items)
+  pub budget : e.store.budget ≡ e.budgets.cells
+  pub above : IsAbove e.next e.store

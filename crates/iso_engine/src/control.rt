@@ -98,6 +98,26 @@ impl Search {
         }
     }
 
+    /// Succeeds, and does so again wherever it is gone back to (ISO 8.15.3): the goal is run again then. The only error is
+    /// want of memory.
+    pub fn repeat(&mut self, again: Place, rest: usize) -> Result<Outcome, Memory>
+        requires whole { IsWhole self.old }
+        requires again { Holds self.old.store again }
+        requires rest { rest ≤ length self.old.frames.items }
+        ensures whole { OnOk result (IsWhole self.new) }
+        ensures step { IfOk result (λ o. (t : Setting) (p : Proc)
+            → let r = reads t.view self.old.store in let n = node_of t.view self.old rest in let s = state_in t self.old in
+            result_in t self.new n p o ≡ over (limits_in t self.old) s n p (branch (before (goal (r again) (length s.choices) ∷ []) n)) (λ k. [])) }
+    {
+        let height = self.choices.len();
+        let list = self.push(Task::Goal(again, height), rest)?;
+        let made = self.make_choice(Alternative::Branch, list)?;
+        match made {
+            None => Ok(Outcome::Raise(Fault::Choices)),
+            Some(_) => Ok(Outcome::Run(rest)),
+        }
+    }
+
     /// Two alternatives (ISO 7.8.6).
     pub fn disjunction(
         &mut self,

@@ -1,5 +1,5 @@
 //! What is still to be done, as lists that share their ends.
-ghost use Rattle.std.specs.Prelude.{◌≡◌, ◌≤◌, ℕ, ◌∷◌, [], ◌++◌, length, IfOk, OnOk, OnErr, MatchOption};
+ghost use Rattle.std.specs.Prelude.{◌≡◌, ◌≤◌, ◌<◌, ℕ, ◌∷◌, [], ◌++◌, length, IfOk, OnOk, OnErr, MatchOption};
 ghost use Rattle.iso_engine.specs.Frames.{AreLinked, tasks};
 
 use pl_term::Memory;
@@ -45,7 +45,7 @@ pub fn push_task(frames: &mut Vec<Frame>, task: Task, next: usize) -> Result<usi
 /// The first task of the list, with the list of the others.
 pub fn first_task(frames: &[Frame], list: usize) -> Option<Frame>
     requires { AreLinked frames.now }
-    ensures { MatchOption result (tasks frames.now list ≡ []) (λ f. (tasks frames.now list ≡ f.task ∷ tasks frames.now f.next) × (f.next ≤ length frames.now)) }
+    ensures { MatchOption result (tasks frames.now list ≡ []) (λ f. (tasks frames.now list ≡ f.task ∷ tasks frames.now f.next) × ((f.next ≤ length frames.now) × (f.next < list))) }
 {
     if list == 0 {
         return None;

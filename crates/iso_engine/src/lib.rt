@@ -1,6 +1,7 @@
 //! The engine: resolution of goals on a store of terms (ISO/IEC 13211-1:1995, 7.7 and 7.8).
 #![tactic(auto)]
 
+pub mod budget;
 pub mod choices;
 pub mod control;
 pub mod equal;
@@ -9,3 +10,4 @@ pub mod frames;
 pub mod outcome;
 pub mod search;
 pub mod spelling;
+pub mod throwing;

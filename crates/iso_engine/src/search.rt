@@ -1,5 +1,5 @@
 //! The state of a search, and how its lists of tasks and its choice points change.
-ghost use Rattle.std.specs.Prelude.{◌≡◌, ◌≤◌, ℕ, [], ◌∷◌, ◌++◌, length, IfOk, OnOk, IfSome, MatchOption};
+ghost use Rattle.std.specs.Prelude.{◌≡◌, ◌≤◌, ℕ, [], ◌∷◌, ◌++◌, length, take, IfOk, OnOk, IfSome, MatchOption};
 ghost use Rattle.pl_model.specs.Control.{before};
 ghost use Rattle.pl_model.specs.Resolution.{up_to};
 ghost use Rattle.iso_engine.specs.Choices.{IsTaskIn, IsAlternativeIn, choice_at};
@@ -56,6 +56,7 @@ impl Search {
         requires { IsWhole self.old }
         ensures whole { IsWhole self.new }
         ensures choices { (v : View) → choices_of v self.new ≡ up_to height (choices_of v self.old) }
+        ensures oldest { self.new.choices.items ≡ take height self.old.choices.items }
         ensures kept { self.new ≡ record self.old { choices = self.new.choices } }
     {
         self.choices.truncate(height);
@@ -68,6 +69,7 @@ impl Search {
         ensures back { MatchOption result ((v : View) → (choices_of v self.old ≡ []) × (choices_of v self.new ≡ [])) (λ k. (v : View)
             → choices_of v self.old ≡ choice_at v (reads v self.new.store) (node_of v self.new k.next) k.alternative ∷ choices_of v self.new) }
         ensures words { IfSome result (λ k. IsAlternativeIn self.new.store k.alternative × (k.next ≤ length self.new.frames.items)) }
+        ensures newest { MatchOption result (self.old.choices.items ≡ []) (λ k. self.old.choices.items ≡ self.new.choices.items ++ k ∷ []) }
         ensures kept { self.new ≡ record self.old {
           store = self.new.store;
           frames = self.new.frames;

@@ -1,4 +1,4 @@
-use Rattle.std.proofs.Common.{◌≡◌, ◌<◌, ◌-◌, suc, length, sym, ap, ◌∙◌, arith}
+use Rattle.std.proofs.Common.{◌≡◌, ◌≤◌, ◌<◌, ◌-◌, ℕ, suc, ◌∷◌, [], ◌++◌, length, sym, ap, ◌∙◌, arith, subst}
 use Rattle.iso_engine.specs.Frames.{tasks}
 use Rattle.iso_engine.proofs.Stacked.{tasks-zero, tasks-past, tasks-at}
 use Rattle.iso_engine.proofs.frames.first_task.Goals as goal
@@ -15,4 +15,4 @@ returns c =
     let place : suc (c.args.list - 1) ≡ c.args.list = omega (arith, c.if-list-eq0.false) in
     let lt : c.args.list - 1 < length fs = omega (arith, c.if-list-eq0.false, c.if-list-frames.false) in
     let below = c.requires (c.args.list - 1) lt in
-    (ap (tasks fs) (sym place) ∙ tasks-at fs (c.args.list - 1) c.requires lt, omega (arith, below, lt))
+    (ap (tasks fs) (sym place) ∙ tasks-at fs (c.args.list - 1) c.requires lt, (omega (arith, below, lt), omega (arith, below, lt)))

@@ -11,6 +11,8 @@ returns-clause-whole c =
       rests =
           subst (λ ks. AreRests s.answer.items s.store s.frames.items (reverse ks)) (sym c.truncate.ensures.items)
           (rests-truncated s.answer.items s.store s.frames.items c.args.height s.choices.items c.requires.rests);
+      budget = c.requires.budget;
+      above = c.requires.above;
     }
 
 pub returns-clause-choices : goal.returns-clause-choices

@@ -1,4 +1,4 @@
-use Rattle.std.proofs.Common.{reverse}
+use Rattle.std.proofs.Common.{reverse, ◌∷◌, [], sym}
 use Rattle.iso_engine.specs.declared.frames.Frame.{Frame}
 use Rattle.iso_engine.proofs.Growing.{base_pushed, rests_pushed, choices_pushed}
 use Rattle.iso_engine.proofs.search.Search.push.Goals as goal
@@ -11,6 +11,8 @@ returns-clause-whole c =
     record {
       base = base_pushed s.answer.items s.store s.frames.items c.push_task.new.frames.items f c.requires.whole.base c.requires.task e c.push_task.ensures.linked;
       rests = rests_pushed s.answer.items s.store s.frames.items c.push_task.new.frames.items f (reverse s.choices.items) c.requires.whole.rests e;
+      budget = c.requires.whole.budget;
+      above = c.requires.whole.above;
     }
 
 pub returns-clause-choices : goal.returns-clause-choices

@@ -1,7 +1,8 @@
-use Rattle.std.proofs.Common.{reverse, refl, subst}
+use Rattle.std.proofs.Common.{◌≡◌, ◌<◌, true, false, reverse, refl, subst, sym, ◌∙◌}
+use Rattle.std.specs.List.{All}
 use Rattle.term_store.specs.Contents.{Unified}
 use Rattle.iso_engine.specs.declared.search.Search.{Search}
-use Rattle.iso_engine.specs.Searching.{node_of}
+use Rattle.iso_engine.specs.Searching.{node_of, choices_of}
 use Rattle.iso_engine.proofs.Instances.{base_added, rests_kept, choices_kept, unified_run, unified_fail}
 use Rattle.iso_engine.proofs.search.Search.unify.Goals as goal
 
@@ -13,6 +14,8 @@ returns-then-same-clause-whole c =
     record {
       base = base_added e.answer.items e.store s e.frames.items adds c.requires.whole.base;
       rests = rests_kept e.answer.items e.store s e.frames.items (reverse e.choices.items) adds c.requires.whole.rests;
+      budget = c.in_ok-same.ensures.size.budget ∙ c.requires.whole.budget;
+      above = subst (All (λ m. m < e.next)) (sym c.in_ok-same.ensures.size.numbers) c.requires.whole.above;
     }
 
 pub returns-then-same-clause-step : goal.returns-then-same-clause-step
