@@ -1,0 +1,4 @@
+pub mod Distinct
+pub mod Held
+pub mod Located
+pub mod Refusals
