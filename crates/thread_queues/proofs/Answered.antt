@@ -1,6 +1,6 @@
 -- Which cause of a refusal holds, and what a call answers.
-use Rattle.std.proofs.Common.{◌≡◌, ◌<◌, ℕ, List, [], ◌∷◌, ◌++◌, map, filter, find, length, Option, Some, None, Result, Ok, Err, Bool, true, false, refl, ap, sym, subst, ◌∙◌}
-use Rattle.std.specs.Prelude.{if◌then◌else◌, ◌==◌, not, remove, is_some, is_none, slice_index_or, slice_set, IfErr, IfOk, OnOk, OnErr}
+use Rattle.std.proofs.Common.{◌≡◌, ℕ, List, [], ◌∷◌, ◌++◌, map, filter, find, Option, Some, None, Result, Ok, Err, Bool, true, false, refl, ap, sym, subst, ◌∙◌}
+use Rattle.std.specs.Prelude.{if◌then◌else◌, ◌==◌, not, is_some, is_none, slice_set, IfErr, IfOk, OnOk, OnErr}
 use Rattle.std.specs.Option.{option_map}
 use Rattle.pl_term.specs.declared.memory.Memory.{Memory}
 use Rattle.std.specs.Result.{MatchResult}
@@ -11,12 +11,12 @@ use Rattle.pl_model.specs.declared.threads.Status.{Status}
 use Rattle.pl_model.specs.declared.threads.Thread.{Thread}
 use Rattle.pl_model.specs.Threads.{Queue, Threads, queue_named, thread_named, thread_numbered, is_queue, has_engine, is_running, thread_joined, message_sent, message_taken, first_message}
 use Rattle.thread_queues.specs.declared.fault.QueueFault.{QueueFault}
-use Rattle.thread_queues.specs.declared.fault.QueueFault.TheVariants.{NoQueue, OwnQueue, NoThread, Joined, AliasTaken, EnginesFull, Memory as NoMemory}
+use Rattle.thread_queues.specs.declared.fault.QueueFault.TheVariants.{NoQueue, OwnQueue, NoThread, AliasTaken, EnginesFull, Memory as NoMemory}
 use Rattle.thread_queues.specs.Distinct.{has_number, Distinct}
 use Rattle.thread_queues.specs.Held.{Held, held, places, contents, left_by_join, named_message, IsSound, Removes, Takes, TakesFirst}
 use Rattle.thread_queues.specs.Located.{IsAt}
 use Rattle.thread_queues.specs.Refusals.{is_taken, start_refusal, drop_refusal, end_refusal, join_refusal, join_fault}
-use Rattle.thread_queues.proofs.Located.{located_set, located_removed, item_out, key_is}
+use Rattle.thread_queues.proofs.Located.{located_set, item_out, key_is}
 use Rattle.thread_queues.proofs.Searched.{none_out}
 use Rattle.thread_queues.proofs.Changes.{sent_sound, sent_state, taken_sound, taken_state, queue_gone_sound}
 

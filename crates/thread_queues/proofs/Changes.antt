@@ -1,6 +1,6 @@
 -- What each change makes of the lists that are held, and that they stay sound by it.
-use Rattle.std.proofs.Common.{◌≡◌, ◌<◌, ℕ, List, [], ◌∷◌, ◌++◌, map, filter, find, length, Option, Some, None, Bool, true, false, refl, ap, sym, subst, ◌∙◌}
-use Rattle.std.specs.Prelude.{IfNone, if◌then◌else◌, ◌==◌, cond, not, remove, slice_index_or, slice_set}
+use Rattle.std.proofs.Common.{◌≡◌, ℕ, List, [], ◌∷◌, ◌++◌, map, filter, find, Option, Some, None, Bool, true, false, refl, ap, sym, subst, ◌∙◌}
+use Rattle.std.specs.Prelude.{IfNone, ◌==◌, cond, not, remove, slice_set}
 use Rattle.std.proofs.lemmas.List.{map-append, append-nil, append_assoc}
 use Rattle.std.proofs.lemmas.List.Elements.{filter-append}
 use Rattle.pl_term.specs.Tree.{Chars}
@@ -13,7 +13,6 @@ use Rattle.thread_queues.specs.Held.{Held, held, IsSound, IsNew, queue_numbers, 
 use Rattle.thread_queues.specs.Located.{IsAt}
 use Rattle.thread_queues.proofs.Numbers.{has_front, has_back, distinct_before, distinct_behind, distinct_without, distinct_with, distinct_last, distinct_part, or_left, or_right, or_both, all_kept, eq_same}
 use Rattle.thread_queues.proofs.Located.{located_removed, located_set, item_out, item_changed, item_distinct, item_same, located_out, located_changed}
-use Rattle.thread_queues.proofs.Searched.{none_out}
 
 -- Clauses on what may be there
 

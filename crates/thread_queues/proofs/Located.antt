@@ -1,8 +1,8 @@
 -- The member that was found is taken out of a list, or another one is put in its place.
-use Rattle.std.proofs.Common.{◌≡◌, ◌<◌, ℕ, List, [], ◌∷◌, ◌++◌, map, filter, find, length, Option, Some, None, Bool, true, false, refl, ap, sym, subst, ◌∙◌, eqb-true}
+use Rattle.std.proofs.Common.{◌≡◌, ◌<◌, ℕ, List, ◌∷◌, ◌++◌, map, filter, find, length, Option, Some, ap, sym, subst, ◌∙◌, eqb-true}
 use Rattle.std.specs.Prelude.{if◌then◌else◌, ◌==◌, not, remove, slice_index_or, slice_set}
 use Rattle.std.proofs.lemmas.List.{map-append}
-use Rattle.thread_queues.specs.Distinct.{has_number, Distinct}
+use Rattle.thread_queues.specs.Distinct.{Distinct}
 use Rattle.thread_queues.specs.Located.{IsAt}
 use Rattle.thread_queues.proofs.Numbers.{one_out, one_changed, distinct_without}
 use Rattle.thread_queues.proofs.Searched.{at_within, at_item, at_removed, at_set, found_hits}

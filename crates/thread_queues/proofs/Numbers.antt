@@ -1,6 +1,6 @@
 -- Lists of numbers in which none stands twice, and lists whose members have such numbers.
-use Rattle.std.proofs.Common.{◌≡◌, ◌<◌, ℕ, zero, suc, List, [], ◌∷◌, ◌++◌, map, filter, find, take, drop, length, Option, Some, None, Bool, true, false, refl, ap, sym, ◌∙◌, arith, eq-eqb, eqb-true}
-use Rattle.std.specs.Prelude.{if◌then◌else◌, cond, ◌==◌, ◌||◌, not, remove, slice_index_or, slice_set}
+use Rattle.std.proofs.Common.{◌≡◌, ℕ, List, [], ◌∷◌, ◌++◌, map, filter, Bool, true, false, refl, ap, sym, ◌∙◌, arith, eq-eqb, eqb-true}
+use Rattle.std.specs.Prelude.{if◌then◌else◌, cond, ◌==◌, ◌||◌, not}
 use Rattle.std.specs.List.{list_any}
 use Rattle.pl_term.specs.Variables.{is_in}
 use Rattle.thread_queues.specs.Distinct.{has_number, Distinct}

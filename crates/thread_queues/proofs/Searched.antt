@@ -1,9 +1,9 @@
 -- A search from the front: what was passed, and what was found.
-use Rattle.std.proofs.Common.{◌≡◌, ◌<◌, ◌≤◌, ℕ, zero, suc, List, [], ◌∷◌, ◌++◌, find, take, drop, length, Option, Some, None, Bool, true, false, refl, ap, sym, subst, ◌∙◌, arith, eq-eqb}
+use Rattle.std.proofs.Common.{◌≡◌, ◌<◌, ◌≤◌, ℕ, zero, suc, List, [], ◌∷◌, ◌++◌, find, take, length, Option, Some, None, Bool, true, false, refl, ap, sym, subst, ◌∙◌, arith, eq-eqb}
 use Rattle.std.proofs.lemmas.Bool.{ne_eqb}
 use Rattle.std.specs.List.{list_any}
 use Rattle.std.specs.Prelude.{◌==◌, ◌||◌, if◌then◌else◌, ◌+◌, not, filter, cond, slice_index_or, slice_set, remove}
-use Rattle.thread_queues.specs.Located.{IsAt, Locates}
+use Rattle.thread_queues.specs.Located.{IsAt}
 
 -- None of the first `i` members passes the test.
 abbrev pub Passed : {X : Type 0} → (X → Bool) → List X → ℕ → Type 0

@@ -59,6 +59,9 @@ pub record IsNew {M : Type 0} (n : ℕ) (h : Held M) : Type 0 where
 abbrev pub IsNewPlace : {M : Type 0} → ℕ → Held M → Type 0
 IsNewPlace k h = has_number k (places h.state.queues) ≡ false
 
+abbrev pub is_sent_at : {M : Type 0} → ℕ → Message M → Bool
+is_sent_at k m = m.place == k
+
 abbrev pub contents : {M : Type 0} → List (Message M) → List M
 contents ms = map (λ m. m.content) ms
 

@@ -2,3 +2,4 @@ pub mod Distinct
 pub mod Held
 pub mod Located
 pub mod Refusals
+pub mod Serving

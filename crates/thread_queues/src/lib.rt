@@ -6,7 +6,11 @@ mod fault;
 mod queue;
 mod queues;
 mod searches;
+mod serving;
+#[cfg(test)]
+mod tests;
 
 pub use fault::QueueFault;
-pub use pl_model::threads::Name;
+pub use pl_model::threads::{Name, Status};
 pub use queues::Queues;
+pub use serving::{changes_are_kept, messages_unify_as_terms, requests_are_served};

@@ -2,9 +2,11 @@
 ghost use Rattle.std.specs.Prelude.{◌≡◌, ◌≤◌, [], ◌∷◌, ◌++◌, IfOk, IfErr, OnErr, OnOk, length, vec_capacity};
 ghost use Rattle.std.specs.Option.{option_map};
 ghost use Rattle.pl_model.specs.Threads.{first_message};
-ghost use Rattle.thread_queues.specs.Held.{contents, first_of, named_message, TakesFirst};
+ghost use Rattle.thread_queues.specs.Distinct.{has_number};
+ghost use Rattle.thread_queues.specs.Held.{contents, first_of, message_places, named_message, TakesFirst};
 ghost use Rattle.thread_queues.specs.Located.{Locates};
 
+use crate::searches::message_at;
 use pl_model::kept::Kept;
 use pl_model::threads::Message;
 use pl_term::Memory;
@@ -58,6 +60,13 @@ impl<M: Drop> Queue<M> {
         ensures { result.now ≡ self.now.messages }
     {
         self.messages.as_slice()
+    }
+
+    /// Whether a message of it was sent at the place.
+    pub fn has_place(&self, place: u64) -> bool
+        ensures { result ≡ has_number place (message_places self.now.messages) }
+    {
+        message_at(self.messages.as_slice(), place).is_some()
     }
 
     /// Puts a message behind the others. Where there is no memory for it, it is handed back, and nothing has changed.

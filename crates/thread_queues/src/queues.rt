@@ -1,5 +1,5 @@
 //! The threads and queues.
-ghost use Rattle.std.specs.Prelude.{◌≡◌, ◌≤◌, ◌+◌, Ok, Err, Some, None, IfOk, IfSome, IfNone, OnErr, OnOk, find, vec_len, vec_capacity};
+ghost use Rattle.std.specs.Prelude.{◌≡◌, ◌↔◌, IsTrue, ◌≤◌, ◌+◌, Ok, Err, Some, None, IfOk, IfSome, IfNone, OnErr, OnOk, find, vec_len, vec_capacity};
 ghost use Rattle.std.specs.Result.{MatchResult};
 ghost use Rattle.std.specs.Option.{option_map};
 ghost use Rattle.pl_model.specs.Threads.{is_alias, is_queue, number_of, queue_named, thread_named, first_message, has_engine, queue_made, queue_dropped, message_sent, thread_ended, is_joined};
@@ -11,12 +11,15 @@ ghost use Rattle.thread_queues.specs.Refusals.{is_taken, make_refusal, start_ref
 use crate::aliases::{put_alias, take_alias};
 use crate::fault::QueueFault;
 use crate::queue::Queue;
-use crate::searches::{alias_at, queue_at};
+use crate::searches::{alias_at, goal_at, has, has_place, named_at, queue_at, running, thread_at};
 use pl_model::kept::Kept;
-use pl_model::threads::{Message, Name, Thread};
+use pl_model::threads::{Message, Name, Status, Thread};
 use pl_term::{Memory, Text};
-use std::alloc::Global;
+use std::alloc::{AllocError, Global};
 use std::marker::Model;
+
+/// At most so many engines have not ended.
+const MOST_ENGINES: usize = 64;
 
 /// All threads that have not been joined and all message queues, with messages and goals of type `M`.
 #[derive(Drop)]
@@ -62,6 +65,29 @@ impl<M: Drop> Queues<M> {
             joined: Vec::new(alloc),
             goals: Vec::new(alloc),
         })
+    }
+
+    /// Whether nothing that is held has the number: then `make_queue` and `start` can be given it.
+    pub fn is_new(&self, n: u64) -> bool
+        ensures { IsTrue result ↔ IsNew n self.now }
+    {
+        if queue_at(self.queues.as_slice(), n).is_some() {
+            return false;
+        }
+        if thread_at(self.threads.as_slice(), n).is_some() {
+            return false;
+        }
+        if named_at(self.aliases.as_slice(), n).is_some() {
+            return false;
+        }
+        goal_at(self.goals.as_slice(), n).is_none()
+    }
+
+    /// Whether no message that is held was sent at the place: then `send` can be given it.
+    pub fn is_new_place(&self, place: u64) -> bool
+        ensures { IsTrue result ↔ IsNewPlace place self.now }
+    {
+        !has_place(self.queues.as_slice(), place)
     }
 
     /// Makes a queue with the number, which no thread and no queue has, and with an alias where one is given
@@ -124,6 +150,102 @@ impl<M: Drop> Queues<M> {
         }
     }
 
+    /// Begins a thread with the number, which no thread and no queue has, a goal, which is kept until it is handed out,
+    /// and an alias where one is given (thread_create/3); the thread has a queue of its own. The errors are
+    /// `AliasTaken`, `EnginesFull` and `Memory`; after an error nothing has changed, and the goal is handed back.
+    pub fn start(&mut self, n: u64, goal: M, alias: Option<Text>) -> Result<(), (M, QueueFault)>
+        requires { IsNew n self.old }
+        ensures refused { IfSome (start_refusal self.old.state alias) (λ f. result ≡ Err (goal, f)) }
+        ensures started { IfNone (start_refusal self.old.state alias)
+            (MatchResult result (λ _. self.new ≡ started n goal alias self.old) (λ e. e ≡ (goal, NoMemory))) }
+        ensures unchanged { OnErr result (self.new ≡ self.old) }
+    {
+        if self.is_taken(&alias) {
+            return Err((goal, QueueFault::AliasTaken));
+        }
+        if !self.has_engine() {
+            return Err((goal, QueueFault::EnginesFull));
+        }
+        match make_room(
+            &mut self.aliases,
+            &mut self.queues,
+            &mut self.threads,
+            &mut self.goals,
+        ) {
+            Err(_) => Err((goal, QueueFault::Memory)),
+            Ok(()) => {
+                put_alias(&mut self.aliases, n, alias);
+                self.queues.push_reserved(Queue::new(self.alloc, n, true));
+                self.threads.push_reserved(Thread {
+                    number: n,
+                    status: None,
+                });
+                self.goals.push_reserved((n, goal));
+                Ok(())
+            }
+        }
+    }
+
+    /// Hands out the goal of the thread with the number, once. It takes no memory.
+    pub fn take_goal(&mut self, n: u64) -> Option<M>
+        ensures goal { result ≡ goal_of n self.old }
+        ensures rest { self.new ≡ without_goal n self.old }
+    {
+        match goal_at(self.goals.as_slice(), n) {
+            None => None,
+            Some(i) => Some(self.goals.remove(i).1),
+        }
+    }
+
+    /// Ends the thread with the number so. The messages that were left in its queue are handed out. The errors are
+    /// `NoThread`, where no such thread runs, and `Memory`; after an error nothing has changed.
+    pub fn end(&mut self, n: u64, how: Status<M>) -> Result<Vec<M>, (Status<M>, QueueFault)>
+        ensures refused { IfSome (end_refusal self.old.state n) (λ f. result ≡ Err (how, f)) }
+        ensures ended { IfNone (end_refusal self.old.state n) (MatchResult result
+            (λ left. (left.items ≡ own_contents n self.old.state) × (self.new ≡ record self.old { state = thread_ended n how self.old.state }))
+            (λ e. e ≡ (how, NoMemory))) }
+        ensures unchanged { OnErr result (self.new ≡ self.old) }
+    {
+        match thread_at(self.threads.as_slice(), n) {
+            None => Err((how, QueueFault::NoThread)),
+            Some(i) => {
+                if self.threads[i].status.is_some() {
+                    return Err((how, QueueFault::NoThread));
+                }
+                match remove_queue(self.alloc, &mut self.queues, n) {
+                    Ok(left) => {
+                        self.threads[i].status = Some(how);
+                        Ok(left)
+                    }
+                    Err(_) => Err((how, QueueFault::Memory)),
+                }
+            }
+        }
+    }
+
+    /// Joins a thread that has ended: how it did; `None` where it has not (thread_join/2). Its alias is free again. The
+    /// errors are `NoThread`, `Joined` and `Memory`; after an error nothing has changed.
+    pub fn join(&mut self, t: &Name) -> Result<Option<Status<M>>, QueueFault>
+        ensures refused { IfSome (join_refusal self.old.state t.now) (λ f. result ≡ Err f) }
+        ensures joined { IfSome (thread_named self.old.state t.now)
+            (λ h. MatchResult result (λ r. (r ≡ h.status) × (self.new ≡ left_by_join h.number h.status self.old)) (λ f. f ≡ NoMemory)) }
+        ensures unchanged { OnErr result (self.new ≡ self.old) }
+    {
+        match self.thread_of(t) {
+            None => Err(self.join_fault(t)),
+            Some(i) => {
+                if self.threads[i].status.is_none() {
+                    return Ok(None);
+                }
+                self.joined.reserve(1)?;
+                let thread = self.threads.remove(i);
+                take_alias(&mut self.aliases, thread.number);
+                self.joined.push_reserved(thread.number);
+                Ok(thread.status)
+            }
+        }
+    }
+
     /// The number that the name stands for.
     fn number_of(&self, name: &Name) -> Option<u64>
         ensures { result ≡ number_of self.now.state name.now }
@@ -147,6 +269,32 @@ impl<M: Drop> Queues<M> {
         }
     }
 
+    /// Where the thread stands that is named so.
+    fn thread_of(&self, name: &Name) -> Option<usize>
+        ensures { Locates (thread_named self.now.state name.now) self.now.state.threads result }
+    {
+        match self.number_of(name) {
+            None => None,
+            Some(n) => thread_at(self.threads.as_slice(), n),
+        }
+    }
+
+    /// Why a thread that is not there cannot be joined.
+    fn join_fault(&self, name: &Name) -> QueueFault
+        ensures { result ≡ join_fault self.now.state name.now }
+    {
+        match name {
+            Name::Number(n) => {
+                if has(self.joined.as_slice(), *n) {
+                    QueueFault::Joined
+                } else {
+                    QueueFault::NoThread
+                }
+            }
+            Name::Alias(_) => QueueFault::NoThread,
+        }
+    }
+
     /// Whether there is an alias, and it names a thread or a queue.
     fn is_taken(&self, alias: &Option<Text>) -> bool
         ensures { result ≡ is_taken self.now.state alias.now }
@@ -165,6 +313,13 @@ impl<M: Drop> Queues<M> {
             None => false,
             Some(_) => true,
         }
+    }
+
+    /// Whether one engine more can run.
+    fn has_engine(&self) -> bool
+        ensures { result ≡ has_engine self.now.state }
+    {
+        running(self.threads.as_slice()) < MOST_ENGINES
     }
 }
 
@@ -202,6 +357,25 @@ impl<M: Kept> Queues<M> {
     }
 }
 
+/// Makes room for one more in each of these. After an error they are as they were.
+fn make_room<M: Drop>(
+    aliases: &mut Vec<(Text, u64)>,
+    queues: &mut Vec<Queue<M>>,
+    threads: &mut Vec<Thread<M>>,
+    goals: &mut Vec<(u64, M)>,
+) -> Result<(), AllocError>
+    ensures aliases { (aliases.new.items ≡ aliases.old.items) × OnOk result (vec_len aliases.new + 1 ≤ vec_capacity aliases.new) }
+    ensures queues { (queues.new.items ≡ queues.old.items) × OnOk result (vec_len queues.new + 1 ≤ vec_capacity queues.new) }
+    ensures threads { (threads.new.items ≡ threads.old.items) × OnOk result (vec_len threads.new + 1 ≤ vec_capacity threads.new) }
+    ensures goals { (goals.new.items ≡ goals.old.items) × OnOk result (vec_len goals.new + 1 ≤ vec_capacity goals.new) }
+{
+    aliases.reserve(1)?;
+    queues.reserve(1)?;
+    threads.reserve(1)?;
+    goals.reserve(1)?;
+    Ok(())
+}
+
 /// The answer of a call whose message was refused for want of memory, or not.
 fn refused<M: Drop>(pushed: Result<(), M>) -> Result<(), (M, QueueFault)>
     ensures { MatchResult pushed (λ u. result ≡ Ok u) (λ m. result ≡ Err (m, NoMemory)) }
@@ -209,6 +383,25 @@ fn refused<M: Drop>(pushed: Result<(), M>) -> Result<(), (M, QueueFault)>
     match pushed {
         Ok(()) => Ok(()),
         Err(m) => Err((m, QueueFault::Memory)),
+    }
+}
+
+/// Takes the queue with the number out, if there is one, and hands out its messages. After an error nothing has changed.
+fn remove_queue<M: Drop>(
+    alloc: Global,
+    queues: &mut Vec<Queue<M>>,
+    n: u64,
+) -> Result<Vec<M>, AllocError>
+    ensures removed { IfOk result (λ left. Removes (find (is_queue n) queues.old.items) left.items queues.old.items queues.new.items) }
+    ensures unchanged { OnErr result (queues.new.items ≡ queues.old.items) }
+{
+    match queue_at(queues.as_slice(), n) {
+        None => Ok(Vec::new(alloc)),
+        Some(i) => {
+            let room = Vec::with_capacity(alloc, queues[i].messages().len())?;
+            let queue = queues.remove(i);
+            Ok(queue.into_contents(room))
+        }
     }
 }
 

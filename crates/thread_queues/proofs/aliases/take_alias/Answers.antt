@@ -1,4 +1,4 @@
-use Rattle.std.proofs.Common.{sym, ◌∙◌, ap}
+use Rattle.std.proofs.Common.{sym, ◌∙◌}
 use Rattle.thread_queues.specs.Held.{is_named}
 use Rattle.thread_queues.proofs.Searched.{none_out}
 use Rattle.thread_queues.proofs.Located.{located_out}

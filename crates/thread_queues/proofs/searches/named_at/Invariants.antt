@@ -1,6 +1,4 @@
-use Rattle.std.proofs.Common.{◌≤◌, length}
-use Rattle.pl_model.specs.Threads.{is_queue, is_thread}
-use Rattle.thread_queues.specs.Held.{is_goal_of, is_named, is_spelled}
+use Rattle.thread_queues.specs.Held.{is_named}
 use Rattle.thread_queues.proofs.Searched.{Passed}
 use Rattle.thread_queues.proofs.searches.named_at.Given as goal
 

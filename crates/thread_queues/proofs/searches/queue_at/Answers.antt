@@ -1,4 +1,4 @@
-use Rattle.std.proofs.Common.{arith, ap, sym, ◌∙◌}
+use Rattle.std.proofs.Common.{arith, sym, ◌∙◌}
 use Rattle.thread_queues.proofs.Searched.{number_found, number_passed}
 use Rattle.thread_queues.proofs.searches.queue_at.Goals as goal
 

@@ -1,6 +1,6 @@
-use Rattle.std.proofs.Common.{◌≡◌, Some, true, false, ap, refl, sym, subst, ◌∙◌}
+use Rattle.std.proofs.Common.{ap, refl, sym, subst, ◌∙◌}
 use Rattle.pl_model.specs.Threads.{queue_named}
-use Rattle.thread_queues.specs.Held.{held, contents}
+use Rattle.thread_queues.specs.Held.{contents}
 use Rattle.thread_queues.specs.Located.{IsAt}
 use Rattle.thread_queues.proofs.Located.{located_item}
 use Rattle.thread_queues.proofs.Answered.{drop_own, drop_free}

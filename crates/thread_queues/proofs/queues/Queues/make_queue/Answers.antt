@@ -1,5 +1,5 @@
 use Rattle.std.proofs.Common.{◌∙◌, false, ap, refl, sym, subst}
-use Rattle.thread_queues.specs.Held.{with_name, held, IsNew}
+use Rattle.thread_queues.specs.Held.{with_name, IsNew}
 use Rattle.thread_queues.specs.Refusals.{make_refusal}
 use Rattle.thread_queues.proofs.Changes.{made_sound, made_state, if_none}
 use Rattle.thread_queues.proofs.queues.Queues.make_queue.Goals as goal

@@ -1,7 +1,7 @@
 use Rattle.std.proofs.Common.{◌≡◌, false, ap, sym, subst, ◌∙◌}
 use Rattle.pl_model.specs.Threads.{queue_named}
 use Rattle.thread_queues.specs.Distinct.{has_number}
-use Rattle.thread_queues.specs.Held.{held, places}
+use Rattle.thread_queues.specs.Held.{places}
 use Rattle.thread_queues.specs.Located.{IsAt}
 use Rattle.thread_queues.proofs.Located.{located_item}
 use Rattle.thread_queues.proofs.Answered.{pushed_sound, pushed_answer, pushed_unchanged, was_pushed, was_left}
