@@ -1,0 +1,9 @@
+mod Procs
+mod Views
+mod Faults
+mod Searched
+mod Pieces
+mod Homes
+mod Adding
+mod Added
+mod Retries

@@ -1,0 +1,15 @@
+use Rattle.std.proofs.Common.{◌≡◌, subst}
+use Rattle.std.specs.Prelude.{IfSome, Err}
+use Rattle.pl_model.specs.Shown.{proc_of}
+use Rattle.clause_db.specs.declared.parts.End.TheVariants.{Last}
+use Rattle.clause_db.specs.declared.fault.DbFault.TheVariants.{Memory as NoMemory}
+use Rattle.clause_db.proofs.Added.{addition_fault_same, added_stands}
+use Rattle.clause_db.proofs.db.Db.add_last.Goals as goal
+
+pub returns-clause-refused : goal.returns-clause-refused
+returns-clause-refused g c = λ d s.
+    subst (λ o. IfSome o (λ f. c.add.result ≡ Err (c.args.clause, f))) (addition_fault_same g.C.Kept.size c.args.self.now d s (proc_of c.args.p.now) c.args.origin c.args.clause) c.add.ensures.refused
+
+pub returns-clause-added : goal.returns-clause-added
+returns-clause-added g c = λ d s.
+    added_stands g.C.Kept.size c.args.self.now c.add.new.self d s (record { origin = c.args.origin; place = c.args.place; end = Last }) c.args.p.now c.args.clause c.requires.later c.add.result (λ e. e ≡ (c.args.clause, NoMemory)) c.add.ensures.added

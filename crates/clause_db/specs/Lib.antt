@@ -1,0 +1,6 @@
+pub mod Access
+pub mod Parts
+pub mod Sound
+pub mod Located
+pub mod Stands
+pub mod Faults

@@ -1,0 +1,18 @@
+-- When the database is sound: each clause is found by the place of the update that added it.
+use Rattle.std.specs.Prelude.{◌≡◌, ℕ, suc, ◌<◌, ◌≤◌, List, [], ◌∷◌, Some, All}
+use Rattle.std.specs.Ordering.{nat_cmp}
+use Rattle.std.specs.BTreeMap as tree
+use Rattle.std.specs.BTreeMap.{BTreeMap}
+use Rattle.clause_db.specs.declared.db.Home.{Home}
+use Rattle.clause_db.specs.Parts.{Piece}
+
+module _ {C : Type 0} (need : C → ℕ) where
+  -- Each clause of these procedures, of which the first stands at the index `n`, has its home there.
+  abbrev pub Homed : BTreeMap ℕ Home → ℕ → List (Piece C) → Type 0
+  Homed homes n [] = Unit
+  Homed homes n (x ∷ xs) = All (λ d. tree.get nat_cmp homes d.place ≡ Some (record { part = n; cells = need d.clause })) x.clauses × Homed homes (suc n) xs
+
+  pub record IsSound (pieces : List (Piece C)) (homes : BTreeMap ℕ Home) (next floor : ℕ) : Type 0 where
+    pub homed : Homed homes 0 pieces
+    pub later : All (λ x. All (λ d. d.place < next) x.clauses) pieces
+    pub low : floor ≤ next

@@ -1,0 +1,293 @@
+//! The clause database.
+ghost use Rattle.std.specs.Prelude.{◌≡◌, ◌<◌, ◌≤◌, ◌+◌, ◌^◌, Err, Some, None, IfOk, IfSome, IfNone, OnOk, OnErr, true, not, filter};
+ghost use Rattle.std.specs.Result.{MatchResult, IsOkAnd};
+ghost use Rattle.std.specs.Option.{MatchOption};
+ghost use Rattle.std.specs.List.{list_any, slice_get};
+ghost use Rattle.std.specs.Ordering.{nat_cmp};
+ghost use Rattle.std.specs.BTreeMap as tree;
+ghost use Rattle.pl_model.specs.Shown.{proc_of, origin_of};
+ghost use Rattle.pl_model.specs.History as entries;
+ghost use Rattle.pl_model.specs.Database.{Database, opening_database, is_at, seen, choices, with_first, with_last};
+ghost use Rattle.pl_model.specs.FirstArguments.{are_apart};
+ghost use Rattle.gen_core.specs.Hits.{hit_of};
+ghost use Rattle.gen_core.specs.Visible.{first_choice, is_choice, behind};
+ghost use Rattle.clause_db.specs.Parts.{Held, clauses_at, held_access, with_added};
+ghost use Rattle.clause_db.specs.Stands.{StandsFor, first_named, after};
+ghost use Rattle.clause_db.specs.Faults.{call_fault, addition_fault, held_call_fault, held_addition_fault, is_held_closed};
+ghost use Rattle.clause_db.specs.declared.fault.DbFault.TheVariants.{Memory as NoMemory};
+
+use crate::access::{Access, By};
+use crate::fault::DbFault;
+use crate::parts::{Addition, End, Part, add_to, part_at};
+use crate::system::is_system;
+use gen_core::Hit;
+use pl_model::kept::Kept;
+use pl_model::shows::{Origin, Proc};
+use pl_term::Memory;
+use std::alloc::Global;
+use std::collections::BTreeMap;
+use std::marker::Model;
+
+/// The stored clauses take fewer cells than this.
+const CELLS: u64 = 0x100_0000_0000;
+
+/// Where the clause that was added at a place stands, and what it costs.
+#[derive(Clone, Copy, Drop)]
+pub struct Home {
+    pub part: usize,
+    pub cells: u64,
+}
+
+/// The procedures of the program with their clauses, each with the places of the updates that added and that erased it.
+/// A clause is named by the place of the update that added it.
+#[derive(Drop)]
+pub struct Db<C: Kept> {
+    alloc: Global,
+    parts: Vec<Part<C>>,
+    homes: BTreeMap<u64, Home>,
+    used: u64,
+    next: u64,
+    floor: u64,
+}
+
+impl<C: Kept> Model for Db<C> {
+    ghost use Rattle.std.specs.Prelude.{map};
+    ghost use Rattle.clause_db.specs.Parts.{Held, piece};
+    ghost use Rattle.clause_db.specs.Sound.{IsSound};
+
+    ghost Value = { Held C };
+
+    ghost view = { λ d. record { parts = map piece d.parts.items; used = d.used; next = d.next; floor = d.floor } };
+
+    ghost invariant = { λ d. IsSound C.size (map piece d.parts.items) d.homes d.next d.floor };
+}
+
+/// Writes where the clause stands that was added at a place. The only error is want of memory; after it nothing is
+/// written.
+fn settle(homes: &mut BTreeMap<u64, Home>, place: u64, home: Home) -> Result<(), Memory>
+    ensures ok { OnOk result (tree.Updates nat_cmp homes.old homes.new place (Some home)) }
+    ensures err { OnErr result (homes.new.entries ≡ homes.old.entries) }
+{
+    homes.insert(place, home)?;
+    Ok(())
+}
+
+/// Forgets where the clause stands that was added at a place.
+fn unsettle(homes: &mut BTreeMap<u64, Home>, place: u64)
+    ensures { tree.Updates nat_cmp homes.old homes.new place None }
+{
+    homes.remove(&place);
+}
+
+impl<C: Kept> Db<C> {
+    /// No procedures. The only error is want of memory.
+    pub fn new(alloc: Global) -> Result<Db<C>, Memory>
+        ensures stands { IfOk result (λ d. StandsFor C.size d opening_database) }
+        ensures start { IfOk result (λ d. (d.next ≡ 0) × (d.floor ≡ 0)) }
+    {
+        Ok(Db {
+            alloc,
+            parts: Vec::new(alloc),
+            homes: BTreeMap::new(alloc),
+            used: 0,
+            next: 0,
+            floor: 0,
+        })
+    }
+
+    /// The first clause of a call at the generation `g` of the procedure, whose first argument has the key `goal`, with
+    /// its place and whether more follow. `g` is that of the database as it stands. The errors are `Unknown`, for a goal
+    /// alone, and `Private`, for clause/2 alone.
+    pub fn call(
+        &self,
+        p: &Proc,
+        goal: &C::Key,
+        g: u64,
+        by: By,
+    ) -> Result<Option<Hit<'_, C>>, DbFault>
+        requires { self.now.floor ≤ g }
+        ensures { (d : Database C) → StandsFor C.size self.now d
+            → MatchOption (call_fault d (proc_of p.now) by)
+            (IsOkAnd result (λ r. hit_of r ≡ first_named (choices (λ c. are_apart C.Key.Ord.cmp C.any goal.now (C.key_of c)) g (proc_of p.now) d)))
+            (λ f. result ≡ Err f) }
+    {
+        match self.call_fault(p, by) {
+            Some(fault) => Err(fault),
+            None => Ok(self.first_of(p, goal, g)),
+        }
+    }
+
+    /// The next clause of a call at the generation `g` of the procedure, whose first argument has the key `goal`, behind
+    /// the clause that was added at `place`, which `g` sees. It takes no memory, and there is no refusal.
+    pub fn retry(&self, place: u64, goal: &C::Key, g: u64) -> Result<Option<Hit<'_, C>>, DbFault>
+        requires { self.now.floor ≤ g }
+        ensures { (d : Database C) (p : entries.Proc) → StandsFor C.size self.now d → list_any (is_at place) (seen g p d) ≡ true
+            → IsOkAnd result (λ r. hit_of r ≡ first_named (filter (λ s. not (are_apart C.Key.Ord.cmp C.any goal.now (C.key_of s.clause))) (after place (seen g p d)))) }
+    {
+        match self.homes.get(&place) {
+            Some(home) => Ok(self.next_in(home.part, place, goal, g)),
+            None => Ok(None),
+        }
+    }
+
+    /// The next clause of a call in a procedure, behind the clause that was added at `place`.
+    fn next_in(&self, part: usize, place: u64, goal: &C::Key, g: u64) -> Option<Hit<'_, C>>
+        ensures { IfSome (slice_get self.now.parts part) (λ x. hit_of result ≡ first_choice (filter (is_choice C.Key.Ord.cmp C.any C.key_of g goal.now) (behind (Some place) x.clauses))) }
+    {
+        if part < self.parts.len() {
+            return self.parts[part].clauses.next_after(Some(place), g, goal);
+        }
+        None
+    }
+
+    /// Why a call is refused.
+    fn call_fault(&self, p: &Proc, by: By) -> Option<DbFault>
+        ensures { result ≡ held_call_fault self.now (proc_of p.now) by }
+    {
+        match (by, self.access_of(p)) {
+            (By::Goal, None) => Some(DbFault::Unknown),
+            (By::Clause, Some(Access::Static)) => Some(DbFault::Private),
+            _ => None,
+        }
+    }
+
+    /// How the procedure may be used, where there is one.
+    fn access_of(&self, p: &Proc) -> Option<Access>
+        ensures { result ≡ held_access self.now (proc_of p.now) }
+    {
+        if is_system(p) {
+            return Some(Access::Static);
+        }
+        match part_at(self.parts.as_slice(), p) {
+            Some(i) => self.parts[i].access,
+            None => None,
+        }
+    }
+
+    /// The first clause that a call of the procedure tries.
+    fn first_of(&self, p: &Proc, goal: &C::Key, g: u64) -> Option<Hit<'_, C>>
+        ensures { hit_of result ≡ first_choice (filter (is_choice C.Key.Ord.cmp C.any C.key_of g goal.now) (clauses_at self.now.parts (proc_of p.now))) }
+    {
+        match part_at(self.parts.as_slice(), p) {
+            Some(i) => self.parts[i].clauses.next_after(None, g, goal),
+            None => None,
+        }
+    }
+
+    /// Adds a clause as the first one of the procedure, which is made where it is not there (ISO 8.9.1), by the update at
+    /// `place`, which is behind all updates so far. The errors are `Static`, `CellsFull` and `Memory`; after an error the
+    /// database is as it was, and the clause is handed back.
+    pub fn add_first(
+        &mut self,
+        p: &Proc,
+        clause: C,
+        origin: Origin,
+        place: u64,
+    ) -> Result<(), (C, DbFault)>
+        requires bound { place < 2 ^ 49 }
+        requires later { self.old.next ≤ place }
+        ensures refused { (d : Database C) → StandsFor C.size self.old d
+            → IfSome (addition_fault C.size d (proc_of p.now) origin clause) (λ f. result ≡ Err (clause, f)) }
+        ensures added { (d : Database C) → StandsFor C.size self.old d
+            → IfNone (addition_fault C.size d (proc_of p.now) origin clause)
+            (MatchResult result
+            (λ _. StandsFor C.size self.new (with_first place (proc_of p.now) clause (origin_of origin) d))
+            (λ e. e ≡ (clause, NoMemory))) }
+        ensures rest { OnOk result ((self.new.next ≡ place + 1) × (self.new.floor ≡ self.old.floor)) }
+        ensures unchanged { OnErr result (self.new ≡ self.old) }
+    {
+        let by = Addition {
+            origin,
+            place,
+            end: End::First,
+        };
+        self.add(p, clause, by)
+    }
+
+    /// Adds a clause as the last one of the procedure, which is made where it is not there (ISO 8.9.2), by the update at
+    /// `place`, which is behind all updates so far. The errors are `Static`, `CellsFull` and `Memory`; after an error the
+    /// database is as it was, and the clause is handed back.
+    pub fn add_last(
+        &mut self,
+        p: &Proc,
+        clause: C,
+        origin: Origin,
+        place: u64,
+    ) -> Result<(), (C, DbFault)>
+        requires bound { place < 2 ^ 49 }
+        requires later { self.old.next ≤ place }
+        ensures refused { (d : Database C) → StandsFor C.size self.old d
+            → IfSome (addition_fault C.size d (proc_of p.now) origin clause) (λ f. result ≡ Err (clause, f)) }
+        ensures added { (d : Database C) → StandsFor C.size self.old d
+            → IfNone (addition_fault C.size d (proc_of p.now) origin clause)
+            (MatchResult result
+            (λ _. StandsFor C.size self.new (with_last place (proc_of p.now) clause (origin_of origin) d))
+            (λ e. e ≡ (clause, NoMemory))) }
+        ensures rest { OnOk result ((self.new.next ≡ place + 1) × (self.new.floor ≡ self.old.floor)) }
+        ensures unchanged { OnErr result (self.new ≡ self.old) }
+    {
+        let by = Addition {
+            origin,
+            place,
+            end: End::Last,
+        };
+        self.add(p, clause, by)
+    }
+
+    /// Adds a clause at an end of its procedure's clauses.
+    fn add(&mut self, p: &Proc, clause: C, by: Addition) -> Result<(), (C, DbFault)>
+        requires bound { by.place < 2 ^ 49 }
+        requires later { self.old.next ≤ by.place }
+        ensures refused { IfSome (held_addition_fault self.old (proc_of p.now) by.origin (C.size clause)) (λ f. result ≡ Err (clause, f)) }
+        ensures added { IfNone (held_addition_fault self.old (proc_of p.now) by.origin (C.size clause))
+            (MatchResult result (λ _. self.new ≡ with_added by p.now clause (C.size clause) self.old) (λ e. e ≡ (clause, NoMemory))) }
+        ensures unchanged { OnErr result (self.new ≡ self.old) }
+    {
+        let need = clause.cells();
+        if let Some(fault) = self.addition_fault(p, by.origin, need) {
+            return Err((clause, fault));
+        }
+        let part = part_at(self.parts.as_slice(), p).unwrap_or(self.parts.len());
+        let home = Home { part, cells: need };
+        if let Err(Memory) = settle(&mut self.homes, by.place, home) {
+            return Err((clause, DbFault::Memory));
+        }
+        match add_to(self.alloc, &mut self.parts, p, clause, by) {
+            Ok(()) => {
+                self.used += need;
+                self.next = by.place + 1;
+                Ok(())
+            }
+            Err((clause, _)) => {
+                unsettle(&mut self.homes, by.place);
+                Err((clause, DbFault::Memory))
+            }
+        }
+    }
+
+    /// Why an addition is refused.
+    fn addition_fault(&self, p: &Proc, origin: Origin, need: u64) -> Option<DbFault>
+        ensures { result ≡ held_addition_fault self.now (proc_of p.now) origin need }
+    {
+        if self.is_closed(p, origin) {
+            return Some(DbFault::Static);
+        }
+        if self.used.saturating_add(need) < CELLS {
+            return None;
+        }
+        Some(DbFault::CellsFull {
+            used: self.used,
+            need,
+        })
+    }
+
+    /// Whether what adds a clause may add none to the procedure.
+    fn is_closed(&self, p: &Proc, origin: Origin) -> bool
+        ensures { result ≡ is_held_closed self.now (proc_of p.now) origin }
+    {
+        match origin {
+            Origin::Consult => is_system(p),
+            Origin::Assert => matches!(self.access_of(p), Some(Access::Static)),
+        }
+    }
+}

@@ -1,0 +1,167 @@
+//! Procedures with their clauses.
+ghost use Rattle.std.specs.Prelude.{◌≡◌, ◌<◌, ◌^◌, ◌++◌, ◌∷◌, [], None, All, IfOk, IfErr, OnOk, bytes_eq, map};
+ghost use Rattle.pl_model.specs.Shown.{proc_of};
+ghost use Rattle.pl_model.specs.World.{same_proc};
+ghost use Rattle.clause_db.specs.Parts.{piece, is_part_of, added_to, with_clause, placed};
+ghost use Rattle.clause_db.specs.Located.{Locates};
+ghost use Rattle.gen_core.specs.Visible.{fresh};
+ghost use Rattle.clause_db.specs.Access.{opened as opened_by};
+
+use crate::access::{Access, access_by};
+use gen_core::Dated;
+use pl_model::kept::Kept;
+use pl_model::shows::{Origin, Proc};
+use pl_term::{Memory, Text};
+use std::alloc::Global;
+
+/// A procedure with its clauses. They stay after the procedure is abolished, for the calls that still see them.
+#[derive(Drop)]
+pub struct Part<C: Kept> {
+    pub name: Proc,
+    /// `None` where there is no such procedure now.
+    pub access: Option<Access>,
+    pub clauses: Dated<C>,
+}
+
+/// An end of a procedure's clauses.
+#[derive(Debug, Clone, Copy, Drop)]
+pub enum End {
+    First,
+    Last,
+}
+
+/// How a clause is added: by what, by the update at which place, and at which end.
+#[derive(Debug, Clone, Copy, Drop)]
+pub struct Addition {
+    pub origin: Origin,
+    pub place: u64,
+    pub end: End,
+}
+
+/// Whether both texts are the same.
+fn same_name(left: &Text, right: &Text) -> bool
+    ensures { result ≡ bytes_eq left.now right.now }
+{
+    left.same(right)
+}
+
+/// Whether both are the same predicate.
+fn is_same(left: &Proc, right: &Proc) -> bool
+    ensures { result ≡ same_proc (proc_of left.now) (proc_of right.now) }
+{
+    same_name(&left.name, &right.name) && left.arity == right.arity
+}
+
+/// Where the procedure stands.
+pub fn part_at<C: Kept>(parts: &[Part<C>], p: &Proc) -> Option<usize>
+    ensures { Locates (λ x. is_part_of (proc_of p.now) (piece x)) parts.now result }
+{
+    for i in 0..parts.len() {
+        if is_same(&parts[i].name, p) {
+            return Some(i);
+        }
+    }
+    None
+}
+
+/// Puts a clause at an end of the others. A refused clause is handed back, and the others are as they were; the only
+/// cause is want of memory.
+fn put<C: Kept>(d: &mut Dated<C>, clause: C, place: u64, end: End) -> Result<(), (C, Memory)>
+    requires bound { place < 2 ^ 49 }
+    requires later { All (λ x. x.place < place) d.old }
+    ensures ok { OnOk result (d.new ≡ placed end (fresh place clause) d.old) }
+    ensures err { IfErr result (λ e. (e.0 ≡ clause) × (d.new ≡ d.old)) }
+{
+    match end {
+        End::First => d.add_first(clause, place),
+        End::Last => d.add_last(clause, place),
+    }
+}
+
+/// Adds a clause to a procedure, which is made where it is not there.
+fn add_in<C: Kept>(part: &mut Part<C>, clause: C, by: Addition) -> Result<(), (C, Memory)>
+    requires bound { by.place < 2 ^ 49 }
+    requires later { All (λ x. x.place < by.place) part.old.clauses }
+    ensures ok { OnOk result (piece part.new ≡ added_to by clause (piece part.old)) }
+    ensures err { IfErr result (λ e. (e.0 ≡ clause) × (part.new ≡ part.old)) }
+{
+    match put(&mut part.clauses, clause, by.place, by.end) {
+        Ok(()) => {
+            part.access = Some(opened(part.access, by.origin));
+            Ok(())
+        }
+        Err(refused) => Err(refused),
+    }
+}
+
+/// How a procedure may be used once a clause was added.
+fn opened(access: Option<Access>, origin: Origin) -> Access
+    ensures { result ≡ opened_by access origin }
+{
+    match access {
+        Some(access) => access,
+        None => access_by(origin),
+    }
+}
+
+/// A procedure that is not there, without clauses. The only error is want of memory.
+fn no_part<C: Kept>(alloc: Global, p: &Proc) -> Result<Part<C>, Memory>
+    ensures { IfOk result (λ x. piece x ≡ record { name = p.now; access = None; clauses = [] }) }
+{
+    let name = Proc {
+        name: p.name.copy(alloc)?,
+        arity: p.arity,
+    };
+    Ok(Part {
+        name,
+        access: None,
+        clauses: Dated::new(alloc),
+    })
+}
+
+/// Adds a clause to its procedure. A refused clause is handed back, and all is as it was; the only cause is want of
+/// memory.
+pub fn add_to<C: Kept>(
+    alloc: Global,
+    parts: &mut Vec<Part<C>>,
+    p: &Proc,
+    clause: C,
+    by: Addition,
+) -> Result<(), (C, Memory)>
+    requires bound { by.place < 2 ^ 49 }
+    requires later { All (λ x. All (λ d. d.place < by.place) x.clauses) (map piece parts.old.items) }
+    ensures ok { OnOk result (map piece parts.new.items ≡ with_clause by p.now clause (map piece parts.old.items)) }
+    ensures err { IfErr result (λ e. (e.0 ≡ clause) × (parts.new.items ≡ parts.old.items)) }
+{
+    match part_at(parts.as_slice(), p) {
+        Some(i) => add_in(&mut parts[i], clause, by),
+        None => add_new(alloc, parts, p, clause, by),
+    }
+}
+
+/// Adds a clause to a procedure that stands behind the others from now on.
+fn add_new<C: Kept>(
+    alloc: Global,
+    parts: &mut Vec<Part<C>>,
+    p: &Proc,
+    clause: C,
+    by: Addition,
+) -> Result<(), (C, Memory)>
+    requires { by.place < 2 ^ 49 }
+    ensures ok { OnOk result (map piece parts.new.items ≡ map piece parts.old.items ++ added_to by clause (record { name = p.now; access = None; clauses = [] }) ∷ []) }
+    ensures err { IfErr result (λ e. (e.0 ≡ clause) × (parts.new.items ≡ parts.old.items)) }
+{
+    let Ok(mut part) = no_part(alloc, p) else {
+        return Err((clause, Memory));
+    };
+    if parts.reserve(1).is_err() {
+        return Err((clause, Memory));
+    }
+    match add_in(&mut part, clause, by) {
+        Ok(()) => {
+            parts.push_reserved(part);
+            Ok(())
+        }
+        Err(refused) => Err(refused),
+    }
+}
