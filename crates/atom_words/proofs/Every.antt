@@ -7,11 +7,12 @@ use Rattle.atom_words.specs.Kept.{SeatOk, Kept}
 use Rattle.atom_words.specs.declared.size.Size.{Size}
 use Rattle.atom_words.specs.declared.view.View.{View}
 use Rattle.atom_words.specs.declared.kind.Kind.{Kind}
-use Rattle.atom_words.specs.declared.kind.Kind.TheVariants.{Reserve, PutWord, PutLink, Link, Validate, Release, Load, Refused, Start, Read, Next, Hold, Keep, Fix, StartPass, EndPass, Refuse, Ask, Protect, Fetch, Register, Unregister}
+use Rattle.atom_words.specs.declared.kind.Kind.TheVariants.{Raise, Reserve, PutWord, PutLink, Link, Validate, Release, Load, Refused, Start, Read, Next, Hold, Keep, Fix, StartPass, EndPass, Refuse, Ask, Protect, Fetch, Register, Unregister}
 use Rattle.atom_words.proofs.Loads.{keep_load, keep_refused, keep_start, keep_read, keep_next, keep_hold, keep_keep, keep_fix, keep_start_pass, keep_end_pass, keep_refuse, keep_ask}
 use Rattle.atom_words.proofs.AtomSteps.{keep_reserve, keep_validate, keep_release, keep_protect, keep_fetch, keep_register, keep_unregister}
 use Rattle.atom_words.proofs.TextSteps.{keep_put_word, keep_put_link}
 use Rattle.atom_words.proofs.LinkStep.{keep_link}
+use Rattle.atom_words.proofs.RaiseStep.{keep_raise}
 use Rattle.atom_words.proofs.SeatSteps.{keep_make, keep_join, keep_split, keep_open}
 
 module _ (z : Size) (b : Board) (vs : List View) (r : Kept z b vs) (id : ℕ) (v : View) (s : SeatOk z b r.plan id v) (b' : Board) where
@@ -38,6 +39,7 @@ module _ (z : Size) (b : Board) (vs : List View) (r : Kept z b vs) (id : ℕ) (v
   keep_kind (Fetch k) d = keep_fetch z b vs r id v s k b' d
   keep_kind (Register a) d = keep_register z b vs r id v s a b' d
   keep_kind (Unregister k) d = keep_unregister z b vs r id v s k b' d
+  keep_kind (Raise h) d = keep_raise z b vs r id v s h b' d
   keep_kind _ d = absurd d
 
 pub keep_goes : (z : Size) (b : Board) (vs : List View) (b' : Board) (vs' : List View) → Kept z b vs → Goes z b vs b' vs' → Kept z b' vs'

@@ -7,6 +7,7 @@ pub mod Puts
 pub mod AtomSteps
 pub mod TextSteps
 pub mod LinkStep
+pub mod RaiseStep
 pub mod SeatSteps
 pub mod Every
 pub mod Adapters

@@ -44,8 +44,8 @@ opens z ok = record {
       (λ (t : 256 ≤ k). past_run 0 z.fixed k (replicate (256 - z.fixed) 1 ++ replicate (z.slots - 256) 0) (omega (arith, ok))
       ∙ (past_run 1 (256 - z.fixed) (k - z.fixed) (replicate (z.slots - 256) 0) (omega (arith, ok)) ∙ zeros (z.slots - 256) (k - z.fixed - (256 - z.fixed))))
       which;
-  buckets = λ h inside low. first_run (head_word 0 0 z.start) (head_word 0 1 z.start) 256 (z.heads - 256) h low;
-  other_rows = λ h inside high. past_run (head_word 0 0 z.start) 256 h (replicate (z.heads - 256) (head_word 0 1 z.start)) high ∙ get_or-replicate (z.heads - 256) (h - 256) (head_word 0 1 z.start) 0 (omega arith);
+  buckets = λ h inside low. first_run (head_word 0 0 0) (head_word 0 1 z.start) 256 (z.heads - 256) h low;
+  other_rows = λ h inside high. past_run (head_word 0 0 0) 256 h (replicate (z.heads - 256) (head_word 0 1 z.start)) high ∙ get_or-replicate (z.heads - 256) (h - 256) (head_word 0 1 z.start) 0 (omega arith);
   views = refl;
 }
 

@@ -158,7 +158,7 @@ keep_open z b vs o = let none : Plan = record { chain = λ _. []; place = λ _. 
       row = o.row;
       rows = record {
         chains = λ h inside. dite (dec_le 256 h) (λ (le : 256 ≤ h). ap first_of (o.other_rows h inside le) ∙ first-head_word 0 1 z.start (omega arith) (omega arith))
-            (λ (gt : ¬ (256 ≤ h)). ap first_of (o.buckets h inside (omega arith)) ∙ first-head_word 0 0 z.start (omega arith) (omega arith));
+            (λ (gt : ¬ (256 ≤ h)). ap first_of (o.buckets h inside (omega arith)));
         once = λ h k inside i. absurd (in_none k i);
         stands = λ h k inside i. absurd (in_none k i);
         unlike = λ h k q inside i j e. absurd (in_none k i);

@@ -7,24 +7,24 @@ use mathlib.Core.Option.{none}
 use native.Mathlib.Decide.{ℕ_discrete}
 use prog.Atomic.{either}
 use Rattle.atomic_table.specs.Table.{step, Allows}
-use Rattle.atom_words.specs.Layout.{state_of, count_of}
-use Rattle.atom_words.specs.Board.{Board, atom, atom_at, text_at, text_of, with_atom}
+use Rattle.atom_words.specs.Layout.{state_of, count_of, version_of}
+use Rattle.atom_words.specs.Board.{Board, atom, head, atom_at, head_at, text_at, text_of, with_atom, with_head}
 use Rattle.atom_words.specs.Chains.{In}
 use Rattle.atom_words.specs.Views.{uncounted}
-use Rattle.atom_words.specs.Kinds.{marked, counted, view_after}
+use Rattle.atom_words.specs.Kinds.{marked, counted, raised, view_after}
 use Rattle.atom_words.specs.Rule.{Rule}
-use Rattle.atom_words.specs.Plays.{Alone, reserved, reserved_marked, word_put, validated, released, protected, registered, unregistered, pass_started, pass_ended}
+use Rattle.atom_words.specs.Plays.{Alone, head_raised, reserved, reserved_marked, word_put, validated, released, protected, registered, unregistered, pass_started, pass_ended}
 use Rattle.atom_words.specs.declared.size.Size.{Size}
 use Rattle.atom_words.specs.declared.view.Held.{Held}
 use Rattle.atom_words.specs.declared.view.Counted.{Counted}
 use Rattle.atom_words.specs.declared.view.Own.{Own}
 use Rattle.atom_words.specs.declared.view.Passing.{Passing}
 use Rattle.atom_words.specs.declared.kind.Kind.{Kind}
-use Rattle.atom_words.specs.declared.kind.Kind.TheVariants.{Reserve, PutWord, Validate, Release, Load, Refused, StartPass, EndPass, Protect, Register, Unregister}
-use Rattle.atom_words.proofs.Regions.{atom_read}
+use Rattle.atom_words.specs.declared.kind.Kind.TheVariants.{Raise, Reserve, PutWord, Validate, Release, Load, Refused, StartPass, EndPass, Protect, Register, Unregister}
+use Rattle.atom_words.proofs.Regions.{atom_read, head_read}
 use Rattle.atom_words.proofs.Slices.{some_same, or_at, text_short}
 use Rattle.atom_words.proofs.AtomSteps.{has, alone_at}
-use Rattle.atom_words.proofs.Adapters.{Sat, atom_goes, atom_exchange, text_goes, epoch_load}
+use Rattle.atom_words.proofs.Adapters.{Sat, atom_goes, atom_exchange, head_exchange, text_goes, epoch_load}
 
 pub or_mark : (n : ℕ) → bit_or n 4 ≡ marked n
 or_mark n = let a : bit_or n 4 + bit_and n 4 ≡ n + 4 = or_add_and n 4 in let m : bit_and n 4 ≡ n / 4 % 2 * 4 = and_pow n 2 in omega arith
@@ -156,3 +156,19 @@ module _ (key : Size) (slots id : ℕ) (me : Sat) (is : key ≡ me.0.size) (here
 
   pub ending_pass : (p : Passing) → me.0.pass ≡ Some p → Allows (Rule key) slots id me 0 (λ n. n) (pass_ended (step slots 0 0 0 none) me)
   ending_pass p pass = epoch_load key me.0.size slots id me (pass_ended (step slots 0 0 0 none) me) is here (λ b vs r seen small. (EndPass b.epoch, (p, pass, refl, refl), (refl, refl)))
+
+  pub raising : (i h old : ℕ) → i ≡ head_at me.0.size h → h < me.0.size.heads → 0 < me.0.undealt → version_of old < me.0.size.start
+      → Allows (Rule key) slots id me i (λ n. either (eqb n old) (raised me.0.size.start old) n) (head_raised (step slots i old (raised me.0.size.start old) none) me)
+  raising i h old at inside first low = let new : ℕ = raised me.0.size.start old in
+      subst (λ (w : ℕ). Allows (Rule key) slots id me w (λ n. either (eqb n old) new n) (head_raised (step slots w old new none) me)) (sym at)
+      (head_exchange key me.0.size slots id me h old new (head_raised (step slots (head_at me.0.size h) old new none) me) is here inside
+      (λ b vs r seen hit. (
+        Raise h,
+        (inside, first, subst (λ (n : ℕ). version_of n < me.0.size.start) (sym hit) low, ap (λ (n : ℕ). with_head b h (raised me.0.size.start n)) (sym hit)),
+        (refl, λ j e. let same : h ≡ j = omega arith in ((λ _. ap (λ (x : ℕ). view_after me.0 (Raise x)) same), λ ne. absurd (ne hit))),
+      ))
+      (λ b vs r seen miss. (
+        Load (head_at me.0.size h) (head b h),
+        (head_read me.0.size b r.sized h inside, refl),
+        (refl, λ j e. let same : h ≡ j = omega arith in ((λ hit. absurd (miss hit)), λ _. ap (λ (x : ℕ). view_after me.0 (Load (head_at me.0.size x) (head b h))) same)),
+      )))

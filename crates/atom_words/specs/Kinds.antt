@@ -19,7 +19,7 @@ use Rattle.atom_words.specs.declared.view.Refusal.{Refusal}
 use Rattle.atom_words.specs.declared.view.Refusal.TheVariants.{Full, Again, Worn}
 use Rattle.atom_words.specs.declared.view.View.{View}
 use Rattle.atom_words.specs.declared.kind.Kind.{Kind}
-use Rattle.atom_words.specs.declared.kind.Kind.TheVariants.{Reserve, PutWord, PutLink, Link, Validate, Release, Load, Refused, Start, Read, Next, Hold, Keep, Fix, StartPass, EndPass, Refuse, Ask, Protect, Fetch, Register, Unregister}
+use Rattle.atom_words.specs.declared.kind.Kind.TheVariants.{Raise, Reserve, PutWord, PutLink, Link, Validate, Release, Load, Refused, Start, Read, Next, Hold, Keep, Fix, StartPass, EndPass, Refuse, Ask, Protect, Fetch, Register, Unregister}
 
 -- the word with its mark set
 abbrev pub marked : ℕ → ℕ
@@ -95,6 +95,10 @@ abbrev pub full : View → ℕ → Option Passing → List Refusal
 full v x None = []
 full v x (Some p) = if p.counted == v.size.slots then Full (full_pass v x p) ∷ [] else []
 
+-- the head word with its version raised
+abbrev pub raised : ℕ → ℕ → ℕ
+raised start w = head_word (first_of w) (closed_of w) start
+
 -- THE VIEW AFTER A STEP
 abbrev pub view_after : View → Kind → View
 view_after v (Reserve k) = record v { own = Some (fresh k); made = v.made ++ Reserve k ∷ [] }
@@ -166,4 +170,5 @@ Does z b v (Protect k x) b' = (k < z.slots) × (atom b k ≡ x) × (b' ≡ with_
 Does z b v (Fetch k) b' = (cs : List Counted) × (v.counts ≡ Some cs) × (k < z.slots) × (0 < (counted cs k).count) × (b' ≡ with_atom b k (marked (atom b k)))
 Does z b v (Register a) b' = (cs : List Counted) × (v.counts ≡ Some cs) × (In a v.held ⊎ In a v.fixed) × ((counted cs a.slot).count < 2305843009213693951) × (b' ≡ with_atom b a.slot (atom b a.slot + 8))
 Does z b v (Unregister k) b' = (cs : List Counted) × (v.counts ≡ Some cs) × (k < z.slots) × (0 < (counted cs k).count) × (b' ≡ with_atom b k (atom b k - 8))
+Does z b v (Raise h) b' = (h < z.heads) × (0 < v.undealt) × (version_of (head b h) < z.start) × (b' ≡ with_head b h (raised z.start (head b h)))
 Does z b v kind b' = ⊥

@@ -16,6 +16,6 @@ opening_board z = record {
   acks = replicate z.engines 0;
   atoms = replicate z.fixed 0 ++ (replicate (256 - z.fixed) 1 ++ replicate (z.slots - 256) 0);
   links = replicate z.slots 0;
-  heads = replicate 256 (head_word 0 0 z.start) ++ replicate (z.heads - 256) (head_word 0 1 z.start);
+  heads = replicate 256 (head_word 0 0 0) ++ replicate (z.heads - 256) (head_word 0 1 z.start);
   texts = replicate (32 * z.slots) 0;
 }

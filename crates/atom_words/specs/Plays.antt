@@ -15,7 +15,7 @@ use Rattle.atom_words.specs.declared.view.Cause.TheVariants.{Moved, Pending, Clo
 use Rattle.atom_words.specs.declared.view.Refusal.TheVariants.{Again, Worn}
 use Rattle.atom_words.specs.declared.view.View.{View}
 use Rattle.atom_words.specs.declared.kind.Kind.{Kind}
-use Rattle.atom_words.specs.declared.kind.Kind.TheVariants.{Reserve, PutWord, PutLink, Link, Validate, Release, Load, Refused, Start, Read, Next, Hold, StartPass, EndPass, Protect, Fetch, Register, Unregister, Refuse, Keep, Fix, Ask}
+use Rattle.atom_words.specs.declared.kind.Kind.TheVariants.{Raise, Reserve, PutWord, PutLink, Link, Validate, Release, Load, Refused, Start, Read, Next, Hold, StartPass, EndPass, Protect, Fetch, Register, Unregister, Refuse, Keep, Fix, Ask}
 
 abbrev Sat : Type 0
 Sat = Me (Unit {0}) View
@@ -67,6 +67,10 @@ pass_started st m r m' = Is (StartPass r) m m'
 
 abbrev pub pass_ended : At → Sat → ℕ → Sat → Type 0
 pass_ended st m r m' = Is (EndPass r) m m'
+
+-- a head's version is raised, where the head is still the word that was loaded
+abbrev pub head_raised : At → Sat → ℕ → Sat → Type 0
+head_raised st m r m' = (m'.1 ≡ m.1) × ((h : ℕ) → st.word ≡ head_at m.0.size h → (r ≡ st.first → m'.0 ≡ view_after m.0 (Raise h)) × (r ≢ st.first → m'.0 ≡ view_after m.0 (Load (head_at m.0.size h) r)))
 
 -- FOR THE CRATES ABOVE
 -- a load that the seat keeps nothing of

@@ -58,7 +58,7 @@ pub data Moves (z : Size) (b : Board) (vs : List View) (b' : Board) (vs' : List 
   joins : Joins z b vs b' vs' → Moves z b vs b' vs'
   splits : Splits z b vs b' vs' → Moves z b vs b' vs'
 
--- the words of a new table: no atom, all chains empty, the first 256 heads open
+-- the words of a new table: no atom, all chains empty, the first 256 heads open. Their versions are 0 until the first seat raises them
 pub record Opens (z : Size) (b : Board) (vs : List View) : Type 0 where
   pub sized : Sized z b
   pub idle : b.epoch ≡ 0
@@ -66,7 +66,7 @@ pub record Opens (z : Size) (b : Board) (vs : List View) : Type 0 where
   pub unseen : (e : ℕ) → slice_index b.acks e ≡ 0
   pub closed_off : (k : ℕ) → k < z.slots → z.fixed ≤ k → k < 256 → atom b k ≡ 1
   pub free : (k : ℕ) → k < z.slots → (k < z.fixed) ⊎ (256 ≤ k) → atom b k ≡ 0
-  pub buckets : (h : ℕ) → h < z.heads → h < 256 → head b h ≡ head_word 0 0 z.start
+  pub buckets : (h : ℕ) → h < z.heads → h < 256 → head b h ≡ head_word 0 0 0
   pub other_rows : (h : ℕ) → h < z.heads → 256 ≤ h → head b h ≡ head_word 0 1 z.start
   pub views : vs ≡ first_view z ∷ []
 

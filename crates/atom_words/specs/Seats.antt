@@ -1,7 +1,7 @@
 -- What the calls say of a table and a seat.
-use Rattle.std.specs.Prelude.{◌≡◌, ◌≢◌, ◌⊎◌, ℕ, false, List, [], ◌∷◌, map, Option, Some, None}
-use Rattle.atom_words.specs.Layout.{state_of}
-use Rattle.atom_words.specs.Board.{atom_at}
+use Rattle.std.specs.Prelude.{◌≡◌, ◌≢◌, ◌⊎◌, ℕ, ◌<◌, ◌≤◌, false, List, [], ◌∷◌, map, Option, Some, None, Result, Ok, Err}
+use Rattle.atom_words.specs.Layout.{state_of, version_of}
+use Rattle.atom_words.specs.Board.{atom_at, head_at}
 use Rattle.atom_words.specs.Chains.{In}
 use Rattle.atom_words.specs.Kinds.{after}
 use Rattle.atom_words.specs.declared.view.Held.{Held}
@@ -10,7 +10,7 @@ use Rattle.atom_words.specs.declared.view.Refusal.{Refusal}
 use Rattle.atom_words.specs.declared.view.Refusal.TheVariants.{Full}
 use Rattle.atom_words.specs.declared.view.View.{View}
 use Rattle.atom_words.specs.declared.kind.Kind.{Kind}
-use Rattle.atom_words.specs.declared.kind.Kind.TheVariants.{Reserve, Load, Refused, PutWord}
+use Rattle.atom_words.specs.declared.kind.Kind.TheVariants.{Raise, Reserve, Load, Refused, PutWord}
 use Rattle.atom_words.specs.declared.words.Words.{Words}
 use Rattle.atom_words.specs.declared.words.AtomSeat.{AtomSeat}
 
@@ -49,3 +49,12 @@ puts ws = map (λ x. PutWord x) ws
 -- a seat of this table
 abbrev pub AtTable : Words → AtomSeat → Type 0
 AtTable w s = s.seat.table_id ≡ w.table.shared.table_id
+
+-- the view w is v, the steps made aside
+abbrev pub Unchanged : View → View → Type 0
+Unchanged v w = (kinds : List Kind) × (w ≡ record v { made = kinds })
+
+-- The steps of a raise of a head's version: the head's word is loaded, and where its version is below the one that the table begins with, it is exchanged; or that exchange is lost
+abbrev pub Raises : ℕ → View → Result (Unit {0}) ℕ → View → Type 0
+Raises h v (Ok _) w = (x : ℕ) × (((v.size.start ≤ version_of x) × (w ≡ after v (Load (head_at v.size h) x ∷ []))) ⊎ ((version_of x < v.size.start) × (w ≡ after v (Load (head_at v.size h) x ∷ Raise h ∷ []))))
+Raises h v (Err y) w = (x : ℕ) × (version_of x < v.size.start) × (y ≢ x) × (w ≡ after v (Load (head_at v.size h) x ∷ Load (head_at v.size h) y ∷ []))

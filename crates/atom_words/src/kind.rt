@@ -5,6 +5,10 @@ use std::collections::LinkedList;
 /// The kind of a step. `specs/Kinds.antt` says what each asks and does. No value of it is made.
 #[derive(Drop)]
 pub enum Kind {
+    // Opening
+    /// Raises the version of a head to the one that the table begins with.
+    Raise(u64),
+
     // Birth
     /// Takes a free slot.
     Reserve(u64),

@@ -31,9 +31,9 @@ pub use kind::Kind;
 pub use plays::{
     Asking, Dealing, EndingPass, Fetching, FindingMoved, FindingWorn, Fixing, GoingOn, Holding,
     Keeping, Keeps, Linking, Loading, PartingCollector, PartingKeeper, Protecting, PuttingLink,
-    PuttingWord, ReadingHeld, ReadingWord, Registering, Releasing, Reserving, ReservingMarked,
-    Seating, ShowingPending, Spells, StartingPass, StartingWalk, Unregistering, Validating,
-    WithKeeper,
+    PuttingWord, Raising, ReadingHeld, ReadingWord, Registering, Releasing, Reserving,
+    ReservingMarked, Seating, ShowingPending, Spells, StartingPass, StartingWalk, Unregistering,
+    Validating, WithKeeper,
 };
 pub use rule::{AtomRule, every_state};
 pub use size::Size;

@@ -1,13 +1,15 @@
 //! A new table.
-ghost use Rattle.std.specs.Prelude.{◌≡◌, ◌++◌, IfOk, List, [], replicate};
+ghost use Rattle.std.specs.Prelude.{◌≡◌, ◌++◌, ◌<◌, ℕ, false, IfOk, List, [], replicate};
 ghost use Rattle.atom_words.specs.Board.{laid};
 ghost use Rattle.atom_words.specs.Views.{first_view};
 ghost use Rattle.atom_words.specs.Opening.{Allowed, opening_board};
-ghost use Rattle.atom_words.specs.Seats.{seen, AtTable};
+ghost use Rattle.atom_words.specs.Seats.{seen, AtTable, Fits, Same, Raises, Unchanged};
 
+use crate::plays::{Loading, Raising};
 use crate::size::Size;
+use crate::view::View;
 use crate::words::{AtomSeat, Words};
-use atomic_table::Table;
+use atomic_table::{Seat, Table};
 use std::alloc::{AllocError, Global};
 
 // Puts a number of equal words behind the others.
@@ -33,7 +35,7 @@ fn opening_words(alloc: Global, size: Size) -> Result<Vec<u64>, AllocError>
     extend(&mut words, 256 - size.fixed, 1)?;
     extend(&mut words, size.slots - 256, 0)?;
     extend(&mut words, size.slots, 0)?;
-    extend(&mut words, 256, 4_194_304 * size.start)?;
+    extend(&mut words, 256, 0)?;
     extend(
         &mut words,
         size.heads - 256,
@@ -45,7 +47,8 @@ fn opening_words(alloc: Global, size: Size) -> Result<Vec<u64>, AllocError>
 
 impl Words {
     /// A new table, and its first seat, which is the keeper's and the collector's, and from which the engines' seats are
-    /// dealt. The only error is want of memory.
+    /// dealt. The version of each bucket is 0 until `raise` makes it the one that the table begins with. The only error is
+    /// want of memory.
     pub fn new(alloc: Global, size: Size) -> Result<(Words, AtomSeat), AllocError>
         requires { Allowed size }
         ensures { IfOk result (λ r. (r.0.size ≡ size) × AtTable r.0 r.1 × (seen r.1 ≡ first_view size)) }
@@ -65,5 +68,42 @@ impl Words {
                 counted: 0,
             },
         ))
+    }
+
+    // The load of a head's word, and the exchange that raises its version.
+    fn raise_head(&self, seat: &mut Seat<(), View>, head: u32) -> Result<(), u64>
+        requires fits { (seat.old.table_id ≡ self.now.table.shared.table_id) × (seat.old.me.0.size ≡ self.now.size) × (seat.old.me.0.gone ≡ false) }
+        requires head { head < self.now.size.heads }
+        requires first { 0 < seat.old.me.0.undealt }
+        ensures same { (seat.new.table_id ≡ seat.old.table_id) × (seat.new.id ≡ seat.old.id) × (seat.new.me.1 ≡ seat.old.me.1) }
+        ensures steps { Raises head seat.old.me.0 result seat.new.me.0 }
+    {
+        let place = self.head_place(head);
+        let word = self.table.shared.load::<Loading>(seat, place);
+        if word / 4_194_304 >= self.size.start {
+            return Ok(());
+        }
+        let new = word % 4_194_304 + 4_194_304 * self.size.start;
+        let found = self
+            .table
+            .shared
+            .compare_exchange::<Raising>(seat, place, word, new);
+        if found == word { Ok(()) } else { Err(found) }
+    }
+
+    /// Raises the version of a head to the one that the table begins with, where it is below. The seat is the first, and
+    /// engines have still to be dealt from it.
+    ///
+    /// # Errors
+    /// The word that was found, where another seat has exchanged the head's word in between.
+    pub fn raise(&self, seat: &mut AtomSeat, head: u32) -> Result<(), u64>
+        requires fits { Fits self.now seat.old }
+        requires head { head < self.now.size.heads }
+        requires first { 0 < (seen seat.old).undealt }
+        ensures same { Same seat.old seat.new }
+        ensures steps { Raises head (seen seat.old) result (seen seat.new) }
+        ensures unchanged { Unchanged (seen seat.old) (seen seat.new) }
+    {
+        self.raise_head(&mut seat.seat, head)
     }
 }

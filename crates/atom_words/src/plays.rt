@@ -1,10 +1,17 @@
 //! What each step tells its caller.
-ghost use Rattle.atom_words.specs.Plays.{reserved, reserved_marked, word_put, validated, released, protected, registered, unregistered, pass_started, pass_ended, seated, loaded, walk_started, word_read, gone_on, slot_held, pending_shown, moved_found, held_word_read, worn_found, link_put, slot_linked, fetched, fixed, kept, asked};
+ghost use Rattle.atom_words.specs.Plays.{head_raised, reserved, reserved_marked, word_put, validated, released, protected, registered, unregistered, pass_started, pass_ended, seated, loaded, walk_started, word_read, gone_on, slot_held, pending_shown, moved_found, held_word_read, worn_found, link_put, slot_linked, fetched, fixed, kept, asked};
 ghost use Rattle.atom_words.specs.Views.{spent, with_keeper, without_keeper, keeper_of, without_collector, collector_of, with_one_dealt, engine_of};
 
 use crate::view::View;
 use atomic_table::{Join, Play, Split};
 use std::marker::{Brand, PhantomData};
+
+/// The exchange that raises the version of a head.
+pub struct Raising;
+
+impl Play<(), View> for Raising {
+    ghost then = { head_raised };
+}
 
 /// The exchange that takes a free slot without a mark.
 pub struct Reserving;

@@ -162,6 +162,18 @@ fn a_link_behind_another_finds_the_head_moved(rt: HostRuntime) -> Result<(), Fai
     Ok(())
 }
 
+// Raises the version of a head to the one that the table begins with.
+fn raised(words: &Words, seat: &mut AtomSeat, head: u32) -> bool
+    requires fits { Fits words.now seat.old }
+    requires head { head < words.now.size.heads }
+    requires first { 0 < (seen seat.old).undealt }
+    requires none { (seen seat.old).own ≡ None }
+    ensures fits { Fits words.now seat.new }
+    ensures none { (seen seat.new).own ≡ None }
+{
+    words.raise(seat, head).is_ok()
+}
+
 #[test]
 fn a_worn_bucket_takes_no_slot(rt: HostRuntime) -> Result<(), Fail> {
     let old = Size {
@@ -170,6 +182,8 @@ fn a_worn_bucket_takes_no_slot(rt: HostRuntime) -> Result<(), Fail> {
     };
     let (words, mut first) = Words::new(rt.alloc(), old)?;
     let text = short(rt.alloc(), "zz")?;
+    let high = raised(&words, &mut first, bucket(b"zz"));
+    assert!(rt; high);
     let ready = make_ready(&words, &mut first, 511, &text);
     assert!(rt; ready);
     let Some(Missed::Worn(worn)) = link_missed(&words, &mut first) else {

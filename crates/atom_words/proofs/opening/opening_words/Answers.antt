@@ -20,11 +20,11 @@ all_runs w1 w2 w3 w4 w5 w6 w7 w8 r1 r2 r3 r4 r5 r6 r7 r8 e1 e2 e3 e4 e5 e6 e7 e8
 pub returns : goal.returns
 returns c = let z = c.args.size in let begin : c.push-2.new.self.items ≡ 0 ∷ 8 ∷ [] = grind (arith, common_steps) in
     all_runs c.extend.new.words.items c.extend-2.new.words.items c.extend-3.new.words.items c.extend-4.new.words.items c.extend-5.new.words.items c.extend-6.new.words.items c.extend-7.new.words.items c.extend-8.new.words.items
-    (replicate z.engines 0) (replicate z.fixed 0) (replicate (256 - z.fixed) 1) (replicate (z.slots - 256) 0) (replicate z.slots 0) (replicate 256 (4194304 * z.start)) (replicate (z.heads - 256) (2097152 + 4194304 * z.start)) (replicate (32 * z.slots) 0)
+    (replicate z.engines 0) (replicate z.fixed 0) (replicate (256 - z.fixed) 1) (replicate (z.slots - 256) 0) (replicate z.slots 0) (replicate 256 0) (replicate (z.heads - 256) (2097152 + 4194304 * z.start)) (replicate (32 * z.slots) 0)
     (c.in_ok-extend.ensures ∙ ap (λ l. l ++ replicate z.engines 0) begin) c.in_ok-extend-2.ensures c.in_ok-extend-3.ensures c.in_ok-extend-4.ensures c.in_ok-extend-5.ensures c.in_ok-extend-6.ensures c.in_ok-extend-7.ensures c.in_ok-extend-8.ensures
     ∙ same z.start z.fixed z.slots z.heads z.engines
   where
-    same : (start fixed slots heads engines : ℕ) → (0 ∷ 8 ∷ replicate engines 0) ++ ((replicate fixed 0 ++ (replicate (256 - fixed) 1 ++ replicate (slots - 256) 0)) ++ (replicate slots 0 ++ ((replicate 256 (4194304 * start) ++ replicate (heads - 256) (2097152 + 4194304 * start)) ++ replicate (32 * slots) 0)))
+    same : (start fixed slots heads engines : ℕ) → (0 ∷ 8 ∷ replicate engines 0) ++ ((replicate fixed 0 ++ (replicate (256 - fixed) 1 ++ replicate (slots - 256) 0)) ++ (replicate slots 0 ++ ((replicate 256 0 ++ replicate (heads - 256) (2097152 + 4194304 * start)) ++ replicate (32 * slots) 0)))
         ≡ laid (opening_board (record { slots = slots; engines = engines; heads = heads; start = start; fixed = fixed }))
-    same start fixed slots heads engines = let open_ : 4194304 * start ≡ head_word 0 0 start = omega arith in let closed : 2097152 + 4194304 * start ≡ head_word 0 1 start = omega arith in
-        λ i. (0 ∷ 8 ∷ replicate engines 0) ++ ((replicate fixed 0 ++ (replicate (256 - fixed) 1 ++ replicate (slots - 256) 0)) ++ (replicate slots 0 ++ ((replicate 256 (open_ i) ++ replicate (heads - 256) (closed i)) ++ replicate (32 * slots) 0)))
+    same start fixed slots heads engines = let closed : 2097152 + 4194304 * start ≡ head_word 0 1 start = omega arith in
+        λ i. (0 ∷ 8 ∷ replicate engines 0) ++ ((replicate fixed 0 ++ (replicate (256 - fixed) 1 ++ replicate (slots - 256) 0)) ++ (replicate slots 0 ++ ((replicate 256 0 ++ replicate (heads - 256) (closed i)) ++ replicate (32 * slots) 0)))

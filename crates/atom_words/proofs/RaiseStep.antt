@@ -1,0 +1,91 @@
+-- Raising the version of a head keeps the rule.
+use Rattle.std.proofs.Common.{◌≡◌, ℕ, ◌<◌, ◌≤◌, List, length, get_or, set, sym, ap, ◌∙◌, subst, arith, length-set, get_or-set_same, get_or-set_other}
+use native.Mathlib.Decide.{ℕ_discrete}
+use Rattle.atom_words.specs.Layout.{first_of, closed_of, version_of}
+use Rattle.atom_words.specs.Board.{Board, with_head}
+use Rattle.atom_words.specs.Chains.{Chain}
+use Rattle.atom_words.specs.Kinds.{raised, view_after, Does}
+use Rattle.atom_words.specs.Kept.{Unwalked, WalkOk, SeatOk, Kept}
+use Rattle.atom_words.specs.declared.size.Size.{Size}
+use Rattle.atom_words.specs.declared.view.Walk.{Walk}
+use Rattle.atom_words.specs.declared.view.View.{View}
+use Rattle.atom_words.specs.declared.kind.Kind.TheVariants.{Raise}
+use Rattle.atom_words.proofs.Layouts.{first-head_word, version-head_word}
+use Rattle.atom_words.proofs.Slices.{word_after}
+use Rattle.atom_words.proofs.Frames.{seats_stay}
+
+pub first-raised : (start w : ℕ) → first_of (raised start w) ≡ first_of w
+first-raised start w = first-head_word (first_of w) (closed_of w) start (omega arith) (omega arith)
+
+pub version-raised : (start w : ℕ) → version_of (raised start w) ≡ start
+version-raised start w = version-head_word (first_of w) (closed_of w) start (omega arith) (omega arith)
+
+-- a walk over the chain of a head whose version has risen knows nothing any more; the others are not concerned
+pub walk_risen : (z : Size) (chain : ℕ → List ℕ) (atoms links heads texts : List ℕ) (h n : ℕ) (w : Walk) → h < length heads → version_of (get_or heads h 0) < version_of n → WalkOk z atoms links heads texts chain w
+    → WalkOk z atoms links (set heads h n) texts chain w
+walk_risen z chain atoms links heads texts h n w there risen ok = let past = ok.past in record {
+  inside = ok.inside;
+  short = ok.short;
+  past = word_after (λ y. version_of w.word ≤ version_of y) heads h n w.head there
+      (λ e. let here : version_of w.word ≤ version_of (get_or heads h 0) = subst (λ (g : ℕ). version_of w.word ≤ version_of (get_or heads g 0)) e past in omega arith) (λ _. past);
+  word = λ same. elim (ℕ_discrete w.head h) as (λ _. get_or (set heads h n) w.head 0 ≡ w.word) [
+    | yes e ↦ absurd (let here : version_of w.word ≤ version_of (get_or heads h 0) = subst (λ (g : ℕ). version_of w.word ≤ version_of (get_or heads g 0)) e past in
+        let now : version_of n ≡ version_of w.word = sym (ap version_of (get_or-set_same heads h n 0 there)) ∙ (ap (λ (g : ℕ). version_of (get_or (set heads h n) g 0)) (sym e) ∙ same) in omega arith)
+    | no ne ↦ get_or-set_other heads h w.head n 0 ne ∙ ok.word (ap version_of (sym (get_or-set_other heads h w.head n 0 ne)) ∙ same)
+  ];
+  claim = λ same. elim (ℕ_discrete w.head h) as (λ _. Unwalked atoms links texts w (chain w.head)) [
+    | yes e ↦ absurd (let here : version_of w.word ≤ version_of (get_or heads h 0) = subst (λ (g : ℕ). version_of w.word ≤ version_of (get_or heads g 0)) e past in
+        let now : version_of n ≡ version_of w.word = sym (ap version_of (get_or-set_same heads h n 0 there)) ∙ (ap (λ (g : ℕ). version_of (get_or (set heads h n) g 0)) (sym e) ∙ same) in omega arith)
+    | no ne ↦ ok.claim (ap version_of (sym (get_or-set_other heads h w.head n 0 ne)) ∙ same)
+  ];
+}
+
+module _ (z : Size) (b : Board) (vs : List View) (r : Kept z b vs) (id : ℕ) (v : View) (s : SeatOk z b r.plan id v) (h : ℕ) (inside : h < z.heads) (low : version_of (get_or b.heads h 0) < z.start) where
+  abbrev n : ℕ
+  n = raised z.start (get_or b.heads h 0)
+
+  there : h < length b.heads
+  there = omega (arith, r.sized.heads, inside)
+
+  risen : version_of (get_or b.heads h 0) < version_of (raised z.start (get_or b.heads h 0))
+  risen = subst (λ (y : ℕ). version_of (get_or b.heads h 0) < y) (sym (version-raised z.start (get_or b.heads h 0))) low
+
+  seat_risen : (j : ℕ) (y : View) → SeatOk z b r.plan j y → SeatOk z (with_head b h n) r.plan j y
+  seat_risen j y k = record {
+    size = k.size;
+    own = k.own;
+    held = k.held;
+    fixed = k.fixed;
+    counts = k.counts;
+    walk = λ w e. walk_risen z r.plan.chain b.atoms b.links b.heads b.texts h n w there risen (k.walk w e);
+  }
+
+  mine : SeatOk z (with_head b h n) r.plan id (view_after v (Raise h))
+  mine = record {
+    size = s.size;
+    own = s.own;
+    held = s.held;
+    fixed = s.fixed;
+    counts = s.counts;
+    walk = λ w e. walk_risen z r.plan.chain b.atoms b.links b.heads b.texts h n w there risen (s.walk w e);
+  }
+
+  pub raise_at : Kept z (with_head b h (raised z.start (get_or b.heads h 0))) (set vs id (view_after v (Raise h)))
+  raise_at = record {
+    plan = r.plan;
+    sized = record { small = r.sized.small; acks = r.sized.acks; atoms = r.sized.atoms; links = r.sized.links; heads = length-set b.heads h n ∙ r.sized.heads; texts = r.sized.texts };
+    row = r.row;
+    rows = record {
+      chains = λ g i. word_after (λ y. Chain b.links (first_of y) (r.plan.chain g)) b.heads h n g there
+          (λ e. subst (λ (y : ℕ). Chain b.links y (r.plan.chain g)) (ap (λ (x : ℕ). first_of (get_or b.heads x 0)) e ∙ sym (first-raised z.start (get_or b.heads h 0))) (r.rows.chains g i))
+          (λ _. r.rows.chains g i);
+      once = r.rows.once;
+      stands = r.rows.stands;
+      unlike = r.rows.unlike;
+    };
+    slots = r.slots;
+    seats = seats_stay (SeatOk z (with_head b h n) r.plan) vs id (view_after v (Raise h)) (λ _. mine) (λ j y _ at here. seat_risen j y (r.seats j y at here));
+  }
+
+pub keep_raise : (z : Size) (b : Board) (vs : List View) (r : Kept z b vs) (id : ℕ) (v : View) → SeatOk z b r.plan id v → (h : ℕ) (b' : Board) → Does z b v (Raise h) b' → Kept z b' (set vs id (view_after v (Raise h)))
+keep_raise z b vs r id v s h b' d = subst (λ y. Kept z y (set vs id (view_after v (Raise h)))) (sym d.3) (raise_at z b vs r id v s h d.0 d.2)
