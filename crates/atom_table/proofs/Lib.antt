@@ -5,3 +5,4 @@ pub mod Settling
 pub mod Counting
 pub mod Spelling
 pub mod Loading
+pub mod Naming

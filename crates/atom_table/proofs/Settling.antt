@@ -11,9 +11,9 @@ use Rattle.pl_term.specs.Tree.{Chars}
 use Rattle.pl_term.specs.Texts.{size}
 use Rattle.atom_words.specs.Chains.{In}
 use Rattle.atom_words.specs.Plays.{Alone}
-use Rattle.atom_words.specs.Views.{uncounted, first_view, keeper_of, without_keeper, collector_of, without_collector, engine_of, with_one_dealt}
+use Rattle.atom_words.specs.Views.{uncounted, first_view, keeper_of, without_keeper, collector_of, without_collector, engine_of, with_one_dealt, newcomer}
 use Rattle.atom_words.specs.Kinds.{counted, view_after, after}
-use Rattle.atom_words.specs.Seats.{seen, Fits, Same, Has, AtTable}
+use Rattle.atom_words.specs.Seats.{Unchanged, seen, Fits, Same, Has, AtTable}
 use Rattle.atom_words.specs.declared.size.Size.{Size}
 use Rattle.atom_words.specs.declared.view.Held.{Held}
 use Rattle.atom_words.specs.declared.view.Counted.{Counted}
@@ -27,6 +27,7 @@ use Rattle.bucket_rows.proofs.Reading.{alone_as}
 use Rattle.bucket_rows.proofs.Making.{Beside}
 use Rattle.atom_table.specs.Holding.{Spelled, Sound, Sits}
 use Rattle.atom_table.specs.Opening.{fixed_slot, fixed_slots, Fresh, FreshFrom, Source, Stays, Carries, Placed, Low}
+use Rattle.atom_table.proofs.Spelling.{spelled_is}
 use Rattle.atom_table.proofs.Telling.{sound_more}
 
 -- PLACING
@@ -61,7 +62,7 @@ pub sits_placed : (words : Words) (s r : AtomSeat) (k : ℕ) (t : Chars) → Sam
 sits_placed words s r k t same p short scalars sits = (
   (same.0 ∙ sits.0.0, p.stays.size ∙ sits.0.1, p.stays.gone ∙ sits.0.2),
   p.stays.own ∙ sits.1,
-  sound_more (seen s) (seen r) (record { slot = k; text = spelled t }) p.held p.stays.fixed p.stays.counts p.stays.size p.inside (t, short, scalars, refl) p.alone sits.2,
+  sound_more (seen s) (seen r) (record { slot = k; text = spelled t }) p.held p.stays.fixed p.stays.counts p.stays.size p.inside (spelled_is t short scalars) p.alone sits.2,
 )
 
 pub low_placed : (row : List ℕ) (k : ℕ) (v w : View) → Placed row k v w → k < 256 → Low v → Low w
@@ -77,7 +78,7 @@ sound_from v k w has same same_too counts s t = record {
   counts = λ cs e. let c = t.counts cs (counts cs e) in (c.0 ∙ sym (ap (λ (y : Size). y.slots) same_too), c.1);
 }
 
-counted_none : (n k : ℕ) → (counted (replicate n uncounted) k).count ≡ 0
+pub counted_none : (n k : ℕ) → (counted (replicate n uncounted) k).count ≡ 0
 counted_none n k = dite (dec_le n k)
     (λ (out : n ≤ k). ap (λ (c : Counted). c.count) (or_beyond (replicate n uncounted) k uncounted (let l = length-replicate {A = Counted} n uncounted in omega (arith, l))))
     (λ (inside : ¬ (n ≤ k)). ap (λ (c : Counted). c.count) (get_or-replicate n k uncounted uncounted (omega arith)))
@@ -185,3 +186,34 @@ part_sits words n s r at size gone own held fixed counts src = (
   own,
   sound_from (seen s) (seen s) (seen r) (has_by_fixed (seen s) (seen r) held fixed) size size counts src.sits.2 src.sits.2,
 )
+
+-- a seat that was just made
+pub newcomer_sits : (words : Words) (s : AtomSeat) → AtTable words s → seen s ≡ newcomer words.size → Sits words s
+newcomer_sits words s at e = (
+  (at, ap (λ (y : View). y.size) e, ap (λ (y : View). y.gone) e),
+  ap (λ (y : View). y.own) e,
+  subst Sound (sym e) (record {
+    inside = λ a h. absurd (none a h);
+    texts = λ a h. absurd (none a h);
+    alone = λ a h. absurd (none a h);
+    counts = λ cs is. cc;
+  }),
+)
+  where
+    none : (a : Held) → Has (newcomer words.size) a → ⊥
+    none a h = ⊎_elim (λ (i : In a []). in_none a i) (λ (i : In a []). in_none a i) h
+
+-- THE STEPS MADE ASIDE
+pub unchanged_trans : (u v w : View) → Unchanged u v → Unchanged v w → Unchanged u w
+unchanged_trans u v w a b = (b.0, b.1 ∙ ap (λ (y : View). record y { made = b.0 }) a.1)
+
+pub sits_unchanged : (words : Words) (s t : AtomSeat) → Same s t → Unchanged (seen s) (seen t) → Sits words s → Sits words t
+sits_unchanged words s t same u sits = let v : View = seen s in let q = sits.2 in (
+  (same.0 ∙ sits.0.0, ap (λ (y : View). y.size) u.1 ∙ sits.0.1, ap (λ (y : View). y.gone) u.1 ∙ sits.0.2),
+  ap (λ (y : View). y.own) u.1 ∙ sits.1,
+  subst Sound (sym u.1) (record { inside = q.inside; texts = q.texts; alone = q.alone; counts = q.counts }),
+)
+
+-- the versions are raised, and the held slots become the fixed ones
+pub source_raised : (words : Words) (n : ℕ) (p x f : AtomSeat) → Same p x → Unchanged (seen p) (seen x) → Same x f → seen f ≡ after (seen x) (Fix ∷ []) → Sits words p → (seen p).fixed ≡ [] → (seen p).held ≡ fixed_slots → (seen p).undealt ≡ n → Source words n f
+source_raised words n p x f same u later e sits none held undealt = source_fixed words n x f later e (sits_unchanged words p x same u sits) (ap (λ (y : View). y.fixed) u.1 ∙ none) (ap (λ (y : View). y.held) u.1 ∙ held) (ap (λ (y : View). y.undealt) u.1 ∙ undealt)

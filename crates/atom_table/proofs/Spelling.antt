@@ -10,9 +10,12 @@ use native.Mathlib.Decide.{dec_le}
 use lib.ListN.{get_or-append}
 use lib.Utf8.{scalar, encode, scalar_cases}
 use Rattle.pl_term.specs.Tree.{Chars}
+use Rattle.pl_term.specs.Texts.{size}
 use Rattle.atom_words.specs.Texts.{packed, row_of}
 use Rattle.atom_words.proofs.Putting.{row_word_is, row_first}
-use Rattle.atom_words.proofs.RowBytes.{Bytes}
+use Rattle.atom_words.proofs.RowBytes.{Bytes, bytes_of-row_of}
+use Rattle.bucket_rows.specs.Walks.{spelled}
+use Rattle.atom_table.specs.Holding.{unspelled, Spelled}
 
 -- BYTES OF UTF-8
 one_small : (a i : ℕ) → a < 256 → get_or (a ∷ []) i 0 < 256
@@ -84,3 +87,10 @@ row_byte bs k h s = let q : ℕ = k / 8 in let word : get_or (row_of bs) (1 + k 
 pub row_bytes : (bs xs : List ℕ) → length bs ≤ 248 → length xs ≡ 248 → Bytes bs → ((k : ℕ) → k < 248 → get_or xs k 0 ≡ get_or (row_of bs) (1 + k / 8) 0 / 2 ^ (8 * (k % 8)) % 256) → take (get_or (row_of bs) 0 0) xs ≡ bs
 row_bytes bs xs short long s each = ap (λ (n : ℕ). take n xs) (row_first bs) ∙ same_number_lists (take (length bs) xs) bs (length-take (length bs) xs ∙ omega arith)
     (λ k h. let low : k < length bs = (let m = length-take (length bs) xs in omega arith) in get_or-take (length bs) xs k 0 low ∙ (each k (omega arith) ∙ row_byte bs k (omega arith) s))
+
+-- THE WORDS OF A TEXT GIVE IT BACK
+pub unspelled_spelled : (t : Chars) → size t ≤ 248 → all_scalars t ≡ true → unspelled (spelled t) ≡ t
+unspelled_spelled t short scalars = ap chars (bytes_of-row_of (encode_utf8_all t) (utf8_bytes t scalars) short) ∙ chars-encodes t scalars
+
+pub spelled_is : (t : Chars) → size t ≤ 248 → all_scalars t ≡ true → Spelled (spelled t)
+spelled_is t short scalars = let back = sym (unspelled_spelled t short scalars) in (subst (λ (x : Chars). size x ≤ 248) back short, subst (λ (x : Chars). all_scalars x ≡ true) back scalars, ap spelled back)

@@ -28,6 +28,7 @@ use Rattle.atom_api.specs.declared.interned.Interned.{Interned}
 use Rattle.atom_api.specs.declared.interned.Interned.TheVariants.{Is, Full, Again, TooLong, Worn, Memory}
 use Rattle.atom_table.specs.Interning.{Tries, Takes, Adds, MakesBy, made_by}
 use Rattle.atom_table.specs.Holding.{Spelled, Sound, Rest, Answers, Told}
+use Rattle.atom_table.proofs.Spelling.{spelled_is}
 use Rattle.atom_table.proofs.Tries.{Tried, tried_refl, tried_trans, tried_start, tried_taken, Passed, passed_start, passed_more, full_is}
 use Rattle.atom_table.proofs.Adding.{Carried, carried_beside, rest_carried, added, told_added, makes_by}
 
@@ -187,7 +188,7 @@ sound_more v w n held fixed counts same low text alone s = record {
         (λ (i : In a w.fixed). inl (inr (subst (In a) fixed i))) h
 
 pub sound_told : (t : Chars) (h : ℕ) (v w : View) (r : Interned) → all_scalars t ≡ true → Told t h v r w → Sound v → Sound w
-sound_told t h v w (Is a) scalars told s = sound_more v w (record { slot = a; text = spelled t }) told.answer.1 told.rest.fixed told.rest.counts told.rest.size told.answer.3 (t, told.answer.0, scalars, refl) told.answer.2 s
+sound_told t h v w (Is a) scalars told s = sound_more v w (record { slot = a; text = spelled t }) told.answer.1 told.rest.fixed told.rest.counts told.rest.size told.answer.3 (spelled_is t told.answer.0 scalars) told.answer.2 s
 sound_told t h v w (Full p) scalars told s = sound_same v w told.answer.1 told.rest.fixed told.rest.counts told.rest.size s
 sound_told t h v w (Again c) scalars told s = sound_same v w told.answer.1 told.rest.fixed told.rest.counts told.rest.size s
 sound_told t h v w (TooLong b) scalars told s = subst Sound (sym told.answer.2) s

@@ -1,8 +1,9 @@
 -- What a seat of an atom table holds.
 use Rattle.std.specs.Prelude.{◌≡◌, ◌≢◌, ℕ, ◌+◌, ◌<◌, ◌≤◌, true, List, [], ◌∷◌, ◌++◌, length, map, Some, None, encode_utf8_all}
-use Rattle.std.specs.Str.{all_scalars}
+use Rattle.std.specs.Str.{all_scalars, chars}
 use Rattle.pl_term.specs.Tree.{Chars}
 use Rattle.pl_term.specs.Texts.{size}
+use Rattle.atom_words.specs.Texts.{bytes_of}
 use Rattle.atom_words.specs.Layout.{version_of, worn}
 use Rattle.atom_words.specs.Seats.{seen, Fits, Has}
 use Rattle.atom_words.specs.Plays.{Alone}
@@ -19,9 +20,13 @@ use Rattle.atom_api.specs.Interns.{refused}
 use Rattle.atom_api.specs.declared.interned.Interned.{Interned}
 use Rattle.atom_api.specs.declared.interned.Interned.TheVariants.{Is, Full, Again, TooLong, Worn, Memory}
 
+-- the text that 32 words spell
+abbrev pub unspelled : List ℕ → Chars
+unspelled row = chars (bytes_of row)
+
 -- the words are those of a text of at most 248 bytes
 abbrev pub Spelled : List ℕ → Type 0
-Spelled row = (t : Chars) × (size t ≤ 248) × (all_scalars t ≡ true) × (row ≡ spelled t)
+Spelled row = (size (unspelled row) ≤ 248) × (all_scalars (unspelled row) ≡ true) × (row ≡ spelled (unspelled row))
 
 -- What the seat holds are slots of the table with texts, and of equal texts and equal slots there is one each; what it counts has texts
 pub record Sound (v : View) : Type 0 where

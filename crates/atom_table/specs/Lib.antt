@@ -1,3 +1,4 @@
 pub mod Interning
 pub mod Holding
 pub mod Opening
+pub mod Naming

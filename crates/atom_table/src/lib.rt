@@ -5,15 +5,23 @@
 //! `atom_words` lists.
 #![tactic(auto)]
 
+mod atoms;
 mod interning;
 mod making;
 mod opening;
+#[cfg(test)]
+mod pending;
 mod seats;
 mod table;
+#[cfg(test)]
+mod tests;
 mod texts;
+#[cfg(test)]
+mod threads;
 
 pub use atom_api::{Atom, Cause, Interned, Pass, TextBuf, WornWord};
 pub use atom_words::AtomSeat;
+pub use atoms::TableAtoms;
 pub use opening::Opened;
 pub use seats::{Collector, Keeper};
 pub use table::AtomTable;

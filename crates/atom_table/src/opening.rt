@@ -6,7 +6,7 @@ ghost use Rattle.atom_words.specs.Texts.{bucket};
 ghost use Rattle.atom_words.specs.Kinds.{fresh, after};
 ghost use Rattle.atom_words.specs.Opening.{Allowed};
 ghost use Rattle.atom_words.specs.Plays.{Alone};
-ghost use Rattle.atom_words.specs.Seats.{seen, Fits, Same};
+ghost use Rattle.atom_words.specs.Seats.{seen, Fits, Same, Unchanged};
 ghost use Rattle.atom_words.specs.declared.kind.Kind.TheVariants.{Fix};
 ghost use Rattle.bucket_rows.specs.Walks.{spelled, Missing};
 ghost use Rattle.atom_table.specs.Holding.{Sits};
@@ -125,6 +125,19 @@ fn place_all(alloc: Global, words: &Words, seat: &mut AtomSeat) -> Result<(), Me
     Ok(())
 }
 
+// The version of each bucket is raised to the one that the table begins with.
+fn raise_all(words: &Words, seat: &mut AtomSeat) -> Result<(), Memory>
+    requires fits { Fits words.now seat.old }
+    requires first { 0 < (seen seat.old).undealt }
+    ensures same { Same seat.old seat.new }
+    ensures unchanged { Unchanged (seen seat.old) (seen seat.new) }
+{
+    for head in 0..256u32 {
+        words.raise(seat, head).map_err(|_| Memory)?;
+    }
+    Ok(())
+}
+
 // The slots held become the fixed atoms.
 fn fix(words: &Words, seat: &mut AtomSeat)
     requires fits { Fits words.now seat.old }
@@ -167,8 +180,8 @@ impl AtomTable {
         AtomTable::new_at(alloc, slots, engines, 0)
     }
 
-    /// The same, where the version of each bucket begins at the number given, which is below 2^42. The link of each fixed
-    /// atom moves its bucket's version by one; where the versions begin too high for that, the answer is `Memory`.
+    /// The same, where the version of each bucket begins at the number given, which is below 2^42. The fixed atoms are linked
+    /// before the versions are raised to it, so that they are there whatever it is.
     pub fn new_at(alloc: Global, slots: u32, engines: u32, version: u64) -> Result<Opened, Memory>
         requires slots { (512 ≤ slots) × (slots ≤ 1048576) }
         requires engines { (1 ≤ engines) × (engines ≤ 64) }
@@ -181,6 +194,7 @@ impl AtomTable {
         let size = table_size(slots, engines, version);
         let (words, mut first) = Words::new(alloc, size)?;
         place_all(alloc, &words, &mut first)?;
+        raise_all(&words, &mut first)?;
         fix(&words, &mut first);
         let keeper = words.part_keeper(&mut first);
         let collector = words.part_collector(&mut first);

@@ -55,7 +55,7 @@ impl AtomTable {
         ensures same { Same seat.old seat.new }
         ensures sits { Sits self.now.words seat.new }
         ensures steps { (xs : List ℕ) × (seen seat.new ≡ after (seen seat.old) (loads (text_at self.now.words.size (32 * a)) xs)) }
-        ensures text { (h : Held) → Has (seen seat.old) h → h.slot ≡ a → h.text ≡ spelled buf.new }
+        ensures text { (h : Held) → Has (seen seat.old) h → h.slot ≡ a → (size buf.new ≤ 248) × (all_scalars buf.new ≡ true) × (h.text ≡ spelled buf.new) }
     {
         let row = read_row(&self.words, &mut seat.seat, a.slot());
         spell(&row, buf);

@@ -7,6 +7,7 @@ use Rattle.pl_term.specs.Texts.{size}
 use Rattle.atom_words.specs.Texts.{row_of}
 use Rattle.atom_words.proofs.Putting.{row_first}
 use Rattle.bucket_rows.specs.Walks.{spelled}
+use Rattle.atom_table.specs.Holding.{unspelled}
 use Rattle.atom_table.proofs.Spelling.{utf8_bytes, row_bytes}
 use Rattle.atom_table.proofs.texts.spell.Goals as goal
 
@@ -27,14 +28,14 @@ first : (row : List ℕ) (t : Chars) → size t ≤ 248 → row ≡ spelled t �
 first row t short is = subst (λ (n : ℕ). n ≤ 248) (sym (ap (λ (l : List ℕ). get_or l 0 0) is ∙ row_first (encode_utf8_all t))) short
 
 pub slice_bounds-bytes-end : goal.slice_bounds-bytes-end
-slice_bounds-bytes-end c = let f = first c.args.row.now c.requires.0 c.requires.1 c.requires.3 in let long = c.loop-i.invariant.0 in omega arith
+slice_bounds-bytes-end c = let f = first c.args.row.now (unspelled c.args.row.now) c.requires.0 c.requires.2 in let long = c.loop-i.invariant.0 in omega arith
 
 pub slice_bounds-from_utf8-end : goal.slice_bounds-from_utf8-end
-slice_bounds-from_utf8-end c = let f = first c.args.row.now c.requires.0 c.requires.1 c.requires.3 in let long = c.loop-i.invariant.0 in let n = length-take (get_or c.args.row.now 0 0) c.loop-i.bytes in omega arith
+slice_bounds-from_utf8-end c = let f = first c.args.row.now (unspelled c.args.row.now) c.requires.0 c.requires.2 in let long = c.loop-i.invariant.0 in let n = length-take (get_or c.args.row.now 0 0) c.loop-i.bytes in omega arith
 
 pub unwrap-text-requires : goal.unwrap-text-requires
-unwrap-text-requires c = let over = c.loop-i-test.false in let is = made c.args.row.now c.loop-i.bytes c.requires.0 c.requires.1 c.requires.2 c.requires.3 c.loop-i.invariant.0 (λ k h. c.loop-i.invariant.1 k (omega arith)) in
-    valid c.from_utf8.result _ _ (λ e h. h.0 (c.requires.0, (c.requires.2, sym is))) c.from_utf8.ensures.cases
+unwrap-text-requires c = let over = c.loop-i-test.false in let is = made c.args.row.now c.loop-i.bytes (unspelled c.args.row.now) c.requires.0 c.requires.1 c.requires.2 c.loop-i.invariant.0 (λ k h. c.loop-i.invariant.1 k (omega arith)) in
+    valid c.from_utf8.result _ _ (λ e h. h.0 (unspelled c.args.row.now, (c.requires.1, sym is))) c.from_utf8.ensures.cases
 
 pub returns : goal.returns
 returns c = λ t short scalars is. let over = c.loop-i-test.false in let text = value c.from_utf8.result c.unwrap-text.result _ _ c.unwrap-text.ensures c.from_utf8.ensures.cases in

@@ -1,4 +1,7 @@
-use Rattle.std.proofs.Common.{◌≡◌, ◌<◌, ◌*◌, ℕ, List, length, encode_utf8_all, refl, sym, ap, ◌∙◌, subst}
+use Rattle.std.proofs.Common.{◌≡◌, ◌<◌, ◌≤◌, ◌*◌, ℕ, true, List, length, encode_utf8_all, refl, sym, ap, ◌∙◌, subst}
+use Rattle.std.specs.Str.{all_scalars}
+use Rattle.pl_term.specs.Tree.{Chars}
+use Rattle.pl_term.specs.Texts.{size}
 use Rattle.atom_words.specs.Board.{text_at}
 use Rattle.atom_words.specs.Kinds.{after}
 use Rattle.atom_words.specs.Seats.{seen}
@@ -7,7 +10,7 @@ use Rattle.atom_words.specs.declared.view.View.{View}
 use Rattle.atom_words.proofs.Putting.{row_length}
 use Rattle.atom_words.proofs.Tied.{same_owns, same_walks, same_passes}
 use Rattle.bucket_rows.specs.Walks.{spelled}
-use Rattle.atom_table.specs.Holding.{loads}
+use Rattle.atom_table.specs.Holding.{unspelled, Spelled, loads}
 use Rattle.atom_table.proofs.Loading.{loads_keep}
 use Rattle.atom_table.proofs.Telling.{sound_same}
 use Rattle.atom_table.proofs.table.AtomTable.text.Goals as goal
@@ -27,7 +30,7 @@ invariant_of-seat c = let s = c.args.seat.now in let v : View = s.seat.me.0 in l
 
 pub spell-requires : goal.spell-requires
 spell-requires c = let h = c.requires.held in let t = c.requires.sits.2.texts h.0 h.1 in
-    (t.0, t.1, t.2, c.read_row-row.ensures.words h.0 h.1 (h.2 ∙ sym c.slot.ensures) (ap length t.3 ∙ row_length (encode_utf8_all t.0)) ∙ t.3)
+    subst Spelled (sym (c.read_row-row.ensures.words h.0 h.1 (h.2 ∙ sym c.slot.ensures) (ap length t.2 ∙ row_length (encode_utf8_all (unspelled h.0.text))))) t
 
 pub returns-clause-sits : goal.returns-clause-sits
 returns-clause-sits c = let v : View = c.args.seat.now.seat.me.0 in let w : View = c.read_row-row.new.seat.me.0 in let p : ℕ = text_at c.args.self.now.words.size (32 * c.slot.result) in let xs : List ℕ = c.read_row-row.result in let is : w ≡ after v (loads p xs) = c.read_row-row.ensures.steps in
@@ -40,5 +43,5 @@ returns-clause-sits c = let v : View = c.args.seat.now.seat.me.0 in let w : View
 
 pub returns-clause-text : goal.returns-clause-text
 returns-clause-text c = λ h ours at. let t = c.requires.sits.2.texts h ours in
-    let row : c.read_row-row.result ≡ h.text = c.read_row-row.ensures.words h ours (at ∙ sym c.slot.ensures) (ap length t.3 ∙ row_length (encode_utf8_all t.0)) in
-    t.3 ∙ ap spelled (sym (c.spell.ensures t.0 t.1 t.2 (row ∙ t.3)))
+    let row : c.read_row-row.result ≡ h.text = c.read_row-row.ensures.words h ours (at ∙ sym c.slot.ensures) (ap length t.2 ∙ row_length (encode_utf8_all (unspelled h.text))) in
+    let same = sym (c.spell.ensures (unspelled h.text) t.0 t.1 (row ∙ t.2)) in (subst (λ (x : Chars). size x ≤ 248) same t.0, subst (λ (x : Chars). all_scalars x ≡ true) same t.1, t.2 ∙ ap spelled same)

@@ -1,0 +1,19 @@
+use Rattle.std.proofs.Common.{◌≡◌, ◌∙◌}
+use Rattle.atom_words.specs.Texts.{bucket}
+use Rattle.atom_words.specs.Seats.{seen}
+use Rattle.bucket_rows.specs.Walks.{spelled}
+use Rattle.atom_table.specs.Opening.{fixed_slots}
+use Rattle.atom_table.proofs.Naming.{lawful, interns_by, asked_by}
+use Rattle.atom_table.proofs.atoms.TableAtomsAtoms.intern.Goals as goal
+
+pub invariant_of-self : goal.invariant_of-self
+invariant_of-self c = let s = c.args.self.now in let t = c.intern.new.seat in let fixed : (seen t).fixed ≡ fixed_slots = c.intern.ensures.rest.fixed ∙ s.fixed in
+    record { sits = c.intern.ensures.sits; fixed = fixed; lawful = lawful s.table.now.words t c.intern.ensures.sits fixed }
+
+pub returns-clause-answer : goal.returns-clause-answer
+returns-clause-answer c = let s = c.args.self.now in let t = c.args.text.now in
+    interns_by t c.scalars.ensures (bucket 8 (spelled t)) (seen s.seat) (seen c.intern.new.seat) s.sits.2 c.intern.ensures.rest.fixed c.intern.result c.intern.ensures.answer
+
+pub returns-clause-request : goal.returns-clause-request
+returns-clause-request c = let s = c.args.self.now in let t = c.args.text.now in
+    asked_by t c.scalars.ensures (bucket 8 (spelled t)) (seen s.seat) (seen c.intern.new.seat) s.sits.2 c.intern.ensures.rest.fixed c.intern.result c.intern.ensures.answer c.intern.ensures.request

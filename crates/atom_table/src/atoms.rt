@@ -1,0 +1,93 @@
+//! Atoms over the table and one seat.
+ghost use Rattle.std.specs.Prelude.{◌≡◌, ◌<◌, ℕ, false, List, [], ◌∷◌, Some};
+ghost use Rattle.pl_term.specs.Tree.{Chars};
+ghost use Rattle.atom_words.specs.Kinds.{view_after, after};
+ghost use Rattle.atom_words.specs.Chains.{In};
+ghost use Rattle.atom_words.specs.Seats.{seen, Fits, Same};
+ghost use Rattle.atom_words.specs.declared.view.Held.{Held};
+ghost use Rattle.atom_words.specs.declared.kind.Kind.TheVariants.{Keep};
+ghost use Rattle.atom_table.specs.Holding.{Sits};
+ghost use Rattle.atom_table.specs.Opening.{fixed_slots};
+ghost use Rattle.atom_table.specs.Naming.{names, requests, those, Lawful};
+
+use crate::table::AtomTable;
+use atom_api::{Atom, Atoms, Interned, TextBuf};
+use atom_words::{AtomSeat, Keeping, Keeps, View, Words};
+use atomic_table::Seat;
+use pl_term::Text;
+use std::marker::Brand;
+
+/// The atoms that a seat holds at a table, of which each engine has one.
+#[derive(Drop)]
+pub struct TableAtoms<'a> {
+    pub table: &'a AtomTable,
+    pub seat: AtomSeat,
+    pub ghost sits: { Sits table.now.words seat },
+    pub ghost fixed: { (seen seat).fixed ≡ fixed_slots },
+    pub ghost lawful: { Lawful (names (seen seat)) },
+}
+
+impl<'a> TableAtoms<'a> {
+    /// The atoms that the seat holds. It is an engine's seat of that table, between its calls.
+    pub fn new(table: &'a AtomTable, seat: AtomSeat) -> TableAtoms<'a>
+        requires sits { Sits table.now.words seat }
+        requires fixed { (seen seat).fixed ≡ fixed_slots }
+        ensures { (result.table.now ≡ table.now) × (result.seat ≡ seat) }
+    {
+        TableAtoms { table, seat }
+    }
+
+    /// The seat by itself.
+    pub fn into_seat(self) -> AtomSeat
+        ensures seat { result ≡ self.entry.seat }
+        ensures sits { Sits self.entry.table.now.words result × ((seen result).fixed ≡ fixed_slots) }
+    {
+        self.seat
+    }
+}
+
+// The load with which the slots that are picked, of those held, are held on.
+fn load_kept<K: Keeps>(words: &Words, seat: &mut Seat<(), View>, _live: &[Atom])
+    requires fits { (seat.old.table_id ≡ words.now.table.shared.table_id) × (seat.old.me.0.size ≡ words.now.size) × (seat.old.me.0.gone ≡ false) }
+    requires ours { (a : Held) → In a K.those → In a seat.old.me.0.held }
+    ensures same { (seat.new.table_id ≡ seat.old.table_id) × (seat.new.id ≡ seat.old.id) × (seat.new.me.1 ≡ seat.old.me.1) }
+    ensures step { seat.new.me.0 ≡ view_after seat.old.me.0 (Keep K.those) }
+{
+    words.table.shared.load::<Keeping<K>>(seat, 0);
+}
+
+// Only the slots of the list are held on, of those held.
+fn keep(words: &Words, seat: &mut AtomSeat, live: &[Atom])
+    requires fits { Fits words.now seat.old }
+    ensures same { Same seat.old seat.new }
+    ensures steps { seen seat.new ≡ after (seen seat.old) (Keep (those live.now (seen seat.old).held) ∷ []) }
+{
+    load_kept::<Brand>(words, &mut seat.seat, live);
+}
+
+impl<'a> Atoms for TableAtoms<'a> {
+    ghost held = { λ s. names (seen s.seat) };
+
+    ghost refusals = { λ s. (seen s.seat).refusals };
+
+    ghost asked = { λ s. Some (requests (seen s.seat)) };
+
+    fn intern(&mut self, text: &Text) -> Interned {
+        text.scalars();
+        self.table.intern(&mut self.seat, text)
+    }
+
+    fn text(&mut self, a: Atom, buf: &mut TextBuf) {
+        self.table.text(&mut self.seat, a, buf);
+    }
+
+    fn keep_only(&mut self, live: &[Atom]) {
+        keep(&self.table.words, &mut self.seat, live);
+    }
+
+    ghost fixed_held = { λ s. s.lawful.stand };
+
+    ghost unlike = { λ s. s.lawful.unlike };
+
+    ghost finite = { λ s. s.lawful.finite };
+}

@@ -1,0 +1,278 @@
+//! The table with one seat and with several.
+ghost use Rattle.std.specs.Prelude.{◌≡◌, ◌<◌, List, replicate, Some, IfSome};
+ghost use Rattle.atom_words.specs.Views.{uncounted};
+ghost use Rattle.atom_words.specs.Kinds.{counted};
+ghost use Rattle.atom_words.specs.Seats.{seen};
+ghost use Rattle.atom_words.specs.declared.view.Counted.{Counted};
+ghost use Rattle.atom_table.specs.Holding.{Sits};
+ghost use Rattle.atom_table.specs.Opening.{fixed_slots, FreshFrom, IsKeeper};
+
+use crate::atoms::TableAtoms;
+use crate::opening::Opened;
+use crate::seats::Keeper;
+use crate::table::AtomTable;
+use atom_api::{Atom, Atoms, Interned, TextBuf, fixed};
+use atom_words::AtomSeat;
+use bucket_rows::bucket;
+use pl_term::{Memory, Text};
+use std::alloc::Global;
+use std::convert::AsStr;
+use std::test::Fail;
+
+// The seat of the engine with the highest number that is still there.
+pub fn take_last(table: &AtomTable, seats: &mut Vec<AtomSeat>) -> Option<AtomSeat>
+    requires { FreshFrom table.now.words 1 seats.old.items }
+    ensures rest { FreshFrom table.now.words 1 seats.new.items }
+    ensures sits { IfSome result (λ s. Sits table.now.words s) }
+    ensures fixed { IfSome result (λ s. (seen s).fixed ≡ fixed_slots) }
+{
+    seats.pop()
+}
+
+// The atoms of that seat.
+fn of_last<'a>(table: &'a AtomTable, seats: &mut Vec<AtomSeat>) -> Option<TableAtoms<'a>>
+    requires { FreshFrom table.now.words 1 seats.old.items }
+{
+    match take_last(table, seats) {
+        Some(seat) => Some(TableAtoms::new(table, seat)),
+        None => None,
+    }
+}
+
+// The answer on the text that `s` spells.
+fn intern(
+    alloc: Global,
+    table: &AtomTable,
+    seat: &mut AtomSeat,
+    s: &str,
+) -> Result<Interned, Memory>
+    requires { Sits table.now.words seat.old }
+    ensures { Sits table.now.words seat.new }
+{
+    let text = Text::from_str(alloc, s)?;
+    Ok(table.intern(seat, &text))
+}
+
+// The answer on the letter `a` with a number behind it.
+fn intern_numbered(
+    alloc: Global,
+    table: &AtomTable,
+    seat: &mut AtomSeat,
+    number: u32,
+) -> Result<Interned, Memory>
+    requires { Sits table.now.words seat.old }
+    ensures { Sits table.now.words seat.new }
+{
+    let name = format!(in alloc; "a{number}")?;
+    intern(alloc, table, seat, name.as_str())
+}
+
+// How many of the texts from `a1` to `a256` are answered with an atom.
+fn fill(alloc: Global, table: &AtomTable, seat: &mut AtomSeat) -> Result<u32, Memory>
+    requires { Sits table.now.words seat.old }
+    ensures { Sits table.now.words seat.new }
+{
+    let mut made = 0;
+    for i in 0..256u32 {
+        if let Interned::Is(_) = intern_numbered(alloc, table, seat, i + 1)? {
+            made += 1;
+        }
+    }
+    Ok(made)
+}
+
+#[test]
+fn two_seats_have_equal_atoms(rt: HostRuntime) -> Result<(), Fail> {
+    let Opened {
+        table,
+        mut seats,
+        keeper: _,
+        collector: _,
+    } = AtomTable::new(rt.alloc(), 512, 2)?;
+    let mut two = take_last(&table, &mut seats).ok_or("a seat")?;
+    let mut one = take_last(&table, &mut seats).ok_or("a seat")?;
+    let first = intern(rt.alloc(), &table, &mut one, "a")?;
+    let second = intern(rt.alloc(), &table, &mut two, "a")?;
+    assert!(rt; matches!(first, Interned::Is(_)));
+    assert_eq!(rt; first, second);
+    assert_eq!(rt;
+        intern(rt.alloc(), &table, &mut two, "true")?,
+        Interned::Is(fixed::TRUE)
+    );
+    assert_eq!(rt;
+        intern(rt.alloc(), &table, &mut two, "{}")?,
+        Interned::Is(fixed::BRACES)
+    );
+    Ok(())
+}
+
+#[test]
+fn a_full_table_says_so(rt: HostRuntime) -> Result<(), Fail> {
+    let Opened {
+        table,
+        mut seats,
+        keeper: _,
+        collector: _,
+    } = AtomTable::new(rt.alloc(), 512, 1)?;
+    let mut one = take_last(&table, &mut seats).ok_or("a seat")?;
+    let a1 = intern_numbered(rt.alloc(), &table, &mut one, 1)?;
+    assert!(rt; matches!(a1, Interned::Is(_)));
+    assert_eq!(rt; fill(rt.alloc(), &table, &mut one)?, 256);
+    let Interned::Full(pass) = intern_numbered(rt.alloc(), &table, &mut one, 257)? else {
+        panic!(rt; "the table was not full")
+    };
+    assert_eq!(rt; pass.counted(), 512);
+    assert_eq!(rt; pass.seat(), 1);
+    assert_eq!(rt; intern_numbered(rt.alloc(), &table, &mut one, 1)?, a1);
+    Ok(())
+}
+
+#[test]
+fn a_worn_bucket_takes_no_new_atom(rt: HostRuntime) -> Result<(), Fail> {
+    let start = 4_398_046_511_103;
+    let Opened {
+        table,
+        mut seats,
+        keeper: _,
+        collector: _,
+    } = AtomTable::new_at(rt.alloc(), 512, 1, start)?;
+    let mut one = take_last(&table, &mut seats).ok_or("a seat")?;
+    let Interned::Worn(worn) = intern(rt.alloc(), &table, &mut one, "zz")? else {
+        panic!(rt; "the bucket was not worn")
+    };
+    assert_eq!(rt; worn.start(), start);
+    assert_eq!(rt; worn.word() / 4_194_304, start);
+    assert_eq!(rt; worn.head(), bucket(b"zz") as u64);
+    let fixed = intern(rt.alloc(), &table, &mut one, "yfx")?;
+    assert_eq!(rt; fixed, Interned::Is(fixed::YFX));
+    Ok(())
+}
+
+#[test]
+fn a_text_of_249_bytes_is_too_long(rt: HostRuntime) -> Result<(), Fail> {
+    let Opened {
+        table,
+        mut seats,
+        keeper: _,
+        collector: _,
+    } = AtomTable::new(rt.alloc(), 512, 1)?;
+    let mut one = take_last(&table, &mut seats).ok_or("a seat")?;
+    let mut long = String::new(rt.alloc());
+    for _ in 0..249 {
+        long.push_str("a")?;
+    }
+    assert_eq!(rt;
+        intern(rt.alloc(), &table, &mut one, long.as_str())?,
+        Interned::TooLong { bytes: 249 }
+    );
+    Ok(())
+}
+
+// Interns a text, and counts its atom once.
+fn register_text(table: &AtomTable, seat: &mut AtomSeat, text: &Text) -> Option<Atom>
+    requires sits { Sits table.now.words seat.old }
+    requires counts { (seen seat.old).counts ≡ Some (replicate (seen seat.old).size.slots uncounted) }
+    ensures sits { Sits table.now.words seat.new }
+    ensures counted { IfSome result (λ a. (cs : List Counted) × ((seen seat.new).counts ≡ Some cs) × (0 < (counted cs a).count)) }
+{
+    match table.intern(seat, text) {
+        Interned::Is(a) => {
+            table.register(seat, a);
+            Some(a)
+        }
+        _ => None,
+    }
+}
+
+// Holds a counted atom, and counts it once less.
+fn fetch_and_unregister(table: &AtomTable, seat: &mut AtomSeat, a: Atom)
+    requires sits { Sits table.now.words seat.old }
+    requires counted { (cs : List Counted) × ((seen seat.old).counts ≡ Some cs) × (0 < (counted cs a).count) }
+    ensures { Sits table.now.words seat.new }
+{
+    table.fetch(seat, a);
+    table.unregister(seat, a);
+}
+
+// One seat counts the atom of a text, and another, which takes the keeper's over, fetches it.
+fn hand_over(
+    table: &AtomTable,
+    keeper: Keeper,
+    one: &mut AtomSeat,
+    two: &mut AtomSeat,
+    text: &Text,
+) -> Option<Atom>
+    requires one { Sits table.now.words one.old }
+    requires two { Sits table.now.words two.old }
+    requires keeper { Sits table.now.words keeper.seat × IsKeeper (seen keeper.seat) }
+    ensures one { Sits table.now.words one.new }
+    ensures two { Sits table.now.words two.new }
+{
+    table.with_both(one, keeper);
+    match register_text(table, one, text) {
+        Some(a) => {
+            let keeper = table.part(one);
+            table.with_both(two, keeper);
+            fetch_and_unregister(table, two, a);
+            Some(a)
+        }
+        None => None,
+    }
+}
+
+#[test]
+fn a_counted_atom_is_fetched_by_another_seat(rt: HostRuntime) -> Result<(), Fail> {
+    let Opened {
+        table,
+        mut seats,
+        keeper,
+        collector: _,
+    } = AtomTable::new(rt.alloc(), 512, 2)?;
+    let mut two = take_last(&table, &mut seats).ok_or("a seat")?;
+    let mut one = take_last(&table, &mut seats).ok_or("a seat")?;
+    let text = Text::from_str(rt.alloc(), "zz")?;
+    let handed = hand_over(&table, keeper, &mut one, &mut two, &text);
+    let Some(a) = handed else {
+        panic!(rt; "there was no atom")
+    };
+    assert_eq!(rt;
+        intern(rt.alloc(), &table, &mut two, "zz")?,
+        Interned::Is(a)
+    );
+    Ok(())
+}
+
+// The atom of a text and its text again, and the atom of the text after all atoms are let go.
+fn come_back<A: Atoms>(
+    alloc: Global,
+    atoms: &mut A,
+    s: &str,
+) -> Result<Option<(Atom, Text, Interned)>, Memory> {
+    let text = Text::from_str(alloc, s)?;
+    match atoms.intern(&text) {
+        Interned::Is(a) => {
+            let mut buf = TextBuf::new();
+            atoms.text(a, &mut buf);
+            atoms.keep_only(&[]);
+            Ok(Some((a, buf.to_text(alloc)?, atoms.intern(&text))))
+        }
+        _ => Ok(None),
+    }
+}
+
+#[test]
+fn an_engine_has_atoms_of_the_table(rt: HostRuntime) -> Result<(), Fail> {
+    let Opened {
+        table,
+        mut seats,
+        keeper: _,
+        collector: _,
+    } = AtomTable::new(rt.alloc(), 512, 1)?;
+    let mut atoms = of_last(&table, &mut seats).ok_or("a seat")?;
+    let Some((a, text, again)) = come_back(rt.alloc(), &mut atoms, "zz")? else {
+        panic!(rt; "there was no atom")
+    };
+    assert_eq!(rt; text.as_str(), "zz");
+    assert_eq!(rt; again, Interned::Is(a));
+    Ok(())
+}

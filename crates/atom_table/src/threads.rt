@@ -1,0 +1,102 @@
+//! Eight threads intern the same texts in different orders, and have one atom for each.
+ghost use Rattle.std.specs.Prelude.{IfOk, vec_len, ◌≡◌};
+ghost use Rattle.atom_table.specs.Holding.{Sits};
+
+use crate::opening::Opened;
+use crate::table::AtomTable;
+use atom_api::Interned;
+use atom_words::AtomSeat;
+use pl_term::{Memory, Text};
+use std::alloc::Global;
+use std::test::Fail;
+use std::thread;
+
+const TEXTS: usize = 2000;
+
+const SLOTS: usize = 4096;
+
+// Numbers that have no divisor in common with the number of texts.
+const STRIDES: [u8; 8] = [1, 3, 7, 9, 11, 13, 17, 19];
+
+// The slot of a text, which is tried as often as other threads step in between.
+fn slot_of(table: &AtomTable, seat: &mut AtomSeat, text: &Text) -> Option<u32>
+    requires { Sits table.now.words seat.old }
+    ensures { Sits table.now.words seat.new }
+{
+    for _i in 0..10_000_000u32 {
+        match table.intern(seat, text) {
+            Interned::Is(a) => return Some(a.slot()),
+            Interned::Again(_) => {}
+            _ => return None,
+        }
+    }
+    None
+}
+
+// The slots of all texts, as one thread finds them. It begins at another text than the others, and goes on by a stride of
+// its own.
+fn intern_all(alloc: Global, table: &AtomTable, thread: usize) -> Result<Vec<u32>, Memory> {
+    let mut seat = table.words.make();
+    let mut slots = Vec::from_elem(alloc, 0u32, TEXTS)?;
+    let stride = STRIDES[thread % 8] as usize;
+    for i in 0..TEXTS {
+        let place = (250 * (thread % 8) + stride * i) % TEXTS;
+        let name = format!(in alloc; "t{place}")?;
+        let text = Text::from_str(alloc, name.as_str())?;
+        let Some(slot) = slot_of(table, &mut seat, &text) else {
+            return Err(Memory);
+        };
+        slots[place] = slot;
+    }
+    Ok(slots)
+}
+
+// Whether no slot stands twice in the list.
+fn differ(alloc: Global, slots: &[u32]) -> Result<bool, Memory> {
+    let mut taken = Vec::from_elem(alloc, false, SLOTS)?;
+    for slot in slots {
+        let place = *slot as usize;
+        if place >= SLOTS || taken[place] {
+            return Ok(false);
+        }
+        taken[place] = true;
+    }
+    Ok(true)
+}
+
+// Whether all threads found the same slots.
+fn agree(found: &[Result<Vec<u32>, Memory>], slots: &[u32]) -> bool {
+    for one in found {
+        match one {
+            Ok(others) => {
+                if others.as_slice() != slots {
+                    return false;
+                }
+            }
+            Err(_) => return false,
+        }
+    }
+    true
+}
+
+#[test]
+fn eight_threads_have_one_atom_for_each_text(rt: HostRuntime) -> Result<(), Fail> {
+    let alloc = rt.alloc();
+    let Opened {
+        table,
+        seats: _,
+        keeper: _,
+        collector: _,
+    } = AtomTable::new(alloc, SLOTS as u32, 8)?;
+    let shared = &table;
+    let found = thread::map_indices(
+        &rt,
+        alloc,
+        8,
+        &|i: usize| -> Result<Vec<u32>, Memory> { intern_all(alloc, shared, i) },
+    )?;
+    let again = intern_all(alloc, &table, 0)?;
+    assert!(rt; agree(found.as_slice(), again.as_slice()));
+    assert!(rt; differ(alloc, again.as_slice())?);
+    Ok(())
+}
