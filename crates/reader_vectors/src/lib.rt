@@ -1,0 +1,16 @@
+//! Vectors of the reader: texts with what stands in them, and tests that read them by the public calls of
+//! `prolog_reader`. They stand in a crate of their own, since a crate with tests is proved twice.
+#![tactic(auto)]
+
+#[cfg(test)]
+mod depth;
+#[cfg(test)]
+mod rows;
+#[cfg(test)]
+mod shown;
+#[cfg(test)]
+mod terms;
+#[cfg(test)]
+mod texts;
+#[cfg(test)]
+mod tokens;
