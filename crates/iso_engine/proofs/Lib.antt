@@ -1,10 +1,12 @@
 pub mod Catching
 pub mod Charging
+pub mod Constructing
 pub mod Cutting
 pub mod Equalling
 pub mod Growing
 pub mod Heights
 pub mod Instances
+pub mod Naming
 pub mod Over
 pub mod Resting
 pub mod Resuming

@@ -1,5 +1,6 @@
 pub mod Budgeting
 pub mod Choices
+pub mod Constructs
 pub mod Errors
 pub mod Failures
 pub mod Frames

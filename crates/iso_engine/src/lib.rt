@@ -3,6 +3,7 @@
 
 pub mod budget;
 pub mod choices;
+pub mod construct;
 pub mod control;
 pub mod equal;
 pub mod failure;
