@@ -11,10 +11,10 @@ use Rattle.pl_model.specs.declared.threads.Status.{Status}
 use Rattle.pl_model.specs.declared.threads.Thread.{Thread}
 use Rattle.pl_model.specs.ErrorTerms.{permission_error, resource_error}
 use Rattle.pl_model.specs.History.{make_queue, drop_queue, send, start}
-use Rattle.pl_model.specs.Threads.{Queue, Threads, most_engines, has_engine, is_running, is_queue, is_thread, is_alias, number_of, queue_numbered, queue_named, thread_numbered, thread_named, first_message, goal_alias, with_alias, without_alias, without_queue, with_message, without_message, with_end, own_queue, running_thread, thread_started}
+use Rattle.pl_model.specs.Threads.{Queue, Threads, most_engines, has_engine, is_running, is_queue, is_thread, alias_of, is_alias, number_of, queue_numbered, queue_named, thread_numbered, thread_named, first_message, goal_alias, with_alias, without_alias, without_queue, with_message, without_message, with_end, own_queue, running_thread, thread_started}
 use Rattle.pl_model.specs.SharedState.{SharedState}
 use Rattle.pl_model.specs.Requests.{named, done}
-use Rattle.pl_model.specs.Service.{Served, serve, got, peeked, refuses, updates, name_of, no_queue, matches, with_queue, destroyed, joined, ended, queue_for, thread_for, alias_taken}
+use Rattle.pl_model.specs.Service.{Served, serve, got, peeked, created, reads, refuses, updates, name_of, name_term, no_queue, matches, with_queue, destroyed, joined, ended, queue_for, thread_for, alias_taken}
 use Rattle.thread_queues.specs.declared.fault.QueueFault.TheVariants.{NoQueue, OwnQueue, AliasTaken, EnginesFull}
 use Rattle.thread_queues.specs.Serving.{message_as, queue_as, status_as, thread_as, threads_as, no_thread, drop_error, start_error, unless, found, Serves, Changes}
 
@@ -252,6 +252,9 @@ module _ {M : Type 0} (term : M → Tree) where
         starts = λ e g n goal. starts_by (goal_alias n) (updates g done (start n (rename zero goal) (Some (goal_alias n)))) (is_alias s.threads (goal_alias n)) (is_alias t (goal_alias n)) (has_engine s.threads) (has_engine t) (alias_as term t s.threads (goal_alias n) is) (engines_as term t s.threads is);
         creates = λ e g goal a. starts_by a (updates g (named (atom a)) (start s.count (rename zero goal) (Some a))) (is_alias s.threads a) (is_alias t a) (has_engine s.threads) (has_engine t) (alias_as term t s.threads a is) (engines_as term t s.threads is);
         creates_unnamed = λ e g goal. starts_by [] (updates g (named (int (pos s.count))) (start s.count (rename zero goal) None)) false false (has_engine s.threads) (has_engine t) refl (engines_as term t s.threads is);
+        creates_next = λ e g goal a b as₁ error. ap (λ d. if d then alias_taken (codes "thread") a else created s g goal (Some a) (b ∷ as₁) error) (alias_as term t s.threads a is);
+        creates_wrong = λ e g goal a error. ap (λ d. if d then alias_taken (codes "thread") a else refuses error) (alias_as term t s.threads a is);
+        names = λ e g. ap (λ w. reads (named (name_term e (alias_of w e)))) is;
         joins = λ e g x n m. joins_by term e g x (thread_named t n) (thread_for s.threads x) (thread_by term t s.threads x n is m);
       }
 

@@ -1,6 +1,6 @@
 -- What is held, with each message and goal as the term for which it stands, and the answers of the shared state that are
 -- due by it (SWI-Prolog manual, section 'Multithreaded applications').
-use Rattle.std.specs.Prelude.{◌≡◌, ℕ, zero, [], ◌∷◌, map, Option, Some, None, option_map, ◌==◌, if◌then◌else◌, codes, pos}
+use Rattle.std.specs.Prelude.{◌≡◌, ℕ, zero, List, [], ◌∷◌, map, Option, Some, None, option_map, ◌==◌, if◌then◌else◌, codes, pos}
 use Rattle.pl_term.specs.Tree.{Chars, Tree, int, atom}
 use Rattle.pl_term.specs.Variables.{rename}
 use Rattle.pl_model.specs.declared.threads.Name.{Name}
@@ -10,10 +10,10 @@ use Rattle.pl_model.specs.declared.threads.Status.TheVariants.{Succeeded, Failed
 use Rattle.pl_model.specs.declared.threads.Thread.{Thread}
 use Rattle.pl_model.specs.ErrorTerms.{existence_error, permission_error, resource_error}
 use Rattle.pl_model.specs.History.{make_queue, drop_queue, send, start}
-use Rattle.pl_model.specs.Threads.{Queue, Threads, queue_named, queue_numbered, thread_named, first_message, goal_alias, queue_made, queue_dropped, message_sent, message_taken, thread_started, thread_ended, thread_joined}
+use Rattle.pl_model.specs.Threads.{Queue, Threads, alias_of, is_alias, queue_named, queue_numbered, thread_named, first_message, goal_alias, queue_made, queue_dropped, message_sent, message_taken, thread_started, thread_ended, thread_joined}
 use Rattle.pl_model.specs.SharedState.{SharedState}
-use Rattle.pl_model.specs.Requests.{create_thread, start_goal, join_thread, send_message, get_message, peek_message, create_queue, destroy_queue, named, done}
-use Rattle.pl_model.specs.Service.{Served, serve, refuses, updates, name_of, no_queue, matches, got, peeked, ended, alias_taken}
+use Rattle.pl_model.specs.Requests.{own_name, create_thread, start_goal, join_thread, send_message, get_message, peek_message, create_queue, destroy_queue, named, done}
+use Rattle.pl_model.specs.Service.{Served, serve, reads, refuses, updates, name_of, name_term, no_queue, matches, got, peeked, ended, alias_taken}
 use Rattle.thread_queues.specs.declared.fault.QueueFault.{QueueFault}
 use Rattle.thread_queues.specs.declared.fault.QueueFault.TheVariants.{OwnQueue, AliasTaken}
 use Rattle.thread_queues.specs.Refusals.{make_refusal, start_refusal, drop_refusal}
@@ -104,6 +104,14 @@ pub record Serves {M : Type 0} (term : M → Tree) (t : Threads M) (s : SharedSt
   pub creates_unnamed : (e g : ℕ) (goal : Tree)
       → serve e (create_thread goal [] None) s g
       ≡ unless (start_refusal t None) (start_error []) (updates g (named (int (pos s.count))) (start s.count (rename zero goal) None))
+  -- Of several aliases each is checked in turn, and the last one counts; an option that is wrong is refused behind them.
+  pub creates_next : (e g : ℕ) (goal : Tree) (a b : Chars) (as₁ : List Chars) (error : Option Tree)
+      → serve e (create_thread goal (a ∷ b ∷ as₁) error) s g
+      ≡ (if is_alias t a then alias_taken (codes "thread") a else serve e (create_thread goal (b ∷ as₁) error) s g)
+  pub creates_wrong : (e g : ℕ) (goal : Tree) (a : Chars) (error : Tree)
+      → serve e (create_thread goal (a ∷ []) (Some error)) s g
+      ≡ (if is_alias t a then alias_taken (codes "thread") a else refuses error)
+  pub names : (e g : ℕ) → serve e own_name s g ≡ reads (named (name_term e (alias_of t e)))
   pub joins : (e g : ℕ) (x : Tree) (n : Name)
       → name_of x ≡ Some n
       → serve e (join_thread x) s g

@@ -2,7 +2,7 @@
 ghost use Rattle.std.specs.Prelude.{◌≡◌, ◌↔◌, IsTrue, ◌≤◌, ◌+◌, Ok, Err, Some, None, IfOk, IfSome, IfNone, OnErr, OnOk, find, vec_len, vec_capacity};
 ghost use Rattle.std.specs.Result.{MatchResult};
 ghost use Rattle.std.specs.Option.{option_map};
-ghost use Rattle.pl_model.specs.Threads.{is_alias, is_queue, number_of, queue_named, thread_named, first_message, has_engine, queue_made, queue_dropped, message_sent, thread_ended, is_joined};
+ghost use Rattle.pl_model.specs.Threads.{alias_of, is_alias, is_queue, number_of, queue_named, thread_named, first_message, has_engine, queue_made, queue_dropped, message_sent, thread_ended, is_joined};
 ghost use Rattle.thread_queues.specs.declared.fault.QueueFault.TheVariants.{NoQueue, Memory as NoMemory};
 ghost use Rattle.thread_queues.specs.Held.{opening_held, Removes, IsNew, IsNewPlace, contents, named_message, goal_of, without_goal, Takes, left_by_join, own_contents, started};
 ghost use Rattle.thread_queues.specs.Located.{Locates};
@@ -88,6 +88,39 @@ impl<M: Drop> Queues<M> {
         ensures { IsTrue result ↔ IsNewPlace place self.now }
     {
         !has_place(self.queues.as_slice(), place)
+    }
+
+    /// The number of the thread or queue that is named so, where the name is an alias; a number is its own.
+    pub fn number_of(&self, name: &Name) -> Option<u64>
+        ensures { result ≡ number_of self.now.state name.now }
+    {
+        match name {
+            Name::Number(n) => Some(*n),
+            Name::Alias(alias) => match alias_at(self.aliases.as_slice(), alias) {
+                None => None,
+                Some(i) => Some(self.aliases[i].1),
+            },
+        }
+    }
+
+    /// Whether the alias names a thread or a queue.
+    pub fn is_alias(&self, name: &Text) -> bool
+        ensures { result ≡ is_alias self.now.state name.now }
+    {
+        match alias_at(self.aliases.as_slice(), name) {
+            None => false,
+            Some(_) => true,
+        }
+    }
+
+    /// The alias of the thread or queue with the number, where it has one.
+    pub fn alias_of(&self, n: u64) -> Option<&Text>
+        ensures { option_map (λ a. a.now) result ≡ alias_of self.now.state n }
+    {
+        match named_at(self.aliases.as_slice(), n) {
+            None => None,
+            Some(i) => Some(&self.aliases[i].0),
+        }
     }
 
     /// Makes a queue with the number, which no thread and no queue has, and with an alias where one is given
@@ -246,19 +279,6 @@ impl<M: Drop> Queues<M> {
         }
     }
 
-    /// The number that the name stands for.
-    fn number_of(&self, name: &Name) -> Option<u64>
-        ensures { result ≡ number_of self.now.state name.now }
-    {
-        match name {
-            Name::Number(n) => Some(*n),
-            Name::Alias(alias) => match alias_at(self.aliases.as_slice(), alias) {
-                None => None,
-                Some(i) => Some(self.aliases[i].1),
-            },
-        }
-    }
-
     /// Where the queue stands that is named so.
     fn queue_of(&self, name: &Name) -> Option<usize>
         ensures { Locates (queue_named self.now.state name.now) self.now.state.queues result }
@@ -302,16 +322,6 @@ impl<M: Drop> Queues<M> {
         match alias {
             None => false,
             Some(name) => self.is_alias(name),
-        }
-    }
-
-    /// Whether the alias names a thread or a queue.
-    fn is_alias(&self, name: &Text) -> bool
-        ensures { result ≡ is_alias self.now.state name.now }
-    {
-        match alias_at(self.aliases.as_slice(), name) {
-            None => false,
-            Some(_) => true,
         }
     }
 
