@@ -6,6 +6,8 @@ mod db;
 mod fault;
 mod parts;
 mod system;
+#[cfg(test)]
+mod tests;
 
 pub use access::{Access, By};
 pub use db::Db;
