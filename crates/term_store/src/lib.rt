@@ -27,3 +27,6 @@ pub use store::Store;
 pub use stored::Stored;
 pub use views::{Arguments, View};
 pub use words::{Place, StoreMark};
+
+#[cfg(test)]
+mod tests;
