@@ -140,12 +140,26 @@ fn a_worn_bucket_is_found(rt: HostRuntime) -> Result<(), Fail> {
         ..SMALL
     };
     let (words, mut first) = Words::new(rt.alloc(), old)?;
-    let Some(found) = words.find_worn(&mut first, 5) else {
+    let Some(found) = words.find_worn(&mut first, 300) else {
         panic!(rt; "the bucket was not worn")
     };
-    assert!(rt; found.head() == 5 && found.start() == 4_398_046_511_103);
-    assert!(rt; found.word() == 18_446_744_073_705_357_312);
+    assert!(rt; found.head() == 300 && found.start() == 4_398_046_511_103);
+    assert!(rt; found.word() == 18_446_744_073_707_454_464);
     let (words, mut first) = Words::new(rt.alloc(), SMALL)?;
     assert!(rt; words.find_worn(&mut first, 5).is_none());
+    Ok(())
+}
+
+#[test]
+fn a_head_is_raised_to_the_first_version(rt: HostRuntime) -> Result<(), Fail> {
+    let old = Size {
+        start: 4_398_046_511_103,
+        ..SMALL
+    };
+    let (words, mut first) = Words::new(rt.alloc(), old)?;
+    let place = words.head_place(5);
+    assert!(rt; words.table.shared.peek(place) == 0);
+    assert!(rt; words.raise(&mut first, 5).is_ok());
+    assert!(rt; words.table.shared.peek(place) == 18_446_744_073_705_357_312);
     Ok(())
 }
