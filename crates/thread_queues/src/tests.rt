@@ -331,6 +331,8 @@ fn every_alias_is_given_once(rt: HostRuntime) -> Result<(), Fail> {
     answer(alloc, &mut queues, Call::Discard(Called::Alias(3)), 0)?;
     let started = answer(alloc, &mut queues, Call::Start(20, 1, Some(3)), 0)?;
     assert_eq!(rt; started, Answer::Done);
+    assert_eq!(rt; queues.number_of(&name(alloc, Called::Alias(3))?), Some(20));
+    assert!(rt; matches!(queues.alias_of(20), Some(a) if a.is("c") && queues.is_alias(a)));
     Ok(())
 }
 
