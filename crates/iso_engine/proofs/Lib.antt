@@ -1,11 +1,13 @@
 pub mod Catching
 pub mod Charging
 pub mod Constructing
+pub mod Converting
 pub mod Cutting
 pub mod Equalling
 pub mod Growing
 pub mod Heights
 pub mod Instances
+pub mod Listing
 pub mod Naming
 pub mod Over
 pub mod Resting

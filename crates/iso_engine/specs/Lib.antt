@@ -1,6 +1,7 @@
 pub mod Budgeting
 pub mod Choices
 pub mod Constructs
+pub mod Conversions
 pub mod Errors
 pub mod Failures
 pub mod Frames
