@@ -1,3 +1,4 @@
+pub mod Calling
 pub mod Catching
 pub mod Charging
 pub mod Constructing
@@ -5,6 +6,7 @@ pub mod Converting
 pub mod Cutting
 pub mod Equalling
 pub mod Growing
+pub mod Grown
 pub mod Heights
 pub mod Instances
 pub mod Listing

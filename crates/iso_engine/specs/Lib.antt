@@ -1,4 +1,5 @@
 pub mod Budgeting
+pub mod Calling
 pub mod Choices
 pub mod Constructs
 pub mod Conversions

@@ -3,6 +3,7 @@
 
 pub mod bodies;
 pub mod budget;
+pub mod calls;
 pub mod choices;
 pub mod construct;
 pub mod control;
