@@ -1,32 +1,28 @@
 -- Terms that are checked and called, by the definition.
-use Rattle.std.proofs.Common.{◌≡◌, ℕ, ℤ, suc, ◌+◌, ◌<◌, ◌≤◌, List, [], ◌∷◌, ◌++◌, length, Option, Some, None, Result, Ok, Err, refl, sym, ap, ap₂, subst, ◌∙◌, arith}
-use Rattle.pl_term.specs.Tree.{Chars, Tree, Trees, var, int, atom, comp, compound}
+use Rattle.std.proofs.Common.{◌≡◌, ℕ, ℤ, suc, List, [], ◌∷◌, Some, None, Ok, Err, refl, sym, ap, ◌∙◌}
+use Rattle.pl_term.specs.Tree.{Chars, Tree, var, int, atom, compound}
 use Rattle.pl_model.specs.History.{Proc}
-use Rattle.pl_model.specs.World.{proc_of}
-use Rattle.pl_model.specs.Balls.{instantiation_error, not_callable, error_ball}
-use Rattle.pl_model.specs.BodyChecks.{body_of, called_goal, converted, if_callable, or_not_callable}
-use Rattle.pl_model.specs.Resolution.{Limits, Node, State, Pending, goal, running, throwing}
-use Rattle.pl_model.specs.Control.{before, checked, extension_cells, over, run_on, taking, with_call}
-use Rattle.pl_model.specs.Terms.{extended}
+use Rattle.pl_model.specs.Balls.{instantiation_error, not_callable}
+use Rattle.pl_model.specs.BodyChecks.{body_of, called_goal, converted, or_not_callable}
+use Rattle.pl_model.specs.Resolution.{goal}
+use Rattle.pl_model.specs.Control.{checked, over}
 use Rattle.term_store.specs.declared.words.Place.{Place}
-use Rattle.term_store.specs.declared.views.Arguments.{Arguments}
 use Rattle.term_store.specs.Contents.{Contents, Holds, term_at}
 use Rattle.iso_engine.specs.declared.calls.Checked.TheVariants.{Goal, Refused}
 use Rattle.iso_engine.specs.declared.choices.Alternative.{Alternative}
 use Rattle.iso_engine.specs.declared.control.Exit.{Exit}
 use Rattle.iso_engine.specs.declared.outcome.Fault.{Fault}
 use Rattle.iso_engine.specs.declared.outcome.Outcome.{Outcome}
-use Rattle.iso_engine.specs.declared.outcome.Outcome.TheVariants.{Run, Raise}
 use Rattle.iso_engine.specs.declared.search.Search.{Search}
 use Rattle.iso_engine.specs.Calling.{goal_or_error}
 use Rattle.iso_engine.specs.Choices.{IsAlternativeIn, choice_at}
 use Rattle.iso_engine.specs.Conversions.{Stays}
 use Rattle.iso_engine.specs.Outcomes.{Setting, exit_at, fault_term, limits_in, result_in, state_in}
 use Rattle.iso_engine.specs.Reading.{View, reads}
-use Rattle.iso_engine.specs.Searching.{IsWhole, node_of, choices_of}
+use Rattle.iso_engine.specs.Searching.{IsWhole, node_of}
 use Rattle.iso_engine.specs.Spelling.{spelled, text_of}
-use Rattle.iso_engine.proofs.Grown.{choice_grown, choices_grown, node_grown, read_kept, state_grown}
-use Rattle.iso_engine.proofs.Over.{over_same, run_made}
+use Rattle.iso_engine.proofs.Grown.{choice_grown, node_grown, read_kept, state_grown}
+use Rattle.iso_engine.proofs.Over.{over_same}
 
 -- The check of a body
 

@@ -1,12 +1,12 @@
 -- What is taken from the budgets, by the definition.
-use Rattle.std.proofs.Common.{◌≡◌, ℕ, suc, ◌+◌, ◌<◌, ◌≤◌, ◌^◌, Bool, true, false, cond, nat_lt, nat_le, List, [], ◌∷◌, length, reverse, take, Option, Some, None, refl, sym, ap, ap₂, subst, ◌∙◌, arith, ◌⊎◌, inl, inr}
+use Rattle.std.proofs.Common.{◌≡◌, ℕ, suc, ◌+◌, ◌<◌, ◌≤◌, ◌^◌, Bool, true, false, cond, nat_lt, nat_le, List, [], ◌∷◌, reverse, take, Some, None, refl, sym, ap, ap₂, subst, ◌∙◌, arith, ◌⊎◌, inl, inr}
 use Rattle.std.proofs.lemmas.Bool.Decides.{leb_tells}
 use Rattle.std.proofs.lemmas.List.Elements.{All-weaker}
 use Rattle.pl_term.specs.Tree.{Tree}
 use Rattle.pl_model.specs.History.{Proc}
 use Rattle.pl_model.specs.World.{proc_of}
 use Rattle.pl_model.specs.Balls.{error_ball, no_inferences, no_cells}
-use Rattle.pl_model.specs.Resolution.{Limits, Node, Choice, State, Next, goes, throwing, collected_cells}
+use Rattle.pl_model.specs.Resolution.{Node, Choice, State, Next, goes, collected_cells}
 use Rattle.pl_model.specs.Terms.{variable_count}
 use Rattle.pl_model.specs.Control.{Caught, catch_proc, costing, taking, fits, fitting, raised}
 use Rattle.pl_term.specs.Cells.{cells}
@@ -22,11 +22,10 @@ use Rattle.iso_engine.specs.declared.outcome.Fault.TheVariants.{Inferences, Cell
 use Rattle.iso_engine.specs.Budgeting.{fitted}
 use Rattle.iso_engine.specs.Choices.{choice_at, choices_at, node_behind}
 use Rattle.iso_engine.specs.Outcomes.{Setting, limits_in, state_in, result_in}
-use Rattle.iso_engine.specs.Reading.{View, reads, node_at}
-use Rattle.iso_engine.specs.Frames.{tasks}
+use Rattle.iso_engine.specs.Reading.{View, reads}
 use Rattle.iso_engine.specs.Searching.{IsWhole, node_of, choices_of}
 use Rattle.iso_engine.proofs.Instances.{base_added, rests_kept, choices_kept}
-use Rattle.iso_engine.proofs.Over.{state_by, is_below, not_below}
+use Rattle.iso_engine.proofs.Over.{is_below, not_below}
 
 -- An inference
 

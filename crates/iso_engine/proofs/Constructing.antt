@@ -1,10 +1,10 @@
 -- Goals by their names and the number of their arguments, read from a store.
-use Rattle.std.proofs.Common.{◌≡◌, ◌≢◌, ℕ, ℤ, zero, suc, ◌+◌, ◌<◌, ◌≤◌, Bool, true, false, cond, not, ◌&&◌, ◌==◌, nat_le, List, [], ◌∷◌, length, get_or, map, take, drop, codes, refl, sym, ap, ap₂, subst, ◌∙◌, arith, length-take, length-drop}
+use Rattle.std.proofs.Common.{◌≡◌, ◌≢◌, ℕ, ℤ, suc, ◌<◌, ◌≤◌, Bool, true, false, cond, not, ◌&&◌, ◌==◌, nat_le, List, [], ◌∷◌, length, get_or, drop, codes, refl, sym, ap, ap₂, subst, ◌∙◌, arith, length-take, length-drop}
 use Rattle.std.specs.Str.{bytes_eq}
 use Rattle.std.proofs.lemmas.List.{length-map}
 use Rattle.std.proofs.lemmas.Bool.{true≢false}
 use Rattle.pl_term.specs.Tree.{Chars, Tree, Trees, var, int, atom, comp, none, more, count, trees, compound}
-use Rattle.pl_model.specs.Control.{Construct as Construction, conjunction, disjunction, if_then, if_then_else, inspects, calls, other, construct, construct_by_count, construct_of_one, construct_of_two, construct_of_three, or_else}
+use Rattle.pl_model.specs.Control.{conjunction, disjunction, if_then, if_then_else, inspects, calls, other, construct, construct_by_count, construct_of_one, construct_of_two, construct_of_three, or_else}
 use Rattle.term_store.specs.declared.words.Place.{Place}
 use Rattle.term_store.specs.declared.views.Arguments.{Arguments}
 use Rattle.term_store.specs.Heap.{atom_name, meaning}

@@ -1,10 +1,9 @@
 -- Bodies are converted step by step.
-use Rattle.std.proofs.Common.{◌≡◌, ◌≢◌, ℕ, zero, suc, Bool, true, false, cond, ◌==◌, ◌||◌, List, [], ◌∷◌, ◌++◌, length, get_or, map, reverse, Option, Some, None, codes, refl, sym, ap, ap₂, subst, ◌∙◌, arith}
+use Rattle.std.proofs.Common.{◌≡◌, ◌≢◌, ℕ, Bool, true, false, cond, ◌==◌, ◌||◌, List, [], ◌∷◌, ◌++◌, length, get_or, map, reverse, Option, Some, None, codes, refl, sym, ap, ap₂, subst, ◌∙◌}
 use Rattle.std.specs.List.{All}
-use Rattle.std.specs.Str.{bytes_eq}
 use Rattle.std.proofs.lemmas.List.{reverse-append}
-use Rattle.std.proofs.lemmas.List.Elements.{All-push, All-weaker}
-use Rattle.pl_term.specs.Tree.{Chars, Tree, Trees, var, int, atom, comp, none, more, trees, compound}
+use Rattle.std.proofs.lemmas.List.Elements.{All-weaker}
+use Rattle.pl_term.specs.Tree.{Chars, Tree, Trees, var, atom, comp, none, more, trees, compound}
 use Rattle.pl_model.specs.BodyChecks.{converted, both_goals}
 use Rattle.pl_model.specs.BodyChecks.{is_transparent as is_open}
 use Rattle.term_store.specs.declared.words.Place.{Place}
@@ -13,7 +12,7 @@ use Rattle.term_store.specs.Contents.{Contents, Holds, Adds, Makes, numbers_of, 
 use Rattle.iso_engine.specs.declared.bodies.Step.{Step}
 use Rattle.iso_engine.specs.declared.bodies.Step.TheVariants.{Visit, Join}
 use Rattle.iso_engine.specs.Reading.{View, IsView, reads}
-use Rattle.iso_engine.specs.Spelling.{spelled, spelled_all, text_of}
+use Rattle.iso_engine.specs.Spelling.{spelled, text_of}
 use Rattle.iso_engine.specs.Conversions.{Converts, Grows, Stays, IsConverted, IsStepIn, Joins, Visits, Part, visit, join, with_goal, finish, part, parts, goals_made}
 use Rattle.iso_engine.proofs.Constructing.{shape_two}
 use Rattle.iso_engine.proofs.Listing.{All-reverse, map-agree}

@@ -1,8 +1,8 @@
 -- Unification as a built-in predicate.
-use Rattle.std.proofs.Common.{◌≡◌, ℕ, zero, suc, ◌+◌, ◌<◌, Bool, true, false, cond, List, [], ◌∷◌, ◌++◌, length, Option, Some, None, codes, refl, sym, ap, ap₂, ◌∙◌, arith, length-append}
-use Rattle.pl_term.specs.Tree.{Tree, Trees, none, more, comp}
-use Rattle.pl_term.specs.Variables.{has, occurrences, occurrences_all, replace, replace_all}
-use Rattle.pl_model.specs.Unify.{Bindings, Difference, same, clash, binds, or_later, difference, differences, turn, solve, solve_all, unify}
+use Rattle.std.proofs.Common.{◌≡◌, ℕ, zero, suc, ◌+◌, ◌<◌, cond, [], ◌∷◌, ◌++◌, length, Option, Some, None, codes, refl, sym, ap, ◌∙◌, arith, length-append}
+use Rattle.pl_term.specs.Tree.{Tree, none, more}
+use Rattle.pl_term.specs.Variables.{has, occurrences, occurrences_all, replace}
+use Rattle.pl_model.specs.Unify.{Bindings, Difference, same, clash, binds, or_later, difference, turn, solve, solve_all, unify}
 use Rattle.pl_model.specs.History.{Proc}
 use Rattle.pl_model.specs.Balls.{error_ball}
 use Rattle.pl_model.specs.Resolution.{Limits, Node, State, throwing}

@@ -1,5 +1,5 @@
 -- A search whose store has gained compound terms.
-use Rattle.std.proofs.Common.{◌≡◌, ℕ, zero, suc, ◌<◌, ◌≤◌, ◌⊎◌, inl, inr, Bool, true, false, List, [], ◌∷◌, ◌++◌, length, get_or, map, reverse, nat_le, refl, sym, ap, ap₂, subst, ◌∙◌, arith, length-append, Result, Ok, Err}
+use Rattle.std.proofs.Common.{◌≡◌, ℕ, zero, suc, ◌<◌, ◌≤◌, ◌⊎◌, inl, inr, true, false, List, [], ◌∷◌, ◌++◌, length, get_or, map, reverse, nat_le, refl, sym, ap, ap₂, subst, ◌∙◌, arith, length-append, Result}
 use Rattle.std.specs.List.{All}
 use Rattle.std.proofs.Math.Seq.{get_or-append_seam}
 use Rattle.std.proofs.lemmas.List.{get_or_append_left, get_or_past}
@@ -7,13 +7,12 @@ use Rattle.std.proofs.lemmas.List.Elements.{All-nil, All-cons, All-head, All-tai
 use Rattle.std.proofs.lemmas.Bool.Decides.{leb_tells}
 use Rattle.pl_term.specs.Tree.{Tree}
 use Rattle.pl_model.specs.History.{Proc}
-use Rattle.pl_model.specs.Resolution.{Pending, goal, collect, Node, Choice, State, clauses, catch, resolving, throwing}
+use Rattle.pl_model.specs.Resolution.{Pending, goal, collect, Node, State, clauses, catch, resolving, throwing}
 use Rattle.pl_model.specs.Balls.{error_ball}
 use Rattle.pl_model.specs.Control.{checked}
 use Rattle.term_store.specs.declared.words.Place.{Place}
-use Rattle.term_store.specs.Contents.{Contents, Holds, Adds, IsAbove}
-use Rattle.iso_engine.specs.declared.calls.Checked.{Checked}
-use Rattle.iso_engine.specs.declared.calls.Checked.TheVariants.{Goal as Called, Refused}
+use Rattle.term_store.specs.Contents.{Contents, Holds, IsAbove}
+use Rattle.iso_engine.specs.declared.calls.Checked.TheVariants.{Refused}
 use Rattle.iso_engine.specs.declared.choices.Alternative.{Alternative}
 use Rattle.iso_engine.specs.declared.choices.Alternative.TheVariants.{Clauses, Branch, Barrier, Catch}
 use Rattle.iso_engine.specs.declared.frames.Task.{Task}
@@ -23,11 +22,11 @@ use Rattle.iso_engine.specs.declared.outcome.Fault.{Fault}
 use Rattle.iso_engine.specs.declared.outcome.Outcome.TheVariants.{Raise}
 use Rattle.iso_engine.specs.declared.search.Search.{Search}
 use Rattle.iso_engine.specs.Calling.{goal_or_error}
-use Rattle.iso_engine.specs.Choices.{choice_at, choices_at, IsAlternativeIn, IsTaskIn}
+use Rattle.iso_engine.specs.Choices.{choice_at, IsAlternativeIn, IsTaskIn}
 use Rattle.iso_engine.specs.Conversions.{Grows, Stays}
 use Rattle.iso_engine.specs.Frames.{stacked, tasks}
 use Rattle.iso_engine.specs.Outcomes.{Setting, fault_term, result_in, state_in}
-use Rattle.iso_engine.specs.Reading.{View, reads, pending, node_at}
+use Rattle.iso_engine.specs.Reading.{View, reads, pending}
 use Rattle.iso_engine.specs.Searching.{IsWhole, node_of, choices_of}
 use Rattle.iso_engine.specs.Spelling.{spelled, text_of}
 use Rattle.iso_engine.proofs.Instances.{base_added, rests_kept, choices_kept}

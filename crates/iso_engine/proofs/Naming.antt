@@ -1,20 +1,18 @@
 -- The fixed atoms by their texts.
-use Rattle.std.proofs.Common.{◌≡◌, ℕ, Bool, true, false, cond, if◌then◌else◌, ◌==◌, ◌||◌, List, [], ◌∷◌, Option, Some, None, codes, refl, sym, ap, ap₂, ◌∙◌}
+use Rattle.std.proofs.Common.{◌≡◌, ℕ, Bool, true, false, cond, if◌then◌else◌, ◌==◌, ◌||◌, [], ◌∷◌, Some, codes, refl, sym, ap, ap₂, ◌∙◌}
 use Rattle.std.specs.Str.{bytes_eq}
 use Rattle.std.proofs.lemmas.Bool.{false≢true}
 use Rattle.std.proofs.lemmas.Bool.Decides.{Decides-eqb}
 use Rattle.std.proofs.lemmas.Slice.Eq.{bytes_eq-Decides}
-use Rattle.pl_term.specs.Tree.{Chars, Tree}
+use Rattle.pl_term.specs.Tree.{Chars}
 use Rattle.pl_model.specs.TermWriting.{write, writeq, write_canonical}
-use Rattle.pl_model.specs.Control.{Construct as Construction, writes, prints, other, construct_of_none, construct_of_one, construct_of_three}
+use Rattle.pl_model.specs.Control.{writes, prints, other, construct_of_none, construct_of_one, construct_of_three}
 use Rattle.atom_api.specs.Fixed.{fixed, fixed_texts}
 use Rattle.term_store.specs.declared.words.Place.{Place}
 use Rattle.term_store.specs.Contents.{Contents}
 use Rattle.term_store.specs.Heap.{atom_name}
 use Rattle.iso_engine.specs.Spelling.{text_of, or_no_text}
 use Rattle.iso_engine.specs.Reading.{View, IsView, reads}
-use Rattle.iso_engine.specs.declared.construct.Construct.{Construct}
-use Rattle.iso_engine.specs.declared.construct.Construct.TheVariants.{Succeeds, Cuts, Fails, Repeats, HaltsWithZero, NotProvable, Once, Catches, Throws, FindsAll, Halts, Exits, Retracts, Clears, Writes, WritesQuoted, WritesCanonical, WritesNewline, Other}
 use Rattle.iso_engine.specs.Constructs.{construction, atom_construct, one_construct, output_construct, three_construct}
 
 same_bool : (b c : Bool) → (b ≡ true → c ≡ true) → (c ≡ true → b ≡ true) → b ≡ c

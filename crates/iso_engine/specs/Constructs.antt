@@ -1,6 +1,6 @@
 -- What goals are by their names and the number of their arguments.
-use Rattle.std.specs.Prelude.{◌≡◌, ◌<◌, ℕ, pos, ◌==◌, ◌||◌, List, [], ◌∷◌, drop, if◌then◌else◌}
-use Rattle.pl_term.specs.Tree.{Tree, int, trees, compound}
+use Rattle.std.specs.Prelude.{◌≡◌, ◌<◌, ℕ, pos, ◌==◌, List, [], ◌∷◌, drop, if◌then◌else◌}
+use Rattle.pl_term.specs.Tree.{Tree, int, trees}
 use Rattle.pl_model.specs.TermWriting.{write, writeq, write_canonical}
 use Rattle.pl_model.specs.Control.{Construct as Construction, succeeds, cuts, conjunction, disjunction, if_then, if_then_else, fails, repeats, calls, not_provable, once, catches, throws, finds_all, halts, exits, inspects, retracts, clears, writes, prints, other, construct_by_count}
 use Rattle.term_store.specs.declared.words.Place.{Place}

@@ -1,11 +1,10 @@
 -- What running a goal leads to, as states of the search.
-use Rattle.std.specs.Prelude.{◌≡◌, ◌≤◌, ℕ, suc, List, [], ◌∷◌, length, Option, Some, None, true, false, nat_lt, codes}
-use Rattle.pl_term.specs.Tree.{Chars, Tree, int}
+use Rattle.std.specs.Prelude.{◌≡◌, ℕ, List, ◌∷◌, length, Option, Some, None, true, false, nat_lt, codes}
+use Rattle.pl_term.specs.Tree.{Chars, Tree}
 use Rattle.pl_model.specs.History.{Proc}
 use Rattle.pl_model.specs.Balls.{error_ball, instantiation_error, type_error, not_callable, no_inferences, no_cells, no_choices}
 use Rattle.pl_model.specs.ErrorTerms.{domain_error}
-use Rattle.pl_model.specs.Resolution.{Limits, Pending, goal, commit, refute, leave, Node, Doing, running, failing, throwing, ended, halted, Output, State}
-use Rattle.pl_model.specs.Control.{before}
+use Rattle.pl_model.specs.Resolution.{Limits, Pending, commit, refute, leave, Node, Doing, running, failing, throwing, ended, halted, Output, State}
 use Rattle.term_store.specs.declared.words.Place.{Place}
 use Rattle.iso_engine.specs.declared.choices.Alternative.{Alternative}
 use Rattle.iso_engine.specs.declared.control.Exit.{Exit}

@@ -1,5 +1,5 @@
 -- What a search stands for.
-use Rattle.std.specs.Prelude.{◌≡◌, ℕ, List, reverse, length, ◌≤◌}
+use Rattle.std.specs.Prelude.{◌≡◌, ℕ, List, reverse}
 use Rattle.pl_model.specs.Resolution.{Node, Choice, Doing, Output, State}
 use Rattle.term_store.specs.Contents.{IsAbove}
 use Rattle.iso_engine.specs.declared.search.Search.{Search}

@@ -1,5 +1,5 @@
 -- Where a ball is caught, as states of the search.
-use Rattle.std.specs.Prelude.{ℕ, suc, List, Option, Some, None}
+use Rattle.std.specs.Prelude.{suc, List, Option, Some, None}
 use Rattle.pl_term.specs.Tree.{Tree}
 use Rattle.pl_model.specs.Resolution.{Pending, State, throwing, ended, threw, up_to}
 use Rattle.pl_model.specs.Control.{at_catch, caught, fitting}

@@ -2,7 +2,7 @@ use Rattle.std.proofs.Common.{◌≡◌, ◌≢◌, ◌++◌, ◌∷◌, [], len
 use Rattle.pl_term.specs.Tree.{compound}
 use Rattle.term_store.specs.Heap.{atom_name}
 use Rattle.term_store.specs.Contents.{arguments_at}
-use Rattle.iso_engine.specs.declared.bodies.Step.TheVariants.{Visit, Join}
+use Rattle.iso_engine.specs.declared.bodies.Step.TheVariants.{Visit}
 use Rattle.iso_engine.specs.Spelling.{text_of}
 use Rattle.iso_engine.proofs.Constructing.{how_many}
 use Rattle.iso_engine.proofs.Converting.{as_it_is, both_opened, closed_by_count, closed_by_name, goal_pushed, grows_none, open_by_number}

@@ -1,4 +1,4 @@
-use Rattle.std.proofs.Common.{◌≡◌, sym, ap, ◌∙◌}
+use Rattle.std.proofs.Common.{sym, ap, ◌∙◌}
 use Rattle.pl_model.specs.Control.{construct}
 use Rattle.iso_engine.specs.Spelling.{spelled, text_of}
 use Rattle.iso_engine.proofs.Constructing.{no_goal_integer, no_goal_variable, of_an_atom}

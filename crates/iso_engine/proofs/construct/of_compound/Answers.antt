@@ -1,4 +1,4 @@
-use Rattle.std.proofs.Common.{◌≡◌, ◌==◌, ◌<◌, ◌≤◌, true, false, length, refl, arith}
+use Rattle.std.proofs.Common.{◌==◌, ◌<◌, ◌≤◌, length, refl, arith}
 use Rattle.term_store.specs.Contents.{arguments_at}
 use Rattle.iso_engine.proofs.Constructing.{called, how_many, named_otherwise, too_many, was, was_not}
 use Rattle.iso_engine.proofs.construct.of_compound.Goals as goal

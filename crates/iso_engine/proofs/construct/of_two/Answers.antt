@@ -1,4 +1,4 @@
-use Rattle.std.proofs.Common.{◌≡◌, ◌==◌, true, false, sym, ◌∙◌}
+use Rattle.std.proofs.Common.{sym, ◌∙◌}
 use Rattle.iso_engine.specs.Reading.{reads}
 use Rattle.iso_engine.proofs.Constructing.{is_condition, is_conjunction, is_either, is_inspection, is_none}
 use Rattle.iso_engine.proofs.construct.of_two.Goals as goal

@@ -1,4 +1,4 @@
-use Rattle.std.proofs.Common.{◌≡◌, ◌≢◌, ◌==◌, true, false, length, arith, ◌∙◌}
+use Rattle.std.proofs.Common.{◌≡◌, ◌≢◌, ◌==◌, length, arith, ◌∙◌}
 use Rattle.term_store.specs.Contents.{arguments_at}
 use Rattle.iso_engine.proofs.Constructing.{counted_no_condition, how_many, named_no_condition, was, was_not, with_else}
 use Rattle.iso_engine.proofs.construct.with_condition.Goals as goal

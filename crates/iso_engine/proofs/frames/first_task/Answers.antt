@@ -1,4 +1,4 @@
-use Rattle.std.proofs.Common.{◌≡◌, ◌≤◌, ◌<◌, ◌-◌, ℕ, suc, ◌∷◌, [], ◌++◌, length, sym, ap, ◌∙◌, arith, subst}
+use Rattle.std.proofs.Common.{◌≡◌, ◌<◌, ◌-◌, suc, length, sym, ap, ◌∙◌, arith}
 use Rattle.iso_engine.specs.Frames.{tasks}
 use Rattle.iso_engine.proofs.Stacked.{tasks-zero, tasks-past, tasks-at}
 use Rattle.iso_engine.proofs.frames.first_task.Goals as goal

@@ -1,13 +1,12 @@
-use Rattle.std.proofs.Common.{◌≡◌, ◌≤◌, ◌<◌, ◌+◌, ◌-◌, ℕ, suc, [], ◌∷◌, ◌++◌, length, take, reverse, refl, sym, ap, ap₂, ◌∙◌, subst, arith, length-take}
-use Rattle.pl_term.specs.Tree.{Tree}
-use Rattle.pl_model.specs.Resolution.{Choice, up_to}
+use Rattle.std.proofs.Common.{◌≡◌, ◌<◌, ◌+◌, ◌-◌, suc, [], length, take, reverse, refl, sym, ap, ◌∙◌, subst, arith, length-take}
+use Rattle.pl_model.specs.Resolution.{up_to}
 use Rattle.term_store.specs.Contents.{back_to}
 use Rattle.iso_engine.specs.declared.choices.ChoicePoint.{ChoicePoint}
 use Rattle.iso_engine.specs.declared.search.Search.{Search}
-use Rattle.iso_engine.specs.Choices.{IsAlternativeIn, choice_at, choices_at, node_behind}
-use Rattle.iso_engine.specs.Outcomes.{Setting, limits_in, state_in}
+use Rattle.iso_engine.specs.Choices.{IsAlternativeIn, choices_at, node_behind}
+use Rattle.iso_engine.specs.Outcomes.{limits_in, state_in}
 use Rattle.iso_engine.specs.Reading.{reads}
-use Rattle.iso_engine.specs.Searching.{IsWhole, choices_of, node_of}
+use Rattle.iso_engine.specs.Searching.{choices_of, node_of}
 use Rattle.iso_engine.proofs.Catching.{capped, caught_by_catch, caught_by_no_catch, looked_at, newest_up_to}
 use Rattle.iso_engine.proofs.Over.{length_choices, same_limits}
 use Rattle.iso_engine.proofs.search.Search.back_to_catch.Goals as goal

@@ -1,4 +1,4 @@
-use Rattle.std.proofs.Common.{◌≡◌, suc, [], ◌∷◌, refl, sym, ap, subst, ◌∙◌}
+use Rattle.std.proofs.Common.{◌≡◌, suc, [], ◌∷◌, sym, ap, subst, ◌∙◌}
 use Rattle.pl_model.specs.BodyChecks.{called_goal}
 use Rattle.pl_model.specs.Resolution.{goal as a_goal}
 use Rattle.pl_model.specs.Control.{over}

@@ -1,4 +1,4 @@
-use Rattle.std.proofs.Common.{◌≡◌, IfSome, refl, subst}
+use Rattle.std.proofs.Common.{IfSome, refl, subst}
 use Rattle.term_store.specs.Contents.{Holds}
 use Rattle.iso_engine.specs.declared.outcome.Fault.TheVariants.{NotCallable}
 use Rattle.iso_engine.specs.Conversions.{IsConverted}

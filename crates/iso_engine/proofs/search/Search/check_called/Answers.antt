@@ -1,5 +1,4 @@
-use Rattle.std.proofs.Common.{◌≡◌, refl, ◌∙◌}
-use Rattle.pl_term.specs.Tree.{compound}
+use Rattle.std.proofs.Common.{refl, ◌∙◌}
 use Rattle.term_store.specs.Heap.{atom_name}
 use Rattle.term_store.specs.Contents.{arguments_at}
 use Rattle.iso_engine.proofs.Calling.{callable_atom, callable_term, refused_integer, refused_variable}

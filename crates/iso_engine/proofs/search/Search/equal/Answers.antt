@@ -1,4 +1,4 @@
-use Rattle.std.proofs.Common.{◌≡◌, ◌∙◌}
+use Rattle.std.proofs.Common.{◌∙◌}
 use Rattle.pl_model.specs.Resolution.{State, Node}
 use Rattle.pl_model.specs.Control.{unified}
 use Rattle.pl_model.specs.Unify.{unify}

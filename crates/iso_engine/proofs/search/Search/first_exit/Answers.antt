@@ -1,4 +1,4 @@
-use Rattle.std.proofs.Common.{◌≡◌, ℕ, [], ◌∷◌, map, Option, None, MatchOption, refl, sym, ap, ◌∙◌, subst}
+use Rattle.std.proofs.Common.{◌≡◌, [], ◌∷◌, map, Option, None, MatchOption, ap, ◌∙◌, subst}
 use Rattle.iso_engine.specs.declared.frames.Frame.{Frame}
 use Rattle.iso_engine.specs.Frames.{tasks}
 use Rattle.iso_engine.specs.Outcomes.{limits_in, state_in}

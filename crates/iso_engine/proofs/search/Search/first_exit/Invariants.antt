@@ -1,4 +1,4 @@
-use Rattle.std.proofs.Common.{◌≡◌, ℕ}
+use Rattle.std.proofs.Common.{◌≡◌}
 use Rattle.pl_term.specs.Tree.{Tree}
 use Rattle.pl_model.specs.Control.{thrown}
 use Rattle.iso_engine.specs.Outcomes.{Setting, limits_in, state_in}

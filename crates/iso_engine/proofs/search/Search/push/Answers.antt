@@ -1,4 +1,4 @@
-use Rattle.std.proofs.Common.{reverse, ◌∷◌, [], sym}
+use Rattle.std.proofs.Common.{reverse}
 use Rattle.iso_engine.specs.declared.frames.Frame.{Frame}
 use Rattle.iso_engine.proofs.Growing.{base_pushed, rests_pushed, choices_pushed}
 use Rattle.iso_engine.proofs.search.Search.push.Goals as goal

@@ -1,6 +1,6 @@
-use Rattle.std.proofs.Common.{◌≡◌, ℕ, [], ◌∷◌, length, nat_lt, true, false, refl, sym, ap, ap₂, ◌∙◌, subst, None, Some, arith}
+use Rattle.std.proofs.Common.{◌≡◌, [], ◌∷◌, length, nat_lt, sym, ap, ap₂, ◌∙◌, subst, arith}
 use Rattle.pl_model.specs.Control.{before}
-use Rattle.pl_model.specs.Resolution.{Pending, Choice, Node, goal as a_goal, branch}
+use Rattle.pl_model.specs.Resolution.{goal as a_goal, branch}
 use Rattle.iso_engine.specs.declared.choices.Alternative.TheVariants.{Branch}
 use Rattle.iso_engine.specs.declared.search.Search.{Search}
 use Rattle.iso_engine.specs.Outcomes.{IsMade}

@@ -1,4 +1,4 @@
-use Rattle.std.proofs.Common.{◌≡◌, ◌+◌, ◌<◌, ◌≤◌, ◌^◌, sym, ap, subst, arith}
+use Rattle.std.proofs.Common.{◌≡◌, ◌+◌, ◌<◌, ◌^◌, sym, ap, subst, arith}
 use Rattle.iso_engine.specs.declared.search.Search.{Search}
 use Rattle.iso_engine.specs.Searching.{IsWhole, choices_of}
 use Rattle.iso_engine.proofs.Charging.{ball_fits, choices_taken, taken, whole_taken}

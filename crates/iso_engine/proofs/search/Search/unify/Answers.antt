@@ -1,8 +1,8 @@
-use Rattle.std.proofs.Common.{◌≡◌, ◌<◌, true, false, reverse, refl, subst, sym, ◌∙◌}
+use Rattle.std.proofs.Common.{◌<◌, reverse, refl, subst, sym, ◌∙◌}
 use Rattle.std.specs.List.{All}
 use Rattle.term_store.specs.Contents.{Unified}
 use Rattle.iso_engine.specs.declared.search.Search.{Search}
-use Rattle.iso_engine.specs.Searching.{node_of, choices_of}
+use Rattle.iso_engine.specs.Searching.{node_of}
 use Rattle.iso_engine.proofs.Instances.{base_added, rests_kept, choices_kept, unified_run, unified_fail}
 use Rattle.iso_engine.proofs.search.Search.unify.Goals as goal
 
