@@ -21,6 +21,7 @@ use Rattle.clause_db.specs.declared.db.Home.{Home}
 use Rattle.clause_db.specs.Located.{Locates}
 use Rattle.clause_db.specs.Parts.{Piece, piece, is_part_of, placed, added_to, with_clause}
 use Rattle.clause_db.specs.Sound.{Homed, IsSound}
+use Rattle.clause_db.proofs.Standing.{apart_with}
 use Rattle.clause_db.proofs.Pieces.{no_piece, test}
 
 is_eq-number : (k q : ℕ) → is_eq (nat_cmp k q) ≡ true → k ≡ q
@@ -156,6 +157,7 @@ module _ {C : Type 0} (need : C → ℕ) where
     homed = homed_with homes more next 0 a p c (λ k m. same k (not_at a.place k (omega (arith, l, m)))) xs s.later s.homed (at ∙ ap (λ i. Some (record { part = i; cells = need c })) (omega arith));
     later = later_with next a p c l xs s.later;
     low = let m = s.low in omega (arith, l, m);
+    apart = apart_with a p c xs s.apart;
   }
 
   pub sound_stays : (homes more : BTreeMap ℕ Home) (next floor place : ℕ) (xs : List (Piece C)) → IsSound need xs homes next floor → next ≤ place
@@ -165,4 +167,5 @@ module _ {C : Type 0} (need : C → ℕ) where
     homed = homed_stays homes more next 0 (λ k m. same k (not_at place k (omega (arith, l, m)))) xs s.later s.homed;
     later = s.later;
     low = s.low;
+    apart = s.apart;
   }

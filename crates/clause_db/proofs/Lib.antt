@@ -7,3 +7,5 @@ mod Homes
 mod Adding
 mod Added
 mod Retries
+mod Standing
+mod Erasing

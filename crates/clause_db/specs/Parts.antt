@@ -1,5 +1,6 @@
 -- What the database holds: procedures with their clauses.
-use Rattle.std.specs.Prelude.{ℕ, ◌+◌, List, [], ◌∷◌, ◌++◌, map, find, Option, Some, None, Bool, if◌then◌else◌}
+use Rattle.std.specs.Prelude.{ℕ, zero, suc, ◌+◌, ◌-◌, ◌==◌, ◌&&◌, List, [], ◌∷◌, ◌++◌, map, find, Option, Some, None, Bool, if◌then◌else◌}
+use Rattle.std.specs.List.{list_any}
 use Rattle.std.specs.Option.{option_map_or, option_and_then}
 use Rattle.pl_model.specs.Shown.{proc_of}
 use Rattle.pl_model.specs.History as entries
@@ -7,7 +8,7 @@ use Rattle.pl_model.specs.World.{same_proc}
 use Rattle.pl_model.specs.Database.{is_system}
 use Rattle.pl_model.specs.declared.shows.Proc.{Proc}
 use Rattle.gen_core.specs.declared.dated_clause.DatedClause.{DatedClause}
-use Rattle.gen_core.specs.Visible.{fresh, erased_by}
+use Rattle.gen_core.specs.Visible.{fresh, erased_by, is_live}
 use Rattle.clause_db.specs.declared.access.Access.{Access}
 use Rattle.clause_db.specs.declared.access.Access.TheVariants.{Static}
 use Rattle.clause_db.specs.declared.parts.Part.{Part}
@@ -71,6 +72,23 @@ with_added a p c need h = record h {
   next = a.place + 1;
 }
 
+-- Whether a clause that was added at a place is among these and not erased.
+abbrev pub has_live : {C : Type 0} → ℕ → List (DatedClause C) → Bool
+has_live j ds = list_any (λ d. (d.place == j) && is_live d) ds
+
 -- The clause that was added at a place is erased.
 abbrev pub without_place : {C : Type 0} → ℕ → ℕ → Piece C → Piece C
 without_place j k x = record x { clauses = map (erased_by j k) x.clauses }
+
+-- The clause is erased in the procedure at an index.
+abbrev pub without_at : {C : Type 0} → ℕ → ℕ → ℕ → List (Piece C) → List (Piece C)
+without_at i j k [] = []
+without_at zero j k (x ∷ xs) = without_place j k x ∷ xs
+without_at (suc i) j k (x ∷ xs) = x ∷ without_at i j k xs
+
+abbrev pub erased_held : {C : Type 0} → ℕ → ℕ → ℕ → ℕ → Held C → Held C
+erased_held i j k cells h = record h {
+  parts = without_at i j k h.parts;
+  used = h.used - cells;
+  next = k + 1;
+}

@@ -1,10 +1,22 @@
 -- When the database is sound: each clause is found by the place of the update that added it.
-use Rattle.std.specs.Prelude.{◌≡◌, ℕ, suc, ◌<◌, ◌≤◌, List, [], ◌∷◌, Some, All}
+use Rattle.std.specs.Prelude.{◌≡◌, ℕ, suc, ◌<◌, ◌≤◌, List, [], ◌∷◌, Some, All, map, false}
+use Rattle.std.specs.List.{list_any}
 use Rattle.std.specs.Ordering.{nat_cmp}
 use Rattle.std.specs.BTreeMap as tree
 use Rattle.std.specs.BTreeMap.{BTreeMap}
+use Rattle.pl_model.specs.History.{Proc}
+use Rattle.pl_model.specs.World.{same_proc}
+use Rattle.pl_model.specs.Shown.{proc_of}
 use Rattle.clause_db.specs.declared.db.Home.{Home}
 use Rattle.clause_db.specs.Parts.{Piece}
+
+-- No predicate stands there twice.
+abbrev pub Apart : List Proc → Type 0
+Apart [] = Unit
+Apart (p ∷ ps) = (list_any (same_proc p) ps ≡ false) × Apart ps
+
+abbrev pub names : {C : Type 0} → List (Piece C) → List Proc
+names xs = map (λ x. proc_of x.name) xs
 
 module _ {C : Type 0} (need : C → ℕ) where
   -- Each clause of these procedures, of which the first stands at the index `n`, has its home there.
@@ -16,3 +28,4 @@ module _ {C : Type 0} (need : C → ℕ) where
     pub homed : Homed homes 0 pieces
     pub later : All (λ x. All (λ d. d.place < next) x.clauses) pieces
     pub low : floor ≤ next
+    pub apart : Apart (names pieces)

@@ -1,24 +1,24 @@
 //! The clause database.
-ghost use Rattle.std.specs.Prelude.{◌≡◌, ◌<◌, ◌≤◌, ◌+◌, ◌^◌, Err, Some, None, IfOk, IfSome, IfNone, OnOk, OnErr, true, not, filter};
+ghost use Rattle.std.specs.Prelude.{◌≡◌, ◌<◌, ◌≤◌, ◌+◌, ◌^◌, Err, Some, None, IfOk, IfSome, IfNone, IfErr, OnOk, OnErr, false, true, not, filter};
 ghost use Rattle.std.specs.Result.{MatchResult, IsOkAnd};
-ghost use Rattle.std.specs.Option.{MatchOption};
+ghost use Rattle.std.specs.Option.{MatchOption, option_map_or};
 ghost use Rattle.std.specs.List.{list_any, slice_get};
 ghost use Rattle.std.specs.Ordering.{nat_cmp};
 ghost use Rattle.std.specs.BTreeMap as tree;
 ghost use Rattle.pl_model.specs.Shown.{proc_of, origin_of};
 ghost use Rattle.pl_model.specs.History as entries;
-ghost use Rattle.pl_model.specs.Database.{Database, opening_database, is_at, seen, choices, with_first, with_last};
+ghost use Rattle.pl_model.specs.Database.{Database, opening_database, is_at, is_there, seen, choices, with_first, with_last, without_clause};
 ghost use Rattle.pl_model.specs.FirstArguments.{are_apart};
 ghost use Rattle.gen_core.specs.Hits.{hit_of};
 ghost use Rattle.gen_core.specs.Visible.{first_choice, is_choice, behind};
-ghost use Rattle.clause_db.specs.Parts.{Held, clauses_at, held_access, with_added};
+ghost use Rattle.clause_db.specs.Parts.{Held, clauses_at, held_access, with_added, has_live, erased_held};
 ghost use Rattle.clause_db.specs.Stands.{StandsFor, first_named, after};
 ghost use Rattle.clause_db.specs.Faults.{call_fault, addition_fault, held_call_fault, held_addition_fault, is_held_closed};
 ghost use Rattle.clause_db.specs.declared.fault.DbFault.TheVariants.{Memory as NoMemory};
 
 use crate::access::{Access, By};
 use crate::fault::DbFault;
-use crate::parts::{Addition, End, Part, add_to, part_at};
+use crate::parts::{Addition, End, Part, add_to, erase_in, part_at};
 use crate::system::is_system;
 use gen_core::Hit;
 use pl_model::kept::Kept;
@@ -288,6 +288,48 @@ impl<C: Kept> Db<C> {
         match origin {
             Origin::Consult => is_system(p),
             Origin::Assert => matches!(self.access_of(p), Some(Access::Static)),
+        }
+    }
+
+    /// Erases the clause that was added at the place `clause` (ISO 8.9.3), by the update at `place`, which is behind all
+    /// updates so far. The answer is false where it is not there or erased already; then nothing has changed. The only
+    /// error is `Memory`; after it the database is as it was.
+    pub fn erase(&mut self, clause: u64, place: u64) -> Result<bool, DbFault>
+        requires bound { place < 2 ^ 49 }
+        requires later { self.old.next ≤ place }
+        ensures was { (d : Database C) → StandsFor C.size self.old d → IfOk result (λ b. b ≡ is_there clause d) }
+        ensures erased { (d : Database C) → StandsFor C.size self.old d
+            → IfOk result (λ b. b ≡ true → StandsFor C.size self.new (without_clause clause place d)) }
+        ensures rest { IfOk result (λ b. b ≡ true → (self.new.next ≡ place + 1) × (self.new.floor ≡ self.old.floor)) }
+        ensures gone { IfOk result (λ b. b ≡ false → self.new ≡ self.old) }
+        ensures err { IfErr result (λ e. (e ≡ NoMemory) × (self.new ≡ self.old)) }
+    {
+        match self.homes.get(&clause) {
+            Some(home) => {
+                let home = *home;
+                self.erase_at(home, clause, place)
+            }
+            None => Ok(false),
+        }
+    }
+
+    /// Erases a clause in the procedure in which it has its home.
+    fn erase_at(&mut self, home: Home, clause: u64, place: u64) -> Result<bool, DbFault>
+        requires bound { place < 2 ^ 49 }
+        requires later { self.old.next ≤ place }
+        ensures was { IfOk result (λ b. b ≡ option_map_or (λ x. has_live clause x.clauses) (slice_get self.old.parts home.part) false) }
+        ensures erased { IfOk result (λ b. b ≡ true → self.new ≡ erased_held home.part clause place home.cells self.old) }
+        ensures gone { IfOk result (λ b. b ≡ false → self.new ≡ self.old) }
+        ensures err { IfErr result (λ e. (e ≡ NoMemory) × (self.new ≡ self.old)) }
+    {
+        match erase_in(&mut self.parts, home.part, clause, place) {
+            Ok(true) => {
+                self.used = self.used.saturating_sub(home.cells);
+                self.next = place + 1;
+                Ok(true)
+            }
+            Ok(false) => Ok(false),
+            Err(Memory) => Err(DbFault::Memory),
         }
     }
 }

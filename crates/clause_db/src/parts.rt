@@ -1,8 +1,10 @@
 //! Procedures with their clauses.
-ghost use Rattle.std.specs.Prelude.{◌≡◌, ◌<◌, ◌^◌, ◌++◌, ◌∷◌, [], None, All, IfOk, IfErr, OnOk, bytes_eq, map};
+ghost use Rattle.std.specs.Prelude.{◌≡◌, ◌<◌, ◌^◌, ◌++◌, ◌∷◌, [], None, All, IfOk, IfErr, OnOk, OnErr, false, bytes_eq, map};
+ghost use Rattle.std.specs.List.{slice_get};
+ghost use Rattle.std.specs.Option.{option_map_or};
 ghost use Rattle.pl_model.specs.Shown.{proc_of};
 ghost use Rattle.pl_model.specs.World.{same_proc};
-ghost use Rattle.clause_db.specs.Parts.{piece, is_part_of, added_to, with_clause, placed};
+ghost use Rattle.clause_db.specs.Parts.{piece, is_part_of, added_to, with_clause, placed, has_live, without_at};
 ghost use Rattle.clause_db.specs.Located.{Locates};
 ghost use Rattle.gen_core.specs.Visible.{fresh};
 ghost use Rattle.clause_db.specs.Access.{opened as opened_by};
@@ -164,4 +166,22 @@ fn add_new<C: Kept>(
         }
         Err(refused) => Err(refused),
     }
+}
+
+/// Erases a clause in the procedure that stands at the index, and says whether it was there and not erased before. The only
+/// error is want of memory; after it all is as it was.
+pub fn erase_in<C: Kept>(
+    parts: &mut Vec<Part<C>>,
+    i: usize,
+    clause: u64,
+    place: u64,
+) -> Result<bool, Memory>
+    ensures was { IfOk result (λ b. b ≡ option_map_or (λ x. has_live clause x.clauses) (slice_get (map piece parts.old.items) i) false) }
+    ensures ok { OnOk result (map piece parts.new.items ≡ without_at i clause place (map piece parts.old.items)) }
+    ensures err { OnErr result (parts.new.items ≡ parts.old.items) }
+{
+    if i < parts.as_slice().len() {
+        return parts[i].clauses.erase(clause, place);
+    }
+    Ok(false)
 }
