@@ -195,6 +195,26 @@ fn a_clause_is_found_from_its_generation_on(rt: HostRuntime) -> Result<(), Fail>
 }
 
 #[test]
+fn a_clause_is_erased_once(rt: HostRuntime) -> Result<(), Fail> {
+    let alloc = rt.alloc();
+    let mut db: Db<Flat> = Db::new(alloc)?;
+    let p = procedure(alloc, true)?;
+    let first = fact(alloc, true, Some(1))?.key(alloc)?;
+    let Ok(()) = db.add_last(&p, fact(alloc, true, Some(1))?, Origin::Assert, 0) else {
+        assert!(rt; false);
+        return Ok(());
+    };
+    let Ok(true) = db.erase(0, 1) else {
+        assert!(rt; false);
+        return Ok(());
+    };
+    assert!(rt; matches!(db.call(&p, &first, 1, By::Goal), Ok(Some(_))));
+    assert!(rt; matches!(db.call(&p, &first, 2, By::Goal), Ok(None)));
+    assert!(rt; matches!(db.erase(0, 2), Ok(false)));
+    Ok(())
+}
+
+#[test]
 fn a_static_procedure_is_private(rt: HostRuntime) -> Result<(), Fail> {
     let alloc = rt.alloc();
     let mut db: Db<Flat> = Db::new(alloc)?;
