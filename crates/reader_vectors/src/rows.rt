@@ -71,7 +71,7 @@ const GROUPS: [(Quotes, Added, &str); 19] = [
 ];
 
 /// The bytes that a field of a row stands for: `¶` stands before the number of a byte in three digits.
-fn bytes_of(alloc: Global, field: &str) -> Result<Vec<u8>, Fail> {
+pub fn bytes_of(alloc: Global, field: &str) -> Result<Vec<u8>, Fail> {
     let mut parts = field.split('¶');
     let mut bytes = Vec::new(alloc);
     bytes.extend_from_slice(parts.next().ok_or("a text")?.as_bytes())?;
