@@ -1,0 +1,6 @@
+pub mod AddsLemmas
+pub mod Endings
+pub mod LineLemmas
+pub mod BindingLemmas
+pub mod SectionLemmas
+pub mod ReportLaws

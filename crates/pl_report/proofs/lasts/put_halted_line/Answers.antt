@@ -1,0 +1,6 @@
+use Rattle.pl_report.proofs.AddsLemmas.{adds_then, adds_newline}
+use Rattle.pl_report.proofs.lasts.put_halted_line.Goals as goal
+
+pub returns : goal.returns
+returns c =
+    adds_then (adds_then c.in_ok-put_halted.ensures c.in_ok-put_words.ensures) (adds_newline c.in_ok-end_line.ensures)

@@ -1,0 +1,6 @@
+use Rattle.pl_report.proofs.AddsLemmas.{adds_then, adds_newline}
+use Rattle.pl_report.proofs.sections.put_thread_head.Goals as goal
+
+pub returns : goal.returns
+returns c =
+    adds_then c.in_ok-put_words.ensures (adds_then c.in_ok-put.ensures (adds_newline c.in_ok-end_line.ensures))

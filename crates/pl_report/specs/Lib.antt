@@ -1,0 +1,4 @@
+pub mod Adds
+pub mod Sections
+pub mod Pieces
+pub mod Reported

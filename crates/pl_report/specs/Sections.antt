@@ -1,0 +1,81 @@
+-- The text of a run, from its sections: the lines are those of the report of a run, put together from what was written in
+-- each section and how its engine ended.
+use Rattle.std.specs.Prelude.{◌≡◌, ℕ, List, [], ◌∷◌, ◌++◌, Bool, true, false, Option, Some, None, codes, decimal, encode_utf8_all}
+use Rattle.pl_term.specs.Tree.{Chars}
+use Rattle.pl_model.specs.declared.syntax.SyntaxKind.{SyntaxKind}
+use Rattle.pl_model.specs.OperatorTable.{OperatorTable}
+use Rattle.pl_model.specs.Resolution.{solved, no_more, threw, halted}
+use Rattle.pl_model.specs.Report.{newline, closed, with_line, kind_text, halted_text, with_end, with_last, goal_line}
+use Rattle.pl_report.specs.declared.parts.How.{How}
+use Rattle.pl_report.specs.declared.parts.How.TheVariants.{Solved, False, Threw, Exited, Halted, AtomSpace}
+use Rattle.pl_report.specs.declared.parts.GoalHow.{GoalHow}
+use Rattle.pl_report.specs.declared.parts.GoalHow.TheVariants.{Ended, Waits, Syntax}
+use Rattle.pl_report.specs.declared.parts.SectionKind.{SectionKind}
+use Rattle.pl_report.specs.declared.parts.SectionKind.TheVariants.{Consult, Goal, Thread}
+use Rattle.pl_report.specs.declared.parts.Section.{Section}
+
+-- The last line for an engine that found no place for an atom.
+abbrev pub no_atoms_line : Chars
+no_atoms_line = codes "error: resource_error(atom_space)."
+
+-- The last line for a goal word that is no term.
+abbrev pub fault_line : SyntaxKind → ℕ → Chars
+fault_line kind at = codes "syntax error: " ++ (kind_text kind ++ (codes " at " ++ (decimal at ++ codes ".")))
+
+-- The text of a goal with the last line that its engine's end gives.
+abbrev pub with_how : OperatorTable → Chars → How → Chars
+with_how ops t Solved = with_end ops t solved
+with_how ops t False = with_end ops t no_more
+with_how ops t (Threw b) = with_end ops t (threw b)
+with_how ops t Exited = t
+with_how ops t (Halted n) = with_end ops t (halted n)
+with_how ops t AtomSpace = with_line t no_atoms_line
+
+-- A goal that has given the solutions that were wanted has no last line, nor has one that never began.
+abbrev pub with_goal_how : Bool → OperatorTable → Chars → Option GoalHow → Chars
+with_goal_how true ops t how = t
+with_goal_how false ops t None = t
+with_goal_how false ops t (Some (Ended how)) = with_how ops t how
+with_goal_how false ops t (Some Waits) = with_last ops t None
+with_goal_how false ops t (Some (Syntax kind at)) = with_line t (fault_line kind at)
+
+-- The last line of a thread, where it waits, halted or found no place for an atom.
+abbrev pub thread_how_line : How → Option Chars
+thread_how_line Solved = None
+thread_how_line False = None
+thread_how_line (Threw b) = None
+thread_how_line Exited = None
+thread_how_line (Halted n) = Some (halted_text n ++ codes ".")
+thread_how_line AtomSpace = Some no_atoms_line
+
+abbrev pub thread_last : Option GoalHow → Option Chars
+thread_last None = None
+thread_last (Some (Ended how)) = thread_how_line how
+thread_last (Some Waits) = Some (codes "waiting.")
+thread_last (Some (Syntax kind at)) = None
+
+abbrev pub thread_head : Chars → Chars
+thread_head name = codes "% thread " ++ (name ++ newline)
+
+-- A thread that wrote nothing and has no last line has no section.
+abbrev pub thread_text : Chars → Chars → Option Chars → Chars
+thread_text name [] None = []
+thread_text name (c ∷ cs) None = thread_head name ++ closed (c ∷ cs)
+thread_text name t (Some line) = thread_head name ++ with_line t line
+
+abbrev pub section_text : SectionKind → Chars → Option GoalHow → OperatorTable → Chars
+section_text Consult t how ops = closed t
+section_text (Goal word enough) t how ops = goal_line word ++ closed (with_goal_how enough ops t how)
+section_text (Thread name) t how ops = thread_text name t (thread_last how)
+
+-- What was written in the sections is these texts.
+abbrev pub AreWritten : List Section → List Chars → Type 0
+AreWritten [] [] = Unit {0}
+AreWritten (s ∷ ss) (t ∷ ts) = (s.text.items ≡ encode_utf8_all t) × AreWritten ss ts
+AreWritten _ _ = ⊥
+
+-- The text of sections in which these texts were written.
+abbrev pub transcript_text : List Section → List Chars → Chars
+transcript_text [] ts = []
+transcript_text (s ∷ ss) [] = []
+transcript_text (s ∷ ss) (t ∷ ts) = section_text s.kind t s.how s.ops ++ transcript_text ss ts
