@@ -9,3 +9,4 @@ mod Added
 mod Retries
 mod Standing
 mod Erasing
+mod Settings

@@ -4,3 +4,5 @@ pub mod Sound
 pub mod Located
 pub mod Stands
 pub mod Faults
+pub mod Flags
+pub mod Operators

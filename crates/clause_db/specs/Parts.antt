@@ -6,6 +6,8 @@ use Rattle.pl_model.specs.Shown.{proc_of}
 use Rattle.pl_model.specs.History as entries
 use Rattle.pl_model.specs.World.{same_proc}
 use Rattle.pl_model.specs.Database.{is_system}
+use Rattle.pl_model.specs.Flags.{Flags}
+use Rattle.pl_model.specs.OperatorTable.{OperatorTable}
 use Rattle.pl_model.specs.declared.shows.Proc.{Proc}
 use Rattle.gen_core.specs.declared.dated_clause.DatedClause.{DatedClause}
 use Rattle.gen_core.specs.Visible.{fresh, erased_by, is_live}
@@ -27,11 +29,13 @@ pub record Piece (C : Type 0) : Type 0 where
 abbrev pub piece : {C K : Type 0} → Part C K → Piece C
 piece x = record { name = x.name; access = x.access; clauses = x.clauses }
 
--- The procedures, in the order in which they were made; the cells of the clauses that are not erased; a bound on the
--- places of the updates so far; and the generation from which on each call finds its clauses.
+-- The procedures, in the order in which they were made; the cells of the clauses that are not erased; the flags and the
+-- operators; a bound on the places of the updates so far; and the generation from which on each call finds its clauses.
 pub record Held (C : Type 0) : Type 0 where
   pub parts : List (Piece C)
   pub used : ℕ
+  pub flags : Flags
+  pub operators : OperatorTable
   pub next : ℕ
   pub floor : ℕ
 

@@ -1,5 +1,5 @@
 //! The clause database.
-ghost use Rattle.std.specs.Prelude.{◌≡◌, ◌<◌, ◌≤◌, ◌+◌, ◌^◌, Err, Some, None, IfOk, IfSome, IfNone, IfErr, OnOk, OnErr, false, true, not, filter};
+ghost use Rattle.std.specs.Prelude.{◌≡◌, ◌<◌, ◌≤◌, ◌+◌, ◌^◌, ◌⊎◌, Err, Some, None, IfOk, IfSome, IfNone, IfErr, OnOk, OnErr, false, true, not, filter, map, length};
 ghost use Rattle.std.specs.Result.{MatchResult, IsOkAnd};
 ghost use Rattle.std.specs.Option.{MatchOption, option_map_or};
 ghost use Rattle.std.specs.List.{list_any, slice_get};
@@ -9,18 +9,27 @@ ghost use Rattle.pl_model.specs.Shown.{proc_of, origin_of};
 ghost use Rattle.pl_model.specs.History as entries;
 ghost use Rattle.pl_model.specs.Database.{Database, opening_database, is_at, is_there, seen, choices, with_first, with_last, without_clause};
 ghost use Rattle.pl_model.specs.FirstArguments.{are_apart};
+ghost use Rattle.pl_model.specs.Flags.{opening_flags, with_flag};
+ghost use Rattle.pl_model.specs.OperatorTable.{opening_table};
+ghost use Rattle.pl_model.specs.SharedState.{with_operators};
 ghost use Rattle.gen_core.specs.Hits.{hit_of};
 ghost use Rattle.gen_core.specs.Visible.{first_choice, is_choice, behind};
 ghost use Rattle.clause_db.specs.Parts.{Held, clauses_at, held_access, with_added, has_live, erased_held};
 ghost use Rattle.clause_db.specs.Stands.{StandsFor, first_named, after};
 ghost use Rattle.clause_db.specs.Faults.{call_fault, addition_fault, held_call_fault, held_addition_fault, is_held_closed};
+ghost use Rattle.clause_db.specs.Flags.{flags_as, flag_name, value_name};
+ghost use Rattle.clause_db.specs.Operators.{shown, first_fault};
 ghost use Rattle.clause_db.specs.declared.fault.DbFault.TheVariants.{Memory as NoMemory};
+ghost use Rattle.op_table.specs.declared.fault.OpFault.TheVariants.{Memory as NoRoom};
 
 use crate::access::{Access, By};
 use crate::fault::DbFault;
+use crate::flags::{Flag, FlagValue, Flags, first_flags, flags_with};
+use crate::operators::table_with;
 use crate::parts::{Addition, End, Part, add_to, erase_in, part_at};
 use crate::system::is_system;
 use gen_core::Hit;
+use op_table::{OpFault, OpTable, Operator};
 use pl_model::kept::Kept;
 use pl_model::shows::{Origin, Proc};
 use pl_term::Memory;
@@ -38,14 +47,16 @@ pub struct Home {
     pub cells: u64,
 }
 
-/// The procedures of the program with their clauses, each with the places of the updates that added and that erased it.
-/// A clause is named by the place of the update that added it.
+/// The procedures of the program with their clauses, each with the places of the updates that added and that erased it,
+/// and the flags and operators. A clause is named by the place of the update that added it.
 #[derive(Drop)]
 pub struct Db<C: Kept> {
     alloc: Global,
     parts: Vec<Part<C>>,
     homes: BTreeMap<u64, Home>,
     used: u64,
+    flags: Flags,
+    operators: OpTable,
     next: u64,
     floor: u64,
 }
@@ -54,10 +65,15 @@ impl<C: Kept> Model for Db<C> {
     ghost use Rattle.std.specs.Prelude.{map};
     ghost use Rattle.clause_db.specs.Parts.{Held, piece};
     ghost use Rattle.clause_db.specs.Sound.{IsSound};
+    ghost use Rattle.clause_db.specs.Flags.{flags_as};
+    ghost use Rattle.std.specs.Coded.{codes};
+    ghost use Rattle.pl_model.specs.OperatorTable.{table_code};
 
     ghost Value = { Held C };
 
-    ghost view = { λ d. record { parts = map piece d.parts.items; used = d.used; next = d.next; floor = d.floor } };
+    ghost coded = { Prim.hlevel (codes, table_code, C.code) };
+
+    ghost view = { λ d. record { parts = map piece d.parts.items; used = d.used; flags = flags_as d.flags; operators = d.operators; next = d.next; floor = d.floor } };
 
     ghost invariant = { λ d. IsSound C.size (map piece d.parts.items) d.homes d.next d.floor };
 }
@@ -80,16 +96,20 @@ fn unsettle(homes: &mut BTreeMap<u64, Home>, place: u64)
 }
 
 impl<C: Kept> Db<C> {
-    /// No procedures. The only error is want of memory.
+    /// No procedures, with the flags and operators of the start. The only error is want of memory.
     pub fn new(alloc: Global) -> Result<Db<C>, Memory>
         ensures stands { IfOk result (λ d. StandsFor C.size d opening_database) }
         ensures start { IfOk result (λ d. (d.next ≡ 0) × (d.floor ≡ 0)) }
+        ensures settings { IfOk result (λ d. (d.flags ≡ opening_flags) × (d.operators ≡ opening_table)) }
     {
+        let operators = OpTable::iso(alloc)?;
         Ok(Db {
             alloc,
             parts: Vec::new(alloc),
             homes: BTreeMap::new(alloc),
             used: 0,
+            flags: first_flags(),
+            operators,
             next: 0,
             floor: 0,
         })
@@ -194,6 +214,7 @@ impl<C: Kept> Db<C> {
             (λ _. StandsFor C.size self.new (with_first place (proc_of p.now) clause (origin_of origin) d))
             (λ e. e ≡ (clause, NoMemory))) }
         ensures rest { OnOk result ((self.new.next ≡ place + 1) × (self.new.floor ≡ self.old.floor)) }
+        ensures settings { OnOk result ((self.new.flags ≡ self.old.flags) × (self.new.operators ≡ self.old.operators)) }
         ensures unchanged { OnErr result (self.new ≡ self.old) }
     {
         let by = Addition {
@@ -224,6 +245,7 @@ impl<C: Kept> Db<C> {
             (λ _. StandsFor C.size self.new (with_last place (proc_of p.now) clause (origin_of origin) d))
             (λ e. e ≡ (clause, NoMemory))) }
         ensures rest { OnOk result ((self.new.next ≡ place + 1) × (self.new.floor ≡ self.old.floor)) }
+        ensures settings { OnOk result ((self.new.flags ≡ self.old.flags) × (self.new.operators ≡ self.old.operators)) }
         ensures unchanged { OnErr result (self.new ≡ self.old) }
     {
         let by = Addition {
@@ -301,6 +323,7 @@ impl<C: Kept> Db<C> {
         ensures erased { (d : Database C) → StandsFor C.size self.old d
             → IfOk result (λ b. b ≡ true → StandsFor C.size self.new (without_clause clause place d)) }
         ensures rest { IfOk result (λ b. b ≡ true → (self.new.next ≡ place + 1) × (self.new.floor ≡ self.old.floor)) }
+        ensures settings { IfOk result (λ b. b ≡ true → (self.new.flags ≡ self.old.flags) × (self.new.operators ≡ self.old.operators)) }
         ensures gone { IfOk result (λ b. b ≡ false → self.new ≡ self.old) }
         ensures err { IfErr result (λ e. (e ≡ NoMemory) × (self.new ≡ self.old)) }
     {
@@ -331,5 +354,56 @@ impl<C: Kept> Db<C> {
             Ok(false) => Ok(false),
             Err(Memory) => Err(DbFault::Memory),
         }
+    }
+
+    /// The flags that can be changed, with their values.
+    pub fn flags(&self) -> Flags
+        ensures { flags_as result ≡ self.now.flags }
+    {
+        self.flags
+    }
+
+    /// Gives a flag a value (set_prolog_flag/2, ISO 8.17.1), by the update at `place`, which is behind all updates so far.
+    /// A value that the flag cannot have leaves the flags as they are.
+    pub fn set_flag(&mut self, flag: Flag, value: FlagValue, place: u64)
+        requires bound { place < 2 ^ 49 }
+        requires later { self.old.next ≤ place }
+        ensures set { self.new ≡ record self.old { flags = with_flag (flag_name flag) (value_name value) self.old.flags; next = place + 1 } }
+        ensures stands { (d : Database C) → StandsFor C.size self.old d → StandsFor C.size self.new d }
+    {
+        self.flags = flags_with(self.flags, flag, value);
+        self.next = place + 1;
+    }
+
+    /// The table of operators.
+    pub fn operators(&self) -> &OpTable
+        ensures { result.now ≡ self.now.operators }
+    {
+        &self.operators
+    }
+
+    /// Puts operators into the table, one after the other (op/3, ISO 8.14.3), by the update at `place`, which is behind all
+    /// updates so far. An error is the first cause of the first operator that is refused at its turn, or want of memory;
+    /// after an error the database is as it was.
+    pub fn set_op(&mut self, operators: &[Operator], place: u64) -> Result<(), OpFault>
+        requires bound { place < 2 ^ 49 }
+        requires later { self.old.next ≤ place }
+        ensures granted { OnOk result (first_fault operators.now self.old.operators ≡ None) }
+        ensures set { OnOk result (self.new ≡ record self.old { operators = with_operators (map shown operators.now) self.old.operators; next = place + 1 }) }
+        ensures stands { OnOk result ((d : Database C) → StandsFor C.size self.old d → StandsFor C.size self.new d) }
+        ensures err { IfErr result (λ f. (f ≡ NoRoom) ⊎ (first_fault operators.now self.old.operators ≡ Some f)) }
+        ensures unchanged { OnErr result (self.new ≡ self.old) }
+    {
+        let changed = table_with(self.alloc, &self.operators, operators)?;
+        self.operators = changed;
+        self.next = place + 1;
+        Ok(())
+    }
+
+    /// How many procedures have stood in the database, those without clauses included.
+    pub fn procedures(&self) -> u64
+        ensures { result ≡ length self.now.parts }
+    {
+        self.parts.len() as u64
     }
 }

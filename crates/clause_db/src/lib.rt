@@ -4,6 +4,8 @@
 mod access;
 mod db;
 mod fault;
+mod flags;
+mod operators;
 mod parts;
 mod system;
 #[cfg(test)]
@@ -12,5 +14,8 @@ mod tests;
 pub use access::{Access, By};
 pub use db::Db;
 pub use fault::DbFault;
+pub use flags::{Flag, FlagValue, Flags, UnknownCall};
 pub use gen_core::{Dated, DatedClause, Drops, Hit};
+pub use op_table::{Kind, OpFault, OpTable, Operator};
+pub use pl_model::grammar::Quotes;
 pub use pl_model::shows::{Origin, Proc};

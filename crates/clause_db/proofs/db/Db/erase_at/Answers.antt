@@ -1,4 +1,5 @@
 use Rattle.std.proofs.Common.{◌+◌, ◌≤◌, map, ap, sym, subst, ◌∙◌}
+use Rattle.clause_db.specs.Flags.{flags_as}
 use Rattle.clause_db.specs.Parts.{piece}
 use Rattle.clause_db.specs.Sound.{IsSound}
 use Rattle.clause_db.proofs.Erasing.{sound_without, unchanged_at}
@@ -18,6 +19,6 @@ invariant_of-self-in-Ok-false g c =
 
 pub returns-in-Ok-false-clause-gone : goal.returns-in-Ok-false-clause-gone
 returns-in-Ok-false-clause-gone g c = λ _.
-    ap (λ l. record { parts = l; used = c.self.inside.used; next = c.self.inside.next; floor = c.self.inside.floor })
+    ap (λ l. record { parts = l; used = c.self.inside.used; flags = flags_as c.self.inside.flags; operators = c.self.inside.operators; next = c.self.inside.next; floor = c.self.inside.floor })
     (c.in-Ok-false.ensures.ok ∙ unchanged_at g.C.Kept.size c.args.clause c.args.place c.args.home.part (map piece c.self.inside.parts.items) (sym c.in-Ok-false.ensures.was ∙ c.in-Ok-false.field-0-test))
     ∙ c.self.view_is

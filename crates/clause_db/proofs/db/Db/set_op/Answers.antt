@@ -1,0 +1,16 @@
+use Rattle.std.proofs.Common.{◌+◌, ◌≤◌, map, sym, subst}
+use Rattle.clause_db.specs.Flags.{flags_as}
+use Rattle.clause_db.specs.Parts.{Held, piece}
+use Rattle.clause_db.specs.Stands.{StandsFor}
+use Rattle.clause_db.proofs.Settings.{sound_set, stands_set}
+use Rattle.clause_db.proofs.db.Db.set_op.Goals as goal
+
+pub invariant_of-self : goal.invariant_of-self
+invariant_of-self g c =
+    sound_set g.C.Kept.size c.self.inside.homes c.self.inside.next c.self.inside.floor c.args.place (map piece c.self.inside.parts.items) c.self.invariant
+    (subst (λ h. h.next ≤ c.args.place) (sym c.self.view_is) c.requires.later)
+
+pub returns-clause-stands : goal.returns-clause-stands
+returns-clause-stands g c = λ d s.
+    subst (λ (h : Held g.row.C.Denot). StandsFor g.C.Kept.size (record h { flags = flags_as c.self.inside.flags; operators = c.in_ok-changed.changed; next = c.args.place + 1 }) d) (sym c.self.view_is)
+    (stands_set g.C.Kept.size c.args.self.now d (flags_as c.self.inside.flags) c.in_ok-changed.changed c.args.place c.requires.later s)
