@@ -1,7 +1,7 @@
 //! A database beside a plain list of clauses that is searched from its front.
 ghost use Rattle.std.specs.Prelude.{◌≡◌, ◌<◌, ◌≤◌, ◌+◌, ◌^◌};
 
-use crate::{By, Db, DbFault, Origin, Proc};
+use crate::{By, Db, DbFault, Flag, FlagValue, Kind, Operator, Origin, Proc, Quotes, UnknownCall};
 use pl_model::kept::Kept;
 use pl_term::{Flat, Memory, Text};
 use std::alloc::Global;
@@ -230,5 +230,24 @@ fn a_static_procedure_is_private(rt: HostRuntime) -> Result<(), Fail> {
         Err((_, fault)) => assert!(rt; fault == DbFault::Static),
         Ok(()) => assert!(rt; false),
     }
+    Ok(())
+}
+
+#[test]
+fn flags_and_operators_are_set(rt: HostRuntime) -> Result<(), Fail> {
+    let alloc = rt.alloc();
+    let mut db: Db<Flat> = Db::new(alloc)?;
+    db.set_flag(Flag::Unknown, FlagValue::Fail, 0);
+    assert!(rt; matches!(db.flags().unknown, UnknownCall::Fails));
+    assert!(rt; matches!(db.flags().double_quotes, Quotes::Codes));
+    let arrow = Operator {
+        name: Text::from_str(alloc, "===>")?,
+        priority: 700,
+        kind: Kind::Xfx,
+    };
+    let name = Text::from_str(alloc, "===>")?;
+    assert!(rt; db.set_op(&[arrow], 1).is_ok());
+    assert!(rt; matches!(db.operators().infix(&name), Some((700, Kind::Xfx))));
+    assert_eq!(rt; db.procedures(), 0);
     Ok(())
 }
