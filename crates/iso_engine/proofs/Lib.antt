@@ -4,6 +4,7 @@ pub mod Charging
 pub mod Constructing
 pub mod Converting
 pub mod Cutting
+pub mod Enlarging
 pub mod Equalling
 pub mod Growing
 pub mod Grown

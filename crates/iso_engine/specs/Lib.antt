@@ -4,6 +4,7 @@ pub mod Choices
 pub mod Constructs
 pub mod Conversions
 pub mod Errors
+pub mod Extending
 pub mod Failures
 pub mod Frames
 pub mod Outcomes

@@ -8,6 +8,7 @@ pub mod choices;
 pub mod construct;
 pub mod control;
 pub mod equal;
+pub mod extending;
 pub mod failure;
 pub mod frames;
 pub mod outcome;
