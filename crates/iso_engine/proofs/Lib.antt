@@ -17,5 +17,6 @@ pub mod Resting
 pub mod Resuming
 pub mod Spelt
 pub mod Stacked
+pub mod Taking
 pub mod Texts
 pub mod Turning

@@ -7,6 +7,7 @@ pub mod Errors
 pub mod Extending
 pub mod Failures
 pub mod Frames
+pub mod Goals
 pub mod Outcomes
 pub mod Reading
 pub mod Searching

@@ -1,5 +1,5 @@
 -- What running a goal leads to, as states of the search.
-use Rattle.std.specs.Prelude.{◌≡◌, ℕ, List, ◌∷◌, length, Option, Some, None, true, false, nat_lt, codes}
+use Rattle.std.specs.Prelude.{◌≡◌, ℕ, ℤ, pos, negsuc, List, ◌∷◌, length, Option, Some, None, true, false, nat_lt, nat_le, if◌then◌else◌, codes}
 use Rattle.pl_term.specs.Tree.{Chars, Tree}
 use Rattle.pl_model.specs.History.{Proc}
 use Rattle.pl_model.specs.Balls.{error_ball, instantiation_error, type_error, not_callable, no_inferences, no_cells, no_choices}
@@ -69,6 +69,11 @@ IsMade v (Some height) e a behind d =
     (nat_lt (length (choices_of v e)) e.budgets.choices ≡ true)
     × (choices_of v d ≡ choice_at v (reads v e.store) (node_of v e behind) a ∷ choices_of v e)
     × (height ≡ length (choices_of v e))
+
+-- What comes of an exit with a status at a place.
+abbrev pub status_outcome : Place → ℤ → Outcome
+status_outcome w (pos k) = if nat_le k 254 then Halt k else Raise (NotStatus w)
+status_outcome w (negsuc k) = Raise (NotStatus w)
 
 abbrev pub exit_at : Exit → ℕ → Pending
 exit_at Commit h = commit h

@@ -11,6 +11,8 @@ pub mod equal;
 pub mod extending;
 pub mod failure;
 pub mod frames;
+pub mod goals;
+pub mod leaving;
 pub mod outcome;
 pub mod search;
 pub mod spelling;
