@@ -12,6 +12,7 @@ pub mod Heights
 pub mod Instances
 pub mod Listing
 pub mod Naming
+pub mod Others
 pub mod Over
 pub mod Resting
 pub mod Resuming

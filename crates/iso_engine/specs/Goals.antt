@@ -31,3 +31,26 @@ run_counted l s n g (catches t c r) = with_catch l s n g t c r
 run_counted l s n g (throws t) = with_throw s n g t
 run_counted l s n g (halts t) = with_status s n g t
 run_counted l s n g _ = s
+
+-- It is no control construct that makes an inference.
+abbrev pub IsUncounted : Construct → Type 0
+IsUncounted constructs.Fails = ⊥
+IsUncounted constructs.Repeats = ⊥
+IsUncounted (constructs.Calls t a) = ⊥
+IsUncounted (constructs.NotProvable t) = ⊥
+IsUncounted (constructs.Once t) = ⊥
+IsUncounted (constructs.Catches t c r) = ⊥
+IsUncounted (constructs.Throws t) = ⊥
+IsUncounted (constructs.Halts t) = ⊥
+IsUncounted constructs.HaltsWithZero = ⊥
+IsUncounted _ = Unit {0}
+
+-- Nor one that makes none.
+abbrev pub IsLeft : Construct → Type 0
+IsLeft constructs.Succeeds = ⊥
+IsLeft constructs.Cuts = ⊥
+IsLeft (constructs.Conjunction t u) = ⊥
+IsLeft (constructs.Disjunction t u) = ⊥
+IsLeft (constructs.IfThen c t) = ⊥
+IsLeft (constructs.IfThenElse c t u) = ⊥
+IsLeft k = IsUncounted k

@@ -1,11 +1,11 @@
 //! Goals that are run by control constructs alone.
-ghost use Rattle.std.specs.Prelude.{◌≡◌, ◌≤◌, ℕ, length, IfOk, IfSome, OnOk};
+ghost use Rattle.std.specs.Prelude.{◌≡◌, ◌≤◌, ℕ, length, IfNone, IfOk, IfSome, MatchOption, OnOk};
 ghost use Rattle.pl_model.specs.World.{proc_of};
 ghost use Rattle.pl_model.specs.Resolution.{goes};
 ghost use Rattle.pl_model.specs.Control.{take_up};
 ghost use Rattle.term_store.specs.Contents.{Holds};
 ghost use Rattle.iso_engine.specs.Constructs.{IsConstructIn, construction};
-ghost use Rattle.iso_engine.specs.Goals.{flat, run_counted};
+ghost use Rattle.iso_engine.specs.Goals.{IsLeft, IsUncounted, flat, run_counted};
 ghost use Rattle.iso_engine.specs.Outcomes.{Setting, limits_in, result_in, state_in};
 ghost use Rattle.iso_engine.specs.Reading.{IsView, reads};
 ghost use Rattle.iso_engine.specs.Searching.{IsWhole, node_of};
@@ -35,7 +35,7 @@ pub enum Counted {
 
 /// The construct, if it is a control construct that makes an inference.
 fn counted_of(construct: Construct) -> Option<Counted>
-    ensures { IfSome result (λ k. flat k ≡ construct) }
+    ensures { MatchOption result (IsUncounted construct) (λ k. flat k ≡ construct) }
 {
     match construct {
         Construct::Fails => Some(Counted::Fails),
@@ -73,6 +73,7 @@ impl Search {
             → let g = reads t.view self.old.store goal in let n = node_of t.view self.old rest in
             goes (result_in t self.new n (proc_of g) o)
             ≡ take_up (limits_in t self.old) (state_in t self.old) n g cut (construction t.view self.old.store construct))) }
+        ensures others { IfOk result (λ a. IfNone a ((self.new ≡ self.old) × IsLeft construct)) }
     {
         match construct {
             Construct::Succeeds => Ok(Some(Outcome::Run(rest))),
@@ -121,6 +122,7 @@ impl Search {
             → let g = reads t.view self.old.store goal in let n = node_of t.view self.old rest in
             goes (result_in t self.new n (proc_of g) o)
             ≡ take_up (limits_in t self.old) (state_in t self.old) n g cut (construction t.view self.old.store construct))) }
+        ensures others { IfOk result (λ a. IfNone a ((self.new ≡ self.old) × IsUncounted construct)) }
     {
         let Some(counted) = counted_of(construct) else {
             return Ok(None);

@@ -6,6 +6,7 @@ use Rattle.iso_engine.specs.Constructs.{construction}
 use Rattle.iso_engine.specs.Outcomes.{limits_in, state_in}
 use Rattle.iso_engine.specs.Reading.{reads}
 use Rattle.iso_engine.specs.Searching.{node_of}
+use Rattle.iso_engine.proofs.Others.{left_over}
 use Rattle.iso_engine.proofs.Taking.{conjoined, counted_or_none, cut_made, disjoined, on_condition, on_condition_or, succeeded}
 use Rattle.iso_engine.proofs.search.Search.take_up.Goals as goal
 
@@ -64,4 +65,7 @@ returns-in_ok-outcome-in_default c =
     record {
       whole = ran.ensures.whole;
       step = counted_or_none c.args.self.now c.take_up_counted.new.self c.args.goal c.args.construct c.args.cut c.args.rest ran.outcome ran.ensures.step;
+      others =
+          left_over c.args.self.now c.take_up_counted.new.self ran.outcome c.args.construct c.in_default.not-Succeeds c.in_default.not-Cuts
+          c.in_default.not-Conjunction c.in_default.not-Disjunction c.in_default.not-IfThen c.in_default.not-IfThenElse ran.ensures.others;
     }
