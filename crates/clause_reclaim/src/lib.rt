@@ -2,5 +2,7 @@
 #![tactic(auto)]
 
 mod reclaiming;
+#[cfg(test)]
+mod tests;
 
 pub use reclaiming::{Reclaimer, reclaim};
