@@ -1,8 +1,8 @@
 -- Laws of choice points and of catches.
-use Rattle.std.proofs.Common.{◌≡◌, ◌-◌, ◌+◌, ℕ, zero, suc, List, [], ◌∷◌, ◌++◌, length, drop, refl, ap, ◌∙◌, arith, length-append}
+use Rattle.std.proofs.Common.{◌≡◌, ◌-◌, suc, List, ◌∷◌, ◌++◌, length, drop, ap, ◌∙◌, arith, length-append}
 use Rattle.std.proofs.Math.Seq.{drop-append_seam}
 use Rattle.pl_term.specs.Tree.{Tree}
-use Rattle.pl_model.specs.Resolution.{Limits, Pending, leave, Node, Choice, catch, State, throwing, up_to}
+use Rattle.pl_model.specs.Resolution.{Limits, Pending, leave, Node, Choice, catch, State, up_to}
 use Rattle.pl_model.specs.Control.{at_catch, caught, fitting, thrown}
 
 pub cut_back : (more cs : List Choice) → up_to (length cs) (more ++ cs) ≡ cs

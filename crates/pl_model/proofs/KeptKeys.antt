@@ -26,7 +26,7 @@ first_key-nodes (comp f t ts) ns =
     ap (λ ms. first_key (Comp f (suc (count ts)) ∷ ms)) (append_assoc (nodes t) (nodes_all ts) ns)
     ∙ first_key-argument f (suc (count ts)) t (nodes_all ts ++ ns)
 
-not_two : (n : ℕ) → (suc (suc (suc n)) == 2) ≡ false
+pub not_two : (n : ℕ) → (suc (suc (suc n)) == 2) ≡ false
 not_two n = ne_eqb (suc (suc (suc n))) 2 (λ e. omega arith)
 
 pub first_key-head : (t : Tree) → first_key (head_nodes (nodes t)) ≡ head_key (head_of t)

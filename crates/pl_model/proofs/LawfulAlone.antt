@@ -1,12 +1,12 @@
 -- A lone engine's run is the whole of what a command did.
-use Rattle.std.proofs.Common.{◌≡◌, ◌<◌, ◌==◌, ℕ, zero, suc, List, [], ◌∷◌, ◌++◌, map, length, Option, Some, None, refl, ap, sym, ◌∙◌, arith, subst, append-nil, ◌⊎◌, inl, inr, get_or}
+use Rattle.std.proofs.Common.{◌≡◌, ◌<◌, ℕ, zero, suc, List, [], ◌∷◌, ◌++◌, length, Option, Some, None, refl, ap, sym, ◌∙◌, arith, subst, ◌⊎◌, inl, inr, get_or}
 use Rattle.std.specs.List.{Contains}
 use Rattle.std.proofs.lemmas.List.Elements.{Contains-append_cases}
 use Rattle.pl_model.specs.declared.ends.How.{How}
-use Rattle.pl_model.specs.History.{Kind, Entry, History, start, finish, mine}
+use Rattle.pl_model.specs.History.{Kind, Entry, History, start, finish}
 use Rattle.pl_model.specs.Resolution.{Ending}
-use Rattle.pl_model.specs.Execution.{Job, Execution, over, at_start}
-use Rattle.pl_model.specs.Lawful.{run, EndsSo, RanToEnd, WaitsAtEnd, IsDone, Program, Told, Beginning, beginnings_from, beginnings, engine_numbers, generations_of, main_job, started_job, IsComplete}
+use Rattle.pl_model.specs.Execution.{Job, over, at_start}
+use Rattle.pl_model.specs.Lawful.{EndsSo, IsDone, Program, Told, Beginning, beginnings_from, beginnings, engine_numbers, generations_of, main_job, IsComplete}
 use Rattle.pl_model.specs.Progress.{Seen, entry_by, MovesTo, AsksTo, WaitsNow, IsPlain, IsPlainUpdate, AllPlain, Alone, told_at_end, told_waiting}
 use Rattle.pl_model.proofs.Progress.{reached_start, reached_goes, reached_asks, reached_end, reached_wait}
 

@@ -1,14 +1,14 @@
 -- A character's UTF-8 at the front of bytes is that character.
-use Rattle.std.proofs.Common.{◌≡◌, ℕ, ◌+◌, ◌/◌, ◌%◌, ◌<◌, ◌≤◌, suc, Bool, true, false, cond, nat_lt, List, [], ◌∷◌, ◌++◌, length, take, drop, slice_index, refl, sym, ap, ◌∙◌, arith}
+use Rattle.std.proofs.Common.{◌≡◌, ℕ, ◌+◌, ◌/◌, ◌%◌, ◌<◌, ◌≤◌, Bool, true, false, cond, nat_lt, List, [], ◌∷◌, ◌++◌, length, take, slice_index, refl, sym, ap, ◌∙◌, arith}
 use Rattle.std.specs.Char.{encode_utf8, IsScalar}
-use Rattle.std.specs.Str.{chars, is_utf8, IsUtf8, continuation_len}
+use Rattle.std.specs.Str.{chars, IsUtf8, continuation_len}
 use Rattle.std.proofs.lemmas.Bool.Decides.{nat_tests}
 use Rattle.std.proofs.lemmas.List.{append-nil}
 use Rattle.std.proofs.lemmas.Str.{encode_ascii, IsUtf8-encode, is_utf8-from_IsUtf8, chars_past_char, chars-nil}
 use Rattle.std.proofs.Math.Seq.{take-append_seam}
-use Rattle.std.proofs.Math.Utf8.{encode, scalar_cases}
+use Rattle.std.proofs.Math.Utf8.{encode}
 use lib.Dec.{ltb}
-use Rattle.pl_model.specs.Tokens.{Front, scalar, front, front_of, wide_front}
+use Rattle.pl_model.specs.Tokens.{scalar, front, front_of, wide_front}
 use Rattle.pl_model.proofs.CharacterRuns.{front-ascii, front-wide}
 
 -- The first byte of a character past ASCII says how many follow.

@@ -1,6 +1,6 @@
 -- Where tokens lie: what stands at the front of bytes has one byte at least and no more than there are, and a fault
 -- lies within them.
-use Rattle.std.proofs.Common.{◌≡◌, ℕ, ◌+◌, ◌-◌, ◌^◌, ◌<◌, ◌≤◌, zero, suc, Bool, true, false, cond, nat_lt, ◌==◌, ◌&&◌, ◌||◌, List, [], ◌∷◌, length, take, drop, get_or, slice_index, Option, Some, None, option_map, Result, Ok, Err, refl, sym, ap, ◌∙◌, arith}
+use Rattle.std.proofs.Common.{◌≡◌, ℕ, ◌+◌, ◌-◌, ◌^◌, ◌<◌, ◌≤◌, zero, suc, Bool, true, false, cond, nat_lt, ◌==◌, ◌&&◌, ◌||◌, List, [], ◌∷◌, length, take, drop, get_or, slice_index, Option, Some, None, option_map, Ok, Err, refl, sym, ap, ◌∙◌, arith}
 use Rattle.std.specs.Char.{digit_value, is_ascii_digit, is_ascii_lowercase, is_ascii_uppercase}
 use Rattle.std.specs.Str.{chars}
 use Rattle.std.specs.Str.Parse.{digits_value}
@@ -8,25 +8,20 @@ use Rattle.std.proofs.lemmas.Bool.Decides.{nat_tests}
 use Rattle.std.proofs.lemmas.List.{length-drop}
 use Rattle.unicode_ident.specs.Ident.{is_xid_start}
 use Rattle.pl_model.specs.declared.syntax.SyntaxFault.{SyntaxFault}
-use Rattle.pl_model.specs.declared.syntax.SyntaxKind.{SyntaxKind}
-use Rattle.pl_model.specs.declared.syntax.SyntaxKind.TheVariants.{BadUtf8, BadEscape, FloatNumeral, IntegerTooLarge, LoneCharacter, OpenQuote}
+use Rattle.pl_model.specs.declared.syntax.SyntaxKind.TheVariants.{BadUtf8, BadEscape, FloatNumeral, IntegerTooLarge}
 use Rattle.pl_model.specs.declared.lexical.Begins.{Begins}
 use Rattle.pl_model.specs.declared.lexical.Begins.TheVariants.{Name as NameBegins, Variable as VariableBegins, Digit, Symbol, Solo, Quote, Punctuation as PunctuationBegins, Other}
-use Rattle.pl_model.specs.declared.lexical.Mark.{Mark}
 use Rattle.pl_model.specs.declared.lexical.Mark.TheVariants.{Open, Close as CloseMark, OpenList, CloseList, OpenCurly, CloseCurly, Bar, Comma}
 use Rattle.pl_model.specs.declared.lexical.Piece.{Piece}
 use Rattle.pl_model.specs.declared.lexical.Piece.TheVariants.{Character, Continuation, Close, Bad}
-use Rattle.pl_model.specs.declared.lexical.TokenKind.{TokenKind}
-use Rattle.pl_model.specs.declared.lexical.TokenKind.TheVariants.{Name, Variable, Integer, Punctuation, EndToken}
+use Rattle.pl_model.specs.declared.lexical.TokenKind.TheVariants.{Name, Integer, EndToken}
 use Rattle.pl_model.specs.declared.lexical.Reading.{Reading}
 use Rattle.pl_model.specs.declared.lexical.Reading.TheVariants.{Token, Fault, Nothing}
-use Rattle.pl_model.specs.declared.lexical.Lexeme.{Lexeme}
-use Rattle.pl_model.specs.declared.lexical.Lexeme.TheVariants.{Token as TokenLexeme, End}
 use Rattle.pl_model.specs.Characters.{is_symbol, continues_name}
 use Rattle.pl_model.specs.Tokens.{Front, nothing, scalar, broken, front, run, skip_layout, closes_clause}
 use Rattle.pl_model.specs.LexicalCharacters.{is_solo, is_quote, punctuation, ascii_begins, begins}
-use Rattle.pl_model.specs.LexicalQuoted.{is_digit, digit_count, piece, piece_size, HasSize, closing, Spelled, behind, spelled, quoted_kind, closed, quoted_by, quoted}
-use Rattle.pl_model.specs.LexicalTokens.{word_size, integer, radix_constant, decimal_constant, coded_character, character_code, radix_of, numeral, symbols, mark_at, token_of, token_front, Lexed, placed, from_start, token_at, token}
+use Rattle.pl_model.specs.LexicalQuoted.{is_digit, digit_count, piece, HasSize, closing, Spelled, behind, spelled, closed, quoted_by, quoted}
+use Rattle.pl_model.specs.LexicalTokens.{word_size, integer, radix_constant, decimal_constant, coded_character, character_code, radix_of, numeral, symbols, token_of, token_front, placed, from_start, token_at}
 use Rattle.pl_model.proofs.CharacterRuns.{front-bounds, run-within, run-passes}
 use Rattle.pl_model.proofs.LexicalPieces.{piece-size, closing_piece, closing-piece, spelled_piece, spelled-piece}
 

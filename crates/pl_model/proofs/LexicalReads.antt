@@ -1,6 +1,6 @@
 -- Each kind of token is read as itself.
-use Rattle.std.proofs.Common.{◌≡◌, ℕ, ◌+◌, ◌-◌, ◌^◌, ◌<◌, ◌≤◌, zero, suc, Bool, true, false, not, cond, nat_lt, ◌==◌, ◌&&◌, ◌||◌, codes, List, [], ◌∷◌, ◌++◌, length, take, drop, get_or, slice_index, append_assoc, Result, Ok, Err, refl, sym, ap, subst, ◌∙◌, arith}
-use Rattle.std.specs.Char.{encode_utf8, IsScalar, digit_value, is_ascii_digit, is_ascii_lowercase, is_ascii_uppercase, is_whitespace}
+use Rattle.std.proofs.Common.{◌≡◌, ℕ, ◌+◌, ◌^◌, ◌<◌, ◌≤◌, suc, Bool, true, false, cond, nat_lt, ◌==◌, ◌&&◌, ◌||◌, codes, List, [], ◌∷◌, ◌++◌, length, take, drop, slice_index, append_assoc, refl, sym, ap, subst, ◌∙◌, arith}
+use Rattle.std.specs.Char.{encode_utf8, digit_value, is_ascii_digit, is_ascii_lowercase, is_whitespace}
 use Rattle.std.specs.Str.{chars, is_utf8, continuation_len, all_scalars, encode_utf8_all}
 use Rattle.std.specs.Str.Parse.{AllDigits, IsNumeral, digits_value}
 use Rattle.std.specs.List.{list_all, list_any}
@@ -13,19 +13,17 @@ use Rattle.std.proofs.lemmas.Str.Parse.{digit_from_value, tells_digits, numerals
 use Rattle.std.proofs.lemmas.Fmt.{digits_decimal, digits_value-decimal, decimal_nonempty}
 use Rattle.std.proofs.Math.Seq.{take-append_seam, drop-append_seam}
 use Rattle.unicode_ident.specs.Ident.{is_xid_start}
-use Rattle.pl_term.specs.Tree.{Chars}
 use Rattle.pl_model.specs.declared.syntax.SyntaxKind.TheVariants.{FloatNumeral, IntegerTooLarge}
 use Rattle.pl_model.specs.declared.lexical.Begins.{Begins}
 use Rattle.pl_model.specs.declared.lexical.Begins.TheVariants.{Name as NameBegins, Variable as VariableBegins, Digit, Symbol, Other}
 use Rattle.pl_model.specs.declared.lexical.Mark.TheVariants.{Close, OpenList, CloseList, OpenCurly, CloseCurly, Bar, Comma}
 use Rattle.pl_model.specs.declared.lexical.TokenKind.TheVariants.{Name, Variable, Integer, Punctuation, EndToken}
-use Rattle.pl_model.specs.declared.lexical.Reading.{Reading}
 use Rattle.pl_model.specs.declared.lexical.Reading.TheVariants.{Token, Fault}
 use Rattle.pl_model.specs.Characters.{is_symbol, begins_name, continues_name, is_letter_name}
 use Rattle.pl_model.specs.Tokens.{Front, nothing, scalar, broken, front, front_of, run, closes_clause}
 use Rattle.pl_model.specs.LexicalCharacters.{begins, ascii_begins, is_solo}
 use Rattle.pl_model.specs.LexicalQuoted.{is_digit, digit_count, begins_with}
-use Rattle.pl_model.specs.LexicalTokens.{word_size, integer, character_code, radix_constant, radix_of, decimal_constant, numeral, symbols, token_of, token_front}
+use Rattle.pl_model.specs.LexicalTokens.{word_size, integer, character_code, radix_constant, radix_of, decimal_constant, numeral, token_of, token_front}
 use Rattle.pl_model.specs.LexicalLaws.{begins_variable, is_variable_name, EndsNumeral}
 use Rattle.pl_model.proofs.CharacterRuns.{front-ascii, run-passes, run-stops}
 use Rattle.pl_model.proofs.TokenPlaces.{closes_clause-scalar, closes_clause-broken}

@@ -1,5 +1,5 @@
 -- Where a token lies, seen from the place where it was looked for.
-use Rattle.std.proofs.Common.{◌≡◌, ℕ, ◌+◌, ◌<◌, ◌≤◌, ◌==◌, List, length, drop, Result, Ok, Err, refl, sym, ap, subst, ◌∙◌, arith}
+use Rattle.std.proofs.Common.{◌≡◌, ℕ, ◌+◌, ◌≤◌, ◌==◌, List, length, drop, Result, Ok, Err, refl, sym, ap, ◌∙◌, arith}
 use Rattle.std.proofs.lemmas.List.{length-drop}
 use Rattle.pl_model.specs.declared.syntax.SyntaxFault.{SyntaxFault}
 use Rattle.pl_model.specs.declared.lexical.TokenKind.{TokenKind}

@@ -1,6 +1,6 @@
 -- Quoted texts are read as the texts that they stand for: those that the writer writes, and those in any quotes in
 -- which the quote is doubled.
-use Rattle.std.proofs.Common.{◌≡◌, ℕ, ◌+◌, ◌<◌, ◌≤◌, suc, Bool, true, false, cond, nat_lt, ◌==◌, ◌&&◌, ◌||◌, codes, List, [], ◌∷◌, ◌++◌, length, get_or, drop, option_map, Option, Some, Ok, append_assoc, refl, sym, ap, subst, ◌∙◌, arith, below_more, below_none}
+use Rattle.std.proofs.Common.{◌≡◌, ℕ, ◌+◌, ◌<◌, suc, Bool, true, false, cond, nat_lt, ◌==◌, ◌&&◌, ◌||◌, codes, List, [], ◌∷◌, ◌++◌, length, get_or, drop, option_map, Some, Ok, append_assoc, refl, sym, ap, subst, ◌∙◌, arith, below_more, below_none}
 use Rattle.std.specs.Char.{encode_utf8, IsScalar}
 use Rattle.std.specs.Str.{all_scalars, encode_utf8_all}
 use Rattle.std.specs.List.{flat_map}
@@ -16,11 +16,10 @@ use Rattle.pl_model.specs.declared.lexical.Piece.TheVariants.{Character, Close}
 use Rattle.pl_model.specs.declared.lexical.Begins.TheVariants.{Quote}
 use Rattle.pl_model.specs.declared.lexical.TokenKind.TheVariants.{Quoted, Integer}
 use Rattle.pl_model.specs.declared.lexical.Reading.TheVariants.{Token, Fault}
-use Rattle.pl_model.specs.Tokens.{scalar, front}
 use Rattle.pl_model.specs.Writing.{hexadecimal, escaped, quoted as written}
-use Rattle.pl_model.specs.LexicalCharacters.{is_quote, begins}
-use Rattle.pl_model.specs.LexicalQuoted.{begins_with, piece, piece_of, closing, spelled, behind, quoted_kind, closed, quoted_by, quoted}
-use Rattle.pl_model.specs.LexicalTokens.{coded_character, character_code, numeral, token_of, token_front}
+use Rattle.pl_model.specs.LexicalCharacters.{begins}
+use Rattle.pl_model.specs.LexicalQuoted.{begins_with, piece, closing, spelled, behind, quoted_kind, closed, quoted_by, quoted}
+use Rattle.pl_model.specs.LexicalTokens.{coded_character, character_code, token_of, token_front}
 use Rattle.pl_model.specs.LexicalLaws.{doubled_in, in_quotes}
 use Rattle.pl_model.proofs.CharacterRuns.{front-ascii}
 use Rattle.pl_model.proofs.LexicalPieces.{piece-scalar, closing-passes, closing-closes, spelled-character, spelled-closes}

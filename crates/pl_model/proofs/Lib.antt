@@ -45,3 +45,4 @@ pub mod UnifyCode
 pub mod UnifyFronts
 pub mod UnifyLoop
 pub mod KeptKeys
+pub mod KeptSizes

@@ -1,21 +1,19 @@
 -- The bytes of a token are UTF-8.
-use Rattle.std.proofs.Common.{◌≡◌, ℕ, ◌+◌, ◌-◌, ◌<◌, ◌≤◌, zero, suc, Bool, true, false, cond, nat_lt, List, [], ◌∷◌, ◌++◌, length, take, drop, min, slice_index, Result, Ok, Err, refl, ap, sym, subst, ◌∙◌, arith}
-use Rattle.std.proofs.lemmas.Bool.{cond-true, cond-false}
-use Rattle.std.proofs.lemmas.Bool.Decides.{nat_tests}
+use Rattle.std.proofs.Common.{◌≡◌, ℕ, ◌+◌, ◌-◌, ◌<◌, ◌≤◌, zero, suc, Bool, true, false, cond, nat_lt, List, [], ◌∷◌, ◌++◌, length, take, drop, min, Result, Ok, Err, refl, ap, sym, subst, ◌∙◌, arith}
 use Rattle.std.proofs.lemmas.List.{length-take, length-drop, drop-drop, take_min}
 use Rattle.std.proofs.Math.Seq.{take-nil}
 use lib.Utf8.{low_scalar}
 use lib.Dec.{ltb→lt}
 use Rattle.std.proofs.lemmas.Str.{IsUtf8-nil, IsUtf8-append, IsUtf8-from_is_utf8, IsUtf8-encode, encode_ascii}
 use Rattle.std.specs.Char.{is_ascii_digit}
-use Rattle.std.specs.Str.{IsUtf8, is_utf8, chars, continuation_len}
+use Rattle.std.specs.Str.{IsUtf8, is_utf8, continuation_len}
 use Rattle.pl_model.specs.declared.syntax.SyntaxFault.{SyntaxFault}
 use Rattle.pl_model.specs.declared.syntax.CharacterClass.{CharacterClass}
 use Rattle.pl_model.specs.declared.syntax.CharacterClass.TheVariants.{Letter, Capital, Digit, Symbol, Open, Close, Comma, Other}
 use Rattle.pl_model.specs.declared.syntax.TokenKind.{TokenKind}
 use Rattle.pl_model.specs.declared.syntax.TokenKind.TheVariants.{Name, Variable, Open as OpenToken, Close as CloseToken, Comma as CommaToken}
-use Rattle.pl_model.specs.declared.syntax.Lexeme.TheVariants.{Token, End}
-use Rattle.pl_model.specs.Tokens.{Front, nothing, scalar, broken, front, front_of, wide_front, run, run_end, skip_layout, Lexed, token, token_of, is_symbol, continues_name, class_of, lexeme_at, token_at}
+use Rattle.pl_model.specs.declared.syntax.Lexeme.TheVariants.{End}
+use Rattle.pl_model.specs.Tokens.{Front, nothing, scalar, broken, front, front_of, run, run_end, skip_layout, token, token_of, is_symbol, continues_name, class_of, lexeme_at, token_at}
 use Rattle.pl_model.proofs.CharacterRuns.{front-ascii, front-wide, front-bounds, run-passes, run-stops, run-broken}
 use Rattle.pl_model.proofs.TokenPlaces.{numeral-places, symbols-places, lexeme_at-nothing, lexeme_at-scalar, lexeme_at-broken, token_at-start, token_at-fault}
 

@@ -1,6 +1,6 @@
 -- Checks of the arguments of built-in predicates: each gives the error term for which the predicate is refused, or none.
 -- The first error of a list counts.
-use Rattle.std.specs.Prelude.{ℕ, ℤ, pos, negsuc, List, [], ◌∷◌, Bool, Option, Some, None, Result, Ok, Err, bytes_eq, codes, if◌then◌else◌, ◌==◌, ◌&&◌, suc}
+use Rattle.std.specs.Prelude.{ℕ, pos, negsuc, List, [], ◌∷◌, Bool, Option, Some, None, Result, Ok, Err, bytes_eq, codes, if◌then◌else◌, ◌==◌, ◌&&◌}
 use Rattle.pl_term.specs.Tree.{Chars, Tree, Trees, var, int, atom, comp, none, more, count}
 use Rattle.pl_model.specs.History.{Proc}
 use Rattle.pl_model.specs.Terms.{is_variable, is_integer, is_atom, is_atomic, is_compound, is_callable}

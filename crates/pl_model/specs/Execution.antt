@@ -1,8 +1,8 @@
 -- Executing Prolog text (ISO 7.4): what an engine does from its beginning to its end. The first engine takes up the items of
 -- the file, then starts the further goals of the command, then runs the first goal; any other engine runs the goal that
 -- it was started with.
-use Rattle.std.specs.Prelude.{ℕ, zero, suc, ◌-◌, List, [], ◌∷◌, ◌++◌, map, length, Bool, true, false, Option, Some, None, Result, Ok, Err, bytes_eq, codes, if◌then◌else◌, ◌==◌, nat_lt, encode_utf8_all}
-use Rattle.pl_term.specs.Tree.{Chars, Tree, var, atom, comp, none, more}
+use Rattle.std.specs.Prelude.{ℕ, zero, suc, ◌-◌, List, [], ◌∷◌, ◌++◌, map, length, Option, Some, None, Result, Ok, Err, bytes_eq, codes, if◌then◌else◌, ◌==◌, nat_lt, encode_utf8_all}
+use Rattle.pl_term.specs.Tree.{Chars, Tree, comp, none}
 use Rattle.pl_term.specs.Variables.{rename}
 use Rattle.pl_model.specs.declared.grammar.Quotes.{Quotes}
 use Rattle.pl_model.specs.declared.syntax.SyntaxKind.{SyntaxKind}

@@ -9,8 +9,8 @@ use Rattle.pl_model.specs.Threads.{goal_alias}
 use Rattle.pl_model.specs.SharedState.{state_at}
 use Rattle.pl_model.specs.Requests.{Request, Reply}
 use Rattle.pl_model.specs.Service.{Served, answers, waits, serve}
-use Rattle.pl_model.specs.Resolution.{Limits, Ending, solved, no_more, threw, exited, halted}
-use Rattle.pl_model.specs.Execution.{Script, consults, runs, Job, Execution, over, Move, moves, requests, ends, at_start, move}
+use Rattle.pl_model.specs.Resolution.{Limits, Ending, solved, no_more, threw}
+use Rattle.pl_model.specs.Execution.{consults, runs, Job, Execution, over, Move, moves, requests, ends, at_start, move}
 
 -- Runs
 

@@ -3,7 +3,6 @@ use Rattle.std.specs.Prelude.{ℕ, Bool, ◌||◌, ◌==◌, nat_lt, if◌then�
 use Rattle.std.specs.Char.{is_ascii_lowercase, is_ascii_uppercase, is_ascii_digit}
 use Rattle.unicode_ident.specs.Ident.{is_xid_start}
 use Rattle.pl_model.specs.Characters.{is_symbol}
-use Rattle.pl_model.specs.declared.lexical.Mark.{Mark}
 use Rattle.pl_model.specs.declared.lexical.Mark.TheVariants.{Open, Close, OpenList, CloseList, OpenCurly, CloseCurly, Bar, Comma}
 use Rattle.pl_model.specs.declared.lexical.Begins.{Begins}
 use Rattle.pl_model.specs.declared.lexical.Begins.TheVariants.{Name, Variable, Digit, Symbol, Solo, Quote, Punctuation, Other}

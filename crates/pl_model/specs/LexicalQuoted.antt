@@ -1,10 +1,10 @@
 -- Quoted texts (ISO 6.4.2.1, 6.4.6, 6.4.7): their pieces, where they close, and the characters that they spell.
-use Rattle.std.specs.Prelude.{ℕ, List, [], ◌∷◌, Bool, false, Option, Some, None, Result, Ok, Err, ◌+◌, ◌-◌, ◌<◌, ◌≤◌, suc, zero, ◌&&◌, ◌||◌, ◌==◌, not, nat_lt, if◌then◌else◌, take, drop, slice_index, option_map}
+use Rattle.std.specs.Prelude.{ℕ, List, [], ◌∷◌, Bool, false, Option, Some, None, Result, Ok, Err, ◌+◌, ◌-◌, ◌<◌, ◌≤◌, suc, zero, ◌||◌, ◌==◌, nat_lt, if◌then◌else◌, take, drop, slice_index, option_map}
 use Rattle.std.specs.Char.{digit_value}
 use Rattle.std.specs.Str.{all_scalars}
 use Rattle.std.specs.Str.Parse.{digits_value}
 use Rattle.pl_term.specs.Tree.{Chars}
-use Rattle.pl_model.specs.Tokens.{Front, nothing, scalar, broken, front, run}
+use Rattle.pl_model.specs.Tokens.{nothing, scalar, broken, front, run}
 use Rattle.pl_model.specs.declared.syntax.SyntaxKind.{SyntaxKind}
 use Rattle.pl_model.specs.declared.syntax.SyntaxKind.TheVariants.{BadUtf8, BadEscape, OpenQuote}
 use Rattle.pl_model.specs.declared.lexical.Piece.{Piece}

@@ -1,11 +1,11 @@
 -- Tokens (ISO 6.4): what stands at a place of a text. The text is a list of bytes, and a place is the number of bytes
 -- before it. A token is the longest that can be read (6.4).
-use Rattle.std.specs.Prelude.{ℕ, List, [], ◌∷◌, Bool, true, false, Option, Some, None, Result, Ok, Err, ◌+◌, ◌-◌, ◌^◌, ◌&&◌, ◌==◌, nat_lt, if◌then◌else◌, length, take, drop, slice_index}
+use Rattle.std.specs.Prelude.{ℕ, List, Bool, true, Result, Ok, Err, ◌+◌, ◌^◌, ◌&&◌, ◌==◌, nat_lt, if◌then◌else◌, length, take, drop, slice_index}
 use Rattle.std.specs.Char.{is_ascii_digit}
 use Rattle.std.specs.Str.{chars}
 use Rattle.std.specs.Str.Parse.{digits_value}
 use Rattle.pl_model.specs.Characters.{is_symbol, continues_name}
-use Rattle.pl_model.specs.Tokens.{Front, nothing, scalar, broken, front, run, skip_layout, closes_clause}
+use Rattle.pl_model.specs.Tokens.{nothing, scalar, broken, front, run, skip_layout, closes_clause}
 use Rattle.pl_model.specs.LexicalCharacters.{begins}
 use Rattle.pl_model.specs.LexicalQuoted.{is_digit, digit_count, piece, quoted}
 use Rattle.pl_model.specs.declared.syntax.SyntaxKind.{SyntaxKind}

@@ -51,6 +51,7 @@ pub mod Report
 pub mod FirstArgumentOrder
 pub mod FirstArguments
 pub mod KeptNodes
+pub mod KeptCells
 pub mod FirstArgumentLaws
 pub mod Subterms
 pub mod UnifySides

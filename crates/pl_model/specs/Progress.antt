@@ -6,8 +6,8 @@ use Rattle.pl_model.specs.SharedState.{state_at}
 use Rattle.pl_model.specs.Requests.{Request, Reply}
 use Rattle.pl_model.specs.Service.{Served, answers, waits, serve}
 use Rattle.pl_model.specs.Resolution.{Ending}
-use Rattle.pl_model.specs.Execution.{Job, Execution, over, Move, moves, requests, ends, move}
-use Rattle.pl_model.specs.Lawful.{Standing, run, Rises, AllStand, IsLawful, EndsSo, Program, main_job, Told, IsComplete}
+use Rattle.pl_model.specs.Execution.{Job, Execution, over, moves, requests, move}
+use Rattle.pl_model.specs.Lawful.{Standing, run, Rises, AllStand, Told}
 
 -- Where an engine stands, with the history as it is now and the generations of the engine's requests so far.
 pub record Seen : Type 0 where

@@ -1,6 +1,6 @@
 -- The text that a run writes: a section for the file, one for each goal of the command, and one for each thread that has
 -- something to show, from the states in which the engines stand at the end.
-use Rattle.std.specs.Prelude.{◌≡◌, ℕ, zero, suc, List, [], ◌∷◌, ◌++◌, map, filter, length, get_or, Bool, true, false, not, ◌==◌, ◌||◌, Option, Some, None, Contains, codes, decimal, if◌then◌else◌}
+use Rattle.std.specs.Prelude.{◌≡◌, ℕ, zero, suc, List, [], ◌∷◌, ◌++◌, map, filter, length, get_or, Bool, false, not, ◌==◌, Option, Some, None, Contains, codes, decimal, if◌then◌else◌}
 use Rattle.std.proofs.Common.{inl, inr}
 use Rattle.pl_term.specs.Tree.{Chars, Tree, atom}
 use Rattle.pl_model.specs.declared.syntax.SyntaxKind.{SyntaxKind}
@@ -8,9 +8,9 @@ use Rattle.pl_model.specs.declared.syntax.SyntaxKind.TheVariants.{BadUtf8, BadEs
 use Rattle.pl_model.specs.Characters.{is_symbol}
 use Rattle.pl_model.specs.OperatorTable.{OperatorTable}
 use Rattle.pl_model.specs.TermWriting.{writeq}
-use Rattle.pl_model.specs.History.{Kind, Entry, History, finish}
+use Rattle.pl_model.specs.History.{History, finish}
 use Rattle.pl_model.specs.SharedState.{state_at}
-use Rattle.pl_model.specs.Resolution.{Ending, solved, no_more, threw, exited, halted, Output, text, solution, State}
+use Rattle.pl_model.specs.Resolution.{Ending, solved, no_more, threw, exited, halted, Output, text, solution}
 use Rattle.pl_model.specs.Execution.{Job, Word, goal_word, faulty_word, Consulted, wrote, too_large, syntax_fault, ball_of_item, directive_failed, directive_halted, Activity, directing, searching, over, Refusal, Execution, texts_of}
 use Rattle.pl_model.specs.Lawful.{Program, Told, Beginning, beginnings, is_goal_number, generations_of, run, IsDone, main_job, started_job}
 

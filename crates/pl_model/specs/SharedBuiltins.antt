@@ -1,13 +1,13 @@
 -- Built-in predicates of the shared state (ISO 8.8, 8.9, 8.14, 8.17; SWI-Prolog manual, section 'Multithreaded
 -- applications'): what they check of their arguments, what they then ask, and the row that follows from the reply and the
 -- next number of a variable. That clause/2, retract/1 and retractall/1 try clauses, and that output writes, is control.
-use Rattle.std.specs.Prelude.{ℕ, zero, ◌+◌, ◌&&◌, ◌||◌, ◌==◌, not, List, [], ◌∷◌, ◌++◌, map, Bool, true, false, Option, Some, None, is_some, Result, Ok, Err, bytes_eq, codes, if◌then◌else◌, pos, negsuc, nat_lt}
+use Rattle.std.specs.Prelude.{ℕ, zero, ◌&&◌, ◌||◌, not, List, [], ◌∷◌, ◌++◌, map, Bool, true, false, Option, Some, None, is_some, Result, Ok, Err, bytes_eq, codes, if◌then◌else◌, pos, nat_lt}
 use Rattle.pl_term.specs.Tree.{Chars, Tree, Trees, var, int, atom, comp, none, more}
 use Rattle.pl_term.specs.Cells.{cells}
 use Rattle.pl_term.specs.Variables.{rename}
 use Rattle.pl_model.specs.declared.operators.Kind.{Kind as OperatorKind}
 use Rattle.pl_model.specs.declared.operators.Kind.TheVariants.{Xfx, Xfy, Yfx, Fy, Fx, Xf, Yf}
-use Rattle.pl_model.specs.OperatorTable.{OperatorTable, Key, Entry, operators, highest_priority}
+use Rattle.pl_model.specs.OperatorTable.{Key, Entry, operators, highest_priority}
 use Rattle.pl_model.specs.History.{Proc, Clause}
 use Rattle.pl_model.specs.Flags.{is_fixed_flag, flag_values, is_flag_value}
 use Rattle.pl_model.specs.Terms.{is_variable, is_atom, variable_count}
@@ -16,7 +16,7 @@ use Rattle.pl_model.specs.Balls.{instantiation_error, uninstantiation_error, typ
 use Rattle.pl_model.specs.Checks.{first_error, error_if, bound_error, atom_error, integer_error, callable_error, text_of_atom, natural_of, elements, atoms_error, proc_indicated, all_indicated}
 use Rattle.pl_model.specs.BodyChecks.{clause_of_term}
 use Rattle.pl_model.specs.BuiltinRows.{Answer, Row, gives, table, error, plain_answer, one_answer}
-use Rattle.pl_model.specs.Requests.{Request, assert_first, assert_last, abolish_procedure, make_dynamic, all_procedures, put_operators, read_operators, put_flag, all_flags, own_name, create_thread, join_thread, send_message, get_message, peek_message, create_queue, destroy_queue, collect_atoms, collect_clauses, Reply, standing, procedures, flags, named, message, no_message, status, done, refused}
+use Rattle.pl_model.specs.Requests.{Request, assert_first, assert_last, abolish_procedure, make_dynamic, all_procedures, put_operators, read_operators, put_flag, all_flags, own_name, create_thread, join_thread, send_message, get_message, peek_message, create_queue, destroy_queue, collect_atoms, collect_clauses, Reply, standing, procedures, flags, named, message, status, done, refused}
 
 pub data Shared : Type 0 where
   -- the arguments are refused, or nothing has to be asked

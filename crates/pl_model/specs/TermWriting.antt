@@ -6,11 +6,11 @@ use Rattle.std.specs.Fmt.{signed_decimal}
 use Rattle.pl_term.specs.Tree.{Chars, Tree, Trees, var, int, atom, comp, none, more, count}
 use Rattle.pl_model.specs.Characters.{is_symbol_name}
 use Rattle.pl_model.specs.declared.operators.Kind.{Kind}
-use Rattle.pl_model.specs.declared.operators.Kind.TheVariants.{Xfx, Xfy, Yfx, Fy, Fx, Xf, Yf}
+use Rattle.pl_model.specs.declared.operators.Kind.TheVariants.{Yfx, Xf, Yf}
 use Rattle.pl_model.specs.declared.operators.Place.TheVariants.{Prefix, Infix, Postfix}
 use Rattle.pl_model.specs.OperatorTable.{OperatorTable, Entry, operator_at}
 use Rattle.pl_model.specs.TermGrammar.{Lookup, left_argument, right_argument}
-use Rattle.pl_model.specs.Writing.{name, functor, variable, Place, alone, operand, left_operand, is_operand, Tail, ends, goes_on, partial, tail_of, would_join, last_character}
+use Rattle.pl_model.specs.Writing.{name, functor, variable, Place, alone, operand, left_operand, is_operand, ends, goes_on, partial, tail_of, would_join, last_character}
 
 -- How terms are written: whether names stand in quotes where they would not read back without them, and whether a term
 -- in curly brackets is written with them.

@@ -13,6 +13,7 @@ pub trait Kept: Drop {
     ghost use Rattle.std.specs.Prelude.{◌≡◌, ℕ, Bool, IfOk};
     ghost use Rattle.pl_term.specs.Tree.{Chars, Tree};
     ghost use Rattle.pl_model.specs.FirstArguments.{are_apart, head_of, unify_apart};
+    ghost use Rattle.pl_model.specs.KeptCells.{kept_cells};
     ghost use Rattle.pl_model.specs.World.{is_excluded};
 
     /// What a first argument is found by.
@@ -27,7 +28,7 @@ pub trait Kept: Drop {
     // Whether a key is that of a first argument that may be equal to any.
     ghost any: { Self.Key → Bool };
 
-    // The cells that it costs.
+    // The cells that it costs as a clause in the database.
     ghost size: { Self → ℕ };
 
     // Whether two terms unify.
@@ -41,7 +42,8 @@ pub trait Kept: Drop {
     fn is_any(key: &Self::Key) -> bool
         ensures { result ≡ any key.now };
 
-    /// The number of cells that the term costs where it is kept.
+    /// The number of cells that it costs as a clause in the database: those of its head and its body, where a variable
+    /// of both counts once and a rule's `:-` itself takes none.
     fn cells(&self) -> u64
         ensures { result ≡ size self.now };
 
@@ -57,6 +59,10 @@ pub trait Kept: Drop {
         → are_apart Self.Key.Ord.cmp any (key_of goal) (key_of clause)
         ≡ is_excluded (head_of (term text goal)) (head_of (term text clause)) };
 
+    // A clause costs the cells of its head and its body, whatever texts the numbers of atoms stand for.
+    ghost sizes_tell: { (text : ℕ → Chars) → ((x y : ℕ) → text x ≡ text y → x ≡ y)
+        → (clause : Self) → size clause ≡ kept_cells (term text clause) };
+
     // Two values unify exactly where the terms do for which they stand.
     ghost terms_tell: { (text : ℕ → Chars) → ((x y : ℕ) → text x ≡ text y → x ≡ y)
         → (left right : Self) → unified left right ≡ unify_apart (term text left) (term text right) };
@@ -64,7 +70,7 @@ pub trait Kept: Drop {
 
 impl Kept for Flat {
     ghost use Rattle.std.specs.Prelude.{refl};
-    ghost use Rattle.pl_term.specs.Cells.{cells};
+    ghost use Rattle.pl_model.specs.KeptCells.{kept_cells};
     ghost use Rattle.pl_model.specs.FirstArguments.{head_of, head_key, is_any, unify_apart};
     ghost use Rattle.pl_model.specs.FirstArgumentLaws.{heads_tell};
 
@@ -76,11 +82,13 @@ impl Kept for Flat {
 
     ghost any = { is_any };
 
-    ghost size = { cells };
+    ghost size = { kept_cells };
 
     ghost unified = { unify_apart };
 
     ghost keys_tell = { λ _ _ goal clause. heads_tell (head_of goal) (head_of clause) };
+
+    ghost sizes_tell = { λ _ _ clause. refl };
 
     ghost terms_tell = { λ _ _ left right. refl };
 
@@ -98,7 +106,11 @@ impl Kept for Flat {
     }
 
     fn cells(&self) -> u64 {
-        self.cells()
+        if is_rule(&self.nodes()[0]) {
+            self.cells() - 3
+        } else {
+            self.cells()
+        }
     }
 
     #[tactic(auto, unfolding(crate::specs::FirstArguments::unify_apart))]

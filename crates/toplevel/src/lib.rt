@@ -24,6 +24,8 @@ mod state;
 mod steps;
 mod subterms;
 #[cfg(test)]
+mod test_rows;
+#[cfg(test)]
 mod tests;
 mod transcript;
 mod unify;
