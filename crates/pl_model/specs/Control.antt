@@ -14,9 +14,11 @@ use Rattle.pl_model.specs.Database.{Stored}
 use Rattle.pl_model.specs.Terms.{is_variable, arguments, extended, list_term, is_list_or_partial, variable_count, raised_by, clause_cells}
 use Rattle.pl_model.specs.Balls.{error_ball, instantiation_error, type_error, no_inferences, no_cells, no_choices}
 use Rattle.pl_model.specs.ErrorTerms.{domain_error, permission_error}
-use Rattle.pl_model.specs.Checks.{first_error, bound_error, callable_error}
+use Rattle.pl_model.specs.Checks.{first_error, bound_error, callable_error, text_of_atom}
+use Rattle.pl_model.specs.AtomBuiltins.{character_error}
 use Rattle.pl_model.specs.BodyChecks.{if_callable, body_of, called_goal, rule, head_part, body_part, clause_of_term}
-use Rattle.pl_model.specs.BuiltinRows.{Answer, Row, gives, table, error, row}
+use Rattle.pl_model.specs.BuiltinRows.{Answer, Row, gives, table, error}
+use Rattle.pl_model.specs.Builtins.{row}
 use Rattle.pl_model.specs.SharedBuiltins.{Shared, gives_row, asks_for, shared}
 use Rattle.pl_model.specs.Requests.{look, call_clauses, inspected_clauses, retracted_clauses, cleared_clauses, erase_clause, read_operators, Reply, standing, listed, done, gone, refused}
 use Rattle.pl_model.specs.Resolution.{Limits, Pending, goal, commit, refute, leave, collect, Node, Purpose, resolving, inspecting, retracting, Choice, clauses, answers, branch, barrier, catch, findall, solved, no_more, threw, exited, halted, Doing, running, failing, throwing, erasing, clearing, answering, ended, text, solution, State, Next, goes, asks, stops, up_to, node_instance, collected_cells, solution_count}
@@ -181,6 +183,8 @@ pub data Construct : Type 0 where
   writes : (OperatorTable → Chars) → Construct
   -- writes a text
   prints : Chars → Construct
+  -- put_char/1
+  puts : Tree → Construct
   -- a built-in predicate, or a call of the program's clauses
   other : Construct
 
@@ -204,6 +208,7 @@ construct_of_one f t =
     if bytes_eq f (codes "retractall") then clears t else
     if bytes_eq f (codes "write") then writes (λ ops. write ops 1200 t) else
     if bytes_eq f (codes "writeq") || bytes_eq f (codes "print") then writes (λ ops. writeq ops 1200 t) else
+    if bytes_eq f (codes "put_char") then puts t else
     if bytes_eq f (codes "write_canonical") then prints (write_canonical t) else other
 
 -- A condition with a branch for its failure (ISO 7.8.8), or two alternatives (ISO 7.8.6).
@@ -305,6 +310,11 @@ with_exit l s n g t =
       | Some name ↦ raised s n (permission_error (codes "exit") (codes "thread") (atom name)) (proc_of g)
     ]
 
+-- put_char/1 (ISO 8.12.3)
+abbrev pub with_character : State → Node → Tree → Tree → Option Tree → State
+with_character s n g t (Some e) = raised s n e (proc_of g)
+with_character s n g t None = with_text s n (text_of_atom t)
+
 -- The request, unless the arguments are refused.
 abbrev pub unless : State → Node → Tree → Option Tree → Next → Next
 unless s n g None next = next
@@ -372,6 +382,7 @@ take_up l s n g h (inspects t b) = costing l s n g (λ s. with_inspection l s n 
 take_up l s n g h (retracts t) = costing l s n g (λ s. with_retraction l s n g t)
 take_up l s n g h (clears t) = costing l s n g (λ s. with_clearing s n g t)
 take_up l s n g h (writes t) = costing l s n g (λ s. asks read_operators (with_operators s n t))
+take_up l s n g h (puts t) = costing l s n g (λ s. goes (with_character s n g t (character_error t)))
 take_up l s n g h (prints t) = costing l s n g (λ s. goes (with_text s n t))
 take_up l s n g h other = costing l s n g (λ s. with_other l s n g (row (name_of g) (arguments g) s.next))
 

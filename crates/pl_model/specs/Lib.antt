@@ -40,6 +40,9 @@ pub mod Balls
 pub mod BodyChecks
 pub mod Checks
 pub mod BuiltinRows
+pub mod TermBuiltins
+pub mod AtomBuiltins
+pub mod Builtins
 pub mod SharedBuiltins
 pub mod Resolution
 pub mod Control

@@ -13,7 +13,7 @@ ghost use Rattle.pl_model.specs.Searches.{Finds};
 ghost use Rattle.pl_model.specs.SearchRows.{ample, wanting, with_inferences, with_cells, with_choices, one, word, number, both, either, then, equal, catches, list, fact};
 
 /// `true`, and `fail`.
-#[tactic(auto, unfolding(crate::specs::Control::step, crate::specs::Control::start, crate::specs::Control::construct, crate::specs::Control::take_up, crate::specs::Control::gone_back, crate::specs::Control::thrown, crate::specs::Control::with_row, crate::specs::Control::next_clause, crate::specs::BuiltinRows::row, crate::specs::SharedBuiltins::shared, crate::specs::Unify::unify, crate::specs::Unify::solve_all))]
+#[tactic(auto, unfolding(crate::specs::Control::step, crate::specs::Control::start, crate::specs::Control::construct, crate::specs::Control::take_up, crate::specs::Control::gone_back, crate::specs::Control::thrown, crate::specs::Control::with_row, crate::specs::Control::next_clause, crate::specs::Builtins::row, crate::specs::BuiltinRows::row, crate::specs::SharedBuiltins::shared, crate::specs::Unify::unify, crate::specs::Unify::solve_all))]
 pub fn finds_true()
     ensures true_goal { (ops : OperatorTable) (quotes : QuotesFlag) → Finds ample (word (codes "true"))
         (standing ops quotes ∷ []) 4 (solution ops ([]) ∷ []) solved }
@@ -22,21 +22,21 @@ pub fn finds_true()
 {}
 
 /// `p(X)` with two facts: both solutions, where more are wanted than there are.
-#[tactic(auto, unfolding(crate::specs::Control::step, crate::specs::Control::start, crate::specs::Control::construct, crate::specs::Control::take_up, crate::specs::Control::gone_back, crate::specs::Control::thrown, crate::specs::Control::with_row, crate::specs::Control::next_clause, crate::specs::BuiltinRows::row, crate::specs::SharedBuiltins::shared, crate::specs::Unify::unify, crate::specs::Unify::solve_all))]
+#[tactic(auto, unfolding(crate::specs::Control::step, crate::specs::Control::start, crate::specs::Control::construct, crate::specs::Control::take_up, crate::specs::Control::gone_back, crate::specs::Control::thrown, crate::specs::Control::with_row, crate::specs::Control::next_clause, crate::specs::Builtins::row, crate::specs::BuiltinRows::row, crate::specs::SharedBuiltins::shared, crate::specs::Unify::unify, crate::specs::Unify::solve_all))]
 pub fn finds_all_solutions()
     ensures two { (ops : OperatorTable) (quotes : QuotesFlag) → Finds (wanting 9) (one (codes "p") (var 0))
         (listed (fact (codes "p") (int (pos 1)) ∷ fact (codes "p") (int (pos 2)) ∷ []) ∷ standing ops quotes ∷ standing ops quotes ∷ []) 12 (solution ops (int (pos 1) ∷ []) ∷ solution ops (int (pos 2) ∷ []) ∷ []) no_more }
 {}
 
 /// `call((m(X), !)), write(X), fail`: the cut removes the choice point of `m(X)`.
-#[tactic(auto, unfolding(crate::specs::Control::step, crate::specs::Control::start, crate::specs::Control::construct, crate::specs::Control::take_up, crate::specs::Control::gone_back, crate::specs::Control::thrown, crate::specs::Control::with_row, crate::specs::Control::next_clause, crate::specs::BuiltinRows::row, crate::specs::SharedBuiltins::shared, crate::specs::Unify::unify, crate::specs::Unify::solve_all, crate::specs::TermWriting::text_of, crate::specs::TermWriting::pieces))]
+#[tactic(auto, unfolding(crate::specs::Control::step, crate::specs::Control::start, crate::specs::Control::construct, crate::specs::Control::take_up, crate::specs::Control::gone_back, crate::specs::Control::thrown, crate::specs::Control::with_row, crate::specs::Control::next_clause, crate::specs::Builtins::row, crate::specs::BuiltinRows::row, crate::specs::SharedBuiltins::shared, crate::specs::Unify::unify, crate::specs::Unify::solve_all, crate::specs::TermWriting::text_of, crate::specs::TermWriting::pieces))]
 pub fn cuts_within_call()
     ensures first { (ops : OperatorTable) (quotes : QuotesFlag) → Finds ample (both (one (codes "call") (both (one (codes "m") (var 0)) (word (codes "!")))) (both (one (codes "write") (var 0)) (word (codes "fail"))))
         (listed (fact (codes "m") (atom (codes "a")) ∷ fact (codes "m") (atom (codes "b")) ∷ []) ∷ standing ops quotes ∷ []) 15 (text (codes "a") ∷ []) no_more }
 {}
 
 /// `(call(!), fail ; write(b))`: the cut is local to `call/1`. In `(m(X), ! ; X = c)` it is not local to `;`.
-#[tactic(auto, unfolding(crate::specs::Control::step, crate::specs::Control::start, crate::specs::Control::construct, crate::specs::Control::take_up, crate::specs::Control::gone_back, crate::specs::Control::thrown, crate::specs::Control::with_row, crate::specs::Control::next_clause, crate::specs::BuiltinRows::row, crate::specs::SharedBuiltins::shared, crate::specs::Unify::unify, crate::specs::Unify::solve_all, crate::specs::TermWriting::text_of, crate::specs::TermWriting::pieces))]
+#[tactic(auto, unfolding(crate::specs::Control::step, crate::specs::Control::start, crate::specs::Control::construct, crate::specs::Control::take_up, crate::specs::Control::gone_back, crate::specs::Control::thrown, crate::specs::Control::with_row, crate::specs::Control::next_clause, crate::specs::Builtins::row, crate::specs::BuiltinRows::row, crate::specs::SharedBuiltins::shared, crate::specs::Unify::unify, crate::specs::Unify::solve_all, crate::specs::TermWriting::text_of, crate::specs::TermWriting::pieces))]
 pub fn keeps_choices_behind_call()
     ensures local { (ops : OperatorTable) (quotes : QuotesFlag) → Finds ample (either (both (one (codes "call") (word (codes "!"))) (word (codes "fail"))) (one (codes "write") (word (codes "b"))))
         (standing ops quotes ∷ standing ops quotes ∷ []) 15 (text (codes "b") ∷ solution ops ([]) ∷ []) solved }
@@ -45,28 +45,28 @@ pub fn keeps_choices_behind_call()
 {}
 
 /// `catch((X = 1, throw(b)), b, true)`: a caught ball undoes the bindings.
-#[tactic(auto, unfolding(crate::specs::Control::step, crate::specs::Control::start, crate::specs::Control::construct, crate::specs::Control::take_up, crate::specs::Control::gone_back, crate::specs::Control::thrown, crate::specs::Control::with_row, crate::specs::Control::next_clause, crate::specs::BuiltinRows::row, crate::specs::SharedBuiltins::shared, crate::specs::Unify::unify, crate::specs::Unify::solve_all))]
+#[tactic(auto, unfolding(crate::specs::Control::step, crate::specs::Control::start, crate::specs::Control::construct, crate::specs::Control::take_up, crate::specs::Control::gone_back, crate::specs::Control::thrown, crate::specs::Control::with_row, crate::specs::Control::next_clause, crate::specs::Builtins::row, crate::specs::BuiltinRows::row, crate::specs::SharedBuiltins::shared, crate::specs::Unify::unify, crate::specs::Unify::solve_all))]
 pub fn undoes_bindings_at_catch()
     ensures unbound { (ops : OperatorTable) (quotes : QuotesFlag) → Finds ample (catches (both (equal (var 0) (number 1)) (one (codes "throw") (word (codes "b")))) (word (codes "b")) (word (codes "true")))
         (standing ops quotes ∷ []) 15 (solution ops (var 0 ∷ []) ∷ []) solved }
 {}
 
 /// `catch((catch((true ; true), b, write(inner)), throw(b)), b, write(outer))`: a catch that was left is not active.
-#[tactic(auto, unfolding(crate::specs::Control::step, crate::specs::Control::start, crate::specs::Control::construct, crate::specs::Control::take_up, crate::specs::Control::gone_back, crate::specs::Control::thrown, crate::specs::Control::with_row, crate::specs::Control::next_clause, crate::specs::BuiltinRows::row, crate::specs::SharedBuiltins::shared, crate::specs::Unify::unify, crate::specs::Unify::solve_all, crate::specs::TermWriting::text_of, crate::specs::TermWriting::pieces))]
+#[tactic(auto, unfolding(crate::specs::Control::step, crate::specs::Control::start, crate::specs::Control::construct, crate::specs::Control::take_up, crate::specs::Control::gone_back, crate::specs::Control::thrown, crate::specs::Control::with_row, crate::specs::Control::next_clause, crate::specs::Builtins::row, crate::specs::BuiltinRows::row, crate::specs::SharedBuiltins::shared, crate::specs::Unify::unify, crate::specs::Unify::solve_all, crate::specs::TermWriting::text_of, crate::specs::TermWriting::pieces))]
 pub fn leaves_catch()
     ensures outer { (ops : OperatorTable) (quotes : QuotesFlag) → Finds ample (catches (both (catches (either (word (codes "true")) (word (codes "true"))) (word (codes "b")) (one (codes "write") (word (codes "inner")))) (one (codes "throw") (word (codes "b")))) (word (codes "b")) (one (codes "write") (word (codes "outer"))))
         (standing ops quotes ∷ standing ops quotes ∷ []) 20 (text (codes "outer") ∷ solution ops ([]) ∷ []) solved }
 {}
 
 /// `X = f(X)`: the occurs check.
-#[tactic(auto, unfolding(crate::specs::Control::step, crate::specs::Control::start, crate::specs::Control::construct, crate::specs::Control::take_up, crate::specs::Control::gone_back, crate::specs::Control::thrown, crate::specs::Control::with_row, crate::specs::Control::next_clause, crate::specs::BuiltinRows::row, crate::specs::SharedBuiltins::shared, crate::specs::Unify::unify, crate::specs::Unify::solve_all))]
+#[tactic(auto, unfolding(crate::specs::Control::step, crate::specs::Control::start, crate::specs::Control::construct, crate::specs::Control::take_up, crate::specs::Control::gone_back, crate::specs::Control::thrown, crate::specs::Control::with_row, crate::specs::Control::next_clause, crate::specs::Builtins::row, crate::specs::BuiltinRows::row, crate::specs::SharedBuiltins::shared, crate::specs::Unify::unify, crate::specs::Unify::solve_all))]
 pub fn checks_occurrence()
     ensures fails { (ops : OperatorTable) (quotes : QuotesFlag) → Finds ample (equal (var 0) (one (codes "f") (var 0)))
         ([]) 5 ([]) no_more }
 {}
 
 /// `write(a), halt(7)`, and a status that is none.
-#[tactic(auto, unfolding(crate::specs::Control::step, crate::specs::Control::start, crate::specs::Control::construct, crate::specs::Control::take_up, crate::specs::Control::gone_back, crate::specs::Control::thrown, crate::specs::Control::with_row, crate::specs::Control::next_clause, crate::specs::BuiltinRows::row, crate::specs::SharedBuiltins::shared, crate::specs::Unify::unify, crate::specs::Unify::solve_all, crate::specs::TermWriting::text_of, crate::specs::TermWriting::pieces))]
+#[tactic(auto, unfolding(crate::specs::Control::step, crate::specs::Control::start, crate::specs::Control::construct, crate::specs::Control::take_up, crate::specs::Control::gone_back, crate::specs::Control::thrown, crate::specs::Control::with_row, crate::specs::Control::next_clause, crate::specs::Builtins::row, crate::specs::BuiltinRows::row, crate::specs::SharedBuiltins::shared, crate::specs::Unify::unify, crate::specs::Unify::solve_all, crate::specs::TermWriting::text_of, crate::specs::TermWriting::pieces))]
 pub fn halts_search()
     ensures status { (ops : OperatorTable) (quotes : QuotesFlag) → Finds ample (both (one (codes "write") (word (codes "a"))) (one (codes "halt") (number 7)))
         (standing ops quotes ∷ []) 6 (text (codes "a") ∷ []) (halted 7) }
@@ -75,14 +75,14 @@ pub fn halts_search()
 {}
 
 /// `foo(1)`, whose procedure is unknown.
-#[tactic(auto, unfolding(crate::specs::Control::step, crate::specs::Control::start, crate::specs::Control::construct, crate::specs::Control::take_up, crate::specs::Control::gone_back, crate::specs::Control::thrown, crate::specs::Control::with_row, crate::specs::Control::next_clause, crate::specs::BuiltinRows::row, crate::specs::SharedBuiltins::shared, crate::specs::Unify::unify, crate::specs::Unify::solve_all))]
+#[tactic(auto, unfolding(crate::specs::Control::step, crate::specs::Control::start, crate::specs::Control::construct, crate::specs::Control::take_up, crate::specs::Control::gone_back, crate::specs::Control::thrown, crate::specs::Control::with_row, crate::specs::Control::next_clause, crate::specs::Builtins::row, crate::specs::BuiltinRows::row, crate::specs::SharedBuiltins::shared, crate::specs::Unify::unify, crate::specs::Unify::solve_all))]
 pub fn misses_procedure()
     ensures unknown { (ops : OperatorTable) (quotes : QuotesFlag) → Finds ample (one (codes "foo") (number 1))
         (refused (existence_error (codes "procedure") (indicator (proc (codes "foo") 1))) ∷ []) 5 ([]) (threw (error_ball (existence_error (codes "procedure") (indicator (proc (codes "foo") 1))) (proc (codes "foo") 1))) }
 {}
 
 /// `X = f(a)` takes six cells.
-#[tactic(auto, unfolding(crate::specs::Control::step, crate::specs::Control::start, crate::specs::Control::construct, crate::specs::Control::take_up, crate::specs::Control::gone_back, crate::specs::Control::thrown, crate::specs::Control::with_row, crate::specs::Control::next_clause, crate::specs::BuiltinRows::row, crate::specs::SharedBuiltins::shared, crate::specs::Unify::unify, crate::specs::Unify::solve_all))]
+#[tactic(auto, unfolding(crate::specs::Control::step, crate::specs::Control::start, crate::specs::Control::construct, crate::specs::Control::take_up, crate::specs::Control::gone_back, crate::specs::Control::thrown, crate::specs::Control::with_row, crate::specs::Control::next_clause, crate::specs::Builtins::row, crate::specs::BuiltinRows::row, crate::specs::SharedBuiltins::shared, crate::specs::Unify::unify, crate::specs::Unify::solve_all))]
 pub fn counts_cells()
     ensures enough { (ops : OperatorTable) (quotes : QuotesFlag) → Finds (with_cells 6) (equal (var 0) (one (codes "f") (word (codes "a"))))
         (standing ops quotes ∷ []) 6 (solution ops (one (codes "f") (word (codes "a")) ∷ []) ∷ []) solved }
@@ -91,7 +91,7 @@ pub fn counts_cells()
 {}
 
 /// `p(X), p(Y)` with two facts makes two choice points.
-#[tactic(auto, unfolding(crate::specs::Control::step, crate::specs::Control::start, crate::specs::Control::construct, crate::specs::Control::take_up, crate::specs::Control::gone_back, crate::specs::Control::thrown, crate::specs::Control::with_row, crate::specs::Control::next_clause, crate::specs::BuiltinRows::row, crate::specs::SharedBuiltins::shared, crate::specs::Unify::unify, crate::specs::Unify::solve_all))]
+#[tactic(auto, unfolding(crate::specs::Control::step, crate::specs::Control::start, crate::specs::Control::construct, crate::specs::Control::take_up, crate::specs::Control::gone_back, crate::specs::Control::thrown, crate::specs::Control::with_row, crate::specs::Control::next_clause, crate::specs::Builtins::row, crate::specs::BuiltinRows::row, crate::specs::SharedBuiltins::shared, crate::specs::Unify::unify, crate::specs::Unify::solve_all))]
 pub fn counts_choices()
     ensures enough { (ops : OperatorTable) (quotes : QuotesFlag) → Finds (with_choices 2) (both (one (codes "p") (var 0)) (one (codes "p") (var 1)))
         (listed (fact (codes "p") (int (pos 1)) ∷ fact (codes "p") (int (pos 2)) ∷ []) ∷ listed (fact (codes "p") (int (pos 1)) ∷ fact (codes "p") (int (pos 2)) ∷ []) ∷ standing ops quotes ∷ []) 12 (solution ops (number 1 ∷ number 1 ∷ []) ∷ []) solved }
@@ -100,7 +100,7 @@ pub fn counts_choices()
 {}
 
 /// Three unifications take three inferences, and `true` and conjunction none; `repeat` takes one each time.
-#[tactic(auto, unfolding(crate::specs::Control::step, crate::specs::Control::start, crate::specs::Control::construct, crate::specs::Control::take_up, crate::specs::Control::gone_back, crate::specs::Control::thrown, crate::specs::Control::with_row, crate::specs::Control::next_clause, crate::specs::BuiltinRows::row, crate::specs::SharedBuiltins::shared, crate::specs::Unify::unify, crate::specs::Unify::solve_all))]
+#[tactic(auto, unfolding(crate::specs::Control::step, crate::specs::Control::start, crate::specs::Control::construct, crate::specs::Control::take_up, crate::specs::Control::gone_back, crate::specs::Control::thrown, crate::specs::Control::with_row, crate::specs::Control::next_clause, crate::specs::Builtins::row, crate::specs::BuiltinRows::row, crate::specs::SharedBuiltins::shared, crate::specs::Unify::unify, crate::specs::Unify::solve_all))]
 pub fn counts_inferences()
     ensures enough { (ops : OperatorTable) (quotes : QuotesFlag) → Finds (with_inferences 3) (both (equal (var 0) (number 1)) (both (equal (var 1) (number 2)) (equal (var 2) (number 3))))
         (standing ops quotes ∷ []) 12 (solution ops (number 1 ∷ number 2 ∷ number 3 ∷ []) ∷ []) solved }
@@ -111,14 +111,14 @@ pub fn counts_inferences()
 {}
 
 /// `findall(X, (X = 1 ; X = Y), L)`: the copy of the second solution has a variable of its own.
-#[tactic(auto, unfolding(crate::specs::Control::step, crate::specs::Control::start, crate::specs::Control::construct, crate::specs::Control::take_up, crate::specs::Control::gone_back, crate::specs::Control::thrown, crate::specs::Control::with_row, crate::specs::Control::next_clause, crate::specs::BuiltinRows::row, crate::specs::SharedBuiltins::shared, crate::specs::Unify::unify, crate::specs::Unify::solve_all))]
+#[tactic(auto, unfolding(crate::specs::Control::step, crate::specs::Control::start, crate::specs::Control::construct, crate::specs::Control::take_up, crate::specs::Control::gone_back, crate::specs::Control::thrown, crate::specs::Control::with_row, crate::specs::Control::next_clause, crate::specs::Builtins::row, crate::specs::BuiltinRows::row, crate::specs::SharedBuiltins::shared, crate::specs::Unify::unify, crate::specs::Unify::solve_all))]
 pub fn collects_copies()
     ensures list { (ops : OperatorTable) (quotes : QuotesFlag) → Finds ample (comp (codes "findall") (var 0) (more (either (equal (var 0) (number 1)) (equal (var 0) (var 1))) (more (var 2) none)))
         (standing ops quotes ∷ []) 15 (solution ops (var 0 ∷ var 1 ∷ list (number 1 ∷ var 3 ∷ []) ∷ []) ∷ []) solved }
 {}
 
 /// `\\+`, and the first solution alone by `once/1`.
-#[tactic(auto, unfolding(crate::specs::Control::step, crate::specs::Control::start, crate::specs::Control::construct, crate::specs::Control::take_up, crate::specs::Control::gone_back, crate::specs::Control::thrown, crate::specs::Control::with_row, crate::specs::Control::next_clause, crate::specs::BuiltinRows::row, crate::specs::SharedBuiltins::shared, crate::specs::Unify::unify, crate::specs::Unify::solve_all))]
+#[tactic(auto, unfolding(crate::specs::Control::step, crate::specs::Control::start, crate::specs::Control::construct, crate::specs::Control::take_up, crate::specs::Control::gone_back, crate::specs::Control::thrown, crate::specs::Control::with_row, crate::specs::Control::next_clause, crate::specs::Builtins::row, crate::specs::BuiltinRows::row, crate::specs::SharedBuiltins::shared, crate::specs::Unify::unify, crate::specs::Unify::solve_all))]
 pub fn keeps_one_solution()
     ensures not_failing { (ops : OperatorTable) (quotes : QuotesFlag) → Finds ample (one (codes "\\+") (word (codes "fail")))
         (standing ops quotes ∷ []) 8 (solution ops ([]) ∷ []) solved }
@@ -131,7 +131,7 @@ pub fn keeps_one_solution()
 {}
 
 /// If-then-else takes the branch that the condition says, and if-then without an else fails with it.
-#[tactic(auto, unfolding(crate::specs::Control::step, crate::specs::Control::start, crate::specs::Control::construct, crate::specs::Control::take_up, crate::specs::Control::gone_back, crate::specs::Control::thrown, crate::specs::Control::with_row, crate::specs::Control::next_clause, crate::specs::BuiltinRows::row, crate::specs::SharedBuiltins::shared, crate::specs::Unify::unify, crate::specs::Unify::solve_all))]
+#[tactic(auto, unfolding(crate::specs::Control::step, crate::specs::Control::start, crate::specs::Control::construct, crate::specs::Control::take_up, crate::specs::Control::gone_back, crate::specs::Control::thrown, crate::specs::Control::with_row, crate::specs::Control::next_clause, crate::specs::Builtins::row, crate::specs::BuiltinRows::row, crate::specs::SharedBuiltins::shared, crate::specs::Unify::unify, crate::specs::Unify::solve_all))]
 pub fn branches()
     ensures otherwise { (ops : OperatorTable) (quotes : QuotesFlag) → Finds ample (either (then (word (codes "fail")) (equal (var 0) (number 2))) (equal (var 0) (number 1)))
         (standing ops quotes ∷ []) 10 (solution ops (number 1 ∷ []) ∷ []) solved }
@@ -142,7 +142,7 @@ pub fn branches()
 {}
 
 /// A variable goal is called, an integer is refused, and a body is checked whole before it is run.
-#[tactic(auto, unfolding(crate::specs::Control::step, crate::specs::Control::start, crate::specs::Control::construct, crate::specs::Control::take_up, crate::specs::Control::gone_back, crate::specs::Control::thrown, crate::specs::Control::with_row, crate::specs::Control::next_clause, crate::specs::BuiltinRows::row, crate::specs::SharedBuiltins::shared, crate::specs::Unify::unify, crate::specs::Unify::solve_all))]
+#[tactic(auto, unfolding(crate::specs::Control::step, crate::specs::Control::start, crate::specs::Control::construct, crate::specs::Control::take_up, crate::specs::Control::gone_back, crate::specs::Control::thrown, crate::specs::Control::with_row, crate::specs::Control::next_clause, crate::specs::Builtins::row, crate::specs::BuiltinRows::row, crate::specs::SharedBuiltins::shared, crate::specs::Unify::unify, crate::specs::Unify::solve_all))]
 pub fn checks_goals()
     ensures variable { (ops : OperatorTable) (quotes : QuotesFlag) → Finds ample (var 0)
         ([]) 5 ([]) (threw (error_ball instantiation_error (proc (codes "call") 1))) }
@@ -159,7 +159,7 @@ pub fn checks_goals()
 {}
 
 /// A ball keeps its variables until a catch copies it, and takes its cells there.
-#[tactic(auto, unfolding(crate::specs::Control::step, crate::specs::Control::start, crate::specs::Control::construct, crate::specs::Control::take_up, crate::specs::Control::gone_back, crate::specs::Control::thrown, crate::specs::Control::with_row, crate::specs::Control::next_clause, crate::specs::BuiltinRows::row, crate::specs::SharedBuiltins::shared, crate::specs::Unify::unify, crate::specs::Unify::solve_all))]
+#[tactic(auto, unfolding(crate::specs::Control::step, crate::specs::Control::start, crate::specs::Control::construct, crate::specs::Control::take_up, crate::specs::Control::gone_back, crate::specs::Control::thrown, crate::specs::Control::with_row, crate::specs::Control::next_clause, crate::specs::Builtins::row, crate::specs::BuiltinRows::row, crate::specs::SharedBuiltins::shared, crate::specs::Unify::unify, crate::specs::Unify::solve_all))]
 pub fn copies_balls()
     ensures uncaught { (ops : OperatorTable) (quotes : QuotesFlag) → Finds ample (one (codes "throw") (one (codes "f") (var 0)))
         ([]) 4 ([]) (threw (one (codes "f") (var 0))) }
