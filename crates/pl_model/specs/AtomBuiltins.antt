@@ -42,11 +42,11 @@ abbrev pub concatenates : Tree → Tree → Tree → Row
 concatenates a b c =
     unless
     (first_error
-      ((if is_variable c then first_error (bound_error a ∷ bound_error b ∷ []) else None)
-      ∷ atom_error a ∷ atom_error b ∷ atom_error c ∷ []))
+    ((if is_variable c then first_error (bound_error a ∷ bound_error b ∷ []) else None)
+    ∷ atom_error a ∷ atom_error b ∷ atom_error c ∷ []))
     (if is_atom a && is_atom b
-      then if_short (text_of_atom a ++ text_of_atom b) (one_answer (three a b (atom (text_of_atom a ++ text_of_atom b))))
-      else table (parts_from (suc (length (text_of_atom c))) zero (text_of_atom c)))
+    then if_short (text_of_atom a ++ text_of_atom b) (one_answer (three a b (atom (text_of_atom a ++ text_of_atom b))))
+    else table (parts_from (suc (length (text_of_atom c))) zero (text_of_atom c)))
 
 -- sub_atom/5 (8.16.3): by the place, then by the length.
 abbrev pub five : Tree → Tree → Tree → Tree → Tree → Trees
@@ -69,7 +69,7 @@ abbrev pub sub_atoms : Tree → Tree → Tree → Tree → Tree → Row
 sub_atoms a b l f s =
     unless
     (first_error
-      (bound_error a ∷ atom_error a ∷ counted_error b ∷ counted_error l ∷ counted_error f ∷ atom_error s ∷ []))
+    (bound_error a ∷ atom_error a ∷ counted_error b ∷ counted_error l ∷ counted_error f ∷ atom_error s ∷ []))
     (table (sub_atoms_from (suc (length (text_of_atom a))) zero (text_of_atom a)))
 
 -- Characters and character codes (ISO 7.1.2.2, 7.1.4.1)
@@ -137,7 +137,7 @@ abbrev pub codes_character : Tree → Tree → Row
 codes_character c n =
     unless
     (first_error
-      ((if is_variable c then bound_error n else None) ∷ one_of_character c ∷ one_of_code n ∷ []))
+    ((if is_variable c then bound_error n else None) ∷ one_of_character c ∷ one_of_code n ∷ []))
     (coded_row c n)
 
 -- number_chars/2, number_codes/2 (8.16.7, 8.16.8): layout, a minus, and a numeral, up to the end of the text. What is no

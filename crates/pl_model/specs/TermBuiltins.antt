@@ -99,7 +99,7 @@ functor_of next (atom a) name arity = one_answer (three (atom a) (atom a) (int (
 functor_of next (var x) name arity =
     unless
     (first_error
-      (bound_error name ∷ bound_error arity ∷ atomic_error name ∷ integer_error arity ∷ negative_error arity ∷ []))
+    (bound_error name ∷ bound_error arity ∷ atomic_error name ∷ integer_error arity ∷ negative_error arity ∷ []))
     (makes_functor next (var x) name arity (natural_of arity))
 
 -- arg/3 (8.5.2)
