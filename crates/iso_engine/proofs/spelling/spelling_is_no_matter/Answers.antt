@@ -1,5 +1,0 @@
-use Rattle.iso_engine.proofs.Spelt.{unify-spelled, bound-spelled}
-use Rattle.iso_engine.proofs.spelling.spelling_is_no_matter.Goals as goal
-
-pub returns : goal.returns
-returns c = record { unified = unify-spelled; bound = bound-spelled }

@@ -1,0 +1,57 @@
+-- Going back to the newest choice point, by the definition.
+use Rattle.std.proofs.Common.{◌≡◌, ℕ, [], ◌∷◌, refl, sym, ap, ap₂, ◌∙◌}
+use Rattle.pl_model.specs.Resolution.{running, failing, ended, no_more, resolving}
+use Rattle.pl_model.specs.Control.{gone_back, next_clause}
+use Rattle.term_store.specs.declared.words.Place.{Place}
+use Rattle.iso_search.specs.declared.choices.Alternative.{Alternative}
+use Rattle.iso_search.specs.declared.choices.Alternative.TheVariants.{Clauses, Branch, Barrier, Catch}
+use Rattle.iso_search.specs.declared.failure.Back.TheVariants.{Exhausted, Run, Fail, Retry}
+use Rattle.iso_search.specs.declared.search.Search.{Search}
+use Rattle.iso_search.specs.Choices.{choice_at}
+use Rattle.iso_search.specs.Failures.{back_result}
+use Rattle.iso_search.specs.Outcomes.{Setting, limits_in, state_in}
+use Rattle.iso_search.specs.Reading.{reads}
+use Rattle.iso_search.specs.Searching.{node_of, choices_of}
+use Rattle.iso_search.proofs.Over.{state_by, same_limits}
+
+pub back_exhausted : (t : Setting) (e d : Search) → choices_of t.view e ≡ [] → choices_of t.view d ≡ [] → d.next ≡ e.next → d.inferences ≡ e.inferences
+    → back_result t d Exhausted ≡ gone_back (limits_in t e) (state_in t e) (choices_of t.view e)
+unfolding gone_back
+back_exhausted t e d none left next inferences =
+    state_by (ended no_more) (ended no_more) (choices_of t.view d) (choices_of t.view e) d.next e.next d.inferences e.inferences t.output
+    refl (left ∙ sym none) next inferences
+    ∙ sym (ap (gone_back (limits_in t e) (state_in t e)) none)
+
+module _ (t : Setting) (e d : Search) (list : ℕ) (a : Alternative)
+    (back : choices_of t.view e ≡ choice_at t.view (reads t.view d.store) (node_of t.view d list) a ∷ choices_of t.view d)
+    (next : d.next ≡ e.next) (inferences : d.inferences ≡ e.inferences) where
+  newest : (b : Alternative) → a ≡ b → choices_of t.view e ≡ choice_at t.view (reads t.view d.store) (node_of t.view d list) b ∷ choices_of t.view d
+  newest b is = back ∙ ap (λ x. choice_at t.view (reads t.view d.store) (node_of t.view d list) x ∷ choices_of t.view d) is
+
+  pub back_branch : a ≡ Branch → back_result t d (Run list) ≡ gone_back (limits_in t e) (state_in t e) (choices_of t.view e)
+  unfolding gone_back
+  back_branch is =
+      state_by (running (node_of t.view d list)) (running (node_of t.view d list)) (choices_of t.view d) (choices_of t.view d)
+      d.next e.next d.inferences e.inferences t.output refl refl next inferences
+      ∙ sym (ap (gone_back (limits_in t e) (state_in t e)) (newest Branch is))
+
+  pub back_barrier : t.doing ≡ failing → a ≡ Barrier → back_result t d Fail ≡ gone_back (limits_in t e) (state_in t e) (choices_of t.view e)
+  unfolding gone_back
+  back_barrier fails is =
+      state_by failing t.doing (choices_of t.view d) (choices_of t.view d) d.next e.next d.inferences e.inferences t.output (sym fails) refl next inferences
+      ∙ sym (ap (gone_back (limits_in t e) (state_in t e)) (newest Barrier is))
+
+  pub back_catch : t.doing ≡ failing → (c r : Place) → a ≡ Catch c r → back_result t d Fail ≡ gone_back (limits_in t e) (state_in t e) (choices_of t.view e)
+  unfolding gone_back
+  back_catch fails c r is =
+      state_by failing t.doing (choices_of t.view d) (choices_of t.view d) d.next e.next d.inferences e.inferences t.output (sym fails) refl next inferences
+      ∙ sym (ap (gone_back (limits_in t e) (state_in t e)) (newest (Catch c r) is))
+
+  pub back_clauses : d.budgets ≡ e.budgets → (g : Place) (generation place : ℕ) → a ≡ Clauses g generation place
+      → back_result t d (Retry g generation place list) ≡ gone_back (limits_in t e) (state_in t e) (choices_of t.view e)
+  unfolding gone_back
+  back_clauses budgets g generation place is =
+      ap₂ (λ l s. next_clause l resolving s (reads t.view d.store g) (node_of t.view d list) (t.view.left (reads t.view d.store g) generation place))
+      (same_limits t d e budgets)
+      (state_by t.doing t.doing (choices_of t.view d) (choices_of t.view d) d.next e.next d.inferences e.inferences t.output refl refl next inferences)
+      ∙ sym (ap (gone_back (limits_in t e) (state_in t e)) (newest (Clauses g generation place) is))

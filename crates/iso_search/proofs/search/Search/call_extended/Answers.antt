@@ -1,0 +1,67 @@
+use Rattle.std.proofs.Common.{◌≡◌, ap, subst, ◌∙◌, arith}
+use Rattle.pl_model.specs.BodyChecks.{body_of}
+use Rattle.iso_search.specs.declared.search.Search.{Search}
+use Rattle.iso_search.specs.declared.outcome.Outcome.TheVariants.{Raise}
+use Rattle.iso_search.specs.Calling.{goal_or_error}
+use Rattle.iso_search.specs.Outcomes.{limits_in, result_in, state_in}
+use Rattle.iso_search.specs.Reading.{reads}
+use Rattle.iso_search.specs.Searching.{choices_of, node_of}
+use Rattle.pl_model.specs.Resolution.{Node, State}
+use Rattle.pl_model.specs.History.{Proc}
+use Rattle.pl_model.specs.Control.{taking}
+use Rattle.std.specs.Prelude.{ℕ}
+use Rattle.iso_search.proofs.Calling.{call_refused, call_run, call_spent}
+use Rattle.iso_search.proofs.Over.{length_choices}
+use Rattle.iso_search.proofs.search.Search.call_extended.Goals as goal
+
+pub returns-in-Refused-clause-step : goal.returns-in-Refused-clause-step
+returns-in-Refused-clause-step c t p view =
+    let v = t.view in
+    let b = c.args.self.now in
+    let d = c.check_body.new.self in
+    let whole = c.args.extended.goal in
+    let cells = c.args.extended.cells in
+    let g = c.check_body.ensures.grows.stays in
+    let is = subst (λ k. goal_or_error (reads v d.store) k ≡ body_of (reads v b.store whole)) c.in-Refused.is (c.in_ok-checked.ensures.checked v view) in
+    ap (λ (y : Search). result_in t y (node_of v b c.args.rest) p (Raise c.in-Refused.fault)) c.check_body.ensures.kept
+    ∙ call_refused t b d d d.store g c.requires.whole c.args.rest cells p whole c.in-Refused.fault is
+
+pub returns-in-Some-clause-step : goal.returns-in-Some-clause-step
+returns-in-Some-clause-step c t p view =
+    let v = t.view in
+    let b = c.args.self.now in
+    let e = c.check_body.new.self in
+    let d = c.take.new.self in
+    let whole = c.args.extended.goal in
+    let cells = c.args.extended.cells in
+    let g = c.check_body.ensures.grows.stays in
+    let is = subst (λ k. goal_or_error (reads v e.store) k ≡ body_of (reads v b.store whole)) c.in-Goal.is (c.in_ok-checked.ensures.checked v view) in
+    let taken =
+    subst (λ (y : Search). (list : ℕ) (q : Proc) (next : State → Node → State)
+    → result_in t d (node_of v y list) q (Raise c.in-Some.fault) ≡ taking (limits_in t y) (state_in t y) (node_of v y list) q 0 cells next)
+    c.check_body.ensures.kept (c.in-Some.ensures.step t) in
+    call_spent t b d d e.store g c.requires.whole c.args.rest cells p whole c.in-Some.fault c.in-Goal.goal is taken
+
+pub returns-in_ok-list-in-None-clause-step : goal.returns-in_ok-list-in-None-clause-step
+returns-in_ok-list-in-None-clause-step c t p view =
+    let v = t.view in
+    let b = c.args.self.now in
+    let e = c.check_body.new.self in
+    let d = c.take.new.self in
+    let f = c.push.new.self in
+    let whole = c.args.extended.goal in
+    let cells = c.args.extended.cells in
+    let g = c.check_body.ensures.grows.stays in
+    let same : Search = record b { store = e.store } in
+    let kept = c.check_body.ensures.kept in
+    let is = subst (λ k. goal_or_error (reads v e.store) k ≡ body_of (reads v b.store whole)) c.in-Goal.is (c.in_ok-checked.ensures.checked v view) in
+    let taken =
+    subst (λ (y : Search). (list : ℕ) (q : Proc) (next : State → Node → State)
+    → next (state_in t d) (node_of v d list) ≡ taking (limits_in t y) (state_in t y) (node_of v y list) q 0 cells next)
+    kept (c.in-None.ensures.step t) in
+    let pushed = c.in_ok-list-in-None.ensures in
+    call_run t b d f e.store g c.requires.whole c.args.rest cells p whole c.in-Goal.goal c.len-height.result c.in_ok-list-in-None.list is taken
+    (subst (λ (y : Search). d ≡ record y { store = record y.store { used = d.store.used }; next = d.next }) kept c.in-None.ensures.kept)
+    (c.in-None.ensures.choices v ∙ ap (choices_of v) kept)
+    (omega (arith, c.len-height.ensures, d.choices.ok.0, length_choices v d))
+    (pushed.node v) (pushed.choices v) (ap (λ (s : Search). s.next) pushed.kept) (ap (λ (s : Search). s.inferences) pushed.kept)

@@ -1,0 +1,44 @@
+use Rattle.std.proofs.Common.{◌≡◌, [], ◌∷◌, length, nat_lt, sym, ap, ap₂, ◌∙◌, subst, arith}
+use Rattle.pl_model.specs.Control.{before}
+use Rattle.pl_model.specs.Resolution.{goal as a_goal, branch}
+use Rattle.iso_search.specs.declared.choices.Alternative.TheVariants.{Branch}
+use Rattle.iso_search.specs.declared.search.Search.{Search}
+use Rattle.iso_search.specs.Outcomes.{IsMade}
+use Rattle.iso_search.specs.Reading.{reads}
+use Rattle.iso_search.specs.Searching.{node_of, choices_of}
+use Rattle.iso_search.proofs.Over.{over_made, over_full, length_choices}
+use Rattle.iso_search.proofs.search.Search.repeat.Goals as goal
+
+pub returns-in-None-clause-step : goal.returns-in-None-clause-step
+returns-in-None-clause-step c t p =
+    let e = c.args.self.now in
+    let b = c.push.new.self in
+    let d = c.make_choice.new.self in
+    let n = node_of t.view e c.args.rest in
+    let pushed = c.in_ok-list.ensures in
+    let kept = c.in_ok-made.ensures.kept in
+    let made = subst (λ o. IsMade t.view o b Branch c.in_ok-list.list d) c.in-None.is (c.in_ok-made.ensures.made t.view) in
+    over_full t e d n p (branch (before (a_goal (reads t.view e.store c.args.again) (length (choices_of t.view e)) ∷ []) n)) (λ k. [])
+    (ap₂ (λ l k. nat_lt (length l) k) (sym (pushed.choices t.view)) (sym (ap (λ (s : Search). s.budgets.choices) pushed.kept)) ∙ made.0)
+    (made.1 ∙ pushed.choices t.view)
+    (ap (λ (s : Search). s.next) kept ∙ ap (λ (s : Search). s.next) pushed.kept)
+    (ap (λ (s : Search). s.inferences) kept ∙ ap (λ (s : Search). s.inferences) pushed.kept)
+
+pub returns-in-Some-clause-step : goal.returns-in-Some-clause-step
+returns-in-Some-clause-step c t p =
+    let e = c.args.self.now in
+    let b = c.push.new.self in
+    let d = c.make_choice.new.self in
+    let v = t.view in
+    let n = node_of v e c.args.rest in
+    let pushed = c.in_ok-list.ensures in
+    let kept = c.in_ok-made.ensures.kept in
+    let made = subst (λ o. IsMade v o b Branch c.in_ok-list.list d) c.in-Some.is (c.in_ok-made.ensures.made v) in
+    let height : c.len-height.result ≡ length (choices_of v e) = omega (arith, c.len-height.ensures, e.choices.ok.0, length_choices v e) in
+    over_made t e d n p (branch (before (a_goal (reads v e.store c.args.again) (length (choices_of v e)) ∷ []) n)) (λ k. []) c.args.rest
+    (ap₂ (λ l k. nat_lt (length l) k) (sym (pushed.choices v)) (sym (ap (λ (s : Search). s.budgets.choices) pushed.kept)) ∙ made.0)
+    (made.1 ∙ ap₂ (λ m l. branch m ∷ l)
+    (pushed.node v ∙ ap (λ h. before (a_goal (reads v e.store c.args.again) h ∷ []) n) height) (pushed.choices v))
+    (ap (λ (s : Search). node_of v s c.args.rest) kept ∙ pushed.nodes v c.args.rest c.requires.rest)
+    (ap (λ (s : Search). s.next) kept ∙ ap (λ (s : Search). s.next) pushed.kept)
+    (ap (λ (s : Search). s.inferences) kept ∙ ap (λ (s : Search). s.inferences) pushed.kept)

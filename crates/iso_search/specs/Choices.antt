@@ -1,0 +1,64 @@
+-- What choice points stand for. The older ones are read from the store as it was when the newest was made.
+use Rattle.std.specs.Prelude.{◌≤◌, List, [], ◌∷◌, length, take}
+use Rattle.std.specs.List.{All}
+use Rattle.pl_term.specs.Tree.{Tree}
+use Rattle.pl_model.specs.Resolution.{Node, resolving, Choice, clauses, branch, barrier, catch}
+use Rattle.term_store.specs.declared.words.Place.{Place}
+use Rattle.term_store.specs.Contents.{Contents, Holds, IsMark, back_to}
+use Rattle.iso_search.specs.declared.frames.Task.{Task}
+use Rattle.iso_search.specs.declared.frames.Task.TheVariants.{Goal, Commit, Refute, Leave, Collect}
+use Rattle.iso_search.specs.declared.frames.Frame.{Frame}
+use Rattle.iso_search.specs.declared.choices.Alternative.{Alternative}
+use Rattle.iso_search.specs.declared.choices.Alternative.TheVariants.{Clauses, Branch, Barrier, Catch}
+use Rattle.iso_search.specs.declared.choices.ChoicePoint.{ChoicePoint}
+use Rattle.iso_search.specs.Frames.{tasks, AreLinked}
+use Rattle.iso_search.specs.Reading.{View, reads, node_at}
+
+-- The choice with this node behind it.
+abbrev pub choice_at : View → (Place → Tree) → Node → Alternative → Choice
+choice_at v r n (Clauses w generation place) = clauses resolving (r w) (v.left (r w) generation place) n
+choice_at v r n Branch = branch n
+choice_at v r n Barrier = barrier
+choice_at v r n (Catch c w) = catch (r c) (r w) n
+
+-- The node behind a choice point.
+abbrev pub node_behind : View → List Place → Contents → List Frame → ChoicePoint → Node
+node_behind v ws s fs k = node_at (reads v (back_to k.mark s)) (tasks (take k.frames fs) k.next) ws k.mark.used
+
+-- The choices, the newest first.
+abbrev pub choices_at : View → List Place → Contents → List Frame → List ChoicePoint → List Choice
+choices_at v ws s fs [] = []
+choices_at v ws s fs (k ∷ ks) =
+    choice_at v (reads v (back_to k.mark s)) (node_behind v ws s fs k) k.alternative
+    ∷ choices_at v ws (back_to k.mark s) (take k.frames fs) ks
+
+abbrev pub IsTaskIn : Contents → Task → Type 0
+IsTaskIn s (Goal w n) = Holds s w
+IsTaskIn s (Commit n) = Unit {0}
+IsTaskIn s (Refute n) = Unit {0}
+IsTaskIn s (Leave n) = Unit {0}
+IsTaskIn s (Collect w n) = Holds s w
+
+abbrev pub IsAlternativeIn : Contents → Alternative → Type 0
+IsAlternativeIn s (Clauses w g p) = Holds s w
+IsAlternativeIn s Branch = Unit {0}
+IsAlternativeIn s Barrier = Unit {0}
+IsAlternativeIn s (Catch c w) = Holds s c × Holds s w
+
+-- The places of the frames and of the answer are of the store, and the frames are well made.
+pub record IsBase (ws : List Place) (s : Contents) (fs : List Frame) : Type 0 where
+  pub answer : All (Holds s) ws
+  pub words : All (λ f. IsTaskIn s f.task) fs
+  pub linked : AreLinked fs
+
+-- A choice point can be gone back to.
+pub record IsRest (ws : List Place) (s : Contents) (fs : List Frame) (k : ChoicePoint) : Type 0 where
+  pub mark : IsMark k.mark s
+  pub frames : k.frames ≤ length fs
+  pub next : k.next ≤ k.frames
+  pub base : IsBase ws (back_to k.mark s) (take k.frames fs)
+  pub words : IsAlternativeIn (back_to k.mark s) k.alternative
+
+abbrev pub AreRests : List Place → Contents → List Frame → List ChoicePoint → Type 0
+AreRests ws s fs [] = Unit {0}
+AreRests ws s fs (k ∷ ks) = IsRest ws s fs k × AreRests ws (back_to k.mark s) (take k.frames fs) ks

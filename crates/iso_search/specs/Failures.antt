@@ -1,0 +1,25 @@
+-- What is left to do after a failure, as states of the search.
+use Rattle.std.specs.Prelude.{◌≤◌, length}
+use Rattle.pl_model.specs.Resolution.{State, running, failing, resolving, ended, no_more}
+use Rattle.pl_model.specs.Control.{next_clause}
+use Rattle.term_store.specs.Contents.{Holds}
+use Rattle.iso_search.specs.declared.failure.Back.{Back}
+use Rattle.iso_search.specs.declared.failure.Back.TheVariants.{Exhausted, Run, Fail, Retry}
+use Rattle.iso_search.specs.declared.search.Search.{Search}
+use Rattle.iso_search.specs.Outcomes.{Setting, limits_in, state_in}
+use Rattle.iso_search.specs.Reading.{reads}
+use Rattle.iso_search.specs.Searching.{node_of, state_of}
+
+abbrev pub back_result : Setting → Search → Back → State
+back_result t e Exhausted = state_of t.view e (ended no_more) t.output
+back_result t e (Run list) = state_of t.view e (running (node_of t.view e list)) t.output
+back_result t e Fail = state_of t.view e failing t.output
+back_result t e (Retry goal generation place next) =
+    next_clause (limits_in t e) resolving (state_in t e) (reads t.view e.store goal) (node_of t.view e next)
+    (t.view.left (reads t.view e.store goal) generation place)
+
+abbrev pub IsBackIn : Search → Back → Type 0
+IsBackIn e Exhausted = Unit {0}
+IsBackIn e (Run list) = list ≤ length e.frames.items
+IsBackIn e Fail = Unit {0}
+IsBackIn e (Retry goal generation place next) = Holds e.store goal × (next ≤ length e.frames.items)

@@ -1,0 +1,81 @@
+-- What running a goal leads to, as states of the search.
+use Rattle.std.specs.Prelude.{◌≡◌, ℕ, ℤ, pos, negsuc, List, ◌∷◌, length, Option, Some, None, true, false, nat_lt, nat_le, if◌then◌else◌, codes}
+use Rattle.pl_term.specs.Tree.{Chars, Tree}
+use Rattle.pl_model.specs.History.{Proc}
+use Rattle.pl_model.specs.Balls.{error_ball, instantiation_error, type_error, not_callable, no_inferences, no_cells, no_choices}
+use Rattle.pl_model.specs.ErrorTerms.{domain_error}
+use Rattle.pl_model.specs.Resolution.{Limits, Pending, commit, refute, leave, Node, Doing, running, failing, throwing, ended, halted, Output, State}
+use Rattle.term_store.specs.declared.words.Place.{Place}
+use Rattle.iso_search.specs.declared.choices.Alternative.{Alternative}
+use Rattle.iso_search.specs.declared.control.Exit.{Exit}
+use Rattle.iso_search.specs.declared.control.Exit.TheVariants.{Commit, Refute, Leave}
+use Rattle.iso_search.specs.declared.outcome.Fault.{Fault}
+use Rattle.iso_search.specs.declared.outcome.Fault.TheVariants.{Inferences, Cells, Choices, Instantiation, NotCallable, NotInteger, NotList, NotStatus}
+use Rattle.iso_search.specs.declared.outcome.Outcome.{Outcome}
+use Rattle.iso_search.specs.declared.outcome.Outcome.TheVariants.{Run, Fail, Raise, Throw, Halt}
+use Rattle.iso_search.specs.declared.search.Search.{Search}
+use Rattle.iso_search.specs.Reading.{View, reads}
+use Rattle.iso_search.specs.Choices.{choice_at}
+use Rattle.iso_search.specs.Searching.{node_of, choices_of, state_of}
+
+-- By what a search is read, and what it does not hold itself.
+pub record Setting : Type 0 where
+  pub view : View
+  pub solutions : ℕ
+  pub stays : Option Chars
+  pub doing : Doing
+  pub output : List Output
+
+abbrev pub limits_in : Setting → Search → Limits
+limits_in t e =
+    record {
+      inferences = e.budgets.inferences;
+      cells = e.budgets.cells;
+      choices = e.budgets.choices;
+      solutions = t.solutions;
+      stays = t.stays;
+    }
+
+abbrev pub state_in : Setting → Search → State
+state_in t e = state_of t.view e t.doing t.output
+
+-- The error term.
+abbrev pub fault_term : (Place → Tree) → Fault → Tree
+fault_term r Inferences = no_inferences
+fault_term r Cells = no_cells
+fault_term r Choices = no_choices
+fault_term r Instantiation = instantiation_error
+fault_term r (NotCallable w) = not_callable (r w)
+fault_term r (NotInteger w) = type_error (codes "integer") (r w)
+fault_term r (NotList w) = type_error (codes "list") (r w)
+fault_term r (NotStatus w) = domain_error (codes "exit_status") (r w)
+
+-- What is done next, where the predicate `p` was run at the node `n`.
+abbrev pub doing_by : Setting → Search → Node → Proc → Outcome → Doing
+doing_by t e n p (Run list) = running (node_of t.view e list)
+doing_by t e n p Fail = failing
+doing_by t e n p (Raise f) = throwing (error_ball (fault_term (reads t.view e.store) f) p) n.goals
+doing_by t e n p (Throw w) = throwing (reads t.view e.store w) n.goals
+doing_by t e n p (Halt k) = ended (halted k)
+
+abbrev pub result_in : Setting → Search → Node → Proc → Outcome → State
+result_in t e n p o = state_of t.view e (doing_by t e n p o) t.output
+
+-- A choice point was made, unless there are too many.
+abbrev pub IsMade : View → Option ℕ → Search → Alternative → ℕ → Search → Type 0
+IsMade v None e a behind d =
+    (nat_lt (length (choices_of v e)) e.budgets.choices ≡ false) × (choices_of v d ≡ choices_of v e)
+IsMade v (Some height) e a behind d =
+    (nat_lt (length (choices_of v e)) e.budgets.choices ≡ true)
+    × (choices_of v d ≡ choice_at v (reads v e.store) (node_of v e behind) a ∷ choices_of v e)
+    × (height ≡ length (choices_of v e))
+
+-- What comes of an exit with a status at a place.
+abbrev pub status_outcome : Place → ℤ → Outcome
+status_outcome w (pos k) = if nat_le k 254 then Halt k else Raise (NotStatus w)
+status_outcome w (negsuc k) = Raise (NotStatus w)
+
+abbrev pub exit_at : Exit → ℕ → Pending
+exit_at Commit h = commit h
+exit_at Refute h = refute h
+exit_at Leave h = leave h

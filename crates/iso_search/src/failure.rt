@@ -1,0 +1,59 @@
+//! Failure (ISO 7.7.8).
+ghost use Rattle.std.specs.Prelude.{◌≡◌, ◌≤◌, length};
+ghost use Rattle.pl_model.specs.Resolution.{failing};
+ghost use Rattle.pl_model.specs.Control.{gone_back};
+ghost use Rattle.iso_search.specs.Failures.{IsBackIn, back_result};
+ghost use Rattle.iso_search.specs.Outcomes.{Setting, limits_in, state_in};
+ghost use Rattle.iso_search.specs.Searching.{IsWhole, choices_of};
+
+use crate::choices::Alternative;
+use crate::search::Search;
+use term_store::Place;
+
+/// What is left to do after a failure.
+#[derive(Clone, Copy, Debug, Drop)]
+pub enum Back {
+    /// There is no choice point: there is no further solution.
+    Exhausted,
+    /// These tasks are to be done.
+    Run(usize),
+    /// The next choice point is to be gone back to.
+    Fail,
+    /// The clauses for the goal behind the place are to be tried, those of the generation, before the tasks of the list.
+    Retry {
+        goal: Place,
+        generation: u64,
+        place: u64,
+        next: usize,
+    },
+}
+
+impl Search {
+    /// Goes back to the newest choice point, and takes what was not tried there.
+    pub fn resume(&mut self) -> Back
+        requires { IsWhole self.old }
+        ensures whole { IsWhole self.new }
+        ensures inside { IsBackIn self.new result }
+        ensures step { (t : Setting) → t.doing ≡ failing
+            → back_result t self.new result ≡ gone_back (limits_in t self.old) (state_in t self.old) (choices_of t.view self.old) }
+    {
+        let Some(k) = self.go_back() else {
+            return Back::Exhausted;
+        };
+        match k.alternative {
+            Alternative::Clauses {
+                goal,
+                generation,
+                place,
+            } => Back::Retry {
+                goal,
+                generation,
+                place,
+                next: k.next,
+            },
+            Alternative::Branch => Back::Run(k.next),
+            Alternative::Barrier => Back::Fail,
+            Alternative::Catch { .. } => Back::Fail,
+        }
+    }
+}

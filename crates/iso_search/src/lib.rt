@@ -1,0 +1,19 @@
+//! The states of a search, and the steps of resolution on a store of terms (ISO/IEC 13211-1:1995, 7.7 and 7.8).
+#![tactic(auto)]
+
+pub mod bodies;
+pub mod budget;
+pub mod calls;
+pub mod choices;
+pub mod construct;
+pub mod control;
+pub mod equal;
+pub mod extending;
+pub mod failure;
+pub mod frames;
+pub mod goals;
+pub mod leaving;
+pub mod outcome;
+pub mod search;
+pub mod spelling;
+pub mod throwing;
