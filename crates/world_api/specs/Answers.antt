@@ -19,7 +19,7 @@ use Rattle.world_api.specs.declared.answer.Answer.{Answer}
 use Rattle.world_api.specs.declared.answer.Answer.TheVariants.{Served, Waits, NeedsAtoms, Retry, Worn, Memory}
 use Rattle.world_api.specs.Told.{Told, Follows, clause_list, behind, has_place}
 use Rattle.world_api.specs.Visits.{IsGoal, Asks}
-use Rattle.world_api.specs.Replies.{IsFront, Says}
+use Rattle.world_api.specs.Replies.{IsFront, Says, reply_names}
 
 -- The refusals of atoms that an answer hands on.
 abbrev pub refusals_by : {T : Type 0} → Answer T → List Refusal
@@ -29,6 +29,11 @@ refusals_by (NeedsAtoms p) = RefusalFull p ∷ []
 refusals_by (Retry c) = RefusalAgain c ∷ []
 refusals_by (Worn w) = RefusalWorn w ∷ []
 refusals_by Memory = []
+
+-- The atoms that an answer names.
+abbrev pub answer_names : {T : Type 0} → (T → List ℕ) → Answer T → List ℕ
+answer_names names (Served r g) = reply_names names r
+answer_names names _ = []
 
 -- All but what the engine has seen and asked stays.
 abbrev pub seen_as : Told → History → List ℕ → Told

@@ -61,14 +61,14 @@ abbrev pub optional_names : {T : Type 0} → (T → List ℕ) → Option T → L
 optional_names names None = []
 optional_names names (Some t) = names t
 
-module _ {T K : Type 0} (names : T → List ℕ) where
-  -- The atoms that a visit names. That of a key is named by the goal.
+module _ {T K : Type 0} (names : T → List ℕ) (key_names : K → List ℕ) where
+  -- The atoms that a visit names.
   abbrev pub visit_names : Visit T K → List ℕ
-  visit_names (Call p k) = p.name ∷ []
-  visit_names (Inspect p k) = p.name ∷ []
-  visit_names (Retract p k) = p.name ∷ []
-  visit_names (Clear p k) = p.name ∷ []
-  visit_names (Next p k g place) = p.name ∷ []
+  visit_names (Call p k) = p.name ∷ key_names k
+  visit_names (Inspect p k) = p.name ∷ key_names k
+  visit_names (Retract p k) = p.name ∷ key_names k
+  visit_names (Clear p k) = p.name ∷ key_names k
+  visit_names (Next p k g place) = p.name ∷ key_names k
   visit_names (AssertFirst c) = names c
   visit_names (AssertLast c) = names c
   visit_names (Consult c) = names c

@@ -5,9 +5,7 @@ ghost use Rattle.pl_model.specs.History.{History};
 ghost use Rattle.world_api.specs.Texts.{text_of, Holds};
 ghost use Rattle.world_api.specs.Told.{Told, has_ended};
 ghost use Rattle.world_api.specs.Visits.{visit_names};
-ghost use Rattle.world_api.specs.Replies.{reply_names};
-ghost use Rattle.world_api.specs.Answers.{CanVisit, Visited, refusals_by};
-ghost use Rattle.world_api.specs.declared.answer.Answer.TheVariants.{Served, Waits};
+ghost use Rattle.world_api.specs.Answers.{CanVisit, Visited, answer_names, refusals_by};
 
 use crate::answer::Answer;
 use crate::named::Named;
@@ -33,11 +31,12 @@ pub trait World {
         atoms: &mut Self::A,
     ) -> Answer<Self::Term>
         requires runs { has_ended (told self.old).engine (told self.old).history ≡ false }
-        requires held { All (λ a. IsSome (Self.A.held atoms.old a)) (visit_names Self.Term.names visit) }
+        requires held { All (λ a. IsSome (Self.A.held atoms.old a)) (visit_names Self.Term.names Self.Term.key_names visit) }
         requires next { CanVisit Self.Term.term Self.Term.key_of (text_of (Self.A.held atoms.old)) visit (told self.old) }
         ensures visited { (before : History) × Visited Self.Term.term Self.Term.key_of
             (text_of (Self.A.held atoms.old)) (text_of (Self.A.held atoms.new)) visit result (told self.old) before (told self.new) }
         ensures runs { has_ended (told self.new).engine (told self.new).history ≡ false }
+        ensures names { All (λ a. IsSome (Self.A.held atoms.new a)) (answer_names Self.Term.names result) }
         ensures holds { Holds (Self.A.held atoms.old) (Self.A.held atoms.new) }
         ensures refusals { Self.A.refusals atoms.new ≡ Self.A.refusals atoms.old ++ refusals_by result };
 }
