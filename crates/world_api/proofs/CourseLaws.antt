@@ -1,12 +1,12 @@
 -- How the course of a search goes on.
-use Rattle.std.proofs.Common.{◌≡◌, ℕ, zero, suc, ◌+◌, List, [], ◌∷◌, ◌++◌, length, Option, refl, ap, sym, ◌∙◌, arith, subst}
+use Rattle.std.proofs.Common.{◌≡◌, ℕ, suc, ◌+◌, [], ◌∷◌, ◌++◌, length, Option, refl, ap, sym, ◌∙◌, arith, subst}
 use Rattle.pl_model.specs.History.{Kind, History, mine}
 use Rattle.pl_model.specs.Requests.{Request, Reply}
 use Rattle.pl_model.specs.Service.{answers}
 use Rattle.pl_model.specs.Resolution.{Limits, State, Next, goes, asks}
 use Rattle.pl_model.specs.Control.{step}
-use Rattle.pl_model.specs.Execution.{Job, Execution, Rest, Move, moves, requests, move, directing, searching, directed, searched}
-use Rattle.pl_model.specs.Progress.{Seen, Reached, MovesTo, AsksTo, entry_by, served_now}
+use Rattle.pl_model.specs.Execution.{Job, Execution, Move, moves, requests, move, directed, searched}
+use Rattle.pl_model.specs.Progress.{Reached, entry_by, served_now}
 use Rattle.pl_model.proofs.Progress.{reached_later, reached_goes, reached_asks}
 use Rattle.world_api.specs.Told.{Told, Follows}
 use Rattle.world_api.specs.Answers.{seen_as}

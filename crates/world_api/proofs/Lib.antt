@@ -1,2 +1,3 @@
+pub mod ComesLaws
 pub mod CourseLaws
 pub mod OnceLaws

@@ -1,21 +1,19 @@
 -- How an engine that was started with a goal comes to it and to its end.
-use Rattle.std.proofs.Common.{◌≡◌, ℕ, zero, suc, ◌+◌, List, [], ◌∷◌, ◌++◌, length, Option, Some, None, IsSome, slice_index_or, Bool, false, refl, ap, sym, ◌∙◌, arith, subst, append-nil}
+use Rattle.std.proofs.Common.{◌≡◌, ℕ, List, [], ◌++◌, Option, Some, None, IsSome, slice_index_or, Bool, false, refl, ap, sym, ◌∙◌, subst, append-nil}
 use Rattle.std.specs.Prelude.{encode_utf8_all}
 use Rattle.std.specs.List.{All}
 use Rattle.atom_api.specs.Names.{Names}
 use Rattle.world_api.specs.Texts.{text_of, or_no_text, Holds}
 use Rattle.pl_term.specs.Tree.{Chars, Tree}
-use Rattle.pl_model.specs.History.{Kind, History, mine}
+use Rattle.pl_model.specs.History.{History}
 use Rattle.pl_model.specs.Requests.{Request, look}
 use Rattle.pl_model.specs.Requests as requests
-use Rattle.pl_model.specs.Service.{answers, waits, serve}
-use Rattle.pl_model.specs.SharedState.{state_at}
-use Rattle.pl_model.specs.Resolution.{State, Ending, ended, stops, Next as Step}
+use Rattle.pl_model.specs.Service.{waits, serve}
+use Rattle.pl_model.specs.Resolution.{State, Ending, ended}
 use Rattle.pl_model.specs.Control.{step, step_by, start}
-use Rattle.pl_model.specs.Execution.{Script, runs, Job, Consulted, Execution, Move, moves, requests as asking, move, searching, searched, over}
-use Rattle.pl_model.specs.Progress.{Reached, entry_by, served_now}
+use Rattle.pl_model.specs.Execution.{runs, Job, Consulted, Execution, moves, requests as asking, move, searching, searched, over}
+use Rattle.pl_model.specs.Progress.{served_now}
 use Rattle.pl_model.specs.Report.{all_consulted}
-use Rattle.pl_model.proofs.Progress.{reached_later, reached_goes, reached_asks}
 use Rattle.atom_words.specs.declared.view.Pass.{Pass}
 use Rattle.atom_words.specs.declared.view.Cause.{Cause}
 use Rattle.atom_words.specs.declared.view.WornWord.{WornWord}
@@ -24,15 +22,16 @@ use Rattle.world_api.specs.declared.script.Next.{Next}
 use Rattle.world_api.specs.declared.script.Next.TheVariants.{Item, Done, NeedsAtoms, Retry, Worn, Memory}
 use Rattle.world_api.specs.declared.once.Stage.{Stage}
 use Rattle.world_api.specs.declared.once.Stage.TheVariants.{Fresh, AtHand, Over}
-use Rattle.world_api.specs.Told.{Told, Follows}
+use Rattle.world_api.specs.Told.{Told}
 use Rattle.world_api.specs.declared.reply.Reply.{Reply}
 use Rattle.world_api.specs.declared.visit.Visit.TheVariants.{Look}
 use Rattle.world_api.specs.declared.answer.Answer.TheVariants.{Served}
-use Rattle.world_api.specs.Answers.{seen_as, Visited}
-use Rattle.world_api.specs.Courses.{Part, of_goal, limits_of, with_search, seen_in}
-use Rattle.world_api.specs.Scripts.{Comes, StandsBefore, Given, written_at}
+use Rattle.world_api.specs.Answers.{Visited}
+use Rattle.world_api.specs.Courses.{of_goal, with_search}
+use Rattle.world_api.specs.Scripts.{Comes, Given, written_at}
 use Rattle.world_api.specs.Onces.{execution_of, part_of, plays_of}
 use Rattle.world_api.specs.OnceGiven.{Looked, TakenUp}
+use Rattle.world_api.proofs.ComesLaws.{comes_same, comes_by_move, comes_by_request}
 
 -- A look never waits.
 pub look_serves : (e goals : ℕ) (h : History) → served_now e goals h look ≡ waits → ⊥
@@ -47,86 +46,11 @@ looked_of term key old_text new_text r g t before u v =
     let s = v.1.serves look refl
     in record { before = before; reply = s.0; update = v.1.update; follows = v.0; served = s.1; told = v.1.told }
 
-comes_same : (job : Job) (x y : Execution) (t : Told) → x ≡ y → Comes job x t y t
-comes_same job x y t same =
-    record {
-      engine = refl;
-      goals = refl;
-      moves = 0;
-      comes =
-          λ low m r.
-          subst
-          (λ (z : Execution). Reached t.engine t.goals job low (seen_in t z) (0 + m))
-          same
-          (subst (λ (k : ℕ). Reached t.engine t.goals job low (seen_in t x) k) (let e : m ≡ 0 + m = omega arith in e) r);
-    }
-
-comes_by_move : (job : Job) (x y : Execution) (t : Told) → move job x ≡ moves y → Comes job x t y t
-comes_by_move job x y t is =
-    record {
-      engine = refl;
-      goals = refl;
-      moves = 1;
-      comes =
-          λ low m r.
-          subst
-          (λ (k : ℕ). Reached t.engine t.goals job low (seen_in t y) k)
-          (let e : suc m ≡ 1 + m = omega arith in e)
-          (reached_goes
-          t.engine
-          t.goals
-          job
-          low
-          (seen_in t x)
-          (seen_in t y)
-          m
-          (record { moves_is = is; history_is = refl; gens_is = refl })
-          r);
-    }
-
 comes_by_look : (job : Job) (x : Execution) (next : requests.Reply → Execution) (t u : Told)
     → move job x ≡ asking look next
     → (l : Looked t u)
     → Comes job x t (next l.reply) u
-comes_by_look job x next t u is l =
-    subst
-    (λ (w : Told). Comes job x t (next l.reply) w)
-    (sym l.told)
-    (record {
-      engine = refl;
-      goals = refl;
-      moves = 1;
-      comes =
-          λ low m r.
-          let later : Reached t.engine t.goals job low (record { execution = x; history = l.before; gens = t.gens }) m =
-          subst
-          (λ (h : History). Reached t.engine t.goals job low (record { execution = x; history = h; gens = t.gens }) m)
-          (sym l.follows.grown)
-          (reached_later t.engine t.goals job low (seen_in t x) m l.follows.later l.follows.others r)
-          in subst
-          (λ (k : ℕ). Reached t.engine t.goals job low (seen_in (seen_as t (l.before ++ entry_by t.engine l.update) (t.gens ++ length l.before ∷ [])) (next l.reply)) k)
-          (let e : suc m ≡ 1 + m = omega arith in e)
-          (reached_asks
-          t.engine
-          t.goals
-          job
-          low
-          (record { execution = x; history = l.before; gens = t.gens })
-          (seen_in (seen_as t (l.before ++ entry_by t.engine l.update) (t.gens ++ length l.before ∷ [])) (next l.reply))
-          m
-          (record {
-            request = look;
-            next = next;
-            reply = l.reply;
-            update = l.update;
-            asks_is = is;
-            served = l.served;
-            execution_is = refl;
-            history_is = refl;
-            gens_is = refl;
-          })
-          later);
-    })
+comes_by_look job x next t u is l = comes_by_request job x look next t u l.before l.reply l.update is l.follows l.served l.told
 
 -- What is written of the file is as before.
 written : (bytes : List ℕ) (cs : List Consulted) (x y : Execution)
@@ -147,27 +71,28 @@ unfolding move step
 end_move job x r ending is = ap (λ d. searched (record x { activity = searching r }) r (step_by job.limits r d)) is
 
 pub given_end : {T : Type 0} (term : (ℕ → Chars) → T → Tree) (old_text new_text : ℕ → Chars) (how : Option (How T)) (t : Told) (bytes : List ℕ)
-    → Given (execution_of term) part_of term (plays_of term) [] old_text new_text AtHand how t bytes Done Over t bytes
-given_end term old_text new_text None t bytes job cs x p b w = absurd b
-given_end term old_text new_text (Some how) t bytes job cs x p b w =
-    let base : Execution = execution_of term old_text AtHand cs
-    in let there : Execution = record base { activity = over b.1; output = b.0.output }
+    → Given (execution_of term) part_of term (plays_of term) [] old_text new_text AtHand how t bytes (Done None) Over t bytes
+given_end term old_text new_text None t bytes job cs searched x p b w = absurd b
+given_end term old_text new_text (Some how) t bytes job cs None x p b w = absurd b
+given_end term old_text new_text (Some how) t bytes job cs (Some r) x p b w =
+    let base : Execution = execution_of term old_text AtHand job cs
+    in let there : Execution = record base { activity = over b.0; output = r.output }
     in (
       cs,
       there,
       subst
           (λ (z : Execution). Comes job z t there t)
-          (sym b.4)
-          (comes_by_move job (with_search base of_goal b.0) there t (end_move job base b.0 b.1 b.2)),
-      (b.1, b.0.output, refl),
+          (sym b.3)
+          (comes_by_move job (with_search base of_goal r) there t (end_move job base r b.0 b.1)),
+      (b.0, r.output, (b.1, refl), refl),
       tt,
-      written bytes cs x (with_search base of_goal b.0) b.4 refl w,
+      written bytes cs x (with_search base of_goal r) b.3 refl w,
     )
 
 -- The move by which the goal is taken up.
 begin_move : {T : Type 0} (term : (ℕ → Chars) → T → Tree) (text : ℕ → Chars) (goal : T) (job : Job) (cs : List Consulted)
-    → move job (execution_of term text (Fresh goal) cs)
-    ≡ asking look (λ r. record (execution_of term text (Fresh goal) cs) { activity = searching (start job.limits (term text goal)) })
+    → move job (execution_of term text (Fresh goal) job cs)
+    ≡ asking look (λ r. record (execution_of term text (Fresh goal) job cs) { activity = searching (start job.limits (term text goal)) })
 unfolding move
 begin_move term text goal job cs = refl
 
@@ -175,9 +100,9 @@ given_item : {T : Type 0} (term : (ℕ → Chars) → T → Tree) (old_text new_
     → term old_text goal ≡ term new_text goal
     → Looked t u
     → Given (execution_of term) part_of term (plays_of term) [] old_text new_text (Fresh goal) how t bytes (Item goal false) AtHand u bytes
-given_item term old_text new_text (Some how) goal t u bytes tell l job cs x p b w = absurd b
-given_item term old_text new_text None goal t u bytes tell l job cs x p b w =
-    let base : Execution = execution_of term old_text (Fresh goal) cs
+given_item term old_text new_text (Some how) goal t u bytes tell l job cs searched x p b w = absurd b
+given_item term old_text new_text None goal t u bytes tell l job cs searched x p b w =
+    let base : Execution = execution_of term old_text (Fresh goal) job cs
     in let search : Tree → Execution = λ g. record base { activity = searching (start job.limits g) }
     in (
       cs,
@@ -196,66 +121,66 @@ given_item term old_text new_text None goal t u bytes tell l job cs x p b w =
 
 given_kept : {T : Type 0} (term : (ℕ → Chars) → T → Tree) (old_text new_text : ℕ → Chars) (goal : T) (t : Told) (bytes : List ℕ) (job : Job) (cs : List Consulted) (x : Execution)
     → term old_text goal ≡ term new_text goal
-    → x ≡ execution_of term old_text (Fresh goal) cs
-    → Comes job x t (execution_of term new_text (Fresh goal) cs) t
+    → x ≡ execution_of term old_text (Fresh goal) job cs
+    → Comes job x t (execution_of term new_text (Fresh goal) job cs) t
 given_kept term old_text new_text goal t bytes job cs x tell b =
     comes_same
     job
     x
-    (execution_of term new_text (Fresh goal) cs)
+    (execution_of term new_text (Fresh goal) job cs)
     t
-    (b ∙ ap (λ (g : Tree). execution_of (λ (k : ℕ → Chars) (y : Tree). y) old_text (Fresh g) cs) tell)
+    (b ∙ ap (λ (g : Tree). execution_of (λ (k : ℕ → Chars) (y : Tree). y) old_text (Fresh g) job cs) tell)
 
 given_short : {T : Type 0} (term : (ℕ → Chars) → T → Tree) (old_text new_text : ℕ → Chars) (how : Option (How T)) (goal : T) (t : Told) (bytes : List ℕ) (pass : Pass)
     → term old_text goal ≡ term new_text goal
     → Given (execution_of term) part_of term (plays_of term) [] old_text new_text (Fresh goal) how t bytes (NeedsAtoms pass) (Fresh goal) t bytes
-given_short term old_text new_text (Some how) goal t bytes pass tell job cs x p b w = absurd b
-given_short term old_text new_text None goal t bytes pass tell job cs x p b w = (
+given_short term old_text new_text (Some how) goal t bytes pass tell job cs searched x p b w = absurd b
+given_short term old_text new_text None goal t bytes pass tell job cs searched x p b w = (
   cs,
-  execution_of term new_text (Fresh goal) cs,
+  execution_of term new_text (Fresh goal) job cs,
   given_kept term old_text new_text goal t bytes job cs x tell b,
   (refl, refl),
   p ∙ ap runs tell,
-  written bytes cs x (execution_of term old_text (Fresh goal) cs) b refl w,
+  written bytes cs x (execution_of term old_text (Fresh goal) job cs) b refl w,
 )
 
 given_again : {T : Type 0} (term : (ℕ → Chars) → T → Tree) (old_text new_text : ℕ → Chars) (how : Option (How T)) (goal : T) (t : Told) (bytes : List ℕ) (cause : Cause)
     → term old_text goal ≡ term new_text goal
     → Given (execution_of term) part_of term (plays_of term) [] old_text new_text (Fresh goal) how t bytes (Retry cause) (Fresh goal) t bytes
-given_again term old_text new_text (Some how) goal t bytes cause tell job cs x p b w = absurd b
-given_again term old_text new_text None goal t bytes cause tell job cs x p b w = (
+given_again term old_text new_text (Some how) goal t bytes cause tell job cs searched x p b w = absurd b
+given_again term old_text new_text None goal t bytes cause tell job cs searched x p b w = (
   cs,
-  execution_of term new_text (Fresh goal) cs,
+  execution_of term new_text (Fresh goal) job cs,
   given_kept term old_text new_text goal t bytes job cs x tell b,
   (refl, refl),
   p ∙ ap runs tell,
-  written bytes cs x (execution_of term old_text (Fresh goal) cs) b refl w,
+  written bytes cs x (execution_of term old_text (Fresh goal) job cs) b refl w,
 )
 
 given_worn : {T : Type 0} (term : (ℕ → Chars) → T → Tree) (old_text new_text : ℕ → Chars) (how : Option (How T)) (goal : T) (t : Told) (bytes : List ℕ) (word : WornWord)
     → term old_text goal ≡ term new_text goal
     → Given (execution_of term) part_of term (plays_of term) [] old_text new_text (Fresh goal) how t bytes (Worn word) (Fresh goal) t bytes
-given_worn term old_text new_text (Some how) goal t bytes word tell job cs x p b w = absurd b
-given_worn term old_text new_text None goal t bytes word tell job cs x p b w = (
+given_worn term old_text new_text (Some how) goal t bytes word tell job cs searched x p b w = absurd b
+given_worn term old_text new_text None goal t bytes word tell job cs searched x p b w = (
   cs,
-  execution_of term new_text (Fresh goal) cs,
+  execution_of term new_text (Fresh goal) job cs,
   given_kept term old_text new_text goal t bytes job cs x tell b,
   (refl, refl),
   p ∙ ap runs tell,
-  written bytes cs x (execution_of term old_text (Fresh goal) cs) b refl w,
+  written bytes cs x (execution_of term old_text (Fresh goal) job cs) b refl w,
 )
 
 given_memory : {T : Type 0} (term : (ℕ → Chars) → T → Tree) (old_text new_text : ℕ → Chars) (how : Option (How T)) (goal : T) (t : Told) (bytes : List ℕ)
     → term old_text goal ≡ term new_text goal
     → Given (execution_of term) part_of term (plays_of term) [] old_text new_text (Fresh goal) how t bytes Memory (Fresh goal) t bytes
-given_memory term old_text new_text (Some how) goal t bytes tell job cs x p b w = absurd b
-given_memory term old_text new_text None goal t bytes tell job cs x p b w = (
+given_memory term old_text new_text (Some how) goal t bytes tell job cs searched x p b w = absurd b
+given_memory term old_text new_text None goal t bytes tell job cs searched x p b w = (
   cs,
-  execution_of term new_text (Fresh goal) cs,
+  execution_of term new_text (Fresh goal) job cs,
   given_kept term old_text new_text goal t bytes job cs x tell b,
   tt,
   p ∙ ap runs tell,
-  written bytes cs x (execution_of term old_text (Fresh goal) cs) b refl w,
+  tt,
 )
 
 -- What is given where the stage and what is told are equal to these.
@@ -287,7 +212,7 @@ given_next {T} term old_text new_text how goal t u bytes (Item g directive) stag
     (λ (d : Bool). Given (execution_of term) part_of term (plays_of term) [] old_text new_text (Fresh goal) how t bytes (Item goal d) AtHand u bytes)
     (sym k.1)
     (given_item term old_text new_text how goal t u bytes tell k.3)))
-given_next term old_text new_text how goal t u bytes Done stage tell k = absurd k
+given_next term old_text new_text how goal t u bytes (Done h) stage tell k = absurd k
 given_next term old_text new_text how goal t u bytes (NeedsAtoms pass) stage tell k =
     given_at term old_text new_text how goal t u bytes (NeedsAtoms pass) stage k (given_short term old_text new_text how goal t bytes pass tell)
 given_next term old_text new_text how goal t u bytes (Retry cause) stage tell k =
@@ -312,13 +237,13 @@ given_from {T} term old_text new_text how goal old t u bytes next stage is tell 
 pub end_from : {T : Type 0} (term : (ℕ → Chars) → T → Tree) (old_text new_text : ℕ → Chars) (how : Option (How T)) (old new : Stage T) (t : Told) (bytes : List ℕ)
     → old ≡ AtHand
     → new ≡ Over
-    → Given (execution_of term) part_of term (plays_of term) [] old_text new_text old how t bytes Done new t bytes
+    → Given (execution_of term) part_of term (plays_of term) [] old_text new_text old how t bytes (Done None) new t bytes
 end_from {T} term old_text new_text how old new t bytes is after =
     subst
-    (λ (s : Stage T). Given (execution_of term) part_of term (plays_of term) [] old_text new_text s how t bytes Done new t bytes)
+    (λ (s : Stage T). Given (execution_of term) part_of term (plays_of term) [] old_text new_text s how t bytes (Done None) new t bytes)
     (sym is)
     (subst
-    (λ (s : Stage T). Given (execution_of term) part_of term (plays_of term) [] old_text new_text AtHand how t bytes Done s t bytes)
+    (λ (s : Stage T). Given (execution_of term) part_of term (plays_of term) [] old_text new_text AtHand how t bytes (Done None) s t bytes)
     (sym after)
     (given_end term old_text new_text how t bytes))
 

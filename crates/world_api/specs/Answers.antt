@@ -1,6 +1,6 @@
 -- What an answer says of the shared state before and after.
-use Rattle.std.specs.Prelude.{◌≡◌, ◌<◌, ℕ, List, [], ◌∷◌, ◌++◌, length, Option, Some, None, IsSome, true}
-use Rattle.std.specs.List.{All, Contains}
+use Rattle.std.specs.Prelude.{◌≡◌, ℕ, List, [], ◌∷◌, ◌++◌, length, Option, true}
+use Rattle.std.specs.List.{Contains}
 use Rattle.pl_term.specs.Tree.{Chars, Tree}
 use Rattle.pl_model.specs.History.{Kind, History}
 use Rattle.pl_model.specs.Service.{answers, waits}

@@ -1,6 +1,5 @@
 -- The course of a search: from one state to another, whatever execution of an engine it is part of.
-use Rattle.std.specs.Prelude.{◌≡◌, ℕ, ◌+◌, List}
-use Rattle.pl_model.specs.History.{History}
+use Rattle.std.specs.Prelude.{◌≡◌, ℕ, ◌+◌}
 use Rattle.pl_model.specs.Resolution.{Limits, State}
 use Rattle.pl_model.specs.Execution.{Job, Execution, Rest, directing, searching, directive_limits}
 use Rattle.pl_model.specs.Progress.{Seen, Reached}

@@ -1,5 +1,5 @@
 -- How the goal of a script of one goal is taken up.
-use Rattle.std.specs.Prelude.{◌≡◌, ℕ, List, [], ◌∷◌, ◌++◌, length, Bool, true, false, Option}
+use Rattle.std.specs.Prelude.{◌≡◌, [], ◌∷◌, ◌++◌, length, false, Option}
 use Rattle.pl_model.specs.History.{Kind, History}
 use Rattle.pl_model.specs.Requests.{look}
 use Rattle.pl_model.specs.Requests as requests
@@ -24,5 +24,5 @@ pub record Looked (t u : Told) : Type 0 where
 -- The goal is given as an item, or is kept and nothing was told.
 abbrev pub TakenUp : {T : Type 0} → T → Told → Next T → Stage T → Told → Type 0
 TakenUp goal t (Item g directive) stage u = (g ≡ goal) × (directive ≡ false) × (stage ≡ AtHand) × Looked t u
-TakenUp goal t Done stage u = ⊥
+TakenUp goal t (Done h) stage u = ⊥
 TakenUp goal t _ stage u = (stage ≡ Fresh goal) × (u ≡ t)

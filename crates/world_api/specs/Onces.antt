@@ -1,9 +1,9 @@
 -- The script of an engine that was started with a goal.
-use Rattle.std.specs.Prelude.{◌≡◌, ℕ, List, [], ◌∷◌, Bool, true, false, Option, Some, None}
+use Rattle.std.specs.Prelude.{◌≡◌, ℕ, List, [], Bool, true, false, Option, Some, None}
 use Rattle.std.specs.List.{All}
-use Rattle.std.proofs.Common.{ap, refl, sym, ◌∙◌}
+use Rattle.std.proofs.Common.{ap, refl, ◌∙◌}
 use Rattle.pl_term.specs.Tree.{Chars, Tree}
-use Rattle.pl_model.specs.Execution.{Script, runs, Consulted, Execution, at_activity, beginning, initializing}
+use Rattle.pl_model.specs.Execution.{Script, Job, runs, Consulted, Execution, at_activity, beginning, initializing}
 use Rattle.world_api.specs.declared.once.Stage.{Stage}
 use Rattle.world_api.specs.declared.once.Stage.TheVariants.{Fresh, AtHand, Over}
 use Rattle.world_api.specs.Courses.{Part, of_goal}
@@ -24,10 +24,10 @@ names_of names AtHand = []
 names_of names Over = []
 
 module _ {T : Type 0} (term : (ℕ → Chars) → T → Tree) where
-  abbrev pub execution_of : (ℕ → Chars) → Stage T → List Consulted → Execution
-  execution_of text (Fresh t) cs = record (at_activity (beginning (term text t))) { consulted = cs }
-  execution_of text AtHand cs = record (at_activity initializing) { consulted = cs }
-  execution_of text Over cs = record (at_activity initializing) { consulted = cs }
+  abbrev pub execution_of : (ℕ → Chars) → Stage T → Job → List Consulted → Execution
+  execution_of text (Fresh t) job cs = record (at_activity (beginning (term text t))) { consulted = cs }
+  execution_of text AtHand job cs = record (at_activity initializing) { consulted = cs }
+  execution_of text Over job cs = record (at_activity initializing) { consulted = cs }
 
   abbrev pub plays_of : (ℕ → Chars) → Stage T → Script → Type 0
   plays_of text (Fresh t) x = x ≡ runs (term text t)
@@ -38,13 +38,13 @@ module _ {T : Type 0} (term : (ℕ → Chars) → T → Tree) where
       → ((t : T) (text other : ℕ → Chars) → All (λ a. text a ≡ other a) (names t) → term text t ≡ term other t)
       → (s : Stage T) (text other : ℕ → Chars)
       → All (λ a. text a ≡ other a) (names_of names s)
-      → ((cs : List Consulted) → execution_of text s cs ≡ execution_of other s cs)
+      → ((job : Job) (cs : List Consulted) → execution_of text s job cs ≡ execution_of other s job cs)
       × ((x : Script) → plays_of text s x → plays_of other s x)
   same_under names tell (Fresh t) text other same =
       let e : term text t ≡ term other t = tell t text other same
       in (
-        (λ cs. ap (λ (u : Tree). let y : Execution = record (at_activity (beginning u)) { consulted = cs } in y) e),
+        (λ job cs. ap (λ (u : Tree). let y : Execution = record (at_activity (beginning u)) { consulted = cs } in y) e),
         (λ x p. p ∙ ap runs e),
       )
-  same_under names tell AtHand text other same = ((λ cs. refl), (λ x p. tt))
-  same_under names tell Over text other same = ((λ cs. refl), (λ x p. tt))
+  same_under names tell AtHand text other same = ((λ job cs. refl), (λ x p. tt))
+  same_under names tell Over text other same = ((λ job cs. refl), (λ x p. tt))

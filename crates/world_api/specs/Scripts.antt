@@ -1,7 +1,7 @@
 -- Scripts: how an execution comes to its next item.
 use Rattle.std.specs.Prelude.{◌≡◌, ℕ, ◌+◌, List, [], ◌∷◌, ◌++◌, Bool, true, false, Option, Some, None, encode_utf8_all}
 use Rattle.pl_term.specs.Tree.{Chars, Tree}
-use Rattle.pl_model.specs.Resolution.{Ending, solved, no_more, threw, exited, halted, Doing, ended, Output, State}
+use Rattle.pl_model.specs.Resolution.{Ending, solved, no_more, threw, exited, halted, ended, Output, State}
 use Rattle.pl_model.specs.Control.{start}
 use Rattle.pl_model.specs.Execution.{Script, Job, Consulted, Activity, directing, over, Execution, texts_of}
 use Rattle.pl_model.specs.Progress.{Reached}
@@ -9,7 +9,7 @@ use Rattle.pl_model.specs.Report.{all_consulted}
 use Rattle.atom_words.specs.declared.view.Refusal.{Refusal}
 use Rattle.atom_words.specs.declared.view.Refusal.TheVariants.{Full as RefusalFull, Again as RefusalAgain, Worn as RefusalWorn}
 use Rattle.world_api.specs.declared.how.How.{How}
-use Rattle.world_api.specs.declared.how.How.TheVariants.{Solved, False, Threw, Exited, Halted, AtomSpace}
+use Rattle.world_api.specs.declared.how.How.TheVariants.{Solved, False, Threw, Exited, Halted}
 use Rattle.world_api.specs.declared.script.Next.{Next}
 use Rattle.world_api.specs.declared.script.Next.TheVariants.{Item, Done, NeedsAtoms, Retry, Worn, Memory}
 use Rattle.world_api.specs.Told.{Told}
@@ -17,14 +17,14 @@ use Rattle.world_api.specs.Courses.{Part, of_goal, of_directive, limits_of, with
 
 abbrev pub next_refusals : {T : Type 0} → Next T → List Refusal
 next_refusals (Item t d) = []
-next_refusals Done = []
+next_refusals (Done h) = []
 next_refusals (NeedsAtoms p) = RefusalFull p ∷ []
 next_refusals (Retry c) = RefusalAgain c ∷ []
 next_refusals (Worn w) = RefusalWorn w ∷ []
 next_refusals Memory = []
 
 abbrev pub is_done : {T : Type 0} → Next T → Bool
-is_done Done = true
+is_done (Done h) = true
 is_done _ = false
 
 -- The atoms that an item names.
@@ -40,6 +40,16 @@ EndsAs term text (Threw t) (threw b) = term text t ≡ b
 EndsAs term text (Exited t) (exited u) = term text t ≡ u
 EndsAs term text (Halted n) (halted k) = n ≡ k
 EndsAs term text _ _ = ⊥
+
+-- The atoms that an item's end names.
+abbrev pub how_names : {T : Type 0} → (T → List ℕ) → How T → List ℕ
+how_names names (Threw t) = names t
+how_names names (Exited t) = names t
+how_names names _ = []
+
+abbrev pub ended_names : {T : Type 0} → (T → List ℕ) → Option (How T) → List ℕ
+ended_names names None = []
+ended_names names (Some how) = how_names names how
 
 -- An item at hand has ended, or there is none.
 abbrev pub IsAsked : {A B : Type 0} → Option A → Option B → Type 0
@@ -66,34 +76,47 @@ pub record Comes (job : Job) (x : Execution) (t : Told) (y : Execution) (u : Tol
   pub moves : ℕ
   pub comes : (low m : ℕ) → Reached t.engine t.goals job low (seen_in t x) m → Reached t.engine t.goals job low (seen_in u y) (moves + m)
 
-module _ {S T : Type 0} (execution : (ℕ → Chars) → S → List Consulted → Execution) (part : S → Option Part) (term : (ℕ → Chars) → T → Tree) where
-  -- The execution as the next item is asked for.
-  abbrev pub StandsBefore : (ℕ → Chars) → S → Option Part → Option (How T) → List Consulted → Execution → Type 0
-  StandsBefore text s None None cs x = x ≡ execution text s cs
-  StandsBefore text s (Some p) (Some how) cs x =
-      (r : State) × (ending : Ending) × (r.doing ≡ ended ending) × EndsAs term text how ending
-      × (x ≡ with_search (execution text s cs) p r)
-  StandsBefore text s _ _ cs x = ⊥
+-- How the engine ends behind its last item, and what its goal has written: a directive has halted, or the search of the
+-- goal has ended, or there was no goal.
+abbrev pub LeavesOff : Option ℕ → Option Part → Option State → Ending → List Output → Type 0
+LeavesOff (Some n) part searched ending os = (ending ≡ halted n) × (os ≡ [])
+LeavesOff None (Some of_goal) (Some r) ending os = (r.doing ≡ ended ending) × (os ≡ r.output)
+LeavesOff None part searched ending os = (ending ≡ solved) × (os ≡ [])
+
+-- The text of the file of this name has these lines. After want of memory it may have a part of a line.
+abbrev pub IsWritten : {T : Type 0} → Next T → Chars → List Consulted → List ℕ → Type 0
+IsWritten Memory name cs bytes = Unit {0}
+IsWritten next name cs bytes = bytes ≡ encode_utf8_all (all_consulted name [] cs)
+
+module _ {S T : Type 0} (execution : (ℕ → Chars) → S → Job → List Consulted → Execution) (part : S → Option Part) (term : (ℕ → Chars) → T → Tree) where
+  -- The execution as the next item is asked for, and where the search of the item at hand has come to.
+  abbrev pub StandsBefore : (ℕ → Chars) → S → Job → Option Part → Option (How T) → Option State → List Consulted → Execution → Type 0
+  StandsBefore text s job None None searched cs x = x ≡ execution text s job cs
+  StandsBefore text s job (Some p) (Some how) (Some r) cs x =
+      (ending : Ending) × (r.doing ≡ ended ending) × EndsAs term text how ending × (x ≡ with_search (execution text s job cs) p r)
+  StandsBefore text s job _ _ _ cs x = ⊥
 
   -- The execution as the next item is given, or as there is none, or as it stays at hand.
-  abbrev pub StandsAfter : (ℕ → Chars) → S → Job → Next T → List Consulted → Execution → Type 0
-  StandsAfter text s job (Item t directive) cs y =
+  abbrev pub StandsAfter : (ℕ → Chars) → S → Job → Option Part → Option State → Next T → List Consulted → Execution → Type 0
+  StandsAfter text s job was searched (Item t directive) cs y =
       (p : Part) × (part s ≡ Some p) × (is_directive p ≡ directive)
-      × (y ≡ with_search (execution text s cs) p (start (limits_of job p) (term text t)))
-  StandsAfter text s job Done cs y =
-      (ending : Ending) × (os : List Output) × (y ≡ record (execution text s cs) { activity = over ending; output = os })
-  StandsAfter text s job Memory cs y = Unit {0}
-  StandsAfter text s job _ cs y = (part s ≡ None) × (y ≡ execution text s cs)
+      × (y ≡ with_search (execution text s job cs) p (start (limits_of job p) (term text t)))
+  StandsAfter text s job was searched (Done h) cs y =
+      (ending : Ending) × (os : List Output)
+      × LeavesOff h was searched ending os
+      × (y ≡ record (execution text s job cs) { activity = over ending; output = os })
+  StandsAfter text s job was searched Memory cs y = Unit {0}
+  StandsAfter text s job was searched _ cs y = (part s ≡ None) × (y ≡ execution text s job cs)
 
   -- Whatever execution of this script it is, it comes from the one to the other, and the text of the file with it.
   abbrev pub Given : ((ℕ → Chars) → S → Script → Type 0) → Chars → (ℕ → Chars) → (ℕ → Chars) → S → Option (How T) → Told → List ℕ → Next T → S → Told → List ℕ → Type 0
   Given plays name old_text new_text old how t bytes next new u more =
-      (job : Job) (cs : List Consulted) (x : Execution)
+      (job : Job) (cs : List Consulted) (searched : Option State) (x : Execution)
       → plays old_text old job.script
-      → StandsBefore old_text old (part old) how cs x
+      → StandsBefore old_text old job (part old) how searched cs x
       → bytes ≡ encode_utf8_all (all_consulted name [] (written_at x))
       → (ds : List Consulted) × (y : Execution)
       × Comes job x t y u
-      × StandsAfter new_text new job next ds y
+      × StandsAfter new_text new job (part old) searched next ds y
       × plays new_text new job.script
-      × (more ≡ encode_utf8_all (all_consulted name [] ds))
+      × IsWritten next name ds more

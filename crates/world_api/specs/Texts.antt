@@ -1,5 +1,5 @@
 -- Numbers of atoms as texts.
-use Rattle.std.specs.Prelude.{◌≡◌, ℕ, ◌^◌, List, [], ◌∷◌, Option, Some, None}
+use Rattle.std.specs.Prelude.{◌≡◌, ℕ, ◌^◌, [], ◌∷◌, Option, Some, None}
 use Rattle.pl_term.specs.Tree.{Chars}
 use Rattle.atom_api.specs.Names.{Names}
 

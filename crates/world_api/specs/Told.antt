@@ -1,9 +1,8 @@
 -- What is told of an engine and the shared state.
-use Rattle.std.specs.Prelude.{◌≡◌, ℕ, List, [], ◌∷◌, ◌++◌, Bool, true, false, ◌==◌, ◌&&◌, ◌||◌, Option, Some, None}
-use Rattle.pl_model.specs.History.{Kind, History, is_end, mine}
-use Rattle.pl_model.specs.SharedState.{SharedState, state_at}
-use Rattle.pl_model.specs.Service.{Served, serve, clauses_for}
-use Rattle.pl_model.specs.Requests.{Request}
+use Rattle.std.specs.Prelude.{◌≡◌, ℕ, List, [], ◌∷◌, ◌++◌, Bool, true, false, ◌==◌, ◌&&◌, ◌||◌}
+use Rattle.pl_model.specs.History.{History, is_end, mine}
+use Rattle.pl_model.specs.SharedState.{state_at}
+use Rattle.pl_model.specs.Service.{clauses_for}
 use Rattle.pl_model.specs.Database.{Stored}
 use Rattle.pl_model.specs.History.{Clause}
 use Rattle.pl_term.specs.Tree.{Tree}

@@ -46,7 +46,7 @@ impl<T: Named + Drop> Script for Once<T> {
 
     type Term = T;
 
-    ghost execution = { λ text s cs. execution_of T.term text s.stage cs };
+    ghost execution = { λ text s job cs. execution_of T.term text s.stage job cs };
 
     ghost part = { λ s. part_of s.stage };
 
@@ -73,7 +73,7 @@ impl<T: Named + Drop> Script for Once<T> {
                 self.stage = stage;
                 next
             }
-            Stage::AtHand => Next::Done,
+            Stage::AtHand => Next::Done { halted: None },
             Stage::Over => unreachable!(),
         }
     }

@@ -3,11 +3,11 @@ ghost use Rattle.std.specs.Prelude.{◌≡◌, ◌++◌, ℕ, Bool, false, List,
 ghost use Rattle.std.specs.Option.{option_map};
 ghost use Rattle.std.specs.List.{All};
 ghost use Rattle.pl_term.specs.Tree.{Chars};
-ghost use Rattle.pl_model.specs.Execution.{Script as ScriptOf, Consulted, Execution};
+ghost use Rattle.pl_model.specs.Execution.{Script as ScriptOf, Job, Consulted, Execution};
 ghost use Rattle.world_api.specs.Texts.{text_of, Holds};
 ghost use Rattle.world_api.specs.Told.{Told, has_ended};
 ghost use Rattle.world_api.specs.Courses.{Part};
-ghost use Rattle.world_api.specs.Scripts.{IsAsked, Given, next_refusals, next_names, is_done};
+ghost use Rattle.world_api.specs.Scripts.{IsAsked, Given, ended_names, next_refusals, next_names, is_done};
 
 use crate::how::How;
 use crate::named::Named;
@@ -20,8 +20,8 @@ pub enum Next<T> {
     /// A goal that is to be searched for, its variables numbered from 0 in order of first occurrence, and whether it is
     /// that of a directive.
     Item { goal: T, directive: bool },
-    /// There is no further item.
-    Done,
+    /// There is no further item. It is said with which status a directive has halted, if one has.
+    Done { halted: Option<u8> },
     /// An atom of the item has no place, as that pass over all slots shows. The item stays at hand.
     NeedsAtoms(Pass),
     /// Others stepped in between: the call is to be made again.
@@ -37,9 +37,9 @@ pub trait Script {
     /// The terms of its items.
     type Term: Named;
 
-    // The execution that it stands for, where so much is written of the file. Where an item is at hand, its search is
-    // put into it.
-    ghost execution: { (ℕ → Chars) → Self → List Consulted → Execution };
+    // The execution of a job that it stands for, where so much is written of the file. Where an item is at hand, its
+    // search is put into it.
+    ghost execution: { (ℕ → Chars) → Self → Job → List Consulted → Execution };
 
     // The part of the execution that the item at hand is, if there is one.
     ghost part: { Self → Option Part };
@@ -69,6 +69,7 @@ pub trait Script {
         requires asked { IsAsked (part self.old) (option_map (λ b. b.now) ended) }
         requires goes_on { over self.old ≡ false }
         requires held { All (λ a. IsSome (W.A.held atoms.old a)) (names self.old) }
+        requires named { All (λ a. IsSome (W.A.held atoms.old a)) (ended_names Self.Term.names (option_map (λ b. b.now) ended)) }
         ensures given { Given execution part Self.Term.term plays (name self.old)
             (text_of (W.A.held atoms.old)) (text_of (W.A.held atoms.new)) self.old (option_map (λ b. b.now) ended.entry) (W.told world.old) text.old.items
             result self.new (W.told world.new) text.new.items }
@@ -80,6 +81,6 @@ pub trait Script {
 
     // It stands for the same execution under texts that agree on the atoms that it names, and plays the same.
     ghost names_tell: { (s : Self) (text other : ℕ → Chars) → All (λ a. text a ≡ other a) (names s)
-        → ((cs : List Consulted) → execution text s cs ≡ execution other s cs)
+        → ((job : Job) (cs : List Consulted) → execution text s job cs ≡ execution other s job cs)
         × ((x : ScriptOf) → plays text s x → plays other s x) };
 }

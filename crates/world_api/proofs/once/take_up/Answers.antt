@@ -1,4 +1,4 @@
-use Rattle.std.proofs.Common.{◌≡◌, refl, sym, subst}
+use Rattle.std.proofs.Common.{refl, sym, subst}
 use Rattle.pl_model.specs.Requests.{look}
 use Rattle.world_api.specs.Texts.{text_of}
 use Rattle.world_api.specs.declared.once.Stage.{Stage}

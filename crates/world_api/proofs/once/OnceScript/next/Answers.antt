@@ -1,8 +1,7 @@
-use Rattle.std.proofs.Common.{sym, ◌∙◌, subst, ℕ, List, IsSome}
+use Rattle.std.proofs.Common.{sym, ◌∙◌, subst, IsSome}
 use Rattle.std.specs.List.{All}
 use Rattle.world_api.specs.declared.once.Stage.{Stage}
 use Rattle.world_api.specs.Onces.{names_of}
-use Rattle.world_api.specs.Texts.{text_of}
 use Rattle.world_api.proofs.OnceLaws.{given_from, end_from, same_texts}
 use Rattle.world_api.proofs.once.OnceScript.next.Goals as goal
 
