@@ -1,5 +1,5 @@
 -- Dropping one clause after the other.
-use Rattle.std.proofs.Common.{◌≡◌, ℕ, suc, ◌+◌, ◌<◌, ◌≤◌, Bool, true, false, cond, not, ◌&&◌, ◌||◌, List, [], ◌∷◌, ◌++◌, map, length, Option, Some, None, refl, sym, ap, ap₂, ◌∙◌, subst, arith, append-nil, length-append}
+use Rattle.std.proofs.Common.{◌≡◌, ℕ, ◌+◌, ◌<◌, ◌≤◌, Bool, true, false, cond, not, ◌&&◌, ◌||◌, List, [], ◌∷◌, ◌++◌, map, length, Option, Some, None, refl, sym, ap, ◌∙◌, subst, arith, append-nil, length-append}
 use Rattle.std.specs.Prelude.{filter, sum_by, nat_lt, nat_le}
 use Rattle.std.specs.Option.{option_map_or, is_some}
 use Rattle.std.specs.List.{list_any}
@@ -52,31 +52,31 @@ module _ {C : Type 0} (floor : ℕ) where
   dropping_start ds capacity l = record { same = refl; once = IsPermutation-refl (due ds); room = omega arith }
 
   -- How many erased clauses there are with one more.
-  pub counted_more : (c : C) (now next : List (DatedClause C)) → DropsOne floor c now next → sum_by counted now ≡ sum_by counted next + 1
-  counted_more c now next d =
-      let a = ap (λ l. sum_by counted l) d.whole ∙ sum_by-append counted d.before (d.dropped ∷ d.after) in
+  pub counted_more : (x : DatedClause C) (now next : List (DatedClause C)) → DropsOne floor x now next → sum_by counted now ≡ sum_by counted next + 1
+  counted_more x now next d =
+      let a = ap (λ l. sum_by counted l) d.whole ∙ sum_by-append counted d.before (x ∷ d.after) in
       let b = ap (λ l. sum_by counted l) d.left ∙ sum_by-append counted d.before d.after in
-      let e = sum_by-cons counted d.dropped d.after in
-      let f = counted-droppable d.dropped d.droppable in
+      let e = sum_by-cons counted x d.after in
+      let f = counted-droppable x d.droppable in
       omega (arith, a, b, e, f)
 
-  pub dropping_more : (dropped : List C) (old now next : List (DatedClause C)) (capacity : ℕ) (c : C) → Dropping dropped old now capacity → DropsOne floor c now next
-      → Dropping (dropped ++ c ∷ []) old next capacity
-  dropping_more dropped old now next capacity c h d = record {
+  pub dropping_more : (dropped : List C) (old now next : List (DatedClause C)) (capacity : ℕ) (x : DatedClause C) → Dropping dropped old now capacity → DropsOne floor x now next
+      → Dropping (dropped ++ x.clause ∷ []) old next capacity
+  dropping_more dropped old now next capacity x h d = record {
     same =
         ap kept d.left ∙ filter-append (λ d. not (is_droppable floor d)) d.before d.after
-        ∙ ap (λ l. kept d.before ++ l) (sym (kept-cons d.dropped d.after d.droppable))
-        ∙ sym (ap kept d.whole ∙ filter-append (λ d. not (is_droppable floor d)) d.before (d.dropped ∷ d.after))
+        ∙ ap (λ l. kept d.before ++ l) (sym (kept-cons x d.after d.droppable))
+        ∙ sym (ap kept d.whole ∙ filter-append (λ d. not (is_droppable floor d)) d.before (x ∷ d.after))
         ∙ h.same;
     once =
-        let left : IsPermutation (due now) (d.dropped.clause ∷ due next) =
-        subst (λ l. IsPermutation l (d.dropped.clause ∷ due next)) (sym (ap due d.whole ∙ due-append d.before (d.dropped ∷ d.after) ∙ ap (λ l. due d.before ++ l) (due-cons d.dropped d.after d.droppable)))
-        (subst (λ l. IsPermutation (due d.before ++ d.dropped.clause ∷ due d.after) (d.dropped.clause ∷ l)) (sym (ap due d.left ∙ due-append d.before d.after)) (IsPermutation-middle (due d.before) d.dropped.clause (due d.after))) in
-        subst (λ x. IsPermutation (due old) ((dropped ++ x ∷ []) ++ due next)) (sym d.clause) (IsPermutation-pop_more (due old) dropped (due now) (due next) d.dropped.clause h.once left);
+        let left : IsPermutation (due now) (x.clause ∷ due next) =
+        subst (λ l. IsPermutation l (x.clause ∷ due next)) (sym (ap due d.whole ∙ due-append d.before (x ∷ d.after) ∙ ap (λ l. due d.before ++ l) (due-cons x d.after d.droppable)))
+        (subst (λ l. IsPermutation (due d.before ++ x.clause ∷ due d.after) (x.clause ∷ l)) (sym (ap due d.left ∙ due-append d.before d.after)) (IsPermutation-middle (due d.before) x.clause (due d.after))) in
+        IsPermutation-pop_more (due old) dropped (due now) (due next) x.clause h.once left;
     room =
-        let n = counted_more c now next d in
+        let n = counted_more x now next d in
         let r = h.room in
-        omega (arith, n, r, length-append dropped (c ∷ []));
+        omega (arith, n, r, length-append dropped (x.clause ∷ []));
   }
 
   -- More room.

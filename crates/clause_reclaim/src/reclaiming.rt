@@ -17,8 +17,8 @@ pub fn reclaim<C: Kept>(alloc: Global, d: &mut Dated<C>, floor: u64) -> Result<V
     ensures err { OnErr result (d.new ≡ d.old) }
 {
     let mut dropped = Vec::with_capacity(alloc, d.erased_len())?;
-    while let Some(clause) = d.drop_erased(floor) {
-        match dropped.push(clause) {
+    while let Some(dated) = d.drop_erased(floor) {
+        match dropped.push(dated.clause) {
             Ok(()) => {}
             Err(_) => unreachable!(),
         }

@@ -1,21 +1,20 @@
 -- A clause of a shelf is erased, or taken out.
-use Rattle.std.proofs.Common.{◌≡◌, ℕ, suc, ◌+◌, ◌-◌, ◌<◌, ◌≤◌, Bool, true, false, cond, not, ◌&&◌, ◌||◌, ◌==◌, List, [], ◌∷◌, Option, Some, None, IsSome, IsTrue, length, refl, sym, ap, ap₂, ◌∙◌, subst, arith, eq-eqb, inl, inr}
-use Rattle.std.specs.Prelude.{sum_by, ◌⊎◌, nat_lt, ◌↔◌}
+use Rattle.std.proofs.Common.{◌≡◌, ℕ, ◌+◌, ◌<◌, ◌≤◌, Bool, true, false, cond, not, ◌&&◌, ◌==◌, List, [], ◌∷◌, Option, Some, None, IsSome, length, refl, sym, ap, ap₂, ◌∙◌, subst, arith, eq-eqb, inl, inr}
+use Rattle.std.specs.Prelude.{sum_by, nat_lt}
 use Rattle.std.specs.List.{list_any}
 use Rattle.std.specs.Option.{IfSome, option_map, option_map_or, unwrap_or, is_some}
 use Rattle.std.specs.Ordering.{is_eq, is_gt, nat_cmp, ordering_then}
 use Rattle.std.specs.Cmp.{nat_cmp_is, unsigned_tied}
 use Rattle.std.specs.declared.cmp.Ordering.{Ordering}
 use Rattle.std.specs.declared.cmp.Ordering.TheVariants.{Less, Equal, Greater}
-use Rattle.std.specs.Map.{lookup, remove_entry, set_value, values_of}
+use Rattle.std.specs.Map.{remove_entry, set_value, values_of}
 use Rattle.std.specs.BTreeMap as tree
 use Rattle.std.specs.BTreeSet as set
 use Rattle.std.specs.BTreeMap.{BTreeMap, is_at}
 use Rattle.std.specs.BTreeSet.{BTreeSet}
-use Rattle.std.proofs.lemmas.Bool.{ne_eqb, false≢true, cases_lt}
-use Rattle.std.proofs.lemmas.Bool.Decides.{eqb_tells}
+use Rattle.std.proofs.lemmas.Bool.{false≢true, cases_lt}
 use Rattle.std.proofs.lemmas.Map.Entries.{sum_by-remove_entry, sum_by-set_value}
-use borrow.Author.Tests.{eqb-true, ltb-true, lt-ltb}
+use borrow.Author.Tests.{eqb-true, lt-ltb}
 use Rattle.gen_core.specs.declared.dated_clause.DatedClause.{DatedClause}
 use Rattle.gen_core.specs.declared.shelf.Entry.{Entry}
 use Rattle.gen_core.specs.declared.shelf.Shelf.{Shelf}

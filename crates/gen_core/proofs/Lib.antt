@@ -3,3 +3,6 @@ pub mod Additions
 pub mod Erasures
 pub mod Entries
 pub mod Listed
+pub mod AllErased
+pub mod Places
+pub mod Cells

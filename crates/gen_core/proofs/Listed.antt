@@ -1,6 +1,6 @@
 -- A shelf as the list of its clauses.
-use Rattle.std.proofs.Common.{◌≡◌, ℕ, suc, ◌+◌, ◌-◌, ◌<◌, ◌≤◌, Bool, true, false, cond, not, ◌&&◌, ◌||◌, ◌==◌, List, [], ◌∷◌, ◌++◌, map, Option, Some, None, refl, sym, ap, ap₂, ◌∙◌, subst, arith, eq-eqb, inl, inr}
-use Rattle.std.specs.Prelude.{filter, nat_lt, sum_by, All, ◌⊎◌}
+use Rattle.std.proofs.Common.{◌≡◌, ℕ, ◌+◌, ◌<◌, ◌≤◌, Bool, true, false, cond, ◌&&◌, ◌||◌, ◌==◌, List, [], ◌∷◌, ◌++◌, map, Option, Some, None, refl, sym, ap, ◌∙◌, subst, arith, eq-eqb, inl, inr}
+use Rattle.std.specs.Prelude.{filter, nat_lt, All}
 use Rattle.std.specs.List.{AllByRecursion, list_any}
 use Rattle.std.specs.Option.{option_map, option_map_or, is_some, IfSome, IfNone}
 use Rattle.std.specs.declared.result.Result.{Result}
@@ -8,7 +8,7 @@ use Rattle.std.specs.declared.result.Result.TheVariants.{Ok, Err}
 use Rattle.std.specs.Result.{OnOk, IfOk}
 use Rattle.std.specs.Ordering.{is_eq, nat_cmp}
 use Rattle.std.specs.declared.cmp.Ordering.{Ordering}
-use Rattle.std.specs.Map.{lookup, remove_entry, set_value, values_of}
+use Rattle.std.specs.Map.{lookup, values_of}
 use Rattle.std.specs.BTreeMap as tree
 use Rattle.std.specs.BTreeMap.{BTreeMap, insert_entry, is_at}
 use Rattle.std.proofs.lemmas.Bool.{false≢true, cases_lt}
@@ -21,7 +21,7 @@ use Rattle.gen_core.specs.Index.{IsNext}
 use Rattle.gen_core.specs.Numbers.{IsNumbered, first_number, last_number}
 use Rattle.gen_core.specs.Visible.{is_visible, is_droppable, is_live, fresh, erased_by, behind, has_any, first_choice}
 use Rattle.gen_core.specs.Visible as list
-use Rattle.gen_core.specs.Shelf.{IsSound, IsNumberOf, Added, Erased, ErasesNone, ErasesAt, DropsOne, DropsNone, Drops, holds, dated_at, marked, is_erased_at, clauses_of}
+use Rattle.gen_core.specs.Shelf.{IsSound, IsNumberOf, Added, Erased, ErasesNone, ErasesAt, DropsOne, Drops, holds, dated_at, marked, is_erased_at, clauses_of}
 use Rattle.gen_core.proofs.Entries.{ge-ltb, values, from_number, each_found, each_from, none_from, some_from, past, past_one, past_none, any_false, any_true, map_none, map_one, parted, insert_last, insert_first}
 use Rattle.gen_core.proofs.Searches.{holds-both}
 use Rattle.gen_core.proofs.Erasures.{not_droppable, erased_at, droppable_below}
@@ -29,6 +29,9 @@ use Rattle.gen_core.proofs.Erasures.{not_droppable, erased_at, droppable_below}
 pub on_ok : {T E : Type 0} (r : Result T E) (P Q : Type 0) → (P → Q) → OnOk r P → OnOk r Q
 on_ok (Ok x) P Q f h = f h
 on_ok (Err e) P Q f h = tt
+
+pub at_ok : {T E : Type 0} (P : T → Type 0) (r : Result T E) (x : T) → r ≡ Ok x → IfOk r P → P x
+at_ok P r x e h = subst (λ r. IfOk r P) e h
 
 pub if_ok : {T E : Type 0} (r : Result T E) (P Q : T → Type 0) → ((x : T) → P x → Q x) → IfOk r P → IfOk r Q
 if_ok (Ok x) P Q f h = f x h
@@ -152,17 +155,15 @@ module _ {C K : Type 0} where
 
     -- ---- dropping
 
-    pub drops : (new : BTreeMap ℕ (Entry C K)) (floor : ℕ) (c : C) → DropsOne s.clauses new floor c → list.DropsOne floor c (clauses_of s.clauses) (clauses_of new)
-    drops new floor c e =
+    pub drops : (new : BTreeMap ℕ (Entry C K)) (floor : ℕ) (d : DatedClause C) → DropsOne s.clauses new floor d → list.DropsOne floor d (clauses_of s.clauses) (clauses_of new)
+    drops new floor d e =
         let p = parted of e.number e.entry s.clauses.entries e.was in
         record {
           before = p.before;
-          dropped = e.entry.dated;
           after = p.after;
-          whole = p.whole;
+          whole = p.whole ∙ ap (λ x. p.before ++ x ∷ p.after) (sym e.dated_is);
           left = ap (λ es. values of es) e.entries ∙ p.left;
-          droppable = e.droppable;
-          clause = e.clause;
+          droppable = ap (is_droppable floor) e.dated_is ∙ e.droppable;
         }
 
     pub none_droppable : (floor : ℕ) → ((q : ℕ) → holds s.clauses (is_droppable floor) q ≡ false) → list_any (is_droppable floor) (clauses_of s.clauses) ≡ false
@@ -183,13 +184,13 @@ module _ {C K : Type 0} where
     pub droppable_none : (floor : ℕ) → ((k q : ℕ) → holds s.clauses (is_erased_at k) q ≡ false) → false ≡ list_any (is_droppable floor) (clauses_of s.clauses)
     droppable_none floor h = sym (none_droppable floor (λ q. not_droppable s.clauses floor q (λ k e. absurd (false≢true (sym (h k q) ∙ e)))))
 
-    pub drops_some : (new : BTreeMap ℕ (Entry C K)) (floor : ℕ) (r : Option C) → Drops s.clauses new floor r → IfSome r (λ c. list.DropsOne floor c (clauses_of s.clauses) (clauses_of new))
-    drops_some new floor None d = tt
-    drops_some new floor (Some c) d = drops new floor c d
+    pub drops_some : (new : BTreeMap ℕ (Entry C K)) (floor : ℕ) (r : Option (DatedClause C)) → Drops s.clauses new floor r → IfSome r (λ d. list.DropsOne floor d (clauses_of s.clauses) (clauses_of new))
+    drops_some new floor None e = tt
+    drops_some new floor (Some d) e = drops new floor d e
 
-    pub drops_none : (new : BTreeMap ℕ (Entry C K)) (floor : ℕ) (r : Option C) → Drops s.clauses new floor r → IfNone r ((list_any (is_droppable floor) (clauses_of s.clauses) ≡ false) × (clauses_of new ≡ clauses_of s.clauses))
+    pub drops_none : (new : BTreeMap ℕ (Entry C K)) (floor : ℕ) (r : Option (DatedClause C)) → Drops s.clauses new floor r → IfNone r ((list_any (is_droppable floor) (clauses_of s.clauses) ≡ false) × (clauses_of new ≡ clauses_of s.clauses))
     drops_none new floor None d = (none_droppable floor d.none, ap (λ es. values of es) d.same)
-    drops_none new floor (Some c) d = tt
+    drops_none new floor (Some x) d = tt
 
     pub erases_at : (new : BTreeMap ℕ (Entry C K)) (clause place : ℕ) (b : Bool) → ErasesAt s.clauses new clause place b
         → (b ≡ list_any (λ d. (d.place == clause) && is_live d) (clauses_of s.clauses)) × (clauses_of new ≡ map (erased_by clause place) (clauses_of s.clauses))

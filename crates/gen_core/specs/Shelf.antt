@@ -1,7 +1,7 @@
 -- When a shelf is sound: each clause stands on a number that its place gives, and is listed under the key of its first
 -- argument and by its erasure.
-use Rattle.std.specs.Prelude.{◌≡◌, ℕ, ◌+◌, ◌<◌, ◌≤◌, Bool, true, false, ◌&&◌, ◌||◌, ◌==◌, not, Option, Some, None, List, [], map, filter, nat_lt, sum_by, IsSome, if◌then◌else◌}
-use Rattle.std.specs.Option.{IfSome, option_map, option_map_or, is_some}
+use Rattle.std.specs.Prelude.{◌≡◌, ℕ, ◌<◌, ◌≤◌, Bool, true, false, ◌&&◌, ◌||◌, ◌==◌, not, Option, Some, None, List, [], map, filter, nat_lt, sum_by, IsSome, if◌then◌else◌}
+use Rattle.std.specs.Option.{IfSome, option_map, option_map_or, unwrap_or}
 use Rattle.std.specs.Ordering.{is_eq, nat_cmp, ordering_then}
 use Rattle.std.specs.declared.cmp.Ordering.{Ordering}
 use Rattle.std.specs.BTreeMap as tree
@@ -12,7 +12,7 @@ use Rattle.gen_core.specs.declared.dated_clause.DatedClause.{DatedClause}
 use Rattle.gen_core.specs.declared.shelf.Entry.{Entry}
 use Rattle.gen_core.specs.declared.shelf.Shelf.{Shelf}
 use Rattle.gen_core.specs.Index.{is_listed}
-use Rattle.gen_core.specs.Visible.{is_droppable, is_live, counted, behind}
+use Rattle.gen_core.specs.Visible.{is_droppable, is_live, erased_all, counted, behind}
 use Rattle.gen_core.specs.Numbers.{IsNumbered, first_number, last_number}
 
 -- The clause on a number.
@@ -67,6 +67,14 @@ is_erased_at place d = option_map_or (λ k. k == place) d.erased false
 abbrev pub marked : {C K : Type 0} → ℕ → Entry C K → Entry C K
 marked place e = record e { dated = record e.dated { erased = Some place } }
 
+-- The entry, erased at the place if it was not erased before.
+abbrev pub marked_all : {C K : Type 0} → ℕ → Entry C K → Entry C K
+marked_all place e = record e { dated = erased_all place e.dated }
+
+-- The place of the erasure of the clause, if it is erased at the place where it was not erased before.
+abbrev pub erased_from : {C : Type 0} → ℕ → DatedClause C → ℕ
+erased_from place d = unwrap_or d.erased place
+
 -- The entry on the number is erased at the place.
 pub record Marks {C K : Type 0} (old new : BTreeMap ℕ (Entry C K)) (number place : ℕ) : Type 0 where
   pub entries : IfSome (tree.get nat_cmp old number) (λ e. new.entries ≡ set_value (is_at (nat_cmp number)) old.entries (marked place e))
@@ -108,30 +116,30 @@ ErasesAt old new clause place true = Erased old new clause place
 ErasesAt old new clause place false = ErasesNone old new clause
 
 -- A clause that was erased at the place is taken out.
-pub record TakesOut {C K : Type 0} (old new : BTreeMap ℕ (Entry C K)) (place : ℕ) (c : C) : Type 0 where
+pub record TakesOut {C K : Type 0} (old new : BTreeMap ℕ (Entry C K)) (place : ℕ) (dated : DatedClause C) : Type 0 where
   pub number : ℕ
   pub entry : Entry C K
   pub was : tree.get nat_cmp old number ≡ Some entry
   pub at : entry.dated.erased ≡ Some place
-  pub clause : c ≡ entry.dated.clause
+  pub dated_is : dated ≡ entry.dated
   pub entries : new.entries ≡ remove_entry (is_at (nat_cmp number)) old.entries
 
 -- A clause that was erased below the floor is taken out, or there is none.
-pub record DropsOne {C K : Type 0} (old new : BTreeMap ℕ (Entry C K)) (floor : ℕ) (c : C) : Type 0 where
+pub record DropsOne {C K : Type 0} (old new : BTreeMap ℕ (Entry C K)) (floor : ℕ) (dated : DatedClause C) : Type 0 where
   pub number : ℕ
   pub entry : Entry C K
   pub was : tree.get nat_cmp old number ≡ Some entry
   pub droppable : is_droppable floor entry.dated ≡ true
-  pub clause : c ≡ entry.dated.clause
+  pub dated_is : dated ≡ entry.dated
   pub entries : new.entries ≡ remove_entry (is_at (nat_cmp number)) old.entries
 
 pub record DropsNone {C K : Type 0} (old new : BTreeMap ℕ (Entry C K)) (floor : ℕ) : Type 0 where
   pub none : (q : ℕ) → holds old (is_droppable floor) q ≡ false
   pub same : new.entries ≡ old.entries
 
-abbrev pub Drops : {C K : Type 0} → BTreeMap ℕ (Entry C K) → BTreeMap ℕ (Entry C K) → ℕ → Option C → Type 0
+abbrev pub Drops : {C K : Type 0} → BTreeMap ℕ (Entry C K) → BTreeMap ℕ (Entry C K) → ℕ → Option (DatedClause C) → Type 0
 Drops old new floor None = DropsNone old new floor
-Drops old new floor (Some c) = DropsOne old new floor c
+Drops old new floor (Some d) = DropsOne old new floor d
 
 -- The first erasure: no clause was erased before it.
 abbrev pub IsFirstErased : {C K : Type 0} → BTreeMap ℕ (Entry C K) → Option (ℕ × ℕ) → Type 0

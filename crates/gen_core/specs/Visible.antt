@@ -1,8 +1,7 @@
 -- What a generation sees of a list of dated clauses in database order (the logical update view, ISO 7.5.4), and what
 -- updates make of it.
 use Rattle.std.specs.Prelude.{◌≡◌, ℕ, Bool, true, false, ◌&&◌, ◌==◌, not, nat_lt, nat_le, Option, Some, None, List, [], ◌∷◌, ◌++◌, map, filter, if◌then◌else◌}
-use Rattle.std.specs.Option.{option_map, option_map_or, is_some}
-use Rattle.std.specs.List.{list_any}
+use Rattle.std.specs.Option.{option_map_or, is_some}
 use Rattle.std.specs.List.Sorted.{IsPermutation}
 use Rattle.std.specs.declared.cmp.Ordering.{Ordering}
 use Rattle.pl_model.specs.FirstArguments.{are_apart}
@@ -27,6 +26,18 @@ fresh place clause = record { place = place; clause = clause; erased = None }
 -- The clause that was added at the place `clause`, if it is not erased, is erased at the place `place`.
 abbrev pub erased_by : {C : Type 0} → ℕ → ℕ → DatedClause C → DatedClause C
 erased_by clause place d = if d.place == clause && is_live d then record d { erased = Some place } else d
+
+-- The clause, erased at the place if it was not erased before.
+abbrev pub erased_all : {C : Type 0} → ℕ → DatedClause C → DatedClause C
+erased_all place d = if is_live d then record d { erased = Some place } else d
+
+-- What a clause costs that is not erased, by the size of a clause.
+abbrev pub live_size : {C : Type 0} → (C → ℕ) → DatedClause C → ℕ
+live_size size d = if is_live d then size d.clause else 0
+
+-- Whether the clause was added at the place and erased below the floor.
+abbrev pub is_droppable_at : {C : Type 0} → ℕ → ℕ → DatedClause C → Bool
+is_droppable_at floor place d = (d.place == place) && is_droppable floor d
 
 -- One for an erased clause.
 abbrev pub counted : {C : Type 0} → DatedClause C → ℕ
@@ -53,14 +64,12 @@ first_choice [] = None
 first_choice (d ∷ ds) = Some (d.place, d.clause, has_any ds)
 
 -- A clause that was erased below the floor is taken out.
-pub record DropsOne {C : Type 0} (floor : ℕ) (c : C) (old new : List (DatedClause C)) : Type 0 where
+pub record DropsOne {C : Type 0} (floor : ℕ) (dropped : DatedClause C) (old new : List (DatedClause C)) : Type 0 where
   pub before : List (DatedClause C)
-  pub dropped : DatedClause C
   pub after : List (DatedClause C)
   pub whole : old ≡ before ++ dropped ∷ after
   pub left : new ≡ before ++ after
   pub droppable : is_droppable floor dropped ≡ true
-  pub clause : c ≡ dropped.clause
 
 -- Exactly the clauses that were erased below the floor are dropped, each once, and the others stay in their order.
 pub record Reclaims {C : Type 0} (floor : ℕ) (dropped : List C) (old new : List (DatedClause C)) : Type 0 where

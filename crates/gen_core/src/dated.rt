@@ -1,9 +1,10 @@
 //! Dated lists: the clauses of a procedure in database order, with what each generation sees of them.
-ghost use Rattle.std.specs.Prelude.{◌≡◌, ◌<◌, ◌^◌, ◌++◌, ◌∷◌, [], ◌&&◌, ◌==◌, false, All, IfErr, IfOk, IfSome, IfNone, MatchOption, OnErr, OnOk, filter, map, sum_by};
+ghost use Rattle.std.specs.Prelude.{◌≡◌, ℕ, ◌<◌, ◌≤◌, ◌-◌, ◌^◌, ◌++◌, ◌∷◌, [], ◌&&◌, ◌==◌, false, length, min, All, IfErr, IfOk, IfSome, IfNone, MatchOption, OnErr, OnOk, filter, map, sum_by};
 ghost use Rattle.std.specs.List.{list_any};
-ghost use Rattle.gen_core.specs.Visible.{is_visible, is_droppable, is_live, fresh, erased_by, counted, behind, is_choice, first_choice, DropsOne};
+ghost use Rattle.gen_core.specs.Visible.{is_visible, is_droppable, is_live, fresh, erased_by, erased_all, live_size, is_droppable_at, counted, behind, is_choice, first_choice, DropsOne};
 ghost use Rattle.gen_core.specs.Hits.{hit_of};
 
+use crate::dated_clause::DatedClause;
 use crate::hit::Hit;
 use crate::numbers::{first_number, last_number};
 use crate::shelf::Shelf;
@@ -103,10 +104,36 @@ impl<C: Kept> Dated<C> {
         self.shelf.erase(clause, place)
     }
 
+    /// Erases all clauses that are not erased (ISO 8.9.4), by the update at `place`. The only error is want of memory;
+    /// after it the list is as it was. Its time grows with the number of clauses, those that are erased included.
+    pub fn erase_all(&mut self, place: u64) -> Result<(), Memory>
+        ensures ok { OnOk result (self.new ≡ map (erased_all place) self.old) }
+        ensures err { OnErr result (self.new ≡ self.old) }
+    {
+        self.shelf.erase_all(place)
+    }
+
+    /// The cells of the clauses that are not erased, or 2^64 - 1 where they are more. It takes no memory. Its time grows
+    /// with the number of clauses, those that are erased included.
+    pub fn live_cells(&self) -> u64
+        ensures { result ≡ min (sum_by (live_size C.size) self.now) (2 ^ 64 - 1) }
+    {
+        self.shelf.live_cells()
+    }
+
+    /// The places of the additions of the clauses that one of the first `floor` updates erased. No two clauses have the
+    /// same place. The only error is want of memory. Its time grows with the number of these clauses alone.
+    pub fn droppable_places(&self, floor: u64) -> Result<Vec<u64>, Memory>
+        ensures places { IfOk result (λ ps. (p : ℕ) → list_any (λ q. q == p) ps.items ≡ list_any (is_droppable_at floor p) self.now) }
+        ensures once { (p : ℕ) → length (filter (λ d. d.place == p) self.now) ≤ 1 }
+    {
+        self.shelf.droppable_places(floor)
+    }
+
     /// Takes out a clause that one of the first `floor` updates erased, the one that was erased first, if there is one,
-    /// and hands it out. It takes no memory.
-    pub fn drop_erased(&mut self, floor: u64) -> Option<C>
-        ensures some { IfSome result (λ c. DropsOne floor c self.old self.new) }
+    /// and hands it out with its places. It takes no memory.
+    pub fn drop_erased(&mut self, floor: u64) -> Option<DatedClause<C>>
+        ensures some { IfSome result (λ d. DropsOne floor d self.old self.new) }
         ensures none { IfNone result ((list_any (is_droppable floor) self.old ≡ false) × (self.new ≡ self.old)) }
     {
         self.shelf.drop_erased(floor)

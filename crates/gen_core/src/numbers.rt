@@ -1,6 +1,6 @@
 //! The numbers that clauses have in database order.
 ghost use Rattle.std.specs.Prelude.{◌≡◌, ◌+◌, ◌^◌, ◌<◌};
-ghost use Rattle.gen_core.specs.Numbers.{first_number, last_number};
+ghost use Rattle.gen_core.specs.Numbers.{first_number, last_number, place_of};
 
 /// The places of updates are below this.
 pub const PLACES: u64 = 0x2_0000_0000_0000;
@@ -21,4 +21,15 @@ pub fn last_number(place: u64) -> u64
     ensures bound { result < 2 ^ 50 }
 {
     PLACES + place
+}
+
+/// The place of the update that added the clause on the number.
+pub fn place_of(number: u64) -> u64
+    ensures { result ≡ place_of number }
+{
+    if number < PLACES {
+        PLACES - 1 - number
+    } else {
+        number - PLACES
+    }
 }

@@ -1,20 +1,21 @@
 //! Clauses on their numbers, with what finds them.
-ghost use Rattle.std.specs.Prelude.{◌≡◌, ℕ, ◌+◌, ◌^◌, ◌<◌, ◌≤◌, ◌&&◌, not, Some, None, IsSome, OnOk, OnErr, MatchOption, IfOk, IfErr, IfSome, [], filter, sum_by, true};
+ghost use Rattle.std.specs.Prelude.{◌≡◌, ℕ, ◌+◌, ◌^◌, ◌<◌, ◌≤◌, ◌&&◌, not, Some, None, IsSome, OnOk, OnErr, MatchOption, IfOk, IfErr, IfSome, [], filter, map, min, ◌-◌, ◌==◌, sum_by, true};
 ghost use Rattle.std.specs.Option.{option_map};
 ghost use Rattle.std.specs.List.{list_any};
 ghost use Rattle.std.specs.Ordering.{nat_cmp};
 ghost use Rattle.std.specs.BTreeMap as tree;
+ghost use Rattle.std.specs.BTreeSet as set;
 ghost use Rattle.pl_model.specs.FirstArguments.{are_apart};
 ghost use Rattle.gen_core.specs.Index.{IsNext};
-ghost use Rattle.gen_core.specs.Visible.{is_visible, is_droppable, is_live, fresh, counted, behind, is_choice, first_choice};
+ghost use Rattle.gen_core.specs.Visible.{is_visible, is_droppable, is_live, fresh, erased_all, live_size, is_droppable_at, counted, behind, is_choice, first_choice};
 ghost use Rattle.gen_core.specs.Hits.{hit_of};
-ghost use Rattle.gen_core.specs.Shelf.{IsSound, IsNumberOf, Added, Lists, ListsSame, Unlists, ErasesAt, Drops, IsFirstErased, Marks, MarksAt, TakesOut, IsBehind, is_erased_at, clauses_of, holds, dated_at};
+ghost use Rattle.gen_core.specs.Shelf.{IsSound, IsNumberOf, Added, Lists, ListsSame, Unlists, ErasesAt, Drops, IsFirstErased, Marks, MarksAt, TakesOut, IsBehind, is_erased_at, erased_from, marked_all, pair_order, clauses_of, holds, dated_at};
 ghost use Rattle.gen_core.specs.Numbers.{IsNumbered};
 
 use crate::dated_clause::DatedClause;
 use crate::hit::Hit;
 use crate::index::{Index, earlier, next_in};
-use crate::numbers::{PLACES, first_number, last_number};
+use crate::numbers::{PLACES, first_number, last_number, place_of};
 use pl_model::kept::Kept;
 use pl_term::Memory;
 use std::alloc::Global;
@@ -214,8 +215,44 @@ impl<C: Kept> Shelf<C> {
         }
     }
 
+    /// Erases all clauses that are not erased. The only error is want of memory; after it the shelf is as it was.
+    pub fn erase_all(&mut self, place: u64) -> Result<(), Memory>
+        requires { IsSound C.Key.Ord.cmp C.any C.key_of self.old }
+        ensures sound { IsSound C.Key.Ord.cmp C.any C.key_of self.new }
+        ensures ok { OnOk result (clauses_of self.new.clauses ≡ map (erased_all place) (clauses_of self.old.clauses)) }
+        ensures err { OnErr result (self.new.clauses.entries ≡ self.old.clauses.entries) }
+    {
+        self.erased = erasures(self.alloc, &self.clauses, place)?;
+        mark_all(&mut self.clauses, place);
+        Ok(())
+    }
+
+    /// The cells of the clauses that are not erased, or 2^64 - 1 where they are more.
+    pub fn live_cells(&self) -> u64
+        ensures { result ≡ min (sum_by (live_size C.size) (clauses_of self.now.clauses)) (2 ^ 64 - 1) }
+    {
+        let mut cells: u64 = 0;
+        for entry in self.clauses.values() {
+            cells = cells.saturating_add(live_cells_of(&entry.dated));
+        }
+        cells
+    }
+
+    /// The places of the clauses that one of the first `floor` updates erased. The only error is want of memory.
+    pub fn droppable_places(&self, floor: u64) -> Result<Vec<u64>, Memory>
+        requires { IsSound C.Key.Ord.cmp C.any C.key_of self.now }
+        ensures { IfOk result (λ ps. (p : ℕ) → list_any (λ q. q == p) ps.items ≡ list_any (is_droppable_at floor p) (clauses_of self.now.clauses)) }
+    {
+        let places = self
+            .erased
+            .range(..(floor, 0))
+            .map(|(_, number)| place_of(*number))
+            .collect(self.alloc)?;
+        Ok(places)
+    }
+
     /// Takes out a clause that one of the first `floor` updates erased, if there is one.
-    pub fn drop_erased(&mut self, floor: u64) -> Option<C>
+    pub fn drop_erased(&mut self, floor: u64) -> Option<DatedClause<C>>
         requires { IsSound C.Key.Ord.cmp C.any C.key_of self.old }
         ensures sound { IsSound C.Key.Ord.cmp C.any C.key_of self.new }
         ensures dropped { Drops self.old.clauses self.new.clauses floor result }
@@ -233,7 +270,7 @@ impl<C: Kept> Shelf<C> {
     }
 
     /// Takes out the clause on the number, which was erased at the place.
-    fn take_out(&mut self, place: u64, number: u64) -> C
+    fn take_out(&mut self, place: u64, number: u64) -> DatedClause<C>
         requires sound { IsSound C.Key.Ord.cmp C.any C.key_of self.old }
         requires erased { holds self.old.clauses (is_erased_at place) number ≡ true }
         ensures sound { IsSound C.Key.Ord.cmp C.any C.key_of self.new }
@@ -243,7 +280,7 @@ impl<C: Kept> Shelf<C> {
         match self.clauses.remove(&number) {
             Some(entry) => {
                 self.unlist(&entry.key, number);
-                clause_of(entry)
+                dated_of(entry)
             }
             None => unreachable!(),
         }
@@ -351,6 +388,52 @@ fn mark<C, K>(clauses: &mut BTreeMap<u64, Entry<C, K>>, number: u64, place: u64)
     if let Some(entry) = clauses.get_mut(&number) {
         entry.dated.erased = Some(place);
     }
+}
+
+/// The places of the erasures of all clauses, each with the clause's number, where those that are not erased are erased at
+/// the place. The only error is want of memory.
+fn erasures<C, K>(
+    alloc: Global,
+    clauses: &BTreeMap<u64, Entry<C, K>>,
+    place: u64,
+) -> Result<BTreeSet<(u64, u64)>, Memory>
+    ensures { IfOk result (set.IsFromIterResult pair_order (map (λ e. (erased_from place e.1.dated, e.0)) clauses.now.entries)) }
+{
+    let all = clauses
+        .iter()
+        .map(|(number, entry)| (entry.dated.erased.unwrap_or(place), *number))
+        .collect(alloc)?;
+    Ok(all)
+}
+
+/// Writes the place of the erasure of each clause that is not erased.
+fn mark_all<C: Drop, K: Drop>(clauses: &mut BTreeMap<u64, Entry<C, K>>, place: u64)
+    ensures entries { clauses.new.entries ≡ map (λ e. (e.0, marked_all place e.1)) clauses.old.entries }
+    ensures ordered { tree.IsOrdered nat_cmp clauses.new }
+{
+    clauses.retain(|_, entry| {
+        if entry.dated.erased.is_none() {
+            entry.dated.erased = Some(place);
+        }
+        true
+    });
+}
+
+/// What a clause costs that is not erased.
+fn live_cells_of<C: Kept>(dated: &DatedClause<C>) -> u64
+    ensures { result ≡ live_size C.size dated.now }
+{
+    match dated.erased {
+        None => dated.clause.cells(),
+        Some(_) => 0,
+    }
+}
+
+/// The dated clause of an entry.
+fn dated_of<C: Drop, K: Drop>(entry: Entry<C, K>) -> DatedClause<C>
+    ensures { result ≡ entry.dated }
+{
+    entry.dated
 }
 
 /// The clause of an entry.

@@ -3,8 +3,8 @@ use Rattle.gen_core.specs.Visible.{counted}
 use Rattle.clause_reclaim.proofs.Dropping.{Dropping}
 use Rattle.clause_reclaim.proofs.reclaiming.reclaim.Given as goal
 
-abbrev pub invariant-loop-clause : goal.invariant-loop-clause
-invariant-loop-clause g l = Dropping l.fn.floor l.dropped.items l.initial.d l.d (vec_capacity l.dropped)
+abbrev pub invariant-loop-dated : goal.invariant-loop-dated
+invariant-loop-dated g l = Dropping l.fn.floor l.dropped.items l.initial.d l.d (vec_capacity l.dropped)
 
-abbrev pub decreases-loop-clause : goal.decreases-loop-clause
-decreases-loop-clause g l = sum_by counted l.d
+abbrev pub decreases-loop-dated : goal.decreases-loop-dated
+decreases-loop-dated g l = sum_by counted l.d

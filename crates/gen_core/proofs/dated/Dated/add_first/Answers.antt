@@ -1,4 +1,4 @@
-use Rattle.std.proofs.Common.{◌≡◌, ◌<◌, ap, sym, subst, ◌∙◌, ◌∷◌, ◌++◌, []}
+use Rattle.std.proofs.Common.{◌≡◌, ◌<◌, ap, sym, subst, ◌∙◌, ◌∷◌}
 use Rattle.std.specs.Prelude.{All}
 use Rattle.gen_core.specs.Visible.{fresh}
 use Rattle.gen_core.specs.Shelf.{Added, clauses_of}

@@ -1,4 +1,4 @@
-use Rattle.std.proofs.Common.{◌≡◌, Bool, ap, ◌∙◌, map, ◌&&◌, ◌==◌}
+use Rattle.std.proofs.Common.{◌≡◌, ap, ◌∙◌, map, ◌&&◌, ◌==◌}
 use Rattle.std.specs.List.{list_any}
 use Rattle.gen_core.specs.Visible.{is_live, erased_by}
 use Rattle.gen_core.specs.Shelf.{ErasesAt, clauses_of}

@@ -1,4 +1,4 @@
-use Rattle.std.proofs.Common.{sym, ap, ◌∙◌, refl, arith, ◌≤◌}
+use Rattle.std.proofs.Common.{sym, ◌∙◌, refl, arith}
 use Rattle.std.proofs.lemmas.Bool.{false≢true}
 use Rattle.gen_core.proofs.Erasures.{not_droppable, droppable_below}
 use Rattle.gen_core.proofs.shelf.Shelf.drop_erased.Goals as goal
@@ -9,7 +9,7 @@ returns-then-place-floor-clause-dropped g c = record {
   entry = c.take_out.ensures.out.entry;
   was = c.take_out.ensures.out.was;
   droppable = droppable_below c.take_out.ensures.out.entry.dated c.in-Some.place c.args.floor c.take_out.ensures.out.at c.if-place-floor.true;
-  clause = c.take_out.ensures.out.clause;
+  dated_is = c.take_out.ensures.out.dated_is;
   entries = c.take_out.ensures.out.entries;
 }
 

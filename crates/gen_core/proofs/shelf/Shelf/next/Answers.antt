@@ -1,9 +1,4 @@
-use Rattle.std.proofs.Common.{◌≡◌, ℕ, ◌||◌, Bool, false, sym}
-use Rattle.std.specs.Ordering.{nat_cmp}
-use Rattle.std.specs.BTreeSet as set
-use Rattle.pl_model.specs.FirstArguments.{are_apart}
-use Rattle.gen_core.specs.Index.{IsNext, is_listed}
-use Rattle.gen_core.specs.Shelf.{IsSound, holds}
+use Rattle.std.proofs.Common.{sym}
 use Rattle.gen_core.proofs.Searches.{IsNext-same, found_under}
 use Rattle.gen_core.proofs.shelf.Shelf.next.Goals as goal
 

@@ -28,6 +28,6 @@ returns-clause-out g c =
       entry = c.in-Some.entry;
       was = was;
       at = erased_at c.args.self.now.clauses c.args.place c.args.number c.in-Some.entry was c.requires.erased;
-      clause = c.clause_of.ensures;
+      dated_is = c.dated_of.ensures;
       entries = ap (λ m. m.entries) c.unlist.ensures.others.0 ∙ c.in-Some.ensures.entries;
     }
