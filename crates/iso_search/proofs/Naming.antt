@@ -6,7 +6,7 @@ use Rattle.std.proofs.lemmas.Bool.Decides.{Decides-eqb}
 use Rattle.std.proofs.lemmas.Slice.Eq.{bytes_eq-Decides}
 use Rattle.pl_term.specs.Tree.{Chars}
 use Rattle.pl_model.specs.TermWriting.{write, writeq, write_canonical}
-use Rattle.pl_model.specs.Control.{writes, prints, other, construct_of_none, construct_of_one, construct_of_three}
+use Rattle.pl_model.specs.Control.{writes, prints, puts, other, construct_of_none, construct_of_one, construct_of_three}
 use Rattle.atom_api.specs.Fixed.{fixed, fixed_texts}
 use Rattle.term_store.specs.declared.words.Place.{Place}
 use Rattle.term_store.specs.Contents.{Contents}
@@ -113,6 +113,10 @@ pub print_is : fixed 144 ≡ Some (codes "print")
 unfolding fixed_texts
 print_is = refl
 
+pub put_char_is : fixed 148 ≡ Some (codes "put_char")
+unfolding fixed_texts
+put_char_is = refl
+
 pub write_canonical_is : fixed 184 ≡ Some (codes "write_canonical")
 unfolding fixed_texts
 write_canonical_is = refl
@@ -161,13 +165,15 @@ output_is : (v : View) → IsView v → (s : Contents) (a : ℕ) (t : Place)
     (let f = text_of v.names (atom_name a) in let u = reads v s t in
     if bytes_eq f (codes "write") then writes (λ ops. write ops 1200 u) else
     if bytes_eq f (codes "writeq") || bytes_eq f (codes "print") then writes (λ ops. writeq ops 1200 u) else
+    if bytes_eq f (codes "put_char") then puts u else
     if bytes_eq f (codes "write_canonical") then prints (write_canonical u) else other)
 output_is v view s a t =
     let f : Chars = text_of v.names (atom_name a) in
     chosen (construction v s) (a == 183) (bytes_eq f (codes "write")) (is_named v view a 183 (codes "write") write_is) refl
     (chosen_of_two (construction v s) (a == 185) (a == 144) (bytes_eq f (codes "writeq")) (bytes_eq f (codes "print")) (is_named v view a 185 (codes "writeq") writeq_is) (is_named v view a 144 (codes "print") print_is) refl
+    (chosen (construction v s) (a == 148) (bytes_eq f (codes "put_char")) (is_named v view a 148 (codes "put_char") put_char_is) refl
     (chosen (construction v s) (a == 184) (bytes_eq f (codes "write_canonical")) (is_named v view a 184 (codes "write_canonical") write_canonical_is) refl
-    (refl)))
+    (refl))))
 
 pub one_is : (v : View) → IsView v → (s : Contents) (a : ℕ) (t : Place)
     → construction v s (one_construct a t) ≡ construct_of_one (text_of v.names (atom_name a)) (reads v s t)

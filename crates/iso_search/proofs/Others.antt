@@ -2,7 +2,7 @@
 use Rattle.std.proofs.Common.{◌≡◌, Option, Some, None, IfNone, refl}
 use Rattle.term_store.specs.declared.words.Place.{Place}
 use Rattle.iso_search.specs.declared.construct.Construct.{Construct}
-use Rattle.iso_search.specs.declared.construct.Construct.TheVariants.{Succeeds, Cuts, Conjunction, Disjunction, IfThen, IfThenElse, Fails, Repeats, Calls, NotProvable, Once, Catches, Throws, FindsAll, Halts, HaltsWithZero, Exits, Inspects, Retracts, Clears, Writes, WritesQuoted, WritesCanonical, WritesNewline, Other}
+use Rattle.iso_search.specs.declared.construct.Construct.TheVariants.{Succeeds, Cuts, Conjunction, Disjunction, IfThen, IfThenElse, Fails, Repeats, Calls, NotProvable, Once, Catches, Throws, FindsAll, Halts, HaltsWithZero, Exits, Inspects, Retracts, Clears, Writes, WritesQuoted, WritesCanonical, WritesNewline, Puts, Other}
 use Rattle.iso_search.specs.declared.outcome.Outcome.{Outcome}
 use Rattle.iso_search.specs.declared.search.Search.{Search}
 use Rattle.iso_search.specs.Goals.{IsLeft, IsUncounted}
@@ -38,6 +38,7 @@ none_left (Writes t) succeeds cuts both either condition branches h = h
 none_left (WritesQuoted t) succeeds cuts both either condition branches h = h
 none_left (WritesCanonical t) succeeds cuts both either condition branches h = h
 none_left WritesNewline succeeds cuts both either condition branches h = h
+none_left (Puts t) succeeds cuts both either condition branches h = h
 none_left Other succeeds cuts both either condition branches h = h
 
 -- Where nothing came of a construct, it is none.

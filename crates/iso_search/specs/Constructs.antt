@@ -2,12 +2,12 @@
 use Rattle.std.specs.Prelude.{◌≡◌, ◌<◌, ℕ, pos, ◌==◌, List, [], ◌∷◌, drop, if◌then◌else◌}
 use Rattle.pl_term.specs.Tree.{Tree, int, trees}
 use Rattle.pl_model.specs.TermWriting.{write, writeq, write_canonical}
-use Rattle.pl_model.specs.Control.{Construct as Construction, succeeds, cuts, conjunction, disjunction, if_then, if_then_else, fails, repeats, calls, not_provable, once, catches, throws, finds_all, halts, exits, inspects, retracts, clears, writes, prints, other, construct_by_count}
+use Rattle.pl_model.specs.Control.{Construct as Construction, succeeds, cuts, conjunction, disjunction, if_then, if_then_else, fails, repeats, calls, not_provable, once, catches, throws, finds_all, halts, exits, inspects, retracts, clears, writes, prints, puts, other, construct_by_count}
 use Rattle.term_store.specs.declared.words.Place.{Place}
 use Rattle.term_store.specs.Heap.{atom_name}
 use Rattle.term_store.specs.Contents.{Contents, Holds, IsArguments, arguments_at}
 use Rattle.iso_search.specs.declared.construct.Construct.{Construct}
-use Rattle.iso_search.specs.declared.construct.Construct.TheVariants.{Succeeds, Cuts, Conjunction, Disjunction, IfThen, IfThenElse, Fails, Repeats, Calls, NotProvable, Once, Catches, Throws, FindsAll, Halts, HaltsWithZero, Exits, Inspects, Retracts, Clears, Writes, WritesQuoted, WritesCanonical, WritesNewline, Other}
+use Rattle.iso_search.specs.declared.construct.Construct.TheVariants.{Succeeds, Cuts, Conjunction, Disjunction, IfThen, IfThenElse, Fails, Repeats, Calls, NotProvable, Once, Catches, Throws, FindsAll, Halts, HaltsWithZero, Exits, Inspects, Retracts, Clears, Writes, WritesQuoted, WritesCanonical, WritesNewline, Puts, Other}
 use Rattle.iso_search.specs.Spelling.{spelled, spelled_all, text_of}
 use Rattle.iso_search.specs.Reading.{View, reads}
 
@@ -36,6 +36,7 @@ construction v s (Writes t) = writes (λ ops. write ops 1200 (reads v s t))
 construction v s (WritesQuoted t) = writes (λ ops. writeq ops 1200 (reads v s t))
 construction v s (WritesCanonical t) = prints (write_canonical (reads v s t))
 construction v s WritesNewline = prints (10 ∷ [])
+construction v s (Puts t) = puts (reads v s t)
 construction v s Other = other
 
 -- Its places are of the store.
@@ -58,6 +59,7 @@ IsConstructIn s (Clears t) = Holds s t
 IsConstructIn s (Writes t) = Holds s t
 IsConstructIn s (WritesQuoted t) = Holds s t
 IsConstructIn s (WritesCanonical t) = Holds s t
+IsConstructIn s (Puts t) = Holds s t
 IsConstructIn s _ = Unit {0}
 
 -- It is the construct by the name and the number of these arguments.
@@ -82,6 +84,7 @@ output_construct a t =
     if a == 183 then Writes t else
     if a == 185 then WritesQuoted t else
     if a == 144 then WritesQuoted t else
+    if a == 148 then Puts t else
     if a == 184 then WritesCanonical t else Other
 
 abbrev pub one_construct : ℕ → Place → Construct

@@ -40,6 +40,8 @@ pub enum Construct {
     WritesQuoted(Place),
     WritesCanonical(Place),
     WritesNewline,
+    /// `put_char/1`.
+    Puts(Place),
     /// A built-in predicate, or a call of the program's clauses.
     Other,
 }
@@ -100,6 +102,8 @@ fn output_of_one(name: Atom, first: Place) -> Construct
         Construct::WritesQuoted(first)
     } else if name == fixed::PRINT {
         Construct::WritesQuoted(first)
+    } else if name == fixed::PUT_CHAR {
+        Construct::Puts(first)
     } else if name == fixed::WRITE_CANONICAL {
         Construct::WritesCanonical(first)
     } else {
