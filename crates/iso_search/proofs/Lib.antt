@@ -1,11 +1,14 @@
+pub mod After
 pub mod Calling
 pub mod Catching
 pub mod Charging
 pub mod Constructing
 pub mod Converting
+pub mod Copying
 pub mod Cutting
 pub mod Enlarging
 pub mod Equalling
+pub mod Erring
 pub mod Growing
 pub mod Grown
 pub mod Heights
@@ -14,6 +17,8 @@ pub mod Listing
 pub mod Naming
 pub mod Others
 pub mod Over
+pub mod Pushing
+pub mod Recoveries
 pub mod Resting
 pub mod Resuming
 pub mod Spelt

@@ -11,6 +11,7 @@ use Rattle.term_store.specs.Contents.{Contents, Holds, arguments_at, term_at}
 use Rattle.iso_search.specs.declared.extending.Extended.{Extended}
 use Rattle.iso_search.specs.declared.extending.Extension.{Extension}
 use Rattle.iso_search.specs.declared.extending.Extension.TheVariants.{Made, Refused}
+use Rattle.iso_search.specs.Errors.{IsFaultIn}
 use Rattle.iso_search.specs.Outcomes.{fault_term}
 use Rattle.iso_search.specs.Reading.{View, reads}
 use Rattle.iso_search.specs.Spelling.{spelled_all, text_of}
@@ -27,7 +28,7 @@ pub record IsCallable (v : View) (s : Contents) (goal : Place) (call : Arguments
 
 abbrev pub IsExtensionIn : Contents → Extension → Type 0
 IsExtensionIn s (Made x) = Holds s x.goal
-IsExtensionIn s (Refused f) = Unit {0}
+IsExtensionIn s (Refused f) = IsFaultIn s f
 
 abbrev pub IsExtended : View → Contents → Place → Arguments → Contents → Extension → Type 0
 IsExtended v s goal call t (Made x) = IsCallable v s goal call t x

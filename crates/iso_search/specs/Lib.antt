@@ -10,6 +10,8 @@ pub mod Frames
 pub mod Goals
 pub mod Outcomes
 pub mod Reading
+pub mod Recovering
 pub mod Searching
 pub mod Spelling
 pub mod Throwing
+pub mod Thrown

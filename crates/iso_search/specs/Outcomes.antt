@@ -1,11 +1,12 @@
 -- What running a goal leads to, as states of the search.
-use Rattle.std.specs.Prelude.{◌≡◌, ℕ, ℤ, pos, negsuc, List, ◌∷◌, length, Option, Some, None, true, false, nat_lt, nat_le, if◌then◌else◌, codes}
+use Rattle.std.specs.Prelude.{◌≡◌, ◌≤◌, ℕ, ℤ, pos, negsuc, List, ◌∷◌, length, Option, Some, None, true, false, nat_lt, nat_le, if◌then◌else◌, codes}
 use Rattle.pl_term.specs.Tree.{Chars, Tree}
 use Rattle.pl_model.specs.History.{Proc}
 use Rattle.pl_model.specs.Balls.{error_ball, instantiation_error, type_error, not_callable, no_inferences, no_cells, no_choices}
 use Rattle.pl_model.specs.ErrorTerms.{domain_error}
 use Rattle.pl_model.specs.Resolution.{Limits, Pending, commit, refute, leave, Node, Doing, running, failing, throwing, ended, halted, Output, State}
 use Rattle.term_store.specs.declared.words.Place.{Place}
+use Rattle.term_store.specs.Contents.{Holds}
 use Rattle.iso_search.specs.declared.choices.Alternative.{Alternative}
 use Rattle.iso_search.specs.declared.control.Exit.{Exit}
 use Rattle.iso_search.specs.declared.control.Exit.TheVariants.{Commit, Refute, Leave}
@@ -14,6 +15,7 @@ use Rattle.iso_search.specs.declared.outcome.Fault.TheVariants.{Inferences, Cell
 use Rattle.iso_search.specs.declared.outcome.Outcome.{Outcome}
 use Rattle.iso_search.specs.declared.outcome.Outcome.TheVariants.{Run, Fail, Raise, Throw, Halt}
 use Rattle.iso_search.specs.declared.search.Search.{Search}
+use Rattle.iso_search.specs.Errors.{IsFaultIn}
 use Rattle.iso_search.specs.Reading.{View, reads}
 use Rattle.iso_search.specs.Choices.{choice_at}
 use Rattle.iso_search.specs.Searching.{node_of, choices_of, state_of}
@@ -79,3 +81,20 @@ abbrev pub exit_at : Exit → ℕ → Pending
 exit_at Commit h = commit h
 exit_at Refute h = refute h
 exit_at Leave h = leave h
+
+-- What was to be done from the lists on is still to be done as it was.
+abbrev pub KeepsTasks : Search → Search → Type 0
+KeepsTasks e d = (v : View) (j : ℕ) → j ≤ length e.frames.items → (node_of v d j).goals ≡ (node_of v e j).goals
+
+-- What is raised or thrown is of the store, and the exits of the active catches are still to be done.
+abbrev pub IsOutcomeIn : Search → Search → Outcome → Type 0
+IsOutcomeIn e d (Run list) = Unit {0}
+IsOutcomeIn e d Fail = Unit {0}
+IsOutcomeIn e d (Raise f) = IsFaultIn d.store f × KeepsTasks e d
+IsOutcomeIn e d (Throw w) = Holds d.store w × KeepsTasks e d
+IsOutcomeIn e d (Halt k) = Unit {0}
+
+-- The budgets stay, and a ball can be made.
+pub record IsAfter (e d : Search) (o : Outcome) : Type 0 where
+  pub budgets : d.budgets ≡ e.budgets
+  pub inside : IsOutcomeIn e d o

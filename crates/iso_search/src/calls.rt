@@ -11,7 +11,7 @@ ghost use Rattle.iso_search.specs.Calling.{IsCheckedIn, goal_or_error};
 ghost use Rattle.iso_search.specs.Choices.{IsAlternativeIn, choice_at};
 ghost use Rattle.iso_search.specs.Conversions.{Grows};
 ghost use Rattle.iso_search.specs.Extending.{further};
-ghost use Rattle.iso_search.specs.Outcomes.{Setting, exit_at, limits_in, result_in, state_in};
+ghost use Rattle.iso_search.specs.Outcomes.{IsAfter, Setting, exit_at, limits_in, result_in, state_in};
 ghost use Rattle.iso_search.specs.Reading.{View, IsView, reads};
 ghost use Rattle.iso_search.specs.Searching.{IsWhole, node_of};
 
@@ -94,6 +94,7 @@ impl Search {
         requires argument { Holds self.old.store argument }
         requires rest { rest ≤ length self.old.frames.items }
         ensures whole { OnOk result (IsWhole self.new) }
+        ensures after { IfOk result (IsAfter self.old self.new) }
         ensures step { IfOk result (λ o. (t : Setting) (p : Proc) → IsView t.view
             → let r = reads t.view self.old.store in let n = node_of t.view self.old rest in let s = state_in t self.old in
             result_in t self.new n p o ≡ checked s n p (called_goal (r argument))
@@ -124,6 +125,7 @@ impl Search {
         requires some { 0 < arguments.count }
         requires rest { rest ≤ length self.old.frames.items }
         ensures whole { OnOk result (IsWhole self.new) }
+        ensures after { IfOk result (IsAfter self.old self.new) }
         ensures step { IfOk result (λ o. (t : Setting) (g : Tree) → IsView t.view
             → let n = node_of t.view self.old rest in
             result_in t self.new n (proc_of g) o
@@ -150,6 +152,7 @@ impl Search {
         requires goal { Holds self.old.store extended.goal }
         requires rest { rest ≤ length self.old.frames.items }
         ensures whole { OnOk result (IsWhole self.new) }
+        ensures after { IfOk result (IsAfter self.old self.new) }
         ensures step { IfOk result (λ o. (t : Setting) (p : Proc) → IsView t.view
             → let n = node_of t.view self.old rest in let s = state_in t self.old in
             result_in t self.new n p o ≡ checked s n p (body_of (reads t.view self.old.store extended.goal))

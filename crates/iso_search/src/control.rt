@@ -6,7 +6,7 @@ ghost use Rattle.pl_model.specs.Control.{before, over, run_on};
 ghost use Rattle.pl_model.specs.Resolution.{Pending, Node, goal, commit, branch, barrier};
 ghost use Rattle.term_store.specs.Contents.{Contents, Holds};
 ghost use Rattle.iso_search.specs.Choices.{IsAlternativeIn, IsTaskIn, choice_at};
-ghost use Rattle.iso_search.specs.Outcomes.{Setting, IsMade, limits_in, state_in, result_in, exit_at};
+ghost use Rattle.iso_search.specs.Outcomes.{IsAfter, Setting, IsMade, limits_in, state_in, result_in, exit_at};
 ghost use Rattle.iso_search.specs.Reading.{View, reads, pending};
 ghost use Rattle.iso_search.specs.Searching.{IsWhole, node_of};
 
@@ -80,6 +80,7 @@ impl Search {
         requires inner { Holds self.old.store inner }
         requires rest { rest ≤ length self.old.frames.items }
         ensures whole { OnOk result (IsWhole self.new) }
+        ensures after { IfOk result (IsAfter self.old self.new) }
         ensures step { IfOk result (λ o. (t : Setting) (p : Proc) (n : Node) (more : List Pending)
             → node_of t.view self.old rest ≡ before more n
             → let r = reads t.view self.old.store in
@@ -105,6 +106,7 @@ impl Search {
         requires again { Holds self.old.store again }
         requires rest { rest ≤ length self.old.frames.items }
         ensures whole { OnOk result (IsWhole self.new) }
+        ensures after { IfOk result (IsAfter self.old self.new) }
         ensures step { IfOk result (λ o. (t : Setting) (p : Proc)
             → let r = reads t.view self.old.store in let n = node_of t.view self.old rest in let s = state_in t self.old in
             result_in t self.new n p o ≡ over (limits_in t self.old) s n p (branch (before (goal (r again) (length s.choices) ∷ []) n)) (λ k. [])) }
@@ -131,6 +133,7 @@ impl Search {
         requires right { Holds self.old.store right }
         requires rest { rest ≤ length self.old.frames.items }
         ensures whole { OnOk result (IsWhole self.new) }
+        ensures after { IfOk result (IsAfter self.old self.new) }
         ensures step { IfOk result (λ o. (t : Setting) (p : Proc)
             → let r = reads t.view self.old.store in let n = node_of t.view self.old rest in
             result_in t self.new n p o
@@ -160,6 +163,7 @@ impl Search {
         requires right { Holds self.old.store right }
         requires rest { rest ≤ length self.old.frames.items }
         ensures whole { OnOk result (IsWhole self.new) }
+        ensures after { IfOk result (IsAfter self.old self.new) }
         ensures step { IfOk result (λ o. (t : Setting) (p : Proc)
             → let r = reads t.view self.old.store in let n = node_of t.view self.old rest in
             result_in t self.new n p o ≡ run_on (state_in t self.old) (before (goal (r left) cut ∷ goal (r right) cut ∷ []) n)) }
@@ -182,6 +186,7 @@ impl Search {
         requires then_goal { Holds self.old.store then_goal }
         requires rest { rest ≤ length self.old.frames.items }
         ensures whole { OnOk result (IsWhole self.new) }
+        ensures after { IfOk result (IsAfter self.old self.new) }
         ensures step { IfOk result (λ o. (t : Setting) (p : Proc)
             → let r = reads t.view self.old.store in let n = node_of t.view self.old rest in
             result_in t self.new n p o ≡ over (limits_in t self.old) (state_in t self.old) n p barrier
@@ -207,6 +212,7 @@ impl Search {
         requires else_goal { Holds self.old.store else_goal }
         requires rest { rest ≤ length self.old.frames.items }
         ensures whole { OnOk result (IsWhole self.new) }
+        ensures after { IfOk result (IsAfter self.old self.new) }
         ensures step { IfOk result (λ o. (t : Setting) (p : Proc)
             → let r = reads t.view self.old.store in let n = node_of t.view self.old rest in
             result_in t self.new n p o

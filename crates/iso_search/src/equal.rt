@@ -6,7 +6,7 @@ ghost use Rattle.pl_model.specs.History.{Proc};
 ghost use Rattle.pl_model.specs.Control.{unified, with_row};
 ghost use Rattle.pl_model.specs.Unify.{unify};
 ghost use Rattle.term_store.specs.Contents.{Holds};
-ghost use Rattle.iso_search.specs.Outcomes.{Setting, limits_in, state_in, result_in};
+ghost use Rattle.iso_search.specs.Outcomes.{IsAfter, Setting, limits_in, state_in, result_in};
 ghost use Rattle.iso_search.specs.Reading.{IsView, reads};
 ghost use Rattle.iso_search.specs.Searching.{IsWhole, node_of};
 
@@ -22,6 +22,7 @@ impl Search {
         requires left { Holds self.old.store left }
         requires right { Holds self.old.store right }
         ensures whole { OnOk result (IsWhole self.new) }
+        ensures after { IfOk result (IsAfter self.old self.new) }
         ensures step { IfOk result (λ o. (t : Setting) (p : Proc) → IsView t.view
             → let r = reads t.view self.old.store in let n = node_of t.view self.old rest in
             result_in t self.new n p o ≡ unified (state_in t self.old) n (unify (r left) (r right))) }
@@ -40,6 +41,7 @@ impl Search {
         requires left { Holds self.old.store left }
         requires right { Holds self.old.store right }
         ensures whole { OnOk result (IsWhole self.new) }
+        ensures after { IfOk result (IsAfter self.old self.new) }
         ensures step { IfOk result (λ o. (t : Setting) (p : Proc) → IsView t.view
             → let r = reads t.view self.old.store in let n = node_of t.view self.old rest in
             result_in t self.new n p o

@@ -34,6 +34,7 @@ impl Search {
         requires { IsWhole self.old }
         ensures whole { IsWhole self.new }
         ensures inside { IsBackIn self.new result }
+        ensures budgets { self.new.budgets ≡ self.old.budgets }
         ensures step { (t : Setting) → t.doing ≡ failing
             → back_result t self.new result ≡ gone_back (limits_in t self.old) (state_in t self.old) (choices_of t.view self.old) }
     {

@@ -6,7 +6,7 @@ ghost use Rattle.pl_model.specs.Control.{take_up};
 ghost use Rattle.term_store.specs.Contents.{Holds};
 ghost use Rattle.iso_search.specs.Constructs.{IsConstructIn, construction};
 ghost use Rattle.iso_search.specs.Goals.{IsLeft, IsUncounted, flat, run_counted};
-ghost use Rattle.iso_search.specs.Outcomes.{Setting, limits_in, result_in, state_in};
+ghost use Rattle.iso_search.specs.Outcomes.{IsAfter, Setting, limits_in, result_in, state_in};
 ghost use Rattle.iso_search.specs.Reading.{IsView, reads};
 ghost use Rattle.iso_search.specs.Searching.{IsWhole, node_of};
 
@@ -69,6 +69,7 @@ impl Search {
         requires construct { IsConstructIn self.old.store construct }
         requires rest { rest ≤ length self.old.frames.items }
         ensures whole { OnOk result (IsWhole self.new) }
+        ensures after { IfOk result (λ a. IfSome a (IsAfter self.old self.new)) }
         ensures step { IfOk result (λ a. IfSome a (λ o. (t : Setting) → IsView t.view
             → let g = reads t.view self.old.store goal in let n = node_of t.view self.old rest in
             goes (result_in t self.new n (proc_of g) o)
@@ -118,6 +119,7 @@ impl Search {
         requires construct { IsConstructIn self.old.store construct }
         requires rest { rest ≤ length self.old.frames.items }
         ensures whole { OnOk result (IsWhole self.new) }
+        ensures after { IfOk result (λ a. IfSome a (IsAfter self.old self.new)) }
         ensures step { IfOk result (λ a. IfSome a (λ o. (t : Setting) (cut : ℕ) → IsView t.view
             → let g = reads t.view self.old.store goal in let n = node_of t.view self.old rest in
             goes (result_in t self.new n (proc_of g) o)
@@ -147,6 +149,7 @@ impl Search {
         requires construct { IsConstructIn self.old.store (flat counted) }
         requires rest { rest ≤ length self.old.frames.items }
         ensures whole { OnOk result (IsWhole self.new) }
+        ensures after { IfOk result (IsAfter self.old self.new) }
         ensures step { IfOk result (λ o. (t : Setting) → IsView t.view
             → let g = reads t.view self.old.store goal in let n = node_of t.view self.old rest in
             result_in t self.new n (proc_of g) o

@@ -5,7 +5,7 @@ ghost use Rattle.pl_model.specs.World.{proc_of};
 ghost use Rattle.pl_model.specs.Resolution.{Node};
 ghost use Rattle.pl_model.specs.Control.{with_status, with_throw};
 ghost use Rattle.term_store.specs.Contents.{Holds};
-ghost use Rattle.iso_search.specs.Outcomes.{Setting, result_in, state_in, status_outcome};
+ghost use Rattle.iso_search.specs.Outcomes.{IsOutcomeIn, Setting, result_in, state_in, status_outcome};
 ghost use Rattle.iso_search.specs.Reading.{reads};
 
 use crate::outcome::{Fault, Outcome};
@@ -19,7 +19,8 @@ impl Search {
     /// `throw/1` of the term at a place.
     pub fn throw(&self, ball: Place) -> Outcome
         requires { Holds self.now.store ball }
-        ensures { (t : Setting) (n : Node) (g : Tree)
+        ensures inside { IsOutcomeIn self.now self.now result }
+        ensures step { (t : Setting) (n : Node) (g : Tree)
             → result_in t self.now n (proc_of g) result ≡ with_throw (state_in t self.now) n g (reads t.view self.now.store ball) }
     {
         match self.store.look(ball) {
@@ -33,7 +34,8 @@ impl Search {
     /// `halt/1` with the term at a place.
     pub fn halt(&self, status: Place) -> Outcome
         requires { Holds self.now.store status }
-        ensures { (t : Setting) (n : Node) (g : Tree)
+        ensures inside { IsOutcomeIn self.now self.now result }
+        ensures step { (t : Setting) (n : Node) (g : Tree)
             → result_in t self.now n (proc_of g) result ≡ with_status (state_in t self.now) n g (reads t.view self.now.store status) }
     {
         match self.store.look(status) {

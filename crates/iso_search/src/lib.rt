@@ -1,6 +1,7 @@
 //! The states of a search, and the steps of resolution on a store of terms (ISO/IEC 13211-1:1995, 7.7 and 7.8).
 #![tactic(auto)]
 
+pub mod balls;
 pub mod bodies;
 pub mod budget;
 pub mod calls;
@@ -14,6 +15,8 @@ pub mod frames;
 pub mod goals;
 pub mod leaving;
 pub mod outcome;
+pub mod recovering;
 pub mod search;
 pub mod spelling;
 pub mod throwing;
+pub mod thrown;

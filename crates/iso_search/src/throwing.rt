@@ -59,6 +59,7 @@ impl Search {
             → caught_result t self.new ball (node_of t.view self.old rest).goals result
             ≡ caught (limits_in t self.old) (state_in t self.old) ball (node_of t.view self.old rest).goals (up_to (suc height) (choices_of t.view self.old)) }
         ensures kept { IfNone result (self.new ≡ self.old) }
+        ensures budgets { self.new.budgets ≡ self.old.budgets }
     {
         let count = self.choices.len();
         if count == 0 {

@@ -32,6 +32,7 @@ returns-in_default c =
           ∙ newest_up_to v e.answer.items e.store e.frames.items e.choices.items at k lt c.requires.whole.rests c.index.ensures)
           c.in_default.not-Catch;
       kept = refl;
+      budgets = refl;
     }
 
 pub unreachable-requires : goal.unreachable-requires

@@ -1,8 +1,10 @@
-use Rattle.std.proofs.Common.{subst}
+use Rattle.std.proofs.Common.{subst, refl}
 use Rattle.pl_model.specs.World.{proc_of}
 use Rattle.iso_search.specs.Extending.{IsExtended, IsExtensionIn}
 use Rattle.iso_search.proofs.Calling.{call_made, call_not_callable}
 use Rattle.iso_search.proofs.Grown.{whole_grown}
+use Rattle.iso_search.specs.declared.search.Search.{Search}
+use Rattle.iso_search.proofs.After.{after_grown, refused}
 use Rattle.iso_search.proofs.search.Search.call.Goals as goal
 
 pub returns-in-Refused-clause-whole : goal.returns-in-Refused-clause-whole
@@ -28,3 +30,18 @@ returns-in_ok-outcome-in-Made-clause-step c t g view =
 
 pub call_extended-requires-clause-goal : goal.call_extended-requires-clause-goal
 call_extended-requires-clause-goal c = subst (IsExtensionIn c.extended_at.new.store) c.in-Made.is c.in_ok-extension.ensures.inside
+
+pub returns-in-Refused-clause-after : goal.returns-in-Refused-clause-after
+returns-in-Refused-clause-after c =
+    let e = c.args.self.now in
+    let s = c.extended_at.new.store in
+    let d : Search = record e { store = s } in
+    refused e d c.in-Refused.fault c.extended_at.ensures.grows.stays c.requires.whole refl
+    (subst (IsExtensionIn s) c.in-Refused.is c.in_ok-extension.ensures.inside)
+
+pub returns-in_ok-outcome-in-Made-clause-after : goal.returns-in_ok-outcome-in-Made-clause-after
+returns-in_ok-outcome-in-Made-clause-after c =
+    let e = c.args.self.now in
+    let d : Search = record e { store = c.extended_at.new.store } in
+    after_grown e d c.call_extended.new.self c.in_ok-outcome-in-Made.outcome c.extended_at.ensures.grows.stays c.requires.whole refl
+    c.in_ok-outcome-in-Made.ensures.after

@@ -2,7 +2,7 @@ use Rattle.std.proofs.Common.{◌≡◌, ap, subst, ◌∙◌, arith}
 use Rattle.pl_model.specs.BodyChecks.{body_of}
 use Rattle.iso_search.specs.declared.search.Search.{Search}
 use Rattle.iso_search.specs.declared.outcome.Outcome.TheVariants.{Raise}
-use Rattle.iso_search.specs.Calling.{goal_or_error}
+use Rattle.iso_search.specs.Calling.{goal_or_error, IsCheckedIn}
 use Rattle.iso_search.specs.Outcomes.{limits_in, result_in, state_in}
 use Rattle.iso_search.specs.Reading.{reads}
 use Rattle.iso_search.specs.Searching.{choices_of, node_of}
@@ -12,6 +12,7 @@ use Rattle.pl_model.specs.Control.{taking}
 use Rattle.std.specs.Prelude.{ℕ}
 use Rattle.iso_search.proofs.Calling.{call_refused, call_run, call_spent}
 use Rattle.iso_search.proofs.Over.{length_choices}
+use Rattle.iso_search.proofs.After.{after_grown, refused, spent}
 use Rattle.iso_search.proofs.search.Search.call_extended.Goals as goal
 
 pub returns-in-Refused-clause-step : goal.returns-in-Refused-clause-step
@@ -65,3 +66,16 @@ returns-in_ok-list-in-None-clause-step c t p view =
     (c.in-None.ensures.choices v ∙ ap (choices_of v) kept)
     (omega (arith, c.len-height.ensures, d.choices.ok.0, length_choices v d))
     (pushed.node v) (pushed.choices v) (ap (λ (s : Search). s.next) pushed.kept) (ap (λ (s : Search). s.inferences) pushed.kept)
+
+pub returns-in-Refused-clause-after : goal.returns-in-Refused-clause-after
+returns-in-Refused-clause-after c =
+    let d = c.check_body.new.self in
+    refused c.args.self.now d c.in-Refused.fault c.check_body.ensures.grows.stays c.requires.whole c.check_body.ensures.kept
+    (subst (IsCheckedIn d.store) c.in-Refused.is c.in_ok-checked.ensures.inside)
+
+pub returns-in-Some-clause-after : goal.returns-in-Some-clause-after
+returns-in-Some-clause-after c =
+    let d = c.check_body.new.self in
+    let f = c.take.new.self in
+    after_grown c.args.self.now d f (Raise c.in-Some.fault) c.check_body.ensures.grows.stays c.requires.whole c.check_body.ensures.kept
+    (spent d f c.in-Some.fault c.in-Some.ensures.refused c.in-Some.ensures.budgets)

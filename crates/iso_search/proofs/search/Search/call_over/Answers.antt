@@ -10,6 +10,7 @@ use Rattle.iso_search.specs.Reading.{reads}
 use Rattle.iso_search.specs.Searching.{node_of}
 use Rattle.iso_search.proofs.Calling.{called_over}
 use Rattle.iso_search.proofs.Grown.{alternative_grown, node_grown, refused_by_check, state_grown}
+use Rattle.iso_search.proofs.After.{after_grown, refused}
 use Rattle.iso_search.proofs.search.Search.call_over.Goals as goal
 
 pub enter-requires-clause-words : goal.enter-requires-clause-words
@@ -50,3 +51,14 @@ returns-in-Refused-clause-step c t p view =
     refused_by_check t e d n p (called_goal (reads v e.store c.args.argument))
     (λ body. over (limits_in t e) (state_in t e) n p (choice_at v (reads v e.store) n c.args.alternative) (λ h. a_goal body (suc h) ∷ exit_at c.args.exit h ∷ []))
     c.in-Refused.fault is same
+
+pub returns-in_ok-outcome-in-Goal-clause-after : goal.returns-in_ok-outcome-in-Goal-clause-after
+returns-in_ok-outcome-in-Goal-clause-after c =
+    after_grown c.args.self.now c.check_called.new.self c.enter.new.self c.in_ok-outcome-in-Goal.outcome c.check_called.ensures.grows.stays
+    c.requires.whole c.check_called.ensures.kept c.in_ok-outcome-in-Goal.ensures.after
+
+pub returns-in-Refused-clause-after : goal.returns-in-Refused-clause-after
+returns-in-Refused-clause-after c =
+    let d = c.check_called.new.self in
+    refused c.args.self.now d c.in-Refused.fault c.check_called.ensures.grows.stays c.requires.whole c.check_called.ensures.kept
+    (subst (IsCheckedIn d.store) c.in-Refused.is c.in_ok-checked.ensures.inside)

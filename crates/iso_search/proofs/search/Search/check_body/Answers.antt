@@ -30,3 +30,6 @@ returns-in-None-clause-checked c v view =
     let t = c.converted_at.new.store in
     body_refused v s t c.args.body (NotCallable c.args.body) c.converted_at.ensures.grows.stays c.requires.body
     (subst (λ o. IsConverted v s c.args.body t o) c.in-None.is (c.in_ok-converted.ensures.converted v view)) refl
+
+pub returns-in-None-clause-inside : goal.returns-in-None-clause-inside
+returns-in-None-clause-inside c = c.converted_at.ensures.grows.stays.adds.places c.args.body c.requires.body

@@ -5,6 +5,7 @@ use Rattle.iso_search.specs.Outcomes.{limits_in, state_in}
 use Rattle.iso_search.specs.Reading.{reads}
 use Rattle.iso_search.specs.Searching.{node_of}
 use Rattle.iso_search.proofs.Over.{same_limits, same_state, over_same}
+use Rattle.iso_search.proofs.After.{after_push}
 use Rattle.iso_search.proofs.search.Search.if_then.Goals as goal
 
 pub returns-clause-step : goal.returns-clause-step
@@ -24,3 +25,9 @@ returns-clause-step c t p =
     (same_state t b e (pushed.choices v) (ap (λ (s : Search). s.next) pushed.kept) (ap (λ (s : Search). s.inferences) pushed.kept))
     refl
     (ap (λ s k. a_goal (reads v s c.args.condition) (suc k) ∷ commit k ∷ a_goal (r c.args.then_goal) c.args.cut ∷ []) stores)
+
+pub returns-clause-after : goal.returns-clause-after
+returns-clause-after c =
+    let pushed = c.in_ok-list.ensures in
+    after_push c.args.self.now c.push.new.self c.enter.new.self c.in_ok-outcome.outcome pushed.longer pushed.nodes
+    (ap (λ (x : Search). x.budgets) pushed.kept) c.in_ok-outcome.ensures.after

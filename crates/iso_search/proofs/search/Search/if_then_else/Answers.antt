@@ -6,6 +6,7 @@ use Rattle.iso_search.specs.Outcomes.{limits_in, state_in}
 use Rattle.iso_search.specs.Reading.{reads}
 use Rattle.iso_search.specs.Searching.{node_of}
 use Rattle.iso_search.proofs.Over.{same_limits, same_state, over_same}
+use Rattle.iso_search.proofs.After.{after_push}
 use Rattle.iso_search.proofs.search.Search.if_then_else.Goals as goal
 
 pub returns-clause-step : goal.returns-clause-step
@@ -33,3 +34,15 @@ returns-clause-step c t p =
     (ap (λ (s : Search). s.inferences) second.kept ∙ ap (λ (s : Search). s.inferences) first.kept))
     (ap branch behind)
     (ap (λ s k. a_goal (reads v s c.args.condition) (suc k) ∷ commit k ∷ a_goal (r c.args.then_goal) c.args.cut ∷ []) stores)
+
+pub returns-clause-after : goal.returns-clause-after
+returns-clause-after c =
+    let e = c.args.self.now in
+    let a = c.push.new.self in
+    let b = c.push-2.new.self in
+    let f = c.enter.new.self in
+    let first = c.in_ok-list.ensures in
+    let second = c.in_ok-behind.ensures in
+    let o = c.in_ok-outcome.outcome in
+    after_push e a f o first.longer first.nodes (ap (λ (x : Search). x.budgets) first.kept)
+    (after_push a b f o second.longer second.nodes (ap (λ (x : Search). x.budgets) second.kept) c.in_ok-outcome.ensures.after)

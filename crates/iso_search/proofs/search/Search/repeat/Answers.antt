@@ -7,6 +7,9 @@ use Rattle.iso_search.specs.Outcomes.{IsMade}
 use Rattle.iso_search.specs.Reading.{reads}
 use Rattle.iso_search.specs.Searching.{node_of, choices_of}
 use Rattle.iso_search.proofs.Over.{over_made, over_full, length_choices}
+use Rattle.iso_search.proofs.After.{after_push, full}
+use Rattle.iso_search.specs.declared.outcome.Outcome.TheVariants.{Raise}
+use Rattle.iso_search.specs.declared.outcome.Fault.TheVariants.{Choices}
 use Rattle.iso_search.proofs.search.Search.repeat.Goals as goal
 
 pub returns-in-None-clause-step : goal.returns-in-None-clause-step
@@ -42,3 +45,9 @@ returns-in-Some-clause-step c t p =
     (ap (λ (s : Search). node_of v s c.args.rest) kept ∙ pushed.nodes v c.args.rest c.requires.rest)
     (ap (λ (s : Search). s.next) kept ∙ ap (λ (s : Search). s.next) pushed.kept)
     (ap (λ (s : Search). s.inferences) kept ∙ ap (λ (s : Search). s.inferences) pushed.kept)
+
+pub returns-in-None-clause-after : goal.returns-in-None-clause-after
+returns-in-None-clause-after c =
+    let pushed = c.in_ok-list.ensures in
+    after_push c.args.self.now c.push.new.self c.make_choice.new.self (Raise Choices) pushed.longer pushed.nodes
+    (ap (λ (x : Search). x.budgets) pushed.kept) (full c.push.new.self c.make_choice.new.self c.in_ok-made.ensures.kept)

@@ -64,6 +64,7 @@ returns-in_ok-outcome-in_default c =
     let ran = c.in_ok-outcome-in_default in
     record {
       whole = ran.ensures.whole;
+      after = ran.ensures.after;
       step = counted_or_none c.args.self.now c.take_up_counted.new.self c.args.goal c.args.construct c.args.cut c.args.rest ran.outcome ran.ensures.step;
       others =
           left_over c.args.self.now c.take_up_counted.new.self ran.outcome c.args.construct c.in_default.not-Succeeds c.in_default.not-Cuts

@@ -1,4 +1,4 @@
-use Rattle.std.proofs.Common.{◌≡◌, ap, subst, ◌∙◌}
+use Rattle.std.proofs.Common.{◌≡◌, ap, subst, ◌∙◌, length, arith}
 use Rattle.pl_term.specs.Tree.{Tree}
 use Rattle.pl_model.specs.Resolution.{Node, State, Next}
 use Rattle.pl_model.specs.Control.{costing, take_up}
@@ -8,6 +8,8 @@ use Rattle.iso_search.specs.Outcomes.{limits_in, state_in}
 use Rattle.iso_search.specs.Reading.{reads}
 use Rattle.iso_search.specs.Searching.{node_of}
 use Rattle.iso_search.proofs.Taking.{counted_out, counted_run}
+use Rattle.iso_search.specs.declared.search.Search.{Search}
+use Rattle.iso_search.proofs.After.{after_behind}
 use Rattle.iso_search.proofs.search.Search.take_up_counted.Goals as goal
 
 pub returns-then-not-infer-clause-step : goal.returns-then-not-infer-clause-step
@@ -36,3 +38,12 @@ returns-clause-step c t cut view =
     counted_run t e x c.run_counted.new.self c.in-Some.counted cut c.args.rest c.args.goal c.in_ok-outcome.outcome c.infer.ensures.kept made
     (c.in_ok-outcome.ensures.step t view)
     ∙ ap (λ k. take_up (limits_in t e) (state_in t e) n g cut (construction v e.store k)) c.in-Some.ensures
+
+pub returns-clause-after : goal.returns-clause-after
+returns-clause-after c =
+    let e = c.args.self.now in
+    let x = c.infer.new.self in
+    let kept = c.infer.ensures.kept in
+    let same : length x.frames.items ≡ length e.frames.items = ap (λ (y : Search). length y.frames.items) kept in
+    after_behind e x c.run_counted.new.self c.in_ok-outcome.outcome (omega (arith, same)) (ap (λ (y : Search). y.budgets) kept)
+    (λ v j le. ap (λ (y : Search). (node_of v y j).goals) kept) c.in_ok-outcome.ensures.after

@@ -1,0 +1,35 @@
+-- What is done with a ball at a catch, as states of the search.
+use Rattle.std.specs.Prelude.{ℕ}
+use Rattle.pl_term.specs.Tree.{Tree}
+use Rattle.pl_term.specs.Variables.{rename}
+use Rattle.pl_model.specs.Balls.{error_ball}
+use Rattle.pl_model.specs.Resolution.{Node, State, throwing, running}
+use Rattle.pl_model.specs.Control.{ball_unified, catch_proc}
+use Rattle.pl_model.specs.Unify.{unify}
+use Rattle.term_store.specs.Contents.{Contents}
+use Rattle.iso_search.specs.declared.recovering.Recovery.{Recovery}
+use Rattle.iso_search.specs.declared.recovering.Recovery.TheVariants.{Run, Refused, Throw}
+use Rattle.iso_search.specs.declared.search.Search.{Search}
+use Rattle.iso_search.specs.Errors.{IsFaultIn}
+use Rattle.iso_search.specs.Outcomes.{Setting, fault_term, state_in}
+use Rattle.iso_search.specs.Reading.{reads}
+use Rattle.iso_search.specs.Searching.{node_of}
+use Rattle.iso_search.specs.Spelling.{spelled, text_of}
+
+-- The state with the tasks of the catch, where these are to be done from the list `next` on.
+abbrev pub recovery_result : Setting → Search → ℕ → Recovery → State
+recovery_result t e next (Run list) = record (state_in t e) { doing = running (node_of t.view e list) }
+recovery_result t e next (Refused f) =
+    record (state_in t e) { doing = throwing (error_ball (fault_term (reads t.view e.store) f) catch_proc) (node_of t.view e next).goals }
+recovery_result t e next (Throw b) =
+    record (state_in t e) { doing = throwing (spelled (text_of t.view.names) b) (node_of t.view e next).goals }
+
+-- What is refused is of the store.
+abbrev pub IsRecoveryIn : Contents → Recovery → Type 0
+IsRecoveryIn s (Run list) = Unit {0}
+IsRecoveryIn s (Refused f) = IsFaultIn s f
+IsRecoveryIn s (Throw b) = Unit {0}
+
+-- What follows when the copy of the ball with the numbers from `from` on meets the catcher.
+abbrev pub ball_result : State → Node → Tree → Tree → ℕ → Tree → State
+ball_result s n catcher recovery from ball = ball_unified s n ball recovery (unify (rename from ball) catcher)
