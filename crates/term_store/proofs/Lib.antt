@@ -5,6 +5,7 @@ pub mod Constructing
 pub mod Equations
 pub mod Following
 pub mod Growing
+pub mod KeptTerms
 pub mod Loading
 pub mod Looking
 pub mod Marking

@@ -1,10 +1,15 @@
+pub mod ArgumentKeys
 pub mod Cells
 pub mod Codes
 pub mod Contents
 pub mod Fit
 pub mod Heap
+pub mod KeptLaws
 pub mod Making
 pub mod Marks
+pub mod NameLaws
+pub mod NameUnification
 pub mod Nodes
+pub mod NumberedNames
 pub mod StoredTerms
 pub mod Unifying

@@ -2,10 +2,12 @@
 //! unification, and given back on backtracking.
 #![tactic(auto)]
 
+mod argument_key;
 mod bind;
 mod build;
 mod cells;
 mod faults;
+mod kept;
 mod load;
 mod look;
 mod make;
@@ -21,6 +23,7 @@ mod unify;
 mod views;
 mod words;
 
+pub use argument_key::ArgumentKey;
 pub use faults::StoreFault;
 pub use nodes::AtomNode;
 pub use store::Store;

@@ -1,6 +1,7 @@
 //! Terms that name atoms.
 use pl_model::kept::Kept;
 use pl_term::Flat;
+use term_store::Stored;
 
 /// A term that is kept and names atoms by their numbers.
 pub trait Named: Kept {
@@ -33,4 +34,19 @@ impl Named for Flat {
     ghost names_tell = { λ t text other same. refl };
 
     ghost keys_named = { λ t a named. named };
+}
+
+/// A stored term names its atoms, and the neck, on which it depends whether it is a rule.
+impl Named for Stored {
+    ghost use Rattle.term_store.specs.ArgumentKeys.{key_atoms};
+    ghost use Rattle.term_store.specs.NameLaws.{keys_are_named, names_are_told};
+    ghost use Rattle.term_store.specs.NumberedNames.{names_of};
+
+    ghost names = { names_of };
+
+    ghost key_names = { key_atoms };
+
+    ghost names_tell = { names_are_told };
+
+    ghost keys_named = { keys_are_named };
 }
