@@ -1,0 +1,50 @@
+use Rattle.std.proofs.Common.{◌++◌, refl, ap, ◌∙◌}
+use Rattle.std.specs.Prelude.{encode_utf8_all}
+use Rattle.pl_model.specs.Requests.{read_operators}
+use Rattle.world_api.specs.Texts.{text_of}
+use Rattle.world_builtins.specs.Spelling.{reads}
+use Rattle.world_builtins.specs.Styles.{text_by}
+use Rattle.world_builtins.proofs.Replies.{operators_are_read, served_stands, text_written}
+use Rattle.world_builtins.proofs.output.write.Goals as goal
+
+pub operators_of-operators-requires : goal.operators_of-operators-requires
+operators_of-operators-requires g c =
+    let v = c.in-Served.ensures.visited
+    in served_stands
+    g.W.Term.Kept.term
+    g.W.Term.Kept.key_of
+    (text_of (g.W.A.Atoms.held c.flat_at.new.atoms))
+    (text_of (g.W.A.Atoms.held c.visit.new.atoms))
+    c.in-Served.reply
+    c.in-Served.generation
+    (g.W.World.told c.args.world.now)
+    v.0
+    (g.W.World.told c.visit.new.self)
+    v.1
+
+pub returns-in-Served-clause-writes : goal.returns-in-Served-clause-writes
+returns-in-Served-clause-writes g c =
+    let v = c.in-Served.ensures.visited
+    in text_written
+    g.W.Term.Kept.term
+    g.W.Term.Kept.key_of
+    (text_of (g.W.A.Atoms.held c.flat_at.new.atoms))
+    (text_of (g.W.A.Atoms.held c.visit.new.atoms))
+    c.in-Served.reply
+    c.in-Served.generation
+    (g.W.World.told c.args.world.now)
+    v.0
+    (g.W.World.told c.visit.new.self)
+    (text_by c.args.style (reads (g.W.A.Atoms.held c.args.atoms.now) c.args.store.now c.args.term))
+    c.operators_of-operators.result
+    c.args.out.now.items
+    c.put_term.new.out.items
+    v.1
+    c.operators_of-operators.ensures
+    (c.in_ok-put_term-in-Served.ensures
+    ∙ ap (λ t. c.args.out.now.items ++ encode_utf8_all (text_by c.args.style t c.operators_of-operators.result)) c.in_ok-flat.ensures.term)
+
+pub unreachable-requires : goal.unreachable-requires
+unreachable-requires g c =
+    let v = c.in-Waits.ensures.visited
+    in operators_are_read (g.W.World.told c.args.world.now).engine (g.W.World.told c.args.world.now).goals v.0 (v.1.1.waiting read_operators refl)

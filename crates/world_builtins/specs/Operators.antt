@@ -1,0 +1,15 @@
+-- The operators of a reply.
+use Rattle.std.specs.Prelude.{◌≡◌}
+use Rattle.pl_model.specs.OperatorTable.{OperatorTable}
+use Rattle.world_api.specs.declared.reply.Reply.{Reply}
+use Rattle.world_api.specs.declared.reply.Reply.TheVariants.{Standing}
+
+-- The reply has these operators.
+abbrev pub Stands : {T : Type 0} → Reply T → OperatorTable → Type 0
+Stands (Standing ops quotes) t = t ≡ ops
+Stands _ t = ⊥
+
+-- It has some.
+abbrev pub HasOperators : {T : Type 0} → Reply T → Type 0
+HasOperators (Standing ops quotes) = Unit {0}
+HasOperators _ = ⊥

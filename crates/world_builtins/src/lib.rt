@@ -1,0 +1,14 @@
+//! Output: the predicates that write terms, characters and new lines behind what an engine has written.
+#![tactic(auto)]
+
+mod characters;
+mod output;
+mod styles;
+mod terms;
+mod written;
+
+pub use characters::{Character, put_char};
+pub use output::{nl, write, write_canonical};
+pub use styles::Style;
+pub use terms::{flat_at, flats_at};
+pub use written::Written;

@@ -1,0 +1,114 @@
+//! Terms that are written behind what an engine has written.
+ghost use Rattle.std.specs.Prelude.{◌≡◌, ◌++◌, ◌∷◌, [], false, OnOk, encode_utf8_all};
+ghost use Rattle.pl_model.specs.TermWriting.{write_canonical};
+ghost use Rattle.term_store.specs.Contents.{Holds};
+ghost use Rattle.world_api.specs.Told.{has_ended};
+ghost use Rattle.world_api.specs.Texts.{Holds as HoldsOn};
+ghost use Rattle.world_builtins.specs.Naming.{IsHeldAt};
+ghost use Rattle.world_builtins.specs.Operators.{HasOperators, Stands};
+ghost use Rattle.world_builtins.specs.Spelling.{reads};
+ghost use Rattle.world_builtins.specs.Styles.{text_by};
+ghost use Rattle.world_builtins.specs.Writing.{Writes, refusals_of};
+
+use crate::styles::Style;
+use crate::terms::flat_at;
+use crate::written::Written;
+use atom_api::Atoms;
+use op_table::OpTable;
+use pl_term::{Flat, Memory};
+use std::alloc::Global;
+use term_store::{Place, Store};
+use world_api::{Answer, Reply, Visit, World};
+
+/// The operators of a reply that has some.
+fn operators_of<T: Drop>(reply: Reply<T>) -> OpTable
+    requires { HasOperators reply }
+    ensures { Stands reply result }
+{
+    match reply {
+        Reply::Standing { operators, .. } => operators,
+        _ => unreachable!(),
+    }
+}
+
+/// Puts the text of a term behind what was written. The only error is want of memory.
+fn put_term(
+    alloc: Global,
+    style: Style,
+    term: &Flat,
+    operators: &OpTable,
+    out: &mut Vec<u8>,
+) -> Result<(), Memory>
+    ensures { OnOk result (out.new.items ≡ out.old.items ++ encode_utf8_all (text_by style term.now operators.now)) }
+{
+    match style {
+        Style::Bare => term_writer::write(alloc, term, operators, 1200, out),
+        Style::Quoted => term_writer::writeq(alloc, term, operators, 1200, out),
+    }
+}
+
+/// write/1, writeq/1 and print/1 (ISO 8.14.2; SWI-Prolog manual, section 'Term reading and writing'): puts the text of the
+/// term at a place behind what was written, under the operators of the shared state, which one visit reads. The only error
+/// is want of memory.
+pub fn write<W: World>(
+    alloc: Global,
+    style: Style,
+    store: &Store,
+    term: Place,
+    world: &mut W,
+    atoms: &mut W::A,
+    out: &mut Vec<u8>,
+) -> Result<Written, Memory>
+    requires runs { has_ended (W.told world.old).engine (W.told world.old).history ≡ false }
+    requires inside { Holds store.now term }
+    requires held { IsHeldAt (W.A.held atoms.old) store.now term }
+    ensures writes { Writes (text_by style (reads (W.A.held atoms.old) store.now term)) result
+        (W.told world.old) (W.told world.new) out.old.items out.new.items }
+    ensures runs { has_ended (W.told world.new).engine (W.told world.new).history ≡ false }
+    ensures holds { HoldsOn (W.A.held atoms.old) (W.A.held atoms.new) }
+    ensures refusals { W.A.refusals atoms.new ≡ W.A.refusals atoms.old ++ refusals_of result }
+{
+    let flat = flat_at(alloc, store, term, atoms)?;
+    match world.visit(Visit::ReadOperators, atoms) {
+        Answer::Served { reply, .. } => {
+            let operators = operators_of(reply);
+            put_term(alloc, style, &flat, &operators, out)?;
+            Ok(Written::Done)
+        }
+        Answer::Waits { .. } => unreachable!(),
+        Answer::NeedsAtoms(pass) => Ok(Written::NeedsAtoms(pass)),
+        Answer::Retry(cause) => Ok(Written::Retry(cause)),
+        Answer::Worn(word) => Ok(Written::Worn(word)),
+        Answer::Memory => Err(Memory),
+    }
+}
+
+/// write_canonical/1 (ISO 8.14.2): puts the text of the term at a place behind what was written, with quotes and without
+/// operators. The only error is want of memory.
+pub fn write_canonical<A: Atoms>(
+    alloc: Global,
+    store: &Store,
+    term: Place,
+    atoms: &mut A,
+    out: &mut Vec<u8>,
+) -> Result<(), Memory>
+    requires inside { Holds store.now term }
+    requires held { IsHeldAt (A.held atoms.old) store.now term }
+    ensures writes { OnOk result (out.new.items
+        ≡ out.old.items ++ encode_utf8_all (write_canonical (reads (A.held atoms.old) store.now term))) }
+    ensures same { A.held atoms.new ≡ A.held atoms.old }
+    ensures refusals { A.refusals atoms.new ≡ A.refusals atoms.old }
+    ensures asked { A.asked atoms.new ≡ A.asked atoms.old }
+{
+    let flat = flat_at(alloc, store, term, atoms)?;
+    let operators = OpTable::iso(alloc)?;
+    term_writer::write_canonical(alloc, &flat, &operators, 1200, out)
+}
+
+/// nl/0 (ISO 8.12.1): puts a new line behind what was written. The only error is want of memory: then nothing has changed.
+pub fn nl(out: &mut Vec<u8>) -> Result<(), Memory>
+    ensures writes { OnOk result (out.new.items ≡ out.old.items ++ encode_utf8_all (10 ∷ [])) }
+{
+    out.push(b'\n')?;
+    Ok(())
+}

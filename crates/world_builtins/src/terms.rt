@@ -1,0 +1,111 @@
+//! The terms of a store as terms over texts.
+ghost use Rattle.std.specs.Prelude.{◌≡◌, map, IfOk, IsSome};
+ghost use Rattle.std.specs.List.{All};
+ghost use Rattle.term_store.specs.Contents.{Holds};
+ghost use Rattle.term_store.specs.Heap.{atom_name};
+ghost use Rattle.term_store.specs.Nodes.{node_view, node_views};
+ghost use Rattle.world_builtins.specs.Naming.{IsHeldAt};
+ghost use Rattle.world_builtins.specs.Nodes.{IsNodeHeld, spelled_node};
+ghost use Rattle.world_builtins.specs.Spelling.{reads, text_of};
+
+use atom_api::{Atom, Atoms, TextBuf};
+use pl_term::{Flat, Memory, Node, Text};
+use std::alloc::Global;
+use term_store::{AtomNode, Place, Store};
+
+/// The text of an atom that is held. The only error is want of memory.
+fn text_at<A: Atoms>(alloc: Global, slot: u32, atoms: &mut A) -> Result<Text, Memory>
+    requires { IsSome (A.held atoms.old slot) }
+    ensures text { IfOk result (λ t. t ≡ text_of (A.held atoms.old) (atom_name slot)) }
+    ensures same { A.held atoms.new ≡ A.held atoms.old }
+    ensures refusals { A.refusals atoms.new ≡ A.refusals atoms.old }
+    ensures asked { A.asked atoms.new ≡ A.asked atoms.old }
+{
+    let mut text = TextBuf::new();
+    atoms.text(Atom::at(slot), &mut text);
+    text.to_text(alloc)
+}
+
+/// The node over texts. The only error is want of memory.
+fn spell<A: Atoms>(alloc: Global, node: &AtomNode, atoms: &mut A) -> Result<Node, Memory>
+    requires { IsNodeHeld (A.held atoms.old) (node_view node.now) }
+    ensures node { IfOk result (λ n. n ≡ spelled_node (text_of (A.held atoms.old)) (node_view node.now)) }
+    ensures same { A.held atoms.new ≡ A.held atoms.old }
+    ensures refusals { A.refusals atoms.new ≡ A.refusals atoms.old }
+    ensures asked { A.asked atoms.new ≡ A.asked atoms.old }
+{
+    match node {
+        AtomNode::Var(x) => Ok(Node::Var(*x)),
+        AtomNode::Int(i) => Ok(Node::Int(*i)),
+        AtomNode::Atom(a) => {
+            let text = text_at(alloc, *a, atoms)?;
+            Ok(Node::Atom(text))
+        }
+        AtomNode::Comp(f, k) => {
+            let text = text_at(alloc, *f, atoms)?;
+            Ok(Node::Comp(text, *k as u64))
+        }
+    }
+}
+
+/// The nodes over texts. The only error is want of memory.
+fn spell_all<A: Atoms>(
+    alloc: Global,
+    nodes: &[AtomNode],
+    atoms: &mut A,
+) -> Result<Vec<Node>, Memory>
+    requires { All (λ n. IsNodeHeld (A.held atoms.old) (node_view n)) nodes.now }
+    ensures nodes { IfOk result (λ v. v.items ≡ map (spelled_node (text_of (A.held atoms.old))) (node_views nodes.now)) }
+    ensures same { A.held atoms.new ≡ A.held atoms.old }
+    ensures refusals { A.refusals atoms.new ≡ A.refusals atoms.old }
+    ensures asked { A.asked atoms.new ≡ A.asked atoms.old }
+{
+    let mut all = Vec::new(alloc);
+    for node in nodes {
+        let next = spell(alloc, node, atoms)?;
+        all.push(next)?;
+    }
+    Ok(all)
+}
+
+/// The term that stands at a place, over the texts of its atoms, its variables with their numbers. Each atom that it names
+/// is held. The only error is want of memory.
+pub fn flat_at<A: Atoms>(
+    alloc: Global,
+    store: &Store,
+    place: Place,
+    atoms: &mut A,
+) -> Result<Flat, Memory>
+    requires inside { Holds store.now place }
+    requires held { IsHeldAt (A.held atoms.old) store.now place }
+    ensures term { IfOk result (λ t. t ≡ reads (A.held atoms.old) store.now place) }
+    ensures same { A.held atoms.new ≡ A.held atoms.old }
+    ensures refusals { A.refusals atoms.new ≡ A.refusals atoms.old }
+    ensures asked { A.asked atoms.new ≡ A.asked atoms.old }
+{
+    let nodes = store.nodes(place)?;
+    let all = spell_all(alloc, &nodes, atoms)?;
+    Ok(Flat::from_nodes(all))
+}
+
+/// The terms that stand at some places. The only error is want of memory.
+pub fn flats_at<A: Atoms>(
+    alloc: Global,
+    store: &Store,
+    places: &[Place],
+    atoms: &mut A,
+) -> Result<Vec<Flat>, Memory>
+    requires inside { All (Holds store.now) places.now }
+    requires held { All (IsHeldAt (A.held atoms.old) store.now) places.now }
+    ensures terms { IfOk result (λ ts. ts.items ≡ map (reads (A.held atoms.old) store.now) places.now) }
+    ensures same { A.held atoms.new ≡ A.held atoms.old }
+    ensures refusals { A.refusals atoms.new ≡ A.refusals atoms.old }
+    ensures asked { A.asked atoms.new ≡ A.asked atoms.old }
+{
+    let mut all = Vec::new(alloc);
+    for place in places {
+        let next = flat_at(alloc, store, *place, atoms)?;
+        all.push(next)?;
+    }
+    Ok(all)
+}
