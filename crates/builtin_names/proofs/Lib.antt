@@ -1,0 +1,7 @@
+mod Numbers
+mod Choosing
+mod Finding
+mod Rows
+mod Sharing
+mod Steps
+mod Telling
