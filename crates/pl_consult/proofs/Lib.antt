@@ -1,0 +1,9 @@
+pub mod TermNodes
+pub mod ReadTerms
+pub mod BodiesConverted
+pub mod BodiesNodes
+pub mod Names
+pub mod WordTexts
+pub mod Renumbered
+pub mod ItemTerms
+pub mod ConsultLemmas

@@ -1,0 +1,5 @@
+pub mod BodyNodes
+pub mod Subterms
+pub mod Checks
+pub mod Items
+pub mod Consults
