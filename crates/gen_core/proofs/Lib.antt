@@ -6,3 +6,5 @@ pub mod Listed
 pub mod AllErased
 pub mod Places
 pub mod Cells
+pub mod Calls
+pub mod Later

@@ -23,10 +23,14 @@ dated_at m number = option_map (λ e. e.dated) (tree.get nat_cmp m number)
 abbrev pub clauses_of : {C K : Type 0} → BTreeMap ℕ (Entry C K) → List (DatedClause C)
 clauses_of m = map (λ e. e.1.dated) m.entries
 
+-- The clauses from a number on.
+abbrev pub clauses_from : {C K : Type 0} → ℕ → BTreeMap ℕ (Entry C K) → List (DatedClause C)
+clauses_from n m = map (λ e. e.1.dated) (filter (λ e. not (nat_lt e.0 n)) m.entries)
+
 -- What stands behind the clause that was added at a place is what stands from a number on, or nothing.
 abbrev pub IsBehind : {C K : Type 0} → BTreeMap ℕ (Entry C K) → Option ℕ → Option ℕ → Type 0
 IsBehind m place None = behind place (clauses_of m) ≡ []
-IsBehind m place (Some n) = behind place (clauses_of m) ≡ map (λ e. e.1.dated) (filter (λ e. not (nat_lt e.0 n)) m.entries)
+IsBehind m place (Some n) = behind place (clauses_of m) ≡ clauses_from n m
 
 -- Whether there is a clause on the number that passes.
 abbrev pub holds : {C K : Type 0} → BTreeMap ℕ (Entry C K) → (DatedClause C → Bool) → ℕ → Bool

@@ -1,6 +1,8 @@
 //! The places in database order at which clauses stand, by the keys of their first arguments.
 ghost use Rattle.std.specs.Prelude.{◌≡◌, ℕ, ◌+◌, ◌^◌, ◌<◌, ◌&&◌, ◌||◌, ◌==◌, not, Bool, false, OnOk, OnErr, Some, None};
 ghost use Rattle.std.specs.Ordering.{is_eq, nat_cmp};
+ghost use Rattle.std.specs.Option.{option_copied, option_map_or};
+ghost use Rattle.std.specs.BTreeMap as tree;
 ghost use Rattle.std.specs.BTreeSet as set;
 ghost use Rattle.gen_core.specs.Index.{is_listed, IsNext};
 
@@ -14,6 +16,16 @@ pub fn next_in(numbers: &BTreeSet<u64>, from: u64) -> Option<u64>
     ensures { IsNext (set.contains nat_cmp numbers.now) from result }
 {
     numbers.range(from..).next().copied()
+}
+
+/// The first number of the set from `from` on, where there is a set.
+pub fn next_under(numbers: Option<&BTreeSet<u64>>, from: u64) -> Option<u64>
+    ensures { IsNext (λ q. option_map_or (λ s. set.contains nat_cmp s q) (option_copied numbers.entry) false) from result }
+{
+    match numbers {
+        Some(numbers) => next_in(numbers, from),
+        None => None,
+    }
 }
 
 /// The smaller of two numbers, where there are any.
@@ -46,14 +58,11 @@ impl<K: Ord + Drop> Index<K> {
         }
     }
 
-    /// The first number under the key from `from` on.
-    pub fn next(&self, key: &K, from: u64) -> Option<u64>
-        ensures { IsNext (is_listed K.cmp self.now.by_key key.now) from result }
+    /// The numbers under the key, if there are any.
+    pub fn numbers(&self, key: &K) -> Option<&BTreeSet<u64>>
+        ensures { option_copied result ≡ tree.get K.cmp self.now.by_key key.now }
     {
-        match self.by_key.get(key) {
-            Some(numbers) => next_in(numbers, from),
-            None => None,
-        }
+        self.by_key.get(key)
     }
 
     /// Puts a number under a key. The only error is want of memory; after it the index is as it was.

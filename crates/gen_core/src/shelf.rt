@@ -1,6 +1,6 @@
 //! Clauses on their numbers, with what finds them.
-ghost use Rattle.std.specs.Prelude.{◌≡◌, ℕ, ◌+◌, ◌^◌, ◌<◌, ◌≤◌, ◌&&◌, not, Some, None, IsSome, OnOk, OnErr, MatchOption, IfOk, IfErr, IfSome, [], filter, map, min, ◌-◌, ◌==◌, sum_by, true};
-ghost use Rattle.std.specs.Option.{option_map};
+ghost use Rattle.std.specs.Prelude.{◌≡◌, ℕ, false, ◌+◌, ◌^◌, ◌<◌, ◌≤◌, ◌&&◌, not, Some, None, IsSome, OnOk, OnErr, MatchOption, IfOk, IfErr, IfSome, [], filter, map, min, ◌-◌, ◌==◌, sum_by, true};
+ghost use Rattle.std.specs.Option.{option_map, option_copied, is_some};
 ghost use Rattle.std.specs.List.{list_any};
 ghost use Rattle.std.specs.Ordering.{nat_cmp};
 ghost use Rattle.std.specs.BTreeMap as tree;
@@ -9,12 +9,12 @@ ghost use Rattle.pl_model.specs.FirstArguments.{are_apart};
 ghost use Rattle.gen_core.specs.Index.{IsNext};
 ghost use Rattle.gen_core.specs.Visible.{is_visible, is_droppable, is_live, fresh, erased_all, live_size, is_droppable_at, counted, behind, is_choice, first_choice};
 ghost use Rattle.gen_core.specs.Hits.{hit_of};
-ghost use Rattle.gen_core.specs.Shelf.{IsSound, IsNumberOf, Added, Lists, ListsSame, Unlists, ErasesAt, Drops, IsFirstErased, Marks, MarksAt, TakesOut, IsBehind, is_erased_at, erased_from, marked_all, pair_order, clauses_of, holds, dated_at};
+ghost use Rattle.gen_core.specs.Shelf.{IsSound, IsNumberOf, Added, Lists, ListsSame, Unlists, ErasesAt, Drops, IsFirstErased, Marks, MarksAt, TakesOut, IsBehind, is_erased_at, erased_from, marked_all, pair_order, clauses_of, clauses_from, holds, dated_at};
 ghost use Rattle.gen_core.specs.Numbers.{IsNumbered};
 
 use crate::dated_clause::DatedClause;
 use crate::hit::Hit;
-use crate::index::{Index, earlier, next_in};
+use crate::index::{Index, earlier, next_in, next_under};
 use crate::numbers::{PLACES, first_number, last_number, place_of};
 use pl_model::kept::Kept;
 use pl_term::Memory;
@@ -41,40 +41,56 @@ pub struct Shelf<C: Kept> {
 }
 
 impl<C: Kept> Shelf<C> {
-    /// The first number from `from` on of a clause whose first argument the goal's does not exclude.
-    pub fn next(&self, first: &C::Key, from: u64) -> Option<u64>
-        requires { IsSound C.Key.Ord.cmp C.any C.key_of self.now }
+    /// The first number from `from` on of a clause whose first argument the goal's does not exclude, where the numbers of
+    /// the clauses under the goal's key are at hand.
+    fn next(&self, first: &C::Key, under: Option<&BTreeSet<u64>>, from: u64) -> Option<u64>
+        requires sound { IsSound C.Key.Ord.cmp C.any C.key_of self.now }
+        requires keyed { C.any first.now ≡ false }
+        requires under { option_copied under ≡ tree.get C.Key.Ord.cmp self.now.index.by_key first.now }
         ensures { IsNext (holds self.now.clauses (λ s. not (are_apart C.Key.Ord.cmp C.any first.now (C.key_of s.clause)))) from result }
     {
-        if C::is_any(first) {
-            return self.clauses.range(from..).next().map(|(number, _)| *number);
-        }
-        earlier(self.index.next(first, from), next_in(&self.any, from))
+        earlier(next_under(under, from), next_in(&self.any, from))
     }
 
-    /// The first number from `from` on of a clause that the generation `g` sees and that the goal's first argument
-    /// does not exclude.
-    pub fn next_visible(&self, first: &C::Key, g: u64, from: u64) -> Option<u64>
-        requires { IsSound C.Key.Ord.cmp C.any C.key_of self.now }
-        ensures { IsNext (holds self.now.clauses (λ s. is_visible g s && not (are_apart C.Key.Ord.cmp C.any first.now (C.key_of s.clause)))) from result }
+    /// The first clause from `from` on that the generation `g` sees and that the goal's first argument does not exclude, with
+    /// its number.
+    fn next_visible(
+        &self,
+        first: &C::Key,
+        under: Option<&BTreeSet<u64>>,
+        g: u64,
+        from: u64,
+    ) -> Option<(u64, &DatedClause<C>)>
+        requires sound { IsSound C.Key.Ord.cmp C.any C.key_of self.now }
+        requires keyed { C.any first.now ≡ false }
+        requires under { option_copied under ≡ tree.get C.Key.Ord.cmp self.now.index.by_key first.now }
+        ensures next { IsNext (holds self.now.clauses (is_choice C.Key.Ord.cmp C.any C.key_of g first.now)) from (option_map (λ p. p.0) result) }
+        ensures at { IfSome result (λ p. dated_at self.now.clauses p.0 ≡ Some p.1.now) }
     {
         let mut from = from;
-        while let Some(number) = self.next(first, from) {
-            if self.is_visible(number, g) {
-                return Some(number);
+        while let Some(number) = self.next(first, under, from) {
+            if let Some(dated) = self.seen(number, g) {
+                return Some((number, dated));
             }
             from = number + 1;
         }
         None
     }
 
-    /// Whether there is a clause on the number that the generation `g` sees.
-    fn is_visible(&self, number: u64, g: u64) -> bool
-        ensures { result ≡ holds self.now.clauses (is_visible g) number }
+    /// The clause on the number, if there is one and the generation `g` sees it.
+    fn seen(&self, number: u64, g: u64) -> Option<&DatedClause<C>>
+        ensures seen { is_some result ≡ holds self.now.clauses (is_visible g) number }
+        ensures at { IfSome result (λ d. dated_at self.now.clauses number ≡ Some d.now) }
     {
         match self.clauses.get(&number) {
-            Some(entry) => entry.dated.is_visible(g),
-            None => false,
+            Some(entry) => {
+                if entry.dated.is_visible(g) {
+                    Some(&entry.dated)
+                } else {
+                    None
+                }
+            }
+            None => None,
         }
     }
 
@@ -87,11 +103,11 @@ impl<C: Kept> Shelf<C> {
         if place >= PLACES {
             return None;
         }
-        let number = first_number(place);
+        let number = last_number(place);
         if self.clauses.contains_key(&number) {
             return Some(number);
         }
-        let number = last_number(place);
+        let number = first_number(place);
         if self.clauses.contains_key(&number) {
             return Some(number);
         }
@@ -351,16 +367,35 @@ impl<C: Kept> Shelf<C> {
         }
     }
 
-    /// The clause on a number with its place, and with what is said of others.
-    fn hit(&self, number: u64, more: bool) -> Option<Hit<'_, C>>
-        ensures { hit_of result ≡ option_map (λ d. (d.place, d.clause, more)) (dated_at self.now.clauses number) }
+    /// The first clause from `from` on that a call with this key tries.
+    fn next_of_key(&self, first: &C::Key, g: u64, from: u64) -> Option<Hit<'_, C>>
+        requires sound { IsSound C.Key.Ord.cmp C.any C.key_of self.now }
+        requires keyed { C.any first.now ≡ false }
+        ensures { hit_of result ≡ first_choice (filter (is_choice C.Key.Ord.cmp C.any C.key_of g first.now) (clauses_from from self.now.clauses)) }
     {
-        match self.clauses.get(&number) {
-            Some(entry) => Some(Hit {
-                place: entry.dated.place,
-                clause: &entry.dated.clause,
-                more,
-            }),
+        let under = self.index.numbers(first);
+        let Some((number, dated)) = self.next_visible(first, under, g, from) else {
+            return None;
+        };
+        let more = self.next_visible(first, under, g, number + 1).is_some();
+        Some(hit(dated, more))
+    }
+
+    /// The first clause from `from` on that a call tries whose first argument may be equal to any.
+    fn next_of_all(&self, g: u64, from: u64) -> Option<Hit<'_, C>>
+        ensures { hit_of result ≡ first_choice (filter (is_visible g) (clauses_from from self.now.clauses)) }
+    {
+        let mut found: Option<&DatedClause<C>> = None;
+        for (_, entry) in self.clauses.range(from..) {
+            if entry.dated.is_visible(g) {
+                if let Some(dated) = found {
+                    return Some(hit(dated, true));
+                }
+                found = Some(&entry.dated);
+            }
+        }
+        match found {
+            Some(dated) => Some(hit(dated, false)),
             None => None,
         }
     }
@@ -373,11 +408,21 @@ impl<C: Kept> Shelf<C> {
         let Some(from) = self.number_behind(place) else {
             return None;
         };
-        let Some(number) = self.next_visible(first, g, from) else {
-            return None;
-        };
-        let more = self.next_visible(first, g, number + 1).is_some();
-        self.hit(number, more)
+        if C::is_any(first) {
+            return self.next_of_all(g, from);
+        }
+        self.next_of_key(first, g, from)
+    }
+}
+
+/// A clause with its place, and whether others follow.
+fn hit<C>(dated: &DatedClause<C>, more: bool) -> Hit<'_, C>
+    ensures { (result.place ≡ dated.now.place) × (result.clause.now ≡ dated.now.clause) × (result.more ≡ more) }
+{
+    Hit {
+        place: dated.place,
+        clause: &dated.clause,
+        more,
     }
 }
 
