@@ -1,10 +1,10 @@
 //! The places in database order at which clauses stand, by the keys of their first arguments.
-ghost use Rattle.std.specs.Prelude.{◌≡◌, ℕ, ◌+◌, ◌^◌, ◌<◌, ◌&&◌, ◌||◌, ◌==◌, not, Bool, false, OnOk, OnErr, Some, None};
+ghost use Rattle.std.specs.Prelude.{◌≡◌, ℕ, ◌+◌, ◌^◌, ◌<◌, ◌&&◌, ◌||◌, ◌==◌, not, Bool, true, false, OnOk, OnErr, Some, None};
 ghost use Rattle.std.specs.Ordering.{is_eq, nat_cmp};
 ghost use Rattle.std.specs.Option.{option_copied, option_map_or};
 ghost use Rattle.std.specs.BTreeMap as tree;
 ghost use Rattle.std.specs.BTreeSet as set;
-ghost use Rattle.gen_core.specs.Index.{is_listed, IsNext};
+ghost use Rattle.gen_core.specs.Index.{is_in, is_listed, IsNext};
 
 use pl_term::Memory;
 use std::alloc::Global;
@@ -18,12 +18,63 @@ pub fn next_in(numbers: &BTreeSet<u64>, from: u64) -> Option<u64>
     numbers.range(from..).next().copied()
 }
 
-/// The first number of the set from `from` on, where there is a set.
-pub fn next_under(numbers: Option<&BTreeSet<u64>>, from: u64) -> Option<u64>
-    ensures { IsNext (λ q. option_map_or (λ s. set.contains nat_cmp s q) (option_copied numbers.entry) false) from result }
+/// The numbers under a key. One of them stands beside the others, so that a key with one number alone needs no room
+/// elsewhere.
+#[derive(Drop)]
+pub struct Numbers {
+    one: u64,
+    others: BTreeSet<u64>,
+}
+
+impl Numbers {
+    /// The first number from `from` on.
+    fn next(&self, from: u64) -> Option<u64>
+        ensures { IsNext (is_in self.now) from result }
+    {
+        earlier(one_from(self.one, from), next_in(&self.others, from))
+    }
+
+    /// Puts a number to these. The only error is want of memory; after it they are as they were.
+    fn add(&mut self, number: u64) -> Result<(), Memory>
+        ensures ok { OnOk result ((q : ℕ) → is_in self.new q ≡ ((q == number) || is_in self.old q)) }
+        ensures err { OnErr result ((q : ℕ) → is_in self.new q ≡ is_in self.old q) }
+    {
+        self.others.insert(number)?;
+        Ok(())
+    }
+
+    /// Takes a number out, and says whether there is none any more.
+    fn remove(&mut self, number: u64) -> bool
+        ensures left { result ≡ false → (q : ℕ) → is_in self.new q ≡ (not (q == number) && is_in self.old q) }
+        ensures none { result ≡ true → (q : ℕ) → (not (q == number) && is_in self.old q) ≡ false }
+    {
+        self.others.remove(&number);
+        if self.one != number {
+            return false;
+        }
+        match self.others.pop_first() {
+            Some(next) => {
+                self.one = next;
+                false
+            }
+            None => true,
+        }
+    }
+}
+
+/// The number, if it is not below `from`.
+fn one_from(one: u64, from: u64) -> Option<u64>
+    ensures { IsNext (λ q. q == one) from result }
+{
+    if one < from { None } else { Some(one) }
+}
+
+/// The first number from `from` on, where there are any.
+pub fn next_under(numbers: Option<&Numbers>, from: u64) -> Option<u64>
+    ensures { IsNext (λ q. option_map_or (λ s. is_in s q) (option_copied numbers.entry) false) from result }
 {
     match numbers {
-        Some(numbers) => next_in(numbers, from),
+        Some(numbers) => numbers.next(from),
         None => None,
     }
 }
@@ -45,7 +96,7 @@ pub fn earlier(left: Option<u64>, right: Option<u64>) -> Option<u64>
 #[derive(Drop)]
 pub struct Index<K: Ord + Drop> {
     alloc: Global,
-    by_key: BTreeMap<K, BTreeSet<u64>>,
+    by_key: BTreeMap<K, Numbers>,
 }
 
 impl<K: Ord + Drop> Index<K> {
@@ -59,7 +110,7 @@ impl<K: Ord + Drop> Index<K> {
     }
 
     /// The numbers under the key, if there are any.
-    pub fn numbers(&self, key: &K) -> Option<&BTreeSet<u64>>
+    pub fn numbers(&self, key: &K) -> Option<&Numbers>
         ensures { option_copied result ≡ tree.get K.cmp self.now.by_key key.now }
     {
         self.by_key.get(key)
@@ -73,11 +124,13 @@ impl<K: Ord + Drop> Index<K> {
             ≡ is_listed K.cmp self.old.by_key k q) }
     {
         if let Some(numbers) = self.by_key.get_mut(&key) {
-            numbers.insert(number)?;
+            numbers.add(number)?;
             return Ok(());
         }
-        let mut numbers = BTreeSet::new(self.alloc);
-        numbers.insert(number)?;
+        let numbers = Numbers {
+            one: number,
+            others: BTreeSet::new(self.alloc),
+        };
         self.by_key.insert(key, numbers)?;
         Ok(())
     }
@@ -90,8 +143,7 @@ impl<K: Ord + Drop> Index<K> {
         let Some(numbers) = self.by_key.get_mut(key) else {
             return;
         };
-        numbers.remove(&number);
-        if numbers.is_empty() {
+        if numbers.remove(number) {
             self.by_key.remove(key);
         }
     }

@@ -14,7 +14,7 @@ ghost use Rattle.gen_core.specs.Numbers.{IsNumbered};
 
 use crate::dated_clause::DatedClause;
 use crate::hit::Hit;
-use crate::index::{Index, earlier, next_in, next_under};
+use crate::index::{Index, Numbers, earlier, next_in, next_under};
 use crate::numbers::{PLACES, first_number, last_number, place_of};
 use pl_model::kept::Kept;
 use pl_term::Memory;
@@ -43,7 +43,7 @@ pub struct Shelf<C: Kept> {
 impl<C: Kept> Shelf<C> {
     /// The first number from `from` on of a clause whose first argument the goal's does not exclude, where the numbers of
     /// the clauses under the goal's key are at hand.
-    fn next(&self, first: &C::Key, under: Option<&BTreeSet<u64>>, from: u64) -> Option<u64>
+    fn next(&self, first: &C::Key, under: Option<&Numbers>, from: u64) -> Option<u64>
         requires sound { IsSound C.Key.Ord.cmp C.any C.key_of self.now }
         requires keyed { C.any first.now ≡ false }
         requires under { option_copied under ≡ tree.get C.Key.Ord.cmp self.now.index.by_key first.now }
@@ -57,7 +57,7 @@ impl<C: Kept> Shelf<C> {
     fn next_visible(
         &self,
         first: &C::Key,
-        under: Option<&BTreeSet<u64>>,
+        under: Option<&Numbers>,
         g: u64,
         from: u64,
     ) -> Option<(u64, &DatedClause<C>)>
