@@ -18,11 +18,11 @@ use Rattle.clause_db.specs.declared.access.Access.{Access}
 use Rattle.clause_db.specs.declared.parts.End.{End}
 use Rattle.clause_db.specs.declared.parts.End.TheVariants.{First, Last}
 use Rattle.clause_db.specs.declared.parts.Addition.{Addition}
-use Rattle.clause_db.specs.Access.{access_of, access_by, opened}
-use Rattle.clause_db.specs.Parts.{Held, Piece, is_part_of, clauses_at, access_at, placed, added_to, with_clause, with_added}
-use Rattle.clause_db.specs.Stands.{dated, is_gone, Keeps, StandsFor}
+use Rattle.clause_db.specs.Access.{access_of, access_by}
+use Rattle.clause_db.specs.Parts.{Held, Piece, blank, is_part_of, clauses_at, access_now, placed, added_to, with_clause, with_added}
+use Rattle.clause_db.specs.Stands.{dated, is_gone, Keeps, StandsNow}
 use Rattle.clause_db.proofs.Procs.{amend, find_amend, is_same}
-use Rattle.clause_db.proofs.Pieces.{no_piece, find_with}
+use Rattle.clause_db.proofs.Pieces.{find_with}
 
 -- The definitions' database with a clause more.
 abbrev pub with_stored : {C : Type 0} → End → ℕ → entries.Proc → C → entries.Origin → Database C → Database C
@@ -33,46 +33,46 @@ access_by_same : (o : Origin) → access_of (access_by o) ≡ database.access_by
 access_by_same Consult = refl
 access_by_same Assert = refl
 
-opened_same : (a : Option Access) (o : Origin) → access_of (opened a o) ≡ unwrap_or (option_map access_of a) (access_of (access_by o))
-opened_same (Some a) o = refl
-opened_same None o = refl
+pub opened_same : (a : Option Access) (b : Access) → access_of (unwrap_or a b) ≡ unwrap_or (option_map access_of a) (access_of b)
+opened_same (Some a) b = refl
+opened_same None b = refl
 
 procedures_amended : (p : entries.Proc) (a : database.Access) (rs : List Procedure)
     → with_procedure p a rs ≡ amend (λ (r : Procedure). r.indicator) p (λ r. r) (record { indicator = p; access = a }) rs
 procedures_amended p a [] = refl
 procedures_amended p a (r ∷ rs) = ap (λ l. cond (same_proc r.indicator p) (r ∷ rs) (r ∷ l)) (procedures_amended p a rs)
 
-abbrev program_access : List Procedure → entries.Proc → Option database.Access
-program_access rs p = option_map (λ (r : Procedure). r.access) (find (λ (r : Procedure). same_proc r.indicator p) rs)
+abbrev pub listed_access : List Procedure → entries.Proc → Option database.Access
+listed_access rs p = option_map (λ (r : Procedure). r.access) (find (λ (r : Procedure). same_proc r.indicator p) rs)
 
 new_access : (a : database.Access) (p : entries.Proc) (o : Option Procedure)
     → (option_map_or (λ (r : Procedure). r) o (record { indicator = p; access = a })).access ≡ unwrap_or (option_map (λ (r : Procedure). r.access) o) a
 new_access a p None = refl
 new_access a p (Some r) = refl
 
-access_with : (p : entries.Proc) (a : database.Access) (rs : List Procedure) (q : entries.Proc)
-    → program_access (with_procedure p a rs) q ≡ cond (same_proc p q) (Some (unwrap_or (program_access rs p) a)) (program_access rs q)
+pub access_with : (p : entries.Proc) (a : database.Access) (rs : List Procedure) (q : entries.Proc)
+    → listed_access (with_procedure p a rs) q ≡ cond (same_proc p q) (Some (unwrap_or (listed_access rs p) a)) (listed_access rs q)
 access_with p a rs q =
-    ap (λ l. program_access l q) (procedures_amended p a rs)
+    ap (λ l. listed_access l q) (procedures_amended p a rs)
     ∙ ap (option_map (λ (r : Procedure). r.access)) (find_amend (λ (r : Procedure). r.indicator) p (λ r. r) (record { indicator = p; access = a }) (λ r. refl) refl q rs)
     ∙ go (same_proc p q) (find (λ (r : Procedure). same_proc r.indicator p) rs)
   where
     go : (b : Bool) (o : Option Procedure)
         → option_map (λ (r : Procedure). r.access) (cond b (Some (option_map_or (λ (r : Procedure). r) o (record { indicator = p; access = a }))) (find (λ (r : Procedure). same_proc r.indicator q) rs))
-        ≡ cond b (Some (unwrap_or (option_map (λ (r : Procedure). r.access) o) a)) (program_access rs q)
+        ≡ cond b (Some (unwrap_or (option_map (λ (r : Procedure). r.access) o) a)) (listed_access rs q)
     go true o = ap (λ x. Some x) (new_access a p o)
     go false o = refl
 
 module _ {C : Type 0} where
   held_access_with : (a : Addition) (p : Proc) (c : C) (xs : List (Piece C)) (q : entries.Proc)
-      → access_at (with_clause a p c xs) q ≡ cond (same_proc (proc_of p) q) (Some (opened (access_at xs (proc_of p)) a.origin)) (access_at xs q)
+      → access_now (with_clause a p c xs) q ≡ cond (same_proc (proc_of p) q) (Some (unwrap_or (access_now xs (proc_of p)) (access_by a.origin))) (access_now xs q)
   held_access_with a p c xs q =
       ap (option_and_then (λ (x : Piece C). x.access)) (find_with a p c xs q)
       ∙ go (same_proc (proc_of p) q) (find (is_part_of (proc_of p)) xs)
     where
       go : (b : Bool) (o : Option (Piece C))
-          → option_and_then (λ (x : Piece C). x.access) (cond b (Some (option_map_or (added_to a c) o (added_to a c (no_piece p)))) (find (is_part_of q) xs))
-          ≡ cond b (Some (opened (option_and_then (λ (x : Piece C). x.access) o) a.origin)) (access_at xs q)
+          → option_and_then (λ (x : Piece C). x.access) (cond b (Some (option_map_or (added_to a c) o (added_to a c (blank p)))) (find (is_part_of q) xs))
+          ≡ cond b (Some (unwrap_or (option_and_then (λ (x : Piece C). x.access) o) (access_by a.origin))) (access_now xs q)
       go true None = refl
       go true (Some x) = refl
       go false o = refl
@@ -84,7 +84,7 @@ module _ {C : Type 0} where
       ∙ go (same_proc (proc_of p) q) (find (is_part_of (proc_of p)) xs)
     where
       go : (b : Bool) (o : Option (Piece C))
-          → option_map_or (λ (x : Piece C). x.clauses) (cond b (Some (option_map_or (added_to a c) o (added_to a c (no_piece p)))) (find (is_part_of q) xs)) []
+          → option_map_or (λ (x : Piece C). x.clauses) (cond b (Some (option_map_or (added_to a c) o (added_to a c (blank p)))) (find (is_part_of q) xs)) []
           ≡ cond b (placed a.end (fresh a.place c) (option_map_or (λ (x : Piece C). x.clauses) o [])) (clauses_at xs q)
       go true None = refl
       go true (Some x) = refl
@@ -180,22 +180,22 @@ module _ {C : Type 0} where
   procedures_with First k p c o d = refl
   procedures_with Last k p c o d = refl
 
-  module _ (need : C → ℕ) (h : Held C) (d : Database C) (s : StandsFor need h d) (a : Addition) (p : Proc) (c : C) (l : h.next ≤ a.place) where
+  module _ (need : C → ℕ) (h : Held C) (d : Database C) (s : StandsNow need h d) (a : Addition) (p : Proc) (c : C) (l : h.next ≤ a.place) where
     abbrev after_it : Database C
     after_it = with_stored a.end a.place (proc_of p) c (origin_of a.origin) d
 
-    opened_is : access_of (opened (access_at h.parts (proc_of p)) a.origin) ≡ unwrap_or (program_access d.procedures (proc_of p)) (database.access_by (origin_of a.origin))
+    opened_is : access_of (unwrap_or (access_now h.parts (proc_of p)) (access_by a.origin)) ≡ unwrap_or (listed_access d.procedures (proc_of p)) (database.access_by (origin_of a.origin))
     opened_is =
-        opened_same (access_at h.parts (proc_of p)) a.origin
+        opened_same (access_now h.parts (proc_of p)) (access_by a.origin)
         ∙ ap₂ (λ o x. unwrap_or o x) (s.access (proc_of p)) (access_by_same a.origin)
 
-    access_stays : (q : entries.Proc) → option_map access_of (access_at (with_clause a p c h.parts) q) ≡ program_access after_it.procedures q
+    access_stays : (q : entries.Proc) → option_map access_of (access_now (with_clause a p c h.parts) q) ≡ listed_access after_it.procedures q
     access_stays q =
         ap (option_map access_of) (held_access_with a p c h.parts q)
         ∙ go (same_proc (proc_of p) q)
-        ∙ sym (ap (λ l. program_access l q) (procedures_with a.end a.place (proc_of p) c (origin_of a.origin) d) ∙ access_with (proc_of p) (database.access_by (origin_of a.origin)) d.procedures q)
+        ∙ sym (ap (λ l. listed_access l q) (procedures_with a.end a.place (proc_of p) c (origin_of a.origin) d) ∙ access_with (proc_of p) (database.access_by (origin_of a.origin)) d.procedures q)
       where
-        go : (b : Bool) → option_map access_of (cond b (Some (opened (access_at h.parts (proc_of p)) a.origin)) (access_at h.parts q)) ≡ cond b (Some (unwrap_or (program_access d.procedures (proc_of p)) (database.access_by (origin_of a.origin)))) (program_access d.procedures q)
+        go : (b : Bool) → option_map access_of (cond b (Some (unwrap_or (access_now h.parts (proc_of p)) (access_by a.origin))) (access_now h.parts q)) ≡ cond b (Some (unwrap_or (listed_access d.procedures (proc_of p)) (database.access_by (origin_of a.origin)))) (listed_access d.procedures q)
         go true = ap (λ x. Some x) opened_is
         go false = s.access q
 
@@ -215,7 +215,7 @@ module _ {C : Type 0} where
         go true e = ap (placed a.end (fresh a.place c)) (ap (clauses_at h.parts) (is_same (proc_of p) q e) ∙ (s.clauses q).are)
         go false e = (s.clauses q).are
 
-    pub stands_added : StandsFor need (with_added a p c (need c) h) after_it
+    pub stands_added : StandsNow need (with_added a p c (need c) h) after_it
     stands_added = record {
       access = access_stays;
       clauses = kept_stays;

@@ -20,9 +20,9 @@ use Rattle.gen_core.specs.Visible.{is_live, erased_by}
 use Rattle.clause_db.specs.declared.parts.Part.{Part}
 use Rattle.clause_db.specs.declared.db.Home.{Home}
 use Rattle.clause_db.specs.Access.{access_of}
-use Rattle.clause_db.specs.Parts.{Held, Piece, piece, is_part_of, clauses_at, access_at, without_place, without_at, has_live, erased_held}
+use Rattle.clause_db.specs.Parts.{Held, Piece, piece, is_part_of, clauses_at, piece_access, access_now, access_at, without_place, without_at, has_live}
 use Rattle.clause_db.specs.Sound.{Homed, Apart, IsSound, names}
-use Rattle.clause_db.specs.Stands.{dated, is_gone, StandsFor}
+use Rattle.clause_db.specs.Stands.{dated, is_gone, StandsNow}
 use Rattle.clause_db.proofs.Homes.{IsHome}
 use Rattle.clause_db.proofs.Procs.{same_self}
 use Rattle.clause_db.proofs.Standing.{names_without, own_clauses}
@@ -142,12 +142,21 @@ module _ {C : Type 0} (j k : ℕ) where
       go true ih = refl
       go false ih = ih
 
-  pub access_without : (xs : List (Piece C)) (q : entries.Proc) → access_at (map (without_place j k) xs) q ≡ access_at xs q
+  pub access_without : (xs : List (Piece C)) (q : entries.Proc) → access_now (map (without_place j k) xs) q ≡ access_now xs q
   access_without [] q = refl
   access_without (x ∷ xs) q = go (is_part_of q x) (access_without xs q)
     where
-      go : (b : Bool) → access_at (map (without_place j k) xs) q ≡ access_at xs q
+      go : (b : Bool) → access_now (map (without_place j k) xs) q ≡ access_now xs q
           → option_and_then (λ (y : Piece C). y.access) (cond b (Some (without_place j k x)) (find (is_part_of q) (map (without_place j k) xs))) ≡ option_and_then (λ (y : Piece C). y.access) (cond b (Some x) (find (is_part_of q) xs))
+      go true ih = refl
+      go false ih = ih
+
+  pub at_without : (g : ℕ) (xs : List (Piece C)) (q : entries.Proc) → access_at g (map (without_place j k) xs) q ≡ access_at g xs q
+  at_without g [] q = refl
+  at_without g (x ∷ xs) q = go (is_part_of q x) (at_without g xs q)
+    where
+      go : (b : Bool) → access_at g (map (without_place j k) xs) q ≡ access_at g xs q
+          → option_and_then (piece_access g) (cond b (Some (without_place j k x)) (find (is_part_of q) (map (without_place j k) xs))) ≡ option_and_then (piece_access g) (cond b (Some x) (find (is_part_of q) xs))
       go true ih = refl
       go false ih = ih
 
@@ -351,7 +360,7 @@ module _ {C : Type 0} (j k : ℕ) where
       same s true = refl
       same s false = refl
 
-module _ {C : Type 0} (j k : ℕ) (need : C → ℕ) (h : Held C) (d : Database C) (s : StandsFor need h d) (homes : BTreeMap ℕ Home) (homed : Homed need homes 0 h.parts) where
+module _ {C : Type 0} (j k : ℕ) (need : C → ℕ) (h : Held C) (d : Database C) (s : StandsNow need h d) (homes : BTreeMap ℕ Home) (homed : Homed need homes 0 h.parts) where
   any_at : (q : entries.Proc) → any_live j k (clauses_at h.parts q) ≡ list_any (stored_live j k) (filter (is_of q) d.clauses)
   any_at q = let kept = s.clauses q in ap (any_live j k) kept.are ∙ any_kept j k kept.from (filter (is_of q) d.clauses)
 
@@ -374,7 +383,7 @@ module _ {C : Type 0} (j k : ℕ) (need : C → ℕ) (h : Held C) (d : Database 
         let kept = s.clauses q in cost_kept j k kept.from home.cells need (filter (is_of q) d.clauses)
         (subst (λ ds. All (λ x. at_live j k x ≡ true → need x.clause ≡ home.cells) ds) kept.are (cost_at j k need homes home at 0 h.parts homed q)))
 
-    pub stands_erased : StandsFor need (record h { parts = map (without_place j k) h.parts; used = h.used - home.cells; next = k + 1 }) (without_clause j k d)
+    pub stands_erased : StandsNow need (record h { parts = map (without_place j k) h.parts; used = h.used - home.cells; next = k + 1 }) (without_clause j k d)
     stands_erased = record {
       access = λ q. ap (option_map access_of) (access_without j k h.parts q) ∙ s.access q;
       clauses = λ q. record {
@@ -430,7 +439,7 @@ module _ {C : Type 0} (need : C → ℕ) (j k : ℕ) where
   unchanged_at zero (x ∷ xs) e = ap (λ y. y ∷ xs) (same_piece j k x e)
   unchanged_at (suc i) (x ∷ xs) e = ap (λ l. x ∷ l) (unchanged_at i xs e)
 
-module _ {C : Type 0} (j k : ℕ) (need : C → ℕ) (h : Held C) (d : Database C) (s : StandsFor need h d) (homes : BTreeMap ℕ Home) (homed : Homed need homes 0 h.parts) where
+module _ {C : Type 0} (j k : ℕ) (need : C → ℕ) (h : Held C) (d : Database C) (s : StandsNow need h d) (homes : BTreeMap ℕ Home) (homed : Homed need homes 0 h.parts) where
   pub no_home_there : tree.get nat_cmp homes j ≡ None → false ≡ is_there j d
   no_home_there none = go (is_there j d) refl
     where
@@ -455,9 +464,5 @@ module _ {C : Type 0} (j k : ℕ) (need : C → ℕ) (h : Held C) (d : Database 
             let part : home.part ≡ f.0 = ap (λ o. option_map_or (λ (y : Home). y.part) o 0) (sym at ∙ f.3) in
             ap (λ o. option_map_or (λ (x : Piece C). has_live j x.clauses) o false) (ap (slice_get h.parts) part ∙ f.4) ∙ f.5
 
-    pub erased_stands : (new : Held C) (b : Bool) → h.next ≤ k → h.floor ≤ k → b ≡ option_map_or (λ (x : Piece C). has_live j x.clauses) (slice_get h.parts home.part) false
-        → (b ≡ true → new ≡ erased_held home.part j k home.cells h) → b ≡ true → StandsFor need new (without_clause j k d)
-    erased_stands new b next low was is hit =
-        subst (λ n. StandsFor need n (without_clause j k d))
-        (sym (is hit ∙ ap (λ l. record h { parts = l; used = h.used - home.cells; next = k + 1 }) (without_all j k need homes 0 home.part home.cells (at ∙ ap (λ m. Some (record { part = m; cells = home.cells })) (omega arith)) h.parts homed)))
-        (stands_erased j k need h d s homes homed home at (sym was_there ∙ sym was ∙ hit) next low)
+    pub all_without : without_at home.part j k h.parts ≡ map (without_place j k) h.parts
+    all_without = without_all j k need homes 0 home.part home.cells (at ∙ ap (λ m. Some (record { part = m; cells = home.cells })) (omega arith)) h.parts homed

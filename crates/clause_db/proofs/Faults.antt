@@ -1,5 +1,5 @@
 -- What a procedure is in the database, beside what it is in that of the definitions.
-use Rattle.std.proofs.Common.{◌≡◌, ℕ, Bool, true, false, cond, find, Option, Some, None, refl, ap, ◌∙◌}
+use Rattle.std.proofs.Common.{◌≡◌, ◌≤◌, ℕ, Bool, true, false, cond, find, Option, Some, None, refl, ap, ◌∙◌}
 use Rattle.std.specs.Prelude.{is_some}
 use Rattle.std.specs.Option.{option_map}
 use Rattle.pl_model.specs.History.{Proc}
@@ -16,14 +16,14 @@ use Rattle.clause_db.specs.Parts.{Held, access_at, held_access}
 use Rattle.clause_db.specs.Faults.{call_fault, access_fault, held_call_fault, is_static_access}
 use Rattle.clause_db.specs.Stands.{StandsFor}
 
-module _ {C : Type 0} (need : C → ℕ) (h : Held C) (d : Database C) (s : StandsFor need h d) (p : Proc) where
-  pub access_same : option_map access_of (held_access h p) ≡ database.access_of d p
+module _ {C : Type 0} (need : C → ℕ) (h : Held C) (d : ℕ → Database C) (s : StandsFor need h d) (g : ℕ) (low : h.floor ≤ g) (p : Proc) where
+  pub access_same : option_map access_of (held_access g h p) ≡ database.access_of (d g) p
   access_same = go (is_system p)
     where
-      go : (b : Bool) → option_map access_of (cond b (Some Static) (access_at h.parts p))
-          ≡ cond b (Some database.static) (option_map (λ (q : Procedure). q.access) (find (λ (q : Procedure). same_proc q.indicator p) d.procedures))
+      go : (b : Bool) → option_map access_of (cond b (Some Static) (access_at g h.parts p))
+          ≡ cond b (Some database.static) (option_map (λ (q : Procedure). q.access) (find (λ (q : Procedure). same_proc q.indicator p) (d g).procedures))
       go true = refl
-      go false = s.access p
+      go false = s.access g low p
 
   static_mapped : (o : Option Access) → is_static_access o ≡ elim (option_map access_of o) [ None ↦ false | Some a ↦ elim a [ database.static ↦ true | database.dynamic ↦ false ] ]
   static_mapped None = refl
@@ -34,11 +34,11 @@ module _ {C : Type 0} (need : C → ℕ) (h : Held C) (d : Database C) (s : Stan
   known_mapped None = refl
   known_mapped (Some a) = refl
 
-  pub static_same : is_static_access (held_access h p) ≡ is_static d p
-  static_same = static_mapped (held_access h p) ∙ ap (λ o. elim o [ None ↦ false | Some a ↦ elim a [ database.static ↦ true | database.dynamic ↦ false ] ]) access_same
+  pub static_same : is_static_access (held_access g h p) ≡ is_static (d g) p
+  static_same = static_mapped (held_access g h p) ∙ ap (λ o. elim o [ None ↦ false | Some a ↦ elim a [ database.static ↦ true | database.dynamic ↦ false ] ]) access_same
 
-  pub known_same : is_some (held_access h p) ≡ is_known d p
-  known_same = known_mapped (held_access h p) ∙ ap is_some access_same
+  pub known_same : is_some (held_access g h p) ≡ is_known (d g) p
+  known_same = known_mapped (held_access g h p) ∙ ap is_some access_same
 
   by_goal : (o : Option Access) → access_fault o Goal ≡ cond (is_some o) None (Some Unknown)
   by_goal None = refl
@@ -49,6 +49,6 @@ module _ {C : Type 0} (need : C → ℕ) (h : Held C) (d : Database C) (s : Stan
   by_clause (Some Static) = refl
   by_clause (Some Dynamic) = refl
 
-  pub call_fault_same : (by : By) → held_call_fault h p by ≡ call_fault d p by
-  call_fault_same Goal = by_goal (held_access h p) ∙ ap (λ b. cond b None (Some Unknown)) known_same
-  call_fault_same Clause = by_clause (held_access h p) ∙ ap (λ b. cond b (Some Private) None) static_same
+  pub call_fault_same : (by : By) → held_call_fault g h p by ≡ call_fault (d g) p by
+  call_fault_same Goal = by_goal (held_access g h p) ∙ ap (λ b. cond b None (Some Unknown)) known_same
+  call_fault_same Clause = by_clause (held_access g h p) ∙ ap (λ b. cond b (Some Private) None) static_same

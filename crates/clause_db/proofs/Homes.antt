@@ -1,5 +1,5 @@
 -- The homes of the clauses stay true.
-use Rattle.std.proofs.Common.{◌≡◌, ◌+◌, ◌<◌, ◌≤◌, ℕ, suc, List, [], ◌∷◌, ◌++◌, find, map, length, Option, Some, None, Bool, true, false, cond, refl, ap, ◌∙◌, arith}
+use Rattle.std.proofs.Common.{◌≡◌, ◌+◌, ◌<◌, ◌≤◌, ℕ, suc, List, [], ◌∷◌, ◌++◌, find, map, length, Option, Some, None, Bool, true, false, cond, refl, ap, sym, ◌∙◌, arith, eq-eqb}
 use Rattle.std.specs.Prelude.{All, nat_lt, ◌==◌}
 use Rattle.std.specs.Option.{unwrap_or}
 use Rattle.std.specs.Ordering.{is_eq, nat_cmp}
@@ -19,10 +19,10 @@ use Rattle.clause_db.specs.declared.parts.End.TheVariants.{First, Last}
 use Rattle.clause_db.specs.declared.parts.Addition.{Addition}
 use Rattle.clause_db.specs.declared.db.Home.{Home}
 use Rattle.clause_db.specs.Located.{Locates}
-use Rattle.clause_db.specs.Parts.{Piece, piece, is_part_of, placed, added_to, with_clause}
+use Rattle.clause_db.specs.Parts.{Piece, piece, blank, is_part_of, placed, added_to, with_clause}
 use Rattle.clause_db.specs.Sound.{Homed, IsSound}
 use Rattle.clause_db.proofs.Standing.{apart_with}
-use Rattle.clause_db.proofs.Pieces.{no_piece, test}
+use Rattle.clause_db.proofs.Pieces.{test}
 
 is_eq-number : (k q : ℕ) → is_eq (nat_cmp k q) ≡ true → k ≡ q
 is_eq-number k q h = go (nat_lt k q) (k == q) refl h
@@ -38,6 +38,13 @@ not_at k q l = go (is_at (nat_cmp k) q) refl
   where
     go : (b : Bool) → is_at (nat_cmp k) q ≡ b → is_at (nat_cmp k) q ≡ false
     go true e = absurd (let i : k ≡ q = is_eq-number k q e in omega (arith, l, i))
+    go false e = e
+
+pub elsewhere : (k q : ℕ) → (k == q) ≡ false → is_at (nat_cmp k) q ≡ false
+elsewhere k q n = go (is_at (nat_cmp k) q) refl
+  where
+    go : (b : Bool) → is_at (nat_cmp k) q ≡ b → is_at (nat_cmp k) q ≡ false
+    go true e = absurd (false≢true (sym n ∙ eq-eqb k q (is_eq-number k q e)))
     go false e = e
 
 abbrev pub index_of : {C : Type 0} → Proc → List (Piece C) → ℕ
@@ -131,7 +138,7 @@ module _ {C : Type 0} (need : C → ℕ) where
 
   later_with : (next : ℕ) (a : Addition) (p : Proc) (c : C) → next ≤ a.place → (xs : List (Piece C)) → Later next xs → Later (a.place + 1) (with_clause a p c xs)
   later_with next a p c l [] h =
-      All-cons (λ (y : Piece C). All (λ d. d.place < a.place + 1) y.clauses) (added_to a c (no_piece p)) []
+      All-cons (λ (y : Piece C). All (λ d. d.place < a.place + 1) y.clauses) (added_to a c (blank p)) []
       (all_placed (λ d. d.place < a.place + 1) a.end (fresh a.place c) [] (omega arith) (All-nil (λ (d : DatedClause C). d.place < a.place + 1)))
       (All-nil (λ (y : Piece C). All (λ d. d.place < a.place + 1) y.clauses))
   later_with next a p c l (x ∷ xs) h = go (later_with next a p c l xs) (is_part_of (proc_of p) x)

@@ -10,3 +10,12 @@ mod Retries
 mod Standing
 mod Erasing
 mod Settings
+mod Lives
+mod Updating
+mod Named
+mod Erased
+mod MadeDynamic
+mod Changing
+mod Marking
+mod Closing
+mod Reclaiming

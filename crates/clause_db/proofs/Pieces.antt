@@ -10,23 +10,20 @@ use Rattle.pl_model.specs.declared.shows.Proc.{Proc}
 use Rattle.clause_db.specs.declared.parts.Part.{Part}
 use Rattle.clause_db.specs.declared.parts.Addition.{Addition}
 use Rattle.clause_db.specs.Located.{IsAt}
-use Rattle.clause_db.specs.Parts.{Piece, piece, is_part_of, clauses_at, access_at, added_to, with_clause}
+use Rattle.clause_db.specs.Parts.{Piece, piece, blank, is_part_of, clauses_at, piece_access, access_at, added_to, with_clause}
 use Rattle.clause_db.proofs.Procs.{amend, find_amend}
 use Rattle.clause_db.proofs.Searched.{find_is, find_map, located_set}
 
 module _ {C : Type 0} where
-  abbrev pub no_piece : Proc → Piece C
-  no_piece p = record { name = p; access = None; clauses = [] }
-
-  amended : (a : Addition) (p : Proc) (c : C) (xs : List (Piece C)) → with_clause a p c xs ≡ amend (λ (x : Piece C). proc_of x.name) (proc_of p) (added_to a c) (added_to a c (no_piece p)) xs
+  amended : (a : Addition) (p : Proc) (c : C) (xs : List (Piece C)) → with_clause a p c xs ≡ amend (λ (x : Piece C). proc_of x.name) (proc_of p) (added_to a c) (added_to a c (blank p)) xs
   amended a p c [] = refl
   amended a p c (x ∷ xs) = ap (λ l. cond (is_part_of (proc_of p) x) (added_to a c x ∷ xs) (x ∷ l)) (amended a p c xs)
 
   pub find_with : (a : Addition) (p : Proc) (c : C) (xs : List (Piece C)) (q : entries.Proc)
-      → find (is_part_of q) (with_clause a p c xs) ≡ cond (same_proc (proc_of p) q) (Some (option_map_or (added_to a c) (find (is_part_of (proc_of p)) xs) (added_to a c (no_piece p)))) (find (is_part_of q) xs)
+      → find (is_part_of q) (with_clause a p c xs) ≡ cond (same_proc (proc_of p) q) (Some (option_map_or (added_to a c) (find (is_part_of (proc_of p)) xs) (added_to a c (blank p)))) (find (is_part_of q) xs)
   find_with a p c xs q =
       ap (find (is_part_of q)) (amended a p c xs)
-      ∙ find_amend (λ (x : Piece C). proc_of x.name) (proc_of p) (added_to a c) (added_to a c (no_piece p)) (λ x. refl) refl q xs
+      ∙ find_amend (λ (x : Piece C). proc_of x.name) (proc_of p) (added_to a c) (added_to a c (blank p)) (λ x. refl) refl q xs
 
   module _ {K : Type 0} (p : entries.Proc) where
     abbrev pub test : Part C K → Bool
@@ -44,11 +41,11 @@ module _ {C : Type 0} where
     pub clauses_missed : (xs : List (Part C K)) → find test xs ≡ None → clauses_at (map piece xs) p ≡ []
     clauses_missed xs e = ap (λ o. option_map_or (λ (x : Piece C). x.clauses) o []) (piece_missed xs e)
 
-    pub access_found : (xs : List (Part C K)) (i : ℕ) (at : IsAt test xs i) → access_at (map piece xs) p ≡ at.item.access
-    access_found xs i at = ap (λ o. option_and_then (λ (x : Piece C). x.access) o) (piece_found xs i at)
+    pub access_found : (g : ℕ) (xs : List (Part C K)) (i : ℕ) (at : IsAt test xs i) → access_at g (map piece xs) p ≡ piece_access g (piece at.item)
+    access_found g xs i at = ap (λ o. option_and_then (λ (x : Piece C). piece_access g x) o) (piece_found xs i at)
 
-    pub access_missed : (xs : List (Part C K)) → find test xs ≡ None → access_at (map piece xs) p ≡ None
-    access_missed xs e = ap (λ o. option_and_then (λ (x : Piece C). x.access) o) (piece_missed xs e)
+    pub access_missed : (g : ℕ) (xs : List (Part C K)) → find test xs ≡ None → access_at g (map piece xs) p ≡ None
+    access_missed g xs e = ap (λ o. option_and_then (λ (x : Piece C). piece_access g x) o) (piece_missed xs e)
 
     all_item : (P : Piece C → Type 0) (before : List (Part C K)) (x : Part C K) (after : List (Part C K)) → All P (map piece (before ++ x ∷ after)) → P (piece x)
     all_item P [] x after h = All-head P (piece x) (map piece after) h
@@ -83,13 +80,13 @@ module _ {C : Type 0} where
         ∙ with_at at.before at.item z at.after at.missed at.hits is
         ∙ sym (ap (λ l. with_clause a p c (map piece l)) at.whole)
 
-    pub with_missed : (xs : List (Part C K)) → find (test (proc_of p)) xs ≡ None → map piece xs ++ added_to a c (no_piece p) ∷ [] ≡ with_clause a p c (map piece xs)
+    pub with_missed : (xs : List (Part C K)) → find (test (proc_of p)) xs ≡ None → map piece xs ++ added_to a c (blank p) ∷ [] ≡ with_clause a p c (map piece xs)
     with_missed [] e = refl
     with_missed (y ∷ xs) e = go (test (proc_of p) y) refl e (with_missed xs)
       where
         go : (b : Bool) → test (proc_of p) y ≡ b → cond b (Some y) (find (test (proc_of p)) xs) ≡ None
-            → (find (test (proc_of p)) xs ≡ None → map piece xs ++ added_to a c (no_piece p) ∷ [] ≡ with_clause a p c (map piece xs))
-            → piece y ∷ (map piece xs ++ added_to a c (no_piece p) ∷ []) ≡ cond (test (proc_of p) y) (added_to a c (piece y) ∷ map piece xs) (piece y ∷ with_clause a p c (map piece xs))
+            → (find (test (proc_of p)) xs ≡ None → map piece xs ++ added_to a c (blank p) ∷ [] ≡ with_clause a p c (map piece xs))
+            → piece y ∷ (map piece xs ++ added_to a c (blank p) ∷ []) ≡ cond (test (proc_of p) y) (added_to a c (piece y) ∷ map piece xs) (piece y ∷ with_clause a p c (map piece xs))
         go true u m ih = absurd (cc)
         go false u m ih =
             ap (λ l. piece y ∷ l) (ih m)

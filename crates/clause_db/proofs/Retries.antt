@@ -17,7 +17,7 @@ use Rattle.gen_core.specs.Visible as list
 use Rattle.clause_db.specs.declared.db.Home.{Home}
 use Rattle.clause_db.specs.Parts.{Held, Piece, is_part_of, clauses_at}
 use Rattle.clause_db.specs.Sound.{Homed}
-use Rattle.clause_db.specs.Stands.{dated, is_gone, Keeps, StandsFor, first_named, after}
+use Rattle.clause_db.specs.Stands.{dated, is_gone, Keeps, StandsNow, first_named, after}
 use Rattle.clause_db.proofs.Homes.{IsHome}
 use Rattle.clause_db.proofs.Views.{gone_unseen, tried_same, seen_of, first_same}
 
@@ -31,7 +31,7 @@ pub record Found {C : Type 0} (homes : BTreeMap ℕ Home) (place n : ℕ) (p : P
   pub same : item.clauses ≡ clauses_at xs p
 
 module _ {C : Type 0} (need : C → ℕ) where
-  home_any : (homes : BTreeMap ℕ Home) (n place : ℕ) (ds : List (DatedClause C)) → All (IsHome need homes n) ds → list_any (λ d. d.place == place) ds ≡ true
+  pub home_any : (homes : BTreeMap ℕ Home) (n place : ℕ) (ds : List (DatedClause C)) → All (IsHome need homes n) ds → list_any (λ d. d.place == place) ds ≡ true
       → (cells : ℕ) × (tree.get nat_cmp homes place ≡ Some (record { part = n; cells = cells }))
   home_any homes n place [] h a = absurd (false≢true a)
   home_any homes n place (d ∷ ds) h a = go (home_any homes n place ds) (d.place == place) refl a
@@ -172,7 +172,7 @@ module _ {C : Type 0} where
       go false true e ih = rw e (omega (arith, ih))
       go false false e ih = rw e ih
 
-  module _ (need : C → ℕ) (h : Held C) (d : Database C) (s : StandsFor need h d) (p : Proc) (g j : ℕ) (l : h.floor ≤ g) (a : list_any (is_at j) (seen g p d) ≡ true) where
+  module _ (need : C → ℕ) (h : Held C) (d : Database C) (s : StandsNow need h d) (p : Proc) (g j : ℕ) (l : h.floor ≤ g) (a : list_any (is_at j) (seen g p d) ≡ true) where
     abbrev k : Keeps h.floor p d (clauses_at h.parts p)
     k = s.clauses p
 

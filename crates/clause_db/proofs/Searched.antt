@@ -1,6 +1,7 @@
 -- A search from the front: what was passed, and what was found.
-use Rattle.std.proofs.Common.{◌≡◌, ◌+◌, ◌<◌, ℕ, zero, suc, List, [], ◌∷◌, ◌++◌, find, map, take, length, Option, Some, None, Bool, true, false, cond, refl, ap, sym, subst, ◌∙◌, arith}
+use Rattle.std.proofs.Common.{◌≡◌, ◌+◌, ◌<◌, ℕ, zero, suc, List, [], ◌∷◌, ◌++◌, find, map, take, length, Option, Some, None, Bool, true, false, cond, ◌||◌, refl, ap, sym, subst, ◌∙◌, arith}
 use Rattle.std.specs.Prelude.{slice_index_or, slice_set}
+use Rattle.std.specs.List.{list_any}
 use Rattle.std.specs.Option.{option_map}
 use Rattle.clause_db.specs.Located.{IsAt}
 
@@ -97,3 +98,44 @@ located_set test xs i z at =
     ap (λ l. slice_set l i z) at.whole
     ∙ ap (λ j. slice_set (at.before ++ at.item ∷ at.after) j z) (sym at.index)
     ∙ at_set at.before at.item z at.after
+
+-- Whether one of the members passes the test.
+pub any_hit : {X : Type 0} (test : X → Bool) (xs : List X) (i : ℕ) (x : X) → i < length xs → x ≡ slice_index_or xs i x → test x ≡ true → list_any test xs ≡ true
+any_hit test [] i x lt is hit = absurd (omega (arith, lt))
+any_hit test (y ∷ xs) zero x lt is hit = ap (λ b. b || list_any test xs) (ap test (sym is) ∙ hit)
+any_hit test (y ∷ xs) (suc i) x lt is hit = go (test y) (any_hit test xs i x (omega (arith, lt)) is hit)
+  where
+    go : (b : Bool) → list_any test xs ≡ true → (b || list_any test xs) ≡ true
+    go true h = refl
+    go false h = h
+
+any_more : {X : Type 0} (test : X → Bool) (xs : List X) (i : ℕ) (x : X) → i < length xs → x ≡ slice_index_or xs i x → list_any test (take i xs) ≡ false → test x ≡ false → list_any test (take (suc i) xs) ≡ false
+any_more test [] i x lt is h miss = absurd (omega (arith, lt))
+any_more test (y ∷ xs) zero x lt is h miss = ap (λ b. b || false) (ap test (sym is) ∙ miss)
+any_more test (y ∷ xs) (suc i) x lt is h miss = go (test y) h (λ m. any_more test xs i x (omega (arith, lt)) is m miss)
+  where
+    go : (b : Bool) → (b || list_any test (take i xs)) ≡ false → (list_any test (take i xs) ≡ false → list_any test (take (suc i) xs) ≡ false) → (b || list_any test (take (suc i) xs)) ≡ false
+    go true m ih = m
+    go false m ih = ih m
+
+pub any_next : {X : Type 0} (test : X → Bool) (xs : List X) (i : ℕ) (x : X) → i < length xs → x ≡ slice_index_or xs i x → list_any test (take i xs) ≡ false → test x ≡ false → list_any test (take (i + 1) xs) ≡ false
+any_next test xs i x lt is h miss =
+    let e : suc i ≡ i + 1 = omega arith in subst (λ j. list_any test (take j xs) ≡ false) e (any_more test xs i x lt is h miss)
+
+parts_more : {X : Type 0} (test : X → Bool) (xs : List X) (i : ℕ) → i < length xs → (d : X) → list_any test (take (suc i) xs) ≡ false → (list_any test (take i xs) ≡ false) × (test (slice_index_or xs i d) ≡ false)
+parts_more test [] i lt d h = absurd (omega (arith, lt))
+parts_more test (y ∷ xs) zero lt d h = go (test y) refl h
+  where
+    go : (b : Bool) → test y ≡ b → (b || false) ≡ false → (false ≡ false) × (test y ≡ false)
+    go true e m = (refl, e ∙ m)
+    go false e m = (refl, e)
+parts_more test (y ∷ xs) (suc i) lt d h = go (test y) h (λ m. parts_more test xs i (omega (arith, lt)) d m)
+  where
+    go : (b : Bool) → (b || list_any test (take (suc i) xs)) ≡ false → (list_any test (take (suc i) xs) ≡ false → (list_any test (take i xs) ≡ false) × (test (slice_index_or xs i d) ≡ false))
+        → ((b || list_any test (take i xs)) ≡ false) × (test (slice_index_or xs i d) ≡ false)
+    go true m ih = absurd (cc)
+    go false m ih = ih m
+
+pub any_parts : {X : Type 0} (test : X → Bool) (xs : List X) (i : ℕ) → i < length xs → (d : X) → list_any test (take (i + 1) xs) ≡ false → (list_any test (take i xs) ≡ false) × (test (slice_index_or xs i d) ≡ false)
+any_parts test xs i lt d h =
+    let e : i + 1 ≡ suc i = omega arith in parts_more test xs i lt d (subst (λ j. list_any test (take j xs) ≡ false) e h)

@@ -12,7 +12,7 @@ use Rattle.clause_db.specs.Parts.{Piece, is_part_of, clauses_at, added_to, with_
 use Rattle.clause_db.specs.Sound.{Apart, names}
 use Rattle.clause_db.proofs.Procs.{is_same, same_self}
 
-same_false : (p q : entries.Proc) → same_proc p q ≡ false → same_proc q p ≡ false
+pub same_false : (p q : entries.Proc) → same_proc p q ≡ false → same_proc q p ≡ false
 same_false p q e = go (same_proc q p) refl
   where
     go : (b : Bool) → same_proc q p ≡ b → same_proc q p ≡ false

@@ -10,7 +10,7 @@ use Rattle.gen_core.specs.declared.dated_clause.DatedClause.{DatedClause}
 use Rattle.gen_core.specs.Visible.{has_any, first_choice}
 use Rattle.gen_core.specs.Visible as list
 use Rattle.clause_db.specs.Parts.{Held, clauses_at}
-use Rattle.clause_db.specs.Stands.{dated, is_gone, StandsFor, first_named}
+use Rattle.clause_db.specs.Stands.{dated, is_gone, StandsNow, first_named}
 
 module _ {C : Type 0} where
   pub visible_same : (g : ℕ) (s : Stored C) → list.is_visible g (dated s) ≡ is_visible g s
@@ -96,7 +96,7 @@ module _ {C : Type 0} where
   first_same [] = refl
   first_same (s ∷ ss) = ap (λ b. Some (s.place, s.clause, b)) (has_any_dated ss)
 
-  pub call_same : (need : C → ℕ) (h : Held C) (d : Database C) → StandsFor need h d → (t : C → Bool) (g : ℕ) (p : Proc) → h.floor ≤ g
+  pub call_same : (need : C → ℕ) (h : Held C) (d : Database C) → StandsNow need h d → (t : C → Bool) (g : ℕ) (p : Proc) → h.floor ≤ g
       → first_choice (filter (λ x. list.is_visible g x && not (t x.clause)) (clauses_at h.parts p)) ≡ first_named (choices t g p d)
   call_same need h d s t g p l =
       let k = s.clauses p in

@@ -1,5 +1,6 @@
 -- When the database refuses a request, and why.
-use Rattle.std.specs.Prelude.{ℕ, ◌+◌, ◌^◌, Option, Some, None, Bool, true, false, nat_lt, if◌then◌else◌}
+use Rattle.std.specs.Prelude.{ℕ, ◌+◌, ◌^◌, Option, Some, None, Bool, true, false, List, nat_lt, if◌then◌else◌}
+use Rattle.std.specs.List.{list_any}
 use Rattle.pl_model.specs.History as entries
 use Rattle.pl_model.specs.Database.{Database, is_system, is_static, is_known, used_cells, has_room}
 use Rattle.pl_model.specs.declared.shows.Origin.{Origin}
@@ -24,8 +25,8 @@ access_fault None Clause = None
 access_fault (Some Static) Clause = Some Private
 access_fault (Some Dynamic) Clause = None
 
-abbrev pub held_call_fault : {C : Type 0} → Held C → entries.Proc → By → Option DbFault
-held_call_fault h p by = access_fault (held_access h p) by
+abbrev pub held_call_fault : {C : Type 0} → ℕ → Held C → entries.Proc → By → Option DbFault
+held_call_fault g h p by = access_fault (held_access g h p) by
 
 -- A goal adds no clause to a static procedure, and a text none to one of the system (ISO 7.5.2, 8.9.1); and there has to be
 -- room for the clause.
@@ -44,12 +45,16 @@ is_static_access None = false
 is_static_access (Some Static) = true
 is_static_access (Some Dynamic) = false
 
-abbrev pub is_held_closed : {C : Type 0} → Held C → entries.Proc → Origin → Bool
-is_held_closed h p Consult = is_system p
-is_held_closed h p Assert = is_static_access (held_access h p)
+abbrev pub is_held_closed : {C : Type 0} → ℕ → Held C → entries.Proc → Origin → Bool
+is_held_closed g h p Consult = is_system p
+is_held_closed g h p Assert = is_static_access (held_access g h p)
 
-abbrev pub held_addition_fault : {C : Type 0} → Held C → entries.Proc → Origin → ℕ → Option DbFault
-held_addition_fault h p o need =
-    if is_held_closed h p o then Some StaticFault
+abbrev pub held_addition_fault : {C : Type 0} → ℕ → Held C → entries.Proc → Origin → ℕ → Option DbFault
+held_addition_fault g h p o need =
+    if is_held_closed g h p o then Some StaticFault
     else if nat_lt (h.used + need) (2 ^ 40) then None
     else Some (CellsFull h.used need)
+
+-- A static procedure cannot be changed (ISO 8.9.4, 7.4.2.1).
+abbrev pub change_fault : {C : Type 0} → Database C → List entries.Proc → Option DbFault
+change_fault d ps = if list_any (is_static d) ps then Some StaticFault else None

@@ -6,3 +6,6 @@ pub mod Stands
 pub mod Faults
 pub mod Flags
 pub mod Operators
+pub mod Dynamic
+pub mod Abolished
+pub mod Reclaimed

@@ -1,34 +1,43 @@
 //! The clause database.
-ghost use Rattle.std.specs.Prelude.{◌≡◌, ◌<◌, ◌≤◌, ◌+◌, ◌^◌, ◌⊎◌, Err, Some, None, IfOk, IfSome, IfNone, IfErr, OnOk, OnErr, false, true, not, filter, map, length};
+ghost use Rattle.std.specs.Prelude.{◌≡◌, ◌∷◌, [], ℕ, ◌<◌, ◌≤◌, ◌+◌, ◌^◌, ◌⊎◌, ◌==◌, Err, Some, None, IfOk, IfSome, IfNone, IfErr, OnOk, OnErr, false, true, not, filter, map, length};
 ghost use Rattle.std.specs.Result.{MatchResult, IsOkAnd};
-ghost use Rattle.std.specs.Option.{MatchOption, option_map_or};
+ghost use Rattle.std.specs.Option.{MatchOption, option_map, option_map_or};
 ghost use Rattle.std.specs.List.{list_any, slice_get};
+ghost use Rattle.std.specs.List.Sorted.{IsPermutation};
 ghost use Rattle.std.specs.Ordering.{nat_cmp};
 ghost use Rattle.std.specs.BTreeMap as tree;
 ghost use Rattle.pl_model.specs.Shown.{proc_of, origin_of};
 ghost use Rattle.pl_model.specs.History as entries;
-ghost use Rattle.pl_model.specs.Database.{Database, opening_database, is_at, is_there, seen, choices, with_first, with_last, without_clause};
+ghost use Rattle.pl_model.specs.Database.{Database, access_of, opening_database, is_at, is_there, seen, choices, with_first, with_last, without_clause, without_procedure, with_dynamic_procedures};
 ghost use Rattle.pl_model.specs.FirstArguments.{are_apart};
 ghost use Rattle.pl_model.specs.Flags.{opening_flags, with_flag};
 ghost use Rattle.pl_model.specs.OperatorTable.{opening_table};
 ghost use Rattle.pl_model.specs.SharedState.{with_operators};
 ghost use Rattle.gen_core.specs.Hits.{hit_of};
-ghost use Rattle.gen_core.specs.Visible.{first_choice, is_choice, behind};
+ghost use Rattle.gen_core.specs.Visible.{is_droppable, first_choice, is_choice, behind};
 ghost use Rattle.clause_db.specs.Parts.{Held, clauses_at, held_access, with_added, has_live, erased_held};
-ghost use Rattle.clause_db.specs.Stands.{StandsFor, first_named, after};
-ghost use Rattle.clause_db.specs.Faults.{call_fault, addition_fault, held_call_fault, held_addition_fault, is_held_closed};
+ghost use Rattle.clause_db.specs.Access.{access_of as access_as};
+ghost use Rattle.clause_db.specs.Stands.{StandsFor, dated, then_at, first_named, after};
+ghost use Rattle.clause_db.specs.Dynamic.{dynamic_held};
+ghost use Rattle.clause_db.specs.Abolished.{abolished_held};
+ghost use Rattle.clause_db.specs.Reclaimed.{reclaimed_held};
+ghost use Rattle.clause_db.specs.Sound.{Apart, names};
+ghost use Rattle.clause_db.specs.Faults.{call_fault, addition_fault, change_fault, held_call_fault, held_addition_fault, is_held_closed, is_static_access};
 ghost use Rattle.clause_db.specs.Flags.{flags_as, flag_name, value_name};
 ghost use Rattle.clause_db.specs.Operators.{shown, first_fault};
 ghost use Rattle.clause_db.specs.declared.fault.DbFault.TheVariants.{Memory as NoMemory};
 ghost use Rattle.op_table.specs.declared.fault.OpFault.TheVariants.{Memory as NoRoom};
 
+use crate::abolish::close_in;
 use crate::access::{Access, By};
+use crate::dynamic::{add_blanks, open_all};
 use crate::fault::DbFault;
 use crate::flags::{Flag, FlagValue, Flags, first_flags, flags_with};
 use crate::operators::table_with;
-use crate::parts::{Addition, End, Part, add_to, erase_in, part_at};
+use crate::parts::{Addition, End, Part, access_in, add_to, erase_in, part_at};
+use crate::reclaim::reclaim_at;
 use crate::system::is_system;
-use gen_core::Hit;
+use gen_core::{Drops, Hit};
 use op_table::{OpFault, OpTable, Operator};
 use pl_model::kept::Kept;
 use pl_model::shows::{Origin, Proc};
@@ -95,10 +104,19 @@ fn unsettle(homes: &mut BTreeMap<u64, Home>, place: u64)
     homes.remove(&place);
 }
 
+/// Forgets where the clauses stand that were added at these places.
+fn unsettle_all(homes: &mut BTreeMap<u64, Home>, places: &[u64])
+    ensures { (k : ℕ) → list_any (λ q. q == k) places.now ≡ false → tree.get nat_cmp homes.new k ≡ tree.get nat_cmp homes.old k }
+{
+    for i in 0..places.len() {
+        unsettle(homes, places[i]);
+    }
+}
+
 impl<C: Kept> Db<C> {
     /// No procedures, with the flags and operators of the start. The only error is want of memory.
     pub fn new(alloc: Global) -> Result<Db<C>, Memory>
-        ensures stands { IfOk result (λ d. StandsFor C.size d opening_database) }
+        ensures stands { IfOk result (λ h. StandsFor C.size h (λ g. opening_database)) }
         ensures start { IfOk result (λ d. (d.next ≡ 0) × (d.floor ≡ 0)) }
         ensures settings { IfOk result (λ d. (d.flags ≡ opening_flags) × (d.operators ≡ opening_table)) }
     {
@@ -116,8 +134,8 @@ impl<C: Kept> Db<C> {
     }
 
     /// The first clause of a call at the generation `g` of the procedure, whose first argument has the key `goal`, with
-    /// its place and whether more follow. `g` is that of the database as it stands. The errors are `Unknown`, for a goal
-    /// alone, and `Private`, for clause/2 alone.
+    /// its place and whether more follow. The errors are `Unknown`, for a goal alone, and `Private`, for clause/2 alone,
+    /// where the procedure is not there at `g`, and static there.
     pub fn call(
         &self,
         p: &Proc,
@@ -126,12 +144,12 @@ impl<C: Kept> Db<C> {
         by: By,
     ) -> Result<Option<Hit<'_, C>>, DbFault>
         requires { self.now.floor ≤ g }
-        ensures { (d : Database C) → StandsFor C.size self.now d
-            → MatchOption (call_fault d (proc_of p.now) by)
-            (IsOkAnd result (λ r. hit_of r ≡ first_named (choices (λ c. are_apart C.Key.Ord.cmp C.any goal.now (C.key_of c)) g (proc_of p.now) d)))
+        ensures { (d : ℕ → Database C) → StandsFor C.size self.now d
+            → MatchOption (call_fault (d g) (proc_of p.now) by)
+            (IsOkAnd result (λ r. hit_of r ≡ first_named (choices (λ c. are_apart C.Key.Ord.cmp C.any goal.now (C.key_of c)) g (proc_of p.now) (d g))))
             (λ f. result ≡ Err f) }
     {
-        match self.call_fault(p, by) {
+        match self.call_fault(p, g, by) {
             Some(fault) => Err(fault),
             None => Ok(self.first_of(p, goal, g)),
         }
@@ -141,8 +159,8 @@ impl<C: Kept> Db<C> {
     /// the clause that was added at `place`, which `g` sees. It takes no memory, and there is no refusal.
     pub fn retry(&self, place: u64, goal: &C::Key, g: u64) -> Result<Option<Hit<'_, C>>, DbFault>
         requires { self.now.floor ≤ g }
-        ensures { (d : Database C) (p : entries.Proc) → StandsFor C.size self.now d → list_any (is_at place) (seen g p d) ≡ true
-            → IsOkAnd result (λ r. hit_of r ≡ first_named (filter (λ s. not (are_apart C.Key.Ord.cmp C.any goal.now (C.key_of s.clause))) (after place (seen g p d)))) }
+        ensures { (d : ℕ → Database C) (p : entries.Proc) → StandsFor C.size self.now d → list_any (is_at place) (seen g p (d g)) ≡ true
+            → IsOkAnd result (λ r. hit_of r ≡ first_named (filter (λ s. not (are_apart C.Key.Ord.cmp C.any goal.now (C.key_of s.clause))) (after place (seen g p (d g))))) }
     {
         match self.homes.get(&place) {
             Some(home) => Ok(self.next_in(home.part, place, goal, g)),
@@ -161,25 +179,33 @@ impl<C: Kept> Db<C> {
     }
 
     /// Why a call is refused.
-    fn call_fault(&self, p: &Proc, by: By) -> Option<DbFault>
-        ensures { result ≡ held_call_fault self.now (proc_of p.now) by }
+    fn call_fault(&self, p: &Proc, g: u64, by: By) -> Option<DbFault>
+        ensures { result ≡ held_call_fault g self.now (proc_of p.now) by }
     {
-        match (by, self.access_of(p)) {
+        match (by, self.access_of(p, g)) {
             (By::Goal, None) => Some(DbFault::Unknown),
             (By::Clause, Some(Access::Static)) => Some(DbFault::Private),
             _ => None,
         }
     }
 
-    /// How the procedure may be used, where there is one.
-    fn access_of(&self, p: &Proc) -> Option<Access>
-        ensures { result ≡ held_access self.now (proc_of p.now) }
+    /// How the procedure may be used at the generation `g`, where there is one then. It takes no memory.
+    pub fn access(&self, p: &Proc, g: u64) -> Option<Access>
+        requires { self.now.floor ≤ g }
+        ensures { (d : ℕ → Database C) → StandsFor C.size self.now d → option_map access_as result ≡ access_of (d g) (proc_of p.now) }
+    {
+        self.access_of(p, g)
+    }
+
+    /// How the procedure may be used at the generation `g`.
+    fn access_of(&self, p: &Proc, g: u64) -> Option<Access>
+        ensures { result ≡ held_access g self.now (proc_of p.now) }
     {
         if is_system(p) {
             return Some(Access::Static);
         }
         match part_at(self.parts.as_slice(), p) {
-            Some(i) => self.parts[i].access,
+            Some(i) => access_in(&self.parts[i], g),
             None => None,
         }
     }
@@ -206,12 +232,12 @@ impl<C: Kept> Db<C> {
     ) -> Result<(), (C, DbFault)>
         requires bound { place < 2 ^ 49 }
         requires later { self.old.next ≤ place }
-        ensures refused { (d : Database C) → StandsFor C.size self.old d
-            → IfSome (addition_fault C.size d (proc_of p.now) origin clause) (λ f. result ≡ Err (clause, f)) }
-        ensures added { (d : Database C) → StandsFor C.size self.old d
-            → IfNone (addition_fault C.size d (proc_of p.now) origin clause)
+        ensures refused { (d : ℕ → Database C) → StandsFor C.size self.old d
+            → IfSome (addition_fault C.size (d place) (proc_of p.now) origin clause) (λ f. result ≡ Err (clause, f)) }
+        ensures added { (d : ℕ → Database C) → StandsFor C.size self.old d
+            → IfNone (addition_fault C.size (d place) (proc_of p.now) origin clause)
             (MatchResult result
-            (λ _. StandsFor C.size self.new (with_first place (proc_of p.now) clause (origin_of origin) d))
+            (λ _. StandsFor C.size self.new (then_at place (with_first place (proc_of p.now) clause (origin_of origin)) d))
             (λ e. e ≡ (clause, NoMemory))) }
         ensures rest { OnOk result ((self.new.next ≡ place + 1) × (self.new.floor ≡ self.old.floor)) }
         ensures settings { OnOk result ((self.new.flags ≡ self.old.flags) × (self.new.operators ≡ self.old.operators)) }
@@ -237,12 +263,12 @@ impl<C: Kept> Db<C> {
     ) -> Result<(), (C, DbFault)>
         requires bound { place < 2 ^ 49 }
         requires later { self.old.next ≤ place }
-        ensures refused { (d : Database C) → StandsFor C.size self.old d
-            → IfSome (addition_fault C.size d (proc_of p.now) origin clause) (λ f. result ≡ Err (clause, f)) }
-        ensures added { (d : Database C) → StandsFor C.size self.old d
-            → IfNone (addition_fault C.size d (proc_of p.now) origin clause)
+        ensures refused { (d : ℕ → Database C) → StandsFor C.size self.old d
+            → IfSome (addition_fault C.size (d place) (proc_of p.now) origin clause) (λ f. result ≡ Err (clause, f)) }
+        ensures added { (d : ℕ → Database C) → StandsFor C.size self.old d
+            → IfNone (addition_fault C.size (d place) (proc_of p.now) origin clause)
             (MatchResult result
-            (λ _. StandsFor C.size self.new (with_last place (proc_of p.now) clause (origin_of origin) d))
+            (λ _. StandsFor C.size self.new (then_at place (with_last place (proc_of p.now) clause (origin_of origin)) d))
             (λ e. e ≡ (clause, NoMemory))) }
         ensures rest { OnOk result ((self.new.next ≡ place + 1) × (self.new.floor ≡ self.old.floor)) }
         ensures settings { OnOk result ((self.new.flags ≡ self.old.flags) × (self.new.operators ≡ self.old.operators)) }
@@ -260,13 +286,13 @@ impl<C: Kept> Db<C> {
     fn add(&mut self, p: &Proc, clause: C, by: Addition) -> Result<(), (C, DbFault)>
         requires bound { by.place < 2 ^ 49 }
         requires later { self.old.next ≤ by.place }
-        ensures refused { IfSome (held_addition_fault self.old (proc_of p.now) by.origin (C.size clause)) (λ f. result ≡ Err (clause, f)) }
-        ensures added { IfNone (held_addition_fault self.old (proc_of p.now) by.origin (C.size clause))
+        ensures refused { IfSome (held_addition_fault by.place self.old (proc_of p.now) by.origin (C.size clause)) (λ f. result ≡ Err (clause, f)) }
+        ensures added { IfNone (held_addition_fault by.place self.old (proc_of p.now) by.origin (C.size clause))
             (MatchResult result (λ _. self.new ≡ with_added by p.now clause (C.size clause) self.old) (λ e. e ≡ (clause, NoMemory))) }
         ensures unchanged { OnErr result (self.new ≡ self.old) }
     {
         let need = clause.cells();
-        if let Some(fault) = self.addition_fault(p, by.origin, need) {
+        if let Some(fault) = self.addition_fault(p, by, need) {
             return Err((clause, fault));
         }
         let part = part_at(self.parts.as_slice(), p).unwrap_or(self.parts.len());
@@ -288,10 +314,10 @@ impl<C: Kept> Db<C> {
     }
 
     /// Why an addition is refused.
-    fn addition_fault(&self, p: &Proc, origin: Origin, need: u64) -> Option<DbFault>
-        ensures { result ≡ held_addition_fault self.now (proc_of p.now) origin need }
+    fn addition_fault(&self, p: &Proc, by: Addition, need: u64) -> Option<DbFault>
+        ensures { result ≡ held_addition_fault by.place self.now (proc_of p.now) by.origin need }
     {
-        if self.is_closed(p, origin) {
+        if self.is_closed(p, by) {
             return Some(DbFault::Static);
         }
         if self.used.saturating_add(need) < CELLS {
@@ -304,13 +330,20 @@ impl<C: Kept> Db<C> {
     }
 
     /// Whether what adds a clause may add none to the procedure.
-    fn is_closed(&self, p: &Proc, origin: Origin) -> bool
-        ensures { result ≡ is_held_closed self.now (proc_of p.now) origin }
+    fn is_closed(&self, p: &Proc, by: Addition) -> bool
+        ensures { result ≡ is_held_closed by.place self.now (proc_of p.now) by.origin }
     {
-        match origin {
+        match by.origin {
             Origin::Consult => is_system(p),
-            Origin::Assert => matches!(self.access_of(p), Some(Access::Static)),
+            Origin::Assert => self.is_static(p, by.place),
         }
+    }
+
+    /// Whether the procedure is static at the generation `g`.
+    fn is_static(&self, p: &Proc, g: u64) -> bool
+        ensures { result ≡ is_static_access (held_access g self.now (proc_of p.now)) }
+    {
+        matches!(self.access_of(p, g), Some(Access::Static))
     }
 
     /// Erases the clause that was added at the place `clause` (ISO 8.9.3), by the update at `place`, which is behind all
@@ -319,9 +352,9 @@ impl<C: Kept> Db<C> {
     pub fn erase(&mut self, clause: u64, place: u64) -> Result<bool, DbFault>
         requires bound { place < 2 ^ 49 }
         requires later { self.old.next ≤ place }
-        ensures was { (d : Database C) → StandsFor C.size self.old d → IfOk result (λ b. b ≡ is_there clause d) }
-        ensures erased { (d : Database C) → StandsFor C.size self.old d
-            → IfOk result (λ b. b ≡ true → StandsFor C.size self.new (without_clause clause place d)) }
+        ensures was { (d : ℕ → Database C) → StandsFor C.size self.old d → IfOk result (λ b. b ≡ is_there clause (d place)) }
+        ensures erased { (d : ℕ → Database C) → StandsFor C.size self.old d
+            → IfOk result (λ b. b ≡ true → StandsFor C.size self.new (then_at place (without_clause clause place) d)) }
         ensures rest { IfOk result (λ b. b ≡ true → (self.new.next ≡ place + 1) × (self.new.floor ≡ self.old.floor)) }
         ensures settings { IfOk result (λ b. b ≡ true → (self.new.flags ≡ self.old.flags) × (self.new.operators ≡ self.old.operators)) }
         ensures gone { IfOk result (λ b. b ≡ false → self.new ≡ self.old) }
@@ -356,6 +389,104 @@ impl<C: Kept> Db<C> {
         }
     }
 
+    /// Makes the procedures that are not there dynamic (ISO 7.4.2.1), by the update at `place`, which is behind all updates
+    /// so far. The errors are `Static`, where one of them is static, and `Memory`; after an error the database is as it was.
+    pub fn set_dynamic(&mut self, ps: &[Proc], place: u64) -> Result<(), DbFault>
+        requires bound { place < 2 ^ 49 }
+        requires later { self.old.next ≤ place }
+        ensures refused { (d : ℕ → Database C) → StandsFor C.size self.old d
+            → IfSome (change_fault (d place) (map proc_of ps.now)) (λ f. result ≡ Err f) }
+        ensures made { (d : ℕ → Database C) → StandsFor C.size self.old d
+            → IfNone (change_fault (d place) (map proc_of ps.now))
+            (MatchResult result
+            (λ _. StandsFor C.size self.new (then_at place (with_dynamic_procedures (map proc_of ps.now)) d))
+            (λ f. f ≡ NoMemory)) }
+        ensures rest { OnOk result ((self.new.next ≡ place + 1) × (self.new.floor ≡ self.old.floor)) }
+        ensures settings { OnOk result ((self.new.flags ≡ self.old.flags) × (self.new.operators ≡ self.old.operators)) }
+        ensures unchanged { OnErr result (self.new ≡ self.old) }
+    {
+        if self.any_static(ps, place) {
+            return Err(DbFault::Static);
+        }
+        match self.make_dynamic(ps, place) {
+            Ok(()) => Ok(()),
+            Err(Memory) => Err(DbFault::Memory),
+        }
+    }
+
+    /// Whether one of the procedures is static at the generation `g`.
+    fn any_static(&self, ps: &[Proc], g: u64) -> bool
+        ensures { result ≡ list_any (λ p. is_static_access (held_access g self.now (proc_of p))) ps.now }
+    {
+        for i in 0..ps.len() {
+            if self.is_static(&ps[i], g) {
+                return true;
+            }
+        }
+        false
+    }
+
+    /// Makes the procedures that are not there dynamic. The only error is want of memory; after it the database is as it
+    /// was.
+    fn make_dynamic(&mut self, ps: &[Proc], place: u64) -> Result<(), Memory>
+        requires bound { place < 2 ^ 49 }
+        requires later { self.old.next ≤ place }
+        ensures ok { OnOk result (self.new ≡ dynamic_held place ps.now self.old) }
+        ensures err { OnErr result (self.new ≡ self.old) }
+    {
+        match add_blanks(self.alloc, &mut self.parts, ps) {
+            Ok(()) => {
+                open_all(&mut self.parts, ps, place);
+                self.next = place + 1;
+                Ok(())
+            }
+            Err(Memory) => Err(Memory),
+        }
+    }
+
+    /// Takes the procedure away with all its clauses (ISO 8.9.4), by the update at `place`, which is behind all updates so
+    /// far. The errors are `Static` and `Memory`; after an error the database is as it was. Its time grows with the number
+    /// of the procedure's clauses.
+    pub fn abolish(&mut self, p: &Proc, place: u64) -> Result<(), DbFault>
+        requires bound { place < 2 ^ 49 }
+        requires later { self.old.next ≤ place }
+        ensures refused { (d : ℕ → Database C) → StandsFor C.size self.old d
+            → IfSome (change_fault (d place) (proc_of p.now ∷ [])) (λ f. result ≡ Err f) }
+        ensures abolished { (d : ℕ → Database C) → StandsFor C.size self.old d
+            → IfNone (change_fault (d place) (proc_of p.now ∷ []))
+            (MatchResult result
+            (λ _. StandsFor C.size self.new (then_at place (without_procedure (proc_of p.now) place) d))
+            (λ f. f ≡ NoMemory)) }
+        ensures rest { OnOk result ((self.new.next ≡ place + 1) × (self.new.floor ≡ self.old.floor)) }
+        ensures settings { OnOk result ((self.new.flags ≡ self.old.flags) × (self.new.operators ≡ self.old.operators)) }
+        ensures unchanged { OnErr result (self.new ≡ self.old) }
+    {
+        if self.is_static(p, place) {
+            return Err(DbFault::Static);
+        }
+        match self.close(p, place) {
+            Ok(()) => Ok(()),
+            Err(Memory) => Err(DbFault::Memory),
+        }
+    }
+
+    /// Takes the procedure away with all its clauses. The only error is want of memory; after it the database is as it was.
+    fn close(&mut self, p: &Proc, place: u64) -> Result<(), Memory>
+        requires bound { place < 2 ^ 49 }
+        requires later { self.old.next ≤ place }
+        ensures ok { OnOk result (self.new ≡ abolished_held C.size place (proc_of p.now) self.old) }
+        ensures err { OnErr result (self.new ≡ self.old) }
+    {
+        match close_in(&mut self.parts, p, place) {
+            Ok(cells) => {
+                self.used = self.used.saturating_sub(cells);
+                self.next = place + 1;
+                Ok(())
+            }
+            Err(Memory) => Err(Memory),
+        }
+    }
+
     /// The flags that can be changed, with their values.
     pub fn flags(&self) -> Flags
         ensures { flags_as result ≡ self.now.flags }
@@ -369,7 +500,7 @@ impl<C: Kept> Db<C> {
         requires bound { place < 2 ^ 49 }
         requires later { self.old.next ≤ place }
         ensures set { self.new ≡ record self.old { flags = with_flag (flag_name flag) (value_name value) self.old.flags; next = place + 1 } }
-        ensures stands { (d : Database C) → StandsFor C.size self.old d → StandsFor C.size self.new d }
+        ensures stands { (d : ℕ → Database C) → StandsFor C.size self.old d → StandsFor C.size self.new d }
     {
         self.flags = flags_with(self.flags, flag, value);
         self.next = place + 1;
@@ -390,7 +521,7 @@ impl<C: Kept> Db<C> {
         requires later { self.old.next ≤ place }
         ensures granted { OnOk result (first_fault operators.now self.old.operators ≡ None) }
         ensures set { OnOk result (self.new ≡ record self.old { operators = with_operators (map shown operators.now) self.old.operators; next = place + 1 }) }
-        ensures stands { OnOk result ((d : Database C) → StandsFor C.size self.old d → StandsFor C.size self.new d) }
+        ensures stands { OnOk result ((d : ℕ → Database C) → StandsFor C.size self.old d → StandsFor C.size self.new d) }
         ensures err { IfErr result (λ f. (f ≡ NoRoom) ⊎ (first_fault operators.now self.old.operators ≡ Some f)) }
         ensures unchanged { OnErr result (self.new ≡ self.old) }
     {
@@ -405,5 +536,39 @@ impl<C: Kept> Db<C> {
         ensures { result ≡ length self.now.parts }
     {
         self.parts.len() as u64
+    }
+
+    /// Drops the clauses of the procedure that stands at the index `i` which one of the first `floor` updates erased, and
+    /// hands each out once. From then on `floor` is the least generation that a call may ask for, and no update comes below
+    /// it. The only error is want of memory; after it the database is as it was.
+    pub fn reclaim_by<D: Drops>(&mut self, i: u64, d: &D, floor: u64) -> Result<Vec<C>, Memory>
+        requires { i < length self.old.parts }
+        ensures dropped { IfOk result (λ r. IfSome (slice_get self.old.parts i) (λ x. IsPermutation (map (λ y. y.clause) (filter (is_droppable floor) x.clauses)) r.items)) }
+        ensures held { OnOk result (self.new ≡ reclaimed_held i floor self.old) }
+        ensures stands { OnOk result ((b : ℕ → Database C) → StandsFor C.size self.old b → StandsFor C.size self.new b) }
+        ensures left { OnOk result ((b : ℕ → Database C) → StandsFor C.size self.old b → self.old.next ≤ floor
+            → IfSome (slice_get self.new.parts i) (λ x. x.clauses ≡ map dated (seen floor (proc_of x.name) (b floor)))) }
+        ensures unchanged { OnErr result (self.new ≡ self.old) }
+    {
+        self.reclaim_in(i, d, floor)
+    }
+
+    /// Drops the clauses of the procedure at the index that one of the first `floor` updates erased.
+    fn reclaim_in<D: Drops>(&mut self, i: u64, d: &D, floor: u64) -> Result<Vec<C>, Memory>
+        requires { i < length self.old.parts }
+        ensures dropped { IfOk result (λ r. IfSome (slice_get self.old.parts i) (λ x. IsPermutation (map (λ y. y.clause) (filter (is_droppable floor) x.clauses)) r.items)) }
+        ensures held { OnOk result (self.new ≡ reclaimed_held i floor self.old) }
+        ensures apart { Apart (names self.old.parts) }
+        ensures unchanged { OnErr result (self.new ≡ self.old) }
+    {
+        match reclaim_at(self.alloc, &mut self.parts, i as usize, d, floor) {
+            Ok(dropped) => {
+                unsettle_all(&mut self.homes, dropped.places.as_slice());
+                self.next = self.next.max(floor);
+                self.floor = self.floor.max(floor);
+                Ok(dropped.clauses)
+            }
+            Err(Memory) => Err(Memory),
+        }
     }
 }

@@ -1,12 +1,15 @@
 //! The clause database (ISO 7.5): procedures with their dated clauses.
 #![tactic(auto)]
 
+mod abolish;
 mod access;
 mod db;
+mod dynamic;
 mod fault;
 mod flags;
 mod operators;
 mod parts;
+mod reclaim;
 mod system;
 #[cfg(test)]
 mod tests;

@@ -1,15 +1,14 @@
 //! Procedures with their clauses.
-ghost use Rattle.std.specs.Prelude.{◌≡◌, ◌<◌, ◌^◌, ◌++◌, ◌∷◌, [], None, All, IfOk, IfErr, OnOk, OnErr, false, bytes_eq, map};
+ghost use Rattle.std.specs.Prelude.{◌≡◌, ◌<◌, ◌^◌, ◌++◌, ◌∷◌, [], All, IfOk, IfErr, OnOk, OnErr, false, bytes_eq, map};
 ghost use Rattle.std.specs.List.{slice_get};
 ghost use Rattle.std.specs.Option.{option_map_or};
 ghost use Rattle.pl_model.specs.Shown.{proc_of};
 ghost use Rattle.pl_model.specs.World.{same_proc};
-ghost use Rattle.clause_db.specs.Parts.{piece, is_part_of, added_to, with_clause, placed, has_live, without_at};
+ghost use Rattle.clause_db.specs.Parts.{piece, blank, is_part_of, piece_access, opened, added_to, with_clause, placed, has_live, without_at};
 ghost use Rattle.clause_db.specs.Located.{Locates};
 ghost use Rattle.gen_core.specs.Visible.{fresh};
-ghost use Rattle.clause_db.specs.Access.{opened as opened_by};
 
-use crate::access::{Access, access_by};
+use crate::access::{Access, Life, access_by, life_at};
 use gen_core::Dated;
 use pl_model::kept::Kept;
 use pl_model::shows::{Origin, Proc};
@@ -22,6 +21,10 @@ pub struct Part<C: Kept> {
     pub name: Proc,
     /// `None` where there is no such procedure now.
     pub access: Option<Access>,
+    /// The place of the update that made it, where it is there.
+    pub since: u64,
+    /// What it was before it was abolished, the earliest first.
+    pub lives: Vec<Life>,
     pub clauses: Dated<C>,
 }
 
@@ -80,6 +83,32 @@ fn put<C: Kept>(d: &mut Dated<C>, clause: C, place: u64, end: End) -> Result<(),
     }
 }
 
+/// How the procedure may be used at the generation `g`.
+pub fn access_in<C: Kept>(part: &Part<C>, g: u64) -> Option<Access>
+    ensures { result ≡ piece_access g (piece part.now) }
+{
+    match part.access {
+        Some(access) => {
+            if part.since < g {
+                Some(access)
+            } else {
+                life_at(part.lives.as_slice(), g)
+            }
+        }
+        None => life_at(part.lives.as_slice(), g),
+    }
+}
+
+/// Makes the procedure by the update at `place`, where it is not there.
+pub fn make<C: Kept>(part: &mut Part<C>, access: Access, place: u64)
+    ensures { piece part.new ≡ opened place access (piece part.old) }
+{
+    if part.access.is_none() {
+        part.access = Some(access);
+        part.since = place;
+    }
+}
+
 /// Adds a clause to a procedure, which is made where it is not there.
 fn add_in<C: Kept>(part: &mut Part<C>, clause: C, by: Addition) -> Result<(), (C, Memory)>
     requires bound { by.place < 2 ^ 49 }
@@ -89,26 +118,16 @@ fn add_in<C: Kept>(part: &mut Part<C>, clause: C, by: Addition) -> Result<(), (C
 {
     match put(&mut part.clauses, clause, by.place, by.end) {
         Ok(()) => {
-            part.access = Some(opened(part.access, by.origin));
+            make(part, access_by(by.origin), by.place);
             Ok(())
         }
         Err(refused) => Err(refused),
     }
 }
 
-/// How a procedure may be used once a clause was added.
-fn opened(access: Option<Access>, origin: Origin) -> Access
-    ensures { result ≡ opened_by access origin }
-{
-    match access {
-        Some(access) => access,
-        None => access_by(origin),
-    }
-}
-
 /// A procedure that is not there, without clauses. The only error is want of memory.
-fn no_part<C: Kept>(alloc: Global, p: &Proc) -> Result<Part<C>, Memory>
-    ensures { IfOk result (λ x. piece x ≡ record { name = p.now; access = None; clauses = [] }) }
+pub fn no_part<C: Kept>(alloc: Global, p: &Proc) -> Result<Part<C>, Memory>
+    ensures { IfOk result (λ x. piece x ≡ blank p.now) }
 {
     let name = Proc {
         name: p.name.copy(alloc)?,
@@ -117,6 +136,8 @@ fn no_part<C: Kept>(alloc: Global, p: &Proc) -> Result<Part<C>, Memory>
     Ok(Part {
         name,
         access: None,
+        since: 0,
+        lives: Vec::new(alloc),
         clauses: Dated::new(alloc),
     })
 }
@@ -150,7 +171,7 @@ fn add_new<C: Kept>(
     by: Addition,
 ) -> Result<(), (C, Memory)>
     requires { by.place < 2 ^ 49 }
-    ensures ok { OnOk result (map piece parts.new.items ≡ map piece parts.old.items ++ added_to by clause (record { name = p.now; access = None; clauses = [] }) ∷ []) }
+    ensures ok { OnOk result (map piece parts.new.items ≡ map piece parts.old.items ++ added_to by clause (blank p.now) ∷ []) }
     ensures err { IfErr result (λ e. (e.0 ≡ clause) × (parts.new.items ≡ parts.old.items)) }
 {
     let Ok(mut part) = no_part(alloc, p) else {

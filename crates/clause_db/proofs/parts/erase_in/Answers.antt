@@ -10,7 +10,7 @@ returns-then-i-as_slice-clause-ok g c =
     let lt : c.args.i < length c.args.parts.now.items = omega (arith, c.if-i-as_slice.true, ap (λ l. length l) c.as_slice.ensures.value) in
     on_ok c.erase.result _ _
     (λ e. set_without c.args.clause c.args.place c.args.parts.now.items c.args.i c.index_mut.result.now (record c.index_mut.result.now { clauses = c.erase.new.self }) lt
-    (ap (λ ds. record { name = c.index_mut.result.now.name; access = c.index_mut.result.now.access; clauses = ds }) e
+    (ap (λ ds. record { name = c.index_mut.result.now.name; access = c.index_mut.result.now.access; since = c.index_mut.result.now.since; lives = c.index_mut.result.now.lives.items; clauses = ds }) e
     ∙ ap (λ x. without_place c.args.clause c.args.place (piece x)) c.index_mut.ensures.value))
     c.erase.ensures.ok
 

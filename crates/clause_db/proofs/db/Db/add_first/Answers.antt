@@ -8,7 +8,7 @@ use Rattle.clause_db.proofs.db.Db.add_first.Goals as goal
 
 pub returns-clause-refused : goal.returns-clause-refused
 returns-clause-refused g c = λ d s.
-    subst (λ o. IfSome o (λ f. c.add.result ≡ Err (c.args.clause, f))) (addition_fault_same g.C.Kept.size c.args.self.now d s (proc_of c.args.p.now) c.args.origin c.args.clause) c.add.ensures.refused
+    subst (λ o. IfSome o (λ f. c.add.result ≡ Err (c.args.clause, f))) (addition_fault_same g.C.Kept.size c.args.self.now d s c.args.place c.requires.later (proc_of c.args.p.now) c.args.origin c.args.clause) c.add.ensures.refused
 
 pub returns-clause-added : goal.returns-clause-added
 returns-clause-added g c = λ d s.

@@ -1,11 +1,12 @@
-use Rattle.std.proofs.Common.{◌≡◌, ◌≤◌, true, false, sym, subst, ◌∙◌, arith}
+use Rattle.std.proofs.Common.{◌≡◌, true, false, sym, subst, ◌∙◌}
 use Rattle.std.specs.List.{slice_get}
 use Rattle.std.specs.Option.{option_map_or}
 use Rattle.pl_model.specs.Database.{is_there, without_clause}
 use Rattle.clause_db.specs.Parts.{has_live, erased_held}
 use Rattle.clause_db.specs.Sound.{Homed, Apart, names}
-use Rattle.clause_db.specs.Stands.{StandsFor}
-use Rattle.clause_db.proofs.Erasing.{if_ok, if_both, was_there, no_home_there, erased_stands}
+use Rattle.clause_db.specs.Stands.{StandsFor, then_at}
+use Rattle.clause_db.proofs.Erasing.{if_ok, if_both}
+use Rattle.clause_db.proofs.Erased.{there_is, none_there, erased_stands}
 use Rattle.clause_db.proofs.db.Db.erase.Goals as goal
 
 pub returns-in-Some-clause-was : goal.returns-in-Some-clause-was
@@ -14,24 +15,22 @@ returns-in-Some-clause-was g c = λ d s.
     let apart = subst (λ h. Apart (names h.parts)) c.self.view_is c.self.invariant.apart in
     if_ok c.erase_at.result
     (λ b. b ≡ option_map_or (λ x. has_live c.args.clause x.clauses) (slice_get c.args.self.now.parts c.in-Some.home.now.part) false)
-    (λ b. b ≡ is_there c.args.clause d)
-    (λ b e. e ∙ was_there c.args.clause c.args.place g.C.Kept.size c.args.self.now d s c.self.inside.homes homed apart c.in-Some.home.now (sym c.in-Some.ensures.value))
+    (λ b. b ≡ is_there c.args.clause (d c.args.place))
+    (λ b e. e ∙ there_is c.args.clause c.args.place g.C.Kept.size c.args.self.now d s c.requires.later c.self.inside.homes homed apart c.in-Some.home.now (sym c.in-Some.ensures.value))
     c.erase_at.ensures.was
 
 pub returns-in-Some-clause-erased : goal.returns-in-Some-clause-erased
 returns-in-Some-clause-erased g c = λ d s.
     let homed = subst (λ h. Homed g.C.Kept.size c.self.inside.homes 0 h.parts) c.self.view_is c.self.invariant.homed in
     let apart = subst (λ h. Apart (names h.parts)) c.self.view_is c.self.invariant.apart in
-    let low = subst (λ h. h.floor ≤ h.next) c.self.view_is c.self.invariant.low in
-    let next = c.requires.later in
     if_both c.erase_at.result
     (λ b. b ≡ option_map_or (λ x. has_live c.args.clause x.clauses) (slice_get c.args.self.now.parts c.in-Some.home.now.part) false)
     (λ b. b ≡ true → c.erase_at.new.self ≡ erased_held c.in-Some.home.now.part c.args.clause c.args.place c.in-Some.home.now.cells c.args.self.now)
-    (λ b. b ≡ true → StandsFor g.C.Kept.size c.erase_at.new.self (without_clause c.args.clause c.args.place d))
-    (λ b was is. erased_stands c.args.clause c.args.place g.C.Kept.size c.args.self.now d s c.self.inside.homes homed apart c.in-Some.home.now (sym c.in-Some.ensures.value) c.erase_at.new.self b next (omega (arith, low, next)) was is)
+    (λ b. b ≡ true → StandsFor g.C.Kept.size c.erase_at.new.self (then_at c.args.place (without_clause c.args.clause c.args.place) d))
+    (λ b was is. erased_stands c.args.clause c.args.place g.C.Kept.size c.args.self.now d s c.requires.later c.self.inside.homes homed apart c.in-Some.home.now (sym c.in-Some.ensures.value) c.erase_at.new.self b was is)
     c.erase_at.ensures.was
     c.erase_at.ensures.erased
 
 pub returns-in-None-clause-was : goal.returns-in-None-clause-was
 returns-in-None-clause-was g c = λ d s.
-    no_home_there c.args.clause c.args.place g.C.Kept.size c.args.self.now d s c.self.inside.homes (subst (λ h. Homed g.C.Kept.size c.self.inside.homes 0 h.parts) c.self.view_is c.self.invariant.homed) (sym c.in-None.ensures.value)
+    none_there c.args.clause c.args.place g.C.Kept.size c.args.self.now d s c.requires.later c.self.inside.homes (subst (λ h. Homed g.C.Kept.size c.self.inside.homes 0 h.parts) c.self.view_is c.self.invariant.homed) (sym c.in-None.ensures.value)

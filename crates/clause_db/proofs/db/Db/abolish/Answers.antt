@@ -1,0 +1,13 @@
+use Rattle.std.proofs.Common.{◌∷◌, [], sym, subst, ◌∙◌}
+use Rattle.pl_model.specs.Shown.{proc_of}
+use Rattle.pl_model.specs.Database.{without_procedure}
+use Rattle.clause_db.specs.Stands.{StandsFor, then_at}
+use Rattle.clause_db.proofs.Closing.{or_none, stands_closed}
+use Rattle.clause_db.proofs.MadeDynamic.{without_fault}
+use Rattle.clause_db.proofs.db.Db.abolish.Goals as goal
+
+pub returns-in-Ok-clause-abolished : goal.returns-in-Ok-clause-abolished
+returns-in-Ok-clause-abolished g c = λ d s.
+    without_fault g.C.Kept.size c.args.self.now d s c.args.place c.requires.later (c.args.p.now ∷ []) c.is_static.result (c.is_static.ensures ∙ or_none _) c.if-is_static.false _
+    (subst (λ n. StandsFor g.C.Kept.size n (then_at c.args.place (without_procedure (proc_of c.args.p.now) c.args.place) d)) (sym c.in-Ok.ensures.ok)
+    (stands_closed g.C.Kept.size c.args.self.now d s c.args.place c.requires.later (proc_of c.args.p.now)))

@@ -1,0 +1,24 @@
+use Rattle.std.proofs.Common.{map, sym, subst}
+use Rattle.pl_model.specs.Shown.{proc_of}
+use Rattle.pl_model.specs.Database.{with_dynamic_procedures}
+use Rattle.clause_db.specs.Stands.{StandsFor, then_at}
+use Rattle.clause_db.proofs.MadeDynamic.{some_fault, no_fault, without_fault, stands_dynamic}
+use Rattle.clause_db.proofs.db.Db.set_dynamic.Goals as goal
+
+pub returns-then-any_static-clause-made : goal.returns-then-any_static-clause-made
+returns-then-any_static-clause-made g c = λ d s.
+    some_fault g.C.Kept.size c.args.self.now d s c.args.place c.requires.later c.args.ps.now c.any_static.result c.any_static.ensures c.if-any_static.true _
+
+pub returns-in-Ok-clause-refused : goal.returns-in-Ok-clause-refused
+returns-in-Ok-clause-refused g c = λ d s.
+    no_fault g.C.Kept.size c.args.self.now d s c.args.place c.requires.later c.args.ps.now c.any_static.result c.any_static.ensures c.if-any_static.false _
+
+pub returns-in-Ok-clause-made : goal.returns-in-Ok-clause-made
+returns-in-Ok-clause-made g c = λ d s.
+    without_fault g.C.Kept.size c.args.self.now d s c.args.place c.requires.later c.args.ps.now c.any_static.result c.any_static.ensures c.if-any_static.false _
+    (subst (λ n. StandsFor g.C.Kept.size n (then_at c.args.place (with_dynamic_procedures (map proc_of c.args.ps.now)) d)) (sym c.in-Ok.ensures.ok)
+    (stands_dynamic g.C.Kept.size c.args.self.now d s c.args.place c.requires.later c.args.ps.now))
+
+pub returns-in-Err-clause-refused : goal.returns-in-Err-clause-refused
+returns-in-Err-clause-refused g c = λ d s.
+    no_fault g.C.Kept.size c.args.self.now d s c.args.place c.requires.later c.args.ps.now c.any_static.result c.any_static.ensures c.if-any_static.false _
