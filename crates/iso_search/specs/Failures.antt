@@ -1,14 +1,14 @@
 -- What is left to do after a failure, as states of the search.
-use Rattle.std.specs.Prelude.{◌≤◌, length}
-use Rattle.pl_model.specs.Resolution.{State, running, failing, resolving, ended, no_more}
+use Rattle.std.specs.Prelude.{◌≡◌, ◌≤◌, ◌∷◌, length}
+use Rattle.pl_model.specs.Resolution.{State, running, failing, resolving, clauses, ended, no_more}
 use Rattle.pl_model.specs.Control.{next_clause}
 use Rattle.term_store.specs.Contents.{Holds}
 use Rattle.iso_search.specs.declared.failure.Back.{Back}
 use Rattle.iso_search.specs.declared.failure.Back.TheVariants.{Exhausted, Run, Fail, Retry}
 use Rattle.iso_search.specs.declared.search.Search.{Search}
 use Rattle.iso_search.specs.Outcomes.{Setting, limits_in, state_in}
-use Rattle.iso_search.specs.Reading.{reads}
-use Rattle.iso_search.specs.Searching.{node_of, state_of}
+use Rattle.iso_search.specs.Reading.{View, reads}
+use Rattle.iso_search.specs.Searching.{choices_of, node_of, state_of}
 
 abbrev pub back_result : Setting → Search → Back → State
 back_result t e Exhausted = state_of t.view e (ended no_more) t.output
@@ -23,3 +23,13 @@ IsBackIn e Exhausted = Unit {0}
 IsBackIn e (Run list) = list ≤ length e.frames.items
 IsBackIn e Fail = Unit {0}
 IsBackIn e (Retry goal generation place next) = Holds e.store goal × (next ≤ length e.frames.items)
+
+-- The clauses that are to be tried were the newest choice point.
+abbrev pub IsTaken : Search → Search → Back → Type 0
+IsTaken e d Exhausted = Unit {0}
+IsTaken e d (Run list) = Unit {0}
+IsTaken e d Fail = Unit {0}
+IsTaken e d (Retry goal generation place next) =
+    (v : View)
+    → choices_of v e
+    ≡ clauses resolving (reads v d.store goal) (v.left (reads v d.store goal) generation place) (node_of v d next) ∷ choices_of v d

@@ -2,7 +2,7 @@
 ghost use Rattle.std.specs.Prelude.{◌≡◌, ◌≤◌, length};
 ghost use Rattle.pl_model.specs.Resolution.{failing};
 ghost use Rattle.pl_model.specs.Control.{gone_back};
-ghost use Rattle.iso_search.specs.Failures.{IsBackIn, back_result};
+ghost use Rattle.iso_search.specs.Failures.{IsBackIn, IsTaken, back_result};
 ghost use Rattle.iso_search.specs.Outcomes.{Setting, limits_in, state_in};
 ghost use Rattle.iso_search.specs.Searching.{IsWhole, choices_of};
 
@@ -34,7 +34,12 @@ impl Search {
         requires { IsWhole self.old }
         ensures whole { IsWhole self.new }
         ensures inside { IsBackIn self.new result }
-        ensures budgets { self.new.budgets ≡ self.old.budgets }
+        ensures taken { IsTaken self.old self.new result }
+        ensures kept { self.new ≡ record self.old {
+          store = self.new.store;
+          frames = self.new.frames;
+          choices = self.new.choices;
+        } }
         ensures step { (t : Setting) → t.doing ≡ failing
             → back_result t self.new result ≡ gone_back (limits_in t self.old) (state_in t self.old) (choices_of t.view self.old) }
     {

@@ -1,4 +1,7 @@
-use Rattle.std.proofs.Common.{ap}
+use Rattle.std.proofs.Common.{◌≡◌, ◌∷◌, ap, subst}
+use Rattle.iso_search.specs.Choices.{choice_at}
+use Rattle.iso_search.specs.Reading.{reads}
+use Rattle.iso_search.specs.Searching.{choices_of, node_of}
 use Rattle.iso_search.specs.declared.search.Search.{Search}
 use Rattle.iso_search.proofs.Resuming.{back_exhausted, back_branch, back_barrier, back_catch, back_clauses}
 use Rattle.iso_search.proofs.search.Search.resume.Goals as goal
@@ -35,3 +38,9 @@ returns-in-Catch-clause-step c t fails =
     let kept = c.go_back.ensures.kept in
     back_catch t c.args.self.now c.go_back.new.self c.in-Some.k.next c.in-Some.k.alternative (c.in-Some.ensures.back t.view)
     (ap (λ (s : Search). s.next) kept) (ap (λ (s : Search). s.inferences) kept) fails c.in-Catch.catcher c.in-Catch.recovery c.in-Catch.is
+
+pub returns-in-Clauses-clause-taken : goal.returns-in-Clauses-clause-taken
+returns-in-Clauses-clause-taken c v =
+    let d = c.go_back.new.self in
+    subst (λ a. choices_of v c.args.self.now ≡ choice_at v (reads v d.store) (node_of v d c.in-Some.k.next) a ∷ choices_of v d) c.in-Clauses.is
+    (c.in-Some.ensures.back v)
