@@ -1,0 +1,2 @@
+pub mod NamedTerms
+pub mod HeldNodes

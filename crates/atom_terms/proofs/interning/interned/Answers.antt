@@ -1,0 +1,24 @@
+use Rattle.std.proofs.Common.{◌∙◌}
+use Rattle.world_api.specs.Texts.{text_of}
+use Rattle.atom_terms.proofs.NamedTerms.{nodes_spelled, stored_means, stored_named}
+use Rattle.atom_terms.proofs.interning.interned.Goals as goal
+
+pub from_nodes-requires : goal.from_nodes-requires
+from_nodes-requires g c =
+    rw c.as_slice.ensures.value
+    (nodes_spelled (text_of (g.A.Atoms.held c.interned_nodes.new.atoms)) c.args.t.now c.in-Ok.all.items (c.in-Ok.ensures.nodes ∙ c.nodes.ensures))
+
+pub returns-in-Ok-from_nodes-clause-term : goal.returns-in-Ok-from_nodes-clause-term
+returns-in-Ok-from_nodes-clause-term g c =
+    stored_means (g.A.Atoms.held c.interned_nodes.new.atoms) c.args.t.now c.in-Ok-from_nodes.term c.in-Ok.all.items
+    (g.met.A.Atoms.fixed_held c.interned_nodes.new.atoms)
+    (c.in-Ok.ensures.nodes ∙ c.nodes.ensures)
+    (rw c.as_slice.ensures.value at c.in-Ok-from_nodes.ensures)
+
+pub returns-in-Ok-from_nodes-clause-named : goal.returns-in-Ok-from_nodes-clause-named
+returns-in-Ok-from_nodes-clause-named g c =
+    stored_named (g.A.Atoms.held c.interned_nodes.new.atoms) c.args.t.now c.in-Ok-from_nodes.term c.in-Ok.all.items
+    (g.met.A.Atoms.fixed_held c.interned_nodes.new.atoms)
+    (c.in-Ok.ensures.nodes ∙ c.nodes.ensures)
+    (rw c.as_slice.ensures.value at c.in-Ok-from_nodes.ensures)
+    c.in-Ok.ensures.named

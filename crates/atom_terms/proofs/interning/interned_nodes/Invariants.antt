@@ -1,0 +1,14 @@
+use Rattle.std.proofs.Common.{◌≡◌, IsSome, take}
+use Rattle.std.specs.List.{All}
+use Rattle.world_api.specs.Texts.{text_of, Holds}
+use Rattle.atom_terms.specs.NamedNodes.{atoms_of, nodes_in}
+use Rattle.atom_terms.proofs.interning.interned_nodes.Given as goal
+
+abbrev pub invariant-loop-node : goal.invariant-loop-node
+invariant-loop-node g l =
+    record {
+      nodes_are : nodes_in (text_of (g.A.Atoms.held l.atoms)) l.all.items ≡ take l.node-index l.from;
+      named : All (λ a. IsSome (g.A.Atoms.held l.atoms a)) (atoms_of l.all.items);
+      holds : Holds (g.A.Atoms.held l.fn.atoms) (g.A.Atoms.held l.atoms);
+      refusals : g.A.Atoms.refusals l.atoms ≡ g.A.Atoms.refusals l.fn.atoms;
+    }
