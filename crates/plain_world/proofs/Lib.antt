@@ -1,0 +1,12 @@
+pub mod Words
+pub mod Snoc
+pub mod Naturality
+pub mod Closed
+pub mod Reading
+pub mod Additions
+pub mod Retrying
+pub mod Visiting
+pub mod Soundness
+pub mod HeadNodes
+pub mod Putting
+pub mod Plain

@@ -1,0 +1,23 @@
+use Rattle.std.proofs.Common.{◌≡◌, refl, sym, subst}
+use Rattle.pl_model.specs.History.{Proc}
+use Rattle.pl_model.specs.FirstArguments.{head_key, head_of}
+use Rattle.atom_api.specs.Names.{Names}
+use Rattle.world_api.specs.Texts.{text_of}
+use Rattle.plain_world.specs.TextReplies.{IsGoalOf}
+use Rattle.plain_world.proofs.Visiting.{is_next, goal_of}
+use Rattle.plain_world.proofs.world.PlainWorld.next.Goals as goal
+
+pub returns-in-Is-clause-visited : goal.returns-in-Is-clause-visited
+returns-in-Is-clause-visited g c =
+    let l = c.args.self.now.journal in
+    let old = text_of (g.A.Atoms.held c.args.atoms.now) in
+    let key = c.in-Ok-spell_key.first in
+    is_next g.T.Kept.term g.T.Kept.key_of old (text_of (g.A.Atoms.held c.read_reply.new.atoms)) c.args.procedure.now c.args.first.now c.args.generation c.args.place l l c.in-Ok-next.found c.in-Is.reply
+    (λ target asked.
+    c.in-Ok-next.ensures target
+    (subst (λ (q : Proc). IsGoalOf q key target) (sym c.in-Ok.ensures.spelled)
+    (goal_of g.T.Kept.term g.T.Kept.key_of old (text_of (g.A.Atoms.held c.read_reply.new.atoms)) c.args.procedure.now c.args.first.now key
+    (subst (λ (m : Names). (t : g.row.T.Denot) → g.T.Kept.key_of t ≡ c.args.first.now → key ≡ head_key (head_of (g.T.Kept.term (text_of m) t))) c.in-Ok.ensures.same c.in-Ok-spell_key.ensures.spelled)
+    target asked)))
+    c.in-Is.ensures.says
+    refl

@@ -1,0 +1,75 @@
+//! Terms that are carried between an engine's atoms and texts.
+ghost use Rattle.std.specs.Prelude.{◌≡◌, ◌++◌, IfOk, IsSome, refl};
+ghost use Rattle.std.specs.List.{All};
+ghost use Rattle.pl_model.specs.FirstArguments.{head_key, head_of};
+ghost use Rattle.world_api.specs.Texts.{text_of, Holds};
+ghost use Rattle.plain_world.specs.Made.{IfMade, made_refusals};
+
+use crate::made::Made;
+use atom_api::Atoms;
+use pl_model::first_argument::FirstArgument;
+use pl_term::{Flat, Memory};
+use std::alloc::Global;
+use world_api::Named;
+
+/// A term over atoms that can be spelled out in texts, and made of texts again.
+pub trait Spelled: Named {
+    /// The term in texts. The only error is want of memory.
+    fn spell<A: Atoms>(&self, alloc: Global, atoms: &mut A) -> Result<Flat, Memory>
+        requires { All (λ a. IsSome (A.held atoms.old a)) (Self.names self.now) }
+        ensures spelled { IfOk result (λ t. t ≡ Self.term (text_of (A.held atoms.old)) self.now) }
+        ensures same { A.held atoms.new ≡ A.held atoms.old }
+        ensures refusals { A.refusals atoms.new ≡ A.refusals atoms.old };
+
+    /// The key of a first argument in texts. The only error is want of memory.
+    fn spell_key<A: Atoms>(
+        key: &Self::Key,
+        alloc: Global,
+        atoms: &mut A,
+    ) -> Result<FirstArgument, Memory>
+        requires { All (λ a. IsSome (A.held atoms.old a)) (Self.key_names key.now) }
+        ensures spelled { IfOk result (λ k. (t : Self) → Self.key_of t ≡ key.now → k ≡ head_key (head_of (Self.term (text_of (A.held atoms.old)) t))) }
+        ensures same { A.held atoms.new ≡ A.held atoms.old }
+        ensures refusals { A.refusals atoms.new ≡ A.refusals atoms.old };
+
+    /// The term that stands for this one in texts, by the atoms.
+    fn read<A: Atoms>(flat: &Flat, alloc: Global, atoms: &mut A) -> Made<Self>
+        ensures read { IfMade result (λ t. Self.term (text_of (A.held atoms.new)) t ≡ flat.now) }
+        ensures names { IfMade result (λ t. All (λ a. IsSome (A.held atoms.new a)) (Self.names t)) }
+        ensures holds { Holds (A.held atoms.old) (A.held atoms.new) }
+        ensures refusals { A.refusals atoms.new ≡ A.refusals atoms.old ++ made_refusals result };
+}
+
+/// The same key once more. The only error is want of memory.
+fn copied(alloc: Global, key: &FirstArgument) -> Result<FirstArgument, Memory>
+    ensures { IfOk result (λ k. k ≡ key.now) }
+{
+    match key {
+        FirstArgument::Any => Ok(FirstArgument::Any),
+        FirstArgument::Int(i) => Ok(FirstArgument::Int(*i)),
+        FirstArgument::Atom(a) => Ok(FirstArgument::Atom(a.copy(alloc)?)),
+        FirstArgument::Compound(f, k) => Ok(FirstArgument::Compound(f.copy(alloc)?, *k)),
+    }
+}
+
+/// A flat term has its own texts.
+impl Spelled for Flat {
+    fn spell<A: Atoms>(&self, alloc: Global, _atoms: &mut A) -> Result<Flat, Memory> {
+        self.copy(alloc)
+    }
+
+    fn spell_key<A: Atoms>(
+        key: &FirstArgument,
+        alloc: Global,
+        _atoms: &mut A,
+    ) -> Result<FirstArgument, Memory> {
+        copied(alloc, key)
+    }
+
+    fn read<A: Atoms>(flat: &Flat, alloc: Global, _atoms: &mut A) -> Made<Flat> {
+        match flat.copy(alloc) {
+            Ok(term) => Made::Is(term),
+            Err(Memory) => Made::Memory,
+        }
+    }
+}

@@ -1,0 +1,19 @@
+//! Replies in texts.
+use op_table::OpTable;
+use pl_model::grammar::Quotes;
+use pl_term::Flat;
+use world_api::Found;
+
+/// What the shared state answers, in texts alone.
+#[derive(Drop)]
+pub enum TextReply {
+    /// The operators and the flag `double_quotes`.
+    Standing { operators: OpTable, quotes: Quotes },
+    /// The first clause of a list, or that it is empty.
+    Clauses(Option<Found<Flat>>),
+    Done,
+    /// The clause was erased before.
+    Gone,
+    /// The request is refused with this error term (ISO 7.12.2).
+    Refused(Flat),
+}

@@ -1,0 +1,173 @@
+//! The visits, one by one.
+ghost use Rattle.std.specs.Prelude.{◌≡◌, ◌++◌, IfOk, IsSome, Some};
+ghost use Rattle.std.specs.List.{All};
+ghost use Rattle.pl_model.specs.Shown.{proc_of};
+ghost use Rattle.world_api.specs.Texts.{text_of, Holds};
+ghost use Rattle.world_api.specs.Visits.{proc_named};
+ghost use Rattle.world_api.specs.Answers.{IsPlace, answer_names, refusals_by};
+ghost use Rattle.world_api.specs.declared.visit.Visit.TheVariants.{Look, ReadOperators, Call, Next};
+ghost use Rattle.plain_world.specs.Entries.{told_of};
+ghost use Rattle.plain_world.specs.Handed.{Handed, VisitedNow, Noted, adding_visit};
+
+use crate::adding::Adding;
+use crate::handing::read_reply;
+use crate::made::Made;
+use crate::spelled::Spelled;
+use crate::text_reply::TextReply;
+use crate::world::PlainWorld;
+use atom_api::{Atoms, TextBuf};
+use pl_model::kept::Kept;
+use pl_model::shows::Proc;
+use pl_term::Memory;
+use std::alloc::Global;
+use world_api::{Answer, Procedure, Reply};
+
+/// The predicate in texts. The only error is want of memory.
+fn spelled_predicate<A: Atoms>(alloc: Global, p: &Procedure, atoms: &mut A) -> Result<Proc, Memory>
+    requires { IsSome (A.held atoms.old p.now.name) }
+    ensures spelled { IfOk result (λ q. proc_of q ≡ proc_named (text_of (A.held atoms.old)) p.now) }
+    ensures same { A.held atoms.new ≡ A.held atoms.old }
+    ensures refusals { A.refusals atoms.new ≡ A.refusals atoms.old }
+{
+    let mut buf = TextBuf::new();
+    atoms.text(p.name, &mut buf);
+    let name = buf.to_text(alloc)?;
+    Ok(Proc {
+        name,
+        arity: p.arity,
+    })
+}
+
+impl<T: Spelled, A: Atoms> PlainWorld<T, A> {
+    /// Hands out a reply, and notes the visit.
+    fn hand_out(&mut self, reply: TextReply, atoms: &mut A) -> Answer<T>
+        ensures handed { Handed T.term (text_of (A.held atoms.new)) reply result self.old.journal self.new.journal }
+        ensures names { All (λ a. IsSome (A.held atoms.new a)) (answer_names T.names result) }
+        ensures holds { Holds (A.held atoms.old) (A.held atoms.new) }
+        ensures refusals { A.refusals atoms.new ≡ A.refusals atoms.old ++ refusals_by result }
+    {
+        match read_reply(self.journal.alloc(), reply, atoms) {
+            Made::Is(reply) => self.noted(reply),
+            Made::Full(pass) => Answer::NeedsAtoms(pass),
+            Made::Again(cause) => Answer::Retry(cause),
+            Made::Worn(word) => Answer::Worn(word),
+            Made::Memory => Answer::Memory,
+        }
+    }
+
+    /// Notes the visit that has this reply.
+    fn noted(&mut self, reply: Reply<T>) -> Answer<T>
+        ensures { Noted reply result self.old.journal self.new.journal }
+    {
+        match self.journal.note() {
+            Ok(generation) => Answer::Served { reply, generation },
+            Err(Memory) => Answer::Memory,
+        }
+    }
+
+    /// The operators and the flag `double_quotes`, where an item is taken up.
+    pub(crate) fn look(&mut self, atoms: &mut A) -> Answer<T>
+        ensures visited { VisitedNow T.term T.key_of (text_of (A.held atoms.old)) (text_of (A.held atoms.new)) Look result self.old.journal self.new.journal }
+        ensures names { All (λ a. IsSome (A.held atoms.new a)) (answer_names T.names result) }
+        ensures holds { Holds (A.held atoms.old) (A.held atoms.new) }
+        ensures refusals { A.refusals atoms.new ≡ A.refusals atoms.old ++ refusals_by result }
+    {
+        match self.journal.standing() {
+            Ok(reply) => self.hand_out(reply, atoms),
+            Err(Memory) => Answer::Memory,
+        }
+    }
+
+    /// The same for the writing of terms and for current_op/3.
+    pub(crate) fn read_operators(&mut self, atoms: &mut A) -> Answer<T>
+        ensures visited { VisitedNow T.term T.key_of (text_of (A.held atoms.old)) (text_of (A.held atoms.new)) ReadOperators result self.old.journal self.new.journal }
+        ensures names { All (λ a. IsSome (A.held atoms.new a)) (answer_names T.names result) }
+        ensures holds { Holds (A.held atoms.old) (A.held atoms.new) }
+        ensures refusals { A.refusals atoms.new ≡ A.refusals atoms.old ++ refusals_by result }
+    {
+        match self.journal.standing() {
+            Ok(reply) => self.hand_out(reply, atoms),
+            Err(Memory) => Answer::Memory,
+        }
+    }
+
+    /// The first of the clauses for a goal.
+    pub(crate) fn call(&mut self, procedure: &Procedure, first: &T::Key, atoms: &mut A) -> Answer<T>
+        requires name { IsSome (A.held atoms.old procedure.now.name) }
+        requires key { All (λ a. IsSome (A.held atoms.old a)) (T.key_names first.now) }
+        ensures visited { VisitedNow T.term T.key_of (text_of (A.held atoms.old)) (text_of (A.held atoms.new)) (Call procedure.now first.now) result self.old.journal self.new.journal }
+        ensures names { All (λ a. IsSome (A.held atoms.new a)) (answer_names T.names result) }
+        ensures holds { Holds (A.held atoms.old) (A.held atoms.new) }
+        ensures refusals { A.refusals atoms.new ≡ A.refusals atoms.old ++ refusals_by result }
+    {
+        let alloc = self.journal.alloc();
+        let Ok(p) = spelled_predicate(alloc, procedure, atoms) else {
+            return Answer::Memory;
+        };
+        let Ok(first) = T::spell_key(first, alloc, atoms) else {
+            return Answer::Memory;
+        };
+        match self.journal.call(&p, &first) {
+            Ok(reply) => self.hand_out(reply, atoms),
+            Err(Memory) => Answer::Memory,
+        }
+    }
+
+    /// The next of the clauses for a goal.
+    pub(crate) fn next(
+        &mut self,
+        procedure: &Procedure,
+        first: &T::Key,
+        generation: u64,
+        place: u64,
+        atoms: &mut A,
+    ) -> Answer<T>
+        requires name { IsSome (A.held atoms.old procedure.now.name) }
+        requires key { All (λ a. IsSome (A.held atoms.old a)) (T.key_names first.now) }
+        requires among { IsPlace T.term T.key_of (text_of (A.held atoms.old)) procedure.now first.now generation place (told_of self.old.journal) }
+        ensures visited { VisitedNow T.term T.key_of (text_of (A.held atoms.old)) (text_of (A.held atoms.new)) (Next procedure.now first.now generation place) result self.old.journal self.new.journal }
+        ensures names { All (λ a. IsSome (A.held atoms.new a)) (answer_names T.names result) }
+        ensures holds { Holds (A.held atoms.old) (A.held atoms.new) }
+        ensures refusals { A.refusals atoms.new ≡ A.refusals atoms.old ++ refusals_by result }
+    {
+        let alloc = self.journal.alloc();
+        let Ok(p) = spelled_predicate(alloc, procedure, atoms) else {
+            return Answer::Memory;
+        };
+        let Ok(first) = T::spell_key(first, alloc, atoms) else {
+            return Answer::Memory;
+        };
+        let Ok(found) = self.journal.next(&p, &first, generation, place) else {
+            return Answer::Memory;
+        };
+        match read_reply(alloc, TextReply::Clauses(found), atoms) {
+            Made::Is(reply) => Answer::Served { reply, generation },
+            Made::Full(pass) => Answer::NeedsAtoms(pass),
+            Made::Again(cause) => Answer::Retry(cause),
+            Made::Worn(word) => Answer::Worn(word),
+            Made::Memory => Answer::Memory,
+        }
+    }
+
+    /// A clause that is added.
+    pub(crate) fn add(&mut self, clause: &T, by: Adding, atoms: &mut A) -> Answer<T>
+        requires { All (λ a. IsSome (A.held atoms.old a)) (T.names clause.now) }
+        ensures visited { VisitedNow T.term T.key_of (text_of (A.held atoms.old)) (text_of (A.held atoms.new)) (adding_visit by clause.now) result self.old.journal self.new.journal }
+        ensures names { All (λ a. IsSome (A.held atoms.new a)) (answer_names T.names result) }
+        ensures holds { Holds (A.held atoms.old) (A.held atoms.new) }
+        ensures refusals { A.refusals atoms.new ≡ A.refusals atoms.old ++ refusals_by result }
+    {
+        let Ok(clause) = clause.spell(self.journal.alloc(), atoms) else {
+            return Answer::Memory;
+        };
+        let generation = self.journal.generation();
+        match self.journal.add(clause, by) {
+            Ok(None) => Answer::Served {
+                reply: Reply::Done,
+                generation,
+            },
+            Ok(Some(error)) => self.hand_out(TextReply::Refused(error), atoms),
+            Err(Memory) => Answer::Memory,
+        }
+    }
+}
