@@ -1,0 +1,11 @@
+pub mod Asking
+pub mod Copies
+pub mod Following
+pub mod Later
+pub mod Listing
+pub mod Looks
+pub mod OverAtoms
+pub mod PlacesApart
+pub mod Readings
+pub mod Resolving
+pub mod Serving
