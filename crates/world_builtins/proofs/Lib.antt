@@ -1,3 +1,5 @@
 mod Spelled
 mod Replies
 mod Single
+mod Sums
+mod Stilled

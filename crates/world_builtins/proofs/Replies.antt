@@ -74,14 +74,15 @@ served_stands term key old_text new_text r g old before new v =
     in says_standing term new_text r at.operators at.flags.double_quotes
     (subst (Says term new_text r) (reads_standing old.engine old.goals before s.0 v.1.update s.1) s.2)
 
--- A text that was written under them.
+-- The text of a term that was written under them.
 pub text_written : {T K : Type 0} (term : (ℕ → Chars) → T → Tree) (key : T → K) (old_text new_text : ℕ → Chars) (r : Reply T) (g : ℕ) (old : Told) (before : History) (new : Told)
-    (text : OperatorTable → Chars) (ops : OperatorTable) (out_old out_new : List ℕ)
+    (text : Tree → OperatorTable → Chars) (ops : OperatorTable) (t u : Tree) (out_old out_new : List ℕ)
     → Visited term key old_text new_text ReadOperators (Served r g) old before new
     → Stands r ops
-    → out_new ≡ out_old ++ encode_utf8_all (text ops)
-    → IsWritten text old new out_old out_new
-text_written term key old_text new_text r g old before new text ops out_old out_new v stands out =
+    → out_new ≡ out_old ++ encode_utf8_all (text t ops)
+    → t ≡ u
+    → IsWritten (text u) old new out_old out_new
+text_written term key old_text new_text r g old before new text ops t u out_old out_new v stands out same =
     let s = v.1.serves read_operators refl
     in let q : (quotes : Quotes) × (s.0 ≡ standing ops quotes) = stands_said term new_text r ops s.0 stands s.2
     in record {
@@ -92,5 +93,5 @@ text_written term key old_text new_text r g old before new text ops out_old out_
       update = v.1.update;
       served = s.1 ∙ ap (λ x. answers x v.1.update) q.1;
       told = v.1.told;
-      out = out;
+      out = out ∙ ap (λ x. out_old ++ encode_utf8_all (text x ops)) same;
     }

@@ -5,3 +5,4 @@ pub mod Styles
 pub mod Characters
 pub mod Writing
 pub mod Operators
+pub mod Still

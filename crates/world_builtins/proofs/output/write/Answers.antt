@@ -1,5 +1,4 @@
-use Rattle.std.proofs.Common.{◌++◌, refl, ap, ◌∙◌}
-use Rattle.std.specs.Prelude.{encode_utf8_all}
+use Rattle.std.proofs.Common.{refl}
 use Rattle.pl_model.specs.Requests.{read_operators}
 use Rattle.world_api.specs.Texts.{text_of}
 use Rattle.world_builtins.specs.Spelling.{reads}
@@ -35,14 +34,16 @@ returns-in-Served-clause-writes g c =
     (g.W.World.told c.args.world.now)
     v.0
     (g.W.World.told c.visit.new.self)
-    (text_by c.args.style (reads (g.W.A.Atoms.held c.args.atoms.now) c.args.store.now c.args.term))
+    (text_by c.args.style)
     c.operators_of-operators.result
+    c.in_ok-flat.flat
+    (reads (g.W.A.Atoms.held c.args.atoms.now) c.args.store.now c.args.term)
     c.args.out.now.items
     c.put_term.new.out.items
     v.1
     c.operators_of-operators.ensures
-    (c.in_ok-put_term-in-Served.ensures
-    ∙ ap (λ t. c.args.out.now.items ++ encode_utf8_all (text_by c.args.style t c.operators_of-operators.result)) c.in_ok-flat.ensures.term)
+    c.in_ok-put_term-in-Served.ensures
+    c.in_ok-flat.ensures.term
 
 pub unreachable-requires : goal.unreachable-requires
 unreachable-requires g c =
