@@ -6,7 +6,7 @@ use Rattle.std.specs.declared.option.Option.{Option}
 use Rattle.std.specs.declared.option.Option.TheVariants.{None}
 use Rattle.std.specs.declared.result.Result.{Result}
 use Rattle.std.specs.declared.result.Result.TheVariants.{Ok, Err}
-use Rattle.std.specs.Result.{OnOk, OnErr}
+use Rattle.std.specs.Result.{OnOk, OnErr, IfErr}
 use Rattle.std.proofs.lemmas.List.Elements.{All-cons, All-head, All-tail, All-push, All-weaker, All-map}
 use Rattle.gen_core.specs.declared.dated_clause.DatedClause.{DatedClause}
 use Rattle.gen_core.specs.Visible.{is_live, fresh, erased_by, erased_all, DropsOne}
@@ -16,6 +16,10 @@ use Rattle.gen_core.proofs.AllErased.{place-all}
 pub by_outcome : {T E : Type 0} (r : Result T E) (P A B : Type 0) → OnOk r A → OnErr r B → (A → P) → (B → P) → P
 by_outcome (Ok x) P A B a b f h = f a
 by_outcome (Err e) P A B a b f h = h b
+
+pub by_result : {T E : Type 0} (r : Result T E) (P A : Type 0) (B : E → Type 0) → OnOk r A → IfErr r B → (A → P) → ((e : E) → B e → P) → P
+by_result (Ok x) P A B a b f h = f a
+by_result (Err e) P A B a b f h = h e b
 
 pub by_option : {T : Type 0} (r : Option T) (P : Type 0) (A : T → Type 0) (B : Type 0) → IfSome r A → IfNone r B → ((x : T) → A x → P) → (B → P) → P
 by_option (Some x) P A B a b f h = f x a
