@@ -10,3 +10,4 @@ pub mod Soundness
 pub mod HeadNodes
 pub mod Putting
 pub mod Plain
+pub mod KeySpelling

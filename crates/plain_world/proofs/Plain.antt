@@ -1,5 +1,5 @@
 -- No update of the history starts or ends an engine.
-use Rattle.std.proofs.Common.{◌≡◌, suc, List, [], ◌∷◌, map, false, refl, arith}
+use Rattle.std.proofs.Common.{zero, ◌≡◌, suc, List, [], ◌∷◌, map, false, refl, arith}
 use Rattle.std.specs.List.{All}
 use Rattle.pl_model.specs.Progress.{AllPlain}
 use Rattle.world_api.specs.Told.{has_ended}
@@ -30,3 +30,10 @@ all_plain (SetsOperators os ∷ es) = (refl, tt, all_plain es)
 -- What is so of a list is so of its tail.
 pub all_tail : {X : Type 0} (P : X → Type 0) (x : X) (xs : List X) → All P (x ∷ xs) → All P xs
 all_tail P x xs all = λ k d within. all (suc k) d (omega (arith, within))
+
+pub all_none : {X : Type 0} (P : X → Type 0) → All P []
+all_none P = λ k d within. absurd (omega (arith, within))
+
+pub all_one : {X : Type 0} (P : X → Type 0) (x : X) → P x → All P (x ∷ [])
+all_one P x is zero d within = is
+all_one P x is (suc k) d within = absurd (omega (arith, within))

@@ -4,5 +4,6 @@ pub mod Adding
 pub mod Sound
 pub mod Made
 pub mod Heads
+pub mod KeyTexts
 pub mod TextReplies
 pub mod Handed

@@ -10,6 +10,7 @@ mod heads;
 mod journal;
 mod made;
 mod spelled;
+mod stored_terms;
 mod text_reply;
 mod visits;
 mod world;

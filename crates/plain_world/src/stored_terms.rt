@@ -1,0 +1,97 @@
+//! Terms over a store's atoms, carried between the atoms and texts.
+ghost use Rattle.std.specs.Prelude.{◌≡◌, zero, IfOk, IsSome, true};
+ghost use Rattle.std.specs.List.{All};
+ghost use Rattle.pl_term.specs.Variables.{rename};
+ghost use Rattle.term_store.specs.ArgumentKeys.{key_atoms};
+ghost use Rattle.world_api.specs.Texts.{text_of};
+ghost use Rattle.plain_world.specs.KeyTexts.{key_in};
+
+use crate::made::Made;
+use crate::spelled::Spelled;
+use atom_api::{Atom, Atoms, TextBuf};
+use atom_terms::{NoTerm, interned, with_texts};
+use pl_model::first_argument::FirstArgument;
+use pl_term::{Flat, Memory, Text};
+use std::alloc::Global;
+use term_store::{ArgumentKey, Stored};
+
+/// The text of the atom of a slot, which is held. The only error is want of memory.
+fn atom_text<A: Atoms>(alloc: Global, slot: u32, atoms: &mut A) -> Result<Text, Memory>
+    requires { IsSome (A.held atoms.old slot) }
+    ensures text { IfOk result (λ t. t ≡ text_of (A.held atoms.old) slot) }
+    ensures same { A.held atoms.new ≡ A.held atoms.old }
+    ensures refusals { A.refusals atoms.new ≡ A.refusals atoms.old }
+{
+    let mut buf = TextBuf::new();
+    atoms.text(Atom::at(slot), &mut buf);
+    buf.to_text(alloc)
+}
+
+/// The key with the text of its atom, which is held. The only error is want of memory.
+fn key_text<A: Atoms>(
+    alloc: Global,
+    key: &ArgumentKey,
+    atoms: &mut A,
+) -> Result<FirstArgument, Memory>
+    requires { All (λ a. IsSome (A.held atoms.old a)) (key_atoms key.now) }
+    ensures text { IfOk result (λ k. k ≡ key_in (text_of (A.held atoms.old)) key.now) }
+    ensures same { A.held atoms.new ≡ A.held atoms.old }
+    ensures refusals { A.refusals atoms.new ≡ A.refusals atoms.old }
+{
+    match key {
+        ArgumentKey::Any => Ok(FirstArgument::Any),
+        ArgumentKey::Int(i) => Ok(FirstArgument::Int(*i)),
+        ArgumentKey::Atom(slot) => {
+            let name = atom_text(alloc, *slot, atoms)?;
+            Ok(FirstArgument::Atom(name))
+        }
+        ArgumentKey::Compound(slot, arity) => {
+            let name = atom_text(alloc, *slot, atoms)?;
+            Ok(FirstArgument::Compound(name, *arity as u64))
+        }
+    }
+}
+
+/// Whether the variables of the term are numbered from 0 on in the order in which they first occur, as those of each term
+/// that was kept are. It answers false where memory is wanting.
+fn is_numbered(alloc: Global, flat: &Flat) -> bool
+    ensures { result ≡ true → rename zero flat.now ≡ flat.now }
+{
+    let Ok(met) = flat.variables(alloc) else {
+        return false;
+    };
+    let _count = met.len();
+    match flat.rename(alloc, 0) {
+        Ok(renamed) => renamed.0.same(flat),
+        Err(Memory) => false,
+    }
+}
+
+/// A stored term is carried by the texts of its atoms.
+impl Spelled for Stored {
+    fn spell<A: Atoms>(&self, alloc: Global, atoms: &mut A) -> Result<Flat, Memory> {
+        with_texts(alloc, self, atoms)
+    }
+
+    fn spell_key<A: Atoms>(
+        key: &ArgumentKey,
+        alloc: Global,
+        atoms: &mut A,
+    ) -> Result<FirstArgument, Memory> {
+        key_text(alloc, key, atoms)
+    }
+
+    fn read<A: Atoms>(flat: &Flat, alloc: Global, atoms: &mut A) -> Made<Stored> {
+        if !is_numbered(alloc, flat) {
+            return Made::Memory;
+        }
+        match interned(alloc, flat, atoms) {
+            Ok(term) => Made::Is(term),
+            Err(NoTerm::Full(pass)) => Made::Full(pass),
+            Err(NoTerm::Again(cause)) => Made::Again(cause),
+            Err(NoTerm::TooLong) => Made::Memory,
+            Err(NoTerm::Worn(word)) => Made::Worn(word),
+            Err(NoTerm::Memory) => Made::Memory,
+        }
+    }
+}
