@@ -99,7 +99,7 @@ call_listed n u h goal f cs fixed at is front named v from =
         → IsLeft v goal (length h) x ds
     go None ds which first = tt
     go (Some x) [] which first = absurd first
-    go (Some x) (c ∷ ds) (inl whole) first =
+    go (Some x) (c ∷ ds) (inl whole) first = λ more.
         left_from n u h (length h) x.place goal at (omega arith) v from
         ∙ ap (λ p. behind p (clause_list u.goals h (length h) goal)) first.place
         ∙ behind_first c ds (clause_list u.goals h (length h) goal) (sym whole)
@@ -136,7 +136,7 @@ next_listed n u h g place goal f fixed at within front named v from =
         → IsLeft v goal g x ds
     go None ds is first = tt
     go (Some x) [] is first = absurd first
-    go (Some x) (c ∷ ds) is first =
+    go (Some x) (c ∷ ds) is first = λ more.
         left_from n u h g x.place goal at within v from
         ∙ ap (λ p. behind p (clause_list u.goals h g goal)) first.place
         ∙ left_behind u.goals h g goal place c ds is

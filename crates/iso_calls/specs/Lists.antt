@@ -16,10 +16,10 @@ abbrev pub rest_of : List (Stored Clause) → List (Stored Clause)
 rest_of [] = []
 rest_of (c ∷ cs) = cs
 
--- Those behind the first one are what is left behind its place.
+-- Where others follow the first one, they are what is left behind its place.
 abbrev pub IsLeft : View → Tree → ℕ → Option (Found Tree) → List (Stored Clause) → Type 0
 IsLeft v goal g None cs = Unit {0}
-IsLeft v goal g (Some f) cs = v.left goal g f.place ≡ rest_of cs
+IsLeft v goal g (Some f) cs = f.more ≡ true → v.left goal g f.place ≡ rest_of cs
 
 -- The clauses of a list for the goal at the generation, of which the first was found.
 pub record IsListed (v : View) (goal : Tree) (g : ℕ) (f : Option (Found Tree)) (cs : List (Stored Clause)) : Type 0 where
