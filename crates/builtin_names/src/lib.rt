@@ -4,6 +4,8 @@
 
 mod names;
 mod predicates;
+#[cfg(test)]
+mod tests;
 
 pub use names::predicate_of;
 pub use predicates::Pred;
