@@ -1,5 +1,9 @@
 -- No update of the history starts or ends an engine.
-use Rattle.std.proofs.Common.{zero, ◌≡◌, suc, List, [], ◌∷◌, map, false, refl, arith}
+use Rattle.std.proofs.Common.{zero, ◌≡◌, ℕ, suc, List, [], ◌∷◌, map, Some, IsSome, false, cond, refl, sym, ap, subst, arith}
+use Rattle.std.specs.Option.{is_some}
+use Rattle.std.proofs.lemmas.Bool.Decides.{Decides-eqb}
+use Rattle.pl_term.specs.Tree.{Chars}
+use Rattle.atom_api.specs.Names.{Names, with_name}
 use Rattle.std.specs.List.{All}
 use Rattle.pl_model.specs.Progress.{AllPlain}
 use Rattle.world_api.specs.Told.{has_ended}
@@ -37,3 +41,8 @@ all_none P = λ k d within. absurd (omega (arith, within))
 pub all_one : {X : Type 0} (P : X → Type 0) (x : X) → P x → All P (x ∷ [])
 all_one P x is zero d within = is
 all_one P x is (suc k) d within = absurd (omega (arith, within))
+
+-- An atom that was given a text is held.
+pub is_held : (m n : Names) (t : Chars) (a : ℕ) → n ≡ with_name m a t → IsSome (n a)
+is_held m n t a e =
+    subst (λ (k : Names). IsSome (k a)) (sym e) (ap (λ b. is_some (cond b (Some t) (m a))) ((Decides-eqb a a).1 refl))

@@ -11,6 +11,8 @@ mod journal;
 mod made;
 mod spelled;
 mod stored_terms;
+#[cfg(test)]
+mod tests;
 mod text_reply;
 mod visits;
 mod world;
