@@ -1,0 +1,20 @@
+use Rattle.std.proofs.Common.{sym, ◌∙◌}
+use Rattle.first_script.specs.declared.stage.Stage.TheVariants.{Items}
+use Rattle.first_script.proofs.StepLaws.{report_goes, report_halts, report_failed}
+use Rattle.first_script.proofs.reports.report_under.Goals as goal
+
+pub returns-in-None-clause-moved : goal.returns-in-None-clause-moved
+returns-in-None-clause-moved c term t u quotes l =
+    report_goes term c.args.consult.now c.args.place c.args.how c.args.operators.now quotes t u c.args.text.now.items c.report.new.out.items l
+    (sym c.status-halted.ensures ∙ c.in-None.is)
+    (rw c.written.ensures at c.in-Ok.ensures)
+
+pub returns-in-Ok-clause-moved : goal.returns-in-Ok-clause-moved
+returns-in-Ok-clause-moved c term t u quotes l =
+    report_halts term c.args.consult.now c.args.place c.args.how c.args.operators.now quotes t u c.args.text.now.items c.report.new.out.items c.in-Some.status l
+    (sym c.status-halted.ensures ∙ c.in-Some.is)
+    (rw c.written.ensures at c.in-Ok.ensures)
+
+pub returns-clause-moved : goal.returns-clause-moved
+returns-clause-moved c term t u quotes l =
+    report_failed term c.args.consult.now c.args.place c.args.how c.args.operators.now quotes t u c.args.text.now.items c.report.new.out.items Items l

@@ -1,0 +1,192 @@
+-- What a step of the script is of an execution.
+use Rattle.std.specs.Prelude.{◌≡◌, ℕ, zero, List, [], ◌∷◌, ◌++◌, length, Option, Some, None, true}
+use Rattle.pl_term.specs.Tree.{Tree}
+use Rattle.pl_term.specs.Variables.{rename}
+use Rattle.pl_model.specs.declared.grammar.Quotes.{Quotes}
+use Rattle.pl_model.specs.OperatorTable.{OperatorTable}
+use Rattle.pl_model.specs.Requests.{look, standing}
+use Rattle.pl_model.specs.Service.{answers}
+use Rattle.pl_model.specs.History.{Kind, History}
+use Rattle.pl_model.specs.Resolution.{Ending, solved, no_more, threw, exited, halted}
+use Rattle.pl_model.specs.Control.{start}
+use Rattle.pl_model.specs.Execution.{Job, directive_limits, Activity, adding, directing, reporting, initializing, reading, over, Execution}
+use Rattle.pl_model.specs.Progress.{entry_by, served_now}
+use Rattle.pl_consult.specs.declared.consult.Place.{Place}
+use Rattle.pl_consult.specs.declared.consult.Place.TheVariants.{Item as AtItem, Initialization}
+use Rattle.pl_consult.specs.declared.consult.Consult.{Consult}
+use Rattle.pl_consult.specs.declared.consult.Taken.{Taken}
+use Rattle.pl_consult.specs.declared.consult.Taken.TheVariants.{Clause as ClauseTaken, Directive as DirectiveTaken, Passed}
+use Rattle.pl_consult.specs.Checks.{kept_clause}
+use Rattle.pl_consult.specs.Consults.{rest_of, activity_of, Stands}
+use Rattle.pl_report.specs.declared.parts.How.{How as Written}
+use Rattle.pl_report.specs.declared.parts.How.TheVariants as written
+use Rattle.atom_words.specs.declared.view.Refusal.{Refusal}
+use Rattle.world_api.specs.declared.how.How.{How}
+use Rattle.world_api.specs.declared.how.How.TheVariants.{Solved, False, Threw, Exited, Halted, AtomSpace}
+use Rattle.world_api.specs.declared.script.Next.{Next}
+use Rattle.world_api.specs.declared.script.Next.TheVariants.{Item, Done, Memory}
+use Rattle.world_api.specs.declared.reply.Reply.{Reply}
+use Rattle.world_api.specs.declared.reply.Reply.TheVariants.{Standing as ReplyStanding}
+use Rattle.world_api.specs.Told.{Told, Follows}
+use Rattle.world_api.specs.Answers.{seen_as}
+use Rattle.world_api.specs.Courses.{Part, of_directive}
+use Rattle.world_api.specs.Scripts.{Comes, next_refusals, next_names}
+use Rattle.first_script.specs.declared.stage.Stage.{Stage}
+use Rattle.first_script.specs.declared.stage.Stage.TheVariants.{Items, Clause, Directive, AtDirective, Report, Words, Over}
+use Rattle.first_script.specs.declared.stage.Step.{Step}
+use Rattle.first_script.specs.declared.stage.Step.TheVariants.{Goes, Gives}
+use Rattle.first_script.specs.declared.looks.Look.{Look}
+use Rattle.first_script.specs.declared.looks.Look.TheVariants.{Standing, Stays}
+
+-- The answers by which a script stays where it is.
+abbrev pub IsStay : {T : Type 0} → Next T → Type 0
+IsStay (Item t d) = ⊥
+IsStay (Done h) = ⊥
+IsStay next = Unit {0}
+
+-- A look behind all entries found these operators and this flag.
+pub record Looked (t u : Told) (ops : OperatorTable) (quotes : Quotes) : Type 0 where
+  pub before : History
+  pub update : Option Kind
+  pub follows : Follows t.engine t.history before
+  pub served : served_now t.engine t.goals before look ≡ answers (standing ops quotes) update
+  pub told : u ≡ seen_as t (before ++ entry_by t.engine update) (t.gens ++ length before ∷ [])
+
+abbrev pub LooksSo : Look → Told → Told → Type 0
+LooksSo (Standing ops quotes) t u = Looked t u ops quotes
+LooksSo (Stays next) t u = IsStay next × (u ≡ t)
+
+-- What a reply to a look tells.
+abbrev pub IsStanding : Reply Tree → Type 0
+IsStanding (ReplyStanding ops quotes) = Unit {0}
+IsStanding reply = ⊥
+
+abbrev pub IsLook : Reply Tree → Look → Type 0
+IsLook (ReplyStanding ops quotes) l = l ≡ Standing ops quotes
+IsLook reply l = ⊥
+
+abbrev pub look_refusals : Look → List Refusal
+look_refusals (Standing ops quotes) = []
+look_refusals (Stays next) = next_refusals next
+
+abbrev pub step_refusals : Step → List Refusal
+step_refusals Goes = []
+step_refusals (Gives next) = next_refusals next
+
+abbrev pub step_names : (Tree → List ℕ) → Step → List ℕ
+step_names names Goes = []
+step_names names (Gives next) = next_names names next
+
+-- The byte behind an item.
+abbrev pub next_of : Place → ℕ
+next_of (AtItem next) = next
+next_of Initialization = zero
+
+-- How a search ended, by what is told of it. Want of atoms is no end of a search.
+abbrev pub ending_of : How Tree → Ending
+ending_of Solved = solved
+ending_of False = no_more
+ending_of (Threw t) = threw t
+ending_of (Exited t) = exited t
+ending_of (Halted n) = halted n
+ending_of (AtomSpace r) = solved
+
+-- What is written of an end, and the status of one by halt/1.
+abbrev pub written_of : How Tree → Written
+written_of Solved = written.Solved
+written_of False = written.False
+written_of (Threw t) = written.Threw t
+written_of (Exited t) = written.Exited
+written_of (Halted n) = written.Halted n
+written_of (AtomSpace r) = written.AtomSpace
+
+abbrev pub status_of : How Tree → Option ℕ
+status_of (Halted n) = Some n
+status_of how = None
+
+-- What the execution does. Where an item is at hand, its search is put into it.
+abbrev pub activity_in : Job → Place → Stage → Activity
+activity_in job p Items = activity_of p
+activity_in job p (Clause t place ops) = adding ops place (next_of p) (kept_clause t)
+activity_in job p (Directive goal place) = directing place (rest_of p) (start (directive_limits job) goal)
+activity_in job p (AtDirective place) = initializing
+activity_in job p (Report place how) = reporting place (rest_of p) (ending_of how)
+activity_in job p Words = reading
+activity_in job p Over = initializing
+
+abbrev pub IsItem : Place → Type 0
+IsItem (AtItem next) = Unit {0}
+IsItem Initialization = ⊥
+
+abbrev pub IsTold : How Tree → Type 0
+IsTold (AtomSpace r) = ⊥
+IsTold how = Unit {0}
+
+-- A clause is one of the file and is numbered from 0, and what ended did not end for want of atoms.
+abbrev pub Fits : Stage → Place → Type 0
+Fits (Clause t place ops) p = IsItem p × (rename zero t ≡ t)
+Fits (Report place how) p = IsTold how
+Fits stage p = Unit {0}
+
+-- It is this execution, with the lines that are written of the file.
+pub record At (job : Job) (c : Consult) (stage : Stage) (x : Execution) (out : List ℕ) : Type 0 where
+  pub stands : Stands c job x out
+  pub does : x.activity ≡ activity_in job c.place stage
+  pub fits : Fits stage c.place
+
+-- Of the goals of the command nothing has changed.
+pub record SameGoals (x y : Execution) : Type 0 where
+  pub words : y.words ≡ x.words
+  pub refusals : y.refusals ≡ x.refusals
+  pub output : y.output ≡ x.output
+
+-- How far the script has come with an item that was read under these operators.
+abbrev pub stage_by : Taken → OperatorTable → Stage
+stage_by (ClauseTaken t place) ops = Clause t place ops
+stage_by (DirectiveTaken goal place) ops = Directive goal place
+stage_by Passed ops = Items
+
+-- And with the next goal of initialization/1.
+abbrev pub stage_for : Option (ℕ × Tree) → Stage
+stage_for None = Words
+stage_for (Some g) = Directive g.1 g.0
+
+-- The step gives no item, and hands on no refusal of an atom.
+abbrev pub IsQuiet : Step → Type 0
+IsQuiet Goes = Unit {0}
+IsQuiet (Gives (Done h)) = Unit {0}
+IsQuiet (Gives Memory) = Unit {0}
+IsQuiet (Gives next) = ⊥
+
+abbrev pub part_of : Place → Stage → Option Part
+part_of p (AtDirective place) = Some (of_directive place (rest_of p))
+part_of p stage = None
+
+-- The file is the same.
+pub record SameFile (c d : Consult) : Type 0 where
+  pub name : d.name ≡ c.name
+  pub text : d.text.items ≡ c.text.items
+
+module _ (term : Tree → Tree) where
+  -- The execution behind a step. After want of memory nothing is said of it.
+  abbrev pub After : Step → Job → Consult → Stage → Execution → List ℕ → Type 0
+  After Goes job c stage y out = At job c stage y out
+  After (Gives (Item t directive)) job c stage y out =
+      (place : ℕ) × (stage ≡ AtDirective place) × (directive ≡ true)
+      × (y.activity ≡ directing place (rest_of c.place) (start (directive_limits job) (term t)))
+      × Stands c job y out
+  After (Gives (Done (Some n))) job c stage y out = (y.activity ≡ over (halted n)) × (stage ≡ Over) × Stands c job y out
+  After (Gives (Done None)) job c stage y out = ⊥
+  After (Gives Memory) job c stage y out = Unit {0}
+  After (Gives next) job c stage y out = At job c stage y out × (part_of c.place stage ≡ None)
+
+  abbrev pub Keeps : Step → Consult → Consult → Type 0
+  Keeps (Gives Memory) c d = Unit {0}
+  Keeps step c d = SameFile c d
+
+  -- Whatever execution of whatever job the script stands for, it comes to one for which the script stands then.
+  abbrev pub Moved : Consult → Stage → Told → List ℕ → Step → Consult → Stage → Told → List ℕ → Type 0
+  Moved c stage t out step d then u more =
+      (job : Job) (x : Execution)
+      → At job c stage x out
+      → (y : Execution) × Comes job x t y u × SameGoals x y × Keeps step c d × After step job d then y more

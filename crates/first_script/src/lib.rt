@@ -1,0 +1,15 @@
+//! The script of the first engine: the items of the file, the goals of initialization/1, and then the goals of the command.
+#![tactic(auto)]
+
+mod gives;
+mod items;
+mod looks;
+mod reports;
+mod stage;
+mod stops;
+
+pub use gives::{give_directive, next_initialization};
+pub use items::take_item;
+pub use reports::report;
+pub use stage::{Stage, Step};
+pub use stops::stopped;
