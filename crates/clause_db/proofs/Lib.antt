@@ -19,3 +19,4 @@ mod Changing
 mod Marking
 mod Closing
 mod Reclaiming
+mod InOrder

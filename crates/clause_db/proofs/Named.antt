@@ -19,7 +19,7 @@ module _ {C : Type 0} where
   after_pair j [] = []
   after_pair j (x ∷ xs) = cond (x.0 == j) xs (after_pair j xs)
 
-  has_any_named : (ss : List (Stored C)) → has_any (named_clauses ss) ≡ has_any ss
+  pub has_any_named : (ss : List (Stored C)) → has_any (named_clauses ss) ≡ has_any ss
   has_any_named [] = refl
   has_any_named (s ∷ ss) = refl
 

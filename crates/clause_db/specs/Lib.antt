@@ -9,3 +9,4 @@ pub mod Operators
 pub mod Dynamic
 pub mod Abolished
 pub mod Reclaimed
+pub mod Listed

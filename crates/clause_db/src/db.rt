@@ -1,5 +1,5 @@
 //! The clause database.
-ghost use Rattle.std.specs.Prelude.{◌≡◌, ◌∷◌, [], ℕ, ◌<◌, ◌≤◌, ◌+◌, ◌^◌, ◌⊎◌, ◌==◌, Err, Some, None, IfOk, IfSome, IfNone, IfErr, OnOk, OnErr, false, true, not, filter, map, length};
+ghost use Rattle.std.specs.Prelude.{◌≡◌, ◌∷◌, [], ℕ, ◌<◌, ◌≤◌, ◌+◌, ◌^◌, ◌⊎◌, ◌==◌, Err, Some, None, IfOk, IfSome, IfNone, IfErr, OnOk, OnErr, false, true, not, filter, map, max, length};
 ghost use Rattle.std.specs.Result.{MatchResult, IsOkAnd};
 ghost use Rattle.std.specs.Option.{MatchOption, option_map, option_map_or};
 ghost use Rattle.std.specs.List.{list_any, slice_get};
@@ -8,7 +8,7 @@ ghost use Rattle.std.specs.Ordering.{nat_cmp};
 ghost use Rattle.std.specs.BTreeMap as tree;
 ghost use Rattle.pl_model.specs.Shown.{proc_of, origin_of};
 ghost use Rattle.pl_model.specs.History as entries;
-ghost use Rattle.pl_model.specs.Database.{Database, access_of, opening_database, is_at, is_there, seen, choices, with_first, with_last, without_clause, without_procedure, with_dynamic_procedures};
+ghost use Rattle.pl_model.specs.Database.{Database, access_of, opening_database, is_at, is_there, seen, choices, with_first, with_last, without_clause, without_procedure, with_dynamic_procedures, current_procedures};
 ghost use Rattle.pl_model.specs.FirstArguments.{are_apart};
 ghost use Rattle.pl_model.specs.Flags.{opening_flags, with_flag};
 ghost use Rattle.pl_model.specs.OperatorTable.{opening_table};
@@ -33,6 +33,7 @@ use crate::access::{Access, By};
 use crate::dynamic::{add_blanks, open_all};
 use crate::fault::DbFault;
 use crate::flags::{Flag, FlagValue, Flags, first_flags, flags_with};
+use crate::listing::listed;
 use crate::operators::table_with;
 use crate::parts::{Addition, End, Part, access_in, add_to, erase_in, part_at};
 use crate::reclaim::reclaim_at;
@@ -538,6 +539,16 @@ impl<C: Kept> Db<C> {
         self.parts.len() as u64
     }
 
+    /// The procedures of which the generation `g` sees a clause, in the standard order of their indicators
+    /// (current_predicate/1, ISO 8.8.2). The only error is want of memory. Its time grows with the square of their number,
+    /// and with the number of clauses.
+    pub fn current_procedures(&self, g: u64) -> Result<Vec<Proc>, Memory>
+        requires { self.now.floor ≤ g }
+        ensures { (d : ℕ → Database C) → StandsFor C.size self.now d → IfOk result (λ ps. map proc_of ps.items ≡ current_procedures g (d g)) }
+    {
+        listed(self.alloc, self.parts.as_slice(), g)
+    }
+
     /// Drops the clauses of the procedure that stands at the index `i` which one of the first `floor` updates erased, and
     /// hands each out once. From then on `floor` is the least generation that a call may ask for, and no update comes below
     /// it. The only error is want of memory; after it the database is as it was.
@@ -545,6 +556,7 @@ impl<C: Kept> Db<C> {
         requires { i < length self.old.parts }
         ensures dropped { IfOk result (λ r. IfSome (slice_get self.old.parts i) (λ x. IsPermutation (map (λ y. y.clause) (filter (is_droppable floor) x.clauses)) r.items)) }
         ensures held { OnOk result (self.new ≡ reclaimed_held i floor self.old) }
+        ensures rest { OnOk result ((self.new.next ≡ max self.old.next floor) × (self.new.floor ≡ max self.old.floor floor)) }
         ensures stands { OnOk result ((b : ℕ → Database C) → StandsFor C.size self.old b → StandsFor C.size self.new b) }
         ensures left { OnOk result ((b : ℕ → Database C) → StandsFor C.size self.old b → self.old.next ≤ floor
             → IfSome (slice_get self.new.parts i) (λ x. x.clauses ≡ map dated (seen floor (proc_of x.name) (b floor)))) }

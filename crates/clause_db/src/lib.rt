@@ -7,6 +7,7 @@ mod db;
 mod dynamic;
 mod fault;
 mod flags;
+mod listing;
 mod operators;
 mod parts;
 mod reclaim;

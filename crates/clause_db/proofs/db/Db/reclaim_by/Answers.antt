@@ -1,4 +1,4 @@
-use Rattle.std.proofs.Common.{sym, subst}
+use Rattle.std.proofs.Common.{ap, sym, subst}
 use Rattle.clause_db.specs.Stands.{StandsFor}
 use Rattle.clause_db.proofs.Added.{on_ok}
 use Rattle.clause_db.proofs.Reclaiming.{stands_reclaimed, left_at}
@@ -15,3 +15,6 @@ returns-clause-left g c =
     on_ok c.reclaim_in.result _ _
     (λ e. λ b s l. left_at g.C.Kept.size c.args.self.now c.reclaim_in.new.self b s c.args.floor c.args.i e l c.reclaim_in.ensures.apart)
     c.reclaim_in.ensures.held
+
+pub returns-clause-rest : goal.returns-clause-rest
+returns-clause-rest g c = on_ok c.reclaim_in.result _ _ (λ e. (ap (λ h. h.next) e, ap (λ h. h.floor) e)) c.reclaim_in.ensures.held

@@ -1,0 +1,16 @@
+use Rattle.std.proofs.Common.{[], map, ap, subst, ◌∙◌}
+use Rattle.clause_db.specs.Listed.{listed_from}
+use Rattle.clause_db.specs.Parts.{piece}
+use Rattle.clause_db.specs.Sound.{Apart, names}
+use Rattle.clause_db.proofs.Erasing.{if_ok}
+use Rattle.clause_db.proofs.InOrder.{listed_is}
+use Rattle.clause_db.proofs.db.Db.current_procedures.Goals as goal
+
+pub returns : goal.returns
+returns g c = λ d s.
+    if_ok c.listed.result _ _
+    (λ ps e. e
+    ∙ ap (λ l. listed_from c.args.g [] (map piece l)) c.as_slice.ensures.value
+    ∙ ap (λ h. listed_from c.args.g [] h.parts) c.self.view_is
+    ∙ listed_is g.C.Kept.size c.args.self.now d s (subst (λ h. Apart (names h.parts)) c.self.view_is c.self.invariant.apart) c.args.g c.requires)
+    c.listed.ensures
