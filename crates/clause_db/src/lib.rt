@@ -3,6 +3,8 @@
 
 mod abolish;
 mod access;
+#[cfg(test)]
+mod comparison;
 mod db;
 mod dynamic;
 mod fault;
