@@ -1,0 +1,5 @@
+-- What holds in an arm.
+use Rattle.std.proofs.Common.{◌≡◌, Option, Some, IfSome, subst}
+
+pub when_some : {A : Type 0} (P : A → Type 0) (o : Option A) (x : A) → IfSome o P → o ≡ Some x → P x
+when_some P o x h e = let m = subst (λ y. IfSome y P) e h in m

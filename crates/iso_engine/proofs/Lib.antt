@@ -1,0 +1,16 @@
+pub mod Arms
+pub mod Equals
+pub mod Failed
+pub mod Followed
+pub mod Heldness
+pub mod Later
+pub mod Looked
+pub mod Naming
+pub mod Procedures
+pub mod Solutions
+pub mod Spending
+pub mod Stability
+pub mod Stepping
+pub mod Tasking
+pub mod Unbuilt
+pub mod Walks

@@ -1,0 +1,68 @@
+-- What a look tells.
+use Rattle.std.proofs.Common.{◌≡◌, ℕ, length, Option, refl, sym, ap, subst, ◌∙◌}
+use Rattle.pl_term.specs.Tree.{Chars, Tree}
+use Rattle.pl_model.specs.OperatorTable.{OperatorTable}
+use Rattle.pl_model.specs.declared.grammar.Quotes.{Quotes}
+use Rattle.pl_model.specs.History.{History, Kind}
+use Rattle.pl_model.specs.SharedState.{state_at}
+use Rattle.pl_model.specs.Requests.{look, standing}
+use Rattle.pl_model.specs.Requests as requests
+use Rattle.pl_model.specs.Service.{Served, answers, waits, serve}
+use Rattle.pl_model.specs.Progress.{served_now}
+use Rattle.world_api.specs.declared.answer.Answer.TheVariants.{Served as ServedAnswer}
+use Rattle.world_api.specs.declared.reply.Reply.{Reply}
+use Rattle.world_api.specs.declared.reply.Reply.TheVariants.{Standing, Clauses, Procedures, Flags, Named, Message, NoMessage, Status, Done, Gone, Refused}
+use Rattle.world_api.specs.declared.visit.Visit.TheVariants.{Look}
+use Rattle.world_api.specs.Told.{Told}
+use Rattle.world_api.specs.Answers.{Visited}
+use Rattle.world_api.specs.Replies.{Says}
+use Rattle.iso_engine.specs.Looking.{Looks}
+
+reply_of : requests.Reply → Served → requests.Reply
+reply_of r (answers q k) = q
+reply_of r waits = r
+
+-- A look is answered by what stands.
+look_stands : (e goals : ℕ) (h : History) (r : requests.Reply) (k : Option Kind) → served_now e goals h look ≡ answers r k
+    → (ops : OperatorTable) × (quotes : Quotes) × (r ≡ standing ops quotes)
+unfolding serve reply_of
+look_stands e goals h r k is =
+    let s = state_at goals h (length h)
+    in (s.operators, s.flags.double_quotes, sym (ap (reply_of r) is))
+
+module _ {T K : Type 0} (term : (ℕ → Chars) → T → Tree) (key : T → K) (old_text new_text : ℕ → Chars) where
+  stands_only : (r : Reply T) (ops : OperatorTable) (quotes : Quotes) → ((x : OperatorTable) (y : Quotes) → r ≡ Standing x y → ⊥) → Says term new_text r (standing ops quotes) → ⊥
+  stands_only (Standing x y) ops quotes other h = other x y refl
+  stands_only (Clauses f) ops quotes other h = h
+  stands_only (Procedures ps) ops quotes other h = cc
+  stands_only (Flags fs) ops quotes other h = cc
+  stands_only (Named n) ops quotes other h = cc
+  stands_only (Message t) ops quotes other h = cc
+  stands_only NoMessage ops quotes other h = cc
+  stands_only (Status t) ops quotes other h = cc
+  stands_only Done ops quotes other h = cc
+  stands_only Gone ops quotes other h = cc
+  stands_only (Refused e) ops quotes other h = cc
+
+  pub never_else : (r : Reply T) (g : ℕ) (t : Told) (before : History) (u : Told) → Visited term key old_text new_text Look (ServedAnswer r g) t before u
+      → ((x : OperatorTable) (y : Quotes) → r ≡ Standing x y → ⊥) → ⊥
+  never_else r g t before u v other =
+      let s = v.1.serves look refl
+      in let there = look_stands t.engine t.goals before s.0 v.1.update s.1
+      in stands_only r there.0 there.1 other (subst (Says term new_text r) there.2 s.2)
+
+  pub looked_standing : (r : Reply T) (g : ℕ) (t : Told) (before : History) (u : Told) (ops : OperatorTable) (quotes : Quotes)
+      → Visited term key old_text new_text Look (ServedAnswer r g) t before u
+      → r ≡ Standing ops quotes
+      → Looks t ops u
+  looked_standing r g t before u ops quotes v is =
+      let s = v.1.serves look refl
+      in let said : s.0 ≡ standing ops quotes = subst (λ (x : Reply T). Says term new_text x s.0) is s.2
+      in record {
+        before = before;
+        quotes = quotes;
+        update = v.1.update;
+        entries = v.0;
+        served = s.1 ∙ ap (λ x. answers x v.1.update) said;
+        told = v.1.told;
+      }

@@ -1,0 +1,35 @@
+-- The predicates of goals.
+use Rattle.std.proofs.Common.{◌≡◌, ℕ, suc, ◌<◌, List, [], ◌∷◌, length, codes, sym, ap, ◌∙◌, arith}
+use Rattle.pl_term.specs.Tree.{Tree, var, compound, trees}
+use Rattle.pl_model.specs.History.{Proc}
+use Rattle.pl_model.specs.World.{proc_of}
+use Rattle.term_store.specs.declared.words.Place.{Place}
+use Rattle.term_store.specs.declared.views.Arguments.{Arguments}
+use Rattle.term_store.specs.Heap.{atom_name}
+use Rattle.term_store.specs.Contents.{Contents, IsArguments, arguments_at, term_at}
+use Rattle.iso_search.specs.Reading.{IsView, View, reads}
+use Rattle.iso_search.specs.Spelling.{spelled, text_of}
+use Rattle.iso_search.proofs.Constructing.{count-trees, how_many}
+use Rattle.iso_search.proofs.Naming.{call_is, text_is}
+use Rattle.iso_search.proofs.Spelt.{count-spelled}
+
+abbrev proc_as : View → ℕ → ℕ → Proc
+proc_as v name arity = record { name = text_of v.names (atom_name name); arity = arity }
+
+pub variable_proc : (v : View) → IsView v → (s : Contents) (goal : Place) (n : ℕ) → term_at s goal ≡ var n → proc_of (reads v s goal) ≡ proc_as v 53 1
+variable_proc v view s goal n is =
+    ap (λ t. proc_of (spelled (text_of v.names) t)) is
+    ∙ sym (ap (λ f. let p : Proc = record { name = f; arity = 1 } in p) (text_is v view 53 (codes "call") call_is))
+
+compound_is : (v : View) (name : ℕ) (xs : List Tree) → 0 < length xs → proc_of (spelled (text_of v.names) (compound (atom_name name) xs)) ≡ proc_as v name (length xs)
+compound_is v name [] lt = absurd (omega arith)
+compound_is v name (x ∷ xs) lt =
+    ap (λ k. proc_as v name (suc k)) (count-spelled (text_of v.names) (trees xs) ∙ count-trees xs)
+
+pub compound_proc : (v : View) (s : Contents) (goal : Place) (name arity : ℕ) (a : Arguments) → term_at s goal ≡ compound (atom_name name) (arguments_at s a) → IsArguments s a
+    → 0 < a.count → arity ≡ a.count → proc_of (reads v s goal) ≡ proc_as v name arity
+compound_proc v s goal name arity a is args some same =
+    let long = how_many s a args
+    in ap (λ t. proc_of (spelled (text_of v.names) t)) is
+    ∙ compound_is v name (arguments_at s a) (omega (arith, long, some))
+    ∙ ap (proc_as v name) (long ∙ sym same)

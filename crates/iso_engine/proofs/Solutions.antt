@@ -1,0 +1,184 @@
+-- How a solution is given.
+use Rattle.std.proofs.Common.{◌≡◌, ℕ, ◌+◌, List, [], ◌∷◌, ◌++◌, length, refl, sym, ap, ap₂, subst, ◌∙◌, append_assoc}
+use Rattle.pl_term.specs.Tree.{Chars, Tree}
+use Rattle.pl_model.specs.OperatorTable.{OperatorTable, opening_table}
+use Rattle.pl_model.specs.Progress.{entry_by, served_now}
+use Rattle.pl_model.specs.Requests.{Request, look, standing}
+use Rattle.pl_model.specs.Resolution.{answering, running, failing, throwing, erasing, clearing, ended, Choice, Limits, Node, Output, solution, solution_count, State, asks}
+use Rattle.pl_model.specs.Resolution as resolution
+use Rattle.pl_model.specs.Control.{step, with_solution}
+use Rattle.atom_api.specs.Names.{Names, FixedStand}
+use Rattle.std.specs.Str.{all_scalars}
+use Rattle.std.specs.Prelude.{◌^◌, ◌<◌, ◌≤◌, true, Some}
+use Rattle.pl_term.specs.Texts.{size}
+use Rattle.world_api.specs.Texts.{Holds}
+use Rattle.world_api.specs.Told.{Told}
+use Rattle.iso_search.specs.Frames.{tasks}
+use Rattle.iso_search.specs.Reading.{IsView}
+use Rattle.iso_search.specs.Searching.{choices_of, IsWhole, node_of}
+use Rattle.iso_search.proofs.Texts.{texts_apart}
+use Rattle.iso_engine.specs.declared.doing.Doing.TheVariants.{Running, Answering}
+use Rattle.iso_engine.specs.declared.engine.Engine.{Engine}
+use Rattle.iso_engine.specs.Later.{IsLater, view_of}
+use Rattle.iso_engine.specs.Standing.{doing_of, limits_of, state_at, state_now}
+use Rattle.iso_engine.specs.Ready.{IsReady, IsStable}
+use Rattle.iso_engine.specs.Advancing.{Advances}
+use Rattle.iso_engine.specs.Asking.{IsAnswered, IsAsking}
+use Rattle.iso_engine.specs.declared.slices.Slice.{Slice}
+use Rattle.iso_engine.specs.declared.slices.Slice.TheVariants.{Yield, Solution, NeedsAtoms, Retry, Worn, Waits, Ended, Missing, Memory}
+use Rattle.iso_engine.specs.Looking.{IsRefused, Looks, WaitsThere}
+use Rattle.iso_engine.specs.Slices.{IsStepped, IsWaitingNow, answer_of, written_text}
+use Rattle.iso_engine.proofs.Later.{held_later, later_then}
+use Rattle.iso_engine.proofs.Stability.{advance_asks, advance_same, advance_seen, stable_later}
+use Rattle.iso_engine.proofs.Tasking.{step_done}
+
+-- What atoms hold is a view.
+pub view_is : (m : Names) (t : Told) → FixedStand m → ((a b : ℕ) (x : Chars) → m a ≡ Some x → m b ≡ Some x → a ≡ b)
+    → ((a : ℕ) (x : Chars) → m a ≡ Some x → (a < 2 ^ 32) × (size x ≤ 248) × (all_scalars x ≡ true)) → IsView (view_of m t)
+view_is m t fixed unlike finite = record { fixed = fixed; apart = texts_apart m unlike (λ a x h. (finite a x h).2) }
+
+abbrev node_in : Node → resolution.Doing → Node
+node_in d (running n) = n
+node_in d failing = d
+node_in d (throwing b ps) = d
+node_in d (erasing place n) = d
+node_in d (clearing t cs n) = d
+node_in d answering = d
+node_in d (ended how) = d
+
+module _ (m n : Names) (t u : Told) (e f : Engine) (list : ℕ) (ops : OperatorTable) where
+  abbrev node : Names → Told → Node
+  node a b = node_of (view_of a b) e.search list
+
+  abbrev with_answer : List Choice → List Tree → List Output → State
+  with_answer cs ts written =
+      let s : State = record { doing = answering; choices = cs; next = e.search.next; inferences = e.search.inferences; output = written ++ solution ops ts ∷ [] } in s
+
+  -- The engine in which the solution was given.
+  abbrev IsGiven : Type 0
+  IsGiven = (let x : Engine = record e { doing = Answering; given = e.given + 1 } in f ≡ x)
+
+  search_same : IsGiven → f.search ≡ e.search
+  search_same is = ap (λ (x : Engine). x.search) is
+
+  stands : (written : List Output) → IsGiven
+      → (choices_of (view_of n u) e.search ≡ choices_of (view_of m t) e.search)
+      → ((node n u).answer ≡ (node m t).answer)
+      → with_answer (choices_of (view_of m t) e.search) (node m t).answer written
+      ≡ state_now (view_of n u) f (written ++ solution ops (answer_of n u f) ∷ [])
+  stands written is choices answer =
+      ap₂ (λ cs ts. with_answer cs ts written) (sym choices) (sym answer)
+      ∙ ap (λ (x : Engine). state_now (view_of n u) x (written ++ solution ops (answer_of n u x) ∷ [])) (sym is)
+
+  abbrev asking : e.doing ≡ Running list → tasks e.search.frames.items list ≡ [] → IsAsking m t e look
+  asking doing none =
+      record {
+        follows = λ stays written count. with_solution (state_at (view_of m t) e.search (Running list) written) (node m t);
+        asks_is =
+            λ stays written count.
+            ap (λ d. step (limits_of stays e) (state_at (view_of m t) e.search d written)) doing
+            ∙ step_done (record { view = view_of m t; solutions = e.wanted; stays = stays; doing = answering; output = written }) e.search list none;
+      }
+
+  answered : e.doing ≡ Running list → tasks e.search.frames.items list ≡ [] → IsGiven → IsStable m t e.search e.doing → IsView (view_of n u) → Holds m n → Looks t ops u
+      → IsLater m t n u
+      → IsAnswered m t e n u f (solution ops (answer_of n u f) ∷ [])
+  answered doing none is stable view holds looks later =
+      let same = stable n u view later
+      in let node_same : node n u ≡ node m t =
+      ap (node_in (node m t)) (sym (ap (doing_of (view_of n u) e.search) doing) ∙ same.1 ∙ ap (doing_of (view_of m t) e.search) doing)
+      in record {
+        before = looks.before;
+        request = look;
+        reply = standing ops looks.quotes;
+        update = looks.update;
+        entries = looks.entries;
+        served = looks.served;
+        told = looks.told;
+        asking = asking doing none;
+        stands = λ stays written count. stands written is same.0 (ap (λ (x : Node). x.answer) node_same);
+      }
+
+  looked_later : Holds m n → Looks t ops u → IsLater m t n u
+  looked_later holds looks =
+      record {
+        holds = holds;
+        later = looks.entries.later ++ entry_by t.engine looks.update;
+        grown =
+            ap (λ (x : Told). x.history) looks.told
+            ∙ ap (λ h. h ++ entry_by t.engine looks.update) looks.entries.grown
+            ∙ append_assoc t.history looks.entries.later (entry_by t.engine looks.update);
+        engine = ap (λ (x : Told). x.engine) looks.told;
+        goals = ap (λ (x : Told). x.goals) looks.told;
+      }
+
+  pub solved : e.doing ≡ Running list → tasks e.search.frames.items list ≡ [] → IsGiven → IsStable m t e.search e.doing → IsView (view_of n u) → Holds m n → Looks t ops u
+      → Advances 1 m t e n u f (solution ops (answer_of n u f) ∷ [])
+  solved doing none is stable view holds looks =
+      advance_asks m n t u e f (solution ops (answer_of n u f) ∷ []) (answered doing none is stable view holds looks (looked_later holds looks)) holds
+      (λ stays. ap (limits_of stays) is)
+      (ap (λ (x : Engine). x.given) is)
+
+  -- What was given stands so from then on.
+  pub solved_ready : IsGiven → IsReady m t e → IsView (view_of n u) → Holds m n → Looks t ops u → IsReady n u f
+  solved_ready is ready view holds looks =
+      let later = looked_later holds looks
+      in let whole : IsWhole e.search = ready.whole
+      in record {
+        whole = subst IsWhole (sym (search_same is)) whole;
+        stable =
+            λ k w other more.
+            let here = ready.stable n u view later
+            in let there = ready.stable k w other (later_then m n k t u w later more)
+            in let both : choices_of (view_of k w) e.search ≡ choices_of (view_of n u) e.search = there.0 ∙ sym here.0
+            in (
+              ap (choices_of (view_of k w)) (search_same is) ∙ both ∙ sym (ap (choices_of (view_of n u)) (search_same is)),
+              ap (λ (x : Engine). doing_of (view_of k w) x.search x.doing) is ∙ sym (ap (λ (x : Engine). doing_of (view_of n u) x.search x.doing) is),
+            );
+      }
+
+-- The view is later where the request was not answered.
+refused_later : (m n : Names) (t u : Told) (q : Request) (s : Slice) → IsRefused t q s u → (s ≡ Memory → ⊥) → Holds m n → IsLater m t n u
+refused_later m n t u q Yield h differs holds = absurd h
+refused_later m n t u q (Solution ops) h differs holds = absurd h
+refused_later m n t u q (NeedsAtoms p) h differs holds = subst (IsLater m t n) (sym h) (held_later m n t holds)
+refused_later m n t u q (Retry c) h differs holds = subst (IsLater m t n) (sym h) (held_later m n t holds)
+refused_later m n t u q (Worn w) h differs holds = subst (IsLater m t n) (sym h) (held_later m n t holds)
+refused_later m n t u q (Waits on g) h differs holds =
+    record {
+      holds = holds;
+      later = h.entries.later;
+      grown = ap (λ (x : Told). x.history) h.told ∙ h.entries.grown;
+      engine = ap (λ (x : Told). x.engine) h.told;
+      goals = ap (λ (x : Told). x.goals) h.told;
+    }
+refused_later m n t u q Ended h differs holds = absurd h
+refused_later m n t u q (Missing p) h differs holds = absurd h
+refused_later m n t u q Memory h differs holds = absurd (differs refl)
+
+pub refused_ready : (m n : Names) (t u : Told) (e : Engine) (s : Slice) → IsRefused t look s u → (s ≡ Memory → ⊥) → Holds m n → IsView (view_of n u) → IsReady m t e → IsReady n u e
+refused_ready m n t u e s h differs holds view ready =
+    record { whole = ready.whole; stable = stable_later m n t u e.search e.doing view (refused_later m n t u look s h differs holds) ready.stable }
+
+-- A look that was not answered is no step.
+module _ (m n : Names) (t u : Told) (e : Engine) (list : ℕ) (doing : e.doing ≡ Running list) (none : tasks e.search.frames.items list ≡ []) (holds : Holds m n)
+    (view : IsView (view_of n u)) (ready : IsReady m t e) where
+  waits_now : (g : ℕ) → WaitsThere t look g u → IsWaitingNow n u e g
+  waits_now g w =
+      record {
+        request = look;
+        asking = asking n n u u e e list opening_table doing none;
+        generation = w.generation ∙ sym (ap (λ (x : Told). length x.history) w.told);
+        waiting = ap (λ (x : Told). served_now x.engine x.goals x.history look) w.told ∙ w.waiting;
+      }
+
+  pub refused_stepped : (s : Slice) → IsRefused t look s u → (s ≡ Memory → ⊥) → (more : List Output) × IsStepped m t e (Some s) n u e more × (written_text more ≡ [])
+  refused_stepped Yield h differs = absurd h
+  refused_stepped (Solution ops) h differs = absurd h
+  refused_stepped (NeedsAtoms p) h differs = ([], (refl, tt, advance_same m n t u e ready.stable view h holds), refl)
+  refused_stepped (Retry c) h differs = ([], (refl, tt, advance_same m n t u e ready.stable view h holds), refl)
+  refused_stepped (Worn w) h differs = ([], (refl, tt, advance_same m n t u e ready.stable view h holds), refl)
+  refused_stepped (Waits on g) h differs = ([], (refl, waits_now g h, advance_seen m n t u e h.before ready.stable view h.entries h.told holds), refl)
+  refused_stepped Ended h differs = absurd h
+  refused_stepped (Missing p) h differs = absurd h
+  refused_stepped Memory h differs = absurd (differs refl)

@@ -1,0 +1,165 @@
+-- One step more of a slice.
+use Rattle.std.proofs.Common.{◌≡◌, ℕ, suc, ◌+◌, ◌-◌, ◌<◌, ◌≤◌, ◌⊎◌, inl, inr, List, [], ◌∷◌, ◌++◌, Option, None, Some, false, refl, sym, ap, ap₂, subst, ◌∙◌, arith, append-nil, append_assoc}
+use Rattle.std.specs.Prelude.{encode_utf8_all}
+use Rattle.std.specs.Char.{encode_utf8}
+use Rattle.pl_term.specs.Tree.{Chars}
+use Rattle.pl_model.specs.Resolution.{Output, text, solution}
+use Rattle.atom_api.specs.Names.{Names}
+use Rattle.atom_words.specs.declared.view.Refusal.{Refusal}
+use Rattle.world_api.specs.Texts.{Holds}
+use Rattle.world_api.specs.Told.{Told, has_ended}
+use Rattle.iso_engine.specs.declared.engine.Engine.{Engine}
+use Rattle.iso_engine.specs.Advancing.{Advances}
+use Rattle.iso_engine.specs.Ready.{IsReady}
+use Rattle.iso_engine.specs.declared.slices.Slice.{Slice}
+use Rattle.iso_engine.specs.declared.slices.Slice.TheVariants.{Yield, Solution, NeedsAtoms, Retry, Worn, Waits, Ended, Missing, Memory}
+use Rattle.iso_engine.specs.Looking.{IsRefusedBy, refusals_of, stopped_refusals}
+use Rattle.iso_engine.specs.Slices.{EndsWith, IsSlice, IsSliced, IsStepped, written_text}
+use Rattle.iso_engine.specs.Spending.{IsSpent}
+use Rattle.iso_engine.specs.Walking.{IsWalk}
+use Rattle.iso_engine.proofs.Stability.{advance_none, advance_then}
+
+encode-append : (xs ys : Chars) → encode_utf8_all (xs ++ ys) ≡ encode_utf8_all xs ++ encode_utf8_all ys
+encode-append [] ys = refl
+encode-append (x ∷ xs) ys =
+    ap (λ l. encode_utf8 x ++ l) (encode-append xs ys) ∙ sym (append_assoc (encode_utf8 x) (encode_utf8_all xs) (encode_utf8_all ys))
+
+written-append : (xs ys : List Output) → written_text (xs ++ ys) ≡ written_text xs ++ written_text ys
+written-append [] ys = refl
+written-append (text t ∷ xs) ys = ap (λ l. t ++ l) (written-append xs ys) ∙ sym (append_assoc t (written_text xs) (written_text ys))
+written-append (solution ops ts ∷ xs) ys = written-append xs ys
+
+pub bytes-append : (a b c : List ℕ) (xs ys : List Output) → b ≡ a ++ encode_utf8_all (written_text xs) → c ≡ b ++ encode_utf8_all (written_text ys)
+    → c ≡ a ++ encode_utf8_all (written_text (xs ++ ys))
+bytes-append a b c xs ys first second =
+    second
+    ∙ ap (λ l. l ++ encode_utf8_all (written_text ys)) first
+    ∙ append_assoc a (encode_utf8_all (written_text xs)) (encode_utf8_all (written_text ys))
+    ∙ ap (λ l. a ++ l) (sym (encode-append (written_text xs) (written_text ys)) ∙ ap encode_utf8_all (sym (written-append xs ys)))
+
+-- The begin of a slice.
+pub walk_begins : (limit : ℕ) (m : Names) (t : Told) (e : Engine) (a : List ℕ) → has_ended t.engine t.history ≡ false → IsReady m t e → IsWalk limit m t e m t e a a
+walk_begins limit m t e a runs ready =
+    record {
+      runs = runs;
+      ready = ready;
+      steps = 0;
+      written = [];
+      advances = advance_none m t e;
+      out = sym (append-nil a);
+      low = omega arith;
+      high = omega arith;
+      holds = λ i x h. h;
+    }
+
+-- A step more.
+pub walk_on : (limit : ℕ) (m n r : Names) (t u w : Told) (e f g : Engine) (a b c : List ℕ) (more : List Output)
+    → IsWalk limit m t e n u f a b
+    → Advances 1 n u f r w g more
+    → c ≡ b ++ encode_utf8_all (written_text more)
+    → has_ended w.engine w.history ≡ false
+    → IsReady r w g
+    → Holds n r
+    → IsSpent f.search.inferences g.search.inferences
+    → f.search.inferences < e.search.inferences + limit
+    → IsWalk limit m t e r w g a c
+walk_on limit m n r t u w e f g a b c more walk step out runs ready holds spent below =
+    record {
+      runs = runs;
+      ready = ready;
+      steps = 1 + walk.steps;
+      written = walk.written ++ more;
+      advances = advance_then walk.steps 1 m n r t u w e f g walk.written more walk.advances step;
+      out = bytes-append a b c walk.written more walk.out out;
+      low = lower spent walk.low;
+      high = higher spent below;
+      holds = λ i x h. holds i x (walk.holds i x h);
+    }
+  where
+    lower : (g.search.inferences ≡ f.search.inferences) ⊎ (g.search.inferences ≡ suc f.search.inferences) → e.search.inferences ≤ f.search.inferences → e.search.inferences ≤ g.search.inferences
+    lower (inl p) le = omega (arith, p, le)
+    lower (inr p) le = omega (arith, p, le)
+
+    higher : (g.search.inferences ≡ f.search.inferences) ⊎ (g.search.inferences ≡ suc f.search.inferences) → f.search.inferences < e.search.inferences + limit → g.search.inferences ≤ e.search.inferences + limit
+    higher (inl p) lt = omega (arith, p, lt)
+    higher (inr p) lt = omega (arith, p, lt)
+
+-- Nothing ended the slice.
+pub went_on : (n r : Names) (u w : Told) (f g : Engine) (b c : List ℕ) (o : Option Slice)
+    → (more : List Output) × IsStepped n u f o r w g more × (c ≡ b ++ encode_utf8_all (written_text more))
+    → o ≡ None
+    → (more : List Output) × Advances 1 n u f r w g more × (c ≡ b ++ encode_utf8_all (written_text more))
+went_on n r u w f g b c o h is =
+    let went = subst (λ (x : Option Slice). (more : List Output) × IsStepped n u f x r w g more × (c ≡ b ++ encode_utf8_all (written_text more))) is h in went
+
+-- The slice ends with this.
+module _ (limit : ℕ) (m n r : Names) (t u w : Told) (e f g : Engine) (a b c : List ℕ) (walk : IsWalk limit m t e n u f a b)
+    (spent : IsSpent f.search.inferences g.search.inferences) (below : f.search.inferences < e.search.inferences + limit) where
+  within : (g.search.inferences ≡ f.search.inferences) ⊎ (g.search.inferences ≡ suc f.search.inferences) → g.search.inferences ≤ e.search.inferences + limit
+  within (inl p) = omega (arith, p, below)
+  within (inr p) = omega (arith, p, below)
+
+  ended : (k : ℕ) (more : List Output) (s : Slice) → Advances k n u f r w g more → c ≡ b ++ encode_utf8_all (written_text more)
+      → EndsWith limit e r w g (walk.written ++ more) s
+      → IsSlice limit m t e r w g a c s
+  ended k more s step out ends =
+      record {
+        steps = k + walk.steps;
+        written = walk.written ++ more;
+        advances = advance_then walk.steps k m n r t u w e f g walk.written more walk.advances step;
+        out = bytes-append a b c walk.written more walk.out out;
+        spent = within spent;
+        ends = ends;
+      }
+
+  pub slice_ends : (s : Slice) → (more : List Output) × IsStepped n u f (Some s) r w g more × (c ≡ b ++ encode_utf8_all (written_text more)) → IsSlice limit m t e r w g a c s
+  slice_ends Yield (more, h, out) = absurd h.1
+  slice_ends (Solution ops) (more, h, out) = ended 1 more (Solution ops) h.2 out (walk.written, ap (λ l. walk.written ++ l) h.0, h.1)
+  slice_ends (NeedsAtoms p) (more, h, out) = ended 0 more (NeedsAtoms p) h.2 out h.1
+  slice_ends (Retry q) (more, h, out) = ended 0 more (Retry q) h.2 out h.1
+  slice_ends (Worn q) (more, h, out) = ended 0 more (Worn q) h.2 out h.1
+  slice_ends (Waits on q) (more, h, out) = ended 0 more (Waits on q) h.2 out h.1
+  slice_ends Ended (more, h, out) = ended 0 more Ended h.2 out h.1
+  slice_ends (Missing p) (more, h, out) = ended 0 more (Missing p) h.2 out h.1
+  slice_ends Memory (more, h, out) = absurd h.1
+
+-- So many inferences were made.
+pub slice_yields : (limit : ℕ) (m n : Names) (t u : Told) (e f : Engine) (a b : List ℕ) → IsWalk limit m t e n u f a b → limit ≤ f.search.inferences - e.search.inferences
+    → IsSlice limit m t e n u f a b Yield
+slice_yields limit m n t u e f a b walk enough =
+    record {
+      steps = walk.steps;
+      written = walk.written;
+      advances = walk.advances;
+      out = walk.out;
+      spent = walk.high;
+      ends = (let p = walk.low in let q = walk.high in omega (arith, p, q, enough));
+    }
+
+pub sliced_by : (limit : ℕ) (m n : Names) (t u : Told) (e f : Engine) (a b : List ℕ) (s : Slice) → IsSlice limit m t e n u f a b s → IsSliced limit m t e n u f a b s
+sliced_by limit m n t u e f a b Yield h = h
+sliced_by limit m n t u e f a b (Solution ops) h = h
+sliced_by limit m n t u e f a b (NeedsAtoms p) h = h
+sliced_by limit m n t u e f a b (Retry c) h = h
+sliced_by limit m n t u e f a b (Worn w) h = h
+sliced_by limit m n t u e f a b (Waits on g) h = h
+sliced_by limit m n t u e f a b Ended h = h
+sliced_by limit m n t u e f a b (Missing p) h = h
+sliced_by limit m n t u e f a b Memory h = absurd h.ends
+
+pub refused_by : (xs ys : List Refusal) (s : Slice) → ys ≡ xs ++ refusals_of s → IsRefusedBy s xs ys
+refused_by xs ys Yield h = h
+refused_by xs ys (Solution ops) h = h
+refused_by xs ys (NeedsAtoms p) h = h
+refused_by xs ys (Retry c) h = h
+refused_by xs ys (Worn w) h = h
+refused_by xs ys (Waits on g) h = h
+refused_by xs ys Ended h = h
+refused_by xs ys (Missing p) h = h
+refused_by xs ys Memory h = tt
+
+pub none_refused : (xs ys zs : List Refusal) (o : Option Slice) → ys ≡ xs → zs ≡ ys ++ stopped_refusals o → o ≡ None → zs ≡ xs
+none_refused xs ys zs o first second is = second ∙ ap (λ x. ys ++ stopped_refusals x) is ∙ append-nil ys ∙ first
+
+pub some_refused : (xs ys zs : List Refusal) (o : Option Slice) (s : Slice) → ys ≡ xs → zs ≡ ys ++ stopped_refusals o → o ≡ Some s → zs ≡ xs ++ refusals_of s
+some_refused xs ys zs o s first second is = second ∙ ap₂ (λ l x. l ++ stopped_refusals x) first is

@@ -1,0 +1,73 @@
+use Rattle.std.proofs.Common.{◌≡◌, ◌∷◌, [], refl, subst}
+use Rattle.iso_search.specs.Frames.{tasks}
+use Rattle.iso_engine.specs.declared.engine.Engine.{Engine}
+use Rattle.iso_engine.proofs.Solutions.{view_is}
+use Rattle.iso_engine.proofs.Stability.{advance_step, spent_by, step_ready}
+use Rattle.iso_engine.proofs.Tasking.{task_inside, task_missing, task_steps}
+use Rattle.iso_engine.proofs.engine.Engine.run.Goals as goal
+
+pub do_task-requires-clause-task : goal.do_task-requires-clause-task
+do_task-requires-clause-task g c =
+    let e = c.args.self.now.search in
+    let f = c.in-Some.frame in
+    let first = subst (λ l. tasks l c.args.list ≡ f.task ∷ tasks l f.next) c.deref.ensures.value c.in-Some.ensures.0 in
+    task_inside e.store e.frames.items c.requires.ready.whole.base.words c.requires.ready.whole.base.linked c.args.list f.task (tasks e.frames.items f.next) first
+
+pub returns-in-Next-clause-spent : goal.returns-in-Next-clause-spent
+returns-in-Next-clause-spent g c =
+    let e = c.args.self.now in
+    let x = c.in-Some.frame in
+    let a = c.args.atoms.now in
+    let m = g.W.A.Atoms.held a in
+    let t = g.W.World.told c.args.world.now in
+    let view = view_is m t (g.met.W.A.Atoms.fixed_held a) (g.met.W.A.Atoms.unlike a) (g.met.W.A.Atoms.finite a) in
+    let first = subst (λ l. tasks l c.args.list ≡ x.task ∷ tasks l x.next) c.deref.ensures.value c.in-Some.ensures.0 in
+    let did = c.in_ok-did-in-Some in
+    let f = c.do_task.new.search in
+    let d = c.in-Next.doing in
+    let steps = task_steps e.wanted e.given e.search f e.doing d c.args.list x.task x.next did.did c.requires.list first did.ensures.done c.in-Next.is in
+    spent_by e.wanted e.given e.search e.doing f d m t steps view
+
+pub returns-in-Next-clause-ready : goal.returns-in-Next-clause-ready
+returns-in-Next-clause-ready g c =
+    let e = c.args.self.now in
+    let x = c.in-Some.frame in
+    let a = c.args.atoms.now in
+    let m = g.W.A.Atoms.held a in
+    let t = g.W.World.told c.args.world.now in
+    let view = view_is m t (g.met.W.A.Atoms.fixed_held a) (g.met.W.A.Atoms.unlike a) (g.met.W.A.Atoms.finite a) in
+    let first = subst (λ l. tasks l c.args.list ≡ x.task ∷ tasks l x.next) c.deref.ensures.value c.in-Some.ensures.0 in
+    let did = c.in_ok-did-in-Some in
+    let f = c.do_task.new.search in
+    let d = c.in-Next.doing in
+    let steps = task_steps e.wanted e.given e.search f e.doing d c.args.list x.task x.next did.did c.requires.list first did.ensures.done c.in-Next.is in
+    let new : Engine = record e { search = f; doing = d } in
+    step_ready m t e new steps did.ensures.whole view c.requires.ready
+
+pub returns-in-Next-clause-stepped : goal.returns-in-Next-clause-stepped
+returns-in-Next-clause-stepped g c =
+    let e = c.args.self.now in
+    let x = c.in-Some.frame in
+    let a = c.args.atoms.now in
+    let m = g.W.A.Atoms.held a in
+    let t = g.W.World.told c.args.world.now in
+    let view = view_is m t (g.met.W.A.Atoms.fixed_held a) (g.met.W.A.Atoms.unlike a) (g.met.W.A.Atoms.finite a) in
+    let first = subst (λ l. tasks l c.args.list ≡ x.task ∷ tasks l x.next) c.deref.ensures.value c.in-Some.ensures.0 in
+    let did = c.in_ok-did-in-Some in
+    let f = c.do_task.new.search in
+    let d = c.in-Next.doing in
+    let steps = task_steps e.wanted e.given e.search f e.doing d c.args.list x.task x.next did.did c.requires.list first did.ensures.done c.in-Next.is in
+    let new : Engine = record e { search = f; doing = d } in
+    ([], advance_step m t e new steps did.ensures.budgets refl refl view, refl)
+
+pub returns-in-Missing-clause-stepped : goal.returns-in-Missing-clause-stepped
+returns-in-Missing-clause-stepped g c =
+    let e = c.args.self.now in
+    let x = c.in-Some.frame in
+    let a = c.args.atoms.now in
+    let m = g.W.A.Atoms.held a in
+    let t = g.W.World.told c.args.world.now in
+    let view = view_is m t (g.met.W.A.Atoms.fixed_held a) (g.met.W.A.Atoms.unlike a) (g.met.W.A.Atoms.finite a) in
+    let first = subst (λ l. tasks l c.args.list ≡ x.task ∷ tasks l x.next) c.deref.ensures.value c.in-Some.ensures.0 in
+    let did = c.in_ok-did-in-Some in
+    task_missing m t e c.do_task.new.search c.args.list x.task x.next did.did c.in-Missing.procedure view c.requires.list first did.ensures.done c.in-Missing.is

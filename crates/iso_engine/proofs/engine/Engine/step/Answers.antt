@@ -1,0 +1,133 @@
+use Rattle.std.proofs.Common.{[], ◌++◌, refl, sym, ap, subst, ◌∙◌, append-nil}
+use Rattle.iso_engine.specs.declared.doing.Doing.TheVariants.{Running, Throwing, Ended}
+use Rattle.iso_engine.specs.declared.engine.Engine.{Engine}
+use Rattle.iso_engine.specs.Ready.{Steps}
+use Rattle.iso_engine.specs.declared.doing.Doing.{Doing}
+use Rattle.iso_engine.proofs.Solutions.{view_is}
+use Rattle.iso_engine.proofs.Stability.{advance_step, plain_steps, ready_again, spent_by, step_ready}
+use Rattle.iso_engine.proofs.Stepping.{silent_out, stepped_again}
+use Rattle.iso_engine.proofs.engine.Engine.step.Goals as goal
+
+pub run-requires-clause-ready : goal.run-requires-clause-ready
+run-requires-clause-ready g c =
+    ready_again (g.W.A.Atoms.held c.args.atoms.now) (g.W.World.told c.args.world.now) c.args.self.now (Running c.in-Running.list)
+    (sym c.replace.ensures.value ∙ c.in-Running.is) c.requires.ready
+
+pub returns-in_ok-stopped-in-Running-clause-stepped : goal.returns-in_ok-stopped-in-Running-clause-stepped
+returns-in_ok-stopped-in-Running-clause-stepped g c =
+    let s = c.in_ok-stopped-in-Running in
+    let r = s.ensures.stepped in (
+      r.0,
+      stepped_again (g.W.A.Atoms.held c.args.atoms.now) (g.W.World.told c.args.world.now) c.args.self.now (Running c.in-Running.list) s.stopped
+          (g.W.A.Atoms.held c.run.new.atoms) (g.W.World.told c.run.new.world) c.run.new.self r.0 (sym c.replace.ensures.value ∙ c.in-Running.is) r.1,
+      silent_out c.args.out.now.items r.0 r.2,
+    )
+
+pub returns-in_ok-stopped-in-Failing-clause-refusals : goal.returns-in_ok-stopped-in-Failing-clause-refusals
+returns-in_ok-stopped-in-Failing-clause-refusals g c =
+    let a = c.args.atoms.now in
+    let m = g.W.A.Atoms.held a in
+    let t = g.W.World.told c.args.world.now in
+    let view = view_is m t (g.met.W.A.Atoms.fixed_held a) (g.met.W.A.Atoms.unlike a) (g.met.W.A.Atoms.finite a) in
+    let r = c.in_ok-stopped-in-Failing.ensures.stepped m t view (ready_again m t c.args.self.now c.replace.new.dest (sym c.replace.ensures.value ∙ c.in-Failing.is ∙ sym c.replace.ensures.after) c.requires.ready) in
+    sym (append-nil (g.W.A.Atoms.refusals a)) ∙ ap (λ l. g.W.A.Atoms.refusals a ++ l) (sym r.3)
+
+pub returns-in_ok-stopped-in-Failing-clause-spent : goal.returns-in_ok-stopped-in-Failing-clause-spent
+returns-in_ok-stopped-in-Failing-clause-spent g c =
+    let a = c.args.atoms.now in
+    let m = g.W.A.Atoms.held a in
+    let t = g.W.World.told c.args.world.now in
+    let view = view_is m t (g.met.W.A.Atoms.fixed_held a) (g.met.W.A.Atoms.unlike a) (g.met.W.A.Atoms.finite a) in
+    let r = c.in_ok-stopped-in-Failing.ensures.stepped m t view (ready_again m t c.args.self.now c.replace.new.dest (sym c.replace.ensures.value ∙ c.in-Failing.is ∙ sym c.replace.ensures.after) c.requires.ready) in
+    r.2
+
+pub returns-in_ok-stopped-in-Failing-clause-ready : goal.returns-in_ok-stopped-in-Failing-clause-ready
+returns-in_ok-stopped-in-Failing-clause-ready g c =
+    let a = c.args.atoms.now in
+    let m = g.W.A.Atoms.held a in
+    let t = g.W.World.told c.args.world.now in
+    let view = view_is m t (g.met.W.A.Atoms.fixed_held a) (g.met.W.A.Atoms.unlike a) (g.met.W.A.Atoms.finite a) in
+    let r = c.in_ok-stopped-in-Failing.ensures.stepped m t view (ready_again m t c.args.self.now c.replace.new.dest (sym c.replace.ensures.value ∙ c.in-Failing.is ∙ sym c.replace.ensures.after) c.requires.ready) in
+    r.0
+
+pub returns-in_ok-stopped-in-Failing-clause-stepped : goal.returns-in_ok-stopped-in-Failing-clause-stepped
+returns-in_ok-stopped-in-Failing-clause-stepped g c =
+    let a = c.args.atoms.now in
+    let m = g.W.A.Atoms.held a in
+    let t = g.W.World.told c.args.world.now in
+    let view = view_is m t (g.met.W.A.Atoms.fixed_held a) (g.met.W.A.Atoms.unlike a) (g.met.W.A.Atoms.finite a) in
+    let same = sym c.replace.ensures.value ∙ c.in-Failing.is ∙ sym c.replace.ensures.after in
+    let r = c.in_ok-stopped-in-Failing.ensures.stepped m t view (ready_again m t c.args.self.now c.replace.new.dest same c.requires.ready) in
+    ([], stepped_again m t c.args.self.now c.replace.new.dest c.in_ok-stopped-in-Failing.stopped m t c.fail.new.self [] same r.1, silent_out c.args.out.now.items [] refl)
+
+pub returns-in_ok-self-in-Throwing-clause-spent : goal.returns-in_ok-self-in-Throwing-clause-spent
+returns-in_ok-self-in-Throwing-clause-spent g c =
+    let e = c.args.self.now in
+    let a = c.args.atoms.now in
+    let m = g.W.A.Atoms.held a in
+    let t = g.W.World.told c.args.world.now in
+    let view = view_is m t (g.met.W.A.Atoms.fixed_held a) (g.met.W.A.Atoms.unlike a) (g.met.W.A.Atoms.finite a) in
+    let f = c.throw.new.search in
+    let d = c.in_ok-self-in-Throwing.field-0 in
+    let steps = plain_steps e.wanted e.given e.search f e.doing (Throwing c.in-Throwing.ball c.in-Throwing.outer) d (sym c.replace.ensures.value ∙ c.in-Throwing.is)
+    c.in_ok-self-in-Throwing.ensures.step in
+    spent_by e.wanted e.given e.search e.doing f d m t steps view
+
+pub returns-in_ok-self-in-Throwing-clause-ready : goal.returns-in_ok-self-in-Throwing-clause-ready
+returns-in_ok-self-in-Throwing-clause-ready g c =
+    let e = c.args.self.now in
+    let a = c.args.atoms.now in
+    let m = g.W.A.Atoms.held a in
+    let t = g.W.World.told c.args.world.now in
+    let view = view_is m t (g.met.W.A.Atoms.fixed_held a) (g.met.W.A.Atoms.unlike a) (g.met.W.A.Atoms.finite a) in
+    let f = c.throw.new.search in
+    let d = c.in_ok-self-in-Throwing.field-0 in
+    let steps = plain_steps e.wanted e.given e.search f e.doing (Throwing c.in-Throwing.ball c.in-Throwing.outer) d (sym c.replace.ensures.value ∙ c.in-Throwing.is)
+    c.in_ok-self-in-Throwing.ensures.step in
+    let new : Engine = record e { search = f; doing = d } in
+    step_ready m t e new steps c.in_ok-self-in-Throwing.ensures.whole view c.requires.ready
+
+pub returns-in_ok-self-in-Throwing-clause-stepped : goal.returns-in_ok-self-in-Throwing-clause-stepped
+returns-in_ok-self-in-Throwing-clause-stepped g c =
+    let e = c.args.self.now in
+    let a = c.args.atoms.now in
+    let m = g.W.A.Atoms.held a in
+    let t = g.W.World.told c.args.world.now in
+    let view = view_is m t (g.met.W.A.Atoms.fixed_held a) (g.met.W.A.Atoms.unlike a) (g.met.W.A.Atoms.finite a) in
+    let f = c.throw.new.search in
+    let d = c.in_ok-self-in-Throwing.field-0 in
+    let steps = plain_steps e.wanted e.given e.search f e.doing (Throwing c.in-Throwing.ball c.in-Throwing.outer) d (sym c.replace.ensures.value ∙ c.in-Throwing.is)
+    c.in_ok-self-in-Throwing.ensures.step in
+    let new : Engine = record e { search = f; doing = d } in
+    ([], advance_step m t e new steps c.in_ok-self-in-Throwing.ensures.budgets refl refl view, silent_out c.args.out.now.items [] refl)
+
+pub returns-in-Answering-clause-ready : goal.returns-in-Answering-clause-ready
+returns-in-Answering-clause-ready g c =
+    let e = c.args.self.now in
+    let a = c.args.atoms.now in
+    let m = g.W.A.Atoms.held a in
+    let t = g.W.World.told c.args.world.now in
+    let view = view_is m t (g.met.W.A.Atoms.fixed_held a) (g.met.W.A.Atoms.unlike a) (g.met.W.A.Atoms.finite a) in
+    let d = c.after_solution.result in
+    let steps = subst (λ (y : Doing). Steps e.wanted e.given e.search y e.search d) (sym (sym c.replace.ensures.value ∙ c.in-Answering.is))
+    (λ r v wants gave. c.after_solution.ensures r e.search wants gave) in
+    let new : Engine = record e { doing = d } in
+    step_ready m t e new steps c.requires.ready.whole view c.requires.ready
+
+pub returns-in-Answering-clause-stepped : goal.returns-in-Answering-clause-stepped
+returns-in-Answering-clause-stepped g c =
+    let e = c.args.self.now in
+    let a = c.args.atoms.now in
+    let m = g.W.A.Atoms.held a in
+    let t = g.W.World.told c.args.world.now in
+    let view = view_is m t (g.met.W.A.Atoms.fixed_held a) (g.met.W.A.Atoms.unlike a) (g.met.W.A.Atoms.finite a) in
+    let d = c.after_solution.result in
+    let steps = subst (λ (y : Doing). Steps e.wanted e.given e.search y e.search d) (sym (sym c.replace.ensures.value ∙ c.in-Answering.is))
+    (λ r v wants gave. c.after_solution.ensures r e.search wants gave) in
+    let new : Engine = record e { doing = d } in
+    ([], advance_step m t e new steps refl refl refl view, silent_out c.args.out.now.items [] refl)
+
+pub returns-in-Ended-clause-ready : goal.returns-in-Ended-clause-ready
+returns-in-Ended-clause-ready g c =
+    ready_again (g.W.A.Atoms.held c.args.atoms.now) (g.W.World.told c.args.world.now) c.args.self.now (Ended c.in-Ended.end)
+    (sym c.replace.ensures.value ∙ c.in-Ended.is) c.requires.ready

@@ -1,0 +1,55 @@
+use Rattle.std.proofs.Common.{◌≡◌, ◌++◌, List, Option, refl, subst, arith}
+use Rattle.std.specs.Prelude.{encode_utf8_all}
+use Rattle.pl_model.specs.Resolution.{Output}
+use Rattle.iso_engine.specs.declared.slices.Slice.{Slice}
+use Rattle.iso_engine.specs.Slices.{IsStepped, written_text}
+use Rattle.iso_engine.proofs.Walks.{none_refused, slice_ends, some_refused, walk_begins, walk_on, went_on}
+use Rattle.iso_engine.proofs.engine.Engine.steps.Goals as goal
+
+pub loop-init : goal.loop-init
+loop-init g c = (
+  walk_begins c.args.n (g.W.A.Atoms.held c.args.atoms.now) (g.W.World.told c.args.world.now) c.args.self.now c.args.out.now.items c.requires.runs c.requires.ready,
+  refl,
+)
+
+pub loop-preserved : goal.loop-preserved
+loop-preserved g c =
+    let m = g.W.A.Atoms.held c.args.atoms.now in
+    let n = g.W.A.Atoms.held c.loop.atoms in
+    let r = g.W.A.Atoms.held c.step.new.atoms in
+    let t = g.W.World.told c.args.world.now in
+    let u = g.W.World.told c.loop.world in
+    let w = g.W.World.told c.step.new.world in
+    let walk = c.loop.invariant.0 in
+    let low = walk.low in
+    let less = c.if-self-start.false in
+    let s = c.in_ok-stopped in
+    let went = went_on n r u w c.loop.self c.step.new.self c.loop.out.items c.step.new.out.items s.stopped s.ensures.stepped c.in_default.is in (
+      walk_on c.args.n m n r t u w c.args.self.now c.loop.self c.step.new.self c.args.out.now.items c.loop.out.items c.step.new.out.items went.0 walk went.1 went.2
+          c.step.ensures.runs s.ensures.ready c.step.ensures.holds s.ensures.spent (omega (arith, low, less)),
+      none_refused (g.W.A.Atoms.refusals c.args.atoms.now) (g.W.A.Atoms.refusals c.loop.atoms) (g.W.A.Atoms.refusals c.step.new.atoms) s.stopped c.loop.invariant.1
+          s.ensures.refusals c.in_default.is,
+    )
+
+pub returns-in-Some-clause-sliced : goal.returns-in-Some-clause-sliced
+returns-in-Some-clause-sliced g c =
+    let m = g.W.A.Atoms.held c.args.atoms.now in
+    let n = g.W.A.Atoms.held c.loop.atoms in
+    let r = g.W.A.Atoms.held c.step.new.atoms in
+    let t = g.W.World.told c.args.world.now in
+    let u = g.W.World.told c.loop.world in
+    let w = g.W.World.told c.step.new.world in
+    let walk = c.loop.invariant.0 in
+    let low = walk.low in
+    let less = c.if-self-start.false in
+    let s = c.in_ok-stopped in
+    let step = subst (λ (x : Option Slice). (more : List Output) × IsStepped n u c.loop.self x r w c.step.new.self more
+    × (c.step.new.out.items ≡ c.loop.out.items ++ encode_utf8_all (written_text more))) c.in-Some.is s.ensures.stepped in
+    slice_ends c.args.n m n r t u w c.args.self.now c.loop.self c.step.new.self c.args.out.now.items c.loop.out.items c.step.new.out.items walk s.ensures.spent
+    (omega (arith, low, less)) c.in-Some.slice step
+
+pub returns-in-Some-clause-refusals : goal.returns-in-Some-clause-refusals
+returns-in-Some-clause-refusals g c =
+    let s = c.in_ok-stopped in
+    some_refused (g.W.A.Atoms.refusals c.args.atoms.now) (g.W.A.Atoms.refusals c.loop.atoms) (g.W.A.Atoms.refusals c.step.new.atoms) s.stopped c.in-Some.slice c.loop.invariant.1
+    s.ensures.refusals c.in-Some.is

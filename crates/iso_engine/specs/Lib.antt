@@ -1,0 +1,13 @@
+pub mod Advancing
+pub mod Asking
+pub mod Failing
+pub mod Following
+pub mod Later
+pub mod Looking
+pub mod Missing
+pub mod Ready
+pub mod Slices
+pub mod Spending
+pub mod Standing
+pub mod Tasks
+pub mod Walking

@@ -1,0 +1,66 @@
+-- What is not built yet.
+use Rattle.std.specs.Prelude.{◌≡◌, List, [], ◌∷◌, ◌⊎◌, true, false, bytes_eq, codes, Bool}
+use Rattle.pl_term.specs.Tree.{Tree, int, comp, none, more}
+use Rattle.pl_model.specs.Resolution.{Pending, goal, commit, refute, leave, collect, Choice, clauses, running, failing, throwing, erasing, clearing, answering, ended}
+use Rattle.pl_model.specs.Resolution as resolution
+use Rattle.pl_model.specs.Control.{Construct, succeeds, cuts, conjunction, disjunction, if_then, if_then_else, fails, repeats, calls, not_provable, once, catches, throws, halts, other, construct}
+use Rattle.atom_api.specs.Names.{Names}
+use Rattle.world_api.specs.Told.{Told}
+use Rattle.iso_engine.specs.declared.engine.Engine.{Engine}
+use Rattle.iso_engine.specs.Later.{view_of}
+use Rattle.iso_search.specs.Searching.{choices_of}
+use Rattle.iso_engine.specs.Standing.{doing_of}
+
+-- Term unification (ISO 8.2.1).
+abbrev pub is_unification : Tree → Bool
+is_unification (comp f t (more u none)) = bytes_eq f (codes "=")
+is_unification _ = false
+
+-- Goals that are no control constructs, but for term unification.
+abbrev pub IsUnbuilt : Tree → Construct → Type 0
+IsUnbuilt g succeeds = ⊥
+IsUnbuilt g cuts = ⊥
+IsUnbuilt g (conjunction t u) = ⊥
+IsUnbuilt g (disjunction t u) = ⊥
+IsUnbuilt g (if_then t u) = ⊥
+IsUnbuilt g (if_then_else c t u) = ⊥
+IsUnbuilt g fails = ⊥
+IsUnbuilt g repeats = ⊥
+IsUnbuilt g (calls t ts) = ⊥
+IsUnbuilt g (not_provable t) = ⊥
+IsUnbuilt g (once t) = ⊥
+IsUnbuilt g (catches t c r) = ⊥
+IsUnbuilt g (throws t) = ⊥
+IsUnbuilt g (halts t) = ⊥
+IsUnbuilt g other = is_unification g ≡ false
+IsUnbuilt g _ = Unit {0}
+
+abbrev pub is_integer : Tree → Bool
+is_integer (int i) = true
+is_integer _ = false
+
+-- The first task is such a goal; or an integer, which is no goal; or a copy for findall/3.
+abbrev pub IsUnbuiltTask : Pending → Type 0
+IsUnbuiltTask (goal g h) = (is_integer g ≡ true) ⊎ IsUnbuilt g (construct g)
+IsUnbuiltTask (collect t h) = Unit {0}
+IsUnbuiltTask (commit h) = ⊥
+IsUnbuiltTask (refute h) = ⊥
+IsUnbuiltTask (leave h) = ⊥
+
+abbrev pub IsUnbuiltFirst : List Pending → Type 0
+IsUnbuiltFirst [] = ⊥
+IsUnbuiltFirst (p ∷ ps) = IsUnbuiltTask p
+
+-- The newest choice point has clauses left.
+abbrev pub HasClauses : List Choice → Type 0
+HasClauses (clauses p t cs n ∷ older) = Unit {0}
+HasClauses _ = ⊥
+
+abbrev pub IsUnbuiltDoing : resolution.Doing → List Choice → Type 0
+IsUnbuiltDoing (running n) cs = IsUnbuiltFirst n.goals
+IsUnbuiltDoing failing cs = HasClauses cs
+IsUnbuiltDoing _ cs = ⊥
+
+-- The next step is of a predicate that is not built.
+abbrev pub IsMissing : Names → Told → Engine → Type 0
+IsMissing m t e = IsUnbuiltDoing (doing_of (view_of m t) e.search e.doing) (choices_of (view_of m t) e.search)

@@ -1,0 +1,79 @@
+-- What a slice answers.
+use Rattle.std.specs.Prelude.{◌≡◌, ◌≤◌, ℕ, ◌+◌, List, [], ◌∷◌, ◌++◌, map, length, true, Option, Some, None, encode_utf8_all}
+use Rattle.pl_term.specs.Tree.{Chars, Tree}
+use Rattle.pl_model.specs.Resolution.{Output, text, solution}
+use Rattle.pl_model.specs.Requests.{Request}
+use Rattle.pl_model.specs.Service.{waits}
+use Rattle.pl_model.specs.Progress.{served_now}
+use Rattle.atom_api.specs.Names.{Names}
+use Rattle.world_api.specs.Told.{Told}
+use Rattle.iso_search.specs.Reading.{reads}
+use Rattle.iso_engine.specs.declared.doing.Doing.{Doing}
+use Rattle.iso_engine.specs.declared.doing.Doing.TheVariants.{Answering, Ended as EndedDoing}
+use Rattle.iso_engine.specs.declared.engine.Engine.{Engine}
+use Rattle.iso_engine.specs.declared.slices.Slice.{Slice}
+use Rattle.iso_engine.specs.declared.slices.Slice.TheVariants.{Yield, Solution, NeedsAtoms, Retry, Worn, Waits, Ended, Missing, Memory}
+use Rattle.iso_engine.specs.Advancing.{Advances}
+use Rattle.iso_engine.specs.Asking.{IsAsking}
+use Rattle.iso_engine.specs.Later.{view_of}
+use Rattle.iso_engine.specs.Missing.{IsMissing}
+
+-- The text of what a goal has written, its solutions aside.
+abbrev pub written_text : List Output → Chars
+written_text [] = []
+written_text (o ∷ os) = elim o [ text t ↦ t ++ written_text os | solution ops ts ↦ written_text os ]
+
+abbrev pub IsEnd : Doing → Type 0
+IsEnd (EndedDoing how) = Unit {0}
+IsEnd _ = ⊥
+
+-- The next request waits as the shared state stands.
+pub record IsWaitingNow (m : Names) (t : Told) (e : Engine) (g : ℕ) : Type 0 where
+  pub request : Request
+  pub asking : IsAsking m t e request
+  pub generation : g ≡ length t.history
+  pub waiting : served_now t.engine t.goals t.history request ≡ waits
+
+-- The terms of the goal's variables.
+abbrev pub answer_of : Names → Told → Engine → List Tree
+answer_of m t e = map (reads (view_of m t) e.search.store) e.search.answer.items
+
+-- Why no further step is made, where the goal has written this since.
+abbrev pub Stops : Names → Told → Engine → Slice → Type 0
+Stops m t e Yield = ⊥
+Stops m t e (Solution ops) = ⊥
+Stops m t e (NeedsAtoms p) = Unit {0}
+Stops m t e (Retry c) = Unit {0}
+Stops m t e (Worn w) = Unit {0}
+Stops m t e (Waits on g) = IsWaitingNow m t e g
+Stops m t e Ended = IsEnd e.doing
+Stops m t e (Missing p) = IsMissing m t e
+Stops m t e Memory = ⊥
+
+-- A step was made, or none.
+abbrev pub IsStepped : Names → Told → Engine → Option Slice → Names → Told → Engine → List Output → Type 0
+IsStepped m t e None n u f more = Advances 1 m t e n u f more
+IsStepped m t e (Some (Solution ops)) n u f more =
+    (more ≡ solution ops (answer_of n u f) ∷ []) × (f.doing ≡ Answering) × Advances 1 m t e n u f more
+IsStepped m t e (Some s) n u f more = (more ≡ []) × Stops n u f s × Advances 0 m t e n u f more
+
+-- How a slice of at most so many inferences ended, where the goal has written this in it.
+abbrev pub EndsWith : ℕ → Engine → Names → Told → Engine → List Output → Slice → Type 0
+EndsWith limit e n u f more Yield = f.search.inferences ≡ e.search.inferences + limit
+EndsWith limit e n u f more (Solution ops) =
+    (before : List Output) × (more ≡ before ++ solution ops (answer_of n u f) ∷ []) × (f.doing ≡ Answering)
+EndsWith limit e n u f more s = Stops n u f s
+
+-- The engine has come so far in a slice.
+pub record IsSlice (limit : ℕ) (m : Names) (t : Told) (e : Engine) (n : Names) (u : Told) (f : Engine) (old_out new_out : List ℕ) (s : Slice) : Type 0 where
+  pub steps : ℕ
+  pub written : List Output
+  pub advances : Advances steps m t e n u f written
+  pub out : new_out ≡ old_out ++ encode_utf8_all (written_text written)
+  pub spent : f.search.inferences ≤ e.search.inferences + limit
+  pub ends : EndsWith limit e n u f written s
+
+-- After want of memory nothing is said.
+abbrev pub IsSliced : ℕ → Names → Told → Engine → Names → Told → Engine → List ℕ → List ℕ → Slice → Type 0
+IsSliced limit m t e n u f old_out new_out Memory = f.broken ≡ true
+IsSliced limit m t e n u f old_out new_out s = IsSlice limit m t e n u f old_out new_out s

@@ -1,0 +1,30 @@
+//! What an engine does next.
+use iso_search::balls::Ball;
+
+/// How a search ended.
+#[derive(Drop)]
+pub enum End {
+    /// The solutions that were wanted were given.
+    Solved,
+    /// There is no further solution.
+    NoMore,
+    /// Nothing caught the ball (ISO 7.8.10).
+    Threw(Ball),
+    /// halt/1 with a status.
+    Halted(u8),
+}
+
+/// What is done next.
+#[derive(Drop)]
+pub enum Doing {
+    /// The tasks of a list are done.
+    Running(usize),
+    /// The newest choice point is gone back to (ISO 7.7.8).
+    Failing,
+    /// A ball looks for an active catch, one whose exit stands among the tasks of a list (ISO 7.8.10).
+    Throwing { ball: Ball, outer: usize },
+    /// A solution was given.
+    Answering,
+    /// The search has ended.
+    Ended(End),
+}

@@ -1,0 +1,46 @@
+//! What follows an outcome.
+ghost use Rattle.std.specs.Prelude.{◌≡◌, ℕ, IfOk};
+ghost use Rattle.pl_model.specs.Resolution.{Node};
+ghost use Rattle.term_store.specs.Heap.{atom_name};
+ghost use Rattle.iso_search.specs.Outcomes.{Setting, doing_by};
+ghost use Rattle.iso_search.specs.Reading.{IsView};
+ghost use Rattle.iso_search.specs.Searching.{IsWhole, node_of};
+ghost use Rattle.iso_search.specs.Spelling.{text_of};
+ghost use Rattle.iso_engine.specs.Following.{IsPlaced};
+ghost use Rattle.iso_engine.specs.Standing.{doing_of};
+
+use crate::doing::{Doing, End};
+use iso_search::balls::Ball;
+use iso_search::outcome::Outcome;
+use iso_search::search::Search;
+use pl_term::Memory;
+use std::alloc::Global;
+use world_api::Procedure;
+
+/// What is done after an outcome of this predicate, where the exits of the active catches stand among the tasks of a list.
+/// The only error is want of memory.
+pub fn follow(
+    alloc: Global,
+    search: &Search,
+    outcome: Outcome,
+    procedure: Procedure,
+    rest: usize,
+) -> Result<Doing, Memory>
+    requires { IsPlaced search.now.store outcome }
+    ensures { IfOk result (λ d. (t : Setting) → IsView t.view → doing_of t.view search.now d
+        ≡ doing_by t search.now (node_of t.view search.now rest) (record { name = text_of t.view.names (atom_name procedure.name); arity = procedure.arity }) outcome) }
+{
+    match outcome {
+        Outcome::Run(list) => Ok(Doing::Running(list)),
+        Outcome::Fail => Ok(Doing::Failing),
+        Outcome::Raise(fault) => {
+            let ball = Ball::error(alloc, &search.store, fault, procedure.name, procedure.arity)?;
+            Ok(Doing::Throwing { ball, outer: rest })
+        }
+        Outcome::Throw(place) => {
+            let ball = Ball::at(&search.store, place)?;
+            Ok(Doing::Throwing { ball, outer: rest })
+        }
+        Outcome::Halt(status) => Ok(Doing::Ended(End::Halted(status))),
+    }
+}

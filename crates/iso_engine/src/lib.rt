@@ -1,0 +1,19 @@
+//! Engines: the slices in which a goal is run, a step of resolution at a time (ISO/IEC 13211-1:1995, 7.7 and 7.8).
+#![tactic(auto)]
+
+pub mod answering;
+pub mod doing;
+pub mod engine;
+pub mod equal;
+pub mod fail;
+pub mod failing;
+pub mod following;
+pub mod looking;
+pub mod procedure;
+pub mod run;
+pub mod running;
+pub mod slice;
+pub mod slices;
+pub mod solving;
+pub mod step;
+pub mod throwing;

@@ -1,0 +1,55 @@
+//! The tasks of a list.
+ghost use Rattle.std.specs.Prelude.{◌≡◌, ◌++◌, [], false, List, IfOk, OnOk};
+ghost use Rattle.pl_model.specs.Resolution.{Output};
+ghost use Rattle.world_api.specs.Texts.{Holds};
+ghost use Rattle.world_api.specs.Told.{has_ended};
+ghost use Rattle.iso_engine.specs.declared.doing.Doing.TheVariants.{Running};
+ghost use Rattle.iso_engine.specs.Looking.{stopped_refusals};
+ghost use Rattle.iso_engine.specs.Ready.{IsReady};
+ghost use Rattle.iso_engine.specs.Spending.{IsSpent};
+ghost use Rattle.iso_engine.specs.Slices.{IsStepped, written_text};
+
+use crate::engine::Engine;
+use crate::running::{Did, do_task};
+use crate::slices::Slice;
+use iso_search::frames::first_task;
+use pl_term::Memory;
+use world_api::World;
+
+impl Engine {
+    /// Does the first task of a list, or gives a solution where there is none. The only error is want of memory.
+    pub fn run<W: World>(
+        &mut self,
+        list: usize,
+        world: &mut W,
+        atoms: &mut W::A,
+    ) -> Result<Option<Slice>, Memory>
+        requires runs { has_ended (W.told world.old).engine (W.told world.old).history ≡ false }
+        requires ready { IsReady (W.A.held atoms.old) (W.told world.old) self.old }
+        requires list { self.old.doing ≡ Running list }
+        ensures runs { has_ended (W.told world.new).engine (W.told world.new).history ≡ false }
+        ensures holds { Holds (W.A.held atoms.old) (W.A.held atoms.new) }
+        ensures refusals { IfOk result (λ o. W.A.refusals atoms.new ≡ W.A.refusals atoms.old ++ stopped_refusals o) }
+        ensures spent { OnOk result (IsSpent self.old.search.inferences self.new.search.inferences) }
+        ensures ready { OnOk result (IsReady (W.A.held atoms.new) (W.told world.new) self.new) }
+        ensures stepped { IfOk result (λ o. (more : List Output)
+            × IsStepped (W.A.held atoms.old) (W.told world.old) self.old o (W.A.held atoms.new) (W.told world.new) self.new more × (written_text more ≡ [])) }
+    {
+        match first_task(&self.search.frames, list) {
+            None => {
+                let slice = self.solve(world, atoms)?;
+                Ok(Some(slice))
+            }
+            Some(frame) => {
+                let did = do_task(self.alloc, &mut self.search, frame)?;
+                match did {
+                    Did::Next(doing) => {
+                        self.doing = doing;
+                        Ok(None)
+                    }
+                    Did::Missing(procedure) => Ok(Some(Slice::Missing(procedure))),
+                }
+            }
+        }
+    }
+}

@@ -1,0 +1,153 @@
+//! Tasks that are done without the shared state.
+ghost use Rattle.std.specs.Prelude.{◌≡◌, ◌≤◌, ℕ, ◌∷◌, length, IfNone, IfOk, IfSome, OnOk};
+ghost use Rattle.pl_model.specs.Control.{construct};
+ghost use Rattle.term_store.specs.Contents.{Holds};
+ghost use Rattle.iso_search.specs.declared.frames.Task.TheVariants.{Goal};
+ghost use Rattle.iso_search.specs.Choices.{IsTaskIn};
+ghost use Rattle.iso_search.specs.Constructs.{IsConstructIn, construction};
+ghost use Rattle.iso_search.specs.Frames.{tasks};
+ghost use Rattle.iso_search.specs.Goals.{IsLeft};
+ghost use Rattle.iso_search.specs.Reading.{IsView, View, reads};
+ghost use Rattle.iso_search.specs.Searching.{IsWhole};
+ghost use Rattle.iso_engine.specs.declared.doing.Doing.TheVariants.{Running};
+ghost use Rattle.iso_engine.specs.Following.{HasProcedure, StepsTo};
+ghost use Rattle.iso_engine.specs.Tasks.{IsDone, IsForOthers};
+
+use crate::doing::Doing;
+use crate::equal::{equal, unification_at};
+use crate::following::follow;
+use crate::procedure::procedure_at;
+use atom_api::fixed;
+use iso_search::construct::{Construct, construct_at};
+use iso_search::frames::{Frame, Task};
+use iso_search::search::Search;
+use pl_term::Memory;
+use std::alloc::Global;
+use term_store::Place;
+use world_api::Procedure;
+
+/// What came of a task.
+#[derive(Drop)]
+pub enum Did {
+    /// This is done next.
+    Next(Doing),
+    /// The task is for a predicate that is not built yet. Nothing has changed.
+    Missing(Procedure),
+}
+
+/// Does a task, before those of a list. The only error is want of memory.
+pub fn do_task(alloc: Global, search: &mut Search, frame: Frame) -> Result<Did, Memory>
+    requires whole { IsWhole search.old }
+    requires task { IsTaskIn search.old.store frame.task }
+    requires rest { frame.next ≤ length search.old.frames.items }
+    ensures whole { OnOk result (IsWhole search.new) }
+    ensures done { IfOk result (IsDone search.old frame.task frame.next search.new) }
+    ensures budgets { OnOk result (search.new.budgets ≡ search.old.budgets) }
+{
+    if let Some(doing) = leave(search, frame) {
+        return Ok(Did::Next(doing));
+    }
+    match frame.task {
+        Task::Goal(goal, cut) => {
+            let did = do_goal(alloc, search, goal, cut, frame.next)?;
+            Ok(did)
+        }
+        _ => Ok(Did::Missing(Procedure {
+            name: fixed::FINDALL,
+            arity: 3,
+        })),
+    }
+}
+
+/// Does a task, if it is an exit: from a condition, from `once/1`, from `\+` or from `catch/3`.
+fn leave(search: &mut Search, frame: Frame) -> Option<Doing>
+    requires { IsWhole search.old }
+    ensures whole { IsWhole search.new }
+    ensures step { IfSome result (λ d. (list : ℕ) → tasks search.old.frames.items list ≡ frame.task ∷ tasks search.old.frames.items frame.next
+        → StepsTo search.old (Running list) search.new d) }
+    ensures others { IfNone result (IsForOthers frame.task × (search.new ≡ search.old)) }
+    ensures budgets { search.new.budgets ≡ search.old.budgets }
+{
+    match frame.task {
+        Task::Goal(_, _) => None,
+        Task::Commit(height) => {
+            search.cut_to(height);
+            Some(Doing::Running(frame.next))
+        }
+        Task::Refute(height) => {
+            search.cut_to(height);
+            Some(Doing::Failing)
+        }
+        Task::Leave(_) => Some(Doing::Running(frame.next)),
+        Task::Collect(_, _) => None,
+    }
+}
+
+/// Takes up a goal, before the tasks of a list. The only error is want of memory.
+fn do_goal(
+    alloc: Global,
+    search: &mut Search,
+    goal: Place,
+    cut: usize,
+    rest: usize,
+) -> Result<Did, Memory>
+    requires whole { IsWhole search.old }
+    requires goal { Holds search.old.store goal }
+    requires rest { rest ≤ length search.old.frames.items }
+    ensures whole { OnOk result (IsWhole search.new) }
+    ensures done { IfOk result (IsDone search.old (Goal goal cut) rest search.new) }
+    ensures budgets { OnOk result (search.new.budgets ≡ search.old.budgets) }
+{
+    if let Some(arguments) = unification_at(&search.store, goal) {
+        let doing = equal(alloc, search, goal, arguments, rest)?;
+        return Ok(Did::Next(doing));
+    }
+    let Some(procedure) = procedure_at(&search.store, goal) else {
+        return Ok(Did::Missing(Procedure {
+            name: fixed::CALL,
+            arity: 1,
+        }));
+    };
+    let missing = Procedure {
+        name: procedure.name,
+        arity: procedure.arity,
+    };
+    let kind = construct_at(&search.store, goal);
+    let taken = take_up(alloc, search, goal, kind, procedure, cut, rest)?;
+    match taken {
+        Some(doing) => Ok(Did::Next(doing)),
+        None => Ok(Did::Missing(missing)),
+    }
+}
+
+/// Takes up a goal that is a control construct. None where the goal is something else. The only error is want of memory.
+fn take_up(
+    alloc: Global,
+    search: &mut Search,
+    goal: Place,
+    kind: Construct,
+    procedure: Procedure,
+    cut: usize,
+    rest: usize,
+) -> Result<Option<Doing>, Memory>
+    requires whole { IsWhole search.old }
+    requires goal { Holds search.old.store goal }
+    requires inside { IsConstructIn search.old.store kind }
+    requires stands { (v : View) → IsView v → construction v search.old.store kind ≡ construct (reads v search.old.store goal) }
+    requires procedure { HasProcedure search.old.store goal procedure }
+    requires rest { rest ≤ length search.old.frames.items }
+    ensures whole { OnOk result (IsWhole search.new) }
+    ensures step { IfOk result (λ a. IfSome a (λ d. (list : ℕ) → tasks search.old.frames.items list ≡ Goal goal cut ∷ tasks search.old.frames.items rest
+        → StepsTo search.old (Running list) search.new d)) }
+    ensures others { IfOk result (λ a. IfNone a ((search.new ≡ search.old) × IsLeft kind)) }
+    ensures budgets { OnOk result (search.new.budgets ≡ search.old.budgets) }
+{
+    let taken = search.take_up(alloc, goal, kind, cut, rest)?;
+    match taken {
+        None => Ok(None),
+        Some(outcome) => {
+            let doing = follow(alloc, search, outcome, procedure, rest)?;
+            Ok(Some(doing))
+        }
+    }
+}

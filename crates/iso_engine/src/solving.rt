@@ -1,0 +1,53 @@
+//! Solutions.
+ghost use Rattle.std.specs.Prelude.{◌≡◌, ◌++◌, ℕ, [], false, List, Some, IfOk, OnOk};
+ghost use Rattle.pl_model.specs.Resolution.{Output};
+ghost use Rattle.world_api.specs.Texts.{Holds};
+ghost use Rattle.world_api.specs.Told.{has_ended};
+ghost use Rattle.iso_search.specs.Frames.{tasks};
+ghost use Rattle.iso_search.specs.Reading.{IsView};
+ghost use Rattle.iso_engine.specs.declared.doing.Doing.TheVariants.{Running};
+ghost use Rattle.iso_engine.specs.Later.{view_of};
+ghost use Rattle.iso_engine.specs.Looking.{refusals_of};
+ghost use Rattle.iso_engine.specs.Ready.{IsReady};
+ghost use Rattle.iso_engine.specs.Spending.{IsSpent};
+ghost use Rattle.iso_engine.specs.Slices.{IsStepped, written_text};
+
+use crate::doing::Doing;
+use crate::engine::Engine;
+use crate::looking::{look, unless_memory};
+use crate::slices::Slice;
+use pl_term::Memory;
+use world_api::World;
+
+impl Engine {
+    /// Gives the solution where nothing is left to be done, with the operators that stand now. The only error is want of
+    /// memory.
+    pub fn solve<W: World>(&mut self, world: &mut W, atoms: &mut W::A) -> Result<Slice, Memory>
+        requires runs { has_ended (W.told world.old).engine (W.told world.old).history ≡ false }
+        requires ready { IsReady (W.A.held atoms.old) (W.told world.old) self.old }
+        requires list { (list : ℕ) × (self.old.doing ≡ Running list) × (tasks self.old.search.frames.items list ≡ []) }
+        ensures runs { has_ended (W.told world.new).engine (W.told world.new).history ≡ false }
+        ensures holds { Holds (W.A.held atoms.old) (W.A.held atoms.new) }
+        ensures refusals { IfOk result (λ s. W.A.refusals atoms.new ≡ W.A.refusals atoms.old ++ refusals_of s) }
+        ensures spent { OnOk result (IsSpent self.old.search.inferences self.new.search.inferences) }
+        ensures ready { OnOk result (IsReady (W.A.held atoms.new) (W.told world.new) self.new) }
+        ensures stepped { IfOk result (λ s. (more : List Output)
+            × IsStepped (W.A.held atoms.old) (W.told world.old) self.old (Some s) (W.A.held atoms.new) (W.told world.new) self.new more × (written_text more ≡ [])) }
+        ensures search { OnOk result (self.new.search ≡ self.old.search) }
+    {
+        let Some(given) = self.given.checked_add(1) else {
+            return Err(Memory);
+        };
+        match look(world, atoms) {
+            Ok(operators) => {
+                self.given = given;
+                self.doing = Doing::Answering;
+                Ok(Slice::Solution(operators))
+            }
+            Err(slice) => {
+                let stopped = unless_memory(slice)?;
+                Ok(stopped)
+            }
+        }
+    }
+}
