@@ -38,10 +38,10 @@ use Rattle.first_script.specs.Steps.{IsStay, Looked, activity_in, Fits, SameGoal
 comes_still : (job : Job) (x : Execution) (t u : Told) → u ≡ t → Comes job x t x u
 comes_still job x t u same = subst (λ (v : Told). Comes job x t x v) (sym same) (comes_same job x x t refl)
 
-same_goals : (x : Execution) → SameGoals x x
+pub same_goals : (x : Execution) → SameGoals x x
 same_goals x = record { words = refl; refusals = refl; output = refl }
 
-same_file : (c : Consult) → SameFile c c
+pub same_file : (c : Consult) → SameFile c c
 same_file c = record { name = refl; text = refl }
 
 -- The script stays where it is.
@@ -58,7 +58,7 @@ stayed term c stage t u out (Worn w) stays same whole job x at = (x, comes_still
 stayed term c stage t u out Memory stays same whole job x at = (x, comes_still job x t u same, same_goals x, tt, tt)
 
 -- What an item changes of the goals of the command: nothing.
-gone_goals : (x y : Execution) (r : Rest) → SameGoals x y → SameGoals x (gone_on y r)
+pub gone_goals : (x y : Execution) (r : Rest) → SameGoals x y → SameGoals x (gone_on y r)
 gone_goals x y (items_from at) s = record { words = s.words; refusals = s.refusals; output = s.output }
 gone_goals x y initialization s = record { words = s.words; refusals = s.refusals; output = s.output }
 

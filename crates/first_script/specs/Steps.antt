@@ -4,7 +4,8 @@ use Rattle.pl_term.specs.Tree.{Tree}
 use Rattle.pl_term.specs.Variables.{rename}
 use Rattle.pl_model.specs.declared.grammar.Quotes.{Quotes}
 use Rattle.pl_model.specs.OperatorTable.{OperatorTable}
-use Rattle.pl_model.specs.Requests.{look, standing}
+use Rattle.pl_model.specs.Requests.{Request, look, standing, consult_clause}
+use Rattle.pl_model.specs.Requests as requests
 use Rattle.pl_model.specs.Service.{answers}
 use Rattle.pl_model.specs.History.{Kind, History}
 use Rattle.pl_model.specs.Resolution.{Ending, solved, no_more, threw, exited, halted}
@@ -26,7 +27,10 @@ use Rattle.world_api.specs.declared.how.How.TheVariants.{Solved, False, Threw, E
 use Rattle.world_api.specs.declared.script.Next.{Next}
 use Rattle.world_api.specs.declared.script.Next.TheVariants.{Item, Done, Memory}
 use Rattle.world_api.specs.declared.reply.Reply.{Reply}
-use Rattle.world_api.specs.declared.reply.Reply.TheVariants.{Standing as ReplyStanding}
+use Rattle.world_api.specs.declared.reply.Reply.TheVariants.{Standing as ReplyStanding, Done as ReplyDone, Refused as ReplyRefused}
+use Rattle.world_api.specs.Visits.{clause_in}
+use Rattle.first_script.specs.declared.adds.Added.{Added}
+use Rattle.first_script.specs.declared.adds.Added.TheVariants.{Done as AddedDone, Refused as AddedRefused, Stays as AddedStays}
 use Rattle.world_api.specs.Told.{Told, Follows}
 use Rattle.world_api.specs.Answers.{seen_as}
 use Rattle.world_api.specs.Courses.{Part, of_directive}
@@ -68,6 +72,41 @@ IsLook reply l = ⊥
 abbrev pub look_refusals : Look → List Refusal
 look_refusals (Standing ops quotes) = []
 look_refusals (Stays next) = next_refusals next
+
+-- A request behind all entries that was answered so.
+pub record Asked (t u : Told) (q : Request) (reply : requests.Reply) : Type 0 where
+  pub before : History
+  pub update : Option Kind
+  pub follows : Follows t.engine t.history before
+  pub served : served_now t.engine t.goals before q ≡ answers reply update
+  pub told : u ≡ seen_as t (before ++ entry_by t.engine update) (t.gens ++ length before ∷ [])
+
+-- What the adding of this clause gives.
+abbrev pub AddedSo : Tree → (Tree → Tree) → Added → Told → Told → Type 0
+AddedSo clause term AddedDone t u = Asked t u (consult_clause (clause_in clause)) requests.done
+AddedSo clause term (AddedRefused e) t u = Asked t u (consult_clause (clause_in clause)) (requests.refused (term e))
+AddedSo clause term (AddedStays next) t u = IsStay next × (u ≡ t)
+
+-- What a reply tells of it.
+abbrev pub IsAddition : Reply Tree → Type 0
+IsAddition ReplyDone = Unit {0}
+IsAddition (ReplyRefused e) = Unit {0}
+IsAddition reply = ⊥
+
+abbrev pub IsAdded : Reply Tree → Added → Type 0
+IsAdded ReplyDone a = a ≡ AddedDone
+IsAdded (ReplyRefused e) a = a ≡ AddedRefused e
+IsAdded reply a = ⊥
+
+abbrev pub added_refusals : Added → List Refusal
+added_refusals AddedDone = []
+added_refusals (AddedRefused e) = []
+added_refusals (AddedStays next) = next_refusals next
+
+abbrev pub added_names : (Tree → List ℕ) → Added → List ℕ
+added_names names AddedDone = []
+added_names names (AddedRefused e) = names e
+added_names names (AddedStays next) = []
 
 abbrev pub step_refusals : Step → List Refusal
 step_refusals Goes = []

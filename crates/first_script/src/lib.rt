@@ -1,6 +1,7 @@
 //! The script of the first engine: the items of the file, the goals of initialization/1, and then the goals of the command.
 #![tactic(auto)]
 
+mod adds;
 mod gives;
 mod items;
 mod looks;
@@ -8,6 +9,7 @@ mod reports;
 mod stage;
 mod stops;
 
+pub use adds::add_clause;
 pub use gives::{give_directive, next_initialization};
 pub use items::take_item;
 pub use reports::report;

@@ -1,0 +1,28 @@
+use Rattle.std.proofs.Common.{refl}
+use Rattle.pl_term.specs.Tree.{Tree}
+use Rattle.term_store.specs.NumberedNames.{term_by}
+use Rattle.world_api.specs.Texts.{text_of}
+use Rattle.first_script.specs.declared.stage.Stage.TheVariants.{Clause}
+use Rattle.first_script.proofs.AddLaws.{add_goes}
+use Rattle.first_script.proofs.StepLaws.{stayed}
+use Rattle.first_script.proofs.adds.add_clause.Goals as goal
+
+pub returns-in-Done-clause-moved : goal.returns-in-Done-clause-moved
+returns-in-Done-clause-moved g c =
+    add_goes (λ (u : Tree). u) c.args.consult.now c.args.clause (term_by (text_of (g.W.A.Atoms.held c.interned.new.atoms)) c.in-Ok.kept) c.args.place c.args.operators
+    (g.W.World.told c.args.world.now) (g.W.World.told c.add.new.world) c.args.text.now.items c.in-Ok.ensures.term c.in-Done.ensures.adds
+
+pub returns-in-Refused-clause-moved : goal.returns-in-Refused-clause-moved
+returns-in-Refused-clause-moved g c =
+    c.refuse.ensures.moved (term_by (text_of (g.W.A.Atoms.held c.refuse.new.atoms))) c.args.clause (term_by (text_of (g.W.A.Atoms.held c.interned.new.atoms)) c.in-Ok.kept)
+    (g.W.World.told c.args.world.now) (g.W.World.told c.add.new.world) c.in-Ok.ensures.term c.in-Refused.ensures.adds
+
+pub returns-in-Stays-clause-moved : goal.returns-in-Stays-clause-moved
+returns-in-Stays-clause-moved g c =
+    stayed (term_by (text_of (g.W.A.Atoms.held c.add.new.atoms))) c.args.consult.now (Clause c.args.clause c.args.place c.args.operators) _ _ _ c.in-Stays.next
+    c.in-Stays.ensures.adds.0 c.in-Stays.ensures.adds.1 refl
+
+pub returns-in-Err-clause-moved : goal.returns-in-Err-clause-moved
+returns-in-Err-clause-moved g c =
+    stayed (term_by (text_of (g.W.A.Atoms.held c.interned.new.atoms))) c.args.consult.now (Clause c.args.clause c.args.place c.args.operators) _ _ _ c.stopped.result
+    c.stopped.ensures.stays refl refl

@@ -1,0 +1,21 @@
+use Rattle.term_store.specs.NumberedNames.{term_by}
+use Rattle.world_api.specs.Texts.{text_of}
+use Rattle.first_script.specs.declared.stage.Stage.TheVariants.{Items}
+use Rattle.first_script.proofs.AddLaws.{refuse_goes, refuse_failed}
+use Rattle.first_script.proofs.adds.refuse.Goals as goal
+
+pub returns-in-Ok-refuse-clause-moved : goal.returns-in-Ok-refuse-clause-moved
+returns-in-Ok-refuse-clause-moved g c term clause kept t u renamed l =
+    refuse_goes term c.args.consult.now clause kept (term_by (text_of (g.A.Atoms.held c.args.atoms.now)) c.args.error.now) c.args.place c.args.operators.now t u
+    c.args.text.now.items c.refuse.new.out.items renamed l
+    (rw c.in-Ok.ensures.term at c.in-Ok-refuse.ensures)
+
+pub returns-in-Err-refuse-clause-moved : goal.returns-in-Err-refuse-clause-moved
+returns-in-Err-refuse-clause-moved g c term clause kept t u renamed l =
+    refuse_failed term c.args.consult.now clause kept (term_by (text_of (g.A.Atoms.held c.args.atoms.now)) c.args.error.now) c.args.place c.args.operators.now t u
+    c.args.text.now.items c.refuse.new.out.items Items renamed l
+
+pub returns-in-Err-clause-moved : goal.returns-in-Err-clause-moved
+returns-in-Err-clause-moved g c term clause kept t u renamed l =
+    refuse_failed term c.args.consult.now clause kept (term_by (text_of (g.A.Atoms.held c.args.atoms.now)) c.args.error.now) c.args.place c.args.operators.now t u
+    c.args.text.now.items c.args.text.now.items Items renamed l
