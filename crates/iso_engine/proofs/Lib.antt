@@ -1,11 +1,15 @@
 pub mod Arms
+pub mod Beginning
 pub mod Equals
 pub mod Failed
 pub mod Followed
+pub mod Fresh
 pub mod Heldness
 pub mod Later
 pub mod Looked
 pub mod Naming
+pub mod Numbered
+pub mod Places
 pub mod Procedures
 pub mod Solutions
 pub mod Spending

@@ -1,6 +1,7 @@
 pub mod Advancing
 pub mod Asking
 pub mod Failing
+pub mod Finding
 pub mod Following
 pub mod Later
 pub mod Looking
@@ -9,5 +10,6 @@ pub mod Ready
 pub mod Slices
 pub mod Spending
 pub mod Standing
+pub mod Starting
 pub mod Tasks
 pub mod Walking

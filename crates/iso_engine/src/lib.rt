@@ -15,5 +15,7 @@ pub mod running;
 pub mod slice;
 pub mod slices;
 pub mod solving;
+pub mod starting;
 pub mod step;
 pub mod throwing;
+pub mod variables;
