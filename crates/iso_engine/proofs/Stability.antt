@@ -109,7 +109,7 @@ advance_none m t e =
       later = later_stays m t;
     }
 
-count-append : (xs ys : List Output) → solution_count (xs ++ ys) ≡ solution_count xs + solution_count ys
+pub count-append : (xs ys : List Output) → solution_count (xs ++ ys) ≡ solution_count xs + solution_count ys
 count-append [] ys = omega arith
 count-append (text t ∷ xs) ys = count-append xs ys
 count-append (solution ops ts ∷ xs) ys = ap suc (count-append xs ys) ∙ (let n : suc (solution_count xs + solution_count ys) ≡ suc (solution_count xs) + solution_count ys = omega arith in n)

@@ -3,7 +3,7 @@ use Rattle.std.proofs.Common.{◌≡◌, ℕ, suc, ◌+◌, ◌-◌, ◌<◌, �
 use Rattle.std.specs.Prelude.{encode_utf8_all}
 use Rattle.std.specs.Char.{encode_utf8}
 use Rattle.pl_term.specs.Tree.{Chars}
-use Rattle.pl_model.specs.Resolution.{Output, text, solution}
+use Rattle.pl_model.specs.Resolution.{Output, text, solution, solution_count}
 use Rattle.atom_api.specs.Names.{Names}
 use Rattle.atom_words.specs.declared.view.Refusal.{Refusal}
 use Rattle.world_api.specs.Texts.{Holds}
@@ -50,6 +50,7 @@ walk_begins limit m t e a runs ready =
       low = omega arith;
       high = omega arith;
       holds = λ i x h. h;
+      given = refl;
     }
 
 -- A step more.
@@ -61,9 +62,10 @@ pub walk_on : (limit : ℕ) (m n r : Names) (t u w : Told) (e f g : Engine) (a b
     → IsReady r w g
     → Holds n r
     → IsSpent f.search.inferences g.search.inferences
+    → g.given ≡ f.given
     → f.search.inferences < e.search.inferences + limit
     → IsWalk limit m t e r w g a c
-walk_on limit m n r t u w e f g a b c more walk step out runs ready holds spent below =
+walk_on limit m n r t u w e f g a b c more walk step out runs ready holds spent given below =
     record {
       runs = runs;
       ready = ready;
@@ -74,6 +76,7 @@ walk_on limit m n r t u w e f g a b c more walk step out runs ready holds spent 
       low = lower spent walk.low;
       high = higher spent below;
       holds = λ i x h. holds i x (walk.holds i x h);
+      given = given ∙ walk.given;
     }
   where
     lower : (g.search.inferences ≡ f.search.inferences) ⊎ (g.search.inferences ≡ suc f.search.inferences) → e.search.inferences ≤ f.search.inferences → e.search.inferences ≤ g.search.inferences
@@ -91,6 +94,10 @@ pub went_on : (n r : Names) (u w : Told) (f g : Engine) (b c : List ℕ) (o : Op
     → (more : List Output) × Advances 1 n u f r w g more × (c ≡ b ++ encode_utf8_all (written_text more))
 went_on n r u w f g b c o h is =
     let went = subst (λ (x : Option Slice). (more : List Output) × IsStepped n u f x r w g more × (c ≡ b ++ encode_utf8_all (written_text more))) is h in went
+
+-- No solution was given where the count stayed.
+none_given : (a b k : ℕ) → b ≡ a + k → b ≡ a → k ≡ 0
+none_given a b k h same = omega (arith, h, same)
 
 -- The slice ends with this.
 module _ (limit : ℕ) (m n r : Names) (t u w : Told) (e f g : Engine) (a b c : List ℕ) (walk : IsWalk limit m t e n u f a b)
@@ -112,15 +119,21 @@ module _ (limit : ℕ) (m n r : Names) (t u w : Told) (e f g : Engine) (a b c : 
         ends = ends;
       }
 
+  silent : solution_count walk.written ≡ 0
+  silent = none_given e.given f.given (solution_count walk.written) walk.advances.given walk.given
+
+  nothing : (more : List Output) → more ≡ [] → solution_count (walk.written ++ more) ≡ 0
+  nothing more is = ap (λ l. solution_count (walk.written ++ l)) is ∙ ap solution_count (append-nil walk.written) ∙ silent
+
   pub slice_ends : (s : Slice) → (more : List Output) × IsStepped n u f (Some s) r w g more × (c ≡ b ++ encode_utf8_all (written_text more)) → IsSlice limit m t e r w g a c s
   slice_ends Yield (more, h, out) = absurd h.1
-  slice_ends (Solution ops) (more, h, out) = ended 1 more (Solution ops) h.2 out (walk.written, ap (λ l. walk.written ++ l) h.0, h.1)
-  slice_ends (NeedsAtoms p) (more, h, out) = ended 0 more (NeedsAtoms p) h.2 out h.1
-  slice_ends (Retry q) (more, h, out) = ended 0 more (Retry q) h.2 out h.1
-  slice_ends (Worn q) (more, h, out) = ended 0 more (Worn q) h.2 out h.1
-  slice_ends (Waits on q) (more, h, out) = ended 0 more (Waits on q) h.2 out h.1
-  slice_ends Ended (more, h, out) = ended 0 more Ended h.2 out h.1
-  slice_ends (Missing p) (more, h, out) = ended 0 more (Missing p) h.2 out h.1
+  slice_ends (Solution ops) (more, h, out) = ended 1 more (Solution ops) h.2 out (walk.written, silent, ap (λ l. walk.written ++ l) h.0, h.1)
+  slice_ends (NeedsAtoms p) (more, h, out) = ended 0 more (NeedsAtoms p) h.2 out (h.1, nothing more h.0)
+  slice_ends (Retry q) (more, h, out) = ended 0 more (Retry q) h.2 out (h.1, nothing more h.0)
+  slice_ends (Worn q) (more, h, out) = ended 0 more (Worn q) h.2 out (h.1, nothing more h.0)
+  slice_ends (Waits on q) (more, h, out) = ended 0 more (Waits on q) h.2 out (h.1, nothing more h.0)
+  slice_ends Ended (more, h, out) = ended 0 more Ended h.2 out (h.1, nothing more h.0)
+  slice_ends (Missing p) (more, h, out) = ended 0 more (Missing p) h.2 out (h.1, nothing more h.0)
   slice_ends Memory (more, h, out) = absurd h.1
 
 -- So many inferences were made.
@@ -133,7 +146,10 @@ slice_yields limit m n t u e f a b walk enough =
       advances = walk.advances;
       out = walk.out;
       spent = walk.high;
-      ends = (let p = walk.low in let q = walk.high in omega (arith, p, q, enough));
+      ends = (
+        (let p = walk.low in let q = walk.high in omega (arith, p, q, enough)),
+        none_given e.given f.given (solution_count walk.written) walk.advances.given walk.given,
+      );
     }
 
 pub sliced_by : (limit : ℕ) (m n : Names) (t u : Told) (e f : Engine) (a b : List ℕ) (s : Slice) → IsSlice limit m t e n u f a b s → IsSliced limit m t e n u f a b s
@@ -145,7 +161,7 @@ sliced_by limit m n t u e f a b (Worn w) h = h
 sliced_by limit m n t u e f a b (Waits on g) h = h
 sliced_by limit m n t u e f a b Ended h = h
 sliced_by limit m n t u e f a b (Missing p) h = h
-sliced_by limit m n t u e f a b Memory h = absurd h.ends
+sliced_by limit m n t u e f a b Memory h = absurd h.ends.0
 
 pub refused_by : (xs ys : List Refusal) (s : Slice) → ys ≡ xs ++ refusals_of s → IsRefusedBy s xs ys
 refused_by xs ys Yield h = h

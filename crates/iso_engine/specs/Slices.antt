@@ -1,7 +1,7 @@
 -- What a slice answers.
 use Rattle.std.specs.Prelude.{◌≡◌, ◌≤◌, ℕ, ◌+◌, List, [], ◌∷◌, ◌++◌, map, length, true, Option, Some, None, encode_utf8_all}
 use Rattle.pl_term.specs.Tree.{Chars, Tree}
-use Rattle.pl_model.specs.Resolution.{Output, text, solution}
+use Rattle.pl_model.specs.Resolution.{Output, text, solution, solution_count}
 use Rattle.pl_model.specs.Requests.{Request}
 use Rattle.pl_model.specs.Service.{waits}
 use Rattle.pl_model.specs.Progress.{served_now}
@@ -59,10 +59,10 @@ IsStepped m t e (Some s) n u f more = (more ≡ []) × Stops n u f s × Advances
 
 -- How a slice of at most so many inferences ended, where the goal has written this in it.
 abbrev pub EndsWith : ℕ → Engine → Names → Told → Engine → List Output → Slice → Type 0
-EndsWith limit e n u f more Yield = f.search.inferences ≡ e.search.inferences + limit
+EndsWith limit e n u f more Yield = (f.search.inferences ≡ e.search.inferences + limit) × (solution_count more ≡ 0)
 EndsWith limit e n u f more (Solution ops) =
-    (before : List Output) × (more ≡ before ++ solution ops (answer_of n u f) ∷ []) × (f.doing ≡ Answering)
-EndsWith limit e n u f more s = Stops n u f s
+    (before : List Output) × (solution_count before ≡ 0) × (more ≡ before ++ solution ops (answer_of n u f) ∷ []) × (f.doing ≡ Answering)
+EndsWith limit e n u f more s = Stops n u f s × (solution_count more ≡ 0)
 
 -- The engine has come so far in a slice.
 pub record IsSlice (limit : ℕ) (m : Names) (t : Told) (e : Engine) (n : Names) (u : Told) (f : Engine) (old_out new_out : List ℕ) (s : Slice) : Type 0 where

@@ -20,3 +20,4 @@ pub record IsWalk (limit : ℕ) (m : Names) (t : Told) (e : Engine) (n : Names) 
   pub low : e.search.inferences ≤ f.search.inferences
   pub high : f.search.inferences ≤ e.search.inferences + limit
   pub holds : Holds m n
+  pub given : f.given ≡ e.given

@@ -30,6 +30,7 @@ impl Engine {
         ensures stepped { IfOk result (λ o. (m : Names) (t : Told) → IsView (view_of m t) → IsReady m t self.old
             → (IsReady m t self.new) × (IsStepped m t self.old o m t self.new []) × (IsSpent self.old.search.inferences self.new.search.inferences)
             × (stopped_refusals o ≡ [])) }
+        ensures given { self.new.given ≡ self.old.given }
     {
         let back = self.search.resume();
         if let Some(doing) = after_failure(back) {

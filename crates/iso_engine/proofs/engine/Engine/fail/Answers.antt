@@ -21,6 +21,7 @@ returns-in-Some c = record {
         spent_by e.wanted e.given e.search e.doing f d m t steps view,
         refl,
       );
+  given = refl;
 }
 
 pub returns : goal.returns
@@ -33,4 +34,5 @@ returns c = record {
       let pushed = c.in_ok-push_choice-in-Retry.ensures in
       retry_missing e f x r.goal r.generation r.place r.next c.match-procedure_at.procedure m t view ready c.requires.fails refl refl refl
       (subst (IsTaken e.search x) r.is c.resume-back.ensures.taken) pushed.choices c.resume-back.ensures.kept pushed.kept pushed.whole;
+  given = refl;
 }

@@ -3,6 +3,7 @@ use Rattle.std.specs.Prelude.{encode_utf8_all}
 use Rattle.pl_model.specs.Resolution.{Output}
 use Rattle.iso_engine.specs.declared.slices.Slice.{Slice}
 use Rattle.iso_engine.specs.Slices.{IsStepped, written_text}
+use Rattle.iso_engine.proofs.Arms.{when_none}
 use Rattle.iso_engine.proofs.Walks.{none_refused, slice_ends, some_refused, walk_begins, walk_on, went_on}
 use Rattle.iso_engine.proofs.engine.Engine.steps.Goals as goal
 
@@ -26,7 +27,7 @@ loop-preserved g c =
     let s = c.in_ok-stopped in
     let went = went_on n r u w c.loop.self c.step.new.self c.loop.out.items c.step.new.out.items s.stopped s.ensures.stepped c.in_default.is in (
       walk_on c.args.n m n r t u w c.args.self.now c.loop.self c.step.new.self c.args.out.now.items c.loop.out.items c.step.new.out.items went.0 walk went.1 went.2
-          c.step.ensures.runs s.ensures.ready c.step.ensures.holds s.ensures.spent (omega (arith, low, less)),
+          c.step.ensures.runs s.ensures.ready c.step.ensures.holds s.ensures.spent (when_none _ _ s.ensures.given c.in_default.is) (omega (arith, low, less)),
       none_refused (g.W.A.Atoms.refusals c.args.atoms.now) (g.W.A.Atoms.refusals c.loop.atoms) (g.W.A.Atoms.refusals c.step.new.atoms) s.stopped c.loop.invariant.1
           s.ensures.refusals c.in_default.is,
     )
