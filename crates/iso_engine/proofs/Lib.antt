@@ -1,3 +1,4 @@
+pub mod Answered
 pub mod Arms
 pub mod Beginning
 pub mod Equals

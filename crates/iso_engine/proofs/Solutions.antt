@@ -37,7 +37,7 @@ pub view_is : (m : Names) (t : Told) → FixedStand m → ((a b : ℕ) (x : Char
     → ((a : ℕ) (x : Chars) → m a ≡ Some x → (a < 2 ^ 32) × (size x ≤ 248) × (all_scalars x ≡ true)) → IsView (view_of m t)
 view_is m t fixed unlike finite = record { fixed = fixed; apart = texts_apart m unlike (λ a x h. (finite a x h).2) }
 
-abbrev node_in : Node → resolution.Doing → Node
+abbrev pub node_in : Node → resolution.Doing → Node
 node_in d (running n) = n
 node_in d failing = d
 node_in d (throwing b ps) = d

@@ -127,7 +127,7 @@ module _ (limit : ℕ) (m n r : Names) (t u w : Told) (e f g : Engine) (a b c : 
 
   pub slice_ends : (s : Slice) → (more : List Output) × IsStepped n u f (Some s) r w g more × (c ≡ b ++ encode_utf8_all (written_text more)) → IsSlice limit m t e r w g a c s
   slice_ends Yield (more, h, out) = absurd h.1
-  slice_ends (Solution ops) (more, h, out) = ended 1 more (Solution ops) h.2 out (walk.written, silent, ap (λ l. walk.written ++ l) h.0, h.1)
+  slice_ends (Solution ops) (more, h, out) = ended 1 more (Solution ops) h.2 out (walk.written, silent, ap (λ l. walk.written ++ l) h.0, h.1, h.3)
   slice_ends (NeedsAtoms p) (more, h, out) = ended 0 more (NeedsAtoms p) h.2 out (h.1, nothing more h.0)
   slice_ends (Retry q) (more, h, out) = ended 0 more (Retry q) h.2 out (h.1, nothing more h.0)
   slice_ends (Worn q) (more, h, out) = ended 0 more (Worn q) h.2 out (h.1, nothing more h.0)

@@ -6,6 +6,8 @@ use Rattle.pl_model.specs.Requests.{Request}
 use Rattle.pl_model.specs.Service.{waits}
 use Rattle.pl_model.specs.Progress.{served_now}
 use Rattle.atom_api.specs.Names.{Names}
+use Rattle.std.specs.List.{All}
+use Rattle.world_builtins.specs.Naming.{IsHeldAt}
 use Rattle.world_api.specs.Told.{Told}
 use Rattle.iso_search.specs.Reading.{reads}
 use Rattle.iso_engine.specs.declared.doing.Doing.{Doing}
@@ -38,6 +40,10 @@ pub record IsWaitingNow (m : Names) (t : Told) (e : Engine) (g : ℕ) : Type 0 w
 abbrev pub answer_of : Names → Told → Engine → List Tree
 answer_of m t e = map (reads (view_of m t) e.search.store) e.search.answer.items
 
+-- Each atom of the terms of the goal's variables is held.
+abbrev pub IsAnswerHeld : Names → Engine → Type 0
+IsAnswerHeld m e = All (IsHeldAt m e.search.store) e.search.answer.items
+
 -- Why no further step is made, where the goal has written this since.
 abbrev pub Stops : Names → Told → Engine → Slice → Type 0
 Stops m t e Yield = ⊥
@@ -54,7 +60,7 @@ Stops m t e Memory = ⊥
 abbrev pub IsStepped : Names → Told → Engine → Option Slice → Names → Told → Engine → List Output → Type 0
 IsStepped m t e None n u f more = Advances 1 m t e n u f more
 IsStepped m t e (Some (Solution ops)) n u f more =
-    (more ≡ solution ops (answer_of n u f) ∷ []) × (f.doing ≡ Answering) × Advances 1 m t e n u f more
+    (more ≡ solution ops (answer_of n u f) ∷ []) × (f.doing ≡ Answering) × Advances 1 m t e n u f more × IsAnswerHeld n f
 IsStepped m t e (Some s) n u f more = (more ≡ []) × Stops n u f s × Advances 0 m t e n u f more
 
 -- How a slice of at most so many inferences ended, where the goal has written this in it.
@@ -62,6 +68,7 @@ abbrev pub EndsWith : ℕ → Engine → Names → Told → Engine → List Outp
 EndsWith limit e n u f more Yield = (f.search.inferences ≡ e.search.inferences + limit) × (solution_count more ≡ 0)
 EndsWith limit e n u f more (Solution ops) =
     (before : List Output) × (solution_count before ≡ 0) × (more ≡ before ++ solution ops (answer_of n u f) ∷ []) × (f.doing ≡ Answering)
+    × IsAnswerHeld n f
 EndsWith limit e n u f more s = Stops n u f s × (solution_count more ≡ 0)
 
 -- The engine has come so far in a slice.

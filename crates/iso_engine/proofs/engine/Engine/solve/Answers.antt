@@ -5,6 +5,7 @@ use Rattle.iso_engine.specs.declared.doing.Doing.TheVariants.{Answering}
 use Rattle.iso_engine.specs.declared.engine.Engine.{Engine}
 use Rattle.iso_engine.specs.Looking.{IsRefused}
 use Rattle.iso_engine.specs.Slices.{answer_of}
+use Rattle.iso_engine.proofs.Answered.{answer_held}
 use Rattle.iso_engine.proofs.Solutions.{refused_ready, refused_stepped, solved, solved_ready, view_is}
 use Rattle.iso_engine.proofs.engine.Engine.solve.Goals as goal
 
@@ -33,7 +34,10 @@ returns-in-Ok-clause-stepped g c =
     let view = view_is n u (g.met.W.A.Atoms.fixed_held a) (g.met.W.A.Atoms.unlike a) (g.met.W.A.Atoms.finite a) in
     let walked = solved m n t u e f c.requires.list.0 c.in-Ok.operators c.requires.list.1 c.requires.list.2
     (ap (λ k. let x : Engine = record e { doing = Answering; given = k } in x) c.in-Some.ensures.1) c.requires.ready.stable view c.look.ensures.holds c.in-Ok.ensures.looked
-    in (solution c.in-Ok.operators (answer_of n u f) ∷ [], (refl, refl, walked), refl)
+    in let b = c.args.atoms.now
+    in let answered = answer_held m n t e c.requires.list.0 (g.met.W.A.Atoms.fixed_held b) (g.met.W.A.Atoms.unlike b) (g.met.W.A.Atoms.finite b) c.requires.list.1 c.requires.ready.stable
+    c.look.ensures.holds
+    in (solution c.in-Ok.operators (answer_of n u f) ∷ [], (refl, refl, walked, answered), refl)
 
 pub returns-in_ok-stopped-in-Err-clause-ready : goal.returns-in_ok-stopped-in-Err-clause-ready
 returns-in_ok-stopped-in-Err-clause-ready g c =
