@@ -5,6 +5,7 @@ pub mod Closed
 pub mod Reading
 pub mod Additions
 pub mod Retrying
+pub mod Generations
 pub mod Visiting
 pub mod Soundness
 pub mod HeadNodes

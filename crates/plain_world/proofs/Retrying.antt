@@ -24,25 +24,25 @@ use Rattle.plain_world.proofs.Closed.{keyed, listed_same}
 
 -- Lists with the same places and clauses.
 
-abbrev Same : List (Stored Clause) → List (Stored Clause) → Type 0
+abbrev pub Same : {C : Type 0} → List (Stored C) → List (Stored C) → Type 0
 Same xs ys = named_clauses xs ≡ named_clauses ys
 
-head_place : (x y : Stored Clause) (xs ys : List (Stored Clause)) → Same (x ∷ xs) (y ∷ ys) → x.place ≡ y.place
-head_place x y xs ys e = ap (λ (t : ℕ × Clause). t.0) (head_is e)
+pub head_place : {C : Type 0} (x y : Stored C) (xs ys : List (Stored C)) → Same (x ∷ xs) (y ∷ ys) → x.place ≡ y.place
+head_place {C} x y xs ys e = ap (λ (t : ℕ × C). t.0) (head_is e)
   where
-    head_is : Same (x ∷ xs) (y ∷ ys) → ◌≡◌ {A = ℕ × Clause} (x.place, x.clause) (y.place, y.clause)
+    head_is : Same (x ∷ xs) (y ∷ ys) → ◌≡◌ {A = ℕ × C} (x.place, x.clause) (y.place, y.clause)
     head_is h = cc
 
-head_clause : (x y : Stored Clause) (xs ys : List (Stored Clause)) → Same (x ∷ xs) (y ∷ ys) → x.clause ≡ y.clause
-head_clause x y xs ys e = ap (λ (t : ℕ × Clause). t.1) (head_is e)
+pub head_clause : {C : Type 0} (x y : Stored C) (xs ys : List (Stored C)) → Same (x ∷ xs) (y ∷ ys) → x.clause ≡ y.clause
+head_clause {C} x y xs ys e = ap (λ (t : ℕ × C). t.1) (head_is e)
   where
-    head_is : Same (x ∷ xs) (y ∷ ys) → ◌≡◌ {A = ℕ × Clause} (x.place, x.clause) (y.place, y.clause)
+    head_is : Same (x ∷ xs) (y ∷ ys) → ◌≡◌ {A = ℕ × C} (x.place, x.clause) (y.place, y.clause)
     head_is h = cc
 
-tail_same : (x y : Stored Clause) (xs ys : List (Stored Clause)) → Same (x ∷ xs) (y ∷ ys) → Same xs ys
+pub tail_same : {C : Type 0} (x y : Stored C) (xs ys : List (Stored C)) → Same (x ∷ xs) (y ∷ ys) → Same xs ys
 tail_same x y xs ys e = cc
 
-filter_named : (P : Clause → Bool) (xs ys : List (Stored Clause)) → Same xs ys → Same (filter (λ s. P s.clause) xs) (filter (λ s. P s.clause) ys)
+pub filter_named : {C : Type 0} (P : C → Bool) (xs ys : List (Stored C)) → Same xs ys → Same (filter (λ s. P s.clause) xs) (filter (λ s. P s.clause) ys)
 filter_named P [] [] e = refl
 filter_named P [] (y ∷ ys) e = absurd (cc)
 filter_named P (x ∷ xs) [] e = absurd (cc)

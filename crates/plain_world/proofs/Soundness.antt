@@ -10,7 +10,7 @@ use Rattle.pl_model.specs.Database.{Stored, Database, opening_database, is_syste
 use Rattle.pl_model.specs.SharedState.{state_at}
 use Rattle.pl_model.specs.declared.shows.Proc.{Proc}
 use Rattle.clause_db.specs.Parts.{Held}
-use Rattle.clause_db.specs.Stands.{StandsFor}
+use Rattle.clause_db.specs.Stands.{StandsFor, then_at}
 use Rattle.clause_db.specs.Faults.{addition_fault}
 use Rattle.plain_world.specs.declared.entry.Entry.{Entry}
 use Rattle.plain_world.specs.declared.adding.Adding.{Adding}
@@ -21,6 +21,7 @@ use Rattle.plain_world.specs.Trees.{trees_at, tree_change}
 use Rattle.plain_world.specs.Sound.{IsSound, AllOpen, AllWithin}
 use Rattle.plain_world.proofs.Snoc.{after_snoc, trees_snoc}
 use Rattle.plain_world.proofs.Additions.{open_by}
+use Rattle.plain_world.proofs.Generations.{then_newest}
 
 trees_start : trees_at [] ≡ opening_database
 unfolding trees_at
@@ -35,7 +36,7 @@ unfolding state_at
 operators_start goals = refl
 
 pub sound_start : (goals : ℕ) (db : Held Tree)
-    → StandsFor kept_cells db opening_database
+    → StandsFor kept_cells db (λ g. opening_database)
     → db.next ≡ 0
     → db.floor ≡ 0
     → db.flags ≡ opening_flags
@@ -43,7 +44,9 @@ pub sound_start : (goals : ℕ) (db : Held Tree)
     → IsSound goals [] [] db
 sound_start goals db stands next floor flags operators =
     record {
-      stands = subst (λ d. StandsFor kept_cells db d) (sym trees_start) stands;
+      all = λ g. opening_database;
+      stands = stands;
+      newest = sym trees_start;
       flags = flags ∙ sym (flags_start goals);
       operators = operators ∙ sym (operators_start goals);
       next = omega (arith, next);
@@ -61,7 +64,9 @@ pub sound_noted : (goals : ℕ) (es : List Entry) (gens : List ℕ) (db : Held T
     → IsSound goals es (gens ++ length es ∷ []) db
 sound_noted goals es gens db sound =
     record {
+      all = sound.all;
       stands = sound.stands;
+      newest = sound.newest;
       flags = sound.flags;
       operators = sound.operators;
       next = sound.next;
@@ -95,9 +100,9 @@ open_added First k p t d all is = (is, all)
 open_added Last k p t d all is = open_last d.clauses _ all is
 
 pub sound_added : (goals : ℕ) (es : List Entry) (gens : List ℕ) (db new : Held Tree) (by : Adding) (p : Proc) (t : Tree)
-    → IsSound goals es gens db
-    → addition_fault kept_cells (trees_at es) (proc_of p) (origin_by by) t ≡ None
-    → StandsFor kept_cells new (tree_change (length es) (added_entry by p t) (trees_at es))
+    → (sound : IsSound goals es gens db)
+    → addition_fault kept_cells (sound.all (length es)) (proc_of p) (origin_by by) t ≡ None
+    → StandsFor kept_cells new (then_at (length es) (tree_change (length es) (added_entry by p t)) sound.all)
     → new.next ≡ length es + 1
     → new.floor ≡ db.floor
     → new.flags ≡ db.flags
@@ -105,7 +110,13 @@ pub sound_added : (goals : ℕ) (es : List Entry) (gens : List ℕ) (db new : He
     → IsSound goals (es ++ added_entry by p t ∷ []) (gens ++ length es ∷ []) new
 sound_added goals es gens db new by p t sound granted stands next floor flags operators =
     record {
-      stands = subst (λ d. StandsFor kept_cells new d) (sym (trees_snoc es (added_entry by p t))) stands;
+      all = then_at (length es) (tree_change (length es) (added_entry by p t)) sound.all;
+      stands = stands;
+      newest =
+          then_newest (length es) (tree_change (length es) (added_entry by p t)) sound.all (length (es ++ added_entry by p t ∷ []))
+          (omega (arith, length-append es (added_entry by p t ∷ [])))
+          ∙ ap (tree_change (length es) (added_entry by p t)) sound.newest
+          ∙ sym (trees_snoc es (added_entry by p t));
       flags = flags ∙ sound.flags ∙ flags_kept goals es by p t;
       operators = operators ∙ sound.operators ∙ operators_kept goals es by p t;
       next = omega (arith, next, length-append es (added_entry by p t ∷ []));
@@ -115,7 +126,7 @@ sound_added goals es gens db new by p t sound granted stands next floor flags op
           subst
           (λ (d : Database Tree). AllOpen d.clauses)
           (sym (trees_snoc es (added_entry by p t)))
-          (open_added by (length es) p t (trees_at es) sound.open_only (open_by by t (proc_of p) (trees_at es) granted));
+          (open_added by (length es) p t (trees_at es) sound.open_only (open_by by t (proc_of p) (trees_at es) (subst (λ d. addition_fault kept_cells d (proc_of p) (origin_by by) t ≡ None) sound.newest granted)));
     }
 
 -- The same by the lists as they are.
@@ -123,9 +134,9 @@ pub sound_added_at : (goals n : ℕ) (es all : List Entry) (gens more : List ℕ
     → n ≡ length es
     → all ≡ es ++ added_entry by p t ∷ []
     → more ≡ gens ++ n ∷ []
-    → IsSound goals es gens db
-    → addition_fault kept_cells (trees_at es) (proc_of p) (origin_by by) t ≡ None
-    → StandsFor kept_cells new (tree_change n (added_entry by p t) (trees_at es))
+    → (sound : IsSound goals es gens db)
+    → addition_fault kept_cells (sound.all n) (proc_of p) (origin_by by) t ≡ None
+    → StandsFor kept_cells new (then_at n (tree_change n (added_entry by p t)) sound.all)
     → new.next ≡ n + 1
     → new.floor ≡ db.floor
     → new.flags ≡ db.flags
@@ -134,8 +145,9 @@ pub sound_added_at : (goals n : ℕ) (es all : List Entry) (gens more : List ℕ
 sound_added_at goals n es all gens more db new by p t at all_is more_is sound granted stands next floor flags operators =
     subst (λ (xs : List Entry). IsSound goals xs more new) (sym all_is)
     (subst (λ (gs : List ℕ). IsSound goals (es ++ added_entry by p t ∷ []) gs new) (sym (more_is ∙ ap (λ k. gens ++ k ∷ []) at))
-    (sound_added goals es gens db new by p t sound granted
-    (subst (λ k. StandsFor kept_cells new (tree_change k (added_entry by p t) (trees_at es))) at stands)
+    (sound_added goals es gens db new by p t sound
+    (subst (λ k. addition_fault kept_cells (sound.all k) (proc_of p) (origin_by by) t ≡ None) at granted)
+    (subst (λ k. StandsFor kept_cells new (then_at k (tree_change k (added_entry by p t)) sound.all)) at stands)
     (next ∙ ap (λ k. k + 1) at) floor flags operators))
 
 -- The journal as contracts see it.

@@ -1,7 +1,7 @@
 -- When the database is that of the updates so far.
 use Rattle.std.specs.Prelude.{◌≡◌, ℕ, ◌≤◌, List, [], ◌∷◌, false, length}
 use Rattle.pl_term.specs.Tree.{Tree}
-use Rattle.pl_model.specs.Database.{Stored, is_system}
+use Rattle.pl_model.specs.Database.{Stored, Database, is_system}
 use Rattle.pl_model.specs.KeptCells.{kept_cells}
 use Rattle.clause_db.specs.Parts.{Held}
 use Rattle.clause_db.specs.Stands.{StandsFor}
@@ -20,7 +20,10 @@ AllOpen [] = Unit {0}
 AllOpen (s ∷ ss) = (is_system s.procedure ≡ false) × AllOpen ss
 
 pub record IsSound (goals : ℕ) (es : List Entry) (gens : List ℕ) (db : Held Tree) : Type 0 where
-  pub stands : StandsFor kept_cells db (trees_at es)
+  -- the databases of all generations, the newest of which is that of the updates so far
+  pub all : ℕ → Database Tree
+  pub stands : StandsFor kept_cells db all
+  pub newest : all (length es) ≡ trees_at es
   pub flags : db.flags ≡ (state_after goals es).flags
   pub operators : db.operators ≡ (state_after goals es).operators
   pub next : db.next ≤ length es

@@ -1,12 +1,12 @@
 //! Clauses that are added to the database.
-ghost use Rattle.std.specs.Prelude.{◌≡◌, ◌≤◌, ◌<◌, ◌+◌, ◌^◌, ◌⊎◌, Some, None, IfSome, IfNone, IfOk};
+ghost use Rattle.std.specs.Prelude.{◌≡◌, ◌≤◌, ◌<◌, ◌+◌, ◌^◌, ◌⊎◌, ℕ, Some, None, IfSome, IfNone, IfOk};
 ghost use Rattle.pl_term.specs.Tree.{Tree};
 ghost use Rattle.pl_model.specs.Shown.{proc_of, origin_of};
 ghost use Rattle.pl_model.specs.History.{assert};
 ghost use Rattle.pl_model.specs.KeptCells.{kept_cells};
 ghost use Rattle.pl_model.specs.Database.{Database, with_first, with_last};
 ghost use Rattle.pl_model.specs.declared.shows.Origin.TheVariants.{Assert};
-ghost use Rattle.clause_db.specs.Stands.{StandsFor};
+ghost use Rattle.clause_db.specs.Stands.{StandsFor, then_at};
 ghost use Rattle.clause_db.specs.Faults.{addition_fault};
 ghost use Rattle.clause_db.specs.declared.fault.DbFault.TheVariants.{Memory as NoMemory};
 ghost use Rattle.plain_world.specs.Trees.{tree_change};
@@ -57,12 +57,12 @@ pub fn adding_entry(to: Proc, clause: Flat, by: Adding) -> Entry
 pub fn put(db: &mut Db<Flat>, p: &Proc, clause: Flat, by: Adding, place: u64) -> Option<DbFault>
     requires bound { place < 2 ^ 49 }
     requires later { db.old.next ≤ place }
-    ensures refused { (d : Database Tree) → StandsFor kept_cells db.old d
-        → IfSome result (λ f. (f ≡ NoMemory) ⊎ (addition_fault kept_cells d (proc_of p.now) (origin_by by) clause ≡ Some f)) }
-    ensures granted { (d : Database Tree) → StandsFor kept_cells db.old d
-        → IfNone result (addition_fault kept_cells d (proc_of p.now) (origin_by by) clause ≡ None) }
-    ensures added { (d : Database Tree) → StandsFor kept_cells db.old d
-        → IfNone result (StandsFor kept_cells db.new (tree_change place (added_entry by p.now clause) d)) }
+    ensures refused { (d : ℕ → Database Tree) → StandsFor kept_cells db.old d
+        → IfSome result (λ f. (f ≡ NoMemory) ⊎ (addition_fault kept_cells (d place) (proc_of p.now) (origin_by by) clause ≡ Some f)) }
+    ensures granted { (d : ℕ → Database Tree) → StandsFor kept_cells db.old d
+        → IfNone result (addition_fault kept_cells (d place) (proc_of p.now) (origin_by by) clause ≡ None) }
+    ensures added { (d : ℕ → Database Tree) → StandsFor kept_cells db.old d
+        → IfNone result (StandsFor kept_cells db.new (then_at place (tree_change place (added_entry by p.now clause)) d)) }
     ensures next { IfNone result (db.new.next ≡ place + 1) }
     ensures floor { IfNone result (db.new.floor ≡ db.old.floor) }
     ensures flags { IfNone result (db.new.flags ≡ db.old.flags) }
@@ -86,12 +86,12 @@ fn put_last(
 ) -> Option<DbFault>
     requires bound { place < 2 ^ 49 }
     requires later { db.old.next ≤ place }
-    ensures refused { (d : Database Tree) → StandsFor kept_cells db.old d
-        → IfSome result (λ f. (f ≡ NoMemory) ⊎ (addition_fault kept_cells d (proc_of p.now) origin clause ≡ Some f)) }
-    ensures granted { (d : Database Tree) → StandsFor kept_cells db.old d
-        → IfNone result (addition_fault kept_cells d (proc_of p.now) origin clause ≡ None) }
-    ensures added { (d : Database Tree) → StandsFor kept_cells db.old d
-        → IfNone result (StandsFor kept_cells db.new (with_last place (proc_of p.now) clause (origin_of origin) d)) }
+    ensures refused { (d : ℕ → Database Tree) → StandsFor kept_cells db.old d
+        → IfSome result (λ f. (f ≡ NoMemory) ⊎ (addition_fault kept_cells (d place) (proc_of p.now) origin clause ≡ Some f)) }
+    ensures granted { (d : ℕ → Database Tree) → StandsFor kept_cells db.old d
+        → IfNone result (addition_fault kept_cells (d place) (proc_of p.now) origin clause ≡ None) }
+    ensures added { (d : ℕ → Database Tree) → StandsFor kept_cells db.old d
+        → IfNone result (StandsFor kept_cells db.new (then_at place (with_last place (proc_of p.now) clause (origin_of origin)) d)) }
     ensures next { IfNone result (db.new.next ≡ place + 1) }
     ensures floor { IfNone result (db.new.floor ≡ db.old.floor) }
     ensures flags { IfNone result (db.new.flags ≡ db.old.flags) }
@@ -108,12 +108,12 @@ fn put_last(
 fn put_first(db: &mut Db<Flat>, p: &Proc, clause: Flat, place: u64) -> Option<DbFault>
     requires bound { place < 2 ^ 49 }
     requires later { db.old.next ≤ place }
-    ensures refused { (d : Database Tree) → StandsFor kept_cells db.old d
-        → IfSome result (λ f. (f ≡ NoMemory) ⊎ (addition_fault kept_cells d (proc_of p.now) Assert clause ≡ Some f)) }
-    ensures granted { (d : Database Tree) → StandsFor kept_cells db.old d
-        → IfNone result (addition_fault kept_cells d (proc_of p.now) Assert clause ≡ None) }
-    ensures added { (d : Database Tree) → StandsFor kept_cells db.old d
-        → IfNone result (StandsFor kept_cells db.new (with_first place (proc_of p.now) clause assert d)) }
+    ensures refused { (d : ℕ → Database Tree) → StandsFor kept_cells db.old d
+        → IfSome result (λ f. (f ≡ NoMemory) ⊎ (addition_fault kept_cells (d place) (proc_of p.now) Assert clause ≡ Some f)) }
+    ensures granted { (d : ℕ → Database Tree) → StandsFor kept_cells db.old d
+        → IfNone result (addition_fault kept_cells (d place) (proc_of p.now) Assert clause ≡ None) }
+    ensures added { (d : ℕ → Database Tree) → StandsFor kept_cells db.old d
+        → IfNone result (StandsFor kept_cells db.new (then_at place (with_first place (proc_of p.now) clause assert) d)) }
     ensures next { IfNone result (db.new.next ≡ place + 1) }
     ensures floor { IfNone result (db.new.floor ≡ db.old.floor) }
     ensures flags { IfNone result (db.new.flags ≡ db.old.flags) }

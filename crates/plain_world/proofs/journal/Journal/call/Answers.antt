@@ -1,7 +1,12 @@
 use Rattle.std.proofs.Common.{◌≡◌, ℕ, None, Some, length, map, ap, sym, subst, ◌∙◌}
 use Rattle.pl_term.specs.Tree.{Tree}
 use Rattle.pl_model.specs.Shown.{proc_of}
-use Rattle.pl_model.specs.Database.{choices, is_known}
+use Rattle.std.specs.Prelude.{Err}
+use Rattle.std.specs.Result.{IsOkAnd}
+use Rattle.std.specs.Option.{MatchOption}
+use Rattle.pl_model.specs.Database.{Database, choices, is_known}
+use Rattle.clause_db.specs.Faults.{call_fault}
+use Rattle.clause_db.specs.declared.access.By.TheVariants.{Goal}
 use Rattle.clause_db.specs.Stands.{first_named}
 use Rattle.gen_core.specs.Hits.{hit_of}
 use Rattle.world_api.specs.declared.reply.Found.{Found}
@@ -21,7 +26,9 @@ returns-in-Ok-None c = λ goal asked.
     in let p = proc_of c.args.p.now in
     let g = c.len-generation.result in
     let trees = trees_at l.entries in
-    let found = call_found (is_known trees p) c.call.result c.in-Ok-None.field-0 (λ r. hit_of r ≡ first_named (choices (keyed c.args.first.now) g p trees)) c.in-Ok-None.is (c.call.ensures trees sound.stands) in
+    let found = call_found (is_known trees p) c.call.result c.in-Ok-None.field-0 (λ r. hit_of r ≡ first_named (choices (keyed c.args.first.now) g p trees)) c.in-Ok-None.is (subst
+    (λ (d : Database Tree). MatchOption (call_fault d p Goal) (IsOkAnd c.call.result (λ r. hit_of r ≡ first_named (choices (keyed c.args.first.now) g p d))) (λ f. c.call.result ≡ Err f))
+    (ap sound.all (c.len-generation.ensures ∙ c.self.inside.entries.ok.0 ∙ ap (λ m. length m.entries) c.self.view_is) ∙ sound.newest) (c.call.ensures sound.all sound.stands)) in
     call_reads l goal p c.args.first.now None asked sound.open_only found.0
     (subst (λ (n : ℕ). IsFrontOf None (map as_stored (choices (keyed c.args.first.now) n p trees)))
     (c.len-generation.ensures ∙ c.self.inside.entries.ok.0 ∙ ap (λ m. length m.entries) c.self.view_is)
@@ -36,7 +43,9 @@ returns-in_ok-first-in-Ok-Some c = λ goal asked.
     let g = c.len-generation.result in
     let trees = trees_at l.entries in
     let first = c.in_ok-first-in-Ok-Some.first in
-    let found = call_found (is_known trees p) c.call.result c.in-Ok-Some.field-0 (λ r. hit_of r ≡ first_named (choices (keyed c.args.first.now) g p trees)) c.in-Ok-Some.is (c.call.ensures trees sound.stands) in
+    let found = call_found (is_known trees p) c.call.result c.in-Ok-Some.field-0 (λ r. hit_of r ≡ first_named (choices (keyed c.args.first.now) g p trees)) c.in-Ok-Some.is (subst
+    (λ (d : Database Tree). MatchOption (call_fault d p Goal) (IsOkAnd c.call.result (λ r. hit_of r ≡ first_named (choices (keyed c.args.first.now) g p d))) (λ f. c.call.result ≡ Err f))
+    (ap sound.all (c.len-generation.ensures ∙ c.self.inside.entries.ok.0 ∙ ap (λ m. length m.entries) c.self.view_is) ∙ sound.newest) (c.call.ensures sound.all sound.stands)) in
     call_reads l goal p c.args.first.now (Some first) asked sound.open_only found.0
     (subst (λ (n : ℕ). IsFrontOf (Some first) (map as_stored (choices (keyed c.args.first.now) n p trees)))
     (c.len-generation.ensures ∙ c.self.inside.entries.ok.0 ∙ ap (λ m. length m.entries) c.self.view_is)
@@ -51,4 +60,6 @@ returns-in-Err c = λ goal asked.
     in let p = proc_of c.args.p.now in
     let trees = trees_at l.entries in
     c.unknown.ensures goal asked.predicate
-    (unknown_there l p (call_refused (is_known trees p) c.call.result c.in-Err.field-0 (λ r. hit_of r ≡ first_named (choices (keyed c.args.first.now) c.len-generation.result p trees)) c.in-Err.is (c.call.ensures trees sound.stands)))
+    (unknown_there l p (call_refused (is_known trees p) c.call.result c.in-Err.field-0 (λ r. hit_of r ≡ first_named (choices (keyed c.args.first.now) c.len-generation.result p trees)) c.in-Err.is (subst
+    (λ (d : Database Tree). MatchOption (call_fault d p Goal) (IsOkAnd c.call.result (λ r. hit_of r ≡ first_named (choices (keyed c.args.first.now) c.len-generation.result p d))) (λ f. c.call.result ≡ Err f))
+    (ap sound.all (c.len-generation.ensures ∙ c.self.inside.entries.ok.0 ∙ ap (λ m. length m.entries) c.self.view_is) ∙ sound.newest) (c.call.ensures sound.all sound.stands))))

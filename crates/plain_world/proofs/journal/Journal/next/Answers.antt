@@ -12,6 +12,7 @@ use Rattle.plain_world.specs.Trees.{trees_at, as_stored}
 use Rattle.plain_world.proofs.Closed.{keyed}
 use Rattle.plain_world.proofs.Reading.{is_ok, front_none, front_some}
 use Rattle.plain_world.proofs.Retrying.{is_within, place_now, is_seen, front_then}
+use Rattle.plain_world.proofs.Generations.{at_same, seen_then, first_then, once_now}
 use Rattle.plain_world.proofs.Soundness.{sound_view}
 use Rattle.plain_world.proofs.journal.Journal.next.Goals as goal
 
@@ -28,9 +29,13 @@ returns-in-Ok-None c = λ goal asked.
     let there : has_place c.args.place (map as_stored (choices (keyed k) g p trees)) ≡ true =
     place_now l g c.args.place c.requires.among.0 p k within c.requires.among.1 sound.open_only c.requires.among.2 in
     let rest = filter (λ (s : Stored Tree). not (keyed k s.clause)) (after c.args.place (seen g p trees)) in
-    let found = is_ok c.retry.result c.in-Ok-None.field-0 (λ r. hit_of r ≡ first_named rest) c.in-Ok-None.is
-    (c.retry.ensures trees p sound.stands (is_seen c.args.place (λ (s : Stored Tree). not (keyed k s.clause)) (seen g p trees) there)) in
-    front_then l g c.args.place goal p k None within asked sound.open_only (sound.stands.once c.args.place) there
+    let found =
+    is_ok c.retry.result c.in-Ok-None.field-0 (λ r. hit_of r ≡ first_named (filter (λ (s : Stored Tree). not (keyed k s.clause)) (after c.args.place (seen g p (sound.all g))))) c.in-Ok-None.is
+    (c.retry.ensures sound.all p sound.stands
+    (sym (at_same c.args.place (seen g p trees) (seen g p (sound.all g)) (seen_then sound g p))
+    ∙ is_seen c.args.place (λ (s : Stored Tree). not (keyed k s.clause)) (seen g p trees) there))
+    ∙ first_then sound g c.args.place p (λ t. not (keyed k t)) in
+    front_then l g c.args.place goal p k None within asked sound.open_only (once_now sound c.args.place) there
     (front_none rest (sym (ap hit_of c.in-Ok-None.field-0-is) ∙ found))
 
 pub returns-in_ok-next-in-Ok-Some : goal.returns-in_ok-next-in-Ok-Some
@@ -47,8 +52,12 @@ returns-in_ok-next-in-Ok-Some c = λ goal asked.
     place_now l g c.args.place c.requires.among.0 p k within c.requires.among.1 sound.open_only c.requires.among.2 in
     let rest = filter (λ (s : Stored Tree). not (keyed k s.clause)) (after c.args.place (seen g p trees)) in
     let next = c.in_ok-next-in-Ok-Some.next in
-    let found = is_ok c.retry.result c.in-Ok-Some.field-0 (λ r. hit_of r ≡ first_named rest) c.in-Ok-Some.is
-    (c.retry.ensures trees p sound.stands (is_seen c.args.place (λ (s : Stored Tree). not (keyed k s.clause)) (seen g p trees) there)) in
-    front_then l g c.args.place goal p k (Some next) within asked sound.open_only (sound.stands.once c.args.place) there
+    let found =
+    is_ok c.retry.result c.in-Ok-Some.field-0 (λ r. hit_of r ≡ first_named (filter (λ (s : Stored Tree). not (keyed k s.clause)) (after c.args.place (seen g p (sound.all g))))) c.in-Ok-Some.is
+    (c.retry.ensures sound.all p sound.stands
+    (sym (at_same c.args.place (seen g p trees) (seen g p (sound.all g)) (seen_then sound g p))
+    ∙ is_seen c.args.place (λ (s : Stored Tree). not (keyed k s.clause)) (seen g p trees) there))
+    ∙ first_then sound g c.args.place p (λ t. not (keyed k t)) in
+    front_then l g c.args.place goal p k (Some next) within asked sound.open_only (once_now sound c.args.place) there
     (front_some rest next
     (ap (λ (f : Found Tree). Some (f.place, f.clause, f.more)) c.in_ok-next-in-Ok-Some.ensures ∙ sym (ap hit_of c.in-Ok-Some.field-0-is) ∙ found))
