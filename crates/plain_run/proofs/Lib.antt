@@ -1,0 +1,4 @@
+pub mod Answered
+pub mod Outputs
+pub mod Rounds
+pub mod Stopping

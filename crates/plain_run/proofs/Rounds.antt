@@ -1,0 +1,73 @@
+-- One slice behind another.
+use Rattle.std.proofs.Common.{◌≡◌, ℕ, ◌+◌, List, [], ◌∷◌, ◌++◌, map, Option, None, Some, refl, sym, ap, subst, ◌∙◌, append_assoc, append-nil}
+use Rattle.std.specs.Prelude.{encode_utf8_all}
+use Rattle.pl_term.specs.Tree.{Chars}
+use Rattle.pl_model.specs.Resolution.{Output}
+use Rattle.atom_words.specs.declared.view.Cause.{Cause}
+use Rattle.atom_words.specs.declared.view.Refusal.{Refusal}
+use Rattle.atom_words.specs.declared.view.Refusal.TheVariants.{Again as RefusalAgain}
+use Rattle.atom_api.specs.Names.{Names}
+use Rattle.world_api.specs.Told.{Told}
+use Rattle.iso_engine.specs.declared.engine.Engine.{Engine}
+use Rattle.iso_engine.proofs.Stability.{advance_none, advance_then}
+use Rattle.plain_run.specs.declared.searched.Searched.{Searched}
+use Rattle.plain_run.specs.Searched.{HasRun, IsCarriedOn, IsRefusedOnce, IsSearched, last_refusals, stop_refusals}
+
+-- The ways of writing by which a piece can be put behind a piece.
+abbrev pub IsInPieces : (Chars → List Output → Chars) → Type 0
+IsInPieces put = ((t : Chars) → put t [] ≡ t) × ((t : Chars) (xs ys : List Output) → put t (xs ++ ys) ≡ put (put t xs) ys)
+
+module _ (put : Chars → List Output → Chars) (pieces : IsInPieces put) where
+  pub run_begins : (m : Names) (t : Told) (e : Engine) (a : List ℕ) → HasRun put m t e m t e a a
+  run_begins m t e a =
+      record { steps = 0; written = []; advances = advance_none m t e; out = λ before is. is ∙ ap encode_utf8_all (sym (pieces.0 before)) }
+
+  pub run_then : (m n r : Names) (t u w : Told) (e f g : Engine) (a b c : List ℕ)
+      → HasRun put m t e n u f a b → HasRun put n u f r w g b c → HasRun put m t e r w g a c
+  run_then m n r t u w e f g a b c x y =
+      record {
+        steps = y.steps + x.steps;
+        written = x.written ++ y.written;
+        advances = advance_then x.steps y.steps m n r t u w e f g x.written y.written x.advances y.advances;
+        out = λ before is. y.out (put before x.written) (x.out before is) ∙ ap encode_utf8_all (sym (pieces.1 before x.written y.written));
+      }
+
+  -- A slice that does not stop the search.
+  pub goes_on : (m n r : Names) (t u w : Told) (e f g : Engine) (a b c : List ℕ) (o : Option Searched)
+      → HasRun put m t e n u f a b → IsCarriedOn put n u f r w g b c o → o ≡ None → HasRun put m t e r w g a c
+  goes_on m n r t u w e f g a b c o x y is =
+      run_then m n r t u w e f g a b c x (subst (λ k. IsCarriedOn put n u f r w g b c k) is y)
+
+  -- A slice that does.
+  pub stops_there : (m n r : Names) (t u w : Told) (e f g : Engine) (a b c : List ℕ) (o : Option Searched) (s : Searched)
+      → HasRun put m t e n u f a b → IsCarriedOn put n u f r w g b c o → o ≡ Some s → IsSearched put m t e r w g a c s
+  stops_there m n r t u w e f g a b c o s x y is =
+      let z : IsSearched put n u f r w g b c s = subst (λ k. IsCarriedOn put n u f r w g b c k) is y
+      in record { ran = run_then m n r t u w e f g a b c x z.ran; stands = z.stands }
+
+-- Refusals
+
+pub none_refused : (xs : List Refusal) → IsRefusedOnce xs xs []
+none_refused xs = record { causes = []; grown = sym (append-nil xs) }
+
+again-append : (cs ds : List Cause) (last : List Refusal) → map RefusalAgain cs ++ (map RefusalAgain ds ++ last) ≡ map RefusalAgain (cs ++ ds) ++ last
+again-append [] ds last = refl
+again-append (c ∷ cs) ds last = ap (λ l. RefusalAgain c ∷ l) (again-append cs ds last)
+
+pub refused_then : (xs ys zs last : List Refusal) → IsRefusedOnce xs ys [] → IsRefusedOnce ys zs last → IsRefusedOnce xs zs last
+refused_then xs ys zs last a b =
+    record {
+      causes = a.causes ++ b.causes;
+      grown =
+          b.grown
+          ∙ ap (λ l. l ++ (map RefusalAgain b.causes ++ last)) (a.grown ∙ ap (λ l. xs ++ l) (append-nil (map RefusalAgain a.causes)))
+          ∙ append_assoc xs (map RefusalAgain a.causes) (map RefusalAgain b.causes ++ last)
+          ∙ ap (λ l. xs ++ l) (again-append a.causes b.causes last);
+    }
+
+pub refused_on : (xs ys zs : List Refusal) (o : Option Searched) → IsRefusedOnce xs ys [] → IsRefusedOnce ys zs (stop_refusals o) → o ≡ None → IsRefusedOnce xs zs []
+refused_on xs ys zs o a b is = refused_then xs ys zs [] a (subst (λ k. IsRefusedOnce ys zs (stop_refusals k)) is b)
+
+pub refused_last : (xs ys zs : List Refusal) (o : Option Searched) (s : Searched) → IsRefusedOnce xs ys [] → IsRefusedOnce ys zs (stop_refusals o) → o ≡ Some s
+    → IsRefusedOnce xs zs (last_refusals s)
+refused_last xs ys zs o s a b is = refused_then xs ys zs (last_refusals s) a (subst (λ k. IsRefusedOnce ys zs (stop_refusals k)) is b)

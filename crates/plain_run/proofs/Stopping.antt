@@ -1,0 +1,66 @@
+-- What a slice says of the search that it is a part of.
+use Rattle.std.proofs.Common.{◌≡◌, ℕ, List, [], ◌∷◌, Option, None, Some, Result, Ok, Err, sym, subst}
+use Rattle.std.specs.Prelude.{IfOk}
+use Rattle.pl_term.specs.Tree.{Chars}
+use Rattle.pl_term.specs.declared.memory.Memory.{Memory as WantOfMemory}
+use Rattle.pl_model.specs.Resolution.{Output}
+use Rattle.pl_model.specs.Report.{texts}
+use Rattle.atom_words.specs.declared.view.Refusal.{Refusal}
+use Rattle.atom_api.specs.Names.{Names}
+use Rattle.world_api.specs.Told.{Told}
+use Rattle.iso_engine.specs.declared.engine.Engine.{Engine}
+use Rattle.iso_engine.specs.declared.slices.Slice.{Slice}
+use Rattle.iso_engine.specs.declared.slices.Slice.TheVariants.{Yield, Solution, Retry, Memory, NeedsAtoms as SliceNeedsAtoms, Worn as SliceWorn, Waits as SliceWaits, Ended as SliceEnded, Missing as SliceMissing}
+use Rattle.iso_engine.specs.Looking.{IsRefusedBy}
+use Rattle.iso_engine.specs.Slices.{IsSlice, IsSliced}
+use Rattle.plain_run.specs.declared.searched.Searched.{Searched}
+use Rattle.plain_run.specs.declared.searched.Searched.TheVariants.{Ended, Waits, NeedsAtoms, Worn, Missing}
+use Rattle.plain_run.specs.Searched.{HasRun, IsCarriedOn, IsRefusedOnce, IsSearched, IsStop, Stands, stop_refusals}
+use Rattle.plain_run.proofs.Outputs.{bytes-texts}
+
+module _ (put : Chars → List Output → Chars) (limit : ℕ) (m n : Names) (t u : Told) (e f : Engine) (a b c : List ℕ) where
+  is_on : (r : Result (Option Searched) WantOfMemory) → r ≡ Ok None → HasRun put m t e n u f a c → IfOk r (IsCarriedOn put m t e n u f a c)
+  is_on r is ran = subst (λ k. IfOk k (IsCarriedOn put m t e n u f a c)) (sym is) ran
+
+  is_done : (r : Result (Option Searched) WantOfMemory) (x : Searched) → r ≡ Ok (Some x) → HasRun put m t e n u f a c → Stands n u f x
+      → IfOk r (IsCarriedOn put m t e n u f a c)
+  is_done r x is ran there =
+      let z : IsSearched put m t e n u f a c x = record { ran = ran; stands = there } in
+      subst (λ k. IfOk k (IsCarriedOn put m t e n u f a c)) (sym is) z
+
+  -- Behind a slice and what is put behind its texts.
+  pub carried : (s : Slice) (r : Result (Option Searched) WantOfMemory) → IsStop s r → IsSliced limit m t e n u f a b s
+      → (IsSlice limit m t e n u f a b s → HasRun put m t e n u f a c) → IfOk r (IsCarriedOn put m t e n u f a c)
+  carried Yield r is h ran = is_on r is (ran h)
+  carried (Solution ops) r is h ran = is_on r is (ran h)
+  carried (Retry q) r is h ran = is_on r is (ran h)
+  carried SliceEnded r is h ran = is_done r Ended is (ran h) h.ends.0
+  carried (SliceWaits on g) r is h ran = is_done r (Waits on) is (ran h) (g, h.ends.0)
+  carried (SliceNeedsAtoms p) r is h ran = is_done r (NeedsAtoms p) is (ran h) tt
+  carried (SliceWorn w) r is h ran = is_done r (Worn w) is (ran h) tt
+  carried (SliceMissing p) r is h ran = is_done r (Missing p) is (ran h) h.ends.0
+  carried Memory (Ok o) is h ran = absurd is
+  carried Memory (Err x) is h ran = tt
+
+pub carried_texts : (limit : ℕ) (m n : Names) (t u : Told) (e f : Engine) (a b : List ℕ) (s : Slice) (r : Result (Option Searched) WantOfMemory)
+    → IsStop s r → IsSliced limit m t e n u f a b s → IfOk r (IsCarriedOn texts m t e n u f a b)
+carried_texts limit m n t u e f a b s r is h =
+    carried texts limit m n t u e f a b b s r is h
+    (λ x. record { steps = x.steps; written = x.written; advances = x.advances; out = bytes-texts a b x.written x.out })
+
+module _ (xs ys : List Refusal) where
+  once : (r : Result (Option Searched) WantOfMemory) (o : Option Searched) → r ≡ Ok o
+      → IsRefusedOnce xs ys (stop_refusals o) → IfOk r (λ k. IsRefusedOnce xs ys (stop_refusals k))
+  once r o is h = subst (λ k. IfOk k (λ j. IsRefusedOnce xs ys (stop_refusals j))) (sym is) h
+
+  pub refused_once : (s : Slice) (r : Result (Option Searched) WantOfMemory) → IsStop s r → IsRefusedBy s xs ys → IfOk r (λ k. IsRefusedOnce xs ys (stop_refusals k))
+  refused_once Yield r is h = once r None is (record { causes = []; grown = h })
+  refused_once (Solution ops) r is h = once r None is (record { causes = []; grown = h })
+  refused_once (Retry c) r is h = once r None is (record { causes = c ∷ []; grown = h })
+  refused_once SliceEnded r is h = once r (Some Ended) is (record { causes = []; grown = h })
+  refused_once (SliceWaits on g) r is h = once r (Some (Waits on)) is (record { causes = []; grown = h })
+  refused_once (SliceNeedsAtoms p) r is h = once r (Some (NeedsAtoms p)) is (record { causes = []; grown = h })
+  refused_once (SliceWorn w) r is h = once r (Some (Worn w)) is (record { causes = []; grown = h })
+  refused_once (SliceMissing p) r is h = once r (Some (Missing p)) is (record { causes = []; grown = h })
+  refused_once Memory (Ok o) is h = absurd is
+  refused_once Memory (Err x) is h = tt

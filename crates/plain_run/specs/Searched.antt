@@ -1,0 +1,73 @@
+-- How far a search has come, and what was written of it.
+use Rattle.std.specs.Prelude.{◌≡◌, ℕ, List, [], ◌∷◌, ◌++◌, map, Option, None, Some, Result, Ok, Err, encode_utf8_all}
+use Rattle.pl_term.specs.Tree.{Chars}
+use Rattle.pl_term.specs.declared.memory.Memory.{Memory as WantOfMemory}
+use Rattle.pl_model.specs.Resolution.{Output}
+use Rattle.atom_words.specs.declared.view.Cause.{Cause}
+use Rattle.atom_words.specs.declared.view.Refusal.{Refusal}
+use Rattle.atom_words.specs.declared.view.Refusal.TheVariants.{Full as RefusalFull, Again as RefusalAgain, Worn as RefusalWorn}
+use Rattle.atom_api.specs.Names.{Names}
+use Rattle.world_api.specs.Told.{Told}
+use Rattle.iso_engine.specs.declared.engine.Engine.{Engine}
+use Rattle.iso_engine.specs.declared.slices.Slice.{Slice}
+use Rattle.iso_engine.specs.declared.slices.Slice.TheVariants.{Yield, Solution, Retry, Memory, NeedsAtoms as SliceNeedsAtoms, Worn as SliceWorn, Waits as SliceWaits, Ended as SliceEnded, Missing as SliceMissing}
+use Rattle.iso_engine.specs.Advancing.{Advances}
+use Rattle.iso_engine.specs.Missing.{IsMissing}
+use Rattle.iso_engine.specs.Slices.{IsEnd, IsWaitingNow}
+use Rattle.plain_run.specs.declared.searched.Searched.{Searched}
+use Rattle.plain_run.specs.declared.searched.Searched.TheVariants.{Ended, Waits, NeedsAtoms, Worn, Missing}
+
+-- Why the search does not go on behind a slice, if it does not.
+abbrev pub IsStop : Slice → Result (Option Searched) WantOfMemory → Type 0
+IsStop Memory (Ok o) = ⊥
+IsStop Memory (Err x) = Unit {0}
+IsStop Yield r = r ≡ Ok None
+IsStop (Solution ops) r = r ≡ Ok None
+IsStop (Retry c) r = r ≡ Ok None
+IsStop SliceEnded r = r ≡ Ok (Some Ended)
+IsStop (SliceWaits on g) r = r ≡ Ok (Some (Waits on))
+IsStop (SliceNeedsAtoms p) r = r ≡ Ok (Some (NeedsAtoms p))
+IsStop (SliceWorn w) r = r ≡ Ok (Some (Worn w))
+IsStop (SliceMissing p) r = r ≡ Ok (Some (Missing p))
+
+-- The state at which the search does not go on.
+abbrev pub Stands : Names → Told → Engine → Searched → Type 0
+Stands m t e Ended = IsEnd e.doing
+Stands m t e (Waits on) = (g : ℕ) × IsWaitingNow m t e g
+Stands m t e (NeedsAtoms p) = Unit {0}
+Stands m t e (Worn w) = Unit {0}
+Stands m t e (Missing p) = IsMissing m t e
+
+-- The search came from the one state to the other, and what the goal has given is behind the text, as the function puts it.
+pub record HasRun (put : Chars → List Output → Chars) (m : Names) (t : Told) (e : Engine) (n : Names) (u : Told) (f : Engine) (old_out new_out : List ℕ) : Type 0 where
+  pub steps : ℕ
+  pub written : List Output
+  pub advances : Advances steps m t e n u f written
+  pub out : (before : Chars) → old_out ≡ encode_utf8_all before → new_out ≡ encode_utf8_all (put before written)
+
+-- It came so far, and does not go on.
+pub record IsSearched (put : Chars → List Output → Chars) (m : Names) (t : Told) (e : Engine) (n : Names) (u : Told) (f : Engine) (old_out new_out : List ℕ) (s : Searched) : Type 0 where
+  pub ran : HasRun put m t e n u f old_out new_out
+  pub stands : Stands n u f s
+
+-- It came so far, and goes on or does not.
+abbrev pub IsCarriedOn : (Chars → List Output → Chars) → Names → Told → Engine → Names → Told → Engine → List ℕ → List ℕ → Option Searched → Type 0
+IsCarriedOn put m t e n u f old_out new_out None = HasRun put m t e n u f old_out new_out
+IsCarriedOn put m t e n u f old_out new_out (Some s) = IsSearched put m t e n u f old_out new_out s
+
+-- The refusal for which a search does not go on.
+abbrev pub last_refusals : Searched → List Refusal
+last_refusals Ended = []
+last_refusals (Waits on) = []
+last_refusals (NeedsAtoms p) = RefusalFull p ∷ []
+last_refusals (Worn w) = RefusalWorn w ∷ []
+last_refusals (Missing p) = []
+
+abbrev pub stop_refusals : Option Searched → List Refusal
+stop_refusals None = []
+stop_refusals (Some s) = last_refusals s
+
+-- The list of refusals has grown by these, behind some at which others stepped in between.
+pub record IsRefusedOnce (old new last : List Refusal) : Type 0 where
+  pub causes : List Cause
+  pub grown : new ≡ old ++ (map RefusalAgain causes ++ last)

@@ -1,0 +1,105 @@
+//! The search of a goal, run until it does not go on.
+ghost use Rattle.std.specs.Prelude.{◌≡◌, false, map, IfOk, OnOk};
+ghost use Rattle.std.specs.List.{All};
+ghost use Rattle.pl_model.specs.Report.{with_output};
+ghost use Rattle.term_store.specs.Contents.{Holds as IsPlaceIn};
+ghost use Rattle.world_api.specs.Texts.{Holds};
+ghost use Rattle.world_api.specs.Told.{has_ended};
+ghost use Rattle.world_builtins.specs.Spelling.{reads};
+ghost use Rattle.iso_engine.specs.Ready.{IsReady};
+ghost use Rattle.plain_run.specs.Answered.{IsHeldFor, IsPut};
+ghost use Rattle.plain_run.specs.Searched.{IsCarriedOn, IsRefusedOnce, IsSearched, last_refusals, stop_refusals};
+
+use crate::searched::{INFERENCES, Searched, stop_after};
+use atom_api::Atoms;
+use iso_engine::engine::Engine;
+use iso_engine::slices::Slice;
+use pl_report::put_solution;
+use pl_term::{Memory, Text};
+use std::alloc::Global;
+use world_api::World;
+use world_builtins::flats_at;
+
+/// Runs the search of a goal until it does not go on. What the goal writes is put behind `out`, and a line for each of its
+/// solutions; `names` has the names of the goal's variables, each with the variable's number. The only error is want of
+/// memory.
+pub fn search_goal<W: World>(
+    alloc: Global,
+    engine: &mut Engine,
+    names: &[(Text, u64)],
+    world: &mut W,
+    atoms: &mut W::A,
+    out: &mut Vec<u8>,
+) -> Result<Searched, Memory>
+    requires runs { has_ended (W.told world.old).engine (W.told world.old).history ≡ false }
+    requires ready { engine.old.broken ≡ false → IsReady (W.A.held atoms.old) (W.told world.old) engine.old }
+    ensures runs { has_ended (W.told world.new).engine (W.told world.new).history ≡ false }
+    ensures holds { Holds (W.A.held atoms.old) (W.A.held atoms.new) }
+    ensures sound { OnOk result (engine.new.broken ≡ false) }
+    ensures ready { engine.new.broken ≡ false → IsReady (W.A.held atoms.new) (W.told world.new) engine.new }
+    ensures refusals { IfOk result (λ s. IsRefusedOnce (W.A.refusals atoms.old) (W.A.refusals atoms.new) (last_refusals s)) }
+    ensures searched { IfOk result (IsSearched (with_output names.now) (W.A.held atoms.old) (W.told world.old) engine.old
+        (W.A.held atoms.new) (W.told world.new) engine.new out.old.items out.new.items) }
+{
+    for _ in 0..u64::MAX {
+        let stop = next_slice(alloc, engine, names, world, atoms, out)?;
+        if let Some(searched) = stop {
+            return Ok(searched);
+        }
+    }
+    Err(Memory)
+}
+
+/// Runs a slice more, with the line of its solution, and says why the search does not go on behind it, if it does not. The
+/// only error is want of memory.
+fn next_slice<W: World>(
+    alloc: Global,
+    engine: &mut Engine,
+    names: &[(Text, u64)],
+    world: &mut W,
+    atoms: &mut W::A,
+    out: &mut Vec<u8>,
+) -> Result<Option<Searched>, Memory>
+    requires runs { has_ended (W.told world.old).engine (W.told world.old).history ≡ false }
+    requires ready { engine.old.broken ≡ false → IsReady (W.A.held atoms.old) (W.told world.old) engine.old }
+    ensures runs { has_ended (W.told world.new).engine (W.told world.new).history ≡ false }
+    ensures holds { Holds (W.A.held atoms.old) (W.A.held atoms.new) }
+    ensures sound { OnOk result (engine.new.broken ≡ false) }
+    ensures ready { engine.new.broken ≡ false → IsReady (W.A.held atoms.new) (W.told world.new) engine.new }
+    ensures refusals { IfOk result (λ o. IsRefusedOnce (W.A.refusals atoms.old) (W.A.refusals atoms.new) (stop_refusals o)) }
+    ensures carried { IfOk result (IsCarriedOn (with_output names.now) (W.A.held atoms.old) (W.told world.old) engine.old
+        (W.A.held atoms.new) (W.told world.new) engine.new out.old.items out.new.items) }
+{
+    let slice = engine.slice(world, atoms, out, INFERENCES);
+    if engine.broken {
+        return Err(Memory);
+    }
+    put_answer(alloc, engine, names, &slice, atoms, out)?;
+    stop_after(slice)
+}
+
+/// Puts the line of a slice's solution behind `out`, if it gave one: the goal's variables with their terms as they stand
+/// now. The only error is want of memory.
+fn put_answer<A: Atoms>(
+    alloc: Global,
+    engine: &Engine,
+    names: &[(Text, u64)],
+    slice: &Slice,
+    atoms: &mut A,
+    out: &mut Vec<u8>,
+) -> Result<(), Memory>
+    requires inside { All (IsPlaceIn engine.now.search.store) engine.now.search.answer.items }
+    requires held { IsHeldFor slice.now (A.held atoms.old) engine.now }
+    ensures puts { OnOk result (IsPut slice.now names.now (map (reads (A.held atoms.old) engine.now.search.store) engine.now.search.answer.items)
+        out.old.items out.new.items) }
+    ensures same { A.held atoms.new ≡ A.held atoms.old }
+    ensures refusals { A.refusals atoms.new ≡ A.refusals atoms.old }
+{
+    match slice {
+        Slice::Solution(operators) => {
+            let values = flats_at(alloc, &engine.search.store, &engine.search.answer, atoms)?;
+            put_solution(alloc, out, names, &values, operators)
+        }
+        _ => Ok(()),
+    }
+}
