@@ -8,7 +8,7 @@ use Rattle.pl_term.specs.Nodes.{coded_tree}
 use Rattle.pl_model.specs.Operators.{Specifier, Operator, xfx, xfy, yfx, fx, fy, xf, yf}
 use Rattle.pl_model.specs.History.{Proc, Clause, Origin, Kind, Entry, consult, assert, add_first, add_last, erase, abolish, set_dynamic, set_flag, set_op, make_queue, drop_queue, send, take, start, finish, join}
 use Rattle.pl_model.specs.declared.ends.How.{How}
-use Rattle.pl_model.specs.declared.ends.How.TheVariants.{Solved, False, Threw}
+use Rattle.pl_model.specs.declared.ends.How.TheVariants.{Solved, False, Threw, Exited, Halted}
 use Rattle.pl_history.specs.Fronts.{Life, FrontState}
 use Rattle.pl_history.specs.Steps.{Part, View}
 
@@ -79,23 +79,38 @@ coded_operator =
     (λ t. record { name = t.0; priority = t.1.0; specifier = specifier_of t.1.1 })
     (λ o. ap (λ s. record { name = o.name; priority = o.priority; specifier = s }) (specifier_back o.specifier))
 
-abbrev pub how_parts : How → Option (Option Tree)
-how_parts Solved = None
-how_parts False = Some None
-how_parts (Threw ball) = Some (Some ball)
+abbrev pub HowParts : Type 0
+HowParts = Option (Option Tree) ⊎ (Tree ⊎ ℕ)
 
-abbrev pub how_of : Option (Option Tree) → How
-how_of None = Solved
-how_of (Some None) = False
-how_of (Some (Some ball)) = Threw ball
+abbrev pub how_parts : How → HowParts
+how_parts Solved = inl None
+how_parts False = inl (Some None)
+how_parts (Threw ball) = inl (Some (Some ball))
+how_parts (Exited t) = inr (inl t)
+how_parts (Halted n) = inr (inr n)
+
+abbrev pub how_of : HowParts → How
+how_of (inl None) = Solved
+how_of (inl (Some None)) = False
+how_of (inl (Some (Some ball))) = Threw ball
+how_of (inr (inl t)) = Exited t
+how_of (inr (inr n)) = Halted n
 
 pub how_back : (h : How) → how_of (how_parts h) ≡ h
 how_back Solved = refl
 how_back False = refl
 how_back (Threw ball) = refl
+how_back (Exited t) = refl
+how_back (Halted n) = refl
 
 abbrev pub coded_how : Coded How
-coded_how = code_by (Option (Option Tree)) (coded_option (coded_option coded_tree)) how_parts how_of how_back
+coded_how =
+    code_by
+    HowParts
+    (coded⊎ (coded_option (coded_option coded_tree)) (coded⊎ coded_tree coded_ℕ))
+    how_parts
+    how_of
+    how_back
 
 -- The parts of an update of each kind: of clauses and procedures, of flags and operators, of queues, of threads.
 abbrev pub Added : Type 0

@@ -3,13 +3,13 @@
 use Rattle.std.specs.Prelude.{◌≡◌, ◌<◌, ◌≤◌, ◌⊎◌, ℕ, zero, suc, List, [], ◌∷◌, ◌++◌, map, length, Option, Some, None, slice_get, Contains, Bool, nat_le, ◌&&◌, if◌then◌else◌, ◌==◌, codes}
 use Rattle.pl_term.specs.Tree.{Chars, Tree}
 use Rattle.pl_model.specs.declared.ends.How.{How}
-use Rattle.pl_model.specs.declared.ends.How.TheVariants.{Solved, False, Threw}
+use Rattle.pl_model.specs.declared.ends.How.TheVariants.{Solved, False, Threw, Exited, Halted}
 use Rattle.pl_model.specs.History.{Kind, Entry, History, start, finish, mine}
 use Rattle.pl_model.specs.Threads.{goal_alias}
 use Rattle.pl_model.specs.SharedState.{state_at}
 use Rattle.pl_model.specs.Requests.{Request, Reply}
 use Rattle.pl_model.specs.Service.{Served, answers, waits, serve}
-use Rattle.pl_model.specs.Resolution.{Limits, Ending, solved, no_more, threw}
+use Rattle.pl_model.specs.Resolution.{Limits, Ending, solved, no_more, threw, exited, halted}
 use Rattle.pl_model.specs.Execution.{consults, runs, Job, Execution, over, Move, moves, requests, ends, at_start, move}
 
 -- Runs
@@ -82,6 +82,8 @@ abbrev pub EndsSo : Ending → How → Type 0
 EndsSo solved Solved = Unit {0}
 EndsSo no_more False = Unit {0}
 EndsSo (threw b) (Threw c) = b ≡ c
+EndsSo (exited t) (Exited u) = t ≡ u
+EndsSo (halted n) (Halted k) = n ≡ k
 EndsSo _ _ = ⊥
 
 -- After this number of moves, and not before, the engine has ended, in this way; its end is in the history.

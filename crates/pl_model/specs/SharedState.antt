@@ -4,9 +4,9 @@ use Rattle.std.specs.Prelude.{ℕ, suc, zero, List, [], ◌∷◌, take, Option,
 use Rattle.pl_term.specs.Tree.{Tree}
 use Rattle.pl_term.specs.Variables.{rename}
 use Rattle.pl_model.specs.declared.ends.How.{How}
-use Rattle.pl_model.specs.declared.ends.How.TheVariants.{Solved, False, Threw}
+use Rattle.pl_model.specs.declared.ends.How.TheVariants.{Solved, False, Threw, Exited as LeftBy, Halted as HaltedWith}
 use Rattle.pl_model.specs.declared.threads.Status.{Status}
-use Rattle.pl_model.specs.declared.threads.Status.TheVariants.{Succeeded, Failed, Exception}
+use Rattle.pl_model.specs.declared.threads.Status.TheVariants.{Succeeded, Failed, Exception, Exited, Halted}
 use Rattle.pl_model.specs.declared.operators.Kind.{Kind as OperatorKind}
 use Rattle.pl_model.specs.declared.operators.Kind.TheVariants.{Xfx, Xfy, Yfx, Fy, Fx, Xf, Yf}
 use Rattle.pl_model.specs.Operators.{Operator, Specifier, xfx, xfy, yfx, fx, fy, xf, yf}
@@ -55,6 +55,8 @@ abbrev pub status_of : How → Status Tree
 status_of Solved = Succeeded
 status_of False = Failed
 status_of (Threw ball) = Exception (rename zero ball)
+status_of (LeftBy t) = Exited (rename zero t)
+status_of (HaltedWith n) = Halted n
 
 -- The state after the update that the engine `e` made at the place `k`.
 abbrev pub change : ℕ → ℕ → Kind → SharedState → SharedState

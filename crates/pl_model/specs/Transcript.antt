@@ -2,7 +2,7 @@
 use Rattle.std.specs.Prelude.{ℕ, zero, suc, List, [], ◌∷◌, ◌++◌, map, Bool, true, false, not, ◌==◌, Option, Some, None, codes, decimal, if◌then◌else◌}
 use Rattle.pl_term.specs.Tree.{Chars, Tree}
 use Rattle.pl_model.specs.declared.ends.How.{How}
-use Rattle.pl_model.specs.declared.ends.How.TheVariants.{Solved, False, Threw}
+use Rattle.pl_model.specs.declared.ends.How.TheVariants.{Solved, False, Threw, Exited, Halted}
 use Rattle.pl_model.specs.declared.ends.GoalHow.{GoalHow}
 use Rattle.pl_model.specs.declared.ends.GoalHow.TheVariants.{Ended as EndedSo, Syntax}
 use Rattle.pl_model.specs.declared.ends.GoalEnd.{GoalEnd}
@@ -101,6 +101,8 @@ end_lines ops (Some f) how = (codes "syntax error: " ++ (kind_text f.0 ++ (codes
 end_lines ops None Solved = []
 end_lines ops None False = codes "false." ∷ []
 end_lines ops None (Threw ball) = stopped (codes "error: " ++ writeq ops 1200 ball) ∷ []
+end_lines ops None (Exited t) = []
+end_lines ops None (Halted n) = []
 
 abbrev pub goal_section : Operators → Chars → State → How → Chars
 goal_section ops word s how =
@@ -150,6 +152,8 @@ abbrev pub is_solved_so : How → Bool
 is_solved_so Solved = true
 is_solved_so False = false
 is_solved_so (Threw ball) = false
+is_solved_so (Exited t) = false
+is_solved_so (Halted n) = false
 
 abbrev pub is_solved : GoalEnd → Bool
 is_solved g = elim g.how [ EndedSo how ↦ is_solved_so how | _ ↦ false ]

@@ -11,6 +11,10 @@ pub enum How {
     False,
     /// A ball that nobody caught (ISO 7.8.10).
     Threw(Flat),
+    /// thread_exit/1 with a term.
+    Exited(Flat),
+    /// halt/1 with a status.
+    Halted(u8),
 }
 
 /// How a goal of the command ended.
