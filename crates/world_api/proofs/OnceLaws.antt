@@ -28,7 +28,7 @@ use Rattle.world_api.specs.declared.visit.Visit.TheVariants.{Look}
 use Rattle.world_api.specs.declared.answer.Answer.TheVariants.{Served}
 use Rattle.world_api.specs.Answers.{Visited}
 use Rattle.world_api.specs.Courses.{of_goal, with_search}
-use Rattle.world_api.specs.Scripts.{Comes, Given, written_at}
+use Rattle.world_api.specs.Scripts.{Comes, Given, some_fault, written_at}
 use Rattle.world_api.specs.Onces.{execution_of, part_of, plays_of}
 use Rattle.world_api.specs.OnceGiven.{Looked, TakenUp}
 use Rattle.world_api.proofs.ComesLaws.{comes_same, comes_by_move, comes_by_request}
@@ -63,6 +63,13 @@ written bytes cs x y same is w =
     ∙ ap (λ z. encode_utf8_all (all_consulted [] [] (written_at z))) same
     ∙ ap (λ ds. encode_utf8_all (all_consulted [] [] ds)) (is ∙ append-nil cs)
 
+kept : (cs : List Consulted) (x y : Execution)
+    → x ≡ y
+    → written_at y ≡ cs ++ []
+    → some_fault (written_at x) ≡ false
+    → some_fault cs ≡ false
+kept cs x y same is k = ap some_fault (sym (is ∙ append-nil cs)) ∙ ap (λ z. some_fault (written_at z)) (sym same) ∙ k
+
 -- The move by which the search that ended ends the engine.
 end_move : (job : Job) (x : Execution) (r : State) (ending : Ending)
     → r.doing ≡ ended ending
@@ -70,11 +77,11 @@ end_move : (job : Job) (x : Execution) (r : State) (ending : Ending)
 unfolding move step
 end_move job x r ending is = ap (λ d. searched (record x { activity = searching r }) r (step_by job.limits r d)) is
 
-pub given_end : {T : Type 0} (term : (ℕ → Chars) → T → Tree) (old_text new_text : ℕ → Chars) (how : Option (How T)) (t : Told) (bytes : List ℕ)
-    → Given (execution_of term) part_of term (plays_of term) [] old_text new_text AtHand how t bytes (Done None) Over t bytes
-given_end term old_text new_text None t bytes job cs searched x p b w = absurd b
-given_end term old_text new_text (Some how) t bytes job cs None x p b w = absurd b
-given_end term old_text new_text (Some how) t bytes job cs (Some r) x p b w =
+pub given_end : {T : Type 0} (term : (ℕ → Chars) → T → Tree) (old_text new_text : ℕ → Chars) (how : Option (How Tree)) (t : Told) (bytes : List ℕ)
+    → Given (execution_of term) part_of term (plays_of term) (λ s. false) [] old_text new_text AtHand how t bytes (Done None) Over t bytes
+given_end term old_text new_text None t bytes job cs searched x p b w k = absurd b
+given_end term old_text new_text (Some how) t bytes job cs None x p b w k = absurd b
+given_end term old_text new_text (Some how) t bytes job cs (Some r) x p b w k =
     let base : Execution = execution_of term old_text AtHand job cs
     in let there : Execution = record base { activity = over b.0; output = r.output }
     in (
@@ -87,6 +94,7 @@ given_end term old_text new_text (Some how) t bytes job cs (Some r) x p b w =
       (b.0, r.output, (b.1, refl), refl),
       tt,
       written bytes cs x (with_search base of_goal r) b.3 refl w,
+      kept cs x (with_search base of_goal r) b.3 refl k,
     )
 
 -- The move by which the goal is taken up.
@@ -96,12 +104,12 @@ begin_move : {T : Type 0} (term : (ℕ → Chars) → T → Tree) (text : ℕ �
 unfolding move
 begin_move term text goal job cs = refl
 
-given_item : {T : Type 0} (term : (ℕ → Chars) → T → Tree) (old_text new_text : ℕ → Chars) (how : Option (How T)) (goal : T) (t u : Told) (bytes : List ℕ)
+given_item : {T : Type 0} (term : (ℕ → Chars) → T → Tree) (old_text new_text : ℕ → Chars) (how : Option (How Tree)) (goal : T) (t u : Told) (bytes : List ℕ)
     → term old_text goal ≡ term new_text goal
     → Looked t u
-    → Given (execution_of term) part_of term (plays_of term) [] old_text new_text (Fresh goal) how t bytes (Item goal false) AtHand u bytes
-given_item term old_text new_text (Some how) goal t u bytes tell l job cs searched x p b w = absurd b
-given_item term old_text new_text None goal t u bytes tell l job cs searched x p b w =
+    → Given (execution_of term) part_of term (plays_of term) (λ s. false) [] old_text new_text (Fresh goal) how t bytes (Item goal false) AtHand u bytes
+given_item term old_text new_text (Some how) goal t u bytes tell l job cs searched x p b w k = absurd b
+given_item term old_text new_text None goal t u bytes tell l job cs searched x p b w k =
     let base : Execution = execution_of term old_text (Fresh goal) job cs
     in let search : Tree → Execution = λ g. record base { activity = searching (start job.limits g) }
     in (
@@ -117,6 +125,7 @@ given_item term old_text new_text None goal t u bytes tell l job cs searched x p
       (of_goal, refl, refl, refl),
       tt,
       written bytes cs x base b refl w,
+      kept cs x base b refl k,
     )
 
 given_kept : {T : Type 0} (term : (ℕ → Chars) → T → Tree) (old_text new_text : ℕ → Chars) (goal : T) (t : Told) (bytes : List ℕ) (job : Job) (cs : List Consulted) (x : Execution)
@@ -131,85 +140,89 @@ given_kept term old_text new_text goal t bytes job cs x tell b =
     t
     (b ∙ ap (λ (g : Tree). execution_of (λ (k : ℕ → Chars) (y : Tree). y) old_text (Fresh g) job cs) tell)
 
-given_short : {T : Type 0} (term : (ℕ → Chars) → T → Tree) (old_text new_text : ℕ → Chars) (how : Option (How T)) (goal : T) (t : Told) (bytes : List ℕ) (pass : Pass)
+given_short : {T : Type 0} (term : (ℕ → Chars) → T → Tree) (old_text new_text : ℕ → Chars) (how : Option (How Tree)) (goal : T) (t : Told) (bytes : List ℕ) (pass : Pass)
     → term old_text goal ≡ term new_text goal
-    → Given (execution_of term) part_of term (plays_of term) [] old_text new_text (Fresh goal) how t bytes (NeedsAtoms pass) (Fresh goal) t bytes
-given_short term old_text new_text (Some how) goal t bytes pass tell job cs searched x p b w = absurd b
-given_short term old_text new_text None goal t bytes pass tell job cs searched x p b w = (
+    → Given (execution_of term) part_of term (plays_of term) (λ s. false) [] old_text new_text (Fresh goal) how t bytes (NeedsAtoms pass) (Fresh goal) t bytes
+given_short term old_text new_text (Some how) goal t bytes pass tell job cs searched x p b w k = absurd b
+given_short term old_text new_text None goal t bytes pass tell job cs searched x p b w k = (
   cs,
   execution_of term new_text (Fresh goal) job cs,
   given_kept term old_text new_text goal t bytes job cs x tell b,
   (refl, refl),
   p ∙ ap runs tell,
   written bytes cs x (execution_of term old_text (Fresh goal) job cs) b refl w,
+  kept cs x (execution_of term old_text (Fresh goal) job cs) b refl k,
 )
 
-given_again : {T : Type 0} (term : (ℕ → Chars) → T → Tree) (old_text new_text : ℕ → Chars) (how : Option (How T)) (goal : T) (t : Told) (bytes : List ℕ) (cause : Cause)
+given_again : {T : Type 0} (term : (ℕ → Chars) → T → Tree) (old_text new_text : ℕ → Chars) (how : Option (How Tree)) (goal : T) (t : Told) (bytes : List ℕ) (cause : Cause)
     → term old_text goal ≡ term new_text goal
-    → Given (execution_of term) part_of term (plays_of term) [] old_text new_text (Fresh goal) how t bytes (Retry cause) (Fresh goal) t bytes
-given_again term old_text new_text (Some how) goal t bytes cause tell job cs searched x p b w = absurd b
-given_again term old_text new_text None goal t bytes cause tell job cs searched x p b w = (
+    → Given (execution_of term) part_of term (plays_of term) (λ s. false) [] old_text new_text (Fresh goal) how t bytes (Retry cause) (Fresh goal) t bytes
+given_again term old_text new_text (Some how) goal t bytes cause tell job cs searched x p b w k = absurd b
+given_again term old_text new_text None goal t bytes cause tell job cs searched x p b w k = (
   cs,
   execution_of term new_text (Fresh goal) job cs,
   given_kept term old_text new_text goal t bytes job cs x tell b,
   (refl, refl),
   p ∙ ap runs tell,
   written bytes cs x (execution_of term old_text (Fresh goal) job cs) b refl w,
+  kept cs x (execution_of term old_text (Fresh goal) job cs) b refl k,
 )
 
-given_worn : {T : Type 0} (term : (ℕ → Chars) → T → Tree) (old_text new_text : ℕ → Chars) (how : Option (How T)) (goal : T) (t : Told) (bytes : List ℕ) (word : WornWord)
+given_worn : {T : Type 0} (term : (ℕ → Chars) → T → Tree) (old_text new_text : ℕ → Chars) (how : Option (How Tree)) (goal : T) (t : Told) (bytes : List ℕ) (word : WornWord)
     → term old_text goal ≡ term new_text goal
-    → Given (execution_of term) part_of term (plays_of term) [] old_text new_text (Fresh goal) how t bytes (Worn word) (Fresh goal) t bytes
-given_worn term old_text new_text (Some how) goal t bytes word tell job cs searched x p b w = absurd b
-given_worn term old_text new_text None goal t bytes word tell job cs searched x p b w = (
+    → Given (execution_of term) part_of term (plays_of term) (λ s. false) [] old_text new_text (Fresh goal) how t bytes (Worn word) (Fresh goal) t bytes
+given_worn term old_text new_text (Some how) goal t bytes word tell job cs searched x p b w k = absurd b
+given_worn term old_text new_text None goal t bytes word tell job cs searched x p b w k = (
   cs,
   execution_of term new_text (Fresh goal) job cs,
   given_kept term old_text new_text goal t bytes job cs x tell b,
   (refl, refl),
   p ∙ ap runs tell,
   written bytes cs x (execution_of term old_text (Fresh goal) job cs) b refl w,
+  kept cs x (execution_of term old_text (Fresh goal) job cs) b refl k,
 )
 
-given_memory : {T : Type 0} (term : (ℕ → Chars) → T → Tree) (old_text new_text : ℕ → Chars) (how : Option (How T)) (goal : T) (t : Told) (bytes : List ℕ)
+given_memory : {T : Type 0} (term : (ℕ → Chars) → T → Tree) (old_text new_text : ℕ → Chars) (how : Option (How Tree)) (goal : T) (t : Told) (bytes : List ℕ)
     → term old_text goal ≡ term new_text goal
-    → Given (execution_of term) part_of term (plays_of term) [] old_text new_text (Fresh goal) how t bytes Memory (Fresh goal) t bytes
-given_memory term old_text new_text (Some how) goal t bytes tell job cs searched x p b w = absurd b
-given_memory term old_text new_text None goal t bytes tell job cs searched x p b w = (
+    → Given (execution_of term) part_of term (plays_of term) (λ s. false) [] old_text new_text (Fresh goal) how t bytes Memory (Fresh goal) t bytes
+given_memory term old_text new_text (Some how) goal t bytes tell job cs searched x p b w k = absurd b
+given_memory term old_text new_text None goal t bytes tell job cs searched x p b w k = (
   cs,
   execution_of term new_text (Fresh goal) job cs,
   given_kept term old_text new_text goal t bytes job cs x tell b,
   tt,
   p ∙ ap runs tell,
+  tt,
   tt,
 )
 
 -- What is given where the stage and what is told are equal to these.
-given_at : {T : Type 0} (term : (ℕ → Chars) → T → Tree) (old_text new_text : ℕ → Chars) (how : Option (How T)) (goal : T) (t u : Told) (bytes : List ℕ) (next : Next T) (stage : Stage T)
+given_at : {T : Type 0} (term : (ℕ → Chars) → T → Tree) (old_text new_text : ℕ → Chars) (how : Option (How Tree)) (goal : T) (t u : Told) (bytes : List ℕ) (next : Next T) (stage : Stage T)
     → (stage ≡ Fresh goal) × (u ≡ t)
-    → Given (execution_of term) part_of term (plays_of term) [] old_text new_text (Fresh goal) how t bytes next (Fresh goal) t bytes
-    → Given (execution_of term) part_of term (plays_of term) [] old_text new_text (Fresh goal) how t bytes next stage u bytes
+    → Given (execution_of term) part_of term (plays_of term) (λ s. false) [] old_text new_text (Fresh goal) how t bytes next (Fresh goal) t bytes
+    → Given (execution_of term) part_of term (plays_of term) (λ s. false) [] old_text new_text (Fresh goal) how t bytes next stage u bytes
 given_at term old_text new_text how goal t u bytes next stage k g =
     subst
-    (λ (s : Stage _). Given (execution_of term) part_of term (plays_of term) [] old_text new_text (Fresh goal) how t bytes next s u bytes)
+    (λ (s : Stage _). Given (execution_of term) part_of term (plays_of term) (λ s. false) [] old_text new_text (Fresh goal) how t bytes next s u bytes)
     (sym k.0)
     (subst
-    (λ (v : Told). Given (execution_of term) part_of term (plays_of term) [] old_text new_text (Fresh goal) how t bytes next (Fresh goal) v bytes)
+    (λ (v : Told). Given (execution_of term) part_of term (plays_of term) (λ s. false) [] old_text new_text (Fresh goal) how t bytes next (Fresh goal) v bytes)
     (sym k.1)
     g)
 
-pub given_next : {T : Type 0} (term : (ℕ → Chars) → T → Tree) (old_text new_text : ℕ → Chars) (how : Option (How T)) (goal : T) (t u : Told) (bytes : List ℕ) (next : Next T) (stage : Stage T)
+pub given_next : {T : Type 0} (term : (ℕ → Chars) → T → Tree) (old_text new_text : ℕ → Chars) (how : Option (How Tree)) (goal : T) (t u : Told) (bytes : List ℕ) (next : Next T) (stage : Stage T)
     → term old_text goal ≡ term new_text goal
     → TakenUp goal t next stage u
-    → Given (execution_of term) part_of term (plays_of term) [] old_text new_text (Fresh goal) how t bytes next stage u bytes
+    → Given (execution_of term) part_of term (plays_of term) (λ s. false) [] old_text new_text (Fresh goal) how t bytes next stage u bytes
 given_next {T} term old_text new_text how goal t u bytes (Item g directive) stage tell k =
     subst
-    (λ (s : Stage T). Given (execution_of term) part_of term (plays_of term) [] old_text new_text (Fresh goal) how t bytes (Item g directive) s u bytes)
+    (λ (s : Stage T). Given (execution_of term) part_of term (plays_of term) (λ s. false) [] old_text new_text (Fresh goal) how t bytes (Item g directive) s u bytes)
     (sym k.2)
     (subst
-    (λ (h : T). Given (execution_of term) part_of term (plays_of term) [] old_text new_text (Fresh goal) how t bytes (Item h directive) AtHand u bytes)
+    (λ (h : T). Given (execution_of term) part_of term (plays_of term) (λ s. false) [] old_text new_text (Fresh goal) how t bytes (Item h directive) AtHand u bytes)
     (sym k.0)
     (subst
-    (λ (d : Bool). Given (execution_of term) part_of term (plays_of term) [] old_text new_text (Fresh goal) how t bytes (Item goal d) AtHand u bytes)
+    (λ (d : Bool). Given (execution_of term) part_of term (plays_of term) (λ s. false) [] old_text new_text (Fresh goal) how t bytes (Item goal d) AtHand u bytes)
     (sym k.1)
     (given_item term old_text new_text how goal t u bytes tell k.3)))
 given_next term old_text new_text how goal t u bytes (Done h) stage tell k = absurd k
@@ -223,27 +236,27 @@ given_next term old_text new_text how goal t u bytes Memory stage tell k =
     given_at term old_text new_text how goal t u bytes Memory stage k (given_memory term old_text new_text how goal t bytes tell)
 
 -- From the goal that was to be taken up, and from the end of its search.
-pub given_from : {T : Type 0} (term : (ℕ → Chars) → T → Tree) (old_text new_text : ℕ → Chars) (how : Option (How T)) (goal : T) (old : Stage T) (t u : Told) (bytes : List ℕ) (next : Next T) (stage : Stage T)
+pub given_from : {T : Type 0} (term : (ℕ → Chars) → T → Tree) (old_text new_text : ℕ → Chars) (how : Option (How Tree)) (goal : T) (old : Stage T) (t u : Told) (bytes : List ℕ) (next : Next T) (stage : Stage T)
     → old ≡ Fresh goal
     → term old_text goal ≡ term new_text goal
     → TakenUp goal t next stage u
-    → Given (execution_of term) part_of term (plays_of term) [] old_text new_text old how t bytes next stage u bytes
+    → Given (execution_of term) part_of term (plays_of term) (λ s. false) [] old_text new_text old how t bytes next stage u bytes
 given_from {T} term old_text new_text how goal old t u bytes next stage is tell k =
     subst
-    (λ (s : Stage T). Given (execution_of term) part_of term (plays_of term) [] old_text new_text s how t bytes next stage u bytes)
+    (λ (s : Stage T). Given (execution_of term) part_of term (plays_of term) (λ s. false) [] old_text new_text s how t bytes next stage u bytes)
     (sym is)
     (given_next term old_text new_text how goal t u bytes next stage tell k)
 
-pub end_from : {T : Type 0} (term : (ℕ → Chars) → T → Tree) (old_text new_text : ℕ → Chars) (how : Option (How T)) (old new : Stage T) (t : Told) (bytes : List ℕ)
+pub end_from : {T : Type 0} (term : (ℕ → Chars) → T → Tree) (old_text new_text : ℕ → Chars) (how : Option (How Tree)) (old new : Stage T) (t : Told) (bytes : List ℕ)
     → old ≡ AtHand
     → new ≡ Over
-    → Given (execution_of term) part_of term (plays_of term) [] old_text new_text old how t bytes (Done None) new t bytes
+    → Given (execution_of term) part_of term (plays_of term) (λ s. false) [] old_text new_text old how t bytes (Done None) new t bytes
 end_from {T} term old_text new_text how old new t bytes is after =
     subst
-    (λ (s : Stage T). Given (execution_of term) part_of term (plays_of term) [] old_text new_text s how t bytes (Done None) new t bytes)
+    (λ (s : Stage T). Given (execution_of term) part_of term (plays_of term) (λ s. false) [] old_text new_text s how t bytes (Done None) new t bytes)
     (sym is)
     (subst
-    (λ (s : Stage T). Given (execution_of term) part_of term (plays_of term) [] old_text new_text AtHand how t bytes (Done None) s t bytes)
+    (λ (s : Stage T). Given (execution_of term) part_of term (plays_of term) (λ s. false) [] old_text new_text AtHand how t bytes (Done None) s t bytes)
     (sym after)
     (given_end term old_text new_text how t bytes))
 

@@ -80,6 +80,8 @@ module _ {T K : Type 0} (term : (ℕ → Chars) → T → Tree) (key : T → K) 
   -- What the visit asks for waits there.
   pub record IsWaiting (text : ℕ → Chars) (v : Visit T K) (g : ℕ) (old : Told) (before : History) (new : Told) : Type 0 where
     pub generation : g ≡ length before
+    pub request : Request
+    pub asks : Asks term key text v request
     pub waiting : (q : Request) → Asks term key text v q → served_now old.engine old.goals before q ≡ waits
     pub told : new ≡ seen_as old before old.gens
 

@@ -7,6 +7,7 @@ use Rattle.pl_model.specs.Execution.{Script, Job, runs, Consulted, Execution, at
 use Rattle.world_api.specs.declared.once.Stage.{Stage}
 use Rattle.world_api.specs.declared.once.Stage.TheVariants.{Fresh, AtHand, Over}
 use Rattle.world_api.specs.Courses.{Part, of_goal}
+use Rattle.world_api.specs.Scripts.{texts_at}
 
 abbrev pub part_of : {T : Type 0} → Stage T → Option Part
 part_of (Fresh t) = None
@@ -33,6 +34,16 @@ module _ {T : Type 0} (term : (ℕ → Chars) → T → Tree) where
   plays_of text (Fresh t) x = x ≡ runs (term text t)
   plays_of text AtHand x = Unit {0}
   plays_of text Over x = Unit {0}
+
+  pub same_lines : (text : ℕ → Chars) (s : Stage T) (job : Job) (cs : List Consulted) → (execution_of text s job cs).consulted ≡ cs
+  same_lines text (Fresh t) job cs = refl
+  same_lines text AtHand job cs = refl
+  same_lines text Over job cs = refl
+
+  pub all_reported : (text : ℕ → Chars) (s : Stage T) (job : Job) (cs : List Consulted) → texts_at (execution_of text s job cs).activity ≡ []
+  all_reported text (Fresh t) job cs = refl
+  all_reported text AtHand job cs = refl
+  all_reported text Over job cs = refl
 
   pub same_under : (names : T → List ℕ)
       → ((t : T) (text other : ℕ → Chars) → All (λ a. text a ≡ other a) (names t) → term text t ≡ term other t)

@@ -1,9 +1,9 @@
 -- Scripts: how an execution comes to its next item.
-use Rattle.std.specs.Prelude.{◌≡◌, ℕ, ◌+◌, List, [], ◌∷◌, ◌++◌, Bool, true, false, Option, Some, None, encode_utf8_all}
+use Rattle.std.specs.Prelude.{◌≡◌, ℕ, ◌+◌, List, [], ◌∷◌, ◌++◌, Bool, true, false, ◌||◌, Option, Some, None, encode_utf8_all}
 use Rattle.pl_term.specs.Tree.{Chars, Tree}
 use Rattle.pl_model.specs.Resolution.{Ending, solved, no_more, threw, exited, halted, ended, Output, State}
 use Rattle.pl_model.specs.Control.{start}
-use Rattle.pl_model.specs.Execution.{Script, Job, Consulted, Activity, directing, over, Execution, texts_of}
+use Rattle.pl_model.specs.Execution.{Script, Job, Consulted, wrote, Activity, directing, over, Execution, texts_of}
 use Rattle.pl_model.specs.Progress.{Reached}
 use Rattle.pl_model.specs.Report.{all_consulted}
 use Rattle.atom_words.specs.declared.view.Refusal.{Refusal}
@@ -33,23 +33,13 @@ next_names names (Item t d) = names t
 next_names names _ = []
 
 -- How a search ended, by its state's end. Want of atoms is no end of a search.
-abbrev pub EndsAs : {T : Type 0} → ((ℕ → Chars) → T → Tree) → (ℕ → Chars) → How T → Ending → Type 0
-EndsAs term text Solved solved = Unit {0}
-EndsAs term text False no_more = Unit {0}
-EndsAs term text (Threw t) (threw b) = term text t ≡ b
-EndsAs term text (Exited t) (exited u) = term text t ≡ u
-EndsAs term text (Halted n) (halted k) = n ≡ k
-EndsAs term text _ _ = ⊥
-
--- The atoms that an item's end names.
-abbrev pub how_names : {T : Type 0} → (T → List ℕ) → How T → List ℕ
-how_names names (Threw t) = names t
-how_names names (Exited t) = names t
-how_names names _ = []
-
-abbrev pub ended_names : {T : Type 0} → (T → List ℕ) → Option (How T) → List ℕ
-ended_names names None = []
-ended_names names (Some how) = how_names names how
+abbrev pub EndsAs : How Tree → Ending → Type 0
+EndsAs Solved solved = Unit {0}
+EndsAs False no_more = Unit {0}
+EndsAs (Threw t) (threw b) = t ≡ b
+EndsAs (Exited t) (exited u) = t ≡ u
+EndsAs (Halted n) (halted k) = n ≡ k
+EndsAs _ _ = ⊥
 
 -- An item at hand has ended, or there is none.
 abbrev pub IsAsked : {A B : Type 0} → Option A → Option B → Type 0
@@ -60,6 +50,20 @@ IsAsked _ _ = ⊥
 abbrev pub is_directive : Part → Bool
 is_directive of_goal = false
 is_directive (of_directive place rest) = true
+
+-- The item that was given is at hand then, and where none was given there is none. After want of memory nothing is said.
+abbrev pub IsAtHand : {T : Type 0} → Next T → Option Part → Type 0
+IsAtHand (Item t d) None = ⊥
+IsAtHand (Item t d) (Some p) = is_directive p ≡ d
+IsAtHand Memory o = Unit {0}
+IsAtHand _ o = o ≡ None
+
+-- Behind the goal there is no further item.
+abbrev pub IsLast : {T : Type 0} → Option Part → Next T → Type 0
+IsLast (Some of_goal) (Done None) = Unit {0}
+IsLast (Some of_goal) Memory = Unit {0}
+IsLast (Some of_goal) _ = ⊥
+IsLast _ next = Unit {0}
 
 -- What is written of the file, with the texts of a directive that has not been reported.
 abbrev pub texts_at : Activity → List Consulted
@@ -83,6 +87,20 @@ LeavesOff (Some n) part searched ending os = (ending ≡ halted n) × (os ≡ []
 LeavesOff None (Some of_goal) (Some r) ending os = (r.doing ≡ ended ending) × (os ≡ r.output)
 LeavesOff None part searched ending os = (ending ≡ solved) × (os ≡ [])
 
+-- Whether a line of the file is one of a fault, and whether one of these lines is.
+abbrev pub is_fault : Consulted → Bool
+is_fault (wrote t) = false
+is_fault c = true
+
+abbrev pub some_fault : List Consulted → Bool
+some_fault [] = false
+some_fault (c ∷ cs) = is_fault c || some_fault cs
+
+-- It is told so. After want of memory nothing is said.
+abbrev pub IsKept : {T : Type 0} → Next T → Bool → List Consulted → Type 0
+IsKept Memory b cs = Unit {0}
+IsKept next b cs = some_fault cs ≡ b
+
 -- The text of the file of this name has these lines. After want of memory it may have a part of a line.
 abbrev pub IsWritten : {T : Type 0} → Next T → Chars → List Consulted → List ℕ → Type 0
 IsWritten Memory name cs bytes = Unit {0}
@@ -90,10 +108,10 @@ IsWritten next name cs bytes = bytes ≡ encode_utf8_all (all_consulted name [] 
 
 module _ {S T : Type 0} (execution : (ℕ → Chars) → S → Job → List Consulted → Execution) (part : S → Option Part) (term : (ℕ → Chars) → T → Tree) where
   -- The execution as the next item is asked for, and where the search of the item at hand has come to.
-  abbrev pub StandsBefore : (ℕ → Chars) → S → Job → Option Part → Option (How T) → Option State → List Consulted → Execution → Type 0
+  abbrev pub StandsBefore : (ℕ → Chars) → S → Job → Option Part → Option (How Tree) → Option State → List Consulted → Execution → Type 0
   StandsBefore text s job None None searched cs x = x ≡ execution text s job cs
   StandsBefore text s job (Some p) (Some how) (Some r) cs x =
-      (ending : Ending) × (r.doing ≡ ended ending) × EndsAs term text how ending × (x ≡ with_search (execution text s job cs) p r)
+      (ending : Ending) × (r.doing ≡ ended ending) × EndsAs how ending × (x ≡ with_search (execution text s job cs) p r)
   StandsBefore text s job _ _ _ cs x = ⊥
 
   -- The execution as the next item is given, or as there is none, or as it stays at hand.
@@ -108,15 +126,18 @@ module _ {S T : Type 0} (execution : (ℕ → Chars) → S → Job → List Cons
   StandsAfter text s job was searched Memory cs y = Unit {0}
   StandsAfter text s job was searched _ cs y = (part s ≡ None) × (y ≡ execution text s job cs)
 
-  -- Whatever execution of this script it is, it comes from the one to the other, and the text of the file with it.
-  abbrev pub Given : ((ℕ → Chars) → S → Script → Type 0) → Chars → (ℕ → Chars) → (ℕ → Chars) → S → Option (How T) → Told → List ℕ → Next T → S → Told → List ℕ → Type 0
-  Given plays name old_text new_text old how t bytes next new u more =
+  -- Whatever execution of this script it is, it comes from the one to the other, and the text of the file with it, and
+  -- what is told of the faults in it.
+  abbrev pub Given : ((ℕ → Chars) → S → Script → Type 0) → (S → Bool) → Chars → (ℕ → Chars) → (ℕ → Chars) → S → Option (How Tree) → Told → List ℕ → Next T → S → Told → List ℕ → Type 0
+  Given plays kept name old_text new_text old how t bytes next new u more =
       (job : Job) (cs : List Consulted) (searched : Option State) (x : Execution)
       → plays old_text old job.script
       → StandsBefore old_text old job (part old) how searched cs x
       → bytes ≡ encode_utf8_all (all_consulted name [] (written_at x))
+      → some_fault (written_at x) ≡ kept old
       → (ds : List Consulted) × (y : Execution)
       × Comes job x t y u
       × StandsAfter new_text new job (part old) searched next ds y
       × plays new_text new job.script
       × IsWritten next name ds more
+      × IsKept next (kept new) ds

@@ -10,6 +10,7 @@ mod reply;
 mod resident;
 mod script;
 mod visit;
+pub mod ways;
 mod world;
 
 pub use answer::{Answer, On};

@@ -12,6 +12,7 @@ use crate::named::Named;
 use crate::script::{Next, Script};
 use crate::visit::Visit;
 use crate::world::World;
+use pl_term::Flat;
 use std::mem;
 
 /// How far a script of one goal has come.
@@ -42,7 +43,7 @@ impl<T: Named + Drop> Once<T> {
 
 impl<T: Named + Drop> Script for Once<T> {
     ghost use Rattle.std.specs.Prelude.{[]};
-    ghost use Rattle.world_api.specs.Onces.{execution_of, part_of, plays_of, names_of, over_of, same_under};
+    ghost use Rattle.world_api.specs.Onces.{execution_of, part_of, plays_of, names_of, over_of, same_under, same_lines, all_reported};
 
     type Term = T;
 
@@ -54,15 +55,21 @@ impl<T: Named + Drop> Script for Once<T> {
 
     ghost over = { λ s. over_of s.stage };
 
+    ghost kept = { λ _. false };
+
     ghost name = { λ _. [] };
 
     ghost names = { λ s. names_of T.names s.stage };
 
     ghost names_tell = { λ s text other same. same_under T.term T.names T.names_tell s.stage text other same };
 
+    ghost lines = { λ text s job cs. same_lines T.term text s.stage job cs };
+
+    ghost reported = { λ text s job cs. all_reported T.term text s.stage job cs };
+
     fn next<W: World<Term = T>>(
         &mut self,
-        _ended: Option<&How<T>>,
+        _ended: Option<&How<Flat>>,
         world: &mut W,
         atoms: &mut W::A,
         _text: &mut Vec<u8>,

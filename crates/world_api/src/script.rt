@@ -1,5 +1,5 @@
 //! The trait of scripts.
-ghost use Rattle.std.specs.Prelude.{◌≡◌, ◌++◌, ℕ, Bool, false, List, Option, IsSome};
+ghost use Rattle.std.specs.Prelude.{◌≡◌, ◌++◌, ℕ, Bool, false, List, [], Option, IsSome};
 ghost use Rattle.std.specs.Option.{option_map};
 ghost use Rattle.std.specs.List.{All};
 ghost use Rattle.pl_term.specs.Tree.{Chars};
@@ -7,12 +7,13 @@ ghost use Rattle.pl_model.specs.Execution.{Script as ScriptOf, Job, Consulted, E
 ghost use Rattle.world_api.specs.Texts.{text_of, Holds};
 ghost use Rattle.world_api.specs.Told.{Told, has_ended};
 ghost use Rattle.world_api.specs.Courses.{Part};
-ghost use Rattle.world_api.specs.Scripts.{IsAsked, Given, ended_names, next_refusals, next_names, is_done};
+ghost use Rattle.world_api.specs.Scripts.{IsAsked, IsAtHand, IsLast, Given, next_refusals, next_names, is_done, texts_at};
 
 use crate::how::How;
 use crate::named::Named;
 use crate::world::World;
 use atom_api::{Atoms, Cause, Pass, WornWord};
+use pl_term::Flat;
 
 /// What a script has next.
 #[derive(Drop)]
@@ -50,17 +51,20 @@ pub trait Script {
     // Whether it has answered that there is no further item.
     ghost over: { Self → Bool };
 
+    // Whether a fault of the file was kept: a line of it is not what a directive wrote.
+    ghost kept: { Self → Bool };
+
     // The name of the file.
     ghost name: { Self → Chars };
 
     // The atoms that it names.
     ghost names: { Self → List ℕ };
 
-    /// The next item. `ended` says how the item at hand has ended, if there is one. Lines that are written of the file
-    /// are put behind its text.
+    /// The next item. `ended` says how the item at hand has ended, if there is one: its ball has texts of its own, since
+    /// its variables need not be numbered from 0. Lines that are written of the file are put behind its text.
     fn next<W: World<Term = Self::Term>>(
         &mut self,
-        ended: Option<&How<Self::Term>>,
+        ended: Option<&How<Flat>>,
         world: &mut W,
         atoms: &mut W::A,
         text: &mut Vec<u8>,
@@ -69,11 +73,13 @@ pub trait Script {
         requires asked { IsAsked (part self.old) (option_map (λ b. b.now) ended) }
         requires goes_on { over self.old ≡ false }
         requires held { All (λ a. IsSome (W.A.held atoms.old a)) (names self.old) }
-        requires named { All (λ a. IsSome (W.A.held atoms.old a)) (ended_names Self.Term.names (option_map (λ b. b.now) ended)) }
-        ensures given { Given execution part Self.Term.term plays (name self.old)
+        ensures given { Given execution part Self.Term.term plays kept (name self.old)
             (text_of (W.A.held atoms.old)) (text_of (W.A.held atoms.new)) self.old (option_map (λ b. b.now) ended.entry) (W.told world.old) text.old.items
             result self.new (W.told world.new) text.new.items }
         ensures over { over self.new ≡ is_done result }
+        ensures at_hand { IsAtHand result (part self.new) }
+        ensures last { IsLast (part self.old) result }
+        ensures named { name self.new ≡ name self.old }
         ensures held { All (λ a. IsSome (W.A.held atoms.new a)) (names self.new ++ next_names Self.Term.names result) }
         ensures runs { has_ended (W.told world.new).engine (W.told world.new).history ≡ false }
         ensures holds { Holds (W.A.held atoms.old) (W.A.held atoms.new) }
@@ -83,4 +89,10 @@ pub trait Script {
     ghost names_tell: { (s : Self) (text other : ℕ → Chars) → All (λ a. text a ≡ other a) (names s)
         → ((job : Job) (cs : List Consulted) → execution text s job cs ≡ execution other s job cs)
         × ((x : ScriptOf) → plays text s x → plays other s x) };
+
+    // What that execution has consulted is what was given.
+    ghost lines: { (text : ℕ → Chars) (s : Self) (job : Job) (cs : List Consulted) → (execution text s job cs).consulted ≡ cs };
+
+    // No text of a directive waits there for its report.
+    ghost reported: { (text : ℕ → Chars) (s : Self) (job : Job) (cs : List Consulted) → texts_at (execution text s job cs).activity ≡ [] };
 }

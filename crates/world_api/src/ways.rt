@@ -1,0 +1,41 @@
+//! Laws of the ways of an execution, by which a script comes from the end of one item to the next.
+ghost use Rattle.std.specs.Prelude.{◌≡◌, [], ◌∷◌, ◌++◌, length, Option};
+ghost use Rattle.pl_model.specs.History.{Kind, History};
+ghost use Rattle.pl_model.specs.Requests.{Request, Reply as SharedReply};
+ghost use Rattle.pl_model.specs.Service.{answers};
+ghost use Rattle.pl_model.specs.Execution.{Job, Execution, move, moves, requests};
+ghost use Rattle.pl_model.specs.Progress.{entry_by, served_now};
+ghost use Rattle.world_api.specs.Told.{Told, Follows};
+ghost use Rattle.world_api.specs.Answers.{seen_as};
+ghost use Rattle.world_api.specs.Scripts.{Comes};
+
+/// An execution is where it is.
+#[tactic(auto, using(crate::proofs::ComesLaws::comes_same))]
+pub fn execution_stays()
+    ensures { (job : Job) (x y : Execution) (t : Told) → x ≡ y → Comes job x t y t }
+{}
+
+/// A move of the execution's own.
+#[tactic(auto, using(crate::proofs::ComesLaws::comes_by_move))]
+pub fn execution_moves()
+    ensures { (job : Job) (x y : Execution) (t : Told) → move job x ≡ moves y → Comes job x t y t }
+{}
+
+/// A request that is answered behind all entries.
+pub fn execution_asks()
+    ensures { (job : Job) (x : Execution) (q : Request) (next : SharedReply → Execution) (t u : Told) (before : History) (reply : SharedReply) (update : Option Kind)
+        → move job x ≡ requests q next
+        → Follows t.engine t.history before
+        → served_now t.engine t.goals before q ≡ answers reply update
+        → u ≡ seen_as t (before ++ entry_by t.engine update) (t.gens ++ length before ∷ [])
+        → Comes job x t (next reply) u }
+{}
+
+/// One way behind another.
+#[tactic(auto, using(crate::proofs::ComesLaws::comes_then))]
+pub fn execution_goes_on()
+    ensures { (job : Job) (x y z : Execution) (t u v : Told)
+        → Comes job x t y u
+        → Comes job y u z v
+        → Comes job x t z v }
+{}
