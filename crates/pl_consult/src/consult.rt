@@ -70,8 +70,9 @@ impl Consult {
         out: &mut Vec<u8>,
     ) -> Result<Consult, Memory>
         requires { out.old.items ≡ [] }
-        ensures { (job : Job) (words : List Chars) → job.script ≡ consults text.items words
+        ensures stands { (job : Job) (words : List Chars) → job.script ≡ consults text.items words
             → IfOk result (λ c. Stands c job (at_start job) out.new.items × ((at_start job).activity ≡ activity_of c.place)) }
+        ensures file { IfOk result (λ c. (c.name ≡ name.now) × (c.text.items ≡ text.items) × (c.later.items ≡ [])) }
     {
         let place = first_place(text.as_slice(), name, out)?;
         Ok(Consult {
@@ -92,7 +93,8 @@ impl Consult {
         quotes: Quotes,
         out: &mut Vec<u8>,
     ) -> Result<Taken, Memory>
-        ensures { (job : Job) (x : Execution) → Stands self.old job x out.old.items
+        ensures named { self.new.name ≡ self.old.name }
+        ensures took { (job : Job) (x : Execution) → Stands self.old job x out.old.items
             → IfOk result (λ taken. Took taken self.old.name self.new job ops.now (item_taken job x at (standing ops.now quotes)) out.new.items) }
     {
         match read_term(alloc, self.text.as_slice(), at, ops, quotes) {
@@ -136,7 +138,8 @@ impl Consult {
         ops: &OpTable,
         out: &mut Vec<u8>,
     ) -> Result<Taken, Memory>
-        ensures { (job : Job) (x : Execution) → Stands self.old job x out.old.items
+        ensures named { self.new.name ≡ self.old.name }
+        ensures took { (job : Job) (x : Execution) → Stands self.old job x out.old.items
             → IfOk result (λ taken. Took taken self.old.name self.new job ops.now (with_term job x ops.now start next term (goal_of_directive term)) out.new.items) }
     {
         self.place = Place::Item(next);
@@ -173,7 +176,8 @@ impl Consult {
 
     /// Takes up the goal of the directive at this byte.
     fn take_directive(&mut self, alloc: Global, goal: Flat, start: usize) -> Result<Taken, Memory>
-        ensures { (job : Job) (x : Execution) (next : ℕ) (out : List ℕ) (ops : OperatorTable) → Stands self.old job x out → self.old.place ≡ Item next
+        ensures named { self.new.name ≡ self.old.name }
+        ensures took { (job : Job) (x : Execution) (next : ℕ) (out : List ℕ) (ops : OperatorTable) → Stands self.old job x out → self.old.place ≡ Item next
             → IfOk result (λ taken. Took taken self.old.name self.new job ops (with_goal job x start next goal (goal_for_later goal)) out) }
     {
         match initialization_of(alloc, &goal)? {
@@ -228,7 +232,8 @@ impl Consult {
     /// The next goal of initialization/1 that is to be run, its variables numbered from 0, with the byte of its item; or
     /// none. The only error is want of memory.
     pub fn next_goal(&mut self, alloc: Global) -> Result<Option<(usize, Flat)>, Memory>
-        ensures { (job : Job) (x : Execution) (out : List ℕ) → Stands self.old job x out
+        ensures named { self.new.name ≡ self.old.name }
+        ensures gives { (job : Job) (x : Execution) (out : List ℕ) → Stands self.old job x out
             → IfOk result (λ g. Stands self.new job (next_initialization job x x.later) out
             × Initializes g job (next_initialization job x x.later).activity
             × (self.new.place ≡ self.old.place) × (self.new.name ≡ self.old.name)) }

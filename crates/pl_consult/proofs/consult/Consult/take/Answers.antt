@@ -1,6 +1,18 @@
-use Rattle.pl_consult.proofs.ConsultLemmas.{fault_taken}
+use Rattle.std.proofs.Common.{sym, subst}
+use Rattle.std.specs.Prelude.{IfOk}
+use Rattle.pl_model.specs.Execution.{Execution}
+use Rattle.pl_consult.specs.Consults.{Took}
+use Rattle.pl_consult.proofs.ConsultLemmas.{fault_taken, item_read}
 use Rattle.pl_consult.proofs.consult.Consult.take.Goals as goal
 
-pub returns-in-Syntax : goal.returns-in-Syntax
-returns-in-Syntax c job x s =
+pub returns-in-Clause-clause-took : goal.returns-in-Clause-clause-took
+returns-in-Clause-clause-took c job x s =
+    subst
+    (λ (y : Execution). IfOk c.take_term.result (λ taken. Took taken c.args.self.now.name c.take_term.new.self job c.args.ops.now y c.take_term.new.out.items))
+    (sym
+    (item_read c.args.self.now job x c.args.out.now.items c.args.at c.args.ops.now c.args.quotes _ s (rw c.as_slice.ensures.value at c.in-Clause.ensures)))
+    (c.take_term.ensures.took job x s)
+
+pub returns-in-Syntax-clause-took : goal.returns-in-Syntax-clause-took
+returns-in-Syntax-clause-took c job x s =
     fault_taken c.args.self.now c.behind_fault-self.result job x c.args.out.now.items _ c.args.at c.args.ops.now c.args.quotes c.in-Syntax.kind c.in-Syntax.fault s (rw c.as_slice.ensures.value at c.in-Syntax.ensures) (c.in_ok-put_syntax_fault-in-Syntax.ensures _ s.lines) c.behind_fault-self.ensures
