@@ -17,6 +17,7 @@ use crate::errors::unknown_procedure;
 use crate::heads::head_predicate;
 use crate::text_reply::TextReply;
 use clause_db::{By, Db, Hit, UnknownCall};
+use op_table::OpTable;
 use pl_model::first_argument::FirstArgument;
 use pl_model::shows::Proc;
 use pl_term::{Flat, Memory};
@@ -125,6 +126,28 @@ impl Journal {
         let operators = self.db.operators().copy(self.alloc)?;
         let quotes = self.db.flags().double_quotes;
         Ok(TextReply::Standing { operators, quotes })
+    }
+
+    /// The operators behind all updates. The only error is want of memory.
+    pub fn operators(&self) -> Result<OpTable, Memory>
+        ensures { IfOk result (λ ops. ops ≡ (state_after self.now.goals self.now.entries).operators) }
+    {
+        Ok(self.db.operators().copy(self.alloc)?)
+    }
+
+    /// The updates and the generations of the visits, which the journal gives away.
+    pub fn into_parts(self) -> (Vec<Entry>, Vec<u64>)
+        ensures entries { result.0.items ≡ self.entries }
+        ensures generations { result.1.items ≡ self.gens }
+    {
+        let Journal {
+            alloc: _,
+            goals: _,
+            entries,
+            generations,
+            db: _,
+        } = self;
+        (entries, generations)
     }
 
     /// The first of the clauses for a goal of a predicate, whose first argument has this key (ISO 7.7.10). The only error

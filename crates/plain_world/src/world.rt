@@ -1,6 +1,7 @@
 //! The world of one engine.
-ghost use Rattle.std.specs.Prelude.{◌≡◌, [], map, IfOk};
+ghost use Rattle.std.specs.Prelude.{◌≡◌, [], length, map, IfOk};
 ghost use Rattle.pl_model.specs.Progress.{AllPlain};
+ghost use Rattle.pl_model.specs.SharedState.{state_at};
 ghost use Rattle.plain_world.specs.Entries.{told_of, entry_of};
 
 use crate::adding::Adding;
@@ -8,6 +9,7 @@ use crate::entry::Entry;
 use crate::journal::Journal;
 use crate::spelled::Spelled;
 use atom_api::Atoms;
+use op_table::OpTable;
 use pl_model::kept::Kept;
 use pl_term::Memory;
 use std::alloc::Global;
@@ -49,6 +51,27 @@ impl<T: Spelled, A: Atoms> PlainWorld<T, A> {
         ensures { result.now ≡ (told_of self.now.journal).gens }
     {
         self.journal.generations()
+    }
+
+    /// The operators behind all updates so far. The only error is want of memory.
+    pub fn operators(&self) -> Result<OpTable, Memory>
+        ensures { IfOk result (λ ops. ops ≡ (state_at (told_of self.now.journal).goals (told_of self.now.journal).history
+            (length (told_of self.now.journal).history)).operators) }
+    {
+        self.journal.operators()
+    }
+
+    /// The updates and the generations of the engine's visits, which the world gives away at its end.
+    pub fn into_parts(self) -> (Vec<Entry>, Vec<u64>)
+        ensures history { map entry_of result.0.items ≡ (told_of self.journal).history }
+        ensures generations { result.1.items ≡ (told_of self.journal).gens }
+    {
+        let PlainWorld {
+            journal,
+            terms: _,
+            atoms: _,
+        } = self;
+        journal.into_parts()
     }
 }
 
