@@ -50,6 +50,13 @@ impl Ball {
         Ok(Ball { all })
     }
 
+    /// The term's nodes in prefix order.
+    pub fn nodes(&self) -> &[AtomNode]
+        ensures { node_views result.now ≡ nodes self.now }
+    {
+        self.all.as_slice()
+    }
+
     /// The term as it is kept, its variables numbered from 0 on. The only error is want of memory.
     pub fn stored(&self, alloc: Global) -> Result<Stored, Memory>
         ensures { IfOk result (λ s. s ≡ rename zero self.now) }

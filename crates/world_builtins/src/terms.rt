@@ -1,12 +1,14 @@
 //! The terms of a store as terms over texts.
 ghost use Rattle.std.specs.Prelude.{◌≡◌, map, IfOk, IsSome};
 ghost use Rattle.std.specs.List.{All};
+ghost use Rattle.pl_term.specs.Nodes.{nodes as nodes_of};
+ghost use Rattle.pl_term.specs.Tree.{Tree};
 ghost use Rattle.term_store.specs.Contents.{Holds};
 ghost use Rattle.term_store.specs.Heap.{atom_name};
-ghost use Rattle.term_store.specs.Nodes.{node_view, node_views};
+ghost use Rattle.term_store.specs.Nodes.{IsSpelled, node_view, node_views};
 ghost use Rattle.world_builtins.specs.Naming.{IsHeldAt};
 ghost use Rattle.world_builtins.specs.Nodes.{IsNodeHeld, spelled_node};
-ghost use Rattle.world_builtins.specs.Spelling.{reads, text_of};
+ghost use Rattle.world_builtins.specs.Spelling.{reads, spelled, text_of};
 
 use atom_api::{Atom, Atoms, TextBuf};
 use pl_term::{Flat, Memory, Node, Text};
@@ -68,6 +70,20 @@ fn spell_all<A: Atoms>(
     Ok(all)
 }
 
+/// The term that these nodes spell, over the texts of its atoms, its variables with their numbers. Each atom that a node
+/// names is held. The only error is want of memory.
+pub fn flat_of<A: Atoms>(alloc: Global, nodes: &[AtomNode], atoms: &mut A) -> Result<Flat, Memory>
+    requires spelled { IsSpelled nodes.now }
+    requires held { All (λ n. IsNodeHeld (A.held atoms.old) (node_view n)) nodes.now }
+    ensures term { IfOk result (λ f. (t : Tree) → node_views nodes.now ≡ nodes_of t → f ≡ spelled (text_of (A.held atoms.old)) t) }
+    ensures same { A.held atoms.new ≡ A.held atoms.old }
+    ensures refusals { A.refusals atoms.new ≡ A.refusals atoms.old }
+    ensures asked { A.asked atoms.new ≡ A.asked atoms.old }
+{
+    let all = spell_all(alloc, nodes, atoms)?;
+    Ok(Flat::from_nodes(all))
+}
+
 /// The term that stands at a place, over the texts of its atoms, its variables with their numbers. Each atom that it names
 /// is held. The only error is want of memory.
 pub fn flat_at<A: Atoms>(
@@ -84,8 +100,7 @@ pub fn flat_at<A: Atoms>(
     ensures asked { A.asked atoms.new ≡ A.asked atoms.old }
 {
     let nodes = store.nodes(place)?;
-    let all = spell_all(alloc, &nodes, atoms)?;
-    Ok(Flat::from_nodes(all))
+    flat_of(alloc, &nodes, atoms)
 }
 
 /// The terms that stand at some places. The only error is want of memory.
