@@ -21,6 +21,7 @@ use Rattle.iso_engine.specs.Ready.{IsStable}
 use Rattle.iso_engine.specs.Slices.{IsAnswerHeld}
 use Rattle.iso_engine.specs.Standing.{doing_of}
 use Rattle.iso_engine.proofs.Heldness.{held_names, IsHeldName}
+use Rattle.iso_engine.proofs.Alike.{alike_view}
 use Rattle.iso_engine.proofs.Later.{held_later}
 use Rattle.iso_engine.proofs.Naming.{AllNames, AllNamesIn, IsShort, names_short}
 use Rattle.iso_engine.proofs.Solutions.{node_in}
@@ -58,7 +59,7 @@ module _ (m : Names) (first : IsSome (m 0)) where
     all_held_in none s h = All-nil IsHeld
     all_held_in (more t ts) s h = All-append IsHeld (atoms_in t) (atoms_in_all ts) (all_held t s.0 h.0) (all_held_in ts s.1 h.1)
 
-zero_text : fixed 0 ≡ Some (codes "!")
+pub zero_text : fixed 0 ≡ Some (codes "!")
 unfolding fixed_texts
 zero_text = refl
 
@@ -82,7 +83,7 @@ answer_held m n t e list stands unlike finite doing stable holds k d lt =
     in let settled = held_names m stands unlike finite (term_at s p)
     (λ q fixes apart later.
     let view : IsView (view_of q t) = record { fixed = fixes; apart = apart }
-    in let same = (stable q t view (held_later m q t later)).1
+    in let same = (stable (view_of q t) view (alike_view m q t t (held_later m q t later))).1
     in let node = ap (node_in (node_of (view_of m t) e.search list)) (sym (ap (doing_of (view_of q t) e.search) doing) ∙ same ∙ ap (doing_of (view_of m t) e.search) doing)
     in each_same (reads (view_of q t) s) (reads (view_of m t) s) ws (ap (λ (x : Node). x.answer) node) k d lt)
     in All-weaker (λ a. IsSome (m a)) (λ a. IsSome (n a)) (still m n holds) (atoms_in (term_at s p)) (all_held m (ap is_some (stands 0 (codes "!") zero_text)) (term_at s p) (names_short s p) settled)

@@ -1,28 +1,35 @@
 -- A step after a failure.
-use Rattle.std.proofs.Common.{◌≡◌, ℕ, [], ◌∷◌, Some, inl, refl, sym, ap, subst, ◌∙◌}
+use Rattle.std.proofs.Common.{◌≡◌, ℕ, [], ◌∷◌, Option, Some, None, inl, refl, sym, ap, subst, ◌∙◌}
 use Rattle.pl_model.specs.Resolution.{failing, goes, clauses, resolving}
+use Rattle.pl_model.specs.Control.{gone_back}
 use Rattle.atom_api.specs.Names.{Names}
 use Rattle.term_store.specs.declared.words.Place.{Place}
-use Rattle.world_api.specs.declared.visit.Procedure.{Procedure}
+use Rattle.world_api.specs.Texts.{Holds}
 use Rattle.world_api.specs.Told.{Told}
 use Rattle.iso_search.specs.Reading.{IsView, View, reads}
 use Rattle.iso_search.specs.Searching.{IsWhole, choices_of, node_of}
 use Rattle.iso_search.specs.declared.failure.Back.{Back}
+use Rattle.iso_search.specs.declared.failure.Back.TheVariants.{Retry as RetryBack}
 use Rattle.iso_search.specs.declared.search.Search.{Search}
-use Rattle.iso_search.specs.Outcomes.{Setting}
+use Rattle.iso_search.specs.Failures.{back_result}
+use Rattle.iso_search.specs.Outcomes.{Setting, limits_in, state_in}
 use Rattle.iso_engine.specs.declared.doing.Doing.{Doing}
 use Rattle.iso_engine.specs.declared.doing.Doing.TheVariants.{Failing}
 use Rattle.iso_engine.specs.declared.engine.Engine.{Engine}
-use Rattle.iso_engine.specs.declared.slices.Slice.TheVariants.{Missing}
+use Rattle.iso_engine.specs.declared.slices.Slice.{Slice}
+use Rattle.iso_engine.specs.declared.slices.Slice.TheVariants.{Yield, Solution, NeedsAtoms, Retry, Worn, Waits, Ended, Missing, Memory}
+use Rattle.iso_engine.specs.Advancing.{Advances}
 use Rattle.iso_engine.specs.Later.{view_of}
-use Rattle.iso_engine.specs.Looking.{stopped_refusals}
-use Rattle.iso_engine.specs.Missing.{HasClauses, IsMissing, IsUnbuiltDoing}
 use Rattle.iso_engine.specs.Slices.{IsStepped}
 use Rattle.iso_engine.specs.Spending.{IsSpent}
-use Rattle.iso_engine.specs.Standing.{doing_of}
 use Rattle.iso_engine.specs.Failing.{FailsTo, StandsForBack}
-use Rattle.iso_engine.specs.Ready.{IsReady, Steps}
-use Rattle.iso_engine.proofs.Stability.{restored_advances, restored_ready}
+use Rattle.iso_engine.specs.Ready.{IsReady, Steps, StepsFrom}
+use Rattle.iso_engine.specs.Retrying.{IsGoneOn, IsTried}
+use Rattle.iso_engine.proofs.Alike.{visits_same}
+use Rattle.iso_engine.proofs.Followed.{fails_to}
+use Rattle.iso_engine.proofs.Later.{held_later}
+use Rattle.iso_engine.proofs.Moving.{seen_moved}
+use Rattle.iso_engine.proofs.Stability.{advance_same, advance_then, ready_later, restored_advances, restored_ready}
 
 pub failed_steps : (wanted given : ℕ) (e f : Search) (now d : Doing) (b : Back) → now ≡ Failing → FailsTo e f b → ((x : Search) → StandsForBack x b d)
     → Steps wanted given e now f d
@@ -30,26 +37,72 @@ failed_steps wanted given e f now d b same fails stands =
     subst (λ (y : Doing). Steps wanted given e y f d) (sym same)
     (λ t view wants gave. let r : Setting = record t { doing = failing } in fails r refl ∙ ap goes (stands f r))
 
--- Where clauses are to be tried next, the choice point was put back.
-pub retry_missing : (e f : Engine) (x : Search) (goal : Place) (g place next : ℕ) (p : Procedure) (m : Names) (t : Told)
-    → IsView (view_of m t) → IsReady m t e → e.doing ≡ Failing → f.doing ≡ e.doing → f.wanted ≡ e.wanted → f.given ≡ e.given
-    → ((v : View) → choices_of v e.search ≡ clauses resolving (reads v x.store goal) (v.left (reads v x.store goal) g place) (node_of v x next) ∷ choices_of v x)
-    → ((v : View) → choices_of v f.search ≡ clauses resolving (reads v x.store goal) (v.left (reads v x.store goal) g place) (node_of v x next) ∷ choices_of v x)
-    → (let y : Search = record e.search { store = x.store; frames = x.frames; choices = x.choices } in x ≡ y)
-    → (let y : Search = record x { choices = f.search.choices } in f.search ≡ y)
-    → IsWhole f.search
-    → (IsReady m t f) × (IsStepped m t e (Some (Missing p)) m t f []) × (IsSpent e.search.inferences f.search.inferences) × (stopped_refusals (Some (Missing p)) ≡ [])
-retry_missing e f x goal g place next p m t view ready fails same wanted given taken pushed first second whole =
-    let choices : (v : View) → choices_of v f.search ≡ choices_of v e.search = λ v. pushed v ∙ sym (taken v)
-    in let after = ap (λ (s : Search). s.next) second ∙ ap (λ (s : Search). s.next) first
-    in let count = ap (λ (s : Search). s.inferences) second ∙ ap (λ (s : Search). s.inferences) first
-    in let budgets = ap (λ (s : Search). s.budgets) second ∙ ap (λ (s : Search). s.budgets) first
-    in let missing : IsMissing m t f =
-    subst (λ (d : Doing). IsUnbuiltDoing (doing_of (view_of m t) f.search d) (choices_of (view_of m t) f.search)) (sym (same ∙ fails))
-    (subst HasClauses (sym (pushed (view_of m t))) tt)
-    in (
-      restored_ready e f choices after count fails (same ∙ fails) m t whole ready,
-      (refl, missing, restored_advances e f choices after count fails (same ∙ fails) m t budgets wanted given),
-      inl count,
-      refl,
-    )
+-- The newest choice point was one of clauses, which was taken off the engine's search.
+module _ (m n : Names) (t u : Told) (e : Engine) (x : Search) (f : Engine) (goal : Place) (g place next : ℕ) (holds : Holds m n) (view : IsView (view_of n u)) (ready : IsReady m t e)
+    (fails : e.doing ≡ Failing) (kept : (let y : Search = record e.search { store = x.store; frames = x.frames; choices = x.choices } in x ≡ y)) (whole : IsWhole f.search) where
+  abbrev taken_off : Engine
+  taken_off = record e { search = x }
+
+  abbrev IsStep : Option Slice → Type 0
+  IsStep o = IsStepped m t e o n u f [] × IsReady n u f × IsSpent e.search.inferences f.search.inferences × (f.given ≡ e.given)
+
+  budgets_same : x.budgets ≡ e.search.budgets
+  budgets_same = ap (λ (s : Search). s.budgets) kept
+
+  -- The next clause was tried.
+  tried_step : IsTried t taken_off goal g place next n u f
+      → ((r : Setting) → r.doing ≡ failing → back_result r x (RetryBack goal g place next) ≡ gone_back (limits_in r e.search) (state_in r e.search) (choices_of r.view e.search))
+      → IsStep None
+  tried_step tried step =
+      let given : f.given ≡ e.given = ap (λ (y : Engine). y.given) tried.rest
+      in let steps : StepsFrom n u e.wanted e.given e.search e.doing f.search f.doing =
+      subst (λ (y : Doing). StepsFrom n u e.wanted e.given e.search y f.search f.doing) (sym fails)
+      (λ r other alike wants gave.
+      let s : Setting = record r { doing = failing }
+      in fails_to s e.search (back_result s x (RetryBack goal g place next)) refl (step s refl) ∙ ap goes (tried.stands s other alike))
+      in let moved = seen_moved m n t u e f holds view ready tried.before tried.follows tried.told steps (tried.budgets ∙ budgets_same)
+      (ap (λ (y : Engine). y.wanted) tried.rest) given whole
+      in (moved.0, moved.1, moved.2, given)
+
+  -- The choice point is there again.
+  back_again : (s : Slice)
+      → IsGoneOn t taken_off goal g place next n u f (Some s)
+      → ((v : View) → choices_of v e.search ≡ clauses resolving (reads v x.store goal) (v.left (reads v x.store goal) g place) (node_of v x next) ∷ choices_of v x)
+      → Advances 0 m t e n u f [] × IsReady n u f × IsSpent e.search.inferences f.search.inferences × (f.given ≡ e.given)
+  back_again s gone taken =
+      let put = gone.1
+      in let rest = gone.2
+      in let choices : (v : View) → choices_of v f.search ≡ choices_of v e.search = λ v. put.choices v ∙ sym (taken v)
+      in let after = ap (λ (y : Search). y.next) put.search ∙ ap (λ (y : Search). y.next) kept
+      in let count = ap (λ (y : Search). y.inferences) put.search ∙ ap (λ (y : Search). y.inferences) kept
+      in let budgets = ap (λ (y : Search). y.budgets) put.search ∙ budgets_same
+      in let doing : f.doing ≡ Failing = ap (λ (y : Engine). y.doing) rest ∙ fails
+      in let given : f.given ≡ e.given = ap (λ (y : Engine). y.given) rest
+      in let same : IsView (view_of n t) = subst (λ (w : Told). IsView (view_of n w)) put.told view
+      in let here : IsReady n t e = ready_later m n t t e same (held_later m n t holds) (visits_same t t refl) ready
+      in let walk : Advances 0 m t e n t f [] =
+      advance_then 0 0 m n n t t t e e f [] [] (advance_same m n t t e ready.stable same refl holds)
+      (restored_advances e f choices after count fails doing n t budgets (ap (λ (y : Engine). y.wanted) rest) given)
+      in let ready_now : IsReady n t f = restored_ready e f choices after count fails doing n t whole here
+      in (
+        subst (λ (w : Told). Advances 0 m t e n w f []) (sym put.told) walk,
+        subst (λ (w : Told). IsReady n w f) (sym put.told) ready_now,
+        inl count,
+        given,
+      )
+
+  pub retried_step : (o : Option Slice) → IsGoneOn t taken_off goal g place next n u f o
+      → ((v : View) → choices_of v e.search ≡ clauses resolving (reads v x.store goal) (v.left (reads v x.store goal) g place) (node_of v x next) ∷ choices_of v x)
+      → ((r : Setting) → r.doing ≡ failing → back_result r x (RetryBack goal g place next) ≡ gone_back (limits_in r e.search) (state_in r e.search) (choices_of r.view e.search))
+      → IsStep o
+  retried_step None gone taken step = tried_step gone step
+  retried_step (Some (NeedsAtoms p)) gone taken step =
+      let b = back_again (NeedsAtoms p) gone taken in ((refl, tt, b.0), b.1, b.2, b.3)
+  retried_step (Some (Retry c)) gone taken step = let b = back_again (Retry c) gone taken in ((refl, tt, b.0), b.1, b.2, b.3)
+  retried_step (Some (Worn w)) gone taken step = let b = back_again (Worn w) gone taken in ((refl, tt, b.0), b.1, b.2, b.3)
+  retried_step (Some Yield) gone taken step = absurd gone.0
+  retried_step (Some (Solution ops)) gone taken step = absurd gone.0
+  retried_step (Some (Waits on k)) gone taken step = absurd gone.0
+  retried_step (Some Ended) gone taken step = absurd gone.0
+  retried_step (Some (Missing p)) gone taken step = absurd gone.0
+  retried_step (Some Memory) gone taken step = absurd gone.0

@@ -30,7 +30,7 @@ placed e f (Raise x) h = h.0
 placed e f (Throw w) h = h.0
 placed e f (Halt k) h = tt
 
-doing_same : (t : Setting) (e f : Search) (p q : Proc) (rest : ℕ) (o : Outcome) → rest ≤ length e.frames.items → IsOutcomeIn e f o → p ≡ q
+pub doing_same : (t : Setting) (e f : Search) (p q : Proc) (rest : ℕ) (o : Outcome) → rest ≤ length e.frames.items → IsOutcomeIn e f o → p ≡ q
     → doing_by t f (node_of t.view f rest) p o ≡ doing_by t f (node_of t.view e rest) q o
 doing_same t e f p q rest (Run list) le h same = refl
 doing_same t e f p q rest Fail le h same = refl

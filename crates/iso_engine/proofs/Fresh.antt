@@ -40,7 +40,7 @@ module _ (m n : Names) (holds : Holds m n) where
   name_later (a ∷ (b ∷ bs)) h = refl
 
   mutual
-    spelled_later : (t : Tree) → All IsHeld (atoms_in t) → spelled (text_of n) t ≡ spelled (text_of m) t
+    pub spelled_later : (t : Tree) → All IsHeld (atoms_in t) → spelled (text_of n) t ≡ spelled (text_of m) t
     spelled_later (var x) h = refl
     spelled_later (int i) h = refl
     spelled_later (atom f) h = ap atom (name_later f (All-head IsHeld (number_of f) [] h))
@@ -62,8 +62,8 @@ started_ready e goal whole starts m t view held =
     record {
       whole = whole;
       stable =
-          λ n u other later.
-          let same : state_now (view_of n u) e [] ≡ state_now (view_of m t) e [] =
-          starts (view_of n u) None other ∙ ap (start (limits_of None e)) (spelled_later m n later.holds goal held) ∙ sym (starts (view_of m t) None view)
+          λ v other alike.
+          let same : state_now v e [] ≡ state_now (view_of m t) e [] =
+          starts v None other ∙ ap (start (limits_of None e)) (spelled_later m v.names alike.holds goal held) ∙ sym (starts (view_of m t) None view)
           in (ap (λ (s : State). s.choices) same, ap (λ (s : State). s.doing) same);
     }

@@ -1,12 +1,13 @@
 -- The predicates of goals.
-use Rattle.std.proofs.Common.{◌≡◌, ℕ, suc, ◌<◌, List, [], ◌∷◌, length, codes, sym, ap, ◌∙◌, arith}
-use Rattle.pl_term.specs.Tree.{Tree, var, compound, trees}
+use Rattle.std.proofs.Common.{◌≡◌, ℕ, ℤ, suc, ◌<◌, List, [], ◌∷◌, length, codes, sym, ap, ◌∙◌, arith}
+use Rattle.pl_term.specs.Tree.{Tree, var, int, atom, compound, trees}
 use Rattle.pl_model.specs.History.{Proc}
 use Rattle.pl_model.specs.World.{proc_of}
 use Rattle.term_store.specs.declared.words.Place.{Place}
 use Rattle.term_store.specs.declared.views.Arguments.{Arguments}
 use Rattle.term_store.specs.Heap.{atom_name}
 use Rattle.term_store.specs.Contents.{Contents, IsArguments, arguments_at, term_at}
+use Rattle.iso_engine.specs.Following.{IsInteger}
 use Rattle.iso_search.specs.Reading.{IsView, View, reads}
 use Rattle.iso_search.specs.Spelling.{spelled, text_of}
 use Rattle.iso_search.proofs.Constructing.{count-trees, how_many}
@@ -33,3 +34,23 @@ compound_proc v s goal name arity a is args some same =
     in ap (λ t. proc_of (spelled (text_of v.names) t)) is
     ∙ compound_is v name (arguments_at s a) (omega (arith, long, some))
     ∙ ap (proc_as v name) (long ∙ sym same)
+
+variable_integer : (n : ℕ) (i : ℤ) → var n ≡ int i → ⊥
+variable_integer n i e = cc
+
+pub variable_no_integer : (s : Contents) (goal : Place) (n : ℕ) → term_at s goal ≡ var n → IsInteger s goal → ⊥
+variable_no_integer s goal n is h = variable_integer n h.0 (sym is ∙ h.1)
+
+atom_integer : (f : List ℕ) (i : ℤ) → atom f ≡ int i → ⊥
+atom_integer f i e = cc
+
+compound_integer : (f : List ℕ) (xs : List Tree) (i : ℤ) → compound f xs ≡ int i → ⊥
+compound_integer f [] i e = cc
+compound_integer f (x ∷ xs) i e = cc
+
+pub atom_no_integer : (s : Contents) (goal : Place) (name : ℕ) → term_at s goal ≡ atom (atom_name name) → IsInteger s goal → ⊥
+atom_no_integer s goal name is h = atom_integer (atom_name name) h.0 (sym is ∙ h.1)
+
+pub compound_no_integer : (s : Contents) (goal : Place) (name : ℕ) (a : Arguments) → term_at s goal ≡ compound (atom_name name) (arguments_at s a) → IsArguments s a
+    → 0 < a.count → IsInteger s goal → ⊥
+compound_no_integer s goal name a is args some h = compound_integer (atom_name name) (arguments_at s a) h.0 (sym is ∙ h.1)

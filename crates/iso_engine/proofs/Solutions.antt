@@ -28,8 +28,9 @@ use Rattle.iso_engine.specs.declared.slices.Slice.{Slice}
 use Rattle.iso_engine.specs.declared.slices.Slice.TheVariants.{Yield, Solution, NeedsAtoms, Retry, Worn, Waits, Ended, Missing, Memory}
 use Rattle.iso_engine.specs.Looking.{IsRefused, Looks, WaitsThere}
 use Rattle.iso_engine.specs.Slices.{IsStepped, IsWaitingNow, answer_of, written_text}
-use Rattle.iso_engine.proofs.Later.{held_later, later_then}
-use Rattle.iso_engine.proofs.Stability.{advance_asks, advance_same, advance_seen, stable_later}
+use Rattle.iso_engine.proofs.Alike.{KeepsVisits, alike_view, visits_more, visits_same}
+use Rattle.iso_engine.proofs.Later.{held_later}
+use Rattle.iso_engine.proofs.Stability.{advance_asks, advance_same, advance_seen, ready_later, stable_later}
 use Rattle.iso_engine.proofs.Tasking.{step_done}
 
 -- What atoms hold is a view.
@@ -84,7 +85,7 @@ module _ (m n : Names) (t u : Told) (e f : Engine) (list : ℕ) (ops : OperatorT
       → IsLater m t n u
       → IsAnswered m t e n u f (solution ops (answer_of n u f) ∷ [])
   answered doing none is stable view holds looks later =
-      let same = stable n u view later
+      let same = stable (view_of n u) view (alike_view m n t u later)
       in let node_same : node n u ≡ node m t =
       ap (node_in (node m t)) (sym (ap (doing_of (view_of n u) e.search) doing) ∙ same.1 ∙ ap (doing_of (view_of m t) e.search) doing)
       in record {
@@ -124,16 +125,14 @@ module _ (m n : Names) (t u : Told) (e f : Engine) (list : ℕ) (ops : OperatorT
   solved_ready is ready view holds looks =
       let later = looked_later holds looks
       in let whole : IsWhole e.search = ready.whole
+      in let visits : KeepsVisits t u = visits_more t u looks.before looks.update looks.told
+      in let stable = stable_later m n t u e.search e.doing view later visits ready.stable
       in record {
         whole = subst IsWhole (sym (search_same is)) whole;
         stable =
-            λ k w other more.
-            let here = ready.stable n u view later
-            in let there = ready.stable k w other (later_then m n k t u w later more)
-            in let both : choices_of (view_of k w) e.search ≡ choices_of (view_of n u) e.search = there.0 ∙ sym here.0
-            in (
-              ap (choices_of (view_of k w)) (search_same is) ∙ both ∙ sym (ap (choices_of (view_of n u)) (search_same is)),
-              ap (λ (x : Engine). doing_of (view_of k w) x.search x.doing) is ∙ sym (ap (λ (x : Engine). doing_of (view_of n u) x.search x.doing) is),
+            λ v other alike. (
+              ap (choices_of v) (search_same is) ∙ (stable v other alike).0 ∙ sym (ap (choices_of (view_of n u)) (search_same is)),
+              ap (λ (x : Engine). doing_of v x.search x.doing) is ∙ sym (ap (λ (x : Engine). doing_of (view_of n u) x.search x.doing) is),
             );
       }
 
@@ -156,9 +155,20 @@ refused_later m n t u q Ended h differs holds = absurd h
 refused_later m n t u q (Missing p) h differs holds = absurd h
 refused_later m n t u q Memory h differs holds = absurd (differs refl)
 
+refused_visits : (t u : Told) (q : Request) (s : Slice) → IsRefused t q s u → (s ≡ Memory → ⊥) → KeepsVisits t u
+refused_visits t u q Yield h differs = absurd h
+refused_visits t u q (Solution ops) h differs = absurd h
+refused_visits t u q (NeedsAtoms p) h differs = visits_same t u (ap (λ (x : Told). x.gens) h)
+refused_visits t u q (Retry c) h differs = visits_same t u (ap (λ (x : Told). x.gens) h)
+refused_visits t u q (Worn w) h differs = visits_same t u (ap (λ (x : Told). x.gens) h)
+refused_visits t u q (Waits on g) h differs = visits_same t u (ap (λ (x : Told). x.gens) h.told)
+refused_visits t u q Ended h differs = absurd h
+refused_visits t u q (Missing p) h differs = absurd h
+refused_visits t u q Memory h differs = absurd (differs refl)
+
 pub refused_ready : (m n : Names) (t u : Told) (e : Engine) (s : Slice) → IsRefused t look s u → (s ≡ Memory → ⊥) → Holds m n → IsView (view_of n u) → IsReady m t e → IsReady n u e
 refused_ready m n t u e s h differs holds view ready =
-    record { whole = ready.whole; stable = stable_later m n t u e.search e.doing view (refused_later m n t u look s h differs holds) ready.stable }
+    ready_later m n t u e view (refused_later m n t u look s h differs holds) (refused_visits t u look s h differs) ready
 
 -- A look that was not answered is no step.
 module _ (m n : Names) (t u : Told) (e : Engine) (list : ℕ) (doing : e.doing ≡ Running list) (none : tasks e.search.frames.items list ≡ []) (holds : Holds m n)

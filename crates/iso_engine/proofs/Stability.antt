@@ -22,19 +22,20 @@ use Rattle.iso_engine.specs.declared.doing.Doing.TheVariants.{Failing}
 use Rattle.iso_engine.specs.declared.engine.Engine.{Engine}
 use Rattle.iso_engine.specs.Later.{IsLater, view_of}
 use Rattle.iso_engine.specs.Standing.{doing_of, limits_of, state_at, state_now}
-use Rattle.iso_engine.specs.Ready.{IsReady, IsStable, Steps}
+use Rattle.iso_engine.specs.Ready.{IsAlike, IsReady, IsStable, Steps, StepsFrom}
 use Rattle.iso_engine.specs.Advancing.{Advances}
 use Rattle.iso_engine.specs.Asking.{IsAnswered}
 use Rattle.iso_engine.specs.Spending.{IsSpent}
+use Rattle.iso_engine.proofs.Alike.{KeepsVisits, alike_itself, alike_later, alike_view}
 use Rattle.iso_engine.proofs.Later.{later_stays, later_then}
 use Rattle.iso_engine.proofs.Spending.{Spends, step_spends}
 
 -- There is an output of so many solutions.
-some_output : (k : ℕ) → (o : List Output) × (solution_count o ≡ k)
+pub some_output : (k : ℕ) → (o : List Output) × (solution_count o ≡ k)
 some_output zero = ([], refl)
 some_output (suc k) = let rest = some_output k in (solution opening_table [] ∷ rest.0, ap suc rest.1)
 
-abbrev or_same : State → Next → State
+abbrev pub or_same : State → Next → State
 or_same s (goes r) = r
 or_same s (asks q k) = s
 or_same s (stops how) = s
@@ -43,40 +44,51 @@ abbrev with_doing : resolution.Doing → List Choice → Search → List Output 
 with_doing d cs e out = let s : State = record { doing = d; choices = cs; next = e.next; inferences = e.inferences; output = out } in s
 
 -- It stands for the same state in both views.
-pub same_state : (m n : Names) (t u : Told) (e : Search) (d : Doing) (out : List Output)
-    → (choices_of (view_of n u) e ≡ choices_of (view_of m t) e) × (doing_of (view_of n u) e d ≡ doing_of (view_of m t) e d)
-    → state_at (view_of n u) e d out ≡ state_at (view_of m t) e d out
-same_state m n t u e d out h = ap₂ (λ x cs. with_doing x cs e out) h.1 h.0
+pub same_state : (v w : View) (e : Search) (d : Doing) (out : List Output)
+    → (choices_of v e ≡ choices_of w e) × (doing_of v e d ≡ doing_of w e d)
+    → state_at v e d out ≡ state_at w e d out
+same_state v w e d out h = ap₂ (λ x cs. with_doing x cs e out) h.1 h.0
 
-module _ (wanted given : ℕ) (e : Search) (d : Doing) (f : Search) (x : Doing) (steps : Steps wanted given e d f x) where
-  abbrev setting : Names → Told → List Output → Setting
-  setting m t out = record { view = view_of m t; solutions = wanted; stays = None; doing = failing; output = out }
+-- The same steps by fewer views.
+pub steps_from : (m : Names) (t : Told) (wanted given : ℕ) (e : Search) (d : Doing) (f : Search) (x : Doing) → Steps wanted given e d f x → StepsFrom m t wanted given e d f x
+steps_from m t wanted given e d f x steps r view alike wants gave = steps r view wants gave
 
-  led : (m : Names) (t : Told) → IsView (view_of m t) → (out : List Output) → solution_count out ≡ given
-      → step (limits_in (setting m t out) e) (state_at (view_of m t) e d out) ≡ goes (state_at (view_of m t) f x out)
-  led m t view out count = steps (setting m t out) view refl count
+module _ (m : Names) (t : Told) (wanted given : ℕ) (e : Search) (d : Doing) (f : Search) (x : Doing) (steps : StepsFrom m t wanted given e d f x) where
+  abbrev setting : View → List Output → Setting
+  setting v out = record { view = v; solutions = wanted; stays = None; doing = failing; output = out }
+
+  led : (v : View) → IsView v → IsAlike m t v → (out : List Output) → solution_count out ≡ given
+      → step (limits_in (setting v out) e) (state_at v e d out) ≡ goes (state_at v f x out)
+  led v view alike out count = steps (setting v out) view alike refl count
 
   -- What a stable state leads to is stable.
-  pub stable_then : (m : Names) (t : Told) → IsView (view_of m t) → IsStable m t e d → IsStable m t f x
-  stable_then m t view stable n u other later =
+  pub stable_then : IsView (view_of m t) → IsStable m t e d → IsStable m t f x
+  stable_then view stable v other alike =
       let o = some_output given
-      in let l = limits_in (setting m t o.0) e
-      in let same : state_at (view_of n u) f x o.0 ≡ state_at (view_of m t) f x o.0 =
+      in let l = limits_in (setting v o.0) e
+      in let same : state_at v f x o.0 ≡ state_at (view_of m t) f x o.0 =
       ap (or_same (state_at (view_of m t) f x o.0))
-      (sym (led n u other o.0 o.1)
-      ∙ ap (step l) (same_state m n t u e d o.0 (stable n u other later))
-      ∙ led m t view o.0 o.1)
+      (sym (led v other alike o.0 o.1)
+      ∙ ap (step l) (same_state v (view_of m t) e d o.0 (stable v other alike))
+      ∙ led (view_of m t) view (alike_itself m t) o.0 o.1)
       in (ap (λ (s : State). s.choices) same, ap (λ (s : State). s.doing) same)
 
+  -- A step makes at most one inference.
+  pub spent_from : IsView (view_of m t) → IsSpent e.inferences f.inferences
+  spent_from view =
+      let o = some_output given
+      in let r = setting (view_of m t) o.0
+      in subst (Spends e.inferences) (steps r view (alike_itself m t) refl o.1) (step_spends (limits_in r e) (state_at (view_of m t) e d o.0))
+
 -- The course of one step more.
-pub advance_step : (m : Names) (t : Told) (e f : Engine)
-    → Steps e.wanted e.given e.search e.doing f.search f.doing
+pub advance_from : (m : Names) (t : Told) (e f : Engine)
+    → StepsFrom m t e.wanted e.given e.search e.doing f.search f.doing
     → f.search.budgets ≡ e.search.budgets
     → f.wanted ≡ e.wanted
     → f.given ≡ e.given
     → IsView (view_of m t)
     → Advances 1 m t e m t f []
-advance_step m t e f steps budgets wanted given view =
+advance_from m t e f steps budgets wanted given view =
     record {
       course =
           λ stays written count.
@@ -89,12 +101,22 @@ advance_step m t e f steps budgets wanted given view =
           t
           0
           (course_stays (limits_of stays e) (state_now (view_of m t) e written) t)
-          (steps (record { view = view_of m t; solutions = e.wanted; stays = stays; doing = failing; output = written }) view refl count
+          (steps (record { view = view_of m t; solutions = e.wanted; stays = stays; doing = failing; output = written }) view (alike_itself m t) refl count
           ∙ ap (λ out. goes (state_now (view_of m t) f out)) (sym (append-nil written)));
       limits = λ stays. ap₂ (λ b w. let l : Limits = record { inferences = b.inferences; cells = b.cells; choices = b.choices; solutions = w; stays = stays } in l) budgets wanted;
       given = given ∙ (let n : e.given ≡ e.given + 0 = omega arith in n);
       later = later_stays m t;
     }
+
+pub advance_step : (m : Names) (t : Told) (e f : Engine)
+    → Steps e.wanted e.given e.search e.doing f.search f.doing
+    → f.search.budgets ≡ e.search.budgets
+    → f.wanted ≡ e.wanted
+    → f.given ≡ e.given
+    → IsView (view_of m t)
+    → Advances 1 m t e m t f []
+advance_step m t e f steps budgets wanted given view =
+    advance_from m t e f (steps_from m t e.wanted e.given e.search e.doing f.search f.doing steps) budgets wanted given view
 
 -- No step.
 pub advance_none : (m : Names) (t : Told) (e : Engine) → Advances 0 m t e m t e []
@@ -146,7 +168,7 @@ advance_then k j m n r t u w e f g xs ys a b =
       later = later_then m n r t u w a.later b.later;
     }
 
-abbrev history_of : Told → History
+abbrev pub history_of : Told → History
 history_of t = t.history
 
 answered_later : (m n : Names) (t u : Told) (e f : Engine) (more : List Output) → IsAnswered m t e n u f more → Holds m n → IsLater m t n u
@@ -217,7 +239,7 @@ advance_seen m n t u e before stable view entries told holds =
           in let s = state_now (view_of m t) e written
           in let there : Course l s t 0 s (seen_as t before t.gens) = course_follows l s s t t 0 before (course_stays l s t) entries
           in subst (λ out. Course l s t 0 (state_now (view_of n u) e out) u) (sym (append-nil written))
-          (subst (λ r. Course l s t 0 r u) (sym (same_state m n t u e.search e.doing written (stable n u view later)))
+          (subst (λ r. Course l s t 0 r u) (sym (same_state (view_of n u) (view_of m t) e.search e.doing written (stable (view_of n u) view (alike_view m n t u later))))
           (subst (λ w. Course l s t 0 s w) (sym told) there));
       limits = λ stays. refl;
       given = (let q : e.given ≡ e.given + 0 = omega arith in q);
@@ -235,23 +257,33 @@ advance_same m n t u e stable view told holds =
     advance_seen m n t u e t.history stable view (record { later = []; grown = sym (append-nil t.history); others = refl }) told holds
 
 -- What is stable stays so.
-pub stable_later : (m n : Names) (t u : Told) (e : Search) (d : Doing) → IsView (view_of n u) → IsLater m t n u → IsStable m t e d → IsStable n u e d
-stable_later m n t u e d view later stable k w other more =
-    let here = stable n u view later
-    in let there = stable k w other (later_then m n k t u w later more)
+pub stable_later : (m n : Names) (t u : Told) (e : Search) (d : Doing) → IsView (view_of n u) → IsLater m t n u → KeepsVisits t u → IsStable m t e d → IsStable n u e d
+stable_later m n t u e d view later visits stable v other alike =
+    let here = stable (view_of n u) view (alike_view m n t u later)
+    in let there = stable v other (alike_later m n t u later visits v alike)
     in (there.0 ∙ sym here.0, there.1 ∙ sym here.1)
+
+pub ready_later : (m n : Names) (t u : Told) (e : Engine) → IsView (view_of n u) → IsLater m t n u → KeepsVisits t u → IsReady m t e → IsReady n u e
+ready_later m n t u e view later visits ready =
+    record { whole = ready.whole; stable = stable_later m n t u e.search e.doing view later visits ready.stable }
 
 -- A step makes at most one inference.
 pub spent_by : (wanted given : ℕ) (e : Search) (d : Doing) (f : Search) (x : Doing) (m : Names) (t : Told)
     → Steps wanted given e d f x
     → IsView (view_of m t)
     → IsSpent e.inferences f.inferences
-spent_by wanted given e d f x m t steps view =
-    let o = some_output given
-    in let r = setting wanted given e d f x steps m t o.0
-    in subst (Spends e.inferences) (steps r view refl o.1) (step_spends (limits_in r e) (state_at (view_of m t) e d o.0))
+spent_by wanted given e d f x m t steps view = spent_from m t wanted given e d f x (steps_from m t wanted given e d f x steps) view
 
 -- The engine between two steps, after a step of the search's own.
+pub ready_from : (m : Names) (t : Told) (e f : Engine)
+    → StepsFrom m t e.wanted e.given e.search e.doing f.search f.doing
+    → IsWhole f.search
+    → IsView (view_of m t)
+    → IsReady m t e
+    → IsReady m t f
+ready_from m t e f steps whole view ready =
+    record { whole = whole; stable = stable_then m t e.wanted e.given e.search e.doing f.search f.doing steps view ready.stable }
+
 pub step_ready : (m : Names) (t : Told) (e f : Engine)
     → Steps e.wanted e.given e.search e.doing f.search f.doing
     → IsWhole f.search
@@ -259,7 +291,7 @@ pub step_ready : (m : Names) (t : Told) (e f : Engine)
     → IsReady m t e
     → IsReady m t f
 step_ready m t e f steps whole view ready =
-    record { whole = whole; stable = stable_then e.wanted e.given e.search e.doing f.search f.doing steps m t view ready.stable }
+    ready_from m t e f (steps_from m t e.wanted e.given e.search e.doing f.search f.doing steps) whole view ready
 
 -- An engine that goes back to a choice point stands where it stood if the choice points are the same.
 module _ (e f : Engine) (choices : (v : View) → choices_of v f.search ≡ choices_of v e.search) (next : f.search.next ≡ e.search.next)
@@ -279,9 +311,9 @@ module _ (e f : Engine) (choices : (v : View) → choices_of v f.search ≡ choi
       record {
         whole = whole;
         stable =
-            λ n u view later. (
-              choices (view_of n u) ∙ (ready.stable n u view later).0 ∙ sym (choices (view_of m t)),
-              ap (λ d. doing_of (view_of n u) f.search d) fails' ∙ sym (ap (λ d. doing_of (view_of m t) f.search d) fails'),
+            λ v view alike. (
+              choices v ∙ (ready.stable v view alike).0 ∙ sym (choices (view_of m t)),
+              ap (λ d. doing_of v f.search d) fails' ∙ sym (ap (λ d. doing_of (view_of m t) f.search d) fails'),
             );
       }
 

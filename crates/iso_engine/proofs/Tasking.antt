@@ -18,7 +18,6 @@ use Rattle.atom_api.specs.Names.{Names}
 use Rattle.world_api.specs.declared.visit.Procedure.{Procedure}
 use Rattle.world_api.specs.Told.{Told}
 use Rattle.iso_search.specs.Reading.{IsView}
-use Rattle.iso_search.specs.Searching.{choices_of}
 use Rattle.iso_engine.specs.declared.doing.Doing.{Doing}
 use Rattle.iso_engine.specs.declared.doing.Doing.TheVariants.{Running}
 use Rattle.iso_engine.specs.declared.engine.Engine.{Engine}
@@ -84,7 +83,7 @@ pub task_missing : (m : Names) (t : Told) (e : Engine) (f : Search) (list : ℕ)
 task_missing m t e f list x next did p view doing is done same =
     let left = subst (IsDone e.search x next f) same done
     in let missing : IsMissing m t e =
-    subst (λ (y : Doing). IsUnbuiltDoing (doing_of (view_of m t) e.search y) (choices_of (view_of m t) e.search)) (sym doing)
+    subst (λ (y : Doing). IsUnbuiltDoing (doing_of (view_of m t) e.search y)) (sym doing)
     (subst (λ ts. IsUnbuiltFirst (map (pending (reads (view_of m t) e.search.store)) ts)) (sym is) (left.1 (view_of m t) view))
     in let base : (more : List Output) × IsStepped m t e (Some (Missing p)) m t e more × (written_text more ≡ []) = ([], (refl, missing, advance_none m t e), refl)
     in subst (λ (s : Search). let g : Engine = record e { search = s } in (more : List Output) × IsStepped m t e (Some (Missing p)) m t g more × (written_text more ≡ [])) (sym left.0) base

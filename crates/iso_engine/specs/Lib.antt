@@ -1,5 +1,6 @@
 pub mod Advancing
 pub mod Asking
+pub mod Calling
 pub mod Failing
 pub mod Finding
 pub mod Following
@@ -7,9 +8,11 @@ pub mod Later
 pub mod Looking
 pub mod Missing
 pub mod Ready
+pub mod Retrying
 pub mod Slices
 pub mod Spending
 pub mod Standing
 pub mod Starting
 pub mod Tasks
 pub mod Walking
+pub mod Writes

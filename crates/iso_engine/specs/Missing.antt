@@ -1,14 +1,16 @@
 -- What is not built yet.
-use Rattle.std.specs.Prelude.{◌≡◌, List, [], ◌∷◌, ◌⊎◌, true, false, bytes_eq, codes, Bool}
+use Rattle.std.specs.Prelude.{◌≡◌, ℕ, List, [], ◌∷◌, ◌⊎◌, true, false, bytes_eq, codes, Bool, is_some}
 use Rattle.pl_term.specs.Tree.{Tree, int, comp, none, more}
-use Rattle.pl_model.specs.Resolution.{Pending, goal, commit, refute, leave, collect, Choice, clauses, running, failing, throwing, erasing, clearing, answering, ended}
+use Rattle.pl_model.specs.Builtins.{row}
+use Rattle.pl_model.specs.SharedBuiltins.{shared}
+use Rattle.pl_model.specs.Terms.{arguments}
+use Rattle.pl_model.specs.Resolution.{Pending, goal, commit, refute, leave, collect, running, failing, throwing, erasing, clearing, answering, ended}
 use Rattle.pl_model.specs.Resolution as resolution
-use Rattle.pl_model.specs.Control.{Construct, succeeds, cuts, conjunction, disjunction, if_then, if_then_else, fails, repeats, calls, not_provable, once, catches, throws, halts, other, construct}
+use Rattle.pl_model.specs.Control.{Construct, succeeds, cuts, conjunction, disjunction, if_then, if_then_else, fails, repeats, calls, not_provable, once, catches, throws, halts, writes, prints, puts, other, construct, name_of}
 use Rattle.atom_api.specs.Names.{Names}
 use Rattle.world_api.specs.Told.{Told}
 use Rattle.iso_engine.specs.declared.engine.Engine.{Engine}
 use Rattle.iso_engine.specs.Later.{view_of}
-use Rattle.iso_search.specs.Searching.{choices_of}
 use Rattle.iso_engine.specs.Standing.{doing_of}
 
 -- Term unification (ISO 8.2.1).
@@ -16,7 +18,19 @@ abbrev pub is_unification : Tree → Bool
 is_unification (comp f t (more u none)) = bytes_eq f (codes "=")
 is_unification _ = false
 
--- Goals that are no control constructs, but for term unification.
+-- The goal is a built-in predicate: one of its arguments alone, whatever the next number of a variable is, or one of the
+-- shared state.
+abbrev pub IsBuiltin : Tree → Type 0
+IsBuiltin g = ((next : ℕ) → is_some (row (name_of g) (arguments g) next) ≡ true) ⊎ (is_some (shared (name_of g) (arguments g)) ≡ true)
+
+-- The goal calls the program's clauses: it is no control construct, and no built-in predicate.
+pub record IsCall (g : Tree) : Type 0 where
+  pub construct_is : construct g ≡ other
+  pub no_row : (next : ℕ) → is_some (row (name_of g) (arguments g) next) ≡ false
+  pub not_shared : is_some (shared (name_of g) (arguments g)) ≡ false
+
+-- Goals that are no control constructs, of which those that are no steps of the search of their own are built-in predicates,
+-- but for term unification.
 abbrev pub IsUnbuilt : Tree → Construct → Type 0
 IsUnbuilt g succeeds = ⊥
 IsUnbuilt g cuts = ⊥
@@ -32,7 +46,10 @@ IsUnbuilt g (once t) = ⊥
 IsUnbuilt g (catches t c r) = ⊥
 IsUnbuilt g (throws t) = ⊥
 IsUnbuilt g (halts t) = ⊥
-IsUnbuilt g other = is_unification g ≡ false
+IsUnbuilt g (writes t) = ⊥
+IsUnbuilt g (prints t) = ⊥
+IsUnbuilt g (puts t) = ⊥
+IsUnbuilt g other = (is_unification g ≡ false) × IsBuiltin g
 IsUnbuilt g _ = Unit {0}
 
 abbrev pub is_integer : Tree → Bool
@@ -51,16 +68,10 @@ abbrev pub IsUnbuiltFirst : List Pending → Type 0
 IsUnbuiltFirst [] = ⊥
 IsUnbuiltFirst (p ∷ ps) = IsUnbuiltTask p
 
--- The newest choice point has clauses left.
-abbrev pub HasClauses : List Choice → Type 0
-HasClauses (clauses p t cs n ∷ older) = Unit {0}
-HasClauses _ = ⊥
-
-abbrev pub IsUnbuiltDoing : resolution.Doing → List Choice → Type 0
-IsUnbuiltDoing (running n) cs = IsUnbuiltFirst n.goals
-IsUnbuiltDoing failing cs = HasClauses cs
-IsUnbuiltDoing _ cs = ⊥
+abbrev pub IsUnbuiltDoing : resolution.Doing → Type 0
+IsUnbuiltDoing (running n) = IsUnbuiltFirst n.goals
+IsUnbuiltDoing _ = ⊥
 
 -- The next step is of a predicate that is not built.
 abbrev pub IsMissing : Names → Told → Engine → Type 0
-IsMissing m t e = IsUnbuiltDoing (doing_of (view_of m t) e.search e.doing) (choices_of (view_of m t) e.search)
+IsMissing m t e = IsUnbuiltDoing (doing_of (view_of m t) e.search e.doing)

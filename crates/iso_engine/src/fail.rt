@@ -1,11 +1,8 @@
 //! A step after a failure.
-ghost use Rattle.std.specs.Prelude.{◌≡◌, [], IfOk, OnOk};
-ghost use Rattle.atom_api.specs.Names.{Names};
-ghost use Rattle.world_api.specs.Told.{Told};
-ghost use Rattle.iso_search.specs.Reading.{IsView};
-ghost use Rattle.iso_search.specs.Searching.{IsWhole};
+ghost use Rattle.std.specs.Prelude.{◌≡◌, ◌++◌, [], false, IfOk, OnOk};
+ghost use Rattle.world_api.specs.Texts.{Holds};
+ghost use Rattle.world_api.specs.Told.{has_ended};
 ghost use Rattle.iso_engine.specs.declared.doing.Doing.TheVariants.{Failing};
-ghost use Rattle.iso_engine.specs.Later.{view_of};
 ghost use Rattle.iso_engine.specs.Looking.{stopped_refusals};
 ghost use Rattle.iso_engine.specs.Ready.{IsReady};
 ghost use Rattle.iso_engine.specs.Spending.{IsSpent};
@@ -14,54 +11,46 @@ ghost use Rattle.iso_engine.specs.Slices.{IsStepped};
 use crate::doing::Doing;
 use crate::engine::Engine;
 use crate::failing::after_failure;
-use crate::procedure::procedure_at;
 use crate::slices::Slice;
-use atom_api::fixed;
-use iso_search::choices::Alternative;
 use iso_search::failure::Back;
 use pl_term::Memory;
-use world_api::Procedure;
+use term_store::Stored;
+use world_api::World;
 
 impl Engine {
     /// Goes back to the newest choice point (ISO 7.7.8). The only error is want of memory.
-    pub fn fail(&mut self) -> Result<Option<Slice>, Memory>
-        requires whole { IsWhole self.old.search }
+    pub fn fail<W: World<Term = Stored>>(
+        &mut self,
+        world: &mut W,
+        atoms: &mut W::A,
+    ) -> Result<Option<Slice>, Memory>
+        requires runs { has_ended (W.told world.old).engine (W.told world.old).history ≡ false }
+        requires ready { IsReady (W.A.held atoms.old) (W.told world.old) self.old }
         requires fails { self.old.doing ≡ Failing }
-        ensures stepped { IfOk result (λ o. (m : Names) (t : Told) → IsView (view_of m t) → IsReady m t self.old
-            → (IsReady m t self.new) × (IsStepped m t self.old o m t self.new []) × (IsSpent self.old.search.inferences self.new.search.inferences)
-            × (stopped_refusals o ≡ [])) }
-        ensures given { self.new.given ≡ self.old.given }
+        ensures runs { has_ended (W.told world.new).engine (W.told world.new).history ≡ false }
+        ensures holds { Holds (W.A.held atoms.old) (W.A.held atoms.new) }
+        ensures refusals { IfOk result (λ o. W.A.refusals atoms.new ≡ W.A.refusals atoms.old ++ stopped_refusals o) }
+        ensures given { OnOk result (self.new.given ≡ self.old.given) }
+        ensures spent { OnOk result (IsSpent self.old.search.inferences self.new.search.inferences) }
+        ensures ready { OnOk result (IsReady (W.A.held atoms.new) (W.told world.new) self.new) }
+        ensures stepped { IfOk result (λ o.
+            IsStepped (W.A.held atoms.old) (W.told world.old) self.old o (W.A.held atoms.new) (W.told world.new) self.new []) }
     {
         let back = self.search.resume();
         if let Some(doing) = after_failure(back) {
             self.doing = doing;
             return Ok(None);
         }
-        match back {
-            Back::Retry {
-                goal,
-                generation,
-                place,
-                next,
-            } => {
-                let procedure = match procedure_at(&self.search.store, goal) {
-                    Some(procedure) => procedure,
-                    None => Procedure {
-                        name: fixed::CALL,
-                        arity: 1,
-                    },
-                };
-                self.search.push_choice(
-                    Alternative::Clauses {
-                        goal,
-                        generation,
-                        place,
-                    },
-                    next,
-                )?;
-                Ok(Some(Slice::Missing(procedure)))
-            }
-            _ => unreachable!(),
-        }
+        let Back::Retry {
+            goal,
+            generation,
+            place,
+            next,
+        } = back
+        else {
+            unreachable!();
+        };
+        let stopped = self.retry(goal, generation, place, next, world, atoms)?;
+        Ok(stopped)
     }
 }

@@ -2,6 +2,8 @@
 #![tactic(auto)]
 
 pub mod answering;
+pub mod builtin;
+pub mod call;
 pub mod doing;
 pub mod engine;
 pub mod equal;
@@ -10,6 +12,8 @@ pub mod failing;
 pub mod following;
 pub mod looking;
 pub mod procedure;
+pub mod refused;
+pub mod retry;
 pub mod run;
 pub mod running;
 pub mod slice;
@@ -19,3 +23,4 @@ pub mod starting;
 pub mod step;
 pub mod throwing;
 pub mod variables;
+pub mod write;

@@ -11,7 +11,7 @@ use world_api::Procedure;
 /// The predicate of the goal at a place (ISO 7.1.6.6): a variable stands for `call/1` of it. An integer is no goal.
 pub fn procedure_at(store: &Store, goal: Place) -> Option<Procedure>
     requires { Holds store.now goal }
-    ensures { MatchOption result (IsInteger store.now goal) (HasProcedure store.now goal) }
+    ensures { MatchOption result (IsInteger store.now goal) (λ p. HasProcedure store.now goal p × (IsInteger store.now goal → ⊥)) }
 {
     match store.look(goal) {
         Kind::Variable(_) => Some(Procedure {

@@ -1,5 +1,5 @@
 //! The tasks of a list.
-ghost use Rattle.std.specs.Prelude.{◌≡◌, ◌++◌, [], false, List, IfNone, IfOk, OnOk};
+ghost use Rattle.std.specs.Prelude.{◌≡◌, ◌++◌, false, List, IfNone, IfOk, OnOk, encode_utf8_all};
 ghost use Rattle.pl_model.specs.Resolution.{Output};
 ghost use Rattle.world_api.specs.Texts.{Holds};
 ghost use Rattle.world_api.specs.Told.{has_ended};
@@ -14,15 +14,18 @@ use crate::running::{Did, do_task};
 use crate::slices::Slice;
 use iso_search::frames::first_task;
 use pl_term::Memory;
+use term_store::Stored;
 use world_api::World;
 
 impl Engine {
-    /// Does the first task of a list, or gives a solution where there is none. The only error is want of memory.
-    pub fn run<W: World>(
+    /// Does the first task of a list, or gives a solution where there is none. What the goal writes is put behind `out`. The
+    /// only error is want of memory.
+    pub fn run<W: World<Term = Stored>>(
         &mut self,
         list: usize,
         world: &mut W,
         atoms: &mut W::A,
+        out: &mut Vec<u8>,
     ) -> Result<Option<Slice>, Memory>
         requires runs { has_ended (W.told world.old).engine (W.told world.old).history ≡ false }
         requires ready { IsReady (W.A.held atoms.old) (W.told world.old) self.old }
@@ -34,7 +37,8 @@ impl Engine {
         ensures spent { OnOk result (IsSpent self.old.search.inferences self.new.search.inferences) }
         ensures ready { OnOk result (IsReady (W.A.held atoms.new) (W.told world.new) self.new) }
         ensures stepped { IfOk result (λ o. (more : List Output)
-            × IsStepped (W.A.held atoms.old) (W.told world.old) self.old o (W.A.held atoms.new) (W.told world.new) self.new more × (written_text more ≡ [])) }
+            × IsStepped (W.A.held atoms.old) (W.told world.old) self.old o (W.A.held atoms.new) (W.told world.new) self.new more
+            × (out.new.items ≡ out.old.items ++ encode_utf8_all (written_text more))) }
     {
         match first_task(&self.search.frames, list) {
             None => {
@@ -47,6 +51,15 @@ impl Engine {
                     Did::Next(doing) => {
                         self.doing = doing;
                         Ok(None)
+                    }
+                    Did::Call(goal, procedure) => {
+                        let stopped = self.call(goal, procedure, frame.next, world, atoms)?;
+                        Ok(stopped)
+                    }
+                    Did::Write(goal, procedure) => {
+                        let next = frame.next;
+                        let stopped = self.write(goal, procedure, next, world, atoms, out)?;
+                        Ok(stopped)
                     }
                     Did::Missing(procedure) => Ok(Some(Slice::Missing(procedure))),
                 }

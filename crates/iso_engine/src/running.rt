@@ -1,5 +1,5 @@
 //! Tasks that are done without the shared state.
-ghost use Rattle.std.specs.Prelude.{◌≡◌, ◌≤◌, ℕ, ◌∷◌, length, IfNone, IfOk, IfSome, OnOk};
+ghost use Rattle.std.specs.Prelude.{◌≡◌, ◌≤◌, ℕ, ◌∷◌, false, length, IfNone, IfOk, IfSome, OnOk};
 ghost use Rattle.pl_model.specs.Control.{construct};
 ghost use Rattle.term_store.specs.Contents.{Holds};
 ghost use Rattle.iso_search.specs.declared.frames.Task.TheVariants.{Goal};
@@ -10,9 +10,11 @@ ghost use Rattle.iso_search.specs.Goals.{IsLeft};
 ghost use Rattle.iso_search.specs.Reading.{IsView, View, reads};
 ghost use Rattle.iso_search.specs.Searching.{IsWhole};
 ghost use Rattle.iso_engine.specs.declared.doing.Doing.TheVariants.{Running};
-ghost use Rattle.iso_engine.specs.Following.{HasProcedure, StepsTo};
-ghost use Rattle.iso_engine.specs.Tasks.{IsDone, IsForOthers};
+ghost use Rattle.iso_engine.specs.Following.{HasProcedure, IsInteger, StepsTo};
+ghost use Rattle.iso_engine.specs.Missing.{is_unification};
+ghost use Rattle.iso_engine.specs.Tasks.{IsDone, IsForOthers, IsLeftOver};
 
+use crate::builtin::{is_builtin, is_other, is_write};
 use crate::doing::Doing;
 use crate::equal::{equal, unification_at};
 use crate::following::follow;
@@ -23,7 +25,7 @@ use iso_search::frames::{Frame, Task};
 use iso_search::search::Search;
 use pl_term::Memory;
 use std::alloc::Global;
-use term_store::Place;
+use term_store::{Place, Store};
 use world_api::Procedure;
 
 /// What came of a task.
@@ -31,6 +33,10 @@ use world_api::Procedure;
 pub enum Did {
     /// This is done next.
     Next(Doing),
+    /// The task is a call of the program's clauses for the goal at a place, which has this predicate. Nothing has changed.
+    Call(Place, Procedure),
+    /// The task is the goal at a place, which writes and has this predicate. Nothing has changed.
+    Write(Place, Procedure),
     /// The task is for a predicate that is not built yet. Nothing has changed.
     Missing(Procedure),
 }
@@ -108,7 +114,7 @@ fn do_goal(
             arity: 1,
         }));
     };
-    let missing = Procedure {
+    let known = Procedure {
         name: procedure.name,
         arity: procedure.arity,
     };
@@ -116,7 +122,31 @@ fn do_goal(
     let taken = take_up(alloc, search, goal, kind, procedure, cut, rest)?;
     match taken {
         Some(doing) => Ok(Did::Next(doing)),
-        None => Ok(Did::Missing(missing)),
+        None => Ok(left_over(&search.store, goal, kind, known)),
+    }
+}
+
+/// What a goal of this predicate is that is neither a control construct nor `=`: a call of the program's clauses, a goal that
+/// writes, or another built-in predicate.
+fn left_over(store: &Store, goal: Place, kind: Construct, procedure: Procedure) -> Did
+    requires holds { Holds store.now goal }
+    requires callable { IsInteger store.now goal → ⊥ }
+    requires procedure { HasProcedure store.now goal procedure }
+    requires stands { (v : View) → IsView v → construction v store.now kind ≡ construct (reads v store.now goal) }
+    requires left { IsLeft kind }
+    requires apart { (v : View) → IsView v → is_unification (reads v store.now goal) ≡ false }
+    ensures { IsLeftOver store.now goal result }
+{
+    if is_other(kind) {
+        if is_builtin(store, goal) {
+            Did::Missing(procedure)
+        } else {
+            Did::Call(goal, procedure)
+        }
+    } else if is_write(kind) {
+        Did::Write(goal, procedure)
+    } else {
+        Did::Missing(procedure)
     }
 }
 

@@ -9,12 +9,13 @@ ghost use Rattle.iso_engine.specs.Slices.{IsSlice, IsSliced};
 use crate::engine::Engine;
 use crate::slices::Slice;
 use pl_term::Memory;
+use term_store::Stored;
 use world_api::World;
 
 impl Engine {
     /// Runs the search until so many inferences were made, a solution was found, the search has ended, or a step cannot be
     /// made; that step is taken back whole. What the goal writes is put behind `out`.
-    pub fn slice<W: World>(
+    pub fn slice<W: World<Term = Stored>>(
         &mut self,
         world: &mut W,
         atoms: &mut W::A,
@@ -43,7 +44,7 @@ impl Engine {
     }
 
     /// The steps of a slice. The only error is want of memory.
-    fn steps<W: World>(
+    fn steps<W: World<Term = Stored>>(
         &mut self,
         world: &mut W,
         atoms: &mut W::A,

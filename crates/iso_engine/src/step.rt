@@ -15,12 +15,13 @@ use crate::slices::Slice;
 use crate::throwing::throw;
 use pl_term::Memory;
 use std::mem;
+use term_store::Stored;
 use world_api::World;
 
 impl Engine {
     /// Makes a step, or says why none can be made. What the goal writes is put behind `out`. The only error is want of
     /// memory.
-    pub fn step<W: World>(
+    pub fn step<W: World<Term = Stored>>(
         &mut self,
         world: &mut W,
         atoms: &mut W::A,
@@ -41,11 +42,11 @@ impl Engine {
         match mem::replace(&mut self.doing, Doing::Failing) {
             Doing::Running(list) => {
                 self.doing = Doing::Running(list);
-                let stopped = self.run(list, world, atoms)?;
+                let stopped = self.run(list, world, atoms, out)?;
                 Ok(stopped)
             }
             Doing::Failing => {
-                let stopped = self.fail()?;
+                let stopped = self.fail(world, atoms)?;
                 Ok(stopped)
             }
             Doing::Throwing { ball, outer } => {

@@ -1,38 +1,146 @@
-use Rattle.std.proofs.Common.{refl, ap, subst}
+use Rattle.std.proofs.Common.{refl, sym, ap, subst, ◌∙◌}
 use Rattle.iso_search.specs.declared.search.Search.{Search}
 use Rattle.iso_search.specs.Failures.{IsTaken, back_result}
 use Rattle.iso_engine.specs.declared.engine.Engine.{Engine}
-use Rattle.iso_engine.proofs.Failed.{failed_steps, retry_missing}
+use Rattle.iso_engine.proofs.Failed.{failed_steps, retried_step}
 use Rattle.iso_engine.proofs.Followed.{fails_to}
-use Rattle.iso_engine.proofs.Stability.{advance_step, spent_by, step_ready}
+use Rattle.iso_engine.proofs.Opening.{newest_callable, newest_held, newest_open}
+use Rattle.iso_engine.proofs.Solutions.{view_is}
+use Rattle.iso_engine.proofs.Stability.{advance_step, step_ready}
 use Rattle.iso_engine.proofs.engine.Engine.fail.Goals as goal
 
-pub returns-in-Some : goal.returns-in-Some
-returns-in-Some c = record {
-  stepped = λ m t view ready.
-      let e = c.args.self.now in
-      let f = c.resume-back.new.self in
-      let d = c.in-Some.doing in
-      let new : Engine = record e { search = f; doing = d } in
-      let steps = failed_steps e.wanted e.given e.search f e.doing d c.resume-back.result c.requires.fails
-      (λ r q. fails_to r e.search (back_result r f c.resume-back.result) q (c.resume-back.ensures.step r q)) c.in-Some.ensures in (
-        step_ready m t e new steps c.resume-back.ensures.whole view ready,
-        advance_step m t e new steps (ap (λ (s : Search). s.budgets) c.resume-back.ensures.kept) refl refl view,
-        spent_by e.wanted e.given e.search e.doing f d m t steps view,
-        refl,
-      );
-  given = refl;
-}
+pub returns-in-Some-clause-ready : goal.returns-in-Some-clause-ready
+returns-in-Some-clause-ready g c =
+    let e = c.args.self.now in
+    let a = c.args.atoms.now in
+    let m = g.W.A.Atoms.held a in
+    let t = g.W.World.told c.args.world.now in
+    let view = view_is m t (g.met.W.A.Atoms.fixed_held a) (g.met.W.A.Atoms.unlike a) (g.met.W.A.Atoms.finite a) in
+    let f = c.resume-back.new.self in
+    let d = c.in-Some.doing in
+    let new : Engine = record e { search = f; doing = d } in
+    let steps = failed_steps e.wanted e.given e.search f e.doing d c.resume-back.result c.requires.fails
+    (λ r q. fails_to r e.search (back_result r f c.resume-back.result) q (c.resume-back.ensures.step r q)) c.in-Some.ensures in
+    step_ready m t e new steps c.resume-back.ensures.whole view c.requires.ready
 
-pub returns : goal.returns
-returns c = record {
-  stepped = λ m t view ready.
-      let e = c.args.self.now in
-      let f : Engine = record e { search = c.push_choice.new.self } in
-      let x = c.resume-back.new.self in
-      let r = c.in-Retry in
-      let pushed = c.in_ok-push_choice-in-Retry.ensures in
-      retry_missing e f x r.goal r.generation r.place r.next c.match-procedure_at.procedure m t view ready c.requires.fails refl refl refl
-      (subst (IsTaken e.search x) r.is c.resume-back.ensures.taken) pushed.choices c.resume-back.ensures.kept pushed.kept pushed.whole;
-  given = refl;
-}
+pub returns-in-Some-clause-stepped : goal.returns-in-Some-clause-stepped
+returns-in-Some-clause-stepped g c =
+    let e = c.args.self.now in
+    let a = c.args.atoms.now in
+    let m = g.W.A.Atoms.held a in
+    let t = g.W.World.told c.args.world.now in
+    let view = view_is m t (g.met.W.A.Atoms.fixed_held a) (g.met.W.A.Atoms.unlike a) (g.met.W.A.Atoms.finite a) in
+    let f = c.resume-back.new.self in
+    let d = c.in-Some.doing in
+    let new : Engine = record e { search = f; doing = d } in
+    let steps = failed_steps e.wanted e.given e.search f e.doing d c.resume-back.result c.requires.fails
+    (λ r q. fails_to r e.search (back_result r f c.resume-back.result) q (c.resume-back.ensures.step r q)) c.in-Some.ensures in
+    advance_step m t e new steps (ap (λ (s : Search). s.budgets) c.resume-back.ensures.kept) refl refl view
+
+pub retry-requires-clause-callable : goal.retry-requires-clause-callable
+retry-requires-clause-callable g c =
+    let e = c.args.self.now in
+    let a = c.args.atoms.now in
+    let m = g.W.A.Atoms.held a in
+    let t = g.W.World.told c.args.world.now in
+    let view = view_is m t (g.met.W.A.Atoms.fixed_held a) (g.met.W.A.Atoms.unlike a) (g.met.W.A.Atoms.finite a) in
+    let x = c.resume-back.new.self in
+    let r = c.in-Retry in
+    let taken = subst (IsTaken e.search x) r.is c.resume-back.ensures.taken in
+    newest_callable m t e.search x e.doing r.goal r.generation r.place r.next c.requires.ready.stable taken view
+
+pub retry-requires-clause-held : goal.retry-requires-clause-held
+retry-requires-clause-held g c =
+    let e = c.args.self.now in
+    let a = c.args.atoms.now in
+    let m = g.W.A.Atoms.held a in
+    let t = g.W.World.told c.args.world.now in
+    let view = view_is m t (g.met.W.A.Atoms.fixed_held a) (g.met.W.A.Atoms.unlike a) (g.met.W.A.Atoms.finite a) in
+    let x = c.resume-back.new.self in
+    let r = c.in-Retry in
+    let taken = subst (IsTaken e.search x) r.is c.resume-back.ensures.taken in
+    newest_held m t e.search x e.doing r.goal r.generation r.place r.next c.requires.ready.stable taken view (g.met.W.A.Atoms.fixed_held a) (g.met.W.A.Atoms.unlike a) (g.met.W.A.Atoms.finite a)
+
+pub retry-requires-clause-open : goal.retry-requires-clause-open
+retry-requires-clause-open g c =
+    let e = c.args.self.now in
+    let a = c.args.atoms.now in
+    let m = g.W.A.Atoms.held a in
+    let t = g.W.World.told c.args.world.now in
+    let view = view_is m t (g.met.W.A.Atoms.fixed_held a) (g.met.W.A.Atoms.unlike a) (g.met.W.A.Atoms.finite a) in
+    let x = c.resume-back.new.self in
+    let r = c.in-Retry in
+    let taken = subst (IsTaken e.search x) r.is c.resume-back.ensures.taken in
+    (newest_open m t e.search x e.doing r.goal r.generation r.place r.next c.requires.ready.stable taken view).listed
+
+pub returns-clause-given : goal.returns-clause-given
+returns-clause-given g c =
+    let e = c.args.self.now in
+    let a = c.retry.new.atoms in
+    let m = g.W.A.Atoms.held c.args.atoms.now in
+    let n = g.W.A.Atoms.held a in
+    let t = g.W.World.told c.args.world.now in
+    let u = g.W.World.told c.retry.new.world in
+    let view = view_is n u (g.met.W.A.Atoms.fixed_held a) (g.met.W.A.Atoms.unlike a) (g.met.W.A.Atoms.finite a) in
+    let x = c.resume-back.new.self in
+    let r = c.in-Retry in
+    let s = c.in_ok-stopped in
+    let taken = subst (IsTaken e.search x) r.is c.resume-back.ensures.taken in
+    let step = retried_step m n t u e x c.retry.new.self r.goal r.generation r.place r.next s.ensures.holds view c.requires.ready c.requires.fails c.resume-back.ensures.kept
+    s.ensures.whole s.stopped s.ensures.gone taken
+    (λ q fails. sym (ap (back_result q x) r.is) ∙ c.resume-back.ensures.step q fails) in
+    step.3
+
+pub returns-clause-spent : goal.returns-clause-spent
+returns-clause-spent g c =
+    let e = c.args.self.now in
+    let a = c.retry.new.atoms in
+    let m = g.W.A.Atoms.held c.args.atoms.now in
+    let n = g.W.A.Atoms.held a in
+    let t = g.W.World.told c.args.world.now in
+    let u = g.W.World.told c.retry.new.world in
+    let view = view_is n u (g.met.W.A.Atoms.fixed_held a) (g.met.W.A.Atoms.unlike a) (g.met.W.A.Atoms.finite a) in
+    let x = c.resume-back.new.self in
+    let r = c.in-Retry in
+    let s = c.in_ok-stopped in
+    let taken = subst (IsTaken e.search x) r.is c.resume-back.ensures.taken in
+    let step = retried_step m n t u e x c.retry.new.self r.goal r.generation r.place r.next s.ensures.holds view c.requires.ready c.requires.fails c.resume-back.ensures.kept
+    s.ensures.whole s.stopped s.ensures.gone taken
+    (λ q fails. sym (ap (back_result q x) r.is) ∙ c.resume-back.ensures.step q fails) in
+    step.2
+
+pub returns-clause-ready : goal.returns-clause-ready
+returns-clause-ready g c =
+    let e = c.args.self.now in
+    let a = c.retry.new.atoms in
+    let m = g.W.A.Atoms.held c.args.atoms.now in
+    let n = g.W.A.Atoms.held a in
+    let t = g.W.World.told c.args.world.now in
+    let u = g.W.World.told c.retry.new.world in
+    let view = view_is n u (g.met.W.A.Atoms.fixed_held a) (g.met.W.A.Atoms.unlike a) (g.met.W.A.Atoms.finite a) in
+    let x = c.resume-back.new.self in
+    let r = c.in-Retry in
+    let s = c.in_ok-stopped in
+    let taken = subst (IsTaken e.search x) r.is c.resume-back.ensures.taken in
+    let step = retried_step m n t u e x c.retry.new.self r.goal r.generation r.place r.next s.ensures.holds view c.requires.ready c.requires.fails c.resume-back.ensures.kept
+    s.ensures.whole s.stopped s.ensures.gone taken
+    (λ q fails. sym (ap (back_result q x) r.is) ∙ c.resume-back.ensures.step q fails) in
+    step.1
+
+pub returns-clause-stepped : goal.returns-clause-stepped
+returns-clause-stepped g c =
+    let e = c.args.self.now in
+    let a = c.retry.new.atoms in
+    let m = g.W.A.Atoms.held c.args.atoms.now in
+    let n = g.W.A.Atoms.held a in
+    let t = g.W.World.told c.args.world.now in
+    let u = g.W.World.told c.retry.new.world in
+    let view = view_is n u (g.met.W.A.Atoms.fixed_held a) (g.met.W.A.Atoms.unlike a) (g.met.W.A.Atoms.finite a) in
+    let x = c.resume-back.new.self in
+    let r = c.in-Retry in
+    let s = c.in_ok-stopped in
+    let taken = subst (IsTaken e.search x) r.is c.resume-back.ensures.taken in
+    let step = retried_step m n t u e x c.retry.new.self r.goal r.generation r.place r.next s.ensures.holds view c.requires.ready c.requires.fails c.resume-back.ensures.kept
+    s.ensures.whole s.stopped s.ensures.gone taken
+    (λ q fails. sym (ap (back_result q x) r.is) ∙ c.resume-back.ensures.step q fails) in
+    step.0

@@ -37,7 +37,7 @@ returns-clause-starts c v stays view =
     c.cells-need.ensures
     b.budgets
     c.in_ok-doing.ensures.named
-    (λ k is. when_match _ _ _ _ c.procedure_at-procedure.ensures is t view)
+    (λ k is. (when_match _ _ _ _ c.procedure_at-procedure.ensures is).0 t view)
     (b.kind v view)
     b.step
     c.in_ok-doing.ensures.doing

@@ -1,8 +1,13 @@
-use Rattle.std.proofs.Common.{◌≡◌, ◌∷◌, [], refl, subst}
+use Rattle.std.proofs.Common.{◌≡◌, ◌∷◌, [], refl, sym, subst}
 use Rattle.iso_search.specs.Frames.{tasks}
+use Rattle.iso_search.specs.declared.search.Search.{Search}
 use Rattle.iso_engine.specs.declared.engine.Engine.{Engine}
+use Rattle.iso_engine.specs.Ready.{IsReady}
+use Rattle.iso_engine.specs.Slices.{IsStepped}
+use Rattle.iso_engine.specs.Tasks.{IsDone}
 use Rattle.iso_engine.proofs.Solutions.{view_is}
 use Rattle.iso_engine.proofs.Stability.{advance_step, spent_by, step_ready}
+use Rattle.iso_engine.proofs.Stepping.{silent_out}
 use Rattle.iso_engine.proofs.Tasking.{task_inside, task_missing, task_steps}
 use Rattle.iso_engine.proofs.engine.Engine.run.Goals as goal
 
@@ -58,7 +63,7 @@ returns-in-Next-clause-stepped g c =
     let d = c.in-Next.doing in
     let steps = task_steps e.wanted e.given e.search f e.doing d c.args.list x.task x.next did.did c.requires.list first did.ensures.done c.in-Next.is in
     let new : Engine = record e { search = f; doing = d } in
-    ([], advance_step m t e new steps did.ensures.budgets refl refl view, refl)
+    ([], advance_step m t e new steps did.ensures.budgets refl refl view, silent_out c.args.out.now.items [] refl)
 
 pub returns-in-Missing-clause-stepped : goal.returns-in-Missing-clause-stepped
 returns-in-Missing-clause-stepped g c =
@@ -70,4 +75,60 @@ returns-in-Missing-clause-stepped g c =
     let view = view_is m t (g.met.W.A.Atoms.fixed_held a) (g.met.W.A.Atoms.unlike a) (g.met.W.A.Atoms.finite a) in
     let first = subst (λ l. tasks l c.args.list ≡ x.task ∷ tasks l x.next) c.deref.ensures.value c.in-Some.ensures.0 in
     let did = c.in_ok-did-in-Some in
-    task_missing m t e c.do_task.new.search c.args.list x.task x.next did.did c.in-Missing.procedure view c.requires.list first did.ensures.done c.in-Missing.is
+    let left = task_missing m t e c.do_task.new.search c.args.list x.task x.next did.did c.in-Missing.procedure view c.requires.list first did.ensures.done c.in-Missing.is in
+    (left.0, left.1, silent_out c.args.out.now.items left.0 left.2)
+
+pub call-requires-clause-ready : goal.call-requires-clause-ready
+call-requires-clause-ready g c =
+    let e = c.args.self.now in
+    let x = c.in-Some.frame in
+    let f = c.do_task.new.search in
+    let did = c.in_ok-did-in-Some in
+    let called = subst (IsDone e.search x.task x.next f) c.in-Call.is did.ensures.done in
+    subst (λ (s : Search). let y : Engine = record e { search = s } in IsReady (g.W.A.Atoms.held c.args.atoms.now) (g.W.World.told c.args.world.now) y) (sym called.0)
+    c.requires.ready
+
+pub returns-in_ok-stopped-in-Call-clause-stepped : goal.returns-in_ok-stopped-in-Call-clause-stepped
+returns-in_ok-stopped-in-Call-clause-stepped g c =
+    let e = c.args.self.now in
+    let x = c.in-Some.frame in
+    let f = c.do_task.new.search in
+    let did = c.in_ok-did-in-Some in
+    let called = subst (IsDone e.search x.task x.next f) c.in-Call.is did.ensures.done in
+    let m = g.W.A.Atoms.held c.args.atoms.now in
+    let n = g.W.A.Atoms.held c.call.new.atoms in
+    let t = g.W.World.told c.args.world.now in
+    let u = g.W.World.told c.call.new.world in
+    let s = c.in_ok-stopped-in-Call in (
+      [],
+      subst (λ (y : Search). let z : Engine = record e { search = y } in IsStepped m t z s.stopped n u c.call.new.self []) called.0 s.ensures.stepped,
+      silent_out c.args.out.now.items [] refl,
+    )
+
+pub write-requires-clause-ready : goal.write-requires-clause-ready
+write-requires-clause-ready g c =
+    let e = c.args.self.now in
+    let x = c.in-Some.frame in
+    let f = c.do_task.new.search in
+    let did = c.in_ok-did-in-Some in
+    let writes = subst (IsDone e.search x.task x.next f) c.in-Write.is did.ensures.done in
+    subst (λ (s : Search). let y : Engine = record e { search = s } in IsReady (g.W.A.Atoms.held c.args.atoms.now) (g.W.World.told c.args.world.now) y) (sym writes.0)
+    c.requires.ready
+
+pub returns-in_ok-stopped-in-Write-clause-stepped : goal.returns-in_ok-stopped-in-Write-clause-stepped
+returns-in_ok-stopped-in-Write-clause-stepped g c =
+    let e = c.args.self.now in
+    let x = c.in-Some.frame in
+    let f = c.do_task.new.search in
+    let did = c.in_ok-did-in-Some in
+    let writes = subst (IsDone e.search x.task x.next f) c.in-Write.is did.ensures.done in
+    let m = g.W.A.Atoms.held c.args.atoms.now in
+    let n = g.W.A.Atoms.held c.write.new.atoms in
+    let t = g.W.World.told c.args.world.now in
+    let u = g.W.World.told c.write.new.world in
+    let s = c.in_ok-stopped-in-Write in
+    let r = s.ensures.stepped in (
+      r.0,
+      subst (λ (y : Search). let z : Engine = record e { search = y } in IsStepped m t z s.stopped n u c.write.new.self r.0) writes.0 r.1,
+      r.2,
+    )

@@ -1,4 +1,4 @@
-use Rattle.std.proofs.Common.{[], ◌++◌, refl, sym, ap, subst, ◌∙◌, append-nil}
+use Rattle.std.proofs.Common.{[], refl, sym, subst, ◌∙◌}
 use Rattle.iso_engine.specs.declared.doing.Doing.TheVariants.{Running, Throwing, Ended}
 use Rattle.iso_engine.specs.declared.engine.Engine.{Engine}
 use Rattle.iso_engine.specs.Ready.{Steps}
@@ -20,45 +20,23 @@ returns-in_ok-stopped-in-Running-clause-stepped g c =
       r.0,
       stepped_again (g.W.A.Atoms.held c.args.atoms.now) (g.W.World.told c.args.world.now) c.args.self.now (Running c.in-Running.list) s.stopped
           (g.W.A.Atoms.held c.run.new.atoms) (g.W.World.told c.run.new.world) c.run.new.self r.0 (sym c.replace.ensures.value ∙ c.in-Running.is) r.1,
-      silent_out c.args.out.now.items r.0 r.2,
+      r.2,
     )
 
-pub returns-in_ok-stopped-in-Failing-clause-refusals : goal.returns-in_ok-stopped-in-Failing-clause-refusals
-returns-in_ok-stopped-in-Failing-clause-refusals g c =
-    let a = c.args.atoms.now in
-    let m = g.W.A.Atoms.held a in
-    let t = g.W.World.told c.args.world.now in
-    let view = view_is m t (g.met.W.A.Atoms.fixed_held a) (g.met.W.A.Atoms.unlike a) (g.met.W.A.Atoms.finite a) in
-    let r = c.in_ok-stopped-in-Failing.ensures.stepped m t view (ready_again m t c.args.self.now c.replace.new.dest (sym c.replace.ensures.value ∙ c.in-Failing.is ∙ sym c.replace.ensures.after) c.requires.ready) in
-    sym (append-nil (g.W.A.Atoms.refusals a)) ∙ ap (λ l. g.W.A.Atoms.refusals a ++ l) (sym r.3)
-
-pub returns-in_ok-stopped-in-Failing-clause-spent : goal.returns-in_ok-stopped-in-Failing-clause-spent
-returns-in_ok-stopped-in-Failing-clause-spent g c =
-    let a = c.args.atoms.now in
-    let m = g.W.A.Atoms.held a in
-    let t = g.W.World.told c.args.world.now in
-    let view = view_is m t (g.met.W.A.Atoms.fixed_held a) (g.met.W.A.Atoms.unlike a) (g.met.W.A.Atoms.finite a) in
-    let r = c.in_ok-stopped-in-Failing.ensures.stepped m t view (ready_again m t c.args.self.now c.replace.new.dest (sym c.replace.ensures.value ∙ c.in-Failing.is ∙ sym c.replace.ensures.after) c.requires.ready) in
-    r.2
-
-pub returns-in_ok-stopped-in-Failing-clause-ready : goal.returns-in_ok-stopped-in-Failing-clause-ready
-returns-in_ok-stopped-in-Failing-clause-ready g c =
-    let a = c.args.atoms.now in
-    let m = g.W.A.Atoms.held a in
-    let t = g.W.World.told c.args.world.now in
-    let view = view_is m t (g.met.W.A.Atoms.fixed_held a) (g.met.W.A.Atoms.unlike a) (g.met.W.A.Atoms.finite a) in
-    let r = c.in_ok-stopped-in-Failing.ensures.stepped m t view (ready_again m t c.args.self.now c.replace.new.dest (sym c.replace.ensures.value ∙ c.in-Failing.is ∙ sym c.replace.ensures.after) c.requires.ready) in
-    r.0
+pub fail-requires-clause-ready : goal.fail-requires-clause-ready
+fail-requires-clause-ready g c =
+    ready_again (g.W.A.Atoms.held c.args.atoms.now) (g.W.World.told c.args.world.now) c.args.self.now c.replace.new.dest
+    (sym c.replace.ensures.value ∙ c.in-Failing.is ∙ sym c.replace.ensures.after) c.requires.ready
 
 pub returns-in_ok-stopped-in-Failing-clause-stepped : goal.returns-in_ok-stopped-in-Failing-clause-stepped
 returns-in_ok-stopped-in-Failing-clause-stepped g c =
-    let a = c.args.atoms.now in
-    let m = g.W.A.Atoms.held a in
-    let t = g.W.World.told c.args.world.now in
-    let view = view_is m t (g.met.W.A.Atoms.fixed_held a) (g.met.W.A.Atoms.unlike a) (g.met.W.A.Atoms.finite a) in
     let same = sym c.replace.ensures.value ∙ c.in-Failing.is ∙ sym c.replace.ensures.after in
-    let r = c.in_ok-stopped-in-Failing.ensures.stepped m t view (ready_again m t c.args.self.now c.replace.new.dest same c.requires.ready) in
-    ([], stepped_again m t c.args.self.now c.replace.new.dest c.in_ok-stopped-in-Failing.stopped m t c.fail.new.self [] same r.1, silent_out c.args.out.now.items [] refl)
+    let s = c.in_ok-stopped-in-Failing in (
+      [],
+      stepped_again (g.W.A.Atoms.held c.args.atoms.now) (g.W.World.told c.args.world.now) c.args.self.now c.replace.new.dest s.stopped
+          (g.W.A.Atoms.held c.fail.new.atoms) (g.W.World.told c.fail.new.world) c.fail.new.self [] same s.ensures.stepped,
+      silent_out c.args.out.now.items [] refl,
+    )
 
 pub returns-in_ok-self-in-Throwing-clause-spent : goal.returns-in_ok-self-in-Throwing-clause-spent
 returns-in_ok-self-in-Throwing-clause-spent g c =

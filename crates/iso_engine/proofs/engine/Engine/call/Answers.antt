@@ -1,0 +1,251 @@
+use Rattle.std.proofs.Common.{refl, ap, subst}
+use Rattle.iso_calls.specs.Called.{IsCalled}
+use Rattle.iso_engine.specs.declared.doing.Doing.TheVariants.{Throwing}
+use Rattle.iso_search.specs.declared.search.Search.{Search}
+use Rattle.iso_engine.specs.declared.engine.Engine.{Engine}
+use Rattle.iso_engine.proofs.Moved.{ran_moved, refused_moved, spent_moved}
+use Rattle.iso_engine.proofs.Opening.{goal_held}
+use Rattle.iso_engine.proofs.Solutions.{view_is}
+use Rattle.iso_engine.proofs.TakenBack.{called_back}
+use Rattle.iso_engine.proofs.engine.Engine.call.Goals as goal
+
+pub call_clauses-requires-clause-held : goal.call_clauses-requires-clause-held
+call_clauses-requires-clause-held g c =
+    let e = c.args.self.now in
+    let a = c.args.atoms.now in
+    let l = c.requires.list in
+    goal_held (g.W.A.Atoms.held a) (g.W.World.told c.args.world.now) e l.0 l.1 c.args.goal c.args.rest l.2 l.3 c.requires.ready.stable (g.met.W.A.Atoms.fixed_held a)
+    (g.met.W.A.Atoms.unlike a) (g.met.W.A.Atoms.finite a)
+
+pub returns-in_ok-self-in-Spent-clause-ready : goal.returns-in_ok-self-in-Spent-clause-ready
+returns-in_ok-self-in-Spent-clause-ready g c =
+    let e = c.args.self.now in
+    let a = c.call_clauses.new.atoms in
+    let m = g.W.A.Atoms.held c.args.atoms.now in
+    let n = g.W.A.Atoms.held a in
+    let t = g.W.World.told c.args.world.now in
+    let u = g.W.World.told c.call_clauses.new.world in
+    let x = c.call_clauses.new.search in
+    let view = view_is n u (g.met.W.A.Atoms.fixed_held a) (g.met.W.A.Atoms.unlike a) (g.met.W.A.Atoms.finite a) in
+    let l = c.requires.list in
+    let k = c.in_ok-called.ensures in
+    let f : Engine = record e { search = x; doing = c.in_ok-self-in-Spent.field-0 } in
+    let spent = subst (IsCalled m t e.search c.args.goal c.args.rest n u x) c.in-Spent.is k.called in
+    let moved = spent_moved m n t u e f c.args.goal c.args.procedure l.0 l.1 c.args.rest l.2 l.3 c.requires.rest c.requires.calls c.call_clauses.ensures.holds view c.requires.ready
+    refl refl k.whole spent.0.1 spent.0.2 spent.1 c.in_ok-self-in-Spent.ensures in
+    moved.1
+
+pub returns-in_ok-self-in-Spent-clause-stepped : goal.returns-in_ok-self-in-Spent-clause-stepped
+returns-in_ok-self-in-Spent-clause-stepped g c =
+    let e = c.args.self.now in
+    let a = c.call_clauses.new.atoms in
+    let m = g.W.A.Atoms.held c.args.atoms.now in
+    let n = g.W.A.Atoms.held a in
+    let t = g.W.World.told c.args.world.now in
+    let u = g.W.World.told c.call_clauses.new.world in
+    let x = c.call_clauses.new.search in
+    let view = view_is n u (g.met.W.A.Atoms.fixed_held a) (g.met.W.A.Atoms.unlike a) (g.met.W.A.Atoms.finite a) in
+    let l = c.requires.list in
+    let k = c.in_ok-called.ensures in
+    let f : Engine = record e { search = x; doing = c.in_ok-self-in-Spent.field-0 } in
+    let spent = subst (IsCalled m t e.search c.args.goal c.args.rest n u x) c.in-Spent.is k.called in
+    let moved = spent_moved m n t u e f c.args.goal c.args.procedure l.0 l.1 c.args.rest l.2 l.3 c.requires.rest c.requires.calls c.call_clauses.ensures.holds view c.requires.ready
+    refl refl k.whole spent.0.1 spent.0.2 spent.1 c.in_ok-self-in-Spent.ensures in
+    moved.0
+
+pub returns-in_ok-self-in-Ran-clause-spent : goal.returns-in_ok-self-in-Ran-clause-spent
+returns-in_ok-self-in-Ran-clause-spent g c =
+    let e = c.args.self.now in
+    let a = c.call_clauses.new.atoms in
+    let m = g.W.A.Atoms.held c.args.atoms.now in
+    let n = g.W.A.Atoms.held a in
+    let t = g.W.World.told c.args.world.now in
+    let u = g.W.World.told c.call_clauses.new.world in
+    let x = c.call_clauses.new.search in
+    let view = view_is n u (g.met.W.A.Atoms.fixed_held a) (g.met.W.A.Atoms.unlike a) (g.met.W.A.Atoms.finite a) in
+    let l = c.requires.list in
+    let k = c.in_ok-called.ensures in
+    let f : Engine = record e { search = x; doing = c.in_ok-self-in-Ran.field-0 } in
+    let o = c.in-Ran.outcome in
+    let run = subst (IsCalled m t e.search c.args.goal c.args.rest n u x) c.in-Ran.is k.called in
+    let moved = ran_moved m n t u e f c.args.goal c.args.procedure l.0 l.1 c.args.rest l.2 l.3 c.requires.rest c.requires.calls c.call_clauses.ensures.holds view c.requires.ready
+    refl refl k.whole o run c.in_ok-self-in-Ran.ensures in
+    moved.2
+
+pub returns-in_ok-self-in-Ran-clause-ready : goal.returns-in_ok-self-in-Ran-clause-ready
+returns-in_ok-self-in-Ran-clause-ready g c =
+    let e = c.args.self.now in
+    let a = c.call_clauses.new.atoms in
+    let m = g.W.A.Atoms.held c.args.atoms.now in
+    let n = g.W.A.Atoms.held a in
+    let t = g.W.World.told c.args.world.now in
+    let u = g.W.World.told c.call_clauses.new.world in
+    let x = c.call_clauses.new.search in
+    let view = view_is n u (g.met.W.A.Atoms.fixed_held a) (g.met.W.A.Atoms.unlike a) (g.met.W.A.Atoms.finite a) in
+    let l = c.requires.list in
+    let k = c.in_ok-called.ensures in
+    let f : Engine = record e { search = x; doing = c.in_ok-self-in-Ran.field-0 } in
+    let o = c.in-Ran.outcome in
+    let run = subst (IsCalled m t e.search c.args.goal c.args.rest n u x) c.in-Ran.is k.called in
+    let moved = ran_moved m n t u e f c.args.goal c.args.procedure l.0 l.1 c.args.rest l.2 l.3 c.requires.rest c.requires.calls c.call_clauses.ensures.holds view c.requires.ready
+    refl refl k.whole o run c.in_ok-self-in-Ran.ensures in
+    moved.1
+
+pub returns-in_ok-self-in-Ran-clause-stepped : goal.returns-in_ok-self-in-Ran-clause-stepped
+returns-in_ok-self-in-Ran-clause-stepped g c =
+    let e = c.args.self.now in
+    let a = c.call_clauses.new.atoms in
+    let m = g.W.A.Atoms.held c.args.atoms.now in
+    let n = g.W.A.Atoms.held a in
+    let t = g.W.World.told c.args.world.now in
+    let u = g.W.World.told c.call_clauses.new.world in
+    let x = c.call_clauses.new.search in
+    let view = view_is n u (g.met.W.A.Atoms.fixed_held a) (g.met.W.A.Atoms.unlike a) (g.met.W.A.Atoms.finite a) in
+    let l = c.requires.list in
+    let k = c.in_ok-called.ensures in
+    let f : Engine = record e { search = x; doing = c.in_ok-self-in-Ran.field-0 } in
+    let o = c.in-Ran.outcome in
+    let run = subst (IsCalled m t e.search c.args.goal c.args.rest n u x) c.in-Ran.is k.called in
+    let moved = ran_moved m n t u e f c.args.goal c.args.procedure l.0 l.1 c.args.rest l.2 l.3 c.requires.rest c.requires.calls c.call_clauses.ensures.holds view c.requires.ready
+    refl refl k.whole o run c.in_ok-self-in-Ran.ensures in
+    moved.0
+
+pub returns-in_ok-ball-in-Refused-clause-ready : goal.returns-in_ok-ball-in-Refused-clause-ready
+returns-in_ok-ball-in-Refused-clause-ready g c =
+    let e = c.args.self.now in
+    let a = c.call_clauses.new.atoms in
+    let m = g.W.A.Atoms.held c.args.atoms.now in
+    let n = g.W.A.Atoms.held a in
+    let t = g.W.World.told c.args.world.now in
+    let u = g.W.World.told c.call_clauses.new.world in
+    let x = c.call_clauses.new.search in
+    let view = view_is n u (g.met.W.A.Atoms.fixed_held a) (g.met.W.A.Atoms.unlike a) (g.met.W.A.Atoms.finite a) in
+    let l = c.requires.list in
+    let k = c.in_ok-called.ensures in
+    let b = c.in_ok-ball-in-Refused in
+    let f : Engine = record e { search = x; doing = Throwing b.ball c.args.rest } in
+    let r = subst (IsCalled m t e.search c.args.goal c.args.rest n u x) c.in-Refused.is k.called in
+    let moved = refused_moved m n t u e f c.args.goal c.args.procedure l.0 l.1 c.args.rest l.2 l.3 c.requires.rest c.requires.calls c.call_clauses.ensures.holds view c.requires.ready
+    refl refl k.whole c.in-Refused.error b.ball r b.ensures.over b.ensures.ball refl in
+    moved.1
+
+pub returns-in_ok-ball-in-Refused-clause-stepped : goal.returns-in_ok-ball-in-Refused-clause-stepped
+returns-in_ok-ball-in-Refused-clause-stepped g c =
+    let e = c.args.self.now in
+    let a = c.call_clauses.new.atoms in
+    let m = g.W.A.Atoms.held c.args.atoms.now in
+    let n = g.W.A.Atoms.held a in
+    let t = g.W.World.told c.args.world.now in
+    let u = g.W.World.told c.call_clauses.new.world in
+    let x = c.call_clauses.new.search in
+    let view = view_is n u (g.met.W.A.Atoms.fixed_held a) (g.met.W.A.Atoms.unlike a) (g.met.W.A.Atoms.finite a) in
+    let l = c.requires.list in
+    let k = c.in_ok-called.ensures in
+    let b = c.in_ok-ball-in-Refused in
+    let f : Engine = record e { search = x; doing = Throwing b.ball c.args.rest } in
+    let r = subst (IsCalled m t e.search c.args.goal c.args.rest n u x) c.in-Refused.is k.called in
+    let moved = refused_moved m n t u e f c.args.goal c.args.procedure l.0 l.1 c.args.rest l.2 l.3 c.requires.rest c.requires.calls c.call_clauses.ensures.holds view c.requires.ready
+    refl refl k.whole c.in-Refused.error b.ball r b.ensures.over b.ensures.ball refl in
+    moved.0
+
+pub returns-in-NeedsAtoms-clause-ready : goal.returns-in-NeedsAtoms-clause-ready
+returns-in-NeedsAtoms-clause-ready g c =
+    let e = c.args.self.now in
+    let a = c.call_clauses.new.atoms in
+    let m = g.W.A.Atoms.held c.args.atoms.now in
+    let n = g.W.A.Atoms.held a in
+    let t = g.W.World.told c.args.world.now in
+    let u = g.W.World.told c.call_clauses.new.world in
+    let x = c.call_clauses.new.search in
+    let view = view_is n u (g.met.W.A.Atoms.fixed_held a) (g.met.W.A.Atoms.unlike a) (g.met.W.A.Atoms.finite a) in
+    let l = c.requires.list in
+    let k = c.in_ok-called.ensures in
+    let back = subst (IsCalled m t e.search c.args.goal c.args.rest n u x) c.in-NeedsAtoms.is k.called in
+    let f : Engine = record e { search = x } in
+    let stayed = called_back m n t u e f c.call_clauses.ensures.holds view c.requires.ready back.0 (ap (λ (s : Search). let y : Engine = record e { search = s } in y) back.1) in
+    stayed.1
+
+pub returns-in-NeedsAtoms-clause-stepped : goal.returns-in-NeedsAtoms-clause-stepped
+returns-in-NeedsAtoms-clause-stepped g c =
+    let e = c.args.self.now in
+    let a = c.call_clauses.new.atoms in
+    let m = g.W.A.Atoms.held c.args.atoms.now in
+    let n = g.W.A.Atoms.held a in
+    let t = g.W.World.told c.args.world.now in
+    let u = g.W.World.told c.call_clauses.new.world in
+    let x = c.call_clauses.new.search in
+    let view = view_is n u (g.met.W.A.Atoms.fixed_held a) (g.met.W.A.Atoms.unlike a) (g.met.W.A.Atoms.finite a) in
+    let l = c.requires.list in
+    let k = c.in_ok-called.ensures in
+    let back = subst (IsCalled m t e.search c.args.goal c.args.rest n u x) c.in-NeedsAtoms.is k.called in
+    let f : Engine = record e { search = x } in
+    let stayed = called_back m n t u e f c.call_clauses.ensures.holds view c.requires.ready back.0 (ap (λ (s : Search). let y : Engine = record e { search = s } in y) back.1) in
+    (refl, tt, stayed.0)
+
+pub returns-in-Retry-clause-ready : goal.returns-in-Retry-clause-ready
+returns-in-Retry-clause-ready g c =
+    let e = c.args.self.now in
+    let a = c.call_clauses.new.atoms in
+    let m = g.W.A.Atoms.held c.args.atoms.now in
+    let n = g.W.A.Atoms.held a in
+    let t = g.W.World.told c.args.world.now in
+    let u = g.W.World.told c.call_clauses.new.world in
+    let x = c.call_clauses.new.search in
+    let view = view_is n u (g.met.W.A.Atoms.fixed_held a) (g.met.W.A.Atoms.unlike a) (g.met.W.A.Atoms.finite a) in
+    let l = c.requires.list in
+    let k = c.in_ok-called.ensures in
+    let back = subst (IsCalled m t e.search c.args.goal c.args.rest n u x) c.in-Retry.is k.called in
+    let f : Engine = record e { search = x } in
+    let stayed = called_back m n t u e f c.call_clauses.ensures.holds view c.requires.ready back.0 (ap (λ (s : Search). let y : Engine = record e { search = s } in y) back.1) in
+    stayed.1
+
+pub returns-in-Retry-clause-stepped : goal.returns-in-Retry-clause-stepped
+returns-in-Retry-clause-stepped g c =
+    let e = c.args.self.now in
+    let a = c.call_clauses.new.atoms in
+    let m = g.W.A.Atoms.held c.args.atoms.now in
+    let n = g.W.A.Atoms.held a in
+    let t = g.W.World.told c.args.world.now in
+    let u = g.W.World.told c.call_clauses.new.world in
+    let x = c.call_clauses.new.search in
+    let view = view_is n u (g.met.W.A.Atoms.fixed_held a) (g.met.W.A.Atoms.unlike a) (g.met.W.A.Atoms.finite a) in
+    let l = c.requires.list in
+    let k = c.in_ok-called.ensures in
+    let back = subst (IsCalled m t e.search c.args.goal c.args.rest n u x) c.in-Retry.is k.called in
+    let f : Engine = record e { search = x } in
+    let stayed = called_back m n t u e f c.call_clauses.ensures.holds view c.requires.ready back.0 (ap (λ (s : Search). let y : Engine = record e { search = s } in y) back.1) in
+    (refl, tt, stayed.0)
+
+pub returns-in-Worn-clause-ready : goal.returns-in-Worn-clause-ready
+returns-in-Worn-clause-ready g c =
+    let e = c.args.self.now in
+    let a = c.call_clauses.new.atoms in
+    let m = g.W.A.Atoms.held c.args.atoms.now in
+    let n = g.W.A.Atoms.held a in
+    let t = g.W.World.told c.args.world.now in
+    let u = g.W.World.told c.call_clauses.new.world in
+    let x = c.call_clauses.new.search in
+    let view = view_is n u (g.met.W.A.Atoms.fixed_held a) (g.met.W.A.Atoms.unlike a) (g.met.W.A.Atoms.finite a) in
+    let l = c.requires.list in
+    let k = c.in_ok-called.ensures in
+    let back = subst (IsCalled m t e.search c.args.goal c.args.rest n u x) c.in-Worn.is k.called in
+    let f : Engine = record e { search = x } in
+    let stayed = called_back m n t u e f c.call_clauses.ensures.holds view c.requires.ready back.0 (ap (λ (s : Search). let y : Engine = record e { search = s } in y) back.1) in
+    stayed.1
+
+pub returns-in-Worn-clause-stepped : goal.returns-in-Worn-clause-stepped
+returns-in-Worn-clause-stepped g c =
+    let e = c.args.self.now in
+    let a = c.call_clauses.new.atoms in
+    let m = g.W.A.Atoms.held c.args.atoms.now in
+    let n = g.W.A.Atoms.held a in
+    let t = g.W.World.told c.args.world.now in
+    let u = g.W.World.told c.call_clauses.new.world in
+    let x = c.call_clauses.new.search in
+    let view = view_is n u (g.met.W.A.Atoms.fixed_held a) (g.met.W.A.Atoms.unlike a) (g.met.W.A.Atoms.finite a) in
+    let l = c.requires.list in
+    let k = c.in_ok-called.ensures in
+    let back = subst (IsCalled m t e.search c.args.goal c.args.rest n u x) c.in-Worn.is k.called in
+    let f : Engine = record e { search = x } in
+    let stayed = called_back m n t u e f c.call_clauses.ensures.holds view c.requires.ready back.0 (ap (λ (s : Search). let y : Engine = record e { search = s } in y) back.1) in
+    (refl, tt, stayed.0)

@@ -1,0 +1,72 @@
+//! Calls of the program's clauses.
+ghost use Rattle.std.specs.Prelude.{◌≡◌, ◌≤◌, ◌++◌, ℕ, [], ◌∷◌, false, length, IfOk, OnOk};
+ghost use Rattle.world_api.specs.Texts.{Holds};
+ghost use Rattle.world_api.specs.Told.{has_ended};
+ghost use Rattle.iso_search.specs.declared.frames.Task.TheVariants.{Goal};
+ghost use Rattle.iso_search.specs.Frames.{tasks};
+ghost use Rattle.iso_engine.specs.declared.doing.Doing.TheVariants.{Running};
+ghost use Rattle.iso_engine.specs.Calling.{IsCallAt};
+ghost use Rattle.iso_engine.specs.Looking.{stopped_refusals};
+ghost use Rattle.iso_engine.specs.Ready.{IsReady};
+ghost use Rattle.iso_engine.specs.Spending.{IsSpent};
+ghost use Rattle.iso_engine.specs.Slices.{IsStepped};
+
+use crate::doing::Doing;
+use crate::engine::Engine;
+use crate::following::follow;
+use crate::refused::error_of;
+use crate::slices::Slice;
+use iso_calls::{Called, call_clauses};
+use iso_search::outcome::{Fault, Outcome};
+use pl_term::Memory;
+use term_store::{Place, Stored};
+use world_api::{Procedure, World};
+
+impl Engine {
+    /// Calls the program's clauses for the goal at a place, which has this predicate, before the tasks of a list (ISO 7.7.10). The
+    /// only error is want of memory.
+    pub fn call<W: World<Term = Stored>>(
+        &mut self,
+        goal: Place,
+        procedure: Procedure,
+        rest: usize,
+        world: &mut W,
+        atoms: &mut W::A,
+    ) -> Result<Option<Slice>, Memory>
+        requires runs { has_ended (W.told world.old).engine (W.told world.old).history ≡ false }
+        requires ready { IsReady (W.A.held atoms.old) (W.told world.old) self.old }
+        requires list { (list cut : ℕ) × (self.old.doing ≡ Running list)
+            × (tasks self.old.search.frames.items list ≡ Goal goal cut ∷ tasks self.old.search.frames.items rest) }
+        requires rest { rest ≤ length self.old.search.frames.items }
+        requires calls { IsCallAt self.old.search.store goal procedure }
+        ensures runs { has_ended (W.told world.new).engine (W.told world.new).history ≡ false }
+        ensures holds { Holds (W.A.held atoms.old) (W.A.held atoms.new) }
+        ensures refusals { IfOk result (λ o. W.A.refusals atoms.new ≡ W.A.refusals atoms.old ++ stopped_refusals o) }
+        ensures given { OnOk result (self.new.given ≡ self.old.given) }
+        ensures spent { OnOk result (IsSpent self.old.search.inferences self.new.search.inferences) }
+        ensures ready { OnOk result (IsReady (W.A.held atoms.new) (W.told world.new) self.new) }
+        ensures stepped { IfOk result (λ o.
+            IsStepped (W.A.held atoms.old) (W.told world.old) self.old o (W.A.held atoms.new) (W.told world.new) self.new []) }
+    {
+        let called = call_clauses(&mut self.search, world, atoms, goal, rest)?;
+        match called {
+            Called::Spent => {
+                let spent = Outcome::Raise(Fault::Inferences);
+                self.doing = follow(self.alloc, &self.search, spent, procedure, rest)?;
+                Ok(None)
+            }
+            Called::Ran(outcome) => {
+                self.doing = follow(self.alloc, &self.search, outcome, procedure, rest)?;
+                Ok(None)
+            }
+            Called::Refused(error) => {
+                let ball = error_of(self.alloc, &error, procedure)?;
+                self.doing = Doing::Throwing { ball, outer: rest };
+                Ok(None)
+            }
+            Called::NeedsAtoms(pass) => Ok(Some(Slice::NeedsAtoms(pass))),
+            Called::Retry(cause) => Ok(Some(Slice::Retry(cause))),
+            Called::Worn(word) => Ok(Some(Slice::Worn(word))),
+        }
+    }
+}

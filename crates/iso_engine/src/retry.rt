@@ -1,0 +1,72 @@
+//! Going back to clauses that were not tried.
+ghost use Rattle.std.specs.Prelude.{◌≡◌, ◌≤◌, ◌++◌, false, length, List, IfOk, OnOk, IsSome};
+ghost use Rattle.std.specs.List.{All};
+ghost use Rattle.term_store.specs.Contents.{Holds as HoldsPlace, term_at};
+ghost use Rattle.term_store.specs.NumberedNames.{atoms_in};
+ghost use Rattle.world_api.specs.Texts.{Holds};
+ghost use Rattle.world_api.specs.Told.{has_ended};
+ghost use Rattle.iso_search.specs.Reading.{reads};
+ghost use Rattle.iso_search.specs.Searching.{IsWhole};
+ghost use Rattle.iso_calls.specs.Lists.{IsOpen};
+ghost use Rattle.iso_engine.specs.Following.{IsInteger};
+ghost use Rattle.iso_engine.specs.Later.{view_of};
+ghost use Rattle.iso_engine.specs.Looking.{stopped_refusals};
+ghost use Rattle.iso_engine.specs.Retrying.{IsGoneOn};
+
+use crate::engine::Engine;
+use crate::following::follow;
+use crate::procedure::procedure_at;
+use crate::slices::Slice;
+use iso_calls::{Retried, retry_clauses};
+use pl_term::Memory;
+use term_store::{Place, Stored};
+use world_api::World;
+
+impl Engine {
+    /// Goes on with the clauses for the goal at a place that were not tried, whose choice point was taken off (ISO 7.7.8). The only
+    /// error is want of memory.
+    pub fn retry<W: World<Term = Stored>>(
+        &mut self,
+        goal: Place,
+        generation: u64,
+        place: u64,
+        next: usize,
+        world: &mut W,
+        atoms: &mut W::A,
+    ) -> Result<Option<Slice>, Memory>
+        requires whole { IsWhole self.old.search }
+        requires goal { HoldsPlace self.old.search.store goal }
+        requires callable { IsInteger self.old.search.store goal → ⊥ }
+        requires next { next ≤ length self.old.search.frames.items }
+        requires held { All (λ a. IsSome (W.A.held atoms.old a)) (atoms_in (term_at self.old.search.store goal)) }
+        requires open { IsOpen (W.told world.old) (reads (view_of (W.A.held atoms.old) (W.told world.old)) self.old.search.store goal) generation place }
+        requires runs { has_ended (W.told world.old).engine (W.told world.old).history ≡ false }
+        ensures whole { OnOk result (IsWhole self.new.search) }
+        ensures runs { has_ended (W.told world.new).engine (W.told world.new).history ≡ false }
+        ensures holds { Holds (W.A.held atoms.old) (W.A.held atoms.new) }
+        ensures refusals { IfOk result (λ o. W.A.refusals atoms.new ≡ W.A.refusals atoms.old ++ stopped_refusals o) }
+        ensures gone { IfOk result (IsGoneOn (W.told world.old) self.old goal generation place next (W.A.held atoms.new) (W.told world.new) self.new) }
+    {
+        let Some(procedure) = procedure_at(&self.search.store, goal) else {
+            unreachable!();
+        };
+        let retried = retry_clauses(
+            &mut self.search,
+            world,
+            atoms,
+            goal,
+            generation,
+            place,
+            next,
+        )?;
+        match retried {
+            Retried::Ran(outcome) => {
+                self.doing = follow(self.alloc, &self.search, outcome, procedure, next)?;
+                Ok(None)
+            }
+            Retried::NeedsAtoms(pass) => Ok(Some(Slice::NeedsAtoms(pass))),
+            Retried::Retry(cause) => Ok(Some(Slice::Retry(cause))),
+            Retried::Worn(word) => Ok(Some(Slice::Worn(word))),
+        }
+    }
+}

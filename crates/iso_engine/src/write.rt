@@ -1,0 +1,71 @@
+//! Goals that write.
+ghost use Rattle.std.specs.Prelude.{◌≡◌, ◌≤◌, ◌++◌, ℕ, ◌∷◌, false, length, List, IfOk, OnOk, encode_utf8_all};
+ghost use Rattle.pl_model.specs.Resolution.{Output};
+ghost use Rattle.world_api.specs.Texts.{Holds};
+ghost use Rattle.world_api.specs.Told.{has_ended};
+ghost use Rattle.iso_search.specs.declared.frames.Task.TheVariants.{Goal};
+ghost use Rattle.iso_search.specs.Frames.{tasks};
+ghost use Rattle.iso_engine.specs.declared.doing.Doing.TheVariants.{Running};
+ghost use Rattle.iso_engine.specs.Looking.{stopped_refusals};
+ghost use Rattle.iso_engine.specs.Ready.{IsReady};
+ghost use Rattle.iso_engine.specs.Spending.{IsSpent};
+ghost use Rattle.iso_engine.specs.Slices.{IsStepped, written_text};
+ghost use Rattle.iso_engine.specs.Writes.{IsWriteAt};
+
+use crate::engine::Engine;
+use crate::following::follow;
+use crate::slices::Slice;
+use iso_output::{Wrote, write_goal};
+use iso_search::outcome::{Fault, Outcome};
+use pl_term::Memory;
+use term_store::Place;
+use world_api::{Procedure, World};
+
+impl Engine {
+    /// Takes up the goal at a place, which writes and has this predicate, before the tasks of a list (ISO 8.12 and 8.14.2). What
+    /// it writes is put behind `out`. The only error is want of memory.
+    pub fn write<W: World>(
+        &mut self,
+        goal: Place,
+        procedure: Procedure,
+        rest: usize,
+        world: &mut W,
+        atoms: &mut W::A,
+        out: &mut Vec<u8>,
+    ) -> Result<Option<Slice>, Memory>
+        requires runs { has_ended (W.told world.old).engine (W.told world.old).history ≡ false }
+        requires ready { IsReady (W.A.held atoms.old) (W.told world.old) self.old }
+        requires list { (list cut : ℕ) × (self.old.doing ≡ Running list)
+            × (tasks self.old.search.frames.items list ≡ Goal goal cut ∷ tasks self.old.search.frames.items rest) }
+        requires rest { rest ≤ length self.old.search.frames.items }
+        requires writes { IsWriteAt self.old.search.store goal procedure }
+        ensures runs { has_ended (W.told world.new).engine (W.told world.new).history ≡ false }
+        ensures holds { Holds (W.A.held atoms.old) (W.A.held atoms.new) }
+        ensures refusals { IfOk result (λ o. W.A.refusals atoms.new ≡ W.A.refusals atoms.old ++ stopped_refusals o) }
+        ensures given { OnOk result (self.new.given ≡ self.old.given) }
+        ensures spent { OnOk result (IsSpent self.old.search.inferences self.new.search.inferences) }
+        ensures ready { OnOk result (IsReady (W.A.held atoms.new) (W.told world.new) self.new) }
+        ensures stepped { IfOk result (λ o. (more : List Output)
+            × IsStepped (W.A.held atoms.old) (W.told world.old) self.old o (W.A.held atoms.new) (W.told world.new) self.new more
+            × (out.new.items ≡ out.old.items ++ encode_utf8_all (written_text more))) }
+    {
+        let tried = write_goal(self.alloc, &mut self.search, world, atoms, out, goal, rest)?;
+        let Some(wrote) = tried else {
+            unreachable!();
+        };
+        match wrote {
+            Wrote::Spent => {
+                let spent = Outcome::Raise(Fault::Inferences);
+                self.doing = follow(self.alloc, &self.search, spent, procedure, rest)?;
+                Ok(None)
+            }
+            Wrote::Ran(outcome) => {
+                self.doing = follow(self.alloc, &self.search, outcome, procedure, rest)?;
+                Ok(None)
+            }
+            Wrote::NeedsAtoms(pass) => Ok(Some(Slice::NeedsAtoms(pass))),
+            Wrote::Retry(cause) => Ok(Some(Slice::Retry(cause))),
+            Wrote::Worn(word) => Ok(Some(Slice::Worn(word))),
+        }
+    }
+}
