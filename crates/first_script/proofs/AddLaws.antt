@@ -41,6 +41,7 @@ use Rattle.pl_model.specs.Balls.{error_ball}
 use Rattle.pl_model.specs.Control.{consult_proc}
 use Rattle.first_script.specs.declared.adds.Added.{Added}
 use Rattle.first_script.specs.Steps.{Asked, AddedSo, IsAddition, IsAdded, added_refusals, added_names, IsItem, SameGoals, Keeps, After, Moved, next_of}
+use Rattle.first_script.proofs.GrowLaws.{grows_line}
 use Rattle.first_script.proofs.StepLaws.{same_file, same_goals, gone_goals}
 
 -- The clause was added, or refused with an error.
@@ -177,7 +178,7 @@ add_goes term c clause kept place ops t u out renamed l =
 
 refused_goals : (x : Execution) (ops : OperatorTable) (place next : ℕ) (e : Tree) → SameGoals x (clause_added x ops place next (refused e))
 refused_goals x ops place next e =
-    gone_goals x (with_line x (ball_of_item ops place (error_ball e consult_proc))) (items_from next) (record { words = refl; refusals = refl; output = refl })
+    gone_goals x (with_line x (ball_of_item ops place (error_ball e consult_proc))) (items_from next) (record { words = refl; refusals = refl; output = refl; lines = grows_line x.consulted (ball_of_item ops place (error_ball e consult_proc)) refl })
 
 pub refuse_goes : (term : Tree → Tree) (c : Consult) (clause kept error : Tree) (place : ℕ) (ops : OperatorTable) (t u : Told) (out more : List ℕ)
     → kept ≡ rename zero clause

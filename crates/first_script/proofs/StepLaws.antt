@@ -1,5 +1,5 @@
 -- The steps by which the items of the file are taken up.
-use Rattle.std.proofs.Common.{◌≡◌, ℕ, List, [], ◌∷◌, Option, Some, None, true, refl, sym, ap, ◌∙◌, subst}
+use Rattle.std.proofs.Common.{◌≡◌, ℕ, List, [], ◌∷◌, Option, Some, None, true, false, refl, sym, ap, ◌∙◌, subst}
 use Rattle.std.specs.List.{All}
 use Rattle.std.proofs.lemmas.List.Elements.{All-nil}
 use Rattle.std.specs.Prelude.{Result, Ok, Err}
@@ -11,7 +11,7 @@ use Rattle.pl_model.specs.Grammar.{Item as ItemOf, clause, fault, end_of_text}
 use Rattle.pl_model.specs.TermGrammar.{item_of}
 use Rattle.pl_model.specs.BodyChecks.{clause_of_term}
 use Rattle.pl_model.specs.Requests.{look, standing}
-use Rattle.pl_model.specs.Execution.{Job, bytes_in, Rest, items_from, initialization, Activity, taking, Execution, move, move_by, requests, item_taken, with_item, with_term, with_clause, with_goal, with_line, gone_on, directive_of, initialization_of, behind_fault, syntax_fault, directive_limits, directing, reporting, initializing, over, moves, next_initialization, directive_ended, reported, directive_failed, ball_of_item}
+use Rattle.pl_model.specs.Execution.{Job, bytes_in, Rest, items_from, initialization, Activity, taking, Execution, move, move_by, requests, item_taken, with_item, with_term, with_clause, with_goal, with_line, gone_on, directive_of, initialization_of, behind_fault, syntax_fault, directive_halted, directive_limits, directing, reporting, initializing, searching, over, moves, next_initialization, directive_ended, reported, directive_failed, ball_of_item}
 use Rattle.pl_consult.specs.declared.consult.Place.{Place}
 use Rattle.pl_consult.specs.declared.consult.Place.TheVariants.{Item as AtItem, Initialization}
 use Rattle.pl_consult.specs.declared.consult.Consult.{Consult}
@@ -20,26 +20,29 @@ use Rattle.pl_consult.specs.declared.consult.Taken.TheVariants.{Clause as Clause
 use Rattle.pl_consult.specs.Consults.{rest_of, activity_of, Stands, Does, Took, Initializes}
 use Rattle.pl_consult.proofs.ConsultLemmas.{gone_does}
 use Rattle.pl_report.specs.Reported.{IsEnding}
-use Rattle.pl_model.specs.Control.{start}
+use Rattle.pl_model.specs.Balls.{error_ball}
+use Rattle.pl_model.specs.Control.{start, consult_proc}
 use Rattle.pl_model.specs.Resolution.{Ending, solved, no_more, threw, exited, halted}
 use Rattle.world_api.specs.declared.how.How.{How}
 use Rattle.world_api.specs.declared.how.How.TheVariants.{Solved, False, Threw, Exited, Halted, AtomSpace}
 use Rattle.world_api.specs.declared.script.Next.{Next}
 use Rattle.world_api.specs.declared.script.Next.TheVariants.{Item, Done, NeedsAtoms, Retry, Worn, Memory}
 use Rattle.world_api.specs.Told.{Told}
+use Rattle.world_api.specs.Courses.{of_goal, of_directive}
 use Rattle.world_api.specs.Scripts.{Comes}
 use Rattle.world_api.proofs.ComesLaws.{comes_same, comes_by_move, comes_by_request}
+use Rattle.first_script.proofs.GrowLaws.{grows_none, grows_line}
 use Rattle.first_script.specs.declared.stage.Stage.{Stage}
-use Rattle.first_script.specs.declared.stage.Stage.TheVariants.{Items, Directive, AtDirective, Report, Over}
+use Rattle.first_script.specs.declared.stage.Stage.TheVariants.{Items, Directive, AtDirective, Report, Goal, AtGoal, Over}
 use Rattle.first_script.specs.declared.stage.Step.{Step}
 use Rattle.first_script.specs.declared.stage.Step.TheVariants.{Goes, Gives}
-use Rattle.first_script.specs.Steps.{IsStay, Looked, activity_in, Fits, SameGoals, SameFile, part_of, After, Keeps, Moved, stage_by, stage_for, IsQuiet, step_names, step_refusals, IsTold, ending_of, written_of, status_of}
+use Rattle.first_script.specs.Steps.{IsStay, Looked, can_step, IsAfter, activity_in, Fits, SameGoals, SameFile, part_of, After, Keeps, Moved, stage_by, stage_for, IsQuiet, step_names, step_refusals, IsTold, ending_of, written_of, status_of}
 
 comes_still : (job : Job) (x : Execution) (t u : Told) → u ≡ t → Comes job x t x u
 comes_still job x t u same = subst (λ (v : Told). Comes job x t x v) (sym same) (comes_same job x x t refl)
 
 pub same_goals : (x : Execution) → SameGoals x x
-same_goals x = record { words = refl; refusals = refl; output = refl }
+same_goals x = record { words = refl; refusals = refl; output = refl; lines = grows_none x.consulted }
 
 pub same_file : (c : Consult) → SameFile c c
 same_file c = record { name = refl; text = refl }
@@ -59,16 +62,17 @@ stayed term c stage t u out Memory stays same whole job x at = (x, comes_still j
 
 -- What an item changes of the goals of the command: nothing.
 pub gone_goals : (x y : Execution) (r : Rest) → SameGoals x y → SameGoals x (gone_on y r)
-gone_goals x y (items_from at) s = record { words = s.words; refusals = s.refusals; output = s.output }
-gone_goals x y initialization s = record { words = s.words; refusals = s.refusals; output = s.output }
+gone_goals x y (items_from at) s = record { words = s.words; refusals = s.refusals; output = s.output; lines = s.lines }
+gone_goals x y initialization s = record { words = s.words; refusals = s.refusals; output = s.output; lines = s.lines }
 
 clause_goals : (x : Execution) (ops : OperatorTable) (start next : ℕ) (r : Result ClauseOf Tree) → SameGoals x (with_clause x ops start next r)
-clause_goals x ops start next (Ok c) = record { words = refl; refusals = refl; output = refl }
-clause_goals x ops start next (Err e) = record { words = refl; refusals = refl; output = refl }
+clause_goals x ops start next (Ok c) = record { words = refl; refusals = refl; output = refl; lines = grows_none x.consulted }
+clause_goals x ops start next (Err e) =
+    record { words = refl; refusals = refl; output = refl; lines = grows_line x.consulted (ball_of_item ops start (error_ball e consult_proc)) refl }
 
 goal_goals : (job : Job) (x : Execution) (place next : ℕ) (t : Tree) (o : Option Tree) → SameGoals x (with_goal job x place next t o)
-goal_goals job x place next t (Some g) = record { words = refl; refusals = refl; output = refl }
-goal_goals job x place next t None = record { words = refl; refusals = refl; output = refl }
+goal_goals job x place next t (Some g) = record { words = refl; refusals = refl; output = refl; lines = grows_none x.consulted }
+goal_goals job x place next t None = record { words = refl; refusals = refl; output = refl; lines = grows_none x.consulted }
 
 term_goals : (job : Job) (x : Execution) (ops : OperatorTable) (place next : ℕ) (t : Tree) (o : Option Tree) → SameGoals x (with_term job x ops place next t o)
 term_goals job x ops place next t None = clause_goals x ops place next (clause_of_term t)
@@ -77,7 +81,8 @@ term_goals job x ops place next t (Some g) = goal_goals job x place next g (init
 item_goals : (job : Job) (x : Execution) (ops : OperatorTable) (at : ℕ) (i : ItemOf) → SameGoals x (with_item job x ops at i)
 item_goals job x ops at (clause t names place next) = term_goals job x ops place next t (directive_of t)
 item_goals job x ops at (fault kind place) =
-    gone_goals x (with_line x (syntax_fault kind place)) (behind_fault (bytes_in job.script) at kind) (record { words = refl; refusals = refl; output = refl })
+    gone_goals x (with_line x (syntax_fault kind place)) (behind_fault (bytes_in job.script) at kind)
+    (record { words = refl; refusals = refl; output = refl; lines = grows_line x.consulted (syntax_fault kind place) refl })
 item_goals job x ops at end_of_text = gone_goals x x initialization (same_goals x)
 
 -- The item that is taken up.
@@ -132,13 +137,43 @@ given term c goal kept place t out e job x at = (
   comes_same job x x t refl,
   same_goals x,
   same_file c,
-  (place, refl, refl, at.does ∙ ap (λ g. directing place (rest_of c.place) (start (directive_limits job) g)) (sym e), at.stands),
+  (of_directive place (rest_of c.place), refl, refl, at.does ∙ ap (λ g. directing place (rest_of c.place) (start (directive_limits job) g)) (sym e), at.stands),
 )
+
+-- The goal of the command is given.
+pub given_goal : (term : Tree → Tree) (c : Consult) (goal kept : Tree) (t : Told) (out : List ℕ)
+    → term kept ≡ goal
+    → Moved term c (Goal goal) t out (Gives (Item kept false)) c AtGoal t out
+given_goal term c goal kept t out e job x at = (
+  x,
+  comes_same job x x t refl,
+  same_goals x,
+  same_file c,
+  (of_goal, refl, refl, at.does ∙ ap (λ g. searching (start job.limits g)) (sym e), at.stands),
+)
+
+-- The stage behind a step.
+pub stay_after : (next : Next Tree) (stage : Stage) → IsStay next → can_step stage ≡ true → IsAfter (Gives next) stage
+stay_after (Item t d) stage stays can = absurd stays
+stay_after (Done h) stage stays can = absurd stays
+stay_after (NeedsAtoms p) stage stays can = can
+stay_after (Retry r) stage stays can = can
+stay_after (Worn w) stage stays can = can
+stay_after Memory stage stays can = tt
+
+pub taken_after : (taken : Taken) (ops : OperatorTable) → can_step (stage_by taken ops) ≡ true
+taken_after (ClauseTaken t place) ops = refl
+taken_after (DirectiveTaken goal place) ops = refl
+taken_after Passed ops = refl
+
+pub initial_after : (g : Option (ℕ × Tree)) → can_step (stage_for g) ≡ true
+initial_after None = refl
+initial_after (Some g) = refl
 
 -- The next goal of initialization/1.
 initial_goals : (job : Job) (x : Execution) (gs : List (ℕ × Tree)) → SameGoals x (next_initialization job x gs)
-initial_goals job x [] = record { words = refl; refusals = refl; output = refl }
-initial_goals job x (g ∷ gs) = record { words = refl; refusals = refl; output = refl }
+initial_goals job x [] = record { words = refl; refusals = refl; output = refl; lines = grows_none x.consulted }
+initial_goals job x (g ∷ gs) = record { words = refl; refusals = refl; output = refl; lines = grows_none x.consulted }
 
 initial_move : (job : Job) (x : Execution) → x.activity ≡ initializing → move job x ≡ moves (next_initialization job x x.later)
 unfolding move
@@ -180,10 +215,10 @@ report_move job x place rest how is = ap (move_by job x) is
 
 reported_goals : (x : Execution) (place : ℕ) (rest : Rest) (e : Ending) (ops : OperatorTable) → SameGoals x (reported x place rest e ops)
 reported_goals x place rest solved ops = gone_goals x x rest (same_goals x)
-reported_goals x place rest no_more ops = gone_goals x (with_line x (directive_failed place)) rest (record { words = refl; refusals = refl; output = refl })
-reported_goals x place rest (threw b) ops = gone_goals x (with_line x (ball_of_item ops place b)) rest (record { words = refl; refusals = refl; output = refl })
+reported_goals x place rest no_more ops = gone_goals x (with_line x (directive_failed place)) rest (record { words = refl; refusals = refl; output = refl; lines = grows_line x.consulted (directive_failed place) refl })
+reported_goals x place rest (threw b) ops = gone_goals x (with_line x (ball_of_item ops place b)) rest (record { words = refl; refusals = refl; output = refl; lines = grows_line x.consulted (ball_of_item ops place b) refl })
 reported_goals x place rest (exited u) ops = gone_goals x x rest (same_goals x)
-reported_goals x place rest (halted n) ops = record { words = refl; refusals = refl; output = refl }
+reported_goals x place rest (halted n) ops = record { words = refl; refusals = refl; output = refl; lines = grows_line x.consulted (directive_halted place n) refl }
 
 report_by : (term : Tree → Tree) (c : Consult) (place : ℕ) (how : How Tree) (ops : OperatorTable) (quotes : Quotes) (t u : Told) (out more : List ℕ) (stage : Stage) (step : Step)
     → Looked t u ops quotes

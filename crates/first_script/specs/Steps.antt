@@ -1,5 +1,5 @@
 -- What a step of the script is of an execution.
-use Rattle.std.specs.Prelude.{◌≡◌, ℕ, zero, List, [], ◌∷◌, ◌++◌, length, Option, Some, None, true}
+use Rattle.std.specs.Prelude.{◌≡◌, ℕ, zero, List, [], ◌∷◌, ◌++◌, length, Option, Some, None, Bool, true, false}
 use Rattle.pl_term.specs.Tree.{Tree}
 use Rattle.pl_term.specs.Variables.{rename}
 use Rattle.pl_model.specs.declared.grammar.Quotes.{Quotes}
@@ -8,9 +8,9 @@ use Rattle.pl_model.specs.Requests.{Request, look, standing, consult_clause}
 use Rattle.pl_model.specs.Requests as requests
 use Rattle.pl_model.specs.Service.{answers}
 use Rattle.pl_model.specs.History.{Kind, History}
-use Rattle.pl_model.specs.Resolution.{Ending, solved, no_more, threw, exited, halted}
+use Rattle.pl_model.specs.Resolution.{Ending, solved, no_more, threw, exited, halted, State}
 use Rattle.pl_model.specs.Control.{start}
-use Rattle.pl_model.specs.Execution.{Job, directive_limits, Activity, adding, directing, reporting, initializing, reading, over, Execution}
+use Rattle.pl_model.specs.Execution.{Job, Consulted, directive_limits, Activity, adding, directing, reporting, initializing, reading, searching, over, Execution}
 use Rattle.pl_model.specs.Progress.{entry_by, served_now}
 use Rattle.pl_consult.specs.declared.consult.Place.{Place}
 use Rattle.pl_consult.specs.declared.consult.Place.TheVariants.{Item as AtItem, Initialization}
@@ -33,10 +33,10 @@ use Rattle.first_script.specs.declared.adds.Added.{Added}
 use Rattle.first_script.specs.declared.adds.Added.TheVariants.{Done as AddedDone, Refused as AddedRefused, Stays as AddedStays}
 use Rattle.world_api.specs.Told.{Told, Follows}
 use Rattle.world_api.specs.Answers.{seen_as}
-use Rattle.world_api.specs.Courses.{Part, of_directive}
-use Rattle.world_api.specs.Scripts.{Comes, next_refusals, next_names}
+use Rattle.world_api.specs.Courses.{Part, of_goal, of_directive, limits_of}
+use Rattle.world_api.specs.Scripts.{Comes, next_refusals, next_names, is_directive, is_fault}
 use Rattle.first_script.specs.declared.stage.Stage.{Stage}
-use Rattle.first_script.specs.declared.stage.Stage.TheVariants.{Items, Clause, Directive, AtDirective, Report, Words, Over}
+use Rattle.first_script.specs.declared.stage.Stage.TheVariants.{Items, Clause, Directive, AtDirective, Report, Words, Goal, AtGoal, Over, Lost}
 use Rattle.first_script.specs.declared.stage.Step.{Step}
 use Rattle.first_script.specs.declared.stage.Step.TheVariants.{Goes, Gives}
 use Rattle.first_script.specs.declared.looks.Look.{Look}
@@ -151,7 +151,10 @@ activity_in job p (Directive goal place) = directing place (rest_of p) (start (d
 activity_in job p (AtDirective place) = initializing
 activity_in job p (Report place how) = reporting place (rest_of p) (ending_of how)
 activity_in job p Words = reading
+activity_in job p (Goal goal) = searching (start job.limits goal)
+activity_in job p AtGoal = initializing
 activity_in job p Over = initializing
+activity_in job p Lost = initializing
 
 abbrev pub IsItem : Place → Type 0
 IsItem (AtItem next) = Unit {0}
@@ -173,11 +176,23 @@ pub record At (job : Job) (c : Consult) (stage : Stage) (x : Execution) (out : L
   pub does : x.activity ≡ activity_in job c.place stage
   pub fits : Fits stage c.place
 
--- Of the goals of the command nothing has changed.
+-- These lines are all of faults.
+abbrev pub AreFaults : List Consulted → Type 0
+AreFaults [] = Unit {0}
+AreFaults (c ∷ cs) = (is_fault c ≡ true) × AreFaults cs
+
+-- Behind the lines that are written of the file there are further ones, all of faults.
+pub record Grows (old new : List Consulted) : Type 0 where
+  pub faults : List Consulted
+  pub grown : new ≡ old ++ faults
+  pub are : AreFaults faults
+
+-- Of the goals of the command nothing has changed, and of the file only faults are written.
 pub record SameGoals (x y : Execution) : Type 0 where
   pub words : y.words ≡ x.words
   pub refusals : y.refusals ≡ x.refusals
   pub output : y.output ≡ x.output
+  pub lines : Grows x.consulted y.consulted
 
 -- How far the script has come with an item that was read under these operators.
 abbrev pub stage_by : Taken → OperatorTable → Stage
@@ -199,7 +214,45 @@ IsQuiet (Gives next) = ⊥
 
 abbrev pub part_of : Place → Stage → Option Part
 part_of p (AtDirective place) = Some (of_directive place (rest_of p))
+part_of p AtGoal = Some of_goal
 part_of p stage = None
+
+-- The place of the directive that an item is, if it is one.
+abbrev pub directive_place : Option Part → Option ℕ
+directive_place (Some (of_directive place rest)) = Some place
+directive_place part = None
+
+-- Whether a step is to be made: no goal is searched for, and the script is neither over nor lost.
+abbrev pub can_step : Stage → Bool
+can_step Items = true
+can_step (Clause t place ops) = true
+can_step (Directive goal place) = true
+can_step (AtDirective place) = false
+can_step (Report place how) = true
+can_step Words = true
+can_step (Goal goal) = true
+can_step AtGoal = false
+can_step Over = false
+can_step Lost = false
+
+-- Whether the goal that is searched for is that of a directive, if one is.
+abbrev pub at_hand : Stage → Option Bool
+at_hand (AtDirective place) = Some true
+at_hand AtGoal = Some false
+at_hand stage = None
+
+-- The stage fits what the step leads to. After want of memory nothing is said of it.
+abbrev pub IsAfter : Step → Stage → Type 0
+IsAfter Goes stage = can_step stage ≡ true
+IsAfter (Gives (Item t directive)) stage = at_hand stage ≡ Some directive
+IsAfter (Gives (Done h)) stage = stage ≡ Over
+IsAfter (Gives Memory) stage = Unit {0}
+IsAfter (Gives next) stage = can_step stage ≡ true
+
+-- The execution searches for the part so.
+abbrev pub searching_in : Part → State → Activity
+searching_in of_goal s = searching s
+searching_in (of_directive place rest) s = directing place rest s
 
 -- The file is the same.
 pub record SameFile (c d : Consult) : Type 0 where
@@ -211,11 +264,11 @@ module _ (term : Tree → Tree) where
   abbrev pub After : Step → Job → Consult → Stage → Execution → List ℕ → Type 0
   After Goes job c stage y out = At job c stage y out
   After (Gives (Item t directive)) job c stage y out =
-      (place : ℕ) × (stage ≡ AtDirective place) × (directive ≡ true)
-      × (y.activity ≡ directing place (rest_of c.place) (start (directive_limits job) (term t)))
+      (p : Part) × (part_of c.place stage ≡ Some p) × (is_directive p ≡ directive)
+      × (y.activity ≡ searching_in p (start (limits_of job p) (term t)))
       × Stands c job y out
   After (Gives (Done (Some n))) job c stage y out = (y.activity ≡ over (halted n)) × (stage ≡ Over) × Stands c job y out
-  After (Gives (Done None)) job c stage y out = ⊥
+  After (Gives (Done None)) job c stage y out = (y.activity ≡ over solved) × (stage ≡ Over) × Stands c job y out
   After (Gives Memory) job c stage y out = Unit {0}
   After (Gives next) job c stage y out = At job c stage y out × (part_of c.place stage ≡ None)
 

@@ -10,7 +10,7 @@ ghost use Rattle.world_api.specs.Texts.{text_of, Holds};
 ghost use Rattle.world_api.specs.Told.{Told, has_ended};
 ghost use Rattle.world_api.specs.Visits.{clause_in};
 ghost use Rattle.first_script.specs.declared.stage.Stage.TheVariants.{Clause};
-ghost use Rattle.first_script.specs.Steps.{AddedSo, Asked, IsAdded, IsAddition, IsQuiet, Moved, added_names, added_refusals, step_names, step_refusals};
+ghost use Rattle.first_script.specs.Steps.{AddedSo, Asked, IsAfter, IsAdded, IsAddition, IsQuiet, Moved, added_names, added_refusals, step_names, step_refusals};
 
 use crate::stage::{Stage, Step};
 use crate::stops::stopped;
@@ -47,6 +47,7 @@ pub fn add_clause<W: World<Term = Stored>>(
 ) -> (Stage, Step)
     requires { has_ended (W.told world.old).engine (W.told world.old).history ≡ false }
     ensures moved { Moved (term_by (text_of (W.A.held atoms.new))) consult.now (Clause clause place operators) (W.told world.old) text.old.items result.1 consult.now result.0 (W.told world.new) text.new.items }
+    ensures stage { IsAfter result.1 result.0 }
     ensures runs { has_ended (W.told world.new).engine (W.told world.new).history ≡ false }
     ensures named { All (λ a. IsSome (W.A.held atoms.new a)) (step_names names_of result.1) }
     ensures holds { Holds (W.A.held atoms.old) (W.A.held atoms.new) }
@@ -125,6 +126,7 @@ fn refuse<A: Atoms>(
         → kept ≡ rename zero clause
         → Asked t u (consult_clause (clause_in kept)) (refused (term_by (text_of (A.held atoms.old)) error.now))
         → Moved term consult.now (Clause clause place operators.now) t text.old.items result.1 consult.now result.0 u text.new.items }
+    ensures stage { IsAfter result.1 result.0 }
     ensures quiet { IsQuiet result.1 }
     ensures same { A.held atoms.new ≡ A.held atoms.old }
     ensures refusals { A.refusals atoms.new ≡ A.refusals atoms.old }

@@ -1,4 +1,4 @@
-//! The goals of directives and of initialization/1.
+//! The goals of directives, of initialization/1 and of the command.
 ghost use Rattle.std.specs.Prelude.{◌≡◌, ◌++◌, ℕ, zero, List, IsSome, IsTrue};
 ghost use Rattle.std.specs.List.{All};
 ghost use Rattle.pl_term.specs.Tree.{Tree};
@@ -8,8 +8,8 @@ ghost use Rattle.pl_consult.specs.declared.consult.Consult.{Consult as File};
 ghost use Rattle.term_store.specs.NumberedNames.{names_of, term_by};
 ghost use Rattle.world_api.specs.Texts.{text_of, Holds};
 ghost use Rattle.world_api.specs.Told.{Told};
-ghost use Rattle.first_script.specs.declared.stage.Stage.TheVariants.{Directive, Items};
-ghost use Rattle.first_script.specs.Steps.{Moved, stage_for, step_names, step_refusals};
+ghost use Rattle.first_script.specs.declared.stage.Stage.TheVariants.{Directive, Goal, Items};
+ghost use Rattle.first_script.specs.Steps.{IsAfter, IsQuiet, Moved, stage_for, step_names, step_refusals};
 
 use crate::stage::{Stage, Step};
 use crate::stops::stopped;
@@ -29,6 +29,7 @@ pub fn give_directive<A: Atoms>(
 ) -> (Stage, Step)
     ensures moved { (c : File) (t : Told) (out : List ℕ)
         → Moved (term_by (text_of (A.held atoms.new))) c (Directive goal place) t out result.1 c result.0 t out }
+    ensures stage { IsAfter result.1 result.0 }
     ensures named { All (λ a. IsSome (A.held atoms.new a)) (step_names names_of result.1) }
     ensures holds { Holds (A.held atoms.old) (A.held atoms.new) }
     ensures refusals { A.refusals atoms.new ≡ A.refusals atoms.old ++ step_refusals result.1 }
@@ -44,6 +45,7 @@ fn give<A: Atoms>(alloc: Global, goal: Flat, place: usize, atoms: &mut A) -> (St
     requires { rename zero goal ≡ goal }
     ensures moved { (c : File) (t : Told) (out : List ℕ)
         → Moved (term_by (text_of (A.held atoms.new))) c (Directive goal place) t out result.1 c result.0 t out }
+    ensures stage { IsAfter result.1 result.0 }
     ensures named { All (λ a. IsSome (A.held atoms.new a)) (step_names names_of result.1) }
     ensures holds { Holds (A.held atoms.old) (A.held atoms.new) }
     ensures refusals { A.refusals atoms.new ≡ A.refusals atoms.old ++ step_refusals result.1 }
@@ -57,6 +59,43 @@ fn give<A: Atoms>(alloc: Global, goal: Flat, place: usize, atoms: &mut A) -> (St
             }),
         ),
         Err(stop) => (Stage::Directive { goal, place }, Step::Gives(stopped(stop))),
+    }
+}
+
+/// Gives the goal of the command.
+pub fn give_goal<A: Atoms>(alloc: Global, goal: Flat, atoms: &mut A) -> (Stage, Step)
+    ensures moved { (c : File) (t : Told) (out : List ℕ)
+        → Moved (term_by (text_of (A.held atoms.new))) c (Goal goal) t out result.1 c result.0 t out }
+    ensures stage { IsAfter result.1 result.0 }
+    ensures named { All (λ a. IsSome (A.held atoms.new a)) (step_names names_of result.1) }
+    ensures holds { Holds (A.held atoms.old) (A.held atoms.new) }
+    ensures refusals { A.refusals atoms.new ≡ A.refusals atoms.old ++ step_refusals result.1 }
+{
+    if is_numbered(alloc, &goal) {
+        return give_numbered_goal(alloc, goal, atoms);
+    }
+    (Stage::Goal { goal }, Step::Gives(Next::Memory))
+}
+
+/// Gives this goal of the command, whose variables are numbered from 0.
+fn give_numbered_goal<A: Atoms>(alloc: Global, goal: Flat, atoms: &mut A) -> (Stage, Step)
+    requires { rename zero goal ≡ goal }
+    ensures moved { (c : File) (t : Told) (out : List ℕ)
+        → Moved (term_by (text_of (A.held atoms.new))) c (Goal goal) t out result.1 c result.0 t out }
+    ensures stage { IsAfter result.1 result.0 }
+    ensures named { All (λ a. IsSome (A.held atoms.new a)) (step_names names_of result.1) }
+    ensures holds { Holds (A.held atoms.old) (A.held atoms.new) }
+    ensures refusals { A.refusals atoms.new ≡ A.refusals atoms.old ++ step_refusals result.1 }
+{
+    match interned(alloc, &goal, atoms) {
+        Ok(kept) => (
+            Stage::AtGoal,
+            Step::Gives(Next::Item {
+                goal: kept,
+                directive: false,
+            }),
+        ),
+        Err(stop) => (Stage::Goal { goal }, Step::Gives(stopped(stop))),
     }
 }
 
@@ -75,7 +114,10 @@ fn is_numbered(alloc: Global, t: &Flat) -> bool
 /// The next goal of initialization/1, behind the end of the file.
 pub fn next_initialization(alloc: Global, consult: &mut Consult) -> (Stage, Step)
     requires { consult.old.place ≡ Initialization }
-    ensures { (term : Tree → Tree) (t : Told) (out : List ℕ) → Moved term consult.old Items t out result.1 consult.new result.0 t out }
+    ensures moved { (term : Tree → Tree) (t : Told) (out : List ℕ) → Moved term consult.old Items t out result.1 consult.new result.0 t out }
+    ensures stage { IsAfter result.1 result.0 }
+    ensures file { consult.new.name ≡ consult.old.name }
+    ensures quiet { IsQuiet result.1 }
 {
     match consult.next_goal(alloc) {
         Ok(next) => (stage_for(next), Step::Goes),

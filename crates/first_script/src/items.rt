@@ -6,7 +6,7 @@ ghost use Rattle.world_api.specs.Texts.{text_of, Holds};
 ghost use Rattle.world_api.specs.Told.{has_ended};
 ghost use Rattle.pl_consult.specs.declared.consult.Place.TheVariants.{Item as AtItem};
 ghost use Rattle.first_script.specs.declared.stage.Stage.TheVariants.{Items};
-ghost use Rattle.first_script.specs.Steps.{Moved, stage_by, step_names, step_refusals};
+ghost use Rattle.first_script.specs.Steps.{IsAfter, Moved, stage_by, step_names, step_refusals};
 
 use crate::looks::{Look, look_at};
 use crate::stage::{Stage, Step};
@@ -28,6 +28,8 @@ pub fn take_item<W: World<Term = Stored>>(
     requires place { consult.old.place ≡ AtItem at }
     requires runs { has_ended (W.told world.old).engine (W.told world.old).history ≡ false }
     ensures moved { Moved (term_by (text_of (W.A.held atoms.new))) consult.old Items (W.told world.old) text.old.items result.1 consult.new result.0 (W.told world.new) text.new.items }
+    ensures stage { IsAfter result.1 result.0 }
+    ensures file { consult.new.name ≡ consult.old.name }
     ensures runs { has_ended (W.told world.new).engine (W.told world.new).history ≡ false }
     ensures named { All (λ a. IsSome (W.A.held atoms.new a)) (step_names names_of result.1) }
     ensures holds { Holds (W.A.held atoms.old) (W.A.held atoms.new) }

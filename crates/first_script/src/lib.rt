@@ -2,16 +2,21 @@
 #![tactic(auto)]
 
 mod adds;
+mod ends;
+mod file_script;
 mod gives;
 mod items;
 mod looks;
 mod reports;
 mod stage;
 mod stops;
+mod words;
 
 pub use adds::add_clause;
-pub use gives::{give_directive, next_initialization};
+pub use file_script::FileScript;
+pub use gives::{give_directive, give_goal, next_initialization};
 pub use items::take_item;
 pub use reports::report;
 pub use stage::{Stage, Step};
 pub use stops::stopped;
+pub use words::GoalWord;

@@ -7,7 +7,7 @@ ghost use Rattle.term_store.specs.NumberedNames.{names_of, term_by};
 ghost use Rattle.world_api.specs.Texts.{text_of, Holds};
 ghost use Rattle.world_api.specs.Told.{Told, has_ended};
 ghost use Rattle.first_script.specs.declared.stage.Stage.TheVariants.{Report};
-ghost use Rattle.first_script.specs.Steps.{IsQuiet, Looked, Moved, status_of, step_names, step_refusals, written_of};
+ghost use Rattle.first_script.specs.Steps.{IsAfter, IsQuiet, Looked, Moved, status_of, step_names, step_refusals, written_of};
 
 use crate::looks::{Look, look_at};
 use crate::stage::{Stage, Step};
@@ -31,6 +31,7 @@ pub fn report<W: World<Term = Stored>>(
 ) -> (Stage, Step)
     requires { has_ended (W.told world.old).engine (W.told world.old).history ≡ false }
     ensures moved { Moved (term_by (text_of (W.A.held atoms.new))) consult.now (Report place how) (W.told world.old) text.old.items result.1 consult.now result.0 (W.told world.new) text.new.items }
+    ensures stage { IsAfter result.1 result.0 }
     ensures runs { has_ended (W.told world.new).engine (W.told world.new).history ≡ false }
     ensures named { All (λ a. IsSome (W.A.held atoms.new a)) (step_names names_of result.1) }
     ensures holds { Holds (W.A.held atoms.old) (W.A.held atoms.new) }
@@ -55,6 +56,7 @@ fn report_under(
 ) -> (Stage, Step)
     ensures moved { (term : Tree → Tree) (t u : Told) (quotes : Quotes) → Looked t u operators.now quotes
         → Moved term consult.now (Report place how) t text.old.items result.1 consult.now result.0 u text.new.items }
+    ensures stage { IsAfter result.1 result.0 }
     ensures quiet { IsQuiet result.1 }
 {
     let halted = status(&how);

@@ -1,4 +1,8 @@
 //! How far the script has come.
+ghost use Rattle.std.specs.Prelude.{◌≡◌};
+ghost use Rattle.pl_consult.specs.declared.consult.Place.{Place};
+ghost use Rattle.first_script.specs.Steps.{can_step, directive_place, part_of};
+
 use op_table::OpTable;
 use pl_term::Flat;
 use term_store::Stored;
@@ -31,8 +35,52 @@ pub enum Stage {
     },
     /// The goal words are to be read.
     Words,
+    /// The goal of the command is to be given.
+    Goal {
+        goal: Flat,
+    },
+    /// It is searched for.
+    AtGoal,
     /// Nothing is left to be done.
     Over,
+    /// The script is lost for want of memory.
+    Lost,
+}
+
+/// Whether a step is to be made at this stage: no goal is searched for, and the script is neither over nor lost.
+pub(crate) fn can_step(stage: &Stage) -> bool
+    ensures { result ≡ can_step stage.now }
+{
+    match stage {
+        Stage::Items => true,
+        Stage::Clause { .. } => true,
+        Stage::Directive { .. } => true,
+        Stage::AtDirective { .. } => false,
+        Stage::Report { .. } => true,
+        Stage::Words => true,
+        Stage::Goal { .. } => true,
+        Stage::AtGoal => false,
+        Stage::Over => false,
+        Stage::Lost => false,
+    }
+}
+
+/// The byte of the directive whose goal is searched for, if one is.
+pub(crate) fn directive_at(stage: &Stage) -> Option<usize>
+    ensures { (p : Place) → result ≡ directive_place (part_of p stage.now) }
+{
+    match stage {
+        Stage::Items => None,
+        Stage::Clause { .. } => None,
+        Stage::Directive { .. } => None,
+        Stage::AtDirective { place } => Some(*place),
+        Stage::Report { .. } => None,
+        Stage::Words => None,
+        Stage::Goal { .. } => None,
+        Stage::AtGoal => None,
+        Stage::Over => None,
+        Stage::Lost => None,
+    }
 }
 
 /// What a step of the script leads to.

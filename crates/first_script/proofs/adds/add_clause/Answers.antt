@@ -4,7 +4,7 @@ use Rattle.term_store.specs.NumberedNames.{term_by}
 use Rattle.world_api.specs.Texts.{text_of}
 use Rattle.first_script.specs.declared.stage.Stage.TheVariants.{Clause}
 use Rattle.first_script.proofs.AddLaws.{add_goes}
-use Rattle.first_script.proofs.StepLaws.{stayed}
+use Rattle.first_script.proofs.StepLaws.{stayed, stay_after}
 use Rattle.first_script.proofs.adds.add_clause.Goals as goal
 
 pub returns-in-Done-clause-moved : goal.returns-in-Done-clause-moved
@@ -26,3 +26,14 @@ pub returns-in-Err-clause-moved : goal.returns-in-Err-clause-moved
 returns-in-Err-clause-moved g c =
     stayed (term_by (text_of (g.W.A.Atoms.held c.interned.new.atoms))) c.args.consult.now (Clause c.args.clause c.args.place c.args.operators) _ _ _ c.stopped.result
     c.stopped.ensures.stays refl refl
+
+pub returns-in-Refused-clause-stage : goal.returns-in-Refused-clause-stage
+returns-in-Refused-clause-stage g c = c.refuse.ensures.stage
+
+pub returns-in-Stays-clause-stage : goal.returns-in-Stays-clause-stage
+returns-in-Stays-clause-stage g c =
+    stay_after c.in-Stays.next (Clause c.args.clause c.args.place c.args.operators) c.in-Stays.ensures.adds.0 refl
+
+pub returns-in-Err-clause-stage : goal.returns-in-Err-clause-stage
+returns-in-Err-clause-stage g c =
+    stay_after c.stopped.result (Clause c.args.clause c.args.place c.args.operators) c.stopped.ensures.stays refl

@@ -2,7 +2,7 @@ use Rattle.std.proofs.Common.{refl, ◌∙◌}
 use Rattle.term_store.specs.NumberedNames.{term_by}
 use Rattle.world_api.specs.Texts.{text_of}
 use Rattle.first_script.specs.declared.stage.Stage.TheVariants.{Directive}
-use Rattle.first_script.proofs.StepLaws.{given, stayed}
+use Rattle.first_script.proofs.StepLaws.{given, stayed, stay_after}
 use Rattle.first_script.proofs.gives.give.Goals as goal
 
 pub returns-in-Ok-clause-moved : goal.returns-in-Ok-clause-moved
@@ -12,3 +12,6 @@ returns-in-Ok-clause-moved g c file t out =
 pub returns-in-Err-clause-moved : goal.returns-in-Err-clause-moved
 returns-in-Err-clause-moved g c file t out =
     stayed (term_by (text_of (g.A.Atoms.held c.interned.new.atoms))) file (Directive c.args.goal c.args.place) t t out c.stopped.result c.stopped.ensures.stays refl refl
+
+pub returns-in-Err-clause-stage : goal.returns-in-Err-clause-stage
+returns-in-Err-clause-stage g c = stay_after c.stopped.result (Directive c.args.goal c.args.place) c.stopped.ensures.stays refl

@@ -1,7 +1,7 @@
 use Rattle.std.proofs.Common.{refl}
 use Rattle.pl_term.specs.Tree.{Tree}
 use Rattle.first_script.specs.declared.stage.Stage.TheVariants.{Items}
-use Rattle.first_script.proofs.StepLaws.{stayed, item_moved, item_failed}
+use Rattle.first_script.proofs.StepLaws.{stayed, stay_after, taken_after, item_moved, item_failed}
 use Rattle.first_script.proofs.items.take_item.Goals as goal
 
 pub returns-in-Stays-clause-moved : goal.returns-in-Stays-clause-moved
@@ -11,8 +11,14 @@ returns-in-Stays-clause-moved g c =
 pub returns-in-Ok-clause-moved : goal.returns-in-Ok-clause-moved
 returns-in-Ok-clause-moved g c =
     rw c.stage_of.ensures
-    (item_moved (λ (u : Tree). u) c.args.consult.now c.take.new.self c.args.at c.in-Standing.operators c.in-Standing.quotes c.in-Ok.taken _ _ _ _ c.requires.place c.in-Standing.ensures.looks c.in-Ok.ensures)
+    (item_moved (λ (u : Tree). u) c.args.consult.now c.take.new.self c.args.at c.in-Standing.operators c.in-Standing.quotes c.in-Ok.taken _ _ _ _ c.requires.place c.in-Standing.ensures.looks c.in-Ok.ensures.took)
 
 pub returns-in-Err-clause-moved : goal.returns-in-Err-clause-moved
 returns-in-Err-clause-moved g c =
     item_failed (λ (u : Tree). u) c.args.consult.now c.take.new.self c.args.at c.in-Standing.operators c.in-Standing.quotes Items _ _ c.args.text.now.items c.args.text.now.items c.requires.place c.in-Standing.ensures.looks
+
+pub returns-in-Stays-clause-stage : goal.returns-in-Stays-clause-stage
+returns-in-Stays-clause-stage g c = stay_after c.in-Stays.next Items c.in-Stays.ensures.looks.0 refl
+
+pub returns-in-Ok-clause-stage : goal.returns-in-Ok-clause-stage
+returns-in-Ok-clause-stage g c = rw c.stage_of.ensures (taken_after c.in-Ok.taken c.in-Standing.operators)

@@ -2,7 +2,7 @@ use Rattle.std.proofs.Common.{◌++◌, IsSome, refl, ap, sym, ◌∙◌}
 use Rattle.term_store.specs.NumberedNames.{names_of, term_by}
 use Rattle.world_api.specs.Texts.{text_of}
 use Rattle.first_script.specs.declared.stage.Stage.TheVariants.{Report}
-use Rattle.first_script.proofs.StepLaws.{stayed, quiet_names, quiet_refusals}
+use Rattle.first_script.proofs.StepLaws.{stayed, stay_after, quiet_names, quiet_refusals}
 use Rattle.first_script.proofs.reports.report.Goals as goal
 
 pub returns-in-Stays-clause-moved : goal.returns-in-Stays-clause-moved
@@ -21,3 +21,6 @@ pub returns-in-Standing-clause-refusals : goal.returns-in-Standing-clause-refusa
 returns-in-Standing-clause-refusals g c =
     c.in-Standing.ensures.refusals
     ∙ ap (λ rs. g.W.A.Atoms.refusals c.args.atoms.now ++ rs) (sym (quiet_refusals c.report_under.result.1 c.report_under.ensures.quiet))
+
+pub returns-in-Stays-clause-stage : goal.returns-in-Stays-clause-stage
+returns-in-Stays-clause-stage g c = stay_after c.in-Stays.next (Report c.args.place c.args.how) c.in-Stays.ensures.looks.0 refl

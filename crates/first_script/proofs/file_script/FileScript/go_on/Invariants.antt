@@ -1,0 +1,24 @@
+use Rattle.std.proofs.Common.{◌≡◌, true, false}
+use Rattle.pl_term.specs.Tree.{Chars, Tree}
+use Rattle.world_api.specs.Texts.{Holds}
+use Rattle.world_api.specs.Told.{has_ended}
+use Rattle.first_script.specs.declared.stage.Stage.TheVariants.{Lost}
+use Rattle.first_script.specs.declared.stage.Step.TheVariants.{Goes}
+use Rattle.first_script.specs.Steps.{can_step}
+use Rattle.first_script.specs.FileScripts.{FileMoved}
+use Rattle.first_script.proofs.file_script.FileScript.go_on.Given as goal
+
+abbrev pub invariant-loop : goal.invariant-loop
+invariant-loop g l =
+    record {
+      runs : has_ended (g.W.World.told l.world).engine (g.W.World.told l.world).history ≡ false;
+      holds : Holds (g.W.A.Atoms.held l.initial.atoms) (g.W.A.Atoms.held l.atoms);
+      refusals : g.W.A.Atoms.refusals l.atoms ≡ g.W.A.Atoms.refusals l.initial.atoms;
+      can : can_step l.stage ≡ true;
+      lost : l.self.stage ≡ Lost;
+      file : l.self.consult.name ≡ l.initial.self.consult.name;
+      faults : l.self.faulty ≡ l.initial.self.faulty;
+      moved :
+          (name : Chars)
+          → FileMoved (λ (v : Tree). v) name l.initial.self l.initial.stage (g.W.World.told l.initial.world) l.initial.text.items Goes l.self l.stage (g.W.World.told l.world) l.text.items;
+    }

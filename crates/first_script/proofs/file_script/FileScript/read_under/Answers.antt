@@ -1,0 +1,21 @@
+use Rattle.std.proofs.Common.{◌∷◌, [], map, ap, sym, ◌∙◌}
+use Rattle.pl_model.specs.Execution.{word_read}
+use Rattle.first_script.specs.declared.stage.Stage.TheVariants.{Words}
+use Rattle.first_script.specs.Words.{given_words}
+use Rattle.first_script.proofs.FileLaws.{begun_moved, end_moved, read_failed}
+use Rattle.first_script.proofs.file_script.FileScript.read_under.Goals as goal
+
+pub returns-in-None-clause-moved : goal.returns-in-None-clause-moved
+returns-in-None-clause-moved c name term t u out l =
+    end_moved term name c.args.self.now c.args.operators.now c.args.quotes t u out l c.end.new.self c.end.result.0 c.end.result.1
+    c.in-None.is c.end.ensures.over c.end.ensures.gives c.end.ensures.read
+
+pub returns-in-Ok-clause-moved : goal.returns-in-Ok-clause-moved
+returns-in-Ok-clause-moved c name term t u out l =
+    begun_moved term name c.args.self.now c.args.operators.now c.args.quotes t u out l c.in-Ok.read c.begin.new.self c.begin.result.0 c.begin.result.1
+    (ap (λ o. map (word_read c.args.operators.now c.args.quotes) (given_words o)) c.in-Some.is ∙ ap (λ w. w ∷ []) (sym c.in-Ok.ensures))
+    c.begin.ensures.read c.begin.ensures.begins
+
+pub returns-in-Err-clause-moved : goal.returns-in-Err-clause-moved
+returns-in-Err-clause-moved c name term t u out l =
+    read_failed term name c.args.self.now c.args.operators.now c.args.quotes t u out l c.args.self.now Words

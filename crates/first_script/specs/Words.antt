@@ -1,0 +1,47 @@
+-- Goal words as they were read.
+use Rattle.std.specs.Prelude.{◌≡◌, ◌⊎◌, ℕ, List, [], ◌∷◌, Option, Some, None}
+use Rattle.pl_term.specs.Tree.{Chars}
+use Rattle.pl_model.specs.Execution.{Word, goal_word, faulty_word}
+use Rattle.pl_model.specs.declared.syntax.SyntaxFault.{SyntaxFault}
+use Rattle.world_api.specs.declared.script.Next.TheVariants.{Done, Memory}
+use Rattle.first_script.specs.declared.stage.Stage.{Stage}
+use Rattle.first_script.specs.declared.stage.Stage.TheVariants.{Goal as ToGive, Over}
+use Rattle.first_script.specs.declared.stage.Step.{Step}
+use Rattle.first_script.specs.declared.stage.Step.TheVariants.{Goes, Gives}
+use Rattle.first_script.specs.declared.words.GoalWord.{GoalWord}
+use Rattle.first_script.specs.declared.words.GoalWord.TheVariants.{Goal, Faulty}
+
+abbrev pub word_of : GoalWord → Word
+word_of (Goal t names) = goal_word t names.items
+word_of (Faulty f) = faulty_word f.kind f.at
+
+-- The words that are given of a command with at most one goal.
+abbrev pub given_words : Option Chars → List Chars
+given_words None = []
+given_words (Some w) = w ∷ []
+
+-- The words as they were read: none before.
+abbrev pub words_of : Option GoalWord → List Word
+words_of None = []
+words_of (Some w) = word_of w ∷ []
+
+-- These are the names of the variables of the first goal.
+abbrev pub AreNames : List (Chars × ℕ) → List Word → Type 0
+AreNames names [] = names ≡ []
+AreNames names (goal_word t own ∷ ws) = names ≡ own
+AreNames names (faulty_word kind at ∷ ws) = names ≡ []
+
+-- This is the fault of the only word, or no word has one.
+abbrev pub IsFault : Option SyntaxFault → List Word → Type 0
+IsFault (Some f) ws = ws ≡ faulty_word f.kind f.at ∷ []
+IsFault None [] = Unit {0}
+IsFault None (goal_word t names ∷ []) = Unit {0}
+IsFault None ws = ⊥
+
+-- Behind the reading of a word its goal is to be given, or the script is over; or there was no memory.
+abbrev pub Begun : GoalWord → Stage → Step → Type 0
+Begun (Goal t names) stage step = (stage ≡ ToGive t) × (step ≡ Goes)
+Begun (Faulty f) stage step = (stage ≡ Over) × (step ≡ Gives (Done None))
+
+abbrev pub HasBegun : GoalWord → Stage → Step → Type 0
+HasBegun w stage step = (step ≡ Gives Memory) ⊎ Begun w stage step
