@@ -31,7 +31,7 @@ text_same m (a ∷ []) = or_same (a ∷ []) (m a)
 text_same m (a ∷ (b ∷ bs)) = refl
 
 mutual
-  spelled_same : (m : Names) (t : Tree) → spells (texts_by m) t ≡ spelled (text_of m) t
+  pub spelled_same : (m : Names) (t : Tree) → spells (texts_by m) t ≡ spelled (text_of m) t
   spelled_same m (var x) = refl
   spelled_same m (int i) = refl
   spelled_same m (atom a) = ap atom (text_same m a)

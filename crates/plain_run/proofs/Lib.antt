@@ -1,4 +1,11 @@
 pub mod Answered
+pub mod Closing
+pub mod Completions
+pub mod Endings
 pub mod Outputs
+pub mod Readings
 pub mod Rounds
+pub mod Searching
 pub mod Stopping
+pub mod Taking
+pub mod Turning

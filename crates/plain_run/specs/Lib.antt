@@ -1,2 +1,5 @@
 pub mod Answered
+pub mod Endings
+pub mod Items
+pub mod Ran
 pub mod Searched

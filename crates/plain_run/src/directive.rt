@@ -9,11 +9,12 @@ ghost use Rattle.plain_run.specs.Searched.{IsCarriedOn, IsRefusedOnce, IsSearche
 use crate::searched::{INFERENCES, Searched, stop_after};
 use iso_engine::engine::Engine;
 use pl_term::Memory;
+use term_store::Stored;
 use world_api::World;
 
 /// Runs the search of a directive until it does not go on. What the goal writes is put behind `out`; of its solutions
 /// nothing is (ISO 7.4.2). The only error is want of memory.
-pub fn search_directive<W: World>(
+pub fn search_directive<W: World<Term = Stored>>(
     engine: &mut Engine,
     world: &mut W,
     atoms: &mut W::A,
@@ -39,7 +40,7 @@ pub fn search_directive<W: World>(
 }
 
 /// Runs a slice more, and says why the search does not go on behind it, if it does not. The only error is want of memory.
-fn next_slice<W: World>(
+fn next_slice<W: World<Term = Stored>>(
     engine: &mut Engine,
     world: &mut W,
     atoms: &mut W::A,

@@ -17,13 +17,14 @@ use iso_engine::slices::Slice;
 use pl_report::put_solution;
 use pl_term::{Memory, Text};
 use std::alloc::Global;
+use term_store::Stored;
 use world_api::World;
 use world_builtins::flats_at;
 
 /// Runs the search of a goal until it does not go on. What the goal writes is put behind `out`, and a line for each of its
 /// solutions; `names` has the names of the goal's variables, each with the variable's number. The only error is want of
 /// memory.
-pub fn search_goal<W: World>(
+pub fn search_goal<W: World<Term = Stored>>(
     alloc: Global,
     engine: &mut Engine,
     names: &[(Text, u64)],
@@ -52,7 +53,7 @@ pub fn search_goal<W: World>(
 
 /// Runs a slice more, with the line of its solution, and says why the search does not go on behind it, if it does not. The
 /// only error is want of memory.
-fn next_slice<W: World>(
+fn next_slice<W: World<Term = Stored>>(
     alloc: Global,
     engine: &mut Engine,
     names: &[(Text, u64)],

@@ -1,10 +1,20 @@
-//! The run of one engine: its searches, a slice after the other.
+//! The run of one engine: its searches, a slice after the other, and the items of its script.
 #![tactic(auto)]
 
+mod complete;
 mod directive;
+mod ending;
+mod first_goal;
 mod goal;
+mod items;
+mod ran;
 mod searched;
 
+pub use complete::completes;
 pub use directive::search_directive;
+pub use ending::{ends_how, ends_over, how_at};
+pub use first_goal::run_goal;
 pub use goal::search_goal;
+pub use items::{Items, run_items};
+pub use ran::Ran;
 pub use searched::Searched;

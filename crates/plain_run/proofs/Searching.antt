@@ -1,0 +1,144 @@
+-- A search, from its start to where it does not go on, as a part of an execution.
+use Rattle.std.proofs.Common.{◌≡◌, ℕ, ◌+◌, List, [], Option, refl, sym, ap, ap₂, subst, ◌∙◌, arith}
+use Rattle.pl_term.specs.Tree.{Chars, Tree}
+use Rattle.pl_model.specs.Requests.{Request, Reply}
+use Rattle.pl_model.specs.Resolution.{Limits, Output, State, Next, asks}
+use Rattle.pl_model.specs.Resolution as resolution
+use Rattle.pl_model.specs.Control.{start, step}
+use Rattle.pl_model.specs.Execution.{Job, Execution, move, requests, searched, directed}
+use Rattle.pl_model.specs.Progress.{WaitsNow}
+use Rattle.atom_words.specs.declared.view.Refusal.{Refusal}
+use Rattle.atom_api.specs.Names.{FixedStand, Names}
+use Rattle.term_store.specs.NumberedNames.{by_number, term_by}
+use Rattle.world_api.specs.Texts as worlds
+use Rattle.world_api.specs.Told.{Told}
+use Rattle.world_api.specs.Courses.{Course, Part, of_goal, of_directive, limits_of, seen_in, with_search}
+use Rattle.world_api.specs.Scripts.{Comes}
+use Rattle.iso_search.specs.declared.search.Budgets.{Budgets}
+use Rattle.iso_search.specs.Reading.{IsView, View}
+use Rattle.iso_search.specs.Spelling.{spelled, text_of}
+use Rattle.iso_engine.specs.declared.engine.Engine.{Engine}
+use Rattle.iso_engine.specs.Later.{view_of}
+use Rattle.iso_engine.specs.Slices.{IsWaitingNow}
+use Rattle.iso_engine.specs.Standing.{state_now}
+use Rattle.iso_engine.specs.Standing as engines
+use Rattle.iso_engine.specs.Starting.{IsFresh}
+use Rattle.plain_run.specs.declared.ran.Ran.{Ran}
+use Rattle.plain_run.specs.declared.ran.Ran.TheVariants as ran
+use Rattle.plain_run.specs.declared.searched.Searched.{Searched}
+use Rattle.plain_run.specs.declared.searched.Searched.TheVariants.{Ended, Waits, NeedsAtoms, Worn, Missing}
+use Rattle.plain_run.specs.Ran.{HasBudgets, HasSearched, IsRanBy, StandsSo, at_start_of, ran_refusals}
+use Rattle.plain_run.specs.Searched.{IsRefusedOnce, IsSearched, Stands, last_refusals}
+use Rattle.plain_run.proofs.Readings.{read_over}
+
+-- A step that asks is a move that asks.
+asks_in : (job : Job) (part : Part) (x : Execution) (s : State) (q : Request) (next : Reply → State) → step (limits_of job part) s ≡ asks q next
+    → (k : Reply → Execution) × (move job (with_search x part s) ≡ requests q k)
+unfolding move
+asks_in job of_goal x s q next is = (λ r. with_search x of_goal (next r), ap (searched (with_search x of_goal s) s) is)
+asks_in job (of_directive place rest) x s q next is =
+    (λ r. with_search x (of_directive place rest) (next r), ap (directed (with_search x (of_directive place rest) s) place rest s) is)
+
+module _ (budgets : Budgets) (wanted : ℕ) (e : Engine) (fresh : IsFresh budgets wanted e) where
+  abbrev with_limits : ℕ → ℕ → ℕ → ℕ → Option Chars → Limits
+  with_limits i c h s y = let l : Limits = record { inferences = i; cells = c; choices = h; solutions = s; stays = y } in l
+
+  by_parts : (i c h s j d k w : ℕ) (y : Option Chars) → i ≡ j → c ≡ d → h ≡ k → s ≡ w → with_limits i c h s y ≡ with_limits j d k w y
+  by_parts i c h s j d k w y p q r z =
+      ap (λ a. with_limits a c h s y) p ∙ ap (λ a. with_limits j a h s y) q ∙ ap (λ a. with_limits j d a s y) r ∙ ap (λ a. with_limits j d k a y) z
+
+  -- The limits of the engine are those of the part.
+  limits_same : (job : Job) (part : Part) → HasBudgets budgets job.limits → (limits_of job part).solutions ≡ wanted
+      → limits_of job part ≡ engines.limits_of job.limits.stays e
+  limits_same job of_goal has wants =
+      by_parts _ _ _ _ _ _ _ _ job.limits.stays
+      (has.inferences ∙ ap (λ (b : Budgets). b.inferences) (sym fresh.budgets_are))
+      (has.cells ∙ ap (λ (b : Budgets). b.cells) (sym fresh.budgets_are))
+      (has.choices ∙ ap (λ (b : Budgets). b.choices) (sym fresh.budgets_are))
+      (wants ∙ sym fresh.wants)
+  limits_same job (of_directive place rest) has wants =
+      by_parts _ _ _ _ _ _ _ _ job.limits.stays
+      (has.inferences ∙ ap (λ (b : Budgets). b.inferences) (sym fresh.budgets_are))
+      (has.cells ∙ ap (λ (b : Budgets). b.cells) (sym fresh.budgets_are))
+      (has.choices ∙ ap (λ (b : Budgets). b.choices) (sym fresh.budgets_are))
+      (wants ∙ sym fresh.wants)
+
+  module _ (put : Chars → List Output → Chars) (m n : Names) (t u : Told) (f : Engine) (goal : Tree) (a b : List ℕ) (s : Searched)
+      (stand : FixedStand m) (over : by_number goal ≡ goal) (view : IsView (view_of m t))
+      (starts : (v : View) (stays : Option Chars) → IsView v → state_now v e [] ≡ start (engines.limits_of stays e) (spelled (text_of v.names) goal))
+      (came : IsSearched put m t e n u f a b s) where
+    abbrev there : State
+    there = state_now (view_of n u) f came.ran.written
+
+    start_same : (job : Job) (part : Part) → limits_of job part ≡ engines.limits_of job.limits.stays e
+        → state_now (view_of m t) e [] ≡ start (limits_of job part) (term_by (worlds.text_of m) goal)
+    start_same job part same =
+        starts (view_of m t) job.limits.stays view
+        ∙ ap₂ start (sym same) (sym (read_over m stand goal over))
+
+    comes_there : (job : Job) (part : Part) (x : Execution) → HasBudgets budgets job.limits → (limits_of job part).solutions ≡ wanted
+        → Comes job (at_start_of job part m goal x) t (with_search x part there) u
+    comes_there job part x has wants =
+        let same : limits_of job part ≡ engines.limits_of job.limits.stays e = limits_same job part has wants
+        in let c : Course (engines.limits_of job.limits.stays e) (state_now (view_of m t) e []) t came.ran.steps there u =
+        came.ran.advances.course job.limits.stays [] (sym fresh.gave)
+        in subst (λ (z : State). Comes job (with_search x part z) t (with_search x part there) u) (start_same job part same)
+        (record { engine = c.engine; goals = c.goals; moves = came.ran.steps; comes = c.comes job x part same })
+
+    given_there : resolution.solution_count came.ran.written ≡ f.given
+    given_there =
+        sym (came.ran.advances.given
+        ∙ ap (λ k. k + resolution.solution_count came.ran.written) fresh.gave
+        ∙ (let q : 0 + resolution.solution_count came.ran.written ≡ resolution.solution_count came.ran.written = omega arith in q))
+
+    waits_there : (g : ℕ) → IsWaitingNow n u f g → (job : Job) (part : Part) (x : Execution) → HasBudgets budgets job.limits
+        → (limits_of job part).solutions ≡ wanted → WaitsNow u.engine u.goals job (seen_in u (with_search x part there))
+    waits_there g w job part x has wants =
+        let same : limits_of job part ≡ engines.limits_of job.limits.stays f =
+        limits_same job part has wants ∙ sym (came.ran.advances.limits job.limits.stays)
+        in let k = asks_in job part x there w.request (w.asking.follows job.limits.stays came.ran.written given_there)
+        (ap (λ (l : Limits). step l there) same ∙ w.asking.asks_is job.limits.stays came.ran.written given_there)
+        in record { request = w.request; next = k.0; asks_is = k.1; served = w.waiting }
+
+    stands_there : (q : Searched) (r : Ran) → Stands n u f q → IsRanBy n f q r → StandsSo budgets wanted n u there r
+    stands_there Ended (ran.Ended how) h is = is u came.ran.written
+    stands_there Ended (ran.Waits on) h is = absurd is
+    stands_there Ended (ran.NeedsAtoms p) h is = absurd is
+    stands_there Ended (ran.Worn w) h is = absurd is
+    stands_there Ended (ran.Missing p) h is = absurd is
+    stands_there (Waits on) r h is = subst (λ k. StandsSo budgets wanted n u there k) (sym is) (waits_there h.0 h.1)
+    stands_there (NeedsAtoms p) r h is = subst (λ k. StandsSo budgets wanted n u there k) (sym is) tt
+    stands_there (Worn w) r h is = subst (λ k. StandsSo budgets wanted n u there k) (sym is) tt
+    stands_there (Missing p) r h is =
+        subst (λ k. StandsSo budgets wanted n u there k) (sym is)
+        (λ part x. record { at = x; part = part; engine = f; written = came.ran.written; is = refl; missing = h }, h)
+
+    pub has_searched : (r : Ran) → IsRanBy n f s r → HasSearched put budgets wanted m t goal a n u b r
+    has_searched r is = record { state = there; comes = comes_there; out = came.ran.out; stands = stands_there s r came.stands is }
+
+-- The refusals of the search are those that are told.
+pub same_refusals : (m : Names) (e : Engine) (s : Searched) (r : Ran) → IsRanBy m e s r → ran_refusals r ≡ last_refusals s
+same_refusals m e Ended (ran.Ended how) is = refl
+same_refusals m e Ended (ran.Waits on) is = absurd is
+same_refusals m e Ended (ran.NeedsAtoms p) is = absurd is
+same_refusals m e Ended (ran.Worn w) is = absurd is
+same_refusals m e Ended (ran.Missing p) is = absurd is
+same_refusals m e (Waits on) r is = ap ran_refusals is
+same_refusals m e (NeedsAtoms p) r is = ap ran_refusals is
+same_refusals m e (Worn w) r is = ap ran_refusals is
+same_refusals m e (Missing p) r is = ap ran_refusals is
+
+-- It stays so where the atoms hold the same.
+pub searched_after : (put : Chars → List Output → Chars) (budgets : Budgets) (wanted : ℕ) (m n k : Names) (t u : Told) (goal : Tree) (a b : List ℕ) (r : Ran)
+    → k ≡ n → HasSearched put budgets wanted m t goal a n u b r → HasSearched put budgets wanted m t goal a k u b r
+searched_after put budgets wanted m n k t u goal a b r same h =
+    subst (λ (j : Names). HasSearched put budgets wanted m t goal a j u b r) (sym same) h
+
+pub refused_after : (xs ys zs : List Refusal) (m : Names) (e : Engine) (s : Searched) (r : Ran) → IsRefusedOnce xs ys (last_refusals s) → zs ≡ ys → IsRanBy m e s r
+    → IsRefusedOnce xs zs (ran_refusals r)
+refused_after xs ys zs m e s r h same is =
+    subst (λ (ws : List Refusal). IsRefusedOnce xs ws (ran_refusals r)) (sym same)
+    (subst (λ (ls : List Refusal). IsRefusedOnce xs ys ls) (sym (same_refusals m e s r is)) h)
+
+pub holds_after : (m n k : Names) → worlds.Holds m n → k ≡ n → worlds.Holds m k
+holds_after m n k h same = subst (λ (j : Names). worlds.Holds m j) (sym same) h

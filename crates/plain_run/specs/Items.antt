@@ -1,0 +1,179 @@
+-- The items of a script, run one after the other.
+use Rattle.std.specs.Prelude.{◌≡◌, ℕ, List, [], ◌∷◌, Bool, true, false, Option, Some, None, encode_utf8_all}
+use Rattle.pl_term.specs.Tree.{Chars, Tree}
+use Rattle.pl_model.specs.Resolution.{Ending, Output, State}
+use Rattle.pl_model.specs.Execution.{Script, Job, Consulted, Execution, over}
+use Rattle.pl_model.specs.Progress.{WaitsNow}
+use Rattle.pl_model.specs.Report.{all_consulted, output_of, with_output}
+use Rattle.atom_words.specs.declared.view.Refusal.{Refusal}
+use Rattle.atom_words.specs.declared.view.Refusal.TheVariants.{Full as RefusalFull, Worn as RefusalWorn}
+use Rattle.atom_api.specs.Names.{Names}
+use Rattle.term_store.specs.NumberedNames.{names_of, term_by}
+use Rattle.world_api.specs.declared.how.How.{How}
+use Rattle.world_api.specs.Texts.{text_of}
+use Rattle.world_api.specs.Told.{Told}
+use Rattle.world_api.specs.Courses.{Part, of_goal, seen_in, with_search}
+use Rattle.world_api.specs.Scripts.{Comes, EndsAs, LeavesOff, StandsBefore, is_directive, some_fault, written_at}
+use Rattle.iso_search.specs.declared.search.Budgets.{Budgets}
+use Rattle.iso_engine.specs.Missing.{IsUnbuiltDoing}
+use Rattle.plain_run.specs.declared.items.Items.{Items}
+use Rattle.plain_run.specs.declared.items.Items.TheVariants.{Goal, Over, Waits, NeedsAtoms, Worn, Missing}
+use Rattle.plain_run.specs.declared.items.Turn.{Turn}
+use Rattle.plain_run.specs.declared.items.Turn.TheVariants.{Goes, Stops}
+use Rattle.plain_run.specs.declared.ran.Ran.{Ran}
+use Rattle.plain_run.specs.declared.ran.Ran.TheVariants as ran
+use Rattle.plain_run.specs.Ran.{HasBudgets, IsMissingIn, StandsSo, at_start_of}
+
+-- The refusal for which the items do not go on.
+abbrev pub items_refusals : Items → List Refusal
+items_refusals (NeedsAtoms p) = RefusalFull p ∷ []
+items_refusals (Worn w) = RefusalWorn w ∷ []
+items_refusals i = []
+
+abbrev pub turn_refusals : Turn → List Refusal
+turn_refusals (Goes how) = []
+turn_refusals (Stops i) = items_refusals i
+
+-- The atoms of the goal.
+abbrev pub items_names : Items → List ℕ
+items_names (Goal t) = names_of t
+items_names i = []
+
+abbrev pub turn_names : Turn → List ℕ
+turn_names (Goes how) = []
+turn_names (Stops i) = items_names i
+
+abbrev pub is_over : Items → Bool
+is_over (Over h) = true
+is_over i = false
+
+abbrev pub is_over_by : Turn → Bool
+is_over_by (Goes how) = false
+is_over_by (Stops i) = is_over i
+
+-- The goal that was given is the item at hand.
+abbrev pub IsGoalAtHand : Items → Option Part → Type 0
+IsGoalAtHand (Goal t) o = o ≡ Some of_goal
+IsGoalAtHand i o = Unit {0}
+
+-- A directive at hand has ended, or there is none.
+abbrev pub IsDirectiveAsked : Option Part → Option (How Tree) → Type 0
+IsDirectiveAsked None None = Unit {0}
+IsDirectiveAsked (Some p) (Some how) = is_directive p ≡ true
+IsDirectiveAsked o how = ⊥
+
+abbrev pub IsTurnAtHand : Turn → Option Part → Type 0
+IsTurnAtHand (Goes how) o = IsDirectiveAsked o how
+IsTurnAtHand (Stops i) o = IsGoalAtHand i o
+
+-- The text has what is written of the file, and it is told whether a fault is in it.
+abbrev pub IsText : Chars → Bool → Execution → List ℕ → Type 0
+IsText name kept x bytes = (bytes ≡ encode_utf8_all (all_consulted name [] (written_at x))) × (some_fault (written_at x) ≡ kept)
+
+module _ {S : Type 0} (execution : (ℕ → Chars) → S → Job → List Consulted → Execution) where
+  -- The search of the item at hand has come to this state.
+  pub record IsSearchedIn (part : S → Option Part) (n : Names) (s : S) (job : Job) (ds : List Consulted) (y : Execution) : Type 0 where
+    pub item : Part
+    pub state : State
+    pub at_hand : part s ≡ Some item
+    pub is : y ≡ with_search (execution (text_of n) s job ds) item state
+
+  -- Where the items do not go on: the goal's search is at its start; or the engine has ended, solved or by halt/1; or its
+  -- next request waits; or its next step is of a predicate that is not built.
+  abbrev pub StandsAs : (S → Option Part) → Names → Told → S → Job → List Consulted → Items → Execution → Type 0
+  StandsAs part n u s job ds (Goal t) y = y ≡ at_start_of job of_goal n t (execution (text_of n) s job ds)
+  StandsAs part n u s job ds (Over h) y =
+      (ending : Ending) × (os : List Output)
+      × LeavesOff h None None ending os
+      × (y ≡ record (execution (text_of n) s job ds) { activity = over ending; output = os })
+  StandsAs part n u s job ds (Waits on) y = IsSearchedIn part n s job ds y × WaitsNow u.engine u.goals job (seen_in u y)
+  StandsAs part n u s job ds (NeedsAtoms p) y = Unit {0}
+  StandsAs part n u s job ds (Worn w) y = Unit {0}
+  StandsAs part n u s job ds (Missing p) y = (h : IsSearchedIn part n s job ds y) × IsMissingIn n u y × IsUnbuiltDoing h.state.doing
+
+  -- Where the goal's search does not go on: the engine has ended so.
+  abbrev pub GoalStandsAs : (S → Option Part) → Names → Told → S → Job → List Consulted → Ran → Execution → Type 0
+  GoalStandsAs part n u s job ds (ran.Ended how) y =
+      (ending : Ending) × (os : List Output)
+      × EndsAs how ending
+      × (y ≡ record (execution (text_of n) s job ds) { activity = over ending; output = os })
+  GoalStandsAs part n u s job ds (ran.Waits on) y = IsSearchedIn part n s job ds y × WaitsNow u.engine u.goals job (seen_in u y)
+  GoalStandsAs part n u s job ds (ran.NeedsAtoms p) y = Unit {0}
+  GoalStandsAs part n u s job ds (ran.Worn w) y = Unit {0}
+  GoalStandsAs part n u s job ds (ran.Missing p) y = (h : IsSearchedIn part n s job ds y) × IsMissingIn n u y × IsUnbuiltDoing h.state.doing
+
+  module _ (part : S → Option Part) (plays : (ℕ → Chars) → S → Script → Type 0) (kept : S → Bool) (name : Chars) (budgets : Budgets) where
+    -- Whatever execution of this script it is, it comes from where no item is at hand to where the items do not go on, and
+    -- the text of the file with it.
+    abbrev pub HasRunItems : Names → Told → S → List ℕ → Items → Names → Told → S → List ℕ → Type 0
+    HasRunItems m t old bytes items n u new more =
+        (job : Job) (cs : List Consulted) (x : Execution)
+        → HasBudgets budgets job.limits
+        → plays (text_of m) old job.script
+        → x ≡ execution (text_of m) old job cs
+        → IsText name (kept old) x bytes
+        → (ds : List Consulted) × (y : Execution)
+        × Comes job x t y u
+        × StandsAs part n u new job ds items y
+        × plays (text_of n) new job.script
+        × IsText name (kept new) y more
+
+    -- And from the start of the goal's search to its end, or to where it does not go on. What the goal has given stands
+    -- behind what was there, with a line for each solution.
+    abbrev pub HasRunGoal : List (Chars × ℕ) → ℕ → Tree → Names → Told → S → List ℕ → List ℕ → Ran → Names → Told → S → List ℕ → List ℕ → Type 0
+    HasRunGoal names wanted goal m t old bytes old_out ran n u new more new_out =
+        (job : Job) (cs : List Consulted) (x : Execution)
+        → HasBudgets budgets job.limits
+        → job.limits.solutions ≡ wanted
+        → plays (text_of m) old job.script
+        → x ≡ at_start_of job of_goal m goal (execution (text_of m) old job cs)
+        → IsText name (kept old) x bytes
+        → (ds : List Consulted) × (y : Execution)
+        × Comes job x t y u
+        × GoalStandsAs part n u new job ds ran y
+        × plays (text_of n) new job.script
+        × IsText name (kept new) y more
+        × ((before : Chars) → old_out ≡ encode_utf8_all before → new_out ≡ encode_utf8_all (with_output names before (output_of y)))
+
+    -- What follows the search of the goal: the script is told how it has ended, or nothing is done.
+    abbrev pub HasClosed : ℕ → Names → Told → S → List ℕ → Ran → Names → Told → S → List ℕ → Type 0
+    HasClosed wanted m t old bytes ran n u new more =
+        (job : Job) (cs : List Consulted) (s : State)
+        → HasBudgets budgets job.limits
+        → job.limits.solutions ≡ wanted
+        → plays (text_of m) old job.script
+        → StandsSo budgets wanted m t s ran
+        → IsText name (kept old) (with_search (execution (text_of m) old job cs) of_goal s) bytes
+        → (ds : List Consulted) × (y : Execution)
+        × Comes job (with_search (execution (text_of m) old job cs) of_goal s) t y u
+        × GoalStandsAs part n u new job ds ran y
+        × plays (text_of n) new job.script
+        × IsText name (kept new) y more
+        × (output_of y ≡ s.output)
+
+    -- The execution as the next item is asked for, or where the items do not go on.
+    abbrev pub TurnStands : Names → Told → S → Job → List Consulted → Turn → Execution → Type 0
+    TurnStands n u s job ds (Goes how) y =
+        (searched : Option State) × StandsBefore execution part term_by (text_of n) s job (part s) how searched ds y
+    TurnStands n u s job ds (Stops i) y = StandsAs part n u s job ds i y
+
+    abbrev pub HasTurned : Names → Told → S → Option (How Tree) → List ℕ → Turn → Names → Told → S → List ℕ → Type 0
+    HasTurned m t old how bytes turn n u new more =
+        (job : Job) (cs : List Consulted) (searched : Option State) (x : Execution)
+        → HasBudgets budgets job.limits
+        → plays (text_of m) old job.script
+        → StandsBefore execution part term_by (text_of m) old job (part old) how searched cs x
+        → IsText name (kept old) x bytes
+        → (ds : List Consulted) × (y : Execution)
+        × Comes job x t y u
+        × TurnStands n u new job ds turn y
+        × plays (text_of n) new job.script
+        × IsText name (kept new) y more
+
+-- What comes of the search of a directive.
+abbrev pub IsTurnBy : Ran → Turn → Type 0
+IsTurnBy (ran.Ended how) r = r ≡ Goes (Some how)
+IsTurnBy (ran.Waits on) r = r ≡ Stops (Waits on)
+IsTurnBy (ran.NeedsAtoms p) r = r ≡ Stops (NeedsAtoms p)
+IsTurnBy (ran.Worn w) r = r ≡ Stops (Worn w)
+IsTurnBy (ran.Missing p) r = r ≡ Stops (Missing p)

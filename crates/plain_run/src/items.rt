@@ -1,0 +1,132 @@
+//! The items of a script, run one after the other.
+ghost use Rattle.std.specs.Prelude.{◌≡◌, ◌++◌, false, IfOk, IsSome, None};
+ghost use Rattle.std.specs.List.{All};
+ghost use Rattle.world_api.specs.Texts.{Holds};
+ghost use Rattle.world_api.specs.Told.{has_ended};
+ghost use Rattle.plain_run.specs.Items.{HasRunItems, HasTurned, IsDirectiveAsked, IsGoalAtHand, IsTurnAtHand, IsTurnBy, is_over, is_over_by, items_names, items_refusals, turn_names, turn_refusals};
+ghost use Rattle.plain_run.specs.Searched.{IsRefusedOnce};
+
+use crate::ran::{Ran, directive_ran};
+use iso_search::search::Budgets;
+use pl_term::{Flat, Memory};
+use std::alloc::Global;
+use term_store::Stored;
+use world_api::{How, Next, On, Pass, Procedure, Script, World, WornWord};
+
+/// Why the items of a script do not go on.
+#[derive(Drop)]
+pub enum Items {
+    /// The next item is this goal, whose search has not begun.
+    Goal(Stored),
+    /// There is no further item, and no goal was one. It is said with which status a directive has halted, if one has.
+    Over { halted: Option<u8> },
+    /// The next request of a directive has no reply as the shared state stands.
+    Waits(On),
+    /// An atom has no place, as that pass over all slots shows.
+    NeedsAtoms(Pass),
+    /// An atom is one of a bucket that takes no new atom.
+    Worn(WornWord),
+    /// The next goal of a directive is of a predicate that is not built yet.
+    Missing(Procedure),
+}
+
+/// What comes of a call for the next item.
+#[derive(Drop)]
+pub(crate) enum Turn {
+    /// The next one is to be asked for, where a directive has ended so, or none is at hand.
+    Goes(Option<How<Flat>>),
+    /// The items do not go on.
+    Stops(Items),
+}
+
+/// Runs the directives of a script, which has no item at hand, until its next item is a goal, or there is none, or
+/// something stops it. What is written of the file is put behind `text`. The budgets are those of each search. The only
+/// error is want of memory.
+pub fn run_items<S: Script<Term = Stored>, W: World<Term = Stored>>(
+    alloc: Global,
+    script: &mut S,
+    budgets: Budgets,
+    world: &mut W,
+    atoms: &mut W::A,
+    text: &mut Vec<u8>,
+) -> Result<Items, Memory>
+    requires runs { has_ended (W.told world.old).engine (W.told world.old).history ≡ false }
+    requires none { S.part script.old ≡ None }
+    requires goes_on { S.over script.old ≡ false }
+    requires held { All (λ a. IsSome (W.A.held atoms.old a)) (S.names script.old) }
+    ensures items { IfOk result (λ i. HasRunItems S.execution S.part S.plays S.kept (S.name script.old) budgets (W.A.held atoms.old) (W.told world.old) script.old text.old.items i
+        (W.A.held atoms.new) (W.told world.new) script.new text.new.items) }
+    ensures at_hand { IfOk result (λ i. IsGoalAtHand i (S.part script.new)) }
+    ensures over { IfOk result (λ i. S.over script.new ≡ is_over i) }
+    ensures named { IfOk result (λ i. S.name script.new ≡ S.name script.old) }
+    ensures held { IfOk result (λ i. All (λ a. IsSome (W.A.held atoms.new a)) (S.names script.new ++ items_names i)) }
+    ensures runs { has_ended (W.told world.new).engine (W.told world.new).history ≡ false }
+    ensures holds { Holds (W.A.held atoms.old) (W.A.held atoms.new) }
+    ensures refusals { IfOk result (λ i. IsRefusedOnce (W.A.refusals atoms.old) (W.A.refusals atoms.new) (items_refusals i)) }
+{
+    let mut ended = None;
+    for _ in 0..u64::MAX {
+        let next = next_turn(alloc, script, ended, budgets, world, atoms, text)?;
+        match next {
+            Turn::Goes(how) => ended = how,
+            Turn::Stops(items) => return Ok(items),
+        }
+    }
+    Err(Memory)
+}
+
+/// Asks a script for its next item, where a directive has ended so or none is at hand, and runs it if it is a directive.
+/// The only error is want of memory.
+fn next_turn<S: Script<Term = Stored>, W: World<Term = Stored>>(
+    alloc: Global,
+    script: &mut S,
+    ended: Option<How<Flat>>,
+    budgets: Budgets,
+    world: &mut W,
+    atoms: &mut W::A,
+    text: &mut Vec<u8>,
+) -> Result<Turn, Memory>
+    requires runs { has_ended (W.told world.old).engine (W.told world.old).history ≡ false }
+    requires asked { IsDirectiveAsked (S.part script.old) ended }
+    requires goes_on { S.over script.old ≡ false }
+    requires held { All (λ a. IsSome (W.A.held atoms.old a)) (S.names script.old) }
+    ensures turned { IfOk result (λ r. HasTurned S.execution S.part S.plays S.kept (S.name script.old) budgets (W.A.held atoms.old) (W.told world.old) script.old ended text.old.items r
+        (W.A.held atoms.new) (W.told world.new) script.new text.new.items) }
+    ensures at_hand { IfOk result (λ r. IsTurnAtHand r (S.part script.new)) }
+    ensures over { IfOk result (λ r. S.over script.new ≡ is_over_by r) }
+    ensures named { IfOk result (λ r. S.name script.new ≡ S.name script.old) }
+    ensures held { IfOk result (λ r. All (λ a. IsSome (W.A.held atoms.new a)) (S.names script.new ++ turn_names r)) }
+    ensures runs { has_ended (W.told world.new).engine (W.told world.new).history ≡ false }
+    ensures holds { Holds (W.A.held atoms.old) (W.A.held atoms.new) }
+    ensures refusals { IfOk result (λ r. IsRefusedOnce (W.A.refusals atoms.old) (W.A.refusals atoms.new) (turn_refusals r)) }
+{
+    let next = script.next(ended.as_ref(), world, atoms, text);
+    match next {
+        Next::Item { goal, directive } => {
+            if directive {
+                let ran = directive_ran(alloc, &goal, budgets, world, atoms, text)?;
+                Ok(turn_by(ran))
+            } else {
+                Ok(Turn::Stops(Items::Goal(goal)))
+            }
+        }
+        Next::Done { halted } => Ok(Turn::Stops(Items::Over { halted })),
+        Next::NeedsAtoms(pass) => Ok(Turn::Stops(Items::NeedsAtoms(pass))),
+        Next::Retry(_cause) => Ok(Turn::Goes(None)),
+        Next::Worn(word) => Ok(Turn::Stops(Items::Worn(word))),
+        Next::Memory => Err(Memory),
+    }
+}
+
+/// What comes of the search of a directive.
+fn turn_by(ran: Ran) -> Turn
+    ensures { IsTurnBy ran result }
+{
+    match ran {
+        Ran::Ended(how) => Turn::Goes(Some(how)),
+        Ran::Waits(on) => Turn::Stops(Items::Waits(on)),
+        Ran::NeedsAtoms(pass) => Turn::Stops(Items::NeedsAtoms(pass)),
+        Ran::Worn(word) => Turn::Stops(Items::Worn(word)),
+        Ran::Missing(procedure) => Turn::Stops(Items::Missing(procedure)),
+    }
+}

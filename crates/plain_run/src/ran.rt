@@ -1,0 +1,114 @@
+//! A search from its start to where it does not go on.
+ghost use Rattle.std.specs.Prelude.{◌≡◌, false, IfOk, IsSome};
+ghost use Rattle.std.specs.List.{All};
+ghost use Rattle.pl_model.specs.Report.{texts, with_output};
+ghost use Rattle.term_store.specs.NumberedNames.{names_of};
+ghost use Rattle.world_api.specs.Texts.{Holds};
+ghost use Rattle.world_api.specs.Told.{Told, has_ended};
+ghost use Rattle.iso_engine.specs.Ready.{IsReady};
+ghost use Rattle.plain_run.specs.Ran.{HasSearched, IsEndedOr, IsRanBy, ran_refusals};
+ghost use Rattle.plain_run.specs.Searched.{IsRefusedOnce, Stands};
+
+use crate::directive::search_directive;
+use crate::ending::how_at;
+use crate::goal::search_goal;
+use crate::searched::Searched;
+use atom_api::Atoms;
+use iso_engine::engine::Engine;
+use iso_search::search::Budgets;
+use pl_term::{Flat, Memory, Text};
+use std::alloc::Global;
+use term_store::Stored;
+use world_api::{How, On, Pass, Procedure, World, WornWord};
+
+/// How a search has ended, or why it does not go on.
+#[derive(Drop)]
+pub enum Ran {
+    /// It has ended so.
+    Ended(How<Flat>),
+    /// Its next request has no reply as the shared state stands.
+    Waits(On),
+    /// An atom has no place, as that pass over all slots shows.
+    NeedsAtoms(Pass),
+    /// An atom is one of a bucket that takes no new atom.
+    Worn(WornWord),
+    /// The next goal is of a predicate that is not built yet.
+    Missing(Procedure),
+}
+
+/// Searches for one solution of a directive's goal. What the goal writes is put behind `out`. The only error is want of
+/// memory.
+pub(crate) fn directive_ran<W: World<Term = Stored>>(
+    alloc: Global,
+    goal: &Stored,
+    budgets: Budgets,
+    world: &mut W,
+    atoms: &mut W::A,
+    out: &mut Vec<u8>,
+) -> Result<Ran, Memory>
+    requires runs { has_ended (W.told world.old).engine (W.told world.old).history ≡ false }
+    requires held { All (λ a. IsSome (W.A.held atoms.old a)) (names_of goal.now) }
+    ensures runs { has_ended (W.told world.new).engine (W.told world.new).history ≡ false }
+    ensures holds { Holds (W.A.held atoms.old) (W.A.held atoms.new) }
+    ensures refusals { IfOk result (λ r. IsRefusedOnce (W.A.refusals atoms.old) (W.A.refusals atoms.new) (ran_refusals r)) }
+    ensures told { IfOk result IsEndedOr }
+    ensures searched { IfOk result (HasSearched texts budgets 1 (W.A.held atoms.old) (W.told world.old) goal.now out.old.items
+        (W.A.held atoms.new) (W.told world.new) out.new.items) }
+{
+    let _nodes = goal.nodes();
+    let mut engine = Engine::new(alloc, goal, budgets, 1)?;
+    let searched = search_directive(&mut engine, world, atoms, out)?;
+    ran_by(alloc, &engine, searched, atoms)
+}
+
+/// Searches for so many solutions of a goal. What the goal writes is put behind `out`, and a line for each solution. The
+/// only error is want of memory.
+pub(crate) fn goal_ran<W: World<Term = Stored>>(
+    alloc: Global,
+    goal: &Stored,
+    names: &[(Text, u64)],
+    budgets: Budgets,
+    wanted: u64,
+    world: &mut W,
+    atoms: &mut W::A,
+    out: &mut Vec<u8>,
+) -> Result<Ran, Memory>
+    requires runs { has_ended (W.told world.old).engine (W.told world.old).history ≡ false }
+    requires held { All (λ a. IsSome (W.A.held atoms.old a)) (names_of goal.now) }
+    ensures runs { has_ended (W.told world.new).engine (W.told world.new).history ≡ false }
+    ensures holds { Holds (W.A.held atoms.old) (W.A.held atoms.new) }
+    ensures refusals { IfOk result (λ r. IsRefusedOnce (W.A.refusals atoms.old) (W.A.refusals atoms.new) (ran_refusals r)) }
+    ensures told { IfOk result IsEndedOr }
+    ensures searched { IfOk result (HasSearched (with_output names.now) budgets wanted (W.A.held atoms.old) (W.told world.old) goal.now out.old.items
+        (W.A.held atoms.new) (W.told world.new) out.new.items) }
+{
+    let _nodes = goal.nodes();
+    let mut engine = Engine::new(alloc, goal, budgets, wanted)?;
+    let searched = search_goal(alloc, &mut engine, names, world, atoms, out)?;
+    ran_by(alloc, &engine, searched, atoms)
+}
+
+/// How the search of an engine has ended, or why it does not go on. The only error is want of memory.
+fn ran_by<A: Atoms>(
+    alloc: Global,
+    engine: &Engine,
+    searched: Searched,
+    atoms: &mut A,
+) -> Result<Ran, Memory>
+    requires stands { (t : Told) × IsReady (A.held atoms.old) t engine.now × Stands (A.held atoms.old) t engine.now searched }
+    ensures ran { IfOk result (IsRanBy (A.held atoms.old) engine.now searched) }
+    ensures told { IfOk result IsEndedOr }
+    ensures same { A.held atoms.new ≡ A.held atoms.old }
+    ensures refusals { A.refusals atoms.new ≡ A.refusals atoms.old }
+{
+    match searched {
+        Searched::Ended => {
+            let how = how_at(alloc, engine, atoms)?;
+            Ok(Ran::Ended(how))
+        }
+        Searched::Waits(on) => Ok(Ran::Waits(on)),
+        Searched::NeedsAtoms(pass) => Ok(Ran::NeedsAtoms(pass)),
+        Searched::Worn(word) => Ok(Ran::Worn(word)),
+        Searched::Missing(procedure) => Ok(Ran::Missing(procedure)),
+    }
+}
