@@ -1,36 +1,35 @@
 -- What the program's top call promises.
-use Rattle.std.specs.Prelude.{◌≡◌, ◌<◌, ◌++◌, ◌⊎◌, ℕ, List, length, take, Option, Some, None, option_map}
+use Rattle.std.specs.Prelude.{◌≡◌, ◌<◌, ◌++◌, ◌⊎◌, ℕ, List, length, take, Option, Some, None}
 use Rattle.std.specs.Str.{encode_utf8_all}
 use Rattle.pl_term.specs.Tree.{Chars}
-use Rattle.pl_model.specs.declared.ends.End.{End}
-use Rattle.pl_model.specs.declared.ends.End.TheVariants.{Done, GoalFailed, Usage, Memory, ReadFault, WriteFault}
-use Rattle.pl_model.specs.Program.{Command, unread_line}
-use Rattle.pl_model.specs.Complete.{Told, IsComplete}
-use Rattle.pl_model.specs.Transcript.{ends, end_of, transcript}
-use Rattle.toplevel.specs.Shared.{told}
+use Rattle.pl_model.specs.Lawful.{IsComplete, Program}
+use Rattle.pl_model.specs.Report.{AreFinal, Finals, transcript}
+use Rattle.pl_command.specs.declared.ends.End.{End}
+use Rattle.pl_command.specs.declared.ends.End.TheVariants.{Done, GoalFailed, Usage, Waiting, Memory, ReadFault, WriteFault, Halted, Unbuilt}
+use Rattle.pl_command.specs.CommandLine.{Command, program_of, unread_line}
+use Rattle.pl_command.specs.Ends.{end_of, goal_ends}
+use Rattle.toplevel.specs.Outcomes.{told_by}
+use Rattle.toplevel.specs.Unbuilt.{IsStuck, unbuilt_line}
+use Rattle.toplevel.specs.declared.outcome.Front.{Front}
+use Rattle.toplevel.specs.declared.ready.Ready.{Ready}
 use Rattle.toplevel.specs.declared.run.Report.{Report}
-use Rattle.toplevel.specs.declared.run.Ready.{Ready}
 
--- The program ran the goal to its end and wrote the transcript.
+-- The program ran the goal to its end, or until it waited, and wrote the transcript.
 abbrev pub HasRun : End → Type 0
 HasRun Done = Unit {0}
 HasRun GoalFailed = Unit {0}
 HasRun Usage = ⊥
+HasRun Waiting = Unit {0}
 HasRun Memory = ⊥
 HasRun ReadFault = ⊥
 HasRun WriteFault = ⊥
+HasRun (Halted n) = Unit {0}
+HasRun Unbuilt = ⊥
 
 -- These are the bytes of the file, where they are told.
 abbrev pub AreRead : Option (List ℕ) → List ℕ → Type 0
 AreRead None bytes = Unit {0}
 AreRead (Some all) bytes = bytes ≡ all
-
--- What the report says of a run of this command on a file with these bytes: its front is the whole of what the
--- command did, and the ends of the goals are those that it gives.
-pub record IsRun (c : Command) (bytes : List ℕ) (report : Report) (all : Told) : Type 0 where
-  pub front_is : option_map told report.front ≡ Some all
-  pub complete : IsComplete c bytes all
-  pub ends_are : report.ends.items ≡ ends c bytes all
 
 -- The sink held `before`, and holds the text behind it.
 abbrev pub IsWritten : Option (List ℕ) → Option (List ℕ) → List ℕ → Type 0
@@ -45,47 +44,83 @@ IsPartlyWritten old new text =
 abbrev pub IsWrittenUnless : Type 0 → Option (List ℕ) → Option (List ℕ) → List ℕ → Type 0
 IsWrittenUnless rose old new text = IsWritten old new text ⊎ (rose × IsPartlyWritten old new text)
 
+-- The run of a program on a file of this name, as its front tells it with the number of the first engine's moves: the
+-- history is the whole of what the program did, and the engines stand so at its end.
+pub record IsRun (p : Program) (front : Front) : Type 0 where
+  pub moves : ℕ
+  pub finals : Finals
+  pub complete : IsComplete p (told_by front moves)
+  pub final : AreFinal p (told_by front moves) finals
+
+-- The text of the run, which the definitions give.
+abbrev pub text_of : Chars → (p : Program) → (front : Front) → IsRun p front → List ℕ
+text_of name p front run = encode_utf8_all (transcript name p (told_by front run.moves) run.finals)
+
 -- The headline: what was written is the transcript of resolution over the history that the report returns, which is
 -- the whole of what the command did, and the report's ends and its end are those that this history gives.
 pub record Ran (c : Command) (file old new : Option (List ℕ)) (report : Report) : Type 0 where
   pub bytes : List ℕ
   pub read : AreRead file bytes
-  pub all : Told
-  pub run : IsRun c bytes report all
-  pub end_is : report.end ≡ end_of c bytes all
-  pub written : IsWritten old new (encode_utf8_all (transcript c bytes all))
+  pub front : Front
+  pub front_is : report.front ≡ Some front
+  pub run : IsRun (program_of c bytes) front
+  pub ends_are : report.ends.items ≡ goal_ends run.finals
+  pub end_is : report.end ≡ end_of (program_of c bytes) (told_by front run.moves) run.finals
+  pub written : IsWritten old new (text_of c.file (program_of c bytes) front run)
 
 -- A write failed: the run is complete all the same, and a front of its transcript was written.
 pub record RanUnwritten (c : Command) (file old new : Option (List ℕ)) (report : Report) : Type 0 where
   pub bytes : List ℕ
   pub read : AreRead file bytes
-  pub all : Told
-  pub run : IsRun c bytes report all
-  pub written : IsPartlyWritten old new (encode_utf8_all (transcript c bytes all))
+  pub front : Front
+  pub front_is : report.front ≡ Some front
+  pub run : IsRun (program_of c bytes) front
+  pub ends_are : report.ends.items ≡ goal_ends run.finals
+  pub written : IsPartlyWritten old new (text_of c.file (program_of c bytes) front run)
 
 -- What is ready to be written of a run of this command on a file with these bytes.
 pub record IsReady (c : Command) (bytes : List ℕ) (ready : Ready) : Type 0 where
-  pub complete : IsComplete c bytes (told ready.front)
-  pub ends_are : ready.ends.items ≡ ends c bytes (told ready.front)
-  pub end_is : ready.end ≡ end_of c bytes (told ready.front)
-  pub text_is : ready.text.items ≡ encode_utf8_all (transcript c bytes (told ready.front))
+  pub run : IsRun (program_of c bytes) ready.front
+  pub ends_are : ready.ends.items ≡ goal_ends run.finals
+  pub end_is : ready.end ≡ end_of (program_of c bytes) (told_by ready.front run.moves) run.finals
+  pub text_is : ready.text.items ≡ text_of c.file (program_of c bytes) ready.front run
+
+-- A predicate of the system that is not built yet was named.
+pub record IsNamed (write_rose : Type 0) (old new : Option (List ℕ)) (report : Report) : Type 0 where
+  pub none : report.front ≡ None
+  pub name : Chars
+  pub arity : ℕ
+  pub written : IsWrittenUnless write_rose old new (encode_utf8_all (unbuilt_line name arity))
+
+-- The run of the command came to such a predicate, and nothing else was written.
+pub record IsUnbuilt (write_rose : Type 0) (c : Command) (file old new : Option (List ℕ)) (report : Report) : Type 0 where
+  pub named : IsNamed write_rose old new report
+  pub bytes : List ℕ
+  pub read : AreRead file bytes
+  pub stuck : IsStuck (program_of c bytes)
 
 -- What is promised of each end of a command, where `read_rose` and `write_rose` say that the counts of faults rose.
 abbrev pub Promised : Type 0 → Type 0 → Command → Option (List ℕ) → Option (List ℕ) → Option (List ℕ) → Report → End → Type 0
 Promised read_rose write_rose c file old new report Done = Ran c file old new report
 Promised read_rose write_rose c file old new report GoalFailed = Ran c file old new report
 Promised read_rose write_rose c file old new report Usage = ⊥
+Promised read_rose write_rose c file old new report Waiting = Ran c file old new report
 Promised read_rose write_rose c file old new report Memory = (report.front ≡ None) × (new ≡ old)
 Promised read_rose write_rose c file old new report ReadFault =
     (report.front ≡ None) × read_rose × IsWrittenUnless write_rose old new (encode_utf8_all (unread_line c.file))
 Promised read_rose write_rose c file old new report WriteFault = write_rose × RanUnwritten c file old new report
+Promised read_rose write_rose c file old new report (Halted n) = Ran c file old new report
+Promised read_rose write_rose c file old new report Unbuilt = IsUnbuilt write_rose c file old new report
 
 -- What is promised where a read of the file failed.
 abbrev pub GaveUp : Type 0 → Chars → Option (List ℕ) → Option (List ℕ) → Report → End → Type 0
-GaveUp write_rose name old new report Done = ⊥
-GaveUp write_rose name old new report GoalFailed = ⊥
-GaveUp write_rose name old new report Usage = ⊥
-GaveUp write_rose name old new report Memory = (report.front ≡ None) × (new ≡ old)
 GaveUp write_rose name old new report ReadFault =
     (report.front ≡ None) × IsWrittenUnless write_rose old new (encode_utf8_all (unread_line name))
-GaveUp write_rose name old new report WriteFault = ⊥
+GaveUp write_rose name old new report Memory = (report.front ≡ None) × (new ≡ old)
+GaveUp write_rose name old new report end = ⊥
+
+-- What is promised where a goal came to a predicate that is not built yet.
+abbrev pub Missed : Type 0 → Option (List ℕ) → Option (List ℕ) → Report → End → Type 0
+Missed write_rose old new report Unbuilt = IsNamed write_rose old new report
+Missed write_rose old new report Memory = (report.front ≡ None) × (new ≡ old)
+Missed write_rose old new report end = ⊥

@@ -1,26 +1,26 @@
-//! Texts put at the end of a transcript, in UTF-8.
-ghost use Rattle.std.specs.Prelude.{◌≡◌, ◌++◌, List, ℕ, OnOk, IsTrue, decimal};
+//! The lines that are written where no goal is run.
+ghost use Rattle.std.specs.Prelude.{◌≡◌, ◌++◌, List, ℕ, IfOk, OnOk, IsTrue, decimal, encode_utf8_all};
 ghost use Rattle.std.specs.Char.{is_ascii};
 ghost use Rattle.std.specs.List.{list_all};
-ghost use Rattle.pl_model.specs.Program.{newline};
-ghost use Rattle.pl_model.specs.Transcript.{stopped, ends_in_symbol};
-ghost use Rattle.pl_model.specs.Characters.{is_symbol};
-ghost use Rattle.toplevel.specs.Adds.{Adds, IsFull};
+ghost use Rattle.pl_command.specs.CommandLine.{unread_line};
+ghost use Rattle.pl_report.specs.Adds.{Adds};
+ghost use Rattle.toplevel.specs.Unbuilt.{unbuilt_line};
 
 use itoa::Buffer;
 use pl_term::{Memory, Text};
+use std::alloc::Global;
 use std::convert::AsStr;
 
-/// Puts a text. The only error is want of memory.
-pub fn put(out: &mut Vec<u8>, text: &Text) -> Result<(), Memory>
+/// Puts a text.
+fn put(out: &mut Vec<u8>, text: &Text) -> Result<(), Memory>
     ensures { OnOk result (Adds out.old.items out.new.items text.now) }
 {
     out.extend_from_slice(text.as_str().as_bytes())?;
     Ok(())
 }
 
-/// Puts words in ASCII. The only error is want of memory.
-pub fn put_words(out: &mut Vec<u8>, words: &str) -> Result<(), Memory>
+/// Puts words in ASCII.
+fn put_words(out: &mut Vec<u8>, words: &str) -> Result<(), Memory>
     requires { IsTrue (list_all is_ascii words.now) }
     ensures { OnOk result (Adds out.old.items out.new.items words.now) }
 {
@@ -28,8 +28,8 @@ pub fn put_words(out: &mut Vec<u8>, words: &str) -> Result<(), Memory>
     Ok(())
 }
 
-/// Puts a number in decimal. The only error is want of memory.
-pub fn put_number(out: &mut Vec<u8>, n: usize) -> Result<(), Memory>
+/// Puts a number in decimal.
+fn put_number(out: &mut Vec<u8>, n: u64) -> Result<(), Memory>
     ensures { OnOk result (Adds out.old.items out.new.items (decimal n)) }
 {
     let mut digits = Buffer::new();
@@ -37,41 +37,26 @@ pub fn put_number(out: &mut Vec<u8>, n: usize) -> Result<(), Memory>
     Ok(())
 }
 
-/// Ends a line. The only error is want of memory.
-pub fn end_line(out: &mut Vec<u8>) -> Result<(), Memory>
-    ensures { OnOk result (Adds out.old.items out.new.items newline) }
+/// The line for a file that cannot be read. The only error is want of memory.
+pub(crate) fn unread_text(alloc: Global, file: &Text) -> Result<Vec<u8>, Memory>
+    ensures { IfOk result (λ v. v.items ≡ encode_utf8_all (unread_line file.now)) }
 {
-    put_words(out, "\n")
+    let mut line = Vec::new(alloc);
+    put_words(&mut line, "plt: cannot read ")?;
+    put(&mut line, file)?;
+    put_words(&mut line, "\n")?;
+    Ok(line)
 }
 
-/// Puts a full stop behind a text that is not empty, and a space before it where the text ends in a symbol
-/// character. The only error is want of memory.
-pub fn put_stop(out: &mut Vec<u8>) -> Result<(), Memory>
-    ensures { (before : List ℕ) (text : List ℕ) → Adds before out.old.items text → IsFull text
-        → OnOk result (Adds before out.new.items (stopped text)) }
+/// The line for a predicate that is not built yet. The only error is want of memory.
+pub(crate) fn unbuilt_text(alloc: Global, name: &Text, arity: u64) -> Result<Vec<u8>, Memory>
+    ensures { IfOk result (λ v. v.items ≡ encode_utf8_all (unbuilt_line name.now arity)) }
 {
-    if ends_in_symbol(out) {
-        put_words(out, " .")
-    } else {
-        put_words(out, ".")
-    }
-}
-
-/// Whether these bytes end in a symbol character.
-fn ends_in_symbol(bytes: &[u8]) -> bool
-    ensures { (before : List ℕ) (text : List ℕ) → Adds before bytes.now text → IsFull text
-        → result ≡ ends_in_symbol text }
-{
-    if bytes.is_empty() {
-        return false;
-    }
-    is_symbol_byte(bytes[bytes.len() - 1])
-}
-
-const SYMBOLS: [u8; 17] = *b"+-*/\\^<>=~:.?@#&$";
-
-fn is_symbol_byte(b: u8) -> bool
-    ensures { result ≡ is_symbol b }
-{
-    SYMBOLS.iter().any(|d| *d == b)
+    let mut line = Vec::new(alloc);
+    put_words(&mut line, "plt: ")?;
+    put(&mut line, name)?;
+    put_words(&mut line, "/")?;
+    put_number(&mut line, arity)?;
+    put_words(&mut line, " is not built yet\n")?;
+    Ok(line)
 }

@@ -1,34 +1,33 @@
-//! What an engine leaves when it has ended: what the transcript is made from.
-use crate::world::Front;
+//! Where the first engine stands at the end of its run.
+use op_table::OpTable;
 use pl_model::ends::How;
-use pl_model::syntax::{SyntaxFault, SyntaxKind};
-use pl_term::{Flat, Text};
+use pl_model::syntax::SyntaxKind;
+use plain_world::Entry;
 
-/// A fault of the file that is kept.
-#[derive(Debug, Drop)]
-pub enum Kept {
-    /// The file has more bytes than a file may have.
-    TooLarge,
-    /// A syntax fault of this kind, at this byte.
-    Syntax { kind: SyntaxKind, at: usize },
-    /// The ball for which the clause whose first token is at this byte is refused.
-    Refused { at: usize, ball: Flat },
+/// What is told of a run: the updates of the shared state, all of them the first engine's, and the generations of its
+/// requests; and how it ended, or nothing where it waits.
+#[derive(Drop)]
+pub struct Front {
+    pub entries: Vec<Entry>,
+    pub generations: Vec<u64>,
+    pub end: Option<How>,
 }
 
-/// A solution: the terms of the goal's variables that are shown.
-#[derive(Debug, Drop)]
-pub struct Solution {
-    pub answer: Vec<Flat>,
+/// How the word of the goal was read: as a goal, or with a fault of this kind at this byte.
+#[derive(Clone, Copy, Debug, Drop)]
+pub enum Word {
+    Goal,
+    Fault { kind: SyntaxKind, at: u64 },
 }
 
-/// A run that has ended.
-#[derive(Debug, Drop)]
-pub struct Finished {
+/// Where the first engine stands at the end of its run: what is told of the run, the operators behind it, what is written
+/// of the file, what the goal has given, how its word was read, if it was, and whether a fault of the file was kept.
+#[derive(Drop)]
+pub struct Outcome {
     pub front: Front,
-    pub kept: Vec<Kept>,
-    pub names: Vec<Text>,
-    pub solutions: Vec<Solution>,
-    pub word_fault: Option<SyntaxFault>,
-    pub how: How,
-    pub steps: u64,
+    pub operators: OpTable,
+    pub text: Vec<u8>,
+    pub output: Vec<u8>,
+    pub word: Option<Word>,
+    pub faulty: bool,
 }

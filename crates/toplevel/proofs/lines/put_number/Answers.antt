@@ -1,5 +1,5 @@
 use Rattle.std.proofs.Common.{◌++◌, ◌∙◌, ap}
-use Rattle.toplevel.proofs.AddsLemmas.{adds_digits}
+use Rattle.pl_report.proofs.AddsLemmas.{adds_digits}
 use Rattle.toplevel.proofs.lines.put_number.Goals as goal
 
 pub returns : goal.returns

@@ -1,5 +1,5 @@
 use Rattle.std.proofs.Common.{◌++◌, ◌∙◌, ap}
-use Rattle.toplevel.proofs.AddsLemmas.{adds_ascii}
+use Rattle.pl_report.proofs.AddsLemmas.{adds_ascii}
 use Rattle.toplevel.proofs.lines.put_words.Goals as goal
 
 pub returns : goal.returns

@@ -1,5 +1,5 @@
-use Rattle.toplevel.specs.CommandLine.{told_command}
-use Rattle.toplevel.proofs.RunLemmas.{unread}
+use Rattle.pl_command.specs.Told.{told_command}
+use Rattle.toplevel.proofs.RunLemmas.{promised_more, unread}
 use Rattle.toplevel.proofs.run.run_command.Goals as goal
 
 pub returns-in-Err-Failed-clause-promised : goal.returns-in-Err-Failed-clause-promised
@@ -15,3 +15,21 @@ returns-in-Err-Failed-clause-promised g c =
     c.give_up.result.end
     (c.in-Err-Failed.ensures.failed c.in-Err-Failed.field-0-is)
     c.give_up.ensures.given_up
+
+pub returns-in-Ok-clause-promised : goal.returns-in-Ok-clause-promised
+returns-in-Ok-clause-promised g c =
+    promised_more
+    _
+    _
+    (told_command c.args.command.now)
+    _
+    _
+    _
+    c.finish.result
+    c.finish.result.end
+    (c.finish.ensures.promised
+    (told_command c.args.command.now)
+    _
+    c.in-Ok.ensures.settled.0
+    c.in-Ok.ensures.settled.1.0
+    c.in-Ok.ensures.settled.1.1)

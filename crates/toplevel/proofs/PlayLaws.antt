@@ -1,0 +1,279 @@
+-- The run of a script, from what is told of its items and of its goal.
+use Rattle.std.proofs.Common.{◌≡◌, ℕ, Bool, List, [], ◌∷◌, Option, Some, None, refl, sym, ◌∙◌, ap, subst}
+use Rattle.std.specs.Prelude.{encode_utf8_all, is_some, true, Result, IfOk}
+use Rattle.std.proofs.lemmas.Bool.{false≢true}
+use Rattle.std.proofs.lemmas.Result.{IfOk-weaker}
+use Rattle.pl_term.specs.declared.memory.Memory.{Memory as WantOfMemory}
+use Rattle.world_api.specs.declared.answer.On.{On}
+use Rattle.first_script.specs.Steps.{directive_place}
+use Rattle.pl_term.specs.Tree.{Chars, Tree}
+use Rattle.pl_model.specs.declared.ends.How.{How}
+use Rattle.pl_model.specs.Resolution.{Ending, Output, State}
+use Rattle.pl_model.specs.Execution.{Rest, Script, Consulted, Execution, Job, Word, goal_word, faulty_word}
+use Rattle.pl_model.specs.Lawful.{EndsSo}
+use Rattle.pl_model.specs.Report.{output_of, with_output}
+use Rattle.atom_api.specs.Names.{Names}
+use Rattle.world_api.specs.Told.{Told}
+use Rattle.world_api.specs.Courses.{Part, of_goal, of_directive, with_search}
+use Rattle.world_api.specs.Scripts.{Comes, LeavesOff}
+use Rattle.world_api.proofs.ComesLaws.{comes_then}
+use Rattle.iso_search.specs.declared.search.Budgets.{Budgets}
+use Rattle.first_script.specs.declared.file_script.FileScript.{FileScript}
+use Rattle.first_script.specs.FileScripts.{Plays, execution_of, part_in}
+use Rattle.first_script.specs.Words.{AreNames}
+use Rattle.plain_run.specs.declared.ran.Ran.{Ran}
+use Rattle.plain_run.specs.declared.ran.Ran.TheVariants as ran
+use Rattle.plain_run.specs.declared.items.Items.TheVariants as items
+use Rattle.plain_run.specs.Items.{GoalStandsAs, HasRunGoal, HasRunItems, IsText}
+use Rattle.plain_run.specs.Ran.{HasBudgets, IsMissingIn, at_start_of}
+use Rattle.iso_engine.specs.Later.{view_of}
+use Rattle.iso_engine.specs.Standing.{state_now}
+use Rattle.toplevel.specs.Unbuilt.{IsAtUnbuilt}
+use Rattle.world_api.specs.declared.visit.Procedure.{Procedure}
+use Rattle.pl_command.specs.declared.command.Limits.{Limits}
+use Rattle.toplevel.specs.declared.play.Stop.{Stop}
+use Rattle.toplevel.specs.declared.play.Stop.TheVariants.{Ended, Waits, Missing}
+use Rattle.toplevel.specs.Sessions.{HasLimits, HasPlayed, IsPlayed, IsStopOf, IsWaiting, StandsSo}
+
+-- The execution of a script, whatever the texts of atoms are.
+abbrev pub executed : (ℕ → Chars) → FileScript → Job → List Consulted → Execution
+executed text s job cs = execution_of s job cs
+
+abbrev pub played : (ℕ → Chars) → FileScript → Script → Type 0
+played text s x = Plays s x
+
+abbrev pub budgets_in : Limits → Budgets
+budgets_in l = record { inferences = l.inferences; cells = l.cells; choices = l.choices }
+
+pub has_budgets : (job : Job) (l : Limits) (b : Budgets) → b ≡ budgets_in l → HasLimits job l → HasBudgets b job.limits
+has_budgets job l b is h =
+    subst
+    (λ (c : Budgets). HasBudgets c job.limits)
+    (sym is)
+    (record { inferences = h.inferences; cells = h.cells; choices = h.choices })
+
+missing_at : (n : Names) (u : Told) (y : Execution) → IsMissingIn n u y → IsAtUnbuilt y
+missing_at n u y m =
+    record { around = m.at; item = m.part; state = state_now (view_of n u) m.engine m.written; is = m.is; next = m.missing }
+
+goal_stands : (part : FileScript → Option Part) (n : Names) (u : Told) (s : FileScript) (job : Job) (ds : List Consulted) (r : Ran) (stop : Stop) (y : Execution)
+    → IsStopOf r stop
+    → GoalStandsAs executed part_in n u s job ds r y
+    → StandsSo s job ds u stop y
+goal_stands part n u s job ds (ran.Ended how) (Ended h) y is g =
+    (record { ending = g.0; output = g.1; is = g.3 }, is g.0 g.2)
+goal_stands part n u s job ds (ran.Ended how) Waits y is g = absurd is
+goal_stands part n u s job ds (ran.Ended how) (Missing p) y is g = absurd is
+goal_stands part n u s job ds (ran.Waits on) stop y is g =
+    subst
+    (λ (x : Stop). StandsSo s job ds u x y)
+    (sym is)
+    (record { item = g.0.item; state = g.0.state; at_hand = g.0.at_hand; is = g.0.is }, g.1)
+goal_stands part n u s job ds (ran.NeedsAtoms p) stop y is g = absurd is
+goal_stands part n u s job ds (ran.Worn w) stop y is g = absurd is
+goal_stands part n u s job ds (ran.Missing p) stop y is g =
+    subst (λ (x : Stop). StandsSo s job ds u x y) (sym is) (missing_at n u y g.1)
+
+whole : (job : Job) (name : Chars) (x : Execution) (t : Told) (stop : Stop) (s : FileScript) (kept : FileScript → Bool) (u : Told) (text out : List ℕ)
+    → HasPlayed job name x t stop s kept u text out
+    → IsPlayed job name x t stop s kept u text out
+whole job name x t (Ended how) s kept u text out h = h
+whole job name x t Waits s kept u text out h = h
+whole job name x t (Missing p) s kept u text out h = record { execution = h.execution; comes = h.comes; at = h.stands }
+
+pub goal_played : (kept : FileScript → Bool) (name : Chars) (b : Budgets) (l : Limits) (names : List (Chars × ℕ)) (goal : Tree) (m : Names) (t : Told) (old : FileScript) (bytes old_out : List ℕ) (r : Ran) (stop : Stop) (n : Names) (u : Told) (new : FileScript) (more new_out : List ℕ)
+    → b ≡ budgets_in l
+    → HasRunGoal executed part_in played kept name b names l.solutions goal m t old bytes old_out r n u new more new_out
+    → old_out ≡ []
+    → IsStopOf r stop
+    → ((job : Job) (cs : List Consulted) → AreNames names (execution_of new job cs).words)
+    → (job : Job) (cs : List Consulted) (x : Execution)
+    → HasLimits job l
+    → Plays old job.script
+    → x ≡ at_start_of job of_goal m goal (execution_of old job cs)
+    → IsText name (kept old) x bytes
+    → IsPlayed job name x t stop new kept u more new_out
+goal_played kept name b l names goal m t old bytes old_out r stop n u new more new_out budgets has empty is named job cs x h p at w =
+    let g = has job cs x (has_budgets job l b budgets h) h.solutions p at w in
+    whole
+    job
+    name
+    x
+    t
+    stop
+    new
+    kept
+    u
+    more
+    new_out
+    (record {
+      execution = g.1;
+      lines = g.0;
+      names = names;
+      comes = g.2;
+      stands = goal_stands part_in n u new job g.0 r stop g.1 is g.3;
+      named = named job g.0;
+      text_is = g.5;
+      output_is = g.6 [] empty;
+    })
+
+-- The names of the variables of the words that were read.
+own_names : List Word → List (Chars × ℕ)
+own_names [] = []
+own_names (goal_word t names ∷ ws) = names
+own_names (faulty_word kind at ∷ ws) = []
+
+own : (ws : List Word) → AreNames (own_names ws) ws
+unfolding own_names
+own [] = refl
+own (goal_word t names ∷ ws) = refl
+own (faulty_word kind at ∷ ws) = refl
+
+-- Nothing was given.
+left_off : (h : Option ℕ) (ending : Ending) (os : List Output) → LeavesOff h None None ending os → os ≡ []
+left_off None ending os l = l.1
+left_off (Some n) ending os l = l.1
+
+searched_none : (x : Execution) (s : State) (place : ℕ) (rest : Rest) → output_of (with_search x (of_directive place rest) s) ≡ x.output
+searched_none x s place rest = refl
+
+-- The stop that the items come to, where no goal was given.
+pub over_played : (kept : FileScript → Bool) (name : Chars) (b : Budgets) (l : Limits) (m : Names) (t : Told) (old : FileScript) (bytes : List ℕ) (h : Option ℕ) (how : How) (n : Names) (u : Told) (new : FileScript) (more out : List ℕ)
+    → b ≡ budgets_in l
+    → HasRunItems executed part_in played kept name b m t old bytes (items.Over h) n u new more
+    → out ≡ []
+    → ((ending : Ending) (os : List Output) → LeavesOff h None None ending os → EndsSo ending how)
+    → (job : Job) (cs : List Consulted) (x : Execution)
+    → HasLimits job l
+    → Plays old job.script
+    → x ≡ execution_of old job cs
+    → IsText name (kept old) x bytes
+    → HasPlayed job name x t (Ended how) new kept u more out
+over_played kept name b l m t old bytes h how n u new more out budgets has empty ends job cs x limits p at w =
+    let g = has job cs x (has_budgets job l b budgets limits) p at w in
+    let s = g.3 in
+    let words : List Word = (execution_of new job g.0).words in
+    record {
+      execution = g.1;
+      lines = g.0;
+      names = own_names words;
+      comes = g.2;
+      stands = (record { ending = s.0; output = s.1; is = s.3 }, ends s.0 s.1 s.2);
+      named = own words;
+      text_is = g.5;
+      output_is =
+          empty
+          ∙ ap (λ (os : List Output). encode_utf8_all (with_output (own_names words) [] os)) (sym (left_off h s.0 s.1 s.2))
+          ∙ ap (λ (y : Execution). encode_utf8_all (with_output (own_names words) [] (output_of y))) (sym s.3);
+    }
+
+-- The stop where a directive waits.
+at_directive : (item : Part) (o : Option Part) → o ≡ Some item → is_some (directive_place o) ≡ true → (x : Execution) (s : State) → output_of (with_search x item s) ≡ x.output
+at_directive of_goal o is place x s =
+    let no : is_some (directive_place (Some of_goal)) ≡ true = subst (λ (p : Option Part). is_some (directive_place p) ≡ true) is place in
+    absurd (false≢true no)
+at_directive (of_directive at rest) o is place x s = refl
+
+pub waits_played : (kept : FileScript → Bool) (name : Chars) (b : Budgets) (l : Limits) (m : Names) (t : Told) (old : FileScript) (bytes : List ℕ) (on : On) (stop : Stop) (n : Names) (u : Told) (new : FileScript) (more out : List ℕ)
+    → b ≡ budgets_in l
+    → HasRunItems executed part_in played kept name b m t old bytes (items.Waits on) n u new more
+    → out ≡ []
+    → IsWaiting new stop
+    → (job : Job) (cs : List Consulted) (x : Execution)
+    → HasLimits job l
+    → Plays old job.script
+    → x ≡ execution_of old job cs
+    → IsText name (kept old) x bytes
+    → IsPlayed job name x t stop new kept u more out
+waits_played kept name b l m t old bytes on stop n u new more out budgets has empty waits job cs x limits p at w =
+    let g = has job cs x (has_budgets job l b budgets limits) p at w in
+    let s = g.3 in
+    let words : List Word = (execution_of new job g.0).words in
+    subst
+    (λ (z : Stop). IsPlayed job name x t z new kept u more out)
+    (sym waits.0)
+    (record {
+      execution = g.1;
+      lines = g.0;
+      names = own_names words;
+      comes = g.2;
+      stands = (record { item = s.0.item; state = s.0.state; at_hand = s.0.at_hand; is = s.0.is }, s.1);
+      named = own words;
+      text_is = g.5;
+      output_is =
+          empty
+          ∙ ap (λ (os : List Output). encode_utf8_all (with_output (own_names words) [] os)) (sym (at_directive s.0.item (part_in new) s.0.at_hand waits.1 (execution_of new job g.0) s.0.state))
+          ∙ ap (λ (y : Execution). encode_utf8_all (with_output (own_names words) [] (output_of y))) (sym s.0.is);
+    })
+
+-- And behind the items the goal.
+played_on : (job : Job) (name : Chars) (x y : Execution) (t v : Told) (stop : Stop) (s : FileScript) (kept : FileScript → Bool) (u : Told) (text out : List ℕ)
+    → Comes job x t y v
+    → IsPlayed job name y v stop s kept u text out
+    → IsPlayed job name x t stop s kept u text out
+played_on job name x y t v (Ended how) s kept u text out c h =
+    record {
+      execution = h.execution;
+      lines = h.lines;
+      names = h.names;
+      comes = comes_then job x y h.execution t v u c h.comes;
+      stands = h.stands;
+      named = h.named;
+      text_is = h.text_is;
+      output_is = h.output_is;
+    }
+played_on job name x y t v Waits s kept u text out c h =
+    record {
+      execution = h.execution;
+      lines = h.lines;
+      names = h.names;
+      comes = comes_then job x y h.execution t v u c h.comes;
+      stands = h.stands;
+      named = h.named;
+      text_is = h.text_is;
+      output_is = h.output_is;
+    }
+played_on job name x y t v (Missing p) s kept u text out c h =
+    record { execution = h.execution; comes = comes_then job x y h.execution t v u c h.comes; at = h.at }
+
+pub goal_on : (kept : FileScript → Bool) (name next : Chars) (b : Budgets) (l : Limits) (m : Names) (t : Told) (old : FileScript) (bytes : List ℕ) (goal : Tree) (n : Names) (u : Told) (mid : FileScript) (more : List ℕ) (r : Result Stop WantOfMemory) (s : FileScript) (v : Told) (last out : List ℕ)
+    → b ≡ budgets_in l
+    → next ≡ name
+    → HasRunItems executed part_in played kept name b m t old bytes (items.Goal goal) n u mid more
+    → ((job : Job) (cs : List Consulted) (x : Execution)
+    → HasLimits job l
+    → Plays mid job.script
+    → x ≡ at_start_of job of_goal n goal (execution_of mid job cs)
+    → IsText next (kept mid) x more
+    → IfOk r (λ stop. IsPlayed job next x u stop s kept v last out))
+    → (job : Job) (cs : List Consulted) (x : Execution)
+    → HasLimits job l
+    → Plays old job.script
+    → x ≡ execution_of old job cs
+    → IsText name (kept old) x bytes
+    → IfOk r (λ stop. IsPlayed job name x t stop s kept v last out)
+goal_on kept name next b l m t old bytes goal n u mid more r s v last out budgets same has goes job cs x limits p at w =
+    let g = has job cs x (has_budgets job l b budgets limits) p at w in
+    subst
+    (λ (z : Chars). IfOk r (λ stop. IsPlayed job z x t stop s kept v last out))
+    same
+    (IfOk-weaker
+    r
+    _
+    _
+    (λ stop h. played_on job next x g.1 t u stop s kept v last out g.2 h)
+    (goes job g.0 g.1 limits g.4 g.3 (subst (λ (z : Chars). IsText z (kept mid) g.1 more) (sym same) g.5)))
+
+-- A directive came to a predicate that is not built.
+pub missing_played : (kept : FileScript → Bool) (name : Chars) (b : Budgets) (l : Limits) (m : Names) (t : Told) (old : FileScript) (bytes : List ℕ) (q : Procedure) (n : Names) (u : Told) (new : FileScript) (more out : List ℕ)
+    → b ≡ budgets_in l
+    → HasRunItems executed part_in played kept name b m t old bytes (items.Missing q) n u new more
+    → (job : Job) (cs : List Consulted) (x : Execution)
+    → HasLimits job l
+    → Plays old job.script
+    → x ≡ execution_of old job cs
+    → IsText name (kept old) x bytes
+    → IsPlayed job name x t (Missing q) new kept u more out
+missing_played kept name b l m t old bytes q n u new more out budgets has job cs x limits p at w =
+    let g = has job cs x (has_budgets job l b budgets limits) p at w in
+    record { execution = g.1; comes = g.2; at = missing_at n u g.1 g.3.1 }

@@ -1,6 +1,0 @@
-use Rattle.std.proofs.Common.{◌≡◌, ◌+◌, drop}
-use Rattle.pl_model.specs.Tokens.{line_length}
-use Rattle.toplevel.proofs.lexer.line_end.Given as goal
-
-abbrev pub invariant-loop-place : goal.invariant-loop-place
-invariant-loop-place l = l.at + line_length (drop l.at l.text) ≡ l.place + line_length (drop l.place l.text)

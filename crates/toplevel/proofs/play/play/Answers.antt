@@ -1,0 +1,194 @@
+use Rattle.std.proofs.Common.{subst, IsSome}
+use Rattle.std.specs.List.{All}
+use Rattle.std.proofs.lemmas.Result.{IfOk-weaker}
+use Rattle.plain_run.specs.declared.items.Items.{Items}
+use Rattle.plain_run.specs.Items.{HasRunItems, items_names}
+use Rattle.first_script.specs.declared.file_script.FileScript.{FileScript}
+use Rattle.first_script.specs.FileScripts.{part_in}
+use Rattle.toplevel.proofs.PlayLaws.{executed, goal_on, missing_played, over_played, played, waits_played}
+use Rattle.toplevel.proofs.play.play.Goals as goal
+
+pub play_goal-requires-clause-held : goal.play_goal-requires-clause-held
+play_goal-requires-clause-held g c =
+    subst
+    (λ (i : Items). All (λ a. IsSome (g.W.A.Atoms.held c.run_items.new.atoms a)) (items_names i))
+    c.in-Goal.is
+    c.in_ok-items.ensures.held
+
+pub returns-in-Goal : goal.returns-in-Goal
+returns-in-Goal g c =
+    goal_on
+    (λ (s : FileScript). s.faulty)
+    _
+    c.run_items.new.script.consult.name
+    c.budgets_of-budgets.result
+    c.args.limits.now
+    (g.W.A.Atoms.held c.args.atoms.now)
+    (g.W.World.told c.args.world.now)
+    c.args.script.now
+    _
+    c.in-Goal.goal
+    (g.W.A.Atoms.held c.run_items.new.atoms)
+    (g.W.World.told c.run_items.new.world)
+    c.run_items.new.script
+    _
+    c.play_goal.result
+    _
+    _
+    _
+    _
+    c.budgets_of-budgets.ensures
+    c.in_ok-items.ensures.named
+    (subst
+    (λ (i : Items). HasRunItems
+    executed
+    part_in
+    played
+    (λ (s : FileScript). s.faulty)
+    c.args.script.now.consult.name
+    c.budgets_of-budgets.result
+    (g.W.A.Atoms.held c.args.atoms.now)
+    (g.W.World.told c.args.world.now)
+    c.args.script.now
+    c.args.text.now.items
+    i
+    (g.W.A.Atoms.held c.run_items.new.atoms)
+    (g.W.World.told c.run_items.new.world)
+    c.run_items.new.script
+    c.run_items.new.text.items)
+    c.in-Goal.is
+    c.in_ok-items.ensures.items)
+    c.play_goal.ensures
+
+pub returns-in-Over : goal.returns-in-Over
+returns-in-Over g c =
+    over_played
+    (λ (s : FileScript). s.faulty)
+    c.args.script.now.consult.name
+    c.budgets_of-budgets.result
+    c.args.limits.now
+    (g.W.A.Atoms.held c.args.atoms.now)
+    (g.W.World.told c.args.world.now)
+    c.args.script.now
+    c.args.text.now.items
+    c.in-Over.halted
+    c.ends_over.result
+    (g.W.A.Atoms.held c.run_items.new.atoms)
+    (g.W.World.told c.run_items.new.world)
+    c.run_items.new.script
+    c.run_items.new.text.items
+    c.args.output.now.items
+    c.budgets_of-budgets.ensures
+    (subst
+    (λ (i : Items). HasRunItems
+    executed
+    part_in
+    played
+    (λ (s : FileScript). s.faulty)
+    c.args.script.now.consult.name
+    c.budgets_of-budgets.result
+    (g.W.A.Atoms.held c.args.atoms.now)
+    (g.W.World.told c.args.world.now)
+    c.args.script.now
+    c.args.text.now.items
+    i
+    (g.W.A.Atoms.held c.run_items.new.atoms)
+    (g.W.World.told c.run_items.new.world)
+    c.run_items.new.script
+    c.run_items.new.text.items)
+    c.in-Over.is
+    c.in_ok-items.ensures.items)
+    c.requires.empty
+    c.ends_over.ensures
+
+pub returns-in-Waits : goal.returns-in-Waits
+returns-in-Waits g c job cs x limits plays at text =
+    IfOk-weaker
+    c.waiting.result
+    _
+    _
+    (λ stop is.
+    waits_played
+    (λ (s : FileScript). s.faulty)
+    c.args.script.now.consult.name
+    c.budgets_of-budgets.result
+    c.args.limits.now
+    (g.W.A.Atoms.held c.args.atoms.now)
+    (g.W.World.told c.args.world.now)
+    c.args.script.now
+    c.args.text.now.items
+    c.in-Waits.field-0
+    stop
+    (g.W.A.Atoms.held c.run_items.new.atoms)
+    (g.W.World.told c.run_items.new.world)
+    c.run_items.new.script
+    c.run_items.new.text.items
+    c.args.output.now.items
+    c.budgets_of-budgets.ensures
+    (subst
+    (λ (i : Items). HasRunItems
+    executed
+    part_in
+    played
+    (λ (s : FileScript). s.faulty)
+    c.args.script.now.consult.name
+    c.budgets_of-budgets.result
+    (g.W.A.Atoms.held c.args.atoms.now)
+    (g.W.World.told c.args.world.now)
+    c.args.script.now
+    c.args.text.now.items
+    i
+    (g.W.A.Atoms.held c.run_items.new.atoms)
+    (g.W.World.told c.run_items.new.world)
+    c.run_items.new.script
+    c.run_items.new.text.items)
+    c.in-Waits.is
+    c.in_ok-items.ensures.items)
+    c.requires.empty
+    is
+    job
+    cs
+    x
+    limits
+    plays
+    at
+    text)
+    c.waiting.ensures
+
+pub returns-in-Missing : goal.returns-in-Missing
+returns-in-Missing g c =
+    missing_played
+    (λ (s : FileScript). s.faulty)
+    c.args.script.now.consult.name
+    c.budgets_of-budgets.result
+    c.args.limits.now
+    (g.W.A.Atoms.held c.args.atoms.now)
+    (g.W.World.told c.args.world.now)
+    c.args.script.now
+    c.args.text.now.items
+    c.in-Missing.procedure
+    (g.W.A.Atoms.held c.run_items.new.atoms)
+    (g.W.World.told c.run_items.new.world)
+    c.run_items.new.script
+    c.run_items.new.text.items
+    c.args.output.now.items
+    c.budgets_of-budgets.ensures
+    (subst
+    (λ (i : Items). HasRunItems
+    executed
+    part_in
+    played
+    (λ (s : FileScript). s.faulty)
+    c.args.script.now.consult.name
+    c.budgets_of-budgets.result
+    (g.W.A.Atoms.held c.args.atoms.now)
+    (g.W.World.told c.args.world.now)
+    c.args.script.now
+    c.args.text.now.items
+    i
+    (g.W.A.Atoms.held c.run_items.new.atoms)
+    (g.W.World.told c.run_items.new.world)
+    c.run_items.new.script
+    c.run_items.new.text.items)
+    c.in-Missing.is
+    c.in_ok-items.ensures.items)

@@ -1,0 +1,21 @@
+use Rattle.std.proofs.Common.{subst}
+use Rattle.toplevel.specs.Settled.{IsSettled}
+use Rattle.toplevel.specs.declared.run.Settled.{Settled}
+use Rattle.toplevel.proofs.RunLemmas.{missed_more}
+use Rattle.toplevel.proofs.run.finish.Goals as goal
+
+pub returns-in-Unbuilt-clause-promised : goal.returns-in-Unbuilt-clause-promised
+returns-in-Unbuilt-clause-promised g c command file bytes read settled =
+    missed_more
+    _
+    _
+    command
+    file
+    _
+    _
+    c.miss.result
+    bytes
+    c.miss.result.end
+    read
+    (subst (λ (x : Settled). IsSettled command bytes x) c.in-Unbuilt.is settled)
+    c.miss.ensures.missed

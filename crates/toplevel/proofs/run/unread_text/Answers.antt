@@ -1,7 +1,0 @@
-use Rattle.toplevel.proofs.AddsLemmas.{adds_then}
-use Rattle.toplevel.proofs.run.unread_text.Goals as goal
-
-pub returns : goal.returns
-returns c =
-    let all = adds_then c.in_ok-put_words.ensures (adds_then c.in_ok-put.ensures c.in_ok-put_words-2.ensures) in
-    rw c.new-line.ensures.items at all.added

@@ -1,5 +1,0 @@
-use Rattle.toplevel.proofs.UnifySubterms.{Reading}
-use Rattle.toplevel.proofs.subterms.subterm_end.Given as goal
-
-abbrev pub invariant-loop-i : goal.invariant-loop-i
-invariant-loop-i l = Reading l.all l.at l.i l.pending

@@ -1,5 +1,0 @@
-use Rattle.toplevel.proofs.AddsLemmas.{adds_then}
-use Rattle.toplevel.proofs.transcript.put_too_large.Goals as goal
-
-pub returns : goal.returns
-returns c = adds_then c.in_ok-put.ensures c.in_ok-put_words.ensures

@@ -1,6 +1,0 @@
-use Rattle.std.proofs.Common.{◌≡◌, take}
-use Rattle.toplevel.specs.UnifySides.{put_in}
-use Rattle.toplevel.proofs.unify.replaced.Given as goal
-
-abbrev pub invariant-loop-node : goal.invariant-loop-node
-invariant-loop-node l = l.put.items ≡ put_in l.variable l.value (take l.node-index l.all)

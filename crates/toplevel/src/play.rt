@@ -1,0 +1,181 @@
+//! The script of the first engine, run to where it does not go on.
+ghost use Rattle.std.specs.Prelude.{◌≡◌, ◌↔◌, ◌++◌, ℕ, List, [], false, Some, None, IfOk, IsSome, IsTrue, encode_utf8_all};
+ghost use Rattle.std.specs.List.{All};
+ghost use Rattle.pl_model.specs.Execution.{Consulted, Execution, Job};
+ghost use Rattle.term_store.specs.NumberedNames.{names_of};
+ghost use Rattle.world_api.specs.Courses.{of_goal};
+ghost use Rattle.world_api.specs.Told.{has_ended};
+ghost use Rattle.first_script.specs.FileScripts.{Plays, execution_of, part_in};
+ghost use Rattle.plain_run.specs.Items.{IsText};
+ghost use Rattle.plain_run.specs.Ran.{IsEndedOr, at_start_of};
+ghost use Rattle.pl_command.specs.Told.{told_limits};
+ghost use Rattle.toplevel.specs.Sessions.{HasLimits, IsPlayed, IsStopOf, IsWaiting};
+
+use first_script::FileScript;
+use iso_search::search::Budgets;
+use pl_command::Limits;
+use pl_model::ends::How;
+use pl_term::{Memory, Text};
+use plain_run::{Items, Ran, ends_how, ends_over, run_goal, run_items};
+use std::alloc::Global;
+use term_store::Stored;
+use world_api::{Procedure, Script, World};
+
+/// Where the first engine does not go on.
+#[derive(Drop)]
+pub enum Stop {
+    /// It has ended so.
+    Ended(How),
+    /// Its next request has no reply as the shared state stands.
+    Waits,
+    /// Its next step is of this predicate of the system, which is not built yet.
+    Missing(Procedure),
+}
+
+/// The budgets of searches.
+fn budgets_of(limits: &Limits) -> Budgets
+    ensures { result ≡ record { inferences = limits.now.inferences; cells = limits.now.cells; choices = limits.now.choices } }
+{
+    Budgets {
+        inferences: limits.inferences,
+        cells: limits.cells,
+        choices: limits.choices,
+    }
+}
+
+/// Runs a script from its beginning: what is written of the file is put behind `text`, what the goal gives behind
+/// `output`. The only error is want of memory.
+pub(crate) fn play<W: World<Term = Stored>>(
+    alloc: Global,
+    limits: &Limits,
+    script: &mut FileScript,
+    world: &mut W,
+    atoms: &mut W::A,
+    text: &mut Vec<u8>,
+    output: &mut Vec<u8>,
+) -> Result<Stop, Memory>
+    requires runs { has_ended (W.told world.old).engine (W.told world.old).history ≡ false }
+    requires none { part_in script.old ≡ None }
+    requires goes_on { ⟦<FileScript as Script>⟧.over script.old ≡ false }
+    requires held { All (λ a. IsSome (W.A.held atoms.old a)) (⟦<FileScript as Script>⟧.names script.old) }
+    requires empty { output.old.items ≡ [] }
+    ensures { (job : Job) (cs : List Consulted) (x : Execution)
+        → HasLimits job limits.now
+        → Plays script.old job.script
+        → x ≡ execution_of script.old job cs
+        → IsText (⟦<FileScript as Script>⟧.name script.old) (⟦<FileScript as Script>⟧.kept script.old) x text.old.items
+        → IfOk result (λ stop. IsPlayed job (⟦<FileScript as Script>⟧.name script.old) x (W.told world.old) stop
+        script.new ⟦<FileScript as Script>⟧.kept (W.told world.new) text.new.items output.new.items) }
+{
+    let budgets = budgets_of(limits);
+    let items = run_items(alloc, script, budgets, world, atoms, text)?;
+    match items {
+        Items::Goal(goal) => play_goal(alloc, &goal, limits, script, world, atoms, text, output),
+        Items::Over { halted } => Ok(Stop::Ended(ends_over(halted))),
+        Items::Waits(_) => waiting(script),
+        Items::NeedsAtoms(_) => Err(Memory),
+        Items::Worn(_) => Err(Memory),
+        Items::Missing(procedure) => Ok(Stop::Missing(procedure)),
+    }
+}
+
+/// A directive waits. The only error is want of memory.
+fn waiting(script: &FileScript) -> Result<Stop, Memory>
+    ensures { IfOk result (IsWaiting script.now) }
+{
+    match script.directive_at() {
+        Some(_) => Ok(Stop::Waits),
+        None => Err(Memory),
+    }
+}
+
+/// Runs the goal that a script has at hand. The only error is want of memory.
+fn play_goal<W: World<Term = Stored>>(
+    alloc: Global,
+    goal: &Stored,
+    limits: &Limits,
+    script: &mut FileScript,
+    world: &mut W,
+    atoms: &mut W::A,
+    text: &mut Vec<u8>,
+    output: &mut Vec<u8>,
+) -> Result<Stop, Memory>
+    requires runs { has_ended (W.told world.old).engine (W.told world.old).history ≡ false }
+    requires at_hand { part_in script.old ≡ Some of_goal }
+    requires goes_on { ⟦<FileScript as Script>⟧.over script.old ≡ false }
+    requires held { All (λ a. IsSome (W.A.held atoms.old a)) (⟦<FileScript as Script>⟧.names script.old ++ names_of goal.now) }
+    requires empty { output.old.items ≡ [] }
+    ensures { (job : Job) (cs : List Consulted) (x : Execution)
+        → HasLimits job limits.now
+        → Plays script.old job.script
+        → x ≡ at_start_of job of_goal (W.A.held atoms.old) goal.now (execution_of script.old job cs)
+        → IsText (⟦<FileScript as Script>⟧.name script.old) (⟦<FileScript as Script>⟧.kept script.old) x text.old.items
+        → IfOk result (λ stop. IsPlayed job (⟦<FileScript as Script>⟧.name script.old) x (W.told world.old) stop
+        script.new ⟦<FileScript as Script>⟧.kept (W.told world.new) text.new.items output.new.items) }
+{
+    let names = copy_names(alloc, script.names())?;
+    let budgets = budgets_of(limits);
+    let ran = run_goal(
+        alloc,
+        goal,
+        names.as_slice(),
+        budgets,
+        limits.solutions,
+        script,
+        world,
+        atoms,
+        text,
+        output,
+    )?;
+    if !same_names(names.as_slice(), script.names()) {
+        return Err(Memory);
+    }
+    stop_of(ran)
+}
+
+/// Where a goal's search does not go on. The only error is want of memory.
+fn stop_of(ran: Ran) -> Result<Stop, Memory>
+    requires { IsEndedOr ran }
+    ensures { IfOk result (IsStopOf ran) }
+{
+    match ran {
+        Ran::Ended(how) => Ok(Stop::Ended(ends_how(how))),
+        Ran::Waits(_) => Ok(Stop::Waits),
+        Ran::NeedsAtoms(_) => Err(Memory),
+        Ran::Worn(_) => Err(Memory),
+        Ran::Missing(procedure) => Ok(Stop::Missing(procedure)),
+    }
+}
+
+/// The same names of variables. The only error is want of memory.
+fn copy_names(alloc: Global, names: &[(Text, u64)]) -> Result<Vec<(Text, u64)>, Memory>
+    ensures { IfOk result (λ v. v.items ≡ names.now) }
+{
+    let mut all = Vec::new(alloc);
+    for (name, number) in names {
+        all.push((name.copy(alloc)?, *number))?;
+    }
+    Ok(all)
+}
+
+/// Whether these are the same names of variables.
+fn same_names(names: &[(Text, u64)], others: &[(Text, u64)]) -> bool
+    ensures { IsTrue result ↔ (names.now ≡ others.now) }
+{
+    if names.len() != others.len() {
+        return false;
+    }
+    for i in 0..names.len() {
+        if !same_name(&names[i], &others[i]) {
+            return false;
+        }
+    }
+    true
+}
+
+/// Whether this is the same name with the same number.
+fn same_name(name: &(Text, u64), other: &(Text, u64)) -> bool
+    ensures { IsTrue result ↔ (name.now ≡ other.now) }
+{
+    name.0.same(&other.0) && name.1 == other.1
+}

@@ -1,0 +1,58 @@
+//! What is ready to be written of a run.
+ghost use Rattle.std.specs.Prelude.{◌≡◌, List, ℕ, IfOk};
+ghost use Rattle.pl_command.specs.Told.{told_command};
+ghost use Rattle.pl_command.specs.CommandLine.{program_of};
+ghost use Rattle.toplevel.specs.Headline.{IsReady};
+ghost use Rattle.toplevel.specs.Outcomes.{Stood};
+
+use crate::ends::{end_of, goal_ends};
+use crate::outcome::{Front, Outcome};
+use crate::sections::report_text;
+use pl_command::{Command, End, GoalEnd};
+use pl_term::Memory;
+use std::alloc::Global;
+
+/// A run that came to its end, with the text that is to be written of it.
+#[derive(Drop)]
+pub struct Ready {
+    pub end: End,
+    pub front: Front,
+    pub ends: Vec<GoalEnd>,
+    pub text: Vec<u8>,
+}
+
+/// Makes the ends and the text of a run. The only error is want of memory.
+pub(crate) fn make_ready(
+    alloc: Global,
+    command: &Command,
+    outcome: Outcome,
+) -> Result<Ready, Memory>
+    ensures { (bytes : List ℕ) → Stood (program_of (told_command command.now) bytes) command.now.file outcome
+        → IfOk result (IsReady (told_command command.now) bytes) }
+{
+    let Outcome {
+        front,
+        operators,
+        text,
+        output,
+        word,
+        faulty,
+    } = outcome;
+    let end = end_of(&front.end, word, faulty);
+    let ends = goal_ends(alloc, &front.end, word)?;
+    let text = report_text(
+        alloc,
+        &command.goal,
+        word,
+        &front.end,
+        &operators,
+        text,
+        output,
+    )?;
+    Ok(Ready {
+        end,
+        front,
+        ends,
+        text,
+    })
+}

@@ -1,0 +1,169 @@
+//! The text of a run, by how the first engine ended.
+ghost use Rattle.std.specs.Prelude.{◌≡◌, ◌++◌, IfOk, Option, encode_utf8_all};
+ghost use Rattle.pl_term.specs.Tree.{Chars};
+ghost use Rattle.pl_model.specs.declared.ends.How.{How as HowOf};
+ghost use Rattle.pl_model.specs.Report.{closed};
+ghost use Rattle.toplevel.specs.declared.outcome.Word.TheVariants.{Fault, Goal};
+ghost use Rattle.toplevel.specs.Parts.{AreSections, IsPart, IsSection, goal_part, report_by, section_by};
+
+use crate::hows::{is_enough, written_end};
+use crate::outcome::Word;
+use op_table::OpTable;
+use pl_model::ends::How;
+use pl_model::syntax::SyntaxKind;
+use pl_report::{GoalHow as Last, Section, SectionKind, transcript};
+use pl_term::{Memory, Text};
+use std::alloc::Global;
+
+/// The text of a run: of the file `text` was written, and the goal of this word, which was read so, has given `output`.
+/// `ops` are the operators behind the run. The only error is want of memory.
+pub(crate) fn report_text(
+    alloc: Global,
+    goal: &Option<Text>,
+    word: Option<Word>,
+    end: &Option<How>,
+    ops: &OpTable,
+    text: Vec<u8>,
+    output: Vec<u8>,
+) -> Result<Vec<u8>, Memory>
+    ensures { (t u : Chars) → text.items ≡ encode_utf8_all t → output.items ≡ encode_utf8_all u
+        → IfOk result (λ v. v.items ≡ encode_utf8_all (report_by t goal.now word end.now ops.now u)) }
+{
+    let sections = sections(alloc, goal, word, end, ops, text, output)?;
+    transcript(alloc, sections.as_slice())
+}
+
+/// The sections of a run. The only error is want of memory.
+fn sections(
+    alloc: Global,
+    goal: &Option<Text>,
+    word: Option<Word>,
+    end: &Option<How>,
+    ops: &OpTable,
+    text: Vec<u8>,
+    output: Vec<u8>,
+) -> Result<Vec<Section>, Memory>
+    ensures { (t u : Chars) → text.items ≡ encode_utf8_all t → output.items ≡ encode_utf8_all u
+        → IfOk result (λ v. AreSections v.items (report_by t goal.now word end.now ops.now u)) }
+{
+    let file = file_section(alloc, text, ops)?;
+    match goal_part(alloc, goal, word, end, ops, output)? {
+        None => one_section(alloc, file),
+        Some(section) => two_sections(alloc, file, section),
+    }
+}
+
+fn one_section(alloc: Global, file: Section) -> Result<Vec<Section>, Memory>
+    ensures { (t : Chars) → IsSection file t → IfOk result (λ v. AreSections v.items t) }
+{
+    let mut all = Vec::new(alloc);
+    all.push(file)?;
+    Ok(all)
+}
+
+fn two_sections(alloc: Global, file: Section, goal: Section) -> Result<Vec<Section>, Memory>
+    ensures { (t u : Chars) → IsSection file t → IsSection goal u → IfOk result (λ v. AreSections v.items (t ++ u)) }
+{
+    let mut all = Vec::new(alloc);
+    all.push(file)?;
+    all.push(goal)?;
+    Ok(all)
+}
+
+/// The section of the file. The only error is want of memory.
+fn file_section(alloc: Global, text: Vec<u8>, ops: &OpTable) -> Result<Section, Memory>
+    ensures { (t : Chars) → text.items ≡ encode_utf8_all t → IfOk result (λ s. IsSection s (closed t)) }
+{
+    Ok(Section {
+        kind: SectionKind::Consult,
+        text,
+        how: None,
+        ops: ops.copy(alloc)?,
+    })
+}
+
+/// The section of the goal, where its word was read. The only error is want of memory.
+fn goal_part(
+    alloc: Global,
+    goal: &Option<Text>,
+    word: Option<Word>,
+    end: &Option<How>,
+    ops: &OpTable,
+    output: Vec<u8>,
+) -> Result<Option<Section>, Memory>
+    ensures { (u : Chars) → output.items ≡ encode_utf8_all u
+        → IfOk result (λ s. IsPart s (goal_part goal.now word end.now ops.now u)) }
+{
+    let Some(goal) = goal else {
+        return Ok(None);
+    };
+    let Some(word) = word else {
+        return Ok(None);
+    };
+    let section = word_section(alloc, goal, word, end, ops, output)?;
+    Ok(Some(section))
+}
+
+/// The section of a goal whose word was read so. The only error is want of memory.
+fn word_section(
+    alloc: Global,
+    goal: &Text,
+    word: Word,
+    end: &Option<How>,
+    ops: &OpTable,
+    output: Vec<u8>,
+) -> Result<Section, Memory>
+    ensures { (u : Chars) → output.items ≡ encode_utf8_all u
+        → IfOk result (λ s. IsSection s (section_by goal.now word end.now ops.now u)) }
+{
+    match word {
+        Word::Goal => goal_section(alloc, goal, end, ops, output),
+        Word::Fault { kind, at } => fault_section(alloc, goal, kind, at, ops),
+    }
+}
+
+/// The section of a goal that was run. The only error is want of memory.
+fn goal_section(
+    alloc: Global,
+    goal: &Text,
+    end: &Option<How>,
+    ops: &OpTable,
+    output: Vec<u8>,
+) -> Result<Section, Memory>
+    ensures { (u : Chars) → output.items ≡ encode_utf8_all u
+        → IfOk result (λ s. IsSection s (section_by goal.now Goal end.now ops.now u)) }
+{
+    let word = goal.copy(alloc)?;
+    let how = written_end(alloc, end)?;
+    let ops = ops.copy(alloc)?;
+    let enough = is_enough(end);
+    Ok(Section {
+        kind: SectionKind::Goal { word, enough },
+        text: output,
+        how: Some(how),
+        ops,
+    })
+}
+
+/// The section of a goal whose word is no term. The only error is want of memory.
+fn fault_section(
+    alloc: Global,
+    goal: &Text,
+    kind: SyntaxKind,
+    at: u64,
+    ops: &OpTable,
+) -> Result<Section, Memory>
+    ensures { (u : Chars) (end : Option HowOf) → IfOk result (λ s. IsSection s (section_by goal.now (Fault kind at) end ops.now u)) }
+{
+    let word = goal.copy(alloc)?;
+    let ops = ops.copy(alloc)?;
+    Ok(Section {
+        kind: SectionKind::Goal {
+            word,
+            enough: false,
+        },
+        text: Vec::new(alloc),
+        how: Some(Last::Syntax { kind, at }),
+        ops,
+    })
+}

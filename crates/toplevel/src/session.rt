@@ -1,0 +1,221 @@
+//! The run of the first engine.
+ghost use Rattle.std.specs.Prelude.{◌≡◌, List, ℕ, length, Some, IfOk, suc, take};
+ghost use Rattle.pl_term.specs.Tree.{Chars};
+ghost use Rattle.pl_model.specs.SharedState.{state_at};
+ghost use Rattle.pl_model.specs.Execution.{Consulted, Job, at_start, most_bytes};
+ghost use Rattle.pl_model.specs.Lawful.{Program, main_job};
+ghost use Rattle.pl_model.specs.Progress.{AllPlain};
+ghost use Rattle.pl_command.specs.Told.{told_command};
+ghost use Rattle.pl_command.specs.CommandLine.{program_of};
+ghost use Rattle.first_script.specs.FileScripts.{execution_of, part_in};
+ghost use Rattle.first_script.specs.Words.{AreNames, words_of};
+ghost use Rattle.plain_world.specs.Entries.{told_of};
+ghost use Rattle.toplevel.specs.Outcomes.{AreRead, HasCome, IsLine, history_of, start_of};
+ghost use Rattle.toplevel.specs.Sessions.{IsPlayed};
+
+use crate::gated::Gated;
+use crate::outcome::{Front, Outcome, Word};
+use crate::play::{Stop, play};
+use atom_api::{Atom, PlainAtoms, fixed_atoms};
+use first_script::{FileScript, GoalWord};
+use pl_command::Command;
+use pl_io::Gate;
+use pl_model::ends::How;
+use pl_report::put_waiting_directive;
+use pl_term::{Memory, Text};
+use plain_world::PlainWorld;
+use std::alloc::Global;
+use term_store::Stored;
+use world_api::Script;
+
+/// What comes of the run of the first engine.
+#[derive(Drop)]
+pub enum Course {
+    /// It has come to its end, or waits.
+    Stood(Outcome),
+    /// Its next step is of a predicate of the system that is not built yet.
+    Unbuilt { name: Text, arity: u64 },
+}
+
+/// Runs the command on a file with these bytes. The only error is want of memory.
+pub(crate) fn first_run<G: Gate>(
+    alloc: Global,
+    command: &Command,
+    bytes: Vec<u8>,
+    gate: &G,
+) -> Result<Course, Memory>
+    ensures { (all : List ℕ) → bytes.items ≡ take (suc most_bytes) all
+        → IfOk result (HasCome (program_of (told_command command.now) all) command.now.file) }
+{
+    let mut text = Vec::new(alloc);
+    let goal = copied(alloc, &command.goal)?;
+    let mut script = FileScript::new(alloc, bytes, &command.file, goal, &mut text)?;
+    let mut world = Gated {
+        world: PlainWorld::<Stored, PlainAtoms>::new(alloc, goals_of(command))?,
+        gate,
+    };
+    let mut atoms = PlainAtoms::new(alloc)?;
+    let mut output = Vec::new(alloc);
+    let stop = play(
+        alloc,
+        &command.limits,
+        &mut script,
+        &mut world,
+        &mut atoms,
+        &mut text,
+        &mut output,
+    )?;
+    close(
+        alloc,
+        stop,
+        &script,
+        world.world,
+        &command.file,
+        text,
+        output,
+    )
+}
+
+/// How many goals a command has.
+fn goals_of(command: &Command) -> u64
+    ensures { result ≡ length (told_command command.now).words }
+{
+    match &command.goal {
+        None => 0,
+        Some(_) => 1,
+    }
+}
+
+/// The same word, if there is one. The only error is want of memory.
+fn copied(alloc: Global, word: &Option<Text>) -> Result<Option<Text>, Memory>
+    ensures { IfOk result (λ w. w ≡ word.now) }
+{
+    match word {
+        None => Ok(None),
+        Some(word) => {
+            let word = word.copy(alloc)?;
+            Ok(Some(word))
+        }
+    }
+}
+
+/// What comes of a script that does not go on. The only error is want of memory.
+fn close(
+    alloc: Global,
+    stop: Stop,
+    script: &FileScript,
+    world: PlainWorld<Stored, PlainAtoms>,
+    name: &Text,
+    text: Vec<u8>,
+    output: Vec<u8>,
+) -> Result<Course, Memory>
+    ensures { (p : Program) → IsPlayed (main_job p) name.now (at_start (main_job p)) (start_of p) stop script.now
+        ⟦<FileScript as Script>⟧.kept (told_of world.journal) text.items output.items
+        → IfOk result (HasCome p name.now) }
+{
+    match stop {
+        Stop::Ended(how) => {
+            let outcome = outcome(alloc, Some(how), script, world, text, output)?;
+            Ok(Course::Stood(outcome))
+        }
+        Stop::Waits => {
+            let text = with_waiting(script, name, text)?;
+            let outcome = outcome(alloc, None, script, world, text, output)?;
+            Ok(Course::Stood(outcome))
+        }
+        Stop::Missing(procedure) => {
+            let _updates = world.entries();
+            let name = name_of(alloc, procedure.name)?;
+            Ok(Course::Unbuilt {
+                name,
+                arity: procedure.arity,
+            })
+        }
+    }
+}
+
+/// The text of the file with the line of a directive that waits, if one does. The only error is want of memory.
+fn with_waiting(script: &FileScript, name: &Text, text: Vec<u8>) -> Result<Vec<u8>, Memory>
+    ensures { IfOk result (λ v. IsLine (part_in script.now) name.now text.items v.items) }
+{
+    match script.directive_at() {
+        None => Ok(text),
+        Some(place) => {
+            let mut text = text;
+            put_waiting_directive(&mut text, name, place)?;
+            Ok(text)
+        }
+    }
+}
+
+/// Where the first engine stands, which has ended so or waits. The only error is want of memory.
+fn outcome(
+    alloc: Global,
+    end: Option<How>,
+    script: &FileScript,
+    world: PlainWorld<Stored, PlainAtoms>,
+    text: Vec<u8>,
+    output: Vec<u8>,
+) -> Result<Outcome, Memory>
+    ensures kept { IfOk result (λ o. (o.front.end ≡ end) × (o.text.items ≡ text.items) × (o.output.items ≡ output.items)
+        × (o.faulty ≡ ⟦<FileScript as Script>⟧.kept script.now)) }
+    ensures history { IfOk result (λ o. (history_of o.front ≡ (told_of world.journal).history) × (o.front.generations.items ≡ (told_of world.journal).gens)) }
+    ensures plain { IfOk result (λ o. AllPlain 1 (told_of world.journal).history) }
+    ensures operators { IfOk result (λ o. o.operators ≡ (state_at (told_of world.journal).goals (told_of world.journal).history
+        (length (told_of world.journal).history)).operators) }
+    ensures words { IfOk result (λ o. (job : Job) (cs : List Consulted) (names : List (Chars × ℕ)) → AreNames names (execution_of script.now job cs).words
+        → AreRead o.word names (execution_of script.now job cs).words) }
+{
+    let operators = world.operators()?;
+    let _entries = world.entries();
+    let word = word_of(script);
+    let faulty = script.is_faulty();
+    let (entries, generations) = world.into_parts();
+    Ok(Outcome {
+        front: Front {
+            entries,
+            generations,
+            end,
+        },
+        operators,
+        text,
+        output,
+        word,
+        faulty,
+    })
+}
+
+/// How the word of the goal was read.
+fn word_of(script: &FileScript) -> Option<Word>
+    ensures { (job : Job) (cs : List Consulted) (names : List (Chars × ℕ)) → AreNames names (execution_of script.now job cs).words
+        → AreRead result names (execution_of script.now job cs).words }
+{
+    match script.word() {
+        None => None,
+        Some(word) => Some(word_in(word)),
+    }
+}
+
+/// How a word was read.
+fn word_in(word: &GoalWord) -> Word
+    ensures { (names : List (Chars × ℕ)) → AreNames names (words_of (Some word.now)) → AreRead (Some result) names (words_of (Some word.now)) }
+{
+    match word {
+        GoalWord::Goal { .. } => Word::Goal,
+        GoalWord::Faulty(fault) => Word::Fault {
+            kind: fault.kind,
+            at: fault.at as u64,
+        },
+    }
+}
+
+/// The name of a predicate of the system. The only error is want of memory.
+fn name_of(alloc: Global, name: Atom) -> Result<Text, Memory> {
+    let rows = fixed_atoms(alloc)?;
+    for row in &rows {
+        if row.0 == name {
+            return row.1.copy(alloc);
+        }
+    }
+    Text::from_str(alloc, "a predicate")
+}
