@@ -1,7 +1,7 @@
 //! Whole commands over memory. What is to be written was taken from another implementation of the same standard, and
 //! not from what this one writes.
 use crate::run::{Report, run};
-use crate::test_rows::{FILES, ROWS};
+use crate::test_rows::{FILES, ROWS, Row};
 use pl_command::{End, GoalHow};
 use pl_io::{Bytes, Gate, MemoryFiles, MemorySink, Open};
 use pl_model::ends::How;
@@ -84,20 +84,42 @@ fn check_words<R: Threads + Wait + Sync + Abort>(
     Ok(report)
 }
 
-#[test]
-fn goals_are_run_and_reported(rt: HostRuntime) -> Result<(), Fail> {
-    let alloc = rt.alloc();
-    for (text, options, goal, want, status) in ROWS {
+/// Checks each of these goals.
+fn check_rows<R: Threads + Wait + Sync + Abort>(
+    rt: &R,
+    alloc: Global,
+    rows: &[Row],
+) -> Result<(), Fail> {
+    for (text, options, goal, want, status) in rows {
         let words = goal_words(alloc, options, goal)?;
-        let report = check_words(&rt, alloc, text, words.as_slice(), want, status)?;
+        let report = check_words(rt, alloc, text, words.as_slice(), want, *status)?;
         assert!(rt; report.front.is_some());
     }
-    for (text, want, status) in FILES {
-        let words = texts(alloc, &["run", "f.pl"])?;
-        let report = check_words(&rt, alloc, text, words.as_slice(), want, status)?;
+    Ok(())
+}
+
+/// Checks each of these files, without a goal.
+fn check_files<R: Threads + Wait + Sync + Abort>(
+    rt: &R,
+    alloc: Global,
+    rows: &[(&str, &str, u8)],
+) -> Result<(), Fail> {
+    let words = texts(alloc, &["run", "f.pl"])?;
+    for (text, want, status) in rows {
+        let report = check_words(rt, alloc, text, words.as_slice(), want, *status)?;
         assert_eq!(rt; report.ends.len(), 0);
     }
     Ok(())
+}
+
+#[test]
+fn goals_are_run_and_reported(rt: HostRuntime) -> Result<(), Fail> {
+    check_rows(&rt, rt.alloc(), &ROWS)
+}
+
+#[test]
+fn files_are_consulted(rt: HostRuntime) -> Result<(), Fail> {
+    check_files(&rt, rt.alloc(), &FILES)
 }
 
 #[test]
