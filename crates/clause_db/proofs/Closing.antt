@@ -11,7 +11,7 @@ use Rattle.std.proofs.lemmas.List.{map-append}
 use Rattle.std.proofs.lemmas.List.Elements.{All-map, All-weaker, All-push}
 use Rattle.std.proofs.lemmas.List.Sums.{sum_by-cons}
 use Rattle.pl_model.specs.History as entries
-use Rattle.pl_model.specs.World.{same_proc}
+use Rattle.pl_model.specs.Predicates.{same_proc}
 use Rattle.pl_model.specs.Database as database
 use Rattle.pl_model.specs.Database.{Database, Procedure, Stored, is_of, is_erased, cells_of, erased_where, without_procedure}
 use Rattle.gen_core.specs.declared.dated_clause.DatedClause.{DatedClause}

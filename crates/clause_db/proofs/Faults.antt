@@ -3,7 +3,7 @@ use Rattle.std.proofs.Common.{◌≡◌, ◌≤◌, ℕ, Bool, true, false, cond
 use Rattle.std.specs.Prelude.{is_some}
 use Rattle.std.specs.Option.{option_map}
 use Rattle.pl_model.specs.History.{Proc}
-use Rattle.pl_model.specs.World.{same_proc}
+use Rattle.pl_model.specs.Predicates.{same_proc}
 use Rattle.pl_model.specs.Database as database
 use Rattle.pl_model.specs.Database.{Database, Procedure, is_system, is_static, is_known}
 use Rattle.clause_db.specs.declared.access.Access.{Access}

@@ -4,7 +4,7 @@ use Rattle.std.specs.Prelude.{All, slice_set}
 use Rattle.std.specs.Option.{option_map, option_map_or, option_and_then}
 use Rattle.std.proofs.lemmas.List.Elements.{All-head, All-tail}
 use Rattle.pl_model.specs.History as entries
-use Rattle.pl_model.specs.World.{same_proc}
+use Rattle.pl_model.specs.Predicates.{same_proc}
 use Rattle.pl_model.specs.Shown.{proc_of}
 use Rattle.pl_model.specs.declared.shows.Proc.{Proc}
 use Rattle.clause_db.specs.declared.parts.Part.{Part}

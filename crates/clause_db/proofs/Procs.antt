@@ -7,7 +7,7 @@ use Rattle.std.proofs.lemmas.Bool.{false≢true}
 use Rattle.std.proofs.lemmas.Bool.Decides.{Decides-like, Decides-and, Decides-eqb}
 use Rattle.std.proofs.lemmas.Slice.Eq.{bytes_eq-Decides}
 use Rattle.pl_model.specs.History.{Proc}
-use Rattle.pl_model.specs.World.{same_proc}
+use Rattle.pl_model.specs.Predicates.{same_proc}
 
 pub same_proc-Decides : (p q : Proc) → Decides (same_proc p q) (p ≡ q)
 same_proc-Decides p q =

@@ -5,7 +5,7 @@ use Rattle.std.specs.Option.{option_map}
 use Rattle.std.proofs.lemmas.Bool.{leb-true, leb-false}
 use Rattle.std.proofs.lemmas.List.Elements.{filter-append}
 use Rattle.pl_model.specs.History.{Proc}
-use Rattle.pl_model.specs.World.{same_proc}
+use Rattle.pl_model.specs.Predicates.{same_proc}
 use Rattle.pl_model.specs.Database.{Database, Stored, is_of, is_visible, is_erased, seen, named_clauses, added_clause, erased_where}
 use Rattle.pl_model.specs.Flags.{Flags}
 use Rattle.pl_model.specs.OperatorTable.{OperatorTable}

@@ -4,7 +4,7 @@ use Rattle.std.specs.List.{list_any}
 use Rattle.std.specs.Option.{option_map_or, option_and_then, unwrap_or}
 use Rattle.pl_model.specs.Shown.{proc_of}
 use Rattle.pl_model.specs.History as entries
-use Rattle.pl_model.specs.World.{same_proc}
+use Rattle.pl_model.specs.Predicates.{same_proc}
 use Rattle.pl_model.specs.Database.{is_system}
 use Rattle.pl_model.specs.Flags.{Flags}
 use Rattle.pl_model.specs.OperatorTable.{OperatorTable}

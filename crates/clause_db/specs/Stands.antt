@@ -3,7 +3,7 @@
 use Rattle.std.specs.Prelude.{◌≡◌, ℕ, ◌<◌, ◌≤◌, List, [], ◌∷◌, map, filter, find, length, Option, Some, None, Bool, false, not, nat_lt, nat_le, All, if◌then◌else◌}
 use Rattle.std.specs.Option.{option_map, option_map_or}
 use Rattle.pl_model.specs.History.{Proc}
-use Rattle.pl_model.specs.World.{same_proc}
+use Rattle.pl_model.specs.Predicates.{same_proc}
 use Rattle.pl_model.specs.Database as database
 use Rattle.pl_model.specs.Database.{Database, Procedure, Stored, is_of, is_at, seen, named_clauses, used_cells}
 use Rattle.gen_core.specs.declared.dated_clause.DatedClause.{DatedClause}

@@ -8,7 +8,7 @@ use Rattle.pl_model.specs.History.{Kind, History, Clause as ClauseOf, add_last, 
 use Rattle.pl_model.specs.Requests.{consult_clause, done, refused}
 use Rattle.pl_model.specs.Requests as requests
 use Rattle.pl_model.specs.Service.{Served as ServedSo, answers, waits, refuses, serve, most_updates, clause_cells}
-use Rattle.pl_model.specs.World.{proc_of}
+use Rattle.pl_model.specs.Predicates.{proc_of}
 use Rattle.pl_model.specs.Errors.{static_procedure}
 use Rattle.pl_model.specs.ErrorTerms.{resource_error}
 use Rattle.pl_model.specs.Database.{is_system, has_room}

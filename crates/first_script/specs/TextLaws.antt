@@ -3,7 +3,7 @@ use Rattle.std.specs.Prelude.{◌≡◌, ℕ, ◌+◌, ◌^◌, [], ◌∷◌, B
 use Rattle.std.proofs.Common.{ap, refl}
 use Rattle.pl_term.specs.Tree.{Tree}
 use Rattle.pl_model.specs.History.{Proc}
-use Rattle.pl_model.specs.World.{proc_of}
+use Rattle.pl_model.specs.Predicates.{proc_of}
 use Rattle.pl_model.specs.BodyChecks.{body_of}
 use Rattle.pl_term.specs.Cells.{cells}
 use Rattle.pl_model.specs.Resolution.{Limits, State, Node, goal}

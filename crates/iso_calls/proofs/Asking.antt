@@ -5,7 +5,7 @@ use Rattle.std.proofs.lemmas.List.Elements.{All-cons, All-head, All-weaker, All-
 use Rattle.pl_term.specs.Tree.{Chars, Tree, var, int, atom, comp}
 use Rattle.pl_model.specs.History.{Clause, History, Kind}
 use Rattle.pl_model.specs.Database.{Stored}
-use Rattle.pl_model.specs.World.{proc_of}
+use Rattle.pl_model.specs.Predicates.{proc_of}
 use Rattle.pl_model.specs.Requests.{call_clauses, listed, refused}
 use Rattle.pl_model.specs.Requests as requests
 use Rattle.pl_model.specs.Service.{answers}

@@ -4,7 +4,7 @@ use Rattle.std.proofs.lemmas.Bool.{false≢true}
 use Rattle.pl_term.specs.Tree.{Tree}
 use Rattle.pl_model.specs.History.{Clause}
 use Rattle.pl_model.specs.Database.{Stored}
-use Rattle.pl_model.specs.World.{proc_of}
+use Rattle.pl_model.specs.Predicates.{proc_of}
 use Rattle.pl_model.specs.Balls.{no_choices}
 use Rattle.pl_model.specs.Resolution.{Node, State, clauses, resolving}
 use Rattle.pl_model.specs.Control.{first_clause, next_clause, raised, several, tried}

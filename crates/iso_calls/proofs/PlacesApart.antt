@@ -4,7 +4,7 @@ use Rattle.std.specs.Prelude.{filter, not, if◌then◌else◌}
 use Rattle.std.proofs.lemmas.Bool.{false≢true, ne_eqb}
 use Rattle.std.proofs.lemmas.Bool.Decides.{Decides-eqb}
 use Rattle.pl_term.specs.Tree.{Tree}
-use Rattle.pl_model.specs.World.{is_excluded, proc_of}
+use Rattle.pl_model.specs.Predicates.{is_excluded, proc_of}
 use Rattle.pl_model.specs.History.{Proc, Clause, Kind, History, add_first, add_last, erase, abolish, set_dynamic, set_flag, set_op, make_queue, drop_queue, send, start, finish, join}
 use Rattle.pl_model.specs.History as entries
 use Rattle.pl_model.specs.Database.{Stored, seen, is_of, is_visible, is_at, is_erased, erased_where}

@@ -5,7 +5,7 @@ use Rattle.pl_term.specs.Variables.{variables}
 use Rattle.pl_model.specs.BodyChecks.{body_part, head_part}
 use Rattle.pl_model.specs.History.{Clause, Proc}
 use Rattle.pl_model.specs.Database.{Stored}
-use Rattle.pl_model.specs.World.{proc_of}
+use Rattle.pl_model.specs.Predicates.{proc_of}
 use Rattle.pl_model.specs.Terms.{clause_cells, raised_by, variable_count}
 use Rattle.pl_model.specs.Unify.{Bindings, unify}
 use Rattle.pl_model.specs.Balls.{error_ball}

@@ -4,7 +4,7 @@ use Rattle.pl_term.specs.Tree.{Chars, Tree}
 use Rattle.pl_model.specs.Flags.{Unknown, raises, fails}
 use Rattle.pl_model.specs.History.{Clause, History, Kind, Proc}
 use Rattle.pl_model.specs.Database.{Stored, is_known}
-use Rattle.pl_model.specs.World.{proc_of}
+use Rattle.pl_model.specs.Predicates.{proc_of}
 use Rattle.pl_model.specs.Errors.{unknown_procedure}
 use Rattle.pl_model.specs.SharedState.{state_at}
 use Rattle.pl_model.specs.Requests.{call_clauses, listed, refused}

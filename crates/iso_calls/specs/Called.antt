@@ -4,7 +4,7 @@ use Rattle.std.specs.List.{All}
 use Rattle.pl_term.specs.Tree.{Tree}
 use Rattle.pl_model.specs.History.{Clause, History}
 use Rattle.pl_model.specs.Database.{Stored}
-use Rattle.pl_model.specs.World.{proc_of}
+use Rattle.pl_model.specs.Predicates.{proc_of}
 use Rattle.pl_model.specs.Requests.{call_clauses, listed, refused}
 use Rattle.pl_model.specs.Service.{answers}
 use Rattle.pl_model.specs.Progress.{entry_by, served_now}

@@ -3,7 +3,7 @@ use Rattle.std.specs.Prelude.{◌≡◌, ℕ, List, Option}
 use Rattle.pl_term.specs.Tree.{Tree}
 use Rattle.pl_model.specs.History.{Clause}
 use Rattle.pl_model.specs.Database.{Stored}
-use Rattle.pl_model.specs.World.{proc_of}
+use Rattle.pl_model.specs.Predicates.{proc_of}
 use Rattle.pl_model.specs.Resolution.{resolving}
 use Rattle.pl_model.specs.Control.{first_clause}
 use Rattle.term_store.specs.declared.words.Place.{Place}

@@ -4,7 +4,7 @@ use Rattle.std.specs.List.{All}
 use Rattle.pl_term.specs.Tree.{Tree}
 use Rattle.pl_model.specs.History.{Clause, History}
 use Rattle.pl_model.specs.Database.{Stored}
-use Rattle.pl_model.specs.World.{proc_of}
+use Rattle.pl_model.specs.Predicates.{proc_of}
 use Rattle.pl_model.specs.Resolution.{resolving, clauses}
 use Rattle.pl_model.specs.Control.{next_clause}
 use Rattle.atom_api.specs.Names.{Names}

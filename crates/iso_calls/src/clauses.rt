@@ -4,7 +4,7 @@ ghost use Rattle.std.specs.Option.{option_map};
 ghost use Rattle.pl_term.specs.Variables.{variables};
 ghost use Rattle.pl_model.specs.History.{Clause};
 ghost use Rattle.pl_model.specs.Database.{Stored as StoredClause};
-ghost use Rattle.pl_model.specs.World.{proc_of};
+ghost use Rattle.pl_model.specs.Predicates.{proc_of};
 ghost use Rattle.pl_model.specs.Resolution.{resolving};
 ghost use Rattle.pl_model.specs.Control.{first_clause, next_clause, tried, clause_unified};
 ghost use Rattle.pl_model.specs.Unify.{unify};

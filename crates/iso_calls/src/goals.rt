@@ -1,7 +1,7 @@
 //! Goals as the shared state is asked for their clauses.
 ghost use Rattle.std.specs.Prelude.{◌≡◌, ℕ, ℤ};
 ghost use Rattle.pl_term.specs.Tree.{int};
-ghost use Rattle.pl_model.specs.World.{proc_of};
+ghost use Rattle.pl_model.specs.Predicates.{proc_of};
 ghost use Rattle.term_store.specs.ArgumentKeys.{argument_key, clause_key, head_key};
 ghost use Rattle.term_store.specs.Contents.{Holds, term_at};
 ghost use Rattle.iso_calls.specs.Goals.{HasPredicate};

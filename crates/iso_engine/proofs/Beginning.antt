@@ -4,7 +4,7 @@ use Rattle.pl_term.specs.Tree.{Chars, Tree, var}
 use Rattle.pl_term.specs.Cells.{cells}
 use Rattle.pl_term.specs.Variables.{rename, variables}
 use Rattle.pl_model.specs.History.{Proc}
-use Rattle.pl_model.specs.World.{proc_of}
+use Rattle.pl_model.specs.Predicates.{proc_of}
 use Rattle.pl_model.specs.BodyChecks.{body_of}
 use Rattle.pl_model.specs.Resolution.{Choice, goal, Limits, Node, Pending, State, running, Output}
 use Rattle.pl_model.specs.Control.{before, checked, consult_proc, run_on, start, start_node, start_state, taking}

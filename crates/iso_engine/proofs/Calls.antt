@@ -11,7 +11,7 @@ use Rattle.pl_model.specs.Database.{Stored}
 use Rattle.pl_model.specs.Requests.{Request, Reply, call_clauses, listed, refused}
 use Rattle.pl_model.specs.Service.{answers}
 use Rattle.pl_model.specs.Progress.{served_now}
-use Rattle.pl_model.specs.World.{proc_of}
+use Rattle.pl_model.specs.Predicates.{proc_of}
 use Rattle.pl_model.specs.Resolution.{Limits, Node, Pending, goal, State, Next, asks, running, throwing, erasing, clearing, failing, answering, ended, resolving}
 use Rattle.pl_model.specs.Resolution as resolution
 use Rattle.pl_model.specs.Control.{construct, costing, first_clause, name_of, other, step, take_up, with_clauses, with_other, with_shared}

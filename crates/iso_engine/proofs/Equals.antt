@@ -7,7 +7,7 @@ use Rattle.pl_term.specs.Tree.{Chars, Tree, atom, comp, none, more, compound}
 use Rattle.pl_model.specs.BuiltinRows.{one_answer}
 use Rattle.pl_model.specs.BuiltinRows as basic
 use Rattle.pl_model.specs.Builtins.{row}
-use Rattle.pl_model.specs.World.{proc_of}
+use Rattle.pl_model.specs.Predicates.{proc_of}
 use Rattle.pl_model.specs.Resolution.{Limits, Next, Node, State, goes}
 use Rattle.pl_model.specs.Control.{construct, costing, other, take_up, with_row}
 use Rattle.atom_api.specs.Fixed.{fixed, fixed_texts}

@@ -1,7 +1,7 @@
 -- What a step leads to.
 use Rattle.std.proofs.Common.{◌≡◌, ℕ, ◌≤◌, ◌<◌, ◌∷◌, List, length, Bool, true, false, if◌then◌else◌, nat_le, refl, sym, ap, ap₂, ◌∙◌}
 use Rattle.pl_model.specs.History.{Proc}
-use Rattle.pl_model.specs.World.{proc_of}
+use Rattle.pl_model.specs.Predicates.{proc_of}
 use Rattle.pl_model.specs.Resolution.{Choice, Node, Pending, running, failing, throwing, Output, State, Next, goes, solution_count, up_to}
 use Rattle.pl_model.specs.Resolution as resolution
 use Rattle.pl_model.specs.Control.{Construct, construct, do_first, failed, step, step_by, take_up}

@@ -5,7 +5,7 @@ use Rattle.pl_model.specs.OperatorTable.{OperatorTable}
 use Rattle.pl_model.specs.Unify.{Bindings, solve_all, unify}
 use Rattle.pl_term.specs.Variables.{rename}
 use Rattle.pl_model.specs.Terms.{clause_cells, arguments, extended, is_list_or_partial, is_variable, list_term, raised_by, variable_count}
-use Rattle.pl_model.specs.World.{proc_of}
+use Rattle.pl_model.specs.Predicates.{proc_of}
 use Rattle.pl_model.specs.Checks.{bound_error, callable_error, first_error}
 use Rattle.pl_model.specs.AtomBuiltins.{character_error}
 use Rattle.pl_model.specs.BodyChecks.{body_of, body_part, called_goal, clause_of_term, head_part, if_callable, rule}
@@ -134,7 +134,7 @@ module _ (n : ℕ) where
   exit_made l s m g t e = go l.stays
     where
       go : (o : Option Chars)
-          → (let r : State = elim o [ None ↦ record s { doing = ended (Rattle.pl_model.specs.Resolution.exited t) } | Some name ↦ raised s m (Rattle.pl_model.specs.ErrorTerms.permission_error (Rattle.std.specs.Prelude.codes "exit") (Rattle.std.specs.Prelude.codes "thread") (atom name)) (Rattle.pl_model.specs.World.proc_of g) ] in r.inferences ≡ n)
+          → (let r : State = elim o [ None ↦ record s { doing = ended (Rattle.pl_model.specs.Resolution.exited t) } | Some name ↦ raised s m (Rattle.pl_model.specs.ErrorTerms.permission_error (Rattle.std.specs.Prelude.codes "exit") (Rattle.std.specs.Prelude.codes "thread") (atom name)) (Rattle.pl_model.specs.Predicates.proc_of g) ] in r.inferences ≡ n)
       go None = e
       go (Some name) = e
 
@@ -170,7 +170,7 @@ costing_made : (l : Limits) (s : State) (m : Node) (t : Tree) (next : State → 
 costing_made l s m t next h = go _ (h (record s { inferences = suc s.inferences }) refl)
   where
     go : (b : Bool) → Makes (suc s.inferences) (next (record s { inferences = suc s.inferences }))
-        → Spends s.inferences (if b then next (record s { inferences = suc s.inferences }) else goes (raised s m Rattle.pl_model.specs.Balls.no_inferences (Rattle.pl_model.specs.World.proc_of t)))
+        → Spends s.inferences (if b then next (record s { inferences = suc s.inferences }) else goes (raised s m Rattle.pl_model.specs.Balls.no_inferences (Rattle.pl_model.specs.Predicates.proc_of t)))
     go true k = one_made _ _ k
     go false k = inl refl
 

@@ -3,7 +3,7 @@ use Rattle.std.proofs.Common.{◌≡◌, ℕ, ◌≤◌, inl, inr, List, [], ◌
 use Rattle.std.specs.Prelude.{encode_utf8_all}
 use Rattle.std.proofs.lemmas.Bool.{true≢false}
 use Rattle.pl_term.specs.Tree.{Chars}
-use Rattle.pl_model.specs.World.{proc_of}
+use Rattle.pl_model.specs.Predicates.{proc_of}
 use Rattle.pl_model.specs.Requests.{read_operators, standing}
 use Rattle.pl_model.specs.Resolution.{Output, goes, running, solution_count}
 use Rattle.pl_model.specs.Control.{step}

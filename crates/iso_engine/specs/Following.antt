@@ -1,7 +1,7 @@
 -- How the states of a search follow each other.
 use Rattle.std.specs.Prelude.{◌≡◌, ℤ}
 use Rattle.pl_term.specs.Tree.{int}
-use Rattle.pl_model.specs.World.{proc_of}
+use Rattle.pl_model.specs.Predicates.{proc_of}
 use Rattle.pl_model.specs.Resolution.{goes}
 use Rattle.pl_model.specs.Control.{step}
 use Rattle.term_store.specs.declared.words.Place.{Place}

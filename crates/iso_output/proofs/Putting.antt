@@ -6,7 +6,7 @@ use Rattle.pl_term.specs.Tree.{Tree, int, atom, comp, none, more}
 use Rattle.pl_model.specs.AtomBuiltins.{character_error}
 use Rattle.pl_model.specs.Balls.{error_ball, instantiation_error, type_error}
 use Rattle.pl_model.specs.Checks.{text_of_atom}
-use Rattle.pl_model.specs.World.{proc_of}
+use Rattle.pl_model.specs.Predicates.{proc_of}
 use Rattle.pl_model.specs.Resolution.{Choice, Doing, Node, Output, State, goes, throwing}
 use Rattle.pl_model.specs.Control.{proc, with_character, with_text}
 use Rattle.atom_api.specs.Fixed.{fixed, fixed_texts}

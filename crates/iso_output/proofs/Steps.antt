@@ -9,7 +9,7 @@ use Rattle.pl_term.specs.Tree.{Chars, Tree, Trees, var, int, atom, comp, none, m
 use Rattle.pl_model.specs.AtomBuiltins.{character_error}
 use Rattle.pl_model.specs.Balls.{no_inferences}
 use Rattle.pl_model.specs.TermWriting.{write_canonical}
-use Rattle.pl_model.specs.World.{proc_of}
+use Rattle.pl_model.specs.Predicates.{proc_of}
 use Rattle.pl_model.specs.Requests.{Reply, read_operators, standing}
 use Rattle.pl_model.specs.History.{History, Kind}
 use Rattle.pl_model.specs.Progress.{entry_by, served_now}

@@ -2,7 +2,7 @@
 use Rattle.std.proofs.Common.{◌≡◌, ℕ, ℤ, suc, List, [], ◌∷◌, length, Some, None, Result, Ok, Err, refl, sym, ap, ap₂, ◌∙◌}
 use Rattle.pl_term.specs.Tree.{Chars, Tree, var, int, atom, compound}
 use Rattle.pl_model.specs.History.{Proc}
-use Rattle.pl_model.specs.World.{proc_of}
+use Rattle.pl_model.specs.Predicates.{proc_of}
 use Rattle.pl_model.specs.Balls.{instantiation_error, not_callable, error_ball}
 use Rattle.pl_model.specs.BodyChecks.{body_of, called_goal, converted, if_callable, or_not_callable}
 use Rattle.pl_model.specs.Resolution.{Node, State, goal, throwing}

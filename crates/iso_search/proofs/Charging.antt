@@ -4,7 +4,7 @@ use Rattle.std.proofs.lemmas.Bool.Decides.{leb_tells}
 use Rattle.std.proofs.lemmas.List.Elements.{All-weaker}
 use Rattle.pl_term.specs.Tree.{Tree}
 use Rattle.pl_model.specs.History.{Proc}
-use Rattle.pl_model.specs.World.{proc_of}
+use Rattle.pl_model.specs.Predicates.{proc_of}
 use Rattle.pl_model.specs.Balls.{error_ball, no_inferences, no_cells}
 use Rattle.pl_model.specs.Resolution.{Node, Choice, State, Next, goes, collected_cells}
 use Rattle.pl_model.specs.Terms.{variable_count}

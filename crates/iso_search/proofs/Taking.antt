@@ -1,7 +1,7 @@
 -- Control constructs are taken up by the definition.
 use Rattle.std.proofs.Common.{◌≡◌, ℕ, suc, true, false, [], ◌∷◌, Option, Some, None, IfSome, refl, ap, subst, ◌∙◌}
 use Rattle.pl_term.specs.Tree.{Tree}
-use Rattle.pl_model.specs.World.{proc_of}
+use Rattle.pl_model.specs.Predicates.{proc_of}
 use Rattle.pl_model.specs.Resolution.{Limits, Node, State, Next, goes, up_to, running, goal, commit, branch, barrier}
 use Rattle.pl_model.specs.Control.{succeeds, cuts, conjunction, disjunction, if_then, if_then_else, take_up, before, costing, over, run_on}
 use Rattle.term_store.specs.Contents.{Contents}

@@ -3,7 +3,7 @@ use Rattle.std.specs.Prelude.{◌≡◌, ℕ, Bool, true, false, Option, Some, N
 use Rattle.pl_term.specs.Tree.{Tree}
 use Rattle.pl_model.specs.History.{Proc}
 use Rattle.pl_term.specs.Cells.{cells}
-use Rattle.pl_model.specs.World.{proc_of}
+use Rattle.pl_model.specs.Predicates.{proc_of}
 use Rattle.pl_model.specs.Balls.{error_ball}
 use Rattle.pl_model.specs.Terms.{variable_count}
 use Rattle.pl_model.specs.Control.{Caught, catch_proc}

@@ -1,7 +1,7 @@
 -- Control constructs that make an inference.
 use Rattle.std.specs.Prelude.{[], ◌∷◌, length}
 use Rattle.pl_term.specs.Tree.{Tree}
-use Rattle.pl_model.specs.World.{proc_of}
+use Rattle.pl_model.specs.Predicates.{proc_of}
 use Rattle.pl_model.specs.Resolution.{Limits, Node, State, goal, branch}
 use Rattle.pl_model.specs.Control.{Construct as Construction, fails, repeats, calls, not_provable, once, catches, throws, halts, before, failed, over, with_call, with_catch, with_negation, with_once, with_status, with_throw}
 use Rattle.iso_search.specs.declared.construct.Construct.{Construct}

@@ -2,7 +2,7 @@
 ghost use Rattle.std.specs.Prelude.{◌≡◌, ◌≤◌, ◌<◌, suc, [], ◌∷◌, length, IfOk, OnOk};
 ghost use Rattle.pl_term.specs.Tree.{Tree};
 ghost use Rattle.pl_model.specs.History.{Proc};
-ghost use Rattle.pl_model.specs.World.{proc_of};
+ghost use Rattle.pl_model.specs.Predicates.{proc_of};
 ghost use Rattle.pl_model.specs.Resolution.{goal};
 ghost use Rattle.pl_model.specs.BodyChecks.{body_of, called_goal};
 ghost use Rattle.pl_model.specs.Control.{before, checked, over, run_on, taking, with_call};

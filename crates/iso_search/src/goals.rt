@@ -1,6 +1,6 @@
 //! Goals that are run by control constructs alone.
 ghost use Rattle.std.specs.Prelude.{◌≡◌, ◌≤◌, ℕ, length, IfNone, IfOk, IfSome, MatchOption, OnOk};
-ghost use Rattle.pl_model.specs.World.{proc_of};
+ghost use Rattle.pl_model.specs.Predicates.{proc_of};
 ghost use Rattle.pl_model.specs.Resolution.{goes};
 ghost use Rattle.pl_model.specs.Control.{take_up};
 ghost use Rattle.term_store.specs.Contents.{Holds};

@@ -1,7 +1,7 @@
 //! Goals that leave what runs: by a ball (ISO 7.8.10) or an exit status (ISO 8.17.4).
 ghost use Rattle.std.specs.Prelude.{◌≡◌};
 ghost use Rattle.pl_term.specs.Tree.{Tree};
-ghost use Rattle.pl_model.specs.World.{proc_of};
+ghost use Rattle.pl_model.specs.Predicates.{proc_of};
 ghost use Rattle.pl_model.specs.Resolution.{Node};
 ghost use Rattle.pl_model.specs.Control.{with_status, with_throw};
 ghost use Rattle.term_store.specs.Contents.{Holds};

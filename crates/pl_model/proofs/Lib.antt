@@ -1,7 +1,3 @@
-pub mod Stable
-pub mod Entries
-pub mod Reached
-pub mod Alone
 pub mod LawfulEntries
 pub mod LawfulStable
 pub mod Progress
@@ -15,10 +11,8 @@ pub mod UnifyGeneral
 pub mod UnifyLaws
 pub mod UnifyMore
 pub mod ControlLaws
-pub mod Depth
 pub mod CharacterRuns
 pub mod TokenPlaces
-pub mod WorkedRuns
 pub mod TokenTexts
 pub mod LexicalPieces
 pub mod LexicalPlaces

@@ -1,21 +1,13 @@
--- The bytes of a token are UTF-8.
-use Rattle.std.proofs.Common.{◌≡◌, ℕ, ◌+◌, ◌-◌, ◌<◌, ◌≤◌, zero, suc, Bool, true, false, cond, nat_lt, List, [], ◌∷◌, ◌++◌, length, take, drop, min, Result, Ok, Err, refl, ap, sym, subst, ◌∙◌, arith}
-use Rattle.std.proofs.lemmas.List.{length-take, length-drop, drop-drop, take_min}
+-- The bytes of a character, and of a run of characters, are UTF-8.
+use Rattle.std.proofs.Common.{◌≡◌, ℕ, ◌+◌, ◌<◌, ◌≤◌, zero, suc, Bool, true, false, cond, nat_lt, List, [], ◌∷◌, ◌++◌, length, take, drop, min, refl, ap, sym, subst, ◌∙◌, arith}
+use Rattle.std.proofs.lemmas.List.{length-take, length-drop, take_min}
 use Rattle.std.proofs.Math.Seq.{take-nil}
 use lib.Utf8.{low_scalar}
 use lib.Dec.{ltb→lt}
 use Rattle.std.proofs.lemmas.Str.{IsUtf8-nil, IsUtf8-append, IsUtf8-from_is_utf8, IsUtf8-encode, encode_ascii}
-use Rattle.std.specs.Char.{is_ascii_digit}
 use Rattle.std.specs.Str.{IsUtf8, is_utf8, continuation_len}
-use Rattle.pl_model.specs.declared.syntax.SyntaxFault.{SyntaxFault}
-use Rattle.pl_model.specs.declared.syntax.CharacterClass.{CharacterClass}
-use Rattle.pl_model.specs.declared.syntax.CharacterClass.TheVariants.{Letter, Capital, Digit, Symbol, Open, Close, Comma, Other}
-use Rattle.pl_model.specs.declared.syntax.TokenKind.{TokenKind}
-use Rattle.pl_model.specs.declared.syntax.TokenKind.TheVariants.{Name, Variable, Open as OpenToken, Close as CloseToken, Comma as CommaToken}
-use Rattle.pl_model.specs.declared.syntax.Lexeme.TheVariants.{End}
-use Rattle.pl_model.specs.Tokens.{Front, nothing, scalar, broken, front, front_of, run, run_end, skip_layout, token, token_of, is_symbol, continues_name, class_of, lexeme_at, token_at}
+use Rattle.pl_model.specs.Tokens.{Front, nothing, scalar, broken, front, front_of, run}
 use Rattle.pl_model.proofs.CharacterRuns.{front-ascii, front-wide, front-bounds, run-passes, run-stops, run-broken}
-use Rattle.pl_model.proofs.TokenPlaces.{numeral-places, symbols-places, lexeme_at-nothing, lexeme_at-scalar, lexeme_at-broken, token_at-start, token_at-fault}
 
 take-add : (m n : ℕ) (bs : List ℕ) → take (m + n) bs ≡ take m bs ++ take n (drop m bs)
 take-add zero n bs = ap (λ k. take k bs) (omega arith)
@@ -84,67 +76,3 @@ run-text-within p (suc n) bs h =
 
 pub run-text : (p : ℕ → Bool) (bs : List ℕ) → IsUtf8 (take (run p 0 bs) bs)
 run-text p bs = run-text-within p (length bs) bs (omega arith)
-
--- Tokens.
-
-abbrev IsText : List ℕ → ℕ → ℕ → Type 0
-IsText text s e = IsUtf8 (take (e - s) (drop s text))
-
-module _ (text : List ℕ) (start c k : ℕ) (at : front (drop start text) ≡ scalar c k) where
-  one-text : IsText text start (start + k)
-  one-text =
-      let size : (start + k) - start ≡ k = omega arith in
-      subst (λ n. IsUtf8 (take n (drop start text))) (sym size) (front-text (drop start text) c k at)
-
-  more-text : (p : ℕ → Bool) → IsText text start (run_end p text (start + k))
-  more-text p =
-      let size : run_end p text (start + k) - start ≡ k + run p 0 (drop (start + k) text) = omega arith in
-      let behind : drop k (drop start text) ≡ drop (start + k) text = drop-drop k start text in
-      let first : IsUtf8 (take k (drop start text)) = front-text (drop start text) c k at in
-      let rest : IsUtf8 (take (run p 0 (drop (start + k) text)) (drop (start + k) text)) = run-text p (drop (start + k) text) in
-      subst (λ n. IsUtf8 (take n (drop start text))) (sym size)
-      (subst IsUtf8 (sym (take-add k (run p 0 (drop (start + k) text)) (drop start text)))
-      (IsUtf8-append (take k (drop start text)) (take (run p 0 (drop (start + k) text)) (drop k (drop start text))) first
-      (subst (λ bs. IsUtf8 (take (run p 0 (drop (start + k) text)) bs)) (sym behind) rest)))
-
-  same-text : (end s e : ℕ) → IsText text start end → (s ≡ start) × (e ≡ end) → IsText text s e
-  same-text end s e is same = subst (λ n. IsText text s n) (sym same.1) (subst (λ n. IsText text n end) (sym same.0) is)
-
-  places : (k1 k2 : TokenKind) (end s e : ℕ) → token k1 start end ≡ token k2 s e → (s ≡ start) × (e ≡ end)
-  places k1 k2 end s e is = (cc, cc)
-
-  token_of-text : (class : CharacterClass) (kind : TokenKind) (s e : ℕ) → token_of text class start (start + k) ≡ token kind s e → IsText text s e
-  token_of-text Letter kind s e is =
-      same-text (run_end continues_name text (start + k)) s e (more-text continues_name) (places Name kind (run_end continues_name text (start + k)) s e is)
-  token_of-text Capital kind s e is =
-      same-text (run_end continues_name text (start + k)) s e (more-text continues_name) (places Variable kind (run_end continues_name text (start + k)) s e is)
-  token_of-text Digit kind s e is =
-      same-text (run_end is_ascii_digit text (start + k)) s e (more-text is_ascii_digit)
-      (numeral-places text start (run_end is_ascii_digit text (start + k)) kind s e is)
-  token_of-text Symbol kind s e is =
-      same-text (run_end is_symbol text (start + k)) s e (more-text is_symbol)
-      (symbols-places text start (run_end is_symbol text (start + k)) kind s e is)
-  token_of-text Open kind s e is = same-text (start + k) s e one-text (places OpenToken kind (start + k) s e is)
-  token_of-text Close kind s e is = same-text (start + k) s e one-text (places CloseToken kind (start + k) s e is)
-  token_of-text Comma kind s e is = same-text (start + k) s e one-text (places CommaToken kind (start + k) s e is)
-  token_of-text Other kind s e is = cc
-
-lexeme-text : (text : List ℕ) (start : ℕ) (f : Front) (kind : TokenKind) (s e : ℕ) → front (drop start text) ≡ f
-    → lexeme_at text start ≡ token kind s e → IsText text s e
-lexeme-text text start nothing kind s e at is =
-    let none : Ok End ≡ token kind s e = sym (lexeme_at-nothing text start at) ∙ is in cc
-lexeme-text text start (scalar c k) kind s e at is =
-    token_of-text text start c k at (class_of c) kind s e (sym (lexeme_at-scalar text start c k at) ∙ is)
-lexeme-text text start broken kind s e at is =
-    let bad = sym (lexeme_at-broken text start at) ∙ is in cc
-
-layout-text : (text : List ℕ) (at : ℕ) (r : Result ℕ SyntaxFault) (kind : TokenKind) (s e : ℕ) → skip_layout at 0 (drop at text) ≡ r
-    → token_at text at ≡ token kind s e → IsText text s e
-layout-text text at (Ok start) kind s e from is =
-    lexeme-text text start (front (drop start text)) kind s e refl (token_at-start text at start (sym from) ∙ is)
-layout-text text at (Err f) kind s e from is =
-    let bad = token_at-fault text at f (sym from) ∙ is in cc
-
--- The bytes of a token are UTF-8.
-pub token_at-text : (text : List ℕ) (at : ℕ) (kind : TokenKind) (s e : ℕ) → token_at text at ≡ token kind s e → IsUtf8 (take (e - s) (drop s text))
-token_at-text text at kind s e is = layout-text text at (skip_layout at 0 (drop at text)) kind s e refl is

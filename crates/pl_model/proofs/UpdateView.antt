@@ -3,7 +3,7 @@ use Rattle.std.proofs.Common.{◌≡◌, ◌≤◌, ℕ, zero, suc, List, [], �
 use Rattle.std.specs.Prelude.{if◌then◌else◌, cond, ◌&&◌, not, filter, take, nat_lt, ◌+◌}
 use Rattle.std.proofs.lemmas.List.{append-nil}
 use Rattle.std.proofs.lemmas.List.Elements.{filter-append}
-use Rattle.pl_model.specs.World.{same_proc}
+use Rattle.pl_model.specs.Predicates.{same_proc}
 use Rattle.pl_model.specs.History.{Proc, Clause, Kind, History, add_first, add_last, erase, abolish, set_dynamic, set_flag, set_op, make_queue, drop_queue, send, start, finish, join}
 use Rattle.pl_model.specs.History as entries
 use Rattle.pl_model.specs.Database.{Stored, is_of, is_visible, is_erased, added_clause, erased_where, named_clauses, is_at}

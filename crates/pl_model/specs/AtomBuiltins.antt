@@ -1,9 +1,9 @@
 -- Built-in predicates on atoms and characters (ISO 8.16). Places and lengths count characters.
-use Rattle.std.specs.Prelude.{ℕ, zero, suc, ◌+◌, ◌-◌, ◌*◌, pos, negsuc, ℤ, List, [], ◌∷◌, ◌++◌, map, length, take, drop, Bool, true, false, not, ◌&&◌, ◌||◌, ◌==◌, nat_lt, nat_le, Option, Some, None, Result, Ok, Err, bytes_eq, codes, if◌then◌else◌, slice_index, neg_ℤ, encode_utf8_all}
+use Rattle.std.specs.Prelude.{ℕ, zero, suc, ◌+◌, ◌-◌, ◌*◌, pos, ℤ, List, [], ◌∷◌, ◌++◌, map, length, take, drop, Bool, true, false, not, ◌&&◌, ◌||◌, ◌==◌, nat_lt, Option, Some, None, Result, Ok, Err, bytes_eq, codes, if◌then◌else◌, slice_index, neg_ℤ, encode_utf8_all}
 use Rattle.std.specs.Option.{option_map}
 use Rattle.std.specs.Fmt.{signed_decimal}
 use Rattle.std.specs.Str.Parse.{digits_value}
-use Rattle.pl_term.specs.Tree.{Chars, Tree, Trees, var, int, atom, comp, none, more}
+use Rattle.pl_term.specs.Tree.{Chars, Tree, Trees, var, int, atom, none, more}
 use Rattle.pl_model.specs.Tokens.{skip_layout}
 use Rattle.pl_model.specs.LexicalQuoted.{is_digit, digit_count}
 use Rattle.pl_model.specs.LexicalTokens.{radix_of, character_code}
@@ -16,7 +16,7 @@ use Rattle.pl_model.specs.TermGrammar.{is_too_long}
 use Rattle.pl_model.specs.Balls.{type_error, representation_error, syntax_error}
 use Rattle.pl_model.specs.Terms.{is_variable, is_atom, list_term}
 use Rattle.pl_model.specs.Checks.{first_error, error_if, bound_error, atom_error, atomic_error, integer_error, negative_error, elements, text_of_atom, natural_of}
-use Rattle.pl_model.specs.BuiltinRows.{Answer, Row, gives, table, error, plain_answer, one_answer}
+use Rattle.pl_model.specs.BuiltinRows.{Answer, Row, table, error, plain_answer, one_answer}
 use Rattle.pl_model.specs.TermBuiltins.{makes, two, three, unless, on_list}
 
 abbrev pub number : ℕ → Tree

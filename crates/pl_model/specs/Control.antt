@@ -9,7 +9,7 @@ use Rattle.pl_model.specs.OperatorTable.{OperatorTable}
 use Rattle.pl_model.specs.Unify.{Bindings, bound, unify, solve_all}
 use Rattle.pl_model.specs.TermWriting.{write, writeq, write_canonical}
 use Rattle.pl_model.specs.History.{Proc, Clause}
-use Rattle.pl_model.specs.World.{proc_of}
+use Rattle.pl_model.specs.Predicates.{proc_of}
 use Rattle.pl_model.specs.Database.{Stored}
 use Rattle.pl_model.specs.Terms.{is_variable, arguments, extended, list_term, is_list_or_partial, variable_count, raised_by, clause_cells}
 use Rattle.pl_model.specs.Balls.{error_ball, instantiation_error, type_error, no_inferences, no_cells, no_choices}

@@ -10,7 +10,7 @@ use Rattle.std.specs.declared.cmp.Ordering.TheVariants.{Less, Equal, Greater}
 use Rattle.pl_term.specs.Tree.{Chars}
 use Rattle.pl_term.specs.Order.{text_order}
 use Rattle.pl_model.specs.History.{Proc, Origin, consult, assert}
-use Rattle.pl_model.specs.World.{same_proc}
+use Rattle.pl_model.specs.Predicates.{same_proc}
 
 -- A procedure is static or dynamic (ISO 7.5.2). A goal can neither change a static one nor look into it.
 pub data Access : Type 0 where

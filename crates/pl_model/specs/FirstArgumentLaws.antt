@@ -11,7 +11,7 @@ use Rattle.std.specs.declared.cmp.Ordering.{Ordering}
 use Rattle.std.specs.declared.cmp.Ordering.TheVariants.{Less, Equal, Greater}
 use Rattle.pl_term.specs.Tree.{Tree, var, int, atom, comp, count}
 use Rattle.pl_term.specs.Order.{text_order}
-use Rattle.pl_model.specs.World.{differ_at_first, is_excluded}
+use Rattle.pl_model.specs.Predicates.{differ_at_first, is_excluded}
 use Rattle.pl_model.specs.FirstArgumentOrder.{order_of}
 use Rattle.pl_model.specs.FirstArguments.{are_apart, argument_key, head_key, is_any}
 

@@ -14,7 +14,7 @@ pub mod Writing
 pub mod TermWriting
 pub mod History
 pub mod Shown
-pub mod World
+pub mod Predicates
 pub mod Database
 pub mod Threads
 pub mod Flags
@@ -24,16 +24,6 @@ pub mod ErrorTerms
 pub mod Service
 pub mod SharedRows
 pub mod Errors
-pub mod Bodies
-pub mod Serve
-pub mod Machine
-pub mod Run
-pub mod Program
-pub mod CommandLine
-pub mod Complete
-pub mod Reached
-pub mod Transcript
-pub mod Rows
 pub mod Evaluables
 pub mod Terms
 pub mod Balls

@@ -1,8 +1,7 @@
 -- The table of operators (ISO 6.3.4, 8.14.3 op/3, 8.14.4 current_op/3): a finite map from a name and a place to a
 -- priority and a specifier.
 use Rattle.std.specs.Prelude.{◌≡◌, ℕ, zero, suc, ◌&&◌, ◌==◌, List, [], ◌∷◌, ◌++◌, Bool, false, Option, Some, None, IfSome, IsSome, ◌<◌, ◌≤◌, refl, bytes_eq, if◌then◌else◌, codes, nat_lt, map}
-use Rattle.std.specs.List.{list_all, list_any}
-use Rattle.std.specs.Option.{option_map}
+use Rattle.std.specs.List.{list_any}
 use Rattle.std.specs.Ordering.{nat_cmp, ordering_then}
 use Rattle.std.specs.declared.cmp.Ordering.{Ordering}
 use Rattle.std.specs.FinMap as finite
@@ -10,7 +9,7 @@ use Rattle.std.specs.FinMap.{FinMap}
 use Rattle.std.specs.Coded.{Coded, code_by, coded×, coded_list, coded_ℕ}
 use Rattle.pl_term.specs.Tree.{Chars}
 use Rattle.pl_term.specs.Order.{text_order}
-use Rattle.pl_model.specs.Operators.{Operator, Operators, Specifier, xfx, xfy, yfx, fx, fy, xf, yf}
+use Rattle.pl_model.specs.Operators.{Specifier, xfx, xfy, yfx, fx, fy, xf, yf}
 use Rattle.pl_model.specs.declared.operators.Kind.{Kind}
 use Rattle.pl_model.specs.declared.operators.Kind.TheVariants.{Xfx, Xfy, Yfx, Fy, Fx, Xf, Yf}
 use Rattle.pl_model.specs.declared.operators.Place.{Place}
@@ -129,7 +128,7 @@ opening_rows =
 abbrev pub opening_table : OperatorTable
 opening_table = finite.from_entries opening_rows
 
--- The specifier as the list form of a table has it.
+-- The specifier as entries of the history have it.
 abbrev pub specifier_of : Kind → Specifier
 specifier_of Xfx = xfx
 specifier_of Xfy = xfy
@@ -139,27 +138,12 @@ specifier_of Fx = fx
 specifier_of Xf = xf
 specifier_of Yf = yf
 
-abbrev pub operator_of : Key × Entry → Operator
-operator_of e = record { name = e.0.0; priority = e.1.0; specifier = specifier_of e.1.1 }
-
--- The table as a list of operators.
-abbrev pub listed : OperatorTable → Operators
-listed t = map operator_of (operators t)
-
--- Each operator's specifier is one of its place.
-abbrev pub is_placed : OperatorTable → Bool
-is_placed t = list_all (λ (e : Key × Entry). place_rank (place_of e.1.1) == place_rank e.0.1) (operators t)
-
 -- What each table keeps (ISO 6.3.4.2, 6.3.4.3): an operator's specifier is one of its place, its priority is from 1 to
 -- 1200, and no name is both an infix and a postfix operator.
 pub record IsSound (t : OperatorTable) : Type 0 where
   pub placed : (f : Chars) (p : Place) → IfSome (operator_at t f p) (λ e. place_of e.1 ≡ p)
   pub bounded : (f : Chars) (p : Place) → IfSome (operator_at t f p) (λ e. (0 < e.0) × (e.0 ≤ highest_priority))
   pub apart : (f : Chars) → IsSome (operator_at t f Infix) → operator_at t f Postfix ≡ None
-
--- The infix operator of a name, as the grammar asks for it.
-abbrev pub infix_operator : OperatorTable → Chars → Option Operator
-infix_operator t f = option_map (λ (e : Entry). operator_of ((f, Infix), e)) (operator_at t f Infix)
 
 -- Places and specifiers by numbers, by which a table is stored.
 abbrev pub place_ranked : ℕ → Place

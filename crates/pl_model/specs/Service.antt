@@ -14,7 +14,7 @@ use Rattle.pl_model.specs.declared.threads.Status.TheVariants.{Succeeded, Failed
 use Rattle.pl_model.specs.declared.threads.Thread.{Thread}
 use Rattle.pl_model.specs.OperatorTable.{OperatorTable, Refusal, priority, specifier, comma, reserved, infix_postfix, refusal, specifier_of}
 use Rattle.pl_model.specs.Unify.{unify}
-use Rattle.pl_model.specs.World.{proc_of, is_excluded}
+use Rattle.pl_model.specs.Predicates.{proc_of, is_excluded}
 use Rattle.pl_model.specs.History.{Proc, Clause, Kind, consult, assert, add_first, add_last, erase, abolish, set_dynamic, set_flag, set_op, make_queue, drop_queue, send, take, start, join}
 use Rattle.pl_model.specs.Errors.{unknown_procedure, static_procedure}
 use Rattle.pl_model.specs.ErrorTerms.{domain_error, existence_error, permission_error, resource_error, private_procedure}

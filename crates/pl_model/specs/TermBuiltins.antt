@@ -1,5 +1,5 @@
 -- Built-in predicates on terms (ISO 8.4, 8.5, 8.7, 9.1; Cor.2 8.2.4, 8.4.2 to 8.4.4, 8.5.5).
-use Rattle.std.specs.Prelude.{ℕ, zero, suc, ◌+◌, ◌-◌, ◌*◌, pos, negsuc, ℤ, List, [], ◌∷◌, ◌++◌, map, length, Bool, true, false, not, ◌&&◌, ◌||◌, ◌==◌, nat_lt, nat_le, int_lt, int_le, Option, Some, None, Result, Ok, Err, bytes_eq, codes, if◌then◌else◌}
+use Rattle.std.specs.Prelude.{ℕ, zero, suc, ◌+◌, ◌*◌, pos, ℤ, List, [], ◌∷◌, map, length, Bool, true, false, not, ◌&&◌, ◌||◌, int_lt, int_le, Option, Some, None, Result, Ok, Err, bytes_eq, codes, if◌then◌else◌}
 use Rattle.std.specs.Ordering.{int_eq}
 use Rattle.std.specs.declared.cmp.Ordering.{Ordering}
 use Rattle.std.specs.declared.cmp.Ordering.TheVariants.{Less, Equal, Greater}
@@ -12,15 +12,14 @@ use Rattle.pl_term.specs.Order.{order}
 use Rattle.pl_model.specs.declared.evaluables.OpFault.{OpFault}
 use Rattle.pl_model.specs.declared.evaluables.OpFault.TheVariants.{ZeroDivisor, IntOverflow, Undefined, NeedsFloat}
 use Rattle.pl_model.specs.declared.evaluables.EvalFault.{EvalFault}
-use Rattle.pl_model.specs.declared.evaluables.EvalFault.TheVariants.{Inst, NotEvaluable, Operation}
+use Rattle.pl_model.specs.declared.evaluables.EvalFault.TheVariants.{NotEvaluable, Operation}
 use Rattle.pl_model.specs.Unify.{Bindings, bound, unify}
 use Rattle.pl_model.specs.Evaluables.{Evaluated, evaluated}
-use Rattle.pl_model.specs.History.{Proc}
 use Rattle.pl_model.specs.ErrorTerms.{domain_error}
 use Rattle.pl_model.specs.Balls.{instantiation_error, type_error, evaluation_error, indicator}
-use Rattle.pl_model.specs.Terms.{is_variable, is_atom, is_integer, is_compound, is_list_or_partial, arguments, named_term, list_term, variable_count}
+use Rattle.pl_model.specs.Terms.{is_variable, is_list_or_partial, arguments, named_term, list_term, variable_count}
 use Rattle.pl_model.specs.Checks.{first_error, error_if, bound_error, atom_error, atomic_error, integer_error, compound_error, negative_error, elements, natural_of}
-use Rattle.pl_model.specs.BuiltinRows.{Answer, Row, gives, error, one_answer, test}
+use Rattle.pl_model.specs.BuiltinRows.{Row, gives, error, one_answer, test}
 
 -- An answer with terms of so many cells.
 abbrev pub makes : Trees → ℕ → Row

@@ -1,21 +1,12 @@
--- Tokens (ISO 6.4): what stands at a place of a text, by the character there and the longest run of characters
--- that goes on in its class. The text is a list of bytes, and a place is the number of bytes before it.
-use Rattle.std.specs.Prelude.{ℕ, List, [], ◌∷◌, Bool, true, false, Option, Some, None, Result, Ok, Err, ◌+◌, ◌-◌, ◌*◌, ◌^◌, suc, zero, ◌&&◌, ◌||◌, ◌==◌, nat_lt, if◌then◌else◌, bytes_eq, codes, length, take, drop, slice_index, fold, option_map}
-use Rattle.std.specs.List.{list_any}
-use Rattle.std.specs.Char.{is_whitespace, is_ascii_lowercase, is_ascii_uppercase, is_ascii_digit}
+-- Characters of a text and its layout (ISO 6.4.1, 6.5): what stands at the front of some bytes, the longest run of characters
+-- that pass a test, and layout. The text is a list of bytes, and a place is the number of bytes before it.
+use Rattle.std.specs.Prelude.{ℕ, List, [], ◌∷◌, Bool, true, false, Option, Some, None, Result, Ok, Err, ◌+◌, ◌-◌, suc, zero, ◌&&◌, ◌||◌, ◌==◌, nat_lt, if◌then◌else◌, length, take, drop, slice_index, option_map}
+use Rattle.std.specs.Char.{is_whitespace}
 use Rattle.std.specs.Str.{chars, is_utf8, continuation_len}
-use Rattle.unicode_ident.specs.Ident.{is_xid_start}
-use Rattle.pl_term.specs.Tree.{Chars}
 pub use Rattle.pl_model.specs.Characters.{is_symbol, continues_name}
 use Rattle.pl_model.specs.declared.syntax.SyntaxKind.{SyntaxKind}
-use Rattle.pl_model.specs.declared.syntax.SyntaxKind.TheVariants.{BadUtf8, FloatNumeral, IntegerTooLarge, LoneCharacter, OpenComment}
+use Rattle.pl_model.specs.declared.syntax.SyntaxKind.TheVariants.{BadUtf8, OpenComment}
 use Rattle.pl_model.specs.declared.syntax.SyntaxFault.{SyntaxFault}
-use Rattle.pl_model.specs.declared.syntax.CharacterClass.{CharacterClass}
-use Rattle.pl_model.specs.declared.syntax.CharacterClass.TheVariants.{Letter, Capital, Digit, Symbol, Open, Close, Comma, Other}
-use Rattle.pl_model.specs.declared.syntax.TokenKind.{TokenKind}
-use Rattle.pl_model.specs.declared.syntax.TokenKind.TheVariants.{Name, Variable, Numeral, Open as OpenToken, Close as CloseToken, Comma as CommaToken, EndToken}
-use Rattle.pl_model.specs.declared.syntax.Lexeme.{Lexeme}
-use Rattle.pl_model.specs.declared.syntax.Lexeme.TheVariants.{Token, End}
 
 -- What stands at the front of some bytes, which are read as UTF-8 (RFC 3629).
 pub data Front : Type 0 where
@@ -41,26 +32,6 @@ abbrev pub run : (ℕ → Bool) → ℕ → List ℕ → ℕ
 run p inside [] = zero
 run p (suc k) (b ∷ bs) = suc (run p k bs)
 run p zero (b ∷ bs) = elim (front (b ∷ bs)) [ nothing ↦ zero | scalar c k ↦ if p c then suc (run p (k - 1) bs) else zero | broken ↦ zero ]
-
--- The characters of a token that begins at a place and ends before another.
-abbrev pub spelling : List ℕ → ℕ → ℕ → Chars
-spelling text start end = chars (take (end - start) (drop start text))
-
--- Characters (ISO 6.5).
-
--- What a character begins. The letters past ASCII are those that may begin an identifier (UAX 31).
-abbrev pub ascii_class : ℕ → CharacterClass
-ascii_class c =
-    if is_ascii_lowercase c then Letter else
-    if is_ascii_uppercase c || c == 95 then Capital else
-    if is_ascii_digit c then Digit else
-    if is_symbol c then Symbol else
-    if c == 40 then Open else
-    if c == 41 then Close else
-    if c == 44 then Comma else Other
-
-abbrev pub class_of : ℕ → CharacterClass
-class_of c = if nat_lt c 128 then ascii_class c else if is_xid_start c then Letter else Other
 
 -- Layout (ISO 6.4.1): white space, and comments.
 
@@ -114,69 +85,12 @@ skip_layout at zero (b ∷ bs) =
       | spoils kind n ↦ Err (record { kind = kind; at = at + n })
     ]
 
--- Tokens.
-
-abbrev pub Lexed : Type 0
-Lexed = Result Lexeme SyntaxFault
-
-abbrev pub lex_fault : SyntaxKind → ℕ → Lexed
-lex_fault kind at = Err (record { kind = kind; at = at })
-
-abbrev pub token : TokenKind → ℕ → ℕ → Lexed
-token kind start end = Ok (Token kind start end)
-
--- The value of decimal digits.
-abbrev pub decimal : List ℕ → ℕ
-decimal ds = fold (λ v d. 10 * v + (d - 48)) 0 ds
+-- Ends.
 
 -- The place behind the run of characters that go on from a place and pass a test.
 abbrev pub run_end : (ℕ → Bool) → List ℕ → ℕ → ℕ
 run_end p text at = at + run p 0 (drop at text)
 
--- The digits from `start` to `end` (ISO 6.4.4). Digits, a full stop and a digit would be a float.
-abbrev pub numeral : List ℕ → ℕ → ℕ → Lexed
-numeral text start end =
-    let value = decimal (take (end - start) (drop start text)) in
-    if nat_lt (2 ^ 63) value then lex_fault IntegerTooLarge start else
-    if slice_index text end == 46 && is_ascii_digit (slice_index text (end + 1)) then lex_fault FloatNumeral start else
-    token (Numeral value) start end
-
--- The symbol names that are read (ISO 6.4.2).
-abbrev pub is_symbol_name : List ℕ → Bool
-is_symbol_name name = list_any (bytes_eq name) (codes ":-" ∷ codes "=" ∷ codes "/" ∷ [])
-
 -- White space, `%` or the end of the text stands at the front (ISO 6.4.8).
 abbrev pub closes_clause : List ℕ → Bool
 closes_clause bs = elim (front bs) [ nothing ↦ true | scalar c k ↦ is_whitespace c || c == 37 | broken ↦ false ]
-
--- The symbol characters from `start` to `end` (ISO 6.4.2, 6.4.8).
-abbrev pub symbols : List ℕ → ℕ → ℕ → Lexed
-symbols text start end =
-    let name = take (end - start) (drop start text) in
-    if is_symbol_name name then token Name start end else
-    if bytes_eq name (codes ".") && closes_clause (drop end text) then token EndToken start end else
-    lex_fault LoneCharacter start
-
--- The token that begins at `start` with a character of this class, which ends before `next`.
-abbrev pub token_of : List ℕ → CharacterClass → ℕ → ℕ → Lexed
-token_of text Letter start next = token Name start (run_end continues_name text next)
-token_of text Capital start next = token Variable start (run_end continues_name text next)
-token_of text Digit start next = numeral text start (run_end is_ascii_digit text next)
-token_of text Symbol start next = symbols text start (run_end is_symbol text next)
-token_of text Open start next = token OpenToken start next
-token_of text Close start next = token CloseToken start next
-token_of text Comma start next = token CommaToken start next
-token_of text Other start next = lex_fault LoneCharacter start
-
--- What stands at a place where no layout stands.
-abbrev pub lexeme_at : List ℕ → ℕ → Lexed
-lexeme_at text start =
-    elim (front (drop start text)) [
-      | nothing ↦ Ok End
-      | scalar c k ↦ token_of text (class_of c) start (start + k)
-      | broken ↦ lex_fault BadUtf8 start
-    ]
-
--- The first token at a place or behind it, the end of the text, or a fault with its place.
-unfoldable pub token_at : List ℕ → ℕ → Lexed
-token_at text at = elim (skip_layout at 0 (drop at text)) [ Ok start ↦ lexeme_at text start | Err f ↦ Err f ]

@@ -14,7 +14,7 @@ pub trait Kept: Drop {
     ghost use Rattle.pl_term.specs.Tree.{Chars, Tree};
     ghost use Rattle.pl_model.specs.FirstArguments.{are_apart, head_of, unify_apart};
     ghost use Rattle.pl_model.specs.KeptCells.{kept_cells};
-    ghost use Rattle.pl_model.specs.World.{is_excluded};
+    ghost use Rattle.pl_model.specs.Predicates.{is_excluded};
 
     /// What a first argument is found by.
     type Key: Ord + Drop;

@@ -1,7 +1,6 @@
 //! The definitions that a reader must believe, and the laws that stand above them.
 #![tactic(auto)]
 
-pub mod command_line;
 pub mod control;
 pub mod ends;
 pub mod evaluables;
@@ -11,9 +10,6 @@ pub mod grammar;
 pub mod kept;
 pub mod lexical;
 pub mod operators;
-pub mod reading;
-pub mod rows;
-pub mod runs;
 pub mod searches;
 pub mod shared;
 pub mod shows;
@@ -24,4 +20,3 @@ pub mod term_writing;
 pub mod threads;
 pub mod unification;
 pub mod unifying;
-pub mod writing;

@@ -1,8 +1,7 @@
 //! The kinds and the places of operators, and laws of the operator table.
 ghost use Rattle.std.specs.Prelude.{◌≡◌, ℕ, Some, None, IsTrue, codes, length, map};
 ghost use Rattle.pl_term.specs.Tree.{Chars};
-ghost use Rattle.pl_model.specs.Operators.{infix_of};
-ghost use Rattle.pl_model.specs.OperatorTable.{Key, Entry, OperatorTable, operator_at, operators, opening_rows, opening_table, refusal, changed, priority, IsSound, is_placed, listed, infix_operator};
+ghost use Rattle.pl_model.specs.OperatorTable.{Key, Entry, OperatorTable, operator_at, operators, opening_rows, opening_table, refusal, changed, priority, IsSound};
 ghost use Rattle.pl_model.specs.declared.operators.Kind.{Kind};
 ghost use Rattle.pl_model.specs.declared.operators.Kind.TheVariants.{Xfx};
 ghost use Rattle.pl_model.specs.declared.operators.Place.TheVariants.{Infix};
@@ -39,12 +38,6 @@ pub fn changes_are_read_back()
     ensures made { refusal opening_table 700 (Some Xfx) (codes "===>") ≡ None }
     ensures found { operator_at (changed opening_table 700 Xfx (codes "===>")) (codes "===>") Infix ≡ Some (700, Xfx) }
     ensures refused { refusal opening_table 1201 (Some Xfx) (codes "a") ≡ Some priority }
-{}
-
-/// The list form of a table has the same infix operators as the table, where each operator's specifier is one of its
-/// place.
-pub fn list_form_agrees()
-    ensures { (t : OperatorTable) (f : Chars) → IsTrue (is_placed t) → infix_of (listed t) f ≡ infix_operator t f }
 {}
 
 /// The table at the start is sound, and so is each table that a change which is not refused makes of a sound one.

@@ -9,7 +9,7 @@ ghost use Rattle.pl_model.specs.declared.ends.How.TheVariants.{Solved};
 ghost use Rattle.pl_model.specs.History.{Proc, History, is_end, assert, consult, add_first, add_last, erase, abolish, set_dynamic, set_flag, set_op, make_queue, drop_queue, send, take, start, finish, join};
 ghost use Rattle.pl_model.specs.Errors.{unknown_procedure, static_procedure, indicator};
 ghost use Rattle.pl_model.specs.ErrorTerms.{existence_error, permission_error, resource_error, private_procedure};
-ghost use Rattle.pl_model.specs.World.{is_excluded};
+ghost use Rattle.pl_model.specs.Predicates.{is_excluded};
 ghost use Rattle.pl_model.specs.Database.{seen, choices, named_clauses, is_of, is_erased};
 ghost use Rattle.pl_model.specs.Threads.{goal_alias};
 ghost use Rattle.pl_model.specs.SharedState.{SharedState, opening_state, change, state_at, number_given};

@@ -6,7 +6,7 @@ use Rattle.std.proofs.lemmas.Bool.{false≢true}
 use Rattle.std.proofs.lemmas.List.{length-map}
 use Rattle.pl_term.specs.Tree.{Tree}
 use Rattle.pl_model.specs.History.{Kind, Proc, add_first, add_last, assert, consult}
-use Rattle.pl_model.specs.World.{proc_of as predicate_of}
+use Rattle.pl_model.specs.Predicates.{proc_of as predicate_of}
 use Rattle.pl_model.specs.Shown.{proc_of}
 use Rattle.pl_model.specs.KeptCells.{kept_cells}
 use Rattle.pl_model.specs.BodyChecks.{head_part}

@@ -7,7 +7,7 @@ use Rattle.std.proofs.lemmas.Bool.Decides.{Decides-like, Decides-and, Decides-eq
 use Rattle.std.proofs.lemmas.Slice.Eq.{bytes_eq-Decides}
 use Rattle.pl_term.specs.Tree.{Tree, var, int, atom, comp, none, more}
 use Rattle.pl_model.specs.History.{Clause, Proc}
-use Rattle.pl_model.specs.World.{proc_of, same_proc, is_excluded}
+use Rattle.pl_model.specs.Predicates.{proc_of, same_proc, is_excluded}
 use Rattle.pl_model.specs.BodyChecks.{head_part}
 use Rattle.pl_model.specs.FirstArguments.{are_apart, head_of, head_key, is_any}
 use Rattle.pl_model.specs.FirstArgumentOrder.{order_of}

@@ -7,7 +7,7 @@ use Rattle.std.proofs.lemmas.List.{length-map}
 use Rattle.std.proofs.lemmas.Option.{same_Some}
 use Rattle.pl_term.specs.Tree.{Tree}
 use Rattle.pl_model.specs.History.{Clause, Proc}
-use Rattle.pl_model.specs.World.{proc_of as predicate_of, is_excluded}
+use Rattle.pl_model.specs.Predicates.{proc_of as predicate_of, is_excluded}
 use Rattle.pl_model.specs.declared.first_argument.FirstArgument.{FirstArgument}
 use Rattle.pl_model.specs.declared.grammar.Quotes.{Quotes}
 use Rattle.pl_model.specs.OperatorTable.{OperatorTable}

@@ -6,7 +6,7 @@ use Rattle.std.proofs.lemmas.Bool.{false≢true}
 use Rattle.std.proofs.lemmas.List.{length-map}
 use Rattle.pl_term.specs.Tree.{Tree}
 use Rattle.pl_model.specs.History.{Clause, Proc}
-use Rattle.pl_model.specs.World.{proc_of as predicate_of, is_excluded}
+use Rattle.pl_model.specs.Predicates.{proc_of as predicate_of, is_excluded}
 use Rattle.pl_model.specs.declared.first_argument.FirstArgument.{FirstArgument}
 use Rattle.pl_model.specs.Database.{Stored, Database, is_of, is_visible, is_at, seen, choices, named_clauses}
 use Rattle.pl_model.specs.SharedState.{state_at}

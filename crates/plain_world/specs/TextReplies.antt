@@ -2,7 +2,7 @@
 use Rattle.std.specs.Prelude.{◌≡◌, List, [], ◌∷◌, Option, Some, None}
 use Rattle.pl_term.specs.Tree.{Tree}
 use Rattle.pl_model.specs.History.{Clause, Proc}
-use Rattle.pl_model.specs.World.{proc_of}
+use Rattle.pl_model.specs.Predicates.{proc_of}
 use Rattle.pl_model.specs.FirstArguments.{head_key, head_of}
 use Rattle.pl_model.specs.declared.first_argument.FirstArgument.{FirstArgument}
 use Rattle.pl_model.specs.Database.{Stored}

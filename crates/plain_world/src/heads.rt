@@ -2,7 +2,7 @@
 #![tactic(auto, using(crate::proofs::Words::words))]
 
 ghost use Rattle.std.specs.Prelude.{◌≡◌, ◌<◌, IfOk, length};
-ghost use Rattle.pl_model.specs.World.{proc_of as predicate_of};
+ghost use Rattle.pl_model.specs.Predicates.{proc_of as predicate_of};
 ghost use Rattle.pl_model.specs.Shown.{proc_of};
 ghost use Rattle.pl_model.specs.BodyChecks.{head_part};
 ghost use Rattle.pl_model.specs.KeptNodes.{is_rule_node, head_nodes};

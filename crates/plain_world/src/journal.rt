@@ -3,7 +3,7 @@ ghost use Rattle.std.specs.Prelude.{◌≡◌, ◌≤◌, ◌<◌, [], ◌∷◌
 ghost use Rattle.pl_term.specs.Tree.{Tree};
 ghost use Rattle.pl_model.specs.Shown.{proc_of};
 ghost use Rattle.pl_model.specs.Requests.{look, read_operators, call_clauses};
-ghost use Rattle.pl_model.specs.World.{proc_of as predicate_of};
+ghost use Rattle.pl_model.specs.Predicates.{proc_of as predicate_of};
 ghost use Rattle.pl_model.specs.Database.{is_known};
 ghost use Rattle.world_api.specs.Told.{behind, clause_list, has_place};
 ghost use Rattle.world_api.specs.Visits.{clause_in};

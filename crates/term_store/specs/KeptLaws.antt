@@ -16,7 +16,7 @@ use Rattle.pl_term.specs.Cells.{cells, compound_cells, compound_cells_all}
 use Rattle.pl_model.specs.FirstArguments.{are_apart, head_of, unify_apart}
 use Rattle.pl_model.specs.KeptCells.{kept_cells}
 use Rattle.pl_model.specs.KeptNodes.{is_rule_node}
-use Rattle.pl_model.specs.World.{differ_at_first, is_excluded}
+use Rattle.pl_model.specs.Predicates.{differ_at_first, is_excluded}
 use Rattle.pl_model.proofs.KeptSizes.{rule_cells, fact_cells}
 use Rattle.pl_model.proofs.KeptKeys.{not_two}
 use Rattle.term_store.specs.Heap.{atom_name}

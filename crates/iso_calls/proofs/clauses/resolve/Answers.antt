@@ -3,7 +3,7 @@ use Rattle.pl_model.specs.BodyChecks.{body_part, head_part}
 use Rattle.pl_model.specs.Control.{before}
 use Rattle.pl_model.specs.Resolution.{Node, goal as a_goal}
 use Rattle.pl_model.specs.Terms.{raised_by}
-use Rattle.pl_model.specs.World.{proc_of}
+use Rattle.pl_model.specs.Predicates.{proc_of}
 use Rattle.term_store.specs.ArgumentKeys.{head_in}
 use Rattle.term_store.specs.Contents.{Contents, Holds}
 use Rattle.term_store.specs.NumberedNames.{term_by}

@@ -5,7 +5,7 @@ use Rattle.pl_model.specs.Resolution.{resolving}
 use Rattle.pl_model.specs.Control.{clause_unified}
 use Rattle.pl_model.specs.Terms.{raised_by}
 use Rattle.pl_model.specs.Unify.{unify}
-use Rattle.pl_model.specs.World.{proc_of}
+use Rattle.pl_model.specs.Predicates.{proc_of}
 use Rattle.term_store.specs.NumberedNames.{term_by}
 use Rattle.world_api.specs.Texts.{text_of}
 use Rattle.iso_search.specs.declared.search.Search.{Search}

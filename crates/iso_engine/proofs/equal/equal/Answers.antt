@@ -1,6 +1,6 @@
 use Rattle.std.proofs.Common.{◌≡◌, [], length, get_or, sym, ap, subst, arith}
 use Rattle.pl_term.specs.Tree.{atom}
-use Rattle.pl_model.specs.World.{proc_of}
+use Rattle.pl_model.specs.Predicates.{proc_of}
 use Rattle.term_store.specs.Heap.{atom_name}
 use Rattle.term_store.specs.Contents.{arguments_at, term_at}
 use Rattle.iso_search.specs.declared.outcome.Fault.TheVariants.{Inferences}

@@ -1,5 +1,5 @@
 use Rattle.std.proofs.Common.{subst, refl}
-use Rattle.pl_model.specs.World.{proc_of}
+use Rattle.pl_model.specs.Predicates.{proc_of}
 use Rattle.iso_search.specs.Extending.{IsExtended, IsExtensionIn}
 use Rattle.iso_search.proofs.Calling.{call_made, call_not_callable}
 use Rattle.iso_search.proofs.Grown.{whole_grown}

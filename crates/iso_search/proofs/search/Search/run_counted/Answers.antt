@@ -1,5 +1,5 @@
 use Rattle.std.proofs.Common.{sym, ap, ◌∙◌}
-use Rattle.pl_model.specs.World.{proc_of}
+use Rattle.pl_model.specs.Predicates.{proc_of}
 use Rattle.iso_search.specs.Constructs.{construction}
 use Rattle.iso_search.specs.Goals.{flat, run_counted}
 use Rattle.iso_search.specs.Outcomes.{limits_in, state_in}

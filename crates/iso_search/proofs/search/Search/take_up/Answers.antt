@@ -1,5 +1,5 @@
 use Rattle.std.proofs.Common.{sym, ap, ◌∙◌}
-use Rattle.pl_model.specs.World.{proc_of}
+use Rattle.pl_model.specs.Predicates.{proc_of}
 use Rattle.pl_model.specs.Resolution.{goes}
 use Rattle.pl_model.specs.Control.{take_up}
 use Rattle.iso_search.specs.Constructs.{construction}
