@@ -1,7 +1,7 @@
 -- The table of operators (ISO 6.3.4, 8.14.3 op/3, 8.14.4 current_op/3): a finite map from a name and a place to a
 -- priority and a specifier.
 use Rattle.std.specs.Prelude.{◌≡◌, ℕ, zero, suc, ◌&&◌, ◌==◌, List, [], ◌∷◌, ◌++◌, Bool, false, Option, Some, None, IfSome, IsSome, ◌<◌, ◌≤◌, refl, bytes_eq, if◌then◌else◌, codes, nat_lt, map}
-use Rattle.std.specs.List.{list_any}
+use Rattle.std.specs.List.{list_all, list_any}
 use Rattle.std.specs.Ordering.{nat_cmp, ordering_then}
 use Rattle.std.specs.declared.cmp.Ordering.{Ordering}
 use Rattle.std.specs.FinMap as finite
@@ -137,6 +137,10 @@ specifier_of Fy = fy
 specifier_of Fx = fx
 specifier_of Xf = xf
 specifier_of Yf = yf
+
+-- Each operator's specifier is one of its place.
+abbrev pub is_placed : OperatorTable → Bool
+is_placed t = list_all (λ (e : Key × Entry). place_rank (place_of e.1.1) == place_rank e.0.1) (operators t)
 
 -- What each table keeps (ISO 6.3.4.2, 6.3.4.3): an operator's specifier is one of its place, its priority is from 1 to
 -- 1200, and no name is both an infix and a postfix operator.
