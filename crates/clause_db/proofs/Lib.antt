@@ -20,3 +20,4 @@ mod Marking
 mod Closing
 mod Reclaiming
 mod InOrder
+mod Hinted

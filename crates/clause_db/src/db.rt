@@ -1,5 +1,5 @@
 //! The clause database.
-ghost use Rattle.std.specs.Prelude.{◌≡◌, ◌∷◌, [], ℕ, ◌<◌, ◌≤◌, ◌+◌, ◌^◌, ◌⊎◌, ◌==◌, Err, Some, None, IfOk, IfSome, IfNone, IfErr, OnOk, OnErr, false, true, not, filter, map, max, length};
+ghost use Rattle.std.specs.Prelude.{◌≡◌, ◌∷◌, [], ℕ, ◌<◌, ◌≤◌, ◌+◌, ◌^◌, ◌⊎◌, ◌==◌, Err, Some, None, IfOk, IfSome, IfNone, IfErr, OnOk, OnErr, false, true, not, filter, map, max, length, is_some};
 ghost use Rattle.std.specs.Result.{MatchResult, IsOkAnd};
 ghost use Rattle.std.specs.Option.{MatchOption, option_map, option_map_or};
 ghost use Rattle.std.specs.List.{list_any, slice_get};
@@ -15,7 +15,7 @@ ghost use Rattle.pl_model.specs.OperatorTable.{opening_table};
 ghost use Rattle.pl_model.specs.SharedState.{with_operators};
 ghost use Rattle.gen_core.specs.Hits.{hit_of};
 ghost use Rattle.gen_core.specs.Visible.{is_droppable, first_choice, is_choice, behind};
-ghost use Rattle.clause_db.specs.Parts.{Held, clauses_at, held_access, with_added, has_live, erased_held};
+ghost use Rattle.clause_db.specs.Parts.{Held, clauses_at, access_at, held_access, with_added, has_live, erased_held};
 ghost use Rattle.clause_db.specs.Access.{access_of as access_as};
 ghost use Rattle.clause_db.specs.Stands.{StandsFor, dated, then_at, first_named, after};
 ghost use Rattle.clause_db.specs.Dynamic.{dynamic_held};
@@ -25,6 +25,7 @@ ghost use Rattle.clause_db.specs.Sound.{Apart, names};
 ghost use Rattle.clause_db.specs.Faults.{call_fault, addition_fault, change_fault, held_call_fault, held_addition_fault, is_held_closed, is_static_access};
 ghost use Rattle.clause_db.specs.Flags.{flags_as, flag_name, value_name};
 ghost use Rattle.clause_db.specs.Operators.{shown, first_fault};
+ghost use Rattle.clause_db.specs.declared.access.By.TheVariants.{Goal, Clause};
 ghost use Rattle.clause_db.specs.declared.fault.DbFault.TheVariants.{Memory as NoMemory};
 ghost use Rattle.op_table.specs.declared.fault.OpFault.TheVariants.{Memory as NoRoom};
 
@@ -33,9 +34,10 @@ use crate::access::{Access, By};
 use crate::dynamic::{add_blanks, open_all};
 use crate::fault::DbFault;
 use crate::flags::{Flag, FlagValue, Flags, first_flags, flags_with};
+use crate::hints::Hints;
 use crate::listing::listed;
 use crate::operators::table_with;
-use crate::parts::{Addition, End, Part, access_in, add_to, erase_in, part_at};
+use crate::parts::{Addition, End, Part, access_in, add_to, erase_in, locate};
 use crate::reclaim::reclaim_at;
 use crate::system::is_system;
 use gen_core::{Drops, Hit};
@@ -63,6 +65,7 @@ pub struct Home {
 pub struct Db<C: Kept> {
     alloc: Global,
     parts: Vec<Part<C>>,
+    hints: Hints,
     homes: BTreeMap<u64, Home>,
     used: u64,
     flags: Flags,
@@ -125,6 +128,7 @@ impl<C: Kept> Db<C> {
         Ok(Db {
             alloc,
             parts: Vec::new(alloc),
+            hints: Hints::new(alloc),
             homes: BTreeMap::new(alloc),
             used: 0,
             flags: first_flags(),
@@ -183,10 +187,41 @@ impl<C: Kept> Db<C> {
     fn call_fault(&self, p: &Proc, g: u64, by: By) -> Option<DbFault>
         ensures { result ≡ held_call_fault g self.now (proc_of p.now) by }
     {
-        match (by, self.access_of(p, g)) {
-            (By::Goal, None) => Some(DbFault::Unknown),
-            (By::Clause, Some(Access::Static)) => Some(DbFault::Private),
-            _ => None,
+        match by {
+            By::Goal => self.unknown(p, g),
+            By::Clause => self.private(p, g),
+        }
+    }
+
+    /// The refusal where there is no such procedure at the generation `g`.
+    fn unknown(&self, p: &Proc, g: u64) -> Option<DbFault>
+        ensures { result ≡ held_call_fault g self.now (proc_of p.now) Goal }
+    {
+        if self.is_there(p, g) || is_system(p) {
+            None
+        } else {
+            Some(DbFault::Unknown)
+        }
+    }
+
+    /// The refusal where the procedure is static at the generation `g`.
+    fn private(&self, p: &Proc, g: u64) -> Option<DbFault>
+        ensures { result ≡ held_call_fault g self.now (proc_of p.now) Clause }
+    {
+        if self.is_static(p, g) {
+            Some(DbFault::Private)
+        } else {
+            None
+        }
+    }
+
+    /// Whether the program has the procedure at the generation `g`.
+    fn is_there(&self, p: &Proc, g: u64) -> bool
+        ensures { result ≡ is_some (access_at g self.now.parts (proc_of p.now)) }
+    {
+        match locate(self.parts.as_slice(), &self.hints, p) {
+            Some(i) => access_in(&self.parts[i], g).is_some(),
+            None => false,
         }
     }
 
@@ -205,7 +240,7 @@ impl<C: Kept> Db<C> {
         if is_system(p) {
             return Some(Access::Static);
         }
-        match part_at(self.parts.as_slice(), p) {
+        match locate(self.parts.as_slice(), &self.hints, p) {
             Some(i) => access_in(&self.parts[i], g),
             None => None,
         }
@@ -215,7 +250,7 @@ impl<C: Kept> Db<C> {
     fn first_of(&self, p: &Proc, goal: &C::Key, g: u64) -> Option<Hit<'_, C>>
         ensures { hit_of result ≡ first_choice (filter (is_choice C.Key.Ord.cmp C.any C.key_of g goal.now) (clauses_at self.now.parts (proc_of p.now))) }
     {
-        match part_at(self.parts.as_slice(), p) {
+        match locate(self.parts.as_slice(), &self.hints, p) {
             Some(i) => self.parts[i].clauses.next_after(None, g, goal),
             None => None,
         }
@@ -296,7 +331,7 @@ impl<C: Kept> Db<C> {
         if let Some(fault) = self.addition_fault(p, by, need) {
             return Err((clause, fault));
         }
-        let part = part_at(self.parts.as_slice(), p).unwrap_or(self.parts.len());
+        let part = locate(self.parts.as_slice(), &self.hints, p).unwrap_or(self.parts.len());
         let home = Home { part, cells: need };
         if let Err(Memory) = settle(&mut self.homes, by.place, home) {
             return Err((clause, DbFault::Memory));
@@ -305,6 +340,7 @@ impl<C: Kept> Db<C> {
             Ok(()) => {
                 self.used += need;
                 self.next = by.place + 1;
+                self.hints.put(p, part);
                 Ok(())
             }
             Err((clause, _)) => {

@@ -9,6 +9,7 @@ mod db;
 mod dynamic;
 mod fault;
 mod flags;
+mod hints;
 mod listing;
 mod operators;
 mod parts;

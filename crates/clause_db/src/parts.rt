@@ -1,14 +1,16 @@
 //! Procedures with their clauses.
-ghost use Rattle.std.specs.Prelude.{◌≡◌, ◌<◌, ◌^◌, ◌++◌, ◌∷◌, [], All, IfOk, IfErr, OnOk, OnErr, false, bytes_eq, map};
+ghost use Rattle.std.specs.Prelude.{◌≡◌, ◌<◌, ◌^◌, ◌++◌, ◌∷◌, [], All, IfOk, IfErr, OnOk, OnErr, false, true, bytes_eq, map};
 ghost use Rattle.std.specs.List.{slice_get};
 ghost use Rattle.std.specs.Option.{option_map_or};
 ghost use Rattle.pl_model.specs.Shown.{proc_of};
 ghost use Rattle.pl_model.specs.Predicates.{same_proc};
 ghost use Rattle.clause_db.specs.Parts.{piece, blank, is_part_of, piece_access, opened, added_to, with_clause, placed, has_live, without_at};
-ghost use Rattle.clause_db.specs.Located.{Locates};
+ghost use Rattle.clause_db.specs.Located.{IsMember, Locates};
+ghost use Rattle.clause_db.specs.Sound.{Apart, names};
 ghost use Rattle.gen_core.specs.Visible.{fresh};
 
 use crate::access::{Access, Life, access_by, life_at};
+use crate::hints::Hints;
 use gen_core::Dated;
 use pl_model::kept::Kept;
 use pl_model::shows::{Origin, Proc};
@@ -67,6 +69,26 @@ pub fn part_at<C: Kept>(parts: &[Part<C>], p: &Proc) -> Option<usize>
         }
     }
     None
+}
+
+/// Whether the procedure stands at the index.
+fn is_at<C: Kept>(parts: &[Part<C>], i: usize, p: &Proc) -> bool
+    ensures { result ≡ true → IsMember (λ x. is_part_of (proc_of p.now) (piece x)) parts.now i }
+{
+    i < parts.len() && is_same(&parts[i].name, p)
+}
+
+/// Where the procedure stands, which is looked for first where it is likely to.
+pub fn locate<C: Kept>(parts: &[Part<C>], hints: &Hints, p: &Proc) -> Option<usize>
+    requires { Apart (names (map piece parts.now)) }
+    ensures { Locates (λ x. is_part_of (proc_of p.now) (piece x)) parts.now result }
+{
+    if let Some(i) = hints.index(p) {
+        if is_at(parts, i, p) {
+            return Some(i);
+        }
+    }
+    part_at(parts, p)
 }
 
 /// Puts a clause at an end of the others. A refused clause is handed back, and the others are as they were; the only

@@ -20,8 +20,8 @@ invariant_of-self g c =
 pub invariant_of-self-in-Ok : goal.invariant_of-self-in-Ok
 invariant_of-self-in-Ok g c =
     let written = c.in_default-settle.ensures.ok in
-    let located = subst (λ l. Locates (test (proc_of c.args.p.now)) l c.part_at.result) c.as_slice.ensures.value c.part_at.ensures in
-    let part = c.unwrap_or-part.ensures ∙ ap (unwrap_or c.part_at.result) (c.len.ensures ∙ sym c.as_slice.ensures.len ∙ ap length c.as_slice.ensures.value) ∙ sym (index_is c.args.p.now c.self.inside.parts.items c.part_at.result located) in
+    let located = subst (λ l. Locates (test (proc_of c.args.p.now)) l c.locate.result) c.as_slice.ensures.value c.locate.ensures in
+    let part = c.unwrap_or-part.ensures ∙ ap (unwrap_or c.locate.result) (c.len.ensures ∙ sym c.as_slice.ensures.len ∙ ap length c.as_slice.ensures.value) ∙ sym (index_is c.args.p.now c.self.inside.parts.items c.locate.result located) in
     subst (λ l. IsSound g.C.Kept.size l c.settle.new.homes (c.args.by.place + 1) c.self.inside.floor) (sym c.in-Ok.ensures.ok)
     (sound_with g.C.Kept.size c.self.inside.homes c.settle.new.homes c.self.inside.next c.self.inside.floor c.args.by c.args.p.now c.args.clause (map piece c.self.inside.parts.items) c.self.invariant
     (subst (λ h. h.next ≤ c.args.by.place) (sym c.self.view_is) c.requires.later)
