@@ -1,4 +1,5 @@
 pub mod Answering
+pub mod Apartness
 pub mod Binding
 pub mod Building
 pub mod Constructing

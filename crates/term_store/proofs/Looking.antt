@@ -1,9 +1,8 @@
 -- What is seen of the term at a place.
 use Rattle.std.proofs.Common.{◌≡◌, ◌⊎◌, inl, inr, ℕ, ℤ, ◌-◌, ◌<◌, ◌≤◌, length, get_or, None, sym, ap, subst, ◌∙◌, arith}
-use Rattle.std.specs.List.{All}
 use Rattle.std.proofs.lemmas.Bool.{cases_lt}
 use Rattle.std.proofs.lemmas.List.Elements.{All-from_get_or, All-get_or}
-use Rattle.pl_term.specs.Tree.{Tree, var, int, atom, compound}
+use Rattle.pl_term.specs.Tree.{var, int, atom}
 use Rattle.term_store.specs.declared.words.Word.TheVariants.{Var, Int, Atom, Comp}
 use Rattle.term_store.specs.declared.words.Head.{Head}
 use Rattle.term_store.specs.declared.words.Place.{Place}
@@ -11,7 +10,7 @@ use Rattle.term_store.specs.declared.views.Arguments.{Arguments}
 use Rattle.term_store.specs.declared.views.View.TheVariants.{Compound}
 use Rattle.term_store.specs.Heap.{atom_name, bindings, meaning, numbered, find}
 use Rattle.term_store.specs.Fit.{Fit, no_head}
-use Rattle.term_store.specs.Contents.{Contents, IsAbove, IsArguments, Views, arguments_at, term_at}
+use Rattle.term_store.specs.Contents.{Contents, IsAbove, Views, term_at}
 use Rattle.term_store.proofs.Equations.{bound-int, bound-atom}
 use Rattle.term_store.proofs.Following.{stands}
 use Rattle.term_store.proofs.Storing.{compound_seen}

@@ -1,11 +1,11 @@
 -- The nodes of a term, from its first node on.
-use Rattle.std.proofs.Common.{◌≡◌, ℕ, suc, ◌+◌, ◌-◌, ◌<◌, ◌≤◌, List, [], ◌∷◌, ◌++◌, length, get_or, map, reverse, drop, drop-cons, None, length-take, length-drop, refl, sym, ap, ap₂, subst, ◌∙◌, arith, append_assoc, append-nil}
+use Rattle.std.proofs.Common.{◌≡◌, ℕ, suc, ◌-◌, ◌<◌, ◌≤◌, List, [], ◌∷◌, ◌++◌, length, get_or, map, reverse, drop, drop-cons, None, length-take, length-drop, refl, sym, ap, ap₂, subst, ◌∙◌, arith, append_assoc, append-nil}
 use Rattle.std.specs.List.{All}
 use Rattle.std.proofs.lemmas.List.{length-map, map-append}
 use Rattle.std.proofs.lemmas.List.Elements.{All-append}
 use Rattle.pl_term.specs.declared.node.Node.{Node}
 use Rattle.pl_term.specs.declared.node.Node.TheVariants as terms
-use Rattle.pl_term.specs.Tree.{Chars, Tree, Trees, var, int, atom, more, none, count, trees, compound}
+use Rattle.pl_term.specs.Tree.{Chars, Tree, trees, compound}
 use Rattle.pl_term.specs.Nodes.{nodes, nodes_all}
 use Rattle.pl_term.proofs.Spelled.{count-trees}
 use Rattle.term_store.specs.declared.words.Head.{Head}

@@ -1,3 +1,4 @@
+pub mod Apart
 pub mod ArgumentKeys
 pub mod Cells
 pub mod Codes

@@ -14,6 +14,7 @@ mod make;
 mod nodes;
 mod numbering;
 mod occurs;
+mod older;
 mod save;
 mod store;
 mod stored;
@@ -31,5 +32,7 @@ pub use stored::Stored;
 pub use views::{Arguments, View};
 pub use words::{Place, StoreMark};
 
+#[cfg(test)]
+mod heads;
 #[cfg(test)]
 mod tests;

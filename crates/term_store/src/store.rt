@@ -1,10 +1,12 @@
 //! The store.
 ghost use Rattle.std.specs.Prelude.{◌≡◌, ◌+◌, ◌<◌, ◌≤◌, ◌++◌, ◌∷◌, [], length, IfOk, IfErr, OnErr, OnOk, IsOk};
+ghost use Rattle.term_store.specs.Apart.{IsApart};
 ghost use Rattle.term_store.specs.Contents.{Adds, Bound, IsEarlier, IsMark, MayBind, Refused, SameSize, Unified, back_to, bindings_made, blank, Holds};
 
 use crate::bind::bind;
 use crate::cells::{Cells, deref};
 use crate::faults::StoreFault;
+use crate::older::Older;
 use crate::undo::undo_to;
 use crate::unify::unify;
 use crate::words::{Pair, Place, StoreMark, Word};
@@ -127,11 +129,53 @@ impl Store {
         ensures size { SameSize self.old self.new }
         ensures kept { OnErr result (self.new ≡ self.old) }
     {
+        let none = Older::none();
+        self.unify_beyond(none, a, b)
+    }
+
+    /// Does what `unify` does, in less time where a term was made since the mark and nothing was bound since, as the copy of a
+    /// clause: what stood in the store at the mark is not walked for its variables.
+    pub fn unify_since(&mut self, mark: StoreMark, a: Place, b: Place) -> Result<bool, Memory>
+        requires mark { IsMark mark self.old }
+        requires left { Holds self.old a }
+        requires right { Holds self.old b }
+        ensures unified { IfOk result (λ r. Unified r self.old a b self.new) }
+        ensures adds { Adds self.old self.new }
+        ensures size { SameSize self.old self.new }
+        ensures kept { OnErr result (self.new ≡ self.old) }
+    {
+        let older = self.older_than(mark);
+        self.unify_beyond(older, a, b)
+    }
+
+    /// The bounds of what stood in the store at the mark, or of nothing where a variable was bound since.
+    fn older_than(&self, mark: StoreMark) -> Older
+        requires { IsMark mark self.now }
+        ensures { IsApart self.now.heap result }
+    {
+        if mark.trail == self.cells.trail.len() {
+            Older::at(mark)
+        } else {
+            Older::none()
+        }
+    }
+
+    /// Does what `unify` does. The bounds save walks through what is older.
+    fn unify_beyond(&mut self, older: Older, a: Place, b: Place) -> Result<bool, Memory>
+        requires apart { IsApart self.old.heap older }
+        requires left { Holds self.old a }
+        requires right { Holds self.old b }
+        ensures unified { IfOk result (λ r. Unified r self.old a b self.new) }
+        ensures adds { Adds self.old self.new }
+        ensures size { SameSize self.old self.new }
+        ensures kept { OnErr result (self.new ≡ self.old) }
+    {
         let mark = self.mark();
         match unify(
             &mut self.cells,
             &mut self.pairs,
             &mut self.words,
+            older,
             a.word,
             b.word,
         ) {

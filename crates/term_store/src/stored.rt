@@ -12,13 +12,14 @@ use crate::numbering::Numbering;
 use pl_term::Memory;
 use std::alloc::Global;
 use std::marker::Model;
+use std::sync::ArcSlice;
 
 /// A term outside of a store, seen by contracts as a term whose names stand for atoms. Its variables are numbered from 0
 /// on in the order in which they first occur. It is kept as its nodes in prefix order, with the number of its variables
-/// and of its cells.
+/// and of its cells. The nodes never change, and lie behind a counted pointer, so that many may hold the one term.
 #[derive(Debug, Drop)]
 pub struct Stored {
-    nodes: Vec<AtomNode>,
+    nodes: ArcSlice<AtomNode>,
     variables: u64,
     cells: u64,
 }
@@ -26,6 +27,7 @@ pub struct Stored {
 impl Model for Stored {
     ghost use Rattle.pl_term.specs.Tree.{Tree};
     ghost use Rattle.pl_term.specs.Nodes.{tree, coded_tree};
+    ghost use Rattle.std.specs.Arc.{arc_slice_items};
     ghost use Rattle.term_store.specs.Nodes.{node_views};
     ghost use Rattle.term_store.specs.StoredTerms.{IsStored};
 
@@ -33,9 +35,9 @@ impl Model for Stored {
 
     ghost coded = { coded_tree };
 
-    ghost view = { λ s. tree (node_views s.nodes.items) };
+    ghost view = { λ s. tree (node_views (arc_slice_items s.nodes)) };
 
-    ghost invariant = { λ s. IsStored s.nodes.items s.variables s.cells };
+    ghost invariant = { λ s. IsStored (arc_slice_items s.nodes) s.variables s.cells };
 }
 
 impl Stored {
@@ -57,10 +59,24 @@ impl Stored {
         let Some(cells) = sum.checked_add(variables) else {
             return Err(Memory);
         };
+        let nodes = ArcSlice::from_vec(all)?;
         Ok(Stored {
-            nodes: all,
+            nodes,
             variables,
             cells,
+        })
+    }
+
+    /// The same term for another holder. Its nodes are not copied. The only error is that so many hold it that they can no
+    /// longer be counted.
+    pub fn share(&self) -> Result<Stored, Memory>
+        ensures { IfOk result (λ s. s ≡ self.now) }
+    {
+        let nodes = self.nodes.clone()?;
+        Ok(Stored {
+            nodes,
+            variables: self.variables,
+            cells: self.cells,
         })
     }
 

@@ -48,7 +48,7 @@ fn all_held(store: &Store, places: &[Place]) -> bool
 }
 
 /// The compound term with a name of one letter. What no call may be given is answered by want of memory, here and below.
-fn compound(store: &mut Store, name: u8, arguments: &[Place]) -> Result<Place, Memory> {
+pub fn compound(store: &mut Store, name: u8, arguments: &[Place]) -> Result<Place, Memory> {
     if arguments.is_empty() || !all_held(store, arguments) {
         return Err(Memory);
     }
@@ -84,7 +84,7 @@ fn saved(store: &Store, place: Place) -> Result<Stored, Memory> {
 }
 
 /// A store with a budget, and variables numbered 0, 1 and 2.
-fn with_variables(alloc: Global, budget: u64) -> Result<(Store, Vec<Place>), Memory> {
+pub fn with_variables(alloc: Global, budget: u64) -> Result<(Store, Vec<Place>), Memory> {
     let mut store = Store::new(alloc, budget)?;
     let mut places = Vec::new(alloc);
     for number in 0..3 {
@@ -126,7 +126,7 @@ fn read_letter(
 }
 
 /// The term that a text spells, over these variables.
-fn read(
+pub fn read(
     alloc: Global,
     store: &mut Store,
     variables: &[Place],
@@ -161,7 +161,7 @@ fn write_node(text: &mut Vec<u8>, node: AtomNode) -> Result<(), Memory> {
 }
 
 /// The term at a place as a text, its variables numbered anew.
-fn written(alloc: Global, store: &Store, place: Place) -> Result<Vec<u8>, Memory> {
+pub fn written(alloc: Global, store: &Store, place: Place) -> Result<Vec<u8>, Memory> {
     let term = saved(store, place)?;
     let mut text = Vec::new(alloc);
     for node in term.nodes() {
@@ -198,7 +198,7 @@ fn terms_are_unified(rt: HostRuntime) -> Result<(), Fail> {
 }
 
 /// A term outside of a store.
-fn stored(alloc: Global, text: &str) -> Result<Stored, Memory> {
+pub fn stored(alloc: Global, text: &str) -> Result<Stored, Memory> {
     let (mut store, variables) = with_variables(alloc, 0)?;
     let place = read(alloc, &mut store, &variables, text)?;
     saved(&store, place)
@@ -217,6 +217,28 @@ fn loaded_and_unified(alloc: Global) -> Result<Vec<u8>, StoreFault> {
 fn loaded_terms_are_unified(rt: HostRuntime) -> Result<(), Fail> {
     let text = loaded_and_unified(rt.alloc())?;
     assert_eq!(rt; text.as_slice(), b"f1i1".as_slice());
+    Ok(())
+}
+
+/// The term, which threads may hold.
+fn for_threads<T: Send + Sync>(term: T) -> T {
+    term
+}
+
+/// A shared term loaded from 0 on, once that of which it is a share is gone.
+fn loaded_share(alloc: Global) -> Result<Vec<u8>, StoreFault> {
+    let first = stored(alloc, "g3BAB")?;
+    let second = for_threads(first.share()?);
+    drop(first);
+    let mut store = Store::new(alloc, 100)?;
+    let place = loaded(&mut store, &second, 0)?;
+    Ok(written(alloc, &store, place)?)
+}
+
+#[test]
+fn a_shared_term_outlives_the_first(rt: HostRuntime) -> Result<(), Fail> {
+    let text = loaded_share(rt.alloc())?;
+    assert_eq!(rt; text.as_slice(), b"g3ABA".as_slice());
     Ok(())
 }
 

@@ -1,6 +1,7 @@
 //! Unification (ISO/IEC 13211-1:1995, 7.3.2).
-ghost use Rattle.std.specs.Prelude.{◌≡◌, ◌<◌, ◌≤◌, ◌+◌, length, take, drop, reverse, IfOk, OnOk, ◌++◌};
+ghost use Rattle.std.specs.Prelude.{◌≡◌, ◌<◌, ◌≤◌, ◌+◌, length, take, drop, reverse, true, IfOk, OnOk, ◌++◌};
 ghost use Rattle.std.specs.List.{All};
+ghost use Rattle.term_store.specs.Apart.{IsApart};
 ghost use Rattle.term_store.specs.Cells.{IsFit, IsFree, heap_of};
 ghost use Rattle.term_store.specs.Fit.{IsIn};
 ghost use Rattle.term_store.specs.Unifying.{plan_of, IsPairIn, Grown, Moves, Solves, zip_words};
@@ -8,25 +9,30 @@ ghost use Rattle.term_store.specs.Unifying.{plan_of, IsPairIn, Grown, Moves, Sol
 use crate::bind::bind;
 use crate::cells::{Cells, deref, head_at, word_at};
 use crate::occurs::occurs;
+use crate::older::Older;
 use crate::words::{Pair, Plan, Word};
 use pl_term::Memory;
 
 /// Binds variables until two words stand for the same term. Where no bindings make them the same it answers false, and
-/// some bindings may have been made. `pending` and `walk` are room for what is still to be done.
+/// some bindings may have been made. `pending` and `walk` are room for what is still to be done, and the bounds save walks
+/// through what is older.
 pub fn unify(
     cells: &mut Cells,
     pending: &mut Vec<Pair>,
     walk: &mut Vec<Word>,
+    older: Older,
     left: Word,
     right: Word,
 ) -> Result<bool, Memory>
     requires fit { IsFit cells.old }
+    requires apart { IsApart (heap_of cells.old) older }
     requires left { IsIn (heap_of cells.old) left }
     requires right { IsIn (heap_of cells.old) right }
     ensures fit { IsFit cells.new }
     ensures grown { Grown (heap_of cells.old) (heap_of cells.new) }
     ensures solves { IfOk result (λ r. Solves r (heap_of cells.old) left right (heap_of cells.new)) }
 {
+    let mut older = older;
     pending.clear();
     pending.push(Pair { left, right })?;
     for _ in 0..u64::MAX {
@@ -35,7 +41,7 @@ pub fn unify(
         };
         let a = deref(cells, pair.left);
         let b = deref(cells, pair.right);
-        if !make_equal(cells, pending, walk, a, b)? {
+        if !make_equal(cells, pending, walk, &mut older, a, b)? {
             return Ok(false);
         }
     }
@@ -48,10 +54,12 @@ fn make_equal(
     cells: &mut Cells,
     pending: &mut Vec<Pair>,
     walk: &mut Vec<Word>,
+    older: &mut Older,
     left: Word,
     right: Word,
 ) -> Result<bool, Memory>
     requires fit { IsFit cells.old }
+    requires apart { IsApart (heap_of cells.old) older.old }
     requires left { IsIn (heap_of cells.old) left }
     requires right { IsIn (heap_of cells.old) right }
     requires left_free { IsFree (heap_of cells.old) left }
@@ -59,6 +67,7 @@ fn make_equal(
     requires pairs { All (IsPairIn (heap_of cells.old)) pending.old.items }
     ensures fit { IsFit cells.new }
     ensures grown { Grown (heap_of cells.old) (heap_of cells.new) }
+    ensures apart { IfOk result (λ r. r ≡ true → IsApart (heap_of cells.new) older.new) }
     ensures pairs { OnOk result (All (IsPairIn (heap_of cells.new)) pending.new.items) }
     ensures moves { IfOk result (λ r. Moves r (heap_of cells.old) pending.old.items left right (heap_of cells.new) pending.new.items) }
 {
@@ -66,7 +75,7 @@ fn make_equal(
         Plan::Same => Ok(true),
         Plan::Clash => Ok(false),
         Plan::Bind(slot, word) => {
-            if occurs(cells, walk, slot, word)? {
+            if occurs(cells, walk, older, slot, word)? {
                 return Ok(false);
             }
             bind(cells, slot, word)?;

@@ -1,48 +1,24 @@
-use Rattle.std.proofs.Common.{◌||◌, sym, ap, ◌∙◌}
+use Rattle.std.proofs.Common.{sym, ◌∙◌, refl, arith}
 use Rattle.term_store.specs.Cells.{heap_of}
-use Rattle.term_store.specs.Fit.{IsIn}
-use Rattle.term_store.specs.Heap.{meaning, numbered}
-use Rattle.term_store.specs.Unifying.{any_has}
-use Rattle.pl_term.specs.Variables.{has}
-use Rattle.term_store.proofs.Occurring.{empty_list, started, popped, ended, looked}
+use Rattle.term_store.proofs.Apartness.{apart_pushed, bounds_tell}
 use Rattle.term_store.proofs.occurs.occurs.Goals as goal
 
-pub loop-init : goal.loop-init
-loop-init c =
+pub returns-then-is_apart-clause-has : goal.returns-then-is_apart-clause-has
+returns-then-is_apart-clause-has c =
     let h = heap_of c.args.cells.now in
-    let s = started h (numbered h c.args.slot) c.push.new.self.items c.clear.new.self.items c.args.word c.in_ok-push.ensures.items c.clear.ensures.items c.requires.inside in
-    record { others = s.0; same = s.1 }
+    sym (bounds_tell h c.args.older.now c.args.slot c.args.word c.requires.apart c.requires.slot (sym c.is_apart.ensures ∙ c.if-is_apart.true)).0
 
-pub returns-in_default : goal.returns-in_default
-returns-in_default c =
+pub returns-then-is_apart-clause-apart : goal.returns-then-is_apart-clause-apart
+returns-then-is_apart-clause-apart c _ =
     let h = heap_of c.args.cells.now in
-    ended h (numbered h c.args.slot) c.loop.walk.items (has (numbered h c.args.slot) (meaning h c.args.word))
-    (empty_list c.loop.walk.items (sym c.loop.walk.ok.0 ∙ c.in_default.ensures.cases.0)) c.loop.invariant.same
+    let o = c.args.older.now in
+    apart_pushed h c.args.slot c.args.word o o c.requires.apart refl refl (omega arith)
+    (bounds_tell h o c.args.slot c.args.word c.requires.apart c.requires.slot (sym c.is_apart.ensures ∙ c.if-is_apart.true)).1
 
-pub deref-at-requires-clause-inside : goal.deref-at-requires-clause-inside
-deref-at-requires-clause-inside c =
-    (popped (IsIn (heap_of c.args.cells.now)) c.loop.walk.items c.pop.new.self.items c.in-Some.next c.in-Some.ensures.items c.loop.invariant.others).1
-
-pub is_here-requires-clause-others : goal.is_here-requires-clause-others
-is_here-requires-clause-others c =
-    (popped (IsIn (heap_of c.args.cells.now)) c.loop.walk.items c.pop.new.self.items c.in-Some.next c.in-Some.ensures.items c.loop.invariant.others).0
-
-pub returns-then-branch : goal.returns-then-branch
-returns-then-branch c =
+pub returns-clause-apart : goal.returns-clause-apart
+returns-clause-apart c absent =
     let h = heap_of c.args.cells.now in
-    let x = numbered h c.args.slot in
-    ap (λ q. q || any_has x h c.is_here.new.walk.items) (sym c.if-branch.true) ∙ c.in_ok-is_here.ensures.found
-    ∙ looked h x c.loop.walk.items c.pop.new.self.items c.in-Some.next c.deref-at.result (has x (meaning h c.args.word)) c.in-Some.ensures.items
-    c.loop.invariant.same c.deref-at.ensures.means
-
-pub loop-preserved : goal.loop-preserved
-loop-preserved c =
-    let h = heap_of c.args.cells.now in
-    let x = numbered h c.args.slot in
-    record {
-      others = c.in_ok-is_here.ensures.others;
-      same =
-          ap (λ q. q || any_has x h c.is_here.new.walk.items) (sym c.if-branch.false) ∙ c.in_ok-is_here.ensures.found
-          ∙ looked h x c.loop.walk.items c.pop.new.self.items c.in-Some.next c.deref-at.result (has x (meaning h c.args.word)) c.in-Some.ensures.items
-          c.loop.invariant.same c.deref-at.ensures.means;
-    }
+    let o = c.args.older.now in
+    let e = c.in_ok-found.ensures in
+    apart_pushed h c.args.slot c.args.word o (record { slots = o.slots; heads = o.heads; top = c.is_found.new.top }) c.requires.apart refl refl e.raised
+    (e.others absent)

@@ -2,6 +2,7 @@ use Rattle.std.proofs.Common.{◌≡◌, sym, subst, ◌∙◌}
 use Rattle.term_store.specs.declared.words.Plan.{Plan}
 use Rattle.term_store.specs.declared.words.Plan.TheVariants.{Same, Clash, Bind}
 use Rattle.term_store.specs.declared.words.Word.{Word}
+use Rattle.term_store.specs.Apart.{IsApart}
 use Rattle.term_store.specs.Cells.{IsFree, heap_of}
 use Rattle.term_store.specs.Fit.{IsIn, Fit}
 use Rattle.term_store.specs.Heap.{Heap}
@@ -35,7 +36,7 @@ returns-then-branch-clause-moves c =
     never_occurs h c.args.pending.now.items c.args.left c.args.right h c.args.pending.now.items c.in-Bind.slot c.in-Bind.word
     (as_planned h c.args.left c.args.right c.compare_words.result (Bind c.in-Bind.slot c.in-Bind.word) r.fit.fit r.left r.right r.left_free r.right_free
     c.compare_words.ensures c.in-Bind.is)
-    (sym c.in_ok-occurs-in-Bind.ensures ∙ c.if-branch.true)
+    (sym c.in_ok-occurs-in-Bind.ensures.has ∙ c.if-branch.true)
 
 pub returns-in_ok-bind-in-Bind-clause-moves : goal.returns-in_ok-bind-in-Bind-clause-moves
 returns-in_ok-bind-in-Bind-clause-moves c =
@@ -45,4 +46,8 @@ returns-in_ok-bind-in-Bind-clause-moves c =
     (goes_bind h c.args.pending.now.items c.args.left c.args.right c.in-Bind.slot c.in-Bind.word
     (as_planned h c.args.left c.args.right c.compare_words.result (Bind c.in-Bind.slot c.in-Bind.word) r.fit.fit r.left r.right r.left_free r.right_free
     c.compare_words.ensures c.in-Bind.is)
-    (sym c.in_ok-occurs-in-Bind.ensures ∙ c.if-branch.false))
+    (sym c.in_ok-occurs-in-Bind.ensures.has ∙ c.if-branch.false))
+
+pub returns-in_ok-bind-in-Bind-clause-apart : goal.returns-in_ok-bind-in-Bind-clause-apart
+returns-in_ok-bind-in-Bind-clause-apart c _ =
+    subst (λ d. IsApart d c.occurs.new.older) (sym c.in_ok-bind-in-Bind.ensures.bound) (c.in_ok-occurs-in-Bind.ensures.apart c.if-branch.false)

@@ -42,6 +42,7 @@ loop-preserved c =
     let e = heap_of c.make_equal.new.cells in
     record {
       fit = c.make_equal.ensures.fit;
+      apart = c.in_ok-make_equal.ensures.apart c.if-not-branch.false;
       grown = grown_twice (heap_of c.args.cells.now) d e c.loop.invariant.grown c.make_equal.ensures.grown;
       pairs = c.in_ok-make_equal.ensures.pairs;
       goes =

@@ -1,5 +1,6 @@
 use Rattle.std.proofs.Common.{[]}
 use Rattle.std.specs.List.{All}
+use Rattle.term_store.specs.Apart.{IsApart}
 use Rattle.term_store.specs.Cells.{IsFit, heap_of}
 use Rattle.term_store.specs.Unifying.{IsPairIn, Grown, Goes}
 use Rattle.term_store.proofs.unify.unify.Given as goal
@@ -8,6 +9,7 @@ abbrev pub invariant-loop : goal.invariant-loop
 invariant-loop l =
     record {
       fit : IsFit l.cells;
+      apart : IsApart (heap_of l.cells) l.older;
       grown : Grown (heap_of l.fn.cells) (heap_of l.cells);
       pairs : All (IsPairIn (heap_of l.cells)) l.pending.items;
       goes : Goes (heap_of l.fn.cells) [] l.fn.left l.fn.right (heap_of l.cells) l.pending.items;

@@ -1,5 +1,8 @@
-use Rattle.std.proofs.Common.{◌≡◌, ◌+◌, get_or, refl, rules}
+use Rattle.std.proofs.Common.{◌≡◌, ◌+◌, get_or, refl, rules, ap, sym, subst, ◌∙◌}
 use Rattle.term_store.specs.declared.nodes.AtomNode.TheVariants.{Var}
+use Rattle.pl_term.specs.Nodes.{tree}
+use Rattle.term_store.specs.Nodes.{node_views}
+use Rattle.term_store.specs.StoredTerms.{IsStored}
 use Rattle.term_store.proofs.Renumbering.{numbered_more, numbered_stored, numbered_tree}
 use Rattle.term_store.proofs.stored.Stored.from_nodes.Goals as goal
 
@@ -12,9 +15,11 @@ loop-n-preserved c =
 pub invariant_of-result : goal.invariant_of-result
 invariant_of-result c =
     let total : c.in-Some.cells ≡ c.loop-n.sum + c.len-variables.result = search rules in
-    numbered_stored c.requires.0 c.args.nodes.now c.requires.1 c.loop-n.n-index c.loop-n.met c.loop-n.all.items c.loop-n.sum c.loop-n.invariant c.loop-n-test.false
-    c.len-variables.result c.in-Some.cells c.len-variables.ensures total
+    subst (λ ns. IsStored ns c.len-variables.result c.in-Some.cells) (sym c.in_ok-nodes.ensures)
+    (numbered_stored c.requires.0 c.args.nodes.now c.requires.1 c.loop-n.n-index c.loop-n.met c.loop-n.all.items c.loop-n.sum c.loop-n.invariant c.loop-n-test.false
+    c.len-variables.result c.in-Some.cells c.len-variables.ensures total)
 
 pub returns : goal.returns
 returns c =
-    numbered_tree c.requires.0 c.args.nodes.now c.requires.1 c.loop-n.n-index c.loop-n.met c.loop-n.all.items c.loop-n.sum c.loop-n.invariant c.loop-n-test.false
+    ap (λ ns. tree (node_views ns)) c.in_ok-nodes.ensures
+    ∙ numbered_tree c.requires.0 c.args.nodes.now c.requires.1 c.loop-n.n-index c.loop-n.met c.loop-n.all.items c.loop-n.sum c.loop-n.invariant c.loop-n-test.false
