@@ -41,6 +41,10 @@ pub trait Atoms {
         ensures refusal { refusals self.new ≡ refusals self.old }
         ensures request { asked self.new ≡ asked self.old };
 
+    /// Whether the atom is held with this text. Where it would cost to tell, it may answer false. It takes no memory.
+    fn reads(&self, a: Atom, text: &Text) -> bool
+        ensures { result ≡ true → held self.now a ≡ Some text.now };
+
     /// Holds on only those atoms held that are in the list or fixed. It takes no memory.
     fn keep_only(&mut self, live: &[Atom])
         ensures kept { held self.new ≡ cut live.now (held self.old) }

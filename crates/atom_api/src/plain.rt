@@ -1,5 +1,5 @@
 //! Plain atoms.
-ghost use Rattle.std.specs.Prelude.{◌≡◌, ℕ, List, [], Option, None, IfOk};
+ghost use Rattle.std.specs.Prelude.{◌≡◌, ◌↔◌, ℕ, List, [], Option, Some, None, IfOk, IsTrue};
 ghost use Rattle.std.specs.HashMap.{get_by_text};
 ghost use Rattle.atom_words.specs.declared.view.Refusal.{Refusal};
 ghost use Rattle.atom_api.specs.Fixed.{fixed};
@@ -60,6 +60,12 @@ impl Atoms for PlainAtoms {
 
     fn text(&mut self, a: Atom, buf: &mut TextBuf) {
         self.slots.read(a.slot() as usize, buf);
+    }
+
+    fn reads(&self, a: Atom, text: &Text) -> bool
+        ensures { IsTrue result ↔ (names_of self.now.slots.texts.items a ≡ Some text.now) }
+    {
+        self.slots.has(a.slot() as usize, text)
     }
 
     fn keep_only(&mut self, live: &[Atom]) {

@@ -1,5 +1,5 @@
 //! A vector of texts, with the number of each.
-ghost use Rattle.std.specs.Prelude.{◌≡◌, ◌≢◌, [], ◌<◌, ◌≤◌, ◌^◌, ◌+◌, ◌==◌, ◌↔◌, ℕ, Option, Some, None, IfOk, OnErr, IsSome, false, length, get_or, map, encode_utf8_all, nat_le, not, if◌then◌else◌};
+ghost use Rattle.std.specs.Prelude.{◌≡◌, ◌≢◌, [], ◌<◌, ◌≤◌, ◌^◌, ◌+◌, ◌==◌, ◌↔◌, ℕ, Option, Some, None, IfOk, OnErr, IsSome, IsTrue, false, length, get_or, map, encode_utf8_all, nat_le, not, if◌then◌else◌};
 ghost use Rattle.std.specs.HashMap.{get_by_text};
 ghost use Rattle.std.specs.List.{list_any};
 ghost use Rattle.pl_term.specs.Tree.{Chars};
@@ -101,6 +101,19 @@ impl Slots {
     {
         if let Some(text) = &self.texts[slot] {
             buf.put(text.as_str());
+        }
+    }
+
+    /// Whether the slot has this text.
+    pub fn has(&self, slot: usize, text: &Text) -> bool
+        ensures { IsTrue result ↔ (names_of self.now.texts.items slot ≡ Some text.now) }
+    {
+        if slot >= self.texts.len() {
+            return false;
+        }
+        match &self.texts[slot] {
+            Some(own) => own.same(text),
+            None => false,
         }
     }
 

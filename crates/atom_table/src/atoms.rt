@@ -81,6 +81,11 @@ impl<'a> Atoms for TableAtoms<'a> {
         self.table.text(&mut self.seat, a, buf);
     }
 
+    /// It answers false always, since a text stands in the table alone, where it takes 32 loads to read.
+    fn reads(&self, _a: Atom, _text: &Text) -> bool {
+        false
+    }
+
     fn keep_only(&mut self, live: &[Atom]) {
         keep(&self.table.words, &mut self.seat, live);
     }

@@ -1,2 +1,3 @@
 pub mod NamedTerms
 pub mod HeldNodes
+pub mod AskedNames

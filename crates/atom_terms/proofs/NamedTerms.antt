@@ -229,6 +229,20 @@ mutual
   atoms_in_all-renamed f none = refl
   atoms_in_all-renamed f (more t ts) = ap₂ ◌++◌ (atoms_in-renamed f t) (atoms_in_all-renamed f ts)
 
+pub some_of : (o : Option Chars) (t : Chars) → o ≡ Some t → IsSome o
+some_of None t e = absurd (let no : ⊥ = cc in no)
+some_of (Some u) t e = refl
+
+-- Where the atoms of its nodes are held, all are that the term names.
+pub spelled_named : (m : Names) (t : Tree) (ns : List AtomNode)
+    → ((a : ℕ) (u : Chars) → fixed a ≡ Some u → m a ≡ Some u)
+    → node_views ns ≡ nodes t
+    → All (λ a. IsSome (m a)) (atoms_of ns)
+    → All (λ a. IsSome (m a)) (names_of t)
+spelled_named m t ns held e all =
+    All-cons (λ a. IsSome (m a)) neck (atoms_in t) (some_of (m neck) (codes ":-") (neck_held m held))
+    (All-same (λ a. IsSome (m a)) (atoms_in t) (atoms_of ns) (sym (atoms_of-spelled ns t e)) all)
+
 -- The stored term that is made of such nodes.
 pub stored_means : (m : Names) (t s : Tree) (ns : List AtomNode)
     → ((a : ℕ) (u : Chars) → fixed a ≡ Some u → m a ≡ Some u)
@@ -251,17 +265,13 @@ pub stored_named : (m : Names) (t s : Tree) (ns : List AtomNode)
     → All (λ a. IsSome (m a)) (names_of s)
 stored_named m t s ns held e is all =
     let p : Spelled (text_of m) t ns = spelled_by (text_of m) t ns e in
-    let some : IsSome (m neck) = some_of (m neck) (neck_held m held) in
+    let some : IsSome (m neck) = some_of (m neck) (codes ":-") (neck_held m held) in
     All-cons (λ a. IsSome (m a)) neck (atoms_in s) some
     (All-same (λ a. IsSome (m a)) (atoms_in s) (atoms_of ns)
     (ap atoms_in (is ∙ ap (rename zero) (ap tree p.spells ∙ tree-nodes p.term))
     ∙ atoms_in-renamed _ p.term
     ∙ sym (atoms_of-spelled ns p.term p.spells))
     all)
-  where
-    some_of : (o : Option Chars) → o ≡ Some (codes ":-") → IsSome o
-    some_of None e = absurd (let no : ⊥ = cc in no)
-    some_of (Some u) e = refl
 
 -- The nodes make up a stored term.
 pub nodes_spelled : (text : ℕ → Chars) (t : Tree) (ns : List AtomNode) → nodes_in text ns ≡ nodes t → IsSpelled ns
@@ -319,3 +329,13 @@ nodes_with_texts m t ns all held e is =
 
 pub term_with_texts : (f u : Tree) → nodes f ≡ nodes u → f ≡ u
 term_with_texts f u e = sym (tree-nodes f) ∙ ap tree e ∙ tree-nodes u
+
+-- A term over atoms whose nodes have the texts of another term's stands for that one.
+pub reads_so : (m : Names) (t u : Tree) (ns : List AtomNode) (all : List Node)
+    → ((a : ℕ) (v : Chars) → fixed a ≡ Some v → m a ≡ Some v)
+    → node_views ns ≡ nodes t
+    → all ≡ nodes u
+    → nodes_in (text_of m) ns ≡ all
+    → term_by (text_of m) t ≡ u
+reads_so m t u ns all held e is reads =
+    sym (term_with_texts u (term_by (text_of m) t) (sym is ∙ nodes_with_texts m t ns all held e (sym reads)))

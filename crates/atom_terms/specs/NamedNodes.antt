@@ -40,6 +40,17 @@ node_name (terms.Int i) = []
 node_name (terms.Atom f) = f
 node_name (terms.Comp f k) = f
 
+-- The names that nodes have.
+abbrev pub node_texts : Node → List Chars
+node_texts (terms.Var x) = []
+node_texts (terms.Int i) = []
+node_texts (terms.Atom f) = f ∷ []
+node_texts (terms.Comp f k) = f ∷ []
+
+abbrev pub texts_of : List Node → List Chars
+texts_of [] = []
+texts_of (n ∷ ns) = node_texts n ++ texts_of ns
+
 -- One of the names has more than 248 bytes in UTF-8.
 abbrev pub HasTooLong : List Node → Type 0
 HasTooLong ns = (n : Node) × Contains ns n × (248 < size (node_name n))

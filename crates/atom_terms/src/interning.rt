@@ -1,12 +1,14 @@
 //! A term with texts as a term over atoms, by the interning of its names.
 ghost use Rattle.std.specs.Prelude.{◌≡◌, ◌++◌, ◌<◌, Some, IfOk, IsSome, IfErr, zero};
-ghost use Rattle.std.specs.List.{All};
+ghost use Rattle.std.specs.List.{All, Contains};
 ghost use Rattle.pl_term.specs.Nodes.{nodes};
 ghost use Rattle.pl_term.specs.Texts.{size};
 ghost use Rattle.pl_term.specs.Variables.{rename};
 ghost use Rattle.term_store.specs.NumberedNames.{names_of, term_by};
+ghost use Rattle.world_api.specs.Asked.{texts_in};
+ghost use Rattle.world_api.specs.Gains.{Gains};
 ghost use Rattle.world_api.specs.Texts.{text_of, Holds};
-ghost use Rattle.atom_terms.specs.NamedNodes.{atoms_of, node_atoms, node_in, node_name, nodes_in, refusals_by, HasTooLong};
+ghost use Rattle.atom_terms.specs.NamedNodes.{atoms_of, node_atoms, node_in, node_name, node_texts, nodes_in, refusals_by, texts_of, HasTooLong};
 
 use atom_api::{Atoms, Cause, Interned, Pass, WornWord};
 use pl_term::{Flat, Memory, Node, Text};
@@ -29,13 +31,15 @@ pub enum NoTerm {
 }
 
 /// The term over atoms that stands for this term, its variables numbered from 0 in the order in which they first occur. Its
-/// atoms are held from then on. After any other answer some of its names may be held.
+/// atoms are held from then on. After any other answer some of its names may be held. No text but its names is asked of the
+/// atoms.
 pub fn interned<A: Atoms>(alloc: Global, t: &Flat, atoms: &mut A) -> Result<Stored, NoTerm>
     ensures term { IfOk result (λ s. term_by (text_of (A.held atoms.new)) s ≡ rename zero t.now) }
     ensures named { IfOk result (λ s. All (λ a. IsSome (A.held atoms.new a)) (names_of s)) }
     ensures holds { Holds (A.held atoms.old) (A.held atoms.new) }
     ensures refusals { A.refusals atoms.new ≡ A.refusals atoms.old ++ refusals_by result }
     ensures too_long { IfErr result (λ stop. stop ≡ NoTerm.TooLong → HasTooLong (nodes t.now)) }
+    ensures asked { Gains (λ c. Contains (texts_in t.now) c) (A.asked atoms.old) (A.asked atoms.new) }
 {
     match interned_nodes(alloc, t.nodes(), atoms) {
         Ok(all) => match Stored::from_nodes(alloc, all.as_slice()) {
@@ -57,6 +61,7 @@ fn interned_nodes<A: Atoms>(
     ensures holds { Holds (A.held atoms.old) (A.held atoms.new) }
     ensures refusals { A.refusals atoms.new ≡ A.refusals atoms.old ++ refusals_by result }
     ensures too_long { IfErr result (λ stop. stop ≡ NoTerm.TooLong → HasTooLong from.now) }
+    ensures asked { Gains (λ c. Contains (texts_of from.now) c) (A.asked atoms.old) (A.asked atoms.new) }
 {
     let mut all = Vec::new(alloc);
     for node in from {
@@ -78,6 +83,7 @@ fn interned_node<A: Atoms>(node: &Node, atoms: &mut A) -> Result<AtomNode, NoTer
     ensures holds { Holds (A.held atoms.old) (A.held atoms.new) }
     ensures refusals { A.refusals atoms.new ≡ A.refusals atoms.old ++ refusals_by result }
     ensures too_long { IfErr result (λ stop. stop ≡ NoTerm.TooLong → 248 < size (node_name node.now)) }
+    ensures asked { Gains (λ c. Contains (node_texts node.now) c) (A.asked atoms.old) (A.asked atoms.new) }
 {
     match node {
         Node::Var(x) => Ok(AtomNode::Var(*x)),
@@ -99,6 +105,7 @@ fn interned_name<A: Atoms>(name: &Text, atoms: &mut A) -> Result<u32, NoTerm>
     ensures holds { Holds (A.held atoms.old) (A.held atoms.new) }
     ensures refusals { A.refusals atoms.new ≡ A.refusals atoms.old ++ refusals_by result }
     ensures too_long { IfErr result (λ stop. stop ≡ NoTerm.TooLong → 248 < size name.now) }
+    ensures asked { Gains (λ c. c ≡ name.now) (A.asked atoms.old) (A.asked atoms.new) }
 {
     match atoms.intern(name) {
         Interned::Is(atom) => Ok(atom.slot()),

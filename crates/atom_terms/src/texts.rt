@@ -16,6 +16,7 @@ pub fn with_texts<A: Atoms>(alloc: Global, t: &Stored, atoms: &mut A) -> Result<
     ensures term { IfOk result (λ f. f ≡ term_by (text_of (A.held atoms.old)) t.now) }
     ensures same { A.held atoms.new ≡ A.held atoms.old }
     ensures refusals { A.refusals atoms.new ≡ A.refusals atoms.old }
+    ensures asked { A.asked atoms.new ≡ A.asked atoms.old }
 {
     let mut buf = TextBuf::new();
     let mut all = Vec::new(alloc);
@@ -36,6 +37,7 @@ fn node_with_text<A: Atoms>(
     ensures node { IfOk result (λ n. n ≡ node_in (text_of (A.held atoms.old)) node.now) }
     ensures same { A.held atoms.new ≡ A.held atoms.old }
     ensures refusals { A.refusals atoms.new ≡ A.refusals atoms.old }
+    ensures asked { A.asked atoms.new ≡ A.asked atoms.old }
 {
     match node {
         AtomNode::Var(x) => Ok(Node::Var(*x)),
@@ -58,6 +60,7 @@ fn text_at<A: Atoms>(
     ensures text { IfOk result (λ t. t ≡ text_of (A.held atoms.old) slot) }
     ensures same { A.held atoms.new ≡ A.held atoms.old }
     ensures refusals { A.refusals atoms.new ≡ A.refusals atoms.old }
+    ensures asked { A.asked atoms.new ≡ A.asked atoms.old }
 {
     atoms.text(Atom::at(slot), buf);
     buf.to_text(alloc)

@@ -1,6 +1,7 @@
 use Rattle.std.proofs.Common.{◌∙◌}
 use Rattle.world_api.specs.Texts.{text_of}
 use Rattle.atom_terms.proofs.NamedTerms.{nodes_spelled, stored_means, stored_named}
+use Rattle.atom_terms.proofs.AskedNames.{asked_of}
 use Rattle.atom_terms.proofs.interning.interned.Goals as goal
 
 pub from_nodes-requires : goal.from_nodes-requires
@@ -22,3 +23,15 @@ returns-in-Ok-from_nodes-clause-named g c =
     (c.in-Ok.ensures.nodes ∙ c.nodes.ensures)
     (rw c.as_slice.ensures.value at c.in-Ok-from_nodes.ensures)
     c.in-Ok.ensures.named
+
+pub returns-in-Ok-from_nodes-clause-asked : goal.returns-in-Ok-from_nodes-clause-asked
+returns-in-Ok-from_nodes-clause-asked g c =
+    asked_of c.nodes.result.now c.args.t.now (g.A.Atoms.asked c.args.atoms.now) (g.A.Atoms.asked c.interned_nodes.new.atoms) c.nodes.ensures c.interned_nodes.ensures.asked
+
+pub returns-in-Ok-clause-asked : goal.returns-in-Ok-clause-asked
+returns-in-Ok-clause-asked g c =
+    asked_of c.nodes.result.now c.args.t.now (g.A.Atoms.asked c.args.atoms.now) (g.A.Atoms.asked c.interned_nodes.new.atoms) c.nodes.ensures c.interned_nodes.ensures.asked
+
+pub returns-clause-asked : goal.returns-clause-asked
+returns-clause-asked g c =
+    asked_of c.nodes.result.now c.args.t.now (g.A.Atoms.asked c.args.atoms.now) (g.A.Atoms.asked c.interned_nodes.new.atoms) c.nodes.ensures c.interned_nodes.ensures.asked

@@ -1,5 +1,6 @@
 use Rattle.std.proofs.Common.{◌∙◌, append-nil}
 use Rattle.atom_terms.proofs.HeldNodes.{nodes_more, named_more, holds_then}
+use Rattle.atom_terms.proofs.AskedNames.{asked_more}
 use Rattle.atom_terms.proofs.interning.interned_nodes.Goals as goal
 
 pub loop-node-preserved : goal.loop-node-preserved
@@ -41,4 +42,20 @@ loop-node-preserved g c =
           c.loop-node.invariant.holds
           c.interned_node.ensures.holds;
       refusals = c.in-Ok.ensures.refusals ∙ append-nil (g.A.Atoms.refusals c.loop-node.atoms) ∙ c.loop-node.invariant.refusals;
+      asked =
+          asked_more c.args.from.now c.loop-node.node-index c.node-item.result c.node-item.result
+          (g.A.Atoms.asked c.args.atoms.now) (g.A.Atoms.asked c.loop-node.atoms) (g.A.Atoms.asked c.interned_node.new.atoms)
+          c.loop-node-test.true c.node-item.is c.loop-node.invariant.asked c.interned_node.ensures.asked;
     }
+
+pub returns-in-Err-push-clause-asked : goal.returns-in-Err-push-clause-asked
+returns-in-Err-push-clause-asked g c =
+    asked_more c.args.from.now c.loop-node.node-index c.node-item.result c.node-item.result
+    (g.A.Atoms.asked c.args.atoms.now) (g.A.Atoms.asked c.loop-node.atoms) (g.A.Atoms.asked c.interned_node.new.atoms)
+    c.loop-node-test.true c.node-item.is c.loop-node.invariant.asked c.interned_node.ensures.asked
+
+pub returns-in-Err-clause-asked : goal.returns-in-Err-clause-asked
+returns-in-Err-clause-asked g c =
+    asked_more c.args.from.now c.loop-node.node-index c.node-item.result c.node-item.result
+    (g.A.Atoms.asked c.args.atoms.now) (g.A.Atoms.asked c.loop-node.atoms) (g.A.Atoms.asked c.interned_node.new.atoms)
+    c.loop-node-test.true c.node-item.is c.loop-node.invariant.asked c.interned_node.ensures.asked

@@ -1,7 +1,8 @@
 use Rattle.std.proofs.Common.{◌≡◌, IsSome, take}
-use Rattle.std.specs.List.{All}
+use Rattle.std.specs.List.{All, Contains}
+use Rattle.world_api.specs.Gains.{Gains}
 use Rattle.world_api.specs.Texts.{text_of, Holds}
-use Rattle.atom_terms.specs.NamedNodes.{atoms_of, nodes_in}
+use Rattle.atom_terms.specs.NamedNodes.{atoms_of, nodes_in, texts_of}
 use Rattle.atom_terms.proofs.interning.interned_nodes.Given as goal
 
 abbrev pub invariant-loop-node : goal.invariant-loop-node
@@ -11,4 +12,5 @@ invariant-loop-node g l =
       named : All (λ a. IsSome (g.A.Atoms.held l.atoms a)) (atoms_of l.all.items);
       holds : Holds (g.A.Atoms.held l.fn.atoms) (g.A.Atoms.held l.atoms);
       refusals : g.A.Atoms.refusals l.atoms ≡ g.A.Atoms.refusals l.fn.atoms;
+      asked : Gains (λ c. Contains (texts_of l.from) c) (g.A.Atoms.asked l.fn.atoms) (g.A.Atoms.asked l.atoms);
     }

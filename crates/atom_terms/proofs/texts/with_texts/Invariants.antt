@@ -9,4 +9,5 @@ invariant-loop-node g l =
       nodes_are : l.all.items ≡ nodes_in (text_of (g.A.Atoms.held l.fn.atoms)) (take l.node-index l.node-items);
       same : g.A.Atoms.held l.atoms ≡ g.A.Atoms.held l.fn.atoms;
       refusals : g.A.Atoms.refusals l.atoms ≡ g.A.Atoms.refusals l.fn.atoms;
+      asked : g.A.Atoms.asked l.atoms ≡ g.A.Atoms.asked l.fn.atoms;
     }
