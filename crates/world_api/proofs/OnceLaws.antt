@@ -270,3 +270,13 @@ same_text m n a some holds = text_kept m n a (m a) refl some holds
 
 pub same_texts : (m n : Names) (xs : List ℕ) → All (λ a. IsSome (m a)) xs → Holds m n → All (λ a. text_of m a ≡ text_of n a) xs
 same_texts m n xs some holds = λ k d below. same_text m n (slice_index_or xs k d) (some k d below) holds
+
+-- There are no goal words.
+no_words : {T : Type 0} (term : (ℕ → Chars) → T → Tree) (text : ℕ → Chars) (s : Stage T) (job : Job) (cs : List Consulted) → (execution_of term text s job cs).words ≡ []
+no_words term text (Fresh t) job cs = refl
+no_words term text AtHand job cs = refl
+no_words term text Over job cs = refl
+
+pub same_words : {T : Type 0} (term : (ℕ → Chars) → T → Tree) (old_text new_text : ℕ → Chars) (s r : Stage T) (job : Job) (cs : List Consulted)
+    → (execution_of term new_text r job cs).words ≡ (execution_of term old_text s job cs).words
+same_words term old_text new_text s r job cs = no_words term new_text r job cs ∙ sym (no_words term old_text s job cs)

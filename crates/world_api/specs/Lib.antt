@@ -3,6 +3,8 @@ pub mod Told
 pub mod Visits
 pub mod Replies
 pub mod Answers
+pub mod Gains
+pub mod Asked
 pub mod Courses
 pub mod Scripts
 pub mod Residents

@@ -1,6 +1,8 @@
 -- Scripts: how an execution comes to its next item.
 use Rattle.std.specs.Prelude.{◌≡◌, ℕ, ◌+◌, List, [], ◌∷◌, ◌++◌, Bool, true, false, ◌||◌, Option, Some, None, encode_utf8_all}
 use Rattle.pl_term.specs.Tree.{Chars, Tree}
+use Rattle.pl_model.specs.History.{History}
+use Rattle.pl_model.specs.Requests.{Request}
 use Rattle.pl_model.specs.Resolution.{Ending, solved, no_more, threw, exited, halted, ended, Output, State}
 use Rattle.pl_model.specs.Control.{start}
 use Rattle.pl_model.specs.Execution.{Script, Job, Consulted, wrote, Activity, directing, over, Execution, texts_of}
@@ -13,6 +15,7 @@ use Rattle.world_api.specs.declared.how.How.TheVariants.{Solved, False, Threw, E
 use Rattle.world_api.specs.declared.script.Next.{Next}
 use Rattle.world_api.specs.declared.script.Next.TheVariants.{Item, Done, NeedsAtoms, Retry, Worn, Memory}
 use Rattle.world_api.specs.Told.{Told}
+use Rattle.world_api.specs.Asked.{IsInReply}
 use Rattle.world_api.specs.Courses.{Part, of_goal, of_directive, limits_of, with_search, seen_in}
 
 abbrev pub next_refusals : {T : Type 0} → Next T → List Refusal
@@ -105,6 +108,23 @@ IsKept next b cs = some_fault cs ≡ b
 abbrev pub IsWritten : {T : Type 0} → Next T → Chars → List Consulted → List ℕ → Type 0
 IsWritten Memory name cs bytes = Unit {0}
 IsWritten next name cs bytes = bytes ≡ encode_utf8_all (all_consulted name [] cs)
+
+-- The same engine among as many goals, and the history has gone on.
+pub record IsLater (t u : Told) : Type 0 where
+  pub engine : u.engine ≡ t.engine
+  pub goals : u.goals ≡ t.goals
+  pub later : History
+  pub grown : u.history ≡ t.history ++ later
+
+-- The text is one of what is handed of the reply to one of these requests, behind what the engine had seen and what came
+-- since.
+pub record IsReplied (asks : Request → Type 0) (t : Told) (c : Chars) : Type 0 where
+  pub before : History
+  pub later : History
+  pub follows : before ≡ t.history ++ later
+  pub request : Request
+  pub is : asks request
+  pub stands : IsInReply t before request c
 
 module _ {S T : Type 0} (execution : (ℕ → Chars) → S → Job → List Consulted → Execution) (part : S → Option Part) (term : (ℕ → Chars) → T → Tree) where
   -- The execution as the next item is asked for, and where the search of the item at hand has come to.

@@ -3,7 +3,7 @@ ghost use Rattle.std.specs.Prelude.{◌≡◌, ◌++◌, false, IsSome, None};
 ghost use Rattle.std.specs.List.{All};
 ghost use Rattle.world_api.specs.Texts.{text_of, Holds};
 ghost use Rattle.world_api.specs.Told.{has_ended};
-ghost use Rattle.world_api.specs.Scripts.{next_refusals};
+ghost use Rattle.world_api.specs.Scripts.{IsLater, next_refusals};
 ghost use Rattle.world_api.specs.OnceGiven.{TakenUp};
 
 use crate::answer::Answer;
@@ -43,6 +43,7 @@ impl<T: Named + Drop> Once<T> {
 
 impl<T: Named + Drop> Script for Once<T> {
     ghost use Rattle.std.specs.Prelude.{[]};
+    ghost use Rattle.pl_model.specs.Requests.{look};
     ghost use Rattle.world_api.specs.Onces.{execution_of, part_of, plays_of, names_of, over_of, same_under, same_lines, all_reported};
 
     type Term = T;
@@ -60,6 +61,10 @@ impl<T: Named + Drop> Script for Once<T> {
     ghost name = { λ _. [] };
 
     ghost names = { λ s. names_of T.names s.stage };
+
+    ghost texts = { λ _ _. ⊥ };
+
+    ghost asks = { λ _ q. q ≡ look };
 
     ghost names_tell = { λ s text other same. same_under T.term T.names T.names_tell s.stage text other same };
 
@@ -98,6 +103,8 @@ fn take_up<T: Named + Drop, W: World<Term = T>>(
     ensures runs { has_ended (W.told world.new).engine (W.told world.new).history ≡ false }
     ensures holds { Holds (W.A.held atoms.old) (W.A.held atoms.new) }
     ensures refusals { W.A.refusals atoms.new ≡ W.A.refusals atoms.old ++ next_refusals result.1 }
+    ensures told { IsLater (W.told world.old) (W.told world.new) }
+    ensures asked { W.A.asked atoms.new ≡ W.A.asked atoms.old }
 {
     match world.visit(Visit::Look, atoms) {
         Answer::Served { .. } => (

@@ -1,13 +1,15 @@
 //! The trait of scripts.
-ghost use Rattle.std.specs.Prelude.{◌≡◌, ◌++◌, ℕ, Bool, false, List, [], Option, IsSome};
+ghost use Rattle.std.specs.Prelude.{◌≡◌, ◌++◌, ◌⊎◌, ℕ, Bool, false, List, [], Option, IsSome, Some};
 ghost use Rattle.std.specs.Option.{option_map};
 ghost use Rattle.std.specs.List.{All};
 ghost use Rattle.pl_term.specs.Tree.{Chars};
 ghost use Rattle.pl_model.specs.Execution.{Script as ScriptOf, Job, Consulted, Execution};
+ghost use Rattle.pl_model.specs.Requests.{Request};
 ghost use Rattle.world_api.specs.Texts.{text_of, Holds};
 ghost use Rattle.world_api.specs.Told.{Told, has_ended};
-ghost use Rattle.world_api.specs.Courses.{Part};
-ghost use Rattle.world_api.specs.Scripts.{IsAsked, IsAtHand, IsLast, Given, next_refusals, next_names, is_done, texts_at};
+ghost use Rattle.world_api.specs.Gains.{Gains};
+ghost use Rattle.world_api.specs.Courses.{Part, of_goal};
+ghost use Rattle.world_api.specs.Scripts.{IsAsked, IsAtHand, IsLast, IsLater, IsReplied, Given, next_refusals, next_names, is_done, texts_at};
 
 use crate::how::How;
 use crate::named::Named;
@@ -60,6 +62,12 @@ pub trait Script {
     // The atoms that it names.
     ghost names: { Self → List ℕ };
 
+    // The texts that its items name, as long as they are not terms over atoms.
+    ghost texts: { Self → Chars → Type 0 };
+
+    // The requests that it makes for its items.
+    ghost asks: { Self → Request → Type 0 };
+
     /// The next item. `ended` says how the item at hand has ended, if there is one: its ball has texts of its own, since
     /// its variables need not be numbered from 0. Lines that are written of the file are put behind its text.
     fn next<W: World<Term = Self::Term>>(
@@ -83,7 +91,13 @@ pub trait Script {
         ensures held { All (λ a. IsSome (W.A.held atoms.new a)) (names self.new ++ next_names Self.Term.names result) }
         ensures runs { has_ended (W.told world.new).engine (W.told world.new).history ≡ false }
         ensures holds { Holds (W.A.held atoms.old) (W.A.held atoms.new) }
-        ensures refusals { W.A.refusals atoms.new ≡ W.A.refusals atoms.old ++ next_refusals result };
+        ensures refusals { W.A.refusals atoms.new ≡ W.A.refusals atoms.old ++ next_refusals result }
+        ensures told { IsLater (W.told world.old) (W.told world.new) }
+        ensures asked { Gains (λ c. texts self.old c ⊎ IsReplied (asks self.old) (W.told world.old) c) (W.A.asked atoms.old) (W.A.asked atoms.new) }
+        ensures texts { (c : Chars) → texts self.new c → texts self.old c }
+        ensures asks { (q : Request) → asks self.new q → asks self.old q }
+        ensures words { part self.old ≡ Some of_goal → (job : Job) (cs : List Consulted)
+            → (execution (text_of (W.A.held atoms.new)) self.new job cs).words ≡ (execution (text_of (W.A.held atoms.old)) self.old job cs).words };
 
     // It stands for the same execution under texts that agree on the atoms that it names, and plays the same.
     ghost names_tell: { (s : Self) (text other : ℕ → Chars) → All (λ a. text a ≡ other a) (names s)

@@ -6,6 +6,8 @@ ghost use Rattle.world_api.specs.Texts.{text_of, Holds};
 ghost use Rattle.world_api.specs.Told.{Told, has_ended};
 ghost use Rattle.world_api.specs.Visits.{visit_names};
 ghost use Rattle.world_api.specs.Answers.{CanVisit, Visited, answer_names, refusals_by};
+ghost use Rattle.world_api.specs.Asked.{IsInAnswer};
+ghost use Rattle.world_api.specs.Gains.{Gains};
 
 use crate::answer::Answer;
 use crate::named::Named;
@@ -38,5 +40,7 @@ pub trait World {
         ensures runs { has_ended (told self.new).engine (told self.new).history ≡ false }
         ensures names { All (λ a. IsSome (Self.A.held atoms.new a)) (answer_names Self.Term.names result) }
         ensures holds { Holds (Self.A.held atoms.old) (Self.A.held atoms.new) }
-        ensures refusals { Self.A.refusals atoms.new ≡ Self.A.refusals atoms.old ++ refusals_by result };
+        ensures refusals { Self.A.refusals atoms.new ≡ Self.A.refusals atoms.old ++ refusals_by result }
+        ensures asked { Gains (IsInAnswer Self.Term.term Self.Term.key_of (text_of (Self.A.held atoms.old)) visit (told self.old))
+            (Self.A.asked atoms.old) (Self.A.asked atoms.new) };
 }

@@ -4,6 +4,8 @@ use Rattle.world_api.specs.Texts.{text_of}
 use Rattle.world_api.specs.declared.once.Stage.{Stage}
 use Rattle.world_api.specs.declared.script.Next.{Next}
 use Rattle.world_api.specs.OnceGiven.{TakenUp}
+use Rattle.world_api.proofs.AskedLaws.{look_asks_nothing}
+use Rattle.world_api.proofs.LaterLaws.{later_by, later_same}
 use Rattle.world_api.proofs.OnceLaws.{look_serves, looked_of}
 use Rattle.world_api.proofs.once.take_up.Goals.{in-Served, in-NeedsAtoms, in-Retry, in-Worn, in-Memory}
 use Rattle.world_api.proofs.once.take_up.Goals as goal
@@ -55,3 +57,20 @@ returns-clause-taken g c =
           (sym w.result-is)
           (refl, w.in-Memory.ensures.visited.1)
     ]
+
+pub returns-clause-told : goal.returns-clause-told
+returns-clause-told g c =
+    elim c.match-visit.branch [
+      | in-Served w ↦
+          let v = w.in-Served.ensures.visited
+          in later_by (g.W.World.told c.args.world.now) (g.W.World.told c.visit.new.self) v.0 v.1.1.update _ v.1.0 v.1.1.told
+      | in-NeedsAtoms w ↦ later_same (g.W.World.told c.args.world.now) (g.W.World.told c.visit.new.self) w.in-NeedsAtoms.ensures.visited.1
+      | in-Retry w ↦ later_same (g.W.World.told c.args.world.now) (g.W.World.told c.visit.new.self) w.in-Retry.ensures.visited.1
+      | in-Worn w ↦ later_same (g.W.World.told c.args.world.now) (g.W.World.told c.visit.new.self) w.in-Worn.ensures.visited.1
+      | in-Memory w ↦ later_same (g.W.World.told c.args.world.now) (g.W.World.told c.visit.new.self) w.in-Memory.ensures.visited.1
+    ]
+
+pub returns-clause-asked : goal.returns-clause-asked
+returns-clause-asked g c =
+    look_asks_nothing g.T.Kept.term g.T.Kept.key_of (text_of (g.W.A.Atoms.held c.args.atoms.now)) (g.W.World.told c.args.world.now)
+    (g.W.A.Atoms.asked c.args.atoms.now) (g.W.A.Atoms.asked c.visit.new.atoms) c.visit.ensures.asked

@@ -1,8 +1,10 @@
-use Rattle.std.proofs.Common.{sym, ◌∙◌, subst, IsSome}
+use Rattle.std.proofs.Common.{refl, sym, ◌∙◌, subst, IsSome}
 use Rattle.std.specs.List.{All}
 use Rattle.world_api.specs.declared.once.Stage.{Stage}
 use Rattle.world_api.specs.Onces.{names_of}
-use Rattle.world_api.proofs.OnceLaws.{given_from, end_from, same_texts}
+use Rattle.world_api.proofs.Gaining.{gains_nothing}
+use Rattle.world_api.proofs.LaterLaws.{later_same}
+use Rattle.world_api.proofs.OnceLaws.{given_from, end_from, same_texts, same_words}
 use Rattle.world_api.proofs.once.OnceScript.next.Goals as goal
 
 pub returns-in-Fresh-clause-given : goal.returns-in-Fresh-clause-given
@@ -17,3 +19,19 @@ returns-in-Fresh-clause-given g c =
 pub returns-in-AtHand-clause-given : goal.returns-in-AtHand-clause-given
 returns-in-AtHand-clause-given g c =
     end_from g.T.Kept.term _ _ _ _ _ _ _ (sym c.replace.ensures.value ∙ c.in-AtHand.is) c.replace.ensures.after
+
+pub returns-in-Fresh-clause-asked : goal.returns-in-Fresh-clause-asked
+returns-in-Fresh-clause-asked g c =
+    gains_nothing _ (g.W.A.Atoms.asked c.args.atoms.now) (g.W.A.Atoms.asked c.take_up-stage.new.atoms) c.take_up-stage.ensures.asked
+
+pub returns-in-Fresh-clause-words : goal.returns-in-Fresh-clause-words
+returns-in-Fresh-clause-words g c e job cs = same_words g.T.Kept.term _ _ _ _ job cs
+
+pub returns-in-AtHand-clause-told : goal.returns-in-AtHand-clause-told
+returns-in-AtHand-clause-told g c = later_same (g.W.World.told c.args.world.now) (g.W.World.told c.args.world.now) refl
+
+pub returns-in-AtHand-clause-asked : goal.returns-in-AtHand-clause-asked
+returns-in-AtHand-clause-asked g c = gains_nothing _ (g.W.A.Atoms.asked c.args.atoms.now) (g.W.A.Atoms.asked c.args.atoms.now) refl
+
+pub returns-in-AtHand-clause-words : goal.returns-in-AtHand-clause-words
+returns-in-AtHand-clause-words g c e job cs = same_words g.T.Kept.term _ _ _ _ job cs
