@@ -7,6 +7,7 @@ pub mod Additions
 pub mod Retrying
 pub mod Generations
 pub mod Visiting
+pub mod Asking
 pub mod Soundness
 pub mod HeadNodes
 pub mod Putting

@@ -19,12 +19,13 @@ use Rattle.pl_model.specs.Service.{answers, serve, reads, clauses_for, unknown_c
 use Rattle.pl_model.specs.SharedState.{SharedState}
 use Rattle.pl_model.specs.Progress.{served_now}
 use Rattle.clause_db.specs.Stands.{first_named}
+use Rattle.gen_core.specs.Hits.{hit_of}
 use Rattle.clause_db.specs.declared.fault.DbFault.{DbFault}
 use Rattle.clause_db.specs.declared.fault.DbFault.TheVariants.{Unknown as UnknownFault}
 use Rattle.gen_core.specs.Visible.{has_any}
 use Rattle.world_api.specs.Visits.{clause_in}
 use Rattle.world_api.specs.Replies.{follows_some}
-use Rattle.world_api.specs.declared.reply.Found.{Found}
+use Rattle.gen_core.specs.declared.hit.Hit.{Hit}
 use Rattle.plain_world.specs.Entries.{Log, entry_of, history_of, state_after}
 use Rattle.plain_world.specs.Sound.{AllOpen}
 use Rattle.plain_world.specs.Trees.{trees_at, as_stored, as_clauses}
@@ -54,19 +55,23 @@ follows_same : (ss : List (Stored Tree)) → has_any ss ≡ follows_some (map as
 follows_same [] = refl
 follows_same (s ∷ ss) = refl
 
-pub front_none : (ss : List (Stored Tree)) → None ≡ first_named ss → IsFrontOf None (map as_stored ss)
+front_none : (ss : List (Stored Tree)) → None ≡ first_named ss → IsFrontOf None (map as_stored ss)
 front_none [] e = tt
 front_none (s ∷ ss) e = absurd (cc)
 
-pub front_some : (ss : List (Stored Tree)) (f : Found Tree) → Some (f.place, f.clause, f.more) ≡ first_named ss → IsFrontOf (Some f) (map as_stored ss)
+front_some : (ss : List (Stored Tree)) (f : Hit Tree) → Some (f.place, f.clause.now, f.more) ≡ first_named ss → IsFrontOf (Some f) (map as_stored ss)
 front_some [] f e = absurd (cc)
 front_some (s ∷ ss) f e =
-    let same : (f.place, f.clause, f.more) ≡ (s.place, s.clause, has_any ss) = same_Some _ _ e in
+    let same : (f.place, f.clause.now, f.more) ≡ (s.place, s.clause, has_any ss) = same_Some _ _ e in
     record {
       clause = ap (λ (t : ℕ × Tree × Bool). clause_in t.1) same;
       place = ap (λ (t : ℕ × Tree × Bool). t.0) same;
       more = ap (λ (t : ℕ × Tree × Bool). t.2) same ∙ follows_same ss;
     }
+
+pub front_of : (ss : List (Stored Tree)) (f : Option (Hit Tree)) → hit_of f ≡ first_named ss → IsFrontOf f (map as_stored ss)
+front_of ss None e = front_none ss e
+front_of ss (Some f) e = front_some ss f e
 
 -- The two outcomes of a call by a goal.
 abbrev fault_if : Bool → Option DbFault
@@ -108,7 +113,7 @@ listed_now l goal p k asked open_only =
     ∙ ap (λ q. map as_stored (choices (keyed k) (length l.entries) q (trees_at l.entries))) asked.predicate
 
 -- A call of a procedure that is there.
-pub call_reads : (l : Log) (goal : Tree) (p : Proc) (k : FirstArgument) (f : Option (Found Tree))
+pub call_reads : (l : Log) (goal : Tree) (p : Proc) (k : FirstArgument) (f : Option (Hit Tree))
     → IsGoalOf p k goal
     → AllOpen (trees_at l.entries).clauses
     → is_known (trees_at l.entries) p ≡ true

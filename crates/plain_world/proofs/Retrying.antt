@@ -14,7 +14,7 @@ use Rattle.pl_model.proofs.UpdateView.{update_view}
 use Rattle.clause_db.specs.Stands.{after}
 use Rattle.world_api.specs.Told.{behind, has_place, clause_list}
 use Rattle.world_api.specs.Replies.{follows_some}
-use Rattle.world_api.specs.declared.reply.Found.{Found}
+use Rattle.gen_core.specs.declared.hit.Hit.{Hit}
 use Rattle.plain_world.specs.Entries.{Log, entry_of, history_of, state_after}
 use Rattle.plain_world.specs.Sound.{AllOpen, AllWithin}
 use Rattle.plain_world.specs.Trees.{trees_at, as_stored}
@@ -90,7 +90,7 @@ follows_named [] (y ∷ ys) e = absurd (cc)
 follows_named (x ∷ xs) [] e = absurd (cc)
 follows_named (x ∷ xs) (y ∷ ys) e = refl
 
-front_named : (f : Option (Found Tree)) (xs ys : List (Stored Clause)) → Same xs ys → IsFrontOf f xs → IsFrontOf f ys
+front_named : (f : Option (Hit Tree)) (xs ys : List (Stored Clause)) → Same xs ys → IsFrontOf f xs → IsFrontOf f ys
 front_named None [] [] e r = tt
 front_named None [] (y ∷ ys) e r = absurd (cc)
 front_named None (x ∷ xs) ys e r = absurd r
@@ -202,7 +202,7 @@ place_now l g j goal p k within asked open_only there =
     has_named j _ _ (list_then l g goal p k within asked open_only) ∙ there
 
 -- The front of what the database has behind the place is that of the goal's list.
-pub front_then : (l : Log) (g j : ℕ) (goal : Tree) (p : Proc) (k : FirstArgument) (f : Option (Found Tree))
+pub front_then : (l : Log) (g j : ℕ) (goal : Tree) (p : Proc) (k : FirstArgument) (f : Option (Hit Tree))
     → g ≤ length l.entries
     → IsGoalOf p k goal
     → AllOpen (trees_at l.entries).clauses

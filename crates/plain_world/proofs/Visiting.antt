@@ -16,6 +16,7 @@ use Rattle.world_api.specs.declared.visit.Visit.TheVariants.{Next, AssertFirst, 
 use Rattle.world_api.specs.declared.reply.Reply.{Reply}
 use Rattle.world_api.specs.declared.reply.Reply.TheVariants as replies
 use Rattle.world_api.specs.declared.reply.Found.{Found}
+use Rattle.gen_core.specs.declared.hit.Hit.{Hit}
 use Rattle.world_api.specs.declared.answer.Answer.{Answer}
 use Rattle.world_api.specs.declared.answer.Answer.TheVariants.{Served, Waits, NeedsAtoms, Retry, Worn, Memory}
 use Rattle.world_api.specs.Visits.{IsGoal, Asks, clause_in, proc_named}
@@ -29,7 +30,10 @@ use Rattle.plain_world.specs.declared.adding.Adding.TheVariants.{Text, First, La
 use Rattle.plain_world.specs.Adding.{adding_request}
 use Rattle.plain_world.specs.Entries.{Log, history_of, told_of, entry_of, kind_of, noted, updated}
 use Rattle.plain_world.specs.TextReplies.{Reads, Makes, IsGoalOf, IsFrontOf}
-use Rattle.plain_world.specs.Handed.{Handed, SaysAs, VisitedNow, adding_visit}
+use Rattle.plain_world.specs.declared.made.Made.{Made}
+use Rattle.plain_world.specs.declared.made.Made.TheVariants.{Is, Full, Again, Worn as MadeWorn, Memory as MadeMemory}
+use Rattle.plain_world.specs.Made.{IfMade}
+use Rattle.plain_world.specs.Handed.{Answered, Handed, SaysAs, VisitedNow, adding_visit}
 
 pub follows_none : (l : Log) → Follows 1 (history_of l) (history_of l)
 follows_none l = record { later = []; grown = sym (append-nil (history_of l)); others = refl }
@@ -78,6 +82,23 @@ module _ {T K : Type 0} (term : (ℕ → Chars) → T → Tree) (key : T → K) 
   visited_read v l m t (Retry c) serves reads h = ap told_of h
   visited_read v l m t (Worn w) serves reads h = ap told_of h
   visited_read v l m t Memory serves reads h = ap told_of h
+
+  -- What was made of a reply in texts is handed out.
+  pub handed_made :
+      (t : TextReply) (made : Made (Reply T)) (a : Answer T) (l m : Log)
+      → IfMade made (SaysAs term new_text t)
+      → Answered made a l m
+      → Handed term new_text t a l m
+  handed_made t (Is r) (Served s g) l m says h = (subst (SaysAs term new_text t) (sym h.0) says, h.1, h.2)
+  handed_made t (Is r) (Waits on g) l m says h = absurd h
+  handed_made t (Is r) (NeedsAtoms p) l m says h = absurd h
+  handed_made t (Is r) (Retry c) l m says h = absurd h
+  handed_made t (Is r) (Worn w) l m says h = absurd h
+  handed_made t (Is r) Memory l m says h = h
+  handed_made t (Full p) a l m says h = subst (λ (b : Answer T). Handed term new_text t b l m) (sym h.0) h.1
+  handed_made t (Again c) a l m says h = subst (λ (b : Answer T). Handed term new_text t b l m) (sym h.0) h.1
+  handed_made t (MadeWorn w) a l m says h = subst (λ (b : Answer T). Handed term new_text t b l m) (sym h.0) h.1
+  handed_made t MadeMemory a l m says h = subst (λ (b : Answer T). Handed term new_text t b l m) (sym h.0) h.1
 
   -- A visit that makes an update.
   pub is_made :
@@ -144,7 +165,7 @@ module _ {T K : Type 0} (term : (ℕ → Chars) → T → Tree) (key : T → K) 
 
   -- The next clause of a list.
   pub is_next :
-      (p : Procedure) (k : K) (h place : ℕ) (l m : Log) (f : Option (Found Tree)) (r : Reply T)
+      (p : Procedure) (k : K) (h place : ℕ) (l m : Log) (f : Option (Hit Tree)) (r : Reply T)
       → ((goal : Tree) → IsGoal term key old_text p k goal → IsFrontOf f (behind place (clause_list l.goals (history_of l) h goal)))
       → SaysAs term new_text (Clauses f) r
       → m ≡ l

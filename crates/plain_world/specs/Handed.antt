@@ -11,6 +11,8 @@ use Rattle.world_api.specs.Replies.{Says}
 use Rattle.world_api.specs.Answers.{Visited}
 use Rattle.plain_world.specs.declared.adding.Adding.{Adding}
 use Rattle.plain_world.specs.declared.adding.Adding.TheVariants.{Text, First, Last}
+use Rattle.plain_world.specs.declared.made.Made.{Made}
+use Rattle.plain_world.specs.declared.made.Made.TheVariants.{Is, Full, Again, Worn as MadeWorn, Memory as MadeMemory}
 use Rattle.plain_world.specs.declared.text_reply.TextReply.{TextReply}
 use Rattle.plain_world.specs.Entries.{Log, history_of, told_of, noted}
 use Rattle.plain_world.specs.TextReplies.{SaysText}
@@ -38,6 +40,14 @@ abbrev pub Noted : {T : Type 0} → Reply T → Answer T → Log → Log → Typ
 Noted r (Served s g) l m = (s ≡ r) × (g ≡ length l.entries) × (m ≡ noted l)
 Noted r Memory l m = m ≡ l
 Noted r _ l m = ⊥
+
+-- What was made is handed out as it is, and the visit is noted; or nothing has changed.
+abbrev pub Answered : {T : Type 0} → Made (Reply T) → Answer T → Log → Log → Type 0
+Answered (Is r) a l m = Noted r a l m
+Answered (Full p) a l m = (a ≡ NeedsAtoms p) × (m ≡ l)
+Answered (Again c) a l m = (a ≡ Retry c) × (m ≡ l)
+Answered (MadeWorn w) a l m = (a ≡ Worn w) × (m ≡ l)
+Answered MadeMemory a l m = (a ≡ Memory) × (m ≡ l)
 
 abbrev pub adding_visit : {T K : Type 0} → Adding → T → Visit T K
 adding_visit Text c = Consult c

@@ -1,6 +1,6 @@
 -- What a reply in texts says, and what a request comes to.
 use Rattle.std.specs.Prelude.{◌≡◌, List, [], ◌∷◌, Option, Some, None}
-use Rattle.pl_term.specs.Tree.{Tree}
+use Rattle.pl_term.specs.Tree.{Chars, Tree}
 use Rattle.pl_model.specs.History.{Clause, Proc}
 use Rattle.pl_model.specs.Predicates.{proc_of}
 use Rattle.pl_model.specs.FirstArguments.{head_key, head_of}
@@ -10,7 +10,8 @@ use Rattle.pl_model.specs.Requests.{Request, standing, listed, done, gone, refus
 use Rattle.pl_model.specs.Requests as requests
 use Rattle.pl_model.specs.Service.{answers}
 use Rattle.pl_model.specs.Progress.{served_now}
-use Rattle.world_api.specs.declared.reply.Found.{Found}
+use Rattle.gen_core.specs.declared.hit.Hit.{Hit}
+use Rattle.world_api.specs.Asked.{texts_in}
 use Rattle.world_api.specs.Visits.{clause_in}
 use Rattle.world_api.specs.Replies.{follows_some}
 use Rattle.plain_world.specs.declared.text_reply.TextReply.{TextReply}
@@ -19,12 +20,12 @@ use Rattle.plain_world.specs.declared.entry.Entry.{Entry}
 use Rattle.plain_world.specs.Entries.{Log, history_of, kind_of, updated}
 
 -- The first of a list of clauses, or that there is none.
-pub record IsFirstOf (f : Found Tree) (c : Stored Clause) (cs : List (Stored Clause)) : Type 0 where
-  pub clause : clause_in f.clause ≡ c.clause
+pub record IsFirstOf (f : Hit Tree) (c : Stored Clause) (cs : List (Stored Clause)) : Type 0 where
+  pub clause : clause_in f.clause.now ≡ c.clause
   pub place : f.place ≡ c.place
   pub more : f.more ≡ follows_some cs
 
-abbrev pub IsFrontOf : Option (Found Tree) → List (Stored Clause) → Type 0
+abbrev pub IsFrontOf : Option (Hit Tree) → List (Stored Clause) → Type 0
 IsFrontOf None [] = Unit {0}
 IsFrontOf (Some f) (c ∷ cs) = IsFirstOf f c cs
 IsFrontOf _ _ = ⊥
@@ -36,6 +37,12 @@ SaysText Done r = r ≡ done
 SaysText Gone r = r ≡ gone
 SaysText (Refused e) r = r ≡ refused e
 SaysText _ _ = ⊥
+
+-- The names in the terms of the reply.
+abbrev pub said_texts : TextReply → List Chars
+said_texts (Clauses (Some f)) = texts_in f.clause.now
+said_texts (Refused e) = texts_in e
+said_texts _ = []
 
 -- The request is answered so behind all entries, and makes no update.
 abbrev pub Reads : Log → Request → TextReply → Type 0

@@ -1,17 +1,22 @@
 //! Replies in texts, handed out over an engine's atoms.
 ghost use Rattle.std.specs.Prelude.{◌≡◌, ◌++◌, IsSome, Some};
-ghost use Rattle.std.specs.List.{All};
+ghost use Rattle.std.specs.List.{All, Contains};
 ghost use Rattle.pl_term.specs.Tree.{Tree};
+ghost use Rattle.world_api.specs.Asked.{texts_in};
+ghost use Rattle.world_api.specs.Gains.{Gains};
 ghost use Rattle.world_api.specs.Texts.{text_of, Holds};
 ghost use Rattle.world_api.specs.Replies.{reply_names};
 ghost use Rattle.plain_world.specs.Made.{IfMade, made_refusals};
 ghost use Rattle.plain_world.specs.Handed.{SaysAs};
+ghost use Rattle.plain_world.specs.TextReplies.{said_texts};
 ghost use Rattle.plain_world.specs.declared.text_reply.TextReply.TheVariants.{Clauses, Refused};
 
 use crate::made::Made;
+use crate::made_terms::MadeTerms;
 use crate::spelled::Spelled;
 use crate::text_reply::TextReply;
 use atom_api::Atoms;
+use clause_db::Hit;
 use pl_term::Flat;
 use std::alloc::Global;
 use world_api::{Found, Reply};
@@ -19,49 +24,96 @@ use world_api::{Found, Reply};
 /// The reply that says what the one in texts says.
 pub fn read_reply<T: Spelled, A: Atoms>(
     alloc: Global,
-    reply: TextReply,
+    reply: TextReply<'_>,
+    terms: &mut MadeTerms<T>,
     atoms: &mut A,
 ) -> Made<Reply<T>>
-    ensures says { IfMade result (SaysAs T.term (text_of (A.held atoms.new)) reply) }
+    ensures says { IfMade result (SaysAs T.term (text_of (A.held atoms.new)) reply.entry) }
     ensures names { IfMade result (λ r. All (λ a. IsSome (A.held atoms.new a)) (reply_names T.names r)) }
     ensures holds { Holds (A.held atoms.old) (A.held atoms.new) }
     ensures refusals { A.refusals atoms.new ≡ A.refusals atoms.old ++ made_refusals result }
+    ensures asked { Gains (λ c. Contains (said_texts reply.entry) c) (A.asked atoms.old) (A.asked atoms.new) }
 {
     match reply {
         TextReply::Standing { operators, quotes } => Made::Is(Reply::Standing {
             operators,
             quotes,
         }),
-        TextReply::Clauses(Some(found)) => read_found(alloc, found, atoms),
-        TextReply::Clauses(None) => Made::Is(Reply::Clauses(None)),
+        TextReply::Clauses(found) => read_front(alloc, found, terms, atoms),
         TextReply::Done => Made::Is(Reply::Done),
         TextReply::Gone => Made::Is(Reply::Gone),
         TextReply::Refused(error) => read_refused(alloc, &error, atoms),
     }
 }
 
-/// The clause, its place, and whether others follow.
-fn read_found<T: Spelled, A: Atoms>(
+/// The first of some clauses, or that there is none.
+fn read_front<T: Spelled, A: Atoms>(
     alloc: Global,
-    found: Found<Flat>,
+    found: Option<Hit<'_, Flat>>,
+    terms: &mut MadeTerms<T>,
     atoms: &mut A,
 ) -> Made<Reply<T>>
-    ensures says { IfMade result (SaysAs T.term (text_of (A.held atoms.new)) (Clauses (Some found))) }
+    ensures says { IfMade result (SaysAs T.term (text_of (A.held atoms.new)) (Clauses found.entry)) }
     ensures names { IfMade result (λ r. All (λ a. IsSome (A.held atoms.new a)) (reply_names T.names r)) }
     ensures holds { Holds (A.held atoms.old) (A.held atoms.new) }
     ensures refusals { A.refusals atoms.new ≡ A.refusals atoms.old ++ made_refusals result }
+    ensures asked { Gains (λ c. Contains (said_texts (Clauses found.entry)) c) (A.asked atoms.old) (A.asked atoms.new) }
 {
-    let Found {
-        clause,
-        place,
-        more,
-    } = found;
-    match T::read(&clause, alloc, atoms) {
+    match found {
+        Some(found) => read_found(alloc, &found, terms, atoms),
+        None => Made::Is(Reply::Clauses(None)),
+    }
+}
+
+/// The clause, its place, and whether others follow.
+fn read_found<T: Spelled, A: Atoms>(
+    alloc: Global,
+    found: &Hit<'_, Flat>,
+    terms: &mut MadeTerms<T>,
+    atoms: &mut A,
+) -> Made<Reply<T>>
+    ensures says { IfMade result (SaysAs T.term (text_of (A.held atoms.new)) (Clauses (Some found.now))) }
+    ensures names { IfMade result (λ r. All (λ a. IsSome (A.held atoms.new a)) (reply_names T.names r)) }
+    ensures holds { Holds (A.held atoms.old) (A.held atoms.new) }
+    ensures refusals { A.refusals atoms.new ≡ A.refusals atoms.old ++ made_refusals result }
+    ensures asked { Gains (λ c. Contains (texts_in found.now.clause.now) c) (A.asked atoms.old) (A.asked atoms.new) }
+{
+    match clause_term(alloc, found.place, found.clause, terms, atoms) {
         Made::Is(clause) => Made::Is(Reply::Clauses(Some(Found {
             clause,
-            place,
-            more,
+            place: found.place,
+            more: found.more,
         }))),
+        Made::Full(pass) => Made::Full(pass),
+        Made::Again(cause) => Made::Again(cause),
+        Made::Worn(word) => Made::Worn(word),
+        Made::Memory => Made::Memory,
+    }
+}
+
+/// The term that stands for the clause that was added at a place: the one that was made before, where it still does, or else
+/// a new one.
+fn clause_term<T: Spelled, A: Atoms>(
+    alloc: Global,
+    place: u64,
+    clause: &Flat,
+    terms: &mut MadeTerms<T>,
+    atoms: &mut A,
+) -> Made<T>
+    ensures read { IfMade result (λ t. T.term (text_of (A.held atoms.new)) t ≡ clause.now) }
+    ensures names { IfMade result (λ t. All (λ a. IsSome (A.held atoms.new a)) (T.names t)) }
+    ensures holds { Holds (A.held atoms.old) (A.held atoms.new) }
+    ensures refusals { A.refusals atoms.new ≡ A.refusals atoms.old ++ made_refusals result }
+    ensures asked { Gains (λ c. Contains (texts_in clause.now) c) (A.asked atoms.old) (A.asked atoms.new) }
+{
+    if let Some(term) = terms.term(place, clause, atoms) {
+        return Made::Is(term);
+    }
+    match T::read(clause, alloc, atoms) {
+        Made::Is(term) => {
+            terms.keep_too(place, &term);
+            Made::Is(term)
+        }
         Made::Full(pass) => Made::Full(pass),
         Made::Again(cause) => Made::Again(cause),
         Made::Worn(word) => Made::Worn(word),
@@ -75,6 +127,7 @@ fn read_refused<T: Spelled, A: Atoms>(alloc: Global, error: &Flat, atoms: &mut A
     ensures names { IfMade result (λ r. All (λ a. IsSome (A.held atoms.new a)) (reply_names T.names r)) }
     ensures holds { Holds (A.held atoms.old) (A.held atoms.new) }
     ensures refusals { A.refusals atoms.new ≡ A.refusals atoms.old ++ made_refusals result }
+    ensures asked { Gains (λ c. Contains (texts_in error.now) c) (A.asked atoms.old) (A.asked atoms.new) }
 {
     match T::read(error, alloc, atoms) {
         Made::Is(error) => Made::Is(Reply::Refused(error)),

@@ -23,7 +23,6 @@ use pl_model::shows::Proc;
 use pl_term::{Flat, Memory};
 use std::alloc::Global;
 use std::marker::Model;
-use world_api::Found;
 
 /// The history gains no update from this length on.
 const MOST_UPDATES: u64 = 0x8000_0000_0000;
@@ -52,17 +51,6 @@ impl Model for Journal {
     ghost view = { λ j. record { goals = j.goals; entries = j.entries.items; gens = j.generations.items } };
 
     ghost invariant = { λ j. IsSound j.goals j.entries.items j.generations.items j.db };
-}
-
-/// The first of some clauses. The only error is want of memory.
-fn found(alloc: Global, hit: &Hit<'_, Flat>) -> Result<Found<Flat>, Memory>
-    ensures { IfOk result (λ f. f ≡ record { clause = hit.now.clause.now; place = hit.now.place; more = hit.now.more }) }
-{
-    Ok(Found {
-        clause: hit.clause.copy(alloc)?,
-        place: hit.place,
-        more: hit.more,
-    })
 }
 
 impl Journal {
@@ -119,7 +107,7 @@ impl Journal {
     }
 
     /// The operators and the flag `double_quotes`. The only error is want of memory.
-    pub fn standing(&self) -> Result<TextReply, Memory>
+    pub fn standing(&self) -> Result<TextReply<'static>, Memory>
         ensures look { IfOk result (Reads self.now look) }
         ensures read { IfOk result (Reads self.now read_operators) }
     {
@@ -152,29 +140,25 @@ impl Journal {
 
     /// The first of the clauses for a goal of a predicate, whose first argument has this key (ISO 7.7.10). The only error
     /// is want of memory.
-    pub fn call(&self, p: &Proc, first: &FirstArgument) -> Result<TextReply, Memory>
+    pub fn call(&self, p: &Proc, first: &FirstArgument) -> Result<TextReply<'_>, Memory>
         ensures { (goal : Tree) → IsGoalOf (proc_of p.now) first.now goal → IfOk result (Reads self.now (call_clauses goal)) }
     {
         let generation = self.entries.len() as u64;
         match self.db.call(p, first, generation, By::Goal) {
-            Ok(None) => Ok(TextReply::Clauses(None)),
-            Ok(Some(hit)) => {
-                let first = found(self.alloc, &hit)?;
-                Ok(TextReply::Clauses(Some(first)))
-            }
+            Ok(found) => Ok(TextReply::Clauses(found)),
             Err(_) => self.unknown(p),
         }
     }
 
     /// The next of the clauses for a goal of a predicate, whose first argument has this key, behind the clause that was
-    /// added at `place`, at the generation of a visit. The only error is want of memory.
+    /// added at `place`, at the generation of a visit. There is no error.
     pub fn next(
         &self,
         p: &Proc,
         first: &FirstArgument,
         generation: u64,
         place: u64,
-    ) -> Result<Option<Found<Flat>>, Memory>
+    ) -> Result<Option<Hit<'_, Flat>>, Memory>
         requires own { Contains self.now.gens generation }
         requires among { (goal : Tree) × IsGoalOf (proc_of p.now) first.now goal
             × (has_place place (clause_list self.now.goals (history_of self.now) generation goal) ≡ true) }
@@ -182,17 +166,13 @@ impl Journal {
             → IfOk result (λ f. IsFrontOf f (behind place (clause_list self.now.goals (history_of self.now) generation goal))) }
     {
         match self.db.retry(place, first, generation) {
-            Ok(None) => Ok(None),
-            Ok(Some(hit)) => {
-                let next = found(self.alloc, &hit)?;
-                Ok(Some(next))
-            }
+            Ok(found) => Ok(found),
             Err(_) => Err(Memory),
         }
     }
 
     /// What the call of an unknown procedure is answered (ISO 7.7.7, 7.11.2.4). The only error is want of memory.
-    fn unknown(&self, p: &Proc) -> Result<TextReply, Memory>
+    fn unknown(&self, p: &Proc) -> Result<TextReply<'_>, Memory>
         ensures { (goal : Tree) → predicate_of goal ≡ proc_of p.now
             → is_known (state_after self.now.goals self.now.entries).database (proc_of p.now) ≡ false
             → IfOk result (Reads self.now (call_clauses goal)) }

@@ -9,6 +9,7 @@ mod handing;
 mod heads;
 mod journal;
 mod made;
+mod made_terms;
 mod spelled;
 mod stored_terms;
 #[cfg(test)]

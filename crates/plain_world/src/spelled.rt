@@ -1,7 +1,9 @@
 //! Terms that are carried between an engine's atoms and texts.
-ghost use Rattle.std.specs.Prelude.{◌≡◌, ◌++◌, IfOk, IsSome, refl};
-ghost use Rattle.std.specs.List.{All};
+ghost use Rattle.std.specs.Prelude.{◌≡◌, ◌++◌, IfOk, IsSome, refl, true};
+ghost use Rattle.std.specs.List.{All, Contains};
 ghost use Rattle.pl_model.specs.FirstArguments.{head_key, head_of};
+ghost use Rattle.world_api.specs.Asked.{texts_in};
+ghost use Rattle.world_api.specs.Gains.{Gains};
 ghost use Rattle.world_api.specs.Texts.{text_of, Holds};
 ghost use Rattle.plain_world.specs.Made.{IfMade, made_refusals};
 
@@ -19,7 +21,8 @@ pub trait Spelled: Named {
         requires { All (λ a. IsSome (A.held atoms.old a)) (Self.names self.now) }
         ensures spelled { IfOk result (λ t. t ≡ Self.term (text_of (A.held atoms.old)) self.now) }
         ensures same { A.held atoms.new ≡ A.held atoms.old }
-        ensures refusals { A.refusals atoms.new ≡ A.refusals atoms.old };
+        ensures refusals { A.refusals atoms.new ≡ A.refusals atoms.old }
+        ensures asked { A.asked atoms.new ≡ A.asked atoms.old };
 
     /// The key of a first argument in texts. The only error is want of memory.
     fn spell_key<A: Atoms>(
@@ -30,14 +33,26 @@ pub trait Spelled: Named {
         requires { All (λ a. IsSome (A.held atoms.old a)) (Self.key_names key.now) }
         ensures spelled { IfOk result (λ k. (t : Self) → Self.key_of t ≡ key.now → k ≡ head_key (head_of (Self.term (text_of (A.held atoms.old)) t))) }
         ensures same { A.held atoms.new ≡ A.held atoms.old }
-        ensures refusals { A.refusals atoms.new ≡ A.refusals atoms.old };
+        ensures refusals { A.refusals atoms.new ≡ A.refusals atoms.old }
+        ensures asked { A.asked atoms.new ≡ A.asked atoms.old };
 
-    /// The term that stands for this one in texts, by the atoms.
+    /// The term that stands for this one in texts, by the atoms. No text but its names is asked of them.
     fn read<A: Atoms>(flat: &Flat, alloc: Global, atoms: &mut A) -> Made<Self>
         ensures read { IfMade result (λ t. Self.term (text_of (A.held atoms.new)) t ≡ flat.now) }
         ensures names { IfMade result (λ t. All (λ a. IsSome (A.held atoms.new a)) (Self.names t)) }
         ensures holds { Holds (A.held atoms.old) (A.held atoms.new) }
-        ensures refusals { A.refusals atoms.new ≡ A.refusals atoms.old ++ made_refusals result };
+        ensures refusals { A.refusals atoms.new ≡ A.refusals atoms.old ++ made_refusals result }
+        ensures asked { Gains (λ c. Contains (texts_in flat.now) c) (A.asked atoms.old) (A.asked atoms.new) };
+
+    /// Whether this term stands for the one in texts, all its atoms held. Where the atoms do not tell their texts
+    /// (`Atoms::reads`), it may answer false. It takes no memory.
+    fn stands_for<A: Atoms>(&self, flat: &Flat, atoms: &A) -> bool
+        ensures term { result ≡ true → Self.term (text_of (A.held atoms.now)) self.now ≡ flat.now }
+        ensures named { result ≡ true → All (λ a. IsSome (A.held atoms.now a)) (Self.names self.now) };
+
+    /// The same term once more. The only error is want of memory, or that too many hold it.
+    fn share(&self, alloc: Global) -> Result<Self, Memory>
+        ensures { IfOk result (λ t. t ≡ self.now) };
 }
 
 /// The same key once more. The only error is want of memory.
@@ -71,5 +86,13 @@ impl Spelled for Flat {
             Ok(term) => Made::Is(term),
             Err(Memory) => Made::Memory,
         }
+    }
+
+    fn stands_for<A: Atoms>(&self, flat: &Flat, _atoms: &A) -> bool {
+        self.same(flat)
+    }
+
+    fn share(&self, alloc: Global) -> Result<Flat, Memory> {
+        self.copy(alloc)
     }
 }

@@ -9,7 +9,7 @@ ghost use Rattle.plain_world.specs.KeyTexts.{key_in};
 use crate::made::Made;
 use crate::spelled::Spelled;
 use atom_api::{Atom, Atoms, TextBuf};
-use atom_terms::{NoTerm, interned, with_texts};
+use atom_terms::{NoTerm, interned, reads_as, with_texts};
 use pl_model::first_argument::FirstArgument;
 use pl_term::{Flat, Memory, Text};
 use std::alloc::Global;
@@ -21,6 +21,7 @@ fn atom_text<A: Atoms>(alloc: Global, slot: u32, atoms: &mut A) -> Result<Text, 
     ensures text { IfOk result (λ t. t ≡ text_of (A.held atoms.old) slot) }
     ensures same { A.held atoms.new ≡ A.held atoms.old }
     ensures refusals { A.refusals atoms.new ≡ A.refusals atoms.old }
+    ensures asked { A.asked atoms.new ≡ A.asked atoms.old }
 {
     let mut buf = TextBuf::new();
     atoms.text(Atom::at(slot), &mut buf);
@@ -37,6 +38,7 @@ fn key_text<A: Atoms>(
     ensures text { IfOk result (λ k. k ≡ key_in (text_of (A.held atoms.old)) key.now) }
     ensures same { A.held atoms.new ≡ A.held atoms.old }
     ensures refusals { A.refusals atoms.new ≡ A.refusals atoms.old }
+    ensures asked { A.asked atoms.new ≡ A.asked atoms.old }
 {
     match key {
         ArgumentKey::Any => Ok(FirstArgument::Any),
@@ -93,5 +95,13 @@ impl Spelled for Stored {
             Err(NoTerm::Worn(word)) => Made::Worn(word),
             Err(NoTerm::Memory) => Made::Memory,
         }
+    }
+
+    fn stands_for<A: Atoms>(&self, flat: &Flat, atoms: &A) -> bool {
+        reads_as(self, flat, atoms)
+    }
+
+    fn share(&self, _alloc: Global) -> Result<Stored, Memory> {
+        Stored::share(self)
     }
 }

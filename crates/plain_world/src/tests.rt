@@ -11,7 +11,7 @@ use pl_model::kept::Kept;
 use pl_term::{Flat, Memory, Text};
 use std::alloc::Global;
 use std::test::Fail;
-use term_store::{ArgumentKey, Stored};
+use term_store::{ArgumentKey, AtomNode, Stored};
 use world_api::{Answer, Found, Procedure, Reply, Visit, World};
 
 type Plain = PlainWorld<Flat, PlainAtoms>;
@@ -184,5 +184,50 @@ fn clauses_over_atoms_are_called(rt: HostRuntime) -> Result<(), Fail> {
     let missing = call_stored(alloc, &mut world, &mut atoms, "q")?;
     assert_eq!(rt; error_nodes(&missing), 5);
     assert_eq!(rt; world.generations(), [0, 1, 2, 2, 2].as_slice());
+    Ok(())
+}
+
+/// The atom of the name of the clause that was found.
+fn found_name(answer: &Answer<Stored>) -> Option<Atom> {
+    match answer {
+        Answer::Served {
+            reply: Reply::Clauses(Some(found)),
+            ..
+        } => match found.clause.nodes().first() {
+            Some(AtomNode::Comp(slot, _)) => Some(Atom::at(*slot)),
+            _ => None,
+        },
+        _ => None,
+    }
+}
+
+/// Whether the clause that was found has this name.
+fn is_named(
+    alloc: Global,
+    answer: &Answer<Stored>,
+    atoms: &PlainAtoms,
+    name: &str,
+) -> Result<bool, Memory> {
+    let text = Text::from_str(alloc, name)?;
+    match found_name(answer) {
+        Some(a) => Ok(atoms.reads(a, &text)),
+        None => Ok(false),
+    }
+}
+
+#[test]
+fn clauses_outlive_their_atoms(rt: HostRuntime) -> Result<(), Fail> {
+    let alloc = rt.alloc();
+    let mut world: OverAtoms = PlainWorld::new(alloc, 1)?;
+    let mut atoms = PlainAtoms::new(alloc)?;
+    assert!(rt; is_refused(alloc, &mut world, &mut atoms, "p", 1, 0)?);
+    let first = call_stored(alloc, &mut world, &mut atoms, "p")?;
+    atoms.keep_only(&[]);
+    let other = held(alloc, &mut atoms, "q")?;
+    assert_eq!(rt; found_name(&first), Some(other));
+    for _ in 0..2 {
+        let again = call_stored(alloc, &mut world, &mut atoms, "p")?;
+        assert!(rt; is_named(alloc, &again, &atoms, "p")?);
+    }
     Ok(())
 }

@@ -1,16 +1,16 @@
 //! Replies in texts.
+use clause_db::Hit;
 use op_table::OpTable;
 use pl_model::grammar::Quotes;
 use pl_term::Flat;
-use world_api::Found;
 
 /// What the shared state answers, in texts alone.
 #[derive(Drop)]
-pub enum TextReply {
+pub enum TextReply<'a> {
     /// The operators and the flag `double_quotes`.
     Standing { operators: OpTable, quotes: Quotes },
     /// The first clause of a list, or that it is empty.
-    Clauses(Option<Found<Flat>>),
+    Clauses(Option<Hit<'a, Flat>>),
     Done,
     /// The clause was erased before.
     Gone,

@@ -1,13 +1,19 @@
 //! The visits, one by one.
 ghost use Rattle.std.specs.Prelude.{◌≡◌, ◌++◌, IfOk, IsSome, Some};
-ghost use Rattle.std.specs.List.{All};
+ghost use Rattle.std.specs.List.{All, Contains};
 ghost use Rattle.pl_model.specs.Shown.{proc_of};
+ghost use Rattle.world_api.specs.Asked.{IsInAnswer};
+ghost use Rattle.world_api.specs.Gains.{Gains};
 ghost use Rattle.world_api.specs.Texts.{text_of, Holds};
 ghost use Rattle.world_api.specs.Visits.{proc_named};
 ghost use Rattle.world_api.specs.Answers.{IsPlace, answer_names, refusals_by};
 ghost use Rattle.world_api.specs.declared.visit.Visit.TheVariants.{Look, ReadOperators, Call, Next};
 ghost use Rattle.plain_world.specs.Entries.{told_of};
-ghost use Rattle.plain_world.specs.Handed.{Handed, VisitedNow, Noted, adding_visit};
+ghost use Rattle.plain_world.specs.TextReplies.{said_texts};
+ghost use Rattle.atom_api.specs.Names.{Names};
+ghost use Rattle.world_api.specs.Replies.{reply_names};
+ghost use Rattle.plain_world.specs.Made.{IfMade, made_refusals};
+ghost use Rattle.plain_world.specs.Handed.{Answered, Handed, VisitedNow, Noted, adding_visit};
 
 use crate::adding::Adding;
 use crate::handing::read_reply;
@@ -28,6 +34,7 @@ fn spelled_predicate<A: Atoms>(alloc: Global, p: &Procedure, atoms: &mut A) -> R
     ensures spelled { IfOk result (λ q. proc_of q ≡ proc_named (text_of (A.held atoms.old)) p.now) }
     ensures same { A.held atoms.new ≡ A.held atoms.old }
     ensures refusals { A.refusals atoms.new ≡ A.refusals atoms.old }
+    ensures asked { A.asked atoms.new ≡ A.asked atoms.old }
 {
     let mut buf = TextBuf::new();
     atoms.text(p.name, &mut buf);
@@ -40,13 +47,24 @@ fn spelled_predicate<A: Atoms>(alloc: Global, p: &Procedure, atoms: &mut A) -> R
 
 impl<T: Spelled, A: Atoms> PlainWorld<T, A> {
     /// Hands out a reply, and notes the visit.
-    fn hand_out(&mut self, reply: TextReply, atoms: &mut A) -> Answer<T>
-        ensures handed { Handed T.term (text_of (A.held atoms.new)) reply result self.old.journal self.new.journal }
+    fn hand_out(&mut self, reply: TextReply<'_>, atoms: &mut A) -> Answer<T>
+        ensures handed { Handed T.term (text_of (A.held atoms.new)) reply.entry result self.old.journal self.new.journal }
         ensures names { All (λ a. IsSome (A.held atoms.new a)) (answer_names T.names result) }
         ensures holds { Holds (A.held atoms.old) (A.held atoms.new) }
         ensures refusals { A.refusals atoms.new ≡ A.refusals atoms.old ++ refusals_by result }
+        ensures asked { Gains (λ c. Contains (said_texts reply.entry) c) (A.asked atoms.old) (A.asked atoms.new) }
     {
-        match read_reply(self.journal.alloc(), reply, atoms) {
+        let made = read_reply(self.journal.alloc(), reply, &mut self.terms, atoms);
+        self.answered(made)
+    }
+
+    /// Answers with what was made of a reply, and notes the visit where there is one.
+    fn answered(&mut self, made: Made<Reply<T>>) -> Answer<T>
+        ensures answered { Answered made result self.old.journal self.new.journal }
+        ensures names { (m : Names) → IfMade made (λ r. All (λ a. IsSome (m a)) (reply_names T.names r)) → All (λ a. IsSome (m a)) (answer_names T.names result) }
+        ensures refusals { refusals_by result ≡ made_refusals made }
+    {
+        match made {
             Made::Is(reply) => self.noted(reply),
             Made::Full(pass) => Answer::NeedsAtoms(pass),
             Made::Again(cause) => Answer::Retry(cause),
@@ -71,6 +89,7 @@ impl<T: Spelled, A: Atoms> PlainWorld<T, A> {
         ensures names { All (λ a. IsSome (A.held atoms.new a)) (answer_names T.names result) }
         ensures holds { Holds (A.held atoms.old) (A.held atoms.new) }
         ensures refusals { A.refusals atoms.new ≡ A.refusals atoms.old ++ refusals_by result }
+        ensures asked { Gains (IsInAnswer T.term T.key_of (text_of (A.held atoms.old)) Look (told_of self.old.journal)) (A.asked atoms.old) (A.asked atoms.new) }
     {
         match self.journal.standing() {
             Ok(reply) => self.hand_out(reply, atoms),
@@ -84,6 +103,7 @@ impl<T: Spelled, A: Atoms> PlainWorld<T, A> {
         ensures names { All (λ a. IsSome (A.held atoms.new a)) (answer_names T.names result) }
         ensures holds { Holds (A.held atoms.old) (A.held atoms.new) }
         ensures refusals { A.refusals atoms.new ≡ A.refusals atoms.old ++ refusals_by result }
+        ensures asked { Gains (IsInAnswer T.term T.key_of (text_of (A.held atoms.old)) ReadOperators (told_of self.old.journal)) (A.asked atoms.old) (A.asked atoms.new) }
     {
         match self.journal.standing() {
             Ok(reply) => self.hand_out(reply, atoms),
@@ -99,6 +119,7 @@ impl<T: Spelled, A: Atoms> PlainWorld<T, A> {
         ensures names { All (λ a. IsSome (A.held atoms.new a)) (answer_names T.names result) }
         ensures holds { Holds (A.held atoms.old) (A.held atoms.new) }
         ensures refusals { A.refusals atoms.new ≡ A.refusals atoms.old ++ refusals_by result }
+        ensures asked { Gains (IsInAnswer T.term T.key_of (text_of (A.held atoms.old)) (Call procedure.now first.now) (told_of self.old.journal)) (A.asked atoms.old) (A.asked atoms.new) }
     {
         let alloc = self.journal.alloc();
         let Ok(p) = spelled_predicate(alloc, procedure, atoms) else {
@@ -108,7 +129,10 @@ impl<T: Spelled, A: Atoms> PlainWorld<T, A> {
             return Answer::Memory;
         };
         match self.journal.call(&p, &first) {
-            Ok(reply) => self.hand_out(reply, atoms),
+            Ok(reply) => {
+                let made = read_reply(alloc, reply, &mut self.terms, atoms);
+                self.answered(made)
+            }
             Err(Memory) => Answer::Memory,
         }
     }
@@ -129,6 +153,7 @@ impl<T: Spelled, A: Atoms> PlainWorld<T, A> {
         ensures names { All (λ a. IsSome (A.held atoms.new a)) (answer_names T.names result) }
         ensures holds { Holds (A.held atoms.old) (A.held atoms.new) }
         ensures refusals { A.refusals atoms.new ≡ A.refusals atoms.old ++ refusals_by result }
+        ensures asked { Gains (IsInAnswer T.term T.key_of (text_of (A.held atoms.old)) (Next procedure.now first.now generation place) (told_of self.old.journal)) (A.asked atoms.old) (A.asked atoms.new) }
     {
         let alloc = self.journal.alloc();
         let Ok(p) = spelled_predicate(alloc, procedure, atoms) else {
@@ -140,7 +165,7 @@ impl<T: Spelled, A: Atoms> PlainWorld<T, A> {
         let Ok(found) = self.journal.next(&p, &first, generation, place) else {
             return Answer::Memory;
         };
-        match read_reply(alloc, TextReply::Clauses(found), atoms) {
+        match read_reply(alloc, TextReply::Clauses(found), &mut self.terms, atoms) {
             Made::Is(reply) => Answer::Served { reply, generation },
             Made::Full(pass) => Answer::NeedsAtoms(pass),
             Made::Again(cause) => Answer::Retry(cause),
@@ -150,22 +175,26 @@ impl<T: Spelled, A: Atoms> PlainWorld<T, A> {
     }
 
     /// A clause that is added.
-    pub(crate) fn add(&mut self, clause: &T, by: Adding, atoms: &mut A) -> Answer<T>
-        requires { All (λ a. IsSome (A.held atoms.old a)) (T.names clause.now) }
-        ensures visited { VisitedNow T.term T.key_of (text_of (A.held atoms.old)) (text_of (A.held atoms.new)) (adding_visit by clause.now) result self.old.journal self.new.journal }
+    pub(crate) fn add(&mut self, clause: T, by: Adding, atoms: &mut A) -> Answer<T>
+        requires { All (λ a. IsSome (A.held atoms.old a)) (T.names clause) }
+        ensures visited { VisitedNow T.term T.key_of (text_of (A.held atoms.old)) (text_of (A.held atoms.new)) (adding_visit by clause) result self.old.journal self.new.journal }
         ensures names { All (λ a. IsSome (A.held atoms.new a)) (answer_names T.names result) }
         ensures holds { Holds (A.held atoms.old) (A.held atoms.new) }
         ensures refusals { A.refusals atoms.new ≡ A.refusals atoms.old ++ refusals_by result }
+        ensures asked { Gains (IsInAnswer T.term T.key_of (text_of (A.held atoms.old)) (adding_visit by clause) (told_of self.old.journal)) (A.asked atoms.old) (A.asked atoms.new) }
     {
-        let Ok(clause) = clause.spell(self.journal.alloc(), atoms) else {
+        let Ok(flat) = clause.spell(self.journal.alloc(), atoms) else {
             return Answer::Memory;
         };
         let generation = self.journal.generation();
-        match self.journal.add(clause, by) {
-            Ok(None) => Answer::Served {
-                reply: Reply::Done,
-                generation,
-            },
+        match self.journal.add(flat, by) {
+            Ok(None) => {
+                self.terms.keep(generation, clause);
+                Answer::Served {
+                    reply: Reply::Done,
+                    generation,
+                }
+            }
             Ok(Some(error)) => self.hand_out(TextReply::Refused(error), atoms),
             Err(Memory) => Answer::Memory,
         }

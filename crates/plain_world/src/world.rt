@@ -7,6 +7,7 @@ ghost use Rattle.plain_world.specs.Entries.{told_of, entry_of};
 use crate::adding::Adding;
 use crate::entry::Entry;
 use crate::journal::Journal;
+use crate::made_terms::MadeTerms;
 use crate::spelled::Spelled;
 use atom_api::Atoms;
 use op_table::OpTable;
@@ -22,7 +23,7 @@ use world_api::{Answer, Visit, World};
 #[derive(Drop)]
 pub struct PlainWorld<T, A> {
     pub(crate) journal: Journal,
-    pub(crate) terms: PhantomData<T>,
+    pub(crate) terms: MadeTerms<T>,
     pub(crate) atoms: PhantomData<A>,
 }
 
@@ -33,7 +34,7 @@ impl<T: Spelled, A: Atoms> PlainWorld<T, A> {
     {
         Ok(PlainWorld {
             journal: Journal::new(alloc, goals)?,
-            terms: PhantomData,
+            terms: MadeTerms::new(alloc),
             atoms: PhantomData,
         })
     }
@@ -79,6 +80,8 @@ impl<T: Spelled, A: Atoms> World for PlainWorld<T, A> {
     ghost use Rattle.std.specs.Prelude.{◌≡◌, ◌++◌, IsSome, false};
     ghost use Rattle.std.specs.List.{All};
     ghost use Rattle.pl_model.specs.History.{History};
+    ghost use Rattle.world_api.specs.Asked.{IsInAnswer};
+    ghost use Rattle.world_api.specs.Gains.{Gains};
     ghost use Rattle.world_api.specs.Texts.{text_of, Holds};
     ghost use Rattle.world_api.specs.Told.{has_ended};
     ghost use Rattle.world_api.specs.Visits.{visit_names};
@@ -101,6 +104,7 @@ impl<T: Spelled, A: Atoms> World for PlainWorld<T, A> {
         ensures runs { has_ended (told_of self.new.journal).engine (told_of self.new.journal).history ≡ false }
         ensures holds { Holds (A.held atoms.old) (A.held atoms.new) }
         ensures refusals { A.refusals atoms.new ≡ A.refusals atoms.old ++ refusals_by result }
+        ensures asked { Gains (IsInAnswer T.term T.key_of (text_of (A.held atoms.old)) visit (told_of self.old.journal)) (A.asked atoms.old) (A.asked atoms.new) }
     {
         match visit {
             Visit::Look => self.look(atoms),
@@ -112,9 +116,9 @@ impl<T: Spelled, A: Atoms> World for PlainWorld<T, A> {
                 generation,
                 place,
             } => self.next(&procedure, &first, generation, place, atoms),
-            Visit::AssertFirst { clause } => self.add(&clause, Adding::First, atoms),
-            Visit::AssertLast { clause } => self.add(&clause, Adding::Last, atoms),
-            Visit::Consult { clause } => self.add(&clause, Adding::Text, atoms),
+            Visit::AssertFirst { clause } => self.add(clause, Adding::First, atoms),
+            Visit::AssertLast { clause } => self.add(clause, Adding::Last, atoms),
+            Visit::Consult { clause } => self.add(clause, Adding::Text, atoms),
             _ => Answer::Memory,
         }
     }
