@@ -13,6 +13,7 @@ pub mod extending;
 pub mod failure;
 pub mod frames;
 pub mod goals;
+pub mod heads;
 pub mod leaving;
 pub mod outcome;
 pub mod recovering;
