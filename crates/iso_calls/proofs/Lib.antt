@@ -1,6 +1,7 @@
 pub mod Asking
 pub mod Copies
 pub mod Following
+pub mod Interning
 pub mod Later
 pub mod Listing
 pub mod Looks

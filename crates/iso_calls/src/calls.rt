@@ -7,6 +7,8 @@ ghost use Rattle.term_store.specs.NumberedNames.{atoms_in};
 ghost use Rattle.world_api.specs.Texts.{Holds as AreHeld};
 ghost use Rattle.world_api.specs.Told.{has_ended};
 ghost use Rattle.iso_search.specs.Searching.{IsWhole};
+ghost use Rattle.world_api.specs.Gains.{Gains};
+ghost use Rattle.iso_calls.specs.Asked.{IsCallAsked};
 ghost use Rattle.iso_calls.specs.Called.{IsCalled, call_refusals};
 ghost use Rattle.iso_calls.specs.Replies.{IsFollowed, IsListOrError};
 
@@ -41,6 +43,7 @@ pub fn call_clauses<W: World<Term = Stored>>(
     ensures runs { has_ended (W.told world.new).engine (W.told world.new).history ≡ false }
     ensures holds { AreHeld (W.A.held atoms.old) (W.A.held atoms.new) }
     ensures refusals { W.A.refusals atoms.new ≡ W.A.refusals atoms.old ++ call_refusals result }
+    ensures asked { Gains (IsCallAsked (W.A.held atoms.old) (W.told world.old) search.old goal) (W.A.asked atoms.old) (W.A.asked atoms.new) }
 {
     let most = search.budgets.inferences;
     if search.inferences >= most {

@@ -170,10 +170,11 @@ fn resolve(
         ≡ clause_unified resolving (state_in t search.old) n height place (raised_by from (body_part c)) (unify g (raised_by from (head_part c)))) }
     ensures after { IfOk result (IsAfter search.old search.new) }
 {
+    let mark = search.store.mark();
     let copy = build_clause(search, clause, from)?;
     let (head, body) = parts_at(&search.store, copy);
     let list = search.push(Task::Goal(body, height), rest)?;
-    let outcome = search.unify(goal, head, list)?;
+    let outcome = search.unify_since(mark, goal, head, list)?;
     Ok(outcome)
 }
 

@@ -5,9 +5,11 @@ ghost use Rattle.pl_term.specs.Tree.{int};
 ghost use Rattle.term_store.specs.Contents.{Holds, term_at};
 ghost use Rattle.term_store.specs.NumberedNames.{atoms_in};
 ghost use Rattle.world_api.specs.Texts.{Holds as AreHeld};
+ghost use Rattle.world_api.specs.Gains.{Gains};
 ghost use Rattle.world_api.specs.Told.{has_ended};
 ghost use Rattle.iso_search.specs.Reading.{reads};
 ghost use Rattle.iso_search.specs.Searching.{IsWhole};
+ghost use Rattle.iso_calls.specs.Asked.{IsRetryAsked};
 ghost use Rattle.iso_calls.specs.Lists.{IsOpen};
 ghost use Rattle.iso_calls.specs.Retried.{IsRetried, retry_refusals};
 ghost use Rattle.iso_calls.specs.Views.{view_of};
@@ -48,6 +50,7 @@ pub fn retry_clauses<W: World<Term = Stored>>(
     ensures runs { has_ended (W.told world.new).engine (W.told world.new).history ≡ false }
     ensures holds { AreHeld (W.A.held atoms.old) (W.A.held atoms.new) }
     ensures refusals { OnOk result (W.A.refusals atoms.new ≡ W.A.refusals atoms.old ++ retry_refusals result) }
+    ensures asked { Gains (IsRetryAsked (W.A.held atoms.old) (W.told world.old) search.old goal generation place) (W.A.asked atoms.old) (W.A.asked atoms.new) }
 {
     let _mark = search.store.mark();
     let procedure = predicate_at(&search.store, goal);

@@ -137,7 +137,7 @@ module _ (m n : Names) (t u : Told) (e f : Engine) (at : Place) (p : Procedure) 
   abbrev begun : Setting → State
   begun r = state_at r.view e.search (Running list) r.output
 
-  abbrev answer_to : Setting → Reply → State
+  abbrev pub answer_to : Setting → Reply → State
   answer_to r = with_clauses (limits_in r e.search) resolving (counted (begun r)) (goal_by r.view) (node_of r.view e.search rest)
 
   step_is : (r : Setting) → step (limits_in r e.search) (state_at r.view e.search e.doing r.output)
@@ -145,7 +145,7 @@ module _ (m n : Names) (t u : Told) (e f : Engine) (at : Place) (p : Procedure) 
   step_is r =
       ap (λ d. step (limits_in r e.search) (state_at r.view e.search d r.output)) running_is ∙ step_running r e.search list (Goal at cut) rest first
 
-  step_asks : (r : Setting) → IsView r.view → nat_lt e.search.inferences e.search.budgets.inferences ≡ true
+  pub step_asks : (r : Setting) → IsView r.view → nat_lt e.search.inferences e.search.budgets.inferences ≡ true
       → step (limits_in r e.search) (state_at r.view e.search e.doing r.output) ≡ asks (call_clauses (goal_by r.view)) (answer_to r)
   step_asks r view some =
       let calls = call.calls r.view view

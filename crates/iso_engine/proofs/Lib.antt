@@ -11,6 +11,7 @@ pub mod Followed
 pub mod Fresh
 pub mod Held
 pub mod Heldness
+pub mod Interning
 pub mod Later
 pub mod Looked
 pub mod Moved

@@ -1,6 +1,7 @@
 -- How the states of a search follow each other.
 use Rattle.std.specs.Prelude.{◌≡◌, ℤ}
 use Rattle.pl_term.specs.Tree.{int}
+use Rattle.pl_model.specs.History.{Proc}
 use Rattle.pl_model.specs.Predicates.{proc_of}
 use Rattle.pl_model.specs.Resolution.{goes}
 use Rattle.pl_model.specs.Control.{step}
@@ -13,7 +14,7 @@ use Rattle.iso_search.specs.declared.outcome.Outcome.TheVariants.{Run, Fail, Rai
 use Rattle.iso_search.specs.declared.search.Search.{Search}
 use Rattle.iso_search.specs.Errors.{IsFaultIn}
 use Rattle.iso_search.specs.Outcomes.{Setting, limits_in}
-use Rattle.iso_search.specs.Reading.{IsView, reads}
+use Rattle.iso_search.specs.Reading.{IsView, View, reads}
 use Rattle.iso_search.specs.Spelling.{text_of}
 use Rattle.iso_engine.specs.declared.doing.Doing.{Doing}
 use Rattle.iso_engine.specs.Standing.{state_at}
@@ -31,10 +32,13 @@ IsPlaced s (Raise f) = IsFaultIn s f
 IsPlaced s (Throw w) = Holds s w
 IsPlaced s (Halt k) = Unit {0}
 
+-- The predicate, as it is read.
+abbrev pub proc_in : View → Procedure → Proc
+proc_in v p = record { name = text_of v.names (atom_name p.name); arity = p.arity }
+
 -- The goal has this predicate.
 abbrev pub HasProcedure : Contents → Place → Procedure → Type 0
-HasProcedure s goal p =
-    (t : Setting) → IsView t.view → proc_of (reads t.view s goal) ≡ record { name = text_of t.view.names (atom_name p.name); arity = p.arity }
+HasProcedure s goal p = (t : Setting) → IsView t.view → proc_of (reads t.view s goal) ≡ proc_in t.view p
 
 abbrev pub IsInteger : Contents → Place → Type 0
 IsInteger s goal = (i : ℤ) × (term_at s goal ≡ int i)

@@ -1,4 +1,5 @@
 pub mod Advancing
+pub mod Asked
 pub mod Asking
 pub mod Calling
 pub mod Failing

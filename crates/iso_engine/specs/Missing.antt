@@ -1,13 +1,16 @@
 -- What is not built yet.
-use Rattle.std.specs.Prelude.{◌≡◌, ℕ, List, [], ◌∷◌, ◌⊎◌, true, false, bytes_eq, codes, Bool, is_some}
-use Rattle.pl_term.specs.Tree.{Tree, int, comp, none, more}
+use Rattle.std.specs.Prelude.{◌≡◌, ℕ, List, [], ◌∷◌, ◌⊎◌, Some, true, false, bytes_eq, codes, Bool, is_some}
+use Rattle.pl_term.specs.Tree.{Chars, Tree, int, comp, none, more}
+use Rattle.pl_model.specs.History.{Proc}
+use Rattle.pl_model.specs.Predicates.{proc_of}
 use Rattle.pl_model.specs.Builtins.{row}
 use Rattle.pl_model.specs.SharedBuiltins.{shared}
 use Rattle.pl_model.specs.Terms.{arguments}
 use Rattle.pl_model.specs.Resolution.{Pending, goal, commit, refute, leave, collect, running, failing, throwing, erasing, clearing, answering, ended}
 use Rattle.pl_model.specs.Resolution as resolution
-use Rattle.pl_model.specs.Control.{Construct, succeeds, cuts, conjunction, disjunction, if_then, if_then_else, fails, repeats, calls, not_provable, once, catches, throws, halts, writes, prints, puts, other, construct, name_of}
+use Rattle.pl_model.specs.Control.{Construct, succeeds, cuts, conjunction, disjunction, if_then, if_then_else, fails, repeats, calls, not_provable, once, catches, throws, halts, writes, prints, puts, other, construct, name_of, proc}
 use Rattle.atom_api.specs.Names.{Names}
+use Rattle.world_api.specs.declared.visit.Procedure.{Procedure}
 use Rattle.world_api.specs.Told.{Told}
 use Rattle.iso_engine.specs.declared.engine.Engine.{Engine}
 use Rattle.iso_engine.specs.Later.{view_of}
@@ -56,22 +59,25 @@ abbrev pub is_integer : Tree → Bool
 is_integer (int i) = true
 is_integer _ = false
 
--- The first task is such a goal; or an integer, which is no goal; or a copy for findall/3.
-abbrev pub IsUnbuiltTask : Pending → Type 0
-IsUnbuiltTask (goal g h) = (is_integer g ≡ true) ⊎ IsUnbuilt g (construct g)
-IsUnbuiltTask (collect t h) = Unit {0}
-IsUnbuiltTask (commit h) = ⊥
-IsUnbuiltTask (refute h) = ⊥
-IsUnbuiltTask (leave h) = ⊥
+-- The first task is such a goal of this predicate; or an integer, which is no goal, and which call/1 refuses; or a copy for
+-- findall/3.
+abbrev pub IsUnbuiltTask : Proc → Pending → Type 0
+IsUnbuiltTask p (goal g h) = ((is_integer g ≡ true) × (p ≡ proc (codes "call") 1)) ⊎ (IsUnbuilt g (construct g) × (p ≡ proc_of g))
+IsUnbuiltTask p (collect t h) = p ≡ proc (codes "findall") 3
+IsUnbuiltTask p (commit h) = ⊥
+IsUnbuiltTask p (refute h) = ⊥
+IsUnbuiltTask p (leave h) = ⊥
 
-abbrev pub IsUnbuiltFirst : List Pending → Type 0
-IsUnbuiltFirst [] = ⊥
-IsUnbuiltFirst (p ∷ ps) = IsUnbuiltTask p
+abbrev pub IsUnbuiltFirst : Proc → List Pending → Type 0
+IsUnbuiltFirst p [] = ⊥
+IsUnbuiltFirst p (x ∷ xs) = IsUnbuiltTask p x
 
-abbrev pub IsUnbuiltDoing : resolution.Doing → Type 0
-IsUnbuiltDoing (running n) = IsUnbuiltFirst n.goals
-IsUnbuiltDoing _ = ⊥
+abbrev pub IsUnbuiltDoing : Proc → resolution.Doing → Type 0
+IsUnbuiltDoing p (running n) = IsUnbuiltFirst p n.goals
+IsUnbuiltDoing p _ = ⊥
 
--- The next step is of a predicate that is not built.
-abbrev pub IsMissing : Names → Told → Engine → Type 0
-IsMissing m t e = IsUnbuiltDoing (doing_of (view_of m t) e.search e.doing)
+-- The next step is of this predicate, which is not built, and whose name is held.
+pub record IsMissing (m : Names) (t : Told) (e : Engine) (p : Procedure) : Type 0 where
+  pub name : Chars
+  pub held : m p.name ≡ Some name
+  pub next : IsUnbuiltDoing (record { name = name; arity = p.arity }) (doing_of (view_of m t) e.search e.doing)

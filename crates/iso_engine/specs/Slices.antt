@@ -53,7 +53,7 @@ Stops m t e (Retry c) = Unit {0}
 Stops m t e (Worn w) = Unit {0}
 Stops m t e (Waits on g) = IsWaitingNow m t e g
 Stops m t e Ended = IsEnd e.doing
-Stops m t e (Missing p) = IsMissing m t e
+Stops m t e (Missing p) = IsMissing m t e p
 Stops m t e Memory = ⊥
 
 -- A step was made, or none.

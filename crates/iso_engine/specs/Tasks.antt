@@ -1,5 +1,8 @@
 -- Tasks.
-use Rattle.std.specs.Prelude.{◌≡◌, ℕ, ◌∷◌}
+use Rattle.std.specs.Prelude.{◌≡◌, ℕ, ◌∷◌, ◌⊎◌, Some}
+use Rattle.pl_term.specs.Tree.{Chars}
+use Rattle.atom_api.specs.Fixed.{fixed}
+use Rattle.world_api.specs.declared.visit.Procedure.{Procedure}
 use Rattle.iso_search.specs.declared.frames.Task.{Task}
 use Rattle.iso_search.specs.declared.frames.Task.TheVariants.{Goal, Commit, Refute, Leave, Collect}
 use Rattle.term_store.specs.declared.words.Place.{Place}
@@ -11,9 +14,12 @@ use Rattle.iso_engine.specs.declared.doing.Doing.TheVariants.{Running}
 use Rattle.iso_engine.specs.declared.running.Did.{Did}
 use Rattle.iso_engine.specs.declared.running.Did.TheVariants.{Next, Call as CallDid, Write as WriteDid, Missing as MissingDid}
 use Rattle.iso_engine.specs.Calling.{IsCallAt}
-use Rattle.iso_engine.specs.Following.{StepsTo}
+use Rattle.iso_engine.specs.Following.{HasProcedure, StepsTo, proc_in}
 use Rattle.iso_engine.specs.Missing.{IsUnbuiltTask}
 use Rattle.iso_engine.specs.Writes.{IsWriteAt}
+
+abbrev pub IsFixed : ℕ → Type 0
+IsFixed a = (t : Chars) × (fixed a ≡ Some t)
 
 -- It is a goal, or a copy is to be collected.
 abbrev pub IsForOthers : Task → Type 0
@@ -27,6 +33,16 @@ IsForOthers (Collect w h) = Unit {0}
 abbrev pub IsGoalAt : Task → Place → Type 0
 IsGoalAt x goal = (cut : ℕ) × (x ≡ Goal goal cut)
 
+-- The name of a predicate is fixed, or it is that of the goal that is to be run.
+abbrev pub IsNamedBy : Contents → Task → Procedure → Type 0
+IsNamedBy s (Goal w h) p = IsFixed p.name ⊎ HasProcedure s w p
+IsNamedBy s x p = IsFixed p.name
+
+-- The task is one of this predicate, which is not built.
+pub record IsMissingTask (s : Contents) (x : Task) (p : Procedure) : Type 0 where
+  pub unbuilt : (v : View) → IsView v → IsUnbuiltTask (proc_in v p) (pending (reads v s) x)
+  pub named : IsNamedBy s x p
+
 -- A step was made from the lists that begin with the task and go on as another one; or the task is a call of the program's
 -- clauses, or writes; or it is of a predicate that is not built. Then nothing has changed.
 abbrev pub IsDone : Search → Task → ℕ → Search → Did → Type 0
@@ -34,11 +50,11 @@ IsDone e task rest f (Next d) =
     (list : ℕ) → tasks e.frames.items list ≡ task ∷ tasks e.frames.items rest → StepsTo e (Running list) f d
 IsDone e task rest f (CallDid goal p) = (f ≡ e) × IsGoalAt task goal × IsCallAt e.store goal p
 IsDone e task rest f (WriteDid goal p) = (f ≡ e) × IsGoalAt task goal × IsWriteAt e.store goal p
-IsDone e task rest f (MissingDid p) = (f ≡ e) × ((v : View) → IsView v → IsUnbuiltTask (pending (reads v e.store) task))
+IsDone e task rest f (MissingDid p) = (f ≡ e) × IsMissingTask e.store task p
 
 -- What is left over of the goals at the place: a call, one that writes, or a predicate that is not built.
 abbrev pub IsLeftOver : Contents → Place → Did → Type 0
 IsLeftOver s goal (Next d) = ⊥
 IsLeftOver s goal (CallDid w p) = (w ≡ goal) × IsCallAt s goal p
 IsLeftOver s goal (WriteDid w p) = (w ≡ goal) × IsWriteAt s goal p
-IsLeftOver s goal (MissingDid p) = (v : View) (cut : ℕ) → IsView v → IsUnbuiltTask (pending (reads v s) (Goal goal cut))
+IsLeftOver s goal (MissingDid p) = (cut : ℕ) → IsMissingTask s (Goal goal cut) p

@@ -16,6 +16,7 @@ pub fn look<W: World>(world: &mut W, atoms: &mut W::A) -> Result<OpTable, Slice>
     ensures runs { has_ended (W.told world.new).engine (W.told world.new).history ≡ false }
     ensures holds { Holds (W.A.held atoms.old) (W.A.held atoms.new) }
     ensures refusals { W.A.refusals atoms.new ≡ W.A.refusals atoms.old ++ looked_refusals result }
+    ensures asked { W.A.asked atoms.new ≡ W.A.asked atoms.old }
 {
     match world.visit(Visit::Look, atoms) {
         Answer::Served { reply, .. } => match reply {

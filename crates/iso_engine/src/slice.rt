@@ -1,7 +1,9 @@
 //! A slice: some steps of resolution, one after the other.
 ghost use Rattle.std.specs.Prelude.{◌≡◌, ◌++◌, false, true, IfOk, OnOk};
+ghost use Rattle.world_api.specs.Gains.{Gains};
 ghost use Rattle.world_api.specs.Texts.{Holds};
 ghost use Rattle.world_api.specs.Told.{has_ended};
+ghost use Rattle.iso_engine.specs.Asked.{AsksInSlice, AsksOnWay, ComesToAsk};
 ghost use Rattle.iso_engine.specs.Looking.{IsRefusedBy, refusals_of};
 ghost use Rattle.iso_engine.specs.Ready.{IsReady};
 ghost use Rattle.iso_engine.specs.Slices.{IsSlice, IsSliced};
@@ -27,6 +29,8 @@ impl Engine {
         ensures runs { has_ended (W.told world.new).engine (W.told world.new).history ≡ false }
         ensures holds { Holds (W.A.held atoms.old) (W.A.held atoms.new) }
         ensures refusals { IsRefusedBy result (W.A.refusals atoms.old) (W.A.refusals atoms.new) }
+        ensures asked { Gains (AsksInSlice result (W.A.held atoms.old) (W.told world.old) self.old (W.A.held atoms.new) (W.told world.new) self.new)
+            (W.A.asked atoms.old) (W.A.asked atoms.new) }
         ensures ready { self.new.broken ≡ false → IsReady (W.A.held atoms.new) (W.told world.new) self.new }
         ensures sliced { IsSliced n (W.A.held atoms.old) (W.told world.old) self.old (W.A.held atoms.new) (W.told world.new) self.new out.old.items out.new.items result }
         ensures broken { self.old.broken ≡ true → self.new ≡ self.old }
@@ -56,6 +60,9 @@ impl Engine {
         ensures runs { has_ended (W.told world.new).engine (W.told world.new).history ≡ false }
         ensures holds { Holds (W.A.held atoms.old) (W.A.held atoms.new) }
         ensures refusals { IfOk result (λ s. W.A.refusals atoms.new ≡ W.A.refusals atoms.old ++ refusals_of s) }
+        ensures asked { OnOk result (Gains (AsksOnWay (W.A.held atoms.old) (W.told world.old) self.old (W.A.held atoms.new) (W.told world.new) self.new)
+            (W.A.asked atoms.old) (W.A.asked atoms.new)) }
+        ensures came { Gains (ComesToAsk (W.A.held atoms.old) (W.told world.old) self.old) (W.A.asked atoms.old) (W.A.asked atoms.new) }
         ensures ready { OnOk result (IsReady (W.A.held atoms.new) (W.told world.new) self.new) }
         ensures sliced { IfOk result (IsSlice n (W.A.held atoms.old) (W.told world.old) self.old (W.A.held atoms.new) (W.told world.new) self.new out.old.items out.new.items) }
     {

@@ -29,6 +29,7 @@ impl Engine {
         ensures runs { has_ended (W.told world.new).engine (W.told world.new).history ≡ false }
         ensures holds { Holds (W.A.held atoms.old) (W.A.held atoms.new) }
         ensures refusals { IfOk result (λ s. W.A.refusals atoms.new ≡ W.A.refusals atoms.old ++ refusals_of s) }
+        ensures asked { W.A.asked atoms.new ≡ W.A.asked atoms.old }
         ensures spent { OnOk result (IsSpent self.old.search.inferences self.new.search.inferences) }
         ensures ready { OnOk result (IsReady (W.A.held atoms.new) (W.told world.new) self.new) }
         ensures stepped { IfOk result (λ s. (more : List Output)

@@ -42,6 +42,7 @@ impl Engine {
         ensures runs { has_ended (W.told world.new).engine (W.told world.new).history ≡ false }
         ensures holds { Holds (W.A.held atoms.old) (W.A.held atoms.new) }
         ensures refusals { IfOk result (λ o. W.A.refusals atoms.new ≡ W.A.refusals atoms.old ++ stopped_refusals o) }
+        ensures asked { W.A.asked atoms.new ≡ W.A.asked atoms.old }
         ensures given { OnOk result (self.new.given ≡ self.old.given) }
         ensures spent { OnOk result (IsSpent self.old.search.inferences self.new.search.inferences) }
         ensures ready { OnOk result (IsReady (W.A.held atoms.new) (W.told world.new) self.new) }

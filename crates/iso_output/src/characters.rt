@@ -36,6 +36,7 @@ pub fn put_character<A: Atoms>(
     ensures budgets { OnOk result (search.new.budgets ≡ search.old.budgets) }
     ensures same { A.held atoms.new ≡ A.held atoms.old }
     ensures refusals { A.refusals atoms.new ≡ A.refusals atoms.old }
+    ensures asked { A.asked atoms.new ≡ A.asked atoms.old }
 {
     let most = search.budgets.inferences;
     if search.inferences >= most {

@@ -47,6 +47,7 @@ pub fn write_goal<W: World>(
     ensures runs { has_ended (W.told world.new).engine (W.told world.new).history ≡ false }
     ensures holds { AreHeld (W.A.held atoms.old) (W.A.held atoms.new) }
     ensures refusals { W.A.refusals atoms.new ≡ W.A.refusals atoms.old ++ tried_refusals result }
+    ensures asked { W.A.asked atoms.new ≡ W.A.asked atoms.old }
 {
     let Some(output) = output_at(&search.store, goal) else {
         return Ok(None);
@@ -76,6 +77,7 @@ fn write_output<W: World>(
     ensures runs { has_ended (W.told world.new).engine (W.told world.new).history ≡ false }
     ensures holds { AreHeld (W.A.held atoms.old) (W.A.held atoms.new) }
     ensures refusals { W.A.refusals atoms.new ≡ W.A.refusals atoms.old ++ write_refusals result }
+    ensures asked { W.A.asked atoms.new ≡ W.A.asked atoms.old }
 {
     match output {
         OutputGoal::Term(style, term) => {
@@ -109,6 +111,7 @@ fn write_term<W: World>(
     ensures runs { has_ended (W.told world.new).engine (W.told world.new).history ≡ false }
     ensures holds { AreHeld (W.A.held atoms.old) (W.A.held atoms.new) }
     ensures refusals { W.A.refusals atoms.new ≡ W.A.refusals atoms.old ++ write_refusals result }
+    ensures asked { W.A.asked atoms.new ≡ W.A.asked atoms.old }
 {
     let most = search.budgets.inferences;
     if search.inferences >= most {
@@ -143,6 +146,7 @@ fn write_alone<A: Atoms>(
     ensures budgets { OnOk result (search.new.budgets ≡ search.old.budgets) }
     ensures same { A.held atoms.new ≡ A.held atoms.old }
     ensures refusals { A.refusals atoms.new ≡ A.refusals atoms.old }
+    ensures asked { A.asked atoms.new ≡ A.asked atoms.old }
 {
     let most = search.budgets.inferences;
     if search.inferences >= most {

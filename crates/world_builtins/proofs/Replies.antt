@@ -17,6 +17,9 @@ use Rattle.world_api.specs.declared.answer.Answer.TheVariants.{Served}
 use Rattle.world_api.specs.Told.{Told}
 use Rattle.world_api.specs.Replies.{Says}
 use Rattle.world_api.specs.Answers.{Visited}
+use Rattle.world_api.specs.Asked.{IsInAnswer}
+use Rattle.world_api.specs.Gains.{Gains}
+use Rattle.world_api.proofs.AskedLaws.{operators_ask_nothing}
 use Rattle.world_builtins.specs.Operators.{Stands, HasOperators}
 use Rattle.world_builtins.specs.Writing.{IsWritten}
 
@@ -95,3 +98,8 @@ text_written term key old_text new_text r g old before new text ops t u out_old 
       told = v.1.told;
       out = out ∙ ap (λ x. out_old ++ encode_utf8_all (text x ops)) same;
     }
+
+-- A visit for the operators asks for no text.
+pub read_asks_nothing : {T K : Type 0} (term : (ℕ → Chars) → T → Tree) (key : T → K) (text : ℕ → Chars) (t : Told) (a b c : Option (List Chars)) → b ≡ a
+    → Gains (IsInAnswer term key text ReadOperators t) b c → c ≡ a
+read_asks_nothing term key text t a b c same gains = operators_ask_nothing term key text t b c gains ∙ same

@@ -1,5 +1,5 @@
 -- A visit of the world in which nothing else happens.
-use Rattle.std.proofs.Common.{◌≡◌, ℕ, zero, suc, ◌+◌, [], ◌∷◌, ◌++◌, None, refl, sym, ap, subst, ◌∙◌, add-one}
+use Rattle.std.proofs.Common.{◌≡◌, ℕ, zero, suc, ◌+◌, List, [], ◌∷◌, ◌++◌, Option, None, refl, sym, ap, subst, ◌∙◌, add-one}
 use Rattle.std.specs.Prelude.{replicate}
 use Rattle.pl_term.specs.Tree.{Chars, Tree}
 use Rattle.pl_model.specs.OperatorTable.{OperatorTable, opening_table}
@@ -14,6 +14,8 @@ use Rattle.world_api.specs.declared.visit.Visit.{Visit}
 use Rattle.world_api.specs.declared.visit.Visit.TheVariants.{ReadOperators}
 use Rattle.world_api.specs.Told.{Told, Follows}
 use Rattle.world_api.specs.Answers.{Serves}
+use Rattle.world_api.specs.Gains.{Gains}
+use Rattle.world_api.proofs.Gaining.{gains_nothing}
 use Rattle.world_builtins.specs.Still.{still}
 
 one_more : (n : ℕ) → replicate {A = ℕ} (suc n) 0 ≡ replicate {A = ℕ} n 0 ++ 0 ∷ []
@@ -47,3 +49,7 @@ still_served {T = T} {K = K} term key old_text new_text v ops n k is e next = (
         (read_still {T = T} {K = K} term key old_text new_text ops n e)),
   ),
 )
+
+-- Nothing was asked of the atoms.
+pub still_asks : (P : Chars → Type 0) (o : Option (List Chars)) → Gains P o o
+still_asks P o = gains_nothing P o o refl

@@ -67,6 +67,7 @@ pub fn write<W: World>(
     ensures runs { has_ended (W.told world.new).engine (W.told world.new).history ≡ false }
     ensures holds { HoldsOn (W.A.held atoms.old) (W.A.held atoms.new) }
     ensures refusals { W.A.refusals atoms.new ≡ W.A.refusals atoms.old ++ refusals_of result }
+    ensures asked { W.A.asked atoms.new ≡ W.A.asked atoms.old }
 {
     let flat = flat_at(alloc, store, term, atoms)?;
     match world.visit(Visit::ReadOperators, atoms) {

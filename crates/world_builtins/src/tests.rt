@@ -92,6 +92,8 @@ impl World for Still {
     ghost use Rattle.world_api.specs.Told.{has_ended};
     ghost use Rattle.world_api.specs.Visits.{visit_names};
     ghost use Rattle.world_api.specs.Answers.{CanVisit, Visited, answer_names, refusals_by};
+    ghost use Rattle.world_api.specs.Asked.{IsInAnswer};
+    ghost use Rattle.world_api.specs.Gains.{Gains};
     ghost use Rattle.world_builtins.specs.Still.{still};
 
     type A = PlainAtoms;
@@ -107,6 +109,8 @@ impl World for Still {
         ensures runs { has_ended (still self.new.visits).engine (still self.new.visits).history ≡ false }
         ensures holds { HoldsOn (⟦<PlainAtoms as Atoms>⟧.held atoms.old) (⟦<PlainAtoms as Atoms>⟧.held atoms.new) }
         ensures refusals { ⟦<PlainAtoms as Atoms>⟧.refusals atoms.new ≡ ⟦<PlainAtoms as Atoms>⟧.refusals atoms.old ++ refusals_by result }
+        ensures asked { Gains (IsInAnswer ⟦<Flat as Kept>⟧.term ⟦<Flat as Kept>⟧.key_of (text_of (⟦<PlainAtoms as Atoms>⟧.held atoms.old)) visit (still self.old.visits))
+            (⟦<PlainAtoms as Atoms>⟧.asked atoms.old) (⟦<PlainAtoms as Atoms>⟧.asked atoms.new) }
     {
         let Visit::ReadOperators = visit else {
             return Answer::Memory;

@@ -4,6 +4,7 @@ use Rattle.term_store.specs.NumberedNames.{term_by}
 use Rattle.world_api.specs.Texts.{text_of}
 use Rattle.iso_calls.proofs.Asking.{call_served, call_waits, goal_over, list_or_error, visit_held}
 use Rattle.iso_calls.proofs.Following.{called_is}
+use Rattle.iso_calls.proofs.Interning.{call_gains}
 use Rattle.iso_calls.proofs.calls.call_clauses.Goals as goal
 
 pub visit-requires-clause-held : goal.visit-requires-clause-held
@@ -45,3 +46,57 @@ returns-in_ok-called-in-Served-clause-called g c =
     (call_served m n t u v.0 x c.predicate_at-procedure.result c.key_at-first.result c.in-Served.reply c.in-Served.generation
     (g.met.W.A.Atoms.fixed_held c.args.atoms.now) c.predicate_at-procedure.ensures c.key_at-first.ensures v.1.0 v.1.1)
     c.in-Served.ensures.names c.in_ok-called-in-Served.ensures.followed
+
+pub returns-in_err-called-in-Served-clause-asked : goal.returns-in_err-called-in-Served-clause-asked
+returns-in_err-called-in-Served-clause-asked g c =
+    let a = c.args.atoms.now in
+    let e = c.args.search.now in
+    call_gains (g.W.A.Atoms.held a) (g.W.World.told c.args.world.now) e c.args.goal c.predicate_at-procedure.result c.key_at-first.result (g.met.W.A.Atoms.fixed_held a)
+    (goal_over e.store c.mark-mark.result c.args.goal c.mark-mark.ensures.mark c.mark-mark.ensures.here c.requires.goal)
+    c.predicate_at-procedure.ensures c.key_at-first.ensures (g.W.A.Atoms.asked a) (g.W.A.Atoms.asked c.visit.new.atoms)
+    (omega (arith, c.if-search-most.false)) c.in-Served.ensures.asked
+
+pub returns-in_ok-called-in-Served-clause-asked : goal.returns-in_ok-called-in-Served-clause-asked
+returns-in_ok-called-in-Served-clause-asked g c =
+    let a = c.args.atoms.now in
+    let e = c.args.search.now in
+    call_gains (g.W.A.Atoms.held a) (g.W.World.told c.args.world.now) e c.args.goal c.predicate_at-procedure.result c.key_at-first.result (g.met.W.A.Atoms.fixed_held a)
+    (goal_over e.store c.mark-mark.result c.args.goal c.mark-mark.ensures.mark c.mark-mark.ensures.here c.requires.goal)
+    c.predicate_at-procedure.ensures c.key_at-first.ensures (g.W.A.Atoms.asked a) (g.W.A.Atoms.asked c.visit.new.atoms)
+    (omega (arith, c.if-search-most.false)) c.in-Served.ensures.asked
+
+pub returns-in-NeedsAtoms-clause-asked : goal.returns-in-NeedsAtoms-clause-asked
+returns-in-NeedsAtoms-clause-asked g c =
+    let a = c.args.atoms.now in
+    let e = c.args.search.now in
+    call_gains (g.W.A.Atoms.held a) (g.W.World.told c.args.world.now) e c.args.goal c.predicate_at-procedure.result c.key_at-first.result (g.met.W.A.Atoms.fixed_held a)
+    (goal_over e.store c.mark-mark.result c.args.goal c.mark-mark.ensures.mark c.mark-mark.ensures.here c.requires.goal)
+    c.predicate_at-procedure.ensures c.key_at-first.ensures (g.W.A.Atoms.asked a) (g.W.A.Atoms.asked c.visit.new.atoms)
+    (omega (arith, c.if-search-most.false)) c.in-NeedsAtoms.ensures.asked
+
+pub returns-in-Retry-clause-asked : goal.returns-in-Retry-clause-asked
+returns-in-Retry-clause-asked g c =
+    let a = c.args.atoms.now in
+    let e = c.args.search.now in
+    call_gains (g.W.A.Atoms.held a) (g.W.World.told c.args.world.now) e c.args.goal c.predicate_at-procedure.result c.key_at-first.result (g.met.W.A.Atoms.fixed_held a)
+    (goal_over e.store c.mark-mark.result c.args.goal c.mark-mark.ensures.mark c.mark-mark.ensures.here c.requires.goal)
+    c.predicate_at-procedure.ensures c.key_at-first.ensures (g.W.A.Atoms.asked a) (g.W.A.Atoms.asked c.visit.new.atoms)
+    (omega (arith, c.if-search-most.false)) c.in-Retry.ensures.asked
+
+pub returns-in-Worn-clause-asked : goal.returns-in-Worn-clause-asked
+returns-in-Worn-clause-asked g c =
+    let a = c.args.atoms.now in
+    let e = c.args.search.now in
+    call_gains (g.W.A.Atoms.held a) (g.W.World.told c.args.world.now) e c.args.goal c.predicate_at-procedure.result c.key_at-first.result (g.met.W.A.Atoms.fixed_held a)
+    (goal_over e.store c.mark-mark.result c.args.goal c.mark-mark.ensures.mark c.mark-mark.ensures.here c.requires.goal)
+    c.predicate_at-procedure.ensures c.key_at-first.ensures (g.W.A.Atoms.asked a) (g.W.A.Atoms.asked c.visit.new.atoms)
+    (omega (arith, c.if-search-most.false)) c.in-Worn.ensures.asked
+
+pub returns-in-Memory-clause-asked : goal.returns-in-Memory-clause-asked
+returns-in-Memory-clause-asked g c =
+    let a = c.args.atoms.now in
+    let e = c.args.search.now in
+    call_gains (g.W.A.Atoms.held a) (g.W.World.told c.args.world.now) e c.args.goal c.predicate_at-procedure.result c.key_at-first.result (g.met.W.A.Atoms.fixed_held a)
+    (goal_over e.store c.mark-mark.result c.args.goal c.mark-mark.ensures.mark c.mark-mark.ensures.here c.requires.goal)
+    c.predicate_at-procedure.ensures c.key_at-first.ensures (g.W.A.Atoms.asked a) (g.W.A.Atoms.asked c.visit.new.atoms)
+    (omega (arith, c.if-search-most.false)) c.in-Memory.ensures.asked

@@ -12,6 +12,7 @@ use Rattle.std.specs.List.{All}
 use Rattle.std.specs.Prelude.{IsSome}
 use Rattle.iso_calls.proofs.Asking.{goal_over, visit_held}
 use Rattle.iso_calls.proofs.Following.{next_found, next_run_is, place_is}
+use Rattle.iso_calls.proofs.Interning.{retry_gains}
 use Rattle.iso_calls.proofs.retries.retry_clauses.Goals as goal
 
 pub visit-requires-clause-held : goal.visit-requires-clause-held
@@ -67,3 +68,84 @@ returns-in_ok-outcome-in-Served-clause-retried g c =
     (behind c.args.place (clause_list t.goals v.0 c.args.generation (term_by (text_of m) (term_at e.store c.args.goal))))) same found.2)
     (subst (λ (r : Reply Tree). All (λ a. IsSome (n a)) (reply_names names_of r)) c.in-Clauses.is c.in-Served.ensures.names)
     (λ s cs view lists. c.in_ok-outcome-in-Served.ensures.step s cs view lists) c.in_ok-outcome-in-Served.ensures.after
+
+pub returns-in_err-outcome-in-Served-clause-asked : goal.returns-in_err-outcome-in-Served-clause-asked
+returns-in_err-outcome-in-Served-clause-asked g c =
+    let a = c.args.atoms.now in
+    let e = c.args.search.now in
+    retry_gains (g.W.A.Atoms.held a) (g.W.World.told c.args.world.now) e c.args.goal c.predicate_at-procedure.result c.key_at-first.result (g.met.W.A.Atoms.fixed_held a)
+    (goal_over e.store c.mark-mark.result c.args.goal c.mark-mark.ensures.mark c.mark-mark.ensures.here c.requires.goal)
+    c.predicate_at-procedure.ensures c.key_at-first.ensures (g.W.A.Atoms.asked a) (g.W.A.Atoms.asked c.visit.new.atoms)
+    c.args.generation c.args.place c.requires.open c.visit.ensures.asked
+
+pub returns-in_err-push_choice-in-NeedsAtoms-clause-asked : goal.returns-in_err-push_choice-in-NeedsAtoms-clause-asked
+returns-in_err-push_choice-in-NeedsAtoms-clause-asked g c =
+    let a = c.args.atoms.now in
+    let e = c.args.search.now in
+    retry_gains (g.W.A.Atoms.held a) (g.W.World.told c.args.world.now) e c.args.goal c.predicate_at-procedure.result c.key_at-first.result (g.met.W.A.Atoms.fixed_held a)
+    (goal_over e.store c.mark-mark.result c.args.goal c.mark-mark.ensures.mark c.mark-mark.ensures.here c.requires.goal)
+    c.predicate_at-procedure.ensures c.key_at-first.ensures (g.W.A.Atoms.asked a) (g.W.A.Atoms.asked c.visit.new.atoms)
+    c.args.generation c.args.place c.requires.open c.visit.ensures.asked
+
+pub returns-in_err-push_choice-in-Retry-clause-asked : goal.returns-in_err-push_choice-in-Retry-clause-asked
+returns-in_err-push_choice-in-Retry-clause-asked g c =
+    let a = c.args.atoms.now in
+    let e = c.args.search.now in
+    retry_gains (g.W.A.Atoms.held a) (g.W.World.told c.args.world.now) e c.args.goal c.predicate_at-procedure.result c.key_at-first.result (g.met.W.A.Atoms.fixed_held a)
+    (goal_over e.store c.mark-mark.result c.args.goal c.mark-mark.ensures.mark c.mark-mark.ensures.here c.requires.goal)
+    c.predicate_at-procedure.ensures c.key_at-first.ensures (g.W.A.Atoms.asked a) (g.W.A.Atoms.asked c.visit.new.atoms)
+    c.args.generation c.args.place c.requires.open c.visit.ensures.asked
+
+pub returns-in_err-push_choice-in-Worn-clause-asked : goal.returns-in_err-push_choice-in-Worn-clause-asked
+returns-in_err-push_choice-in-Worn-clause-asked g c =
+    let a = c.args.atoms.now in
+    let e = c.args.search.now in
+    retry_gains (g.W.A.Atoms.held a) (g.W.World.told c.args.world.now) e c.args.goal c.predicate_at-procedure.result c.key_at-first.result (g.met.W.A.Atoms.fixed_held a)
+    (goal_over e.store c.mark-mark.result c.args.goal c.mark-mark.ensures.mark c.mark-mark.ensures.here c.requires.goal)
+    c.predicate_at-procedure.ensures c.key_at-first.ensures (g.W.A.Atoms.asked a) (g.W.A.Atoms.asked c.visit.new.atoms)
+    c.args.generation c.args.place c.requires.open c.visit.ensures.asked
+
+pub returns-in_ok-outcome-in-Served-clause-asked : goal.returns-in_ok-outcome-in-Served-clause-asked
+returns-in_ok-outcome-in-Served-clause-asked g c =
+    let a = c.args.atoms.now in
+    let e = c.args.search.now in
+    retry_gains (g.W.A.Atoms.held a) (g.W.World.told c.args.world.now) e c.args.goal c.predicate_at-procedure.result c.key_at-first.result (g.met.W.A.Atoms.fixed_held a)
+    (goal_over e.store c.mark-mark.result c.args.goal c.mark-mark.ensures.mark c.mark-mark.ensures.here c.requires.goal)
+    c.predicate_at-procedure.ensures c.key_at-first.ensures (g.W.A.Atoms.asked a) (g.W.A.Atoms.asked c.visit.new.atoms)
+    c.args.generation c.args.place c.requires.open c.visit.ensures.asked
+
+pub returns-in_ok-push_choice-in-NeedsAtoms-clause-asked : goal.returns-in_ok-push_choice-in-NeedsAtoms-clause-asked
+returns-in_ok-push_choice-in-NeedsAtoms-clause-asked g c =
+    let a = c.args.atoms.now in
+    let e = c.args.search.now in
+    retry_gains (g.W.A.Atoms.held a) (g.W.World.told c.args.world.now) e c.args.goal c.predicate_at-procedure.result c.key_at-first.result (g.met.W.A.Atoms.fixed_held a)
+    (goal_over e.store c.mark-mark.result c.args.goal c.mark-mark.ensures.mark c.mark-mark.ensures.here c.requires.goal)
+    c.predicate_at-procedure.ensures c.key_at-first.ensures (g.W.A.Atoms.asked a) (g.W.A.Atoms.asked c.visit.new.atoms)
+    c.args.generation c.args.place c.requires.open c.visit.ensures.asked
+
+pub returns-in_ok-push_choice-in-Retry-clause-asked : goal.returns-in_ok-push_choice-in-Retry-clause-asked
+returns-in_ok-push_choice-in-Retry-clause-asked g c =
+    let a = c.args.atoms.now in
+    let e = c.args.search.now in
+    retry_gains (g.W.A.Atoms.held a) (g.W.World.told c.args.world.now) e c.args.goal c.predicate_at-procedure.result c.key_at-first.result (g.met.W.A.Atoms.fixed_held a)
+    (goal_over e.store c.mark-mark.result c.args.goal c.mark-mark.ensures.mark c.mark-mark.ensures.here c.requires.goal)
+    c.predicate_at-procedure.ensures c.key_at-first.ensures (g.W.A.Atoms.asked a) (g.W.A.Atoms.asked c.visit.new.atoms)
+    c.args.generation c.args.place c.requires.open c.visit.ensures.asked
+
+pub returns-in_ok-push_choice-in-Worn-clause-asked : goal.returns-in_ok-push_choice-in-Worn-clause-asked
+returns-in_ok-push_choice-in-Worn-clause-asked g c =
+    let a = c.args.atoms.now in
+    let e = c.args.search.now in
+    retry_gains (g.W.A.Atoms.held a) (g.W.World.told c.args.world.now) e c.args.goal c.predicate_at-procedure.result c.key_at-first.result (g.met.W.A.Atoms.fixed_held a)
+    (goal_over e.store c.mark-mark.result c.args.goal c.mark-mark.ensures.mark c.mark-mark.ensures.here c.requires.goal)
+    c.predicate_at-procedure.ensures c.key_at-first.ensures (g.W.A.Atoms.asked a) (g.W.A.Atoms.asked c.visit.new.atoms)
+    c.args.generation c.args.place c.requires.open c.visit.ensures.asked
+
+pub returns-in-Memory-clause-asked : goal.returns-in-Memory-clause-asked
+returns-in-Memory-clause-asked g c =
+    let a = c.args.atoms.now in
+    let e = c.args.search.now in
+    retry_gains (g.W.A.Atoms.held a) (g.W.World.told c.args.world.now) e c.args.goal c.predicate_at-procedure.result c.key_at-first.result (g.met.W.A.Atoms.fixed_held a)
+    (goal_over e.store c.mark-mark.result c.args.goal c.mark-mark.ensures.mark c.mark-mark.ensures.here c.requires.goal)
+    c.predicate_at-procedure.ensures c.key_at-first.ensures (g.W.A.Atoms.asked a) (g.W.A.Atoms.asked c.visit.new.atoms)
+    c.args.generation c.args.place c.requires.open c.visit.ensures.asked

@@ -3,7 +3,7 @@ use Rattle.pl_model.specs.Requests.{read_operators}
 use Rattle.world_api.specs.Texts.{text_of}
 use Rattle.world_builtins.specs.Spelling.{reads}
 use Rattle.world_builtins.specs.Styles.{text_by}
-use Rattle.world_builtins.proofs.Replies.{operators_are_read, served_stands, text_written}
+use Rattle.world_builtins.proofs.Replies.{operators_are_read, read_asks_nothing, served_stands, text_written}
 use Rattle.world_builtins.proofs.output.write.Goals as goal
 
 pub operators_of-operators-requires : goal.operators_of-operators-requires
@@ -49,3 +49,39 @@ pub unreachable-requires : goal.unreachable-requires
 unreachable-requires g c =
     let v = c.in-Waits.ensures.visited
     in operators_are_read (g.W.World.told c.args.world.now).engine (g.W.World.told c.args.world.now).goals v.0 (v.1.1.waiting read_operators refl)
+
+pub returns-in_err-put_term-in-Served-clause-asked : goal.returns-in_err-put_term-in-Served-clause-asked
+returns-in_err-put_term-in-Served-clause-asked g c =
+    let b = c.flat_at.new.atoms
+    in read_asks_nothing g.W.Term.Kept.term g.W.Term.Kept.key_of (text_of (g.W.A.Atoms.held b)) (g.W.World.told c.args.world.now)
+    (g.W.A.Atoms.asked c.args.atoms.now) (g.W.A.Atoms.asked b) (g.W.A.Atoms.asked c.visit.new.atoms) c.flat_at.ensures.asked c.in-Served.ensures.asked
+
+pub returns-in-Served-clause-asked : goal.returns-in-Served-clause-asked
+returns-in-Served-clause-asked g c =
+    let b = c.flat_at.new.atoms
+    in read_asks_nothing g.W.Term.Kept.term g.W.Term.Kept.key_of (text_of (g.W.A.Atoms.held b)) (g.W.World.told c.args.world.now)
+    (g.W.A.Atoms.asked c.args.atoms.now) (g.W.A.Atoms.asked b) (g.W.A.Atoms.asked c.visit.new.atoms) c.flat_at.ensures.asked c.in-Served.ensures.asked
+
+pub returns-in-NeedsAtoms-clause-asked : goal.returns-in-NeedsAtoms-clause-asked
+returns-in-NeedsAtoms-clause-asked g c =
+    let b = c.flat_at.new.atoms
+    in read_asks_nothing g.W.Term.Kept.term g.W.Term.Kept.key_of (text_of (g.W.A.Atoms.held b)) (g.W.World.told c.args.world.now)
+    (g.W.A.Atoms.asked c.args.atoms.now) (g.W.A.Atoms.asked b) (g.W.A.Atoms.asked c.visit.new.atoms) c.flat_at.ensures.asked c.in-NeedsAtoms.ensures.asked
+
+pub returns-in-Retry-clause-asked : goal.returns-in-Retry-clause-asked
+returns-in-Retry-clause-asked g c =
+    let b = c.flat_at.new.atoms
+    in read_asks_nothing g.W.Term.Kept.term g.W.Term.Kept.key_of (text_of (g.W.A.Atoms.held b)) (g.W.World.told c.args.world.now)
+    (g.W.A.Atoms.asked c.args.atoms.now) (g.W.A.Atoms.asked b) (g.W.A.Atoms.asked c.visit.new.atoms) c.flat_at.ensures.asked c.in-Retry.ensures.asked
+
+pub returns-in-Worn-clause-asked : goal.returns-in-Worn-clause-asked
+returns-in-Worn-clause-asked g c =
+    let b = c.flat_at.new.atoms
+    in read_asks_nothing g.W.Term.Kept.term g.W.Term.Kept.key_of (text_of (g.W.A.Atoms.held b)) (g.W.World.told c.args.world.now)
+    (g.W.A.Atoms.asked c.args.atoms.now) (g.W.A.Atoms.asked b) (g.W.A.Atoms.asked c.visit.new.atoms) c.flat_at.ensures.asked c.in-Worn.ensures.asked
+
+pub returns-clause-asked : goal.returns-clause-asked
+returns-clause-asked g c =
+    let b = c.flat_at.new.atoms
+    in read_asks_nothing g.W.Term.Kept.term g.W.Term.Kept.key_of (text_of (g.W.A.Atoms.held b)) (g.W.World.told c.args.world.now)
+    (g.W.A.Atoms.asked c.args.atoms.now) (g.W.A.Atoms.asked b) (g.W.A.Atoms.asked c.visit.new.atoms) c.flat_at.ensures.asked c.in-Memory.ensures.asked

@@ -3,6 +3,7 @@ use Rattle.iso_calls.specs.Called.{IsCalled}
 use Rattle.iso_engine.specs.declared.doing.Doing.TheVariants.{Throwing}
 use Rattle.iso_search.specs.declared.search.Search.{Search}
 use Rattle.iso_engine.specs.declared.engine.Engine.{Engine}
+use Rattle.iso_engine.proofs.Interning.{call_asks_for}
 use Rattle.iso_engine.proofs.Moved.{ran_moved, refused_moved, spent_moved}
 use Rattle.iso_engine.proofs.Opening.{goal_held}
 use Rattle.iso_engine.proofs.Solutions.{view_is}
@@ -249,3 +250,103 @@ returns-in-Worn-clause-stepped g c =
     let f : Engine = record e { search = x } in
     let stayed = called_back m n t u e f c.call_clauses.ensures.holds view c.requires.ready back.0 (ap (λ (s : Search). let y : Engine = record e { search = s } in y) back.1) in
     (refl, tt, stayed.0)
+
+pub returns-in_err-called-clause-asked : goal.returns-in_err-called-clause-asked
+returns-in_err-called-clause-asked g c =
+    let a = c.args.atoms.now in
+    let m = g.W.A.Atoms.held a in
+    let t = g.W.World.told c.args.world.now in
+    let view = view_is m t (g.met.W.A.Atoms.fixed_held a) (g.met.W.A.Atoms.unlike a) (g.met.W.A.Atoms.finite a) in
+    let l = c.requires.list in
+    call_asks_for m t c.args.self.now c.args.goal c.args.procedure l.0 l.1 c.args.rest l.2 l.3 c.requires.rest c.requires.calls view (g.W.A.Atoms.asked a)
+    (g.W.A.Atoms.asked c.call_clauses.new.atoms) c.call_clauses.ensures.asked
+
+pub returns-in_err-self-in-Spent-clause-asked : goal.returns-in_err-self-in-Spent-clause-asked
+returns-in_err-self-in-Spent-clause-asked g c =
+    let a = c.args.atoms.now in
+    let m = g.W.A.Atoms.held a in
+    let t = g.W.World.told c.args.world.now in
+    let view = view_is m t (g.met.W.A.Atoms.fixed_held a) (g.met.W.A.Atoms.unlike a) (g.met.W.A.Atoms.finite a) in
+    let l = c.requires.list in
+    call_asks_for m t c.args.self.now c.args.goal c.args.procedure l.0 l.1 c.args.rest l.2 l.3 c.requires.rest c.requires.calls view (g.W.A.Atoms.asked a)
+    (g.W.A.Atoms.asked c.call_clauses.new.atoms) c.call_clauses.ensures.asked
+
+pub returns-in_ok-self-in-Spent-clause-asked : goal.returns-in_ok-self-in-Spent-clause-asked
+returns-in_ok-self-in-Spent-clause-asked g c =
+    let a = c.args.atoms.now in
+    let m = g.W.A.Atoms.held a in
+    let t = g.W.World.told c.args.world.now in
+    let view = view_is m t (g.met.W.A.Atoms.fixed_held a) (g.met.W.A.Atoms.unlike a) (g.met.W.A.Atoms.finite a) in
+    let l = c.requires.list in
+    call_asks_for m t c.args.self.now c.args.goal c.args.procedure l.0 l.1 c.args.rest l.2 l.3 c.requires.rest c.requires.calls view (g.W.A.Atoms.asked a)
+    (g.W.A.Atoms.asked c.call_clauses.new.atoms) c.call_clauses.ensures.asked
+
+pub returns-in_err-self-in-Ran-clause-asked : goal.returns-in_err-self-in-Ran-clause-asked
+returns-in_err-self-in-Ran-clause-asked g c =
+    let a = c.args.atoms.now in
+    let m = g.W.A.Atoms.held a in
+    let t = g.W.World.told c.args.world.now in
+    let view = view_is m t (g.met.W.A.Atoms.fixed_held a) (g.met.W.A.Atoms.unlike a) (g.met.W.A.Atoms.finite a) in
+    let l = c.requires.list in
+    call_asks_for m t c.args.self.now c.args.goal c.args.procedure l.0 l.1 c.args.rest l.2 l.3 c.requires.rest c.requires.calls view (g.W.A.Atoms.asked a)
+    (g.W.A.Atoms.asked c.call_clauses.new.atoms) c.call_clauses.ensures.asked
+
+pub returns-in_ok-self-in-Ran-clause-asked : goal.returns-in_ok-self-in-Ran-clause-asked
+returns-in_ok-self-in-Ran-clause-asked g c =
+    let a = c.args.atoms.now in
+    let m = g.W.A.Atoms.held a in
+    let t = g.W.World.told c.args.world.now in
+    let view = view_is m t (g.met.W.A.Atoms.fixed_held a) (g.met.W.A.Atoms.unlike a) (g.met.W.A.Atoms.finite a) in
+    let l = c.requires.list in
+    call_asks_for m t c.args.self.now c.args.goal c.args.procedure l.0 l.1 c.args.rest l.2 l.3 c.requires.rest c.requires.calls view (g.W.A.Atoms.asked a)
+    (g.W.A.Atoms.asked c.call_clauses.new.atoms) c.call_clauses.ensures.asked
+
+pub returns-in_err-ball-in-Refused-clause-asked : goal.returns-in_err-ball-in-Refused-clause-asked
+returns-in_err-ball-in-Refused-clause-asked g c =
+    let a = c.args.atoms.now in
+    let m = g.W.A.Atoms.held a in
+    let t = g.W.World.told c.args.world.now in
+    let view = view_is m t (g.met.W.A.Atoms.fixed_held a) (g.met.W.A.Atoms.unlike a) (g.met.W.A.Atoms.finite a) in
+    let l = c.requires.list in
+    call_asks_for m t c.args.self.now c.args.goal c.args.procedure l.0 l.1 c.args.rest l.2 l.3 c.requires.rest c.requires.calls view (g.W.A.Atoms.asked a)
+    (g.W.A.Atoms.asked c.call_clauses.new.atoms) c.call_clauses.ensures.asked
+
+pub returns-in_ok-ball-in-Refused-clause-asked : goal.returns-in_ok-ball-in-Refused-clause-asked
+returns-in_ok-ball-in-Refused-clause-asked g c =
+    let a = c.args.atoms.now in
+    let m = g.W.A.Atoms.held a in
+    let t = g.W.World.told c.args.world.now in
+    let view = view_is m t (g.met.W.A.Atoms.fixed_held a) (g.met.W.A.Atoms.unlike a) (g.met.W.A.Atoms.finite a) in
+    let l = c.requires.list in
+    call_asks_for m t c.args.self.now c.args.goal c.args.procedure l.0 l.1 c.args.rest l.2 l.3 c.requires.rest c.requires.calls view (g.W.A.Atoms.asked a)
+    (g.W.A.Atoms.asked c.call_clauses.new.atoms) c.call_clauses.ensures.asked
+
+pub returns-in-NeedsAtoms-clause-asked : goal.returns-in-NeedsAtoms-clause-asked
+returns-in-NeedsAtoms-clause-asked g c =
+    let a = c.args.atoms.now in
+    let m = g.W.A.Atoms.held a in
+    let t = g.W.World.told c.args.world.now in
+    let view = view_is m t (g.met.W.A.Atoms.fixed_held a) (g.met.W.A.Atoms.unlike a) (g.met.W.A.Atoms.finite a) in
+    let l = c.requires.list in
+    call_asks_for m t c.args.self.now c.args.goal c.args.procedure l.0 l.1 c.args.rest l.2 l.3 c.requires.rest c.requires.calls view (g.W.A.Atoms.asked a)
+    (g.W.A.Atoms.asked c.call_clauses.new.atoms) c.call_clauses.ensures.asked
+
+pub returns-in-Retry-clause-asked : goal.returns-in-Retry-clause-asked
+returns-in-Retry-clause-asked g c =
+    let a = c.args.atoms.now in
+    let m = g.W.A.Atoms.held a in
+    let t = g.W.World.told c.args.world.now in
+    let view = view_is m t (g.met.W.A.Atoms.fixed_held a) (g.met.W.A.Atoms.unlike a) (g.met.W.A.Atoms.finite a) in
+    let l = c.requires.list in
+    call_asks_for m t c.args.self.now c.args.goal c.args.procedure l.0 l.1 c.args.rest l.2 l.3 c.requires.rest c.requires.calls view (g.W.A.Atoms.asked a)
+    (g.W.A.Atoms.asked c.call_clauses.new.atoms) c.call_clauses.ensures.asked
+
+pub returns-in-Worn-clause-asked : goal.returns-in-Worn-clause-asked
+returns-in-Worn-clause-asked g c =
+    let a = c.args.atoms.now in
+    let m = g.W.A.Atoms.held a in
+    let t = g.W.World.told c.args.world.now in
+    let view = view_is m t (g.met.W.A.Atoms.fixed_held a) (g.met.W.A.Atoms.unlike a) (g.met.W.A.Atoms.finite a) in
+    let l = c.requires.list in
+    call_asks_for m t c.args.self.now c.args.goal c.args.procedure l.0 l.1 c.args.rest l.2 l.3 c.requires.rest c.requires.calls view (g.W.A.Atoms.asked a)
+    (g.W.A.Atoms.asked c.call_clauses.new.atoms) c.call_clauses.ensures.asked

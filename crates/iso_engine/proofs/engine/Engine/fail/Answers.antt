@@ -4,6 +4,7 @@ use Rattle.iso_search.specs.Failures.{IsTaken, back_result}
 use Rattle.iso_engine.specs.declared.engine.Engine.{Engine}
 use Rattle.iso_engine.proofs.Failed.{failed_steps, retried_step}
 use Rattle.iso_engine.proofs.Followed.{fails_to}
+use Rattle.iso_engine.proofs.Interning.{nothing_asked, retry_asks_for}
 use Rattle.iso_engine.proofs.Opening.{newest_callable, newest_held, newest_open}
 use Rattle.iso_engine.proofs.Solutions.{view_is}
 use Rattle.iso_engine.proofs.Stability.{advance_step, step_ready}
@@ -144,3 +145,24 @@ returns-clause-stepped g c =
     s.ensures.whole s.stopped s.ensures.gone taken
     (λ q fails. sym (ap (back_result q x) r.is) ∙ c.resume-back.ensures.step q fails) in
     step.0
+
+pub returns-in-Some-clause-asked : goal.returns-in-Some-clause-asked
+returns-in-Some-clause-asked g c = let asked = g.W.A.Atoms.asked c.args.atoms.now in nothing_asked _ asked asked refl
+
+pub returns-in_err-stopped-clause-asked : goal.returns-in_err-stopped-clause-asked
+returns-in_err-stopped-clause-asked g c =
+    let e = c.args.self.now in
+    let a = c.args.atoms.now in
+    let x = c.resume-back.new.self in
+    let r = c.in-Retry in
+    retry_asks_for (g.W.A.Atoms.held a) (g.W.World.told c.args.world.now) e x r.goal r.generation r.place r.next c.requires.fails
+    (subst (IsTaken e.search x) r.is c.resume-back.ensures.taken) (g.W.A.Atoms.asked a) (g.W.A.Atoms.asked c.retry.new.atoms) c.retry.ensures.asked
+
+pub returns-clause-asked : goal.returns-clause-asked
+returns-clause-asked g c =
+    let e = c.args.self.now in
+    let a = c.args.atoms.now in
+    let x = c.resume-back.new.self in
+    let r = c.in-Retry in
+    retry_asks_for (g.W.A.Atoms.held a) (g.W.World.told c.args.world.now) e x r.goal r.generation r.place r.next c.requires.fails
+    (subst (IsTaken e.search x) r.is c.resume-back.ensures.taken) (g.W.A.Atoms.asked a) (g.W.A.Atoms.asked c.retry.new.atoms) c.retry.ensures.asked

@@ -5,6 +5,7 @@ use Rattle.iso_engine.specs.declared.engine.Engine.{Engine}
 use Rattle.iso_engine.specs.Ready.{IsReady}
 use Rattle.iso_engine.specs.Slices.{IsStepped}
 use Rattle.iso_engine.specs.Tasks.{IsDone}
+use Rattle.iso_engine.proofs.Interning.{asked_same}
 use Rattle.iso_engine.proofs.Solutions.{view_is}
 use Rattle.iso_engine.proofs.Stability.{advance_step, spent_by, step_ready}
 use Rattle.iso_engine.proofs.Stepping.{silent_out}
@@ -75,7 +76,8 @@ returns-in-Missing-clause-stepped g c =
     let view = view_is m t (g.met.W.A.Atoms.fixed_held a) (g.met.W.A.Atoms.unlike a) (g.met.W.A.Atoms.finite a) in
     let first = subst (λ l. tasks l c.args.list ≡ x.task ∷ tasks l x.next) c.deref.ensures.value c.in-Some.ensures.0 in
     let did = c.in_ok-did-in-Some in
-    let left = task_missing m t e c.do_task.new.search c.args.list x.task x.next did.did c.in-Missing.procedure view c.requires.list first did.ensures.done c.in-Missing.is in
+    let left = task_missing m t e c.args.list x.next c.requires.list c.requires.ready.stable (g.met.W.A.Atoms.fixed_held a) (g.met.W.A.Atoms.unlike a)
+    (g.met.W.A.Atoms.finite a) view c.do_task.new.search x.task did.did c.in-Missing.procedure first did.ensures.done c.in-Missing.is in
     (left.0, left.1, silent_out c.args.out.now.items left.0 left.2)
 
 pub call-requires-clause-ready : goal.call-requires-clause-ready
@@ -132,3 +134,21 @@ returns-in_ok-stopped-in-Write-clause-stepped g c =
       subst (λ (y : Search). let z : Engine = record e { search = y } in IsStepped m t z s.stopped n u c.write.new.self r.0) writes.0 r.1,
       r.2,
     )
+
+pub returns-in_err-stopped-in-Call-clause-asked : goal.returns-in_err-stopped-in-Call-clause-asked
+returns-in_err-stopped-in-Call-clause-asked g c =
+    let e = c.args.self.now in
+    let x = c.in-Some.frame in
+    let f = c.do_task.new.search in
+    let a = c.args.atoms.now in
+    let called = subst (IsDone e.search x.task x.next f) c.in-Call.is c.in_ok-did-in-Some.ensures.done in
+    asked_same (g.W.A.Atoms.held a) (g.W.World.told c.args.world.now) e f (g.W.A.Atoms.asked a) (g.W.A.Atoms.asked c.call.new.atoms) called.0 c.call.ensures.asked
+
+pub returns-in_ok-stopped-in-Call-clause-asked : goal.returns-in_ok-stopped-in-Call-clause-asked
+returns-in_ok-stopped-in-Call-clause-asked g c =
+    let e = c.args.self.now in
+    let x = c.in-Some.frame in
+    let f = c.do_task.new.search in
+    let a = c.args.atoms.now in
+    let called = subst (IsDone e.search x.task x.next f) c.in-Call.is c.in_ok-did-in-Some.ensures.done in
+    asked_same (g.W.A.Atoms.held a) (g.W.World.told c.args.world.now) e f (g.W.A.Atoms.asked a) (g.W.A.Atoms.asked c.call.new.atoms) called.0 c.call.ensures.asked

@@ -3,6 +3,7 @@ use Rattle.iso_engine.specs.declared.doing.Doing.TheVariants.{Running, Throwing,
 use Rattle.iso_engine.specs.declared.engine.Engine.{Engine}
 use Rattle.iso_engine.specs.Ready.{Steps}
 use Rattle.iso_engine.specs.declared.doing.Doing.{Doing}
+use Rattle.iso_engine.proofs.Interning.{asked_again}
 use Rattle.iso_engine.proofs.Solutions.{view_is}
 use Rattle.iso_engine.proofs.Stability.{advance_step, plain_steps, ready_again, spent_by, step_ready}
 use Rattle.iso_engine.proofs.Stepping.{silent_out, stepped_again}
@@ -109,3 +110,27 @@ pub returns-in-Ended-clause-ready : goal.returns-in-Ended-clause-ready
 returns-in-Ended-clause-ready g c =
     ready_again (g.W.A.Atoms.held c.args.atoms.now) (g.W.World.told c.args.world.now) c.args.self.now (Ended c.in-Ended.end)
     (sym c.replace.ensures.value ∙ c.in-Ended.is) c.requires.ready
+
+pub returns-in_err-stopped-in-Running-clause-asked : goal.returns-in_err-stopped-in-Running-clause-asked
+returns-in_err-stopped-in-Running-clause-asked g c =
+    let a = c.args.atoms.now in
+    asked_again (g.W.A.Atoms.held a) (g.W.World.told c.args.world.now) c.args.self.now (Running c.in-Running.list) (g.W.A.Atoms.asked a)
+    (g.W.A.Atoms.asked c.run.new.atoms) (sym c.replace.ensures.value ∙ c.in-Running.is) c.run.ensures.asked
+
+pub returns-in_err-stopped-in-Failing-clause-asked : goal.returns-in_err-stopped-in-Failing-clause-asked
+returns-in_err-stopped-in-Failing-clause-asked g c =
+    let a = c.args.atoms.now in
+    asked_again (g.W.A.Atoms.held a) (g.W.World.told c.args.world.now) c.args.self.now c.replace.new.dest (g.W.A.Atoms.asked a)
+    (g.W.A.Atoms.asked c.fail.new.atoms) (sym c.replace.ensures.value ∙ c.in-Failing.is ∙ sym c.replace.ensures.after) c.fail.ensures.asked
+
+pub returns-in_ok-stopped-in-Running-clause-asked : goal.returns-in_ok-stopped-in-Running-clause-asked
+returns-in_ok-stopped-in-Running-clause-asked g c =
+    let a = c.args.atoms.now in
+    asked_again (g.W.A.Atoms.held a) (g.W.World.told c.args.world.now) c.args.self.now (Running c.in-Running.list) (g.W.A.Atoms.asked a)
+    (g.W.A.Atoms.asked c.run.new.atoms) (sym c.replace.ensures.value ∙ c.in-Running.is) c.run.ensures.asked
+
+pub returns-in_ok-stopped-in-Failing-clause-asked : goal.returns-in_ok-stopped-in-Failing-clause-asked
+returns-in_ok-stopped-in-Failing-clause-asked g c =
+    let a = c.args.atoms.now in
+    asked_again (g.W.A.Atoms.held a) (g.W.World.told c.args.world.now) c.args.self.now c.replace.new.dest (g.W.A.Atoms.asked a)
+    (g.W.A.Atoms.asked c.fail.new.atoms) (sym c.replace.ensures.value ∙ c.in-Failing.is ∙ sym c.replace.ensures.after) c.fail.ensures.asked

@@ -1,9 +1,10 @@
-use Rattle.std.proofs.Common.{◌≡◌, ◌++◌, List, Option, refl, subst, arith}
+use Rattle.std.proofs.Common.{◌≡◌, [], ◌++◌, List, Option, refl, subst, arith}
 use Rattle.std.specs.Prelude.{encode_utf8_all}
 use Rattle.pl_model.specs.Resolution.{Output}
 use Rattle.iso_engine.specs.declared.slices.Slice.{Slice}
 use Rattle.iso_engine.specs.Slices.{IsStepped, written_text}
 use Rattle.iso_engine.proofs.Arms.{when_none}
+use Rattle.iso_engine.proofs.Interning.{came, come_gains, nothing_asked, step_advances, way_gains}
 use Rattle.iso_engine.proofs.Walks.{none_refused, slice_ends, some_refused, walk_begins, walk_on, went_on}
 use Rattle.iso_engine.proofs.engine.Engine.steps.Goals as goal
 
@@ -11,6 +12,7 @@ pub loop-init : goal.loop-init
 loop-init g c = (
   walk_begins c.args.n (g.W.A.Atoms.held c.args.atoms.now) (g.W.World.told c.args.world.now) c.args.self.now c.args.out.now.items c.requires.runs c.requires.ready,
   refl,
+  nothing_asked _ (g.W.A.Atoms.asked c.args.atoms.now) (g.W.A.Atoms.asked c.args.atoms.now) refl,
 )
 
 pub loop-preserved : goal.loop-preserved
@@ -30,6 +32,8 @@ loop-preserved g c =
           c.step.ensures.runs s.ensures.ready c.step.ensures.holds s.ensures.spent (when_none _ _ s.ensures.given c.in_default.is) (omega (arith, low, less)),
       none_refused (g.W.A.Atoms.refusals c.args.atoms.now) (g.W.A.Atoms.refusals c.loop.atoms) (g.W.A.Atoms.refusals c.step.new.atoms) s.stopped c.loop.invariant.1
           s.ensures.refusals c.in_default.is,
+      way_gains walk.steps 1 m n r t u w c.args.self.now c.loop.self c.step.new.self walk.written went.0 (g.W.A.Atoms.asked c.args.atoms.now)
+          (g.W.A.Atoms.asked c.loop.atoms) (g.W.A.Atoms.asked c.step.new.atoms) walk.advances went.1 c.loop.invariant.2 c.step.ensures.asked,
     )
 
 pub returns-in-Some-clause-sliced : goal.returns-in-Some-clause-sliced
@@ -54,3 +58,39 @@ returns-in-Some-clause-refusals g c =
     let s = c.in_ok-stopped in
     some_refused (g.W.A.Atoms.refusals c.args.atoms.now) (g.W.A.Atoms.refusals c.loop.atoms) (g.W.A.Atoms.refusals c.step.new.atoms) s.stopped c.in-Some.slice c.loop.invariant.1
     s.ensures.refusals c.in-Some.is
+
+pub returns-in-Some-clause-asked : goal.returns-in-Some-clause-asked
+returns-in-Some-clause-asked g c =
+    let m = g.W.A.Atoms.held c.args.atoms.now in
+    let n = g.W.A.Atoms.held c.loop.atoms in
+    let r = g.W.A.Atoms.held c.step.new.atoms in
+    let t = g.W.World.told c.args.world.now in
+    let u = g.W.World.told c.loop.world in
+    let w = g.W.World.told c.step.new.world in
+    let walk = c.loop.invariant.0 in
+    let s = c.in_ok-stopped in
+    let stepped = s.ensures.stepped in
+    let step = step_advances n r u w c.loop.self c.step.new.self s.stopped stepped.0 stepped.1 in
+    way_gains walk.steps step.0 m n r t u w c.args.self.now c.loop.self c.step.new.self walk.written stepped.0 (g.W.A.Atoms.asked c.args.atoms.now)
+    (g.W.A.Atoms.asked c.loop.atoms) (g.W.A.Atoms.asked c.step.new.atoms) walk.advances step.1 c.loop.invariant.2 c.step.ensures.asked
+
+pub returns-in-Some-clause-came : goal.returns-in-Some-clause-came
+returns-in-Some-clause-came g c =
+    let n = g.W.A.Atoms.held c.loop.atoms in
+    let u = g.W.World.told c.loop.world in
+    let walk = c.loop.invariant.0 in
+    come_gains walk.steps 0 (g.W.A.Atoms.held c.args.atoms.now) n n (g.W.World.told c.args.world.now) u u c.args.self.now c.loop.self c.loop.self walk.written []
+    (g.W.A.Atoms.asked c.args.atoms.now) (g.W.A.Atoms.asked c.loop.atoms) (g.W.A.Atoms.asked c.step.new.atoms) walk.advances c.loop.invariant.2 c.step.ensures.asked
+
+pub returns-in_err-stopped-clause-came : goal.returns-in_err-stopped-clause-came
+returns-in_err-stopped-clause-came g c =
+    let n = g.W.A.Atoms.held c.loop.atoms in
+    let u = g.W.World.told c.loop.world in
+    let walk = c.loop.invariant.0 in
+    come_gains walk.steps 0 (g.W.A.Atoms.held c.args.atoms.now) n n (g.W.World.told c.args.world.now) u u c.args.self.now c.loop.self c.loop.self walk.written []
+    (g.W.A.Atoms.asked c.args.atoms.now) (g.W.A.Atoms.asked c.loop.atoms) (g.W.A.Atoms.asked c.step.new.atoms) walk.advances c.loop.invariant.2 c.step.ensures.asked
+
+pub returns-clause-came : goal.returns-clause-came
+returns-clause-came g c =
+    came (g.W.A.Atoms.held c.args.atoms.now) (g.W.A.Atoms.held c.loop.atoms) (g.W.World.told c.args.world.now) (g.W.World.told c.loop.world) c.args.self.now
+    c.loop.self (g.W.A.Atoms.asked c.args.atoms.now) (g.W.A.Atoms.asked c.loop.atoms) c.loop.invariant.2
