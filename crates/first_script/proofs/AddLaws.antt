@@ -31,6 +31,10 @@ use Rattle.std.specs.List.{All}
 use Rattle.std.proofs.lemmas.List.Elements.{All-nil, All-same}
 use Rattle.world_api.specs.Replies.{Says, reply_names}
 use Rattle.world_api.specs.Answers.{Visited}
+use Rattle.world_api.specs.Gains.{Gains}
+use Rattle.world_api.specs.Asked.{IsInAnswer}
+use Rattle.world_api.specs.Scripts.{IsReplied}
+use Rattle.world_api.proofs.Gaining.{gains_weaker}
 use Rattle.world_api.proofs.ComesLaws.{comes_by_request}
 use Rattle.first_script.specs.declared.stage.Stage.{Stage}
 use Rattle.first_script.specs.declared.stage.Stage.TheVariants.{Items, Clause}
@@ -129,6 +133,23 @@ module _ {K : Type 0} (term : (ℕ → Chars) → Tree → Tree) (key : Tree →
   add_added kept NoMessage g t before u a v is = absurd is
   add_added kept (Status m) g t before u a v is = absurd is
   add_added kept Gone g t before u a v is = absurd is
+
+  -- What is interned for it is handed of the reply.
+  pub add_asked : (kept : Tree) (t : Told) (old new : Option (List Chars))
+      → Gains (IsInAnswer term key text (ConsultVisit kept) t) old new
+      → Gains (IsReplied (λ q. q ≡ consult_clause (clause_in (term text kept))) t) old new
+  add_asked kept t old new g =
+      gains_weaker (IsInAnswer term key text (ConsultVisit kept) t) (IsReplied (λ q. q ≡ consult_clause (clause_in (term text kept))) t) old new
+      (λ x a.
+      record {
+        before = a.before;
+        later = a.follows.later;
+        follows = a.follows.grown;
+        request = consult_clause (clause_in (term text kept));
+        is = refl;
+        stands = a.stands (consult_clause (clause_in (term text kept))) refl;
+      })
+      g
 
 -- The clause of an item is added or refused.
 adding_move : (job : Job) (x : Execution) (ops : OperatorTable) (place next : ℕ) (clause kept : Tree)

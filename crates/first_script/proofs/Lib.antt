@@ -5,3 +5,5 @@ pub mod FileLaws
 pub mod GivenLaws
 pub mod WordLaws
 pub mod GrowLaws
+pub mod ItemLaws
+pub mod NarrowLaws

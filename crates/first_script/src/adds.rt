@@ -1,7 +1,7 @@
 //! The clauses of the file that are added.
-ghost use Rattle.std.specs.Prelude.{◌≡◌, ◌++◌, false, IsSome, zero};
+ghost use Rattle.std.specs.Prelude.{◌≡◌, ◌++◌, false, IsSome, Option, zero};
 ghost use Rattle.std.specs.List.{All};
-ghost use Rattle.pl_term.specs.Tree.{Tree};
+ghost use Rattle.pl_term.specs.Tree.{Chars, Tree};
 ghost use Rattle.pl_term.specs.Variables.{rename};
 ghost use Rattle.pl_model.specs.Requests.{consult_clause, refused};
 ghost use Rattle.pl_consult.specs.Checks.{kept_clause};
@@ -9,7 +9,10 @@ ghost use Rattle.term_store.specs.NumberedNames.{names_of, term_by};
 ghost use Rattle.world_api.specs.Texts.{text_of, Holds};
 ghost use Rattle.world_api.specs.Told.{Told, has_ended};
 ghost use Rattle.world_api.specs.Visits.{clause_in};
+ghost use Rattle.world_api.specs.Gains.{Gains};
+ghost use Rattle.world_api.specs.Scripts.{IsLater, IsReplied};
 ghost use Rattle.first_script.specs.declared.stage.Stage.TheVariants.{Clause};
+ghost use Rattle.first_script.specs.ItemTexts.{MayIntern, Narrows};
 ghost use Rattle.first_script.specs.Steps.{AddedSo, Asked, IsAfter, IsAdded, IsAddition, IsQuiet, Moved, added_names, added_refusals, step_names, step_refusals};
 
 use crate::stage::{Stage, Step};
@@ -52,6 +55,9 @@ pub fn add_clause<W: World<Term = Stored>>(
     ensures named { All (λ a. IsSome (W.A.held atoms.new a)) (step_names names_of result.1) }
     ensures holds { Holds (W.A.held atoms.old) (W.A.held atoms.new) }
     ensures refusals { W.A.refusals atoms.new ≡ W.A.refusals atoms.old ++ step_refusals result.1 }
+    ensures told { IsLater (W.told world.old) (W.told world.new) }
+    ensures asked { (word : Option Chars) → Gains (MayIntern consult.now word (Clause clause place operators) (W.told world.old)) (W.A.asked atoms.old) (W.A.asked atoms.new) }
+    ensures narrows { (word : Option Chars) → Narrows word consult.now (Clause clause place operators) consult.now result.0 }
 {
     match interned(alloc, &clause, atoms) {
         Ok(kept) => match add(kept, world, atoms) {
@@ -88,6 +94,8 @@ fn add<W: World<Term = Stored>>(kept: Stored, world: &mut W, atoms: &mut W::A) -
     ensures named { All (λ a. IsSome (W.A.held atoms.new a)) (added_names names_of result) }
     ensures holds { Holds (W.A.held atoms.old) (W.A.held atoms.new) }
     ensures refusals { W.A.refusals atoms.new ≡ W.A.refusals atoms.old ++ added_refusals result }
+    ensures told { IsLater (W.told world.old) (W.told world.new) }
+    ensures asked { Gains (IsReplied (λ q. q ≡ consult_clause (clause_in (term_by (text_of (W.A.held atoms.old)) kept))) (W.told world.old)) (W.A.asked atoms.old) (W.A.asked atoms.new) }
 {
     match world.visit(Visit::Consult { clause: kept }, atoms) {
         Answer::Served { reply, .. } => told(reply),
@@ -130,6 +138,8 @@ fn refuse<A: Atoms>(
     ensures quiet { IsQuiet result.1 }
     ensures same { A.held atoms.new ≡ A.held atoms.old }
     ensures refusals { A.refusals atoms.new ≡ A.refusals atoms.old }
+    ensures asked { A.asked atoms.new ≡ A.asked atoms.old }
+    ensures narrows { (word : Option Chars) (t : Tree) → Narrows word consult.now (Clause t place operators.now) consult.now result.0 }
 {
     match with_texts(alloc, error, atoms) {
         Ok(error) => match consult.refuse(alloc, place, error, operators, text) {

@@ -1,18 +1,23 @@
 //! The script of the first engine: its steps, one after the other, until one of them gives something.
-ghost use Rattle.std.specs.Prelude.{◌≡◌, ◌++◌, ℕ, List, [], ◌||◌, length, nat_lt, true, false, Some, None, IsSome, IfOk};
+ghost use Rattle.std.specs.Prelude.{◌≡◌, ◌++◌, ◌⊎◌, ℕ, List, [], ◌||◌, length, nat_lt, true, false, Some, None, IsSome, IfOk};
 ghost use Rattle.std.specs.Option.{option_map, option_copied};
 ghost use Rattle.std.specs.List.{All};
 ghost use Rattle.pl_term.specs.Tree.{Chars, Tree};
-ghost use Rattle.pl_model.specs.Execution.{Job, consults, Consulted};
+ghost use Rattle.pl_model.specs.Execution.{Job, consults, Consulted, word_read};
+ghost use Rattle.pl_model.specs.declared.grammar.Quotes.{Quotes};
+ghost use Rattle.pl_model.specs.OperatorTable.{OperatorTable};
+ghost use Rattle.pl_model.specs.Requests.{Request};
 ghost use Rattle.term_store.specs.NumberedNames.{names_of, term_by};
 ghost use Rattle.world_api.specs.Texts.{text_of, Holds};
 ghost use Rattle.world_api.specs.Told.{Told, has_ended};
-ghost use Rattle.world_api.specs.Scripts.{next_refusals, next_names};
+ghost use Rattle.world_api.specs.Gains.{Gains};
+ghost use Rattle.world_api.specs.Scripts.{IsLater, next_refusals, next_names};
 ghost use Rattle.first_script.specs.declared.stage.Stage.TheVariants.{Items, Lost, Over, Words as AtWords};
 ghost use Rattle.world_api.specs.declared.script.Next.TheVariants.{Done};
 ghost use Rattle.first_script.specs.declared.stage.Step.TheVariants.{Gives};
 ghost use Rattle.first_script.specs.Steps.{IsAfter, IsQuiet, Looked, can_step, directive_place, step_names, step_refusals};
-ghost use Rattle.first_script.specs.Words.{AreNames, HasBegun, IsFault, words_of, given_words};
+ghost use Rattle.first_script.specs.ItemTexts.{IsFileRequest, IsItemText, IsOwnRequest, IsOwnText, IsWordText, MayIntern, Narrows};
+ghost use Rattle.first_script.specs.Words.{AreNames, HasBegun, IsFault, word_of, words_of, given_words};
 ghost use Rattle.first_script.specs.FileScripts.{Begins, FileMoved, IsFresh, IsGiven, execution_of, is_memory, part_in};
 
 use crate::adds::add_clause;
@@ -62,6 +67,8 @@ impl FileScript {
         ensures begins { (job : Job) → job.script ≡ consults bytes.items (given_words word)
             → IfOk result (λ s. Begins s job name.now out.new.items) }
         ensures fresh { IfOk result (λ s. IsFresh s name.now) }
+        ensures texts { IfOk result (λ s. (c : Chars) → IsOwnText s.consult s.word s.stage c → IsItemText bytes.items c ⊎ IsWordText word c) }
+        ensures asks { IfOk result (λ s. (q : Request) → IsOwnRequest s.consult s.stage q → IsFileRequest bytes.items q) }
     {
         let consult = Consult::new(alloc, bytes, name, out)?;
         Ok(FileScript {
@@ -141,6 +148,10 @@ impl FileScript {
         ensures named { All (λ a. IsSome (W.A.held atoms.new a)) (next_names names_of result) }
         ensures holds { Holds (W.A.held atoms.old) (W.A.held atoms.new) }
         ensures refusals { W.A.refusals atoms.new ≡ W.A.refusals atoms.old ++ next_refusals result }
+        ensures told { IsLater (W.told world.old) (W.told world.new) }
+        ensures asked { Gains (MayIntern self.old.consult self.old.word stage (W.told world.old)) (W.A.asked atoms.old) (W.A.asked atoms.new) }
+        ensures narrows { Narrows self.old.word self.old.consult stage self.new.consult self.new.stage }
+        ensures word { self.new.word ≡ self.old.word }
     {
         let mut stage = stage;
         for _ in 0..u64::MAX {
@@ -162,6 +173,9 @@ impl FileScript {
         ensures lost { is_memory next ≡ true → self.new ≡ self.old }
         ensures stage { is_memory next ≡ false → self.new ≡ record self.old { stage = stage; faulty = self.old.faulty || grown } }
         ensures file { self.new.consult.name ≡ self.old.consult.name }
+        ensures consult { self.new.consult ≡ self.old.consult }
+        ensures word { self.new.word ≡ self.old.word }
+        ensures stands { (self.new.stage ≡ self.old.stage) ⊎ (self.new.stage ≡ stage) }
     {
         if is_memory(&next) {
             return next;
@@ -191,6 +205,10 @@ impl FileScript {
         ensures named { All (λ a. IsSome (W.A.held atoms.new a)) (step_names names_of result.1) }
         ensures holds { Holds (W.A.held atoms.old) (W.A.held atoms.new) }
         ensures refusals { W.A.refusals atoms.new ≡ W.A.refusals atoms.old ++ step_refusals result.1 }
+        ensures told { IsLater (W.told world.old) (W.told world.new) }
+        ensures asked { Gains (MayIntern self.old.consult self.old.word stage (W.told world.old)) (W.A.asked atoms.old) (W.A.asked atoms.new) }
+        ensures narrows { Narrows self.old.word self.old.consult stage self.new.consult result.0 }
+        ensures word { self.new.word ≡ self.old.word }
     {
         let alloc = self.alloc;
         match stage {
@@ -237,6 +255,10 @@ impl FileScript {
         ensures named { All (λ a. IsSome (W.A.held atoms.new a)) (step_names names_of result.1) }
         ensures holds { Holds (W.A.held atoms.old) (W.A.held atoms.new) }
         ensures refusals { W.A.refusals atoms.new ≡ W.A.refusals atoms.old ++ step_refusals result.1 }
+        ensures told { IsLater (W.told world.old) (W.told world.new) }
+        ensures asked { W.A.asked atoms.new ≡ W.A.asked atoms.old }
+        ensures narrows { Narrows self.old.word self.old.consult Items self.new.consult result.0 }
+        ensures word { self.new.word ≡ self.old.word }
     {
         let alloc = self.alloc;
         match self.consult.place {
@@ -262,6 +284,10 @@ impl FileScript {
         ensures named { All (λ a. IsSome (W.A.held atoms.new a)) (step_names names_of result.1) }
         ensures holds { Holds (W.A.held atoms.old) (W.A.held atoms.new) }
         ensures refusals { W.A.refusals atoms.new ≡ W.A.refusals atoms.old ++ step_refusals result.1 }
+        ensures told { IsLater (W.told world.old) (W.told world.new) }
+        ensures asked { W.A.asked atoms.new ≡ W.A.asked atoms.old }
+        ensures narrows { Narrows self.old.word self.old.consult AtWords self.new.consult result.0 }
+        ensures word { self.new.word ≡ self.old.word }
     {
         match look_at(world, atoms) {
             Look::Stays(next) => (Stage::Words, Step::Gives(next)),
@@ -278,6 +304,8 @@ impl FileScript {
         ensures file { self.new.consult.name ≡ self.old.consult.name }
         ensures stage { IsAfter result.1 result.0 }
         ensures quiet { IsQuiet result.1 }
+        ensures narrows { Narrows self.old.word self.old.consult AtWords self.new.consult result.0 }
+        ensures word { self.new.word ≡ self.old.word }
     {
         match &self.word {
             None => self.end(),
@@ -301,6 +329,8 @@ impl FileScript {
     /// The word was read so: its goal is to be given, or the script is over.
     fn begin(&mut self, read: GoalWord) -> (Stage, Step)
         ensures begins { HasBegun read result.0 result.1 }
+        ensures narrows { (w : Chars) (ops : OperatorTable) (quotes : Quotes) → word_of read ≡ word_read ops quotes w
+            → Narrows (Some w) self.old.consult AtWords self.new.consult result.0 }
         ensures read { self.new ≡ record self.old { read = Some read } }
     {
         let begun = begun_by(self.alloc, &read);
@@ -312,6 +342,7 @@ impl FileScript {
 impl Script for FileScript {
     ghost use Rattle.std.specs.Prelude.{[], refl};
     ghost use Rattle.first_script.specs.FileScripts.{execution_of, part_in, Plays, is_over};
+    ghost use Rattle.first_script.specs.ItemTexts.{IsOwnText, IsOwnRequest};
     ghost use Rattle.first_script.specs.TextLaws.{texts_none};
 
     type Term = Stored;
@@ -329,6 +360,10 @@ impl Script for FileScript {
     ghost name = { λ s. s.consult.name };
 
     ghost names = { λ _. [] };
+
+    ghost texts = { λ s c. IsOwnText s.consult s.word s.stage c };
+
+    ghost asks = { λ s q. IsOwnRequest s.consult s.stage q };
 
     ghost names_tell = { λ s text other same. ((λ job cs. refl), (λ x p. p)) };
 

@@ -1,14 +1,17 @@
 //! The goals of directives, of initialization/1 and of the command.
-ghost use Rattle.std.specs.Prelude.{◌≡◌, ◌++◌, ℕ, zero, List, IsSome, IsTrue};
-ghost use Rattle.std.specs.List.{All};
-ghost use Rattle.pl_term.specs.Tree.{Tree};
+ghost use Rattle.std.specs.Prelude.{◌≡◌, ◌++◌, ℕ, zero, List, Option, IsSome, IsTrue};
+ghost use Rattle.std.specs.List.{All, Contains};
+ghost use Rattle.pl_term.specs.Tree.{Chars, Tree};
 ghost use Rattle.pl_term.specs.Variables.{rename};
 ghost use Rattle.pl_consult.specs.declared.consult.Place.TheVariants.{Initialization};
 ghost use Rattle.pl_consult.specs.declared.consult.Consult.{Consult as File};
 ghost use Rattle.term_store.specs.NumberedNames.{names_of, term_by};
 ghost use Rattle.world_api.specs.Texts.{text_of, Holds};
 ghost use Rattle.world_api.specs.Told.{Told};
+ghost use Rattle.world_api.specs.Gains.{Gains};
+ghost use Rattle.world_api.specs.Asked.{texts_in};
 ghost use Rattle.first_script.specs.declared.stage.Stage.TheVariants.{Directive, Goal, Items};
+ghost use Rattle.first_script.specs.ItemTexts.{Narrows};
 ghost use Rattle.first_script.specs.Steps.{IsAfter, IsQuiet, Moved, stage_for, step_names, step_refusals};
 
 use crate::stage::{Stage, Step};
@@ -33,6 +36,8 @@ pub fn give_directive<A: Atoms>(
     ensures named { All (λ a. IsSome (A.held atoms.new a)) (step_names names_of result.1) }
     ensures holds { Holds (A.held atoms.old) (A.held atoms.new) }
     ensures refusals { A.refusals atoms.new ≡ A.refusals atoms.old ++ step_refusals result.1 }
+    ensures asked { Gains (Contains (texts_in goal)) (A.asked atoms.old) (A.asked atoms.new) }
+    ensures narrows { (word : Option Chars) (c : File) → Narrows word c (Directive goal place) c result.0 }
 {
     if is_numbered(alloc, &goal) {
         return give(alloc, goal, place, atoms);
@@ -49,6 +54,8 @@ fn give<A: Atoms>(alloc: Global, goal: Flat, place: usize, atoms: &mut A) -> (St
     ensures named { All (λ a. IsSome (A.held atoms.new a)) (step_names names_of result.1) }
     ensures holds { Holds (A.held atoms.old) (A.held atoms.new) }
     ensures refusals { A.refusals atoms.new ≡ A.refusals atoms.old ++ step_refusals result.1 }
+    ensures asked { Gains (Contains (texts_in goal)) (A.asked atoms.old) (A.asked atoms.new) }
+    ensures narrows { (word : Option Chars) (c : File) → Narrows word c (Directive goal place) c result.0 }
 {
     match interned(alloc, &goal, atoms) {
         Ok(kept) => (
@@ -70,6 +77,8 @@ pub fn give_goal<A: Atoms>(alloc: Global, goal: Flat, atoms: &mut A) -> (Stage, 
     ensures named { All (λ a. IsSome (A.held atoms.new a)) (step_names names_of result.1) }
     ensures holds { Holds (A.held atoms.old) (A.held atoms.new) }
     ensures refusals { A.refusals atoms.new ≡ A.refusals atoms.old ++ step_refusals result.1 }
+    ensures asked { Gains (Contains (texts_in goal)) (A.asked atoms.old) (A.asked atoms.new) }
+    ensures narrows { (word : Option Chars) (c : File) → Narrows word c (Goal goal) c result.0 }
 {
     if is_numbered(alloc, &goal) {
         return give_numbered_goal(alloc, goal, atoms);
@@ -86,6 +95,8 @@ fn give_numbered_goal<A: Atoms>(alloc: Global, goal: Flat, atoms: &mut A) -> (St
     ensures named { All (λ a. IsSome (A.held atoms.new a)) (step_names names_of result.1) }
     ensures holds { Holds (A.held atoms.old) (A.held atoms.new) }
     ensures refusals { A.refusals atoms.new ≡ A.refusals atoms.old ++ step_refusals result.1 }
+    ensures asked { Gains (Contains (texts_in goal)) (A.asked atoms.old) (A.asked atoms.new) }
+    ensures narrows { (word : Option Chars) (c : File) → Narrows word c (Goal goal) c result.0 }
 {
     match interned(alloc, &goal, atoms) {
         Ok(kept) => (
@@ -118,6 +129,7 @@ pub fn next_initialization(alloc: Global, consult: &mut Consult) -> (Stage, Step
     ensures stage { IsAfter result.1 result.0 }
     ensures file { consult.new.name ≡ consult.old.name }
     ensures quiet { IsQuiet result.1 }
+    ensures narrows { (word : Option Chars) → Narrows word consult.old Items consult.new result.0 }
 {
     match consult.next_goal(alloc) {
         Ok(next) => (stage_for(next), Step::Goes),

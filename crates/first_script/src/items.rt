@@ -1,11 +1,14 @@
 //! The steps by which the items of the file are taken up.
-ghost use Rattle.std.specs.Prelude.{◌≡◌, ◌++◌, false, IsSome};
+ghost use Rattle.std.specs.Prelude.{◌≡◌, ◌++◌, false, IsSome, Option};
 ghost use Rattle.std.specs.List.{All};
+ghost use Rattle.pl_term.specs.Tree.{Chars};
 ghost use Rattle.term_store.specs.NumberedNames.{names_of, term_by};
 ghost use Rattle.world_api.specs.Texts.{text_of, Holds};
 ghost use Rattle.world_api.specs.Told.{has_ended};
+ghost use Rattle.world_api.specs.Scripts.{IsLater};
 ghost use Rattle.pl_consult.specs.declared.consult.Place.TheVariants.{Item as AtItem};
 ghost use Rattle.first_script.specs.declared.stage.Stage.TheVariants.{Items};
+ghost use Rattle.first_script.specs.ItemTexts.{Narrows};
 ghost use Rattle.first_script.specs.Steps.{IsAfter, Moved, stage_by, step_names, step_refusals};
 
 use crate::looks::{Look, look_at};
@@ -34,6 +37,9 @@ pub fn take_item<W: World<Term = Stored>>(
     ensures named { All (λ a. IsSome (W.A.held atoms.new a)) (step_names names_of result.1) }
     ensures holds { Holds (W.A.held atoms.old) (W.A.held atoms.new) }
     ensures refusals { W.A.refusals atoms.new ≡ W.A.refusals atoms.old ++ step_refusals result.1 }
+    ensures told { IsLater (W.told world.old) (W.told world.new) }
+    ensures asked { W.A.asked atoms.new ≡ W.A.asked atoms.old }
+    ensures narrows { (word : Option Chars) → Narrows word consult.old Items consult.new result.0 }
 {
     match look_at(world, atoms) {
         Look::Stays(next) => (Stage::Items, Step::Gives(next)),

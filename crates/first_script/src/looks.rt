@@ -2,6 +2,7 @@
 ghost use Rattle.std.specs.Prelude.{◌≡◌, ◌++◌, false};
 ghost use Rattle.world_api.specs.Texts.{Holds};
 ghost use Rattle.world_api.specs.Told.{has_ended};
+ghost use Rattle.world_api.specs.Scripts.{IsLater};
 ghost use Rattle.first_script.specs.Steps.{IsLook, IsStanding, LooksSo, look_refusals};
 
 use op_table::OpTable;
@@ -25,6 +26,8 @@ pub fn look_at<W: World<Term = Stored>>(world: &mut W, atoms: &mut W::A) -> Look
     ensures runs { has_ended (W.told world.new).engine (W.told world.new).history ≡ false }
     ensures holds { Holds (W.A.held atoms.old) (W.A.held atoms.new) }
     ensures refusals { W.A.refusals atoms.new ≡ W.A.refusals atoms.old ++ look_refusals result }
+    ensures told { IsLater (W.told world.old) (W.told world.new) }
+    ensures asked { W.A.asked atoms.new ≡ W.A.asked atoms.old }
 {
     match world.visit(Visit::Look, atoms) {
         Answer::Served { reply, .. } => standing(reply),

@@ -1,12 +1,14 @@
 //! The ends of directives.
-ghost use Rattle.std.specs.Prelude.{◌≡◌, ◌++◌, false, IsSome};
+ghost use Rattle.std.specs.Prelude.{◌≡◌, ◌++◌, false, IsSome, Option};
 ghost use Rattle.std.specs.List.{All};
-ghost use Rattle.pl_term.specs.Tree.{Tree};
+ghost use Rattle.pl_term.specs.Tree.{Chars, Tree};
 ghost use Rattle.pl_model.specs.declared.grammar.Quotes.{Quotes};
 ghost use Rattle.term_store.specs.NumberedNames.{names_of, term_by};
 ghost use Rattle.world_api.specs.Texts.{text_of, Holds};
 ghost use Rattle.world_api.specs.Told.{Told, has_ended};
+ghost use Rattle.world_api.specs.Scripts.{IsLater};
 ghost use Rattle.first_script.specs.declared.stage.Stage.TheVariants.{Report};
+ghost use Rattle.first_script.specs.ItemTexts.{Narrows};
 ghost use Rattle.first_script.specs.Steps.{IsAfter, IsQuiet, Looked, Moved, status_of, step_names, step_refusals, written_of};
 
 use crate::looks::{Look, look_at};
@@ -36,6 +38,9 @@ pub fn report<W: World<Term = Stored>>(
     ensures named { All (λ a. IsSome (W.A.held atoms.new a)) (step_names names_of result.1) }
     ensures holds { Holds (W.A.held atoms.old) (W.A.held atoms.new) }
     ensures refusals { W.A.refusals atoms.new ≡ W.A.refusals atoms.old ++ step_refusals result.1 }
+    ensures told { IsLater (W.told world.old) (W.told world.new) }
+    ensures asked { W.A.asked atoms.new ≡ W.A.asked atoms.old }
+    ensures narrows { (word : Option Chars) → Narrows word consult.now (Report place how) consult.now result.0 }
 {
     match look_at(world, atoms) {
         Look::Stays(next) => (Stage::Report { place, how }, Step::Gives(next)),
@@ -58,6 +63,7 @@ fn report_under(
         → Moved term consult.now (Report place how) t text.old.items result.1 consult.now result.0 u text.new.items }
     ensures stage { IsAfter result.1 result.0 }
     ensures quiet { IsQuiet result.1 }
+    ensures narrows { (word : Option Chars) → Narrows word consult.now (Report place how) consult.now result.0 }
 {
     let halted = status(&how);
     match consult.report(alloc, place, &written(how), operators, text) {

@@ -1,8 +1,14 @@
 //! The word of the command's goal, which is read with an end token added and has to be one term up to it.
-ghost use Rattle.std.specs.Prelude.{◌≡◌, ℕ, [], ◌∷◌, IfOk};
+ghost use Rattle.std.specs.Prelude.{◌≡◌, ℕ, [], ◌∷◌, Some, IfOk};
+ghost use Rattle.pl_term.specs.Tree.{Chars};
+ghost use Rattle.pl_model.specs.declared.grammar.Quotes.{Quotes};
+ghost use Rattle.pl_model.specs.OperatorTable.{OperatorTable};
 ghost use Rattle.pl_model.specs.Grammar.{clause};
 ghost use Rattle.pl_model.specs.Execution.{goal_text as text_of_goal, word_of_item, word_read};
 ghost use Rattle.prolog_reader.specs.Names.{pairs};
+ghost use Rattle.pl_consult.specs.declared.consult.Consult.{Consult};
+ghost use Rattle.first_script.specs.declared.stage.Stage.TheVariants.{Words as AtWords};
+ghost use Rattle.first_script.specs.ItemTexts.{Narrows};
 ghost use Rattle.first_script.specs.Words.{AreNames, HasBegun, IsFault, word_of};
 
 use crate::stage::{Stage, Step};
@@ -117,7 +123,9 @@ pub(crate) fn fault_in(word: &GoalWord) -> Option<SyntaxFault>
 
 /// What is done behind the reading of this word: its goal is to be given, or the script is over.
 pub(crate) fn begun_by(alloc: Global, word: &GoalWord) -> (Stage, Step)
-    ensures { HasBegun word.now result.0 result.1 }
+    ensures begins { HasBegun word.now result.0 result.1 }
+    ensures narrows { (w : Chars) (c : Consult) (ops : OperatorTable) (quotes : Quotes) → word_of word.now ≡ word_read ops quotes w
+        → Narrows (Some w) c AtWords c result.0 }
 {
     match word {
         GoalWord::Goal { goal, .. } => match goal.copy(alloc) {

@@ -7,3 +7,4 @@ pub mod WordTexts
 pub mod Renumbered
 pub mod ItemTerms
 pub mod ConsultLemmas
+pub mod TakingLaws

@@ -3,3 +3,4 @@ pub mod Subterms
 pub mod Checks
 pub mod Items
 pub mod Consults
+pub mod Taking

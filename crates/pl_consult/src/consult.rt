@@ -1,7 +1,7 @@
 //! Consulting a file (ISO 7.4.2): its items one after the other, each read under the operators and the flag of its own
 //! visit, and behind its end the goals of initialization/1.
-ghost use Rattle.std.specs.Prelude.{◌≡◌, List, ℕ, [], IfOk, OnOk, encode_utf8_all};
-ghost use Rattle.pl_term.specs.Tree.{Chars};
+ghost use Rattle.std.specs.Prelude.{◌≡◌, List, ℕ, [], None, Some, IfOk, OnOk, encode_utf8_all};
+ghost use Rattle.pl_term.specs.Tree.{Chars, Tree};
 ghost use Rattle.pl_model.specs.Requests.{standing, refused};
 ghost use Rattle.pl_model.specs.Resolution.{Ending as EndOfSearch};
 ghost use Rattle.pl_model.specs.BodyChecks.{clause_of_term};
@@ -11,6 +11,7 @@ ghost use Rattle.pl_model.specs.Report.{all_consulted};
 ghost use Rattle.pl_report.specs.Reported.{IsEnding};
 ghost use Rattle.pl_consult.specs.declared.consult.Place.TheVariants.{Item};
 ghost use Rattle.pl_consult.specs.Consults.{is_too_large, first_place, first_lines, rest_of, activity_of, Stands, Took, Initializes};
+ghost use Rattle.pl_consult.specs.Taking.{IsTakenOf, IsTakenAt, HasPutOff, MayPutOff, IsNextOf, HasLost};
 
 use crate::bodies::{Checked, checked_clause, few_variables};
 use crate::items::{directive_of, initialization_of};
@@ -96,6 +97,9 @@ impl Consult {
         ensures named { self.new.name ≡ self.old.name }
         ensures took { (job : Job) (x : Execution) → Stands self.old job x out.old.items
             → IfOk result (λ taken. Took taken self.old.name self.new job ops.now (item_taken job x at (standing ops.now quotes)) out.new.items) }
+        ensures text { self.new.text.items ≡ self.old.text.items }
+        ensures item { IfOk result (IsTakenAt self.old.text.items at ops.now quotes) }
+        ensures later { HasPutOff self.old.text.items at ops.now quotes self.old.later.items self.new.later.items }
     {
         match read_term(alloc, self.text.as_slice(), at, ops, quotes) {
             Read::Clause {
@@ -141,6 +145,9 @@ impl Consult {
         ensures named { self.new.name ≡ self.old.name }
         ensures took { (job : Job) (x : Execution) → Stands self.old job x out.old.items
             → IfOk result (λ taken. Took taken self.old.name self.new job ops.now (with_term job x ops.now start next term (goal_of_directive term)) out.new.items) }
+        ensures text { self.new.text.items ≡ self.old.text.items }
+        ensures item { IfOk result (IsTakenOf term) }
+        ensures later { MayPutOff term self.old.later.items self.new.later.items }
     {
         self.place = Place::Item(next);
         match directive_of(alloc, &term)? {
@@ -158,8 +165,9 @@ impl Consult {
         ops: &OpTable,
         out: &mut Vec<u8>,
     ) -> Result<Taken, Memory>
-        ensures { (job : Job) (x : Execution) (next : ℕ) → Stands self.now job x out.old.items → self.now.place ≡ Item next
+        ensures took { (job : Job) (x : Execution) (next : ℕ) → Stands self.now job x out.old.items → self.now.place ≡ Item next
             → IfOk result (λ taken. Took taken self.now.name self.now job ops.now (with_clause x ops.now start next (clause_of_term term.now)) out.new.items) }
+        ensures item { goal_of_directive term.now ≡ None → IfOk result (IsTakenOf term.now) }
     {
         let checked = checked_clause(alloc, term)?;
         match checked {
@@ -179,6 +187,9 @@ impl Consult {
         ensures named { self.new.name ≡ self.old.name }
         ensures took { (job : Job) (x : Execution) (next : ℕ) (out : List ℕ) (ops : OperatorTable) → Stands self.old job x out → self.old.place ≡ Item next
             → IfOk result (λ taken. Took taken self.old.name self.new job ops (with_goal job x start next goal (goal_for_later goal)) out) }
+        ensures text { self.new.text.items ≡ self.old.text.items }
+        ensures item { (t : Tree) → goal_of_directive t ≡ Some goal → IfOk result (IsTakenOf t) }
+        ensures later { (t : Tree) → goal_of_directive t ≡ Some goal → MayPutOff t self.old.later.items self.new.later.items }
     {
         match initialization_of(alloc, &goal)? {
             None => Ok(Taken::Directive { goal, place: start }),
@@ -237,6 +248,9 @@ impl Consult {
             → IfOk result (λ g. Stands self.new job (next_initialization job x x.later) out
             × Initializes g job (next_initialization job x x.later).activity
             × (self.new.place ≡ self.old.place) × (self.new.name ≡ self.old.name)) }
+        ensures text { self.new.text.items ≡ self.old.text.items }
+        ensures goal { IfOk result (λ g. IsNextOf g self.old.later.items self.new.later.items) }
+        ensures later { HasLost self.old.later.items self.new.later.items }
     {
         match self.later.pop_front() {
             None => Ok(None),

@@ -5,6 +5,11 @@ use Rattle.world_api.specs.Texts.{text_of}
 use Rattle.first_script.specs.declared.stage.Stage.TheVariants.{Clause}
 use Rattle.first_script.proofs.AddLaws.{add_goes}
 use Rattle.first_script.proofs.StepLaws.{stayed, stay_after}
+use Rattle.first_script.proofs.NarrowLaws.{narrows_bare, narrows_same, added_asked, given_asked}
+use Rattle.std.proofs.Common.{◌∙◌, sym, subst}
+use Rattle.world_api.specs.Gains.{Gains}
+use Rattle.first_script.specs.ItemTexts.{MayIntern}
+use Rattle.first_script.specs.declared.stage.Stage.TheVariants.{Items}
 use Rattle.first_script.proofs.adds.add_clause.Goals as goal
 
 pub returns-in-Done-clause-moved : goal.returns-in-Done-clause-moved
@@ -37,3 +42,39 @@ returns-in-Stays-clause-stage g c =
 pub returns-in-Err-clause-stage : goal.returns-in-Err-clause-stage
 returns-in-Err-clause-stage g c =
     stay_after c.stopped.result (Clause c.args.clause c.args.place c.args.operators) c.stopped.ensures.stays refl
+
+pub returns-in-Done-clause-asked : goal.returns-in-Done-clause-asked
+returns-in-Done-clause-asked g c word =
+    added_asked word c.args.consult.now c.args.clause (term_by (text_of (g.W.A.Atoms.held c.interned.new.atoms)) c.in-Ok.kept) c.args.place c.args.operators
+    (g.W.World.told c.args.world.now) (g.W.A.Atoms.asked c.args.atoms.now) (g.W.A.Atoms.asked c.interned.new.atoms) (g.W.A.Atoms.asked c.add.new.atoms)
+    c.in-Ok.ensures.term c.in-Ok.ensures.asked c.in-Done.ensures.asked
+
+pub returns-in-Refused-clause-asked : goal.returns-in-Refused-clause-asked
+returns-in-Refused-clause-asked g c word =
+    added_asked word c.args.consult.now c.args.clause (term_by (text_of (g.W.A.Atoms.held c.interned.new.atoms)) c.in-Ok.kept) c.args.place c.args.operators
+    (g.W.World.told c.args.world.now) (g.W.A.Atoms.asked c.args.atoms.now) (g.W.A.Atoms.asked c.interned.new.atoms) (g.W.A.Atoms.asked c.refuse.new.atoms)
+    c.in-Ok.ensures.term c.in-Ok.ensures.asked (rw c.refuse.ensures.asked c.in-Refused.ensures.asked)
+
+pub returns-in-Stays-clause-asked : goal.returns-in-Stays-clause-asked
+returns-in-Stays-clause-asked g c word =
+    added_asked word c.args.consult.now c.args.clause (term_by (text_of (g.W.A.Atoms.held c.interned.new.atoms)) c.in-Ok.kept) c.args.place c.args.operators
+    (g.W.World.told c.args.world.now) (g.W.A.Atoms.asked c.args.atoms.now) (g.W.A.Atoms.asked c.interned.new.atoms) (g.W.A.Atoms.asked c.add.new.atoms)
+    c.in-Ok.ensures.term c.in-Ok.ensures.asked c.in-Stays.ensures.asked
+
+pub returns-in-Err-clause-asked : goal.returns-in-Err-clause-asked
+returns-in-Err-clause-asked g c word =
+    given_asked word c.args.consult.now (Clause c.args.clause c.args.place c.args.operators) c.args.clause (g.W.World.told c.args.world.now)
+    (g.W.A.Atoms.asked c.args.atoms.now) (g.W.A.Atoms.asked c.interned.new.atoms) refl c.in-Err.ensures.asked
+
+pub returns-in-Done-clause-narrows : goal.returns-in-Done-clause-narrows
+returns-in-Done-clause-narrows g c word =
+    narrows_bare word c.args.consult.now (Clause c.args.clause c.args.place c.args.operators) Items refl refl
+
+pub returns-in-Refused-clause-narrows : goal.returns-in-Refused-clause-narrows
+returns-in-Refused-clause-narrows g c word = c.refuse.ensures.narrows word c.args.clause
+
+pub returns-in-Stays-clause-narrows : goal.returns-in-Stays-clause-narrows
+returns-in-Stays-clause-narrows g c word = narrows_same word c.args.consult.now (Clause c.args.clause c.args.place c.args.operators)
+
+pub returns-in-Err-clause-narrows : goal.returns-in-Err-clause-narrows
+returns-in-Err-clause-narrows g c word = narrows_same word c.args.consult.now (Clause c.args.clause c.args.place c.args.operators)

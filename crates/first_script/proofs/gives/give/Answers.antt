@@ -3,6 +3,8 @@ use Rattle.term_store.specs.NumberedNames.{term_by}
 use Rattle.world_api.specs.Texts.{text_of}
 use Rattle.first_script.specs.declared.stage.Stage.TheVariants.{Directive}
 use Rattle.first_script.proofs.StepLaws.{given, stayed, stay_after}
+use Rattle.first_script.specs.declared.stage.Stage.TheVariants.{AtDirective}
+use Rattle.first_script.proofs.NarrowLaws.{narrows_bare, narrows_same}
 use Rattle.first_script.proofs.gives.give.Goals as goal
 
 pub returns-in-Ok-clause-moved : goal.returns-in-Ok-clause-moved
@@ -15,3 +17,9 @@ returns-in-Err-clause-moved g c file t out =
 
 pub returns-in-Err-clause-stage : goal.returns-in-Err-clause-stage
 returns-in-Err-clause-stage g c = stay_after c.stopped.result (Directive c.args.goal c.args.place) c.stopped.ensures.stays refl
+
+pub returns-in-Ok-clause-narrows : goal.returns-in-Ok-clause-narrows
+returns-in-Ok-clause-narrows g c word file = narrows_bare word file (Directive c.args.goal c.args.place) (AtDirective c.args.place) refl refl
+
+pub returns-in-Err-clause-narrows : goal.returns-in-Err-clause-narrows
+returns-in-Err-clause-narrows g c word file = narrows_same word file (Directive c.args.goal c.args.place)

@@ -2,6 +2,8 @@ use Rattle.std.proofs.Common.{refl}
 use Rattle.pl_term.specs.Tree.{Tree}
 use Rattle.first_script.specs.declared.stage.Stage.TheVariants.{Items}
 use Rattle.first_script.proofs.StepLaws.{stayed, stay_after, taken_after, item_moved, item_failed}
+use Rattle.pl_consult.specs.declared.consult.Taken.TheVariants.{Passed}
+use Rattle.first_script.proofs.NarrowLaws.{narrows_same, taken_narrows}
 use Rattle.first_script.proofs.items.take_item.Goals as goal
 
 pub returns-in-Stays-clause-moved : goal.returns-in-Stays-clause-moved
@@ -22,3 +24,16 @@ returns-in-Stays-clause-stage g c = stay_after c.in-Stays.next Items c.in-Stays.
 
 pub returns-in-Ok-clause-stage : goal.returns-in-Ok-clause-stage
 returns-in-Ok-clause-stage g c = rw c.stage_of.ensures (taken_after c.in-Ok.taken c.in-Standing.operators)
+
+pub returns-in-Stays-clause-narrows : goal.returns-in-Stays-clause-narrows
+returns-in-Stays-clause-narrows g c word = narrows_same word c.args.consult.now Items
+
+pub returns-in-Ok-clause-narrows : goal.returns-in-Ok-clause-narrows
+returns-in-Ok-clause-narrows g c word =
+    rw c.stage_of.ensures
+    (taken_narrows word c.args.consult.now c.take.new.self c.args.at c.in-Standing.operators c.in-Standing.quotes c.in-Ok.taken
+    c.in-Ok.ensures.text c.in-Ok.ensures.item c.in-Ok.ensures.later)
+
+pub returns-in-Err-clause-narrows : goal.returns-in-Err-clause-narrows
+returns-in-Err-clause-narrows g c word =
+    taken_narrows word c.args.consult.now c.take.new.self c.args.at c.in-Standing.operators c.in-Standing.quotes Passed c.in-Err.ensures.text tt c.in-Err.ensures.later

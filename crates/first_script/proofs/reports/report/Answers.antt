@@ -3,6 +3,7 @@ use Rattle.term_store.specs.NumberedNames.{names_of, term_by}
 use Rattle.world_api.specs.Texts.{text_of}
 use Rattle.first_script.specs.declared.stage.Stage.TheVariants.{Report}
 use Rattle.first_script.proofs.StepLaws.{stayed, stay_after, quiet_names, quiet_refusals}
+use Rattle.first_script.proofs.NarrowLaws.{narrows_same}
 use Rattle.first_script.proofs.reports.report.Goals as goal
 
 pub returns-in-Stays-clause-moved : goal.returns-in-Stays-clause-moved
@@ -24,3 +25,9 @@ returns-in-Standing-clause-refusals g c =
 
 pub returns-in-Stays-clause-stage : goal.returns-in-Stays-clause-stage
 returns-in-Stays-clause-stage g c = stay_after c.in-Stays.next (Report c.args.place c.args.how) c.in-Stays.ensures.looks.0 refl
+
+pub returns-in-Stays-clause-narrows : goal.returns-in-Stays-clause-narrows
+returns-in-Stays-clause-narrows g c word = narrows_same word c.args.consult.now (Report c.args.place c.args.how)
+
+pub returns-in-Standing-clause-narrows : goal.returns-in-Standing-clause-narrows
+returns-in-Standing-clause-narrows g c = c.report_under.ensures.narrows

@@ -8,6 +8,13 @@ use Rattle.first_script.specs.declared.stage.Step.{Step}
 use Rattle.first_script.specs.declared.stage.Step.TheVariants.{Goes, Gives}
 use Rattle.first_script.specs.Steps.{IsAfter, step_refusals}
 use Rattle.first_script.specs.FileScripts.{FileMoved, IsGiven, is_memory}
+use Rattle.world_api.proofs.Gaining.{gains_nothing}
+use Rattle.world_api.proofs.LaterLaws.{later_same, later_then}
+use Rattle.first_script.specs.ItemTexts.{MayIntern}
+use Rattle.first_script.proofs.NarrowLaws.{narrows_bare, narrows_same, narrows_then, step_more, handed_narrows}
+use Rattle.first_script.specs.declared.stage.Stage.TheVariants.{Lost}
+use Rattle.first_script.specs.declared.stage.Stage.{Stage}
+use Rattle.first_script.specs.ItemTexts.{Narrows}
 use Rattle.first_script.proofs.FileLaws.{goes_none, goes_then, handed, handed_by}
 use Rattle.first_script.proofs.file_script.FileScript.go_on.Goals as goal
 
@@ -20,6 +27,10 @@ loop-init g c =
       can = c.requires.can;
       lost = c.requires.lost;
       file = refl;
+      word = refl;
+      told = later_same (g.W.World.told c.args.world.now) (g.W.World.told c.args.world.now) refl;
+      narrows = narrows_same c.args.self.now.word c.args.self.now.consult c.args.stage;
+      asked = gains_nothing (MayIntern c.args.self.now.consult c.args.self.now.word c.args.stage (g.W.World.told c.args.world.now)) (g.W.A.Atoms.asked c.args.atoms.now) (g.W.A.Atoms.asked c.args.atoms.now) refl;
       faults = refl;
       moved = λ name. goes_none (λ (v : Tree). v) name c.args.self.now c.args.stage (g.W.World.told c.args.world.now) c.args.text.now.items;
     }
@@ -28,6 +39,10 @@ pub loop-preserved : goal.loop-preserved
 loop-preserved g c =
     let i = c.loop.invariant in
     let s = c.step-then in
+    let more =
+    step_more c.args.self.now.word c.loop.self.word c.args.self.now.consult c.loop.self.consult s.new.self.consult c.args.stage c.loop.stage s.result.0
+    (g.W.World.told c.args.world.now) (g.W.World.told c.loop.world) (g.W.A.Atoms.asked c.args.atoms.now) (g.W.A.Atoms.asked c.loop.atoms) (g.W.A.Atoms.asked s.new.atoms)
+    i.word i.narrows i.told i.asked s.ensures.narrows s.ensures.asked in
     record {
       runs = s.ensures.runs;
       holds = λ a t h. s.ensures.holds a t (i.holds a t h);
@@ -39,6 +54,10 @@ loop-preserved g c =
       can = subst (λ (p : Step). IsAfter p s.result.0) c.in-Goes.is s.ensures.stage;
       lost = s.ensures.kept ∙ i.lost;
       file = s.ensures.file ∙ i.file;
+      word = s.ensures.word ∙ i.word;
+      told = later_then (g.W.World.told c.args.world.now) (g.W.World.told c.loop.world) (g.W.World.told s.new.world) i.told s.ensures.told;
+      narrows = more.0;
+      asked = more.1;
       faults = s.ensures.faults ∙ i.faults;
       moved =
           λ name.
@@ -94,3 +113,36 @@ returns-in-Gives-clause-faults g c e =
     ap (λ (q : FileScript). q.faulty) (h.ensures.stage (sym (ap is_memory h.ensures.next) ∙ e))
     ∙ ap₂ (λ a b. a || b) (s.ensures.faults ∙ c.loop.invariant.faults)
     (c.has_grown.ensures ∙ ap₂ (λ n l. nat_lt n (length l)) c.requires.before c.as_slice.ensures.value)
+
+pub returns-in-Gives-clause-told : goal.returns-in-Gives-clause-told
+returns-in-Gives-clause-told g c =
+    later_then (g.W.World.told c.args.world.now) (g.W.World.told c.loop.world) (g.W.World.told c.step-then.new.world) c.loop.invariant.told c.step-then.ensures.told
+
+pub returns-in-Gives-clause-asked : goal.returns-in-Gives-clause-asked
+returns-in-Gives-clause-asked g c =
+    let i = c.loop.invariant in
+    let s = c.step-then in
+    (step_more c.args.self.now.word c.loop.self.word c.args.self.now.consult c.loop.self.consult s.new.self.consult c.args.stage c.loop.stage s.result.0
+    (g.W.World.told c.args.world.now) (g.W.World.told c.loop.world) (g.W.A.Atoms.asked c.args.atoms.now) (g.W.A.Atoms.asked c.loop.atoms) (g.W.A.Atoms.asked s.new.atoms)
+    i.word i.narrows i.told i.asked s.ensures.narrows s.ensures.asked).1
+
+pub returns-in-Gives-clause-narrows : goal.returns-in-Gives-clause-narrows
+returns-in-Gives-clause-narrows g c =
+    let i = c.loop.invariant in
+    let s = c.step-then in
+    let h = c.hand_out in
+    handed_narrows c.args.self.now.word c.args.self.now.consult s.new.self.consult h.new.self.consult c.args.stage s.result.0 s.new.self.stage h.new.self.stage
+    (step_more c.args.self.now.word c.loop.self.word c.args.self.now.consult c.loop.self.consult s.new.self.consult c.args.stage c.loop.stage s.result.0
+    (g.W.World.told c.args.world.now) (g.W.World.told c.loop.world) (g.W.A.Atoms.asked c.args.atoms.now) (g.W.A.Atoms.asked c.loop.atoms) (g.W.A.Atoms.asked s.new.atoms)
+    i.word i.narrows i.told i.asked s.ensures.narrows s.ensures.asked).0
+    h.ensures.consult h.ensures.stands (s.ensures.kept ∙ i.lost)
+
+pub returns-in-Gives-clause-word : goal.returns-in-Gives-clause-word
+returns-in-Gives-clause-word g c = c.hand_out.ensures.word ∙ (c.step-then.ensures.word ∙ c.loop.invariant.word)
+
+pub returns-clause-narrows : goal.returns-clause-narrows
+returns-clause-narrows g c =
+    let i = c.loop.invariant in
+    subst (λ (k : Stage). Narrows c.args.self.now.word c.args.self.now.consult c.args.stage c.loop.self.consult k) (sym i.lost)
+    (narrows_then c.args.self.now.word c.args.self.now.consult c.loop.self.consult c.loop.self.consult c.args.stage c.loop.stage Lost i.narrows
+    (narrows_bare c.args.self.now.word c.loop.self.consult c.loop.stage Lost refl refl))

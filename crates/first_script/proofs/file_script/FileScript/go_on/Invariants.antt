@@ -2,9 +2,12 @@ use Rattle.std.proofs.Common.{◌≡◌, true, false}
 use Rattle.pl_term.specs.Tree.{Chars, Tree}
 use Rattle.world_api.specs.Texts.{Holds}
 use Rattle.world_api.specs.Told.{has_ended}
+use Rattle.world_api.specs.Gains.{Gains}
+use Rattle.world_api.specs.Scripts.{IsLater}
 use Rattle.first_script.specs.declared.stage.Stage.TheVariants.{Lost}
 use Rattle.first_script.specs.declared.stage.Step.TheVariants.{Goes}
 use Rattle.first_script.specs.Steps.{can_step}
+use Rattle.first_script.specs.ItemTexts.{MayIntern, Narrows}
 use Rattle.first_script.specs.FileScripts.{FileMoved}
 use Rattle.first_script.proofs.file_script.FileScript.go_on.Given as goal
 
@@ -17,6 +20,12 @@ invariant-loop g l =
       can : can_step l.stage ≡ true;
       lost : l.self.stage ≡ Lost;
       file : l.self.consult.name ≡ l.initial.self.consult.name;
+      word : l.self.word ≡ l.initial.self.word;
+      told : IsLater (g.W.World.told l.initial.world) (g.W.World.told l.world);
+      narrows : Narrows l.initial.self.word l.initial.self.consult l.initial.stage l.self.consult l.stage;
+      asked :
+          Gains (MayIntern l.initial.self.consult l.initial.self.word l.initial.stage (g.W.World.told l.initial.world)) (g.W.A.Atoms.asked l.initial.atoms)
+          (g.W.A.Atoms.asked l.atoms);
       faults : l.self.faulty ≡ l.initial.self.faulty;
       moved :
           (name : Chars)

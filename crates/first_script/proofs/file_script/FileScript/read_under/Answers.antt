@@ -2,6 +2,8 @@ use Rattle.std.proofs.Common.{◌∷◌, [], map, ap, sym, ◌∙◌}
 use Rattle.pl_model.specs.Execution.{word_read}
 use Rattle.first_script.specs.declared.stage.Stage.TheVariants.{Words}
 use Rattle.first_script.specs.Words.{given_words}
+use Rattle.first_script.specs.declared.file_script.FileScript.{FileScript}
+use Rattle.first_script.proofs.NarrowLaws.{over_narrows}
 use Rattle.first_script.proofs.FileLaws.{begun_moved, end_moved, read_failed}
 use Rattle.first_script.proofs.file_script.FileScript.read_under.Goals as goal
 
@@ -19,3 +21,8 @@ returns-in-Ok-clause-moved c name term t u out l =
 pub returns-in-Err-clause-moved : goal.returns-in-Err-clause-moved
 returns-in-Err-clause-moved c name term t u out l =
     read_failed term name c.args.self.now c.args.operators.now c.args.quotes t u out l c.args.self.now Words
+
+pub returns-in-None-clause-narrows : goal.returns-in-None-clause-narrows
+returns-in-None-clause-narrows c =
+    over_narrows c.args.self.now.word c.args.self.now.consult c.end.new.self.consult c.end.result.0 (ap (λ (s : FileScript). s.consult) c.end.ensures.read)
+    c.end.ensures.over

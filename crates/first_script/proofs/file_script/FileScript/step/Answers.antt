@@ -1,4 +1,6 @@
-use Rattle.std.proofs.Common.{refl, sym, subst}
+use Rattle.std.proofs.Common.{refl, ap, sym, subst}
+use Rattle.first_script.specs.ItemTexts.{stage_texts}
+use Rattle.first_script.proofs.NarrowLaws.{given_asked}
 use Rattle.term_store.specs.NumberedNames.{term_by}
 use Rattle.world_api.specs.Texts.{text_of}
 use Rattle.first_script.specs.declared.stage.Stage.{Stage}
@@ -28,3 +30,13 @@ returns-in-Goal-clause-moved g c name =
     (file_moved (term_by (text_of (g.W.A.Atoms.held c.give_goal.new.atoms))) name c.args.self.now c.args.self.now (Goal c.in-Goal.goal) c.give_goal.result.0
     (g.W.World.told c.args.world.now) (g.W.World.told c.args.world.now) c.args.text.now.items c.args.text.now.items c.give_goal.result.1 refl refl
     (c.give_goal.ensures.moved c.args.self.now.consult (g.W.World.told c.args.world.now) c.args.text.now.items))
+
+pub returns-in-Directive-clause-asked : goal.returns-in-Directive-clause-asked
+returns-in-Directive-clause-asked g c =
+    given_asked c.args.self.now.word c.args.self.now.consult c.args.stage c.in-Directive.goal (g.W.World.told c.args.world.now)
+    (g.W.A.Atoms.asked c.args.atoms.now) (g.W.A.Atoms.asked c.give_directive.new.atoms) (ap stage_texts c.in-Directive.is) c.give_directive.ensures.asked
+
+pub returns-in-Goal-clause-asked : goal.returns-in-Goal-clause-asked
+returns-in-Goal-clause-asked g c =
+    given_asked c.args.self.now.word c.args.self.now.consult c.args.stage c.in-Goal.goal (g.W.World.told c.args.world.now)
+    (g.W.A.Atoms.asked c.args.atoms.now) (g.W.A.Atoms.asked c.give_goal.new.atoms) (ap stage_texts c.in-Goal.is) c.give_goal.ensures.asked

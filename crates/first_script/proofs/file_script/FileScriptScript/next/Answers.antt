@@ -7,6 +7,12 @@ use Rattle.first_script.specs.declared.stage.Stage.{Stage}
 use Rattle.first_script.specs.declared.stage.Step.TheVariants.{Gives}
 use Rattle.first_script.specs.Steps.{can_step}
 use Rattle.first_script.specs.FileScripts.{FileMoved, is_over, part_in}
+use Rattle.world_api.specs.Gains.{Gains}
+use Rattle.world_api.proofs.Gaining.{gains_nothing}
+use Rattle.world_api.proofs.LaterLaws.{later_same}
+use Rattle.first_script.specs.declared.stage.Stage.TheVariants.{Lost, Over}
+use Rattle.first_script.specs.ItemTexts.{MayIntern, clause_at, stage_texts}
+use Rattle.first_script.proofs.NarrowLaws.{from_bare, narrows_bare, narrows_then, no_goal_at, no_goal_in, own_requests, own_texts, left_requests, left_texts}
 use Rattle.first_script.proofs.GivenLaws.{given_open, given_behind, given_end, given_lost, lost_last}
 use Rattle.first_script.proofs.file_script.FileScriptScript.next.Goals as goal
 
@@ -69,4 +75,75 @@ returns g c =
       runs = c.requires.runs;
       holds = λ a t h. h;
       refusals = sym (append-nil (g.W.A.Atoms.refusals c.args.atoms.now));
+      told = later_same (g.W.World.told c.args.world.now) (g.W.World.told c.args.world.now) refl;
+      asked = gains_nothing _ (g.W.A.Atoms.asked c.args.atoms.now) (g.W.A.Atoms.asked c.args.atoms.now) refl;
+      texts =
+          left_texts c.args.self.now.word c.args.self.now.consult c.args.self.now.stage c.replace-stage.new.dest Lost c.replace-stage.ensures.after refl refl;
+      asks =
+          left_requests c.args.self.now.word c.args.self.now.consult c.args.self.now.stage c.replace-stage.new.dest Lost c.replace-stage.ensures.after refl refl;
+      words = λ e job cs. refl;
     }
+
+pub returns-then-can_step-clause-asked : goal.returns-then-can_step-clause-asked
+returns-then-can_step-clause-asked g c =
+    let s = c.args.self.now in
+    subst
+    (λ (k : Stage).
+    Gains (MayIntern s.consult s.word k (g.W.World.told c.args.world.now)) (g.W.A.Atoms.asked c.args.atoms.now) (g.W.A.Atoms.asked c.go_on.new.atoms))
+    c.replace-stage.ensures.value
+    c.go_on.ensures.asked
+
+pub returns-then-can_step-clause-texts : goal.returns-then-can_step-clause-texts
+returns-then-can_step-clause-texts g c =
+    own_texts c.args.self.now c.go_on.new.self _ c.replace-stage.ensures.value c.go_on.ensures.word c.go_on.ensures.narrows
+
+pub returns-then-can_step-clause-asks : goal.returns-then-can_step-clause-asks
+returns-then-can_step-clause-asks g c = own_requests c.args.self.now c.go_on.new.self _ c.replace-stage.ensures.value c.go_on.ensures.narrows
+
+pub returns-then-can_step-clause-words : goal.returns-then-can_step-clause-words
+returns-then-can_step-clause-words g c is =
+    absurd
+    (no_goal_at c.args.self.now.consult.place c.args.self.now.stage
+    (ap can_step (sym c.replace-stage.ensures.value) ∙ sym c.can_step.ensures ∙ c.if-can_step.true)
+    is)
+
+pub returns-in-Ok-clause-asked : goal.returns-in-Ok-clause-asked
+returns-in-Ok-clause-asked g c =
+    let s = c.args.self.now in
+    from_bare s.word s.consult s.stage c.in-Ok.stage (g.W.World.told c.args.world.now) (g.W.A.Atoms.asked c.args.atoms.now)
+    (g.W.A.Atoms.asked c.go_on-in-Ok.new.atoms) (ap stage_texts c.in-Ok.ensures.2) (ap clause_at c.in-Ok.ensures.2) c.go_on-in-Ok.ensures.asked
+
+pub returns-in-Ok-clause-texts : goal.returns-in-Ok-clause-texts
+returns-in-Ok-clause-texts g c =
+    let s = c.args.self.now in
+    let d = c.go_on-in-Ok in
+    own_texts s d.new.self s.stage refl d.ensures.word
+    (narrows_then s.word s.consult s.consult d.new.self.consult s.stage c.in-Ok.stage d.new.self.stage
+    (narrows_bare s.word s.consult s.stage c.in-Ok.stage (ap stage_texts c.in-Ok.ensures.2) (ap clause_at c.in-Ok.ensures.2)) d.ensures.narrows)
+
+pub returns-in-Ok-clause-asks : goal.returns-in-Ok-clause-asks
+returns-in-Ok-clause-asks g c =
+    let s = c.args.self.now in
+    let d = c.go_on-in-Ok in
+    own_requests s d.new.self s.stage refl
+    (narrows_then s.word s.consult s.consult d.new.self.consult s.stage c.in-Ok.stage d.new.self.stage
+    (narrows_bare s.word s.consult s.stage c.in-Ok.stage (ap stage_texts c.in-Ok.ensures.2) (ap clause_at c.in-Ok.ensures.2)) d.ensures.narrows)
+
+pub returns-in-Ok-clause-words : goal.returns-in-Ok-clause-words
+returns-in-Ok-clause-words g c is =
+    absurd
+    (no_goal_in c.args.self.now.consult.place c.args.self.now.stage c.in-AtDirective.place (sym c.replace-stage.ensures.value ∙ c.in-AtDirective.is) is)
+
+pub returns-in-AtDirective-clause-texts : goal.returns-in-AtDirective-clause-texts
+returns-in-AtDirective-clause-texts g c =
+    left_texts c.args.self.now.word c.args.self.now.consult c.args.self.now.stage c.replace-stage.new.dest Lost c.replace-stage.ensures.after refl refl
+
+pub returns-in-AtDirective-clause-asks : goal.returns-in-AtDirective-clause-asks
+returns-in-AtDirective-clause-asks g c =
+    left_requests c.args.self.now.word c.args.self.now.consult c.args.self.now.stage c.replace-stage.new.dest Lost c.replace-stage.ensures.after refl refl
+
+pub returns-in-AtGoal-clause-texts : goal.returns-in-AtGoal-clause-texts
+returns-in-AtGoal-clause-texts g c = left_texts c.args.self.now.word c.args.self.now.consult c.args.self.now.stage Over Over refl refl refl
+
+pub returns-in-AtGoal-clause-asks : goal.returns-in-AtGoal-clause-asks
+returns-in-AtGoal-clause-asks g c = left_requests c.args.self.now.word c.args.self.now.consult c.args.self.now.stage Over Over refl refl refl
