@@ -51,7 +51,7 @@ module _ {S : Type 0} (execution : (ℕ → Chars) → S → Job → List Consul
           (record { item = of_goal; state = v; at_hand = at; is = refl }, h job of_goal (execution (text_of m) s job cs) has wants)
       stands (ran.NeedsAtoms p) n h = tt
       stands (ran.Worn p) n h = tt
-      stands (ran.Missing p) n h = (record { item = of_goal; state = v; at_hand = at; is = refl }, h.0 of_goal (execution (text_of m) s job cs), h.1)
+      stands (ran.Missing p) n h = (record { item = of_goal; state = v; at_hand = at; is = refl }, h)
 
   -- The script was told, and has no further item.
   pub is_closed : (m n : Names) (t u : Told) (old new : S) (bytes more : List ℕ) (r : Ran) (how : How Tree) (given_how : Option (How Tree)) (h : Option ℕ)

@@ -111,7 +111,7 @@ module _ (budgets : Budgets) (wanted : ℕ) (e : Engine) (fresh : IsFresh budget
     stands_there (Worn w) r h is = subst (λ k. StandsSo budgets wanted n u there k) (sym is) tt
     stands_there (Missing p) r h is =
         subst (λ k. StandsSo budgets wanted n u there k) (sym is)
-        (λ part x. record { at = x; part = part; engine = f; written = came.ran.written; is = refl; missing = h }, h)
+        (record { name = h.name; held = h.held; next = h.next })
 
     pub has_searched : (r : Ran) → IsRanBy n f s r → HasSearched put budgets wanted m t goal a n u b r
     has_searched r is = record { state = there; comes = comes_there; out = came.ran.out; stands = stands_there s r came.stands is }

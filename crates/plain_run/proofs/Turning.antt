@@ -20,7 +20,7 @@ use Rattle.world_api.specs.declared.script.Next.TheVariants.{Item, NeedsAtoms, R
 use Rattle.world_api.specs.Texts.{Holds, text_of}
 use Rattle.world_api.specs.Told.{Told}
 use Rattle.world_api.specs.Courses.{Part, of_goal, of_directive, limits_of, with_search}
-use Rattle.world_api.specs.Scripts.{Comes, Given, StandsBefore, is_directive, is_fault, some_fault, texts_at, written_at}
+use Rattle.world_api.specs.Scripts.{Comes, Given, IsAtHand, StandsBefore, is_directive, is_fault, some_fault, texts_at, written_at}
 use Rattle.world_api.proofs.ComesLaws.{comes_then}
 use Rattle.world_api.proofs.OnceLaws.{same_texts}
 use Rattle.iso_search.specs.declared.search.Budgets.{Budgets}
@@ -29,8 +29,8 @@ use Rattle.plain_run.specs.declared.items.Turn.{Turn}
 use Rattle.plain_run.specs.declared.items.Turn.TheVariants.{Goes, Stops}
 use Rattle.plain_run.specs.declared.ran.Ran.{Ran}
 use Rattle.plain_run.specs.declared.ran.Ran.TheVariants as ran
-use Rattle.plain_run.specs.Ran.{HasBudgets, HasSearched, StandsSo, at_start_of}
-use Rattle.plain_run.specs.Items.{HasTurned, IsText, IsTurnBy, TurnStands, turn_names}
+use Rattle.plain_run.specs.Ran.{HasBudgets, HasSearched, IsNameHeld, StandsSo, at_start_of}
+use Rattle.plain_run.specs.Items.{HasTurned, IsDirectiveAsked, IsDirectiveIn, IsNameHeldBy, IsText, IsTurnAtHand, IsTurnBy, TurnStands, turn_names}
 
 or_false : (b : Bool) → (b || false) ≡ b
 or_false true = refl
@@ -158,7 +158,7 @@ module _ {S : Type 0} (execution : (ℕ → Chars) → S → Job → List Consul
           subst (λ (q : Turn). TurnStands execution part plays kept name budgets k v new job ds q (with_search (execution (text_of k) new job ds) p s)) (sym is) tt
       stands_by job ds p s (ran.Missing q) turn has wants at is h =
           subst (λ (q : Turn). TurnStands execution part plays kept name budgets k v new job ds q (with_search (execution (text_of k) new job ds) p s)) (sym is)
-          (record { item = p; state = s; at_hand = at; is = refl }, h.0 p (execution (text_of k) new job ds), h.1)
+          (record { item = p; state = s; at_hand = at; is = refl }, h)
 
       pub is_directed : (r : Ran) (turn : Turn) → HasSearched texts budgets 1 n u goal more k v last r → IsTurnBy r turn
           → HasTurned execution part plays kept name budgets m t old how bytes turn k v new last
@@ -188,6 +188,53 @@ module _ {S : Type 0} (execution : (ℕ → Chars) → S → Job → List Consul
             ),
           )
 
+-- The item at hand is the directive that was given.
+pub directive_in : (o : Option Part) (goal : Tree) (d : Bool) → d ≡ true → (let next : Next Tree = Item goal d in IsAtHand next o) → IsDirectiveIn o
+directive_in None goal d is h = h
+directive_in (Some p) goal d is h = h ∙ is
+
+asked_of : (o : Option Part) (how : How Tree) → IsDirectiveIn o → IsDirectiveAsked o (Some how)
+asked_of None how h = h
+asked_of (Some p) how h = h
+
+pub turn_at_hand : (o : Option Part) (r : Ran) (turn : Turn) → IsDirectiveIn o → IsTurnBy r turn → IsTurnAtHand turn o
+turn_at_hand o (ran.Ended how) turn h is = subst (λ (q : Turn). IsTurnAtHand q o) (sym is) (asked_of o how h)
+turn_at_hand o (ran.Waits on) turn h is = subst (λ (q : Turn). IsTurnAtHand q o) (sym is) h
+turn_at_hand o (ran.NeedsAtoms p) turn h is = subst (λ (q : Turn). IsTurnAtHand q o) (sym is) tt
+turn_at_hand o (ran.Worn w) turn h is = subst (λ (q : Turn). IsTurnAtHand q o) (sym is) tt
+turn_at_hand o (ran.Missing p) turn h is = subst (λ (q : Turn). IsTurnAtHand q o) (sym is) tt
+
+some_there : (o : Option Chars) → IsSome o → (x : Chars) × (o ≡ Some x)
+some_there (Some x) h = (x, refl)
+some_there None h = absurd (true≢false (sym h))
+
+-- What is held stays held.
+pub still : (m n : Names) → Holds m n → (a : ℕ) → IsSome (m a) → IsSome (n a)
+still m n holds a h = let x = some_there (m a) h in ap is_some (holds a x.0 x.1)
+
+-- The name of a predicate that is not built is held.
+pub name_held : (put : Chars → List Output → Chars) (b : Budgets) (wanted : ℕ) (m n : Names) (t u : Told) (goal : Tree) (old new : List ℕ) (r : Ran) → HasSearched put b wanted m t goal old n u new r
+    → IsNameHeld n r
+name_held put b wanted m n t u goal old new (ran.Ended how) h = tt
+name_held put b wanted m n t u goal old new (ran.Waits on) h = tt
+name_held put b wanted m n t u goal old new (ran.NeedsAtoms p) h = tt
+name_held put b wanted m n t u goal old new (ran.Worn w) h = tt
+name_held put b wanted m n t u goal old new (ran.Missing p) h = ap is_some h.stands.held
+
+pub name_held_by : (n : Names) (r : Ran) (turn : Turn) → IsNameHeld n r → IsTurnBy r turn → IsNameHeldBy n turn
+name_held_by n (ran.Ended how) turn h is = subst (λ (q : Turn). IsNameHeldBy n q) (sym is) tt
+name_held_by n (ran.Waits on) turn h is = subst (λ (q : Turn). IsNameHeldBy n q) (sym is) tt
+name_held_by n (ran.NeedsAtoms p) turn h is = subst (λ (q : Turn). IsNameHeldBy n q) (sym is) tt
+name_held_by n (ran.Worn w) turn h is = subst (λ (q : Turn). IsNameHeldBy n q) (sym is) tt
+name_held_by n (ran.Missing p) turn h is = subst (λ (q : Turn). IsNameHeldBy n q) (sym is) h
+
+pub still_named : (m n : Names) (r : Ran) → Holds m n → IsNameHeld m r → IsNameHeld n r
+still_named m n (ran.Ended how) holds h = tt
+still_named m n (ran.Waits on) holds h = tt
+still_named m n (ran.NeedsAtoms p) holds h = tt
+still_named m n (ran.Worn w) holds h = tt
+still_named m n (ran.Missing p) holds h = still m n holds p.name h
+
 -- A search of a directive gives no goal.
 pub none_named : (r : Ran) (turn : Turn) → IsTurnBy r turn → turn_names turn ≡ []
 none_named (ran.Ended how) turn is = ap turn_names is
@@ -210,11 +257,3 @@ front_of P xs ys h = All-from_recursion P xs (front_by P xs ys (recursion_from_A
 
 pub back_of : {X : Type 0} (P : X → Type 0) (xs ys : List X) → All P (xs ++ ys) → All P ys
 back_of P xs ys h = All-from_recursion P ys (back_by P xs ys (recursion_from_All P (xs ++ ys) h))
-
-some_there : (o : Option Chars) → IsSome o → (x : Chars) × (o ≡ Some x)
-some_there (Some x) h = (x, refl)
-some_there None h = absurd (true≢false (sym h))
-
--- What is held stays held.
-pub still : (m n : Names) → Holds m n → (a : ℕ) → IsSome (m a) → IsSome (n a)
-still m n holds a h = let x = some_there (m a) h in ap is_some (holds a x.0 x.1)

@@ -1,5 +1,5 @@
 -- The items of a script, run one after the other.
-use Rattle.std.specs.Prelude.{◌≡◌, ℕ, List, [], ◌∷◌, Bool, true, false, Option, Some, None, encode_utf8_all}
+use Rattle.std.specs.Prelude.{◌≡◌, ℕ, List, [], ◌∷◌, Bool, true, false, Option, Some, None, IsSome, encode_utf8_all}
 use Rattle.pl_term.specs.Tree.{Chars, Tree}
 use Rattle.pl_model.specs.Resolution.{Ending, Output, State}
 use Rattle.pl_model.specs.Execution.{Script, Job, Consulted, Execution, over}
@@ -15,14 +15,13 @@ use Rattle.world_api.specs.Told.{Told}
 use Rattle.world_api.specs.Courses.{Part, of_goal, seen_in, with_search}
 use Rattle.world_api.specs.Scripts.{Comes, EndsAs, LeavesOff, StandsBefore, is_directive, some_fault, written_at}
 use Rattle.iso_search.specs.declared.search.Budgets.{Budgets}
-use Rattle.iso_engine.specs.Missing.{IsUnbuiltDoing}
 use Rattle.plain_run.specs.declared.items.Items.{Items}
 use Rattle.plain_run.specs.declared.items.Items.TheVariants.{Goal, Over, Waits, NeedsAtoms, Worn, Missing}
 use Rattle.plain_run.specs.declared.items.Turn.{Turn}
 use Rattle.plain_run.specs.declared.items.Turn.TheVariants.{Goes, Stops}
 use Rattle.plain_run.specs.declared.ran.Ran.{Ran}
 use Rattle.plain_run.specs.declared.ran.Ran.TheVariants as ran
-use Rattle.plain_run.specs.Ran.{HasBudgets, IsMissingIn, StandsSo, at_start_of}
+use Rattle.plain_run.specs.Ran.{HasBudgets, IsUnbuiltBy, StandsSo, at_start_of}
 
 -- The refusal for which the items do not go on.
 abbrev pub items_refusals : Items → List Refusal
@@ -43,6 +42,15 @@ abbrev pub turn_names : Turn → List ℕ
 turn_names (Goes how) = []
 turn_names (Stops i) = items_names i
 
+-- The name of a predicate that is not built is held.
+abbrev pub IsNameHeldIn : Names → Items → Type 0
+IsNameHeldIn n (Missing p) = IsSome (n p.name)
+IsNameHeldIn n i = Unit {0}
+
+abbrev pub IsNameHeldBy : Names → Turn → Type 0
+IsNameHeldBy n (Goes how) = Unit {0}
+IsNameHeldBy n (Stops i) = IsNameHeldIn n i
+
 abbrev pub is_over : Items → Bool
 is_over (Over h) = true
 is_over i = false
@@ -51,9 +59,15 @@ abbrev pub is_over_by : Turn → Bool
 is_over_by (Goes how) = false
 is_over_by (Stops i) = is_over i
 
--- The goal that was given is the item at hand.
+-- A directive is the item at hand.
+abbrev pub IsDirectiveIn : Option Part → Type 0
+IsDirectiveIn None = ⊥
+IsDirectiveIn (Some p) = is_directive p ≡ true
+
+-- The goal that was given is the item at hand; where a request waits, it is a directive's.
 abbrev pub IsGoalAtHand : Items → Option Part → Type 0
 IsGoalAtHand (Goal t) o = o ≡ Some of_goal
+IsGoalAtHand (Waits on) o = IsDirectiveIn o
 IsGoalAtHand i o = Unit {0}
 
 -- A directive at hand has ended, or there is none.
@@ -78,6 +92,11 @@ module _ {S : Type 0} (execution : (ℕ → Chars) → S → Job → List Consul
     pub at_hand : part s ≡ Some item
     pub is : y ≡ with_search (execution (text_of n) s job ds) item state
 
+  -- The words of the command's goals are as they were.
+  abbrev pub HasWords : Names → S → Names → S → Type 0
+  HasWords m old n new =
+      (job : Job) (cs : List Consulted) → (execution (text_of n) new job cs).words ≡ (execution (text_of m) old job cs).words
+
   -- Where the items do not go on: the goal's search is at its start; or the engine has ended, solved or by halt/1; or its
   -- next request waits; or its next step is of a predicate that is not built.
   abbrev pub StandsAs : (S → Option Part) → Names → Told → S → Job → List Consulted → Items → Execution → Type 0
@@ -89,7 +108,7 @@ module _ {S : Type 0} (execution : (ℕ → Chars) → S → Job → List Consul
   StandsAs part n u s job ds (Waits on) y = IsSearchedIn part n s job ds y × WaitsNow u.engine u.goals job (seen_in u y)
   StandsAs part n u s job ds (NeedsAtoms p) y = Unit {0}
   StandsAs part n u s job ds (Worn w) y = Unit {0}
-  StandsAs part n u s job ds (Missing p) y = (h : IsSearchedIn part n s job ds y) × IsMissingIn n u y × IsUnbuiltDoing h.state.doing
+  StandsAs part n u s job ds (Missing p) y = (h : IsSearchedIn part n s job ds y) × IsUnbuiltBy n p h.state.doing
 
   -- Where the goal's search does not go on: the engine has ended so.
   abbrev pub GoalStandsAs : (S → Option Part) → Names → Told → S → Job → List Consulted → Ran → Execution → Type 0
@@ -100,7 +119,7 @@ module _ {S : Type 0} (execution : (ℕ → Chars) → S → Job → List Consul
   GoalStandsAs part n u s job ds (ran.Waits on) y = IsSearchedIn part n s job ds y × WaitsNow u.engine u.goals job (seen_in u y)
   GoalStandsAs part n u s job ds (ran.NeedsAtoms p) y = Unit {0}
   GoalStandsAs part n u s job ds (ran.Worn w) y = Unit {0}
-  GoalStandsAs part n u s job ds (ran.Missing p) y = (h : IsSearchedIn part n s job ds y) × IsMissingIn n u y × IsUnbuiltDoing h.state.doing
+  GoalStandsAs part n u s job ds (ran.Missing p) y = (h : IsSearchedIn part n s job ds y) × IsUnbuiltBy n p h.state.doing
 
   module _ (part : S → Option Part) (plays : (ℕ → Chars) → S → Script → Type 0) (kept : S → Bool) (name : Chars) (budgets : Budgets) where
     -- Whatever execution of this script it is, it comes from where no item is at hand to where the items do not go on, and

@@ -1,7 +1,7 @@
 -- The search of a goal, from its start to where it does not go on, as a part of whatever execution.
-use Rattle.std.specs.Prelude.{◌≡◌, ℕ, List, [], ◌∷◌, encode_utf8_all}
+use Rattle.std.specs.Prelude.{◌≡◌, ℕ, List, [], ◌∷◌, Some, IsSome, encode_utf8_all}
 use Rattle.pl_term.specs.Tree.{Chars, Tree}
-use Rattle.pl_model.specs.Resolution.{Limits, Ending, ended, Output, State}
+use Rattle.pl_model.specs.Resolution.{Limits, Doing, Ending, ended, Output, State}
 use Rattle.pl_model.specs.Control.{start}
 use Rattle.pl_model.specs.Execution.{Job, Execution}
 use Rattle.pl_model.specs.Progress.{WaitsNow}
@@ -9,15 +9,14 @@ use Rattle.atom_words.specs.declared.view.Refusal.{Refusal}
 use Rattle.atom_words.specs.declared.view.Refusal.TheVariants.{Full as RefusalFull, Worn as RefusalWorn}
 use Rattle.atom_api.specs.Names.{Names}
 use Rattle.term_store.specs.NumberedNames.{term_by}
+use Rattle.world_api.specs.declared.visit.Procedure.{Procedure}
 use Rattle.world_api.specs.Texts.{text_of}
 use Rattle.world_api.specs.Told.{Told}
 use Rattle.world_api.specs.Courses.{Part, limits_of, seen_in, with_search}
 use Rattle.world_api.specs.Scripts.{Comes, EndsAs}
 use Rattle.iso_search.specs.declared.search.Budgets.{Budgets}
 use Rattle.iso_engine.specs.declared.engine.Engine.{Engine}
-use Rattle.iso_engine.specs.Later.{view_of}
-use Rattle.iso_engine.specs.Missing.{IsMissing, IsUnbuiltDoing}
-use Rattle.iso_engine.specs.Standing.{state_now}
+use Rattle.iso_engine.specs.Missing.{IsUnbuiltDoing}
 use Rattle.plain_run.specs.declared.ran.Ran.{Ran}
 use Rattle.plain_run.specs.declared.ran.Ran.TheVariants.{Ended, Waits, NeedsAtoms, Worn, Missing}
 use Rattle.plain_run.specs.declared.searched.Searched.{Searched}
@@ -34,14 +33,11 @@ pub record HasBudgets (b : Budgets) (l : Limits) : Type 0 where
 abbrev pub at_start_of : Job → Part → Names → Tree → Execution → Execution
 at_start_of job part m goal x = with_search x part (start (limits_of job part) (term_by (text_of m) goal))
 
--- Its next step is of a predicate that is not built.
-pub record IsMissingIn (n : Names) (u : Told) (y : Execution) : Type 0 where
-  pub at : Execution
-  pub part : Part
-  pub engine : Engine
-  pub written : List Output
-  pub is : y ≡ with_search at part (state_now (view_of n u) engine written)
-  pub missing : IsMissing n u engine
+-- The next step of a search that does this is of this predicate, which is not built.
+pub record IsUnbuiltBy (n : Names) (p : Procedure) (d : Doing) : Type 0 where
+  pub name : Chars
+  pub held : n p.name ≡ Some name
+  pub next : IsUnbuiltDoing (record { name = name; arity = p.arity }) d
 
 -- How a search stands where it does not go on.
 module _ (budgets : Budgets) (wanted : ℕ) (n : Names) (u : Told) (s : State) where
@@ -51,7 +47,7 @@ module _ (budgets : Budgets) (wanted : ℕ) (n : Names) (u : Told) (s : State) w
       → WaitsNow u.engine u.goals job (seen_in u (with_search x part s))
   StandsSo (NeedsAtoms p) = Unit {0}
   StandsSo (Worn w) = Unit {0}
-  StandsSo (Missing p) = ((part : Part) (x : Execution) → IsMissingIn n u (with_search x part s)) × IsUnbuiltDoing s.doing
+  StandsSo (Missing p) = IsUnbuiltBy n p s.doing
 
 -- The search of this goal came to a state in which it does not go on, and what was written stands behind the text.
 pub record HasSearched (put : Chars → List Output → Chars) (budgets : Budgets) (wanted : ℕ) (m : Names) (t : Told) (goal : Tree) (old_out : List ℕ) (n : Names) (u : Told) (new_out : List ℕ) (r : Ran) : Type 0 where
@@ -69,6 +65,11 @@ abbrev pub ran_refusals : Ran → List Refusal
 ran_refusals (NeedsAtoms p) = RefusalFull p ∷ []
 ran_refusals (Worn w) = RefusalWorn w ∷ []
 ran_refusals r = []
+
+-- The name of a predicate that is not built is held.
+abbrev pub IsNameHeld : Names → Ran → Type 0
+IsNameHeld n (Missing p) = IsSome (n p.name)
+IsNameHeld n r = Unit {0}
 
 abbrev pub IsEndedOr : Ran → Type 0
 IsEndedOr (Ended how) = IsEndOfSearch how

@@ -36,7 +36,7 @@ Stands m t e Ended = IsEnd e.doing
 Stands m t e (Waits on) = (g : ℕ) × IsWaitingNow m t e g
 Stands m t e (NeedsAtoms p) = Unit {0}
 Stands m t e (Worn w) = Unit {0}
-Stands m t e (Missing p) = IsMissing m t e
+Stands m t e (Missing p) = IsMissing m t e p
 
 -- The search came from the one state to the other, and what the goal has given is behind the text, as the function puts it.
 pub record HasRun (put : Chars → List Output → Chars) (m : Names) (t : Told) (e : Engine) (n : Names) (u : Told) (f : Engine) (old_out new_out : List ℕ) : Type 0 where

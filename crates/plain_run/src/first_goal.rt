@@ -6,8 +6,8 @@ ghost use Rattle.iso_search.specs.declared.search.Budgets.{Budgets};
 ghost use Rattle.world_api.specs.Courses.{of_goal};
 ghost use Rattle.world_api.specs.Texts.{Holds};
 ghost use Rattle.world_api.specs.Told.{has_ended};
-ghost use Rattle.plain_run.specs.Items.{HasClosed, HasRunGoal};
-ghost use Rattle.plain_run.specs.Ran.{IsEndedOr, ran_refusals};
+ghost use Rattle.plain_run.specs.Items.{HasClosed, HasRunGoal, HasWords};
+ghost use Rattle.plain_run.specs.Ran.{IsEndedOr, IsNameHeld, ran_refusals};
 ghost use Rattle.plain_run.specs.Searched.{IsRefusedOnce};
 
 use crate::ran::{Ran, goal_ran};
@@ -40,7 +40,9 @@ pub fn run_goal<S: Script<Term = Stored>, W: World<Term = Stored>>(
         (W.A.held atoms.old) (W.told world.old) script.old text.old.items out.old.items r
         (W.A.held atoms.new) (W.told world.new) script.new text.new.items out.new.items) }
     ensures told { IfOk result IsEndedOr }
+    ensures missing { IfOk result (IsNameHeld (W.A.held atoms.new)) }
     ensures named { IfOk result (λ r. S.name script.new ≡ S.name script.old) }
+    ensures words { IfOk result (λ r. HasWords S.execution (W.A.held atoms.old) script.old (W.A.held atoms.new) script.new) }
     ensures runs { has_ended (W.told world.new).engine (W.told world.new).history ≡ false }
     ensures holds { Holds (W.A.held atoms.old) (W.A.held atoms.new) }
     ensures refusals { IfOk result (λ r. IsRefusedOnce (W.A.refusals atoms.old) (W.A.refusals atoms.new) (ran_refusals r)) }
@@ -65,6 +67,7 @@ fn close<S: Script<Term = Stored>, W: World<Term = Stored>>(
     ensures closed { (budgets : Budgets) (wanted : ℕ) → OnOk result (HasClosed S.execution S.part S.plays S.kept (S.name script.old) budgets wanted
         (W.A.held atoms.old) (W.told world.old) script.old text.old.items ran.now (W.A.held atoms.new) (W.told world.new) script.new text.new.items) }
     ensures named { S.name script.new ≡ S.name script.old }
+    ensures words { OnOk result (HasWords S.execution (W.A.held atoms.old) script.old (W.A.held atoms.new) script.new) }
     ensures runs { has_ended (W.told world.new).engine (W.told world.new).history ≡ false }
     ensures holds { Holds (W.A.held atoms.old) (W.A.held atoms.new) }
     ensures refusals { OnOk result (W.A.refusals atoms.new ≡ W.A.refusals atoms.old) }

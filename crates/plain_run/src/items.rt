@@ -3,7 +3,7 @@ ghost use Rattle.std.specs.Prelude.{◌≡◌, ◌++◌, false, IfOk, IsSome, No
 ghost use Rattle.std.specs.List.{All};
 ghost use Rattle.world_api.specs.Texts.{Holds};
 ghost use Rattle.world_api.specs.Told.{has_ended};
-ghost use Rattle.plain_run.specs.Items.{HasRunItems, HasTurned, IsDirectiveAsked, IsGoalAtHand, IsTurnAtHand, IsTurnBy, is_over, is_over_by, items_names, items_refusals, turn_names, turn_refusals};
+ghost use Rattle.plain_run.specs.Items.{HasRunItems, HasTurned, IsDirectiveAsked, IsGoalAtHand, IsNameHeldBy, IsNameHeldIn, IsTurnAtHand, IsTurnBy, is_over, is_over_by, items_names, items_refusals, turn_names, turn_refusals};
 ghost use Rattle.plain_run.specs.Searched.{IsRefusedOnce};
 
 use crate::ran::{Ran, directive_ran};
@@ -60,6 +60,7 @@ pub fn run_items<S: Script<Term = Stored>, W: World<Term = Stored>>(
     ensures over { IfOk result (λ i. S.over script.new ≡ is_over i) }
     ensures named { IfOk result (λ i. S.name script.new ≡ S.name script.old) }
     ensures held { IfOk result (λ i. All (λ a. IsSome (W.A.held atoms.new a)) (S.names script.new ++ items_names i)) }
+    ensures missing { IfOk result (IsNameHeldIn (W.A.held atoms.new)) }
     ensures runs { has_ended (W.told world.new).engine (W.told world.new).history ≡ false }
     ensures holds { Holds (W.A.held atoms.old) (W.A.held atoms.new) }
     ensures refusals { IfOk result (λ i. IsRefusedOnce (W.A.refusals atoms.old) (W.A.refusals atoms.new) (items_refusals i)) }
@@ -96,6 +97,7 @@ fn next_turn<S: Script<Term = Stored>, W: World<Term = Stored>>(
     ensures over { IfOk result (λ r. S.over script.new ≡ is_over_by r) }
     ensures named { IfOk result (λ r. S.name script.new ≡ S.name script.old) }
     ensures held { IfOk result (λ r. All (λ a. IsSome (W.A.held atoms.new a)) (S.names script.new ++ turn_names r)) }
+    ensures missing { IfOk result (IsNameHeldBy (W.A.held atoms.new)) }
     ensures runs { has_ended (W.told world.new).engine (W.told world.new).history ≡ false }
     ensures holds { Holds (W.A.held atoms.old) (W.A.held atoms.new) }
     ensures refusals { IfOk result (λ r. IsRefusedOnce (W.A.refusals atoms.old) (W.A.refusals atoms.new) (turn_refusals r)) }

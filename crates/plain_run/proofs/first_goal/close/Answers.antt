@@ -11,6 +11,7 @@ returns-in_default g c =
           (g.W.A.Atoms.held c.args.atoms.now) (g.W.World.told c.args.world.now) c.args.script.now c.args.text.now.items c.args.ran.now c.requires.at_hand
           c.in_default.not-Ended;
       named = refl;
+      words = λ job cs. refl;
       runs = c.requires.runs;
       holds = λ a t h. h;
       refusals = refl;
@@ -22,3 +23,6 @@ returns-in-Done-clause-closed g c budgets wanted =
     (g.W.A.Atoms.held c.args.atoms.now) (g.W.A.Atoms.held c.next.new.atoms) (g.W.World.told c.args.world.now) (g.W.World.told c.next.new.world)
     c.args.script.now c.next.new.self c.args.text.now.items c.next.new.text.items c.args.ran.now c.in-Ended.how _ c.in-Done.halted c.requires.at_hand
     c.in-Ended.is refl c.in-Done.ensures.last c.in-Done.ensures.given
+
+pub returns-in-Done-clause-words : goal.returns-in-Done-clause-words
+returns-in-Done-clause-words g c = c.in-Done.ensures.words c.requires.at_hand

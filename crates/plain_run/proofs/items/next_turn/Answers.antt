@@ -1,8 +1,9 @@
 use Rattle.std.proofs.Common.{ℕ, List, [], ◌∷◌, ◌++◌, IsSome, sym, ap, subst, ◌∙◌, append-nil}
 use Rattle.std.specs.List.{All}
+use Rattle.pl_model.specs.Report.{texts}
 use Rattle.term_store.specs.NumberedNames.{names_of}
 use Rattle.std.proofs.lemmas.List.Elements.{All-weaker}
-use Rattle.plain_run.proofs.Turning.{back_of, front_of, is_again, is_directed, is_worn, needs_atoms, none_named, still}
+use Rattle.plain_run.proofs.Turning.{back_of, directive_in, front_of, is_again, is_directed, is_worn, name_held, name_held_by, needs_atoms, none_named, still, turn_at_hand}
 use Rattle.plain_run.proofs.items.next_turn.Goals as goal
 
 pub directive_ran-requires-clause-held : goal.directive_ran-requires-clause-held
@@ -27,6 +28,21 @@ returns-then-directive-clause-turned g c =
     c.args.text.now.items c.next-next.new.text.items c.in-Item.goal
     c.in-Item.directive c.if-directive.true c.in-Item.ensures.given
     k v c.directive_ran.new.out.items c.directive_ran.ensures.holds held c.in_ok-ran-in-Item.ran c.turn_by.result c.in_ok-ran-in-Item.ensures.searched c.turn_by.ensures
+
+pub returns-then-directive-clause-at_hand : goal.returns-then-directive-clause-at_hand
+returns-then-directive-clause-at_hand g c =
+    let o = g.S.Script.part c.next-next.new.self
+    in turn_at_hand o c.in_ok-ran-in-Item.ran c.turn_by.result
+    (directive_in o c.in-Item.goal c.in-Item.directive c.if-directive.true c.in-Item.ensures.at_hand) c.turn_by.ensures
+
+pub returns-then-directive-clause-missing : goal.returns-then-directive-clause-missing
+returns-then-directive-clause-missing g c =
+    let n = g.W.A.Atoms.held c.next-next.new.atoms
+    in let k = g.W.A.Atoms.held c.directive_ran.new.atoms
+    in let u = g.W.World.told c.next-next.new.world
+    in let v = g.W.World.told c.directive_ran.new.world
+    in name_held_by k c.in_ok-ran-in-Item.ran c.turn_by.result
+    (name_held texts c.args.budgets 1 n k u v c.in-Item.goal _ _ c.in_ok-ran-in-Item.ran c.in_ok-ran-in-Item.ensures.searched) c.turn_by.ensures
 
 pub returns-then-directive-clause-held : goal.returns-then-directive-clause-held
 returns-then-directive-clause-held g c =

@@ -2,7 +2,7 @@ use Rattle.std.proofs.Common.{ℕ, [], None, IsSome, refl, ap, subst, ◌∙◌}
 use Rattle.pl_term.specs.Tree.{Chars}
 use Rattle.plain_run.specs.declared.items.Turn.{Turn}
 use Rattle.plain_run.specs.declared.items.Turn.TheVariants.{Goes}
-use Rattle.plain_run.specs.Items.{IsTurnAtHand, is_over_by, turn_names, turn_refusals}
+use Rattle.plain_run.specs.Items.{IsNameHeldBy, IsTurnAtHand, is_over_by, turn_names, turn_refusals}
 use Rattle.plain_run.specs.Searched.{IsRefusedOnce}
 use Rattle.plain_run.proofs.Rounds.{none_refused, refused_then}
 use Rattle.plain_run.proofs.Taking.{Turned, asked_at_start, turns_begin, turns_on, turns_stop}
@@ -74,3 +74,7 @@ returns-in-Stops-clause-refusals g c =
     let zs = g.W.A.Atoms.refusals c.next_turn.new.atoms in
     subst (λ (q : Turn). IsRefusedOnce xs zs (turn_refusals q)) c.in-Stops.is
     (refused_then xs ys zs (turn_refusals c.in_ok-next.next) c.loop.invariant.2 c.in_ok-next.ensures.refusals)
+
+pub returns-in-Stops-clause-missing : goal.returns-in-Stops-clause-missing
+returns-in-Stops-clause-missing g c =
+    subst (λ (q : Turn). IsNameHeldBy (g.W.A.Atoms.held c.next_turn.new.atoms) q) c.in-Stops.is c.in_ok-next.ensures.missing
