@@ -1,17 +1,20 @@
 -- The run of a script, from what is told of its items and of its goal.
-use Rattle.std.proofs.Common.{◌≡◌, ℕ, Bool, List, [], ◌∷◌, Option, Some, None, refl, sym, ◌∙◌, ap, subst}
-use Rattle.std.specs.Prelude.{encode_utf8_all, is_some, true, Result, IfOk}
+use Rattle.std.proofs.Common.{◌≡◌, ℕ, Bool, List, [], ◌∷◌, ◌++◌, map, Option, Some, None, refl, sym, ◌∙◌, ap, subst}
+use Rattle.std.specs.Prelude.{encode_utf8_all, Result, IfOk}
 use Rattle.std.proofs.lemmas.Bool.{false≢true}
+use Rattle.std.proofs.lemmas.Option.{same_Some}
 use Rattle.std.proofs.lemmas.Result.{IfOk-weaker}
 use Rattle.pl_term.specs.declared.memory.Memory.{Memory as WantOfMemory}
 use Rattle.world_api.specs.declared.answer.On.{On}
-use Rattle.first_script.specs.Steps.{directive_place}
 use Rattle.pl_term.specs.Tree.{Chars, Tree}
 use Rattle.pl_model.specs.declared.ends.How.{How}
 use Rattle.pl_model.specs.Resolution.{Ending, Output, State}
 use Rattle.pl_model.specs.Execution.{Rest, Script, Consulted, Execution, Job, Word, goal_word, faulty_word}
 use Rattle.pl_model.specs.Lawful.{EndsSo}
 use Rattle.pl_model.specs.Report.{output_of, with_output}
+use Rattle.atom_words.specs.declared.view.Cause.{Cause}
+use Rattle.atom_words.specs.declared.view.Refusal.{Refusal}
+use Rattle.atom_words.specs.declared.view.Refusal.TheVariants.{Again as RefusalAgain}
 use Rattle.atom_api.specs.Names.{Names}
 use Rattle.world_api.specs.Told.{Told}
 use Rattle.world_api.specs.Courses.{Part, of_goal, of_directive, with_search}
@@ -24,16 +27,28 @@ use Rattle.first_script.specs.Words.{AreNames}
 use Rattle.plain_run.specs.declared.ran.Ran.{Ran}
 use Rattle.plain_run.specs.declared.ran.Ran.TheVariants as ran
 use Rattle.plain_run.specs.declared.items.Items.TheVariants as items
-use Rattle.plain_run.specs.Items.{GoalStandsAs, HasRunGoal, HasRunItems, IsText}
-use Rattle.plain_run.specs.Ran.{HasBudgets, IsMissingIn, at_start_of}
-use Rattle.iso_engine.specs.Later.{view_of}
-use Rattle.iso_engine.specs.Standing.{state_now}
-use Rattle.toplevel.specs.Unbuilt.{IsAtUnbuilt}
+use Rattle.plain_run.specs.Items.{GoalStandsAs, HasRunGoal, HasRunItems, IsDirectiveIn, IsSearchedIn, IsText}
+use Rattle.plain_run.specs.Ran.{HasBudgets, IsUnbuiltBy, at_start_of}
+use Rattle.plain_run.specs.Searched.{IsRefusedOnce}
+use Rattle.iso_engine.specs.Missing.{IsUnbuiltDoing}
+use Rattle.toplevel.specs.Unbuilt.{IsAtUnbuilt, indicated}
 use Rattle.world_api.specs.declared.visit.Procedure.{Procedure}
 use Rattle.pl_command.specs.declared.command.Limits.{Limits}
 use Rattle.toplevel.specs.declared.play.Stop.{Stop}
 use Rattle.toplevel.specs.declared.play.Stop.TheVariants.{Ended, Waits, Missing}
-use Rattle.toplevel.specs.Sessions.{HasLimits, HasPlayed, IsPlayed, IsStopOf, IsWaiting, StandsSo}
+use Rattle.toplevel.specs.FirstRun.{HasLimits, HasPlayed, IsMissing, IsPlayed, IsStopOf, StandsSo}
+
+-- Where nothing is refused before and behind a search, no refusal has stopped it.
+last_none : (causes : List Cause) (last : List Refusal) → [] ≡ map RefusalAgain causes ++ last → last ≡ []
+last_none [] last e = sym e
+last_none (c ∷ cs) last e = cc
+
+pub none_refused : (old new last : List Refusal) → old ≡ [] → new ≡ [] → IsRefusedOnce old new last → last ≡ []
+none_refused old new last before behind once =
+    last_none once.causes last (sym behind ∙ once.grown ∙ ap (λ (l : List Refusal). l ++ (map RefusalAgain once.causes ++ last)) before)
+
+pub one_never : {X : Type 0} (x : X) → x ∷ [] ≡ [] → ⊥
+one_never x e = cc
 
 -- The execution of a script, whatever the texts of atoms are.
 abbrev pub executed : (ℕ → Chars) → FileScript → Job → List Consulted → Execution
@@ -52,18 +67,41 @@ has_budgets job l b is h =
     (sym is)
     (record { inferences = h.inferences; cells = h.cells; choices = h.choices })
 
-missing_at : (n : Names) (u : Told) (y : Execution) → IsMissingIn n u y → IsAtUnbuilt y
-missing_at n u y m =
-    record { around = m.at; item = m.part; state = state_now (view_of n u) m.engine m.written; is = m.is; next = m.missing }
+-- The predicate that is not built, by the text of its name.
+missing_at : (n : Names) (s : FileScript) (job : Job) (ds : List Consulted) (p : Procedure) (name : Chars) (arity : ℕ) (y : Execution)
+    → n p.name ≡ Some name
+    → arity ≡ p.arity
+    → (h : IsSearchedIn executed part_in n s job ds y) × IsUnbuiltBy n p h.state.doing
+    → IsAtUnbuilt (indicated name arity) y
+missing_at n s job ds p name arity y named count g =
+    record {
+      around = execution_of s job ds;
+      item = g.0.item;
+      state = g.0.state;
+      is = g.0.is;
+      next =
+          subst
+          (λ (a : ℕ). IsUnbuiltDoing (indicated name a) g.0.state.doing)
+          (sym count)
+          (subst (λ (c : Chars). IsUnbuiltDoing (indicated c p.arity) g.0.state.doing) (same_Some g.1.name name (sym g.1.held ∙ named)) g.1.next);
+    }
+
+missing_as : (n : Names) (s : FileScript) (job : Job) (ds : List Consulted) (p : Procedure) (stop : Stop) (u : Told) (y : Execution)
+    → IsMissing n p stop
+    → (h : IsSearchedIn executed part_in n s job ds y) × IsUnbuiltBy n p h.state.doing
+    → StandsSo s job ds u stop y
+missing_as n s job ds p (Ended h) u y is g = absurd is
+missing_as n s job ds p Waits u y is g = absurd is
+missing_as n s job ds p (Missing name arity) u y is g = missing_at n s job ds p name arity y is.0 is.1 g
 
 goal_stands : (part : FileScript → Option Part) (n : Names) (u : Told) (s : FileScript) (job : Job) (ds : List Consulted) (r : Ran) (stop : Stop) (y : Execution)
-    → IsStopOf r stop
+    → IsStopOf n r stop
     → GoalStandsAs executed part_in n u s job ds r y
     → StandsSo s job ds u stop y
 goal_stands part n u s job ds (ran.Ended how) (Ended h) y is g =
     (record { ending = g.0; output = g.1; is = g.3 }, is g.0 g.2)
 goal_stands part n u s job ds (ran.Ended how) Waits y is g = absurd is
-goal_stands part n u s job ds (ran.Ended how) (Missing p) y is g = absurd is
+goal_stands part n u s job ds (ran.Ended how) (Missing name arity) y is g = absurd is
 goal_stands part n u s job ds (ran.Waits on) stop y is g =
     subst
     (λ (x : Stop). StandsSo s job ds u x y)
@@ -71,21 +109,20 @@ goal_stands part n u s job ds (ran.Waits on) stop y is g =
     (record { item = g.0.item; state = g.0.state; at_hand = g.0.at_hand; is = g.0.is }, g.1)
 goal_stands part n u s job ds (ran.NeedsAtoms p) stop y is g = absurd is
 goal_stands part n u s job ds (ran.Worn w) stop y is g = absurd is
-goal_stands part n u s job ds (ran.Missing p) stop y is g =
-    subst (λ (x : Stop). StandsSo s job ds u x y) (sym is) (missing_at n u y g.1)
+goal_stands part n u s job ds (ran.Missing p) stop y is g = missing_as n s job ds p stop u y is g
 
 whole : (job : Job) (name : Chars) (x : Execution) (t : Told) (stop : Stop) (s : FileScript) (kept : FileScript → Bool) (u : Told) (text out : List ℕ)
     → HasPlayed job name x t stop s kept u text out
     → IsPlayed job name x t stop s kept u text out
 whole job name x t (Ended how) s kept u text out h = h
 whole job name x t Waits s kept u text out h = h
-whole job name x t (Missing p) s kept u text out h = record { execution = h.execution; comes = h.comes; at = h.stands }
+whole job name x t (Missing n a) s kept u text out h = record { execution = h.execution; comes = h.comes; at = h.stands }
 
 pub goal_played : (kept : FileScript → Bool) (name : Chars) (b : Budgets) (l : Limits) (names : List (Chars × ℕ)) (goal : Tree) (m : Names) (t : Told) (old : FileScript) (bytes old_out : List ℕ) (r : Ran) (stop : Stop) (n : Names) (u : Told) (new : FileScript) (more new_out : List ℕ)
     → b ≡ budgets_in l
     → HasRunGoal executed part_in played kept name b names l.solutions goal m t old bytes old_out r n u new more new_out
     → old_out ≡ []
-    → IsStopOf r stop
+    → IsStopOf n r stop
     → ((job : Job) (cs : List Consulted) → AreNames names (execution_of new job cs).words)
     → (job : Job) (cs : List Consulted) (x : Execution)
     → HasLimits job l
@@ -168,31 +205,27 @@ over_played kept name b l m t old bytes h how n u new more out budgets has empty
     }
 
 -- The stop where a directive waits.
-at_directive : (item : Part) (o : Option Part) → o ≡ Some item → is_some (directive_place o) ≡ true → (x : Execution) (s : State) → output_of (with_search x item s) ≡ x.output
-at_directive of_goal o is place x s =
-    let no : is_some (directive_place (Some of_goal)) ≡ true = subst (λ (p : Option Part). is_some (directive_place p) ≡ true) is place in
-    absurd (false≢true no)
-at_directive (of_directive at rest) o is place x s = refl
+at_directive : (item : Part) (o : Option Part) → o ≡ Some item → IsDirectiveIn o → (x : Execution) (s : State) → output_of (with_search x item s) ≡ x.output
+at_directive of_goal o is directive x s =
+    let no : IsDirectiveIn (Some of_goal) = subst IsDirectiveIn is directive in absurd (false≢true no)
+at_directive (of_directive at rest) o is directive x s = refl
 
-pub waits_played : (kept : FileScript → Bool) (name : Chars) (b : Budgets) (l : Limits) (m : Names) (t : Told) (old : FileScript) (bytes : List ℕ) (on : On) (stop : Stop) (n : Names) (u : Told) (new : FileScript) (more out : List ℕ)
+pub waits_played : (kept : FileScript → Bool) (name : Chars) (b : Budgets) (l : Limits) (m : Names) (t : Told) (old : FileScript) (bytes : List ℕ) (on : On) (n : Names) (u : Told) (new : FileScript) (more out : List ℕ)
     → b ≡ budgets_in l
     → HasRunItems executed part_in played kept name b m t old bytes (items.Waits on) n u new more
     → out ≡ []
-    → IsWaiting new stop
+    → IsDirectiveIn (part_in new)
     → (job : Job) (cs : List Consulted) (x : Execution)
     → HasLimits job l
     → Plays old job.script
     → x ≡ execution_of old job cs
     → IsText name (kept old) x bytes
-    → IsPlayed job name x t stop new kept u more out
-waits_played kept name b l m t old bytes on stop n u new more out budgets has empty waits job cs x limits p at w =
+    → HasPlayed job name x t Waits new kept u more out
+waits_played kept name b l m t old bytes on n u new more out budgets has empty directive job cs x limits p at w =
     let g = has job cs x (has_budgets job l b budgets limits) p at w in
     let s = g.3 in
     let words : List Word = (execution_of new job g.0).words in
-    subst
-    (λ (z : Stop). IsPlayed job name x t z new kept u more out)
-    (sym waits.0)
-    (record {
+    record {
       execution = g.1;
       lines = g.0;
       names = own_names words;
@@ -202,9 +235,9 @@ waits_played kept name b l m t old bytes on stop n u new more out budgets has em
       text_is = g.5;
       output_is =
           empty
-          ∙ ap (λ (os : List Output). encode_utf8_all (with_output (own_names words) [] os)) (sym (at_directive s.0.item (part_in new) s.0.at_hand waits.1 (execution_of new job g.0) s.0.state))
+          ∙ ap (λ (os : List Output). encode_utf8_all (with_output (own_names words) [] os)) (sym (at_directive s.0.item (part_in new) s.0.at_hand directive (execution_of new job g.0) s.0.state))
           ∙ ap (λ (y : Execution). encode_utf8_all (with_output (own_names words) [] (output_of y))) (sym s.0.is);
-    })
+    }
 
 -- And behind the items the goal.
 played_on : (job : Job) (name : Chars) (x y : Execution) (t v : Told) (stop : Stop) (s : FileScript) (kept : FileScript → Bool) (u : Told) (text out : List ℕ)
@@ -233,7 +266,7 @@ played_on job name x y t v Waits s kept u text out c h =
       text_is = h.text_is;
       output_is = h.output_is;
     }
-played_on job name x y t v (Missing p) s kept u text out c h =
+played_on job name x y t v (Missing n a) s kept u text out c h =
     record { execution = h.execution; comes = comes_then job x y h.execution t v u c h.comes; at = h.at }
 
 pub goal_on : (kept : FileScript → Bool) (name next : Chars) (b : Budgets) (l : Limits) (m : Names) (t : Told) (old : FileScript) (bytes : List ℕ) (goal : Tree) (n : Names) (u : Told) (mid : FileScript) (more : List ℕ) (r : Result Stop WantOfMemory) (s : FileScript) (v : Told) (last out : List ℕ)
@@ -265,15 +298,18 @@ goal_on kept name next b l m t old bytes goal n u mid more r s v last out budget
     (goes job g.0 g.1 limits g.4 g.3 (subst (λ (z : Chars). IsText z (kept mid) g.1 more) (sym same) g.5)))
 
 -- A directive came to a predicate that is not built.
-pub missing_played : (kept : FileScript → Bool) (name : Chars) (b : Budgets) (l : Limits) (m : Names) (t : Told) (old : FileScript) (bytes : List ℕ) (q : Procedure) (n : Names) (u : Told) (new : FileScript) (more out : List ℕ)
+pub missing_played : (kept : FileScript → Bool) (name : Chars) (b : Budgets) (l : Limits) (m : Names) (t : Told) (old : FileScript) (bytes : List ℕ) (q : Procedure) (stop : Stop) (n : Names) (u : Told) (new : FileScript) (more out : List ℕ)
     → b ≡ budgets_in l
     → HasRunItems executed part_in played kept name b m t old bytes (items.Missing q) n u new more
+    → IsMissing n q stop
     → (job : Job) (cs : List Consulted) (x : Execution)
     → HasLimits job l
     → Plays old job.script
     → x ≡ execution_of old job cs
     → IsText name (kept old) x bytes
-    → IsPlayed job name x t (Missing q) new kept u more out
-missing_played kept name b l m t old bytes q n u new more out budgets has job cs x limits p at w =
+    → IsPlayed job name x t stop new kept u more out
+missing_played kept name b l m t old bytes q (Ended h) n u new more out budgets has is job cs x limits p at w = absurd is
+missing_played kept name b l m t old bytes q Waits n u new more out budgets has is job cs x limits p at w = absurd is
+missing_played kept name b l m t old bytes q (Missing called arity) n u new more out budgets has is job cs x limits p at w =
     let g = has job cs x (has_budgets job l b budgets limits) p at w in
-    record { execution = g.1; comes = g.2; at = missing_at n u g.1 g.3.1 }
+    record { execution = g.1; comes = g.2; at = missing_at n new job g.0 q called arity g.1 is.0 is.1 g.3 }

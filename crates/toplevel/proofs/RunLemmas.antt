@@ -5,6 +5,7 @@ use Rattle.std.specs.Prelude.{not, ◌&&◌, Result, Ok, Err, OnOk, OnErr}
 use Rattle.pl_model.specs.Execution.{most_bytes}
 use Rattle.pl_command.specs.declared.ends.End.{End}
 use Rattle.pl_command.specs.declared.ends.End.TheVariants.{Done, GoalFailed, Usage, Waiting, Memory, ReadFault, WriteFault, Halted, Unbuilt}
+use Rattle.pl_model.specs.History.{Proc}
 use Rattle.pl_model.specs.Lawful.{Program, Told}
 use Rattle.pl_model.specs.Report.{final_of}
 use Rattle.pl_command.specs.CommandLine.{Command, program_of}
@@ -47,8 +48,8 @@ unread rr wr c file old new report (Halted n) rose h = absurd h
 unread rr wr c file old new report Unbuilt rose h = absurd h
 
 -- A predicate that is not built yet.
-pub missed_as : (wr : Type 0) (old new : Option (List ℕ)) (report : Report) (end : End) → end ≡ Unbuilt → IsNamed wr old new report → Missed wr old new report end
-missed_as wr old new report end is u = subst (λ (e : End). Missed wr old new report e) (sym is) u
+pub missed_as : (q : Proc) (wr : Type 0) (old new : Option (List ℕ)) (report : Report) (end : End) → end ≡ Unbuilt → IsNamed q wr old new report → Missed q wr old new report end
+missed_as q wr old new report end is u = subst (λ (e : End). Missed q wr old new report e) (sym is) u
 
 -- The end of a run is promised so.
 promised_by : (rr wr : Type 0) (c : Command) (file old new : Option (List ℕ)) (report : Report) (halt : Option ℕ) (waits done : Bool)
@@ -132,18 +133,18 @@ promised_more rr wr c file old new report WriteFault h = h
 promised_more rr wr c file old new report (Halted n) h = h
 promised_more rr wr c file old new report Unbuilt h = h
 
-pub missed_more : (rr wr : Type 0) (c : Command) (file old new : Option (List ℕ)) (report : Report) (bytes : List ℕ) (end : End)
+pub missed_more : (q : Proc) (rr wr : Type 0) (c : Command) (file old new : Option (List ℕ)) (report : Report) (bytes : List ℕ) (end : End)
     → AreRead file bytes
-    → IsStuck (program_of c bytes)
-    → Missed wr old new report end
+    → IsStuck (program_of c bytes) q
+    → Missed q wr old new report end
     → Promised rr wr c file old new report end
-missed_more rr wr c file old new report bytes Done read stuck h = absurd h
-missed_more rr wr c file old new report bytes GoalFailed read stuck h = absurd h
-missed_more rr wr c file old new report bytes Usage read stuck h = absurd h
-missed_more rr wr c file old new report bytes Waiting read stuck h = absurd h
-missed_more rr wr c file old new report bytes Memory read stuck h = h
-missed_more rr wr c file old new report bytes ReadFault read stuck h = absurd h
-missed_more rr wr c file old new report bytes WriteFault read stuck h = absurd h
-missed_more rr wr c file old new report bytes (Halted n) read stuck h = absurd h
-missed_more rr wr c file old new report bytes Unbuilt read stuck h =
-    record { named = h; bytes = bytes; read = read; stuck = stuck }
+missed_more q rr wr c file old new report bytes Done read stuck h = absurd h
+missed_more q rr wr c file old new report bytes GoalFailed read stuck h = absurd h
+missed_more q rr wr c file old new report bytes Usage read stuck h = absurd h
+missed_more q rr wr c file old new report bytes Waiting read stuck h = absurd h
+missed_more q rr wr c file old new report bytes Memory read stuck h = h
+missed_more q rr wr c file old new report bytes ReadFault read stuck h = absurd h
+missed_more q rr wr c file old new report bytes WriteFault read stuck h = absurd h
+missed_more q rr wr c file old new report bytes (Halted n) read stuck h = absurd h
+missed_more q rr wr c file old new report bytes Unbuilt read stuck h =
+    record { predicate = q; named = h; bytes = bytes; read = read; stuck = stuck }

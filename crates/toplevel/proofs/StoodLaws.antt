@@ -27,9 +27,8 @@ use Rattle.toplevel.specs.declared.outcome.Outcome.{Outcome}
 use Rattle.toplevel.specs.declared.play.Stop.{Stop}
 use Rattle.toplevel.specs.declared.play.Stop.TheVariants.{Ended, Missing, Waits}
 use Rattle.toplevel.specs.Outcomes.{AreRead, HasStopped, IsLine, Stood, history_of, line_at, start_of}
-use Rattle.toplevel.specs.Sessions.{HasLimits, HasMissed, HasPlayed, IsPlayed}
-use Rattle.toplevel.specs.Unbuilt.{IsStuck}
-use Rattle.world_api.specs.declared.visit.Procedure.{Procedure}
+use Rattle.toplevel.specs.FirstRun.{HasLimits, HasMissed, HasPlayed, IsPlayed}
+use Rattle.toplevel.specs.Unbuilt.{IsStuck, indicated}
 
 -- Faults.
 same_fault : (c : Consulted) → is_fault c ≡ scripts.is_fault c
@@ -277,14 +276,14 @@ first_played c all s r bytes goal t u stop opening lines output read same begins
     )))
 
 -- It came to a predicate that is not built.
-pub stuck_at : (p : Program) (name : Chars) (q : Procedure) (stop : Stop) (s : FileScript) (kept : FileScript → Bool) (u : Told) (lines output : List ℕ)
-    → stop ≡ Missing q
+pub stuck_at : (p : Program) (name called : Chars) (arity : ℕ) (stop : Stop) (s : FileScript) (kept : FileScript → Bool) (u : Told) (lines output : List ℕ)
+    → stop ≡ Missing called arity
     → AllPlain 1 u.history
     → IsPlayed (main_job p) name (at_start (main_job p)) (start_of p) stop s kept u lines output
-    → IsStuck p
-stuck_at p name q stop s kept u lines output is plain played =
+    → IsStuck p (indicated called arity)
+stuck_at p name called arity stop s kept u lines output is plain played =
     let job : Job = main_job p in
-    let h : HasMissed job (at_start job) (start_of p) u =
+    let h : HasMissed (indicated called arity) job (at_start job) (start_of p) u =
     subst (λ (z : Stop). IsPlayed job name (at_start job) (start_of p) z s kept u lines output) is played in
     let told : u ≡ record { engine = 1; goals = length p.words; history = u.history; gens = u.gens } =
     told_is u 1 (length p.words) u.history u.gens h.comes.engine h.comes.goals refl refl in

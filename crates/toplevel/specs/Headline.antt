@@ -2,6 +2,7 @@
 use Rattle.std.specs.Prelude.{◌≡◌, ◌<◌, ◌++◌, ◌⊎◌, ℕ, List, length, take, Option, Some, None}
 use Rattle.std.specs.Str.{encode_utf8_all}
 use Rattle.pl_term.specs.Tree.{Chars}
+use Rattle.pl_model.specs.History.{Proc}
 use Rattle.pl_model.specs.Lawful.{IsComplete, Program}
 use Rattle.pl_model.specs.Report.{AreFinal, Finals, transcript}
 use Rattle.pl_command.specs.declared.ends.End.{End}
@@ -85,19 +86,18 @@ pub record IsReady (c : Command) (bytes : List ℕ) (ready : Ready) : Type 0 whe
   pub end_is : ready.end ≡ end_of (program_of c bytes) (told_by ready.front run.moves) run.finals
   pub text_is : ready.text.items ≡ text_of c.file (program_of c bytes) ready.front run
 
--- A predicate of the system that is not built yet was named.
-pub record IsNamed (write_rose : Type 0) (old new : Option (List ℕ)) (report : Report) : Type 0 where
+-- This predicate of the system was named, which is not built yet.
+pub record IsNamed (q : Proc) (write_rose : Type 0) (old new : Option (List ℕ)) (report : Report) : Type 0 where
   pub none : report.front ≡ None
-  pub name : Chars
-  pub arity : ℕ
-  pub written : IsWrittenUnless write_rose old new (encode_utf8_all (unbuilt_line name arity))
+  pub written : IsWrittenUnless write_rose old new (encode_utf8_all (unbuilt_line q.name q.arity))
 
--- The run of the command came to such a predicate, and nothing else was written.
+-- The run of the command came to the predicate that was named, and nothing else was written.
 pub record IsUnbuilt (write_rose : Type 0) (c : Command) (file old new : Option (List ℕ)) (report : Report) : Type 0 where
-  pub named : IsNamed write_rose old new report
+  pub predicate : Proc
+  pub named : IsNamed predicate write_rose old new report
   pub bytes : List ℕ
   pub read : AreRead file bytes
-  pub stuck : IsStuck (program_of c bytes)
+  pub stuck : IsStuck (program_of c bytes) predicate
 
 -- What is promised of each end of a command, where `read_rose` and `write_rose` say that the counts of faults rose.
 abbrev pub Promised : Type 0 → Type 0 → Command → Option (List ℕ) → Option (List ℕ) → Option (List ℕ) → Report → End → Type 0
@@ -119,8 +119,8 @@ GaveUp write_rose name old new report ReadFault =
 GaveUp write_rose name old new report Memory = (report.front ≡ None) × (new ≡ old)
 GaveUp write_rose name old new report end = ⊥
 
--- What is promised where a goal came to a predicate that is not built yet.
-abbrev pub Missed : Type 0 → Option (List ℕ) → Option (List ℕ) → Report → End → Type 0
-Missed write_rose old new report Unbuilt = IsNamed write_rose old new report
-Missed write_rose old new report Memory = (report.front ≡ None) × (new ≡ old)
-Missed write_rose old new report end = ⊥
+-- What is promised where a goal came to this predicate, which is not built yet.
+abbrev pub Missed : Proc → Type 0 → Option (List ℕ) → Option (List ℕ) → Report → End → Type 0
+Missed q write_rose old new report Unbuilt = IsNamed q write_rose old new report
+Missed q write_rose old new report Memory = (report.front ≡ None) × (new ≡ old)
+Missed q write_rose old new report end = ⊥

@@ -15,9 +15,9 @@ use Rattle.plain_world.specs.Entries.{entry_of}
 use Rattle.pl_command.specs.Ends.{some_fault}
 use Rattle.toplevel.specs.declared.outcome.Front.{Front}
 use Rattle.toplevel.specs.declared.outcome.Outcome.{Outcome}
-use Rattle.toplevel.specs.Unbuilt.{IsStuck}
-use Rattle.toplevel.specs.declared.session.Course.{Course}
-use Rattle.toplevel.specs.declared.session.Course.TheVariants.{Stood as Come, Unbuilt}
+use Rattle.toplevel.specs.Unbuilt.{IsStuck, indicated}
+use Rattle.toplevel.specs.declared.first_run.Course.{Course}
+use Rattle.toplevel.specs.declared.first_run.Course.TheVariants.{Stood as Come, Unbuilt}
 use Rattle.toplevel.specs.declared.outcome.Word.{Word}
 use Rattle.toplevel.specs.declared.outcome.Word.TheVariants.{Goal, Fault}
 
@@ -73,7 +73,7 @@ pub record Stood (p : Program) (name : Chars) (o : Outcome) : Type 0 where
 -- What the run of a program on a file of this name has come to.
 abbrev pub HasCome : Program → Chars → Course → Type 0
 HasCome p name (Come o) = Stood p name o
-HasCome p name (Unbuilt n a) = IsStuck p
+HasCome p name (Unbuilt n a) = IsStuck p (indicated n a)
 
 -- What the engine is told at the start: nothing was done yet.
 abbrev pub start_of : Program → Engine

@@ -1,6 +1,7 @@
 -- A predicate of the system that is not built yet: the line that names it, and how the run came to it.
 use Rattle.std.specs.Prelude.{◌≡◌, ℕ, ◌++◌, length, codes, decimal}
 use Rattle.pl_term.specs.Tree.{Chars}
+use Rattle.pl_model.specs.History.{Proc}
 use Rattle.pl_model.specs.Resolution.{State}
 use Rattle.pl_model.specs.Execution.{Execution}
 use Rattle.pl_model.specs.Lawful.{Program, main_job}
@@ -13,17 +14,20 @@ abbrev pub unbuilt_line : Chars → ℕ → Chars
 unbuilt_line name arity =
     codes "plt: " ++ (name ++ (codes "/" ++ (decimal arity ++ (codes " is not built yet" ++ newline))))
 
--- The next step of the search in this execution is of such a predicate.
-pub record IsAtUnbuilt (y : Execution) : Type 0 where
+abbrev pub indicated : Chars → ℕ → Proc
+indicated name arity = record { name = name; arity = arity }
+
+-- The next step of the search in this execution is of this predicate, which is not built.
+pub record IsAtUnbuilt (q : Proc) (y : Execution) : Type 0 where
   pub around : Execution
   pub item : Part
   pub state : State
   pub is : y ≡ with_search around item state
-  pub next : IsUnbuiltDoing state.doing
+  pub next : IsUnbuiltDoing q state.doing
 
 -- The first engine of the program has come there.
-pub record IsStuck (p : Program) : Type 0 where
+pub record IsStuck (p : Program) (q : Proc) : Type 0 where
   pub seen : Seen
   pub moves : ℕ
   pub alone : Alone (length p.words) (main_job p) seen moves
-  pub at : IsAtUnbuilt seen.execution
+  pub at : IsAtUnbuilt q seen.execution

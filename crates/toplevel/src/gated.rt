@@ -18,6 +18,8 @@ impl<'a, W: World, G: Gate> World for Gated<'a, W, G> {
     ghost use Rattle.world_api.specs.Told.{has_ended};
     ghost use Rattle.world_api.specs.Visits.{visit_names};
     ghost use Rattle.world_api.specs.Answers.{CanVisit, Visited, answer_names, refusals_by};
+    ghost use Rattle.world_api.specs.Asked.{IsInAnswer};
+    ghost use Rattle.world_api.specs.Gains.{Gains};
 
     type A = W::A;
 
@@ -39,6 +41,8 @@ impl<'a, W: World, G: Gate> World for Gated<'a, W, G> {
         ensures runs { has_ended (W.told self.new.world).engine (W.told self.new.world).history ≡ false }
         ensures holds { Holds (W.A.held atoms.old) (W.A.held atoms.new) }
         ensures refusals { W.A.refusals atoms.new ≡ W.A.refusals atoms.old ++ refusals_by result }
+        ensures asked { Gains (IsInAnswer W.Term.term W.Term.key_of (text_of (W.A.held atoms.old)) visit (W.told self.old.world))
+            (W.A.asked atoms.old) (W.A.asked atoms.new) }
     {
         self.gate.before_visit(0, 1);
         self.world.visit(visit, atoms)

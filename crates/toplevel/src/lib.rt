@@ -2,6 +2,7 @@
 #![tactic(auto)]
 
 mod ends;
+mod first_run;
 mod gated;
 mod hows;
 mod lines;
@@ -10,7 +11,6 @@ mod play;
 mod ready;
 pub mod run;
 mod sections;
-mod session;
 #[cfg(test)]
 mod test_rows;
 #[cfg(test)]

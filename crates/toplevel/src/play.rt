@@ -1,5 +1,5 @@
 //! The script of the first engine, run to where it does not go on.
-ghost use Rattle.std.specs.Prelude.{◌≡◌, ◌↔◌, ◌++◌, ℕ, List, [], false, Some, None, IfOk, IsSome, IsTrue, encode_utf8_all};
+ghost use Rattle.std.specs.Prelude.{◌≡◌, ◌++◌, ℕ, List, [], false, Some, None, IfOk, IsSome, encode_utf8_all};
 ghost use Rattle.std.specs.List.{All};
 ghost use Rattle.pl_model.specs.Execution.{Consulted, Execution, Job};
 ghost use Rattle.term_store.specs.NumberedNames.{names_of};
@@ -7,10 +7,11 @@ ghost use Rattle.world_api.specs.Courses.{of_goal};
 ghost use Rattle.world_api.specs.Told.{has_ended};
 ghost use Rattle.first_script.specs.FileScripts.{Plays, execution_of, part_in};
 ghost use Rattle.plain_run.specs.Items.{IsText};
-ghost use Rattle.plain_run.specs.Ran.{IsEndedOr, at_start_of};
+ghost use Rattle.plain_run.specs.Ran.{IsEndedOr, IsNameHeld, at_start_of, ran_refusals};
 ghost use Rattle.pl_command.specs.Told.{told_limits};
-ghost use Rattle.toplevel.specs.Sessions.{HasLimits, IsPlayed, IsStopOf, IsWaiting};
+ghost use Rattle.toplevel.specs.FirstRun.{HasLimits, IsMissing, IsPlayed, IsStopOf};
 
+use atom_api::{Atoms, TextBuf};
 use first_script::FileScript;
 use iso_search::search::Budgets;
 use pl_command::Limits;
@@ -28,8 +29,8 @@ pub enum Stop {
     Ended(How),
     /// Its next request has no reply as the shared state stands.
     Waits,
-    /// Its next step is of this predicate of the system, which is not built yet.
-    Missing(Procedure),
+    /// Its next step is of the predicate of the system with this name and number of arguments, which is not built yet.
+    Missing { name: Text, arity: u64 },
 }
 
 /// The budgets of searches.
@@ -44,7 +45,7 @@ fn budgets_of(limits: &Limits) -> Budgets
 }
 
 /// Runs a script from its beginning: what is written of the file is put behind `text`, what the goal gives behind
-/// `output`. The only error is want of memory.
+/// `output`. The atoms refuse nothing. The only error is want of memory.
 pub(crate) fn play<W: World<Term = Stored>>(
     alloc: Global,
     limits: &Limits,
@@ -59,6 +60,7 @@ pub(crate) fn play<W: World<Term = Stored>>(
     requires goes_on { ⟦<FileScript as Script>⟧.over script.old ≡ false }
     requires held { All (λ a. IsSome (W.A.held atoms.old a)) (⟦<FileScript as Script>⟧.names script.old) }
     requires empty { output.old.items ≡ [] }
+    requires plain { (a : W.A) → W.A.refusals a ≡ [] }
     ensures { (job : Job) (cs : List Consulted) (x : Execution)
         → HasLimits job limits.now
         → Plays script.old job.script
@@ -72,20 +74,10 @@ pub(crate) fn play<W: World<Term = Stored>>(
     match items {
         Items::Goal(goal) => play_goal(alloc, &goal, limits, script, world, atoms, text, output),
         Items::Over { halted } => Ok(Stop::Ended(ends_over(halted))),
-        Items::Waits(_) => waiting(script),
-        Items::NeedsAtoms(_) => Err(Memory),
-        Items::Worn(_) => Err(Memory),
-        Items::Missing(procedure) => Ok(Stop::Missing(procedure)),
-    }
-}
-
-/// A directive waits. The only error is want of memory.
-fn waiting(script: &FileScript) -> Result<Stop, Memory>
-    ensures { IfOk result (IsWaiting script.now) }
-{
-    match script.directive_at() {
-        Some(_) => Ok(Stop::Waits),
-        None => Err(Memory),
+        Items::Waits(_) => Ok(Stop::Waits),
+        Items::NeedsAtoms(_) => unreachable!(),
+        Items::Worn(_) => unreachable!(),
+        Items::Missing(procedure) => missing(alloc, procedure, atoms),
     }
 }
 
@@ -105,6 +97,7 @@ fn play_goal<W: World<Term = Stored>>(
     requires goes_on { ⟦<FileScript as Script>⟧.over script.old ≡ false }
     requires held { All (λ a. IsSome (W.A.held atoms.old a)) (⟦<FileScript as Script>⟧.names script.old ++ names_of goal.now) }
     requires empty { output.old.items ≡ [] }
+    requires plain { (a : W.A) → W.A.refusals a ≡ [] }
     ensures { (job : Job) (cs : List Consulted) (x : Execution)
         → HasLimits job limits.now
         → Plays script.old job.script
@@ -127,24 +120,37 @@ fn play_goal<W: World<Term = Stored>>(
         text,
         output,
     )?;
-    if !same_names(names.as_slice(), script.names()) {
-        return Err(Memory);
-    }
-    stop_of(ran)
+    stop_of(alloc, ran, atoms)
 }
 
-/// Where a goal's search does not go on. The only error is want of memory.
-fn stop_of(ran: Ran) -> Result<Stop, Memory>
-    requires { IsEndedOr ran }
-    ensures { IfOk result (IsStopOf ran) }
+/// Where a goal's search does not go on, if no atom was refused. The only error is want of memory.
+fn stop_of<A: Atoms>(alloc: Global, ran: Ran, atoms: &mut A) -> Result<Stop, Memory>
+    requires ended { IsEndedOr ran }
+    requires plain { ran_refusals ran ≡ [] }
+    requires named { IsNameHeld (A.held atoms.old) ran }
+    ensures { IfOk result (IsStopOf (A.held atoms.old) ran) }
 {
     match ran {
         Ran::Ended(how) => Ok(Stop::Ended(ends_how(how))),
         Ran::Waits(_) => Ok(Stop::Waits),
-        Ran::NeedsAtoms(_) => Err(Memory),
-        Ran::Worn(_) => Err(Memory),
-        Ran::Missing(procedure) => Ok(Stop::Missing(procedure)),
+        Ran::NeedsAtoms(_) => unreachable!(),
+        Ran::Worn(_) => unreachable!(),
+        Ran::Missing(procedure) => missing(alloc, procedure, atoms),
     }
+}
+
+/// The stop at a predicate that is not built yet. The only error is want of memory.
+fn missing<A: Atoms>(alloc: Global, procedure: Procedure, atoms: &mut A) -> Result<Stop, Memory>
+    requires { IsSome (A.held atoms.old procedure.name) }
+    ensures { IfOk result (IsMissing (A.held atoms.old) procedure) }
+{
+    let mut text = TextBuf::new();
+    atoms.text(procedure.name, &mut text);
+    let name = text.to_text(alloc)?;
+    Ok(Stop::Missing {
+        name,
+        arity: procedure.arity,
+    })
 }
 
 /// The same names of variables. The only error is want of memory.
@@ -156,26 +162,4 @@ fn copy_names(alloc: Global, names: &[(Text, u64)]) -> Result<Vec<(Text, u64)>, 
         all.push((name.copy(alloc)?, *number))?;
     }
     Ok(all)
-}
-
-/// Whether these are the same names of variables.
-fn same_names(names: &[(Text, u64)], others: &[(Text, u64)]) -> bool
-    ensures { IsTrue result ↔ (names.now ≡ others.now) }
-{
-    if names.len() != others.len() {
-        return false;
-    }
-    for i in 0..names.len() {
-        if !same_name(&names[i], &others[i]) {
-            return false;
-        }
-    }
-    true
-}
-
-/// Whether this is the same name with the same number.
-fn same_name(name: &(Text, u64), other: &(Text, u64)) -> bool
-    ensures { IsTrue result ↔ (name.now ≡ other.now) }
-{
-    name.0.same(&other.0) && name.1 == other.1
 }

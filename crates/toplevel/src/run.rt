@@ -8,11 +8,12 @@ ghost use Rattle.pl_command.specs.Ends.{status_of};
 ghost use Rattle.pl_command.specs.Told.{told_command};
 ghost use Rattle.toplevel.specs.Headline.{AreRead, GaveUp, HasRun, IsReady, IsUnbuilt, IsWrittenUnless, Missed, Promised, Ran, RanUnwritten};
 ghost use Rattle.toplevel.specs.Settled.{IsSettled};
+ghost use Rattle.toplevel.specs.Unbuilt.{indicated};
 
+use crate::first_run::{Course, first_run};
 use crate::lines::{unbuilt_text, unread_text};
 use crate::outcome::Front;
 use crate::ready::{Ready, make_ready};
-use crate::session::{Course, first_run};
 use pl_command::{Command, End, GoalEnd, read_command, status_of};
 use pl_io::{Bytes, Files, Gate, ReadAllError, Sink, read_all, write_all};
 use pl_term::{Memory, Text};
@@ -155,7 +156,7 @@ fn give_up<S: Sink>(alloc: Global, file: &Text, out: &mut S) -> Report
 /// Writes the line for a predicate that is not built yet.
 fn miss<S: Sink>(alloc: Global, name: &Text, arity: u64, out: &mut S) -> Report
     ensures status { result.status ≡ status_of result.end }
-    ensures missed { Missed (Rose (S.faults out.old) (S.faults out.new)) (S.written out.old) (S.written out.new)
+    ensures missed { Missed (indicated name.now arity) (Rose (S.faults out.old) (S.faults out.new)) (S.written out.old) (S.written out.new)
         result result.end }
 {
     match unbuilt_text(alloc, name, arity) {

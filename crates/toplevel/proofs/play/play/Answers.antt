@@ -1,11 +1,12 @@
-use Rattle.std.proofs.Common.{subst, IsSome}
+use Rattle.std.proofs.Common.{◌≡◌, [], subst, IsSome}
 use Rattle.std.specs.List.{All}
 use Rattle.std.proofs.lemmas.Result.{IfOk-weaker}
+use Rattle.atom_words.specs.declared.view.Refusal.TheVariants.{Full as RefusalFull, Worn as RefusalWorn}
 use Rattle.plain_run.specs.declared.items.Items.{Items}
-use Rattle.plain_run.specs.Items.{HasRunItems, items_names}
+use Rattle.plain_run.specs.Items.{HasRunItems, IsGoalAtHand, IsNameHeldIn, items_names, items_refusals}
 use Rattle.first_script.specs.declared.file_script.FileScript.{FileScript}
 use Rattle.first_script.specs.FileScripts.{part_in}
-use Rattle.toplevel.proofs.PlayLaws.{executed, goal_on, missing_played, over_played, played, waits_played}
+use Rattle.toplevel.proofs.PlayLaws.{executed, goal_on, missing_played, none_refused, one_never, over_played, played, waits_played}
 use Rattle.toplevel.proofs.play.play.Goals as goal
 
 pub play_goal-requires-clause-held : goal.play_goal-requires-clause-held
@@ -14,6 +15,21 @@ play_goal-requires-clause-held g c =
     (λ (i : Items). All (λ a. IsSome (g.W.A.Atoms.held c.run_items.new.atoms a)) (items_names i))
     c.in-Goal.is
     c.in_ok-items.ensures.held
+
+pub unreachable-requires : goal.unreachable-requires
+unreachable-requires g c =
+    one_never
+    (RefusalFull c.in-NeedsAtoms.field-0)
+    (subst
+    (λ (i : Items). items_refusals i ≡ [])
+    c.in-NeedsAtoms.is
+    (none_refused
+    (g.W.A.Atoms.refusals c.args.atoms.now)
+    (g.W.A.Atoms.refusals c.run_items.new.atoms)
+    (items_refusals c.in_ok-items.items)
+    (c.requires.plain c.args.atoms.now)
+    (c.requires.plain c.run_items.new.atoms)
+    c.in_ok-items.ensures.refusals))
 
 pub returns-in-Goal : goal.returns-in-Goal
 returns-in-Goal g c =
@@ -102,12 +118,7 @@ returns-in-Over g c =
     c.ends_over.ensures
 
 pub returns-in-Waits : goal.returns-in-Waits
-returns-in-Waits g c job cs x limits plays at text =
-    IfOk-weaker
-    c.waiting.result
-    _
-    _
-    (λ stop is.
+returns-in-Waits g c =
     waits_played
     (λ (s : FileScript). s.faulty)
     c.args.script.now.consult.name
@@ -118,7 +129,6 @@ returns-in-Waits g c job cs x limits plays at text =
     c.args.script.now
     c.args.text.now.items
     c.in-Waits.field-0
-    stop
     (g.W.A.Atoms.held c.run_items.new.atoms)
     (g.W.World.told c.run_items.new.world)
     c.run_items.new.script
@@ -145,18 +155,19 @@ returns-in-Waits g c job cs x limits plays at text =
     c.in-Waits.is
     c.in_ok-items.ensures.items)
     c.requires.empty
-    is
-    job
-    cs
-    x
-    limits
-    plays
-    at
-    text)
-    c.waiting.ensures
+    (subst (λ (i : Items). IsGoalAtHand i (part_in c.run_items.new.script)) c.in-Waits.is c.in_ok-items.ensures.at_hand)
+
+pub missing-requires : goal.missing-requires
+missing-requires g c =
+    subst (λ (i : Items). IsNameHeldIn (g.W.A.Atoms.held c.run_items.new.atoms) i) c.in-Missing.is c.in_ok-items.ensures.missing
 
 pub returns-in-Missing : goal.returns-in-Missing
-returns-in-Missing g c =
+returns-in-Missing g c job cs x limits plays at text =
+    IfOk-weaker
+    c.missing.result
+    _
+    _
+    (λ stop is.
     missing_played
     (λ (s : FileScript). s.faulty)
     c.args.script.now.consult.name
@@ -167,6 +178,7 @@ returns-in-Missing g c =
     c.args.script.now
     c.args.text.now.items
     c.in-Missing.procedure
+    stop
     (g.W.A.Atoms.held c.run_items.new.atoms)
     (g.W.World.told c.run_items.new.world)
     c.run_items.new.script
@@ -192,3 +204,12 @@ returns-in-Missing g c =
     c.run_items.new.text.items)
     c.in-Missing.is
     c.in_ok-items.ensures.items)
+    is
+    job
+    cs
+    x
+    limits
+    plays
+    at
+    text)
+    c.missing.ensures

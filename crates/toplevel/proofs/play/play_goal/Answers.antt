@@ -1,10 +1,22 @@
 use Rattle.std.proofs.Common.{sym, ◌∙◌, subst, List, ℕ}
 use Rattle.std.proofs.lemmas.Result.{IfOk-weaker}
 use Rattle.pl_term.specs.Tree.{Chars}
+use Rattle.pl_model.specs.Execution.{Word}
 use Rattle.first_script.specs.FileScripts.{execution_of}
 use Rattle.first_script.specs.Words.{AreNames}
-use Rattle.toplevel.proofs.PlayLaws.{goal_played}
+use Rattle.plain_run.specs.Ran.{ran_refusals}
+use Rattle.toplevel.proofs.PlayLaws.{goal_played, none_refused}
 use Rattle.toplevel.proofs.play.play_goal.Goals as goal
+
+pub stop_of-requires-clause-plain : goal.stop_of-requires-clause-plain
+stop_of-requires-clause-plain g c =
+    none_refused
+    (g.W.A.Atoms.refusals c.args.atoms.now)
+    (g.W.A.Atoms.refusals c.run_goal.new.atoms)
+    (ran_refusals c.in_ok-ran.ran)
+    (c.requires.plain c.args.atoms.now)
+    (c.requires.plain c.run_goal.new.atoms)
+    c.in_ok-ran.ensures.refusals
 
 pub returns : goal.returns
 returns g c job cs x limits plays at text =
@@ -38,9 +50,12 @@ returns g c job cs x limits plays at text =
     is
     (λ j ds.
     subst
-    (λ (names : List (Chars × ℕ)). AreNames names (execution_of c.run_goal.new.script j ds).words)
-    (sym (c.same_names.ensures.0 c.if-not-same_names.false) ∙ c.as_slice-2.ensures.value ∙ sym c.as_slice.ensures.value)
-    (c.names-2.ensures j ds))
+    (λ (ws : List Word). AreNames c.as_slice.result.now ws)
+    (sym (c.in_ok-ran.ensures.words j ds))
+    (subst
+    (λ (names : List (Chars × ℕ)). AreNames names (execution_of c.args.script.now j ds).words)
+    (sym (c.as_slice.ensures.value ∙ c.in_ok-names.ensures))
+    (c.names.ensures j ds)))
     job
     cs
     x

@@ -1,5 +1,6 @@
 use Rattle.std.proofs.Common.{subst}
 use Rattle.toplevel.specs.Settled.{IsSettled}
+use Rattle.toplevel.specs.Unbuilt.{indicated}
 use Rattle.toplevel.specs.declared.run.Settled.{Settled}
 use Rattle.toplevel.proofs.RunLemmas.{missed_more}
 use Rattle.toplevel.proofs.run.finish.Goals as goal
@@ -7,6 +8,7 @@ use Rattle.toplevel.proofs.run.finish.Goals as goal
 pub returns-in-Unbuilt-clause-promised : goal.returns-in-Unbuilt-clause-promised
 returns-in-Unbuilt-clause-promised g c command file bytes read settled =
     missed_more
+    (indicated c.in-Unbuilt.name c.in-Unbuilt.arity)
     _
     _
     command

@@ -1,10 +1,12 @@
 use Rattle.std.proofs.Common.{◌∙◌}
 use Rattle.toplevel.proofs.RunLemmas.{missed_as, written_unless}
+use Rattle.toplevel.specs.Unbuilt.{indicated}
 use Rattle.toplevel.proofs.run.miss.Goals as goal
 
 pub returns-in-Ok-clause-missed : goal.returns-in-Ok-clause-missed
 returns-in-Ok-clause-missed g c =
     missed_as
+    (indicated c.args.name.now c.args.arity)
     _
     _
     _
@@ -13,8 +15,6 @@ returns-in-Ok-clause-missed g c =
     c.bare_report.ensures.end
     (record {
       none = c.bare_report.ensures.front;
-      name = c.args.name.now;
-      arity = c.args.arity;
       written =
           written_unless
           c.write_all.result

@@ -2,7 +2,7 @@ use Rattle.std.proofs.Common.{◌∙◌, subst}
 use Rattle.pl_command.specs.CommandLine.{program_of}
 use Rattle.pl_command.specs.Told.{told_command}
 use Rattle.toplevel.specs.Outcomes.{HasCome}
-use Rattle.toplevel.specs.declared.session.Course.{Course}
+use Rattle.toplevel.specs.declared.first_run.Course.{Course}
 use Rattle.toplevel.proofs.run.settle.Goals as goal
 
 pub returns-in_ok-ready-in-Stood : goal.returns-in_ok-ready-in-Stood

@@ -4,7 +4,7 @@ use Rattle.pl_command.specs.Told.{told_command}
 use Rattle.plain_world.specs.Entries.{told_of}
 use Rattle.world_api.specs.Told.{Told}
 use Rattle.toplevel.proofs.StoodLaws.{first_played}
-use Rattle.toplevel.proofs.session.first_run.Goals as goal
+use Rattle.toplevel.proofs.first_run.first_run.Goals as goal
 
 pub returns : goal.returns
 returns g c all e =

@@ -11,12 +11,12 @@ ghost use Rattle.first_script.specs.FileScripts.{execution_of, part_in};
 ghost use Rattle.first_script.specs.Words.{AreNames, words_of};
 ghost use Rattle.plain_world.specs.Entries.{told_of};
 ghost use Rattle.toplevel.specs.Outcomes.{AreRead, HasCome, IsLine, history_of, start_of};
-ghost use Rattle.toplevel.specs.Sessions.{IsPlayed};
+ghost use Rattle.toplevel.specs.FirstRun.{IsPlayed};
 
 use crate::gated::Gated;
 use crate::outcome::{Front, Outcome, Word};
 use crate::play::{Stop, play};
-use atom_api::{Atom, PlainAtoms, fixed_atoms};
+use atom_api::PlainAtoms;
 use first_script::{FileScript, GoalWord};
 use pl_command::Command;
 use pl_io::Gate;
@@ -123,13 +123,9 @@ fn close(
             let outcome = outcome(alloc, None, script, world, text, output)?;
             Ok(Course::Stood(outcome))
         }
-        Stop::Missing(procedure) => {
+        Stop::Missing { name, arity } => {
             let _updates = world.entries();
-            let name = name_of(alloc, procedure.name)?;
-            Ok(Course::Unbuilt {
-                name,
-                arity: procedure.arity,
-            })
+            Ok(Course::Unbuilt { name, arity })
         }
     }
 }
@@ -207,15 +203,4 @@ fn word_in(word: &GoalWord) -> Word
             at: fault.at as u64,
         },
     }
-}
-
-/// The name of a predicate of the system. The only error is want of memory.
-fn name_of(alloc: Global, name: Atom) -> Result<Text, Memory> {
-    let rows = fixed_atoms(alloc)?;
-    for row in &rows {
-        if row.0 == name {
-            return row.1.copy(alloc);
-        }
-    }
-    Text::from_str(alloc, "a predicate")
 }

@@ -1,24 +1,26 @@
 -- The run of a script from its beginning to where it does not go on.
 use Rattle.std.specs.Prelude.{◌≡◌, ℕ, Bool, true, is_some, List, [], Some, encode_utf8_all}
 use Rattle.pl_term.specs.Tree.{Chars}
+use Rattle.pl_model.specs.History.{Proc}
 use Rattle.pl_model.specs.Resolution.{Ending, Output}
 use Rattle.pl_model.specs.Execution.{Consulted, Execution, Job, over}
 use Rattle.pl_model.specs.Lawful.{EndsSo}
 use Rattle.pl_model.specs.Progress.{WaitsNow}
 use Rattle.pl_model.specs.Report.{output_of, with_output}
+use Rattle.atom_api.specs.Names.{Names}
+use Rattle.world_api.specs.declared.visit.Procedure.{Procedure}
 use Rattle.world_api.specs.Told.{Told}
 use Rattle.world_api.specs.Courses.{Part, seen_in, with_search}
 use Rattle.world_api.specs.Scripts.{Comes, EndsAs}
 use Rattle.pl_model.specs.Resolution.{State}
 use Rattle.first_script.specs.declared.file_script.FileScript.{FileScript}
 use Rattle.first_script.specs.FileScripts.{execution_of, part_in}
-use Rattle.first_script.specs.Steps.{directive_place}
 use Rattle.first_script.specs.Words.{AreNames}
 use Rattle.plain_run.specs.Items.{IsText}
 use Rattle.plain_run.specs.declared.ran.Ran.{Ran}
 use Rattle.plain_run.specs.declared.ran.Ran.TheVariants as ran
 use Rattle.pl_command.specs.declared.command.Limits.{Limits}
-use Rattle.toplevel.specs.Unbuilt.{IsAtUnbuilt}
+use Rattle.toplevel.specs.Unbuilt.{IsAtUnbuilt, indicated}
 use Rattle.toplevel.specs.declared.play.Stop.{Stop}
 use Rattle.toplevel.specs.declared.play.Stop.TheVariants.{Ended, Waits, Missing}
 
@@ -38,7 +40,7 @@ pub record IsEnded (s : FileScript) (job : Job) (lines : List Consulted) (y : Ex
 abbrev pub StandsSo : FileScript → Job → List Consulted → Told → Stop → Execution → Type 0
 StandsSo s job lines u (Ended how) y = (e : IsEnded s job lines y) × EndsSo e.ending how
 StandsSo s job lines u Waits y = IsAtSearch s job lines y × WaitsNow u.engine u.goals job (seen_in u y)
-StandsSo s job lines u (Missing p) y = IsAtUnbuilt y
+StandsSo s job lines u (Missing name arity) y = IsAtUnbuilt (indicated name arity) y
 
 -- The execution has come to this stop, with what is written of the file and what the goal has given.
 pub record HasPlayed (job : Job) (name : Chars) (x : Execution) (t : Told) (stop : Stop) (s : FileScript) (kept : FileScript → Bool) (u : Told) (text output : List ℕ) : Type 0 where
@@ -51,19 +53,15 @@ pub record HasPlayed (job : Job) (name : Chars) (x : Execution) (t : Told) (stop
   pub text_is : IsText name (kept s) execution text
   pub output_is : output ≡ encode_utf8_all (with_output names [] (output_of execution))
 
--- The execution has come to a predicate that is not built.
-pub record HasMissed (job : Job) (x : Execution) (t u : Told) : Type 0 where
+-- The execution has come to this predicate, which is not built.
+pub record HasMissed (q : Proc) (job : Job) (x : Execution) (t u : Told) : Type 0 where
   pub execution : Execution
   pub comes : Comes job x t execution u
-  pub at : IsAtUnbuilt execution
+  pub at : IsAtUnbuilt q execution
 
 abbrev pub IsPlayed : Job → Chars → Execution → Told → Stop → FileScript → (FileScript → Bool) → Told → List ℕ → List ℕ → Type 0
-IsPlayed job name x t (Missing p) s kept u text output = HasMissed job x t u
+IsPlayed job name x t (Missing n a) s kept u text output = HasMissed (indicated n a) job x t u
 IsPlayed job name x t stop s kept u text output = HasPlayed job name x t stop s kept u text output
-
--- The script waits in a directive.
-abbrev pub IsWaiting : FileScript → Stop → Type 0
-IsWaiting s stop = (stop ≡ Waits) × (is_some (directive_place (part_in s)) ≡ true)
 
 -- The limits of the job are these.
 pub record HasLimits (job : Job) (l : Limits) : Type 0 where
@@ -72,11 +70,16 @@ pub record HasLimits (job : Job) (l : Limits) : Type 0 where
   pub choices : job.limits.choices ≡ l.choices
   pub solutions : job.limits.solutions ≡ l.solutions
 
+-- The stop tells the predicate with the text of its name.
+abbrev pub IsMissing : Names → Procedure → Stop → Type 0
+IsMissing n p (Missing name arity) = (n p.name ≡ Some name) × (arity ≡ p.arity)
+IsMissing n p stop = ⊥
+
 -- The stop tells how the search of a goal has ended, or why it does not go on.
-abbrev pub IsStopOf : Ran → Stop → Type 0
-IsStopOf (ran.Ended how) (Ended h) = (e : Ending) → EndsAs how e → EndsSo e h
-IsStopOf (ran.Waits on) stop = stop ≡ Waits
-IsStopOf (ran.NeedsAtoms p) stop = ⊥
-IsStopOf (ran.Worn w) stop = ⊥
-IsStopOf (ran.Missing p) stop = stop ≡ Missing p
-IsStopOf ran stop = ⊥
+abbrev pub IsStopOf : Names → Ran → Stop → Type 0
+IsStopOf n (ran.Ended how) (Ended h) = (e : Ending) → EndsAs how e → EndsSo e h
+IsStopOf n (ran.Waits on) stop = stop ≡ Waits
+IsStopOf n (ran.NeedsAtoms p) stop = ⊥
+IsStopOf n (ran.Worn w) stop = ⊥
+IsStopOf n (ran.Missing p) stop = IsMissing n p stop
+IsStopOf n r stop = ⊥

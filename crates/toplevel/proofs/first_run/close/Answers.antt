@@ -1,7 +1,7 @@
 use Rattle.first_script.specs.declared.file_script.FileScript.{FileScript}
 use Rattle.plain_world.specs.Entries.{told_of}
 use Rattle.toplevel.proofs.StoodLaws.{stood_ended, stood_waiting, stuck_at}
-use Rattle.toplevel.proofs.session.close.Goals as goal
+use Rattle.toplevel.proofs.first_run.close.Goals as goal
 
 pub returns-in_ok-outcome-in-Ended : goal.returns-in_ok-outcome-in-Ended
 returns-in_ok-outcome-in-Ended c p played =
@@ -60,12 +60,13 @@ returns-in_ok-outcome-in-Waits c p played =
     c.in_ok-text-in-Waits.ensures
     played
 
-pub returns-in_ok-name-in-Missing : goal.returns-in_ok-name-in-Missing
-returns-in_ok-name-in-Missing c p played =
+pub returns-in-Missing : goal.returns-in-Missing
+returns-in-Missing c p played =
     stuck_at
     p
     c.args.name.now
-    c.in-Missing.procedure
+    c.in-Missing.name
+    c.in-Missing.arity
     c.args.stop
     c.args.script.now
     (λ (s : FileScript). s.faulty)

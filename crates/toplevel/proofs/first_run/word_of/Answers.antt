@@ -3,7 +3,7 @@ use Rattle.std.specs.Option.{option_copied}
 use Rattle.pl_model.specs.Execution.{Word as WordOf}
 use Rattle.first_script.specs.Words.{AreNames, words_of}
 use Rattle.toplevel.specs.Outcomes.{AreRead}
-use Rattle.toplevel.proofs.session.word_of.Goals as goal
+use Rattle.toplevel.proofs.first_run.word_of.Goals as goal
 
 pub returns-in-Some : goal.returns-in-Some
 returns-in-Some c job cs names are =
