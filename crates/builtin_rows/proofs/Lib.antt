@@ -1,0 +1,4 @@
+pub mod Giving
+pub mod Balls
+pub mod Numbers
+pub mod Steps

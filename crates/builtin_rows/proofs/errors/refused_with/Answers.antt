@@ -1,0 +1,24 @@
+use Rattle.std.proofs.Common.{[], ◌∷◌, map, ap, ◌∙◌}
+use Rattle.pl_term.specs.Tree.{atom, comp, compound, none}
+use Rattle.term_store.specs.Heap.{atom_name}
+use Rattle.term_store.specs.Contents.{term_at}
+use Rattle.builtin_rows.proofs.Balls.{makes_one, one_place, reason_held, reason_reads, thrown_row}
+use Rattle.builtin_rows.proofs.errors.refused_with.Goals as goal
+
+pub make_compound-requires-clause-places : goal.make_compound-requires-clause-places
+make_compound-requires-clause-places c =
+    let s = c.args.store.now in one_place s c.atom.result (c.atom.ensures s).0
+
+pub ball_of-requires : goal.ball_of-requires
+ball_of-requires c = c.in_ok-term.ensures.made.holds
+
+pub returns-clause-row : goal.returns-clause-row
+returns-clause-row c m e x p next ts stands f g h =
+    let s = c.args.store.now in
+    let t = c.make_compound.new.self in
+    let w = c.in_ok-term.term in
+    let made = c.in_ok-term.ensures in
+    let is = made.made.means ∙ ap (λ a. comp (atom_name c.args.error) a none) (c.atom.ensures s).1 in
+    thrown_row m stands t c.ball_of.new.store w c.args.name c.args.arity p h c.in_ok-ball.ball c.in_ok-ball.ensures s next ts (comp e (atom x) none)
+    (makes_one s t (compound (atom_name c.args.error) (map (term_at s) (c.atom.result ∷ []))) w made.made made.numbers made.adds)
+    (reason_reads m stands t w c.args.error c.args.reason e x f g is) (reason_held m stands t w c.args.error c.args.reason e x f g is)

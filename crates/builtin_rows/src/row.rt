@@ -1,0 +1,27 @@
+//! What a built-in predicate gives.
+use atom_api::{Cause, Pass, WornWord};
+use term_store::Place;
+
+/// What a built-in predicate gives for its arguments.
+#[derive(Drop)]
+pub enum Row {
+    /// No answer: the predicate fails.
+    Fails,
+    /// One answer: the arguments as they are. Nothing was made.
+    Holds,
+    /// One answer: a place for each argument, with which it is unified. Its new variables have the next numbers, and its cells
+    /// were taken.
+    Answer(Vec<Place>),
+    /// Answers that make no terms, in their order: in each a place for each argument.
+    Table(Vec<Vec<Place>>),
+    /// This ball is thrown.
+    Ball(Place),
+    /// So many cells do not fit beside those that are used.
+    CellsFull { used: u64, need: u64 },
+    /// An atom of an answer has no place, as that pass over all slots shows. The predicate is to be called again.
+    NeedsAtoms(Pass),
+    /// Others stepped in between. The predicate is to be called again.
+    Retry(Cause),
+    /// An atom of an answer is one of a bucket that takes no new atom.
+    Worn(WornWord),
+}
