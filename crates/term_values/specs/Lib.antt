@@ -1,0 +1,5 @@
+pub mod Comparing
+pub mod Steps
+pub mod Tables
+pub mod Texts
+pub mod Values
