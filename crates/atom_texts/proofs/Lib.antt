@@ -1,0 +1,10 @@
+pub mod Asking
+pub mod CodeLaws
+pub mod FaultLaws
+pub mod Fixed
+pub mod Kept
+pub mod Looks
+pub mod MadeLaws
+pub mod MeasureLaws
+pub mod Rows
+pub mod TextLaws
