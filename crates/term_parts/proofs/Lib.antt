@@ -1,0 +1,11 @@
+mod Answering
+mod Compounds
+mod Copies
+mod FixedNames
+mod FunctorRows
+mod ListTerms
+mod Making
+mod NamedTexts
+mod Selecting
+mod VariableLists
+mod Walking

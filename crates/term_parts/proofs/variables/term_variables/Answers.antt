@@ -1,0 +1,23 @@
+use Rattle.std.proofs.Common.{codes, sym, subst, ◌∙◌}
+use Rattle.pl_model.specs.Control.{proc}
+use Rattle.world_builtins.specs.Spelling.{reads}
+use Rattle.term_parts.specs.Parts.{IsGiven}
+use Rattle.term_parts.proofs.Answering.{ok_weaker}
+use Rattle.term_parts.proofs.FixedNames.{term_variables_is}
+use Rattle.term_parts.proofs.VariableLists.{no_list_refused}
+use Rattle.term_parts.proofs.variables.term_variables.Goals as goal
+
+pub returns-then-right-clause-row : goal.returns-then-right-clause-row
+returns-then-right-clause-row c =
+    let s = c.args.store.now in
+    ok_weaker _ _ c.list_variables.result c.list_variables.ensures.row
+    (λ r h m texts term list. h m (reads m s c.args.list) texts.standing term (sym (c.in_ok-right.ensures m texts list) ∙ c.if-right.true))
+
+pub returns-else-right-clause-row : goal.returns-else-right-clause-row
+returns-else-right-clause-row c =
+    let s = c.args.store.now in
+    ok_weaker _ _ c.raise.result c.raise.ensures.row
+    (λ r h m texts term list.
+    subst (λ d. IsGiven s c.args.next (proc (codes "term_variables") 2) d m c.raise.new.store r)
+    (sym (no_list_refused (reads m s c.args.term) (reads m s c.args.list) (sym (c.in_ok-right.ensures m texts list) ∙ c.if-right.false)))
+    (h m (codes "term_variables") c.args.next texts.standing list term_variables_is))
