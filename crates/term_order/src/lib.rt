@@ -1,0 +1,15 @@
+//! The standard order of the terms of a store (ISO/IEC 13211-1:1995, 7.2), and lists sorted by it.
+#![tactic(auto)]
+
+mod compare;
+mod differing;
+mod heads;
+mod items;
+mod lists;
+mod pairs;
+mod places;
+mod rows;
+mod sorting;
+
+pub use compare::compare_places;
+pub use rows::{msort, sort};
