@@ -14,7 +14,7 @@ use Rattle.iso_engine.specs.Ready.{IsReady}
 use Rattle.iso_engine.specs.declared.slices.Slice.{Slice}
 use Rattle.iso_engine.specs.declared.slices.Slice.TheVariants.{Yield, Solution, NeedsAtoms, Retry, Worn, Waits, Ended, Missing, Memory}
 use Rattle.iso_engine.specs.Looking.{IsRefusedBy, refusals_of, stopped_refusals}
-use Rattle.iso_engine.specs.Slices.{EndsWith, IsSlice, IsSliced, IsStepped, written_text}
+use Rattle.iso_engine.specs.Slices.{EndsWith, IsSlice, IsSliced, IsStepped, steps_of, written_text}
 use Rattle.iso_engine.specs.Spending.{IsSpent}
 use Rattle.iso_engine.specs.Walking.{IsWalk}
 use Rattle.iso_engine.proofs.Stability.{advance_none, advance_then}
@@ -38,12 +38,11 @@ bytes-append a b c xs ys first second =
     ∙ ap (λ l. a ++ l) (sym (encode-append (written_text xs) (written_text ys)) ∙ ap encode_utf8_all (sym (written-append xs ys)))
 
 -- The begin of a slice.
-pub walk_begins : (limit : ℕ) (m : Names) (t : Told) (e : Engine) (a : List ℕ) → has_ended t.engine t.history ≡ false → IsReady m t e → IsWalk limit m t e m t e a a
+pub walk_begins : (limit : ℕ) (m : Names) (t : Told) (e : Engine) (a : List ℕ) → has_ended t.engine t.history ≡ false → IsReady m t e → IsWalk limit 0 m t e m t e a a
 walk_begins limit m t e a runs ready =
     record {
       runs = runs;
       ready = ready;
-      steps = 0;
       written = [];
       advances = advance_none m t e;
       out = sym (append-nil a);
@@ -54,8 +53,8 @@ walk_begins limit m t e a runs ready =
     }
 
 -- A step more.
-pub walk_on : (limit : ℕ) (m n r : Names) (t u w : Told) (e f g : Engine) (a b c : List ℕ) (more : List Output)
-    → IsWalk limit m t e n u f a b
+pub walk_on : (limit k : ℕ) (m n r : Names) (t u w : Told) (e f g : Engine) (a b c : List ℕ) (more : List Output)
+    → IsWalk limit k m t e n u f a b
     → Advances 1 n u f r w g more
     → c ≡ b ++ encode_utf8_all (written_text more)
     → has_ended w.engine w.history ≡ false
@@ -64,14 +63,13 @@ pub walk_on : (limit : ℕ) (m n r : Names) (t u w : Told) (e f g : Engine) (a b
     → IsSpent f.search.inferences g.search.inferences
     → g.given ≡ f.given
     → f.search.inferences < e.search.inferences + limit
-    → IsWalk limit m t e r w g a c
-walk_on limit m n r t u w e f g a b c more walk step out runs ready holds spent given below =
+    → IsWalk limit (1 + k) m t e r w g a c
+walk_on limit k m n r t u w e f g a b c more walk step out runs ready holds spent given below =
     record {
       runs = runs;
       ready = ready;
-      steps = 1 + walk.steps;
       written = walk.written ++ more;
-      advances = advance_then walk.steps 1 m n r t u w e f g walk.written more walk.advances step;
+      advances = advance_then k 1 m n r t u w e f g walk.written more walk.advances step;
       out = bytes-append a b c walk.written more walk.out out;
       low = lower spent walk.low;
       high = higher spent below;
@@ -100,7 +98,7 @@ none_given : (a b k : ℕ) → b ≡ a + k → b ≡ a → k ≡ 0
 none_given a b k h same = omega (arith, h, same)
 
 -- The slice ends with this.
-module _ (limit : ℕ) (m n r : Names) (t u w : Told) (e f g : Engine) (a b c : List ℕ) (walk : IsWalk limit m t e n u f a b)
+module _ (limit i : ℕ) (m n r : Names) (t u w : Told) (e f g : Engine) (a b c : List ℕ) (walk : IsWalk limit i m t e n u f a b)
     (spent : IsSpent f.search.inferences g.search.inferences) (below : f.search.inferences < e.search.inferences + limit) where
   within : (g.search.inferences ≡ f.search.inferences) ⊎ (g.search.inferences ≡ suc f.search.inferences) → g.search.inferences ≤ e.search.inferences + limit
   within (inl p) = omega (arith, p, below)
@@ -108,12 +106,11 @@ module _ (limit : ℕ) (m n r : Names) (t u w : Told) (e f g : Engine) (a b c : 
 
   ended : (k : ℕ) (more : List Output) (s : Slice) → Advances k n u f r w g more → c ≡ b ++ encode_utf8_all (written_text more)
       → EndsWith limit e r w g (walk.written ++ more) s
-      → IsSlice limit m t e r w g a c s
+      → IsSlice limit (k + i) m t e r w g a c s
   ended k more s step out ends =
       record {
-        steps = k + walk.steps;
         written = walk.written ++ more;
-        advances = advance_then walk.steps k m n r t u w e f g walk.written more walk.advances step;
+        advances = advance_then i k m n r t u w e f g walk.written more walk.advances step;
         out = bytes-append a b c walk.written more walk.out out;
         spent = within spent;
         ends = ends;
@@ -125,7 +122,7 @@ module _ (limit : ℕ) (m n r : Names) (t u w : Told) (e f g : Engine) (a b c : 
   nothing : (more : List Output) → more ≡ [] → solution_count (walk.written ++ more) ≡ 0
   nothing more is = ap (λ l. solution_count (walk.written ++ l)) is ∙ ap solution_count (append-nil walk.written) ∙ silent
 
-  pub slice_ends : (s : Slice) → (more : List Output) × IsStepped n u f (Some s) r w g more × (c ≡ b ++ encode_utf8_all (written_text more)) → IsSlice limit m t e r w g a c s
+  pub slice_ends : (s : Slice) → (more : List Output) × IsStepped n u f (Some s) r w g more × (c ≡ b ++ encode_utf8_all (written_text more)) → IsSlice limit (steps_of (Some s) + i) m t e r w g a c s
   slice_ends Yield (more, h, out) = absurd h.1
   slice_ends (Solution ops) (more, h, out) = ended 1 more (Solution ops) h.2 out (walk.written, silent, ap (λ l. walk.written ++ l) h.0, h.1, h.3)
   slice_ends (NeedsAtoms p) (more, h, out) = ended 0 more (NeedsAtoms p) h.2 out (h.1, nothing more h.0)
@@ -137,11 +134,10 @@ module _ (limit : ℕ) (m n r : Names) (t u w : Told) (e f g : Engine) (a b c : 
   slice_ends Memory (more, h, out) = absurd h.1
 
 -- So many inferences were made.
-pub slice_yields : (limit : ℕ) (m n : Names) (t u : Told) (e f : Engine) (a b : List ℕ) → IsWalk limit m t e n u f a b → limit ≤ f.search.inferences - e.search.inferences
-    → IsSlice limit m t e n u f a b Yield
-slice_yields limit m n t u e f a b walk enough =
+pub slice_yields : (limit k : ℕ) (m n : Names) (t u : Told) (e f : Engine) (a b : List ℕ) → IsWalk limit k m t e n u f a b → limit ≤ f.search.inferences - e.search.inferences
+    → IsSlice limit k m t e n u f a b Yield
+slice_yields limit k m n t u e f a b walk enough =
     record {
-      steps = walk.steps;
       written = walk.written;
       advances = walk.advances;
       out = walk.out;
@@ -152,16 +148,18 @@ slice_yields limit m n t u e f a b walk enough =
       );
     }
 
-pub sliced_by : (limit : ℕ) (m n : Names) (t u : Told) (e f : Engine) (a b : List ℕ) (s : Slice) → IsSlice limit m t e n u f a b s → IsSliced limit m t e n u f a b s
-sliced_by limit m n t u e f a b Yield h = h
-sliced_by limit m n t u e f a b (Solution ops) h = h
-sliced_by limit m n t u e f a b (NeedsAtoms p) h = h
-sliced_by limit m n t u e f a b (Retry c) h = h
-sliced_by limit m n t u e f a b (Worn w) h = h
-sliced_by limit m n t u e f a b (Waits on g) h = h
-sliced_by limit m n t u e f a b Ended h = h
-sliced_by limit m n t u e f a b (Missing p) h = h
-sliced_by limit m n t u e f a b Memory h = absurd h.ends.0
+pub sliced_by : (limit : ℕ) (m n : Names) (t u : Told) (e f : Engine) (a b : List ℕ) (before after : ℕ) (s : Slice)
+    → (k : ℕ) × (k + before ≡ after) × IsSlice limit k m t e n u f a b s
+    → IsSliced limit m t e n u f a b before after s
+sliced_by limit m n t u e f a b before after Yield h = h
+sliced_by limit m n t u e f a b before after (Solution ops) h = h
+sliced_by limit m n t u e f a b before after (NeedsAtoms p) h = h
+sliced_by limit m n t u e f a b before after (Retry c) h = h
+sliced_by limit m n t u e f a b before after (Worn w) h = h
+sliced_by limit m n t u e f a b before after (Waits on g) h = h
+sliced_by limit m n t u e f a b before after Ended h = h
+sliced_by limit m n t u e f a b before after (Missing p) h = h
+sliced_by limit m n t u e f a b before after Memory h = absurd h.2.ends.0
 
 pub refused_by : (xs ys : List Refusal) (s : Slice) → ys ≡ xs ++ refusals_of s → IsRefusedBy s xs ys
 refused_by xs ys Yield h = h

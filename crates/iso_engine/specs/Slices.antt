@@ -71,16 +71,21 @@ EndsWith limit e n u f more (Solution ops) =
     × IsAnswerHeld n f
 EndsWith limit e n u f more s = Stops n u f s × (solution_count more ≡ 0)
 
--- The engine has come so far in a slice.
-pub record IsSlice (limit : ℕ) (m : Names) (t : Told) (e : Engine) (n : Names) (u : Told) (f : Engine) (old_out new_out : List ℕ) (s : Slice) : Type 0 where
-  pub steps : ℕ
+-- How many steps were made where a step was made, or none.
+abbrev pub steps_of : Option Slice → ℕ
+steps_of None = 1
+steps_of (Some (Solution ops)) = 1
+steps_of (Some s) = 0
+
+-- The engine has come so far in a slice of at most so many inferences, in these steps.
+pub record IsSlice (limit steps : ℕ) (m : Names) (t : Told) (e : Engine) (n : Names) (u : Told) (f : Engine) (old_out new_out : List ℕ) (s : Slice) : Type 0 where
   pub written : List Output
   pub advances : Advances steps m t e n u f written
   pub out : new_out ≡ old_out ++ encode_utf8_all (written_text written)
   pub spent : f.search.inferences ≤ e.search.inferences + limit
   pub ends : EndsWith limit e n u f written s
 
--- After want of memory nothing is said.
-abbrev pub IsSliced : ℕ → Names → Told → Engine → Names → Told → Engine → List ℕ → List ℕ → Slice → Type 0
-IsSliced limit m t e n u f old_out new_out Memory = f.broken ≡ true
-IsSliced limit m t e n u f old_out new_out s = IsSlice limit m t e n u f old_out new_out s
+-- Its steps are those by which the count has grown. Once memory is exhausted nothing is said.
+abbrev pub IsSliced : ℕ → Names → Told → Engine → Names → Told → Engine → List ℕ → List ℕ → ℕ → ℕ → Slice → Type 0
+IsSliced limit m t e n u f old_out new_out before after Memory = f.broken ≡ true
+IsSliced limit m t e n u f old_out new_out before after s = (k : ℕ) × (k + before ≡ after) × IsSlice limit k m t e n u f old_out new_out s

@@ -9,11 +9,10 @@ use Rattle.iso_engine.specs.Advancing.{Advances}
 use Rattle.iso_engine.specs.Ready.{IsReady}
 use Rattle.iso_engine.specs.Slices.{written_text}
 
--- A slice of at most so many inferences has come so far.
-pub record IsWalk (limit : ℕ) (m : Names) (t : Told) (e : Engine) (n : Names) (u : Told) (f : Engine) (old_out new_out : List ℕ) : Type 0 where
+-- A slice of at most so many inferences has come so far in these steps.
+pub record IsWalk (limit steps : ℕ) (m : Names) (t : Told) (e : Engine) (n : Names) (u : Told) (f : Engine) (old_out new_out : List ℕ) : Type 0 where
   pub runs : has_ended u.engine u.history ≡ false
   pub ready : IsReady n u f
-  pub steps : ℕ
   pub written : List Output
   pub advances : Advances steps m t e n u f written
   pub out : new_out ≡ old_out ++ encode_utf8_all (written_text written)

@@ -1,12 +1,12 @@
 //! A slice: some steps of resolution, one after the other.
-ghost use Rattle.std.specs.Prelude.{◌≡◌, ◌++◌, false, true, IfOk, OnOk};
+ghost use Rattle.std.specs.Prelude.{◌≡◌, ℕ, ◌+◌, ◌++◌, false, true, IfOk, OnOk};
 ghost use Rattle.world_api.specs.Gains.{Gains};
 ghost use Rattle.world_api.specs.Texts.{Holds};
 ghost use Rattle.world_api.specs.Told.{has_ended};
 ghost use Rattle.iso_engine.specs.Asked.{AsksInSlice, AsksOnWay, ComesToAsk};
 ghost use Rattle.iso_engine.specs.Looking.{IsRefusedBy, refusals_of};
 ghost use Rattle.iso_engine.specs.Ready.{IsReady};
-ghost use Rattle.iso_engine.specs.Slices.{IsSlice, IsSliced};
+ghost use Rattle.iso_engine.specs.Slices.{IsSlice, IsSliced, steps_of};
 
 use crate::engine::Engine;
 use crate::slices::Slice;
@@ -16,12 +16,14 @@ use world_api::World;
 
 impl Engine {
     /// Runs the search until so many inferences were made, a solution was found, the search has ended, or a step cannot be
-    /// made; that step is taken back whole. What the goal writes is put behind `out`.
+    /// made; that step is taken back whole. What the goal writes is put behind `out`, and the steps are added to `moves`. Where
+    /// their number would pass 64 bits, it answers `Memory`.
     pub fn slice<W: World<Term = Stored>>(
         &mut self,
         world: &mut W,
         atoms: &mut W::A,
         out: &mut Vec<u8>,
+        moves: &mut u64,
         n: u32,
     ) -> Slice
         requires runs { has_ended (W.told world.old).engine (W.told world.old).history ≡ false }
@@ -32,13 +34,14 @@ impl Engine {
         ensures asked { Gains (AsksInSlice result (W.A.held atoms.old) (W.told world.old) self.old (W.A.held atoms.new) (W.told world.new) self.new)
             (W.A.asked atoms.old) (W.A.asked atoms.new) }
         ensures ready { self.new.broken ≡ false → IsReady (W.A.held atoms.new) (W.told world.new) self.new }
-        ensures sliced { IsSliced n (W.A.held atoms.old) (W.told world.old) self.old (W.A.held atoms.new) (W.told world.new) self.new out.old.items out.new.items result }
+        ensures sliced { IsSliced n (W.A.held atoms.old) (W.told world.old) self.old (W.A.held atoms.new) (W.told world.new) self.new out.old.items out.new.items
+            moves.old moves.new result }
         ensures broken { self.old.broken ≡ true → self.new ≡ self.old }
     {
         if self.broken {
             return Slice::Memory;
         }
-        match self.steps(world, atoms, out, n as u64) {
+        match self.steps(world, atoms, out, moves, n as u64) {
             Ok(slice) => slice,
             Err(_) => {
                 self.broken = true;
@@ -47,12 +50,14 @@ impl Engine {
         }
     }
 
-    /// The steps of a slice. The only error is want of memory.
+    /// The steps of a slice, which are added to `moves`. The only error is want of memory, also where their number would pass 64
+    /// bits.
     fn steps<W: World<Term = Stored>>(
         &mut self,
         world: &mut W,
         atoms: &mut W::A,
         out: &mut Vec<u8>,
+        moves: &mut u64,
         n: u64,
     ) -> Result<Slice, Memory>
         requires runs { has_ended (W.told world.old).engine (W.told world.old).history ≡ false }
@@ -64,7 +69,8 @@ impl Engine {
             (W.A.asked atoms.old) (W.A.asked atoms.new)) }
         ensures came { Gains (ComesToAsk (W.A.held atoms.old) (W.told world.old) self.old) (W.A.asked atoms.old) (W.A.asked atoms.new) }
         ensures ready { OnOk result (IsReady (W.A.held atoms.new) (W.told world.new) self.new) }
-        ensures sliced { IfOk result (IsSlice n (W.A.held atoms.old) (W.told world.old) self.old (W.A.held atoms.new) (W.told world.new) self.new out.old.items out.new.items) }
+        ensures sliced { IfOk result (λ s. (k : ℕ) × (k + moves.old ≡ moves.new)
+            × IsSlice n k (W.A.held atoms.old) (W.told world.old) self.old (W.A.held atoms.new) (W.told world.new) self.new out.old.items out.new.items s) }
     {
         let start = self.search.inferences;
         for _ in 0..u64::MAX {
@@ -72,10 +78,25 @@ impl Engine {
                 return Ok(Slice::Yield);
             }
             let stopped = self.step(world, atoms, out)?;
+            let Some(count) = moves.checked_add(steps_made(&stopped)) else {
+                return Err(Memory);
+            };
+            *moves = count;
             if let Some(slice) = stopped {
                 return Ok(slice);
             }
         }
         Err(Memory)
+    }
+}
+
+/// How many steps were made: none where a step was taken back or the search has ended.
+fn steps_made(stopped: &Option<Slice>) -> u64
+    ensures { result ≡ steps_of stopped.now }
+{
+    match stopped {
+        None => 1,
+        Some(Slice::Solution(_)) => 1,
+        Some(_) => 0,
     }
 }

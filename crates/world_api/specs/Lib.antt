@@ -6,7 +6,3 @@ pub mod Answers
 pub mod Gains
 pub mod Asked
 pub mod Courses
-pub mod Scripts
-pub mod Residents
-pub mod Onces
-pub mod OnceGiven

@@ -10,6 +10,8 @@ use Rattle.iso_engine.proofs.engine.Engine.steps.Goals as goal
 
 pub loop-init : goal.loop-init
 loop-init g c = (
+  0,
+  omega arith,
   walk_begins c.args.n (g.W.A.Atoms.held c.args.atoms.now) (g.W.World.told c.args.world.now) c.args.self.now c.args.out.now.items c.requires.runs c.requires.ready,
   refl,
   nothing_asked _ (g.W.A.Atoms.asked c.args.atoms.now) (g.W.A.Atoms.asked c.args.atoms.now) refl,
@@ -23,17 +25,19 @@ loop-preserved g c =
     let t = g.W.World.told c.args.world.now in
     let u = g.W.World.told c.loop.world in
     let w = g.W.World.told c.step.new.world in
-    let walk = c.loop.invariant.0 in
+    let walk = c.loop.invariant.2 in
     let low = walk.low in
     let less = c.if-self-start.false in
     let s = c.in_ok-stopped in
     let went = went_on n r u w c.loop.self c.step.new.self c.loop.out.items c.step.new.out.items s.stopped s.ensures.stepped c.in_default.is in (
-      walk_on c.args.n m n r t u w c.args.self.now c.loop.self c.step.new.self c.args.out.now.items c.loop.out.items c.step.new.out.items went.0 walk went.1 went.2
+      1 + c.loop.invariant.0,
+      (let count = c.loop.invariant.1 in let one = ap steps_of c.in_default.is in omega (arith, count, one, c.in_Some-count.is)),
+      walk_on c.args.n c.loop.invariant.0 m n r t u w c.args.self.now c.loop.self c.step.new.self c.args.out.now.items c.loop.out.items c.step.new.out.items went.0 walk went.1 went.2
           c.step.ensures.runs s.ensures.ready c.step.ensures.holds s.ensures.spent (when_none _ _ s.ensures.given c.in_default.is) (omega (arith, low, less)),
-      none_refused (g.W.A.Atoms.refusals c.args.atoms.now) (g.W.A.Atoms.refusals c.loop.atoms) (g.W.A.Atoms.refusals c.step.new.atoms) s.stopped c.loop.invariant.1
+      none_refused (g.W.A.Atoms.refusals c.args.atoms.now) (g.W.A.Atoms.refusals c.loop.atoms) (g.W.A.Atoms.refusals c.step.new.atoms) s.stopped c.loop.invariant.3
           s.ensures.refusals c.in_default.is,
-      way_gains walk.steps 1 m n r t u w c.args.self.now c.loop.self c.step.new.self walk.written went.0 (g.W.A.Atoms.asked c.args.atoms.now)
-          (g.W.A.Atoms.asked c.loop.atoms) (g.W.A.Atoms.asked c.step.new.atoms) walk.advances went.1 c.loop.invariant.2 c.step.ensures.asked,
+      way_gains c.loop.invariant.0 1 m n r t u w c.args.self.now c.loop.self c.step.new.self walk.written went.0 (g.W.A.Atoms.asked c.args.atoms.now)
+          (g.W.A.Atoms.asked c.loop.atoms) (g.W.A.Atoms.asked c.step.new.atoms) walk.advances went.1 c.loop.invariant.4 c.step.ensures.asked,
     )
 
 pub returns-in-Some-clause-sliced : goal.returns-in-Some-clause-sliced
@@ -44,19 +48,23 @@ returns-in-Some-clause-sliced g c =
     let t = g.W.World.told c.args.world.now in
     let u = g.W.World.told c.loop.world in
     let w = g.W.World.told c.step.new.world in
-    let walk = c.loop.invariant.0 in
+    let walk = c.loop.invariant.2 in
     let low = walk.low in
     let less = c.if-self-start.false in
     let s = c.in_ok-stopped in
     let step = subst (λ (x : Option Slice). (more : List Output) × IsStepped n u c.loop.self x r w c.step.new.self more
     × (c.step.new.out.items ≡ c.loop.out.items ++ encode_utf8_all (written_text more))) c.in-Some.is s.ensures.stepped in
-    slice_ends c.args.n m n r t u w c.args.self.now c.loop.self c.step.new.self c.args.out.now.items c.loop.out.items c.step.new.out.items walk s.ensures.spent
-    (omega (arith, low, less)) c.in-Some.slice step
+    (
+      steps_of (Some c.in-Some.slice) + c.loop.invariant.0,
+      (let count = c.loop.invariant.1 in let made = ap steps_of c.in-Some.is in omega (arith, count, made)),
+      slice_ends c.args.n c.loop.invariant.0 m n r t u w c.args.self.now c.loop.self c.step.new.self c.args.out.now.items c.loop.out.items c.step.new.out.items walk s.ensures.spent
+    (omega (arith, low, less)) c.in-Some.slice step,
+    )
 
 pub returns-in-Some-clause-refusals : goal.returns-in-Some-clause-refusals
 returns-in-Some-clause-refusals g c =
     let s = c.in_ok-stopped in
-    some_refused (g.W.A.Atoms.refusals c.args.atoms.now) (g.W.A.Atoms.refusals c.loop.atoms) (g.W.A.Atoms.refusals c.step.new.atoms) s.stopped c.in-Some.slice c.loop.invariant.1
+    some_refused (g.W.A.Atoms.refusals c.args.atoms.now) (g.W.A.Atoms.refusals c.loop.atoms) (g.W.A.Atoms.refusals c.step.new.atoms) s.stopped c.in-Some.slice c.loop.invariant.3
     s.ensures.refusals c.in-Some.is
 
 pub returns-in-Some-clause-asked : goal.returns-in-Some-clause-asked
@@ -67,30 +75,30 @@ returns-in-Some-clause-asked g c =
     let t = g.W.World.told c.args.world.now in
     let u = g.W.World.told c.loop.world in
     let w = g.W.World.told c.step.new.world in
-    let walk = c.loop.invariant.0 in
+    let walk = c.loop.invariant.2 in
     let s = c.in_ok-stopped in
     let stepped = s.ensures.stepped in
     let step = step_advances n r u w c.loop.self c.step.new.self s.stopped stepped.0 stepped.1 in
-    way_gains walk.steps step.0 m n r t u w c.args.self.now c.loop.self c.step.new.self walk.written stepped.0 (g.W.A.Atoms.asked c.args.atoms.now)
-    (g.W.A.Atoms.asked c.loop.atoms) (g.W.A.Atoms.asked c.step.new.atoms) walk.advances step.1 c.loop.invariant.2 c.step.ensures.asked
+    way_gains c.loop.invariant.0 step.0 m n r t u w c.args.self.now c.loop.self c.step.new.self walk.written stepped.0 (g.W.A.Atoms.asked c.args.atoms.now)
+    (g.W.A.Atoms.asked c.loop.atoms) (g.W.A.Atoms.asked c.step.new.atoms) walk.advances step.1 c.loop.invariant.4 c.step.ensures.asked
 
 pub returns-in-Some-clause-came : goal.returns-in-Some-clause-came
 returns-in-Some-clause-came g c =
     let n = g.W.A.Atoms.held c.loop.atoms in
     let u = g.W.World.told c.loop.world in
-    let walk = c.loop.invariant.0 in
-    come_gains walk.steps 0 (g.W.A.Atoms.held c.args.atoms.now) n n (g.W.World.told c.args.world.now) u u c.args.self.now c.loop.self c.loop.self walk.written []
-    (g.W.A.Atoms.asked c.args.atoms.now) (g.W.A.Atoms.asked c.loop.atoms) (g.W.A.Atoms.asked c.step.new.atoms) walk.advances c.loop.invariant.2 c.step.ensures.asked
+    let walk = c.loop.invariant.2 in
+    come_gains c.loop.invariant.0 0 (g.W.A.Atoms.held c.args.atoms.now) n n (g.W.World.told c.args.world.now) u u c.args.self.now c.loop.self c.loop.self walk.written []
+    (g.W.A.Atoms.asked c.args.atoms.now) (g.W.A.Atoms.asked c.loop.atoms) (g.W.A.Atoms.asked c.step.new.atoms) walk.advances c.loop.invariant.4 c.step.ensures.asked
 
 pub returns-in_err-stopped-clause-came : goal.returns-in_err-stopped-clause-came
 returns-in_err-stopped-clause-came g c =
     let n = g.W.A.Atoms.held c.loop.atoms in
     let u = g.W.World.told c.loop.world in
-    let walk = c.loop.invariant.0 in
-    come_gains walk.steps 0 (g.W.A.Atoms.held c.args.atoms.now) n n (g.W.World.told c.args.world.now) u u c.args.self.now c.loop.self c.loop.self walk.written []
-    (g.W.A.Atoms.asked c.args.atoms.now) (g.W.A.Atoms.asked c.loop.atoms) (g.W.A.Atoms.asked c.step.new.atoms) walk.advances c.loop.invariant.2 c.step.ensures.asked
+    let walk = c.loop.invariant.2 in
+    come_gains c.loop.invariant.0 0 (g.W.A.Atoms.held c.args.atoms.now) n n (g.W.World.told c.args.world.now) u u c.args.self.now c.loop.self c.loop.self walk.written []
+    (g.W.A.Atoms.asked c.args.atoms.now) (g.W.A.Atoms.asked c.loop.atoms) (g.W.A.Atoms.asked c.step.new.atoms) walk.advances c.loop.invariant.4 c.step.ensures.asked
 
 pub returns-clause-came : goal.returns-clause-came
 returns-clause-came g c =
     came (g.W.A.Atoms.held c.args.atoms.now) (g.W.A.Atoms.held c.loop.atoms) (g.W.World.told c.args.world.now) (g.W.World.told c.loop.world) c.args.self.now
-    c.loop.self (g.W.A.Atoms.asked c.args.atoms.now) (g.W.A.Atoms.asked c.loop.atoms) c.loop.invariant.2
+    c.loop.self (g.W.A.Atoms.asked c.args.atoms.now) (g.W.A.Atoms.asked c.loop.atoms) c.loop.invariant.4

@@ -1,14 +1,14 @@
 -- How the goal of a script of one goal is taken up.
-use Rattle.std.specs.Prelude.{◌≡◌, [], ◌∷◌, ◌++◌, length, false, Option}
+use Rattle.std.specs.Prelude.{◌≡◌, ℕ, [], ◌∷◌, ◌++◌, length, false, Option}
 use Rattle.pl_model.specs.History.{Kind, History}
 use Rattle.pl_model.specs.Requests.{look}
 use Rattle.pl_model.specs.Requests as requests
 use Rattle.pl_model.specs.Service.{answers}
 use Rattle.pl_model.specs.Progress.{entry_by, served_now}
-use Rattle.world_api.specs.declared.script.Next.{Next}
-use Rattle.world_api.specs.declared.script.Next.TheVariants.{Item, Done}
-use Rattle.world_api.specs.declared.once.Stage.{Stage}
-use Rattle.world_api.specs.declared.once.Stage.TheVariants.{Fresh, AtHand}
+use Rattle.script_api.specs.declared.script.Next.{Next}
+use Rattle.script_api.specs.declared.script.Next.TheVariants.{Item, Done}
+use Rattle.script_api.specs.declared.once.Stage.{Stage}
+use Rattle.script_api.specs.declared.once.Stage.TheVariants.{Fresh, AtHand}
 use Rattle.world_api.specs.Told.{Told, Follows}
 use Rattle.world_api.specs.Answers.{seen_as}
 
@@ -26,3 +26,8 @@ abbrev pub TakenUp : {T : Type 0} → T → Told → Next T → Stage T → Told
 TakenUp goal t (Item g directive) stage u = (g ≡ goal) × (directive ≡ false) × (stage ≡ AtHand) × Looked t u
 TakenUp goal t (Done h) stage u = ⊥
 TakenUp goal t _ stage u = (stage ≡ Fresh goal) × (u ≡ t)
+
+-- The moves of the execution by which an item is given.
+abbrev pub moves_by : {T : Type 0} → Next T → ℕ
+moves_by (Item g directive) = 1
+moves_by next = 0

@@ -1,19 +1,16 @@
 //! The script of an engine that was started with a goal.
-ghost use Rattle.std.specs.Prelude.{◌≡◌, ◌++◌, false, IsSome, None};
+ghost use Rattle.std.specs.Prelude.{◌≡◌, ◌+◌, ◌++◌, false, IsSome, None};
 ghost use Rattle.std.specs.List.{All};
 ghost use Rattle.world_api.specs.Texts.{text_of, Holds};
 ghost use Rattle.world_api.specs.Told.{has_ended};
-ghost use Rattle.world_api.specs.Scripts.{IsLater, next_refusals};
-ghost use Rattle.world_api.specs.OnceGiven.{TakenUp};
+ghost use Rattle.script_api.specs.Scripts.{IsLater, next_refusals};
+ghost use Rattle.script_api.specs.declared.once.Stage.TheVariants.{Fresh};
+ghost use Rattle.script_api.specs.OnceGiven.{TakenUp, moves_by};
 
-use crate::answer::Answer;
-use crate::how::How;
-use crate::named::Named;
 use crate::script::{Next, Script};
-use crate::visit::Visit;
-use crate::world::World;
-use pl_term::Flat;
+use pl_term::{Flat, Text};
 use std::mem;
+use world_api::{Answer, How, Named, Visit, World};
 
 /// How far a script of one goal has come.
 #[derive(Drop)]
@@ -34,7 +31,9 @@ pub struct Once<T> {
 
 impl<T: Named + Drop> Once<T> {
     /// The script of an engine that was started with this goal, whose variables are numbered from 0.
-    pub fn new(goal: T) -> Once<T> {
+    pub fn new(goal: T) -> Once<T>
+        ensures { result.stage ≡ Fresh goal }
+    {
         Once {
             stage: Stage::Fresh(goal),
         }
@@ -44,7 +43,7 @@ impl<T: Named + Drop> Once<T> {
 impl<T: Named + Drop> Script for Once<T> {
     ghost use Rattle.std.specs.Prelude.{[]};
     ghost use Rattle.pl_model.specs.Requests.{look};
-    ghost use Rattle.world_api.specs.Onces.{execution_of, part_of, plays_of, names_of, over_of, same_under, same_lines, all_reported};
+    ghost use Rattle.script_api.specs.Onces.{execution_of, part_of, plays_of, names_of, over_of, same_under, same_lines, all_named, all_reported};
 
     type Term = T;
 
@@ -66,11 +65,19 @@ impl<T: Named + Drop> Script for Once<T> {
 
     ghost asks = { λ _ q. q ≡ look };
 
+    ghost variables = { λ _. [] };
+
     ghost names_tell = { λ s text other same. same_under T.term T.names T.names_tell s.stage text other same };
 
     ghost lines = { λ text s job cs. same_lines T.term text s.stage job cs };
 
+    ghost named = { λ text s job cs. all_named T.term text s.stage job cs };
+
     ghost reported = { λ text s job cs. all_reported T.term text s.stage job cs };
+
+    fn variable_names(&self) -> &[(Text, u64)] {
+        &[]
+    }
 
     fn next<W: World<Term = T>>(
         &mut self,
@@ -78,27 +85,38 @@ impl<T: Named + Drop> Script for Once<T> {
         world: &mut W,
         atoms: &mut W::A,
         _text: &mut Vec<u8>,
+        moves: &mut u64,
     ) -> Next<T> {
         match mem::replace(&mut self.stage, Stage::Over) {
             Stage::Fresh(goal) => {
-                let (stage, next) = take_up(goal, world, atoms);
+                let (stage, next) = take_up(goal, world, atoms, moves);
                 self.stage = stage;
                 next
             }
-            Stage::AtHand => Next::Done { halted: None },
+            Stage::AtHand => {
+                let Some(count) = moves.checked_add(1) else {
+                    self.stage = Stage::AtHand;
+                    return Next::Memory;
+                };
+                *moves = count;
+                Next::Done { halted: None }
+            }
             Stage::Over => unreachable!(),
         }
     }
 }
 
-/// The goal is taken up by a look at the shared state: how far the script has come then, and what it has next.
+/// The goal is taken up by a look at the shared state, which is one move: how far the script has come then, and what it
+/// has next.
 fn take_up<T: Named + Drop, W: World<Term = T>>(
     goal: T,
     world: &mut W,
     atoms: &mut W::A,
+    moves: &mut u64,
 ) -> (Stage<T>, Next<T>)
     requires runs { has_ended (W.told world.old).engine (W.told world.old).history ≡ false }
     requires held { All (λ a. IsSome (W.A.held atoms.old a)) (T.names goal) }
+    ensures counted { moves.new ≡ moves_by result.1 + moves.old }
     ensures taken { TakenUp goal (W.told world.old) result.1 result.0 (W.told world.new) }
     ensures runs { has_ended (W.told world.new).engine (W.told world.new).history ≡ false }
     ensures holds { Holds (W.A.held atoms.old) (W.A.held atoms.new) }
@@ -106,14 +124,20 @@ fn take_up<T: Named + Drop, W: World<Term = T>>(
     ensures told { IsLater (W.told world.old) (W.told world.new) }
     ensures asked { W.A.asked atoms.new ≡ W.A.asked atoms.old }
 {
+    let Some(count) = moves.checked_add(1) else {
+        return (Stage::Fresh(goal), Next::Memory);
+    };
     match world.visit(Visit::Look, atoms) {
-        Answer::Served { .. } => (
-            Stage::AtHand,
-            Next::Item {
-                goal,
-                directive: false,
-            },
-        ),
+        Answer::Served { .. } => {
+            *moves = count;
+            (
+                Stage::AtHand,
+                Next::Item {
+                    goal,
+                    directive: false,
+                },
+            )
+        }
         Answer::Waits { .. } => unreachable!(),
         Answer::NeedsAtoms(pass) => (Stage::Fresh(goal), Next::NeedsAtoms(pass)),
         Answer::Retry(cause) => (Stage::Fresh(goal), Next::Retry(cause)),

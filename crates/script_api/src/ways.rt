@@ -1,24 +1,27 @@
 //! Laws of the ways of an execution, by which a script comes from the end of one item to the next.
-ghost use Rattle.std.specs.Prelude.{◌≡◌, [], ◌∷◌, ◌++◌, length, Option};
+ghost use Rattle.std.specs.Prelude.{◌≡◌, ℕ, ◌+◌, [], ◌∷◌, ◌++◌, length, Option};
 ghost use Rattle.pl_model.specs.History.{Kind, History};
 ghost use Rattle.pl_model.specs.Requests.{Request, Reply as SharedReply};
 ghost use Rattle.pl_model.specs.Service.{answers};
 ghost use Rattle.pl_model.specs.Execution.{Job, Execution, move, moves, requests};
 ghost use Rattle.pl_model.specs.Progress.{entry_by, served_now};
 ghost use Rattle.world_api.specs.Told.{Told, Follows};
+ghost use Rattle.pl_model.specs.Resolution.{Limits, State};
 ghost use Rattle.world_api.specs.Answers.{seen_as};
-ghost use Rattle.world_api.specs.Scripts.{Comes};
+ghost use Rattle.world_api.specs.Courses.{Course};
+ghost use Rattle.script_api.specs.Parts.{Part, limits_of, with_search};
+ghost use Rattle.script_api.specs.Comes.{ComesIn};
 
 /// An execution is where it is.
 #[tactic(auto, using(crate::proofs::ComesLaws::comes_same))]
 pub fn execution_stays()
-    ensures { (job : Job) (x y : Execution) (t : Told) → x ≡ y → Comes job x t y t }
+    ensures { (job : Job) (x y : Execution) (t : Told) → x ≡ y → ComesIn job 0 x t y t }
 {}
 
 /// A move of the execution's own.
 #[tactic(auto, using(crate::proofs::ComesLaws::comes_by_move))]
 pub fn execution_moves()
-    ensures { (job : Job) (x y : Execution) (t : Told) → move job x ≡ moves y → Comes job x t y t }
+    ensures { (job : Job) (x y : Execution) (t : Told) → move job x ≡ moves y → ComesIn job 1 x t y t }
 {}
 
 /// A request that is answered behind all entries.
@@ -28,14 +31,23 @@ pub fn execution_asks()
         → Follows t.engine t.history before
         → served_now t.engine t.goals before q ≡ answers reply update
         → u ≡ seen_as t (before ++ entry_by t.engine update) (t.gens ++ length before ∷ [])
-        → Comes job x t (next reply) u }
+        → ComesIn job 1 x t (next reply) u }
 {}
 
 /// One way behind another.
 #[tactic(auto, using(crate::proofs::ComesLaws::comes_then))]
 pub fn execution_goes_on()
-    ensures { (job : Job) (x y z : Execution) (t u v : Told)
-        → Comes job x t y u
-        → Comes job y u z v
-        → Comes job x t z v }
+    ensures { (job : Job) (x y z : Execution) (t u v : Told) (n k : ℕ)
+        → ComesIn job n x t y u
+        → ComesIn job k y u z v
+        → ComesIn job (k + n) x t z v }
+{}
+
+/// The course of a search is a way of each execution that it is a part of.
+#[tactic(auto, using(crate::proofs::CourseRuns::course_comes))]
+pub fn search_is_a_way()
+    ensures { (l : Limits) (s r : State) (t u : Told) (n : ℕ) (job : Job) (x : Execution) (part : Part)
+        → limits_of job part ≡ l
+        → Course l s t n r u
+        → ComesIn job n (with_search x part s) t (with_search x part r) u }
 {}

@@ -5,18 +5,18 @@ use Rattle.pl_model.specs.History.{History}
 use Rattle.pl_model.specs.Requests.{Request}
 use Rattle.pl_model.specs.Resolution.{Ending, solved, no_more, threw, exited, halted, ended, Output, State}
 use Rattle.pl_model.specs.Control.{start}
-use Rattle.pl_model.specs.Execution.{Script, Job, Consulted, wrote, Activity, directing, over, Execution, texts_of}
-use Rattle.pl_model.specs.Progress.{Reached}
+use Rattle.pl_model.specs.Execution.{Script, Word, goal_word, faulty_word, Job, Consulted, wrote, Activity, directing, over, Execution, texts_of}
 use Rattle.pl_model.specs.Report.{all_consulted}
 use Rattle.atom_words.specs.declared.view.Refusal.{Refusal}
 use Rattle.atom_words.specs.declared.view.Refusal.TheVariants.{Full as RefusalFull, Again as RefusalAgain, Worn as RefusalWorn}
 use Rattle.world_api.specs.declared.how.How.{How}
 use Rattle.world_api.specs.declared.how.How.TheVariants.{Solved, False, Threw, Exited, Halted}
-use Rattle.world_api.specs.declared.script.Next.{Next}
-use Rattle.world_api.specs.declared.script.Next.TheVariants.{Item, Done, NeedsAtoms, Retry, Worn, Memory}
+use Rattle.script_api.specs.declared.script.Next.{Next}
+use Rattle.script_api.specs.declared.script.Next.TheVariants.{Item, Done, NeedsAtoms, Retry, Worn, Memory}
 use Rattle.world_api.specs.Told.{Told}
 use Rattle.world_api.specs.Asked.{IsInReply}
-use Rattle.world_api.specs.Courses.{Part, of_goal, of_directive, limits_of, with_search, seen_in}
+use Rattle.script_api.specs.Comes.{ComesIn, ComesBy}
+use Rattle.script_api.specs.Parts.{Part, of_goal, of_directive, limits_of, with_search}
 
 abbrev pub next_refusals : {T : Type 0} → Next T → List Refusal
 next_refusals (Item t d) = []
@@ -76,13 +76,6 @@ texts_at _ = []
 abbrev pub written_at : Execution → List Consulted
 written_at x = x.consulted ++ texts_at x.activity
 
--- Whatever run has come to the one state has come to the other so many moves later.
-pub record Comes (job : Job) (x : Execution) (t : Told) (y : Execution) (u : Told) : Type 0 where
-  pub engine : u.engine ≡ t.engine
-  pub goals : u.goals ≡ t.goals
-  pub moves : ℕ
-  pub comes : (low m : ℕ) → Reached t.engine t.goals job low (seen_in t x) m → Reached t.engine t.goals job low (seen_in u y) (moves + m)
-
 -- How the engine ends behind its last item, and what its goal has written: a directive has halted, or the search of the
 -- goal has ended, or there was no goal.
 abbrev pub LeavesOff : Option ℕ → Option Part → Option State → Ending → List Output → Type 0
@@ -108,6 +101,17 @@ IsKept next b cs = some_fault cs ≡ b
 abbrev pub IsWritten : {T : Type 0} → Next T → Chars → List Consulted → List ℕ → Type 0
 IsWritten Memory name cs bytes = Unit {0}
 IsWritten next name cs bytes = bytes ≡ encode_utf8_all (all_consulted name [] cs)
+
+-- The execution comes to the other one, and the moves were counted, unless memory was exhausted.
+abbrev pub CameBy : {T : Type 0} → Next T → Job → Execution → Told → ℕ → Execution → Told → ℕ → Type 0
+CameBy Memory job x t before y u after = (n : ℕ) × ComesIn job n x t y u
+CameBy next job x t before y u after = ComesBy job x t before y u after
+
+-- These are the names of the variables of the first goal word, with their numbers.
+abbrev pub AreNames : List (Chars × ℕ) → List Word → Type 0
+AreNames names [] = names ≡ []
+AreNames names (goal_word t own ∷ ws) = names ≡ own
+AreNames names (faulty_word kind at ∷ ws) = names ≡ []
 
 -- The same engine among as many goals, and the history has gone on.
 pub record IsLater (t u : Told) : Type 0 where
@@ -146,17 +150,17 @@ module _ {S T : Type 0} (execution : (ℕ → Chars) → S → Job → List Cons
   StandsAfter text s job was searched Memory cs y = Unit {0}
   StandsAfter text s job was searched _ cs y = (part s ≡ None) × (y ≡ execution text s job cs)
 
-  -- Whatever execution of this script it is, it comes from the one to the other, and the text of the file with it, and
-  -- what is told of the faults in it.
-  abbrev pub Given : ((ℕ → Chars) → S → Script → Type 0) → (S → Bool) → Chars → (ℕ → Chars) → (ℕ → Chars) → S → Option (How Tree) → Told → List ℕ → Next T → S → Told → List ℕ → Type 0
-  Given plays kept name old_text new_text old how t bytes next new u more =
+  -- Whatever execution of this script it is, it comes from the one to the other in so many moves as were counted, and the text
+  -- of the file with it, and what is told of the faults in it.
+  abbrev pub Given : ((ℕ → Chars) → S → Script → Type 0) → (S → Bool) → Chars → (ℕ → Chars) → (ℕ → Chars) → S → Option (How Tree) → Told → ℕ → List ℕ → Next T → S → Told → ℕ → List ℕ → Type 0
+  Given plays kept name old_text new_text old how t before bytes next new u after more =
       (job : Job) (cs : List Consulted) (searched : Option State) (x : Execution)
       → plays old_text old job.script
       → StandsBefore old_text old job (part old) how searched cs x
       → bytes ≡ encode_utf8_all (all_consulted name [] (written_at x))
       → some_fault (written_at x) ≡ kept old
       → (ds : List Consulted) × (y : Execution)
-      × Comes job x t y u
+      × CameBy next job x t before y u after
       × StandsAfter new_text new job (part old) searched next ds y
       × plays new_text new job.script
       × IsWritten next name ds more

@@ -1,11 +1,11 @@
 use Rattle.std.proofs.Common.{refl, sym, ◌∙◌, subst, IsSome}
 use Rattle.std.specs.List.{All}
-use Rattle.world_api.specs.declared.once.Stage.{Stage}
-use Rattle.world_api.specs.Onces.{names_of}
+use Rattle.script_api.specs.declared.once.Stage.{Stage}
+use Rattle.script_api.specs.Onces.{names_of}
 use Rattle.world_api.proofs.Gaining.{gains_nothing}
-use Rattle.world_api.proofs.LaterLaws.{later_same}
-use Rattle.world_api.proofs.OnceLaws.{given_from, end_from, same_texts, same_words}
-use Rattle.world_api.proofs.once.OnceScript.next.Goals as goal
+use Rattle.script_api.proofs.LaterLaws.{later_same}
+use Rattle.script_api.proofs.OnceLaws.{given_from, end_from, same_texts, same_words}
+use Rattle.script_api.proofs.once.OnceScript.next.Goals as goal
 
 pub returns-in-Fresh-clause-given : goal.returns-in-Fresh-clause-given
 returns-in-Fresh-clause-given g c =

@@ -8,14 +8,12 @@ ghost use Rattle.pl_model.specs.Requests.{Request};
 ghost use Rattle.world_api.specs.Texts.{text_of, Holds};
 ghost use Rattle.world_api.specs.Told.{Told, has_ended};
 ghost use Rattle.world_api.specs.Gains.{Gains};
-ghost use Rattle.world_api.specs.Courses.{Part, of_goal};
-ghost use Rattle.world_api.specs.Scripts.{IsAsked, IsAtHand, IsLast, IsLater, IsReplied, Given, next_refusals, next_names, is_done, texts_at};
+ghost use Rattle.script_api.specs.Parts.{Part, of_goal};
+ghost use Rattle.script_api.specs.Scripts.{AreNames, IsAsked, IsAtHand, IsLast, IsLater, IsReplied, Given, next_refusals, next_names, is_done, texts_at};
 
-use crate::how::How;
-use crate::named::Named;
-use crate::world::World;
 use atom_api::{Atoms, Cause, Pass, WornWord};
-use pl_term::Flat;
+use pl_term::{Flat, Text};
+use world_api::{How, Named, World};
 
 /// What a script has next.
 #[derive(Drop)]
@@ -68,22 +66,32 @@ pub trait Script {
     // The requests that it makes for its items.
     ghost asks: { Self → Request → Type 0 };
 
+    // The names of the variables of its goal with their numbers, once it is known.
+    ghost variables: { Self → List (Chars × ℕ) };
+
+    /// The names of the variables of its goal with their numbers: none before the goal is known.
+    fn variable_names(&self) -> &[(Text, u64)]
+        ensures { result.now ≡ variables self.now };
+
     /// The next item. `ended` says how the item at hand has ended, if there is one: its ball has texts of its own, since
-    /// its variables need not be numbered from 0. Lines that are written of the file are put behind its text.
+    /// its variables need not be numbered from 0. Lines that are written of the file are put behind its text, and the moves of
+    /// the execution are added to `moves`. Where their number would pass 64 bits, it answers
+    /// `Memory`.
     fn next<W: World<Term = Self::Term>>(
         &mut self,
         ended: Option<&How<Flat>>,
         world: &mut W,
         atoms: &mut W::A,
         text: &mut Vec<u8>,
+        moves: &mut u64,
     ) -> Next<Self::Term>
         requires runs { has_ended (W.told world.old).engine (W.told world.old).history ≡ false }
         requires asked { IsAsked (part self.old) (option_map (λ b. b.now) ended) }
         requires goes_on { over self.old ≡ false }
         requires held { All (λ a. IsSome (W.A.held atoms.old a)) (names self.old) }
         ensures given { Given execution part Self.Term.term plays kept (name self.old)
-            (text_of (W.A.held atoms.old)) (text_of (W.A.held atoms.new)) self.old (option_map (λ b. b.now) ended.entry) (W.told world.old) text.old.items
-            result self.new (W.told world.new) text.new.items }
+            (text_of (W.A.held atoms.old)) (text_of (W.A.held atoms.new)) self.old (option_map (λ b. b.now) ended.entry) (W.told world.old) moves.old text.old.items
+            result self.new (W.told world.new) moves.new text.new.items }
         ensures over { over self.new ≡ is_done result }
         ensures at_hand { IsAtHand result (part self.new) }
         ensures last { IsLast (part self.old) result }
@@ -106,6 +114,9 @@ pub trait Script {
 
     // What that execution has consulted is what was given.
     ghost lines: { (text : ℕ → Chars) (s : Self) (job : Job) (cs : List Consulted) → (execution text s job cs).consulted ≡ cs };
+
+    // Its goal words have these variables. So these stay while the goal is at hand, as its words do.
+    ghost named: { (text : ℕ → Chars) (s : Self) (job : Job) (cs : List Consulted) → AreNames (variables s) (execution text s job cs).words };
 
     // No text of a directive waits there for its report.
     ghost reported: { (text : ℕ → Chars) (s : Self) (job : Job) (cs : List Consulted) → texts_at (execution text s job cs).activity ≡ [] };

@@ -1,14 +1,14 @@
 use Rattle.std.proofs.Common.{refl, sym, subst}
 use Rattle.pl_model.specs.Requests.{look}
 use Rattle.world_api.specs.Texts.{text_of}
-use Rattle.world_api.specs.declared.once.Stage.{Stage}
-use Rattle.world_api.specs.declared.script.Next.{Next}
-use Rattle.world_api.specs.OnceGiven.{TakenUp}
+use Rattle.script_api.specs.declared.once.Stage.{Stage}
+use Rattle.script_api.specs.declared.script.Next.{Next}
+use Rattle.script_api.specs.OnceGiven.{TakenUp}
 use Rattle.world_api.proofs.AskedLaws.{look_asks_nothing}
-use Rattle.world_api.proofs.LaterLaws.{later_by, later_same}
-use Rattle.world_api.proofs.OnceLaws.{look_serves, looked_of}
-use Rattle.world_api.proofs.once.take_up.Goals.{in-Served, in-NeedsAtoms, in-Retry, in-Worn, in-Memory}
-use Rattle.world_api.proofs.once.take_up.Goals as goal
+use Rattle.script_api.proofs.LaterLaws.{later_by, later_same}
+use Rattle.script_api.proofs.OnceLaws.{look_serves, looked_of}
+use Rattle.script_api.proofs.once.take_up.Goals.{in-Served, in-NeedsAtoms, in-Retry, in-Worn, in-Memory}
+use Rattle.script_api.proofs.once.take_up.Goals as goal
 
 pub unreachable-requires : goal.unreachable-requires
 unreachable-requires g c =

@@ -8,15 +8,14 @@ use Rattle.pl_model.specs.Progress.{Reached, entry_by, served_now}
 use Rattle.pl_model.proofs.Progress.{reached_later, reached_goes, reached_asks}
 use Rattle.world_api.specs.Told.{Told, Follows}
 use Rattle.world_api.specs.Answers.{seen_as}
-use Rattle.world_api.specs.Courses.{seen_in}
-use Rattle.world_api.specs.Scripts.{Comes}
+use Rattle.script_api.specs.Parts.{seen_in}
+use Rattle.script_api.specs.Comes.{ComesIn, ComesBy}
 
-pub comes_same : (job : Job) (x y : Execution) (t : Told) → x ≡ y → Comes job x t y t
+pub comes_same : (job : Job) (x y : Execution) (t : Told) → x ≡ y → ComesIn job 0 x t y t
 comes_same job x y t same =
     record {
       engine = refl;
       goals = refl;
-      moves = 0;
       comes =
           λ low m r.
           subst
@@ -25,12 +24,11 @@ comes_same job x y t same =
           (subst (λ (k : ℕ). Reached t.engine t.goals job low (seen_in t x) k) (let e : m ≡ 0 + m = omega arith in e) r);
     }
 
-pub comes_by_move : (job : Job) (x y : Execution) (t : Told) → move job x ≡ moves y → Comes job x t y t
+pub comes_by_move : (job : Job) (x y : Execution) (t : Told) → move job x ≡ moves y → ComesIn job 1 x t y t
 comes_by_move job x y t is =
     record {
       engine = refl;
       goals = refl;
-      moves = 1;
       comes =
           λ low m r.
           subst
@@ -53,15 +51,14 @@ pub comes_by_request : (job : Job) (x : Execution) (q : Request) (next : Reply �
     → Follows t.engine t.history before
     → served_now t.engine t.goals before q ≡ answers reply update
     → u ≡ seen_as t (before ++ entry_by t.engine update) (t.gens ++ length before ∷ [])
-    → Comes job x t (next reply) u
+    → ComesIn job 1 x t (next reply) u
 comes_by_request job x q next t u before reply update is follows served told =
     subst
-    (λ (w : Told). Comes job x t (next reply) w)
+    (λ (w : Told). ComesIn job 1 x t (next reply) w)
     (sym told)
     (record {
       engine = refl;
       goals = refl;
-      moves = 1;
       comes =
           λ low m r.
           let later : Reached t.engine t.goals job low (record { execution = x; history = before; gens = t.gens }) m =
@@ -95,32 +92,56 @@ comes_by_request job x q next t u before reply update is follows served told =
     })
 
 -- One way behind another.
-pub comes_then : (job : Job) (x y z : Execution) (t u v : Told) → Comes job x t y u → Comes job y u z v → Comes job x t z v
-comes_then job x y z t u v c d =
+pub comes_then : (job : Job) (x y z : Execution) (t u v : Told) (n k : ℕ) → ComesIn job n x t y u → ComesIn job k y u z v → ComesIn job (k + n) x t z v
+comes_then job x y z t u v n k c d =
     record {
       engine = d.engine ∙ c.engine;
       goals = d.goals ∙ c.goals;
-      moves = d.moves + c.moves;
       comes =
           λ low m r.
-          let there : Reached u.engine u.goals job low (seen_in u y) (c.moves + m) =
+          let there : Reached u.engine u.goals job low (seen_in u y) (n + m) =
           subst
-          (λ (e : ℕ). Reached e u.goals job low (seen_in u y) (c.moves + m))
+          (λ (e : ℕ). Reached e u.goals job low (seen_in u y) (n + m))
           (sym c.engine)
           (subst
-          (λ (g : ℕ). Reached t.engine g job low (seen_in u y) (c.moves + m))
+          (λ (g : ℕ). Reached t.engine g job low (seen_in u y) (n + m))
           (sym c.goals)
           (c.comes low m r))
-          in let then : Reached u.engine u.goals job low (seen_in v z) (d.moves + (c.moves + m)) =
-          d.comes low (c.moves + m) there
+          in let then : Reached u.engine u.goals job low (seen_in v z) (k + (n + m)) =
+          d.comes low (n + m) there
           in subst
-          (λ (e : ℕ). Reached e t.goals job low (seen_in v z) ((d.moves + c.moves) + m))
+          (λ (e : ℕ). Reached e t.goals job low (seen_in v z) ((k + n) + m))
           c.engine
           (subst
-          (λ (g : ℕ). Reached u.engine g job low (seen_in v z) ((d.moves + c.moves) + m))
+          (λ (g : ℕ). Reached u.engine g job low (seen_in v z) ((k + n) + m))
           c.goals
           (subst
           (λ (i : ℕ). Reached u.engine u.goals job low (seen_in v z) i)
-          (let e : d.moves + (c.moves + m) ≡ (d.moves + c.moves) + m = omega arith in e)
+          (let e : k + (n + m) ≡ (k + n) + m = omega arith in e)
           then));
+    }
+
+-- The same, where the moves were counted.
+pub by_same : (job : Job) (x y : Execution) (t : Told) (a : ℕ) → x ≡ y → ComesBy job x t a y t a
+by_same job x y t a same = record { moves = 0; comes = comes_same job x y t same; counted = omega arith }
+
+pub by_move : (job : Job) (x y : Execution) (t : Told) (a b : ℕ) → move job x ≡ moves y → 1 + a ≡ b → ComesBy job x t a y t b
+by_move job x y t a b is counted = record { moves = 1; comes = comes_by_move job x y t is; counted = counted }
+
+pub by_request : (job : Job) (x : Execution) (q : Request) (next : Reply → Execution) (t u : Told) (before : History) (reply : Reply) (update : Option Kind) (a b : ℕ)
+    → move job x ≡ requests q next
+    → Follows t.engine t.history before
+    → served_now t.engine t.goals before q ≡ answers reply update
+    → u ≡ seen_as t (before ++ entry_by t.engine update) (t.gens ++ length before ∷ [])
+    → 1 + a ≡ b
+    → ComesBy job x t a (next reply) u b
+by_request job x q next t u before reply update a b is follows served told counted =
+    record { moves = 1; comes = comes_by_request job x q next t u before reply update is follows served told; counted = counted }
+
+pub by_then : (job : Job) (x y z : Execution) (t u v : Told) (a b c : ℕ) → ComesBy job x t a y u b → ComesBy job y u b z v c → ComesBy job x t a z v c
+by_then job x y z t u v a b c first second =
+    record {
+      moves = second.moves + first.moves;
+      comes = comes_then job x y z t u v first.moves second.moves first.comes second.comes;
+      counted = (let p = first.counted in let q = second.counted in omega (arith, p, q));
     }

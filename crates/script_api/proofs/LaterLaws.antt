@@ -7,7 +7,7 @@ use Rattle.pl_model.specs.Requests.{Request}
 use Rattle.pl_model.specs.Progress.{entry_by, served_now}
 use Rattle.world_api.specs.Told.{Told, Follows}
 use Rattle.world_api.specs.Answers.{seen_as}
-use Rattle.world_api.specs.Scripts.{IsLater, IsReplied}
+use Rattle.script_api.specs.Scripts.{IsLater, IsReplied}
 
 pub nothing_in : (c : Chars) → Contains [] c → ⊥
 nothing_in c p = let low = p.1 in omega (arith, low)

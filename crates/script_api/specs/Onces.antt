@@ -4,10 +4,10 @@ use Rattle.std.specs.List.{All}
 use Rattle.std.proofs.Common.{ap, refl, ◌∙◌}
 use Rattle.pl_term.specs.Tree.{Chars, Tree}
 use Rattle.pl_model.specs.Execution.{Script, Job, runs, Consulted, Execution, at_activity, beginning, initializing}
-use Rattle.world_api.specs.declared.once.Stage.{Stage}
-use Rattle.world_api.specs.declared.once.Stage.TheVariants.{Fresh, AtHand, Over}
-use Rattle.world_api.specs.Courses.{Part, of_goal}
-use Rattle.world_api.specs.Scripts.{texts_at}
+use Rattle.script_api.specs.declared.once.Stage.{Stage}
+use Rattle.script_api.specs.declared.once.Stage.TheVariants.{Fresh, AtHand, Over}
+use Rattle.script_api.specs.Parts.{Part, of_goal}
+use Rattle.script_api.specs.Scripts.{AreNames, texts_at}
 
 abbrev pub part_of : {T : Type 0} → Stage T → Option Part
 part_of (Fresh t) = None
@@ -39,6 +39,11 @@ module _ {T : Type 0} (term : (ℕ → Chars) → T → Tree) where
   same_lines text (Fresh t) job cs = refl
   same_lines text AtHand job cs = refl
   same_lines text Over job cs = refl
+
+  pub all_named : (text : ℕ → Chars) (s : Stage T) (job : Job) (cs : List Consulted) → AreNames [] (execution_of text s job cs).words
+  all_named text (Fresh t) job cs = refl
+  all_named text AtHand job cs = refl
+  all_named text Over job cs = refl
 
   pub all_reported : (text : ℕ → Chars) (s : Stage T) (job : Job) (cs : List Consulted) → texts_at (execution_of text s job cs).activity ≡ []
   all_reported text (Fresh t) job cs = refl

@@ -1,0 +1,4 @@
+pub mod ComesLaws
+pub mod CourseRuns
+pub mod LaterLaws
+pub mod OnceLaws

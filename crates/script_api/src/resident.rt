@@ -1,0 +1,48 @@
+//! The traits of what stands for an engine between two slices.
+ghost use Rattle.std.specs.Prelude.{◌≡◌, ◌≤◌, ℕ, IfOk, List};
+ghost use Rattle.std.specs.List.{All, Contains};
+ghost use Rattle.pl_model.specs.Execution.{Job, Execution};
+ghost use Rattle.atom_api.specs.Names.{Names};
+ghost use Rattle.world_api.specs.Told.{Told};
+ghost use Rattle.script_api.specs.Residents.{IsLeast, Waited};
+
+use atom_api::Atom;
+use pl_term::Memory;
+use std::alloc::Global;
+
+/// An engine between two slices.
+pub trait Resident {
+    // Where its atoms hold these texts and it was told this, it stands for this execution of a job.
+    ghost stands: { Names → Told → Self → Job → Execution → Type 0 };
+
+    // What holds of it then.
+    ghost ready: { Names → Told → Self → Type 0 };
+
+    // The moves that its execution has made.
+    ghost moves: { Self → ℕ };
+
+    /// The number of moves that its execution has made.
+    fn move_count(&self) -> u64
+        ensures { result ≡ moves self.now };
+
+    // It stands for the same execution when others have made entries.
+    ghost later: { (m n : Names) (t u : Told) (e : Self) → Waited m t n u → ready m t e
+        → ready n u e × ((job : Job) (x : Execution) → stands m t e job x → stands n u e job x) };
+}
+
+/// What an engine keeps in use of the atoms and of the clauses.
+pub trait Roots {
+    // The atoms that it names.
+    ghost names: { Self → List ℕ };
+
+    // The generations of calls that have clauses left.
+    ghost open_at: { Self → List ℕ };
+
+    /// The atoms that it names. The only error is that memory is exhausted.
+    fn live(&self, alloc: Global) -> Result<Vec<Atom>, Memory>
+        ensures { IfOk result (λ atoms. (a : ℕ) → Contains (names self.now) a → Contains atoms.items a) };
+
+    /// The oldest of the generations that it has open, or none.
+    fn oldest_open(&self) -> Option<u64>
+        ensures { IsLeast result (open_at self.now) };
+}
