@@ -3,7 +3,7 @@ use Rattle.std.proofs.Common.{◌≡◌, ℕ, Result, Some, IfOk, subst}
 use Rattle.pl_term.specs.Tree.{Chars, Tree, Trees}
 use Rattle.pl_model.specs.BuiltinRows as defined
 use Rattle.pl_model.specs.BuiltinRows.{error}
-use Rattle.pl_model.specs.Control.{proc}
+use Rattle.pl_model.specs.History.{proc}
 use Rattle.atom_api.specs.Fixed.{fixed}
 use Rattle.atom_api.specs.Names.{Names, FixedStand}
 use Rattle.term_store.specs.Contents.{Contents}

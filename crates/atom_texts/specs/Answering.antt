@@ -2,8 +2,7 @@
 use Rattle.std.specs.Prelude.{ℕ, ◌+◌, ◌<◌, ◌^◌, List, Option}
 use Rattle.std.specs.List.{Contains}
 use Rattle.pl_term.specs.Tree.{Chars, Tree, Trees}
-use Rattle.pl_model.specs.History.{Proc}
-use Rattle.pl_model.specs.Control.{proc}
+use Rattle.pl_model.specs.History.{Proc, proc}
 use Rattle.pl_model.specs.BuiltinRows as defined
 use Rattle.pl_model.specs.TermBuiltins.{two}
 use Rattle.atom_api.specs.Names.{Names}

@@ -4,7 +4,7 @@ ghost use Rattle.pl_term.specs.Tree.{Chars, Trees};
 ghost use Rattle.pl_model.specs.Balls.{instantiation_error, type_error, representation_error};
 ghost use Rattle.pl_model.specs.ErrorTerms.{domain_error};
 ghost use Rattle.pl_model.specs.BuiltinRows.{error};
-ghost use Rattle.pl_model.specs.Control.{proc};
+ghost use Rattle.pl_model.specs.History.{proc};
 ghost use Rattle.atom_api.specs.Fixed.{fixed};
 ghost use Rattle.atom_api.specs.Names.{Names, FixedStand};
 ghost use Rattle.term_store.specs.Contents.{Holds};

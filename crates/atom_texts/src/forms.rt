@@ -2,7 +2,7 @@
 ghost use Rattle.std.specs.Prelude.{◌≡◌, [], Some, IfOk, MatchBool};
 ghost use Rattle.pl_term.specs.Tree.{Chars, Trees};
 ghost use Rattle.pl_model.specs.BuiltinRows.{error};
-ghost use Rattle.pl_model.specs.Control.{proc};
+ghost use Rattle.pl_model.specs.History.{proc};
 ghost use Rattle.atom_api.specs.Fixed.{fixed};
 ghost use Rattle.atom_api.specs.Names.{Names, FixedStand};
 ghost use Rattle.term_store.specs.Contents.{Holds};

@@ -6,7 +6,7 @@ use Rattle.std.proofs.lemmas.Int.{to_z_pos}
 use Rattle.std.proofs.lemmas.List.Elements.{All-append, All-cons, All-nil}
 use Rattle.pl_term.specs.Tree.{Chars, Tree, Trees, atom, int, comp, none, more}
 use Rattle.pl_model.specs.Balls.{error_ball}
-use Rattle.pl_model.specs.Control.{proc}
+use Rattle.pl_model.specs.History.{proc}
 use Rattle.atom_api.specs.Fixed.{fixed, fixed_texts}
 use Rattle.atom_api.specs.Names.{Names, FixedStand}
 use Rattle.term_store.specs.declared.words.Place.{Place}

@@ -3,8 +3,7 @@ use Rattle.std.proofs.Common.{◌≡◌, ℕ, zero, List, [], ◌∷◌, refl}
 use Rattle.pl_term.specs.Tree.{Tree, Trees}
 use Rattle.pl_model.specs.History.{Proc}
 use Rattle.pl_model.specs.Balls.{error_ball}
-use Rattle.pl_model.specs.BuiltinRows.{Answer, gives, table, error, plain_answer, one_answer}
-use Rattle.pl_model.specs.Control.{unifying}
+use Rattle.pl_model.specs.BuiltinRows.{Answer, gives, table, error, plain_answer, one_answer, unifying}
 use Rattle.builtin_rows.specs.Given.{answered, thrown, given, terms_of, with_room}
 
 module _ (p : Proc) (ts : Trees) (next used budget : ℕ) where

@@ -7,9 +7,9 @@ use Rattle.pl_term.specs.Tree.{Trees}
 use Rattle.pl_model.specs.History.{Proc}
 use Rattle.pl_model.specs.Balls.{error_ball, no_cells, no_choices, no_inferences}
 use Rattle.pl_model.specs.Unify.{solve_all}
-use Rattle.pl_model.specs.BuiltinRows.{Answer, Row, gives, table, error, plain_answer}
+use Rattle.pl_model.specs.BuiltinRows.{Answer, Row, gives, table, error, plain_answer, unifying}
 use Rattle.pl_model.specs.Resolution.{Limits, Node, answers, State, collected_cells}
-use Rattle.pl_model.specs.Control.{answer_tried, first_answer, next_answer, raised, unifying, with_row}
+use Rattle.pl_model.specs.Control.{answer_tried, first_answer, next_answer, raised, with_row}
 use Rattle.builtin_rows.specs.Given.{answered, thrown, full, given, terms_of, with_room}
 use Rattle.builtin_rows.specs.Steps.{IsPlain, IsPlainRow, answer_led, given_led}
 

@@ -3,8 +3,7 @@ use Rattle.std.specs.Prelude.{ℕ, zero, ◌+◌, ◌^◌, List, [], ◌∷◌, 
 use Rattle.pl_term.specs.Tree.{Chars, Tree, Trees}
 use Rattle.pl_model.specs.History.{Proc}
 use Rattle.pl_model.specs.Balls.{error_ball, no_inferences}
-use Rattle.pl_model.specs.BuiltinRows.{Answer, Row, gives, table, error}
-use Rattle.pl_model.specs.Control.{unifying}
+use Rattle.pl_model.specs.BuiltinRows.{Answer, Row, gives, table, error, unifying}
 use Rattle.world_api.specs.Asked.{texts_in_all}
 
 pub data Given : Type 0 where

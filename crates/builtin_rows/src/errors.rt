@@ -2,7 +2,7 @@
 ghost use Rattle.std.specs.Prelude.{◌≡◌, ℕ, [], Some, IfOk};
 ghost use Rattle.pl_term.specs.Tree.{Chars, Tree, Trees, atom, comp, more, none};
 ghost use Rattle.pl_model.specs.Balls.{error_ball};
-ghost use Rattle.pl_model.specs.Control.{proc};
+ghost use Rattle.pl_model.specs.History.{proc};
 ghost use Rattle.atom_api.specs.Fixed.{fixed};
 ghost use Rattle.atom_api.specs.Names.{Names, FixedStand};
 ghost use Rattle.term_store.specs.Contents.{Holds};

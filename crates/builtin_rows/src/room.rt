@@ -2,7 +2,7 @@
 ghost use Rattle.std.specs.Prelude.{◌≡◌, [], ◌+◌, ◌<◌, ◌≤◌, ◌^◌, Some, IfOk, IfNone, IfSome};
 ghost use Rattle.pl_term.specs.Tree.{Chars, Trees};
 ghost use Rattle.pl_model.specs.BuiltinRows.{Answer};
-ghost use Rattle.pl_model.specs.Control.{proc};
+ghost use Rattle.pl_model.specs.History.{proc};
 ghost use Rattle.atom_api.specs.Fixed.{fixed};
 ghost use Rattle.atom_api.specs.Names.{Names, FixedStand};
 ghost use Rattle.builtin_rows.specs.Given.{with_room};

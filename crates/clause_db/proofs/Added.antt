@@ -6,7 +6,7 @@ use Rattle.std.specs.Result.{MatchResult, OnOk}
 use Rattle.std.specs.declared.result.Result.{Result}
 use Rattle.std.specs.declared.result.Result.TheVariants.{Ok, Err}
 use Rattle.pl_model.specs.History as entries
-use Rattle.pl_model.specs.Shown.{proc_of, origin_of}
+use Rattle.pl_model.specs.laws.Shown.{proc_of, origin_of}
 use Rattle.pl_model.specs.Database.{Database, used_cells}
 use Rattle.pl_model.specs.declared.shows.Proc.{Proc}
 use Rattle.pl_model.specs.declared.shows.Origin.{Origin}

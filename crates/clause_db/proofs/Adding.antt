@@ -6,7 +6,7 @@ use Rattle.std.proofs.lemmas.List.Elements.{All-cons, All-push, All-weaker, All-
 use borrow.Author.Tests.{eqb-true}
 use Rattle.pl_model.specs.History as entries
 use Rattle.pl_model.specs.Predicates.{same_proc}
-use Rattle.pl_model.specs.Shown.{proc_of, origin_of}
+use Rattle.pl_model.specs.laws.Shown.{proc_of, origin_of}
 use Rattle.pl_model.specs.Database as database
 use Rattle.pl_model.specs.Database.{Database, Procedure, Stored, is_of, is_at, cells_of, used_cells, with_procedure, added_clause, with_first, with_last}
 use Rattle.pl_model.specs.declared.shows.Proc.{Proc}

@@ -13,7 +13,7 @@ use Rattle.std.proofs.lemmas.Bool.{false≢true}
 use Rattle.std.proofs.lemmas.List.Elements.{All-head, All-tail, All-cons, All-nil, All-map, All-weaker}
 use borrow.Author.Tests.{eqb-true, ltb-true}
 use Rattle.pl_model.specs.History as entries
-use Rattle.pl_model.specs.Shown.{proc_of}
+use Rattle.pl_model.specs.laws.Shown.{proc_of}
 use Rattle.pl_model.specs.Database.{Database, Stored, is_of, is_at, is_erased, is_there, cells_of, erased_where, without_clause}
 use Rattle.gen_core.specs.declared.dated_clause.DatedClause.{DatedClause}
 use Rattle.gen_core.specs.Visible.{is_live, erased_by}

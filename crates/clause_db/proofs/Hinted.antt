@@ -5,7 +5,7 @@ use Rattle.std.specs.List.{list_any, slice_get}
 use Rattle.std.proofs.lemmas.Bool.{false≢true}
 use Rattle.pl_model.specs.History.{Proc}
 use Rattle.pl_model.specs.Predicates.{same_proc}
-use Rattle.pl_model.specs.Shown.{proc_of}
+use Rattle.pl_model.specs.laws.Shown.{proc_of}
 use Rattle.clause_db.specs.declared.parts.Part.{Part}
 use Rattle.clause_db.specs.Located.{IsAt, IsMember}
 use Rattle.clause_db.specs.Parts.{piece, is_part_of}

@@ -6,7 +6,7 @@ use Rattle.std.proofs.lemmas.Bool.{leb-true}
 use Rattle.std.proofs.lemmas.List.Elements.{All-head, All-tail, All-cons, All-nil, All-weaker}
 use Rattle.pl_model.specs.History as entries
 use Rattle.pl_model.specs.Predicates.{same_proc}
-use Rattle.pl_model.specs.Shown.{proc_of}
+use Rattle.pl_model.specs.laws.Shown.{proc_of}
 use Rattle.pl_model.specs.declared.shows.Proc.{Proc}
 use Rattle.clause_db.specs.declared.access.Access.{Access}
 use Rattle.clause_db.specs.declared.access.Life.{Life}

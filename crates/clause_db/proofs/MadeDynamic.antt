@@ -9,7 +9,7 @@ use Rattle.std.proofs.lemmas.List.{at_drop_more, length-take, take-append-le}
 use Rattle.std.proofs.lemmas.List.Elements.{All-nil, All-push, All-weaker}
 use Rattle.pl_model.specs.History as entries
 use Rattle.pl_model.specs.Predicates.{same_proc}
-use Rattle.pl_model.specs.Shown.{proc_of}
+use Rattle.pl_model.specs.laws.Shown.{proc_of}
 use Rattle.pl_model.specs.Database as database
 use Rattle.pl_model.specs.Database.{Database, Procedure, Stored, is_static, with_procedure, with_dynamic, with_dynamic_procedures}
 use Rattle.pl_model.specs.declared.shows.Proc.{Proc}

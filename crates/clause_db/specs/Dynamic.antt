@@ -1,7 +1,7 @@
 -- Procedures that are made dynamic.
 use Rattle.std.specs.Prelude.{ℕ, ◌+◌, List, [], ◌∷◌, ◌++◌, find}
 use Rattle.std.specs.Option.{option_map_or}
-use Rattle.pl_model.specs.Shown.{proc_of}
+use Rattle.pl_model.specs.laws.Shown.{proc_of}
 use Rattle.pl_model.specs.declared.shows.Proc.{Proc}
 use Rattle.clause_db.specs.declared.access.Access.TheVariants.{Dynamic}
 use Rattle.clause_db.specs.Parts.{Piece, Held, blank, is_part_of, opened, changed_in}

@@ -1,7 +1,7 @@
 //! Procedures that are abolished.
 ghost use Rattle.std.specs.Prelude.{◌≡◌, ◌-◌, ◌<◌, ◌^◌, min, IfOk, OnErr, map};
 ghost use Rattle.std.specs.Vec.{vec_len, vec_capacity};
-ghost use Rattle.pl_model.specs.Shown.{proc_of};
+ghost use Rattle.pl_model.specs.laws.Shown.{proc_of};
 ghost use Rattle.clause_db.specs.Parts.{piece, clauses_at, changed_in};
 ghost use Rattle.clause_db.specs.Abolished.{buried, closed, live_cells};
 

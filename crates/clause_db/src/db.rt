@@ -6,7 +6,7 @@ ghost use Rattle.std.specs.List.{list_any, slice_get};
 ghost use Rattle.std.specs.List.Sorted.{IsPermutation};
 ghost use Rattle.std.specs.Ordering.{nat_cmp};
 ghost use Rattle.std.specs.BTreeMap as tree;
-ghost use Rattle.pl_model.specs.Shown.{proc_of, origin_of};
+ghost use Rattle.pl_model.specs.laws.Shown.{proc_of, origin_of};
 ghost use Rattle.pl_model.specs.History as entries;
 ghost use Rattle.pl_model.specs.Database.{Database, access_of, opening_database, is_at, is_there, seen, choices, with_first, with_last, without_clause, without_procedure, with_dynamic_procedures, current_procedures};
 ghost use Rattle.pl_model.specs.FirstArguments.{are_apart};

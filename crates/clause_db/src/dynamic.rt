@@ -1,6 +1,6 @@
 //! Procedures that are made dynamic.
 ghost use Rattle.std.specs.Prelude.{◌≡◌, ◌++◌, ◌∷◌, [], OnOk, OnErr, map};
-ghost use Rattle.pl_model.specs.Shown.{proc_of};
+ghost use Rattle.pl_model.specs.laws.Shown.{proc_of};
 ghost use Rattle.clause_db.specs.declared.access.Access.TheVariants.{Dynamic};
 ghost use Rattle.clause_db.specs.Parts.{piece, blank, opened, changed_in};
 ghost use Rattle.clause_db.specs.Dynamic.{with_blank, with_blanks, opened_all};

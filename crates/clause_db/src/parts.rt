@@ -2,7 +2,7 @@
 ghost use Rattle.std.specs.Prelude.{◌≡◌, ◌<◌, ◌^◌, ◌++◌, ◌∷◌, [], All, IfOk, IfErr, OnOk, OnErr, false, true, bytes_eq, map};
 ghost use Rattle.std.specs.List.{slice_get};
 ghost use Rattle.std.specs.Option.{option_map_or};
-ghost use Rattle.pl_model.specs.Shown.{proc_of};
+ghost use Rattle.pl_model.specs.laws.Shown.{proc_of};
 ghost use Rattle.pl_model.specs.Predicates.{same_proc};
 ghost use Rattle.clause_db.specs.Parts.{piece, blank, is_part_of, piece_access, opened, added_to, with_clause, placed, has_live, without_at};
 ghost use Rattle.clause_db.specs.Located.{IsMember, Locates};

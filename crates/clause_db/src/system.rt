@@ -2,7 +2,7 @@
 ghost use Rattle.std.specs.Prelude.{◌≡◌, bytes_eq};
 ghost use Rattle.std.specs.Str.{chars};
 ghost use Rattle.std.specs.List.{list_any};
-ghost use Rattle.pl_model.specs.Shown.{proc_of};
+ghost use Rattle.pl_model.specs.laws.Shown.{proc_of};
 ghost use Rattle.pl_model.specs.Database.{is_system};
 
 use pl_model::shows::Proc;

@@ -7,14 +7,13 @@ use Rattle.pl_model.specs.OperatorTable.{OperatorTable}
 use Rattle.pl_model.specs.History.{Kind, History, Clause as ClauseOf, add_last, consult}
 use Rattle.pl_model.specs.Requests.{consult_clause, done, refused}
 use Rattle.pl_model.specs.Requests as requests
-use Rattle.pl_model.specs.Service.{Served as ServedSo, answers, waits, refuses, serve, most_updates, clause_cells}
+use Rattle.pl_model.specs.Service.{Served as ServedSo, answers, waits, refuses, serve, most_updates, clause_cells, served_now}
 use Rattle.pl_model.specs.Predicates.{proc_of}
 use Rattle.pl_model.specs.Errors.{static_procedure}
 use Rattle.pl_model.specs.ErrorTerms.{resource_error}
 use Rattle.pl_model.specs.Database.{is_system, has_room}
 use Rattle.pl_model.specs.SharedState.{state_at}
-use Rattle.pl_model.specs.Execution.{Job, Execution, adding, move, move_by, requests as asking, clause_added, gone_on, items_from, with_line, ball_of_item}
-use Rattle.pl_model.specs.Progress.{served_now}
+use Rattle.run_model.specs.Execution.{Job, Execution, adding, move, move_by, requests as asking, clause_added, gone_on, items_from, with_line, ball_of_item}
 use Rattle.pl_consult.specs.declared.consult.Place.{Place}
 use Rattle.pl_consult.specs.declared.consult.Place.TheVariants.{Item as AtItem, Initialization}
 use Rattle.pl_consult.specs.declared.consult.Consult.{Consult}

@@ -6,7 +6,7 @@ use Rattle.pl_model.specs.OperatorTable.{OperatorTable}
 use Rattle.pl_model.specs.Requests.{look, standing}
 use Rattle.pl_model.specs.Control.{start}
 use Rattle.pl_model.specs.Resolution.{solved}
-use Rattle.pl_model.specs.Execution.{Job, consults, words_in, Execution, reading, starting, searching, over, Word, word_read, further_goals, first_activity, words_taken, next_start, move, move_by, moves, requests}
+use Rattle.run_model.specs.Execution.{Job, consults, words_in, Execution, reading, starting, searching, over, Word, word_read, further_goals, first_activity, words_taken, next_start, move, move_by, moves, requests}
 use Rattle.world_api.specs.declared.script.Next.{Next}
 use Rattle.world_api.specs.declared.script.Next.TheVariants.{Item, Done, NeedsAtoms, Retry, Worn, Memory}
 use Rattle.world_api.specs.Told.{Told}

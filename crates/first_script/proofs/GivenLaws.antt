@@ -4,8 +4,8 @@ use Rattle.std.specs.Prelude.{encode_utf8_all, nat_lt, if◌then◌else◌}
 use Rattle.pl_term.specs.Tree.{Chars, Tree}
 use Rattle.pl_model.specs.Resolution.{Ending, solved, no_more, threw, exited, halted, ended, State}
 use Rattle.pl_model.specs.Control.{step, step_by}
-use Rattle.pl_model.specs.Execution.{Script, consults, runs, first_execution, at_start, most_bytes, Job, Consulted, bytes_in, directive_limits, Rest, Activity, directing, reporting, searching, over, Execution, texts_of, directed, searched, Word, move, moves}
-use Rattle.pl_model.specs.Report.{all_consulted}
+use Rattle.run_model.specs.Execution.{Script, consults, runs, first_execution, at_start, most_bytes, Job, Consulted, bytes_in, directive_limits, Rest, Activity, directing, reporting, searching, over, Execution, texts_of, directed, searched, Word, move, moves}
+use Rattle.run_model.specs.Report.{all_consulted}
 use Rattle.pl_consult.specs.declared.consult.Place.{Place}
 use Rattle.pl_consult.specs.Consults.{rest_of, activity_of, Stands}
 use Rattle.term_store.specs.NumberedNames.{term_by}

@@ -7,9 +7,9 @@ use Rattle.pl_term.specs.Tree.{Chars, Tree, Trees, var, int, atom, comp, none, m
 use Rattle.pl_term.specs.Variables.{place, variables, rename, rename_by, rename_all_by}
 use Rattle.pl_model.specs.declared.grammar.Quotes.{Quotes}
 use Rattle.pl_model.specs.OperatorTable.{OperatorTable}
-use Rattle.pl_model.specs.History.{Clause as ClauseOf}
-use Rattle.pl_model.specs.BodyChecks.{is_transparent, both_goals, converted, or_not_callable, body_of, head_part, body_part, rule, numbered_clause, with_body, clause_of, clause_of_term}
-use Rattle.pl_model.specs.Execution.{directive_of, initialization_of}
+use Rattle.pl_model.specs.History.{Clause as ClauseOf, head_part, body_part}
+use Rattle.pl_model.specs.BodyChecks.{is_transparent, both_goals, converted, or_not_callable, body_of, rule, numbered_clause, with_body, clause_of, clause_of_term}
+use Rattle.run_model.specs.Execution.{directive_of, initialization_of}
 use Rattle.pl_consult.specs.Checks.{kept_clause}
 use Rattle.world_api.specs.Asked.{texts_in, texts_in_all, clause_texts}
 use Rattle.world_api.proofs.AskedLaws.{clause_named}

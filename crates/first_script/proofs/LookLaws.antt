@@ -7,8 +7,7 @@ use Rattle.pl_model.specs.SharedState.{state_at}
 use Rattle.pl_model.specs.History.{Kind, History}
 use Rattle.pl_model.specs.Requests.{look, standing}
 use Rattle.pl_model.specs.Requests as requests
-use Rattle.pl_model.specs.Service.{answers, waits, serve}
-use Rattle.pl_model.specs.Progress.{served_now}
+use Rattle.pl_model.specs.Service.{answers, waits, serve, served_now}
 use Rattle.world_api.specs.declared.reply.Reply.{Reply}
 use Rattle.world_api.specs.declared.reply.Reply.TheVariants.{Standing as ReplyStanding, Clauses, Procedures, Flags, Named, Message, NoMessage, Status, Done, Gone, Refused}
 use Rattle.world_api.specs.declared.visit.Visit.TheVariants.{Look}

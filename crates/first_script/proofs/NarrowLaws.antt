@@ -8,7 +8,7 @@ use Rattle.pl_term.specs.Variables.{rename}
 use Rattle.pl_model.specs.declared.grammar.Quotes.{Quotes}
 use Rattle.pl_model.specs.OperatorTable.{OperatorTable}
 use Rattle.pl_model.specs.Requests.{Request, look, consult_clause}
-use Rattle.pl_model.specs.Execution.{goal_word, word_read}
+use Rattle.run_model.specs.Execution.{goal_word, word_read}
 use Rattle.pl_consult.specs.declared.consult.Place.{Place}
 use Rattle.pl_consult.specs.declared.consult.Consult.{Consult}
 use Rattle.pl_consult.specs.declared.consult.Taken.{Taken}

@@ -11,7 +11,7 @@ use Rattle.pl_model.specs.Grammar.{Item as ItemOf, clause, fault, end_of_text}
 use Rattle.pl_model.specs.TermGrammar.{item_of}
 use Rattle.pl_model.specs.BodyChecks.{clause_of_term}
 use Rattle.pl_model.specs.Requests.{look, standing}
-use Rattle.pl_model.specs.Execution.{Job, bytes_in, Rest, items_from, initialization, Activity, taking, Execution, move, move_by, requests, item_taken, with_item, with_term, with_clause, with_goal, with_line, gone_on, directive_of, initialization_of, behind_fault, syntax_fault, directive_halted, directive_limits, directing, reporting, initializing, searching, over, moves, next_initialization, directive_ended, reported, directive_failed, ball_of_item}
+use Rattle.run_model.specs.Execution.{Job, bytes_in, Rest, items_from, initialization, Activity, taking, Execution, move, move_by, requests, item_taken, with_item, with_term, with_clause, with_goal, with_line, gone_on, directive_of, initialization_of, behind_fault, syntax_fault, directive_halted, directive_limits, directing, reporting, initializing, searching, over, moves, next_initialization, directive_ended, reported, directive_failed, ball_of_item}
 use Rattle.pl_consult.specs.declared.consult.Place.{Place}
 use Rattle.pl_consult.specs.declared.consult.Place.TheVariants.{Item as AtItem, Initialization}
 use Rattle.pl_consult.specs.declared.consult.Consult.{Consult}

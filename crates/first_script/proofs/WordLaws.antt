@@ -5,7 +5,7 @@ use Rattle.pl_model.specs.declared.grammar.Quotes.{Quotes}
 use Rattle.pl_model.specs.OperatorTable.{OperatorTable}
 use Rattle.pl_model.specs.Grammar.{Item}
 use Rattle.pl_model.specs.TermGrammar.{item_of}
-use Rattle.pl_model.specs.Execution.{goal_text, word_of_item, word_read}
+use Rattle.run_model.specs.Execution.{goal_text, word_of_item, word_read}
 
 pub word_as : (text : List ℕ) (word : Chars) (ops : OperatorTable) (quotes : Quotes) (size : ℕ) (item : Item)
     → text ≡ goal_text word

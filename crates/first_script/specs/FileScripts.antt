@@ -1,8 +1,8 @@
 -- The script of the first engine as a whole: a file that is consulted, and the goal of the command.
 use Rattle.std.specs.Prelude.{◌≡◌, ℕ, List, [], Bool, true, false, Option, Some, None, encode_utf8_all}
 use Rattle.pl_term.specs.Tree.{Chars, Tree}
-use Rattle.pl_model.specs.Execution.{Script, consults, Job, Consulted, Execution, at_start}
-use Rattle.pl_model.specs.Report.{all_consulted}
+use Rattle.run_model.specs.Execution.{Script, consults, Job, Consulted, Execution, at_start}
+use Rattle.run_model.specs.Report.{all_consulted}
 use Rattle.pl_consult.specs.declared.consult.Consult.{Consult}
 use Rattle.world_api.specs.declared.how.How.{How}
 use Rattle.world_api.specs.declared.script.Next.{Next}

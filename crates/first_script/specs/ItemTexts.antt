@@ -8,7 +8,7 @@ use Rattle.pl_model.specs.OperatorTable.{OperatorTable}
 use Rattle.pl_model.specs.History.{Clause as ClauseOf}
 use Rattle.pl_model.specs.BodyChecks.{clause_of_term}
 use Rattle.pl_model.specs.Requests.{Request, look, consult_clause}
-use Rattle.pl_model.specs.Execution.{directive_of, goal_word, word_read}
+use Rattle.run_model.specs.Execution.{directive_of, goal_word, word_read}
 use Rattle.pl_consult.specs.declared.consult.Consult.{Consult}
 use Rattle.pl_consult.specs.Checks.{kept_clause}
 use Rattle.pl_consult.specs.Taking.{IsReadAt}

@@ -6,12 +6,11 @@ use Rattle.pl_model.specs.declared.grammar.Quotes.{Quotes}
 use Rattle.pl_model.specs.OperatorTable.{OperatorTable}
 use Rattle.pl_model.specs.Requests.{Request, look, standing, consult_clause}
 use Rattle.pl_model.specs.Requests as requests
-use Rattle.pl_model.specs.Service.{answers}
+use Rattle.pl_model.specs.Service.{answers, entry_by, served_now}
 use Rattle.pl_model.specs.History.{Kind, History}
 use Rattle.pl_model.specs.Resolution.{Ending, solved, no_more, threw, exited, halted, State}
 use Rattle.pl_model.specs.Control.{start}
-use Rattle.pl_model.specs.Execution.{Job, Consulted, directive_limits, Activity, adding, directing, reporting, initializing, reading, searching, over, Execution}
-use Rattle.pl_model.specs.Progress.{entry_by, served_now}
+use Rattle.run_model.specs.Execution.{Job, Consulted, directive_limits, Activity, adding, directing, reporting, initializing, reading, searching, over, Execution}
 use Rattle.pl_consult.specs.declared.consult.Place.{Place}
 use Rattle.pl_consult.specs.declared.consult.Place.TheVariants.{Item as AtItem, Initialization}
 use Rattle.pl_consult.specs.declared.consult.Consult.{Consult}

@@ -8,7 +8,7 @@ use Rattle.pl_model.specs.BodyChecks.{body_of}
 use Rattle.pl_term.specs.Cells.{cells}
 use Rattle.pl_model.specs.Resolution.{Limits, State, Node, goal}
 use Rattle.pl_model.specs.Control.{start, start_state, start_node, consult_proc, checked, taking, run_on, before}
-use Rattle.pl_model.specs.Execution.{Job, directive_limits, texts_of}
+use Rattle.run_model.specs.Execution.{Job, directive_limits, texts_of}
 use Rattle.pl_consult.specs.declared.consult.Place.{Place}
 use Rattle.pl_consult.specs.declared.consult.Place.TheVariants.{Item, Initialization}
 use Rattle.world_api.specs.Scripts.{texts_at}

@@ -1,7 +1,7 @@
 -- Goal words as they were read.
 use Rattle.std.specs.Prelude.{◌≡◌, ◌⊎◌, ℕ, List, [], ◌∷◌, Option, Some, None}
 use Rattle.pl_term.specs.Tree.{Chars}
-use Rattle.pl_model.specs.Execution.{Word, goal_word, faulty_word}
+use Rattle.run_model.specs.Execution.{Word, goal_word, faulty_word}
 use Rattle.pl_model.specs.declared.syntax.SyntaxFault.{SyntaxFault}
 use Rattle.world_api.specs.declared.script.Next.TheVariants.{Done, Memory}
 use Rattle.first_script.specs.declared.stage.Stage.{Stage}

@@ -3,7 +3,7 @@ ghost use Rattle.std.specs.Prelude.{◌≡◌, ◌++◌, ◌⊎◌, ℕ, List, [
 ghost use Rattle.std.specs.Option.{option_map, option_copied};
 ghost use Rattle.std.specs.List.{All};
 ghost use Rattle.pl_term.specs.Tree.{Chars, Tree};
-ghost use Rattle.pl_model.specs.Execution.{Job, consults, Consulted, word_read};
+ghost use Rattle.run_model.specs.Execution.{Job, consults, Consulted, word_read};
 ghost use Rattle.pl_model.specs.declared.grammar.Quotes.{Quotes};
 ghost use Rattle.pl_model.specs.OperatorTable.{OperatorTable};
 ghost use Rattle.pl_model.specs.Requests.{Request};

@@ -4,7 +4,7 @@ ghost use Rattle.pl_term.specs.Tree.{Chars};
 ghost use Rattle.pl_model.specs.declared.grammar.Quotes.{Quotes};
 ghost use Rattle.pl_model.specs.OperatorTable.{OperatorTable};
 ghost use Rattle.pl_model.specs.Grammar.{clause};
-ghost use Rattle.pl_model.specs.Execution.{goal_text as text_of_goal, word_of_item, word_read};
+ghost use Rattle.run_model.specs.Execution.{goal_text as text_of_goal, word_of_item, word_read};
 ghost use Rattle.prolog_reader.specs.Names.{pairs};
 ghost use Rattle.pl_consult.specs.declared.consult.Consult.{Consult};
 ghost use Rattle.first_script.specs.declared.stage.Stage.TheVariants.{Words as AtWords};

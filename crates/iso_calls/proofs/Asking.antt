@@ -8,8 +8,7 @@ use Rattle.pl_model.specs.Database.{Stored}
 use Rattle.pl_model.specs.Predicates.{proc_of}
 use Rattle.pl_model.specs.Requests.{call_clauses, listed, refused}
 use Rattle.pl_model.specs.Requests as requests
-use Rattle.pl_model.specs.Service.{answers}
-use Rattle.pl_model.specs.Progress.{entry_by, served_now}
+use Rattle.pl_model.specs.Service.{answers, entry_by, served_now}
 use Rattle.atom_api.specs.Names.{Names, FixedStand}
 use Rattle.term_store.specs.declared.argument_key.ArgumentKey.{ArgumentKey}
 use Rattle.term_store.specs.declared.words.Place.{Place}

@@ -5,7 +5,7 @@ use Rattle.std.proofs.lemmas.Bool.{false≢true}
 use Rattle.std.proofs.lemmas.Slice.Eq.{bytes_eq-Decides}
 use Rattle.pl_term.specs.Tree.{Chars, Tree, Trees, var, int, atom, comp, none, more, compound}
 use Rattle.pl_term.specs.Variables.{distinct, variables, rename_by, rename_all_by}
-use Rattle.pl_model.specs.BodyChecks.{body_part, head_part}
+use Rattle.pl_model.specs.History.{body_part, head_part}
 use Rattle.pl_model.specs.Terms.{clause_cells, raised_by, variable_count}
 use Rattle.term_store.specs.declared.words.Place.{Place}
 use Rattle.term_store.specs.Contents.{Contents, term_at}

@@ -6,7 +6,7 @@ use Rattle.pl_term.specs.Tree.{Chars, Tree}
 use Rattle.pl_model.specs.History.{Clause, History}
 use Rattle.pl_model.specs.Database.{Stored}
 use Rattle.pl_model.specs.Service.{clauses_for}
-use Rattle.pl_model.proofs.LawfulStable.{state_later}
+use Rattle.pl_model.proofs.StateLater.{state_later}
 use Rattle.atom_api.specs.Names.{Names, FixedStand}
 use Rattle.term_store.specs.declared.words.Place.{Place}
 use Rattle.term_store.specs.Contents.{Contents, term_at}

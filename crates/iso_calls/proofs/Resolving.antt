@@ -2,8 +2,7 @@
 use Rattle.std.proofs.Common.{◌≡◌, ℕ, List, [], ◌∷◌, length, Option, Some, None, refl, ap, ap₂, ◌∙◌}
 use Rattle.pl_term.specs.Tree.{Tree}
 use Rattle.pl_term.specs.Variables.{variables}
-use Rattle.pl_model.specs.BodyChecks.{body_part, head_part}
-use Rattle.pl_model.specs.History.{Clause, Proc}
+use Rattle.pl_model.specs.History.{Clause, Proc, body_part, head_part}
 use Rattle.pl_model.specs.Database.{Stored}
 use Rattle.pl_model.specs.Predicates.{proc_of}
 use Rattle.pl_model.specs.Terms.{clause_cells, raised_by, variable_count}

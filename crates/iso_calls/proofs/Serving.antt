@@ -9,8 +9,7 @@ use Rattle.pl_model.specs.Errors.{unknown_procedure}
 use Rattle.pl_model.specs.SharedState.{state_at}
 use Rattle.pl_model.specs.Requests.{call_clauses, listed, refused}
 use Rattle.pl_model.specs.Requests as requests
-use Rattle.pl_model.specs.Service.{answers, waits, serve, reads, unknown_called}
-use Rattle.pl_model.specs.Progress.{served_now}
+use Rattle.pl_model.specs.Service.{answers, waits, serve, reads, unknown_called, served_now}
 use Rattle.term_store.specs.NumberedNames.{term_by}
 use Rattle.world_api.specs.declared.reply.Found.{Found}
 use Rattle.world_api.specs.declared.reply.Reply.{Reply}

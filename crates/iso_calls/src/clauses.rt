@@ -2,13 +2,12 @@
 ghost use Rattle.std.specs.Prelude.{◌≡◌, ◌≤◌, ◌+◌, ◌<◌, ◌^◌, ◌&&◌, nat_le, ℕ, List, length, IfOk, OnOk};
 ghost use Rattle.std.specs.Option.{option_map};
 ghost use Rattle.pl_term.specs.Variables.{variables};
-ghost use Rattle.pl_model.specs.History.{Clause};
+ghost use Rattle.pl_model.specs.History.{Clause, body_part, head_part};
 ghost use Rattle.pl_model.specs.Database.{Stored as StoredClause};
 ghost use Rattle.pl_model.specs.Predicates.{proc_of};
 ghost use Rattle.pl_model.specs.Resolution.{resolving};
 ghost use Rattle.pl_model.specs.Control.{first_clause, next_clause, tried, clause_unified};
 ghost use Rattle.pl_model.specs.Unify.{unify};
-ghost use Rattle.pl_model.specs.BodyChecks.{body_part, head_part};
 ghost use Rattle.pl_model.specs.Terms.{raised_by};
 ghost use Rattle.term_store.specs.Contents.{Holds, IsAbove, term_at};
 ghost use Rattle.term_store.specs.NumberedNames.{term_by};

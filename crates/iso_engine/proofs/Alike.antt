@@ -4,7 +4,7 @@ use Rattle.std.specs.List.{Contains}
 use Rattle.pl_term.specs.Tree.{Tree}
 use Rattle.std.proofs.lemmas.List.Elements.{Contains-append_left}
 use Rattle.pl_model.specs.History.{History, Kind}
-use Rattle.pl_model.specs.Progress.{entry_by}
+use Rattle.pl_model.specs.Service.{entry_by}
 use Rattle.atom_api.specs.Names.{Names}
 use Rattle.world_api.specs.Told.{Told, behind, clause_list, has_place}
 use Rattle.world_api.specs.Answers.{seen_as}

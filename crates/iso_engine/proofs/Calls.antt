@@ -9,8 +9,7 @@ use Rattle.pl_model.specs.SharedBuiltins.{shared}
 use Rattle.pl_model.specs.Terms.{arguments}
 use Rattle.pl_model.specs.Database.{Stored}
 use Rattle.pl_model.specs.Requests.{Request, Reply, call_clauses, listed, refused}
-use Rattle.pl_model.specs.Service.{answers}
-use Rattle.pl_model.specs.Progress.{served_now}
+use Rattle.pl_model.specs.Service.{answers, served_now}
 use Rattle.pl_model.specs.Predicates.{proc_of}
 use Rattle.pl_model.specs.Resolution.{Limits, Node, Pending, goal, State, Next, asks, running, throwing, erasing, clearing, failing, answering, ended, resolving}
 use Rattle.pl_model.specs.Resolution as resolution

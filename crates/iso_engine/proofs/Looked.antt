@@ -7,8 +7,7 @@ use Rattle.pl_model.specs.History.{History, Kind}
 use Rattle.pl_model.specs.SharedState.{state_at}
 use Rattle.pl_model.specs.Requests.{look, standing}
 use Rattle.pl_model.specs.Requests as requests
-use Rattle.pl_model.specs.Service.{Served, answers, waits, serve}
-use Rattle.pl_model.specs.Progress.{served_now}
+use Rattle.pl_model.specs.Service.{Served, answers, waits, serve, served_now}
 use Rattle.world_api.specs.declared.answer.Answer.TheVariants.{Served as ServedAnswer}
 use Rattle.world_api.specs.declared.reply.Reply.{Reply}
 use Rattle.world_api.specs.declared.reply.Reply.TheVariants.{Standing, Clauses, Procedures, Flags, Named, Message, NoMessage, Status, Done, Gone, Refused}

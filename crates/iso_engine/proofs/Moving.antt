@@ -3,8 +3,7 @@ use Rattle.std.proofs.Common.{◌≡◌, ◌+◌, List, [], ◌++◌, Option, No
 use Rattle.pl_term.specs.Tree.{Chars}
 use Rattle.pl_model.specs.History.{History}
 use Rattle.pl_model.specs.Requests.{Request, Reply}
-use Rattle.pl_model.specs.Service.{answers}
-use Rattle.pl_model.specs.Progress.{entry_by, served_now}
+use Rattle.pl_model.specs.Service.{answers, entry_by, served_now}
 use Rattle.pl_model.specs.Resolution.{failing, Limits, Output, State, asks, solution_count}
 use Rattle.pl_model.specs.Control.{step}
 use Rattle.atom_api.specs.Names.{Names}

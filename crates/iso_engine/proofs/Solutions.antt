@@ -2,7 +2,7 @@
 use Rattle.std.proofs.Common.{◌≡◌, ℕ, ◌+◌, List, [], ◌∷◌, ◌++◌, length, refl, sym, ap, ap₂, subst, ◌∙◌, append_assoc}
 use Rattle.pl_term.specs.Tree.{Chars, Tree}
 use Rattle.pl_model.specs.OperatorTable.{OperatorTable, opening_table}
-use Rattle.pl_model.specs.Progress.{entry_by, served_now}
+use Rattle.pl_model.specs.Service.{entry_by, served_now}
 use Rattle.pl_model.specs.Requests.{Request, look, standing}
 use Rattle.pl_model.specs.Resolution.{answering, running, failing, throwing, erasing, clearing, ended, Choice, Limits, Node, Output, solution, solution_count, State, asks}
 use Rattle.pl_model.specs.Resolution as resolution

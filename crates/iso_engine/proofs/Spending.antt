@@ -8,10 +8,10 @@ use Rattle.pl_model.specs.Terms.{clause_cells, arguments, extended, is_list_or_p
 use Rattle.pl_model.specs.Predicates.{proc_of}
 use Rattle.pl_model.specs.Checks.{bound_error, callable_error, first_error}
 use Rattle.pl_model.specs.AtomBuiltins.{character_error}
-use Rattle.pl_model.specs.BodyChecks.{body_of, body_part, called_goal, clause_of_term, head_part, if_callable, rule}
+use Rattle.pl_model.specs.BodyChecks.{body_of, called_goal, clause_of_term, if_callable, rule}
 use Rattle.pl_term.specs.Cells.{cells}
 use Rattle.pl_model.specs.Balls.{instantiation_error, no_cells, no_choices, no_inferences, type_error}
-use Rattle.pl_model.specs.History.{Proc, Clause}
+use Rattle.pl_model.specs.History.{Proc, Clause, body_part, head_part}
 use Rattle.pl_model.specs.Database.{Stored}
 use Rattle.pl_model.specs.BuiltinRows.{Answer, Row, gives, table, error}
 use Rattle.pl_model.specs.Builtins.{row}

@@ -7,7 +7,7 @@ use Rattle.pl_model.specs.Resolution as resolution
 use Rattle.pl_model.specs.Control.{step}
 use Rattle.atom_api.specs.Names.{Names}
 use Rattle.pl_model.specs.History.{History}
-use Rattle.pl_model.specs.Progress.{entry_by}
+use Rattle.pl_model.specs.Service.{entry_by}
 use Rattle.world_api.specs.Texts.{Holds}
 use Rattle.world_api.specs.Told.{Told, Follows}
 use Rattle.world_api.specs.Answers.{seen_as}

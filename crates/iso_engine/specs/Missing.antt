@@ -1,14 +1,14 @@
 -- What is not built yet.
 use Rattle.std.specs.Prelude.{◌≡◌, ℕ, List, [], ◌∷◌, ◌⊎◌, Some, true, false, bytes_eq, codes, Bool, is_some}
 use Rattle.pl_term.specs.Tree.{Chars, Tree, int, comp, none, more}
-use Rattle.pl_model.specs.History.{Proc}
+use Rattle.pl_model.specs.History.{Proc, proc}
 use Rattle.pl_model.specs.Predicates.{proc_of}
 use Rattle.pl_model.specs.Builtins.{row}
 use Rattle.pl_model.specs.SharedBuiltins.{shared}
 use Rattle.pl_model.specs.Terms.{arguments}
 use Rattle.pl_model.specs.Resolution.{Pending, goal, commit, refute, leave, collect, running, failing, throwing, erasing, clearing, answering, ended}
 use Rattle.pl_model.specs.Resolution as resolution
-use Rattle.pl_model.specs.Control.{Construct, succeeds, cuts, conjunction, disjunction, if_then, if_then_else, fails, repeats, calls, not_provable, once, catches, throws, halts, writes, prints, puts, other, construct, name_of, proc}
+use Rattle.pl_model.specs.Control.{Construct, succeeds, cuts, conjunction, disjunction, if_then, if_then_else, fails, repeats, calls, not_provable, once, catches, throws, halts, writes, prints, puts, other, construct, name_of}
 use Rattle.atom_api.specs.Names.{Names}
 use Rattle.world_api.specs.declared.visit.Procedure.{Procedure}
 use Rattle.world_api.specs.Told.{Told}

@@ -3,8 +3,7 @@ use Rattle.std.specs.Prelude.{◌≡◌, ◌≤◌, ℕ, ◌+◌, List, [], ◌�
 use Rattle.pl_term.specs.Tree.{Chars, Tree}
 use Rattle.pl_model.specs.Resolution.{Output, text, solution, solution_count}
 use Rattle.pl_model.specs.Requests.{Request}
-use Rattle.pl_model.specs.Service.{waits}
-use Rattle.pl_model.specs.Progress.{served_now}
+use Rattle.pl_model.specs.Service.{waits, served_now}
 use Rattle.atom_api.specs.Names.{Names}
 use Rattle.std.specs.List.{All}
 use Rattle.world_builtins.specs.Naming.{IsHeldAt}

@@ -6,7 +6,8 @@ use Rattle.std.proofs.lemmas.Bool.Decides.{Decides-eqb}
 use Rattle.std.proofs.lemmas.List.Elements.{All-tail}
 use Rattle.pl_term.specs.Tree.{Chars, Tree, Trees, var, int, atom, comp, none, more, compound, count, trees}
 use Rattle.pl_model.specs.Predicates.{proc_of}
-use Rattle.pl_model.specs.Control.{construct, construct_by_count, construct_of_two, construct_of_three, or_else, proc}
+use Rattle.pl_model.specs.Control.{construct, construct_by_count, construct_of_two, construct_of_three, or_else}
+use Rattle.pl_model.specs.History.{proc}
 use Rattle.pl_model.specs.Control as control
 use Rattle.atom_api.specs.Names.{Names}
 use Rattle.term_store.specs.declared.words.Place.{Place}

@@ -8,7 +8,8 @@ use Rattle.pl_model.specs.Balls.{error_ball, instantiation_error, type_error}
 use Rattle.pl_model.specs.Checks.{text_of_atom}
 use Rattle.pl_model.specs.Predicates.{proc_of}
 use Rattle.pl_model.specs.Resolution.{Choice, Doing, Node, Output, State, goes, throwing}
-use Rattle.pl_model.specs.Control.{proc, with_character, with_text}
+use Rattle.pl_model.specs.History.{proc}
+use Rattle.pl_model.specs.Control.{with_character, with_text}
 use Rattle.atom_api.specs.Fixed.{fixed, fixed_texts}
 use Rattle.atom_api.specs.Names.{Names}
 use Rattle.term_store.specs.declared.words.Place.{Place}

@@ -12,8 +12,7 @@ use Rattle.pl_model.specs.TermWriting.{write_canonical}
 use Rattle.pl_model.specs.Predicates.{proc_of}
 use Rattle.pl_model.specs.Requests.{Reply, read_operators, standing}
 use Rattle.pl_model.specs.History.{History, Kind}
-use Rattle.pl_model.specs.Progress.{entry_by, served_now}
-use Rattle.pl_model.specs.Service.{Served, answers, serve, waits}
+use Rattle.pl_model.specs.Service.{Served, answers, serve, waits, entry_by, served_now}
 use Rattle.world_api.specs.Answers.{seen_as}
 use Rattle.pl_model.specs.Resolution.{Limits, Next, Node, State, asks, goes}
 use Rattle.pl_model.specs.Control.{costing, raised, take_up, with_character, with_operators, with_text}

@@ -1,7 +1,7 @@
 //! put_char/1.
 ghost use Rattle.std.specs.Prelude.{◌≡◌, codes, IfOk, OnOk};
 ghost use Rattle.pl_model.specs.Balls.{error_ball, type_error};
-ghost use Rattle.pl_model.specs.Control.{proc};
+ghost use Rattle.pl_model.specs.History.{proc};
 ghost use Rattle.pl_term.specs.Tree.{comp, more, none};
 ghost use Rattle.term_store.specs.Heap.{atom_name};
 ghost use Rattle.term_store.specs.Contents.{Holds, term_at};

@@ -9,8 +9,8 @@ use Rattle.clap.specs.ValueTests.{is_unsigned_in}
 use Rattle.clap.specs.declared.builder.value_parser.ValueParser.TheVariants.{Unsigned}
 use Rattle.pl_term.specs.Tree.{Chars}
 use Rattle.pl_model.specs.Resolution.{Limits}
-use Rattle.pl_model.specs.Execution.{most_bytes}
-use Rattle.pl_model.specs.Lawful.{Program}
+use Rattle.run_model.specs.Execution.{most_bytes}
+use Rattle.run_model.specs.Lawful.{Program}
 
 -- A command: the name of the file, the words of the goals, and the limits of the goals and of the directives.
 pub record Command : Type 0 where

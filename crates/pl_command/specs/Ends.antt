@@ -5,9 +5,9 @@ use Rattle.pl_model.specs.declared.ends.How.{How}
 use Rattle.pl_model.specs.declared.ends.How.TheVariants.{Solved, False, Threw, Exited, Halted}
 use Rattle.pl_model.specs.Threads.{goal_alias}
 use Rattle.pl_model.specs.Resolution.{Ending, solved, no_more, threw, exited, halted}
-use Rattle.pl_model.specs.Execution.{Word, goal_word, faulty_word, Consulted, wrote, Refusal, Execution}
-use Rattle.pl_model.specs.Lawful.{Program, Told, Beginning, beginnings, is_goal_number}
-use Rattle.pl_model.specs.Report.{Finals, final_of, refusal_of, ending_by}
+use Rattle.run_model.specs.Execution.{Word, goal_word, faulty_word, Consulted, wrote, Refusal, Execution}
+use Rattle.run_model.specs.Lawful.{Program, Told, Beginning, beginnings, is_goal_number}
+use Rattle.run_model.specs.Report.{Finals, final_of, refusal_of, ending_by}
 use Rattle.pl_command.specs.declared.ends.End.{End}
 use Rattle.pl_command.specs.declared.ends.End.TheVariants.{Done, GoalFailed, Usage, Waiting, Memory, ReadFault, WriteFault, Halted as EndHalted, Unbuilt}
 use Rattle.pl_command.specs.declared.ends.GoalEnd.{GoalEnd}

@@ -11,9 +11,9 @@ use Rattle.pl_model.specs.History.{Clause}
 use Rattle.pl_model.specs.Control.{start as start_search}
 use Rattle.pl_model.specs.TermGrammar.{item_of}
 use Rattle.pl_model.specs.Requests.{standing, refused}
-use Rattle.pl_model.specs.Execution.{Job, consults, bytes_in, at_start, first_execution, at_activity, taking, adding, directing, initializing, Rest, items_from, initialization, directive_limits, Consulted, too_large, syntax_fault, ball_of_item, directive_failed, directive_halted, over, most_bytes, reported, Execution, gone_on, with_line, item_taken, with_item, with_clause, with_goal, clause_added, behind_fault}
+use Rattle.run_model.specs.Execution.{Job, consults, bytes_in, at_start, first_execution, at_activity, taking, adding, directing, initializing, Rest, items_from, initialization, directive_limits, Consulted, too_large, syntax_fault, ball_of_item, directive_failed, directive_halted, over, most_bytes, reported, Execution, gone_on, with_line, item_taken, with_item, with_clause, with_goal, clause_added, behind_fault}
 use Rattle.pl_model.specs.Resolution.{Ending, solved, no_more, threw, exited, halted}
-use Rattle.pl_model.specs.Report.{with_consulted, all_consulted}
+use Rattle.run_model.specs.Report.{with_consulted, all_consulted}
 use Rattle.std.proofs.lemmas.Bool.{lt-ltb}
 use Rattle.pl_report.specs.declared.parts.How.{How}
 use Rattle.pl_report.specs.declared.parts.How.TheVariants.{False, Threw, Halted}

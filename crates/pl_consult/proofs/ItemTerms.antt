@@ -6,7 +6,7 @@ use Rattle.pl_term.specs.declared.node.Node.{Node}
 use Rattle.pl_term.specs.declared.node.Node.TheVariants.{Comp}
 use Rattle.pl_term.specs.Tree.{Chars, Tree, var, int, atom, comp, none, more, count}
 use Rattle.pl_term.specs.Nodes.{nodes, tree}
-use Rattle.pl_model.specs.Execution.{directive_of, initialization_of}
+use Rattle.run_model.specs.Execution.{directive_of, initialization_of}
 use Rattle.pl_consult.specs.Subterms.{StartsTerm}
 use Rattle.pl_consult.specs.Items.{is_unary, IsUnary}
 use Rattle.pl_consult.proofs.TermNodes.{first_node, tree-front, root}

@@ -2,9 +2,8 @@
 use Rattle.std.specs.Prelude.{◌≡◌, zero, Result, Ok, Err}
 use Rattle.pl_term.specs.Tree.{Tree}
 use Rattle.pl_term.specs.Variables.{rename}
-use Rattle.pl_model.specs.History.{Clause}
+use Rattle.pl_model.specs.History.{Clause, head_part, body_part}
 use Rattle.pl_model.specs.Terms.{variable_count}
-use Rattle.pl_model.specs.BodyChecks.{head_part, body_part}
 use Rattle.pl_consult.specs.declared.bodies.Checked.{Checked as CheckedTerm}
 use Rattle.pl_consult.specs.declared.bodies.Checked.TheVariants.{Clause as KeptClause, Refused}
 

@@ -4,8 +4,8 @@ use Rattle.pl_term.specs.Tree.{Chars, Tree}
 use Rattle.pl_term.specs.Variables.{rename}
 use Rattle.pl_model.specs.OperatorTable.{OperatorTable}
 use Rattle.pl_model.specs.Control.{start}
-use Rattle.pl_model.specs.Execution.{Job, most_bytes, Consulted, too_large, bytes_in, directive_limits, Rest, items_from, initialization, Activity, taking, adding, directing, initializing, reading, Execution}
-use Rattle.pl_model.specs.Report.{all_consulted}
+use Rattle.run_model.specs.Execution.{Job, most_bytes, Consulted, too_large, bytes_in, directive_limits, Rest, items_from, initialization, Activity, taking, adding, directing, initializing, reading, Execution}
+use Rattle.run_model.specs.Report.{all_consulted}
 use Rattle.pl_consult.specs.declared.consult.Place.{Place}
 use Rattle.pl_consult.specs.declared.consult.Place.TheVariants.{Item, Initialization}
 use Rattle.pl_consult.specs.declared.consult.Taken.{Taken}

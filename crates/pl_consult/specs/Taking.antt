@@ -7,7 +7,7 @@ use Rattle.pl_model.specs.OperatorTable.{OperatorTable}
 use Rattle.pl_model.specs.Grammar.{clause}
 use Rattle.pl_model.specs.TermGrammar.{item_of}
 use Rattle.pl_model.specs.BodyChecks.{clause_of_term}
-use Rattle.pl_model.specs.Execution.{directive_of, initialization_of}
+use Rattle.run_model.specs.Execution.{directive_of, initialization_of}
 use Rattle.pl_consult.specs.declared.consult.Taken.{Taken}
 use Rattle.pl_consult.specs.declared.consult.Taken.TheVariants.{Clause, Directive, Passed}
 use Rattle.pl_consult.specs.Checks.{kept_clause}

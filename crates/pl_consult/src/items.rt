@@ -4,7 +4,7 @@
 ghost use Rattle.std.specs.Prelude.{◌≡◌, IfOk};
 ghost use Rattle.std.specs.Str.{chars};
 ghost use Rattle.pl_term.specs.Tree.{Chars, comp, none};
-ghost use Rattle.pl_model.specs.Execution.{directive_of as goal_of_directive, initialization_of as goal_for_later};
+ghost use Rattle.run_model.specs.Execution.{directive_of as goal_of_directive, initialization_of as goal_for_later};
 ghost use Rattle.pl_consult.specs.Items.{is_unary, IsUnary};
 
 use crate::subterms::term_at;

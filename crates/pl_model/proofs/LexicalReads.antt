@@ -24,7 +24,7 @@ use Rattle.pl_model.specs.Tokens.{Front, nothing, scalar, broken, front, front_o
 use Rattle.pl_model.specs.LexicalCharacters.{begins, ascii_begins, is_solo}
 use Rattle.pl_model.specs.LexicalQuoted.{is_digit, digit_count, begins_with}
 use Rattle.pl_model.specs.LexicalTokens.{word_size, integer, character_code, radix_constant, radix_of, decimal_constant, numeral, token_of, token_front}
-use Rattle.pl_model.specs.LexicalLaws.{begins_variable, is_variable_name, EndsNumeral}
+use Rattle.pl_model.specs.laws.LexicalLaws.{begins_variable, is_variable_name, EndsNumeral}
 use Rattle.pl_model.proofs.CharacterRuns.{front-ascii, run-passes, run-stops}
 use Rattle.pl_model.proofs.TokenPlaces.{closes_clause-scalar, closes_clause-broken}
 use Rattle.pl_model.proofs.LexicalPlaces.{token_front-scalar}

@@ -7,7 +7,7 @@ use Rattle.pl_model.specs.declared.lexical.Reading.{Reading}
 use Rattle.pl_model.specs.declared.lexical.Reading.TheVariants.{Token, Fault, Nothing}
 use Rattle.pl_model.specs.Tokens.{skip_layout}
 use Rattle.pl_model.specs.LexicalTokens.{token_front, placed, from_start, token_at, token}
-use Rattle.pl_model.specs.LexicalLaws.{NextTo}
+use Rattle.pl_model.specs.laws.LexicalLaws.{NextTo}
 use Rattle.pl_model.proofs.TokenPlaces.{skip_layout-forward}
 use Rattle.pl_model.proofs.LexicalPlaces.{ReadsWithin, token_front-within}
 

@@ -20,7 +20,7 @@ use Rattle.pl_model.specs.Writing.{hexadecimal, escaped, quoted as written}
 use Rattle.pl_model.specs.LexicalCharacters.{begins}
 use Rattle.pl_model.specs.LexicalQuoted.{begins_with, piece, closing, spelled, behind, quoted_kind, closed, quoted_by, quoted}
 use Rattle.pl_model.specs.LexicalTokens.{coded_character, character_code, token_of, token_front}
-use Rattle.pl_model.specs.LexicalLaws.{doubled_in, in_quotes}
+use Rattle.pl_model.specs.laws.LexicalLaws.{doubled_in, in_quotes}
 use Rattle.pl_model.proofs.CharacterRuns.{front-ascii}
 use Rattle.pl_model.proofs.LexicalPieces.{piece-scalar, closing-passes, closing-closes, spelled-character, spelled-closes}
 use Rattle.pl_model.proofs.LexicalPlaces.{token_front-scalar}

@@ -1,7 +1,3 @@
-pub mod LawfulEntries
-pub mod LawfulStable
-pub mod Progress
-pub mod LawfulAlone
 pub mod UnifyReplace
 pub mod UnifyDifference
 pub mod UnifyEnough
@@ -40,3 +36,4 @@ pub mod UnifyFronts
 pub mod UnifyLoop
 pub mod KeptKeys
 pub mod KeptSizes
+pub mod StateLater

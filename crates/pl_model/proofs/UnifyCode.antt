@@ -11,7 +11,7 @@ use Rattle.pl_model.specs.Unify.{Bindings, clash, binds, difference, solve, unif
 use Rattle.pl_model.proofs.UnifyReplace.{count-replace}
 use Rattle.pl_model.proofs.UnifyEnough.{turns_enough}
 use Rattle.pl_model.proofs.UnifyTurns.{solve-same, solve-clash, solve-occurs, solve-binds}
-use Rattle.pl_model.specs.UnifySides.{Facing, DiffersAt, is_variable, put_in}
+use Rattle.pl_model.specs.laws.UnifySides.{Facing, DiffersAt, is_variable, put_in}
 use Rattle.pl_model.proofs.UnifyNodes.{first_node}
 use Rattle.pl_model.proofs.UnifyFacing.{behind, facing_of, forest-of}
 use Rattle.pl_model.proofs.UnifyFronts.{Front, front, replace-binds}

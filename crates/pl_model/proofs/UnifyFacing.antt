@@ -8,8 +8,8 @@ use Rattle.pl_term.specs.Tree.{Tree, Trees, var, int, atom, comp, none, more, co
 use Rattle.pl_term.specs.Nodes.{nodes, nodes_all, forest, forest-nodes_all}
 use Rattle.pl_model.specs.Unify.{Bindings, solve}
 use Rattle.pl_model.proofs.UnifyTurns.{solve-skip, solve-open}
-use Rattle.pl_model.specs.Subterms.{arity_of}
-use Rattle.pl_model.specs.UnifySides.{Facing}
+use Rattle.pl_model.specs.laws.Subterms.{arity_of}
+use Rattle.pl_model.specs.laws.UnifySides.{Facing}
 use Rattle.pl_model.proofs.UnifyNodes.{first_node, opened, nodes-opened, count-opened, length-nodes_pos}
 
 join-none : (ts : Trees) → join ts none ≡ ts

@@ -12,8 +12,8 @@ use Rattle.pl_model.specs.Unify.{clash, binds, difference}
 use Rattle.pl_model.proofs.UnifyReplace.{cond_cases, eqb_same, replace-absent}
 use Rattle.pl_model.proofs.UnifyDifference.{and-true}
 use Rattle.pl_term.specs.Variables.{has, replace}
-use Rattle.pl_model.specs.Subterms.{StartsTerm}
-use Rattle.pl_model.specs.UnifySides.{variable_at}
+use Rattle.pl_model.specs.laws.Subterms.{StartsTerm}
+use Rattle.pl_model.specs.laws.UnifySides.{variable_at}
 use Rattle.pl_model.proofs.UnifyNodes.{first_node}
 
 -- The first term of a list, and the others.

@@ -6,7 +6,7 @@ use Rattle.pl_term.specs.Nodes.{forest}
 use Rattle.pl_model.specs.Unify.{Bindings, solve}
 use Rattle.pl_model.specs.declared.unifying.Outcome.{Outcome}
 use Rattle.pl_model.specs.declared.unifying.Outcome.TheVariants.{Same, Clash, Binds}
-use Rattle.pl_model.specs.UnifyTurns.{Turned}
+use Rattle.pl_model.specs.laws.UnifyTurns.{Turned}
 use Rattle.pl_model.proofs.UnifyCode.{Unifying}
 
 one_turn : (bs : Bindings) (ls rs : List Node) (k : ℕ) (answer : Option Bindings) → Unifying bs ls rs k answer → 0 < k

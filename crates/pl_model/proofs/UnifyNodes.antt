@@ -4,7 +4,7 @@ use Rattle.pl_term.specs.declared.node.Node.{Node}
 use Rattle.pl_term.specs.declared.node.Node.TheVariants.{Var, Int, Atom, Comp}
 use Rattle.pl_term.specs.Tree.{Tree, Trees, var, int, atom, comp, none, more, count, join}
 use Rattle.pl_term.specs.Nodes.{nodes, nodes_all, forest-nodes, head_or_empty, tree}
-use Rattle.pl_model.specs.Subterms.{arity_of}
+use Rattle.pl_model.specs.laws.Subterms.{arity_of}
 
 pub nodes_all-join : (ts us : Trees) → nodes_all (join ts us) ≡ nodes_all ts ++ nodes_all us
 nodes_all-join none us = refl

@@ -8,7 +8,7 @@ use Rattle.pl_term.specs.Tree.{Tree, Trees, var, int, atom, comp, none, more}
 use Rattle.pl_term.specs.Nodes.{nodes, nodes_all}
 use Rattle.pl_term.specs.Variables.{has, has_all, occurrences, occurrences_all, replace, replace_all}
 use Rattle.pl_model.proofs.UnifyReplace.{cond_cases, or-false, is_in-append, count-replace}
-use Rattle.pl_model.specs.UnifySides.{is_variable, put_in}
+use Rattle.pl_model.specs.laws.UnifySides.{is_variable, put_in}
 
 pub put_in-append : (x : ℕ) (s ns ms : List Node) → put_in x s (ns ++ ms) ≡ put_in x s ns ++ put_in x s ms
 put_in-append x s [] ms = refl

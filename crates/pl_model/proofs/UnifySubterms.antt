@@ -5,7 +5,7 @@ use Rattle.std.proofs.Math.Seq.{take-length}
 use Rattle.pl_term.specs.declared.node.Node.{Node}
 use Rattle.pl_term.specs.Tree.{Tree, Trees, none, more, count}
 use Rattle.pl_term.specs.Nodes.{nodes, nodes_all, tree}
-use Rattle.pl_model.specs.Subterms.{StartsTerm, arity_of}
+use Rattle.pl_model.specs.laws.Subterms.{StartsTerm, arity_of}
 use Rattle.pl_model.proofs.UnifyNodes.{first_node, opened, nodes-opened, count-opened, count-le, tree-front, length-nodes_pos}
 
 -- The list begins with the nodes of so many whole terms, which have so many nodes.

@@ -3,7 +3,7 @@
 use Rattle.std.specs.Prelude.{zero, ◌+◌, Bool, Option, Some, None, bytes_eq, codes, if◌then◌else◌, length, ◌||◌, Result, Ok, Err}
 use Rattle.pl_term.specs.Tree.{Chars, Tree, var, int, atom, comp, none, more}
 use Rattle.pl_term.specs.Variables.{variables, place, rename_by}
-use Rattle.pl_model.specs.History.{Clause}
+use Rattle.pl_model.specs.History.{Clause, head_part, body_part}
 use Rattle.pl_model.specs.Balls.{instantiation_error, not_callable}
 
 -- The control constructs of two arguments whose arguments are goals of the body itself (ISO 7.6.2, table 7): a cut in
@@ -42,15 +42,6 @@ if_callable (comp f t ts) next = next
 -- The goal for an argument that is to be called, or the error for which the call is refused.
 abbrev pub called_goal : Tree → Result Tree Tree
 called_goal t = if_callable t (body_of t)
-
--- The head and the body of a clause-term: a term that is no rule is a fact, whose body is true.
-abbrev pub head_part : Tree → Tree
-head_part (comp f h (more b none)) = if bytes_eq f (codes ":-") then h else comp f h (more b none)
-head_part t = t
-
-abbrev pub body_part : Tree → Tree
-body_part (comp f h (more b none)) = if bytes_eq f (codes ":-") then b else atom (codes "true")
-body_part t = atom (codes "true")
 
 -- The clause H :- B as one term.
 abbrev pub rule : Tree → Tree → Tree

@@ -5,7 +5,7 @@ use Rattle.std.specs.declared.cmp.Ordering.{Ordering}
 use Rattle.std.specs.declared.cmp.Ordering.TheVariants.{Less, Equal, Greater}
 use Rattle.pl_term.specs.Tree.{Chars, Tree, Trees, none, more}
 use Rattle.pl_term.specs.Order.{order}
-use Rattle.pl_model.specs.Unify.{unify}
+use Rattle.pl_model.specs.Unify.{unify, solve_all}
 use Rattle.pl_model.specs.Terms.{is_variable, is_integer, is_atom, is_atomic, is_compound, is_callable, is_ground}
 
 -- An answer: a term for each argument, with which it is unified. Of the variables in these terms, `fresh` are new ones, with
@@ -28,6 +28,11 @@ plain_answer ts = record { terms = ts; fresh = zero; made = zero }
 
 abbrev pub one_answer : Trees → Row
 one_answer ts = gives (plain_answer ts ∷ [])
+
+-- Of the lines of a table, those that unify with the arguments are the answers.
+abbrev pub unifying : Trees → List Answer → List Answer
+unifying ts [] = []
+unifying ts (a ∷ xs) = if is_some (solve_all [] ts a.terms) then a ∷ unifying ts xs else unifying ts xs
 
 -- A predicate that is true or false of its arguments and binds nothing.
 abbrev pub test : Bool → Trees → Row

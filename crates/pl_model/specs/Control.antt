@@ -8,7 +8,7 @@ use Rattle.pl_term.specs.Cells.{cells}
 use Rattle.pl_model.specs.OperatorTable.{OperatorTable}
 use Rattle.pl_model.specs.Unify.{Bindings, bound, unify, solve_all}
 use Rattle.pl_model.specs.TermWriting.{write, writeq, write_canonical}
-use Rattle.pl_model.specs.History.{Proc, Clause}
+use Rattle.pl_model.specs.History.{Proc, proc, Clause, head_part, body_part}
 use Rattle.pl_model.specs.Predicates.{proc_of}
 use Rattle.pl_model.specs.Database.{Stored}
 use Rattle.pl_model.specs.Terms.{is_variable, arguments, extended, list_term, is_list_or_partial, variable_count, raised_by, clause_cells}
@@ -16,15 +16,12 @@ use Rattle.pl_model.specs.Balls.{error_ball, instantiation_error, type_error, no
 use Rattle.pl_model.specs.ErrorTerms.{domain_error, permission_error}
 use Rattle.pl_model.specs.Checks.{first_error, bound_error, callable_error, text_of_atom}
 use Rattle.pl_model.specs.AtomBuiltins.{character_error}
-use Rattle.pl_model.specs.BodyChecks.{if_callable, body_of, called_goal, rule, head_part, body_part, clause_of_term}
-use Rattle.pl_model.specs.BuiltinRows.{Answer, Row, gives, table, error}
+use Rattle.pl_model.specs.BodyChecks.{if_callable, body_of, called_goal, rule, clause_of_term}
+use Rattle.pl_model.specs.BuiltinRows.{Answer, Row, gives, table, error, unifying}
 use Rattle.pl_model.specs.Builtins.{row}
 use Rattle.pl_model.specs.SharedBuiltins.{Shared, gives_row, asks_for, shared}
 use Rattle.pl_model.specs.Requests.{look, call_clauses, inspected_clauses, retracted_clauses, cleared_clauses, erase_clause, read_operators, Reply, standing, listed, done, gone, refused}
 use Rattle.pl_model.specs.Resolution.{Limits, Pending, goal, commit, refute, leave, collect, Node, Purpose, resolving, inspecting, retracting, Choice, clauses, answers, branch, barrier, catch, findall, solved, no_more, threw, exited, halted, Doing, running, failing, throwing, erasing, clearing, answering, ended, text, solution, State, Next, goes, asks, stops, up_to, node_instance, collected_cells, solution_count}
-
-abbrev pub proc : Chars → ℕ → Proc
-proc f n = record { name = f; arity = n }
 
 -- Errors and costs
 
@@ -146,11 +143,6 @@ next_answer l s n p ts (a ∷ (b ∷ bs)) =
 abbrev pub first_answer : Limits → State → Node → Proc → Trees → List Answer → State
 first_answer l s n p ts xs =
     if several xs && nat_le l.choices (length s.choices) then raised s n no_choices p else next_answer l s n p ts xs
-
--- Of the lines of a table, those that unify with the arguments are the answers.
-abbrev pub unifying : Trees → List Answer → List Answer
-unifying ts [] = []
-unifying ts (a ∷ xs) = if is_some (solve_all [] ts a.terms) then a ∷ unifying ts xs else unifying ts xs
 
 unfoldable pub with_row : Limits → State → Node → Proc → Trees → Row → State
 with_row l s n p ts (gives xs) = first_answer l s n p ts xs

@@ -1,7 +1,7 @@
 -- The history of the updates of the shared state, in the order in which they were made: each entry says which
 -- engine made which update. All names in it are texts and numbers.
-use Rattle.std.specs.Prelude.{ℕ, List, [], ◌∷◌, Option, Bool, true, false, if◌then◌else◌, ◌==◌, ◌||◌}
-use Rattle.pl_term.specs.Tree.{Chars, Tree}
+use Rattle.std.specs.Prelude.{◌≡◌, ℕ, List, [], ◌∷◌, Option, Some, None, Bool, true, false, if◌then◌else◌, ◌==◌, ◌||◌, bytes_eq, codes}
+use Rattle.pl_term.specs.Tree.{Chars, Tree, comp, atom, more, none}
 use Rattle.pl_model.specs.Operators.{Operator}
 use Rattle.pl_model.specs.declared.ends.How.{How}
 
@@ -10,12 +10,24 @@ pub record Proc : Type 0 where
   pub name : Chars
   pub arity : ℕ
 
+abbrev pub proc : Chars → ℕ → Proc
+proc f n = record { name = f; arity = n }
+
 -- A clause (ISO 3.33): its head, its body converted to a goal (ISO 7.6.2), and the number of its variables. They
 -- are numbered from 0 in order of first occurrence, the head's first.
 pub record Clause : Type 0 where
   pub head : Tree
   pub body : Tree
   pub variables : ℕ
+
+-- The head and the body of a clause-term: a term that is no rule is a fact, whose body is true.
+abbrev pub head_part : Tree → Tree
+head_part (comp f h (more b none)) = if bytes_eq f (codes ":-") then h else comp f h (more b none)
+head_part t = t
+
+abbrev pub body_part : Tree → Tree
+body_part (comp f h (more b none)) = if bytes_eq f (codes ":-") then b else atom (codes "true")
+body_part t = atom (codes "true")
 
 -- What added a clause: the consulting of a file, or a goal.
 pub data Origin : Type 0 where
@@ -74,3 +86,16 @@ begins e _ = false
 abbrev pub has_begun : History → ℕ → Bool
 has_begun [] e = e == 1
 has_begun (x ∷ xs) e = begins e x.kind || has_begun xs e
+
+-- The update neither ends an engine nor starts one.
+abbrev pub IsPlain : Kind → Type 0
+IsPlain k = elim k [ finish how n ↦ ⊥ | start n goal alias ↦ ⊥ | _ ↦ Unit {0} ]
+
+abbrev pub IsPlainUpdate : Option Kind → Type 0
+IsPlainUpdate None = Unit {0}
+IsPlainUpdate (Some k) = IsPlain k
+
+-- Each entry is a plain update of the engine `e`.
+abbrev pub AllPlain : ℕ → History → Type 0
+AllPlain e [] = Unit {0}
+AllPlain e (x ∷ xs) = (x.engine ≡ e) × IsPlain x.kind × AllPlain e xs

@@ -5,7 +5,6 @@ pub mod Tokens
 pub mod LexicalCharacters
 pub mod LexicalQuoted
 pub mod LexicalTokens
-pub mod LexicalLaws
 pub mod Skipping
 pub mod Grammar
 pub mod TermGrammar
@@ -13,7 +12,6 @@ pub mod Unify
 pub mod Writing
 pub mod TermWriting
 pub mod History
-pub mod Shown
 pub mod Predicates
 pub mod Database
 pub mod Threads
@@ -22,7 +20,6 @@ pub mod SharedState
 pub mod Requests
 pub mod ErrorTerms
 pub mod Service
-pub mod SharedRows
 pub mod Errors
 pub mod Evaluables
 pub mod Terms
@@ -36,17 +33,8 @@ pub mod Builtins
 pub mod SharedBuiltins
 pub mod Resolution
 pub mod Control
-pub mod Searches
-pub mod SearchRows
-pub mod Execution
-pub mod Lawful
-pub mod Report
 pub mod FirstArgumentOrder
 pub mod FirstArguments
 pub mod KeptNodes
 pub mod KeptCells
-pub mod FirstArgumentLaws
-pub mod Subterms
-pub mod UnifySides
-pub mod UnifyTurns
-pub mod Progress
+pub mod laws

@@ -15,13 +15,13 @@ use Rattle.pl_model.specs.declared.threads.Thread.{Thread}
 use Rattle.pl_model.specs.OperatorTable.{OperatorTable, Refusal, priority, specifier, comma, reserved, infix_postfix, refusal, specifier_of}
 use Rattle.pl_model.specs.Unify.{unify}
 use Rattle.pl_model.specs.Predicates.{proc_of, is_excluded}
-use Rattle.pl_model.specs.History.{Proc, Clause, Kind, consult, assert, add_first, add_last, erase, abolish, set_dynamic, set_flag, set_op, make_queue, drop_queue, send, take, start, join}
+use Rattle.pl_model.specs.History.{Proc, Clause, Kind, History, consult, assert, add_first, add_last, erase, abolish, set_dynamic, set_flag, set_op, make_queue, drop_queue, send, take, start, join}
 use Rattle.pl_model.specs.Errors.{unknown_procedure, static_procedure}
 use Rattle.pl_model.specs.ErrorTerms.{domain_error, existence_error, permission_error, resource_error, private_procedure}
 use Rattle.pl_model.specs.Flags.{Unknown, raises, fails, listed_flags}
 use Rattle.pl_model.specs.Database.{Stored, is_system, is_static, is_known, choices, is_there, current_procedures, has_room}
 use Rattle.pl_model.specs.Threads.{Queue, Threads, is_alias, alias_of, queue_numbered, queue_named, thread_named, first_message, has_engine, goal_alias}
-use Rattle.pl_model.specs.SharedState.{SharedState}
+use Rattle.pl_model.specs.SharedState.{SharedState, state_at}
 use Rattle.pl_model.specs.Requests.{Request, look, call_clauses, inspected_clauses, retracted_clauses, cleared_clauses, erase_clause, assert_first, assert_last, consult_clause, abolish_procedure, make_dynamic, all_procedures, put_operators, read_operators, put_flag, all_flags, own_name, create_thread, start_goal, join_thread, send_message, get_message, peek_message, create_queue, destroy_queue, collect_atoms, collect_clauses, Reply, standing, listed, procedures, flags, named, message, no_message, status, done, gone, refused}
 
 pub data Served : Type 0 where
@@ -234,3 +234,12 @@ serve e (create_queue (Some a)) s g =
 serve e (destroy_queue x) s g = with_queue x (destroyed g x) (queue_for s.threads x)
 serve e collect_atoms s g = reads done
 serve e collect_clauses s g = reads done
+
+-- What a request of the engine `e` is answered when it is made after all entries.
+abbrev pub served_now : ℕ → ℕ → History → Request → Served
+served_now e goals h q = serve e q (state_at goals h (length h)) (length h)
+
+-- The entry that an engine's update is in the history.
+abbrev pub entry_by : ℕ → Option Kind → History
+entry_by e None = []
+entry_by e (Some k) = record { engine = e; kind = k } ∷ []

@@ -72,7 +72,7 @@ impl Kept for Flat {
     ghost use Rattle.std.specs.Prelude.{refl};
     ghost use Rattle.pl_model.specs.KeptCells.{kept_cells};
     ghost use Rattle.pl_model.specs.FirstArguments.{head_of, head_key, is_any, unify_apart};
-    ghost use Rattle.pl_model.specs.FirstArgumentLaws.{heads_tell};
+    ghost use Rattle.pl_model.specs.laws.FirstArgumentLaws.{heads_tell};
 
     type Key = FirstArgument;
 

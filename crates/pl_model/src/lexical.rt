@@ -12,7 +12,7 @@ ghost use Rattle.pl_term.specs.Texts.{size};
 ghost use Rattle.pl_term.specs.Tree.{Chars};
 ghost use Rattle.pl_model.specs.Characters.{continues_name, is_letter_name, is_symbol};
 ghost use Rattle.pl_model.specs.LexicalCharacters.{is_solo};
-ghost use Rattle.pl_model.specs.LexicalLaws.{EndsNumeral, NextTo, in_quotes, is_variable_name};
+ghost use Rattle.pl_model.specs.laws.LexicalLaws.{EndsNumeral, NextTo, in_quotes, is_variable_name};
 ghost use Rattle.pl_model.specs.LexicalQuoted.{begins_with, digit_count};
 ghost use Rattle.pl_model.specs.LexicalTokens.{lex_fault, token, token_at, token_front};
 ghost use Rattle.pl_model.specs.Tokens.{closes_clause, run};

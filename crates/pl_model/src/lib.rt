@@ -4,13 +4,11 @@
 pub mod control;
 pub mod ends;
 pub mod evaluables;
-pub mod executions;
 pub mod first_argument;
 pub mod grammar;
 pub mod kept;
 pub mod lexical;
 pub mod operators;
-pub mod searches;
 pub mod shared;
 pub mod shows;
 pub mod skipping;

@@ -95,7 +95,7 @@ pub struct AddsFirst<'a, C> {
 
 impl<C: ShowsClause> Shows for AddsFirst<'_, C> {
     ghost use Rattle.pl_model.specs.History.{add_first};
-    ghost use Rattle.pl_model.specs.Shown.{proc_of, origin_of};
+    ghost use Rattle.pl_model.specs.laws.Shown.{proc_of, origin_of};
 
     ghost entry = { λ x. record {
       engine = x.engine;
@@ -118,7 +118,7 @@ pub struct AddsLast<'a, C> {
 
 impl<C: ShowsClause> Shows for AddsLast<'_, C> {
     ghost use Rattle.pl_model.specs.History.{add_last};
-    ghost use Rattle.pl_model.specs.Shown.{proc_of, origin_of};
+    ghost use Rattle.pl_model.specs.laws.Shown.{proc_of, origin_of};
 
     ghost entry = { λ x. record {
       engine = x.engine;
@@ -156,7 +156,7 @@ pub struct Abolishes<'a> {
 
 impl Shows for Abolishes<'_> {
     ghost use Rattle.pl_model.specs.History.{abolish};
-    ghost use Rattle.pl_model.specs.Shown.{proc_of};
+    ghost use Rattle.pl_model.specs.laws.Shown.{proc_of};
 
     ghost entry = { λ x. record { engine = x.engine; kind = abolish (proc_of x.of.now) } };
 
@@ -174,7 +174,7 @@ pub struct SetsDynamic<'a> {
 
 impl Shows for SetsDynamic<'_> {
     ghost use Rattle.pl_model.specs.History.{set_dynamic};
-    ghost use Rattle.pl_model.specs.Shown.{procs_of};
+    ghost use Rattle.pl_model.specs.laws.Shown.{procs_of};
 
     ghost entry = { λ x. record { engine = x.engine; kind = set_dynamic (procs_of x.all.now) } };
 
@@ -230,7 +230,7 @@ pub struct MakesQueue<'a> {
 
 impl Shows for MakesQueue<'_> {
     ghost use Rattle.pl_model.specs.History.{make_queue};
-    ghost use Rattle.pl_model.specs.Shown.{alias_of};
+    ghost use Rattle.pl_model.specs.laws.Shown.{alias_of};
 
     ghost entry = { λ x. record { engine = x.engine; kind = make_queue x.number (alias_of x.alias) } };
 
@@ -302,7 +302,7 @@ pub struct Starts<'a, T> {
 
 impl<T: ShowsTree> Shows for Starts<'_, T> {
     ghost use Rattle.pl_model.specs.History.{start};
-    ghost use Rattle.pl_model.specs.Shown.{alias_of};
+    ghost use Rattle.pl_model.specs.laws.Shown.{alias_of};
 
     ghost entry = { λ x. record {
       engine = x.engine;

@@ -1,7 +1,7 @@
 //! Terms within the nodes of other terms.
 ghost use Rattle.std.specs.Prelude.{◌≡◌, ◌+◌, ◌≤◌, IfOk, length, drop};
 ghost use Rattle.pl_term.specs.Nodes.{nodes, tree};
-ghost use Rattle.pl_model.specs.Subterms.{StartsTerm, arity_of};
+ghost use Rattle.pl_model.specs.laws.Subterms.{StartsTerm, arity_of};
 
 use pl_term::{Flat, Memory, Node};
 use std::alloc::Global;

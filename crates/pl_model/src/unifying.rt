@@ -3,8 +3,8 @@ ghost use Rattle.std.specs.Prelude.{◌≡◌, ◌≢◌, ◌+◌, ◌<◌, ◌�
 ghost use Rattle.std.specs.List.{list_any};
 ghost use Rattle.pl_term.specs.Tree.{var};
 ghost use Rattle.pl_model.specs.Unify.{binds, difference, unify};
-ghost use Rattle.pl_model.specs.UnifySides.{is_variable, variable_at, put_in, Facing, DiffersAt};
-ghost use Rattle.pl_model.specs.UnifyTurns.{Finds, Turned};
+ghost use Rattle.pl_model.specs.laws.UnifySides.{is_variable, variable_at, put_in, Facing, DiffersAt};
+ghost use Rattle.pl_model.specs.laws.UnifyTurns.{Finds, Turned};
 
 use crate::subterms::{copied, term_at};
 use pl_term::{Flat, Memory, Node};
@@ -32,7 +32,7 @@ impl<'a> Model for Side<'a> {
 
     ghost coded = { coded_list coded_node };
 
-    ghost use Rattle.pl_model.specs.UnifySides.{all_of};
+    ghost use Rattle.pl_model.specs.laws.UnifySides.{all_of};
 
     ghost view = { λ s. drop s.at (all_of s.own s.given.now) };
 

@@ -7,7 +7,7 @@ use Rattle.std.proofs.lemmas.Bool.{and_parts, ltb-true}
 use Rattle.std.specs.Prelude.{Result, Ok, Err, OnOk}
 use Rattle.std.proofs.lemmas.Str.{encode_ascii, encodes-append, encodes-IsAscii}
 use Rattle.pl_term.specs.Tree.{Chars}
-use Rattle.pl_model.specs.Report.{newline}
+use Rattle.run_model.specs.Report.{newline}
 use Rattle.pl_report.specs.Adds.{Adds}
 
 -- A text in ASCII is its own bytes.

@@ -9,7 +9,7 @@ use Rattle.std.specs.declared.str.Chars.{Chars as CharsLeft}
 use Rattle.pl_term.specs.Tree.{Chars, Tree, atom}
 use Rattle.pl_model.specs.OperatorTable.{OperatorTable}
 use Rattle.pl_model.specs.TermWriting.{writeq}
-use Rattle.pl_model.specs.Report.{is_shown, binding_text, with_commas, solution_text, stopped}
+use Rattle.run_model.specs.Report.{is_shown, binding_text, with_commas, solution_text, stopped}
 use Rattle.pl_report.specs.Adds.{Adds}
 use Rattle.pl_report.specs.Pieces.{shown_texts, has_any, comma_if, binding_behind}
 use Rattle.pl_report.proofs.AddsLemmas.{adds_then, adds_same}

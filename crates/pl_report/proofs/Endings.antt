@@ -10,7 +10,7 @@ use lib.Dec.{ltb}
 use lib.Utf8.{next}
 use Rattle.pl_term.specs.Tree.{Chars}
 use Rattle.pl_model.specs.Characters.{is_symbol}
-use Rattle.pl_model.specs.Report.{newline, last_of, is_open, closed, ends_in_symbol, stopped}
+use Rattle.run_model.specs.Report.{newline, last_of, is_open, closed, ends_in_symbol, stopped}
 use Rattle.pl_report.specs.Adds.{Adds}
 use Rattle.pl_report.proofs.AddsLemmas.{ascii_bytes, adds_ascii, adds_then}
 

@@ -4,7 +4,7 @@ use Rattle.std.specs.Prelude.{codes, not, ◌==◌, if◌then◌else◌, decimal
 use Rattle.std.specs.Str.{encode_utf8_all}
 use Rattle.std.proofs.lemmas.Str.{encodes-append}
 use Rattle.pl_term.specs.Tree.{Chars}
-use Rattle.pl_model.specs.Report.{newline, last_of, is_open, closed, with_line, item_line}
+use Rattle.run_model.specs.Report.{newline, last_of, is_open, closed, with_line, item_line}
 use Rattle.pl_report.specs.Adds.{Adds}
 use Rattle.pl_report.specs.Pieces.{place_text}
 use Rattle.pl_report.proofs.AddsLemmas.{adds_then, adds_same, adds_newline}

@@ -6,9 +6,9 @@ use Rattle.pl_model.specs.OperatorTable.{OperatorTable}
 use Rattle.pl_model.specs.TermWriting.{writeq}
 use Rattle.pl_model.specs.declared.syntax.SyntaxKind.{SyntaxKind}
 use Rattle.pl_model.specs.Resolution.{Ending, solved, no_more, threw, exited, halted}
-use Rattle.pl_model.specs.Execution.{Execution, Refusal}
-use Rattle.pl_model.specs.Lawful.{Beginning}
-use Rattle.pl_model.specs.Report.{closed, stopped, with_output, output_of, ending_by, with_end, with_last, goal_line, goal_text, refused_text, fault_text, texts, thread_name, thread_line, thread_section, of_thread}
+use Rattle.run_model.specs.Execution.{Execution, Refusal}
+use Rattle.run_model.specs.Lawful.{Beginning}
+use Rattle.run_model.specs.Report.{closed, stopped, with_output, output_of, ending_by, with_end, with_last, goal_line, goal_text, refused_text, fault_text, texts, thread_name, thread_line, thread_section, of_thread}
 use Rattle.pl_report.specs.declared.parts.How.{How}
 use Rattle.pl_report.specs.declared.parts.How.TheVariants.{Solved, False, Threw, Exited, Halted, AtomSpace}
 use Rattle.pl_report.specs.declared.parts.GoalHow.{GoalHow}

@@ -7,7 +7,7 @@ use Rattle.std.specs.List.{flat_map}
 use Rattle.std.specs.Str.{encode_utf8_all}
 use Rattle.pl_term.specs.Tree.{Chars}
 use Rattle.pl_model.specs.OperatorTable.{OperatorTable}
-use Rattle.pl_model.specs.Report.{newline, closed, with_line, goal_line}
+use Rattle.run_model.specs.Report.{newline, closed, with_line, goal_line}
 use Rattle.pl_report.specs.declared.parts.How.{How}
 use Rattle.pl_report.specs.declared.parts.How.TheVariants.{Solved, False, Threw, Exited, Halted, AtomSpace}
 use Rattle.pl_report.specs.declared.parts.GoalHow.{GoalHow}

@@ -5,7 +5,7 @@ use Rattle.pl_term.specs.Tree.{Chars}
 use Rattle.pl_model.specs.declared.syntax.SyntaxKind.{SyntaxKind}
 use Rattle.pl_model.specs.OperatorTable.{OperatorTable}
 use Rattle.pl_model.specs.Resolution.{solved, no_more, threw, halted}
-use Rattle.pl_model.specs.Report.{newline, closed, with_line, kind_text, halted_text, with_end, with_last, goal_line}
+use Rattle.run_model.specs.Report.{newline, closed, with_line, kind_text, halted_text, with_end, with_last, goal_line}
 use Rattle.pl_report.specs.declared.parts.How.{How}
 use Rattle.pl_report.specs.declared.parts.How.TheVariants.{Solved, False, Threw, Exited, Halted, AtomSpace}
 use Rattle.pl_report.specs.declared.parts.GoalHow.{GoalHow}

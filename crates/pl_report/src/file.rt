@@ -1,8 +1,8 @@
 //! The lines of the file: faults of its items, each with the place of its item or of the fault.
 ghost use Rattle.std.specs.Prelude.{◌≡◌, ◌++◌, OnOk, codes, encode_utf8_all};
 ghost use Rattle.pl_term.specs.Tree.{Chars};
-ghost use Rattle.pl_model.specs.Execution.{too_large, syntax_fault, ball_of_item, directive_failed, directive_halted};
-ghost use Rattle.pl_model.specs.Report.{with_line, item_line, halted_text, with_consulted};
+ghost use Rattle.run_model.specs.Execution.{too_large, syntax_fault, ball_of_item, directive_failed, directive_halted};
+ghost use Rattle.run_model.specs.Report.{with_line, item_line, halted_text, with_consulted};
 ghost use Rattle.pl_report.specs.Adds.{Adds};
 ghost use Rattle.pl_report.specs.Pieces.{place_text};
 

@@ -2,7 +2,7 @@
 ghost use Rattle.std.specs.Prelude.{◌≡◌, OnOk, IsTrue};
 ghost use Rattle.std.specs.Char.{is_ascii};
 ghost use Rattle.std.specs.List.{list_all};
-ghost use Rattle.pl_model.specs.Report.{kind_text};
+ghost use Rattle.run_model.specs.Report.{kind_text};
 ghost use Rattle.pl_report.specs.Adds.{Adds};
 
 use crate::lines::put_words;

@@ -2,7 +2,7 @@
 ghost use Rattle.std.specs.Prelude.{◌≡◌, ◌++◌, OnOk, IsTrue, Some, codes};
 ghost use Rattle.std.specs.Char.{is_ascii};
 ghost use Rattle.std.specs.List.{list_all};
-ghost use Rattle.pl_model.specs.Report.{newline, halted_text, stopped};
+ghost use Rattle.run_model.specs.Report.{newline, halted_text, stopped};
 ghost use Rattle.pl_model.specs.TermWriting.{writeq};
 ghost use Rattle.pl_report.specs.Adds.{Adds};
 ghost use Rattle.pl_report.specs.Pieces.{line_text, how_last, goal_how_last, goal_last, has_line};

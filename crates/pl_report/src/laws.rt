@@ -3,9 +3,9 @@ ghost use Rattle.std.specs.Prelude.{◌≡◌, ◌++◌, ℕ, List, [], Bool, fa
 ghost use Rattle.pl_term.specs.Tree.{Chars};
 ghost use Rattle.pl_model.specs.OperatorTable.{OperatorTable};
 ghost use Rattle.pl_model.specs.declared.syntax.SyntaxKind.{SyntaxKind};
-ghost use Rattle.pl_model.specs.Execution.{Execution, Refusal};
-ghost use Rattle.pl_model.specs.Lawful.{Beginning};
-ghost use Rattle.pl_model.specs.Report.{with_directive, all_consulted, consult_section, with_output, output_of, ending_by, goal_line, goal_text, refused_text, fault_text, texts, thread_name, of_thread};
+ghost use Rattle.run_model.specs.Execution.{Execution, Refusal};
+ghost use Rattle.run_model.specs.Lawful.{Beginning};
+ghost use Rattle.run_model.specs.Report.{with_directive, all_consulted, consult_section, with_output, output_of, ending_by, goal_line, goal_text, refused_text, fault_text, texts, thread_name, of_thread};
 ghost use Rattle.pl_report.specs.declared.parts.How.TheVariants.{Threw};
 ghost use Rattle.pl_report.specs.declared.parts.GoalHow.{GoalHow as HowOfGoal};
 ghost use Rattle.pl_report.specs.declared.parts.GoalHow.TheVariants.{Ended, Syntax};

@@ -3,7 +3,7 @@ ghost use Rattle.std.specs.Prelude.{◌≡◌, ◌++◌, ◌-◌, List, ℕ, OnO
 ghost use Rattle.std.specs.Char.{is_ascii};
 ghost use Rattle.std.specs.List.{list_all};
 ghost use Rattle.pl_model.specs.Characters.{is_symbol};
-ghost use Rattle.pl_model.specs.Report.{newline, is_open, closed, stopped, ends_in_symbol};
+ghost use Rattle.run_model.specs.Report.{newline, is_open, closed, stopped, ends_in_symbol};
 ghost use Rattle.pl_model.specs.TermWriting.{writeq};
 ghost use Rattle.pl_report.specs.Adds.{Adds};
 

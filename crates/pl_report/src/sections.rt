@@ -1,7 +1,7 @@
 //! The whole transcript.
 ghost use Rattle.std.specs.Prelude.{◌≡◌, ◌++◌, List, OnOk, IfOk, encode_utf8_all};
 ghost use Rattle.pl_term.specs.Tree.{Chars};
-ghost use Rattle.pl_model.specs.Report.{goal_line};
+ghost use Rattle.run_model.specs.Report.{goal_line};
 ghost use Rattle.pl_report.specs.Adds.{Adds};
 ghost use Rattle.pl_report.specs.Pieces.{goal_bytes, thread_bytes, is_silent, section_bytes};
 ghost use Rattle.pl_report.specs.Sections.{thread_head, AreWritten, transcript_text};

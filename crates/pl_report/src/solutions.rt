@@ -1,7 +1,7 @@
 //! The line of a solution: the bindings of the goal's variables.
 ghost use Rattle.std.specs.Prelude.{◌≡◌, ◌∷◌, [], ℕ, List, OnOk, IfOk, MatchOption, true, encode_utf8_all, get_or, if◌then◌else◌};
 ghost use Rattle.pl_term.specs.Tree.{Chars, atom};
-ghost use Rattle.pl_model.specs.Report.{is_shown, binding_text, with_commas, solution_line, with_line};
+ghost use Rattle.run_model.specs.Report.{is_shown, binding_text, with_commas, solution_line, with_line};
 ghost use Rattle.pl_model.specs.TermWriting.{writeq};
 ghost use Rattle.pl_report.specs.Adds.{Adds};
 ghost use Rattle.pl_report.specs.Pieces.{shown_texts, has_any, comma_if, binding_behind};

@@ -3,8 +3,8 @@ use Rattle.std.proofs.Common.{◌≡◌, ℕ, Bool, List, [], ◌++◌, Option, 
 use Rattle.std.specs.Prelude.{encode_utf8_all}
 use Rattle.pl_term.specs.Tree.{Chars, Tree}
 use Rattle.pl_model.specs.Resolution.{Ending, ended, Output}
-use Rattle.pl_model.specs.Execution.{Script, Job, Consulted, Execution}
-use Rattle.pl_model.specs.Report.{all_consulted, output_of, with_output}
+use Rattle.run_model.specs.Execution.{Script, Job, Consulted, Execution}
+use Rattle.run_model.specs.Report.{all_consulted, output_of, with_output}
 use Rattle.atom_api.specs.Names.{Names}
 use Rattle.term_store.specs.NumberedNames.{term_by}
 use Rattle.world_api.specs.declared.how.How.{How}

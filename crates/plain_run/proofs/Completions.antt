@@ -1,11 +1,12 @@
 -- A run of the first engine, as far as it has come, with its end.
 use Rattle.std.proofs.Common.{◌≡◌, ℕ, ◌+◌, zero, length, sym, subst, ◌∙◌}
 use Rattle.pl_model.specs.declared.ends.How.{How}
-use Rattle.pl_model.specs.Execution.{Execution, Job, over}
-use Rattle.pl_model.specs.Lawful.{EndsSo, IsComplete, Program, main_job}
-use Rattle.pl_model.specs.Progress.{AllPlain, Alone, Reached, WaitsNow, told_at_end, told_waiting}
+use Rattle.run_model.specs.Execution.{Execution, Job, over}
+use Rattle.run_model.specs.Lawful.{EndsSo, IsComplete, Program, main_job}
+use Rattle.pl_model.specs.History.{AllPlain}
+use Rattle.run_model.specs.Progress.{Alone, Reached, WaitsNow, told_at_end, told_waiting}
 use Rattle.pl_model.specs.Resolution.{Ending}
-use Rattle.pl_model.proofs.LawfulAlone.{alone_end, alone_wait}
+use Rattle.run_model.proofs.LawfulAlone.{alone_end, alone_wait}
 use Rattle.world_api.specs.Courses.{seen_in}
 use Rattle.world_api.specs.Scripts.{Comes}
 use Rattle.world_api.specs.Told.{Told}

@@ -5,7 +5,7 @@ use Rattle.std.specs.Char.{encode_utf8}
 use Rattle.pl_term.specs.Tree.{Chars, Tree}
 use Rattle.pl_model.specs.OperatorTable.{OperatorTable}
 use Rattle.pl_model.specs.Resolution.{Output, text, solution, solution_count}
-use Rattle.pl_model.specs.Report.{solution_line, texts, with_line, with_output}
+use Rattle.run_model.specs.Report.{solution_line, texts, with_line, with_output}
 use Rattle.iso_engine.specs.Slices.{written_text}
 
 pub encode-append : (xs ys : Chars) → encode_utf8_all (xs ++ ys) ≡ encode_utf8_all xs ++ encode_utf8_all ys

@@ -5,8 +5,8 @@ use Rattle.pl_model.specs.Requests.{Request, Reply}
 use Rattle.pl_model.specs.Resolution.{Limits, Output, State, Next, asks}
 use Rattle.pl_model.specs.Resolution as resolution
 use Rattle.pl_model.specs.Control.{start, step}
-use Rattle.pl_model.specs.Execution.{Job, Execution, move, requests, searched, directed}
-use Rattle.pl_model.specs.Progress.{WaitsNow}
+use Rattle.run_model.specs.Execution.{Job, Execution, move, requests, searched, directed}
+use Rattle.run_model.specs.Progress.{WaitsNow}
 use Rattle.atom_words.specs.declared.view.Refusal.{Refusal}
 use Rattle.atom_api.specs.Names.{FixedStand, Names}
 use Rattle.term_store.specs.NumberedNames.{by_number, term_by}

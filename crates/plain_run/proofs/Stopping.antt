@@ -4,7 +4,7 @@ use Rattle.std.specs.Prelude.{IfOk}
 use Rattle.pl_term.specs.Tree.{Chars}
 use Rattle.pl_term.specs.declared.memory.Memory.{Memory as WantOfMemory}
 use Rattle.pl_model.specs.Resolution.{Output}
-use Rattle.pl_model.specs.Report.{texts}
+use Rattle.run_model.specs.Report.{texts}
 use Rattle.atom_words.specs.declared.view.Refusal.{Refusal}
 use Rattle.atom_api.specs.Names.{Names}
 use Rattle.world_api.specs.Told.{Told}

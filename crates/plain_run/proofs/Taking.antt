@@ -1,7 +1,7 @@
 -- Turns of the items of a script, one behind another.
 use Rattle.std.proofs.Common.{◌≡◌, ℕ, Bool, List, Option, None, refl, sym, subst}
 use Rattle.pl_term.specs.Tree.{Chars, Tree}
-use Rattle.pl_model.specs.Execution.{Script, Job, Consulted, Execution}
+use Rattle.run_model.specs.Execution.{Script, Job, Consulted, Execution}
 use Rattle.atom_api.specs.Names.{Names}
 use Rattle.term_store.specs.NumberedNames.{term_by}
 use Rattle.world_api.specs.declared.how.How.{How}

@@ -7,8 +7,8 @@ use Rattle.std.proofs.lemmas.Bool.{true≢false}
 use Rattle.pl_term.specs.Tree.{Chars, Tree}
 use Rattle.pl_model.specs.Resolution.{Output, solution, State}
 use Rattle.pl_model.specs.Resolution.{text as text_out}
-use Rattle.pl_model.specs.Execution.{Script, Job, Consulted, Execution, texts_of}
-use Rattle.pl_model.specs.Report.{all_consulted, texts, with_consulted}
+use Rattle.run_model.specs.Execution.{Script, Job, Consulted, Execution, texts_of}
+use Rattle.run_model.specs.Report.{all_consulted, texts, with_consulted}
 use Rattle.atom_words.specs.declared.view.Cause.{Cause}
 use Rattle.atom_words.specs.declared.view.Pass.{Pass}
 use Rattle.atom_words.specs.declared.view.WornWord.{WornWord}

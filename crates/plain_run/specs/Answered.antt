@@ -1,7 +1,7 @@
 -- The line of a slice's solution.
 use Rattle.std.specs.Prelude.{◌≡◌, ℕ, List, encode_utf8_all}
 use Rattle.pl_term.specs.Tree.{Chars, Tree}
-use Rattle.pl_model.specs.Report.{solution_line, with_line}
+use Rattle.run_model.specs.Report.{solution_line, with_line}
 use Rattle.atom_api.specs.Names.{Names}
 use Rattle.iso_engine.specs.declared.engine.Engine.{Engine}
 use Rattle.iso_engine.specs.declared.slices.Slice.{Slice}

@@ -2,9 +2,9 @@
 use Rattle.std.specs.Prelude.{◌≡◌, ℕ, List, [], ◌∷◌, Bool, true, false, Option, Some, None, IsSome, encode_utf8_all}
 use Rattle.pl_term.specs.Tree.{Chars, Tree}
 use Rattle.pl_model.specs.Resolution.{Ending, Output, State}
-use Rattle.pl_model.specs.Execution.{Script, Job, Consulted, Execution, over}
-use Rattle.pl_model.specs.Progress.{WaitsNow}
-use Rattle.pl_model.specs.Report.{all_consulted, output_of, with_output}
+use Rattle.run_model.specs.Execution.{Script, Job, Consulted, Execution, over}
+use Rattle.run_model.specs.Progress.{WaitsNow}
+use Rattle.run_model.specs.Report.{all_consulted, output_of, with_output}
 use Rattle.atom_words.specs.declared.view.Refusal.{Refusal}
 use Rattle.atom_words.specs.declared.view.Refusal.TheVariants.{Full as RefusalFull, Worn as RefusalWorn}
 use Rattle.atom_api.specs.Names.{Names}

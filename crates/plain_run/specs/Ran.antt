@@ -3,8 +3,8 @@ use Rattle.std.specs.Prelude.{◌≡◌, ℕ, List, [], ◌∷◌, Some, IsSome,
 use Rattle.pl_term.specs.Tree.{Chars, Tree}
 use Rattle.pl_model.specs.Resolution.{Limits, Doing, Ending, ended, Output, State}
 use Rattle.pl_model.specs.Control.{start}
-use Rattle.pl_model.specs.Execution.{Job, Execution}
-use Rattle.pl_model.specs.Progress.{WaitsNow}
+use Rattle.run_model.specs.Execution.{Job, Execution}
+use Rattle.run_model.specs.Progress.{WaitsNow}
 use Rattle.atom_words.specs.declared.view.Refusal.{Refusal}
 use Rattle.atom_words.specs.declared.view.Refusal.TheVariants.{Full as RefusalFull, Worn as RefusalWorn}
 use Rattle.atom_api.specs.Names.{Names}

@@ -1,9 +1,10 @@
 //! The run of a command with one engine, from its start to its end.
 ghost use Rattle.std.specs.Prelude.{◌≡◌, ℕ, List, length};
 ghost use Rattle.pl_model.specs.declared.ends.How.{How};
-ghost use Rattle.pl_model.specs.Execution.{Execution, over};
-ghost use Rattle.pl_model.specs.Lawful.{EndsSo, IsComplete, Program, main_job};
-ghost use Rattle.pl_model.specs.Progress.{AllPlain, Alone, WaitsNow, told_at_end, told_waiting};
+ghost use Rattle.run_model.specs.Execution.{Execution, over};
+ghost use Rattle.run_model.specs.Lawful.{EndsSo, IsComplete, Program, main_job};
+ghost use Rattle.pl_model.specs.History.{AllPlain};
+ghost use Rattle.run_model.specs.Progress.{Alone, WaitsNow, told_at_end, told_waiting};
 ghost use Rattle.pl_model.specs.Resolution.{Ending};
 ghost use Rattle.world_api.specs.Courses.{seen_in};
 ghost use Rattle.world_api.specs.Scripts.{Comes};

@@ -1,6 +1,6 @@
 //! The search of a directive, run until it does not go on.
 ghost use Rattle.std.specs.Prelude.{◌≡◌, false, IfOk, OnOk};
-ghost use Rattle.pl_model.specs.Report.{texts};
+ghost use Rattle.run_model.specs.Report.{texts};
 ghost use Rattle.world_api.specs.Texts.{Holds};
 ghost use Rattle.world_api.specs.Told.{has_ended};
 ghost use Rattle.iso_engine.specs.Ready.{IsReady};

@@ -1,6 +1,6 @@
 //! How the search of an engine has ended.
 ghost use Rattle.std.specs.Prelude.{◌≡◌, IfOk, List, None};
-ghost use Rattle.pl_model.specs.Lawful.{EndsSo};
+ghost use Rattle.run_model.specs.Lawful.{EndsSo};
 ghost use Rattle.pl_model.specs.Resolution.{Ending, Output};
 ghost use Rattle.world_api.specs.Scripts.{EndsAs, LeavesOff};
 ghost use Rattle.world_api.specs.Told.{Told};

@@ -1,7 +1,7 @@
 //! The search of a goal, run until it does not go on.
 ghost use Rattle.std.specs.Prelude.{◌≡◌, false, map, IfOk, OnOk};
 ghost use Rattle.std.specs.List.{All};
-ghost use Rattle.pl_model.specs.Report.{with_output};
+ghost use Rattle.run_model.specs.Report.{with_output};
 ghost use Rattle.term_store.specs.Contents.{Holds as IsPlaceIn};
 ghost use Rattle.world_api.specs.Texts.{Holds};
 ghost use Rattle.world_api.specs.Told.{has_ended};

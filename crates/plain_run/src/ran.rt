@@ -1,7 +1,7 @@
 //! A search from its start to where it does not go on.
 ghost use Rattle.std.specs.Prelude.{◌≡◌, false, IfOk, IsSome};
 ghost use Rattle.std.specs.List.{All};
-ghost use Rattle.pl_model.specs.Report.{texts, with_output};
+ghost use Rattle.run_model.specs.Report.{texts, with_output};
 ghost use Rattle.term_store.specs.NumberedNames.{names_of};
 ghost use Rattle.world_api.specs.Texts.{Holds};
 ghost use Rattle.world_api.specs.Told.{Told, has_ended};

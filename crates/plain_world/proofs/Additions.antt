@@ -5,18 +5,16 @@ use Rattle.std.proofs.Common.{inl, inr}
 use Rattle.std.proofs.lemmas.Bool.{false≢true}
 use Rattle.std.proofs.lemmas.List.{length-map}
 use Rattle.pl_term.specs.Tree.{Tree}
-use Rattle.pl_model.specs.History.{Kind, Proc, add_first, add_last, assert, consult}
+use Rattle.pl_model.specs.History.{Kind, Proc, add_first, add_last, assert, consult, head_part}
 use Rattle.pl_model.specs.Predicates.{proc_of as predicate_of}
-use Rattle.pl_model.specs.Shown.{proc_of}
+use Rattle.pl_model.specs.laws.Shown.{proc_of}
 use Rattle.pl_model.specs.KeptCells.{kept_cells}
-use Rattle.pl_model.specs.BodyChecks.{head_part}
 use Rattle.pl_model.specs.Database.{Database, is_system, is_static, has_room, used_cells}
 use Rattle.pl_model.specs.Errors.{static_procedure}
 use Rattle.pl_model.specs.ErrorTerms.{resource_error}
 use Rattle.pl_model.specs.Requests.{done, refused}
-use Rattle.pl_model.specs.Service.{Served, answers, serve, refuses, updates, most_updates, clause_cells}
+use Rattle.pl_model.specs.Service.{Served, answers, serve, refuses, updates, most_updates, clause_cells, served_now}
 use Rattle.pl_model.specs.SharedState.{SharedState}
-use Rattle.pl_model.specs.Progress.{served_now}
 use Rattle.pl_model.specs.declared.shows.Proc.{Proc as Predicate}
 use Rattle.pl_model.specs.declared.shows.Origin.{Origin}
 use Rattle.pl_model.specs.declared.shows.Origin.TheVariants.{Consult, Assert}

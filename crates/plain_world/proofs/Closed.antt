@@ -6,12 +6,11 @@ use Rattle.std.proofs.lemmas.Bool.{false≢true}
 use Rattle.std.proofs.lemmas.Bool.Decides.{Decides-like, Decides-and, Decides-eqb}
 use Rattle.std.proofs.lemmas.Slice.Eq.{bytes_eq-Decides}
 use Rattle.pl_term.specs.Tree.{Tree, var, int, atom, comp, none, more}
-use Rattle.pl_model.specs.History.{Clause, Proc}
+use Rattle.pl_model.specs.History.{Clause, Proc, head_part}
 use Rattle.pl_model.specs.Predicates.{proc_of, same_proc, is_excluded}
-use Rattle.pl_model.specs.BodyChecks.{head_part}
 use Rattle.pl_model.specs.FirstArguments.{are_apart, head_of, head_key, is_any}
 use Rattle.pl_model.specs.FirstArgumentOrder.{order_of}
-use Rattle.pl_model.specs.FirstArgumentLaws.{heads_tell}
+use Rattle.pl_model.specs.laws.FirstArgumentLaws.{heads_tell}
 use Rattle.pl_model.specs.declared.first_argument.FirstArgument.{FirstArgument}
 use Rattle.pl_model.specs.Database.{Stored, Database, is_system, is_of, is_visible, seen, choices}
 use Rattle.world_api.specs.Visits.{clause_in}

@@ -6,7 +6,7 @@ use Rattle.pl_term.specs.declared.node.Node.TheVariants.{Comp}
 use Rattle.pl_term.specs.Tree.{Tree, var, int, atom, comp, none, more, count}
 use Rattle.pl_term.specs.Nodes.{nodes, nodes_all}
 use Rattle.pl_model.specs.Predicates.{proc_of}
-use Rattle.pl_model.specs.BodyChecks.{head_part}
+use Rattle.pl_model.specs.History.{head_part}
 use Rattle.pl_model.specs.KeptNodes.{head_nodes}
 use Rattle.pl_model.proofs.KeptKeys.{not_two}
 use Rattle.pl_model.proofs.UnifyNodes.{length-nodes_pos}

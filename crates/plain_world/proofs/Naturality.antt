@@ -5,7 +5,7 @@ use Rattle.std.proofs.Math.Seq.{take-length}
 use Rattle.std.proofs.lemmas.List.{map-append}
 use Rattle.pl_term.specs.Tree.{Tree}
 use Rattle.pl_model.specs.History.{Clause, Proc}
-use Rattle.pl_model.specs.Shown.{proc_of, procs_of, origin_of}
+use Rattle.pl_model.specs.laws.Shown.{proc_of, procs_of, origin_of}
 use Rattle.pl_model.specs.KeptCells.{kept_cells}
 use Rattle.pl_model.specs.Database.{Stored, Database, opening_database, with_first, with_last, with_dynamic_procedures, without_clause, without_procedure, erased_where, is_at, is_of, is_erased, is_visible, seen, choices, cells_of, has_room, added_clause}
 use Rattle.pl_model.specs.Service.{clause_cells}

@@ -5,7 +5,7 @@ use Rattle.std.proofs.lemmas.Bool.Decides.{Decides-eqb}
 use Rattle.pl_term.specs.Tree.{Chars}
 use Rattle.atom_api.specs.Names.{Names, with_name}
 use Rattle.std.specs.List.{All}
-use Rattle.pl_model.specs.Progress.{AllPlain}
+use Rattle.pl_model.specs.History.{AllPlain}
 use Rattle.world_api.specs.Told.{has_ended}
 use Rattle.plain_world.specs.declared.entry.Entry.{Entry}
 use Rattle.plain_world.specs.declared.entry.Entry.TheVariants.{AddsFirst, AddsLast, Erases, Abolishes, SetsDynamic, SetsFlag, SetsOperators}

@@ -15,9 +15,8 @@ use Rattle.pl_model.specs.Flags.{raises, fails}
 use Rattle.pl_model.specs.Database.{Stored, is_known, choices}
 use Rattle.pl_model.specs.Errors.{unknown_procedure}
 use Rattle.pl_model.specs.Requests.{look, read_operators, call_clauses, standing, listed, refused}
-use Rattle.pl_model.specs.Service.{answers, serve, reads, clauses_for, unknown_called}
+use Rattle.pl_model.specs.Service.{answers, serve, reads, clauses_for, unknown_called, served_now}
 use Rattle.pl_model.specs.SharedState.{SharedState}
-use Rattle.pl_model.specs.Progress.{served_now}
 use Rattle.clause_db.specs.Stands.{first_named}
 use Rattle.gen_core.specs.Hits.{hit_of}
 use Rattle.clause_db.specs.declared.fault.DbFault.{DbFault}

@@ -2,7 +2,7 @@
 use Rattle.std.proofs.Common.{◌≡◌, ◌≤◌, ◌+◌, ℕ, List, [], ◌∷◌, ◌++◌, length, None, false, refl, sym, ap, ap₂, ◌∙◌, subst, arith}
 use Rattle.std.proofs.lemmas.List.{length-append}
 use Rattle.pl_term.specs.Tree.{Tree}
-use Rattle.pl_model.specs.Shown.{proc_of}
+use Rattle.pl_model.specs.laws.Shown.{proc_of}
 use Rattle.pl_model.specs.KeptCells.{kept_cells}
 use Rattle.pl_model.specs.Flags.{opening_flags}
 use Rattle.pl_model.specs.OperatorTable.{opening_table}

@@ -5,8 +5,7 @@ use Rattle.pl_term.specs.Tree.{Chars, Tree}
 use Rattle.pl_model.specs.History.{Clause}
 use Rattle.pl_model.specs.Database.{Stored}
 use Rattle.pl_model.specs.Requests.{Request, listed, done, consult_clause, assert_first, assert_last}
-use Rattle.pl_model.specs.Service.{answers}
-use Rattle.pl_model.specs.Progress.{entry_by, served_now}
+use Rattle.pl_model.specs.Service.{answers, entry_by, served_now}
 use Rattle.pl_model.specs.declared.first_argument.FirstArgument.{FirstArgument}
 use Rattle.pl_model.specs.FirstArguments.{head_key, head_of}
 use Rattle.world_api.specs.Told.{Follows, behind, clause_list}

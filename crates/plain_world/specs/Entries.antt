@@ -1,7 +1,7 @@
 -- The entries of the history for which values of the program stand.
 use Rattle.std.specs.Prelude.{ℕ, List, [], ◌∷◌, ◌++◌, map, length}
 use Rattle.pl_model.specs.History.{Kind, Entry, History, add_first, add_last, erase, abolish, set_dynamic, set_flag, set_op}
-use Rattle.pl_model.specs.Shown.{proc_of, procs_of, origin_of}
+use Rattle.pl_model.specs.laws.Shown.{proc_of, procs_of, origin_of}
 use Rattle.pl_model.specs.SharedState.{SharedState, state_at}
 use Rattle.clause_db.specs.Operators.{shown}
 use Rattle.world_api.specs.Told.{Told}

@@ -8,8 +8,7 @@ use Rattle.pl_model.specs.declared.first_argument.FirstArgument.{FirstArgument}
 use Rattle.pl_model.specs.Database.{Stored}
 use Rattle.pl_model.specs.Requests.{Request, standing, listed, done, gone, refused}
 use Rattle.pl_model.specs.Requests as requests
-use Rattle.pl_model.specs.Service.{answers}
-use Rattle.pl_model.specs.Progress.{served_now}
+use Rattle.pl_model.specs.Service.{answers, served_now}
 use Rattle.gen_core.specs.declared.hit.Hit.{Hit}
 use Rattle.world_api.specs.Asked.{texts_in}
 use Rattle.world_api.specs.Visits.{clause_in}

@@ -2,7 +2,7 @@
 use Rattle.std.specs.Prelude.{ℕ, zero, suc, List, [], ◌∷◌, map}
 use Rattle.pl_term.specs.Tree.{Tree}
 use Rattle.pl_model.specs.History.{Clause}
-use Rattle.pl_model.specs.Shown.{proc_of, procs_of, origin_of}
+use Rattle.pl_model.specs.laws.Shown.{proc_of, procs_of, origin_of}
 use Rattle.pl_model.specs.Database.{Stored, Database, opening_database, with_first, with_last, without_clause, without_procedure, with_dynamic_procedures}
 use Rattle.world_api.specs.Visits.{clause_in}
 use Rattle.plain_world.specs.declared.entry.Entry.{Entry}

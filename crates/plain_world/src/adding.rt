@@ -1,7 +1,7 @@
 //! Clauses that are added to the database.
 ghost use Rattle.std.specs.Prelude.{◌≡◌, ◌≤◌, ◌<◌, ◌+◌, ◌^◌, ◌⊎◌, ℕ, Some, None, IfSome, IfNone, IfOk};
 ghost use Rattle.pl_term.specs.Tree.{Tree};
-ghost use Rattle.pl_model.specs.Shown.{proc_of, origin_of};
+ghost use Rattle.pl_model.specs.laws.Shown.{proc_of, origin_of};
 ghost use Rattle.pl_model.specs.History.{assert};
 ghost use Rattle.pl_model.specs.KeptCells.{kept_cells};
 ghost use Rattle.pl_model.specs.Database.{Database, with_first, with_last};

@@ -4,7 +4,7 @@
 ghost use Rattle.std.specs.Prelude.{◌≡◌, ◌<◌, IfOk, length};
 ghost use Rattle.std.specs.Str.{chars};
 ghost use Rattle.pl_term.specs.Tree.{atom, compound};
-ghost use Rattle.pl_model.specs.Shown.{proc_of};
+ghost use Rattle.pl_model.specs.laws.Shown.{proc_of};
 ghost use Rattle.pl_model.specs.Errors.{indicator as indicator_of, unknown_procedure as unknown, static_procedure as static_one};
 ghost use Rattle.pl_model.specs.ErrorTerms.{resource_error as no_room};
 

@@ -3,8 +3,8 @@
 
 ghost use Rattle.std.specs.Prelude.{◌≡◌, ◌<◌, IfOk, length};
 ghost use Rattle.pl_model.specs.Predicates.{proc_of as predicate_of};
-ghost use Rattle.pl_model.specs.Shown.{proc_of};
-ghost use Rattle.pl_model.specs.BodyChecks.{head_part};
+ghost use Rattle.pl_model.specs.laws.Shown.{proc_of};
+ghost use Rattle.pl_model.specs.History.{head_part};
 ghost use Rattle.pl_model.specs.KeptNodes.{is_rule_node, head_nodes};
 ghost use Rattle.plain_world.specs.Heads.{node_proc};
 

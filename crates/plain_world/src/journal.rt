@@ -1,7 +1,7 @@
 //! The shared state with its history, in texts alone.
 ghost use Rattle.std.specs.Prelude.{◌≡◌, ◌≤◌, ◌<◌, [], ◌∷◌, ◌++◌, length, IfOk, OnOk, OnErr, Contains, true, false};
 ghost use Rattle.pl_term.specs.Tree.{Tree};
-ghost use Rattle.pl_model.specs.Shown.{proc_of};
+ghost use Rattle.pl_model.specs.laws.Shown.{proc_of};
 ghost use Rattle.pl_model.specs.Requests.{look, read_operators, call_clauses};
 ghost use Rattle.pl_model.specs.Predicates.{proc_of as predicate_of};
 ghost use Rattle.pl_model.specs.Database.{is_known};

@@ -1,6 +1,6 @@
 //! The world of one engine.
 ghost use Rattle.std.specs.Prelude.{◌≡◌, [], length, map, IfOk};
-ghost use Rattle.pl_model.specs.Progress.{AllPlain};
+ghost use Rattle.pl_model.specs.History.{AllPlain};
 ghost use Rattle.pl_model.specs.SharedState.{state_at};
 ghost use Rattle.plain_world.specs.Entries.{told_of, entry_of};
 

@@ -11,7 +11,7 @@ use Rattle.pl_model.specs.Characters.{is_symbol, continues_name, is_symbol_name}
 use Rattle.pl_model.specs.Tokens.{run}
 use Rattle.pl_model.specs.LexicalQuoted.{begins_with, is_digit}
 use Rattle.pl_model.specs.LexicalTokens.{radix_of}
-use Rattle.pl_model.specs.LexicalLaws.{EndsNumeral}
+use Rattle.pl_model.specs.laws.LexicalLaws.{EndsNumeral}
 use Rattle.pl_model.specs.Writing.{would_join}
 use Rattle.pl_model.specs.TermWriting.{Behind, would_bind, put}
 use Rattle.read_back.proofs.Bits.{both, all_true, first_false, not_true, left_true, same_number, differ}

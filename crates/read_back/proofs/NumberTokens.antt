@@ -16,7 +16,7 @@ use Rattle.pl_model.specs.declared.lexical.Reading.TheVariants.{Token}
 use Rattle.pl_model.specs.Characters.{is_symbol, continues_name}
 use Rattle.pl_model.specs.Tokens.{run}
 use Rattle.pl_model.specs.LexicalTokens.{token_front}
-use Rattle.pl_model.specs.LexicalLaws.{EndsNumeral}
+use Rattle.pl_model.specs.laws.LexicalLaws.{EndsNumeral}
 use Rattle.pl_model.specs.Writing.{variable}
 use Rattle.pl_model.specs.TermWriting.{Piece, plain, Behind, behind, text_behind}
 use Rattle.pl_model.proofs.CharacterRuns.{front-ascii, run-stops}

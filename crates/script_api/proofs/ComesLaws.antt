@@ -2,10 +2,10 @@
 use Rattle.std.proofs.Common.{◌≡◌, ℕ, suc, ◌+◌, [], ◌∷◌, ◌++◌, length, Option, refl, sym, ◌∙◌, arith, subst}
 use Rattle.pl_model.specs.History.{Kind, History}
 use Rattle.pl_model.specs.Requests.{Request, Reply}
-use Rattle.pl_model.specs.Service.{answers}
-use Rattle.pl_model.specs.Execution.{Job, Execution, moves, requests, move}
-use Rattle.pl_model.specs.Progress.{Reached, entry_by, served_now}
-use Rattle.pl_model.proofs.Progress.{reached_later, reached_goes, reached_asks}
+use Rattle.pl_model.specs.Service.{answers, entry_by, served_now}
+use Rattle.run_model.specs.Execution.{Job, Execution, moves, requests, move}
+use Rattle.run_model.specs.Progress.{Reached}
+use Rattle.run_model.proofs.Progress.{reached_later, reached_goes, reached_asks}
 use Rattle.world_api.specs.Told.{Told, Follows}
 use Rattle.world_api.specs.Answers.{seen_as}
 use Rattle.script_api.specs.Parts.{seen_in}

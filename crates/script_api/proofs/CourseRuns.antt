@@ -2,12 +2,12 @@
 use Rattle.std.proofs.Common.{◌≡◌, ℕ, suc, ◌+◌, [], ◌∷◌, ◌++◌, length, Option, refl, ap, sym, ◌∙◌, arith, subst}
 use Rattle.pl_model.specs.History.{Kind, History}
 use Rattle.pl_model.specs.Requests.{Request, Reply}
-use Rattle.pl_model.specs.Service.{answers}
+use Rattle.pl_model.specs.Service.{answers, entry_by, served_now}
 use Rattle.pl_model.specs.Resolution.{Limits, State, Next, goes, asks}
 use Rattle.pl_model.specs.Control.{step}
-use Rattle.pl_model.specs.Execution.{Job, Execution, Move, moves, requests, move, directed, searched}
-use Rattle.pl_model.specs.Progress.{Reached, entry_by, served_now}
-use Rattle.pl_model.proofs.Progress.{reached_later}
+use Rattle.run_model.specs.Execution.{Job, Execution, Move, moves, requests, move, directed, searched}
+use Rattle.run_model.specs.Progress.{Reached}
+use Rattle.run_model.proofs.Progress.{reached_later}
 use Rattle.world_api.specs.Told.{Told, Follows}
 use Rattle.world_api.specs.Answers.{seen_as}
 use Rattle.world_api.specs.Courses.{Course, stays, goes_to, sees, asked}

@@ -4,7 +4,7 @@ use Rattle.std.specs.List.{Contains}
 use Rattle.pl_term.specs.Tree.{Chars}
 use Rattle.pl_model.specs.History.{Kind, History}
 use Rattle.pl_model.specs.Requests.{Request}
-use Rattle.pl_model.specs.Progress.{entry_by, served_now}
+use Rattle.pl_model.specs.Service.{entry_by, served_now}
 use Rattle.world_api.specs.Told.{Told, Follows}
 use Rattle.world_api.specs.Answers.{seen_as}
 use Rattle.script_api.specs.Scripts.{IsLater, IsReplied}

@@ -8,12 +8,11 @@ use Rattle.pl_term.specs.Tree.{Chars, Tree}
 use Rattle.pl_model.specs.History.{History}
 use Rattle.pl_model.specs.Requests.{Request, look}
 use Rattle.pl_model.specs.Requests as requests
-use Rattle.pl_model.specs.Service.{waits, serve}
+use Rattle.pl_model.specs.Service.{waits, serve, served_now}
 use Rattle.pl_model.specs.Resolution.{State, Ending, ended}
 use Rattle.pl_model.specs.Control.{step, step_by, start}
-use Rattle.pl_model.specs.Execution.{runs, Job, Consulted, Execution, moves, requests as asking, move, searching, searched, over}
-use Rattle.pl_model.specs.Progress.{served_now}
-use Rattle.pl_model.specs.Report.{all_consulted}
+use Rattle.run_model.specs.Execution.{runs, Job, Consulted, Execution, moves, requests as asking, move, searching, searched, over}
+use Rattle.run_model.specs.Report.{all_consulted}
 use Rattle.atom_words.specs.declared.view.Pass.{Pass}
 use Rattle.atom_words.specs.declared.view.Cause.{Cause}
 use Rattle.atom_words.specs.declared.view.WornWord.{WornWord}

@@ -1,7 +1,7 @@
 -- How an execution comes to a later one.
 use Rattle.std.specs.Prelude.{◌≡◌, ℕ, ◌+◌}
-use Rattle.pl_model.specs.Execution.{Job, Execution}
-use Rattle.pl_model.specs.Progress.{Reached}
+use Rattle.run_model.specs.Execution.{Job, Execution}
+use Rattle.run_model.specs.Progress.{Reached}
 use Rattle.world_api.specs.Told.{Told}
 use Rattle.script_api.specs.Parts.{seen_in}
 

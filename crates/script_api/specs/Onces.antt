@@ -3,7 +3,7 @@ use Rattle.std.specs.Prelude.{◌≡◌, ℕ, List, [], Bool, true, false, Optio
 use Rattle.std.specs.List.{All}
 use Rattle.std.proofs.Common.{ap, refl, ◌∙◌}
 use Rattle.pl_term.specs.Tree.{Chars, Tree}
-use Rattle.pl_model.specs.Execution.{Script, Job, runs, Consulted, Execution, at_activity, beginning, initializing}
+use Rattle.run_model.specs.Execution.{Script, Job, runs, Consulted, Execution, at_activity, beginning, initializing}
 use Rattle.script_api.specs.declared.once.Stage.{Stage}
 use Rattle.script_api.specs.declared.once.Stage.TheVariants.{Fresh, AtHand, Over}
 use Rattle.script_api.specs.Parts.{Part, of_goal}

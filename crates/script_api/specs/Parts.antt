@@ -1,8 +1,8 @@
 -- What an engine searches for, and its search as a part of an execution.
 use Rattle.std.specs.Prelude.{ℕ}
 use Rattle.pl_model.specs.Resolution.{Limits, State}
-use Rattle.pl_model.specs.Execution.{Job, Execution, Rest, directing, searching, directive_limits}
-use Rattle.pl_model.specs.Progress.{Seen}
+use Rattle.run_model.specs.Execution.{Job, Execution, Rest, directing, searching, directive_limits}
+use Rattle.run_model.specs.Progress.{Seen}
 use Rattle.world_api.specs.Told.{Told}
 
 -- What an engine searches for: the solutions of its goal, or one of the directive of the item at a place, behind which

@@ -5,8 +5,8 @@ use Rattle.pl_model.specs.History.{History}
 use Rattle.pl_model.specs.Requests.{Request}
 use Rattle.pl_model.specs.Resolution.{Ending, solved, no_more, threw, exited, halted, ended, Output, State}
 use Rattle.pl_model.specs.Control.{start}
-use Rattle.pl_model.specs.Execution.{Script, Word, goal_word, faulty_word, Job, Consulted, wrote, Activity, directing, over, Execution, texts_of}
-use Rattle.pl_model.specs.Report.{all_consulted}
+use Rattle.run_model.specs.Execution.{Script, Word, goal_word, faulty_word, Job, Consulted, wrote, Activity, directing, over, Execution, texts_of}
+use Rattle.run_model.specs.Report.{all_consulted}
 use Rattle.atom_words.specs.declared.view.Refusal.{Refusal}
 use Rattle.atom_words.specs.declared.view.Refusal.TheVariants.{Full as RefusalFull, Again as RefusalAgain, Worn as RefusalWorn}
 use Rattle.world_api.specs.declared.how.How.{How}

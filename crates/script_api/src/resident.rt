@@ -1,7 +1,7 @@
 //! The traits of what stands for an engine between two slices.
 ghost use Rattle.std.specs.Prelude.{◌≡◌, ◌≤◌, ℕ, IfOk, List};
 ghost use Rattle.std.specs.List.{All, Contains};
-ghost use Rattle.pl_model.specs.Execution.{Job, Execution};
+ghost use Rattle.run_model.specs.Execution.{Job, Execution};
 ghost use Rattle.atom_api.specs.Names.{Names};
 ghost use Rattle.world_api.specs.Told.{Told};
 ghost use Rattle.script_api.specs.Residents.{IsLeast, Waited};

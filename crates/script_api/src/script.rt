@@ -3,7 +3,7 @@ ghost use Rattle.std.specs.Prelude.{◌≡◌, ◌++◌, ◌⊎◌, ℕ, Bool, f
 ghost use Rattle.std.specs.Option.{option_map};
 ghost use Rattle.std.specs.List.{All};
 ghost use Rattle.pl_term.specs.Tree.{Chars};
-ghost use Rattle.pl_model.specs.Execution.{Script as ScriptOf, Job, Consulted, Execution};
+ghost use Rattle.run_model.specs.Execution.{Script as ScriptOf, Job, Consulted, Execution};
 ghost use Rattle.pl_model.specs.Requests.{Request};
 ghost use Rattle.world_api.specs.Texts.{text_of, Holds};
 ghost use Rattle.world_api.specs.Told.{Told, has_ended};

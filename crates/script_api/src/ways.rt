@@ -2,9 +2,8 @@
 ghost use Rattle.std.specs.Prelude.{◌≡◌, ℕ, ◌+◌, [], ◌∷◌, ◌++◌, length, Option};
 ghost use Rattle.pl_model.specs.History.{Kind, History};
 ghost use Rattle.pl_model.specs.Requests.{Request, Reply as SharedReply};
-ghost use Rattle.pl_model.specs.Service.{answers};
-ghost use Rattle.pl_model.specs.Execution.{Job, Execution, move, moves, requests};
-ghost use Rattle.pl_model.specs.Progress.{entry_by, served_now};
+ghost use Rattle.pl_model.specs.Service.{answers, entry_by, served_now};
+ghost use Rattle.run_model.specs.Execution.{Job, Execution, move, moves, requests};
 ghost use Rattle.world_api.specs.Told.{Told, Follows};
 ghost use Rattle.pl_model.specs.Resolution.{Limits, State};
 ghost use Rattle.world_api.specs.Answers.{seen_as};

@@ -8,7 +8,7 @@ use Rattle.pl_term.specs.Variables.{distinct, occurrences, occurrences_all, plac
 use Rattle.pl_term.specs.Cells.{cells, compound_cells, compound_cells_all}
 use Rattle.pl_term.proofs.NodeLemmas.{count-rename_all_by}
 use Rattle.pl_model.specs.BuiltinRows.{Answer}
-use Rattle.pl_model.specs.Control.{proc}
+use Rattle.pl_model.specs.History.{proc}
 use Rattle.pl_model.specs.TermBuiltins.{copies, two}
 use Rattle.atom_api.specs.Names.{Names}
 use Rattle.term_store.specs.declared.words.Place.{Place}

@@ -10,7 +10,7 @@ use Rattle.pl_term.specs.Tree.{Chars, Tree, var, int, atom, comp, compound}
 use Rattle.pl_model.specs.Terms.{is_variable, named_term}
 use Rattle.pl_model.specs.Balls.{instantiation_error, type_error}
 use Rattle.pl_model.specs.BuiltinRows.{error, one_answer}
-use Rattle.pl_model.specs.Control.{proc}
+use Rattle.pl_model.specs.History.{proc}
 use Rattle.pl_model.specs.TermBuiltins.{functor_of, new_variables, three}
 use Rattle.atom_api.specs.Names.{Names}
 use Rattle.term_store.specs.declared.words.Place.{Place}

@@ -10,7 +10,7 @@ use Rattle.std.proofs.lemmas.List.Elements.{All-append, All-cons, All-head, All-
 use Rattle.pl_term.specs.Tree.{Chars, Tree, atom, comp, none, more, compound, count, trees}
 use Rattle.pl_model.specs.Balls.{type_error}
 use Rattle.pl_model.specs.BuiltinRows.{Answer}
-use Rattle.pl_model.specs.Control.{proc}
+use Rattle.pl_model.specs.History.{proc}
 use Rattle.pl_model.specs.Terms.{is_list_or_partial, list_term}
 use Rattle.pl_model.specs.TermBuiltins.{two}
 use Rattle.atom_api.specs.Names.{Names, FixedStand}

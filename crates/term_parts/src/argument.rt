@@ -1,7 +1,7 @@
 //! arg/3 (ISO/IEC 13211-1:1995, 8.5.2).
 ghost use Rattle.std.specs.Prelude.{◌≡◌, IfOk, codes, []};
 ghost use Rattle.pl_term.specs.Tree.{Tree, int};
-ghost use Rattle.pl_model.specs.Control.{proc};
+ghost use Rattle.pl_model.specs.History.{proc};
 ghost use Rattle.pl_model.specs.TermBuiltins.{argument_of};
 ghost use Rattle.atom_api.specs.Names.{Names, FixedStand};
 ghost use Rattle.term_store.specs.Contents.{Holds, IsArguments, arguments_at, term_at};

@@ -2,7 +2,7 @@
 ghost use Rattle.std.specs.Prelude.{◌≡◌, zero, [], IfOk, codes};
 ghost use Rattle.pl_term.specs.Tree.{Tree};
 ghost use Rattle.pl_term.specs.Variables.{rename};
-ghost use Rattle.pl_model.specs.Control.{proc};
+ghost use Rattle.pl_model.specs.History.{proc};
 ghost use Rattle.pl_model.specs.TermBuiltins.{copies};
 ghost use Rattle.atom_api.specs.Names.{Names, FixedStand};
 ghost use Rattle.builtin_rows.specs.Rows.{row_refusals};

@@ -2,7 +2,7 @@
 ghost use Rattle.std.specs.Prelude.{◌≡◌, ℕ, ◌+◌, ◌<◌, ◌^◌, IfOk, codes, []};
 ghost use Rattle.pl_term.specs.Tree.{atom, var};
 ghost use Rattle.pl_model.specs.BuiltinRows.{one_answer};
-ghost use Rattle.pl_model.specs.Control.{proc};
+ghost use Rattle.pl_model.specs.History.{proc};
 ghost use Rattle.pl_model.specs.TermBuiltins.{functor_of, three};
 ghost use Rattle.atom_api.specs.Names.{Names, FixedStand};
 ghost use Rattle.term_store.specs.Contents.{Holds, IsAbove, term_at};

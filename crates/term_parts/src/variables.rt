@@ -1,7 +1,7 @@
 //! term_variables/2 (ISO/IEC 13211-1:1995, Cor.2 8.5.5).
 ghost use Rattle.std.specs.Prelude.{◌≡◌, true, [], IfOk, codes};
 ghost use Rattle.pl_term.specs.Tree.{Tree};
-ghost use Rattle.pl_model.specs.Control.{proc};
+ghost use Rattle.pl_model.specs.History.{proc};
 ghost use Rattle.pl_model.specs.Terms.{is_list_or_partial};
 ghost use Rattle.pl_model.specs.TermBuiltins.{lists_variables};
 ghost use Rattle.atom_api.specs.Names.{Names, FixedStand};

@@ -9,7 +9,7 @@ use Rattle.pl_model.specs.Balls.{error_ball}
 use Rattle.pl_model.specs.BuiltinRows.{error, one_answer}
 use Rattle.pl_model.specs.BuiltinRows as rows
 use Rattle.pl_model.specs.Checks.{atom_error, first_error}
-use Rattle.pl_model.specs.Control.{proc}
+use Rattle.pl_model.specs.History.{proc}
 use Rattle.pl_model.specs.TermBuiltins.{compares, sign, sign_error, three, unless}
 use Rattle.atom_api.specs.Fixed.{fixed}
 use Rattle.atom_api.specs.Names.{FixedStand, Names}

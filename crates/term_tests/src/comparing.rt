@@ -3,7 +3,7 @@ ghost use Rattle.std.specs.Prelude.{◌≡◌, ◌<◌, ◌^◌, ℕ, [], IfOk, 
 ghost use Rattle.pl_term.specs.Order.{order as order_of};
 ghost use Rattle.pl_term.specs.Tree.{more, none};
 ghost use Rattle.pl_model.specs.BuiltinRows as rows;
-ghost use Rattle.pl_model.specs.Control.{proc};
+ghost use Rattle.pl_model.specs.History.{proc};
 ghost use Rattle.pl_model.specs.TermBuiltins.{compares, three};
 ghost use Rattle.builtin_names.specs.Predicates.{name_of};
 ghost use Rattle.builtin_rows.specs.Given.{given};

@@ -3,7 +3,7 @@ use Rattle.std.specs.Prelude.{ℕ, ◌<◌, ◌^◌, ℤ, Bool, not, int_lt, int
 use Rattle.std.specs.Ordering.{int_eq}
 use Rattle.pl_term.specs.Tree.{Chars, Tree}
 use Rattle.pl_model.specs.BuiltinRows.{Row as Defined}
-use Rattle.pl_model.specs.Control.{proc}
+use Rattle.pl_model.specs.History.{proc}
 use Rattle.pl_model.specs.TermBuiltins.{two}
 use Rattle.atom_api.specs.Names.{Names}
 use Rattle.term_store.specs.Contents.{Contents}

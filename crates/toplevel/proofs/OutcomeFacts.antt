@@ -5,16 +5,16 @@ use Rattle.pl_term.specs.Tree.{Chars}
 use Rattle.pl_model.specs.declared.ends.How.{How}
 use Rattle.pl_model.specs.declared.ends.How.TheVariants.{Solved, False, Threw, Exited, Halted}
 use Rattle.pl_model.specs.OperatorTable.{OperatorTable}
-use Rattle.pl_model.specs.History.{Entry, Kind, History, finish, start}
+use Rattle.pl_model.specs.History.{Entry, Kind, History, finish, start, AllPlain, IsPlain}
 use Rattle.pl_model.specs.SharedState.{SharedState, state_at}
 use Rattle.pl_model.specs.Resolution.{Ending, solved, no_more, threw, exited, halted}
-use Rattle.pl_model.specs.Execution.{Job, Execution, Activity, Move, ends, requests, move, move_by, over, Refusal, Word as WordOf}
-use Rattle.pl_model.specs.Lawful.{EndsSo, IsComplete, IsDone, Program, Told, Beginning, beginnings, beginnings_from, main_job, run, AllStand, Made, Standing, WaitsAtEnd}
-use Rattle.pl_model.specs.Progress.{AllPlain, Alone, IsPlain, Reached, Seen, WaitsNow}
-use Rattle.pl_model.specs.Report.{AreFinal, Finals, all_consulted, stood, with_directive, ending_by, end_place, end_operators, transcript, thread_sections, goal_sections, consult_section, closed, with_output, output_of, with_last, goal_line}
-use Rattle.pl_model.proofs.LawfulAlone.{alone_end, alone_wait}
-use Rattle.pl_model.proofs.LawfulStable.{state_later}
-use Rattle.pl_model.proofs.Progress.{reached_end, reached_state}
+use Rattle.run_model.specs.Execution.{Job, Execution, Activity, Move, ends, requests, move, move_by, over, Refusal, Word as WordOf}
+use Rattle.run_model.specs.Lawful.{EndsSo, IsComplete, IsDone, Program, Told, Beginning, beginnings, beginnings_from, main_job, run, AllStand, Made, Standing, WaitsAtEnd}
+use Rattle.run_model.specs.Progress.{Alone, Reached, Seen, WaitsNow}
+use Rattle.run_model.specs.Report.{AreFinal, Finals, all_consulted, stood, with_directive, ending_by, end_place, end_operators, transcript, thread_sections, goal_sections, consult_section, closed, with_output, output_of, with_last, goal_line}
+use Rattle.run_model.proofs.LawfulAlone.{alone_end, alone_wait}
+use Rattle.pl_model.proofs.StateLater.{state_later}
+use Rattle.run_model.proofs.Progress.{reached_end, reached_state}
 use Rattle.pl_command.specs.declared.ends.GoalEnd.{GoalEnd}
 use Rattle.pl_command.specs.Ends.{all_solved, behind_first, end_by, end_of, ends_from, engines, first_halt, goal_ends, goal_how, halt_by, has_no_end, how_of, or_else, some_fault, some_waits, thread_numbers}
 use Rattle.pl_command.specs.Told.{words_in}

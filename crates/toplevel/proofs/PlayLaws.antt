@@ -9,9 +9,9 @@ use Rattle.world_api.specs.declared.answer.On.{On}
 use Rattle.pl_term.specs.Tree.{Chars, Tree}
 use Rattle.pl_model.specs.declared.ends.How.{How}
 use Rattle.pl_model.specs.Resolution.{Ending, Output, State}
-use Rattle.pl_model.specs.Execution.{Rest, Script, Consulted, Execution, Job, Word, goal_word, faulty_word}
-use Rattle.pl_model.specs.Lawful.{EndsSo}
-use Rattle.pl_model.specs.Report.{output_of, with_output}
+use Rattle.run_model.specs.Execution.{Rest, Script, Consulted, Execution, Job, Word, goal_word, faulty_word}
+use Rattle.run_model.specs.Lawful.{EndsSo}
+use Rattle.run_model.specs.Report.{output_of, with_output}
 use Rattle.atom_words.specs.declared.view.Cause.{Cause}
 use Rattle.atom_words.specs.declared.view.Refusal.{Refusal}
 use Rattle.atom_words.specs.declared.view.Refusal.TheVariants.{Again as RefusalAgain}

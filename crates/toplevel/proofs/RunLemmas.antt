@@ -2,12 +2,12 @@
 use Rattle.std.proofs.Common.{◌≡◌, ◌≤◌, ℕ, suc, Bool, true, false, List, length, ◌∙◌, take, Option, Some, None, refl, sym, subst, inl, inr}
 use Rattle.std.proofs.lemmas.List.{take_all}
 use Rattle.std.specs.Prelude.{not, ◌&&◌, Result, Ok, Err, OnOk, OnErr}
-use Rattle.pl_model.specs.Execution.{most_bytes}
+use Rattle.run_model.specs.Execution.{most_bytes}
 use Rattle.pl_command.specs.declared.ends.End.{End}
 use Rattle.pl_command.specs.declared.ends.End.TheVariants.{Done, GoalFailed, Usage, Waiting, Memory, ReadFault, WriteFault, Halted, Unbuilt}
 use Rattle.pl_model.specs.History.{Proc}
-use Rattle.pl_model.specs.Lawful.{Program, Told}
-use Rattle.pl_model.specs.Report.{final_of}
+use Rattle.run_model.specs.Lawful.{Program, Told}
+use Rattle.run_model.specs.Report.{final_of}
 use Rattle.pl_command.specs.CommandLine.{Command, program_of}
 use Rattle.pl_command.specs.Ends.{all_solved, end_by, engines, faults_in, first_halt, goal_ends, some_waits}
 use Rattle.toplevel.specs.Headline.{AreRead, GaveUp, IsNamed, IsPartlyWritten, IsReady, IsWritten, IsWrittenUnless, Missed, Promised, Ran, RanUnwritten}

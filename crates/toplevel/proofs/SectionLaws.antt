@@ -5,8 +5,8 @@ use Rattle.pl_term.specs.Tree.{Chars}
 use Rattle.pl_model.specs.declared.syntax.SyntaxKind.{SyntaxKind}
 use Rattle.pl_model.specs.OperatorTable.{OperatorTable}
 use Rattle.pl_model.specs.Resolution.{Ending, text}
-use Rattle.pl_model.specs.Execution.{Execution, Activity, at_activity, initializing, over}
-use Rattle.pl_model.specs.Report.{closed, fault_text, goal_line, with_last}
+use Rattle.run_model.specs.Execution.{Execution, Activity, at_activity, initializing, over}
+use Rattle.run_model.specs.Report.{closed, fault_text, goal_line, with_last}
 use Rattle.pl_report.specs.declared.parts.GoalHow.{GoalHow}
 use Rattle.pl_report.specs.declared.parts.GoalHow.TheVariants.{Syntax}
 use Rattle.pl_report.specs.declared.parts.Section.{Section}

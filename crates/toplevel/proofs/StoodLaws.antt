@@ -3,14 +3,14 @@ use Rattle.std.proofs.Common.{◌≡◌, ℕ, ◌+◌, zero, suc, take, Bool, tr
 use Rattle.std.specs.Prelude.{◌||◌, if◌then◌else◌, nat_lt, codes, encode_utf8_all}
 use Rattle.pl_term.specs.Tree.{Chars}
 use Rattle.pl_model.specs.declared.ends.How.{How}
-use Rattle.pl_model.specs.History.{History}
+use Rattle.pl_model.specs.History.{History, AllPlain}
 use Rattle.pl_model.specs.SharedState.{state_at}
 use Rattle.pl_model.specs.Resolution.{Output, text, solution, State}
-use Rattle.pl_model.specs.Execution.{Consulted, wrote, too_large, syntax_fault, ball_of_item, directive_failed, directive_halted, Execution, Job, Word as WordOf, at_activity, at_start, consults, first_execution, initializing, most_bytes, over, taking, texts_of}
-use Rattle.pl_model.specs.Lawful.{Program, main_job}
-use Rattle.pl_model.specs.Progress.{AllPlain, Alone, WaitsNow}
-use Rattle.pl_model.specs.Report.{all_consulted, with_consulted, item_line, with_directive, with_line}
-use Rattle.pl_model.proofs.LawfulAlone.{alone_start}
+use Rattle.run_model.specs.Execution.{Consulted, wrote, too_large, syntax_fault, ball_of_item, directive_failed, directive_halted, Execution, Job, Word as WordOf, at_activity, at_start, consults, first_execution, initializing, most_bytes, over, taking, texts_of}
+use Rattle.run_model.specs.Lawful.{Program, main_job}
+use Rattle.run_model.specs.Progress.{Alone, WaitsNow}
+use Rattle.run_model.specs.Report.{all_consulted, with_consulted, item_line, with_directive, with_line}
+use Rattle.run_model.proofs.LawfulAlone.{alone_start}
 use Rattle.world_api.specs.Told.{Told}
 use Rattle.world_api.specs.Courses.{Part, of_goal, of_directive, with_search}
 use Rattle.world_api.specs.Scripts.{Comes, written_at}

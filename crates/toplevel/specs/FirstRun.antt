@@ -3,10 +3,10 @@ use Rattle.std.specs.Prelude.{◌≡◌, ℕ, Bool, true, is_some, List, [], Som
 use Rattle.pl_term.specs.Tree.{Chars}
 use Rattle.pl_model.specs.History.{Proc}
 use Rattle.pl_model.specs.Resolution.{Ending, Output}
-use Rattle.pl_model.specs.Execution.{Consulted, Execution, Job, over}
-use Rattle.pl_model.specs.Lawful.{EndsSo}
-use Rattle.pl_model.specs.Progress.{WaitsNow}
-use Rattle.pl_model.specs.Report.{output_of, with_output}
+use Rattle.run_model.specs.Execution.{Consulted, Execution, Job, over}
+use Rattle.run_model.specs.Lawful.{EndsSo}
+use Rattle.run_model.specs.Progress.{WaitsNow}
+use Rattle.run_model.specs.Report.{output_of, with_output}
 use Rattle.atom_api.specs.Names.{Names}
 use Rattle.world_api.specs.declared.visit.Procedure.{Procedure}
 use Rattle.world_api.specs.Told.{Told}

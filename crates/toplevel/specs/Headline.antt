@@ -3,8 +3,8 @@ use Rattle.std.specs.Prelude.{◌≡◌, ◌<◌, ◌++◌, ◌⊎◌, ℕ, List
 use Rattle.std.specs.Str.{encode_utf8_all}
 use Rattle.pl_term.specs.Tree.{Chars}
 use Rattle.pl_model.specs.History.{Proc}
-use Rattle.pl_model.specs.Lawful.{IsComplete, Program}
-use Rattle.pl_model.specs.Report.{AreFinal, Finals, transcript}
+use Rattle.run_model.specs.Lawful.{IsComplete, Program}
+use Rattle.run_model.specs.Report.{AreFinal, Finals, transcript}
 use Rattle.pl_command.specs.declared.ends.End.{End}
 use Rattle.pl_command.specs.declared.ends.End.TheVariants.{Done, GoalFailed, Usage, Waiting, Memory, ReadFault, WriteFault, Halted, Unbuilt}
 use Rattle.pl_command.specs.CommandLine.{Command, program_of, unread_line}

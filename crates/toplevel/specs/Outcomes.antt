@@ -5,10 +5,10 @@ use Rattle.pl_model.specs.declared.ends.How.{How}
 use Rattle.pl_model.specs.History.{History, finish}
 use Rattle.pl_model.specs.SharedState.{state_at}
 use Rattle.pl_model.specs.Resolution.{Ending}
-use Rattle.pl_model.specs.Execution.{Execution, Word as WordOf, goal_word, faulty_word, over}
-use Rattle.pl_model.specs.Lawful.{EndsSo, Program, Told, main_job}
-use Rattle.pl_model.specs.Progress.{Alone, Seen, WaitsNow}
-use Rattle.pl_model.specs.Report.{all_consulted, item_line, output_of, with_directive, with_line, with_output}
+use Rattle.run_model.specs.Execution.{Execution, Word as WordOf, goal_word, faulty_word, over}
+use Rattle.run_model.specs.Lawful.{EndsSo, Program, Told, main_job}
+use Rattle.run_model.specs.Progress.{Alone, Seen, WaitsNow}
+use Rattle.run_model.specs.Report.{all_consulted, item_line, output_of, with_directive, with_line, with_output}
 use Rattle.world_api.specs.Told.{Told as Engine}
 use Rattle.world_api.specs.Courses.{Part, of_directive}
 use Rattle.plain_world.specs.Entries.{entry_of}

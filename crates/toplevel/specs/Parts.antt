@@ -6,7 +6,7 @@ use Rattle.pl_model.specs.declared.ends.How.{How}
 use Rattle.pl_model.specs.declared.ends.How.TheVariants.{Solved, False, Threw, Exited, Halted}
 use Rattle.pl_model.specs.OperatorTable.{OperatorTable}
 use Rattle.pl_model.specs.Resolution.{Ending, solved, no_more, threw, exited, halted}
-use Rattle.pl_model.specs.Report.{closed, fault_text, goal_line, with_last}
+use Rattle.run_model.specs.Report.{closed, fault_text, goal_line, with_last}
 use Rattle.pl_report.specs.declared.parts.Section.{Section}
 use Rattle.pl_report.specs.Sections.{AreWritten, section_text, transcript_text}
 use Rattle.pl_command.specs.declared.ends.End.{End}

@@ -3,9 +3,9 @@ use Rattle.std.specs.Prelude.{◌≡◌, ℕ, ◌++◌, length, codes, decimal}
 use Rattle.pl_term.specs.Tree.{Chars}
 use Rattle.pl_model.specs.History.{Proc}
 use Rattle.pl_model.specs.Resolution.{State}
-use Rattle.pl_model.specs.Execution.{Execution}
-use Rattle.pl_model.specs.Lawful.{Program, main_job}
-use Rattle.pl_model.specs.Progress.{Alone, Seen}
+use Rattle.run_model.specs.Execution.{Execution}
+use Rattle.run_model.specs.Lawful.{Program, main_job}
+use Rattle.run_model.specs.Progress.{Alone, Seen}
 use Rattle.world_api.specs.Courses.{Part, with_search}
 use Rattle.iso_engine.specs.Missing.{IsUnbuiltDoing}
 use Rattle.pl_command.specs.CommandLine.{newline}

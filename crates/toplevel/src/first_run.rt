@@ -2,9 +2,9 @@
 ghost use Rattle.std.specs.Prelude.{◌≡◌, List, ℕ, length, Some, IfOk, suc, take};
 ghost use Rattle.pl_term.specs.Tree.{Chars};
 ghost use Rattle.pl_model.specs.SharedState.{state_at};
-ghost use Rattle.pl_model.specs.Execution.{Consulted, Job, at_start, most_bytes};
-ghost use Rattle.pl_model.specs.Lawful.{Program, main_job};
-ghost use Rattle.pl_model.specs.Progress.{AllPlain};
+ghost use Rattle.run_model.specs.Execution.{Consulted, Job, at_start, most_bytes};
+ghost use Rattle.run_model.specs.Lawful.{Program, main_job};
+ghost use Rattle.pl_model.specs.History.{AllPlain};
 ghost use Rattle.pl_command.specs.Told.{told_command};
 ghost use Rattle.pl_command.specs.CommandLine.{program_of};
 ghost use Rattle.first_script.specs.FileScripts.{execution_of, part_in};

@@ -1,7 +1,7 @@
 //! The script of the first engine, run to where it does not go on.
 ghost use Rattle.std.specs.Prelude.{◌≡◌, ◌++◌, ℕ, List, [], false, Some, None, IfOk, IsSome, encode_utf8_all};
 ghost use Rattle.std.specs.List.{All};
-ghost use Rattle.pl_model.specs.Execution.{Consulted, Execution, Job};
+ghost use Rattle.run_model.specs.Execution.{Consulted, Execution, Job};
 ghost use Rattle.term_store.specs.NumberedNames.{names_of};
 ghost use Rattle.world_api.specs.Courses.{of_goal};
 ghost use Rattle.world_api.specs.Told.{has_ended};

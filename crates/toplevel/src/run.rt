@@ -2,7 +2,7 @@
 ghost use Rattle.std.specs.Prelude.{◌≡◌, ◌≢◌, ◌↔◌, suc, take, List, ℕ, Option, None, Some, IfOk, IfErr};
 ghost use Rattle.std.specs.Str.{encode_utf8_all};
 ghost use Rattle.pl_io.specs.Faults.{Rose};
-ghost use Rattle.pl_model.specs.Execution.{most_bytes};
+ghost use Rattle.run_model.specs.Execution.{most_bytes};
 ghost use Rattle.pl_command.specs.CommandLine.{Command as CommandOf, command, unread_line, usage_line};
 ghost use Rattle.pl_command.specs.Ends.{status_of};
 ghost use Rattle.pl_command.specs.Told.{told_command};

@@ -2,7 +2,7 @@
 ghost use Rattle.std.specs.Prelude.{◌≡◌, ◌++◌, IfOk, Option, encode_utf8_all};
 ghost use Rattle.pl_term.specs.Tree.{Chars};
 ghost use Rattle.pl_model.specs.declared.ends.How.{How as HowOf};
-ghost use Rattle.pl_model.specs.Report.{closed};
+ghost use Rattle.run_model.specs.Report.{closed};
 ghost use Rattle.toplevel.specs.declared.outcome.Word.TheVariants.{Fault, Goal};
 ghost use Rattle.toplevel.specs.Parts.{AreSections, IsPart, IsSection, goal_part, report_by, section_by};
 

@@ -3,10 +3,9 @@ use Rattle.std.specs.Prelude.{◌≡◌, ℕ, List, [], ◌∷◌, ◌++◌, len
 use Rattle.std.specs.List.{Contains}
 use Rattle.pl_term.specs.Tree.{Chars, Tree}
 use Rattle.pl_model.specs.History.{Kind, History}
-use Rattle.pl_model.specs.Service.{answers, waits}
+use Rattle.pl_model.specs.Service.{answers, waits, entry_by, served_now}
 use Rattle.pl_model.specs.Requests.{Request}
 use Rattle.pl_model.specs.Requests as requests
-use Rattle.pl_model.specs.Progress.{entry_by, served_now}
 use Rattle.atom_words.specs.declared.view.Refusal.{Refusal}
 use Rattle.atom_words.specs.declared.view.Refusal.TheVariants.{Full as RefusalFull, Again as RefusalAgain, Worn as RefusalWorn}
 use Rattle.world_api.specs.declared.visit.Procedure.{Procedure}

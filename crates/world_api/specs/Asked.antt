@@ -4,10 +4,9 @@ use Rattle.std.specs.List.{Contains}
 use Rattle.pl_term.specs.Tree.{Chars, Tree, Trees, var, int, atom, comp, none, more}
 use Rattle.pl_model.specs.History.{Clause, History, Kind, Proc}
 use Rattle.pl_model.specs.Database.{Stored}
-use Rattle.pl_model.specs.Service.{answers}
+use Rattle.pl_model.specs.Service.{answers, served_now}
 use Rattle.pl_model.specs.Requests.{Request, standing, listed, procedures, flags, named, message, no_message, status, done, gone, refused}
 use Rattle.pl_model.specs.Requests as requests
-use Rattle.pl_model.specs.Progress.{served_now}
 use Rattle.world_api.specs.declared.visit.Visit.{Visit}
 use Rattle.world_api.specs.declared.visit.Visit.TheVariants.{Next}
 use Rattle.world_api.specs.Told.{Told, Follows, clause_list, behind}

@@ -2,8 +2,7 @@
 use Rattle.std.specs.Prelude.{◌≡◌, ℕ, suc, List, [], ◌∷◌, ◌++◌, length, Option}
 use Rattle.pl_model.specs.History.{Kind, History}
 use Rattle.pl_model.specs.Requests.{Request, Reply}
-use Rattle.pl_model.specs.Service.{answers}
-use Rattle.pl_model.specs.Progress.{entry_by, served_now}
+use Rattle.pl_model.specs.Service.{answers, entry_by, served_now}
 use Rattle.pl_model.specs.Resolution.{Limits, State, goes, asks}
 use Rattle.pl_model.specs.Control.{step}
 use Rattle.world_api.specs.Told.{Told, Follows}

@@ -2,10 +2,9 @@
 ghost use Rattle.std.specs.Prelude.{◌≡◌, ℕ, suc, ◌+◌, List, [], ◌∷◌, ◌++◌, length, Option};
 ghost use Rattle.pl_model.specs.History.{Kind, History};
 ghost use Rattle.pl_model.specs.Requests.{Request, Reply as SharedReply};
-ghost use Rattle.pl_model.specs.Service.{answers};
+ghost use Rattle.pl_model.specs.Service.{answers, entry_by, served_now};
 ghost use Rattle.pl_model.specs.Resolution.{Limits, State, goes, asks};
 ghost use Rattle.pl_model.specs.Control.{step};
-ghost use Rattle.pl_model.specs.Progress.{entry_by, served_now};
 ghost use Rattle.world_api.specs.Told.{Told, Follows};
 ghost use Rattle.world_api.specs.Answers.{seen_as};
 ghost use Rattle.world_api.specs.Courses.{Course};

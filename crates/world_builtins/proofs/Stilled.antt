@@ -6,8 +6,7 @@ use Rattle.pl_model.specs.OperatorTable.{OperatorTable, opening_table}
 use Rattle.pl_model.specs.History.{History}
 use Rattle.pl_model.specs.SharedState.{state_at}
 use Rattle.pl_model.specs.Requests.{Request, read_operators, standing}
-use Rattle.pl_model.specs.Service.{answers, serve}
-use Rattle.pl_model.specs.Progress.{served_now}
+use Rattle.pl_model.specs.Service.{answers, serve, served_now}
 use Rattle.pl_model.specs.declared.grammar.Quotes.TheVariants.{Codes}
 use Rattle.world_api.specs.declared.reply.Reply.TheVariants.{Standing}
 use Rattle.world_api.specs.declared.visit.Visit.{Visit}

@@ -5,8 +5,7 @@ use Rattle.pl_term.specs.Tree.{Chars}
 use Rattle.pl_model.specs.OperatorTable.{OperatorTable}
 use Rattle.pl_model.specs.History.{Kind, History}
 use Rattle.pl_model.specs.Requests.{read_operators, standing}
-use Rattle.pl_model.specs.Service.{answers}
-use Rattle.pl_model.specs.Progress.{entry_by, served_now}
+use Rattle.pl_model.specs.Service.{answers, entry_by, served_now}
 use Rattle.pl_model.specs.declared.grammar.Quotes.{Quotes}
 use Rattle.atom_words.specs.declared.view.Refusal.{Refusal}
 use Rattle.atom_words.specs.declared.view.Refusal.TheVariants.{Full as RefusalFull, Again as RefusalAgain, Worn as RefusalWorn}

@@ -1,7 +1,7 @@
 use Rattle.std.proofs.Common.{◌≡◌, Bool, codes, subst, sym, ◌∙◌}
 use Rattle.std.specs.Prelude.{IfOk, MatchBool}
 use Rattle.pl_model.specs.AtomBuiltins.{codes_character}
-use Rattle.pl_model.specs.Control.{proc}
+use Rattle.pl_model.specs.History.{proc}
 use Rattle.atom_api.specs.Names.{Names}
 use Rattle.world_builtins.specs.Spelling.{reads}
 use Rattle.atom_texts.specs.declared.forms.Fault.TheVariants.{Unbound}

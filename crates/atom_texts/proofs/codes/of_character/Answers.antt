@@ -2,7 +2,7 @@ use Rattle.std.proofs.Common.{◌≡◌, Bool, codes, subst, ap, ◌∙◌}
 use Rattle.std.specs.Prelude.{MatchBool}
 use Rattle.pl_model.specs.AtomBuiltins.{codes_character}
 use Rattle.pl_model.specs.BuiltinRows.{one_answer}
-use Rattle.pl_model.specs.Control.{proc}
+use Rattle.pl_model.specs.History.{proc}
 use Rattle.pl_model.specs.TermBuiltins.{two}
 use Rattle.world_builtins.specs.Spelling.{reads}
 use Rattle.atom_texts.specs.declared.forms.Fault.TheVariants.{Unbound}

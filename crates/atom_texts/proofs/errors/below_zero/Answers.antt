@@ -1,5 +1,5 @@
 use Rattle.std.proofs.Common.{codes}
-use Rattle.pl_model.specs.Control.{proc}
+use Rattle.pl_model.specs.History.{proc}
 use Rattle.world_builtins.specs.Spelling.{reads}
 use Rattle.pl_model.specs.ErrorTerms.{domain_error}
 use Rattle.atom_texts.proofs.Fixed.{domain_error_is, not_less_than_zero_is}

@@ -1,6 +1,6 @@
 use Rattle.std.proofs.Common.{codes}
 use Rattle.pl_model.specs.Balls.{instantiation_error}
-use Rattle.pl_model.specs.Control.{proc}
+use Rattle.pl_model.specs.History.{proc}
 use Rattle.atom_texts.proofs.Fixed.{instantiation_error_is}
 use Rattle.atom_texts.proofs.Rows.{error_row, none_refused, with_ok}
 use Rattle.atom_texts.proofs.errors.unbound.Goals as goal

@@ -1,6 +1,6 @@
 use Rattle.std.proofs.Common.{codes}
 use Rattle.pl_model.specs.Balls.{type_error}
-use Rattle.pl_model.specs.Control.{proc}
+use Rattle.pl_model.specs.History.{proc}
 use Rattle.world_builtins.specs.Spelling.{reads}
 use Rattle.atom_texts.proofs.Fixed.{type_error_is}
 use Rattle.atom_texts.proofs.Rows.{error_row, none_refused, with_ok}

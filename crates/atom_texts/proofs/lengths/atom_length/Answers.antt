@@ -1,7 +1,7 @@
 use Rattle.std.proofs.Common.{codes}
 use Rattle.pl_model.specs.Balls.{instantiation_error, type_error}
 use Rattle.pl_model.specs.BuiltinRows.{error}
-use Rattle.pl_model.specs.Control.{proc}
+use Rattle.pl_model.specs.History.{proc}
 use Rattle.pl_model.specs.AtomBuiltins.{measures}
 use Rattle.world_builtins.specs.Spelling.{reads}
 use Rattle.atom_texts.specs.Answering.{pair_at}

@@ -5,7 +5,7 @@ use mir.Val.{SFits}
 use Rattle.pl_model.specs.Balls.{type_error}
 use Rattle.pl_model.specs.ErrorTerms.{domain_error}
 use Rattle.pl_model.specs.BuiltinRows.{error, one_answer}
-use Rattle.pl_model.specs.Control.{proc}
+use Rattle.pl_model.specs.History.{proc}
 use Rattle.pl_model.specs.TermBuiltins.{two}
 use Rattle.pl_model.specs.AtomBuiltins.{measures}
 use Rattle.atom_api.specs.Names.{Names}

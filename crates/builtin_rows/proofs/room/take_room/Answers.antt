@@ -1,5 +1,5 @@
 use Rattle.std.proofs.Common.{codes, sym, subst}
-use Rattle.pl_model.specs.Control.{proc}
+use Rattle.pl_model.specs.History.{proc}
 use Rattle.builtin_rows.specs.Rows.{IsRow}
 use Rattle.builtin_rows.proofs.Balls.{inferences_is, resource_is}
 use Rattle.builtin_rows.proofs.Numbers.{no_numbers}

@@ -1,5 +1,5 @@
 use Rattle.std.proofs.Common.{◌≡◌, None, find, subst, ◌∙◌}
-use Rattle.pl_model.specs.Shown.{proc_of}
+use Rattle.pl_model.specs.laws.Shown.{proc_of}
 use Rattle.clause_db.specs.Located.{IsAt}
 use Rattle.clause_db.proofs.Added.{on_ok}
 use Rattle.clause_db.proofs.MadeDynamic.{blank_found, blank_missed}

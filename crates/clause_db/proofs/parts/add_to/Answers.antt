@@ -1,6 +1,6 @@
 use Rattle.std.proofs.Common.{◌≡◌, ◌<◌, None, find, ap, sym, subst, ◌∙◌}
 use Rattle.std.specs.Prelude.{All}
-use Rattle.pl_model.specs.Shown.{proc_of}
+use Rattle.pl_model.specs.laws.Shown.{proc_of}
 use Rattle.clause_db.specs.Located.{IsAt}
 use Rattle.clause_db.specs.Parts.{piece, added_to}
 use Rattle.clause_db.proofs.Added.{on_ok}

@@ -1,4 +1,4 @@
-use Rattle.pl_model.specs.Shown.{proc_of}
+use Rattle.pl_model.specs.laws.Shown.{proc_of}
 use Rattle.clause_db.proofs.Hinted.{member_found}
 use Rattle.clause_db.proofs.parts.locate.Goals as goal
 

@@ -1,5 +1,5 @@
 use Rattle.std.proofs.Common.{ap, sym, ◌∙◌, arith}
-use Rattle.pl_model.specs.Shown.{proc_of}
+use Rattle.pl_model.specs.laws.Shown.{proc_of}
 use Rattle.clause_db.specs.Parts.{piece, is_part_of}
 use Rattle.clause_db.proofs.Searched.{found_at, passed_next}
 use Rattle.clause_db.proofs.parts.part_at.Goals as goal

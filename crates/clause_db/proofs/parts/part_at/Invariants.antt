@@ -1,4 +1,4 @@
-use Rattle.pl_model.specs.Shown.{proc_of}
+use Rattle.pl_model.specs.laws.Shown.{proc_of}
 use Rattle.clause_db.specs.Parts.{piece, is_part_of}
 use Rattle.clause_db.proofs.Searched.{Passed}
 use Rattle.clause_db.proofs.parts.part_at.Given as goal

@@ -2,7 +2,7 @@ use Rattle.std.proofs.Common.{◌≡◌, ap, sym, ◌∙◌, subst}
 use Rattle.pl_model.specs.Grammar.{clause}
 use Rattle.prolog_reader.specs.Names.{pairs}
 use Rattle.std.specs.Prelude.{IfOk}
-use Rattle.pl_model.specs.Execution.{Word}
+use Rattle.run_model.specs.Execution.{Word}
 use Rattle.first_script.specs.Words.{word_of}
 use Rattle.first_script.proofs.WordLaws.{word_as}
 use Rattle.first_script.proofs.words.read_word.Goals as goal

@@ -1,5 +1,5 @@
 use Rattle.std.proofs.Common.{◌≡◌, [], ◌∷◌, length, sym, ap, subst, ◌∙◌, arith}
-use Rattle.pl_model.specs.BodyChecks.{body_part, head_part}
+use Rattle.pl_model.specs.History.{body_part, head_part}
 use Rattle.pl_model.specs.Control.{before}
 use Rattle.pl_model.specs.Resolution.{Node, goal as a_goal}
 use Rattle.pl_model.specs.Terms.{raised_by}

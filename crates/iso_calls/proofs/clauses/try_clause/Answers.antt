@@ -1,6 +1,6 @@
 use Rattle.std.proofs.Common.{◌≡◌, length, ap, subst, arith}
 use Rattle.pl_term.specs.Tree.{Tree}
-use Rattle.pl_model.specs.BodyChecks.{body_part, head_part}
+use Rattle.pl_model.specs.History.{body_part, head_part}
 use Rattle.pl_model.specs.Resolution.{resolving}
 use Rattle.pl_model.specs.Control.{clause_unified}
 use Rattle.pl_model.specs.Terms.{raised_by}

@@ -1,5 +1,5 @@
 use Rattle.std.proofs.Common.{◌∙◌, ◌++◌, ◌∷◌, [], cond, ap, sym, arith}
-use Rattle.pl_model.specs.UnifySides.{is_variable}
+use Rattle.pl_model.specs.laws.UnifySides.{is_variable}
 use Rattle.pl_model.proofs.UnifyPutIn.{put_in_more}
 use Rattle.pl_model.proofs.unifying.replaced.Goals as goal
 

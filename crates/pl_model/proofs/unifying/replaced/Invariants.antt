@@ -1,5 +1,5 @@
 use Rattle.std.proofs.Common.{◌≡◌, take}
-use Rattle.pl_model.specs.UnifySides.{put_in}
+use Rattle.pl_model.specs.laws.UnifySides.{put_in}
 use Rattle.pl_model.proofs.unifying.replaced.Given as goal
 
 abbrev pub invariant-loop-node : goal.invariant-loop-node

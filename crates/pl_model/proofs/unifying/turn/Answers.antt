@@ -2,9 +2,9 @@ use Rattle.std.proofs.Common.{◌≡◌, ◌+◌, ◌-◌, ◌≤◌, ℕ, List,
 use Rattle.std.proofs.lemmas.List.{take_rest}
 use Rattle.std.specs.List.{list_any}
 use Rattle.pl_term.specs.declared.node.Node.{Node}
-use Rattle.pl_model.specs.UnifySides.{Facing, DiffersAt, is_variable, put_in}
+use Rattle.pl_model.specs.laws.UnifySides.{Facing, DiffersAt, is_variable, put_in}
 use Rattle.pl_model.specs.declared.unifying.Found.{Found}
-use Rattle.pl_model.specs.UnifyTurns.{Finds}
+use Rattle.pl_model.specs.laws.UnifyTurns.{Finds}
 use Rattle.pl_model.proofs.UnifyFacing.{behind}
 use Rattle.pl_model.proofs.UnifyCode.{turned_same, turned_clash, turned_occurs, turned_binds, ends_left, ends_right}
 use Rattle.pl_model.proofs.unifying.turn.Goals as goal

@@ -1,6 +1,6 @@
 use Rattle.std.proofs.Common.{◌≡◌, refl, take, ap, ◌∙◌}
 use Rattle.std.proofs.lemmas.List.{take_all}
-use Rattle.pl_model.specs.Report.{with_commas}
+use Rattle.run_model.specs.Report.{with_commas}
 use Rattle.pl_report.specs.Pieces.{shown_texts, has_any}
 use Rattle.pl_report.proofs.AddsLemmas.{adds_none, adds_same, adds_then}
 use Rattle.pl_report.proofs.BindingLemmas.{bindings_more, some_more}

@@ -1,5 +1,5 @@
 use Rattle.std.proofs.Common.{◌≡◌, take}
-use Rattle.pl_model.specs.Report.{with_commas}
+use Rattle.run_model.specs.Report.{with_commas}
 use Rattle.pl_report.specs.Adds.{Adds}
 use Rattle.pl_report.specs.Pieces.{shown_texts, has_any}
 use Rattle.pl_report.proofs.solutions.put_bindings.Given as goal

@@ -1,4 +1,4 @@
-use Rattle.pl_model.specs.Report.{texts}
+use Rattle.run_model.specs.Report.{texts}
 use Rattle.plain_run.proofs.Outputs.{texts-pieces}
 use Rattle.plain_run.proofs.Rounds.{goes_on, none_refused, refused_last, refused_on, run_begins, stops_there}
 use Rattle.plain_run.proofs.directive.search_directive.Goals as goal

@@ -1,5 +1,5 @@
 use Rattle.std.proofs.Common.{◌≡◌, false, []}
-use Rattle.pl_model.specs.Report.{texts}
+use Rattle.run_model.specs.Report.{texts}
 use Rattle.world_api.specs.Texts.{Holds}
 use Rattle.world_api.specs.Told.{has_ended}
 use Rattle.iso_engine.specs.Ready.{IsReady}

@@ -1,8 +1,8 @@
 use Rattle.std.proofs.Common.{ℕ, IsSome, sym, ap, ◌∙◌}
 use Rattle.std.specs.List.{All}
 use Rattle.std.proofs.lemmas.List.Elements.{All-weaker}
-use Rattle.pl_model.specs.Execution.{Execution}
-use Rattle.pl_model.specs.Report.{with_output}
+use Rattle.run_model.specs.Execution.{Execution}
+use Rattle.run_model.specs.Report.{with_output}
 use Rattle.term_store.specs.NumberedNames.{names_of}
 use Rattle.world_api.specs.Texts.{text_of}
 use Rattle.world_api.proofs.OnceLaws.{same_texts}

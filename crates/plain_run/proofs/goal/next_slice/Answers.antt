@@ -1,6 +1,6 @@
 use Rattle.std.proofs.Common.{List, sym, subst}
 use Rattle.std.specs.Prelude.{IfOk}
-use Rattle.pl_model.specs.Report.{with_output}
+use Rattle.run_model.specs.Report.{with_output}
 use Rattle.atom_words.specs.declared.view.Refusal.{Refusal}
 use Rattle.atom_api.specs.Names.{Names}
 use Rattle.plain_run.specs.Searched.{IsCarriedOn, IsRefusedOnce, stop_refusals}

@@ -1,4 +1,4 @@
-use Rattle.pl_model.specs.Report.{with_output}
+use Rattle.run_model.specs.Report.{with_output}
 use Rattle.plain_run.proofs.Outputs.{output-pieces}
 use Rattle.plain_run.proofs.Rounds.{goes_on, none_refused, refused_last, refused_on, run_begins, stops_there}
 use Rattle.plain_run.proofs.goal.search_goal.Goals as goal

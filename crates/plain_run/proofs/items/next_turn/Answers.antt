@@ -1,6 +1,6 @@
 use Rattle.std.proofs.Common.{ℕ, List, [], ◌∷◌, ◌++◌, IsSome, sym, ap, subst, ◌∙◌, append-nil}
 use Rattle.std.specs.List.{All}
-use Rattle.pl_model.specs.Report.{texts}
+use Rattle.run_model.specs.Report.{texts}
 use Rattle.term_store.specs.NumberedNames.{names_of}
 use Rattle.std.proofs.lemmas.List.Elements.{All-weaker}
 use Rattle.plain_run.proofs.Turning.{back_of, directive_in, front_of, is_again, is_directed, is_worn, name_held, name_held_by, needs_atoms, none_named, still, turn_at_hand}

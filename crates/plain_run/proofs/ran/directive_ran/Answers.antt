@@ -1,7 +1,7 @@
 use Rattle.std.proofs.lemmas.List.Elements.{All-tail}
 use Rattle.std.proofs.lemmas.Result.{IfOk-weaker}
 use Rattle.std.specs.Prelude.{IsSome, ℕ}
-use Rattle.pl_model.specs.Report.{texts}
+use Rattle.run_model.specs.Report.{texts}
 use Rattle.term_store.specs.NumberedNames.{atoms_in, neck}
 use Rattle.term_store.proofs.KeptTerms.{stored_names}
 use Rattle.iso_engine.proofs.Solutions.{view_is}

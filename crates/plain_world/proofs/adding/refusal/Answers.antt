@@ -1,7 +1,7 @@
 use Rattle.std.proofs.Common.{◌≡◌, sym, subst}
 use Rattle.std.specs.Result.{IfOk}
 use Rattle.pl_term.specs.Tree.{Chars}
-use Rattle.pl_model.specs.Shown.{proc_of}
+use Rattle.pl_model.specs.laws.Shown.{proc_of}
 use Rattle.pl_model.specs.ErrorTerms.{resource_error}
 use Rattle.clause_db.specs.declared.fault.DbFault.{DbFault}
 use Rattle.plain_world.specs.Adding.{RefusedAs}

@@ -2,7 +2,7 @@ use Rattle.std.proofs.Common.{◌≡◌, length, get_or, ap, subst, ◌∙◌, a
 use Rattle.std.specs.Result.{IfOk}
 use Rattle.pl_term.specs.declared.node.Node.{Node}
 use Rattle.pl_model.specs.History.{Proc}
-use Rattle.pl_model.specs.Shown.{proc_of}
+use Rattle.pl_model.specs.laws.Shown.{proc_of}
 use Rattle.pl_model.specs.KeptNodes.{head_nodes}
 use Rattle.pl_model.proofs.UnifyNodes.{length-nodes_pos}
 use Rattle.plain_world.specs.Heads.{node_proc}

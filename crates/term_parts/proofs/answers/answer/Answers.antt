@@ -1,6 +1,6 @@
 use Rattle.std.proofs.Common.{zero, refl, arith}
 use Rattle.pl_model.specs.BuiltinRows.{plain_answer}
-use Rattle.pl_model.specs.Control.{proc}
+use Rattle.pl_model.specs.History.{proc}
 use Rattle.builtin_rows.specs.Rows.{terms_at}
 use Rattle.term_parts.proofs.Answering.{answer_given, makes_room, none_of, placed_still, refused_given, some_of, terms_still}
 use Rattle.term_parts.proofs.answers.answer.Goals as goal

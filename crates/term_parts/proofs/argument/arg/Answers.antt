@@ -3,7 +3,7 @@ use Rattle.std.specs.List.{All}
 use Rattle.pl_model.specs.BuiltinRows.{one_answer}
 use Rattle.builtin_rows.specs.declared.row.Row.TheVariants.{Fails}
 use Rattle.builtin_rows.specs.Rows.{terms_at}
-use Rattle.pl_model.specs.Control.{proc}
+use Rattle.pl_model.specs.History.{proc}
 use Rattle.world_builtins.specs.Naming.{IsHeldAt}
 use Rattle.term_parts.specs.Argument.{Selects}
 use Rattle.term_parts.specs.Parts.{IsGiven}

@@ -2,7 +2,7 @@ use Rattle.std.proofs.Common.{◌+◌, ◌<◌, ◌≤◌, ◌^◌, length, code
 use Rattle.pl_term.specs.Cells.{cells}
 use Rattle.pl_term.specs.Variables.{rename, variables}
 use Rattle.pl_model.specs.BuiltinRows.{Answer}
-use Rattle.pl_model.specs.Control.{proc}
+use Rattle.pl_model.specs.History.{proc}
 use Rattle.pl_model.specs.TermBuiltins.{two}
 use Rattle.term_store.specs.Contents.{IsAbove}
 use Rattle.world_builtins.specs.Spelling.{reads}

@@ -1,7 +1,7 @@
 use Rattle.std.proofs.Common.{codes, sym, ap, subst, ◌∙◌}
 use Rattle.pl_model.specs.Balls.{error_ball}
 use Rattle.pl_model.specs.ErrorTerms.{domain_error}
-use Rattle.pl_model.specs.Control.{proc}
+use Rattle.pl_model.specs.History.{proc}
 use Rattle.builtin_rows.specs.Given.{thrown}
 use Rattle.builtin_rows.specs.Rows.{IsRow}
 use Rattle.builtin_rows.proofs.Balls.{atom_held, atom_reads}

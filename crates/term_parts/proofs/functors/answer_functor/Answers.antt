@@ -1,7 +1,7 @@
 use Rattle.std.proofs.Common.{codes, sym, ap, subst}
 use Rattle.std.specs.List.{All}
 use Rattle.pl_model.specs.BuiltinRows.{one_answer}
-use Rattle.pl_model.specs.Control.{proc}
+use Rattle.pl_model.specs.History.{proc}
 use Rattle.builtin_rows.specs.Rows.{terms_at}
 use Rattle.world_builtins.specs.Naming.{IsHeldAt}
 use Rattle.term_parts.specs.Parts.{IsGiven}

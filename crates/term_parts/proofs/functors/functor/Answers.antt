@@ -2,7 +2,7 @@ use Rattle.std.proofs.Common.{◌<◌, length, pos, codes, sym, ap, subst, ◌�
 use Rattle.std.proofs.Common.{SFits, w64}
 use Rattle.std.proofs.lemmas.Int.{to_z-of_z}
 use Rattle.pl_term.specs.Tree.{int}
-use Rattle.pl_model.specs.Control.{proc}
+use Rattle.pl_model.specs.History.{proc}
 use Rattle.pl_model.specs.TermBuiltins.{functor_of}
 use Rattle.term_store.specs.Contents.{arguments_at}
 use Rattle.world_builtins.specs.Spelling.{reads, spelled, text_of}

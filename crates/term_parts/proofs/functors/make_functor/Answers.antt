@@ -1,6 +1,6 @@
 use Rattle.std.proofs.Common.{◌+◌, ◌*◌, codes, map, refl, ap, ◌∙◌}
 use Rattle.pl_model.specs.BuiltinRows.{Answer}
-use Rattle.pl_model.specs.Control.{proc}
+use Rattle.pl_model.specs.History.{proc}
 use Rattle.pl_model.specs.Terms.{named_term}
 use Rattle.pl_model.specs.TermBuiltins.{new_variables, three}
 use Rattle.pl_term.specs.Tree.{compound}

@@ -1,7 +1,7 @@
 use Rattle.std.proofs.Common.{zero, ◌*◌, length, map, refl, sym, ap, subst, ◌∙◌, arith}
 use Rattle.std.specs.List.{All}
 use Rattle.pl_model.specs.BuiltinRows.{Answer}
-use Rattle.pl_model.specs.Control.{proc}
+use Rattle.pl_model.specs.History.{proc}
 use Rattle.pl_model.specs.Terms.{list_term}
 use Rattle.pl_model.specs.TermBuiltins.{two}
 use Rattle.term_store.specs.Contents.{Holds, term_at}

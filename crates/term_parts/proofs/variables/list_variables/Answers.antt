@@ -1,6 +1,6 @@
 use Rattle.std.proofs.Common.{codes, map, subst, ap, ◌∙◌}
 use Rattle.std.proofs.lemmas.List.Elements.{All-same}
-use Rattle.pl_model.specs.Control.{proc}
+use Rattle.pl_model.specs.History.{proc}
 use Rattle.pl_term.specs.Variables.{variables}
 use Rattle.term_store.specs.Contents.{Holds, term_at}
 use Rattle.term_parts.specs.Parts.{IsGiven}

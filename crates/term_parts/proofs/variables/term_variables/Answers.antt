@@ -1,5 +1,5 @@
 use Rattle.std.proofs.Common.{codes, sym, subst, ◌∙◌}
-use Rattle.pl_model.specs.Control.{proc}
+use Rattle.pl_model.specs.History.{proc}
 use Rattle.world_builtins.specs.Spelling.{reads}
 use Rattle.term_parts.specs.Parts.{IsGiven}
 use Rattle.term_parts.proofs.Answering.{ok_weaker}

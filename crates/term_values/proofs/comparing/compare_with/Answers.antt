@@ -1,6 +1,6 @@
 use Rattle.std.proofs.Common.{◌≡◌, of_z, to_z, w64, Ok, Err, sym, ap, ap₂, subst, ◌∙◌, rules}
 use Rattle.std.proofs.lemmas.Int.{to_z-of_z}
-use Rattle.pl_model.specs.Control.{proc}
+use Rattle.pl_model.specs.History.{proc}
 use Rattle.pl_model.specs.Evaluables.{evaluated}
 use Rattle.pl_model.specs.TermBuiltins.{compares_values, two, value_error}
 use Rattle.world_builtins.specs.Spelling.{reads}

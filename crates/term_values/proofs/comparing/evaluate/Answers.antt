@@ -1,7 +1,7 @@
 use Rattle.std.proofs.Common.{◌≡◌, of_z, to_z, w64, codes, Ok, Err, sym, ap, subst, ◌∙◌, rules}
 use Rattle.std.proofs.lemmas.Int.{to_z-of_z}
 use Rattle.pl_term.specs.Tree.{int}
-use Rattle.pl_model.specs.Control.{proc}
+use Rattle.pl_model.specs.History.{proc}
 use Rattle.pl_model.specs.Evaluables.{evaluated}
 use Rattle.pl_model.specs.TermBuiltins.{evaluates, two, value_error}
 use Rattle.world_builtins.specs.Spelling.{reads}

@@ -2,7 +2,7 @@ use Rattle.std.proofs.Common.{◌≡◌, [], ◌∷◌, map, pos, codes, of_z, t
 use Rattle.std.proofs.lemmas.Int.{to_z-of_z}
 use Rattle.pl_term.specs.Tree.{int, compound}
 use Rattle.pl_model.specs.Balls.{error_ball}
-use Rattle.pl_model.specs.Control.{proc}
+use Rattle.pl_model.specs.History.{proc}
 use Rattle.term_store.specs.Heap.{atom_name}
 use Rattle.term_store.specs.Contents.{term_at}
 use Rattle.builtin_rows.specs.Given.{thrown}

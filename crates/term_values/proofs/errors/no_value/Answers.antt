@@ -2,7 +2,7 @@ use Rattle.std.proofs.Common.{◌≡◌, codes, of_z, to_z, w64, sym, ap, subst,
 use Rattle.std.proofs.lemmas.Int.{to_z-of_z}
 use Rattle.pl_term.specs.Tree.{int}
 use Rattle.pl_model.specs.Balls.{error_ball, type_error}
-use Rattle.pl_model.specs.Control.{proc}
+use Rattle.pl_model.specs.History.{proc}
 use Rattle.pl_model.specs.TermBuiltins.{operation_error}
 use Rattle.world_builtins.specs.Spelling.{spelled, text_of}
 use Rattle.builtin_rows.specs.Given.{thrown}

@@ -1,6 +1,6 @@
 use Rattle.std.proofs.Common.{codes, sym, subst}
 use Rattle.pl_model.specs.Balls.{error_ball}
-use Rattle.pl_model.specs.Control.{proc}
+use Rattle.pl_model.specs.History.{proc}
 use Rattle.pl_model.specs.TermBuiltins.{value_error}
 use Rattle.builtin_rows.specs.Given.{thrown}
 use Rattle.builtin_rows.specs.Rows.{IsRow}

@@ -1,7 +1,7 @@
 use Rattle.std.proofs.Common.{sym, ◌∙◌, subst, List, ℕ}
 use Rattle.std.proofs.lemmas.Result.{IfOk-weaker}
 use Rattle.pl_term.specs.Tree.{Chars}
-use Rattle.pl_model.specs.Execution.{Word}
+use Rattle.run_model.specs.Execution.{Word}
 use Rattle.first_script.specs.FileScripts.{execution_of}
 use Rattle.first_script.specs.Words.{AreNames}
 use Rattle.plain_run.specs.Ran.{ran_refusals}

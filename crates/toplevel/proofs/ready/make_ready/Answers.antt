@@ -1,6 +1,6 @@
 use Rattle.std.proofs.Common.{refl, ◌∙◌, ap, ◌≡◌, []}
 use Rattle.std.specs.Str.{encode_utf8_all}
-use Rattle.pl_model.specs.Report.{all_consulted, output_of, with_directive, with_output, ending_by}
+use Rattle.run_model.specs.Report.{all_consulted, output_of, with_directive, with_output, ending_by}
 use Rattle.pl_command.specs.CommandLine.{program_of}
 use Rattle.pl_command.specs.Told.{told_command}
 use Rattle.toplevel.specs.Parts.{ending_in}

@@ -1,7 +1,7 @@
 use Rattle.std.proofs.Common.{◌++◌, ◌∙◌, ap, Some}
 use Rattle.pl_term.specs.Tree.{Chars}
 use Rattle.pl_model.specs.OperatorTable.{OperatorTable}
-use Rattle.pl_model.specs.Report.{closed, goal_line, with_last}
+use Rattle.run_model.specs.Report.{closed, goal_line, with_last}
 use Rattle.toplevel.specs.Parts.{ending_in}
 use Rattle.toplevel.proofs.SectionLaws.{goal_says}
 use Rattle.toplevel.proofs.sections.goal_section.Goals as goal

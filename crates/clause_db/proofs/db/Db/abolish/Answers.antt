@@ -1,5 +1,5 @@
 use Rattle.std.proofs.Common.{◌∷◌, [], sym, subst, ◌∙◌}
-use Rattle.pl_model.specs.Shown.{proc_of}
+use Rattle.pl_model.specs.laws.Shown.{proc_of}
 use Rattle.pl_model.specs.Database.{without_procedure}
 use Rattle.clause_db.specs.Stands.{StandsFor, then_at}
 use Rattle.clause_db.proofs.Closing.{or_none, stands_closed}

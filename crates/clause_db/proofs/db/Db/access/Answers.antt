@@ -1,6 +1,6 @@
 use Rattle.std.proofs.Common.{ap, ◌∙◌}
 use Rattle.std.specs.Option.{option_map}
-use Rattle.pl_model.specs.Shown.{proc_of}
+use Rattle.pl_model.specs.laws.Shown.{proc_of}
 use Rattle.clause_db.specs.Access.{access_of}
 use Rattle.clause_db.proofs.Faults.{access_same}
 use Rattle.clause_db.proofs.db.Db.access.Goals as goal

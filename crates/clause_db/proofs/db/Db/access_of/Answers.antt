@@ -1,5 +1,5 @@
 use Rattle.std.proofs.Common.{◌≡◌, None, Some, find, cond, ap, sym, subst, ◌∙◌}
-use Rattle.pl_model.specs.Shown.{proc_of}
+use Rattle.pl_model.specs.laws.Shown.{proc_of}
 use Rattle.clause_db.specs.declared.access.Access.TheVariants.{Static}
 use Rattle.clause_db.specs.Located.{IsAt}
 use Rattle.clause_db.specs.Parts.{piece, piece_access, access_at}

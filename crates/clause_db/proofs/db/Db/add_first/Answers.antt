@@ -1,6 +1,6 @@
 use Rattle.std.proofs.Common.{◌≡◌, subst}
 use Rattle.std.specs.Prelude.{IfSome, Err}
-use Rattle.pl_model.specs.Shown.{proc_of}
+use Rattle.pl_model.specs.laws.Shown.{proc_of}
 use Rattle.clause_db.specs.declared.parts.End.TheVariants.{First}
 use Rattle.clause_db.specs.declared.fault.DbFault.TheVariants.{Memory as NoMemory}
 use Rattle.clause_db.proofs.Added.{addition_fault_same, added_stands}

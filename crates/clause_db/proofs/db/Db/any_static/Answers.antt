@@ -1,5 +1,5 @@
 use Rattle.std.proofs.Common.{sym, ◌∙◌, arith}
-use Rattle.pl_model.specs.Shown.{proc_of}
+use Rattle.pl_model.specs.laws.Shown.{proc_of}
 use Rattle.clause_db.specs.Parts.{held_access}
 use Rattle.clause_db.specs.Faults.{is_static_access}
 use Rattle.clause_db.proofs.Searched.{any_hit, any_next}

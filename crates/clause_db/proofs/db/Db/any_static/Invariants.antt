@@ -1,6 +1,6 @@
 use Rattle.std.proofs.Common.{◌≡◌, false, take}
 use Rattle.std.specs.List.{list_any}
-use Rattle.pl_model.specs.Shown.{proc_of}
+use Rattle.pl_model.specs.laws.Shown.{proc_of}
 use Rattle.clause_db.specs.Parts.{held_access}
 use Rattle.clause_db.specs.Faults.{is_static_access}
 use Rattle.clause_db.proofs.db.Db.any_static.Given as goal

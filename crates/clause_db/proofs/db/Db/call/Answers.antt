@@ -1,5 +1,5 @@
 use Rattle.std.proofs.Common.{refl, ◌∙◌}
-use Rattle.pl_model.specs.Shown.{proc_of}
+use Rattle.pl_model.specs.laws.Shown.{proc_of}
 use Rattle.pl_model.specs.FirstArguments.{are_apart}
 use Rattle.clause_db.proofs.Faults.{call_fault_same}
 use Rattle.clause_db.proofs.Added.{match_some, match_none}

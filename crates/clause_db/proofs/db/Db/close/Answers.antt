@@ -1,5 +1,5 @@
 use Rattle.std.proofs.Common.{◌+◌, ◌≤◌, map, sym, subst}
-use Rattle.pl_model.specs.Shown.{proc_of}
+use Rattle.pl_model.specs.laws.Shown.{proc_of}
 use Rattle.clause_db.specs.Parts.{piece}
 use Rattle.clause_db.specs.Sound.{IsSound}
 use Rattle.clause_db.proofs.Closing.{sound_closed}

@@ -1,5 +1,5 @@
 use Rattle.std.proofs.Common.{◌≡◌, None, find, filter, ap, sym, subst, ◌∙◌}
-use Rattle.pl_model.specs.Shown.{proc_of}
+use Rattle.pl_model.specs.laws.Shown.{proc_of}
 use Rattle.gen_core.specs.Visible.{first_choice, is_choice}
 use Rattle.clause_db.specs.Located.{IsAt}
 use Rattle.clause_db.specs.Parts.{clauses_at}

@@ -1,5 +1,5 @@
 use Rattle.std.proofs.Common.{map, sym, subst}
-use Rattle.pl_model.specs.Shown.{proc_of}
+use Rattle.pl_model.specs.laws.Shown.{proc_of}
 use Rattle.pl_model.specs.Database.{with_dynamic_procedures}
 use Rattle.clause_db.specs.Stands.{StandsFor, then_at}
 use Rattle.clause_db.proofs.MadeDynamic.{some_fault, no_fault, without_fault, stands_dynamic}

@@ -1,5 +1,5 @@
 use Rattle.std.proofs.Common.{◌∷◌, [], map, ap, sym, ◌∙◌}
-use Rattle.pl_model.specs.Execution.{word_read}
+use Rattle.run_model.specs.Execution.{word_read}
 use Rattle.first_script.specs.declared.stage.Stage.TheVariants.{Words}
 use Rattle.first_script.specs.Words.{given_words}
 use Rattle.first_script.specs.declared.file_script.FileScript.{FileScript}

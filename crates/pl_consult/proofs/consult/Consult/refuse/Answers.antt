@@ -1,6 +1,6 @@
 use Rattle.pl_model.specs.Control.{consult_proc}
 use Rattle.pl_model.specs.Balls.{error_ball}
-use Rattle.pl_model.specs.Execution.{ball_of_item, clause_added}
+use Rattle.run_model.specs.Execution.{ball_of_item, clause_added}
 use Rattle.pl_model.specs.Requests.{refused}
 use Rattle.std.proofs.Common.{refl}
 use Rattle.pl_consult.proofs.ConsultLemmas.{on_ok, stands_line}

@@ -1,6 +1,6 @@
 use Rattle.std.proofs.Common.{sym, subst}
 use Rattle.std.specs.Prelude.{IfOk}
-use Rattle.pl_model.specs.Execution.{Execution}
+use Rattle.run_model.specs.Execution.{Execution}
 use Rattle.pl_consult.specs.Consults.{Took}
 use Rattle.pl_consult.proofs.ConsultLemmas.{fault_taken, item_read}
 use Rattle.pl_consult.proofs.TakingLaws.{read_at, taken_at, put_off_at}

@@ -1,7 +1,7 @@
 use Rattle.std.proofs.Common.{◌≡◌, ◌-◌, false, length, take, drop, ap, sym, ◌∙◌}
 use Rattle.std.specs.List.{list_any}
 use Rattle.std.proofs.lemmas.List.{drop-drop, take_rest}
-use Rattle.pl_model.specs.UnifySides.{all_of, is_variable}
+use Rattle.pl_model.specs.laws.UnifySides.{all_of, is_variable}
 use Rattle.pl_model.proofs.UnifyPutIn.{put_in-absent}
 use Rattle.pl_model.proofs.unifying.Side.advance.Goals as goal
 

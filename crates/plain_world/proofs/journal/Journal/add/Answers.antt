@@ -1,7 +1,7 @@
 use Rattle.std.proofs.Common.{◌≡◌, ◌<◌, ◌^◌, [], ◌∷◌, ◌++◌, length, Some, None, ap, subst, ◌∙◌, arith}
 use Rattle.std.specs.Prelude.{◌⊎◌}
 use Rattle.pl_term.specs.Tree.{Tree}
-use Rattle.pl_model.specs.Shown.{proc_of}
+use Rattle.pl_model.specs.laws.Shown.{proc_of}
 use Rattle.pl_model.specs.KeptCells.{kept_cells}
 use Rattle.pl_model.specs.Database.{Database}
 use Rattle.clause_db.specs.Faults.{addition_fault}

@@ -1,6 +1,6 @@
 use Rattle.std.proofs.Common.{◌≡◌, ℕ, length, map, ap, subst, ◌∙◌}
 use Rattle.pl_term.specs.Tree.{Tree}
-use Rattle.pl_model.specs.Shown.{proc_of}
+use Rattle.pl_model.specs.laws.Shown.{proc_of}
 use Rattle.std.specs.Prelude.{Err}
 use Rattle.std.specs.Result.{IsOkAnd}
 use Rattle.std.specs.Option.{MatchOption}

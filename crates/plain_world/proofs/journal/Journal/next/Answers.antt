@@ -1,7 +1,7 @@
 use Rattle.std.proofs.Common.{◌≡◌, ◌≤◌, true, length, map, sym, ◌∙◌}
 use Rattle.std.specs.Prelude.{filter, not}
 use Rattle.pl_term.specs.Tree.{Tree}
-use Rattle.pl_model.specs.Shown.{proc_of}
+use Rattle.pl_model.specs.laws.Shown.{proc_of}
 use Rattle.pl_model.specs.Database.{Stored, choices, seen}
 use Rattle.clause_db.specs.Stands.{first_named, after}
 use Rattle.gen_core.specs.Hits.{hit_of}

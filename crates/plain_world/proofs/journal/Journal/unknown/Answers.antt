@@ -1,5 +1,5 @@
 use Rattle.std.proofs.Common.{ap, sym, ◌∙◌}
-use Rattle.pl_model.specs.Shown.{proc_of}
+use Rattle.pl_model.specs.laws.Shown.{proc_of}
 use Rattle.clause_db.specs.Flags.{unknown_as}
 use Rattle.plain_world.specs.Sound.{IsSound}
 use Rattle.plain_world.proofs.Reading.{unknown_raises, unknown_fails}

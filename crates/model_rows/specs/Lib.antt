@@ -1,0 +1,3 @@
+pub mod SharedRows
+pub mod Searches
+pub mod SearchRows

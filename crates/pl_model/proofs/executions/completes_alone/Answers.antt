@@ -1,8 +1,0 @@
-use Rattle.pl_model.proofs.LawfulAlone.{alone_end, alone_wait}
-use Rattle.pl_model.proofs.executions.completes_alone.Goals as goal
-
-pub returns-clause-ended : goal.returns-clause-ended
-returns-clause-ended c = alone_end
-
-pub returns-clause-waits : goal.returns-clause-waits
-returns-clause-waits c = alone_wait

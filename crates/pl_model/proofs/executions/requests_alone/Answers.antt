@@ -1,5 +1,0 @@
-use Rattle.pl_model.proofs.LawfulAlone.{alone_asks}
-use Rattle.pl_model.proofs.executions.requests_alone.Goals as goal
-
-pub returns : goal.returns
-returns c = alone_asks

@@ -1,5 +1,0 @@
-use Rattle.pl_model.proofs.Progress.{reached_asks}
-use Rattle.pl_model.proofs.executions.requests_reached.Goals as goal
-
-pub returns : goal.returns
-returns c = reached_asks

@@ -1,5 +1,0 @@
-use Rattle.pl_model.proofs.Progress.{reached_wait}
-use Rattle.pl_model.proofs.executions.waits_at_the_end.Goals as goal
-
-pub returns : goal.returns
-returns c = reached_wait

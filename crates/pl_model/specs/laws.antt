@@ -1,0 +1,7 @@
+-- Words that the laws speak in, and no definition does.
+pub mod LexicalLaws
+pub mod FirstArgumentLaws
+pub mod UnifySides
+pub mod UnifyTurns
+pub mod Subterms
+pub mod Shown

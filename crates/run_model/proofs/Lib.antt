@@ -1,0 +1,4 @@
+pub mod LawfulEntries
+pub mod LawfulStable
+pub mod Progress
+pub mod LawfulAlone

@@ -1,0 +1,4 @@
+pub mod Execution
+pub mod Lawful
+pub mod Report
+pub mod Progress
