@@ -37,3 +37,5 @@ pub mod UnifyLoop
 pub mod KeptKeys
 pub mod KeptSizes
 pub mod StateLater
+pub mod RepliesFit
+pub mod WaitsOn

@@ -2,7 +2,7 @@
 -- generation, and the history gains at most one entry by it. What a predicate checks of its arguments alone (ISO 8.9,
 -- 8.14, 8.17; SWI-Prolog manual, section 'Multithreaded applications') it checks before it asks; a request carries
 -- arguments that passed.
-use Rattle.std.specs.Prelude.{ℕ, List, Option}
+use Rattle.std.specs.Prelude.{◌≡◌, ℕ, List, Option, Bool, true, false}
 use Rattle.pl_term.specs.Tree.{Chars, Tree}
 use Rattle.pl_model.specs.declared.grammar.Quotes.{Quotes}
 use Rattle.pl_model.specs.declared.operators.Kind.{Kind as OperatorKind}
@@ -89,3 +89,59 @@ pub data Reply : Type 0 where
   gone : Reply
   -- the request is refused with this error term (ISO 7.12.2), the first one that holds
   refused : Tree → Reply
+
+-- The replies that a request can have: its own, and where it can be refused an error.
+abbrev pub fits : Request → Reply → Bool
+fits look (standing ops quotes) = true
+fits (call_clauses t) (listed cs) = true
+fits (call_clauses t) (refused e) = true
+fits (inspected_clauses t) (listed cs) = true
+fits (inspected_clauses t) (refused e) = true
+fits (retracted_clauses t) (listed cs) = true
+fits (retracted_clauses t) (refused e) = true
+fits (cleared_clauses t) (listed cs) = true
+fits (cleared_clauses t) (refused e) = true
+fits (erase_clause j) done = true
+fits (erase_clause j) gone = true
+fits (erase_clause j) (refused e) = true
+fits (assert_first c) done = true
+fits (assert_first c) (refused e) = true
+fits (assert_last c) done = true
+fits (assert_last c) (refused e) = true
+fits (consult_clause c) done = true
+fits (consult_clause c) (refused e) = true
+fits (abolish_procedure p) done = true
+fits (abolish_procedure p) (refused e) = true
+fits (make_dynamic ps) done = true
+fits (make_dynamic ps) (refused e) = true
+fits all_procedures (procedures ps) = true
+fits (put_operators p k fs) done = true
+fits (put_operators p k fs) (refused e) = true
+fits read_operators (standing ops quotes) = true
+fits (put_flag f v) done = true
+fits (put_flag f v) (refused e) = true
+fits all_flags (flags fs) = true
+fits own_name (named t) = true
+fits (create_thread goal names error) (named t) = true
+fits (create_thread goal names error) (refused e) = true
+fits (start_goal n goal) done = true
+fits (start_goal n goal) (refused e) = true
+fits (join_thread x) (status t) = true
+fits (join_thread x) (refused e) = true
+fits (send_message x t) done = true
+fits (send_message x t) (refused e) = true
+fits (get_message x t) (message m) = true
+fits (get_message x t) (refused e) = true
+fits (peek_message x t) (message m) = true
+fits (peek_message x t) no_message = true
+fits (peek_message x t) (refused e) = true
+fits (create_queue a) (named t) = true
+fits (create_queue a) (refused e) = true
+fits (destroy_queue x) done = true
+fits (destroy_queue x) (refused e) = true
+fits collect_atoms done = true
+fits collect_clauses done = true
+fits _ _ = false
+
+abbrev pub Fits : Request → Reply → Type 0
+Fits q r = fits q r ≡ true

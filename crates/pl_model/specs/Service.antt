@@ -1,13 +1,15 @@
 -- What the shared state answers to a request, and the update that the history gains by it: at most one. The errors of a
 -- request stand in the order in which they are checked (ISO 8.8, 8.9, 8.14.3, 8.17.1; SWI-Prolog manual, section
 -- 'Multithreaded applications'). A predicate checks what its arguments alone decide before it asks.
-use Rattle.std.specs.Prelude.{ℕ, zero, ◌^◌, List, [], ◌∷◌, map, length, Option, Some, None, is_some, option_and_then, Bool, true, false, if◌then◌else◌, ◌==◌, nat_le, codes, pos, negsuc}
+use Rattle.std.specs.Prelude.{◌≡◌, ℕ, zero, ◌^◌, List, [], ◌∷◌, map, length, Option, Some, None, is_some, option_map, option_and_then, Bool, true, false, if◌then◌else◌, ◌==◌, nat_le, codes, pos, negsuc}
 use Rattle.pl_term.specs.Tree.{Chars, Tree, var, int, atom, comp, none, more}
 use Rattle.pl_term.specs.Variables.{rename, variables}
 use Rattle.pl_term.specs.Cells.{cells_all}
 use Rattle.pl_model.specs.declared.operators.Kind.{Kind as OperatorKind}
 use Rattle.pl_model.specs.declared.threads.Name.{Name}
 use Rattle.pl_model.specs.declared.threads.Name.TheVariants.{Number, Alias}
+use Rattle.pl_model.specs.declared.threads.On.{On}
+use Rattle.pl_model.specs.declared.threads.On.TheVariants.{Queue as OnQueue, Thread as OnThread}
 use Rattle.pl_model.specs.declared.threads.Message.{Message}
 use Rattle.pl_model.specs.declared.threads.Status.{Status}
 use Rattle.pl_model.specs.declared.threads.Status.TheVariants.{Succeeded, Failed, Exception, Exited, Halted, AtomSpace}
@@ -243,3 +245,15 @@ served_now e goals h q = serve e q (state_at goals h (length h)) (length h)
 abbrev pub entry_by : ℕ → Option Kind → History
 entry_by e None = []
 entry_by e (Some k) = record { engine = e; kind = k } ∷ []
+
+-- What a request of the engine `e` that has no answer waits on: a message of the queue that is named so or of the engine's
+-- own, or the end of a thread.
+abbrev pub on_of : ℕ → Request → Option On
+on_of e (join_thread x) = option_map OnThread (name_of x)
+on_of e (get_message x t) = option_map OnQueue (name_of (queue_term e x))
+on_of e _ = None
+
+-- The queue is there, or the thread, and it has not ended.
+abbrev pub IsAwaited : Threads Tree → On → Type 0
+IsAwaited t (OnQueue x) = (q : Queue Tree) × (queue_named t x ≡ Some q)
+IsAwaited t (OnThread x) = (h : Thread Tree) × (thread_named t x ≡ Some h) × (h.status ≡ None)

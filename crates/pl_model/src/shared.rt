@@ -1,10 +1,11 @@
 //! Laws of the shared state: what a generation sees, the numbers that are given, and the room for updates.
-ghost use Rattle.std.specs.Prelude.{◌<◌, ◌&&◌, not, filter, slice_get, IfSome, ◌≡◌, ◌≤◌, ℕ, ◌^◌, false};
-ghost use Rattle.pl_model.specs.History.{Proc, History, is_end};
+ghost use Rattle.std.specs.Prelude.{◌<◌, ◌&&◌, not, filter, slice_get, IfSome, ◌≡◌, ◌≤◌, ℕ, ◌^◌, Option, Some, false};
+ghost use Rattle.pl_model.specs.declared.threads.On.{On};
+ghost use Rattle.pl_model.specs.History.{Proc, History, Kind, is_end};
 ghost use Rattle.pl_model.specs.Database.{seen, named_clauses, is_of, is_erased};
 ghost use Rattle.pl_model.specs.SharedState.{SharedState, state_at, number_given};
-ghost use Rattle.pl_model.specs.Requests.{Request};
-ghost use Rattle.pl_model.specs.Service.{serve, update_of};
+ghost use Rattle.pl_model.specs.Requests.{Request, Reply, Fits};
+ghost use Rattle.pl_model.specs.Service.{serve, answers, waits, update_of, on_of, IsAwaited};
 
 /// The logical update view: what a generation sees of a procedure is the same in the state at each later one.
 pub fn later_updates_change_no_view()
@@ -28,4 +29,20 @@ pub fn numbers_are_new()
 pub fn updates_have_room()
     ensures { (e : ℕ) (r : Request) (s : SharedState) (g : ℕ)
         → IfSome (update_of (serve e r s g)) (λ k. (g < 2 ^ 47) × (is_end k ≡ false)) }
+{}
+
+/// A request is answered by a reply that fits it.
+#[tactic(auto, using(crate::proofs::RepliesFit::replies_fit))]
+pub fn replies_fit()
+    ensures { (e : ℕ) (q : Request) (s : SharedState) (g : ℕ) (r : Reply) (k : Option Kind)
+        → serve e q s g ≡ answers r k
+        → Fits q r }
+{}
+
+/// A request that waits names what it waits on: a queue that is there, or a thread that is there and has not ended.
+#[tactic(auto, using(crate::proofs::WaitsOn::waits_on))]
+pub fn waiting_requests_name_what_they_wait_on()
+    ensures { (e : ℕ) (q : Request) (s : SharedState) (g : ℕ)
+        → serve e q s g ≡ waits
+        → (on : On) × (on_of e q ≡ Some on) × IsAwaited s.threads on }
 {}

@@ -1,4 +1,4 @@
-//! What names a thread or a queue, what a queue holds, and how a thread ended.
+//! What names a thread or a queue, what a queue holds, what is waited on, and how a thread ended.
 use pl_term::Text;
 
 /// What names a thread or a message queue.
@@ -8,6 +8,15 @@ pub enum Name {
     Number(u64),
     /// Its alias.
     Alias(Text),
+}
+
+/// What an engine waits on.
+#[derive(Debug, Drop)]
+pub enum On {
+    /// A message of a queue.
+    Queue(Name),
+    /// The end of a thread.
+    Thread(Name),
 }
 
 /// A message of type `M` in a queue.
