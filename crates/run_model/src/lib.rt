@@ -3,3 +3,4 @@
 #![tactic(auto)]
 
 pub mod executions;
+pub mod histories;

@@ -1,0 +1,22 @@
+//! Laws of histories: what later entries leave as it was.
+ghost use Rattle.std.specs.Prelude.{◌≡◌, ℕ, List, [], ◌++◌, length, Contains, true};
+ghost use Rattle.pl_model.specs.History.{History, mine, has_begun};
+ghost use Rattle.run_model.specs.Execution.{Job};
+ghost use Rattle.run_model.specs.Lawful.{RanToEnd, Beginning, beginnings_from, beginnings};
+
+/// What has ended stays so under later entries of others.
+#[tactic(auto, using(crate::proofs::EndsStay::end_stays))]
+pub fn ends_stay()
+    ensures ran { (e goals : ℕ) (job : Job) (low : ℕ) (h later : History) (gens : List ℕ)
+        → mine later e ≡ []
+        → RanToEnd e goals job low h gens
+        → RanToEnd e goals job low (h ++ later) gens }
+{}
+
+/// What has begun stays so, and what begins later comes after it.
+#[tactic(auto, using(crate::proofs::BeginningsStay::beginnings_stay, crate::proofs::BeginningsStay::beginning_stays, crate::proofs::BeginningsStay::begun_stays))]
+pub fn beginnings_stay()
+    ensures whole { (h later : History) → beginnings (h ++ later) ≡ beginnings h ++ beginnings_from (length h) later }
+    ensures each { (h later : History) (b : Beginning) → Contains (beginnings h) b → Contains (beginnings (h ++ later)) b }
+    ensures begun { (h later : History) (e : ℕ) → has_begun h e ≡ true → has_begun (h ++ later) e ≡ true }
+{}
