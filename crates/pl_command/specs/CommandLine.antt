@@ -18,9 +18,13 @@ pub record Command : Type 0 where
   pub words : List Chars
   pub limits : Limits
 
+-- The number of slots of the table of atoms.
+abbrev pub atom_slots : ℕ
+atom_slots = 65536
+
 -- What a command runs on a file with these bytes. Of a file that is too large, only the first bytes are read that show it.
 abbrev pub program_of : Command → List ℕ → Program
-program_of c bytes = record { bytes = take (suc most_bytes) bytes; words = c.words; limits = c.limits }
+program_of c bytes = record { bytes = take (suc most_bytes) bytes; words = c.words; limits = c.limits; slots = atom_slots }
 
 -- The words
 

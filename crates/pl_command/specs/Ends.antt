@@ -1,13 +1,13 @@
--- How the goals of a command and the program end, from the states in which the engines stand at the end.
+-- How the goals of a command and the program end, from the ends in the history and the states in which the engines stand.
 use Rattle.std.specs.Prelude.{ℕ, suc, List, [], ◌∷◌, ◌++◌, Bool, true, false, not, ◌==◌, ◌&&◌, ◌||◌, Option, Some, None, codes, if◌then◌else◌}
-use Rattle.pl_term.specs.Tree.{Chars}
+use Rattle.pl_term.specs.Tree.{Chars, Tree}
 use Rattle.pl_model.specs.declared.ends.How.{How}
-use Rattle.pl_model.specs.declared.ends.How.TheVariants.{Solved, False, Threw, Exited, Halted}
+use Rattle.pl_model.specs.declared.ends.How.TheVariants.{Solved, Threw, Halted, AtomSpace}
 use Rattle.pl_model.specs.Threads.{goal_alias}
-use Rattle.pl_model.specs.Resolution.{Ending, solved, no_more, threw, exited, halted}
+use Rattle.pl_model.specs.History.{History}
 use Rattle.run_model.specs.Execution.{Word, goal_word, faulty_word, Consulted, wrote, Refusal, Execution}
 use Rattle.run_model.specs.Lawful.{Program, Told, Beginning, beginnings, is_goal_number}
-use Rattle.run_model.specs.Report.{Finals, final_of, refusal_of, ending_by}
+use Rattle.run_model.specs.Report.{Finals, final_of, refusal_of, end_in, words_of}
 use Rattle.pl_command.specs.declared.ends.End.{End}
 use Rattle.pl_command.specs.declared.ends.End.TheVariants.{Done, GoalFailed, Usage, Waiting, Memory, ReadFault, WriteFault, Halted as EndHalted, Unbuilt}
 use Rattle.pl_command.specs.declared.ends.GoalEnd.{GoalEnd}
@@ -16,58 +16,49 @@ use Rattle.pl_command.specs.declared.ends.GoalHow.TheVariants.{Ended, Waits, Syn
 
 -- Goals
 
--- An engine's end as it is told.
-abbrev pub how_of : Ending → How
-how_of solved = Solved
-how_of no_more = False
-how_of (threw b) = Threw b
-how_of (exited t) = Exited t
-how_of (halted n) = Halted n
-
-abbrev pub goal_how : Option Ending → GoalHow
+-- A goal ends as its engine does in the history.
+abbrev pub goal_how : Option (How Tree) → GoalHow
 goal_how None = Waits
-goal_how (Some e) = Ended (how_of e)
+goal_how (Some how) = Ended how
 
 -- The first goal is run by the engine main, any other by the engine with its number.
 abbrev pub goal_name : ℕ → Chars
 goal_name n = if n == 1 then codes "main" else goal_alias n
 
 -- A goal ends as the engine with its number does, or by the error for which this engine could not be started.
-abbrev pub engine_how : Option Execution → Option Refusal → Option GoalHow
-engine_how x (Some r) = Some (Ended (Threw r.ball))
-engine_how None None = None
-engine_how (Some x) None = Some (goal_how (ending_by x.activity))
+abbrev pub engine_how : Option (How Tree) → Option Execution → Option Refusal → Option GoalHow
+engine_how end x (Some r) = Some (Ended (Threw r.ball))
+engine_how end None None = None
+engine_how end (Some x) None = Some (goal_how end)
 
-abbrev pub word_how : Finals → List Refusal → ℕ → Word → Option GoalHow
-word_how finals rs n (faulty_word kind at) = Some (Syntax kind at)
-word_how finals rs n (goal_word t names) = engine_how (final_of finals n) (refusal_of rs n)
+abbrev pub word_how : History → Finals → List Refusal → ℕ → Word → Option GoalHow
+word_how h finals rs n (faulty_word kind at) = Some (Syntax kind at)
+word_how h finals rs n (goal_word t names) = engine_how (end_in h n) (final_of finals n) (refusal_of rs n)
 
 abbrev pub with_end : ℕ → Option GoalHow → List GoalEnd → List GoalEnd
 with_end n None es = es
 with_end n (Some how) es = record { engine = n; name = goal_name n; how = how } ∷ es
 
-abbrev pub ends_from : Finals → List Refusal → ℕ → List Word → List GoalEnd
-ends_from finals rs n [] = []
-ends_from finals rs n (w ∷ ws) = with_end n (word_how finals rs n w) (ends_from finals rs (suc n) ws)
+abbrev pub ends_from : History → Finals → List Refusal → ℕ → List Word → List GoalEnd
+ends_from h finals rs n [] = []
+ends_from h finals rs n (w ∷ ws) = with_end n (word_how h finals rs n w) (ends_from h finals rs (suc n) ws)
 
 -- No goal has an end where the first engine did not come to the goals: it has read no words then.
-abbrev pub ends_by : Finals → Option Execution → List GoalEnd
-ends_by finals None = []
-ends_by finals (Some x) = ends_from finals x.refusals 1 x.words
+abbrev pub ends_by : Program → Told → Finals → Option Execution → List GoalEnd
+ends_by p told finals None = []
+ends_by p told finals (Some x) = ends_from told.history finals x.refusals 1 (words_of p told x)
 
-abbrev pub goal_ends : Finals → List GoalEnd
-goal_ends finals = ends_by finals (final_of finals 1)
+abbrev pub goal_ends : Program → Told → Finals → List GoalEnd
+goal_ends p told finals = ends_by p told finals (final_of finals 1)
 
 -- The program
 
--- The engines in the order of the report: the first one, those of the further goals, and the threads by their numbers.
-abbrev pub further_numbers : ℕ → List Chars → List ℕ
-further_numbers n [] = []
-further_numbers n (w ∷ ws) = n ∷ further_numbers (suc n) ws
-
-abbrev pub behind_first : List Chars → List ℕ
-behind_first [] = []
-behind_first (w ∷ ws) = further_numbers 2 ws
+-- The engines that have begun, in the order of the report: the first one, those of the further goals, and the threads, as
+-- they began. They have rising numbers.
+abbrev pub goal_numbers : Program → List Beginning → List ℕ
+goal_numbers p [] = []
+goal_numbers p (b ∷ bs) =
+    if is_goal_number p b.engine then b.engine ∷ goal_numbers p bs else goal_numbers p bs
 
 abbrev pub thread_numbers : Program → List Beginning → List ℕ
 thread_numbers p [] = []
@@ -75,40 +66,41 @@ thread_numbers p (b ∷ bs) =
     if is_goal_number p b.engine then thread_numbers p bs else b.engine ∷ thread_numbers p bs
 
 abbrev pub engines : Program → Told → List ℕ
-engines p told = 1 ∷ (behind_first p.words ++ thread_numbers p (beginnings told.history))
+engines p told = 1 ∷ (goal_numbers p (beginnings told.history) ++ thread_numbers p (beginnings told.history))
 
--- The status of halt/1, where an execution has ended so.
-abbrev pub halt_by : Option Ending → Option ℕ
-halt_by (Some (halted n)) = Some n
-halt_by e = None
-
-abbrev pub halt_in : Option Execution → Option ℕ
-halt_in None = None
-halt_in (Some x) = halt_by (ending_by x.activity)
+-- The status of halt/1, where an engine has ended so.
+abbrev pub halt_by : Option (How Tree) → Option ℕ
+halt_by (Some (Halted n)) = Some n
+halt_by end = None
 
 abbrev pub or_else : Option ℕ → Option ℕ → Option ℕ
 or_else (Some n) o = Some n
 or_else None o = o
 
 -- The first of these engines that has halted.
-abbrev pub first_halt : Finals → List ℕ → Option ℕ
-first_halt finals [] = None
-first_halt finals (e ∷ es) = or_else (halt_in (final_of finals e)) (first_halt finals es)
+abbrev pub first_halt : History → List ℕ → Option ℕ
+first_halt h [] = None
+first_halt h (e ∷ es) = or_else (halt_by (end_in h e)) (first_halt h es)
 
-abbrev pub has_no_end : Option Ending → Bool
+abbrev pub has_no_end : Option (How Tree) → Bool
 has_no_end None = true
-has_no_end (Some e) = false
-
-abbrev pub waits_in : Option Execution → Bool
-waits_in None = false
-waits_in (Some x) = has_no_end (ending_by x.activity)
+has_no_end (Some how) = false
 
 -- Whether one of these engines waits.
-abbrev pub some_waits : Finals → List ℕ → Bool
-some_waits finals [] = false
-some_waits finals (e ∷ es) = waits_in (final_of finals e) || some_waits finals es
+abbrev pub some_waits : History → List ℕ → Bool
+some_waits h [] = false
+some_waits h (e ∷ es) = has_no_end (end_in h e) || some_waits h es
 
-abbrev pub is_solved_how : How → Bool
+abbrev pub lacks_atoms : Option (How Tree) → Bool
+lacks_atoms (Some (AtomSpace found)) = true
+lacks_atoms end = false
+
+-- Whether one of these engines found no place for an atom.
+abbrev pub some_lacks_atoms : History → List ℕ → Bool
+some_lacks_atoms h [] = false
+some_lacks_atoms h (e ∷ es) = lacks_atoms (end_in h e) || some_lacks_atoms h es
+
+abbrev pub is_solved_how : How Tree → Bool
 is_solved_how Solved = true
 is_solved_how how = false
 
@@ -133,7 +125,13 @@ abbrev pub faults_in : Option Execution → Bool
 faults_in None = false
 faults_in (Some x) = some_fault x.consulted
 
--- The first that holds: an engine has halted, an engine waits, a goal is not solved or a fault of the file was kept.
+-- Whether each goal is solved, no engine lacked a place for an atom, and no fault of the file was kept.
+abbrev pub all_done : Program → Told → Finals → Bool
+all_done p told finals =
+    all_solved (goal_ends p told finals)
+    && (not (some_lacks_atoms told.history (engines p told)) && not (faults_in (final_of finals 1)))
+
+-- The first that holds: an engine has halted, an engine waits, all is done or not.
 abbrev pub end_by : Option ℕ → Bool → Bool → End
 end_by (Some n) waits done = EndHalted n
 end_by None true done = Waiting
@@ -143,9 +141,9 @@ end_by None false false = GoalFailed
 abbrev pub end_of : Program → Told → Finals → End
 end_of p told finals =
     end_by
-    (first_halt finals (engines p told))
-    (some_waits finals (engines p told))
-    (all_solved (goal_ends finals) && not (faults_in (final_of finals 1)))
+    (first_halt told.history (engines p told))
+    (some_waits told.history (engines p told))
+    (all_done p told finals)
 
 -- The exit status of each end.
 abbrev pub status_of : End → ℕ

@@ -4,7 +4,7 @@ use Rattle.std.specs.Prelude.{if◌then◌else◌}
 use mathlib.Core.List.{IsPrefix}
 use Rattle.pl_term.specs.Tree.{Chars, Tree}
 use Rattle.pl_model.specs.History.{Kind, Entry, History, start, begins, has_begun, mine, is_end}
-use Rattle.pl_history.specs.Fronts.{Life, times, life_gains, gains, begun_by, visited, picked, without, AllTold, runs_in, has_end, own_engine, own_runs, own_updates}
+use Rattle.pl_history.specs.Fronts.{Life, times, life_gains, gains, begun_by, with_generation, visited, picked, without, AllTold, runs_in, has_end, own_engine, own_runs, own_updates}
 use Rattle.pl_history.specs.Laws.{one_if}
 
 -- How often an engine is carried
@@ -88,8 +88,8 @@ told_else h x (l ∷ ls) none t =
 life_told : (b : Bool) (h : History) (x : Entry) (g : ℕ) (l : Life)
     → (l.engine == x.engine) ≡ b
     → l.updates ≡ mine h l.engine
-    → (if b then record { engine = l.engine; updates = l.updates ++ x.kind ∷ []; generations = l.generations ++ g ∷ [] } else l).updates
-    ≡ mine (h ++ x ∷ []) (if b then record { engine = l.engine; updates = l.updates ++ x.kind ∷ []; generations = l.generations ++ g ∷ [] } else l).engine
+    → (if b then record { engine = l.engine; updates = l.updates ++ x.kind ∷ []; generations = with_generation x.kind g l.generations } else l).updates
+    ≡ mine (h ++ x ∷ []) (if b then record { engine = l.engine; updates = l.updates ++ x.kind ∷ []; generations = with_generation x.kind g l.generations } else l).engine
 life_told true h x g l is t =
     ap (λ ks. ks ++ x.kind ∷ []) t ∙ sym (mine_own h x l.engine (sym (eqb-true l.engine x.engine is)))
 life_told false h x g l is t =
@@ -224,7 +224,7 @@ no_end_more [] k e = ap (λ b. b || false) e
 no_end_more (j ∷ ks) k e = ap (λ b. is_end j || b) (no_end_more ks k e)
 
 life_runs : (b : Bool) (x : Entry) (g : ℕ) (l : Life) → is_end x.kind ≡ false
-    → not (has_end (if b then record { engine = l.engine; updates = l.updates ++ x.kind ∷ []; generations = l.generations ++ g ∷ [] } else l).updates) ≡ not (has_end l.updates)
+    → not (has_end (if b then record { engine = l.engine; updates = l.updates ++ x.kind ∷ []; generations = with_generation x.kind g l.generations } else l).updates) ≡ not (has_end l.updates)
 life_runs true x g l e = ap not (no_end_more l.updates x.kind e)
 life_runs false x g l e = refl
 
@@ -239,7 +239,7 @@ own_engine-gains x g (l ∷ ls) = engine-life_gains x g l
 pub own_updates-gains : (x : Entry) (g : ℕ) (ls : List Life) → own_engine ls ≡ x.engine → own_runs ls ≡ true → own_updates (gains x g ls) ≡ own_updates ls ++ x.kind ∷ []
 own_updates-gains x g [] same runs = absurd (cc)
 own_updates-gains x g (l ∷ ls) same runs =
-    ap (λ b. (if b then record { engine = l.engine; updates = l.updates ++ x.kind ∷ []; generations = l.generations ++ g ∷ [] } else l).updates) (eq-eqb l.engine x.engine same)
+    ap (λ b. (if b then record { engine = l.engine; updates = l.updates ++ x.kind ∷ []; generations = with_generation x.kind g l.generations } else l).updates) (eq-eqb l.engine x.engine same)
 
 pub told_own : (h : History) (ls : List Life) → AllTold h ls → own_runs ls ≡ true → own_updates ls ≡ mine h (own_engine ls)
 told_own h [] told runs = absurd (cc)

@@ -7,8 +7,12 @@ use Rattle.pl_term.specs.Tree.{Chars, Tree}
 use Rattle.pl_term.specs.Nodes.{coded_tree}
 use Rattle.pl_model.specs.Operators.{Specifier, Operator, xfx, xfy, yfx, fx, fy, xf, yf}
 use Rattle.pl_model.specs.History.{Proc, Clause, Origin, Kind, Entry, consult, assert, add_first, add_last, erase, abolish, set_dynamic, set_flag, set_op, make_queue, drop_queue, send, take, start, finish, join}
+use Rattle.pl_model.specs.declared.ends.SlotPass.{SlotPass}
+use Rattle.pl_model.specs.declared.ends.WornHead.{WornHead}
+use Rattle.pl_model.specs.declared.ends.AtomRecord.{AtomRecord}
+use Rattle.pl_model.specs.declared.ends.AtomRecord.TheVariants.{Taken, WornBucket, WornEpoch}
 use Rattle.pl_model.specs.declared.ends.How.{How}
-use Rattle.pl_model.specs.declared.ends.How.TheVariants.{Solved, False, Threw, Exited, Halted}
+use Rattle.pl_model.specs.declared.ends.How.TheVariants.{Solved, False, Threw, Exited, Halted, AtomSpace}
 use Rattle.pl_history.specs.Fronts.{Life, FrontState}
 use Rattle.pl_history.specs.Steps.{Part, View}
 
@@ -79,35 +83,83 @@ coded_operator =
     (λ t. record { name = t.0; priority = t.1.0; specifier = specifier_of t.1.1 })
     (λ o. ap (λ s. record { name = o.name; priority = o.priority; specifier = s }) (specifier_back o.specifier))
 
-abbrev pub HowParts : Type 0
-HowParts = Option (Option Tree) ⊎ (Tree ⊎ ℕ)
+abbrev pub coded_pass : Coded SlotPass
+coded_pass =
+    code_by
+    (ℕ × (ℕ × (ℕ × ℕ)))
+    (coded× coded_ℕ (coded× coded_ℕ (coded× coded_ℕ coded_ℕ)))
+    (λ p. (p.counted, (p.seat, (p.began, p.ended))))
+    (λ t. record { counted = t.0; seat = t.1.0; began = t.1.1.0; ended = t.1.1.1 })
+    (λ _. refl)
 
-abbrev pub how_parts : How → HowParts
+abbrev pub coded_head : Coded WornHead
+coded_head =
+    code_by
+    (ℕ × (ℕ × ℕ))
+    (coded× coded_ℕ (coded× coded_ℕ coded_ℕ))
+    (λ w. (w.head, (w.word, w.start)))
+    (λ t. record { head = t.0; word = t.1.0; start = t.1.1 })
+    (λ _. refl)
+
+abbrev pub RecordParts : Type 0
+RecordParts = (SlotPass × (ℕ × (ℕ × SlotPass))) ⊎ (WornHead ⊎ SlotPass)
+
+abbrev pub record_parts : AtomRecord → RecordParts
+record_parts (Taken earlier first second pass) = inl (earlier, (first, (second, pass)))
+record_parts (WornBucket w) = inr (inl w)
+record_parts (WornEpoch p) = inr (inr p)
+
+abbrev pub record_of : RecordParts → AtomRecord
+record_of (inl (earlier, (first, (second, pass)))) = Taken earlier first second pass
+record_of (inr (inl w)) = WornBucket w
+record_of (inr (inr p)) = WornEpoch p
+
+pub record_back : (r : AtomRecord) → record_of (record_parts r) ≡ r
+record_back (Taken earlier first second pass) = refl
+record_back (WornBucket w) = refl
+record_back (WornEpoch p) = refl
+
+abbrev pub coded_record : Coded AtomRecord
+coded_record =
+    code_by
+    RecordParts
+    (coded⊎ (coded× coded_pass (coded× coded_ℕ (coded× coded_ℕ coded_pass))) (coded⊎ coded_head coded_pass))
+    record_parts
+    record_of
+    record_back
+
+abbrev pub HowParts : Type 0
+HowParts = Option (Option Tree) ⊎ (Tree ⊎ (ℕ ⊎ AtomRecord))
+
+abbrev pub how_parts : How Tree → HowParts
 how_parts Solved = inl None
 how_parts False = inl (Some None)
 how_parts (Threw ball) = inl (Some (Some ball))
 how_parts (Exited t) = inr (inl t)
-how_parts (Halted n) = inr (inr n)
+how_parts (Halted n) = inr (inr (inl n))
+how_parts (AtomSpace r) = inr (inr (inr r))
 
-abbrev pub how_of : HowParts → How
+abbrev pub how_of : HowParts → How Tree
 how_of (inl None) = Solved
 how_of (inl (Some None)) = False
 how_of (inl (Some (Some ball))) = Threw ball
 how_of (inr (inl t)) = Exited t
-how_of (inr (inr n)) = Halted n
+how_of (inr (inr (inl n))) = Halted n
+how_of (inr (inr (inr r))) = AtomSpace r
 
-pub how_back : (h : How) → how_of (how_parts h) ≡ h
+pub how_back : (h : How Tree) → how_of (how_parts h) ≡ h
 how_back Solved = refl
 how_back False = refl
 how_back (Threw ball) = refl
 how_back (Exited t) = refl
 how_back (Halted n) = refl
+how_back (AtomSpace r) = refl
 
-abbrev pub coded_how : Coded How
+abbrev pub coded_how : Coded (How Tree)
 coded_how =
     code_by
     HowParts
-    (coded⊎ (coded_option (coded_option coded_tree)) (coded⊎ coded_tree coded_ℕ))
+    (coded⊎ (coded_option (coded_option coded_tree)) (coded⊎ coded_tree (coded⊎ coded_ℕ coded_record)))
     how_parts
     how_of
     how_back
@@ -126,7 +178,7 @@ abbrev pub OfQueues : Type 0
 OfQueues = ((ℕ × Option Chars) ⊎ ℕ) ⊎ ((ℕ × Tree) ⊎ ℕ)
 
 abbrev pub OfThreads : Type 0
-OfThreads = (ℕ × (Tree × Option Chars)) ⊎ ((How × ℕ) ⊎ ℕ)
+OfThreads = (ℕ × (Tree × Option Chars)) ⊎ ((How Tree × ℕ) ⊎ ℕ)
 
 abbrev pub KindParts : Type 0
 KindParts = (OfClauses ⊎ OfTables) ⊎ (OfQueues ⊎ OfThreads)

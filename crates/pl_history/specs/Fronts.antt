@@ -4,7 +4,7 @@ use Rattle.atomic_table.specs.Seated.{TableId}
 use Rattle.pl_model.specs.History.{Kind, Entry, History, start, is_end, mine}
 
 -- What a front keeps of an engine that it carries: the engine's updates, in their order, and the generations at
--- which its visits stood.
+-- which its requests stood: its visits and its updates, but its end.
 pub record Life : Type 0 where
   pub engine : ℕ
   pub updates : List Kind
@@ -62,11 +62,15 @@ abbrev pub own_generations : List Life → List ℕ
 own_generations [] = []
 own_generations (l ∷ ls) = l.generations
 
+-- The generations with the place of an update, at which its request stood. An end is no request, and has no generation.
+abbrev pub with_generation : Kind → ℕ → List ℕ → List ℕ
+with_generation k g gens = if is_end k then gens else gens ++ g ∷ []
+
 -- The engine of the entry gains its update, and the entry's place `g` as a generation. No other engine gains.
 abbrev pub life_gains : Entry → ℕ → Life → Life
 life_gains x g l =
     if l.engine == x.engine
-    then record { engine = l.engine; updates = l.updates ++ x.kind ∷ []; generations = l.generations ++ g ∷ [] }
+    then record { engine = l.engine; updates = l.updates ++ x.kind ∷ []; generations = with_generation x.kind g l.generations }
     else l
 
 abbrev pub gains : Entry → ℕ → List Life → List Life

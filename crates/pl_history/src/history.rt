@@ -108,7 +108,8 @@ impl History {
     }
 
     /// The history gains the entry that the value stands for, and both fronts see it. The answer is the entry's
-    /// place, which is added to the generations of the entry's engine. `Worn` comes where the history's length is
+    /// place, which is added to the generations of the entry's engine unless the entry is its end, which answers no
+    /// request. `Worn` comes where the history's length is
     /// 2^47 or more and the entry is no engine's end; nothing has changed then.
     pub fn append<X: Shows>(
         &self,

@@ -57,7 +57,7 @@ pub data Kind : Type 0 where
   take : ℕ → Kind
   start : ℕ → Tree → Option Chars → Kind
   -- the engine ends, after this number of steps
-  finish : How → ℕ → Kind
+  finish : How Tree → ℕ → Kind
   join : ℕ → Kind
 
 pub record Entry : Type 0 where

@@ -4,9 +4,9 @@ use Rattle.std.specs.Prelude.{ℕ, suc, zero, List, [], ◌∷◌, take, Option,
 use Rattle.pl_term.specs.Tree.{Tree}
 use Rattle.pl_term.specs.Variables.{rename}
 use Rattle.pl_model.specs.declared.ends.How.{How}
-use Rattle.pl_model.specs.declared.ends.How.TheVariants.{Solved, False, Threw, Exited as LeftBy, Halted as HaltedWith}
+use Rattle.pl_model.specs.declared.ends.How.TheVariants.{Solved, False, Threw, Exited as LeftBy, Halted as HaltedWith, AtomSpace as WantedAtoms}
 use Rattle.pl_model.specs.declared.threads.Status.{Status}
-use Rattle.pl_model.specs.declared.threads.Status.TheVariants.{Succeeded, Failed, Exception, Exited, Halted}
+use Rattle.pl_model.specs.declared.threads.Status.TheVariants.{Succeeded, Failed, Exception, Exited, Halted, AtomSpace}
 use Rattle.pl_model.specs.declared.operators.Kind.{Kind as OperatorKind}
 use Rattle.pl_model.specs.declared.operators.Kind.TheVariants.{Xfx, Xfy, Yfx, Fy, Fx, Xf, Yf}
 use Rattle.pl_model.specs.Operators.{Operator, Specifier, xfx, xfy, yfx, fx, fy, xf, yf}
@@ -51,12 +51,13 @@ with_operators [] t = t
 with_operators (o ∷ os) t = with_operators os (changed t o.priority (kind_of o.specifier) o.name)
 
 -- How a thread ended, by how its engine did. A ball is kept as a copy.
-abbrev pub status_of : How → Status Tree
+abbrev pub status_of : How Tree → Status Tree
 status_of Solved = Succeeded
 status_of False = Failed
 status_of (Threw ball) = Exception (rename zero ball)
 status_of (LeftBy t) = Exited (rename zero t)
 status_of (HaltedWith n) = Halted n
+status_of (WantedAtoms r) = AtomSpace
 
 -- The state after the update that the engine `e` made at the place `k`.
 abbrev pub change : ℕ → ℕ → Kind → SharedState → SharedState

@@ -1,52 +1,59 @@
-//! How an engine, a goal and the program end.
-use crate::syntax::SyntaxKind;
-use pl_term::{Flat, Text};
+//! How an engine ends.
 
-/// How an engine ended.
+/// A pass over all slots of the atom table that found each of them taken.
+#[derive(Clone, Copy, Debug, PartialEq, Eq, Drop)]
+pub struct SlotPass {
+    /// How many slots it counted.
+    pub counted: u64,
+    /// The engine that made it, from 1.
+    pub seat: u64,
+    /// The epoch word as it began, and as it ended: bits 0 and 1 hold the phase, 0 where no cycle runs, bits 2 to 63
+    /// the number of cycles begun.
+    pub began: u64,
+    pub ended: u64,
+}
+
+/// A bucket of the atom table that takes no new atom, as its head was loaded.
+#[derive(Clone, Copy, Debug, PartialEq, Eq, Drop)]
+pub struct WornHead {
+    /// The bucket's number.
+    pub head: u64,
+    /// The head's word, whose bits 22 to 63 hold the version.
+    pub word: u64,
+    /// The version with which the table began.
+    pub start: u64,
+}
+
+/// What shows that an engine ended for want of atoms.
+#[derive(Clone, Copy, Debug, PartialEq, Eq, Drop)]
+pub enum AtomRecord {
+    /// The first pass found every slot taken, the two cycles were begun after it and ran to their end, and then the
+    /// second pass found every slot taken again.
+    Taken {
+        earlier: SlotPass,
+        first: u64,
+        second: u64,
+        pass: SlotPass,
+    },
+    /// The bucket of an atom takes no new one.
+    WornBucket(WornHead),
+    /// That pass found every slot taken, and no cycle can begin any more.
+    WornEpoch(SlotPass),
+}
+
+/// How an engine ended. Balls and terms are of a type `T`.
 #[derive(Debug, Drop)]
-pub enum How {
-    /// Its goal has given the solutions that were wanted, or it had no goal.
+pub enum How<T> {
+    /// Its goal gave the solutions that were wanted, or it had no goal.
     Solved,
     /// Its goal has no further solution.
     False,
     /// A ball that nobody caught (ISO 7.8.10).
-    Threw(Flat),
+    Threw(T),
     /// thread_exit/1 with a term.
-    Exited(Flat),
+    Exited(T),
     /// halt/1 with a status.
     Halted(u8),
-}
-
-/// How a goal of the command ended.
-#[derive(Debug, Drop)]
-pub enum GoalHow {
-    /// Its engine ended so.
-    Ended(How),
-    /// Its word is no term, by the fault of this kind at this byte.
-    Syntax { kind: SyntaxKind, at: u64 },
-}
-
-/// The end of one goal of the command: its engine's number and name, and how it ended.
-#[derive(Debug, Drop)]
-pub struct GoalEnd {
-    pub engine: u64,
-    pub name: Text,
-    pub how: GoalHow,
-}
-
-/// How the program ended.
-#[derive(Debug, Clone, Copy, PartialEq, Eq, Drop)]
-pub enum End {
-    /// Nothing else holds.
-    Done,
-    /// A goal did not end solved, or a fault of the file was kept.
-    GoalFailed,
-    /// The words are no command.
-    Usage,
-    /// Want of memory.
-    Memory,
-    /// A read of the file failed.
-    ReadFault,
-    /// A write of the text failed.
-    WriteFault,
+    /// There was no place for an atom.
+    AtomSpace(AtomRecord),
 }

@@ -38,11 +38,12 @@ pub trait ShowsClause {
 /// A value that stands for the end of an engine.
 pub trait ShowsHow {
     ghost use Rattle.pl_model.specs.declared.ends.How.{How};
+    ghost use Rattle.pl_term.specs.Tree.{Tree};
 
-    ghost how: { Self → How };
+    ghost how: { Self → How Tree };
 }
 
-impl ShowsHow for How {
+impl ShowsHow for How<Flat> {
     ghost how = { λ h. h };
 }
 

@@ -1,15 +1,21 @@
 -- A lone engine's run is the whole of what a command did.
-use Rattle.std.proofs.Common.{◌≡◌, ◌<◌, ℕ, zero, suc, List, [], ◌∷◌, ◌++◌, length, Option, Some, None, refl, ap, sym, ◌∙◌, arith, subst, ◌⊎◌, inl, inr, get_or}
+use Rattle.std.proofs.Common.{◌≡◌, ◌<◌, ℕ, zero, suc, List, [], ◌∷◌, ◌++◌, length, Option, Some, None, refl, ap, sym, ◌∙◌, arith, subst, ◌⊎◌, inl, inr, get_or, Bool, true, false}
+use Rattle.std.specs.Prelude.{◌==◌, if◌then◌else◌}
 use Rattle.std.specs.List.{Contains}
 use Rattle.std.proofs.lemmas.List.Elements.{Contains-append_cases}
+use Rattle.pl_term.specs.Tree.{Tree}
+use Rattle.pl_model.specs.declared.ends.AtomRecord.{AtomRecord}
 use Rattle.pl_model.specs.declared.ends.How.{How}
+use Rattle.pl_model.specs.declared.ends.How.TheVariants.{AtomSpace}
 use Rattle.pl_model.specs.History.{Kind, Entry, History, start, finish, IsPlain, IsPlainUpdate, AllPlain}
 use Rattle.pl_model.specs.Resolution.{Ending}
 use Rattle.run_model.specs.Execution.{Job, over, at_start}
-use Rattle.run_model.specs.Lawful.{EndsSo, IsDone, Program, Told, Beginning, beginnings_from, beginnings, engine_numbers, generations_of, main_job, IsComplete}
+use Rattle.run_model.specs.AtomRecords.{IsTrue}
+use Rattle.run_model.specs.Lawful.{EndsSo, IsRunning, IsDone, Program, Told, Beginning, beginnings_from, beginnings, engine_numbers, generations_of, main_job, IsComplete}
 use Rattle.run_model.specs.Progress.{Seen, MovesTo, AsksTo, WaitsNow, Alone, told_at_end, told_waiting}
 use Rattle.pl_model.specs.Service.{entry_by}
-use Rattle.run_model.proofs.Progress.{reached_start, reached_goes, reached_asks, reached_end, reached_wait}
+use Rattle.run_model.specs.Report.{end_in}
+use Rattle.run_model.proofs.Progress.{reached_start, reached_goes, reached_asks, reached_end, reached_wait, reached_atoms}
 
 pub alone_start : (goals : ℕ) (job : Job) → Alone goals job (record { execution = at_start job; history = []; gens = [] }) 0
 alone_start goals job = record { reached = reached_start 1 goals job zero [] refl (omega arith); plain = tt }
@@ -56,13 +62,13 @@ plain_engine (y ∷ h) (suc k) x p below e = plain_engine h k x p.2 (omega (arit
 own_entry : (h : History) (x : Entry) → AllPlain 1 h → Contains h x → x.engine ≡ 1
 own_entry h x p c = plain_engine h c.0 x p c.1 c.2
 
-own_end : (how : How) (n : ℕ) (x : Entry)
+own_end : (how : How Tree) (n : ℕ) (x : Entry)
     → Contains (let y : Entry = record { engine = 1; kind = finish how n } in y ∷ []) x
     → x.engine ≡ 1
 own_end how n x (zero, below, e) = ap (λ z. z.engine) (sym e)
 own_end how n x (suc k, below, e) = absurd (omega (arith, below))
 
-own_either : (h : History) (how : How) (n : ℕ) (x : Entry)
+own_either : (h : History) (how : How Tree) (n : ℕ) (x : Entry)
     → AllPlain 1 h
     → Contains h x ⊎ Contains (let y : Entry = record { engine = 1; kind = finish how n } in y ∷ []) x
     → x.engine ≡ 1
@@ -81,7 +87,7 @@ begun_none place [] p = refl
 begun_none place (x ∷ h) p =
     begun_one x.kind place (beginnings_from (suc place) h) p.1 ∙ begun_none (suc place) h p.2
 
-begun_none_at_end : (place : ℕ) (h : History) (how : How) (n : ℕ)
+begun_none_at_end : (place : ℕ) (h : History) (how : How Tree) (n : ℕ)
     → AllPlain 1 h
     → beginnings_from place (h ++ record { engine = 1; kind = finish how n } ∷ []) ≡ []
 begun_none_at_end place [] how n p = refl
@@ -96,7 +102,7 @@ in_one e own = subst (λ (i : ℕ). Contains (1 ∷ []) i) (sym own) (0, omega a
 complete_alone : (p : Program) (told : Told)
     → beginnings told.history ≡ []
     → ((x : Entry) → Contains told.history x → x.engine ≡ 1)
-    → IsDone 1 (length p.words) (main_job p) zero told.history (generations_of told.generations 1)
+    → IsDone 1 (length p.words) p.slots (main_job p) zero told.history (generations_of told.generations 1)
     → IsComplete p told
 complete_alone p told none own done =
     record {
@@ -111,24 +117,38 @@ complete_alone p told none own done =
           in absurd (omega (arith, impossible.1));
     }
 
-pub alone_end : (p : Program) (seen : Seen) (n : ℕ) (ending : Ending) (how : How)
-    → Alone (length p.words) (main_job p) seen n
-    → seen.execution.activity ≡ over ending
-    → EndsSo ending how
+-- The entries and the ends of an engine that was alone to its own end, whatever this is.
+alone_done : (p : Program) (seen : Seen) (n : ℕ) (how : How Tree)
+    → AllPlain 1 seen.history
+    → IsDone 1 (length p.words) p.slots (main_job p) zero (told_at_end seen how n).history seen.gens
     → IsComplete p (told_at_end seen how n)
-alone_end p seen n ending how a is_ended so =
+alone_done p seen n how plain done =
     complete_alone
     p
     (told_at_end seen how n)
-    (begun_none_at_end zero seen.history how n a.plain)
+    (begun_none_at_end zero seen.history how n plain)
     (λ x c.
     own_either
     seen.history
     how
     n
     x
-    a.plain
+    plain
     (Contains-append_cases seen.history (record { engine = 1; kind = finish how n } ∷ []) x c))
+    done
+
+pub alone_end : (p : Program) (seen : Seen) (n : ℕ) (ending : Ending) (how : How Tree)
+    → Alone (length p.words) (main_job p) seen n
+    → seen.execution.activity ≡ over ending
+    → EndsSo ending how
+    → IsComplete p (told_at_end seen how n)
+alone_end p seen n ending how a is_ended so =
+    alone_done
+    p
+    seen
+    n
+    how
+    a.plain
     (inl (reached_end 1 (length p.words) (main_job p) zero seen n ending how a.reached is_ended so))
 
 pub alone_wait : (p : Program) (seen : Seen) (n : ℕ)
@@ -141,4 +161,38 @@ alone_wait p seen n a w =
     (told_waiting seen)
     (begun_none zero seen.history a.plain)
     (λ x c. own_entry seen.history x a.plain c)
-    (inr (reached_wait 1 (length p.words) (main_job p) zero seen n a.reached w))
+    (inr (inl (reached_wait 1 (length p.words) (main_job p) zero seen n a.reached w)))
+
+pub alone_atoms : (p : Program) (seen : Seen) (n : ℕ) (found : AtomRecord)
+    → Alone (length p.words) (main_job p) seen n
+    → IsRunning seen.execution
+    → IsTrue p.slots found
+    → IsComplete p (told_at_end seen (AtomSpace found) n)
+alone_atoms p seen n found a runs true_of =
+    alone_done
+    p
+    seen
+    n
+    (AtomSpace found)
+    a.plain
+    (inr (inr (reached_atoms 1 (length p.words) p.slots (main_job p) zero seen n found a.reached runs true_of)))
+
+-- The end that the history has of an engine that was alone.
+skips_end : (b : Bool) (k : Kind) (end : Option (How Tree))
+    → IsPlain k
+    → (if b then (elim k [ finish how n ↦ Some how | _ ↦ end ]) else end) ≡ end
+skips_end false k end plain = refl
+skips_end true (finish how n) end plain = absurd plain
+skips_end true _ end plain = refl
+
+pub alone_end_in : (h : History) (how : How Tree) (n : ℕ)
+    → AllPlain 1 h
+    → end_in (h ++ record { engine = 1; kind = finish how n } ∷ []) 1 ≡ Some how
+alone_end_in [] how n p = refl
+alone_end_in (x ∷ h) how n p =
+    skips_end (x.engine == 1) x.kind (end_in (h ++ record { engine = 1; kind = finish how n } ∷ []) 1) p.1
+    ∙ alone_end_in h how n p.2
+
+pub alone_no_end : (h : History) → AllPlain 1 h → end_in h 1 ≡ None
+alone_no_end [] p = refl
+alone_no_end (x ∷ h) p = skips_end (x.engine == 1) x.kind (end_in h 1) p.1 ∙ alone_no_end h p.2

@@ -1,6 +1,7 @@
 pub mod LawfulEntries
 pub mod LawfulStable
 pub mod Progress
+pub mod ReachedSets
 pub mod LawfulAlone
 pub mod EndsStay
 pub mod BeginningsStay

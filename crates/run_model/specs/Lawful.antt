@@ -2,14 +2,16 @@
 -- history with these generations is the whole of what a command did.
 use Rattle.std.specs.Prelude.{◌≡◌, ◌<◌, ◌≤◌, ◌⊎◌, ℕ, zero, suc, List, [], ◌∷◌, ◌++◌, map, length, Option, Some, None, slice_get, Contains, Bool, nat_le, ◌&&◌, if◌then◌else◌, ◌==◌, codes}
 use Rattle.pl_term.specs.Tree.{Chars, Tree}
+use Rattle.pl_model.specs.declared.ends.AtomRecord.{AtomRecord}
 use Rattle.pl_model.specs.declared.ends.How.{How}
-use Rattle.pl_model.specs.declared.ends.How.TheVariants.{Solved, False, Threw, Exited, Halted}
+use Rattle.pl_model.specs.declared.ends.How.TheVariants.{Solved, False, Threw, Exited, Halted, AtomSpace}
 use Rattle.pl_model.specs.History.{Kind, Entry, History, start, finish, mine}
 use Rattle.pl_model.specs.Threads.{goal_alias}
 use Rattle.pl_model.specs.SharedState.{state_at}
 use Rattle.pl_model.specs.Requests.{Request, Reply}
 use Rattle.pl_model.specs.Service.{Served, answers, waits, serve}
 use Rattle.pl_model.specs.Resolution.{Limits, Ending, solved, no_more, threw, exited, halted}
+use Rattle.run_model.specs.AtomRecords.{IsTrue}
 use Rattle.run_model.specs.Execution.{consults, runs, Job, Execution, over, Move, moves, requests, ends, at_start, move}
 
 -- Runs
@@ -77,8 +79,8 @@ pub record IsLawful (e goals : ℕ) (job : Job) (low : ℕ) (h : History) (gens 
   pub stand : AllStand e h gens (run e goals job h gens n).made
   pub mine_is : mine h e ≡ map (λ m. m.kind) (run e goals job h gens n).made ++ last
 
--- The end of an engine as the history has it.
-abbrev pub EndsSo : Ending → How → Type 0
+-- The end of an engine as the history has it. Want of atoms ends no search.
+abbrev pub EndsSo : Ending → How Tree → Type 0
 EndsSo solved Solved = Unit {0}
 EndsSo no_more False = Unit {0}
 EndsSo (threw b) (Threw c) = b ≡ c
@@ -89,7 +91,7 @@ EndsSo _ _ = ⊥
 -- After this number of moves, and not before, the engine has ended, in this way; its end is in the history.
 pub record RanToEnd (e goals : ℕ) (job : Job) (low : ℕ) (h : History) (gens : List ℕ) : Type 0 where
   pub steps : ℕ
-  pub how : How
+  pub how : How Tree
   pub ending : Ending
   pub place : ℕ
   pub entry : slice_get h place ≡ Some (record { engine = e; kind = finish how steps })
@@ -107,13 +109,30 @@ pub record WaitsAtEnd (e goals : ℕ) (job : Job) (low : ℕ) (h : History) (gen
   pub asks : move job (run e goals job h gens steps).execution ≡ requests request next
   pub waits_there : serve e request (state_at goals h (length h)) (length h) ≡ waits
 
+-- The execution has not ended.
+abbrev pub IsRunning : Execution → Type 0
+IsRunning x = (ending : Ending) → x.activity ≡ over ending → ⊥
+
+-- After this number of moves, by none of which it had ended, the engine found no place for an atom: this is no move of its
+-- own. Its end is in the history, with a true record for an atom table of so many slots.
+pub record RanOutOfAtoms (e goals slots : ℕ) (job : Job) (low : ℕ) (h : History) (gens : List ℕ) : Type 0 where
+  pub steps : ℕ
+  pub found : AtomRecord
+  pub place : ℕ
+  pub entry : slice_get h place ≡ Some (record { engine = e; kind = finish (AtomSpace found) steps })
+  pub lawful : IsLawful e goals job low h gens steps place (finish (AtomSpace found) steps ∷ [])
+  pub never_over : (k : ℕ) → k ≤ steps → IsRunning (run e goals job h gens k).execution
+  pub is_true : IsTrue slots found
+
 -- Commands
 
--- What a command runs: the bytes of its file, the words of its goals, and their limits.
+-- What a command runs: the bytes of its file, the words of its goals, their limits, and the number of slots of the table of
+-- atoms.
 pub record Program : Type 0 where
   pub bytes : List ℕ
   pub words : List Chars
   pub limits : Limits
+  pub slots : ℕ
 
 -- What is told of a run: the history, and for each engine by its number the generations of its requests.
 pub record Told : Type 0 where
@@ -164,15 +183,16 @@ started_job p b =
 abbrev pub engine_numbers : List Beginning → List ℕ
 engine_numbers bs = 1 ∷ map (λ (b : Beginning). b.engine) bs
 
--- The engine has ended, or it waits and nothing wakes it.
-abbrev pub IsDone : ℕ → ℕ → Job → ℕ → History → List ℕ → Type 0
-IsDone e goals job low h gens = RanToEnd e goals job low h gens ⊎ WaitsAtEnd e goals job low h gens
+-- The engine has ended, or it waits and nothing wakes it, or it found no place for an atom.
+abbrev pub IsDone : ℕ → ℕ → ℕ → Job → ℕ → History → List ℕ → Type 0
+IsDone e goals slots job low h gens =
+    RanToEnd e goals job low h gens ⊎ (WaitsAtEnd e goals job low h gens ⊎ RanOutOfAtoms e goals slots job low h gens)
 
 pub record IsComplete (p : Program) (told : Told) : Type 0 where
   -- nobody else makes an entry
   pub only : (x : Entry) → Contains told.history x → Contains (engine_numbers (beginnings told.history)) x.engine
-  pub main : IsDone 1 (length p.words) (main_job p) zero told.history (generations_of told.generations 1)
+  pub main : IsDone 1 (length p.words) p.slots (main_job p) zero told.history (generations_of told.generations 1)
   pub started :
       (b : Beginning)
       → Contains (beginnings told.history) b
-      → IsDone b.engine (length p.words) (started_job p b) b.low told.history (generations_of told.generations b.engine)
+      → IsDone b.engine (length p.words) p.slots (started_job p b) b.low told.history (generations_of told.generations b.engine)

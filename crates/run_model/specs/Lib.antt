@@ -1,4 +1,5 @@
 pub mod Execution
+pub mod AtomRecords
 pub mod Lawful
 pub mod Report
 pub mod Progress

@@ -1,5 +1,6 @@
 -- How far an engine has come: what holds of its run so far whatever the history gains later.
 use Rattle.std.specs.Prelude.{◌≡◌, ◌<◌, ℕ, zero, List, [], ◌∷◌, ◌++◌, map, length, Option}
+use Rattle.pl_term.specs.Tree.{Tree}
 use Rattle.pl_model.specs.declared.ends.How.{How}
 use Rattle.pl_model.specs.History.{Kind, History, finish, mine, AllPlain}
 use Rattle.pl_model.specs.Requests.{Request, Reply}
@@ -14,16 +15,21 @@ pub record Seen : Type 0 where
   pub history : History
   pub gens : List ℕ
 
+-- Where the engine's run stands after `n` moves.
+abbrev pub standing_at : ℕ → ℕ → Job → Seen → ℕ → Standing
+standing_at e goals job seen n = run e goals job seen.history seen.gens n
+
 -- The engine with the number `e`, which began at the generation `low`, has come to this state in `n` moves, in none of
 -- which it had ended, and its updates stand in the history. This is so whatever entries and generations follow.
 pub record Reached (e goals : ℕ) (job : Job) (low : ℕ) (seen : Seen) (n : ℕ) : Type 0 where
-  pub at : Standing
-  pub reaches : (later : History) (more : List ℕ) → run e goals job (seen.history ++ later) (seen.gens ++ more) n ≡ at
-  pub execution_is : at.execution ≡ seen.execution
-  pub asked : at.asked ≡ length seen.gens
+  pub reaches :
+      (later : History) (more : List ℕ)
+      → run e goals job (seen.history ++ later) (seen.gens ++ more) n ≡ standing_at e goals job seen n
+  pub execution_is : (standing_at e goals job seen n).execution ≡ seen.execution
+  pub asked : (standing_at e goals job seen n).asked ≡ length seen.gens
   pub rises : Rises low seen.gens (length seen.history)
-  pub stand : AllStand e seen.history seen.gens at.made
-  pub mine_is : mine seen.history e ≡ map (λ m. m.kind) at.made
+  pub stand : AllStand e seen.history seen.gens (standing_at e goals job seen n).made
+  pub mine_is : mine seen.history e ≡ map (λ m. m.kind) (standing_at e goals job seen n).made
   pub goes_on :
       (later : History) (more : List ℕ) (k : ℕ)
       → k < n
@@ -62,7 +68,7 @@ pub record Alone (goals : ℕ) (job : Job) (seen : Seen) (n : ℕ) : Type 0 wher
   pub plain : AllPlain 1 seen.history
 
 -- What is told where the first engine has ended after `n` moves, and where it waits, and nobody else made an entry.
-abbrev pub told_at_end : Seen → How → ℕ → Told
+abbrev pub told_at_end : Seen → How Tree → ℕ → Told
 told_at_end seen how n =
     record {
       history = seen.history ++ record { engine = 1; kind = finish how n } ∷ [];

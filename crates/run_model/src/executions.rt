@@ -1,12 +1,17 @@
 //! Laws of executions: later entries change nothing of a run, and what an engine has reached move by move is lawful at
 //! its end and where it waits.
-ghost use Rattle.std.specs.Prelude.{◌≡◌, ◌≤◌, ℕ, zero, suc, List, [], ◌∷◌, ◌++◌, length};
+ghost use Rattle.std.specs.Prelude.{◌≡◌, ◌≤◌, ℕ, zero, suc, List, [], ◌∷◌, ◌++◌, length, Option, Some, None};
+ghost use Rattle.pl_term.specs.Tree.{Tree};
+ghost use Rattle.pl_model.specs.declared.ends.AtomRecord.{AtomRecord};
 ghost use Rattle.pl_model.specs.declared.ends.How.{How};
-ghost use Rattle.pl_model.specs.History.{History, finish, mine, IsPlainUpdate};
+ghost use Rattle.pl_model.specs.declared.ends.How.TheVariants.{AtomSpace};
+ghost use Rattle.run_model.specs.AtomRecords.{IsTrue};
+ghost use Rattle.pl_model.specs.History.{History, finish, mine, IsPlainUpdate, AllPlain};
 ghost use Rattle.pl_model.specs.Resolution.{Ending};
 ghost use Rattle.run_model.specs.Execution.{Job, over, at_start};
-ghost use Rattle.run_model.specs.Lawful.{run, Rises, EndsSo, RanToEnd, WaitsAtEnd, Program, main_job, IsComplete};
+ghost use Rattle.run_model.specs.Lawful.{run, Rises, EndsSo, RanToEnd, WaitsAtEnd, IsRunning, RanOutOfAtoms, Program, main_job, IsComplete};
 ghost use Rattle.run_model.specs.Progress.{Seen, Reached, MovesTo, AsksTo, WaitsNow, Alone, told_at_end, told_waiting};
+ghost use Rattle.run_model.specs.Report.{end_in};
 
 /// Entries behind the generations of a run change nothing of it.
 #[tactic(auto, using(crate::proofs::LawfulStable::run_later))]
@@ -14,6 +19,11 @@ pub fn later_entries_change_nothing()
     ensures { (e goals : ℕ) (job : Job) (h later : History) (gens : List ℕ) (n : ℕ)
         → Rises zero gens (length h)
         → run e goals job (h ++ later) gens n ≡ run e goals job h gens n }
+{}
+
+/// There is one way at most in which an engine has reached a state.
+pub fn reached_is_a_proposition()
+    ensures { (e goals : ℕ) (job : Job) (low : ℕ) (seen : Seen) (n : ℕ) → IsProp (Reached e goals job low seen n) }
 {}
 
 /// At its beginning an engine has done nothing.
@@ -26,7 +36,6 @@ pub fn begins_reached()
 {}
 
 /// Entries of other engines change nothing of what an engine has reached.
-#[tactic(auto, using(crate::proofs::Progress::reached_later))]
 pub fn others_leave_reached()
     ensures { (e goals : ℕ) (job : Job) (low : ℕ) (seen : Seen) (n : ℕ) (later : History)
         → mine later e ≡ []
@@ -35,7 +44,6 @@ pub fn others_leave_reached()
 {}
 
 /// A move of the engine's own.
-#[tactic(auto, using(crate::proofs::Progress::reached_goes))]
 pub fn moves_reached()
     ensures { (e goals : ℕ) (job : Job) (low : ℕ) (old new : Seen) (n : ℕ)
         → MovesTo job old new
@@ -61,11 +69,21 @@ pub fn stands_at_the_execution()
 /// What has ended is lawful once its end is entered.
 #[tactic(auto, using(crate::proofs::Progress::reached_end))]
 pub fn runs_to_its_end()
-    ensures { (e goals : ℕ) (job : Job) (low : ℕ) (seen : Seen) (n : ℕ) (ending : Ending) (how : How)
+    ensures { (e goals : ℕ) (job : Job) (low : ℕ) (seen : Seen) (n : ℕ) (ending : Ending) (how : How Tree)
         → Reached e goals job low seen n
         → seen.execution.activity ≡ over ending
         → EndsSo ending how
         → RanToEnd e goals job low (seen.history ++ record { engine = e; kind = finish how n } ∷ []) seen.gens }
+{}
+
+/// An engine that found no place for an atom, whose record is true, is done once its end is entered.
+#[tactic(auto, using(crate::proofs::Progress::reached_atoms))]
+pub fn runs_out_of_atoms()
+    ensures { (e goals slots : ℕ) (job : Job) (low : ℕ) (seen : Seen) (n : ℕ) (found : AtomRecord)
+        → Reached e goals job low seen n
+        → IsRunning seen.execution
+        → IsTrue slots found
+        → RanOutOfAtoms e goals slots job low (seen.history ++ record { engine = e; kind = finish (AtomSpace found) n } ∷ []) seen.gens }
 {}
 
 /// What waits is lawful as the history stands.
@@ -83,7 +101,6 @@ pub fn begins_alone()
 {}
 
 /// The first engine stays alone by a move of its own.
-#[tactic(auto, using(crate::proofs::LawfulAlone::alone_moves))]
 pub fn moves_alone()
     ensures { (goals : ℕ) (job : Job) (old new : Seen) (n : ℕ)
         → MovesTo job old new
@@ -100,13 +117,26 @@ pub fn requests_alone()
         → Alone goals job new (suc n) }
 {}
 
+/// The end that the history has of an engine that was alone: the one entered, and none where it has not ended.
+pub fn ends_alone()
+    ensures ended { (h : History) (how : How Tree) (n : ℕ)
+        → AllPlain 1 h
+        → end_in (h ++ record { engine = 1; kind = finish how n } ∷ []) 1 ≡ Some how }
+    ensures waits { (h : History) → AllPlain 1 h → end_in h 1 ≡ None }
+{}
+
 /// What is told of an engine that was alone is complete once its end is entered, and as it stands where it waits.
 pub fn completes_alone()
-    ensures ended { (p : Program) (seen : Seen) (n : ℕ) (ending : Ending) (how : How)
+    ensures ended { (p : Program) (seen : Seen) (n : ℕ) (ending : Ending) (how : How Tree)
         → Alone (length p.words) (main_job p) seen n
         → seen.execution.activity ≡ over ending
         → EndsSo ending how
         → IsComplete p (told_at_end seen how n) }
+    ensures atoms { (p : Program) (seen : Seen) (n : ℕ) (found : AtomRecord)
+        → Alone (length p.words) (main_job p) seen n
+        → IsRunning seen.execution
+        → IsTrue p.slots found
+        → IsComplete p (told_at_end seen (AtomSpace found) n) }
     ensures waits { (p : Program) (seen : Seen) (n : ℕ)
         → Alone (length p.words) (main_job p) seen n
         → WaitsNow 1 (length p.words) (main_job p) seen
