@@ -1,16 +1,24 @@
 //! Laws of histories: what later entries leave as it was.
-ghost use Rattle.std.specs.Prelude.{◌≡◌, ℕ, List, [], ◌++◌, length, Contains, true};
+ghost use Rattle.std.specs.Prelude.{◌≡◌, ℕ, List, [], ◌++◌, length, Some, Contains, true};
+ghost use Rattle.pl_term.specs.Tree.{Tree};
+ghost use Rattle.pl_model.specs.declared.ends.How.{How};
 ghost use Rattle.pl_model.specs.History.{History, mine, has_begun};
 ghost use Rattle.run_model.specs.Execution.{Job};
-ghost use Rattle.run_model.specs.Lawful.{RanToEnd, Beginning, beginnings_from, beginnings};
+ghost use Rattle.run_model.specs.Lawful.{RanToEnd, RanOutOfAtoms, Beginning, beginnings_from, beginnings};
+ghost use Rattle.run_model.specs.Report.{end_in};
 
 /// What has ended stays so under later entries of others.
-#[tactic(auto, using(crate::proofs::EndsStay::end_stays))]
+#[tactic(auto, using(crate::proofs::EndsStay::end_stays, crate::proofs::EndsStay::atoms_end_stays, crate::proofs::EndsStay::end_in_stays))]
 pub fn ends_stay()
     ensures ran { (e goals : ℕ) (job : Job) (low : ℕ) (h later : History) (gens : List ℕ)
         → mine later e ≡ []
         → RanToEnd e goals job low h gens
         → RanToEnd e goals job low (h ++ later) gens }
+    ensures atoms { (e goals slots : ℕ) (job : Job) (low : ℕ) (h later : History) (gens : List ℕ)
+        → mine later e ≡ []
+        → RanOutOfAtoms e goals slots job low h gens
+        → RanOutOfAtoms e goals slots job low (h ++ later) gens }
+    ensures end { (h later : History) (e : ℕ) (how : How Tree) → end_in h e ≡ Some how → end_in (h ++ later) e ≡ Some how }
 {}
 
 /// What has begun stays so, and what begins later comes after it.
