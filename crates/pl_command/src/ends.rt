@@ -4,13 +4,13 @@ ghost use Rattle.pl_command.specs.Ends.{status_of};
 
 use pl_model::ends::How;
 use pl_model::syntax::SyntaxKind;
-use pl_term::Text;
+use pl_term::{Flat, Text};
 
 /// How a goal of the command ended.
 #[derive(Debug, Drop)]
 pub enum GoalHow {
     /// Its engine ended so.
-    Ended(How),
+    Ended(How<Flat>),
     /// Its engine waits, and nothing wakes it.
     Waits,
     /// Its word is no term, by the fault of this kind at this byte.
