@@ -264,13 +264,13 @@ pub end_from : {T : Type 0} (term : (ℕ → Chars) → T → Tree) (old_text ne
     → new ≡ Over
     → 1 + before ≡ after
     → Given (execution_of term) part_of term (plays_of term) (λ s. false) [] old_text new_text old how t before bytes (Done None) new t after bytes
-end_from {T} term old_text new_text how old new t before after bytes is over count =
+end_from {T} term old_text new_text how old new t before after bytes is gone count =
     subst
     (λ (s : Stage T). Given (execution_of term) part_of term (plays_of term) (λ s. false) [] old_text new_text s how t before bytes (Done None) new t after bytes)
     (sym is)
     (subst
     (λ (s : Stage T). Given (execution_of term) part_of term (plays_of term) (λ s. false) [] old_text new_text AtHand how t before bytes (Done None) s t after bytes)
-    (sym over)
+    (sym gone)
     (given_end term old_text new_text how t before after bytes count))
 
 pub stays_from : {T : Type 0} (term : (ℕ → Chars) → T → Tree) (old_text new_text : ℕ → Chars) (how : Option (How Tree)) (old : Stage T) (t : Told) (before after : ℕ) (bytes : List ℕ)

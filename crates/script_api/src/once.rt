@@ -124,12 +124,12 @@ fn take_up<T: Named + Drop, W: World<Term = T>>(
     ensures told { IsLater (W.told world.old) (W.told world.new) }
     ensures asked { W.A.asked atoms.new ≡ W.A.asked atoms.old }
 {
-    let Some(count) = moves.checked_add(1) else {
+    let Some(taken) = moves.checked_add(1) else {
         return (Stage::Fresh(goal), Next::Memory);
     };
     match world.visit(Visit::Look, atoms) {
         Answer::Served { .. } => {
-            *moves = count;
+            *moves = taken;
             (
                 Stage::AtHand,
                 Next::Item {

@@ -18,7 +18,6 @@ pub fn execution_stays()
 {}
 
 /// A move of the execution's own.
-#[tactic(auto, using(crate::proofs::ComesLaws::comes_by_move))]
 pub fn execution_moves()
     ensures { (job : Job) (x y : Execution) (t : Told) → move job x ≡ moves y → ComesIn job 1 x t y t }
 {}
@@ -43,7 +42,6 @@ pub fn execution_goes_on()
 {}
 
 /// The course of a search is a way of each execution that it is a part of.
-#[tactic(auto, using(crate::proofs::CourseRuns::course_comes))]
 pub fn search_is_a_way()
     ensures { (l : Limits) (s r : State) (t u : Told) (n : ℕ) (job : Job) (x : Execution) (part : Part)
         → limits_of job part ≡ l
