@@ -16,7 +16,7 @@ use Rattle.run_model.specs.Report.{all_consulted}
 use Rattle.atom_words.specs.declared.view.Pass.{Pass}
 use Rattle.atom_words.specs.declared.view.Cause.{Cause}
 use Rattle.atom_words.specs.declared.view.WornWord.{WornWord}
-use Rattle.world_api.specs.declared.how.How.{How}
+use Rattle.pl_model.specs.declared.ends.How.{How}
 use Rattle.script_api.specs.declared.script.Next.{Next}
 use Rattle.script_api.specs.declared.script.Next.TheVariants.{Item, Done, NeedsAtoms, Retry, Worn, Memory}
 use Rattle.script_api.specs.declared.once.Stage.{Stage}

@@ -10,7 +10,8 @@ ghost use Rattle.script_api.specs.OnceGiven.{TakenUp, moves_by};
 use crate::script::{Next, Script};
 use pl_term::{Flat, Text};
 use std::mem;
-use world_api::{Answer, How, Named, Visit, World};
+use pl_model::ends::How;
+use world_api::{Answer, Named, Visit, World};
 
 /// How far a script of one goal has come.
 #[derive(Drop)]

@@ -13,7 +13,8 @@ ghost use Rattle.script_api.specs.Scripts.{AreNames, IsAsked, IsAtHand, IsLast, 
 
 use atom_api::{Atoms, Cause, Pass, WornWord};
 use pl_term::{Flat, Text};
-use world_api::{How, Named, World};
+use pl_model::ends::How;
+use world_api::{Named, World};
 
 /// What a script has next.
 #[derive(Drop)]

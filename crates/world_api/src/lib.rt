@@ -3,7 +3,6 @@
 
 mod answer;
 pub mod courses;
-mod how;
 mod named;
 mod reply;
 mod visit;
@@ -11,7 +10,6 @@ mod world;
 
 pub use answer::{Answer, On};
 pub use atom_api::{Cause, Pass, WornWord};
-pub use how::{AtomRecord, How};
 pub use named::Named;
 pub use reply::{FlagValue, Found, Name, Reply};
 pub use visit::{Procedure, Visit};
