@@ -8,9 +8,9 @@ ghost use Rattle.script_api.specs.declared.once.Stage.TheVariants.{Fresh};
 ghost use Rattle.script_api.specs.OnceGiven.{TakenUp, moves_by};
 
 use crate::script::{Next, Script};
+use pl_model::ends::How;
 use pl_term::{Flat, Text};
 use std::mem;
-use pl_model::ends::How;
 use world_api::{Answer, Named, Visit, World};
 
 /// How far a script of one goal has come.

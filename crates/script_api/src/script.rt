@@ -12,8 +12,8 @@ ghost use Rattle.script_api.specs.Parts.{Part, of_goal};
 ghost use Rattle.script_api.specs.Scripts.{AreNames, IsAsked, IsAtHand, IsLast, IsLater, IsReplied, Given, next_refusals, next_names, is_done, texts_at};
 
 use atom_api::{Atoms, Cause, Pass, WornWord};
-use pl_term::{Flat, Text};
 use pl_model::ends::How;
+use pl_term::{Flat, Text};
 use world_api::{Named, World};
 
 /// What a script has next.

@@ -33,7 +33,6 @@ pub fn execution_asks()
 {}
 
 /// One way behind another.
-#[tactic(auto, using(crate::proofs::ComesLaws::comes_then))]
 pub fn execution_goes_on()
     ensures { (job : Job) (x y z : Execution) (t u v : Told) (n k : ℕ)
         → ComesIn job n x t y u

@@ -53,12 +53,11 @@ returns-in-Some-clause-sliced g c =
     let less = c.if-self-start.false in
     let s = c.in_ok-stopped in
     let step = subst (λ (x : Option Slice). (more : List Output) × IsStepped n u c.loop.self x r w c.step.new.self more
-    × (c.step.new.out.items ≡ c.loop.out.items ++ encode_utf8_all (written_text more))) c.in-Some.is s.ensures.stepped in
-    (
+    × (c.step.new.out.items ≡ c.loop.out.items ++ encode_utf8_all (written_text more))) c.in-Some.is s.ensures.stepped in (
       steps_of (Some c.in-Some.slice) + c.loop.invariant.0,
       (let count = c.loop.invariant.1 in let made = ap steps_of c.in-Some.is in omega (arith, count, made)),
       slice_ends c.args.n c.loop.invariant.0 m n r t u w c.args.self.now c.loop.self c.step.new.self c.args.out.now.items c.loop.out.items c.step.new.out.items walk s.ensures.spent
-    (omega (arith, low, less)) c.in-Some.slice step,
+          (omega (arith, low, less)) c.in-Some.slice step,
     )
 
 pub returns-in-Some-clause-refusals : goal.returns-in-Some-clause-refusals

@@ -1,5 +1,6 @@
 use Rattle.std.proofs.Common.{arith, refl, sym, ◌∙◌, subst, IsSome}
 use Rattle.std.specs.List.{All}
+use Rattle.world_api.specs.Texts.{text_of}
 use Rattle.script_api.specs.declared.once.Stage.{Stage}
 use Rattle.script_api.specs.Onces.{names_of}
 use Rattle.world_api.proofs.Gaining.{gains_nothing}
@@ -22,7 +23,7 @@ returns-in-Some-clause-given g c =
 
 pub returns-in_default-clause-given : goal.returns-in_default-clause-given
 returns-in_default-clause-given g c =
-    stays_from g.T.Kept.term _ _ _ _ _ _ _ _ (sym c.replace.ensures.value ∙ c.in-AtHand.is)
+    stays_from g.T.Kept.term _ (text_of (g.W.A.Atoms.held c.args.atoms.now)) _ _ _ c.args.moves.now c.args.moves.now _ (sym c.replace.ensures.value ∙ c.in-AtHand.is)
 
 pub returns-in-Fresh-clause-asked : goal.returns-in-Fresh-clause-asked
 returns-in-Fresh-clause-asked g c =
