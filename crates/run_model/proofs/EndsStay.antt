@@ -1,12 +1,11 @@
 -- What an engine's run was when it ended stays so under later entries of others.
-use Rattle.std.proofs.Common.{◌≡◌, ◌≤◌, ◌<◌, ℕ, zero, suc, List, [], ◌∷◌, ◌++◌, ◌==◌, length, map, Option, Some, Bool, true, false, refl, ap, sym, ◌∙◌, arith, subst, append-nil}
+use Rattle.std.proofs.Common.{◌≡◌, ◌≤◌, ◌<◌, ℕ, zero, List, [], ◌∷◌, ◌++◌, ◌==◌, length, map, Option, Some, Bool, true, false, ap, sym, ◌∙◌, arith, subst, append-nil}
 use Rattle.std.specs.Prelude.{if◌then◌else◌}
-use Rattle.std.specs.List.{slice_get}
 use Rattle.std.proofs.lemmas.Option.{slice_get_within}
 use Rattle.pl_term.specs.Tree.{Tree}
 use Rattle.pl_model.specs.declared.ends.How.{How}
 use Rattle.pl_model.specs.History.{Kind, History, finish, mine}
-use Rattle.run_model.specs.Execution.{Job, Execution, over}
+use Rattle.run_model.specs.Execution.{Job}
 use Rattle.run_model.specs.Lawful.{Standing, run, Rises, AllStand, IsLawful, RanToEnd, RanOutOfAtoms}
 use Rattle.run_model.specs.Report.{end_in}
 use Rattle.run_model.proofs.LawfulEntries.{slice_get_more, mine-append, rises_higher, stand_entries}

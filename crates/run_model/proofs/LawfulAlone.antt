@@ -82,12 +82,12 @@ begun_one : (k : Kind) (p : ℕ) (bs : List Beginning)
 begun_one (start n t a) p bs plain = absurd plain
 begun_one _ p bs plain = refl
 
-begun_none : (place : ℕ) (h : History) → AllPlain 1 h → beginnings_from place h ≡ []
+pub begun_none : (place : ℕ) (h : History) → AllPlain 1 h → beginnings_from place h ≡ []
 begun_none place [] p = refl
 begun_none place (x ∷ h) p =
     begun_one x.kind place (beginnings_from (suc place) h) p.1 ∙ begun_none (suc place) h p.2
 
-begun_none_at_end : (place : ℕ) (h : History) (how : How Tree) (n : ℕ)
+pub begun_none_at_end : (place : ℕ) (h : History) (how : How Tree) (n : ℕ)
     → AllPlain 1 h
     → beginnings_from place (h ++ record { engine = 1; kind = finish how n } ∷ []) ≡ []
 begun_none_at_end place [] how n p = refl

@@ -11,7 +11,7 @@ ghost use Rattle.pl_model.specs.Resolution.{Ending};
 ghost use Rattle.run_model.specs.Execution.{Job, over, at_start};
 ghost use Rattle.run_model.specs.Lawful.{run, Rises, EndsSo, RanToEnd, WaitsAtEnd, IsRunning, RanOutOfAtoms, Program, main_job, IsComplete};
 ghost use Rattle.run_model.specs.Progress.{Seen, Reached, MovesTo, AsksTo, WaitsNow, Alone, told_at_end, told_waiting};
-ghost use Rattle.run_model.specs.Report.{end_in};
+ghost use Rattle.run_model.specs.Report.{end_in, AreFinal};
 
 /// Entries behind the generations of a run change nothing of it.
 #[tactic(auto, using(crate::proofs::LawfulStable::run_later))]
@@ -141,4 +141,22 @@ pub fn completes_alone()
         → Alone (length p.words) (main_job p) seen n
         → WaitsNow 1 (length p.words) (main_job p) seen
         → IsComplete p (told_waiting seen) }
+{}
+
+/// Where an engine that was alone stands at the end of its run: it ended, waits, or found no place for an atom.
+pub fn stands_alone()
+    ensures ended { (p : Program) (seen : Seen) (n : ℕ) (ending : Ending) (how : How Tree)
+        → Alone (length p.words) (main_job p) seen n
+        → seen.execution.activity ≡ over ending
+        → EndsSo ending how
+        → AreFinal p (told_at_end seen how n) ((1, seen.execution) ∷ []) }
+    ensures atoms { (p : Program) (seen : Seen) (n : ℕ) (found : AtomRecord)
+        → Alone (length p.words) (main_job p) seen n
+        → IsRunning seen.execution
+        → IsTrue p.slots found
+        → AreFinal p (told_at_end seen (AtomSpace found) n) ((1, seen.execution) ∷ []) }
+    ensures waits { (p : Program) (seen : Seen) (n : ℕ)
+        → Alone (length p.words) (main_job p) seen n
+        → WaitsNow 1 (length p.words) (main_job p) seen
+        → AreFinal p (told_waiting seen) ((1, seen.execution) ∷ []) }
 {}
