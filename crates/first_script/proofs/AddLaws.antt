@@ -32,18 +32,19 @@ use Rattle.world_api.specs.Replies.{Says, reply_names}
 use Rattle.world_api.specs.Answers.{Visited}
 use Rattle.world_api.specs.Gains.{Gains}
 use Rattle.world_api.specs.Asked.{IsInAnswer}
-use Rattle.world_api.specs.Scripts.{IsReplied}
+use Rattle.script_api.specs.Comes.{ComesIn}
+use Rattle.script_api.specs.Scripts.{IsReplied}
 use Rattle.world_api.proofs.Gaining.{gains_weaker}
-use Rattle.world_api.proofs.ComesLaws.{comes_by_request}
+use Rattle.script_api.proofs.ComesLaws.{comes_by_request}
 use Rattle.first_script.specs.declared.stage.Stage.{Stage}
 use Rattle.first_script.specs.declared.stage.Stage.TheVariants.{Items, Clause}
 use Rattle.first_script.specs.declared.stage.Step.{Step}
 use Rattle.first_script.specs.declared.stage.Step.TheVariants.{Goes, Gives}
-use Rattle.world_api.specs.declared.script.Next.TheVariants.{Memory}
+use Rattle.script_api.specs.declared.script.Next.TheVariants.{Memory}
 use Rattle.pl_model.specs.Balls.{error_ball}
 use Rattle.pl_model.specs.Control.{consult_proc}
 use Rattle.first_script.specs.declared.adds.Added.{Added}
-use Rattle.first_script.specs.Steps.{Asked, AddedSo, IsAddition, IsAdded, added_refusals, added_names, IsItem, SameGoals, Keeps, After, Moved, next_of}
+use Rattle.first_script.specs.Steps.{Asked, AddedSo, IsAddition, IsAdded, added_refusals, added_names, IsItem, SameGoals, Keeps, After, CameAt, Moved, next_of}
 use Rattle.first_script.proofs.GrowLaws.{grows_line}
 use Rattle.first_script.proofs.StepLaws.{same_file, same_goals, gone_goals}
 
@@ -167,14 +168,16 @@ add_by : (term : Tree → Tree) (c : Consult) (clause kept : Tree) (place : ℕ)
     → kept ≡ rename zero clause
     → Asked t u (consult_clause (clause_in kept)) reply
     → ((x : Execution) → SameGoals x (clause_added x ops place (next_of c.place) reply))
+    → ((job : Job) (x y : Execution) → ComesIn job 1 x t y u → CameAt 1 step job x t y u)
     → ((job : Job) (x : Execution) → Stands c job x out → IsItem c.place
     → Keeps term step c c × After term step job c stage (clause_added x ops place (next_of c.place) reply) more)
     → Moved term c (Clause clause place ops) t out step c stage u more
-add_by term c clause kept place ops t u out more reply stage step renamed l goals after job x at =
+add_by term c clause kept place ops t u out more reply stage step renamed l goals came after job x at =
     let a = after job x at.stands at.fits.0 in (
       clause_added x ops place (next_of c.place) reply,
-      comes_by_request job x (consult_clause (clause_in kept)) (clause_added x ops place (next_of c.place)) t u l.before reply l.update
-          (adding_move job x ops place (next_of c.place) clause kept at.does (renamed ∙ at.fits.1)) l.follows l.served l.told,
+      came job x (clause_added x ops place (next_of c.place) reply)
+          (comes_by_request job x (consult_clause (clause_in kept)) (clause_added x ops place (next_of c.place)) t u l.before reply l.update
+          (adding_move job x ops place (next_of c.place) clause kept at.does (renamed ∙ at.fits.1)) l.follows l.served l.told),
       goals x,
       a.0,
       a.1,
@@ -187,6 +190,7 @@ pub add_goes : (term : Tree → Tree) (c : Consult) (clause kept : Tree) (place 
 add_goes term c clause kept place ops t u out renamed l =
     add_by term c clause kept place ops t u out out done Items Goes renamed l
     (λ x. gone_goals x x (items_from (next_of c.place)) (same_goals x))
+    (λ job x y c. c)
     (λ job x s is. (
       same_file c,
       record {
@@ -208,6 +212,7 @@ pub refuse_goes : (term : Tree → Tree) (c : Consult) (clause kept error : Tree
 refuse_goes term c clause kept error place ops t u out more renamed l put =
     add_by term c clause kept place ops t u out more (refused error) Items Goes renamed l
     (λ x. refused_goals x ops place (next_of c.place) error)
+    (λ job x y c. c)
     (λ job x s is. (
       same_file c,
       record {
@@ -224,6 +229,7 @@ pub refuse_failed : (term : Tree → Tree) (c : Consult) (clause kept error : Tr
 refuse_failed term c clause kept error place ops t u out more stage renamed l =
     add_by term c clause kept place ops t u out more (refused error) stage (Gives Memory) renamed l
     (λ x. refused_goals x ops place (next_of c.place) error)
+    (λ job x y c. (1, c))
     (λ job x s is. (tt, tt))
 
 -- What the adding names and hands on.

@@ -1,5 +1,5 @@
 -- How the script comes from the end of an item to the next.
-use Rattle.std.proofs.Common.{◌≡◌, ◌||◌, ℕ, length, List, [], ◌++◌, Option, Some, None, Bool, true, false, refl, sym, ap, ◌∙◌, subst, append-nil}
+use Rattle.std.proofs.Common.{◌≡◌, ◌+◌, ◌||◌, ℕ, length, List, [], ◌++◌, Option, Some, None, Bool, true, false, refl, sym, ap, ◌∙◌, subst, append-nil}
 use Rattle.std.specs.Prelude.{encode_utf8_all, nat_lt, if◌then◌else◌}
 use Rattle.pl_term.specs.Tree.{Chars, Tree}
 use Rattle.pl_model.specs.Resolution.{Ending, solved, no_more, threw, exited, halted, ended, State}
@@ -11,12 +11,13 @@ use Rattle.pl_consult.specs.Consults.{rest_of, activity_of, Stands}
 use Rattle.term_store.specs.NumberedNames.{term_by}
 use Rattle.world_api.specs.declared.how.How.{How}
 use Rattle.world_api.specs.declared.how.How.TheVariants.{Solved, False, Threw, Exited, Halted, AtomSpace}
-use Rattle.world_api.specs.declared.script.Next.{Next}
-use Rattle.world_api.specs.declared.script.Next.TheVariants.{Item, Done, NeedsAtoms, Retry, Worn, Memory}
+use Rattle.script_api.specs.declared.script.Next.{Next}
+use Rattle.script_api.specs.declared.script.Next.TheVariants.{Item, Done, NeedsAtoms, Retry, Worn, Memory}
 use Rattle.world_api.specs.Told.{Told}
-use Rattle.world_api.specs.Courses.{Part, of_goal, of_directive, with_search}
-use Rattle.world_api.specs.Scripts.{EndsAs, Comes, StandsBefore, StandsAfter, LeavesOff, IsWritten, IsKept, IsLast, Given, some_fault, texts_at, written_at}
-use Rattle.world_api.proofs.ComesLaws.{comes_same, comes_by_move, comes_then}
+use Rattle.script_api.specs.Parts.{Part, of_goal, of_directive, with_search}
+use Rattle.script_api.specs.Comes.{ComesBy}
+use Rattle.script_api.specs.Scripts.{EndsAs, CameBy, StandsBefore, StandsAfter, LeavesOff, IsWritten, IsKept, IsLast, Given, some_fault, texts_at, written_at}
+use Rattle.script_api.proofs.ComesLaws.{comes_same, comes_then, by_move, by_then}
 use Rattle.first_script.specs.declared.stage.Stage.{Stage}
 use Rattle.first_script.specs.declared.stage.Stage.TheVariants.{Items, Clause, Directive, AtDirective, Report, Words, Goal, AtGoal, Over, Lost}
 use Rattle.first_script.specs.declared.stage.Step.TheVariants.{Gives}
@@ -25,7 +26,7 @@ use Rattle.first_script.specs.Steps.{ending_of, IsTold, activity_in, part_of, ca
 use Rattle.first_script.specs.Words.{words_of, given_words}
 use Rattle.first_script.specs.TextLaws.{texts_none}
 use Rattle.first_script.proofs.GrowLaws.{fault_grown, first_grows}
-use Rattle.first_script.specs.FileScripts.{Begins, is_lost, execution_of, part_in, IsOf, Plays, Whole, Runs, IsGiven, AfterFile, FileMoved, is_memory}
+use Rattle.first_script.specs.FileScripts.{Begins, is_lost, execution_of, part_in, IsOf, Plays, Whole, Runs, IsGiven, AfterFile, FileRan, is_memory}
 
 -- Where a step is to be made, no item is at hand.
 part_none : (p : Place) (stage : Stage) → can_step stage ≡ true → part_of p stage ≡ None
@@ -287,17 +288,17 @@ runs_at s job cs x bytes can of is written =
     }
 
 -- From a stage at which a step is to be made.
-pub given_open : (old_text text : ℕ → Chars) (s r : FileScript) (how : Option (How Tree)) (t u : Told) (bytes more : List ℕ) (next : Next Tree)
+pub given_open : (old_text text : ℕ → Chars) (s r : FileScript) (how : Option (How Tree)) (t u : Told) (before after : ℕ) (bytes more : List ℕ) (next : Next Tree)
     → can_step s.stage ≡ true
     → (is_memory next ≡ false → r.faulty ≡ (s.faulty || nat_lt (length bytes) (length more)))
-    → FileMoved (term_by text) s.consult.name s s.stage t bytes (Gives next) r r.stage u more
+    → FileRan (term_by text) s.consult.name s s.stage t before bytes (Gives next) r r.stage u after more
     → IsGiven next r.stage
-    → Given (λ (z : ℕ → Chars). execution_of) part_in term_by (λ (z : ℕ → Chars). Plays) (λ (q : FileScript). q.faulty) s.consult.name old_text text s how t bytes next r u more
-given_open old_text text s r how t u bytes more next can grew moved given job cs searched x plays before written faulty =
+    → Given (λ (z : ℕ → Chars). execution_of) part_in term_by (λ (z : ℕ → Chars). Plays) (λ (q : FileScript). q.faulty) s.consult.name old_text text s how t before bytes next r u after more
+given_open old_text text s r how t u before after bytes more next can grew moved given job cs searched x plays stood written faulty =
     let none : part_in s ≡ None = part_none s.consult.place s.stage can in
     let is : x ≡ execution_of s job cs =
     before_none old_text s job how searched cs x
-    (subst (λ (o : Option Part). StandsBefore (λ (z : ℕ → Chars). execution_of) part_in term_by old_text s job o how searched cs x) none before) in
+    (subst (λ (o : Option Part). StandsBefore (λ (z : ℕ → Chars). execution_of) part_in term_by old_text s job o how searched cs x) none stood) in
     let there = runs_at s job cs x bytes can (plays (not_lost s.stage can)) is written in
     let k = moved job x there in
     let h : IsHandedOut text job s.consult.name (part_in s) searched next r k.0 more =
@@ -333,6 +334,18 @@ goal_move : (job : Job) (x : Execution) (st : State) (ending : Ending)
 unfolding move step
 goal_move job x st ending is = ap (λ d. searched (record x { activity = searching st }) st (step_by job.limits st d)) is
 
+-- One way after another, the last of which gives this.
+came_behind : (next : Next Tree) (job : Job) (x y z : Execution) (t u v : Told) (before middle after : ℕ)
+    → ComesBy job x t before y u middle
+    → CameBy next job y u middle z v after
+    → CameBy next job x t before z v after
+came_behind Memory job x y z t u v before middle after c d = (d.0 + c.moves, comes_then job x y z t u v c.moves d.0 c.comes d.1)
+came_behind (Item g e) job x y z t u v before middle after c d = by_then job x y z t u v before middle after c d
+came_behind (Done h) job x y z t u v before middle after c d = by_then job x y z t u v before middle after c d
+came_behind (NeedsAtoms p) job x y z t u v before middle after c d = by_then job x y z t u v before middle after c d
+came_behind (Retry q) job x y z t u v before middle after c d = by_then job x y z t u v before middle after c d
+came_behind (Worn w) job x y z t u v before middle after c d = by_then job x y z t u v before middle after c d
+
 -- From the end of a directive, which is to be reported.
 reported_runs : (s : FileScript) (job : Job) (cs : List Consulted) (place : ℕ) (h : How Tree) (st : State) (ending : Ending) (bytes : List ℕ)
     → IsOf s job.script
@@ -350,36 +363,37 @@ reported_runs s job cs place h st ending bytes of ends written =
           };
     }
 
-pub given_behind : (old_text text : ℕ → Chars) (s r : FileScript) (how : Option (How Tree)) (h : How Tree) (place : ℕ) (t u : Told) (bytes more : List ℕ) (next : Next Tree)
+pub given_behind : (old_text text : ℕ → Chars) (s r : FileScript) (how : Option (How Tree)) (h : How Tree) (place : ℕ) (t u : Told) (before middle after : ℕ) (bytes more : List ℕ) (next : Next Tree)
     → s.stage ≡ AtDirective place
     → how ≡ Some h
+    → 1 + before ≡ middle
     → (is_memory next ≡ false → r.faulty ≡ (s.faulty || nat_lt (length bytes) (length more)))
-    → FileMoved (term_by text) s.consult.name s (Report place h) t bytes (Gives next) r r.stage u more
+    → FileRan (term_by text) s.consult.name s (Report place h) t middle bytes (Gives next) r r.stage u after more
     → IsGiven next r.stage
-    → Given (λ (z : ℕ → Chars). execution_of) part_in term_by (λ (z : ℕ → Chars). Plays) (λ (q : FileScript). q.faulty) s.consult.name old_text text s how t bytes next r u more
-given_behind old_text text s r how h place t u bytes more next at told grew moved given job cs searched x plays before written faulty =
+    → Given (λ (z : ℕ → Chars). execution_of) part_in term_by (λ (z : ℕ → Chars). Plays) (λ (q : FileScript). q.faulty) s.consult.name old_text text s how t before bytes next r u after more
+given_behind old_text text s r how h place t u before middle after bytes more next at told count grew moved given job cs searched x plays stood written faulty =
     let rest : Rest = rest_of s.consult.place in
     let base : Execution = execution_of s job cs in
     let part : part_in s ≡ Some (of_directive place rest) = ap (part_of s.consult.place) at in
     let b =
     before_some old_text s job (of_directive place rest) h searched cs x
     (subst (λ (o : Option (How Tree)). StandsBefore (λ (z : ℕ → Chars). execution_of) part_in term_by old_text s job (Some (of_directive place rest)) o searched cs x) told
-    (subst (λ (o : Option Part). StandsBefore (λ (z : ℕ → Chars). execution_of) part_in term_by old_text s job o how searched cs x) part before)) in
+    (subst (λ (o : Option Part). StandsBefore (λ (z : ℕ → Chars). execution_of) part_in term_by old_text s job o how searched cs x) part stood)) in
     let st : State = b.0 in
     let ending : Ending = b.2 in
     let z : Execution = record base { activity = reporting place rest ending; consulted = cs ++ texts_of st.output } in
     let of : IsOf s job.script = plays (ap is_lost at) in
     let lines : bytes ≡ encode_utf8_all (all_consulted s.consult.name [] (cs ++ texts_of st.output)) =
     written ∙ ap (λ (y : Execution). encode_utf8_all (all_consulted s.consult.name [] (written_at y))) b.5 in
-    let there : Comes job x t z t =
-    subst (λ (y : Execution). Comes job y t z t) (sym b.5)
-    (comes_by_move job (record base { activity = directing place rest st }) z t (directive_move job base place rest st ending b.3)) in
+    let there : ComesBy job x t before z t middle =
+    subst (λ (y : Execution). ComesBy job y t before z t middle) (sym b.5)
+    (by_move job (record base { activity = directing place rest st }) z t before middle (directive_move job base place rest st ending b.3) count) in
     let k = moved job z (reported_runs s job cs place h st ending bytes of b.4 lines) in
     let out : IsHandedOut text job s.consult.name (part_in s) searched next r k.0 more =
     handed_out text job s.consult.name (part_in s) searched next r k.0 more k.3 given (λ e. let no : ⊥ = cc in no) in (
       k.0.consulted,
       k.0,
-      comes_then job x z k.0 t t u there k.1,
+      came_behind next job x z k.0 t t u before middle after there k.1,
       out.stands,
       out.plays,
       out.lines,
@@ -388,26 +402,27 @@ given_behind old_text text s r how h place t u bytes more next at told grew move
     )
 
 -- From the end of the goal.
-goal_ends : (old_text text : ℕ → Chars) (s r : FileScript) (how : Option (How Tree)) (h : How Tree) (t : Told) (bytes : List ℕ)
+goal_ends : (old_text text : ℕ → Chars) (s r : FileScript) (how : Option (How Tree)) (h : How Tree) (t : Told) (before after : ℕ) (bytes : List ℕ)
     → s.stage ≡ AtGoal
     → how ≡ Some h
     → r ≡ record s { stage = Over }
-    → Given (λ (z : ℕ → Chars). execution_of) part_in term_by (λ (z : ℕ → Chars). Plays) (λ (q : FileScript). q.faulty) s.consult.name old_text text s how t bytes (Done None) r t bytes
-goal_ends old_text text s r how h t bytes at told over_is job cs searched x plays before written faulty =
+    → 1 + before ≡ after
+    → Given (λ (z : ℕ → Chars). execution_of) part_in term_by (λ (z : ℕ → Chars). Plays) (λ (q : FileScript). q.faulty) s.consult.name old_text text s how t before bytes (Done None) r t after bytes
+goal_ends old_text text s r how h t before after bytes at told over_is count job cs searched x plays stood written faulty =
     let base : Execution = execution_of s job cs in
     let part : part_in s ≡ Some of_goal = ap (part_of s.consult.place) at in
     let b =
     before_some old_text s job of_goal h searched cs x
     (subst (λ (o : Option (How Tree)). StandsBefore (λ (z : ℕ → Chars). execution_of) part_in term_by old_text s job (Some of_goal) o searched cs x) told
-    (subst (λ (o : Option Part). StandsBefore (λ (z : ℕ → Chars). execution_of) part_in term_by old_text s job o how searched cs x) part before)) in
+    (subst (λ (o : Option Part). StandsBefore (λ (z : ℕ → Chars). execution_of) part_in term_by old_text s job o how searched cs x) part stood)) in
     let st : State = b.0 in
     let ending : Ending = b.2 in
     let y : Execution = record base { activity = over ending; output = st.output } in
     let of : IsOf s job.script = plays (ap is_lost at) in (
       cs,
       y,
-      subst (λ (z : Execution). Comes job z t y t) (sym b.5)
-          (comes_by_move job (record base { activity = searching st }) y t (goal_move job base st ending b.3)),
+      subst (λ (z : Execution). ComesBy job z t before y t after) (sym b.5)
+          (by_move job (record base { activity = searching st }) y t before after (goal_move job base st ending b.3) count),
       (
         ending,
         st.output,
@@ -422,20 +437,21 @@ goal_ends old_text text s r how h t bytes at told over_is job cs searched x play
       sym (ap (λ (z : Execution). some_fault (written_at z)) b.5 ∙ ap some_fault (append-nil cs)) ∙ faulty ∙ sym (ap (λ (q : FileScript). q.faulty) over_is),
     )
 
-no_end : (old_text text : ℕ → Chars) (s r : FileScript) (t : Told) (bytes : List ℕ)
+no_end : (old_text text : ℕ → Chars) (s r : FileScript) (t : Told) (before after : ℕ) (bytes : List ℕ)
     → s.stage ≡ AtGoal
-    → Given (λ (z : ℕ → Chars). execution_of) part_in term_by (λ (z : ℕ → Chars). Plays) (λ (q : FileScript). q.faulty) s.consult.name old_text text s None t bytes (Done None) r t bytes
-no_end old_text text s r t bytes at job cs searched x plays before written faulty =
+    → Given (λ (z : ℕ → Chars). execution_of) part_in term_by (λ (z : ℕ → Chars). Plays) (λ (q : FileScript). q.faulty) s.consult.name old_text text s None t before bytes (Done None) r t after bytes
+no_end old_text text s r t before after bytes at job cs searched x plays stood written faulty =
     let part : part_in s ≡ Some of_goal = ap (part_of s.consult.place) at in
     absurd
-    (subst (λ (o : Option Part). StandsBefore (λ (z : ℕ → Chars). execution_of) part_in term_by old_text s job o None searched cs x) part before)
+    (subst (λ (o : Option Part). StandsBefore (λ (z : ℕ → Chars). execution_of) part_in term_by old_text s job o None searched cs x) part stood)
 
-pub given_end : (old_text text : ℕ → Chars) (s r : FileScript) (how : Option (How Tree)) (t : Told) (bytes : List ℕ)
+pub given_end : (old_text text : ℕ → Chars) (s r : FileScript) (how : Option (How Tree)) (t : Told) (before after : ℕ) (bytes : List ℕ)
     → s.stage ≡ AtGoal
     → r ≡ record s { stage = Over }
-    → Given (λ (z : ℕ → Chars). execution_of) part_in term_by (λ (z : ℕ → Chars). Plays) (λ (q : FileScript). q.faulty) s.consult.name old_text text s how t bytes (Done None) r t bytes
-given_end old_text text s r None t bytes at over_is = no_end old_text text s r t bytes at
-given_end old_text text s r (Some h) t bytes at over_is = goal_ends old_text text s r (Some h) h t bytes at refl over_is
+    → 1 + before ≡ after
+    → Given (λ (z : ℕ → Chars). execution_of) part_in term_by (λ (z : ℕ → Chars). Plays) (λ (q : FileScript). q.faulty) s.consult.name old_text text s how t before bytes (Done None) r t after bytes
+given_end old_text text s r None t before after bytes at over_is count = no_end old_text text s r t before after bytes at
+given_end old_text text s r (Some h) t before after bytes at over_is count = goal_ends old_text text s r (Some h) h t before after bytes at refl over_is count
 
 -- The script is lost for want of memory.
 pub lost_last : (p : Option Part) → IsLast {T = Tree} p Memory
@@ -443,13 +459,13 @@ lost_last None = tt
 lost_last (Some of_goal) = tt
 lost_last (Some (of_directive place rest)) = tt
 
-pub given_lost : (old_text text : ℕ → Chars) (s r : FileScript) (how : Option (How Tree)) (t : Told) (bytes : List ℕ)
+pub given_lost : (old_text text : ℕ → Chars) (s r : FileScript) (how : Option (How Tree)) (t : Told) (before after : ℕ) (bytes : List ℕ)
     → r.stage ≡ Lost
-    → Given (λ (z : ℕ → Chars). execution_of) part_in term_by (λ (z : ℕ → Chars). Plays) (λ (q : FileScript). q.faulty) s.consult.name old_text text s how t bytes Memory r t bytes
-given_lost old_text text s r how t bytes lost job cs searched x plays before written faulty = (
+    → Given (λ (z : ℕ → Chars). execution_of) part_in term_by (λ (z : ℕ → Chars). Plays) (λ (q : FileScript). q.faulty) s.consult.name old_text text s how t before bytes Memory r t after bytes
+given_lost old_text text s r how t before after bytes lost job cs searched x plays stood written faulty = (
   cs,
   x,
-  comes_same job x x t refl,
+  (0, comes_same job x x t refl),
   tt,
   λ runs. absurd (let e : is_lost r.stage ≡ true = ap is_lost lost in let no : ⊥ = cc in no),
   tt,

@@ -8,7 +8,7 @@ use Rattle.pl_report.proofs.AddsLemmas.{ascii_bytes}
 use Rattle.pl_term.specs.Tree.{Chars}
 use Rattle.run_model.specs.Execution.{Script, consults, runs, first_execution, most_bytes, Execution, Consulted, wrote, too_large, syntax_fault, ball_of_item, directive_failed, directive_halted}
 use Rattle.run_model.specs.Report.{newline, is_open, closed, with_line, with_consulted, all_consulted}
-use Rattle.world_api.specs.Scripts.{is_fault, some_fault}
+use Rattle.script_api.specs.Scripts.{is_fault, some_fault}
 use Rattle.first_script.specs.Steps.{AreFaults, Grows}
 
 pub grows_none : (cs : List Consulted) → Grows cs cs

@@ -19,10 +19,10 @@ use Rattle.world_api.specs.Visits.{clause_in}
 use Rattle.world_api.specs.Told.{Told}
 use Rattle.world_api.specs.Gains.{Gains}
 use Rattle.world_api.specs.Asked.{texts_in}
-use Rattle.world_api.specs.Courses.{of_goal}
-use Rattle.world_api.specs.Scripts.{IsLater, IsReplied}
+use Rattle.script_api.specs.Parts.{of_goal}
+use Rattle.script_api.specs.Scripts.{IsLater, IsReplied}
 use Rattle.world_api.proofs.Gaining.{gains_then, gains_weaker}
-use Rattle.world_api.proofs.LaterLaws.{nothing_in, later_same, replied_later}
+use Rattle.script_api.proofs.LaterLaws.{nothing_in, later_same, replied_later}
 use Rattle.first_script.specs.declared.stage.Stage.{Stage}
 use Rattle.first_script.specs.declared.stage.Stage.TheVariants.{Items, Clause, Directive, AtDirective, Report, Words, Goal, AtGoal, Over, Lost}
 use Rattle.first_script.specs.declared.file_script.FileScript.{FileScript}

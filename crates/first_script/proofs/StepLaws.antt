@@ -25,21 +25,21 @@ use Rattle.pl_model.specs.Control.{start, consult_proc}
 use Rattle.pl_model.specs.Resolution.{Ending, solved, no_more, threw, exited, halted}
 use Rattle.world_api.specs.declared.how.How.{How}
 use Rattle.world_api.specs.declared.how.How.TheVariants.{Solved, False, Threw, Exited, Halted, AtomSpace}
-use Rattle.world_api.specs.declared.script.Next.{Next}
-use Rattle.world_api.specs.declared.script.Next.TheVariants.{Item, Done, NeedsAtoms, Retry, Worn, Memory}
+use Rattle.script_api.specs.declared.script.Next.{Next}
+use Rattle.script_api.specs.declared.script.Next.TheVariants.{Item, Done, NeedsAtoms, Retry, Worn, Memory}
 use Rattle.world_api.specs.Told.{Told}
-use Rattle.world_api.specs.Courses.{of_goal, of_directive}
-use Rattle.world_api.specs.Scripts.{Comes}
-use Rattle.world_api.proofs.ComesLaws.{comes_same, comes_by_move, comes_by_request}
+use Rattle.script_api.specs.Parts.{of_goal, of_directive}
+use Rattle.script_api.specs.Comes.{ComesIn}
+use Rattle.script_api.proofs.ComesLaws.{comes_same, comes_by_move, comes_by_request}
 use Rattle.first_script.proofs.GrowLaws.{grows_none, grows_line}
 use Rattle.first_script.specs.declared.stage.Stage.{Stage}
 use Rattle.first_script.specs.declared.stage.Stage.TheVariants.{Items, Directive, AtDirective, Report, Goal, AtGoal, Over}
 use Rattle.first_script.specs.declared.stage.Step.{Step}
 use Rattle.first_script.specs.declared.stage.Step.TheVariants.{Goes, Gives}
-use Rattle.first_script.specs.Steps.{IsStay, Looked, can_step, IsAfter, activity_in, Fits, SameGoals, SameFile, part_of, After, Keeps, Moved, stage_by, stage_for, IsQuiet, step_names, step_refusals, IsTold, ending_of, written_of, status_of}
+use Rattle.first_script.specs.Steps.{IsStay, Looked, can_step, IsAfter, activity_in, Fits, SameGoals, SameFile, part_of, After, CameAt, Keeps, Moved, stage_by, stage_for, IsQuiet, step_names, step_refusals, IsTold, ending_of, written_of, status_of}
 
-comes_still : (job : Job) (x : Execution) (t u : Told) → u ≡ t → Comes job x t x u
-comes_still job x t u same = subst (λ (v : Told). Comes job x t x v) (sym same) (comes_same job x x t refl)
+comes_still : (job : Job) (x : Execution) (t u : Told) → u ≡ t → ComesIn job 0 x t x u
+comes_still job x t u same = subst (λ (v : Told). ComesIn job 0 x t x v) (sym same) (comes_same job x x t refl)
 
 pub same_goals : (x : Execution) → SameGoals x x
 same_goals x = record { words = refl; refusals = refl; output = refl; lines = grows_none x.consulted }
@@ -58,7 +58,7 @@ stayed term c stage t u out (Done h) stays same whole job x at = absurd stays
 stayed term c stage t u out (NeedsAtoms p) stays same whole job x at = (x, comes_still job x t u same, same_goals x, same_file c, (at, whole))
 stayed term c stage t u out (Retry r) stays same whole job x at = (x, comes_still job x t u same, same_goals x, same_file c, (at, whole))
 stayed term c stage t u out (Worn w) stays same whole job x at = (x, comes_still job x t u same, same_goals x, same_file c, (at, whole))
-stayed term c stage t u out Memory stays same whole job x at = (x, comes_still job x t u same, same_goals x, tt, tt)
+stayed term c stage t u out Memory stays same whole job x at = (x, (0, comes_still job x t u same), same_goals x, tt, tt)
 
 -- What an item changes of the goals of the command: nothing.
 pub gone_goals : (x y : Execution) (r : Rest) → SameGoals x y → SameGoals x (gone_on y r)
@@ -121,8 +121,11 @@ pub item_failed : (term : Tree → Tree) (c d : Consult) (at : ℕ) (ops : Opera
     → Moved term c Items t out (Gives Memory) d stage u more
 item_failed term c d at ops quotes stage t u out more place l job x here = (
   item_taken job x at (standing ops quotes),
-  comes_by_request job x look (item_taken job x at) t u l.before (standing ops quotes) l.update
-      (taking_move job x at (here.does ∙ ap activity_of place)) l.follows l.served l.told,
+  (
+    1,
+    comes_by_request job x look (item_taken job x at) t u l.before (standing ops quotes) l.update
+        (taking_move job x at (here.does ∙ ap activity_of place)) l.follows l.served l.told,
+  ),
   item_goals job x ops at (item_of (bytes_in job.script) at ops quotes),
   tt,
   tt,
@@ -204,7 +207,7 @@ initial_moved term c d g t out place next job x at =
 
 pub initial_failed : (term : Tree → Tree) (c d : Consult) (stage : Stage) (t : Told) (out : List ℕ)
     → Moved term c Items t out (Gives Memory) d stage t out
-initial_failed term c d stage t out job x at = (x, comes_same job x x t refl, same_goals x, tt, tt)
+initial_failed term c d stage t out job x at = (x, (0, comes_same job x x t refl), same_goals x, tt, tt)
 
 -- The end of a directive.
 report_move : (job : Job) (x : Execution) (place : ℕ) (rest : Rest) (how : Ending)
@@ -222,15 +225,17 @@ reported_goals x place rest (halted n) ops = record { words = refl; refusals = r
 
 report_by : (term : Tree → Tree) (c : Consult) (place : ℕ) (how : How Tree) (ops : OperatorTable) (quotes : Quotes) (t u : Told) (out more : List ℕ) (stage : Stage) (step : Step)
     → Looked t u ops quotes
+    → ((job : Job) (x y : Execution) → ComesIn job 1 x t y u → CameAt 1 step job x t y u)
     → ((job : Job) (x : Execution) → Stands c job x out → IsTold how
     → Keeps term step c c × After term step job c stage (reported x place (rest_of c.place) (ending_of how) ops) more)
     → Moved term c (Report place how) t out step c stage u more
-report_by term c place how ops quotes t u out more stage step l after job x at =
+report_by term c place how ops quotes t u out more stage step l came after job x at =
     let y : Execution = reported x place (rest_of c.place) (ending_of how) ops in
     let a = after job x at.stands at.fits in (
       y,
-      comes_by_request job x look (directive_ended x place (rest_of c.place) (ending_of how)) t u l.before (standing ops quotes) l.update
-          (report_move job x place (rest_of c.place) (ending_of how) at.does) l.follows l.served l.told,
+      came job x y
+          (comes_by_request job x look (directive_ended x place (rest_of c.place) (ending_of how)) t u l.before (standing ops quotes) l.update
+          (report_move job x place (rest_of c.place) (ending_of how) at.does) l.follows l.served l.told),
       reported_goals x place (rest_of c.place) (ending_of how) ops,
       a.0,
       a.1,
@@ -272,6 +277,7 @@ pub report_goes : (term : Tree → Tree) (c : Consult) (place : ℕ) (how : How 
     → Moved term c (Report place how) t out Goes c Items u more
 report_goes term c place how ops quotes t u out more l none put =
     report_by term c place how ops quotes t u out more Items Goes l
+    (λ job x y c. c)
     (λ job x s told. (
       same_file c,
       record {
@@ -288,6 +294,7 @@ pub report_halts : (term : Tree → Tree) (c : Consult) (place : ℕ) (how : How
     → Moved term c (Report place how) t out (Gives (Done (Some n))) c Over u more
 report_halts term c place how ops quotes t u out more n l is put =
     report_by term c place how ops quotes t u out more Over (Gives (Done (Some n))) l
+    (λ job x y c. c)
     (λ job x s told. (
       same_file c,
       (halted_does x place (rest_of c.place) how ops n is, refl, put job x (ending_of how) s (told_ends how told)),
@@ -297,7 +304,7 @@ pub report_failed : (term : Tree → Tree) (c : Consult) (place : ℕ) (how : Ho
     → Looked t u ops quotes
     → Moved term c (Report place how) t out (Gives Memory) c stage u more
 report_failed term c place how ops quotes t u out more stage l =
-    report_by term c place how ops quotes t u out more stage (Gives Memory) l (λ job x s told. (tt, tt))
+    report_by term c place how ops quotes t u out more stage (Gives Memory) l (λ job x y c. (1, c)) (λ job x s told. (tt, tt))
 
 pub quiet_names : (P : ℕ → Type 0) (names : Tree → List ℕ) (s : Step) → IsQuiet s → All P (step_names names s)
 quiet_names P names Goes q = All-nil P

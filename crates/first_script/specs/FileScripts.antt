@@ -5,17 +5,18 @@ use Rattle.run_model.specs.Execution.{Script, consults, Job, Consulted, Executio
 use Rattle.run_model.specs.Report.{all_consulted}
 use Rattle.pl_consult.specs.declared.consult.Consult.{Consult}
 use Rattle.world_api.specs.declared.how.How.{How}
-use Rattle.world_api.specs.declared.script.Next.{Next}
-use Rattle.world_api.specs.declared.script.Next.TheVariants.{Memory}
+use Rattle.script_api.specs.declared.script.Next.{Next}
+use Rattle.script_api.specs.declared.script.Next.TheVariants.{Memory}
 use Rattle.world_api.specs.Told.{Told}
-use Rattle.world_api.specs.Courses.{Part}
-use Rattle.world_api.specs.Scripts.{Comes, some_fault}
+use Rattle.script_api.specs.Parts.{Part}
+use Rattle.script_api.specs.Comes.{ComesBy}
+use Rattle.script_api.specs.Scripts.{CameBy, some_fault}
 use Rattle.first_script.specs.declared.stage.Stage.{Stage}
 use Rattle.first_script.specs.declared.stage.Stage.TheVariants.{Report, Over, Lost}
 use Rattle.first_script.specs.declared.stage.Step.{Step}
-use Rattle.first_script.specs.declared.stage.Step.TheVariants.{Gives}
+use Rattle.first_script.specs.declared.stage.Step.TheVariants.{Goes, Gives}
 use Rattle.first_script.specs.declared.file_script.FileScript.{FileScript}
-use Rattle.first_script.specs.Steps.{activity_in, part_of, Fits, At, After, IsAfter, Grows}
+use Rattle.first_script.specs.Steps.{activity_in, part_of, moves_at, CameAt, Fits, At, After, IsAfter, Grows}
 use Rattle.first_script.specs.declared.words.GoalWord.{GoalWord}
 use Rattle.first_script.specs.Words.{words_of, given_words}
 
@@ -95,15 +96,27 @@ abbrev pub IsGiven : Next Tree → Stage → Type 0
 IsGiven Memory stage = stage ≡ Lost
 IsGiven next stage = IsAfter (Gives next) stage
 
+-- The execution comes so far, and as many moves were counted. After want of memory it is not told how many they are.
+abbrev pub CameByStep : Step → Job → Execution → Told → ℕ → Execution → Told → ℕ → Type 0
+CameByStep Goes job x t before y u after = ComesBy job x t before y u after
+CameByStep (Gives next) job x t before y u after = CameBy next job x t before y u after
+
 module _ (term : Tree → Tree) where
   -- The execution behind steps.
   abbrev pub AfterFile : Step → Job → Chars → FileScript → Stage → Execution → List ℕ → Type 0
   AfterFile (Gives Memory) job name s stage y out = Unit {0}
   AfterFile step job name s stage y out = Whole job name s y × After term step job s.consult stage y out
 
-  -- Whatever execution of whatever job the script stands for, it comes to one for which the script stands then.
+  -- Whatever execution of whatever job the script stands for, it comes by this step to one for which the script stands then.
   abbrev pub FileMoved : Chars → FileScript → Stage → Told → List ℕ → Step → FileScript → Stage → Told → List ℕ → Type 0
   FileMoved name s stage t out step r then u more =
       (job : Job) (x : Execution)
       → Runs job name s stage x out
-      → (y : Execution) × Comes job x t y u × Grows x.consulted y.consulted × AfterFile step job name r then y more
+      → (y : Execution) × CameAt (moves_at stage) step job x t y u × Grows x.consulted y.consulted × AfterFile step job name r then y more
+
+  -- And by steps, the last of which gives this, while the count of moves rises from `before` to `after`.
+  abbrev pub FileRan : Chars → FileScript → Stage → Told → ℕ → List ℕ → Step → FileScript → Stage → Told → ℕ → List ℕ → Type 0
+  FileRan name s stage t before out step r then u after more =
+      (job : Job) (x : Execution)
+      → Runs job name s stage x out
+      → (y : Execution) × CameByStep step job x t before y u after × Grows x.consulted y.consulted × AfterFile step job name r then y more

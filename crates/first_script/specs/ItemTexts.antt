@@ -14,7 +14,7 @@ use Rattle.pl_consult.specs.Checks.{kept_clause}
 use Rattle.pl_consult.specs.Taking.{IsReadAt}
 use Rattle.world_api.specs.Told.{Told}
 use Rattle.world_api.specs.Asked.{texts_in}
-use Rattle.world_api.specs.Scripts.{IsReplied}
+use Rattle.script_api.specs.Scripts.{IsReplied}
 use Rattle.first_script.specs.declared.stage.Stage.{Stage}
 use Rattle.first_script.specs.declared.stage.Stage.TheVariants.{Clause, Directive, Goal}
 

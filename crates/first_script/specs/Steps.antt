@@ -1,5 +1,5 @@
 -- What a step of the script is of an execution.
-use Rattle.std.specs.Prelude.{◌≡◌, ℕ, zero, List, [], ◌∷◌, ◌++◌, length, Option, Some, None, Bool, true, false}
+use Rattle.std.specs.Prelude.{◌≡◌, ◌+◌, ℕ, zero, List, [], ◌∷◌, ◌++◌, length, Option, Some, None, Bool, true, false}
 use Rattle.pl_term.specs.Tree.{Tree}
 use Rattle.pl_term.specs.Variables.{rename}
 use Rattle.pl_model.specs.declared.grammar.Quotes.{Quotes}
@@ -23,8 +23,8 @@ use Rattle.pl_report.specs.declared.parts.How.TheVariants as written
 use Rattle.atom_words.specs.declared.view.Refusal.{Refusal}
 use Rattle.world_api.specs.declared.how.How.{How}
 use Rattle.world_api.specs.declared.how.How.TheVariants.{Solved, False, Threw, Exited, Halted, AtomSpace}
-use Rattle.world_api.specs.declared.script.Next.{Next}
-use Rattle.world_api.specs.declared.script.Next.TheVariants.{Item, Done, Memory}
+use Rattle.script_api.specs.declared.script.Next.{Next}
+use Rattle.script_api.specs.declared.script.Next.TheVariants.{Item, Done, Memory}
 use Rattle.world_api.specs.declared.reply.Reply.{Reply}
 use Rattle.world_api.specs.declared.reply.Reply.TheVariants.{Standing as ReplyStanding, Done as ReplyDone, Refused as ReplyRefused}
 use Rattle.world_api.specs.Visits.{clause_in}
@@ -32,8 +32,9 @@ use Rattle.first_script.specs.declared.adds.Added.{Added}
 use Rattle.first_script.specs.declared.adds.Added.TheVariants.{Done as AddedDone, Refused as AddedRefused, Stays as AddedStays}
 use Rattle.world_api.specs.Told.{Told, Follows}
 use Rattle.world_api.specs.Answers.{seen_as}
-use Rattle.world_api.specs.Courses.{Part, of_goal, of_directive, limits_of}
-use Rattle.world_api.specs.Scripts.{Comes, next_refusals, next_names, is_directive, is_fault}
+use Rattle.script_api.specs.Parts.{Part, of_goal, of_directive, limits_of}
+use Rattle.script_api.specs.Comes.{ComesIn}
+use Rattle.script_api.specs.Scripts.{next_refusals, next_names, is_directive, is_fault}
 use Rattle.first_script.specs.declared.stage.Stage.{Stage}
 use Rattle.first_script.specs.declared.stage.Stage.TheVariants.{Items, Clause, Directive, AtDirective, Report, Words, Goal, AtGoal, Over, Lost}
 use Rattle.first_script.specs.declared.stage.Step.{Step}
@@ -253,6 +254,34 @@ abbrev pub searching_in : Part → State → Activity
 searching_in of_goal s = searching s
 searching_in (of_directive place rest) s = directing place rest s
 
+-- How many moves a step from this stage makes, where one makes any.
+abbrev pub moves_at : Stage → ℕ
+moves_at Words = 2
+moves_at stage = 1
+
+-- How many of these a step makes that gives this: all, or none where the script stays where it is or hands on its goal.
+abbrev pub moves_in : ℕ → Step → ℕ
+moves_in n Goes = n
+moves_in n (Gives (Done h)) = n
+moves_in n (Gives next) = 0
+
+-- The execution comes so far by the moves of a step. After want of memory it is not told how many they are.
+abbrev pub CameAt : ℕ → Step → Job → Execution → Told → Execution → Told → Type 0
+CameAt n (Gives Memory) job x t y u = (k : ℕ) × ComesIn job k x t y u
+CameAt n step job x t y u = ComesIn job (moves_in n step) x t y u
+
+-- The step makes moves, or there was no memory for it.
+abbrev pub MakesMoves : Step → Type 0
+MakesMoves Goes = Unit {0}
+MakesMoves (Gives (Done h)) = Unit {0}
+MakesMoves (Gives Memory) = Unit {0}
+MakesMoves (Gives next) = ⊥
+
+-- The moves of the step are counted, or there are too many to count, which is want of memory.
+abbrev pub IsCounted : ℕ → Step → Step → ℕ → ℕ → Type 0
+IsCounted n step (Gives Memory) before after = MakesMoves step
+IsCounted n step counted before after = (counted ≡ step) × (moves_in n step + before ≡ after)
+
 -- The file is the same.
 pub record SameFile (c d : Consult) : Type 0 where
   pub name : d.name ≡ c.name
@@ -280,4 +309,4 @@ module _ (term : Tree → Tree) where
   Moved c stage t out step d then u more =
       (job : Job) (x : Execution)
       → At job c stage x out
-      → (y : Execution) × Comes job x t y u × SameGoals x y × Keeps step c d × After step job d then y more
+      → (y : Execution) × CameAt (moves_at stage) step job x t y u × SameGoals x y × Keeps step c d × After step job d then y more

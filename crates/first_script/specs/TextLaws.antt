@@ -1,5 +1,5 @@
--- No text of a directive waits for its report where a script stands.
-use Rattle.std.specs.Prelude.{◌≡◌, ℕ, ◌+◌, ◌^◌, [], ◌∷◌, Bool, true, false, Result, Ok, Err, nat_lt, if◌then◌else◌}
+-- No text of a directive waits for its report where a script stands, and the names that it tells are those of its goal.
+use Rattle.std.specs.Prelude.{◌≡◌, ℕ, ◌+◌, ◌^◌, [], ◌∷◌, Bool, true, false, Option, Some, None, Result, Ok, Err, nat_lt, if◌then◌else◌}
 use Rattle.std.proofs.Common.{ap, refl}
 use Rattle.pl_term.specs.Tree.{Tree}
 use Rattle.pl_model.specs.History.{Proc}
@@ -11,10 +11,13 @@ use Rattle.pl_model.specs.Control.{start, start_state, start_node, consult_proc,
 use Rattle.run_model.specs.Execution.{Job, directive_limits, texts_of}
 use Rattle.pl_consult.specs.declared.consult.Place.{Place}
 use Rattle.pl_consult.specs.declared.consult.Place.TheVariants.{Item, Initialization}
-use Rattle.world_api.specs.Scripts.{texts_at}
+use Rattle.script_api.specs.Scripts.{AreNames, texts_at}
 use Rattle.first_script.specs.declared.stage.Stage.{Stage}
 use Rattle.first_script.specs.declared.stage.Stage.TheVariants.{Items, Clause, Directive, AtDirective, Report, Words, Goal, AtGoal, Over, Lost}
+use Rattle.first_script.specs.declared.words.GoalWord.{GoalWord}
+use Rattle.first_script.specs.declared.words.GoalWord.TheVariants.{Goal as Asks, Faulty}
 use Rattle.first_script.specs.Steps.{activity_in}
+use Rattle.first_script.specs.Words.{names_by, words_of}
 
 -- A search has written nothing before its first step.
 either_output : (b : Bool) (r s : State) → r.output ≡ [] → s.output ≡ [] → (if b then r else s).output ≡ []
@@ -56,3 +59,9 @@ texts_none job p (Goal g) = refl
 texts_none job p AtGoal = refl
 texts_none job p Over = refl
 texts_none job p Lost = refl
+
+-- The names that are told are those of the variables of the goal.
+pub names_told : (read : Option GoalWord) → AreNames (names_by read) (words_of read)
+names_told None = refl
+names_told (Some (Asks t names)) = refl
+names_told (Some (Faulty f)) = refl

@@ -3,7 +3,7 @@ use Rattle.std.specs.Prelude.{◌≡◌, ◌⊎◌, ℕ, List, [], ◌∷◌, Op
 use Rattle.pl_term.specs.Tree.{Chars}
 use Rattle.run_model.specs.Execution.{Word, goal_word, faulty_word}
 use Rattle.pl_model.specs.declared.syntax.SyntaxFault.{SyntaxFault}
-use Rattle.world_api.specs.declared.script.Next.TheVariants.{Done, Memory}
+use Rattle.script_api.specs.declared.script.Next.TheVariants.{Done, Memory}
 use Rattle.first_script.specs.declared.stage.Stage.{Stage}
 use Rattle.first_script.specs.declared.stage.Stage.TheVariants.{Goal as ToGive, Over}
 use Rattle.first_script.specs.declared.stage.Step.{Step}
@@ -25,11 +25,14 @@ abbrev pub words_of : Option GoalWord → List Word
 words_of None = []
 words_of (Some w) = word_of w ∷ []
 
--- These are the names of the variables of the first goal.
-abbrev pub AreNames : List (Chars × ℕ) → List Word → Type 0
-AreNames names [] = names ≡ []
-AreNames names (goal_word t own ∷ ws) = names ≡ own
-AreNames names (faulty_word kind at ∷ ws) = names ≡ []
+-- The names of the variables of the goal, once its word is read.
+abbrev pub names_in : GoalWord → List (Chars × ℕ)
+names_in (Goal t names) = names.items
+names_in (Faulty f) = []
+
+abbrev pub names_by : Option GoalWord → List (Chars × ℕ)
+names_by None = []
+names_by (Some w) = names_in w
 
 -- This is the fault of the only word, or no word has one.
 abbrev pub IsFault : Option SyntaxFault → List Word → Type 0

@@ -10,7 +10,7 @@ ghost use Rattle.world_api.specs.Texts.{text_of, Holds};
 ghost use Rattle.world_api.specs.Told.{Told, has_ended};
 ghost use Rattle.world_api.specs.Visits.{clause_in};
 ghost use Rattle.world_api.specs.Gains.{Gains};
-ghost use Rattle.world_api.specs.Scripts.{IsLater, IsReplied};
+ghost use Rattle.script_api.specs.Scripts.{IsLater, IsReplied};
 ghost use Rattle.first_script.specs.declared.stage.Stage.TheVariants.{Clause};
 ghost use Rattle.first_script.specs.ItemTexts.{MayIntern, Narrows};
 ghost use Rattle.first_script.specs.Steps.{AddedSo, Asked, IsAfter, IsAdded, IsAddition, IsQuiet, Moved, added_names, added_refusals, step_names, step_refusals};
@@ -22,9 +22,10 @@ use atom_terms::{interned, with_texts};
 use op_table::OpTable;
 use pl_consult::Consult;
 use pl_term::Flat;
+use script_api::Next;
 use std::alloc::Global;
 use term_store::Stored;
-use world_api::{Answer, Next, Reply, Visit, World};
+use world_api::{Answer, Reply, Visit, World};
 
 /// What the adding of a clause gives.
 #[derive(Drop)]

@@ -1,23 +1,28 @@
 //! How directives have ended, as it is kept until it is reported.
-ghost use Rattle.std.specs.Prelude.{◌≡◌, IfOk, IsSome, Some};
+ghost use Rattle.std.specs.Prelude.{◌≡◌, ◌+◌, IfOk, IsSome, OnOk, Some};
 ghost use Rattle.std.specs.Option.{option_map};
 ghost use Rattle.first_script.specs.declared.stage.Stage.TheVariants.{Report};
 ghost use Rattle.first_script.specs.FileScripts.{IsReport};
 
+use crate::counts::count;
 use crate::stage::Stage;
 use pl_term::{Flat, Memory};
 use std::alloc::Global;
 use world_api::How;
 
-/// The stage at which it is to be reported how the directive at this byte has ended. The only error is want of memory.
+/// The stage at which it is to be reported how the directive at this byte has ended, to which a move leads. The only error
+/// is out of memory.
 pub(crate) fn to_report(
     alloc: Global,
     place: usize,
     ended: Option<&How<Flat>>,
+    moves: &mut u64,
 ) -> Result<Stage, Memory>
     requires { IsSome (option_map (λ b. b.now) ended) }
-    ensures { IfOk result (IsReport place (option_map (λ b. b.now) ended.entry)) }
+    ensures report { IfOk result (IsReport place (option_map (λ b. b.now) ended.entry)) }
+    ensures counted { OnOk result (1 + moves.old ≡ moves.new) }
 {
+    count(moves, 1)?;
     match ended {
         Some(how) => Ok(Stage::Report {
             place,

@@ -11,16 +11,17 @@ ghost use Rattle.term_store.specs.NumberedNames.{names_of, term_by};
 ghost use Rattle.world_api.specs.Texts.{text_of, Holds};
 ghost use Rattle.world_api.specs.Told.{Told, has_ended};
 ghost use Rattle.world_api.specs.Gains.{Gains};
-ghost use Rattle.world_api.specs.Scripts.{IsLater, next_refusals, next_names};
+ghost use Rattle.script_api.specs.Scripts.{IsLater, next_refusals, next_names};
 ghost use Rattle.first_script.specs.declared.stage.Stage.TheVariants.{Items, Lost, Over, Words as AtWords};
-ghost use Rattle.world_api.specs.declared.script.Next.TheVariants.{Done};
+ghost use Rattle.script_api.specs.declared.script.Next.TheVariants.{Done};
 ghost use Rattle.first_script.specs.declared.stage.Step.TheVariants.{Gives};
 ghost use Rattle.first_script.specs.Steps.{IsAfter, IsQuiet, Looked, can_step, directive_place, step_names, step_refusals};
 ghost use Rattle.first_script.specs.ItemTexts.{IsFileRequest, IsItemText, IsOwnRequest, IsOwnText, IsWordText, MayIntern, Narrows};
-ghost use Rattle.first_script.specs.Words.{AreNames, HasBegun, IsFault, word_of, words_of, given_words};
-ghost use Rattle.first_script.specs.FileScripts.{Begins, FileMoved, IsFresh, IsGiven, execution_of, is_memory, part_in};
+ghost use Rattle.first_script.specs.Words.{HasBegun, IsFault, word_of, words_of, given_words};
+ghost use Rattle.first_script.specs.FileScripts.{Begins, FileMoved, FileRan, IsFresh, IsGiven, execution_of, is_memory, part_in};
 
 use crate::adds::add_clause;
+use crate::counts::{count, counted, moves_at};
 use crate::ends::to_report;
 use crate::gives::{give_directive, give_goal, next_initialization};
 use crate::items::take_item;
@@ -33,10 +34,11 @@ use pl_consult::{Consult, Place};
 use pl_model::grammar::Quotes;
 use pl_model::syntax::SyntaxFault;
 use pl_term::{Flat, Memory, Text};
+use script_api::{Next, Script};
 use std::alloc::Global;
 use std::mem;
 use term_store::Stored;
-use world_api::{How, Next, Script, World};
+use world_api::{How, World};
 
 /// The script of the first engine: a file that is consulted, and the goal of the command.
 #[derive(Drop)]
@@ -91,16 +93,6 @@ impl FileScript {
         }
     }
 
-    /// The names of the goal's variables with their numbers, once its word is read.
-    pub fn names(&self) -> &[(Text, u64)]
-        ensures { (job : Job) (cs : List Consulted) → AreNames result.now (execution_of self.now job cs).words }
-    {
-        match &self.read {
-            None => &[],
-            Some(word) => names_in(word),
-        }
-    }
-
     /// The fault of the word of the goal, if it has one, once it is read.
     pub fn fault(&self) -> Option<SyntaxFault>
         ensures { (job : Job) (cs : List Consulted) → IsFault result (execution_of self.now job cs).words }
@@ -126,7 +118,7 @@ impl FileScript {
     }
 
     /// Makes step after step, the first at this stage, until one gives something. The text has `before` bytes
-    /// before them.
+    /// before them. Their moves are counted by `moves`.
     fn go_on<W: World<Term = Stored>>(
         &mut self,
         stage: Stage,
@@ -134,13 +126,14 @@ impl FileScript {
         world: &mut W,
         atoms: &mut W::A,
         text: &mut Vec<u8>,
+        moves: &mut u64,
     ) -> Next<Stored>
         requires runs { has_ended (W.told world.old).engine (W.told world.old).history ≡ false }
         requires before { before ≡ length text.old.items }
         requires can { can_step stage ≡ true }
         requires lost { self.old.stage ≡ Lost }
-        ensures moved { (name : Chars) → FileMoved (term_by (text_of (W.A.held atoms.new))) name self.old stage (W.told world.old) text.old.items
-            (Gives result) self.new self.new.stage (W.told world.new) text.new.items }
+        ensures moved { (name : Chars) → FileRan (term_by (text_of (W.A.held atoms.new))) name self.old stage (W.told world.old) moves.old text.old.items
+            (Gives result) self.new self.new.stage (W.told world.new) moves.new text.new.items }
         ensures given { IsGiven result self.new.stage }
         ensures faults { is_memory result ≡ false → self.new.faulty ≡ (self.old.faulty || nat_lt (length text.old.items) (length text.new.items)) }
         ensures file { self.new.consult.name ≡ self.old.consult.name }
@@ -155,8 +148,9 @@ impl FileScript {
     {
         let mut stage = stage;
         for _ in 0..u64::MAX {
+            let made = moves_at(&stage);
             let (then, step) = self.step(stage, world, atoms, text);
-            match step {
+            match counted(step, made, moves) {
                 Step::Goes => stage = then,
                 Step::Gives(next) => {
                     return self.hand_out(then, next, has_grown(text.as_slice(), before));
@@ -343,7 +337,8 @@ impl Script for FileScript {
     ghost use Rattle.std.specs.Prelude.{[], refl};
     ghost use Rattle.first_script.specs.FileScripts.{execution_of, part_in, Plays, is_over};
     ghost use Rattle.first_script.specs.ItemTexts.{IsOwnText, IsOwnRequest};
-    ghost use Rattle.first_script.specs.TextLaws.{texts_none};
+    ghost use Rattle.first_script.specs.TextLaws.{names_told, texts_none};
+    ghost use Rattle.first_script.specs.Words.{names_by};
 
     type Term = Stored;
 
@@ -365,11 +360,22 @@ impl Script for FileScript {
 
     ghost asks = { λ s q. IsOwnRequest s.consult s.stage q };
 
+    ghost variables = { λ s. names_by s.read };
+
     ghost names_tell = { λ s text other same. ((λ job cs. refl), (λ x p. p)) };
 
     ghost lines = { λ text s job cs. refl };
 
     ghost reported = { λ text s job cs. texts_none job s.consult.place s.stage };
+
+    ghost named = { λ text s job cs. names_told s.read };
+
+    fn variable_names(&self) -> &[(Text, u64)] {
+        match &self.read {
+            None => &[],
+            Some(word) => names_in(word),
+        }
+    }
 
     fn next<W: World<Term = Stored>>(
         &mut self,
@@ -377,20 +383,24 @@ impl Script for FileScript {
         world: &mut W,
         atoms: &mut W::A,
         text: &mut Vec<u8>,
+        moves: &mut u64,
     ) -> Next<Stored> {
         let stage = mem::replace(&mut self.stage, Stage::Lost);
         if can_step(&stage) {
-            return self.go_on(stage, text.len(), world, atoms, text);
+            return self.go_on(stage, text.len(), world, atoms, text, moves);
         }
         match stage {
-            Stage::AtDirective { place } => match to_report(self.alloc, place, ended) {
-                Ok(stage) => self.go_on(stage, text.len(), world, atoms, text),
+            Stage::AtDirective { place } => match to_report(self.alloc, place, ended, moves) {
+                Ok(stage) => self.go_on(stage, text.len(), world, atoms, text, moves),
                 Err(_) => Next::Memory,
             },
-            Stage::AtGoal => {
-                self.stage = Stage::Over;
-                Next::Done { halted: None }
-            }
+            Stage::AtGoal => match count(moves, 1) {
+                Ok(()) => {
+                    self.stage = Stage::Over;
+                    Next::Done { halted: None }
+                }
+                Err(_) => Next::Memory,
+            },
             _ => Next::Memory,
         }
     }

@@ -20,8 +20,8 @@ use atom_api::Atoms;
 use atom_terms::interned;
 use pl_consult::Consult;
 use pl_term::Flat;
+use script_api::Next;
 use std::alloc::Global;
-use world_api::Next;
 
 /// Gives the goal of the directive at this byte.
 pub fn give_directive<A: Atoms>(

@@ -5,7 +5,7 @@ ghost use Rattle.pl_term.specs.Tree.{Chars};
 ghost use Rattle.term_store.specs.NumberedNames.{names_of, term_by};
 ghost use Rattle.world_api.specs.Texts.{text_of, Holds};
 ghost use Rattle.world_api.specs.Told.{has_ended};
-ghost use Rattle.world_api.specs.Scripts.{IsLater};
+ghost use Rattle.script_api.specs.Scripts.{IsLater};
 ghost use Rattle.pl_consult.specs.declared.consult.Place.TheVariants.{Item as AtItem};
 ghost use Rattle.first_script.specs.declared.stage.Stage.TheVariants.{Items};
 ghost use Rattle.first_script.specs.ItemTexts.{Narrows};
@@ -15,9 +15,10 @@ use crate::looks::{Look, look_at};
 use crate::stage::{Stage, Step};
 use op_table::OpTable;
 use pl_consult::{Consult, Taken};
+use script_api::Next;
 use std::alloc::Global;
 use term_store::Stored;
-use world_api::{Next, World};
+use world_api::World;
 
 /// Takes up the item at the byte `at` of the file or behind it.
 pub fn take_item<W: World<Term = Stored>>(

@@ -2,6 +2,7 @@
 #![tactic(auto)]
 
 mod adds;
+mod counts;
 mod ends;
 mod file_script;
 mod gives;

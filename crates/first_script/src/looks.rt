@@ -2,13 +2,14 @@
 ghost use Rattle.std.specs.Prelude.{◌≡◌, ◌++◌, false};
 ghost use Rattle.world_api.specs.Texts.{Holds};
 ghost use Rattle.world_api.specs.Told.{has_ended};
-ghost use Rattle.world_api.specs.Scripts.{IsLater};
+ghost use Rattle.script_api.specs.Scripts.{IsLater};
 ghost use Rattle.first_script.specs.Steps.{IsLook, IsStanding, LooksSo, look_refusals};
 
 use op_table::OpTable;
 use pl_model::grammar::Quotes;
+use script_api::Next;
 use term_store::Stored;
-use world_api::{Answer, Next, Reply, Visit, World};
+use world_api::{Answer, Reply, Visit, World};
 
 /// What a look gives.
 #[derive(Drop)]

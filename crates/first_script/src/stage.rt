@@ -5,8 +5,9 @@ ghost use Rattle.first_script.specs.Steps.{can_step, directive_place, part_of};
 
 use op_table::OpTable;
 use pl_term::Flat;
+use script_api::Next;
 use term_store::Stored;
-use world_api::{How, Next};
+use world_api::How;
 
 /// What the first engine has to do next.
 #[derive(Drop)]

@@ -9,7 +9,7 @@ ghost use Rattle.prolog_reader.specs.Names.{pairs};
 ghost use Rattle.pl_consult.specs.declared.consult.Consult.{Consult};
 ghost use Rattle.first_script.specs.declared.stage.Stage.TheVariants.{Words as AtWords};
 ghost use Rattle.first_script.specs.ItemTexts.{Narrows};
-ghost use Rattle.first_script.specs.Words.{AreNames, HasBegun, IsFault, word_of};
+ghost use Rattle.first_script.specs.Words.{HasBegun, IsFault, names_in, word_of};
 
 use crate::stage::{Stage, Step};
 use op_table::OpTable;
@@ -17,9 +17,9 @@ use pl_model::grammar::Quotes;
 use pl_model::syntax::{SyntaxFault, SyntaxKind};
 use pl_term::{Flat, Memory, Text};
 use prolog_reader::{NamedVariable, Read, read_term};
+use script_api::Next;
 use std::alloc::Global;
 use std::convert::AsStr;
-use world_api::Next;
 
 /// A goal word as it was read.
 #[derive(Debug, Drop)]
@@ -103,7 +103,7 @@ fn named(alloc: Global, names: &[NamedVariable]) -> Result<Vec<(Text, u64)>, Mem
 
 /// The names of the variables of the goal that the word is.
 pub(crate) fn names_in(word: &GoalWord) -> &[(Text, u64)]
-    ensures { AreNames result.now (word_of word.now ∷ []) }
+    ensures { result.now ≡ names_in word.now }
 {
     match word {
         GoalWord::Goal { names, .. } => names.as_slice(),

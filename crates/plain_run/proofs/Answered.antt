@@ -47,19 +47,18 @@ answers_same : (m : Names) (t : Told) (s : Contents) (ws : List Place) → map (
 answers_same m t s [] = refl
 answers_same m t s (w ∷ ws) = ap₂ ◌∷◌ (spelled_same m (term_at s w)) (answers_same m t s ws)
 
-module _ (names : List (Chars × ℕ)) (limit : ℕ) (m n : Names) (t u : Told) (e f : Engine) (a b c : List ℕ) where
-  silent : (s : Slice) (h : IsSlice limit m t e n u f a b s) → solution_count h.written ≡ 0 → c ≡ b → HasRun (with_output names) m t e n u f a c
+module _ (names : List (Chars × ℕ)) (limit steps : ℕ) (m n : Names) (t u : Told) (e f : Engine) (a b c : List ℕ) where
+  silent : (s : Slice) (h : IsSlice limit steps m t e n u f a b s) → solution_count h.written ≡ 0 → c ≡ b → HasRun (with_output names) steps m t e n u f a c
   silent s h zero_given same =
-      record { steps = h.steps; written = h.written; advances = h.advances; out = bytes-silent names a b c h.written zero_given h.out same }
+      record { written = h.written; advances = h.advances; out = bytes-silent names a b c h.written zero_given h.out same }
 
-  -- What a slice wrote, and the line of its solution behind it.
-  pub ran_goal : (s : Slice) → IsSlice limit m t e n u f a b s → IsPut s names (map (reads n f.search.store) f.search.answer.items) b c
-      → HasRun (with_output names) m t e n u f a c
+  -- What a slice wrote, and the line of its solution after it.
+  pub ran_goal : (s : Slice) → IsSlice limit steps m t e n u f a b s → IsPut s names (map (reads n f.search.store) f.search.answer.items) b c
+      → HasRun (with_output names) steps m t e n u f a c
   ran_goal Yield h put = silent Yield h h.ends.1 put
   ran_goal (Solution ops) h put =
       let ts = map (reads n f.search.store) f.search.answer.items in
       record {
-        steps = h.steps;
         written = h.written;
         advances = h.advances;
         out =

@@ -8,13 +8,14 @@ use Rattle.run_model.specs.Report.{all_consulted, output_of, with_output}
 use Rattle.atom_api.specs.Names.{Names}
 use Rattle.term_store.specs.NumberedNames.{term_by}
 use Rattle.world_api.specs.declared.how.How.{How}
-use Rattle.world_api.specs.declared.script.Next.{Next}
-use Rattle.world_api.specs.declared.script.Next.TheVariants.{Done}
+use Rattle.script_api.specs.declared.script.Next.{Next}
+use Rattle.script_api.specs.declared.script.Next.TheVariants.{Done}
 use Rattle.world_api.specs.Texts.{text_of}
 use Rattle.world_api.specs.Told.{Told}
-use Rattle.world_api.specs.Courses.{Part, of_goal, with_search}
-use Rattle.world_api.specs.Scripts.{Comes, EndsAs, Given, IsLast, LeavesOff, StandsBefore, some_fault, written_at}
-use Rattle.world_api.proofs.ComesLaws.{comes_same, comes_then}
+use Rattle.script_api.specs.Parts.{Part, of_goal, with_search}
+use Rattle.script_api.specs.Comes.{ComesBy}
+use Rattle.script_api.specs.Scripts.{EndsAs, Given, IsLast, LeavesOff, StandsBefore, some_fault, written_at}
+use Rattle.script_api.proofs.ComesLaws.{by_same, by_then}
 use Rattle.iso_search.specs.declared.search.Budgets.{Budgets}
 use Rattle.plain_run.specs.declared.ran.Ran.{Ran}
 use Rattle.plain_run.specs.declared.ran.Ran.TheVariants as ran
@@ -32,12 +33,12 @@ module _ {S : Type 0} (execution : (ℕ → Chars) → S → Job → List Consul
     (kept : S → Bool) (name : Chars) (budgets : Budgets) (wanted : ℕ)
     (lines : (text : ℕ → Chars) (s : S) (job : Job) (cs : List Consulted) → (execution text s job cs).consulted ≡ cs) where
   -- Nothing was done.
-  pub stays_open : (m : Names) (t : Told) (s : S) (bytes : List ℕ) (r : Ran) → part s ≡ Some of_goal → ((how : How Tree) → r ≡ ran.Ended how → ⊥)
-      → HasClosed execution part plays kept name budgets wanted m t s bytes r m t s bytes
-  stays_open m t s bytes r at none job cs v has wants pl st w = (
+  pub stays_open : (m : Names) (t : Told) (before : ℕ) (s : S) (bytes : List ℕ) (r : Ran) → part s ≡ Some of_goal → ((how : How Tree) → r ≡ ran.Ended how → ⊥)
+      → HasClosed execution part plays kept name budgets wanted m t before s bytes r m t before s bytes
+  stays_open m t before s bytes r at none job cs v has wants pl st w = (
     cs,
     with_search (execution (text_of m) s job cs) of_goal v,
-    comes_same job (with_search (execution (text_of m) s job cs) of_goal v) (with_search (execution (text_of m) s job cs) of_goal v) t refl,
+    by_same job (with_search (execution (text_of m) s job cs) of_goal v) (with_search (execution (text_of m) s job cs) of_goal v) t before refl,
     stands r none st,
     pl,
     w,
@@ -54,19 +55,19 @@ module _ {S : Type 0} (execution : (ℕ → Chars) → S → Job → List Consul
       stands (ran.Missing p) n h = (record { item = of_goal; state = v; at_hand = at; is = refl }, h)
 
   -- The script was told, and has no further item.
-  pub is_closed : (m n : Names) (t u : Told) (old new : S) (bytes more : List ℕ) (r : Ran) (how : How Tree) (given_how : Option (How Tree)) (h : Option ℕ)
+  pub is_closed : (m n : Names) (t u : Told) (before after : ℕ) (old new : S) (bytes more : List ℕ) (r : Ran) (how : How Tree) (given_how : Option (How Tree)) (h : Option ℕ)
       → part old ≡ Some of_goal → r ≡ ran.Ended how → given_how ≡ Some how
       → (let next : Next Tree = Done h in IsLast (part old) next)
-      → Given execution part term_by plays kept name (text_of m) (text_of n) old given_how t bytes (Done h) new u more
-      → HasClosed execution part plays kept name budgets wanted m t old bytes r n u new more
-  is_closed m n t u old new bytes more r how given_how h at is told last given job cs s has wants pl st w =
+      → Given execution part term_by plays kept name (text_of m) (text_of n) old given_how t before bytes (Done h) new u after more
+      → HasClosed execution part plays kept name budgets wanted m t before old bytes r n u after new more
+  is_closed m n t u before after old new bytes more r how given_how h at is told last given job cs s has wants pl st w =
       let st' : StandsSo budgets wanted m t s (ran.Ended how) = subst (λ q. StandsSo budgets wanted m t s q) is st
       in let x : Execution = with_search (execution (text_of m) old job cs) of_goal s
-      in let before : StandsBefore execution part term_by (text_of m) old job (part old) given_how (Some s) cs x =
+      in let stood : StandsBefore execution part term_by (text_of m) old job (part old) given_how (Some s) cs x =
       subst (λ (o : Option Part). StandsBefore execution part term_by (text_of m) old job o given_how (Some s) cs x) (sym at)
       (subst (λ (k : Option (How Tree)). StandsBefore execution part term_by (text_of m) old job (Some of_goal) k (Some s) cs x) (sym told)
       (st'.0, st'.1, st'.2, refl))
-      in let g = given job cs (Some s) x pl before w.0 w.1
+      in let g = given job cs (Some s) x pl stood w.0 w.1
       in let ending : Ending = g.3.0
       in let os : List Output = g.3.1
       in let leaves : LeavesOff None (Some of_goal) (Some s) ending os =
@@ -87,18 +88,19 @@ module _ {S : Type 0} (execution : (ℕ → Chars) → S → Job → List Consul
 
   -- The search and what follows it.
   pub goal_run :
-      (names : List (Chars × ℕ)) (goal : Tree) (m n k : Names) (t u v : Told) (old new : S) (bytes more old_out new_out : List ℕ) (r : Ran)
+      (names : List (Chars × ℕ)) (goal : Tree) (m n k : Names) (t u v : Told) (before middle after : ℕ) (old new : S) (bytes more old_out new_out : List ℕ) (r : Ran)
       → ((job : Job) (cs : List Consulted) → execution (text_of m) old job cs ≡ execution (text_of n) old job cs) × ((x : Script) → plays (text_of m) old x → plays (text_of n) old x)
-      → HasSearched (with_output names) budgets wanted m t goal old_out n u new_out r
-      → HasClosed execution part plays kept name budgets wanted n u old bytes r k v new more
-      → HasRunGoal execution part plays kept name budgets names wanted goal m t old bytes old_out r k v new more new_out
-  goal_run names goal m n k t u v old new bytes more old_out new_out r tell h closed job cs x has wants pl is w =
+      → HasSearched (with_output names) budgets wanted m t before goal old_out n u middle new_out r
+      → HasClosed execution part plays kept name budgets wanted n u middle old bytes r k v after new more
+      → HasRunGoal execution part plays kept name budgets names wanted goal m t before old bytes old_out r k v after new more new_out
+  goal_run names goal m n k t u v before middle after old new bytes more old_out new_out r tell h closed job cs x has wants pl is w =
       let e : Execution = execution (text_of m) old job cs
       in let f : Execution = execution (text_of n) old job cs
       in let there : Execution = with_search f of_goal h.state
-      in let first : Comes job x t there u =
-      subst (λ z. Comes job z t there u) (sym is)
-      (subst (λ y. Comes job (at_start_of job of_goal m goal e) t (with_search y of_goal h.state) u) (tell.0 job cs) (h.comes job of_goal e has wants))
+      in let first : ComesBy job x t before there u middle =
+      subst (λ z. ComesBy job z t before there u middle) (sym is)
+      (subst (λ y. ComesBy job (at_start_of job of_goal m goal e) t before (with_search y of_goal h.state) u middle) (tell.0 job cs)
+      (h.comes job of_goal e has wants))
       in let lines_m : written_at x ≡ cs = ap written_at is ∙ ap (λ l. l ++ []) (lines (text_of m) old job cs) ∙ append-nil cs
       in let lines_n : written_at there ≡ cs = ap (λ l. l ++ []) (lines (text_of n) old job cs) ∙ append-nil cs
       in let same : written_at x ≡ written_at there = lines_m ∙ sym lines_n
@@ -107,9 +109,9 @@ module _ {S : Type 0} (execution : (ℕ → Chars) → S → Job → List Consul
       in (
         c.0,
         c.1,
-        comes_then job x there c.1 t u v first c.2,
+        by_then job x there c.1 t u v before middle after first c.2,
         c.3,
         c.4,
         c.5,
-        λ before at. h.out before at ∙ ap (λ os. encode_utf8_all (with_output names before os)) (sym c.6),
+        λ front at. h.out front at ∙ ap (λ os. encode_utf8_all (with_output names front os)) (sym c.6),
       )

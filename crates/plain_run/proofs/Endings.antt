@@ -16,7 +16,7 @@ use Rattle.term_store.specs.declared.nodes.AtomNode.TheVariants as an
 use Rattle.term_store.specs.Nodes.{node_view, node_views}
 use Rattle.world_api.specs.declared.how.How.{How}
 use Rattle.world_api.specs.declared.how.How.TheVariants as how
-use Rattle.world_api.specs.Scripts.{EndsAs}
+use Rattle.script_api.specs.Scripts.{EndsAs}
 use Rattle.world_api.specs.Told.{Told}
 use Rattle.world_builtins.specs.Nodes.{IsNodeHeld}
 use Rattle.world_builtins.specs.Spelling.{spelled as spells, text_of as texts_by}

@@ -1,5 +1,5 @@
--- One slice behind another.
-use Rattle.std.proofs.Common.{◌≡◌, ℕ, ◌+◌, List, [], ◌∷◌, ◌++◌, map, Option, None, Some, refl, sym, ap, subst, ◌∙◌, append_assoc, append-nil}
+-- One slice after another.
+use Rattle.std.proofs.Common.{◌≡◌, ℕ, ◌+◌, List, [], ◌∷◌, ◌++◌, map, Option, None, Some, refl, sym, ap, subst, ◌∙◌, append_assoc, append-nil, arith}
 use Rattle.std.specs.Prelude.{encode_utf8_all}
 use Rattle.pl_term.specs.Tree.{Chars}
 use Rattle.pl_model.specs.Resolution.{Output}
@@ -11,39 +11,52 @@ use Rattle.world_api.specs.Told.{Told}
 use Rattle.iso_engine.specs.declared.engine.Engine.{Engine}
 use Rattle.iso_engine.proofs.Stability.{advance_none, advance_then}
 use Rattle.plain_run.specs.declared.searched.Searched.{Searched}
-use Rattle.plain_run.specs.Searched.{HasRun, IsCarriedOn, IsRefusedOnce, IsSearched, last_refusals, stop_refusals}
+use Rattle.plain_run.specs.Searched.{HasCounted, IsCarriedOn, IsRefusedOnce, IsSearched, last_refusals, stop_refusals}
 
--- The ways of writing by which a piece can be put behind a piece.
+-- The ways of writing by which a piece can be put after a piece.
 abbrev pub IsInPieces : (Chars → List Output → Chars) → Type 0
 IsInPieces put = ((t : Chars) → put t [] ≡ t) × ((t : Chars) (xs ys : List Output) → put t (xs ++ ys) ≡ put (put t xs) ys)
 
 module _ (put : Chars → List Output → Chars) (pieces : IsInPieces put) where
-  pub run_begins : (m : Names) (t : Told) (e : Engine) (a : List ℕ) → HasRun put m t e m t e a a
-  run_begins m t e a =
-      record { steps = 0; written = []; advances = advance_none m t e; out = λ before is. is ∙ ap encode_utf8_all (sym (pieces.0 before)) }
+  pub run_begins : (m : Names) (t : Told) (e : Engine) (before : ℕ) (a : List ℕ) → HasCounted put m t e before m t e before a a
+  run_begins m t e before a =
+      record {
+        steps = 0;
+        ran = record { written = []; advances = advance_none m t e; out = λ front is. is ∙ ap encode_utf8_all (sym (pieces.0 front)) };
+        counted = (let same : 0 + before ≡ before = omega arith in same);
+      }
 
-  pub run_then : (m n r : Names) (t u w : Told) (e f g : Engine) (a b c : List ℕ)
-      → HasRun put m t e n u f a b → HasRun put n u f r w g b c → HasRun put m t e r w g a c
-  run_then m n r t u w e f g a b c x y =
+  pub run_then : (m n r : Names) (t u w : Told) (e f g : Engine) (before middle after : ℕ) (a b c : List ℕ)
+      → HasCounted put m t e before n u f middle a b → HasCounted put n u f middle r w g after b c → HasCounted put m t e before r w g after a c
+  run_then m n r t u w e f g before middle after a b c x y =
       record {
         steps = y.steps + x.steps;
-        written = x.written ++ y.written;
-        advances = advance_then x.steps y.steps m n r t u w e f g x.written y.written x.advances y.advances;
-        out = λ before is. y.out (put before x.written) (x.out before is) ∙ ap encode_utf8_all (sym (pieces.1 before x.written y.written));
+        ran =
+            record {
+              written = x.ran.written ++ y.ran.written;
+              advances = advance_then x.steps y.steps m n r t u w e f g x.ran.written y.ran.written x.ran.advances y.ran.advances;
+              out =
+                  λ front is.
+                  y.ran.out (put front x.ran.written) (x.ran.out front is) ∙ ap encode_utf8_all (sym (pieces.1 front x.ran.written y.ran.written));
+            };
+        counted =
+            (let same : (y.steps + x.steps) + before ≡ y.steps + (x.steps + before) = omega arith in same)
+            ∙ ap (λ k. y.steps + k) x.counted
+            ∙ y.counted;
       }
 
   -- A slice that does not stop the search.
-  pub goes_on : (m n r : Names) (t u w : Told) (e f g : Engine) (a b c : List ℕ) (o : Option Searched)
-      → HasRun put m t e n u f a b → IsCarriedOn put n u f r w g b c o → o ≡ None → HasRun put m t e r w g a c
-  goes_on m n r t u w e f g a b c o x y is =
-      run_then m n r t u w e f g a b c x (subst (λ k. IsCarriedOn put n u f r w g b c k) is y)
+  pub goes_on : (m n r : Names) (t u w : Told) (e f g : Engine) (before middle after : ℕ) (a b c : List ℕ) (o : Option Searched)
+      → HasCounted put m t e before n u f middle a b → IsCarriedOn put n u f middle r w g after b c o → o ≡ None → HasCounted put m t e before r w g after a c
+  goes_on m n r t u w e f g before middle after a b c o x y is =
+      run_then m n r t u w e f g before middle after a b c x (subst (λ k. IsCarriedOn put n u f middle r w g after b c k) is y)
 
   -- A slice that does.
-  pub stops_there : (m n r : Names) (t u w : Told) (e f g : Engine) (a b c : List ℕ) (o : Option Searched) (s : Searched)
-      → HasRun put m t e n u f a b → IsCarriedOn put n u f r w g b c o → o ≡ Some s → IsSearched put m t e r w g a c s
-  stops_there m n r t u w e f g a b c o s x y is =
-      let z : IsSearched put n u f r w g b c s = subst (λ k. IsCarriedOn put n u f r w g b c k) is y
-      in record { ran = run_then m n r t u w e f g a b c x z.ran; stands = z.stands }
+  pub stops_there : (m n r : Names) (t u w : Told) (e f g : Engine) (before middle after : ℕ) (a b c : List ℕ) (o : Option Searched) (s : Searched)
+      → HasCounted put m t e before n u f middle a b → IsCarriedOn put n u f middle r w g after b c o → o ≡ Some s → IsSearched put m t e before r w g after a c s
+  stops_there m n r t u w e f g before middle after a b c o s x y is =
+      let z : IsSearched put n u f middle r w g after b c s = subst (λ k. IsCarriedOn put n u f middle r w g after b c k) is y
+      in record { counted = run_then m n r t u w e f g before middle after a b c x z.counted; stands = z.stands }
 
 -- Refusals
 

@@ -12,8 +12,10 @@ use Rattle.atom_api.specs.Names.{FixedStand, Names}
 use Rattle.term_store.specs.NumberedNames.{by_number, term_by}
 use Rattle.world_api.specs.Texts as worlds
 use Rattle.world_api.specs.Told.{Told}
-use Rattle.world_api.specs.Courses.{Course, Part, of_goal, of_directive, limits_of, seen_in, with_search}
-use Rattle.world_api.specs.Scripts.{Comes}
+use Rattle.world_api.specs.Courses.{Course}
+use Rattle.script_api.specs.Parts.{Part, of_goal, of_directive, limits_of, seen_in, with_search}
+use Rattle.script_api.specs.Comes.{ComesBy}
+use Rattle.script_api.proofs.CourseRuns.{course_comes}
 use Rattle.iso_search.specs.declared.search.Budgets.{Budgets}
 use Rattle.iso_search.specs.Reading.{IsView, View}
 use Rattle.iso_search.specs.Spelling.{spelled, text_of}
@@ -63,12 +65,12 @@ module _ (budgets : Budgets) (wanted : ℕ) (e : Engine) (fresh : IsFresh budget
       (has.choices ∙ ap (λ (b : Budgets). b.choices) (sym fresh.budgets_are))
       (wants ∙ sym fresh.wants)
 
-  module _ (put : Chars → List Output → Chars) (m n : Names) (t u : Told) (f : Engine) (goal : Tree) (a b : List ℕ) (s : Searched)
+  module _ (put : Chars → List Output → Chars) (m n : Names) (t u : Told) (f : Engine) (before after : ℕ) (goal : Tree) (a b : List ℕ) (s : Searched)
       (stand : FixedStand m) (over : by_number goal ≡ goal) (view : IsView (view_of m t))
       (starts : (v : View) (stays : Option Chars) → IsView v → state_now v e [] ≡ start (engines.limits_of stays e) (spelled (text_of v.names) goal))
-      (came : IsSearched put m t e n u f a b s) where
+      (came : IsSearched put m t e before n u f after a b s) where
     abbrev there : State
-    there = state_now (view_of n u) f came.ran.written
+    there = state_now (view_of n u) f came.counted.ran.written
 
     start_same : (job : Job) (part : Part) → limits_of job part ≡ engines.limits_of job.limits.stays e
         → state_now (view_of m t) e [] ≡ start (limits_of job part) (term_by (worlds.text_of m) goal)
@@ -77,31 +79,36 @@ module _ (budgets : Budgets) (wanted : ℕ) (e : Engine) (fresh : IsFresh budget
         ∙ ap₂ start (sym same) (sym (read_over m stand goal over))
 
     comes_there : (job : Job) (part : Part) (x : Execution) → HasBudgets budgets job.limits → (limits_of job part).solutions ≡ wanted
-        → Comes job (at_start_of job part m goal x) t (with_search x part there) u
+        → ComesBy job (at_start_of job part m goal x) t before (with_search x part there) u after
     comes_there job part x has wants =
         let same : limits_of job part ≡ engines.limits_of job.limits.stays e = limits_same job part has wants
-        in let c : Course (engines.limits_of job.limits.stays e) (state_now (view_of m t) e []) t came.ran.steps there u =
-        came.ran.advances.course job.limits.stays [] (sym fresh.gave)
-        in subst (λ (z : State). Comes job (with_search x part z) t (with_search x part there) u) (start_same job part same)
-        (record { engine = c.engine; goals = c.goals; moves = came.ran.steps; comes = c.comes job x part same })
+        in let c : Course (engines.limits_of job.limits.stays e) (state_now (view_of m t) e []) t came.counted.steps there u =
+        came.counted.ran.advances.course job.limits.stays [] (sym fresh.gave)
+        in subst (λ (z : State). ComesBy job (with_search x part z) t before (with_search x part there) u after) (start_same job part same)
+        (record {
+          moves = came.counted.steps;
+          comes =
+              course_comes (engines.limits_of job.limits.stays e) (state_now (view_of m t) e []) there t u came.counted.steps job x part same c;
+          counted = came.counted.counted;
+        })
 
-    given_there : resolution.solution_count came.ran.written ≡ f.given
+    given_there : resolution.solution_count came.counted.ran.written ≡ f.given
     given_there =
-        sym (came.ran.advances.given
-        ∙ ap (λ k. k + resolution.solution_count came.ran.written) fresh.gave
-        ∙ (let q : 0 + resolution.solution_count came.ran.written ≡ resolution.solution_count came.ran.written = omega arith in q))
+        sym (came.counted.ran.advances.given
+        ∙ ap (λ k. k + resolution.solution_count came.counted.ran.written) fresh.gave
+        ∙ (let q : 0 + resolution.solution_count came.counted.ran.written ≡ resolution.solution_count came.counted.ran.written = omega arith in q))
 
     waits_there : (g : ℕ) → IsWaitingNow n u f g → (job : Job) (part : Part) (x : Execution) → HasBudgets budgets job.limits
         → (limits_of job part).solutions ≡ wanted → WaitsNow u.engine u.goals job (seen_in u (with_search x part there))
     waits_there g w job part x has wants =
         let same : limits_of job part ≡ engines.limits_of job.limits.stays f =
-        limits_same job part has wants ∙ sym (came.ran.advances.limits job.limits.stays)
-        in let k = asks_in job part x there w.request (w.asking.follows job.limits.stays came.ran.written given_there)
-        (ap (λ (l : Limits). step l there) same ∙ w.asking.asks_is job.limits.stays came.ran.written given_there)
+        limits_same job part has wants ∙ sym (came.counted.ran.advances.limits job.limits.stays)
+        in let k = asks_in job part x there w.request (w.asking.follows job.limits.stays came.counted.ran.written given_there)
+        (ap (λ (l : Limits). step l there) same ∙ w.asking.asks_is job.limits.stays came.counted.ran.written given_there)
         in record { request = w.request; next = k.0; asks_is = k.1; served = w.waiting }
 
     stands_there : (q : Searched) (r : Ran) → Stands n u f q → IsRanBy n f q r → StandsSo budgets wanted n u there r
-    stands_there Ended (ran.Ended how) h is = is u came.ran.written
+    stands_there Ended (ran.Ended how) h is = is u came.counted.ran.written
     stands_there Ended (ran.Waits on) h is = absurd is
     stands_there Ended (ran.NeedsAtoms p) h is = absurd is
     stands_there Ended (ran.Worn w) h is = absurd is
@@ -113,8 +120,8 @@ module _ (budgets : Budgets) (wanted : ℕ) (e : Engine) (fresh : IsFresh budget
         subst (λ k. StandsSo budgets wanted n u there k) (sym is)
         (record { name = h.name; held = h.held; next = h.next })
 
-    pub has_searched : (r : Ran) → IsRanBy n f s r → HasSearched put budgets wanted m t goal a n u b r
-    has_searched r is = record { state = there; comes = comes_there; out = came.ran.out; stands = stands_there s r came.stands is }
+    pub has_searched : (r : Ran) → IsRanBy n f s r → HasSearched put budgets wanted m t before goal a n u after b r
+    has_searched r is = record { state = there; comes = comes_there; out = came.counted.ran.out; stands = stands_there s r came.stands is }
 
 -- The refusals of the search are those that are told.
 pub same_refusals : (m : Names) (e : Engine) (s : Searched) (r : Ran) → IsRanBy m e s r → ran_refusals r ≡ last_refusals s
@@ -129,10 +136,10 @@ same_refusals m e (Worn w) r is = ap ran_refusals is
 same_refusals m e (Missing p) r is = ap ran_refusals is
 
 -- It stays so where the atoms hold the same.
-pub searched_after : (put : Chars → List Output → Chars) (budgets : Budgets) (wanted : ℕ) (m n k : Names) (t u : Told) (goal : Tree) (a b : List ℕ) (r : Ran)
-    → k ≡ n → HasSearched put budgets wanted m t goal a n u b r → HasSearched put budgets wanted m t goal a k u b r
-searched_after put budgets wanted m n k t u goal a b r same h =
-    subst (λ (j : Names). HasSearched put budgets wanted m t goal a j u b r) (sym same) h
+pub searched_after : (put : Chars → List Output → Chars) (budgets : Budgets) (wanted : ℕ) (m n k : Names) (t u : Told) (before after : ℕ) (goal : Tree) (a b : List ℕ) (r : Ran)
+    → k ≡ n → HasSearched put budgets wanted m t before goal a n u after b r → HasSearched put budgets wanted m t before goal a k u after b r
+searched_after put budgets wanted m n k t u before after goal a b r same h =
+    subst (λ (j : Names). HasSearched put budgets wanted m t before goal a j u after b r) (sym same) h
 
 pub refused_after : (xs ys zs : List Refusal) (m : Names) (e : Engine) (s : Searched) (r : Ran) → IsRefusedOnce xs ys (last_refusals s) → zs ≡ ys → IsRanBy m e s r
     → IsRefusedOnce xs zs (ran_refusals r)

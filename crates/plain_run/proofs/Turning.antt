@@ -15,14 +15,15 @@ use Rattle.atom_words.specs.declared.view.WornWord.{WornWord}
 use Rattle.atom_api.specs.Names.{Names}
 use Rattle.term_store.specs.NumberedNames.{term_by}
 use Rattle.world_api.specs.declared.how.How.{How}
-use Rattle.world_api.specs.declared.script.Next.{Next}
-use Rattle.world_api.specs.declared.script.Next.TheVariants.{Item, NeedsAtoms, Retry, Worn}
+use Rattle.script_api.specs.declared.script.Next.{Next}
+use Rattle.script_api.specs.declared.script.Next.TheVariants.{Item, NeedsAtoms, Retry, Worn}
 use Rattle.world_api.specs.Texts.{Holds, text_of}
 use Rattle.world_api.specs.Told.{Told}
-use Rattle.world_api.specs.Courses.{Part, of_goal, of_directive, limits_of, with_search}
-use Rattle.world_api.specs.Scripts.{Comes, Given, IsAtHand, StandsBefore, is_directive, is_fault, some_fault, texts_at, written_at}
-use Rattle.world_api.proofs.ComesLaws.{comes_then}
-use Rattle.world_api.proofs.OnceLaws.{same_texts}
+use Rattle.script_api.specs.Parts.{Part, of_goal, of_directive, limits_of, with_search}
+use Rattle.script_api.specs.Comes.{ComesBy}
+use Rattle.script_api.specs.Scripts.{Given, IsAtHand, StandsBefore, is_directive, is_fault, some_fault, texts_at, written_at}
+use Rattle.script_api.proofs.ComesLaws.{by_then}
+use Rattle.script_api.proofs.OnceLaws.{same_texts}
 use Rattle.iso_search.specs.declared.search.Budgets.{Budgets}
 use Rattle.plain_run.specs.declared.items.Items.TheVariants as items
 use Rattle.plain_run.specs.declared.items.Turn.{Turn}
@@ -100,12 +101,12 @@ module _ {S : Type 0} (execution : (ℕ → Chars) → S → Job → List Consul
   text_kept text s job cs y bytes is w faults =
       let same = sym (ap written_at is ∙ written_same text s job cs) in (w ∙ ap (bytes_of name) same, ap some_fault (sym same) ∙ faults)
 
-  module _ (m n : Names) (t u : Told) (old new : S) (given_how how : Option (How Tree)) (same : given_how ≡ how) (bytes more : List ℕ) where
+  module _ (m n : Names) (t u : Told) (before after : ℕ) (old new : S) (given_how how : Option (How Tree)) (same : given_how ≡ how) (bytes more : List ℕ) where
     abbrev GivenSo : Next Tree → Type 0
-    GivenSo next = Given execution part term_by plays kept name (text_of m) (text_of n) old given_how t bytes next new u more
+    GivenSo next = Given execution part term_by plays kept name (text_of m) (text_of n) old given_how t before bytes next new u after more
 
     abbrev TurnedSo : Turn → Type 0
-    TurnedSo turn = HasTurned execution part plays kept name budgets m t old how bytes turn n u new more
+    TurnedSo turn = HasTurned execution part plays kept name budgets m t before old how bytes turn n u after new more
 
     before_same : (job : Job) (searched : Option State) (cs : List Consulted) (x : Execution)
         → StandsBefore execution part term_by (text_of m) old job (part old) how searched cs x
@@ -136,7 +137,7 @@ module _ {S : Type 0} (execution : (ℕ → Chars) → S → Job → List Consul
         )
 
     -- A directive was given, and its search has come so far.
-    module _ (goal : Tree) (d : Bool) (is_true : d ≡ true) (given : GivenSo (Item goal d)) (k : Names) (v : Told) (last : List ℕ) (holds : Holds n k) (held : All (λ a. IsSome (n a)) (names new)) where
+    module _ (goal : Tree) (d : Bool) (is_true : d ≡ true) (given : GivenSo (Item goal d)) (k : Names) (v : Told) (final : ℕ) (last : List ℕ) (holds : Holds n k) (held : All (λ a. IsSome (n a)) (names new)) where
       texts_same : All (λ a. text_of n a ≡ text_of k a) (names new)
       texts_same = same_texts n k (names new) held holds
 
@@ -160,8 +161,8 @@ module _ {S : Type 0} (execution : (ℕ → Chars) → S → Job → List Consul
           subst (λ (q : Turn). TurnStands execution part plays kept name budgets k v new job ds q (with_search (execution (text_of k) new job ds) p s)) (sym is)
           (record { item = p; state = s; at_hand = at; is = refl }, h)
 
-      pub is_directed : (r : Ran) (turn : Turn) → HasSearched texts budgets 1 n u goal more k v last r → IsTurnBy r turn
-          → HasTurned execution part plays kept name budgets m t old how bytes turn k v new last
+      pub is_directed : (r : Ran) (turn : Turn) → HasSearched texts budgets 1 n u after goal more k v final last r → IsTurnBy r turn
+          → HasTurned execution part plays kept name budgets m t before old how bytes turn k v final new last
       is_directed r turn h is job cs searched x has pl b w =
           let g = given job cs searched x pl (before_same job searched cs x b) w.0 w.1
           in let ds : List Consulted = g.0
@@ -170,16 +171,16 @@ module _ {S : Type 0} (execution : (ℕ → Chars) → S → Job → List Consul
           in let tell = tells new (text_of n) (text_of k) texts_same
           in let moved : with_search (execution (text_of n) new job ds) p h.state ≡ with_search (execution (text_of k) new job ds) p h.state =
           ap (λ (e : Execution). with_search e p h.state) (tell.0 job ds)
-          in let there : Comes job g.1 u (with_search (execution (text_of k) new job ds) p h.state) v =
-          subst (λ (z : Execution). Comes job z u (with_search (execution (text_of k) new job ds) p h.state) v) (sym g.3.3)
-          (subst (λ (z : Execution). Comes job (at_start_of job p n goal (execution (text_of n) new job ds)) u z v) moved
+          in let there : ComesBy job g.1 u after (with_search (execution (text_of k) new job ds) p h.state) v final =
+          subst (λ (z : Execution). ComesBy job z u after (with_search (execution (text_of k) new job ds) p h.state) v final) (sym g.3.3)
+          (subst (λ (z : Execution). ComesBy job (at_start_of job p n goal (execution (text_of n) new job ds)) u after z v final) moved
           (h.comes job p (execution (text_of n) new job ds) has wants))
           in let there_written : written_at (with_search (execution (text_of k) new job ds) p h.state) ≡ ds ++ texts_of h.state.output =
           written_in (execution (text_of k) new job ds) p h.state ds (g.3.2 ∙ is_true) (lines (text_of k) new job ds)
           in (
             ds,
             with_search (execution (text_of k) new job ds) p h.state,
-            comes_then job x g.1 (with_search (execution (text_of k) new job ds) p h.state) t u v g.2 there,
+            by_then job x g.1 (with_search (execution (text_of k) new job ds) p h.state) t u v before after final g.2 there,
             stands_by job ds p h.state r turn has wants g.3.1 is h.stands,
             tell.1 job.script g.4,
             (
@@ -213,13 +214,13 @@ pub still : (m n : Names) → Holds m n → (a : ℕ) → IsSome (m a) → IsSom
 still m n holds a h = let x = some_there (m a) h in ap is_some (holds a x.0 x.1)
 
 -- The name of a predicate that is not built is held.
-pub name_held : (put : Chars → List Output → Chars) (b : Budgets) (wanted : ℕ) (m n : Names) (t u : Told) (goal : Tree) (old new : List ℕ) (r : Ran) → HasSearched put b wanted m t goal old n u new r
+pub name_held : (put : Chars → List Output → Chars) (b : Budgets) (wanted : ℕ) (m n : Names) (t u : Told) (before after : ℕ) (goal : Tree) (old new : List ℕ) (r : Ran) → HasSearched put b wanted m t before goal old n u after new r
     → IsNameHeld n r
-name_held put b wanted m n t u goal old new (ran.Ended how) h = tt
-name_held put b wanted m n t u goal old new (ran.Waits on) h = tt
-name_held put b wanted m n t u goal old new (ran.NeedsAtoms p) h = tt
-name_held put b wanted m n t u goal old new (ran.Worn w) h = tt
-name_held put b wanted m n t u goal old new (ran.Missing p) h = ap is_some h.stands.held
+name_held put b wanted m n t u before after goal old new (ran.Ended how) h = tt
+name_held put b wanted m n t u before after goal old new (ran.Waits on) h = tt
+name_held put b wanted m n t u before after goal old new (ran.NeedsAtoms p) h = tt
+name_held put b wanted m n t u before after goal old new (ran.Worn w) h = tt
+name_held put b wanted m n t u before after goal old new (ran.Missing p) h = ap is_some h.stands.held
 
 pub name_held_by : (n : Names) (r : Ran) (turn : Turn) → IsNameHeld n r → IsTurnBy r turn → IsNameHeldBy n turn
 name_held_by n (ran.Ended how) turn h is = subst (λ (q : Turn). IsNameHeldBy n q) (sym is) tt

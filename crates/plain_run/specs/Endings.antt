@@ -6,7 +6,7 @@ use Rattle.atom_api.specs.Names.{Names}
 use Rattle.world_api.specs.declared.how.How.{How}
 use Rattle.world_api.specs.declared.how.How.TheVariants.{AtomSpace}
 use Rattle.world_api.specs.Told.{Told}
-use Rattle.world_api.specs.Scripts.{EndsAs}
+use Rattle.script_api.specs.Scripts.{EndsAs}
 use Rattle.iso_engine.specs.declared.engine.Engine.{Engine}
 use Rattle.iso_engine.specs.Later.{view_of}
 use Rattle.iso_engine.specs.Standing.{state_now}

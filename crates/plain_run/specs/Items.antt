@@ -12,8 +12,9 @@ use Rattle.term_store.specs.NumberedNames.{names_of, term_by}
 use Rattle.world_api.specs.declared.how.How.{How}
 use Rattle.world_api.specs.Texts.{text_of}
 use Rattle.world_api.specs.Told.{Told}
-use Rattle.world_api.specs.Courses.{Part, of_goal, seen_in, with_search}
-use Rattle.world_api.specs.Scripts.{Comes, EndsAs, LeavesOff, StandsBefore, is_directive, some_fault, written_at}
+use Rattle.script_api.specs.Parts.{Part, of_goal, seen_in, with_search}
+use Rattle.script_api.specs.Comes.{ComesBy}
+use Rattle.script_api.specs.Scripts.{EndsAs, LeavesOff, StandsBefore, is_directive, some_fault, written_at}
 use Rattle.iso_search.specs.declared.search.Budgets.{Budgets}
 use Rattle.plain_run.specs.declared.items.Items.{Items}
 use Rattle.plain_run.specs.declared.items.Items.TheVariants.{Goal, Over, Waits, NeedsAtoms, Worn, Missing}
@@ -124,23 +125,23 @@ module _ {S : Type 0} (execution : (ℕ → Chars) → S → Job → List Consul
   module _ (part : S → Option Part) (plays : (ℕ → Chars) → S → Script → Type 0) (kept : S → Bool) (name : Chars) (budgets : Budgets) where
     -- Whatever execution of this script it is, it comes from where no item is at hand to where the items do not go on, and
     -- the text of the file with it.
-    abbrev pub HasRunItems : Names → Told → S → List ℕ → Items → Names → Told → S → List ℕ → Type 0
-    HasRunItems m t old bytes items n u new more =
+    abbrev pub HasRunItems : Names → Told → ℕ → S → List ℕ → Items → Names → Told → ℕ → S → List ℕ → Type 0
+    HasRunItems m t before old bytes items n u after new more =
         (job : Job) (cs : List Consulted) (x : Execution)
         → HasBudgets budgets job.limits
         → plays (text_of m) old job.script
         → x ≡ execution (text_of m) old job cs
         → IsText name (kept old) x bytes
         → (ds : List Consulted) × (y : Execution)
-        × Comes job x t y u
+        × ComesBy job x t before y u after
         × StandsAs part n u new job ds items y
         × plays (text_of n) new job.script
         × IsText name (kept new) y more
 
     -- And from the start of the goal's search to its end, or to where it does not go on. What the goal has given stands
     -- behind what was there, with a line for each solution.
-    abbrev pub HasRunGoal : List (Chars × ℕ) → ℕ → Tree → Names → Told → S → List ℕ → List ℕ → Ran → Names → Told → S → List ℕ → List ℕ → Type 0
-    HasRunGoal names wanted goal m t old bytes old_out ran n u new more new_out =
+    abbrev pub HasRunGoal : List (Chars × ℕ) → ℕ → Tree → Names → Told → ℕ → S → List ℕ → List ℕ → Ran → Names → Told → ℕ → S → List ℕ → List ℕ → Type 0
+    HasRunGoal names wanted goal m t before old bytes old_out ran n u after new more new_out =
         (job : Job) (cs : List Consulted) (x : Execution)
         → HasBudgets budgets job.limits
         → job.limits.solutions ≡ wanted
@@ -148,15 +149,15 @@ module _ {S : Type 0} (execution : (ℕ → Chars) → S → Job → List Consul
         → x ≡ at_start_of job of_goal m goal (execution (text_of m) old job cs)
         → IsText name (kept old) x bytes
         → (ds : List Consulted) × (y : Execution)
-        × Comes job x t y u
+        × ComesBy job x t before y u after
         × GoalStandsAs part n u new job ds ran y
         × plays (text_of n) new job.script
         × IsText name (kept new) y more
-        × ((before : Chars) → old_out ≡ encode_utf8_all before → new_out ≡ encode_utf8_all (with_output names before (output_of y)))
+        × ((front : Chars) → old_out ≡ encode_utf8_all front → new_out ≡ encode_utf8_all (with_output names front (output_of y)))
 
     -- What follows the search of the goal: the script is told how it has ended, or nothing is done.
-    abbrev pub HasClosed : ℕ → Names → Told → S → List ℕ → Ran → Names → Told → S → List ℕ → Type 0
-    HasClosed wanted m t old bytes ran n u new more =
+    abbrev pub HasClosed : ℕ → Names → Told → ℕ → S → List ℕ → Ran → Names → Told → ℕ → S → List ℕ → Type 0
+    HasClosed wanted m t before old bytes ran n u after new more =
         (job : Job) (cs : List Consulted) (s : State)
         → HasBudgets budgets job.limits
         → job.limits.solutions ≡ wanted
@@ -164,7 +165,7 @@ module _ {S : Type 0} (execution : (ℕ → Chars) → S → Job → List Consul
         → StandsSo budgets wanted m t s ran
         → IsText name (kept old) (with_search (execution (text_of m) old job cs) of_goal s) bytes
         → (ds : List Consulted) × (y : Execution)
-        × Comes job (with_search (execution (text_of m) old job cs) of_goal s) t y u
+        × ComesBy job (with_search (execution (text_of m) old job cs) of_goal s) t before y u after
         × GoalStandsAs part n u new job ds ran y
         × plays (text_of n) new job.script
         × IsText name (kept new) y more
@@ -176,15 +177,15 @@ module _ {S : Type 0} (execution : (ℕ → Chars) → S → Job → List Consul
         (searched : Option State) × StandsBefore execution part term_by (text_of n) s job (part s) how searched ds y
     TurnStands n u s job ds (Stops i) y = StandsAs part n u s job ds i y
 
-    abbrev pub HasTurned : Names → Told → S → Option (How Tree) → List ℕ → Turn → Names → Told → S → List ℕ → Type 0
-    HasTurned m t old how bytes turn n u new more =
+    abbrev pub HasTurned : Names → Told → ℕ → S → Option (How Tree) → List ℕ → Turn → Names → Told → ℕ → S → List ℕ → Type 0
+    HasTurned m t before old how bytes turn n u after new more =
         (job : Job) (cs : List Consulted) (searched : Option State) (x : Execution)
         → HasBudgets budgets job.limits
         → plays (text_of m) old job.script
         → StandsBefore execution part term_by (text_of m) old job (part old) how searched cs x
         → IsText name (kept old) x bytes
         → (ds : List Consulted) × (y : Execution)
-        × Comes job x t y u
+        × ComesBy job x t before y u after
         × TurnStands n u new job ds turn y
         × plays (text_of n) new job.script
         × IsText name (kept new) y more

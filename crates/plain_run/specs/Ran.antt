@@ -12,8 +12,9 @@ use Rattle.term_store.specs.NumberedNames.{term_by}
 use Rattle.world_api.specs.declared.visit.Procedure.{Procedure}
 use Rattle.world_api.specs.Texts.{text_of}
 use Rattle.world_api.specs.Told.{Told}
-use Rattle.world_api.specs.Courses.{Part, limits_of, seen_in, with_search}
-use Rattle.world_api.specs.Scripts.{Comes, EndsAs}
+use Rattle.script_api.specs.Parts.{Part, limits_of, seen_in, with_search}
+use Rattle.script_api.specs.Comes.{ComesBy}
+use Rattle.script_api.specs.Scripts.{EndsAs}
 use Rattle.iso_search.specs.declared.search.Budgets.{Budgets}
 use Rattle.iso_engine.specs.declared.engine.Engine.{Engine}
 use Rattle.iso_engine.specs.Missing.{IsUnbuiltDoing}
@@ -49,15 +50,16 @@ module _ (budgets : Budgets) (wanted : ℕ) (n : Names) (u : Told) (s : State) w
   StandsSo (Worn w) = Unit {0}
   StandsSo (Missing p) = IsUnbuiltBy n p s.doing
 
--- The search of this goal came to a state in which it does not go on, and what was written stands behind the text.
-pub record HasSearched (put : Chars → List Output → Chars) (budgets : Budgets) (wanted : ℕ) (m : Names) (t : Told) (goal : Tree) (old_out : List ℕ) (n : Names) (u : Told) (new_out : List ℕ) (r : Ran) : Type 0 where
+-- The search of this goal came to a state in which it does not go on, as many moves were counted, and what was written
+-- stands after the text.
+pub record HasSearched (put : Chars → List Output → Chars) (budgets : Budgets) (wanted : ℕ) (m : Names) (t : Told) (before : ℕ) (goal : Tree) (old_out : List ℕ) (n : Names) (u : Told) (after : ℕ) (new_out : List ℕ) (r : Ran) : Type 0 where
   pub state : State
   pub comes :
       (job : Job) (part : Part) (x : Execution)
       → HasBudgets budgets job.limits
       → (limits_of job part).solutions ≡ wanted
-      → Comes job (at_start_of job part m goal x) t (with_search x part state) u
-  pub out : (before : Chars) → old_out ≡ encode_utf8_all before → new_out ≡ encode_utf8_all (put before state.output)
+      → ComesBy job (at_start_of job part m goal x) t before (with_search x part state) u after
+  pub out : (front : Chars) → old_out ≡ encode_utf8_all front → new_out ≡ encode_utf8_all (put front state.output)
   pub stands : StandsSo budgets wanted n u state r
 
 -- The refusal for which it does not go on.

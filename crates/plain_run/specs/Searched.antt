@@ -1,5 +1,5 @@
 -- How far a search has come, and what was written of it.
-use Rattle.std.specs.Prelude.{◌≡◌, ℕ, List, [], ◌∷◌, ◌++◌, map, Option, None, Some, Result, Ok, Err, encode_utf8_all}
+use Rattle.std.specs.Prelude.{◌≡◌, ◌+◌, ℕ, List, [], ◌∷◌, ◌++◌, map, Option, None, Some, Result, Ok, Err, encode_utf8_all}
 use Rattle.pl_term.specs.Tree.{Chars}
 use Rattle.pl_term.specs.declared.memory.Memory.{Memory as WantOfMemory}
 use Rattle.pl_model.specs.Resolution.{Output}
@@ -38,22 +38,28 @@ Stands m t e (NeedsAtoms p) = Unit {0}
 Stands m t e (Worn w) = Unit {0}
 Stands m t e (Missing p) = IsMissing m t e p
 
--- The search came from the one state to the other, and what the goal has given is behind the text, as the function puts it.
-pub record HasRun (put : Chars → List Output → Chars) (m : Names) (t : Told) (e : Engine) (n : Names) (u : Told) (f : Engine) (old_out new_out : List ℕ) : Type 0 where
-  pub steps : ℕ
+-- The search came from the one state to the other in so many steps, and what the goal has given is after the text, as the
+-- function puts it.
+pub record HasRun (put : Chars → List Output → Chars) (steps : ℕ) (m : Names) (t : Told) (e : Engine) (n : Names) (u : Told) (f : Engine) (old_out new_out : List ℕ) : Type 0 where
   pub written : List Output
   pub advances : Advances steps m t e n u f written
   pub out : (before : Chars) → old_out ≡ encode_utf8_all before → new_out ≡ encode_utf8_all (put before written)
 
+-- It came so far, and the count of moves rose by as many.
+pub record HasCounted (put : Chars → List Output → Chars) (m : Names) (t : Told) (e : Engine) (before : ℕ) (n : Names) (u : Told) (f : Engine) (after : ℕ) (old_out new_out : List ℕ) : Type 0 where
+  pub steps : ℕ
+  pub ran : HasRun put steps m t e n u f old_out new_out
+  pub counted : steps + before ≡ after
+
 -- It came so far, and does not go on.
-pub record IsSearched (put : Chars → List Output → Chars) (m : Names) (t : Told) (e : Engine) (n : Names) (u : Told) (f : Engine) (old_out new_out : List ℕ) (s : Searched) : Type 0 where
-  pub ran : HasRun put m t e n u f old_out new_out
+pub record IsSearched (put : Chars → List Output → Chars) (m : Names) (t : Told) (e : Engine) (before : ℕ) (n : Names) (u : Told) (f : Engine) (after : ℕ) (old_out new_out : List ℕ) (s : Searched) : Type 0 where
+  pub counted : HasCounted put m t e before n u f after old_out new_out
   pub stands : Stands n u f s
 
 -- It came so far, and goes on or does not.
-abbrev pub IsCarriedOn : (Chars → List Output → Chars) → Names → Told → Engine → Names → Told → Engine → List ℕ → List ℕ → Option Searched → Type 0
-IsCarriedOn put m t e n u f old_out new_out None = HasRun put m t e n u f old_out new_out
-IsCarriedOn put m t e n u f old_out new_out (Some s) = IsSearched put m t e n u f old_out new_out s
+abbrev pub IsCarriedOn : (Chars → List Output → Chars) → Names → Told → Engine → ℕ → Names → Told → Engine → ℕ → List ℕ → List ℕ → Option Searched → Type 0
+IsCarriedOn put m t e before n u f after old_out new_out None = HasCounted put m t e before n u f after old_out new_out
+IsCarriedOn put m t e before n u f after old_out new_out (Some s) = IsSearched put m t e before n u f after old_out new_out s
 
 -- The refusal for which a search does not go on.
 abbrev pub last_refusals : Searched → List Refusal

@@ -12,13 +12,14 @@ use pl_term::Memory;
 use term_store::Stored;
 use world_api::World;
 
-/// Runs the search of a directive until it does not go on. What the goal writes is put behind `out`; of its solutions
-/// nothing is (ISO 7.4.2). The only error is want of memory.
+/// Runs the search of a directive until it does not go on. What the goal writes is put after `out`; of its solutions
+/// nothing is (ISO 7.4.2). Its steps are counted by `moves`. The only error is out of memory.
 pub fn search_directive<W: World<Term = Stored>>(
     engine: &mut Engine,
     world: &mut W,
     atoms: &mut W::A,
     out: &mut Vec<u8>,
+    moves: &mut u64,
 ) -> Result<Searched, Memory>
     requires runs { has_ended (W.told world.old).engine (W.told world.old).history ≡ false }
     requires ready { engine.old.broken ≡ false → IsReady (W.A.held atoms.old) (W.told world.old) engine.old }
@@ -27,11 +28,11 @@ pub fn search_directive<W: World<Term = Stored>>(
     ensures sound { OnOk result (engine.new.broken ≡ false) }
     ensures ready { engine.new.broken ≡ false → IsReady (W.A.held atoms.new) (W.told world.new) engine.new }
     ensures refusals { IfOk result (λ s. IsRefusedOnce (W.A.refusals atoms.old) (W.A.refusals atoms.new) (last_refusals s)) }
-    ensures searched { IfOk result (IsSearched texts (W.A.held atoms.old) (W.told world.old) engine.old
-        (W.A.held atoms.new) (W.told world.new) engine.new out.old.items out.new.items) }
+    ensures searched { IfOk result (IsSearched texts (W.A.held atoms.old) (W.told world.old) engine.old moves.old
+        (W.A.held atoms.new) (W.told world.new) engine.new moves.new out.old.items out.new.items) }
 {
     for _ in 0..u64::MAX {
-        let stop = next_slice(engine, world, atoms, out)?;
+        let stop = next_slice(engine, world, atoms, out, moves)?;
         if let Some(searched) = stop {
             return Ok(searched);
         }
@@ -39,12 +40,13 @@ pub fn search_directive<W: World<Term = Stored>>(
     Err(Memory)
 }
 
-/// Runs a slice more, and says why the search does not go on behind it, if it does not. The only error is want of memory.
+/// Runs a slice more, and says why the search does not go on after it, if it does not. The only error is out of memory.
 fn next_slice<W: World<Term = Stored>>(
     engine: &mut Engine,
     world: &mut W,
     atoms: &mut W::A,
     out: &mut Vec<u8>,
+    moves: &mut u64,
 ) -> Result<Option<Searched>, Memory>
     requires runs { has_ended (W.told world.old).engine (W.told world.old).history ≡ false }
     requires ready { engine.old.broken ≡ false → IsReady (W.A.held atoms.old) (W.told world.old) engine.old }
@@ -53,10 +55,10 @@ fn next_slice<W: World<Term = Stored>>(
     ensures sound { OnOk result (engine.new.broken ≡ false) }
     ensures ready { engine.new.broken ≡ false → IsReady (W.A.held atoms.new) (W.told world.new) engine.new }
     ensures refusals { IfOk result (λ o. IsRefusedOnce (W.A.refusals atoms.old) (W.A.refusals atoms.new) (stop_refusals o)) }
-    ensures carried { IfOk result (IsCarriedOn texts (W.A.held atoms.old) (W.told world.old) engine.old
-        (W.A.held atoms.new) (W.told world.new) engine.new out.old.items out.new.items) }
+    ensures carried { IfOk result (IsCarriedOn texts (W.A.held atoms.old) (W.told world.old) engine.old moves.old
+        (W.A.held atoms.new) (W.told world.new) engine.new moves.new out.old.items out.new.items) }
 {
-    let slice = engine.slice(world, atoms, out, INFERENCES);
+    let slice = engine.slice(world, atoms, out, moves, INFERENCES);
     if engine.broken {
         return Err(Memory);
     }

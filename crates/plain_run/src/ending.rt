@@ -2,7 +2,7 @@
 ghost use Rattle.std.specs.Prelude.{◌≡◌, IfOk, List, None};
 ghost use Rattle.run_model.specs.Lawful.{EndsSo};
 ghost use Rattle.pl_model.specs.Resolution.{Ending, Output};
-ghost use Rattle.world_api.specs.Scripts.{EndsAs, LeavesOff};
+ghost use Rattle.script_api.specs.Scripts.{EndsAs, LeavesOff};
 ghost use Rattle.world_api.specs.Told.{Told};
 ghost use Rattle.iso_engine.specs.Ready.{IsReady};
 ghost use Rattle.iso_engine.specs.Slices.{IsEnd};

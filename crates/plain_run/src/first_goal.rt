@@ -3,7 +3,7 @@ ghost use Rattle.std.specs.Prelude.{◌≡◌, ◌++◌, ℕ, false, IfOk, IsSom
 ghost use Rattle.std.specs.List.{All};
 ghost use Rattle.term_store.specs.NumberedNames.{names_of};
 ghost use Rattle.iso_search.specs.declared.search.Budgets.{Budgets};
-ghost use Rattle.world_api.specs.Courses.{of_goal};
+ghost use Rattle.script_api.specs.Parts.{of_goal};
 ghost use Rattle.world_api.specs.Texts.{Holds};
 ghost use Rattle.world_api.specs.Told.{has_ended};
 ghost use Rattle.plain_run.specs.Items.{HasClosed, HasRunGoal, HasWords};
@@ -15,11 +15,12 @@ use iso_search::search::Budgets;
 use pl_term::{Memory, Text};
 use std::alloc::Global;
 use term_store::Stored;
-use world_api::{Next, Script, World};
+use script_api::{Next, Script};
+use world_api::World;
 
 /// Runs the goal that a script has at hand until its search does not go on, and gives its end to the script. What the goal
-/// writes is put behind `out`, and a line for each of its solutions; `names` has the names of its variables, each with the
-/// variable's number. So many solutions are wanted. The only error is want of memory.
+/// writes is put after `out`, and a line for each of its solutions; `names` has the names of its variables, each with the
+/// variable's number. So many solutions are wanted. The moves are counted by `moves`. The only error is out of memory.
 pub fn run_goal<S: Script<Term = Stored>, W: World<Term = Stored>>(
     alloc: Global,
     goal: &Stored,
@@ -31,14 +32,15 @@ pub fn run_goal<S: Script<Term = Stored>, W: World<Term = Stored>>(
     atoms: &mut W::A,
     text: &mut Vec<u8>,
     out: &mut Vec<u8>,
+    moves: &mut u64,
 ) -> Result<Ran, Memory>
     requires runs { has_ended (W.told world.old).engine (W.told world.old).history ≡ false }
     requires at_hand { S.part script.old ≡ Some of_goal }
     requires goes_on { S.over script.old ≡ false }
     requires held { All (λ a. IsSome (W.A.held atoms.old a)) (S.names script.old ++ names_of goal.now) }
     ensures ran { IfOk result (λ r. HasRunGoal S.execution S.part S.plays S.kept (S.name script.old) budgets names.now wanted goal.now
-        (W.A.held atoms.old) (W.told world.old) script.old text.old.items out.old.items r
-        (W.A.held atoms.new) (W.told world.new) script.new text.new.items out.new.items) }
+        (W.A.held atoms.old) (W.told world.old) moves.old script.old text.old.items out.old.items r
+        (W.A.held atoms.new) (W.told world.new) moves.new script.new text.new.items out.new.items) }
     ensures told { IfOk result IsEndedOr }
     ensures missing { IfOk result (IsNameHeld (W.A.held atoms.new)) }
     ensures named { IfOk result (λ r. S.name script.new ≡ S.name script.old) }
@@ -47,25 +49,27 @@ pub fn run_goal<S: Script<Term = Stored>, W: World<Term = Stored>>(
     ensures holds { Holds (W.A.held atoms.old) (W.A.held atoms.new) }
     ensures refusals { IfOk result (λ r. IsRefusedOnce (W.A.refusals atoms.old) (W.A.refusals atoms.new) (ran_refusals r)) }
 {
-    let ran = goal_ran(alloc, goal, names, budgets, wanted, world, atoms, out)?;
-    close(&ran, script, world, atoms, text)?;
+    let ran = goal_ran(alloc, goal, names, budgets, wanted, world, atoms, out, moves)?;
+    close(&ran, script, world, atoms, text, moves)?;
     Ok(ran)
 }
 
-/// Gives the end of the goal that a script has at hand to it, if its search has ended. The only error is want of memory.
+/// Gives the end of the goal that a script has at hand to it, if its search has ended. The only error is out of memory.
 fn close<S: Script<Term = Stored>, W: World<Term = Stored>>(
     ran: &Ran,
     script: &mut S,
     world: &mut W,
     atoms: &mut W::A,
     text: &mut Vec<u8>,
+    moves: &mut u64,
 ) -> Result<(), Memory>
     requires runs { has_ended (W.told world.old).engine (W.told world.old).history ≡ false }
     requires at_hand { S.part script.old ≡ Some of_goal }
     requires goes_on { S.over script.old ≡ false }
     requires held { All (λ a. IsSome (W.A.held atoms.old a)) (S.names script.old) }
     ensures closed { (budgets : Budgets) (wanted : ℕ) → OnOk result (HasClosed S.execution S.part S.plays S.kept (S.name script.old) budgets wanted
-        (W.A.held atoms.old) (W.told world.old) script.old text.old.items ran.now (W.A.held atoms.new) (W.told world.new) script.new text.new.items) }
+        (W.A.held atoms.old) (W.told world.old) moves.old script.old text.old.items ran.now
+        (W.A.held atoms.new) (W.told world.new) moves.new script.new text.new.items) }
     ensures named { S.name script.new ≡ S.name script.old }
     ensures words { OnOk result (HasWords S.execution (W.A.held atoms.old) script.old (W.A.held atoms.new) script.new) }
     ensures runs { has_ended (W.told world.new).engine (W.told world.new).history ≡ false }
@@ -75,7 +79,7 @@ fn close<S: Script<Term = Stored>, W: World<Term = Stored>>(
     let Ran::Ended(how) = ran else {
         return Ok(());
     };
-    match script.next(Some(how), world, atoms, text) {
+    match script.next(Some(how), world, atoms, text, moves) {
         Next::Done { .. } => Ok(()),
         Next::Memory => Err(Memory),
         _ => unreachable!(),

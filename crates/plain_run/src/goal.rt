@@ -21,9 +21,9 @@ use term_store::Stored;
 use world_api::World;
 use world_builtins::flats_at;
 
-/// Runs the search of a goal until it does not go on. What the goal writes is put behind `out`, and a line for each of its
-/// solutions; `names` has the names of the goal's variables, each with the variable's number. The only error is want of
-/// memory.
+/// Runs the search of a goal until it does not go on. What the goal writes is put after `out`, and a line for each of its
+/// solutions; `names` has the names of the goal's variables, each with the variable's number. Its steps are counted by
+/// `moves`. The only error is out of memory.
 pub fn search_goal<W: World<Term = Stored>>(
     alloc: Global,
     engine: &mut Engine,
@@ -31,6 +31,7 @@ pub fn search_goal<W: World<Term = Stored>>(
     world: &mut W,
     atoms: &mut W::A,
     out: &mut Vec<u8>,
+    moves: &mut u64,
 ) -> Result<Searched, Memory>
     requires runs { has_ended (W.told world.old).engine (W.told world.old).history ≡ false }
     requires ready { engine.old.broken ≡ false → IsReady (W.A.held atoms.old) (W.told world.old) engine.old }
@@ -39,11 +40,11 @@ pub fn search_goal<W: World<Term = Stored>>(
     ensures sound { OnOk result (engine.new.broken ≡ false) }
     ensures ready { engine.new.broken ≡ false → IsReady (W.A.held atoms.new) (W.told world.new) engine.new }
     ensures refusals { IfOk result (λ s. IsRefusedOnce (W.A.refusals atoms.old) (W.A.refusals atoms.new) (last_refusals s)) }
-    ensures searched { IfOk result (IsSearched (with_output names.now) (W.A.held atoms.old) (W.told world.old) engine.old
-        (W.A.held atoms.new) (W.told world.new) engine.new out.old.items out.new.items) }
+    ensures searched { IfOk result (IsSearched (with_output names.now) (W.A.held atoms.old) (W.told world.old) engine.old moves.old
+        (W.A.held atoms.new) (W.told world.new) engine.new moves.new out.old.items out.new.items) }
 {
     for _ in 0..u64::MAX {
-        let stop = next_slice(alloc, engine, names, world, atoms, out)?;
+        let stop = next_slice(alloc, engine, names, world, atoms, out, moves)?;
         if let Some(searched) = stop {
             return Ok(searched);
         }
@@ -51,8 +52,8 @@ pub fn search_goal<W: World<Term = Stored>>(
     Err(Memory)
 }
 
-/// Runs a slice more, with the line of its solution, and says why the search does not go on behind it, if it does not. The
-/// only error is want of memory.
+/// Runs a slice more, with the line of its solution, and says why the search does not go on after it, if it does not. The
+/// only error is out of memory.
 fn next_slice<W: World<Term = Stored>>(
     alloc: Global,
     engine: &mut Engine,
@@ -60,6 +61,7 @@ fn next_slice<W: World<Term = Stored>>(
     world: &mut W,
     atoms: &mut W::A,
     out: &mut Vec<u8>,
+    moves: &mut u64,
 ) -> Result<Option<Searched>, Memory>
     requires runs { has_ended (W.told world.old).engine (W.told world.old).history ≡ false }
     requires ready { engine.old.broken ≡ false → IsReady (W.A.held atoms.old) (W.told world.old) engine.old }
@@ -68,10 +70,10 @@ fn next_slice<W: World<Term = Stored>>(
     ensures sound { OnOk result (engine.new.broken ≡ false) }
     ensures ready { engine.new.broken ≡ false → IsReady (W.A.held atoms.new) (W.told world.new) engine.new }
     ensures refusals { IfOk result (λ o. IsRefusedOnce (W.A.refusals atoms.old) (W.A.refusals atoms.new) (stop_refusals o)) }
-    ensures carried { IfOk result (IsCarriedOn (with_output names.now) (W.A.held atoms.old) (W.told world.old) engine.old
-        (W.A.held atoms.new) (W.told world.new) engine.new out.old.items out.new.items) }
+    ensures carried { IfOk result (IsCarriedOn (with_output names.now) (W.A.held atoms.old) (W.told world.old) engine.old moves.old
+        (W.A.held atoms.new) (W.told world.new) engine.new moves.new out.old.items out.new.items) }
 {
-    let slice = engine.slice(world, atoms, out, INFERENCES);
+    let slice = engine.slice(world, atoms, out, moves, INFERENCES);
     if engine.broken {
         return Err(Memory);
     }
@@ -79,8 +81,8 @@ fn next_slice<W: World<Term = Stored>>(
     stop_after(slice)
 }
 
-/// Puts the line of a slice's solution behind `out`, if it gave one: the goal's variables with their terms as they stand
-/// now. The only error is want of memory.
+/// Puts the line of a slice's solution after `out`, if it gave one: the goal's variables with their terms as they stand
+/// now. The only error is out of memory.
 fn put_answer<A: Atoms>(
     alloc: Global,
     engine: &Engine,

@@ -11,7 +11,8 @@ use iso_search::search::Budgets;
 use pl_term::{Flat, Memory};
 use std::alloc::Global;
 use term_store::Stored;
-use world_api::{How, Next, On, Pass, Procedure, Script, World, WornWord};
+use script_api::{Next, Script};
+use world_api::{How, On, Pass, Procedure, World, WornWord};
 
 /// Why the items of a script do not go on.
 #[derive(Drop)]
@@ -40,8 +41,8 @@ pub(crate) enum Turn {
 }
 
 /// Runs the directives of a script, which has no item at hand, until its next item is a goal, or there is none, or
-/// something stops it. What is written of the file is put behind `text`. The budgets are those of each search. The only
-/// error is want of memory.
+/// something stops it. What is written of the file is put after `text`. The budgets are those of each search. The moves are
+/// counted by `moves`. The only error is out of memory.
 pub fn run_items<S: Script<Term = Stored>, W: World<Term = Stored>>(
     alloc: Global,
     script: &mut S,
@@ -49,13 +50,14 @@ pub fn run_items<S: Script<Term = Stored>, W: World<Term = Stored>>(
     world: &mut W,
     atoms: &mut W::A,
     text: &mut Vec<u8>,
+    moves: &mut u64,
 ) -> Result<Items, Memory>
     requires runs { has_ended (W.told world.old).engine (W.told world.old).history ≡ false }
     requires none { S.part script.old ≡ None }
     requires goes_on { S.over script.old ≡ false }
     requires held { All (λ a. IsSome (W.A.held atoms.old a)) (S.names script.old) }
-    ensures items { IfOk result (λ i. HasRunItems S.execution S.part S.plays S.kept (S.name script.old) budgets (W.A.held atoms.old) (W.told world.old) script.old text.old.items i
-        (W.A.held atoms.new) (W.told world.new) script.new text.new.items) }
+    ensures items { IfOk result (λ i. HasRunItems S.execution S.part S.plays S.kept (S.name script.old) budgets (W.A.held atoms.old) (W.told world.old) moves.old script.old text.old.items i
+        (W.A.held atoms.new) (W.told world.new) moves.new script.new text.new.items) }
     ensures at_hand { IfOk result (λ i. IsGoalAtHand i (S.part script.new)) }
     ensures over { IfOk result (λ i. S.over script.new ≡ is_over i) }
     ensures named { IfOk result (λ i. S.name script.new ≡ S.name script.old) }
@@ -67,7 +69,7 @@ pub fn run_items<S: Script<Term = Stored>, W: World<Term = Stored>>(
 {
     let mut ended = None;
     for _ in 0..u64::MAX {
-        let next = next_turn(alloc, script, ended, budgets, world, atoms, text)?;
+        let next = next_turn(alloc, script, ended, budgets, world, atoms, text, moves)?;
         match next {
             Turn::Goes(how) => ended = how,
             Turn::Stops(items) => return Ok(items),
@@ -77,7 +79,7 @@ pub fn run_items<S: Script<Term = Stored>, W: World<Term = Stored>>(
 }
 
 /// Asks a script for its next item, where a directive has ended so or none is at hand, and runs it if it is a directive.
-/// The only error is want of memory.
+/// The only error is out of memory.
 fn next_turn<S: Script<Term = Stored>, W: World<Term = Stored>>(
     alloc: Global,
     script: &mut S,
@@ -86,13 +88,14 @@ fn next_turn<S: Script<Term = Stored>, W: World<Term = Stored>>(
     world: &mut W,
     atoms: &mut W::A,
     text: &mut Vec<u8>,
+    moves: &mut u64,
 ) -> Result<Turn, Memory>
     requires runs { has_ended (W.told world.old).engine (W.told world.old).history ≡ false }
     requires asked { IsDirectiveAsked (S.part script.old) ended }
     requires goes_on { S.over script.old ≡ false }
     requires held { All (λ a. IsSome (W.A.held atoms.old a)) (S.names script.old) }
-    ensures turned { IfOk result (λ r. HasTurned S.execution S.part S.plays S.kept (S.name script.old) budgets (W.A.held atoms.old) (W.told world.old) script.old ended text.old.items r
-        (W.A.held atoms.new) (W.told world.new) script.new text.new.items) }
+    ensures turned { IfOk result (λ r. HasTurned S.execution S.part S.plays S.kept (S.name script.old) budgets (W.A.held atoms.old) (W.told world.old) moves.old script.old ended text.old.items r
+        (W.A.held atoms.new) (W.told world.new) moves.new script.new text.new.items) }
     ensures at_hand { IfOk result (λ r. IsTurnAtHand r (S.part script.new)) }
     ensures over { IfOk result (λ r. S.over script.new ≡ is_over_by r) }
     ensures named { IfOk result (λ r. S.name script.new ≡ S.name script.old) }
@@ -102,11 +105,11 @@ fn next_turn<S: Script<Term = Stored>, W: World<Term = Stored>>(
     ensures holds { Holds (W.A.held atoms.old) (W.A.held atoms.new) }
     ensures refusals { IfOk result (λ r. IsRefusedOnce (W.A.refusals atoms.old) (W.A.refusals atoms.new) (turn_refusals r)) }
 {
-    let next = script.next(ended.as_ref(), world, atoms, text);
+    let next = script.next(ended.as_ref(), world, atoms, text, moves);
     match next {
         Next::Item { goal, directive } => {
             if directive {
-                let ran = directive_ran(alloc, &goal, budgets, world, atoms, text)?;
+                let ran = directive_ran(alloc, &goal, budgets, world, atoms, text, moves)?;
                 Ok(turn_by(ran))
             } else {
                 Ok(Turn::Stops(Items::Goal(goal)))

@@ -36,8 +36,8 @@ pub enum Ran {
     Missing(Procedure),
 }
 
-/// Searches for one solution of a directive's goal. What the goal writes is put behind `out`. The only error is want of
-/// memory.
+/// Searches for one solution of a directive's goal. What the goal writes is put after `out`, and the steps are counted by
+/// `moves`. The only error is out of memory.
 pub(crate) fn directive_ran<W: World<Term = Stored>>(
     alloc: Global,
     goal: &Stored,
@@ -45,6 +45,7 @@ pub(crate) fn directive_ran<W: World<Term = Stored>>(
     world: &mut W,
     atoms: &mut W::A,
     out: &mut Vec<u8>,
+    moves: &mut u64,
 ) -> Result<Ran, Memory>
     requires runs { has_ended (W.told world.old).engine (W.told world.old).history ≡ false }
     requires held { All (λ a. IsSome (W.A.held atoms.old a)) (names_of goal.now) }
@@ -52,17 +53,17 @@ pub(crate) fn directive_ran<W: World<Term = Stored>>(
     ensures holds { Holds (W.A.held atoms.old) (W.A.held atoms.new) }
     ensures refusals { IfOk result (λ r. IsRefusedOnce (W.A.refusals atoms.old) (W.A.refusals atoms.new) (ran_refusals r)) }
     ensures told { IfOk result IsEndedOr }
-    ensures searched { IfOk result (HasSearched texts budgets 1 (W.A.held atoms.old) (W.told world.old) goal.now out.old.items
-        (W.A.held atoms.new) (W.told world.new) out.new.items) }
+    ensures searched { IfOk result (HasSearched texts budgets 1 (W.A.held atoms.old) (W.told world.old) moves.old goal.now out.old.items
+        (W.A.held atoms.new) (W.told world.new) moves.new out.new.items) }
 {
     let _nodes = goal.nodes();
     let mut engine = Engine::new(alloc, goal, budgets, 1)?;
-    let searched = search_directive(&mut engine, world, atoms, out)?;
+    let searched = search_directive(&mut engine, world, atoms, out, moves)?;
     ran_by(alloc, &engine, searched, atoms)
 }
 
-/// Searches for so many solutions of a goal. What the goal writes is put behind `out`, and a line for each solution. The
-/// only error is want of memory.
+/// Searches for so many solutions of a goal. What the goal writes is put after `out`, and a line for each solution; the
+/// steps are counted by `moves`. The only error is out of memory.
 pub(crate) fn goal_ran<W: World<Term = Stored>>(
     alloc: Global,
     goal: &Stored,
@@ -72,6 +73,7 @@ pub(crate) fn goal_ran<W: World<Term = Stored>>(
     world: &mut W,
     atoms: &mut W::A,
     out: &mut Vec<u8>,
+    moves: &mut u64,
 ) -> Result<Ran, Memory>
     requires runs { has_ended (W.told world.old).engine (W.told world.old).history ≡ false }
     requires held { All (λ a. IsSome (W.A.held atoms.old a)) (names_of goal.now) }
@@ -79,16 +81,16 @@ pub(crate) fn goal_ran<W: World<Term = Stored>>(
     ensures holds { Holds (W.A.held atoms.old) (W.A.held atoms.new) }
     ensures refusals { IfOk result (λ r. IsRefusedOnce (W.A.refusals atoms.old) (W.A.refusals atoms.new) (ran_refusals r)) }
     ensures told { IfOk result IsEndedOr }
-    ensures searched { IfOk result (HasSearched (with_output names.now) budgets wanted (W.A.held atoms.old) (W.told world.old) goal.now out.old.items
-        (W.A.held atoms.new) (W.told world.new) out.new.items) }
+    ensures searched { IfOk result (HasSearched (with_output names.now) budgets wanted (W.A.held atoms.old) (W.told world.old) moves.old goal.now out.old.items
+        (W.A.held atoms.new) (W.told world.new) moves.new out.new.items) }
 {
     let _nodes = goal.nodes();
     let mut engine = Engine::new(alloc, goal, budgets, wanted)?;
-    let searched = search_goal(alloc, &mut engine, names, world, atoms, out)?;
+    let searched = search_goal(alloc, &mut engine, names, world, atoms, out, moves)?;
     ran_by(alloc, &engine, searched, atoms)
 }
 
-/// How the search of an engine has ended, or why it does not go on. The only error is want of memory.
+/// How the search of an engine has ended, or why it does not go on. The only error is out of memory.
 fn ran_by<A: Atoms>(
     alloc: Global,
     engine: &Engine,

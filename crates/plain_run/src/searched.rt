@@ -23,8 +23,8 @@ pub enum Searched {
     Missing(Procedure),
 }
 
-/// Why the search does not go on behind a slice, if it does not: it goes on where the slice made all its inferences, where
-/// it gave a solution, and where others stepped in between. The only error is want of memory.
+/// Why the search does not go on after a slice, if it does not: it goes on where the slice made all its inferences, where
+/// it gave a solution, and where others stepped in between. The only error is out of memory.
 pub(crate) fn stop_after(slice: Slice) -> Result<Option<Searched>, Memory>
     ensures { IsStop slice result }
 {

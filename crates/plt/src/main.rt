@@ -1,12 +1,15 @@
 //! The program `plt`: it makes the real files, standard output and the gate, and hands the words of the command line
 //! to the top call.
 #![tactic(auto)]
+ghost use Rattle.std.specs.Prelude.{◌≡◌};
+ghost use Rattle.std.specs.Process.{exit_status};
 
 use pl_io::{HostFiles, HostOutput, Open};
 use pl_term::{Memory, Text};
 use std::alloc::Global;
 use std::process::ExitCode;
 use std::{env, io};
+use toplevel::run::Report;
 
 /// The exit status where there is no memory for the words.
 const NO_MEMORY: u8 = 255;
@@ -25,6 +28,13 @@ fn main(rt: HostRuntime) -> ExitCode {
         &mut out,
         &Open,
     );
+    exit_code(&report)
+}
+
+/// The exit code whose status is the report's.
+fn exit_code(report: &Report) -> ExitCode
+    ensures { exit_status result ≡ report.now.status }
+{
     ExitCode::from(report.status)
 }
 

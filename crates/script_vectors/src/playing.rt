@@ -3,7 +3,7 @@ ghost use Rattle.std.specs.Prelude.{◌≡◌, false, None, IsSome};
 ghost use Rattle.std.specs.List.{All};
 ghost use Rattle.term_store.specs.NumberedNames.{names_of};
 ghost use Rattle.world_api.specs.Told.{has_ended};
-ghost use Rattle.world_api.specs.Scripts.{IsAsked, is_done, next_names};
+ghost use Rattle.script_api.specs.Scripts.{IsAsked, is_done, next_names};
 ghost use Rattle.first_script.specs.FileScripts.{is_over, part_in};
 ghost use Rattle.script_vectors.specs.Asking.{AsksEnd};
 
@@ -15,7 +15,8 @@ use pl_term::{Flat, Memory, Text};
 use std::alloc::Global;
 use term_store::Stored;
 use term_writer::writeq;
-use world_api::{How, Next, Script, World};
+use script_api::{Next, Script};
+use world_api::{How, World};
 
 /// The end that a letter stands for.
 fn end_by(alloc: Global, letter: char) -> Result<How<Flat>, Memory> {

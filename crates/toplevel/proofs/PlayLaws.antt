@@ -17,9 +17,9 @@ use Rattle.atom_words.specs.declared.view.Refusal.{Refusal}
 use Rattle.atom_words.specs.declared.view.Refusal.TheVariants.{Again as RefusalAgain}
 use Rattle.atom_api.specs.Names.{Names}
 use Rattle.world_api.specs.Told.{Told}
-use Rattle.world_api.specs.Courses.{Part, of_goal, of_directive, with_search}
-use Rattle.world_api.specs.Scripts.{Comes, LeavesOff}
-use Rattle.world_api.proofs.ComesLaws.{comes_then}
+use Rattle.script_api.specs.Parts.{Part, of_goal, of_directive, with_search}
+use Rattle.script_api.specs.Scripts.{Comes, LeavesOff}
+use Rattle.script_api.proofs.ComesLaws.{comes_then}
 use Rattle.iso_search.specs.declared.search.Budgets.{Budgets}
 use Rattle.first_script.specs.declared.file_script.FileScript.{FileScript}
 use Rattle.first_script.specs.FileScripts.{Plays, execution_of, part_in}

@@ -12,9 +12,9 @@ use Rattle.run_model.specs.Progress.{Alone, WaitsNow}
 use Rattle.run_model.specs.Report.{all_consulted, with_consulted, item_line, with_directive, with_line}
 use Rattle.run_model.proofs.LawfulAlone.{alone_start}
 use Rattle.world_api.specs.Told.{Told}
-use Rattle.world_api.specs.Courses.{Part, of_goal, of_directive, with_search}
-use Rattle.world_api.specs.Scripts.{Comes, written_at}
-use Rattle.world_api.specs.Scripts as scripts
+use Rattle.script_api.specs.Parts.{Part, of_goal, of_directive, with_search}
+use Rattle.script_api.specs.Scripts.{Comes, written_at}
+use Rattle.script_api.specs.Scripts as scripts
 use Rattle.first_script.specs.declared.file_script.FileScript.{FileScript}
 use Rattle.first_script.specs.FileScripts.{Begins, Plays, execution_of, part_in}
 use Rattle.first_script.specs.Words.{AreNames, given_words}

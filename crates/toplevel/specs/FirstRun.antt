@@ -10,8 +10,8 @@ use Rattle.run_model.specs.Report.{output_of, with_output}
 use Rattle.atom_api.specs.Names.{Names}
 use Rattle.world_api.specs.declared.visit.Procedure.{Procedure}
 use Rattle.world_api.specs.Told.{Told}
-use Rattle.world_api.specs.Courses.{Part, seen_in, with_search}
-use Rattle.world_api.specs.Scripts.{Comes, EndsAs}
+use Rattle.script_api.specs.Parts.{Part, seen_in, with_search}
+use Rattle.script_api.specs.Scripts.{Comes, EndsAs}
 use Rattle.pl_model.specs.Resolution.{State}
 use Rattle.first_script.specs.declared.file_script.FileScript.{FileScript}
 use Rattle.first_script.specs.FileScripts.{execution_of, part_in}

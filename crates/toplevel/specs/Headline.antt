@@ -1,5 +1,5 @@
 -- What the program's top call promises.
-use Rattle.std.specs.Prelude.{◌≡◌, ◌<◌, ◌++◌, ◌⊎◌, ℕ, List, length, take, Option, Some, None}
+use Rattle.std.specs.Prelude.{◌≡◌, ◌<◌, ◌++◌, ◌⊎◌, ℕ, List, [], length, take, Option, Some, None}
 use Rattle.std.specs.Str.{encode_utf8_all}
 use Rattle.pl_term.specs.Tree.{Chars}
 use Rattle.pl_model.specs.History.{Proc}
@@ -26,6 +26,14 @@ HasRun ReadFault = ⊥
 HasRun WriteFault = ⊥
 HasRun (Halted n) = Unit {0}
 HasRun Unbuilt = ⊥
+
+-- The report tells nothing of a run: neither a history nor an end of a goal.
+abbrev pub TellsNothing : Report → Type 0
+TellsNothing report = (report.front ≡ None) × (report.ends.items ≡ [])
+
+-- The program stopped where the file was to be read.
+abbrev pub IsUnread : End → Type 0
+IsUnread end = (end ≡ ReadFault) ⊎ (end ≡ Memory)
 
 -- These are the bytes of the file, where they are told.
 abbrev pub AreRead : Option (List ℕ) → List ℕ → Type 0
@@ -88,7 +96,7 @@ pub record IsReady (c : Command) (bytes : List ℕ) (ready : Ready) : Type 0 whe
 
 -- This predicate of the system was named, which is not built yet.
 pub record IsNamed (q : Proc) (write_rose : Type 0) (old new : Option (List ℕ)) (report : Report) : Type 0 where
-  pub none : report.front ≡ None
+  pub none : TellsNothing report
   pub written : IsWrittenUnless write_rose old new (encode_utf8_all (unbuilt_line q.name q.arity))
 
 -- The run of the command came to the predicate that was named, and nothing else was written.
@@ -105,9 +113,9 @@ Promised read_rose write_rose c file old new report Done = Ran c file old new re
 Promised read_rose write_rose c file old new report GoalFailed = Ran c file old new report
 Promised read_rose write_rose c file old new report Usage = ⊥
 Promised read_rose write_rose c file old new report Waiting = Ran c file old new report
-Promised read_rose write_rose c file old new report Memory = (report.front ≡ None) × (new ≡ old)
+Promised read_rose write_rose c file old new report Memory = TellsNothing report × (new ≡ old)
 Promised read_rose write_rose c file old new report ReadFault =
-    (report.front ≡ None) × read_rose × IsWrittenUnless write_rose old new (encode_utf8_all (unread_line c.file))
+    TellsNothing report × read_rose × IsWrittenUnless write_rose old new (encode_utf8_all (unread_line c.file))
 Promised read_rose write_rose c file old new report WriteFault = write_rose × RanUnwritten c file old new report
 Promised read_rose write_rose c file old new report (Halted n) = Ran c file old new report
 Promised read_rose write_rose c file old new report Unbuilt = IsUnbuilt write_rose c file old new report
@@ -115,12 +123,12 @@ Promised read_rose write_rose c file old new report Unbuilt = IsUnbuilt write_ro
 -- What is promised where a read of the file failed.
 abbrev pub GaveUp : Type 0 → Chars → Option (List ℕ) → Option (List ℕ) → Report → End → Type 0
 GaveUp write_rose name old new report ReadFault =
-    (report.front ≡ None) × IsWrittenUnless write_rose old new (encode_utf8_all (unread_line name))
-GaveUp write_rose name old new report Memory = (report.front ≡ None) × (new ≡ old)
+    TellsNothing report × IsWrittenUnless write_rose old new (encode_utf8_all (unread_line name))
+GaveUp write_rose name old new report Memory = TellsNothing report × (new ≡ old)
 GaveUp write_rose name old new report end = ⊥
 
 -- What is promised where a goal came to this predicate, which is not built yet.
 abbrev pub Missed : Proc → Type 0 → Option (List ℕ) → Option (List ℕ) → Report → End → Type 0
 Missed q write_rose old new report Unbuilt = IsNamed q write_rose old new report
-Missed q write_rose old new report Memory = (report.front ≡ None) × (new ≡ old)
+Missed q write_rose old new report Memory = TellsNothing report × (new ≡ old)
 Missed q write_rose old new report end = ⊥

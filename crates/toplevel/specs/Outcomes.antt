@@ -10,7 +10,7 @@ use Rattle.run_model.specs.Lawful.{EndsSo, Program, Told, main_job}
 use Rattle.run_model.specs.Progress.{Alone, Seen, WaitsNow}
 use Rattle.run_model.specs.Report.{all_consulted, item_line, output_of, with_directive, with_line, with_output}
 use Rattle.world_api.specs.Told.{Told as Engine}
-use Rattle.world_api.specs.Courses.{Part, of_directive}
+use Rattle.script_api.specs.Parts.{Part, of_directive}
 use Rattle.plain_world.specs.Entries.{entry_of}
 use Rattle.pl_command.specs.Ends.{some_fault}
 use Rattle.toplevel.specs.declared.outcome.Front.{Front}

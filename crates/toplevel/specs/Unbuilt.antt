@@ -6,7 +6,7 @@ use Rattle.pl_model.specs.Resolution.{State}
 use Rattle.run_model.specs.Execution.{Execution}
 use Rattle.run_model.specs.Lawful.{Program, main_job}
 use Rattle.run_model.specs.Progress.{Alone, Seen}
-use Rattle.world_api.specs.Courses.{Part, with_search}
+use Rattle.script_api.specs.Parts.{Part, with_search}
 use Rattle.iso_engine.specs.Missing.{IsUnbuiltDoing}
 use Rattle.pl_command.specs.CommandLine.{newline}
 

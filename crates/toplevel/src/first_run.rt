@@ -26,7 +26,7 @@ use pl_term::{Memory, Text};
 use plain_world::PlainWorld;
 use std::alloc::Global;
 use term_store::Stored;
-use world_api::Script;
+use script_api::Script;
 
 /// What comes of the run of the first engine.
 #[derive(Drop)]

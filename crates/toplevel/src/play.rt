@@ -3,7 +3,7 @@ ghost use Rattle.std.specs.Prelude.{◌≡◌, ◌++◌, ℕ, List, [], false, S
 ghost use Rattle.std.specs.List.{All};
 ghost use Rattle.run_model.specs.Execution.{Consulted, Execution, Job};
 ghost use Rattle.term_store.specs.NumberedNames.{names_of};
-ghost use Rattle.world_api.specs.Courses.{of_goal};
+ghost use Rattle.script_api.specs.Parts.{of_goal};
 ghost use Rattle.world_api.specs.Told.{has_ended};
 ghost use Rattle.first_script.specs.FileScripts.{Plays, execution_of, part_in};
 ghost use Rattle.plain_run.specs.Items.{IsText};
@@ -20,7 +20,8 @@ use pl_term::{Memory, Text};
 use plain_run::{Items, Ran, ends_how, ends_over, run_goal, run_items};
 use std::alloc::Global;
 use term_store::Stored;
-use world_api::{Procedure, Script, World};
+use script_api::Script;
+use world_api::{Procedure, World};
 
 /// Where the first engine does not go on.
 #[derive(Drop)]

@@ -1,12 +1,12 @@
 //! The top call: a command, from its words to its transcript.
-ghost use Rattle.std.specs.Prelude.{◌≡◌, ◌≢◌, ◌↔◌, suc, take, List, ℕ, Option, None, Some, IfOk, IfErr};
+ghost use Rattle.std.specs.Prelude.{◌≡◌, ◌≢◌, ◌↔◌, suc, take, List, ℕ, Option, None, Some, IfOk, IfErr, IsErr, IsTrue};
 ghost use Rattle.std.specs.Str.{encode_utf8_all};
 ghost use Rattle.pl_io.specs.Faults.{Rose};
 ghost use Rattle.run_model.specs.Execution.{most_bytes};
 ghost use Rattle.pl_command.specs.CommandLine.{Command as CommandOf, command, unread_line, usage_line};
 ghost use Rattle.pl_command.specs.Ends.{status_of};
 ghost use Rattle.pl_command.specs.Told.{told_command};
-ghost use Rattle.toplevel.specs.Headline.{AreRead, GaveUp, HasRun, IsReady, IsUnbuilt, IsWrittenUnless, Missed, Promised, Ran, RanUnwritten};
+ghost use Rattle.toplevel.specs.Headline.{AreRead, GaveUp, HasRun, IsReady, IsUnbuilt, IsUnread, IsWrittenUnless, Missed, Promised, Ran, RanUnwritten, TellsNothing};
 ghost use Rattle.toplevel.specs.Settled.{IsSettled};
 ghost use Rattle.toplevel.specs.Unbuilt.{indicated};
 
@@ -54,7 +54,7 @@ pub enum Settled {
 fn bare_report(alloc: Global, end: End) -> Report
     ensures end { result.end ≡ end }
     ensures status { result.status ≡ status_of end }
-    ensures front { result.front ≡ None }
+    ensures nothing { TellsNothing result }
 {
     Report {
         end,
@@ -86,7 +86,8 @@ fn settle<G: Gate>(
 }
 
 /// Reads the file and runs the command.
-/// `Failed`: a read failed; the count of faults of the file's name rose. `Memory`: there is no memory.
+/// `Failed`: a read failed, as it does where there is no such file; the count of faults of the file's name rose.
+/// `Memory`: there is no memory.
 fn prepare<F: Files, G: Gate>(
     alloc: Global,
     command: &Command,
@@ -95,6 +96,7 @@ fn prepare<F: Files, G: Gate>(
 ) -> Result<Settled, ReadAllError>
     ensures failed { IfErr result (λ e. e ≡ ReadAllError.Failed
         → Rose (F.faults files.old command.now.file) (F.faults files.new command.now.file)) }
+    ensures absent { IsTrue (F.absent files.old command.now.file) → IsErr result }
     ensures settled { IfOk result (λ settled. (bytes : List ℕ) × (AreRead (F.told files.old command.now.file) bytes
         × IsSettled (told_command command.now) bytes settled)) }
 {
@@ -130,7 +132,7 @@ fn deliver<S: Sink>(ready: Ready, out: &mut S) -> Report
 fn refuse<S: Sink>(alloc: Global, out: &mut S) -> Report
     ensures end { result.end ≡ End.Usage }
     ensures status { result.status ≡ status_of End.Usage }
-    ensures front { result.front ≡ None }
+    ensures nothing { TellsNothing result }
     ensures written { IsWrittenUnless (Rose (S.faults out.old) (S.faults out.new)) (S.written out.old) (S.written out.new)
         (encode_utf8_all usage_line) }
 {
@@ -140,6 +142,7 @@ fn refuse<S: Sink>(alloc: Global, out: &mut S) -> Report
 
 /// Writes the line for a file that cannot be read.
 fn give_up<S: Sink>(alloc: Global, file: &Text, out: &mut S) -> Report
+    ensures end { IsUnread result.end }
     ensures status { result.status ≡ status_of result.end }
     ensures given_up { GaveUp (Rose (S.faults out.old) (S.faults out.new)) file.now (S.written out.old) (S.written out.new)
         result result.end }
@@ -193,6 +196,7 @@ fn run_command<F: Files, S: Sink, G: Gate>(
     ensures promised { Promised (Rose (F.faults files.old command.now.file) (F.faults files.new command.now.file))
         (Rose (S.faults out.old) (S.faults out.new)) (told_command command.now)
         (F.told files.old command.now.file) (S.written out.old) (S.written out.new) result result.end }
+    ensures absent { IsTrue (F.absent files.old command.now.file) → IsUnread result.end }
 {
     match prepare(alloc, command, files, gate) {
         Ok(settled) => finish(alloc, settled, out),
@@ -205,7 +209,7 @@ fn run_command<F: Files, S: Sink, G: Gate>(
 /// the transcript to `out`. Before each visit to the shared state the gate is called, with worker 0.
 ///
 /// The report says how the program ended. `Usage`: the words are no command; the usage line is written. `ReadFault`: a
-/// read of the file failed; a line that says so is written. `Memory`: there was no memory; nothing is written.
+/// read of the file failed, as it does where there is no such file; a line that says so is written. `Memory`: there was no memory; nothing is written.
 /// `WriteFault`: a write failed; a front of the transcript was written. `Unbuilt`: a goal came to a predicate of the
 /// system that is not built yet; a line names it. `Halted`: the goal or a directive ended by halt/1. `Waiting`: the
 /// engine waits, and nothing wakes it. `GoalFailed`: the goal did not end solved, or a fault of the file was kept.
@@ -226,17 +230,18 @@ pub fn run<R: Threads + Wait + Sync, F: Files, S: Sink, G: Gate + Sync>(
         → (Rose (S.faults out.old) (S.faults out.new) → ⊥)
         → result.end ≢ End.Memory → result.end ≢ End.Unbuilt → HasRun result.end }
     ensures usage { result.end ≢ End.Memory → (result.end ≡ End.Usage ↔ command words.now ≡ None) }
-    ensures usage_line { result.end ≡ End.Usage → (result.front ≡ None)
+    ensures absent { (c : CommandOf) → command words.now ≡ Some c → IsTrue (F.absent files.old c.file) → IsUnread result.end }
+    ensures usage_line { result.end ≡ End.Usage → TellsNothing result
         × IsWrittenUnless (Rose (S.faults out.old) (S.faults out.new)) (S.written out.old) (S.written out.new)
         (encode_utf8_all usage_line) }
-    ensures read_fault { result.end ≡ End.ReadFault → (result.front ≡ None) × ((c : CommandOf)
+    ensures read_fault { result.end ≡ End.ReadFault → TellsNothing result × ((c : CommandOf)
         × ((command words.now ≡ Some c) × (Rose (F.faults files.old c.file) (F.faults files.new c.file)
         × IsWrittenUnless (Rose (S.faults out.old) (S.faults out.new)) (S.written out.old) (S.written out.new)
         (encode_utf8_all (unread_line c.file))))) }
     ensures write_fault { result.end ≡ End.WriteFault → Rose (S.faults out.old) (S.faults out.new)
         × ((c : CommandOf) × ((command words.now ≡ Some c)
         × RanUnwritten c (F.told files.old c.file) (S.written out.old) (S.written out.new) result)) }
-    ensures memory { result.end ≡ End.Memory → (result.front ≡ None) × (S.written out.new ≡ S.written out.old) }
+    ensures memory { result.end ≡ End.Memory → TellsNothing result × (S.written out.new ≡ S.written out.old) }
     ensures unbuilt { result.end ≡ End.Unbuilt → (c : CommandOf) × ((command words.now ≡ Some c)
         × IsUnbuilt (Rose (S.faults out.old) (S.faults out.new)) c (F.told files.old c.file) (S.written out.old) (S.written out.new) result) }
 {

@@ -3,7 +3,7 @@ use Rattle.pl_model.specs.Requests.{consult_clause}
 use Rattle.term_store.specs.NumberedNames.{names_of, term_by}
 use Rattle.world_api.specs.Texts.{text_of}
 use Rattle.world_api.specs.Visits.{clause_in}
-use Rattle.world_api.proofs.LaterLaws.{later_by, later_same}
+use Rattle.script_api.proofs.LaterLaws.{later_by, later_same}
 use Rattle.first_script.proofs.AddLaws.{add_serves, add_told, add_added, add_asked, added_named, added_quiet}
 use Rattle.first_script.proofs.adds.add.Goals as goal
 

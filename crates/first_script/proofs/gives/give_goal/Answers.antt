@@ -1,6 +1,6 @@
 use Rattle.std.proofs.Common.{refl}
 use Rattle.pl_term.specs.Tree.{Tree}
-use Rattle.world_api.specs.declared.script.Next.TheVariants.{Memory}
+use Rattle.script_api.specs.declared.script.Next.TheVariants.{Memory}
 use Rattle.first_script.specs.declared.stage.Stage.TheVariants.{Goal}
 use Rattle.first_script.proofs.StepLaws.{stayed}
 use Rattle.std.specs.List.{Contains}

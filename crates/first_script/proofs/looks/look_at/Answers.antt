@@ -2,7 +2,7 @@ use Rattle.std.proofs.Common.{refl}
 use Rattle.pl_model.specs.Requests.{look}
 use Rattle.term_store.specs.NumberedNames.{term_by}
 use Rattle.world_api.specs.Texts.{text_of}
-use Rattle.world_api.proofs.LaterLaws.{later_by, later_same}
+use Rattle.script_api.proofs.LaterLaws.{later_by, later_same}
 use Rattle.world_api.proofs.AskedLaws.{look_asks_nothing}
 use Rattle.first_script.proofs.LookLaws.{look_serves, look_told, look_looked}
 use Rattle.first_script.proofs.looks.look_at.Goals as goal

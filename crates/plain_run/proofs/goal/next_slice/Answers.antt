@@ -29,6 +29,8 @@ returns-clause-carried g c =
     let new = c.put_answer.new.out.items in
     let s = c.slice-slice.result in
     let r = c.stop_after.result in
-    subst (λ (k : Names). IfOk r (IsCarriedOn (with_output names) m t e k u f old new)) (sym c.put_answer.ensures.same)
-    (carried (with_output names) 1000 m n t u e f old mid new s r c.stop_after.ensures c.slice-slice.ensures.sliced
-    (λ h. ran_goal names 1000 m n t u e f old mid new s h c.in_ok-put_answer.ensures.puts))
+    let before = c.args.moves.now in
+    let after = c.slice-slice.new.moves in
+    subst (λ (k : Names). IfOk r (IsCarriedOn (with_output names) m t e before k u f after old new)) (sym c.put_answer.ensures.same)
+    (carried (with_output names) 1000 before after m n t u e f old mid new s r c.stop_after.ensures c.slice-slice.ensures.sliced
+    (λ k h. ran_goal names 1000 k m n t u e f old mid new s h c.in_ok-put_answer.ensures.puts))

@@ -9,7 +9,7 @@ loop-init g c = (
   λ a t h. h,
   c.requires.ready,
   none_refused (g.W.A.Atoms.refusals c.args.atoms.now),
-  run_begins (with_output c.args.names.now) (output-pieces c.args.names.now) (g.W.A.Atoms.held c.args.atoms.now) (g.W.World.told c.args.world.now) c.args.engine.now c.args.out.now.items,
+  run_begins (with_output c.args.names.now) (output-pieces c.args.names.now) (g.W.A.Atoms.held c.args.atoms.now) (g.W.World.told c.args.world.now) c.args.engine.now c.args.moves.now c.args.out.now.items,
 )
 
 pub loop-preserved : goal.loop-preserved
@@ -22,7 +22,8 @@ loop-preserved g c =
       refused_on (g.W.A.Atoms.refusals c.args.atoms.now) (g.W.A.Atoms.refusals c.loop.atoms) (g.W.A.Atoms.refusals c.next_slice.new.atoms) s.stop i.3 s.ensures.refusals c.in_default.is,
       goes_on (with_output c.args.names.now) (output-pieces c.args.names.now) (g.W.A.Atoms.held c.args.atoms.now) (g.W.A.Atoms.held c.loop.atoms) (g.W.A.Atoms.held c.next_slice.new.atoms)
           (g.W.World.told c.args.world.now) (g.W.World.told c.loop.world) (g.W.World.told c.next_slice.new.world) c.args.engine.now c.loop.engine
-          c.next_slice.new.engine c.args.out.now.items c.loop.out.items c.next_slice.new.out.items s.stop i.4 s.ensures.carried c.in_default.is,
+          c.next_slice.new.engine c.args.moves.now c.loop.moves c.next_slice.new.moves c.args.out.now.items c.loop.out.items c.next_slice.new.out.items s.stop
+          i.4 s.ensures.carried c.in_default.is,
     )
 
 pub returns-in-Some-clause-refusals : goal.returns-in-Some-clause-refusals
@@ -36,4 +37,5 @@ returns-in-Some-clause-searched g c =
     let s = c.in_ok-stop in
     stops_there (with_output c.args.names.now) (output-pieces c.args.names.now) (g.W.A.Atoms.held c.args.atoms.now) (g.W.A.Atoms.held c.loop.atoms) (g.W.A.Atoms.held c.next_slice.new.atoms)
     (g.W.World.told c.args.world.now) (g.W.World.told c.loop.world) (g.W.World.told c.next_slice.new.world) c.args.engine.now c.loop.engine c.next_slice.new.engine
-    c.args.out.now.items c.loop.out.items c.next_slice.new.out.items s.stop c.in-Some.searched c.loop.invariant.4 s.ensures.carried c.in-Some.is
+    c.args.moves.now c.loop.moves c.next_slice.new.moves c.args.out.now.items c.loop.out.items c.next_slice.new.out.items s.stop c.in-Some.searched
+    c.loop.invariant.4 s.ensures.carried c.in-Some.is

@@ -3,7 +3,7 @@ use Rattle.run_model.specs.Report.{with_output}
 use Rattle.world_api.specs.Texts.{Holds}
 use Rattle.world_api.specs.Told.{has_ended}
 use Rattle.iso_engine.specs.Ready.{IsReady}
-use Rattle.plain_run.specs.Searched.{HasRun, IsRefusedOnce}
+use Rattle.plain_run.specs.Searched.{HasCounted, IsRefusedOnce}
 use Rattle.plain_run.proofs.goal.search_goal.Given as goal
 
 abbrev pub invariant-loop : goal.invariant-loop
@@ -12,5 +12,5 @@ invariant-loop g l =
     × Holds (g.W.A.Atoms.held l.initial.atoms) (g.W.A.Atoms.held l.atoms)
     × (l.engine.broken ≡ false → IsReady (g.W.A.Atoms.held l.atoms) (g.W.World.told l.world) l.engine)
     × IsRefusedOnce (g.W.A.Atoms.refusals l.initial.atoms) (g.W.A.Atoms.refusals l.atoms) []
-    × HasRun (with_output l.fn.names) (g.W.A.Atoms.held l.initial.atoms) (g.W.World.told l.initial.world) l.initial.engine (g.W.A.Atoms.held l.atoms) (g.W.World.told l.world) l.engine
-    l.initial.out.items l.out.items
+    × HasCounted (with_output l.fn.names) (g.W.A.Atoms.held l.initial.atoms) (g.W.World.told l.initial.world) l.initial.engine l.initial.moves
+    (g.W.A.Atoms.held l.atoms) (g.W.World.told l.world) l.engine l.moves l.initial.out.items l.out.items

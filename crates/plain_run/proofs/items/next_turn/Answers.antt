@@ -24,10 +24,10 @@ returns-then-directive-clause-turned g c =
     in let held : All (λ (a : ℕ). IsSome (n a)) (g.S.Script.names new) =
     front_of (λ (a : ℕ). IsSome (n a)) (g.S.Script.names new) (names_of c.in-Item.goal) c.in-Item.ensures.held
     in is_directed g.S.Script.execution g.S.Script.part g.S.Script.plays g.S.Script.kept g.S.Script.names (g.S.Script.name old) c.args.budgets
-    g.met.S.Script.lines g.met.S.Script.reported g.met.S.Script.names_tell m n t u old new _ c.args.ended c.as_ref.ensures.value
+    g.met.S.Script.lines g.met.S.Script.reported g.met.S.Script.names_tell m n t u c.args.moves.now c.next-next.new.moves old new _ c.args.ended c.as_ref.ensures.value
     c.args.text.now.items c.next-next.new.text.items c.in-Item.goal
     c.in-Item.directive c.if-directive.true c.in-Item.ensures.given
-    k v c.directive_ran.new.out.items c.directive_ran.ensures.holds held c.in_ok-ran-in-Item.ran c.turn_by.result c.in_ok-ran-in-Item.ensures.searched c.turn_by.ensures
+    k v c.directive_ran.new.moves c.directive_ran.new.out.items c.directive_ran.ensures.holds held c.in_ok-ran-in-Item.ran c.turn_by.result c.in_ok-ran-in-Item.ensures.searched c.turn_by.ensures
 
 pub returns-then-directive-clause-at_hand : goal.returns-then-directive-clause-at_hand
 returns-then-directive-clause-at_hand g c =
@@ -42,7 +42,7 @@ returns-then-directive-clause-missing g c =
     in let u = g.W.World.told c.next-next.new.world
     in let v = g.W.World.told c.directive_ran.new.world
     in name_held_by k c.in_ok-ran-in-Item.ran c.turn_by.result
-    (name_held texts c.args.budgets 1 n k u v c.in-Item.goal _ _ c.in_ok-ran-in-Item.ran c.in_ok-ran-in-Item.ensures.searched) c.turn_by.ensures
+    (name_held texts c.args.budgets 1 n k u v c.next-next.new.moves c.directive_ran.new.moves c.in-Item.goal _ _ c.in_ok-ran-in-Item.ran c.in_ok-ran-in-Item.ensures.searched) c.turn_by.ensures
 
 pub returns-then-directive-clause-held : goal.returns-then-directive-clause-held
 returns-then-directive-clause-held g c =
@@ -63,7 +63,7 @@ returns-in-NeedsAtoms-clause-turned g c =
     needs_atoms g.S.Script.execution g.S.Script.part g.S.Script.plays g.S.Script.kept g.S.Script.names (g.S.Script.name c.args.script.now) c.args.budgets
     g.met.S.Script.lines g.met.S.Script.reported g.met.S.Script.names_tell
     (g.W.A.Atoms.held c.args.atoms.now) (g.W.A.Atoms.held c.next-next.new.atoms) (g.W.World.told c.args.world.now) (g.W.World.told c.next-next.new.world)
-    c.args.script.now c.next-next.new.self _ c.args.ended c.as_ref.ensures.value c.args.text.now.items c.next-next.new.text.items c.in-NeedsAtoms.pass
+    c.args.moves.now c.next-next.new.moves c.args.script.now c.next-next.new.self _ c.args.ended c.as_ref.ensures.value c.args.text.now.items c.next-next.new.text.items c.in-NeedsAtoms.pass
     c.in-NeedsAtoms.ensures.given
 
 pub returns-in-Worn-clause-turned : goal.returns-in-Worn-clause-turned
@@ -71,7 +71,7 @@ returns-in-Worn-clause-turned g c =
     is_worn g.S.Script.execution g.S.Script.part g.S.Script.plays g.S.Script.kept g.S.Script.names (g.S.Script.name c.args.script.now) c.args.budgets
     g.met.S.Script.lines g.met.S.Script.reported g.met.S.Script.names_tell
     (g.W.A.Atoms.held c.args.atoms.now) (g.W.A.Atoms.held c.next-next.new.atoms) (g.W.World.told c.args.world.now) (g.W.World.told c.next-next.new.world)
-    c.args.script.now c.next-next.new.self _ c.args.ended c.as_ref.ensures.value c.args.text.now.items c.next-next.new.text.items c.in-Worn.word
+    c.args.moves.now c.next-next.new.moves c.args.script.now c.next-next.new.self _ c.args.ended c.as_ref.ensures.value c.args.text.now.items c.next-next.new.text.items c.in-Worn.word
     c.in-Worn.ensures.given
 
 pub returns-in-Retry-clause-turned : goal.returns-in-Retry-clause-turned
@@ -79,5 +79,5 @@ returns-in-Retry-clause-turned g c =
     is_again g.S.Script.execution g.S.Script.part g.S.Script.plays g.S.Script.kept g.S.Script.names (g.S.Script.name c.args.script.now) c.args.budgets
     g.met.S.Script.lines g.met.S.Script.reported g.met.S.Script.names_tell
     (g.W.A.Atoms.held c.args.atoms.now) (g.W.A.Atoms.held c.next-next.new.atoms) (g.W.World.told c.args.world.now) (g.W.World.told c.next-next.new.world)
-    c.args.script.now c.next-next.new.self _ c.args.ended c.as_ref.ensures.value c.args.text.now.items c.next-next.new.text.items c.in-Retry._cause
+    c.args.moves.now c.next-next.new.moves c.args.script.now c.next-next.new.self _ c.args.ended c.as_ref.ensures.value c.args.text.now.items c.next-next.new.text.items c.in-Retry._cause
     c.in-Retry.ensures.given

@@ -19,7 +19,7 @@ loop-init g c = (
   c.requires.held,
   asked_at_start (g.S.Script.part c.args.script.now) c.requires.none,
   turns_begin g.S.Script.execution g.S.Script.part g.S.Script.plays g.S.Script.kept c.args.budgets (g.S.Script.name c.args.script.now)
-      (g.W.A.Atoms.held c.args.atoms.now) (g.W.World.told c.args.world.now) c.args.script.now None c.args.text.now.items,
+      (g.W.A.Atoms.held c.args.atoms.now) (g.W.World.told c.args.world.now) c.args.moves.now c.args.script.now None c.args.text.now.items,
 )
 
 pub loop-preserved : goal.loop-preserved
@@ -39,14 +39,14 @@ loop-preserved g c =
       subst (λ (q : Turn). IsTurnAtHand q (g.S.Script.part new)) c.in-Goes.is s.ensures.at_hand,
       turns_on g.S.Script.execution g.S.Script.part g.S.Script.plays g.S.Script.kept c.args.budgets (g.S.Script.name c.args.script.now)
           (g.W.A.Atoms.held c.args.atoms.now) (g.W.A.Atoms.held c.loop.atoms) k (g.W.World.told c.args.world.now) (g.W.World.told c.loop.world)
-          (g.W.World.told c.next_turn.new.world) c.args.script.now c.loop.script new None c.loop.ended c.args.text.now.items c.loop.text.items
+          (g.W.World.told c.next_turn.new.world) c.args.moves.now c.loop.moves c.next_turn.new.moves c.args.script.now c.loop.script new None c.loop.ended c.args.text.now.items c.loop.text.items
           c.next_turn.new.text.items (Goes c.in-Goes.how) i.7
           (subst (λ (nm : Chars). Turned g.S.Script.execution g.S.Script.part g.S.Script.plays g.S.Script.kept c.args.budgets nm (g.W.A.Atoms.held c.loop.atoms)
-          (g.W.World.told c.loop.world) c.loop.script c.loop.ended c.loop.text.items (Goes c.in-Goes.how) k (g.W.World.told c.next_turn.new.world) new
-          c.next_turn.new.text.items) i.4
+          (g.W.World.told c.loop.world) c.loop.moves c.loop.script c.loop.ended c.loop.text.items (Goes c.in-Goes.how) k (g.W.World.told c.next_turn.new.world)
+          c.next_turn.new.moves new c.next_turn.new.text.items) i.4
           (subst (λ (q : Turn). Turned g.S.Script.execution g.S.Script.part g.S.Script.plays g.S.Script.kept c.args.budgets (g.S.Script.name c.loop.script)
-          (g.W.A.Atoms.held c.loop.atoms) (g.W.World.told c.loop.world) c.loop.script c.loop.ended c.loop.text.items q k
-          (g.W.World.told c.next_turn.new.world) new c.next_turn.new.text.items) c.in-Goes.is s.ensures.turned)),
+          (g.W.A.Atoms.held c.loop.atoms) (g.W.World.told c.loop.world) c.loop.moves c.loop.script c.loop.ended c.loop.text.items q k
+          (g.W.World.told c.next_turn.new.world) c.next_turn.new.moves new c.next_turn.new.text.items) c.in-Goes.is s.ensures.turned)),
     )
 
 pub returns-in-Stops-clause-items : goal.returns-in-Stops-clause-items
@@ -57,15 +57,16 @@ returns-in-Stops-clause-items g c =
     let new = c.next_turn.new.script in
     let k = g.W.A.Atoms.held c.next_turn.new.atoms in
     turns_stop g.S.Script.execution g.S.Script.part g.S.Script.plays g.S.Script.kept c.args.budgets (g.S.Script.name c.args.script.now)
-    (g.W.A.Atoms.held c.args.atoms.now) k (g.W.World.told c.args.world.now) (g.W.World.told c.next_turn.new.world) c.args.script.now new
+    (g.W.A.Atoms.held c.args.atoms.now) k (g.W.World.told c.args.world.now) (g.W.World.told c.next_turn.new.world) c.args.moves.now c.next_turn.new.moves
+    c.args.script.now new
     c.args.text.now.items c.next_turn.new.text.items next c.in-Stops.items c.requires.none c.in-Stops.is
     (turns_on g.S.Script.execution g.S.Script.part g.S.Script.plays g.S.Script.kept c.args.budgets (g.S.Script.name c.args.script.now)
     (g.W.A.Atoms.held c.args.atoms.now) (g.W.A.Atoms.held c.loop.atoms) k (g.W.World.told c.args.world.now) (g.W.World.told c.loop.world)
-    (g.W.World.told c.next_turn.new.world) c.args.script.now c.loop.script new None c.loop.ended c.args.text.now.items c.loop.text.items
-    c.next_turn.new.text.items next i.7
+    (g.W.World.told c.next_turn.new.world) c.args.moves.now c.loop.moves c.next_turn.new.moves c.args.script.now c.loop.script new None c.loop.ended
+    c.args.text.now.items c.loop.text.items c.next_turn.new.text.items next i.7
     (subst (λ (nm : Chars). Turned g.S.Script.execution g.S.Script.part g.S.Script.plays g.S.Script.kept c.args.budgets nm (g.W.A.Atoms.held c.loop.atoms)
-    (g.W.World.told c.loop.world) c.loop.script c.loop.ended c.loop.text.items next k (g.W.World.told c.next_turn.new.world) new
-    c.next_turn.new.text.items) i.4 s.ensures.turned))
+    (g.W.World.told c.loop.world) c.loop.moves c.loop.script c.loop.ended c.loop.text.items next k (g.W.World.told c.next_turn.new.world)
+    c.next_turn.new.moves new c.next_turn.new.text.items) i.4 s.ensures.turned))
 
 pub returns-in-Stops-clause-refusals : goal.returns-in-Stops-clause-refusals
 returns-in-Stops-clause-refusals g c =

@@ -45,13 +45,15 @@ returns-clause-searched g c =
     in let e = c.in_ok-engine.engine
     in let f = c.search_goal.new.engine
     in let s = c.in_ok-searched.searched
+    in let before = c.args.moves.now
+    in let after = c.search_goal.new.moves
     in let old = c.args.out.now.items
     in let new = c.search_goal.new.out.items
     in let view = view_is m t (g.met.W.A.Atoms.fixed_held a) (g.met.W.A.Atoms.unlike a) (g.met.W.A.Atoms.finite a)
     in let over = stored_names c.args.goal.now c.nodes-nodes.result.now c.nodes-nodes.ensures.spelled
-    in IfOk-weaker c.ran_by.result (IsRanBy n f s) (HasSearched (with_output c.args.names.now) c.args.budgets c.args.wanted m t c.args.goal.now old k u new)
+    in IfOk-weaker c.ran_by.result (IsRanBy n f s) (HasSearched (with_output c.args.names.now) c.args.budgets c.args.wanted m t before c.args.goal.now old k u after new)
     (λ r is.
-    searched_after (with_output c.args.names.now) c.args.budgets c.args.wanted m n k t u c.args.goal.now old new r c.ran_by.ensures.same
-    (has_searched c.args.budgets c.args.wanted e c.in_ok-engine.ensures.fresh (with_output c.args.names.now) m n t u f c.args.goal.now old new s (g.met.W.A.Atoms.fixed_held a) over view
+    searched_after (with_output c.args.names.now) c.args.budgets c.args.wanted m n k t u before after c.args.goal.now old new r c.ran_by.ensures.same
+    (has_searched c.args.budgets c.args.wanted e c.in_ok-engine.ensures.fresh (with_output c.args.names.now) m n t u f before after c.args.goal.now old new s (g.met.W.A.Atoms.fixed_held a) over view
     c.in_ok-engine.ensures.starts c.in_ok-searched.ensures.searched r is))
     c.ran_by.ensures.ran

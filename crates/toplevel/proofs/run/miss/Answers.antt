@@ -14,7 +14,7 @@ returns-in-Ok-clause-missed g c =
     c.bare_report.result.end
     c.bare_report.ensures.end
     (record {
-      none = c.bare_report.ensures.front;
+      none = c.bare_report.ensures.nothing;
       written =
           written_unless
           c.write_all.result

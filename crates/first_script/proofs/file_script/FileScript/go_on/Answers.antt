@@ -2,20 +2,20 @@ use Rattle.std.proofs.Common.{◌++◌, ◌||◌, length, nat_lt, refl, ap, ap�
 use Rattle.pl_term.specs.Tree.{Tree}
 use Rattle.term_store.specs.NumberedNames.{term_by}
 use Rattle.world_api.specs.Texts.{text_of}
-use Rattle.world_api.specs.declared.script.Next.{Next}
+use Rattle.script_api.specs.declared.script.Next.{Next}
 use Rattle.first_script.specs.declared.file_script.FileScript.{FileScript}
 use Rattle.first_script.specs.declared.stage.Step.{Step}
 use Rattle.first_script.specs.declared.stage.Step.TheVariants.{Goes, Gives}
 use Rattle.first_script.specs.Steps.{IsAfter, step_refusals}
-use Rattle.first_script.specs.FileScripts.{FileMoved, IsGiven, is_memory}
+use Rattle.first_script.specs.FileScripts.{FileRan, IsGiven, is_memory}
 use Rattle.world_api.proofs.Gaining.{gains_nothing}
-use Rattle.world_api.proofs.LaterLaws.{later_same, later_then}
+use Rattle.script_api.proofs.LaterLaws.{later_same, later_then}
 use Rattle.first_script.specs.ItemTexts.{MayIntern}
 use Rattle.first_script.proofs.NarrowLaws.{narrows_bare, narrows_same, narrows_then, step_more, handed_narrows}
 use Rattle.first_script.specs.declared.stage.Stage.TheVariants.{Lost}
 use Rattle.first_script.specs.declared.stage.Stage.{Stage}
 use Rattle.first_script.specs.ItemTexts.{Narrows}
-use Rattle.first_script.proofs.FileLaws.{goes_none, goes_then, handed, handed_by}
+use Rattle.first_script.proofs.FileLaws.{goes_by, goes_none, handed, handed_by}
 use Rattle.first_script.proofs.file_script.FileScript.go_on.Goals as goal
 
 pub loop-init : goal.loop-init
@@ -32,13 +32,14 @@ loop-init g c =
       narrows = narrows_same c.args.self.now.word c.args.self.now.consult c.args.stage;
       asked = gains_nothing (MayIntern c.args.self.now.consult c.args.self.now.word c.args.stage (g.W.World.told c.args.world.now)) (g.W.A.Atoms.asked c.args.atoms.now) (g.W.A.Atoms.asked c.args.atoms.now) refl;
       faults = refl;
-      moved = λ name. goes_none (λ (v : Tree). v) name c.args.self.now c.args.stage (g.W.World.told c.args.world.now) c.args.text.now.items;
+      moved = λ name. goes_none (λ (v : Tree). v) name c.args.self.now c.args.stage (g.W.World.told c.args.world.now) c.args.moves.now c.args.text.now.items;
     }
 
 pub loop-preserved : goal.loop-preserved
 loop-preserved g c =
     let i = c.loop.invariant in
     let s = c.step-then in
+    let k = c.counted in
     let more =
     step_more c.args.self.now.word c.loop.self.word c.args.self.now.consult c.loop.self.consult s.new.self.consult c.args.stage c.loop.stage s.result.0
     (g.W.World.told c.args.world.now) (g.W.World.told c.loop.world) (g.W.A.Atoms.asked c.args.atoms.now) (g.W.A.Atoms.asked c.loop.atoms) (g.W.A.Atoms.asked s.new.atoms)
@@ -48,10 +49,11 @@ loop-preserved g c =
       holds = λ a t h. s.ensures.holds a t (i.holds a t h);
       refusals =
           s.ensures.refusals
+          ∙ ap (λ rs. g.W.A.Atoms.refusals c.loop.atoms ++ rs) (sym k.ensures.refusals)
           ∙ ap (λ p. g.W.A.Atoms.refusals c.loop.atoms ++ step_refusals p) c.in-Goes.is
           ∙ append-nil (g.W.A.Atoms.refusals c.loop.atoms)
           ∙ i.refusals;
-      can = subst (λ (p : Step). IsAfter p s.result.0) c.in-Goes.is s.ensures.stage;
+      can = subst (λ (p : Step). IsAfter p s.result.0) c.in-Goes.is (k.ensures.stage s.result.0 s.ensures.stage);
       lost = s.ensures.kept ∙ i.lost;
       file = s.ensures.file ∙ i.file;
       word = s.ensures.word ∙ i.word;
@@ -61,42 +63,44 @@ loop-preserved g c =
       faults = s.ensures.faults ∙ i.faults;
       moved =
           λ name.
-          goes_then (λ (v : Tree). v) name c.args.self.now c.loop.self s.new.self c.args.stage c.loop.stage s.result.0 (g.W.World.told c.args.world.now)
-          (g.W.World.told c.loop.world) (g.W.World.told s.new.world) c.args.text.now.items c.loop.text.items s.new.text.items Goes (i.moved name)
-          (subst
+          subst
           (λ (p : Step).
-          FileMoved (term_by (text_of (g.W.A.Atoms.held s.new.atoms))) name c.loop.self c.loop.stage (g.W.World.told c.loop.world) c.loop.text.items p s.new.self
-          s.result.0 (g.W.World.told s.new.world) s.new.text.items)
+          FileRan (λ (v : Tree). v) name c.args.self.now c.args.stage (g.W.World.told c.args.world.now) c.args.moves.now c.args.text.now.items p s.new.self
+          s.result.0 (g.W.World.told s.new.world) k.new.moves s.new.text.items)
           c.in-Goes.is
-          (s.ensures.moved name));
+          (goes_by (λ (v : Tree). v) (term_by (text_of (g.W.A.Atoms.held s.new.atoms))) name c.args.self.now c.loop.self s.new.self c.args.stage c.loop.stage s.result.0
+          (g.W.World.told c.args.world.now) (g.W.World.told c.loop.world) (g.W.World.told s.new.world) c.args.moves.now c.loop.moves k.new.moves
+          c.args.text.now.items c.loop.text.items s.new.text.items s.result.1 k.result c.moves_at-made.result c.moves_at-made.ensures (i.moved name)
+          (s.ensures.moved name) k.ensures.counted);
     }
 
 pub returns-in-Gives-clause-moved : goal.returns-in-Gives-clause-moved
 returns-in-Gives-clause-moved g c name =
     let i = c.loop.invariant in
     let s = c.step-then in
+    let k = c.counted in
     let h = c.hand_out in
     subst
     (λ (n : Next Tree).
-    FileMoved (term_by (text_of (g.W.A.Atoms.held s.new.atoms))) name c.args.self.now c.args.stage (g.W.World.told c.args.world.now) c.args.text.now.items (Gives n)
-    h.new.self h.new.self.stage (g.W.World.told s.new.world) s.new.text.items)
+    FileRan (term_by (text_of (g.W.A.Atoms.held s.new.atoms))) name c.args.self.now c.args.stage (g.W.World.told c.args.world.now) c.args.moves.now
+    c.args.text.now.items (Gives n) h.new.self h.new.self.stage (g.W.World.told s.new.world) k.new.moves s.new.text.items)
     (sym h.ensures.next)
     (handed_by c.in-Gives.next s.result.0 s.new.self h.new.self (s.new.self.faulty || c.has_grown.result) (s.ensures.kept ∙ i.lost) h.ensures.lost h.ensures.stage
-    (subst (λ (p : Step). IsAfter p s.result.0) c.in-Gives.is s.ensures.stage)
+    (subst (λ (p : Step). IsAfter p s.result.0) c.in-Gives.is (k.ensures.stage s.result.0 s.ensures.stage))
     (term_by (text_of (g.W.A.Atoms.held s.new.atoms))) name c.args.self.now c.args.stage (g.W.World.told c.args.world.now) (g.W.World.told s.new.world)
-    c.args.text.now.items s.new.text.items
-    (goes_then (term_by (text_of (g.W.A.Atoms.held s.new.atoms))) name c.args.self.now c.loop.self s.new.self c.args.stage c.loop.stage s.result.0
-    (g.W.World.told c.args.world.now) (g.W.World.told c.loop.world) (g.W.World.told s.new.world) c.args.text.now.items c.loop.text.items s.new.text.items
-    (Gives c.in-Gives.next) (i.moved name)
+    c.args.moves.now k.new.moves c.args.text.now.items s.new.text.items
     (subst
     (λ (p : Step).
-    FileMoved (term_by (text_of (g.W.A.Atoms.held s.new.atoms))) name c.loop.self c.loop.stage (g.W.World.told c.loop.world) c.loop.text.items p s.new.self
-    s.result.0 (g.W.World.told s.new.world) s.new.text.items)
+    FileRan (term_by (text_of (g.W.A.Atoms.held s.new.atoms))) name c.args.self.now c.args.stage (g.W.World.told c.args.world.now) c.args.moves.now
+    c.args.text.now.items p s.new.self s.result.0 (g.W.World.told s.new.world) k.new.moves s.new.text.items)
     c.in-Gives.is
-    (s.ensures.moved name))))
+    (goes_by (λ (v : Tree). v) (term_by (text_of (g.W.A.Atoms.held s.new.atoms))) name c.args.self.now c.loop.self s.new.self c.args.stage c.loop.stage s.result.0
+    (g.W.World.told c.args.world.now) (g.W.World.told c.loop.world) (g.W.World.told s.new.world) c.args.moves.now c.loop.moves k.new.moves
+    c.args.text.now.items c.loop.text.items s.new.text.items s.result.1 k.result c.moves_at-made.result c.moves_at-made.ensures (i.moved name)
+    (s.ensures.moved name) k.ensures.counted)))
 
 pub returns-clause-moved : goal.returns-clause-moved
-returns-clause-moved g c name job x is = let k = c.loop.invariant.moved name job x is in (k.0, k.1, k.2, tt)
+returns-clause-moved g c name job x is = let k = c.loop.invariant.moved name job x is in (k.0, (k.1.moves, k.1.comes), k.2, tt)
 
 pub returns-in-Gives-clause-given : goal.returns-in-Gives-clause-given
 returns-in-Gives-clause-given g c =
@@ -104,7 +108,7 @@ returns-in-Gives-clause-given g c =
     let h = c.hand_out in
     subst (λ (n : Next Tree). IsGiven n h.new.self.stage) (sym h.ensures.next)
     (handed c.in-Gives.next s.result.0 s.new.self h.new.self (s.new.self.faulty || c.has_grown.result) (s.ensures.kept ∙ c.loop.invariant.lost) h.ensures.lost h.ensures.stage
-    (subst (λ (p : Step). IsAfter p s.result.0) c.in-Gives.is s.ensures.stage))
+    (subst (λ (p : Step). IsAfter p s.result.0) c.in-Gives.is (c.counted.ensures.stage s.result.0 s.ensures.stage)))
 
 pub returns-in-Gives-clause-faults : goal.returns-in-Gives-clause-faults
 returns-in-Gives-clause-faults g c e =

@@ -3,12 +3,12 @@ use Rattle.pl_term.specs.Tree.{Chars, Tree}
 use Rattle.world_api.specs.Texts.{Holds}
 use Rattle.world_api.specs.Told.{has_ended}
 use Rattle.world_api.specs.Gains.{Gains}
-use Rattle.world_api.specs.Scripts.{IsLater}
+use Rattle.script_api.specs.Scripts.{IsLater}
 use Rattle.first_script.specs.declared.stage.Stage.TheVariants.{Lost}
 use Rattle.first_script.specs.declared.stage.Step.TheVariants.{Goes}
 use Rattle.first_script.specs.Steps.{can_step}
 use Rattle.first_script.specs.ItemTexts.{MayIntern, Narrows}
-use Rattle.first_script.specs.FileScripts.{FileMoved}
+use Rattle.first_script.specs.FileScripts.{FileRan}
 use Rattle.first_script.proofs.file_script.FileScript.go_on.Given as goal
 
 abbrev pub invariant-loop : goal.invariant-loop
@@ -29,5 +29,6 @@ invariant-loop g l =
       faults : l.self.faulty ≡ l.initial.self.faulty;
       moved :
           (name : Chars)
-          → FileMoved (λ (v : Tree). v) name l.initial.self l.initial.stage (g.W.World.told l.initial.world) l.initial.text.items Goes l.self l.stage (g.W.World.told l.world) l.text.items;
+          → FileRan (λ (v : Tree). v) name l.initial.self l.initial.stage (g.W.World.told l.initial.world) l.initial.moves l.initial.text.items Goes l.self l.stage
+          (g.W.World.told l.world) l.moves l.text.items;
     }

@@ -6,10 +6,10 @@ use Rattle.world_api.specs.Texts.{text_of}
 use Rattle.first_script.specs.declared.stage.Stage.{Stage}
 use Rattle.first_script.specs.declared.stage.Step.TheVariants.{Gives}
 use Rattle.first_script.specs.Steps.{can_step}
-use Rattle.first_script.specs.FileScripts.{FileMoved, is_over, part_in}
+use Rattle.first_script.specs.FileScripts.{FileRan, is_over, part_in}
 use Rattle.world_api.specs.Gains.{Gains}
 use Rattle.world_api.proofs.Gaining.{gains_nothing}
-use Rattle.world_api.proofs.LaterLaws.{later_same}
+use Rattle.script_api.proofs.LaterLaws.{later_same}
 use Rattle.first_script.specs.declared.stage.Stage.TheVariants.{Lost, Over}
 use Rattle.first_script.specs.ItemTexts.{MayIntern, clause_at, stage_texts}
 use Rattle.first_script.proofs.NarrowLaws.{from_bare, narrows_bare, narrows_then, no_goal_at, no_goal_in, own_requests, own_texts, left_requests, left_texts}
@@ -22,13 +22,14 @@ returns-then-can_step-clause-given g c =
     let t = g.W.World.told c.args.world.now in
     let u = g.W.World.told c.go_on.new.world in
     let text = text_of (g.W.A.Atoms.held c.go_on.new.atoms) in
-    given_open (text_of (g.W.A.Atoms.held c.args.atoms.now)) text s c.go_on.new.self (option_map (λ b. b.now) c.args.ended) t u c.args.text.now.items
-    c.go_on.new.text.items c.go_on.result
+    given_open (text_of (g.W.A.Atoms.held c.args.atoms.now)) text s c.go_on.new.self (option_map (λ b. b.now) c.args.ended) t u c.args.moves.now c.go_on.new.moves
+    c.args.text.now.items c.go_on.new.text.items c.go_on.result
     (ap can_step (sym c.replace-stage.ensures.value) ∙ sym c.can_step.ensures ∙ c.if-can_step.true)
     c.go_on.ensures.faults
     (subst
     (λ (k : Stage).
-    FileMoved (term_by text) s.consult.name s k t c.args.text.now.items (Gives c.go_on.result) c.go_on.new.self c.go_on.new.self.stage u c.go_on.new.text.items)
+    FileRan (term_by text) s.consult.name s k t c.args.moves.now c.args.text.now.items (Gives c.go_on.result) c.go_on.new.self c.go_on.new.self.stage u
+    c.go_on.new.moves c.go_on.new.text.items)
     c.replace-stage.ensures.value
     (c.go_on.ensures.moved s.consult.name))
     c.go_on.ensures.given
@@ -40,21 +41,24 @@ returns-in-Ok-clause-given g c =
     let t = g.W.World.told c.args.world.now in
     let u = g.W.World.told d.new.world in
     let text = text_of (g.W.A.Atoms.held d.new.atoms) in
-    given_behind (text_of (g.W.A.Atoms.held c.args.atoms.now)) text s d.new.self (option_map (λ b. b.now) c.args.ended) c.in-Ok.ensures.0 c.in-AtDirective.place t u
-    c.args.text.now.items d.new.text.items d.result
+    given_behind (text_of (g.W.A.Atoms.held c.args.atoms.now)) text s d.new.self (option_map (λ b. b.now) c.args.ended) c.in-Ok.ensures.report.0 c.in-AtDirective.place t u
+    c.args.moves.now c.to_report.new.moves d.new.moves c.args.text.now.items d.new.text.items d.result
     (sym c.replace-stage.ensures.value ∙ c.in-AtDirective.is)
-    c.in-Ok.ensures.1
+    c.in-Ok.ensures.report.1
+    c.in-Ok.ensures.counted
     d.ensures.faults
     (subst
-    (λ (k : Stage). FileMoved (term_by text) s.consult.name s k t c.args.text.now.items (Gives d.result) d.new.self d.new.self.stage u d.new.text.items)
-    c.in-Ok.ensures.2
+    (λ (k : Stage).
+    FileRan (term_by text) s.consult.name s k t c.to_report.new.moves c.args.text.now.items (Gives d.result) d.new.self d.new.self.stage u d.new.moves
+    d.new.text.items)
+    c.in-Ok.ensures.report.2
     (d.ensures.moved s.consult.name))
     d.ensures.given
 
 pub returns-in-AtDirective-clause-given : goal.returns-in-AtDirective-clause-given
 returns-in-AtDirective-clause-given g c =
     given_lost (text_of (g.W.A.Atoms.held c.args.atoms.now)) (text_of (g.W.A.Atoms.held c.args.atoms.now)) c.args.self.now _ (option_map (λ b. b.now) c.args.ended)
-    (g.W.World.told c.args.world.now) c.args.text.now.items c.replace-stage.ensures.after
+    (g.W.World.told c.args.world.now) c.args.moves.now _ c.args.text.now.items c.replace-stage.ensures.after
 
 pub returns-in-AtGoal-clause-given : goal.returns-in-AtGoal-clause-given
 returns-in-AtGoal-clause-given g c =
@@ -66,7 +70,7 @@ returns g c =
     record {
       given =
           given_lost (text_of (g.W.A.Atoms.held c.args.atoms.now)) (text_of (g.W.A.Atoms.held c.args.atoms.now)) c.args.self.now _
-          (option_map (λ b. b.now) c.args.ended) (g.W.World.told c.args.world.now) c.args.text.now.items c.replace-stage.ensures.after;
+          (option_map (λ b. b.now) c.args.ended) (g.W.World.told c.args.world.now) c.args.moves.now c.args.moves.now c.args.text.now.items c.replace-stage.ensures.after;
       over = ap is_over c.replace-stage.ensures.after;
       at_hand = tt;
       last = lost_last (part_in c.args.self.now);
@@ -111,7 +115,7 @@ pub returns-in-Ok-clause-asked : goal.returns-in-Ok-clause-asked
 returns-in-Ok-clause-asked g c =
     let s = c.args.self.now in
     from_bare s.word s.consult s.stage c.in-Ok.stage (g.W.World.told c.args.world.now) (g.W.A.Atoms.asked c.args.atoms.now)
-    (g.W.A.Atoms.asked c.go_on-in-Ok.new.atoms) (ap stage_texts c.in-Ok.ensures.2) (ap clause_at c.in-Ok.ensures.2) c.go_on-in-Ok.ensures.asked
+    (g.W.A.Atoms.asked c.go_on-in-Ok.new.atoms) (ap stage_texts c.in-Ok.ensures.report.2) (ap clause_at c.in-Ok.ensures.report.2) c.go_on-in-Ok.ensures.asked
 
 pub returns-in-Ok-clause-texts : goal.returns-in-Ok-clause-texts
 returns-in-Ok-clause-texts g c =
@@ -119,7 +123,7 @@ returns-in-Ok-clause-texts g c =
     let d = c.go_on-in-Ok in
     own_texts s d.new.self s.stage refl d.ensures.word
     (narrows_then s.word s.consult s.consult d.new.self.consult s.stage c.in-Ok.stage d.new.self.stage
-    (narrows_bare s.word s.consult s.stage c.in-Ok.stage (ap stage_texts c.in-Ok.ensures.2) (ap clause_at c.in-Ok.ensures.2)) d.ensures.narrows)
+    (narrows_bare s.word s.consult s.stage c.in-Ok.stage (ap stage_texts c.in-Ok.ensures.report.2) (ap clause_at c.in-Ok.ensures.report.2)) d.ensures.narrows)
 
 pub returns-in-Ok-clause-asks : goal.returns-in-Ok-clause-asks
 returns-in-Ok-clause-asks g c =
@@ -127,7 +131,7 @@ returns-in-Ok-clause-asks g c =
     let d = c.go_on-in-Ok in
     own_requests s d.new.self s.stage refl
     (narrows_then s.word s.consult s.consult d.new.self.consult s.stage c.in-Ok.stage d.new.self.stage
-    (narrows_bare s.word s.consult s.stage c.in-Ok.stage (ap stage_texts c.in-Ok.ensures.2) (ap clause_at c.in-Ok.ensures.2)) d.ensures.narrows)
+    (narrows_bare s.word s.consult s.stage c.in-Ok.stage (ap stage_texts c.in-Ok.ensures.report.2) (ap clause_at c.in-Ok.ensures.report.2)) d.ensures.narrows)
 
 pub returns-in-Ok-clause-words : goal.returns-in-Ok-clause-words
 returns-in-Ok-clause-words g c is =
