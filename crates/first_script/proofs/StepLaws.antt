@@ -19,12 +19,12 @@ use Rattle.pl_consult.specs.declared.consult.Taken.{Taken}
 use Rattle.pl_consult.specs.declared.consult.Taken.TheVariants.{Clause as ClauseTaken, Directive as DirectiveTaken, Passed}
 use Rattle.pl_consult.specs.Consults.{rest_of, activity_of, Stands, Does, Took, Initializes}
 use Rattle.pl_consult.proofs.ConsultLemmas.{gone_does}
-use Rattle.pl_report.specs.Reported.{IsEnding}
+use Rattle.pl_report.specs.Reported.{IsEnding, written_of}
 use Rattle.pl_model.specs.Balls.{error_ball}
 use Rattle.pl_model.specs.Control.{start, consult_proc}
 use Rattle.pl_model.specs.Resolution.{Ending, solved, no_more, threw, exited, halted}
-use Rattle.world_api.specs.declared.how.How.{How}
-use Rattle.world_api.specs.declared.how.How.TheVariants.{Solved, False, Threw, Exited, Halted, AtomSpace}
+use Rattle.pl_model.specs.declared.ends.How.{How}
+use Rattle.pl_model.specs.declared.ends.How.TheVariants.{Solved, False, Threw, Exited, Halted, AtomSpace}
 use Rattle.script_api.specs.declared.script.Next.{Next}
 use Rattle.script_api.specs.declared.script.Next.TheVariants.{Item, Done, NeedsAtoms, Retry, Worn, Memory}
 use Rattle.world_api.specs.Told.{Told}
@@ -36,7 +36,7 @@ use Rattle.first_script.specs.declared.stage.Stage.{Stage}
 use Rattle.first_script.specs.declared.stage.Stage.TheVariants.{Items, Directive, AtDirective, Report, Goal, AtGoal, Over}
 use Rattle.first_script.specs.declared.stage.Step.{Step}
 use Rattle.first_script.specs.declared.stage.Step.TheVariants.{Goes, Gives}
-use Rattle.first_script.specs.Steps.{IsStay, Looked, can_step, IsAfter, activity_in, Fits, SameGoals, SameFile, part_of, After, CameAt, Keeps, Moved, stage_by, stage_for, IsQuiet, step_names, step_refusals, IsTold, ending_of, written_of, status_of}
+use Rattle.first_script.specs.Steps.{IsStay, Looked, can_step, IsAfter, activity_in, Fits, SameGoals, SameFile, part_of, After, CameAt, Keeps, Moved, stage_by, stage_for, IsQuiet, step_names, step_refusals, IsTold, ending_of, status_of}
 
 comes_still : (job : Job) (x : Execution) (t u : Told) → u ≡ t → ComesIn job 0 x t x u
 comes_still job x t u same = subst (λ (v : Told). ComesIn job 0 x t x v) (sym same) (comes_same job x x t refl)

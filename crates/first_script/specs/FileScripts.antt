@@ -4,7 +4,7 @@ use Rattle.pl_term.specs.Tree.{Chars, Tree}
 use Rattle.run_model.specs.Execution.{Script, consults, Job, Consulted, Execution, at_start}
 use Rattle.run_model.specs.Report.{all_consulted}
 use Rattle.pl_consult.specs.declared.consult.Consult.{Consult}
-use Rattle.world_api.specs.declared.how.How.{How}
+use Rattle.pl_model.specs.declared.ends.How.{How}
 use Rattle.script_api.specs.declared.script.Next.{Next}
 use Rattle.script_api.specs.declared.script.Next.TheVariants.{Memory}
 use Rattle.world_api.specs.Told.{Told}

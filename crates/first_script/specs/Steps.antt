@@ -18,11 +18,9 @@ use Rattle.pl_consult.specs.declared.consult.Taken.{Taken}
 use Rattle.pl_consult.specs.declared.consult.Taken.TheVariants.{Clause as ClauseTaken, Directive as DirectiveTaken, Passed}
 use Rattle.pl_consult.specs.Checks.{kept_clause}
 use Rattle.pl_consult.specs.Consults.{rest_of, activity_of, Stands}
-use Rattle.pl_report.specs.declared.parts.How.{How as Written}
-use Rattle.pl_report.specs.declared.parts.How.TheVariants as written
 use Rattle.atom_words.specs.declared.view.Refusal.{Refusal}
-use Rattle.world_api.specs.declared.how.How.{How}
-use Rattle.world_api.specs.declared.how.How.TheVariants.{Solved, False, Threw, Exited, Halted, AtomSpace}
+use Rattle.pl_model.specs.declared.ends.How.{How}
+use Rattle.pl_model.specs.declared.ends.How.TheVariants.{Solved, False, Threw, Exited, Halted, AtomSpace}
 use Rattle.script_api.specs.declared.script.Next.{Next}
 use Rattle.script_api.specs.declared.script.Next.TheVariants.{Item, Done, Memory}
 use Rattle.world_api.specs.declared.reply.Reply.{Reply}
@@ -130,15 +128,7 @@ ending_of (Exited t) = exited t
 ending_of (Halted n) = halted n
 ending_of (AtomSpace r) = solved
 
--- What is written of an end, and the status of one by halt/1.
-abbrev pub written_of : How Tree → Written
-written_of Solved = written.Solved
-written_of False = written.False
-written_of (Threw t) = written.Threw t
-written_of (Exited t) = written.Exited
-written_of (Halted n) = written.Halted n
-written_of (AtomSpace r) = written.AtomSpace
-
+-- The status of an end by halt/1.
 abbrev pub status_of : How Tree → Option ℕ
 status_of (Halted n) = Some n
 status_of how = None

@@ -6,9 +6,9 @@ ghost use Rattle.first_script.specs.FileScripts.{IsReport};
 
 use crate::counts::count;
 use crate::stage::Stage;
+use pl_model::ends::How;
 use pl_term::{Flat, Memory};
 use std::alloc::Global;
-use world_api::How;
 
 /// The stage at which it is to be reported how the directive at this byte has ended, to which a move leads. The only error
 /// is out of memory.

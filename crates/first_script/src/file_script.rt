@@ -31,6 +31,7 @@ use crate::stage::{Stage, Step, can_step, directive_at};
 use crate::words::{GoalWord, begun_by, fault_in, names_in, read_word};
 use op_table::OpTable;
 use pl_consult::{Consult, Place};
+use pl_model::ends::How;
 use pl_model::grammar::Quotes;
 use pl_model::syntax::SyntaxFault;
 use pl_term::{Flat, Memory, Text};
@@ -38,7 +39,7 @@ use script_api::{Next, Script};
 use std::alloc::Global;
 use std::mem;
 use term_store::Stored;
-use world_api::{How, World};
+use world_api::World;
 
 /// The script of the first engine: a file that is consulted, and the goal of the command.
 #[derive(Drop)]

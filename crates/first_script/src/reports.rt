@@ -3,24 +3,26 @@ ghost use Rattle.std.specs.Prelude.{◌≡◌, ◌++◌, false, IsSome, Option};
 ghost use Rattle.std.specs.List.{All};
 ghost use Rattle.pl_term.specs.Tree.{Chars, Tree};
 ghost use Rattle.pl_model.specs.declared.grammar.Quotes.{Quotes};
+ghost use Rattle.pl_report.specs.Reported.{written_of};
 ghost use Rattle.term_store.specs.NumberedNames.{names_of, term_by};
 ghost use Rattle.world_api.specs.Texts.{text_of, Holds};
 ghost use Rattle.world_api.specs.Told.{Told, has_ended};
 ghost use Rattle.script_api.specs.Scripts.{IsLater};
 ghost use Rattle.first_script.specs.declared.stage.Stage.TheVariants.{Report};
 ghost use Rattle.first_script.specs.ItemTexts.{Narrows};
-ghost use Rattle.first_script.specs.Steps.{IsAfter, IsQuiet, Looked, Moved, status_of, step_names, step_refusals, written_of};
+ghost use Rattle.first_script.specs.Steps.{IsAfter, IsQuiet, Looked, Moved, status_of, step_names, step_refusals};
 
 use crate::looks::{Look, look_at};
 use crate::stage::{Stage, Step};
 use op_table::OpTable;
 use pl_consult::Consult;
+use pl_model::ends::How;
 use pl_report::How as Written;
 use pl_term::Flat;
 use script_api::Next;
 use std::alloc::Global;
 use term_store::Stored;
-use world_api::{How, World};
+use world_api::World;
 
 /// Reports how the directive of the item at this byte has ended, under the operators of a look.
 pub fn report<W: World<Term = Stored>>(

@@ -4,10 +4,10 @@ ghost use Rattle.pl_consult.specs.declared.consult.Place.{Place};
 ghost use Rattle.first_script.specs.Steps.{can_step, directive_place, part_of};
 
 use op_table::OpTable;
+use pl_model::ends::How;
 use pl_term::Flat;
 use script_api::Next;
 use term_store::Stored;
-use world_api::How;
 
 /// What the first engine has to do next.
 #[derive(Drop)]

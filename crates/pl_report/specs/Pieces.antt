@@ -3,7 +3,7 @@ use Rattle.std.specs.Prelude.{ℕ, List, [], ◌∷◌, ◌++◌, map, filter, B
 use Rattle.pl_term.specs.Tree.{Chars, Tree}
 use Rattle.pl_model.specs.OperatorTable.{OperatorTable}
 use Rattle.pl_model.specs.TermWriting.{writeq}
-use Rattle.run_model.specs.Report.{newline, closed, stopped, halted_text, goal_line, is_shown, binding_text}
+use Rattle.run_model.specs.Report.{newline, closed, stopped, halted_text, goal_line, is_shown, binding_text, no_atoms_line}
 use Rattle.pl_report.specs.declared.parts.How.{How}
 use Rattle.pl_report.specs.declared.parts.How.TheVariants.{Solved, False, Threw, Exited, Halted, AtomSpace}
 use Rattle.pl_report.specs.declared.parts.GoalHow.{GoalHow}
@@ -11,7 +11,7 @@ use Rattle.pl_report.specs.declared.parts.GoalHow.TheVariants.{Ended, Waits, Syn
 use Rattle.pl_report.specs.declared.parts.SectionKind.{SectionKind}
 use Rattle.pl_report.specs.declared.parts.SectionKind.TheVariants.{Consult, Goal, Thread}
 use Rattle.pl_report.specs.declared.parts.Section.{Section}
-use Rattle.pl_report.specs.Sections.{no_atoms_line, fault_line, thread_head, thread_last}
+use Rattle.pl_report.specs.Sections.{fault_line, thread_head, thread_last}
 
 -- NAME:AT: and a space
 abbrev pub place_text : Chars → ℕ → Chars

@@ -4,8 +4,8 @@ use Rattle.std.specs.Prelude.{◌≡◌, ℕ, List, [], ◌∷◌, ◌++◌, Boo
 use Rattle.pl_term.specs.Tree.{Chars}
 use Rattle.pl_model.specs.declared.syntax.SyntaxKind.{SyntaxKind}
 use Rattle.pl_model.specs.OperatorTable.{OperatorTable}
-use Rattle.pl_model.specs.Resolution.{solved, no_more, threw, halted}
-use Rattle.run_model.specs.Report.{newline, closed, with_line, kind_text, halted_text, with_end, with_last, goal_line}
+use Rattle.pl_model.specs.declared.ends.How.TheVariants as ends
+use Rattle.run_model.specs.Report.{newline, closed, with_line, kind_text, halted_text, with_end, with_last, goal_line, no_atoms_line}
 use Rattle.pl_report.specs.declared.parts.How.{How}
 use Rattle.pl_report.specs.declared.parts.How.TheVariants.{Solved, False, Threw, Exited, Halted, AtomSpace}
 use Rattle.pl_report.specs.declared.parts.GoalHow.{GoalHow}
@@ -14,21 +14,17 @@ use Rattle.pl_report.specs.declared.parts.SectionKind.{SectionKind}
 use Rattle.pl_report.specs.declared.parts.SectionKind.TheVariants.{Consult, Goal, Thread}
 use Rattle.pl_report.specs.declared.parts.Section.{Section}
 
--- The last line for an engine that found no place for an atom.
-abbrev pub no_atoms_line : Chars
-no_atoms_line = codes "error: resource_error(atom_space)."
-
 -- The last line for a goal word that is no term.
 abbrev pub fault_line : SyntaxKind → ℕ → Chars
 fault_line kind at = codes "syntax error: " ++ (kind_text kind ++ (codes " at " ++ (decimal at ++ codes ".")))
 
 -- The text of a goal with the last line that its engine's end gives.
 abbrev pub with_how : OperatorTable → Chars → How → Chars
-with_how ops t Solved = with_end ops t solved
-with_how ops t False = with_end ops t no_more
-with_how ops t (Threw b) = with_end ops t (threw b)
+with_how ops t Solved = with_end ops t ends.Solved
+with_how ops t False = with_end ops t ends.False
+with_how ops t (Threw b) = with_end ops t (ends.Threw b)
 with_how ops t Exited = t
-with_how ops t (Halted n) = with_end ops t (halted n)
+with_how ops t (Halted n) = with_end ops t (ends.Halted n)
 with_how ops t AtomSpace = with_line t no_atoms_line
 
 -- A goal that has given the solutions that were wanted has no last line, nor has one that never began.

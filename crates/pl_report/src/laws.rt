@@ -1,11 +1,12 @@
 //! Laws: the text of a section that says how an engine stands is the one in the report of a run.
 ghost use Rattle.std.specs.Prelude.{◌≡◌, ◌++◌, ℕ, List, [], Bool, false, Option, Some};
-ghost use Rattle.pl_term.specs.Tree.{Chars};
+ghost use Rattle.pl_term.specs.Tree.{Chars, Tree};
 ghost use Rattle.pl_model.specs.OperatorTable.{OperatorTable};
 ghost use Rattle.pl_model.specs.declared.syntax.SyntaxKind.{SyntaxKind};
+ghost use Rattle.pl_model.specs.declared.ends.How.{How as HowOf};
 ghost use Rattle.run_model.specs.Execution.{Execution, Refusal};
-ghost use Rattle.run_model.specs.Lawful.{Beginning};
-ghost use Rattle.run_model.specs.Report.{with_directive, all_consulted, consult_section, with_output, output_of, ending_by, goal_line, goal_text, refused_text, fault_text, texts, thread_name, of_thread};
+ghost use Rattle.run_model.specs.Lawful.{Beginning, Program, Told};
+ghost use Rattle.run_model.specs.Report.{consult_section, consult_text, end_in, place_of_main, with_output, output_of, goal_line, goal_text, refused_text, fault_text, texts, thread_name, of_thread};
 ghost use Rattle.pl_report.specs.declared.parts.How.TheVariants.{Threw};
 ghost use Rattle.pl_report.specs.declared.parts.GoalHow.{GoalHow as HowOfGoal};
 ghost use Rattle.pl_report.specs.declared.parts.GoalHow.TheVariants.{Ended, Syntax};
@@ -15,18 +16,18 @@ ghost use Rattle.pl_report.specs.Reported.{Tells, IsEnough};
 
 /// The section of the file.
 pub fn files_are_reported()
-    ensures { (name : Chars) (x : Execution) (how : Option HowOfGoal) (ops : OperatorTable)
-        → section_text Consult (with_directive name (all_consulted name [] x.consulted) x.activity) how ops
-        ≡ consult_section name x }
+    ensures { (name : Chars) (p : Program) (told : Told) (x : Execution) (how : Option HowOfGoal) (ops : OperatorTable)
+        → section_text Consult (consult_text name x (place_of_main p told x) (end_in told.history 1)) how ops
+        ≡ consult_section name p told x }
 {}
 
 /// The section of a goal whose engine ended or waits.
 pub fn goals_are_reported()
-    ensures { (word : Chars) (enough : Bool) (names : List (Chars × ℕ)) (x : Execution) (how : Option HowOfGoal) (ops : OperatorTable)
-        → Tells how (ending_by x.activity)
-        → IsEnough enough (ending_by x.activity)
+    ensures { (word : Chars) (enough : Bool) (names : List (Chars × ℕ)) (x : Execution) (how : Option HowOfGoal) (ops : OperatorTable) (end : Option (HowOf Tree))
+        → Tells how end
+        → IsEnough enough end
         → section_text (Goal word enough) (with_output names [] (output_of x)) how ops
-        ≡ goal_line word ++ goal_text ops names x }
+        ≡ goal_line word ++ goal_text ops names x end }
 {}
 
 /// The section of a goal whose word is no term.
@@ -43,7 +44,7 @@ pub fn refusals_are_reported()
 
 /// The section of a thread.
 pub fn threads_are_reported()
-    ensures { (b : Beginning) (x : Execution) (how : Option HowOfGoal) (ops : OperatorTable)
-        → Tells how (ending_by x.activity)
-        → section_text (Thread (thread_name b)) (texts [] (output_of x)) how ops ≡ of_thread b (Some x) }
+    ensures { (b : Beginning) (x : Execution) (how : Option HowOfGoal) (ops : OperatorTable) (end : Option (HowOf Tree))
+        → Tells how end
+        → section_text (Thread (thread_name b)) (texts [] (output_of x)) how ops ≡ of_thread b end (Some x) }
 {}

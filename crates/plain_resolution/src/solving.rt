@@ -14,13 +14,14 @@ use atom_terms::interned;
 use iso_engine::engine::Engine;
 use iso_search::search::Budgets;
 use op_table::OpTable;
+use pl_model::ends::How;
 use pl_term::{Flat, Memory, Text};
 use plain_run::{Searched, how_at, search_goal};
 use prolog_reader::{NamedVariable, Quotes, Read, read_term};
 use std::alloc::Global;
 use term_store::Stored;
 use term_writer::writeq;
-use world_api::{How, World};
+use world_api::World;
 
 /// How many solutions are wanted of a goal.
 const WANTED: u64 = 99;

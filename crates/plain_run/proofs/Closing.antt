@@ -7,7 +7,7 @@ use Rattle.run_model.specs.Execution.{Script, Job, Consulted, Execution}
 use Rattle.run_model.specs.Report.{all_consulted, output_of, with_output}
 use Rattle.atom_api.specs.Names.{Names}
 use Rattle.term_store.specs.NumberedNames.{term_by}
-use Rattle.world_api.specs.declared.how.How.{How}
+use Rattle.pl_model.specs.declared.ends.How.{How}
 use Rattle.script_api.specs.declared.script.Next.{Next}
 use Rattle.script_api.specs.declared.script.Next.TheVariants.{Done}
 use Rattle.world_api.specs.Texts.{text_of}

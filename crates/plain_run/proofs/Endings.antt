@@ -14,8 +14,8 @@ use Rattle.atom_api.specs.Names.{FixedStand, Names}
 use Rattle.term_store.specs.declared.nodes.AtomNode.{AtomNode}
 use Rattle.term_store.specs.declared.nodes.AtomNode.TheVariants as an
 use Rattle.term_store.specs.Nodes.{node_view, node_views}
-use Rattle.world_api.specs.declared.how.How.{How}
-use Rattle.world_api.specs.declared.how.How.TheVariants as how
+use Rattle.pl_model.specs.declared.ends.How.{How}
+use Rattle.pl_model.specs.declared.ends.How.TheVariants as how
 use Rattle.script_api.specs.Scripts.{EndsAs}
 use Rattle.world_api.specs.Told.{Told}
 use Rattle.world_builtins.specs.Nodes.{IsNodeHeld}

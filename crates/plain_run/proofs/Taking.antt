@@ -4,7 +4,7 @@ use Rattle.pl_term.specs.Tree.{Chars, Tree}
 use Rattle.run_model.specs.Execution.{Script, Job, Consulted, Execution}
 use Rattle.atom_api.specs.Names.{Names}
 use Rattle.term_store.specs.NumberedNames.{term_by}
-use Rattle.world_api.specs.declared.how.How.{How}
+use Rattle.pl_model.specs.declared.ends.How.{How}
 use Rattle.world_api.specs.Texts.{text_of}
 use Rattle.world_api.specs.Told.{Told}
 use Rattle.script_api.specs.Parts.{Part}

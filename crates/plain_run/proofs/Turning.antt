@@ -14,7 +14,7 @@ use Rattle.atom_words.specs.declared.view.Pass.{Pass}
 use Rattle.atom_words.specs.declared.view.WornWord.{WornWord}
 use Rattle.atom_api.specs.Names.{Names}
 use Rattle.term_store.specs.NumberedNames.{term_by}
-use Rattle.world_api.specs.declared.how.How.{How}
+use Rattle.pl_model.specs.declared.ends.How.{How}
 use Rattle.script_api.specs.declared.script.Next.{Next}
 use Rattle.script_api.specs.declared.script.Next.TheVariants.{Item, NeedsAtoms, Retry, Worn}
 use Rattle.world_api.specs.Texts.{Holds, text_of}

@@ -3,8 +3,8 @@ use Rattle.std.specs.Prelude.{◌≡◌, List}
 use Rattle.pl_term.specs.Tree.{Tree}
 use Rattle.pl_model.specs.Resolution.{Ending, ended, Output}
 use Rattle.atom_api.specs.Names.{Names}
-use Rattle.world_api.specs.declared.how.How.{How}
-use Rattle.world_api.specs.declared.how.How.TheVariants.{AtomSpace}
+use Rattle.pl_model.specs.declared.ends.How.{How}
+use Rattle.pl_model.specs.declared.ends.How.TheVariants.{AtomSpace}
 use Rattle.world_api.specs.Told.{Told}
 use Rattle.script_api.specs.Scripts.{EndsAs}
 use Rattle.iso_engine.specs.declared.engine.Engine.{Engine}

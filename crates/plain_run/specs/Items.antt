@@ -9,7 +9,7 @@ use Rattle.atom_words.specs.declared.view.Refusal.{Refusal}
 use Rattle.atom_words.specs.declared.view.Refusal.TheVariants.{Full as RefusalFull, Worn as RefusalWorn}
 use Rattle.atom_api.specs.Names.{Names}
 use Rattle.term_store.specs.NumberedNames.{names_of, term_by}
-use Rattle.world_api.specs.declared.how.How.{How}
+use Rattle.pl_model.specs.declared.ends.How.{How}
 use Rattle.world_api.specs.Texts.{text_of}
 use Rattle.world_api.specs.Told.{Told}
 use Rattle.script_api.specs.Parts.{Part, of_goal, seen_in, with_search}

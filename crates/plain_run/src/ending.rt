@@ -2,7 +2,7 @@
 ghost use Rattle.std.specs.Prelude.{◌≡◌, IfOk, List, None};
 ghost use Rattle.run_model.specs.Lawful.{EndsSo};
 ghost use Rattle.pl_model.specs.Resolution.{Ending, Output};
-ghost use Rattle.script_api.specs.Scripts.{EndsAs, LeavesOff};
+ghost use Rattle.script_api.specs.Scripts.{LeavesOff};
 ghost use Rattle.world_api.specs.Told.{Told};
 ghost use Rattle.iso_engine.specs.Ready.{IsReady};
 ghost use Rattle.iso_engine.specs.Slices.{IsEnd};
@@ -11,14 +11,13 @@ ghost use Rattle.plain_run.specs.Endings.{HasEndedAs, IsEndOfSearch};
 use atom_api::Atoms;
 use iso_engine::doing::{Doing, End};
 use iso_engine::engine::Engine;
-use pl_model::ends;
+use pl_model::ends::How;
 use pl_term::{Flat, Memory};
 use std::alloc::Global;
-use world_api::How;
 use world_builtins::flat_of;
 
 /// How the search of an engine has ended: a ball as a term with its own texts, its variables with the numbers that they
-/// had (ISO 7.8.10). The only error is want of memory.
+/// had (ISO 7.8.10). The only error is out of memory.
 pub fn how_at<A: Atoms>(alloc: Global, engine: &Engine, atoms: &mut A) -> Result<How<Flat>, Memory>
     requires ended { IsEnd engine.now.doing }
     requires ready { (t : Told) × IsReady (A.held atoms.old) t engine.now }
@@ -41,27 +40,12 @@ pub fn how_at<A: Atoms>(alloc: Global, engine: &Engine, atoms: &mut A) -> Result
     }
 }
 
-/// How an engine ended, as the history has it. Want of atoms is no end of the history's.
-pub fn ends_how(how: How<Flat>) -> ends::How
-    requires { IsEndOfSearch how }
-    ensures { (ending : Ending) → EndsAs how ending → EndsSo ending result }
-{
-    match how {
-        How::Solved => ends::How::Solved,
-        How::False => ends::How::False,
-        How::Threw(ball) => ends::How::Threw(ball),
-        How::Exited(term) => ends::How::Exited(term),
-        How::Halted(status) => ends::How::Halted(status),
-        How::AtomSpace(_record) => unreachable!(),
-    }
-}
-
 /// How an engine ended that has run no goal: by the status with which a directive has halted, if one has, else solved.
-pub fn ends_over(halted: Option<u8>) -> ends::How
+pub fn ends_over(halted: Option<u8>) -> How<Flat>
     ensures { (ending : Ending) (os : List Output) → LeavesOff halted None None ending os → EndsSo ending result }
 {
     match halted {
-        Some(status) => ends::How::Halted(status),
-        None => ends::How::Solved,
+        Some(status) => How::Halted(status),
+        None => How::Solved,
     }
 }

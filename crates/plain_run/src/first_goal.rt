@@ -13,9 +13,9 @@ ghost use Rattle.plain_run.specs.Searched.{IsRefusedOnce};
 use crate::ran::{Ran, goal_ran};
 use iso_search::search::Budgets;
 use pl_term::{Memory, Text};
+use script_api::{Next, Script};
 use std::alloc::Global;
 use term_store::Stored;
-use script_api::{Next, Script};
 use world_api::World;
 
 /// Runs the goal that a script has at hand until its search does not go on, and gives its end to the script. What the goal
@@ -49,7 +49,9 @@ pub fn run_goal<S: Script<Term = Stored>, W: World<Term = Stored>>(
     ensures holds { Holds (W.A.held atoms.old) (W.A.held atoms.new) }
     ensures refusals { IfOk result (λ r. IsRefusedOnce (W.A.refusals atoms.old) (W.A.refusals atoms.new) (ran_refusals r)) }
 {
-    let ran = goal_ran(alloc, goal, names, budgets, wanted, world, atoms, out, moves)?;
+    let ran = goal_ran(
+        alloc, goal, names, budgets, wanted, world, atoms, out, moves,
+    )?;
     close(&ran, script, world, atoms, text, moves)?;
     Ok(ran)
 }

@@ -8,11 +8,12 @@ ghost use Rattle.plain_run.specs.Searched.{IsRefusedOnce};
 
 use crate::ran::{Ran, directive_ran};
 use iso_search::search::Budgets;
+use pl_model::ends::How;
 use pl_term::{Flat, Memory};
+use script_api::{Next, Script};
 use std::alloc::Global;
 use term_store::Stored;
-use script_api::{Next, Script};
-use world_api::{How, On, Pass, Procedure, World, WornWord};
+use world_api::{On, Pass, Procedure, World, WornWord};
 
 /// Why the items of a script do not go on.
 #[derive(Drop)]

@@ -12,7 +12,7 @@ mod searched;
 
 pub use complete::completes;
 pub use directive::search_directive;
-pub use ending::{ends_how, ends_over, how_at};
+pub use ending::{ends_over, how_at};
 pub use first_goal::run_goal;
 pub use goal::search_goal;
 pub use items::{Items, run_items};

@@ -16,10 +16,11 @@ use crate::searched::Searched;
 use atom_api::Atoms;
 use iso_engine::engine::Engine;
 use iso_search::search::Budgets;
+use pl_model::ends::How;
 use pl_term::{Flat, Memory, Text};
 use std::alloc::Global;
 use term_store::Stored;
-use world_api::{How, On, Pass, Procedure, World, WornWord};
+use world_api::{On, Pass, Procedure, World, WornWord};
 
 /// How a search has ended, or why it does not go on.
 #[derive(Drop)]

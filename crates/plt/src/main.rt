@@ -1,6 +1,7 @@
 //! The program `plt`: it makes the real files, standard output and the gate, and hands the words of the command line
 //! to the top call.
 #![tactic(auto)]
+
 ghost use Rattle.std.specs.Prelude.{◌≡◌};
 ghost use Rattle.std.specs.Process.{exit_status};
 

@@ -1,7 +1,7 @@
 -- What a script that has given an item is asked next.
 use Rattle.std.specs.Prelude.{Option, Some}
 use Rattle.pl_term.specs.Tree.{Tree}
-use Rattle.world_api.specs.declared.how.How.{How}
+use Rattle.pl_model.specs.declared.ends.How.{How}
 use Rattle.script_api.specs.declared.script.Next.{Next}
 use Rattle.script_api.specs.declared.script.Next.TheVariants.{Item}
 use Rattle.script_api.specs.Parts.{Part}

@@ -11,12 +11,13 @@ use atom_api::Atoms;
 use atom_terms::with_texts;
 use first_script::FileScript;
 use op_table::OpTable;
+use pl_model::ends::How;
 use pl_term::{Flat, Memory, Text};
+use script_api::{Next, Script};
 use std::alloc::Global;
 use term_store::Stored;
 use term_writer::writeq;
-use script_api::{Next, Script};
-use world_api::{How, World};
+use world_api::World;
 
 /// The end that a letter stands for.
 fn end_by(alloc: Global, letter: char) -> Result<How<Flat>, Memory> {

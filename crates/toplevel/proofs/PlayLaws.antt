@@ -8,7 +8,8 @@ use Rattle.pl_term.specs.declared.memory.Memory.{Memory as WantOfMemory}
 use Rattle.world_api.specs.declared.answer.On.{On}
 use Rattle.pl_term.specs.Tree.{Chars, Tree}
 use Rattle.pl_model.specs.declared.ends.How.{How}
-use Rattle.pl_model.specs.Resolution.{Ending, Output, State}
+use Rattle.pl_model.specs.declared.ends.How.TheVariants.{Solved, False, Threw, Exited, Halted, AtomSpace}
+use Rattle.pl_model.specs.Resolution.{Ending, solved, no_more, threw, exited, halted, Output, State}
 use Rattle.run_model.specs.Execution.{Rest, Script, Consulted, Execution, Job, Word, goal_word, faulty_word}
 use Rattle.run_model.specs.Lawful.{EndsSo}
 use Rattle.run_model.specs.Report.{output_of, with_output}
@@ -18,12 +19,12 @@ use Rattle.atom_words.specs.declared.view.Refusal.TheVariants.{Again as RefusalA
 use Rattle.atom_api.specs.Names.{Names}
 use Rattle.world_api.specs.Told.{Told}
 use Rattle.script_api.specs.Parts.{Part, of_goal, of_directive, with_search}
-use Rattle.script_api.specs.Scripts.{Comes, LeavesOff}
-use Rattle.script_api.proofs.ComesLaws.{comes_then}
+use Rattle.script_api.specs.Comes.{ComesBy}
+use Rattle.script_api.specs.Scripts.{AreNames, EndsAs, LeavesOff}
+use Rattle.script_api.proofs.ComesLaws.{by_then}
 use Rattle.iso_search.specs.declared.search.Budgets.{Budgets}
 use Rattle.first_script.specs.declared.file_script.FileScript.{FileScript}
 use Rattle.first_script.specs.FileScripts.{Plays, execution_of, part_in}
-use Rattle.first_script.specs.Words.{AreNames}
 use Rattle.plain_run.specs.declared.ran.Ran.{Ran}
 use Rattle.plain_run.specs.declared.ran.Ran.TheVariants as ran
 use Rattle.plain_run.specs.declared.items.Items.TheVariants as items
@@ -38,7 +39,7 @@ use Rattle.toplevel.specs.declared.play.Stop.{Stop}
 use Rattle.toplevel.specs.declared.play.Stop.TheVariants.{Ended, Waits, Missing}
 use Rattle.toplevel.specs.FirstRun.{HasLimits, HasPlayed, IsMissing, IsPlayed, IsStopOf, StandsSo}
 
--- Where nothing is refused before and behind a search, no refusal has stopped it.
+-- Where nothing is refused before and after a search, no refusal has stopped it.
 last_none : (causes : List Cause) (last : List Refusal) → [] ≡ map RefusalAgain causes ++ last → last ≡ []
 last_none [] last e = sym e
 last_none (c ∷ cs) last e = cc
@@ -94,14 +95,48 @@ missing_as n s job ds p (Ended h) u y is g = absurd is
 missing_as n s job ds p Waits u y is g = absurd is
 missing_as n s job ds p (Missing name arity) u y is g = missing_at n s job ds p name arity y is.0 is.1 g
 
+-- The history has the end of a search as it is told.
+ends_so : (how : How Tree) (e : Ending) → EndsAs how e → EndsSo e how
+ends_so Solved solved is = tt
+ends_so Solved no_more is = absurd is
+ends_so Solved (threw b) is = absurd is
+ends_so Solved (exited u) is = absurd is
+ends_so Solved (halted n) is = absurd is
+ends_so False solved is = absurd is
+ends_so False no_more is = tt
+ends_so False (threw b) is = absurd is
+ends_so False (exited u) is = absurd is
+ends_so False (halted n) is = absurd is
+ends_so (Threw t) solved is = absurd is
+ends_so (Threw t) no_more is = absurd is
+ends_so (Threw t) (threw b) is = sym is
+ends_so (Threw t) (exited u) is = absurd is
+ends_so (Threw t) (halted n) is = absurd is
+ends_so (Exited t) solved is = absurd is
+ends_so (Exited t) no_more is = absurd is
+ends_so (Exited t) (threw b) is = absurd is
+ends_so (Exited t) (exited u) is = sym is
+ends_so (Exited t) (halted n) is = absurd is
+ends_so (Halted k) solved is = absurd is
+ends_so (Halted k) no_more is = absurd is
+ends_so (Halted k) (threw b) is = absurd is
+ends_so (Halted k) (exited u) is = absurd is
+ends_so (Halted k) (halted n) is = sym is
+ends_so (AtomSpace found) solved is = absurd is
+ends_so (AtomSpace found) no_more is = absurd is
+ends_so (AtomSpace found) (threw b) is = absurd is
+ends_so (AtomSpace found) (exited u) is = absurd is
+ends_so (AtomSpace found) (halted n) is = absurd is
+
 goal_stands : (part : FileScript → Option Part) (n : Names) (u : Told) (s : FileScript) (job : Job) (ds : List Consulted) (r : Ran) (stop : Stop) (y : Execution)
     → IsStopOf n r stop
     → GoalStandsAs executed part_in n u s job ds r y
     → StandsSo s job ds u stop y
-goal_stands part n u s job ds (ran.Ended how) (Ended h) y is g =
-    (record { ending = g.0; output = g.1; is = g.3 }, is g.0 g.2)
-goal_stands part n u s job ds (ran.Ended how) Waits y is g = absurd is
-goal_stands part n u s job ds (ran.Ended how) (Missing name arity) y is g = absurd is
+goal_stands part n u s job ds (ran.Ended how) stop y is g =
+    subst
+    (λ (x : Stop). StandsSo s job ds u x y)
+    (sym is)
+    (record { ending = g.0; output = g.1; is = g.3 }, ends_so how g.0 g.2)
 goal_stands part n u s job ds (ran.Waits on) stop y is g =
     subst
     (λ (x : Stop). StandsSo s job ds u x y)
@@ -111,16 +146,16 @@ goal_stands part n u s job ds (ran.NeedsAtoms p) stop y is g = absurd is
 goal_stands part n u s job ds (ran.Worn w) stop y is g = absurd is
 goal_stands part n u s job ds (ran.Missing p) stop y is g = missing_as n s job ds p stop u y is g
 
-whole : (job : Job) (name : Chars) (x : Execution) (t : Told) (stop : Stop) (s : FileScript) (kept : FileScript → Bool) (u : Told) (text out : List ℕ)
-    → HasPlayed job name x t stop s kept u text out
-    → IsPlayed job name x t stop s kept u text out
-whole job name x t (Ended how) s kept u text out h = h
-whole job name x t Waits s kept u text out h = h
-whole job name x t (Missing n a) s kept u text out h = record { execution = h.execution; comes = h.comes; at = h.stands }
+whole : (job : Job) (name : Chars) (x : Execution) (t : Told) (before : ℕ) (stop : Stop) (s : FileScript) (kept : FileScript → Bool) (u : Told) (after : ℕ) (text out : List ℕ)
+    → HasPlayed job name x t before stop s kept u after text out
+    → IsPlayed job name x t before stop s kept u after text out
+whole job name x t before (Ended how) s kept u after text out h = h
+whole job name x t before Waits s kept u after text out h = h
+whole job name x t before (Missing n a) s kept u after text out h = record { execution = h.execution; comes = h.comes; at = h.stands }
 
-pub goal_played : (kept : FileScript → Bool) (name : Chars) (b : Budgets) (l : Limits) (names : List (Chars × ℕ)) (goal : Tree) (m : Names) (t : Told) (old : FileScript) (bytes old_out : List ℕ) (r : Ran) (stop : Stop) (n : Names) (u : Told) (new : FileScript) (more new_out : List ℕ)
+pub goal_played : (kept : FileScript → Bool) (name : Chars) (b : Budgets) (l : Limits) (names : List (Chars × ℕ)) (goal : Tree) (m : Names) (t : Told) (before : ℕ) (old : FileScript) (bytes old_out : List ℕ) (r : Ran) (stop : Stop) (n : Names) (u : Told) (after : ℕ) (new : FileScript) (more new_out : List ℕ)
     → b ≡ budgets_in l
-    → HasRunGoal executed part_in played kept name b names l.solutions goal m t old bytes old_out r n u new more new_out
+    → HasRunGoal executed part_in played kept name b names l.solutions goal m t before old bytes old_out r n u after new more new_out
     → old_out ≡ []
     → IsStopOf n r stop
     → ((job : Job) (cs : List Consulted) → AreNames names (execution_of new job cs).words)
@@ -129,18 +164,20 @@ pub goal_played : (kept : FileScript → Bool) (name : Chars) (b : Budgets) (l :
     → Plays old job.script
     → x ≡ at_start_of job of_goal m goal (execution_of old job cs)
     → IsText name (kept old) x bytes
-    → IsPlayed job name x t stop new kept u more new_out
-goal_played kept name b l names goal m t old bytes old_out r stop n u new more new_out budgets has empty is named job cs x h p at w =
+    → IsPlayed job name x t before stop new kept u after more new_out
+goal_played kept name b l names goal m t before old bytes old_out r stop n u after new more new_out budgets has empty is named job cs x h p at w =
     let g = has job cs x (has_budgets job l b budgets h) h.solutions p at w in
     whole
     job
     name
     x
     t
+    before
     stop
     new
     kept
     u
+    after
     more
     new_out
     (record {
@@ -175,9 +212,9 @@ searched_none : (x : Execution) (s : State) (place : ℕ) (rest : Rest) → outp
 searched_none x s place rest = refl
 
 -- The stop that the items come to, where no goal was given.
-pub over_played : (kept : FileScript → Bool) (name : Chars) (b : Budgets) (l : Limits) (m : Names) (t : Told) (old : FileScript) (bytes : List ℕ) (h : Option ℕ) (how : How) (n : Names) (u : Told) (new : FileScript) (more out : List ℕ)
+pub over_played : (kept : FileScript → Bool) (name : Chars) (b : Budgets) (l : Limits) (m : Names) (t : Told) (before : ℕ) (old : FileScript) (bytes : List ℕ) (h : Option ℕ) (how : How Tree) (n : Names) (u : Told) (after : ℕ) (new : FileScript) (more out : List ℕ)
     → b ≡ budgets_in l
-    → HasRunItems executed part_in played kept name b m t old bytes (items.Over h) n u new more
+    → HasRunItems executed part_in played kept name b m t before old bytes (items.Over h) n u after new more
     → out ≡ []
     → ((ending : Ending) (os : List Output) → LeavesOff h None None ending os → EndsSo ending how)
     → (job : Job) (cs : List Consulted) (x : Execution)
@@ -185,8 +222,8 @@ pub over_played : (kept : FileScript → Bool) (name : Chars) (b : Budgets) (l :
     → Plays old job.script
     → x ≡ execution_of old job cs
     → IsText name (kept old) x bytes
-    → HasPlayed job name x t (Ended how) new kept u more out
-over_played kept name b l m t old bytes h how n u new more out budgets has empty ends job cs x limits p at w =
+    → HasPlayed job name x t before (Ended how) new kept u after more out
+over_played kept name b l m t before old bytes h how n u after new more out budgets has empty ends job cs x limits p at w =
     let g = has job cs x (has_budgets job l b budgets limits) p at w in
     let s = g.3 in
     let words : List Word = (execution_of new job g.0).words in
@@ -210,9 +247,9 @@ at_directive of_goal o is directive x s =
     let no : IsDirectiveIn (Some of_goal) = subst IsDirectiveIn is directive in absurd (false≢true no)
 at_directive (of_directive at rest) o is directive x s = refl
 
-pub waits_played : (kept : FileScript → Bool) (name : Chars) (b : Budgets) (l : Limits) (m : Names) (t : Told) (old : FileScript) (bytes : List ℕ) (on : On) (n : Names) (u : Told) (new : FileScript) (more out : List ℕ)
+pub waits_played : (kept : FileScript → Bool) (name : Chars) (b : Budgets) (l : Limits) (m : Names) (t : Told) (before : ℕ) (old : FileScript) (bytes : List ℕ) (on : On) (n : Names) (u : Told) (after : ℕ) (new : FileScript) (more out : List ℕ)
     → b ≡ budgets_in l
-    → HasRunItems executed part_in played kept name b m t old bytes (items.Waits on) n u new more
+    → HasRunItems executed part_in played kept name b m t before old bytes (items.Waits on) n u after new more
     → out ≡ []
     → IsDirectiveIn (part_in new)
     → (job : Job) (cs : List Consulted) (x : Execution)
@@ -220,8 +257,8 @@ pub waits_played : (kept : FileScript → Bool) (name : Chars) (b : Budgets) (l 
     → Plays old job.script
     → x ≡ execution_of old job cs
     → IsText name (kept old) x bytes
-    → HasPlayed job name x t Waits new kept u more out
-waits_played kept name b l m t old bytes on n u new more out budgets has empty directive job cs x limits p at w =
+    → HasPlayed job name x t before Waits new kept u after more out
+waits_played kept name b l m t before old bytes on n u after new more out budgets has empty directive job cs x limits p at w =
     let g = has job cs x (has_budgets job l b budgets limits) p at w in
     let s = g.3 in
     let words : List Word = (execution_of new job g.0).words in
@@ -239,77 +276,77 @@ waits_played kept name b l m t old bytes on n u new more out budgets has empty d
           ∙ ap (λ (y : Execution). encode_utf8_all (with_output (own_names words) [] (output_of y))) (sym s.0.is);
     }
 
--- And behind the items the goal.
-played_on : (job : Job) (name : Chars) (x y : Execution) (t v : Told) (stop : Stop) (s : FileScript) (kept : FileScript → Bool) (u : Told) (text out : List ℕ)
-    → Comes job x t y v
-    → IsPlayed job name y v stop s kept u text out
-    → IsPlayed job name x t stop s kept u text out
-played_on job name x y t v (Ended how) s kept u text out c h =
+-- And after the items the goal.
+played_on : (job : Job) (name : Chars) (x y : Execution) (t v : Told) (before middle : ℕ) (stop : Stop) (s : FileScript) (kept : FileScript → Bool) (u : Told) (after : ℕ) (text out : List ℕ)
+    → ComesBy job x t before y v middle
+    → IsPlayed job name y v middle stop s kept u after text out
+    → IsPlayed job name x t before stop s kept u after text out
+played_on job name x y t v before middle (Ended how) s kept u after text out c h =
     record {
       execution = h.execution;
       lines = h.lines;
       names = h.names;
-      comes = comes_then job x y h.execution t v u c h.comes;
+      comes = by_then job x y h.execution t v u before middle after c h.comes;
       stands = h.stands;
       named = h.named;
       text_is = h.text_is;
       output_is = h.output_is;
     }
-played_on job name x y t v Waits s kept u text out c h =
+played_on job name x y t v before middle Waits s kept u after text out c h =
     record {
       execution = h.execution;
       lines = h.lines;
       names = h.names;
-      comes = comes_then job x y h.execution t v u c h.comes;
+      comes = by_then job x y h.execution t v u before middle after c h.comes;
       stands = h.stands;
       named = h.named;
       text_is = h.text_is;
       output_is = h.output_is;
     }
-played_on job name x y t v (Missing n a) s kept u text out c h =
-    record { execution = h.execution; comes = comes_then job x y h.execution t v u c h.comes; at = h.at }
+played_on job name x y t v before middle (Missing n a) s kept u after text out c h =
+    record { execution = h.execution; comes = by_then job x y h.execution t v u before middle after c h.comes; at = h.at }
 
-pub goal_on : (kept : FileScript → Bool) (name next : Chars) (b : Budgets) (l : Limits) (m : Names) (t : Told) (old : FileScript) (bytes : List ℕ) (goal : Tree) (n : Names) (u : Told) (mid : FileScript) (more : List ℕ) (r : Result Stop WantOfMemory) (s : FileScript) (v : Told) (last out : List ℕ)
+pub goal_on : (kept : FileScript → Bool) (name next : Chars) (b : Budgets) (l : Limits) (m : Names) (t : Told) (before : ℕ) (old : FileScript) (bytes : List ℕ) (goal : Tree) (n : Names) (u : Told) (middle : ℕ) (mid : FileScript) (more : List ℕ) (r : Result Stop WantOfMemory) (s : FileScript) (v : Told) (after : ℕ) (last out : List ℕ)
     → b ≡ budgets_in l
     → next ≡ name
-    → HasRunItems executed part_in played kept name b m t old bytes (items.Goal goal) n u mid more
+    → HasRunItems executed part_in played kept name b m t before old bytes (items.Goal goal) n u middle mid more
     → ((job : Job) (cs : List Consulted) (x : Execution)
     → HasLimits job l
     → Plays mid job.script
     → x ≡ at_start_of job of_goal n goal (execution_of mid job cs)
     → IsText next (kept mid) x more
-    → IfOk r (λ stop. IsPlayed job next x u stop s kept v last out))
+    → IfOk r (λ stop. IsPlayed job next x u middle stop s kept v after last out))
     → (job : Job) (cs : List Consulted) (x : Execution)
     → HasLimits job l
     → Plays old job.script
     → x ≡ execution_of old job cs
     → IsText name (kept old) x bytes
-    → IfOk r (λ stop. IsPlayed job name x t stop s kept v last out)
-goal_on kept name next b l m t old bytes goal n u mid more r s v last out budgets same has goes job cs x limits p at w =
+    → IfOk r (λ stop. IsPlayed job name x t before stop s kept v after last out)
+goal_on kept name next b l m t before old bytes goal n u middle mid more r s v after last out budgets same has goes job cs x limits p at w =
     let g = has job cs x (has_budgets job l b budgets limits) p at w in
     subst
-    (λ (z : Chars). IfOk r (λ stop. IsPlayed job z x t stop s kept v last out))
+    (λ (z : Chars). IfOk r (λ stop. IsPlayed job z x t before stop s kept v after last out))
     same
     (IfOk-weaker
     r
     _
     _
-    (λ stop h. played_on job next x g.1 t u stop s kept v last out g.2 h)
+    (λ stop h. played_on job next x g.1 t u before middle stop s kept v after last out g.2 h)
     (goes job g.0 g.1 limits g.4 g.3 (subst (λ (z : Chars). IsText z (kept mid) g.1 more) (sym same) g.5)))
 
 -- A directive came to a predicate that is not built.
-pub missing_played : (kept : FileScript → Bool) (name : Chars) (b : Budgets) (l : Limits) (m : Names) (t : Told) (old : FileScript) (bytes : List ℕ) (q : Procedure) (stop : Stop) (n : Names) (u : Told) (new : FileScript) (more out : List ℕ)
+pub missing_played : (kept : FileScript → Bool) (name : Chars) (b : Budgets) (l : Limits) (m : Names) (t : Told) (before : ℕ) (old : FileScript) (bytes : List ℕ) (q : Procedure) (stop : Stop) (n : Names) (u : Told) (after : ℕ) (new : FileScript) (more out : List ℕ)
     → b ≡ budgets_in l
-    → HasRunItems executed part_in played kept name b m t old bytes (items.Missing q) n u new more
+    → HasRunItems executed part_in played kept name b m t before old bytes (items.Missing q) n u after new more
     → IsMissing n q stop
     → (job : Job) (cs : List Consulted) (x : Execution)
     → HasLimits job l
     → Plays old job.script
     → x ≡ execution_of old job cs
     → IsText name (kept old) x bytes
-    → IsPlayed job name x t stop new kept u more out
-missing_played kept name b l m t old bytes q (Ended h) n u new more out budgets has is job cs x limits p at w = absurd is
-missing_played kept name b l m t old bytes q Waits n u new more out budgets has is job cs x limits p at w = absurd is
-missing_played kept name b l m t old bytes q (Missing called arity) n u new more out budgets has is job cs x limits p at w =
+    → IsPlayed job name x t before stop new kept u after more out
+missing_played kept name b l m t before old bytes q (Ended h) n u after new more out budgets has is job cs x limits p at w = absurd is
+missing_played kept name b l m t before old bytes q Waits n u after new more out budgets has is job cs x limits p at w = absurd is
+missing_played kept name b l m t before old bytes q (Missing called arity) n u after new more out budgets has is job cs x limits p at w =
     let g = has job cs x (has_budgets job l b budgets limits) p at w in
     record { execution = g.1; comes = g.2; at = missing_at n new job g.0 q called arity g.1 is.0 is.1 g.3 }

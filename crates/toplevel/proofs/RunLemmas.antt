@@ -1,15 +1,14 @@
 -- What a run's outcome gives the report.
 use Rattle.std.proofs.Common.{◌≡◌, ◌≤◌, ℕ, suc, Bool, true, false, List, length, ◌∙◌, take, Option, Some, None, refl, sym, subst, inl, inr}
 use Rattle.std.proofs.lemmas.List.{take_all}
-use Rattle.std.specs.Prelude.{not, ◌&&◌, Result, Ok, Err, OnOk, OnErr}
+use Rattle.std.specs.Prelude.{Result, Ok, Err, OnOk, OnErr}
 use Rattle.run_model.specs.Execution.{most_bytes}
 use Rattle.pl_command.specs.declared.ends.End.{End}
 use Rattle.pl_command.specs.declared.ends.End.TheVariants.{Done, GoalFailed, Usage, Waiting, Memory, ReadFault, WriteFault, Halted, Unbuilt}
 use Rattle.pl_model.specs.History.{Proc}
 use Rattle.run_model.specs.Lawful.{Program, Told}
-use Rattle.run_model.specs.Report.{final_of}
 use Rattle.pl_command.specs.CommandLine.{Command, program_of}
-use Rattle.pl_command.specs.Ends.{all_solved, end_by, engines, faults_in, first_halt, goal_ends, some_waits}
+use Rattle.pl_command.specs.Ends.{all_done, end_by, engines, first_halt, some_waits}
 use Rattle.toplevel.specs.Headline.{AreRead, GaveUp, IsNamed, IsPartlyWritten, IsReady, IsWritten, IsWrittenUnless, Missed, Promised, Ran, RanUnwritten}
 use Rattle.toplevel.specs.Outcomes.{told_by}
 use Rattle.toplevel.specs.Unbuilt.{IsStuck}
@@ -72,7 +71,7 @@ pub told : (wr : Type 0) (c : Command) (file old new : Option (List ℕ)) (repor
     → Promised ⊥ wr c file old new report ready.end
 told wr c file old new report ready bytes text read r same written front ends end =
     let p : Program = program_of c bytes in
-    let all : Told = told_by ready.front r.run.moves in
+    let all : Told = told_by ready.front in
     let ran : Ran c file old new report =
     record {
       bytes = bytes;
@@ -95,9 +94,9 @@ told wr c file old new report ready bytes text read r same written front ends en
     old
     new
     report
-    (first_halt r.run.finals (engines p all))
-    (some_waits r.run.finals (engines p all))
-    (all_solved (goal_ends r.run.finals) && not (faults_in (final_of r.run.finals 1)))
+    (first_halt all.history (engines p all))
+    (some_waits all.history (engines p all))
+    (all_done p all r.run.finals)
     ran)
 
 pub untold : (c : Command) (file old new : Option (List ℕ)) (report : Report) (ready : Ready) (bytes text : List ℕ)

@@ -1,23 +1,24 @@
 -- Where the first engine stands, from the run of its script.
 use Rattle.std.proofs.Common.{◌≡◌, ℕ, ◌+◌, zero, suc, take, Bool, true, false, List, [], ◌∷◌, ◌++◌, length, Option, Some, None, refl, sym, ◌∙◌, ap, subst, append-nil}
 use Rattle.std.specs.Prelude.{◌||◌, if◌then◌else◌, nat_lt, codes, encode_utf8_all}
-use Rattle.pl_term.specs.Tree.{Chars}
+use Rattle.pl_term.specs.Tree.{Chars, Tree}
 use Rattle.pl_model.specs.declared.ends.How.{How}
 use Rattle.pl_model.specs.History.{History, AllPlain}
 use Rattle.pl_model.specs.SharedState.{state_at}
 use Rattle.pl_model.specs.Resolution.{Output, text, solution, State}
 use Rattle.run_model.specs.Execution.{Consulted, wrote, too_large, syntax_fault, ball_of_item, directive_failed, directive_halted, Execution, Job, Word as WordOf, at_activity, at_start, consults, first_execution, initializing, most_bytes, over, taking, texts_of}
 use Rattle.run_model.specs.Lawful.{Program, main_job}
-use Rattle.run_model.specs.Progress.{Alone, WaitsNow}
+use Rattle.run_model.specs.Progress.{Alone, Reached, WaitsNow}
 use Rattle.run_model.specs.Report.{all_consulted, with_consulted, item_line, with_directive, with_line}
 use Rattle.run_model.proofs.LawfulAlone.{alone_start}
 use Rattle.world_api.specs.Told.{Told}
-use Rattle.script_api.specs.Parts.{Part, of_goal, of_directive, with_search}
-use Rattle.script_api.specs.Scripts.{Comes, written_at}
+use Rattle.script_api.specs.Parts.{Part, of_goal, of_directive, seen_in, with_search}
+use Rattle.script_api.specs.Comes.{ComesBy}
+use Rattle.script_api.specs.Scripts.{AreNames, written_at}
 use Rattle.script_api.specs.Scripts as scripts
 use Rattle.first_script.specs.declared.file_script.FileScript.{FileScript}
 use Rattle.first_script.specs.FileScripts.{Begins, Plays, execution_of, part_in}
-use Rattle.first_script.specs.Words.{AreNames, given_words}
+use Rattle.first_script.specs.Words.{given_words}
 use Rattle.plain_run.specs.Items.{IsText}
 use Rattle.pl_command.specs.Ends.{is_fault, some_fault}
 use Rattle.pl_command.specs.CommandLine.{program_of}
@@ -84,8 +85,9 @@ abbrev pub told_in : Program → Outcome → Told
 told_in p o = record { engine = 1; goals = length p.words; history = history_of o.front; gens = o.front.generations.items }
 
 -- What the outcome keeps.
-pub record Keeps (p : Program) (o : Outcome) (end : Option How) (s : FileScript) (kept : FileScript → Bool) (u : Told) (text output : List ℕ) : Type 0 where
+pub record Keeps (p : Program) (o : Outcome) (end : Option (How Tree)) (s : FileScript) (kept : FileScript → Bool) (u : Told) (moves : ℕ) (text output : List ℕ) : Type 0 where
   pub end_is : o.front.end ≡ end
+  pub moves_are : o.front.moves ≡ moves
   pub text_is : o.text.items ≡ text
   pub output_is : o.output.items ≡ output
   pub faulty : o.faulty ≡ kept s
@@ -95,31 +97,48 @@ pub record Keeps (p : Program) (o : Outcome) (end : Option How) (s : FileScript)
   pub operators : o.operators ≡ (state_at u.goals u.history (length u.history)).operators
   pub words : (job : Job) (cs : List Consulted) (names : List (Chars × ℕ)) → AreNames names (execution_of s job cs).words → AreRead o.word names (execution_of s job cs).words
 
-told_of_it : (p : Program) (o : Outcome) (end : Option How) (s : FileScript) (kept : FileScript → Bool) (u : Told) (text output : List ℕ) (x y : Execution)
-    → Keeps p o end s kept u text output
-    → Comes (main_job p) x (start_of p) y u
+told_of_it : (p : Program) (o : Outcome) (end : Option (How Tree)) (s : FileScript) (kept : FileScript → Bool) (u : Told) (moves : ℕ) (text output : List ℕ) (x y : Execution)
+    → Keeps p o end s kept u moves text output
+    → ComesBy (main_job p) x (start_of p) 0 y u moves
     → u ≡ told_in p o
-told_of_it p o end s kept u bytes output x y k c = told_is u 1 (length p.words) (history_of o.front) o.front.generations.items c.engine c.goals k.history k.gens
+told_of_it p o end s kept u moves bytes output x y k c =
+    told_is u 1 (length p.words) (history_of o.front) o.front.generations.items c.comes.engine c.comes.goals k.history k.gens
 
-alone_there : (p : Program) (o : Outcome) (y : Execution) (c : Comes (main_job p) (at_start (main_job p)) (start_of p) y (told_in p o))
+-- The moves of an engine that has come so far from its start are those that were counted.
+counted_from_start : (job : Job) (u : Told) (x y : Execution) (goals moves : ℕ) (c : ComesBy job x (record { engine = 1; goals = goals; history = []; gens = [] }) 0 y u moves)
+    → Reached 1 goals job 0 (record { execution = x; history = []; gens = [] }) 0
+    → Reached 1 goals job 0 (seen_in u y) moves
+counted_from_start job u x y goals moves c r =
+    subst (λ (n : ℕ). Reached 1 goals job 0 (seen_in u y) n) c.counted (c.comes.comes 0 0 r)
+
+alone_there : (p : Program) (o : Outcome) (y : Execution) (moves : ℕ)
+    → ComesBy (main_job p) (at_start (main_job p)) (start_of p) 0 y (told_in p o) moves
+    → o.front.moves ≡ moves
     → AllPlain 1 (history_of o.front)
-    → Alone (length p.words) (main_job p) (record { execution = y; history = history_of o.front; gens = o.front.generations.items }) (c.moves + 0)
-alone_there p o y c plain =
-    record { reached = c.comes 0 0 (alone_start (length p.words) (main_job p)).reached; plain = plain }
+    → Alone (length p.words) (main_job p) (record { execution = y; history = history_of o.front; gens = o.front.generations.items }) o.front.moves
+alone_there p o y moves c same plain =
+    record {
+      reached =
+          subst
+          (λ (n : ℕ). Reached 1 (length p.words) (main_job p) 0 (record { execution = y; history = history_of o.front; gens = o.front.generations.items }) n)
+          (sym same)
+          (counted_from_start (main_job p) (told_in p o) (at_start (main_job p)) y (length p.words) moves c (alone_start (length p.words) (main_job p)).reached);
+      plain = plain;
+    }
 
 -- It has ended.
-pub stood_ended : (p : Program) (name : Chars) (o : Outcome) (how : How) (stop : Stop) (s : FileScript) (kept : FileScript → Bool) (u : Told) (text output : List ℕ)
+pub stood_ended : (p : Program) (name : Chars) (o : Outcome) (how : How Tree) (stop : Stop) (s : FileScript) (kept : FileScript → Bool) (u : Told) (moves : ℕ) (text output : List ℕ)
     → stop ≡ Ended how
-    → Keeps p o (Some how) s kept u text output
-    → IsPlayed (main_job p) name (at_start (main_job p)) (start_of p) stop s kept u text output
+    → Keeps p o (Some how) s kept u moves text output
+    → IsPlayed (main_job p) name (at_start (main_job p)) (start_of p) 0 stop s kept u moves text output
     → Stood p name o
-stood_ended p name o how stop s kept u bytes output is k played =
+stood_ended p name o how stop s kept u moves bytes output is k played =
     let job : Job = main_job p in
-    let h : HasPlayed job name (at_start job) (start_of p) (Ended how) s kept u bytes output =
-    subst (λ (z : Stop). IsPlayed job name (at_start job) (start_of p) z s kept u bytes output) is played in
-    let told = told_of_it p o (Some how) s kept u bytes output (at_start job) h.execution k h.comes in
-    let comes : Comes job (at_start job) (start_of p) h.execution (told_in p o) =
-    subst (λ (v : Told). Comes job (at_start job) (start_of p) h.execution v) told h.comes in
+    let h : HasPlayed job name (at_start job) (start_of p) 0 (Ended how) s kept u moves bytes output =
+    subst (λ (z : Stop). IsPlayed job name (at_start job) (start_of p) 0 z s kept u moves bytes output) is played in
+    let told = told_of_it p o (Some how) s kept u moves bytes output (at_start job) h.execution k h.comes in
+    let comes : ComesBy job (at_start job) (start_of p) 0 h.execution (told_in p o) moves =
+    subst (λ (v : Told). ComesBy job (at_start job) (start_of p) 0 h.execution v moves) told h.comes in
     let e = h.stands.0 in
     let there : Execution = record (execution_of s job h.lines) { activity = over e.ending; output = e.output } in
     let none : written_at h.execution ≡ h.execution.consulted =
@@ -127,11 +146,10 @@ stood_ended p name o how stop s kept u bytes output is k played =
     record {
       execution = h.execution;
       names = h.names;
-      moves = comes.moves + 0;
-      alone = alone_there p o h.execution comes (subst (λ (z : History). AllPlain 1 z) (sym k.history) k.plain);
+      alone = alone_there p o h.execution moves comes k.moves_are (subst (λ (z : History). AllPlain 1 z) (sym k.history) k.plain);
       stopped =
           subst
-          (λ (z : Option How). HasStopped p o.front z h.execution)
+          (λ (z : Option (How Tree)). HasStopped p o.front z h.execution)
           (sym k.end_is)
           (record { ending = e.ending; is_over = ap (λ (z : Execution). z.activity) e.is; ends_so = h.stands.1 });
       operators = k.operators ∙ ap (λ (v : Told). (state_at v.goals v.history (length v.history)).operators) told;
@@ -156,29 +174,28 @@ stood_ended p name o how stop s kept u bytes output is k played =
     }
 
 -- It waits.
-pub stood_waiting : (p : Program) (name : Chars) (o : Outcome) (stop : Stop) (s : FileScript) (kept : FileScript → Bool) (u : Told) (text more output : List ℕ)
+pub stood_waiting : (p : Program) (name : Chars) (o : Outcome) (stop : Stop) (s : FileScript) (kept : FileScript → Bool) (u : Told) (moves : ℕ) (text more output : List ℕ)
     → stop ≡ Waits
-    → Keeps p o None s kept u more output
+    → Keeps p o None s kept u moves more output
     → IsLine (part_in s) name text more
-    → IsPlayed (main_job p) name (at_start (main_job p)) (start_of p) stop s kept u text output
+    → IsPlayed (main_job p) name (at_start (main_job p)) (start_of p) 0 stop s kept u moves text output
     → Stood p name o
-stood_waiting p name o stop s kept u bytes more output is k line played =
+stood_waiting p name o stop s kept u moves bytes more output is k line played =
     let job : Job = main_job p in
-    let h : HasPlayed job name (at_start job) (start_of p) Waits s kept u bytes output =
-    subst (λ (z : Stop). IsPlayed job name (at_start job) (start_of p) z s kept u bytes output) is played in
-    let told = told_of_it p o None s kept u more output (at_start job) h.execution k h.comes in
-    let comes : Comes job (at_start job) (start_of p) h.execution (told_in p o) =
-    subst (λ (v : Told). Comes job (at_start job) (start_of p) h.execution v) told h.comes in
+    let h : HasPlayed job name (at_start job) (start_of p) 0 Waits s kept u moves bytes output =
+    subst (λ (z : Stop). IsPlayed job name (at_start job) (start_of p) 0 z s kept u moves bytes output) is played in
+    let told = told_of_it p o None s kept u moves more output (at_start job) h.execution k h.comes in
+    let comes : ComesBy job (at_start job) (start_of p) 0 h.execution (told_in p o) moves =
+    subst (λ (v : Told). ComesBy job (at_start job) (start_of p) 0 h.execution v moves) told h.comes in
     let e = h.stands.0 in
     let x : Execution = execution_of s job h.lines in
     record {
       execution = h.execution;
       names = h.names;
-      moves = comes.moves + 0;
-      alone = alone_there p o h.execution comes (subst (λ (z : History). AllPlain 1 z) (sym k.history) k.plain);
+      alone = alone_there p o h.execution moves comes k.moves_are (subst (λ (z : History). AllPlain 1 z) (sym k.history) k.plain);
       stopped =
           subst
-          (λ (z : Option How). HasStopped p o.front z h.execution)
+          (λ (z : Option (How Tree)). HasStopped p o.front z h.execution)
           (sym k.end_is)
           (subst (λ (v : Told). WaitsNow v.engine v.goals job (record { execution = h.execution; history = v.history; gens = v.gens })) told h.stands.1);
       operators = k.operators ∙ ap (λ (v : Told). (state_at v.goals v.history (length v.history)).operators) told;
@@ -225,7 +242,7 @@ by_start false = refl
 start_written : (bytes : List ℕ) (words : List Chars) → written_at (first_execution (consults bytes words)) ≡ (first_execution (consults bytes words)).consulted
 start_written bytes words = by_start (nat_lt most_bytes (length bytes))
 
-pub first_played : (c : Command) (all : List ℕ) (s r : FileScript) (bytes : List ℕ) (goal : Option Chars) (t u : Told) (stop : Stop) (opening lines output : List ℕ)
+pub first_played : (c : Command) (all : List ℕ) (s r : FileScript) (bytes : List ℕ) (goal : Option Chars) (t u : Told) (moves : ℕ) (stop : Stop) (opening lines output : List ℕ)
     → bytes ≡ take (suc most_bytes) all
     → goal ≡ c.goal
     → ((job : Job) → job.script ≡ consults bytes (given_words goal) → Begins s job c.file opening)
@@ -236,19 +253,21 @@ pub first_played : (c : Command) (all : List ℕ) (s r : FileScript) (bytes : Li
     → Plays s job.script
     → x ≡ execution_of s job cs
     → IsText s.consult.name s.faulty x opening
-    → IsPlayed job s.consult.name x t stop r (λ (z : FileScript). z.faulty) u lines output)
+    → IsPlayed job s.consult.name x t 0 stop r (λ (z : FileScript). z.faulty) u moves lines output)
     → IsPlayed
     (main_job (program_of (told_command c) all))
     c.file
     (at_start (main_job (program_of (told_command c) all)))
     (start_of (program_of (told_command c) all))
+    0
     stop
     r
     (λ (z : FileScript). z.faulty)
     u
+    moves
     lines
     output
-first_played c all s r bytes goal t u stop opening lines output read same begins name-is told plays =
+first_played c all s r bytes goal t u moves stop opening lines output read same begins name-is told plays =
     let p : Program = program_of (told_command c) all in
     let job : Job = main_job p in
     let script : job.script ≡ consults bytes (given_words goal) =
@@ -257,10 +276,10 @@ first_played c all s r bytes goal t u stop opening lines output read same begins
     let b = begins job script in
     let written : written_at (at_start job) ≡ (at_start job).consulted = start_written p.bytes p.words in
     subst
-    (λ (z : Told). IsPlayed job c.file (at_start job) z stop r (λ (q : FileScript). q.faulty) u lines output)
+    (λ (z : Told). IsPlayed job c.file (at_start job) z 0 stop r (λ (q : FileScript). q.faulty) u moves lines output)
     told
     (subst
-    (λ (z : Chars). IsPlayed job z (at_start job) t stop r (λ (q : FileScript). q.faulty) u lines output)
+    (λ (z : Chars). IsPlayed job z (at_start job) t 0 stop r (λ (q : FileScript). q.faulty) u moves lines output)
     name-is
     (plays
     job
@@ -276,22 +295,28 @@ first_played c all s r bytes goal t u stop opening lines output read same begins
     )))
 
 -- It came to a predicate that is not built.
-pub stuck_at : (p : Program) (name called : Chars) (arity : ℕ) (stop : Stop) (s : FileScript) (kept : FileScript → Bool) (u : Told) (lines output : List ℕ)
+pub stuck_at : (p : Program) (name called : Chars) (arity : ℕ) (stop : Stop) (s : FileScript) (kept : FileScript → Bool) (u : Told) (moves : ℕ) (lines output : List ℕ)
     → stop ≡ Missing called arity
     → AllPlain 1 u.history
-    → IsPlayed (main_job p) name (at_start (main_job p)) (start_of p) stop s kept u lines output
+    → IsPlayed (main_job p) name (at_start (main_job p)) (start_of p) 0 stop s kept u moves lines output
     → IsStuck p (indicated called arity)
-stuck_at p name called arity stop s kept u lines output is plain played =
+stuck_at p name called arity stop s kept u moves lines output is plain played =
     let job : Job = main_job p in
-    let h : HasMissed (indicated called arity) job (at_start job) (start_of p) u =
-    subst (λ (z : Stop). IsPlayed job name (at_start job) (start_of p) z s kept u lines output) is played in
+    let h : HasMissed (indicated called arity) job (at_start job) (start_of p) 0 u moves =
+    subst (λ (z : Stop). IsPlayed job name (at_start job) (start_of p) 0 z s kept u moves lines output) is played in
     let told : u ≡ record { engine = 1; goals = length p.words; history = u.history; gens = u.gens } =
-    told_is u 1 (length p.words) u.history u.gens h.comes.engine h.comes.goals refl refl in
-    let comes : Comes job (at_start job) (start_of p) h.execution (record { engine = 1; goals = length p.words; history = u.history; gens = u.gens }) =
-    subst (λ (v : Told). Comes job (at_start job) (start_of p) h.execution v) told h.comes in
+    told_is u 1 (length p.words) u.history u.gens h.comes.comes.engine h.comes.comes.goals refl refl in
+    let comes : ComesBy job (at_start job) (start_of p) 0 h.execution (record { engine = 1; goals = length p.words; history = u.history; gens = u.gens }) moves =
+    subst (λ (v : Told). ComesBy job (at_start job) (start_of p) 0 h.execution v moves) told h.comes in
     record {
       seen = record { execution = h.execution; history = u.history; gens = u.gens };
-      moves = comes.moves + 0;
-      alone = record { reached = comes.comes 0 0 (alone_start (length p.words) job).reached; plain = plain };
+      moves = moves;
+      alone =
+          record {
+            reached =
+                counted_from_start job (record { engine = 1; goals = length p.words; history = u.history; gens = u.gens }) (at_start job) h.execution
+                (length p.words) moves comes (alone_start (length p.words) job).reached;
+            plain = plain;
+          };
       at = h.at;
     }

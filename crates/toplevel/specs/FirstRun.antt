@@ -11,11 +11,11 @@ use Rattle.atom_api.specs.Names.{Names}
 use Rattle.world_api.specs.declared.visit.Procedure.{Procedure}
 use Rattle.world_api.specs.Told.{Told}
 use Rattle.script_api.specs.Parts.{Part, seen_in, with_search}
-use Rattle.script_api.specs.Scripts.{Comes, EndsAs}
+use Rattle.script_api.specs.Comes.{ComesBy}
+use Rattle.script_api.specs.Scripts.{AreNames}
 use Rattle.pl_model.specs.Resolution.{State}
 use Rattle.first_script.specs.declared.file_script.FileScript.{FileScript}
 use Rattle.first_script.specs.FileScripts.{execution_of, part_in}
-use Rattle.first_script.specs.Words.{AreNames}
 use Rattle.plain_run.specs.Items.{IsText}
 use Rattle.plain_run.specs.declared.ran.Ran.{Ran}
 use Rattle.plain_run.specs.declared.ran.Ran.TheVariants as ran
@@ -42,26 +42,27 @@ StandsSo s job lines u (Ended how) y = (e : IsEnded s job lines y) × EndsSo e.e
 StandsSo s job lines u Waits y = IsAtSearch s job lines y × WaitsNow u.engine u.goals job (seen_in u y)
 StandsSo s job lines u (Missing name arity) y = IsAtUnbuilt (indicated name arity) y
 
--- The execution has come to this stop, with what is written of the file and what the goal has given.
-pub record HasPlayed (job : Job) (name : Chars) (x : Execution) (t : Told) (stop : Stop) (s : FileScript) (kept : FileScript → Bool) (u : Told) (text output : List ℕ) : Type 0 where
+-- The execution has come to this stop in as many moves as were counted, with what is written of the file and what the goal
+-- has given.
+pub record HasPlayed (job : Job) (name : Chars) (x : Execution) (t : Told) (before : ℕ) (stop : Stop) (s : FileScript) (kept : FileScript → Bool) (u : Told) (after : ℕ) (text output : List ℕ) : Type 0 where
   pub execution : Execution
   pub lines : List Consulted
   pub names : List (Chars × ℕ)
-  pub comes : Comes job x t execution u
+  pub comes : ComesBy job x t before execution u after
   pub stands : StandsSo s job lines u stop execution
   pub named : AreNames names (execution_of s job lines).words
   pub text_is : IsText name (kept s) execution text
   pub output_is : output ≡ encode_utf8_all (with_output names [] (output_of execution))
 
 -- The execution has come to this predicate, which is not built.
-pub record HasMissed (q : Proc) (job : Job) (x : Execution) (t u : Told) : Type 0 where
+pub record HasMissed (q : Proc) (job : Job) (x : Execution) (t : Told) (before : ℕ) (u : Told) (after : ℕ) : Type 0 where
   pub execution : Execution
-  pub comes : Comes job x t execution u
+  pub comes : ComesBy job x t before execution u after
   pub at : IsAtUnbuilt q execution
 
-abbrev pub IsPlayed : Job → Chars → Execution → Told → Stop → FileScript → (FileScript → Bool) → Told → List ℕ → List ℕ → Type 0
-IsPlayed job name x t (Missing n a) s kept u text output = HasMissed (indicated n a) job x t u
-IsPlayed job name x t stop s kept u text output = HasPlayed job name x t stop s kept u text output
+abbrev pub IsPlayed : Job → Chars → Execution → Told → ℕ → Stop → FileScript → (FileScript → Bool) → Told → ℕ → List ℕ → List ℕ → Type 0
+IsPlayed job name x t before (Missing n a) s kept u after text output = HasMissed (indicated n a) job x t before u after
+IsPlayed job name x t before stop s kept u after text output = HasPlayed job name x t before stop s kept u after text output
 
 -- The limits of the job are these.
 pub record HasLimits (job : Job) (l : Limits) : Type 0 where
@@ -77,7 +78,7 @@ IsMissing n p stop = ⊥
 
 -- The stop tells how the search of a goal has ended, or why it does not go on.
 abbrev pub IsStopOf : Names → Ran → Stop → Type 0
-IsStopOf n (ran.Ended how) (Ended h) = (e : Ending) → EndsAs how e → EndsSo e h
+IsStopOf n (ran.Ended how) stop = stop ≡ Ended how
 IsStopOf n (ran.Waits on) stop = stop ≡ Waits
 IsStopOf n (ran.NeedsAtoms p) stop = ⊥
 IsStopOf n (ran.Worn w) stop = ⊥

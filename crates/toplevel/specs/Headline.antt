@@ -53,17 +53,16 @@ IsPartlyWritten old new text =
 abbrev pub IsWrittenUnless : Type 0 → Option (List ℕ) → Option (List ℕ) → List ℕ → Type 0
 IsWrittenUnless rose old new text = IsWritten old new text ⊎ (rose × IsPartlyWritten old new text)
 
--- The run of a program on a file of this name, as its front tells it with the number of the first engine's moves: the
--- history is the whole of what the program did, and the engines stand so at its end.
+-- The run of a program, as its front tells it: the history is the whole of what the program did, and the engines stand so
+-- at its end.
 pub record IsRun (p : Program) (front : Front) : Type 0 where
-  pub moves : ℕ
   pub finals : Finals
-  pub complete : IsComplete p (told_by front moves)
-  pub final : AreFinal p (told_by front moves) finals
+  pub complete : IsComplete p (told_by front)
+  pub final : AreFinal p (told_by front) finals
 
 -- The text of the run, which the definitions give.
 abbrev pub text_of : Chars → (p : Program) → (front : Front) → IsRun p front → List ℕ
-text_of name p front run = encode_utf8_all (transcript name p (told_by front run.moves) run.finals)
+text_of name p front run = encode_utf8_all (transcript name p (told_by front) run.finals)
 
 -- The headline: what was written is the transcript of resolution over the history that the report returns, which is
 -- the whole of what the command did, and the report's ends and its end are those that this history gives.
@@ -73,8 +72,8 @@ pub record Ran (c : Command) (file old new : Option (List ℕ)) (report : Report
   pub front : Front
   pub front_is : report.front ≡ Some front
   pub run : IsRun (program_of c bytes) front
-  pub ends_are : report.ends.items ≡ goal_ends run.finals
-  pub end_is : report.end ≡ end_of (program_of c bytes) (told_by front run.moves) run.finals
+  pub ends_are : report.ends.items ≡ goal_ends (program_of c bytes) (told_by front) run.finals
+  pub end_is : report.end ≡ end_of (program_of c bytes) (told_by front) run.finals
   pub written : IsWritten old new (text_of c.file (program_of c bytes) front run)
 
 -- A write failed: the run is complete all the same, and a front of its transcript was written.
@@ -84,14 +83,14 @@ pub record RanUnwritten (c : Command) (file old new : Option (List ℕ)) (report
   pub front : Front
   pub front_is : report.front ≡ Some front
   pub run : IsRun (program_of c bytes) front
-  pub ends_are : report.ends.items ≡ goal_ends run.finals
+  pub ends_are : report.ends.items ≡ goal_ends (program_of c bytes) (told_by front) run.finals
   pub written : IsPartlyWritten old new (text_of c.file (program_of c bytes) front run)
 
 -- What is ready to be written of a run of this command on a file with these bytes.
 pub record IsReady (c : Command) (bytes : List ℕ) (ready : Ready) : Type 0 where
   pub run : IsRun (program_of c bytes) ready.front
-  pub ends_are : ready.ends.items ≡ goal_ends run.finals
-  pub end_is : ready.end ≡ end_of (program_of c bytes) (told_by ready.front run.moves) run.finals
+  pub ends_are : ready.ends.items ≡ goal_ends (program_of c bytes) (told_by ready.front) run.finals
+  pub end_is : ready.end ≡ end_of (program_of c bytes) (told_by ready.front) run.finals
   pub text_is : ready.text.items ≡ text_of c.file (program_of c bytes) ready.front run
 
 -- This predicate of the system was named, which is not built yet.

@@ -28,24 +28,24 @@ history_of f = map entry_of f.entries.items
 abbrev pub seen_of : Front → Execution → Seen
 seen_of f x = record { execution = x; history = history_of f; gens = f.generations.items }
 
--- The history, with the first engine's end behind so many moves, where it has one; and what is told then.
-abbrev pub history_with : History → Option How → ℕ → History
+-- The history, with the first engine's end after so many moves, where it has one; and what is told then.
+abbrev pub history_with : History → Option (How Tree) → ℕ → History
 history_with h None n = h
 history_with h (Some how) n = h ++ record { engine = 1; kind = finish how n } ∷ []
 
-abbrev pub told_with : History → List ℕ → Option How → ℕ → Told
+abbrev pub told_with : History → List ℕ → Option (How Tree) → ℕ → Told
 told_with h gens end n = record { history = history_with h end n; generations = (1, gens) ∷ [] }
 
-abbrev pub told_by : Front → ℕ → Told
-told_by f n = told_with (history_of f) f.generations.items f.end n
+abbrev pub told_by : Front → Told
+told_by f = told_with (history_of f) f.generations.items f.end f.moves
 
 -- The first engine has ended so, or its next request waits.
-pub record HasEnded (how : How) (x : Execution) : Type 0 where
+pub record HasEnded (how : How Tree) (x : Execution) : Type 0 where
   pub ending : Ending
   pub is_over : x.activity ≡ over ending
   pub ends_so : EndsSo ending how
 
-abbrev pub HasStopped : Program → Front → Option How → Execution → Type 0
+abbrev pub HasStopped : Program → Front → Option (How Tree) → Execution → Type 0
 HasStopped p f None x = WaitsNow 1 (length p.words) (main_job p) (seen_of f x)
 HasStopped p f (Some how) x = HasEnded how x
 
@@ -60,8 +60,7 @@ AreRead (Some (Fault kind at)) names ws = ws ≡ faulty_word kind at ∷ []
 pub record Stood (p : Program) (name : Chars) (o : Outcome) : Type 0 where
   pub execution : Execution
   pub names : List (Chars × ℕ)
-  pub moves : ℕ
-  pub alone : Alone (length p.words) (main_job p) (seen_of o.front execution) moves
+  pub alone : Alone (length p.words) (main_job p) (seen_of o.front execution) o.front.moves
   pub stopped : HasStopped p o.front o.front.end execution
   pub operators : o.operators ≡ (state_at (length p.words) (history_of o.front) (length (history_of o.front))).operators
   pub text : o.text.items ≡ encode_utf8_all (with_directive name (all_consulted name [] execution.consulted) execution.activity)
@@ -79,7 +78,7 @@ HasCome p name (Unbuilt n a) = IsStuck p (indicated n a)
 abbrev pub start_of : Program → Engine
 start_of p = record { engine = 1; goals = length p.words; history = []; gens = [] }
 
--- The line of a directive that waits stands behind the text of the file, where one waits.
+-- The line of a directive that waits stands after the text of the file, where one waits.
 abbrev pub line_at : Option Part → Chars → Chars → Chars
 line_at (Some (of_directive place rest)) name t = with_line t (item_line name place (codes "waiting"))
 line_at part name t = t

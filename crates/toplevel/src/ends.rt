@@ -1,19 +1,19 @@
 //! How the goal and the program end, by how the first engine ended.
 ghost use Rattle.std.specs.Prelude.{◌≡◌, IfOk};
 ghost use Rattle.pl_command.specs.Ends.{is_solved_how};
-ghost use Rattle.toplevel.specs.Parts.{end_in, ends_in, how_in, is_good};
+ghost use Rattle.toplevel.specs.Parts.{end_told, ends_in, how_in, is_good};
 
 use crate::hows::goal_ended;
 use crate::outcome::Word;
 use pl_command::{End, GoalEnd, GoalHow};
 use pl_model::ends::How;
-use pl_term::{Memory, Text};
+use pl_term::{Flat, Memory, Text};
 use std::alloc::Global;
 
-/// The ends of the goals: the one goal is run by the first engine, which is named `main`. The only error is want of memory.
+/// The ends of the goals: the one goal is run by the first engine, which is named `main`. The only error is out of memory.
 pub(crate) fn goal_ends(
     alloc: Global,
-    end: &Option<How>,
+    end: &Option<How<Flat>>,
     word: Option<Word>,
 ) -> Result<Vec<GoalEnd>, Memory>
     ensures { IfOk result (λ v. v.items ≡ ends_in end.now word) }
@@ -32,8 +32,8 @@ pub(crate) fn goal_ends(
     Ok(ends)
 }
 
-/// How the goal ended whose word was read so. The only error is want of memory.
-fn goal_how(alloc: Global, end: &Option<How>, word: Word) -> Result<GoalHow, Memory>
+/// How the goal ended whose word was read so. The only error is out of memory.
+fn goal_how(alloc: Global, end: &Option<How<Flat>>, word: Word) -> Result<GoalHow, Memory>
     ensures { IfOk result (λ h. h ≡ how_in end.now word) }
 {
     match word {
@@ -43,12 +43,13 @@ fn goal_how(alloc: Global, end: &Option<How>, word: Word) -> Result<GoalHow, Mem
 }
 
 /// The end of the program: `faulty` says whether a fault of the file was kept.
-pub(crate) fn end_of(end: &Option<How>, word: Option<Word>, faulty: bool) -> End
-    ensures { result ≡ end_in end.now word faulty }
+pub(crate) fn end_of(end: &Option<How<Flat>>, word: Option<Word>, faulty: bool) -> End
+    ensures { result ≡ end_told end.now word faulty }
 {
     match end {
         None => End::Waiting,
         Some(How::Halted(status)) => End::Halted(*status),
+        Some(How::AtomSpace(_)) => End::GoalFailed,
         Some(how) => {
             if is_good(how, word) && !faulty {
                 End::Done
@@ -60,7 +61,7 @@ pub(crate) fn end_of(end: &Option<How>, word: Option<Word>, faulty: bool) -> End
 }
 
 /// Whether there is no goal, or it has ended solved.
-fn is_good(how: &How, word: Option<Word>) -> bool
+fn is_good(how: &How<Flat>, word: Option<Word>) -> bool
     ensures { result ≡ is_good how.now word }
 {
     match word {
@@ -70,7 +71,7 @@ fn is_good(how: &How, word: Option<Word>) -> bool
     }
 }
 
-fn is_solved(how: &How) -> bool
+fn is_solved(how: &How<Flat>) -> bool
     ensures { result ≡ is_solved_how how.now }
 {
     match how {
@@ -79,5 +80,6 @@ fn is_solved(how: &How) -> bool
         How::Threw(_) => false,
         How::Exited(_) => false,
         How::Halted(_) => false,
+        How::AtomSpace(_) => false,
     }
 }

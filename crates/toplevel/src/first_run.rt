@@ -8,7 +8,8 @@ ghost use Rattle.pl_model.specs.History.{AllPlain};
 ghost use Rattle.pl_command.specs.Told.{told_command};
 ghost use Rattle.pl_command.specs.CommandLine.{program_of};
 ghost use Rattle.first_script.specs.FileScripts.{execution_of, part_in};
-ghost use Rattle.first_script.specs.Words.{AreNames, words_of};
+ghost use Rattle.first_script.specs.Words.{words_of};
+ghost use Rattle.script_api.specs.Scripts.{AreNames};
 ghost use Rattle.plain_world.specs.Entries.{told_of};
 ghost use Rattle.toplevel.specs.Outcomes.{AreRead, HasCome, IsLine, history_of, start_of};
 ghost use Rattle.toplevel.specs.FirstRun.{IsPlayed};
@@ -22,11 +23,11 @@ use pl_command::Command;
 use pl_io::Gate;
 use pl_model::ends::How;
 use pl_report::put_waiting_directive;
-use pl_term::{Memory, Text};
+use pl_term::{Flat, Memory, Text};
 use plain_world::PlainWorld;
+use script_api::Script;
 use std::alloc::Global;
 use term_store::Stored;
-use script_api::Script;
 
 /// What comes of the run of the first engine.
 #[derive(Drop)]
@@ -37,7 +38,7 @@ pub enum Course {
     Unbuilt { name: Text, arity: u64 },
 }
 
-/// Runs the command on a file with these bytes. The only error is want of memory.
+/// Runs the command on a file with these bytes. The only error is out of memory.
 pub(crate) fn first_run<G: Gate>(
     alloc: Global,
     command: &Command,
@@ -56,6 +57,7 @@ pub(crate) fn first_run<G: Gate>(
     };
     let mut atoms = PlainAtoms::new(alloc)?;
     let mut output = Vec::new(alloc);
+    let mut moves = 0;
     let stop = play(
         alloc,
         &command.limits,
@@ -64,6 +66,7 @@ pub(crate) fn first_run<G: Gate>(
         &mut atoms,
         &mut text,
         &mut output,
+        &mut moves,
     )?;
     close(
         alloc,
@@ -73,6 +76,7 @@ pub(crate) fn first_run<G: Gate>(
         &command.file,
         text,
         output,
+        moves,
     )
 }
 
@@ -86,7 +90,7 @@ fn goals_of(command: &Command) -> u64
     }
 }
 
-/// The same word, if there is one. The only error is want of memory.
+/// The same word, if there is one. The only error is out of memory.
 fn copied(alloc: Global, word: &Option<Text>) -> Result<Option<Text>, Memory>
     ensures { IfOk result (λ w. w ≡ word.now) }
 {
@@ -99,7 +103,7 @@ fn copied(alloc: Global, word: &Option<Text>) -> Result<Option<Text>, Memory>
     }
 }
 
-/// What comes of a script that does not go on. The only error is want of memory.
+/// What comes of a script that does not go on. The only error is out of memory.
 fn close(
     alloc: Global,
     stop: Stop,
@@ -108,19 +112,20 @@ fn close(
     name: &Text,
     text: Vec<u8>,
     output: Vec<u8>,
+    moves: u64,
 ) -> Result<Course, Memory>
-    ensures { (p : Program) → IsPlayed (main_job p) name.now (at_start (main_job p)) (start_of p) stop script.now
-        ⟦<FileScript as Script>⟧.kept (told_of world.journal) text.items output.items
+    ensures { (p : Program) → IsPlayed (main_job p) name.now (at_start (main_job p)) (start_of p) 0 stop script.now
+        ⟦<FileScript as Script>⟧.kept (told_of world.journal) moves text.items output.items
         → IfOk result (HasCome p name.now) }
 {
     match stop {
         Stop::Ended(how) => {
-            let outcome = outcome(alloc, Some(how), script, world, text, output)?;
+            let outcome = outcome(alloc, Some(how), script, world, text, output, moves)?;
             Ok(Course::Stood(outcome))
         }
         Stop::Waits => {
             let text = with_waiting(script, name, text)?;
-            let outcome = outcome(alloc, None, script, world, text, output)?;
+            let outcome = outcome(alloc, None, script, world, text, output, moves)?;
             Ok(Course::Stood(outcome))
         }
         Stop::Missing { name, arity } => {
@@ -130,7 +135,7 @@ fn close(
     }
 }
 
-/// The text of the file with the line of a directive that waits, if one does. The only error is want of memory.
+/// The text of the file with the line of a directive that waits, if one does. The only error is out of memory.
 fn with_waiting(script: &FileScript, name: &Text, text: Vec<u8>) -> Result<Vec<u8>, Memory>
     ensures { IfOk result (λ v. IsLine (part_in script.now) name.now text.items v.items) }
 {
@@ -144,16 +149,17 @@ fn with_waiting(script: &FileScript, name: &Text, text: Vec<u8>) -> Result<Vec<u
     }
 }
 
-/// Where the first engine stands, which has ended so or waits. The only error is want of memory.
+/// Where the first engine stands, which has ended so or waits. The only error is out of memory.
 fn outcome(
     alloc: Global,
-    end: Option<How>,
+    end: Option<How<Flat>>,
     script: &FileScript,
     world: PlainWorld<Stored, PlainAtoms>,
     text: Vec<u8>,
     output: Vec<u8>,
+    moves: u64,
 ) -> Result<Outcome, Memory>
-    ensures kept { IfOk result (λ o. (o.front.end ≡ end) × (o.text.items ≡ text.items) × (o.output.items ≡ output.items)
+    ensures kept { IfOk result (λ o. (o.front.end ≡ end) × (o.front.moves ≡ moves) × (o.text.items ≡ text.items) × (o.output.items ≡ output.items)
         × (o.faulty ≡ ⟦<FileScript as Script>⟧.kept script.now)) }
     ensures history { IfOk result (λ o. (history_of o.front ≡ (told_of world.journal).history) × (o.front.generations.items ≡ (told_of world.journal).gens)) }
     ensures plain { IfOk result (λ o. AllPlain 1 (told_of world.journal).history) }
@@ -172,6 +178,7 @@ fn outcome(
             entries,
             generations,
             end,
+            moves,
         },
         operators,
         text,

@@ -1,16 +1,16 @@
 //! How the first engine ended, as it is told and as it is written.
 ghost use Rattle.std.specs.Prelude.{◌≡◌, IfOk, Some};
-ghost use Rattle.pl_report.specs.Reported.{IsEnding, IsEnough, Tells};
-ghost use Rattle.toplevel.specs.Parts.{ended_in, ending_in, ending_of};
+ghost use Rattle.pl_command.specs.Ends.{goal_how};
+ghost use Rattle.pl_report.specs.Reported.{IsEnough, Tells, written_of};
 
 use pl_command::GoalHow;
 use pl_model::ends::How;
 use pl_report::{GoalHow as Last, How as Written};
-use pl_term::Memory;
+use pl_term::{Flat, Memory};
 use std::alloc::Global;
 
-/// A second end that is the same. The only error is want of memory.
-fn copy_how(alloc: Global, how: &How) -> Result<How, Memory>
+/// A second end that is the same. The only error is out of memory.
+fn copy_how(alloc: Global, how: &How<Flat>) -> Result<How<Flat>, Memory>
     ensures { IfOk result (λ h. h ≡ how.now) }
 {
     match how {
@@ -25,12 +25,13 @@ fn copy_how(alloc: Global, how: &How) -> Result<How, Memory>
             Ok(How::Exited(term))
         }
         How::Halted(status) => Ok(How::Halted(*status)),
+        How::AtomSpace(found) => Ok(How::AtomSpace(*found)),
     }
 }
 
-/// How a goal ended that the first engine ran. The only error is want of memory.
-pub(crate) fn goal_ended(alloc: Global, end: &Option<How>) -> Result<GoalHow, Memory>
-    ensures { IfOk result (λ h. h ≡ ended_in end.now) }
+/// How a goal ended that the first engine ran. The only error is out of memory.
+pub(crate) fn goal_ended(alloc: Global, end: &Option<How<Flat>>) -> Result<GoalHow, Memory>
+    ensures { IfOk result (λ h. h ≡ goal_how end.now) }
 {
     match end {
         None => Ok(GoalHow::Waits),
@@ -41,9 +42,9 @@ pub(crate) fn goal_ended(alloc: Global, end: &Option<How>) -> Result<GoalHow, Me
     }
 }
 
-/// What is written of an end. The only error is want of memory.
-fn written_how(alloc: Global, how: &How) -> Result<Written, Memory>
-    ensures { IfOk result (λ w. IsEnding w (ending_of how.now)) }
+/// What is written of an end. The only error is out of memory.
+fn written_how(alloc: Global, how: &How<Flat>) -> Result<Written, Memory>
+    ensures { IfOk result (λ w. w ≡ written_of how.now) }
 {
     match how {
         How::Solved => Ok(Written::Solved),
@@ -54,12 +55,13 @@ fn written_how(alloc: Global, how: &How) -> Result<Written, Memory>
         }
         How::Exited(_) => Ok(Written::Exited),
         How::Halted(status) => Ok(Written::Halted(*status)),
+        How::AtomSpace(_) => Ok(Written::AtomSpace),
     }
 }
 
-/// What is written of the end of an engine, or of one that waits. The only error is want of memory.
-pub(crate) fn written_end(alloc: Global, end: &Option<How>) -> Result<Last, Memory>
-    ensures { IfOk result (λ w. Tells (Some w) (ending_in end.now)) }
+/// What is written of the end of an engine, or of one that waits. The only error is out of memory.
+pub(crate) fn written_end(alloc: Global, end: &Option<How<Flat>>) -> Result<Last, Memory>
+    ensures { IfOk result (λ w. Tells (Some w) end.now) }
 {
     match end {
         None => Ok(Last::Waits),
@@ -71,8 +73,8 @@ pub(crate) fn written_end(alloc: Global, end: &Option<How>) -> Result<Last, Memo
 }
 
 /// Whether an engine has given the solutions that were wanted.
-pub(crate) fn is_enough(end: &Option<How>) -> bool
-    ensures { IsEnough result (ending_in end.now) }
+pub(crate) fn is_enough(end: &Option<How<Flat>>) -> bool
+    ensures { IsEnough result end.now }
 {
     match end {
         Some(How::Solved) => true,

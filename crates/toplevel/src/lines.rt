@@ -37,7 +37,7 @@ fn put_number(out: &mut Vec<u8>, n: u64) -> Result<(), Memory>
     Ok(())
 }
 
-/// The line for a file that cannot be read. The only error is want of memory.
+/// The line for a file that cannot be read. The only error is out of memory.
 pub(crate) fn unread_text(alloc: Global, file: &Text) -> Result<Vec<u8>, Memory>
     ensures { IfOk result (λ v. v.items ≡ encode_utf8_all (unread_line file.now)) }
 {
@@ -48,7 +48,7 @@ pub(crate) fn unread_text(alloc: Global, file: &Text) -> Result<Vec<u8>, Memory>
     Ok(line)
 }
 
-/// The line for a predicate that is not built yet. The only error is want of memory.
+/// The line for a predicate that is not built yet. The only error is out of memory.
 pub(crate) fn unbuilt_text(alloc: Global, name: &Text, arity: u64) -> Result<Vec<u8>, Memory>
     ensures { IfOk result (λ v. v.items ≡ encode_utf8_all (unbuilt_line name.now arity)) }
 {

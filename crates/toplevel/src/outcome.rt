@@ -2,15 +2,17 @@
 use op_table::OpTable;
 use pl_model::ends::How;
 use pl_model::syntax::SyntaxKind;
+use pl_term::Flat;
 use plain_world::Entry;
 
 /// What is told of a run: the updates of the shared state, all of them the first engine's, and the generations of its
-/// requests; and how it ended, or nothing where it waits.
+/// requests; how it ended, or nothing where it waits; and the number of its moves.
 #[derive(Drop)]
 pub struct Front {
     pub entries: Vec<Entry>,
     pub generations: Vec<u64>,
-    pub end: Option<How>,
+    pub end: Option<How<Flat>>,
+    pub moves: u64,
 }
 
 /// How the word of the goal was read: as a goal, or with a fault of this kind at this byte.
@@ -20,7 +22,7 @@ pub enum Word {
     Fault { kind: SyntaxKind, at: u64 },
 }
 
-/// Where the first engine stands at the end of its run: what is told of the run, the operators behind it, what is written
+/// Where the first engine stands at the end of its run: what is told of the run, the operators after it, what is written
 /// of the file, what the goal has given, how its word was read, if it was, and whether a fault of the file was kept.
 #[derive(Drop)]
 pub struct Outcome {

@@ -16,18 +16,18 @@ use first_script::FileScript;
 use iso_search::search::Budgets;
 use pl_command::Limits;
 use pl_model::ends::How;
-use pl_term::{Memory, Text};
-use plain_run::{Items, Ran, ends_how, ends_over, run_goal, run_items};
+use pl_term::{Flat, Memory, Text};
+use plain_run::{Items, Ran, ends_over, run_goal, run_items};
+use script_api::Script;
 use std::alloc::Global;
 use term_store::Stored;
-use script_api::Script;
 use world_api::{Procedure, World};
 
 /// Where the first engine does not go on.
 #[derive(Drop)]
 pub enum Stop {
     /// It has ended so.
-    Ended(How),
+    Ended(How<Flat>),
     /// Its next request has no reply as the shared state stands.
     Waits,
     /// Its next step is of the predicate of the system with this name and number of arguments, which is not built yet.
@@ -45,8 +45,8 @@ fn budgets_of(limits: &Limits) -> Budgets
     }
 }
 
-/// Runs a script from its beginning: what is written of the file is put behind `text`, what the goal gives behind
-/// `output`. The atoms refuse nothing. The only error is want of memory.
+/// Runs a script from its beginning: what is written of the file is put after `text`, what the goal gives after `output`,
+/// and the moves are counted by `moves`. The atoms refuse nothing. The only error is out of memory.
 pub(crate) fn play<W: World<Term = Stored>>(
     alloc: Global,
     limits: &Limits,
@@ -55,6 +55,7 @@ pub(crate) fn play<W: World<Term = Stored>>(
     atoms: &mut W::A,
     text: &mut Vec<u8>,
     output: &mut Vec<u8>,
+    moves: &mut u64,
 ) -> Result<Stop, Memory>
     requires runs { has_ended (W.told world.old).engine (W.told world.old).history ≡ false }
     requires none { part_in script.old ≡ None }
@@ -67,13 +68,13 @@ pub(crate) fn play<W: World<Term = Stored>>(
         → Plays script.old job.script
         → x ≡ execution_of script.old job cs
         → IsText (⟦<FileScript as Script>⟧.name script.old) (⟦<FileScript as Script>⟧.kept script.old) x text.old.items
-        → IfOk result (λ stop. IsPlayed job (⟦<FileScript as Script>⟧.name script.old) x (W.told world.old) stop
-        script.new ⟦<FileScript as Script>⟧.kept (W.told world.new) text.new.items output.new.items) }
+        → IfOk result (λ stop. IsPlayed job (⟦<FileScript as Script>⟧.name script.old) x (W.told world.old) moves.old stop
+        script.new ⟦<FileScript as Script>⟧.kept (W.told world.new) moves.new text.new.items output.new.items) }
 {
     let budgets = budgets_of(limits);
-    let items = run_items(alloc, script, budgets, world, atoms, text)?;
+    let items = run_items(alloc, script, budgets, world, atoms, text, moves)?;
     match items {
-        Items::Goal(goal) => play_goal(alloc, &goal, limits, script, world, atoms, text, output),
+        Items::Goal(goal) => play_goal(alloc, &goal, limits, script, world, atoms, text, output, moves),
         Items::Over { halted } => Ok(Stop::Ended(ends_over(halted))),
         Items::Waits(_) => Ok(Stop::Waits),
         Items::NeedsAtoms(_) => unreachable!(),
@@ -82,7 +83,7 @@ pub(crate) fn play<W: World<Term = Stored>>(
     }
 }
 
-/// Runs the goal that a script has at hand. The only error is want of memory.
+/// Runs the goal that a script has at hand. The only error is out of memory.
 fn play_goal<W: World<Term = Stored>>(
     alloc: Global,
     goal: &Stored,
@@ -92,6 +93,7 @@ fn play_goal<W: World<Term = Stored>>(
     atoms: &mut W::A,
     text: &mut Vec<u8>,
     output: &mut Vec<u8>,
+    moves: &mut u64,
 ) -> Result<Stop, Memory>
     requires runs { has_ended (W.told world.old).engine (W.told world.old).history ≡ false }
     requires at_hand { part_in script.old ≡ Some of_goal }
@@ -104,10 +106,10 @@ fn play_goal<W: World<Term = Stored>>(
         → Plays script.old job.script
         → x ≡ at_start_of job of_goal (W.A.held atoms.old) goal.now (execution_of script.old job cs)
         → IsText (⟦<FileScript as Script>⟧.name script.old) (⟦<FileScript as Script>⟧.kept script.old) x text.old.items
-        → IfOk result (λ stop. IsPlayed job (⟦<FileScript as Script>⟧.name script.old) x (W.told world.old) stop
-        script.new ⟦<FileScript as Script>⟧.kept (W.told world.new) text.new.items output.new.items) }
+        → IfOk result (λ stop. IsPlayed job (⟦<FileScript as Script>⟧.name script.old) x (W.told world.old) moves.old stop
+        script.new ⟦<FileScript as Script>⟧.kept (W.told world.new) moves.new text.new.items output.new.items) }
 {
-    let names = copy_names(alloc, script.names())?;
+    let names = copy_names(alloc, script.variable_names())?;
     let budgets = budgets_of(limits);
     let ran = run_goal(
         alloc,
@@ -120,11 +122,12 @@ fn play_goal<W: World<Term = Stored>>(
         atoms,
         text,
         output,
+        moves,
     )?;
     stop_of(alloc, ran, atoms)
 }
 
-/// Where a goal's search does not go on, if no atom was refused. The only error is want of memory.
+/// Where a goal's search does not go on, if no atom was refused. The only error is out of memory.
 fn stop_of<A: Atoms>(alloc: Global, ran: Ran, atoms: &mut A) -> Result<Stop, Memory>
     requires ended { IsEndedOr ran }
     requires plain { ran_refusals ran ≡ [] }
@@ -132,7 +135,7 @@ fn stop_of<A: Atoms>(alloc: Global, ran: Ran, atoms: &mut A) -> Result<Stop, Mem
     ensures { IfOk result (IsStopOf (A.held atoms.old) ran) }
 {
     match ran {
-        Ran::Ended(how) => Ok(Stop::Ended(ends_how(how))),
+        Ran::Ended(how) => Ok(Stop::Ended(how)),
         Ran::Waits(_) => Ok(Stop::Waits),
         Ran::NeedsAtoms(_) => unreachable!(),
         Ran::Worn(_) => unreachable!(),
@@ -140,7 +143,7 @@ fn stop_of<A: Atoms>(alloc: Global, ran: Ran, atoms: &mut A) -> Result<Stop, Mem
     }
 }
 
-/// The stop at a predicate that is not built yet. The only error is want of memory.
+/// The stop at a predicate that is not built yet. The only error is out of memory.
 fn missing<A: Atoms>(alloc: Global, procedure: Procedure, atoms: &mut A) -> Result<Stop, Memory>
     requires { IsSome (A.held atoms.old procedure.name) }
     ensures { IfOk result (IsMissing (A.held atoms.old) procedure) }
@@ -154,7 +157,7 @@ fn missing<A: Atoms>(alloc: Global, procedure: Procedure, atoms: &mut A) -> Resu
     })
 }
 
-/// The same names of variables. The only error is want of memory.
+/// The same names of variables. The only error is out of memory.
 fn copy_names(alloc: Global, names: &[(Text, u64)]) -> Result<Vec<(Text, u64)>, Memory>
     ensures { IfOk result (λ v. v.items ≡ names.now) }
 {

@@ -21,7 +21,7 @@ pub struct Ready {
     pub text: Vec<u8>,
 }
 
-/// Makes the ends and the text of a run. The only error is want of memory.
+/// Makes the ends and the text of a run. The only error is out of memory.
 pub(crate) fn make_ready(
     alloc: Global,
     command: &Command,

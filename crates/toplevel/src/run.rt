@@ -64,7 +64,7 @@ fn bare_report(alloc: Global, end: End) -> Report
     }
 }
 
-/// Runs the command on a file with these bytes, and makes the text that is to be written. The only error is want of
+/// Runs the command on a file with these bytes, and makes the text that is to be written. The only error is out of
 /// memory.
 fn settle<G: Gate>(
     alloc: Global,

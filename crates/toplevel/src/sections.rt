@@ -1,6 +1,6 @@
 //! The text of a run, by how the first engine ended.
 ghost use Rattle.std.specs.Prelude.{◌≡◌, ◌++◌, IfOk, Option, encode_utf8_all};
-ghost use Rattle.pl_term.specs.Tree.{Chars};
+ghost use Rattle.pl_term.specs.Tree.{Chars, Tree};
 ghost use Rattle.pl_model.specs.declared.ends.How.{How as HowOf};
 ghost use Rattle.run_model.specs.Report.{closed};
 ghost use Rattle.toplevel.specs.declared.outcome.Word.TheVariants.{Fault, Goal};
@@ -12,16 +12,16 @@ use op_table::OpTable;
 use pl_model::ends::How;
 use pl_model::syntax::SyntaxKind;
 use pl_report::{GoalHow as Last, Section, SectionKind, transcript};
-use pl_term::{Memory, Text};
+use pl_term::{Flat, Memory, Text};
 use std::alloc::Global;
 
 /// The text of a run: of the file `text` was written, and the goal of this word, which was read so, has given `output`.
-/// `ops` are the operators behind the run. The only error is want of memory.
+/// `ops` are the operators after the run. The only error is out of memory.
 pub(crate) fn report_text(
     alloc: Global,
     goal: &Option<Text>,
     word: Option<Word>,
-    end: &Option<How>,
+    end: &Option<How<Flat>>,
     ops: &OpTable,
     text: Vec<u8>,
     output: Vec<u8>,
@@ -33,12 +33,12 @@ pub(crate) fn report_text(
     transcript(alloc, sections.as_slice())
 }
 
-/// The sections of a run. The only error is want of memory.
+/// The sections of a run. The only error is out of memory.
 fn sections(
     alloc: Global,
     goal: &Option<Text>,
     word: Option<Word>,
-    end: &Option<How>,
+    end: &Option<How<Flat>>,
     ops: &OpTable,
     text: Vec<u8>,
     output: Vec<u8>,
@@ -70,7 +70,7 @@ fn two_sections(alloc: Global, file: Section, goal: Section) -> Result<Vec<Secti
     Ok(all)
 }
 
-/// The section of the file. The only error is want of memory.
+/// The section of the file. The only error is out of memory.
 fn file_section(alloc: Global, text: Vec<u8>, ops: &OpTable) -> Result<Section, Memory>
     ensures { (t : Chars) → text.items ≡ encode_utf8_all t → IfOk result (λ s. IsSection s (closed t)) }
 {
@@ -82,12 +82,12 @@ fn file_section(alloc: Global, text: Vec<u8>, ops: &OpTable) -> Result<Section, 
     })
 }
 
-/// The section of the goal, where its word was read. The only error is want of memory.
+/// The section of the goal, where its word was read. The only error is out of memory.
 fn goal_part(
     alloc: Global,
     goal: &Option<Text>,
     word: Option<Word>,
-    end: &Option<How>,
+    end: &Option<How<Flat>>,
     ops: &OpTable,
     output: Vec<u8>,
 ) -> Result<Option<Section>, Memory>
@@ -104,12 +104,12 @@ fn goal_part(
     Ok(Some(section))
 }
 
-/// The section of a goal whose word was read so. The only error is want of memory.
+/// The section of a goal whose word was read so. The only error is out of memory.
 fn word_section(
     alloc: Global,
     goal: &Text,
     word: Word,
-    end: &Option<How>,
+    end: &Option<How<Flat>>,
     ops: &OpTable,
     output: Vec<u8>,
 ) -> Result<Section, Memory>
@@ -122,11 +122,11 @@ fn word_section(
     }
 }
 
-/// The section of a goal that was run. The only error is want of memory.
+/// The section of a goal that was run. The only error is out of memory.
 fn goal_section(
     alloc: Global,
     goal: &Text,
-    end: &Option<How>,
+    end: &Option<How<Flat>>,
     ops: &OpTable,
     output: Vec<u8>,
 ) -> Result<Section, Memory>
@@ -145,7 +145,7 @@ fn goal_section(
     })
 }
 
-/// The section of a goal whose word is no term. The only error is want of memory.
+/// The section of a goal whose word is no term. The only error is out of memory.
 fn fault_section(
     alloc: Global,
     goal: &Text,
@@ -153,7 +153,7 @@ fn fault_section(
     at: u64,
     ops: &OpTable,
 ) -> Result<Section, Memory>
-    ensures { (u : Chars) (end : Option HowOf) → IfOk result (λ s. IsSection s (section_by goal.now (Fault kind at) end ops.now u)) }
+    ensures { (u : Chars) (end : Option (HowOf Tree)) → IfOk result (λ s. IsSection s (section_by goal.now (Fault kind at) end ops.now u)) }
 {
     let word = goal.copy(alloc)?;
     let ops = ops.copy(alloc)?;

@@ -1,46 +1,29 @@
-use Rattle.std.proofs.Common.{refl, ◌∙◌, ap, ◌≡◌, []}
+use Rattle.std.proofs.Common.{refl, ◌∙◌, ap, []}
 use Rattle.std.specs.Str.{encode_utf8_all}
-use Rattle.run_model.specs.Report.{all_consulted, output_of, with_directive, with_output, ending_by}
+use Rattle.run_model.specs.Report.{all_consulted, output_of, with_directive, with_output}
 use Rattle.pl_command.specs.CommandLine.{program_of}
 use Rattle.pl_command.specs.Told.{told_command}
-use Rattle.toplevel.specs.Parts.{ending_in}
-use Rattle.toplevel.proofs.OutcomeFacts.{alone_at, complete_with, end_reported, ends_reported, final_with, stopped_as, text_reported}
+use Rattle.toplevel.proofs.OutcomeFacts.{alone_at, complete_with, end_reported, ends_reported, final_with, text_reported}
 use Rattle.toplevel.proofs.ready.make_ready.Goals as goal
 
 pub returns : goal.returns
 returns c bytes s =
     let p = program_of (told_command c.args.command.now) bytes in
     let o = c.args.outcome in
+    let f = o.front in
     let x = s.execution in
     let name = c.args.command.now.file in
-    let stop : ending_by x.activity ≡ ending_in o.front.end = stopped_as p o.front o.front.end x s.stopped in
     record {
       run =
           record {
-            moves = s.moves;
             finals = alone_at x;
-            complete = complete_with p o.front o.front.end x s.moves s.alone s.stopped;
-            final = final_with p o.front o.front.end x s.moves s.alone s.stopped;
+            complete = complete_with p f f.end x f.moves s.alone s.stopped;
+            final = final_with p f f.end x f.moves s.alone s.stopped;
           };
-      ends_are = c.in_ok-ends.ensures ∙ ends_reported x o.front.end o.word s.names s.words s.refusals stop;
+      ends_are = c.in_ok-ends.ensures ∙ ends_reported p f f.end x f.moves o.word s.names s.alone.plain s.words s.refusals s.stopped;
       end_is =
           c.end_of-end.ensures
-          ∙ end_reported
-          p
-          o.front
-          o.front.end
-          x
-          s.moves
-          c.args.command.now.goal
-          o.word
-          s.names
-          o.faulty
-          refl
-          s.alone.plain
-          s.words
-          s.refusals
-          stop
-          s.faulty;
+          ∙ end_reported p f f.end x f.moves o.word s.names o.faulty s.alone.plain s.words s.refusals s.stopped s.faulty;
       text_is =
           c.in_ok-text.ensures
           (with_directive name (all_consulted name [] x.consulted) x.activity)
@@ -51,10 +34,10 @@ returns c bytes s =
           encode_utf8_all
           (text_reported
           p
-          o.front
-          o.front.end
+          f
+          f.end
           x
-          s.moves
+          f.moves
           name
           c.args.command.now.goal
           o.word
@@ -65,5 +48,5 @@ returns c bytes s =
           s.operators
           s.words
           s.refusals
-          stop);
+          s.stopped);
     }
