@@ -1,5 +1,6 @@
 -- What holds of a run whose first engine has come to its end, or waits.
 use Rattle.std.proofs.Common.{◌≡◌, ◌+◌, ℕ, zero, suc, Bool, true, false, List, [], ◌∷◌, ◌++◌, length, Option, Some, None, refl, sym, ◌∙◌, ap, subst, inl, inr, arith, append-nil}
+use Rattle.std.proofs.lemmas.Bool.{eqb-true}
 use Rattle.std.specs.Prelude.{Contains, slice_get, map, not, ◌&&◌, ◌||◌, ◌==◌, codes, if◌then◌else◌}
 use Rattle.pl_term.specs.Tree.{Chars, Tree}
 use Rattle.pl_model.specs.declared.ends.How.{How}
@@ -100,43 +101,23 @@ pub complete_with : (p : Program) (f : Front) (end : Option (How Tree)) (x : Exe
 complete_with p f None x n a w = alone_wait p (seen_of f x) n a w
 complete_with p f (Some how) x n a s = alone_end p (seen_of f x) n s.ending how a s.is_over s.ends_so
 
--- The run as it stands.
-run_now : (e goals : ℕ) (job : Job) (low : ℕ) (seen : Seen) (n : ℕ)
-    → (r : Reached e goals job low seen n)
-    → run e goals job seen.history seen.gens n ≡ r.at
-run_now e goals job low seen n r =
-    ap (λ (h : History). run e goals job h seen.gens n) (sym (append-nil seen.history))
-    ∙ ap (λ (g : List ℕ). run e goals job (seen.history ++ []) g n) (sym (append-nil seen.gens))
-    ∙ r.reaches [] []
-
+-- Where it waits, in the state in which it stands.
 waits_now : (e goals : ℕ) (job : Job) (low : ℕ) (seen : Seen) (n : ℕ)
     → Reached e goals job low seen n
     → WaitsNow e goals job seen
     → (d : WaitsAtEnd e goals job low seen.history seen.gens)
     × ((run e goals job seen.history seen.gens d.steps).execution ≡ seen.execution)
-waits_now e goals job low seen n r w =
-    let is = run_now e goals job low seen n r in
-    let same : (run e goals job seen.history seen.gens n).execution ≡ seen.execution =
-    ap (λ (a : Standing). a.execution) is ∙ r.execution_is in (
-      record {
-        steps = n;
-        request = w.request;
-        next = w.next;
-        lawful =
-            record {
-              rises = r.rises;
-              each = ap (λ (a : Standing). a.asked) is ∙ r.asked;
-              stand = subst (λ (a : Standing). AllStand e seen.history seen.gens a.made) (sym is) r.stand;
-              mine_is =
-                  r.mine_is
-                  ∙ ap (λ (a : Standing). map (λ (m : Made). m.kind) a.made) (sym is)
-                  ∙ sym (append-nil _);
-            };
-        asks = ap (move job) same ∙ w.asks_is;
-        waits_there = w.served;
-      },
-      same,
-    )
+waits_now e goals job low seen n r w = (
+  record {
+    steps = n;
+    request = w.request;
+    next = w.next;
+    lawful = record { rises = r.rises; each = r.asked; stand = r.stand; mine_is = r.mine_is ∙ sym (append-nil _) };
+    asks = ap (move job) r.execution_is ∙ w.asks_is;
+    waits_there = w.served;
+  },
+  r.execution_is,
+)
 
 -- The one end in the history.
 steps_in : Kind → ℕ → ℕ
@@ -178,7 +159,7 @@ main_done p f (Some how) x n a s =
 -- Only the first engine stands there.
 only_first : (x y : Execution) (e : ℕ) (b : Bool) → (1 == e) ≡ b → (if b then Some x else None) ≡ Some y
     → (es : List ℕ) → Contains (1 ∷ es) e
-only_first x y e true same is es = subst (λ (k : ℕ). Contains (1 ∷ es) k) (eqb-true 1 e same) (Contains-head 1 es)
+only_first x y e true same is es = subst (λ (k : ℕ). Contains (1 ∷ es) k) (eqb-true 1 e same) (0, omega arith, refl)
 only_first x y e false same is es = absurd (let no : ⊥ = cc in no)
 
 pub final_with : (p : Program) (f : Front) (end : Option (How Tree)) (x : Execution) (n : ℕ)

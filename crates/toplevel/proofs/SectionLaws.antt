@@ -1,11 +1,12 @@
 -- The texts of sections.
 use Rattle.std.proofs.Common.{◌≡◌, ℕ, Bool, false, List, [], ◌∷◌, ◌++◌, sym, ◌∙◌, ap, subst, Option, Some, None}
 use Rattle.std.proofs.lemmas.List.{append-nil}
-use Rattle.pl_term.specs.Tree.{Chars}
+use Rattle.pl_term.specs.Tree.{Chars, Tree}
 use Rattle.pl_model.specs.declared.syntax.SyntaxKind.{SyntaxKind}
 use Rattle.pl_model.specs.OperatorTable.{OperatorTable}
-use Rattle.pl_model.specs.Resolution.{Ending, text}
-use Rattle.run_model.specs.Execution.{Execution, Activity, at_activity, initializing, over}
+use Rattle.pl_model.specs.declared.ends.How.{How}
+use Rattle.pl_model.specs.Resolution.{text}
+use Rattle.run_model.specs.Execution.{Execution, at_activity, initializing}
 use Rattle.run_model.specs.Report.{closed, fault_text, goal_line, with_last}
 use Rattle.pl_report.specs.declared.parts.GoalHow.{GoalHow}
 use Rattle.pl_report.specs.declared.parts.GoalHow.TheVariants.{Syntax}
@@ -39,16 +40,15 @@ two_of old mid ss s g t u none more all is for =
           ∙ ap (λ (x : Chars). x ++ u) is.says;
     })
 
--- An execution that has written this and has come to this end, or goes on.
-at_end : Activity → Chars → Execution
-at_end a u = record (at_activity a) { output = text u ∷ [] }
+-- An execution that has written this.
+with_text : Chars → Execution
+with_text u = record (at_activity initializing) { output = text u ∷ [] }
 
-pub goal_says : (w : Chars) (enough : Bool) (u : Chars) (how : Option GoalHow) (ops : OperatorTable) (e : Option Ending)
+pub goal_says : (w : Chars) (enough : Bool) (u : Chars) (how : Option GoalHow) (ops : OperatorTable) (e : Option (How Tree))
     → Tells how e → IsEnough enough e
     → section_text (Goal w enough) u how ops ≡ goal_line w ++ closed (with_last ops u e)
-unfolding at_end
-goal_says w enough u how ops None is ok = goal_reported w enough [] (at_end initializing u) how ops is ok
-goal_says w enough u how ops (Some e) is ok = goal_reported w enough [] (at_end (over e) u) how ops is ok
+unfolding with_text
+goal_says w enough u how ops e is ok = goal_reported w enough [] (with_text u) how ops e is ok
 
 pub fault_says : (w v : Chars) (kind : SyntaxKind) (at : ℕ) (ops : OperatorTable) → v ≡ w
     → section_text (Goal v false) [] (Some (Syntax kind at)) ops ≡ goal_line w ++ fault_text kind at

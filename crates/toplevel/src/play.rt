@@ -7,7 +7,7 @@ ghost use Rattle.script_api.specs.Parts.{of_goal};
 ghost use Rattle.world_api.specs.Told.{has_ended};
 ghost use Rattle.first_script.specs.FileScripts.{Plays, execution_of, part_in};
 ghost use Rattle.plain_run.specs.Items.{IsText};
-ghost use Rattle.plain_run.specs.Ran.{IsEndedOr, IsNameHeld, at_start_of, ran_refusals};
+ghost use Rattle.plain_run.specs.Ran.{IsNameHeld, at_start_of, ran_refusals};
 ghost use Rattle.pl_command.specs.Told.{told_limits};
 ghost use Rattle.toplevel.specs.FirstRun.{HasLimits, IsMissing, IsPlayed, IsStopOf};
 
@@ -74,7 +74,9 @@ pub(crate) fn play<W: World<Term = Stored>>(
     let budgets = budgets_of(limits);
     let items = run_items(alloc, script, budgets, world, atoms, text, moves)?;
     match items {
-        Items::Goal(goal) => play_goal(alloc, &goal, limits, script, world, atoms, text, output, moves),
+        Items::Goal(goal) => play_goal(
+            alloc, &goal, limits, script, world, atoms, text, output, moves,
+        ),
         Items::Over { halted } => Ok(Stop::Ended(ends_over(halted))),
         Items::Waits(_) => Ok(Stop::Waits),
         Items::NeedsAtoms(_) => unreachable!(),
@@ -129,7 +131,6 @@ fn play_goal<W: World<Term = Stored>>(
 
 /// Where a goal's search does not go on, if no atom was refused. The only error is out of memory.
 fn stop_of<A: Atoms>(alloc: Global, ran: Ran, atoms: &mut A) -> Result<Stop, Memory>
-    requires ended { IsEndedOr ran }
     requires plain { ran_refusals ran ≡ [] }
     requires named { IsNameHeld (A.held atoms.old) ran }
     ensures { IfOk result (IsStopOf (A.held atoms.old) ran) }

@@ -15,14 +15,16 @@ returns-in_ok-outcome-in-Ended c p played =
     c.args.script.now
     (λ (s : FileScript). s.faulty)
     (told_of c.args.world.journal)
+    c.args.moves
     c.args.text.items
     c.args.output.items
     c.in-Ended.is
     (record {
       end_is = o.ensures.kept.0;
-      text_is = o.ensures.kept.1;
-      output_is = o.ensures.kept.2;
-      faulty = o.ensures.kept.3;
+      moves_are = o.ensures.kept.1;
+      text_is = o.ensures.kept.2;
+      output_is = o.ensures.kept.3;
+      faulty = o.ensures.kept.4;
       history = o.ensures.history.0;
       gens = o.ensures.history.1;
       plain = o.ensures.plain;
@@ -42,15 +44,17 @@ returns-in_ok-outcome-in-Waits c p played =
     c.args.script.now
     (λ (s : FileScript). s.faulty)
     (told_of c.args.world.journal)
+    c.args.moves
     c.args.text.items
     c.in_ok-text-in-Waits.text.items
     c.args.output.items
     c.in-Waits.is
     (record {
       end_is = o.ensures.kept.0;
-      text_is = o.ensures.kept.1;
-      output_is = o.ensures.kept.2;
-      faulty = o.ensures.kept.3;
+      moves_are = o.ensures.kept.1;
+      text_is = o.ensures.kept.2;
+      output_is = o.ensures.kept.3;
+      faulty = o.ensures.kept.4;
       history = o.ensures.history.0;
       gens = o.ensures.history.1;
       plain = o.ensures.plain;
@@ -71,6 +75,7 @@ returns-in-Missing c p played =
     c.args.script.now
     (λ (s : FileScript). s.faulty)
     (told_of c.args.world.journal)
+    c.args.moves
     c.args.text.items
     c.args.output.items
     c.in-Missing.is

@@ -19,6 +19,7 @@ returns g c all e =
     c.in_ok-goal.goal
     (told_of c.in_ok-new.field-0.journal)
     (told_of c.play.new.world.world.journal)
+    c.play.new.moves
     c.in_ok-stop.stop
     _
     _

@@ -41,16 +41,19 @@ returns-in-Goal g c =
     c.args.limits.now
     (g.W.A.Atoms.held c.args.atoms.now)
     (g.W.World.told c.args.world.now)
+    c.args.moves.now
     c.args.script.now
     _
     c.in-Goal.goal
     (g.W.A.Atoms.held c.run_items.new.atoms)
     (g.W.World.told c.run_items.new.world)
+    c.run_items.new.moves
     c.run_items.new.script
     _
     c.play_goal.result
     _
     _
+    c.play_goal.new.moves
     _
     _
     c.budgets_of-budgets.ensures
@@ -65,11 +68,13 @@ returns-in-Goal g c =
     c.budgets_of-budgets.result
     (g.W.A.Atoms.held c.args.atoms.now)
     (g.W.World.told c.args.world.now)
+    c.args.moves.now
     c.args.script.now
     c.args.text.now.items
     i
     (g.W.A.Atoms.held c.run_items.new.atoms)
     (g.W.World.told c.run_items.new.world)
+    c.run_items.new.moves
     c.run_items.new.script
     c.run_items.new.text.items)
     c.in-Goal.is
@@ -85,12 +90,14 @@ returns-in-Over g c =
     c.args.limits.now
     (g.W.A.Atoms.held c.args.atoms.now)
     (g.W.World.told c.args.world.now)
+    c.args.moves.now
     c.args.script.now
     c.args.text.now.items
     c.in-Over.halted
     c.ends_over.result
     (g.W.A.Atoms.held c.run_items.new.atoms)
     (g.W.World.told c.run_items.new.world)
+    c.run_items.new.moves
     c.run_items.new.script
     c.run_items.new.text.items
     c.args.output.now.items
@@ -105,11 +112,13 @@ returns-in-Over g c =
     c.budgets_of-budgets.result
     (g.W.A.Atoms.held c.args.atoms.now)
     (g.W.World.told c.args.world.now)
+    c.args.moves.now
     c.args.script.now
     c.args.text.now.items
     i
     (g.W.A.Atoms.held c.run_items.new.atoms)
     (g.W.World.told c.run_items.new.world)
+    c.run_items.new.moves
     c.run_items.new.script
     c.run_items.new.text.items)
     c.in-Over.is
@@ -126,11 +135,13 @@ returns-in-Waits g c =
     c.args.limits.now
     (g.W.A.Atoms.held c.args.atoms.now)
     (g.W.World.told c.args.world.now)
+    c.args.moves.now
     c.args.script.now
     c.args.text.now.items
     c.in-Waits.field-0
     (g.W.A.Atoms.held c.run_items.new.atoms)
     (g.W.World.told c.run_items.new.world)
+    c.run_items.new.moves
     c.run_items.new.script
     c.run_items.new.text.items
     c.args.output.now.items
@@ -145,11 +156,13 @@ returns-in-Waits g c =
     c.budgets_of-budgets.result
     (g.W.A.Atoms.held c.args.atoms.now)
     (g.W.World.told c.args.world.now)
+    c.args.moves.now
     c.args.script.now
     c.args.text.now.items
     i
     (g.W.A.Atoms.held c.run_items.new.atoms)
     (g.W.World.told c.run_items.new.world)
+    c.run_items.new.moves
     c.run_items.new.script
     c.run_items.new.text.items)
     c.in-Waits.is
@@ -175,12 +188,14 @@ returns-in-Missing g c job cs x limits plays at text =
     c.args.limits.now
     (g.W.A.Atoms.held c.args.atoms.now)
     (g.W.World.told c.args.world.now)
+    c.args.moves.now
     c.args.script.now
     c.args.text.now.items
     c.in-Missing.procedure
     stop
     (g.W.A.Atoms.held c.run_items.new.atoms)
     (g.W.World.told c.run_items.new.world)
+    c.run_items.new.moves
     c.run_items.new.script
     c.run_items.new.text.items
     c.args.output.now.items
@@ -195,11 +210,13 @@ returns-in-Missing g c job cs x limits plays at text =
     c.budgets_of-budgets.result
     (g.W.A.Atoms.held c.args.atoms.now)
     (g.W.World.told c.args.world.now)
+    c.args.moves.now
     c.args.script.now
     c.args.text.now.items
     i
     (g.W.A.Atoms.held c.run_items.new.atoms)
     (g.W.World.told c.run_items.new.world)
+    c.run_items.new.moves
     c.run_items.new.script
     c.run_items.new.text.items)
     c.in-Missing.is

@@ -3,7 +3,8 @@ use Rattle.std.proofs.lemmas.Result.{IfOk-weaker}
 use Rattle.pl_term.specs.Tree.{Chars}
 use Rattle.run_model.specs.Execution.{Word}
 use Rattle.first_script.specs.FileScripts.{execution_of}
-use Rattle.first_script.specs.Words.{AreNames}
+use Rattle.script_api.specs.Scripts.{AreNames}
+use Rattle.first_script.specs.TextLaws.{names_told}
 use Rattle.plain_run.specs.Ran.{ran_refusals}
 use Rattle.toplevel.proofs.PlayLaws.{goal_played, none_refused}
 use Rattle.toplevel.proofs.play.play_goal.Goals as goal
@@ -34,6 +35,7 @@ returns g c job cs x limits plays at text =
     c.args.goal.now
     (g.W.A.Atoms.held c.args.atoms.now)
     (g.W.World.told c.args.world.now)
+    c.args.moves.now
     c.args.script.now
     _
     _
@@ -41,6 +43,7 @@ returns g c job cs x limits plays at text =
     stop
     (g.W.A.Atoms.held c.run_goal.new.atoms)
     (g.W.World.told c.run_goal.new.world)
+    c.run_goal.new.moves
     c.run_goal.new.script
     _
     _
@@ -54,8 +57,8 @@ returns g c job cs x limits plays at text =
     (sym (c.in_ok-ran.ensures.words j ds))
     (subst
     (λ (names : List (Chars × ℕ)). AreNames names (execution_of c.args.script.now j ds).words)
-    (sym (c.as_slice.ensures.value ∙ c.in_ok-names.ensures))
-    (c.names.ensures j ds)))
+    (sym (c.as_slice.ensures.value ∙ c.in_ok-names.ensures ∙ c.variable_names.ensures))
+    (names_told c.args.script.now.read)))
     job
     cs
     x

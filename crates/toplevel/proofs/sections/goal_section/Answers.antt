@@ -2,13 +2,12 @@ use Rattle.std.proofs.Common.{◌++◌, ◌∙◌, ap, Some}
 use Rattle.pl_term.specs.Tree.{Chars}
 use Rattle.pl_model.specs.OperatorTable.{OperatorTable}
 use Rattle.run_model.specs.Report.{closed, goal_line, with_last}
-use Rattle.toplevel.specs.Parts.{ending_in}
 use Rattle.toplevel.proofs.SectionLaws.{goal_says}
 use Rattle.toplevel.proofs.sections.goal_section.Goals as goal
 
 pub returns : goal.returns
 returns c u spelled =
-    let e = ending_in c.args.end.now in
+    let e = c.args.end.now in
     record {
       written = u;
       spelled = spelled;
