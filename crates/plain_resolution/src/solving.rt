@@ -120,7 +120,16 @@ pub fn by_engine<W: World<Term = Stored>>(
     };
     let mut engine = Engine::new(alloc, &goal, budgets, WANTED)?;
     let mut out = Vec::new(alloc);
-    let searched = search_goal(alloc, &mut engine, &named, world, atoms, &mut out)?;
+    let mut moves = 0;
+    let searched = search_goal(
+        alloc,
+        &mut engine,
+        &named,
+        world,
+        atoms,
+        &mut out,
+        &mut moves,
+    )?;
     let how = how_of(alloc, &engine, searched, atoms)?.ok_or(Memory)?;
     put_end(alloc, operators, &how, &mut out)?;
     Ok(out)

@@ -55,6 +55,7 @@ fn given<W: World<Term = Stored>>(
     world: &mut W,
     atoms: &mut W::A,
     text: &mut Vec<u8>,
+    moves: &mut u64,
 ) -> Next<Stored>
     requires runs { has_ended (W.told world.old).engine (W.told world.old).history ≡ false }
     requires asked { IsAsked (part_in script.old) ended.now }
@@ -65,8 +66,8 @@ fn given<W: World<Term = Stored>>(
     ensures runs { has_ended (W.told world.new).engine (W.told world.new).history ≡ false }
 {
     match ended {
-        Some(how) => script.next(Some(how), world, atoms, text),
-        None => script.next(None, world, atoms, text),
+        Some(how) => script.next(Some(how), world, atoms, text, moves),
+        None => script.next(None, world, atoms, text, moves),
     }
 }
 
@@ -87,8 +88,9 @@ pub fn play<W: World<Term = Stored>>(
     requires goes_on { is_over script.old.stage ≡ false }
 {
     let mut ended: Option<How<Flat>> = None;
+    let mut moves = 0;
     for letter in ends.chars() {
-        match given(script, &ended, world, atoms, text) {
+        match given(script, &ended, world, atoms, text, &mut moves) {
             Next::Item { goal, directive } => {
                 put_goal(alloc, operators, &goal, directive, atoms, out)?;
                 ended = Some(end_by(alloc, letter)?);
@@ -96,7 +98,7 @@ pub fn play<W: World<Term = Stored>>(
             _ => return Err(Memory),
         }
     }
-    match given(script, &ended, world, atoms, text) {
+    match given(script, &ended, world, atoms, text, &mut moves) {
         Next::Done { halted: None } => out.extend_from_slice(b"done\n")?,
         Next::Done { halted: Some(_) } => out.extend_from_slice(b"halted\n")?,
         _ => return Err(Memory),
