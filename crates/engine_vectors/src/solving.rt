@@ -58,8 +58,7 @@ pub fn solve<W: World<Term = Stored>>(
     };
     let mut engine = Engine::new(alloc, &goal, budgets, 99)?;
     let named = pairs(alloc, &names)?;
-    let mut moves = 0;
-    let searched = search_goal(alloc, &mut engine, &named, world, atoms, out, &mut moves)?;
+    let searched = search_goal(alloc, &mut engine, &named, world, atoms, out)?;
     out.extend_from_slice(end(&searched, &engine.doing).as_bytes())?;
     Ok(())
 }

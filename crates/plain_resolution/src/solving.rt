@@ -14,14 +14,13 @@ use atom_terms::interned;
 use iso_engine::engine::Engine;
 use iso_search::search::Budgets;
 use op_table::OpTable;
-use pl_model::ends::How;
 use pl_term::{Flat, Memory, Text};
 use plain_run::{Searched, how_at, search_goal};
 use prolog_reader::{NamedVariable, Quotes, Read, read_term};
 use std::alloc::Global;
 use term_store::Stored;
 use term_writer::writeq;
-use world_api::World;
+use world_api::{How, World};
 
 /// How many solutions are wanted of a goal.
 const WANTED: u64 = 99;
@@ -120,16 +119,7 @@ pub fn by_engine<W: World<Term = Stored>>(
     };
     let mut engine = Engine::new(alloc, &goal, budgets, WANTED)?;
     let mut out = Vec::new(alloc);
-    let mut moves = 0;
-    let searched = search_goal(
-        alloc,
-        &mut engine,
-        &named,
-        world,
-        atoms,
-        &mut out,
-        &mut moves,
-    )?;
+    let searched = search_goal(alloc, &mut engine, &named, world, atoms, &mut out)?;
     let how = how_of(alloc, &engine, searched, atoms)?.ok_or(Memory)?;
     put_end(alloc, operators, &how, &mut out)?;
     Ok(out)

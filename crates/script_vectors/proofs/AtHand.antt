@@ -1,10 +1,10 @@
 -- An item that is at hand is asked for its end.
 use Rattle.std.proofs.Common.{Option, Some, None}
 use Rattle.pl_term.specs.Tree.{Tree}
-use Rattle.script_api.specs.declared.script.Next.{Next}
-use Rattle.script_api.specs.declared.script.Next.TheVariants.{Item, Done, NeedsAtoms, Retry, Worn, Memory}
-use Rattle.script_api.specs.Parts.{Part}
-use Rattle.script_api.specs.Scripts.{IsAtHand}
+use Rattle.world_api.specs.declared.script.Next.{Next}
+use Rattle.world_api.specs.declared.script.Next.TheVariants.{Item, Done, NeedsAtoms, Retry, Worn, Memory}
+use Rattle.world_api.specs.Courses.{Part}
+use Rattle.world_api.specs.Scripts.{IsAtHand}
 use Rattle.script_vectors.specs.Asking.{AsksEnd}
 
 pub asks_end : (next : Next Tree) (o : Option Part) → IsAtHand next o → AsksEnd next o

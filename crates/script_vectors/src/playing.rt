@@ -3,7 +3,7 @@ ghost use Rattle.std.specs.Prelude.{◌≡◌, false, None, IsSome};
 ghost use Rattle.std.specs.List.{All};
 ghost use Rattle.term_store.specs.NumberedNames.{names_of};
 ghost use Rattle.world_api.specs.Told.{has_ended};
-ghost use Rattle.script_api.specs.Scripts.{IsAsked, is_done, next_names};
+ghost use Rattle.world_api.specs.Scripts.{IsAsked, is_done, next_names};
 ghost use Rattle.first_script.specs.FileScripts.{is_over, part_in};
 ghost use Rattle.script_vectors.specs.Asking.{AsksEnd};
 
@@ -11,13 +11,11 @@ use atom_api::Atoms;
 use atom_terms::with_texts;
 use first_script::FileScript;
 use op_table::OpTable;
-use pl_model::ends::How;
 use pl_term::{Flat, Memory, Text};
-use script_api::{Next, Script};
 use std::alloc::Global;
 use term_store::Stored;
 use term_writer::writeq;
-use world_api::World;
+use world_api::{How, Next, Script, World};
 
 /// The end that a letter stands for.
 fn end_by(alloc: Global, letter: char) -> Result<How<Flat>, Memory> {
@@ -55,7 +53,6 @@ fn given<W: World<Term = Stored>>(
     world: &mut W,
     atoms: &mut W::A,
     text: &mut Vec<u8>,
-    moves: &mut u64,
 ) -> Next<Stored>
     requires runs { has_ended (W.told world.old).engine (W.told world.old).history ≡ false }
     requires asked { IsAsked (part_in script.old) ended.now }
@@ -66,8 +63,8 @@ fn given<W: World<Term = Stored>>(
     ensures runs { has_ended (W.told world.new).engine (W.told world.new).history ≡ false }
 {
     match ended {
-        Some(how) => script.next(Some(how), world, atoms, text, moves),
-        None => script.next(None, world, atoms, text, moves),
+        Some(how) => script.next(Some(how), world, atoms, text),
+        None => script.next(None, world, atoms, text),
     }
 }
 
@@ -88,9 +85,8 @@ pub fn play<W: World<Term = Stored>>(
     requires goes_on { is_over script.old.stage ≡ false }
 {
     let mut ended: Option<How<Flat>> = None;
-    let mut moves = 0;
     for letter in ends.chars() {
-        match given(script, &ended, world, atoms, text, &mut moves) {
+        match given(script, &ended, world, atoms, text) {
             Next::Item { goal, directive } => {
                 put_goal(alloc, operators, &goal, directive, atoms, out)?;
                 ended = Some(end_by(alloc, letter)?);
@@ -98,7 +94,7 @@ pub fn play<W: World<Term = Stored>>(
             _ => return Err(Memory),
         }
     }
-    match given(script, &ended, world, atoms, text, &mut moves) {
+    match given(script, &ended, world, atoms, text) {
         Next::Done { halted: None } => out.extend_from_slice(b"done\n")?,
         Next::Done { halted: Some(_) } => out.extend_from_slice(b"halted\n")?,
         _ => return Err(Memory),

@@ -1,6 +1,6 @@
 use Rattle.std.proofs.Common.{◌≡◌, false}
 use Rattle.world_api.specs.Told.{has_ended}
-use Rattle.script_api.specs.Scripts.{IsAsked}
+use Rattle.world_api.specs.Scripts.{IsAsked}
 use Rattle.first_script.specs.FileScripts.{is_over, part_in}
 use Rattle.script_vectors.proofs.playing.play.Given as goal
 
