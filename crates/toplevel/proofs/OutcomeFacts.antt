@@ -1,7 +1,6 @@
 -- What holds of a run whose first engine has come to its end, or waits.
 use Rattle.std.proofs.Common.{◌≡◌, ◌+◌, ℕ, zero, suc, Bool, true, false, List, [], ◌∷◌, ◌++◌, length, Option, Some, None, refl, sym, ◌∙◌, ap, subst, inl, inr, arith, append-nil}
-use Rattle.std.proofs.lemmas.Bool.{eqb-true}
-use Rattle.std.specs.Prelude.{Contains, slice_get, map, not, ◌&&◌, ◌||◌, ◌==◌, codes, if◌then◌else◌}
+use Rattle.std.specs.Prelude.{not, ◌&&◌, ◌||◌, ◌==◌, codes, if◌then◌else◌}
 use Rattle.pl_term.specs.Tree.{Chars, Tree}
 use Rattle.pl_model.specs.declared.ends.How.{How}
 use Rattle.pl_model.specs.declared.ends.How.TheVariants.{Solved, False, Threw, Exited, Halted, AtomSpace}
@@ -10,13 +9,13 @@ use Rattle.pl_model.specs.OperatorTable.{OperatorTable}
 use Rattle.pl_model.specs.History.{Entry, Kind, History, finish, start, AllPlain, IsPlain}
 use Rattle.pl_model.specs.SharedState.{SharedState, state_at}
 use Rattle.pl_model.specs.Resolution.{Ending, solved, no_more, threw, exited, halted}
-use Rattle.run_model.specs.Execution.{Job, Execution, Activity, Move, ends, requests, move, move_by, over, Refusal, Word as WordOf}
-use Rattle.run_model.specs.Lawful.{EndsSo, IsComplete, IsDone, Program, Told, Beginning, beginnings, beginnings_from, main_job, run, AllStand, Made, Standing, WaitsAtEnd}
-use Rattle.run_model.specs.Progress.{Alone, Reached, Seen, WaitsNow}
-use Rattle.run_model.specs.Report.{AreFinal, Finals, all_consulted, end_in, place_of_main, stood, with_directive, with_stop, words_by, words_of, end_place, end_operators, transcript, thread_sections, goal_sections, consult_section, closed, with_output, output_of, with_last, goal_line}
+use Rattle.run_model.specs.Execution.{Execution, Activity, over, Refusal, Word as WordOf}
+use Rattle.run_model.specs.Lawful.{EndsSo, IsComplete, Program, Told, Beginning, beginnings, beginnings_from, main_job}
+use Rattle.run_model.specs.Progress.{Alone}
+use Rattle.run_model.specs.Report.{AreFinal, Finals, all_consulted, end_in, place_of_main, with_directive, with_stop, words_by, words_of, end_place, end_operators, transcript, thread_sections, goal_sections, consult_section, closed, with_output, output_of, with_last, goal_line}
 use Rattle.run_model.proofs.LawfulAlone.{alone_end, alone_end_in, alone_no_end, alone_wait}
 use Rattle.pl_model.proofs.StateLater.{state_later}
-use Rattle.run_model.proofs.Progress.{reached_end, reached_state}
+use Rattle.run_model.proofs.LoneFinal.{lone_final_end, lone_final_wait}
 use Rattle.pl_command.specs.declared.ends.GoalEnd.{GoalEnd}
 use Rattle.pl_command.specs.Ends.{all_solved, end_by, end_of, ends_from, engines, first_halt, goal_ends, goal_how, goal_numbers, halt_by, has_no_end, lacks_atoms, or_else, some_fault, some_lacks_atoms, some_waits, thread_numbers}
 use Rattle.pl_command.specs.Told.{words_in}
@@ -101,82 +100,13 @@ pub complete_with : (p : Program) (f : Front) (end : Option (How Tree)) (x : Exe
 complete_with p f None x n a w = alone_wait p (seen_of f x) n a w
 complete_with p f (Some how) x n a s = alone_end p (seen_of f x) n s.ending how a s.is_over s.ends_so
 
--- Where it waits, in the state in which it stands.
-waits_now : (e goals : ℕ) (job : Job) (low : ℕ) (seen : Seen) (n : ℕ)
-    → Reached e goals job low seen n
-    → WaitsNow e goals job seen
-    → (d : WaitsAtEnd e goals job low seen.history seen.gens)
-    × ((run e goals job seen.history seen.gens d.steps).execution ≡ seen.execution)
-waits_now e goals job low seen n r w = (
-  record {
-    steps = n;
-    request = w.request;
-    next = w.next;
-    lawful = record { rises = r.rises; each = r.asked; stand = r.stand; mine_is = r.mine_is ∙ sym (append-nil _) };
-    asks = ap (move job) r.execution_is ∙ w.asks_is;
-    waits_there = w.served;
-  },
-  r.execution_is,
-)
-
--- The one end in the history.
-steps_in : Kind → ℕ → ℕ
-steps_in (finish how n) m = n
-steps_in _ m = m
-
-kind_in : Option Entry → Kind → Kind
-kind_in None k = k
-kind_in (Some x) k = x.kind
-
-only_end : (h : History) (k : ℕ) (how other : How Tree) (n m : ℕ) → AllPlain 1 h
-    → slice_get (h ++ record { engine = 1; kind = finish how n } ∷ []) k ≡ Some (record { engine = 1; kind = finish other m })
-    → m ≡ n
-unfolding steps_in kind_in
-only_end [] zero how other n m p e = sym (ap (λ (x : Option Entry). steps_in (kind_in x (finish how n)) n) e)
-only_end [] (suc k) how other n m p e =
-    let no : None ≡ Some (let x : Entry = record { engine = 1; kind = finish other m } in x) = e in absurd (cc)
-only_end (x ∷ h) zero how other n m p e =
-    let is : x.kind ≡ finish other m = ap (λ (y : Option Entry). kind_in y x.kind) e in absurd (subst IsPlain is p.1)
-only_end (x ∷ h) (suc k) how other n m p e = only_end h k how other n m p.2 e
-
--- The first engine stands there at the end.
-main_done : (p : Program) (f : Front) (end : Option (How Tree)) (x : Execution) (n : ℕ)
-    → Alone (length p.words) (main_job p) (seen_of f x) n
-    → HasStopped p f end x
-    → (d : IsDone 1 (length p.words) p.slots (main_job p) zero (told_with (history_of f) f.generations.items end n).history f.generations.items)
-    × (stood d ≡ x)
-main_done p f None x n a w =
-    let d = waits_now 1 (length p.words) (main_job p) zero (seen_of f x) n a.reached w in (inr (inl d.0), d.1)
-main_done p f (Some how) x n a s =
-    let h : History = history_of f ++ record { engine = 1; kind = finish how n } ∷ [] in
-    let d = reached_end 1 (length p.words) (main_job p) zero (seen_of f x) n s.ending how a.reached s.is_over s.ends_so in
-    let same : d.steps ≡ n = only_end (history_of f) d.place how d.how n d.steps a.plain d.entry in (
-      inl d,
-      ap (λ (k : ℕ). (run 1 (length p.words) (main_job p) h f.generations.items k).execution) same
-          ∙ reached_state 1 (length p.words) (main_job p) zero (seen_of f x) n (record { engine = 1; kind = finish how n } ∷ []) a.reached,
-    )
-
--- Only the first engine stands there.
-only_first : (x y : Execution) (e : ℕ) (b : Bool) → (1 == e) ≡ b → (if b then Some x else None) ≡ Some y
-    → (es : List ℕ) → Contains (1 ∷ es) e
-only_first x y e true same is es = subst (λ (k : ℕ). Contains (1 ∷ es) k) (eqb-true 1 e same) (0, omega arith, refl)
-only_first x y e false same is es = absurd (let no : ⊥ = cc in no)
-
+-- It is all that stands at the end.
 pub final_with : (p : Program) (f : Front) (end : Option (How Tree)) (x : Execution) (n : ℕ)
     → Alone (length p.words) (main_job p) (seen_of f x) n
     → HasStopped p f end x
     → AreFinal p (told_with (history_of f) f.generations.items end n) (alone_at x)
-final_with p f end x n a s =
-    let d = main_done p f end x n a s in
-    record {
-      only = λ e y is. only_first x y e (1 == e) refl is (map (λ (b : Beginning). b.engine) (beginnings (told_with (history_of f) f.generations.items end n).history));
-      main = (d.0, ap Some (sym d.1));
-      started =
-          λ b c.
-          let impossible : Contains (let bs : List Beginning = [] in bs) b =
-          subst (λ (bs : List Beginning). Contains bs b) (none_begun (history_of f) f.generations.items end n a.plain) c
-          in absurd (omega (arith, impossible.1));
-    }
+final_with p f None x n a w = lone_final_wait p (seen_of f x) n a w
+final_with p f (Some how) x n a s = lone_final_end p (seen_of f x) n s.ending how a s.is_over s.ends_so
 
 -- The place of the first engine's end, and the operators there.
 skips_one : (b : Bool) (kind : Kind) (k r : ℕ) → IsPlain kind → (if b then (elim kind [ finish how n ↦ k | _ ↦ r ]) else r) ≡ r
