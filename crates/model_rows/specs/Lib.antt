@@ -1,3 +1,4 @@
 pub mod SharedRows
 pub mod Searches
 pub mod SearchRows
+pub mod HistoryRows
