@@ -6,9 +6,11 @@ use Rattle.std.proofs.lemmas.Bool.{eqb-true}
 use Rattle.pl_term.specs.Tree.{Tree}
 use Rattle.pl_model.specs.declared.ends.How.{How}
 use Rattle.pl_model.specs.History.{Entry, History, finish, mine}
+use Rattle.pl_model.specs.SharedState.{state_at}
 use Rattle.pl_model.specs.Requests.{Request, Reply}
+use Rattle.pl_model.specs.Service.{waits, serve}
 use Rattle.pl_model.specs.Resolution.{Ending}
-use Rattle.run_model.specs.Execution.{Job, Activity, Execution, over}
+use Rattle.run_model.specs.Execution.{Job, Activity, Execution, over, Move, moves, requests, ends, move}
 use Rattle.run_model.specs.Lawful.{Standing, run, Rises, AllStand, EndsSo, IsLawful, RanToEnd, IsDone}
 use Rattle.run_model.specs.Report.{stood, Finals, final_of}
 use Rattle.model_rows.proofs.Following.{not_before}
@@ -79,6 +81,42 @@ done_there e goals slots job low h gens n place how ending a is running entry ri
   inl (ends_there e goals job low h gens n place how ending a is running entry rises asked stand own ended so),
   ap (λ b. Some b.execution) (sym is),
 )
+
+-- The next request waits.
+pub waits_there : (e goals slots : ℕ) (job : Job) (low : ℕ) (h : History) (gens : List ℕ) (n : ℕ) (q : Request) (next : Reply → Execution) (a : Standing)
+    → run e goals job h gens n ≡ a
+    → Rises low gens (length h)
+    → a.asked ≡ length gens
+    → AllStand e h gens a.made
+    → mine h e ≡ map (λ m. m.kind) a.made ++ []
+    → move job a.execution ≡ requests q next
+    → serve e q (state_at goals h (length h)) (length h) ≡ waits
+    → (d : IsDone e goals slots job low h gens) × (Some a.execution ≡ Some (stood d))
+waits_there e goals slots job low h gens n q next a is rises asked stand own asks waits_is = (
+  inr
+      (inl
+      (record {
+        steps = n;
+        request = q;
+        next = next;
+        lawful =
+            record {
+              rises = rises;
+              each = ap (λ b. b.asked) is ∙ asked;
+              stand = subst (λ (b : Standing). AllStand e h gens b.made) (sym is) stand;
+              mine_is = own ∙ ap (λ b. map (λ m. m.kind) b.made ++ []) (sym is);
+            };
+        asks = ap (λ b. move job b.execution) is ∙ asks;
+        waits_there = waits_is;
+      })),
+  ap (λ b. Some b.execution) (sym is),
+)
+
+-- What a move leads to by a reply, where it is a request.
+abbrev pub by_reply : Execution → Move → Reply → Execution
+by_reply x (requests q next) r = next r
+by_reply x (moves y) r = y
+by_reply x (ends how) r = x
 
 -- Each entry is made by one of these engines.
 abbrev pub AllBy : List ℕ → History → Type 0

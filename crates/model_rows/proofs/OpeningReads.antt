@@ -9,10 +9,10 @@ use Rattle.pl_model.specs.declared.grammar.Quotes.TheVariants.{Codes}
 use Rattle.pl_model.specs.OperatorTable.{key_order, operator_at, opening_rows, opening_table}
 use Rattle.pl_model.specs.LexicalTokens.{token_at}
 use Rattle.pl_model.specs.TermGrammar.{Lookup, item_by, term, operations, items}
-use Rattle.pl_model.specs.TermWriting.{pieces, right_operand, arguments, list_tail, elements, text_of, quoting, writeq}
+use Rattle.pl_model.specs.TermWriting.{pieces, right_operand, arguments, list_tail, elements, text_of, quoting, bare, writeq, write}
 use Rattle.pl_model.proofs.KeyOrder.{key_order_total}
 use Rattle.run_model.specs.Execution.{Word, goal_text, word_of_item, word_read}
-use Rattle.model_rows.specs.HistoryRows.{sends, gets, sent_word, got_word}
+use Rattle.model_rows.specs.HistoryRows.{sends, gets, sent_word, got_word, waits_for_x, waiting_word, creates, creating_word}
 
 -- The operators at the start, one row after the other.
 abbrev opening_lookup : Lookup
@@ -35,3 +35,15 @@ reads_gets = ap (λ ops. read_by ops gets) opening_is
 pub writes_a : writeq opening_table 699 (atom (codes "a")) ≡ codes "a"
 unfolding text_of pieces token_at chars lib.Utf8.encode
 writes_a = ap (λ ops. text_of quoting ops 699 (atom (codes "a"))) opening_is
+
+pub reads_waits : word_read opening_table Codes waits_for_x ≡ waiting_word
+unfolding item_by term operations items token_at chars lib.Utf8.encode
+reads_waits = ap (λ ops. read_by ops waits_for_x) opening_is
+
+pub reads_creates : word_read opening_table Codes creates ≡ creating_word
+unfolding item_by term operations items token_at chars lib.Utf8.encode
+reads_creates = ap (λ ops. read_by ops creates) opening_is
+
+pub writes_bare_a : write opening_table 1200 (atom (codes "a")) ≡ codes "a"
+unfolding text_of pieces token_at chars lib.Utf8.encode
+writes_bare_a = ap (λ ops. text_of bare ops 1200 (atom (codes "a"))) opening_is

@@ -1,11 +1,9 @@
 -- The runs of two goals that pass a message.
-use Rattle.std.proofs.Common.{◌≡◌, ◌+◌, ℕ, List, [], ◌∷◌, Some, Bool, false, refl, ap, ◌∙◌, codes}
+use Rattle.std.proofs.Common.{◌≡◌, ◌+◌, ℕ, List, [], ◌∷◌, map, Some, false, refl, ap, ◌∙◌, codes}
 use Rattle.std.specs.Fmt.{digits}
 use Rattle.pl_term.specs.Tree.{atom}
 use Rattle.pl_model.specs.declared.grammar.Quotes.TheVariants.{Codes}
 use Rattle.pl_model.specs.OperatorTable.{opening_table}
-use Rattle.pl_model.specs.LexicalTokens.{token_at}
-use Rattle.pl_model.specs.TermGrammar.{item_by}
 use Rattle.pl_model.specs.History.{start, send, take}
 use Rattle.pl_model.specs.SharedState.{state_at}
 use Rattle.pl_model.specs.Service.{serve}
@@ -14,73 +12,28 @@ use Rattle.pl_model.specs.BuiltinRows as basic
 use Rattle.pl_model.specs.Builtins.{row}
 use Rattle.pl_model.specs.SharedBuiltins.{shared}
 use Rattle.pl_model.specs.Control as control
-use Rattle.run_model.specs.Execution.{Job, Word, Activity, initializing, starting, further_goals, word_read, move}
-use Rattle.run_model.specs.Lawful.{Standing, run, main_job, started_job}
-use Rattle.model_rows.specs.HistoryRows.{with_goals, sends, gets, sending, getting, sent_word, got_word, passing_history, sender_gens, getter_gens, second_goal, solved_with}
-use Rattle.model_rows.proofs.Following.{follow, run_more}
+use Rattle.run_model.specs.Execution.{Job, word_read, move}
+use Rattle.run_model.specs.Lawful.{Standing, run, started_job}
+use Rattle.model_rows.specs.HistoryRows.{with_goals, main_of, sends, gets, sending, getting, sent_word, got_word, passing_history, sender_gens, getter_gens, second_goal, solved_with}
+use Rattle.model_rows.proofs.Following.{follow}
+use Rattle.model_rows.proofs.GoalsRead.{with_words, goals_run}
 use Rattle.model_rows.proofs.HistoryParts.{is_over}
 use Rattle.model_rows.proofs.OpeningReads.{reads_sends, reads_gets}
 
 abbrev pub sender : Job
-sender = main_job (with_goals (sends ∷ gets ∷ []))
+sender = main_of (sends ∷ gets ∷ [])
 
 abbrev pub getter : Job
 getter = started_job (with_goals (sends ∷ gets ∷ [])) second_goal
 
--- The words are read.
-abbrev with_words : Word → Word → Standing
-with_words v w =
-    record {
-      execution =
-          record {
-            activity = starting opening_table (further_goals (v ∷ w ∷ []));
-            consulted = [];
-            later = [];
-            words = v ∷ w ∷ [];
-            refusals = [];
-            output = [];
-          };
-      asked = 2;
-      made = [];
-    }
-
--- The file has no items.
-abbrev after_file : Standing
-after_file =
-    record {
-      execution =
-          record { activity = initializing; consulted = []; later = []; words = []; refusals = []; output = [] };
-      asked = 1;
-      made = [];
-    }
-
-file_is_read : run 1 2 sender passing_history sender_gens 1 ≡ after_file
-unfolding state_at serve move item_by token_at
-file_is_read = refl
-
-words_next : follow 1 2 sender passing_history sender_gens 2 after_file
-    ≡ with_words (word_read opening_table Codes sends) (word_read opening_table Codes gets)
-unfolding state_at serve move
-words_next = refl
-
-words_unread : run 1 2 sender passing_history sender_gens 3
-    ≡ with_words (word_read opening_table Codes sends) (word_read opening_table Codes gets)
-words_unread =
-    run_more 1 2 sender passing_history sender_gens 1 2
-    ∙ ap (follow 1 2 sender passing_history sender_gens 2) file_is_read
-    ∙ words_next
-
-words_are_read : run 1 2 sender passing_history sender_gens 3 ≡ with_words sent_word got_word
-words_are_read =
-    words_unread
-    ∙ ap (λ v. with_words v (word_read opening_table Codes gets)) reads_sends
-    ∙ ap (λ w. with_words sent_word w) reads_gets
+words_are : map (word_read opening_table Codes) (sends ∷ gets ∷ []) ≡ sent_word ∷ got_word ∷ []
+words_are =
+    ap (λ v. v ∷ word_read opening_table Codes gets ∷ []) reads_sends ∙ ap (λ w. sent_word ∷ w ∷ []) reads_gets
 
 sends_on : (m : ℕ)
     → run 1 2 sender passing_history sender_gens (3 + m)
-    ≡ follow 1 2 sender passing_history sender_gens m (with_words sent_word got_word)
-sends_on m =
-    run_more 1 2 sender passing_history sender_gens 3 m ∙ ap (follow 1 2 sender passing_history sender_gens m) words_are_read
+    ≡ follow 1 2 sender passing_history sender_gens m (with_words (sent_word ∷ got_word ∷ []))
+sends_on m = goals_run 2 (sends ∷ gets ∷ []) passing_history (0 ∷ 1 ∷ 2 ∷ []) (sent_word ∷ got_word ∷ []) m words_are
 
 abbrev pub sender_at_end : Standing
 sender_at_end =
@@ -92,7 +45,7 @@ sender_at_end =
           ∷ record { request = 3; generation = 1; kind = send 2 (atom (codes "a")) } ∷ [];
     }
 
-sender_follows : follow 1 2 sender passing_history sender_gens 6 (with_words sent_word got_word) ≡ sender_at_end
+sender_follows : follow 1 2 sender passing_history sender_gens 6 (with_words (sent_word ∷ got_word ∷ [])) ≡ sender_at_end
 unfolding state_at serve move unify solve_all row basic.row shared control.next_clause control.with_row control.construct control.take_up control.gone_back control.thrown control.step control.start digits
 sender_follows = refl
 
