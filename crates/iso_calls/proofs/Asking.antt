@@ -27,6 +27,7 @@ use Rattle.world_api.specs.declared.visit.Procedure.{Procedure}
 use Rattle.world_api.specs.declared.visit.Visit.TheVariants.{Call}
 use Rattle.world_api.specs.Texts as worlds
 use Rattle.world_api.specs.Told.{Told, Follows, clause_list}
+use Rattle.world_api.specs.declared.answer.On.{On}
 use Rattle.world_api.specs.Answers.{IsServed, IsWaiting, seen_as}
 use Rattle.world_api.specs.Replies.{IsFront, Says}
 use Rattle.world_api.specs.Visits.{Asks, IsGoal, proc_named}
@@ -165,9 +166,9 @@ list_or_error t before n g replies.Done is = is
 list_or_error t before n g replies.Gone is = is
 list_or_error t before n g (replies.Refused e) is = tt
 
-pub call_waits : (m : Names) (t u : Told) (before : History) (x : Tree) (p : Procedure) (k : ArgumentKey) (gen : ℕ)
+pub call_waits : (m n : Names) (t u : Told) (before : History) (x : Tree) (p : Procedure) (k : ArgumentKey) (on : On) (gen : ℕ)
     → FixedStand m → HasPredicate x p → k ≡ clause_key x
-    → IsWaiting term_by clause_key (worlds.text_of m) (Call p k) gen t before u → ⊥
-call_waits m t u before x p k gen stand is key waiting =
+    → IsWaiting term_by clause_key (worlds.text_of m) (worlds.text_of n) (Call p k) on gen t before u → ⊥
+call_waits m n t u before x p k on gen stand is key waiting =
     let g = term_by (worlds.text_of m) x in
     call_never_waits t.engine t.goals before g (waiting.waiting (call_clauses g) (call_asked m x p k stand is key))

@@ -2,7 +2,8 @@
 use Rattle.std.proofs.Common.{◌≡◌, ℕ, ◌+◌, List, [], ◌∷◌, ◌++◌, length, refl, sym, ap, ap₂, subst, ◌∙◌, append_assoc}
 use Rattle.pl_term.specs.Tree.{Chars, Tree}
 use Rattle.pl_model.specs.OperatorTable.{OperatorTable, opening_table}
-use Rattle.pl_model.specs.Service.{entry_by, served_now}
+use Rattle.pl_model.specs.History.{History}
+use Rattle.pl_model.specs.Service.{waits, serve, entry_by, served_now}
 use Rattle.pl_model.specs.Requests.{Request, look, standing}
 use Rattle.pl_model.specs.Resolution.{answering, running, failing, throwing, erasing, clearing, ended, Choice, Limits, Node, Output, solution, solution_count, State, asks}
 use Rattle.pl_model.specs.Resolution as resolution
@@ -26,8 +27,8 @@ use Rattle.iso_engine.specs.Advancing.{Advances}
 use Rattle.iso_engine.specs.Asking.{IsAnswered, IsAsking}
 use Rattle.iso_engine.specs.declared.slices.Slice.{Slice}
 use Rattle.iso_engine.specs.declared.slices.Slice.TheVariants.{Yield, Solution, NeedsAtoms, Retry, Worn, Waits, Ended, Missing, Memory}
-use Rattle.iso_engine.specs.Looking.{IsRefused, Looks, WaitsThere}
-use Rattle.iso_engine.specs.Slices.{IsStepped, IsWaitingNow, answer_of, written_text}
+use Rattle.iso_engine.specs.Looking.{IsRefused, Looks}
+use Rattle.iso_engine.specs.Slices.{IsStepped, answer_of, written_text}
 use Rattle.iso_engine.proofs.Alike.{KeepsVisits, alike_view, visits_more, visits_same}
 use Rattle.iso_engine.proofs.Later.{held_later}
 use Rattle.iso_engine.proofs.Stability.{advance_asks, advance_same, advance_seen, ready_later, stable_later}
@@ -170,25 +171,21 @@ pub refused_ready : (m n : Names) (t u : Told) (e : Engine) (s : Slice) → IsRe
 refused_ready m n t u e s h differs holds view ready =
     ready_later m n t u e view (refused_later m n t u look s h differs holds) (refused_visits t u look s h differs) ready
 
+-- A look never waits.
+look_serves : (e goals : ℕ) (h : History) → served_now e goals h look ≡ waits → ⊥
+unfolding serve
+look_serves e goals h is = absurd (cc)
+
 -- A look that was not answered is no step.
 module _ (m n : Names) (t u : Told) (e : Engine) (list : ℕ) (doing : e.doing ≡ Running list) (none : tasks e.search.frames.items list ≡ []) (holds : Holds m n)
     (view : IsView (view_of n u)) (ready : IsReady m t e) where
-  waits_now : (g : ℕ) → WaitsThere t look g u → IsWaitingNow n u e g
-  waits_now g w =
-      record {
-        request = look;
-        asking = asking n n u u e e list opening_table doing none;
-        generation = w.generation ∙ sym (ap (λ (x : Told). length x.history) w.told);
-        waiting = ap (λ (x : Told). served_now x.engine x.goals x.history look) w.told ∙ w.waiting;
-      }
-
   pub refused_stepped : (s : Slice) → IsRefused t look s u → (s ≡ Memory → ⊥) → (more : List Output) × IsStepped m t e (Some s) n u e more × (written_text more ≡ [])
   refused_stepped Yield h differs = absurd h
   refused_stepped (Solution ops) h differs = absurd h
   refused_stepped (NeedsAtoms p) h differs = ([], (refl, tt, advance_same m n t u e ready.stable view h holds), refl)
   refused_stepped (Retry c) h differs = ([], (refl, tt, advance_same m n t u e ready.stable view h holds), refl)
   refused_stepped (Worn w) h differs = ([], (refl, tt, advance_same m n t u e ready.stable view h holds), refl)
-  refused_stepped (Waits on g) h differs = ([], (refl, waits_now g h, advance_seen m n t u e h.before ready.stable view h.entries h.told holds), refl)
+  refused_stepped (Waits on g) h differs = absurd (look_serves t.engine t.goals h.before h.waiting)
   refused_stepped Ended h differs = absurd h
   refused_stepped (Missing p) h differs = absurd h
   refused_stepped Memory h differs = absurd (differs refl)

@@ -3,10 +3,13 @@ use Rattle.std.specs.Prelude.{◌≡◌, ◌≤◌, ℕ, ◌+◌, List, [], ◌�
 use Rattle.pl_term.specs.Tree.{Chars, Tree}
 use Rattle.pl_model.specs.Resolution.{Output, text, solution, solution_count}
 use Rattle.pl_model.specs.Requests.{Request}
-use Rattle.pl_model.specs.Service.{waits, served_now}
+use Rattle.pl_model.specs.Service.{on_of, waits, served_now}
 use Rattle.atom_api.specs.Names.{Names}
 use Rattle.std.specs.List.{All}
 use Rattle.world_builtins.specs.Naming.{IsHeldAt}
+use Rattle.world_api.specs.declared.answer.On.{On}
+use Rattle.world_api.specs.Answers.{on_by}
+use Rattle.world_api.specs.Texts.{text_of}
 use Rattle.world_api.specs.Told.{Told}
 use Rattle.iso_search.specs.Reading.{reads}
 use Rattle.iso_engine.specs.declared.doing.Doing.{Doing}
@@ -28,12 +31,13 @@ abbrev pub IsEnd : Doing → Type 0
 IsEnd (EndedDoing how) = Unit {0}
 IsEnd _ = ⊥
 
--- The next request waits as the shared state stands.
-pub record IsWaitingNow (m : Names) (t : Told) (e : Engine) (g : ℕ) : Type 0 where
+-- The next request waits as the shared state stands, on this.
+pub record IsWaitingNow (m : Names) (t : Told) (e : Engine) (on : On) (g : ℕ) : Type 0 where
   pub request : Request
   pub asking : IsAsking m t e request
   pub generation : g ≡ length t.history
   pub waiting : served_now t.engine t.goals t.history request ≡ waits
+  pub awaits : on_of t.engine request ≡ Some (on_by (text_of m) on)
 
 -- The terms of the goal's variables.
 abbrev pub answer_of : Names → Told → Engine → List Tree
@@ -50,7 +54,7 @@ Stops m t e (Solution ops) = ⊥
 Stops m t e (NeedsAtoms p) = Unit {0}
 Stops m t e (Retry c) = Unit {0}
 Stops m t e (Worn w) = Unit {0}
-Stops m t e (Waits on g) = IsWaitingNow m t e g
+Stops m t e (Waits on g) = IsWaitingNow m t e on g
 Stops m t e Ended = IsEnd e.doing
 Stops m t e (Missing p) = IsMissing m t e p
 Stops m t e Memory = ⊥

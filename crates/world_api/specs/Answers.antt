@@ -1,9 +1,13 @@
 -- What an answer says of the shared state before and after.
-use Rattle.std.specs.Prelude.{◌≡◌, ℕ, List, [], ◌∷◌, ◌++◌, length, Option, true}
+use Rattle.std.specs.Prelude.{◌≡◌, ℕ, List, [], ◌∷◌, ◌++◌, length, Option, Some, true}
 use Rattle.std.specs.List.{Contains}
 use Rattle.pl_term.specs.Tree.{Chars, Tree}
 use Rattle.pl_model.specs.History.{Kind, History}
-use Rattle.pl_model.specs.Service.{answers, waits, entry_by, served_now}
+use Rattle.pl_model.specs.declared.threads.On.{On as SharedOn}
+use Rattle.pl_model.specs.declared.threads.On.TheVariants.{Queue as SharedQueue, Thread as SharedThread}
+use Rattle.pl_model.specs.declared.threads.Name.{Name as SharedName}
+use Rattle.pl_model.specs.declared.threads.Name.TheVariants.{Number as SharedNumber, Alias as SharedAlias}
+use Rattle.pl_model.specs.Service.{on_of, answers, waits, entry_by, served_now}
 use Rattle.pl_model.specs.Requests.{Request}
 use Rattle.pl_model.specs.Requests as requests
 use Rattle.atom_words.specs.declared.view.Refusal.{Refusal}
@@ -14,6 +18,10 @@ use Rattle.world_api.specs.declared.visit.Visit.TheVariants.{Next}
 use Rattle.world_api.specs.declared.reply.Reply.{Reply}
 use Rattle.world_api.specs.declared.reply.Found.{Found}
 use Rattle.world_api.specs.declared.reply.Reply.TheVariants.{Clauses}
+use Rattle.world_api.specs.declared.reply.Name.{Name}
+use Rattle.world_api.specs.declared.reply.Name.TheVariants.{Number, Alias}
+use Rattle.world_api.specs.declared.answer.On.{On}
+use Rattle.world_api.specs.declared.answer.On.TheVariants.{Queue, Thread}
 use Rattle.world_api.specs.declared.answer.Answer.{Answer}
 use Rattle.world_api.specs.declared.answer.Answer.TheVariants.{Served, Waits, NeedsAtoms, Retry, Worn, Memory}
 use Rattle.world_api.specs.Told.{Told, Follows, clause_list, behind, has_place}
@@ -29,9 +37,27 @@ refusals_by (Retry c) = RefusalAgain c ∷ []
 refusals_by (Worn w) = RefusalWorn w ∷ []
 refusals_by Memory = []
 
+abbrev pub named_by : (ℕ → Chars) → Name → SharedName
+named_by text (Number n) = SharedNumber n
+named_by text (Alias a) = SharedAlias (text a)
+
+-- What is waited on, by its text.
+abbrev pub on_by : (ℕ → Chars) → On → SharedOn
+on_by text (Queue x) = SharedQueue (named_by text x)
+on_by text (Thread x) = SharedThread (named_by text x)
+
+abbrev pub alias_names : Name → List ℕ
+alias_names (Number n) = []
+alias_names (Alias a) = a ∷ []
+
+abbrev pub on_names : On → List ℕ
+on_names (Queue x) = alias_names x
+on_names (Thread x) = alias_names x
+
 -- The atoms that an answer names.
 abbrev pub answer_names : {T : Type 0} → (T → List ℕ) → Answer T → List ℕ
 answer_names names (Served r g) = reply_names names r
+answer_names names (Waits on g) = on_names on
 answer_names names _ = []
 
 -- All but what the engine has seen and asked stays.
@@ -76,12 +102,13 @@ module _ {T K : Type 0} (term : (ℕ → Chars) → T → Tree) (key : T → K) 
   Serves old_text new_text (Next p k h place) r g old before new = IsNext old_text new_text p k h place r g old before new
   Serves old_text new_text v r g old before new = IsServed old_text new_text v r g old before new
 
-  -- What the visit asks for waits there.
-  pub record IsWaiting (text : ℕ → Chars) (v : Visit T K) (g : ℕ) (old : Told) (before : History) (new : Told) : Type 0 where
+  -- What the visit asks for waits there, on this.
+  pub record IsWaiting (text new_text : ℕ → Chars) (v : Visit T K) (on : On) (g : ℕ) (old : Told) (before : History) (new : Told) : Type 0 where
     pub generation : g ≡ length before
     pub request : Request
     pub asks : Asks term key text v request
     pub waiting : (q : Request) → Asks term key text v q → served_now old.engine old.goals before q ≡ waits
+    pub awaits : (q : Request) → Asks term key text v q → on_of old.engine q ≡ Some (on_by new_text on)
     pub told : new ≡ seen_as old before old.gens
 
   -- The entries before the visit are those that the engine had seen and others that came meanwhile. A visit that is refused
@@ -90,7 +117,7 @@ module _ {T K : Type 0} (term : (ℕ → Chars) → T → Tree) (key : T → K) 
   Visited old_text new_text v (Served r g) old before new =
       Follows old.engine old.history before × Serves old_text new_text v r g old before new
   Visited old_text new_text v (Waits on g) old before new =
-      Follows old.engine old.history before × IsWaiting old_text v g old before new
+      Follows old.engine old.history before × IsWaiting old_text new_text v on g old before new
   Visited old_text new_text v (NeedsAtoms p) old before new = new ≡ old
   Visited old_text new_text v (Retry c) old before new = new ≡ old
   Visited old_text new_text v (Worn w) old before new = new ≡ old

@@ -27,8 +27,8 @@ pub unreachable-requires : goal.unreachable-requires
 unreachable-requires g c =
     let m = g.W.A.Atoms.held c.args.atoms.now in
     let v = c.in-Waits.ensures.visited in
-    call_waits m (g.W.World.told c.args.world.now) (g.W.World.told c.visit.new.self) v.0 (term_at c.args.search.now.store c.args.goal)
-    c.predicate_at-procedure.result c.key_at-first.result c.in-Waits.generation
+    call_waits m (g.W.A.Atoms.held c.visit.new.atoms) (g.W.World.told c.args.world.now) (g.W.World.told c.visit.new.self) v.0 (term_at c.args.search.now.store c.args.goal)
+    c.predicate_at-procedure.result c.key_at-first.result c.in-Waits.on c.in-Waits.generation
     (g.met.W.A.Atoms.fixed_held c.args.atoms.now) c.predicate_at-procedure.ensures c.key_at-first.ensures v.1.1
 
 pub returns-in_ok-called-in-Served-clause-called : goal.returns-in_ok-called-in-Served-clause-called
