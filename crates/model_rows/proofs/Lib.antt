@@ -6,3 +6,4 @@ pub mod PassingRuns
 pub mod Passing
 pub mod Waiting
 pub mod Creating
+pub mod Refusing

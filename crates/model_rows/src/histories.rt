@@ -4,6 +4,7 @@ ghost use Rattle.std.specs.Prelude.{◌≡◌, [], ◌∷◌, codes};
 ghost use Rattle.run_model.specs.Lawful.{IsComplete};
 ghost use Rattle.run_model.specs.Report.{AreFinal, transcript};
 ghost use Rattle.model_rows.specs.HistoryRows.{with_goals, sends, gets, passing, passing_finals, passing_text, waits_for_x, waiting, waiting_finals, waiting_text, creates, creating, creating_finals, creating_text};
+ghost use Rattle.model_rows.specs.RefusalRows.{refusing_program, refusing, refusing_finals, refusing_text};
 
 /// `thread_send_message(goal2,a)` and `thread_get_message(X)`: the second goal's engine takes the message of the first.
 #[tactic(auto, using(crate::proofs::Passing::passing_complete, crate::proofs::Passing::passing_final, crate::proofs::Passing::passing_writes))]
@@ -27,4 +28,12 @@ pub fn creates_a_thread()
     ensures complete { IsComplete (with_goals (creates ∷ [])) creating }
     ensures final_states { AreFinal (with_goals (creates ∷ [])) creating creating_finals }
     ensures text { transcript (codes "f.pl") (with_goals (creates ∷ [])) creating creating_finals ≡ creating_text }
+{}
+
+/// Two goals `true` after a directive that gives a queue the alias of the second one's engine: its start is refused.
+#[tactic(auto, using(crate::proofs::Refusing::refusing_complete, crate::proofs::Refusing::refusing_final, crate::proofs::Refusing::refusing_writes))]
+pub fn refuses_a_start()
+    ensures complete { IsComplete refusing_program refusing }
+    ensures final_states { AreFinal refusing_program refusing refusing_finals }
+    ensures text { transcript (codes "f.pl") refusing_program refusing refusing_finals ≡ refusing_text }
 {}
