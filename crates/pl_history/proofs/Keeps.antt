@@ -11,6 +11,7 @@ use Rattle.pl_history.specs.Steps.{Board, Part, View, Step, append, visit, look,
 use Rattle.pl_history.specs.Laws.{total, in_hub, carried, one_if, hubs_in, hubs, HubSees, AllSee, Sees, Kept}
 use Rattle.pl_history.proofs.Totals.{total-append, total-set, total-at, total-two, total-cut, each-set, each-snoc}
 use Rattle.pl_history.proofs.Lives.{times-append, times-gains, times-visited, times-begun_by, times-picked, mine_else, told-append, told_else, told_gains, told_visited, told_begun, told_picked, told_without, one_begun, runs_one, begun_before, prefix_more, prefix_all}
+use Rattle.pl_history.proofs.Timing.{told_new}
 
 -- One view changes, and the history does not
 
@@ -137,12 +138,12 @@ module _ (b : Board) (vs : List View) (i : ℕ) (x : Entry) (h p : Part) (k : Ke
               (b.history ++ x ∷ [])
               (gains x (length h.seen) h.lives)
               (begun_by x.kind)
-              (told_gains b.history x (length h.seen) h.lives s.hub.1)
+              (told_gains b.history x (length h.seen) h.lives (ap length s.hub.0) s.hub.1)
               (told_begun (b.history ++ x ∷ []) x.kind begun_is_new),
         );
         fronts = (
           prefix_all (h.seen ++ x ∷ []) (b.history ++ x ∷ []) seen,
-          told_gains b.history x (length h.seen) p.lives s.fronts.1,
+          told_gains b.history x (length h.seen) p.lives (ap length s.hub.0) s.fronts.1,
           tt,
         );
       }
@@ -212,7 +213,7 @@ eq_turn : (a b : ℕ) → (a == b) ≡ (b == a)
 eq_turn a b = eq_by (a == b) (b == a) (λ e. eq-eqb b a (sym (eqb-true a b e))) (λ e. eq-eqb a b (sym (eqb-true b a e)))
 
 first_seat : (j : ℕ) (v : View) → get_elem? (hub_alone at_start ∷ []) j ≡ some v → Sees [] v
-first_seat zero v e = subst (Sees []) (some-injective (hub_alone at_start) v e) (record { hub = (refl, (refl, tt)); fronts = tt })
+first_seat zero v e = subst (Sees []) (some-injective (hub_alone at_start) v e) (record { hub = (refl, (told_new [] 1 refl, tt)); fronts = tt })
 first_seat (suc j) v e = absurd (some-ne-none v (sym e))
 
 one_only : (e : ℕ) → carried e (hub_alone at_start) + 0 ≡ one_if (has_begun [] e)
@@ -275,7 +276,7 @@ keeps (visit i) b vs b' vs' k (h, p, at, runs, words, views) =
     (subst (Kept b) (sym views)
     (one_changes b vs i (both h p) (both h (record { seen = h.seen; lives = visited (length h.seen) p.lives })) k at refl
     (λ e. omega (arith, times-visited e (length h.seen) p.lives))
-    (record { hub = s.hub; fronts = (prefix_all h.seen b.history s.hub.0, told_visited b.history (length h.seen) p.lives s.fronts.1, tt) })))
+    (record { hub = s.hub; fronts = (prefix_all h.seen b.history s.hub.0, told_visited b.history (length h.seen) p.lives (ap length s.hub.0) s.fronts.1, tt) })))
 keeps (look i) b vs b' vs' k (h, p, at, words, views) =
     let s = k.seats i (both h p) at in
     subst (λ c. Kept c vs') (sym words)

@@ -1,4 +1,5 @@
 pub mod Totals
+pub mod Timing
 pub mod Lives
 pub mod Keeps
 pub mod Moves

@@ -1,11 +1,12 @@
 -- Engines that fronts carry, and what is told of them as the history grows.
-use Rattle.std.proofs.Common.{◌≡◌, ℕ, ◌+◌, ◌<◌, ◌≢◌, ◌==◌, List, [], ◌∷◌, ◌++◌, Bool, true, false, ◌||◌, refl, ap, sym, ◌∙◌, arith, eq-eqb, ne_eqb, eqb-true, append-nil, append_assoc, zero-add, ◌&&◌, not, Option}
+use Rattle.std.proofs.Common.{◌≡◌, ℕ, ◌+◌, ◌<◌, ◌≢◌, ◌==◌, List, [], ◌∷◌, ◌++◌, Bool, true, false, ◌||◌, refl, ap, sym, ◌∙◌, arith, eq-eqb, ne_eqb, eqb-true, append-nil, append_assoc, zero-add, length, ◌&&◌, not, Option}
 use Rattle.std.specs.Prelude.{if◌then◌else◌}
 use mathlib.Core.List.{IsPrefix}
 use Rattle.pl_term.specs.Tree.{Chars, Tree}
 use Rattle.pl_model.specs.History.{Kind, Entry, History, start, begins, has_begun, mine, is_end}
-use Rattle.pl_history.specs.Fronts.{Life, times, life_gains, gains, begun_by, with_generation, visited, picked, without, AllTold, runs_in, has_end, own_engine, own_runs, own_updates}
+use Rattle.pl_history.specs.Fronts.{Life, times, life_gains, gains, begun_by, with_generation, visited, picked, without, IsTold, AllTold, runs_in, has_end, own_engine, own_runs, own_updates}
 use Rattle.pl_history.specs.Laws.{one_if}
+use Rattle.pl_history.proofs.Timing.{told_beside, told_appended, told_seen, told_new}
 
 -- How often an engine is carried
 
@@ -81,33 +82,37 @@ told_else h x [] none t = tt
 told_else h x (l ∷ ls) none t =
     let other : l.engine ≢ x.engine = other_engine l.engine x.engine (times x.engine ls) none in
     let rest : times x.engine ls ≡ 0 = omega (arith, none) in (
-      t.0 ∙ sym (mine_else h x l.engine (λ e. other (sym e))),
+      told_beside h x l (λ e. other (sym e)) (t.0.updates ∙ sym (mine_else h x l.engine (λ e. other (sym e)))) t.0,
       told_else h x ls rest t.1,
     )
 
+other_by : (a b : ℕ) → (a == b) ≡ false → b ≢ a
+other_by a b is e = let same : (a == b) ≡ true = eq-eqb a b (sym e) in absurd (cc)
+
 life_told : (b : Bool) (h : History) (x : Entry) (g : ℕ) (l : Life)
     → (l.engine == x.engine) ≡ b
-    → l.updates ≡ mine h l.engine
-    → (if b then record { engine = l.engine; updates = l.updates ++ x.kind ∷ []; generations = with_generation x.kind g l.generations } else l).updates
-    ≡ mine (h ++ x ∷ []) (if b then record { engine = l.engine; updates = l.updates ++ x.kind ∷ []; generations = with_generation x.kind g l.generations } else l).engine
-life_told true h x g l is t =
-    ap (λ ks. ks ++ x.kind ∷ []) t ∙ sym (mine_own h x l.engine (sym (eqb-true l.engine x.engine is)))
-life_told false h x g l is t =
-    t ∙ sym (mine_else h x l.engine (λ e. let same : (l.engine == x.engine) ≡ true = eq-eqb l.engine x.engine (sym e) in absurd (cc)))
+    → g ≡ length h
+    → IsTold h l
+    → IsTold (h ++ x ∷ []) (if b then record { engine = l.engine; updates = l.updates ++ x.kind ∷ []; generations = with_generation x.kind g l.generations } else l)
+life_told true h x g l is at t =
+    told_appended h x g l at (ap (λ ks. ks ++ x.kind ∷ []) t.updates ∙ sym (mine_own h x l.engine (sym (eqb-true l.engine x.engine is)))) t
+life_told false h x g l is at t =
+    let other : x.engine ≢ l.engine = other_by l.engine x.engine is in
+    told_beside h x l other (t.updates ∙ sym (mine_else h x l.engine other)) t
 
-pub told_gains : (h : History) (x : Entry) (g : ℕ) (ls : List Life) → AllTold h ls → AllTold (h ++ x ∷ []) (gains x g ls)
-told_gains h x g [] t = tt
-told_gains h x g (l ∷ ls) t = (life_told (l.engine == x.engine) h x g l refl t.0, told_gains h x g ls t.1)
+pub told_gains : (h : History) (x : Entry) (g : ℕ) (ls : List Life) → g ≡ length h → AllTold h ls → AllTold (h ++ x ∷ []) (gains x g ls)
+told_gains h x g [] at t = tt
+told_gains h x g (l ∷ ls) at t = (life_told (l.engine == x.engine) h x g l refl at t.0, told_gains h x g ls at t.1)
 
-pub told_visited : (h : History) (g : ℕ) (ls : List Life) → AllTold h ls → AllTold h (visited g ls)
-told_visited h g [] t = tt
-told_visited h g (l ∷ ls) t = (t.0, t.1)
+pub told_visited : (h : History) (g : ℕ) (ls : List Life) → g ≡ length h → AllTold h ls → AllTold h (visited g ls)
+told_visited h g [] at t = tt
+told_visited h g (l ∷ ls) at t = (told_seen h g l at t.0, t.1)
 
 pub told_begun : (h : History) (k : Kind) → ((e : ℕ) → begins e k ≡ true → [] ≡ mine h e) → AllTold h (begun_by k)
-told_begun h (start n goal alias) none = (none n (eq-eqb n n refl), tt)
+told_begun h (start n goal alias) none = (told_new h n (none n (eq-eqb n n refl)), tt)
 told_begun h _ none = tt
 
-picked_told : (b : Bool) (h : History) (e : ℕ) (l : Life) (ls : List Life) → AllTold h (picked e ls) → l.updates ≡ mine h l.engine → AllTold h (if b then l ∷ [] else picked e ls)
+picked_told : (b : Bool) (h : History) (e : ℕ) (l : Life) (ls : List Life) → AllTold h (picked e ls) → IsTold h l → AllTold h (if b then l ∷ [] else picked e ls)
 picked_told true h e l ls s t = (t, tt)
 picked_told false h e l ls s t = s
 
@@ -243,7 +248,7 @@ own_updates-gains x g (l ∷ ls) same runs =
 
 pub told_own : (h : History) (ls : List Life) → AllTold h ls → own_runs ls ≡ true → own_updates ls ≡ mine h (own_engine ls)
 told_own h [] told runs = absurd (cc)
-told_own h (l ∷ ls) told runs = told.0
+told_own h (l ∷ ls) told runs = told.0.updates
 
 -- An engine that has just begun is handed over.
 

@@ -1,5 +1,5 @@
 -- What a front knows of the one history of all threads.
-use Rattle.std.specs.Prelude.{◌≡◌, ℕ, ◌+◌, ◌==◌, nat_lt, List, [], ◌∷◌, ◌++◌, Bool, true, false, ◌&&◌, ◌||◌, not, length, if◌then◌else◌}
+use Rattle.std.specs.Prelude.{◌≡◌, ◌≤◌, ◌<◌, ℕ, suc, ◌+◌, ◌==◌, nat_lt, List, [], ◌∷◌, ◌++◌, Bool, true, false, ◌&&◌, ◌||◌, not, length, slice_get, Some, if◌then◌else◌}
 use Rattle.atomic_table.specs.Seated.{TableId}
 use Rattle.pl_model.specs.History.{Kind, Entry, History, start, is_end, mine}
 
@@ -97,10 +97,31 @@ abbrev pub without : ℕ → List Life → List Life
 without e [] = []
 without e (l ∷ ls) = if l.engine == e then ls else l ∷ without e ls
 
--- Of each engine that is carried the list of its updates is the history, filtered by that engine.
+-- A request stood at the generation `place`, and the next one above it.
+pub record Stands (gens : List ℕ) (place : ℕ) : Type 0 where
+  pub request : ℕ
+  pub own : slice_get gens request ≡ Some place
+  pub next : (g : ℕ) → slice_get gens (suc request) ≡ Some g → place < g
+
+-- What is kept of the engine is what the history has of it.
+pub record IsTold (h : History) (l : Life) : Type 0 where
+  -- the updates are the history, filtered by the engine
+  pub updates : l.updates ≡ mine h l.engine
+  -- the generations lie within the history, and never fall
+  pub within : (i g : ℕ) → slice_get l.generations i ≡ Some g → g ≤ length h
+  pub rises : (i g later : ℕ) → slice_get l.generations i ≡ Some g → slice_get l.generations (suc i) ≡ Some later → g ≤ later
+  -- each update but an end stands at its place as a request
+  pub stands :
+      (place : ℕ) (x : Entry)
+      → slice_get h place ≡ Some x
+      → x.engine ≡ l.engine
+      → is_end x.kind ≡ false
+      → Stands l.generations place
+
+-- So of each engine that is carried.
 abbrev pub AllTold : History → List Life → Type 0
 AllTold h [] = Unit {0}
-AllTold h (l ∷ ls) = (l.updates ≡ mine h l.engine) × AllTold h ls
+AllTold h (l ∷ ls) = IsTold h l × AllTold h ls
 
 -- The longer of two histories, or the first.
 abbrev pub longer : History → History → History

@@ -30,8 +30,8 @@ hubs_in (Some h) = 1
 abbrev pub hubs : View → ℕ
 hubs v = hubs_in v.hub
 
--- The hub's front has seen the whole history, every other front a beginning of it. Each list of an engine's updates
--- is the history, filtered by that engine.
+-- The hub's front has seen the whole history, every other front a beginning of it. What they keep of an engine is what
+-- the history has of it.
 abbrev pub HubSees : History → Option Part → Type 0
 HubSees h None = Unit {0}
 HubSees h (Some p) = (p.seen ≡ h) × AllTold h p.lives
