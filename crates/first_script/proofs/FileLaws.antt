@@ -121,7 +121,7 @@ module _ (term : Tree → Tree) where
   pub goes_none : (name : Chars) (s : FileScript) (stage : Stage) (t : Told) (before : ℕ) (out : List ℕ) → FileRan term name s stage t before out Goes s stage t before out
   goes_none name s stage t before out job x is = (
     x,
-    record { moves = 0; comes = comes_same job x x t refl; counted = refl },
+    record { moves = 0; comes = comes_same job x x t refl; counted = (let e : 0 + before ≡ before = omega arith in e) },
     grows_none x.consulted,
     (is.whole, is.at),
   )

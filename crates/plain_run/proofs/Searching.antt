@@ -10,6 +10,7 @@ use Rattle.run_model.specs.Progress.{WaitsNow}
 use Rattle.atom_words.specs.declared.view.Refusal.{Refusal}
 use Rattle.atom_api.specs.Names.{FixedStand, Names}
 use Rattle.term_store.specs.NumberedNames.{by_number, term_by}
+use Rattle.world_api.specs.declared.answer.On.{On}
 use Rattle.world_api.specs.Texts as worlds
 use Rattle.world_api.specs.Told.{Told}
 use Rattle.world_api.specs.Courses.{Course}
@@ -98,9 +99,9 @@ module _ (budgets : Budgets) (wanted : ℕ) (e : Engine) (fresh : IsFresh budget
         ∙ ap (λ k. k + resolution.solution_count came.counted.ran.written) fresh.gave
         ∙ (let q : 0 + resolution.solution_count came.counted.ran.written ≡ resolution.solution_count came.counted.ran.written = omega arith in q))
 
-    waits_there : (g : ℕ) → IsWaitingNow n u f g → (job : Job) (part : Part) (x : Execution) → HasBudgets budgets job.limits
+    waits_there : (on : On) (g : ℕ) → IsWaitingNow n u f on g → (job : Job) (part : Part) (x : Execution) → HasBudgets budgets job.limits
         → (limits_of job part).solutions ≡ wanted → WaitsNow u.engine u.goals job (seen_in u (with_search x part there))
-    waits_there g w job part x has wants =
+    waits_there on g w job part x has wants =
         let same : limits_of job part ≡ engines.limits_of job.limits.stays f =
         limits_same job part has wants ∙ sym (came.counted.ran.advances.limits job.limits.stays)
         in let k = asks_in job part x there w.request (w.asking.follows job.limits.stays came.counted.ran.written given_there)
@@ -113,7 +114,7 @@ module _ (budgets : Budgets) (wanted : ℕ) (e : Engine) (fresh : IsFresh budget
     stands_there Ended (ran.NeedsAtoms p) h is = absurd is
     stands_there Ended (ran.Worn w) h is = absurd is
     stands_there Ended (ran.Missing p) h is = absurd is
-    stands_there (Waits on) r h is = subst (λ k. StandsSo budgets wanted n u there k) (sym is) (waits_there h.0 h.1)
+    stands_there (Waits on) r h is = subst (λ k. StandsSo budgets wanted n u there k) (sym is) (waits_there on h.0 h.1)
     stands_there (NeedsAtoms p) r h is = subst (λ k. StandsSo budgets wanted n u there k) (sym is) tt
     stands_there (Worn w) r h is = subst (λ k. StandsSo budgets wanted n u there k) (sym is) tt
     stands_there (Missing p) r h is =

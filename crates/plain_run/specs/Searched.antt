@@ -33,7 +33,7 @@ IsStop (SliceMissing p) r = r ≡ Ok (Some (Missing p))
 -- The state at which the search does not go on.
 abbrev pub Stands : Names → Told → Engine → Searched → Type 0
 Stands m t e Ended = IsEnd e.doing
-Stands m t e (Waits on) = (g : ℕ) × IsWaitingNow m t e g
+Stands m t e (Waits on) = (g : ℕ) × IsWaitingNow m t e on g
 Stands m t e (NeedsAtoms p) = Unit {0}
 Stands m t e (Worn w) = Unit {0}
 Stands m t e (Missing p) = IsMissing m t e p

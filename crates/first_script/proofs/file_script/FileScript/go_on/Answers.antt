@@ -65,8 +65,8 @@ loop-preserved g c =
           λ name.
           subst
           (λ (p : Step).
-          FileRan (λ (v : Tree). v) name c.args.self.now c.args.stage (g.W.World.told c.args.world.now) c.args.moves.now c.args.text.now.items p s.new.self
-          s.result.0 (g.W.World.told s.new.world) k.new.moves s.new.text.items)
+          FileRan (term_by (text_of (g.W.A.Atoms.held s.new.atoms))) name c.args.self.now c.args.stage (g.W.World.told c.args.world.now) c.args.moves.now
+          c.args.text.now.items p s.new.self s.result.0 (g.W.World.told s.new.world) k.new.moves s.new.text.items)
           c.in-Goes.is
           (goes_by (λ (v : Tree). v) (term_by (text_of (g.W.A.Atoms.held s.new.atoms))) name c.args.self.now c.loop.self s.new.self c.args.stage c.loop.stage s.result.0
           (g.W.World.told c.args.world.now) (g.W.World.told c.loop.world) (g.W.World.told s.new.world) c.args.moves.now c.loop.moves k.new.moves

@@ -40,3 +40,21 @@ pub returns-in-Goal-clause-asked : goal.returns-in-Goal-clause-asked
 returns-in-Goal-clause-asked g c =
     given_asked c.args.self.now.word c.args.self.now.consult c.args.stage c.in-Goal.goal (g.W.World.told c.args.world.now)
     (g.W.A.Atoms.asked c.args.atoms.now) (g.W.A.Atoms.asked c.give_goal.new.atoms) (ap stage_texts c.in-Goal.is) c.give_goal.ensures.asked
+
+pub returns-in-Items-clause-moved : goal.returns-in-Items-clause-moved
+returns-in-Items-clause-moved g c name =
+    subst
+    (λ (k : Stage).
+    FileMoved (term_by (text_of (g.W.A.Atoms.held c.take_next.new.atoms))) name c.args.self.now k (g.W.World.told c.args.world.now) c.args.text.now.items
+    c.take_next.result.1 c.take_next.new.self c.take_next.result.0 (g.W.World.told c.take_next.new.world) c.take_next.new.text.items)
+    (sym c.in-Items.is)
+    (c.take_next.ensures.moved name)
+
+pub returns-in-Words-clause-moved : goal.returns-in-Words-clause-moved
+returns-in-Words-clause-moved g c name =
+    subst
+    (λ (k : Stage).
+    FileMoved (term_by (text_of (g.W.A.Atoms.held c.read_words.new.atoms))) name c.args.self.now k (g.W.World.told c.args.world.now) c.args.text.now.items
+    c.read_words.result.1 c.read_words.new.self c.read_words.result.0 (g.W.World.told c.read_words.new.world) c.args.text.now.items)
+    (sym c.in-Words.is)
+    (c.read_words.ensures.moved name c.args.text.now.items)

@@ -58,12 +58,18 @@ returns-in-Ok-clause-given g c =
 pub returns-in-AtDirective-clause-given : goal.returns-in-AtDirective-clause-given
 returns-in-AtDirective-clause-given g c =
     given_lost (text_of (g.W.A.Atoms.held c.args.atoms.now)) (text_of (g.W.A.Atoms.held c.args.atoms.now)) c.args.self.now _ (option_map (λ b. b.now) c.args.ended)
-    (g.W.World.told c.args.world.now) c.args.moves.now _ c.args.text.now.items c.replace-stage.ensures.after
+    (g.W.World.told c.args.world.now) c.args.moves.now c.to_report.new.moves c.args.text.now.items c.replace-stage.ensures.after
+
+pub returns-in-Ok-count-clause-given : goal.returns-in-Ok-count-clause-given
+returns-in-Ok-count-clause-given g c =
+    given_end (text_of (g.W.A.Atoms.held c.args.atoms.now)) (text_of (g.W.A.Atoms.held c.args.atoms.now)) c.args.self.now _ (option_map (λ b. b.now) c.args.ended)
+    (g.W.World.told c.args.world.now) c.args.moves.now c.count.new.moves c.args.text.now.items (sym c.replace-stage.ensures.value ∙ c.in-AtGoal.is) refl
+    c.in-Ok-count.ensures
 
 pub returns-in-AtGoal-clause-given : goal.returns-in-AtGoal-clause-given
 returns-in-AtGoal-clause-given g c =
-    given_end (text_of (g.W.A.Atoms.held c.args.atoms.now)) (text_of (g.W.A.Atoms.held c.args.atoms.now)) c.args.self.now _ (option_map (λ b. b.now) c.args.ended)
-    (g.W.World.told c.args.world.now) c.args.text.now.items (sym c.replace-stage.ensures.value ∙ c.in-AtGoal.is) refl
+    given_lost (text_of (g.W.A.Atoms.held c.args.atoms.now)) (text_of (g.W.A.Atoms.held c.args.atoms.now)) c.args.self.now _ (option_map (λ b. b.now) c.args.ended)
+    (g.W.World.told c.args.world.now) c.args.moves.now c.count.new.moves c.args.text.now.items c.replace-stage.ensures.after
 
 pub returns : goal.returns
 returns g c =
@@ -146,8 +152,16 @@ pub returns-in-AtDirective-clause-asks : goal.returns-in-AtDirective-clause-asks
 returns-in-AtDirective-clause-asks g c =
     left_requests c.args.self.now.word c.args.self.now.consult c.args.self.now.stage c.replace-stage.new.dest Lost c.replace-stage.ensures.after refl refl
 
+pub returns-in-Ok-count-clause-texts : goal.returns-in-Ok-count-clause-texts
+returns-in-Ok-count-clause-texts g c = left_texts c.args.self.now.word c.args.self.now.consult c.args.self.now.stage Over Over refl refl refl
+
+pub returns-in-Ok-count-clause-asks : goal.returns-in-Ok-count-clause-asks
+returns-in-Ok-count-clause-asks g c = left_requests c.args.self.now.word c.args.self.now.consult c.args.self.now.stage Over Over refl refl refl
+
 pub returns-in-AtGoal-clause-texts : goal.returns-in-AtGoal-clause-texts
-returns-in-AtGoal-clause-texts g c = left_texts c.args.self.now.word c.args.self.now.consult c.args.self.now.stage Over Over refl refl refl
+returns-in-AtGoal-clause-texts g c =
+    left_texts c.args.self.now.word c.args.self.now.consult c.args.self.now.stage c.replace-stage.new.dest Lost c.replace-stage.ensures.after refl refl
 
 pub returns-in-AtGoal-clause-asks : goal.returns-in-AtGoal-clause-asks
-returns-in-AtGoal-clause-asks g c = left_requests c.args.self.now.word c.args.self.now.consult c.args.self.now.stage Over Over refl refl refl
+returns-in-AtGoal-clause-asks g c =
+    left_requests c.args.self.now.word c.args.self.now.consult c.args.self.now.stage c.replace-stage.new.dest Lost c.replace-stage.ensures.after refl refl
