@@ -1,10 +1,9 @@
 -- A goal that creates a thread: what is told is complete, and the text follows.
-use Rattle.std.proofs.Common.{◌≡◌, ◌+◌, ℕ, zero, List, [], ◌∷◌, map, Option, Some, None, false, refl, ap, sym, ◌∙◌, arith, subst, codes}
+use Rattle.std.proofs.Common.{◌≡◌, ◌+◌, ℕ, zero, [], ◌∷◌, Some, None, false, refl, ap, ◌∙◌, arith, subst, codes}
 use Rattle.std.specs.Fmt.{digits}
 use Rattle.pl_term.specs.Tree.{Chars, int, atom}
 use Rattle.std.specs.Prelude.{pos}
 use Rattle.pl_model.specs.declared.ends.How.TheVariants.{Solved}
-use Rattle.pl_model.specs.declared.grammar.Quotes.TheVariants.{Codes}
 use Rattle.pl_model.specs.OperatorTable.{opening_table}
 use Rattle.pl_model.specs.TermWriting.{write}
 use Rattle.pl_model.specs.History.{start}
@@ -16,7 +15,7 @@ use Rattle.pl_model.specs.BuiltinRows as basic
 use Rattle.pl_model.specs.Builtins.{row}
 use Rattle.pl_model.specs.SharedBuiltins.{shared}
 use Rattle.pl_model.specs.Control as control
-use Rattle.run_model.specs.Execution.{Job, word_read, move}
+use Rattle.run_model.specs.Execution.{Job, move}
 use Rattle.run_model.specs.Lawful.{Standing, run, Beginning, generations_of, IsDone, started_job, IsComplete}
 use Rattle.run_model.specs.Report.{final_of, AreFinal, stood, transcript}
 use Rattle.model_rows.specs.HistoryRows.{with_goals, main_of, solved_with, creates, written_goal, creating_word, creating_history, creator_gens, thread_gens, creating, created_thread, thread_with, creating_finals, creating_text}

@@ -1,5 +1,5 @@
 -- Runs by pieces: from where an engine stands on, so many moves.
-use Rattle.std.proofs.Common.{◌≡◌, ◌≤◌, ◌<◌, ◌+◌, ◌-◌, ℕ, zero, suc, List, [], ◌∷◌, refl, ap, sym, ◌∙◌, arith}
+use Rattle.std.proofs.Common.{◌≡◌, ◌≤◌, ◌+◌, ◌-◌, ℕ, zero, suc, List, ap, sym, ◌∙◌, arith}
 use Rattle.pl_model.specs.History.{History}
 use Rattle.pl_model.specs.Resolution.{Ending}
 use Rattle.run_model.specs.Execution.{Job, Execution, over, ends, move, move_by}

@@ -1,5 +1,5 @@
 -- What is shown of a worked history, part by part.
-use Rattle.std.proofs.Common.{◌≡◌, ◌≤◌, ◌<◌, ◌++◌, ◌+◌, ℕ, zero, suc, List, [], ◌∷◌, length, map, Option, Some, Bool, true, false, refl, ap, sym, ◌∙◌, arith, subst, get_or, inl, inr}
+use Rattle.std.proofs.Common.{◌≡◌, ◌<◌, ◌++◌, ℕ, zero, suc, List, [], ◌∷◌, length, map, Option, Some, Bool, true, false, refl, ap, sym, ◌∙◌, arith, subst, get_or, inl, inr}
 use Rattle.std.specs.Prelude.{◌==◌, if◌then◌else◌}
 use Rattle.std.specs.List.{slice_get, Contains}
 use Rattle.std.proofs.lemmas.Bool.{eqb-true}
@@ -11,7 +11,7 @@ use Rattle.pl_model.specs.Requests.{Request, Reply}
 use Rattle.pl_model.specs.Service.{waits, serve}
 use Rattle.pl_model.specs.Resolution.{Ending}
 use Rattle.run_model.specs.Execution.{Job, Activity, Execution, over, Move, moves, requests, ends, move}
-use Rattle.run_model.specs.Lawful.{Standing, run, Rises, AllStand, EndsSo, IsLawful, RanToEnd, IsDone}
+use Rattle.run_model.specs.Lawful.{Standing, run, Rises, AllStand, EndsSo, RanToEnd, IsDone}
 use Rattle.run_model.specs.Report.{stood, Finals, final_of}
 use Rattle.model_rows.proofs.Following.{not_before}
 

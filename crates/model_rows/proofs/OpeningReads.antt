@@ -1,5 +1,5 @@
 -- What the words of the worked histories are read as, and how their answers are written, under the operators at the start.
-use Rattle.std.proofs.Common.{◌≡◌, ℕ, List, [], ◌∷◌, length, Option, refl, ap, ◌∙◌, codes}
+use Rattle.std.proofs.Common.{◌≡◌, [], length, ap, codes}
 use Rattle.std.proofs.Math.Path.{fun_ext}
 use Rattle.std.specs.Str.{chars}
 use Rattle.std.specs.Fmt.{digits}

@@ -1,15 +1,10 @@
 -- Two goals that pass a message: what is told is complete, and the text follows.
-use Rattle.std.proofs.Common.{◌≡◌, ◌<◌, ◌++◌, ℕ, zero, suc, List, [], ◌∷◌, length, map, Option, Some, None, refl, ap, sym, ◌∙◌, arith, subst, codes, inl, inr}
-use Rattle.std.specs.List.{slice_get, Contains}
+use Rattle.std.proofs.Common.{◌≡◌, ◌++◌, zero, [], ◌∷◌, Some, refl, ap, arith, subst, codes}
 use Rattle.pl_term.specs.Tree.{Chars, atom}
 use Rattle.pl_model.specs.declared.ends.How.TheVariants.{Solved}
-use Rattle.pl_model.specs.OperatorTable.{opening_table}
-use Rattle.pl_model.specs.TermWriting.{writeq}
-use Rattle.pl_model.specs.History.{finish}
 use Rattle.pl_model.specs.Resolution.{solved}
-use Rattle.run_model.specs.Execution.{Execution}
-use Rattle.run_model.specs.Lawful.{Standing, run, AllStand, Stands, Beginning, beginnings, engine_numbers, generations_of, IsDone, main_job, started_job, IsComplete}
-use Rattle.run_model.specs.Report.{closed, with_line, stopped, goal_line, Finals, final_of, AreFinal, stood, transcript}
+use Rattle.run_model.specs.Lawful.{Beginning, generations_of, IsDone, started_job, IsComplete}
+use Rattle.run_model.specs.Report.{closed, with_line, stopped, final_of, AreFinal, stood, transcript}
 use Rattle.model_rows.specs.HistoryRows.{with_goals, sends, gets, sent_word, got_word, passing_history, sender_gens, getter_gens, passing, second_goal, solved_with, passing_finals, passing_text}
 use Rattle.model_rows.proofs.HistoryParts.{final_is_named, done_there, made_by_these, only_member}
 use Rattle.model_rows.proofs.PassingRuns.{sender, sender_ends, sender_runs, sender_at_end, getter, getter_ends, getter_runs, getter_at_end}

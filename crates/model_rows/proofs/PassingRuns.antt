@@ -1,5 +1,5 @@
 -- The runs of two goals that pass a message.
-use Rattle.std.proofs.Common.{◌≡◌, ◌+◌, ℕ, List, [], ◌∷◌, map, Some, false, refl, ap, ◌∙◌, codes}
+use Rattle.std.proofs.Common.{◌≡◌, ◌+◌, ℕ, [], ◌∷◌, map, Some, false, refl, ap, ◌∙◌, codes}
 use Rattle.std.specs.Fmt.{digits}
 use Rattle.pl_term.specs.Tree.{atom}
 use Rattle.pl_model.specs.declared.grammar.Quotes.TheVariants.{Codes}
@@ -14,7 +14,7 @@ use Rattle.pl_model.specs.SharedBuiltins.{shared}
 use Rattle.pl_model.specs.Control as control
 use Rattle.run_model.specs.Execution.{Job, word_read, move}
 use Rattle.run_model.specs.Lawful.{Standing, run, started_job}
-use Rattle.model_rows.specs.HistoryRows.{with_goals, main_of, sends, gets, sending, getting, sent_word, got_word, passing_history, sender_gens, getter_gens, second_goal, solved_with}
+use Rattle.model_rows.specs.HistoryRows.{with_goals, main_of, sends, gets, getting, sent_word, got_word, passing_history, sender_gens, getter_gens, second_goal, solved_with}
 use Rattle.model_rows.proofs.Following.{follow}
 use Rattle.model_rows.proofs.GoalsRead.{with_words, goals_run}
 use Rattle.model_rows.proofs.HistoryParts.{is_over}

@@ -1,5 +1,5 @@
 -- A goal whose engine cannot be started: what is told is complete, and the text follows.
-use Rattle.std.proofs.Common.{◌≡◌, ◌+◌, ◌++◌, ℕ, zero, List, [], ◌∷◌, map, Option, Some, false, refl, ap, sym, ◌∙◌, arith, codes}
+use Rattle.std.proofs.Common.{◌≡◌, ◌+◌, ◌++◌, ℕ, zero, List, [], ◌∷◌, Some, false, refl, ap, ◌∙◌, arith, codes}
 use Rattle.std.specs.Fmt.{digits}
 use Rattle.pl_term.specs.Tree.{Chars, comp, none}
 use Rattle.pl_model.specs.declared.ends.How.TheVariants.{Solved}
@@ -17,7 +17,7 @@ use Rattle.pl_model.specs.BuiltinRows as basic
 use Rattle.pl_model.specs.Builtins.{row}
 use Rattle.pl_model.specs.SharedBuiltins.{shared}
 use Rattle.pl_model.specs.Control as control
-use Rattle.run_model.specs.Execution.{Job, Word, Execution, taking, initializing, starting, at_start, with_item, further_goals, word_read, move}
+use Rattle.run_model.specs.Execution.{Job, Word, taking, initializing, starting, at_start, with_item, further_goals, word_read, move}
 use Rattle.run_model.specs.Lawful.{Made, Standing, run, main_job, IsDone, IsComplete}
 use Rattle.run_model.specs.Report.{with_line, stopped, AreFinal, stood, transcript}
 use Rattle.model_rows.specs.RefusalRows.{queue_file, queue_goal, refusing_program, true_word, refusing_history, refusing_gens, refusing, refusing_execution, refusing_finals, refusing_text}

@@ -1,9 +1,6 @@
 -- A goal that waits: what is told is complete, and the text follows.
-use Rattle.std.proofs.Common.{◌≡◌, ◌+◌, ℕ, zero, List, [], ◌∷◌, map, Option, Some, None, refl, ap, sym, ◌∙◌, arith, codes}
-use Rattle.std.specs.List.{Contains}
+use Rattle.std.proofs.Common.{◌≡◌, zero, [], ◌∷◌, Some, None, refl, ap, ◌∙◌, arith, codes}
 use Rattle.pl_term.specs.Tree.{atom}
-use Rattle.pl_model.specs.declared.grammar.Quotes.TheVariants.{Codes}
-use Rattle.pl_model.specs.OperatorTable.{opening_table}
 use Rattle.pl_model.specs.SharedState.{state_at}
 use Rattle.pl_model.specs.Requests.{get_message}
 use Rattle.pl_model.specs.Service.{waits, serve}
@@ -12,13 +9,13 @@ use Rattle.pl_model.specs.BuiltinRows as basic
 use Rattle.pl_model.specs.Builtins.{row}
 use Rattle.pl_model.specs.SharedBuiltins.{shared}
 use Rattle.pl_model.specs.Control as control
-use Rattle.run_model.specs.Execution.{Job, word_read, requests, move}
+use Rattle.run_model.specs.Execution.{Job, requests, move}
 use Rattle.run_model.specs.Lawful.{Standing, run, IsDone, IsComplete}
 use Rattle.run_model.specs.Report.{AreFinal, stood, transcript}
 use Rattle.model_rows.specs.HistoryRows.{with_goals, main_of, waits_for_x, waiting_word, waiting, waiting_execution, waiting_finals, waiting_text}
 use Rattle.model_rows.proofs.Following.{follow}
 use Rattle.model_rows.proofs.GoalsRead.{with_words, goals_run}
-use Rattle.model_rows.proofs.HistoryParts.{waits_there, by_reply, made_by_these, final_is_named}
+use Rattle.model_rows.proofs.HistoryParts.{waits_there, by_reply, final_is_named}
 use Rattle.model_rows.proofs.OpeningReads.{reads_waits}
 
 abbrev waiter : Job
