@@ -1,11 +1,12 @@
-use Rattle.std.proofs.Common.{[], refl, sym, subst, ◌∙◌}
+use Rattle.std.proofs.Common.{[], Some, refl, sym, subst, ◌∙◌}
 use Rattle.iso_engine.specs.declared.doing.Doing.TheVariants.{Running, Throwing, Ended}
 use Rattle.iso_engine.specs.declared.engine.Engine.{Engine}
+use Rattle.iso_engine.specs.declared.slices.Slice.TheVariants.{Ended as SliceEnded}
 use Rattle.iso_engine.specs.Ready.{Steps}
 use Rattle.iso_engine.specs.declared.doing.Doing.{Doing}
 use Rattle.iso_engine.proofs.Interning.{asked_again}
 use Rattle.iso_engine.proofs.Solutions.{view_is}
-use Rattle.iso_engine.proofs.Stability.{advance_step, plain_steps, ready_again, spent_by, step_ready}
+use Rattle.iso_engine.proofs.Stability.{advance_none, advance_step, plain_steps, ready_again, spent_by, step_ready}
 use Rattle.iso_engine.proofs.Stepping.{silent_out, stepped_again}
 use Rattle.iso_engine.proofs.engine.Engine.step.Goals as goal
 
@@ -110,6 +111,17 @@ pub returns-in-Ended-clause-ready : goal.returns-in-Ended-clause-ready
 returns-in-Ended-clause-ready g c =
     ready_again (g.W.A.Atoms.held c.args.atoms.now) (g.W.World.told c.args.world.now) c.args.self.now (Ended c.in-Ended.end)
     (sym c.replace.ensures.value ∙ c.in-Ended.is) c.requires.ready
+
+pub returns-in-Ended-clause-stepped : goal.returns-in-Ended-clause-stepped
+returns-in-Ended-clause-stepped g c =
+    let e = c.args.self.now in
+    let m = g.W.A.Atoms.held c.args.atoms.now in
+    let t = g.W.World.told c.args.world.now in
+    let f : Engine = record e { doing = Ended c.in-Ended.end } in (
+      [],
+      stepped_again m t e (Ended c.in-Ended.end) (Some SliceEnded) m t f [] (sym c.replace.ensures.value ∙ c.in-Ended.is) (refl, tt, advance_none m t f),
+      silent_out c.args.out.now.items [] refl,
+    )
 
 pub returns-in_err-stopped-in-Running-clause-asked : goal.returns-in_err-stopped-in-Running-clause-asked
 returns-in_err-stopped-in-Running-clause-asked g c =

@@ -1,8 +1,8 @@
-use Rattle.std.proofs.Common.{◌≡◌, [], ◌++◌, List, Option, refl, subst, arith}
+use Rattle.std.proofs.Common.{◌≡◌, ◌+◌, [], ◌++◌, List, Option, Some, None, refl, ap, subst, arith}
 use Rattle.std.specs.Prelude.{encode_utf8_all}
 use Rattle.pl_model.specs.Resolution.{Output}
 use Rattle.iso_engine.specs.declared.slices.Slice.{Slice}
-use Rattle.iso_engine.specs.Slices.{IsStepped, written_text}
+use Rattle.iso_engine.specs.Slices.{IsStepped, steps_of, written_text}
 use Rattle.iso_engine.proofs.Arms.{when_none}
 use Rattle.iso_engine.proofs.Interning.{came, come_gains, nothing_asked, step_advances, way_gains}
 use Rattle.iso_engine.proofs.Walks.{none_refused, slice_ends, some_refused, walk_begins, walk_on, went_on}
@@ -29,19 +29,20 @@ loop-preserved g c =
     let low = walk.low in
     let less = c.if-self-start.false in
     let s = c.in_ok-stopped in
-    let went = went_on n r u w c.loop.self c.step.new.self c.loop.out.items c.step.new.out.items s.stopped s.ensures.stepped c.in_default.is in (
+    let went = went_on n r u w c.loop.self c.step.new.self c.loop.out.items c.step.new.out.items s.stopped s.ensures.stepped c.in_default-stopped.is in (
       1 + c.loop.invariant.0,
-      (let count = c.loop.invariant.1 in let one = ap steps_of c.in_default.is in omega (arith, count, one, c.in_Some-count.is)),
+      (let counted = c.loop.invariant.1 in let one = ap steps_of c.in_default-stopped.is in let made = c.steps_made.ensures in let sum = c.in-Some.ensures.1 in
+          omega (arith, counted, one, made, sum)),
       walk_on c.args.n c.loop.invariant.0 m n r t u w c.args.self.now c.loop.self c.step.new.self c.args.out.now.items c.loop.out.items c.step.new.out.items went.0 walk went.1 went.2
-          c.step.ensures.runs s.ensures.ready c.step.ensures.holds s.ensures.spent (when_none _ _ s.ensures.given c.in_default.is) (omega (arith, low, less)),
+          c.step.ensures.runs s.ensures.ready c.step.ensures.holds s.ensures.spent (when_none _ _ s.ensures.given c.in_default-stopped.is) (omega (arith, low, less)),
       none_refused (g.W.A.Atoms.refusals c.args.atoms.now) (g.W.A.Atoms.refusals c.loop.atoms) (g.W.A.Atoms.refusals c.step.new.atoms) s.stopped c.loop.invariant.3
-          s.ensures.refusals c.in_default.is,
+          s.ensures.refusals c.in_default-stopped.is,
       way_gains c.loop.invariant.0 1 m n r t u w c.args.self.now c.loop.self c.step.new.self walk.written went.0 (g.W.A.Atoms.asked c.args.atoms.now)
           (g.W.A.Atoms.asked c.loop.atoms) (g.W.A.Atoms.asked c.step.new.atoms) walk.advances went.1 c.loop.invariant.4 c.step.ensures.asked,
     )
 
-pub returns-in-Some-clause-sliced : goal.returns-in-Some-clause-sliced
-returns-in-Some-clause-sliced g c =
+pub returns-in-Some-stopped-clause-sliced : goal.returns-in-Some-stopped-clause-sliced
+returns-in-Some-stopped-clause-sliced g c =
     let m = g.W.A.Atoms.held c.args.atoms.now in
     let n = g.W.A.Atoms.held c.loop.atoms in
     let r = g.W.A.Atoms.held c.step.new.atoms in
@@ -53,21 +54,22 @@ returns-in-Some-clause-sliced g c =
     let less = c.if-self-start.false in
     let s = c.in_ok-stopped in
     let step = subst (λ (x : Option Slice). (more : List Output) × IsStepped n u c.loop.self x r w c.step.new.self more
-    × (c.step.new.out.items ≡ c.loop.out.items ++ encode_utf8_all (written_text more))) c.in-Some.is s.ensures.stepped in (
-      steps_of (Some c.in-Some.slice) + c.loop.invariant.0,
-      (let count = c.loop.invariant.1 in let made = ap steps_of c.in-Some.is in omega (arith, count, made)),
+    × (c.step.new.out.items ≡ c.loop.out.items ++ encode_utf8_all (written_text more))) c.in-Some-stopped.is s.ensures.stepped in (
+      steps_of (Some c.in-Some-stopped.slice) + c.loop.invariant.0,
+      (let counted = c.loop.invariant.1 in let some = ap steps_of c.in-Some-stopped.is in let made = c.steps_made.ensures in let sum = c.in-Some.ensures.1 in
+          omega (arith, counted, some, made, sum)),
       slice_ends c.args.n c.loop.invariant.0 m n r t u w c.args.self.now c.loop.self c.step.new.self c.args.out.now.items c.loop.out.items c.step.new.out.items walk s.ensures.spent
-          (omega (arith, low, less)) c.in-Some.slice step,
+          (omega (arith, low, less)) c.in-Some-stopped.slice step,
     )
 
-pub returns-in-Some-clause-refusals : goal.returns-in-Some-clause-refusals
-returns-in-Some-clause-refusals g c =
+pub returns-in-Some-stopped-clause-refusals : goal.returns-in-Some-stopped-clause-refusals
+returns-in-Some-stopped-clause-refusals g c =
     let s = c.in_ok-stopped in
-    some_refused (g.W.A.Atoms.refusals c.args.atoms.now) (g.W.A.Atoms.refusals c.loop.atoms) (g.W.A.Atoms.refusals c.step.new.atoms) s.stopped c.in-Some.slice c.loop.invariant.3
-    s.ensures.refusals c.in-Some.is
+    some_refused (g.W.A.Atoms.refusals c.args.atoms.now) (g.W.A.Atoms.refusals c.loop.atoms) (g.W.A.Atoms.refusals c.step.new.atoms) s.stopped c.in-Some-stopped.slice c.loop.invariant.3
+    s.ensures.refusals c.in-Some-stopped.is
 
-pub returns-in-Some-clause-asked : goal.returns-in-Some-clause-asked
-returns-in-Some-clause-asked g c =
+pub returns-in-Some-stopped-clause-asked : goal.returns-in-Some-stopped-clause-asked
+returns-in-Some-stopped-clause-asked g c =
     let m = g.W.A.Atoms.held c.args.atoms.now in
     let n = g.W.A.Atoms.held c.loop.atoms in
     let r = g.W.A.Atoms.held c.step.new.atoms in
@@ -81,8 +83,16 @@ returns-in-Some-clause-asked g c =
     way_gains c.loop.invariant.0 step.0 m n r t u w c.args.self.now c.loop.self c.step.new.self walk.written stepped.0 (g.W.A.Atoms.asked c.args.atoms.now)
     (g.W.A.Atoms.asked c.loop.atoms) (g.W.A.Atoms.asked c.step.new.atoms) walk.advances step.1 c.loop.invariant.4 c.step.ensures.asked
 
-pub returns-in-Some-clause-came : goal.returns-in-Some-clause-came
-returns-in-Some-clause-came g c =
+pub returns-in-Some-stopped-clause-came : goal.returns-in-Some-stopped-clause-came
+returns-in-Some-stopped-clause-came g c =
+    let n = g.W.A.Atoms.held c.loop.atoms in
+    let u = g.W.World.told c.loop.world in
+    let walk = c.loop.invariant.2 in
+    come_gains c.loop.invariant.0 0 (g.W.A.Atoms.held c.args.atoms.now) n n (g.W.World.told c.args.world.now) u u c.args.self.now c.loop.self c.loop.self walk.written []
+    (g.W.A.Atoms.asked c.args.atoms.now) (g.W.A.Atoms.asked c.loop.atoms) (g.W.A.Atoms.asked c.step.new.atoms) walk.advances c.loop.invariant.4 c.step.ensures.asked
+
+pub returns-in_default-clause-came : goal.returns-in_default-clause-came
+returns-in_default-clause-came g c =
     let n = g.W.A.Atoms.held c.loop.atoms in
     let u = g.W.World.told c.loop.world in
     let walk = c.loop.invariant.2 in
