@@ -11,9 +11,5 @@ mod play;
 mod ready;
 pub mod run;
 mod sections;
-#[cfg(test)]
-mod test_rows;
-#[cfg(test)]
-mod tests;
 
 pub use outcome::Front;

@@ -1,0 +1,137 @@
+//! Rows beside what comes of them.
+
+use crate::row::Row;
+use crate::runs::{Outcome, outcome_of};
+use anyhow::Result;
+use std::io;
+use std::io::Write;
+use std::sync::Wait;
+use std::thread::Threads;
+
+/// The status where a write failed.
+const WRITE_FAULT: u8 = 6;
+
+/// The most bytes that a call of `write` takes where none fails.
+const MOST: usize = 1000;
+
+/// How many runs there were, and how many of them gave something else than their rows say.
+#[derive(Drop)]
+pub struct Tally {
+    pub cases: u64,
+    pub differing: u64,
+}
+
+impl Tally {
+    /// No runs.
+    pub fn new() -> Tally {
+        Tally {
+            cases: 0,
+            differing: 0,
+        }
+    }
+
+    /// Counts a run.
+    fn count(&mut self, differs: bool) {
+        self.cases = self.cases.saturating_add(1);
+        self.differing = self.differing.saturating_add(u64::from(differs));
+    }
+}
+
+/// Whether a run gave the text, with the status.
+fn gives(outcome: &Outcome, wanted: &[u8], status: u8) -> bool {
+    outcome.out.bytes() == wanted && outcome.status == status
+}
+
+/// Whether a run made the visits and the report that a row says, where it says so.
+fn reports(outcome: &Outcome, row: &Row) -> bool {
+    let has_visits = row.visits.is_empty() || row.visits == outcome.visits.as_str();
+    let has_front = row.front.is_empty() || row.front == outcome.front.as_str();
+    has_visits && has_front
+}
+
+/// Writes what a row says and what came of it.
+fn show<R: Print>(
+    rt: &R,
+    place: (&str, u64),
+    wanted: (&[u8], u8),
+    outcome: &Outcome,
+) -> io::Result<()> {
+    let (file, line) = place;
+    let (text, status) = wanted;
+    println!(rt; "{file}, the row that ends in line {line}: wanted status {status} and")?;
+    io::writer(rt).write_all(text)?;
+    let Outcome {
+        status,
+        visits,
+        front,
+        ..
+    } = outcome;
+    println!(rt; "came status {status}, visits {visits}, front {front} and")?;
+    io::writer(rt).write_all(outcome.out.bytes())?;
+    println!(rt; "end")
+}
+
+/// Checks a row, which ends in this line of the file.
+pub fn check_row<R: AllocGlobal + Print + Threads + Wait + Sync>(
+    rt: &R,
+    file: &str,
+    line: u64,
+    row: &Row,
+    tally: &mut Tally,
+) -> Result<()> {
+    let alloc = rt.alloc();
+    let wanted = row.wanted.as_bytes();
+    let status = row.status.unwrap_or(0);
+    let outcome = outcome_of(rt, alloc, row, MOST, Vec::new(alloc))?;
+    let differs = !(gives(&outcome, wanted, status) && reports(&outcome, row));
+    tally.count(differs);
+    if differs {
+        show(rt, (file, line), (wanted, status), &outcome)?;
+    }
+    if let Some(most) = row.failing_writes {
+        check_failing_writes(rt, (file, line), row, most, tally)?;
+    }
+    Ok(())
+}
+
+/// Checks that where a call of `write` takes at most `most` bytes and one call fails, just the front of a row's text is
+/// written that the calls before take, for each call in its turn.
+fn check_failing_writes<R: AllocGlobal + Print + Threads + Wait + Sync>(
+    rt: &R,
+    place: (&str, u64),
+    row: &Row,
+    most: usize,
+    tally: &mut Tally,
+) -> Result<()> {
+    let wanted = row.wanted.as_bytes();
+    let mut size = 0usize;
+    for call in 0..wanted.len() as u64 {
+        if size >= wanted.len() {
+            break;
+        }
+        check_failing_write(rt, place, row, (most, call), &wanted[..size], tally)?;
+        size = size.saturating_add(most);
+    }
+    Ok(())
+}
+
+/// Checks that just this front of a row's text is written where a call of `write` takes at most so many bytes and the
+/// call with this number fails.
+fn check_failing_write<R: AllocGlobal + Print + Threads + Wait + Sync>(
+    rt: &R,
+    place: (&str, u64),
+    row: &Row,
+    fault: (usize, u64),
+    front: &[u8],
+    tally: &mut Tally,
+) -> Result<()> {
+    let (most, call) = fault;
+    let alloc = rt.alloc();
+    let outcome = outcome_of(rt, alloc, row, most, vec![in alloc; call]?)?;
+    let differs = !gives(&outcome, front, WRITE_FAULT);
+    tally.count(differs);
+    if differs {
+        show(rt, place, (front, WRITE_FAULT), &outcome)?;
+    }
+    Ok(())
+}

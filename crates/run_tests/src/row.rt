@@ -1,0 +1,177 @@
+//! A row, read line by line.
+
+use pl_term::Memory;
+use std::alloc::Global;
+
+/// The words of a command without options, before the goal.
+const PLAIN: &str = "run f.pl";
+
+/// A run with what is to come of it.
+#[derive(Drop)]
+pub struct Row<'a> {
+    alloc: Global,
+    /// The text of the file f.pl, and bytes after it.
+    pub file: Option<String>,
+    pub bytes: Vec<u8>,
+    /// The text of the file of the row before.
+    last_file: Option<String>,
+    /// The words of the command with a blank between, and the goal, which is one more word.
+    pub words: &'a str,
+    pub goal: Option<String>,
+    /// The call of `read` that fails, if one does.
+    pub failing_read: Option<u64>,
+    /// How many bytes a call of `write` takes at most where the row is run with each write failing in turn too.
+    pub failing_writes: Option<usize>,
+    /// The calls of the gate, and those that are not for worker 0 and engine 1, as two numbers.
+    pub visits: &'a str,
+    /// The updates and the generations that the report has, as two numbers.
+    pub front: &'a str,
+    /// What is written.
+    pub wanted: String,
+    /// The exit status, which the last line of a row has.
+    pub status: Option<u8>,
+    /// Whether a line of the row was read.
+    has_begun: bool,
+}
+
+impl<'a> Row<'a> {
+    /// A row of which no line was read.
+    pub fn new(alloc: Global) -> Row<'a> {
+        Row {
+            alloc,
+            file: None,
+            bytes: Vec::new(alloc),
+            last_file: None,
+            words: PLAIN,
+            goal: None,
+            failing_read: None,
+            failing_writes: None,
+            visits: "",
+            front: "",
+            wanted: String::new(alloc),
+            status: None,
+            has_begun: false,
+        }
+    }
+
+    /// Takes the next row up.
+    pub fn begin_next(&mut self) {
+        let last_file = self.file.take();
+        *self = Row::new(self.alloc);
+        self.last_file = last_file;
+    }
+
+    /// Whether no line of the row was read.
+    pub fn is_new(&self) -> bool {
+        !self.has_begun
+    }
+
+    /// Whether all lines of the row were read.
+    pub fn is_whole(&self) -> bool {
+        self.status.is_some()
+    }
+
+    /// Takes a line, and answers whether it is one of a row, a comment or an empty one. The only error is out of memory.
+    pub fn take_line(&mut self, line: &'a str) -> Result<bool, Memory> {
+        if line.is_empty() || line.starts_with('#') {
+            return Ok(true);
+        }
+        self.has_begun = true;
+        let (key, rest) = line.split_once(' ').unwrap_or((line, ""));
+        match key {
+            "file:" => put_line(self.alloc, &mut self.file, rest)?,
+            "file*" => return put_repeated(self.file.get_or_insert(String::new(self.alloc)), rest),
+            "bytes:" => return put_bytes(&mut self.bytes, rest),
+            "goal:" => put_line(self.alloc, &mut self.goal, rest)?,
+            ">" => {
+                put_text(&mut self.wanted, rest)?;
+                self.wanted.push('\n')?;
+            }
+            ">*" => return put_repeated(&mut self.wanted, rest),
+            _ => return Ok(self.take_setting(key, rest)),
+        }
+        Ok(true)
+    }
+
+    /// Takes a line that sets something, and answers whether it is one.
+    fn take_setting(&mut self, key: &str, rest: &'a str) -> bool {
+        match key {
+            "file-as-before" => {
+                self.file = self.last_file.take();
+                self.file.is_some()
+            }
+            "words:" => {
+                self.words = rest;
+                true
+            }
+            "read-fails:" => {
+                self.failing_read = rest.parse::<u64>().ok();
+                self.failing_read.is_some()
+            }
+            "writes-fail:" => {
+                self.failing_writes = rest.parse::<usize>().ok();
+                self.failing_writes.is_some()
+            }
+            "visits:" => {
+                self.visits = rest;
+                true
+            }
+            "front:" => {
+                self.front = rest;
+                true
+            }
+            "status:" => {
+                self.status = rest.parse::<u8>().ok();
+                self.status.is_some()
+            }
+            _ => false,
+        }
+    }
+}
+
+/// Adds a text, in which `␣` stands for a blank.
+fn put_text(all: &mut String, text: &str) -> Result<(), Memory> {
+    for c in text.chars() {
+        all.push(if c == '␣' { ' ' } else { c })?;
+    }
+    Ok(())
+}
+
+/// Adds a line, after a newline where it is not the first.
+fn put_line(alloc: Global, all: &mut Option<String>, line: &str) -> Result<(), Memory> {
+    match all {
+        Some(lines) => {
+            lines.push('\n')?;
+            put_text(lines, line)
+        }
+        None => {
+            let mut first = String::new(alloc);
+            put_text(&mut first, line)?;
+            *all = Some(first);
+            Ok(())
+        }
+    }
+}
+
+/// Adds a text so many times, as a number and a text say, and answers whether there is such a number.
+fn put_repeated(all: &mut String, repeated: &str) -> Result<bool, Memory> {
+    let (count, text) = repeated.split_once(' ').unwrap_or((repeated, ""));
+    let Ok(times) = count.parse::<u32>() else {
+        return Ok(false);
+    };
+    for _ in 0..times {
+        put_text(all, text)?;
+    }
+    Ok(true)
+}
+
+/// Adds the bytes with these numbers in hexadecimal, and answers whether they are such numbers.
+fn put_bytes(all: &mut Vec<u8>, numbers: &str) -> Result<bool, Memory> {
+    for number in numbers.split(' ') {
+        let Ok(byte) = u8::from_str_radix(number, 16) else {
+            return Ok(false);
+        };
+        all.push(byte)?;
+    }
+    Ok(true)
+}

@@ -1,0 +1,95 @@
+//! Runs of rows by the top call, over memory.
+
+use crate::counting::Counting;
+use crate::row::Row;
+use pl_io::{Bytes, MemoryFiles, MemorySink};
+use pl_term::{Memory, Text};
+use std::alloc::Global;
+use std::sync::Wait;
+use std::sync::atomic::Ordering::SeqCst;
+use std::thread::Threads;
+use toplevel::run::{Report, run};
+
+/// The room of a sink, in bytes.
+const ROOM: usize = 1_000_000;
+
+/// What came of a run.
+#[derive(Drop)]
+pub struct Outcome {
+    /// What was written.
+    pub out: MemorySink,
+    /// The exit status.
+    pub status: u8,
+    /// The calls of the gate, and those that are not for worker 0 and engine 1.
+    pub visits: String,
+    /// The updates and the generations that the report has, and nothing where it has none.
+    pub front: String,
+}
+
+/// The words of a row's command: those between blanks, where `""` stands for an empty one, and the goal.
+fn words_of(alloc: Global, row: &Row) -> Result<Vec<Text>, Memory> {
+    let mut words = Vec::new(alloc);
+    for word in row.words.split(' ') {
+        match word {
+            "" => (),
+            "\"\"" => words.push(Text::from_str(alloc, "")?)?,
+            _ => words.push(Text::from_str(alloc, word)?)?,
+        }
+    }
+    if let Some(goal) = &row.goal {
+        words.push(Text::from_str(alloc, goal.as_str())?)?;
+    }
+    Ok(words)
+}
+
+/// The files of a row: f.pl, where one read may fail.
+fn files_of(alloc: Global, row: &Row) -> Result<MemoryFiles, Memory> {
+    let mut failing = Vec::new(alloc);
+    if let Some(call) = row.failing_read {
+        failing.push(call)?;
+    }
+    let mut all = Vec::new(alloc);
+    if let Some(text) = &row.file {
+        all.extend_from_slice(text.as_bytes())?;
+    }
+    all.extend_from_slice(&row.bytes)?;
+    let mut files = MemoryFiles::new(alloc, failing);
+    files.insert(Text::from_str(alloc, "f.pl")?, Bytes::from_vec(all))?;
+    Ok(files)
+}
+
+/// The numbers of a report's updates and generations.
+fn front_of(alloc: Global, report: &Report) -> Result<String, Memory> {
+    match &report.front {
+        Some(front) => {
+            let updates = front.entries.len();
+            let generations = front.generations.len();
+            Ok(format!(in alloc; "{updates} {generations}")?)
+        }
+        None => Ok(String::new(alloc)),
+    }
+}
+
+/// Runs a row, where a call of `write` takes at most `most` bytes and those in `failing` fail.
+pub fn outcome_of<R: Threads + Wait + Sync>(
+    rt: &R,
+    alloc: Global,
+    row: &Row,
+    most: usize,
+    failing: Vec<u64>,
+) -> Result<Outcome, Memory> {
+    let words = words_of(alloc, row)?;
+    let mut files = files_of(alloc, row)?;
+    let mut out = MemorySink::with_room(alloc, ROOM, failing)?;
+    out.take_at_most(most);
+    let gate = Counting::new();
+    let report = run(rt, alloc, words.as_slice(), &mut files, &mut out, &gate);
+    let visits = gate.visits.load(SeqCst);
+    let others = gate.others.load(SeqCst);
+    Ok(Outcome {
+        out,
+        status: report.status,
+        visits: format!(in alloc; "{visits} {others}")?,
+        front: front_of(alloc, &report)?,
+    })
+}

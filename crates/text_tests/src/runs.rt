@@ -1,0 +1,69 @@
+//! Rows of the texts of runs.
+
+use crate::fields::{Fields, bytes_of};
+use crate::written::term_of;
+use anyhow::{Context, Result, bail};
+use op_table::OpTable;
+use pl_model::syntax::SyntaxKind;
+use pl_report::{GoalHow, How, Section, SectionKind, transcript};
+use pl_term::Text;
+use std::alloc::Global;
+
+/// The text of a run with these sections, which stand with `¤` between.
+pub fn run(alloc: Global, fields: &mut Fields) -> Result<Vec<u8>> {
+    let mut sections = Vec::new(alloc);
+    for part in fields.next_field()?.split('¤') {
+        if !part.is_empty() {
+            sections.push(section_of(alloc, part)?)?;
+        }
+    }
+    Ok(transcript(alloc, &sections)?)
+}
+
+/// A section: its kind, the goal's word or the thread's name, what was written and how it ended, with `¬` between.
+fn section_of(alloc: Global, text: &str) -> Result<Section> {
+    let (kind, rest) = text.split_once('¬').context("a kind")?;
+    let (name, rest) = rest.split_once('¬').context("a name")?;
+    let (written, end) = rest.split_once('¬').context("a text")?;
+    Ok(Section {
+        kind: kind_of(alloc, kind, name, end)?,
+        text: bytes_of(alloc, written)?,
+        how: how_of(alloc, end)?,
+        ops: OpTable::iso(alloc)?,
+    })
+}
+
+/// The kind of a section.
+fn kind_of(alloc: Global, kind: &str, name: &str, end: &str) -> Result<SectionKind> {
+    let name = Text::from_str(alloc, name)?;
+    Ok(match kind {
+        "file" => SectionKind::Consult,
+        "goal" => SectionKind::Goal {
+            word: name,
+            enough: end == "enough",
+        },
+        "thread" => SectionKind::Thread { name },
+        _ => bail!("no such section"),
+    })
+}
+
+/// How a section ended: a word, and a number or a term after it where one belongs there.
+fn how_of(alloc: Global, end: &str) -> Result<Option<GoalHow>> {
+    let (word, rest) = end.split_once(' ').unwrap_or((end, ""));
+    Ok(match word {
+        "enough" => Some(GoalHow::Ended(How::Solved)),
+        "solved" => Some(GoalHow::Ended(How::Solved)),
+        "false" => Some(GoalHow::Ended(How::False)),
+        "halted" => Some(GoalHow::Ended(How::Halted(rest.parse::<u8>()?))),
+        "threw" => Some(GoalHow::Ended(How::Threw(term_of(alloc, rest)?))),
+        "exited" => Some(GoalHow::Ended(How::Exited)),
+        "no_atom_space" => Some(GoalHow::Ended(How::AtomSpace)),
+        "waits" => Some(GoalHow::Waits),
+        "syntax" => Some(GoalHow::Syntax {
+            kind: SyntaxKind::UnexpectedToken,
+            at: rest.parse::<u64>()?,
+        }),
+        "none" => None,
+        _ => bail!("no such end"),
+    })
+}
