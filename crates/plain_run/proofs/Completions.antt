@@ -1,5 +1,6 @@
 -- A run of the first engine, as far as it has come, with its end.
 use Rattle.std.proofs.Common.{◌≡◌, ℕ, ◌+◌, zero, length, sym, subst, ◌∙◌}
+use Rattle.pl_term.specs.Tree.{Tree}
 use Rattle.pl_model.specs.declared.ends.How.{How}
 use Rattle.run_model.specs.Execution.{Execution, Job, over}
 use Rattle.run_model.specs.Lawful.{EndsSo, IsComplete, Program, main_job}
