@@ -83,4 +83,3 @@ IsStopOf n (ran.Waits on) stop = stop ≡ Waits
 IsStopOf n (ran.NeedsAtoms p) stop = ⊥
 IsStopOf n (ran.Worn w) stop = ⊥
 IsStopOf n (ran.Missing p) stop = IsMissing n p stop
-IsStopOf n r stop = ⊥
