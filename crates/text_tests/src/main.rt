@@ -89,7 +89,7 @@ fn result_of(alloc: Global, settings: &Settings, fields: &mut Fields) -> Result<
         "characters" => characters::name_of_one(alloc, settings, fields),
         "written" => written::all_forms(alloc, settings, fields),
         "quoted" => written::quoted_and_bare(alloc, settings, fields),
-        "deep" => written::deep(alloc, settings, fields),
+        "of_texts" => written::of_text(alloc, settings, fields),
         "solutions" => report::solution(alloc, settings, fields),
         "file_lines" => report::file_line(alloc, settings, fields),
         "runs" => runs::run(alloc, fields),

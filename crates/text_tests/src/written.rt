@@ -3,7 +3,8 @@
 use crate::fields::{Fields, text_of};
 use crate::settings::Settings;
 use anyhow::{Context, Result};
-use pl_term::{Flat, Node, Text};
+use pl_term::{Flat, Text};
+use prolog_reader::{Quotes, Read, read_term};
 use std::alloc::Global;
 use term_writer::{write, write_canonical, writeq};
 
@@ -32,23 +33,15 @@ pub fn quoted_and_bare(alloc: Global, settings: &Settings, fields: &mut Fields) 
     Ok(out)
 }
 
-/// The text by `writeq` of 3 under so many functors of one argument with a name.
-pub fn deep(alloc: Global, settings: &Settings, fields: &mut Fields) -> Result<Vec<u8>> {
-    let levels = fields.next_field()?.parse::<u32>()?;
-    let name = Text::from_str(alloc, fields.next_field()?)?;
-    let mut nodes = Vec::new(alloc);
-    for _ in 0..levels {
-        nodes.push(Node::Comp(name.copy(alloc)?, 1))?;
-    }
-    nodes.push(Node::Int(3))?;
+/// The text by `writeq` of the term at the beginning of a text, or `no term`.
+pub fn of_text(alloc: Global, settings: &Settings, fields: &mut Fields) -> Result<Vec<u8>> {
+    let text = fields.next_bytes(alloc)?;
     let mut out = Vec::new(alloc);
-    writeq(
-        alloc,
-        &Flat::from_nodes(nodes),
-        &settings.ops,
-        1200,
-        &mut out,
-    )?;
+    let read = read_term(alloc, &text, 0, &settings.ops, Quotes::Codes);
+    match &read {
+        Read::Clause { term, .. } => writeq(alloc, term, &settings.ops, 1200, &mut out)?,
+        _ => out.extend_from_slice(b"no term")?,
+    }
     Ok(out)
 }
 
