@@ -1,75 +1,61 @@
--- The list of the fixed atoms: its texts rise, so no two are equal.
+-- The list of the fixed atoms: no two of its texts are equal.
 use Rattle.std.proofs.Common.{◌≡◌, ℕ, ◌<◌, ◌≤◌, zero, suc, Bool, true, false, List, [], ◌∷◌, length, Some, refl, sym, ap, ◌∙◌, arith}
-use Rattle.std.specs.Prelude.{◌&&◌, map, slice_get}
-use Rattle.std.specs.List.{list_all}
+use Rattle.std.specs.Prelude.{◌&&◌, ◌||◌, not, map, slice_get, bytes_eq}
+use Rattle.std.specs.List.{list_all, list_any}
 use Rattle.std.specs.Str.{chars}
-use Rattle.std.specs.Ordering.{is_lt, ordering_reverse}
-use Rattle.std.specs.declared.cmp.Ordering.{Ordering}
-use Rattle.std.specs.declared.cmp.Ordering.TheVariants.{Less, Equal, Greater}
-use Rattle.std.proofs.lemmas.Bool.{leb-true}
+use Rattle.std.proofs.lemmas.Bool.{false≢true, leb-true}
 use Rattle.std.proofs.Math.Dec.{leb}
-use Rattle.std.proofs.lemmas.Cmp.{nat_list_cmp_total}
 use Rattle.std.proofs.lemmas.Option.{slice_get_within, same_Some}
+use Rattle.std.proofs.lemmas.Slice.Eq.{bytes_eq-Decides}
 use Rattle.pl_term.specs.Tree.{Chars}
 use Rattle.pl_term.specs.Texts.{size}
-use Rattle.pl_term.specs.Order.{text_order}
-use Rattle.atom_api.specs.declared.fixed_table.TheConstants.{FIXED}
-use Rattle.atom_api.specs.Fixed.{fixed, fixed_texts, numbered}
+use Rattle.atom_api.specs.declared.fixed.TheConstants.{FIXED}
+use Rattle.atom_api.specs.Fixed.{fixed, fixed_count, fixed_texts, numbered}
 
--- each text comes before the next one
-abbrev rises_from : Chars → List Chars → Bool
-rises_from t [] = true
-rises_from t (u ∷ us) = is_lt (text_order t u) && rises_from u us
-
-abbrev rising : List Chars → Bool
-rising [] = true
-rising (t ∷ ts) = rises_from t ts
+-- no text stands in the list twice
+abbrev pub differing : List Chars → Bool
+differing [] = true
+differing (t ∷ ts) = not (list_any (bytes_eq t) ts) && differing ts
 
 both : (a b : Bool) → (a && b) ≡ true → (a ≡ true) × (b ≡ true)
 both true b e = (refl, e)
 both false b e = cc
 
-less : (o : Ordering) → is_lt o ≡ true → o ≡ Less
-less Less e = refl
-less Equal e = cc
-less Greater e = cc
+absent_later : (t : Chars) (us : List Chars) (i : ℕ) → not (list_any (bytes_eq t) us) ≡ true → slice_get us i ≡ Some t → ⊥
+absent_later t [] i n e = cc
+absent_later t (v ∷ us) zero n e =
+    let same : bytes_eq t v ≡ true = (bytes_eq-Decides t v).1 (sym (same_Some v t e)) in
+    false≢true (sym (ap (λ b. not (b || list_any (bytes_eq t) us)) same) ∙ n)
+absent_later t (v ∷ us) (suc i) n e = absent_later t us i (go (bytes_eq t v) n) e
+  where
+    go : (b : Bool) → not (b || list_any (bytes_eq t) us) ≡ true → not (list_any (bytes_eq t) us) ≡ true
+    go true n = cc
+    go false n = n
 
-before_all : (t : Chars) (us : List Chars) (i : ℕ) (u : Chars) → rises_from t us ≡ true → slice_get us i ≡ Some u → text_order t u ≡ Less
-before_all t [] i u r e = cc
-before_all t (v ∷ us) zero u r e = rw (sym (same_Some v u e)) (less (text_order t v) (both (is_lt (text_order t v)) (rises_from v us) r).0)
-before_all t (v ∷ us) (suc i) u r e =
-    nat_list_cmp_total.trans t v u (less (text_order t v) (both (is_lt (text_order t v)) (rises_from v us) r).0) (before_all v us i u (both (is_lt (text_order t v)) (rises_from v us) r).1 e)
-
-unlike_itself : (t : Chars) → text_order t t ≡ Less → ⊥
-unlike_itself t e =
-    let turned : text_order t t ≡ ordering_reverse (text_order t t) = nat_list_cmp_total.antisymm t t in
-    let both : Less ≡ ordering_reverse Less = sym e ∙ turned ∙ ap ordering_reverse e in cc
-
-rest_rises : (t : Chars) (us : List Chars) → rises_from t us ≡ true → rising us ≡ true
-rest_rises t [] r = refl
-rest_rises t (u ∷ us) r = (both (is_lt (text_order t u)) (rises_from u us) r).1
-
-pub apart_if_rising : (ts : List Chars) (a b : ℕ) (t : Chars) → rising ts ≡ true → slice_get ts a ≡ Some t → slice_get ts b ≡ Some t → a ≡ b
-apart_if_rising [] a b t r x y = cc
-apart_if_rising (u ∷ ts) zero zero t r x y = refl
-apart_if_rising (u ∷ ts) zero (suc b) t r x y = absurd (unlike_itself t (before_all t ts b t (rw (sym (same_Some u t x)) r) y))
-apart_if_rising (u ∷ ts) (suc a) zero t r x y = absurd (unlike_itself t (before_all t ts a t (rw (sym (same_Some u t y)) r) x))
-apart_if_rising (u ∷ ts) (suc a) (suc b) t r x y = ap suc (apart_if_rising ts a b t (rest_rises u ts r) x y)
+pub apart_if_differing : (ts : List Chars) (a b : ℕ) (t : Chars) → differing ts ≡ true → slice_get ts a ≡ Some t → slice_get ts b ≡ Some t → a ≡ b
+apart_if_differing [] a b t d x y = cc
+apart_if_differing (u ∷ ts) zero zero t d x y = refl
+apart_if_differing (u ∷ ts) zero (suc b) t d x y =
+    absurd (absent_later t ts b (rw (sym (same_Some u t x)) (both (not (list_any (bytes_eq u) ts)) (differing ts) d).0) y)
+apart_if_differing (u ∷ ts) (suc a) zero t d x y =
+    absurd (absent_later t ts a (rw (sym (same_Some u t y)) (both (not (list_any (bytes_eq u) ts)) (differing ts) d).0) x)
+apart_if_differing (u ∷ ts) (suc a) (suc b) t d x y =
+    ap suc (apart_if_differing ts a b t (both (not (list_any (bytes_eq u) ts)) (differing ts) d).1 x y)
 
 all_short : (ts : List Chars) (a : ℕ) (t : Chars) → list_all (λ u. leb (size u) 248) ts ≡ true → slice_get ts a ≡ Some t → size t ≤ 248
 all_short [] a t r e = cc
 all_short (u ∷ ts) zero t r e = rw (sym (same_Some u t e)) (leb-true (size u) 248 (both (leb (size u) 248) (list_all (λ v. leb (size v) 248) ts) r).0)
 all_short (u ∷ ts) (suc a) t r e = all_short ts a t (both (leb (size u) 248) (list_all (λ v. leb (size v) 248) ts) r).1 e
 
-texts_rise : rising fixed_texts ≡ true
+texts_differ : differing fixed_texts ≡ true
 unfolding fixed_texts
-texts_rise = refl
+texts_differ = refl
 
 texts_short : list_all (λ u. leb (size u) 248) fixed_texts ≡ true
 unfolding fixed_texts lib.Utf8.encode
 texts_short = refl
 
-pub texts_count : length fixed_texts ≡ 193
+pub texts_count : length fixed_texts ≡ fixed_count
 unfolding fixed_texts
 texts_count = refl
 
@@ -82,10 +68,10 @@ unfolding chars fixed_texts
 rows_agree = refl
 
 pub fixed_apart : (a b : ℕ) (t : Chars) → fixed a ≡ Some t → fixed b ≡ Some t → a ≡ b
-fixed_apart a b t = apart_if_rising fixed_texts a b t texts_rise
+fixed_apart a b t = apart_if_differing fixed_texts a b t texts_differ
 
-pub fixed_below : (a : ℕ) (t : Chars) → fixed a ≡ Some t → a < 193
+pub fixed_below : (a : ℕ) (t : Chars) → fixed a ≡ Some t → a < fixed_count
 fixed_below a t e = let inside : a < length fixed_texts = slice_get_within fixed_texts a t e in rw (sym texts_count) inside
 
 pub fixed_within : (a : ℕ) (t : Chars) → fixed a ≡ Some t → (a < 256) × (size t ≤ 248)
-fixed_within a t e = let below : a < 193 = fixed_below a t e in (omega arith, all_short fixed_texts a t texts_short e)
+fixed_within a t e = let below : a < fixed_count = fixed_below a t e in (omega arith, all_short fixed_texts a t texts_short e)

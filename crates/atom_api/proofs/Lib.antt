@@ -1,3 +1,5 @@
+pub mod AddedNames
+pub mod FixedNames
 pub mod FixedTexts
 pub mod PlainFixed
 pub mod SlotNames

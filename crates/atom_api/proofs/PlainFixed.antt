@@ -7,7 +7,7 @@ use Rattle.std.specs.Option.{is_some}
 use Rattle.std.proofs.lemmas.Bool.{cases_eq, cases_lt, lt-ltb, le-ltb}
 use Rattle.std.proofs.lemmas.Option.{slice_get-get_or, slice_get_past, slice_get_within}
 use Rattle.pl_term.specs.Tree.{Chars}
-use Rattle.atom_api.specs.Fixed.{fixed, fixed_texts, numbered}
+use Rattle.atom_api.specs.Fixed.{fixed, fixed_count, fixed_texts, numbered}
 use Rattle.atom_api.specs.Names.{Names, with_name, cut, FixedStand}
 use Rattle.atom_api.specs.Slots.{swept}
 use Rattle.atom_api.proofs.FixedTexts.{fixed_apart, fixed_below, texts_count}
@@ -29,9 +29,9 @@ pub fixed_put_if : {E : Type 0} (r : Result ℕ E) (m n : Names) (t : Chars) (mo
 fixed_put_if (Ok k) m n t most f free put err = subst (λ (q : Names). FixedStand q) (sym put) (fixed_put m k t f free.1)
 fixed_put_if (Err e) m n t most f free put err = subst (λ (q : Names). FixedStand q) (sym err) f
 
-pub fixed_swept : (m : Names) (live : List ℕ) → FixedStand m → FixedStand (swept 193 live m)
+pub fixed_swept : (m : Names) (live : List ℕ) → FixedStand m → FixedStand (swept fixed_count live m)
 fixed_swept m live f a t e =
-    ap (λ (b : Bool). if b || list_any (λ k. k == a) live then m a else None) (lt-ltb a 193 (fixed_below a t e)) ∙ f a t e
+    ap (λ (b : Bool). if b || list_any (λ k. k == a) live then m a else None) (lt-ltb a fixed_count (fixed_below a t e)) ∙ f a t e
 
 is_some_get : (ts : List Chars) (k : ℕ) → is_some (slice_get ts k) ≡ nat_lt k (length ts)
 is_some_get ts k =
@@ -40,7 +40,7 @@ is_some_get ts k =
       | inr outside ↦ ap is_some (slice_get_past ts k outside) ∙ sym (le-ltb k (length ts) outside)
     ]
 
-pub is_fixed : (k : ℕ) → is_some (fixed k) ≡ nat_lt k 193
+pub is_fixed : (k : ℕ) → is_some (fixed k) ≡ nat_lt k fixed_count
 is_fixed k = is_some_get fixed_texts k ∙ ap (λ n. nat_lt k n) texts_count
 
 or_turned : (b c : Bool) → (b || c) ≡ (c || b)
@@ -49,11 +49,11 @@ or_turned true false = refl
 or_turned false true = refl
 or_turned false false = refl
 
-pub swept-cut : (m : Names) (live : List ℕ) → swept 193 live m ≡ cut live m
+pub swept-cut : (m : Names) (live : List ℕ) → swept fixed_count live m ≡ cut live m
 swept-cut m live =
     fun_ext (λ k.
     ap (λ (b : Bool). if b then m k else None) (
-    or_turned (nat_lt k 193) (list_any (λ a. a == k) live)
+    or_turned (nat_lt k fixed_count) (list_any (λ a. a == k) live)
     ∙ ap (λ (b : Bool). list_any (λ a. a == k) live || b) (sym (is_fixed k))
     ))
 
@@ -64,7 +64,7 @@ first_fixed n k = if nat_lt k n then fixed k else None
 pub first_none : (k : ℕ) → first_fixed 0 k ≡ None
 first_none k = let low : 0 ≤ k = omega arith in ap (λ (b : Bool). if b then fixed k else None) (le-ltb k 0 low)
 
-pub first_all : (n k : ℕ) → 193 ≤ n → first_fixed n k ≡ fixed k
+pub first_all : (n k : ℕ) → fixed_count ≤ n → first_fixed n k ≡ fixed k
 first_all n k l =
     elim (cases_lt k n) [
       | inl low ↦ ap (λ (b : Bool). if b then fixed k else None) (lt-ltb k n low)
@@ -130,5 +130,5 @@ pub row_is : (items rows : List (ℕ × Chars)) (i : ℕ) (r : ℕ × Chars) →
 row_is items rows i r e f l is =
     numbered-row fixed_texts 0 i r r (subst (λ (xs : List (ℕ × Chars)). i < length xs) (e ∙ f) l) (subst (λ (xs : List (ℕ × Chars)). r ≡ get_or xs i r) (e ∙ f) is)
 
-pub rows_count : (items rows : List (ℕ × Chars)) → items ≡ rows → rows ≡ numbered 0 fixed_texts → length items ≡ 193
+pub rows_count : (items rows : List (ℕ × Chars)) → items ≡ rows → rows ≡ numbered 0 fixed_texts → length items ≡ fixed_count
 rows_count items rows e f = ap length (e ∙ f) ∙ length-numbered fixed_texts 0 ∙ texts_count

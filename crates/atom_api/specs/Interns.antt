@@ -36,7 +36,7 @@ refused (TooLong b) = []
 refused (Worn w) = RefusalWorn w ∷ []
 refused Memory = []
 
--- The texts asked, after an answer on a text: a text that is too long is left out, and want of memory leaves all as
+-- The texts asked, after an answer on a text: a text that is too long is left out, and out of memory leaves all as
 -- before.
 abbrev pub asked_with : Interned → Chars → Option (List Chars) → Option (List Chars)
 asked_with (Is a) t asked = option_map (λ ts. ts ++ t ∷ []) asked

@@ -1,4 +1,5 @@
 pub mod Fixed
+pub mod FixedNames
 pub mod Interns
 pub mod Names
 pub mod SlotLaws

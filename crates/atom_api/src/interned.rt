@@ -15,6 +15,6 @@ pub enum Interned {
     TooLong { bytes: usize },
     /// The text's bucket takes no new atom, as that word shows.
     Worn(WornWord),
-    /// Want of memory.
+    /// Out of memory.
     Memory,
 }

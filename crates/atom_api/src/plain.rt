@@ -9,7 +9,8 @@ ghost use Rattle.atom_api.specs.SlotLaws.{unlike_by_index, finite_by_slots};
 
 use crate::atom::Atom;
 use crate::atoms::Atoms;
-use crate::fixed_table::{COUNT, fixed_atoms};
+use crate::fixed::COUNT;
+use crate::fixed_table::fixed_atoms;
 use crate::interned::Interned;
 use crate::slots::Slots;
 use crate::text_buf::{ROOM, TextBuf};
@@ -24,7 +25,7 @@ pub struct PlainAtoms {
 }
 
 impl PlainAtoms {
-    /// Atoms of which the fixed ones alone are held. The only error is want of memory.
+    /// Atoms of which the fixed ones alone are held. The only error is out of memory.
     pub fn new(alloc: Global) -> Result<PlainAtoms, Memory>
         ensures { IfOk result (λ atoms. (a : ℕ) → ⟦<PlainAtoms as Atoms>⟧.held atoms a ≡ fixed a) }
     {

@@ -54,7 +54,7 @@ impl Slots {
         self.numbers.get(text.as_str()).copied()
     }
 
-    /// Puts a text that has no slot into a free one. The only error is want of memory, after which all texts stand where
+    /// Puts a text that has no slot into a free one. The only error is out of memory, after which all texts stand where
     /// they stood.
     pub fn put(&mut self, text: &Text) -> Result<u32, Memory>
         requires fits { size text.now ≤ 248 }

@@ -59,7 +59,7 @@ fn the_limit_is_248_bytes(rt: HostRuntime) -> Result<(), Fail> {
 fn the_fixed_atoms_have_their_numbers(rt: HostRuntime) -> Result<(), Fail> {
     let mut atoms = PlainAtoms::new(rt.alloc())?;
     let rows = fixed_atoms(rt.alloc())?;
-    assert_eq!(rt; rows.len(), 193);
+    assert_eq!(rt; rows.len(), fixed::COUNT);
     for row in &rows {
         assert_eq!(rt; atoms.intern(&row.1), Interned::Is(row.0));
     }
@@ -97,13 +97,13 @@ fn three_hundred_texts_are_read_back(rt: HostRuntime) -> Result<(), Fail> {
     for i in 0..300u32 {
         let text = format!(in rt.alloc(); "name{i}")?;
         let first = read_back(rt.alloc(), &mut atoms, text.as_str())?;
-        assert_eq!(rt; first, Some(Atom::at(193 + i)));
+        assert_eq!(rt; first, Some(Atom::at(fixed::COUNT as u32 + i)));
     }
     for i in 0..300u32 {
         let text = format!(in rt.alloc(); "name{i}")?;
         assert_eq!(rt;
             interned(rt.alloc(), &mut atoms, text.as_str())?,
-            Some(Atom::at(193 + i))
+            Some(Atom::at(fixed::COUNT as u32 + i))
         );
     }
     Ok(())

@@ -56,7 +56,7 @@ impl TextBuf {
         self.as_str().len()
     }
 
-    /// The text by itself. The only error is want of memory.
+    /// The text by itself. The only error is out of memory.
     pub fn to_text(&self, alloc: Global) -> Result<Text, Memory>
         ensures { IfOk result (λ t. t ≡ self.now) }
     {

@@ -1,35 +1,27 @@
 -- What is told of a text that was interned.
-use Rattle.std.proofs.Common.{◌≡◌, ◌≢◌, ◌⊎◌, ℕ, ◌+◌, ◌<◌, ◌≤◌, false, List, [], ◌∷◌, ◌++◌, length, refl, sym, ap, ◌∙◌, subst, inl, inr, ⊎_elim, arith, append-nil, Option, Some, None, Ok, Err, Result, IfOk, option_map}
+use Rattle.std.proofs.Common.{◌≡◌, ℕ, ◌<◌, ◌≤◌, false, List, [], ◌∷◌, ◌++◌, refl, sym, ap, ◌∙◌, subst, inr, append-nil, Some, None, Ok, Err, Result, IfOk, option_map}
 use Rattle.pl_term.specs.Tree.{Chars}
 use Rattle.pl_term.specs.Texts.{size}
-use Rattle.atom_words.specs.Layout.{first_of, version_of, worn}
-use Rattle.atom_words.specs.Texts.{bucket}
-use Rattle.atom_words.specs.Chains.{In}
+use Rattle.atom_words.specs.Layout.{first_of}
 use Rattle.atom_words.specs.Plays.{Alone}
-use Rattle.atom_words.specs.Kinds.{fresh, linking, linked_own, held_own, view_after, after}
+use Rattle.atom_words.specs.Kinds.{fresh, linking, linked_own, held_own, after}
 use Rattle.atom_words.specs.Seats.{puts}
-use Rattle.atom_words.specs.declared.view.Held.{Held}
-use Rattle.atom_words.specs.declared.view.Own.{Own}
 use Rattle.atom_words.specs.declared.view.Walk.{Walk}
-use Rattle.atom_words.specs.declared.view.Pass.{Pass}
-use Rattle.atom_words.specs.declared.view.Cause.{Cause}
-use Rattle.atom_words.specs.declared.view.Cause.TheVariants.{Moved as CauseMoved, Pending as CausePending, Closed as CauseClosed}
+use Rattle.atom_words.specs.declared.view.Cause.TheVariants.{Moved as CauseMoved}
 use Rattle.atom_words.specs.declared.view.Refusal.{Refusal}
 use Rattle.atom_words.specs.declared.view.Refusal.TheVariants.{Again as RefusalAgain, Worn as RefusalWorn}
 use Rattle.atom_words.specs.declared.view.View.{View}
 use Rattle.atom_words.specs.declared.kind.Kind.{Kind}
-use Rattle.atom_words.specs.declared.kind.Kind.TheVariants.{Ask, PutLink, Link, Validate, Release, Refuse}
+use Rattle.atom_words.specs.declared.kind.Kind.TheVariants.{PutLink, Link, Validate, Release, Refuse}
 use Rattle.atom_words.proofs.Putting.{puts_keep, puts_own}
 use Rattle.bucket_rows.specs.declared.missed.Missed.{Missed}
 use Rattle.bucket_rows.specs.declared.missed.Missed.TheVariants.{Moved, Pending, Closed, Worn}
-use Rattle.bucket_rows.specs.Walks.{spelled, Walks, Links, Aside, Missing, held_after, refused_after}
+use Rattle.bucket_rows.specs.Walks.{spelled, Links}
 use Rattle.bucket_rows.proofs.Reading.{after_both, alone_as}
-use Rattle.bucket_rows.proofs.Making.{Beside, beside_puts, beside_trans}
+use Rattle.bucket_rows.proofs.Making.{Beside, beside_puts}
 use Rattle.atom_api.specs.Interns.{refused}
-use Rattle.atom_api.specs.declared.interned.Interned.{Interned}
-use Rattle.atom_api.specs.declared.interned.Interned.TheVariants.{Is, Full, Again, TooLong, Worn as InternedWorn, Memory}
-use Rattle.atom_table.specs.Interning.{Takes, Adds, Makes, MakesBy, InternsBy, answered_by, missed_by, made_by}
-use Rattle.atom_table.specs.Holding.{Rest, Answers, Told, asked_after}
+use Rattle.atom_table.specs.Interning.{Adds, Makes, MakesBy, made_by}
+use Rattle.atom_table.specs.Holding.{Rest, Answers, Told}
 
 -- what stays in each view
 pub record Carried (v w : View) : Type 0 where
@@ -41,15 +33,16 @@ pub record Carried (v w : View) : Type 0 where
   pub undealt : w.undealt ≡ v.undealt
   pub cycle : w.cycle ≡ v.cycle
   pub sweep : w.sweep ≡ v.sweep
+  pub risen : w.risen ≡ v.risen
 
 pub carried_beside : (v w : View) → Beside v w → Carried v w
-carried_beside v w b = record { gone = b.gone; size = b.size; fixed = b.fixed; counts = b.counts; asked = b.asked; undealt = b.undealt; cycle = b.cycle; sweep = b.sweep }
+carried_beside v w b = record { gone = b.gone; size = b.size; fixed = b.fixed; counts = b.counts; asked = b.asked; undealt = b.undealt; cycle = b.cycle; sweep = b.sweep; risen = b.risen }
 
 pub carried_trans : (u v w : View) → Carried u v → Carried v w → Carried u w
-carried_trans u v w a b = record { gone = b.gone ∙ a.gone; size = b.size ∙ a.size; fixed = b.fixed ∙ a.fixed; counts = b.counts ∙ a.counts; asked = b.asked ∙ a.asked; undealt = b.undealt ∙ a.undealt; cycle = b.cycle ∙ a.cycle; sweep = b.sweep ∙ a.sweep }
+carried_trans u v w a b = record { gone = b.gone ∙ a.gone; size = b.size ∙ a.size; fixed = b.fixed ∙ a.fixed; counts = b.counts ∙ a.counts; asked = b.asked ∙ a.asked; undealt = b.undealt ∙ a.undealt; cycle = b.cycle ∙ a.cycle; sweep = b.sweep ∙ a.sweep; risen = b.risen ∙ a.risen }
 
 pub rest_carried : (v w : View) → Carried v w → w.own ≡ v.own → Rest v w
-rest_carried v w c own = record { gone = c.gone; size = c.size; own = own; fixed = c.fixed; counts = c.counts; undealt = c.undealt; cycle = c.cycle; sweep = c.sweep }
+rest_carried v w c own = record { gone = c.gone; size = c.size; own = own; fixed = c.fixed; counts = c.counts; undealt = c.undealt; cycle = c.cycle; sweep = c.sweep; risen = c.risen }
 
 -- the refusal that a slot that was not linked adds
 abbrev pub missed_refusal : Result ℕ Missed → List Refusal
@@ -73,19 +66,19 @@ module _ (row : List ℕ) (t : Walk) (v : View) (k : ℕ) (own : v.own ≡ Some 
 
   pub added : (r : Result ℕ Missed) (w : View) → Adds row t v r w → Added r w
   added (Ok a) w e = subst (Added (Ok a)) (ends_with (PutLink (first_of t.word) ∷ Link ∷ Validate ∷ []) w e) (let b = carried_beside v (after v (puts row)) (beside_puts v row) in record {
-    carried = record { gone = b.gone; size = b.size; fixed = b.fixed; counts = b.counts; asked = b.asked; undealt = b.undealt; cycle = b.cycle; sweep = b.sweep };
+    carried = record { gone = b.gone; size = b.size; fixed = b.fixed; counts = b.counts; asked = b.asked; undealt = b.undealt; cycle = b.cycle; sweep = b.sweep; risen = b.risen };
     none = refl;
     refusals = put_refusals ∙ sym (append-nil v.refusals);
   })
   added (Err (Moved old new)) w e = subst (Added (Err (Moved old new))) (ends_with (PutLink (first_of t.word) ∷ Refuse (RefusalAgain (CauseMoved old new)) ∷ Release ∷ []) w e.2) (let b = carried_beside v (after v (puts row)) (beside_puts v row) in record {
-    carried = record { gone = b.gone; size = b.size; fixed = b.fixed; counts = b.counts; asked = b.asked; undealt = b.undealt; cycle = b.cycle; sweep = b.sweep };
+    carried = record { gone = b.gone; size = b.size; fixed = b.fixed; counts = b.counts; asked = b.asked; undealt = b.undealt; cycle = b.cycle; sweep = b.sweep; risen = b.risen };
     none = refl;
     refusals = ap (λ l. l ++ RefusalAgain (CauseMoved old new) ∷ []) put_refusals;
   })
   added (Err (Pending j x)) w e = absurd e
   added (Err (Closed x)) w e = absurd e
   added (Err (Worn x)) w e = subst (Added (Err (Worn x))) (ends_with (Refuse (RefusalWorn x) ∷ Release ∷ []) w e.2) (let b = carried_beside v (after v (puts row)) (beside_puts v row) in record {
-    carried = record { gone = b.gone; size = b.size; fixed = b.fixed; counts = b.counts; asked = b.asked; undealt = b.undealt; cycle = b.cycle; sweep = b.sweep };
+    carried = record { gone = b.gone; size = b.size; fixed = b.fixed; counts = b.counts; asked = b.asked; undealt = b.undealt; cycle = b.cycle; sweep = b.sweep; risen = b.risen };
     none = refl;
     refusals = ap (λ l. l ++ RefusalWorn x ∷ []) put_refusals;
   })

@@ -1,11 +1,10 @@
 -- What the keeper's steps leave sound.
-use Rattle.std.proofs.Common.{◌≡◌, ◌≢◌, ◌⊎◌, ℕ, ◌+◌, ◌-◌, ◌<◌, ◌≤◌, List, [], ◌∷◌, ◌++◌, length, get_or, set, refl, sym, ap, ◌∙◌, subst, inl, inr, ⊎_elim, arith, Option, Some, None, option_map, length-set, get_or-set_same, get_or-set_other}
+use Rattle.std.proofs.Common.{◌≡◌, ◌≢◌, ℕ, ◌+◌, ◌-◌, ◌<◌, ◌≤◌, List, [], ◌∷◌, ◌++◌, length, get_or, set, refl, sym, ap, ◌∙◌, subst, arith, Some, option_map, length-set, get_or-set_same, get_or-set_other}
 use mathlib.Core.Logic.{dite}
 use native.Mathlib.Decide.{ℕ_discrete, dec_le}
-use Rattle.atom_words.specs.Chains.{In}
 use Rattle.atom_words.specs.Plays.{Alone}
 use Rattle.atom_words.specs.Views.{uncounted, with_keeper, without_keeper, keeper_of}
-use Rattle.atom_words.specs.Kinds.{counted, once_more, once_less, held_counted, view_after, after}
+use Rattle.atom_words.specs.Kinds.{counted, once_more, once_less, held_counted, after}
 use Rattle.atom_words.specs.Seats.{Has}
 use Rattle.atom_words.specs.declared.size.Size.{Size}
 use Rattle.atom_words.specs.declared.view.Held.{Held}

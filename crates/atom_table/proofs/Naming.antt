@@ -1,5 +1,5 @@
 -- The atoms that a seat holds, as a map from atoms to texts.
-use Rattle.std.proofs.Common.{◌≡◌, ◌≢◌, ◌⊎◌, ℕ, zero, suc, ◌+◌, ◌<◌, ◌≤◌, Bool, true, false, List, [], ◌∷◌, ◌++◌, map, refl, sym, ap, ◌∙◌, subst, inl, inr, ⊎_elim, arith, append_assoc, Option, Some, None, option_map}
+use Rattle.std.proofs.Common.{◌≡◌, ◌≢◌, ℕ, zero, suc, ◌+◌, ◌<◌, ◌≤◌, Bool, true, false, List, [], ◌∷◌, ◌++◌, map, refl, sym, ap, ◌∙◌, subst, inl, inr, ⊎_elim, arith, append_assoc, Option, Some, None, option_map}
 use Rattle.std.proofs.Math.Path.{fun_ext}
 use Rattle.std.proofs.Math.Dec.{leb}
 use Rattle.std.specs.Prelude.{◌==◌, ◌||◌, ◌&&◌, slice_get, if◌then◌else◌}
@@ -14,8 +14,6 @@ use lib.ListN.{get_elem?}
 use Rattle.pl_term.specs.Tree.{Chars}
 use Rattle.pl_term.specs.Texts.{size}
 use Rattle.atom_words.specs.Chains.{In}
-use Rattle.atom_words.specs.Opening.{Allowed}
-use Rattle.atom_words.specs.Plays.{Alone}
 use Rattle.atom_words.specs.Kinds.{after}
 use Rattle.atom_words.specs.Seats.{seen, Same, Has}
 use Rattle.atom_words.specs.declared.size.Size.{Size}
@@ -24,7 +22,7 @@ use Rattle.atom_words.specs.declared.view.View.{View}
 use Rattle.atom_words.specs.declared.words.Words.{Words}
 use Rattle.atom_words.specs.declared.words.AtomSeat.{AtomSeat}
 use Rattle.atom_words.specs.declared.kind.Kind.TheVariants.{Keep}
-use Rattle.atom_words.proofs.Slices.{in_none, in_later, in_cases, in_append}
+use Rattle.atom_words.proofs.Slices.{in_later, in_cases, in_append}
 use Rattle.bucket_rows.specs.Walks.{spelled}
 use Rattle.atom_api.specs.Fixed.{fixed, fixed_texts, numbered}
 use Rattle.atom_api.specs.Names.{Names, with_name, cut}

@@ -1,5 +1,5 @@
 -- The fixed atoms are made, and the seats of a new table dealt.
-use Rattle.std.proofs.Common.{◌≡◌, ◌⊎◌, ℕ, zero, suc, ◌+◌, ◌-◌, ◌<◌, ◌≤◌, true, false, List, [], ◌∷◌, ◌++◌, length, get_or, take, map, replicate, refl, sym, ap, ◌∙◌, subst, inl, inr, ⊎_elim, arith, Option, Some, None, Ok, Err, Result, IfOk, insert}
+use Rattle.std.proofs.Common.{◌≡◌, ℕ, ◌+◌, ◌-◌, ◌<◌, ◌≤◌, true, false, List, [], ◌∷◌, ◌++◌, length, get_or, take, map, replicate, refl, sym, ap, ◌∙◌, subst, inl, inr, ⊎_elim, arith, Some, None, Ok, Err, Result, IfOk, insert, ◌≢◌, Bool, if◌then◌else◌, eq-eqb}
 use Rattle.std.specs.Str.{all_scalars}
 use Rattle.std.proofs.lemmas.List.{get_or-replicate, take_more}
 use mathlib.Core.List.{map-append}
@@ -11,12 +11,13 @@ use Rattle.pl_term.specs.Tree.{Chars}
 use Rattle.pl_term.specs.Texts.{size}
 use Rattle.atom_words.specs.Chains.{In}
 use Rattle.atom_words.specs.Plays.{Alone}
-use Rattle.atom_words.specs.Views.{uncounted, first_view, keeper_of, without_keeper, collector_of, without_collector, engine_of, with_one_dealt, newcomer}
-use Rattle.atom_words.specs.Kinds.{counted, view_after, after}
-use Rattle.atom_words.specs.Seats.{Unchanged, seen, Fits, Same, Has, AtTable}
+use Rattle.atom_words.specs.Views.{uncounted, first_view, without_keeper, collector_of, without_collector, engine_of, with_one_dealt}
+use Rattle.atom_words.specs.Kinds.{Sitting, counted, rising, after}
+use Rattle.atom_words.specs.Seats.{Unchanged, Walking, seen, Same, Has, AtTable}
 use Rattle.atom_words.specs.declared.size.Size.{Size}
 use Rattle.atom_words.specs.declared.view.Held.{Held}
 use Rattle.atom_words.specs.declared.view.Counted.{Counted}
+use Rattle.atom_words.specs.declared.view.Cycling.{Cycling}
 use Rattle.atom_words.specs.declared.view.View.{View}
 use Rattle.atom_words.specs.declared.kind.Kind.TheVariants.{Fix}
 use Rattle.atom_words.specs.declared.words.Words.{Words}
@@ -25,20 +26,21 @@ use Rattle.atom_words.proofs.Slices.{in_none, at_snoc, in_append, or_beyond}
 use Rattle.bucket_rows.specs.Walks.{spelled, Aside}
 use Rattle.bucket_rows.proofs.Reading.{alone_as}
 use Rattle.bucket_rows.proofs.Making.{Beside}
-use Rattle.atom_table.specs.Holding.{Spelled, Sound, Sits}
+use Rattle.atom_api.specs.declared.interned.Interned.{Interned}
+use Rattle.atom_table.specs.Holding.{Sound, Sits, IsEngine, Rest, Told}
 use Rattle.atom_table.specs.Opening.{fixed_slot, fixed_slots, Fresh, FreshFrom, Source, Stays, Carries, Placed, Low}
 use Rattle.atom_table.proofs.Spelling.{spelled_is}
 use Rattle.atom_table.proofs.Telling.{sound_more}
 
 -- PLACING
 pub stays_trans : (u v w : View) → Stays u v → Stays v w → Stays u w
-stays_trans u v w a b = record { gone = b.gone ∙ a.gone; size = b.size ∙ a.size; own = b.own ∙ a.own; fixed = b.fixed ∙ a.fixed; counts = b.counts ∙ a.counts; undealt = b.undealt ∙ a.undealt }
+stays_trans u v w a b = record { gone = b.gone ∙ a.gone; size = b.size ∙ a.size; own = b.own ∙ a.own; fixed = b.fixed ∙ a.fixed; counts = b.counts ∙ a.counts; undealt = b.undealt ∙ a.undealt; cycle = b.cycle ∙ a.cycle; sweep = b.sweep ∙ a.sweep; risen = b.risen ∙ a.risen }
 
 pub stays_refl : (v : View) → Stays v v
-stays_refl v = record { gone = refl; size = refl; own = refl; fixed = refl; counts = refl; undealt = refl }
+stays_refl v = record { gone = refl; size = refl; own = refl; fixed = refl; counts = refl; undealt = refl; cycle = refl; sweep = refl; risen = refl }
 
 pub stays_aside : (v w : View) → Aside v w → Stays v w
-stays_aside v w a = record { gone = a.gone; size = a.size; own = a.own; fixed = a.fixed; counts = a.counts; undealt = a.undealt }
+stays_aside v w a = record { gone = a.gone; size = a.size; own = a.own; fixed = a.fixed; counts = a.counts; undealt = a.undealt; cycle = a.cycle; sweep = a.sweep; risen = a.risen }
 
 -- after a reserve, and the rest
 pub placed_reserved : (row : List ℕ) (k : ℕ) (v u w : View) → Beside v u → v.own ≡ None → w.held ≡ u.held ++ record { slot = k; text = row } ∷ [] → Alone u k row → k < v.size.slots → w.own ≡ None → Carries u w → Placed row k v w
@@ -46,7 +48,7 @@ placed_reserved row k v u w b none held alone inside free c = record {
   held = held ∙ ap (λ l. l ++ record { slot = k; text = row } ∷ []) b.held;
   alone = alone_as v u k row b.held b.fixed alone;
   inside = inside;
-  stays = record { gone = c.gone ∙ b.gone; size = c.size ∙ b.size; own = free ∙ sym none; fixed = c.fixed ∙ b.fixed; counts = c.counts ∙ b.counts; undealt = c.undealt ∙ b.undealt };
+  stays = record { gone = c.gone ∙ b.gone; size = c.size ∙ b.size; own = free ∙ sym none; fixed = c.fixed ∙ b.fixed; counts = c.counts ∙ b.counts; undealt = c.undealt ∙ b.undealt; cycle = c.cycle ∙ b.cycle; sweep = c.sweep ∙ b.sweep; risen = c.risen ∙ b.risen };
 }
 
 -- after a walk that held nothing
@@ -117,6 +119,8 @@ source_dealt words n s r same e src = let v : View = seen s in let w : View = se
   held = ap (λ (y : View). y.held) e ∙ src.held;
   fixed = ap (λ (y : View). y.fixed) e ∙ src.fixed;
   undealt = ap (λ (y : View). y.undealt) e ∙ ap (λ (i : ℕ). i - 1) src.undealt;
+  sweep = ap (λ (y : View). y.sweep) e ∙ src.sweep;
+  risen = ap (λ (y : View). y.risen) e ∙ src.risen;
 }
 
 pub fresh_dealt : (words : Words) (n : ℕ) (s r : AtomSeat) → AtTable words r → seen r ≡ engine_of (seen s) → Source words n s → Fresh words n r
@@ -132,6 +136,8 @@ fresh_dealt words n s r at e src = let v : View = seen s in let w : View = seen 
   counts = ap (λ (y : View). y.counts) e;
   refusals = ap (λ (y : View). y.refusals) e;
   asked = ap (λ (y : View). y.asked) e;
+  sweep = ap (λ (y : View). y.sweep) e;
+  risen = ap (λ (y : View). y.risen) e ∙ src.risen;
 }
 
 -- a fact of an answer, by another
@@ -149,12 +155,47 @@ insert_first xs x = refl
 pub fresh_more : (words : Words) (n i : ℕ) (s : AtomSeat) (ss : List AtomSeat) → i < n → Fresh words (n - i) s → FreshFrom words (n - i + 1) ss → FreshFrom words (n - (i + 1) + 1) (s ∷ ss)
 fresh_more words n i s ss low f rest = let e : n - i ≡ n - (i + 1) + 1 = omega arith in subst (λ (k : ℕ). FreshFrom words k (s ∷ ss)) e (f, rest)
 
--- THE FIRST SEAT
-pub first_sits : (words : Words) (s : AtomSeat) (z : Size) → words.size ≡ z → AtTable words s → seen s ≡ first_view z → Sits words s
-first_sits words s z same at e = ((at, ap (λ (y : View). y.size) e ∙ sym same, ap (λ (y : View). y.gone) e), ap (λ (y : View). y.own) e, subst Sound (sym e) (sound_first z))
+-- THE FIRST SEAT, from which the collector's was cut off
+pub first_left : (words : Words) (s r : AtomSeat) (z : Size) → words.size ≡ z → AtTable words s → seen s ≡ first_view z → Same s r → seen r ≡ without_collector (seen s) → Sits words r
+first_left words s r z same at e keeps left = let is : seen r ≡ without_collector (first_view z) = left ∙ ap without_collector e in let q = sound_first z in (
+  (keeps.0 ∙ at, ap (λ (y : View). y.size) is ∙ sym same, ap (λ (y : View). y.gone) is),
+  ap (λ (y : View). y.own) is,
+  subst Sound (sym is) (record { inside = q.inside; texts = q.texts; alone = q.alone; counts = q.counts }),
+)
 
-pub source_fixed : (words : Words) (n : ℕ) (p f : AtomSeat) → Same p f → seen f ≡ after (seen p) (Fix ∷ []) → Sits words p → (seen p).fixed ≡ [] → (seen p).held ≡ fixed_slots → (seen p).undealt ≡ n → Source words n f
-source_fixed words n p f same e sits none held undealt = let v : View = seen p in let w : View = seen f in record {
+pub collector_sits : (words : Words) (s r : AtomSeat) (z : Size) → words.size ≡ z → AtTable words r → seen s ≡ first_view z → seen r ≡ collector_of (seen s) → Sits words r
+collector_sits words s r z same at e right = let is : seen r ≡ collector_of (first_view z) = right ∙ ap collector_of e in let q = sound_first z in (
+  (at, ap (λ (y : View). y.size) is ∙ sym same, ap (λ (y : View). y.gone) is),
+  ap (λ (y : View). y.own) is,
+  subst Sound (sym is) (record { inside = q.inside; texts = q.texts; alone = q.alone; counts = λ cs none. cc }),
+)
+
+-- a seat that may hold slots may so still, and one that walks
+pub sitting_by : (v w : View) → w.cycle ≡ v.cycle → w.undealt ≡ v.undealt → Sitting v → Sitting w
+sitting_by v w cycle undealt t = ⊎_elim (λ (e : v.cycle.engine ≢ 0). inl (λ none. e (ap (λ (y : Cycling). y.engine) (sym cycle) ∙ none))) (λ (e : 0 < v.undealt). inr (subst (λ (n : ℕ). 0 < n) (sym undealt) e)) t
+
+pub walking_by : (v w : View) → w.cycle ≡ v.cycle → w.undealt ≡ v.undealt → w.sweep ≡ v.sweep → Walking v → Walking w
+walking_by v w cycle undealt sweep t = (sitting_by v w cycle undealt t.0, sweep ∙ t.1)
+
+-- an engine's seat stays one
+pub engine_by : (v w : View) → w.cycle ≡ v.cycle → w.sweep ≡ v.sweep → IsEngine v → IsEngine w
+engine_by v w cycle sweep t = (λ none. t.0 (ap (λ (y : Cycling). y.engine) (sym cycle) ∙ none), sweep ∙ t.1)
+
+pub walking_rest : (v w : View) → Rest v w → Walking v → Walking w
+walking_rest v w r = walking_by v w r.cycle r.undealt r.sweep
+
+pub walking_stays : (v w : View) → Stays v w → Walking v → Walking w
+walking_stays v w s = walking_by v w s.cycle s.undealt s.sweep
+
+pub walking_told : (t : Chars) (h : ℕ) (v w : View) (r : Interned) → Told t h v r w → Walking v → Walking w
+walking_told t h v w r told = walking_rest v w told.rest
+
+-- the next head has risen
+pub rising_next : (h n : ℕ) → n ≡ h → rising h n ≡ h + 1
+rising_next h n e = ap (λ (t : Bool). if t then n + 1 else n) (eq-eqb h n (sym e)) ∙ ap (λ (i : ℕ). i + 1) e
+
+pub source_fixed : (words : Words) (n : ℕ) (p f : AtomSeat) → Same p f → seen f ≡ after (seen p) (Fix ∷ []) → Sits words p → (seen p).fixed ≡ [] → (seen p).held ≡ fixed_slots → (seen p).undealt ≡ n → (seen p).sweep ≡ None → (seen p).risen ≡ 256 → Source words n f
+source_fixed words n p f same e sits none held undealt sweep risen = let v : View = seen p in let w : View = seen f in record {
   sits = (
     (same.0 ∙ sits.0.0, ap (λ (y : View). y.size) e ∙ sits.0.1, ap (λ (y : View). y.gone) e ∙ sits.0.2),
     ap (λ (y : View). y.own) e ∙ sits.1,
@@ -163,20 +204,24 @@ source_fixed words n p f same e sits none held undealt = let v : View = seen p i
   held = ap (λ (y : View). y.held) e;
   fixed = ap (λ (y : View). y.fixed) e ∙ (λ i. none i ++ held i);
   undealt = ap (λ (y : View). y.undealt) e ∙ undealt;
+  sweep = ap (λ (y : View). y.sweep) e ∙ sweep;
+  risen = ap (λ (y : View). y.risen) e ∙ risen;
 }
 
--- a part is cut off the source
-pub source_left : (words : Words) (n : ℕ) (s r : AtomSeat) → Same s r → (seen r).size ≡ (seen s).size → (seen r).gone ≡ (seen s).gone → (seen r).own ≡ (seen s).own → (seen r).held ≡ (seen s).held → (seen r).fixed ≡ (seen s).fixed → (seen r).undealt ≡ (seen s).undealt
-    → ((cs : List Counted) → (seen r).counts ≡ Some cs → (seen s).counts ≡ Some cs) → Source words n s → Source words n r
-source_left words n s r same size gone own held fixed undealt counts src = record {
+-- the keeper's part is cut off the source
+pub source_left : (words : Words) (n : ℕ) (s r : AtomSeat) → Same s r → seen r ≡ without_keeper (seen s) → Source words n s → Source words n r
+source_left words n s r same e src = record {
   sits = (
-    (same.0 ∙ src.sits.0.0, size ∙ src.sits.0.1, gone ∙ src.sits.0.2),
-    own ∙ src.sits.1,
-    sound_from (seen s) (seen s) (seen r) (has_by_fixed (seen s) (seen r) (held ∙ src.held) fixed) size size counts src.sits.2 src.sits.2,
+    (same.0 ∙ src.sits.0.0, ap (λ (y : View). y.size) e ∙ src.sits.0.1, ap (λ (y : View). y.gone) e ∙ src.sits.0.2),
+    ap (λ (y : View). y.own) e ∙ src.sits.1,
+    sound_from (seen s) (seen s) (seen r) (has_by_fixed (seen s) (seen r) (ap (λ (y : View). y.held) e ∙ src.held) (ap (λ (y : View). y.fixed) e)) (ap (λ (y : View). y.size) e) (ap (λ (y : View). y.size) e)
+        (λ cs is. let no : None ≡ Some cs = sym (ap (λ (y : View). y.counts) e) ∙ is in cc) src.sits.2 src.sits.2,
   );
-  held = held ∙ src.held;
-  fixed = fixed ∙ src.fixed;
-  undealt = undealt ∙ src.undealt;
+  held = ap (λ (y : View). y.held) e ∙ src.held;
+  fixed = ap (λ (y : View). y.fixed) e ∙ src.fixed;
+  undealt = ap (λ (y : View). y.undealt) e ∙ src.undealt;
+  sweep = ap (λ (y : View). y.sweep) e ∙ src.sweep;
+  risen = ap (λ (y : View). y.risen) e ∙ src.risen;
 }
 
 pub part_sits : (words : Words) (n : ℕ) (s r : AtomSeat) → AtTable words r → (seen r).size ≡ (seen s).size → (seen r).gone ≡ false → (seen r).own ≡ None → (seen r).held ≡ [] → (seen r).fixed ≡ (seen s).fixed
@@ -187,33 +232,19 @@ part_sits words n s r at size gone own held fixed counts src = (
   sound_from (seen s) (seen s) (seen r) (has_by_fixed (seen s) (seen r) held fixed) size size counts src.sits.2 src.sits.2,
 )
 
--- a seat that was just made
-pub newcomer_sits : (words : Words) (s : AtomSeat) → AtTable words s → seen s ≡ newcomer words.size → Sits words s
-newcomer_sits words s at e = (
-  (at, ap (λ (y : View). y.size) e, ap (λ (y : View). y.gone) e),
-  ap (λ (y : View). y.own) e,
-  subst Sound (sym e) (record {
-    inside = λ a h. absurd (none a h);
-    texts = λ a h. absurd (none a h);
-    alone = λ a h. absurd (none a h);
-    counts = λ cs is. cc;
-  }),
-)
-  where
-    none : (a : Held) → Has (newcomer words.size) a → ⊥
-    none a h = ⊎_elim (λ (i : In a []). in_none a i) (λ (i : In a []). in_none a i) h
-
--- THE STEPS MADE ASIDE
+-- THE STEPS MADE AND THE HEADS THAT HAVE RISEN ASIDE
 pub unchanged_trans : (u v w : View) → Unchanged u v → Unchanged v w → Unchanged u w
-unchanged_trans u v w a b = (b.0, b.1 ∙ ap (λ (y : View). record y { made = b.0 }) a.1)
+unchanged_trans u v w a b = (b.0, b.1, b.2 ∙ ap (λ (y : View). record y { risen = b.1; made = b.0 }) a.2)
 
 pub sits_unchanged : (words : Words) (s t : AtomSeat) → Same s t → Unchanged (seen s) (seen t) → Sits words s → Sits words t
 sits_unchanged words s t same u sits = let v : View = seen s in let q = sits.2 in (
-  (same.0 ∙ sits.0.0, ap (λ (y : View). y.size) u.1 ∙ sits.0.1, ap (λ (y : View). y.gone) u.1 ∙ sits.0.2),
-  ap (λ (y : View). y.own) u.1 ∙ sits.1,
-  subst Sound (sym u.1) (record { inside = q.inside; texts = q.texts; alone = q.alone; counts = q.counts }),
+  (same.0 ∙ sits.0.0, ap (λ (y : View). y.size) u.2 ∙ sits.0.1, ap (λ (y : View). y.gone) u.2 ∙ sits.0.2),
+  ap (λ (y : View). y.own) u.2 ∙ sits.1,
+  subst Sound (sym u.2) (record { inside = q.inside; texts = q.texts; alone = q.alone; counts = q.counts }),
 )
 
 -- the versions are raised, and the held slots become the fixed ones
-pub source_raised : (words : Words) (n : ℕ) (p x f : AtomSeat) → Same p x → Unchanged (seen p) (seen x) → Same x f → seen f ≡ after (seen x) (Fix ∷ []) → Sits words p → (seen p).fixed ≡ [] → (seen p).held ≡ fixed_slots → (seen p).undealt ≡ n → Source words n f
-source_raised words n p x f same u later e sits none held undealt = source_fixed words n x f later e (sits_unchanged words p x same u sits) (ap (λ (y : View). y.fixed) u.1 ∙ none) (ap (λ (y : View). y.held) u.1 ∙ held) (ap (λ (y : View). y.undealt) u.1 ∙ undealt)
+pub source_raised : (words : Words) (n : ℕ) (p x f : AtomSeat) → Same p x → Unchanged (seen p) (seen x) → (seen x).risen ≡ 256 → Same x f → seen f ≡ after (seen x) (Fix ∷ []) → Sits words p → (seen p).fixed ≡ [] → (seen p).held ≡ fixed_slots → (seen p).undealt ≡ n
+    → (seen p).sweep ≡ None → Source words n f
+source_raised words n p x f same u risen later e sits none held undealt sweep = source_fixed words n x f later e (sits_unchanged words p x same u sits) (ap (λ (y : View). y.fixed) u.2 ∙ none) (ap (λ (y : View). y.held) u.2 ∙ held) (ap (λ (y : View). y.undealt) u.2 ∙ undealt)
+    (ap (λ (y : View). y.sweep) u.2 ∙ sweep) risen

@@ -1,5 +1,5 @@
 -- What interning tells, from its parts.
-use Rattle.std.proofs.Common.{◌≡◌, ◌≢◌, ◌⊎◌, ℕ, zero, suc, ◌+◌, ◌%◌, ◌<◌, ◌≤◌, true, List, [], ◌∷◌, ◌++◌, length, refl, sym, ap, ◌∙◌, subst, inl, inr, ⊎_elim, arith, add-one, append-nil, Option, Some, None, Ok, Err, Result, IfOk}
+use Rattle.std.proofs.Common.{◌≡◌, ◌⊎◌, ℕ, zero, suc, ◌+◌, ◌%◌, ◌<◌, ◌≤◌, true, [], ◌∷◌, ◌++◌, length, refl, sym, ap, ◌∙◌, subst, inl, inr, ⊎_elim, arith, add-one, append-nil, Some, None, Ok, Err, Result, IfOk}
 use Rattle.std.specs.Str.{all_scalars}
 use mathlib.Core.Option.{some}
 use lib.ListN.{get_elem?}
@@ -8,17 +8,16 @@ use Rattle.pl_term.specs.Texts.{size}
 use Rattle.atom_words.specs.Chains.{In}
 use Rattle.atom_words.specs.Board.{atom_at}
 use Rattle.atom_words.specs.Plays.{Alone}
-use Rattle.atom_words.specs.Kinds.{counted, fresh, full, full_pass, view_after, after}
-use Rattle.atom_words.specs.Seats.{Reserves, FindsTaken, Has}
+use Rattle.atom_words.specs.Kinds.{fresh, full, full_pass, after}
+use Rattle.atom_words.specs.Seats.{Reserves, Has}
 use Rattle.atom_words.specs.declared.size.Size.{Size}
 use Rattle.atom_words.specs.declared.view.Held.{Held}
-use Rattle.atom_words.specs.declared.view.Counted.{Counted}
 use Rattle.atom_words.specs.declared.view.Walk.{Walk}
 use Rattle.atom_words.specs.declared.view.Pass.{Pass}
 use Rattle.atom_words.specs.declared.view.Refusal.TheVariants.{Full as RefusalFull}
 use Rattle.atom_words.specs.declared.view.View.{View}
 use Rattle.atom_words.specs.declared.kind.Kind.TheVariants.{Ask, Load, Reserve, StartPass, EndPass}
-use Rattle.atom_words.proofs.Slices.{at_snoc, in_append}
+use Rattle.atom_words.proofs.Slices.{at_snoc}
 use Rattle.bucket_rows.specs.declared.missed.Missed.{Missed}
 use Rattle.bucket_rows.specs.Walks.{spelled, Aside}
 use Rattle.bucket_rows.proofs.Reading.{alone_as, reserved_as}
@@ -30,7 +29,7 @@ use Rattle.atom_table.specs.Interning.{Tries, Takes, Adds, MakesBy, made_by}
 use Rattle.atom_table.specs.Holding.{Spelled, Sound, Rest, Answers, Told}
 use Rattle.atom_table.proofs.Spelling.{spelled_is}
 use Rattle.atom_table.proofs.Tries.{Tried, tried_refl, tried_trans, tried_start, tried_taken, Passed, passed_start, passed_more, full_is}
-use Rattle.atom_table.proofs.Adding.{Carried, carried_beside, rest_carried, added, told_added, makes_by}
+use Rattle.atom_table.proofs.Adding.{carried_beside, added, told_added, makes_by}
 
 -- A PASS FOR A SLOT
 pub tried_tries : (n from : ℕ) (v u : View) → Tries n from v u → Tried v u
@@ -82,6 +81,7 @@ module _ (t : Chars) (h : ℕ) (short : size t ≤ 248) (v : View) where
             undealt = ap (λ (y : View). y.undealt) last ∙ s.beside.undealt;
             cycle = ap (λ (y : View). y.cycle) last ∙ s.beside.cycle;
             sweep = ap (λ (y : View). y.sweep) last ∙ s.beside.sweep;
+            risen = ap (λ (y : View). y.risen) last ∙ s.beside.risen;
           };
           refusal = ap (λ (y : View). y.refusals) last ∙ ((λ i. s.refusals i ++ adds i));
         },
@@ -116,6 +116,7 @@ module _ (t : Chars) (h : ℕ) (short : size t ≤ 248) (v u x : View) (asked : 
     undealt = aside.undealt ∙ ap (λ (y : View). y.undealt) asked;
     cycle = aside.cycle ∙ ap (λ (y : View). y.cycle) asked;
     sweep = aside.sweep ∙ ap (λ (y : View). y.sweep) asked;
+    risen = aside.risen ∙ ap (λ (y : View). y.risen) asked;
   }
 
   -- the walk found it
@@ -139,6 +140,7 @@ module _ (t : Chars) (h : ℕ) (short : size t ≤ 248) (v u x : View) (asked : 
       undealt = told.rest.undealt ∙ walked.undealt;
       cycle = told.rest.cycle ∙ walked.cycle;
       sweep = told.rest.sweep ∙ walked.sweep;
+      risen = told.rest.risen ∙ walked.risen;
     };
     refusal = told.refusal ∙ ap (λ l. l ++ refused r) (refusals ∙ ap (λ (y : View). y.refusals) asked);
   }

@@ -1,19 +1,18 @@
 -- A pass for a slot, and what it leaves of the view.
-use Rattle.std.proofs.Common.{◌≡◌, ◌≢◌, ◌⊎◌, ◌==◌, ◌&&◌, nat_lt, ℕ, ◌+◌, ◌%◌, ◌<◌, true, false, if◌then◌else◌, eq-eqb, ne_eqb, List, [], ◌∷◌, ◌++◌, refl, sym, ap, ◌∙◌, subst, ⊎_elim, arith, Option, Some, None, option_map}
+use Rattle.std.proofs.Common.{◌≡◌, ◌≢◌, ◌==◌, ◌&&◌, nat_lt, ℕ, ◌+◌, ◌%◌, ◌<◌, true, if◌then◌else◌, eq-eqb, ne_eqb, [], ◌∷◌, refl, sym, ap, ◌∙◌, subst, ⊎_elim, arith, Option, Some, None, option_map}
 use Rattle.std.proofs.lemmas.Bool.Decides.{nat_tests}
 use Rattle.std.proofs.Math.Nat.{mod-eq_of_lt}
 use mathlib.Core.Logic.{dite}
 use native.Mathlib.Decide.{ℕ_discrete}
 use Rattle.atom_words.specs.Layout.{state_of}
 use Rattle.atom_words.specs.Board.{atom_at}
-use Rattle.atom_words.specs.Kinds.{next_first, next_counted, counting, full, full_pass, view_after, after}
+use Rattle.atom_words.specs.Kinds.{next_first, next_counted, counting, full, full_pass, after}
 use Rattle.atom_words.specs.Seats.{FindsTaken, answered}
 use Rattle.atom_words.specs.declared.view.Pass.{Pass}
 use Rattle.atom_words.specs.declared.view.Passing.{Passing}
-use Rattle.atom_words.specs.declared.view.Refusal.{Refusal}
 use Rattle.atom_words.specs.declared.view.Refusal.TheVariants.{Full}
 use Rattle.atom_words.specs.declared.view.View.{View}
-use Rattle.atom_words.specs.declared.kind.Kind.TheVariants.{Load, Refused, StartPass, EndPass}
+use Rattle.atom_words.specs.declared.kind.Kind.TheVariants.{Load, Refused, StartPass}
 use Rattle.bucket_rows.proofs.Making.{Beside, beside_refl, beside_trans}
 
 -- the pass, and the steps made aside, the view u is v
@@ -30,12 +29,12 @@ pub tried_trans : (u v w : View) → Tried u v → Tried v w → Tried u w
 tried_trans u v w a b = record { beside = beside_trans u v w a.beside b.beside; own = b.own ∙ a.own; walk = b.walk ∙ a.walk; refusals = b.refusals ∙ a.refusals }
 
 pub tried_start : (v : View) (x : ℕ) (w : View) → w ≡ after v (StartPass x ∷ []) → Tried v w
-tried_start v x w e = subst (Tried v) (sym e) (record { beside = record { gone = refl; size = refl; held = refl; fixed = refl; counts = refl; asked = refl; undealt = refl; cycle = refl; sweep = refl }; own = refl; walk = refl; refusals = refl })
+tried_start v x w e = subst (Tried v) (sym e) (record { beside = record { gone = refl; size = refl; held = refl; fixed = refl; counts = refl; asked = refl; undealt = refl; cycle = refl; sweep = refl; risen = refl }; own = refl; walk = refl; refusals = refl })
 
 pub tried_taken : (v : View) (k x : ℕ) (w : View) → FindsTaken v k x w → Tried v w
 tried_taken v k x w f = ⊎_elim
-    (λ (t : (state_of x ≢ 0) × (w ≡ after v (Refused k 0 x ∷ []))). subst (Tried v) (sym t.1) (record { beside = record { gone = refl; size = refl; held = refl; fixed = refl; counts = refl; asked = refl; undealt = refl; cycle = refl; sweep = refl }; own = refl; walk = refl; refusals = refl }))
-    (λ (t : (x ≢ 4) × (w ≡ after v (Load (atom_at v.size k) 4 ∷ Refused k 4 x ∷ []))). subst (Tried v) (sym t.1) (record { beside = record { gone = refl; size = refl; held = refl; fixed = refl; counts = refl; asked = refl; undealt = refl; cycle = refl; sweep = refl }; own = refl; walk = refl; refusals = refl })) f
+    (λ (t : (state_of x ≢ 0) × (w ≡ after v (Refused k 0 x ∷ []))). subst (Tried v) (sym t.1) (record { beside = record { gone = refl; size = refl; held = refl; fixed = refl; counts = refl; asked = refl; undealt = refl; cycle = refl; sweep = refl; risen = refl }; own = refl; walk = refl; refusals = refl }))
+    (λ (t : (x ≢ 4) × (w ≡ after v (Load (atom_at v.size k) 4 ∷ Refused k 4 x ∷ []))). subst (Tried v) (sym t.1) (record { beside = record { gone = refl; size = refl; held = refl; fixed = refl; counts = refl; asked = refl; undealt = refl; cycle = refl; sweep = refl; risen = refl }; own = refl; walk = refl; refusals = refl })) f
 
 -- The pass at hand began at the epoch word x, and has counted n slots from `from` on
 pub record Passed (x from n : ℕ) (v : View) : Type 0 where

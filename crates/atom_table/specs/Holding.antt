@@ -1,5 +1,5 @@
 -- What a seat of an atom table holds.
-use Rattle.std.specs.Prelude.{◌≡◌, ◌≢◌, ℕ, ◌+◌, ◌<◌, ◌≤◌, true, List, [], ◌∷◌, ◌++◌, length, map, Some, None, encode_utf8_all}
+use Rattle.std.specs.Prelude.{◌≡◌, ◌≢◌, ℕ, ◌+◌, ◌<◌, ◌≤◌, true, List, [], ◌∷◌, ◌++◌, length, Some, None}
 use Rattle.std.specs.Str.{all_scalars, chars}
 use Rattle.pl_term.specs.Tree.{Chars}
 use Rattle.pl_term.specs.Texts.{size}
@@ -35,6 +35,10 @@ pub record Sound (v : View) : Type 0 where
   pub alone : (a : Held) → Has v a → Alone v a.slot a.text
   pub counts : (cs : List Counted) → v.counts ≡ Some cs → (length cs ≡ v.size.slots) × ((k : ℕ) → 0 < (counted cs k).count → Spelled (counted cs k).text)
 
+-- the seat is an engine's
+abbrev pub IsEngine : View → Type 0
+IsEngine v = (v.cycle.engine ≢ 0) × (v.sweep ≡ None)
+
 -- a seat of the table between its calls
 abbrev pub Sits : Words → AtomSeat → Type 0
 Sits w s = Fits w s × ((seen s).own ≡ None) × Sound (seen s)
@@ -49,6 +53,7 @@ pub record Rest (v w : View) : Type 0 where
   pub undealt : w.undealt ≡ v.undealt
   pub cycle : w.cycle ≡ v.cycle
   pub sweep : w.sweep ≡ v.sweep
+  pub risen : w.risen ≡ v.risen
 
 -- THE ANSWERS of interning a text: the atom is held afterwards with that text, and nothing else that is held has changed; no other slot that was held has the text, and the slot had no other text
 abbrev pub Answers : Chars → ℕ → View → Interned → View → Type 0

@@ -1,5 +1,5 @@
 -- The steps of a call that interns a text.
-use Rattle.std.specs.Prelude.{◌≡◌, ◌≢◌, ◌⊎◌, ℕ, zero, suc, ◌+◌, ◌%◌, ◌<◌, ◌≤◌, List, [], ◌∷◌, ◌++◌, Option, Some, None, Result, Ok, Err}
+use Rattle.std.specs.Prelude.{◌≡◌, ◌≢◌, ◌⊎◌, ℕ, zero, suc, ◌+◌, ◌%◌, ◌<◌, ◌≤◌, List, [], ◌∷◌, ◌++◌, Some, None, Result, Ok, Err}
 use Rattle.atom_words.specs.Layout.{first_of, version_of, worn}
 use Rattle.atom_words.specs.Kinds.{after}
 use Rattle.atom_words.specs.Seats.{puts, Reserves, FindsTaken}
@@ -9,7 +9,6 @@ use Rattle.atom_words.specs.declared.view.Cause.{Cause}
 use Rattle.atom_words.specs.declared.view.Cause.TheVariants.{Moved as CauseMoved, Pending as CausePending, Closed as CauseClosed}
 use Rattle.atom_words.specs.declared.view.Refusal.TheVariants.{Again as RefusalAgain, Worn as RefusalWorn}
 use Rattle.atom_words.specs.declared.view.View.{View}
-use Rattle.atom_words.specs.declared.kind.Kind.{Kind}
 use Rattle.atom_words.specs.declared.kind.Kind.TheVariants.{Ask, StartPass, EndPass, PutLink, Link, Validate, Release, Refuse}
 use Rattle.bucket_rows.specs.declared.missed.Missed.{Missed}
 use Rattle.bucket_rows.specs.declared.missed.Missed.TheVariants.{Moved, Pending, Closed, Worn}
@@ -55,7 +54,7 @@ abbrev pub made_by : Result ℕ Missed → Interned
 made_by (Ok a) = Is a
 made_by (Err m) = answered_by m
 
--- The steps behind a walk that did not find the text, by the answer: the bucket is worn, or there is a pass for a slot; where one is reserved, it is made an atom or given back
+-- The steps after a walk that did not find the text, by the answer: the bucket is worn, or there is a pass for a slot; where one is reserved, it is made an atom or given back
 abbrev pub MakesBy : List ℕ → View → Interned → View → Type 0
 MakesBy row v (Is a) w = Makes row v (Ok a) w
 MakesBy row v (Full p) w = (from : ℕ) × Takes from v (Err p) w

@@ -1,12 +1,11 @@
 -- The atoms that a seat holds, as a map from atoms to texts.
-use Rattle.std.specs.Prelude.{◌≡◌, ◌<◌, ◌≤◌, ◌^◌, ◌==◌, ℕ, true, List, [], ◌∷◌, ◌++◌, Option, Some, None, map, if◌then◌else◌}
+use Rattle.std.specs.Prelude.{◌≡◌, ◌<◌, ◌≤◌, ◌^◌, ◌==◌, ℕ, true, List, [], ◌∷◌, ◌++◌, Some, None, map, if◌then◌else◌}
 use Rattle.std.specs.List.{list_any}
 use Rattle.std.specs.Str.{all_scalars}
 use Rattle.pl_term.specs.Tree.{Chars}
 use Rattle.pl_term.specs.Texts.{size}
 use Rattle.atom_words.specs.declared.view.Held.{Held}
 use Rattle.atom_words.specs.declared.view.View.{View}
-use Rattle.atom_api.specs.Fixed.{fixed}
 use Rattle.atom_api.specs.Names.{Names, FixedStand}
 use Rattle.atom_table.specs.Holding.{unspelled}
 

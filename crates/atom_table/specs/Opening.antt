@@ -20,7 +20,7 @@ fixed_slot r = record { slot = r.0; text = spelled r.1 }
 abbrev pub fixed_slots : List Held
 fixed_slots = map fixed_slot (numbered 0 fixed_texts)
 
--- the seat of an engine of a new table
+-- The seat of an engine of a new table. It knows that each of the first 256 heads has the version that the table begins with, or a later one
 pub record Fresh (w : Words) (engine : ℕ) (s : AtomSeat) : Type 0 where
   pub sits : Sits w s
   pub held : (seen s).held ≡ []
@@ -29,6 +29,8 @@ pub record Fresh (w : Words) (engine : ℕ) (s : AtomSeat) : Type 0 where
   pub counts : (seen s).counts ≡ None
   pub refusals : (seen s).refusals ≡ []
   pub asked : (seen s).asked ≡ []
+  pub sweep : (seen s).sweep ≡ None
+  pub risen : (seen s).risen ≡ 256
 
 -- those of the engines from a number on
 abbrev pub FreshFrom : Words → ℕ → List AtomSeat → Type 0
@@ -41,8 +43,10 @@ pub record Source (w : Words) (n : ℕ) (s : AtomSeat) : Type 0 where
   pub held : (seen s).held ≡ []
   pub fixed : (seen s).fixed ≡ fixed_slots
   pub undealt : (seen s).undealt ≡ n
+  pub sweep : (seen s).sweep ≡ None
+  pub risen : (seen s).risen ≡ 256
 
--- what is held, the walk, the pass, the refusals, the texts asked, the cycle and the steps made aside, the view w is v
+-- what is held, the walk, the pass, the refusals, the texts asked and the steps made aside, the view w is v
 pub record Stays (v w : View) : Type 0 where
   pub gone : w.gone ≡ v.gone
   pub size : w.size ≡ v.size
@@ -50,6 +54,9 @@ pub record Stays (v w : View) : Type 0 where
   pub fixed : w.fixed ≡ v.fixed
   pub counts : w.counts ≡ v.counts
   pub undealt : w.undealt ≡ v.undealt
+  pub cycle : w.cycle ≡ v.cycle
+  pub sweep : w.sweep ≡ v.sweep
+  pub risen : w.risen ≡ v.risen
 
 -- the same, the own slot aside
 pub record Carries (v w : View) : Type 0 where
@@ -58,6 +65,9 @@ pub record Carries (v w : View) : Type 0 where
   pub fixed : w.fixed ≡ v.fixed
   pub counts : w.counts ≡ v.counts
   pub undealt : w.undealt ≡ v.undealt
+  pub cycle : w.cycle ≡ v.cycle
+  pub sweep : w.sweep ≡ v.sweep
+  pub risen : w.risen ≡ v.risen
 
 -- it counts nothing yet
 abbrev pub IsKeeper : View → Type 0

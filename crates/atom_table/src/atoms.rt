@@ -6,7 +6,7 @@ ghost use Rattle.atom_words.specs.Chains.{In};
 ghost use Rattle.atom_words.specs.Seats.{seen, Fits, Same};
 ghost use Rattle.atom_words.specs.declared.view.Held.{Held};
 ghost use Rattle.atom_words.specs.declared.kind.Kind.TheVariants.{Keep};
-ghost use Rattle.atom_table.specs.Holding.{Sits};
+ghost use Rattle.atom_table.specs.Holding.{Sits, IsEngine};
 ghost use Rattle.atom_table.specs.Opening.{fixed_slots};
 ghost use Rattle.atom_table.specs.Naming.{names, requests, those, Lawful};
 
@@ -23,6 +23,7 @@ pub struct TableAtoms<'a> {
     pub table: &'a AtomTable,
     pub seat: AtomSeat,
     pub ghost sits: { Sits table.now.words seat },
+    pub ghost engine: { IsEngine (seen seat) },
     pub ghost fixed: { (seen seat).fixed ≡ fixed_slots },
     pub ghost lawful: { Lawful (names (seen seat)) },
 }
@@ -31,6 +32,7 @@ impl<'a> TableAtoms<'a> {
     /// The atoms that the seat holds. It is an engine's seat of that table, between its calls.
     pub fn new(table: &'a AtomTable, seat: AtomSeat) -> TableAtoms<'a>
         requires sits { Sits table.now.words seat }
+        requires engine { IsEngine (seen seat) }
         requires fixed { (seen seat).fixed ≡ fixed_slots }
         ensures { (result.table.now ≡ table.now) × (result.seat ≡ seat) }
     {
@@ -41,6 +43,7 @@ impl<'a> TableAtoms<'a> {
     pub fn into_seat(self) -> AtomSeat
         ensures seat { result ≡ self.entry.seat }
         ensures sits { Sits self.entry.table.now.words result × ((seen result).fixed ≡ fixed_slots) }
+        ensures engine { IsEngine (seen result) }
     {
         self.seat
     }

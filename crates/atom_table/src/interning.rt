@@ -3,7 +3,7 @@ ghost use Rattle.std.specs.Prelude.{◌≡◌, ◌≤◌, ◌++◌, false, [], �
 ghost use Rattle.pl_term.specs.Texts.{size};
 ghost use Rattle.atom_words.specs.Texts.{bucket};
 ghost use Rattle.atom_words.specs.Kinds.{view_after, after};
-ghost use Rattle.atom_words.specs.Seats.{seen, Fits, Same};
+ghost use Rattle.atom_words.specs.Seats.{seen, Fits, Same, Walking};
 ghost use Rattle.atom_words.specs.declared.kind.Kind.TheVariants.{Ask};
 ghost use Rattle.bucket_rows.specs.Walks.{spelled, Missing};
 ghost use Rattle.atom_api.specs.Interns.{refused};
@@ -66,6 +66,7 @@ impl AtomTable {
         requires fits { Fits self.now.words seat.old }
         requires short { size text.now ≤ 248 }
         requires none { (seen seat.old).own ≡ None }
+        requires walking { Walking (seen seat.old) }
         requires missing { Missing (spelled text.now) (bucket 8 (spelled text.now)) (seen seat.old) }
         ensures same { Same seat.old seat.new }
         ensures told { Told text.now (bucket 8 (spelled text.now)) (seen seat.old) result (seen seat.new) }
@@ -89,6 +90,7 @@ impl AtomTable {
         requires fits { Fits self.now.words seat.old }
         requires short { size text.now ≤ 248 }
         requires none { (seen seat.old).own ≡ None }
+        requires walking { Walking (seen seat.old) }
         ensures same { Same seat.old seat.new }
         ensures told { Told text.now (bucket 8 (spelled text.now)) (seen seat.old) result (seen seat.new) }
         ensures request { (seen seat.new).asked ≡ asked_after (spelled text.now) result (seen seat.old).asked }
@@ -105,7 +107,7 @@ impl AtomTable {
     }
 
     /// The atom of a text, which the seat holds from then on. Equal texts have equal atoms while one is held. It asks that
-    /// the seat has no slot reserved.
+    /// the seat has no slot reserved, and is an engine's.
     ///
     /// # Errors
     /// In the order in which they are looked for:
@@ -120,9 +122,11 @@ impl AtomTable {
     /// After each of them what is held is as before, and no slot is left reserved. All but `TooLong` are appended to the
     /// seat's refusals.
     pub fn intern(&self, seat: &mut AtomSeat, text: &Text) -> Interned
-        requires { Sits self.now.words seat.old }
+        requires sits { Sits self.now.words seat.old }
+        requires walking { Walking (seen seat.old) }
         ensures same { Same seat.old seat.new }
         ensures sits { Sits self.now.words seat.new }
+        ensures walking { Walking (seen seat.new) }
         ensures answer { Answers text.now (bucket 8 (spelled text.now)) (seen seat.old) result (seen seat.new) }
         ensures rest { Rest (seen seat.old) (seen seat.new) }
         ensures refusal { (seen seat.new).refusals ≡ (seen seat.old).refusals ++ refused result }

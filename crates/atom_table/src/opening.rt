@@ -3,11 +3,12 @@ ghost use Rattle.std.specs.Prelude.{◌≡◌, ◌^◌, ◌<◌, ◌≤◌, ◌+
 ghost use Rattle.std.specs.Str.{all_scalars};
 ghost use Rattle.pl_term.specs.Texts.{size};
 ghost use Rattle.atom_words.specs.Texts.{bucket};
-ghost use Rattle.atom_words.specs.Kinds.{fresh, after};
+ghost use Rattle.atom_words.specs.Kinds.{Sitting, fresh, after};
 ghost use Rattle.atom_words.specs.Opening.{Allowed};
 ghost use Rattle.atom_words.specs.Plays.{Alone};
-ghost use Rattle.atom_words.specs.Seats.{seen, Fits, Same, Unchanged};
+ghost use Rattle.atom_words.specs.Seats.{seen, Fits, Same, Unchanged, Walking};
 ghost use Rattle.atom_words.specs.declared.kind.Kind.TheVariants.{Fix};
+ghost use Rattle.atom_api.specs.Fixed.{fixed_count};
 ghost use Rattle.bucket_rows.specs.Walks.{spelled, Missing};
 ghost use Rattle.atom_table.specs.Holding.{Sits};
 ghost use Rattle.atom_table.specs.Opening.{fixed_slots, FreshFrom, Source, IsKeeper, Stays, Placed, Carries, Low};
@@ -15,14 +16,12 @@ ghost use Rattle.atom_table.specs.Opening.{fixed_slots, FreshFrom, Source, IsKee
 use crate::making::add_text;
 use crate::seats::{Collector, Keeper};
 use crate::table::AtomTable;
+use atom_api::fixed::COUNT;
 use atom_api::fixed_atoms;
 use atom_words::{AtomSeat, Fixing, Size, Words};
 use bucket_rows::walk;
 use pl_term::{Memory, Text};
 use std::alloc::Global;
-
-/// How many slots are for the fixed atoms.
-const FIXED: u64 = 193;
 
 /// A new table, a seat for each engine, in the order of their numbers from 1 on, and the keeper's and the collector's.
 #[derive(Drop)]
@@ -40,7 +39,7 @@ fn table_size(slots: u32, engines: u32, start: u64) -> Size
     requires engines { engines ≤ 64 }
     requires start { start < 2 ^ 42 }
     ensures allowed { Allowed result }
-    ensures size { (result.slots ≡ slots) × (result.engines ≡ engines) × (result.start ≡ start) × (result.fixed ≡ 193) }
+    ensures size { (result.slots ≡ slots) × (result.engines ≡ engines) × (result.start ≡ start) × (result.fixed ≡ fixed_count) }
 {
     let mut row: u64 = 512;
     for _i in 0..11 {
@@ -53,7 +52,7 @@ fn table_size(slots: u32, engines: u32, start: u64) -> Size
         engines: engines as u64,
         heads: 2 * row - 256,
         start,
-        fixed: FIXED,
+        fixed: COUNT as u64,
     }
 }
 
@@ -62,6 +61,7 @@ fn settle(words: &Words, seat: &mut AtomSeat, slot: u32, text: &Text) -> Result<
     requires fits { Fits words.now seat.old }
     requires short { size text.now ≤ 248 }
     requires own { (seen seat.old).own ≡ Some (fresh slot) }
+    requires sitting { Sitting (seen seat.old) }
     requires missing { Missing (spelled text.now) (bucket 8 (spelled text.now)) (seen seat.old) }
     ensures same { Same seat.old seat.new }
     ensures placed { IfOk result (λ _. ((seen seat.new).held ≡ (seen seat.old).held ++ record { slot = slot; text = spelled text.now } ∷ []) × Alone (seen seat.old) slot (spelled text.now) × (slot < words.now.size.slots) × ((seen seat.new).own ≡ None) × Carries (seen seat.old) (seen seat.new)) }
@@ -78,6 +78,7 @@ fn take_fixed(words: &Words, seat: &mut AtomSeat, slot: u32, text: &Text) -> Res
     requires slot { slot < words.now.size.slots }
     requires short { size text.now ≤ 248 }
     requires none { (seen seat.old).own ≡ None }
+    requires sitting { Sitting (seen seat.old) }
     requires missing { Missing (spelled text.now) (bucket 8 (spelled text.now)) (seen seat.old) }
     ensures same { Same seat.old seat.new }
     ensures placed { IfOk result (λ _. Placed (spelled text.now) slot (seen seat.old) (seen seat.new)) }
@@ -92,6 +93,7 @@ fn take_fixed(words: &Words, seat: &mut AtomSeat, slot: u32, text: &Text) -> Res
 fn place_fixed(words: &Words, seat: &mut AtomSeat, slot: u32, text: &Text) -> Result<(), Memory>
     requires fits { Fits words.now seat.old }
     requires none { (seen seat.old).own ≡ None }
+    requires walking { Walking (seen seat.old) }
     ensures same { Same seat.old seat.new }
     ensures placed { IfOk result (λ _. Placed (spelled text.now) slot (seen seat.old) (seen seat.new)) }
     ensures fixed { IfOk result (λ _. (slot < 256) × (size text.now ≤ 248) × (all_scalars text.now ≡ true)) }
@@ -113,6 +115,7 @@ fn place_fixed(words: &Words, seat: &mut AtomSeat, slot: u32, text: &Text) -> Re
 fn place_all(alloc: Global, words: &Words, seat: &mut AtomSeat) -> Result<(), Memory>
     requires sits { Sits words.now seat.old }
     requires none { (seen seat.old).held ≡ [] }
+    requires walking { Walking (seen seat.old) }
     ensures same { Same seat.old seat.new }
     ensures sits { IfOk result (λ _. Sits words.now seat.new) }
     ensures stays { IfOk result (λ _. Stays (seen seat.old) (seen seat.new)) }
@@ -129,11 +132,16 @@ fn place_all(alloc: Global, words: &Words, seat: &mut AtomSeat) -> Result<(), Me
 fn raise_all(words: &Words, seat: &mut AtomSeat) -> Result<(), Memory>
     requires fits { Fits words.now seat.old }
     requires first { 0 < (seen seat.old).undealt }
+    requires none { (seen seat.old).risen ≡ 0 }
     ensures same { Same seat.old seat.new }
     ensures unchanged { Unchanged (seen seat.old) (seen seat.new) }
+    ensures risen { IfOk result (λ _. (seen seat.new).risen ≡ 256) }
 {
     for head in 0..256u32 {
-        words.raise(seat, head).map_err(|_| Memory)?;
+        match words.raise(seat, head) {
+            Ok(()) => {}
+            Err(_) => return Err(Memory),
+        }
     }
     Ok(())
 }
@@ -168,7 +176,7 @@ fn deal_all(
 
 impl AtomTable {
     /// A new table with room for `slots` atoms, from 512 to 1,048,576, and seats for `engines` engines, from 1 to 64. The
-    /// fixed atoms are in it. The only error is want of memory.
+    /// fixed atoms are in it. The only error is out of memory.
     pub fn new(alloc: Global, slots: u32, engines: u32) -> Result<Opened, Memory>
         requires slots { (512 ≤ slots) × (slots ≤ 1048576) }
         requires engines { (1 ≤ engines) × (engines ≤ 64) }
@@ -176,12 +184,14 @@ impl AtomTable {
         ensures seats { IfOk result (λ o. (length o.seats.items ≡ engines) × FreshFrom o.table.words 1 o.seats.items) }
         ensures keeper { IfOk result (λ o. Sits o.table.words o.keeper.seat × IsKeeper (seen o.keeper.seat)) }
         ensures collector { IfOk result (λ o. Sits o.table.words o.collector.seat) }
+        ensures versions { IfOk result (λ o. (seen o.keeper.seat).risen ≡ 256) }
     {
         AtomTable::new_at(alloc, slots, engines, 0)
     }
 
     /// The same, where the version of each bucket begins at the number given, which is below 2^42. The fixed atoms are linked
-    /// before the versions are raised to it, so that they are there whatever it is.
+    /// before the versions are raised to it, so that they are there whatever it is. Each seat but the collector's knows that
+    /// the version of each of the 256 heads is that number or a later one.
     pub fn new_at(alloc: Global, slots: u32, engines: u32, version: u64) -> Result<Opened, Memory>
         requires slots { (512 ≤ slots) × (slots ≤ 1048576) }
         requires engines { (1 ≤ engines) × (engines ≤ 64) }
@@ -190,14 +200,15 @@ impl AtomTable {
         ensures seats { IfOk result (λ o. (length o.seats.items ≡ engines) × FreshFrom o.table.words 1 o.seats.items) }
         ensures keeper { IfOk result (λ o. Sits o.table.words o.keeper.seat × IsKeeper (seen o.keeper.seat)) }
         ensures collector { IfOk result (λ o. Sits o.table.words o.collector.seat) }
+        ensures versions { IfOk result (λ o. (seen o.keeper.seat).risen ≡ 256) }
     {
         let size = table_size(slots, engines, version);
         let (words, mut first) = Words::new(alloc, size)?;
+        let collector = words.part_collector(&mut first);
         place_all(alloc, &words, &mut first)?;
         raise_all(&words, &mut first)?;
         fix(&words, &mut first);
         let keeper = words.part_keeper(&mut first);
-        let collector = words.part_collector(&mut first);
         let seats = deal_all(alloc, &words, &mut first, engines)?;
         Ok(Opened {
             table: AtomTable { words },

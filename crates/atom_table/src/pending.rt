@@ -2,7 +2,8 @@
 ghost use Rattle.std.specs.Prelude.{◌≡◌, ◌≤◌, ◌<◌, true, false, Some, None, IfOk};
 ghost use Rattle.pl_term.specs.Texts.{size};
 ghost use Rattle.atom_words.specs.Texts.{bucket};
-ghost use Rattle.atom_words.specs.Seats.{seen, Fits};
+ghost use Rattle.atom_words.specs.Kinds.{Sitting};
+ghost use Rattle.atom_words.specs.Seats.{seen, Fits, Walking};
 ghost use Rattle.atom_words.specs.declared.view.Own.{Own};
 ghost use Rattle.bucket_rows.specs.Walks.{spelled, Missing, Ready};
 
@@ -23,9 +24,10 @@ fn take(words: &Words, seat: &mut AtomSeat, slot: u32, text: &Text) -> bool
     requires short { size text.now ≤ 248 }
     requires slot { slot < words.now.size.slots }
     requires none { (seen seat.old).own ≡ None }
+    requires walking { Walking (seen seat.old) }
     requires missing { Missing (spelled text.now) (bucket 8 (spelled text.now)) (seen seat.old) }
     ensures fits { Fits words.now seat.new }
-    ensures ready { result ≡ true → Ready (seen seat.new) }
+    ensures ready { result ≡ true → Ready (seen seat.new) × Walking (seen seat.new) }
 {
     match words.reserve(seat, slot) {
         Ok(()) => {
@@ -42,8 +44,9 @@ fn make_ready(words: &Words, seat: &mut AtomSeat, slot: u32, text: &Text) -> boo
     requires short { size text.now ≤ 248 }
     requires slot { slot < words.now.size.slots }
     requires none { (seen seat.old).own ≡ None }
+    requires walking { Walking (seen seat.old) }
     ensures fits { Fits words.now seat.new }
-    ensures ready { result ≡ true → Ready (seen seat.new) }
+    ensures ready { result ≡ true → Ready (seen seat.new) × Walking (seen seat.new) }
 {
     match walk(words, seat, text) {
         Ok(found) => match found {
@@ -57,9 +60,10 @@ fn make_ready(words: &Words, seat: &mut AtomSeat, slot: u32, text: &Text) -> boo
 // Links the slot that was made ready.
 fn links(words: &Words, seat: &mut AtomSeat) -> bool
     requires fits { Fits words.now seat.old }
-    requires ready { Ready (seen seat.old) }
+    requires ready { Ready (seen seat.old) × Walking (seen seat.old) }
     ensures fits { Fits words.now seat.new }
     ensures linked { (o : Own) × ((seen seat.new).own ≡ Some o) × (o.linked ≡ result) }
+    ensures sitting { Sitting (seen seat.new) }
 {
     match link(words, seat) {
         Ok(()) => true,

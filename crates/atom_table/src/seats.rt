@@ -1,6 +1,6 @@
 //! The keeper's and the collector's seats, and what the keeper's seat does.
 ghost use Rattle.std.specs.Prelude.{◌≡◌, ℕ, ◌<◌, List, [], ◌∷◌, Some};
-ghost use Rattle.atom_words.specs.Kinds.{after, counted};
+ghost use Rattle.atom_words.specs.Kinds.{Sitting, after, counted};
 ghost use Rattle.atom_words.specs.Views.{with_keeper, without_keeper, keeper_of};
 ghost use Rattle.atom_words.specs.Seats.{seen, Same, Has};
 ghost use Rattle.atom_words.specs.declared.view.Held.{Held};
@@ -73,10 +73,11 @@ impl AtomTable {
         self.words.unregister(seat, a.slot());
     }
 
-    /// Holds an atom that is counted, by one exchange. The seat carries the keeper's. Afterwards it holds the atom with the
-    /// keeper's text.
+    /// Holds an atom that is counted, by one exchange. The seat is an engine's, and carries the keeper's. Afterwards it holds
+    /// the atom with the keeper's text.
     pub fn fetch(&self, seat: &mut AtomSeat, a: Atom)
         requires sits { Sits self.now.words seat.old }
+        requires sitting { Sitting (seen seat.old) }
         requires counted { (cs : List Counted) × ((seen seat.old).counts ≡ Some cs) × (0 < (counted cs a).count) }
         ensures same { Same seat.old seat.new }
         ensures steps { seen seat.new ≡ after (seen seat.old) (Fetch a ∷ []) }

@@ -2,9 +2,9 @@
 ghost use Rattle.std.specs.Prelude.{◌≡◌, ◌<◌, List, replicate, Some, IfSome};
 ghost use Rattle.atom_words.specs.Views.{uncounted};
 ghost use Rattle.atom_words.specs.Kinds.{counted};
-ghost use Rattle.atom_words.specs.Seats.{seen};
+ghost use Rattle.atom_words.specs.Seats.{seen, Walking};
 ghost use Rattle.atom_words.specs.declared.view.Counted.{Counted};
-ghost use Rattle.atom_table.specs.Holding.{Sits};
+ghost use Rattle.atom_table.specs.Holding.{Sits, IsEngine};
 ghost use Rattle.atom_table.specs.Opening.{fixed_slots, FreshFrom, IsKeeper};
 
 use crate::atoms::TableAtoms;
@@ -25,13 +25,16 @@ pub fn take_last(table: &AtomTable, seats: &mut Vec<AtomSeat>) -> Option<AtomSea
     ensures rest { FreshFrom table.now.words 1 seats.new.items }
     ensures sits { IfSome result (λ s. Sits table.now.words s) }
     ensures fixed { IfSome result (λ s. (seen s).fixed ≡ fixed_slots) }
+    ensures walking { IfSome result (λ s. Walking (seen s)) }
+    ensures engine { IfSome result (λ s. IsEngine (seen s)) }
 {
     seats.pop()
 }
 
 // The atoms of that seat.
-fn of_last<'a>(table: &'a AtomTable, seats: &mut Vec<AtomSeat>) -> Option<TableAtoms<'a>>
+pub fn of_last<'a>(table: &'a AtomTable, seats: &mut Vec<AtomSeat>) -> Option<TableAtoms<'a>>
     requires { FreshFrom table.now.words 1 seats.old.items }
+    ensures { FreshFrom table.now.words 1 seats.new.items }
 {
     match take_last(table, seats) {
         Some(seat) => Some(TableAtoms::new(table, seat)),
@@ -46,22 +49,26 @@ fn intern(
     seat: &mut AtomSeat,
     s: &str,
 ) -> Result<Interned, Memory>
-    requires { Sits table.now.words seat.old }
-    ensures { Sits table.now.words seat.new }
+    requires sits { Sits table.now.words seat.old }
+    requires walking { Walking (seen seat.old) }
+    ensures sits { Sits table.now.words seat.new }
+    ensures walking { Walking (seen seat.new) }
 {
     let text = Text::from_str(alloc, s)?;
     Ok(table.intern(seat, &text))
 }
 
-// The answer on the letter `a` with a number behind it.
+// The answer on the letter `a` with a number after it.
 fn intern_numbered(
     alloc: Global,
     table: &AtomTable,
     seat: &mut AtomSeat,
     number: u32,
 ) -> Result<Interned, Memory>
-    requires { Sits table.now.words seat.old }
-    ensures { Sits table.now.words seat.new }
+    requires sits { Sits table.now.words seat.old }
+    requires walking { Walking (seen seat.old) }
+    ensures sits { Sits table.now.words seat.new }
+    ensures walking { Walking (seen seat.new) }
 {
     let name = format!(in alloc; "a{number}")?;
     intern(alloc, table, seat, name.as_str())
@@ -69,8 +76,10 @@ fn intern_numbered(
 
 // How many of the texts from `a1` to `a256` are answered with an atom.
 fn fill(alloc: Global, table: &AtomTable, seat: &mut AtomSeat) -> Result<u32, Memory>
-    requires { Sits table.now.words seat.old }
-    ensures { Sits table.now.words seat.new }
+    requires sits { Sits table.now.words seat.old }
+    requires walking { Walking (seen seat.old) }
+    ensures sits { Sits table.now.words seat.new }
+    ensures walking { Walking (seen seat.new) }
 {
     let mut made = 0;
     for i in 0..256u32 {
@@ -171,6 +180,7 @@ fn a_text_of_249_bytes_is_too_long(rt: HostRuntime) -> Result<(), Fail> {
 // Interns a text, and counts its atom once.
 fn register_text(table: &AtomTable, seat: &mut AtomSeat, text: &Text) -> Option<Atom>
     requires sits { Sits table.now.words seat.old }
+    requires walking { Walking (seen seat.old) }
     requires counts { (seen seat.old).counts ≡ Some (replicate (seen seat.old).size.slots uncounted) }
     ensures sits { Sits table.now.words seat.new }
     ensures counted { IfSome result (λ a. (cs : List Counted) × ((seen seat.new).counts ≡ Some cs) × (0 < (counted cs a).count)) }
@@ -187,8 +197,10 @@ fn register_text(table: &AtomTable, seat: &mut AtomSeat, text: &Text) -> Option<
 // Holds a counted atom, and counts it once less.
 fn fetch_and_unregister(table: &AtomTable, seat: &mut AtomSeat, a: Atom)
     requires sits { Sits table.now.words seat.old }
+    requires walking { Walking (seen seat.old) }
     requires counted { (cs : List Counted) × ((seen seat.old).counts ≡ Some cs) × (0 < (counted cs a).count) }
-    ensures { Sits table.now.words seat.new }
+    ensures sits { Sits table.now.words seat.new }
+    ensures walking { Walking (seen seat.new) }
 {
     table.fetch(seat, a);
     table.unregister(seat, a);
@@ -202,11 +214,11 @@ fn hand_over(
     two: &mut AtomSeat,
     text: &Text,
 ) -> Option<Atom>
-    requires one { Sits table.now.words one.old }
-    requires two { Sits table.now.words two.old }
+    requires one { Sits table.now.words one.old × Walking (seen one.old) }
+    requires two { Sits table.now.words two.old × Walking (seen two.old) }
     requires keeper { Sits table.now.words keeper.seat × IsKeeper (seen keeper.seat) }
     ensures one { Sits table.now.words one.new }
-    ensures two { Sits table.now.words two.new }
+    ensures two { Sits table.now.words two.new × Walking (seen two.new) }
 {
     table.with_both(one, keeper);
     match register_text(table, one, text) {

@@ -1,10 +1,12 @@
 //! Eight threads intern the same texts in different orders, and have one atom for each.
 ghost use Rattle.std.specs.Prelude.{IfOk, vec_len, ◌≡◌};
-ghost use Rattle.atom_table.specs.Holding.{Sits};
+ghost use Rattle.atom_table.specs.Opening.{FreshFrom};
 
+use crate::atoms::TableAtoms;
 use crate::opening::Opened;
 use crate::table::AtomTable;
-use atom_api::Interned;
+use crate::tests::of_last;
+use atom_api::{Atoms, Interned};
 use atom_words::AtomSeat;
 use pl_term::{Memory, Text};
 use std::alloc::Global;
@@ -19,12 +21,9 @@ const SLOTS: usize = 4096;
 const STRIDES: [u8; 8] = [1, 3, 7, 9, 11, 13, 17, 19];
 
 // The slot of a text, which is tried as often as other threads step in between.
-fn slot_of(table: &AtomTable, seat: &mut AtomSeat, text: &Text) -> Option<u32>
-    requires { Sits table.now.words seat.old }
-    ensures { Sits table.now.words seat.new }
-{
+fn slot_of(atoms: &mut TableAtoms, text: &Text) -> Option<u32> {
     for _i in 0..10_000_000u32 {
-        match table.intern(seat, text) {
+        match atoms.intern(text) {
             Interned::Is(a) => return Some(a.slot()),
             Interned::Again(_) => {}
             _ => return None,
@@ -35,20 +34,39 @@ fn slot_of(table: &AtomTable, seat: &mut AtomSeat, text: &Text) -> Option<u32>
 
 // The slots of all texts, as one thread finds them. It begins at another text than the others, and goes on by a stride of
 // its own.
-fn intern_all(alloc: Global, table: &AtomTable, thread: usize) -> Result<Vec<u32>, Memory> {
-    let mut seat = table.words.make();
+fn intern_all(alloc: Global, atoms: &mut TableAtoms) -> Result<Vec<u32>, Memory> {
     let mut slots = Vec::from_elem(alloc, 0u32, TEXTS)?;
-    let stride = STRIDES[thread % 8] as usize;
+    let thread = (atoms.seat.engine % 8) as usize;
+    let stride = STRIDES[thread] as usize;
     for i in 0..TEXTS {
-        let place = (250 * (thread % 8) + stride * i) % TEXTS;
+        let place = (250 * thread + stride * i) % TEXTS;
         let name = format!(in alloc; "t{place}")?;
         let text = Text::from_str(alloc, name.as_str())?;
-        let Some(slot) = slot_of(table, &mut seat, &text) else {
+        let Some(slot) = slot_of(atoms, &text) else {
             return Err(Memory);
         };
         slots[place] = slot;
     }
     Ok(slots)
+}
+
+// The atoms of eight engines.
+fn eight<'a>(
+    alloc: Global,
+    table: &'a AtomTable,
+    seats: &mut Vec<AtomSeat>,
+) -> Result<Vec<TableAtoms<'a>>, Memory>
+    requires { FreshFrom table.now.words 1 seats.old.items }
+    ensures { IfOk result (λ _. FreshFrom table.now.words 1 seats.new.items) }
+{
+    let mut all = Vec::new(alloc);
+    for _i in 0..8u32 {
+        match of_last(table, seats) {
+            Some(atoms) => all.push(atoms)?,
+            None => return Err(Memory),
+        }
+    }
+    Ok(all)
 }
 
 // Whether no slot stands twice in the list.
@@ -84,18 +102,21 @@ fn eight_threads_have_one_atom_for_each_text(rt: HostRuntime) -> Result<(), Fail
     let alloc = rt.alloc();
     let Opened {
         table,
-        seats: _,
+        mut seats,
         keeper: _,
         collector: _,
-    } = AtomTable::new(alloc, SLOTS as u32, 8)?;
-    let shared = &table;
-    let found = thread::map_indices(
+    } = AtomTable::new(alloc, SLOTS as u32, 9)?;
+    let all = eight(alloc, &table, &mut seats)?;
+    let mut last = of_last(&table, &mut seats).ok_or("a seat")?;
+    let found = thread::map_vec(
         &rt,
-        alloc,
-        8,
-        &|i: usize| -> Result<Vec<u32>, Memory> { intern_all(alloc, shared, i) },
+        all,
+        &|atoms: TableAtoms| -> Result<Vec<u32>, Memory> {
+            let mut atoms = atoms;
+            intern_all(alloc, &mut atoms)
+        },
     )?;
-    let again = intern_all(alloc, &table, 0)?;
+    let again = intern_all(alloc, &mut last)?;
     assert!(rt; agree(found.as_slice(), again.as_slice()));
     assert!(rt; differ(alloc, again.as_slice())?);
     Ok(())

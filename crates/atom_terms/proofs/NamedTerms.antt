@@ -60,7 +60,7 @@ named_atom text f (Atom a ∷ ns) rest e =
     record { term = atom (atom_name a); left = ns; spells = refl; left_is = cc; means = let same : text a ≡ f = cc in ap atom same }
 named_atom text f (Comp a k ∷ ns) rest e = absurd (let no : ⊥ = cc in no)
 
--- The node of a compound term, with what is behind it.
+-- The node of a compound term, with what is after it.
 record Opens (text : ℕ → Chars) (f : Chars) (k : ℕ) (ns : List AtomNode) (rest : List Node) : Type 0 where
   pub name : ℕ
   pub behind : List AtomNode

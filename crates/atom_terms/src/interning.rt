@@ -26,7 +26,7 @@ pub enum NoTerm {
     TooLong,
     /// One of its names is of a bucket that takes no new atom.
     Worn(WornWord),
-    /// Want of memory.
+    /// Out of memory.
     Memory,
 }
 

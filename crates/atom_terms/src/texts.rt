@@ -10,7 +10,7 @@ use pl_term::{Flat, Memory, Node, Text};
 use std::alloc::Global;
 use term_store::{AtomNode, Stored};
 
-/// The term with texts for which a term over atoms stands, all of which are held. The only error is want of memory.
+/// The term with texts for which a term over atoms stands, all of which are held. The only error is out of memory.
 pub fn with_texts<A: Atoms>(alloc: Global, t: &Stored, atoms: &mut A) -> Result<Flat, Memory>
     requires { All (λ a. IsSome (A.held atoms.old a)) (names_of t.now) }
     ensures term { IfOk result (λ f. f ≡ term_by (text_of (A.held atoms.old)) t.now) }

@@ -27,9 +27,9 @@ atom_held n s p a t e is =
 -- The answer with the atom and the term at a place.
 pub made_parts : (m n : Names) (s t : Contents) (next : ℕ) (a : ℕ) (text : Chars) (p q : Place) (ps : List Place) → Keeps m n → n a ≡ Some text → t ≡ charged s 0 → ps ≡ p ∷ (q ∷ [])
     → ((u : Contents) → Holds u p × (term_at u p ≡ atom (atom_name a))) → Holds s q → IsHeldAt m s q
-    → ((two (atom text) (reads m s q) ∷ []) ≡ (terms_at n t ps ∷ [])) × (Makes s next zero 0 t × ArePlaced n t ps)
+    → ((two (atom text) (reads m s q) ∷ []) ≡ (terms_at n t ps ∷ [])) × ((zero ≡ zero) × (Makes s next zero 0 t × ArePlaced n t ps))
 made_parts m n s t next a text p q ps keeps e same is place hq mq =
-    subst (λ (u : Contents). ((two (atom text) (reads m s q) ∷ []) ≡ (terms_at n u ps ∷ [])) × (Makes s next zero 0 u × ArePlaced n u ps)) (sym same)
+    subst (λ (u : Contents). ((two (atom text) (reads m s q) ∷ []) ≡ (terms_at n u ps ∷ [])) × ((zero ≡ zero) × (Makes s next zero 0 u × ArePlaced n u ps))) (sym same)
     (answer_parts n s (charged s 0) next 0 (two (atom text) (reads m s q)) p q ps is
     (ap₂ two (sym (atom_reads n (charged s 0) p a text e (place (charged s 0)).1)) (sym (reads_kept m n keeps s q mq)))
     (makes_charged next s 0) (place (charged s 0)).0 hq (atom_held n (charged s 0) p a text e (place (charged s 0)).1) (held_kept m n keeps s q mq))

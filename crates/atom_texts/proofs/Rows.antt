@@ -79,11 +79,11 @@ charged_none s = ap (λ n. let t : Contents = record { heap = s.heap; used = n; 
 -- The answer with the terms at two places.
 pub answer_parts : (n : Names) (s t : Contents) (next k : ℕ) (us : Trees) (p q : Place) (ps : List Place) → ps ≡ p ∷ (q ∷ []) → us ≡ pair_at n t p q
     → Makes s next zero k t → Holds t p → Holds t q → IsHeldAt n t p → IsHeldAt n t q
-    → ((us ∷ []) ≡ (terms_at n t ps ∷ [])) × (Makes s next zero k t × ArePlaced n t ps)
+    → ((us ∷ []) ≡ (terms_at n t ps ∷ [])) × ((zero ≡ zero) × (Makes s next zero k t × ArePlaced n t ps))
 answer_parts n s t next k us p q ps e is makes hp hq np nq =
-    subst (λ (xs : List Place). ((us ∷ []) ≡ (terms_at n t xs ∷ [])) × (Makes s next zero k t × ArePlaced n t xs)) (sym e) (
+    subst (λ (xs : List Place). ((us ∷ []) ≡ (terms_at n t xs ∷ [])) × ((zero ≡ zero) × (Makes s next zero k t × ArePlaced n t xs))) (sym e) (
       ap (λ x. x ∷ []) is,
-      (makes, record { inside = two_places t p q hp hq; held = All-cons (IsHeldAt n t) p (q ∷ []) np (All-cons (IsHeldAt n t) q [] nq (All-nil (IsHeldAt n t))) }),
+      (refl, (makes, record { inside = two_places t p q hp hq; held = All-cons (IsHeldAt n t) p (q ∷ []) np (All-cons (IsHeldAt n t) q [] nq (All-nil (IsHeldAt n t))) })),
     )
 
 -- A row that hands on no refusal of an atom.
@@ -116,9 +116,9 @@ holds_row s t p ts m e fits next below =
 
 -- The answer with the terms at two places, for which cells were taken.
 pub charged_parts : (n : Names) (s t : Contents) (next k : ℕ) (p q : Place) (ps : List Place) → t ≡ charged s k → ps ≡ p ∷ (q ∷ []) → Holds s p → Holds s q
-    → IsHeldAt n s p → IsHeldAt n s q → ((pair_at n s p q ∷ []) ≡ (terms_at n t ps ∷ [])) × (Makes s next zero k t × ArePlaced n t ps)
+    → IsHeldAt n s p → IsHeldAt n s q → ((pair_at n s p q ∷ []) ≡ (terms_at n t ps ∷ [])) × ((zero ≡ zero) × (Makes s next zero k t × ArePlaced n t ps))
 charged_parts n s t next k p q ps e is hp hq np nq =
-    subst (λ (u : Contents). ((pair_at n s p q ∷ []) ≡ (terms_at n u ps ∷ [])) × (Makes s next zero k u × ArePlaced n u ps)) (sym e)
+    subst (λ (u : Contents). ((pair_at n s p q ∷ []) ≡ (terms_at n u ps ∷ [])) × ((zero ≡ zero) × (Makes s next zero k u × ArePlaced n u ps))) (sym e)
     (answer_parts n s (charged s k) next k (pair_at n s p q) p q ps is refl (makes_charged next s k) hp hq np nq)
 
 -- The row of a call, which is one of a row of the definition.

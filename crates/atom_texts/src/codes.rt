@@ -5,7 +5,7 @@ ghost use Rattle.term_store.specs.Contents.{Contents, Holds, term_at};
 ghost use Rattle.world_api.specs.Texts.{Holds as Keeps};
 ghost use Rattle.world_builtins.specs.Naming.{IsHeldAt};
 ghost use Rattle.world_builtins.specs.Spelling.{reads};
-ghost use Rattle.builtin_rows.specs.Rows.{refusals_of};
+ghost use Rattle.builtin_rows.specs.Rows.{IsSingle, refusals_of};
 ghost use Rattle.atom_texts.specs.declared.forms.Fault.{Fault};
 ghost use Rattle.atom_texts.specs.Answering.{Asks, Gives};
 ghost use Rattle.atom_texts.specs.Forms.{IsFaultOf, IsRead};
@@ -22,7 +22,7 @@ use term_store::{Place, Store};
 
 /// char_code/2 (ISO 8.16.6): the second argument is the code of the character that is the first one. At least one of them is
 /// bound. What is bound but no character is refused in the first place, and in the second one what is bound but no integer, and
-/// an integer that is no code of a character. The only error is want of memory.
+/// an integer that is no code of a character. The only error is out of memory.
 pub fn char_code<A: Atoms>(
     alloc: Global,
     store: &mut Store,
@@ -37,6 +37,7 @@ pub fn char_code<A: Atoms>(
     ensures row { IfOk result (Gives (A.held atoms.old) store.old (codes "char_code") codes_character character code (A.held atoms.new) store.new) }
     ensures holds { Keeps (A.held atoms.old) (A.held atoms.new) }
     ensures refusals { A.refusals atoms.new ≡ A.refusals atoms.old ++ refusals_of result }
+    ensures single { IfOk result IsSingle }
     ensures asked { Asks (A.held atoms.old) store.old (codes "char_code") codes_character character code (A.asked atoms.old) (A.asked atoms.new) }
 {
     let first = read_element(Form::Characters, store, character, atoms);
@@ -52,7 +53,7 @@ pub fn char_code<A: Atoms>(
     }
 }
 
-/// The same where the first argument is a variable. The only error is want of memory.
+/// The same where the first argument is a variable. The only error is out of memory.
 fn of_code<A: Atoms>(
     alloc: Global,
     store: &mut Store,
@@ -68,6 +69,7 @@ fn of_code<A: Atoms>(
     ensures row { IfOk result (Gives (A.held atoms.old) store.old (codes "char_code") codes_character character code (A.held atoms.new) store.new) }
     ensures holds { Keeps (A.held atoms.old) (A.held atoms.new) }
     ensures refusals { A.refusals atoms.new ≡ A.refusals atoms.old ++ refusals_of result }
+    ensures single { IfOk result IsSingle }
     ensures asked { Asks (A.held atoms.old) store.old (codes "char_code") codes_character character code (A.asked atoms.old) (A.asked atoms.new) }
 {
     match second {
@@ -79,7 +81,7 @@ fn of_code<A: Atoms>(
     }
 }
 
-/// The same where the first argument is a character. The only error is want of memory.
+/// The same where the first argument is a character. The only error is out of memory.
 fn of_character<A: Atoms>(
     alloc: Global,
     store: &mut Store,
@@ -95,6 +97,7 @@ fn of_character<A: Atoms>(
     requires held { IsHeldAt (A.held atoms.now) store.old character }
     ensures row { IfOk result (Gives (A.held atoms.now) store.old (codes "char_code") codes_character character code (A.held atoms.now) store.new) }
     ensures refusals { refusals_of result ≡ [] }
+    ensures single { IfOk result IsSingle }
 {
     match second {
         Read::Bad(fault) => {

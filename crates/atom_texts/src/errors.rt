@@ -10,7 +10,7 @@ ghost use Rattle.atom_api.specs.Names.{Names, FixedStand};
 ghost use Rattle.term_store.specs.Contents.{Holds};
 ghost use Rattle.world_builtins.specs.Naming.{IsHeldAt};
 ghost use Rattle.world_builtins.specs.Spelling.{reads};
-ghost use Rattle.builtin_rows.specs.Rows.{refusals_of};
+ghost use Rattle.builtin_rows.specs.Rows.{IsSingle, refusals_of};
 ghost use Rattle.atom_texts.specs.Answering.{IsRowOf};
 
 use atom_api::{Atom, fixed};
@@ -24,36 +24,40 @@ pub fn unbound(store: &mut Store, name: Atom) -> Result<Row, Memory>
     ensures row { IfOk result (λ r. (m : Names) (p : Chars) (ts : Trees) → FixedStand m → fixed name ≡ Some p
         → IsRowOf store.old (proc p 2) ts (error instantiation_error) m store.new r) }
     ensures refusals { refusals_of result ≡ [] }
+    ensures single { IfOk result IsSingle }
 {
     raised(store, fixed::INSTANTIATION_ERROR, name, 2)
 }
 
-/// What stands at a place is not of this type: the type error. The only error is want of memory.
+/// What stands at a place is not of this type: the type error. The only error is out of memory.
 pub fn wrong_type(store: &mut Store, kind: Atom, culprit: Place, name: Atom) -> Result<Row, Memory>
     requires { Holds store.old culprit }
     ensures row { IfOk result (λ r. (m : Names) (k p : Chars) (ts : Trees) → FixedStand m → IsHeldAt m store.old culprit → fixed kind ≡ Some k
         → fixed name ≡ Some p → IsRowOf store.old (proc p 2) ts (error (type_error k (reads m store.old culprit))) m store.new r) }
     ensures refusals { refusals_of result ≡ [] }
+    ensures single { IfOk result IsSingle }
 {
     refused_for(store, fixed::TYPE_ERROR, kind, culprit, name, 2)
 }
 
-/// The integer at a place is below zero: the domain error. The only error is want of memory.
+/// The integer at a place is below zero: the domain error. The only error is out of memory.
 pub fn below_zero(store: &mut Store, culprit: Place, name: Atom) -> Result<Row, Memory>
     requires { Holds store.old culprit }
     ensures row { IfOk result (λ r. (m : Names) (p : Chars) (ts : Trees) → FixedStand m → IsHeldAt m store.old culprit → fixed name ≡ Some p
         → IsRowOf store.old (proc p 2) ts (error (domain_error (codes "not_less_than_zero") (reads m store.old culprit))) m store.new r) }
     ensures refusals { refusals_of result ≡ [] }
+    ensures single { IfOk result IsSingle }
 {
     let kind = fixed::NOT_LESS_THAN_ZERO;
     refused_for(store, fixed::DOMAIN_ERROR, kind, culprit, name, 2)
 }
 
-/// A limit is passed: the representation error. The only error is want of memory.
+/// A limit is passed: the representation error. The only error is out of memory.
 pub fn past_limit(store: &mut Store, limit: Atom, name: Atom) -> Result<Row, Memory>
     ensures row { IfOk result (λ r. (m : Names) (k p : Chars) (ts : Trees) → FixedStand m → fixed limit ≡ Some k → fixed name ≡ Some p
         → IsRowOf store.old (proc p 2) ts (error (representation_error k)) m store.new r) }
     ensures refusals { refusals_of result ≡ [] }
+    ensures single { IfOk result IsSingle }
 {
     refused_with(store, fixed::REPRESENTATION_ERROR, limit, name, 2)
 }

@@ -8,7 +8,7 @@ ghost use Rattle.atom_api.specs.Names.{Names, FixedStand};
 ghost use Rattle.term_store.specs.Contents.{Holds};
 ghost use Rattle.world_builtins.specs.Naming.{IsHeldAt};
 ghost use Rattle.world_builtins.specs.Spelling.{reads};
-ghost use Rattle.builtin_rows.specs.Rows.{refusals_of};
+ghost use Rattle.builtin_rows.specs.Rows.{IsSingle, refusals_of};
 ghost use Rattle.atom_texts.specs.Answering.{IsRowOf};
 ghost use Rattle.atom_texts.specs.Forms.{IsBound, IsFaultHeld, IsFaultIn, IsRead, error_of};
 
@@ -105,12 +105,13 @@ pub fn is_unbound(fault: Fault) -> bool
     }
 }
 
-/// The row of the predicate with this name, where this is wrong with an element. The only error is want of memory.
+/// The row of the predicate with this name, where this is wrong with an element. The only error is out of memory.
 pub fn fault_row(store: &mut Store, fault: Fault, name: Atom) -> Result<Row, Memory>
     requires { IsFaultIn store.old fault }
     ensures row { IfOk result (λ r. (m : Names) (p : Chars) (ts : Trees) → FixedStand m → IsFaultHeld m store.old fault → fixed name ≡ Some p
         → IsRowOf store.old (proc p 2) ts (error (error_of m store.old fault)) m store.new r) }
     ensures refusals { refusals_of result ≡ [] }
+    ensures single { IfOk result IsSingle }
 {
     match fault {
         Fault::Unbound => unbound(store, name),

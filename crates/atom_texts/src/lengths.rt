@@ -5,7 +5,7 @@ ghost use Rattle.pl_model.specs.AtomBuiltins.{measures};
 ghost use Rattle.term_store.specs.Contents.{Holds, term_at};
 ghost use Rattle.term_store.specs.Heap.{atom_name};
 ghost use Rattle.world_builtins.specs.Naming.{IsHeldAt};
-ghost use Rattle.builtin_rows.specs.Rows.{refusals_of};
+ghost use Rattle.builtin_rows.specs.Rows.{IsSingle, refusals_of};
 ghost use Rattle.atom_texts.specs.Answering.{Gives};
 
 use crate::answers::{answer, unchanged};
@@ -19,7 +19,7 @@ use term_store::{Place, Store, View as Kind};
 
 /// atom_length/2 (ISO 8.16.1): the second argument is the number of characters of the atom that is the first one. A variable
 /// and what is no atom are refused in the first place, and in the second one what is neither a variable nor an integer from 0
-/// on. The only error is want of memory.
+/// on. The only error is out of memory.
 pub fn atom_length<A: Atoms>(
     alloc: Global,
     store: &mut Store,
@@ -34,6 +34,7 @@ pub fn atom_length<A: Atoms>(
     ensures row { IfOk result (Gives (A.held atoms.old) store.old (codes "atom_length") measures atom length (A.held atoms.new) store.new) }
     ensures same { A.held atoms.new ≡ A.held atoms.old }
     ensures refusals { A.refusals atoms.new ≡ A.refusals atoms.old ++ refusals_of result }
+    ensures single { IfOk result IsSingle }
     ensures asked { A.asked atoms.new ≡ A.asked atoms.old }
 {
     match store.look(atom) {
@@ -44,7 +45,7 @@ pub fn atom_length<A: Atoms>(
     }
 }
 
-/// The same for an atom in the first place. The only error is want of memory.
+/// The same for an atom in the first place. The only error is out of memory.
 fn length_of<A: Atoms>(
     alloc: Global,
     store: &mut Store,
@@ -61,6 +62,7 @@ fn length_of<A: Atoms>(
     ensures row { IfOk result (Gives (A.held atoms.old) store.old (codes "atom_length") measures atom length (A.held atoms.new) store.new) }
     ensures same { A.held atoms.new ≡ A.held atoms.old }
     ensures refusals { A.refusals atoms.new ≡ A.refusals atoms.old ++ refusals_of result }
+    ensures single { IfOk result IsSingle }
     ensures asked { A.asked atoms.new ≡ A.asked atoms.old }
 {
     match store.look(length) {

@@ -10,7 +10,7 @@ ghost use Rattle.world_api.specs.Gains.{Gains};
 ghost use Rattle.world_api.specs.Texts.{Holds as Keeps};
 ghost use Rattle.world_builtins.specs.Naming.{IsHeldAt};
 ghost use Rattle.world_builtins.specs.Spelling.{reads};
-ghost use Rattle.builtin_rows.specs.Rows.{refusals_of};
+ghost use Rattle.builtin_rows.specs.Rows.{IsSingle, refusals_of};
 ghost use Rattle.atom_texts.specs.Answering.{AsksFor, IsRowOf};
 ghost use Rattle.atom_texts.specs.Making.{IsMade, made_refusals};
 
@@ -28,7 +28,7 @@ pub enum Made {
     Refused(Row),
 }
 
-/// Makes the atom of a text of at most 248 bytes. The only error is want of memory.
+/// Makes the atom of a text of at most 248 bytes. The only error is out of memory.
 pub fn make_atom<A: Atoms>(text: &Text, atoms: &mut A) -> Result<Made, Memory>
     requires { size text.now ≤ 248 }
     ensures made { IfOk result (IsMade (A.held atoms.new) text.now) }
@@ -62,6 +62,7 @@ pub fn answer_atom<A: Atoms>(
         → IsRowOf store.old p ts (one_answer (two (atom text.now) (reads (A.held atoms.old) store.old second))) (A.held atoms.new) store.new r) }
     ensures holds { Keeps (A.held atoms.old) (A.held atoms.new) }
     ensures refusals { A.refusals atoms.new ≡ A.refusals atoms.old ++ refusals_of result }
+    ensures single { IfOk result IsSingle }
     ensures asked { (p : Proc) (ts : Trees)
         → AsksFor store.old p ts (one_answer (two (atom text.now) (reads (A.held atoms.old) store.old second))) (A.asked atoms.old) (A.asked atoms.new) }
 {
@@ -73,7 +74,7 @@ pub fn answer_atom<A: Atoms>(
                 Made::Refused(row) => Ok(row),
                 Made::Is(a) => {
                     let places = both(alloc, Place::atom(a), second)?;
-                    Ok(Row::Answer(places))
+                    Ok(Row::Answer { places, fresh: 0 })
                 }
             }
         }

@@ -72,7 +72,7 @@ pub fn character_at(code: i64) -> Option<char>
     char::from_u32(code as u32)
 }
 
-/// The text of one character. The only error is want of memory.
+/// The text of one character. The only error is out of memory.
 pub fn one_character(alloc: Global, c: char) -> Result<Text, Memory>
     ensures text { IfOk result (λ t. t ≡ c ∷ []) }
     ensures short { IfOk result (λ t. size t ≤ 248) }

@@ -7,12 +7,13 @@ use Rattle.atom_words.specs.Kept.{SeatOk, Kept}
 use Rattle.atom_words.specs.declared.size.Size.{Size}
 use Rattle.atom_words.specs.declared.view.View.{View}
 use Rattle.atom_words.specs.declared.kind.Kind.{Kind}
-use Rattle.atom_words.specs.declared.kind.Kind.TheVariants.{Raise, Reserve, PutWord, PutLink, Link, Validate, Release, Load, Refused, Start, Read, Next, Hold, Keep, Fix, StartPass, EndPass, Refuse, Ask, Protect, Fetch, Register, Unregister}
-use Rattle.atom_words.proofs.Loads.{keep_load, keep_refused, keep_start, keep_read, keep_next, keep_hold, keep_keep, keep_fix, keep_start_pass, keep_end_pass, keep_refuse, keep_ask}
+use Rattle.atom_words.specs.declared.kind.Kind.TheVariants.{Raise, Risen, Reserve, PutWord, PutLink, Link, Validate, Release, Load, Refused, Start, Read, Next, Skip, Hold, Keep, Fix, StartPass, EndPass, Refuse, Ask, Protect, Fetch, Register, Unregister, Begin, Mark, Scan, Ack, Check, ToSweep}
+use Rattle.atom_words.proofs.Loads.{keep_load, keep_refused, keep_start, keep_read, keep_next, keep_skip, keep_hold, keep_keep, keep_fix, keep_start_pass, keep_end_pass, keep_refuse, keep_ask}
 use Rattle.atom_words.proofs.AtomSteps.{keep_reserve, keep_validate, keep_release, keep_protect, keep_fetch, keep_register, keep_unregister}
 use Rattle.atom_words.proofs.TextSteps.{keep_put_word, keep_put_link}
 use Rattle.atom_words.proofs.LinkStep.{keep_link}
-use Rattle.atom_words.proofs.RaiseStep.{keep_raise}
+use Rattle.atom_words.proofs.RaiseStep.{keep_raise, keep_risen}
+use Rattle.atom_words.proofs.Cycles.{keep_begin, keep_mark, keep_scan, keep_ack, keep_check, keep_to_sweep}
 use Rattle.atom_words.proofs.SeatSteps.{keep_make, keep_join, keep_split, keep_open}
 
 module _ (z : Size) (b : Board) (vs : List View) (r : Kept z b vs) (id : ℕ) (v : View) (s : SeatOk z b r.plan id v) (b' : Board) where
@@ -28,6 +29,7 @@ module _ (z : Size) (b : Board) (vs : List View) (r : Kept z b vs) (id : ℕ) (v
   keep_kind (Start h x) d = keep_start z b vs r id v s h x b' d
   keep_kind (Read x) d = keep_read z b vs r id v s x b' d
   keep_kind (Next x) d = keep_next z b vs r id v s x b' d
+  keep_kind (Skip x) d = keep_skip z b vs r id v s x b' d
   keep_kind Hold d = keep_hold z b vs r id v s b' d
   keep_kind (Keep those) d = keep_keep z b vs r id v s those b' d
   keep_kind Fix d = keep_fix z b vs r id v s b' d
@@ -40,6 +42,13 @@ module _ (z : Size) (b : Board) (vs : List View) (r : Kept z b vs) (id : ℕ) (v
   keep_kind (Register a) d = keep_register z b vs r id v s a b' d
   keep_kind (Unregister k) d = keep_unregister z b vs r id v s k b' d
   keep_kind (Raise h) d = keep_raise z b vs r id v s h b' d
+  keep_kind (Risen h x) d = keep_risen z b vs r id v s h x b' d
+  keep_kind Begin d = keep_begin z b vs r id v s b' d
+  keep_kind (Mark x those) d = keep_mark z b vs r id v s x those b' d
+  keep_kind (Scan k) d = keep_scan z b vs r id v s k b' d
+  keep_kind Ack d = keep_ack z b vs r id v s b' d
+  keep_kind (Check e) d = keep_check z b vs r id v s e b' d
+  keep_kind ToSweep d = keep_to_sweep z b vs r id v s b' d
   keep_kind _ d = absurd d
 
 pub keep_goes : (z : Size) (b : Board) (vs : List View) (b' : Board) (vs' : List View) → Kept z b vs → Goes z b vs b' vs' → Kept z b' vs'

@@ -17,3 +17,4 @@ pub mod Putting
 pub mod Openings
 pub mod WalkSteps
 pub mod RowBytes
+pub mod Cycles

@@ -1,12 +1,12 @@
 -- Linking a slot in front of its bucket's chain keeps the rule.
-use Rattle.std.proofs.Common.{◌≡◌, ◌≢◌, ◌⊎◌, ℕ, ◌+◌, ◌<◌, ◌≤◌, false, List, [], ◌∷◌, length, get_or, set, take, refl, sym, ap, ◌∙◌, subst, inl, inr, ⊎_elim, arith, Some, length-set, take_all, get_or-set_same, get_or-set_other}
+use Rattle.std.proofs.Common.{◌≡◌, ◌≢◌, ◌⊎◌, ℕ, ◌+◌, ◌<◌, ◌≤◌, false, List, [], ◌∷◌, length, get_or, set, take, refl, sym, ap, ◌∙◌, subst, inl, inr, ⊎_elim, arith, Some, None, length-set, take_all, get_or-set_same, get_or-set_other}
 use native.Mathlib.Decide.{ℕ_discrete}
 use Rattle.atom_words.specs.Layout.{state_of, first_of, version_of, head_word, worn}
 use Rattle.atom_words.specs.Texts.{bucket}
 use Rattle.atom_words.specs.Board.{Board, text_of, with_head}
 use Rattle.atom_words.specs.Chains.{In, Chain, Linked}
 use Rattle.atom_words.specs.Kinds.{linked_own, view_after, Ended, Does}
-use Rattle.atom_words.specs.Kept.{Plan, OwnOk, HeldOk, CountsOk, Seen, Unwalked, WalkOk, SeatOk, Rows, Slots, Kept}
+use Rattle.atom_words.specs.Kept.{Plan, Fate, OwnOk, HeldOk, CountsOk, Seen, Unwalked, WalkOk, SeatOk, Rows, Slots, Kept}
 use Rattle.atom_words.specs.declared.size.Size.{Size}
 use Rattle.atom_words.specs.declared.view.Held.{Held}
 use Rattle.atom_words.specs.declared.view.Counted.{Counted}
@@ -17,7 +17,7 @@ use Rattle.atom_words.specs.declared.kind.Kind.TheVariants.{Link}
 use Rattle.atom_words.proofs.Layouts.{first-head_word, version-head_word}
 use Rattle.atom_words.proofs.Slices.{some_same, in_none, in_later, in_cases, text_short, word_after}
 use Rattle.atom_words.proofs.Puts.{put, put_here, put_else, unmapped}
-use Rattle.atom_words.proofs.Frames.{seats_stay}
+use Rattle.atom_words.proofs.Frames.{seats_stay, marks_walk}
 
 -- THE SLOT k STANDS IN FRONT OF THE CHAIN OF h
 module _ (z : Size) (chain : ℕ → List ℕ) (h k : ℕ) (inside : h < z.heads) where
@@ -56,9 +56,9 @@ module _ (z : Size) (chain : ℕ → List ℕ) (h k : ℕ) (inside : h < z.heads
   counts_linked atoms texts keeper j cs ok = record { mine = ok.mine; each_slot = ok.each_slot; counts = ok.counts; live = λ q c at some_. held_linked atoms texts (record { slot = q; text = c.text }) (ok.live q c at some_) }
 
   -- a walk over that chain knows nothing any more, since the version has moved; the others are not concerned
-  walk_linked : (atoms links heads texts : List ℕ) (n : ℕ) (w : Walk) → h < length heads → version_of n ≡ version_of (get_or heads h 0) + 1 → WalkOk z atoms links heads texts chain w
-      → WalkOk z atoms links (set heads h n) texts (put chain h (k ∷ chain h)) w
-  walk_linked atoms links heads texts n w there moved ok = let past = ok.past in record {
+  walk_linked : (links heads texts : List ℕ) (f : Fate) (n : ℕ) (w : Walk) → h < length heads → version_of n ≡ version_of (get_or heads h 0) + 1 → WalkOk z links heads texts chain f w
+      → WalkOk z links (set heads h n) texts (put chain h (k ∷ chain h)) f w
+  walk_linked links heads texts f n w there moved ok = let past = ok.past in record {
     inside = ok.inside;
     short = ok.short;
     past = word_after (λ y. version_of w.word ≤ version_of y) heads h n w.head there
@@ -68,11 +68,13 @@ module _ (z : Size) (chain : ℕ → List ℕ) (h k : ℕ) (inside : h < z.heads
           let now : version_of n ≡ version_of w.word = sym (ap version_of (get_or-set_same heads h n 0 there)) ∙ (ap (λ (g : ℕ). version_of (get_or (set heads h n) g 0)) (sym e) ∙ same) in omega arith)
       | no ne ↦ get_or-set_other heads h w.head n 0 ne ∙ ok.word (ap version_of (sym (get_or-set_other heads h w.head n 0 ne)) ∙ same)
     ];
-    claim = λ same. elim (ℕ_discrete w.head h) as (λ _. Unwalked atoms links texts w (put chain h (k ∷ chain h) w.head)) [
+    claim = λ same. elim (ℕ_discrete w.head h) as (λ _. Unwalked links texts f w (put chain h (k ∷ chain h) w.head)) [
       | yes e ↦ absurd (let here : version_of w.word ≤ version_of (get_or heads h 0) = subst (λ (g : ℕ). version_of w.word ≤ version_of (get_or heads g 0)) e past in
           let now : version_of n ≡ version_of w.word = sym (ap version_of (get_or-set_same heads h n 0 there)) ∙ (ap (λ (g : ℕ). version_of (get_or (set heads h n) g 0)) (sym e) ∙ same) in omega arith)
-      | no ne ↦ subst (Unwalked atoms links texts w) (sym (at_else w.head ne)) (ok.claim (ap version_of (sym (get_or-set_other heads h w.head n 0 ne)) ∙ same))
+      | no ne ↦ subst (Unwalked links texts f w) (sym (at_else w.head ne)) (ok.claim (ap version_of (sym (get_or-set_other heads h w.head n 0 ne)) ∙ same))
     ];
+    lost = λ g. word_after (λ y. version_of w.word < version_of y) heads h n w.head there
+        (λ e. let here : version_of w.word < version_of (get_or heads h 0) = subst (λ (i : ℕ). version_of w.word < version_of (get_or heads i 0)) e (ok.lost g) in omega arith) (λ _. ok.lost g);
   }
 
 module _ (z : Size) (b : Board) (vs : List View) (r : Kept z b vs) (id : ℕ) (v : View) (s : SeatOk z b r.plan id v) (o : Own) (w : Walk) (own : v.own ≡ Some o) (walk : v.walk ≡ Some w)
@@ -80,7 +82,7 @@ module _ (z : Size) (b : Board) (vs : List View) (r : Kept z b vs) (id : ℕ) (v
   ok : OwnOk z b.atoms b.links b.texts r.plan.chain r.plan.owner id o
   ok = s.own o own
 
-  walked : WalkOk z b.atoms b.links b.heads b.texts r.plan.chain w
+  walked : WalkOk z b.links b.heads b.texts r.plan.chain r.plan.fate w
   walked = s.walk w walk
 
   abbrev n : ℕ
@@ -107,12 +109,12 @@ module _ (z : Size) (b : Board) (vs : List View) (r : Kept z b vs) (id : ℕ) (v
   apart : (q : ℕ) → Linked z.heads r.plan.chain q → q ≢ o.slot
   apart q l e = ok.apart unlinked (subst (Linked z.heads r.plan.chain) e l)
 
-  -- no slot of the chain has the text
-  new_text : (q : ℕ) → In q (r.plan.chain w.head) → text_of b.texts q ≢ o.text
-  new_text q i e = let u = walked.claim (ap version_of found) in ⊎_elim
+  -- no slot of the chain but the dying one has the text
+  new_text : (q : ℕ) → In q (r.plan.chain w.head) → q + 1 ≢ r.plan.fate.slot → text_of b.texts q ≢ o.text
+  new_text q i alive e = let u = walked.claim (ap version_of found) in ⊎_elim
       (λ (t : Seen b.texts w.seen q). ended.2 t.0 t.1 t.2 (sym t.4 ∙ ap (take (length t.1.text)) e))
       (λ (t : In q u.path). in_none q (subst (In q) (over u.path u.reached) t))
-      (u.each q i)
+      (u.each q i alive)
     where
       over : (path : List ℕ) → Chain b.links w.place path → path ≡ []
       over [] c = refl
@@ -126,7 +128,7 @@ module _ (z : Size) (b : Board) (vs : List View) (r : Kept z b vs) (id : ℕ) (v
     | no ne ↦ old g q inside (subst (In q) (put_else r.plan.chain w.head (o.slot ∷ r.plan.chain w.head) g ne) i)
   ]
 
-  rows_linked : Rows z b.row b.links (set b.heads w.head (head_word (o.slot + 1) 0 (version_of w.word + 1))) b.texts (put r.plan.chain w.head (o.slot ∷ r.plan.chain w.head)) (put r.plan.place o.slot w.head)
+  rows_linked : Rows z b.row b.links (set b.heads w.head (head_word (o.slot + 1) 0 (version_of w.word + 1))) b.texts (put r.plan.chain w.head (o.slot ∷ r.plan.chain w.head)) (put r.plan.place o.slot w.head) r.plan.fate
   rows_linked = record {
     chains = λ g inside. elim (ℕ_discrete g w.head) as (λ _. Chain b.links (first_of (get_or (set b.heads w.head n) g 0)) (put r.plan.chain w.head (o.slot ∷ r.plan.chain w.head) g)) [
       | yes e ↦ subst (λ (y : ℕ). Chain b.links (first_of (get_or (set b.heads w.head n) y 0)) (put r.plan.chain w.head (o.slot ∷ r.plan.chain w.head) y)) (sym e)
@@ -141,26 +143,34 @@ module _ (z : Size) (b : Board) (vs : List View) (r : Kept z b vs) (id : ℕ) (v
     once = on_chain (λ g q. put r.plan.place o.slot w.head q ≡ g) (put_here r.plan.place o.slot w.head)
         (λ g q inside i. put_else r.plan.place o.slot w.head q (apart q (g, inside, i)) ∙ r.rows.once g q inside i);
     stands = on_chain (λ g q. bucket b.row (text_of b.texts q) ≡ g) (ap (bucket b.row) text_is ∙ ended.0) r.rows.stands;
-    unlike = λ g k q inside i j e. elim (ℕ_discrete g w.head) as (λ _. k ≡ q) [
+    unlike = λ g k q inside i j alive too e. elim (ℕ_discrete g w.head) as (λ _. k ≡ q) [
       | yes is ↦ let here : (y : ℕ) → In y (put r.plan.chain w.head (o.slot ∷ r.plan.chain w.head) g) → (o.slot ≡ y) ⊎ In y (r.plan.chain w.head) =
           (λ y l. in_cases y o.slot (r.plan.chain w.head) (subst (In y) (put_here r.plan.chain w.head (o.slot ∷ r.plan.chain w.head)) (subst (λ (x : ℕ). In y (put r.plan.chain w.head (o.slot ∷ r.plan.chain w.head) x)) is l))) in
           ⊎_elim
-          (λ (a : o.slot ≡ k). ⊎_elim (λ (c : o.slot ≡ q). sym a ∙ c) (λ (c : In q (r.plan.chain w.head)). absurd (new_text q c (sym e ∙ (ap (text_of b.texts) (sym a) ∙ text_is)))) (here q j))
-          (λ (a : In k (r.plan.chain w.head)). ⊎_elim (λ (c : o.slot ≡ q). absurd (new_text k a (e ∙ (ap (text_of b.texts) (sym c) ∙ text_is)))) (λ (c : In q (r.plan.chain w.head)). r.rows.unlike w.head k q walked.inside a c e) (here q j))
+          (λ (a : o.slot ≡ k). ⊎_elim (λ (c : o.slot ≡ q). sym a ∙ c) (λ (c : In q (r.plan.chain w.head)). absurd (new_text q c too (sym e ∙ (ap (text_of b.texts) (sym a) ∙ text_is)))) (here q j))
+          (λ (a : In k (r.plan.chain w.head)). ⊎_elim (λ (c : o.slot ≡ q). absurd (new_text k a alive (e ∙ (ap (text_of b.texts) (sym c) ∙ text_is)))) (λ (c : In q (r.plan.chain w.head)). r.rows.unlike w.head k q walked.inside a c alive too e) (here q j))
           (here k i)
-      | no ne ↦ r.rows.unlike g k q inside (subst (In k) (put_else r.plan.chain w.head (o.slot ∷ r.plan.chain w.head) g ne) i) (subst (In q) (put_else r.plan.chain w.head (o.slot ∷ r.plan.chain w.head) g ne) j) e
+      | no ne ↦ r.rows.unlike g k q inside (subst (In k) (put_else r.plan.chain w.head (o.slot ∷ r.plan.chain w.head) g ne) i) (subst (In q) (put_else r.plan.chain w.head (o.slot ∷ r.plan.chain w.head) g ne) j) alive too e
     ];
   }
 
-  slots_linked : Slots z b.atoms (put r.plan.chain w.head (o.slot ∷ r.plan.chain w.head))
+  slots_linked : Slots z b.atoms (put r.plan.chain w.head (o.slot ∷ r.plan.chain w.head)) r.plan.fate
   slots_linked = record {
-    live = λ q l. ⊎_elim (λ (t : o.slot ≡ q). subst (λ (y : ℕ). (state_of (get_or b.atoms y 0) ≡ 1) ⊎ (state_of (get_or b.atoms y 0) ≡ 3)) t (inl ok.state)) (r.slots.live q) (was_linked z r.plan.chain w.head o.slot walked.inside q l);
+    live = λ q l. ⊎_elim (λ (t : o.slot ≡ q). subst (λ (y : ℕ). ((state_of (get_or b.atoms y 0) ≡ 1) ⊎ (state_of (get_or b.atoms y 0) ≡ 3)) ⊎ (r.plan.fate.slot ≡ y + 1)) t (inl (inl ok.state))) (r.slots.live q) (was_linked z r.plan.chain w.head o.slot walked.inside q l);
+    valid = λ q e. still_linked z r.plan.chain w.head o.slot walked.inside q (r.slots.valid q e);
+    only = r.slots.only;
+    dies = r.slots.dies;
     zero = r.slots.zero;
     shut = r.slots.shut;
   }
 
   abbrev plan' : Plan
   plan' = record r.plan { chain = put r.plan.chain w.head (o.slot ∷ r.plan.chain w.head); place = put r.plan.place o.slot w.head }
+
+  -- versions do not fall
+  risen_linked : (h : ℕ) → z.start ≤ version_of (get_or b.heads h 0) → z.start ≤ version_of (get_or (set b.heads w.head n) h 0)
+  risen_linked h high = word_after (λ y. z.start ≤ version_of y) b.heads w.head n h there
+      (λ e. let here : z.start ≤ version_of (get_or b.heads w.head 0) = subst (λ (i : ℕ). z.start ≤ version_of (get_or b.heads i 0)) e high in let v' = version_is in omega arith) (λ _. high)
 
   others_linked : (j : ℕ) (y : View) → j ≢ id → SeatOk z b r.plan j y → SeatOk z (with_head b w.head n) plan' j y
   others_linked j y other sj = record {
@@ -178,8 +188,12 @@ module _ (z : Size) (b : Board) (vs : List View) (r : Kept z b vs) (id : ℕ) (v
     };
     held = λ i a e. held_linked z r.plan.chain w.head o.slot walked.inside b.atoms b.texts a (sj.held i a e);
     fixed = λ i a e. held_linked z r.plan.chain w.head o.slot walked.inside b.atoms b.texts a (sj.fixed i a e);
+    low = sj.low;
     counts = λ cs e. counts_linked z r.plan.chain w.head o.slot walked.inside b.atoms b.texts r.plan.keeper j cs (sj.counts cs e);
-    walk = λ t e. walk_linked z r.plan.chain w.head o.slot walked.inside b.atoms b.links b.heads b.texts n t there version_is (sj.walk t e);
+    walk = λ t e. walk_linked z r.plan.chain w.head o.slot walked.inside b.links b.heads b.texts r.plan.fate n t there version_is (sj.walk t e);
+    marks = sj.marks;
+    sweeps = sj.sweeps;
+    risen = λ h below. let t = sj.risen h below in (t.0, risen_linked h t.1);
   }
 
   mine_linked : SeatOk z (with_head b w.head n) plan' id (view_after v Link)
@@ -199,8 +213,12 @@ module _ (z : Size) (b : Board) (vs : List View) (r : Kept z b vs) (id : ℕ) (v
         };
     held = λ i a e. held_linked z r.plan.chain w.head o.slot walked.inside b.atoms b.texts a (s.held i a e);
     fixed = λ i a e. held_linked z r.plan.chain w.head o.slot walked.inside b.atoms b.texts a (s.fixed i a e);
+    low = s.low;
     counts = λ cs e. counts_linked z r.plan.chain w.head o.slot walked.inside b.atoms b.texts r.plan.keeper id cs (s.counts cs e);
     walk = λ t e. cc;
+    marks = marks_walk z b.epoch b.acks b.atoms r.plan.engine r.plan.sweep.cursor id v.cycle v.undealt v.held v.walk s.marks None (λ t k e. cc);
+    sweeps = s.sweeps;
+    risen = λ h below. let t = s.risen h below in (t.0, risen_linked h t.1);
   }
 
   pub link_at : Kept z (with_head b w.head (head_word (o.slot + 1) 0 (version_of w.word + 1))) (set vs id (view_after v Link))
@@ -210,6 +228,8 @@ module _ (z : Size) (b : Board) (vs : List View) (r : Kept z b vs) (id : ℕ) (v
     row = r.row;
     rows = rows_linked;
     slots = slots_linked;
+    cycle = r.cycle;
+    fate = r.fate;
     seats = seats_stay (SeatOk z (with_head b w.head n) plan') vs id (view_after v Link) (λ _. mine_linked) (λ j y other at here. others_linked j y other (r.seats j y at here));
   }
 

@@ -1,55 +1,81 @@
 -- Each load keeps the rule.
-use Rattle.std.proofs.Common.{◌≡◌, ℕ, suc, ◌+◌, ◌-◌, ◌<◌, ◌≤◌, true, List, [], ◌∷◌, ◌++◌, length, get_or, set, take, refl, sym, ap, ◌∙◌, subst, inl, inr, ⊎_elim, arith, Some, None, take_all, length-append}
+use Rattle.std.proofs.Common.{◌≡◌, ◌≢◌, ℕ, suc, ◌+◌, ◌-◌, ◌<◌, ◌≤◌, true, List, [], ◌∷◌, ◌++◌, length, get_or, set, take, refl, sym, ap, ◌∙◌, subst, inl, inr, ⊎_elim, arith, Option, Some, None, take_all, length-append}
 use mathlib.Core.Option.{some}
 use lib.ListN.{get_elem?}
 use Rattle.atomic_table.proofs.Lists.{at_longer, at_last}
-use Rattle.atom_words.specs.Layout.{first_of, version_of}
+use Rattle.atom_words.specs.Layout.{state_of, first_of, version_of}
 use Rattle.atom_words.specs.Board.{Board, text_of}
 use Rattle.atom_words.specs.Chains.{In, Chain}
-use Rattle.atom_words.specs.Kinds.{starting, reading, going_on, at_hand, held_at_hand, view_after, Does}
-use Rattle.atom_words.specs.Kept.{Plan, HeldOk, Seen, WalkOk, SeatOk, Kept}
+use Rattle.atom_words.specs.Kinds.{starting, reading, going_on, skipping, at_hand, held_at_hand, Sitting, view_after, Does}
+use Rattle.atom_words.specs.Kept.{Plan, Left, Safe, Acked, HeldOk, Seen, WalkOk, SeatOk, Kept}
 use Rattle.atom_words.specs.declared.size.Size.{Size}
 use Rattle.atom_words.specs.declared.view.Held.{Held}
 use Rattle.atom_words.specs.declared.view.Walk.{Walk}
+use Rattle.atom_words.specs.declared.view.Passing.{Passing}
+use Rattle.atom_words.specs.declared.view.Refusal.{Refusal}
 use Rattle.atom_words.specs.declared.view.View.{View}
-use Rattle.atom_words.specs.declared.kind.Kind.TheVariants.{Load, Refused, Start, Read, Next, Hold, Keep, Fix, StartPass, EndPass, Refuse, Ask}
-use Rattle.atom_words.proofs.Slices.{mapped, in_none, in_append, in_later, in_cases, at_snoc, text_length, text_short, read_more, chain_at, chain_few}
-use Rattle.atom_words.proofs.Frames.{keep_view}
+use Rattle.atom_words.specs.declared.kind.Kind.{Kind}
+use Rattle.atom_words.specs.declared.kind.Kind.TheVariants.{Load, Refused, Start, Read, Next, Skip, Hold, Keep, Fix, StartPass, EndPass, Refuse, Ask}
+use Rattle.atom_words.proofs.Slices.{mapped, in_none, in_append, in_later, in_cases, at_snoc, none_in, text_length, text_short, read_more, chain_at, chain_few}
+use Rattle.atom_words.proofs.Frames.{keep_view, marks_now, marks_walk}
 
 module _ (z : Size) (b : Board) (p : Plan) (j : ℕ) (v : View) (s : SeatOk z b p j v) where
   -- a view that differs in the walk
-  pub walks : (w : View) → w.size ≡ v.size → w.own ≡ v.own → w.held ≡ v.held → w.fixed ≡ v.fixed → w.counts ≡ v.counts
-      → ((t : Walk) → w.walk ≡ Some t → WalkOk z b.atoms b.links b.heads b.texts p.chain t) → SeatOk z b p j w
-  walks w size own held fixed counts walk = record {
-    size = size ∙ s.size;
-    own = λ o e. s.own o (sym own ∙ e);
-    held = λ i a e. s.held i a (sym (ap (λ l. get_elem? l i) held) ∙ e);
-    fixed = λ i a e. s.fixed i a (sym (ap (λ l. get_elem? l i) fixed) ∙ e);
-    counts = λ cs e. s.counts cs (sym counts ∙ e);
-    walk = walk;
+  pub walks : (walk : Option Walk) (made : List Kind) → ((t : Walk) → walk ≡ Some t → WalkOk z b.links b.heads b.texts p.chain p.fate t)
+      → ((w : Walk) (k : ℕ) → walk ≡ Some w → w.guarded ≡ true → w.place ≡ k + 1 → (t : Walk) × (v.walk ≡ Some t) × (t.guarded ≡ true) × (t.place ≡ k + 1)) → SeatOk z b p j (record v { walk = walk; made = made })
+  walks walk made ok was = record {
+    size = s.size;
+    own = s.own;
+    held = s.held;
+    fixed = s.fixed;
+    low = s.low;
+    counts = s.counts;
+    walk = ok;
+    marks = marks_walk z b.epoch b.acks b.atoms p.engine p.sweep.cursor j v.cycle v.undealt v.held v.walk s.marks walk was;
+    sweeps = s.sweeps;
+    risen = s.risen;
   }
 
   -- a view that differs in nothing that the rule speaks of
-  pub same : (w : View) → w.size ≡ v.size → w.own ≡ v.own → w.held ≡ v.held → w.fixed ≡ v.fixed → w.counts ≡ v.counts → w.walk ≡ v.walk → SeatOk z b p j w
-  same w size own held fixed counts walk = walks w size own held fixed counts (λ t e. s.walk t (sym walk ∙ e))
+  pub same : (pass : Option Passing) (refusals : List Refusal) (texts : List (List ℕ)) (made : List Kind) → SeatOk z b p j (record v { pass = pass; refusals = refusals; asked = texts; made = made })
+  same pass refusals texts made = record {
+    size = s.size;
+    own = s.own;
+    held = s.held;
+    fixed = s.fixed;
+    low = s.low;
+    counts = s.counts;
+    walk = s.walk;
+    marks = s.marks;
+    sweeps = s.sweeps;
+    risen = s.risen;
+  }
 
   -- one slot more is held, and no walk is at hand
-  pub holding : (w : View) (a : Held) → w.size ≡ v.size → w.own ≡ v.own → w.held ≡ v.held ++ a ∷ [] → w.fixed ≡ v.fixed → w.counts ≡ v.counts → w.walk ≡ None → HeldOk z b.atoms b.texts p.chain a → SeatOk z b p j w
-  holding w a size own held fixed counts walk ok = record {
-    size = size ∙ s.size;
-    own = λ o e. s.own o (sym own ∙ e);
-    held = λ i x e. ⊎_elim (s.held i x) (λ (t : (i ≡ length v.held) × (a ≡ x)). subst (HeldOk z b.atoms b.texts p.chain) t.1 ok) (at_snoc v.held a x i (sym (ap (λ l. get_elem? l i) held) ∙ e));
-    fixed = λ i x e. s.fixed i x (sym (ap (λ l. get_elem? l i) fixed) ∙ e);
-    counts = λ cs e. s.counts cs (sym counts ∙ e);
-    walk = λ t e. let no : Some t ≡ None = sym e ∙ walk in cc;
+  pub holding : (a : Held) (made : List Kind) → HeldOk z b.atoms b.texts p.chain a → (Acked b.epoch v.cycle → Safe b.epoch b.atoms p.sweep.cursor a.slot) → Sitting v → SeatOk z b p j (record v { held = v.held ++ a ∷ []; walk = None; made = made })
+  holding a made ok safe sits = record {
+    size = s.size;
+    own = s.own;
+    held = λ i x e. ⊎_elim (s.held i x) (λ (t : (i ≡ length v.held) × (a ≡ x)). subst (HeldOk z b.atoms b.texts p.chain) t.1 ok) (at_snoc v.held a x i e);
+    fixed = s.fixed;
+    low = s.low;
+    counts = s.counts;
+    walk = λ t e. cc;
+    marks = marks_now z b.epoch b.acks b.atoms p.engine p.sweep.cursor j v.cycle v.undealt v.held v.walk s.marks (v.held ++ a ∷ []) None
+        (λ acked x i. ⊎_elim (λ (t : get_elem? v.held i.0 ≡ some x). s.marks.held acked x (i.0, t))
+        (λ (t : (i.0 ≡ length v.held) × (a ≡ x)). subst (λ (y : Held). (state_of (get_or b.atoms y.slot 0) ≡ 3) × Safe b.epoch b.atoms p.sweep.cursor y.slot) t.1 (ok.valid, safe acked)) (at_snoc v.held a x i.0 i.1))
+        (λ none dealt. absurd (⊎_elim (λ (t : v.cycle.engine ≢ 0). t none) (λ (t : 0 < v.undealt). omega arith) sits))
+        (λ w k e. cc);
+    sweeps = s.sweeps;
+    risen = s.risen;
   }
 
 module _ (z : Size) (b : Board) (vs : List View) (r : Kept z b vs) (id : ℕ) (v : View) (s : SeatOk z b r.plan id v) where
-  Walks : Walk → Type 0
-  Walks w = WalkOk z b.atoms b.links b.heads b.texts r.plan.chain w
+  abbrev Walks : Walk → Type 0
+  Walks w = WalkOk z b.links b.heads b.texts r.plan.chain r.plan.fate w
 
   -- at the start all slots of the chain are still to come
-  start_ok : (h x : ℕ) → h < z.heads → get_or b.heads h 0 ≡ x → WalkOk z b.atoms b.links b.heads b.texts r.plan.chain (starting h x)
+  start_ok : (h x : ℕ) → h < z.heads → get_or b.heads h 0 ≡ x → WalkOk z b.links b.heads b.texts r.plan.chain r.plan.fate (starting h x)
   start_ok h x inside found = record {
     inside = inside;
     short = omega arith;
@@ -58,17 +84,18 @@ module _ (z : Size) (b : Board) (vs : List View) (r : Kept z b vs) (id : ℕ) (v
     claim = λ _. record {
       path = r.plan.chain h;
       reached = subst (λ (n : ℕ). Chain b.links (first_of n) (r.plan.chain h)) found (r.rows.chains h inside);
-      each = λ k i. inr i;
-      inside = λ k i. i;
+      each = λ k i _. inr i;
+      inside = λ k i. inl i;
       few = let f = chain_few b.links (first_of (get_or b.heads h 0)) (r.plan.chain h) (r.rows.chains h inside) in omega (arith, f);
       part = λ k e. refl;
-      guard = λ k e g. cc;
+      dead = λ k e g. cc;
     };
+    lost = λ e. cc;
   }
 
   -- the word that is read is the text's next
-  read_ok : (w : Walk) (k x : ℕ) → WalkOk z b.atoms b.links b.heads b.texts r.plan.chain w → w.place ≡ k + 1 → length w.part < 32 → get_or (text_of b.texts k) (length w.part) 0 ≡ x
-      → WalkOk z b.atoms b.links b.heads b.texts r.plan.chain (reading x w)
+  read_ok : (w : Walk) (k x : ℕ) → WalkOk z b.links b.heads b.texts r.plan.chain r.plan.fate w → w.place ≡ k + 1 → length w.part < 32 → get_or (text_of b.texts k) (length w.part) 0 ≡ x
+      → WalkOk z b.links b.heads b.texts r.plan.chain r.plan.fate (reading x w)
   read_ok w k x ok place more found = record {
     inside = ok.inside;
     short = simp (length-append {A = ℕ}) (omega arith);
@@ -83,12 +110,13 @@ module _ (z : Size) (b : Board) (vs : List View) (r : Kept z b vs) (id : ℕ) (v
           few = u.few;
           part = λ q e. let at : k ≡ q = omega arith in subst (λ (i : ℕ). take (length (w.part ++ x ∷ [])) (text_of b.texts i) ≡ w.part ++ x ∷ []) at
               (subst (λ (y : ℕ). take (length (w.part ++ y ∷ [])) (text_of b.texts k) ≡ w.part ++ y ∷ []) found (read_more (text_of b.texts k) w.part (omega arith) (u.part k place)));
-          guard = u.guard;
+          dead = u.dead;
         };
+    lost = ok.lost;
   }
 
-  -- the walk has seen the slot at hand, and goes on behind it
-  next_ok : (w : Walk) (k x : ℕ) → WalkOk z b.atoms b.links b.heads b.texts r.plan.chain w → w.place ≡ k + 1 → get_or b.links k 0 ≡ x → WalkOk z b.atoms b.links b.heads b.texts r.plan.chain (going_on x w)
+  -- the walk has seen the slot at hand, and goes on after it
+  next_ok : (w : Walk) (k x : ℕ) → WalkOk z b.links b.heads b.texts r.plan.chain r.plan.fate w → w.place ≡ k + 1 → get_or b.links k 0 ≡ x → WalkOk z b.links b.heads b.texts r.plan.chain r.plan.fate (going_on x w)
   next_ok w k x ok place found = record {
     inside = ok.inside;
     short = omega arith;
@@ -97,29 +125,57 @@ module _ (z : Size) (b : Board) (vs : List View) (r : Kept z b vs) (id : ℕ) (v
     claim = λ same_. let u = ok.claim same_ in let c = chain_at b.links k u.path (subst (λ (n : ℕ). Chain b.links n u.path) place u.reached) in record {
       path = c.0;
       reached = subst (λ (n : ℕ). Chain b.links n c.0) found c.3;
-      each = λ q i. ⊎_elim
+      each = λ q i alive. ⊎_elim
           (λ (t : Seen b.texts w.seen q). inl (t.0, t.1, at_longer w.seen (at_hand w ∷ []) t.0 t.1 t.2, t.3, t.4))
           (λ (t : In q u.path). ⊎_elim
           (λ (e : k ≡ q). inl (length w.seen, at_hand w, at_last w.seen (at_hand w) (length w.seen) refl, omega arith, subst (λ (n : ℕ). take (length w.part) (text_of b.texts n) ≡ w.part) e (u.part k place)))
           (λ (l : In q c.0). inr l)
           (in_cases q k c.0 (subst (In q) c.1 t)))
-          (u.each q i);
+          (u.each q i alive);
       inside = λ q i. u.inside q (subst (In q) (sym c.1) (in_later q k c.0 i));
       few = let long : length u.path ≡ suc (length c.0) = ap length c.1 in let f = u.few in simp (length-append {A = Held}) (omega arith);
       part = λ q e. refl;
-      guard = λ q e g. cc;
+      dead = λ q e g. cc;
     };
+    lost = ok.lost;
   }
 
+  -- the slot at hand is the dying one, and the walk goes on after it
+  skip_ok : (w : Walk) (k x : ℕ) → WalkOk z b.links b.heads b.texts r.plan.chain r.plan.fate w → w.place ≡ k + 1 → w.dead ≡ true → get_or b.links k 0 ≡ x → WalkOk z b.links b.heads b.texts r.plan.chain r.plan.fate (skipping x w)
+  skip_ok w k x ok place dead found = record {
+    inside = ok.inside;
+    short = omega arith;
+    past = ok.past;
+    word = ok.word;
+    claim = λ same_. let u = ok.claim same_ in let c = chain_at b.links k u.path (subst (λ (n : ℕ). Chain b.links n u.path) place u.reached) in let dying = u.dead k place dead in record {
+      path = c.0;
+      reached = subst (λ (n : ℕ). Chain b.links n c.0) found c.3;
+      each = λ q i alive. ⊎_elim
+          (λ (t : Seen b.texts w.seen q). inl t)
+          (λ (t : In q u.path). ⊎_elim (λ (e : k ≡ q). absurd (alive (sym (dying ∙ ap (λ (n : ℕ). n + 1) e)))) (λ (l : In q c.0). inr l) (in_cases q k c.0 (subst (In q) c.1 t)))
+          (u.each q i alive);
+      inside = λ q i. u.inside q (subst (In q) (sym c.1) (in_later q k c.0 i));
+      few = let long : length u.path ≡ suc (length c.0) = ap length c.1 in let f = u.few in omega arith;
+      part = λ q e. refl;
+      dead = λ q e g. cc;
+    };
+    lost = ok.lost;
+  }
+
+  -- a valid slot that a walk stands at, at the walk's version, stands in the chain
+  pub in_chain : (w : Walk) (k : ℕ) → (ok : WalkOk z b.links b.heads b.texts r.plan.chain r.plan.fate w) → w.place ≡ k + 1 → version_of (get_or b.heads w.head 0) ≡ version_of w.word → state_of (get_or b.atoms k 0) ≡ 3 → In k (r.plan.chain w.head)
+  in_chain w k ok place same_ valid = let u = ok.claim same_ in let c = chain_at b.links k u.path (subst (λ (n : ℕ). Chain b.links n u.path) place u.reached) in
+      ⊎_elim (λ (t : In k (r.plan.chain w.head)). t) (λ (t : Left r.plan.fate w k). absurd (let dying = r.slots.dies k t.0 in omega arith)) (u.inside k (subst (In k) (sym c.1) (0, refl)))
+
   -- what a walk ends with at its version
-  hold_ok : (w : Walk) (k : ℕ) → WalkOk z b.atoms b.links b.heads b.texts r.plan.chain w → w.place ≡ k + 1 → w.guarded ≡ true → length w.part ≡ 32 → version_of (get_or b.heads w.head 0) ≡ version_of w.word
+  hold_ok : (w : Walk) (k : ℕ) → WalkOk z b.links b.heads b.texts r.plan.chain r.plan.fate w → w.place ≡ k + 1 → state_of (get_or b.atoms k 0) ≡ 3 → length w.part ≡ 32 → version_of (get_or b.heads w.head 0) ≡ version_of w.word
       → HeldOk z b.atoms b.texts r.plan.chain (at_hand w)
-  hold_ok w k ok place guarded whole same_ = let u = ok.claim same_ in let c = chain_at b.links k u.path (subst (λ (n : ℕ). Chain b.links n u.path) place u.reached) in let slot : k ≡ w.place - 1 = omega arith in
+  hold_ok w k ok place valid whole same_ = let u = ok.claim same_ in let c = chain_at b.links k u.path (subst (λ (n : ℕ). Chain b.links n u.path) place u.reached) in let slot : k ≡ w.place - 1 = omega arith in
       let short = text_short b.texts k in let all : take (length w.part) (text_of b.texts k) ≡ text_of b.texts k = take_all (length w.part) (text_of b.texts k) (omega arith) in
       subst (λ (n : ℕ). HeldOk z b.atoms b.texts r.plan.chain (record { slot = n; text = w.part })) slot record {
         inside = omega (arith, c.2, r.sized.links);
-        valid = u.guard k place guarded;
-        linked = (w.head, ok.inside, u.inside k (subst (In k) (sym c.1) (0, refl)));
+        valid = valid;
+        linked = (w.head, ok.inside, in_chain w k ok place same_ valid);
         text = sym all ∙ u.part k place;
       }
 
@@ -127,25 +183,36 @@ module _ (z : Size) (b : Board) (vs : List View) (r : Kept z b vs) (id : ℕ) (v
   keep_same b' w e ok = subst (λ y. Kept z y (set vs id w)) (sym e) (keep_view z b vs r id w ok)
 
   pub keep_load : (i x : ℕ) (b' : Board) → Does z b v (Load i x) b' → Kept z b' (set vs id (view_after v (Load i x)))
-  keep_load i x b' d = keep_same b' (view_after v (Load i x)) d.1 (same z b r.plan id v s (view_after v (Load i x)) refl refl refl refl refl refl)
+  keep_load i x b' d = keep_same b' (view_after v (Load i x)) d.1 (same z b r.plan id v s v.pass v.refusals v.asked (v.made ++ Load i x ∷ []))
 
   pub keep_refused : (k old found : ℕ) (b' : Board) → Does z b v (Refused k old found) b' → Kept z b' (set vs id (view_after v (Refused k old found)))
-  keep_refused k old found b' d = keep_same b' (view_after v (Refused k old found)) d.3 (same z b r.plan id v s (view_after v (Refused k old found)) refl refl refl refl refl refl)
+  keep_refused k old found b' d = keep_same b' (view_after v (Refused k old found)) d.3 (same z b r.plan id v s (view_after v (Refused k old found)).pass v.refusals v.asked (v.made ++ Refused k old found ∷ []))
 
   pub keep_start : (h x : ℕ) (b' : Board) → Does z b v (Start h x) b' → Kept z b' (set vs id (view_after v (Start h x)))
-  keep_start h x b' d = keep_same b' (view_after v (Start h x)) d.2 (walks z b r.plan id v s (view_after v (Start h x)) refl refl refl refl refl
-      (λ t e. let is : starting h x ≡ t = cc in subst (λ y. WalkOk z b.atoms b.links b.heads b.texts r.plan.chain y) is (start_ok h x d.0 d.1)))
+  keep_start h x b' d = keep_same b' (view_after v (Start h x)) d.3 (walks z b r.plan id v s (Some (starting h x)) (v.made ++ Start h x ∷ [])
+      (λ t e. let is : starting h x ≡ t = cc in subst (λ y. WalkOk z b.links b.heads b.texts r.plan.chain r.plan.fate y) is (start_ok h x d.0 d.1))
+      (λ t k e g. absurd (let is : starting h x ≡ t = cc in let no = ap (λ (y : Walk). y.guarded) is ∙ g in cc)))
 
   pub keep_read : (x : ℕ) (b' : Board) → Does z b v (Read x) b' → Kept z b' (set vs id (view_after v (Read x)))
-  keep_read x b' d = keep_same b' (view_after v (Read x)) d.6 (walks z b r.plan id v s (view_after v (Read x)) refl refl refl refl refl
-      (λ t e. subst (λ y. WalkOk z b.atoms b.links b.heads b.texts r.plan.chain y) (mapped (reading x) v.walk d.0 t d.2 e) (read_ok d.0 d.1 x (s.walk d.0 d.2) d.3 d.4 d.5)))
+  keep_read x b' d = keep_same b' (view_after v (Read x)) d.6 (walks z b r.plan id v s (view_after v (Read x)).walk (v.made ++ Read x ∷ [])
+      (λ t e. subst (λ y. WalkOk z b.links b.heads b.texts r.plan.chain r.plan.fate y) (mapped (reading x) v.walk d.0 t d.2 e) (read_ok d.0 d.1 x (s.walk d.0 d.2) d.3 d.4 d.5))
+      (λ t k e g at. let is = mapped (reading x) v.walk d.0 t d.2 e in (d.0, d.2, ap (λ (y : Walk). y.guarded) is ∙ g, ap (λ (y : Walk). y.place) is ∙ at)))
 
   pub keep_next : (x : ℕ) (b' : Board) → Does z b v (Next x) b' → Kept z b' (set vs id (view_after v (Next x)))
-  keep_next x b' d = keep_same b' (view_after v (Next x)) d.5 (walks z b r.plan id v s (view_after v (Next x)) refl refl refl refl refl
-      (λ t e. subst (λ y. WalkOk z b.atoms b.links b.heads b.texts r.plan.chain y) (mapped (going_on x) v.walk d.0 t d.2 e) (next_ok d.0 d.1 x (s.walk d.0 d.2) d.3 d.4)))
+  keep_next x b' d = keep_same b' (view_after v (Next x)) d.5 (walks z b r.plan id v s (view_after v (Next x)).walk (v.made ++ Next x ∷ [])
+      (λ t e. subst (λ y. WalkOk z b.links b.heads b.texts r.plan.chain r.plan.fate y) (mapped (going_on x) v.walk d.0 t d.2 e) (next_ok d.0 d.1 x (s.walk d.0 d.2) d.3 d.4))
+      (λ t k e g. absurd (let no = ap (λ (y : Walk). y.guarded) (mapped (going_on x) v.walk d.0 t d.2 e) ∙ g in cc)))
+
+  pub keep_skip : (x : ℕ) (b' : Board) → Does z b v (Skip x) b' → Kept z b' (set vs id (view_after v (Skip x)))
+  keep_skip x b' d = keep_same b' (view_after v (Skip x)) d.7 (walks z b r.plan id v s (view_after v (Skip x)).walk (v.made ++ Skip x ∷ [])
+      (λ t e. subst (λ y. WalkOk z b.links b.heads b.texts r.plan.chain r.plan.fate y) (mapped (skipping x) v.walk d.0 t d.2 e) (skip_ok d.0 d.1 x (s.walk d.0 d.2) d.4 d.5 d.6))
+      (λ t k e g. absurd (let no = ap (λ (y : Walk). y.guarded) (mapped (skipping x) v.walk d.0 t d.2 e) ∙ g in cc)))
 
   pub keep_hold : (b' : Board) → Does z b v Hold b' → Kept z b' (set vs id (view_after v Hold))
-  keep_hold b' d = keep_same b' (view_after v Hold) d.7 (holding z b r.plan id v s (view_after v Hold) (at_hand d.0) refl refl (ap (λ o. v.held ++ held_at_hand o) d.2) refl refl refl (hold_ok d.0 d.1 (s.walk d.0 d.2) d.3 d.4 d.5 d.6))
+  keep_hold b' d = let g = s.marks.guard d.0 d.1 d.2 d.4 d.3 d.7 in
+      let ok : SeatOk z b r.plan id (record v { held = v.held ++ at_hand d.0 ∷ []; walk = None; made = v.made ++ Hold ∷ [] }) = holding z b r.plan id v s (at_hand d.0) (v.made ++ Hold ∷ []) (hold_ok d.0 d.1 (s.walk d.0 d.2) d.3 g.0 d.5 d.6)
+      (λ acked. let slot : d.1 ≡ d.0.place - 1 = omega (arith, d.3) in subst (Safe b.epoch b.atoms r.plan.sweep.cursor) slot (g.1 acked)) d.7 in
+      keep_same b' (view_after v Hold) d.8 (subst (λ (y : Option Walk). SeatOk z b r.plan id (record v { held = v.held ++ held_at_hand y; walk = None; made = v.made ++ Hold ∷ [] })) (sym d.2) ok)
 
   pub keep_keep : (those : List Held) (b' : Board) → Does z b v (Keep those) b' → Kept z b' (set vs id (view_after v (Keep those)))
   keep_keep those b' d = keep_same b' (view_after v (Keep those)) d.1 record {
@@ -153,8 +220,13 @@ module _ (z : Size) (b : Board) (vs : List View) (r : Kept z b vs) (id : ℕ) (v
     own = s.own;
     held = λ i a e. let t = d.0 a (i, e) in s.held t.0 a t.1;
     fixed = s.fixed;
+    low = s.low;
     counts = s.counts;
     walk = s.walk;
+    marks = marks_now z b.epoch b.acks b.atoms r.plan.engine r.plan.sweep.cursor id v.cycle v.undealt v.held v.walk s.marks those v.walk (λ acked a i. s.marks.held acked a (d.0 a i))
+        (λ none dealt. none_in those (λ a i. in_none a (subst (In a) (s.marks.nothing none dealt) (d.0 a i)))) s.marks.guard;
+    sweeps = s.sweeps;
+    risen = s.risen;
   }
 
   pub keep_fix : (b' : Board) → Does z b v Fix b' → Kept z b' (set vs id (view_after v Fix))
@@ -163,18 +235,22 @@ module _ (z : Size) (b : Board) (vs : List View) (r : Kept z b vs) (id : ℕ) (v
     own = s.own;
     held = λ i a e. absurd (in_none a (i, e));
     fixed = λ i a e. ⊎_elim (λ (t : get_elem? v.fixed i ≡ some a). s.fixed i a t) (λ (t : In a v.held). s.held t.0 a t.1) (in_append v.fixed v.held i a e);
+    low = λ i a e. ⊎_elim (λ (t : get_elem? v.fixed i ≡ some a). s.low i a t) (λ (t : In a v.held). d.0 a t) (in_append v.fixed v.held i a e);
     counts = s.counts;
     walk = s.walk;
+    marks = marks_now z b.epoch b.acks b.atoms r.plan.engine r.plan.sweep.cursor id v.cycle v.undealt v.held v.walk s.marks [] v.walk (λ acked a i. absurd (in_none a i)) (λ _ _. refl) s.marks.guard;
+    sweeps = s.sweeps;
+    risen = s.risen;
   }
 
   pub keep_start_pass : (x : ℕ) (b' : Board) → Does z b v (StartPass x) b' → Kept z b' (set vs id (view_after v (StartPass x)))
-  keep_start_pass x b' d = keep_same b' (view_after v (StartPass x)) d.1 (same z b r.plan id v s (view_after v (StartPass x)) refl refl refl refl refl refl)
+  keep_start_pass x b' d = keep_same b' (view_after v (StartPass x)) d.1 (same z b r.plan id v s (view_after v (StartPass x)).pass v.refusals v.asked (v.made ++ StartPass x ∷ []))
 
   pub keep_end_pass : (x : ℕ) (b' : Board) → Does z b v (EndPass x) b' → Kept z b' (set vs id (view_after v (EndPass x)))
-  keep_end_pass x b' d = keep_same b' (view_after v (EndPass x)) d.3 (same z b r.plan id v s (view_after v (EndPass x)) refl refl refl refl refl refl)
+  keep_end_pass x b' d = keep_same b' (view_after v (EndPass x)) d.3 (same z b r.plan id v s None (view_after v (EndPass x)).refusals v.asked (v.made ++ EndPass x ∷ []))
 
-  pub keep_refuse : (c : Rattle.atom_words.specs.declared.view.Refusal.Refusal) (b' : Board) → Does z b v (Refuse c) b' → Kept z b' (set vs id (view_after v (Refuse c)))
-  keep_refuse c b' d = keep_same b' (view_after v (Refuse c)) d.1 (same z b r.plan id v s (view_after v (Refuse c)) refl refl refl refl refl refl)
+  pub keep_refuse : (c : Refusal) (b' : Board) → Does z b v (Refuse c) b' → Kept z b' (set vs id (view_after v (Refuse c)))
+  keep_refuse c b' d = keep_same b' (view_after v (Refuse c)) d.1 (same z b r.plan id v s v.pass (v.refusals ++ c ∷ []) v.asked (v.made ++ Refuse c ∷ []))
 
   pub keep_ask : (t : List ℕ) (b' : Board) → Does z b v (Ask t) b' → Kept z b' (set vs id (view_after v (Ask t)))
-  keep_ask t b' d = keep_same b' (view_after v (Ask t)) d (same z b r.plan id v s (view_after v (Ask t)) refl refl refl refl refl refl)
+  keep_ask t b' d = keep_same b' (view_after v (Ask t)) d (same z b r.plan id v s v.pass v.refusals (v.asked ++ t ∷ []) (v.made ++ Ask t ∷ []))

@@ -35,6 +35,10 @@ module _ {A : Type 0} where
   pub in_none : (x : A) → In x [] → ⊥
   in_none x i = some-ne-none x (sym i.1)
 
+  pub none_in : (xs : List A) → ((x : A) → In x xs → ⊥) → xs ≡ []
+  none_in [] empty = refl
+  none_in (x ∷ xs) empty = absurd (empty x (0, refl))
+
   pub in_later : (x y : A) (xs : List A) → In x xs → In x (y ∷ xs)
   in_later x y xs i = (suc i.0, i.1)
 

@@ -4,27 +4,27 @@ use Rattle.std.proofs.lemmas.Nat.Bits.{and_pow}
 use Rattle.std.specs.Int.Bits.{or_add_and}
 use mathlib.Core.Logic.{dite}
 use mathlib.Core.Option.{none}
-use native.Mathlib.Decide.{ℕ_discrete}
+use native.Mathlib.Decide.{ℕ_discrete, dec_le}
 use prog.Atomic.{either}
 use Rattle.atomic_table.specs.Table.{step, Allows}
 use Rattle.atom_words.specs.Layout.{state_of, count_of, version_of}
 use Rattle.atom_words.specs.Board.{Board, atom, head, atom_at, head_at, text_at, text_of, with_atom, with_head}
 use Rattle.atom_words.specs.Chains.{In}
 use Rattle.atom_words.specs.Views.{uncounted}
-use Rattle.atom_words.specs.Kinds.{marked, counted, raised, view_after}
+use Rattle.atom_words.specs.Kinds.{Sitting, marked, counted, raised, view_after}
 use Rattle.atom_words.specs.Rule.{Rule}
-use Rattle.atom_words.specs.Plays.{Alone, head_raised, reserved, reserved_marked, word_put, validated, released, protected, registered, unregistered, pass_started, pass_ended}
+use Rattle.atom_words.specs.Plays.{Alone, head_raised, head_risen, reserved, reserved_marked, word_put, validated, released, protected, registered, unregistered, pass_started, pass_ended}
 use Rattle.atom_words.specs.declared.size.Size.{Size}
 use Rattle.atom_words.specs.declared.view.Held.{Held}
 use Rattle.atom_words.specs.declared.view.Counted.{Counted}
 use Rattle.atom_words.specs.declared.view.Own.{Own}
 use Rattle.atom_words.specs.declared.view.Passing.{Passing}
 use Rattle.atom_words.specs.declared.kind.Kind.{Kind}
-use Rattle.atom_words.specs.declared.kind.Kind.TheVariants.{Raise, Reserve, PutWord, Validate, Release, Load, Refused, StartPass, EndPass, Protect, Register, Unregister}
+use Rattle.atom_words.specs.declared.kind.Kind.TheVariants.{Raise, Risen, Reserve, PutWord, Validate, Release, Load, Refused, StartPass, EndPass, Protect, Register, Unregister}
 use Rattle.atom_words.proofs.Regions.{atom_read, head_read}
 use Rattle.atom_words.proofs.Slices.{some_same, or_at, text_short}
 use Rattle.atom_words.proofs.AtomSteps.{has, alone_at}
-use Rattle.atom_words.proofs.Adapters.{Sat, atom_goes, atom_exchange, head_exchange, text_goes, epoch_load}
+use Rattle.atom_words.proofs.Adapters.{Sat, atom_goes, atom_exchange, head_exchange, head_load, text_goes, epoch_load}
 
 pub or_mark : (n : ℕ) → bit_or n 4 ≡ marked n
 or_mark n = let a : bit_or n 4 + bit_and n 4 ≡ n + 4 = or_add_and n 4 in let m : bit_and n 4 ≡ n / 4 % 2 * 4 = and_pow n 2 in omega arith
@@ -102,15 +102,15 @@ module _ (key : Size) (slots id : ℕ) (me : Sat) (is : key ≡ me.0.size) (here
       (text_goes key me.0.size slots id me (32 * o.slot + length o.text) (λ _. x) (λ _. word_put (step slots (text_at me.0.size (32 * o.slot + length o.text)) x 0 none) me x) is here
       (λ b vs r seen small. (PutWord x, (o, own, un, short, refl), (refl, refl))))
 
-  pub validating : (i : ℕ) (o : Own) → me.0.own ≡ Some o → o.linked ≡ true → o.slot < me.0.size.slots → i ≡ atom_at me.0.size o.slot
+  pub validating : (i : ℕ) (o : Own) → me.0.own ≡ Some o → o.linked ≡ true → Sitting me.0 → o.slot < me.0.size.slots → i ≡ atom_at me.0.size o.slot
       → Allows (Rule key) slots id me i (λ _. 7) (λ _. validated (step slots i 7 0 none) me 7)
-  validating i o own on inside at = subst (λ (w : ℕ). Allows (Rule key) slots id me w (λ _. 7) (λ _. validated (step slots w 7 0 none) me 7)) (sym at)
+  validating i o own on sits inside at = subst (λ (w : ℕ). Allows (Rule key) slots id me w (λ _. 7) (λ _. validated (step slots w 7 0 none) me 7)) (sym at)
       (atom_goes key me.0.size slots id me o.slot (λ _. 7) (λ _. validated (step slots (atom_at me.0.size o.slot) 7 0 none) me 7) is here inside
       (λ b vs r seen small. let s = r.seats id me.0 seen here in let ok = s.own o own in let live = ok.linked on in let short = text_short b.texts o.slot in
       let text : text_of b.texts o.slot ≡ o.text = sym (take_all (length o.text) (text_of b.texts o.slot) (omega (arith, live.1))) ∙ ok.text in (
         Validate,
-        (o, own, on, refl),
-        ((refl, refl), λ p too. let one : o ≡ p = some_same o p me.0.own own too in subst (λ (y : Own). Alone me.0 y.slot y.text) one (alone_at me.0.size b vs r id me.0 s o.slot o.text live.0 text)),
+        (o, own, on, sits, refl),
+        ((refl, refl), λ p too. let one : o ≡ p = some_same o p me.0.own own too in subst (λ (y : Own). Alone me.0 y.slot y.text) one (alone_at me.0.size b vs r id me.0 s o.slot o.text live.0 (let state = ok.state in (λ two. omega arith)) text)),
       )))
 
   pub releasing : (i : ℕ) (o : Own) → me.0.own ≡ Some o → o.linked ≡ false → o.slot < me.0.size.slots → i ≡ atom_at me.0.size o.slot
@@ -172,3 +172,18 @@ module _ (key : Size) (slots id : ℕ) (me : Sat) (is : key ≡ me.0.size) (here
         (head_read me.0.size b r.sized h inside, refl),
         (refl, λ j e. let same : h ≡ j = omega arith in ((λ hit. absurd (miss hit)), λ _. ap (λ (x : ℕ). view_after me.0 (Load (head_at me.0.size x) (head b h))) same)),
       )))
+
+  pub seeing_risen : (i h : ℕ) → i ≡ head_at me.0.size h → h < me.0.size.heads → Allows (Rule key) slots id me i (λ n. n) (head_risen (step slots i 0 0 none) me)
+  seeing_risen i h at inside = subst (λ (w : ℕ). Allows (Rule key) slots id me w (λ n. n) (head_risen (step slots w 0 0 none) me)) (sym at)
+      (head_load key me.0.size slots id me h (head_risen (step slots (head_at me.0.size h) 0 0 none) me) is here inside
+      (λ b vs r seen small. dite (dec_le me.0.size.start (version_of (head b h)))
+      (λ high. (
+        Risen h (head b h),
+        (inside, refl, high, refl),
+        (refl, λ j e. let same : h ≡ j = omega arith in ((λ _. ap (λ (x : ℕ). view_after me.0 (Risen x (head b h))) same), λ low. absurd (omega arith))),
+      ))
+      (λ low. (
+        Load (head_at me.0.size h) (head b h),
+        (head_read me.0.size b r.sized h inside, refl),
+        (refl, λ j e. let same : h ≡ j = omega arith in ((λ high. absurd (low high)), λ _. ap (λ (x : ℕ). view_after me.0 (Load (head_at me.0.size x) (head b h))) same)),
+      ))))

@@ -1,11 +1,11 @@
 -- A step on a text word or on a link word of the seat's own slot keeps the rule.
-use Rattle.std.proofs.Common.{◌≡◌, ◌≢◌, ℕ, ◌+◌, ◌*◌, ◌<◌, true, false, List, [], ◌∷◌, ◌++◌, length, get_or, set, take, refl, sym, ap, ◌∙◌, subst, inl, inr, ⊎_elim, arith, Some, length-set, length-append, get_or-set_same, get_or-set_other}
+use Rattle.std.proofs.Common.{◌≡◌, ◌≢◌, ◌⊎◌, ℕ, ◌+◌, ◌*◌, ◌<◌, true, false, List, [], ◌∷◌, ◌++◌, length, get_or, set, take, refl, sym, ap, ◌∙◌, subst, inl, inr, ⊎_elim, arith, Some, length-set, length-append, get_or-set_same, get_or-set_other}
 use Rattle.atom_words.specs.Layout.{first_of}
 use Rattle.atom_words.specs.Texts.{bucket}
 use Rattle.atom_words.specs.Board.{Board, text_of, with_text, with_link}
 use Rattle.atom_words.specs.Chains.{In, Chain, Linked}
 use Rattle.atom_words.specs.Kinds.{putting, linking, view_after, Does}
-use Rattle.atom_words.specs.Kept.{OwnOk, HeldOk, CountsOk, Seen, WalkOk, SeatOk, Rows, Kept}
+use Rattle.atom_words.specs.Kept.{Fate, Left, OwnOk, HeldOk, CountsOk, Seen, WalkOk, SeatOk, Rows, Kept}
 use Rattle.atom_words.specs.declared.size.Size.{Size}
 use Rattle.atom_words.specs.declared.view.Held.{Held}
 use Rattle.atom_words.specs.declared.view.Counted.{Counted}
@@ -17,38 +17,39 @@ use Rattle.atom_words.proofs.Slices.{some_same, text_else, text_put, chain_at, c
 use Rattle.atom_words.proofs.Puts.{unmapped}
 use Rattle.atom_words.proofs.Frames.{seats_stay}
 
--- the texts of linked slots stay
-module _ (z : Size) (texts texts' : List ℕ) (chain : ℕ → List ℕ) (same : (q : ℕ) → Linked z.heads chain q → text_of texts' q ≡ text_of texts q) where
+-- the texts of linked slots and of the dying one stay
+module _ (z : Size) (texts texts' : List ℕ) (chain : ℕ → List ℕ) (f : Fate) (same : (q : ℕ) → Linked z.heads chain q ⊎ (f.slot ≡ q + 1) → text_of texts' q ≡ text_of texts q) where
   pub held_text : (atoms : List ℕ) (a : Held) → HeldOk z atoms texts chain a → HeldOk z atoms texts' chain a
-  held_text atoms a h = record { inside = h.inside; valid = h.valid; linked = h.linked; text = same a.slot h.linked ∙ h.text }
+  held_text atoms a h = record { inside = h.inside; valid = h.valid; linked = h.linked; text = same a.slot (inl h.linked) ∙ h.text }
 
   pub counts_text : (atoms : List ℕ) (keeper j : ℕ) (cs : List Counted) → CountsOk z atoms texts chain keeper j cs → CountsOk z atoms texts' chain keeper j cs
   counts_text atoms keeper j cs h = record { mine = h.mine; each_slot = h.each_slot; counts = h.counts; live = λ k c at some_. held_text atoms (record { slot = k; text = c.text }) (h.live k c at some_) }
 
-  pub walk_text : (atoms links heads : List ℕ) (w : Walk) → WalkOk z atoms links heads texts chain w → WalkOk z atoms links heads texts' chain w
-  walk_text atoms links heads w h = record {
+  pub walk_text : (links heads : List ℕ) (w : Walk) → WalkOk z links heads texts chain f w → WalkOk z links heads texts' chain f w
+  walk_text links heads w h = record {
     inside = h.inside;
     short = h.short;
     past = h.past;
     word = h.word;
-    claim = λ e. let u = h.claim e in let on : (k : ℕ) → In k (chain w.head) → text_of texts' k ≡ text_of texts k = λ k i. same k (w.head, h.inside, i) in record {
+    claim = λ e. let u = h.claim e in let on : (k : ℕ) → In k (chain w.head) → text_of texts' k ≡ text_of texts k = λ k i. same k (inl (w.head, h.inside, i)) in record {
       path = u.path;
       reached = u.reached;
-      each = λ k i. ⊎_elim (λ (t : Seen texts w.seen k). inl (t.0, t.1, t.2, t.3, ap (take (length t.1.text)) (on k i) ∙ t.4)) (λ (t : In k u.path). inr t) (u.each k i);
+      each = λ k i alive. ⊎_elim (λ (t : Seen texts w.seen k). inl (t.0, t.1, t.2, t.3, ap (take (length t.1.text)) (on k i) ∙ t.4)) (λ (t : In k u.path). inr t) (u.each k i alive);
       inside = u.inside;
       few = u.few;
       part = λ k at. let c = chain_at links k u.path (subst (λ (n : ℕ). Chain links n u.path) at u.reached) in
-          ap (take (length w.part)) (on k (u.inside k (subst (In k) (sym c.1) (0, refl)))) ∙ u.part k at;
-      guard = u.guard;
+          ap (take (length w.part)) (⊎_elim (λ (t : In k (chain w.head)). on k t) (λ (t : Left f w k). same k (inr t.0)) (u.inside k (subst (In k) (sym c.1) (0, refl)))) ∙ u.part k at;
+      dead = u.dead;
     };
+    lost = h.lost;
   }
 
-  pub rows_text : (row : ℕ) (links heads : List ℕ) (place : ℕ → ℕ) → Rows z row links heads texts chain place → Rows z row links heads texts' chain place
+  pub rows_text : (row : ℕ) (links heads : List ℕ) (place : ℕ → ℕ) → Rows z row links heads texts chain place f → Rows z row links heads texts' chain place f
   rows_text row links heads place r = record {
     chains = r.chains;
     once = r.once;
-    stands = λ h k inside i. ap (bucket row) (same k (h, inside, i)) ∙ r.stands h k inside i;
-    unlike = λ h k q inside i j e. r.unlike h k q inside i j (sym (same k (h, inside, i)) ∙ (e ∙ same q (h, inside, j)));
+    stands = λ h k inside i. ap (bucket row) (same k (inl (h, inside, i))) ∙ r.stands h k inside i;
+    unlike = λ h k q inside i j alive too e. r.unlike h k q inside i j alive too (sym (same k (inl (h, inside, i))) ∙ (e ∙ same q (inl (h, inside, j))));
   }
 
 module _ (z : Size) (b : Board) (vs : List View) (r : Kept z b vs) (id : ℕ) (v : View) (s : SeatOk z b r.plan id v) where
@@ -56,13 +57,18 @@ module _ (z : Size) (b : Board) (vs : List View) (r : Kept z b vs) (id : ℕ) (v
   other_slot : (j : ℕ) (w : View) (o : Own) (n : Own) → v.own ≡ Some o → j ≢ id → SeatOk z b r.plan j w → w.own ≡ Some n → n.slot ≢ o.slot
   other_slot j w o n own other sj owns e = other (sym (sj.own n owns).mine ∙ (ap r.plan.owner e ∙ (s.own o own).mine))
 
+  -- the own slot is not dying
+  own_lives : (o : Own) → v.own ≡ Some o → r.plan.fate.slot ≡ o.slot + 1 → ⊥
+  own_lives o own e = let dying = r.slots.dies o.slot e in let state = (s.own o own).state in omega arith
+
   -- PUT A WORD OF THE TEXT
   module _ (o : Own) (x : ℕ) (own : v.own ≡ Some o) (unlinked : o.linked ≡ false) (more : length o.text < 32) where
     texts' : List ℕ
     texts' = set b.texts (32 * o.slot + length o.text) x
 
-    linked_text : (q : ℕ) → Linked z.heads r.plan.chain q → text_of (set b.texts (32 * o.slot + length o.text) x) q ≡ text_of b.texts q
-    linked_text q l = text_else b.texts o.slot (length o.text) x q more (λ e. (s.own o own).apart unlinked (subst (Linked z.heads r.plan.chain) e l))
+    linked_text : (q : ℕ) → Linked z.heads r.plan.chain q ⊎ (r.plan.fate.slot ≡ q + 1) → text_of (set b.texts (32 * o.slot + length o.text) x) q ≡ text_of b.texts q
+    linked_text q l = text_else b.texts o.slot (length o.text) x q more (λ e. ⊎_elim (λ (t : Linked z.heads r.plan.chain q). (s.own o own).apart unlinked (subst (Linked z.heads r.plan.chain) e t))
+        (λ (t : r.plan.fate.slot ≡ q + 1). own_lives o own (t ∙ ap (λ (n : ℕ). n + 1) e)) l)
 
     others_text : (j : ℕ) (w : View) → j ≢ id → SeatOk z b r.plan j w → SeatOk z (with_text b (32 * o.slot + length o.text) x) r.plan j w
     others_text j w other sj = let t : List ℕ = set b.texts (32 * o.slot + length o.text) x in record {
@@ -78,10 +84,14 @@ module _ (z : Size) (b : Board) (vs : List View) (r : Kept z b vs) (id : ℕ) (v
         apart = h.apart;
         linked = h.linked;
       };
-      held = λ i a e. held_text z b.texts t r.plan.chain linked_text b.atoms a (sj.held i a e);
-      fixed = λ i a e. held_text z b.texts t r.plan.chain linked_text b.atoms a (sj.fixed i a e);
-      counts = λ cs e. counts_text z b.texts t r.plan.chain linked_text b.atoms r.plan.keeper j cs (sj.counts cs e);
-      walk = λ w e. walk_text z b.texts t r.plan.chain linked_text b.atoms b.links b.heads w (sj.walk w e);
+      held = λ i a e. held_text z b.texts t r.plan.chain r.plan.fate linked_text b.atoms a (sj.held i a e);
+      fixed = λ i a e. held_text z b.texts t r.plan.chain r.plan.fate linked_text b.atoms a (sj.fixed i a e);
+      low = sj.low;
+      counts = λ cs e. counts_text z b.texts t r.plan.chain r.plan.fate linked_text b.atoms r.plan.keeper j cs (sj.counts cs e);
+      walk = λ w e. walk_text z b.texts t r.plan.chain r.plan.fate linked_text b.links b.heads w (sj.walk w e);
+      marks = sj.marks;
+      sweeps = sj.sweeps;
+      risen = sj.risen;
     }
 
     mine_text : SeatOk z (with_text b (32 * o.slot + length o.text) x) r.plan id (view_after v (PutWord x))
@@ -100,10 +110,14 @@ module _ (z : Size) (b : Board) (vs : List View) (r : Kept z b vs) (id : ℕ) (v
             apart = h.apart;
             linked = λ l. let no : true ≡ false = sym l ∙ unlinked in cc;
           });
-      held = λ i a e. held_text z b.texts t r.plan.chain linked_text b.atoms a (s.held i a e);
-      fixed = λ i a e. held_text z b.texts t r.plan.chain linked_text b.atoms a (s.fixed i a e);
-      counts = λ cs e. counts_text z b.texts t r.plan.chain linked_text b.atoms r.plan.keeper id cs (s.counts cs e);
-      walk = λ w e. walk_text z b.texts t r.plan.chain linked_text b.atoms b.links b.heads w (s.walk w e);
+      held = λ i a e. held_text z b.texts t r.plan.chain r.plan.fate linked_text b.atoms a (s.held i a e);
+      fixed = λ i a e. held_text z b.texts t r.plan.chain r.plan.fate linked_text b.atoms a (s.fixed i a e);
+      low = s.low;
+      counts = λ cs e. counts_text z b.texts t r.plan.chain r.plan.fate linked_text b.atoms r.plan.keeper id cs (s.counts cs e);
+      walk = λ w e. walk_text z b.texts t r.plan.chain r.plan.fate linked_text b.links b.heads w (s.walk w e);
+      marks = s.marks;
+      sweeps = s.sweeps;
+      risen = s.risen;
     }
 
     put_word_at : Kept z (with_text b (32 * o.slot + length o.text) x) (set vs id (view_after v (PutWord x)))
@@ -111,8 +125,10 @@ module _ (z : Size) (b : Board) (vs : List View) (r : Kept z b vs) (id : ℕ) (v
       plan = r.plan;
       sized = record { small = r.sized.small; acks = r.sized.acks; atoms = r.sized.atoms; links = r.sized.links; heads = r.sized.heads; texts = length-set b.texts (32 * o.slot + length o.text) x ∙ r.sized.texts };
       row = r.row;
-      rows = rows_text z b.texts (set b.texts (32 * o.slot + length o.text) x) r.plan.chain linked_text b.row b.links b.heads r.plan.place r.rows;
+      rows = rows_text z b.texts (set b.texts (32 * o.slot + length o.text) x) r.plan.chain r.plan.fate linked_text b.row b.links b.heads r.plan.place r.rows;
       slots = r.slots;
+      cycle = r.cycle;
+      fate = r.fate;
       seats = seats_stay (SeatOk z (with_text b (32 * o.slot + length o.text) x) r.plan) vs id (view_after v (PutWord x)) (λ _. mine_text) (λ j w other at here. others_text j w other (r.seats j w at here));
     }
 
@@ -124,13 +140,17 @@ module _ (z : Size) (b : Board) (vs : List View) (r : Kept z b vs) (id : ℕ) (v
     not_on : (h : ℕ) → h < z.heads → ¬ In o.slot (r.plan.chain h)
     not_on h inside i = (s.own o own).apart unlinked (h, inside, i)
 
-    walk_link_word : (w : Walk) → WalkOk z b.atoms b.links b.heads b.texts r.plan.chain w → WalkOk z b.atoms (set b.links o.slot l) b.heads b.texts r.plan.chain w
+    not_ahead : (w : Walk) (h : ℕ) → h < z.heads → In o.slot (r.plan.chain h) ⊎ Left r.plan.fate w o.slot → ⊥
+    not_ahead w h inside i = ⊎_elim (not_on h inside) (λ (t : Left r.plan.fate w o.slot). own_lives o own t.0) i
+
+    walk_link_word : (w : Walk) → WalkOk z b.links b.heads b.texts r.plan.chain r.plan.fate w → WalkOk z (set b.links o.slot l) b.heads b.texts r.plan.chain r.plan.fate w
     walk_link_word w h = record {
       inside = h.inside;
       short = h.short;
       past = h.past;
       word = h.word;
-      claim = λ e. let u = h.claim e in record { path = u.path; reached = chain_else b.links o.slot l w.place u.path u.reached (λ i. not_on w.head h.inside (u.inside o.slot i)); each = u.each; inside = u.inside; few = let f = u.few in omega (arith, length-set b.links o.slot l); part = u.part; guard = u.guard };
+      claim = λ e. let u = h.claim e in record { path = u.path; reached = chain_else b.links o.slot l w.place u.path u.reached (λ i. not_ahead w w.head h.inside (u.inside o.slot i)); each = u.each; inside = u.inside; few = let f = u.few in omega (arith, length-set b.links o.slot l); part = u.part; dead = u.dead };
+      lost = h.lost;
     }
 
     others_link_word : (j : ℕ) (w : View) → j ≢ id → SeatOk z b r.plan j w → SeatOk z (with_link b o.slot l) r.plan j w
@@ -149,8 +169,12 @@ module _ (z : Size) (b : Board) (vs : List View) (r : Kept z b vs) (id : ℕ) (v
       };
       held = sj.held;
       fixed = sj.fixed;
+      low = sj.low;
       counts = sj.counts;
       walk = λ t e. walk_link_word t (sj.walk t e);
+      marks = sj.marks;
+      sweeps = sj.sweeps;
+      risen = sj.risen;
     }
 
     mine_link_word : SeatOk z (with_link b o.slot l) r.plan id (view_after v (PutLink l))
@@ -170,8 +194,12 @@ module _ (z : Size) (b : Board) (vs : List View) (r : Kept z b vs) (id : ℕ) (v
           });
       held = s.held;
       fixed = s.fixed;
+      low = s.low;
       counts = s.counts;
       walk = λ t e. walk_link_word t (s.walk t e);
+      marks = s.marks;
+      sweeps = s.sweeps;
+      risen = s.risen;
     }
 
     put_link_at : Kept z (with_link b o.slot l) (set vs id (view_after v (PutLink l)))
@@ -186,6 +214,8 @@ module _ (z : Size) (b : Board) (vs : List View) (r : Kept z b vs) (id : ℕ) (v
         unlike = r.rows.unlike;
       };
       slots = r.slots;
+      cycle = r.cycle;
+      fate = r.fate;
       seats = seats_stay (SeatOk z (with_link b o.slot l) r.plan) vs id (view_after v (PutLink l)) (λ _. mine_link_word) (λ j w other at here. others_link_word j w other (r.seats j w at here));
     }
 

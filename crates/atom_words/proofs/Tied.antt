@@ -2,7 +2,7 @@
 use Rattle.std.proofs.Common.{◌≡◌, ℕ, ◌<◌, ◌≤◌, [], ◌∷◌, ◌++◌, refl, sym, ap, ◌∙◌, subst, ⊎_elim, Option, Some, None, Result, Ok, Err, option_map}
 use Rattle.atom_words.specs.Layout.{version_of}
 use Rattle.atom_words.specs.Board.{head_at}
-use Rattle.atom_words.specs.Kinds.{next_first, next_counted, counting, after}
+use Rattle.atom_words.specs.Kinds.{next_first, next_counted, counting, rising, after}
 use Rattle.atom_words.specs.Seats.{Raises, Unchanged}
 use Rattle.atom_words.specs.Ties.{own_slot, walk_head, walk_word, pass_began, pass_first, pass_counted, OwnTied, WalkTied, PassTied}
 use Rattle.atom_words.specs.declared.size.Size.{Size}
@@ -10,7 +10,7 @@ use Rattle.atom_words.specs.declared.view.Own.{Own}
 use Rattle.atom_words.specs.declared.view.Walk.{Walk}
 use Rattle.atom_words.specs.declared.view.Passing.{Passing}
 use Rattle.atom_words.specs.declared.view.View.{View}
-use Rattle.atom_words.specs.declared.kind.Kind.TheVariants.{Load, Raise}
+use Rattle.atom_words.specs.declared.kind.Kind.TheVariants.{Load, Raise, Risen}
 
 -- views that agree on the own slot, the walk or the pass are tied alike
 pub own_tied : (v w : View) (own : ℕ) → w ≡ v → OwnTied v own → OwnTied w own
@@ -54,7 +54,14 @@ same_passes v w began first counted e t = (ap (pass_began began) e ∙ t.0, ap (
 -- a raise of a head's version leaves the view
 pub raises_unchanged : (h : ℕ) (v : View) (r : Result (Unit {0}) ℕ) (w : View) → Raises h v r w → Unchanged v w
 raises_unchanged h v (Ok _) w e = ⊎_elim
-    (λ (t : (v.size.start ≤ version_of e.0) × (w ≡ after v (Load (head_at v.size h) e.0 ∷ []))). ((v.made ++ Load (head_at v.size h) e.0 ∷ []), t.1))
-    (λ (t : (version_of e.0 < v.size.start) × (w ≡ after v (Load (head_at v.size h) e.0 ∷ Raise h ∷ []))). (((v.made ++ Load (head_at v.size h) e.0 ∷ []) ++ Raise h ∷ []), t.1))
+    (λ (t : (v.size.start ≤ version_of e.0) × (w ≡ after v (Risen h e.0 ∷ []))). ((v.made ++ Risen h e.0 ∷ []), rising h v.risen, t.1))
+    (λ (t : (version_of e.0 < v.size.start) × (w ≡ after v (Load (head_at v.size h) e.0 ∷ Raise h ∷ []))). (((v.made ++ Load (head_at v.size h) e.0 ∷ []) ++ Raise h ∷ []), rising h v.risen, t.1))
     e.1
-raises_unchanged h v (Err y) w e = (((v.made ++ Load (head_at v.size h) e.0 ∷ []) ++ Load (head_at v.size h) y ∷ []), e.3)
+raises_unchanged h v (Err y) w e = (((v.made ++ Load (head_at v.size h) e.0 ∷ []) ++ Load (head_at v.size h) y ∷ []), v.risen, e.3)
+
+-- a head whose version was raised is known to have risen
+pub raises_rising : (h : ℕ) (v : View) (a : Unit {0}) (w : View) → Raises h v (Ok a) w → w.risen ≡ rising h v.risen
+raises_rising h v a w e = ⊎_elim
+    (λ (t : (v.size.start ≤ version_of e.0) × (w ≡ after v (Risen h e.0 ∷ []))). ap (λ (y : View). y.risen) t.1)
+    (λ (t : (version_of e.0 < v.size.start) × (w ≡ after v (Load (head_at v.size h) e.0 ∷ Raise h ∷ []))). ap (λ (y : View). y.risen) t.1)
+    e.1

@@ -1,5 +1,5 @@
 -- Each raw step of a walk, of linking and of fetching is of its kind. For the crates above.
-use Rattle.std.proofs.Common.{◌≡◌, ◌≢◌, ◌⊎◌, ℕ, ◌+◌, ◌-◌, ◌*◌, ◌<◌, ◌≤◌, eqb, true, false, List, [], ◌∷◌, ◌++◌, length, get_or, take, drop, bit_or, refl, sym, ap, ◌∙◌, subst, ⊎_elim, arith, Some, take_all, get_or-drop, get_or-take}
+use Rattle.std.proofs.Common.{◌≡◌, ◌≢◌, ◌⊎◌, ℕ, ◌+◌, ◌-◌, ◌*◌, ◌<◌, ◌≤◌, eqb, true, false, List, [], ◌∷◌, ◌++◌, length, get_or, take, drop, bit_or, refl, sym, ap, ◌∙◌, subst, inl, ⊎_elim, arith, Some, None, take_all, get_or-drop, get_or-take}
 use mathlib.Core.Logic.{dite}
 use mathlib.Core.Option.{none, some}
 use lib.ListN.{get_elem?}
@@ -10,10 +10,10 @@ use Rattle.atom_words.specs.Layout.{state_of, first_of, closed_of, version_of, h
 use Rattle.atom_words.specs.Board.{Board, laid, atom, link, head, atom_at, link_at, head_at, text_at, text_of, with_atom}
 use Rattle.atom_words.specs.Chains.{In, Chain}
 use Rattle.atom_words.specs.Views.{uncounted}
-use Rattle.atom_words.specs.Kinds.{counted, view_after, Ended}
+use Rattle.atom_words.specs.Kinds.{Sitting, counted, view_after, Ended}
 use Rattle.atom_words.specs.Rule.{Rule}
 use Rattle.atom_words.specs.Kept.{Kept}
-use Rattle.atom_words.specs.Plays.{loaded, walk_started, word_read, gone_on, slot_held, pending_shown, moved_found, held_word_read, worn_found, link_put, slot_linked, fetched, fixed, kept, asked, Alone, Stale}
+use Rattle.atom_words.specs.Plays.{loaded, walk_started, word_read, gone_on, gone_past, slot_held, pending_shown, moved_found, held_word_read, worn_found, link_put, slot_linked, fetched, fixed, kept, asked, Alone, Stale}
 use Rattle.atom_words.specs.declared.size.Size.{Size}
 use Rattle.atom_words.specs.declared.size.Size.{Size}
 use Rattle.atom_words.specs.declared.view.Held.{Held}
@@ -24,10 +24,11 @@ use Rattle.atom_words.specs.declared.view.Cause.TheVariants.{Moved, Pending, Clo
 use Rattle.atom_words.specs.declared.view.Refusal.TheVariants.{Again, Worn}
 use Rattle.atom_words.specs.declared.view.View.{View}
 use Rattle.atom_words.specs.declared.kind.Kind.{Kind}
-use Rattle.atom_words.specs.declared.kind.Kind.TheVariants.{Load, Protect, Start, Read, Next, Hold, PutLink, Link, Fetch, Refuse, Keep, Fix, Ask}
+use Rattle.atom_words.specs.declared.kind.Kind.TheVariants.{Load, Protect, Start, Read, Next, Skip, Hold, PutLink, Link, Fetch, Refuse, Keep, Fix, Ask}
 use Rattle.atom_words.proofs.Regions.{head_read, text_read}
-use Rattle.atom_words.proofs.Slices.{some_same, or_at, last_same, text_short, chain_at}
+use Rattle.atom_words.proofs.Slices.{some_same, or_at, last_same, text_short}
 use Rattle.atom_words.proofs.AtomSteps.{has, alone_at}
+use Rattle.atom_words.proofs.Loads.{in_chain}
 use Rattle.atom_words.proofs.Steps.{or_mark}
 use Rattle.atom_words.proofs.Adapters.{Sat, load_at, link_load, head_load, text_load, epoch_load, atom_goes, link_goes, head_exchange}
 
@@ -44,7 +45,7 @@ module _ (key : Size) (slots id : ℕ) (me : Sat) (is : key ≡ me.0.size) (here
   starting_walk i h at inside = subst (λ (w : ℕ). Allows (Rule key) slots id me w (λ n. n) (walk_started (step slots w 0 0 none) me)) (sym at)
       (head_load key me.0.size slots id me h (walk_started (step slots (head_at me.0.size h) 0 0 none) me) is here inside
       (λ b vs r seen small. dite (ℕ_discrete (closed_of (head b h)) 0)
-      (λ open_. (Start h (head b h), (inside, refl, refl), (refl, λ j e. let same : h ≡ j = omega arith in ((λ _. ap (λ (x : ℕ). view_after me.0 (Start x (head b h))) same), λ ne. absurd (ne open_)))))
+      (λ open_. (Start h (head b h), (inside, refl, inl open_, refl), (refl, λ j e. let same : h ≡ j = omega arith in ((λ _. ap (λ (x : ℕ). view_after me.0 (Start x (head b h))) same), λ ne. absurd (ne open_)))))
       (λ closed. (Refuse (Again (Closed (head b h))), ((h, inside, refl, omega arith), refl), (refl, λ j e. ((λ o. absurd (closed o)), λ _. refl))))))
 
   pub reading_word : (i k : ℕ) (w : Walk) → me.0.walk ≡ Some w → w.place ≡ k + 1 → length w.part < 32 → i ≡ text_at me.0.size (32 * k + length w.part) → Allows (Rule key) slots id me i (λ n. n) (word_read (step slots i 0 0 none) me)
@@ -57,24 +58,29 @@ module _ (key : Size) (slots id : ℕ) (me : Sat) (is : key ≡ me.0.size) (here
       (link_load key me.0.size slots id me k (gone_on (step slots (link_at me.0.size k) 0 0 none) me) is here inside
       (λ b vs r seen small. (Next (link b k), (w, k, walk, place, refl, refl), (refl, refl))))
 
-  -- what the walk ends with is alone
-  alone_held : (k : ℕ) (w : Walk) → me.0.walk ≡ Some w → w.place ≡ k + 1 → length w.part ≡ 32 → (b : Board) (vs : List View) (r : Kept me.0.size b vs) → version_of (head b w.head) ≡ version_of w.word → get_elem? vs id ≡ some me.0 → Alone me.0 (w.place - 1) w.part
-  alone_held k w walk place whole b vs r same seen = let s = r.seats id me.0 seen here in let ok = s.walk w walk in let u = ok.claim same in let c = chain_at b.links k u.path (subst (λ (n : ℕ). Chain b.links n u.path) place u.reached) in
-      let short = text_short b.texts k in let all : take (length w.part) (text_of b.texts k) ≡ text_of b.texts k = take_all (length w.part) (text_of b.texts k) (omega arith) in let slot : k ≡ w.place - 1 = omega arith in
-      subst (λ (n : ℕ). Alone me.0 n w.part) slot (alone_at me.0.size b vs r id me.0 s k w.part (w.head, ok.inside, u.inside k (subst (In k) (sym c.1) (0, refl))) (sym all ∙ u.part k place))
+  pub skipping_past : (i k : ℕ) (w : Walk) → me.0.walk ≡ Some w → me.0.sweep ≡ None → w.place ≡ k + 1 → w.dead ≡ true → k < me.0.size.slots → i ≡ link_at me.0.size k → Allows (Rule key) slots id me i (λ n. n) (gone_past (step slots i 0 0 none) me)
+  skipping_past i k w walk no_sweep place dead inside at = subst (λ (x : ℕ). Allows (Rule key) slots id me x (λ n. n) (gone_past (step slots x 0 0 none) me)) (sym at)
+      (link_load key me.0.size slots id me k (gone_past (step slots (link_at me.0.size k) 0 0 none) me) is here inside
+      (λ b vs r seen small. (Skip (link b k), (w, k, walk, no_sweep, place, dead, refl, refl), (refl, refl))))
 
-  pub holding : (i k : ℕ) (w : Walk) → me.0.walk ≡ Some w → w.place ≡ k + 1 → w.guarded ≡ true → length w.part ≡ 32 → w.head < me.0.size.heads → i ≡ head_at me.0.size w.head
+  -- what the walk ends with is alone
+  alone_held : (k : ℕ) (w : Walk) → me.0.walk ≡ Some w → w.place ≡ k + 1 → w.guarded ≡ true → Sitting me.0 → length w.part ≡ 32 → (b : Board) (vs : List View) (r : Kept me.0.size b vs) → version_of (head b w.head) ≡ version_of w.word → get_elem? vs id ≡ some me.0 → Alone me.0 (w.place - 1) w.part
+  alone_held k w walk place guarded sits whole b vs r same seen = let s = r.seats id me.0 seen here in let ok = s.walk w walk in let u = ok.claim same in let valid = (s.marks.guard w k walk guarded place sits).0 in
+      let short = text_short b.texts k in let all : take (length w.part) (text_of b.texts k) ≡ text_of b.texts k = take_all (length w.part) (text_of b.texts k) (omega arith) in let slot : k ≡ w.place - 1 = omega arith in
+      subst (λ (n : ℕ). Alone me.0 n w.part) slot (alone_at me.0.size b vs r id me.0 s k w.part (w.head, ok.inside, in_chain me.0.size b vs r id me.0 s w k ok place same valid) (λ two. omega arith) (sym all ∙ u.part k place))
+
+  pub holding : (i k : ℕ) (w : Walk) → me.0.walk ≡ Some w → w.place ≡ k + 1 → w.guarded ≡ true → Sitting me.0 → length w.part ≡ 32 → w.head < me.0.size.heads → i ≡ head_at me.0.size w.head
       → Allows (Rule key) slots id me i (λ n. n) (slot_held (step slots i 0 0 none) me)
-  holding i k w walk place guarded whole inside at = subst (λ (x : ℕ). Allows (Rule key) slots id me x (λ n. n) (slot_held (step slots x 0 0 none) me)) (sym at)
+  holding i k w walk place guarded sits whole inside at = subst (λ (x : ℕ). Allows (Rule key) slots id me x (λ n. n) (slot_held (step slots x 0 0 none) me)) (sym at)
       (head_load key me.0.size slots id me w.head (slot_held (step slots (head_at me.0.size w.head) 0 0 none) me) is here inside
       (λ b vs r seen small. dite (ℕ_discrete (version_of (head b w.head)) (version_of w.word))
       (λ same. (
         Hold,
-        (w, k, walk, place, guarded, whole, same, refl),
+        (w, k, walk, place, guarded, whole, same, sits, refl),
         (
           refl,
           λ y e. let one : w ≡ y = some_same w y me.0.walk walk e in
-              ((λ _. (refl, subst (λ (t : Walk). Alone me.0 (t.place - 1) t.part) one (alone_held k w walk place whole b vs r same seen))), λ ne. absurd (ne (same ∙ ap (λ (t : Walk). version_of t.word) one))),
+              ((λ _. (refl, subst (λ (t : Walk). Alone me.0 (t.place - 1) t.part) one (alone_held k w walk place guarded sits whole b vs r same seen))), λ ne. absurd (ne (same ∙ ap (λ (t : Walk). version_of t.word) one))),
         ),
       ))
       (λ moved. (
@@ -101,15 +107,18 @@ module _ (key : Size) (slots id : ℕ) (me : Sat) (is : key ≡ me.0.size) (here
       ))
 
   -- at the walk's version it would stand at a slot of the chain, and would not have passed them all
-  not_stale : (z : Size) (links : List ℕ) (w : Walk) (path : List ℕ) → length links ≡ z.slots → Chain links w.place path → length w.seen + length path ≤ length links → Stale z w → ⊥
-  not_stale z links w [] long c few stale = stale.0 c
-  not_stale z links w (k ∷ ks) long c few stale = let at : w.place ≡ k + 1 = c.0 in let inside : k < length links = c.1 in
-      ⊎_elim (λ (h : z.slots < w.place). omega arith) (λ (h : z.slots ≤ length w.seen). omega arith) stale.1
+  not_stale : (z : Size) (links : List ℕ) (w : Walk) (path : List ℕ) → length links ≡ z.slots → Chain links w.place path → length w.seen + w.skipped + length path ≤ length links → (w.lost ≡ true → ⊥) → Stale z w → ⊥
+  not_stale z links w path long c few found stale = ⊎_elim found (λ (t : (w.place ≢ 0) × ((z.slots < w.place) ⊎ (z.slots ≤ length w.seen + w.skipped))). at_end path c few t.0 t.1) stale
+    where
+      at_end : (path : List ℕ) → Chain links w.place path → length w.seen + w.skipped + length path ≤ length links → w.place ≢ 0 → (z.slots < w.place) ⊎ (z.slots ≤ length w.seen + w.skipped) → ⊥
+      at_end [] c few some_ out = some_ c
+      at_end (k ∷ ks) c few some_ out = let at : w.place ≡ k + 1 = c.0 in let inside : k < length links = c.1 in
+          ⊎_elim (λ (h : z.slots < w.place). omega arith) (λ (h : z.slots ≤ length w.seen + w.skipped). omega arith) out
 
   pub finding_moved : (i : ℕ) (w : Walk) → me.0.walk ≡ Some w → Stale me.0.size w → w.head < me.0.size.heads → i ≡ head_at me.0.size w.head → Allows (Rule key) slots id me i (λ n. n) (moved_found (step slots i 0 0 none) me)
   finding_moved i w walk stale inside at = subst (λ (x : ℕ). Allows (Rule key) slots id me x (λ n. n) (moved_found (step slots x 0 0 none) me)) (sym at)
       (head_load key me.0.size slots id me w.head (moved_found (step slots (head_at me.0.size w.head) 0 0 none) me) is here inside
-      (λ b vs r seen small. let moved : version_of (head b w.head) ≢ version_of w.word = (λ same. let u = ((r.seats id me.0 seen here).walk w walk).claim same in not_stale me.0.size b.links w u.path r.sized.links u.reached u.few stale) in (
+      (λ b vs r seen small. let moved : version_of (head b w.head) ≢ version_of w.word = (λ same. let ok = (r.seats id me.0 seen here).walk w walk in let u = ok.claim same in not_stale me.0.size b.links w u.path r.sized.links u.reached u.few (λ g. let behind = ok.lost g in omega arith) stale) in (
         Refuse (Again (Moved w.word (head b w.head))),
         ((w, walk, refl, inside, refl, moved), refl),
         (
@@ -177,18 +186,18 @@ module _ (key : Size) (slots id : ℕ) (me : Sat) (is : key ≡ me.0.size) (here
       (λ b vs r seen miss. let moved : version_of (head b w.head) ≢ version_of w.word = (λ same. miss (((r.seats id me.0 seen here).walk w walk).word same)) in
       (Refuse (Again (Moved w.word (head b w.head))), ((w, walk, refl, inside, refl, moved), refl), (refl, (λ e. absurd (miss e)), λ _. (moved, refl)))))
 
-  pub fetching : (i k : ℕ) (cs : List Counted) → i ≡ atom_at me.0.size k → k < me.0.size.slots → me.0.counts ≡ Some cs → 0 < (counted cs k).count → Allows (Rule key) slots id me i (λ n. bit_or n 4) (fetched (step slots i 4 0 none) me)
-  fetching i k cs at inside counts some_ = subst (λ (w : ℕ). Allows (Rule key) slots id me w (λ n. bit_or n 4) (fetched (step slots w 4 0 none) me)) (sym at)
+  pub fetching : (i k : ℕ) (cs : List Counted) → i ≡ atom_at me.0.size k → k < me.0.size.slots → me.0.counts ≡ Some cs → 0 < (counted cs k).count → Sitting me.0 → Allows (Rule key) slots id me i (λ n. bit_or n 4) (fetched (step slots i 4 0 none) me)
+  fetching i k cs at inside counts some_ sits = subst (λ (w : ℕ). Allows (Rule key) slots id me w (λ n. bit_or n 4) (fetched (step slots w 4 0 none) me)) (sym at)
       (atom_goes key me.0.size slots id me k (λ n. bit_or n 4) (fetched (step slots (atom_at me.0.size k) 4 0 none) me) is here inside
       (λ b vs r seen small. (
         Fetch k,
-        (cs, counts, inside, some_, ap (with_atom b k) (or_mark (atom b k))),
+        (cs, counts, inside, some_, sits, ap (with_atom b k) (or_mark (atom b k))),
         (
           refl,
           λ j e. let same : k ≡ j = omega arith in (
             ap (λ (x : ℕ). view_after me.0 (Fetch x)) same,
-            λ ds too. let one : cs ≡ ds = some_same cs ds me.0.counts counts too in let ok = (r.seats id me.0 seen here).counts cs counts in let held = ok.live k (counted cs k) (or_at cs k uncounted (omega (arith, ok.each_slot))) some_ in
-                subst (λ (n : ℕ). Alone me.0 n (counted ds n).text) same (subst (λ (l : List Counted). Alone me.0 k (counted l k).text) one (alone_at me.0.size b vs r id me.0 (r.seats id me.0 seen here) k (counted cs k).text held.linked held.text)),
+            λ ds too. let one : cs ≡ ds = some_same cs ds me.0.counts counts too in let ok = (r.seats id me.0 seen here).counts cs counts in let held = ok.live k (counted cs k) (or_at cs k uncounted (omega (arith, ok.each_slot))) some_ in let valid = held.valid in
+                subst (λ (n : ℕ). Alone me.0 n (counted ds n).text) same (subst (λ (l : List Counted). Alone me.0 k (counted l k).text) one (alone_at me.0.size b vs r id me.0 (r.seats id me.0 seen here) k (counted cs k).text held.linked (λ two. omega arith) held.text)),
           ),
         ),
       )))

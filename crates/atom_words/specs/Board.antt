@@ -10,7 +10,7 @@ pub record Board : Type 0 where
   pub acks : List ℕ
   -- for each slot its state, mark and count
   pub atoms : List ℕ
-  -- for each slot 0, or 1 more than the slot behind it in its chain
+  -- for each slot 0, or 1 more than the slot after it in its chain
   pub links : List ℕ
   -- for each bucket its first slot, whether it is closed, and its version
   pub heads : List ℕ
@@ -61,6 +61,12 @@ head b h = slice_index b.heads h
 -- the text of a slot: its 32 words
 abbrev pub text_of : List ℕ → ℕ → List ℕ
 text_of texts k = take 32 (drop (32 * k) texts)
+
+abbrev pub with_epoch : Board → ℕ → Board
+with_epoch b x = record b { epoch = x }
+
+abbrev pub with_ack : Board → ℕ → ℕ → Board
+with_ack b e x = record b { acks = set b.acks e x }
 
 abbrev pub with_atom : Board → ℕ → ℕ → Board
 with_atom b k x = record b { atoms = set b.atoms k x }

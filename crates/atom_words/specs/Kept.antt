@@ -1,8 +1,8 @@
 -- What every reached state keeps.
-use Rattle.std.specs.Prelude.{◌≡◌, ◌≢◌, ◌⊎◌, ℕ, ◌+◌, ◌<◌, ◌≤◌, true, false, List, length, take, slice_index, Some}
+use Rattle.std.specs.Prelude.{◌≡◌, ◌≢◌, ◌⊎◌, ℕ, ◌+◌, ◌-◌, ◌<◌, ◌≤◌, Bool, true, false, List, [], length, take, slice_index, Option, Some}
 use mathlib.Core.Option.{some}
 use lib.ListN.{get_elem?}
-use Rattle.atom_words.specs.Layout.{state_of, count_of, first_of, version_of}
+use Rattle.atom_words.specs.Layout.{state_of, mark_of, count_of, first_of, version_of, phase_of, epoch_of}
 use Rattle.atom_words.specs.Texts.{bucket}
 use Rattle.atom_words.specs.Board.{Board, Sized, text_of}
 use Rattle.atom_words.specs.Chains.{In, Chain, Linked}
@@ -11,14 +11,27 @@ use Rattle.atom_words.specs.declared.view.Held.{Held}
 use Rattle.atom_words.specs.declared.view.Counted.{Counted}
 use Rattle.atom_words.specs.declared.view.Own.{Own}
 use Rattle.atom_words.specs.declared.view.Walk.{Walk}
+use Rattle.atom_words.specs.declared.view.Cycling.{Cycling}
+use Rattle.atom_words.specs.declared.view.Sweeping.{Sweeping}
 use Rattle.atom_words.specs.declared.view.View.{View}
 
--- what stands in no word: the chain of each head, the head of each linked slot, the seat that owns each reserved slot, and the keeper's seat
+-- the dying slot: 0 or its number plus one; whether it is out of its chain; that chain's head; and the head's version as it was taken out
+pub record Fate : Type 0 where
+  pub slot : ℕ
+  pub out : Bool
+  pub head : ℕ
+  pub left : ℕ
+
+-- what stands in no word: the chain of each head, the head of each linked slot, the seat that owns each reserved slot, the keeper's seat, the collector's and each engine's, what the collector knows, and the dying slot
 pub record Plan : Type 0 where
   pub chain : ℕ → List ℕ
   pub place : ℕ → ℕ
   pub owner : ℕ → ℕ
   pub keeper : ℕ
+  pub collector : ℕ
+  pub engine : ℕ → ℕ
+  pub sweep : Sweeping
+  pub fate : Fate
 
 -- the slot that the seat j has reserved
 pub record OwnOk (z : Size) (atoms links texts : List ℕ) (chain : ℕ → List ℕ) (owner : ℕ → ℕ) (j : ℕ) (o : Own) : Type 0 where
@@ -50,23 +63,50 @@ pub record CountsOk (z : Size) (atoms texts : List ℕ) (chain : ℕ → List �
 abbrev pub Seen : List ℕ → List Held → ℕ → Type 0
 Seen texts seen k = (i : ℕ) × (a : Held) × (get_elem? seen i ≡ some a) × (a.slot ≡ k) × (take (length a.text) (text_of texts k) ≡ a.text)
 
--- of the chain, each slot was seen or is still to come; and all are no more than there are slots
-pub record Unwalked (atoms links texts : List ℕ) (w : Walk) (chain : List ℕ) : Type 0 where
+-- the walk may still come to the slot k, which is dying and was taken out after another, so that no version has moved
+abbrev pub Left : Fate → Walk → ℕ → Type 0
+Left f w k = (f.slot ≡ k + 1) × (f.out ≡ true) × (f.head ≡ w.head) × (version_of w.word ≤ f.left)
+
+-- of the chain, each slot but the dying one was seen or is still to come; and all are no more than there are slots
+pub record Unwalked (links texts : List ℕ) (f : Fate) (w : Walk) (chain : List ℕ) : Type 0 where
   pub path : List ℕ
   pub reached : Chain links w.place path
-  pub each : (k : ℕ) → In k chain → Seen texts w.seen k ⊎ In k path
-  pub inside : (k : ℕ) → In k path → In k chain
-  pub few : length w.seen + length path ≤ length links
+  pub each : (k : ℕ) → In k chain → k + 1 ≢ f.slot → Seen texts w.seen k ⊎ In k path
+  pub inside : (k : ℕ) → In k path → In k chain ⊎ Left f w k
+  pub few : length w.seen + w.skipped + length path ≤ length links
   pub part : (k : ℕ) → w.place ≡ k + 1 → take (length w.part) (text_of texts k) ≡ w.part
-  pub guard : (k : ℕ) → w.place ≡ k + 1 → w.guarded ≡ true → state_of (slice_index atoms k) ≡ 3
+  pub dead : (k : ℕ) → w.place ≡ k + 1 → w.dead ≡ true → f.slot ≡ k + 1
 
 -- a walk: what it knows, it knows while the head has the version that it began with
-pub record WalkOk (z : Size) (atoms links heads texts : List ℕ) (chain : ℕ → List ℕ) (w : Walk) : Type 0 where
+pub record WalkOk (z : Size) (links heads texts : List ℕ) (chain : ℕ → List ℕ) (f : Fate) (w : Walk) : Type 0 where
   pub inside : w.head < z.heads
   pub short : length w.part ≤ 32
   pub past : version_of w.word ≤ version_of (slice_index heads w.head)
   pub word : version_of (slice_index heads w.head) ≡ version_of w.word → slice_index heads w.head ≡ w.word
-  pub claim : version_of (slice_index heads w.head) ≡ version_of w.word → Unwalked atoms links texts w (chain w.head)
+  pub claim : version_of (slice_index heads w.head) ≡ version_of w.word → Unwalked links texts f w (chain w.head)
+  pub lost : w.lost ≡ true → version_of w.word < version_of (slice_index heads w.head)
+
+-- the sweep lets the slot k live: its mark is set, or the sweep has passed it
+abbrev pub Safe : ℕ → List ℕ → ℕ → ℕ → Type 0
+Safe epoch atoms cursor k = (mark_of (slice_index atoms k) ≡ 1) ⊎ ((phase_of epoch ≡ 2) × (k < cursor))
+
+-- a cycle is at work, and the engine has acknowledged it
+abbrev pub Acked : ℕ → Cycling → Type 0
+Acked epoch y = (phase_of epoch ≢ 0) × (y.acked ≡ epoch_of epoch)
+
+-- what the seat j knows of the cycle: each engine has one seat; no sweep begins before all are dealt; what a seat holds or guards is valid, and is safe once its engine has acknowledged; and a seat that may not hold slots holds none
+pub record MarksOk (z : Size) (epoch : ℕ) (acks atoms : List ℕ) (engine : ℕ → ℕ) (cursor j : ℕ) (y : Cycling) (undealt : ℕ) (holds : List Held) (walk : Option Walk) : Type 0 where
+  pub mine : y.engine ≢ 0 → (y.engine ≤ z.engines) × (engine y.engine ≡ j) × (slice_index acks (y.engine - 1) ≡ y.acked)
+  pub to_deal : (e : ℕ) → 0 < e → e ≤ undealt → (e ≤ z.engines) × (engine e ≡ j) × (slice_index acks (e - 1) ≡ 0)
+  pub one : y.engine ≢ 0 → undealt ≡ 0
+  pub engineless : y.engine ≡ 0 → (y.acked ≡ 0) × (y.scanned_at ≡ 0)
+  pub past : y.acked ≤ epoch_of epoch
+  pub before : y.scanned_at ≤ epoch_of epoch
+  pub reading : y.acked < y.scanned_at → (phase_of epoch ≡ 1) × (y.scanned_at ≡ epoch_of epoch)
+  pub scanned : phase_of epoch ≡ 1 → y.scanned_at ≡ epoch_of epoch → (k : ℕ) → In k y.scanned → (state_of (slice_index atoms k) ≡ 3) × (mark_of (slice_index atoms k) ≡ 1)
+  pub held : Acked epoch y → (a : Held) → In a holds → (state_of (slice_index atoms a.slot) ≡ 3) × Safe epoch atoms cursor a.slot
+  pub guard : (w : Walk) (k : ℕ) → walk ≡ Some w → w.guarded ≡ true → w.place ≡ k + 1 → (y.engine ≢ 0) ⊎ (0 < undealt) → (state_of (slice_index atoms k) ≡ 3) × (Acked epoch y → Safe epoch atoms cursor k)
+  pub nothing : y.engine ≡ 0 → undealt ≡ 0 → holds ≡ []
 
 -- what the seat j knows is so
 pub record SeatOk (z : Size) (b : Board) (p : Plan) (j : ℕ) (v : View) : Type 0 where
@@ -74,27 +114,52 @@ pub record SeatOk (z : Size) (b : Board) (p : Plan) (j : ℕ) (v : View) : Type 
   pub own : (o : Own) → v.own ≡ Some o → OwnOk z b.atoms b.links b.texts p.chain p.owner j o
   pub held : (i : ℕ) (a : Held) → get_elem? v.held i ≡ some a → HeldOk z b.atoms b.texts p.chain a
   pub fixed : (i : ℕ) (a : Held) → get_elem? v.fixed i ≡ some a → HeldOk z b.atoms b.texts p.chain a
+  pub low : (i : ℕ) (a : Held) → get_elem? v.fixed i ≡ some a → a.slot < 256
   pub counts : (cs : List Counted) → v.counts ≡ Some cs → CountsOk z b.atoms b.texts p.chain p.keeper j cs
-  pub walk : (w : Walk) → v.walk ≡ Some w → WalkOk z b.atoms b.links b.heads b.texts p.chain w
+  pub walk : (w : Walk) → v.walk ≡ Some w → WalkOk z b.links b.heads b.texts p.chain p.fate w
+  pub marks : MarksOk z b.epoch b.acks b.atoms p.engine p.sweep.cursor j v.cycle v.undealt v.held v.walk
+  pub sweeps : (y : Sweeping) → v.sweep ≡ Some y → (p.collector ≡ j) × (p.sweep ≡ y)
+  pub risen : (h : ℕ) → h < v.risen → (h < z.heads) × (z.start ≤ version_of (slice_index b.heads h))
 
--- the chains: each linked slot is reached from one head, that of its text's bucket, and no two in a chain have equal texts
-pub record Rows (z : Size) (row : ℕ) (links heads texts : List ℕ) (chain : ℕ → List ℕ) (place : ℕ → ℕ) : Type 0 where
+-- the chains: each linked slot is reached from one head, that of its text's bucket, and no two in a chain have equal texts, the dying one aside
+pub record Rows (z : Size) (row : ℕ) (links heads texts : List ℕ) (chain : ℕ → List ℕ) (place : ℕ → ℕ) (f : Fate) : Type 0 where
   pub chains : (h : ℕ) → h < z.heads → Chain links (first_of (slice_index heads h)) (chain h)
   pub once : (h k : ℕ) → h < z.heads → In k (chain h) → place k ≡ h
   pub stands : (h k : ℕ) → h < z.heads → In k (chain h) → bucket row (text_of texts k) ≡ h
-  pub unlike : (h k q : ℕ) → h < z.heads → In k (chain h) → In q (chain h) → text_of texts k ≡ text_of texts q → k ≡ q
+  pub unlike : (h k q : ℕ) → h < z.heads → In k (chain h) → In q (chain h) → k + 1 ≢ f.slot → q + 1 ≢ f.slot → text_of texts k ≡ text_of texts q → k ≡ q
 
--- the states of the slots: a linked slot is reserved or valid, one that is not valid is not counted, and those below 256 that hold no fixed atom stand reserved
-pub record Slots (z : Size) (atoms : List ℕ) (chain : ℕ → List ℕ) : Type 0 where
-  pub live : (k : ℕ) → Linked z.heads chain k → (state_of (slice_index atoms k) ≡ 1) ⊎ (state_of (slice_index atoms k) ≡ 3)
+-- the states of the slots: a linked slot is reserved, valid or the dying one, and a valid slot is linked; one that is not valid is not counted; and those below 256 that hold no fixed atom stand reserved
+pub record Slots (z : Size) (atoms : List ℕ) (chain : ℕ → List ℕ) (f : Fate) : Type 0 where
+  pub live : (k : ℕ) → Linked z.heads chain k → ((state_of (slice_index atoms k) ≡ 1) ⊎ (state_of (slice_index atoms k) ≡ 3)) ⊎ (f.slot ≡ k + 1)
+  pub valid : (k : ℕ) → state_of (slice_index atoms k) ≡ 3 → Linked z.heads chain k
+  pub only : (k : ℕ) → state_of (slice_index atoms k) ≡ 2 → f.slot ≡ k + 1
+  pub dies : (k : ℕ) → f.slot ≡ k + 1 → state_of (slice_index atoms k) ≡ 2
   pub zero : (k : ℕ) → state_of (slice_index atoms k) ≢ 3 → count_of (slice_index atoms k) ≡ 0
   pub shut : (k : ℕ) → k < z.slots → z.fixed ≤ k → k < 256 → state_of (slice_index atoms k) ≡ 1
+
+-- the cycle: the collector knows the epoch word; the engines that it has checked, and in a sweep all, have acknowledged
+pub record CycleOk (z : Size) (epoch : ℕ) (acks : List ℕ) (y : Sweeping) : Type 0 where
+  pub word : y.word ≡ epoch
+  pub phase : phase_of epoch < 3
+  pub begun : phase_of epoch ≢ 0 → 0 < epoch_of epoch
+  pub few : y.checked ≤ z.engines
+  pub checked : phase_of epoch ≡ 1 → (e : ℕ) → e < y.checked → slice_index acks e ≡ epoch_of epoch
+  pub swept : phase_of epoch ≡ 2 → (e : ℕ) → e < z.engines → slice_index acks e ≡ epoch_of epoch
+  pub cursor : y.cursor ≤ z.slots
+
+-- what the collector knows of the dying slot is so
+pub record FateOk (y : Sweeping) (f : Fate) : Type 0 where
+  pub slot : y.dying ≡ f.slot
+  pub out : y.unlinked ≡ f.out
+  pub head : y.head ≡ f.head
 
 -- WHAT IS KEPT
 pub record Kept (z : Size) (b : Board) (vs : List View) : Type 0 where
   pub plan : Plan
   pub sized : Sized z b
   pub row : b.row ≡ 8
-  pub rows : Rows z b.row b.links b.heads b.texts plan.chain plan.place
-  pub slots : Slots z b.atoms plan.chain
+  pub rows : Rows z b.row b.links b.heads b.texts plan.chain plan.place plan.fate
+  pub slots : Slots z b.atoms plan.chain plan.fate
+  pub cycle : CycleOk z b.epoch b.acks plan.sweep
+  pub fate : FateOk plan.sweep plan.fate
   pub seats : (j : ℕ) (v : View) → get_elem? vs j ≡ some v → v.gone ≡ false → SeatOk z b plan j v

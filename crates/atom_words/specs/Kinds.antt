@@ -1,10 +1,10 @@
 -- The kinds of steps: what each asks of the words and of the seat's view, what it does to the words, and the view after it.
-use Rattle.std.specs.Prelude.{◌≡◌, ◌≢◌, ◌⊎◌, ℕ, ◌+◌, ◌-◌, ◌*◌, ◌%◌, ◌<◌, ◌≤◌, ◌==◌, ◌&&◌, ◌||◌, not, nat_lt, true, false, if◌then◌else◌, List, [], ◌∷◌, ◌++◌, length, take, set, get_or, slice_index, Option, Some, None, option_map}
+use Rattle.std.specs.Prelude.{◌≡◌, ◌≢◌, ◌⊎◌, ℕ, ◌+◌, ◌-◌, ◌*◌, ◌%◌, ◌<◌, ◌≤◌, ◌==◌, ◌&&◌, ◌||◌, nat_lt, true, false, if◌then◌else◌, List, [], ◌∷◌, ◌++◌, length, take, set, get_or, slice_index, Option, Some, None, option_map}
 use mathlib.Core.Option.{some}
 use lib.ListN.{get_elem?}
-use Rattle.atom_words.specs.Layout.{state_of, mark_of, first_of, closed_of, version_of, head_word, worn}
+use Rattle.atom_words.specs.Layout.{state_of, mark_of, first_of, closed_of, version_of, head_word, worn, epoch_word, phase_of, epoch_of}
 use Rattle.atom_words.specs.Texts.{bucket}
-use Rattle.atom_words.specs.Board.{Board, laid, atom_at, atom, link, head, text_of, with_atom, with_link, with_head, with_text}
+use Rattle.atom_words.specs.Board.{Board, laid, atom_at, atom, link, head, text_of, with_epoch, with_ack, with_atom, with_link, with_head, with_text}
 use Rattle.atom_words.specs.Chains.{In}
 use Rattle.atom_words.specs.Views.{uncounted}
 use Rattle.atom_words.specs.declared.size.Size.{Size}
@@ -12,6 +12,8 @@ use Rattle.atom_words.specs.declared.view.Held.{Held}
 use Rattle.atom_words.specs.declared.view.Counted.{Counted}
 use Rattle.atom_words.specs.declared.view.Own.{Own}
 use Rattle.atom_words.specs.declared.view.Walk.{Walk}
+use Rattle.atom_words.specs.declared.view.Cycling.{Cycling}
+use Rattle.atom_words.specs.declared.view.Sweeping.{Sweeping}
 use Rattle.atom_words.specs.declared.view.Passing.{Passing}
 use Rattle.atom_words.specs.declared.view.Pass.{Pass}
 use Rattle.atom_words.specs.declared.view.Cause.TheVariants.{Moved, Pending, Closed}
@@ -19,7 +21,7 @@ use Rattle.atom_words.specs.declared.view.Refusal.{Refusal}
 use Rattle.atom_words.specs.declared.view.Refusal.TheVariants.{Full, Again, Worn}
 use Rattle.atom_words.specs.declared.view.View.{View}
 use Rattle.atom_words.specs.declared.kind.Kind.{Kind}
-use Rattle.atom_words.specs.declared.kind.Kind.TheVariants.{Raise, Reserve, PutWord, PutLink, Link, Validate, Release, Load, Refused, Start, Read, Next, Hold, Keep, Fix, StartPass, EndPass, Refuse, Ask, Protect, Fetch, Register, Unregister}
+use Rattle.atom_words.specs.declared.kind.Kind.TheVariants.{Raise, Risen, Reserve, PutWord, PutLink, Link, Validate, Release, Load, Refused, Start, Read, Next, Skip, Hold, Keep, Fix, StartPass, EndPass, Refuse, Ask, Protect, Fetch, Register, Unregister, Begin, Mark, Scan, Ack, Check, ToSweep}
 
 -- the word with its mark set
 abbrev pub marked : ℕ → ℕ
@@ -51,17 +53,32 @@ held_at_hand None = []
 held_at_hand (Some w) = at_hand w ∷ []
 
 abbrev pub starting : ℕ → ℕ → Walk
-starting h x = record { head = h; word = x; place = first_of x; part = []; guarded = false; seen = [] }
+starting h x = record { head = h; word = x; place = first_of x; part = []; guarded = false; dead = false; lost = false; skipped = 0; seen = [] }
 
 abbrev pub reading : ℕ → Walk → Walk
 reading x w = record w { part = w.part ++ x ∷ [] }
 
 abbrev pub going_on : ℕ → Walk → Walk
-going_on x w = record w { place = x; part = []; guarded = false; seen = w.seen ++ at_hand w ∷ [] }
+going_on x w = record w { place = x; part = []; guarded = false; dead = false; seen = w.seen ++ at_hand w ∷ [] }
 
--- the slot k was found with the word x as its mark was set
+abbrev pub skipping : ℕ → Walk → Walk
+skipping x w = record w { place = x; part = []; guarded = false; dead = false; skipped = w.skipped + 1 }
+
+-- the slot k was found with the word x as its mark was set: of the slot at hand the walk learns whether it is valid, or dying, or free
 abbrev pub guarding : ℕ → ℕ → Walk → Walk
-guarding k x w = record w { guarded = w.guarded || ((w.place == k + 1) && not (state_of x == 1)) }
+guarding k x w = record w {
+  guarded = w.guarded || ((w.place == k + 1) && (state_of x == 3));
+  dead = w.dead || ((w.place == k + 1) && (state_of x == 2));
+  lost = w.lost || ((w.place == k + 1) && (state_of x == 0));
+}
+
+-- The seat may hold slots: it is an engine's, or engines' seats are still to be dealt from it
+abbrev pub Sitting : View → Type 0
+Sitting v = (v.cycle.engine ≢ 0) ⊎ (0 < v.undealt)
+
+-- how many heads, from the first on, are known to have risen, after the head h has
+abbrev pub rising : ℕ → ℕ → ℕ
+rising h n = if h == n then n + 1 else n
 
 -- the keeper's count and text of a slot
 abbrev pub counted : List Counted → ℕ → Counted
@@ -99,8 +116,33 @@ full v x (Some p) = if p.counted == v.size.slots then Full (full_pass v x p) ∷
 abbrev pub raised : ℕ → ℕ → ℕ
 raised start w = head_word (first_of w) (closed_of w) start
 
+-- an engine that has read that the cycle marks, and scans until it acknowledges
+abbrev pub Scanning : View → Type 0
+Scanning v = (v.cycle.engine ≢ 0) × (v.cycle.acked < v.cycle.scanned_at)
+
+abbrev pub marking : ℕ → Cycling → Cycling
+marking epoch c = record c { scanned_at = epoch; scanned = [] }
+
+abbrev pub scanning : ℕ → Cycling → Cycling
+scanning k c = record c { scanned = c.scanned ++ k ∷ [] }
+
+abbrev pub acknowledging : Cycling → Cycling
+acknowledging c = record c { acked = c.scanned_at }
+
+-- the collector begins a cycle, finds that one engine more has acknowledged, and goes over to the sweep
+abbrev pub beginning : Sweeping → Sweeping
+beginning y = record y { word = epoch_word 1 (epoch_of y.word + 1); checked = 0 }
+
+abbrev pub checking : Sweeping → Sweeping
+checking y = record y { checked = y.checked + 1 }
+
+abbrev pub turning : Sweeping → Sweeping
+turning y = record y { word = epoch_word 2 (epoch_of y.word); cursor = 0 }
+
 -- THE VIEW AFTER A STEP
 abbrev pub view_after : View → Kind → View
+view_after v (Raise h) = record v { risen = rising h v.risen; made = v.made ++ Raise h ∷ [] }
+view_after v (Risen h x) = record v { risen = rising h v.risen; made = v.made ++ Risen h x ∷ [] }
 view_after v (Reserve k) = record v { own = Some (fresh k); made = v.made ++ Reserve k ∷ [] }
 view_after v (PutWord x) = record v { own = option_map (putting x) v.own; made = v.made ++ PutWord x ∷ [] }
 view_after v (PutLink l) = record v { own = option_map (linking l) v.own; made = v.made ++ PutLink l ∷ [] }
@@ -111,6 +153,7 @@ view_after v (Refused k old found) = record v { pass = option_map (counting v.si
 view_after v (Start h x) = record v { walk = Some (starting h x); made = v.made ++ Start h x ∷ [] }
 view_after v (Read x) = record v { walk = option_map (reading x) v.walk; made = v.made ++ Read x ∷ [] }
 view_after v (Next x) = record v { walk = option_map (going_on x) v.walk; made = v.made ++ Next x ∷ [] }
+view_after v (Skip x) = record v { walk = option_map (skipping x) v.walk; made = v.made ++ Skip x ∷ [] }
 view_after v Hold = record v { held = v.held ++ held_at_hand v.walk; walk = None; made = v.made ++ Hold ∷ [] }
 view_after v (Keep those) = record v { held = those; made = v.made ++ Keep those ∷ [] }
 view_after v Fix = record v { held = []; fixed = v.fixed ++ v.held; made = v.made ++ Fix ∷ [] }
@@ -122,6 +165,12 @@ view_after v (Protect k x) = record v { walk = option_map (guarding k x) v.walk;
 view_after v (Fetch k) = record v { held = v.held ++ held_counted k v.counts; made = v.made ++ Fetch k ∷ [] }
 view_after v (Register a) = record v { counts = option_map (once_more a) v.counts; made = v.made ++ Register a ∷ [] }
 view_after v (Unregister k) = record v { counts = option_map (once_less k) v.counts; made = v.made ++ Unregister k ∷ [] }
+view_after v Begin = record v { sweep = option_map beginning v.sweep; made = v.made ++ Begin ∷ [] }
+view_after v (Mark x those) = record v { held = those; cycle = marking (epoch_of x) v.cycle; made = v.made ++ Mark x those ∷ [] }
+view_after v (Scan k) = record v { cycle = scanning k v.cycle; made = v.made ++ Scan k ∷ [] }
+view_after v Ack = record v { walk = None; cycle = acknowledging v.cycle; made = v.made ++ Ack ∷ [] }
+view_after v (Check e) = record v { sweep = option_map checking v.sweep; made = v.made ++ Check e ∷ [] }
+view_after v ToSweep = record v { walk = None; sweep = option_map turning v.sweep; made = v.made ++ ToSweep ∷ [] }
 view_after v kind = record v { made = v.made ++ kind ∷ [] }
 
 -- the view after several steps
@@ -145,21 +194,22 @@ Shows z b v (Worn w) = (w.head < z.heads) × (head b w.head ≡ w.word) × (worn
 abbrev pub Lost : Size → View → ℕ → ℕ → ℕ → Type 0
 Lost z v k old found = (state_of old ≡ 0) × (found ≢ old) × ((before : List Kind) × (v.made ≡ before ++ Load (atom_at z k) old ∷ []))
 
--- WHAT A STEP ASKS AND DOES: the seat's step of this kind makes b' of the words b. The kinds of the cycle, of unlinking and of growth are still to come
+-- WHAT A STEP ASKS AND DOES: the seat's step of this kind makes b' of the words b. The kinds of the sweep, of unlinking and of growth are still to come
 abbrev pub Does : Size → Board → View → Kind → Board → Type 0
 Does z b v (Reserve k) b' = (k < z.slots) × (v.own ≡ None) × (state_of (atom b k) ≡ 0) × (b' ≡ with_atom b k 1)
 Does z b v (PutWord x) b' = (o : Own) × (v.own ≡ Some o) × (o.linked ≡ false) × (length o.text < 32) × (b' ≡ with_text b (32 * o.slot + length o.text) x)
 Does z b v (PutLink l) b' = (o : Own) × (v.own ≡ Some o) × (o.linked ≡ false) × (b' ≡ with_link b o.slot l)
 Does z b v Link b' = (o : Own) × (w : Walk) × (v.own ≡ Some o) × (v.walk ≡ Some w) × (o.linked ≡ false) × (length o.text ≡ 32) × (o.link ≡ Some (first_of w.word)) × Ended b.row o w
     × (head b w.head ≡ w.word) × (closed_of w.word ≡ 0) × (version_of w.word < worn) × (b' ≡ with_head b w.head (head_word (o.slot + 1) 0 (version_of w.word + 1)))
-Does z b v Validate b' = (o : Own) × (v.own ≡ Some o) × (o.linked ≡ true) × (b' ≡ with_atom b o.slot 7)
+Does z b v Validate b' = (o : Own) × (v.own ≡ Some o) × (o.linked ≡ true) × Sitting v × (b' ≡ with_atom b o.slot 7)
 Does z b v Release b' = (o : Own) × (v.own ≡ Some o) × (o.linked ≡ false) × (b' ≡ with_atom b o.slot 0)
 Does z b v (Load i x) b' = (slice_index (laid b) i ≡ x) × (b' ≡ b)
 Does z b v (Refused k old found) b' = (k < z.slots) × (atom b k ≡ found) × ((state_of found ≢ 0) ⊎ Lost z v k old found) × (b' ≡ b)
-Does z b v (Start h x) b' = (h < z.heads) × (head b h ≡ x) × (b' ≡ b)
+Does z b v (Start h x) b' = (h < z.heads) × (head b h ≡ x) × ((closed_of x ≡ 0) ⊎ (v.sweep ≢ None)) × (b' ≡ b)
 Does z b v (Read x) b' = (w : Walk) × (k : ℕ) × (v.walk ≡ Some w) × (w.place ≡ k + 1) × (length w.part < 32) × (slice_index (text_of b.texts k) (length w.part) ≡ x) × (b' ≡ b)
 Does z b v (Next x) b' = (w : Walk) × (k : ℕ) × (v.walk ≡ Some w) × (w.place ≡ k + 1) × (link b k ≡ x) × (b' ≡ b)
-Does z b v Hold b' = (w : Walk) × (k : ℕ) × (v.walk ≡ Some w) × (w.place ≡ k + 1) × (w.guarded ≡ true) × (length w.part ≡ 32) × (version_of (head b w.head) ≡ version_of w.word) × (b' ≡ b)
+Does z b v (Skip x) b' = (w : Walk) × (k : ℕ) × (v.walk ≡ Some w) × (v.sweep ≡ None) × (w.place ≡ k + 1) × (w.dead ≡ true) × (link b k ≡ x) × (b' ≡ b)
+Does z b v Hold b' = (w : Walk) × (k : ℕ) × (v.walk ≡ Some w) × (w.place ≡ k + 1) × (w.guarded ≡ true) × (length w.part ≡ 32) × (version_of (head b w.head) ≡ version_of w.word) × Sitting v × (b' ≡ b)
 Does z b v (Keep those) b' = ((a : Held) → In a those → In a v.held) × (b' ≡ b)
 Does z b v Fix b' = ((a : Held) → In a v.held → a.slot < 256) × (b' ≡ b)
 Does z b v (StartPass x) b' = (b.epoch ≡ x) × (b' ≡ b)
@@ -167,8 +217,15 @@ Does z b v (EndPass x) b' = (p : Passing) × (v.pass ≡ Some p) × (b.epoch ≡
 Does z b v (Refuse r) b' = Shows z b v r × (b' ≡ b)
 Does z b v (Ask t) b' = b' ≡ b
 Does z b v (Protect k x) b' = (k < z.slots) × (atom b k ≡ x) × (b' ≡ with_atom b k (marked x))
-Does z b v (Fetch k) b' = (cs : List Counted) × (v.counts ≡ Some cs) × (k < z.slots) × (0 < (counted cs k).count) × (b' ≡ with_atom b k (marked (atom b k)))
+Does z b v (Fetch k) b' = (cs : List Counted) × (v.counts ≡ Some cs) × (k < z.slots) × (0 < (counted cs k).count) × Sitting v × (b' ≡ with_atom b k (marked (atom b k)))
 Does z b v (Register a) b' = (cs : List Counted) × (v.counts ≡ Some cs) × (In a v.held ⊎ In a v.fixed) × ((counted cs a.slot).count < 2305843009213693951) × (b' ≡ with_atom b a.slot (atom b a.slot + 8))
 Does z b v (Unregister k) b' = (cs : List Counted) × (v.counts ≡ Some cs) × (k < z.slots) × (0 < (counted cs k).count) × (b' ≡ with_atom b k (atom b k - 8))
 Does z b v (Raise h) b' = (h < z.heads) × (0 < v.undealt) × (version_of (head b h) < z.start) × (b' ≡ with_head b h (raised z.start (head b h)))
+Does z b v (Risen h x) b' = (h < z.heads) × (head b h ≡ x) × (z.start ≤ version_of x) × (b' ≡ b)
+Does z b v Begin b' = (y : Sweeping) × (v.sweep ≡ Some y) × (phase_of y.word ≡ 0) × (epoch_of y.word < 4611686018427387903) × (b' ≡ with_epoch b (epoch_word 1 (epoch_of y.word + 1)))
+Does z b v (Mark x those) b' = (v.cycle.engine ≢ 0) × (b.epoch ≡ x) × (phase_of x ≡ 1) × (v.cycle.acked < epoch_of x) × ((a : Held) → In a those → In a v.held) × (b' ≡ b)
+Does z b v (Scan k) b' = Scanning v × (a : Held) × (In a v.held ⊎ In a v.fixed) × (a.slot ≡ k) × (b' ≡ with_atom b k (marked (atom b k)))
+Does z b v Ack b' = Scanning v × ((a : Held) → In a v.held → In a.slot v.cycle.scanned) × (b' ≡ with_ack b (v.cycle.engine - 1) v.cycle.scanned_at)
+Does z b v (Check e) b' = (y : Sweeping) × (v.sweep ≡ Some y) × (phase_of y.word ≡ 1) × (e ≡ y.checked) × (e < z.engines) × (slice_index b.acks e ≡ epoch_of y.word) × (b' ≡ b)
+Does z b v ToSweep b' = (y : Sweeping) × (v.sweep ≡ Some y) × (phase_of y.word ≡ 1) × (y.checked ≡ z.engines) × (b' ≡ with_epoch b (epoch_word 2 (epoch_of y.word)))
 Does z b v kind b' = ⊥

@@ -1,5 +1,5 @@
 -- What each step tells its caller: of the step, the seat before, the number found (at a store, the number stored) and the seat after.
-use Rattle.std.specs.Prelude.{◌≡◌, ◌≢◌, ◌⊎◌, ◌+◌, ◌-◌, ◌*◌, ◌<◌, ◌≤◌, ℕ, List, [], ◌∷◌, ◌++◌, length, get_or, Some}
+use Rattle.std.specs.Prelude.{◌≡◌, ◌≢◌, ◌⊎◌, ◌+◌, ◌-◌, ◌*◌, ◌<◌, ◌≤◌, ℕ, true, List, [], ◌∷◌, ◌++◌, length, get_or, Some}
 use Rattle.atomic_table.specs.Table.{Me, Step}
 use Rattle.atom_words.specs.Layout.{state_of, closed_of, version_of, worn}
 use Rattle.atom_words.specs.Board.{atom_at, head_at, text_at}
@@ -15,7 +15,7 @@ use Rattle.atom_words.specs.declared.view.Cause.TheVariants.{Moved, Pending, Clo
 use Rattle.atom_words.specs.declared.view.Refusal.TheVariants.{Again, Worn}
 use Rattle.atom_words.specs.declared.view.View.{View}
 use Rattle.atom_words.specs.declared.kind.Kind.{Kind}
-use Rattle.atom_words.specs.declared.kind.Kind.TheVariants.{Raise, Reserve, PutWord, PutLink, Link, Validate, Release, Load, Refused, Start, Read, Next, Hold, StartPass, EndPass, Protect, Fetch, Register, Unregister, Refuse, Keep, Fix, Ask}
+use Rattle.atom_words.specs.declared.kind.Kind.TheVariants.{Raise, Risen, Reserve, PutWord, PutLink, Link, Validate, Release, Load, Refused, Start, Read, Next, Skip, Hold, StartPass, EndPass, Protect, Fetch, Register, Unregister, Refuse, Keep, Fix, Ask}
 
 abbrev Sat : Type 0
 Sat = Me (Unit {0}) View
@@ -27,9 +27,9 @@ At = Step (Unit {0})
 abbrev pub Alone : View → ℕ → List ℕ → Type 0
 Alone v slot text = (a : Held) → In a v.held ⊎ In a v.fixed → (a.slot ≡ slot → a.text ≡ text) × (a.text ≡ text → a.slot ≡ slot)
 
--- the walk stands at no slot of the table, or has passed as many slots as there are
+-- the walk came to a free slot; or it stands at no slot of the table, or has passed as many slots as there are
 abbrev pub Stale : Size → Walk → Type 0
-Stale z w = (w.place ≢ 0) × ((z.slots < w.place) ⊎ (z.slots ≤ length w.seen))
+Stale z w = (w.lost ≡ true) ⊎ ((w.place ≢ 0) × ((z.slots < w.place) ⊎ (z.slots ≤ length w.seen + w.skipped)))
 
 -- the step is of that kind
 abbrev pub Is : Kind → Sat → Sat → Type 0
@@ -72,6 +72,10 @@ pass_ended st m r m' = Is (EndPass r) m m'
 abbrev pub head_raised : At → Sat → ℕ → Sat → Type 0
 head_raised st m r m' = (m'.1 ≡ m.1) × ((h : ℕ) → st.word ≡ head_at m.0.size h → (r ≡ st.first → m'.0 ≡ view_after m.0 (Raise h)) × (r ≢ st.first → m'.0 ≡ view_after m.0 (Load (head_at m.0.size h) r)))
 
+-- a head's word is loaded, whose version is the one that the table begins with, or a later one; or it is not
+abbrev pub head_risen : At → Sat → ℕ → Sat → Type 0
+head_risen st m r m' = (m'.1 ≡ m.1) × ((h : ℕ) → st.word ≡ head_at m.0.size h → (m.0.size.start ≤ version_of r → m'.0 ≡ view_after m.0 (Risen h r)) × (version_of r < m.0.size.start → m'.0 ≡ view_after m.0 (Load (head_at m.0.size h) r)))
+
 -- FOR THE CRATES ABOVE
 -- a load that the seat keeps nothing of
 abbrev pub loaded : At → Sat → ℕ → Sat → Type 0
@@ -89,6 +93,10 @@ word_read st m r m' = Is (Read r) m m'
 -- the walk goes on by the link word of the slot at hand
 abbrev pub gone_on : At → Sat → ℕ → Sat → Type 0
 gone_on st m r m' = Is (Next r) m m'
+
+-- the walk goes past the dying slot at hand
+abbrev pub gone_past : At → Sat → ℕ → Sat → Type 0
+gone_past st m r m' = Is (Skip r) m m'
 
 -- the walk ends with the slot at hand held, where the head has its version; otherwise that refuses
 abbrev pub slot_held : At → Sat → ℕ → Sat → Type 0

@@ -25,7 +25,7 @@ pub record Goes (z : Size) (b : Board) (vs : List View) (b' : Board) (vs' : List
 pub data Cut (v : View) : View → View → Type 0 where
   keeper : Cut v (without_keeper v) (keeper_of v)
   collector : Cut v (without_collector v) (collector_of v)
-  engine : 0 < v.undealt → Cut v (with_one_dealt v) (engine_of v)
+  engine : 0 < v.undealt → v.held ≡ [] → Cut v (with_one_dealt v) (engine_of v)
 
 pub record Splits (z : Size) (b : Board) (vs : List View) (b' : Board) (vs' : List View) : Type 0 where
   pub id : ℕ

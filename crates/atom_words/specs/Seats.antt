@@ -3,14 +3,14 @@ use Rattle.std.specs.Prelude.{◌≡◌, ◌≢◌, ◌⊎◌, ℕ, ◌<◌, ◌
 use Rattle.atom_words.specs.Layout.{state_of, version_of}
 use Rattle.atom_words.specs.Board.{atom_at, head_at}
 use Rattle.atom_words.specs.Chains.{In}
-use Rattle.atom_words.specs.Kinds.{after}
+use Rattle.atom_words.specs.Kinds.{Sitting, after}
 use Rattle.atom_words.specs.declared.view.Held.{Held}
 use Rattle.atom_words.specs.declared.view.Pass.{Pass}
 use Rattle.atom_words.specs.declared.view.Refusal.{Refusal}
 use Rattle.atom_words.specs.declared.view.Refusal.TheVariants.{Full}
 use Rattle.atom_words.specs.declared.view.View.{View}
 use Rattle.atom_words.specs.declared.kind.Kind.{Kind}
-use Rattle.atom_words.specs.declared.kind.Kind.TheVariants.{Raise, Reserve, Load, Refused, PutWord}
+use Rattle.atom_words.specs.declared.kind.Kind.TheVariants.{Raise, Risen, Reserve, Load, Refused, PutWord}
 use Rattle.atom_words.specs.declared.words.Words.{Words}
 use Rattle.atom_words.specs.declared.words.AtomSeat.{AtomSeat}
 
@@ -50,11 +50,15 @@ puts ws = map (λ x. PutWord x) ws
 abbrev pub AtTable : Words → AtomSeat → Type 0
 AtTable w s = s.seat.table_id ≡ w.table.shared.table_id
 
--- the view w is v, the steps made aside
+-- the view w is v, the steps made and the heads known to have risen aside
 abbrev pub Unchanged : View → View → Type 0
-Unchanged v w = (kinds : List Kind) × (w ≡ record v { made = kinds })
+Unchanged v w = (kinds : List Kind) × (n : ℕ) × (w ≡ record v { risen = n; made = kinds })
+
+-- a seat that walks: it may hold slots, and is not the collector's
+abbrev pub Walking : View → Type 0
+Walking v = Sitting v × (v.sweep ≡ None)
 
 -- The steps of a raise of a head's version: the head's word is loaded, and where its version is below the one that the table begins with, it is exchanged; or that exchange is lost
 abbrev pub Raises : ℕ → View → Result (Unit {0}) ℕ → View → Type 0
-Raises h v (Ok _) w = (x : ℕ) × (((v.size.start ≤ version_of x) × (w ≡ after v (Load (head_at v.size h) x ∷ []))) ⊎ ((version_of x < v.size.start) × (w ≡ after v (Load (head_at v.size h) x ∷ Raise h ∷ []))))
+Raises h v (Ok _) w = (x : ℕ) × (((v.size.start ≤ version_of x) × (w ≡ after v (Risen h x ∷ []))) ⊎ ((version_of x < v.size.start) × (w ≡ after v (Load (head_at v.size h) x ∷ Raise h ∷ []))))
 Raises h v (Err y) w = (x : ℕ) × (version_of x < v.size.start) × (y ≢ x) × (w ≡ after v (Load (head_at v.size h) x ∷ Load (head_at v.size h) y ∷ []))

@@ -3,6 +3,7 @@ use Rattle.std.specs.Prelude.{ℕ, ◌-◌, false, true, [], ◌∷◌, ◌++◌
 use Rattle.atom_words.specs.declared.size.Size.{Size}
 use Rattle.atom_words.specs.declared.view.Counted.{Counted}
 use Rattle.atom_words.specs.declared.view.Cycling.{Cycling}
+use Rattle.atom_words.specs.declared.view.Sweeping.{Sweeping}
 use Rattle.atom_words.specs.declared.view.View.{View}
 use Rattle.atom_words.specs.declared.kind.Kind.TheVariants.{Make, Split, Join}
 
@@ -11,14 +12,18 @@ no_cycle engine = record { engine = engine; acked = 0; scanned_at = 0; scanned =
 
 -- a view that knows the size and nothing else
 abbrev pub bare : Size → View
-bare z = record { gone = false; size = z; own = None; held = []; fixed = []; counts = None; walk = None; pass = None; refusals = []; asked = []; undealt = 0; cycle = no_cycle 0; sweep = None; made = [] }
+bare z = record { gone = false; size = z; own = None; held = []; fixed = []; counts = None; walk = None; pass = None; refusals = []; asked = []; undealt = 0; risen = 0; cycle = no_cycle 0; sweep = None; made = [] }
 
 -- the first seat: the keeper's and the collector's, with all engines still to be dealt
 abbrev pub uncounted : Counted
 uncounted = record { count = 0; text = [] }
 
+-- the collector before its first cycle
+abbrev pub unswept : Sweeping
+unswept = record { word = 0; checked = 0; cursor = 0; sure = false; text = []; dying = 0; behind = None; unlinked = false; head = 0; noted = None; past = false; moving = 0 }
+
 abbrev pub first_view : Size → View
-first_view z = record (bare z) { counts = Some (replicate z.slots uncounted); sweep = Some (record { cursor = 0; checked = 0; dying = 0; unlinked_at = None; moving = 0 }); undealt = z.engines }
+first_view z = record (bare z) { counts = Some (replicate z.slots uncounted); sweep = Some unswept; undealt = z.engines }
 
 -- a seat that a load of word 0 makes
 abbrev pub newcomer : Size → View
@@ -39,18 +44,18 @@ abbrev pub without_keeper : View → View
 without_keeper v = record v { counts = None; made = v.made ++ Split ∷ [] }
 
 abbrev pub keeper_of : View → View
-keeper_of v = record (bare v.size) { fixed = v.fixed; counts = v.counts; made = Split ∷ [] }
+keeper_of v = record (bare v.size) { fixed = v.fixed; risen = v.risen; counts = v.counts; made = Split ∷ [] }
 
 -- the collector's part of the first seat
 abbrev pub without_collector : View → View
 without_collector v = record v { sweep = None; made = v.made ++ Split ∷ [] }
 
 abbrev pub collector_of : View → View
-collector_of v = record (bare v.size) { fixed = v.fixed; sweep = v.sweep; made = Split ∷ [] }
+collector_of v = record (bare v.size) { fixed = v.fixed; risen = v.risen; sweep = v.sweep; made = Split ∷ [] }
 
 -- one engine's part of the first seat
 abbrev pub with_one_dealt : View → View
 with_one_dealt v = record v { undealt = v.undealt - 1; made = v.made ++ Split ∷ [] }
 
 abbrev pub engine_of : View → View
-engine_of v = record (bare v.size) { fixed = v.fixed; cycle = no_cycle v.undealt; made = Split ∷ [] }
+engine_of v = record (bare v.size) { fixed = v.fixed; risen = v.risen; cycle = no_cycle v.undealt; made = Split ∷ [] }

@@ -8,6 +8,8 @@ pub enum Kind {
     // Opening
     /// Raises the version of a head to the one that the table begins with.
     Raise(u64),
+    /// A head's word was that number, whose version is the one that the table begins with or a later one.
+    Risen(u64, u64),
 
     // Birth
     /// Takes a free slot.
@@ -34,6 +36,8 @@ pub enum Kind {
     Read(u64),
     /// The walk goes on, by the link word that it reads.
     Next(u64),
+    /// The walk goes past the dying slot at hand, by the link word that it reads.
+    Skip(u64),
     /// The walk ends at its version, and holds the slot at hand.
     Hold,
     /// Only these slots are held on.
@@ -66,19 +70,44 @@ pub enum Kind {
     /// The seat takes in another.
     Join,
 
-    // Cycle
+    // Cycle: marking
+    /// A cycle begins to mark, at the next epoch.
     Begin,
+    /// The epoch word was that number: the engine begins to scan, and only these slots are held on.
+    Mark(u64, LinkedList<Held>),
+    /// The engine acknowledges the epoch in which it has scanned what it holds.
     Ack,
+    /// One engine more is found to have acknowledged.
     Check(u64),
+    /// The cycle goes over to the sweep.
     ToSweep,
+
+    // Cycle: the sweep
+    /// The word of the slot that the sweep has come to was that number.
+    Look(u64),
+    /// The next word of that slot's text was that number.
+    Spell(u64),
+    /// That slot, which nobody marked or counted, becomes dying.
     Condemn,
-    Pass,
+    /// The slot's mark is cleared, where the word was that number, and the sweep goes on.
+    PassOver(u64),
 
     // Unlinking
+    /// The dying slot's link word was that number.
+    Behind(u64),
+    /// The dying slot is taken out of its chain, after that slot.
     UnlinkAt(u64),
+    /// The dying slot is taken out of its chain, as the first.
     UnlinkHead,
+    /// The word of the chain's head was that number.
+    Note(u64),
+    /// The head's version is moved.
     Bump,
+    /// The head's word was that number, of a later version.
+    Past(u64),
+    /// The dying slot becomes free.
     Free,
+    /// The sweep ends.
     End,
 
     // Growth

@@ -32,8 +32,8 @@ pub use plays::{
     Asking, Dealing, EndingPass, Fetching, FindingMoved, FindingWorn, Fixing, GoingOn, Holding,
     Keeping, Keeps, Linking, Loading, PartingCollector, PartingKeeper, Protecting, PuttingLink,
     PuttingWord, Raising, ReadingHeld, ReadingWord, Registering, Releasing, Reserving,
-    ReservingMarked, Seating, ShowingPending, Spells, StartingPass, StartingWalk, Unregistering,
-    Validating, WithKeeper,
+    ReservingMarked, Rising, Seating, ShowingPending, Skipping, Spells, StartingPass, StartingWalk,
+    Unregistering, Validating, WithKeeper,
 };
 pub use rule::{AtomRule, every_state};
 pub use size::Size;

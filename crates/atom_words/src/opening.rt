@@ -3,16 +3,17 @@ ghost use Rattle.std.specs.Prelude.{◌≡◌, ◌++◌, ◌<◌, ℕ, false, If
 ghost use Rattle.atom_words.specs.Board.{laid};
 ghost use Rattle.atom_words.specs.Views.{first_view};
 ghost use Rattle.atom_words.specs.Opening.{Allowed, opening_board};
+ghost use Rattle.atom_words.specs.Kinds.{rising};
 ghost use Rattle.atom_words.specs.Seats.{seen, AtTable, Fits, Same, Raises, Unchanged};
 
-use crate::plays::{Loading, Raising};
+use crate::plays::{Raising, Rising};
 use crate::size::Size;
 use crate::view::View;
 use crate::words::{AtomSeat, Words};
 use atomic_table::{Seat, Table};
 use std::alloc::{AllocError, Global};
 
-// Puts a number of equal words behind the others.
+// Puts a number of equal words after the others.
 fn extend(words: &mut Vec<u64>, many: u64, word: u64) -> Result<(), AllocError>
     ensures { IfOk result (λ _. words.new.items ≡ words.old.items ++ replicate many word) }
 {
@@ -48,7 +49,7 @@ fn opening_words(alloc: Global, size: Size) -> Result<Vec<u64>, AllocError>
 impl Words {
     /// A new table, and its first seat, which is the keeper's and the collector's, and from which the engines' seats are
     /// dealt. The version of each bucket is 0 until `raise` makes it the one that the table begins with. The only error is
-    /// want of memory.
+    /// Out of memory.
     pub fn new(alloc: Global, size: Size) -> Result<(Words, AtomSeat), AllocError>
         requires { Allowed size }
         ensures { IfOk result (λ r. (r.0.size ≡ size) × AtTable r.0 r.1 × (seen r.1 ≡ first_view size)) }
@@ -60,6 +61,7 @@ impl Words {
             AtomSeat {
                 seat,
                 engine: 0,
+                acked: 0,
                 own: 0,
                 head: 0,
                 word: 0,
@@ -79,7 +81,7 @@ impl Words {
         ensures steps { Raises head seat.old.me.0 result seat.new.me.0 }
     {
         let place = self.head_place(head);
-        let word = self.table.shared.load::<Loading>(seat, place);
+        let word = self.table.shared.load::<Rising>(seat, place);
         if word / 4_194_304 >= self.size.start {
             return Ok(());
         }
@@ -92,7 +94,7 @@ impl Words {
     }
 
     /// Raises the version of a head to the one that the table begins with, where it is below. The seat is the first, and
-    /// engines have still to be dealt from it.
+    /// engines have still to be dealt from it. Where all heads before this one are known to have risen, this one is too.
     ///
     /// # Errors
     /// The word that was found, where another seat has exchanged the head's word in between.
@@ -103,6 +105,7 @@ impl Words {
         ensures same { Same seat.old seat.new }
         ensures steps { Raises head (seen seat.old) result (seen seat.new) }
         ensures unchanged { Unchanged (seen seat.old) (seen seat.new) }
+        ensures risen { IfOk result (λ _. (seen seat.new).risen ≡ rising head (seen seat.old).risen) }
     {
         self.raise_head(&mut seat.seat, head)
     }

@@ -1,5 +1,5 @@
 //! What each step tells its caller.
-ghost use Rattle.atom_words.specs.Plays.{head_raised, reserved, reserved_marked, word_put, validated, released, protected, registered, unregistered, pass_started, pass_ended, seated, loaded, walk_started, word_read, gone_on, slot_held, pending_shown, moved_found, held_word_read, worn_found, link_put, slot_linked, fetched, fixed, kept, asked};
+ghost use Rattle.atom_words.specs.Plays.{head_raised, head_risen, reserved, reserved_marked, word_put, validated, released, protected, registered, unregistered, pass_started, pass_ended, seated, loaded, walk_started, word_read, gone_on, gone_past, slot_held, pending_shown, moved_found, held_word_read, worn_found, link_put, slot_linked, fetched, fixed, kept, asked};
 ghost use Rattle.atom_words.specs.Views.{spent, with_keeper, without_keeper, keeper_of, without_collector, collector_of, with_one_dealt, engine_of};
 
 use crate::view::View;
@@ -11,6 +11,13 @@ pub struct Raising;
 
 impl Play<(), View> for Raising {
     ghost then = { head_raised };
+}
+
+/// The load of a head, which shows whether its version is the one that the table begins with, or a later one.
+pub struct Rising;
+
+impl Play<(), View> for Rising {
+    ghost then = { head_risen };
 }
 
 /// The exchange that takes a free slot without a mark.
@@ -152,6 +159,13 @@ pub struct GoingOn;
 
 impl Play<(), View> for GoingOn {
     ghost then = { gone_on };
+}
+
+/// The load of the link word with which a walk goes past a dying slot.
+pub struct Skipping;
+
+impl Play<(), View> for Skipping {
+    ghost then = { gone_past };
 }
 
 /// The load of the head that a walk ends with, with the slot at hand held where the version is the same.

@@ -12,6 +12,7 @@ use atomic_table::Seat;
 fn idle(seat: Seat<(), View>, engine: u64) -> AtomSeat
     requires slotless { seat.me.1 ≡ [] }
     requires numbered { seat.me.0.cycle.engine ≡ engine }
+    requires unacknowledged { seat.me.0.cycle.acked ≡ 0 }
     requires idle { (seat.me.0.own ≡ None) × (seat.me.0.walk ≡ None) × (seat.me.0.pass ≡ None) }
     requires room { (0 < seat.me.0.size.slots) × (0 < seat.me.0.size.heads) }
     ensures { result.seat ≡ seat }
@@ -19,6 +20,7 @@ fn idle(seat: Seat<(), View>, engine: u64) -> AtomSeat
     AtomSeat {
         seat,
         engine,
+        acked: 0,
         own: 0,
         head: 0,
         word: 0,
@@ -79,10 +81,12 @@ impl Words {
         )
     }
 
-    /// The seat of the engine with that number is cut off, which is how many had no seat yet.
+    /// The seat of the engine with that number is cut off, which is how many had no seat yet. The seat that it is cut off
+    /// from holds no slot.
     pub fn deal(&self, seat: &mut AtomSeat, engine: u64) -> AtomSeat
         requires fits { Fits self.now seat.old }
         requires engine { ((seen seat.old).undealt ≡ engine) × (0 < engine) }
+        requires none { (seen seat.old).held ≡ [] }
         ensures same { Same seat.old seat.new }
         ensures left { seen seat.new ≡ with_one_dealt (seen seat.old) }
         ensures right { AtTable self.now result × (seen result ≡ engine_of (seen seat.old)) }

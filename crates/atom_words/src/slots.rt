@@ -2,7 +2,7 @@
 ghost use Rattle.std.specs.Prelude.{◌≡◌, ◌≢◌, ◌⊎◌, ℕ, ◌+◌, ◌^◌, ◌<◌, ◌≤◌, true, false, None, Some, List, [], ◌∷◌, ◌++◌, MatchResult};
 ghost use Rattle.atom_words.specs.Layout.{state_of};
 ghost use Rattle.atom_words.specs.Board.{atom_at};
-ghost use Rattle.atom_words.specs.Kinds.{view_after, after, next_first, next_counted};
+ghost use Rattle.atom_words.specs.Kinds.{Sitting, view_after, after, next_first, next_counted};
 ghost use Rattle.atom_words.specs.Plays.{Alone};
 ghost use Rattle.atom_words.specs.Seats.{seen, Fits, Same, Reserves, FindsTaken};
 ghost use Rattle.atom_words.specs.declared.kind.Kind.{Kind};
@@ -99,11 +99,12 @@ impl Words {
         Err(found)
     }
 
-    /// Makes the seat's own slot valid, with its mark set, and answers it. The seat then holds it. No other slot that it
-    /// holds has that text.
+    /// Makes the seat's own slot valid, with its mark set, and answers it. The seat then holds it: it is an engine's, or
+    /// engines' seats are still to be dealt from it. No other slot that it holds has that text.
     pub fn validate(&self, seat: &mut AtomSeat) -> u32
         requires fits { Fits self.now seat.old }
         requires linked { (o : Own) × ((seen seat.old).own ≡ Some o) × (o.linked ≡ true) }
+        requires sitting { Sitting (seen seat.old) }
         ensures same { Same seat.old seat.new }
         ensures steps { seen seat.new ≡ after (seen seat.old) (Validate ∷ []) }
         ensures slot { (o : Own) → (seen seat.old).own ≡ Some o → result ≡ o.slot }

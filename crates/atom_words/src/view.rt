@@ -42,6 +42,12 @@ pub struct Walk {
     pub part: LinkedList<u64>,
     /// The slot at hand was protected, and was valid.
     pub guarded: bool,
+    /// The slot at hand was protected, and was dying.
+    pub dead: bool,
+    /// A slot at hand was protected, and was free, so that the head has another version.
+    pub lost: bool,
+    /// How many dying slots the walk went past.
+    pub skipped: u64,
     /// The slots that the walk has passed, each with what it read of the text.
     pub seen: LinkedList<Held>,
 }
@@ -161,13 +167,28 @@ pub struct Cycling {
 /// What the collector's seat knows.
 #[derive(Drop)]
 pub struct Sweeping {
-    pub cursor: u64,
+    /// The epoch word, which this seat alone writes.
+    pub word: u64,
     /// How many engines it has found to have acknowledged this epoch.
     pub checked: u64,
+    /// The slot that the sweep has come to.
+    pub cursor: u64,
+    /// That slot was found valid.
+    pub sure: bool,
+    /// What is read of that slot's text since.
+    pub text: LinkedList<u64>,
     /// 0, or 1 more than the slot that it has condemned.
     pub dying: u64,
-    /// The version of that slot's head at the unlinking.
-    pub unlinked_at: Option<u64>,
+    /// The condemned slot's link word, once it is read.
+    pub behind: Option<u64>,
+    /// The condemned slot is taken out of its chain.
+    pub unlinked: bool,
+    /// The head of that chain.
+    pub head: u64,
+    /// That head's word, as it was found after the slot was taken out.
+    pub noted: Option<u64>,
+    /// That head's version has moved since the slot was taken out.
+    pub past: bool,
     /// 0, or 1 more than the slot that it is moving to another row.
     pub moving: u64,
 }
@@ -191,6 +212,8 @@ pub struct View {
     pub asked: LinkedList<LinkedList<u64>>,
     /// How many engines have no seat yet.
     pub undealt: u64,
+    /// Each head below this one has the version that the table begins with, or a later one.
+    pub risen: u64,
     pub cycle: Cycling,
     pub sweep: Option<Sweeping>,
     /// The steps that it has made.

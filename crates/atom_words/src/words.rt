@@ -26,6 +26,8 @@ pub struct AtomSeat {
     pub seat: Seat<(), View>,
     /// The engine's number, from 1, or 0.
     pub engine: u64,
+    /// The last epoch that the engine acknowledged.
+    pub acked: u64,
     /// The slot that the seat has reserved, where it has one.
     pub own: u32,
     /// The head of the walk at hand, where there is one.
@@ -40,6 +42,7 @@ pub struct AtomSeat {
     pub counted: u32,
     pub ghost slotless: { seat.me.1 ≡ [] },
     pub ghost numbered: { seat.me.0.cycle.engine ≡ engine },
+    pub ghost acknowledged: { seat.me.0.cycle.acked ≡ acked },
     pub ghost owns: { OwnTied seat.me.0 own },
     pub ghost walks: { WalkTied seat.me.0 head word },
     pub ghost passes: { PassTied seat.me.0 began first counted },

@@ -1,15 +1,14 @@
 -- What the steps that make a new slot leave of the view.
-use Rattle.std.proofs.Common.{◌≡◌, ℕ, true, false, List, [], ◌∷◌, refl, sym, ap, ◌∙◌, subst, ⊎_elim, Some, Ok, Err, Result, option_map}
+use Rattle.std.proofs.Common.{◌≡◌, ◌≢◌, ◌<◌, ℕ, inl, inr, false, List, [], ◌∷◌, refl, sym, ap, ◌∙◌, subst, ⊎_elim, Some, Ok, Err, Result, option_map}
 use Rattle.atom_words.specs.Layout.{first_of}
 use Rattle.atom_words.specs.Board.{atom_at}
 use Rattle.atom_words.specs.Kinds.{linking, linked_own, view_after, after}
-use Rattle.atom_words.specs.Seats.{puts, Reserves, FindsTaken}
+use Rattle.atom_words.specs.Seats.{puts, Reserves, Walking}
 use Rattle.atom_words.specs.declared.view.Own.{Own}
 use Rattle.atom_words.specs.declared.view.Walk.{Walk}
+use Rattle.atom_words.specs.declared.view.Cycling.{Cycling}
 use Rattle.atom_words.specs.declared.view.View.{View}
-use Rattle.atom_words.specs.declared.view.Cause.TheVariants.{Moved as CauseMoved}
-use Rattle.atom_words.specs.declared.view.Refusal.TheVariants.{Again, Worn as RefusalWorn}
-use Rattle.atom_words.specs.declared.kind.Kind.TheVariants.{Reserve, Load, Refused, PutWord, PutLink, Link, Refuse}
+use Rattle.atom_words.specs.declared.kind.Kind.TheVariants.{Reserve, Load, PutWord}
 use Rattle.bucket_rows.specs.declared.missed.Missed.{Missed}
 use Rattle.bucket_rows.specs.declared.missed.Missed.TheVariants.{Moved, Pending, Closed, Worn}
 use Rattle.bucket_rows.specs.Walks.{Links}
@@ -25,28 +24,33 @@ pub record Beside (v w : View) : Type 0 where
   pub undealt : w.undealt ≡ v.undealt
   pub cycle : w.cycle ≡ v.cycle
   pub sweep : w.sweep ≡ v.sweep
+  pub risen : w.risen ≡ v.risen
 
 pub beside_refl : (v : View) → Beside v v
-beside_refl v = record { gone = refl; size = refl; held = refl; fixed = refl; counts = refl; asked = refl; undealt = refl; cycle = refl; sweep = refl }
+beside_refl v = record { gone = refl; size = refl; held = refl; fixed = refl; counts = refl; asked = refl; undealt = refl; cycle = refl; sweep = refl; risen = refl }
 
 pub beside_trans : (u v w : View) → Beside u v → Beside v w → Beside u w
-beside_trans u v w a b = record { gone = b.gone ∙ a.gone; size = b.size ∙ a.size; held = b.held ∙ a.held; fixed = b.fixed ∙ a.fixed; counts = b.counts ∙ a.counts; asked = b.asked ∙ a.asked; undealt = b.undealt ∙ a.undealt; cycle = b.cycle ∙ a.cycle; sweep = b.sweep ∙ a.sweep }
+beside_trans u v w a b = record { gone = b.gone ∙ a.gone; size = b.size ∙ a.size; held = b.held ∙ a.held; fixed = b.fixed ∙ a.fixed; counts = b.counts ∙ a.counts; asked = b.asked ∙ a.asked; undealt = b.undealt ∙ a.undealt; cycle = b.cycle ∙ a.cycle; sweep = b.sweep ∙ a.sweep; risen = b.risen ∙ a.risen }
 
 pub beside_reserve : (v : View) (k : ℕ) (w : View) → Reserves v k w → Beside v w
 beside_reserve v k w r = ⊎_elim
-    (λ (e : w ≡ after v (Reserve k ∷ [])). subst (Beside v) (sym e) (record { gone = refl; size = refl; held = refl; fixed = refl; counts = refl; asked = refl; undealt = refl; cycle = refl; sweep = refl }))
-    (λ (e : w ≡ after v (Load (atom_at v.size k) 4 ∷ Reserve k ∷ [])). subst (Beside v) (sym e) (record { gone = refl; size = refl; held = refl; fixed = refl; counts = refl; asked = refl; undealt = refl; cycle = refl; sweep = refl })) r
+    (λ (e : w ≡ after v (Reserve k ∷ [])). subst (Beside v) (sym e) (record { gone = refl; size = refl; held = refl; fixed = refl; counts = refl; asked = refl; undealt = refl; cycle = refl; sweep = refl; risen = refl }))
+    (λ (e : w ≡ after v (Load (atom_at v.size k) 4 ∷ Reserve k ∷ [])). subst (Beside v) (sym e) (record { gone = refl; size = refl; held = refl; fixed = refl; counts = refl; asked = refl; undealt = refl; cycle = refl; sweep = refl; risen = refl })) r
 
 pub beside_puts : (v : View) (ws : List ℕ) → Beside v (after v (puts ws))
 beside_puts v [] = beside_refl v
-beside_puts v (x ∷ ws) = beside_trans v (view_after v (PutWord x)) (after (view_after v (PutWord x)) (puts ws)) (record { gone = refl; size = refl; held = refl; fixed = refl; counts = refl; asked = refl; undealt = refl; cycle = refl; sweep = refl }) (beside_puts (view_after v (PutWord x)) ws)
+beside_puts v (x ∷ ws) = beside_trans v (view_after v (PutWord x)) (after (view_after v (PutWord x)) (puts ws)) (record { gone = refl; size = refl; held = refl; fixed = refl; counts = refl; asked = refl; undealt = refl; cycle = refl; sweep = refl; risen = refl }) (beside_puts (view_after v (PutWord x)) ws)
+
+-- a seat that walks does so still
+pub walking_beside : (v w : View) → Beside v w → Walking v → Walking w
+walking_beside v w b t = (⊎_elim (λ (e : v.cycle.engine ≢ 0). inl (λ none. e (ap (λ (y : Cycling). y.engine) (sym b.cycle) ∙ none))) (λ (e : 0 < v.undealt). inr (subst (λ (n : ℕ). 0 < n) (sym b.undealt) e)) t.0, b.sweep ∙ t.1)
 
 pub beside_links : (v : View) (t : Walk) (r : Result (Unit {0}) Missed) (w : View) → Links v t r w → Beside v w
-beside_links v t (Ok a) w e = subst (Beside v) (sym e) (record { gone = refl; size = refl; held = refl; fixed = refl; counts = refl; asked = refl; undealt = refl; cycle = refl; sweep = refl })
-beside_links v t (Err (Moved old new)) w e = subst (Beside v) (sym e.2) (record { gone = refl; size = refl; held = refl; fixed = refl; counts = refl; asked = refl; undealt = refl; cycle = refl; sweep = refl })
+beside_links v t (Ok a) w e = subst (Beside v) (sym e) (record { gone = refl; size = refl; held = refl; fixed = refl; counts = refl; asked = refl; undealt = refl; cycle = refl; sweep = refl; risen = refl })
+beside_links v t (Err (Moved old new)) w e = subst (Beside v) (sym e.2) (record { gone = refl; size = refl; held = refl; fixed = refl; counts = refl; asked = refl; undealt = refl; cycle = refl; sweep = refl; risen = refl })
 beside_links v t (Err (Pending k x)) w e = absurd e
 beside_links v t (Err (Closed x)) w e = absurd e
-beside_links v t (Err (Worn x)) w e = subst (Beside v) (sym e.2) (record { gone = refl; size = refl; held = refl; fixed = refl; counts = refl; asked = refl; undealt = refl; cycle = refl; sweep = refl })
+beside_links v t (Err (Worn x)) w e = subst (Beside v) (sym e.2) (record { gone = refl; size = refl; held = refl; fixed = refl; counts = refl; asked = refl; undealt = refl; cycle = refl; sweep = refl; risen = refl })
 
 -- the own slot after a link
 pub linked_by : (v : View) (t : Walk) (a : Unit {0}) (w : View) (o : Own) → Links v t (Ok a) w → v.own ≡ Some o → w.own ≡ Some (linked_own (linking (first_of t.word) o))

@@ -1,29 +1,27 @@
 -- What a walk's steps make of the view.
-use Rattle.std.proofs.Common.{◌≡◌, ◌≢◌, ◌⊎◌, ◌==◌, ◌&&◌, ◌||◌, not, Bool, true, false, eq-eqb, ne_eqb, ℕ, zero, suc, ◌+◌, ◌-◌, ◌<◌, ◌≤◌, List, [], ◌∷◌, ◌++◌, length, get_or, take, refl, sym, ap, ◌∙◌, subst, inl, inr, ⊎_elim, arith, Some, None, Ok, Err, option_map, append_assoc, append-nil, length-append}
-use Rattle.std.proofs.lemmas.List.{take_more}
+use Rattle.std.proofs.Common.{◌≡◌, ◌≢◌, ◌==◌, ◌&&◌, ◌||◌, Bool, true, false, eq-eqb, ℕ, ◌+◌, ◌-◌, ◌<◌, ◌≤◌, List, [], ◌∷◌, ◌++◌, length, take, refl, sym, ap, ◌∙◌, subst, inl, inr, ⊎_elim, arith, Option, Some, None, Result, Ok, Err, IfOk, MatchOption, option_map, append_assoc, append-nil, length-append}
 use mathlib.Core.List.{map-append}
-use mathlib.Core.Option.{some}
-use lib.ListN.{get_elem?}
 use Rattle.atom_words.specs.Layout.{first_of, closed_of, version_of}
 use Rattle.atom_words.specs.Chains.{In}
 use Rattle.atom_words.specs.Plays.{Alone}
 use Rattle.atom_words.specs.Texts.{bucket}
 use Rattle.atom_words.specs.Board.{atom_at}
-use Rattle.atom_words.specs.Seats.{puts, Reserves}
-use Rattle.atom_words.specs.Kinds.{reading, going_on, at_hand, fresh, view_after, after}
+use Rattle.atom_words.specs.Seats.{puts, Reserves, Walking}
+use Rattle.atom_words.specs.Kinds.{starting, reading, going_on, skipping, guarding, at_hand, held_at_hand, fresh, view_after, after}
 use Rattle.atom_words.specs.declared.view.Held.{Held}
 use Rattle.atom_words.specs.declared.view.Walk.{Walk}
+use Rattle.atom_words.specs.declared.view.Cycling.{Cycling}
 use Rattle.atom_words.specs.declared.view.Cause.TheVariants.{Moved as CauseMoved, Pending as CausePending}
 use Rattle.atom_words.specs.declared.view.Refusal.TheVariants.{Again}
 use Rattle.atom_words.specs.declared.view.View.{View}
 use Rattle.atom_words.specs.declared.kind.Kind.{Kind}
-use Rattle.atom_words.specs.declared.kind.Kind.TheVariants.{Reserve, Load, Start, Read, Next, Protect, Hold, Refuse}
+use Rattle.atom_words.specs.declared.kind.Kind.TheVariants.{Reserve, Load, Start, Read, Next, Skip, Protect, Hold, Refuse}
 use Rattle.atom_words.proofs.Putting.{after_more, puts_keep, puts_own}
 use Rattle.atom_words.proofs.Slices.{at_snoc}
 use Rattle.bucket_rows.specs.declared.missed.Missed.{Missed}
 use Rattle.bucket_rows.specs.declared.missed.Missed.TheVariants.{Moved, Pending, Closed, Worn}
-use Rattle.bucket_rows.specs.Walks.{Passed, reads, passes, meets, Others, WalksBy, Goes, Missing, Ready, Aside}
-use Rattle.bucket_rows.specs.Standing.{Standing, Ends}
+use Rattle.bucket_rows.specs.Walks.{Dying, Passed, reads, goes_on, passes, meets, Another, Others, WalksBy, Goes, Missing, Ready, Aside}
+use Rattle.bucket_rows.specs.Standing.{Standing, Ends, Meets}
 
 -- STEPS ONE AFTER THE OTHER
 pub after_both : (v : View) (ks ls : List Kind) → after v (ks ++ ls) ≡ after (after v ks) ls
@@ -35,48 +33,69 @@ reads_more v ws x = ap (after v) (map-append (λ y. Read y) ws (x ∷ [])) ∙ a
 
 pub passes_both : (ps qs : List Passed) → passes (ps ++ qs) ≡ passes ps ++ passes qs
 passes_both [] qs = refl
-passes_both (p ∷ ps) qs = ap (λ (l : List Kind). reads p.part ++ (Next p.link ∷ l)) (passes_both ps qs) ∙ sym (append_assoc (reads p.part) (Next p.link ∷ passes ps) (passes qs))
+passes_both (p ∷ ps) qs = ap (λ (l : List Kind). reads p.part ++ l) (ap (λ (l : List Kind). goes_on p.dying p.link ++ l) (passes_both ps qs) ∙ sym (append_assoc (goes_on p.dying p.link) (passes ps) (passes qs)))
+    ∙ sym (append_assoc (reads p.part) (goes_on p.dying p.link ++ passes ps) (passes qs))
 
 -- one slot more is passed
-pub passes_more : (v : View) (ps : List Passed) (ws : List ℕ) (x : ℕ) → after v (passes (ps ++ record { part = ws; link = x } ∷ [])) ≡ view_after (after (after v (passes ps)) (reads ws)) (Next x)
-passes_more v ps ws x = ap (after v) (passes_both ps (record { part = ws; link = x } ∷ [])) ∙ (after_both v (passes ps) (reads ws ++ (Next x ∷ [])) ∙ after_both (after v (passes ps)) (reads ws) (Next x ∷ []))
+pub passes_more : (v : View) (ps : List Passed) (q : Passed) → after v (passes (ps ++ q ∷ [])) ≡ after (after v (passes ps)) (passes (q ∷ []))
+passes_more v ps q = ap (after v) (passes_both ps (q ∷ [])) ∙ after_both v (passes ps) (passes (q ∷ []))
 
-pub others_more : (row : List ℕ) (ps : List Passed) (ws : List ℕ) (x : ℕ) → Others row ps → ws ≢ take (length ws) row → Others row (ps ++ record { part = ws; link = x } ∷ [])
-others_more row ps ws x others ne i p e = let new : Passed = record { part = ws; link = x } in
-    ⊎_elim (others i p) (λ (t : (i ≡ length ps) × (new ≡ p)). subst (λ (q : Passed). q.part ≢ take (length q.part) row) t.1 ne) (at_snoc ps new p i e)
+pub others_more : (row : List ℕ) (ps : List Passed) (q : Passed) → Others row ps → Another row q.part q.dying → Others row (ps ++ q ∷ [])
+others_more row ps q others another i p e = ⊎_elim (others i p) (λ (t : (i ≡ length ps) × (q ≡ p)). subst (λ (x : Passed). Another row x.part x.dying) t.1 another) (at_snoc ps q p i e)
 
 -- WHAT STAYS
 pub aside_refl : (v : View) → Aside v v
-aside_refl v = record { gone = refl; size = refl; own = refl; fixed = refl; counts = refl; pass = refl; asked = refl; undealt = refl; cycle = refl; sweep = refl }
+aside_refl v = record { gone = refl; size = refl; own = refl; fixed = refl; counts = refl; pass = refl; asked = refl; undealt = refl; cycle = refl; sweep = refl; risen = refl }
 
 pub aside_trans : (u v w : View) → Aside u v → Aside v w → Aside u w
-aside_trans u v w a b = record { gone = b.gone ∙ a.gone; size = b.size ∙ a.size; own = b.own ∙ a.own; fixed = b.fixed ∙ a.fixed; counts = b.counts ∙ a.counts; pass = b.pass ∙ a.pass; asked = b.asked ∙ a.asked; undealt = b.undealt ∙ a.undealt; cycle = b.cycle ∙ a.cycle; sweep = b.sweep ∙ a.sweep }
+aside_trans u v w a b = record { gone = b.gone ∙ a.gone; size = b.size ∙ a.size; own = b.own ∙ a.own; fixed = b.fixed ∙ a.fixed; counts = b.counts ∙ a.counts; pass = b.pass ∙ a.pass; asked = b.asked ∙ a.asked; undealt = b.undealt ∙ a.undealt; cycle = b.cycle ∙ a.cycle; sweep = b.sweep ∙ a.sweep; risen = b.risen ∙ a.risen }
 
 pub aside_reads : (v : View) (ws : List ℕ) → Aside v (after v (reads ws))
 aside_reads v [] = aside_refl v
 aside_reads v (x ∷ ws) = let one : View = view_after v (Read x) in
-    aside_trans v one (after one (reads ws)) (record { gone = refl; size = refl; own = refl; fixed = refl; counts = refl; pass = refl; asked = refl; undealt = refl; cycle = refl; sweep = refl }) (aside_reads one ws)
+    aside_trans v one (after one (reads ws)) (record { gone = refl; size = refl; own = refl; fixed = refl; counts = refl; pass = refl; asked = refl; undealt = refl; cycle = refl; sweep = refl; risen = refl }) (aside_reads one ws)
+
+aside_on : (v : View) (d : Option Dying) (x : ℕ) → Aside v (after v (goes_on d x))
+aside_on v None x = record { gone = refl; size = refl; own = refl; fixed = refl; counts = refl; pass = refl; asked = refl; undealt = refl; cycle = refl; sweep = refl; risen = refl }
+aside_on v (Some d) x = record { gone = refl; size = refl; own = refl; fixed = refl; counts = refl; pass = refl; asked = refl; undealt = refl; cycle = refl; sweep = refl; risen = refl }
 
 pub aside_passes : (v : View) (ps : List Passed) → Aside v (after v (passes ps))
 aside_passes v [] = aside_refl v
-aside_passes v (p ∷ ps) = let one : View = after v (reads p.part) in let two : View = view_after one (Next p.link) in
-    subst (Aside v) (sym (after_both v (reads p.part) (Next p.link ∷ passes ps)))
-    (aside_trans v one (after two (passes ps)) (aside_reads v p.part) (aside_trans one two (after two (passes ps)) (record { gone = refl; size = refl; own = refl; fixed = refl; counts = refl; pass = refl; asked = refl; undealt = refl; cycle = refl; sweep = refl }) (aside_passes two ps)))
+aside_passes v (p ∷ ps) = let one : View = after v (reads p.part) in let two : View = after one (goes_on p.dying p.link) in
+    subst (Aside v) (sym (after_both v (reads p.part) (goes_on p.dying p.link ++ passes ps) ∙ after_both one (goes_on p.dying p.link) (passes ps)))
+    (aside_trans v one (after two (passes ps)) (aside_reads v p.part) (aside_trans one two (after two (passes ps)) (aside_on one p.dying p.link) (aside_passes two ps)))
 
 -- what neither reading a text nor going on changes
 pub reads_keep : {A : Type 0} (f : View → A) → ((v : View) (x : ℕ) → f (view_after v (Read x)) ≡ f v) → (v : View) (ws : List ℕ) → f (after v (reads ws)) ≡ f v
 reads_keep f same v [] = refl
 reads_keep f same v (x ∷ ws) = reads_keep f same (view_after v (Read x)) ws ∙ same v x
 
-pub passes_keep : {A : Type 0} (f : View → A) → ((v : View) (x : ℕ) → f (view_after v (Read x)) ≡ f v) → ((v : View) (x : ℕ) → f (view_after v (Next x)) ≡ f v) → (v : View) (ps : List Passed) → f (after v (passes ps)) ≡ f v
-passes_keep f read next v [] = refl
-passes_keep f read next v (p ∷ ps) = ap f (after_both v (reads p.part) (Next p.link ∷ passes ps))
-    ∙ (passes_keep f read next (view_after (after v (reads p.part)) (Next p.link)) ps ∙ (next (after v (reads p.part)) p.link ∙ reads_keep f read v p.part))
+-- what no step of a walk before its end changes
+pub record Keeps {A : Type 0} (f : View → A) : Type 0 where
+  pub read : (v : View) (x : ℕ) → f (view_after v (Read x)) ≡ f v
+  pub next : (v : View) (x : ℕ) → f (view_after v (Next x)) ≡ f v
+  pub guard : (v : View) (k x : ℕ) → f (view_after v (Protect k x)) ≡ f v
+  pub skip : (v : View) (x : ℕ) → f (view_after v (Skip x)) ≡ f v
+
+on_keep : {A : Type 0} (f : View → A) → Keeps f → (v : View) (d : Option Dying) (x : ℕ) → f (after v (goes_on d x)) ≡ f v
+on_keep f same v None x = same.next v x
+on_keep f same v (Some d) x = same.skip (view_after v (Protect d.slot d.word)) x ∙ same.guard v d.slot d.word
+
+pub passes_keep : {A : Type 0} (f : View → A) → Keeps f → (v : View) (ps : List Passed) → f (after v (passes ps)) ≡ f v
+passes_keep f same v [] = refl
+passes_keep f same v (p ∷ ps) = let one : View = after v (reads p.part) in ap f (after_both v (reads p.part) (goes_on p.dying p.link ++ passes ps) ∙ after_both one (goes_on p.dying p.link) (passes ps))
+    ∙ (passes_keep f same (after one (goes_on p.dying p.link)) ps ∙ (on_keep f same one p.dying p.link ∙ reads_keep f same.read v p.part))
+
+pub keeps_held : Keeps (λ (y : View). y.held)
+keeps_held = record { read = λ _ _. refl; next = λ _ _. refl; guard = λ _ _ _. refl; skip = λ _ _. refl }
+
+pub keeps_refusals : Keeps (λ (y : View). y.refusals)
+keeps_refusals = record { read = λ _ _. refl; next = λ _ _. refl; guard = λ _ _ _. refl; skip = λ _ _. refl }
 
 -- WHERE THE WALK STANDS
 module _ (row : List ℕ) (h x : ℕ) where
   pub standing_start : (v : View) → Standing row h x 0 (first_of x) [] (view_after v (Start h x))
-  standing_start v = record { walk = record { head = h; word = x; place = first_of x; part = []; guarded = false; seen = [] }; at = refl; head = refl; word = refl; count = refl; place = refl; part = refl; others = λ i a e. absurd (Rattle.atom_words.proofs.Slices.in_none a (i, e)) }
+  standing_start v = record { walk = starting h x; at = refl; head = refl; word = refl; count = refl; place = refl; part = refl; others = λ i a e. absurd (Rattle.atom_words.proofs.Slices.in_none a (i, e)) }
 
   pub standing_read : (n p : ℕ) (ws : List ℕ) (y : ℕ) (v : View) → Standing row h x n p ws v → Standing row h x n p (ws ++ y ∷ []) (view_after v (Read y))
   standing_read n p ws y v s = record { walk = reading y s.walk; at = ap (option_map (reading y)) s.at; head = s.head; word = s.word; count = s.count; place = s.place; part = ap (λ (l : List ℕ). l ++ y ∷ []) s.part; others = s.others }
@@ -92,11 +111,40 @@ module _ (row : List ℕ) (h x : ℕ) where
     at = ap (option_map (going_on y)) s.at;
     head = s.head;
     word = s.word;
-    count = length-append s.walk.seen (at_hand s.walk ∷ []) ∙ ap (λ (k : ℕ). k + 1) s.count;
+    count = let one : length (s.walk.seen ++ at_hand s.walk ∷ []) ≡ length s.walk.seen + 1 = length-append s.walk.seen (at_hand s.walk ∷ []) in let all = s.count in omega arith;
     place = refl;
     part = refl;
     others = λ i a e. ⊎_elim (s.others i a) (λ (t : (i ≡ length s.walk.seen) × (at_hand s.walk ≡ a)). subst (λ (b : Held). b.text ≢ take (length b.text) row) t.1 (subst (λ (l : List ℕ). l ≢ take (length l) row) (sym s.part) ne)) (at_snoc s.walk.seen (at_hand s.walk) a i e);
   }
+
+  -- past a dying slot
+  pub standing_skip : (n p : ℕ) (ws : List ℕ) (k y l : ℕ) (v : View) → Standing row h x n p ws v → Standing row h x (n + 1) l [] (view_after (view_after v (Protect k y)) (Skip l))
+  standing_skip n p ws k y l v s = record {
+    walk = skipping l (guarding k y s.walk);
+    at = ap (λ (o : Option Walk). option_map (skipping l) (option_map (guarding k y) o)) s.at;
+    head = s.head;
+    word = s.word;
+    count = let all = s.count in omega arith;
+    place = refl;
+    part = refl;
+    others = s.others;
+  }
+
+  standing_on : (n p : ℕ) (ws : List ℕ) (d : Option Dying) (l : ℕ) (v : View) → Standing row h x n p [] v → Another row ws d → Standing row h x (n + 1) l [] (after v (reads ws ++ (goes_on d l ++ [])))
+  standing_on n p ws None l v s another = subst (Standing row h x (n + 1) l []) (sym (after_both v (reads ws) (Next l ∷ []))) (standing_next n p ws l (after v (reads ws)) (standing_reads n p [] ws v s) another)
+  standing_on n p ws (Some d) l v s another = subst (Standing row h x (n + 1) l []) (sym (after_both v (reads ws) (Protect d.slot d.word ∷ Skip l ∷ [])))
+      (standing_skip n p ws d.slot d.word l (after v (reads ws)) (standing_reads n p [] ws v s))
+
+  -- one slot more is passed
+  pub standing_pass : (n p : ℕ) (q : Passed) (v : View) → Standing row h x n p [] v → Another row q.part q.dying → Standing row h x (n + 1) q.link [] (after v (passes (q ∷ [])))
+  standing_pass n p q v s another = standing_on n p q.part q.dying q.link v s another
+
+  -- the slot k is held, whose text was read
+  pub standing_hold : (n k y : ℕ) (u w : View) → Standing row h x n (k + 1) [] u → w ≡ after u (meets row k y (Hold ∷ [])) → w.held ≡ u.held ++ record { slot = k; text = row } ∷ []
+  standing_hold n k y u w st is = let s = standing_reads n (k + 1) [] row u st in let t : View = after u (reads row) in let place = s.place in
+      let slot : s.walk.place - 1 ≡ k = omega arith in
+      ap (λ (v : View). v.held) (is ∙ after_both u (reads row) (Protect k y ∷ Hold ∷ []))
+      ∙ ((λ i. reads_keep (λ (v : View). v.held) (λ _ _. refl) u row i ++ held_at_hand (option_map (guarding k y) (s.at i))) ∙ (λ i. u.held ++ record { slot = slot i; text = s.part i } ∷ []))
 
   pub missing : (n : ℕ) (ws : List ℕ) (v : View) → closed_of x ≡ 0 → Standing row h x n 0 ws v → Missing row h v
   missing n ws v unclosed s = record { walk = s.walk; at = s.at; head = s.head; unclosed = ap closed_of s.word ∙ unclosed; ended = s.place; others = s.others }
@@ -105,10 +153,14 @@ pub reads_walk : (v : View) (w : Walk) (ws : List ℕ) → v.walk ≡ Some w →
 reads_walk v w [] e = e ∙ ap (λ (t : List ℕ). let y : Walk = record w { part = t } in Some y) (sym (append-nil w.part))
 reads_walk v w (x ∷ ws) e = reads_walk (view_after v (Read x)) (reading x w) ws (ap (option_map (reading x)) e) ∙ ap (λ (t : List ℕ). let y : Walk = record w { part = t } in Some y) (append_assoc w.part (x ∷ []) ws)
 
--- a slot at hand that was protected, and not found reserved, is guarded
-pub guard_set : (g : Bool) (p q x : ℕ) → p ≡ q → x ≢ 1 → (g || ((p == q) && not (x == 1))) ≡ true
-guard_set true p q x e ne = refl
-guard_set false p q x e ne = let here : (p == q) ≡ true = eq-eqb p q e in let not_ : (x == 1) ≡ false = ne_eqb x 1 ne in λ i. here i && not (not_ i)
+-- a slot at hand that was protected was found in that state
+pub guard_set : (g : Bool) (p q x n : ℕ) → p ≡ q → x ≡ n → (g || ((p == q) && (x == n))) ≡ true
+guard_set true p q x n e f = refl
+guard_set false p q x n e f = let here : (p == q) ≡ true = eq-eqb p q e in let state : (x == n) ≡ true = eq-eqb x n f in λ i. here i && state i
+
+-- a seat that walks does so still
+pub walking_as : (v w : View) → Aside v w → Walking v → Walking w
+walking_as v w a t = (⊎_elim (λ (e : v.cycle.engine ≢ 0). inl (λ none. e (ap (λ (y : Cycling). y.engine) (sym a.cycle) ∙ none))) (λ (e : 0 < v.undealt). inr (subst (λ (n : ℕ). 0 < n) (sym a.undealt) e)) t.0, a.sweep ∙ t.1)
 
 pub passed_aside : (v u : View) (ps : List Passed) → u ≡ after v (passes ps) → Aside v u
 passed_aside v u ps is = subst (Aside v) (sym is) (aside_passes v ps)
@@ -121,11 +173,26 @@ pub alone_as : (v u : View) (k : ℕ) (t : List ℕ) → u.held ≡ v.held → u
 alone_as v u k t held fixed alone a ours = alone a (⊎_elim (λ (h : In a v.held). inl (subst (In a) (sym held) h)) (λ (h : In a v.fixed). inr (subst (In a) (sym fixed) h)) ours)
 
 pub read_held : (v u t : View) (ps : List Passed) (ws : List ℕ) → u ≡ after v (passes ps) → t ≡ after u (reads ws) → t.held ≡ v.held
-read_held v u t ps ws is now = ap (λ (y : View). y.held) now ∙ (reads_keep (λ (y : View). y.held) (λ _ _. refl) u ws ∙ (ap (λ (y : View). y.held) is ∙ passes_keep (λ (y : View). y.held) (λ _ _. refl) (λ _ _. refl) v ps))
+read_held v u t ps ws is now = ap (λ (y : View). y.held) now ∙ (reads_keep (λ (y : View). y.held) (λ _ _. refl) u ws ∙ (ap (λ (y : View). y.held) is ∙ passes_keep (λ (y : View). y.held) keeps_held v ps))
+
+-- what follows where a slot is held
+pub alone_by : (r : Result (Option ℕ) Missed) (A B : Type 0) → (A → B) → IfOk r (λ o. MatchOption o A (λ _. Unit {0})) → IfOk r (λ o. MatchOption o B (λ _. Unit {0}))
+alone_by (Ok None) A B f h = f h
+alone_by (Ok (Some x)) A B f h = tt
+alone_by (Err m) A B f h = tt
 
 -- THE END OF A WALK
-meets_steps : (row : List ℕ) (v u t w : View) (ps : List Passed) (ks : List Kind) → u ≡ after v (passes ps) → t ≡ after u (reads row) → w ≡ after t ks → w ≡ after v (passes ps ++ (reads row ++ ks))
-meets_steps row v u t w ps ks is now last = last ∙ (ap (λ (y : View). after y ks) (now ∙ ap (λ (y : View). after y (reads row)) is) ∙ (sym (after_both (after v (passes ps)) (reads row) ks) ∙ sym (after_both v (passes ps) (reads row ++ ks))))
+meets_steps : (row : List ℕ) (u t w : View) (ks : List Kind) → t ≡ after u (reads row) → w ≡ after t ks → w ≡ after u (reads row ++ ks)
+meets_steps row u t w ks now last = last ∙ (ap (λ (y : View). after y ks) now ∙ sym (after_both u (reads row) ks))
+
+-- a slot whose text was read whole
+pub met_by : (row : List ℕ) (k word : ℕ) (u t w : View) (r : Result (Option ℕ) Missed) → t ≡ after u (reads row) → Ends k word t r w → Meets row k word u r w
+met_by row k word u t w (Ok None) now e = (e.0, e.1, meets_steps row u t w (Protect k e.0 ∷ Hold ∷ []) now e.2)
+met_by row k word u t w (Ok (Some l)) now e = (record { part = row; dying = Some (record { slot = k; word = e.0 }); link = l }, refl, (refl, e.1), meets_steps row u t w (Protect k e.0 ∷ Skip l ∷ []) now e.2)
+met_by row k word u t w (Err (Moved old new)) now e = (e.0, e.1, (e.2.0, meets_steps row u t w (Protect k e.2.0 ∷ Refuse (Again (CauseMoved old new)) ∷ []) now e.2.1))
+met_by row k word u t w (Err (Pending j x)) now e = (e.0, e.1, meets_steps row u t w (Protect k x ∷ Refuse (Again (CausePending k x)) ∷ []) now e.2)
+met_by row k word u t w (Err (Closed x)) now e = absurd e
+met_by row k word u t w (Err (Worn x)) now e = absurd e
 
 module _ (row : List ℕ) (v u : View) (ps : List Passed) (few : length ps ≤ v.size.slots) (others : Others row ps) (is : u ≡ after v (passes ps)) where
   walks_by : (ks : List Kind) (w : View) → w ≡ after v (passes ps ++ ks) → WalksBy row v ks w
@@ -134,18 +201,21 @@ module _ (row : List ℕ) (v u : View) (ps : List Passed) (few : length ps ≤ v
   pub goes_none : Goes row v (Ok None) u
   goes_none = walks_by [] u (is ∙ ap (after v) (sym (append-nil (passes ps))))
 
-  pub goes_ok : (k word : ℕ) (t w : View) (a : Unit {0}) → t ≡ after u (reads row) → Ends k word t (Ok a) w → Goes row v (Ok (Some k)) w
-  goes_ok k word t w a now e = (e.0, e.1, walks_by (meets row k e.0 (Hold ∷ [])) w (meets_steps row v u t w ps (Protect k e.0 ∷ Hold ∷ []) is now e.2))
+  on_from : (ks : List Kind) (w : View) → w ≡ after u ks → w ≡ after v (passes ps ++ ks)
+  on_from ks w e = e ∙ (ap (λ (y : View). after y ks) is ∙ sym (after_both v (passes ps) ks))
 
-  pub goes_err : (k word : ℕ) (t w : View) (m : Missed) → t ≡ after u (reads row) → Ends k word t (Err m) w → Goes row v (Err m) w
-  goes_err k word t w (Moved old new) now e = (e.1, inr (k, e.2.0, walks_by (meets row k e.2.0 (Refuse (Again (CauseMoved old new)) ∷ [])) w (meets_steps row v u t w ps (Protect k e.2.0 ∷ Refuse (Again (CauseMoved old new)) ∷ []) is now e.2.1)))
-  goes_err k word t w (Pending j x) now e = (
+  pub goes_ok : (k word : ℕ) (w : View) → Meets row k word u (Ok None) w → Goes row v (Ok (Some k)) w
+  goes_ok k word w e = (e.0, e.1, walks_by (meets row k e.0 (Hold ∷ [])) w (on_from (meets row k e.0 (Hold ∷ [])) w e.2))
+
+  pub goes_err : (k word : ℕ) (w : View) (m : Missed) → Meets row k word u (Err m) w → Goes row v (Err m) w
+  goes_err k word w (Moved old new) e = (e.1, inr (k, e.2.0, walks_by (meets row k e.2.0 (Refuse (Again (CauseMoved old new)) ∷ [])) w (on_from (meets row k e.2.0 (Refuse (Again (CauseMoved old new)) ∷ [])) w e.2.1)))
+  goes_err k word w (Pending j x) e = (
     e.1,
     walks_by (meets row j x (Refuse (Again (CausePending j x)) ∷ [])) w (subst (λ (i : ℕ). w ≡ after v (passes ps ++ meets row i x (Refuse (Again (CausePending i x)) ∷ []))) (sym e.0)
-        (meets_steps row v u t w ps (Protect k x ∷ Refuse (Again (CausePending k x)) ∷ []) is now e.2)),
+        (on_from (meets row k x (Refuse (Again (CausePending k x)) ∷ [])) w e.2)),
   )
-  goes_err k word t w (Closed x) now e = absurd e
-  goes_err k word t w (Worn x) now e = absurd e
+  goes_err k word w (Closed x) e = absurd e
+  goes_err k word w (Worn x) e = absurd e
 
   pub goes_moved : (word : ℕ) (w : View) (m : Missed) → ((x : ℕ) × (m ≡ Moved word x) × (version_of x ≢ version_of word) × (w ≡ after u (Refuse (Again (CauseMoved word x)) ∷ []))) → Goes row v (Err m) w
   goes_moved word w m e = subst (λ (y : Missed). Goes row v (Err y) w) (sym e.1) (

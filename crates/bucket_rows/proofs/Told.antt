@@ -1,27 +1,27 @@
 -- What a walk's steps say of the view at its end.
-use Rattle.std.proofs.Common.{◌≡◌, ◌≢◌, ◌⊎◌, ◌+◌, ◌-◌, ◌<◌, ◌≤◌, ◌++◌, ℕ, List, [], ◌∷◌, length, refl, sym, ap, ◌∙◌, subst, inl, inr, ⊎_elim, arith, Option, Some, None, Ok, Err, Result, IfOk, MatchOption, append-nil, option_map}
-use Rattle.atom_words.specs.Kinds.{reading, going_on, guarding, held_at_hand, view_after, after}
+use Rattle.std.proofs.Common.{◌≡◌, ◌⊎◌, ◌<◌, ◌++◌, ℕ, List, [], ◌∷◌, refl, sym, ap, ◌∙◌, subst, inl, inr, ⊎_elim, Option, Some, None, Ok, Err, Result, IfOk, MatchOption, append-nil, option_map}
+use Rattle.atom_words.specs.Kinds.{reading, going_on, skipping, guarding, view_after, after}
 use Rattle.atom_words.specs.Layout.{closed_of}
 use Rattle.atom_words.specs.Plays.{Alone}
 use Rattle.atom_words.specs.Ties.{walk_head, walk_word}
-use Rattle.atom_words.specs.declared.view.Held.{Held}
 use Rattle.atom_words.specs.declared.view.Walk.{Walk}
 use Rattle.atom_words.specs.declared.view.Cause.TheVariants.{Moved as CauseMoved, Pending as CausePending}
 use Rattle.atom_words.specs.declared.view.Refusal.{Refusal}
 use Rattle.atom_words.specs.declared.view.Refusal.TheVariants.{Again}
 use Rattle.atom_words.specs.declared.view.View.{View}
 use Rattle.atom_words.specs.declared.kind.Kind.{Kind}
-use Rattle.atom_words.specs.declared.kind.Kind.TheVariants.{Start, Read, Next, Protect, Hold, Refuse}
+use Rattle.atom_words.specs.declared.kind.Kind.TheVariants.{Start, Protect, Hold, Refuse}
 use Rattle.bucket_rows.specs.declared.missed.Missed.{Missed}
 use Rattle.bucket_rows.specs.declared.missed.Missed.TheVariants.{Moved, Pending, Closed, Worn}
 use Rattle.bucket_rows.specs.Walks.{Passed, reads, passes, meets, WalksBy, Goes, Walks, Missing, Aside, held_after, refused_after}
 use Rattle.bucket_rows.specs.Standing.{Standing}
-use Rattle.bucket_rows.proofs.Reading.{after_both, aside_trans, aside_passes, aside_reads, reads_keep, passes_keep, missing}
+use Rattle.bucket_rows.proofs.Reading.{after_both, aside_trans, aside_passes, aside_reads, reads_keep, passes_keep, keeps_held, keeps_refusals, missing}
 
--- a function of the walk that reading, going on and protecting leave
+-- a function of the walk that reading, going on, going past and protecting leave
 pub record Steady (f : Option Walk → ℕ) : Type 0 where
   pub read : (x : ℕ) (o : Option Walk) → f (option_map (reading x) o) ≡ f o
   pub next : (x : ℕ) (o : Option Walk) → f (option_map (going_on x) o) ≡ f o
+  pub skip : (x : ℕ) (o : Option Walk) → f (option_map (skipping x) o) ≡ f o
   pub guard : (k x : ℕ) (o : Option Walk) → f (option_map (guarding k x) o) ≡ f o
 
 same_head : (d : ℕ) (g : Walk → Walk) → ((w : Walk) → (g w).head ≡ w.head) → (o : Option Walk) → walk_head d (option_map g o) ≡ walk_head d o
@@ -33,10 +33,10 @@ same_word d g same None = refl
 same_word d g same (Some w) = same w
 
 pub steady_head : (d : ℕ) → Steady (walk_head d)
-steady_head d = record { read = λ x o. same_head d (reading x) (λ w. refl) o; next = λ x o. same_head d (going_on x) (λ w. refl) o; guard = λ k x o. same_head d (guarding k x) (λ w. refl) o }
+steady_head d = record { read = λ x o. same_head d (reading x) (λ w. refl) o; next = λ x o. same_head d (going_on x) (λ w. refl) o; skip = λ x o. same_head d (skipping x) (λ w. refl) o; guard = λ k x o. same_head d (guarding k x) (λ w. refl) o }
 
 pub steady_word : (d : ℕ) → Steady (walk_word d)
-steady_word d = record { read = λ x o. same_word d (reading x) (λ w. refl) o; next = λ x o. same_word d (going_on x) (λ w. refl) o; guard = λ k x o. same_word d (guarding k x) (λ w. refl) o }
+steady_word d = record { read = λ x o. same_word d (reading x) (λ w. refl) o; next = λ x o. same_word d (going_on x) (λ w. refl) o; skip = λ x o. same_word d (skipping x) (λ w. refl) o; guard = λ k x o. same_word d (guarding k x) (λ w. refl) o }
 
 -- the view t, after slots were passed and perhaps the text was read
 record Brought (f : Option Walk → ℕ) (v t : View) : Type 0 where
@@ -49,9 +49,9 @@ module _ (f : Option Walk → ℕ) (steady : Steady f) (row : List ℕ) (v : Vie
   passed : (ps : List Passed) → Brought f v (after v (passes ps))
   passed ps = record {
     aside = aside_passes v ps;
-    held = passes_keep (λ (y : View). y.held) (λ _ _. refl) (λ _ _. refl) v ps;
-    refusals = passes_keep (λ (y : View). y.refusals) (λ _ _. refl) (λ _ _. refl) v ps;
-    walk = passes_keep (λ (y : View). f y.walk) (λ y x. steady.read x y.walk) (λ y x. steady.next x y.walk) v ps;
+    held = passes_keep (λ (y : View). y.held) keeps_held v ps;
+    refusals = passes_keep (λ (y : View). y.refusals) keeps_refusals v ps;
+    walk = passes_keep (λ (y : View). f y.walk) (record { read = λ y x. steady.read x y.walk; next = λ y x. steady.next x y.walk; guard = λ y k x. steady.guard k x y.walk; skip = λ y x. steady.skip x y.walk }) v ps;
   }
 
   met : (ps : List Passed) → Brought f v (after (after v (passes ps)) (reads row))
@@ -69,16 +69,16 @@ module _ (f : Option Walk → ℕ) (steady : Steady f) (row : List ℕ) (v : Vie
     pub walk : (f w.walk ≡ f v.walk) ⊎ (w.walk ≡ None)
 
   still : (t : View) → Aside t t
-  still t = record { gone = refl; size = refl; own = refl; fixed = refl; counts = refl; pass = refl; asked = refl; undealt = refl; cycle = refl; sweep = refl }
+  still t = record { gone = refl; size = refl; own = refl; fixed = refl; counts = refl; pass = refl; asked = refl; undealt = refl; cycle = refl; sweep = refl; risen = refl }
 
   refusing : (t : View) (r : Refusal) → Aside t (view_after t (Refuse r))
-  refusing t r = record { gone = refl; size = refl; own = refl; fixed = refl; counts = refl; pass = refl; asked = refl; undealt = refl; cycle = refl; sweep = refl }
+  refusing t r = record { gone = refl; size = refl; own = refl; fixed = refl; counts = refl; pass = refl; asked = refl; undealt = refl; cycle = refl; sweep = refl; risen = refl }
 
   protecting : (t : View) (k x : ℕ) → Aside t (view_after t (Protect k x))
-  protecting t k x = record { gone = refl; size = refl; own = refl; fixed = refl; counts = refl; pass = refl; asked = refl; undealt = refl; cycle = refl; sweep = refl }
+  protecting t k x = record { gone = refl; size = refl; own = refl; fixed = refl; counts = refl; pass = refl; asked = refl; undealt = refl; cycle = refl; sweep = refl; risen = refl }
 
   ending : (t : View) → Aside t (view_after t Hold)
-  ending t = record { gone = refl; size = refl; own = refl; fixed = refl; counts = refl; pass = refl; asked = refl; undealt = refl; cycle = refl; sweep = refl }
+  ending t = record { gone = refl; size = refl; own = refl; fixed = refl; counts = refl; pass = refl; asked = refl; undealt = refl; cycle = refl; sweep = refl; risen = refl }
 
   at_none : (w : View) → WalksBy row v [] w → Tells [] w
   at_none w b = let t : View = after v (passes b.passed) in let p = passed b.passed in let is : t ≡ w = sym (b.steps ∙ after_both v (passes b.passed) []) in
@@ -127,14 +127,14 @@ module _ (f : Option Walk → ℕ) (steady : Steady f) (row : List ℕ) (v : Vie
 -- what an answer other than a slot leaves held
 pub goes_held : (row : List ℕ) (v w : View) (m : Missed) → Goes row v (Err m) w → w.held ≡ v.held
 goes_held row v w (Moved old new) g = ⊎_elim
-    (λ (b : WalksBy row v (Refuse (Again (CauseMoved old new)) ∷ []) w). ap (λ (y : View). y.held) (b.steps ∙ after_both v (passes b.passed) (Refuse (Again (CauseMoved old new)) ∷ [])) ∙ passes_keep (λ (y : View). y.held) (λ _ _. refl) (λ _ _. refl) v b.passed)
+    (λ (b : WalksBy row v (Refuse (Again (CauseMoved old new)) ∷ []) w). ap (λ (y : View). y.held) (b.steps ∙ after_both v (passes b.passed) (Refuse (Again (CauseMoved old new)) ∷ [])) ∙ passes_keep (λ (y : View). y.held) keeps_held v b.passed)
     (λ (b : (k : ℕ) × (x : ℕ) × WalksBy row v (meets row k x (Refuse (Again (CauseMoved old new)) ∷ [])) w). read_refused b.0 b.1 (Again (CauseMoved old new)) b.2) g.1
   where
     read_refused : (k x : ℕ) (r : Refusal) → WalksBy row v (meets row k x (Refuse r ∷ [])) w → w.held ≡ v.held
     read_refused k x r b = let u : View = after v (passes b.passed) in ap (λ (y : View). y.held) (b.steps ∙ (after_both v (passes b.passed) (reads row ++ (Protect k x ∷ Refuse r ∷ [])) ∙ after_both u (reads row) (Protect k x ∷ Refuse r ∷ [])))
-        ∙ (reads_keep (λ (y : View). y.held) (λ _ _. refl) u row ∙ passes_keep (λ (y : View). y.held) (λ _ _. refl) (λ _ _. refl) v b.passed)
+        ∙ (reads_keep (λ (y : View). y.held) (λ _ _. refl) u row ∙ passes_keep (λ (y : View). y.held) keeps_held v b.passed)
 goes_held row v w (Pending k x) g = let b = g.1 in let u : View = after v (passes b.passed) in let r : Refusal = Again (CausePending k x) in ap (λ (y : View). y.held) (b.steps ∙ (after_both v (passes b.passed) (reads row ++ (Protect k x ∷ Refuse r ∷ [])) ∙ after_both u (reads row) (Protect k x ∷ Refuse r ∷ [])))
-    ∙ (reads_keep (λ (y : View). y.held) (λ _ _. refl) u row ∙ passes_keep (λ (y : View). y.held) (λ _ _. refl) (λ _ _. refl) v b.passed)
+    ∙ (reads_keep (λ (y : View). y.held) (λ _ _. refl) u row ∙ passes_keep (λ (y : View). y.held) keeps_held v b.passed)
 goes_held row v w (Closed x) g = absurd g
 goes_held row v w (Worn x) g = absurd g
 
@@ -149,7 +149,7 @@ module _ (row : List ℕ) (h x : ℕ) (v u w : View) (is : u ≡ view_after v (S
   walks_steps (Err (Worn y)) word g = absurd g
 
   starts : Aside v u
-  starts = subst (Aside v) (sym is) (record { gone = refl; size = refl; own = refl; fixed = refl; counts = refl; pass = refl; asked = refl; undealt = refl; cycle = refl; sweep = refl })
+  starts = subst (Aside v) (sym is) (record { gone = refl; size = refl; own = refl; fixed = refl; counts = refl; pass = refl; asked = refl; undealt = refl; cycle = refl; sweep = refl; risen = refl })
 
   pub walks_aside : (r : Result (Option ℕ) Missed) → Goes row u r w → Aside v w
   walks_aside r g = aside_trans v u w starts (goes_tells (walk_head 0) (steady_head 0) row u r w g).aside
@@ -166,7 +166,7 @@ module _ (row : List ℕ) (h x : ℕ) (v u w : View) (is : u ≡ view_after v (S
   Lasts slots r = IfOk r (λ o. MatchOption o ((n : ℕ) × Standing row h x n 0 [] w) (λ k. (k < slots) × Alone u k row × (w.held ≡ held_after row u r)))
 
   pub walks_held : (slots : ℕ) (r : Result (Option ℕ) Missed) → Goes row u r w → Lasts slots r → w.held ≡ held_after row v r
-  walks_held slots (Ok None) g l = ap (λ (y : View). y.held) (g.steps ∙ after_both u (passes g.passed) []) ∙ (passes_keep (λ (y : View). y.held) (λ _ _. refl) (λ _ _. refl) u g.passed ∙ ap (λ (y : View). y.held) is)
+  walks_held slots (Ok None) g l = ap (λ (y : View). y.held) (g.steps ∙ after_both u (passes g.passed) []) ∙ (passes_keep (λ (y : View). y.held) keeps_held u g.passed ∙ ap (λ (y : View). y.held) is)
   walks_held slots (Ok (Some k)) g l = l.2 ∙ ap (λ (y : View). y.held ++ record { slot = k; text = row } ∷ []) is
   walks_held slots (Err m) g l = goes_held row u w m g ∙ ap (λ (y : View). y.held) is
 

@@ -13,7 +13,7 @@ use Rattle.atom_words.specs.declared.view.Cause.TheVariants.{Moved as CauseMoved
 use Rattle.atom_words.specs.declared.view.Refusal.TheVariants.{Again, Worn as RefusalWorn}
 use Rattle.atom_words.specs.declared.view.View.{View}
 use Rattle.atom_words.specs.declared.kind.Kind.{Kind}
-use Rattle.atom_words.specs.declared.kind.Kind.TheVariants.{Start, Read, Next, Protect, Hold, Refuse, PutLink, Link}
+use Rattle.atom_words.specs.declared.kind.Kind.TheVariants.{Start, Read, Next, Skip, Protect, Hold, Refuse, PutLink, Link}
 use Rattle.bucket_rows.specs.declared.missed.Missed.{Missed}
 use Rattle.bucket_rows.specs.declared.missed.Missed.TheVariants.{Moved, Pending, Closed, Worn}
 
@@ -21,23 +21,38 @@ use Rattle.bucket_rows.specs.declared.missed.Missed.TheVariants.{Moved, Pending,
 abbrev pub spelled : Chars → List ℕ
 spelled t = row_of (encode_utf8_all t)
 
--- What a walk reads of a slot that it passes: the beginning of its text, and its link word
+-- a slot that was found dying as its mark was set: its number, and the word that was found
+pub record Dying : Type 0 where
+  pub slot : ℕ
+  pub word : ℕ
+
+-- What a walk reads of a slot that it passes: the beginning of its text, and its link word. A slot that has the text looked for is passed where it was found dying
 pub record Passed : Type 0 where
   pub part : List ℕ
+  pub dying : Option Dying
   pub link : ℕ
 
 abbrev pub reads : List ℕ → List Kind
 reads ws = map (λ x. Read x) ws
 
+abbrev pub goes_on : Option Dying → ℕ → List Kind
+goes_on None x = Next x ∷ []
+goes_on (Some d) x = Protect d.slot d.word ∷ Skip x ∷ []
+
 abbrev pub passes : List Passed → List Kind
 passes [] = []
-passes (p ∷ ps) = reads p.part ++ (Next p.link ∷ passes ps)
+passes (p ∷ ps) = reads p.part ++ (goes_on p.dying p.link ++ passes ps)
 
--- each slot that was passed has another text
+-- what was read shows another text; or the slot has the text, and was found dying
+abbrev pub Another : List ℕ → List ℕ → Option Dying → Type 0
+Another row part None = part ≢ take (length part) row
+Another row part (Some d) = (part ≡ row) × (state_of d.word ≡ 2)
+
+-- each slot that was passed has another text or is dying
 abbrev pub Others : List ℕ → List Passed → Type 0
-Others row ps = (i : ℕ) (p : Passed) → get_elem? ps i ≡ some p → p.part ≢ take (length p.part) row
+Others row ps = (i : ℕ) (p : Passed) → get_elem? ps i ≡ some p → Another row p.part p.dying
 
--- The steps of a walk behind its start, where it passes the slots ps, and makes the steps ks at the end
+-- The steps of a walk after its start, where it passes the slots ps, and makes the steps ks at the end
 pub record WalksBy (row : List ℕ) (v : View) (ks : List Kind) (w : View) : Type 0 where
   pub passed : List Passed
   pub few : length passed ≤ v.size.slots
@@ -48,10 +63,10 @@ pub record WalksBy (row : List ℕ) (v : View) (ks : List Kind) (w : View) : Typ
 abbrev pub meets : List ℕ → ℕ → ℕ → List Kind → List Kind
 meets row k x ks = reads row ++ (Protect k x ∷ ks)
 
--- THE STEPS OF A WALK for a text behind its start, by its answer
+-- THE STEPS OF A WALK for a text after its start, by its answer
 abbrev pub Goes : List ℕ → View → Result (Option ℕ) Missed → View → Type 0
 Goes row v (Ok None) w = WalksBy row v [] w
-Goes row v (Ok (Some k)) w = (x : ℕ) × (state_of x ≢ 1) × WalksBy row v (meets row k x (Hold ∷ [])) w
+Goes row v (Ok (Some k)) w = (x : ℕ) × (state_of x ≡ 3) × WalksBy row v (meets row k x (Hold ∷ [])) w
 Goes row v (Err (Moved old new)) w = (version_of new ≢ version_of old) × (WalksBy row v (Refuse (Again (CauseMoved old new)) ∷ []) w
     ⊎ ((k : ℕ) × (x : ℕ) × WalksBy row v (meets row k x (Refuse (Again (CauseMoved old new)) ∷ [])) w))
 Goes row v (Err (Pending k x)) w = (state_of x ≡ 1) × WalksBy row v (meets row k x (Refuse (Again (CausePending k x)) ∷ [])) w
@@ -94,6 +109,7 @@ pub record Aside (v w : View) : Type 0 where
   pub undealt : w.undealt ≡ v.undealt
   pub cycle : w.cycle ≡ v.cycle
   pub sweep : w.sweep ≡ v.sweep
+  pub risen : w.risen ≡ v.risen
 
 -- what is held and refused after a walk
 abbrev pub held_after : List ℕ → View → Result (Option ℕ) Missed → List Held

@@ -2,7 +2,8 @@
 ghost use Rattle.std.specs.Prelude.{◌≡◌, ◌≤◌, ◌<◌, true, false, Some, None, IfOk};
 ghost use Rattle.pl_term.specs.Texts.{size};
 ghost use Rattle.atom_words.specs.Texts.{bucket};
-ghost use Rattle.atom_words.specs.Seats.{seen, Fits};
+ghost use Rattle.atom_words.specs.Kinds.{Sitting};
+ghost use Rattle.atom_words.specs.Seats.{seen, Fits, Walking};
 ghost use Rattle.atom_words.specs.declared.view.Own.{Own};
 ghost use Rattle.bucket_rows.specs.Walks.{spelled, Missing, Ready};
 
@@ -28,9 +29,10 @@ fn take(words: &Words, seat: &mut AtomSeat, slot: u32, text: &Text) -> bool
     requires short { size text.now ≤ 248 }
     requires slot { slot < words.now.size.slots }
     requires none { (seen seat.old).own ≡ None }
+    requires walking { Walking (seen seat.old) }
     requires missing { Missing (spelled text.now) (bucket 8 (spelled text.now)) (seen seat.old) }
     ensures fits { Fits words.now seat.new }
-    ensures ready { result ≡ true → Ready (seen seat.new) }
+    ensures ready { result ≡ true → Ready (seen seat.new) × Walking (seen seat.new) }
     ensures none { result ≡ false → (seen seat.new).own ≡ None }
 {
     match words.reserve(seat, slot) {
@@ -48,8 +50,9 @@ fn make_ready(words: &Words, seat: &mut AtomSeat, slot: u32, text: &Text) -> boo
     requires short { size text.now ≤ 248 }
     requires slot { slot < words.now.size.slots }
     requires none { (seen seat.old).own ≡ None }
+    requires walking { Walking (seen seat.old) }
     ensures fits { Fits words.now seat.new }
-    ensures ready { result ≡ true → Ready (seen seat.new) }
+    ensures ready { result ≡ true → Ready (seen seat.new) × Walking (seen seat.new) }
     ensures none { result ≡ false → (seen seat.new).own ≡ None }
 {
     match walk(words, seat, text) {
@@ -64,9 +67,10 @@ fn make_ready(words: &Words, seat: &mut AtomSeat, slot: u32, text: &Text) -> boo
 // Links the slot that was made ready.
 fn links(words: &Words, seat: &mut AtomSeat) -> bool
     requires fits { Fits words.now seat.old }
-    requires ready { Ready (seen seat.old) }
+    requires ready { Ready (seen seat.old) × Walking (seen seat.old) }
     ensures fits { Fits words.now seat.new }
     ensures linked { (o : Own) × ((seen seat.new).own ≡ Some o) × (o.linked ≡ result) }
+    ensures sitting { Sitting (seen seat.new) }
 {
     match link(words, seat) {
         Ok(()) => true,
@@ -77,7 +81,7 @@ fn links(words: &Words, seat: &mut AtomSeat) -> bool
 // How the link of the slot that was made ready is refused, and whether its slot is given back.
 fn link_missed(words: &Words, seat: &mut AtomSeat) -> Option<Missed>
     requires fits { Fits words.now seat.old }
-    requires ready { Ready (seen seat.old) }
+    requires ready { Ready (seen seat.old) × Walking (seen seat.old) }
 {
     match link(words, seat) {
         Ok(()) => None,
@@ -116,7 +120,7 @@ fn a_linked_slot_is_pending_until_it_is_valid(rt: HostRuntime) -> Result<(), Fai
     assert!(rt; ready);
     let linked = links(&words, &mut two);
     assert!(rt; linked);
-    let found = walk(&words, &mut one, &text);
+    let found = look(&words, &mut one, &text);
     let pending = Missed::Pending {
         index: 300,
         word: 1,
@@ -127,11 +131,25 @@ fn a_linked_slot_is_pending_until_it_is_valid(rt: HostRuntime) -> Result<(), Fai
     Ok(())
 }
 
+// What a walk finds.
+fn look(words: &Words, seat: &mut AtomSeat, text: &Text) -> Result<Option<Atom>, Missed>
+    requires fits { Fits words.now seat.old }
+    requires short { size text.now ≤ 248 }
+    requires none { (seen seat.old).own ≡ None }
+    requires walking { Walking (seen seat.old) }
+    ensures fits { Fits words.now seat.new }
+    ensures none { (seen seat.new).own ≡ None }
+    ensures walking { Walking (seen seat.new) }
+{
+    walk(words, seat, text)
+}
+
 // The slot that a walk finds.
 fn holds(words: &Words, seat: &mut AtomSeat, text: &Text) -> Option<Atom>
     requires fits { Fits words.now seat.old }
     requires short { size text.now ≤ 248 }
     requires none { (seen seat.old).own ≡ None }
+    requires walking { Walking (seen seat.old) }
     ensures fits { Fits words.now seat.new }
     ensures none { (seen seat.new).own ≡ None }
 {
@@ -168,8 +186,10 @@ fn raised(words: &Words, seat: &mut AtomSeat, head: u32) -> bool
     requires head { head < words.now.size.heads }
     requires first { 0 < (seen seat.old).undealt }
     requires none { (seen seat.old).own ≡ None }
+    requires walking { Walking (seen seat.old) }
     ensures fits { Fits words.now seat.new }
     ensures none { (seen seat.new).own ≡ None }
+    ensures walking { Walking (seen seat.new) }
 {
     words.raise(seat, head).is_ok()
 }
@@ -181,6 +201,7 @@ fn a_worn_bucket_takes_no_slot(rt: HostRuntime) -> Result<(), Fail> {
         ..SMALL
     };
     let (words, mut first) = Words::new(rt.alloc(), old)?;
+    let _collector = words.part_collector(&mut first);
     let text = short(rt.alloc(), "zz")?;
     let high = raised(&words, &mut first, bucket(b"zz"));
     assert!(rt; high);

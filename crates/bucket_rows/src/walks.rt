@@ -4,20 +4,20 @@ ghost use Rattle.pl_term.specs.Texts.{size};
 ghost use Rattle.atom_words.specs.Layout.{first_of, closed_of, version_of};
 ghost use Rattle.atom_words.specs.Texts.{bucket};
 ghost use Rattle.atom_words.specs.Kinds.{after};
-ghost use Rattle.atom_words.specs.Seats.{seen, Fits, Same};
+ghost use Rattle.atom_words.specs.Seats.{seen, Fits, Same, Walking};
 ghost use Rattle.atom_words.specs.Plays.{Alone, Stale};
 ghost use Rattle.atom_words.specs.declared.view.Walk.{Walk};
 ghost use Rattle.atom_words.specs.declared.view.Cause.TheVariants.{Moved as CauseMoved};
 ghost use Rattle.atom_words.specs.declared.view.Refusal.TheVariants.{Again};
 ghost use Rattle.atom_words.specs.declared.kind.Kind.TheVariants.{Refuse};
 ghost use Rattle.bucket_rows.specs.Walks.{spelled, reads, Goes, Walks, Missing, Aside, held_after, refused_after};
-ghost use Rattle.bucket_rows.specs.Standing.{Standing, Ends};
+ghost use Rattle.bucket_rows.specs.Standing.{Standing, Ends, Meets};
 
 use crate::missed::Missed;
 use crate::rows::{bucket, text_row};
 use atom_api::Atom;
 use atom_words::{
-    AtomSeat, FindingMoved, GoingOn, Holding, Protecting, ReadingWord, ShowingPending,
+    AtomSeat, FindingMoved, GoingOn, Holding, Protecting, ReadingWord, ShowingPending, Skipping,
     StartingWalk, View, Words,
 };
 use atomic_table::Seat;
@@ -43,43 +43,8 @@ fn differs(words: &Words, seat: &mut Seat<(), View>, slot: u32, row: &[u64; 32])
     false
 }
 
-// Ends the walk at the slot at hand, whose text was read whole, with that slot held. Its mark is set first.
-fn hold(
-    words: &Words,
-    seat: &mut Seat<(), View>,
-    slot: u32,
-    head: u32,
-    word: u64,
-) -> Result<(), Missed>
-    requires fits { (seat.old.table_id ≡ words.now.table.shared.table_id) × (seat.old.me.0.size ≡ words.now.size) × (seat.old.me.0.gone ≡ false) }
-    requires slot { slot < words.now.size.slots }
-    requires head { head < words.now.size.heads }
-    requires none { seat.old.me.0.own ≡ None }
-    requires walk { (w : Walk) × (seat.old.me.0.walk ≡ Some w) × (w.place ≡ slot + 1) × (length w.part ≡ 32) × (w.head ≡ head) × (w.word ≡ word) }
-    ensures same { (seat.new.table_id ≡ seat.old.table_id) × (seat.new.id ≡ seat.old.id) × (seat.new.me.1 ≡ seat.old.me.1) }
-    ensures steps { Ends slot word seat.old.me.0 result seat.new.me.0 }
-    ensures alone { IfOk result (λ _. (w : Walk) → seat.old.me.0.walk ≡ Some w → Alone seat.old.me.0 slot w.part) }
-{
-    let place = words.atom_place(slot);
-    let found = words.table.shared.fetch_or::<Protecting>(seat, place, 4);
-    if found % 4 == 1 {
-        words.table.shared.load::<ShowingPending>(seat, 0);
-        return Err(Missed::Pending {
-            index: slot,
-            word: found,
-        });
-    }
-    let top = words.head_place(head);
-    let new = words.table.shared.load::<Holding>(seat, top);
-    if new / 4_194_304 == word / 4_194_304 {
-        Ok(())
-    } else {
-        Err(Missed::Moved { old: word, new })
-    }
-}
-
 // The head of a walk that has lost its way has another version, since at the walk's version the chain ends within as many
-// slots as there are.
+// slots as there are, and none of them is free.
 fn moved(words: &Words, seat: &mut Seat<(), View>, head: u32, word: u64) -> Missed
     requires fits { (seat.old.table_id ≡ words.now.table.shared.table_id) × (seat.old.me.0.size ≡ words.now.size) × (seat.old.me.0.gone ≡ false) }
     requires head { head < words.now.size.heads }
@@ -90,6 +55,78 @@ fn moved(words: &Words, seat: &mut Seat<(), View>, head: u32, word: u64) -> Miss
     let top = words.head_place(head);
     let new = words.table.shared.load::<FindingMoved>(seat, top);
     Missed::Moved { old: word, new }
+}
+
+// Sets the mark of the slot at hand, whose text was read whole. A valid slot is held, which ends the walk; the walk goes
+// past a dying one, and its link word is answered. Where the slot is free, the head has another version.
+fn hold(
+    words: &Words,
+    seat: &mut Seat<(), View>,
+    slot: u32,
+    head: u32,
+    word: u64,
+) -> Result<Option<u64>, Missed>
+    requires fits { (seat.old.table_id ≡ words.now.table.shared.table_id) × (seat.old.me.0.size ≡ words.now.size) × (seat.old.me.0.gone ≡ false) }
+    requires slot { slot < words.now.size.slots }
+    requires head { head < words.now.size.heads }
+    requires none { seat.old.me.0.own ≡ None }
+    requires walking { Walking seat.old.me.0 }
+    requires walk { (w : Walk) × (seat.old.me.0.walk ≡ Some w) × (w.place ≡ slot + 1) × (length w.part ≡ 32) × (w.head ≡ head) × (w.word ≡ word) }
+    ensures same { (seat.new.table_id ≡ seat.old.table_id) × (seat.new.id ≡ seat.old.id) × (seat.new.me.1 ≡ seat.old.me.1) }
+    ensures steps { Ends slot word seat.old.me.0 result seat.new.me.0 }
+    ensures alone { IfOk result (λ o. MatchOption o ((w : Walk) → seat.old.me.0.walk ≡ Some w → Alone seat.old.me.0 slot w.part) (λ _. Unit {0})) }
+{
+    let place = words.atom_place(slot);
+    let found = words.table.shared.fetch_or::<Protecting>(seat, place, 4);
+    if found % 4 == 1 {
+        words.table.shared.load::<ShowingPending>(seat, 0);
+        return Err(Missed::Pending {
+            index: slot,
+            word: found,
+        });
+    }
+    if found % 4 == 2 {
+        let link = words.link_place(slot);
+        return Ok(Some(words.table.shared.load::<Skipping>(seat, link)));
+    }
+    if found % 4 == 0 {
+        return Err(moved(words, seat, head, word));
+    }
+    let top = words.head_place(head);
+    let new = words.table.shared.load::<Holding>(seat, top);
+    if new / 4_194_304 == word / 4_194_304 {
+        Ok(None)
+    } else {
+        Err(Missed::Moved { old: word, new })
+    }
+}
+
+// At the slot at hand: where its text is another, or it is dying, the walk goes on, and its link word is answered; else the
+// slot is held.
+fn meet(
+    words: &Words,
+    seat: &mut Seat<(), View>,
+    slot: u32,
+    head: u32,
+    word: u64,
+    row: &[u64; 32],
+) -> Result<Option<u64>, Missed>
+    requires fits { (seat.old.table_id ≡ words.now.table.shared.table_id) × (seat.old.me.0.size ≡ words.now.size) × (seat.old.me.0.gone ≡ false) }
+    requires slot { slot < words.now.size.slots }
+    requires head { head < words.now.size.heads }
+    requires none { seat.old.me.0.own ≡ None }
+    requires walking { Walking seat.old.me.0 }
+    requires walk { (n : ℕ) × Standing row.now head word n (slot + 1) [] seat.old.me.0 }
+    ensures same { (seat.new.table_id ≡ seat.old.table_id) × (seat.new.id ≡ seat.old.id) × (seat.new.me.1 ≡ seat.old.me.1) }
+    ensures steps { Meets row.now slot word seat.old.me.0 result seat.new.me.0 }
+    ensures alone { IfOk result (λ o. MatchOption o (Alone seat.old.me.0 slot row.now) (λ _. Unit {0})) }
+{
+    if differs(words, seat, slot, row) {
+        let link = words.link_place(slot);
+        Ok(Some(words.table.shared.load::<GoingOn>(seat, link)))
+    } else {
+        hold(words, seat, slot, head, word)
+    }
 }
 
 // Walks on from the first slot of the chain.
@@ -103,6 +140,7 @@ fn walk_chain(
     requires fits { (seat.old.table_id ≡ words.now.table.shared.table_id) × (seat.old.me.0.size ≡ words.now.size) × (seat.old.me.0.gone ≡ false) }
     requires head { head < words.now.size.heads }
     requires none { seat.old.me.0.own ≡ None }
+    requires walking { Walking seat.old.me.0 }
     requires walk { Standing row.now head word 0 (first_of word) [] seat.old.me.0 }
     ensures same { (seat.new.table_id ≡ seat.old.table_id) × (seat.new.id ≡ seat.old.id) × (seat.new.me.1 ≡ seat.old.me.1) }
     ensures steps { Goes row.now seat.old.me.0 result seat.new.me.0 }
@@ -118,14 +156,13 @@ fn walk_chain(
             return Err(moved(words, seat, head, word));
         }
         let slot = (place - 1) as u32;
-        if !differs(words, seat, slot, row) {
-            return match hold(words, seat, slot, head, word) {
-                Ok(()) => Ok(Some(Atom::at(slot))),
-                Err(missed) => Err(missed),
-            };
+        match meet(words, seat, slot, head, word, row) {
+            Ok(met) => match met {
+                None => return Ok(Some(Atom::at(slot))),
+                Some(next) => place = next,
+            },
+            Err(missed) => return Err(missed),
         }
-        let link = words.link_place(slot);
-        place = words.table.shared.load::<GoingOn>(seat, link);
     }
     if place == 0 {
         Ok(None)
@@ -135,8 +172,9 @@ fn walk_chain(
 }
 
 /// Looks for a text in its bucket's chain. Where a slot has it, the seat holds that slot afterwards. Otherwise the walk is at
-/// hand, and shows that no slot of the chain had the text while the head has the version that the walk found. It reads at
-/// most as many link words as there are slots. The text has at most 248 bytes, and the seat has no slot reserved.
+/// hand, and shows that no slot of the chain but a dying one had the text while the head has the version that the walk
+/// found. It reads at most as many link words as there are slots. The text has at most 248 bytes; the seat has no slot
+/// reserved, may hold slots, and is not the collector's.
 ///
 /// # Errors
 /// `Moved`, where the head was loaded with two versions; `Pending`, where another seat has reserved the slot that has the
@@ -145,6 +183,7 @@ pub fn walk(words: &Words, seat: &mut AtomSeat, text: &Text) -> Result<Option<At
     requires fits { Fits words.now seat.old }
     requires short { size text.now ≤ 248 }
     requires none { (seen seat.old).own ≡ None }
+    requires walking { Walking (seen seat.old) }
     ensures same { Same seat.old seat.new }
     ensures steps { Walks (spelled text.now) (bucket 8 (spelled text.now)) (seen seat.old) result (seen seat.new) }
     ensures aside { Aside (seen seat.old) (seen seat.new) }

@@ -1,5 +1,5 @@
--- What is chosen by a text is what is chosen by a number.
-use Rattle.std.proofs.Common.{◌≡◌, ℕ, Bool, true, false, cond, ◌==◌, ◌||◌, ◌&&◌, Some, refl, sym, ap, ap₂, ◌∙◌}
+-- An atom has a text where its number is that of the text.
+use Rattle.std.proofs.Common.{◌≡◌, ℕ, Bool, true, false, ◌==◌, Some, refl, sym, ap, ◌∙◌}
 use Rattle.std.specs.Str.{bytes_eq}
 use Rattle.std.proofs.lemmas.Bool.{false≢true}
 use Rattle.std.proofs.lemmas.Bool.Decides.{Decides-eqb}
@@ -20,23 +20,3 @@ is_named text is a k t e =
     same_bool (bytes_eq (text a) t) (a == k)
     (λ h. (Decides-eqb a k).1 (is.apart a k ((bytes_eq-Decides (text a) t).0 h ∙ sym stands)))
     (λ h. (bytes_eq-Decides (text a) t).1 (ap text ((Decides-eqb a k).0 h) ∙ stands))
-
-pub chosen : {A : Type 0} (h : A → Bool) (t c : Bool) {x y : A} {b d : Bool} → t ≡ c → h x ≡ b → h y ≡ d → h (cond t x y) ≡ cond c b d
-chosen h true c {b = b} {d = d} e p q = p ∙ ap (λ s. cond s b d) e
-chosen h false c {b = b} {d = d} e p q = q ∙ ap (λ s. cond s b d) e
-
-pub chosen_of_two : {A : Type 0} (h : A → Bool) (t₁ t₂ c₁ c₂ : Bool) {x y : A} {b d : Bool} → t₁ ≡ c₁ → t₂ ≡ c₂ → h x ≡ b → h y ≡ d
-    → h (cond (t₁ || t₂) x y) ≡ cond c₁ b (cond c₂ b d)
-chosen_of_two h true t₂ c₁ c₂ {b = b} {d = d} e₁ e₂ p q = p ∙ ap (λ s. cond s b (cond c₂ b d)) e₁
-chosen_of_two h false true c₁ c₂ {b = b} {d = d} e₁ e₂ p q = p ∙ ap₂ (λ s r. cond s b (cond r b d)) e₁ e₂
-chosen_of_two h false false c₁ c₂ {b = b} {d = d} e₁ e₂ p q = q ∙ ap₂ (λ s r. cond s b (cond r b d)) e₁ e₂
-
--- A choice that makes no difference.
-pub passed : {A : Type 0} (h : A → Bool) (t r : Bool) {x y : A} {d : Bool} → h x ≡ false → h y ≡ d → (t ≡ true → d ≡ false) → h (cond (t && r) x y) ≡ d
-passed h true true p q g = p ∙ sym (g refl)
-passed h true false p q g = q
-passed h false r p q g = q
-
--- What holds of a fixed atom holds of an atom with its text.
-pub at_text : (text : ℕ → Chars) → AreTexts text → (a k : ℕ) (t : Chars) → fixed k ≡ Some t → (p : ℕ → Bool) (b : Bool) → p k ≡ b → bytes_eq (text a) t ≡ true → p a ≡ b
-at_text text is a k t e p b at h = ap p ((Decides-eqb a k).0 (sym (is_named text is a k t e) ∙ h)) ∙ at

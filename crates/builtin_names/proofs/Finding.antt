@@ -1,195 +1,162 @@
--- What is found in tables.
-use Rattle.std.proofs.Common.{◌≡◌, ◌≢◌, ◌<◌, ℕ, zero, suc, Bool, true, false, cond, ◌==◌, ◌&&◌, not, List, [], ◌∷◌, ◌++◌, Option, Some, None, refl, sym, ap, ◌∙◌, arith}
+-- What is found in the table.
+use Rattle.std.proofs.Common.{◌≡◌, ◌≢◌, ◌<◌, ◌≤◌, ◌+◌, ℕ, zero, suc, Bool, true, false, cond, ◌==◌, ◌&&◌, List, [], ◌∷◌, ◌++◌, length, drop, get_or, Option, Some, None, refl, sym, ap, ◌∙◌, arith}
 use Rattle.std.specs.List.{list_all}
-use Rattle.std.specs.Str.{bytes_eq}
-use Rattle.std.specs.Prelude.{nat_lt}
-use Rattle.std.proofs.lemmas.Bool.{false≢true, ltb-true}
+use Rattle.std.specs.Prelude.{map, option_map}
+use Rattle.std.proofs.lemmas.Bool.{false≢true, eq-eqb, ne_eqb}
 use Rattle.std.proofs.lemmas.Bool.Decides.{Decides-eqb}
-use Rattle.std.proofs.lemmas.Slice.Eq.{bytes_eq-Decides}
-use Rattle.pl_term.specs.Tree.{Chars}
+use Rattle.pl_model.specs.declared.system.PredicateKind.{PredicateKind}
 use Rattle.atom_api.specs.Fixed.{fixed, fixed_texts}
 use Rattle.builtin_names.specs.declared.predicates.Pred.{Pred}
-use Rattle.builtin_names.specs.Predicates.{name_of, arity_of}
-use Rattle.builtin_names.specs.Tables.{find, table, of_none, of_one, of_two, of_three, of_five}
+use Rattle.builtin_names.specs.Predicates.{entry_of, name_of, arity_of}
+use Rattle.builtin_names.specs.Tables.{with_count, rows_of, table, predicate_at}
 use Rattle.builtin_names.specs.Laws.{IsNamed}
+use Rattle.std.specs.Borrow.{Bor}
+use Rattle.builtin_names.proofs.Numbered.{both, Numbered, kind_at, is_text, text_is}
 
-pub both : (a b : Bool) → (a && b) ≡ true → (a ≡ true) × (b ≡ true)
-both true b e = (refl, e)
-both false b e = absurd (false≢true e)
+-- A predicate of the table, with the number of its name.
+record Found : Type 0 where
+  name : ℕ
+  arity : ℕ
+  predicate : Pred
 
--- What is said of a number by a list of numbers.
-abbrev pub flagged : ℕ → List (ℕ × Bool) → Bool
-flagged a [] = false
-flagged a (e ∷ es) = cond (a == e.0) e.1 (flagged a es)
+abbrev found_at : ℕ → ℕ → List Found → Option Pred
+found_at a n [] = None
+found_at a n (e ∷ es) = cond ((a == e.name) && (n == e.arity)) (Some e.predicate) (found_at a n es)
 
-abbrev pub among : ℕ → List ℕ → Bool
-among a [] = false
-among a (k ∷ ks) = cond (a == k) true (among a ks)
+abbrev named : ℕ → List (ℕ × Pred) → List Found
+named k [] = []
+named k (r ∷ rs) = record { name = k; arity = r.0; predicate = r.1 } ∷ named k rs
 
-abbrev numbers : {A : Type 0} → List (ℕ × A) → List ℕ
-numbers [] = []
-numbers (e ∷ es) = e.0 ∷ numbers es
+abbrev all_named : ℕ → List (List (ℕ × Pred)) → List Found
+all_named k [] = []
+all_named k (r ∷ rs) = named k r ++ all_named (suc k) rs
 
-abbrev alike : Bool → Bool → Bool
-alike true b = b
-alike false b = not b
-
-alike_equal : (a b : Bool) → alike a b ≡ true → a ≡ b
-alike_equal true b e = sym e
-alike_equal false true e = absurd (false≢true e)
-alike_equal false false e = refl
-
-at_listed : (p : ℕ → Bool) (ks : List ℕ) (a : ℕ) → list_all p ks ≡ true → among a ks ≡ true → p a ≡ true
-at_listed p [] a all in₁ = absurd (false≢true in₁)
-at_listed p (k ∷ ks) a all in₁ = go (λ i. at_listed p ks a (both (p k) (list_all p ks) all).1 i) (a == k) refl in₁
+-- one row, and what comes after it
+same_count : (n m : ℕ) → (m == n) ≡ (n == m)
+same_count n m = go (n == m) refl
   where
-    go : (among a ks ≡ true → p a ≡ true) → (b : Bool) → (a == k) ≡ b → cond b true (among a ks) ≡ true → p a ≡ true
-    go rest true e i = ap p ((Decides-eqb a k).0 e) ∙ (both (p k) (list_all p ks) all).0
-    go rest false e i = rest i
+    go : (b : Bool) → (n == m) ≡ b → (m == n) ≡ b
+    go true e = eq-eqb m n (sym ((Decides-eqb n m).0 e))
+    go false e = ne_eqb m n (λ same. false≢true (sym e ∙ eq-eqb n m (sym same)))
 
-split_among : (a : ℕ) (xs ys : List ℕ) → among a (xs ++ ys) ≡ false → (among a xs ≡ false) × (among a ys ≡ false)
-split_among a [] ys e = (refl, e)
-split_among a (x ∷ xs) ys e = go (λ i. split_among a xs ys i) (a == x) e
-  where
-    go : (among a (xs ++ ys) ≡ false → (among a xs ≡ false) × (among a ys ≡ false))
-        → (b : Bool) → cond b true (among a (xs ++ ys)) ≡ false → (cond b true (among a xs) ≡ false) × (among a ys ≡ false)
-    go rest true i = absurd (false≢true (sym i))
-    go rest false i = rest i
-
-unflagged : (a : ℕ) (es : List (ℕ × Bool)) → among a (numbers es) ≡ false → flagged a es ≡ false
-unflagged a [] e = refl
-unflagged a (x ∷ es) e = go (λ i. unflagged a es i) (a == x.0) e
-  where
-    go : (among a (numbers es) ≡ false → flagged a es ≡ false) → (b : Bool) → cond b true (among a (numbers es)) ≡ false → cond b x.1 (flagged a es) ≡ false
-    go rest true i = absurd (false≢true (sym i))
-    go rest false i = rest i
-
-unfound : (a : ℕ) (es : List (ℕ × Pred)) → among a (numbers es) ≡ false → find a es ≡ None
-unfound a [] e = refl
-unfound a (x ∷ es) e = go (λ i. unfound a es i) (a == x.0) e
-  where
-    go : (among a (numbers es) ≡ false → find a es ≡ None) → (b : Bool) → cond b true (among a (numbers es)) ≡ false → cond b (Some x.1) (find a es) ≡ None
-    go rest true i = absurd (false≢true (sym i))
-    go rest false i = rest i
-
--- A list of numbers and a table say the same where they do so at the numbers of both.
-pub agree : (h : Option Pred → Bool) → h None ≡ false → (es : List (ℕ × Bool)) (ts : List (ℕ × Pred))
-    → list_all (λ k. alike (flagged k es) (h (find k ts))) (numbers es ++ numbers ts) ≡ true
-    → (a : ℕ) → flagged a es ≡ h (find a ts)
-agree h nothing es ts all a = go (among a (numbers es ++ numbers ts)) refl
-  where
-    go : (b : Bool) → among a (numbers es ++ numbers ts) ≡ b → flagged a es ≡ h (find a ts)
-    go true i = alike_equal (flagged a es) (h (find a ts)) (at_listed (λ k. alike (flagged k es) (h (find k ts))) (numbers es ++ numbers ts) a all i)
-    go false i =
-        let out : (among a (numbers es) ≡ false) × (among a (numbers ts) ≡ false) = split_among a (numbers es) (numbers ts) i
-        in unflagged a es out.0 ∙ sym (ap h (unfound a ts out.1) ∙ nothing)
-
--- Tables one behind the other.
-abbrev pub first_of : Option Pred → Option Pred → Option Pred
+abbrev first_of : Option Pred → Option Pred → Option Pred
 first_of None o = o
 first_of (Some p) o = Some p
 
-pub find-append : (a : ℕ) (xs ys : List (ℕ × Pred)) → find a (xs ++ ys) ≡ first_of (find a xs) (find a ys)
-find-append a [] ys = refl
-find-append a (x ∷ xs) ys = go (find-append a xs ys) (a == x.0)
+in_row : (k n : ℕ) (rs : List (ℕ × Pred)) (es : List Found) → found_at k n (named k rs ++ es) ≡ first_of (with_count n rs) (found_at k n es)
+in_row k n [] es = refl
+in_row k n (r ∷ rs) es =
+    ap (λ b. cond (b && (n == r.0)) (Some r.1) (found_at k n (named k rs ++ es))) (eq-eqb k k refl)
+    ∙ ap (λ b. cond b (Some r.1) (found_at k n (named k rs ++ es))) (sym (same_count n r.0))
+    ∙ go (r.0 == n) (in_row k n rs es)
   where
-    go : find a (xs ++ ys) ≡ first_of (find a xs) (find a ys)
-        → (b : Bool) → cond b (Some x.1) (find a (xs ++ ys)) ≡ first_of (cond b (Some x.1) (find a xs)) (find a ys)
-    go rest true = refl
-    go rest false = rest
+    go : (b : Bool) → found_at k n (named k rs ++ es) ≡ first_of (with_count n rs) (found_at k n es)
+        → cond b (Some r.1) (found_at k n (named k rs ++ es)) ≡ first_of (cond b (Some r.1) (with_count n rs)) (found_at k n es)
+    go true rest = refl
+    go false rest = rest
 
-pub found_first : (a : ℕ) (xs ys : List (ℕ × Pred)) (o : Option Pred) (p : Pred) → o ≡ find a xs → o ≡ Some p → Some p ≡ find a (xs ++ ys)
-found_first a xs ys o p e is = sym (find-append a xs ys ∙ ap (λ q. first_of q (find a ys)) (sym e ∙ is))
+other_row : (a k n : ℕ) (rs : List (ℕ × Pred)) (es : List Found) → a ≢ k → found_at a n (named k rs ++ es) ≡ found_at a n es
+other_row a k n [] es other = refl
+other_row a k n (r ∷ rs) es other =
+    ap (λ b. cond (b && (n == r.0)) (Some r.1) (found_at a n (named k rs ++ es))) (ne_eqb a k other) ∙ other_row a k n rs es other
 
-pub found_behind : (a : ℕ) (xs ys : List (ℕ × Pred)) (o r : Option Pred) → o ≡ find a xs → o ≡ None → r ≡ find a ys → r ≡ find a (xs ++ ys)
-found_behind a xs ys o r e is f = f ∙ sym (find-append a xs ys ∙ ap (λ q. first_of q (find a ys)) (sym e ∙ is))
+none_later : (a k n : ℕ) (rows : List (List (ℕ × Pred))) → a < k → found_at a n (all_named k rows) ≡ None
+none_later a k n [] low = refl
+none_later a k n (r ∷ rs) low =
+    other_row a k n r (all_named (suc k) rs) (λ same. absurd (omega (arith, same, low))) ∙ none_later a (suc k) n rs (omega (arith, low))
+
+or_none : (o : Option Pred) → first_of o None ≡ o
+or_none None = refl
+or_none (Some p) = refl
+
+at_row : (k j n : ℕ) (rows : List (List (ℕ × Pred))) (a : ℕ) → a ≡ k + j → found_at a n (all_named k rows) ≡ with_count n (get_or rows j [])
+at_row k j n [] a e = refl
+at_row k zero n (r ∷ rs) a e =
+    let here : a ≡ k = omega (arith, e) in
+    ap (λ b. found_at b n (named k r ++ all_named (suc k) rs)) here
+    ∙ in_row k n r (all_named (suc k) rs)
+    ∙ ap (first_of (with_count n r)) (none_later k (suc k) n rs (omega arith))
+    ∙ or_none (with_count n r)
+at_row k (suc j) n (r ∷ rs) a e =
+    other_row a k n r (all_named (suc k) rs) (λ same. absurd (omega (arith, same, e))) ∙ at_row (suc k) j n rs a (omega (arith, e))
+
+abbrev found : List Found
+found = all_named zero table
+
+table_found : (a n : ℕ) → found_at a n found ≡ predicate_at a n
+table_found a n = at_row zero a n table a (omega arith)
+
+-- by their kinds
+abbrev numbered : Found → Numbered
+numbered e = record { name = e.name; arity = e.arity; kind = (entry_of e.predicate).kind }
+
+abbrev kind_of_found : Option Pred → Option PredicateKind
+kind_of_found o = option_map (λ p. (entry_of p).kind) o
+
+kinds_found : (a n : ℕ) (es : List Found) → kind_at a n (map numbered es) ≡ kind_of_found (found_at a n es)
+kinds_found a n [] = refl
+kinds_found a n (e ∷ es) = go ((a == e.name) && (n == e.arity)) (kinds_found a n es)
+  where
+    go : (b : Bool) → kind_at a n (map numbered es) ≡ kind_of_found (found_at a n es)
+        → cond b (Some (entry_of e.predicate).kind) (kind_at a n (map numbered es)) ≡ kind_of_found (cond b (Some e.predicate) (found_at a n es))
+    go true rest = refl
+    go false rest = rest
+
+abbrev pub table_numbers : List Numbered
+table_numbers = map numbered found
+
+pub table_kind : (a n : ℕ) → kind_at a n table_numbers ≡ option_map (λ p. (entry_of p).kind) (predicate_at a n)
+table_kind a n = kinds_found a n found ∙ ap kind_of_found (table_found a n)
 
 -- Names and numbers of arguments.
-abbrev is_text : Option Chars → Chars → Bool
-is_text None t = false
-is_text (Some u) t = bytes_eq u t
+abbrev is_right : Found → Bool
+is_right e = is_text (fixed e.name) (name_of e.predicate) && (e.arity == arity_of e.predicate)
 
-text_is : (o : Option Chars) (t : Chars) → is_text o t ≡ true → o ≡ Some t
-text_is None t e = absurd (false≢true e)
-text_is (Some u) t e = ap Some ((bytes_eq-Decides u t).0 e)
-
--- Whether an entry of a table has the text of its number as its name, and so many arguments.
-abbrev is_right : ℕ → ℕ × Pred → Bool
-is_right n e = is_text (fixed e.0) (name_of e.1) && (n == arity_of e.1)
-
-right : (n : ℕ) (e : ℕ × Pred) → is_right n e ≡ true → (fixed e.0 ≡ Some (name_of e.1)) × (n ≡ arity_of e.1)
-right n e h =
-    let front : (is_text (fixed e.0) (name_of e.1) ≡ true) × ((n == arity_of e.1) ≡ true) = both (is_text (fixed e.0) (name_of e.1)) (n == arity_of e.1) h
-    in (text_is (fixed e.0) (name_of e.1) front.0, (Decides-eqb n (arity_of e.1)).0 front.1)
-
-named_in : (n : ℕ) (a : ℕ) (es : List (ℕ × Pred)) → list_all (is_right n) es ≡ true → IsNamed a n (find a es)
-named_in n a [] all = tt
-named_in n a (e ∷ es) all =
-    let here : (is_right n e ≡ true) × (list_all (is_right n) es ≡ true) = both (is_right n e) (list_all (is_right n) es) all
-    in go (right n e here.0) (named_in n a es here.1) (a == e.0) refl
+named_in : (a n : ℕ) (es : List Found) → list_all is_right es ≡ true → IsNamed a n (found_at a n es)
+named_in a n [] all = tt
+named_in a n (e ∷ es) all =
+    let here : (is_right e ≡ true) × (list_all is_right es ≡ true) = both (is_right e) (list_all is_right es) all in
+    let at : (is_text (fixed e.name) (name_of e.predicate) ≡ true) × ((e.arity == arity_of e.predicate) ≡ true) =
+    both (is_text (fixed e.name) (name_of e.predicate)) (e.arity == arity_of e.predicate) here.0 in
+    go (text_is (fixed e.name) (name_of e.predicate) at.0) ((Decides-eqb e.arity (arity_of e.predicate)).0 at.1)
+    (named_in a n es here.1) (a == e.name) refl (n == e.arity) refl
   where
-    go : (fixed e.0 ≡ Some (name_of e.1)) × (n ≡ arity_of e.1) → IsNamed a n (find a es) → (b : Bool) → (a == e.0) ≡ b → IsNamed a n (cond b (Some e.1) (find a es))
-    go at rest true i = (ap fixed ((Decides-eqb a e.0).0 i) ∙ at.0, at.1)
-    go at rest false i = rest
+    go : fixed e.name ≡ Some (name_of e.predicate) → e.arity ≡ arity_of e.predicate → IsNamed a n (found_at a n es)
+        → (b : Bool) → (a == e.name) ≡ b → (c : Bool) → (n == e.arity) ≡ c → IsNamed a n (cond (b && c) (Some e.predicate) (found_at a n es))
+    go text many rest true x true y = (ap fixed ((Decides-eqb a e.name).0 x) ∙ text, (Decides-eqb n e.arity).0 y ∙ many)
+    go text many rest true x false y = rest
+    go text many rest false x c y = rest
 
-none_named : (a : ℕ) → IsNamed a zero (find a of_none)
-unfolding fixed_texts
-none_named a = named_in zero a of_none refl
+all_right : list_all is_right found ≡ true
+unfolding table fixed_texts
+all_right = refl
 
-one_named : (a : ℕ) → IsNamed a (suc zero) (find a of_one)
-unfolding fixed_texts
-one_named a = named_in (suc zero) a of_one refl
+pub table_named : (a n : ℕ) → IsNamed a n (predicate_at a n)
+table_named a n = rw (sym (table_found a n)) (named_in a n found all_right)
 
-two_named : (a : ℕ) → IsNamed a (suc (suc zero)) (find a of_two)
-unfolding fixed_texts
-two_named a = named_in (suc (suc zero)) a of_two refl
+-- The rows of a name one by one.
+pub count_here : (n : ℕ) (rs : List (ℕ × Pred)) (i : ℕ) (d : ℕ × Pred) → i < length rs → (get_or rs i d).0 ≡ n → with_count n (drop i rs) ≡ Some (get_or rs i d).1
+count_here n [] i d low is = absurd (omega (arith, low))
+count_here n (r ∷ rs) zero d low is = ap (λ b. cond b (Some r.1) (with_count n rs)) (eq-eqb r.0 n is)
+count_here n (r ∷ rs) (suc i) d low is = count_here n rs i d (omega (arith, low)) is
 
-three_named : (a : ℕ) → IsNamed a (suc (suc (suc zero))) (find a of_three)
-unfolding fixed_texts
-three_named a = named_in (suc (suc (suc zero))) a of_three refl
+pub count_past : (n : ℕ) (rs : List (ℕ × Pred)) (i : ℕ) (d : ℕ × Pred) → i < length rs → (get_or rs i d).0 ≢ n → with_count n (drop i rs) ≡ with_count n (drop (suc i) rs)
+count_past n [] i d low other = absurd (omega (arith, low))
+count_past n (r ∷ rs) zero d low other = ap (λ b. cond b (Some r.1) (with_count n rs)) (ne_eqb r.0 n other)
+count_past n (r ∷ rs) (suc i) d low other = count_past n rs i d (omega (arith, low)) other
 
-five_named : (a : ℕ) → IsNamed a (suc (suc (suc (suc (suc zero))))) (find a of_five)
-unfolding fixed_texts
-five_named a = named_in (suc (suc (suc (suc (suc zero))))) a of_five refl
+pub count_none : (n : ℕ) (rs : List (ℕ × Pred)) (i : ℕ) → length rs ≤ i → with_count n (drop i rs) ≡ None
+count_none n [] zero past = refl
+count_none n [] (suc i) past = refl
+count_none n (r ∷ rs) zero past = absurd (omega (arith, past))
+count_none n (r ∷ rs) (suc i) past = count_none n rs i (omega (arith, past))
 
-pub table_named : (a n : ℕ) → IsNamed a n (find a (table n))
-table_named a zero = none_named a
-table_named a (suc zero) = one_named a
-table_named a (suc (suc zero)) = two_named a
-table_named a (suc (suc (suc zero))) = three_named a
-table_named a (suc (suc (suc (suc zero)))) = tt
-table_named a (suc (suc (suc (suc (suc zero))))) = five_named a
-table_named a (suc (suc (suc (suc (suc (suc n)))))) = tt
+pub row_now : (rows : List (Bor (List (ℕ × Pred)))) (i : ℕ) (d : Bor (List (ℕ × Pred))) → d.now ≡ [] → (get_or rows i d).now ≡ get_or (rows_of rows) i []
+row_now [] i d e = e
+row_now (r ∷ rs) zero d e = refl
+row_now (r ∷ rs) (suc i) d e = row_now rs i d e
 
--- Behind the last fixed atom nothing is found.
-not_below : (a k : ℕ) → 192 < a → nat_lt k 193 ≡ true → a ≡ k → ⊥
-not_below a k h below e = let inside : k < 193 = ltb-true k 193 below in absurd (omega arith)
-
-beyond_in : (a : ℕ) (es : List (ℕ × Pred)) → list_all (λ e. nat_lt e.0 193) es ≡ true → 192 < a → find a es ≡ None
-beyond_in a [] all h = refl
-beyond_in a (e ∷ es) all h =
-    let here : (nat_lt e.0 193 ≡ true) × (list_all (λ x. nat_lt x.0 193) es ≡ true) = both (nat_lt e.0 193) (list_all (λ x. nat_lt x.0 193) es) all
-    in go here.0 (beyond_in a es here.1 h) (a == e.0) refl
-  where
-    go : nat_lt e.0 193 ≡ true → find a es ≡ None → (b : Bool) → (a == e.0) ≡ b → cond b (Some e.1) (find a es) ≡ None
-    go at rest true i = absurd (not_below a e.0 h at ((Decides-eqb a e.0).0 i))
-    go at rest false i = rest
-
-pub beyond : (a n : ℕ) → 192 < a → find a (table n) ≡ None
-beyond a zero h = beyond_in a of_none refl h
-beyond a (suc zero) h = beyond_in a of_one refl h
-beyond a (suc (suc zero)) h = beyond_in a of_two refl h
-beyond a (suc (suc (suc zero))) h = beyond_in a of_three refl h
-beyond a (suc (suc (suc (suc zero)))) h = refl
-beyond a (suc (suc (suc (suc (suc zero))))) h = beyond_in a of_five refl h
-beyond a (suc (suc (suc (suc (suc (suc n)))))) h = refl
-
--- With another number of arguments there is no predicate.
-pub other_table : (n : ℕ) → n ≢ 0 → n ≢ 1 → n ≢ 2 → n ≢ 3 → n ≢ 5 → table n ≡ []
-other_table zero p q r s t = absurd (p refl)
-other_table (suc zero) p q r s t = absurd (q refl)
-other_table (suc (suc zero)) p q r s t = absurd (r refl)
-other_table (suc (suc (suc zero))) p q r s t = absurd (s refl)
-other_table (suc (suc (suc (suc zero)))) p q r s t = refl
-other_table (suc (suc (suc (suc (suc zero))))) p q r s t = absurd (t refl)
-other_table (suc (suc (suc (suc (suc (suc n)))))) p q r s t = refl
+pub no_row : (rows : List (Bor (List (ℕ × Pred)))) (i : ℕ) → length rows ≤ i → get_or (rows_of rows) i [] ≡ []
+no_row [] i past = refl
+no_row (r ∷ rs) zero past = absurd (omega (arith, past))
+no_row (r ∷ rs) (suc i) past = no_row rs i (omega (arith, past))

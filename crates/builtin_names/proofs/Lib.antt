@@ -1,7 +1,4 @@
-mod Numbers
+mod Numbered
 mod Choosing
 mod Finding
-mod Rows
-mod Sharing
-mod Steps
 mod Telling

@@ -1,276 +1,156 @@
 -- The names and kinds of the built-in predicates.
 use Rattle.std.specs.Prelude.{ℕ, Bool, true, false, Option, Some, None, codes}
 use Rattle.pl_term.specs.Tree.{Chars}
+use Rattle.pl_model.specs.SystemPredicates.{SystemPredicate, entry}
+use Rattle.pl_model.specs.declared.system.PredicateKind.{PredicateKind}
+use Rattle.pl_model.specs.declared.system.PredicateKind.TheVariants.{Control, Search, Arguments, State, Item, Reserved}
 use Rattle.builtin_names.specs.declared.predicates.Pred.{Pred}
 use Rattle.builtin_names.specs.declared.predicates.Pred.TheVariants as pred
 
+-- The predicate's entry in the list of those of the system.
+abbrev pub entry_of : Pred → SystemPredicate
+entry_of pred.Var = entry (codes "var") 1 Arguments
+entry_of pred.Nonvar = entry (codes "nonvar") 1 Arguments
+entry_of pred.Atom = entry (codes "atom") 1 Arguments
+entry_of pred.Integer = entry (codes "integer") 1 Arguments
+entry_of pred.Float = entry (codes "float") 1 Arguments
+entry_of pred.Number = entry (codes "number") 1 Arguments
+entry_of pred.Atomic = entry (codes "atomic") 1 Arguments
+entry_of pred.Compound = entry (codes "compound") 1 Arguments
+entry_of pred.Callable = entry (codes "callable") 1 Arguments
+entry_of pred.Ground = entry (codes "ground") 1 Arguments
+entry_of pred.Equal = entry (codes "=") 2 Arguments
+entry_of pred.UnifyWithOccursCheck = entry (codes "unify_with_occurs_check") 2 Arguments
+entry_of pred.NotUnifiable = entry (codes "\\=") 2 Arguments
+entry_of pred.SubsumesTerm = entry (codes "subsumes_term") 2 Arguments
+entry_of pred.Identical = entry (codes "==") 2 Arguments
+entry_of pred.NotIdentical = entry (codes "\\==") 2 Arguments
+entry_of pred.TermLess = entry (codes "@<") 2 Arguments
+entry_of pred.TermLessOrEqual = entry (codes "@=<") 2 Arguments
+entry_of pred.TermGreater = entry (codes "@>") 2 Arguments
+entry_of pred.TermGreaterOrEqual = entry (codes "@>=") 2 Arguments
+entry_of pred.Compare = entry (codes "compare") 3 Arguments
+entry_of pred.Sort = entry (codes "sort") 2 Arguments
+entry_of pred.Msort = entry (codes "msort") 2 Arguments
+entry_of pred.Keysort = entry (codes "keysort") 2 Arguments
+entry_of pred.Functor = entry (codes "functor") 3 Arguments
+entry_of pred.Arg = entry (codes "arg") 3 Arguments
+entry_of pred.Univ = entry (codes "=..") 2 Arguments
+entry_of pred.CopyTerm = entry (codes "copy_term") 2 Arguments
+entry_of pred.TermVariables = entry (codes "term_variables") 2 Arguments
+entry_of pred.Is = entry (codes "is") 2 Arguments
+entry_of pred.NumbersEqual = entry (codes "=:=") 2 Arguments
+entry_of pred.NumbersDiffer = entry (codes "=\\=") 2 Arguments
+entry_of pred.Less = entry (codes "<") 2 Arguments
+entry_of pred.LessOrEqual = entry (codes "=<") 2 Arguments
+entry_of pred.Greater = entry (codes ">") 2 Arguments
+entry_of pred.GreaterOrEqual = entry (codes ">=") 2 Arguments
+entry_of pred.Clause = entry (codes "clause") 2 Search
+entry_of pred.CurrentPredicate = entry (codes "current_predicate") 1 State
+entry_of pred.Asserta = entry (codes "asserta") 1 State
+entry_of pred.Assertz = entry (codes "assertz") 1 State
+entry_of pred.Assert = entry (codes "assert") 1 State
+entry_of pred.Retract = entry (codes "retract") 1 Search
+entry_of pred.Retractall = entry (codes "retractall") 1 Search
+entry_of pred.Abolish = entry (codes "abolish") 1 State
+entry_of pred.Dynamic = entry (codes "dynamic") 1 State
+entry_of pred.Discontiguous = entry (codes "discontiguous") 1 State
+entry_of pred.Multifile = entry (codes "multifile") 1 State
+entry_of pred.GarbageCollectClauses = entry (codes "garbage_collect_clauses") 0 State
+entry_of pred.Findall = entry (codes "findall") 3 Search
+entry_of pred.Nl = entry (codes "nl") 0 Search
+entry_of pred.PutChar = entry (codes "put_char") 1 Search
+entry_of pred.Write = entry (codes "write") 1 Search
+entry_of pred.Writeq = entry (codes "writeq") 1 Search
+entry_of pred.Print = entry (codes "print") 1 Search
+entry_of pred.WriteCanonical = entry (codes "write_canonical") 1 Search
+entry_of pred.Op = entry (codes "op") 3 State
+entry_of pred.CurrentOp = entry (codes "current_op") 3 State
+entry_of pred.AtomLength = entry (codes "atom_length") 2 Arguments
+entry_of pred.AtomConcat = entry (codes "atom_concat") 3 Arguments
+entry_of pred.SubAtom = entry (codes "sub_atom") 5 Arguments
+entry_of pred.AtomChars = entry (codes "atom_chars") 2 Arguments
+entry_of pred.AtomCodes = entry (codes "atom_codes") 2 Arguments
+entry_of pred.CharCode = entry (codes "char_code") 2 Arguments
+entry_of pred.NumberChars = entry (codes "number_chars") 2 Arguments
+entry_of pred.NumberCodes = entry (codes "number_codes") 2 Arguments
+entry_of pred.GarbageCollectAtoms = entry (codes "garbage_collect_atoms") 0 State
+entry_of pred.SetPrologFlag = entry (codes "set_prolog_flag") 2 State
+entry_of pred.CurrentPrologFlag = entry (codes "current_prolog_flag") 2 State
+entry_of pred.ThreadSelf = entry (codes "thread_self") 1 State
+entry_of pred.ThreadCreate = entry (codes "thread_create") 2 State
+entry_of pred.ThreadCreateWith = entry (codes "thread_create") 3 State
+entry_of pred.ThreadJoin = entry (codes "thread_join") 2 State
+entry_of pred.ThreadExit = entry (codes "thread_exit") 1 Search
+entry_of pred.ThreadSendMessage = entry (codes "thread_send_message") 2 State
+entry_of pred.ThreadGetMessage = entry (codes "thread_get_message") 1 State
+entry_of pred.ThreadGetMessageFrom = entry (codes "thread_get_message") 2 State
+entry_of pred.ThreadPeekMessage = entry (codes "thread_peek_message") 1 State
+entry_of pred.ThreadPeekMessageFrom = entry (codes "thread_peek_message") 2 State
+entry_of pred.MessageQueueCreate = entry (codes "message_queue_create") 1 State
+entry_of pred.MessageQueueDestroy = entry (codes "message_queue_destroy") 1 State
+entry_of pred.ThreadLocal = entry (codes "thread_local") 1 Reserved
+entry_of pred.MutexCreate = entry (codes "mutex_create") 1 Reserved
+entry_of pred.WithMutex = entry (codes "with_mutex") 2 Reserved
+entry_of pred.Transaction = entry (codes "transaction") 1 Reserved
+entry_of pred.Snapshot = entry (codes "snapshot") 1 Reserved
+entry_of pred.EngineCreate = entry (codes "engine_create") 3 Reserved
+entry_of pred.EngineNext = entry (codes "engine_next") 2 Reserved
+entry_of pred.EngineDestroy = entry (codes "engine_destroy") 1 Reserved
+entry_of pred.Phrase = entry (codes "phrase") 2 Reserved
+entry_of pred.PhraseWithRest = entry (codes "phrase") 3 Reserved
+entry_of pred.Bagof = entry (codes "bagof") 3 Reserved
+entry_of pred.Setof = entry (codes "setof") 3 Reserved
+
 abbrev pub name_of : Pred → Chars
-name_of pred.Var = codes "var"
-name_of pred.Nonvar = codes "nonvar"
-name_of pred.Atom = codes "atom"
-name_of pred.Integer = codes "integer"
-name_of pred.Float = codes "float"
-name_of pred.Number = codes "number"
-name_of pred.Atomic = codes "atomic"
-name_of pred.Compound = codes "compound"
-name_of pred.Callable = codes "callable"
-name_of pred.Ground = codes "ground"
-name_of pred.Equal = codes "="
-name_of pred.UnifyWithOccursCheck = codes "unify_with_occurs_check"
-name_of pred.NotUnifiable = codes "\\="
-name_of pred.SubsumesTerm = codes "subsumes_term"
-name_of pred.Identical = codes "=="
-name_of pred.NotIdentical = codes "\\=="
-name_of pred.TermLess = codes "@<"
-name_of pred.TermLessOrEqual = codes "@=<"
-name_of pred.TermGreater = codes "@>"
-name_of pred.TermGreaterOrEqual = codes "@>="
-name_of pred.Compare = codes "compare"
-name_of pred.Sort = codes "sort"
-name_of pred.Msort = codes "msort"
-name_of pred.Keysort = codes "keysort"
-name_of pred.Functor = codes "functor"
-name_of pred.Arg = codes "arg"
-name_of pred.Univ = codes "=.."
-name_of pred.CopyTerm = codes "copy_term"
-name_of pred.TermVariables = codes "term_variables"
-name_of pred.Is = codes "is"
-name_of pred.NumbersEqual = codes "=:="
-name_of pred.NumbersDiffer = codes "=\\="
-name_of pred.Less = codes "<"
-name_of pred.LessOrEqual = codes "=<"
-name_of pred.Greater = codes ">"
-name_of pred.GreaterOrEqual = codes ">="
-name_of pred.Clause = codes "clause"
-name_of pred.CurrentPredicate = codes "current_predicate"
-name_of pred.Asserta = codes "asserta"
-name_of pred.Assertz = codes "assertz"
-name_of pred.Assert = codes "assert"
-name_of pred.Retract = codes "retract"
-name_of pred.Retractall = codes "retractall"
-name_of pred.Abolish = codes "abolish"
-name_of pred.Dynamic = codes "dynamic"
-name_of pred.Discontiguous = codes "discontiguous"
-name_of pred.Multifile = codes "multifile"
-name_of pred.GarbageCollectClauses = codes "garbage_collect_clauses"
-name_of pred.Findall = codes "findall"
-name_of pred.Nl = codes "nl"
-name_of pred.PutChar = codes "put_char"
-name_of pred.Write = codes "write"
-name_of pred.Writeq = codes "writeq"
-name_of pred.Print = codes "print"
-name_of pred.WriteCanonical = codes "write_canonical"
-name_of pred.Op = codes "op"
-name_of pred.CurrentOp = codes "current_op"
-name_of pred.AtomLength = codes "atom_length"
-name_of pred.AtomConcat = codes "atom_concat"
-name_of pred.SubAtom = codes "sub_atom"
-name_of pred.AtomChars = codes "atom_chars"
-name_of pred.AtomCodes = codes "atom_codes"
-name_of pred.CharCode = codes "char_code"
-name_of pred.NumberChars = codes "number_chars"
-name_of pred.NumberCodes = codes "number_codes"
-name_of pred.GarbageCollectAtoms = codes "garbage_collect_atoms"
-name_of pred.SetPrologFlag = codes "set_prolog_flag"
-name_of pred.CurrentPrologFlag = codes "current_prolog_flag"
-name_of pred.ThreadSelf = codes "thread_self"
-name_of pred.ThreadCreate = codes "thread_create"
-name_of pred.ThreadCreateWith = codes "thread_create"
-name_of pred.ThreadJoin = codes "thread_join"
-name_of pred.ThreadExit = codes "thread_exit"
-name_of pred.ThreadSendMessage = codes "thread_send_message"
-name_of pred.ThreadGetMessage = codes "thread_get_message"
-name_of pred.ThreadGetMessageFrom = codes "thread_get_message"
-name_of pred.ThreadPeekMessage = codes "thread_peek_message"
-name_of pred.ThreadPeekMessageFrom = codes "thread_peek_message"
-name_of pred.MessageQueueCreate = codes "message_queue_create"
-name_of pred.MessageQueueDestroy = codes "message_queue_destroy"
+name_of p = (entry_of p).indicator.name
 
 abbrev pub arity_of : Pred → ℕ
-arity_of pred.Var = 1
-arity_of pred.Nonvar = 1
-arity_of pred.Atom = 1
-arity_of pred.Integer = 1
-arity_of pred.Float = 1
-arity_of pred.Number = 1
-arity_of pred.Atomic = 1
-arity_of pred.Compound = 1
-arity_of pred.Callable = 1
-arity_of pred.Ground = 1
-arity_of pred.Equal = 2
-arity_of pred.UnifyWithOccursCheck = 2
-arity_of pred.NotUnifiable = 2
-arity_of pred.SubsumesTerm = 2
-arity_of pred.Identical = 2
-arity_of pred.NotIdentical = 2
-arity_of pred.TermLess = 2
-arity_of pred.TermLessOrEqual = 2
-arity_of pred.TermGreater = 2
-arity_of pred.TermGreaterOrEqual = 2
-arity_of pred.Compare = 3
-arity_of pred.Sort = 2
-arity_of pred.Msort = 2
-arity_of pred.Keysort = 2
-arity_of pred.Functor = 3
-arity_of pred.Arg = 3
-arity_of pred.Univ = 2
-arity_of pred.CopyTerm = 2
-arity_of pred.TermVariables = 2
-arity_of pred.Is = 2
-arity_of pred.NumbersEqual = 2
-arity_of pred.NumbersDiffer = 2
-arity_of pred.Less = 2
-arity_of pred.LessOrEqual = 2
-arity_of pred.Greater = 2
-arity_of pred.GreaterOrEqual = 2
-arity_of pred.Clause = 2
-arity_of pred.CurrentPredicate = 1
-arity_of pred.Asserta = 1
-arity_of pred.Assertz = 1
-arity_of pred.Assert = 1
-arity_of pred.Retract = 1
-arity_of pred.Retractall = 1
-arity_of pred.Abolish = 1
-arity_of pred.Dynamic = 1
-arity_of pred.Discontiguous = 1
-arity_of pred.Multifile = 1
-arity_of pred.GarbageCollectClauses = 0
-arity_of pred.Findall = 3
-arity_of pred.Nl = 0
-arity_of pred.PutChar = 1
-arity_of pred.Write = 1
-arity_of pred.Writeq = 1
-arity_of pred.Print = 1
-arity_of pred.WriteCanonical = 1
-arity_of pred.Op = 3
-arity_of pred.CurrentOp = 3
-arity_of pred.AtomLength = 2
-arity_of pred.AtomConcat = 3
-arity_of pred.SubAtom = 5
-arity_of pred.AtomChars = 2
-arity_of pred.AtomCodes = 2
-arity_of pred.CharCode = 2
-arity_of pred.NumberChars = 2
-arity_of pred.NumberCodes = 2
-arity_of pred.GarbageCollectAtoms = 0
-arity_of pred.SetPrologFlag = 2
-arity_of pred.CurrentPrologFlag = 2
-arity_of pred.ThreadSelf = 1
-arity_of pred.ThreadCreate = 2
-arity_of pred.ThreadCreateWith = 3
-arity_of pred.ThreadJoin = 2
-arity_of pred.ThreadExit = 1
-arity_of pred.ThreadSendMessage = 2
-arity_of pred.ThreadGetMessage = 1
-arity_of pred.ThreadGetMessageFrom = 2
-arity_of pred.ThreadPeekMessage = 1
-arity_of pred.ThreadPeekMessageFrom = 2
-arity_of pred.MessageQueueCreate = 1
-arity_of pred.MessageQueueDestroy = 1
+arity_of p = (entry_of p).indicator.arity
 
--- Where the meaning of a predicate stands: it is a function of the arguments, it asks something of the shared state, or
--- it is a step of the search.
+-- Where the meaning of a predicate stands: it is a function of the arguments, it asks something of the shared state, it is
+-- a step of the search, or it has none yet.
 pub data Kind : Type 0 where
   row : Kind
   asks : Kind
   steps : Kind
+  reserved : Kind
+
+-- Control constructs and items of a text are no predicates here.
+abbrev pub kind_by : PredicateKind → Kind
+kind_by Control = reserved
+kind_by Search = steps
+kind_by Arguments = row
+kind_by State = asks
+kind_by Item = reserved
+kind_by Reserved = reserved
 
 abbrev pub kind_of : Pred → Kind
-kind_of pred.Var = row
-kind_of pred.Nonvar = row
-kind_of pred.Atom = row
-kind_of pred.Integer = row
-kind_of pred.Float = row
-kind_of pred.Number = row
-kind_of pred.Atomic = row
-kind_of pred.Compound = row
-kind_of pred.Callable = row
-kind_of pred.Ground = row
-kind_of pred.Equal = row
-kind_of pred.UnifyWithOccursCheck = row
-kind_of pred.NotUnifiable = row
-kind_of pred.SubsumesTerm = row
-kind_of pred.Identical = row
-kind_of pred.NotIdentical = row
-kind_of pred.TermLess = row
-kind_of pred.TermLessOrEqual = row
-kind_of pred.TermGreater = row
-kind_of pred.TermGreaterOrEqual = row
-kind_of pred.Compare = row
-kind_of pred.Sort = row
-kind_of pred.Msort = row
-kind_of pred.Keysort = row
-kind_of pred.Functor = row
-kind_of pred.Arg = row
-kind_of pred.Univ = row
-kind_of pred.CopyTerm = row
-kind_of pred.TermVariables = row
-kind_of pred.Is = row
-kind_of pred.NumbersEqual = row
-kind_of pred.NumbersDiffer = row
-kind_of pred.Less = row
-kind_of pred.LessOrEqual = row
-kind_of pred.Greater = row
-kind_of pred.GreaterOrEqual = row
-kind_of pred.Clause = steps
-kind_of pred.CurrentPredicate = asks
-kind_of pred.Asserta = asks
-kind_of pred.Assertz = asks
-kind_of pred.Assert = asks
-kind_of pred.Retract = steps
-kind_of pred.Retractall = steps
-kind_of pred.Abolish = asks
-kind_of pred.Dynamic = asks
-kind_of pred.Discontiguous = asks
-kind_of pred.Multifile = asks
-kind_of pred.GarbageCollectClauses = asks
-kind_of pred.Findall = steps
-kind_of pred.Nl = steps
-kind_of pred.PutChar = steps
-kind_of pred.Write = steps
-kind_of pred.Writeq = steps
-kind_of pred.Print = steps
-kind_of pred.WriteCanonical = steps
-kind_of pred.Op = asks
-kind_of pred.CurrentOp = asks
-kind_of pred.AtomLength = row
-kind_of pred.AtomConcat = row
-kind_of pred.SubAtom = row
-kind_of pred.AtomChars = row
-kind_of pred.AtomCodes = row
-kind_of pred.CharCode = row
-kind_of pred.NumberChars = row
-kind_of pred.NumberCodes = row
-kind_of pred.GarbageCollectAtoms = asks
-kind_of pred.SetPrologFlag = asks
-kind_of pred.CurrentPrologFlag = asks
-kind_of pred.ThreadSelf = asks
-kind_of pred.ThreadCreate = asks
-kind_of pred.ThreadCreateWith = asks
-kind_of pred.ThreadJoin = asks
-kind_of pred.ThreadExit = steps
-kind_of pred.ThreadSendMessage = asks
-kind_of pred.ThreadGetMessage = asks
-kind_of pred.ThreadGetMessageFrom = asks
-kind_of pred.ThreadPeekMessage = asks
-kind_of pred.ThreadPeekMessageFrom = asks
-kind_of pred.MessageQueueCreate = asks
-kind_of pred.MessageQueueDestroy = asks
+kind_of p = kind_by (entry_of p).kind
 
 abbrev pub is_row_kind : Kind → Bool
 is_row_kind row = true
 is_row_kind asks = false
 is_row_kind steps = false
+is_row_kind reserved = false
 
 abbrev pub is_asking_kind : Kind → Bool
 is_asking_kind row = false
 is_asking_kind asks = true
 is_asking_kind steps = false
+is_asking_kind reserved = false
 
 abbrev pub is_step_kind : Kind → Bool
 is_step_kind row = false
 is_step_kind asks = false
 is_step_kind steps = true
+is_step_kind reserved = false
+
+abbrev pub is_reserved_kind : Kind → Bool
+is_reserved_kind row = false
+is_reserved_kind asks = false
+is_reserved_kind steps = false
+is_reserved_kind reserved = true
 
 -- Whether there is a predicate of this kind.
 abbrev pub has_row : Option Pred → Bool
@@ -284,3 +164,7 @@ asks_something (Some p) = is_asking_kind (kind_of p)
 abbrev pub is_step : Option Pred → Bool
 is_step None = false
 is_step (Some p) = is_step_kind (kind_of p)
+
+abbrev pub has_no_meaning : Option Pred → Bool
+has_no_meaning None = false
+has_no_meaning (Some p) = is_reserved_kind (kind_of p)

@@ -184,4 +184,444 @@ pub enum Pred {
     MessageQueueCreate,
     /// `message_queue_destroy/1`, SWI-Prolog manual.
     MessageQueueDestroy,
+
+    // Names that are kept for predicates to come
+    /// `thread_local/1`, SWI-Prolog manual.
+    ThreadLocal,
+    /// `mutex_create/1`, SWI-Prolog manual.
+    MutexCreate,
+    /// `with_mutex/2`, SWI-Prolog manual.
+    WithMutex,
+    /// `transaction/1`, SWI-Prolog manual.
+    Transaction,
+    /// `snapshot/1`, SWI-Prolog manual.
+    Snapshot,
+    /// `engine_create/3`, SWI-Prolog manual.
+    EngineCreate,
+    /// `engine_next/2`, SWI-Prolog manual.
+    EngineNext,
+    /// `engine_destroy/1`, SWI-Prolog manual.
+    EngineDestroy,
+    /// `phrase/2`, SWI-Prolog manual.
+    Phrase,
+    /// `phrase/3`, SWI-Prolog manual.
+    PhraseWithRest,
+    /// `bagof/3`, ISO 8.10.2.
+    Bagof,
+    /// `setof/3`, ISO 8.10.3.
+    Setof,
 }
+
+/// The predicates by the number of their name, from the first fixed atom to the last one that is a name, each with the
+/// number of its arguments.
+pub(crate) static PREDICATES: [&[(usize, Pred)]; 203] = [
+    // `!`
+    &[],
+    // `*`
+    &[],
+    // `**`
+    &[],
+    // `+`
+    &[],
+    // `,`
+    &[],
+    // `-`
+    &[],
+    // `-->`
+    &[],
+    // `->`
+    &[],
+    // `.`
+    &[],
+    // `/`
+    &[],
+    // `//`
+    &[],
+    // `/\`
+    &[],
+    // `:-`
+    &[],
+    // `;`
+    &[],
+    // `<`
+    &[(2, Pred::Less)],
+    // `<<`
+    &[],
+    // `=`
+    &[(2, Pred::Equal)],
+    // `=..`
+    &[(2, Pred::Univ)],
+    // `=:=`
+    &[(2, Pred::NumbersEqual)],
+    // `=<`
+    &[(2, Pred::LessOrEqual)],
+    // `==`
+    &[(2, Pred::Identical)],
+    // `=\=`
+    &[(2, Pred::NumbersDiffer)],
+    // `>`
+    &[(2, Pred::Greater)],
+    // `>=`
+    &[(2, Pred::GreaterOrEqual)],
+    // `>>`
+    &[],
+    // `?-`
+    &[],
+    // `@<`
+    &[(2, Pred::TermLess)],
+    // `@=<`
+    &[(2, Pred::TermLessOrEqual)],
+    // `@>`
+    &[(2, Pred::TermGreater)],
+    // `@>=`
+    &[(2, Pred::TermGreaterOrEqual)],
+    // `[]`
+    &[],
+    // `\`
+    &[],
+    // `\+`
+    &[],
+    // `\/`
+    &[],
+    // `\=`
+    &[(2, Pred::NotUnifiable)],
+    // `\==`
+    &[(2, Pred::NotIdentical)],
+    // `^`
+    &[],
+    // `abolish`
+    &[(1, Pred::Abolish)],
+    // `abs`
+    &[],
+    // `access`
+    &[],
+    // `alias`
+    &[],
+    // `arg`
+    &[(3, Pred::Arg)],
+    // `assert`
+    &[(1, Pred::Assert)],
+    // `asserta`
+    &[(1, Pred::Asserta)],
+    // `assertz`
+    &[(1, Pred::Assertz)],
+    // `atom`
+    &[(1, Pred::Atom)],
+    // `atom_chars`
+    &[(2, Pred::AtomChars)],
+    // `atom_codes`
+    &[(2, Pred::AtomCodes)],
+    // `atom_concat`
+    &[(3, Pred::AtomConcat)],
+    // `atom_length`
+    &[(2, Pred::AtomLength)],
+    // `atom_space`
+    &[],
+    // `atomic`
+    &[(1, Pred::Atomic)],
+    // `bounded`
+    &[],
+    // `call`
+    &[],
+    // `callable`
+    &[(1, Pred::Callable)],
+    // `catch`
+    &[],
+    // `cells`
+    &[],
+    // `char_code`
+    &[(2, Pred::CharCode)],
+    // `character`
+    &[],
+    // `character_code`
+    &[],
+    // `chars`
+    &[],
+    // `choices`
+    &[],
+    // `clause`
+    &[(2, Pred::Clause)],
+    // `codes`
+    &[],
+    // `compare`
+    &[(3, Pred::Compare)],
+    // `compound`
+    &[(1, Pred::Compound)],
+    // `consult`
+    &[],
+    // `copy_term`
+    &[(2, Pred::CopyTerm)],
+    // `create`
+    &[],
+    // `current_op`
+    &[(3, Pred::CurrentOp)],
+    // `current_predicate`
+    &[(1, Pred::CurrentPredicate)],
+    // `current_prolog_flag`
+    &[(2, Pred::CurrentPrologFlag)],
+    // `database`
+    &[],
+    // `destroy`
+    &[],
+    // `detached`
+    &[],
+    // `discontiguous`
+    &[(1, Pred::Discontiguous)],
+    // `div`
+    &[],
+    // `domain_error`
+    &[],
+    // `double_quotes`
+    &[],
+    // `dynamic`
+    &[(1, Pred::Dynamic)],
+    // `error`
+    &[],
+    // `evaluable`
+    &[],
+    // `evaluation_error`
+    &[],
+    // `exception`
+    &[],
+    // `existence_error`
+    &[],
+    // `exit`
+    &[],
+    // `exit_status`
+    &[],
+    // `exited`
+    &[],
+    // `fail`
+    &[],
+    // `false`
+    &[],
+    // `findall`
+    &[(3, Pred::Findall)],
+    // `flag`
+    &[],
+    // `flag_value`
+    &[],
+    // `float`
+    &[(1, Pred::Float)],
+    // `functor`
+    &[(3, Pred::Functor)],
+    // `fx`
+    &[],
+    // `fy`
+    &[],
+    // `garbage_collect_atoms`
+    &[(0, Pred::GarbageCollectAtoms)],
+    // `garbage_collect_clauses`
+    &[(0, Pred::GarbageCollectClauses)],
+    // `generations`
+    &[],
+    // `ground`
+    &[(1, Pred::Ground)],
+    // `halt`
+    &[],
+    // `halted`
+    &[],
+    // `illegal_number`
+    &[],
+    // `inferences`
+    &[],
+    // `initialization`
+    &[],
+    // `instantiation_error`
+    &[],
+    // `int_overflow`
+    &[],
+    // `integer`
+    &[(1, Pred::Integer)],
+    // `integer_rounding_function`
+    &[],
+    // `integer_too_large`
+    &[],
+    // `is`
+    &[(2, Pred::Is)],
+    // `join`
+    &[],
+    // `keysort`
+    &[(2, Pred::Keysort)],
+    // `list`
+    &[],
+    // `main`
+    &[],
+    // `max`
+    &[],
+    // `max_atom_length`
+    &[],
+    // `max_integer`
+    &[],
+    // `message_queue`
+    &[],
+    // `message_queue_create`
+    &[(1, Pred::MessageQueueCreate)],
+    // `message_queue_destroy`
+    &[(1, Pred::MessageQueueDestroy)],
+    // `min`
+    &[],
+    // `min_integer`
+    &[],
+    // `mod`
+    &[],
+    // `modify`
+    &[],
+    // `msort`
+    &[(2, Pred::Msort)],
+    // `multifile`
+    &[(1, Pred::Multifile)],
+    // `nl`
+    &[(0, Pred::Nl)],
+    // `non_empty_list`
+    &[],
+    // `nonvar`
+    &[(1, Pred::Nonvar)],
+    // `not_less_than_zero`
+    &[],
+    // `number`
+    &[(1, Pred::Number)],
+    // `number_chars`
+    &[(2, Pred::NumberChars)],
+    // `number_codes`
+    &[(2, Pred::NumberCodes)],
+    // `once`
+    &[],
+    // `op`
+    &[(3, Pred::Op)],
+    // `operator`
+    &[],
+    // `operator_priority`
+    &[],
+    // `operator_specifier`
+    &[],
+    // `order`
+    &[],
+    // `pair`
+    &[],
+    // `permission_error`
+    &[],
+    // `predicate_indicator`
+    &[],
+    // `print`
+    &[(1, Pred::Print)],
+    // `private_procedure`
+    &[],
+    // `procedure`
+    &[],
+    // `prolog_flag`
+    &[],
+    // `put_char`
+    &[(1, Pred::PutChar)],
+    // `rem`
+    &[],
+    // `repeat`
+    &[],
+    // `representation_error`
+    &[],
+    // `resource_error`
+    &[],
+    // `retract`
+    &[(1, Pred::Retract)],
+    // `retractall`
+    &[(1, Pred::Retractall)],
+    // `set_prolog_flag`
+    &[(2, Pred::SetPrologFlag)],
+    // `sign`
+    &[],
+    // `sort`
+    &[(2, Pred::Sort)],
+    // `static_procedure`
+    &[],
+    // `sub_atom`
+    &[(5, Pred::SubAtom)],
+    // `subsumes_term`
+    &[(2, Pred::SubsumesTerm)],
+    // `syntax_error`
+    &[],
+    // `term_variables`
+    &[(2, Pred::TermVariables)],
+    // `thread`
+    &[],
+    // `thread_create`
+    &[(2, Pred::ThreadCreate), (3, Pred::ThreadCreateWith)],
+    // `thread_exit`
+    &[(1, Pred::ThreadExit)],
+    // `thread_get_message`
+    &[(1, Pred::ThreadGetMessage), (2, Pred::ThreadGetMessageFrom)],
+    // `thread_join`
+    &[(2, Pred::ThreadJoin)],
+    // `thread_local`
+    &[(1, Pred::ThreadLocal)],
+    // `thread_option`
+    &[],
+    // `thread_peek_message`
+    &[
+        (1, Pred::ThreadPeekMessage),
+        (2, Pred::ThreadPeekMessageFrom),
+    ],
+    // `thread_self`
+    &[(1, Pred::ThreadSelf)],
+    // `thread_send_message`
+    &[(2, Pred::ThreadSendMessage)],
+    // `threads`
+    &[],
+    // `throw`
+    &[],
+    // `toward_zero`
+    &[],
+    // `true`
+    &[],
+    // `type_error`
+    &[],
+    // `undefined`
+    &[],
+    // `unify_with_occurs_check`
+    &[(2, Pred::UnifyWithOccursCheck)],
+    // `uninstantiation_error`
+    &[],
+    // `unknown`
+    &[],
+    // `var`
+    &[(1, Pred::Var)],
+    // `write`
+    &[(1, Pred::Write)],
+    // `write_canonical`
+    &[(1, Pred::WriteCanonical)],
+    // `writeq`
+    &[(1, Pred::Writeq)],
+    // `xf`
+    &[],
+    // `xfx`
+    &[],
+    // `xfy`
+    &[],
+    // `yf`
+    &[],
+    // `yfx`
+    &[],
+    // `zero_divisor`
+    &[],
+    // `{}`
+    &[],
+    // `mutex_create`
+    &[(1, Pred::MutexCreate)],
+    // `with_mutex`
+    &[(2, Pred::WithMutex)],
+    // `transaction`
+    &[(1, Pred::Transaction)],
+    // `snapshot`
+    &[(1, Pred::Snapshot)],
+    // `engine_create`
+    &[(3, Pred::EngineCreate)],
+    // `engine_next`
+    &[(2, Pred::EngineNext)],
+    // `engine_destroy`
+    &[(1, Pred::EngineDestroy)],
+    // `phrase`
+    &[(2, Pred::Phrase), (3, Pred::PhraseWithRest)],
+    // `bagof`
+    &[(3, Pred::Bagof)],
+    // `setof`
+    &[(3, Pred::Setof)],
+];

@@ -43,8 +43,8 @@ pub record ArePlaced (n : Names) (t : Contents) (ps : List Place) : Type 0 where
 abbrev pub IsRow : Contents → ℕ → Trees → Given → Names → Contents → Row → Type 0
 IsRow s next ts (answered xs f k) n t Fails = (xs ≡ []) × (t ≡ s)
 IsRow s next ts (answered xs f k) n t Holds = (xs ≡ ts ∷ []) × ((f ≡ zero) × ((k ≡ zero) × (t ≡ s)))
-IsRow s next ts (answered xs f k) n t (Answer ps) =
-    (xs ≡ terms_at n t ps.items ∷ []) × (Makes s next f k t × ArePlaced n t ps.items)
+IsRow s next ts (answered xs f k) n t (Answer ps fresh) =
+    (xs ≡ terms_at n t ps.items ∷ []) × ((fresh ≡ f) × (Makes s next f k t × ArePlaced n t ps.items))
 IsRow s next ts (answered xs f k) n t (Table pss) =
     (xs ≡ map (λ ps. terms_at n t ps.items) pss.items) × ((f ≡ zero) × ((k ≡ zero) × ((t ≡ s) × All (λ ps. ArePlaced n t ps.items) pss.items)))
 IsRow s next ts (thrown b) n t (Ball w) = (b ≡ reads n t w) × (Makes s next zero zero t × (IsIn t w × IsHeldAt n t w))
@@ -53,6 +53,11 @@ IsRow s next ts g n t (NeedsAtoms p) = t ≡ s
 IsRow s next ts g n t (Retry c) = t ≡ s
 IsRow s next ts g n t (Worn w) = t ≡ s
 IsRow s next ts g n t r = ⊥
+
+-- The row is no table.
+abbrev pub IsSingle : Row → Type 0
+IsSingle (Table pss) = ⊥
+IsSingle r = Unit {0}
 
 -- The refusals of atoms that a row hands on.
 abbrev pub row_refusals : Row → List Refusal

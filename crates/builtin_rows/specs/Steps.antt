@@ -15,7 +15,7 @@ abbrev pub answer_led : State → Node → Trees → Trees → ℕ → ℕ → S
 answer_led s n ts us fresh made =
     unified (record s { next = s.next + fresh }) (record n { used = n.used + made }) (solve_all [] ts us)
 
--- Of several answers those behind the first one are a choice point.
+-- Of several answers those after the first one are a choice point.
 abbrev pub given_led : Limits → State → Node → Proc → Trees → Given → State
 given_led l s n p ts (answered [] f k) = failed s
 given_led l s n p ts (answered (us ∷ []) f k) = answer_led s n ts us f k

@@ -9,7 +9,7 @@ ghost use Rattle.term_store.specs.Contents.{Holds};
 ghost use Rattle.world_builtins.specs.Naming.{IsHeldAt};
 ghost use Rattle.world_builtins.specs.Spelling.{reads};
 ghost use Rattle.builtin_rows.specs.Given.{thrown};
-ghost use Rattle.builtin_rows.specs.Rows.{IsBall, IsRow, row_refusals};
+ghost use Rattle.builtin_rows.specs.Rows.{IsBall, IsRow, IsSingle, row_refusals};
 
 use crate::row::Row;
 use atom_api::{Atom, fixed};
@@ -17,17 +17,18 @@ use pl_term::Memory;
 use term_store::{Place, Store};
 
 /// The predicate with this name and so many arguments raises the error term that is a fixed atom, as `instantiation_error`. The
-/// only error is want of memory.
+/// only error is out of memory.
 pub fn raised(store: &mut Store, error: Atom, name: Atom, arity: u32) -> Result<Row, Memory>
     ensures row { IfOk result (λ r. (m : Names) (e p : Chars) (next : ℕ) (ts : Trees) → FixedStand m → fixed error ≡ Some e → fixed name ≡ Some p
         → IsRow store.old next ts (thrown (error_ball (atom e) (proc p arity))) m store.new r) }
     ensures refuses { IfOk result (λ r. row_refusals r ≡ []) }
+    ensures single { IfOk result IsSingle }
 {
     let ball = ball_of(store, Place::atom(error), name, arity)?;
     Ok(Row::Ball(ball))
 }
 
-/// It raises the error of this name for this reason, as `evaluation_error(zero_divisor)`. The only error is want of memory.
+/// It raises the error of this name for this reason, as `evaluation_error(zero_divisor)`. The only error is out of memory.
 pub fn refused_with(
     store: &mut Store,
     error: Atom,
@@ -38,13 +39,14 @@ pub fn refused_with(
     ensures row { IfOk result (λ r. (m : Names) (e x p : Chars) (next : ℕ) (ts : Trees) → FixedStand m → fixed error ≡ Some e → fixed reason ≡ Some x → fixed name ≡ Some p
         → IsRow store.old next ts (thrown (error_ball (comp e (atom x) none) (proc p arity))) m store.new r) }
     ensures refuses { IfOk result (λ r. row_refusals r ≡ []) }
+    ensures single { IfOk result IsSingle }
 {
     let term = store.make_compound(error, &[Place::atom(reason)])?;
     let ball = ball_of(store, term, name, arity)?;
     Ok(Row::Ball(ball))
 }
 
-/// It raises the error of this name and kind for the term at a place, as `type_error(atom, T)`. The only error is want of memory.
+/// It raises the error of this name and kind for the term at a place, as `type_error(atom, T)`. The only error is out of memory.
 pub fn refused_for(
     store: &mut Store,
     error: Atom,
@@ -58,13 +60,14 @@ pub fn refused_for(
         → fixed error ≡ Some e → fixed kind ≡ Some x → fixed name ≡ Some p
         → IsRow store.old next ts (thrown (error_ball (comp e (atom x) (more (reads m store.old culprit) none)) (proc p arity))) m store.new r) }
     ensures refuses { IfOk result (λ r. row_refusals r ≡ []) }
+    ensures single { IfOk result IsSingle }
 {
     let term = store.make_compound(error, &[Place::atom(kind), culprit])?;
     let ball = ball_of(store, term, name, arity)?;
     Ok(Row::Ball(ball))
 }
 
-/// The ball error(E, Name/Arity). The only error is want of memory.
+/// The ball error(E, Name/Arity). The only error is out of memory.
 fn ball_of(store: &mut Store, error: Place, name: Atom, arity: u32) -> Result<Place, Memory>
     requires { Holds store.old error }
     ensures { IfOk result (λ w. IsBall store.old error name arity store.new w) }

@@ -6,7 +6,7 @@ ghost use Rattle.pl_model.specs.History.{proc};
 ghost use Rattle.atom_api.specs.Fixed.{fixed};
 ghost use Rattle.atom_api.specs.Names.{Names, FixedStand};
 ghost use Rattle.builtin_rows.specs.Given.{with_room};
-ghost use Rattle.builtin_rows.specs.Rows.{IsRow, row_refusals};
+ghost use Rattle.builtin_rows.specs.Rows.{IsRow, IsSingle, row_refusals};
 
 use crate::errors::refused_with;
 use crate::row::Row;
@@ -16,7 +16,7 @@ use term_store::{Store, StoreFault};
 
 /// Takes so many cells for the answer of a predicate that makes so many new variables, where there are numbers for these from
 /// `next` on and the cells fit. Else it answers the row of the predicate with this name and so many arguments. The only error
-/// is want of memory.
+/// is out of memory.
 pub fn take_room(
     store: &mut Store,
     next: u64,
@@ -32,6 +32,7 @@ pub fn take_room(
         → a.fresh ≡ fresh → a.made ≡ made
         → IsRow store.old next ts (with_room (proc p arity) next store.old.used store.old.budget a) m store.new r)) }
     ensures refuses { IfOk result (λ o. IfSome o (λ r. row_refusals r ≡ [])) }
+    ensures single { IfOk result (λ o. IfSome o IsSingle) }
 {
     if fresh > u64::MAX - next {
         let row = refused_with(store, fixed::RESOURCE_ERROR, fixed::INFERENCES, name, arity)?;

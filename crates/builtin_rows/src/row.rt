@@ -9,9 +9,9 @@ pub enum Row {
     Fails,
     /// One answer: the arguments as they are. Nothing was made.
     Holds,
-    /// One answer: a place for each argument, with which it is unified. Its new variables have the next numbers, and its cells
-    /// were taken.
-    Answer(Vec<Place>),
+    /// One answer: a place for each argument, with which it is unified. Its `fresh` new variables have the next numbers, and
+    /// its cells were taken.
+    Answer { places: Vec<Place>, fresh: u64 },
     /// Answers that make no terms, in their order: in each a place for each argument.
     Table(Vec<Vec<Place>>),
     /// This ball is thrown.

@@ -1,6 +1,7 @@
 -- What a procedure is in the database, beside what it is in that of the definitions.
-use Rattle.std.proofs.Common.{◌≡◌, ◌≤◌, ℕ, Bool, true, false, cond, find, Option, Some, None, refl, ap, ◌∙◌}
-use Rattle.std.specs.Prelude.{is_some}
+use Rattle.std.proofs.Common.{◌≡◌, ◌≤◌, ◌<◌, ◌+◌, ◌^◌, ℕ, Bool, true, false, cond, find, Option, Some, None, refl, ap, ◌∙◌, arith}
+use Rattle.std.proofs.lemmas.Bool.Decides.{nat_tests}
+use Rattle.std.specs.Prelude.{is_some, nat_lt}
 use Rattle.std.specs.Option.{option_map}
 use Rattle.pl_model.specs.History.{Proc}
 use Rattle.pl_model.specs.Predicates.{same_proc}
@@ -10,10 +11,11 @@ use Rattle.clause_db.specs.declared.access.Access.{Access}
 use Rattle.clause_db.specs.declared.access.Access.TheVariants.{Static, Dynamic}
 use Rattle.clause_db.specs.declared.access.By.{By}
 use Rattle.clause_db.specs.declared.access.By.TheVariants.{Goal, Clause}
-use Rattle.clause_db.specs.declared.fault.DbFault.TheVariants.{Private, Unknown}
+use Rattle.pl_model.specs.declared.shows.Origin.{Origin}
+use Rattle.clause_db.specs.declared.fault.DbFault.TheVariants.{Private, Unknown, Static as StaticFault, CellsFull}
 use Rattle.clause_db.specs.Access.{access_of}
 use Rattle.clause_db.specs.Parts.{Held, access_at, held_access}
-use Rattle.clause_db.specs.Faults.{call_fault, access_fault, held_call_fault, is_static_access}
+use Rattle.clause_db.specs.Faults.{call_fault, access_fault, held_call_fault, is_static_access, held_addition_fault, is_held_closed}
 use Rattle.clause_db.specs.Stands.{StandsFor}
 
 module _ {C : Type 0} (need : C → ℕ) (h : Held C) (d : ℕ → Database C) (s : StandsFor need h d) (g : ℕ) (low : h.floor ≤ g) (p : Proc) where
@@ -52,3 +54,12 @@ module _ {C : Type 0} (need : C → ℕ) (h : Held C) (d : ℕ → Database C) (
   pub call_fault_same : (by : By) → held_call_fault g h p by ≡ call_fault (d g) p by
   call_fault_same Goal = by_goal (held_access g h p) ∙ ap (λ b. cond b None (Some Unknown)) known_same
   call_fault_same Clause = by_clause (held_access g h p) ∙ ap (λ b. cond b (Some Private) None) static_same
+
+-- A clause that is not refused has room.
+pub room_left : {C : Type 0} (g : ℕ) (h : Held C) (p : Proc) (o : Origin) (need : ℕ) → held_addition_fault g h p o need ≡ None → h.used + need < 2 ^ 40
+room_left g h p o need e = go (is_held_closed g h p o) (nat_lt (h.used + need) (2 ^ 40)) refl e
+  where
+    go : (a b : Bool) → nat_lt (h.used + need) (2 ^ 40) ≡ b → cond a (Some StaticFault) (cond b None (Some (CellsFull h.used need))) ≡ None → h.used + need < 2 ^ 40
+    go true b u n = absurd (cc)
+    go false true u n = grind (arith, nat_tests)
+    go false false u n = absurd (cc)

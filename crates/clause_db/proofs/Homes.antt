@@ -1,5 +1,5 @@
 -- The homes of the clauses stay true.
-use Rattle.std.proofs.Common.{◌≡◌, ◌+◌, ◌<◌, ◌≤◌, ℕ, suc, List, [], ◌∷◌, ◌++◌, find, map, length, Option, Some, None, Bool, true, false, cond, refl, ap, sym, ◌∙◌, arith, eq-eqb}
+use Rattle.std.proofs.Common.{◌≡◌, ◌+◌, ◌<◌, ◌≤◌, ℕ, suc, List, [], ◌∷◌, ◌++◌, find, map, length, Option, Some, None, Bool, true, false, cond, refl, ap, sym, subst, ◌∙◌, arith, eq-eqb}
 use Rattle.std.specs.Prelude.{All, nat_lt, ◌==◌}
 use Rattle.std.specs.Option.{unwrap_or}
 use Rattle.std.specs.Ordering.{is_eq, nat_cmp}
@@ -176,3 +176,12 @@ module _ {C : Type 0} (need : C → ℕ) where
     low = s.low;
     apart = s.apart;
   }
+
+-- What is gone of the homes, where one more goes.
+pub gone_more : (old new : BTreeMap ℕ Home) (q k : ℕ) → tree.get nat_cmp new q ≡ None → ((j : ℕ) → is_at (nat_cmp q) j ≡ false → tree.get nat_cmp new j ≡ tree.get nat_cmp old j)
+    → ((q == k) ≡ false → tree.get nat_cmp old k ≡ None) → tree.get nat_cmp new k ≡ None
+gone_more old new q k none same earlier = go (q == k) refl
+  where
+    go : (b : Bool) → (q == k) ≡ b → tree.get nat_cmp new k ≡ None
+    go true e = subst (λ j. tree.get nat_cmp new j ≡ None) (eqb-true q k e) none
+    go false e = same k (elsewhere q k e) ∙ earlier e

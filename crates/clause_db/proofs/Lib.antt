@@ -21,3 +21,5 @@ mod Closing
 mod Reclaiming
 mod InOrder
 mod Hinted
+mod Indexing
+mod Housing

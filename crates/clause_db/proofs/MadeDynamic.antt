@@ -165,7 +165,7 @@ module _ {C : Type 0} where
   all_blanks P new [] xs h = h
   all_blanks P new (p ∷ ps) xs h = all_blanks P new ps (with_blank p xs) (all_blank P new p xs h)
 
-  names_opened : (k : ℕ) (ps : List Proc) (xs : List (Piece C)) → names (opened_all k ps xs) ≡ names xs
+  pub names_opened : (k : ℕ) (ps : List Proc) (xs : List (Piece C)) → names (opened_all k ps xs) ≡ names xs
   names_opened k [] xs = refl
   names_opened k (p ∷ ps) xs = names_opened k ps (changed_in (opened k Dynamic) (proc_of p) xs) ∙ names_changed (opened k Dynamic) (λ x. refl) (proc_of p) xs
 
@@ -178,7 +178,7 @@ module _ {C : Type 0} where
       go true m ih = m
       go false m ih = ih m
 
-  apart_append : (p : Proc) (xs : List (Piece C)) → find (is_part_of (proc_of p)) xs ≡ None → Apart (names xs) → Apart (names (xs ++ blank p ∷ []))
+  pub apart_append : (p : Proc) (xs : List (Piece C)) → find (is_part_of (proc_of p)) xs ≡ None → Apart (names xs) → Apart (names (xs ++ blank p ∷ []))
   apart_append p [] e h = (refl, tt)
   apart_append p (x ∷ xs) e h = go (is_part_of (proc_of p) x) refl e (apart_append p xs)
     where
@@ -187,7 +187,7 @@ module _ {C : Type 0} where
       go true u m ih = absurd (cc)
       go false u m ih = (any_append (proc_of x.name) p xs u h.0, ih m h.1)
 
-  apart_blank : (p : Proc) (xs : List (Piece C)) → Apart (names xs) → Apart (names (with_blank p xs))
+  pub apart_blank : (p : Proc) (xs : List (Piece C)) → Apart (names xs) → Apart (names (with_blank p xs))
   apart_blank p xs h = go (find (is_part_of (proc_of p)) xs) refl
     where
       go : (o : Option (Piece C)) → find (is_part_of (proc_of p)) xs ≡ o → Apart (names (option_map_or (λ x. xs) o (xs ++ blank p ∷ [])))

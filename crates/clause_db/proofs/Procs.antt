@@ -41,7 +41,7 @@ module _ {X : Type 0} (name : X → Proc) where
   abbrev pub named : Proc → X → Bool
   named p x = same_proc (name x) p
 
-  -- The first one of the name is changed, or a new one is put behind.
+  -- The first one of the name is changed, or a new one is put after.
   abbrev pub amend : Proc → (X → X) → X → List X → List X
   amend p f new [] = new ∷ []
   amend p f new (x ∷ xs) = cond (named p x) (f x ∷ xs) (x ∷ amend p f new xs)

@@ -152,7 +152,7 @@ module _ {C : Type 0} where
       let e : suc n + i ≡ n + suc i = omega arith in
       subst (λ m. All (IsHome need homes m) x.clauses) e (home_here need homes (suc n) i xs x at h.1)
 
-  names_reclaimed : (i floor : ℕ) (xs : List (Piece C)) → names (reclaimed_at i floor xs) ≡ names xs
+  pub names_reclaimed : (i floor : ℕ) (xs : List (Piece C)) → names (reclaimed_at i floor xs) ≡ names xs
   names_reclaimed i floor [] = refl
   names_reclaimed zero floor (x ∷ xs) = refl
   names_reclaimed (suc i) floor (x ∷ xs) = ap (λ l. proc_of x.name ∷ l) (names_reclaimed i floor xs)
@@ -317,7 +317,7 @@ module _ {C : Type 0} where
           ((omega (arith, a, u)), All-weaker (λ (l : Life). l.until < h.next) (λ (l : Life). l.until < max h.next floor) (λ l v. omega (arith, u, v)) x.lives m.1)) h.parts s.lived);
     }
 
-    -- Exactly the clauses that the floor sees are left, where no update lies behind it.
+    -- Exactly the clauses that the floor sees are left, where no update lies after it.
     pub left_is_seen : h.next ≤ floor → Apart (names h.parts) → (x : Piece C) → slice_get h.parts i ≡ Some x → filter (is_left floor) x.clauses ≡ map dated (seen floor (proc_of x.name) (d floor))
     left_is_seen le apart x at =
         let p = proc_of x.name in

@@ -139,3 +139,31 @@ parts_more test (y ∷ xs) (suc i) lt d h = go (test y) h (λ m. parts_more test
 pub any_parts : {X : Type 0} (test : X → Bool) (xs : List X) (i : ℕ) → i < length xs → (d : X) → list_any test (take (i + 1) xs) ≡ false → (list_any test (take i xs) ≡ false) × (test (slice_index_or xs i d) ≡ false)
 any_parts test xs i lt d h =
     let e : i + 1 ≡ suc i = omega arith in parts_more test xs i lt d (subst (λ j. list_any test (take j xs) ≡ false) e h)
+
+earlier_more : {X : Type 0} (test : X → Bool) (xs : List X) (i : ℕ) → i < length xs → (d : X) → test (slice_index_or xs i d) ≡ false → list_any test (take (suc i) xs) ≡ true → list_any test (take i xs) ≡ true
+earlier_more test [] i lt d miss m = absurd (omega (arith, lt))
+earlier_more test (y ∷ xs) zero lt d miss m = sym (ap (λ b. b || false) miss) ∙ m
+earlier_more test (y ∷ xs) (suc i) lt d miss m = go (test y) m (λ n. earlier_more test xs i (omega (arith, lt)) d miss n)
+  where
+    go : (b : Bool) → (b || list_any test (take (suc i) xs)) ≡ true → (list_any test (take (suc i) xs) ≡ true → list_any test (take i xs) ≡ true) → (b || list_any test (take i xs)) ≡ true
+    go true n ih = refl
+    go false n ih = ih n
+
+-- The member that passes is an earlier one, where the last one does not.
+pub any_earlier : {X : Type 0} (test : X → Bool) (xs : List X) (i : ℕ) → i < length xs → (d : X) → test (slice_index_or xs i d) ≡ false → list_any test (take (i + 1) xs) ≡ true → list_any test (take i xs) ≡ true
+any_earlier test xs i lt d miss m =
+    let e : i + 1 ≡ suc i = omega arith in earlier_more test xs i lt d miss (subst (λ j. list_any test (take j xs) ≡ true) e m)
+
+none_more : {X : Type 0} (test : X → Bool) (xs : List X) (i : ℕ) → i < length xs → (d : X) → list_any test (take i xs) ≡ false → test (slice_index_or xs i d) ≡ false → list_any test (take (suc i) xs) ≡ false
+none_more test [] i lt d h miss = absurd (omega (arith, lt))
+none_more test (y ∷ xs) zero lt d h miss = ap (λ b. b || false) miss
+none_more test (y ∷ xs) (suc i) lt d h miss = go (test y) h (λ m. none_more test xs i (omega (arith, lt)) d m miss)
+  where
+    go : (b : Bool) → (b || list_any test (take i xs)) ≡ false → (list_any test (take i xs) ≡ false → list_any test (take (suc i) xs) ≡ false) → (b || list_any test (take (suc i) xs)) ≡ false
+    go true m ih = m
+    go false m ih = ih m
+
+-- None of the first members passes, and the next one does not.
+pub none_next : {X : Type 0} (test : X → Bool) (xs : List X) (i : ℕ) → i < length xs → (d : X) → list_any test (take i xs) ≡ false → test (slice_index_or xs i d) ≡ false → list_any test (take (i + 1) xs) ≡ false
+none_next test xs i lt d h miss =
+    let e : suc i ≡ i + 1 = omega arith in subst (λ j. list_any test (take j xs) ≡ false) e (none_more test xs i lt d h miss)

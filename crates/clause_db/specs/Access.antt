@@ -15,7 +15,7 @@ abbrev pub access_by : Origin → Access
 access_by Consult = Static
 access_by Assert = Dynamic
 
--- A procedure that the update at a place made and that a later one abolished is there from the generation behind the first
+-- A procedure that the update at a place made and that a later one abolished is there from the generation after the first
 -- of these places on, up to that of the second.
 abbrev pub is_alive : ℕ → Life → Bool
 is_alive g l = nat_lt l.from g && nat_le g l.until

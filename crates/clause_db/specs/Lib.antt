@@ -1,5 +1,6 @@
 pub mod Access
 pub mod Parts
+pub mod Index
 pub mod Sound
 pub mod Located
 pub mod Stands

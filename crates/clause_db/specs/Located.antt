@@ -1,6 +1,7 @@
 -- Where in a list the first member stands that passes a test.
-use Rattle.std.specs.Prelude.{◌≡◌, ℕ, Bool, true, List, ◌∷◌, ◌++◌, find, length, ◌<◌, IfSome, Option, Some, None}
+use Rattle.std.specs.Prelude.{◌≡◌, ℕ, Bool, true, false, List, ◌∷◌, ◌++◌, find, length, Option, Some, None}
 use Rattle.std.specs.List.{slice_get}
+use Rattle.std.specs.Option.{option_map_or}
 
 -- The member stands at the index, and none before it passes the test.
 pub record IsAt {X : Type 0} (test : X → Bool) (xs : List X) (i : ℕ) : Type 0 where
@@ -16,6 +17,6 @@ abbrev pub Locates : {X : Type 0} → (X → Bool) → List X → Option ℕ →
 Locates test xs None = find test xs ≡ None
 Locates test xs (Some i) = IsAt test xs i
 
--- A member that passes the test stands at the index.
-abbrev pub IsMember : {X : Type 0} → (X → Bool) → List X → ℕ → Type 0
-IsMember test xs i = IfSome (slice_get xs i) (λ x. test x ≡ true) × (i < length xs)
+-- Whether a member that passes the test stands at the index.
+abbrev pub stands_at : {X : Type 0} → (X → Bool) → List X → ℕ → Bool
+stands_at test xs i = option_map_or test (slice_get xs i) false

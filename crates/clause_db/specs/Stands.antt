@@ -59,7 +59,7 @@ abbrev pub first_named : {C : Type 0} → List (Stored C) → Option (ℕ × C �
 first_named [] = None
 first_named (s ∷ ss) = Some (s.place, s.clause, has_any ss)
 
--- The clauses behind that which was added at the place.
+-- The clauses after that which was added at the place.
 abbrev pub after : {C : Type 0} → ℕ → List (Stored C) → List (Stored C)
 after j [] = []
 after j (s ∷ ss) = if is_at j s then ss else after j ss

@@ -72,7 +72,7 @@ fn plain_access(changes: &[Altered], of_p: bool, g: u64) -> Option<Access> {
     access
 }
 
-/// The next clause of a call behind the index, by its index.
+/// The next clause of a call after the index, by its index.
 fn plain_next(clauses: &[Plain], from: usize, asked: Asked) -> Option<usize> {
     for i in from..clauses.len() {
         if clauses[i].is_tried(asked) {

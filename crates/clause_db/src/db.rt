@@ -5,6 +5,7 @@ ghost use Rattle.std.specs.Option.{MatchOption, option_map, option_map_or};
 ghost use Rattle.std.specs.List.{list_any, slice_get};
 ghost use Rattle.std.specs.List.Sorted.{IsPermutation};
 ghost use Rattle.std.specs.Ordering.{nat_cmp};
+ghost use Rattle.std.specs.Arc.{arc_value};
 ghost use Rattle.std.specs.BTreeMap as tree;
 ghost use Rattle.pl_model.specs.laws.Shown.{proc_of, origin_of};
 ghost use Rattle.pl_model.specs.History as entries;
@@ -34,11 +35,12 @@ use crate::access::{Access, By};
 use crate::dynamic::{add_blanks, open_all};
 use crate::fault::DbFault;
 use crate::flags::{Flag, FlagValue, Flags, first_flags, flags_with};
-use crate::hints::Hints;
+use crate::index::Index;
 use crate::listing::listed;
 use crate::operators::table_with;
-use crate::parts::{Addition, End, Part, access_in, add_to, erase_in, locate};
+use crate::parts::{Addition, End, Part, access_in, add_to, erase_in};
 use crate::reclaim::reclaim_at;
+use crate::search::locate;
 use crate::system::is_system;
 use gen_core::{Drops, Hit};
 use op_table::{OpFault, OpTable, Operator};
@@ -48,6 +50,7 @@ use pl_term::Memory;
 use std::alloc::Global;
 use std::collections::BTreeMap;
 use std::marker::Model;
+use std::sync::Arc;
 
 /// The stored clauses take fewer cells than this.
 const CELLS: u64 = 0x100_0000_0000;
@@ -65,11 +68,11 @@ pub struct Home {
 pub struct Db<C: Kept> {
     alloc: Global,
     parts: Vec<Part<C>>,
-    hints: Hints,
+    index: Index,
     homes: BTreeMap<u64, Home>,
     used: u64,
     flags: Flags,
-    operators: OpTable,
+    operators: Arc<OpTable>,
     next: u64,
     floor: u64,
 }
@@ -77,21 +80,22 @@ pub struct Db<C: Kept> {
 impl<C: Kept> Model for Db<C> {
     ghost use Rattle.std.specs.Prelude.{map};
     ghost use Rattle.clause_db.specs.Parts.{Held, piece};
-    ghost use Rattle.clause_db.specs.Sound.{IsSound};
+    ghost use Rattle.clause_db.specs.Sound.{IsWhole};
     ghost use Rattle.clause_db.specs.Flags.{flags_as};
     ghost use Rattle.std.specs.Coded.{codes};
     ghost use Rattle.pl_model.specs.OperatorTable.{table_code};
+    ghost use Rattle.std.specs.Arc.{arc_value};
 
     ghost Value = { Held C };
 
     ghost coded = { Prim.hlevel (codes, table_code, C.code) };
 
-    ghost view = { λ d. record { parts = map piece d.parts.items; used = d.used; flags = flags_as d.flags; operators = d.operators; next = d.next; floor = d.floor } };
+    ghost view = { λ d. record { parts = map piece d.parts.items; used = d.used; flags = flags_as d.flags; operators = arc_value d.operators; next = d.next; floor = d.floor } };
 
-    ghost invariant = { λ d. IsSound C.size (map piece d.parts.items) d.homes d.next d.floor };
+    ghost invariant = { λ d. IsWhole C.size (map piece d.parts.items) d.homes d.index d.next d.floor };
 }
 
-/// Writes where the clause stands that was added at a place. The only error is want of memory; after it nothing is
+/// Writes where the clause stands that was added at a place. The only error is out of memory; after it nothing is
 /// written.
 fn settle(homes: &mut BTreeMap<u64, Home>, place: u64, home: Home) -> Result<(), Memory>
     ensures ok { OnOk result (tree.Updates nat_cmp homes.old homes.new place (Some home)) }
@@ -110,7 +114,8 @@ fn unsettle(homes: &mut BTreeMap<u64, Home>, place: u64)
 
 /// Forgets where the clauses stand that were added at these places.
 fn unsettle_all(homes: &mut BTreeMap<u64, Home>, places: &[u64])
-    ensures { (k : ℕ) → list_any (λ q. q == k) places.now ≡ false → tree.get nat_cmp homes.new k ≡ tree.get nat_cmp homes.old k }
+    ensures stay { (k : ℕ) → list_any (λ q. q == k) places.now ≡ false → tree.get nat_cmp homes.new k ≡ tree.get nat_cmp homes.old k }
+    ensures gone { (k : ℕ) → list_any (λ q. q == k) places.now ≡ true → tree.get nat_cmp homes.new k ≡ None }
 {
     for i in 0..places.len() {
         unsettle(homes, places[i]);
@@ -118,17 +123,17 @@ fn unsettle_all(homes: &mut BTreeMap<u64, Home>, places: &[u64])
 }
 
 impl<C: Kept> Db<C> {
-    /// No procedures, with the flags and operators of the start. The only error is want of memory.
+    /// No procedures, with the flags and operators of the start. The only error is out of memory.
     pub fn new(alloc: Global) -> Result<Db<C>, Memory>
         ensures stands { IfOk result (λ h. StandsFor C.size h (λ g. opening_database)) }
         ensures start { IfOk result (λ d. (d.next ≡ 0) × (d.floor ≡ 0)) }
         ensures settings { IfOk result (λ d. (d.flags ≡ opening_flags) × (d.operators ≡ opening_table)) }
     {
-        let operators = OpTable::iso(alloc)?;
+        let operators = Arc::new(alloc, OpTable::iso(alloc)?)?;
         Ok(Db {
             alloc,
             parts: Vec::new(alloc),
-            hints: Hints::new(alloc),
+            index: Index::new(alloc),
             homes: BTreeMap::new(alloc),
             used: 0,
             flags: first_flags(),
@@ -160,7 +165,7 @@ impl<C: Kept> Db<C> {
         }
     }
 
-    /// The next clause of a call at the generation `g` of the procedure, whose first argument has the key `goal`, behind
+    /// The next clause of a call at the generation `g` of the procedure, whose first argument has the key `goal`, after
     /// the clause that was added at `place`, which `g` sees. It takes no memory, and there is no refusal.
     pub fn retry(&self, place: u64, goal: &C::Key, g: u64) -> Result<Option<Hit<'_, C>>, DbFault>
         requires { self.now.floor ≤ g }
@@ -173,7 +178,7 @@ impl<C: Kept> Db<C> {
         }
     }
 
-    /// The next clause of a call in a procedure, behind the clause that was added at `place`.
+    /// The next clause of a call in a procedure, after the clause that was added at `place`.
     fn next_in(&self, part: usize, place: u64, goal: &C::Key, g: u64) -> Option<Hit<'_, C>>
         ensures { IfSome (slice_get self.now.parts part) (λ x. hit_of result ≡ first_choice (filter (is_choice C.Key.Ord.cmp C.any C.key_of g goal.now) (behind (Some place) x.clauses))) }
     {
@@ -219,7 +224,7 @@ impl<C: Kept> Db<C> {
     fn is_there(&self, p: &Proc, g: u64) -> bool
         ensures { result ≡ is_some (access_at g self.now.parts (proc_of p.now)) }
     {
-        match locate(self.parts.as_slice(), &self.hints, p) {
+        match locate(self.parts.as_slice(), &self.index, p) {
             Some(i) => access_in(&self.parts[i], g).is_some(),
             None => false,
         }
@@ -240,7 +245,7 @@ impl<C: Kept> Db<C> {
         if is_system(p) {
             return Some(Access::Static);
         }
-        match locate(self.parts.as_slice(), &self.hints, p) {
+        match locate(self.parts.as_slice(), &self.index, p) {
             Some(i) => access_in(&self.parts[i], g),
             None => None,
         }
@@ -250,14 +255,14 @@ impl<C: Kept> Db<C> {
     fn first_of(&self, p: &Proc, goal: &C::Key, g: u64) -> Option<Hit<'_, C>>
         ensures { hit_of result ≡ first_choice (filter (is_choice C.Key.Ord.cmp C.any C.key_of g goal.now) (clauses_at self.now.parts (proc_of p.now))) }
     {
-        match locate(self.parts.as_slice(), &self.hints, p) {
+        match locate(self.parts.as_slice(), &self.index, p) {
             Some(i) => self.parts[i].clauses.next_after(None, g, goal),
             None => None,
         }
     }
 
     /// Adds a clause as the first one of the procedure, which is made where it is not there (ISO 8.9.1), by the update at
-    /// `place`, which is behind all updates so far. The errors are `Static`, `CellsFull` and `Memory`; after an error the
+    /// `place`, which is after all updates so far. The errors are `Static`, `CellsFull` and `Memory`; after an error the
     /// database is as it was, and the clause is handed back.
     pub fn add_first(
         &mut self,
@@ -288,7 +293,7 @@ impl<C: Kept> Db<C> {
     }
 
     /// Adds a clause as the last one of the procedure, which is made where it is not there (ISO 8.9.2), by the update at
-    /// `place`, which is behind all updates so far. The errors are `Static`, `CellsFull` and `Memory`; after an error the
+    /// `place`, which is after all updates so far. The errors are `Static`, `CellsFull` and `Memory`; after an error the
     /// database is as it was, and the clause is handed back.
     pub fn add_last(
         &mut self,
@@ -331,16 +336,24 @@ impl<C: Kept> Db<C> {
         if let Some(fault) = self.addition_fault(p, by, need) {
             return Err((clause, fault));
         }
-        let part = locate(self.parts.as_slice(), &self.hints, p).unwrap_or(self.parts.len());
+        let found = locate(self.parts.as_slice(), &self.index, p);
+        let part = found.unwrap_or(self.parts.len());
         let home = Home { part, cells: need };
         if let Err(Memory) = settle(&mut self.homes, by.place, home) {
             return Err((clause, DbFault::Memory));
         }
-        match add_to(self.alloc, &mut self.parts, p, clause, by) {
+        match add_to(
+            self.alloc,
+            &mut self.parts,
+            &mut self.index,
+            found,
+            p,
+            clause,
+            by,
+        ) {
             Ok(()) => {
                 self.used += need;
                 self.next = by.place + 1;
-                self.hints.put(p, part);
                 Ok(())
             }
             Err((clause, _)) => {
@@ -383,7 +396,7 @@ impl<C: Kept> Db<C> {
         matches!(self.access_of(p, g), Some(Access::Static))
     }
 
-    /// Erases the clause that was added at the place `clause` (ISO 8.9.3), by the update at `place`, which is behind all
+    /// Erases the clause that was added at the place `clause` (ISO 8.9.3), by the update at `place`, which is after all
     /// updates so far. The answer is false where it is not there or erased already; then nothing has changed. The only
     /// error is `Memory`; after it the database is as it was.
     pub fn erase(&mut self, clause: u64, place: u64) -> Result<bool, DbFault>
@@ -426,7 +439,7 @@ impl<C: Kept> Db<C> {
         }
     }
 
-    /// Makes the procedures that are not there dynamic (ISO 7.4.2.1), by the update at `place`, which is behind all updates
+    /// Makes the procedures that are not there dynamic (ISO 7.4.2.1), by the update at `place`, which is after all updates
     /// so far. The errors are `Static`, where one of them is static, and `Memory`; after an error the database is as it was.
     pub fn set_dynamic(&mut self, ps: &[Proc], place: u64) -> Result<(), DbFault>
         requires bound { place < 2 ^ 49 }
@@ -463,7 +476,7 @@ impl<C: Kept> Db<C> {
         false
     }
 
-    /// Makes the procedures that are not there dynamic. The only error is want of memory; after it the database is as it
+    /// Makes the procedures that are not there dynamic. The only error is out of memory; after it the database is as it
     /// was.
     fn make_dynamic(&mut self, ps: &[Proc], place: u64) -> Result<(), Memory>
         requires bound { place < 2 ^ 49 }
@@ -471,9 +484,9 @@ impl<C: Kept> Db<C> {
         ensures ok { OnOk result (self.new ≡ dynamic_held place ps.now self.old) }
         ensures err { OnErr result (self.new ≡ self.old) }
     {
-        match add_blanks(self.alloc, &mut self.parts, ps) {
+        match add_blanks(self.alloc, &mut self.parts, &mut self.index, ps) {
             Ok(()) => {
-                open_all(&mut self.parts, ps, place);
+                open_all(&mut self.parts, &self.index, ps, place);
                 self.next = place + 1;
                 Ok(())
             }
@@ -481,7 +494,7 @@ impl<C: Kept> Db<C> {
         }
     }
 
-    /// Takes the procedure away with all its clauses (ISO 8.9.4), by the update at `place`, which is behind all updates so
+    /// Takes the procedure away with all its clauses (ISO 8.9.4), by the update at `place`, which is after all updates so
     /// far. The errors are `Static` and `Memory`; after an error the database is as it was. Its time grows with the number
     /// of the procedure's clauses.
     pub fn abolish(&mut self, p: &Proc, place: u64) -> Result<(), DbFault>
@@ -507,14 +520,14 @@ impl<C: Kept> Db<C> {
         }
     }
 
-    /// Takes the procedure away with all its clauses. The only error is want of memory; after it the database is as it was.
+    /// Takes the procedure away with all its clauses. The only error is out of memory; after it the database is as it was.
     fn close(&mut self, p: &Proc, place: u64) -> Result<(), Memory>
         requires bound { place < 2 ^ 49 }
         requires later { self.old.next ≤ place }
         ensures ok { OnOk result (self.new ≡ abolished_held C.size place (proc_of p.now) self.old) }
         ensures err { OnErr result (self.new ≡ self.old) }
     {
-        match close_in(&mut self.parts, p, place) {
+        match close_in(&mut self.parts, &self.index, p, place) {
             Ok(cells) => {
                 self.used = self.used.saturating_sub(cells);
                 self.next = place + 1;
@@ -531,7 +544,7 @@ impl<C: Kept> Db<C> {
         self.flags
     }
 
-    /// Gives a flag a value (set_prolog_flag/2, ISO 8.17.1), by the update at `place`, which is behind all updates so far.
+    /// Gives a flag a value (set_prolog_flag/2, ISO 8.17.1), by the update at `place`, which is after all updates so far.
     /// A value that the flag cannot have leaves the flags as they are.
     pub fn set_flag(&mut self, flag: Flag, value: FlagValue, place: u64)
         requires bound { place < 2 ^ 49 }
@@ -550,8 +563,16 @@ impl<C: Kept> Db<C> {
         &self.operators
     }
 
-    /// Puts operators into the table, one after the other (op/3, ISO 8.14.3), by the update at `place`, which is behind all
-    /// updates so far. An error is the first cause of the first operator that is refused at its turn, or want of memory;
+    /// A handle on the table of operators as it stands, which stays as it is when the database's table changes. No table is
+    /// copied. The only error is `Memory`, where there can be no more handles.
+    pub fn shared_operators(&self) -> Result<Arc<OpTable>, Memory>
+        ensures { IfOk result (λ t. arc_value t ≡ self.now.operators) }
+    {
+        Ok(Arc::try_clone(&self.operators)?)
+    }
+
+    /// Puts operators into the table, one after the other (op/3, ISO 8.14.3), by the update at `place`, which is after all
+    /// updates so far. An error is the first cause of the first operator that is refused at its turn, or out of memory;
     /// after an error the database is as it was.
     pub fn set_op(&mut self, operators: &[Operator], place: u64) -> Result<(), OpFault>
         requires bound { place < 2 ^ 49 }
@@ -563,7 +584,10 @@ impl<C: Kept> Db<C> {
         ensures unchanged { OnErr result (self.new ≡ self.old) }
     {
         let changed = table_with(self.alloc, &self.operators, operators)?;
-        self.operators = changed;
+        let Ok(shared) = Arc::new(self.alloc, changed) else {
+            return Err(OpFault::Memory);
+        };
+        self.operators = shared;
         self.next = place + 1;
         Ok(())
     }
@@ -576,7 +600,7 @@ impl<C: Kept> Db<C> {
     }
 
     /// The procedures of which the generation `g` sees a clause, in the standard order of their indicators
-    /// (current_predicate/1, ISO 8.8.2). The only error is want of memory. Its time grows with the square of their number,
+    /// (current_predicate/1, ISO 8.8.2). The only error is out of memory. Its time grows with the square of their number,
     /// and with the number of clauses.
     pub fn current_procedures(&self, g: u64) -> Result<Vec<Proc>, Memory>
         requires { self.now.floor ≤ g }
@@ -587,7 +611,7 @@ impl<C: Kept> Db<C> {
 
     /// Drops the clauses of the procedure that stands at the index `i` which one of the first `floor` updates erased, and
     /// hands each out once. From then on `floor` is the least generation that a call may ask for, and no update comes below
-    /// it. The only error is want of memory; after it the database is as it was.
+    /// it. The only error is out of memory; after it the database is as it was.
     pub fn reclaim_by<D: Drops>(&mut self, i: u64, d: &D, floor: u64) -> Result<Vec<C>, Memory>
         requires { i < length self.old.parts }
         ensures dropped { IfOk result (λ r. IfSome (slice_get self.old.parts i) (λ x. IsPermutation (map (λ y. y.clause) (filter (is_droppable floor) x.clauses)) r.items)) }

@@ -13,7 +13,7 @@ pub enum DbFault {
     /// The stored clauses would take 2^40 cells or more: those that are not erased take `used`, and the one to be added
     /// `need`.
     CellsFull { used: u64, need: u64 },
-    /// Want of memory.
+    /// Out of memory.
     Memory,
 }
 

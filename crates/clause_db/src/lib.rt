@@ -9,11 +9,12 @@ mod db;
 mod dynamic;
 mod fault;
 mod flags;
-mod hints;
+mod index;
 mod listing;
 mod operators;
 mod parts;
 mod reclaim;
+mod search;
 mod system;
 #[cfg(test)]
 mod tests;

@@ -8,7 +8,7 @@ use op_table::{OpFault, OpTable, Operator};
 use std::alloc::Global;
 
 /// The table with these operators put into it, one after the other (op/3, ISO 8.14.3). An error is the first cause of the
-/// first operator that is refused at its turn, or want of memory.
+/// first operator that is refused at its turn, or out of memory.
 pub fn table_with(
     alloc: Global,
     table: &OpTable,

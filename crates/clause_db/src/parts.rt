@@ -1,20 +1,21 @@
 //! Procedures with their clauses.
-ghost use Rattle.std.specs.Prelude.{◌≡◌, ◌<◌, ◌^◌, ◌++◌, ◌∷◌, [], All, IfOk, IfErr, OnOk, OnErr, false, true, bytes_eq, map};
+ghost use Rattle.std.specs.Prelude.{◌≡◌, ℕ, ◌<◌, ◌^◌, ◌++◌, ◌∷◌, [], ◌==◌, ◌&&◌, ◌||◌, All, IfOk, IfErr, OnOk, OnErr, false, true, map, length};
 ghost use Rattle.std.specs.List.{slice_get};
 ghost use Rattle.std.specs.Option.{option_map_or};
+ghost use Rattle.std.specs.Vec.{vec_len, vec_capacity};
 ghost use Rattle.pl_model.specs.laws.Shown.{proc_of};
-ghost use Rattle.pl_model.specs.Predicates.{same_proc};
 ghost use Rattle.clause_db.specs.Parts.{piece, blank, is_part_of, piece_access, opened, added_to, with_clause, placed, has_live, without_at};
-ghost use Rattle.clause_db.specs.Located.{IsMember, Locates};
-ghost use Rattle.clause_db.specs.Sound.{Apart, names};
+ghost use Rattle.clause_db.specs.Index.{Indexed, hash_of, is_listed};
+ghost use Rattle.clause_db.specs.Located.{Locates};
+ghost use Rattle.clause_db.specs.Sound.{names};
 ghost use Rattle.gen_core.specs.Visible.{fresh};
 
 use crate::access::{Access, Life, access_by, life_at};
-use crate::hints::Hints;
+use crate::index::{Index, hash_of};
 use gen_core::Dated;
 use pl_model::kept::Kept;
 use pl_model::shows::{Origin, Proc};
-use pl_term::{Memory, Text};
+use pl_term::Memory;
 use std::alloc::Global;
 
 /// A procedure with its clauses. They stay after the procedure is abolished, for the calls that still see them.
@@ -45,54 +46,8 @@ pub struct Addition {
     pub end: End,
 }
 
-/// Whether both texts are the same.
-fn same_name(left: &Text, right: &Text) -> bool
-    ensures { result ≡ bytes_eq left.now right.now }
-{
-    left.same(right)
-}
-
-/// Whether both are the same predicate.
-fn is_same(left: &Proc, right: &Proc) -> bool
-    ensures { result ≡ same_proc (proc_of left.now) (proc_of right.now) }
-{
-    same_name(&left.name, &right.name) && left.arity == right.arity
-}
-
-/// Where the procedure stands.
-pub fn part_at<C: Kept>(parts: &[Part<C>], p: &Proc) -> Option<usize>
-    ensures { Locates (λ x. is_part_of (proc_of p.now) (piece x)) parts.now result }
-{
-    for i in 0..parts.len() {
-        if is_same(&parts[i].name, p) {
-            return Some(i);
-        }
-    }
-    None
-}
-
-/// Whether the procedure stands at the index.
-fn is_at<C: Kept>(parts: &[Part<C>], i: usize, p: &Proc) -> bool
-    ensures { result ≡ true → IsMember (λ x. is_part_of (proc_of p.now) (piece x)) parts.now i }
-{
-    i < parts.len() && is_same(&parts[i].name, p)
-}
-
-/// Where the procedure stands, which is looked for first where it is likely to.
-pub fn locate<C: Kept>(parts: &[Part<C>], hints: &Hints, p: &Proc) -> Option<usize>
-    requires { Apart (names (map piece parts.now)) }
-    ensures { Locates (λ x. is_part_of (proc_of p.now) (piece x)) parts.now result }
-{
-    if let Some(i) = hints.index(p) {
-        if is_at(parts, i, p) {
-            return Some(i);
-        }
-    }
-    part_at(parts, p)
-}
-
 /// Puts a clause at an end of the others. A refused clause is handed back, and the others are as they were; the only
-/// cause is want of memory.
+/// cause is out of memory.
 fn put<C: Kept>(d: &mut Dated<C>, clause: C, place: u64, end: End) -> Result<(), (C, Memory)>
     requires bound { place < 2 ^ 49 }
     requires later { All (λ x. x.place < place) d.old }
@@ -137,6 +92,7 @@ fn add_in<C: Kept>(part: &mut Part<C>, clause: C, by: Addition) -> Result<(), (C
     requires later { All (λ x. x.place < by.place) part.old.clauses }
     ensures ok { OnOk result (piece part.new ≡ added_to by clause (piece part.old)) }
     ensures err { IfErr result (λ e. (e.0 ≡ clause) × (part.new ≡ part.old)) }
+    ensures name { part.new.name ≡ part.old.name }
 {
     match put(&mut part.clauses, clause, by.place, by.end) {
         Ok(()) => {
@@ -147,7 +103,7 @@ fn add_in<C: Kept>(part: &mut Part<C>, clause: C, by: Addition) -> Result<(), (C
     }
 }
 
-/// A procedure that is not there, without clauses. The only error is want of memory.
+/// A procedure that is not there, without clauses. The only error is out of memory.
 pub fn no_part<C: Kept>(alloc: Global, p: &Proc) -> Result<Part<C>, Memory>
     ensures { IfOk result (λ x. piece x ≡ blank p.now) }
 {
@@ -164,42 +120,67 @@ pub fn no_part<C: Kept>(alloc: Global, p: &Proc) -> Result<Part<C>, Memory>
     })
 }
 
-/// Adds a clause to its procedure. A refused clause is handed back, and all is as it was; the only cause is want of
-/// memory.
+/// Adds a clause to its procedure, which stands at `found`, or is not there. A refused clause is handed back, and all is as
+/// it was; the only cause is that memory runs out.
 pub fn add_to<C: Kept>(
     alloc: Global,
     parts: &mut Vec<Part<C>>,
+    index: &mut Index,
+    found: Option<usize>,
     p: &Proc,
     clause: C,
     by: Addition,
 ) -> Result<(), (C, Memory)>
     requires bound { by.place < 2 ^ 49 }
     requires later { All (λ x. All (λ d. d.place < by.place) x.clauses) (map piece parts.old.items) }
+    requires located { Locates (λ x. is_part_of (proc_of p.now) (piece x)) parts.old.items found }
+    requires indexed { Indexed index.old (names (map piece parts.old.items)) }
     ensures ok { OnOk result (map piece parts.new.items ≡ with_clause by p.now clause (map piece parts.old.items)) }
+    ensures indexed { Indexed index.new (names (map piece parts.new.items)) }
     ensures err { IfErr result (λ e. (e.0 ≡ clause) × (parts.new.items ≡ parts.old.items)) }
 {
-    match part_at(parts.as_slice(), p) {
+    match found {
         Some(i) => add_in(&mut parts[i], clause, by),
-        None => add_new(alloc, parts, p, clause, by),
+        None => add_new(alloc, parts, index, p, clause, by),
     }
 }
 
-/// Adds a clause to a procedure that stands behind the others from now on.
+/// Makes room for the procedure after the others, and lists its place. The only error is out of memory; after it the index
+/// is as it was.
+pub fn make_room<C: Kept>(
+    parts: &mut Vec<Part<C>>,
+    index: &mut Index,
+    p: &Proc,
+) -> Result<(), Memory>
+    ensures same { parts.new.items ≡ parts.old.items }
+    ensures room { OnOk result (vec_len parts.new < vec_capacity parts.new) }
+    ensures ok { OnOk result ((k q : ℕ) → is_listed index.new k q ≡ (((k == hash_of (proc_of p.now)) && (q == length parts.old.items)) || is_listed index.old k q)) }
+    ensures err { OnErr result ((k q : ℕ) → is_listed index.new k q ≡ is_listed index.old k q) }
+{
+    parts.reserve(1)?;
+    index.add(hash_of(p), parts.len())?;
+    Ok(())
+}
+
+/// Adds a clause to a procedure that stands after the others from now on.
 fn add_new<C: Kept>(
     alloc: Global,
     parts: &mut Vec<Part<C>>,
+    index: &mut Index,
     p: &Proc,
     clause: C,
     by: Addition,
 ) -> Result<(), (C, Memory)>
-    requires { by.place < 2 ^ 49 }
+    requires bound { by.place < 2 ^ 49 }
+    requires indexed { Indexed index.old (names (map piece parts.old.items)) }
     ensures ok { OnOk result (map piece parts.new.items ≡ map piece parts.old.items ++ added_to by clause (blank p.now) ∷ []) }
+    ensures indexed { Indexed index.new (names (map piece parts.new.items)) }
     ensures err { IfErr result (λ e. (e.0 ≡ clause) × (parts.new.items ≡ parts.old.items)) }
 {
     let Ok(mut part) = no_part(alloc, p) else {
         return Err((clause, Memory));
     };
-    if parts.reserve(1).is_err() {
+    if make_room(parts, index, p).is_err() {
         return Err((clause, Memory));
     }
     match add_in(&mut part, clause, by) {
@@ -207,12 +188,15 @@ fn add_new<C: Kept>(
             parts.push_reserved(part);
             Ok(())
         }
-        Err(refused) => Err(refused),
+        Err(refused) => {
+            index.remove(hash_of(p), parts.len());
+            Err(refused)
+        }
     }
 }
 
 /// Erases a clause in the procedure that stands at the index, and says whether it was there and not erased before. The only
-/// error is want of memory; after it all is as it was.
+/// error is out of memory; after it all is as it was.
 pub fn erase_in<C: Kept>(
     parts: &mut Vec<Part<C>>,
     i: usize,

@@ -25,7 +25,7 @@ fn forget(lives: &mut Vec<Life>, floor: u64)
     lives.retain(|life| floor <= life.until);
 }
 
-/// Drops the clauses of a procedure that one of the first `floor` updates erased. The only error is want of memory; after
+/// Drops the clauses of a procedure that one of the first `floor` updates erased. The only error is out of memory; after
 /// it all is as it was.
 fn reclaim_part<C: Kept, D: Drops>(
     alloc: Global,

@@ -8,7 +8,7 @@ use pl_term::Memory;
 use std::alloc::Global;
 
 /// Drops exactly the clauses that one of the first `floor` updates erased, and hands each out once. What a generation at
-/// or above the floor sees stays. The only error is want of memory; after it the list is as it was. Its time grows with
+/// or above the floor sees stays. The only error is out of memory; after it the list is as it was. Its time grows with
 /// the number of clauses that are dropped, times the logarithm of the number of those that there are.
 pub fn reclaim<C: Kept>(alloc: Global, d: &mut Dated<C>, floor: u64) -> Result<Vec<C>, Memory>
     ensures reclaimed { IfOk result (λ dropped. Reclaims floor dropped.items d.old d.new) }

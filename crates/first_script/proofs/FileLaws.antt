@@ -286,7 +286,7 @@ module _ (term : Tree → Tree) (name : Chars) (s : FileScript) (ops : OperatorT
       (subst (λ (q : FileScript). FileMoved term name s Words t out (Gives (Done None)) q Over u out) (sym is)
       (read_over (Some (Faulty f)) same (λ job. refl))))
 
--- The stage behind the reading of a word.
+-- The stage after the reading of a word.
 pub begun_after : (w : GoalWord) (stage : Stage) (step : Step) → HasBegun w stage step → IsAfter step stage
 begun_after w stage step (inl e) = subst (λ (p : Step). IsAfter p stage) (sym e) tt
 begun_after (Goal g names) stage step (inr b) =

@@ -453,7 +453,7 @@ pub given_end : (old_text text : ℕ → Chars) (s r : FileScript) (how : Option
 given_end old_text text s r None t before after bytes at over_is count = no_end old_text text s r t before after bytes at
 given_end old_text text s r (Some h) t before after bytes at over_is count = goal_ends old_text text s r (Some h) h t before after bytes at refl over_is count
 
--- The script is lost for want of memory.
+-- The script is lost because memory ran out.
 pub lost_last : (p : Option Part) → IsLast {T = Tree} p Memory
 lost_last None = tt
 lost_last (Some of_goal) = tt

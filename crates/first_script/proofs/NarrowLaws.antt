@@ -253,7 +253,7 @@ step_more word w c d e stage then third t u a b x is n l g m h = (
   interns_then word c d stage then t u a b x n l g (subst (λ v. Gains (MayIntern d v then u) b x) is h),
 )
 
--- The stage at which the script is left: the one behind the step, or it is lost.
+-- The stage at which the script is left: the one after the step, or it is lost.
 pub handed_narrows : (word : Option Chars) (c d e : Consult) (stage then before final : Stage)
     → Narrows word c stage d then
     → e ≡ d

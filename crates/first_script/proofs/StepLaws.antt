@@ -155,7 +155,7 @@ given_goal term c goal kept t out e job x at = (
   (of_goal, refl, refl, at.does ∙ ap (λ g. searching (start job.limits g)) (sym e), at.stands),
 )
 
--- The stage behind a step.
+-- The stage after a step.
 pub stay_after : (next : Next Tree) (stage : Stage) → IsStay next → can_step stage ≡ true → IsAfter (Gives next) stage
 stay_after (Item t d) stage stays can = absurd stays
 stay_after (Done h) stage stays can = absurd stays

@@ -91,18 +91,18 @@ pub record RunsBy (job : Job) (name : Chars) (c : Consult) (word : Option Chars)
 abbrev pub Runs : Job → Chars → FileScript → Stage → Execution → List ℕ → Type 0
 Runs job name s stage x out = RunsBy job name s.consult s.word s.read stage x out
 
--- The stage behind what was given. Want of memory loses the script.
+-- The stage after what was given. The script is lost where memory runs out.
 abbrev pub IsGiven : Next Tree → Stage → Type 0
 IsGiven Memory stage = stage ≡ Lost
 IsGiven next stage = IsAfter (Gives next) stage
 
--- The execution comes so far, and as many moves were counted. After want of memory it is not told how many they are.
+-- The execution comes so far, and as many moves were counted. After running out of memory it is not told how many they are.
 abbrev pub CameByStep : Step → Job → Execution → Told → ℕ → Execution → Told → ℕ → Type 0
 CameByStep Goes job x t before y u after = ComesBy job x t before y u after
 CameByStep (Gives next) job x t before y u after = CameBy next job x t before y u after
 
 module _ (term : Tree → Tree) where
-  -- The execution behind steps.
+  -- The execution after steps.
   abbrev pub AfterFile : Step → Job → Chars → FileScript → Stage → Execution → List ℕ → Type 0
   AfterFile (Gives Memory) job name s stage y out = Unit {0}
   AfterFile step job name s stage y out = Whole job name s y × After term step job s.consult stage y out

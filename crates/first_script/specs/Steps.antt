@@ -46,7 +46,7 @@ IsStay (Item t d) = ⊥
 IsStay (Done h) = ⊥
 IsStay next = Unit {0}
 
--- A look behind all entries found these operators and this flag.
+-- A look after all entries found these operators and this flag.
 pub record Looked (t u : Told) (ops : OperatorTable) (quotes : Quotes) : Type 0 where
   pub before : History
   pub update : Option Kind
@@ -71,7 +71,7 @@ abbrev pub look_refusals : Look → List Refusal
 look_refusals (Standing ops quotes) = []
 look_refusals (Stays next) = next_refusals next
 
--- A request behind all entries that was answered so.
+-- A request after all entries that was answered so.
 pub record Asked (t u : Told) (q : Request) (reply : requests.Reply) : Type 0 where
   pub before : History
   pub update : Option Kind
@@ -114,7 +114,7 @@ abbrev pub step_names : (Tree → List ℕ) → Step → List ℕ
 step_names names Goes = []
 step_names names (Gives next) = next_names names next
 
--- The byte behind an item.
+-- The byte after an item.
 abbrev pub next_of : Place → ℕ
 next_of (AtItem next) = next
 next_of Initialization = zero
@@ -171,7 +171,7 @@ abbrev pub AreFaults : List Consulted → Type 0
 AreFaults [] = Unit {0}
 AreFaults (c ∷ cs) = (is_fault c ≡ true) × AreFaults cs
 
--- Behind the lines that are written of the file there are further ones, all of faults.
+-- After the lines that are written of the file there are further ones, all of faults.
 pub record Grows (old new : List Consulted) : Type 0 where
   pub faults : List Consulted
   pub grown : new ≡ old ++ faults
@@ -231,7 +231,7 @@ at_hand (AtDirective place) = Some true
 at_hand AtGoal = Some false
 at_hand stage = None
 
--- The stage fits what the step leads to. After want of memory nothing is said of it.
+-- The stage fits what the step leads to. After running out of memory nothing is said of it.
 abbrev pub IsAfter : Step → Stage → Type 0
 IsAfter Goes stage = can_step stage ≡ true
 IsAfter (Gives (Item t directive)) stage = at_hand stage ≡ Some directive
@@ -255,7 +255,7 @@ moves_in n Goes = n
 moves_in n (Gives (Done h)) = n
 moves_in n (Gives next) = 0
 
--- The execution comes so far by the moves of a step. After want of memory it is not told how many they are.
+-- The execution comes so far by the moves of a step. After running out of memory it is not told how many they are.
 abbrev pub CameAt : ℕ → Step → Job → Execution → Told → Execution → Told → Type 0
 CameAt n (Gives Memory) job x t y u = (k : ℕ) × ComesIn job k x t y u
 CameAt n step job x t y u = ComesIn job (moves_in n step) x t y u
@@ -267,7 +267,7 @@ MakesMoves (Gives (Done h)) = Unit {0}
 MakesMoves (Gives Memory) = Unit {0}
 MakesMoves (Gives next) = ⊥
 
--- The moves of the step are counted, or there are too many to count, which is want of memory.
+-- The moves of the step are counted, or there are too many to count, which is out of memory.
 abbrev pub IsCounted : ℕ → Step → Step → ℕ → ℕ → Type 0
 IsCounted n step (Gives Memory) before after = MakesMoves step
 IsCounted n step counted before after = (counted ≡ step) × (moves_in n step + before ≡ after)
@@ -278,7 +278,7 @@ pub record SameFile (c d : Consult) : Type 0 where
   pub text : d.text.items ≡ c.text.items
 
 module _ (term : Tree → Tree) where
-  -- The execution behind a step. After want of memory nothing is said of it.
+  -- The execution after a step. After running out of memory nothing is said of it.
   abbrev pub After : Step → Job → Consult → Stage → Execution → List ℕ → Type 0
   After Goes job c stage y out = At job c stage y out
   After (Gives (Item t directive)) job c stage y out =

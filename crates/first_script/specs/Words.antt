@@ -41,7 +41,7 @@ IsFault None [] = Unit {0}
 IsFault None (goal_word t names ∷ []) = Unit {0}
 IsFault None ws = ⊥
 
--- Behind the reading of a word its goal is to be given, or the script is over; or there was no memory.
+-- After the reading of a word its goal is to be given, or the script is over; or there was no memory.
 abbrev pub Begun : GoalWord → Stage → Step → Type 0
 Begun (Goal t names) stage step = (stage ≡ ToGive t) × (step ≡ Goes)
 Begun (Faulty f) stage step = (stage ≡ Over) × (step ≡ Gives (Done None))

@@ -32,7 +32,7 @@ pub(crate) fn to_report(
     }
 }
 
-/// A second end that is the same. The only error is want of memory.
+/// A second end that is the same. The only error is out of memory.
 fn copied(alloc: Global, how: &How<Flat>) -> Result<How<Flat>, Memory>
     ensures { IfOk result (λ h. h ≡ how.now) }
 {

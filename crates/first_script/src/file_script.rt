@@ -161,7 +161,7 @@ impl FileScript {
         Next::Memory
     }
 
-    /// The script stands at this stage as it gives this; `grown` says whether faults were written. For want of memory it is
+    /// The script stands at this stage as it gives this; `grown` says whether faults were written. Where memory runs out it is
     /// lost.
     fn hand_out(&mut self, stage: Stage, next: Next<Stored>, grown: bool) -> Next<Stored>
         ensures next { result ≡ next }
@@ -232,7 +232,7 @@ impl FileScript {
         }
     }
 
-    /// Takes up the next item of the file, or behind its end the next goal of initialization/1.
+    /// Takes up the next item of the file, or after its end the next goal of initialization/1.
     fn take_next<W: World<Term = Stored>>(
         &mut self,
         world: &mut W,
@@ -407,7 +407,7 @@ impl Script for FileScript {
     }
 }
 
-/// Whether this is want of memory.
+/// Whether this is out of memory.
 fn is_memory(next: &Next<Stored>) -> bool
     ensures { result ≡ is_memory next.now }
 {

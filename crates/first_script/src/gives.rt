@@ -122,7 +122,7 @@ fn is_numbered(alloc: Global, t: &Flat) -> bool
     }
 }
 
-/// The next goal of initialization/1, behind the end of the file.
+/// The next goal of initialization/1, after the end of the file.
 pub fn next_initialization(alloc: Global, consult: &mut Consult) -> (Stage, Step)
     requires { consult.old.place ≡ Initialization }
     ensures moved { (term : Tree → Tree) (t : Told) (out : List ℕ) → Moved term consult.old Items t out result.1 consult.new result.0 t out }

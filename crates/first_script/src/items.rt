@@ -20,7 +20,7 @@ use std::alloc::Global;
 use term_store::Stored;
 use world_api::World;
 
-/// Takes up the item at the byte `at` of the file or behind it.
+/// Takes up the item at the byte `at` of the file or after it.
 pub fn take_item<W: World<Term = Stored>>(
     alloc: Global,
     consult: &mut Consult,

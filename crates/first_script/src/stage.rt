@@ -12,7 +12,7 @@ use term_store::Stored;
 /// What the first engine has to do next.
 #[derive(Drop)]
 pub enum Stage {
-    /// The next item of the file is to be taken up, or behind its end the next goal of initialization/1.
+    /// The next item of the file is to be taken up, or after its end the next goal of initialization/1.
     Items,
     /// The clause of the item at this byte, which was read under these operators, is to be added.
     Clause {
@@ -44,7 +44,7 @@ pub enum Stage {
     AtGoal,
     /// Nothing is left to be done.
     Over,
-    /// The script is lost for want of memory.
+    /// The script is lost because memory ran out.
     Lost,
 }
 

@@ -57,7 +57,7 @@ pub(crate) fn read_word(
     }
 }
 
-/// The text of a word, with an end token added. The only error is want of memory.
+/// The text of a word, with an end token added. The only error is out of memory.
 fn goal_text(alloc: Global, word: &Text) -> Result<Vec<u8>, Memory>
     ensures { IfOk result (λ v. v.items ≡ text_of_goal word.now) }
 {
@@ -68,7 +68,7 @@ fn goal_text(alloc: Global, word: &Text) -> Result<Vec<u8>, Memory>
 }
 
 /// The word with a text of so many bytes whose first term is this one, and has its end before the place `next`. The only
-/// error is want of memory.
+/// error is out of memory.
 fn whole_goal(
     alloc: Global,
     goal: Flat,
@@ -90,7 +90,7 @@ fn whole_goal(
     }))
 }
 
-/// The named variables with their numbers. The only error is want of memory.
+/// The named variables with their numbers. The only error is out of memory.
 fn named(alloc: Global, names: &[NamedVariable]) -> Result<Vec<(Text, u64)>, Memory>
     ensures { IfOk result (λ v. v.items ≡ pairs names.now) }
 {
@@ -121,7 +121,7 @@ pub(crate) fn fault_in(word: &GoalWord) -> Option<SyntaxFault>
     }
 }
 
-/// What is done behind the reading of this word: its goal is to be given, or the script is over.
+/// What is done after the reading of this word: its goal is to be given, or the script is over.
 pub(crate) fn begun_by(alloc: Global, word: &GoalWord) -> (Stage, Step)
     ensures begins { HasBegun word.now result.0 result.1 }
     ensures narrows { (w : Chars) (c : Consult) (ops : OperatorTable) (quotes : Quotes) → word_of word.now ≡ word_read ops quotes w

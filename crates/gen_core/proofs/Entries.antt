@@ -134,7 +134,7 @@ module _ {X D : Type 0} (of : X → D) where
 
   -- ---- a test that one entry alone passes
 
-  -- What stands behind the first that passes.
+  -- What stands after the first that passes.
   abbrev pub past : (D → Bool) → List D → List D
   past t [] = []
   past t (d ∷ ds) = cond (t d) ds (past t ds)

@@ -111,7 +111,7 @@ module _ {C K : Type 0} where
         ∙ ap (λ b. Some (x.0.dated.place, x.0.dated.clause, b)) (e ∙ more_is t (n + 1) r k)
         ∙ sym (ap first_choice x.2)
 
-    -- What stands behind the clause that was added at a place.
+    -- What stands after the clause that was added at a place.
     pub behind_none : (place : ℕ) → IsNumberOf s.clauses place None → behind (Some place) (clauses_of s.clauses) ≡ []
     behind_none place h =
         behind-past place (clauses_of s.clauses) ∙ past_none of (λ d. d.place == place) s.clauses.entries (each_is (λ d. d.place == place) (λ q. false) h)

@@ -27,7 +27,7 @@ clauses_of m = map (λ e. e.1.dated) m.entries
 abbrev pub clauses_from : {C K : Type 0} → ℕ → BTreeMap ℕ (Entry C K) → List (DatedClause C)
 clauses_from n m = map (λ e. e.1.dated) (filter (λ e. not (nat_lt e.0 n)) m.entries)
 
--- What stands behind the clause that was added at a place is what stands from a number on, or nothing.
+-- What stands after the clause that was added at a place is what stands from a number on, or nothing.
 abbrev pub IsBehind : {C K : Type 0} → BTreeMap ℕ (Entry C K) → Option ℕ → Option ℕ → Type 0
 IsBehind m place None = behind place (clauses_of m) ≡ []
 IsBehind m place (Some n) = behind place (clauses_of m) ≡ clauses_from n m

@@ -43,7 +43,7 @@ is_droppable_at floor place d = (d.place == place) && is_droppable floor d
 abbrev pub counted : {C : Type 0} → DatedClause C → ℕ
 counted d = if is_some d.erased then 1 else 0
 
--- What stands behind the clause that was added at a place, or the whole list.
+-- What stands after the clause that was added at a place, or the whole list.
 abbrev pub behind : {C : Type 0} → Option ℕ → List (DatedClause C) → List (DatedClause C)
 behind None ds = ds
 behind (Some place) [] = []

@@ -50,7 +50,7 @@ impl<C: Kept> Dated<C> {
         self.shelf.any_visible(g)
     }
 
-    /// The first clause of a call at the generation `g` whose first argument has the key `first`, or the next one behind
+    /// The first clause of a call at the generation `g` whose first argument has the key `first`, or the next one after
     /// that which was added at `place`, with its place and whether more follow. It takes no memory.
     pub fn next_after(&self, place: Option<u64>, g: u64, first: &C::Key) -> Option<Hit<'_, C>>
         ensures { hit_of result ≡ first_choice (filter (is_choice C.Key.Ord.cmp C.any C.key_of g first.now) (behind place self.now)) }
@@ -73,7 +73,7 @@ impl<C: Kept> Dated<C> {
     }
 
     /// Adds a clause as the first one (ISO 8.9.1), by the update at `place`, which is above the places of all earlier
-    /// additions. A refused clause is handed back, and the list is as it was; the only cause is want of memory.
+    /// additions. A refused clause is handed back, and the list is as it was; the only cause is out of memory.
     pub fn add_first(&mut self, clause: C, place: u64) -> Result<(), (C, Memory)>
         requires bound { place < 2 ^ 49 }
         requires later { All (λ d. d.place < place) self.old }
@@ -84,7 +84,7 @@ impl<C: Kept> Dated<C> {
     }
 
     /// Adds a clause as the last one (ISO 8.9.2), by the update at `place`, which is above the places of all earlier
-    /// additions. A refused clause is handed back, and the list is as it was; the only cause is want of memory.
+    /// additions. A refused clause is handed back, and the list is as it was; the only cause is out of memory.
     pub fn add_last(&mut self, clause: C, place: u64) -> Result<(), (C, Memory)>
         requires bound { place < 2 ^ 49 }
         requires later { All (λ d. d.place < place) self.old }
@@ -95,7 +95,7 @@ impl<C: Kept> Dated<C> {
     }
 
     /// Erases the clause that was added at the place `clause`, by the update at `place`, and says whether it was there and
-    /// not erased before (ISO 8.9.3). The only error is want of memory; after it the list is as it was.
+    /// not erased before (ISO 8.9.3). The only error is out of memory; after it the list is as it was.
     pub fn erase(&mut self, clause: u64, place: u64) -> Result<bool, Memory>
         ensures was { IfOk result (λ b. b ≡ list_any (λ d. (d.place == clause) && is_live d) self.old) }
         ensures ok { OnOk result (self.new ≡ map (erased_by clause place) self.old) }
@@ -104,7 +104,7 @@ impl<C: Kept> Dated<C> {
         self.shelf.erase(clause, place)
     }
 
-    /// Erases all clauses that are not erased (ISO 8.9.4), by the update at `place`. The only error is want of memory;
+    /// Erases all clauses that are not erased (ISO 8.9.4), by the update at `place`. The only error is out of memory;
     /// after it the list is as it was. Its time grows with the number of clauses, those that are erased included.
     pub fn erase_all(&mut self, place: u64) -> Result<(), Memory>
         ensures ok { OnOk result (self.new ≡ map (erased_all place) self.old) }
@@ -122,7 +122,7 @@ impl<C: Kept> Dated<C> {
     }
 
     /// The places of the additions of the clauses that one of the first `floor` updates erased. No two clauses have the
-    /// same place. The only error is want of memory. Its time grows with the number of these clauses alone.
+    /// same place. The only error is out of memory. Its time grows with the number of these clauses alone.
     pub fn droppable_places(&self, floor: u64) -> Result<Vec<u64>, Memory>
         ensures places { IfOk result (λ ps. (p : ℕ) → list_any (λ q. q == p) ps.items ≡ list_any (is_droppable_at floor p) self.now) }
         ensures once { (p : ℕ) → length (filter (λ d. d.place == p) self.now) ≤ 1 }

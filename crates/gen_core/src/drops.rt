@@ -10,7 +10,7 @@ use std::alloc::Global;
 /// What drops the clauses that no generation from a floor on sees.
 pub trait Drops {
     /// Drops exactly the clauses that one of the first `floor` updates erased, and hands each out once. The only error is
-    /// want of memory; after it the list is as it was.
+    /// Out of memory; after it the list is as it was.
     fn reclaim<C: Kept>(
         &self,
         alloc: Global,

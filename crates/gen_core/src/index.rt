@@ -34,7 +34,7 @@ impl Numbers {
         earlier(one_from(self.one, from), next_in(&self.others, from))
     }
 
-    /// Puts a number to these. The only error is want of memory; after it they are as they were.
+    /// Puts a number to these. The only error is out of memory; after it they are as they were.
     fn add(&mut self, number: u64) -> Result<(), Memory>
         ensures ok { OnOk result ((q : ℕ) → is_in self.new q ≡ ((q == number) || is_in self.old q)) }
         ensures err { OnErr result ((q : ℕ) → is_in self.new q ≡ is_in self.old q) }
@@ -116,7 +116,7 @@ impl<K: Ord + Drop> Index<K> {
         self.by_key.get(key)
     }
 
-    /// Puts a number under a key. The only error is want of memory; after it the index is as it was.
+    /// Puts a number under a key. The only error is out of memory; after it the index is as it was.
     pub fn add(&mut self, key: K, number: u64) -> Result<(), Memory>
         ensures ok { OnOk result ((k : K) (q : ℕ) → is_listed K.cmp self.new.by_key k q
             ≡ (is_eq (K.cmp k key) && (q == number)) || is_listed K.cmp self.old.by_key k q) }

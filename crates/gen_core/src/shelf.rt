@@ -115,7 +115,7 @@ impl<C: Kept> Shelf<C> {
     }
 
     /// Puts a clause on a number on which there is none, and lists it. A refused clause is handed back, and the shelf is
-    /// as it was; the only cause is want of memory.
+    /// as it was; the only cause is out of memory.
     pub fn add(&mut self, clause: C, place: u64, number: u64) -> Result<(), (C, Memory)>
         requires sound { IsSound C.Key.Ord.cmp C.any C.key_of self.old }
         requires numbered { IsNumbered number place }
@@ -165,7 +165,7 @@ impl<C: Kept> Shelf<C> {
         }
     }
 
-    /// Lists a number under a key. The only error is want of memory; after it nothing is listed that was not before.
+    /// Lists a number under a key. The only error is out of memory; after it nothing is listed that was not before.
     fn list(&mut self, key: C::Key, number: u64) -> Result<(), Memory>
         ensures others { (self.new.clauses ≡ self.old.clauses) × (self.new.erased ≡ self.old.erased) }
         ensures ok { OnOk result (Lists C.Key.Ord.cmp C.any key number self.old self.new) }
@@ -190,7 +190,7 @@ impl<C: Kept> Shelf<C> {
     }
 
     /// Erases the clause that the update at the place `clause` added, and says whether it was there and not erased
-    /// before. The only error is want of memory; after it the shelf is as it was.
+    /// before. The only error is out of memory; after it the shelf is as it was.
     pub fn erase(&mut self, clause: u64, place: u64) -> Result<bool, Memory>
         requires sound { IsSound C.Key.Ord.cmp C.any C.key_of self.old }
         ensures sound { IsSound C.Key.Ord.cmp C.any C.key_of self.new }
@@ -203,7 +203,7 @@ impl<C: Kept> Shelf<C> {
         }
     }
 
-    /// Erases the clause on the number, and says whether it was not erased before. The only error is want of memory;
+    /// Erases the clause on the number, and says whether it was not erased before. The only error is out of memory;
     /// after it the shelf is as it was.
     fn erase_at(&mut self, number: u64, place: u64) -> Result<bool, Memory>
         requires { IsSound C.Key.Ord.cmp C.any C.key_of self.old }
@@ -231,7 +231,7 @@ impl<C: Kept> Shelf<C> {
         }
     }
 
-    /// Erases all clauses that are not erased. The only error is want of memory; after it the shelf is as it was.
+    /// Erases all clauses that are not erased. The only error is out of memory; after it the shelf is as it was.
     pub fn erase_all(&mut self, place: u64) -> Result<(), Memory>
         requires { IsSound C.Key.Ord.cmp C.any C.key_of self.old }
         ensures sound { IsSound C.Key.Ord.cmp C.any C.key_of self.new }
@@ -254,7 +254,7 @@ impl<C: Kept> Shelf<C> {
         cells
     }
 
-    /// The places of the clauses that one of the first `floor` updates erased. The only error is want of memory.
+    /// The places of the clauses that one of the first `floor` updates erased. The only error is out of memory.
     pub fn droppable_places(&self, floor: u64) -> Result<Vec<u64>, Memory>
         requires { IsSound C.Key.Ord.cmp C.any C.key_of self.now }
         ensures { IfOk result (λ ps. (p : ℕ) → list_any (λ q. q == p) ps.items ≡ list_any (is_droppable_at floor p) (clauses_of self.now.clauses)) }
@@ -353,7 +353,7 @@ impl<C: Kept> Shelf<C> {
         self.erased.len()
     }
 
-    /// The number behind that of the clause which the update at a place added, or the first number.
+    /// The number after that of the clause which the update at a place added, or the first number.
     fn number_behind(&self, place: Option<u64>) -> Option<u64>
         requires { IsSound C.Key.Ord.cmp C.any C.key_of self.now }
         ensures { IsBehind self.now.clauses place result }
@@ -400,7 +400,7 @@ impl<C: Kept> Shelf<C> {
         }
     }
 
-    /// The next clause behind that which was added at a place, or the first one, of those that a call tries.
+    /// The next clause after that which was added at a place, or the first one, of those that a call tries.
     pub fn next_after(&self, place: Option<u64>, g: u64, first: &C::Key) -> Option<Hit<'_, C>>
         requires { IsSound C.Key.Ord.cmp C.any C.key_of self.now }
         ensures { hit_of result ≡ first_choice (filter (is_choice C.Key.Ord.cmp C.any C.key_of g first.now) (behind place (clauses_of self.now.clauses))) }
@@ -436,7 +436,7 @@ fn mark<C, K>(clauses: &mut BTreeMap<u64, Entry<C, K>>, number: u64, place: u64)
 }
 
 /// The places of the erasures of all clauses, each with the clause's number, where those that are not erased are erased at
-/// the place. The only error is want of memory.
+/// the place. The only error is out of memory.
 fn erasures<C, K>(
     alloc: Global,
     clauses: &BTreeMap<u64, Entry<C, K>>,

@@ -49,7 +49,7 @@ mutual
 pub value-nodes : (t : Tree) → values_of (nodes t) ≡ evaluated t ∷ []
 value-nodes t = sym (ap values_of (append-nil (nodes t))) ∙ values-nodes t []
 
--- Each node has the values of its arguments behind it.
+-- Each node has the values of its arguments after it.
 abbrev pub HasArguments : List Node → Type 0
 HasArguments [] = Unit {0}
 HasArguments (n ∷ ns) = (arity n ≤ length (values_of ns)) × HasArguments ns
@@ -89,7 +89,7 @@ has_at [] i d lt h = absurd (omega arith)
 has_at (n ∷ ns) zero d lt h = h.0
 has_at (n ∷ ns) (suc i) d lt h = has_at ns i d (omega arith) h.1
 
--- What the walk from the right knows at a node, and what it has behind it.
+-- What the walk from the right knows at a node, and what it has after it.
 pub arguments_at : (t : Tree) (ns : List Node) (i : ℕ) (d : Node) → ns ≡ nodes t → 0 < i → i ≤ length ns
     → arity (get_or ns (i - 1) d) ≤ length (values_of (drop i ns))
 arguments_at t ns i d e lt le =

@@ -12,7 +12,7 @@ use std::alloc::Global;
 
 /// The value of the term as an arithmetic expression, or the first fault on the way to it: at each subterm its functor
 /// is looked at first, then its arguments are evaluated from the left, and then the operation is made (ISO 7.9.2). Or
-/// `Memory`, for want of memory. Nothing recurses on the depth of the term.
+/// `Memory`, because memory ran out. Nothing recurses on the depth of the term.
 pub fn eval(alloc: Global, term: &Flat) -> Result<i64, EvalFault>
     ensures { (result ≡ Err EvalFault.Memory) ⊎ (result ≡ evaluated term.now) }
 {
@@ -24,7 +24,7 @@ pub fn eval(alloc: Global, term: &Flat) -> Result<i64, EvalFault>
     values.pop()
 }
 
-/// Takes the values of a node's arguments and puts the node's value in their place. The only error is want of memory.
+/// Takes the values of a node's arguments and puts the node's value in their place. The only error is out of memory.
 fn put_value(alloc: Global, n: &Node, values: &mut Values) -> Result<(), Memory>
     requires { arity n.now ≤ length values.old }
     ensures { OnOk result (values.new ≡ with_value n.now values.old) }
@@ -33,7 +33,7 @@ fn put_value(alloc: Global, n: &Node, values: &mut Values) -> Result<(), Memory>
     values.push(value)
 }
 
-/// The value of a node from those of its arguments, which are taken. The only error is want of memory.
+/// The value of a node from those of its arguments, which are taken. The only error is out of memory.
 fn take_value(alloc: Global, n: &Node, values: &mut Values) -> Result<Value, Memory>
     requires { arity n.now ≤ length values.old }
     ensures value { IfOk result (λ v. v ≡ node_value n.now values.old) }
@@ -65,7 +65,7 @@ fn take_value(alloc: Global, n: &Node, values: &mut Values) -> Result<Value, Mem
     }
 }
 
-/// The fault that the node is no evaluable. The only error is want of memory.
+/// The fault that the node is no evaluable. The only error is out of memory.
 fn not_evaluable(alloc: Global, n: &Node) -> Result<Value, Memory>
     ensures { IfOk result (λ v. v ≡ Err (EvalFault.NotEvaluable n.now)) }
 {

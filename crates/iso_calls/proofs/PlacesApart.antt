@@ -147,7 +147,7 @@ listed_apart goals h g goal =
     apart_filter (λ s. not (is_excluded goal s.clause.head)) (seen g (proc_of goal) (state_at goals h g).database)
     (apart_filter (λ s. is_of (proc_of goal) s && is_visible g s) (state_at goals h g).database.clauses (apart_at goals h g))
 
--- What is left behind a clause that was left behind another
+-- What is left after a clause that was left after another
 
 itself : (p : ℕ) → (p == p) ≡ true
 itself p = (Decides-eqb p p).1 refl

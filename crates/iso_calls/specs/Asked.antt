@@ -12,7 +12,7 @@ use Rattle.iso_search.specs.declared.search.Search.{Search}
 use Rattle.iso_search.specs.Reading.{reads}
 use Rattle.iso_calls.specs.Views.{view_of}
 
--- An inference can be made, and the text is one of what is handed of the reply to the call's request behind entries of
+-- An inference can be made, and the text is one of what is handed of the reply to the call's request after entries of
 -- others.
 pub record IsCallAsked (m : Names) (t : Told) (e : Search) (goal : Place) (c : Chars) : Type 0 where
   pub count : e.inferences < e.budgets.inferences

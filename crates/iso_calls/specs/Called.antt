@@ -35,7 +35,7 @@ use Rattle.iso_calls.specs.Lists.{IsListed, IsOpenBehind}
 abbrev pub counted : State → State
 counted s = record s { inferences = suc s.inferences }
 
--- The visit was answered behind all entries `before`, and made no entry.
+-- The visit was answered after all entries `before`, and made no entry.
 pub record IsAsked (t : Told) (before : History) (u : Told) : Type 0 where
   pub follows : Follows t.engine t.history before
   pub told : u ≡ seen_as t (before ++ entry_by t.engine None) (t.gens ++ length before ∷ [])
@@ -47,7 +47,7 @@ pub record IsRun (m : Names) (t : Told) (e : Search) (goal : Place) (rest : ℕ)
   pub count : e.inferences < e.budgets.inferences
   pub found : Option (Found Tree)
   pub named : All (λ a. IsSome (n a)) (found_names names_of found)
-  -- However the engine is read from then on, its request was answered so, and the list is open behind the first clause.
+  -- However the engine is read from then on, its request was answered so, and the list is open after the first clause.
   pub answered :
       (v : View)
       → IsViewFrom n u v

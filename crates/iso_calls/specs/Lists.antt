@@ -11,12 +11,12 @@ use Rattle.world_api.specs.Told.{Told, clause_list, has_place}
 use Rattle.world_api.specs.Replies.{IsFront}
 use Rattle.iso_search.specs.Reading.{View}
 
--- The clauses behind the first one.
+-- The clauses after the first one.
 abbrev pub rest_of : List (Stored Clause) → List (Stored Clause)
 rest_of [] = []
 rest_of (c ∷ cs) = cs
 
--- Where others follow the first one, they are what is left behind its place.
+-- Where others follow the first one, they are what is left after its place.
 abbrev pub IsLeft : View → Tree → ℕ → Option (Found Tree) → List (Stored Clause) → Type 0
 IsLeft v goal g None cs = Unit {0}
 IsLeft v goal g (Some f) cs = f.more ≡ true → v.left goal g f.place ≡ rest_of cs
@@ -32,7 +32,7 @@ pub record IsOpen (t : Told) (goal : Tree) (g place : ℕ) : Type 0 where
   pub within : g ≤ length t.history
   pub among : has_place place (clause_list t.goals t.history g goal) ≡ true
 
--- The list is open behind the clause that was found.
+-- The list is open after the clause that was found.
 abbrev pub IsOpenBehind : Told → Tree → ℕ → Option (Found Tree) → Type 0
 IsOpenBehind t goal g None = Unit {0}
 IsOpenBehind t goal g (Some f) = IsOpen t goal g f.place

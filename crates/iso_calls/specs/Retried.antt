@@ -33,7 +33,7 @@ pub record IsNextRun (t : Told) (e : Search) (goal : Place) (g place next : ℕ)
   pub told : u ≡ seen_as t before t.gens
   pub found : Option (Found Tree)
   pub named : All (λ a. IsSome (n a)) (found_names names_of found)
-  -- However the engine is read from then on, what was found is the first of what is left, and the list is open behind it.
+  -- However the engine is read from then on, what was found is the first of what is left, and the list is open after it.
   pub answered :
       (v : View)
       → IsViewFrom n u v

@@ -22,7 +22,7 @@ use world_api::{Answer, Reply, Visit, World};
 
 /// Calls the program's clauses for the goal at a place, before the tasks of a list (ISO 7.7.10): makes an inference, asks the
 /// shared state for the first of the clauses, and tries it. Where the visit is not served, nothing has changed, and the call is
-/// to be made again. The only error is want of memory, after which the search is not to be used.
+/// to be made again. The only error is out of memory, after which the search is not to be used.
 pub fn call_clauses<W: World<Term = Stored>>(
     search: &mut Search,
     world: &mut W,
@@ -67,7 +67,7 @@ pub fn call_clauses<W: World<Term = Stored>>(
     }
 }
 
-/// Goes on by the reply to a call whose inference was made. The only error is want of memory.
+/// Goes on by the reply to a call whose inference was made. The only error is out of memory.
 fn follow_reply(
     search: &mut Search,
     goal: Place,

@@ -31,7 +31,7 @@ use term_store::{Place, Store, Stored, View as Kind};
 use world_api::Found;
 
 /// Tries the clauses of a list for a goal before the tasks of another list, of which the first was found at the generation. Where
-/// others follow it, a choice point is made, unless there are too many. The only error is want of memory.
+/// others follow it, a choice point is made, unless there are too many. The only error is out of memory.
 pub fn first_of(
     search: &mut Search,
     goal: Place,
@@ -76,7 +76,7 @@ fn follows(found: &Option<Found<Stored>>) -> bool
 }
 
 /// Tries the clauses of a list in their order. Where others follow the first one, a choice point is made. The only error is
-/// want of memory.
+/// out of memory.
 pub fn next_of(
     search: &mut Search,
     goal: Place,

@@ -24,8 +24,8 @@ use term_store::{Place, Stored};
 use world_api::{Answer, Reply, Visit, World};
 
 /// Goes on with the clauses for the goal at a place that were not tried (ISO 7.7.8), whose choice point was taken off: those of the
-/// generation behind the clause with the place, before the tasks of a list. Asks the shared state for the next of them, and
-/// tries it. Where the visit is not served, the choice point is there again. The only error is want of memory, after which
+/// generation after the clause with the place, before the tasks of a list. Asks the shared state for the next of them, and
+/// tries it. Where the visit is not served, the choice point is there again. The only error is out of memory, after which
 /// the search is not to be used.
 pub fn retry_clauses<W: World<Term = Stored>>(
     search: &mut Search,

@@ -1,27 +1,32 @@
 -- Which goals are built-in predicates.
-use Rattle.std.proofs.Common.{◌≡◌, ℕ, suc, ◌<◌, false, List, [], ◌∷◌, length, Option, Some, None, is_some, inl, inr, codes, refl, sym, ap, subst, ◌∙◌, arith}
-use Rattle.std.proofs.lemmas.Bool.{false≢true}
+use Rattle.std.proofs.Common.{◌≡◌, ℕ, suc, ◌<◌, true, false, List, [], ◌∷◌, length, Option, Some, None, is_some, inl, inr, codes, refl, sym, ap, subst, ◌∙◌, arith}
+use Rattle.std.proofs.lemmas.Bool.{false≢true, true≢false}
 use Rattle.std.proofs.lemmas.Slice.Eq.{bytes_eq-Decides}
 use Rattle.pl_term.specs.Tree.{Chars, Tree, var, atom, count, compound, trees}
 use Rattle.pl_model.specs.Builtins.{row}
+use Rattle.pl_model.specs.History.{proc}
+use Rattle.pl_model.specs.Predicates.{proc_of}
 use Rattle.pl_model.specs.SharedBuiltins.{shared}
+use Rattle.pl_model.specs.SystemPredicates.{is_reserved, system_predicates}
 use Rattle.pl_model.specs.Terms.{arguments}
 use Rattle.pl_model.specs.Control.{construct, name_of, other}
+use Rattle.atom_api.specs.FixedNames.{call_name}
 use Rattle.term_store.specs.declared.words.Place.{Place}
 use Rattle.term_store.specs.declared.views.Arguments.{Arguments}
 use Rattle.term_store.specs.Heap.{atom_name}
 use Rattle.term_store.specs.Contents.{Contents, IsArguments, arguments_at, term_at}
 use Rattle.builtin_names.specs.declared.predicates.Pred.{Pred}
-use Rattle.builtin_names.specs.Predicates.{Kind, asks, is_asking_kind, is_row_kind, is_step_kind, kind_of, steps}
+use Rattle.builtin_names.specs.Predicates.{Kind, is_asking_kind, is_reserved_kind, is_row_kind, is_step_kind, kind_of}
 use Rattle.builtin_names.specs.Predicates as kinds
-use Rattle.builtin_names.specs.Laws.{AreTexts, TellsConstructs, TellsRows, TellsShared, goal_of, is_predicate}
+use Rattle.builtin_names.specs.Laws.{AreTexts, IsNamed, TellsConstructs, TellsReserved, TellsRows, TellsShared, goal_of, is_predicate}
 use Rattle.iso_search.specs.Reading.{IsView, View, reads}
-use Rattle.iso_search.specs.Spelling.{spelled, text_of}
+use Rattle.iso_search.specs.Spelling.{spelled, spelled_all, text_of}
 use Rattle.iso_search.proofs.Constructing.{count-trees, how_many}
 use Rattle.iso_search.proofs.Naming.{call_is, text_is}
 use Rattle.iso_search.proofs.Spelt.{count-spelled}
-use Rattle.iso_engine.specs.Calling.{TellsBuiltin}
-use Rattle.iso_engine.specs.Missing.{IsBuiltin}
+use Rattle.iso_engine.specs.declared.builtin.Builtin.{Builtin}
+use Rattle.iso_engine.specs.Builtins.{IsBuiltinAt, IsNoBuiltin, IsOther, IsSharedOrKept, builtin_alone}
+use Rattle.iso_engine.proofs.Alone.{alone_is_no_row}
 
 one_name : (a b : ℕ) → atom_name a ≡ atom_name b → a ≡ b
 one_name a b e = first a b [] [] e
@@ -33,6 +38,19 @@ one_name a b e = first a b [] [] e
 no_call : is_predicate (construct (atom (codes "call"))) ≡ false
 unfolding construct
 no_call = refl
+
+-- A name is not kept for call/0.
+call_not_kept : is_reserved (proc (codes "call") 0) ≡ false
+unfolding system_predicates
+call_not_kept = refl
+
+-- What is told of a predicate by its name and the number of its arguments.
+pub record IsTold (name arity : ℕ) (o : Option Pred) : Type 0 where
+  pub named : IsNamed name arity o
+  pub rows : TellsRows name arity o
+  pub shares : TellsShared name arity o
+  pub constructs : TellsConstructs name arity o
+  pub reserves : TellsReserved name arity o
 
 module _ (v : View) (view : IsView v) where
   abbrev pub texts : ℕ → Chars
@@ -49,50 +67,82 @@ module _ (v : View) (view : IsView v) where
       }
 
   module _ (g : Tree) (name arity : ℕ) (named : name_of g ≡ texts name) (many : count (arguments g) ≡ arity)
-      (plain : construct g ≡ other → is_predicate (construct (goal_of (texts name) (arguments g))) ≡ false) where
-    some_tells : (p : Pred) (k : Kind) → kind_of p ≡ k → TellsRows name arity (Some p) → TellsShared name arity (Some p) → TellsConstructs name arity (Some p)
-        → construct g ≡ other → IsBuiltin g
-    some_tells p kinds.row e rows shares constructs is =
-        inl (λ next. ap (λ f. is_some (row f (arguments g) next)) named ∙ rows texts are_texts (arguments g) many next ∙ ap is_row_kind e)
-    some_tells p kinds.asks e rows shares constructs is =
-        inr (ap (λ f. is_some (shared f (arguments g))) named ∙ shares texts are_texts (arguments g) many ∙ ap is_asking_kind e)
-    some_tells p kinds.steps e rows shares constructs is =
+      (plain : construct g ≡ other → is_predicate (construct (goal_of (texts name) (arguments g))) ≡ false)
+      (kept : is_reserved (proc (texts name) arity) ≡ true → is_reserved (proc_of g) ≡ true) where
+    -- A predicate that is no function of its arguments is one of the shared state, or its name is kept.
+    other_is : (p : Pred) (k : Kind) → kind_of p ≡ k → is_row_kind (kind_of p) ≡ false → TellsShared name arity (Some p) → TellsConstructs name arity (Some p)
+        → TellsReserved name arity (Some p) → construct g ≡ other → IsSharedOrKept g
+    other_is p kinds.row e no_row shares constructs reserves is = absurd (true≢false (ap is_row_kind (sym e) ∙ no_row))
+    other_is p kinds.asks e no_row shares constructs reserves is =
+        inl (ap (λ f. is_some (shared f (arguments g))) named ∙ shares texts are_texts (arguments g) many ∙ ap is_asking_kind e)
+    other_is p kinds.steps e no_row shares constructs reserves is =
         absurd (false≢true (sym (plain is) ∙ constructs texts are_texts (arguments g) many ∙ ap is_step_kind e))
+    other_is p kinds.reserved e no_row shares constructs reserves is = inr (kept (reserves texts are_texts ∙ ap is_reserved_kind e))
 
-    tells : (o : Option Pred) → TellsRows name arity o → TellsShared name arity o → TellsConstructs name arity o → TellsBuiltin g (is_some o)
-    tells None rows shares constructs =
+    none_is : TellsRows name arity None → TellsShared name arity None → IsNoBuiltin g
+    none_is rows shares =
         record {
           no_row = λ next. ap (λ f. is_some (row f (arguments g) next)) named ∙ rows texts are_texts (arguments g) many next;
           not_shared = ap (λ f. is_some (shared f (arguments g))) named ∙ shares texts are_texts (arguments g) many;
         }
-    tells (Some p) rows shares constructs = some_tells p (kind_of p) refl rows shares constructs
+
+    -- Where the goal has no arguments.
+    alone_is : arity ≡ 0 → (o : Option Pred) → IsTold name arity o → IsOther g (builtin_alone o)
+    alone_is none None told = none_is told.rows told.shares
+    alone_is none (Some p) told = other_is p (kind_of p) refl (alone_is_no_row p (sym none ∙ told.named.1)) told.shares told.constructs told.reserves
 
   -- The goal at a place
   module _ (s : Contents) (at : Place) where
-    pub variable_tells : (n : ℕ) (o : Option Pred) → term_at s at ≡ var n → TellsRows 53 0 o → TellsShared 53 0 o → TellsConstructs 53 0 o
-        → TellsBuiltin (reads v s at) (is_some o)
-    variable_tells n o is rows shares constructs =
-        let call = text_is v view 53 (codes "call") call_is
-        in subst (λ x. TellsBuiltin (spelled (text_of v.names) x) (is_some o)) (sym is)
-        (tells (var n) 53 0 (sym call) refl (λ k. ap (λ f. is_predicate (construct (atom f))) call ∙ no_call) o rows shares constructs)
+    pub variable_is : (n : ℕ) (o : Option Pred) → term_at s at ≡ var n → IsTold call_name 0 o → IsOther (reads v s at) (builtin_alone o)
+    variable_is n o is told =
+        let call = text_is v view call_name (codes "call") call_is
+        in subst (λ x. IsOther (spelled (text_of v.names) x) (builtin_alone o)) (sym is)
+        (alone_is (var n) call_name 0 (sym call) refl (λ k. ap (λ f. is_predicate (construct (atom f))) call ∙ no_call)
+        (λ k. absurd (false≢true (sym call_not_kept ∙ ap (λ f. is_reserved (proc f 0)) (sym call) ∙ k))) refl o told)
 
-    pub atom_tells : (name : ℕ) (o : Option Pred) → term_at s at ≡ atom (atom_name name) → TellsRows name 0 o → TellsShared name 0 o → TellsConstructs name 0 o
-        → TellsBuiltin (reads v s at) (is_some o)
-    atom_tells name o is rows shares constructs =
-        subst (λ x. TellsBuiltin (spelled (text_of v.names) x) (is_some o)) (sym is)
-        (tells (atom (texts name)) name 0 refl refl (λ k. ap is_predicate k) o rows shares constructs)
+    pub atom_is : (name : ℕ) (o : Option Pred) → term_at s at ≡ atom (atom_name name) → IsTold name 0 o → IsOther (reads v s at) (builtin_alone o)
+    atom_is name o is told =
+        subst (λ x. IsOther (spelled (text_of v.names) x) (builtin_alone o)) (sym is)
+        (alone_is (atom (texts name)) name 0 refl refl (λ k. ap is_predicate k) (λ k. k) refl o told)
 
-    compound_tells : (name : ℕ) (xs : List Tree) (o : Option Pred) → 0 < length xs → TellsRows name (length xs) o → TellsShared name (length xs) o
-        → TellsConstructs name (length xs) o → TellsBuiltin (spelled (text_of v.names) (compound (atom_name name) xs)) (is_some o)
-    compound_tells name [] o some rows shares constructs = absurd (omega (arith, some))
-    compound_tells name (x ∷ xs) o some rows shares constructs =
-        tells (spelled (text_of v.names) (compound (atom_name name) (x ∷ xs))) name (length (x ∷ xs)) refl
-        (ap suc (count-spelled (text_of v.names) (trees xs) ∙ count-trees xs)) (λ k. ap is_predicate k) o rows shares constructs
+    -- A goal with arguments reads as one.
+    module _ (name : ℕ) (a : Arguments) (is : term_at s at ≡ compound (atom_name name) (arguments_at s a)) (args : IsArguments s a) (some : 0 < a.count) where
+      abbrev IsOfGoals : (Tree → Type 0) → Type 0
+      IsOfGoals P =
+          (g : Tree) → name_of g ≡ texts name → count (arguments g) ≡ a.count
+          → (construct g ≡ other → is_predicate (construct (goal_of (texts name) (arguments g))) ≡ false)
+          → (is_reserved (proc (texts name) a.count) ≡ true → is_reserved (proc_of g) ≡ true) → P g
 
-    pub place_tells : (name : ℕ) (a : Arguments) (o : Option Pred) → term_at s at ≡ compound (atom_name name) (arguments_at s a) → IsArguments s a → 0 < a.count
-        → TellsRows name a.count o → TellsShared name a.count o → TellsConstructs name a.count o → TellsBuiltin (reads v s at) (is_some o)
-    place_tells name a o is args some rows shares constructs =
-        let long = how_many s a args
-        in subst (λ x. TellsBuiltin (spelled (text_of v.names) x) (is_some o)) (sym is)
-        (compound_tells name (arguments_at s a) o (omega (arith, long, some))
-        (subst (λ k. TellsRows name k o) (sym long) rows) (subst (λ k. TellsShared name k o) (sym long) shares) (subst (λ k. TellsConstructs name k o) (sym long) constructs))
+      counted : (x : Tree) (xs : List Tree) → suc (count (spelled_all (text_of v.names) (trees xs))) ≡ length (x ∷ xs)
+      counted x xs = ap suc (count-spelled (text_of v.names) (trees xs) ∙ count-trees xs)
+
+      listed : (P : Tree → Type 0) (xs : List Tree) → 0 < length xs → length xs ≡ a.count → IsOfGoals P
+          → P (spelled (text_of v.names) (compound (atom_name name) xs))
+      listed P [] more long told = absurd (omega (arith, more))
+      listed P (x ∷ xs) more long told =
+          told (spelled (text_of v.names) (compound (atom_name name) (x ∷ xs))) refl
+          (counted x xs ∙ long) (λ k. ap is_predicate k) (λ k. ap (λ n. is_reserved (proc (texts name) n)) (counted x xs ∙ long) ∙ k)
+
+      told_at : (P : Tree → Type 0) → IsOfGoals P → P (reads v s at)
+      told_at P told =
+          let long = how_many s a args
+          in subst (λ x. P (spelled (text_of v.names) x)) (sym is) (listed P (arguments_at s a) (omega (arith, long, some)) long told)
+
+      pub compound_is_none : TellsRows name a.count None → TellsShared name a.count None → IsNoBuiltin (reads v s at)
+      compound_is_none rows shares = told_at IsNoBuiltin (λ g named many plain kept. none_is g name a.count named many plain kept rows shares)
+
+      pub compound_is_other : (p : Pred) → is_row_kind (kind_of p) ≡ false → IsTold name a.count (Some p) → construct (reads v s at) ≡ other
+          → IsSharedOrKept (reads v s at)
+      compound_is_other p no_row told =
+          told_at (λ g. construct g ≡ other → IsSharedOrKept g)
+          (λ g named many plain kept.
+          other_is g name a.count named many plain kept p (kind_of p) refl no_row told.shares told.constructs told.reserves)
+
+-- What the goal at a place is that has no arguments.
+pub alone_at : (s : Contents) (at : Place) (o : Option Pred) (b : Builtin) → b ≡ builtin_alone o → ((v : View) → IsView v → IsOther (reads v s at) (builtin_alone o))
+    → IsBuiltinAt s at b
+alone_at s at o b is told = subst (IsBuiltinAt s at) (sym is) (go o told)
+  where
+    go : (p : Option Pred) → ((v : View) → IsView v → IsOther (reads v s at) (builtin_alone p)) → IsBuiltinAt s at (builtin_alone p)
+    go None h = h
+    go (Some p) h = h

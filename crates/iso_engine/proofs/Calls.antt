@@ -72,8 +72,8 @@ no_integer v s at none = go (term_at s at) refl
 -- A call asks for the clauses, once its inference is made.
 call_asks : (l : Limits) (s : State) (n : Node) (g : Tree) → IsCall g → with_other l s n g (row (name_of g) (arguments g) s.next) ≡ asks (call_clauses g) (with_clauses l resolving s g n)
 call_asks l s n g call =
-    ap (with_other l s n g) (none_is (row (name_of g) (arguments g) s.next) (call.no_row s.next))
-    ∙ ap (with_shared l s n g) (none_is (shared (name_of g) (arguments g)) call.not_shared)
+    ap (with_other l s n g) (none_is (row (name_of g) (arguments g) s.next) (call.no_builtin.no_row s.next))
+    ∙ ap (with_shared l s n g) (none_is (shared (name_of g) (arguments g)) call.no_builtin.not_shared)
 
 taken_up : (l : Limits) (s : State) (n : Node) (g : Tree) (h : ℕ) → IsCall g → nat_lt s.inferences l.inferences ≡ true
     → take_up l s n g h other ≡ asks (call_clauses g) (with_clauses l resolving (counted s) g n)
@@ -87,7 +87,7 @@ taken_up l s n g h call some = go (nat_lt s.inferences l.inferences) some
     go true e = call_asks l (counted s) n g call
     go false e = absurd (true≢false (sym e))
 
-taken_costs : (l : Limits) (s : State) (n : Node) (g : Tree) (h : ℕ) → construct g ≡ other
+pub taken_costs : (l : Limits) (s : State) (n : Node) (g : Tree) (h : ℕ) → construct g ≡ other
     → costing l s n g (λ s'. with_other l s' n g (row (name_of g) (arguments g) s'.next)) ≡ take_up l s n g h (construct g)
 unfolding take_up
 taken_costs l s n g h is = ap (take_up l s n g h) (sym is)

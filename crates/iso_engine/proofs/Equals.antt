@@ -26,7 +26,6 @@ use Rattle.iso_search.specs.Reading.{IsView, View, reads}
 use Rattle.iso_search.specs.Spelling.{spelled, text_of}
 use Rattle.iso_search.proofs.Constructing.{how_many, shape_two}
 use Rattle.iso_search.proofs.Naming.{is_named, text_is}
-use Rattle.iso_engine.specs.Missing.{is_unification}
 
 pub equal_text : fixed 16 ≡ Some (codes "=")
 unfolding fixed_texts
@@ -77,37 +76,6 @@ equal_reads v view s goal left right a is args two l r =
     equal_shape v view s goal a is args two
     ∙ ap₂ (λ x y. goal_of (spelled (text_of v.names) x) (spelled (text_of v.names) y)) (sym l) (sym r)
 
-not_equal : (a b : ℕ) → (a ≡ b → ⊥) → (a == b) ≡ false
-not_equal a b d = go (eqb_tells a b)
-  where
-    go : (((a == b) ≡ true) × (a ≡ b)) ⊎ (((a == b) ≡ false) × (a ≢ b)) → (a == b) ≡ false
-    go (inl (e, p)) = absurd (d p)
-    go (inr (e, p)) = e
-
--- Whether the goal is one.
-pub not_by_name : (v : View) → IsView v → (s : Contents) (goal : Place) (name : ℕ) (xs : List Tree) → term_at s goal ≡ compound (atom_name name) xs
-    → (name ≡ 16 → ⊥) → is_unification (reads v s goal) ≡ false
-not_by_name v view s goal name xs is differs = ap (λ t. is_unification (spelled (text_of v.names) t)) is ∙ go xs
-  where
-    named : bytes_eq (text_of v.names (atom_name name)) (codes "=") ≡ false
-    named = is_named v view name 16 (codes "=") equal_text ∙ not_equal name 16 differs
-
-    go : (ys : List Tree) → is_unification (spelled (text_of v.names) (compound (atom_name name) ys)) ≡ false
-    go [] = refl
-    go (y ∷ []) = refl
-    go (y ∷ (z ∷ [])) = named
-    go (y ∷ (z ∷ (w ∷ zs))) = refl
-
-pub not_by_count : (v : View) (s : Contents) (goal : Place) (name : Chars) (xs : List Tree) → term_at s goal ≡ compound name xs
-    → (length xs ≡ 2 → ⊥) → is_unification (reads v s goal) ≡ false
-not_by_count v s goal name xs is differs = ap (λ t. is_unification (spelled (text_of v.names) t)) is ∙ go xs differs
-  where
-    go : (ys : List Tree) → (length ys ≡ 2 → ⊥) → is_unification (spelled (text_of v.names) (compound name ys)) ≡ false
-    go [] d = refl
-    go (y ∷ []) d = refl
-    go (y ∷ (z ∷ [])) d = absurd (d refl)
-    go (y ∷ (z ∷ (w ∷ zs))) d = refl
-
 -- The steps that come of the goal.
 module _ (t : Setting) (e x : Search) (goal : Place) (a b : Tree) (rest cut : ℕ) where
   abbrev r : Place → Tree
@@ -150,10 +118,3 @@ equal_ran t e x f goal left right rest o kept ran =
 -- An inference leaves the tasks as they are.
 pub keeps_counted : (e x : Search) → (let y : Search = record e { inferences = x.inferences } in x ≡ y) → KeepsTasks e x
 keeps_counted e x kept v j le = ap (λ (y : Search). (node_of v y j).goals) kept
-
-pub ne_differs : (a b : ℕ) (r : Bool) → r ≡ not (a == b) → r ≡ true → a ≡ b → ⊥
-ne_differs a b r h is = go (eqb_tells a b)
-  where
-    go : (((a == b) ≡ true) × (a ≡ b)) ⊎ (((a == b) ≡ false) × (a ≢ b)) → a ≡ b → ⊥
-    go (inl (e, p)) same = true≢false (sym is ∙ h ∙ ap not e)
-    go (inr (e, p)) same = p same

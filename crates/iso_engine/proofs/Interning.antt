@@ -25,6 +25,7 @@ use Rattle.iso_engine.specs.Advancing.{Advances}
 use Rattle.iso_engine.specs.Asked.{AsksFor, AsksInSlice, AsksOnWay, ComesToAsk}
 use Rattle.iso_engine.specs.Calling.{IsCallAt}
 use Rattle.iso_engine.specs.Later.{view_of}
+use Rattle.iso_engine.specs.Rows.{IsRowText}
 use Rattle.iso_engine.specs.Slices.{IsStepped}
 use Rattle.iso_engine.specs.Standing.{doing_of}
 use Rattle.iso_engine.proofs.Calls.{answer_to, step_asks}
@@ -74,7 +75,7 @@ pub retry_asks_for : (m : Names) (t : Told) (e : Engine) (x : Search) (goal : Pl
     → Gains (AsksFor m t e) old new
 retry_asks_for m t e x goal g place next fails taken old new =
     gains_weaker (IsRetryAsked m t x goal g place) (AsksFor m t e) old new
-    (λ c a. inr (record {
+    (λ c a. inr (inl (record {
       fails = ap (doing_of (view_of m t) e.search) fails;
       purpose = resolving;
       goal = reads (view_of m t) x.store goal;
@@ -83,7 +84,12 @@ retry_asks_for m t e x goal g place next fails taken old new =
       older = choices_of (view_of m t) x;
       newest = taken (view_of m t);
       first = a;
-    }))
+    })))
+
+-- A built-in predicate that is a function of its arguments.
+pub row_asks_for : (m : Names) (t : Told) (e : Engine) (old new : Option (List Chars)) → Gains (λ c. (u : Told) → IsRowText m u e c) old new
+    → Gains (AsksFor m t e) old new
+row_asks_for m t e old new = gains_weaker (λ c. (u : Told) → IsRowText m u e c) (AsksFor m t e) old new (λ c text. inr (inr (text t)))
 
 -- The engine's work was taken out and put back.
 pub asked_again : (m : Names) (t : Told) (e : Engine) (d : Doing) (old new : Option (List Chars)) → e.doing ≡ d

@@ -1,4 +1,5 @@
 pub mod Alike
+pub mod Alone
 pub mod Answered
 pub mod Arms
 pub mod Beginning
@@ -24,6 +25,8 @@ pub mod Places
 pub mod Procedures
 pub mod Reading
 pub mod Retries
+pub mod RowSteps
+pub mod RowTaken
 pub mod Solutions
 pub mod Spending
 pub mod Stability

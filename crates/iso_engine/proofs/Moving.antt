@@ -1,4 +1,4 @@
--- What an engine comes to by a step behind entries of others, or by a request.
+-- What an engine comes to by a step after entries of others, or by a request.
 use Rattle.std.proofs.Common.{◌≡◌, ◌+◌, List, [], ◌++◌, Option, None, refl, sym, ap, ap₂, subst, ◌∙◌, arith, append-nil, append_assoc}
 use Rattle.pl_term.specs.Tree.{Chars}
 use Rattle.pl_model.specs.History.{History}
@@ -52,7 +52,7 @@ module _ (m n : Names) (t u : Told) (e f : Engine) (holds : Holds m n) (view : I
     pub seen_ready : IsReady n u e
     seen_ready = ready_later m n t u e view seen_later (visits_same t u (ap (λ (x : Told). x.gens) told)) ready
 
-    -- A step was made behind them.
+    -- A step was made after them.
     pub seen_moved : StepsFrom n u e.wanted e.given e.search e.doing f.search f.doing → f.search.budgets ≡ e.search.budgets → f.wanted ≡ e.wanted
         → f.given ≡ e.given → IsWhole f.search → IsMoved
     seen_moved steps budgets wanted given whole = (

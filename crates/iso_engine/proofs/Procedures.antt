@@ -14,7 +14,7 @@ use Rattle.iso_search.proofs.Constructing.{count-trees, how_many}
 use Rattle.iso_search.proofs.Naming.{call_is, text_is}
 use Rattle.iso_search.proofs.Spelt.{count-spelled}
 
-abbrev proc_as : View → ℕ → ℕ → Proc
+abbrev pub proc_as : View → ℕ → ℕ → Proc
 proc_as v name arity = record { name = text_of v.names (atom_name name); arity = arity }
 
 pub variable_proc : (v : View) → IsView v → (s : Contents) (goal : Place) (n : ℕ) → term_at s goal ≡ var n → proc_of (reads v s goal) ≡ proc_as v 53 1

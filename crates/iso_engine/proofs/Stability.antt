@@ -136,7 +136,7 @@ count-append [] ys = omega arith
 count-append (text t ∷ xs) ys = count-append xs ys
 count-append (solution ops ts ∷ xs) ys = ap suc (count-append xs ys) ∙ (let n : suc (solution_count xs + solution_count ys) ≡ suc (solution_count xs) + solution_count ys = omega arith in n)
 
--- One walk behind another.
+-- One walk after another.
 pub advance_then : (k j : ℕ) (m n r : Names) (t u w : Told) (e f g : Engine) (xs ys : List Output)
     → Advances k m t e n u f xs
     → Advances j n u f r w g ys

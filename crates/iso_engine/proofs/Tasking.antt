@@ -117,7 +117,7 @@ module _ (m : Names) (t : Told) (e : Engine) (list next : ℕ) (doing : e.doing 
   name_of_task (Leave h) p first f = (f.0, stands p.name f.0 f.1)
   name_of_task (Collect w h) p first f = (f.0, stands p.name f.0 f.1)
 
-  task_is_missing : (x : Task) (p : Procedure) → tasks e.search.frames.items list ≡ x ∷ tasks e.search.frames.items next → IsMissingTask e.search.store x p → IsMissing m t e p
+  pub task_is_missing : (x : Task) (p : Procedure) → tasks e.search.frames.items list ≡ x ∷ tasks e.search.frames.items next → IsMissingTask e.search.store x p → IsMissing m t e p
   task_is_missing x p first missing =
       let named = name_of_task x p first missing.named
       in record {

@@ -8,7 +8,7 @@ use Rattle.pl_model.specs.Control.{construct, other}
 use Rattle.atom_api.specs.Fixed.{fixed, fixed_texts}
 use Rattle.world_api.specs.declared.visit.Procedure.{Procedure}
 use Rattle.term_store.specs.declared.words.Place.{Place}
-use Rattle.term_store.specs.Contents.{Contents}
+use Rattle.term_store.specs.Contents.{Contents, Holds}
 use Rattle.iso_search.specs.declared.frames.Task.{Task}
 use Rattle.iso_search.specs.declared.frames.Task.TheVariants.{Goal, Commit, Refute, Leave, Collect}
 use Rattle.iso_search.specs.declared.construct.Construct.{Construct}
@@ -20,46 +20,50 @@ use Rattle.iso_search.specs.Reading.{IsView, View, reads}
 use Rattle.iso_search.specs.Spelling.{spelled, text_of}
 use Rattle.iso_search.proofs.Naming.{call_is, text_is}
 use Rattle.iso_engine.specs.Following.{HasProcedure, IsInteger}
-use Rattle.iso_engine.specs.Calling.{IsCallAt, TellsBuiltin, is_other_kind}
-use Rattle.iso_engine.specs.Missing.{IsBuiltin, IsCall, IsUnbuilt, is_integer, is_unification}
+use Rattle.iso_engine.specs.declared.builtin.Builtin.{Builtin}
+use Rattle.iso_engine.specs.declared.builtin.Builtin.TheVariants.{Row as RowBuiltin, Other as OtherBuiltin, No}
+use Rattle.iso_engine.specs.declared.builtin.RowGoal.{RowGoal}
+use Rattle.iso_engine.specs.Builtins.{IsBuiltinAt, IsSharedOrKept}
+use Rattle.iso_engine.specs.Calling.{IsCallAt, is_other_kind}
+use Rattle.iso_engine.specs.Missing.{IsUnbuilt, is_integer}
 use Rattle.iso_search.specs.declared.search.Search.{Search}
 use Rattle.iso_engine.specs.declared.running.Did.{Did}
-use Rattle.iso_engine.specs.declared.running.Did.TheVariants.{Next as NextDid, Call as CallDid, Write as WriteDid, Missing as MissingDid}
+use Rattle.iso_engine.specs.declared.running.Did.TheVariants.{Next as NextDid, Call as CallDid, Row as RowDid, Write as WriteDid, Missing as MissingDid}
 use Rattle.iso_engine.specs.Writes.{IsWriteAt, is_write_kind}
 use Rattle.iso_output.specs.Goals.{is_output}
 use Rattle.iso_engine.specs.Tasks.{IsDone, IsForOthers, IsLeftOver, IsMissingTask}
 
-left : (v : View) (s : Contents) (k : Construct) (g : Tree) → IsLeft k → is_unification g ≡ false → (is_other_kind k ≡ true → IsBuiltin g) → is_write_kind k ≡ false → IsUnbuilt g (construction v s k)
-left v s Succeeds g h e built none = absurd h
-left v s Cuts g h e built none = absurd h
-left v s (Conjunction t u) g h e built none = absurd h
-left v s (Disjunction t u) g h e built none = absurd h
-left v s (IfThen c t) g h e built none = absurd h
-left v s (IfThenElse c t u) g h e built none = absurd h
-left v s Fails g h e built none = absurd h
-left v s Repeats g h e built none = absurd h
-left v s (Calls t a) g h e built none = absurd h
-left v s (NotProvable t) g h e built none = absurd h
-left v s (Once t) g h e built none = absurd h
-left v s (Catches t c r) g h e built none = absurd h
-left v s (Throws t) g h e built none = absurd h
-left v s (FindsAll x t l) g h e built none = tt
-left v s (Halts t) g h e built none = absurd h
-left v s HaltsWithZero g h e built none = absurd h
-left v s (Exits t) g h e built none = tt
-left v s (Inspects t b) g h e built none = tt
-left v s (Retracts t) g h e built none = tt
-left v s (Clears t) g h e built none = tt
-left v s (Writes t) g h e built none = absurd (true≢false none)
-left v s (WritesQuoted t) g h e built none = absurd (true≢false none)
-left v s (WritesCanonical t) g h e built none = absurd (true≢false none)
-left v s WritesNewline g h e built none = absurd (true≢false none)
-left v s (Puts t) g h e built none = absurd (true≢false none)
-left v s Other g h e built none = (e, built refl)
+left : (v : View) (s : Contents) (k : Construct) (g : Tree) → IsLeft k → (is_other_kind k ≡ true → IsSharedOrKept g) → is_write_kind k ≡ false → IsUnbuilt g (construction v s k)
+left v s Succeeds g h built none = absurd h
+left v s Cuts g h built none = absurd h
+left v s (Conjunction t u) g h built none = absurd h
+left v s (Disjunction t u) g h built none = absurd h
+left v s (IfThen c t) g h built none = absurd h
+left v s (IfThenElse c t u) g h built none = absurd h
+left v s Fails g h built none = absurd h
+left v s Repeats g h built none = absurd h
+left v s (Calls t a) g h built none = absurd h
+left v s (NotProvable t) g h built none = absurd h
+left v s (Once t) g h built none = absurd h
+left v s (Catches t c r) g h built none = absurd h
+left v s (Throws t) g h built none = absurd h
+left v s (FindsAll x t l) g h built none = tt
+left v s (Halts t) g h built none = absurd h
+left v s HaltsWithZero g h built none = absurd h
+left v s (Exits t) g h built none = tt
+left v s (Inspects t b) g h built none = tt
+left v s (Retracts t) g h built none = tt
+left v s (Clears t) g h built none = tt
+left v s (Writes t) g h built none = absurd (true≢false none)
+left v s (WritesQuoted t) g h built none = absurd (true≢false none)
+left v s (WritesCanonical t) g h built none = absurd (true≢false none)
+left v s WritesNewline g h built none = absurd (true≢false none)
+left v s (Puts t) g h built none = absurd (true≢false none)
+left v s Other g h built none = inr (built refl)
 
-pub left_unbuilt : (v : View) (s : Contents) (k : Construct) (g : Tree) → construction v s k ≡ construct g → IsLeft k → is_unification g ≡ false → (is_other_kind k ≡ true → IsBuiltin g)
+pub left_unbuilt : (v : View) (s : Contents) (k : Construct) (g : Tree) → construction v s k ≡ construct g → IsLeft k → (is_other_kind k ≡ true → IsSharedOrKept g)
     → is_write_kind k ≡ false → IsUnbuilt g (construct g)
-left_unbuilt v s k g is h e built none = subst (IsUnbuilt g) is (left v s k g h e built none)
+left_unbuilt v s k g is h built none = subst (IsUnbuilt g) is (left v s k g h built none)
 
 -- A goal that is no other one.
 pub other_is : (v : View) (s : Contents) (k : Construct) (g : Tree) → construction v s k ≡ construct g → is_other_kind k ≡ true → construct g ≡ other
@@ -122,15 +126,6 @@ output_is v s Other e = absurd (false≢true e)
 pub writes_is : (v : View) (s : Contents) (k : Construct) (g : Tree) → construction v s k ≡ construct g → is_write_kind k ≡ true → is_output (construct g) ≡ true
 writes_is v s k g is e = ap is_output (sym is) ∙ output_is v s k e
 
--- A goal of another kind is a built-in predicate, or a call.
-pub builtin_by : (g : Tree) (b : Bool) → TellsBuiltin g b → b ≡ true → construct g ≡ other → IsBuiltin g
-builtin_by g true told e is = told is
-builtin_by g false told e is = absurd (false≢true e)
-
-pub call_by : (g : Tree) (b : Bool) → TellsBuiltin g b → b ≡ false → construct g ≡ other → IsCall g
-call_by g true told e is = absurd (true≢false e)
-call_by g false told e is = record { construct_is = is; no_row = told.no_row; not_shared = told.not_shared }
-
 -- An integer is no goal.
 pub integer_reads : (v : View) (s : Contents) (goal : Place) → IsInteger s goal → is_integer (reads v s goal) ≡ true
 integer_reads v s goal i = ap (λ t. is_integer (spelled (text_of v.names) t)) i.1
@@ -153,32 +148,43 @@ pub goal_missing : (s : Contents) (w : Place) (p : Procedure) → HasProcedure s
 goal_missing s w p is unbuilt cut =
     record { unbuilt = λ v view. inr (unbuilt v view, sym (is (set_by v) view)); named = inr is }
 
--- A built-in predicate that is no step of the search.
-pub builtin_missing : (s : Contents) (w : Place) (p : Procedure) (k : Construct) (a b : Bool) → HasProcedure s w p
-    → ((v : View) → IsView v → construction v s k ≡ construct (reads v s w))
-    → ((v : View) → IsView v → is_unification (reads v s w) ≡ false)
-    → a ≡ is_other_kind k → a ≡ true
-    → ((v : View) → IsView v → TellsBuiltin (reads v s w) b) → b ≡ true
-    → IsLeftOver s w (MissingDid p)
-builtin_missing s w p k a b is stands apart other_as kind tells built =
-    goal_missing s w p is
-    (λ v view.
-    let g = reads v s w
-    in let no_construct = other_is v s k g (stands v view) (sym other_as ∙ kind)
-    in subst (IsUnbuilt g) (sym no_construct) (apart v view, builtin_by g b (tells v view) built no_construct))
+-- A goal that is no control construct, and no step of the search of its own: another built-in predicate, a function of its
+-- arguments, or a call.
+module _ (s : Contents) (w : Place) (p : Procedure) (k : Construct) (a : Bool) (is : HasProcedure s w p)
+    (stands : (v : View) → IsView v → construction v s k ≡ construct (reads v s w)) (other_as : a ≡ is_other_kind k) where
+  pub is_other_at : a ≡ true → (v : View) → IsView v → construct (reads v s w) ≡ other
+  is_other_at kind v view = other_is v s k (reads v s w) (stands v view) (sym other_as ∙ kind)
 
--- A goal of another kind.
-pub kind_missing : (s : Contents) (w : Place) (p : Procedure) (k : Construct) (a b : Bool) → HasProcedure s w p
-    → ((v : View) → IsView v → construction v s k ≡ construct (reads v s w))
-    → IsLeft k
-    → ((v : View) → IsView v → is_unification (reads v s w) ≡ false)
-    → a ≡ is_other_kind k → a ≡ false
-    → b ≡ is_write_kind k → b ≡ false
-    → IsLeftOver s w (MissingDid p)
-kind_missing s w p k a b is stands kept apart other_as kind write_as write =
-    goal_missing s w p is
-    (λ v view.
-    left_unbuilt v s k (reads v s w) (stands v view) kept (apart v view) (λ e. absurd (true≢false (sym e ∙ sym other_as ∙ kind))) (sym write_as ∙ write))
+  pub left_other : (b : Builtin) → a ≡ true → IsBuiltinAt s w b → b ≡ OtherBuiltin → IsLeftOver s w (MissingDid p)
+  left_other b kind told same =
+      let other_at = subst (IsBuiltinAt s w) same told
+      in goal_missing s w p is
+      (λ v view. subst (IsUnbuilt (reads v s w)) (sym (is_other_at kind v view)) (inr (other_at v view (is_other_at kind v view))))
+
+  pub left_row : (b : Builtin) (r : RowGoal) → a ≡ true → IsBuiltinAt s w b → b ≡ RowBuiltin r → IsLeftOver s w (RowDid r)
+  left_row b r kind told row =
+      let at = subst (IsBuiltinAt s w) row told
+      in (at.0, record { goal_is = at.1; other_is = λ v view. ap (λ x. construct (reads v s x)) at.0 ∙ is_other_at kind v view })
+
+  pub left_call : (b : Builtin) → Holds s w → (IsInteger s w → ⊥) → a ≡ true → IsBuiltinAt s w b → b ≡ No → IsLeftOver s w (CallDid w p)
+  left_call b holds callable kind told none =
+      let at = subst (IsBuiltinAt s w) none told
+      in (
+        refl,
+        record {
+          holds = holds;
+          callable = callable;
+          procedure = is;
+          calls = λ v view. record { construct_is = is_other_at kind v view; no_builtin = at v view };
+        },
+      )
+
+  -- A goal of another kind.
+  pub kind_missing : (b : Bool) → IsLeft k → a ≡ false → b ≡ is_write_kind k → b ≡ false → IsLeftOver s w (MissingDid p)
+  kind_missing b kept kind write_as write =
+      goal_missing s w p is
+      (λ v view.
+      left_unbuilt v s k (reads v s w) (stands v view) kept (λ e. absurd (true≢false (sym e ∙ sym other_as ∙ kind))) (sym write_as ∙ write))
 
 -- An integer is refused as call/1 refuses it.
 pub integer_missing : (s : Contents) (w : Place) (cut : ℕ) → IsInteger s w → IsMissingTask s (Goal w cut) (fixed_proc 53 1)
@@ -209,6 +215,8 @@ left_is : (e : Search) (w : Place) (cut rest : ℕ) (d : Did) → IsLeftOver e.s
 left_is e w cut rest (NextDid d) h = absurd h
 left_is e w cut rest (CallDid x p) h =
     (refl, (cut, ap (λ y. Goal y cut) (sym h.0)), subst (λ y. IsCallAt e.store y p) (sym h.0) h.1)
+left_is e w cut rest (RowDid r) h =
+    (refl, (cut, ap (λ y. Goal y cut) (sym h.0)), h.1)
 left_is e w cut rest (WriteDid x p) h =
     (refl, (cut, ap (λ y. Goal y cut) (sym h.0)), subst (λ y. IsWriteAt e.store y p) (sym h.0) h.1)
 left_is e w cut rest (MissingDid p) h = (refl, h cut)

@@ -72,7 +72,7 @@ module _ (m n : Names) (t u : Told) (e f : Engine) (at : Place) (p : Procedure) 
   known : (v : View) → IsAlike n u v → Holds m v.names
   known v alike a x h = alike.holds a x (holds a x h)
 
-  -- The engine has come a step further, and what was written was put behind what was there.
+  -- The engine has come a step further, and what was written was put after what was there.
   abbrev pub IsWritten : List ℕ → List ℕ → Type 0
   IsWritten a b = (more : List Output) × IsMovedBy m t e n u f more × (b ≡ a ++ encode_utf8_all (written_text more))
 

@@ -16,9 +16,10 @@ use Rattle.iso_engine.specs.declared.slices.Slice.TheVariants.{Memory}
 use Rattle.iso_engine.specs.Advancing.{Advances}
 use Rattle.iso_engine.specs.Asking.{IsAsking}
 use Rattle.iso_engine.specs.Later.{view_of}
+use Rattle.iso_engine.specs.Rows.{IsRowText}
 use Rattle.iso_engine.specs.Standing.{doing_of}
 
--- The engine's next step makes a request, and the text is one of what is handed of the reply to it behind entries of others.
+-- The engine's next step makes a request, and the text is one of what is handed of the reply to it after entries of others.
 pub record IsAnswerText (m : Names) (t : Told) (e : Engine) (c : Chars) : Type 0 where
   pub request : Request
   pub asking : IsAsking m t e request
@@ -39,7 +40,7 @@ pub record IsClauseText (m : Names) (t : Told) (e : Engine) (c : Chars) : Type 0
 
 -- The engine's next step asks for the text.
 abbrev pub AsksFor : Names → Told → Engine → Chars → Type 0
-AsksFor m t e c = IsAnswerText m t e c ⊎ IsClauseText m t e c
+AsksFor m t e c = IsAnswerText m t e c ⊎ (IsClauseText m t e c ⊎ IsRowText m t e c)
 
 -- The engine comes to where its next step asks for the text.
 pub record ComesToAsk (m : Names) (t : Told) (e : Engine) (c : Chars) : Type 0 where
@@ -58,7 +59,7 @@ pub record AsksOnWay (m : Names) (t : Told) (e : Engine) (n : Names) (u : Told) 
   pub written : List Output
   pub advances : Advances steps there.names there.told there.engine n u f written
 
--- In a slice it comes there on the way to the last state, of which nothing is said after want of memory.
+-- In a slice it comes there on the way to the last state, of which nothing is said after running out of memory.
 abbrev pub AsksInSlice : Slice → Names → Told → Engine → Names → Told → Engine → Chars → Type 0
 AsksInSlice Memory m t e n u f c = ComesToAsk m t e c
 AsksInSlice s m t e n u f c = AsksOnWay m t e n u f c

@@ -19,7 +19,7 @@ pub record IsAsking (m : Names) (t : Told) (e : Engine) (q : Request) : Type 0 w
   pub asks_is : (stays : Option Chars) (written : List Output) (count : solution_count written ≡ e.given)
       → step (limits_of stays e) (state_now (view_of m t) e written) ≡ asks q (follows stays written count)
 
--- Its request was answered behind all entries, and it is now in the state that the reply leads to.
+-- Its request was answered after all entries, and it is now in the state that the reply leads to.
 pub record IsAnswered (m : Names) (t : Told) (e : Engine) (n : Names) (u : Told) (f : Engine) (more : List Output) : Type 0 where
   pub before : History
   pub request : Request

@@ -1,11 +1,7 @@
 -- Calls of the program's clauses.
-use Rattle.std.specs.Prelude.{◌≡◌, ℕ, Bool, true, false, is_some}
+use Rattle.std.specs.Prelude.{◌≡◌, Bool, true, false}
 use Rattle.pl_term.specs.Tree.{Tree}
 use Rattle.pl_model.specs.Balls.{error_ball}
-use Rattle.pl_model.specs.Builtins.{row}
-use Rattle.pl_model.specs.SharedBuiltins.{shared}
-use Rattle.pl_model.specs.Terms.{arguments}
-use Rattle.pl_model.specs.Control.{construct, name_of, other}
 use Rattle.term_store.specs.declared.words.Place.{Place}
 use Rattle.term_store.specs.Contents.{Contents, Holds}
 use Rattle.term_store.specs.Heap.{atom_name}
@@ -15,18 +11,9 @@ use Rattle.iso_search.specs.declared.construct.Construct.TheVariants.{Other}
 use Rattle.iso_search.specs.Reading.{IsView, View, reads}
 use Rattle.iso_search.specs.Spelling.{spelled, text_of}
 use Rattle.iso_engine.specs.Following.{HasProcedure, IsInteger}
-use Rattle.iso_engine.specs.Missing.{IsBuiltin, IsCall}
+use Rattle.iso_engine.specs.Missing.{IsCall}
 
--- It is no built-in predicate.
-pub record IsNoBuiltin (g : Tree) : Type 0 where
-  pub no_row : (next : ℕ) → is_some (row (name_of g) (arguments g) next) ≡ false
-  pub not_shared : is_some (shared (name_of g) (arguments g)) ≡ false
-
--- A goal that is no control construct, and no step of the search of its own, is a built-in predicate or not.
-abbrev pub TellsBuiltin : Tree → Bool → Type 0
-TellsBuiltin g true = construct g ≡ other → IsBuiltin g
-TellsBuiltin g false = IsNoBuiltin g
-
+-- A goal that is no control construct, and no step of the search of its own.
 abbrev pub is_other_kind : Construct → Bool
 is_other_kind Other = true
 is_other_kind _ = false

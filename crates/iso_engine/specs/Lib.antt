@@ -1,6 +1,7 @@
 pub mod Advancing
 pub mod Asked
 pub mod Asking
+pub mod Builtins
 pub mod Calling
 pub mod Failing
 pub mod Finding
@@ -10,6 +11,7 @@ pub mod Looking
 pub mod Missing
 pub mod Ready
 pub mod Retrying
+pub mod Rows
 pub mod Slices
 pub mod Spending
 pub mod Standing

@@ -12,7 +12,7 @@ use Rattle.world_api.specs.Answers.{seen_as}
 use Rattle.iso_engine.specs.declared.slices.Slice.{Slice}
 use Rattle.iso_engine.specs.declared.slices.Slice.TheVariants.{NeedsAtoms, Retry, Worn, Waits, Memory}
 
--- The operators that stand behind all entries.
+-- The operators that stand after all entries.
 pub record Looks (t : Told) (ops : OperatorTable) (u : Told) : Type 0 where
   pub before : History
   pub quotes : Quotes
@@ -21,7 +21,7 @@ pub record Looks (t : Told) (ops : OperatorTable) (u : Told) : Type 0 where
   pub served : served_now t.engine t.goals before look ≡ answers (standing ops quotes) update
   pub told : u ≡ seen_as t (before ++ entry_by t.engine update) (t.gens ++ length before ∷ [])
 
--- The request waits behind all entries.
+-- The request waits after all entries.
 pub record WaitsThere (t : Told) (q : Request) (g : ℕ) (u : Told) : Type 0 where
   pub before : History
   pub entries : Follows t.engine t.history before
@@ -57,7 +57,7 @@ abbrev pub stopped_refusals : Option Slice → List Refusal
 stopped_refusals None = []
 stopped_refusals (Some s) = refusals_of s
 
--- The list of refusals has grown by that of the answer. After want of memory nothing is said.
+-- The list of refusals has grown by that of the answer. After running out of memory nothing is said.
 abbrev pub IsRefusedBy : Slice → List Refusal → List Refusal → Type 0
 IsRefusedBy Memory xs ys = Unit {0}
 IsRefusedBy s xs ys = ys ≡ xs ++ refusals_of s

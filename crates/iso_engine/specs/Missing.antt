@@ -1,10 +1,8 @@
 -- What is not built yet.
-use Rattle.std.specs.Prelude.{◌≡◌, ℕ, List, [], ◌∷◌, ◌⊎◌, Some, true, false, bytes_eq, codes, Bool, is_some}
-use Rattle.pl_term.specs.Tree.{Chars, Tree, int, comp, none, more}
+use Rattle.std.specs.Prelude.{◌≡◌, List, [], ◌∷◌, ◌⊎◌, Some, true, false, codes, Bool}
+use Rattle.pl_term.specs.Tree.{Chars, Tree, int, count}
 use Rattle.pl_model.specs.History.{Proc, proc}
 use Rattle.pl_model.specs.Predicates.{proc_of}
-use Rattle.pl_model.specs.Builtins.{row}
-use Rattle.pl_model.specs.SharedBuiltins.{shared}
 use Rattle.pl_model.specs.Terms.{arguments}
 use Rattle.pl_model.specs.Resolution.{Pending, goal, commit, refute, leave, collect, running, failing, throwing, erasing, clearing, answering, ended}
 use Rattle.pl_model.specs.Resolution as resolution
@@ -12,28 +10,19 @@ use Rattle.pl_model.specs.Control.{Construct, succeeds, cuts, conjunction, disju
 use Rattle.atom_api.specs.Names.{Names}
 use Rattle.world_api.specs.declared.visit.Procedure.{Procedure}
 use Rattle.world_api.specs.Told.{Told}
+use Rattle.builtin_dispatch.specs.Unbuilt.{is_unbuilt_row}
 use Rattle.iso_engine.specs.declared.engine.Engine.{Engine}
+use Rattle.iso_engine.specs.Builtins.{IsNoBuiltin, IsSharedOrKept}
 use Rattle.iso_engine.specs.Later.{view_of}
 use Rattle.iso_engine.specs.Standing.{doing_of}
-
--- Term unification (ISO 8.2.1).
-abbrev pub is_unification : Tree → Bool
-is_unification (comp f t (more u none)) = bytes_eq f (codes "=")
-is_unification _ = false
-
--- The goal is a built-in predicate: one of its arguments alone, whatever the next number of a variable is, or one of the
--- shared state.
-abbrev pub IsBuiltin : Tree → Type 0
-IsBuiltin g = ((next : ℕ) → is_some (row (name_of g) (arguments g) next) ≡ true) ⊎ (is_some (shared (name_of g) (arguments g)) ≡ true)
 
 -- The goal calls the program's clauses: it is no control construct, and no built-in predicate.
 pub record IsCall (g : Tree) : Type 0 where
   pub construct_is : construct g ≡ other
-  pub no_row : (next : ℕ) → is_some (row (name_of g) (arguments g) next) ≡ false
-  pub not_shared : is_some (shared (name_of g) (arguments g)) ≡ false
+  pub no_builtin : IsNoBuiltin g
 
--- Goals that are no control constructs, of which those that are no steps of the search of their own are built-in predicates,
--- but for term unification.
+-- Goals that are no control constructs, of which those that are no steps of the search of their own are predicates of their
+-- arguments that are not built, or predicates of the shared state, or have a name that is kept.
 abbrev pub IsUnbuilt : Tree → Construct → Type 0
 IsUnbuilt g succeeds = ⊥
 IsUnbuilt g cuts = ⊥
@@ -52,7 +41,7 @@ IsUnbuilt g (halts t) = ⊥
 IsUnbuilt g (writes t) = ⊥
 IsUnbuilt g (prints t) = ⊥
 IsUnbuilt g (puts t) = ⊥
-IsUnbuilt g other = (is_unification g ≡ false) × IsBuiltin g
+IsUnbuilt g other = (is_unbuilt_row (name_of g) (count (arguments g)) ≡ true) ⊎ IsSharedOrKept g
 IsUnbuilt g _ = Unit {0}
 
 abbrev pub is_integer : Tree → Bool

@@ -17,7 +17,7 @@ use Rattle.iso_engine.specs.Later.{view_of}
 use Rattle.iso_engine.specs.Missing.{is_integer}
 use Rattle.iso_engine.specs.Standing.{doing_of, state_at}
 
--- The list of the goal's clauses at the generation may be gone on with behind the place: the generation is one of the engine's
+-- The list of the goal's clauses at the generation may be gone on with after the place: the generation is one of the engine's
 -- visits, and the clause with the place is in the list. No integer has clauses.
 pub record MayGoOn (t : Told) (goal : Tree) (g place : ℕ) : Type 0 where
   pub callable : is_integer goal ≡ false

@@ -1,51 +1,84 @@
 //! Which goals are built-in predicates.
 ghost use Rattle.std.specs.Prelude.{◌≡◌};
 ghost use Rattle.term_store.specs.Contents.{Holds};
-ghost use Rattle.iso_search.specs.Reading.{IsView, View, reads};
+ghost use Rattle.iso_engine.specs.Builtins.{IsBuiltinAt, builtin_alone};
 ghost use Rattle.iso_engine.specs.Following.{IsInteger};
-ghost use Rattle.iso_engine.specs.Calling.{TellsBuiltin, is_other_kind};
-ghost use Rattle.iso_engine.specs.Writes.{is_write_kind};
 
-use atom_api::fixed;
-use builtin_names::predicate_of;
-use iso_search::construct::Construct;
-use term_store::{Place, Store, View as Kind};
+use crate::kinds::is_row;
+use atom_api::{Atom, fixed};
+use builtin_names::{Pred, predicate_of};
+use term_store::{Arguments, Place, Store, View as Kind};
+use world_api::Procedure;
 
-/// Whether the goal at a place, which is no control construct, is a built-in predicate. A variable stands for
-/// `call/1`, whose argument is no argument of the goal.
-pub fn is_builtin(store: &Store, goal: Place) -> bool
+/// A goal of a built-in predicate that is a function of its arguments: where it stands, which predicate it is, by its name too,
+/// and where its arguments are.
+#[derive(Clone, Copy, Debug, Drop)]
+pub struct RowGoal {
+    pub place: Place,
+    pub pred: Pred,
+    pub name: Atom,
+    pub arguments: Arguments,
+}
+
+impl RowGoal {
+    /// The predicate by its name and the number of its arguments.
+    pub fn procedure(&self) -> Procedure
+        ensures { result ≡ record { name = self.now.name; arity = self.now.arguments.count } }
+    {
+        Procedure {
+            name: self.name,
+            arity: self.arguments.len() as u64,
+        }
+    }
+}
+
+/// What a goal is that is no control construct.
+#[derive(Clone, Copy, Debug, Drop)]
+pub enum Builtin {
+    /// A built-in predicate that is a function of its arguments.
+    Row(RowGoal),
+    /// A built-in predicate of the shared state, or a name that is kept for one that has no meaning yet.
+    Other,
+    /// No built-in predicate: it calls the program's clauses.
+    No,
+}
+
+/// What the goal at a place is, where it is no control construct. A variable stands for `call/1`, whose argument is no
+/// argument of the goal.
+pub fn builtin_at(store: &Store, goal: Place) -> Builtin
     requires holds { Holds store.now goal }
     requires callable { IsInteger store.now goal → ⊥ }
-    ensures { (v : View) → IsView v → TellsBuiltin (reads v store.now goal) result }
+    ensures { IsBuiltinAt store.now goal result }
 {
     match store.look(goal) {
-        Kind::Variable(_) => predicate_of(fixed::CALL, 0).is_some(),
+        Kind::Variable(_) => alone(predicate_of(fixed::CALL, 0)),
         Kind::Integer(_) => unreachable!(),
-        Kind::Atom(name) => predicate_of(name, 0).is_some(),
-        Kind::Compound(name, arguments) => predicate_of(name, arguments.len()).is_some(),
+        Kind::Atom(name) => alone(predicate_of(name, 0)),
+        Kind::Compound(name, arguments) => match predicate_of(name, arguments.len()) {
+            None => Builtin::No,
+            Some(pred) => {
+                if is_row(pred) {
+                    Builtin::Row(RowGoal {
+                        place: goal,
+                        pred,
+                        name,
+                        arguments,
+                    })
+                } else {
+                    Builtin::Other
+                }
+            }
+        },
     }
 }
 
-/// Whether a goal of this kind is neither a control construct nor a predicate that is a step of the search.
-pub fn is_other(kind: Construct) -> bool
-    ensures { result ≡ is_other_kind kind }
+/// What a goal without arguments is, by the predicate with its name. All predicates that are functions of their arguments have
+/// some.
+fn alone(found: Option<Pred>) -> Builtin
+    ensures { result ≡ builtin_alone found }
 {
-    match kind {
-        Construct::Other => true,
-        _ => false,
-    }
-}
-
-/// Whether a goal of this kind writes.
-pub fn is_write(kind: Construct) -> bool
-    ensures { result ≡ is_write_kind kind }
-{
-    match kind {
-        Construct::Writes(_) => true,
-        Construct::WritesQuoted(_) => true,
-        Construct::WritesCanonical(_) => true,
-        Construct::WritesNewline => true,
-        Construct::Puts(_) => true,
-        _ => false,
+    match found {
+        None => Builtin::No,
+        Some(_) => Builtin::Other,
     }
 }

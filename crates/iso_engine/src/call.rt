@@ -26,7 +26,7 @@ use world_api::{Procedure, World};
 
 impl Engine {
     /// Calls the program's clauses for the goal at a place, which has this predicate, before the tasks of a list (ISO 7.7.10). The
-    /// only error is want of memory.
+    /// only error is out of memory.
     pub fn call<W: World<Term = Stored>>(
         &mut self,
         goal: Place,

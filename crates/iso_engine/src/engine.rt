@@ -4,7 +4,7 @@ use iso_search::search::Search;
 use std::alloc::Global;
 
 /// An engine: the search for the solutions of one goal, what it does next, how many solutions are wanted and how many it
-/// gave, and whether memory was wanting.
+/// gave, and whether memory ran out.
 #[derive(Drop)]
 pub struct Engine {
     pub search: Search,

@@ -1,10 +1,8 @@
 //! Term unification (ISO 8.2.1).
-ghost use Rattle.std.specs.Prelude.{◌≡◌, ◌≤◌, ℕ, ◌∷◌, false, length, IfOk, MatchOption, OnOk};
+ghost use Rattle.std.specs.Prelude.{◌≡◌, ◌≤◌, ℕ, ◌∷◌, false, length, IfOk, IfSome, OnOk};
 ghost use Rattle.pl_term.specs.Tree.{compound};
 ghost use Rattle.term_store.specs.Contents.{Holds, IsArguments, arguments_at, term_at};
 ghost use Rattle.term_store.specs.Heap.{atom_name};
-ghost use Rattle.iso_search.specs.Reading.{IsView, View, reads};
-ghost use Rattle.iso_engine.specs.Missing.{is_unification};
 ghost use Rattle.iso_search.specs.Frames.{tasks};
 ghost use Rattle.iso_search.specs.Searching.{IsWhole};
 ghost use Rattle.iso_search.specs.declared.frames.Task.TheVariants.{Goal};
@@ -21,7 +19,7 @@ use std::alloc::Global;
 use term_store::{Arguments, Place, Store, View as Kind};
 use world_api::Procedure;
 
-/// Takes up the goal `=` of these two arguments. The only error is want of memory.
+/// Takes up the goal `=` of these two arguments. The only error is out of memory.
 pub fn equal(
     alloc: Global,
     search: &mut Search,
@@ -63,8 +61,7 @@ pub fn equal(
 /// The arguments of the goal at a place, if it is `=` of two.
 pub fn unification_at(store: &Store, goal: Place) -> Option<Arguments>
     requires { Holds store.now goal }
-    ensures { MatchOption result ((v : View) → IsView v → is_unification (reads v store.now goal) ≡ false)
-        (λ a. (term_at store.now goal ≡ compound (atom_name 16) (arguments_at store.now a)) × (IsArguments store.now a × (a.count ≡ 2))) }
+    ensures { IfSome result (λ a. (term_at store.now goal ≡ compound (atom_name 16) (arguments_at store.now a)) × (IsArguments store.now a × (a.count ≡ 2))) }
 {
     let Kind::Compound(name, arguments) = store.look(goal) else {
         return None;

@@ -20,7 +20,7 @@ use term_store::Stored;
 use world_api::World;
 
 impl Engine {
-    /// Goes back to the newest choice point (ISO 7.7.8). The only error is want of memory.
+    /// Goes back to the newest choice point (ISO 7.7.8). The only error is out of memory.
     pub fn fail<W: World<Term = Stored>>(
         &mut self,
         world: &mut W,

@@ -18,7 +18,7 @@ use std::alloc::Global;
 use world_api::Procedure;
 
 /// What is done after an outcome of this predicate, where the exits of the active catches stand among the tasks of a list.
-/// The only error is want of memory.
+/// The only error is out of memory.
 pub fn follow(
     alloc: Global,
     search: &Search,

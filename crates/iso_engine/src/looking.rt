@@ -9,7 +9,7 @@ use op_table::OpTable;
 use pl_term::Memory;
 use world_api::{Answer, Reply, Visit, World};
 
-/// The operators that stand behind all entries, or why there is no answer.
+/// The operators that stand after all entries, or why there is no answer.
 pub fn look<W: World>(world: &mut W, atoms: &mut W::A) -> Result<OpTable, Slice>
     requires runs { has_ended (W.told world.old).engine (W.told world.old).history ≡ false }
     ensures looked { IsLooked (W.told world.old) result (W.told world.new) }
@@ -31,7 +31,7 @@ pub fn look<W: World>(world: &mut W, atoms: &mut W::A) -> Result<OpTable, Slice>
     }
 }
 
-/// The answer, unless it is want of memory.
+/// The answer, unless it is out of memory.
 pub fn unless_memory(slice: Slice) -> Result<Slice, Memory>
     ensures same { IfOk result (λ s. s ≡ slice) }
     ensures other { IfOk result (λ s. s ≡ Slice.Memory → ⊥) }

@@ -10,7 +10,7 @@ use std::alloc::Global;
 use term_store::{Place, Store, Stored};
 use world_api::Procedure;
 
-/// The ball of an error term in a predicate (ISO 7.12). The only error is want of memory.
+/// The ball of an error term in a predicate (ISO 7.12). The only error is out of memory.
 pub fn error_of(alloc: Global, error: &Stored, procedure: Procedure) -> Result<Ball, Memory>
     ensures ball { IfOk result (IsErrorBall error.now procedure) }
     ensures over { OnOk result (IsOverAtoms error.now) }

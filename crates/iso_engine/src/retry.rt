@@ -26,7 +26,7 @@ use world_api::World;
 
 impl Engine {
     /// Goes on with the clauses for the goal at a place that were not tried, whose choice point was taken off (ISO 7.7.8). The only
-    /// error is want of memory.
+    /// error is out of memory.
     pub fn retry<W: World<Term = Stored>>(
         &mut self,
         goal: Place,

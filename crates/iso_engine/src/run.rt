@@ -20,8 +20,8 @@ use term_store::Stored;
 use world_api::World;
 
 impl Engine {
-    /// Does the first task of a list, or gives a solution where there is none. What the goal writes is put behind `out`. The
-    /// only error is want of memory.
+    /// Does the first task of a list, or gives a solution where there is none. What the goal writes is put after `out`. The
+    /// only error is out of memory.
     pub fn run<W: World<Term = Stored>>(
         &mut self,
         list: usize,
@@ -57,6 +57,10 @@ impl Engine {
                     }
                     Did::Call(goal, procedure) => {
                         let stopped = self.call(goal, procedure, frame.next, world, atoms)?;
+                        Ok(stopped)
+                    }
+                    Did::Row(goal) => {
+                        let stopped = self.row(&goal, frame.next, atoms)?;
                         Ok(stopped)
                     }
                     Did::Write(goal, procedure) => {

@@ -11,13 +11,13 @@ ghost use Rattle.iso_search.specs.Reading.{IsView, View, reads};
 ghost use Rattle.iso_search.specs.Searching.{IsWhole};
 ghost use Rattle.iso_engine.specs.declared.doing.Doing.TheVariants.{Running};
 ghost use Rattle.iso_engine.specs.Following.{HasProcedure, IsInteger, StepsTo};
-ghost use Rattle.iso_engine.specs.Missing.{is_unification};
 ghost use Rattle.iso_engine.specs.Tasks.{IsDone, IsForOthers, IsLeftOver};
 
-use crate::builtin::{is_builtin, is_other, is_write};
+use crate::builtin::{Builtin, RowGoal, builtin_at};
 use crate::doing::Doing;
 use crate::equal::{equal, unification_at};
 use crate::following::follow;
+use crate::kinds::{is_other, is_write};
 use crate::procedure::procedure_at;
 use atom_api::fixed;
 use iso_search::construct::{Construct, construct_at};
@@ -35,13 +35,15 @@ pub enum Did {
     Next(Doing),
     /// The task is a call of the program's clauses for the goal at a place, which has this predicate. Nothing has changed.
     Call(Place, Procedure),
+    /// The task is this goal of a built-in predicate that is a function of its arguments. Nothing has changed.
+    Row(RowGoal),
     /// The task is the goal at a place, which writes and has this predicate. Nothing has changed.
     Write(Place, Procedure),
     /// The task is for a predicate that is not built yet. Nothing has changed.
     Missing(Procedure),
 }
 
-/// Does a task, before those of a list. The only error is want of memory.
+/// Does a task, before those of a list. The only error is out of memory.
 pub fn do_task(alloc: Global, search: &mut Search, frame: Frame) -> Result<Did, Memory>
     requires whole { IsWhole search.old }
     requires task { IsTaskIn search.old.store frame.task }
@@ -89,7 +91,7 @@ fn leave(search: &mut Search, frame: Frame) -> Option<Doing>
     }
 }
 
-/// Takes up a goal, before the tasks of a list. The only error is want of memory.
+/// Takes up a goal, before the tasks of a list. The only error is out of memory.
 fn do_goal(
     alloc: Global,
     search: &mut Search,
@@ -126,22 +128,21 @@ fn do_goal(
     }
 }
 
-/// What a goal of this predicate is that is neither a control construct nor `=`: a call of the program's clauses, a goal that
-/// writes, or another built-in predicate.
+/// What a goal of this predicate is that is no control construct: a call of the program's clauses, a built-in predicate that is
+/// a function of its arguments, a goal that writes, or another built-in predicate.
 fn left_over(store: &Store, goal: Place, kind: Construct, procedure: Procedure) -> Did
     requires holds { Holds store.now goal }
     requires callable { IsInteger store.now goal → ⊥ }
     requires procedure { HasProcedure store.now goal procedure }
     requires stands { (v : View) → IsView v → construction v store.now kind ≡ construct (reads v store.now goal) }
     requires left { IsLeft kind }
-    requires apart { (v : View) → IsView v → is_unification (reads v store.now goal) ≡ false }
     ensures { IsLeftOver store.now goal result }
 {
     if is_other(kind) {
-        if is_builtin(store, goal) {
-            Did::Missing(procedure)
-        } else {
-            Did::Call(goal, procedure)
+        match builtin_at(store, goal) {
+            Builtin::Row(row) => Did::Row(row),
+            Builtin::Other => Did::Missing(procedure),
+            Builtin::No => Did::Call(goal, procedure),
         }
     } else if is_write(kind) {
         Did::Write(goal, procedure)
@@ -150,7 +151,7 @@ fn left_over(store: &Store, goal: Place, kind: Construct, procedure: Procedure) 
     }
 }
 
-/// Takes up a goal that is a control construct. None where the goal is something else. The only error is want of memory.
+/// Takes up a goal that is a control construct. None where the goal is something else. The only error is out of memory.
 fn take_up(
     alloc: Global,
     search: &mut Search,

@@ -16,7 +16,7 @@ use world_api::World;
 
 impl Engine {
     /// Runs the search until so many inferences were made, a solution was found, the search has ended, or a step cannot be
-    /// made; that step is taken back whole. What the goal writes is put behind `out`, and the steps are added to `moves`. Where
+    /// made; that step is taken back whole. What the goal writes is put after `out`, and the steps are added to `moves`. Where
     /// their number would pass 64 bits, it answers `Memory`.
     pub fn slice<W: World<Term = Stored>>(
         &mut self,
@@ -50,7 +50,7 @@ impl Engine {
         }
     }
 
-    /// The steps of a slice, which are added to `moves`. The only error is want of memory, also where their number would pass 64
+    /// The steps of a slice, which are added to `moves`. The only error is out of memory, also where their number would pass 64
     /// bits.
     fn steps<W: World<Term = Stored>>(
         &mut self,

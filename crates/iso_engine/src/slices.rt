@@ -23,6 +23,6 @@ pub enum Slice {
     Ended,
     /// The next goal is a built-in predicate that is not built yet. The step was taken back.
     Missing(Procedure),
-    /// Want of memory: the engine answers so from then on.
+    /// Out of memory: the engine answers so from then on.
     Memory,
 }

@@ -43,7 +43,7 @@ pub enum Begun {
     Taken(Outcome),
 }
 
-/// Checks the goal at a place whole, which then takes so many cells. The only error is want of memory.
+/// Checks the goal at a place whole, which then takes so many cells. The only error is out of memory.
 fn begin(alloc: Global, search: &mut Search, place: Place, cells: u64) -> Result<Begun, Memory>
     requires whole { IsWhole search.old }
     requires place { Holds search.old.store place }
@@ -68,7 +68,7 @@ fn begin(alloc: Global, search: &mut Search, place: Place, cells: u64) -> Result
     }
 }
 
-/// What is done first, where the goal has this predicate. The only error is want of memory.
+/// What is done first, where the goal has this predicate. The only error is out of memory.
 fn started(
     alloc: Global,
     search: &Search,
@@ -101,7 +101,7 @@ fn started(
 
 impl Engine {
     /// An engine that searches for so many solutions of a goal, whose variables are numbered from 0 on in the order in which they
-    /// first occur. The goal is checked whole, and takes its own cells. The only error is want of memory.
+    /// first occur. The goal is checked whole, and takes its own cells. The only error is out of memory.
     pub fn new(
         alloc: Global,
         goal: &Stored,

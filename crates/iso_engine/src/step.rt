@@ -21,7 +21,7 @@ use term_store::Stored;
 use world_api::World;
 
 impl Engine {
-    /// Makes a step, or says why none can be made. What the goal writes is put behind `out`. The only error is want of
+    /// Makes a step, or says why none can be made. What the goal writes is put after `out`. The only error is want of
     /// memory.
     pub fn step<W: World<Term = Stored>>(
         &mut self,

@@ -10,7 +10,7 @@ use std::alloc::Global;
 use term_store::{Arguments, Place, Store, View as Kind};
 
 /// The places of so many variables of the term at a place, which are numbered from 0 on in the order in which they first
-/// occur. The only error is want of memory.
+/// occur. The only error is out of memory.
 pub fn variables_at(
     alloc: Global,
     store: &Store,
@@ -37,7 +37,7 @@ pub fn variables_at(
 }
 
 /// Looks at a place: the variable there is found if it has the next number, and arguments are still to be looked at. The only
-/// error is want of memory.
+/// error is out of memory.
 fn visit(
     store: &Store,
     place: Place,
@@ -62,7 +62,7 @@ fn visit(
     }
 }
 
-/// Puts the places of arguments behind others, the last one first. The only error is want of memory.
+/// Puts the places of arguments after others, the last one first. The only error is out of memory.
 fn push_arguments(store: &Store, walk: &mut Vec<Place>, arguments: Arguments) -> Result<(), Memory>
     requires arguments { IsArguments store.now arguments }
     requires walk { All (Holds store.now) walk.old.items }

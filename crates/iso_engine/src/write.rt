@@ -23,7 +23,7 @@ use world_api::{Procedure, World};
 
 impl Engine {
     /// Takes up the goal at a place, which writes and has this predicate, before the tasks of a list (ISO 8.12 and 8.14.2). What
-    /// it writes is put behind `out`. The only error is want of memory.
+    /// it writes is put after `out`. The only error is out of memory.
     pub fn write<W: World>(
         &mut self,
         goal: Place,

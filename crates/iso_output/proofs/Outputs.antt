@@ -190,7 +190,7 @@ number_same [] = refl
 number_same (a ∷ fs) = refl
 
 mutual
-  atoms_same : (t : Tree) → written.atoms_in t ≡ atoms_in t
+  pub atoms_same : (t : Tree) → written.atoms_in t ≡ atoms_in t
   atoms_same (var x) = refl
   atoms_same (int i) = refl
   atoms_same (atom a) = ap (λ k. k ∷ []) (number_same a)

@@ -59,7 +59,7 @@ module _ (m n : Names) (grown : Holds m n) where
   parted (x ∷ xs) ys h = let both = parted xs ys h.1 in ((h.0, both.0), both.1)
 
   mutual
-    term_same : (t : Tree) → AllByRecursion IsHeld (atoms_in t) → written.spelled (written.text_of m) t ≡ spelled (text_of n) t
+    pub term_same : (t : Tree) → AllByRecursion IsHeld (atoms_in t) → written.spelled (written.text_of m) t ≡ spelled (text_of n) t
     term_same (var x) h = refl
     term_same (int i) h = refl
     term_same (atom a) h = ap atom (name_same a h.0)
@@ -68,7 +68,7 @@ module _ (m n : Names) (grown : Holds m n) where
         ap (λ g. comp g (written.spelled (written.text_of m) t) (written.spelled_all (written.text_of m) ts)) (name_same f h.0)
         ∙ ap₂ (comp (text_of n f)) (term_same t both.0) (terms_same ts both.1)
 
-    terms_same : (ts : Trees) → AllByRecursion IsHeld (atoms_in_all ts) → written.spelled_all (written.text_of m) ts ≡ spelled_all (text_of n) ts
+    pub terms_same : (ts : Trees) → AllByRecursion IsHeld (atoms_in_all ts) → written.spelled_all (written.text_of m) ts ≡ spelled_all (text_of n) ts
     terms_same none h = refl
     terms_same (more t ts) h =
         let both = parted (atoms_in t) (atoms_in_all ts) h in ap₂ more (term_same t both.0) (terms_same ts both.1)

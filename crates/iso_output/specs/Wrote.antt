@@ -43,7 +43,7 @@ abbrev pub bytes_of : Option Chars → List ℕ
 bytes_of None = []
 bytes_of (Some w) = encode_utf8_all w
 
--- With that behind the output.
+-- With that after the output.
 abbrev pub with_added : Setting → Option Chars → Setting
 with_added s w = record s { output = s.output ++ added w }
 
@@ -51,8 +51,8 @@ with_added s w = record s { output = s.output ++ added w }
 abbrev pub led : Setting → Search → Place → ℕ → Search → Outcome → State
 led s e goal rest d o = result_in s d (node_of s.view e rest) (proc_of (reads s.view e.store goal)) o
 
--- By every view in which the engine's atoms have their texts, the step leads to the state with what was written behind its
--- output, and its bytes were put behind the others.
+-- By every view in which the engine's atoms have their texts, the step leads to the state with what was written after its
+-- output, and its bytes were put after the others.
 pub record IsDone (m : Names) (e : Search) (goal : Place) (rest : ℕ) (a : List ℕ) (d : Search) (b : List ℕ) (o : Outcome) : Type 0 where
   pub more : Option Chars
   pub leads : (s : Setting) (h : ℕ) → IsView s.view → Holds m s.view.names → taken s e goal rest h ≡ goes (led (with_added s more) e goal rest d o)
@@ -65,9 +65,9 @@ pub record IsAlone (m : Names) (t : Told) (e : Search) (goal : Place) (rest : �
   pub told : u ≡ t
   pub done : IsDone m e goal rest a d b o
 
--- The goal asked for the operators, which were read behind all entries `before`. By every view the step asks that, and by
--- every view in which the engine's atoms have their texts, the reply leads to the state with the text behind its output, whose
--- bytes were put behind the others.
+-- The goal asked for the operators, which were read after all entries `before`. By every view the step asks that, and by
+-- every view in which the engine's atoms have their texts, the reply leads to the state with the text after its output, whose
+-- bytes were put after the others.
 pub record IsUnderOperators (m : Names) (t : Told) (e : Search) (goal : Place) (rest : ℕ) (a : List ℕ) (n : Names) (u : Told) (d : Search) (b : List ℕ) (o : Outcome) : Type 0 where
   pub before : History
   pub follows : Follows t.engine t.history before

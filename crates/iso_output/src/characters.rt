@@ -20,7 +20,7 @@ use pl_term::Memory;
 use term_store::{Place, Store};
 use world_builtins::{Character, put_char};
 
-/// put_char/1. The only error is want of memory.
+/// put_char/1. The only error is out of memory.
 pub fn put_character<A: Atoms>(
     search: &mut Search,
     atoms: &mut A,
@@ -55,7 +55,7 @@ pub fn put_character<A: Atoms>(
 }
 
 /// The ball of put_char/1 where the term at a place is no character, which takes no cells of the budget. The only error is
-/// want of memory.
+/// out of memory.
 fn no_character(store: &mut Store, term: Place) -> Result<Place, Memory>
     requires { Holds store.old term }
     ensures grows { OnOk result (Grows store.old store.new) }
@@ -75,7 +75,7 @@ fn no_character(store: &mut Store, term: Place) -> Result<Place, Memory>
     Ok(ball)
 }
 
-/// A compound term of two arguments. The only error is want of memory.
+/// A compound term of two arguments. The only error is out of memory.
 fn pair(store: &mut Store, name: Atom, first: Place, second: Place) -> Result<Place, Memory>
     requires first { Holds store.old first }
     requires second { Holds store.old second }

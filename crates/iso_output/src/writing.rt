@@ -24,8 +24,8 @@ use world_api::World;
 use world_builtins::{Style, Written, nl, write, write_canonical};
 
 /// Takes up the goal at a place, if it is one that writes, before the tasks of a list: makes an inference, asks the shared
-/// state for the operators where terms are written under them, and puts the text behind what was written (ISO 8.12.1,
-/// 8.12.3 and 8.14.2). None where the goal is another one: then nothing has changed. The only error is want of memory, after
+/// state for the operators where terms are written under them, and puts the text after what was written (ISO 8.12.1,
+/// 8.12.3 and 8.14.2). None where the goal is another one: then nothing has changed. The only error is out of memory, after
 /// which neither the search nor what was written is to be used.
 pub fn write_goal<W: World>(
     alloc: Global,
@@ -56,7 +56,7 @@ pub fn write_goal<W: World>(
     Ok(Some(wrote))
 }
 
-/// Does a goal that writes. The only error is want of memory.
+/// Does a goal that writes. The only error is out of memory.
 fn write_output<W: World>(
     alloc: Global,
     search: &mut Search,
@@ -89,7 +89,7 @@ fn write_output<W: World>(
     }
 }
 
-/// write/1, writeq/1 and print/1. The only error is want of memory.
+/// write/1, writeq/1 and print/1. The only error is out of memory.
 fn write_term<W: World>(
     alloc: Global,
     search: &mut Search,
@@ -129,7 +129,7 @@ fn write_term<W: World>(
     }
 }
 
-/// write_canonical/1. The only error is want of memory.
+/// write_canonical/1. The only error is out of memory.
 fn write_alone<A: Atoms>(
     alloc: Global,
     search: &mut Search,
@@ -157,7 +157,7 @@ fn write_alone<A: Atoms>(
     Ok(Wrote::Ran(Outcome::Run(rest)))
 }
 
-/// nl/0. The only error is want of memory.
+/// nl/0. The only error is out of memory.
 fn new_line(search: &mut Search, out: &mut Vec<u8>, rest: usize) -> Result<Wrote, Memory>
     requires whole { IsWhole search.old }
     ensures whole { OnOk result (IsWhole search.new) }

@@ -25,7 +25,7 @@ pub keeps_grown : (e d : Search) (s : Contents) → Stays e.store s → IsWhole 
 keeps_grown e d s g w kept v j le =
     ap (λ (x : Search). (node_of v x j).goals) kept ∙ ap (λ (n : Node). n.goals) (node_grown e s g w v j)
 
--- One outcome behind another change
+-- One outcome after another change
 pub outcome_behind : (e d f : Search) (o : Outcome) → length e.frames.items ≤ length d.frames.items → KeepsTasks e d → IsOutcomeIn d f o → IsOutcomeIn e f o
 outcome_behind e d f (Run list) le keeps h = tt
 outcome_behind e d f Fail le keeps h = tt

@@ -61,7 +61,7 @@ uncollected v r n Branch cs = refl
 uncollected v r n Barrier cs = refl
 uncollected v r n (Catch c w) cs = refl
 
-none_collected : (v : View) (ws : List Place) (s : Contents) (fs : List Frame) (ks : List ChoicePoint) → collected_cells (choices_at v ws s fs ks) ≡ 0
+pub none_collected : (v : View) (ws : List Place) (s : Contents) (fs : List Frame) (ks : List ChoicePoint) → collected_cells (choices_at v ws s fs ks) ≡ 0
 none_collected v ws s fs [] = refl
 none_collected v ws s fs (k ∷ ks) =
     uncollected v (reads v (back_to k.mark s)) (node_behind v ws s fs k) k.alternative (choices_at v ws (back_to k.mark s) (take k.frames fs) ks)

@@ -82,7 +82,7 @@ pub goals_kept : (v : View) (s t : Contents) → Grows s t → (ps : List Place)
 goals_kept v s t g ps h =
     ap trees (map-agree (Holds s) (reads v t) (reads v s) (λ p held. ap (spelled (text_of v.names)) (g.stays.others p held)) (reverse ps) (All-reverse (Holds s) ps h))
 
--- A goal is put behind the others
+-- A goal is put after the others
 
 pub goal_pushed : (v : View) (s t : Contents) (body q : Place) (xs : List Step) (ps qs : List Place) → Grows s t → All (IsStepIn s) xs → All (Holds s) ps
     → qs ≡ ps ++ q ∷ [] → converted (reads v s body) ≡ Some (reads v t q)

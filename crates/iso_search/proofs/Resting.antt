@@ -39,7 +39,7 @@ choices_added v ws s t fs gs (k ∷ ks) e r =
     ap₂ (λ c l. choice_at v (reads v c) (node_at (reads v c) (tasks l k.next) ws k.mark.used) k.alternative ∷ choices_at v ws c l ks)
     (e.back k.mark r.0.mark) (take-append-le k.frames fs gs r.0.frames)
 
--- Without the newest choice point, the others stand for what they stood for behind it.
+-- Without the newest choice point, the others stand for what they stood for after it.
 pub older_rests : (ws : List Place) (s : Contents) (fs : List Frame) (k : ChoicePoint) (ks : List ChoicePoint)
     → AreRests ws s fs (k ∷ ks) → AreRests ws s fs ks
 older_rests ws s fs k ks r =

@@ -30,7 +30,7 @@ pub tasks-past : (fs : List Frame) (i : ℕ) → length fs < i → tasks fs i �
 unfolding tasks
 tasks-past fs i lt = get_or_past (stacked fs ([] ∷ [])) i [] (omega (arith, length-stacked fs ([] ∷ [])))
 
--- A list stays what it is when more frames stand behind.
+-- A list stays what it is when more frames stand after.
 pub tasks-append : (fs gs : List Frame) (i : ℕ) → i ≤ length fs → tasks (fs ++ gs) i ≡ tasks fs i
 unfolding tasks
 tasks-append fs gs i le =

@@ -14,14 +14,14 @@ use Rattle.iso_search.specs.declared.choices.ChoicePoint.{ChoicePoint}
 use Rattle.iso_search.specs.Frames.{tasks, AreLinked}
 use Rattle.iso_search.specs.Reading.{View, reads, node_at}
 
--- The choice with this node behind it.
+-- The choice with this node after it.
 abbrev pub choice_at : View → (Place → Tree) → Node → Alternative → Choice
 choice_at v r n (Clauses w generation place) = clauses resolving (r w) (v.left (r w) generation place) n
 choice_at v r n Branch = branch n
 choice_at v r n Barrier = barrier
 choice_at v r n (Catch c w) = catch (r c) (r w) n
 
--- The node behind a choice point.
+-- The node after a choice point.
 abbrev pub node_behind : View → List Place → Contents → List Frame → ChoicePoint → Node
 node_behind v ws s fs k = node_at (reads v (back_to k.mark s)) (tasks (take k.frames fs) k.next) ws k.mark.used
 

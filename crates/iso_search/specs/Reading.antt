@@ -12,7 +12,7 @@ use Rattle.iso_search.specs.declared.frames.Task.TheVariants.{Goal, Commit, Refu
 use Rattle.iso_search.specs.Spelling.{spelled, text_of, TellsApart}
 
 -- What an engine's numbers are read by: the texts of its atoms, and the clauses for a goal that were there at a
--- generation and stand behind a place.
+-- generation and stand after a place.
 pub record View : Type 0 where
   pub names : Names
   pub left : Tree → ℕ → ℕ → List (Stored Clause)

@@ -16,7 +16,7 @@ thrown_result t e ball None = record (state_in t e) { doing = ended (threw ball)
 thrown_result t e ball (Some x) =
     caught (limits_in t e) (state_in t e) ball (node_of t.view e x.rest).goals (up_to (suc x.height) (choices_of t.view e))
 
--- The ball is to be looked for behind the exit, or comes to the catch that was gone back to.
+-- The ball is to be looked for after the exit, or comes to the catch that was gone back to.
 abbrev pub caught_result : Setting → Search → Tree → List Pending → Option CatchPoint → State
 caught_result t e ball outer None = record (state_in t e) { doing = throwing ball outer }
 caught_result t e ball outer (Some k) =

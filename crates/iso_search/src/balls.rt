@@ -41,7 +41,7 @@ impl Model for Ball {
 }
 
 impl Ball {
-    /// The term at a place. The only error is want of memory.
+    /// The term at a place. The only error is out of memory.
     pub fn at(store: &Store, place: Place) -> Result<Ball, Memory>
         requires { Holds store.now place }
         ensures { IfOk result (λ b. b ≡ term_at store.now place) }
@@ -57,14 +57,14 @@ impl Ball {
         self.all.as_slice()
     }
 
-    /// The term as it is kept, its variables numbered from 0 on. The only error is want of memory.
+    /// The term as it is kept, its variables numbered from 0 on. The only error is out of memory.
     pub fn stored(&self, alloc: Global) -> Result<Stored, Memory>
         ensures { IfOk result (λ s. s ≡ rename zero self.now) }
     {
         Stored::from_nodes(alloc, &self.all)
     }
 
-    /// The ball of an error in the predicate with this name and this number of arguments. The only error is want of memory.
+    /// The ball of an error in the predicate with this name and this number of arguments. The only error is out of memory.
     pub fn error(
         alloc: Global,
         store: &Store,
@@ -91,7 +91,7 @@ impl Ball {
     }
 }
 
-/// Puts the nodes of an error term behind the others.
+/// Puts the nodes of an error term after the others.
 fn push_fault(store: &Store, all: &mut Vec<AtomNode>, fault: Fault) -> Result<(), Memory>
     requires { IsFaultIn store.now fault }
     ensures { OnOk result (node_views all.new.items ≡ node_views all.old.items ++ nodes (fault_tree store.now fault)) }
@@ -123,7 +123,7 @@ fn push_fault(store: &Store, all: &mut Vec<AtomNode>, fault: Fault) -> Result<()
     }
 }
 
-/// Puts the nodes of the error that this budget is spent behind the others (ISO 7.12.2 h).
+/// Puts the nodes of the error that this budget is spent after the others (ISO 7.12.2 h).
 fn push_resource(all: &mut Vec<AtomNode>, resource: Atom) -> Result<(), Memory>
     ensures { OnOk result (node_views all.new.items ≡ node_views all.old.items ++ nodes (comp (atom_name 152) (atom (atom_name resource)) none)) }
 {
@@ -132,7 +132,7 @@ fn push_resource(all: &mut Vec<AtomNode>, resource: Atom) -> Result<(), Memory>
     Ok(())
 }
 
-/// Puts the nodes of an error of this name, kind and culprit behind the others (ISO 7.12.2 b and c).
+/// Puts the nodes of an error of this name, kind and culprit after the others (ISO 7.12.2 b and c).
 fn push_culprit(
     store: &Store,
     all: &mut Vec<AtomNode>,

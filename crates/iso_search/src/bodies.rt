@@ -22,7 +22,7 @@ pub enum Step {
 }
 
 /// The goal that the body at a place stands for: a variable X stands for call(X). None where an integer stands in the place
-/// of a goal. The only error is want of memory.
+/// of a goal. The only error is out of memory.
 pub fn converted_at(alloc: Global, store: &mut Store, body: Place) -> Result<Option<Place>, Memory>
     requires { Holds store.old body }
     ensures grows { Grows store.old store.new }
@@ -90,7 +90,7 @@ fn join(store: &mut Store, goals: &mut Vec<Place>, name: Atom) -> Result<bool, M
     Ok(true)
 }
 
-/// Puts the goal for a body behind the others, or what is to be done for it.
+/// Puts the goal for a body after the others, or what is to be done for it.
 fn visit(
     store: &mut Store,
     steps: &mut Vec<Step>,
@@ -124,7 +124,7 @@ fn visit(
     }
 }
 
-/// Puts a compound term behind the goals. A control construct of two arguments is to be made anew of the goals for them.
+/// Puts a compound term after the goals. A control construct of two arguments is to be made anew of the goals for them.
 fn open(
     store: &Store,
     steps: &mut Vec<Step>,

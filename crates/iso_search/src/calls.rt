@@ -36,7 +36,7 @@ pub enum Checked {
 }
 
 impl Search {
-    /// Checks a body whole, and converts it to the goal that is to be run (ISO 7.6.2). The only error is want of memory.
+    /// Checks a body whole, and converts it to the goal that is to be run (ISO 7.6.2). The only error is out of memory.
     pub fn check_body(&mut self, alloc: Global, body: Place) -> Result<Checked, Memory>
         requires whole { IsWhole self.old }
         requires body { Holds self.old.store body }
@@ -54,7 +54,7 @@ impl Search {
         }
     }
 
-    /// Checks an argument that is to be called, and converts it (ISO 7.8.3.3). The only error is want of memory.
+    /// Checks an argument that is to be called, and converts it (ISO 7.8.3.3). The only error is out of memory.
     pub fn check_called(&mut self, alloc: Global, argument: Place) -> Result<Checked, Memory>
         requires whole { IsWhole self.old }
         requires argument { Holds self.old.store argument }
@@ -80,7 +80,7 @@ impl Search {
     }
 
     /// Calls an argument over a choice point, in which a cut is local, before its exit and the tasks of a list: what `\+`,
-    /// `once/1` and `catch/3` do. The only error is want of memory.
+    /// `once/1` and `catch/3` do. The only error is out of memory.
     pub fn call_over(
         &mut self,
         alloc: Global,
@@ -110,8 +110,8 @@ impl Search {
         }
     }
 
-    /// `call/1` to `call/8`: calls a term with the arguments of the call behind the first one added to its own. A cut in it is
-    /// local to it. The only error is want of memory.
+    /// `call/1` to `call/8`: calls a term with the arguments of the call after the first one added to its own. A cut in it is
+    /// local to it. The only error is out of memory.
     pub fn call(
         &mut self,
         alloc: Global,

@@ -4,7 +4,7 @@ use term_store::{Place, StoreMark};
 /// What was not tried.
 #[derive(Clone, Copy, Debug, Drop)]
 pub enum Alternative {
-    /// The clauses for the goal that were not tried: those of a generation behind the place of the last one.
+    /// The clauses for the goal that were not tried: those of a generation after the place of the last one.
     Clauses {
         goal: Place,
         generation: u64,
@@ -21,7 +21,7 @@ pub enum Alternative {
     },
 }
 
-/// A choice point: what was not tried, what is to be done behind it, and what there was when it was made.
+/// A choice point: what was not tried, what is to be done after it, and what there was when it was made.
 #[derive(Clone, Copy, Debug, Drop)]
 pub struct ChoicePoint {
     pub alternative: Alternative,

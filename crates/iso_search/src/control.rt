@@ -41,7 +41,7 @@ fn exit_task(exit: Exit, height: usize) -> Task
 }
 
 impl Search {
-    /// Makes a choice point, and answers its height, unless there are too many. The only error is want of memory.
+    /// Makes a choice point, and answers its height, unless there are too many. The only error is out of memory.
     pub fn make_choice(
         &mut self,
         alternative: Alternative,
@@ -65,7 +65,7 @@ impl Search {
     }
 
     /// Runs a goal over a choice point, in which a cut is local, and then its exit and the tasks of a list. The only
-    /// error is want of memory.
+    /// error is out of memory.
     pub fn enter(
         &mut self,
         alternative: Alternative,
@@ -100,7 +100,7 @@ impl Search {
     }
 
     /// Succeeds, and does so again wherever it is gone back to (ISO 8.15.3): the goal is run again then. The only error is
-    /// want of memory.
+    /// Out of memory.
     pub fn repeat(&mut self, again: Place, rest: usize) -> Result<Outcome, Memory>
         requires whole { IsWhole self.old }
         requires again { Holds self.old.store again }

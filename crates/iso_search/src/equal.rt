@@ -16,7 +16,7 @@ use pl_term::Memory;
 use term_store::Place;
 
 impl Search {
-    /// Unifies two terms: the tasks of the list are next, or the goal fails. The only error is want of memory.
+    /// Unifies two terms: the tasks of the list are next, or the goal fails. The only error is out of memory.
     pub fn unify(&mut self, left: Place, right: Place, rest: usize) -> Result<Outcome, Memory>
         requires whole { IsWhole self.old }
         requires left { Holds self.old.store left }
@@ -35,7 +35,7 @@ impl Search {
         }
     }
 
-    /// The built-in predicate `=`, whose inference was made (ISO 8.2.1). The only error is want of memory.
+    /// The built-in predicate `=`, whose inference was made (ISO 8.2.1). The only error is out of memory.
     pub fn equal(&mut self, left: Place, right: Place, rest: usize) -> Result<Outcome, Memory>
         requires whole { IsWhole self.old }
         requires left { Holds self.old.store left }

@@ -29,8 +29,8 @@ pub enum Extension {
     Refused(Fault),
 }
 
-/// The goal at a place with the arguments of a call behind its first one. A variable and an integer are refused. The only
-/// error is want of memory.
+/// The goal at a place with the arguments of a call after its first one. A variable and an integer are refused. The only
+/// error is out of memory.
 pub fn extended_at(
     alloc: Global,
     store: &mut Store,
@@ -67,7 +67,7 @@ pub fn extended_at(
     }
 }
 
-/// The compound term with this name, these arguments, and those of a call behind its first one.
+/// The compound term with this name, these arguments, and those of a call after its first one.
 fn extend(
     store: &mut Store,
     mut places: Vec<Place>,
@@ -86,7 +86,7 @@ fn extend(
     Ok(Extended { goal, cells })
 }
 
-/// Puts the places of the arguments from one on behind the others.
+/// Puts the places of the arguments from one on after the others.
 fn push_arguments(
     store: &Store,
     places: &mut Vec<Place>,

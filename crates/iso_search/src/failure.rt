@@ -19,7 +19,7 @@ pub enum Back {
     Run(usize),
     /// The next choice point is to be gone back to.
     Fail,
-    /// The clauses for the goal behind the place are to be tried, those of the generation, before the tasks of the list.
+    /// The clauses for the goal after the place are to be tried, those of the generation, before the tasks of the list.
     Retry {
         goal: Place,
         generation: u64,

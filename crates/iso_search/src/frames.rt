@@ -28,7 +28,7 @@ pub struct Frame {
     pub next: usize,
 }
 
-/// The list with this task in front. The only error is want of memory.
+/// The list with this task in front. The only error is out of memory.
 pub fn push_task(frames: &mut Vec<Frame>, task: Task, next: usize) -> Result<usize, Memory>
     requires linked { AreLinked frames.old.items }
     requires next { next ≤ length frames.old.items }

@@ -54,8 +54,8 @@ fn counted_of(construct: Construct) -> Option<Counted>
 }
 
 impl Search {
-    /// Takes up a goal that is a control construct, with the tasks of a list behind it. None where the goal is something
-    /// else. The only error is want of memory.
+    /// Takes up a goal that is a control construct, with the tasks of a list after it. None where the goal is something
+    /// else. The only error is out of memory.
     pub fn take_up(
         &mut self,
         alloc: Global,
@@ -106,7 +106,7 @@ impl Search {
     }
 
     /// Takes up a goal that is a control construct which makes an inference. None where the goal is something else. The only
-    /// error is want of memory.
+    /// error is out of memory.
     fn take_up_counted(
         &mut self,
         alloc: Global,
@@ -136,7 +136,7 @@ impl Search {
         Ok(Some(outcome))
     }
 
-    /// Runs a control construct whose inference was made. The only error is want of memory.
+    /// Runs a control construct whose inference was made. The only error is out of memory.
     fn run_counted(
         &mut self,
         alloc: Global,

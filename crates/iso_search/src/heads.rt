@@ -15,7 +15,7 @@ use term_store::{Place, StoreMark};
 
 impl Search {
     /// Does what `unify` does, in less time where a term was made since the mark and nothing was bound since, as the copy of a
-    /// clause. The only error is want of memory.
+    /// clause. The only error is out of memory.
     pub fn unify_since(
         &mut self,
         mark: StoreMark,

@@ -12,7 +12,7 @@ use crate::outcome::{Fault, Outcome};
 use crate::search::Search;
 use term_store::{Place, View as Kind};
 
-/// The greatest exit status of a goal. The status above it is that of want of memory alone.
+/// The greatest exit status of a goal. The status above it is that of out of memory alone.
 const MOST: i64 = 254;
 
 impl Search {

@@ -33,7 +33,7 @@ pub enum Recovery {
 
 impl Search {
     /// Unifies a copy of a ball with the catcher of the catch that was gone back to, and calls its recovery goal. A ball that
-    /// does not fit there becomes the error of the budget. The only error is want of memory.
+    /// does not fit there becomes the error of the budget. The only error is out of memory.
     pub fn recover(
         &mut self,
         alloc: Global,

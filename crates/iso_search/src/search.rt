@@ -33,7 +33,7 @@ pub struct Search {
 }
 
 impl Search {
-    /// The list with this task in front. The only error is want of memory.
+    /// The list with this task in front. The only error is out of memory.
     pub fn push(&mut self, task: Task, next: usize) -> Result<usize, Memory>
         requires whole { IsWhole self.old }
         requires task { IsTaskIn self.old.store task }
@@ -82,7 +82,7 @@ impl Search {
         Some(k)
     }
 
-    /// Makes a choice point: what was not tried, and the list of tasks behind it. The only error is want of memory.
+    /// Makes a choice point: what was not tried, and the list of tasks after it. The only error is out of memory.
     pub fn push_choice(&mut self, alternative: Alternative, next: usize) -> Result<(), Memory>
         requires whole { IsWhole self.old }
         requires words { IsAlternativeIn self.old.store alternative }

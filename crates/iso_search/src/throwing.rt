@@ -13,14 +13,14 @@ use crate::frames::{Task, first_task};
 use crate::search::Search;
 use term_store::Place;
 
-/// The exit from a `catch/3` that is still to be done: the height of its choice point, and the list of the tasks behind it.
+/// The exit from a `catch/3` that is still to be done: the height of its choice point, and the list of the tasks after it.
 #[derive(Clone, Copy, Drop)]
 pub struct CatchExit {
     pub height: usize,
     pub rest: usize,
 }
 
-/// A `catch/3` that was gone back to: its catcher, its recovery goal, and the list of the tasks behind it.
+/// A `catch/3` that was gone back to: its catcher, its recovery goal, and the list of the tasks after it.
 #[derive(Clone, Copy, Drop)]
 pub struct CatchPoint {
     pub catcher: Place,

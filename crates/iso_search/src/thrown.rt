@@ -48,7 +48,7 @@ impl Search {
         Ok(thrown)
     }
 
-    /// Brings a ball to the catch that was gone back to. The only error is want of memory.
+    /// Brings a ball to the catch that was gone back to. The only error is out of memory.
     fn meet_catch(&mut self, alloc: Global, ball: Ball, point: CatchPoint) -> Result<Thrown, Memory>
         requires whole { IsWhole self.old }
         requires catcher { Holds self.old.store point.catcher }

@@ -1,5 +1,5 @@
--- Where skipping from decimal digits goes: behind them, whether or not they are a good numeral. Faulty digits are
--- passed one by one, and behind each of them stand fewer digits, which are faulty or a numeral.
+-- Where skipping from decimal digits goes: after them, whether or not they are a good numeral. Faulty digits are
+-- passed one by one, and after each of them stand fewer digits, which are faulty or a numeral.
 use Rattle.std.proofs.Common.{◌≡◌, ℕ, ◌+◌, ◌^◌, ◌<◌, ◌≤◌, suc, zero, Bool, true, false, cond, nat_lt, ◌==◌, ◌&&◌, List, [], ◌∷◌, length, take, drop, slice_index, refl, sym, ap, subst, ◌∙◌, arith}
 use Rattle.std.specs.Char.{is_ascii_digit, is_whitespace, digit_value}
 use Rattle.std.specs.Str.Parse.{digits_value}
@@ -24,7 +24,7 @@ use Rattle.pl_model.proofs.TokenPlaces.{blank-scalar}
 use Rattle.lex_core.specs.Skips.{BeginsDecimal}
 use Rattle.lex_core.proofs.LexPassing.{front-low}
 
--- A digit and what stands behind it.
+-- A digit and what stands after it.
 record Digits (bs : List ℕ) (n : ℕ) : Type 0 where
   pub first : ℕ
   pub rest : List ℕ
@@ -115,7 +115,7 @@ fault-passing b bs low high at plain =
     ∙ cond-false (begins_code (b ∷ bs)) (Through (2 + character_size (drop 2 (b ∷ bs)))) (Through (character_size (b ∷ bs))) plain.code
     ∙ ap (λ n. Through n) (size-front (b ∷ bs) b 1 at)
 
--- Behind the first of several digits the others stand; of two digits the second is alone only before a full stop.
+-- After the first of several digits the others stand; of two digits the second is alone only before a full stop.
 
 first_false : (a b : Bool) → a ≡ false → (a && b) ≡ false
 first_false true b e = cc

@@ -61,7 +61,7 @@ piece-within quote text at p h e =
     let size : HasSize (length (drop at text)) p = rw e (piece-size quote (drop at text) some) in
     (size.0, omega (arith, size.1, length-drop at text))
 
--- What it spells, over places: `at` bytes behind the opening quote.
+-- What it spells, over places: `at` bytes after the opening quote.
 
 abbrev pub prefixed : Chars → Spelled → Spelled
 prefixed cs (Ok ds) = Ok (cs ++ ds)

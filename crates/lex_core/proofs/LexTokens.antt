@@ -21,7 +21,7 @@ symbols-text p bs n ds is taken =
     let size : run p 0 bs ≡ n = omega arith in
     subst IsUtf8 (sym (taken ∙ ap (λ m. take m bs) (sym size))) (run-text p bs)
 
--- So are those of a character, and those of a character with a run behind it.
+-- So are those of a character, and those of a character with a run after it.
 pub solo-text : (bs : List ℕ) (c k : ℕ) (ds : List ℕ) → front bs ≡ scalar c k → ds ≡ take k bs → IsUtf8 ds
 solo-text bs c k ds e taken = subst IsUtf8 (sym taken) (front-text bs c k e)
 

@@ -12,7 +12,7 @@ PassesWithin n (Through k) = (0 < k) × (k ≤ n)
 PassesWithin n (Ends k) = k ≤ n
 PassesWithin n StaysOpen = Unit {0}
 
--- Skipping from a place goes where skipping from behind this goes.
+-- Skipping from a place goes where skipping from after this goes.
 abbrev pub Skips : List ℕ → ℕ → Passing → Type 0
 Skips text at (Through n) = (0 < n) × (at + n ≤ length text) × (skip text at ≡ skip text (at + n))
 Skips text at (Ends n) = (at + n ≤ length text) × (skip text at ≡ at + n)

@@ -25,7 +25,7 @@ passes_run (Digits radix) c = is_digit radix c
 passes_run Symbols c = is_symbol c
 passes_run Any c = true
 
--- The place behind a piece of layout that begins at a place, or none where no layout does, or a fault.
+-- The place after a piece of layout that begins at a place, or none where no layout does, or a fault.
 abbrev pub blank_result : ℕ → Blank → Result (Option ℕ) SyntaxFault
 blank_result at (passes n) = Ok (Some (at + n))
 blank_result at stops = Ok None
@@ -36,7 +36,7 @@ abbrev pub spelled_of : Spelling → Spelled
 spelled_of (Whole cs) = Ok cs
 spelled_of (Bad kind at) = Err (kind, at)
 
--- The answer is the defined token, end or fault, want of memory aside.
+-- The answer is the defined token, end or fault, out of memory aside.
 abbrev pub Gives : Result Lexeme LexFault → Lexed → Type 0
 Gives (Ok lexeme) lexed = lexed ≡ Ok lexeme
 Gives (Err (Syntax fault)) lexed = lexed ≡ Err fault

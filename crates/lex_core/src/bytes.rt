@@ -2,7 +2,7 @@
 ghost use Rattle.std.specs.Prelude.{◌≡◌, drop, slice_index, take};
 ghost use Rattle.pl_model.specs.LexicalQuoted.{begins_with};
 
-/// The bytes behind the first `n`.
+/// The bytes after the first `n`.
 pub fn behind(bytes: &[u8], n: usize) -> &[u8]
     ensures { result.now ≡ drop n bytes.now }
 {

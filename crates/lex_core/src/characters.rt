@@ -23,7 +23,7 @@ pub enum Run {
     Any,
 }
 
-/// The place behind the run of characters that begins at `at`.
+/// The place after the run of characters that begins at `at`.
 pub fn run_end(text: &[u8], at: usize, run: Run) -> usize
     requires { at ≤ length text.now }
     ensures end { result ≡ run_end (passes_run run) text.now at }

@@ -6,7 +6,7 @@ ghost use Rattle.lex_core.specs.Views.{blank_result};
 use crate::characters::{Run, character, run_end};
 use pl_model::syntax::{SyntaxFault, SyntaxKind};
 
-/// The place behind the layout that begins at `at`, which is white space and comments.
+/// The place after the layout that begins at `at`, which is white space and comments.
 pub fn skip_layout(text: &[u8], at: usize) -> Result<usize, SyntaxFault>
     ensures { result ≡ skip_layout at 0 (drop at text.now) }
 {
@@ -20,7 +20,7 @@ pub fn skip_layout(text: &[u8], at: usize) -> Result<usize, SyntaxFault>
     Ok(place)
 }
 
-/// The place behind the white space character or the comment at `at`, or none where no layout stands there.
+/// The place after the white space character or the comment at `at`, or none where no layout stands there.
 fn blank(text: &[u8], at: usize) -> Result<Option<usize>, SyntaxFault>
     requires { at < length text.now }
     ensures value { result ≡ blank_result at (blank (drop at text.now)) }
@@ -49,7 +49,7 @@ pub fn begins_block(text: &[u8], at: usize) -> bool
     at + 1 < text.len() && text[at + 1] == b'*'
 }
 
-/// The place behind the comment that begins with `/*` at `at`.
+/// The place after the comment that begins with `/*` at `at`.
 fn block(text: &[u8], at: usize) -> Result<Option<usize>, SyntaxFault>
     requires { at + 1 < length text.now }
     ensures value { result ≡ blank_result at (block (drop at text.now) (block_length (drop 2 (drop at text.now)))) }
@@ -81,7 +81,7 @@ fn comment(text: &[u8], at: usize, end: usize) -> Result<Option<usize>, SyntaxFa
     Ok(Some(end))
 }
 
-/// The place of the next newline at `at` or behind it, or the end of the text.
+/// The place of the next newline at `at` or after it, or the end of the text.
 pub fn line_end(text: &[u8], at: usize) -> usize
     requires { at ≤ length text.now }
     ensures value { result ≡ at + line_length (drop at text.now) }
@@ -95,7 +95,7 @@ pub fn line_end(text: &[u8], at: usize) -> usize
     text.len()
 }
 
-/// The place behind the next `*/` at `at` or behind it.
+/// The place after the next `*/` at `at` or after it.
 pub fn block_end(text: &[u8], at: usize) -> Option<usize>
     requires { at ≤ length text.now }
     ensures value { result ≡ option_map (λ n. at + n) (block_length (drop at text.now)) }

@@ -8,7 +8,7 @@ use pl_term::Memory;
 pub enum LexFault {
     /// The text has this fault where the next token would be.
     Syntax(SyntaxFault),
-    /// Want of memory.
+    /// Out of memory.
     Memory,
 }
 

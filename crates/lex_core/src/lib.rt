@@ -8,8 +8,6 @@ mod lex_fault;
 mod numerals;
 mod passing;
 mod quoted;
-#[cfg(test)]
-mod tests;
 mod tokens;
 
 pub use lex_fault::LexFault;

@@ -38,7 +38,7 @@ pub fn begins_radix(bytes: &[u8], radix: u32) -> bool
     byte_at(bytes, 0) == b'0' && is_digit(radix, char::from(byte_at(bytes, 2)))
 }
 
-/// The radix that a letter behind `0` stands for, or 0.
+/// The radix that a letter after `0` stands for, or 0.
 pub fn radix_of(letter: u8) -> u32
     ensures { result ≡ radix_of letter }
 {
@@ -50,7 +50,7 @@ pub fn radix_of(letter: u8) -> u32
     }
 }
 
-/// The code of the character behind `0'`, before which these two bytes stand.
+/// The code of the character after `0'`, before which these two bytes stand.
 fn character_code(bytes: &[u8]) -> Reading
     requires { 0 < length bytes.now }
     ensures { result ≡ character_code bytes.now }

@@ -19,7 +19,7 @@ use pl_model::lexical::{Begins, Reading, TokenKind};
 use pl_model::skipping::Passing;
 
 /// What stands at the place `at` of a text, as it is skipped: the number of its bytes, or that it stays open. A comment
-/// or a quoted text with a fault in it is passed whole, a faulty `0'` with the one character behind it, any other fault
+/// or a quoted text with a fault in it is passed whole, a faulty `0'` with the one character after it, any other fault
 /// by one character, or by one byte that begins none. It takes no memory.
 pub fn pass(text: &[u8], at: usize) -> Passing
     requires { at < length text.now }
@@ -34,7 +34,7 @@ pub fn pass(text: &[u8], at: usize) -> Passing
 }
 
 /// The number of decimal digits at the front, if a decimal constant begins there; else 0. Even where it is too large or
-/// has a fraction, what is passed from its first digit on is passed from behind its last one.
+/// has a fraction, what is passed from its first digit on is passed from after its last one.
 fn decimal_size(bytes: &[u8]) -> usize
     ensures { 0 < result → BeginsDecimal bytes.now result }
 {

@@ -17,7 +17,7 @@ use std::alloc::Global;
 pub enum Spelling {
     /// The text.
     Whole(Text),
-    /// A fault, this number of bytes behind the opening quote.
+    /// A fault, this number of bytes after the opening quote.
     Bad(SyntaxKind, usize),
 }
 

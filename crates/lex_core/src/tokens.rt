@@ -16,10 +16,10 @@ use pl_model::syntax::{SyntaxFault, SyntaxKind};
 use pl_term::{Memory, Text};
 use std::alloc::Global;
 
-/// The first token of `text` at the place `at` or behind it, with its value, the place of its first byte and the
-/// place behind its last one; or the end of the text. Layout is passed. `(` at `at` itself is open ct, behind layout
+/// The first token of `text` at the place `at` or after it, with its value, the place of its first byte and the
+/// place after its last one; or the end of the text. Layout is passed. `(` at `at` itself is open ct, after layout
 /// it is open. A syntax fault is at the place where its token begins, but for a bad escape sequence, at its
-/// backslash, and a byte that is not UTF-8, at that byte (ISO 6.4, 6.5). The other error is want of memory.
+/// backslash, and a byte that is not UTF-8, at that byte (ISO 6.4, 6.5). The other error is out of memory.
 pub fn next(alloc: Global, text: &[u8], at: usize) -> Result<Lexeme, LexFault>
     ensures { Gives result (token_at text.now at) }
 {

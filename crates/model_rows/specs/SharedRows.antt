@@ -55,7 +55,7 @@ with_threads n (suc m) t = with_threads (suc n) m (thread_started n None t)
 abbrev pub with_engines : ℕ → SharedState
 with_engines n = record (opening_state 1) { threads = with_threads 2 n opening_threads; count = 2 + n }
 
--- A database whose clauses p(0) and p(1), and p(2) behind them, were added at the places 0 to 2, of which the one at 0
+-- A database whose clauses p(0) and p(1), and p(2) after them, were added at the places 0 to 2, of which the one at 0
 -- was erased at 3, and one more was put before them at 4.
 abbrev pub changed_database : Database Clause
 changed_database =

@@ -19,7 +19,7 @@ ghost use Rattle.model_rows.specs.SharedRows.{played, left_by, named_proc, term_
 
 /// A call of a procedure that is not there, the addition of a clause, a call, the clause's erasure, one more erasure of
 /// it, and a call, which finds the procedure without clauses.
-#[tactic(auto, unfolding(pl_model::specs::Service::serve))]
+#[tactic(auto, unfolding(pl_model::specs::SystemPredicates::system_predicates, pl_model::specs::Service::serve))]
 pub fn asserts_and_erases()
     ensures { played 0 (opening_state 1)
         ((1, call_clauses (term_of (codes "p") (var 0)))
@@ -54,7 +54,7 @@ pub fn excludes_by_first_arguments()
 {}
 
 /// A change of each kind.
-#[tactic(auto, unfolding(pl_model::specs::Service::serve))]
+#[tactic(auto, unfolding(pl_model::specs::SystemPredicates::system_predicates, pl_model::specs::Service::serve))]
 pub fn changes_the_database()
     ensures { played 0 (opening_state 1)
         ((1, assert_first (fact (codes "p") (number_term 1)))
@@ -71,7 +71,7 @@ pub fn changes_the_database()
 
 /// The procedure of a text that is consulted is static: a goal can neither change it nor look into it, the text can add to
 /// it, and it can be called.
-#[tactic(auto, unfolding(pl_model::specs::Service::serve))]
+#[tactic(auto, unfolding(pl_model::specs::SystemPredicates::system_predicates, pl_model::specs::Service::serve))]
 pub fn keeps_static_procedures()
     ensures { played 0 (opening_state 1)
         ((1, consult_clause (fact (codes "p") (number_term 1)))
@@ -97,7 +97,7 @@ pub fn keeps_static_procedures()
 {}
 
 /// An unknown procedure has no clauses for clause/2 and retract/1, and becomes dynamic by retractall/1.
-#[tactic(auto, unfolding(pl_model::specs::Service::serve))]
+#[tactic(auto, unfolding(pl_model::specs::SystemPredicates::system_predicates, pl_model::specs::Service::serve))]
 pub fn clears_unknown_procedures()
     ensures { played 0 (opening_state 1)
         ((1, inspected_clauses (term_of (codes "p") (var 0)))
@@ -111,7 +111,7 @@ pub fn clears_unknown_procedures()
 {}
 
 /// Messages are taken in their order, the first that unifies, and a queue that is destroyed is there no more.
-#[tactic(auto, unfolding(pl_model::specs::Service::serve, pl_model::specs::Unify::unify, pl_model::specs::Unify::solve_all))]
+#[tactic(auto, unfolding(pl_model::specs::SystemPredicates::system_predicates, pl_model::specs::Service::serve, pl_model::specs::Unify::unify, pl_model::specs::Unify::solve_all))]
 pub fn passes_messages()
     ensures { played 0 (opening_state 1)
         ((1, create_queue None)
@@ -141,7 +141,7 @@ pub fn passes_messages()
 {}
 
 /// A thread is waited for until it ends, and is joined once. Its alias is another's only after that.
-#[tactic(auto, unfolding(pl_model::specs::Service::serve))]
+#[tactic(auto, unfolding(pl_model::specs::SystemPredicates::system_predicates, pl_model::specs::Service::serve))]
 pub fn joins_threads()
     ensures running { played 0 (opening_state 1)
         ((1, create_thread (atom (codes "g")) (codes "t" ∷ []) None)
@@ -174,7 +174,7 @@ pub fn joins_threads()
 {}
 
 /// There are at most 64 engines at once, and a creation that is refused draws no number.
-#[tactic(auto, unfolding(pl_model::specs::Service::serve))]
+#[tactic(auto, unfolding(pl_model::specs::SystemPredicates::system_predicates, pl_model::specs::Service::serve))]
 pub fn bounds_engines()
     ensures last { serve 1 (create_thread (atom (codes "g")) [] None) (with_engines 62) 62
         ≡ answers (named (number_term 64)) (Some (start 64 (atom (codes "g")) None)) }
@@ -187,7 +187,7 @@ pub fn bounds_engines()
 {}
 
 /// A history holds fewer than 2^47 updates beside the ends of engines, which is checked last.
-#[tactic(auto, unfolding(pl_model::specs::Service::serve))]
+#[tactic(auto, unfolding(pl_model::specs::SystemPredicates::system_predicates, pl_model::specs::Service::serve))]
 pub fn bounds_updates()
     ensures below { serve 1 (assert_last (fact (codes "p") (number_term 1))) (opening_state 1) (2 ^ 47 - 1)
         ≡ answers done (Some (add_last (named_proc (codes "p") 1) (fact (codes "p") (number_term 1)) assert)) }
@@ -198,7 +198,7 @@ pub fn bounds_updates()
 {}
 
 /// The names that op/3 refuses, one after the other (ISO 8.14.3.3).
-#[tactic(auto, unfolding(pl_model::specs::Service::serve))]
+#[tactic(auto, unfolding(pl_model::specs::SystemPredicates::system_predicates, pl_model::specs::Service::serve))]
 pub fn refuses_operators()
     ensures comma { serve 1 (put_operators 700 Xfx (codes "," ∷ codes "|" ∷ [])) (opening_state 1) 0
         ≡ refuses (permission_error (codes "modify") (codes "operator") (atom (codes ","))) }
@@ -207,7 +207,7 @@ pub fn refuses_operators()
 {}
 
 /// A new infix operator, and a value of each flag that can be changed, which texts are then read by.
-#[tactic(auto, unfolding(pl_model::specs::Service::serve))]
+#[tactic(auto, unfolding(pl_model::specs::SystemPredicates::system_predicates, pl_model::specs::Service::serve))]
 pub fn puts_operators_and_flags()
     ensures operator { serve 1 (put_operators 700 Xfx (codes "===>" ∷ [])) (opening_state 1) 0
         ≡ answers done (Some (set_op (record { name = codes "===>"; priority = 700; specifier = xfx } ∷ []))) }

@@ -116,7 +116,7 @@ module _ {K X : Type 0} (R : K → K → Ordering) where
               subst (λ (y : K × X). R k y.0 ≡ Greater) (sym same) is
         ]
 
-    -- where a key is above the one looked for, so are all behind it
+    -- where a key is above the one looked for, so are all after it
     pub behind_more : (k : K) (es : List (K × X)) (m : ℕ) (e : K × X)
         → T (is_sorted R es)
         → slice_get es m ≡ Some e

@@ -20,7 +20,7 @@ pub enum OpFault {
     Reserved,
     /// The name is an infix operator and is to be a postfix operator too, or the other way round (ISO 6.3.4.3).
     InfixPostfix,
-    /// Want of memory.
+    /// Out of memory.
     Memory,
 }
 

@@ -57,7 +57,7 @@ pub const OPENING: [(&str, u16, Kind); 45] = [
     ("thread_local", 1150, Kind::Fx),
 ];
 
-/// The operators of these rows. The only error is want of memory.
+/// The operators of these rows. The only error is out of memory.
 pub fn operators_of(alloc: Global, rows: &[(&str, u16, Kind)]) -> Result<Vec<Operator>, Memory>
     ensures { IfOk result (λ os. entries_of os.items ≡ row_entries rows.now) }
 {

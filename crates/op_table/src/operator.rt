@@ -18,7 +18,7 @@ pub struct Operator {
 }
 
 impl Operator {
-    /// A second operator that is the same. The only error is want of memory.
+    /// A second operator that is the same. The only error is out of memory.
     pub fn copy(&self, alloc: Global) -> Result<Operator, Memory>
         ensures { IfOk result (λ o. o ≡ self.now) }
     {
@@ -66,7 +66,7 @@ pub fn order(name: &Text, place: Place, operator: &Operator) -> Ordering
     name.compare(&operator.name).then(here.cmp(&there))
 }
 
-/// The same operators a second time. The only error is want of memory.
+/// The same operators a second time. The only error is out of memory.
 pub fn copies(alloc: Global, operators: &[Operator]) -> Result<Vec<Operator>, Memory>
     ensures { IfOk result (λ os. os.items ≡ operators.now) }
 {

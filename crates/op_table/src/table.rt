@@ -44,7 +44,7 @@ impl Model for OpTable {
 }
 
 impl OpTable {
-    /// The operators at the start. The only error is want of memory.
+    /// The operators at the start. The only error is out of memory.
     pub fn iso(alloc: Global) -> Result<OpTable, Memory>
         ensures { IfOk result (λ t. t ≡ opening_table) }
     {
@@ -52,7 +52,7 @@ impl OpTable {
         Ok(OpTable { alloc, operators })
     }
 
-    /// A second table with the same operators. The only error is want of memory.
+    /// A second table with the same operators. The only error is out of memory.
     pub fn copy(&self, alloc: Global) -> Result<OpTable, Memory>
         ensures { IfOk result (λ t. t ≡ self.now) }
     {
@@ -61,7 +61,7 @@ impl OpTable {
     }
 
     /// Makes an operator of this priority, kind and name, in the place of the one that this name has before, between
-    /// or behind arguments; priority 0 takes that one away (op/3, ISO 8.14.3). An error is the first cause in the
+    /// or after arguments; priority 0 takes that one away (op/3, ISO 8.14.3). An error is the first cause in the
     /// order of `OpFault`; after an error the table is as it was. `Memory` comes only where the name is new there.
     pub fn add(&mut self, pri: u16, kind: Kind, name: &Text) -> Result<(), OpFault>
         // A refused change is answered by its first cause.
@@ -176,7 +176,7 @@ impl OpTable {
         }
     }
 
-    /// Puts an operator in the place of the one that this name has there. The only error is want of memory, and then
+    /// Puts an operator in the place of the one that this name has there. The only error is out of memory, and then
     /// nothing has changed.
     fn put(&mut self, pri: u16, kind: Kind, name: &Text) -> Result<(), Memory>
         ensures ok { OnOk result (self.new ≡ finite.insert self.old (name.now, place_of kind) (pri, kind)) }

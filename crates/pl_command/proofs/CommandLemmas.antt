@@ -42,7 +42,7 @@ number_by E G f id r none value only = go (one_text f id) refl ∙ ap number_of 
     go None e = none e ∙ ap number_of (sym e)
     go (Some t) e = number_reads E G t r (value t e) only ∙ ap number_of (sym e)
 
--- Words that are refused for another reason than want of memory are no command.
+-- Words that are refused for another reason than out of memory are no command.
 pub refused_words : (kinds : Kinds) (e : Error) (c : Option Command) → HasKind kinds e → (e.kind ≡ OutOfMemory → ⊥) → unless_refused kinds c ≡ None
 refused_words [] e c h other = elim h [
   | inl m ↦ absurd (other m)

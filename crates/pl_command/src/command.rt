@@ -104,7 +104,7 @@ fn goal_word<'a>(alloc: Global) -> Arg<'a>
     Arg::new(alloc, "GOAL")
 }
 
-/// The subcommand `run` with its options. The only error is want of memory.
+/// The subcommand `run` with its options. The only error is out of memory.
 fn options_syntax<'a>(alloc: Global) -> Result<Syntax<'a>, AllocError>
     ensures app { IfOk result (λ c. app_of c ≡ options_app) }
     ensures local { IfOk result (λ c. (fields_of c).has_globals ≡ false) }
@@ -120,7 +120,7 @@ fn options_syntax<'a>(alloc: Global) -> Result<Syntax<'a>, AllocError>
         .arg(choices)
 }
 
-/// The subcommand `run` with its options and its words. The only error is want of memory.
+/// The subcommand `run` with its options and its words. The only error is out of memory.
 fn run_syntax<'a>(alloc: Global) -> Result<Syntax<'a>, AllocError>
     ensures app { IfOk result (λ c. app_of c ≡ run_app) }
     ensures local { IfOk result (λ c. (fields_of c).has_globals ≡ false) }
@@ -130,7 +130,7 @@ fn run_syntax<'a>(alloc: Global) -> Result<Syntax<'a>, AllocError>
     options_syntax(alloc)?.arg(file)?.arg(goal)
 }
 
-/// The program's command line. The only error is want of memory.
+/// The program's command line. The only error is out of memory.
 fn plt_syntax<'a>(alloc: Global) -> Result<Syntax<'a>, Memory>
     ensures { IfOk result (λ c. app_of c ≡ plt_app) }
 {
@@ -164,7 +164,7 @@ fn run_given(alloc: Global, given: &ArgMatches<'_>) -> Result<Option<Command>, M
     Ok(Some(Command { file, goal, limits }))
 }
 
-/// The word of the goal, if there is one. The only error is want of memory.
+/// The word of the goal, if there is one. The only error is out of memory.
 fn goal_given(alloc: Global, given: &ArgMatches<'_>) -> Result<Option<Text>, Memory>
     ensures { IfOk result (λ o. words_in o ≡ words_by (first_of (codes "GOAL") (rows_of (found_of given.now)))) }
 {

@@ -36,7 +36,7 @@ pub enum End {
     Usage,
     /// An engine waits, and nothing wakes it.
     Waiting,
-    /// Want of memory.
+    /// Out of memory.
     Memory,
     /// A read of the file failed.
     ReadFault,

@@ -18,7 +18,7 @@ pub fn two_words_are_enough()
         }) }
 {}
 
-/// Options stand before the words, between them or behind them, with a space or an equals sign before the number.
+/// Options stand before the words, between them or after them, with a space or an equals sign before the number.
 pub fn options_stand_anywhere()
     ensures before { command (codes "run" ∷ (codes "--solutions" ∷ (codes "9" ∷ (codes "f.pl" ∷ (codes "true" ∷ [])))))
         ≡ Some (record {
@@ -40,7 +40,7 @@ pub fn options_stand_anywhere()
         }) }
 {}
 
-/// A word that begins with a minus sign is an option, but for the words behind `--`.
+/// A word that begins with a minus sign is an option, but for the words after `--`.
 pub fn two_minus_signs_end_the_options()
     ensures option { command (codes "run" ∷ (codes "f.pl" ∷ (codes "-p" ∷ []))) ≡ None }
     ensures word { command (codes "run" ∷ (codes "f.pl" ∷ (codes "--" ∷ (codes "-p" ∷ []))))

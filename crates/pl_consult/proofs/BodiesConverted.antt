@@ -114,7 +114,7 @@ put_both f out (Some t) (Some u) (Some ns) =
     (append_assoc (nodes t) (nodes u ++ []) ns ∙ ap (λ xs. nodes t ++ (xs ++ ns)) (append-nil (nodes u)))
     ∙ ap Some (sym (append_assoc out (Comp f 2 ∷ []) (nodes t ++ (nodes u ++ ns))))
 
--- Where the next goal is the body `t`, with these behind it.
+-- Where the next goal is the body `t`, with these after it.
 abbrev Coming : Tree → List Node → Tree → Trees → Type 0
 Coming body out t ts =
     option_map nodes (converted body) ≡ option_map (λ ns. out ++ ([] ++ ns)) (converted_nodes (more t ts))
@@ -330,7 +330,7 @@ some_back None out e = absurd (cc)
 some_back (Some t) out e =
     let is : nodes t ≡ out ++ [] = cc in (t, refl, sym (append-nil out) ∙ sym is)
 
--- Behind the last node all is converted.
+-- After the last node all is converted.
 pub converting_end : (body : Tree) (out : List Node) (goals terms : ℕ)
     → Converting body out [] goals terms
     → (t : Tree) × (converted body ≡ Some t) × (out ≡ nodes t)

@@ -33,7 +33,7 @@ first_node (int i) = Int i
 first_node (atom a) = Atom a
 first_node (comp f t ts) = Comp f (suc (count ts))
 
--- The trees behind the first node of this one and the others.
+-- The trees after the first node of this one and the others.
 abbrev pub opened : Tree → Trees → Trees
 opened (var x) us = us
 opened (int i) us = us

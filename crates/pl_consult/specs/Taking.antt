@@ -26,7 +26,7 @@ IsTakenOf t (Clause c place) = (directive_of t ≡ None) × (clause_of_term t �
 IsTakenOf t (Directive goal place) = directive_of t ≡ Some goal
 IsTakenOf t Passed = Unit {0}
 
--- Behind the goals of initialization/1 that were not run yet there is one more, that of an item with this term.
+-- After the goals of initialization/1 that were not run yet there is one more, that of an item with this term.
 pub record PutsOff (t : Tree) (old new : List (ℕ × Tree)) : Type 0 where
   pub directive : Tree
   pub goal : Tree

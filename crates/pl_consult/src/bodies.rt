@@ -24,7 +24,7 @@ pub enum Checked {
     Refused(Flat),
 }
 
-/// The clause that a clause-term gives, or the error for which it is refused. The only error is want of memory.
+/// The clause that a clause-term gives, or the error for which it is refused. The only error is out of memory.
 pub fn checked_clause(alloc: Global, term: &Flat) -> Result<Checked, Memory>
     ensures checked { IfOk result (λ c. checked_of c ≡ clause_of_term term.now) }
     ensures numbered { IfOk result IsNumbered }
@@ -91,7 +91,7 @@ pub fn few_variables(t: &Flat)
 }
 
 /// The goal that a body stands for (ISO 7.6.2): each variable X that stands in the place of a goal becomes call(X).
-/// None where an integer stands in the place of a goal. The only error is want of memory.
+/// None where an integer stands in the place of a goal. The only error is out of memory.
 fn converted(alloc: Global, body: &Flat) -> Result<Option<Flat>, Memory>
     ensures { IfOk result (λ goal. goal ≡ goal_of body.now) }
 {
@@ -120,7 +120,7 @@ fn is_integer(node: &Node) -> bool
     matches!(node, Node::Int(_))
 }
 
-/// Puts behind `all` what becomes of a node in the place of a goal. After want of memory, `all` may have got part of
+/// Puts after `all` what becomes of a node in the place of a goal. After running out of memory, `all` may have got part of
 /// it.
 fn put_goal(alloc: Global, all: &mut Vec<Node>, node: &Node) -> Result<(), Memory>
     ensures { OnOk result (all.new.items ≡ all.old.items ++ goal_nodes node.now) }

@@ -1,5 +1,5 @@
 //! Consulting a file (ISO 7.4.2): its items one after the other, each read under the operators and the flag of its own
-//! visit, and behind its end the goals of initialization/1.
+//! visit, and after its end the goals of initialization/1.
 ghost use Rattle.std.specs.Prelude.{◌≡◌, List, ℕ, [], None, Some, IfOk, OnOk, encode_utf8_all};
 ghost use Rattle.pl_term.specs.Tree.{Chars, Tree};
 ghost use Rattle.pl_model.specs.Requests.{standing, refused};
@@ -34,9 +34,9 @@ const MOST_BYTES: usize = 16_777_216;
 /// Where consulting goes on.
 #[derive(Debug, Clone, Copy, PartialEq, Eq, Drop)]
 pub enum Place {
-    /// At the item that stands at this byte or behind it.
+    /// At the item that stands at this byte or after it.
     Item(usize),
-    /// With the goals of initialization/1, behind the end of the file.
+    /// With the goals of initialization/1, after the end of the file.
     Initialization,
 }
 
@@ -63,7 +63,7 @@ pub struct Consult {
 
 impl Consult {
     /// A file with this text and this name, before its first item. A file of more than 16 MiB has no items, and `out`
-    /// gets the line that says so. The only error is want of memory.
+    /// gets the line that says so. The only error is out of memory.
     pub fn new(
         alloc: Global,
         text: Vec<u8>,
@@ -84,8 +84,8 @@ impl Consult {
         })
     }
 
-    /// Takes up the item at the byte `at` or behind it, under these operators, and with texts in double quotes as
-    /// `quotes` says. A fault of it is written on `out`. The only error is want of memory.
+    /// Takes up the item at the byte `at` or after it, under these operators, and with texts in double quotes as
+    /// `quotes` says. A fault of it is written on `out`. The only error is out of memory.
     pub fn take(
         &mut self,
         alloc: Global,
@@ -121,7 +121,7 @@ impl Consult {
         }
     }
 
-    /// Where reading goes on behind a fault of the item that was looked for at the byte `at`.
+    /// Where reading goes on after a fault of the item that was looked for at the byte `at`.
     fn behind_fault(&self, at: usize, kind: SyntaxKind) -> Place
         ensures { rest_of result ≡ rest_behind self.now.text.items at kind }
     {
@@ -201,7 +201,7 @@ impl Consult {
     }
 
     /// Writes on `out` that the clause of the item at the byte `place` is refused with this error term. The only error is
-    /// want of memory.
+    /// Out of memory.
     pub fn refuse(
         &self,
         alloc: Global,
@@ -218,7 +218,7 @@ impl Consult {
     }
 
     /// Writes on `out` how the directive of the item at the byte `place` ended, under these operators. The only error is
-    /// want of memory.
+    /// Out of memory.
     pub fn report(
         &self,
         alloc: Global,
@@ -241,7 +241,7 @@ impl Consult {
     }
 
     /// The next goal of initialization/1 that is to be run, its variables numbered from 0, with the byte of its item; or
-    /// none. The only error is want of memory.
+    /// none. The only error is out of memory.
     pub fn next_goal(&mut self, alloc: Global) -> Result<Option<(usize, Flat)>, Memory>
         ensures named { self.new.name ≡ self.old.name }
         ensures gives { (job : Job) (x : Execution) (out : List ℕ) → Stands self.old job x out

@@ -11,7 +11,7 @@ use crate::subterms::term_at;
 use pl_term::{Flat, Memory, Node};
 use std::alloc::Global;
 
-/// The goal of a directive, or none where the item is a clause-term. The only error is want of memory.
+/// The goal of a directive, or none where the item is a clause-term. The only error is out of memory.
 pub fn directive_of(alloc: Global, term: &Flat) -> Result<Option<Flat>, Memory>
     ensures { IfOk result (λ g. g ≡ goal_of_directive term.now) }
 {
@@ -25,7 +25,7 @@ pub fn directive_of(alloc: Global, term: &Flat) -> Result<Option<Flat>, Memory>
 }
 
 /// The goal that a directive initialization/1 puts at the end of the file (ISO 7.4.2.6), or none where it is another one. The
-/// only error is want of memory.
+/// only error is out of memory.
 pub fn initialization_of(alloc: Global, term: &Flat) -> Result<Option<Flat>, Memory>
     ensures { IfOk result (λ g. g ≡ goal_for_later term.now) }
 {
@@ -45,7 +45,7 @@ fn is_unary(term: &Flat, name: &str) -> bool
     }
 }
 
-/// The argument of a compound term that has one. The only error is want of memory.
+/// The argument of a compound term that has one. The only error is out of memory.
 fn argument(alloc: Global, term: &Flat) -> Result<Flat, Memory>
     requires { IsUnary term.now }
     ensures { IfOk result (λ t. (f : Chars) × (term.now ≡ comp f t none)) }

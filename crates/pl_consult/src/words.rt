@@ -10,7 +10,7 @@ ghost use Rattle.pl_model.specs.Control.{consult_proc};
 use pl_term::{Flat, Memory, Text};
 use std::alloc::Global;
 
-/// The atom with this name. The only error is want of memory.
+/// The atom with this name. The only error is out of memory.
 pub fn word(alloc: Global, name: &str) -> Result<Flat, Memory>
     ensures { IfOk result (λ t. t ≡ atom (chars name.now)) }
 {
@@ -18,7 +18,7 @@ pub fn word(alloc: Global, name: &str) -> Result<Flat, Memory>
     Flat::atom(alloc, &name)
 }
 
-/// The compound term with this name and these arguments. The only error is want of memory.
+/// The compound term with this name and these arguments. The only error is out of memory.
 fn named(alloc: Global, name: &str, arguments: &[Flat]) -> Result<Flat, Memory>
     requires { 0 < length arguments.now }
     ensures { IfOk result (λ t. t ≡ compound (chars name.now) arguments.now) }
@@ -27,7 +27,7 @@ fn named(alloc: Global, name: &str, arguments: &[Flat]) -> Result<Flat, Memory>
     Flat::comp(alloc, &name, arguments)
 }
 
-/// The error of a term that is no goal (ISO 7.12.2 b). The only error is want of memory.
+/// The error of a term that is no goal (ISO 7.12.2 b). The only error is out of memory.
 pub fn not_callable(alloc: Global, culprit: Flat) -> Result<Flat, Memory>
     ensures { IfOk result (λ t. t ≡ no_goal culprit) }
 {
@@ -35,14 +35,14 @@ pub fn not_callable(alloc: Global, culprit: Flat) -> Result<Flat, Memory>
     named(alloc, "type_error", &[kind, culprit])
 }
 
-/// The error of a variable that is to be bound (ISO 7.12.2 a). The only error is want of memory.
+/// The error of a variable that is to be bound (ISO 7.12.2 a). The only error is out of memory.
 pub fn instantiation_error(alloc: Global) -> Result<Flat, Memory>
     ensures { IfOk result (λ t. t ≡ instantiation) }
 {
     word(alloc, "instantiation_error")
 }
 
-/// The ball of an error by which the consulting of a file refuses a clause. The only error is want of memory.
+/// The ball of an error by which the consulting of a file refuses a clause. The only error is out of memory.
 pub fn consulting_ball(alloc: Global, error: Flat) -> Result<Flat, Memory>
     ensures { IfOk result (λ t. t ≡ ball_of error consult_proc) }
 {

@@ -61,7 +61,7 @@ fn take_seats(alloc: Global, words: &Words, count: usize) -> Result<Vec<Front>, 
 
 impl History {
     /// A history with no entry, the hub's front, which carries engine 1, and a front for each of so many engines. The
-    /// only error is want of memory.
+    /// only error is out of memory.
     pub fn new(alloc: Global, engines: u32) -> Result<(History, HubFront, Vec<Front>), Memory>
         ensures hub { IfOk result (λ made. made.1 ≡ new_hub made.0) }
         ensures fronts { IfOk result (λ made. made.2.items ≡ replicate engines (new_front made.0)) }

@@ -10,7 +10,7 @@ pub next_front : (before text : List ℕ) (at k : ℕ)
 next_front before text at k =
     rw (take_rest text at, append_assoc, take-add at k text)
 
--- a front of a file, and `k` bytes of the file behind it: a longer front
+-- a front of a file, and `k` bytes of the file after it: a longer front
 pub longer_front : (bytes old new : List ℕ) (m n k : ℕ)
     → old ≡ take m bytes
     → m ≡ length old

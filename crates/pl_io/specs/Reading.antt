@@ -8,7 +8,7 @@ pub record Reads (bytes : List ℕ) (at k len : ℕ) (buffer : List ℕ) : Type 
   pub same : take k buffer ≡ take k (drop at bytes)
   pub at_end : 0 < len → ((k ≡ 0) ↔ (length bytes ≤ at))
 
--- `k` bytes of a file were put at the end of a list: those that come behind as many as the list had. There is none
+-- `k` bytes of a file were put at the end of a list: those that come after as many as the list had. There is none
 -- exactly at or past the end of the file.
 pub record Continues (bytes : List ℕ) (k : ℕ) (old new : List ℕ) : Type 0 where
   pub longer : new ≡ old ++ take k (drop (length old) bytes)

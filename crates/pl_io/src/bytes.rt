@@ -27,7 +27,7 @@ impl Bytes {
         Bytes { all }
     }
 
-    /// A copy of these bytes. The only error is want of memory.
+    /// A copy of these bytes. The only error is out of memory.
     pub fn from_slice(alloc: Global, bytes: &[u8]) -> Result<Bytes, Memory>
         ensures { IfOk result (λ b. b ≡ bytes.now) }
     {

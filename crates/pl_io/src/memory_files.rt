@@ -68,7 +68,7 @@ impl MemoryFiles {
     }
 
     /// Puts a file with these bytes under a name, in the place of one that is there. The counts of faults and calls
-    /// stay. The only error is want of memory, and then nothing has changed.
+    /// stay. The only error is out of memory, and then nothing has changed.
     pub fn insert(&mut self, name: Text, bytes: Bytes) -> Result<(), Memory>
         ensures puts { OnOk result (Puts self.old name bytes self.new) }
         ensures unchanged { OnErr result (self.new ≡ self.old) }

@@ -42,7 +42,7 @@ impl Model for MemorySink {
 
 impl MemorySink {
     /// An empty sink with the room for `room` bytes. The calls with the numbers in `failing` are to fail, counted
-    /// from 0. A call takes any number of bytes. The only error is want of memory for the room.
+    /// from 0. A call takes any number of bytes. The only error is out of memory for the room.
     pub fn with_room(alloc: Global, room: usize, failing: Vec<u64>) -> Result<MemorySink, Memory>
         ensures { IfOk result (λ s. s ≡ record {
           written = [];

@@ -44,7 +44,7 @@ pub fn read_all<F: Files>(
     Ok(Bytes::from_vec(all))
 }
 
-/// A buffer for one read. The only error is want of memory.
+/// A buffer for one read. The only error is out of memory.
 fn empty_piece(alloc: Global) -> Result<Vec<u8>, Memory>
     ensures { IfOk result (λ b. 0 < vec_len b) }
 {
@@ -65,7 +65,7 @@ fn wanted(rest: u64, room: usize) -> usize
     }
 }
 
-/// Reads the bytes that come behind `all` in a file, at most `most` of them and through `buffer`, puts them at the
+/// Reads the bytes that come after `all` in a file, at most `most` of them and through `buffer`, puts them at the
 /// end of `all`, and answers their number: none exactly at the end of the file.
 fn read_more<F: Files>(
     files: &mut F,

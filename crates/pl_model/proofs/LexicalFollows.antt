@@ -1,4 +1,4 @@
--- A token lies behind the place where it was looked for, and within the text.
+-- A token lies after the place where it was looked for, and within the text.
 use Rattle.std.proofs.Common.{◌≡◌, ℕ, ◌+◌, ◌≤◌, ◌==◌, List, length, drop, Result, Ok, Err, refl, arith}
 use Rattle.std.proofs.lemmas.List.{length-drop}
 use Rattle.pl_model.specs.Tokens.{skip_layout}

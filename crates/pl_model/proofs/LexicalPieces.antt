@@ -1,4 +1,4 @@
--- Pieces of quoted texts: how many bytes each has, and how a quoted text goes on behind one.
+-- Pieces of quoted texts: how many bytes each has, and how a quoted text goes on after one.
 use Rattle.std.proofs.Common.{◌≡◌, ℕ, ◌+◌, ◌-◌, ◌<◌, ◌≤◌, zero, suc, Bool, true, false, cond, ◌==◌, List, [], ◌∷◌, length, take, drop, get_or, slice_index, Option, Some, None, option_map, Ok, Err, refl, ap, ◌∙◌, arith}
 use Rattle.std.specs.Str.{all_scalars}
 use Rattle.std.specs.Str.Parse.{digits_value}

@@ -167,7 +167,7 @@ quoted_by-within quote bs None h = omega arith
 quoted_by-within quote bs (Some n) h =
     closed-within quote (1 + length bs) (n + 2) (spelled quote 1 0 bs) (omega arith) (omega arith) (spelled-below quote 1 0 bs)
 
--- A quoted text lies within its opening quote and what is behind.
+-- A quoted text lies within its opening quote and what is after.
 pub quoted-within : (quote : ℕ) (bs : List ℕ) → ReadsWithin (1 + length bs) (quoted quote bs)
 quoted-within quote bs = quoted_by-within quote bs (closing quote 0 bs) (closing-before quote 0 bs)
 

@@ -247,7 +247,7 @@ run-digits (d ∷ ds) rest digits stops =
 plain_digit : (d : ℕ) → 48 ≤ d → d ≤ 57 → ((d == 39) ≡ false) × (radix_of d ≡ 0) × (begins d ≡ Digit)
 plain_digit d low high = (grind (arith, nat_tests), grind (arith, nat_tests), grind (arith, nat_tests))
 
--- The byte behind the first digit makes no other numeral of it.
+-- The byte after the first digit makes no other numeral of it.
 second : (d : ℕ) (ds rest : List ℕ) → AllDigits 10 ds → EndsNumeral rest
     → ((slice_index (d ∷ (ds ++ rest)) 1 == 39) ≡ false) × (radix_of (slice_index (d ∷ (ds ++ rest)) 1) ≡ 0)
 second d [] rest digits ends = (no_quote rest ends.quote, ends.letter) where

@@ -30,7 +30,7 @@ both : (a b : Bool) → (a && b) ≡ true → (a ≡ true) × (b ≡ true)
 both true b e = (refl, e)
 both false b e = cc
 
--- A text in quotes stands for one character, whatever is behind it.
+-- A text in quotes stands for one character, whatever is after it.
 abbrev Reads : ℕ → ℕ → Chars → Type 0
 Reads quote c text = (ys : List ℕ) → piece quote (encode_utf8_all text ++ ys) ≡ Character c (length (encode_utf8_all text))
 

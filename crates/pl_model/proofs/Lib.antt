@@ -39,3 +39,7 @@ pub mod KeptSizes
 pub mod StateLater
 pub mod RepliesFit
 pub mod WaitsOn
+pub mod DispatchTexts
+pub mod SearchNames
+pub mod SystemLaws
+pub mod SystemRows

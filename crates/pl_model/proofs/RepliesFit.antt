@@ -1,5 +1,5 @@
 -- Each request is answered by a reply that fits it.
-use Rattle.std.proofs.Common.{◌≡◌, ℕ, zero, List, [], ◌∷◌, Option, Some, None, Bool, true, false, refl, ap, sym, ◌∙◌, subst}
+use Rattle.std.proofs.Common.{◌≡◌, ℕ, zero, List, [], ◌∷◌, Option, Some, None, Bool, true, false, refl, subst}
 use Rattle.std.specs.Prelude.{if◌then◌else◌, nat_le, codes}
 use Rattle.pl_term.specs.Tree.{Chars, Tree}
 use Rattle.pl_term.specs.Variables.{rename}

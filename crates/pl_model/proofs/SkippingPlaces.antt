@@ -1,4 +1,4 @@
--- Where skipping goes on: behind each piece that is passed, and behind each token that is none of the end.
+-- Where skipping goes on: after each piece that is passed, and after each token that is none of the end.
 use Rattle.std.proofs.Common.{◌≡◌, ℕ, ◌+◌, ◌-◌, ◌^◌, ◌<◌, ◌≤◌, zero, suc, Bool, true, false, cond, nat_lt, ◌==◌, ◌&&◌, List, [], ◌∷◌, length, take, drop, slice_index, Option, Some, None, option_map, Result, Ok, Err, refl, sym, ap, subst, ◌∙◌, arith}
 use Rattle.std.specs.Char.{is_ascii_digit}
 use Rattle.std.specs.Str.{chars, is_utf8, continuation_len}
@@ -26,7 +26,7 @@ use Rattle.pl_model.specs.Skipping.{behind_reading, behind_blank, passing, claus
 use Rattle.pl_model.proofs.TokenPlaces.{skip_layout-forward}
 use Rattle.pl_model.proofs.LexicalPlaces.{ReadsWithin, token_front-within}
 
--- Up to the first end token, behind a piece.
+-- Up to the first end token, after a piece.
 
 mapped_none : (o : Option ℕ) → o ≡ option_map (λ n. 0 + n) o
 mapped_none None = refl
@@ -221,7 +221,7 @@ through-token bs (BackQuoted t) n other = refl
 through-token bs (Punctuation mark) n other = refl
 through-token bs EndToken n other = absurd (other refl)
 
--- A token that lies at a start, behind which the front is.
+-- A token that lies at a start, after which the front is.
 record Begun (text : List ℕ) (start : ℕ) (kind : TokenKind) (s e : ℕ) : Type 0 where
   pub size : ℕ
   pub some : 0 < size

@@ -89,7 +89,7 @@ module _ (text : List ℕ) where
   closed-below mark t r n h =
       closed_by-below t r n (token_at text r.at) (behind_mark mark (token_at text r.at)) (λ e is. omega (arith, mark-less mark r e is))
 
--- The place behind a variable.
+-- The place after a variable.
 
 named-at : (r : Reading) (name : Chars) (place : ℕ) (n : Option ℕ) → (named r name place n).reading.at ≡ place
 named-at r name place (Some n) = refl
@@ -472,7 +472,7 @@ module _ (text : List ℕ) (ops : Lookup) (quotes : Quotes) where
       going_on-same (term text ops quotes n) whole (operations text ops quotes n max) (rest max) n whole-takes enough.term_same (enough.rest_same max)
       max p (token_at text p.reading.at) below refl
 
-  -- Behind a term among others.
+  -- After a term among others.
   abbrev pub further_at : Part → Outcome Items
   further_at p = further text ops quotes sequence p (behind_mark Comma (token_at text p.reading.at))
 

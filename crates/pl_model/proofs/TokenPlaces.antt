@@ -1,4 +1,4 @@
--- The definition of layout case by case, and where what follows it lies: behind the place at which it is looked for, and
+-- The definition of layout case by case, and where what follows it lies: after the place at which it is looked for, and
 -- within the text.
 use Rattle.std.proofs.Common.{◌≡◌, ℕ, ◌+◌, ◌-◌, ◌<◌, ◌≤◌, zero, suc, Bool, true, false, ◌==◌, ◌||◌, List, [], ◌∷◌, length, drop, get_or, Result, Ok, Err, refl, ap, sym, ◌∙◌, arith}
 use Rattle.std.proofs.lemmas.List.{length-drop, drop_more, drop-drop}
@@ -101,7 +101,7 @@ closes_clause-scalar bs c k e = closes_clause-front bs ∙ ap closes_front e
 pub closes_clause-broken : (bs : List ℕ) → front bs ≡ broken → closes_clause bs ≡ false
 closes_clause-broken bs e = closes_clause-front bs ∙ ap closes_front e
 
--- A token lies behind the place where it was looked for.
+-- A token lies after the place where it was looked for.
 pub record Follows (text : List ℕ) (at start end : ℕ) : Type 0 where
   pub begins : at ≤ start
   pub ends : start < end

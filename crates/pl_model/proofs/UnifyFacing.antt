@@ -45,7 +45,7 @@ opening (more t us) n ns e =
     let same : first_node t ∷ nodes_all (opened t us) ≡ n ∷ ns = sym (nodes-opened t us) ∙ e in
     record { term = t; others = us; whole = refl; first = cc; behind = cc }
 
--- The first nodes are the same, and go on with the terms behind them.
+-- The first nodes are the same, and go on with the terms after them.
 record GoesOn (t u : Tree) (ts us : Trees) : Type 0 where
   counted : count (opened t ts) ≡ count (opened u us)
   solves : (n : ℕ) (bs : Bindings) → solve n bs (more t ts) (more u us) ≡ solve n bs (opened t ts) (opened u us)
@@ -76,7 +76,7 @@ goes_on t u ts us e c =
     go (comp f v vs) (int j) e n bs = cc
     go (comp f v vs) (atom b) e n bs = cc
 
--- What is left behind a common front is solved alike.
+-- What is left after a common front is solved alike.
 pub record Behind (ls rs ms ns : List Node) : Type 0 where
   pub facing : Facing ms ns
   pub solves : (n : ℕ) (bs : Bindings) → solve n bs (forest ls) (forest rs) ≡ solve n bs (forest ms) (forest ns)

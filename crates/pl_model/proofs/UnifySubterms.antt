@@ -77,7 +77,7 @@ no_terms (more t ts) e = absurd (omega arith)
 pub reading-end : (all : List Node) (at i : ℕ) → Reading all at i 0 → i ≡ at + length (nodes (tree (drop at all)))
 reading-end all at i r = omega (arith, r.place, no_terms r.pending_is.terms r.pending_is.counted, r.pending_is.measured)
 
--- Nor can it go on behind the last node.
+-- Nor can it go on after the last node.
 pub reading-past : (all : List Node) (at i k : ℕ) → length all ≤ i → Reading all at i k → i ≡ at + length (nodes (tree (drop at all)))
 reading-past all at i k h r =
     omega (arith, r.place, no_nodes r.pending_is.terms r.pending_is.rest (sym (drop_all i all h) ∙ r.pending_is.parts), r.pending_is.measured)

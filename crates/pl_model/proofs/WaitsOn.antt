@@ -1,5 +1,5 @@
 -- A request that waits names a queue or a thread that is there.
-use Rattle.std.proofs.Common.{◌≡◌, ℕ, List, [], ◌∷◌, Option, Some, None, Bool, true, false, refl, ap, sym, ◌∙◌}
+use Rattle.std.proofs.Common.{◌≡◌, ℕ, List, [], ◌∷◌, Option, Some, None, Bool, true, false, refl, ap}
 use Rattle.std.specs.Prelude.{if◌then◌else◌, nat_le, codes, option_map, option_and_then, ◌==◌}
 use Rattle.pl_term.specs.Tree.{Chars, Tree}
 use Rattle.pl_model.specs.declared.operators.Kind.{Kind as OperatorKind}
@@ -17,7 +17,7 @@ use Rattle.pl_model.specs.Database.{Stored, is_static}
 use Rattle.pl_model.specs.Threads.{Queue, Threads, is_alias, queue_named, queue_numbered, thread_named}
 use Rattle.pl_model.specs.SharedState.{SharedState}
 use Rattle.pl_model.specs.Requests.{Request, Reply, look, call_clauses, inspected_clauses, retracted_clauses, cleared_clauses, erase_clause, assert_first, assert_last, consult_clause, abolish_procedure, make_dynamic, all_procedures, put_operators, read_operators, put_flag, all_flags, own_name, create_thread, start_goal, join_thread, send_message, get_message, peek_message, create_queue, destroy_queue, collect_atoms, collect_clauses}
-use Rattle.pl_model.specs.Service.{Served, answers, waits, most_updates, updates, serve, refuses, alias_taken, unknown_called, cleared, added, modified, operators_put, got, peeked, with_queue, ended, joined, started, created, name_of, queue_for, queue_asked, queue_term, thread_for, on_of, IsAwaited}
+use Rattle.pl_model.specs.Service.{Served, answers, waits, most_updates, updates, serve, refuses, alias_taken, unknown_called, cleared, added, modified, operators_put, got, peeked, with_queue, ended, joined, started, created, name_of, queue_term, on_of, IsAwaited}
 
 -- What is answered does not wait.
 record Replies (a : Served) : Type 0 where

@@ -103,7 +103,7 @@ tried l p s t n h c =
     taking l s n (tried_by p t) c.clause.variables (clause_cells c.clause)
     (λ s' n'. clause_unified p s' n' h c.place (raised_by s.next c.clause.body) (unify t (raised_by s.next (pattern p c.clause))))
 
--- The clauses are tried in their order. Those behind the first one are a choice point; the last one leaves none.
+-- The clauses are tried in their order. Those after the first one are a choice point; the last one leaves none.
 unfoldable pub next_clause : Limits → Purpose → State → Tree → Node → List (Stored Clause) → State
 next_clause l p s t n [] = failed s
 next_clause l p s t n (c ∷ []) = tried l p s t n (length s.choices) c
@@ -276,7 +276,7 @@ abbrev pub with_throw : State → Node → Tree → Tree → State
 with_throw s n g t =
     if is_variable t then raised s n instantiation_error (proc_of g) else record s { doing = throwing t n.goals }
 
--- ISO 8.17.4. The exit status 255 is that of want of memory alone.
+-- ISO 8.17.4. The exit status 255 is that of out of memory alone.
 abbrev pub status_error : ℤ → Tree
 status_error i = domain_error (codes "exit_status") (int i)
 
@@ -350,7 +350,7 @@ abbrev pub with_other : Limits → State → Node → Tree → Option Row → Ne
 with_other l s n g (Some r) = goes (with_row l s n (proc_of g) (arguments g) r)
 with_other l s n g None = with_shared l s n g (shared (name_of g) (arguments g))
 
--- A goal is taken up at the node behind it; a cut in it goes back to the height `h`.
+-- A goal is taken up at the node after it; a cut in it goes back to the height `h`.
 unfoldable pub take_up : Limits → State → Node → Tree → ℕ → Construct → Next
 take_up l s n g h succeeds = goes (run_on s n)
 take_up l s n g h cuts = goes (record s { choices = up_to h s.choices; doing = running n })
@@ -452,7 +452,7 @@ at_catch s n catcher recovery c =
     recovery
     (unify (rename s.next c.ball) catcher)
 
--- The choice point of the catch is the newest of these; what is behind the exit is looked at where it is none.
+-- The choice point of the catch is the newest of these; what is after the exit is looked at where it is none.
 abbrev pub caught : Limits → State → Tree → List Pending → List Choice → State
 caught l s ball outer (catch catcher recovery n ∷ older) =
     let s' = record s { choices = older } in at_catch s' n catcher recovery (fitting l s' n ball)

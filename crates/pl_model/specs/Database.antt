@@ -2,15 +2,15 @@
 -- it is there and the one from which on it is gone. A generation is a number of updates: the update at the place `k`
 -- leads from the generation `k` to `k + 1`. A call sees the clauses of its own generation over all its retries (the
 -- logical update view, ISO 7.5.4; SWI-Prolog manual, section 'Update view'). The clauses are of any type `C`.
-use Rattle.std.specs.Prelude.{ℕ, suc, zero, ◌+◌, ◌^◌, List, [], ◌∷◌, ◌++◌, map, filter, find, Option, Some, None, is_some, option_map, Bool, true, false, if◌then◌else◌, ◌==◌, ◌&&◌, nat_lt, nat_le, not, bytes_eq, codes}
+use Rattle.std.specs.Prelude.{ℕ, ◌+◌, ◌^◌, List, [], ◌∷◌, ◌++◌, map, filter, find, Option, Some, None, is_some, option_map, Bool, true, false, if◌then◌else◌, ◌==◌, ◌&&◌, nat_lt, nat_le, not}
 use Rattle.std.specs.List.{list_any}
 use Rattle.std.specs.Ordering.{nat_cmp, ordering_then}
 use Rattle.std.specs.declared.cmp.Ordering.{Ordering}
 use Rattle.std.specs.declared.cmp.Ordering.TheVariants.{Less, Equal, Greater}
-use Rattle.pl_term.specs.Tree.{Chars}
 use Rattle.pl_term.specs.Order.{text_order}
 use Rattle.pl_model.specs.History.{Proc, Origin, consult, assert}
 use Rattle.pl_model.specs.Predicates.{same_proc}
+pub use Rattle.pl_model.specs.SystemPredicates.{is_system}
 
 -- A procedure is static or dynamic (ISO 7.5.2). A goal can neither change a static one nor look into it.
 pub data Access : Type 0 where
@@ -29,53 +29,13 @@ pub record Stored (C : Type 0) : Type 0 where
   pub erased : Option ℕ
 
 pub record Database (C : Type 0) : Type 0 where
-  -- the procedures of the program; those of the system stand in `system_names`
+  -- the procedures of the program; those of the system stand in `system_predicates`
   pub procedures : List Procedure
   -- the clauses in database order, the erased ones included
   pub clauses : List (Stored C)
 
 abbrev pub opening_database : {C : Type 0} → Database C
 opening_database = record { procedures = []; clauses = [] }
-
--- The predicates of the system by their arity: the control constructs (ISO 7.8), the built-in predicates (ISO 8, and of
--- ISO Cor.2 false/0, callable/1, ground/1, subsumes_term/2, term_variables/2, sort/2, msort/2, keysort/2 and
--- retractall/1), those of SWI-Prolog for threads, message queues and the collection of atoms and clauses, and the names of
--- the items of a text that are no facts (ISO 7.4.2), which have no clauses. All of them are static.
-abbrev pub system_names : ℕ → List Chars
-system_names zero =
-    codes "true" ∷ codes "!" ∷ codes "fail" ∷ codes "false" ∷ codes "repeat" ∷ codes "halt" ∷ codes "nl"
-    ∷ codes "garbage_collect_atoms" ∷ codes "garbage_collect_clauses" ∷ []
-system_names (suc zero) =
-    codes "\\+" ∷ codes "call" ∷ codes "once" ∷ codes "throw" ∷ codes "halt" ∷ codes ":-" ∷ codes "?-"
-    ∷ codes "var" ∷ codes "nonvar" ∷ codes "atom" ∷ codes "integer" ∷ codes "float" ∷ codes "number" ∷ codes "atomic"
-    ∷ codes "compound" ∷ codes "callable" ∷ codes "ground"
-    ∷ codes "asserta" ∷ codes "assertz" ∷ codes "assert" ∷ codes "retract" ∷ codes "retractall" ∷ codes "abolish"
-    ∷ codes "dynamic" ∷ codes "discontiguous" ∷ codes "multifile" ∷ codes "current_predicate"
-    ∷ codes "write" ∷ codes "writeq" ∷ codes "print" ∷ codes "write_canonical" ∷ codes "put_char"
-    ∷ codes "thread_self" ∷ codes "thread_exit" ∷ codes "thread_get_message" ∷ codes "thread_peek_message"
-    ∷ codes "message_queue_create" ∷ codes "message_queue_destroy" ∷ []
-system_names (suc (suc zero)) =
-    codes "," ∷ codes ";" ∷ codes "->" ∷ codes "call" ∷ codes ":-" ∷ codes "-->"
-    ∷ codes "=" ∷ codes "\\=" ∷ codes "unify_with_occurs_check" ∷ codes "subsumes_term" ∷ codes "==" ∷ codes "\\=="
-    ∷ codes "@<" ∷ codes "@=<" ∷ codes "@>" ∷ codes "@>=" ∷ codes "copy_term" ∷ codes "term_variables" ∷ codes "=.."
-    ∷ codes "sort" ∷ codes "msort" ∷ codes "keysort"
-    ∷ codes "is" ∷ codes "=:=" ∷ codes "=\\=" ∷ codes "<" ∷ codes "=<" ∷ codes ">" ∷ codes ">="
-    ∷ codes "atom_length" ∷ codes "atom_chars" ∷ codes "atom_codes" ∷ codes "number_chars" ∷ codes "number_codes"
-    ∷ codes "char_code" ∷ codes "clause" ∷ codes "set_prolog_flag" ∷ codes "current_prolog_flag"
-    ∷ codes "thread_create" ∷ codes "thread_join" ∷ codes "thread_send_message" ∷ codes "thread_get_message"
-    ∷ codes "thread_peek_message" ∷ []
-system_names (suc (suc (suc zero))) =
-    codes "call" ∷ codes "catch" ∷ codes "findall" ∷ codes "compare" ∷ codes "functor" ∷ codes "arg"
-    ∷ codes "atom_concat" ∷ codes "op" ∷ codes "current_op" ∷ codes "thread_create" ∷ []
-system_names (suc (suc (suc (suc zero)))) = codes "call" ∷ []
-system_names (suc (suc (suc (suc (suc zero))))) = codes "call" ∷ codes "sub_atom" ∷ []
-system_names (suc (suc (suc (suc (suc (suc zero)))))) = codes "call" ∷ []
-system_names (suc (suc (suc (suc (suc (suc (suc zero))))))) = codes "call" ∷ []
-system_names (suc (suc (suc (suc (suc (suc (suc (suc zero)))))))) = codes "call" ∷ []
-system_names _ = []
-
-abbrev pub is_system : Proc → Bool
-is_system p = list_any (bytes_eq p.name) (system_names p.arity)
 
 -- Whether the procedure is static or dynamic, where there is one.
 abbrev pub access_of : {C : Type 0} → Database C → Proc → Option Access

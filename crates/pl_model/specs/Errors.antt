@@ -1,6 +1,6 @@
 -- Error terms of procedures (ISO 7.12.2). Those of a goal are in `ErrorTerms`, balls in `Balls`.
 use Rattle.std.specs.Prelude.{pos, codes}
-use Rattle.pl_term.specs.Tree.{Chars, Tree, atom, int, comp, none, more}
+use Rattle.pl_term.specs.Tree.{Tree, atom, int, comp, none, more}
 use Rattle.pl_model.specs.History.{Proc}
 
 -- The term Name/Arity (ISO 7.1.6.6).

@@ -7,7 +7,7 @@ use Rattle.pl_model.specs.declared.syntax.SyntaxFault.{SyntaxFault}
 
 -- How far reading has come in a clause.
 pub record Reading : Type 0 where
-  pub at : ℕ  -- the place behind the last token
+  pub at : ℕ  -- the place after the last token
   pub names : List (Chars × ℕ)  -- the named variables so far and their numbers, in order of first occurrence
   pub next : ℕ  -- the number of the next new variable
 
@@ -53,7 +53,7 @@ variable_named r name place =
     named r name place (number_of r.names name)
 
 -- What stands at a place of a text: a clause with its named variables, the place of its first token and the place
--- behind its end token, or a fault with its place, or nothing but layout.
+-- after its end token, or a fault with its place, or nothing but layout.
 pub data Item : Type 0 where
   clause : Tree → List (Chars × ℕ) → ℕ → ℕ → Item
   fault : SyntaxKind → ℕ → Item

@@ -23,7 +23,7 @@ is_digit radix c = nat_lt (digit_value c) radix
 abbrev pub digit_count : ℕ → List ℕ → ℕ
 digit_count radix bs = run (is_digit radix) 0 bs
 
--- Escape sequences (6.4.2.1). The bytes are those behind the backslash; the number of bytes counts it too.
+-- Escape sequences (6.4.2.1). The bytes are those after the backslash; the number of bytes counts it too.
 
 -- A control escape sequence, or a meta escape sequence.
 abbrev pub simple_escape : ℕ → Option ℕ
@@ -63,7 +63,7 @@ simple_piece None bs c size =
     if is_digit 8 c then digits_escape 8 1 bs else
     if c == 117 then four_digits_escape (drop 1 bs) else Bad BadEscape (1 + size)
 
--- What a backslash and the bytes behind it are. A sequence that is none is passed with one character.
+-- What a backslash and the bytes after it are. A sequence that is none is passed with one character.
 abbrev pub escape : List ℕ → Piece
 escape bs = elim (front bs) [ nothing ↦ Bad BadEscape 1 | scalar c k ↦ simple_piece (simple_escape c) bs c k | broken ↦ Bad BadEscape 2 ]
 
@@ -83,7 +83,7 @@ abbrev pub begins_with : ℕ → List ℕ → Bool
 begins_with c [] = false
 begins_with c (b ∷ bs) = b == c
 
--- A piece of a text in these quotes: a quote inside is doubled, a character behind a backslash is escaped, any
+-- A piece of a text in these quotes: a quote inside is doubled, a character after a backslash is escaped, any
 -- other character is itself, a newline too.
 abbrev pub piece_of : ℕ → List ℕ → ℕ → ℕ → Piece
 piece_of quote bs c size =
@@ -93,7 +93,7 @@ piece_of quote bs c size =
 abbrev pub piece : ℕ → List ℕ → Piece
 piece quote bs = elim (front bs) [ nothing ↦ Bad BadUtf8 1 | scalar c k ↦ piece_of quote bs c k | broken ↦ Bad BadUtf8 1 ]
 
--- Quoted texts. The bytes are those behind the opening quote. The second number says how many bytes at the front
+-- Quoted texts. The bytes are those after the opening quote. The second number says how many bytes at the front
 -- belong to a piece that was passed already.
 
 -- The number of bytes before the closing quote, or none where the text stays open.

@@ -24,7 +24,7 @@ use Rattle.pl_model.specs.declared.lexical.Reading.TheVariants.{Token, Fault, No
 use Rattle.pl_model.specs.declared.lexical.Lexeme.{Lexeme}
 use Rattle.pl_model.specs.declared.lexical.Lexeme.TheVariants.{Token as TokenLexeme, End}
 
--- Names and variables (6.4.2, 6.4.3): a first character of so many bytes, and what continues a name behind it.
+-- Names and variables (6.4.2, 6.4.3): a first character of so many bytes, and what continues a name after it.
 
 abbrev pub word_size : ℕ → List ℕ → ℕ
 word_size size bs = size + run continues_name 0 (drop size bs)
@@ -56,11 +56,11 @@ coded_character (Continuation k) = Fault BadEscape 2
 coded_character Close = Fault BadEscape 0
 coded_character (Bad kind k) = Fault kind 2
 
--- The bytes are those behind `0'`. A newline has to be escaped here.
+-- The bytes are those after `0'`. A newline has to be escaped here.
 abbrev pub character_code : List ℕ → Reading
 character_code bs = if slice_index bs 0 == 10 then Fault BadEscape 0 else coded_character (piece 39 bs)
 
--- The radix that a letter behind `0` stands for.
+-- The radix that a letter after `0` stands for.
 abbrev pub radix_of : ℕ → ℕ
 radix_of c = if c == 120 then 16 else if c == 111 then 8 else if c == 98 then 2 else 0
 
@@ -120,6 +120,6 @@ token kind start end = Ok (TokenLexeme kind start end)
 abbrev pub lex_fault : SyntaxKind → ℕ → Lexed
 lex_fault kind at = Err (record { kind = kind; at = at })
 
--- The first token at a place or behind it, where layout is passed.
+-- The first token at a place or after it, where layout is passed.
 unfoldable pub token_at : List ℕ → ℕ → Lexed
 token_at text at = from_start text at (skip_layout at 0 (drop at text))

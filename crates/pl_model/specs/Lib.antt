@@ -13,6 +13,7 @@ pub mod Writing
 pub mod TermWriting
 pub mod History
 pub mod Predicates
+pub mod SystemPredicates
 pub mod Database
 pub mod Threads
 pub mod Flags

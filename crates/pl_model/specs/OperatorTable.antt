@@ -15,7 +15,7 @@ use Rattle.pl_model.specs.declared.operators.Kind.TheVariants.{Xfx, Xfy, Yfx, Fy
 use Rattle.pl_model.specs.declared.operators.Place.{Place}
 use Rattle.pl_model.specs.declared.operators.Place.TheVariants.{Prefix, Infix, Postfix}
 
--- The specifier says where the operator stands: before its argument, between two, or behind it (ISO 6.3.4, table 4).
+-- The specifier says where the operator stands: before its argument, between two, or after it (ISO 6.3.4, table 4).
 abbrev pub place_of : Kind → Place
 place_of Xfx = Infix
 place_of Xfy = Infix

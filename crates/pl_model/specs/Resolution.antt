@@ -45,7 +45,7 @@ pub data Purpose : Type 0 where
   inspecting : Purpose
   retracting : Purpose
 
--- A choice point (ISO 7.7.2): what was not tried, with the node behind the goal that left it.
+-- A choice point (ISO 7.7.2): what was not tried, with the node after the goal that left it.
 pub data Choice : Type 0 where
   -- the clauses that were not tried for this goal, or for this clause-term of clause/2 and retract/1
   clauses : Purpose → Tree → List (Stored Clause) → Node → Choice

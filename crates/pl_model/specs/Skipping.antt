@@ -1,4 +1,4 @@
--- Skipping: where reading may go on behind a fault. From a place on the text is passed piece by piece, layout, tokens
+-- Skipping: where reading may go on after a fault. From a place on the text is passed piece by piece, layout, tokens
 -- (ISO 6.4) and what is neither, up to the first end token (6.4.8).
 use Rattle.std.specs.Prelude.{ℕ, List, [], ◌∷◌, Bool, false, Option, Some, None, ◌+◌, ◌-◌, suc, zero, ◌&&◌, ◌==◌, nat_lt, if◌then◌else◌, length, drop, slice_index, option_map}
 use Rattle.pl_model.specs.Tokens.{nothing, scalar, broken, front, Blank, passes, stops, spoils, blank, line_length, block_length}
@@ -33,7 +33,7 @@ quoted_size bs = option_map (λ n. n + 2) (closing (slice_index bs 0) 0 (drop 1 
 abbrev pub begins_code : List ℕ → Bool
 begins_code bs = (slice_index bs 0 == 48) && ((slice_index bs 1 == 39) && nat_lt 2 (length bs))
 
--- A fault where a token would be. A quoted text with a fault in it is passed whole, `0'` with the one character behind
+-- A fault where a token would be. A quoted text with a fault in it is passed whole, `0'` with the one character after
 -- it, and anything else by one character.
 abbrev pub behind_fault : List ℕ → Passing
 behind_fault bs =
@@ -71,7 +71,7 @@ abbrev pub end_or : ℕ → ℕ → Option ℕ → ℕ
 end_or size at (Some n) = at + n
 end_or size at None = size
 
--- The place behind the first end token at a place or behind it, or the end of the text where there is none, or where
+-- The place after the first end token at a place or after it, or the end of the text where there is none, or where
 -- a quoted text or a comment before it stays open.
 unfoldable pub skip : List ℕ → ℕ → ℕ
 skip text at = end_or (length text) at (clause_length 0 (drop at text))

@@ -83,7 +83,7 @@ mark_number CloseCurly = 6
 mark_number Bar = 7
 mark_number Comma = 8
 
--- The place behind a punctuation token, where it stands ahead.
+-- The place after a punctuation token, where it stands ahead.
 abbrev pub behind_mark : Mark → Lexed → Option ℕ
 behind_mark mark (Ok (Token (Punctuation m) start end)) = if mark_number m == mark_number mark then Some end else None
 behind_mark mark l = None
@@ -168,8 +168,8 @@ module _ (text : List ℕ) (ops : Lookup) (quotes : Quotes) where
       if is_functor end then functional items f (moved r (end + 1)) else
       atom_or_operator inner max r f start end (ops f Prefix) (token_at text end)
 
-  -- A list in list notation (ISO 6.3.5), from the place behind its opening bracket. Where a head tail separator stands
-  -- ahead, the list has a tail behind it.
+  -- A list in list notation (ISO 6.3.5), from the place after its opening bracket. Where a head tail separator stands
+  -- ahead, the list has a tail after it.
   abbrev pub with_tail : (ℕ → Reading → Outcome Part) → Items → Option ℕ → Outcome Part
   with_tail inner q None = closed text CloseList (list_with q (atom (codes "[]"))) q.reading
   with_tail inner q (Some end) = and_then (inner 999 (moved q.reading end)) (λ p. closed text CloseList (list_with q p.term) p.reading)
@@ -178,7 +178,7 @@ module _ (text : List ℕ) (ops : Lookup) (quotes : Quotes) where
   list_term inner items r (Some end) = complete (atom (codes "[]")) r end
   list_term inner items r None = and_then (items r) (λ q. with_tail inner q (behind_mark Bar (token_at text q.reading.at)))
 
-  -- A term in curly brackets (ISO 6.3.6), from the place behind the opening one.
+  -- A term in curly brackets (ISO 6.3.6), from the place after the opening one.
   abbrev pub curly_term : (ℕ → Reading → Outcome Part) → Reading → Option ℕ → Outcome Part
   curly_term inner r (Some end) = complete (atom (codes "{}")) r end
   curly_term inner r None = and_then (inner 1200 r) (λ p. closed text CloseCurly (comp (codes "{}") p.term none) p.reading)
@@ -214,7 +214,7 @@ module _ (text : List ℕ) (ops : Lookup) (quotes : Quotes) where
   name_ahead (Ok (Token (Punctuation Comma) start end)) = Some (codes ",", end)
   name_ahead l = None
 
-  -- An infix operator goes on with a term behind it, a postfix operator by itself (ISO 6.3.4.2). Where neither fits, the
+  -- An infix operator goes on with a term after it, a postfix operator by itself (ISO 6.3.4.2). Where neither fits, the
   -- term ends.
   abbrev pub infix_term : (ℕ → Reading → Outcome Part) → (Part → Outcome Part) → Part → Chars → ℕ → Entry → Outcome Part
   infix_term inner next p f end e =
@@ -238,7 +238,7 @@ module _ (text : List ℕ) (ops : Lookup) (quotes : Quotes) where
   going_on inner next max p (Err f) = Err f
   going_on inner next max p l = operation_ahead inner next max p (name_ahead l)
 
-  -- Behind a term among others: a comma and further terms, or none.
+  -- After a term among others: a comma and further terms, or none.
   abbrev pub further : (Reading → Outcome Items) → Part → Option ℕ → Outcome Items
   further items p None = Ok (record { first = p.term; others = none; reading = p.reading })
   further items p (Some end) =
@@ -286,7 +286,7 @@ item_from depth text at ops quotes (Ok (Token kind start end)) = item (clause_at
 abbrev pub item_within : ℕ → List ℕ → ℕ → Lookup → Quotes → Item
 item_within depth text at ops quotes = item_from depth text at ops quotes (token_at text at)
 
--- The item at a place: a clause with its named variables, the place of its first token and the place behind its end
+-- The item at a place: a clause with its named variables, the place of its first token and the place after its end
 -- token, or the first fault with its place, or nothing but layout. No text has an item deeper than the number of its
 -- bytes.
 unfoldable pub item_by : List ℕ → ℕ → Lookup → Quotes → Item

@@ -125,7 +125,7 @@ module _ (m : Manner) (ops : Lookup) where
     right_operand e none = []
     right_operand e (more t ts) = pieces (right_argument e) operand t
 
-    -- The arguments behind the first one, with the closing parenthesis.
+    -- The arguments after the first one, with the closing parenthesis.
     pub arguments : Trees → List Piece
     arguments none = plain (codes ")") ∷ []
     arguments (more t ts) = plain (codes ",") ∷ (pieces 999 alone t ++ arguments ts)
@@ -176,7 +176,7 @@ text_behind b [] = []
 text_behind b (plain p ∷ ps) = put b p ++ text_behind (behind b None p) ps
 text_behind b (before_operand f p ∷ ps) = put b p ++ text_behind (behind b (Some f) p) ps
 
--- The text of a term. There is no space before its first piece, as there is none behind a space.
+-- The text of a term. There is no space before its first piece, as there is none after a space.
 unfoldable pub text_of : Manner → Lookup → ℕ → Tree → Chars
 text_of m ops max t = text_behind (record { last = 32; prefix = None }) (pieces m ops max alone t)
 

@@ -51,7 +51,7 @@ abbrev pub named_term : Chars → Trees → Tree
 named_term f none = atom f
 named_term f (more t ts) = comp f t ts
 
--- The goal with further arguments behind its own (ISO Cor.2 8.15.4.1, call/2 to call/8).
+-- The goal with further arguments after its own (ISO Cor.2 8.15.4.1, call/2 to call/8).
 abbrev pub extended : Tree → Trees → Tree
 extended (atom a) ts = named_term a ts
 extended (comp f u us) ts = comp f u (join us ts)
@@ -64,7 +64,7 @@ abbrev pub list_term : List Tree → Tree
 list_term [] = atom (codes "[]")
 list_term (t ∷ ts) = comp (codes ".") t (more (list_term ts) none)
 
--- Whether the term is a list or a partial list: a variable, the empty list, or an element with such a term behind it.
+-- Whether the term is a list or a partial list: a variable, the empty list, or an element with such a term after it.
 abbrev mutual
   pub is_list_or_partial : Tree → Bool
   is_list_or_partial (var x) = true
@@ -72,7 +72,7 @@ abbrev mutual
   is_list_or_partial (atom a) = bytes_eq a (codes "[]")
   is_list_or_partial (comp f t ts) = bytes_eq f (codes ".") && is_tail ts
 
-  -- Whether the arguments behind the first one are such a term alone.
+  -- Whether the arguments after the first one are such a term alone.
   pub is_tail : Trees → Bool
   is_tail none = false
   is_tail (more t ts) = is_list_or_partial t && (count ts == 0)

@@ -98,7 +98,7 @@ abbrev pub first_message : {M : Type 0} → (M → Bool) → Queue M → Option 
 first_message test q = find (λ m. test m.content) q.messages
 
 -- Numbers. The goals of the command are numbered from 1 on, by the engines that run them; the first one is engine 1's. The
--- threads and queues that goals and directives make draw the numbers behind those.
+-- threads and queues that goals and directives make draw the numbers after those.
 abbrev pub opening_count : ℕ → ℕ
 opening_count goals = if goals == 0 then 2 else suc goals
 
@@ -134,7 +134,7 @@ queue_made n a t =
 abbrev pub queue_dropped : {M : Type 0} → ℕ → Threads M → Threads M
 queue_dropped n t = record t { aliases = without_alias n t; queues = without_queue n t }
 
--- A message is put behind the others of the queue with the number.
+-- A message is put after the others of the queue with the number.
 abbrev pub with_message : {M : Type 0} → ℕ → Message M → Queue M → Queue M
 with_message n m q = if is_queue n q then record q { messages = q.messages ++ m ∷ [] } else q
 

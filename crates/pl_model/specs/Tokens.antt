@@ -38,7 +38,7 @@ run p zero (b ∷ bs) = elim (front (b ∷ bs)) [ nothing ↦ zero | scalar c k 
 pub data Blank : Type 0 where
   passes : ℕ → Blank  -- layout of this number of bytes, at least one
   stops : Blank  -- no layout
-  spoils : SyntaxKind → ℕ → Blank  -- layout with a fault, which lies this number of bytes behind its start
+  spoils : SyntaxKind → ℕ → Blank  -- layout with a fault, which lies this number of bytes after its start
 
 -- The bytes before the next newline, or before the end of the text.
 abbrev pub line_length : List ℕ → ℕ
@@ -73,7 +73,7 @@ blank_at bs c size =
 abbrev pub blank : List ℕ → Blank
 blank bs = elim (front bs) [ nothing ↦ stops | scalar c k ↦ blank_at bs c k | broken ↦ stops ]
 
--- The place behind the layout that begins at a place, from which on the bytes are given. The second argument is
+-- The place after the layout that begins at a place, from which on the bytes are given. The second argument is
 -- the number of bytes at the front that belong to layout which was passed already.
 abbrev pub skip_layout : ℕ → ℕ → List ℕ → Result ℕ SyntaxFault
 skip_layout at inside [] = Ok at
@@ -87,7 +87,7 @@ skip_layout at zero (b ∷ bs) =
 
 -- Ends.
 
--- The place behind the run of characters that go on from a place and pass a test.
+-- The place after the run of characters that go on from a place and pass a test.
 abbrev pub run_end : (ℕ → Bool) → List ℕ → ℕ → ℕ
 run_end p text at = at + run p 0 (drop at text)
 

@@ -11,7 +11,7 @@ use Rattle.pl_model.specs.Characters.{is_symbol, continues_name, is_bare_name}
 abbrev pub hexadecimal : ℕ → Chars
 hexadecimal c = if nat_lt c 16 then digit_char c ∷ [] else digit_char (c / 16) ∷ digit_char (c % 16) ∷ []
 
--- ISO 6.4.2.1: a character as it stands in a quoted name: a quote, a backslash, a newline and a tab behind a
+-- ISO 6.4.2.1: a character as it stands in a quoted name: a quote, a backslash, a newline and a tab after a
 -- backslash, the other control characters by their codes, any other as itself.
 abbrev pub escaped : ℕ → Chars
 escaped c =

@@ -78,7 +78,7 @@ pub enum EvalFault {
     NotEvaluable { node: Node },
     /// An operation has no value.
     Operation { fault: OpFault },
-    /// Want of memory.
+    /// Out of memory.
     Memory,
 }
 

@@ -88,7 +88,7 @@ pub fn refuses_prefix_operators()
     ensures end { item_by (codes "- ") 0 small_operators Codes ≡ fault UnexpectedEnd 2 }
 {}
 
-/// Operators behind one another, by their specifiers (ISO 6.3.4.2, table 4).
+/// Operators after one another, by their specifiers (ISO 6.3.4.2, table 4).
 pub fn reads_chains()
     ensures from_left { item_by (codes "a-b-c.") 0 small_operators Codes
         ≡ clause (comp (codes "-") (comp (codes "-") (atom (codes "a")) (more (atom (codes "b")) none)) (more (atom (codes "c")) none)) [] 0 6 }

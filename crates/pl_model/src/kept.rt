@@ -34,7 +34,7 @@ pub trait Kept: Drop {
     // Whether two terms unify.
     ghost unified: { Self → Self → Bool };
 
-    /// The key of the first argument of the clause's head. The only error is want of memory.
+    /// The key of the first argument of the clause's head. The only error is out of memory.
     fn key(&self, alloc: Global) -> Result<Self::Key, Memory>
         ensures { IfOk result (λ k. k ≡ key_of self.now) };
 
@@ -48,7 +48,7 @@ pub trait Kept: Drop {
         ensures { result ≡ size self.now };
 
     /// Whether the two terms unify, where the variables of the one are others than those of the other. The only
-    /// error is want of memory.
+    /// error is out of memory.
     fn unifies(&self, alloc: Global, other: &Self) -> Result<bool, Memory>
         ensures { IfOk result (λ b. b ≡ unified self.now other.now) };
 
@@ -145,7 +145,7 @@ fn head(nodes: &[Node]) -> &[Node]
     }
 }
 
-/// The key of an argument by its first node. The only error is want of memory.
+/// The key of an argument by its first node. The only error is out of memory.
 fn argument_key(alloc: Global, node: &Node) -> Result<FirstArgument, Memory>
     ensures { IfOk result (λ k. k ≡ node_key node.now) }
 {
@@ -157,7 +157,7 @@ fn argument_key(alloc: Global, node: &Node) -> Result<FirstArgument, Memory>
     }
 }
 
-/// The key of the first argument of the term that these nodes begin with. The only error is want of memory.
+/// The key of the first argument of the term that these nodes begin with. The only error is out of memory.
 fn first_argument(alloc: Global, nodes: &[Node]) -> Result<FirstArgument, Memory>
     ensures { IfOk result (λ k. k ≡ first_key nodes.now) }
 {

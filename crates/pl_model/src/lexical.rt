@@ -30,9 +30,9 @@ use pl_term::Text;
 /// A punctuation token (ISO 6.4).
 #[derive(Debug, Clone, Copy, PartialEq, Eq, Drop)]
 pub enum Mark {
-    /// `(` behind layout, or where no name stands before it: the open token (6.4.8).
+    /// `(` after layout, or where no name stands before it: the open token (6.4.8).
     Open,
-    /// `(` at the very place that was asked for, as it stands directly behind a name (open ct, 6.4.8).
+    /// `(` at the very place that was asked for, as it stands directly after a name (open ct, 6.4.8).
     OpenCt,
     /// `)`.
     Close,
@@ -95,7 +95,7 @@ pub enum TokenKind {
 /// What is read next in a text. Places are byte offsets.
 #[derive(Debug, Drop)]
 pub enum Lexeme {
-    /// A token, with the place of its first byte and the place behind its last one.
+    /// A token, with the place of its first byte and the place after its last one.
     Token {
         kind: TokenKind,
         start: usize,
@@ -110,13 +110,13 @@ pub enum Lexeme {
 pub enum Reading {
     /// A token of this number of bytes.
     Token(TokenKind, usize),
-    /// A fault, this number of bytes behind the front.
+    /// A fault, this number of bytes after the front.
     Fault(SyntaxKind, usize),
     /// No byte is left.
     Nothing,
 }
 
-/// A piece of a quoted text behind its opening quote (ISO 6.4.2.1).
+/// A piece of a quoted text after its opening quote (ISO 6.4.2.1).
 #[derive(Debug, Clone, Copy, PartialEq, Eq, Drop)]
 pub enum Piece {
     /// A character of the text, which is written with this number of bytes.
@@ -199,14 +199,14 @@ pub fn refuses_quoted_texts()
     ensures first { token_at (39 ∷ 255 ∷ 92 ∷ 113 ∷ 39 ∷ []) 0 ≡ lex_fault BadUtf8 1 }
 {}
 
-/// Whatever stands at a place, what is found there lies in the text behind it: layout and then the token, which has
+/// Whatever stands at a place, what is found there lies in the text after it: layout and then the token, which has
 /// one byte at least. So tokens and the layout between them cover a text.
 pub fn tokens_cover_the_text()
     ensures { (text : List ℕ) (at : ℕ) (kind : TokenKind) (start stop : ℕ)
         → token_at text at ≡ token kind start stop → NextTo text at start stop }
 {}
 
-/// A letter digit token (6.4.2) is read as that name where what stands behind it does not continue it.
+/// A letter digit token (6.4.2) is read as that name where what stands after it does not continue it.
 pub fn names_are_read()
     ensures { (direct : Bool) (cs : Chars) (rest : List ℕ)
         → all_scalars cs ≡ true → is_letter_name cs ≡ true → run continues_name 0 rest ≡ 0
@@ -272,8 +272,8 @@ pub fn radix_constants_are_read()
         → token_front direct (48 ∷ 98 ∷ (ds ++ rest)) ≡ Token (Integer (digits_value 2 ds)) (length ds + 2) }
 {}
 
-/// Each punctuation token is its character, whatever stands behind it (6.4); `(` is open ct where no layout stands
-/// before it, and open behind layout (6.4.8).
+/// Each punctuation token is its character, whatever stands after it (6.4); `(` is open ct where no layout stands
+/// before it, and open after layout (6.4.8).
 pub fn punctuation_is_read()
     ensures functional { (rest : List ℕ) → token_front true (40 ∷ rest) ≡ Token (Punctuation OpenCt) 1 }
     ensures opening { (rest : List ℕ) → token_front false (40 ∷ rest) ≡ Token (Punctuation Open) 1 }

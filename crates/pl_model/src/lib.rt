@@ -14,6 +14,7 @@ pub mod shows;
 pub mod skipping;
 mod subterms;
 pub mod syntax;
+pub mod system;
 pub mod term_writing;
 pub mod threads;
 pub mod unification;

@@ -19,7 +19,7 @@ pub enum Kind {
     Yf,
 }
 
-/// Where an operator stands (ISO 6.3.4): before its argument, between its arguments, or behind its argument.
+/// Where an operator stands (ISO 6.3.4): before its argument, between its arguments, or after its argument.
 #[derive(Debug, Clone, Copy, PartialEq, Eq, Drop)]
 pub enum Place {
     Prefix,

@@ -41,7 +41,7 @@ pub fn skips_faults()
     ensures opening { skip (codes "/* a. b") 0 ≡ 7 }
 {}
 
-/// Skipping goes from token to token (ISO 6.4): it ends behind the first end token, goes on behind any other token, and
+/// Skipping goes from token to token (ISO 6.4): it ends after the first end token, goes on after any other token, and
 /// ends with the text.
 #[tactic(auto, using(crate::proofs::SkippingPlaces::ends_at, crate::proofs::SkippingPlaces::passes_at, crate::proofs::SkippingPlaces::nothing_at))]
 pub fn skips_tokens()

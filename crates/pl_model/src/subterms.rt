@@ -18,7 +18,7 @@ fn arity(node: &Node) -> u64
     }
 }
 
-/// Where the term ends whose nodes begin at the place `at` of this list: the place behind its last node.
+/// Where the term ends whose nodes begin at the place `at` of this list: the place after its last node.
 fn subterm_end(all: &[Node], at: usize) -> usize
     requires { StartsTerm (drop at all.now) }
     ensures ends { result ≡ at + length (nodes (tree (drop at all.now))) }
@@ -34,7 +34,7 @@ fn subterm_end(all: &[Node], at: usize) -> usize
     all.len()
 }
 
-/// A second list with the same nodes. The only error is want of memory.
+/// A second list with the same nodes. The only error is out of memory.
 pub fn copied(alloc: Global, all: &[Node]) -> Result<Vec<Node>, Memory>
     ensures { IfOk result (λ v. v.items ≡ all.now) }
 {
@@ -45,8 +45,8 @@ pub fn copied(alloc: Global, all: &[Node]) -> Result<Vec<Node>, Memory>
     Ok(copy)
 }
 
-/// The term whose nodes begin at the place `at` of this list, and the place behind its last node. The only error
-/// is want of memory.
+/// The term whose nodes begin at the place `at` of this list, and the place after its last node. The only error
+/// is out of memory.
 pub fn term_at(alloc: Global, all: &[Node], at: usize) -> Result<(Flat, usize), Memory>
     requires { StartsTerm (drop at all.now) }
     ensures term { IfOk result (λ p. p.0 ≡ tree (drop at all.now)) }

@@ -60,7 +60,7 @@ impl<'a> Side<'a> {
     }
 
     /// Leaves out the first `count` nodes, and puts others for each occurrence of the variable in the rest. The
-    /// only error is want of memory. Nothing is allocated where the variable does not occur.
+    /// only error is out of memory. Nothing is allocated where the variable does not occur.
     fn advance(
         &mut self,
         alloc: Global,
@@ -82,7 +82,7 @@ impl<'a> Side<'a> {
         Ok(())
     }
 
-    /// The nodes as a list of one's own. The only error is want of memory.
+    /// The nodes as a list of one's own. The only error is out of memory.
     fn into_nodes(self, alloc: Global) -> Result<Vec<Node>, Memory>
         ensures { IfOk result (λ v. v.items ≡ self.entry) }
     {
@@ -117,7 +117,7 @@ fn occurs(variable: u64, all: &[Node]) -> bool
     all.iter().any(|node| is_this_variable(node, variable))
 }
 
-/// Puts copies of these nodes at the end of `all`. After want of memory, `all` has got some of them.
+/// Puts copies of these nodes at the end of `all`. After running out of memory, `all` has got some of them.
 fn append(alloc: Global, all: &mut Vec<Node>, more: &[Node]) -> Result<(), Memory>
     ensures { OnOk result (all.new.items ≡ all.old.items ++ more.now) }
 {
@@ -127,7 +127,7 @@ fn append(alloc: Global, all: &mut Vec<Node>, more: &[Node]) -> Result<(), Memor
     Ok(())
 }
 
-/// Puts a copy of the node at the end of `put`, or of others where the node is the variable. After want of memory,
+/// Puts a copy of the node at the end of `put`, or of others where the node is the variable. After running out of memory,
 /// `put` has got some of them.
 fn put_node(
     alloc: Global,
@@ -146,7 +146,7 @@ fn put_node(
     Ok(())
 }
 
-/// The nodes with others in place of each occurrence of the variable. The only error is want of memory.
+/// The nodes with others in place of each occurrence of the variable. The only error is out of memory.
 fn replaced(alloc: Global, all: &[Node], variable: u64, value: &[Node]) -> Result<Vec<Node>, Memory>
     ensures { IfOk result (λ v. v.items ≡ put_in variable value.now all.now) }
 {
@@ -191,7 +191,7 @@ fn variable_of(node: &Node) -> Option<u64>
     }
 }
 
-/// Of two variables, the greater is to be bound to the other. The only error is want of memory.
+/// Of two variables, the greater is to be bound to the other. The only error is out of memory.
 fn two_variables(alloc: Global, x: u64, y: u64) -> Result<Found, Memory>
     requires { x ≢ y }
     ensures binds { IfOk result (λ f. difference (var x) (var y) ≡ binds f.variable f.value) }
@@ -214,7 +214,7 @@ fn two_variables(alloc: Global, x: u64, y: u64) -> Result<Found, Memory>
 }
 
 /// The variable that the difference of the first two terms binds, where one of them is a variable: of two
-/// variables the greater. The only error is want of memory. Nothing is allocated where neither is a variable.
+/// variables the greater. The only error is out of memory. Nothing is allocated where neither is a variable.
 fn difference(alloc: Global, left: &[Node], right: &[Node]) -> Result<Option<Found>, Memory>
     requires facing { Facing left.now right.now }
     requires differs { DiffersAt left.now right.now 0 }
@@ -256,7 +256,7 @@ enum Outcome {
 }
 
 /// One turn. Where a variable is bound, what the two sides had up to it is left out, and the term is put for the
-/// variable in the rest. The only error is want of memory.
+/// variable in the rest. The only error is out of memory.
 fn turn(alloc: Global, left: &mut Side, right: &mut Side) -> Result<Outcome, Memory>
     requires { Facing left.old right.old }
     ensures { IfOk result (λ o. Turned o left.old right.old left.new right.new) }
@@ -276,7 +276,7 @@ fn turn(alloc: Global, left: &mut Side, right: &mut Side) -> Result<Outcome, Mem
 }
 
 /// Unifies two terms with the occurs check (ISO 7.3.2): the bindings that do, in the order in which they are to be
-/// put in, or `None` where no substitution makes the terms equal. The only error is want of memory. Nothing is
+/// put in, or `None` where no substitution makes the terms equal. The only error is out of memory. Nothing is
 /// allocated where the terms are the same, nor where they differ first in a node that is no variable.
 pub fn unify(alloc: Global, a: &Flat, b: &Flat) -> Result<Option<Bindings>, Memory>
     ensures { IfOk result (λ r. option_map (λ v. v.items) r ≡ unify a.now b.now) }

@@ -1,4 +1,4 @@
--- Texts put one behind the other.
+-- Texts put one after the other.
 use Rattle.std.proofs.Common.{◌≡◌, ℕ, true, List, [], ◌∷◌, ◌++◌, refl, sym, ◌∙◌, ap, append_assoc, append-nil}
 use Rattle.std.specs.Char.{is_ascii}
 use Rattle.std.specs.List.{list_all}
@@ -20,7 +20,7 @@ ascii_bytes (b ∷ bs) t =
 pub adds_none : (a : List ℕ) → Adds a a []
 adds_none a = record { added = sym (append-nil a) }
 
--- Two texts, one behind the other.
+-- Two texts, one after the other.
 pub adds_then : {a b c : List ℕ} {s t : Chars} → Adds a b s → Adds b c t → Adds a c (s ++ t)
 adds_then {a = a} {b = b} {c = c} {s = s} {t = t} p q =
     record {

@@ -109,7 +109,7 @@ open_bytes [] = refl
 open_bytes (c ∷ cs) =
     let r = ending c cs in ap is_open r.is ∙ open-append r.front r.last ∙ ap not r.line
 
--- The bytes behind others end as they do by themselves.
+-- The bytes after others end as they do by themselves.
 pub symbol_behind : (before : List ℕ) (c : ℕ) (cs : Chars) → ends_in_symbol (before ++ encode_utf8_all (c ∷ cs)) ≡ ends_in_symbol (c ∷ cs)
 symbol_behind before c cs =
     let r = ending c cs in
@@ -135,7 +135,7 @@ stops_by : (s : Bool) (a b c : List ℕ) (text : Chars) → Adds a b text → c 
 stops_by true a b c text p e = adds_then p (adds_ascii b c (codes " .") refl e)
 stops_by false a b c text p e = adds_then p (adds_ascii b c (codes ".") refl e)
 
--- A full stop behind a text that is not empty.
+-- A full stop after a text that is not empty.
 pub adds_stop : {a b c : List ℕ} {text : Chars} → IsFull text → Adds a b text → c ≡ stopped b → Adds a c (stopped text)
 adds_stop {a = a} {b = b} {c = c} {text = []} full p e = absurd full
 adds_stop {a = a} {b = b} {c = c} {text = d ∷ ds} full p e =

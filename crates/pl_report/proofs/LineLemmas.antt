@@ -1,4 +1,4 @@
--- Lines behind a text.
+-- Lines after a text.
 use Rattle.std.proofs.Common.{◌≡◌, ℕ, false, List, [], ◌∷◌, ◌++◌, refl, sym, ◌∙◌, ap, append_assoc}
 use Rattle.std.specs.Prelude.{codes, not, ◌==◌, if◌then◌else◌, decimal}
 use Rattle.std.specs.Str.{encode_utf8_all}
@@ -10,7 +10,7 @@ use Rattle.pl_report.specs.Pieces.{place_text}
 use Rattle.pl_report.proofs.AddsLemmas.{adds_then, adds_same, adds_newline}
 use Rattle.pl_report.proofs.Endings.{closed_bytes}
 
--- A line behind a text.
+-- A line after a text.
 pub line_put : {a b c d : List ℕ} {line : Chars} (t : Chars) → a ≡ encode_utf8_all t → b ≡ closed a → Adds b c line → d ≡ c ++ newline → d ≡ encode_utf8_all (with_line t line)
 line_put {a = a} {b = b} {c = c} {d = d} {line = line} t spelled close p e =
     let whole : Adds b d (line ++ newline) = adds_then p (adds_newline e) in
@@ -18,7 +18,7 @@ line_put {a = a} {b = b} {c = c} {d = d} {line = line} t spelled close p e =
     ∙ ap (λ x. x ++ encode_utf8_all (line ++ newline)) (close ∙ ap closed spelled ∙ closed_bytes t)
     ∙ sym (encodes-append (closed t) (line ++ newline))
 
--- What is said of an item behind its place.
+-- What is said of an item after its place.
 pub item_put : {a b c : List ℕ} {t : Chars} (name : Chars) (at : ℕ) → Adds a b (place_text name at) → Adds b c t → Adds a c (item_line name at t)
 item_put {a = a} {b = b} {c = c} {t = t} name at p q =
     adds_same

@@ -114,7 +114,7 @@ silent_put name s a e =
     sym (append-nil a)
     ∙ ap (λ b. a ++ (if b then [] else encode_utf8_all (thread_head name) ++ (closed s.text.items ++ encode_utf8_all (line_text (thread_last s.how))))) (sym e)
 
--- Three pieces one behind the other.
+-- Three pieces one after the other.
 three_put : {a b c d : List ℕ} {head last : Chars} (xs : List ℕ) → Adds a b head → c ≡ b ++ xs → Adds c d last → d ≡ a ++ (encode_utf8_all head ++ (xs ++ encode_utf8_all last))
 three_put {a = a} {head = head} {last = last} xs p e q =
     q.added

@@ -13,7 +13,7 @@ use pl_model::syntax::SyntaxKind;
 use pl_term::{Flat, Memory, Text};
 use std::alloc::Global;
 
-/// Puts the line that the file of this name is too large at the end of a text. The only error is want of memory: then
+/// Puts the line that the file of this name is too large at the end of a text. The only error is out of memory: then
 /// the text may have a part of the line.
 pub fn put_too_large(out: &mut Vec<u8>, name: &Text) -> Result<(), Memory>
     ensures { (t : Chars) → out.old.items ≡ encode_utf8_all t
@@ -26,7 +26,7 @@ pub fn put_too_large(out: &mut Vec<u8>, name: &Text) -> Result<(), Memory>
     Ok(())
 }
 
-/// Puts the line for a syntax fault at the byte `at` of the file. The only error is want of memory: then the text may
+/// Puts the line for a syntax fault at the byte `at` of the file. The only error is out of memory: then the text may
 /// have a part of the line.
 pub fn put_syntax_fault(
     out: &mut Vec<u8>,
@@ -46,7 +46,7 @@ pub fn put_syntax_fault(
 }
 
 /// Puts the line for the ball of the item at the byte `at`: one for which a clause was refused, or with which a
-/// directive ended. It is written under the operators `ops`. The only error is want of memory: then the text may have a
+/// directive ended. It is written under the operators `ops`. The only error is out of memory: then the text may have a
 /// part of the line.
 pub fn put_refused_item(
     alloc: Global,
@@ -66,7 +66,7 @@ pub fn put_refused_item(
     Ok(())
 }
 
-/// Puts the line that the directive of the item at the byte `at` failed. The only error is want of memory: then the
+/// Puts the line that the directive of the item at the byte `at` failed. The only error is out of memory: then the
 /// text may have a part of the line.
 pub fn put_failed_directive(out: &mut Vec<u8>, name: &Text, at: usize) -> Result<(), Memory>
     ensures { (t : Chars) → out.old.items ≡ encode_utf8_all t
@@ -80,7 +80,7 @@ pub fn put_failed_directive(out: &mut Vec<u8>, name: &Text, at: usize) -> Result
 }
 
 /// Puts the line that the directive of the item at the byte `at` ended by halt/1 with this status. The only error is
-/// want of memory: then the text may have a part of the line.
+/// Out of memory: then the text may have a part of the line.
 pub fn put_halted_directive(
     out: &mut Vec<u8>,
     name: &Text,
@@ -110,7 +110,7 @@ pub fn put_waiting_directive(out: &mut Vec<u8>, name: &Text, at: usize) -> Resul
     Ok(())
 }
 
-/// Puts the line that the item at the byte `at` found no place for an atom. The only error is want of memory: then the
+/// Puts the line that the item at the byte `at` found no place for an atom. The only error is out of memory: then the
 /// text may have a part of the line.
 pub fn put_no_atom_space(out: &mut Vec<u8>, name: &Text, at: usize) -> Result<(), Memory>
     ensures { (t : Chars) → out.old.items ≡ encode_utf8_all t

@@ -85,7 +85,7 @@ pub fn close(out: &mut Vec<u8>) -> Result<(), Memory>
     Ok(())
 }
 
-/// Puts a text whose last line is ended behind it, where it is not ended.
+/// Puts a text whose last line is ended after it, where it is not ended.
 pub fn put_closed(out: &mut Vec<u8>, text: &[u8]) -> Result<(), Memory>
     ensures { OnOk result (out.new.items ≡ out.old.items ++ closed text.now) }
 {

@@ -14,7 +14,7 @@ use std::convert::AsStr;
 
 /// Puts the line of a solution at the end of a text: `Name = value` for each of the goal's named variables, given by name
 /// and number, whose name does not begin with an underscore, or `true` where there are none. `values` has the terms of
-/// the goal's variables by their numbers. They are written under the operators `ops` (ISO 7.10.5). The only error is want of memory: then the text
+/// the goal's variables by their numbers. They are written under the operators `ops` (ISO 7.10.5). The only error is out of memory: then the text
 /// may have a part of the line.
 pub fn put_solution(
     alloc: Global,
@@ -69,7 +69,7 @@ fn put_bindings(
     Ok(some)
 }
 
-/// Puts the binding of this variable if it is shown, behind a comma where there are some before it, and says whether
+/// Puts the binding of this variable if it is shown, after a comma where there are some before it, and says whether
 /// there are some now.
 fn put_next(
     alloc: Global,

@@ -13,7 +13,7 @@ is_in-append x (z ∷ zs) ys =
       | false ↦ is_in-append x zs ys
     ]
 
--- The place of a member stays where others come behind.
+-- The place of a member stays where others come after.
 pub place-append : (x : ℕ) (xs ys : List ℕ) → is_in x xs ≡ true → place x (xs ++ ys) ≡ place x xs
 place-append x [] ys e = cc
 place-append x (z ∷ zs) ys e =
@@ -24,7 +24,7 @@ place-append x (z ∷ zs) ys e =
     ] in
     step (x == z) e
 
--- A number that is not in the list has its place behind it.
+-- A number that is not in the list has its place after it.
 pub place-push : (x : ℕ) (xs : List ℕ) → is_in x xs ≡ false → place x (xs ++ x ∷ []) ≡ length xs
 place-push x [] e = rw (eq-eqb x x refl)
 place-push x (z ∷ zs) e =

@@ -133,7 +133,7 @@ length-met_with ns i n xs h e is =
     ap (λ ys. length (met_with n ys)) is ∙ ap length (sym (met_more ns i n h e)) in
     omega (arith, length-met_take ns (i + 1))
 
--- Behind all nodes of a term its variables are met.
+-- After all nodes of a term its variables are met.
 pub met_all : (t : Tree) (ns : List Node) (i : ℕ) (xs : List ℕ)
     → ns ≡ nodes t
     → length ns ≤ i

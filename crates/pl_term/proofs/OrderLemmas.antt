@@ -19,7 +19,7 @@ nat_cmp-suc k l = grind (arith, nat_tests)
 pub equal_from : (k l : ℕ) → nat_cmp k l ≡ Equal → k ≡ l
 equal_from k l e = ranked k l Equal (sym e)
 
--- A compound term is compared by its arity, then by its name, then by what comes behind these.
+-- A compound term is compared by its arity, then by its name, then by what comes after these.
 heads : (k l : ℕ) (p inner whole rest o : Ordering)
     → nat_cmp k l ≡ o
     → (k ≡ l → whole ≡ ordering_then inner rest)
@@ -99,7 +99,7 @@ equal_from_not_ne Less e = cc
 equal_from_not_ne Equal e = refl
 equal_from_not_ne Greater e = cc
 
--- Behind two nodes that are not apart the lists are compared by what is left.
+-- After two nodes that are not apart the lists are compared by what is left.
 pub same_step : (xs ys : List Node) (i : ℕ) (x y : Node) (o : Ordering)
     → i < length xs
     → i < length ys
@@ -128,7 +128,7 @@ shorter (x ∷ xs) (y ∷ ys) e = absurd (omega arith)
 minus_cmp : (i m n : ℕ) → i ≤ m → i ≤ n → nat_cmp (m - i) (n - i) ≡ nat_cmp m n
 minus_cmp i m n h k = grind (arith, nat_tests)
 
--- Behind the shorter list the lengths decide.
+-- After the shorter list the lengths decide.
 pub same_end : (xs ys : List Node) (i : ℕ)
     → i ≡ min (length xs) (length ys)
     → slice_cmp node_order (drop i xs) (drop i ys) ≡ nat_cmp (length xs) (length ys)

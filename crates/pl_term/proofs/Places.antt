@@ -86,7 +86,7 @@ place_if-push q x n xs absent is =
     (λ ne. ap (λ b. cond b (Some n) (place_if q xs)) (is_eq-apart x q ne) ∙ sym (place_if-other q x xs ne))
     (cases_eq x q)
 
--- Behind a node that is another one the variable occurs or not as before.
+-- After a node that is another one the variable occurs or not as before.
 not_here : (x : ℕ) (n : Node) (ns : List Node)
     → (n ≡ Var x → ⊥)
     → is_in x (variables_of (n ∷ ns)) ≡ is_in x (variables_of ns)

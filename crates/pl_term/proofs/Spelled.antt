@@ -19,7 +19,7 @@ pub count-trees : (ts : List Tree) → count (trees ts) ≡ length ts
 count-trees [] = refl
 count-trees (t ∷ ts) = ap suc (count-trees ts)
 
--- Copies of a term's nodes that were put behind nothing are the term's nodes.
+-- Copies of a term's nodes that were put after nothing are the term's nodes.
 pub copied : (from more to : List Node) (t : Tree)
     → from ≡ []
     → more ≡ nodes t

@@ -55,11 +55,11 @@ rename_node f (Int i) = Int i
 rename_node f (Atom a) = Atom a
 rename_node f (Comp g k) = Comp g k
 
--- The list with the number behind it where it is not in it.
+-- The list with the number after it where it is not in it.
 abbrev pub with : ℕ → List ℕ → List ℕ
 with x xs = if is_in x xs then xs else xs ++ x ∷ []
 
--- The list of the variables met so far behind a further node.
+-- The list of the variables met so far after a further node.
 abbrev pub met_with : Node → List ℕ → List ℕ
 met_with (Var x) xs = with x xs
 met_with (Int i) xs = xs

@@ -51,7 +51,7 @@ after-join none us = refl
 after-join (more t ts) us = after-join ts us
 
 mutual
-  -- The nodes of a term, and others behind them, spell this term and what the others spell.
+  -- The nodes of a term, and others after them, spell this term and what the others spell.
   pub forest-nodes : (t : Tree) (ns : List Node) → forest (nodes t ++ ns) ≡ more t (forest ns)
   forest-nodes (var x) ns = refl
   forest-nodes (int i) ns = refl

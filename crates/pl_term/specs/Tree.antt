@@ -33,7 +33,7 @@ first zero ts = none
 first (suc k) none = none
 first (suc k) (more t ts) = more t (first k ts)
 
--- What is left of a list behind its first `k` trees.
+-- What is left of a list after its first `k` trees.
 abbrev pub after : ℕ → Trees → Trees
 after zero ts = ts
 after (suc k) none = none

@@ -46,7 +46,7 @@ impl Flat {
         Flat { all }
     }
 
-    /// The variable with the number `n`. The only error is want of memory.
+    /// The variable with the number `n`. The only error is out of memory.
     pub fn var(alloc: Global, n: u64) -> Result<Flat, Memory>
         ensures { IfOk result (λ t. t ≡ var n) }
     {
@@ -54,7 +54,7 @@ impl Flat {
         Ok(Flat { all })
     }
 
-    /// The integer `i`. The only error is want of memory.
+    /// The integer `i`. The only error is out of memory.
     pub fn int(alloc: Global, i: i64) -> Result<Flat, Memory>
         ensures { IfOk result (λ t. t ≡ int i) }
     {
@@ -62,7 +62,7 @@ impl Flat {
         Ok(Flat { all })
     }
 
-    /// The atom with this text. The only error is want of memory.
+    /// The atom with this text. The only error is out of memory.
     pub fn atom(alloc: Global, name: &Text) -> Result<Flat, Memory>
         ensures { IfOk result (λ t. t ≡ atom name.now) }
     {
@@ -71,7 +71,7 @@ impl Flat {
     }
 
     /// The compound term with this name and these arguments, of which there is at least one. The only error is
-    /// want of memory.
+    /// Out of memory.
     pub fn comp(alloc: Global, name: &Text, args: &[Flat]) -> Result<Flat, Memory>
         requires { 0 < length args.now }
         ensures { IfOk result (λ t. t ≡ compound name.now args.now) }
@@ -83,7 +83,7 @@ impl Flat {
         Ok(Flat { all })
     }
 
-    /// A second term that is the same. The only error is want of memory.
+    /// A second term that is the same. The only error is out of memory.
     pub fn copy(&self, alloc: Global) -> Result<Flat, Memory>
         ensures { IfOk result (λ t. t ≡ self.now) }
     {
@@ -100,7 +100,7 @@ impl Flat {
     }
 }
 
-/// Puts copies of these nodes at the end of `all`. After want of memory, `all` has got some of them.
+/// Puts copies of these nodes at the end of `all`. After running out of memory, `all` has got some of them.
 fn append(alloc: Global, all: &mut Vec<Node>, more: &[Node]) -> Result<(), Memory>
     ensures { OnOk result (all.new.items ≡ all.old.items ++ more.now) }
 {

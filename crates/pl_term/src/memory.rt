@@ -1,11 +1,11 @@
-//! The refusal for want of memory.
+//! The refusal because memory ran out.
 ghost use Rattle.std.specs.Prelude.{Some, codes};
 
 use std::alloc::{AllocError, AllocFailed};
 use std::error::Error;
 use std::fmt;
 
-/// Want of memory: the one refusal that every call which allocates may give.
+/// Out of memory: the one refusal that every call which allocates may give.
 #[derive(Debug, Clone, Copy, PartialEq, Eq, Drop)]
 pub struct Memory;
 

@@ -16,7 +16,7 @@ pub enum Node {
 }
 
 impl Node {
-    /// A second node that is the same. The only error is want of memory.
+    /// A second node that is the same. The only error is out of memory.
     pub fn copy(&self, alloc: Global) -> Result<Node, Memory>
         ensures { IfOk result (λ n. n ≡ self.now) }
     {

@@ -48,7 +48,7 @@ impl Numbering {
     }
 
     /// The place of the variable `x` among those met, which it joins where it was not yet met. The only error is
-    /// want of memory.
+    /// Out of memory.
     pub fn number(&mut self, x: u64) -> Result<u64, Memory>
         ensures met { OnOk result (self.new ≡ with x self.old) }
         ensures number { IfOk result (λ n. n ≡ place x self.new) }
@@ -67,7 +67,7 @@ impl Numbering {
         }
     }
 
-    /// Meets the variable that the node is, if it is one. The only error is want of memory.
+    /// Meets the variable that the node is, if it is one. The only error is out of memory.
     pub fn meet(&mut self, n: &Node) -> Result<(), Memory>
         ensures { OnOk result (self.new ≡ met_with n.now self.old) }
     {

@@ -11,8 +11,8 @@ use std::alloc::Global;
 
 impl Flat {
     /// A copy of the term whose variables are numbered from `from` on in the order in which they first occur
-    /// (ISO 7.1.6.2), and the number behind the last one. It asks that this number is below 2^64. The only error
-    /// is want of memory.
+    /// (ISO 7.1.6.2), and the number after the last one. It asks that this number is below 2^64. The only error
+    /// is out of memory.
     pub fn rename(&self, alloc: Global, from: u64) -> Result<(Flat, u64), Memory>
         requires { from + length (variables self.now) < 2 ^ 64 }
         ensures renamed { IfOk result (λ r. r.0 ≡ rename from self.now) }
@@ -28,7 +28,7 @@ impl Flat {
     }
 
     /// The term's variables, each once, in the order in which they first occur (ISO Cor.2 8.5.5). The only error is
-    /// want of memory.
+    /// Out of memory.
     pub fn variables(&self, alloc: Global) -> Result<Vec<u64>, Memory>
         ensures { IfOk result (λ v. v.items ≡ variables self.now) }
     {
@@ -40,7 +40,7 @@ impl Flat {
     }
 }
 
-/// A copy of the node in which a variable has the number of its place behind `from`.
+/// A copy of the node in which a variable has the number of its place after `from`.
 fn renamed(alloc: Global, n: &Node, from: u64, met: &mut Numbering) -> Result<Node, Memory>
     requires { from + length (met_with n.now met.old) < 2 ^ 64 }
     ensures met { OnOk result (met.new ≡ met_with n.now met.old) }

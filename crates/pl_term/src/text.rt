@@ -26,7 +26,7 @@ impl Model for Text {
 }
 
 impl Text {
-    /// The text that `s` spells. The only error is want of memory.
+    /// The text that `s` spells. The only error is out of memory.
     pub fn from_str(alloc: Global, s: &str) -> Result<Text, Memory>
         ensures { IfOk result (λ t. t ≡ chars s.now) }
     {
@@ -34,7 +34,7 @@ impl Text {
         Ok(Text { utf8 })
     }
 
-    /// A second text with the same code points. The only error is want of memory.
+    /// A second text with the same code points. The only error is out of memory.
     pub fn copy(&self, alloc: Global) -> Result<Text, Memory>
         ensures { IfOk result (λ t. t ≡ self.now) }
     {

@@ -1,4 +1,4 @@
--- Behind the search of the goal.
+-- After the search of the goal.
 use Rattle.std.proofs.Common.{◌≡◌, ℕ, Bool, List, [], ◌++◌, Option, None, Some, refl, sym, ap, subst, ◌∙◌, append-nil}
 use Rattle.std.specs.Prelude.{encode_utf8_all}
 use Rattle.pl_term.specs.Tree.{Chars, Tree}

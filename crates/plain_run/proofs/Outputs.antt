@@ -23,7 +23,7 @@ texts-written t [] = sym (append-nil t)
 texts-written t (text u ∷ xs) = texts-written (t ++ u) xs ∙ append_assoc t u (written_text xs)
 texts-written t (solution ops ts ∷ xs) = texts-written t xs
 
--- The bytes that are put behind a text are those of the texts.
+-- The bytes that are put after a text are those of the texts.
 pub bytes-texts : (old new : List ℕ) (xs : List Output) → new ≡ old ++ encode_utf8_all (written_text xs)
     → (before : Chars) → old ≡ encode_utf8_all before → new ≡ encode_utf8_all (texts before xs)
 bytes-texts old new xs grown before is =
@@ -46,7 +46,7 @@ pub output-pieces : (names : List (Chars × ℕ))
     → ((t : Chars) → with_output names t [] ≡ t) × ((t : Chars) (xs ys : List Output) → with_output names t (xs ++ ys) ≡ with_output names (with_output names t xs) ys)
 output-pieces names = (λ t. refl, output-append names)
 
--- Where there is no solution among them, the texts stand one behind the other.
+-- Where there is no solution among them, the texts stand one after the other.
 output-texts : (names : List (Chars × ℕ)) (t : Chars) (xs : List Output) → solution_count xs ≡ 0 → with_output names t xs ≡ t ++ written_text xs
 output-texts names t [] e = sym (append-nil t)
 output-texts names t (text u ∷ xs) e = output-texts names (t ++ u) xs e ∙ append_assoc t u (written_text xs)

@@ -55,7 +55,7 @@ texts_consulted name t (solution ops ts ∷ os) = texts_consulted name t os
 abbrev bytes_of : Chars → List Consulted → List ℕ
 bytes_of name cs = encode_utf8_all (all_consulted name [] cs)
 
--- Behind what a directive has written.
+-- After what a directive has written.
 bytes_behind : (name : Chars) (cs : List Consulted) (os : List Output) (bytes : List ℕ) → bytes ≡ encode_utf8_all (texts (all_consulted name [] cs) os)
     → bytes ≡ bytes_of name (cs ++ texts_of os)
 bytes_behind name cs os bytes is =

@@ -13,7 +13,7 @@ abbrev pub IsHeldFor : Slice → Names → Engine → Type 0
 IsHeldFor (Solution ops) m e = IsAnswerHeld m e
 IsHeldFor _ m e = Unit {0}
 
--- The line stands behind the text, or there is none.
+-- The line stands after the text, or there is none.
 abbrev pub IsPut : Slice → List (Chars × ℕ) → List Tree → List ℕ → List ℕ → Type 0
 IsPut (Solution ops) names ts old new = (t : Chars) → old ≡ encode_utf8_all t → new ≡ encode_utf8_all (with_line t (solution_line names ops ts))
 IsPut _ names ts old new = new ≡ old

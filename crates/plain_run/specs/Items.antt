@@ -139,7 +139,7 @@ module _ {S : Type 0} (execution : (ℕ → Chars) → S → Job → List Consul
         × IsText name (kept new) y more
 
     -- And from the start of the goal's search to its end, or to where it does not go on. What the goal has given stands
-    -- behind what was there, with a line for each solution.
+    -- after what was there, with a line for each solution.
     abbrev pub HasRunGoal : List (Chars × ℕ) → ℕ → Tree → Names → Told → ℕ → S → List ℕ → List ℕ → Ran → Names → Told → ℕ → S → List ℕ → List ℕ → Type 0
     HasRunGoal names wanted goal m t before old bytes old_out ran n u after new more new_out =
         (job : Job) (cs : List Consulted) (x : Execution)

@@ -17,7 +17,7 @@ use Rattle.iso_engine.specs.Slices.{IsEnd, IsWaitingNow}
 use Rattle.plain_run.specs.declared.searched.Searched.{Searched}
 use Rattle.plain_run.specs.declared.searched.Searched.TheVariants.{Ended, Waits, NeedsAtoms, Worn, Missing}
 
--- Why the search does not go on behind a slice, if it does not.
+-- Why the search does not go on after a slice, if it does not.
 abbrev pub IsStop : Slice → Result (Option Searched) WantOfMemory → Type 0
 IsStop Memory (Ok o) = ⊥
 IsStop Memory (Err x) = Unit {0}
@@ -73,7 +73,7 @@ abbrev pub stop_refusals : Option Searched → List Refusal
 stop_refusals None = []
 stop_refusals (Some s) = last_refusals s
 
--- The list of refusals has grown by these, behind some at which others stepped in between.
+-- The list of refusals has grown by these, after some at which others stepped in between.
 pub record IsRefusedOnce (old new last : List Refusal) : Type 0 where
   pub causes : List Cause
   pub grown : new ≡ old ++ (map RefusalAgain causes ++ last)

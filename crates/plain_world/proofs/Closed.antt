@@ -12,6 +12,7 @@ use Rattle.pl_model.specs.FirstArguments.{are_apart, head_of, head_key, is_any}
 use Rattle.pl_model.specs.FirstArgumentOrder.{order_of}
 use Rattle.pl_model.specs.laws.FirstArgumentLaws.{heads_tell}
 use Rattle.pl_model.specs.declared.first_argument.FirstArgument.{FirstArgument}
+use Rattle.pl_model.specs.SystemPredicates.{system_predicates}
 use Rattle.pl_model.specs.Database.{Stored, Database, is_system, is_of, is_visible, seen, choices}
 use Rattle.world_api.specs.Visits.{clause_in}
 use Rattle.plain_world.specs.Sound.{AllOpen}
@@ -46,6 +47,10 @@ head_same (comp f t (more u (more v ts))) = refl
 name_of_rule : (f : List ℕ) → bytes_eq f (codes ":-") ≡ true → f ≡ codes ":-"
 name_of_rule f e = (bytes_eq-Decides f (codes ":-")).0 e
 
+rule_is_system : is_system (record { name = codes ":-"; arity = 2 }) ≡ true
+unfolding system_predicates
+rule_is_system = refl
+
 -- A goal that is no rule is its own head.
 own_head : (goal : Tree) → is_system (proc_of goal) ≡ false → head_of goal ≡ goal
 own_head (var x) e = refl
@@ -55,7 +60,7 @@ own_head (comp f t none) e = refl
 own_head (comp f t (more u none)) e = go (bytes_eq f (codes ":-")) refl
   where
     go : (b : Bool) → bytes_eq f (codes ":-") ≡ b → cond b t (comp f t (more u none)) ≡ comp f t (more u none)
-    go true h = absurd (false≢true (sym e ∙ ap (λ n. is_system (record { name = n; arity = 2 })) (name_of_rule f h)))
+    go true h = absurd (false≢true (sym e ∙ ap (λ n. is_system (record { name = n; arity = 2 })) (name_of_rule f h) ∙ rule_is_system))
     go false h = refl
 own_head (comp f t (more u (more v ts))) e = refl
 

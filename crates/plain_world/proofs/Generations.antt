@@ -67,7 +67,7 @@ seen_then {goals} {es} {gens} {db} sound g p =
     (sound.stands.views g (omega (arith, sound.floor)) p
     ∙ ap (λ (d : Database Tree). named_clauses (seen g p d)) (newest_now sound))
 
--- The first of the clauses behind a place, of those that pass a test.
+-- The first of the clauses after a place, of those that pass a test.
 pub first_then : {goals : ℕ} {es : List Entry} {gens : List ℕ} {db : Held Tree} (sound : IsSound goals es gens db) (g j : ℕ) (p : Proc) (P : Tree → Bool)
     → first_named (filter (λ s. P s.clause) (after j (seen g p (sound.all g))))
     ≡ first_named (filter (λ s. P s.clause) (after j (seen g p (trees_at es))))
@@ -77,7 +77,7 @@ first_then {goals} {es} sound g j p P =
     (filter_named P (after j (seen g p (trees_at es))) (after j (seen g p (sound.all g)))
     (after_same j (seen g p (trees_at es)) (seen g p (sound.all g)) (seen_then sound g p))))
 
--- Behind the update at the place the databases are what the update makes of the last one.
+-- After the update at the place the databases are what the update makes of the last one.
 pub then_newest : {C : Type 0} (k : ℕ) (change : Database C → Database C) (d : ℕ → Database C) (g : ℕ) → k < g → then_at k change d g ≡ change (d k)
 then_newest k change d g later = go (nat_le g k) refl
   where

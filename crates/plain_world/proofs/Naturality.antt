@@ -54,7 +54,7 @@ changes_same : (k : ℕ) (es : List Kept) (d : Database Tree) (s : SharedState)
 changes_same k [] d s e = e
 changes_same k (x ∷ xs) d s e = changes_same (suc k) xs (tree_change k x d) (change k 1 (kind_of x) s) (change_same k x d s e)
 
--- The database of the state behind these updates.
+-- The database of the state after these updates.
 pub trees_are : (goals : ℕ) (es : List Kept) → as_clauses (trees_at es) ≡ (state_after goals es).database
 unfolding trees_at state_at
 trees_are goals es =

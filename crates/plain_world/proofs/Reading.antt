@@ -99,7 +99,7 @@ serves_call : (goal : Tree) (s : SharedState) (g : ℕ)
 unfolding serve
 serves_call goal s g = refl
 
--- The clauses for a goal behind all entries.
+-- The clauses for a goal after all entries.
 listed_now : (l : Log) (goal : Tree) (p : Proc) (k : FirstArgument)
     → IsGoalOf p k goal
     → AllOpen (trees_at l.entries).clauses

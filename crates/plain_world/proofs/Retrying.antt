@@ -118,7 +118,7 @@ list_then l g goal p k within asked open_only =
     (seen g (predicate_of goal) (state_at l.goals (history_of l) g).database)
     (update_view l.goals (history_of l) g (length (history_of l)) (predicate_of goal) (subst (λ n. g ≤ n) (sym (length-map l.entries entry_of)) within))
 
--- Behind a clause that is among those that pass a test.
+-- After a clause that is among those that pass a test.
 
 abbrev at_head : ℕ → Stored Tree → List (Stored Tree) → Bool → List (Stored Tree)
 at_head j s ss b = cond b (s ∷ filter (is_at j) ss) (filter (is_at j) ss)
@@ -201,7 +201,7 @@ pub place_now : (l : Log) (g j : ℕ) (goal : Tree) (p : Proc) (k : FirstArgumen
 place_now l g j goal p k within asked open_only there =
     has_named j _ _ (list_then l g goal p k within asked open_only) ∙ there
 
--- The front of what the database has behind the place is that of the goal's list.
+-- The front of what the database has after the place is that of the goal's list.
 pub front_then : (l : Log) (g j : ℕ) (goal : Tree) (p : Proc) (k : FirstArgument) (f : Option (Hit Tree))
     → g ≤ length l.entries
     → IsGoalOf p k goal

@@ -41,7 +41,7 @@ trees_snoc es x =
     tree_changes_snoc zero es x opening_database
     ∙ ap (λ n. tree_change n x (tree_changes zero es opening_database)) (let e : 0 + length es ≡ length es = omega arith in e)
 
--- The state behind one update more.
+-- The state after one update more.
 pub after_snoc : (goals : ℕ) (es : List Kept) (x : Kept)
     → state_after goals (es ++ x ∷ []) ≡ change (length es) 1 (kind_of x) (state_after goals es)
 after_snoc goals es x =

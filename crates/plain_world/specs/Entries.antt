@@ -34,7 +34,7 @@ history_of l = map entry_of l.entries
 abbrev pub told_of : Log → Told
 told_of l = record { engine = 1; goals = l.goals; history = history_of l; gens = l.gens }
 
--- The state behind these updates.
+-- The state after these updates.
 abbrev pub state_after : ℕ → List Kept → SharedState
 state_after goals es = state_at goals (map entry_of es) (length (map entry_of es))
 

@@ -31,7 +31,7 @@ module _ {T : Type 0} (term : (ℕ → Chars) → T → Tree) (text : ℕ → Ch
   Handed t (Worn w) l m = m ≡ l
   Handed t Memory l m = m ≡ l
 
--- The visit stood behind all entries that there are.
+-- The visit stood after all entries that there are.
 abbrev pub VisitedNow : {T K : Type 0} → ((ℕ → Chars) → T → Tree) → (T → K) → (ℕ → Chars) → (ℕ → Chars) → Visit T K → Answer T → Log → Log → Type 0
 VisitedNow term key old_text new_text v a l m = Visited term key old_text new_text v a (told_of l) (history_of l) (told_of m)
 

@@ -9,7 +9,7 @@ use Rattle.plain_world.specs.declared.entry.Entry.{Entry}
 use Rattle.plain_world.specs.Entries.{state_after}
 use Rattle.plain_world.specs.Trees.{trees_at}
 
--- No visit lies behind so many updates.
+-- No visit lies after so many updates.
 abbrev pub AllWithin : ℕ → List ℕ → Type 0
 AllWithin n [] = Unit {0}
 AllWithin n (g ∷ gs) = (g ≤ n) × AllWithin n gs

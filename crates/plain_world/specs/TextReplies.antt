@@ -43,11 +43,11 @@ said_texts (Clauses (Some f)) = texts_in f.clause.now
 said_texts (Refused e) = texts_in e
 said_texts _ = []
 
--- The request is answered so behind all entries, and makes no update.
+-- The request is answered so after all entries, and makes no update.
 abbrev pub Reads : Log → Request → TextReply → Type 0
 Reads l q r = (x : requests.Reply) × (served_now 1 l.goals (history_of l) q ≡ answers x None) × SaysText r x
 
--- The request makes an update behind all entries.
+-- The request makes an update after all entries.
 pub record Makes (l : Log) (q : Request) (m : Log) : Type 0 where
   pub entry : Entry
   pub served : served_now 1 l.goals (history_of l) q ≡ answers done (Some (kind_of entry))

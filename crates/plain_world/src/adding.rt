@@ -126,7 +126,7 @@ fn put_first(db: &mut Db<Flat>, p: &Proc, clause: Flat, place: u64) -> Option<Db
     }
 }
 
-/// The error term of a clause that is refused. The only error is want of memory.
+/// The error term of a clause that is refused. The only error is out of memory.
 pub fn refusal(alloc: Global, p: &Proc, fault: DbFault) -> Result<Flat, Memory>
     ensures { IfOk result (RefusedAs (proc_of p.now) fault) }
 {

@@ -12,7 +12,7 @@ use pl_model::shows::Proc;
 use pl_term::{Flat, Memory, Text};
 use std::alloc::Global;
 
-/// The error of a call of a procedure that is not there (ISO 7.12.2 d). The only error is want of memory.
+/// The error of a call of a procedure that is not there (ISO 7.12.2 d). The only error is out of memory.
 pub fn unknown_procedure(alloc: Global, p: &Proc) -> Result<Flat, Memory>
     ensures { IfOk result (λ t. t ≡ unknown (proc_of p.now)) }
 {
@@ -21,7 +21,7 @@ pub fn unknown_procedure(alloc: Global, p: &Proc) -> Result<Flat, Memory>
     named(alloc, "existence_error", &[kind, culprit])
 }
 
-/// The error of a change of a static procedure (ISO 7.12.2 e). The only error is want of memory.
+/// The error of a change of a static procedure (ISO 7.12.2 e). The only error is out of memory.
 pub fn static_procedure(alloc: Global, p: &Proc) -> Result<Flat, Memory>
     ensures { IfOk result (λ t. t ≡ static_one (proc_of p.now)) }
 {
@@ -31,7 +31,7 @@ pub fn static_procedure(alloc: Global, p: &Proc) -> Result<Flat, Memory>
     named(alloc, "permission_error", &[action, kind, culprit])
 }
 
-/// The error of a resource that is used up (ISO 7.12.2 h). The only error is want of memory.
+/// The error of a resource that is used up (ISO 7.12.2 h). The only error is out of memory.
 pub fn resource_error(alloc: Global, resource: &str) -> Result<Flat, Memory>
     ensures { IfOk result (λ t. t ≡ no_room (chars resource.now)) }
 {
@@ -40,7 +40,7 @@ pub fn resource_error(alloc: Global, resource: &str) -> Result<Flat, Memory>
 }
 
 /// The term Name/Arity (ISO 7.1.6.6). No predicate in memory has 2^63 arguments; of one that had as many the answer is
-/// want of memory, which is the only error.
+/// Out of memory, which is the only error.
 fn indicator(alloc: Global, p: &Proc) -> Result<Flat, Memory>
     ensures { IfOk result (λ t. t ≡ indicator_of (proc_of p.now)) }
 {
@@ -52,7 +52,7 @@ fn indicator(alloc: Global, p: &Proc) -> Result<Flat, Memory>
     named(alloc, "/", &[name, arity])
 }
 
-/// The atom with this name. The only error is want of memory.
+/// The atom with this name. The only error is out of memory.
 fn word(alloc: Global, name: &str) -> Result<Flat, Memory>
     ensures { IfOk result (λ t. t ≡ atom (chars name.now)) }
 {
@@ -60,7 +60,7 @@ fn word(alloc: Global, name: &str) -> Result<Flat, Memory>
     Flat::atom(alloc, &name)
 }
 
-/// The compound term with this name and these arguments. The only error is want of memory.
+/// The compound term with this name and these arguments. The only error is out of memory.
 fn named(alloc: Global, name: &str, arguments: &[Flat]) -> Result<Flat, Memory>
     requires { 0 < length arguments.now }
     ensures { IfOk result (λ t. t ≡ compound (chars name.now) arguments.now) }

@@ -12,7 +12,7 @@ use pl_model::shows::Proc;
 use pl_term::{Flat, Memory, Node, Text};
 use std::alloc::Global;
 
-/// The predicate of the head of a clause that is kept as one term. The only error is want of memory.
+/// The predicate of the head of a clause that is kept as one term. The only error is out of memory.
 pub fn head_predicate(alloc: Global, clause: &Flat) -> Result<Proc, Memory>
     ensures { IfOk result (λ p. proc_of p ≡ predicate_of (head_part clause.now)) }
 {
@@ -42,7 +42,7 @@ fn is_rule(node: &Node) -> bool
     }
 }
 
-/// The predicate of a term that begins with this node. The only error is want of memory.
+/// The predicate of a term that begins with this node. The only error is out of memory.
 fn predicate(alloc: Global, node: &Node) -> Result<Proc, Memory>
     ensures { IfOk result (λ p. proc_of p ≡ node_proc node.now) }
 {

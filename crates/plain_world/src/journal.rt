@@ -54,7 +54,7 @@ impl Model for Journal {
 }
 
 impl Journal {
-    /// The state at the start, for a command of so many goals. The only error is want of memory.
+    /// The state at the start, for a command of so many goals. The only error is out of memory.
     pub fn new(alloc: Global, goals: u64) -> Result<Journal, Memory>
         ensures { IfOk result (λ j. j ≡ record { goals = goals; entries = []; gens = [] }) }
     {
@@ -106,7 +106,7 @@ impl Journal {
         Ok(generation)
     }
 
-    /// The operators and the flag `double_quotes`. The only error is want of memory.
+    /// The operators and the flag `double_quotes`. The only error is out of memory.
     pub fn standing(&self) -> Result<TextReply<'static>, Memory>
         ensures look { IfOk result (Reads self.now look) }
         ensures read { IfOk result (Reads self.now read_operators) }
@@ -116,7 +116,7 @@ impl Journal {
         Ok(TextReply::Standing { operators, quotes })
     }
 
-    /// The operators behind all updates. The only error is want of memory.
+    /// The operators after all updates. The only error is out of memory.
     pub fn operators(&self) -> Result<OpTable, Memory>
         ensures { IfOk result (λ ops. ops ≡ (state_after self.now.goals self.now.entries).operators) }
     {
@@ -139,7 +139,7 @@ impl Journal {
     }
 
     /// The first of the clauses for a goal of a predicate, whose first argument has this key (ISO 7.7.10). The only error
-    /// is want of memory.
+    /// is out of memory.
     pub fn call(&self, p: &Proc, first: &FirstArgument) -> Result<TextReply<'_>, Memory>
         ensures { (goal : Tree) → IsGoalOf (proc_of p.now) first.now goal → IfOk result (Reads self.now (call_clauses goal)) }
     {
@@ -150,7 +150,7 @@ impl Journal {
         }
     }
 
-    /// The next of the clauses for a goal of a predicate, whose first argument has this key, behind the clause that was
+    /// The next of the clauses for a goal of a predicate, whose first argument has this key, after the clause that was
     /// added at `place`, at the generation of a visit. There is no error.
     pub fn next(
         &self,
@@ -171,7 +171,7 @@ impl Journal {
         }
     }
 
-    /// What the call of an unknown procedure is answered (ISO 7.7.7, 7.11.2.4). The only error is want of memory.
+    /// What the call of an unknown procedure is answered (ISO 7.7.7, 7.11.2.4). The only error is out of memory.
     fn unknown(&self, p: &Proc) -> Result<TextReply<'_>, Memory>
         ensures { (goal : Tree) → predicate_of goal ≡ proc_of p.now
             → is_known (state_after self.now.goals self.now.entries).database (proc_of p.now) ≡ false
@@ -186,7 +186,7 @@ impl Journal {
         }
     }
 
-    /// Adds a clause, and notes the visit; or the error term for which it is refused. The only error is want of memory,
+    /// Adds a clause, and notes the visit; or the error term for which it is refused. The only error is out of memory,
     /// after which nothing has changed. A history of 2^47 updates, at which a clause is refused for want of generations,
     /// has no place in memory, and is answered as want of it.
     pub fn add(&mut self, clause: Flat, by: Adding) -> Result<Option<Flat>, Memory>

@@ -12,6 +12,6 @@ pub enum Made<X> {
     Again(Cause),
     /// An atom is one of a bucket that takes no new atom.
     Worn(WornWord),
-    /// Want of memory; or the value cannot be made, since a text is longer than that of any atom.
+    /// Out of memory; or the value cannot be made, since a text is longer than that of any atom.
     Memory,
 }

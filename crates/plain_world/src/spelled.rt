@@ -16,7 +16,7 @@ use world_api::Named;
 
 /// A term over atoms that can be spelled out in texts, and made of texts again.
 pub trait Spelled: Named {
-    /// The term in texts. The only error is want of memory.
+    /// The term in texts. The only error is out of memory.
     fn spell<A: Atoms>(&self, alloc: Global, atoms: &mut A) -> Result<Flat, Memory>
         requires { All (λ a. IsSome (A.held atoms.old a)) (Self.names self.now) }
         ensures spelled { IfOk result (λ t. t ≡ Self.term (text_of (A.held atoms.old)) self.now) }
@@ -24,7 +24,7 @@ pub trait Spelled: Named {
         ensures refusals { A.refusals atoms.new ≡ A.refusals atoms.old }
         ensures asked { A.asked atoms.new ≡ A.asked atoms.old };
 
-    /// The key of a first argument in texts. The only error is want of memory.
+    /// The key of a first argument in texts. The only error is out of memory.
     fn spell_key<A: Atoms>(
         key: &Self::Key,
         alloc: Global,
@@ -50,12 +50,12 @@ pub trait Spelled: Named {
         ensures term { result ≡ true → Self.term (text_of (A.held atoms.now)) self.now ≡ flat.now }
         ensures named { result ≡ true → All (λ a. IsSome (A.held atoms.now a)) (Self.names self.now) };
 
-    /// The same term once more. The only error is want of memory, or that too many hold it.
+    /// The same term once more. The only error is out of memory, or that too many hold it.
     fn share(&self, alloc: Global) -> Result<Self, Memory>
         ensures { IfOk result (λ t. t ≡ self.now) };
 }
 
-/// The same key once more. The only error is want of memory.
+/// The same key once more. The only error is out of memory.
 fn copied(alloc: Global, key: &FirstArgument) -> Result<FirstArgument, Memory>
     ensures { IfOk result (λ k. k ≡ key.now) }
 {

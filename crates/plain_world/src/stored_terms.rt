@@ -15,7 +15,7 @@ use pl_term::{Flat, Memory, Text};
 use std::alloc::Global;
 use term_store::{ArgumentKey, Stored};
 
-/// The text of the atom of a slot, which is held. The only error is want of memory.
+/// The text of the atom of a slot, which is held. The only error is out of memory.
 fn atom_text<A: Atoms>(alloc: Global, slot: u32, atoms: &mut A) -> Result<Text, Memory>
     requires { IsSome (A.held atoms.old slot) }
     ensures text { IfOk result (λ t. t ≡ text_of (A.held atoms.old) slot) }
@@ -28,7 +28,7 @@ fn atom_text<A: Atoms>(alloc: Global, slot: u32, atoms: &mut A) -> Result<Text, 
     buf.to_text(alloc)
 }
 
-/// The key with the text of its atom, which is held. The only error is want of memory.
+/// The key with the text of its atom, which is held. The only error is out of memory.
 fn key_text<A: Atoms>(
     alloc: Global,
     key: &ArgumentKey,

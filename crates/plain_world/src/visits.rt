@@ -28,7 +28,7 @@ use pl_term::Memory;
 use std::alloc::Global;
 use world_api::{Answer, Procedure, Reply};
 
-/// The predicate in texts. The only error is want of memory.
+/// The predicate in texts. The only error is out of memory.
 fn spelled_predicate<A: Atoms>(alloc: Global, p: &Procedure, atoms: &mut A) -> Result<Proc, Memory>
     requires { IsSome (A.held atoms.old p.now.name) }
     ensures spelled { IfOk result (λ q. proc_of q ≡ proc_named (text_of (A.held atoms.old)) p.now) }

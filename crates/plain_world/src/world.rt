@@ -28,7 +28,7 @@ pub struct PlainWorld<T, A> {
 }
 
 impl<T: Spelled, A: Atoms> PlainWorld<T, A> {
-    /// The state at the start, for a command of so many goals. The only error is want of memory.
+    /// The state at the start, for a command of so many goals. The only error is out of memory.
     pub fn new(alloc: Global, goals: u64) -> Result<PlainWorld<T, A>, Memory>
         ensures { IfOk result (λ w. told_of w.journal ≡ record { engine = 1; goals = goals; history = []; gens = [] }) }
     {
@@ -54,7 +54,7 @@ impl<T: Spelled, A: Atoms> PlainWorld<T, A> {
         self.journal.generations()
     }
 
-    /// The operators behind all updates so far. The only error is want of memory.
+    /// The operators after all updates so far. The only error is out of memory.
     pub fn operators(&self) -> Result<OpTable, Memory>
         ensures { IfOk result (λ ops. ops ≡ (state_at (told_of self.now.journal).goals (told_of self.now.journal).history
             (length (told_of self.now.journal).history)).operators) }

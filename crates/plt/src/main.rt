@@ -39,8 +39,8 @@ fn exit_code(report: &Report) -> ExitCode
     ExitCode::from(report.status)
 }
 
-/// The words of the command line behind the program's name. Where one is not UTF-8, or they cannot be had, there is
-/// no word, which is no command line either. The only error is want of memory.
+/// The words of the command line after the program's name. Where one is not UTF-8, or they cannot be had, there is
+/// no word, which is no command line either. The only error is out of memory.
 fn words<R: std::rt::Env + AllocGlobal>(rt: &R, alloc: Global) -> Result<Vec<Text>, Memory> {
     let args = match env::args(rt) {
         Ok(args) => args,

@@ -1,4 +1,4 @@
--- Turns in which reading first goes behind the token that begins a term.
+-- Turns in which reading first goes after the token that begins a term.
 use Rattle.std.proofs.Common.{◌≡◌, ℕ, ◌+◌, ◌<◌, ◌≤◌, List, [], ◌∷◌, ◌++◌, length, take, drop, Result, Ok, Err, Some, IfOk, IfErr, Vec, Global, refl, sym, ap, subst, ◌∙◌, arith}
 use Rattle.pl_term.specs.Tree.{Tree}
 use Rattle.pl_term.specs.Nodes.{nodes}
@@ -24,17 +24,17 @@ use Rattle.prolog_reader.specs.Stack.{Begins, Turns, TurnsBy, turns_left, PutsNo
 use Rattle.prolog_reader.proofs.Turns.{leaf-result}
 use Rattle.prolog_reader.proofs.Primaries.{PutsOne}
 
--- The reader behind a token.
+-- The reader after a token.
 abbrev pub advanced : List ℕ → Reader → ℕ → Reader
 advanced text old end = record old { at = end; ahead = token_at text end }
 
--- A token ahead lies behind the place.
+-- A token ahead lies after the place.
 pub token-follows : (text : List ℕ) (at : ℕ) (kind : TokenKind) (s e : ℕ) → token_at text at ≡ Ok (Token kind s e) → (at < e) × (e ≤ length text)
 token-follows text at kind s e is =
     let found = token_at-follows text at kind s e is in
     (omega (arith, found.begins, found.ends), found.within)
 
--- A punctuation token ahead lies behind the place.
+-- A punctuation token ahead lies after the place.
 pub mark-follows : (text : List ℕ) (at : ℕ) (mark : Mark) (l : Lexed) (e : ℕ) → l ≡ token_at text at → Some e ≡ behind_mark mark l → (at < e) × (e ≤ length text)
 mark-follows text at mark l e is some =
     let token = mark-token mark l e (sym some) in
@@ -96,7 +96,7 @@ module _ (text : List ℕ) (ops : Lookup) (quotes : Quotes) where
   turns-more m b c new (Err Memory) h turns = tt
   turns-more m b c new (Err (Fault f)) h turns = turns
 
-  -- A leaf that ends behind a second token.
+  -- A leaf that ends after a second token.
   pub advanced-leaf : (old mid new : Reader) (max : ℕ) (ns : List Node) (t : Tree) (end behind : ℕ) (m : Outcome Part) (r : Result Mode Stop)
       → Begins text old end → mid ≡ advanced text old end
       → IfOk r (λ _. PutsNodes text mid new ns behind) → IfOk r (λ x. x ≡ PartMode max 0 (length mid.pieces.items))

@@ -119,7 +119,7 @@ module _ (text : List ℕ) (ops : Lookup) (quotes : Quotes) where
       ) in
       subst (λ (r : Reader). Takes text ops quotes old (Closing max mark start) priority last r (Ok (PartMode max 0 start))) (sym new_is) turns
 
-  -- Behind a term among others.
+  -- After a term among others.
 
   pub further-none : (old : Reader) (priority last : ℕ) → IsAt text old → None ≡ behind_mark Comma old.ahead
       → further_at text ops quotes (part_at old priority last)

@@ -53,7 +53,7 @@ module _ (text : List ℕ) (ops : Lookup) (quotes : Quotes) where
   element-outcome : ℕ → List Node → Outcome Items → Outcome Part
   element-outcome max front m = and_then (and_then m (listed text ops quotes front)) (rest text ops quotes max)
 
-  -- The last element, and what stands behind it.
+  -- The last element, and what stands after it.
   alone : Reader → ℕ → Items
   alone old last = record { first = tree (spelled (drop last old.pieces.items)); others = none; reading = reading old }
 

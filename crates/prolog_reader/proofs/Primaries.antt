@@ -32,7 +32,7 @@ use Rattle.prolog_reader.specs.Stack.{completed, enclosed_by, applied, tailed, l
 use Rattle.prolog_reader.proofs.Fronts.{behind-none, front-none, behind-prefix, front-prefix}
 use Rattle.prolog_reader.proofs.Turns.{holds-same, plug-same, push-turns}
 
--- Outcomes one behind the other.
+-- Outcomes one after the other.
 
 pub then-pointwise : {A B : Type 0} (m : Outcome A) (k k' : A → Outcome B) → ((x : A) → k x ≡ k' x) → and_then m k ≡ and_then m k'
 then-pointwise {A} {B} (Ok x) k k' h = h x
@@ -42,14 +42,14 @@ pub then-made : {A B C : Type 0} (m : Outcome A) (make : A → B) (k : B → Out
 then-made {A} {B} {C} (Ok x) make k = refl
 then-made {A} {B} {C} (Err f) make k = refl
 
--- Nothing is spelled behind the last piece.
+-- Nothing is spelled after the last piece.
 pub nothing-spelled : {Z : Type 0} (ps : List (Vec Node Z)) → spelled (drop (length ps) ps) ≡ []
 nothing-spelled {Z} ps = ap spelled (drop_all (length ps) ps (omega arith))
 
 pub all-pieces : {Z : Type 0} (ps : List (Vec Node Z)) → take (length ps) ps ≡ ps
 all-pieces {Z} ps = take_all (length ps) ps (omega arith)
 
--- A node was put behind the pieces.
+-- A node was put after the pieces.
 pub record PutsOne (old : Reader) (pieces : Vec (Vec Node Global) Global) (node : Node) : Type 0 where
   pub front : take (length old.pieces.items) pieces.items ≡ old.pieces.items
   pub leaf : spelled (drop (length old.pieces.items) pieces.items) ≡ node ∷ []
@@ -277,7 +277,7 @@ module _ (text : List ℕ) (ops : Lookup) (quotes : Quotes) where
   quoted-atom r cs s e short =
       let test : nat_lt 248 (size cs) ≡ false = grind (arith, nat_tests) in cond-false _ _ _ test
 
--- A negative numeral, by what stands behind its minus.
+-- A negative numeral, by what stands after its minus.
 
 same_pair : (x y : ℕ × ℕ) → Some x ≡ Some y → x ≡ y
 same_pair x y e = cc

@@ -27,7 +27,7 @@ use Rattle.prolog_reader.specs.Pieces.{spelled}
 use Rattle.prolog_reader.specs.Stack.{plug, going, Holds, stack, reading, part_at, IsBuilt, IsAt, outcome, turns_left, Turns, TurnsBy, PutsNodes, Pushes}
 use Rattle.prolog_reader.proofs.Fronts.{reverse-push}
 
--- The token ahead lies behind the place of the reader.
+-- The token ahead lies after the place of the reader.
 pub ahead-follows : (text : List ℕ) (r : Reader) (kind : TokenKind) (s e : ℕ) → IsAt text r → r.ahead ≡ Ok (Token kind s e) → Follows text r.at s e
 ahead-follows text r kind s e place is = token_at-follows text r.at kind s e (sym place.ahead ∙ is)
 
@@ -112,7 +112,7 @@ module _ (text : List ℕ) (ops : Lookup) (quotes : Quotes) where
         here ∙ ap (going text ops quotes (stack old) old.pieces.items max) (sym is),
       )
 
-  -- The same for a result, which may be want of memory.
+  -- The same for a result, which may be out of memory.
   pub leaf-result : (old new : Reader) (names : Numbered) (max : ℕ) (ns : List Node) (t : Tree) (end : ℕ) (m : Outcome Part) (r : Result Mode Stop)
       → IfOk r (λ _. PutsNodes text (record old { names = names }) new ns end) → IfOk r (λ x. x ≡ PartMode max 0 (length old.pieces.items))
       → IfErr r (λ e. e ≡ Memory) → Holds (stack old) old.pieces.items → ns ≡ nodes t

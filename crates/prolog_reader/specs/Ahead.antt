@@ -12,12 +12,12 @@ fault_of text (Err f) = f
 fault_of text (Ok End) = record { kind = UnexpectedEnd; at = length text }
 fault_of text (Ok (Token kind start end)) = record { kind = UnexpectedToken; at = start }
 
--- The place behind an end token.
+-- The place after an end token.
 abbrev pub clause_end : Lexed → Option ℕ
 clause_end (Ok (Token EndToken start end)) = Some end
 clause_end l = None
 
--- The value of an integer and the place behind it.
+-- The value of an integer and the place after it.
 abbrev pub integer_ahead : Lexed → Option (ℕ × ℕ)
 integer_ahead (Ok (Token (Integer n) start end)) = Some (n, end)
 integer_ahead l = None

@@ -5,7 +5,7 @@ use Rattle.prolog_reader.specs.declared.read.Read.{Read}
 use Rattle.prolog_reader.specs.declared.read.Read.TheVariants.{Clause, End, Syntax, Memory}
 use Rattle.prolog_reader.specs.Names.{pairs}
 
--- The answer is this item, unless it is want of memory.
+-- The answer is this item, unless it is out of memory.
 abbrev pub Reads : Read → Item → Type 0
 Reads (Clause term names start next) i = i ≡ clause term (pairs names.items) start next
 Reads End i = i ≡ end_of_text

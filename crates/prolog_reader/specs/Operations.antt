@@ -21,7 +21,7 @@ operation_by max priority (Some e) o = if is_fitting max priority e then Infix e
 operation_by max priority None (Some e) = if is_fitting max priority e then Postfix e.0 else Ends
 operation_by max priority None None = Ends
 
--- The operation of the operator with a name behind a left part of a priority, in a term of at most another.
+-- The operation of the operator with a name after a left part of a priority, in a term of at most another.
 abbrev pub operation_of : Lookup → Chars → ℕ → ℕ → Operation
 operation_of ops f max priority = operation_by max priority (ops f InfixPlace) (ops f PostfixPlace)
 

@@ -71,11 +71,11 @@ module _ (text : List ℕ) (ops : Lookup) (quotes : Quotes) where
       plug fs (take start ps)
       (and_then (and_then (and_then m (further_at text ops quotes)) (listed (spelled (drop start ps)))) (rest text ops quotes max))
 
-  -- A term goes on behind this primary.
+  -- A term goes on after this primary.
   abbrev pub going : {Z : Type 0} → List Frame → List (Vec Node Z) → ℕ → Outcome Part → Outcome Part
   going fs ps max m = plug fs ps (and_then m (rest text ops quotes max))
 
-  -- A term in parentheses, from the place behind the opening one.
+  -- A term in parentheses, from the place after the opening one.
   abbrev pub in_parentheses : Reading → Outcome Part
   in_parentheses r = and_then (whole text ops quotes 1200 r) (λ p. closed text Close p.term p.reading)
 
@@ -92,7 +92,7 @@ module _ (text : List ℕ) (ops : Lookup) (quotes : Quotes) where
   joined max p None = Ok p
   joined max p (Some j) = joined_by max p j.name j.end j.operation
 
--- The pieces spell what the frames hold, one behind the other.
+-- The pieces spell what the frames hold, one after the other.
 abbrev pub Holds : {Z : Type 0} → List Frame → List (Vec Node Z) → Type 0
 Holds [] ps = ps ≡ []
 Holds (Behind max priority start ∷ fs) ps = (start ≤ length ps) × IsFront (spelled (drop start ps)) × Holds fs (take start ps)
@@ -210,14 +210,14 @@ abbrev pub Takes : List ℕ → Lookup → Quotes → Reader → Frame → ℕ �
 Takes text ops quotes old f priority start new r =
     Turns text ops quotes (taken text ops quotes old f priority start) (turns_left text old (Ended priority start) + 2) new r
 
--- A turn was made by an operator behind a left part, or by none.
+-- A turn was made by an operator after a left part, or by none.
 abbrev pub Joins : List ℕ → Lookup → Quotes → Reader → ℕ → ℕ → ℕ → Option Joining → Reader → Result Mode Stop → Type 0
 Joins text ops quotes old max priority start j new r =
     Turns text ops quotes
     (plug text ops quotes (stack old) (take start old.pieces.items) (joined text ops quotes max (part_at old priority start) j))
     (turns_left text old (PartMode max priority start)) new r
 
--- Why reading stops: want of memory, or this outcome's fault.
+-- Why reading stops: out of memory, or this outcome's fault.
 abbrev pub Stops : {A : Type 0} → Outcome A → Stop → Type 0
 Stops m Memory = Unit {0}
 Stops m (Fault f) = m ≡ Err f

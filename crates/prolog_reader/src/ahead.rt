@@ -9,7 +9,7 @@ use pl_model::syntax::SyntaxFault;
 use pl_term::{Memory, Text};
 use std::alloc::Global;
 
-/// The first token at a place or behind it, or the fault there. The only error is want of memory.
+/// The first token at a place or after it, or the fault there. The only error is out of memory.
 pub fn look(alloc: Global, text: &[u8], at: usize) -> Result<Result<Lexeme, SyntaxFault>, Memory>
     ensures { IfOk result (λ l. l ≡ token_at text.now at) }
 {

@@ -7,7 +7,7 @@ use pl_term::{Memory, Node, Text};
 use std::alloc::Global;
 use std::convert::AsStr;
 
-/// The nodes of the list of the codes of a text. The only error is want of memory.
+/// The nodes of the list of the codes of a text. The only error is out of memory.
 pub fn codes(alloc: Global, text: &Text) -> Result<Vec<Node>, Memory>
     ensures { IfOk result (λ ns. ns.items ≡ nodes (codes_of text.now)) }
 {
@@ -20,7 +20,7 @@ pub fn codes(alloc: Global, text: &Text) -> Result<Vec<Node>, Memory>
     Ok(all)
 }
 
-/// The nodes of the list of the characters of a text. The only error is want of memory.
+/// The nodes of the list of the characters of a text. The only error is out of memory.
 pub fn characters(alloc: Global, text: &Text) -> Result<Vec<Node>, Memory>
     ensures { IfOk result (λ ns. ns.items ≡ nodes (characters_of text.now)) }
 {
@@ -33,7 +33,7 @@ pub fn characters(alloc: Global, text: &Text) -> Result<Vec<Node>, Memory>
     Ok(all)
 }
 
-/// The node of a list cell. The only error is want of memory.
+/// The node of a list cell. The only error is out of memory.
 #[tactic(auto, using(crate::proofs::NameTexts::reader_texts))]
 pub fn cell(alloc: Global) -> Result<Node, Memory>
     ensures { IfOk result (λ n. n ≡ Node.Comp (46 ∷ []) 2) }
@@ -41,7 +41,7 @@ pub fn cell(alloc: Global) -> Result<Node, Memory>
     Ok(Node::Comp(Text::from_str(alloc, ".")?, 2))
 }
 
-/// The text of one character. The only error is want of memory.
+/// The text of one character. The only error is out of memory.
 fn one_character(alloc: Global, c: char) -> Result<Text, Memory>
     ensures { IfOk result (λ t. t ≡ c ∷ []) }
 {

@@ -6,7 +6,7 @@ ghost use Rattle.prolog_reader.specs.Ahead.{clause_end, integer_ahead};
 use pl_model::lexical::{Lexeme, Mark, TokenKind};
 use pl_model::syntax::SyntaxFault;
 
-/// The place behind this punctuation token, where it stands ahead.
+/// The place after this punctuation token, where it stands ahead.
 pub fn behind_mark(mark: Mark, ahead: &Result<Lexeme, SyntaxFault>) -> Option<usize>
     ensures { result ≡ behind_mark mark ahead.now }
 {
@@ -45,7 +45,7 @@ fn mark_number(mark: Mark) -> u8
     }
 }
 
-/// The place behind an end token, where one stands ahead.
+/// The place after an end token, where one stands ahead.
 pub fn clause_end(ahead: &Result<Lexeme, SyntaxFault>) -> Option<usize>
     ensures { result ≡ clause_end ahead.now }
 {
@@ -61,7 +61,7 @@ pub fn clause_end(ahead: &Result<Lexeme, SyntaxFault>) -> Option<usize>
     }
 }
 
-/// The value of an integer and the place behind it, where one stands ahead.
+/// The value of an integer and the place after it, where one stands ahead.
 pub fn integer_ahead(ahead: &Result<Lexeme, SyntaxFault>) -> Option<(u64, usize)>
     ensures { result ≡ integer_ahead ahead.now }
 {

@@ -33,7 +33,7 @@ impl Numbered {
     }
 
     /// The number of the variable with this name: a new one for `_` and for a name that is new. The only error is
-    /// want of memory.
+    /// Out of memory.
     pub fn number(&mut self, name: Text) -> Result<u64, Memory>
         requires { self.old.next < 2 ^ 63 }
         ensures numbers { IfOk result (λ n. Numbers self.old self.new name n) }

@@ -16,7 +16,7 @@ use std::alloc::Global;
 /// How an operator goes on with a left part in front of it.
 #[derive(Debug, Clone, Copy, Drop)]
 pub enum Operation {
-    /// With a term of at most the priority `right` behind it; the whole has this priority.
+    /// With a term of at most the priority `right` after it; the whole has this priority.
     Infix { priority: u16, right: u16 },
     /// By itself; the whole has this priority.
     Postfix { priority: u16 },
@@ -24,7 +24,7 @@ pub enum Operation {
     Ends,
 }
 
-/// An operator that goes on with a left part, its name and the place behind it.
+/// An operator that goes on with a left part, its name and the place after it.
 #[derive(Debug, Drop)]
 pub struct Joining {
     pub name: Text,
@@ -32,7 +32,7 @@ pub struct Joining {
     pub end: usize,
 }
 
-/// The operation of the operator with this name behind a left part of this priority, in a term of at most `max`.
+/// The operation of the operator with this name after a left part of this priority, in a term of at most `max`.
 pub fn operation_named(ops: &OpTable, name: &Text, max: u16, priority: u16) -> Operation
     ensures { result ≡ operation_of (operator_at ops.now) name.now max priority }
 {
@@ -76,7 +76,7 @@ pub fn right_argument(priority: u16, kind: Kind) -> u16
 }
 
 /// The operator ahead that goes on with a left part of this priority, in a term of at most `max`, if one does. The only
-/// error is want of memory.
+/// error is out of memory.
 pub fn joining_ahead(
     alloc: Global,
     ops: &OpTable,
@@ -100,7 +100,7 @@ pub fn joining_ahead(
     }
 }
 
-/// The operator with this name, if it goes on with a left part. The only error is want of memory.
+/// The operator with this name, if it goes on with a left part. The only error is out of memory.
 fn joining_named(
     alloc: Global,
     ops: &OpTable,
@@ -121,7 +121,7 @@ fn joining_named(
     }
 }
 
-/// Whether what stands ahead behind a prefix operator shows that it is an atom (ISO 6.3.4.2).
+/// Whether what stands ahead after a prefix operator shows that it is an atom (ISO 6.3.4.2).
 pub fn stands_alone(text: &[u8], ops: &OpTable, ahead: &Lexeme) -> bool
     ensures { (quotes : QuotesFlag) → stands_alone text.now (operator_at ops.now) quotes (Ok ahead.now) ≡ result }
 {

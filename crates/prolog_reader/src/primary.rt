@@ -29,7 +29,7 @@ use std::alloc::Global;
 const LONGEST_ATOM: usize = 248;
 
 impl Reader {
-    /// Begins a term of at most the priority `max`, and goes behind it where it is an atom, a variable or a number.
+    /// Begins a term of at most the priority `max`, and goes after it where it is an atom, a variable or a number.
     pub fn primary(
         &mut self,
         alloc: Global,
@@ -225,7 +225,7 @@ impl Reader {
         Ok(Mode::Term { max: 999 })
     }
 
-    /// A prefix operator: an atom, or with its operand, by what stands behind it.
+    /// A prefix operator: an atom, or with its operand, by what stands after it.
     fn prefix(
         &mut self,
         alloc: Global,

@@ -24,7 +24,7 @@ use std::alloc::Global;
 #[derive(Debug, Drop)]
 pub enum Read {
     /// A clause: its term, whose variables are numbered from 0 in order of first occurrence; its named variables in
-    /// that order; the place of its first token and the place behind its end token.
+    /// that order; the place of its first token and the place after its end token.
     Clause {
         term: Flat,
         names: Vec<NamedVariable>,
@@ -38,11 +38,11 @@ pub enum Read {
         kind: SyntaxKind,
         at: usize,
     },
-    /// Want of memory.
+    /// Out of memory.
     Memory,
 }
 
-/// Reads the clause at the place `at` of a text, or behind layout there, with these operators, and with texts in double
+/// Reads the clause at the place `at` of a text, or after layout there, with these operators, and with texts in double
 /// quotes as `quotes` says (ISO 6.2, 6.3). It takes heap alone, however deep the term is.
 pub fn read_term(alloc: Global, text: &[u8], at: usize, ops: &OpTable, quotes: Quotes) -> Read
     ensures { Reads result (item_of text.now at ops.now quotes) }
@@ -58,7 +58,7 @@ pub fn read_term(alloc: Global, text: &[u8], at: usize, ops: &OpTable, quotes: Q
     }
 }
 
-/// Reads the clause behind `at` whose first token is at `start`.
+/// Reads the clause after `at` whose first token is at `start`.
 fn read_from(
     alloc: Global,
     text: &[u8],
@@ -80,7 +80,7 @@ fn read_from(
     }
 }
 
-/// Reads the clause behind `at` whose first token is at `start`.
+/// Reads the clause after `at` whose first token is at `start`.
 fn read_clause(
     alloc: Global,
     text: &[u8],

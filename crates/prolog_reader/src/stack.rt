@@ -21,7 +21,7 @@ use pl_model::syntax::SyntaxFault;
 use pl_term::{Memory, Node, Text};
 use std::alloc::Global;
 
-/// What was begun and waits for a subterm. What was read of it already is in the pieces from `start` on; behind it a
+/// What was begun and waits for a subterm. What was read of it already is in the pieces from `start` on; after it a
 /// term of at most the priority `max` goes on.
 #[derive(Debug, Drop)]
 pub enum Frame {
@@ -37,7 +37,7 @@ pub enum Frame {
         mark: Mark,
         start: usize,
     },
-    /// A compound term waits for arguments behind the first `count`.
+    /// A compound term waits for arguments after the first `count`.
     Arguments {
         max: u16,
         name: Text,
@@ -76,7 +76,7 @@ pub enum Mode {
 /// How far reading of a clause has come.
 #[derive(Debug, Drop)]
 pub struct Reader {
-    /// The place behind the last token that was taken.
+    /// The place after the last token that was taken.
     pub at: usize,
     /// What stands there.
     pub ahead: Result<Lexeme, SyntaxFault>,
@@ -86,7 +86,7 @@ pub struct Reader {
 }
 
 impl Reader {
-    /// A reader of the clause that begins at the place `at`. The only error is want of memory.
+    /// A reader of the clause that begins at the place `at`. The only error is out of memory.
     pub fn new(alloc: Global, text: &[u8], at: usize) -> Result<Reader, Memory>
         requires { at ≤ length text.now }
         ensures sound { IfOk result (λ r. IsSound text.now r (Mode.Term 1200)) }
@@ -111,7 +111,7 @@ impl Reader {
         std::mem::replace(&mut self.ahead, Ok(Lexeme::End))
     }
 
-    /// Goes to the place behind a token. The only error is want of memory.
+    /// Goes to the place after a token. The only error is out of memory.
     pub fn advance(&mut self, alloc: Global, text: &[u8], end: usize) -> Result<(), Memory>
         ensures { OnOk result (self.new ≡ record self.old { at = end; ahead = token_at text.now end }) }
     {
@@ -121,7 +121,7 @@ impl Reader {
         Ok(())
     }
 
-    /// A frame waits from here on, and reading goes to the place behind a token.
+    /// A frame waits from here on, and reading goes to the place after a token.
     pub fn push(&mut self, alloc: Global, text: &[u8], frame: Frame, end: usize) -> Result<(), Stop>
         ensures pushes { OnOk result (Pushes text.now self.old self.new frame end) }
         ensures stop { IfErr result (λ e. e ≡ Stop.Memory) }
@@ -177,7 +177,7 @@ impl Reader {
         })
     }
 
-    /// Goes on behind a left part: with an operator, if one stands there that fits.
+    /// Goes on after a left part: with an operator, if one stands there that fits.
     pub fn go_on(
         &mut self,
         alloc: Global,
@@ -292,7 +292,7 @@ impl Reader {
         }
     }
 
-    /// The closing bracket behind a term of this priority, whose pieces begin at `last`; those of the whole begin at
+    /// The closing bracket after a term of this priority, whose pieces begin at `last`; those of the whole begin at
     /// `start`.
     fn close(
         &mut self,
@@ -319,7 +319,7 @@ impl Reader {
         })
     }
 
-    /// A comma or a closing parenthesis behind an argument of this priority, whose pieces begin at `last`. The `count`
+    /// A comma or a closing parenthesis after an argument of this priority, whose pieces begin at `last`. The `count`
     /// arguments before it begin at `start`.
     fn argument(
         &mut self,
@@ -358,7 +358,7 @@ impl Reader {
         })
     }
 
-    /// A comma, a bar or a closing bracket behind a list element of this priority, whose pieces begin at `last`. The
+    /// A comma, a bar or a closing bracket after a list element of this priority, whose pieces begin at `last`. The
     /// cells before it begin at `start`.
     fn element(
         &mut self,

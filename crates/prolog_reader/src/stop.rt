@@ -10,7 +10,7 @@ use std::alloc::{AllocError, AllocFailed};
 /// Why reading of a clause stops before its end.
 #[derive(Debug, Clone, Copy, Drop)]
 pub enum Stop {
-    /// Want of memory.
+    /// Out of memory.
     Memory,
     /// The first fault of the text.
     Fault(SyntaxFault),

@@ -27,7 +27,7 @@ use Rattle.read_back.proofs.Steps.{Met, standing, told, after, begins_term, begi
 use Rattle.read_back.proofs.Leaves.{postfix-stops, IsRead, named-atom, name-begins, name-shows}
 use Rattle.read_back.proofs.Operations.{left-most, BodyIsRead, OperatorNext, operator-no_brackets, operator-next, tight-follows, space-follows}
 
--- A piece of a prefix operator is no functor of what is behind it, and no sign.
+-- A piece of a prefix operator is no functor of what is after it, and no sign.
 record Unbound (f : Chars) (T : Chars) : Type 0 where
   no_open : (slice_index (encode_utf8_all T) 0 == 40) ≡ false
   no_sign : (bytes_eq f (codes "-") && is_ascii_digit (slice_index (encode_utf8_all T) 0)) ≡ false

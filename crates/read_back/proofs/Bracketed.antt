@@ -39,7 +39,7 @@ module _ (text : List ℕ) (ops : Lookup) (quotes : Quotes) (regular : IsRegular
   abbrev pub goes_further : Part → Outcome Items
   goes_further p = further_at text ops quotes p
 
-  -- The terms behind one, to the closing parenthesis.
+  -- The terms after one, to the closing parenthesis.
   pub record GotFurther (ts : Trees) (p : Tree) (priority : ℕ) (s : Met) (qs : List Piece) (at : ℕ) : Type 0 where
     pub to : ℕ
     pub b : Behind
@@ -269,7 +269,7 @@ module _ (text : List ℕ) (ops : Lookup) (quotes : Quotes) (regular : IsRegular
         makes = refl;
       }
 
-  -- What may stand behind an element.
+  -- What may stand after an element.
   record Behindhand (u : Tree) (qs : List Piece) : Type 0 where
     follow : Follow text ops quotes 999 (list_tail quoting ops (more u none) ++ qs)
     closes : Closes text ops quotes (list_tail quoting ops (more u none) ++ qs)

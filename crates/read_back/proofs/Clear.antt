@@ -24,7 +24,7 @@ use Rattle.read_back.proofs.Shapes.{OfOne, in_curly, prefixed, postfixed, called
 use Rattle.read_back.proofs.Operations.{operator-no_brackets}
 use Rattle.read_back.proofs.Affixes.{not_comma}
 
--- Behind layout, or where nothing stands before.
+-- After layout, or where nothing stands before.
 abbrev pub start_of_text : Behind
 start_of_text = record { last = 32; prefix = None }
 
@@ -76,7 +76,7 @@ clear-int (pos n) ps e =
     (digit-layout ds.first (ds.more ++ rest) (digit ds.first ds.more ds.all))
 clear-int (negsuc n) ps e = clear-minus (decimal (suc n)) ps
 
--- What stands behind a piece begins with a character, if there is something.
+-- What stands after a piece begins with a character, if there is something.
 abbrev Firsts : List Piece → Type 0
 Firsts ps = (b : Behind) → FirstScalar (text_behind b ps)
 

@@ -1,4 +1,4 @@
--- What may be written behind an operand: a space, a closing bracket, a bar, a comma, a semicolon or a name of symbol
+-- What may be written after an operand: a space, a closing bracket, a bar, a comma, a semicolon or a name of symbol
 -- characters. Each of them ends a word and a numeral.
 use Rattle.std.proofs.Common.{◌≡◌, ℕ, ◌<◌, Bool, true, false, cond, ◌&&◌, ◌||◌, not, ◌==◌, nat_lt, nat_eq, codes, [], ◌∷◌, ◌++◌, slice_index, refl, ap, subst, ◌∙◌, arith, bytes_eq}
 use Rattle.std.specs.Char.{IsScalar, is_ascii_digit}
@@ -121,7 +121,7 @@ stop-no_point c e =
     let P : ℕ → Type 0 = λ d. (d == 46) ≡ false in
     among P c (codes " )]}|,;") e (refl, (refl, (refl, (refl, (refl, (refl, (refl, tt)))))))
 
--- What the characters behind an operand say of its bytes.
+-- What the characters after an operand say of its bytes.
 pub record Follower (cs : Chars) : Type 0 where
   pub first : FirstScalar cs
   pub numeral : EndsNumeral (encode_utf8_all cs)

@@ -1,4 +1,4 @@
--- Variables, integers and atoms are read as they are written; and what may stand behind a term in brackets.
+-- Variables, integers and atoms are read as they are written; and what may stand after a term in brackets.
 use Rattle.std.proofs.Common.{◌≡◌, ℕ, pos, negsuc, ◌+◌, ◌^◌, ◌<◌, ◌≤◌, suc, Bool, true, false, ◌&&◌, ◌||◌, not, ◌==◌, nat_lt, nat_le, codes, List, [], ◌∷◌, ◌++◌, drop, slice_index, Option, Some, None, Ok, Err, is_some, refl, sym, ap, subst, ◌∙◌, arith, bytes_eq}
 use Rattle.std.specs.Char.{is_ascii_digit}
 use Rattle.std.specs.Str.{all_scalars, encode_utf8_all}
@@ -37,7 +37,7 @@ none_of None e = refl
 none_of (Some x) e = absurd (differ e)
 
 module _ (text : List ℕ) (ops : Lookup) (quotes : Quotes) (regular : IsRegular ops) where
-  -- What may stand behind a term in brackets, an argument or an element.
+  -- What may stand after a term in brackets, an argument or an element.
 
   pub follow-close : (k : ℕ) (qs : List Piece) → Follow text ops quotes k (plain (codes ")") ∷ qs)
   follow-close k qs = record {

@@ -87,7 +87,7 @@ symbol c e =
       ),
     )
 
--- What behind a piece does not join it.
+-- What after a piece does not join it.
 
 pub record Parted (b : Behind) (T : Chars) : Type 0 where
   pub symbol_ends : is_symbol b.last ≡ true → (x : ℕ) (xs : Chars) → T ≡ x ∷ xs → is_symbol x ≡ false

@@ -68,7 +68,7 @@ not_not : (t : Bool) → not t ≡ false → t ≡ true
 not_not true e = refl
 not_not false e = cc
 
--- What is read at the right end of a term without parentheses stays below what may stand behind it.
+-- What is read at the right end of a term without parentheses stays below what may stand after it.
 edge-left : (n m p : ℕ) (k : Kind) (t : Bool) → (n == p) ≡ t → (t && not (is_left_associative k)) ≡ false → n ≤ m → m ≤ p → right_argument (n, k) ≤ p - 1
 edge-left n m p k true same e low fitting =
     let is : n ≡ p = same_number n p same in
@@ -113,7 +113,7 @@ module _ (text : List ℕ) (ops : Lookup) (quotes : Quotes) (regular : IsRegular
           (less-follow text ops quotes (right_argument e) (edge m place) qs (right-edge m place e low parts.1 fitting) follow) in
           record { got = g.got; low = omega (arith, g.same); shows = λ _. g.shows }
 
-  -- The token of an operator, and what stands behind it.
+  -- The token of an operator, and what stands after it.
   pub record OperatorNext (f : Chars) (R : List Piece) (at : ℕ) : Type 0 where
     pub kind : TokenKind
     pub start : ℕ

@@ -47,12 +47,12 @@ pub space_binds : (o : Option Chars) → would_bind o 32 ≡ false
 space_binds None = refl
 space_binds (Some f) = second_false (bytes_eq f (codes "-")) (is_ascii_digit 32) refl
 
--- The state behind a piece of one character.
+-- The state after a piece of one character.
 abbrev pub behind_one : ℕ → Behind
 behind_one c = record { last = c; prefix = None }
 
 module _ (text : List ℕ) where
-  -- These pieces stand at a place, behind spaces.
+  -- These pieces stand at a place, after spaces.
   pub record Ahead (b : Behind) (ps : List Piece) (at : ℕ) : Type 0 where
     pub spaces : ℕ
     pub is : drop at text ≡ blanks spaces ++ encode_utf8_all (text_behind b ps)
@@ -82,7 +82,7 @@ module _ (text : List ℕ) where
       let place : at ≡ at + 0 = omega arith in
       ap (λ n. get_or text n 0) place ∙ sym (get_or-drop at text 0 0) ∙ ap (λ xs. get_or xs 0 0) e
 
-  -- The token at a place, and the bytes behind it.
+  -- The token at a place, and the bytes after it.
   pub record TokenAt (at : ℕ) (kind : Bool → TokenKind) (bs : List ℕ) : Type 0 where
     pub direct : Bool
     pub start : ℕ
@@ -106,7 +106,7 @@ module _ (text : List ℕ) where
         rest = sym (drop-drop size start text) ∙ ap (drop size) there ∙ behind;
       }
 
-  -- The token that a piece is read as, and the pieces behind it.
+  -- The token that a piece is read as, and the pieces after it.
   pub record Next (kind : Bool → TokenKind) (b : Behind) (ps : List Piece) (at : ℕ) : Type 0 where
     pub direct : Bool
     pub start : ℕ
@@ -176,7 +176,7 @@ module _ (text : List ℕ) where
   unfolding encode
   comma-next b ps at a = mark-next (λ direct. Punctuation Comma) 44 b ps at a refl (λ rest. no_layout (44 ∷ rest) 44 1 refl refl refl refl) comma-reads
 
-  -- A parenthesis directly behind a name.
+  -- A parenthesis directly after a name.
   pub open-bytes : (b : Behind) (ps : List Piece) (at : ℕ) → b.prefix ≡ None → Exact b (plain (codes "(") ∷ ps) at
       → drop at text ≡ 40 ∷ encode_utf8_all (text_behind (behind_one 40) ps)
   unfolding encode

@@ -16,7 +16,7 @@ use Rattle.read_back.proofs.Written.{clause-read}
 use Rattle.read_back.proofs.Numbering.{nothing_met, told-variant}
 use Rattle.read_back.proofs.KeptNames.{keeps}
 
--- The state behind pieces.
+-- The state after pieces.
 behind_all : Behind → List Piece → Behind
 behind_all b [] = b
 behind_all b (p ∷ ps) = behind_all (after_piece b p) ps

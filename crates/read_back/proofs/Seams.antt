@@ -1,4 +1,4 @@
--- Where pieces of written text meet: spaces, and the first character behind a piece.
+-- Where pieces of written text meet: spaces, and the first character after a piece.
 use Rattle.std.proofs.Common.{◌≡◌, ℕ, ◌+◌, zero, suc, Bool, true, false, cond, ◌&&◌, ◌||◌, ◌==◌, codes, List, [], ◌∷◌, ◌++◌, Option, Some, None, append_assoc, refl, ap, ◌∙◌, arith, bytes_eq}
 use Rattle.std.specs.Char.{is_ascii_digit}
 use Rattle.std.specs.Str.{encode_utf8_all}
@@ -42,7 +42,7 @@ unfolding encode
 some_gap true = (1, refl)
 some_gap false = (0, refl)
 
--- A piece behind spaces: further spaces, and then its characters and what follows them.
+-- A piece after spaces: further spaces, and then its characters and what follows them.
 pub lead : (b : Behind) (p : Piece) (ps : List Piece) (d : ℕ) (ds : Chars) (n : ℕ) (bs : List ℕ) → chars_of p ≡ d ∷ ds
     → bs ≡ blanks n ++ encode_utf8_all (text_behind b (p ∷ ps))
     → (m : ℕ) × (bs ≡ blanks m ++ (encode_utf8_all (d ∷ ds) ++ encode_utf8_all (text_behind (after_piece b p) ps)))
@@ -57,7 +57,7 @@ lead b p ps d ds n bs spelled is =
           ∙ blanks-add n space.0 (encode_utf8_all (d ∷ ds) ++ encode_utf8_all rest),
     )
 
--- What is written behind a piece: its first character would not join it, and would not bind to it.
+-- What is written after a piece: its first character would not join it, and would not bind to it.
 abbrev pub Apart : Behind → Chars → Type 0
 Apart b [] = Unit {0}
 Apart b (x ∷ xs) = (would_join b.last x || would_bind b.prefix x) ≡ false

@@ -1,4 +1,4 @@
--- Reading step by step: what is told of a term, and what stands behind it.
+-- Reading step by step: what is told of a term, and what stands after it.
 use Rattle.std.proofs.Common.{◌≡◌, ℕ, ◌-◌, ◌≤◌, Bool, true, false, cond, codes, List, ◌∷◌, ◌++◌, Option, Some, None, Ok, Err, refl, ap, ◌∙◌, arith, bytes_eq}
 use Rattle.pl_term.specs.Tree.{Chars, Tree, Trees, var, int, atom, comp, none, more}
 use Rattle.pl_model.specs.declared.lexical.Mark.{Mark}
@@ -28,7 +28,7 @@ standing at s = record { at = at; names = s.0; next = s.1 }
 abbrev pub met : Reading → Met
 met r = (r.names, r.next)
 
--- What a term is read as, and what has been met behind it.
+-- What a term is read as, and what has been met after it.
 abbrev mutual
   pub told : Tree → Met → Tree
   told (var n) s = (variable_named (standing 0 s) (variable n) 0).term
@@ -143,7 +143,7 @@ module _ (text : List ℕ) (ops : Lookup) (quotes : Quotes) where
       ∙ ap (going_on text ops quotes reads (reads_on max) max p) (ap (token_at text) place ∙ token)
       ∙ ap (operation_ahead text ops quotes reads (reads_on max) max p) name
 
-  -- What may stand behind a term: nothing in it reads on.
+  -- What may stand after a term: nothing in it reads on.
   pub record Follow (most : ℕ) (qs : List Piece) : Type 0 where
     pub chars : (b : Behind) → may_follow (text_behind b qs) ≡ true
     pub stops : (b : Behind) (at : ℕ) → Exact text b qs at → (k : ℕ) → k ≤ most → (p : Part) → p.reading.at ≡ at → reads_on k p ≡ Ok p
@@ -155,7 +155,7 @@ module _ (text : List ℕ) (ops : Lookup) (quotes : Quotes) where
   abbrev pub Closes : List Piece → Type 0
   Closes qs = (b : Behind) (at : ℕ) → Exact text b qs at → stands_alone text ops quotes (token_at text at) ≡ true
 
-  -- A term is read as what is told of it, and these pieces stand behind it.
+  -- A term is read as what is told of it, and these pieces stand after it.
   pub record Got (t : Tree) (max : ℕ) (s : Met) (qs : List Piece) (at : ℕ) : Type 0 where
     pub to : ℕ
     pub b : Behind

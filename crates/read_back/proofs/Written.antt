@@ -1,4 +1,4 @@
--- Each term is read as it is written; and a whole text of one, with an end behind it.
+-- Each term is read as it is written; and a whole text of one, with an end after it.
 use Rattle.std.proofs.Common.{◌≡◌, ℕ, ◌<◌, ◌≤◌, true, ◌&&◌, not, codes, List, [], ◌∷◌, ◌++◌, length, drop, Some, Ok, Err, IfSome, refl, sym, ap, subst, ◌∙◌, arith, pos, negsuc}
 use Rattle.std.specs.Str.{all_scalars}
 use Rattle.pl_term.specs.Tree.{Chars, Tree, Trees, var, int, atom, comp, none, more, count}

@@ -68,7 +68,7 @@ abbrev pub table_after : List Change → OperatorTable
 table_after [] = opening_table
 table_after (c ∷ cs) = let t = table_after cs in after_change t c (refusal t c.0 (Some c.1) c.2)
 
--- A text as UTF-8, and behind it a space and a full stop.
+-- A text as UTF-8, and after it a space and a full stop.
 abbrev pub with_end : Chars → List ℕ
 with_end cs = encode_utf8_all (cs ++ codes " .")
 

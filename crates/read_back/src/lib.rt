@@ -13,7 +13,7 @@ ghost use Rattle.pl_model.specs.declared.syntax.SyntaxKind.TheVariants.{AtomTooL
 ghost use Rattle.pl_model.specs.declared.operators.Kind.{Kind};
 ghost use Rattle.read_back.specs.ReadingBack.{is_readable, IsRegular, KeepsNames, Change, table_after, with_end, ReadsAs, ReadsBack, bracket_operator, reads_itself};
 
-/// What `writeq` writes of a term at priority 1200, with a space and a full stop behind it, is read as a clause that is
+/// What `writeq` writes of a term at priority 1200, with a space and a full stop after it, is read as a clause that is
 /// a variant of the term, under the same operators, for each table of operators that op/3 can make.
 #[tactic(auto, using(crate::proofs::ReadBack::reads_as, crate::proofs::ReadBack::reads_back, crate::proofs::ReadBack::reads_back_after))]
 pub fn written_terms_are_read_back()

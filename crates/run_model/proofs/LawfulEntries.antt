@@ -121,7 +121,7 @@ pub stand_append : (e : ℕ) (h : History) (gens : List ℕ) (ms ns : List Made)
 stand_append e h gens [] ns s t = t
 stand_append e h gens (m ∷ ms) ns s t = (s.0, stand_append e h gens ms ns s.1 t)
 
--- The update of a request behind all entries stands.
+-- The update of a request after all entries stands.
 pub stand_made : (e : ℕ) (h : History) (gens : List ℕ) (k : Option Kind)
     → AllStand e (h ++ entry_by e k) (gens ++ length h ∷ []) (made_by (length gens) (length h) k)
 stand_made e h gens None = tt
@@ -137,7 +137,7 @@ stand_made e h gens (Some k) = (
   tt,
 )
 
--- All updates stand after a request behind all entries.
+-- All updates stand after a request after all entries.
 pub stand_more : (e : ℕ) (h : History) (gens : List ℕ) (k : Option Kind) (ms : List Made)
     → AllStand e h gens ms
     → AllStand e (h ++ entry_by e k) (gens ++ length h ∷ []) (ms ++ made_by (length gens) (length h) k)

@@ -1,4 +1,4 @@
--- Entries behind a generation change nothing of the runs within it.
+-- Entries after a generation change nothing of the runs within it.
 use Rattle.std.proofs.Common.{◌≡◌, ◌≤◌, ℕ, zero, suc, List, [], ◌∷◌, ◌++◌, length, Option, Some, None, refl, ap, ◌∙◌, arith, subst}
 use Rattle.std.specs.List.{slice_get}
 use Rattle.pl_model.specs.History.{History}

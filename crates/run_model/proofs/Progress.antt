@@ -213,7 +213,7 @@ as_goes e goals job low old new n g r =
     (seen_is new new.execution old.history old.gens refl g.history_is g.gens_is)
     (as_state_step e goals job low old new.execution n g.moves_is r)
 
--- The move by which a request behind all entries is answered, whatever follows.
+-- The move by which a request after all entries is answered, whatever follows.
 asks_advance : (e goals : ℕ) (job : Job) (h later : History) (gens more : List ℕ) (a : Standing) (q : Request) (next : Reply → Execution) (r : Reply) (k : Option Kind)
     → a.asked ≡ length gens
     → move job a.execution ≡ requests q next
@@ -407,7 +407,7 @@ lawful_before e goals job low seen n later r =
           ∙ ap (λ a. map (λ m. m.kind) a.made ++ mine later e) (sym run_is);
     }
 
--- The updates with the engine's end behind them.
+-- The updates with the engine's end after them.
 lawful_at_end : (e goals : ℕ) (job : Job) (low : ℕ) (seen : Seen) (n : ℕ) (how : How Tree)
     → Reached e goals job low seen n
     → IsLawful e goals job low (seen.history ++ record { engine = e; kind = finish how n } ∷ []) seen.gens n (length seen.history) (finish how n ∷ [])

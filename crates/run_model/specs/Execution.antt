@@ -43,7 +43,7 @@ pub data Consulted : Type 0 where
   directive_failed : ℕ → Consulted
   directive_halted : ℕ → ℕ → Consulted
 
--- Where consulting goes on: at a place of the file, or with the goals of initialization/1 behind its end.
+-- Where consulting goes on: at a place of the file, or with the goals of initialization/1 after its end.
 pub data Rest : Type 0 where
   items_from : ℕ → Rest
   initialization : Rest
@@ -154,7 +154,7 @@ abbrev pub with_term : Job → Execution → OperatorTable → ℕ → ℕ → T
 with_term job x ops place next t None = with_clause x ops place next (clause_of_term t)
 with_term job x ops place next t (Some g) = with_goal job x place next g (initialization_of g)
 
--- Reading goes on behind the next end token, unless a quoted text or a comment stays open.
+-- Reading goes on after the next end token, unless a quoted text or a comment stays open.
 abbrev pub behind_fault : List ℕ → ℕ → SyntaxKind → Rest
 behind_fault bytes at OpenQuote = initialization
 behind_fault bytes at OpenComment = initialization

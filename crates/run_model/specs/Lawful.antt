@@ -143,7 +143,7 @@ abbrev pub generations_of : List (ℕ × List ℕ) → ℕ → List ℕ
 generations_of [] e = []
 generations_of (p ∷ ps) e = if p.0 == e then p.1 else generations_of ps e
 
--- An engine's beginning: its number, the goal that it was started with, its alias, and the generation behind the update
+-- An engine's beginning: its number, the goal that it was started with, its alias, and the generation after the update
 -- that started it.
 pub record Beginning : Type 0 where
   pub engine : ℕ

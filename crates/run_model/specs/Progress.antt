@@ -43,7 +43,7 @@ pub record MovesTo (job : Job) (old new : Seen) : Type 0 where
   pub history_is : new.history ≡ old.history
   pub gens_is : new.gens ≡ old.gens
 
--- The engine made a request behind all entries, and went on by the reply.
+-- The engine made a request after all entries, and went on by the reply.
 pub record AsksTo (e goals : ℕ) (job : Job) (old new : Seen) : Type 0 where
   pub request : Request
   pub next : Reply → Execution

@@ -26,7 +26,7 @@ end_in [] e = None
 end_in (x ∷ xs) e =
     if x.engine == e then elim x.kind [ finish how n ↦ Some how | _ ↦ end_in xs e ] else end_in xs e
 
--- The place of an engine's end in a history that begins at the place `k`, or the place behind all updates.
+-- The place of an engine's end in a history that begins at the place `k`, or the place after all updates.
 abbrev pub end_place : ℕ → History → ℕ → ℕ
 end_place e [] k = k
 end_place e (x ∷ xs) k =
@@ -116,7 +116,7 @@ abbrev pub place_of_goal : List (ℕ × Tree) → Option ℕ
 place_of_goal [] = None
 place_of_goal (g ∷ gs) = Some g.0
 
--- The place of an item: of its first token, or of its fault. Behind the last item these goals follow.
+-- The place of an item: of its first token, or of its fault. After the last item these goals follow.
 abbrev pub place_of_item : List (ℕ × Tree) → Item → Option ℕ
 place_of_item later (clause t names place next) = Some place
 place_of_item later (fault kind place) = Some place

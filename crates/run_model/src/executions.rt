@@ -13,7 +13,7 @@ ghost use Rattle.run_model.specs.Lawful.{run, Rises, EndsSo, RanToEnd, WaitsAtEn
 ghost use Rattle.run_model.specs.Progress.{Seen, Reached, MovesTo, AsksTo, WaitsNow, Alone, told_at_end, told_waiting};
 ghost use Rattle.run_model.specs.Report.{end_in, AreFinal};
 
-/// Entries behind the generations of a run change nothing of it.
+/// Entries after the generations of a run change nothing of it.
 #[tactic(auto, using(crate::proofs::LawfulStable::run_later))]
 pub fn later_entries_change_nothing()
     ensures { (e goals : ℕ) (job : Job) (h later : History) (gens : List ℕ) (n : ℕ)
@@ -51,7 +51,7 @@ pub fn moves_reached()
         → Reached e goals job low new (suc n) }
 {}
 
-/// A request behind all entries that does not wait.
+/// A request after all entries that does not wait.
 pub fn requests_reached()
     ensures { (e goals : ℕ) (job : Job) (low : ℕ) (old new : Seen) (n : ℕ)
         → AsksTo e goals job old new

@@ -1,4 +1,4 @@
--- How an execution comes to a later one: by a move of its own, by a request that is answered, and by one way behind another.
+-- How an execution comes to a later one: by a move of its own, by a request that is answered, and by one way after another.
 use Rattle.std.proofs.Common.{◌≡◌, ℕ, suc, ◌+◌, [], ◌∷◌, ◌++◌, length, Option, refl, sym, ◌∙◌, arith, subst}
 use Rattle.pl_model.specs.History.{Kind, History}
 use Rattle.pl_model.specs.Requests.{Request, Reply}
@@ -91,7 +91,7 @@ comes_by_request job x q next t u before reply update is follows served told =
           later);
     })
 
--- One way behind another.
+-- One way after another.
 pub comes_then : (job : Job) (x y z : Execution) (t u v : Told) (n k : ℕ) → ComesIn job n x t y u → ComesIn job k y u z v → ComesIn job (k + n) x t z v
 comes_then job x y z t u v n k c d =
     record {

@@ -46,7 +46,7 @@ later_then t u v a b =
       grown = b.grown ∙ ap (λ h. h ++ b.later) a.grown ∙ append_assoc t.history a.later b.later;
     }
 
--- What is replied later is replied behind what the engine had seen before.
+-- What is replied later is replied after what the engine had seen before.
 pub replied_later : (asks more : Request → Type 0) (t u : Told) (c : Chars)
     → ((q : Request) → more q → asks q)
     → IsLater t u

@@ -11,7 +11,7 @@ use Rattle.script_api.specs.declared.once.Stage.TheVariants.{Fresh, AtHand}
 use Rattle.world_api.specs.Told.{Told, Follows}
 use Rattle.world_api.specs.Answers.{seen_as}
 
--- A look behind all entries.
+-- A look after all entries.
 pub record Looked (t u : Told) : Type 0 where
   pub before : History
   pub reply : requests.Reply

@@ -5,7 +5,7 @@ use Rattle.run_model.specs.Execution.{Job, Execution, Rest, directing, searching
 use Rattle.run_model.specs.Progress.{Seen}
 use Rattle.world_api.specs.Told.{Told}
 
--- What an engine searches for: the solutions of its goal, or one of the directive of the item at a place, behind which
+-- What an engine searches for: the solutions of its goal, or one of the directive of the item at a place, after which
 -- consulting goes on so.
 pub data Part : Type 0 where
   of_goal : Part

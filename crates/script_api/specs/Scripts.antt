@@ -54,14 +54,14 @@ abbrev pub is_directive : Part → Bool
 is_directive of_goal = false
 is_directive (of_directive place rest) = true
 
--- The item that was given is at hand then, and where none was given there is none. After want of memory nothing is said.
+-- The item that was given is at hand then, and where none was given there is none. After running out of memory nothing is said.
 abbrev pub IsAtHand : {T : Type 0} → Next T → Option Part → Type 0
 IsAtHand (Item t d) None = ⊥
 IsAtHand (Item t d) (Some p) = is_directive p ≡ d
 IsAtHand Memory o = Unit {0}
 IsAtHand _ o = o ≡ None
 
--- Behind the goal there is no further item.
+-- After the goal there is no further item.
 abbrev pub IsLast : {T : Type 0} → Option Part → Next T → Type 0
 IsLast (Some of_goal) (Done None) = Unit {0}
 IsLast (Some of_goal) Memory = Unit {0}
@@ -76,7 +76,7 @@ texts_at _ = []
 abbrev pub written_at : Execution → List Consulted
 written_at x = x.consulted ++ texts_at x.activity
 
--- How the engine ends behind its last item, and what its goal has written: a directive has halted, or the search of the
+-- How the engine ends after its last item, and what its goal has written: a directive has halted, or the search of the
 -- goal has ended, or there was no goal.
 abbrev pub LeavesOff : Option ℕ → Option Part → Option State → Ending → List Output → Type 0
 LeavesOff (Some n) part searched ending os = (ending ≡ halted n) × (os ≡ [])
@@ -92,12 +92,12 @@ abbrev pub some_fault : List Consulted → Bool
 some_fault [] = false
 some_fault (c ∷ cs) = is_fault c || some_fault cs
 
--- It is told so. After want of memory nothing is said.
+-- It is told so. After running out of memory nothing is said.
 abbrev pub IsKept : {T : Type 0} → Next T → Bool → List Consulted → Type 0
 IsKept Memory b cs = Unit {0}
 IsKept next b cs = some_fault cs ≡ b
 
--- The text of the file of this name has these lines. After want of memory it may have a part of a line.
+-- The text of the file of this name has these lines. After running out of memory it may have a part of a line.
 abbrev pub IsWritten : {T : Type 0} → Next T → Chars → List Consulted → List ℕ → Type 0
 IsWritten Memory name cs bytes = Unit {0}
 IsWritten next name cs bytes = bytes ≡ encode_utf8_all (all_consulted name [] cs)
@@ -120,7 +120,7 @@ pub record IsLater (t u : Told) : Type 0 where
   pub later : History
   pub grown : u.history ≡ t.history ++ later
 
--- The text is one of what is handed of the reply to one of these requests, behind what the engine had seen and what came
+-- The text is one of what is handed of the reply to one of these requests, after what the engine had seen and what came
 -- since.
 pub record IsReplied (asks : Request → Type 0) (t : Told) (c : Chars) : Type 0 where
   pub before : History

@@ -30,7 +30,7 @@ pub enum Next<T> {
     Retry(Cause),
     /// An atom of the item is one of a bucket that takes no new atom.
     Worn(WornWord),
-    /// Want of memory.
+    /// Out of memory.
     Memory,
 }
 
@@ -75,7 +75,7 @@ pub trait Script {
         ensures { result.now ≡ variables self.now };
 
     /// The next item. `ended` says how the item at hand has ended, if there is one: its ball has texts of its own, since
-    /// its variables need not be numbered from 0. Lines that are written of the file are put behind its text, and the moves of
+    /// its variables need not be numbered from 0. Lines that are written of the file are put after its text, and the moves of
     /// the execution are added to `moves`. Where their number would pass 64 bits, it answers
     /// `Memory`.
     fn next<W: World<Term = Self::Term>>(

@@ -22,7 +22,7 @@ pub fn execution_moves()
     ensures { (job : Job) (x y : Execution) (t : Told) → move job x ≡ moves y → ComesIn job 1 x t y t }
 {}
 
-/// A request that is answered behind all entries.
+/// A request that is answered after all entries.
 pub fn execution_asks()
     ensures { (job : Job) (x : Execution) (q : Request) (next : SharedReply → Execution) (t u : Told) (before : History) (reply : SharedReply) (update : Option Kind)
         → move job x ≡ requests q next
@@ -32,7 +32,7 @@ pub fn execution_asks()
         → ComesIn job 1 x t (next reply) u }
 {}
 
-/// One way behind another.
+/// One way after another.
 pub fn execution_goes_on()
     ensures { (job : Job) (x y z : Execution) (t u v : Told) (n k : ℕ)
         → ComesIn job n x t y u

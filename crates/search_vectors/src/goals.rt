@@ -4,7 +4,7 @@ use iso_search::search::Budgets;
 use std::test::Fail;
 
 /// A row has a goal in letters, the budgets of inferences, cells and choices, and what a reference program gives for the
-/// goal: X and Y of each solution, and behind the last one a full stop, the ball that nothing catches, or the status of
+/// goal: X and Y of each solution, and after the last one a full stop, the ball that nothing catches, or the status of
 /// an exit.
 const GOALS: &str = r"t 99 999 99 __|.
 f 99 999 99 .

@@ -55,7 +55,7 @@ fn other(letter: u8) -> Option<(Atom, usize)> {
     }
 }
 
-/// The letter of a name with a number of arguments; where there is none, that of the name alone behind a quote.
+/// The letter of a name with a number of arguments; where there is none, that of the name alone after a quote.
 fn push_name(text: &mut Vec<u8>, slot: u32, count: usize) -> Result<(), Memory> {
     let mut first = b'?';
     for i in 0..LETTERS.len() {
@@ -92,7 +92,7 @@ fn push_node(text: &mut Vec<u8>, node: AtomNode) -> Result<(), Memory> {
     }
 }
 
-/// Puts the letters of a term behind the others.
+/// Puts the letters of a term after the others.
 pub fn push_term(text: &mut Vec<u8>, nodes: &[AtomNode]) -> Result<(), Memory> {
     for i in 0..nodes.len() {
         push_node(text, nodes[i])?;

@@ -51,7 +51,7 @@ fn sides(store: &Store, goal: Place) -> Option<(Place, Place)> {
     Some((store.argument(arguments, 0), store.argument(arguments, 1)))
 }
 
-/// Puts the letters of the term at a place behind the others.
+/// Puts the letters of the term at a place after the others.
 fn push_place(text: &mut Vec<u8>, store: &Store, place: Place) -> Result<(), Memory> {
     if !store.holds(place) {
         return Err(Memory);
@@ -80,7 +80,7 @@ fn run_equation(
     Ok(outcome)
 }
 
-/// Runs a goal that is a control construct. What it is else is answered by want of memory, here and below.
+/// Runs a goal that is a control construct. What it is else is answered by out of memory, here and below.
 fn run_construct(
     alloc: Global,
     search: &mut Search,

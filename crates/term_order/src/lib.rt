@@ -12,4 +12,8 @@ mod rows;
 mod sorting;
 
 pub use compare::compare_places;
-pub use rows::{msort, sort};
+pub use items::Item;
+pub use lists::{ListEnd, list_elements};
+pub use pairs::Pair;
+pub use rows::{give_list, msort, sort};
+pub use sorting::sort_items;

@@ -30,7 +30,7 @@ pub enum ListPart {
 }
 
 /// Puts the places of the elements of a list into `all`, as far as it is one, and says how it ends. What was in `all` is lost.
-/// The only error is want of memory.
+/// The only error is out of memory.
 pub fn list_elements(store: &Store, list: Place, all: &mut Vec<Place>) -> Result<ListEnd, Memory>
     requires { Holds store.now list }
     ensures ended { IfOk result (λ e. (m : Names) → IsNaming m → IsHeldAt m store.now list
@@ -82,7 +82,7 @@ fn list_part(store: &Store, place: Place) -> ListPart
     }
 }
 
-/// The list of the terms at the items' places. Its cells are not counted. The only error is want of memory.
+/// The list of the terms at the items' places. Its cells are not counted. The only error is out of memory.
 pub fn make_list(store: &mut Store, items: &[Item]) -> Result<Place, Memory>
     requires { All (λ x. Holds store.old x.place) items.now }
     ensures { IfOk result (λ p. IsListMade store.old items.now store.new p) }

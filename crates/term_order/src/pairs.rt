@@ -20,7 +20,7 @@ pub struct Pair {
 }
 
 /// Puts the pairs of the arguments of two terms on the stack, the first on top, where both are compound. The terms have the
-/// same number of arguments. The only error is want of memory.
+/// same number of arguments. The only error is out of memory.
 pub fn push_arguments(
     store: &Store,
     pending: &mut Vec<Pair>,

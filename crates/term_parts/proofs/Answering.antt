@@ -70,12 +70,12 @@ module _ (m : Names) (s t : Contents) (k : ℕ) (ps : List Place) (e : t ≡ rec
   placed_still inside held = subst (λ u. ArePlaced m u ps) (sym e) (record { inside = inside; held = held })
 
 module _ (s : Contents) (next : ℕ) (p : Proc) (m : Names) (t : Contents) where
-  pub answer_given : (a : Answer) (ps : Vec Place Global) → next + a.fresh < 2 ^ 64 → s.used + a.made ≤ s.budget
+  pub answer_given : (a : Answer) (ps : Vec Place Global) (fresh : ℕ) → fresh ≡ a.fresh → next + a.fresh < 2 ^ 64 → s.used + a.made ≤ s.budget
       → a.terms ≡ terms_at m t ps.items → Makes s next a.fresh a.made t → ArePlaced m t ps.items
-      → IsGiven s next p (gives (a ∷ [])) m t (rows.Answer ps)
-  answer_given a ps few fits is made placed ts =
-      subst (λ g. IsRow s next ts g m t (rows.Answer ps)) (sym (gives_one p ts next s.used s.budget a ∙ has_room p next s.used s.budget a few fits))
-      (ap (λ us. us ∷ []) is, (made, placed))
+      → IsGiven s next p (gives (a ∷ [])) m t (rows.Answer ps fresh)
+  answer_given a ps fresh new few fits is made placed ts =
+      subst (λ g. IsRow s next ts g m t (rows.Answer ps fresh)) (sym (gives_one p ts next s.used s.budget a ∙ has_room p next s.used s.budget a few fits))
+      (ap (λ us. us ∷ []) is, (new, (made, placed)))
 
   pub refused_given : (a : Answer) (r : Row) → ((ts : Trees) → IsRow s next ts (with_room p next s.used s.budget a) m t r)
       → IsGiven s next p (gives (a ∷ [])) m t r

@@ -125,14 +125,14 @@ module _ (m : Names) (s u : Contents) (next : ℕ) (term copy : Place) (kept : T
   copy_held =
       subst (All P) (sym (ap atoms_in copied ∙ atoms_in-renamed (λ x. next + place x (variables (term_at s term))) (term_at s term))) held
 
-  pub copy_given : (v : Tree) (ps : Vec Place Global) → ps.items ≡ term ∷ (copy ∷ []) → next + length (variables kept) < 2 ^ 64 → s.used + cells kept ≤ s.budget
-      → IsGiven s next (proc (codes "copy_term") 2) (copies next (reads m s term) v) m u (rows.Answer ps)
-  copy_given v ps items few fits =
+  pub copy_given : (v : Tree) (ps : Vec Place Global) (fresh : ℕ) → fresh ≡ length (variables kept) → ps.items ≡ term ∷ (copy ∷ []) → next + length (variables kept) < 2 ^ 64 → s.used + cells kept ≤ s.budget
+      → IsGiven s next (proc (codes "copy_term") 2) (copies next (reads m s term) v) m u (rows.Answer ps fresh)
+  copy_given v ps fresh new items few fits =
       let t = reads m s term in
       let n : length (variables t) ≡ length (variables kept) = kept_variables m s term kept is in
       let k : cells t ≡ cells kept = kept_cells m s term kept is in
       let a : Answer = record { terms = two t (rename next t); fresh = length (variables t); made = cells t } in
-      answer_given s next (proc (codes "copy_term") 2) m u a ps (subst (λ l. next + l < 2 ^ 64) (sym n) few) (subst (λ l. s.used + l ≤ s.budget) (sym k) fits)
+      answer_given s next (proc (codes "copy_term") 2) m u a ps fresh (new ∙ sym n) (subst (λ l. next + l < 2 ^ 64) (sym n) few) (subst (λ l. s.used + l ≤ s.budget) (sym k) fits)
       (ap₂ two (sym (ap (spelled (text_of m)) (makes.others term term_in)))
       (rename-spelled (text_of m) next (term_at s term) ∙ ap (spelled (text_of m)) (sym copied)) ∙ ap (terms_at m u) (sym items))
       (subst (λ l. Makes s next l (cells t) u) (sym n) (subst (λ l. Makes s next (length (variables kept)) l u) (sym k) makes))

@@ -53,7 +53,7 @@ module _ (m : Names) (s t : Contents) (next f k : ℕ) (term name arity : Place)
       subst (All P) (sym (ap atoms_in means ∙ atoms_of_functor (atom_name f) (upwards next k))) here
 
   pub functor_made : (ps : Vec Place Global) → ps.items ≡ term ∷ (name ∷ (arity ∷ [])) → next + k < 2 ^ 64 → s.used + (2 * k + 1) ≤ s.budget
-      → IsGiven s next (proc (codes "functor") 3) (functor_row m s next f k name arity) m t (rows.Answer ps)
+      → IsGiven s next (proc (codes "functor") 3) (functor_row m s next f k name arity) m t (rows.Answer ps k)
   functor_made ps items few fits =
       let named : named_term (text_of m (atom_name f)) (new_variables next k) ≡ reads m t term =
       sym (ap (spelled (text_of m)) means ∙ functor_read (text_of m) (atom_name f) next k) in
@@ -61,7 +61,7 @@ module _ (m : Names) (s t : Contents) (next f k : ℕ) (term name arity : Place)
       ap₂ (λ x y. three x y (reads m s arity)) named (still name name_in) ∙ ap (three (reads m t term) (reads m t name)) (still arity arity_in)
       ∙ ap (terms_at m t) (sym items) in
       answer_given s next (proc (codes "functor") 3) m t
-      (record { terms = three (named_term (text_of m (atom_name f)) (new_variables next k)) (reads m s name) (reads m s arity); fresh = k; made = 2 * k + 1 }) ps few fits
+      (record { terms = three (named_term (text_of m (atom_name f)) (new_variables next k)) (reads m s name) (reads m s arity); fresh = k; made = 2 * k + 1 }) ps k refl few fits
       there makes
       (record {
         inside = subst (All (Holds t)) (sym items) (all_three (Holds t) term name arity inside (makes.adds.places name name_in) (makes.adds.places arity arity_in));

@@ -191,11 +191,11 @@ module _ (m : Names) (stands : FixedStand m) (s u : Contents) (next : ℕ) (p : 
       (listed_held P (map (term_at s) items) (fixed_held m stands 8 (codes ".") dot_is) (fixed_held m stands 30 (codes "[]") nil_is) (terms_held m s items items_held))
 
   pub list_given : (ps : Vec Place Global) → ps.items ≡ first ∷ (list ∷ []) → made ≡ 3 * length items → next < 2 ^ 64 → s.used + made ≤ s.budget
-      → IsGiven s next (proc p 2) (list_row m s first items) m u (rows.Answer ps)
+      → IsGiven s next (proc p 2) (list_row m s first items) m u (rows.Answer ps zero)
   list_given ps items_are same few fits =
       let P : ℕ → Type 0 = λ a. IsSome (m a) in
       let a : Answer = record { terms = two (reads m s first) (list_term (map (reads m s) items)); fresh = zero; made = 3 * length items } in
-      answer_given s next (proc p 2) m u a ps (omega (arith, few)) (omega (arith, same, fits))
+      answer_given s next (proc p 2) m u a ps zero refl (omega (arith, few)) (omega (arith, same, fits))
       (ap₂ two (sym (ap (spelled (text_of m)) (makes.others first first_in))) list_reads ∙ ap (terms_at m u) (sym items_are))
       (subst (λ k. Makes s next zero k u) same makes)
       (record {

@@ -17,7 +17,7 @@ use Rattle.term_parts.specs.declared.lists.Link.{Link}
 use Rattle.term_parts.specs.declared.lists.Link.TheVariants.{Open, End, Cell, Other}
 use Rattle.term_parts.specs.Texts.{AreTexts}
 
--- Neither a variable nor a list with such a term behind an element.
+-- Neither a variable nor a list with such a term after an element.
 pub record IsNoList (t : Tree) : Type 0 where
   pub partial : is_list_or_partial t ≡ false
   pub refused : (whole : Tree) → elements_within whole t ≡ Err (type_error (codes "list") whole)

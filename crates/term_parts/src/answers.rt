@@ -6,7 +6,7 @@ ghost use Rattle.pl_model.specs.BuiltinRows.{one_answer};
 ghost use Rattle.pl_model.specs.History.{proc};
 ghost use Rattle.atom_api.specs.Fixed.{fixed};
 ghost use Rattle.atom_api.specs.Names.{Names, FixedStand};
-ghost use Rattle.builtin_rows.specs.Rows.{row_refusals, terms_at};
+ghost use Rattle.builtin_rows.specs.Rows.{IsSingle, row_refusals, terms_at};
 ghost use Rattle.term_store.specs.Contents.{Holds};
 ghost use Rattle.world_builtins.specs.Naming.{IsHeldAt};
 ghost use Rattle.term_parts.specs.Parts.{IsGiven};
@@ -29,9 +29,10 @@ pub fn answer(
     ensures row { IfOk result (λ r. (m : Names) (p : Chars) → FixedStand m → All (IsHeldAt m store.old) places.items → fixed name ≡ Some p
         → IsGiven store.old next (proc p arity) (one_answer (terms_at m store.old places.items)) m store.new r) }
     ensures refuses { IfOk result (λ r. row_refusals r ≡ []) }
+    ensures single { IfOk result IsSingle }
 {
     match take_room(store, next, 0, 0, name, arity)? {
         Some(row) => Ok(row),
-        None => Ok(Row::Answer(places)),
+        None => Ok(Row::Answer { places, fresh: 0 }),
     }
 }

@@ -7,7 +7,7 @@ ghost use Rattle.atom_api.specs.Names.{Names, FixedStand};
 ghost use Rattle.term_store.specs.Contents.{Holds, IsArguments, arguments_at, term_at};
 ghost use Rattle.world_builtins.specs.Naming.{IsHeldAt};
 ghost use Rattle.world_builtins.specs.Spelling.{reads};
-ghost use Rattle.builtin_rows.specs.Rows.{row_refusals};
+ghost use Rattle.builtin_rows.specs.Rows.{IsSingle, row_refusals};
 ghost use Rattle.term_parts.specs.Argument.{IsArgument, Selects};
 ghost use Rattle.term_parts.specs.Parts.{IsGiven};
 
@@ -21,7 +21,7 @@ use term_store::{Arguments, Place, Store, View};
 
 /// arg/3 (ISO/IEC 13211-1:1995, 8.5.2): the argument of a compound term that has this number, counted from 1. It fails where
 /// there is none. An argument that is unbound gives an instantiation error; a number that is no integer, and a term that is not
-/// compound, a type error; a negative number a domain error. The only error of the call is want of memory.
+/// compound, a type error; a negative number a domain error. The only error of the call is out of memory.
 pub fn arg(
     alloc: Global,
     store: &mut Store,
@@ -34,6 +34,7 @@ pub fn arg(
     ensures row { IfOk result (λ r. (m : Names) (argument : Tree) → FixedStand m → IsHeldAt m store.old number → IsHeldAt m store.old term
         → IsGiven store.old next (proc (codes "arg") 3) (argument_of (reads m store.old number) (reads m store.old term) argument) m store.new r) }
     ensures refuses { IfOk result (λ r. row_refusals r ≡ []) }
+    ensures single { IfOk result IsSingle }
 {
     match select(store, number, term) {
         Err(fault) => raise(store, fault, fixed::ARG, 3),

@@ -5,7 +5,7 @@ ghost use Rattle.pl_term.specs.Variables.{rename};
 ghost use Rattle.pl_model.specs.History.{proc};
 ghost use Rattle.pl_model.specs.TermBuiltins.{copies};
 ghost use Rattle.atom_api.specs.Names.{Names, FixedStand};
-ghost use Rattle.builtin_rows.specs.Rows.{row_refusals};
+ghost use Rattle.builtin_rows.specs.Rows.{IsSingle, row_refusals};
 ghost use Rattle.term_store.specs.Contents.{Holds, IsAbove, term_at};
 ghost use Rattle.world_builtins.specs.Naming.{IsHeldAt};
 ghost use Rattle.world_builtins.specs.Spelling.{reads};
@@ -18,13 +18,14 @@ use std::alloc::Global;
 use term_store::{Place, Store, Stored};
 
 /// copy_term/2 (ISO/IEC 13211-1:1995, 8.5.4): a copy of a term whose variables are new ones, with the numbers from `next` on in the
-/// order in which they first occur. The only error is want of memory.
+/// order in which they first occur. The only error is out of memory.
 pub fn copy_term(alloc: Global, store: &mut Store, term: Place, next: u64) -> Result<Row, Memory>
     requires term { Holds store.old term }
     requires above { IsAbove next store.old }
     ensures row { IfOk result (λ r. (m : Names) (copy : Tree) → FixedStand m → IsHeldAt m store.old term
         → IsGiven store.old next (proc (codes "copy_term") 2) (copies next (reads m store.old term) copy) m store.new r) }
     ensures refuses { IfOk result (λ r. row_refusals r ≡ []) }
+    ensures single { IfOk result IsSingle }
 {
     let kept = store.save(term)?;
     copy_kept(alloc, store, &kept, term, next)
@@ -44,6 +45,7 @@ fn copy_kept(
     ensures row { IfOk result (λ r. (m : Names) (copy : Tree) → FixedStand m → IsHeldAt m store.old term
         → IsGiven store.old next (proc (codes "copy_term") 2) (copies next (reads m store.old term) copy) m store.new r) }
     ensures refuses { IfOk result (λ r. row_refusals r ≡ []) }
+    ensures single { IfOk result IsSingle }
 {
     let count = kept.variables();
     let refused = take_room(store, next, count, kept.cells(), fixed::COPY_TERM, 2)?;
@@ -52,7 +54,10 @@ fn copy_kept(
         None => {
             let copy = store.build(kept, next)?;
             let places = vec![in alloc; term, copy]?;
-            Ok(Row::Answer(places))
+            Ok(Row::Answer {
+                places,
+                fresh: count,
+            })
         }
     }
 }

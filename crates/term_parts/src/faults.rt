@@ -7,7 +7,7 @@ ghost use Rattle.pl_model.specs.Terms.{is_variable};
 ghost use Rattle.atom_api.specs.Fixed.{fixed};
 ghost use Rattle.atom_api.specs.Names.{Names, FixedStand};
 ghost use Rattle.term_store.specs.Contents.{Holds, term_at};
-ghost use Rattle.builtin_rows.specs.Rows.{row_refusals};
+ghost use Rattle.builtin_rows.specs.Rows.{IsSingle, row_refusals};
 ghost use Rattle.term_parts.specs.Faults.{IsFaultHeld, IsFaultIn, fault_term, kind_text};
 ghost use Rattle.term_parts.specs.Parts.{IsGiven};
 
@@ -54,12 +54,13 @@ impl Kind {
     }
 }
 
-/// The predicate with this name and so many arguments raises the error. The only error of the call is want of memory.
+/// The predicate with this name and so many arguments raises the error. The only error of the call is out of memory.
 pub fn raise(store: &mut Store, fault: Fault, name: Atom, arity: u32) -> Result<Row, Memory>
     requires { IsFaultIn store.old fault }
     ensures row { IfOk result (λ r. (m : Names) (p : Chars) (next : ℕ) → FixedStand m → IsFaultHeld m store.old fault → fixed name ≡ Some p
         → IsGiven store.old next (proc p arity) (error (fault_term m store.old fault)) m store.new r) }
     ensures refuses { IfOk result (λ r. row_refusals r ≡ []) }
+    ensures single { IfOk result IsSingle }
 {
     match fault {
         Fault::Unbound => raised(store, fixed::INSTANTIATION_ERROR, name, arity),

@@ -9,7 +9,7 @@ ghost use Rattle.term_store.specs.Contents.{Holds, IsAbove, term_at};
 ghost use Rattle.term_store.specs.Heap.{atom_name};
 ghost use Rattle.world_builtins.specs.Naming.{IsHeldAt};
 ghost use Rattle.world_builtins.specs.Spelling.{reads};
-ghost use Rattle.builtin_rows.specs.Rows.{row_refusals};
+ghost use Rattle.builtin_rows.specs.Rows.{IsSingle, row_refusals};
 ghost use Rattle.term_parts.specs.Functor.{IsCount, IsNameOf, IsWanted, functor_row};
 ghost use Rattle.term_parts.specs.Fresh.{IsFresh};
 ghost use Rattle.term_parts.specs.Parts.{IsGiven};
@@ -35,7 +35,7 @@ pub enum Wanted {
 /// term of this name and so many new variables, with the numbers from `next` on. A name or a number that is unbound gives an
 /// instantiation error; a name that is compound, a name of a compound term that is no atom, and a number that is no integer, a
 /// type error; a negative number a domain error; where numbers of variables or cells are spent, it is a resource error or the
-/// row says so. The only error of the call is want of memory.
+/// row says so. The only error of the call is out of memory.
 pub fn functor(
     alloc: Global,
     store: &mut Store,
@@ -51,6 +51,7 @@ pub fn functor(
     ensures row { IfOk result (λ r. (m : Names) → FixedStand m → IsHeldAt m store.old term → IsHeldAt m store.old name → IsHeldAt m store.old arity
         → IsGiven store.old next (proc (codes "functor") 3) (functor_of next (reads m store.old term) (reads m store.old name) (reads m store.old arity)) m store.new r) }
     ensures refuses { IfOk result (λ r. row_refusals r ≡ []) }
+    ensures single { IfOk result IsSingle }
 {
     match store.look(term) {
         View::Variable(_) => construct(alloc, store, name, arity, next),
@@ -87,6 +88,7 @@ fn answer_functor(
     ensures row { IfOk result (λ r. (m : Names) → FixedStand m → IsHeldAt m store.old term → IsHeldAt m store.old name → IsHeldAt m store.old arity
         → IsGiven store.old next (proc (codes "functor") 3) (one_answer (three (reads m store.old term) (reads m store.old name) (reads m store.old arity))) m store.new r) }
     ensures refuses { IfOk result (λ r. row_refusals r ≡ []) }
+    ensures single { IfOk result IsSingle }
 {
     let places = vec![in alloc; term, name, arity]?;
     answer(store, places, next, fixed::FUNCTOR, 3)
@@ -106,6 +108,7 @@ fn construct(
     ensures row { IfOk result (λ r. (m : Names) (x : ℕ) → FixedStand m → IsHeldAt m store.old name → IsHeldAt m store.old arity
         → IsGiven store.old next (proc (codes "functor") 3) (functor_of next (var x) (reads m store.old name) (reads m store.old arity)) m store.new r) }
     ensures refuses { IfOk result (λ r. row_refusals r ≡ []) }
+    ensures single { IfOk result IsSingle }
 {
     match check_name(store, name, arity) {
         Err(fault) => raise(store, fault, fixed::FUNCTOR, 3),
@@ -135,6 +138,7 @@ fn make_functor(
     ensures row { IfOk result (λ r. (m : Names) → FixedStand m → IsHeldAt m store.old name → IsHeldAt m store.old arity
         → IsGiven store.old next (proc (codes "functor") 3) (functor_row m store.old next f count name arity) m store.new r) }
     ensures refuses { IfOk result (λ r. row_refusals r ≡ []) }
+    ensures single { IfOk result IsSingle }
 {
     let refused = take_room(store, next, count, 2 * count + 1, fixed::FUNCTOR, 3)?;
     match refused {
@@ -143,12 +147,15 @@ fn make_functor(
             let arguments = make_variables(alloc, store, next, count)?;
             let term = store.make_compound(f, &arguments)?;
             let places = vec![in alloc; term, name, arity]?;
-            Ok(Row::Answer(places))
+            Ok(Row::Answer {
+                places,
+                fresh: count,
+            })
         }
     }
 }
 
-/// So many variables, with the numbers from `next` on. The only error is want of memory.
+/// So many variables, with the numbers from `next` on. The only error is out of memory.
 fn make_variables(
     alloc: Global,
     store: &mut Store,

@@ -11,7 +11,10 @@ mod seen;
 mod variables;
 mod walk;
 
+pub use answers::answer;
 pub use argument::arg;
 pub use copy::copy_term;
+pub use faults::{Fault, Kind, raise};
 pub use functors::functor;
+pub use lists::list_answer;
 pub use variables::term_variables;

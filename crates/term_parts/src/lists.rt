@@ -6,7 +6,7 @@ ghost use Rattle.pl_model.specs.History.{proc};
 ghost use Rattle.pl_model.specs.Terms.{is_list_or_partial};
 ghost use Rattle.atom_api.specs.Fixed.{fixed};
 ghost use Rattle.atom_api.specs.Names.{Names, FixedStand};
-ghost use Rattle.builtin_rows.specs.Rows.{row_refusals};
+ghost use Rattle.builtin_rows.specs.Rows.{IsSingle, row_refusals};
 ghost use Rattle.term_store.specs.Contents.{Holds, term_at};
 ghost use Rattle.world_builtins.specs.Naming.{IsHeldAt};
 ghost use Rattle.world_builtins.specs.Spelling.{reads};
@@ -27,7 +27,7 @@ pub enum Link {
     Open,
     /// The empty list.
     End,
-    /// An element with what stands behind it.
+    /// An element with what stands after it.
     Cell(Place, Place),
     /// No list.
     Other,
@@ -58,7 +58,7 @@ pub fn link_at(store: &Store, place: Place) -> Link
     }
 }
 
-/// Whether the term at a place is a list or a partial list. The only error is want of memory.
+/// Whether the term at a place is a list or a partial list. The only error is out of memory.
 pub fn is_list_or_partial(store: &Store, place: Place) -> Result<bool, Memory>
     requires { Holds store.now place }
     ensures { IfOk result (λ b. (m : Names) → AreTexts m → IsHeldAt m store.now place → b ≡ is_list_or_partial (reads m store.now place)) }
@@ -75,7 +75,7 @@ pub fn is_list_or_partial(store: &Store, place: Place) -> Result<bool, Memory>
     Err(Memory)
 }
 
-/// The list of the terms at these places. The only error is want of memory.
+/// The list of the terms at these places. The only error is out of memory.
 fn make_list(store: &mut Store, items: &[Place]) -> Result<Place, Memory>
     requires { All (Holds store.old) items.now }
     ensures { IfOk result (λ p. IsListed store.old (map (term_at store.old) items.now) store.new p) }
@@ -90,7 +90,7 @@ fn make_list(store: &mut Store, items: &[Place]) -> Result<Place, Memory>
 }
 
 /// The answer of the predicate with this name and two arguments: a term, and the list of the terms at these places, which is
-/// made. The only error is want of memory.
+/// made. The only error is out of memory.
 pub fn list_answer(
     alloc: Global,
     store: &mut Store,
@@ -104,6 +104,7 @@ pub fn list_answer(
     ensures row { IfOk result (λ r. (m : Names) (p : Chars) → FixedStand m → IsHeldAt m store.old first → All (IsHeldAt m store.old) items.now → fixed name ≡ Some p
         → IsGiven store.old next (proc p 2) (list_row m store.old first items.now) m store.new r) }
     ensures refuses { IfOk result (λ r. row_refusals r ≡ []) }
+    ensures single { IfOk result IsSingle }
 {
     let Some(made) = (items.len() as u64).checked_mul(3) else {
         return Err(Memory);
@@ -114,7 +115,7 @@ pub fn list_answer(
         None => {
             let list = make_list(store, items)?;
             let places = vec![in alloc; first, list]?;
-            Ok(Row::Answer(places))
+            Ok(Row::Answer { places, fresh: 0 })
         }
     }
 }

@@ -39,7 +39,7 @@ impl Seen {
         }
     }
 
-    /// Whether the variable `x` is met for the first time. It is met from then on. The only error is want of memory.
+    /// Whether the variable `x` is met for the first time. It is met from then on. The only error is out of memory.
     pub fn meet(&mut self, x: u64) -> Result<bool, Memory>
         ensures met { OnOk result (self.new ≡ with x self.old) }
         ensures first { IfOk result (λ b. b ≡ not (is_in x self.old)) }

@@ -5,7 +5,7 @@ ghost use Rattle.pl_model.specs.History.{proc};
 ghost use Rattle.pl_model.specs.Terms.{is_list_or_partial};
 ghost use Rattle.pl_model.specs.TermBuiltins.{lists_variables};
 ghost use Rattle.atom_api.specs.Names.{Names, FixedStand};
-ghost use Rattle.builtin_rows.specs.Rows.{row_refusals};
+ghost use Rattle.builtin_rows.specs.Rows.{IsSingle, row_refusals};
 ghost use Rattle.term_store.specs.Contents.{Holds};
 ghost use Rattle.world_builtins.specs.Naming.{IsHeldAt};
 ghost use Rattle.world_builtins.specs.Spelling.{reads};
@@ -23,7 +23,7 @@ use term_store::{Place, Store};
 
 /// term_variables/2 (ISO/IEC 13211-1:1995, Cor.2 8.5.5): the list of the variables of a term, each once, in the order in which they
 /// first occur. What stands for the list and is neither a list nor a partial list gives a type error. The only error of the call
-/// is want of memory.
+/// is out of memory.
 pub fn term_variables(
     alloc: Global,
     store: &mut Store,
@@ -36,6 +36,7 @@ pub fn term_variables(
     ensures row { IfOk result (λ r. (m : Names) → AreTexts m → IsHeldAt m store.old term → IsHeldAt m store.old list
         → IsGiven store.old next (proc (codes "term_variables") 2) (lists_variables (reads m store.old term) (reads m store.old list)) m store.new r) }
     ensures refuses { IfOk result (λ r. row_refusals r ≡ []) }
+    ensures single { IfOk result IsSingle }
 {
     let right = is_list_or_partial(store, list)?;
     if right {
@@ -52,6 +53,7 @@ fn list_variables(alloc: Global, store: &mut Store, term: Place, next: u64) -> R
     ensures row { IfOk result (λ r. (m : Names) (list : Tree) → FixedStand m → IsHeldAt m store.old term → is_list_or_partial list ≡ true
         → IsGiven store.old next (proc (codes "term_variables") 2) (lists_variables (reads m store.old term) list) m store.new r) }
     ensures refuses { IfOk result (λ r. row_refusals r ≡ []) }
+    ensures single { IfOk result IsSingle }
 {
     let items = variables_at(alloc, store, term)?;
     list_answer(alloc, store, term, &items, next, fixed::TERM_VARIABLES)

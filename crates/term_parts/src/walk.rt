@@ -31,8 +31,8 @@ pub fn variables_at(alloc: Global, store: &Store, term: Place) -> Result<Vec<Pla
     Err(Memory)
 }
 
-/// Takes up the term at a place: a variable that is met for the first time is put behind the others, the arguments of a compound
-/// term are put on the stack. The only error is want of memory.
+/// Takes up the term at a place: a variable that is met for the first time is put after the others, the arguments of a compound
+/// term are put on the stack. The only error is out of memory.
 fn visit(
     store: &Store,
     walk: &mut Vec<Place>,
@@ -54,7 +54,7 @@ fn visit(
     }
 }
 
-/// Puts the place of a variable behind the others where it is met for the first time.
+/// Puts the place of a variable after the others where it is met for the first time.
 fn meet(seen: &mut Seen, met: &mut Vec<Place>, x: u64, place: Place) -> Result<(), Memory>
     ensures seen { OnOk result (seen.new ≡ with x seen.old) }
     ensures met { OnOk result (met.new.items ≡ met.old.items ++ (if is_in x seen.old then [] else place ∷ [])) }

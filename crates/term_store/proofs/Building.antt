@@ -65,7 +65,7 @@ head_tree-longer numbers extra args rest done h fits =
     (λ i lt. get_or_append_left numbers extra 0 i lt) (λ j _. refl))
     fits.earlier)
 
--- What was made stays the same when more arguments and variables stand behind.
+-- What was made stays the same when more arguments and variables stand after.
 pub built-longer : (numbers extra : List ℕ) (args rest : List Word) (hs : List Head) (done : List Tree)
     → HeadsFrom (length numbers) args (length done) hs
     → built (numbers ++ extra) (args ++ rest) hs done ≡ built numbers args hs done

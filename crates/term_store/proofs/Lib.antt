@@ -6,6 +6,7 @@ pub mod Constructing
 pub mod Equations
 pub mod Following
 pub mod Growing
+pub mod Joining
 pub mod KeptTerms
 pub mod Loading
 pub mod Looking
@@ -18,6 +19,8 @@ pub mod Renumbering
 pub mod Spelling
 pub mod Stacking
 pub mod Storing
+pub mod Totals
 pub mod Turning
 pub mod Unbinding
+pub mod Visiting
 pub mod Walking

@@ -16,7 +16,7 @@ use Rattle.term_store.proofs.Equations.{bound-int, bound-atom}
 use Rattle.term_store.proofs.Following.{stands, same_slot}
 use Rattle.term_store.proofs.Opening.{opened, weaker_word}
 
-or-false_right : (a : Bool) → (a || false) ≡ a
+pub or-false_right : (a : Bool) → (a || false) ≡ a
 or-false_right true = refl
 or-false_right false = refl
 
@@ -26,7 +26,7 @@ or-comm true false = refl
 or-comm false true = refl
 or-comm false false = refl
 
-or-assoc : (a b c : Bool) → ((a || b) || c) ≡ (a || (b || c))
+pub or-assoc : (a b c : Bool) → ((a || b) || c) ≡ (a || (b || c))
 or-assoc true b c = refl
 or-assoc false b c = refl
 
@@ -41,7 +41,7 @@ any_has-trees x h (w ∷ ws) =
     is_in-append x (occurrences (meaning h w)) (occurrences_all (trees (map (meaning h) ws)))
     ∙ ap (λ b. has x (meaning h w) || b) (any_has-trees x h ws)
 
-has-compound : (x : ℕ) (h : Heap) (f : Chars) (ws : List Word) → has x (compound f (map (meaning h) ws)) ≡ any_has x h ws
+pub has-compound : (x : ℕ) (h : Heap) (f : Chars) (ws : List Word) → has x (compound f (map (meaning h) ws)) ≡ any_has x h ws
 has-compound x h f [] = refl
 has-compound x h f (w ∷ ws) = any_has-trees x h (w ∷ ws)
 

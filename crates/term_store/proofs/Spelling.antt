@@ -24,7 +24,7 @@ nodes_all-join : (ts us : Trees) → nodes_all (join ts us) ≡ nodes_all ts ++ 
 nodes_all-join none us = refl
 nodes_all-join (more t ts) us = ap (λ ns. nodes t ++ ns) (nodes_all-join ts us) ∙ sym (append_assoc (nodes t) (nodes_all ts) (nodes_all us))
 
--- What stands behind the first node of a compound term are the nodes of its arguments and of the terms behind it.
+-- What stands after the first node of a compound term are the nodes of its arguments and of the terms after it.
 behind : (t : Tree) (ts rest : Trees) → (nodes t ++ nodes_all ts) ++ nodes_all rest ≡ nodes_all (more t (join ts rest))
 behind t ts rest = append_assoc (nodes t) (nodes_all ts) (nodes_all rest) ∙ ap (λ ns. nodes t ++ ns) (sym (nodes_all-join ts rest))
 
@@ -56,7 +56,7 @@ ready_node (more (comp g t ts) rest) f k ms e =
     join-none none = refl
     join-none (more u us) = ap (more u) (join-none us)
 
--- A compound term's node has as many terms behind it as it has arguments.
+-- A compound term's node has as many terms after it as it has arguments.
 pub node_ready : (n : AtomNode) (t : Tree) (i : ℕ) (ms : List Node) → drop i (nodes t) ≡ node_view n ∷ ms → IsNodeReady (count (forest ms)) n
 node_ready (Var x) t i ms e = tt
 node_ready (Int j) t i ms e = tt

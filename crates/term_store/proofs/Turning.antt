@@ -16,9 +16,11 @@ use Rattle.term_store.specs.declared.words.Head.{Head}
 use Rattle.term_store.specs.declared.words.Pair.{Pair}
 use Rattle.term_store.specs.Heap.{Heap, atom_name, words_of, meaning, numbered, pushed}
 use Rattle.term_store.specs.Fit.{IsIn, Fit, no_head}
+use Rattle.term_store.specs.Meeting.{Parts}
 use Rattle.term_store.specs.Unifying.{IsPairIn, lefts, rights, zip_words, Goes, Moves, Unifies, Solves}
 use Rattle.term_store.proofs.Equations.{bound-append}
 use Rattle.term_store.proofs.Binding.{meaning-pushed}
+use Rattle.term_store.proofs.Joining.{arguments_close}
 use Rattle.term_store.proofs.Planning.{Facing, IsOpened, is_opened, names-differ}
 use Rattle.term_store.proofs.Pairing.{lefts-append, rights-append, lefts-replace, rights-replace, lefts-zip, rights-zip, All-zip}
 use Rattle.term_store.proofs.Occurring.{words_inside}
@@ -176,7 +178,7 @@ never_unifies c d e a b l r ps rs qs p g split u v s =
     (g.turns, λ n. g.same n [] ∙ in_front c d a b g.made ps rs p l r n split u v ∙ s n g.made)
 
 -- The arguments of a compound term are as many as its head says.
-length-words : (h : Heap) (k : ℕ) → Fit h → k < length h.heads → length (words_of h.args (get_or h.heads k no_head)) ≡ (get_or h.heads k no_head).count
+pub length-words : (h : Heap) (k : ℕ) → Fit h → k < length h.heads → length (words_of h.args (get_or h.heads k no_head)) ≡ (get_or h.heads k no_head).count
 length-words h k fit lt =
     let g = get_or h.heads k no_head in
     omega (arith, length-take g.count (drop g.start h.args), length-drop g.start h.args, (fit.heads k lt).within)
@@ -235,6 +237,22 @@ module _ (h : Heap) (k l : ℕ) (fit : Fit h) (p : k < length h.heads) (q : l < 
       (All-zip h _ _
       (subst (λ g. All (IsIn h) (words_of h.args g)) (sym a) (words_inside h k fit p))
       (subst (λ n. All (IsIn h) (take n (drop right.start h.args))) (sym counts) (subst (λ g. All (IsIn h) (words_of h.args g)) (sym b) (words_inside h l fit q)))))
+
+  pub pair_parts : (ps qs : List Pair) → left.name ≡ right.name → left.count ≡ right.count
+      → qs ≡ ps ++ reverse (zip_words (take left.count (drop left.start h.args)) (take left.count (drop right.start h.args))) → Parts h k l ps qs
+  pair_parts ps qs names counts e =
+      let f = get_or h.heads k no_head in
+      let g = get_or h.heads l no_head in
+      record {
+        gained = reverse (zip_words (words_of h.args f) (words_of h.args g));
+        pushed =
+            e
+            ∙ ap₂ (λ vs ws. ps ++ reverse (zip_words vs ws)) (ap (words_of h.args) a)
+            (ap (λ n. take n (drop right.start h.args)) counts ∙ ap (words_of h.args) b);
+        close =
+            arguments_close h k l fit p q (sym (ap (λ j. j.name) a) ∙ names ∙ ap (λ j. j.name) b)
+            (length-words h k fit p ∙ sym (ap (λ j. j.count) a) ∙ counts ∙ ap (λ j. j.count) b ∙ sym (length-words h l fit q));
+      }
 
   pub left_within : left.start + left.count ≤ length h.args
   left_within = subst (λ g. g.start + g.count ≤ length h.args) (sym a) (fit.heads k p).within

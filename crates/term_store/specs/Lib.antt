@@ -3,14 +3,17 @@ pub mod ArgumentKeys
 pub mod Cells
 pub mod Codes
 pub mod Contents
+pub mod Counting
 pub mod Fit
 pub mod Heap
 pub mod KeptLaws
 pub mod Making
 pub mod Marks
+pub mod Meeting
 pub mod NameLaws
 pub mod NameUnification
 pub mod Nodes
 pub mod NumberedNames
 pub mod StoredTerms
 pub mod Unifying
+pub mod Visits

@@ -32,7 +32,7 @@ IsNodeBelow n (Int i) = Unit {0}
 IsNodeBelow n (Atom a) = Unit {0}
 IsNodeBelow n (Comp a k) = Unit {0}
 
--- There are enough terms behind a compound term's node for its arguments.
+-- There are enough terms after a compound term's node for its arguments.
 abbrev pub IsNodeReady : ℕ → AtomNode → Type 0
 IsNodeReady n (Var x) = Unit {0}
 IsNodeReady n (Int i) = Unit {0}
@@ -61,7 +61,7 @@ pub record StandsFor (h : Heap) (t : Tree) (w : Word) : Type 0 where
   pub inside : IsIn h w
   pub means : meaning h w ≡ t
 
--- Words were moved from the top of a stack behind some arguments.
+-- Words were moved from the top of a stack after some arguments.
 pub record Taken (before after : List Word) (stack left : List Word) (n : ℕ) : Type 0 where
   pub taken : List Word
   pub long : length taken ≡ n

@@ -16,7 +16,7 @@ use crate::words::Word;
 use pl_term::Memory;
 
 /// Builds the term that the nodes spell. Its variables are those of the slots from `base` on, which are unbound. `stack`
-/// is room for the words made so far. The only error is want of memory, after which compound terms may have been made.
+/// is room for the words made so far. The only error is out of memory, after which compound terms may have been made.
 pub fn build(
     cells: &mut Cells,
     stack: &mut Vec<Word>,
@@ -119,7 +119,7 @@ fn join_words(
     }
 }
 
-/// Moves words from the top of the stack behind the others. After want of memory some of them are there.
+/// Moves words from the top of the stack after the others. After running out of memory some of them are there.
 fn move_words(args: &mut Vec<Word>, stack: &mut Vec<Word>, count: usize) -> Result<(), Memory>
     requires { count ≤ length stack.old.items }
     ensures ok { OnOk result (Taken args.old.items args.new.items stack.old.items stack.new.items count) }

@@ -6,22 +6,27 @@ mod argument_key;
 mod bind;
 mod build;
 mod cells;
+mod count;
 mod faults;
 mod kept;
 mod load;
 mod look;
 mod make;
+mod meetings;
 mod nodes;
 mod numbering;
 mod occurs;
 mod older;
+mod pace;
 mod save;
+mod seen;
 mod store;
 mod stored;
 mod terms;
 mod undo;
 mod unify;
 mod views;
+mod walk;
 mod words;
 
 pub use argument_key::ArgumentKey;
@@ -34,5 +39,7 @@ pub use words::{Place, StoreMark};
 
 #[cfg(test)]
 mod heads;
+#[cfg(test)]
+mod sharing;
 #[cfg(test)]
 mod tests;

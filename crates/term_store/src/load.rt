@@ -16,7 +16,7 @@ use crate::words::Word;
 use pl_term::Memory;
 
 /// Loads the term that the nodes spell, with so many new variables, which are numbered from `from` on. `stack` is room
-/// for the words made so far. After want of memory, which is the only error, some of it may have been made.
+/// for the words made so far. After running out of memory, which is the only error, some of it may have been made.
 pub fn load(
     cells: &mut Cells,
     stack: &mut Vec<Word>,
@@ -40,7 +40,7 @@ pub fn load(
     build(cells, stack, nodes, base)
 }
 
-/// Makes so many variables, numbered from `from` on. After want of memory, which is the only error, some may be made.
+/// Makes so many variables, numbered from `from` on. After running out of memory, which is the only error, some may be made.
 fn make_variables(cells: &mut Cells, from: u64, count: u64) -> Result<(), Memory>
     requires fit { IsFit cells.old }
     requires above { All (λ n. n < from) cells.old.numbers.items }

@@ -92,4 +92,11 @@ impl Arguments {
     {
         self.count
     }
+
+    /// Whether these are the very same arguments as others of the store. Other arguments may be the same terms too.
+    pub fn is_same(self, other: Arguments) -> bool
+        ensures { IsTrue result ↔ (self ≡ other) }
+    {
+        self.start == other.start && self.count == other.count
+    }
 }

@@ -9,7 +9,7 @@ use crate::cells::Cells;
 use crate::words::{Head, Place, Word};
 use pl_term::Memory;
 
-/// A new variable with this number, which is above the numbers of all variables. The only error is want of memory.
+/// A new variable with this number, which is above the numbers of all variables. The only error is out of memory.
 pub fn make_variable(cells: &mut Cells, number: u64) -> Result<Word, Memory>
     requires fit { IsFit cells.old }
     requires above { All (λ n. n < number) cells.old.numbers.items }
@@ -49,7 +49,7 @@ pub fn make_compound(cells: &mut Cells, name: u32, places: &[Place]) -> Result<W
     }
 }
 
-/// Puts the words of the places behind the others. After want of memory some of them are there.
+/// Puts the words of the places after the others. After running out of memory some of them are there.
 fn push_places(args: &mut Vec<Word>, places: &[Place]) -> Result<(), Memory>
     ensures ok { OnOk result (args.new.items ≡ args.old.items ++ map (λ p. p.word) places.now) }
     ensures kept { take (length args.old.items) args.new.items ≡ args.old.items }
@@ -60,7 +60,7 @@ fn push_places(args: &mut Vec<Word>, places: &[Place]) -> Result<(), Memory>
     Ok(())
 }
 
-/// The compound term whose arguments are the words from a place on. After want of memory these are taken off.
+/// The compound term whose arguments are the words from a place on. After running out of memory these are taken off.
 pub fn finish_compound(
     cells: &mut Cells,
     name: u32,

@@ -47,7 +47,7 @@ impl Numbering {
     }
 
     /// The place of the variable `x` among those met, which it joins where it was not yet met. The only error is
-    /// want of memory.
+    /// out of memory.
     pub fn number(&mut self, x: u64) -> Result<u64, Memory>
         ensures met { OnOk result (self.new ≡ with x self.old) }
         ensures number { IfOk result (λ n. n ≡ place x self.new) }

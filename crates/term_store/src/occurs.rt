@@ -1,5 +1,5 @@
 //! The occurs check.
-ghost use Rattle.std.specs.Prelude.{◌≡◌, ◌<◌, ◌≤◌, ◌||◌, ◌++◌, length, slice_index_or, Option, None, false, IfOk, OnOk};
+ghost use Rattle.std.specs.Prelude.{◌≡◌, ℕ, ◌<◌, ◌≤◌, ◌||◌, ◌++◌, ◌∷◌, [], length, slice_index_or, Option, None, false, IfOk, OnOk};
 ghost use Rattle.std.specs.List.{All};
 ghost use Rattle.pl_term.specs.Variables.{has};
 ghost use Rattle.term_store.specs.Apart.{IsApart, NoneFrom, SameFrom};
@@ -7,17 +7,20 @@ ghost use Rattle.term_store.specs.Cells.{IsFit, IsFree, heap_of};
 ghost use Rattle.term_store.specs.Fit.{IsIn, no_head};
 ghost use Rattle.term_store.specs.Heap.{meaning, find, numbered, pushed, words_of};
 ghost use Rattle.term_store.specs.Unifying.{any_has};
+ghost use Rattle.term_store.specs.Visits.{IsClear, SeenClear};
 
 use crate::cells::{Cells, deref, head_at};
 use crate::older::{Older, is_apart};
+use crate::pace::Pace;
+use crate::walk::Walk;
 use crate::words::Word;
 use pl_term::Memory;
 
 /// Whether the unbound variable of a slot occurs in what a word stands for. No term is walked where the bounds tell that it
-/// does not. The bounds then hold too when the variable is bound to the word. The only error is want of memory.
+/// does not. The bounds then hold too when the variable is bound to the word. The only error is out of memory.
 pub fn occurs(
     cells: &Cells,
-    walk: &mut Vec<Word>,
+    walk: &mut Walk,
     older: &mut Older,
     slot: usize,
     word: Word,
@@ -38,11 +41,11 @@ pub fn occurs(
 }
 
 /// Whether the unbound variable of a slot is found in what a word stands for. The bound is raised above the slots of the
-/// unbound variables that were met. `walk` is room for the words that are still to be looked at. The only error is want of
+/// unbound variables that were met. A walk that is not short comes to each compound term once. The only error is want of
 /// memory.
 fn is_found(
     cells: &Cells,
-    walk: &mut Vec<Word>,
+    walk: &mut Walk,
     top: &mut usize,
     slot: usize,
     word: Word,
@@ -55,10 +58,12 @@ fn is_found(
     ensures raised { OnOk result (top.old ≤ top.new) }
     ensures others { IfOk result (λ b. b ≡ false → NoneFrom top.new (heap_of cells.now) (meaning (heap_of cells.now) word)) }
 {
-    walk.clear();
-    walk.push(word)?;
+    walk.words.clear();
+    walk.seen.clear();
+    walk.pace = Pace::new();
+    walk.words.push(word)?;
     for _ in 0..u64::MAX {
-        let Some(next) = walk.pop() else {
+        let Some(next) = walk.words.pop() else {
             return Ok(false);
         };
         let at = deref(cells, next);
@@ -69,11 +74,11 @@ fn is_found(
     Err(Memory)
 }
 
-/// Whether the word is the variable of the slot. If not, the words of which it is made are still to be looked at. The bound
-/// is raised above the slot of a variable.
+/// Whether the word is the variable of the slot. If not, the words of which it is made are still to be looked at, unless it
+/// is a compound term that was come by before. The bound is raised above the slot of a variable.
 fn is_here(
     cells: &Cells,
-    walk: &mut Vec<Word>,
+    walk: &mut Walk,
     top: &mut usize,
     slot: usize,
     at: Word,
@@ -82,14 +87,16 @@ fn is_here(
     requires slot { slot < length cells.now.numbers.items }
     requires inside { IsIn (heap_of cells.now) at }
     requires free { IsFree (heap_of cells.now) at }
-    requires others { All (IsIn (heap_of cells.now)) walk.old.items }
-    ensures others { OnOk result (All (IsIn (heap_of cells.now)) walk.new.items) }
+    requires others { All (IsIn (heap_of cells.now)) walk.old.words.items }
+    requires seen { SeenClear top.old slot (heap_of cells.now) (walk.old.words.items ++ at ∷ []) walk.old.seen.list.items }
+    ensures others { OnOk result (All (IsIn (heap_of cells.now)) walk.new.words.items) }
     ensures found { IfOk result (λ b.
-        (b || any_has (numbered (heap_of cells.now) slot) (heap_of cells.now) walk.new.items)
-        ≡ (any_has (numbered (heap_of cells.now) slot) (heap_of cells.now) walk.old.items
+        (b || any_has (numbered (heap_of cells.now) slot) (heap_of cells.now) walk.new.words.items)
+        ≡ (any_has (numbered (heap_of cells.now) slot) (heap_of cells.now) walk.old.words.items
         || has (numbered (heap_of cells.now) slot) (meaning (heap_of cells.now) at))) }
     ensures raised { top.old ≤ top.new }
-    ensures above { OnOk result (SameFrom top.new (heap_of cells.now) walk.new.items walk.old.items at) }
+    ensures above { OnOk result (SameFrom top.new (heap_of cells.now) walk.new.words.items walk.old.words.items at) }
+    ensures seen { IfOk result (λ b. b ≡ false → SeenClear top.new slot (heap_of cells.now) walk.new.words.items walk.new.seen.list.items) }
 {
     match at {
         Word::Var(i) => {
@@ -99,10 +106,34 @@ fn is_here(
         Word::Int(_) => Ok(false),
         Word::Atom(_) => Ok(false),
         Word::Comp(k) => {
-            push_words(cells, walk, k)?;
+            come_by(cells, walk, k)?;
             Ok(false)
         }
     }
+}
+
+/// Puts the arguments of a compound term on the stack, unless the walk is known to have come by it before, which is kept
+/// where the walk is long.
+fn come_by(cells: &Cells, walk: &mut Walk, k: usize) -> Result<(), Memory>
+    requires fit { IsFit cells.now }
+    requires inside { k < length cells.now.heads.items }
+    requires others { All (IsIn (heap_of cells.now)) walk.old.words.items }
+    ensures others { OnOk result (All (IsIn (heap_of cells.now)) walk.new.words.items) }
+    ensures found { OnOk result ((x : ℕ) → All (IsClear x (heap_of cells.now) (walk.old.words.items ++ Word.Comp k ∷ [])) walk.old.seen.list.items
+        → any_has x (heap_of cells.now) walk.new.words.items
+        ≡ (any_has x (heap_of cells.now) walk.old.words.items || has x (meaning (heap_of cells.now) (Word.Comp k)))) }
+    ensures seen { OnOk result ((x : ℕ) → All (IsClear x (heap_of cells.now) (walk.old.words.items ++ Word.Comp k ∷ [])) walk.old.seen.list.items
+        → All (IsClear x (heap_of cells.now) walk.new.words.items) walk.new.seen.list.items) }
+{
+    let long = walk.pace.is_long(k);
+    if long && walk.seen.holds(k) {
+        return Ok(());
+    }
+    push_words(cells, &mut walk.words, k)?;
+    if long {
+        walk.seen.add(k)?;
+    }
+    Ok(())
 }
 
 /// The bound, or one above the slot.
@@ -116,7 +147,7 @@ fn raised(cells: &Cells, top: usize, slot: usize) -> usize
 }
 
 /// Puts the arguments of a compound term on the stack.
-fn push_words(cells: &Cells, walk: &mut Vec<Word>, k: usize) -> Result<(), Memory>
+pub fn push_words(cells: &Cells, walk: &mut Vec<Word>, k: usize) -> Result<(), Memory>
     requires fit { IsFit cells.now }
     requires inside { k < length cells.now.heads.items }
     ensures { OnOk result (walk.new.items ≡ walk.old.items

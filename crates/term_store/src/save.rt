@@ -19,7 +19,7 @@ use std::alloc::Global;
 
 impl Store {
     /// The nodes, in prefix order, of the term that stands at a place. Its variables have the numbers that they have in
-    /// the store. The only error is want of memory.
+    /// the store. The only error is out of memory.
     pub fn nodes(&self, place: Place) -> Result<Vec<AtomNode>, Memory>
         requires { Holds self.now place }
         ensures { IfOk result (λ v. node_views v.items ≡ nodes (term_at self.now place)) }
@@ -28,7 +28,7 @@ impl Store {
     }
 
     /// The term that stands at a place, to be kept outside of the store, its variables numbered from 0 on in the order in
-    /// which they first occur. The only error is want of memory.
+    /// which they first occur. The only error is out of memory.
     pub fn save(&self, place: Place) -> Result<Stored, Memory>
         requires { Holds self.now place }
         ensures { IfOk result (λ s. s ≡ rename zero (term_at self.now place)) }
@@ -38,7 +38,7 @@ impl Store {
     }
 }
 
-/// The nodes, in prefix order, of the term that a word stands for. The only error is want of memory.
+/// The nodes, in prefix order, of the term that a word stands for. The only error is out of memory.
 fn nodes_of(alloc: Global, cells: &Cells, word: Word) -> Result<Vec<AtomNode>, Memory>
     requires fit { IsFit cells.now }
     requires inside { IsIn (heap_of cells.now) word }
@@ -56,7 +56,7 @@ fn nodes_of(alloc: Global, cells: &Cells, word: Word) -> Result<Vec<AtomNode>, M
     Err(Memory)
 }
 
-/// Puts the first node of what a word stands for behind the others. The words of its arguments are put on the stack.
+/// Puts the first node of what a word stands for after the others. The words of its arguments are put on the stack.
 fn push_node(
     cells: &Cells,
     all: &mut Vec<AtomNode>,
@@ -83,7 +83,7 @@ fn push_node(
     }
 }
 
-/// Puts a node behind the others.
+/// Puts a node after the others.
 fn push_leaf(all: &mut Vec<AtomNode>, node: AtomNode) -> Result<(), Memory>
     ensures { OnOk result (all.new.items ≡ all.old.items ++ node ∷ []) }
 {

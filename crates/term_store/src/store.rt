@@ -9,7 +9,8 @@ use crate::faults::StoreFault;
 use crate::older::Older;
 use crate::undo::undo_to;
 use crate::unify::unify;
-use crate::words::{Pair, Place, StoreMark, Word};
+use crate::walk::{Pending, Walk};
+use crate::words::{Place, StoreMark, Word};
 use pl_term::Memory;
 use std::alloc::Global;
 use std::marker::Model;
@@ -22,8 +23,8 @@ use std::marker::Model;
 #[derive(Drop)]
 pub struct Store {
     pub(crate) cells: Cells,
-    pub(crate) pairs: Vec<Pair>,
-    pub(crate) words: Vec<Word>,
+    pub(crate) pending: Pending,
+    pub(crate) walk: Walk,
     pub(crate) used: u64,
     pub(crate) budget: u64,
     pub(crate) alloc: Global,
@@ -45,14 +46,14 @@ impl Model for Store {
 }
 
 impl Store {
-    /// A store without terms, of which so many cells may be used. The only error is want of memory.
+    /// A store without terms, of which so many cells may be used. The only error is out of memory.
     pub fn new(alloc: Global, budget: u64) -> Result<Store, Memory>
         ensures { IfOk result (λ s. s ≡ blank budget) }
     {
         Ok(Store {
             cells: Cells::new(alloc),
-            pairs: Vec::new(alloc),
-            words: Vec::new(alloc),
+            pending: Pending::new(alloc),
+            walk: Walk::new(alloc),
             used: 0,
             budget,
             alloc,
@@ -120,7 +121,7 @@ impl Store {
 
     /// Binds variables so that the terms at both places become the same, and says whether any bindings do so
     /// (ISO/IEC 13211-1:1995, 7.3.2, with the occurs check; of two variables the one with the greater number is bound).
-    /// After false and after want of memory, which is the only error, nothing has changed.
+    /// After false and after running out of memory, which is the only error, nothing has changed.
     pub fn unify(&mut self, a: Place, b: Place) -> Result<bool, Memory>
         requires left { Holds self.old a }
         requires right { Holds self.old b }
@@ -173,8 +174,8 @@ impl Store {
         let mark = self.mark();
         match unify(
             &mut self.cells,
-            &mut self.pairs,
-            &mut self.words,
+            &mut self.pending,
+            &mut self.walk,
             older,
             a.word,
             b.word,
@@ -192,7 +193,7 @@ impl Store {
     }
 
     /// Binds the variable at one place to what stands at another. It is unbound, does not occur there, and has the
-    /// greater number of two variables. The only error is want of memory, after which nothing has changed.
+    /// greater number of two variables. The only error is out of memory, after which nothing has changed.
     pub fn bind(&mut self, var: Place, to: Place) -> Result<(), Memory>
         requires variable { Holds self.old var }
         requires value { Holds self.old to }

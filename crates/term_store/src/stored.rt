@@ -42,7 +42,7 @@ impl Model for Stored {
 
 impl Stored {
     /// The term that these nodes spell in prefix order, its variables numbered from 0 on in the order in which they
-    /// first occur. The only error is want of memory.
+    /// first occur. The only error is out of memory.
     pub fn from_nodes(alloc: Global, nodes: &[AtomNode]) -> Result<Stored, Memory>
         requires { IsSpelled nodes.now }
         ensures { IfOk result (λ s. s ≡ rename zero (tree (node_views nodes.now))) }

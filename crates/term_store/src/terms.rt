@@ -75,7 +75,7 @@ impl Store {
         let mark = self.mark();
         match load(
             &mut self.cells,
-            &mut self.words,
+            &mut self.walk.words,
             term.nodes(),
             term.variables(),
             from,
@@ -89,7 +89,7 @@ impl Store {
     }
 
     /// Makes a variable with this number, which is above those of all variables. Its cell is not counted. The only error
-    /// is want of memory, after which nothing has changed.
+    /// is out of memory, after which nothing has changed.
     pub fn make_variable(&mut self, number: u64) -> Result<Place, Memory>
         requires { IsAbove number self.old }
         ensures made { IfOk result (Makes self.old (var number) self.new) }
@@ -104,7 +104,7 @@ impl Store {
     }
 
     /// Makes the compound term with this name and these arguments, of which there is at least one. Its cells are not
-    /// counted. The only error is want of memory, after which nothing has changed.
+    /// counted. The only error is out of memory, after which nothing has changed.
     pub fn make_compound(&mut self, name: Atom, arguments: &[Place]) -> Result<Place, Memory>
         requires full { 0 < length arguments.now }
         requires places { All (Holds self.old) arguments.now }

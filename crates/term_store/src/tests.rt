@@ -47,7 +47,7 @@ fn all_held(store: &Store, places: &[Place]) -> bool
     places.iter().all(|place| store.holds(*place))
 }
 
-/// The compound term with a name of one letter. What no call may be given is answered by want of memory, here and below.
+/// The compound term with a name of one letter. What no call may be given is answered by an error of memory, here and below.
 pub fn compound(store: &mut Store, name: u8, arguments: &[Place]) -> Result<Place, Memory> {
     if arguments.is_empty() || !all_held(store, arguments) {
         return Err(Memory);
@@ -55,7 +55,7 @@ pub fn compound(store: &mut Store, name: u8, arguments: &[Place]) -> Result<Plac
     store.make_compound(Atom::at(name as u32), arguments)
 }
 
-fn variable(store: &mut Store, number: u64) -> Result<Place, Memory> {
+pub fn variable(store: &mut Store, number: u64) -> Result<Place, Memory> {
     if !store.is_above(number) {
         return Err(Memory);
     }
@@ -69,7 +69,7 @@ fn loaded(store: &mut Store, term: &Stored, from: u64) -> Result<Place, StoreFau
     store.load(term, from)
 }
 
-fn unified(store: &mut Store, a: Place, b: Place) -> Result<bool, Memory> {
+pub fn unified(store: &mut Store, a: Place, b: Place) -> Result<bool, Memory> {
     if !store.holds(a) || !store.holds(b) {
         return Err(Memory);
     }
@@ -102,7 +102,7 @@ fn taken(alloc: Global, stack: &mut Vec<Place>, count: u8) -> Result<Vec<Place>,
     Ok(places)
 }
 
-/// What a letter and the digit behind it stand for.
+/// What a letter and the digit after it stand for.
 fn read_letter(
     alloc: Global,
     store: &mut Store,
@@ -326,7 +326,7 @@ fn tried(
     Ok(seen)
 }
 
-/// What is seen of two unifications before they are undone, and the term, bindings and cells behind them.
+/// What is seen of two unifications before they are undone, and the term, bindings and cells after them.
 fn undone(
     alloc: Global,
 ) -> Result<((bool, usize, u64), (bool, usize, u64), Vec<u8>, usize, u64), StoreFault> {

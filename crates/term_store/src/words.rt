@@ -31,6 +31,13 @@ pub struct Pair {
     pub right: Word,
 }
 
+/// Two compound terms that are to become equal, by the numbers of their heads.
+#[derive(Clone, Copy, Debug, Drop)]
+pub struct Meeting {
+    pub left: usize,
+    pub right: usize,
+}
+
 /// What is left to do for two words, of which neither is a bound variable, to become equal: nothing, or nothing that
 /// helps, or a variable is to be bound, or the arguments of two compound terms are to become equal.
 #[derive(Clone, Copy, Debug, Drop)]

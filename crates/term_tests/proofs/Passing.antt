@@ -134,6 +134,18 @@ kind_tested pred.ThreadPeekMessage t other = refl
 kind_tested pred.ThreadPeekMessageFrom t other = refl
 kind_tested pred.MessageQueueCreate t other = refl
 kind_tested pred.MessageQueueDestroy t other = refl
+kind_tested pred.ThreadLocal t other = refl
+kind_tested pred.MutexCreate t other = refl
+kind_tested pred.WithMutex t other = refl
+kind_tested pred.Transaction t other = refl
+kind_tested pred.Snapshot t other = refl
+kind_tested pred.EngineCreate t other = refl
+kind_tested pred.EngineNext t other = refl
+kind_tested pred.EngineDestroy t other = refl
+kind_tested pred.Phrase t other = refl
+kind_tested pred.PhraseWithRest t other = refl
+kind_tested pred.Bagof t other = refl
+kind_tested pred.Setof t other = refl
 
 -- ground/1
 pub ground_passed : (p : Pred) (m : Names) (s : Contents) (place : Place) (b : Bool) → p ≡ pred.Ground → b ≡ is_ground (term_at s place)

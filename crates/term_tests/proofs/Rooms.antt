@@ -68,11 +68,11 @@ full_refuses s r is = ap row_refusals is.row
 
 -- The places of an answer.
 pub answer_stands : (s t : Contents) (ts : Trees) (m : Names) (ps : Vec Place Global) → t ≡ s → s.used ≤ s.budget → All (IsIn s) ps.items → All (IsHeldAt m s) ps.items
-    → Stands s ts (one_answer (terms_at m s ps.items)) m t (Answer ps)
+    → Stands s ts (one_answer (terms_at m s ps.items)) m t (Answer ps zero)
 answer_stands s t ts m ps same fits inside held p next few =
-    subst (λ u. IsRow s next ts (given p ts next s.used s.budget (one_answer (terms_at m s ps.items))) m u (Answer ps)) (sym same)
-    (subst (λ g. IsRow s next ts g m s (Answer ps)) (sym (given_one s ts (terms_at m s ps.items) p next few fits))
-    (refl, (makes_from next s s (makes_nothing s), record { inside = inside; held = held })))
+    subst (λ u. IsRow s next ts (given p ts next s.used s.budget (one_answer (terms_at m s ps.items))) m u (Answer ps zero)) (sym same)
+    (subst (λ g. IsRow s next ts g m s (Answer ps zero)) (sym (given_one s ts (terms_at m s ps.items) p next few fits))
+    (refl, (refl, (makes_from next s s (makes_nothing s), record { inside = inside; held = held }))))
 
 -- By what was found of the cells.
 

@@ -1,5 +1,5 @@
 //! Comparison by the standard order (ISO 8.4, Cor.2 8.4.2).
-ghost use Rattle.std.specs.Prelude.{◌≡◌, ◌<◌, ◌^◌, ℕ, [], IfOk, codes};
+ghost use Rattle.std.specs.Prelude.{◌≡◌, ◌<◌, ◌^◌, ℕ, [], IfOk, IfSome, codes};
 ghost use Rattle.pl_term.specs.Order.{order as order_of};
 ghost use Rattle.pl_term.specs.Tree.{more, none};
 ghost use Rattle.pl_model.specs.BuiltinRows as rows;
@@ -7,7 +7,7 @@ ghost use Rattle.pl_model.specs.History.{proc};
 ghost use Rattle.pl_model.specs.TermBuiltins.{compares, three};
 ghost use Rattle.builtin_names.specs.Predicates.{name_of};
 ghost use Rattle.builtin_rows.specs.Given.{given};
-ghost use Rattle.builtin_rows.specs.Rows.{IsRow, row_refusals};
+ghost use Rattle.builtin_rows.specs.Rows.{IsRow, IsSingle, row_refusals};
 ghost use Rattle.term_store.specs.Contents.{Holds};
 ghost use Rattle.world_builtins.specs.Naming.{IsHeldAt};
 ghost use Rattle.world_builtins.specs.Spelling.{reads};
@@ -24,7 +24,7 @@ use std::alloc::Global;
 use term_order::compare_places;
 use term_store::{Place, Store};
 
-/// ==/2, \==/2, @</2, @=</2, @>/2 and @>=/2 (ISO 8.4.1). None for any other predicate. The only error is want of memory.
+/// ==/2, \==/2, @</2, @=</2, @>/2 and @>=/2 (ISO 8.4.1). None for any other predicate. The only error is out of memory.
 pub fn comparison<A: Atoms>(
     alloc: Global,
     store: &mut Store,
@@ -41,6 +41,7 @@ pub fn comparison<A: Atoms>(
         let ts = more t (more u none) in
         Answers store.old ts (rows.test_row (rows.comparison (name_of pred) (order_of t u)) ts) m store.new o) }
     ensures refuses { IfOk result (λ o. answer_refusals o ≡ []) }
+    ensures single { IfOk result (λ o. IfSome o IsSingle) }
     ensures same { A.held atoms.new ≡ A.held atoms.old }
     ensures refusals { A.refusals atoms.new ≡ A.refusals atoms.old }
     ensures asked { A.asked atoms.new ≡ A.asked atoms.old }
@@ -56,7 +57,7 @@ pub fn comparison<A: Atoms>(
 }
 
 /// compare/3 (ISO Cor.2 8.4.2). Its first argument is a variable or one of `<`, `=` and `>`: for what is no atom it raises
-/// type_error(atom, T), and for any other atom domain_error(order, T). The only error is want of memory.
+/// type_error(atom, T), and for any other atom domain_error(order, T). The only error is out of memory.
 pub fn compare<A: Atoms>(
     alloc: Global,
     store: &mut Store,
@@ -75,6 +76,7 @@ pub fn compare<A: Atoms>(
         let t = reads m store.old left in let u = reads m store.old right in
         IsRow store.old next (three o t u) (given (proc (codes "compare") 3) (three o t u) next store.old.used store.old.budget (compares o t u)) m store.new r) }
     ensures refuses { IfOk result (λ r. row_refusals r ≡ []) }
+    ensures single { IfOk result IsSingle }
     ensures same { A.held atoms.new ≡ A.held atoms.old }
     ensures refusals { A.refusals atoms.new ≡ A.refusals atoms.old }
     ensures asked { A.asked atoms.new ≡ A.asked atoms.old }

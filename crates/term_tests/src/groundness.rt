@@ -10,7 +10,7 @@ use pl_term::Memory;
 use std::alloc::Global;
 use term_store::{Arguments, Place, Store};
 
-/// Whether no variable occurs in the term at a place. The only error is want of memory.
+/// Whether no variable occurs in the term at a place. The only error is out of memory.
 pub fn is_ground(alloc: Global, store: &Store, term: Place) -> Result<bool, Memory>
     requires { Holds store.now term }
     ensures { IfOk result (λ b. b ≡ terms.is_ground (term_at store.now term)) }

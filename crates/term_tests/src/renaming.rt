@@ -13,7 +13,7 @@ use std::collections::BTreeMap;
 use term_store::{Store, View};
 
 /// Whether a variable stands at each of the places, and different ones where different variables were met. The only error is
-/// want of memory.
+/// Out of memory.
 pub fn is_renaming(alloc: Global, store: &Store, met: &[Met]) -> Result<bool, Memory>
     requires { All (λ e. Holds store.now e.place) met.now }
     ensures { IfOk result (λ b. IsRenaming b store.now met.now) }
@@ -28,7 +28,7 @@ pub fn is_renaming(alloc: Global, store: &Store, met: &[Met]) -> Result<bool, Me
     Ok(true)
 }
 
-/// Whether a variable stands at the place, of which no other variable is the owner. The only error is want of memory.
+/// Whether a variable stands at the place, of which no other variable is the owner. The only error is out of memory.
 fn is_own(store: &Store, owners: &mut BTreeMap<u64, u64>, met: Met) -> Result<bool, Memory>
     requires { Holds store.now met.place }
     ensures { IfOk result (λ b. Owns b (term_at store.now met.place) met.number (tree.get nat_cmp owners.old) (tree.get nat_cmp owners.new)) }

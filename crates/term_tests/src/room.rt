@@ -4,7 +4,7 @@ ghost use Rattle.std.specs.List.{All};
 ghost use Rattle.pl_term.specs.Tree.{Trees};
 ghost use Rattle.pl_model.specs.BuiltinRows.{one_answer, test};
 ghost use Rattle.atom_api.specs.Names.{Names};
-ghost use Rattle.builtin_rows.specs.Rows.{row_refusals, terms_at};
+ghost use Rattle.builtin_rows.specs.Rows.{IsSingle, row_refusals, terms_at};
 ghost use Rattle.term_store.specs.Contents.{Holds};
 ghost use Rattle.world_builtins.specs.Naming.{IsHeldAt};
 ghost use Rattle.term_tests.specs.Tests.{IsFull, Stands};
@@ -13,7 +13,7 @@ use builtin_rows::Row;
 use pl_term::Memory;
 use term_store::{Place, Store, StoreFault};
 
-/// None where no more cells are used than may be. Else the row of that. The only error is want of memory.
+/// None where no more cells are used than may be. Else the row of that. The only error is out of memory.
 fn overdrawn(store: &mut Store) -> Result<Option<Row>, Memory>
     ensures same { OnOk result (store.new ≡ store.old) }
     ensures fits { IfOk result (λ o. IfNone o (store.old.used ≤ store.old.budget)) }
@@ -26,11 +26,12 @@ fn overdrawn(store: &mut Store) -> Result<Option<Row>, Memory>
     }
 }
 
-/// The row of a predicate that binds nothing, where it is true or false of its arguments. The only error is want of memory.
+/// The row of a predicate that binds nothing, where it is true or false of its arguments. The only error is out of memory.
 pub fn tested(store: &mut Store, holds: bool) -> Result<Row, Memory>
     ensures same { OnOk result (store.new ≡ store.old) }
     ensures row { IfOk result (λ r. (m : Names) (ts : Trees) → Stands store.old ts (test holds ts) m store.new r) }
     ensures refuses { IfOk result (λ r. row_refusals r ≡ []) }
+    ensures single { IfOk result IsSingle }
 {
     if holds {
         succeeded(store)
@@ -39,11 +40,12 @@ pub fn tested(store: &mut Store, holds: bool) -> Result<Row, Memory>
     }
 }
 
-/// The row of a predicate that binds nothing, where it is true. The only error is want of memory.
+/// The row of a predicate that binds nothing, where it is true. The only error is out of memory.
 fn succeeded(store: &mut Store) -> Result<Row, Memory>
     ensures same { OnOk result (store.new ≡ store.old) }
     ensures row { IfOk result (λ r. (m : Names) (ts : Trees) → Stands store.old ts (one_answer ts) m store.new r) }
     ensures refuses { IfOk result (λ r. row_refusals r ≡ []) }
+    ensures single { IfOk result IsSingle }
 {
     let full = overdrawn(store)?;
     match full {
@@ -52,16 +54,17 @@ fn succeeded(store: &mut Store) -> Result<Row, Memory>
     }
 }
 
-/// The row of a predicate with one answer, which is what stands at some places. The only error is want of memory.
+/// The row of a predicate with one answer, which is what stands at some places. The only error is out of memory.
 pub fn answered(store: &mut Store, places: Vec<Place>) -> Result<Row, Memory>
     requires { All (Holds store.old) places.items }
     ensures row { IfOk result (λ r. (m : Names) (ts : Trees) → All (IsHeldAt m store.old) places.items
         → Stands store.old ts (one_answer (terms_at m store.old places.items)) m store.new r) }
     ensures refuses { IfOk result (λ r. row_refusals r ≡ []) }
+    ensures single { IfOk result IsSingle }
 {
     let full = overdrawn(store)?;
     match full {
-        None => Ok(Row::Answer(places)),
+        None => Ok(Row::Answer { places, fresh: 0 }),
         Some(row) => Ok(row),
     }
 }

@@ -3,7 +3,7 @@ ghost use Rattle.std.specs.Prelude.{◌≡◌, [], IfOk};
 ghost use Rattle.pl_model.specs.TermBuiltins.{renames_only, subsumes};
 ghost use Rattle.pl_model.specs.Unify.{unify};
 ghost use Rattle.atom_api.specs.Names.{Names};
-ghost use Rattle.builtin_rows.specs.Rows.{row_refusals};
+ghost use Rattle.builtin_rows.specs.Rows.{IsSingle, row_refusals};
 ghost use Rattle.pl_term.specs.Tree.{more, none};
 ghost use Rattle.term_store.specs.Contents.{Holds};
 ghost use Rattle.world_builtins.specs.Spelling.{reads};
@@ -19,7 +19,7 @@ use std::alloc::Global;
 use term_store::{Place, Store};
 
 /// subsumes_term/2 (ISO Cor.2 8.2.4): whether the first term becomes the second one by bindings of its own. Nothing is bound. The
-/// only error is want of memory.
+/// only error is out of memory.
 pub fn subsumes_term(
     alloc: Global,
     store: &mut Store,
@@ -31,6 +31,7 @@ pub fn subsumes_term(
     ensures row { IfOk result (λ r. (m : Names) → AreNames m → let t = reads m store.old general in let u = reads m store.old specific in
         Stands store.old (more t (more u none)) (subsumes t u) m store.new r) }
     ensures refuses { IfOk result (λ r. row_refusals r ≡ []) }
+    ensures single { IfOk result IsSingle }
 {
     let subsumed = is_subsumed(alloc, store, general, specific)?;
     tested(store, subsumed)

@@ -1,9 +1,10 @@
 //! Type testing (ISO 8.3, Cor.2 8.3.9, 8.3.10).
-ghost use Rattle.std.specs.Prelude.{◌≡◌, [], IfOk};
+ghost use Rattle.std.specs.Prelude.{◌≡◌, [], IfOk, IfSome};
 ghost use Rattle.pl_term.specs.Tree.{more, none};
 ghost use Rattle.pl_model.specs.BuiltinRows as rows;
 ghost use Rattle.atom_api.specs.Names.{Names};
 ghost use Rattle.builtin_names.specs.Predicates.{name_of};
+ghost use Rattle.builtin_rows.specs.Rows.{IsSingle};
 ghost use Rattle.term_store.specs.Contents.{Holds};
 ghost use Rattle.world_builtins.specs.Spelling.{reads};
 ghost use Rattle.term_tests.specs.Tests.{Answers, answer_refusals};
@@ -18,7 +19,7 @@ use std::alloc::Global;
 use term_store::{Place, Store};
 
 /// The type tests var/1, nonvar/1, atom/1, integer/1, float/1, number/1, atomic/1, compound/1, callable/1 and ground/1. None for
-/// any other predicate. The only error is want of memory.
+/// any other predicate. The only error is out of memory.
 pub fn type_test(
     alloc: Global,
     store: &mut Store,
@@ -29,6 +30,7 @@ pub fn type_test(
     ensures row { IfOk result (λ o. (m : Names) → let t = reads m store.old term in let ts = more t none in
         Answers store.old ts (rows.test_row (rows.type_test (name_of pred) t) ts) m store.new o) }
     ensures refuses { IfOk result (λ o. answer_refusals o ≡ []) }
+    ensures single { IfOk result (λ o. IfSome o IsSingle) }
 {
     let passed = is_passed(alloc, store, pred, term)?;
     match passed {

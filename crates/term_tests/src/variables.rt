@@ -17,7 +17,7 @@ pub struct Met {
     pub place: Place,
 }
 
-/// The variables that occur in the term at a place, each as often as it is met. The only error is want of memory.
+/// The variables that occur in the term at a place, each as often as it is met. The only error is out of memory.
 pub fn variables_at(alloc: Global, store: &Store, term: Place) -> Result<Vec<Met>, Memory>
     requires { Holds store.now term }
     ensures places { IfOk result (λ v. All (IsMet store.now) v.items) }
@@ -35,7 +35,7 @@ pub fn variables_at(alloc: Global, store: &Store, term: Place) -> Result<Vec<Met
     Err(Memory)
 }
 
-/// Enters the term at a place: a variable is one more that was met. The only error is want of memory.
+/// Enters the term at a place: a variable is one more that was met. The only error is out of memory.
 fn gather(
     store: &Store,
     walk: &mut Vec<Arguments>,
@@ -59,7 +59,7 @@ fn gather(
     }
 }
 
-/// Enters the arguments of a compound term. The only error is want of memory.
+/// Enters the arguments of a compound term. The only error is out of memory.
 fn gather_all(
     store: &Store,
     walk: &mut Vec<Arguments>,

@@ -8,7 +8,7 @@ use pl_term::Memory;
 use term_store::{Arguments, Place, Store, View};
 
 /// The number of the variable at a place. Where a compound term stands there its arguments are still to be walked through. The
-/// only error is want of memory.
+/// only error is out of memory.
 pub fn enter(store: &Store, walk: &mut Vec<Arguments>, place: Place) -> Result<Option<u64>, Memory>
     requires inside { Holds store.now place }
     requires walk { All (IsArguments store.now) walk.old.items }

@@ -51,20 +51,23 @@ module _ (m : Names) (s t : Contents) (next : ℕ) (p : Proc) (ts us : Trees) (f
 -- A value and the expression
 module _ (m : Names) (s : Contents) (next : ℕ) (ts : Trees) (x : ℤ) (p e : Place) (ps : Vec Place Global) (items : ps.items ≡ p ∷ (e ∷ []))
     (stands : IsIn s p × (term_at s p ≡ int x)) (holds : IsIn s e) (held : IsHeldAt m s e) where
-  pub answer_row : IsRow s next ts (answered (two (int x) (reads m s e) ∷ []) zero zero) m s (Answer ps)
+  pub answer_row : IsRow s next ts (answered (two (int x) (reads m s e) ∷ []) zero zero) m s (Answer ps zero)
   answer_row =
       let P : ℕ → Type 0 = λ a. IsSome (m a) in (
         ap (λ l. l ∷ [])
             (sym (ap (λ l. trees (map (reads m s) l)) items ∙ ap (λ t. more (spelled (text_of m) t) (more (reads m s e) none)) stands.1)),
         (
-          makes_from next s s (makes_nothing s),
-          record {
-            inside = subst (All (IsIn s)) (sym items) (two_places s p e stands.0 holds);
-            held =
-                subst (All (IsHeldAt m s)) (sym items)
-                (All-cons (IsHeldAt m s) p (e ∷ []) (subst (λ t. All P (atoms_in t)) (sym stands.1) (All-nil P))
-                (All-cons (IsHeldAt m s) e [] held (All-nil (IsHeldAt m s))));
-          },
+          refl,
+          (
+            makes_from next s s (makes_nothing s),
+            record {
+              inside = subst (All (IsIn s)) (sym items) (two_places s p e stands.0 holds);
+              held =
+                  subst (All (IsHeldAt m s)) (sym items)
+                  (All-cons (IsHeldAt m s) p (e ∷ []) (subst (λ t. All P (atoms_in t)) (sym stands.1) (All-nil P))
+                  (All-cons (IsHeldAt m s) e [] held (All-nil (IsHeldAt m s))));
+            },
+          ),
         ),
       )
 

@@ -90,7 +90,7 @@ pub row_since : (s t u : Contents) → Makes s zero zero zero t → (next : ℕ)
     → IsRow t next ts (thrown b) m u r → IsRow s next ts (thrown b) m u r
 row_since s t u made next ts b m Fails e h = absurd h
 row_since s t u made next ts b m Holds e h = absurd h
-row_since s t u made next ts b m (Answer ps) e h = absurd h
+row_since s t u made next ts b m (Answer ps fresh) e h = absurd h
 row_since s t u made next ts b m (Table pss) e h = absurd h
 row_since s t u made next ts b m (Ball w) e h =
     let g = h.1.0 in

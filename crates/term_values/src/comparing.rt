@@ -10,7 +10,7 @@ ghost use Rattle.term_store.specs.Contents.{Holds};
 ghost use Rattle.world_builtins.specs.Naming.{IsHeldAt};
 ghost use Rattle.world_builtins.specs.Spelling.{reads};
 ghost use Rattle.builtin_rows.specs.Given.{answered, given};
-ghost use Rattle.builtin_rows.specs.Rows.{IsRow, row_refusals};
+ghost use Rattle.builtin_rows.specs.Rows.{IsRow, IsSingle, row_refusals};
 ghost use Rattle.term_values.specs.Comparing.{Gives, holds_by, name_of};
 ghost use Rattle.term_values.specs.Texts.{AreTexts};
 
@@ -24,18 +24,19 @@ use std::alloc::Global;
 use term_store::{Place, Store, StoreFault};
 
 /// is/2: one answer, with the value of the expression in the place of the first argument, whatever that is. Where the
-/// expression has no value it raises the error of the first fault. The only error is want of memory.
+/// expression has no value it raises the error of the first fault. The only error is out of memory.
 pub fn evaluate(alloc: Global, store: &mut Store, expression: Place) -> Result<Row, Memory>
     requires { Holds store.old expression }
     ensures row { IfOk result (λ r. (m : Names) (t : Tree) → AreTexts m → IsHeldAt m store.old expression
         → Gives (codes "is") t (reads m store.old expression) (evaluates t (reads m store.old expression)) m store.old store.new r) }
     ensures refuses { IfOk result (λ r. row_refusals r ≡ []) }
+    ensures single { IfOk result IsSingle }
 {
     let value = value_at(alloc, store, expression)?;
     match value {
         Ok(x) => {
             let places = pair(alloc, Place::integer(x), expression)?;
-            let row = within_budget(store, Row::Answer(places))?;
+            let row = within_budget(store, Row::Answer { places, fresh: 0 })?;
             Ok(row)
         }
         Err(fault) => {
@@ -46,7 +47,7 @@ pub fn evaluate(alloc: Global, store: &mut Store, expression: Place) -> Result<R
 }
 
 /// Arithmetic comparison: whether the values of both terms compare so. The left one is evaluated first, and where one has no
-/// value the error of the first fault is raised. The only error is want of memory.
+/// value the error of the first fault is raised. The only error is out of memory.
 pub fn compare_values(
     alloc: Global,
     store: &mut Store,
@@ -60,6 +61,7 @@ pub fn compare_values(
         → Gives (name_of comparison) (reads m store.old left) (reads m store.old right)
         (compares_values (holds_by comparison) (reads m store.old left) (reads m store.old right)) m store.old store.new r) }
     ensures refuses { IfOk result (λ r. row_refusals r ≡ []) }
+    ensures single { IfOk result IsSingle }
 {
     let first = value_at(alloc, store, left)?;
     match first {
@@ -86,6 +88,7 @@ fn compare_with(
     ensures row { IfOk result (λ r. (m : Names) (t : Tree) → AreTexts m → Ok x ≡ evaluated t → IsHeldAt m store.old right
         → Gives (name_of comparison) t (reads m store.old right) (compares_values (holds_by comparison) t (reads m store.old right)) m store.old store.new r) }
     ensures refuses { IfOk result (λ r. row_refusals r ≡ []) }
+    ensures single { IfOk result IsSingle }
 {
     let second = value_at(alloc, store, right)?;
     match second {
@@ -100,11 +103,12 @@ fn compare_with(
     }
 }
 
-/// The row of a test. The only error is want of memory.
+/// The row of a test. The only error is out of memory.
 fn decided(store: &mut Store, holds: bool) -> Result<Row, Memory>
     ensures row { IfOk result (λ r. (m : Names) (next : ℕ) (p : Proc) (ts : Trees) → next < 2 ^ 64
         → IsRow store.old next ts (given p ts next store.old.used store.old.budget (test holds ts)) m store.new r) }
     ensures refuses { IfOk result (λ r. row_refusals r ≡ []) }
+    ensures single { IfOk result IsSingle }
 {
     if holds {
         let row = within_budget(store, Row::Holds)?;
@@ -113,7 +117,7 @@ fn decided(store: &mut Store, holds: bool) -> Result<Row, Memory>
     Ok(Row::Fails)
 }
 
-/// Two places. The only error is want of memory.
+/// Two places. The only error is out of memory.
 fn pair(alloc: Global, first: Place, second: Place) -> Result<Vec<Place>, Memory>
     ensures { IfOk result (λ v. v.items ≡ first ∷ second ∷ []) }
 {
@@ -124,12 +128,13 @@ fn pair(alloc: Global, first: Place, second: Place) -> Result<Vec<Place>, Memory
 }
 
 /// The row of one answer that takes no cells, where those that are used fit in the budget, which they do in every store. The
-/// only error is want of memory.
+/// only error is out of memory.
 fn within_budget(store: &mut Store, row: Row) -> Result<Row, Memory>
     ensures row { IfOk result (λ r. (m : Names) (next : ℕ) (p : Proc) (ts us : Trees) → next < 2 ^ 64
         → IsRow store.old next ts (answered (us ∷ []) zero zero) m store.old row
         → IsRow store.old next ts (given p ts next store.old.used store.old.budget (one_answer us)) m store.new r) }
     ensures refuses { row_refusals row ≡ [] → IfOk result (λ r. row_refusals r ≡ []) }
+    ensures single { IsSingle row → IfOk result IsSingle }
 {
     match store.charge(0) {
         Ok(()) => Ok(row),

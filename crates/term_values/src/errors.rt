@@ -7,7 +7,7 @@ ghost use Rattle.pl_model.specs.TermBuiltins.{value_error, operation_error};
 ghost use Rattle.atom_api.specs.Fixed.{fixed};
 ghost use Rattle.atom_api.specs.Names.{Names, FixedStand};
 ghost use Rattle.builtin_rows.specs.Given.{thrown};
-ghost use Rattle.builtin_rows.specs.Rows.{IsRow, row_refusals};
+ghost use Rattle.builtin_rows.specs.Rows.{IsRow, IsSingle, row_refusals};
 ghost use Rattle.term_values.specs.Values.{IsFaultHeld, fault_of};
 
 use crate::values::ValueFault;
@@ -17,11 +17,12 @@ use pl_model::evaluables::OpFault;
 use pl_term::Memory;
 use term_store::{Place, Store};
 
-/// The predicate of two arguments with this name raises the error of this fault. The only error is want of memory.
+/// The predicate of two arguments with this name raises the error of this fault. The only error is out of memory.
 pub fn refused(store: &mut Store, fault: ValueFault, name: Atom) -> Result<Row, Memory>
     ensures row { IfOk result (λ r. (m : Names) (p : Chars) (next : ℕ) (ts : Trees) → FixedStand m → IsFaultHeld m fault → fixed name ≡ Some p
         → IsRow store.old next ts (thrown (error_ball (value_error (fault_of m fault)) (proc p 2))) m store.new r) }
     ensures refuses { IfOk result (λ r. row_refusals r ≡ []) }
+    ensures single { IfOk result IsSingle }
 {
     match fault {
         ValueFault::Unbound => {
@@ -39,11 +40,12 @@ pub fn refused(store: &mut Store, fault: ValueFault, name: Atom) -> Result<Row, 
     }
 }
 
-/// It raises the error of an operation that has no value (ISO 7.12.2 b, g). The only error is want of memory.
+/// It raises the error of an operation that has no value (ISO 7.12.2 b, g). The only error is out of memory.
 fn no_value(store: &mut Store, fault: OpFault, name: Atom) -> Result<Row, Memory>
     ensures row { IfOk result (λ r. (m : Names) (p : Chars) (next : ℕ) (ts : Trees) → FixedStand m → fixed name ≡ Some p
         → IsRow store.old next ts (thrown (error_ball (operation_error fault) (proc p 2))) m store.new r) }
     ensures refuses { IfOk result (λ r. row_refusals r ≡ []) }
+    ensures single { IfOk result IsSingle }
 {
     match fault {
         OpFault::ZeroDivisor => {
@@ -66,23 +68,25 @@ fn no_value(store: &mut Store, fault: OpFault, name: Atom) -> Result<Row, Memory
     }
 }
 
-/// It raises the evaluation error for this reason (ISO 7.12.2 g). The only error is want of memory.
+/// It raises the evaluation error for this reason (ISO 7.12.2 g). The only error is out of memory.
 fn evaluation_error(store: &mut Store, reason: Atom, name: Atom) -> Result<Row, Memory>
     ensures row { IfOk result (λ r. (m : Names) (x p : Chars) (next : ℕ) (ts : Trees) → FixedStand m → fixed reason ≡ Some x → fixed name ≡ Some p
         → IsRow store.old next ts (thrown (error_ball (error_of x) (proc p 2))) m store.new r) }
     ensures refuses { IfOk result (λ r. row_refusals r ≡ []) }
+    ensures single { IfOk result IsSingle }
 {
     let row = refused_with(store, fixed::EVALUATION_ERROR, reason, name, 2)?;
     Ok(row)
 }
 
 /// It raises the type error of a functor that is no evaluable, with the indicator of that (ISO 7.12.2 b). The only error is
-/// want of memory.
+/// Out of memory.
 fn no_evaluable(store: &mut Store, functor: Atom, arity: usize, name: Atom) -> Result<Row, Memory>
     ensures row { IfOk result (λ r. (m : Names) (p : Chars) (next : ℕ) (ts : Trees) → FixedStand m → IsFaultHeld m (ValueFault.NoEvaluable functor arity)
         → fixed name ≡ Some p
         → IsRow store.old next ts (thrown (error_ball (value_error (fault_of m (ValueFault.NoEvaluable functor arity))) (proc p 2))) m store.new r) }
     ensures refuses { IfOk result (λ r. row_refusals r ≡ []) }
+    ensures single { IfOk result IsSingle }
 {
     let Ok(count) = i64::try_from(arity) else {
         return Err(Memory);

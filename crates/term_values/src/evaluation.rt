@@ -42,7 +42,7 @@ pub fn value_at(alloc: Global, store: &Store, place: Place) -> Result<Value, Mem
     Err(Memory)
 }
 
-/// Does a step. The only error is want of memory.
+/// Does a step. The only error is out of memory.
 fn advance(store: &Store, step: Step, stack: &mut Vec<Pending>) -> Result<Step, Memory>
     requires step { IsStepIn store.now step }
     requires stack { All (IsPendingIn store.now) stack.old.items }
@@ -110,7 +110,7 @@ fn integer_at(store: &Store, place: Place) -> Option<i64>
     }
 }
 
-/// Makes an operation of one argument, or asks for the argument's value first. The only error is want of memory.
+/// Makes an operation of one argument, or asks for the argument's value first. The only error is out of memory.
 fn one(store: &Store, op: Op1, argument: Place, stack: &mut Vec<Pending>) -> Result<Step, Memory>
     requires argument { Holds store.now argument }
     requires stack { All (IsPendingIn store.now) stack.old.items }
@@ -127,7 +127,7 @@ fn one(store: &Store, op: Op1, argument: Place, stack: &mut Vec<Pending>) -> Res
     }
 }
 
-/// Makes an operation of two arguments, or asks for the value of one of them first. The only error is want of memory.
+/// Makes an operation of two arguments, or asks for the value of one of them first. The only error is out of memory.
 fn two(
     store: &Store,
     op: Op2,
@@ -175,7 +175,7 @@ fn with_left(
     }
 }
 
-/// Goes on with a value. The only error is want of memory.
+/// Goes on with a value. The only error is out of memory.
 fn resume(store: &Store, x: i64, stack: &mut Vec<Pending>) -> Result<Step, Memory>
     requires { All (IsPendingIn store.now) stack.old.items }
     ensures inside { IfOk result (IsStepIn store.now) }

@@ -122,7 +122,7 @@ fn all_held(store: &Store, places: &[Place]) -> bool
     places.iter().all(|place| store.holds(*place))
 }
 
-/// The compound term with this name. What no call may be given is answered by want of memory, here and below.
+/// The compound term with this name. What no call may be given is answered by out of memory, here and below.
 fn compound(store: &mut Store, name: Atom, arguments: &[Place]) -> Result<Place, Memory> {
     if arguments.is_empty() || !all_held(store, arguments) {
         return Err(Memory);
@@ -282,7 +282,7 @@ fn faults_are_raised(rt: HostRuntime) -> Result<(), Fail> {
 
 /// Whether the row is one answer of two terms, the first of which is this number.
 fn is_answer(store: &Store, row: &Row, number: i64) -> bool {
-    let Row::Answer(places) = row else {
+    let Row::Answer { places, .. } = row else {
         return false;
     };
     if places.len() != 2 || !store.holds(places[0]) {

@@ -53,7 +53,7 @@ pub ahead : (ns : List Node) (at : ℕ) (ws : List Work) (ts : Trees)
 ahead ns at ws ts spelled enough =
     record { trees = ts; spelled = spelled; enough = enough; within = λ some. within_trees ns at ts spelled (omega arith) }
 
--- The node at a place, and those behind it.
+-- The node at a place, and those after it.
 pub node_at : (ns : List Node) (at : ℕ) (r n : Node)
     → at < length ns
     → r ≡ get_or ns at r

@@ -130,7 +130,7 @@ opened b = if b then plain (codes "(") ∷ [] else []
 parenthesis : Bool → List Work
 parenthesis b = if b then Parenthesis ∷ [] else []
 
--- The items that were pushed, behind the parenthesis where there is one.
+-- The items that were pushed, after the parenthesis where there is one.
 pushed_behind : (b : Bool) (s0 s1 s2 : List Work) (w : Work)
     → s1 ≡ s0 ++ parenthesis b
     → s2 ≡ s1 ++ w ∷ []
@@ -334,7 +334,7 @@ module _ (manner : Manner) (ops : Lookup) where
   prefix_opens old begun new f k max p r q d b s0 s1 s2 t (more u vs) us puts puts_name shape needs r_is e1 e2 is =
       absurd (omega (arith, prefix_one f k (q, d) (prefix_shape _ q d shape)))
 
-  -- A postfix operator's term: its parenthesis is put, its operand with the operator behind it are to come.
+  -- A postfix operator's term: its parenthesis is put, its operand with the operator after it are to come.
   pub postfix_opens : (old new : Page) (f : Bor Chars) (k max : ℕ) (p : Position) (l q : ℕ) (d : Kind) (b : Bool) (s0 s1 s2 s3 : List Work) (t : Tree) (ts us : Trees)
       → Puts old new (if b then plain (codes "(") ∷ [] else [])
       → Postfix q d ≡ shape_view (form manner ops f.now k)

@@ -117,7 +117,7 @@ module _ (manner : Manner) (ops : Lookup) where
   argument_of m ws (more t us) enough =
       ap (λ qs. plain (codes ",") ∷ qs) (append_assoc (pieces manner ops 999 alone t) (arguments manner ops (first m us)) (coming manner ops ws (after m us)))
 
-  -- One of the further arguments, behind its comma.
+  -- One of the further arguments, after its comma.
   pub argument_left : (ns : List Node) (at k m : ℕ) (ws : List Work)
       → Ahead ns at (Arguments k ∷ ws)
       → k ≡ suc m
@@ -149,7 +149,7 @@ module _ (manner : Manner) (ops : Lookup) where
   unfolding pieces by_tail
   tail_pieces t w e = ap (by_tail t) e
 
-  -- A tail that is no list: it stands behind a bar.
+  -- A tail that is no list: it stands after a bar.
   partial_of : (ws : List Work) (t : Tree) (us : Trees)
       → tail_of t ≡ partial
       → coming manner ops (Rest ∷ ws) (more t us) ≡ plain (codes "|") ∷ coming manner ops (Term 999 Alone ∷ Bracket ∷ ws) (more t us)

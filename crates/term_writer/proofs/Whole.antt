@@ -37,7 +37,7 @@ starts_left manner ops ns max s (t, e) only =
     ∙ append-nil (pieces manner ops max alone t)
     ∙ ap (pieces manner ops max alone) (sym (ap tree e ∙ tree-nodes t))
 
--- The text of the whole term stands behind what was there.
+-- The text of the whole term stands after what was there.
 pub whole_text : (r : Result (Unit {0}) Memory) (manner : Manner) (ops : Lookup) (before bytes after : List ℕ) (b : Behind) (max : ℕ) (ns : List Node) (t : Tree)
     → OnOk r (shown after b [] ≡ shown bytes (record { last = 32; prefix = None }) (pieces manner ops max alone (tree ns)))
     → bytes ≡ before

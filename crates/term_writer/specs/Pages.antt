@@ -1,4 +1,4 @@
--- What is written on a page: a text behind which further pieces are put.
+-- What is written on a page: a text after which further pieces are put.
 use Rattle.std.specs.Prelude.{◌≡◌, ℕ, List, [], ◌∷◌, ◌++◌, Option, Some, None}
 use Rattle.std.specs.Borrow.{Bor}
 use Rattle.std.specs.Str.{encode_utf8_all}

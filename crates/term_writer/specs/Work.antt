@@ -27,12 +27,12 @@ reads (Bracket ∷ ws) = reads ws
 reads (Brace ∷ ws) = reads ws
 
 module _ (m : Manner) (ops : Lookup) where
-  -- The pieces of the next term, and what comes of the terms behind it.
+  -- The pieces of the next term, and what comes of the terms after it.
   abbrev pub with_term : ℕ → Place → (Trees → List Piece) → Trees → List Piece
   with_term max place rest none = []
   with_term max place rest (more t ts) = pieces m ops max place t ++ rest ts
 
-  -- What follows an element of a list whose tail is the next term, and what comes of the terms behind it.
+  -- What follows an element of a list whose tail is the next term, and what comes of the terms after it.
   abbrev pub with_tail : (Trees → List Piece) → Trees → List Piece
   with_tail rest none = []
   with_tail rest (more t ts) = list_tail m ops (more t none) ++ rest ts

@@ -6,10 +6,6 @@ mod operators;
 mod page;
 mod pieces;
 mod quotes;
-#[cfg(test)]
-mod tests;
-#[cfg(test)]
-mod vectors;
 mod writer;
 
 pub use writer::{write, write_canonical, writeq};

@@ -8,7 +8,7 @@ ghost use Rattle.term_writer.specs.Pages.{Grows, Puts, behind_page, named, piece
 use crate::names::{continues_name, is_named, is_symbol};
 use pl_term::{Memory, Text};
 
-/// Text in UTF-8 whose last character, or the one that it was begun behind, is `last`. `prefix` is the prefix
+/// Text in UTF-8 whose last character, or the one that it was begun after, is `last`. `prefix` is the prefix
 /// operator that its last piece is, if it is one.
 #[derive(Debug, Drop)]
 pub struct Page<'a> {

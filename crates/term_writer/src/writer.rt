@@ -213,7 +213,7 @@ fn write_rest<'a>(
     Ok(())
 }
 
-/// Writes the next of `k` arguments, whose nodes begin at `at`, behind a comma.
+/// Writes the next of `k` arguments, whose nodes begin at `at`, after a comma.
 fn write_argument<'a>(
     style: Style,
     all: &'a [Node],
@@ -345,8 +345,8 @@ fn write_text(
 
 /// Writes the text of a term as writeq/1 and print/1 do (ISO 8.14.2.3), at the end of `out` in UTF-8: with names in
 /// quotes where they would not read back without them, and under the operators of `ops`. `max` is the largest
-/// priority of an operator that may stand without parentheses. The only error is want of memory: then `out` holds
-/// what it held, and behind it may be a part of the text.
+/// priority of an operator that may stand without parentheses. The only error is out of memory: then `out` holds
+/// what it held, and after it may be a part of the text.
 pub fn writeq(
     alloc: Global,
     t: &Flat,
@@ -386,8 +386,8 @@ pub fn write(
 
 /// Writes the text of a term as write_canonical/1 does (ISO 8.14.2.3): with quotes and without operators, in UTF-8 at
 /// the end of `out`. Lists stay lists; `{}` is written as any other functor. Neither the table nor the largest
-/// priority plays a part: the parameters are those of the other calls. The only error is want of memory: then `out`
-/// holds what it held, and behind it may be a part of the text.
+/// priority plays a part: the parameters are those of the other calls. The only error is out of memory: then `out`
+/// holds what it held, and after it may be a part of the text.
 pub fn write_canonical(
     alloc: Global,
     t: &Flat,

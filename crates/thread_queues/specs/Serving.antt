@@ -104,7 +104,7 @@ pub record Serves {M : Type 0} (term : M → Tree) (t : Threads M) (s : SharedSt
   pub creates_unnamed : (e g : ℕ) (goal : Tree)
       → serve e (create_thread goal [] None) s g
       ≡ unless (start_refusal t None) (start_error []) (updates g (named (int (pos s.count))) (start s.count (rename zero goal) None))
-  -- Of several aliases each is checked in turn, and the last one counts; an option that is wrong is refused behind them.
+  -- Of several aliases each is checked in turn, and the last one counts; an option that is wrong is refused after them.
   pub creates_next : (e g : ℕ) (goal : Tree) (a b : Chars) (as₁ : List Chars) (error : Option Tree)
       → serve e (create_thread goal (a ∷ b ∷ as₁) error) s g
       ≡ (if is_alias t a then alias_taken (codes "thread") a else serve e (create_thread goal (b ∷ as₁) error) s g)

@@ -6,7 +6,7 @@ ghost use Rattle.thread_queues.specs.Held.{alias_numbers, with_name, without_nam
 use crate::searches::named_at;
 use pl_term::Text;
 
-/// Puts an alias of the number behind the others, where there is one.
+/// Puts an alias of the number after the others, where there is one.
 pub fn put_alias(aliases: &mut Vec<(Text, u64)>, n: u64, alias: Option<Text>)
     requires { vec_len aliases.old < vec_capacity aliases.old }
     ensures { aliases.new.items ≡ with_name n alias aliases.old.items }

@@ -20,7 +20,7 @@ pub enum QueueFault {
     AliasTaken,
     /// 64 engines have not ended.
     EnginesFull,
-    /// Want of memory.
+    /// Out of memory.
     Memory,
 }
 

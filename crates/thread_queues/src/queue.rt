@@ -69,7 +69,7 @@ impl<M: Drop> Queue<M> {
         message_at(self.messages.as_slice(), place).is_some()
     }
 
-    /// Puts a message behind the others. Where there is no memory for it, it is handed back, and nothing has changed.
+    /// Puts a message after the others. Where there is no memory for it, it is handed back, and nothing has changed.
     pub fn push(&mut self, place: u64, content: M) -> Result<(), M>
         ensures pushed { OnOk result (self.new ≡ record self.old { messages = self.old.messages ++ record { place = place; content = content } ∷ [] }) }
         ensures refused { IfErr result (λ m. m ≡ content) }
@@ -92,7 +92,7 @@ impl<M: Drop> Queue<M> {
 }
 
 impl<M: Kept> Queue<M> {
-    /// Takes out the first message that unifies with the pattern. The only error is want of memory, and then nothing has
+    /// Takes out the first message that unifies with the pattern. The only error is out of memory, and then nothing has
     /// changed.
     pub fn take_first(&mut self, alloc: Global, pattern: &M) -> Result<Option<Message<M>>, Memory>
         ensures taken { IfOk result (λ r. TakesFirst (first_message (M.unified pattern.now) self.old) r self.old self.new) }
@@ -105,7 +105,7 @@ impl<M: Kept> Queue<M> {
         }
     }
 
-    /// The first message that unifies with the pattern, with its place. The only error is want of memory.
+    /// The first message that unifies with the pattern, with its place. The only error is out of memory.
     pub fn peek_first(&self, alloc: Global, pattern: &M) -> Result<Option<(u64, &M)>, Memory>
         ensures { IfOk result (λ r. option_map (λ p. (p.0, p.1.now)) r ≡ option_map named_message (first_message (M.unified pattern.now) self.now)) }
     {
@@ -133,7 +133,7 @@ fn moved<M: Drop>(messages: Vec<Message<M>>, room: Vec<M>) -> Vec<M>
     all
 }
 
-/// Where the first of these messages stands that unifies with the pattern. The only error is want of memory.
+/// Where the first of these messages stands that unifies with the pattern. The only error is out of memory.
 fn first_unifying<M: Kept>(
     alloc: Global,
     messages: &[Message<M>],

@@ -43,7 +43,7 @@ impl<M> Model for Queues<M> {
 }
 
 impl<M: Drop> Queues<M> {
-    /// Engine 1 alone, named `main`, with its queue. The only error is want of memory.
+    /// Engine 1 alone, named `main`, with its queue. The only error is out of memory.
     pub fn new(alloc: Global) -> Result<Queues<M>, Memory>
         ensures { IfOk result (λ s. s ≡ opening_held) }
     {
@@ -167,7 +167,7 @@ impl<M: Drop> Queues<M> {
         }
     }
 
-    /// Puts a message that is sent at the place behind the others of a queue (thread_send_message/2). No message that is
+    /// Puts a message that is sent at the place after the others of a queue (thread_send_message/2). No message that is
     /// held was sent at the place. The errors are `NoQueue` and `Memory`; after an error nothing has changed, and the
     /// message is handed back.
     pub fn send(&mut self, q: &Name, m: M, place: u64) -> Result<(), (M, QueueFault)>
@@ -386,7 +386,7 @@ fn make_room<M: Drop>(
     Ok(())
 }
 
-/// The answer of a call whose message was refused for want of memory, or not.
+/// The answer of a call whose message was refused because memory ran out, or not.
 fn refused<M: Drop>(pushed: Result<(), M>) -> Result<(), (M, QueueFault)>
     ensures { MatchResult pushed (λ u. result ≡ Ok u) (λ m. result ≡ Err (m, NoMemory)) }
 {

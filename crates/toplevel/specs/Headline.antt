@@ -40,11 +40,11 @@ abbrev pub AreRead : Option (List ℕ) → List ℕ → Type 0
 AreRead None bytes = Unit {0}
 AreRead (Some all) bytes = bytes ≡ all
 
--- The sink held `before`, and holds the text behind it.
+-- The sink held `before`, and holds the text after it.
 abbrev pub IsWritten : Option (List ℕ) → Option (List ℕ) → List ℕ → Type 0
 IsWritten old new text = (before : List ℕ) → old ≡ Some before → new ≡ Some (before ++ text)
 
--- The sink held `before`, and holds a front of the text behind it.
+-- The sink held `before`, and holds a front of the text after it.
 abbrev pub IsPartlyWritten : Option (List ℕ) → Option (List ℕ) → List ℕ → Type 0
 IsPartlyWritten old new text =
     (before : List ℕ) → old ≡ Some before → (k : ℕ) × (k < length text) × (new ≡ Some (before ++ take k text))

@@ -1,9 +1,9 @@
-//! The shared state behind a gate.
+//! The shared state after a gate.
 use pl_io::Gate;
 use pl_model::kept::Kept;
 use world_api::{Answer, Visit, World};
 
-/// The shared state of the first engine behind a gate, which is called before each visit, with worker 0.
+/// The shared state of the first engine after a gate, which is called before each visit, with worker 0.
 #[derive(Drop)]
 pub struct Gated<'a, W, G> {
     pub world: W,

@@ -26,7 +26,7 @@ pub course_follows : (l : Limits) (s r : State) (t u : Told) (n : ℕ) (before :
     → Course l s t n r (seen_as u before u.gens)
 course_follows l s r t u n before c f = sees n r u before c f
 
--- A request of the search that is answered behind all entries.
+-- A request of the search that is answered after all entries.
 pub course_asks : (l : Limits) (s r : State) (t u : Told) (n : ℕ) (before : History) (q : Request) (next : Reply → State) (reply : Reply) (update : Option Kind)
     → Course l s t n r u
     → Follows u.engine u.history before
@@ -35,7 +35,7 @@ pub course_asks : (l : Limits) (s r : State) (t u : Told) (n : ℕ) (before : Hi
     → Course l s t (suc n) (next reply) (seen_as u (before ++ entry_by u.engine update) (u.gens ++ length before ∷ []))
 course_asks l s r t u n before q next reply update c f is served = asked n r u before q next reply update c f is served
 
--- One course behind another.
+-- One course after another.
 numbered : (l : Limits) (s : State) (t : Told) (n k : ℕ) (r : State) (u : Told) → n ≡ k → Course l s t n r u → Course l s t k r u
 numbered l s t n k r u e c = subst (λ (i : ℕ). Course l s t i r u) e c
 

@@ -1,4 +1,4 @@
--- How texts are asked of atoms, one part behind another.
+-- How texts are asked of atoms, one part after another.
 use Rattle.std.proofs.Common.{◌≡◌, List, [], ◌∷◌, ◌++◌, Option, Some, None, refl, ap, sym, ◌∙◌, append_assoc, append-nil}
 use Rattle.std.specs.Option.{option_map}
 use Rattle.std.specs.List.{All}
@@ -29,7 +29,7 @@ all_none P none (t ∷ ts) all = absurd (none t (All-head P t ts all))
 pub gains_none : (P : Chars → Type 0) → ((c : Chars) → P c → ⊥) → (old new : Option (List Chars)) → Gains P old new → new ≡ old
 gains_none P none old new g = g.asked ∙ ap (λ l. option_map (λ ts. ts ++ l) old) (all_none P none g.more g.each) ∙ sym (none_behind old)
 
--- One part behind another.
+-- One part after another.
 pub gains_then : (P : Chars → Type 0) (a b c : Option (List Chars)) → Gains P a b → Gains P b c → Gains P a c
 gains_then P a b c g h =
     record {

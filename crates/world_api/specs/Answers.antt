@@ -72,12 +72,12 @@ module _ {T K : Type 0} (term : (ℕ → Chars) → T → Tree) (key : T → K) 
     pub asked : IsGoal term key text p k goal
     pub among : has_place place (clause_list t.goals t.history g goal) ≡ true
 
-  -- A list goes on behind one of its clauses.
+  -- A list goes on after one of its clauses.
   abbrev pub CanVisit : (ℕ → Chars) → Visit T K → Told → Type 0
   CanVisit text (Next p k g place) t = IsPlace text p k g place t
   CanVisit text v t = Unit {0}
 
-  -- The visit stood behind all entries `before`; what it asks for is answered so there, and the history gained the update.
+  -- The visit stood after all entries `before`; what it asks for is answered so there, and the history gained the update.
   pub record IsServed (old_text new_text : ℕ → Chars) (v : Visit T K) (r : Reply T) (g : ℕ) (old : Told) (before : History) (new : Told) : Type 0 where
     pub generation : g ≡ length before
     pub update : Option Kind

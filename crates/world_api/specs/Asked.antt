@@ -51,7 +51,7 @@ handed_texts done = []
 handed_texts gone = []
 handed_texts (refused t) = texts_in t
 
--- The request is answered so behind all entries, and the text is one of what is handed of the reply.
+-- The request is answered so after all entries, and the text is one of what is handed of the reply.
 pub record IsInReply (t : Told) (before : History) (q : Request) (c : Chars) : Type 0 where
   pub reply : requests.Reply
   pub update : Option Kind
@@ -59,14 +59,14 @@ pub record IsInReply (t : Told) (before : History) (q : Request) (c : Chars) : T
   pub handed : Contains (handed_texts reply) c
 
 module _ {T K : Type 0} (term : (ℕ → Chars) → T → Tree) (key : T → K) (text : ℕ → Chars) where
-  -- The text is one of what is handed of the reply to any request that the visit stands for, behind all entries; or of the
+  -- The text is one of what is handed of the reply to any request that the visit stands for, after all entries; or of the
   -- next clause of a list.
   abbrev pub StandsIn : Visit T K → Told → History → Chars → Type 0
   StandsIn (Next p k h place) t before c =
       (goal : Tree) → IsGoal term key text p k goal → Contains (front_texts (behind place (clause_list t.goals before h goal))) c
   StandsIn v t before c = (q : Request) → Asks term key text v q → IsInReply t before q c
 
-  -- The text stands in what a visit is answered behind those entries that the engine had seen and others of other engines.
+  -- The text stands in what a visit is answered after those entries that the engine had seen and others of other engines.
   pub record IsInAnswer (v : Visit T K) (t : Told) (c : Chars) : Type 0 where
     pub before : History
     pub follows : Follows t.engine t.history before

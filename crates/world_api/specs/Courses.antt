@@ -9,7 +9,7 @@ use Rattle.world_api.specs.Told.{Told, Follows}
 use Rattle.world_api.specs.Answers.{seen_as}
 
 -- The search comes from the one state to the other in so many steps: it is where it is, or it has made a step of its own, or
--- others made entries, or its request was answered behind all entries.
+-- others made entries, or its request was answered after all entries.
 pub data Course (l : Limits) (s : State) (t : Told) : ℕ → State → Told → Type 0 where
   stays : Course l s t 0 s t
   goes_to : (n : ℕ) (r v : State) (u : Told) → Course l s t n r u → step l r ≡ goes v → Course l s t (suc n) v u

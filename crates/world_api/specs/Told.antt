@@ -30,7 +30,7 @@ pub record Follows (e : ℕ) (old new : History) : Type 0 where
 abbrev pub clause_list : ℕ → History → ℕ → Tree → List (Stored Clause)
 clause_list goals h g goal = clauses_for (state_at goals h g) g goal
 
--- Those behind the clause with this place.
+-- Those after the clause with this place.
 abbrev pub behind : ℕ → List (Stored Clause) → List (Stored Clause)
 behind place [] = []
 behind place (c ∷ cs) = elim (c.place == place) [ true ↦ cs | false ↦ behind place cs ]

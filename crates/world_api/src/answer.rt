@@ -24,6 +24,6 @@ pub enum Answer<T> {
     Retry(Cause),
     /// An atom of the reply is one of a bucket that takes no new atom.
     Worn(WornWord),
-    /// Want of memory.
+    /// Out of memory.
     Memory,
 }

@@ -31,7 +31,7 @@ pub fn search_sees_others()
         → Course l s t n r (seen_as u before u.gens) }
 {}
 
-/// A step that asks, and is answered behind all entries.
+/// A step that asks, and is answered after all entries.
 pub fn search_asks()
     ensures { (l : Limits) (s r : State) (t u : Told) (n : ℕ) (before : History) (q : Request) (next : SharedReply → State) (reply : SharedReply) (update : Option Kind)
         → Course l s t n r u
@@ -41,7 +41,7 @@ pub fn search_asks()
         → Course l s t (suc n) (next reply) (seen_as u (before ++ entry_by u.engine update) (u.gens ++ length before ∷ [])) }
 {}
 
-/// One course behind another.
+/// One course after another.
 #[tactic(auto, using(crate::proofs::CourseLaws::course_then))]
 pub fn search_goes_on()
     ensures { (l : Limits) (s r v : State) (t u w : Told) (n k : ℕ)

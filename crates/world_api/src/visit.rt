@@ -37,7 +37,7 @@ pub enum Visit<T, K> {
         procedure: Procedure,
         first: K,
     },
-    /// The next clause of such a list: behind the clause with this place, at the generation of the visit that asked for
+    /// The next clause of such a list: after the clause with this place, at the generation of the visit that asked for
     /// the first.
     Next {
         procedure: Procedure,

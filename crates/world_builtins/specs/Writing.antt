@@ -14,7 +14,7 @@ use Rattle.world_api.specs.Answers.{seen_as}
 use Rattle.world_builtins.specs.declared.written.Written.{Written}
 use Rattle.world_builtins.specs.declared.written.Written.TheVariants.{Done, NeedsAtoms, Retry, Worn}
 
--- The operators were read behind all entries `before`, and the text that they give was put behind what was written.
+-- The operators were read after all entries `before`, and the text that they give was put after what was written.
 pub record IsWritten (text : OperatorTable → Chars) (old new : Told) (out_old out_new : List ℕ) : Type 0 where
   pub before : History
   pub follows : Follows old.engine old.history before
@@ -25,7 +25,7 @@ pub record IsWritten (text : OperatorTable → Chars) (old new : Told) (out_old 
   pub told : new ≡ seen_as old (before ++ entry_by old.engine update) (old.gens ++ length before ∷ [])
   pub out : out_new ≡ out_old ++ encode_utf8_all (text operators)
 
--- The text was written, or nothing has changed. After want of memory nothing is said.
+-- The text was written, or nothing has changed. After running out of memory nothing is said.
 abbrev pub Writes : (OperatorTable → Chars) → Result Written Memory → Told → Told → List ℕ → List ℕ → Type 0
 Writes text (Ok Done) old new out_old out_new = IsWritten text old new out_old out_new
 Writes text (Ok (NeedsAtoms p)) old new out_old out_new = (new ≡ old) × (out_new ≡ out_old)

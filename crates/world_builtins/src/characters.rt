@@ -1,4 +1,4 @@
-//! Characters that are written behind what an engine has written.
+//! Characters that are written after what an engine has written.
 ghost use Rattle.std.specs.Prelude.{◌≡◌, IfOk, IsSome, length};
 ghost use Rattle.std.specs.Str.{chars};
 ghost use Rattle.pl_term.specs.Tree.{atom};
@@ -31,7 +31,7 @@ fn character_count(text: &str) -> usize
     text.chars().count()
 }
 
-/// Puts a text of one character behind what was written. The only error is want of memory.
+/// Puts a text of one character after what was written. The only error is out of memory.
 fn put_text(text: &str, out: &mut Vec<u8>) -> Result<Character, Memory>
     ensures { IfOk result (λ c. IsPut (atom (chars text.now)) c out.old.items out.new.items) }
 {
@@ -42,7 +42,7 @@ fn put_text(text: &str, out: &mut Vec<u8>) -> Result<Character, Memory>
     Ok(Character::Put)
 }
 
-/// Puts an atom of one character behind what was written. The only error is want of memory.
+/// Puts an atom of one character after what was written. The only error is out of memory.
 fn put_atom<A: Atoms>(name: Atom, atoms: &mut A, out: &mut Vec<u8>) -> Result<Character, Memory>
     requires { IsSome (A.held atoms.old name) }
     ensures puts { IfOk result (λ c. IsPut (atom (text_of (A.held atoms.old) (atom_name name))) c out.old.items out.new.items) }
@@ -55,7 +55,7 @@ fn put_atom<A: Atoms>(name: Atom, atoms: &mut A, out: &mut Vec<u8>) -> Result<Ch
     put_text(text.as_str(), out)
 }
 
-/// put_char/1 (ISO 8.12.3): puts the character at a place behind what was written. The only error is want of memory.
+/// put_char/1 (ISO 8.12.3): puts the character at a place after what was written. The only error is out of memory.
 pub fn put_char<A: Atoms>(
     store: &Store,
     term: Place,

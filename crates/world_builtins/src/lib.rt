@@ -1,4 +1,4 @@
-//! Output: the predicates that write terms, characters and new lines behind what an engine has written.
+//! Output: the predicates that write terms, characters and new lines after what an engine has written.
 #![tactic(auto)]
 
 mod characters;

@@ -1,4 +1,4 @@
-//! Terms that are written behind what an engine has written.
+//! Terms that are written after what an engine has written.
 ghost use Rattle.std.specs.Prelude.{◌≡◌, ◌++◌, ◌∷◌, [], false, OnOk, encode_utf8_all};
 ghost use Rattle.pl_model.specs.TermWriting.{write_canonical};
 ghost use Rattle.term_store.specs.Contents.{Holds};
@@ -31,7 +31,7 @@ fn operators_of<T: Drop>(reply: Reply<T>) -> OpTable
     }
 }
 
-/// Puts the text of a term behind what was written. The only error is want of memory.
+/// Puts the text of a term after what was written. The only error is out of memory.
 fn put_term(
     alloc: Global,
     style: Style,
@@ -48,8 +48,8 @@ fn put_term(
 }
 
 /// write/1, writeq/1 and print/1 (ISO 8.14.2; SWI-Prolog manual, section 'Term reading and writing'): puts the text of the
-/// term at a place behind what was written, under the operators of the shared state, which one visit reads. The only error
-/// is want of memory.
+/// term at a place after what was written, under the operators of the shared state, which one visit reads. The only error
+/// is out of memory.
 pub fn write<W: World>(
     alloc: Global,
     style: Style,
@@ -84,8 +84,8 @@ pub fn write<W: World>(
     }
 }
 
-/// write_canonical/1 (ISO 8.14.2): puts the text of the term at a place behind what was written, with quotes and without
-/// operators. The only error is want of memory.
+/// write_canonical/1 (ISO 8.14.2): puts the text of the term at a place after what was written, with quotes and without
+/// operators. The only error is out of memory.
 pub fn write_canonical<A: Atoms>(
     alloc: Global,
     store: &Store,
@@ -106,7 +106,7 @@ pub fn write_canonical<A: Atoms>(
     term_writer::write_canonical(alloc, &flat, &operators, 1200, out)
 }
 
-/// nl/0 (ISO 8.12.1): puts a new line behind what was written. The only error is want of memory: then nothing has changed.
+/// nl/0 (ISO 8.12.1): puts a new line after what was written. The only error is out of memory: then nothing has changed.
 pub fn nl(out: &mut Vec<u8>) -> Result<(), Memory>
     ensures writes { OnOk result (out.new.items ≡ out.old.items ++ encode_utf8_all (10 ∷ [])) }
 {

@@ -15,7 +15,7 @@ use pl_term::{Flat, Memory, Node, Text};
 use std::alloc::Global;
 use term_store::{AtomNode, Place, Store};
 
-/// The text of an atom that is held. The only error is want of memory.
+/// The text of an atom that is held. The only error is out of memory.
 fn text_at<A: Atoms>(alloc: Global, slot: u32, atoms: &mut A) -> Result<Text, Memory>
     requires { IsSome (A.held atoms.old slot) }
     ensures text { IfOk result (λ t. t ≡ text_of (A.held atoms.old) (atom_name slot)) }
@@ -28,7 +28,7 @@ fn text_at<A: Atoms>(alloc: Global, slot: u32, atoms: &mut A) -> Result<Text, Me
     text.to_text(alloc)
 }
 
-/// The node over texts. The only error is want of memory.
+/// The node over texts. The only error is out of memory.
 fn spell<A: Atoms>(alloc: Global, node: &AtomNode, atoms: &mut A) -> Result<Node, Memory>
     requires { IsNodeHeld (A.held atoms.old) (node_view node.now) }
     ensures node { IfOk result (λ n. n ≡ spelled_node (text_of (A.held atoms.old)) (node_view node.now)) }
@@ -50,7 +50,7 @@ fn spell<A: Atoms>(alloc: Global, node: &AtomNode, atoms: &mut A) -> Result<Node
     }
 }
 
-/// The nodes over texts. The only error is want of memory.
+/// The nodes over texts. The only error is out of memory.
 fn spell_all<A: Atoms>(
     alloc: Global,
     nodes: &[AtomNode],
@@ -71,7 +71,7 @@ fn spell_all<A: Atoms>(
 }
 
 /// The term that these nodes spell, over the texts of its atoms, its variables with their numbers. Each atom that a node
-/// names is held. The only error is want of memory.
+/// names is held. The only error is out of memory.
 pub fn flat_of<A: Atoms>(alloc: Global, nodes: &[AtomNode], atoms: &mut A) -> Result<Flat, Memory>
     requires spelled { IsSpelled nodes.now }
     requires held { All (λ n. IsNodeHeld (A.held atoms.old) (node_view n)) nodes.now }
@@ -85,7 +85,7 @@ pub fn flat_of<A: Atoms>(alloc: Global, nodes: &[AtomNode], atoms: &mut A) -> Re
 }
 
 /// The term that stands at a place, over the texts of its atoms, its variables with their numbers. Each atom that it names
-/// is held. The only error is want of memory.
+/// is held. The only error is out of memory.
 pub fn flat_at<A: Atoms>(
     alloc: Global,
     store: &Store,
@@ -103,7 +103,7 @@ pub fn flat_at<A: Atoms>(
     flat_of(alloc, &nodes, atoms)
 }
 
-/// The terms that stand at some places. The only error is want of memory.
+/// The terms that stand at some places. The only error is out of memory.
 pub fn flats_at<A: Atoms>(
     alloc: Global,
     store: &Store,

@@ -16,7 +16,7 @@ abbrev pub is_variable_name : Chars → Bool
 is_variable_name [] = false
 is_variable_name (c ∷ cs) = begins_variable c && list_all continues_name cs
 
--- What stands behind a decimal numeral ends it: no digit, no single quote or letter that would make another
+-- What stands after a decimal numeral ends it: no digit, no single quote or letter that would make another
 -- numeral of a 0, and no full stop with a digit.
 pub record EndsNumeral (rest : List ℕ) : Type 0 where
   pub digit : digit_count 10 rest ≡ 0

@@ -1,22 +1,21 @@
-use Rattle.std.proofs.Common.{◌≡◌, ℕ, ◌<◌, List, [], ◌∷◌, ◌++◌, encode_utf8_all, refl, sym, ap, ◌∙◌, subst, false, Some, None, Ok, Err}
+use Rattle.std.proofs.Common.{◌≡◌, ℕ, ◌<◌, List, [], ◌∷◌, ◌++◌, encode_utf8_all, refl, sym, ap, ◌∙◌, subst, false, Some, None, Ok}
 use Rattle.atom_words.specs.Layout.{first_of}
-use Rattle.atom_words.specs.Texts.{row_of, bucket}
+use Rattle.atom_words.specs.Texts.{row_of}
 use Rattle.atom_words.specs.Plays.{Alone}
 use Rattle.atom_words.specs.Ties.{own_slot}
 use Rattle.atom_words.specs.Kinds.{fresh, linking, linked_own, after}
 use Rattle.atom_words.specs.Seats.{seen, puts}
 use Rattle.atom_words.specs.declared.size.Size.{Size}
 use Rattle.atom_words.specs.declared.view.Own.{Own}
-use Rattle.atom_words.specs.declared.view.Walk.{Walk}
 use Rattle.atom_words.specs.declared.view.View.{View}
-use Rattle.atom_words.specs.declared.kind.Kind.{Kind}
-use Rattle.atom_words.specs.declared.kind.Kind.TheVariants.{PutLink, Link, Validate, Release}
+use Rattle.atom_words.specs.declared.kind.Kind.TheVariants.{PutLink, Link, Validate}
 use Rattle.atom_words.proofs.Putting.{row_length, puts_own, puts_keep}
-use Rattle.bucket_rows.specs.Walks.{spelled, Missing, Ready}
-use Rattle.bucket_rows.proofs.Reading.{after_both, missing_as, ready_put, alone_as}
+use Rattle.bucket_rows.specs.Walks.{spelled, Ready}
+use Rattle.bucket_rows.proofs.Reading.{after_both, ready_put, alone_as}
 use Rattle.bucket_rows.proofs.Making.{Beside, beside_trans, beside_puts, beside_links, linked_by, unlinked_by}
 use Rattle.atom_table.specs.Interning.{Adds}
 use Rattle.atom_table.proofs.Adding.{adds_err, added_held}
+use Rattle.atom_table.proofs.Settling.{sitting_by}
 use Rattle.atom_table.proofs.making.add_text.Goals as goal
 
 pub link-requires-clause-fits : goal.link-requires-clause-fits
@@ -32,6 +31,12 @@ validate-requires-clause-fits c = let v : View = seen c.args.seat.now in let u :
     let r : Ready u = ready_put row c.requires.own.0 v u (row_length (encode_utf8_all c.args.text.now)) c.requires.own.1 c.requires.missing (c.put_text.ensures.steps ∙ ap (λ (l : List ℕ). after v (puts l)) is) in
     let b = beside_trans v u w (subst (Beside v) (sym c.put_text.ensures.steps) (beside_puts v (row_of c.as_bytes.result.now))) (beside_links u r.4.walk c.link.result w (c.link.ensures.steps r.4.walk r.4.at)) in
     (c.link.ensures.same.0 ∙ (c.put_text.ensures.same.0 ∙ c.requires.fits.0), b.size ∙ c.requires.fits.1, b.gone ∙ c.requires.fits.2)
+
+pub validate-requires-clause-sitting : goal.validate-requires-clause-sitting
+validate-requires-clause-sitting c = let v : View = seen c.args.seat.now in let u : View = seen c.put_text.new.seat in let w : View = seen c.link.new.seat in let row : List ℕ = spelled c.args.text.now in let is : row_of c.as_bytes.result.now ≡ row = ap row_of (c.as_bytes.ensures.value ∙ c.as_str.ensures) in
+    let r : Ready u = ready_put row c.requires.own.0 v u (row_length (encode_utf8_all c.args.text.now)) c.requires.own.1 c.requires.missing (c.put_text.ensures.steps ∙ ap (λ (l : List ℕ). after v (puts l)) is) in
+    let b = beside_trans v u w (subst (Beside v) (sym c.put_text.ensures.steps) (beside_puts v (row_of c.as_bytes.result.now))) (beside_links u r.4.walk c.link.result w (c.link.ensures.steps r.4.walk r.4.at)) in
+    sitting_by v w b.cycle b.undealt c.requires.sitting
 
 pub release-requires-clause-fits : goal.release-requires-clause-fits
 release-requires-clause-fits c = let v : View = seen c.args.seat.now in let u : View = seen c.put_text.new.seat in let w : View = seen c.link.new.seat in let row : List ℕ = spelled c.args.text.now in let is : row_of c.as_bytes.result.now ≡ row = ap row_of (c.as_bytes.ensures.value ∙ c.as_str.ensures) in

@@ -1,12 +1,11 @@
 use Rattle.std.proofs.Common.{◌≡◌, ℕ, suc, ◌+◌, ◌%◌, ◌<◌, ◌≤◌, [], ◌∷◌, refl, sym, ap, ◌∙◌, subst, arith, add-one, Some, None, IsSome, is_some}
-use Rattle.atom_words.specs.Kinds.{full, full_pass, after}
-use Rattle.atom_words.specs.Seats.{seen, Reserves, FindsTaken, answered}
+use Rattle.atom_words.specs.Kinds.{full_pass}
+use Rattle.atom_words.specs.Seats.{seen, FindsTaken}
 use Rattle.atom_words.specs.declared.size.Size.{Size}
 use Rattle.atom_words.specs.declared.view.Pass.{Pass}
 use Rattle.atom_words.specs.declared.view.View.{View}
-use Rattle.atom_words.specs.declared.kind.Kind.TheVariants.{StartPass, EndPass}
-use Rattle.atom_table.specs.Interning.{Tries, Takes}
-use Rattle.atom_table.proofs.Tries.{Tried, Passed, tried_refl, tried_trans, tried_start, tried_taken, passed_start, passed_more, full_is, answered_some}
+use Rattle.atom_table.specs.Interning.{Tries}
+use Rattle.atom_table.proofs.Tries.{tried_refl, tried_trans, tried_start, tried_taken, passed_start, passed_more, full_is, answered_some}
 use Rattle.atom_table.proofs.making.take_slot.Goals as goal
 
 pub loop-i-init : goal.loop-i-init

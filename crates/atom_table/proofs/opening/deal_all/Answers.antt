@@ -1,5 +1,4 @@
-use Rattle.std.proofs.Common.{◌≡◌, ℕ, suc, ◌<◌, ◌-◌, ◌+◌, List, [], ◌∷◌, length, refl, sym, ap, ◌∙◌, subst, arith, add-one}
-use Rattle.atom_words.specs.declared.words.AtomSeat.{AtomSeat}
+use Rattle.std.proofs.Common.{◌≡◌, ℕ, suc, ◌<◌, ◌-◌, ◌+◌, ◌∷◌, length, sym, ap, ◌∙◌, subst, arith, add-one}
 use Rattle.atom_table.specs.Opening.{FreshFrom, Source}
 use Rattle.atom_table.proofs.Settling.{source_dealt, fresh_dealt, fresh_more}
 use Rattle.atom_table.proofs.opening.deal_all.Goals as goal
@@ -11,3 +10,6 @@ loop-i-preserved c = let words = c.args.words.now in let n : ℕ = c.args.engine
       many = ap length items ∙ (ap suc inv.many ∙ sym (add-one i));
       fresh = subst (FreshFrom words (n - (i + 1) + 1)) (sym items) (fresh_more words n i c.deal-seat.result c.loop-i.seats.items low (fresh_dealt words (n - i) c.loop-i.first c.deal-seat.result c.deal-seat.ensures.right.0 c.deal-seat.ensures.right.1 inv.source) inv.fresh);
     }
+
+pub deal-seat-requires-clause-none : goal.deal-seat-requires-clause-none
+deal-seat-requires-clause-none c = c.loop-i.invariant.source.held

@@ -1,4 +1,4 @@
-use Rattle.std.proofs.Common.{◌≡◌, ℕ, ◌<◌, ◌++◌, List, [], ◌∷◌, length, map, take, refl, sym, ap, ◌∙◌, subst, arith, take_all}
+use Rattle.std.proofs.Common.{ℕ, ◌++◌, List, [], ◌∷◌, map, take, refl, sym, ap, ◌∙◌, subst, arith, take_all}
 use Rattle.pl_term.specs.Tree.{Chars}
 use Rattle.atom_words.specs.Chains.{In}
 use Rattle.atom_words.specs.Seats.{seen}
@@ -7,7 +7,7 @@ use Rattle.atom_words.specs.declared.view.View.{View}
 use Rattle.atom_words.proofs.Slices.{in_none}
 use Rattle.bucket_rows.specs.Walks.{spelled}
 use Rattle.atom_table.specs.Opening.{fixed_slot}
-use Rattle.atom_table.proofs.Settling.{stays_refl, stays_trans, sits_placed, low_placed, slots_more}
+use Rattle.atom_table.proofs.Settling.{stays_refl, stays_trans, walking_stays, sits_placed, low_placed, slots_more}
 use Rattle.atom_table.proofs.opening.place_all.Goals as goal
 
 pub loop-row-init : goal.loop-row-init
@@ -24,6 +24,9 @@ place_fixed-requires-clause-fits c = c.loop-row.invariant.sits.0
 
 pub place_fixed-requires-clause-none : goal.place_fixed-requires-clause-none
 place_fixed-requires-clause-none c = c.loop-row.invariant.sits.1
+
+pub place_fixed-requires-clause-walking : goal.place_fixed-requires-clause-walking
+place_fixed-requires-clause-walking c = walking_stays (seen c.args.seat.now) (seen c.loop-row.seat) c.loop-row.invariant.stays c.requires.walking
 
 pub loop-row-preserved : goal.loop-row-preserved
 loop-row-preserved c = let i : ℕ = c.loop-row.row-index in let xs : List (ℕ × Chars) = c.deref-row-items.result.now in let r : ℕ × Chars = c.row-item.result in let k : ℕ = c.slot.result in let inv = c.loop-row.invariant in

@@ -1,4 +1,4 @@
-use Rattle.std.proofs.Common.{◌≡◌, ℕ, ◌<◌, ◌++◌, [], ◌∷◌, List, refl, sym, ap, ◌∙◌, subst, None}
+use Rattle.std.proofs.Common.{◌≡◌, ℕ, ◌<◌, ◌++◌, [], ◌∷◌, List, sym, ◌∙◌, subst, None}
 use Rattle.atom_words.specs.Plays.{Alone}
 use Rattle.atom_words.specs.Texts.{bucket}
 use Rattle.atom_words.specs.Seats.{seen}
@@ -8,7 +8,7 @@ use Rattle.bucket_rows.specs.Walks.{spelled}
 use Rattle.bucket_rows.proofs.Reading.{missing_as, reserved_as}
 use Rattle.bucket_rows.proofs.Making.{beside_reserve}
 use Rattle.atom_table.specs.Opening.{Carries, Placed}
-use Rattle.atom_table.proofs.Settling.{placed_reserved, ok_map}
+use Rattle.atom_table.proofs.Settling.{placed_reserved, sitting_by, ok_map}
 use Rattle.atom_table.proofs.opening.take_fixed.Goals as goal
 
 pub settle-requires-clause-fits : goal.settle-requires-clause-fits
@@ -16,6 +16,9 @@ settle-requires-clause-fits c = let b = beside_reserve (seen c.args.seat.now) c.
 
 pub settle-requires-clause-own : goal.settle-requires-clause-own
 settle-requires-clause-own c = (reserved_as (seen c.args.seat.now) c.args.slot (seen c.reserve.new.seat) c.in-Ok.ensures.steps).own
+
+pub settle-requires-clause-sitting : goal.settle-requires-clause-sitting
+settle-requires-clause-sitting c = let v : View = seen c.args.seat.now in let u : View = seen c.reserve.new.seat in let b = beside_reserve v c.args.slot u c.in-Ok.ensures.steps in sitting_by v u b.cycle b.undealt c.requires.sitting
 
 pub settle-requires-clause-missing : goal.settle-requires-clause-missing
 settle-requires-clause-missing c = let row : List ℕ = spelled c.args.text.now in missing_as row (bucket 8 row) (seen c.args.seat.now) (seen c.reserve.new.seat) (reserved_as (seen c.args.seat.now) c.args.slot (seen c.reserve.new.seat) c.in-Ok.ensures.steps).walk c.requires.missing

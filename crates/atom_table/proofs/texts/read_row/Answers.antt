@@ -1,14 +1,10 @@
-use Rattle.std.proofs.Common.{◌≡◌, ◌≢◌, ◌⊎◌, ℕ, ◌+◌, ◌*◌, ◌<◌, ◌≤◌, ◌++◌, [], ◌∷◌, false, List, length, get_or, set, take, refl, sym, ap, ◌∙◌, subst, inl, inr, ⊎_elim, arith, length-take, length-set, take_all, get_or-set_same, get_or-set_other}
+use Rattle.std.proofs.Common.{◌≡◌, ◌≢◌, ℕ, ◌+◌, ◌*◌, ◌<◌, ◌≤◌, false, List, length, get_or, set, take, refl, sym, ap, ◌∙◌, arith, length-take, length-set, take_all, get_or-set_same, get_or-set_other}
 use Rattle.std.proofs.lemmas.Grind.{same_number_lists}
 use Rattle.std.proofs.lemmas.List.{take_more_set}
 use mathlib.Core.Logic.{dite}
 use native.Mathlib.Decide.{ℕ_discrete}
 use Rattle.atom_words.specs.Board.{text_at}
-use Rattle.atom_words.specs.Chains.{In}
 use Rattle.atom_words.specs.Kinds.{view_after, after}
-use Rattle.atom_words.specs.Seats.{Has}
-use Rattle.atom_words.specs.declared.size.Size.{Size}
-use Rattle.atom_words.specs.declared.view.Held.{Held}
 use Rattle.atom_words.specs.declared.view.View.{View}
 use Rattle.atom_words.specs.declared.kind.Kind.TheVariants.{Load}
 use Rattle.atom_words.proofs.WalkSteps.{reading_held}

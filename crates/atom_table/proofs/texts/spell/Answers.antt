@@ -1,10 +1,9 @@
 use Rattle.std.proofs.Common.{◌≡◌, ℕ, ◌+◌, ◌*◌, ◌/◌, ◌%◌, ◌^◌, ◌<◌, ◌≤◌, true, List, length, get_or, take, encode_utf8_all, refl, sym, ap, ◌∙◌, subst, arith, Result, Ok, Err, MatchResult, length-take}
 use Rattle.std.specs.Result.{IsOk}
-use Rattle.std.specs.Str.{all_scalars, chars, IsUtf8}
+use Rattle.std.specs.Str.{all_scalars, chars}
 use Rattle.std.proofs.lemmas.Str.{chars-encodes}
 use Rattle.pl_term.specs.Tree.{Chars}
 use Rattle.pl_term.specs.Texts.{size}
-use Rattle.atom_words.specs.Texts.{row_of}
 use Rattle.atom_words.proofs.Putting.{row_first}
 use Rattle.bucket_rows.specs.Walks.{spelled}
 use Rattle.atom_table.specs.Holding.{unspelled}

@@ -1,4 +1,4 @@
-use Rattle.std.proofs.Common.{sym, subst}
+use Rattle.std.proofs.Common.{zero, sym, subst}
 use Rattle.pl_term.specs.Tree.{atom}
 use Rattle.pl_model.specs.TermBuiltins.{two}
 use Rattle.world_builtins.specs.Spelling.{reads}
@@ -42,7 +42,7 @@ returns-in_ok-places-in-Is-clause-row g c p ts next below =
     let n = g.A.Atoms.held c.make_atom.new.atoms in
     let ps = c.in_ok-places-in-Is in
     let us = two (atom c.args.text.now) (reads m s c.args.second) in
-    subst (λ x. IsRow s next ts x n t (Answer ps.places)) (sym (fits_is p ts us next s.used s.budget 0 below c.in-None.ensures.fits))
+    subst (λ x. IsRow s next ts x n t (Answer ps.places zero)) (sym (fits_is p ts us next s.used s.budget 0 below c.in-None.ensures.fits))
     (made_parts m n s t next c.in-Is.a c.args.text.now c.atom.result c.args.second ps.places.items c.make_atom.ensures.holds
     (subst (λ x. IsMade n c.args.text.now x) c.in-Is.is c.in_ok-made-in-None.ensures.made) c.in-None.ensures.taken ps.ensures
     c.atom.ensures c.requires.inside c.requires.held)

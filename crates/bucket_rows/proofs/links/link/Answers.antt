@@ -1,8 +1,8 @@
-use Rattle.std.proofs.Common.{◌≡◌, ◌≢◌, ◌<◌, ◌+◌, ◌*◌, ◌/◌, ◌%◌, eqb, ℕ, refl, sym, ap, ◌∙◌, subst, arith, Some, option_map}
+use Rattle.std.proofs.Common.{◌≡◌, ◌<◌, ◌+◌, ◌*◌, ◌/◌, ◌%◌, eqb, ℕ, sym, ap, ◌∙◌, subst, arith, Some, option_map}
 use mathlib.Core.Option.{none}
 use prog.Atomic.{either}
 use Rattle.atomic_table.specs.Table.{step, Allows}
-use Rattle.atom_words.specs.Layout.{first_of, head_word, version_of}
+use Rattle.atom_words.specs.Layout.{head_word, version_of}
 use Rattle.atom_words.specs.Board.{link_at, head_at}
 use Rattle.atom_words.specs.Kinds.{linking, view_after}
 use Rattle.atom_words.specs.Ties.{own_slot, walk_head, walk_word}

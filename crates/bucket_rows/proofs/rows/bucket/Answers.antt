@@ -1,4 +1,4 @@
-use Rattle.std.proofs.Common.{◌≡◌, ◌%◌, ◌+◌, ◌-◌, ◌^◌, ℕ, List, sym, ap, ◌∙◌, arith}
+use Rattle.std.proofs.Common.{◌≡◌, ◌%◌, ◌+◌, ◌-◌, ◌^◌, ℕ, sym, ap, ◌∙◌, arith}
 use Rattle.atom_words.specs.Texts.{row_of, bytes_of, fnv, bucket}
 use Rattle.atom_words.proofs.RowBytes.{bytes_of-row_of}
 use Rattle.bucket_rows.proofs.rows.bucket.Goals as goal

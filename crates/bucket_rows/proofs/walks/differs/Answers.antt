@@ -1,4 +1,4 @@
-use Rattle.std.proofs.Common.{◌≡◌, ◌≢◌, ◌<◌, ◌≤◌, ℕ, ◌+◌, ◌*◌, ◌++◌, [], ◌∷◌, false, List, length, get_or, take, refl, sym, ap, ◌∙◌, arith, Some, length-append, length-take, take_all}
+use Rattle.std.proofs.Common.{◌≡◌, ◌<◌, ℕ, ◌+◌, ◌*◌, ◌++◌, [], ◌∷◌, false, List, length, get_or, take, refl, sym, ap, ◌∙◌, arith, Some, length-append, length-take, take_all}
 use Rattle.std.proofs.lemmas.List.{take_more}
 use Rattle.atom_words.specs.Board.{text_at}
 use Rattle.atom_words.specs.Kinds.{view_after, after}

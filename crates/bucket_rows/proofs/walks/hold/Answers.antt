@@ -1,6 +1,6 @@
-use Rattle.std.proofs.Common.{◌≡◌, ◌≢◌, ◌<◌, ◌-◌, ◌+◌, ℕ, false, length, sym, ap, ◌∙◌, subst, arith, Some, None, option_map}
+use Rattle.std.proofs.Common.{◌≡◌, ◌<◌, ◌-◌, ◌+◌, ℕ, sym, ap, ◌∙◌, subst, inl, arith, Some, None, option_map}
 use Rattle.atom_words.specs.Layout.{state_of, version_of}
-use Rattle.atom_words.specs.Board.{atom_at, head_at}
+use Rattle.atom_words.specs.Board.{atom_at, link_at, head_at}
 use Rattle.atom_words.specs.Plays.{Alone}
 use Rattle.atom_words.specs.Kinds.{guarding, view_after}
 use Rattle.atom_words.specs.declared.size.Size.{Size}
@@ -8,7 +8,8 @@ use Rattle.atom_words.specs.declared.view.Walk.{Walk}
 use Rattle.atom_words.specs.declared.view.View.{View}
 use Rattle.atom_words.specs.declared.kind.Kind.TheVariants.{Protect}
 use Rattle.atom_words.proofs.Steps.{protecting}
-use Rattle.atom_words.proofs.WalkSteps.{showing_pending, holding}
+use Rattle.atom_words.specs.Seats.{Walking}
+use Rattle.atom_words.proofs.WalkSteps.{showing_pending, skipping_past, holding}
 use Rattle.bucket_rows.proofs.Reading.{guard_set}
 use Rattle.bucket_rows.proofs.walks.hold.Goals as goal
 
@@ -31,6 +32,32 @@ load-requires c = let same : c.args.words.now.size ≡ c.args.seat.now.me.0.size
           c.if-found-eq1.true (λ o e. let no : Some o ≡ None = sym e ∙ none in cc) (ap (λ (y : View). y.made) is),
     )
 
+pub load-requires-then-found-eq2 : goal.load-requires-then-found-eq2
+load-requires-then-found-eq2 c = let same : c.args.words.now.size ≡ c.args.seat.now.me.0.size = sym c.requires.fits.1 in let v : View = c.args.seat.now.me.0 in let u : View = c.fetch_or-found.new.seat.me.0 in let x : ℕ = c.fetch_or-found.result in let w : Walk = c.requires.walk.0 in
+    let is : u ≡ view_after v (Protect c.args.slot x) = c.fetch_or-found.ensures.2.1 c.args.slot (c.atom_place-place.ensures.place ∙ ap (λ (y : Size). atom_at y c.args.slot) same) in
+    let size : c.args.words.now.size ≡ u.size = same ∙ sym (ap (λ (y : View). y.size) is) in let walking : Walking u = subst (λ (y : View). Walking y) (sym is) c.requires.walking in (
+      c.fetch_or-found.ensures.0 ∙ c.requires.fits.0,
+      c.link_place-link.ensures.inside,
+      skipping_past c.args.words.now.table.shared.key c.args.words.now.table.shared.table_id.slots c.fetch_or-found.new.seat.id c.fetch_or-found.new.seat.me (c.args.words.now.keyed ∙ size) (ap (λ (y : View). y.gone) is ∙ c.requires.fits.2)
+          c.link_place-link.result c.args.slot (guarding c.args.slot x w) (ap (λ (y : View). y.walk) is ∙ ap (option_map (guarding c.args.slot x)) c.requires.walk.1) walking.1 c.requires.walk.2
+          (guard_set w.dead w.place (c.args.slot + 1) (state_of x) 2 c.requires.walk.2 c.if-found-eq2.true) (subst (λ (y : Size). c.args.slot < y.slots) size c.requires.slot) (c.link_place-link.ensures.place ∙ ap (λ (y : Size). link_at y c.args.slot) size),
+    )
+
+pub moved-requires-clause-fits : goal.moved-requires-clause-fits
+moved-requires-clause-fits c = let same : c.args.words.now.size ≡ c.args.seat.now.me.0.size = sym c.requires.fits.1 in let v : View = c.args.seat.now.me.0 in let u : View = c.fetch_or-found.new.seat.me.0 in let x : ℕ = c.fetch_or-found.result in
+    let is : u ≡ view_after v (Protect c.args.slot x) = c.fetch_or-found.ensures.2.1 c.args.slot (c.atom_place-place.ensures.place ∙ ap (λ (y : Size). atom_at y c.args.slot) same) in
+    (c.fetch_or-found.ensures.0 ∙ c.requires.fits.0, ap (λ (y : View). y.size) is ∙ c.requires.fits.1, ap (λ (y : View). y.gone) is ∙ c.requires.fits.2)
+
+pub moved-requires-clause-stale : goal.moved-requires-clause-stale
+moved-requires-clause-stale c = let same : c.args.words.now.size ≡ c.args.seat.now.me.0.size = sym c.requires.fits.1 in let v : View = c.args.seat.now.me.0 in let u : View = c.fetch_or-found.new.seat.me.0 in let x : ℕ = c.fetch_or-found.result in let w : Walk = c.requires.walk.0 in
+    let is : u ≡ view_after v (Protect c.args.slot x) = c.fetch_or-found.ensures.2.1 c.args.slot (c.atom_place-place.ensures.place ∙ ap (λ (y : Size). atom_at y c.args.slot) same) in (
+      guarding c.args.slot x w,
+      ap (λ (y : View). y.walk) is ∙ ap (option_map (guarding c.args.slot x)) c.requires.walk.1,
+      inl (guard_set w.lost w.place (c.args.slot + 1) (state_of x) 0 c.requires.walk.2 c.if-found-eq0.true),
+      c.requires.walk.4,
+      c.requires.walk.5,
+    )
+
 pub load-new-requires : goal.load-new-requires
 load-new-requires c = let same : c.args.words.now.size ≡ c.args.seat.now.me.0.size = sym c.requires.fits.1 in let v : View = c.args.seat.now.me.0 in let u : View = c.fetch_or-found.new.seat.me.0 in let x : ℕ = c.fetch_or-found.result in let w : Walk = c.requires.walk.0 in
     let is : u ≡ view_after v (Protect c.args.slot x) = c.fetch_or-found.ensures.2.1 c.args.slot (c.atom_place-place.ensures.place ∙ ap (λ (y : Size). atom_at y c.args.slot) same) in
@@ -39,7 +66,7 @@ load-new-requires c = let same : c.args.words.now.size ≡ c.args.seat.now.me.0.
       c.head_place-top.ensures.inside,
       holding c.args.words.now.table.shared.key c.args.words.now.table.shared.table_id.slots c.fetch_or-found.new.seat.id c.fetch_or-found.new.seat.me (c.args.words.now.keyed ∙ size) (ap (λ (y : View). y.gone) is ∙ c.requires.fits.2)
           c.head_place-top.result c.args.slot (guarding c.args.slot x w) (ap (λ (y : View). y.walk) is ∙ ap (option_map (guarding c.args.slot x)) c.requires.walk.1) c.requires.walk.2
-          (guard_set w.guarded w.place (c.args.slot + 1) (state_of x) c.requires.walk.2 c.if-found-eq1.false) c.requires.walk.3 (subst (λ (h : ℕ). h < u.size.heads) head (subst (λ (y : Size). c.args.head < y.heads) size c.requires.head))
+          (guard_set w.guarded w.place (c.args.slot + 1) (state_of x) 3 c.requires.walk.2 (let one = c.if-found-eq1.false in let two = c.if-found-eq2.false in let zero = c.if-found-eq0.false in omega arith)) (subst (λ (y : View). Walking y) (sym is) c.requires.walking).0 c.requires.walk.3 (subst (λ (h : ℕ). h < u.size.heads) head (subst (λ (y : Size). c.args.head < y.heads) size c.requires.head))
           (c.head_place-top.ensures.place ∙ (λ i. head_at (size i) (head i))),
     )
 

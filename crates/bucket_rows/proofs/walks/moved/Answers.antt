@@ -1,4 +1,4 @@
-use Rattle.std.proofs.Common.{◌≡◌, ◌<◌, ℕ, sym, ap, ◌∙◌, subst}
+use Rattle.std.proofs.Common.{◌≡◌, ◌<◌, ℕ, sym, ◌∙◌, subst}
 use Rattle.atom_words.specs.Board.{head_at}
 use Rattle.atom_words.specs.Plays.{Stale}
 use Rattle.atom_words.specs.declared.size.Size.{Size}

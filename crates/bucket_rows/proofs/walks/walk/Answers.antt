@@ -4,6 +4,7 @@ use Rattle.atom_words.specs.Board.{head_at}
 use Rattle.atom_words.specs.Texts.{row_of, bucket}
 use Rattle.atom_words.specs.Kinds.{view_after}
 use Rattle.atom_words.specs.Ties.{own_slot}
+use Rattle.atom_words.specs.Seats.{Walking}
 use Rattle.atom_words.specs.declared.size.Size.{Size}
 use Rattle.atom_words.specs.declared.view.Cause.TheVariants.{Closed}
 use Rattle.atom_words.specs.declared.view.Refusal.TheVariants.{Again}
@@ -32,6 +33,7 @@ invariant_of-seat c = let same : c.args.words.now.size ≡ c.args.seat.now.seat.
     let is : w ≡ view_after v (Refuse (Again (Closed x))) = told.1 (λ e. let one = c.if-word-eq1.true in omega arith) in let a : View = view_after v (Refuse (Again (Closed x))) in record {
       slotless = c.load-word.ensures.2.0 ∙ s.slotless;
       numbered = ap (λ (y : View). y.cycle.engine) is ∙ s.numbered;
+      acknowledged = ap (λ (y : View). y.cycle.acked) is ∙ s.acknowledged;
       owns = own_tied a w s.own is s.owns;
       walks = walk_tied a w s.head s.word is s.walks;
       passes = pass_tied a w s.began s.first s.counted is s.passes;
@@ -44,7 +46,7 @@ returns-then-word-eq1-clause-steps c = let same : c.args.words.now.size ≡ c.ar
 pub returns-then-word-eq1-clause-aside : goal.returns-then-word-eq1-clause-aside
 returns-then-word-eq1-clause-aside c = let same : c.args.words.now.size ≡ c.args.seat.now.seat.me.0.size = sym c.requires.fits.1 in let told = c.load-word.ensures.2.1 c.bucket-head.result (c.head_place-top.ensures.place ∙ ap (λ (y : Size). head_at y c.bucket-head.result) same) in
     let v : View = c.args.seat.now.seat.me.0 in
-    subst (Aside v) (sym (told.1 (λ e. let one = c.if-word-eq1.true in omega arith))) (record { gone = refl; size = refl; own = refl; fixed = refl; counts = refl; pass = refl; asked = refl; undealt = refl; cycle = refl; sweep = refl })
+    subst (Aside v) (sym (told.1 (λ e. let one = c.if-word-eq1.true in omega arith))) (record { gone = refl; size = refl; own = refl; fixed = refl; counts = refl; pass = refl; asked = refl; undealt = refl; cycle = refl; sweep = refl; risen = refl })
 
 pub returns-then-word-eq1-clause-held : goal.returns-then-word-eq1-clause-held
 returns-then-word-eq1-clause-held c = let same : c.args.words.now.size ≡ c.args.seat.now.seat.me.0.size = sym c.requires.fits.1 in let told = c.load-word.ensures.2.1 c.bucket-head.result (c.head_place-top.ensures.place ∙ ap (λ (y : Size). head_at y c.bucket-head.result) same) in
@@ -63,6 +65,10 @@ pub walk_chain-requires-clause-none : goal.walk_chain-requires-clause-none
 walk_chain-requires-clause-none c = let same : c.args.words.now.size ≡ c.args.seat.now.seat.me.0.size = sym c.requires.fits.1 in let told = c.load-word.ensures.2.1 c.bucket-head.result (c.head_place-top.ensures.place ∙ ap (λ (y : Size). head_at y c.bucket-head.result) same) in
     ap (λ (y : View). y.own) (told.0 (let ne = c.if-word-eq1.false in omega arith)) ∙ c.requires.none
 
+pub walk_chain-requires-clause-walking : goal.walk_chain-requires-clause-walking
+walk_chain-requires-clause-walking c = let same : c.args.words.now.size ≡ c.args.seat.now.seat.me.0.size = sym c.requires.fits.1 in let told = c.load-word.ensures.2.1 c.bucket-head.result (c.head_place-top.ensures.place ∙ ap (λ (y : Size). head_at y c.bucket-head.result) same) in
+    subst (λ (y : View). Walking y) (sym (told.0 (let ne = c.if-word-eq1.false in omega arith))) c.requires.walking
+
 pub walk_chain-requires-clause-walk : goal.walk_chain-requires-clause-walk
 walk_chain-requires-clause-walk c = let same : c.args.words.now.size ≡ c.args.seat.now.seat.me.0.size = sym c.requires.fits.1 in let told = c.load-word.ensures.2.1 c.bucket-head.result (c.head_place-top.ensures.place ∙ ap (λ (y : Size). head_at y c.bucket-head.result) same) in
     let x : ℕ = c.load-word.result in
@@ -75,6 +81,7 @@ invariant_of-seat-2 c = let same : c.args.words.now.size ≡ c.args.seat.now.sea
     let inside : h < c.args.words.now.size.heads = let m = c.bucket-head.ensures.small in let ok = c.args.words.now.allowed in omega arith in record {
       slotless = c.walk_chain.ensures.same.2 ∙ (c.load-word.ensures.2.0 ∙ s.slotless);
       numbered = ap (λ y. y.engine) a.cycle ∙ s.numbered;
+      acknowledged = ap (λ y. y.acked) a.cycle ∙ s.acknowledged;
       owns = (ap (own_slot s.own) a.own ∙ s.owns.0, subst (λ (y : Size). s.own < y.slots) (sym a.size) s.owns.1);
       walks = (t.0, t.1, subst (λ (y : Size). h < y.heads) (same ∙ sym a.size) inside);
       passes = same_passes v w s.began s.first s.counted a.pass s.passes;

@@ -1,4 +1,4 @@
-use Rattle.std.proofs.Common.{◌≡◌, ℕ, List, [], length}
+use Rattle.std.proofs.Common.{◌≡◌, List, [], length}
 use Rattle.atom_words.specs.Kinds.{after}
 use Rattle.bucket_rows.specs.Walks.{Passed, passes, Others}
 use Rattle.bucket_rows.specs.Standing.{Standing}

@@ -1,23 +1,16 @@
-use Rattle.std.proofs.Common.{◌<◌, None, arith}
-use Rattle.builtin_names.proofs.Telling.{named, rows, shares, constructs, nothing}
+use Rattle.std.proofs.Common.{◌≡◌, [], get_or, ap, ◌∙◌}
+use Rattle.builtin_names.specs.Tables.{table, with_count, predicate_at}
+use Rattle.builtin_names.proofs.Telling.{named, rows, shares, constructs, kept_names}
 use Rattle.builtin_names.proofs.names.predicate_of.Goals as goal
 
-pub returns-then-slot-clause-rows : goal.returns-then-slot-clause-rows
-returns-then-slot-clause-rows c =
-    let above : 192 < c.args.name = omega arith in rows c.args.name c.args.arity None (nothing c.args.name c.args.arity above)
-
-pub returns-then-slot-clause-shares : goal.returns-then-slot-clause-shares
-returns-then-slot-clause-shares c =
-    let above : 192 < c.args.name = omega arith in shares c.args.name c.args.arity None (nothing c.args.name c.args.arity above)
-
-pub returns-then-slot-clause-constructs : goal.returns-then-slot-clause-constructs
-returns-then-slot-clause-constructs c =
-    let above : 192 < c.args.name = omega arith in constructs c.args.name c.args.arity None (nothing c.args.name c.args.arity above)
+found : (c : goal.After-with_count) → c.with_count.result ≡ predicate_at c.args.name c.args.arity
+unfolding table
+found c = c.with_count.ensures ∙ ap (with_count c.args.arity) (c.row_at.ensures ∙ ap (λ k. get_or table k []) c.slot.ensures)
 
 pub returns : goal.returns
 returns c =
     let a = c.args.name in
     let n = c.args.arity in
     let o = c.with_count.result in
-    let e = c.with_count.ensures in
-    record { named = named a n o e; rows = rows a n o e; shares = shares a n o e; constructs = constructs a n o e }
+    let e = found c in
+    record { named = named a n o e; rows = rows a n o e; shares = shares a n o e; constructs = constructs a n o e; reserved = kept_names a n o e }

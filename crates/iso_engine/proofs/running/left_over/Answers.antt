@@ -1,12 +1,25 @@
-use Rattle.iso_engine.proofs.Unbuilt.{builtin_missing, kind_missing}
+use Rattle.iso_engine.proofs.Unbuilt.{kind_missing, left_call, left_row, left_other}
 use Rattle.iso_engine.proofs.running.left_over.Goals as goal
 
-pub returns-then-is_builtin : goal.returns-then-is_builtin
-returns-then-is_builtin c =
-    builtin_missing c.args.store.now c.args.goal c.args.procedure c.args.kind c.is_other.result c.is_builtin.result c.requires.procedure c.requires.stands
-    c.requires.apart c.is_other.ensures c.if-is_other.true c.is_builtin.ensures c.if-is_builtin.true
+pub returns-in-Row : goal.returns-in-Row
+returns-in-Row c =
+    let b = c.builtin_at in
+    left_row c.args.store.now c.args.goal c.args.procedure c.args.kind c.is_other.result c.requires.procedure c.requires.stands c.is_other.ensures b.result
+    c.in-Row.row c.if-is_other.true b.ensures c.in-Row.is
+
+pub returns-in-Other : goal.returns-in-Other
+returns-in-Other c =
+    let b = c.builtin_at in
+    left_other c.args.store.now c.args.goal c.args.procedure c.args.kind c.is_other.result c.requires.procedure c.requires.stands c.is_other.ensures b.result
+    c.if-is_other.true b.ensures c.in-Other.is
+
+pub returns-in-No : goal.returns-in-No
+returns-in-No c =
+    let b = c.builtin_at in
+    left_call c.args.store.now c.args.goal c.args.procedure c.args.kind c.is_other.result c.requires.procedure c.requires.stands c.is_other.ensures b.result
+    c.requires.holds c.requires.callable c.if-is_other.true b.ensures c.in-No.is
 
 pub returns-else-is_write : goal.returns-else-is_write
 returns-else-is_write c =
-    kind_missing c.args.store.now c.args.goal c.args.procedure c.args.kind c.is_other.result c.is_write.result c.requires.procedure c.requires.stands
-    c.requires.left c.requires.apart c.is_other.ensures c.if-is_other.false c.is_write.ensures c.if-is_write.false
+    kind_missing c.args.store.now c.args.goal c.args.procedure c.args.kind c.is_other.result c.requires.procedure c.requires.stands c.is_other.ensures
+    c.is_write.result c.requires.left c.if-is_other.false c.is_write.ensures c.if-is_write.false

@@ -18,6 +18,6 @@ returns-in-None-clause-row c m p stands held known =
     let t = c.take_room.new.store in
     let ps = c.args.places in
     let same = none_of _ c.in_ok-row.field-0 c.in-None.is c.in_ok-row.ensures.taken in
-    answer_given s c.args.next (proc p c.args.arity) m t (plain_answer (terms_at m s ps.items)) ps (omega arith)
+    answer_given s c.args.next (proc p c.args.arity) m t (plain_answer (terms_at m s ps.items)) ps zero refl (omega arith)
     (none_of _ c.in_ok-row.field-0 c.in-None.is c.in_ok-row.ensures.cells)
     (terms_still m s t zero ps.items same) (makes_room s t c.args.next zero same) (placed_still m s t zero ps.items same c.requires held)

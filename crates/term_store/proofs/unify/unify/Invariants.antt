@@ -2,6 +2,7 @@ use Rattle.std.proofs.Common.{[]}
 use Rattle.std.specs.List.{All}
 use Rattle.term_store.specs.Apart.{IsApart}
 use Rattle.term_store.specs.Cells.{IsFit, heap_of}
+use Rattle.term_store.specs.Meeting.{IsMet}
 use Rattle.term_store.specs.Unifying.{IsPairIn, Grown, Goes}
 use Rattle.term_store.proofs.unify.unify.Given as goal
 
@@ -11,6 +12,7 @@ invariant-loop l =
       fit : IsFit l.cells;
       apart : IsApart (heap_of l.cells) l.older;
       grown : Grown (heap_of l.fn.cells) (heap_of l.cells);
-      pairs : All (IsPairIn (heap_of l.cells)) l.pending.items;
-      goes : Goes (heap_of l.fn.cells) [] l.fn.left l.fn.right (heap_of l.cells) l.pending.items;
+      pairs : All (IsPairIn (heap_of l.cells)) l.pending.pairs.items;
+      goes : Goes (heap_of l.fn.cells) [] l.fn.left l.fn.right (heap_of l.cells) l.pending.pairs.items;
+      met : All (IsMet (heap_of l.cells) l.pending.pairs.items) l.pending.met.list.items;
     }

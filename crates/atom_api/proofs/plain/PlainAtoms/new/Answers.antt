@@ -1,5 +1,5 @@
 use Rattle.std.proofs.Common.{◌≡◌, ◌≤◌, ℕ, List, length, sym, ap, ◌∙◌, arith, Some, None, Option}
-use Rattle.atom_api.specs.Fixed.{fixed}
+use Rattle.atom_api.specs.Fixed.{fixed, fixed_count}
 use Rattle.atom_api.specs.Names.{Names, with_name}
 use Rattle.atom_api.specs.Slots.{names_of}
 use Rattle.atom_api.proofs.FixedTexts.{fixed_within}
@@ -44,12 +44,12 @@ loop-row-preserved c =
 
 pub invariant_of-result : goal.invariant_of-result
 invariant_of-result c =
-    let count : length c.deref-row-items.result.now ≡ 193 = rows_count c.deref-row-items.result.now c.in_ok-rows.rows.items c.deref-row-items.ensures.value c.in_ok-rows.ensures in
-    let all : 193 ≤ c.loop-row.row-index = omega arith in
+    let count : length c.deref-row-items.result.now ≡ fixed_count = rows_count c.deref-row-items.result.now c.in_ok-rows.rows.items c.deref-row-items.ensures.value c.in_ok-rows.ensures in
+    let all : fixed_count ≤ c.loop-row.row-index = omega arith in
     record { fixed_stand = λ a t e. c.loop-row.invariant.names a ∙ first_all c.loop-row.row-index a all ∙ e }
 
 pub returns : goal.returns
 returns c =
-    let count : length c.deref-row-items.result.now ≡ 193 = rows_count c.deref-row-items.result.now c.in_ok-rows.rows.items c.deref-row-items.ensures.value c.in_ok-rows.ensures in
-    let all : 193 ≤ c.loop-row.row-index = omega arith in
+    let count : length c.deref-row-items.result.now ≡ fixed_count = rows_count c.deref-row-items.result.now c.in_ok-rows.rows.items c.deref-row-items.ensures.value c.in_ok-rows.ensures in
+    let all : fixed_count ≤ c.loop-row.row-index = omega arith in
     λ a. c.loop-row.invariant.names a ∙ first_all c.loop-row.row-index a all

@@ -1,14 +1,18 @@
-use Rattle.std.proofs.Common.{◌≡◌, ◌∙◌}
+use Rattle.std.proofs.Common.{◌≡◌, ◌∙◌, inl}
 use Rattle.atom_words.specs.Texts.{bucket}
 use Rattle.atom_words.specs.Seats.{seen}
 use Rattle.bucket_rows.specs.Walks.{spelled}
 use Rattle.atom_table.specs.Opening.{fixed_slots}
 use Rattle.atom_table.proofs.Naming.{lawful, interns_by, asked_by}
+use Rattle.atom_table.proofs.Settling.{engine_by}
 use Rattle.atom_table.proofs.atoms.TableAtomsAtoms.intern.Goals as goal
 
 pub invariant_of-self : goal.invariant_of-self
 invariant_of-self c = let s = c.args.self.now in let t = c.intern.new.seat in let fixed : (seen t).fixed ≡ fixed_slots = c.intern.ensures.rest.fixed ∙ s.fixed in
-    record { sits = c.intern.ensures.sits; fixed = fixed; lawful = lawful s.table.now.words t c.intern.ensures.sits fixed }
+    record { sits = c.intern.ensures.sits; engine = engine_by (seen s.seat) (seen t) c.intern.ensures.rest.cycle c.intern.ensures.rest.sweep s.engine; fixed = fixed; lawful = lawful s.table.now.words t c.intern.ensures.sits fixed }
+
+pub intern-requires-clause-walking : goal.intern-requires-clause-walking
+intern-requires-clause-walking c = let e = c.args.self.now.engine in (inl e.0, e.1)
 
 pub returns-clause-answer : goal.returns-clause-answer
 returns-clause-answer c = let s = c.args.self.now in let t = c.args.text.now in

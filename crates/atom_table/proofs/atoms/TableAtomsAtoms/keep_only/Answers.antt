@@ -1,5 +1,6 @@
-use Rattle.std.proofs.Common.{◌≡◌, ap, ◌∙◌, Some}
+use Rattle.std.proofs.Common.{◌≡◌, sym, ap, ◌∙◌, subst, Some}
 use Rattle.atom_words.specs.Seats.{seen}
+use Rattle.atom_table.specs.Holding.{IsEngine}
 use Rattle.atom_words.specs.declared.view.View.{View}
 use Rattle.atom_table.specs.Opening.{fixed_slots}
 use Rattle.atom_table.specs.Naming.{requests}
@@ -8,7 +9,7 @@ use Rattle.atom_table.proofs.atoms.TableAtomsAtoms.keep_only.Goals as goal
 
 pub invariant_of-self : goal.invariant_of-self
 invariant_of-self c = let s = c.args.self.now in let t = c.keep.new.seat in let fixed : (seen t).fixed ≡ fixed_slots = ap (λ (y : View). y.fixed) c.keep.ensures.steps ∙ s.fixed in
-    let sits = sits_kept s.table.now.words c.args.live.now s.seat t c.keep.ensures.same c.keep.ensures.steps s.sits in record { sits = sits; fixed = fixed; lawful = lawful s.table.now.words t sits fixed }
+    let sits = sits_kept s.table.now.words c.args.live.now s.seat t c.keep.ensures.same c.keep.ensures.steps s.sits in record { sits = sits; engine = subst (λ (y : View). IsEngine y) (sym c.keep.ensures.steps) s.engine; fixed = fixed; lawful = lawful s.table.now.words t sits fixed }
 
 pub returns-clause-kept : goal.returns-clause-kept
 returns-clause-kept c = let s = c.args.self.now in names_kept c.args.live.now (seen s.seat) (seen c.keep.new.seat) c.keep.ensures.steps s.fixed

@@ -6,6 +6,7 @@ use Rattle.atom_table.specs.Opening.{fixed_slots}
 use Rattle.atom_table.specs.Holding.{unspelled}
 use Rattle.atom_table.specs.Naming.{names, requests}
 use Rattle.atom_table.proofs.Loading.{loads_keep}
+use Rattle.atom_table.proofs.Settling.{engine_by}
 use Rattle.atom_table.proofs.Naming.{lawful, held_text}
 use Rattle.atom_table.proofs.Spelling.{unspelled_spelled}
 use Rattle.atom_table.proofs.atoms.TableAtomsAtoms.text.Goals as goal
@@ -16,7 +17,8 @@ text-requires-clause-held c = let s = c.args.self.now in let p = held_text (seen
 pub invariant_of-self : goal.invariant_of-self
 invariant_of-self c = let s = c.args.self.now in let t = c.text.new.seat in let e = c.text.ensures.steps in let at : ℕ = text_at s.table.now.words.size (32 * c.args.a) in
     let fixed : (seen t).fixed ≡ fixed_slots = ap (λ (y : View). y.fixed) e.1 ∙ (loads_keep (λ (y : View). y.fixed) (λ _ _ _. refl) (seen s.seat) at e.0 ∙ s.fixed) in
-    record { sits = c.text.ensures.sits; fixed = fixed; lawful = lawful s.table.now.words t c.text.ensures.sits fixed }
+    let v = seen s.seat in let engine = engine_by v (seen t) (ap (λ (y : View). y.cycle) e.1 ∙ loads_keep (λ (y : View). y.cycle) (λ _ _ _. refl) v at e.0) (ap (λ (y : View). y.sweep) e.1 ∙ loads_keep (λ (y : View). y.sweep) (λ _ _ _. refl) v at e.0) s.engine in
+    record { sits = c.text.ensures.sits; engine = engine; fixed = fixed; lawful = lawful s.table.now.words t c.text.ensures.sits fixed }
 
 pub returns-clause-text : goal.returns-clause-text
 returns-clause-text c = let s = c.args.self.now in let p = held_text (seen s.seat) c.args.a c.requires in let told = c.text.ensures.text p.1 p.2 p.3 in

@@ -1,6 +1,6 @@
-use Rattle.std.proofs.Common.{◌≡◌, ◌<◌, ℕ, [], ◌∷◌, sym, ap, ◌∙◌, subst}
+use Rattle.std.proofs.Common.{◌≡◌, ◌<◌, ℕ, sym, ap, ◌∙◌, subst}
 use Rattle.atom_words.specs.Board.{atom_at}
-use Rattle.atom_words.specs.Kinds.{counted, view_after, after}
+use Rattle.atom_words.specs.Kinds.{view_after}
 use Rattle.atom_words.specs.Seats.{seen}
 use Rattle.atom_words.specs.declared.size.Size.{Size}
 use Rattle.atom_words.specs.declared.view.View.{View}
@@ -18,7 +18,7 @@ fetch_or-requires c = let words = c.args.self.now.words in let s = c.args.seat.n
   c.requires.sits.0.0,
   c.atom_place-place.ensures.inside,
   fetching words.table.shared.key words.table.shared.table_id.slots s.seat.id s.seat.me (words.keyed ∙ same) c.requires.sits.0.2 c.atom_place-place.result c.args.a q.0
-      (c.atom_place-place.ensures.place ∙ (λ i. atom_at (same i) (c.slot.ensures i))) (counted_inside (seen s) q.0 c.args.a q.1 q.2 c.requires.sits.2) q.1 q.2,
+      (c.atom_place-place.ensures.place ∙ (λ i. atom_at (same i) (c.slot.ensures i))) (counted_inside (seen s) q.0 c.args.a q.1 q.2 c.requires.sits.2) q.1 q.2 c.requires.sitting,
 )
 
 pub invariant_of-seat : goal.invariant_of-seat
@@ -26,6 +26,7 @@ invariant_of-seat c = let words = c.args.self.now.words in let s = c.args.seat.n
     let is : w ≡ a = (c.fetch_or.ensures.2.1 c.args.a (c.atom_place-place.ensures.place ∙ (λ i. atom_at (same i) (c.slot.ensures i)))).0 in record {
       slotless = c.fetch_or.ensures.2.0 ∙ s.slotless;
       numbered = ap (λ (y : View). y.cycle.engine) is ∙ s.numbered;
+      acknowledged = ap (λ (y : View). y.cycle.acked) is ∙ s.acknowledged;
       owns = own_tied a w s.own is s.owns;
       walks = walk_tied a w s.head s.word is s.walks;
       passes = pass_tied a w s.began s.first s.counted is s.passes;

@@ -1,11 +1,11 @@
 use Rattle.std.proofs.Common.{◌≡◌, ℕ, ◌<◌, List, [], ◌∷◌, ◌++◌, refl, sym, ap, ◌∙◌, subst, Some, None, Ok, Option}
 use Rattle.atom_words.specs.Texts.{bucket}
 use Rattle.atom_words.specs.Plays.{Alone}
-use Rattle.atom_words.specs.Seats.{seen}
+use Rattle.atom_words.specs.Seats.{seen, Walking}
+use Rattle.bucket_rows.proofs.Reading.{walking_as}
 use Rattle.atom_words.specs.declared.size.Size.{Size}
 use Rattle.atom_words.specs.declared.view.View.{View}
 use Rattle.bucket_rows.specs.Walks.{spelled, Missing, held_after}
-use Rattle.atom_table.specs.Holding.{Told}
 use Rattle.atom_table.proofs.Telling.{found_told, later_told}
 use Rattle.atom_table.proofs.table.AtomTable.intern_short.Goals as goal
 
@@ -19,3 +19,9 @@ returns-in-Some-clause-told c = let t = c.args.text.now in let row : List ℕ = 
 pub returns-in-None-clause-told : goal.returns-in-None-clause-told
 returns-in-None-clause-told c = let t = c.args.text.now in let row : List ℕ = spelled t in let v : View = seen c.args.seat.now in let u : View = seen c.ask.new.seat in let x : View = seen c.walk.new.seat in
     later_told t (bucket 8 row) c.requires.short v u x c.ask.ensures.steps c.walk.ensures.aside (c.in-Ok.ensures.held ∙ ap (λ (o : Option ℕ). held_after row u (Ok o)) c.in-None.is) c.in-Ok.ensures.refused c.make.result (seen c.make.new.seat) c.make.ensures.told
+
+pub walk-requires-clause-walking : goal.walk-requires-clause-walking
+walk-requires-clause-walking c = subst (λ (y : View). Walking y) (sym c.ask.ensures.steps) c.requires.walking
+
+pub make-requires-clause-walking : goal.make-requires-clause-walking
+make-requires-clause-walking c = walking_as (seen c.ask.new.seat) (seen c.walk.new.seat) c.walk.ensures.aside (subst (λ (y : View). Walking y) (sym c.ask.ensures.steps) c.requires.walking)

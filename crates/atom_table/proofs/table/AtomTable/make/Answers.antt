@@ -1,4 +1,4 @@
-use Rattle.std.proofs.Common.{◌≡◌, ℕ, ◌<◌, ◌≤◌, ◌/◌, ◌%◌, List, [], ◌∷◌, ◌++◌, refl, sym, ap, ◌∙◌, subst, arith, Some, None, IfOk}
+use Rattle.std.proofs.Common.{◌≡◌, ℕ, ◌<◌, ◌≤◌, ◌/◌, ◌%◌, List, [], ◌∷◌, ◌++◌, sym, ap, ◌∙◌, subst, arith, Some, IfOk}
 use Rattle.std.proofs.Math.Nat.{mod-lt}
 use Rattle.atom_words.specs.Layout.{version_of}
 use Rattle.atom_words.specs.Texts.{bucket}
@@ -12,6 +12,7 @@ use Rattle.bucket_rows.specs.Walks.{spelled}
 use Rattle.bucket_rows.proofs.Reading.{missing_as}
 use Rattle.atom_table.specs.Interning.{MakesBy}
 use Rattle.atom_table.specs.Holding.{Told}
+use Rattle.atom_table.proofs.Settling.{sitting_by}
 use Rattle.atom_table.proofs.Telling.{took, full_told, slot_told, slot_asked, slot_steps}
 use Rattle.atom_table.proofs.table.AtomTable.make.Goals as goal
 
@@ -26,6 +27,10 @@ add_text-requires-clause-fits c = let s = took (c.hash.result / 256 % c.args.sel
 pub add_text-requires-clause-missing : goal.add_text-requires-clause-missing
 add_text-requires-clause-missing c = let row : List ℕ = spelled c.args.text.now in let s = took (c.hash.result / 256 % c.args.self.now.words.size.slots) (seen c.args.seat.now) (seen c.take_slot.new.seat) tt c.in-Ok.ensures.steps in
     missing_as row (bucket 8 row) (seen c.args.seat.now) (seen c.take_slot.new.seat) s.walk c.requires.missing
+
+pub add_text-requires-clause-sitting : goal.add_text-requires-clause-sitting
+add_text-requires-clause-sitting c = let v : View = seen c.args.seat.now in let u : View = seen c.take_slot.new.seat in let s = took (c.hash.result / 256 % c.args.self.now.words.size.slots) v u tt c.in-Ok.ensures.steps in
+    sitting_by v u s.beside.cycle s.beside.undealt c.requires.walking.0
 
 pub returns-in-Ok-clause-told : goal.returns-in-Ok-clause-told
 returns-in-Ok-clause-told c = let t = c.args.text.now in let h : ℕ = bucket 8 (spelled t) in let v : View = seen c.args.seat.now in let u : View = seen c.take_slot.new.seat in let w : View = seen c.add_text.new.seat in let m = c.requires.missing in

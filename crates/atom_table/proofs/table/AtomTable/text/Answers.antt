@@ -4,7 +4,6 @@ use Rattle.pl_term.specs.Tree.{Chars}
 use Rattle.pl_term.specs.Texts.{size}
 use Rattle.atom_words.specs.Board.{text_at}
 use Rattle.atom_words.specs.Kinds.{after}
-use Rattle.atom_words.specs.Seats.{seen}
 use Rattle.atom_words.specs.declared.size.Size.{Size}
 use Rattle.atom_words.specs.declared.view.View.{View}
 use Rattle.atom_words.proofs.Putting.{row_length}
@@ -23,6 +22,7 @@ invariant_of-seat c = let s = c.args.seat.now in let v : View = s.seat.me.0 in l
     let size : w.size ≡ v.size = ap (λ (y : View). y.size) is ∙ loads_keep (λ (y : View). y.size) (λ _ _ _. refl) v p xs in record {
       slotless = c.read_row-row.ensures.same.2 ∙ s.slotless;
       numbered = ap (λ (y : View). y.cycle.engine) is ∙ (loads_keep (λ (y : View). y.cycle.engine) (λ _ _ _. refl) v p xs ∙ s.numbered);
+      acknowledged = ap (λ (y : View). y.cycle.acked) is ∙ (loads_keep (λ (y : View). y.cycle.acked) (λ _ _ _. refl) v p xs ∙ s.acknowledged);
       owns = same_owns v w s.own (ap (λ (y : View). y.own) is ∙ loads_keep (λ (y : View). y.own) (λ _ _ _. refl) v p xs) size s.owns;
       walks = same_walks v w s.head s.word (ap (λ (y : View). y.walk) is ∙ loads_keep (λ (y : View). y.walk) (λ _ _ _. refl) v p xs) size s.walks;
       passes = same_passes v w s.began s.first s.counted (ap (λ (y : View). y.pass) is ∙ loads_keep (λ (y : View). y.pass) (λ _ _ _. refl) v p xs) s.passes;

@@ -9,5 +9,5 @@ pub split_seat-requires : goal.split_seat-requires
 split_seat-requires c = let v : View = c.args.seat.now.seat.me.0 in (
   c.requires.fits.0,
   omega (arith, c.args.self.now.counted),
-  split_at c.args.self.now.table.shared.key c.args.seat.now.seat.id v (with_one_dealt v) (engine_of v) c.requires.fits.2 (engine (subst (λ (n : ℕ). 0 < n) (sym c.requires.engine.0) c.requires.engine.1)),
+  split_at c.args.self.now.table.shared.key c.args.seat.now.seat.id v (with_one_dealt v) (engine_of v) c.requires.fits.2 (engine (subst (λ (n : ℕ). 0 < n) (sym c.requires.engine.0) c.requires.engine.1) c.requires.none),
 )

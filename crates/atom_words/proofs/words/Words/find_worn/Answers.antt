@@ -29,6 +29,7 @@ invariant_of-seat c = let same : c.args.self.now.size ≡ c.args.seat.now.seat.m
     let is : (w ≡ a) ⊎ (w ≡ b) = dite (dec_le worn (version_of x)) (λ le. inl (told.0 le)) (λ gt. inr (told.1 (omega arith))) in record {
       slotless = c.load-word.ensures.2.0 ∙ s.slotless;
       numbered = ⊎_elim (λ (e : w ≡ a). ap (λ (y : View). y.cycle.engine) e ∙ s.numbered) (λ (e : w ≡ b). ap (λ (y : View). y.cycle.engine) e ∙ s.numbered) is;
+      acknowledged = ⊎_elim (λ (e : w ≡ a). ap (λ (y : View). y.cycle.acked) e ∙ s.acknowledged) (λ (e : w ≡ b). ap (λ (y : View). y.cycle.acked) e ∙ s.acknowledged) is;
       owns = ⊎_elim (λ (e : w ≡ a). own_tied a w s.own e s.owns) (λ (e : w ≡ b). own_tied b w s.own e s.owns) is;
       walks = ⊎_elim (λ (e : w ≡ a). walk_tied a w s.head s.word e s.walks) (λ (e : w ≡ b). walk_tied b w s.head s.word e s.walks) is;
       passes = ⊎_elim (λ (e : w ≡ a). pass_tied a w s.began s.first s.counted e s.passes) (λ (e : w ≡ b). pass_tied b w s.began s.first s.counted e s.passes) is;

@@ -22,6 +22,7 @@ invariant_of-seat c = let same : c.args.self.now.size ≡ c.args.seat.now.seat.m
     let f = guarding c.args.slot c.fetch_or-found.result in let s = c.args.seat.now in record {
       slotless = c.fetch_or-found.ensures.2.0 ∙ s.slotless;
       numbered = ap (λ (y : View). y.cycle.engine) is ∙ s.numbered;
+      acknowledged = ap (λ (y : View). y.cycle.acked) is ∙ s.acknowledged;
       owns = own_tied (view_after v (Protect c.args.slot c.fetch_or-found.result)) w s.own is s.owns;
       walks = walk_tied (view_after v (Protect c.args.slot c.fetch_or-found.result)) w s.head s.word is (walk_head_on f v.walk s.head (λ x. refl) s.walks.0, walk_word_on f v.walk s.word (λ x. refl) s.walks.1, s.walks.2);
       passes = pass_tied (view_after v (Protect c.args.slot c.fetch_or-found.result)) w s.began s.first s.counted is s.passes;

@@ -17,6 +17,7 @@ invariant_of-seat c = let s = c.args.seat.now in let v : View = s.seat.me.0 in l
     let slot : o.slot ≡ s.own = ap (own_slot s.own) (sym c.requires.own.1) ∙ s.owns.0 in record {
       slotless = c.put_words.ensures.same.2 ∙ s.slotless;
       numbered = ap (λ (y : View). y.cycle.engine) is ∙ (puts_keep (λ (y : View). y.cycle.engine) (λ _ _. refl) v row ∙ s.numbered);
+      acknowledged = ap (λ (y : View). y.cycle.acked) is ∙ (puts_keep (λ (y : View). y.cycle.acked) (λ _ _. refl) v row ∙ s.acknowledged);
       owns = (ap (λ (y : View). own_slot s.own y.own) is ∙ (ap (own_slot s.own) (puts_own v o row c.requires.own.1) ∙ slot), subst (λ (y : Size). s.own < y.slots) (sym size) s.owns.1);
       walks = same_walks v w s.head s.word walk size s.walks;
       passes = same_passes v w s.began s.first s.counted pass s.passes;

@@ -10,21 +10,23 @@ use Rattle.atom_words.specs.Plays.{head_raised}
 use Rattle.atom_words.specs.declared.size.Size.{Size}
 use Rattle.atom_words.specs.declared.view.View.{View}
 use Rattle.atom_words.specs.declared.kind.Kind.TheVariants.{Load}
-use Rattle.atom_words.proofs.Steps.{raising}
-use Rattle.atom_words.proofs.WalkSteps.{loading}
+use Rattle.atom_words.proofs.Steps.{raising, seeing_risen}
 use Rattle.atom_words.proofs.words.Words.raise_head.Goals as goal
 
 pub load-word-requires : goal.load-word-requires
 load-word-requires c = let same : c.args.self.now.size ≡ c.args.seat.now.me.0.size = sym c.requires.fits.1 in (
   c.requires.fits.0,
   c.head_place-place.ensures.inside,
-  loading c.args.self.now.table.shared.key c.args.self.now.table.shared.table_id.slots c.args.seat.now.id c.args.seat.now.me (c.args.self.now.keyed ∙ same) c.requires.fits.2 c.head_place-place.result,
+  seeing_risen c.args.self.now.table.shared.key c.args.self.now.table.shared.table_id.slots c.args.seat.now.id c.args.seat.now.me (c.args.self.now.keyed ∙ same) c.requires.fits.2 c.head_place-place.result c.args.head
+      (c.head_place-place.ensures.place ∙ ap (λ (y : Size). head_at y c.args.head) same) (subst (λ (y : Size). c.args.head < y.heads) same c.requires.head),
 )
 
 pub compare_exchange-found-requires : goal.compare_exchange-found-requires
 compare_exchange-found-requires c = let v : View = c.args.seat.now.me.0 in let u : View = c.load-word.new.seat.me.0 in let word : ℕ = c.load-word.result in let i : ℕ = c.head_place-place.result in
-    let is : u ≡ view_after v (Load i word) = c.load-word.ensures.2.1 in let size : c.args.self.now.size ≡ u.size = sym c.requires.fits.1 ∙ sym (ap (λ (y : View). y.size) is) in
-    let start : ℕ = c.args.self.now.size.start in
+    let same : c.args.self.now.size ≡ v.size = sym c.requires.fits.1 in let h : ℕ = c.args.head in let start : ℕ = c.args.self.now.size.start in
+    let below : version_of word < v.size.start = subst (λ (y : Size). version_of word < y.start) same (let no = c.if-word-self.false in omega arith) in
+    let is : u ≡ view_after v (Load (head_at v.size h) word) = (c.load-word.ensures.2.1 h (c.head_place-place.ensures.place ∙ ap (λ (y : Size). head_at y h) same)).1 below in
+    let size : c.args.self.now.size ≡ u.size = sym c.requires.fits.1 ∙ sym (ap (λ (y : View). y.size) is) in
     let new : raised u.size.start word ≡ word % 4194304 + 4194304 * start =
     (let plain : raised start word ≡ word % 4194304 + 4194304 * start = omega arith in ap (λ (y : Size). raised y.start word) (sym size) ∙ plain) in
     let low : version_of word < start = (let no = c.if-word-self.false in omega arith) in
@@ -40,9 +42,9 @@ pub returns-else-found-word-clause-steps : goal.returns-else-found-word-clause-s
 returns-else-found-word-clause-steps c = let v : View = c.args.seat.now.me.0 in let u : View = c.load-word.new.seat.me.0 in let word : ℕ = c.load-word.result in let found : ℕ = c.compare_exchange-found.result in let h : ℕ = c.args.head in
     let same : c.args.self.now.size ≡ v.size = sym c.requires.fits.1 in
     let place : c.head_place-place.result ≡ head_at v.size h = c.head_place-place.ensures.place ∙ ap (λ (y : Size). head_at y h) same in
-    let is : u ≡ view_after v (Load (head_at v.size h) word) = c.load-word.ensures.2.1 ∙ ap (λ (n : ℕ). view_after v (Load n word)) place in
-    let at : c.head_place-place.result ≡ head_at u.size h = place ∙ sym (ap (λ (y : View). head_at y.size h) is) in
-    let low : version_of word < v.size.start = subst (λ (y : Size). version_of word < y.start) same (let no = c.if-word-self.false in omega arith) in (
+    let low : version_of word < v.size.start = subst (λ (y : Size). version_of word < y.start) same (let no = c.if-word-self.false in omega arith) in
+    let is : u ≡ view_after v (Load (head_at v.size h) word) = (c.load-word.ensures.2.1 h place).1 low in
+    let at : c.head_place-place.result ≡ head_at u.size h = place ∙ sym (ap (λ (y : View). head_at y.size h) is) in (
       word,
       low,
       c.if-found-word.false,

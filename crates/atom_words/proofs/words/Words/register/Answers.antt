@@ -23,6 +23,7 @@ invariant_of-seat c = let same : c.args.self.now.size ≡ c.args.seat.now.seat.m
     let is : w ≡ view_after v (Register a) = c.fetch_add.ensures.2.1 a c.requires.held.1 (c.atom_place-place.ensures.place ∙ (λ i. atom_at (same i) (slot i))) in let s = c.args.seat.now in record {
       slotless = c.fetch_add.ensures.2.0 ∙ s.slotless;
       numbered = ap (λ (y : View). y.cycle.engine) is ∙ s.numbered;
+      acknowledged = ap (λ (y : View). y.cycle.acked) is ∙ s.acknowledged;
       owns = own_tied (view_after v (Register a)) w s.own is s.owns;
       walks = walk_tied (view_after v (Register a)) w s.head s.word is s.walks;
       passes = pass_tied (view_after v (Register a)) w s.began s.first s.counted is s.passes;

@@ -21,6 +21,7 @@ invariant_of-seat c = let same : c.args.self.now.size ≡ c.args.seat.now.seat.m
     let is : w ≡ view_after v (Unregister c.args.slot) = c.fetch_sub.ensures.2.1 c.args.slot (c.atom_place-place.ensures.place ∙ ap (λ (y : Size). atom_at y c.args.slot) same) in let s = c.args.seat.now in record {
       slotless = c.fetch_sub.ensures.2.0 ∙ s.slotless;
       numbered = ap (λ (y : View). y.cycle.engine) is ∙ s.numbered;
+      acknowledged = ap (λ (y : View). y.cycle.acked) is ∙ s.acknowledged;
       owns = own_tied (view_after v (Unregister c.args.slot)) w s.own is s.owns;
       walks = walk_tied (view_after v (Unregister c.args.slot)) w s.head s.word is s.walks;
       passes = pass_tied (view_after v (Unregister c.args.slot)) w s.began s.first s.counted is s.passes;

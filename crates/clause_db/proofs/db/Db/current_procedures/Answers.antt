@@ -12,5 +12,5 @@ returns g c = λ d s.
     (λ ps e. e
     ∙ ap (λ l. listed_from c.args.g [] (map piece l)) c.as_slice.ensures.value
     ∙ ap (λ h. listed_from c.args.g [] h.parts) c.self.view_is
-    ∙ listed_is g.C.Kept.size c.args.self.now d s (subst (λ h. Apart (names h.parts)) c.self.view_is c.self.invariant.apart) c.args.g c.requires)
+    ∙ listed_is g.C.Kept.size c.args.self.now d s (subst (λ h. Apart (names h.parts)) c.self.view_is c.self.invariant.sound.apart) c.args.g c.requires)
     c.listed.ensures

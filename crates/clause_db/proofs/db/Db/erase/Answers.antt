@@ -11,8 +11,8 @@ use Rattle.clause_db.proofs.db.Db.erase.Goals as goal
 
 pub returns-in-Some-clause-was : goal.returns-in-Some-clause-was
 returns-in-Some-clause-was g c = λ d s.
-    let homed = subst (λ h. Homed g.C.Kept.size c.self.inside.homes 0 h.parts) c.self.view_is c.self.invariant.homed in
-    let apart = subst (λ h. Apart (names h.parts)) c.self.view_is c.self.invariant.apart in
+    let homed = subst (λ h. Homed g.C.Kept.size c.self.inside.homes 0 h.parts) c.self.view_is c.self.invariant.sound.homed in
+    let apart = subst (λ h. Apart (names h.parts)) c.self.view_is c.self.invariant.sound.apart in
     if_ok c.erase_at.result
     (λ b. b ≡ option_map_or (λ x. has_live c.args.clause x.clauses) (slice_get c.args.self.now.parts c.in-Some.home.now.part) false)
     (λ b. b ≡ is_there c.args.clause (d c.args.place))
@@ -21,8 +21,8 @@ returns-in-Some-clause-was g c = λ d s.
 
 pub returns-in-Some-clause-erased : goal.returns-in-Some-clause-erased
 returns-in-Some-clause-erased g c = λ d s.
-    let homed = subst (λ h. Homed g.C.Kept.size c.self.inside.homes 0 h.parts) c.self.view_is c.self.invariant.homed in
-    let apart = subst (λ h. Apart (names h.parts)) c.self.view_is c.self.invariant.apart in
+    let homed = subst (λ h. Homed g.C.Kept.size c.self.inside.homes 0 h.parts) c.self.view_is c.self.invariant.sound.homed in
+    let apart = subst (λ h. Apart (names h.parts)) c.self.view_is c.self.invariant.sound.apart in
     if_both c.erase_at.result
     (λ b. b ≡ option_map_or (λ x. has_live c.args.clause x.clauses) (slice_get c.args.self.now.parts c.in-Some.home.now.part) false)
     (λ b. b ≡ true → c.erase_at.new.self ≡ erased_held c.in-Some.home.now.part c.args.clause c.args.place c.in-Some.home.now.cells c.args.self.now)
@@ -33,4 +33,4 @@ returns-in-Some-clause-erased g c = λ d s.
 
 pub returns-in-None-clause-was : goal.returns-in-None-clause-was
 returns-in-None-clause-was g c = λ d s.
-    none_there c.args.clause c.args.place g.C.Kept.size c.args.self.now d s c.requires.later c.self.inside.homes (subst (λ h. Homed g.C.Kept.size c.self.inside.homes 0 h.parts) c.self.view_is c.self.invariant.homed) (sym c.in-None.ensures.value)
+    none_there c.args.clause c.args.place g.C.Kept.size c.args.self.now d s c.requires.later c.self.inside.homes (subst (λ h. Homed g.C.Kept.size c.self.inside.homes 0 h.parts) c.self.view_is c.self.invariant.sound.homed) (sym c.in-None.ensures.value)

@@ -1,5 +1,6 @@
 use Rattle.std.proofs.Common.{◌+◌, ◌≤◌, map, ap, sym, subst, ◌∙◌}
 use Rattle.pl_model.specs.Flags.{with_flag}
+use Rattle.std.specs.Arc.{arc_value}
 use Rattle.clause_db.specs.Flags.{flags_as, flag_name, value_name}
 use Rattle.clause_db.specs.Parts.{Held, piece}
 use Rattle.clause_db.specs.Stands.{StandsFor}
@@ -7,18 +8,22 @@ use Rattle.clause_db.proofs.Settings.{sound_set, stands_set}
 use Rattle.clause_db.proofs.db.Db.set_flag.Goals as goal
 
 pub invariant_of-self : goal.invariant_of-self
-invariant_of-self g c =
-    sound_set g.C.Kept.size c.self.inside.homes c.self.inside.next c.self.inside.floor c.args.place (map piece c.self.inside.parts.items) c.self.invariant
-    (subst (λ h. h.next ≤ c.args.place) (sym c.self.view_is) c.requires.later)
+invariant_of-self g c = record {
+  sound =
+      sound_set g.C.Kept.size c.self.inside.homes c.self.inside.next c.self.inside.floor c.args.place (map piece c.self.inside.parts.items) c.self.invariant.sound
+      (subst (λ h. h.next ≤ c.args.place) (sym c.self.view_is) c.requires.later);
+  indexed = c.self.invariant.indexed;
+  housed = c.self.invariant.housed;
+}
 
 pub returns-clause-set : goal.returns-clause-set
 returns-clause-set g c =
-    ap (λ f. record { parts = map piece c.self.inside.parts.items; used = c.self.inside.used; flags = f; operators = c.self.inside.operators; next = c.args.place + 1; floor = c.self.inside.floor })
+    ap (λ f. record { parts = map piece c.self.inside.parts.items; used = c.self.inside.used; flags = f; operators = (arc_value c.self.inside.operators); next = c.args.place + 1; floor = c.self.inside.floor })
     c.flags_with-self-inside.ensures
     ∙ ap (λ (h : Held g.row.C.Denot). record h { flags = with_flag (flag_name c.args.flag) (value_name c.args.value) h.flags; next = c.args.place + 1 }) c.self.view_is
 
 pub returns-clause-stands : goal.returns-clause-stands
 returns-clause-stands g c = λ d s.
     let flags = flags_as c.flags_with-self-inside.result in
-    subst (λ (h : Held g.row.C.Denot). StandsFor g.C.Kept.size (record h { flags = flags; operators = c.self.inside.operators; next = c.args.place + 1 }) d) (sym c.self.view_is)
-    (stands_set g.C.Kept.size c.args.self.now d flags c.self.inside.operators c.args.place c.requires.later s)
+    subst (λ (h : Held g.row.C.Denot). StandsFor g.C.Kept.size (record h { flags = flags; operators = (arc_value c.self.inside.operators); next = c.args.place + 1 }) d) (sym c.self.view_is)
+    (stands_set g.C.Kept.size c.args.self.now d flags (arc_value c.self.inside.operators) c.args.place c.requires.later s)

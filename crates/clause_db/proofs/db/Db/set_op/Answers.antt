@@ -1,4 +1,5 @@
 use Rattle.std.proofs.Common.{◌+◌, ◌≤◌, map, sym, subst}
+use Rattle.std.specs.Arc.{arc_value}
 use Rattle.clause_db.specs.Flags.{flags_as}
 use Rattle.clause_db.specs.Parts.{Held, piece}
 use Rattle.clause_db.specs.Stands.{StandsFor}
@@ -6,11 +7,15 @@ use Rattle.clause_db.proofs.Settings.{sound_set, stands_set}
 use Rattle.clause_db.proofs.db.Db.set_op.Goals as goal
 
 pub invariant_of-self : goal.invariant_of-self
-invariant_of-self g c =
-    sound_set g.C.Kept.size c.self.inside.homes c.self.inside.next c.self.inside.floor c.args.place (map piece c.self.inside.parts.items) c.self.invariant
-    (subst (λ h. h.next ≤ c.args.place) (sym c.self.view_is) c.requires.later)
+invariant_of-self g c = record {
+  sound =
+      sound_set g.C.Kept.size c.self.inside.homes c.self.inside.next c.self.inside.floor c.args.place (map piece c.self.inside.parts.items) c.self.invariant.sound
+      (subst (λ h. h.next ≤ c.args.place) (sym c.self.view_is) c.requires.later);
+  indexed = c.self.invariant.indexed;
+  housed = c.self.invariant.housed;
+}
 
 pub returns-clause-stands : goal.returns-clause-stands
 returns-clause-stands g c = λ d s.
-    subst (λ (h : Held g.row.C.Denot). StandsFor g.C.Kept.size (record h { flags = flags_as c.self.inside.flags; operators = c.in_ok-changed.changed; next = c.args.place + 1 }) d) (sym c.self.view_is)
-    (stands_set g.C.Kept.size c.args.self.now d (flags_as c.self.inside.flags) c.in_ok-changed.changed c.args.place c.requires.later s)
+    subst (λ (h : Held g.row.C.Denot). StandsFor g.C.Kept.size (record h { flags = flags_as c.self.inside.flags; operators = (arc_value c.in-Ok.shared); next = c.args.place + 1 }) d) (sym c.self.view_is)
+    (stands_set g.C.Kept.size c.args.self.now d (flags_as c.self.inside.flags) (arc_value c.in-Ok.shared) c.args.place c.requires.later s)

@@ -5,7 +5,7 @@ use Rattle.iso_engine.specs.declared.engine.Engine.{Engine}
 use Rattle.iso_engine.specs.Ready.{IsReady}
 use Rattle.iso_engine.specs.Slices.{IsStepped}
 use Rattle.iso_engine.specs.Tasks.{IsDone}
-use Rattle.iso_engine.proofs.Interning.{asked_same}
+use Rattle.iso_engine.proofs.Interning.{asked_same, row_asks_for}
 use Rattle.iso_engine.proofs.Solutions.{view_is}
 use Rattle.iso_engine.proofs.Stability.{advance_step, spent_by, step_ready}
 use Rattle.iso_engine.proofs.Stepping.{silent_out}
@@ -152,3 +152,65 @@ returns-in_ok-stopped-in-Call-clause-asked g c =
     let a = c.args.atoms.now in
     let called = subst (IsDone e.search x.task x.next f) c.in-Call.is c.in_ok-did-in-Some.ensures.done in
     asked_same (g.W.A.Atoms.held a) (g.W.World.told c.args.world.now) e f (g.W.A.Atoms.asked a) (g.W.A.Atoms.asked c.call.new.atoms) called.0 c.call.ensures.asked
+
+pub row-requires-clause-ready : goal.row-requires-clause-ready
+row-requires-clause-ready g c =
+    let e = c.args.self.now in
+    let x = c.in-Some.frame in
+    let f = c.do_task.new.search in
+    let done = subst (IsDone e.search x.task x.next f) c.in-Row.is c.in_ok-did-in-Some.ensures.done in
+    let m = g.W.A.Atoms.held c.args.atoms.now in
+    let t = g.W.World.told c.args.world.now in
+    let ready = subst (λ (s : Search). let y : Engine = record e { search = s } in IsReady m t y) (sym done.0) c.requires.ready in
+    (t, ready)
+
+pub returns-in_err-stopped-in-Row-clause-asked : goal.returns-in_err-stopped-in-Row-clause-asked
+returns-in_err-stopped-in-Row-clause-asked g c =
+    let e = c.args.self.now in
+    let x = c.in-Some.frame in
+    let f = c.do_task.new.search in
+    let a = c.args.atoms.now in
+    let m = g.W.A.Atoms.held a in
+    let t = g.W.World.told c.args.world.now in
+    let done = subst (IsDone e.search x.task x.next f) c.in-Row.is c.in_ok-did-in-Some.ensures.done in
+    asked_same m t e f (g.W.A.Atoms.asked a) (g.W.A.Atoms.asked c.row.new.atoms) done.0
+    (row_asks_for m t (record e { search = f }) (g.W.A.Atoms.asked a) (g.W.A.Atoms.asked c.row.new.atoms) c.row.ensures.asked)
+
+pub returns-in_ok-stopped-in-Row-clause-asked : goal.returns-in_ok-stopped-in-Row-clause-asked
+returns-in_ok-stopped-in-Row-clause-asked g c =
+    let e = c.args.self.now in
+    let x = c.in-Some.frame in
+    let f = c.do_task.new.search in
+    let a = c.args.atoms.now in
+    let m = g.W.A.Atoms.held a in
+    let t = g.W.World.told c.args.world.now in
+    let done = subst (IsDone e.search x.task x.next f) c.in-Row.is c.in_ok-did-in-Some.ensures.done in
+    asked_same m t e f (g.W.A.Atoms.asked a) (g.W.A.Atoms.asked c.row.new.atoms) done.0
+    (row_asks_for m t (record e { search = f }) (g.W.A.Atoms.asked a) (g.W.A.Atoms.asked c.row.new.atoms) c.row.ensures.asked)
+
+pub returns-in_ok-stopped-in-Row-clause-ready : goal.returns-in_ok-stopped-in-Row-clause-ready
+returns-in_ok-stopped-in-Row-clause-ready g c =
+    let e = c.args.self.now in
+    let x = c.in-Some.frame in
+    let f = c.do_task.new.search in
+    let done = subst (IsDone e.search x.task x.next f) c.in-Row.is c.in_ok-did-in-Some.ensures.done in
+    let m = g.W.A.Atoms.held c.args.atoms.now in
+    let t = g.W.World.told c.args.world.now in
+    let ready = subst (λ (s : Search). let y : Engine = record e { search = s } in IsReady m t y) (sym done.0) c.requires.ready in
+    c.in_ok-stopped-in-Row.ensures.ready t ready
+
+pub returns-in_ok-stopped-in-Row-clause-stepped : goal.returns-in_ok-stopped-in-Row-clause-stepped
+returns-in_ok-stopped-in-Row-clause-stepped g c =
+    let e = c.args.self.now in
+    let x = c.in-Some.frame in
+    let f = c.do_task.new.search in
+    let done = subst (IsDone e.search x.task x.next f) c.in-Row.is c.in_ok-did-in-Some.ensures.done in
+    let m = g.W.A.Atoms.held c.args.atoms.now in
+    let t = g.W.World.told c.args.world.now in
+    let ready = subst (λ (s : Search). let y : Engine = record e { search = s } in IsReady m t y) (sym done.0) c.requires.ready in
+    let n = g.W.A.Atoms.held c.row.new.atoms in
+    let s = c.in_ok-stopped-in-Row in (
+      [],
+      subst (λ (y : Search). let z : Engine = record e { search = y } in IsStepped m t z s.stopped n t c.row.new.self []) done.0 (s.ensures.stepped t ready),
+      silent_out c.args.out.now.items [] refl,
+    )

@@ -1,0 +1,180 @@
+-- The rows that the definitions have for the predicates.
+use Rattle.std.proofs.Common.{◌≡◌, ◌+◌, ◌*◌, [], ◌∷◌, map, length, ℕ, zero, suc, ℤ, refl, Bool, List, Option, Some, None, Result, Ok, Err}
+use Rattle.std.specs.Prelude.{is_some, not}
+use Rattle.pl_term.specs.Tree.{Tree, var, int, atom, comp}
+use Rattle.pl_model.specs.Builtins.{row}
+use Rattle.pl_model.specs.BuiltinRows as basic
+use Rattle.pl_model.specs.BuiltinRows.{one_answer, test}
+use Rattle.pl_model.specs.Evaluables.{Evaluated, evaluated}
+use Rattle.pl_model.specs.Checks.{atom_error, atomic_error, bound_error, elements, first_error, integer_error, natural_of, negative_error, text_of_atom}
+use Rattle.pl_term.specs.Order.{order}
+use Rattle.pl_term.specs.Variables.{variables}
+use Rattle.pl_model.specs.Terms.{arguments, list_term, variable_count}
+use Rattle.pl_model.specs.TermBuiltins.{argument_at, argument_of, compares, compares_values, composed, composes, copies, evaluates, functor_of, gives_list, key, list_error, lists_variables, makes, makes_functor, merges, on_list, pairs_error, sign, sign_error, sorted, sorts, sorts_by_key, subsumes, three, two, univ, unless, with_argument, with_value}
+use Rattle.pl_model.specs.AtomBuiltins.{codes_character, coded_row, measures, number}
+use Rattle.pl_model.specs.Unify.{unify}
+use Rattle.pl_model.specs.History.{proc}
+use Rattle.builtin_names.specs.declared.predicates.Pred.TheVariants as pred
+use Rattle.builtin_names.specs.Predicates.{name_of, arity_of}
+use Rattle.builtin_rows.specs.Steps.{IsPlainRow}
+use Rattle.term_values.specs.declared.comparisons.Comparison.{Comparison}
+use Rattle.term_values.specs.declared.comparisons.Comparison.TheVariants.{Equal, Different, Less, LessOrEqual, Greater, GreaterOrEqual}
+use Rattle.term_values.specs.Comparing.{holds_by}
+use Rattle.term_values.specs.Comparing as values
+use Rattle.builtin_dispatch.specs.Comparisons.{pred_of}
+use Rattle.builtin_dispatch.proofs.Answering.{IsDefined, plain_test}
+
+-- Several answers make no terms.
+plain_unless : (e : Option Tree) (r : basic.Row) → IsPlainRow r → IsPlainRow (unless e r)
+plain_unless None r h = h
+plain_unless (Some e) r h = tt
+
+plain_list : (els : Result (List Tree) Tree) (by : List Tree → basic.Row) → ((ts : List Tree) → IsPlainRow (by ts)) → IsPlainRow (on_list els by)
+plain_list (Ok ts) by h = h ts
+plain_list (Err e) by h = tt
+
+plain_value : (v : Evaluated) (by : ℤ → basic.Row) → ((x : ℤ) → IsPlainRow (by x)) → IsPlainRow (with_value v by)
+plain_value (Ok x) by h = h x
+plain_value (Err f) by h = tt
+
+plain_makes : (next : ℕ) (t f a : Tree) (k : ℕ) → IsPlainRow (makes_functor next t f a k)
+plain_makes next t f a zero = tt
+plain_makes next t (var x) a (suc k) = tt
+plain_makes next t (int i) a (suc k) = tt
+plain_makes next t (atom f) a (suc k) = tt
+plain_makes next t (comp f u us) a (suc k) = tt
+
+plain_functor : (next : ℕ) (t f a : Tree) → IsPlainRow (functor_of next t f a)
+plain_functor next (var x) f a = plain_unless _ (makes_functor next (var x) f a (natural_of a)) (plain_makes next (var x) f a (natural_of a))
+plain_functor next (int i) f a = tt
+plain_functor next (atom b) f a = tt
+plain_functor next (comp g u us) f a = tt
+
+plain_argument : (n t : Tree) (o : Option Tree) → IsPlainRow (with_argument n t o)
+plain_argument n t None = tt
+plain_argument n t (Some a) = tt
+
+plain_coded : (c n : Tree) → IsPlainRow (coded_row c n)
+plain_coded (var x) n = tt
+plain_coded (int i) n = tt
+plain_coded (atom a) n = tt
+plain_coded (comp f u us) n = tt
+
+plain_values : (by : ℤ → ℤ → Bool) (t u : Tree) → IsPlainRow (compares_values by t u)
+plain_values by t u =
+    plain_value (evaluated t) (λ x. with_value (evaluated u) (λ y. test (by x y) (two t u)))
+    (λ x. plain_value (evaluated u) (λ y. test (by x y) (two t u)) (λ y. plain_test (by x y) (two t u)))
+
+plain_composes : (l : Tree) (ts : List Tree) → IsPlainRow (composes l ts)
+plain_composes l [] = tt
+plain_composes l (f ∷ []) = plain_unless (first_error (bound_error f ∷ atomic_error f ∷ [])) (one_answer (two f l)) tt
+plain_composes l (f ∷ (t ∷ ts)) =
+    plain_unless (first_error (bound_error f ∷ atom_error f ∷ [])) (makes (two (composed f (t ∷ ts)) l) (2 + length ts)) tt
+
+plain_univ : (t l : Tree) → IsPlainRow (univ t l)
+plain_univ (var x) l = plain_list (elements l) (composes l) (plain_composes l)
+plain_univ (int i) l = tt
+plain_univ (atom a) l = tt
+plain_univ (comp f u us) l = tt
+
+module _ (t u : Tree) (next : ℕ) where
+  pub equal_defined : IsDefined pred.Equal (two t u) next (one_answer (two u u))
+  unfolding row basic.row
+  equal_defined = record { row_is = refl; plain = tt }
+
+  pub occurs_defined : IsDefined pred.UnifyWithOccursCheck (two t u) next (one_answer (two u u))
+  unfolding row basic.row
+  occurs_defined = record { row_is = refl; plain = tt }
+
+  pub not_unifiable_defined : IsDefined pred.NotUnifiable (two t u) next (test (not (is_some (unify t u))) (two t u))
+  unfolding row basic.row
+  not_unifiable_defined = record { row_is = refl; plain = plain_test (not (is_some (unify t u))) (two t u) }
+
+  pub subsumes_defined : IsDefined pred.SubsumesTerm (two t u) next (subsumes t u)
+  unfolding row basic.row
+  subsumes_defined = record { row_is = refl; plain = plain_test _ (two t u) }
+
+  pub copies_defined : IsDefined pred.CopyTerm (two t u) next (copies next t u)
+  unfolding row basic.row
+  copies_defined = record { row_is = refl; plain = tt }
+
+  pub variables_defined : IsDefined pred.TermVariables (two t u) next (lists_variables t u)
+  unfolding row basic.row
+  variables_defined =
+      record {
+        row_is = refl;
+        plain = plain_unless (list_error u) (makes (two t (list_term (map var (variables t)))) (3 * variable_count t)) tt;
+      }
+
+  pub sorts_defined : IsDefined pred.Sort (two t u) next (sorts t)
+  unfolding row basic.row
+  sorts_defined = record { row_is = refl; plain = plain_list (elements t) _ (λ ts. tt) }
+
+  pub merges_defined : IsDefined pred.Msort (two t u) next (merges t)
+  unfolding row basic.row
+  merges_defined = record { row_is = refl; plain = plain_list (elements t) _ (λ ts. tt) }
+
+  pub keysorts_defined : IsDefined pred.Keysort (two t u) next (sorts_by_key t)
+  unfolding row basic.row
+  keysorts_defined =
+      record {
+        row_is = refl;
+        plain = plain_list (elements t) _ (λ ts. plain_unless (pairs_error ts) (gives_list t (sorted key ts)) tt);
+      }
+
+  pub univ_defined : IsDefined pred.Univ (two t u) next (univ t u)
+  unfolding row basic.row
+  univ_defined = record { row_is = refl; plain = plain_univ t u }
+
+  pub evaluates_defined : IsDefined pred.Is (two t u) next (evaluates t u)
+  unfolding row basic.row
+  evaluates_defined = record { row_is = refl; plain = plain_value (evaluated u) _ (λ x. tt) }
+
+  pub measures_defined : IsDefined pred.AtomLength (two t u) next (measures t u)
+  unfolding row basic.row
+  measures_defined =
+      record {
+        row_is = refl;
+        plain =
+            plain_unless (first_error (bound_error t ∷ atom_error t ∷ integer_error u ∷ negative_error u ∷ []))
+            (one_answer (two t (number (length (text_of_atom t))))) tt;
+      }
+
+  pub codes_defined : IsDefined pred.CharCode (two t u) next (codes_character t u)
+  unfolding row basic.row
+  codes_defined = record { row_is = refl; plain = plain_unless _ (coded_row t u) (plain_coded t u) }
+
+  pub values_defined : (k : Comparison) → IsDefined (pred_of k) (two t u) next (compares_values (holds_by k) t u)
+  unfolding row basic.row
+  values_defined Equal = record { row_is = refl; plain = plain_values (holds_by Equal) t u }
+  values_defined Different = record { row_is = refl; plain = plain_values (holds_by Different) t u }
+  values_defined Less = record { row_is = refl; plain = plain_values (holds_by Less) t u }
+  values_defined LessOrEqual = record { row_is = refl; plain = plain_values (holds_by LessOrEqual) t u }
+  values_defined Greater = record { row_is = refl; plain = plain_values (holds_by Greater) t u }
+  values_defined GreaterOrEqual = record { row_is = refl; plain = plain_values (holds_by GreaterOrEqual) t u }
+
+module _ (t u v : Tree) (next : ℕ) where
+  pub compares_defined : IsDefined pred.Compare (three t u v) next (compares t u v)
+  unfolding row basic.row
+  compares_defined =
+      record {
+        row_is = refl;
+        plain = plain_unless (first_error (atom_error t ∷ sign_error t ∷ [])) (one_answer (three (atom (sign (order u v))) u v)) tt;
+      }
+
+  pub functor_defined : IsDefined pred.Functor (three t u v) next (functor_of next t u v)
+  unfolding row basic.row
+  functor_defined = record { row_is = refl; plain = plain_functor next t u v }
+
+  pub argument_defined : IsDefined pred.Arg (three t u v) next (argument_of t u v)
+  unfolding row basic.row
+  argument_defined = record { row_is = refl; plain = plain_unless _ (with_argument t u (argument_at (natural_of t) (arguments u))) (plain_argument t u (argument_at (natural_of t) (arguments u))) }
+
+-- The predicate of an arithmetic comparison has its name.
+pub values_proc : (k : Comparison) → proc (values.name_of k) 2 ≡ proc (name_of (pred_of k)) (arity_of (pred_of k))
+values_proc Equal = refl
+values_proc Different = refl
+values_proc Less = refl
+values_proc LessOrEqual = refl
+values_proc Greater = refl
+values_proc GreaterOrEqual = refl

@@ -1,0 +1,5 @@
+mod Answering
+mod Defined
+mod Places
+mod Remaining
+mod Rowless

@@ -1,0 +1,3 @@
+pub mod Comparisons
+pub mod Dispatching
+pub mod Unbuilt

@@ -1,0 +1,81 @@
+//! The row of a predicate for its arguments.
+ghost use Rattle.std.specs.Prelude.{◌≡◌, ◌++◌, IfNone, IfOk, IfSome};
+ghost use Rattle.term_store.specs.Contents.{IsAbove, IsArguments};
+ghost use Rattle.world_api.specs.Gains.{Gains};
+ghost use Rattle.world_api.specs.Texts.{Holds};
+ghost use Rattle.builtin_names.specs.Predicates.{arity_of, kind_of};
+ghost use Rattle.builtin_names.specs.Predicates as kinds;
+ghost use Rattle.builtin_rows.specs.Rows.{IsSingle};
+ghost use Rattle.builtin_dispatch.specs.Dispatching.{AreHeld, Dispatches, IsGivenText, IsRowOf, IsUnbuilt, answer_refusals, terms_of};
+
+use crate::one::row_of_one;
+use crate::three::row_of_three;
+use crate::two::row_of_two;
+use atom_api::Atoms;
+use builtin_names::Pred;
+use builtin_rows::Row;
+use pl_term::Memory;
+use std::alloc::Global;
+use term_store::{Arguments, Store};
+
+/// What a built-in predicate that is a function of its arguments gives for these, where `next` is the next number of a variable.
+/// None where the predicate is not built yet. The only error is out of memory, after which nothing is said of the store.
+pub fn row_of<A: Atoms>(
+    alloc: Global,
+    store: &mut Store,
+    pred: Pred,
+    arguments: Arguments,
+    next: u64,
+    atoms: &mut A,
+) -> Result<Option<Row>, Memory>
+    requires inside { IsArguments store.old arguments }
+    requires count { arguments.count ≡ arity_of pred }
+    requires kind { kind_of pred ≡ kinds.row }
+    requires held { AreHeld (A.held atoms.old) store.old arguments }
+    requires above { IsAbove next store.old }
+    ensures row { IfOk result (λ o. IfSome o (λ r. IsRowOf store.old next pred (terms_of (A.held atoms.old) store.old arguments) (A.held atoms.new) store.new r)) }
+    ensures single { IfOk result (λ o. IfSome o IsSingle) }
+    ensures unbuilt { IfOk result (λ o. IfNone o (IsUnbuilt store.old pred store.new)) }
+    ensures holds { Holds (A.held atoms.old) (A.held atoms.new) }
+    ensures refusals { IfOk result (λ o. A.refusals atoms.new ≡ A.refusals atoms.old ++ answer_refusals o) }
+    ensures asked { Gains (IsGivenText store.old next pred (terms_of (A.held atoms.old) store.old arguments)) (A.asked atoms.old) (A.asked atoms.new) }
+{
+    dispatch(alloc, store, pred, arguments, next, atoms)
+}
+
+/// The same, by the number of arguments.
+fn dispatch<A: Atoms>(
+    alloc: Global,
+    store: &mut Store,
+    pred: Pred,
+    arguments: Arguments,
+    next: u64,
+    atoms: &mut A,
+) -> Result<Option<Row>, Memory>
+    requires inside { IsArguments store.old arguments }
+    requires count { arguments.count ≡ arity_of pred }
+    requires kind { kind_of pred ≡ kinds.row }
+    requires held { AreHeld (A.held atoms.old) store.old arguments }
+    requires above { IsAbove next store.old }
+    ensures { Dispatches store.old next pred (terms_of (A.held atoms.old) store.old arguments)
+        (A.held atoms.old) (A.held atoms.new) (A.refusals atoms.old) (A.refusals atoms.new) (A.asked atoms.old) (A.asked atoms.new) store.new result }
+{
+    match arguments.len() {
+        1 => {
+            let term = store.argument(arguments, 0);
+            row_of_one(alloc, store, pred, term)
+        }
+        2 => {
+            let first = store.argument(arguments, 0);
+            let second = store.argument(arguments, 1);
+            row_of_two(alloc, store, pred, first, second, next, atoms)
+        }
+        3 => {
+            let first = store.argument(arguments, 0);
+            let second = store.argument(arguments, 1);
+            let third = store.argument(arguments, 2);
+            row_of_three(alloc, store, pred, first, second, third, next, atoms)
+        }
+        _ => Ok(None),
+    }
+}

@@ -1,0 +1,51 @@
+//! The predicates of three arguments (ISO 8.5.1, 8.5.2, Cor.2 8.4.2).
+ghost use Rattle.std.specs.Prelude.{◌≡◌};
+ghost use Rattle.pl_model.specs.TermBuiltins.{three};
+ghost use Rattle.term_store.specs.Contents.{Holds, IsAbove};
+ghost use Rattle.world_builtins.specs.Naming.{IsHeldAt};
+ghost use Rattle.world_builtins.specs.Spelling.{reads};
+ghost use Rattle.builtin_names.specs.Predicates.{arity_of, kind_of};
+ghost use Rattle.builtin_names.specs.Predicates as kinds;
+ghost use Rattle.builtin_dispatch.specs.Dispatching.{Dispatches};
+
+use crate::built::built;
+use atom_api::Atoms;
+use builtin_names::Pred;
+use builtin_rows::Row;
+use pl_term::Memory;
+use std::alloc::Global;
+use term_parts::{arg, functor};
+use term_store::{Place, Store};
+use term_tests::compare;
+
+/// The row of a predicate for its three arguments. The only error is out of memory.
+pub fn row_of_three<A: Atoms>(
+    alloc: Global,
+    store: &mut Store,
+    pred: Pred,
+    first: Place,
+    second: Place,
+    third: Place,
+    next: u64,
+    atoms: &mut A,
+) -> Result<Option<Row>, Memory>
+    requires arity { arity_of pred ≡ 3 }
+    requires kind { kind_of pred ≡ kinds.row }
+    requires first { Holds store.old first }
+    requires second { Holds store.old second }
+    requires third { Holds store.old third }
+    requires first_held { IsHeldAt (A.held atoms.old) store.old first }
+    requires second_held { IsHeldAt (A.held atoms.old) store.old second }
+    requires third_held { IsHeldAt (A.held atoms.old) store.old third }
+    requires above { IsAbove next store.old }
+    ensures { Dispatches store.old next pred
+        (three (reads (A.held atoms.old) store.old first) (reads (A.held atoms.old) store.old second) (reads (A.held atoms.old) store.old third))
+        (A.held atoms.old) (A.held atoms.new) (A.refusals atoms.old) (A.refusals atoms.new) (A.asked atoms.old) (A.asked atoms.new) store.new result }
+{
+    match pred {
+        Pred::Compare => built(compare(alloc, store, first, second, third, atoms)),
+        Pred::Functor => built(functor(alloc, store, first, second, third, next)),
+        Pred::Arg => built(arg(alloc, store, first, second, next)),
+        _ => Ok(None),
+    }
+}

@@ -1,0 +1,6 @@
+mod Cells
+mod Composed
+mod Keyed
+mod KeyRows
+mod Keys
+mod Parts
