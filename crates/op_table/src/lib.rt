@@ -7,8 +7,6 @@ mod names;
 mod operator;
 mod search;
 mod table;
-#[cfg(test)]
-mod tests;
 
 pub use fault::OpFault;
 pub use operator::Operator;

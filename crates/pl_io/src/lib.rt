@@ -12,8 +12,6 @@ mod memory_files;
 mod memory_sink;
 mod one_text;
 mod sink;
-#[cfg(test)]
-mod tests;
 mod whole;
 
 pub use bytes::Bytes;

@@ -36,10 +36,3 @@ pub use store::Store;
 pub use stored::Stored;
 pub use views::{Arguments, View};
 pub use words::{Place, StoreMark};
-
-#[cfg(test)]
-mod heads;
-#[cfg(test)]
-mod sharing;
-#[cfg(test)]
-mod tests;

@@ -1,5 +1,5 @@
 //! The store.
-ghost use Rattle.std.specs.Prelude.{◌≡◌, ◌+◌, ◌<◌, ◌≤◌, ◌++◌, ◌∷◌, [], length, IfOk, IfErr, OnErr, OnOk, IsOk};
+ghost use Rattle.std.specs.Prelude.{◌≡◌, ◌+◌, ◌-◌, ◌^◌, ◌<◌, ◌≤◌, ◌++◌, ◌∷◌, [], length, IfOk, IfErr, OnErr, OnOk, IsOk};
 ghost use Rattle.term_store.specs.Apart.{IsApart};
 ghost use Rattle.term_store.specs.Contents.{Adds, Bound, IsEarlier, IsMark, MayBind, Refused, SameSize, Unified, back_to, bindings_made, blank, Holds};
 
@@ -91,6 +91,34 @@ impl Store {
         }
         self.used += need;
         Ok(())
+    }
+
+    /// Takes so many cells away from the budget. Where those used and these are together more than the budget it refuses with
+    /// both numbers, and nothing is changed.
+    pub fn reserve(&mut self, need: u64) -> Result<(), StoreFault>
+        ensures ok { OnOk result (self.new ≡ record self.old { budget = self.old.budget - need }) }
+        ensures fits { OnOk result (self.old.used + need ≤ self.old.budget) }
+        ensures full { IfErr result (λ e. e ≡ StoreFault.CellsFull self.old.used need) }
+        ensures over { OnErr result (self.old.budget < self.old.used + need) }
+        ensures kept { OnErr result (self.new ≡ self.old) }
+    {
+        let free = self.budget - self.used;
+        if need > free {
+            return Err(StoreFault::CellsFull {
+                used: self.used,
+                need,
+            });
+        }
+        self.budget -= need;
+        Ok(())
+    }
+
+    /// Gives so many cells back to the budget, which stays below 2^64.
+    pub fn release(&mut self, cells: u64)
+        requires { self.old.budget + cells < 2 ^ 64 }
+        ensures { self.new ≡ record self.old { budget = self.old.budget + cells } }
+    {
+        self.budget += cells;
     }
 
     /// The number of bindings made and not undone, and the cells used, with what it takes to go back. It takes no memory.
