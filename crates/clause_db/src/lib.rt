@@ -3,8 +3,6 @@
 
 mod abolish;
 mod access;
-#[cfg(test)]
-mod comparison;
 mod db;
 mod dynamic;
 mod fault;
@@ -16,8 +14,6 @@ mod parts;
 mod reclaim;
 mod search;
 mod system;
-#[cfg(test)]
-mod tests;
 
 pub use access::{Access, By};
 pub use db::Db;

@@ -1,5 +1,0 @@
-use Rattle.std.proofs.Common.{◌≤◌, max}
-use Rattle.clause_db.proofs.comparison.reclaim_all.Given as goal
-
-abbrev pub invariant-loop-i : goal.invariant-loop-i
-invariant-loop-i l = (l.db.next ≤ max l.initial.db.next l.floor) × (l.db.floor ≤ l.floor)
