@@ -1,5 +1,6 @@
 -- What a reply says.
 use Rattle.std.specs.Prelude.{◌≡◌, ℕ, pos, List, [], ◌∷◌, ◌++◌, map, Option, Some, None, Bool, true, false}
+use Rattle.std.specs.Arc.{arc_value}
 use Rattle.pl_term.specs.Tree.{Chars, Tree, int, atom}
 use Rattle.pl_model.specs.History.{Clause}
 use Rattle.pl_model.specs.Database.{Stored}
@@ -36,7 +37,7 @@ module _ {T : Type 0} (term : (ℕ → Chars) → T → Tree) (text : ℕ → Ch
 
   -- The reply says this.
   abbrev pub Says : Reply T → requests.Reply → Type 0
-  Says (Standing ops quotes) r = r ≡ standing ops quotes
+  Says (Standing ops quotes) r = r ≡ standing (arc_value ops) quotes
   Says (Clauses f) (listed cs) = IsFront f cs
   Says (Procedures ps) r = r ≡ procedures (map (proc_named text) ps.items)
   Says (Flags fs) r = r ≡ flags (map (λ (f : FlagValue T). (text f.flag, term text f.value)) fs.items)

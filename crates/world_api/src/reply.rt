@@ -3,6 +3,7 @@ use crate::visit::Procedure;
 use atom_api::Atom;
 use op_table::OpTable;
 use pl_model::grammar::Quotes;
+use std::sync::Arc;
 
 /// A clause of a list, with the place of the update that added it, which names it, and whether others follow it.
 #[derive(Drop)]
@@ -29,8 +30,11 @@ pub struct FlagValue<T> {
 /// What the shared state answers.
 #[derive(Drop)]
 pub enum Reply<T> {
-    /// The operators and the flag `double_quotes`.
-    Standing { operators: OpTable, quotes: Quotes },
+    /// The table of operators as it stands, which is shared and not copied, and the flag `double_quotes`.
+    Standing {
+        operators: Arc<OpTable>,
+        quotes: Quotes,
+    },
     /// The first clause of the list, or that it is empty.
     Clauses(Option<Found<T>>),
     /// The procedures with clauses, in standard order.

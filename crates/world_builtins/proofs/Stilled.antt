@@ -1,6 +1,9 @@
 -- A visit of the world in which nothing else happens.
 use Rattle.std.proofs.Common.{◌≡◌, ℕ, zero, suc, ◌+◌, List, [], ◌∷◌, ◌++◌, Option, None, refl, sym, ap, subst, ◌∙◌, add-one}
 use Rattle.std.specs.Prelude.{replicate}
+use Rattle.std.specs.Arc.{arc_value}
+use Rattle.std.specs.declared.alloc.Global.{Global}
+use Rattle.std.specs.declared.sync.Arc.{Arc}
 use Rattle.pl_term.specs.Tree.{Chars, Tree}
 use Rattle.pl_model.specs.OperatorTable.{OperatorTable, opening_table}
 use Rattle.pl_model.specs.History.{History}
@@ -25,19 +28,19 @@ operators_stand : (ops : OperatorTable) → ops ≡ opening_table → served_now
 unfolding serve state_at
 operators_stand ops e = ap (λ t. answers (standing t Codes) None) (sym e)
 
-read_still : {T K : Type 0} (term : (ℕ → Chars) → T → Tree) (key : T → K) (old_text new_text : ℕ → Chars) (ops : OperatorTable) (n : ℕ)
-    → ops ≡ opening_table → Serves {T = T} {K = K} term key old_text new_text ReadOperators (Standing ops Codes) 0 (still n) [] (still (suc n))
+read_still : {T K : Type 0} (term : (ℕ → Chars) → T → Tree) (key : T → K) (old_text new_text : ℕ → Chars) (ops : Arc OperatorTable Global) (n : ℕ)
+    → arc_value ops ≡ opening_table → Serves {T = T} {K = K} term key old_text new_text ReadOperators (Standing ops Codes) 0 (still n) [] (still (suc n))
 read_still {T = T} {K = K} term key old_text new_text ops n e =
     record {
       generation = refl;
       update = None;
       serves =
-          λ q is. (standing ops Codes, subst (λ (p : Request). served_now 1 0 [] p ≡ answers (standing ops Codes) None) (sym is) (operators_stand ops e), refl);
+          λ q is. (standing (arc_value ops) Codes, subst (λ (p : Request). served_now 1 0 [] p ≡ answers (standing (arc_value ops) Codes) None) (sym is) (operators_stand (arc_value ops) e), refl);
       told = ap (λ l. let t : Told = record { engine = 1; goals = 0; history = []; gens = l } in t) (one_more n);
     }
 
-pub still_served : {T K : Type 0} (term : (ℕ → Chars) → T → Tree) (key : T → K) (old_text new_text : ℕ → Chars) (v : Visit T K) (ops : OperatorTable) (n k : ℕ)
-    → v ≡ ReadOperators → ops ≡ opening_table → k ≡ n + 1
+pub still_served : {T K : Type 0} (term : (ℕ → Chars) → T → Tree) (key : T → K) (old_text new_text : ℕ → Chars) (v : Visit T K) (ops : Arc OperatorTable Global) (n k : ℕ)
+    → v ≡ ReadOperators → arc_value ops ≡ opening_table → k ≡ n + 1
     → (before : History) × (Follows 1 [] before × Serves term key old_text new_text v (Standing ops Codes) 0 (still n) before (still k))
 still_served {T = T} {K = K} term key old_text new_text v ops n k is e next = (
   [],

@@ -1,5 +1,6 @@
 //! Terms that are written after what an engine has written.
 ghost use Rattle.std.specs.Prelude.{◌≡◌, ◌++◌, ◌∷◌, [], false, OnOk, encode_utf8_all};
+ghost use Rattle.std.specs.Arc.{arc_value};
 ghost use Rattle.pl_model.specs.TermWriting.{write_canonical};
 ghost use Rattle.term_store.specs.Contents.{Holds};
 ghost use Rattle.world_api.specs.Told.{has_ended};
@@ -17,13 +18,14 @@ use atom_api::Atoms;
 use op_table::OpTable;
 use pl_term::{Flat, Memory};
 use std::alloc::Global;
+use std::sync::Arc;
 use term_store::{Place, Store};
 use world_api::{Answer, Reply, Visit, World};
 
 /// The operators of a reply that has some.
-fn operators_of<T: Drop>(reply: Reply<T>) -> OpTable
+fn operators_of<T: Drop>(reply: Reply<T>) -> Arc<OpTable>
     requires { HasOperators reply }
-    ensures { Stands reply result }
+    ensures { Stands reply (arc_value result) }
 {
     match reply {
         Reply::Standing { operators, .. } => operators,

@@ -1,5 +1,7 @@
 //! Each call once over plain atoms and a world in which nothing happens but visits.
 ghost use Rattle.std.specs.Prelude.{◌≡◌, false, IfOk};
+ghost use Rattle.std.specs.Arc.{arc_value};
+ghost use Rattle.pl_model.specs.OperatorTable.{opening_table};
 ghost use Rattle.atom_api.specs.Names.{Names, FixedStand};
 ghost use Rattle.term_store.specs.Contents.{Holds};
 ghost use Rattle.world_api.specs.Told.{has_ended};
@@ -13,6 +15,7 @@ use pl_model::grammar::Quotes;
 use pl_model::kept::Kept;
 use pl_term::{Flat, Memory};
 use std::alloc::Global;
+use std::sync::Arc;
 use std::test::Fail;
 use term_store::{Place, Store};
 use world_api::{Answer, Named, Reply, Visit, World};
@@ -84,6 +87,13 @@ struct Still {
     visits: u64,
 }
 
+/// The operators of the start, to be shared.
+fn opening_operators(alloc: Global) -> Result<Arc<OpTable>, Memory>
+    ensures { IfOk result (λ t. arc_value t ≡ opening_table) }
+{
+    Ok(Arc::new(alloc, OpTable::iso(alloc)?)?)
+}
+
 impl World for Still {
     ghost use Rattle.std.specs.Prelude.{◌≡◌, ◌++◌, ℕ, [], false, IsSome};
     ghost use Rattle.std.specs.List.{All};
@@ -118,7 +128,7 @@ impl World for Still {
         let Some(visits) = self.visits.checked_add(1) else {
             return Answer::Memory;
         };
-        match OpTable::iso(self.alloc) {
+        match opening_operators(self.alloc) {
             Ok(operators) => {
                 self.visits = visits;
                 Answer::Served {

@@ -1,6 +1,7 @@
-use Rattle.std.proofs.Common.{refl}
+use Rattle.std.proofs.Common.{refl, subst, sym}
 use Rattle.pl_model.specs.Requests.{read_operators}
 use Rattle.world_api.specs.Texts.{text_of}
+use Rattle.world_builtins.specs.Operators.{Stands}
 use Rattle.world_builtins.specs.Spelling.{reads}
 use Rattle.world_builtins.specs.Styles.{text_by}
 use Rattle.world_builtins.proofs.Replies.{operators_are_read, read_asks_nothing, served_stands, text_written}
@@ -35,13 +36,13 @@ returns-in-Served-clause-writes g c =
     v.0
     (g.W.World.told c.visit.new.self)
     (text_by c.args.style)
-    c.operators_of-operators.result
+    c.deref.result.now
     c.in_ok-flat.flat
     (reads (g.W.A.Atoms.held c.args.atoms.now) c.args.store.now c.args.term)
     c.args.out.now.items
     c.put_term.new.out.items
     v.1
-    c.operators_of-operators.ensures
+    (subst (Stands c.in-Served.reply) (sym c.deref.ensures) c.operators_of-operators.ensures)
     c.in_ok-put_term-in-Served.ensures
     c.in_ok-flat.ensures.term
 
