@@ -1,6 +1,9 @@
 -- What a look and a call are answered.
 use Rattle.std.proofs.Common.{◌≡◌, ℕ, List, [], ◌∷◌, map, length, Option, Some, None, Bool, true, false, cond, refl, sym, ap, ◌∙◌, subst}
 use Rattle.std.specs.Prelude.{if◌then◌else◌, Result, Ok, Err}
+use Rattle.std.specs.Arc.{arc_value}
+use Rattle.std.specs.declared.alloc.Global.{Global}
+use Rattle.std.specs.declared.sync.Arc.{Arc}
 use Rattle.std.specs.Result.{IsOkAnd}
 use Rattle.std.specs.Option.{MatchOption}
 use Rattle.std.proofs.lemmas.List.{length-map}
@@ -33,16 +36,16 @@ use Rattle.plain_world.specs.declared.text_reply.TextReply.TheVariants.{Standing
 use Rattle.plain_world.proofs.Naturality.{trees_are}
 use Rattle.plain_world.proofs.Closed.{keyed, listed_same}
 
-pub look_reads : (l : Log) (ops : OperatorTable) (quotes : Quotes)
-    → ops ≡ (state_after l.goals l.entries).operators
+pub look_reads : (l : Log) (ops : Arc OperatorTable Global) (quotes : Quotes)
+    → arc_value ops ≡ (state_after l.goals l.entries).operators
     → quotes ≡ (state_after l.goals l.entries).flags.double_quotes
     → Reads l look (Standing ops quotes)
 unfolding serve
 look_reads l ops quotes o q =
     (standing (state_after l.goals l.entries).operators (state_after l.goals l.entries).flags.double_quotes, refl, rw (o, q))
 
-pub operators_read : (l : Log) (ops : OperatorTable) (quotes : Quotes)
-    → ops ≡ (state_after l.goals l.entries).operators
+pub operators_read : (l : Log) (ops : Arc OperatorTable Global) (quotes : Quotes)
+    → arc_value ops ≡ (state_after l.goals l.entries).operators
     → quotes ≡ (state_after l.goals l.entries).flags.double_quotes
     → Reads l read_operators (Standing ops quotes)
 unfolding serve

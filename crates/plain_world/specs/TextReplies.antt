@@ -1,5 +1,6 @@
 -- What a reply in texts says, and what a request comes to.
 use Rattle.std.specs.Prelude.{◌≡◌, List, [], ◌∷◌, Option, Some, None}
+use Rattle.std.specs.Arc.{arc_value}
 use Rattle.pl_term.specs.Tree.{Chars, Tree}
 use Rattle.pl_model.specs.History.{Clause, Proc}
 use Rattle.pl_model.specs.Predicates.{proc_of}
@@ -30,7 +31,7 @@ IsFrontOf (Some f) (c ∷ cs) = IsFirstOf f c cs
 IsFrontOf _ _ = ⊥
 
 abbrev pub SaysText : TextReply → requests.Reply → Type 0
-SaysText (Standing ops quotes) r = r ≡ standing ops quotes
+SaysText (Standing ops quotes) r = r ≡ standing (arc_value ops) quotes
 SaysText (Clauses f) (listed cs) = IsFrontOf f cs
 SaysText Done r = r ≡ done
 SaysText Gone r = r ≡ gone

@@ -1,5 +1,6 @@
 //! The shared state with its history, in texts alone.
 ghost use Rattle.std.specs.Prelude.{◌≡◌, ◌≤◌, ◌<◌, [], ◌∷◌, ◌++◌, length, IfOk, OnOk, OnErr, Contains, true, false};
+ghost use Rattle.std.specs.Arc.{arc_value};
 ghost use Rattle.pl_term.specs.Tree.{Tree};
 ghost use Rattle.pl_model.specs.laws.Shown.{proc_of};
 ghost use Rattle.pl_model.specs.Requests.{look, read_operators, call_clauses};
@@ -23,6 +24,7 @@ use pl_model::shows::Proc;
 use pl_term::{Flat, Memory};
 use std::alloc::Global;
 use std::marker::Model;
+use std::sync::Arc;
 
 /// The history gains no update from this length on.
 const MOST_UPDATES: u64 = 0x8000_0000_0000;
@@ -111,16 +113,16 @@ impl Journal {
         ensures look { IfOk result (Reads self.now look) }
         ensures read { IfOk result (Reads self.now read_operators) }
     {
-        let operators = self.db.operators().copy(self.alloc)?;
+        let operators = self.db.shared_operators()?;
         let quotes = self.db.flags().double_quotes;
         Ok(TextReply::Standing { operators, quotes })
     }
 
     /// The operators after all updates. The only error is out of memory.
-    pub fn operators(&self) -> Result<OpTable, Memory>
-        ensures { IfOk result (λ ops. ops ≡ (state_after self.now.goals self.now.entries).operators) }
+    pub fn operators(&self) -> Result<Arc<OpTable>, Memory>
+        ensures { IfOk result (λ ops. arc_value ops ≡ (state_after self.now.goals self.now.entries).operators) }
     {
-        Ok(self.db.operators().copy(self.alloc)?)
+        self.db.shared_operators()
     }
 
     /// The updates and the generations of the visits, which the journal gives away.

@@ -1,5 +1,6 @@
 //! The world of one engine.
 ghost use Rattle.std.specs.Prelude.{◌≡◌, [], length, map, IfOk};
+ghost use Rattle.std.specs.Arc.{arc_value};
 ghost use Rattle.pl_model.specs.History.{AllPlain};
 ghost use Rattle.pl_model.specs.SharedState.{state_at};
 ghost use Rattle.plain_world.specs.Entries.{told_of, entry_of};
@@ -15,6 +16,7 @@ use pl_model::kept::Kept;
 use pl_term::Memory;
 use std::alloc::Global;
 use std::marker::PhantomData;
+use std::sync::Arc;
 use world_api::{Answer, Visit, World};
 
 /// The state that engines share, where there is one engine. It keeps the history and the generations of the engine's
@@ -55,8 +57,8 @@ impl<T: Spelled, A: Atoms> PlainWorld<T, A> {
     }
 
     /// The operators after all updates so far. The only error is out of memory.
-    pub fn operators(&self) -> Result<OpTable, Memory>
-        ensures { IfOk result (λ ops. ops ≡ (state_at (told_of self.now.journal).goals (told_of self.now.journal).history
+    pub fn operators(&self) -> Result<Arc<OpTable>, Memory>
+        ensures { IfOk result (λ ops. arc_value ops ≡ (state_at (told_of self.now.journal).goals (told_of self.now.journal).history
             (length (told_of self.now.journal).history)).operators) }
     {
         self.journal.operators()

@@ -10,7 +10,7 @@ returns-clause-look c =
     in let sound : IsSound l.goals l.entries l.gens c.self.inside.db =
     sound_view c.self.inside.goals c.self.inside.entries.items c.self.inside.generations.items l c.self.inside.db c.self.view_is c.self.invariant
     in look_reads l c.in_ok-operators.operators c.flags-quotes.result.double_quotes
-    (c.in_ok-operators.ensures ∙ c.operators.ensures ∙ sound.operators)
+    (c.in_ok-operators.ensures ∙ sound.operators)
     (ap (λ f. f.double_quotes) (c.flags-quotes.ensures ∙ sound.flags))
 
 pub returns-clause-read : goal.returns-clause-read
@@ -19,5 +19,5 @@ returns-clause-read c =
     in let sound : IsSound l.goals l.entries l.gens c.self.inside.db =
     sound_view c.self.inside.goals c.self.inside.entries.items c.self.inside.generations.items l c.self.inside.db c.self.view_is c.self.invariant
     in operators_read l c.in_ok-operators.operators c.flags-quotes.result.double_quotes
-    (c.in_ok-operators.ensures ∙ c.operators.ensures ∙ sound.operators)
+    (c.in_ok-operators.ensures ∙ sound.operators)
     (ap (λ f. f.double_quotes) (c.flags-quotes.ensures ∙ sound.flags))
