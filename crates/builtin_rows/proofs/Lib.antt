@@ -2,3 +2,4 @@ pub mod Giving
 pub mod Balls
 pub mod Numbers
 pub mod Steps
+pub mod Listing

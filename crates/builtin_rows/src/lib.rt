@@ -3,11 +3,13 @@
 #![tactic(auto)]
 
 mod errors;
+mod lists;
 mod room;
 mod row;
 #[cfg(test)]
 mod tests;
 
 pub use errors::{raised, refused_for, refused_with};
+pub use lists::{ListEnd, list_elements, make_list};
 pub use room::take_room;
 pub use row::Row;
