@@ -1,0 +1,43 @@
+-- What each step tells its caller: of the step, the seat before, the number found (at a store, the number stored) and the seat after.
+use Rattle.std.specs.Prelude.{◌≡◌, ◌≢◌, ◌≤◌, ℕ, List, Some}
+use Rattle.atomic_table.specs.Table.{Me, Step}
+use Rattle.atom_words.specs.Layout.{epoch_of}
+use Rattle.atom_words.specs.Board.{atom_at}
+use Rattle.atom_words.specs.Kinds.{view_after}
+use Rattle.atom_words.specs.Plays.{Is}
+use Rattle.atom_words.specs.declared.view.Held.{Held}
+use Rattle.atom_words.specs.declared.view.Sweeping.{Sweeping}
+use Rattle.atom_words.specs.declared.view.View.{View}
+use Rattle.atom_words.specs.declared.kind.Kind.TheVariants.{Load, Begin, Mark, Scan, Ack, Check, ToSweep}
+use Rattle.sweep_core.specs.Cycles.{Marks, Unmarked}
+
+abbrev Sat : Type 0
+Sat = Me (Unit {0}) View
+
+abbrev At : Type 0
+At = Step (Unit {0})
+
+-- the epoch word is the one that the collector knows
+abbrev pub word_known : At → Sat → ℕ → Sat → Type 0
+word_known st m r m' = Is (Load st.word r) m m' × ((y : Sweeping) → m.0.sweep ≡ Some y → r ≡ y.word)
+
+abbrev pub begun : At → Sat → ℕ → Sat → Type 0
+begun st m r m' = Is Begin m m'
+
+-- the cycle marks, and the engine has not acknowledged it: it goes on to hold those slots alone; or it does not mark, or the engine has. The engine has a word
+abbrev pub mark_read : List Held → At → Sat → ℕ → Sat → Type 0
+mark_read those st m r m' = (m'.1 ≡ m.1) × (m.0.cycle.engine ≤ m.0.size.engines) × (Marks m.0 r → m'.0 ≡ view_after m.0 (Mark r those)) × ((Marks m.0 r → ⊥) → Unmarked m.0 r × (m'.0 ≡ view_after m.0 (Load st.word r)))
+
+-- a slot that is held, or a fixed atom, is marked
+abbrev pub scanned : At → Sat → ℕ → Sat → Type 0
+scanned st m r m' = (m'.1 ≡ m.1) × ((k : ℕ) → st.word ≡ atom_at m.0.size k → m'.0 ≡ view_after m.0 (Scan k))
+
+abbrev pub acknowledged : At → Sat → ℕ → Sat → Type 0
+acknowledged st m r m' = Is Ack m m'
+
+-- the engine that is checked next has acknowledged the cycle's epoch, or its word is another
+abbrev pub engine_checked : At → Sat → ℕ → Sat → Type 0
+engine_checked st m r m' = (m'.1 ≡ m.1) × ((y : Sweeping) → m.0.sweep ≡ Some y → (r ≡ epoch_of y.word → m'.0 ≡ view_after m.0 (Check y.checked)) × (r ≢ epoch_of y.word → m'.0 ≡ view_after m.0 (Load st.word r)))
+
+abbrev pub turned : At → Sat → ℕ → Sat → Type 0
+turned st m r m' = Is ToSweep m m'

@@ -1,0 +1,13 @@
+//! The steps of a cycle of collection over the atom table, call by call.
+//!
+//! A cycle marks, then sweeps. The collector's seat begins it, at the next epoch. Each engine reads the epoch word, sets
+//! the mark of every atom that it goes on to hold, and acknowledges the epoch. When the collector has found that all
+//! engines have acknowledged, the cycle goes over to the sweep.
+#![tactic(auto)]
+
+mod cycles;
+mod marks;
+mod plays;
+
+pub use cycles::{begin, check_engine, to_sweep};
+pub use marks::{ack, mark, scan};
