@@ -6,3 +6,4 @@ pub mod Counting
 pub mod Spelling
 pub mod Loading
 pub mod Naming
+pub mod Scans

@@ -2,3 +2,4 @@ pub mod Interning
 pub mod Holding
 pub mod Opening
 pub mod Naming
+pub mod Collecting

@@ -6,8 +6,10 @@
 #![tactic(auto)]
 
 mod atoms;
+mod collecting;
 mod interning;
 mod making;
+mod marking;
 mod opening;
 #[cfg(test)]
 mod pending;
@@ -22,6 +24,9 @@ mod threads;
 pub use atom_api::{Atom, Cause, Interned, Pass, TextBuf, WornWord};
 pub use atom_words::AtomSeat;
 pub use atoms::TableAtoms;
+pub use collecting::Turn;
+pub use marking::Marked;
 pub use opening::Opened;
 pub use seats::{Collector, Keeper};
+pub use sweep_core::Checked;
 pub use table::AtomTable;

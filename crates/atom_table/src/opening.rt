@@ -214,7 +214,11 @@ impl AtomTable {
             table: AtomTable { words },
             seats,
             keeper: Keeper { seat: keeper },
-            collector: Collector { seat: collector },
+            collector: Collector {
+                seat: collector,
+                word: 0,
+                checked: 0,
+            },
         })
     }
 }

@@ -7,6 +7,7 @@ ghost use Rattle.atom_words.specs.declared.view.Held.{Held};
 ghost use Rattle.atom_words.specs.declared.view.Counted.{Counted};
 ghost use Rattle.atom_words.specs.declared.kind.Kind.TheVariants.{Fetch, Register, Unregister};
 ghost use Rattle.atom_table.specs.Holding.{Sits};
+ghost use Rattle.atom_table.specs.Collecting.{Collects};
 
 use crate::table::AtomTable;
 use atom_api::Atom;
@@ -18,10 +19,15 @@ pub struct Keeper {
     pub seat: AtomSeat,
 }
 
-/// The seat that collects atoms that nobody uses any more.
+/// The seat that collects atoms that nobody uses any more, and what of its view is needed at run time.
 #[derive(Drop)]
 pub struct Collector {
     pub seat: AtomSeat,
+    /// The epoch word, which this seat alone writes.
+    pub word: u64,
+    /// How many engines it has found to have acknowledged this epoch.
+    pub checked: u64,
+    pub ghost collects: { Collects (seen seat) word checked },
 }
 
 impl AtomTable {

@@ -9,5 +9,5 @@ mod cycles;
 mod marks;
 mod plays;
 
-pub use cycles::{begin, check_engine, to_sweep};
+pub use cycles::{Checked, begin, check};
 pub use marks::{ack, mark, scan};

@@ -1,0 +1,165 @@
+-- The view over the steps of a cycle.
+use Rattle.std.proofs.Common.{◌≡◌, ℕ, ◌+◌, ◌<◌, Bool, true, false, List, [], ◌∷◌, ◌++◌, length, get_or, refl, sym, ap, ◌∙◌, subst, inl, inr, ⊎_elim, Option, Some, None, Ok, ◌≤◌, ◌-◌, ◌*◌, option_map, arith}
+use Rattle.std.specs.Prelude.{◌==◌, ◌||◌, if◌then◌else◌}
+use Rattle.std.specs.List.{list_any}
+use Rattle.std.specs.Option.{is_some}
+use Rattle.std.proofs.lemmas.Bool.{cases_Bool, eq-eqb, eqb-true}
+use mathlib.Core.Option.{some}
+use lib.ListN.{get_elem?}
+use Rattle.atom_words.specs.Layout.{epoch_word, phase_of, epoch_of}
+use Rattle.atom_words.specs.Board.{ack_at}
+use Rattle.atom_words.specs.Chains.{In}
+use Rattle.atom_words.specs.Kinds.{beginning, turning, view_after, after}
+use Rattle.atom_words.specs.Seats.{seen, Same, Has}
+use Rattle.atom_words.specs.declared.size.Size.{Size}
+use Rattle.atom_words.specs.declared.view.Held.{Held}
+use Rattle.atom_words.specs.declared.view.Sweeping.{Sweeping}
+use Rattle.atom_words.specs.declared.view.View.{View}
+use Rattle.atom_words.specs.declared.words.Words.{Words}
+use Rattle.atom_words.specs.declared.words.AtomSeat.{AtomSeat}
+use Rattle.atom_words.specs.declared.kind.Kind.TheVariants.{Load, Mark, Scan, Check, ToSweep}
+use Rattle.atom_words.proofs.Slices.{in_none, in_later, in_cases, or_at, or_true}
+use Rattle.atom_table.specs.Holding.{Sits}
+use Rattle.atom_table.specs.Naming.{those}
+use Rattle.sweep_core.specs.Cycles.{Knows, BeginsBy, checks, ChecksAll}
+use Rattle.sweep_core.specs.declared.cycles.Checked.{Checked}
+use Rattle.sweep_core.specs.declared.cycles.Checked.TheVariants.{All, NotYet}
+use Rattle.sweep_core.proofs.Checks.{after_append, checks_keep, checks_know}
+use Rattle.atom_table.specs.Collecting.{scans, word_known, count_known, Collects}
+use Rattle.atom_table.proofs.Naming.{only_those}
+use Rattle.atom_table.proofs.Settling.{sound_from}
+
+-- SCANS
+pub item_in : (l : List ℕ) (i x : ℕ) → i < length l → x ≡ get_or l i x → In x l
+item_in l i x low is = (i, or_at l i x low ∙ ap some (sym is))
+
+pub scans_keep : {A : Type 0} (f : View → A) → ((v : View) (k : ℕ) → f (view_after v (Scan k)) ≡ f v) → (v : View) (ks : List ℕ) → f (after v (scans ks)) ≡ f v
+scans_keep f same v [] = refl
+scans_keep f same v (k ∷ ks) = scans_keep f same (view_after v (Scan k)) ks ∙ same v k
+
+pub scans_more : (v : View) (ks : List ℕ) (k : ℕ) → after v (scans (ks ++ k ∷ [])) ≡ view_after (after v (scans ks)) (Scan k)
+scans_more v [] k = refl
+scans_more v (q ∷ ks) k = scans_more (view_after v (Scan q)) ks k
+
+pub in_front : {A : Type 0} (x : A) (xs ys : List A) → In x xs → In x (xs ++ ys)
+in_front x [] ys i = absurd (in_none x i)
+in_front x (y ∷ xs) ys i = ⊎_elim (λ (e : y ≡ x). subst (λ z. In z (y ∷ (xs ++ ys))) e (0, refl)) (λ (j : In x xs). in_later x y (xs ++ ys) (in_front x xs ys j)) (in_cases x y xs i)
+
+pub in_back : {A : Type 0} (x : A) (xs ys : List A) → In x ys → In x (xs ++ ys)
+in_back x [] ys i = i
+in_back x (y ∷ xs) ys i = in_later x y (xs ++ ys) (in_back x xs ys i)
+
+-- what is scanned stays scanned, and each slot of the list is
+scans_stay : (v : View) (ks : List ℕ) (k : ℕ) → In k v.cycle.scanned → In k (after v (scans ks)).cycle.scanned
+scans_stay v [] k i = i
+scans_stay v (q ∷ ks) k i = scans_stay (view_after v (Scan q)) ks k (in_front k v.cycle.scanned (q ∷ []) i)
+
+pub scans_all : (v : View) (ks : List ℕ) (k : ℕ) → In k ks → In k (after v (scans ks)).cycle.scanned
+scans_all v [] k i = absurd (in_none k i)
+scans_all v (q ∷ ks) k i = ⊎_elim
+    (λ (e : q ≡ k). scans_stay (view_after v (Scan q)) ks k (subst (λ (j : ℕ). In j (v.cycle.scanned ++ q ∷ [])) e (in_back q v.cycle.scanned (q ∷ []) (0, refl))))
+    (λ (j : In k ks). scans_all (view_after v (Scan q)) ks k j) (in_cases k q ks i)
+
+-- THE SLOTS THAT ARE HELD ON
+any_in : (live : List ℕ) (n : ℕ) → list_any (λ k. k == n) live ≡ true → In n live
+any_in [] n e = cc
+any_in (k ∷ live) n e = ⊎_elim (λ (t : (k == n) ≡ true). subst (λ (j : ℕ). In j (k ∷ live)) (eqb-true k n t) (0, refl)) (λ (t : list_any (λ j. j == n) live ≡ true). in_later n k live (any_in live n t)) (or_true (k == n) (list_any (λ j. j == n) live) e)
+
+in_any : (live : List ℕ) (n : ℕ) → In n live → list_any (λ k. k == n) live ≡ true
+in_any [] n i = absurd (in_none n i)
+in_any (k ∷ live) n i = elim (cases_Bool (k == n)) [
+  | inl t ↦ ap (λ (b : Bool). b || list_any (λ j. j == n) live) t
+  | inr f ↦ ap (λ (b : Bool). b || list_any (λ j. j == n) live) f
+      ∙ ⊎_elim (λ (e : k ≡ n). absurd (let t : (k == n) ≡ true = eq-eqb k n e in let no : true ≡ false = sym t ∙ f in cc)) (λ (j : In n live). in_any live n j) (in_cases n k live i)
+]
+
+-- each is in the list
+pub those_live : (live : List ℕ) (hs : List Held) (a : Held) → In a (those live hs) → In a.slot live
+those_live live [] a i = absurd (in_none a i)
+those_live live (b ∷ hs) a i = elim (cases_Bool (list_any (λ k. k == b.slot) live)) [
+  | inl e ↦ ⊎_elim (λ (is : b ≡ a). subst (λ (x : Held). In x.slot live) is (any_in live b.slot e)) (λ (j : In a (those live hs)). those_live live hs a j) (in_cases a b (those live hs) (subst (In a) (ap (λ (t : Bool). if t then b ∷ those live hs else those live hs) e) i))
+  | inr e ↦ those_live live hs a (subst (In a) (ap (λ (t : Bool). if t then b ∷ those live hs else those live hs) e) i)
+]
+
+-- and those of the list are among them
+pub live_those : (live : List ℕ) (hs : List Held) (a : Held) → In a hs → In a.slot live → In a (those live hs)
+live_those live [] a i l = i
+live_those live (b ∷ hs) a i l = elim (cases_Bool (list_any (λ k. k == b.slot) live)) [
+  | inl e ↦ subst (In a) (sym (ap (λ (t : Bool). if t then b ∷ those live hs else those live hs) e))
+      (⊎_elim (λ (is : b ≡ a). subst (λ (x : Held). In x (b ∷ those live hs)) is (0, refl)) (λ (j : In a hs). in_later a b (those live hs) (live_those live hs a j l)) (in_cases a b hs i))
+  | inr e ↦ subst (In a) (sym (ap (λ (t : Bool). if t then b ∷ those live hs else those live hs) e))
+      (⊎_elim (λ (is : b ≡ a). absurd (let t : list_any (λ k. k == b.slot) live ≡ true = in_any live b.slot (subst (λ (x : Held). In x.slot live) (sym is) l) in let no : true ≡ false = sym t ∙ e in cc)) (λ (j : In a hs). live_those live hs a j l) (in_cases a b hs i))
+]
+
+-- a slot of the list that the seat held, or that is fixed, is so still
+pub has_marked : (live : List ℕ) (v u : View) (x k : ℕ) → u ≡ after v (Mark x (those live v.held) ∷ []) → In k live → (h : Held) × Has v h × (h.slot ≡ k) → (h : Held) × Has u h × (h.slot ≡ k)
+has_marked live v u x k is l q = (
+  q.0,
+  ⊎_elim (λ (i : In q.0 v.held). inl (subst (In q.0) (sym (ap (λ (y : View). y.held) is)) (live_those live v.held q.0 i (subst (λ (j : ℕ). In j live) (sym q.2) l)))) (λ (i : In q.0 v.fixed). inr (subst (In q.0) (sym (ap (λ (y : View). y.fixed) is)) i)) q.1,
+  q.2,
+)
+
+-- A SEAT THAT HOLDS ON TO SOME SLOTS
+pub sits_cut : (words : Words) (live : List ℕ) (s r : AtomSeat) → Same s r → (seen r).held ≡ those live (seen s).held → (seen r).fixed ≡ (seen s).fixed → (seen r).size ≡ (seen s).size → (seen r).gone ≡ (seen s).gone → (seen r).own ≡ (seen s).own
+    → (seen r).counts ≡ (seen s).counts → Sits words s → Sits words r
+sits_cut words live s r same held fixed size gone own counts sits = let v : View = seen s in let w : View = seen r in (
+  (same.0 ∙ sits.0.0, size ∙ sits.0.1, gone ∙ sits.0.2),
+  own ∙ sits.1,
+  sound_from v v w (λ a h. ⊎_elim (λ (i : In a w.held). inl (only_those live v.held a (subst (In a) held i))) (λ (i : In a w.fixed). inr (subst (In a) fixed i)) h) size size (λ cs is. sym counts ∙ is) sits.2 sits.2,
+)
+
+-- a seat that holds what it held
+pub sits_same : (words : Words) (s r : AtomSeat) → Same s r → (seen r).held ≡ (seen s).held → (seen r).fixed ≡ (seen s).fixed → (seen r).size ≡ (seen s).size → (seen r).gone ≡ (seen s).gone → (seen r).own ≡ (seen s).own
+    → (seen r).counts ≡ (seen s).counts → Sits words s → Sits words r
+sits_same words s r same held fixed size gone own counts sits = let v : View = seen s in let w : View = seen r in (
+  (same.0 ∙ sits.0.0, size ∙ sits.0.1, gone ∙ sits.0.2),
+  own ∙ sits.1,
+  sound_from v v w (λ a h. ⊎_elim (λ (i : In a w.held). inl (subst (In a) held i)) (λ (i : In a w.fixed). inr (subst (In a) fixed i)) h) size size (λ cs is. sym counts ∙ is) sits.2 sits.2,
+)
+
+-- WHAT THE COLLECTOR KNOWS
+pub collects_known : (v : View) (word checked : ℕ) → Collects v word checked → (y : Sweeping) × Knows v y × (y.word ≡ word) × (y.checked ≡ checked)
+collects_known v word checked c = by v.sweep refl c.0 c.1 c.2
+  where
+    by : (o : Option Sweeping) → v.sweep ≡ o → is_some o ≡ true → word_known word o ≡ word → count_known checked o ≡ checked → (y : Sweeping) × Knows v y × (y.word ≡ word) × (y.checked ≡ checked)
+    by None e t w n = cc
+    by (Some y) e t w n = (y, e, w, n)
+
+pub known_collects : (v : View) (word checked : ℕ) (y : Sweeping) → Knows v y → y.word ≡ word → y.checked ≡ checked → checked ≤ v.size.engines → Collects v word checked
+known_collects v word checked y k w n few = (ap is_some k, ap (word_known word) k ∙ w, ap (count_known checked) k ∙ n, few)
+
+pub begun_collects : (v w : View) (e : ℕ) → BeginsBy v (Ok e) w → Collects w (1 + 4 * e) 0
+begun_collects v w e t = let y : Sweeping = t.0 in known_collects w (1 + 4 * e) 0 (beginning y) (ap (λ (x : View). x.sweep) t.5 ∙ ap (option_map beginning) t.1) (let n = t.4 in omega arith) refl (omega arith)
+
+-- what a check of the engines leaves
+pub checked_same : {A : Type 0} (f : View → A) → ((v : View) (e : ℕ) → f (view_after v (Check e)) ≡ f v) → ((v : View) → f (view_after v ToSweep) ≡ f v) → ((v : View) (i x : ℕ) → f (view_after v (Load i x)) ≡ f v)
+    → (epoch from : ℕ) (v : View) (r : Checked) (w : View) → ChecksAll epoch from v r w → f w ≡ f v
+checked_same f one turn load epoch from v All w t = let n : ℕ = v.size.engines - from in ap f t ∙ (ap f (after_append v (checks from n) (ToSweep ∷ [])) ∙ (turn (after v (checks from n)) ∙ checks_keep f one v from n))
+checked_same f one turn load epoch from v (NotYet engine seen) w t = let n : ℕ = t.0 - from in
+    ap f t.5 ∙ (ap f (after_append v (checks from n) (Load (ack_at v.size t.0) seen ∷ [])) ∙ (load (after v (checks from n)) (ack_at v.size t.0) seen ∙ checks_keep f one v from n))
+
+pub checked_sits : (words : Words) (epoch from : ℕ) (s r : AtomSeat) (a : Checked) → Same s r → ChecksAll epoch from (seen s) a (seen r) → Sits words s → Sits words r
+checked_sits words epoch from s r a same t sits = sits_same words s r same
+    (checked_same (λ (y : View). y.held) (λ _ _. refl) (λ _. refl) (λ _ _ _. refl) epoch from (seen s) a (seen r) t)
+    (checked_same (λ (y : View). y.fixed) (λ _ _. refl) (λ _. refl) (λ _ _ _. refl) epoch from (seen s) a (seen r) t)
+    (checked_same (λ (y : View). y.size) (λ _ _. refl) (λ _. refl) (λ _ _ _. refl) epoch from (seen s) a (seen r) t)
+    (checked_same (λ (y : View). y.gone) (λ _ _. refl) (λ _. refl) (λ _ _ _. refl) epoch from (seen s) a (seen r) t)
+    (checked_same (λ (y : View). y.own) (λ _ _. refl) (λ _. refl) (λ _ _ _. refl) epoch from (seen s) a (seen r) t)
+    (checked_same (λ (y : View). y.counts) (λ _ _. refl) (λ _. refl) (λ _ _ _. refl) epoch from (seen s) a (seen r) t)
+    sits
+
+-- what the collector knows afterwards
+pub all_collects : (epoch word from n : ℕ) (v w : View) → phase_of word ≡ 1 → v.size.engines ≡ n → Collects v word from → ChecksAll epoch from v All w → Collects w (word + 1) n
+all_collects epoch word from n v w phase many c t = let k = collects_known v word from c in let few = c.3 in let m : ℕ = v.size.engines - from in let r = checks_know v from m k.0 k.1 in
+    let size : w.size ≡ v.size = checked_same (λ (y : View). y.size) (λ _ _. refl) (λ _. refl) (λ _ _ _. refl) epoch from v All w t in let engines : w.size.engines ≡ v.size.engines = ap (λ (z : Size). z.engines) size in
+    known_collects w (word + 1) n (turning r.0)
+        (ap (λ (x : View). x.sweep) t ∙ (ap (λ (x : View). x.sweep) (after_append v (checks from m) (ToSweep ∷ [])) ∙ ap (option_map turning) r.1))
+        (let a = r.2 in let b = k.2 in let same : r.0.word ≡ word = a ∙ b in ap (λ (x : ℕ). epoch_word 2 (epoch_of x)) same ∙ (let plain : epoch_word 2 (epoch_of word) ≡ word + 1 = omega arith in plain))
+        (let a = r.3 in let b = k.3 in omega arith) (omega arith)
+
+pub part_collects : (epoch word from engine x : ℕ) (v w : View) → Collects v word from → ChecksAll epoch from v (NotYet engine x) w → Collects w word (engine - 1)
+part_collects epoch word from engine x v w c t = let k = collects_known v word from c in let e : ℕ = t.0 in let past = t.1 in let low = t.2 in let number = t.3 in let m : ℕ = t.0 - from in let r = checks_know v from m k.0 k.1 in
+    let size : w.size ≡ v.size = checked_same (λ (y : View). y.size) (λ _ _. refl) (λ _. refl) (λ _ _ _. refl) epoch from v (NotYet engine x) w t in let engines : w.size.engines ≡ v.size.engines = ap (λ (z : Size). z.engines) size in
+    known_collects w word (engine - 1) r.0
+        (ap (λ (y : View). y.sweep) t.5 ∙ (ap (λ (y : View). y.sweep) (after_append v (checks from m) (Load (ack_at v.size t.0) x ∷ [])) ∙ r.1))
+        (r.2 ∙ k.2) (let a = r.3 in let b = k.3 in omega arith) (omega arith)

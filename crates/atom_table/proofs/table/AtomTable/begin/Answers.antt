@@ -1,0 +1,20 @@
+use Rattle.std.proofs.Common.{◌≡◌, sym, ap, ◌∙◌}
+use Rattle.atom_words.specs.Seats.{seen}
+use Rattle.atom_words.specs.declared.view.View.{View}
+use Rattle.atom_table.proofs.Scans.{begun_collects, sits_same}
+use Rattle.atom_table.proofs.table.AtomTable.begin.Goals as goal
+
+pub invariant_of-collector : goal.invariant_of-collector
+invariant_of-collector c = record { collects = begun_collects (seen c.args.collector.now.seat) (seen c.begin.new.seat) c.in-Ok.epoch c.in-Ok.ensures.steps }
+
+pub returns-in-Ok-clause-sits : goal.returns-in-Ok-clause-sits
+returns-in-Ok-clause-sits c = let is = c.in-Ok.ensures.steps.5 in sits_same c.args.self.now.words c.args.collector.now.seat c.begin.new.seat c.begin.ensures.same
+    (ap (λ (y : View). y.held) is) (ap (λ (y : View). y.fixed) is) (ap (λ (y : View). y.size) is) (ap (λ (y : View). y.gone) is) (ap (λ (y : View). y.own) is) (ap (λ (y : View). y.counts) is) c.requires.sits
+
+pub returns-then-word-eq0-clause-sits : goal.returns-then-word-eq0-clause-sits
+returns-then-word-eq0-clause-sits c = let is = c.in-Err.ensures.steps.2 in sits_same c.args.self.now.words c.args.collector.now.seat c.begin.new.seat c.begin.ensures.same
+    (ap (λ (y : View). y.held) is) (ap (λ (y : View). y.fixed) is) (ap (λ (y : View). y.size) is) (ap (λ (y : View). y.gone) is) (ap (λ (y : View). y.own) is) (ap (λ (y : View). y.counts) is) c.requires.sits
+
+pub returns-else-word-eq0-clause-sits : goal.returns-else-word-eq0-clause-sits
+returns-else-word-eq0-clause-sits c = let is = c.in-Err.ensures.steps.2 in sits_same c.args.self.now.words c.args.collector.now.seat c.begin.new.seat c.begin.ensures.same
+    (ap (λ (y : View). y.held) is) (ap (λ (y : View). y.fixed) is) (ap (λ (y : View). y.size) is) (ap (λ (y : View). y.gone) is) (ap (λ (y : View). y.own) is) (ap (λ (y : View). y.counts) is) c.requires.sits

@@ -1,0 +1,24 @@
+use Rattle.std.proofs.Common.{◌≡◌, sym, ap, ◌∙◌}
+use Rattle.atom_words.specs.Layout.{epoch_of}
+use Rattle.atom_words.specs.Seats.{seen}
+use Rattle.atom_words.specs.declared.size.Size.{Size}
+use Rattle.sweep_core.specs.declared.cycles.Checked.TheVariants.{All, NotYet}
+use Rattle.atom_table.proofs.Scans.{checked_sits, all_collects, part_collects}
+use Rattle.atom_table.proofs.table.AtomTable.check.Goals as goal
+
+pub invariant_of-collector : goal.invariant_of-collector
+invariant_of-collector c = let o = c.args.collector.now in record {
+  collects = all_collects (epoch_of o.word) o.word o.checked c.args.self.now.words.size.engines (seen o.seat) (seen c.check-checked.new.seat) c.requires.marking (ap (λ (z : Size). z.engines) c.requires.sits.0.1) o.collects c.in-All.ensures.steps;
+}
+
+pub invariant_of-collector-in-NotYet : goal.invariant_of-collector-in-NotYet
+invariant_of-collector-in-NotYet c = let o = c.args.collector.now in record {
+  collects = part_collects (epoch_of o.word) o.word o.checked c.in-NotYet.engine c.in-NotYet.seen (seen o.seat) (seen c.check-checked.new.seat) o.collects c.in-NotYet.ensures.steps;
+}
+
+pub returns-in-All-clause-sits : goal.returns-in-All-clause-sits
+returns-in-All-clause-sits c = let o = c.args.collector.now in checked_sits c.args.self.now.words (epoch_of o.word) o.checked o.seat c.check-checked.new.seat All c.check-checked.ensures.same c.in-All.ensures.steps c.requires.sits
+
+pub returns-in-NotYet-clause-sits : goal.returns-in-NotYet-clause-sits
+returns-in-NotYet-clause-sits c = let o = c.args.collector.now in
+    checked_sits c.args.self.now.words (epoch_of o.word) o.checked o.seat c.check-checked.new.seat (NotYet c.in-NotYet.engine c.in-NotYet.seen) c.check-checked.ensures.same c.in-NotYet.ensures.steps c.requires.sits

@@ -1,0 +1,50 @@
+-- What the calls of a cycle of collection say.
+use Rattle.std.specs.Prelude.{◌≡◌, ◌≢◌, ℕ, ◌+◌, ◌<◌, ◌≤◌, true, List, [], ◌∷◌, ◌++◌, Option, Some, None, Ok}
+use Rattle.std.specs.Option.{is_some}
+use Rattle.atom_words.specs.Layout.{phase_of, epoch_of}
+use Rattle.atom_words.specs.Chains.{In}
+use Rattle.atom_words.specs.Kinds.{after}
+use Rattle.atom_words.specs.Seats.{Has}
+use Rattle.atom_words.specs.declared.view.Held.{Held}
+use Rattle.atom_words.specs.declared.view.Sweeping.{Sweeping}
+use Rattle.atom_words.specs.declared.view.View.{View}
+use Rattle.atom_words.specs.declared.kind.Kind.{Kind}
+use Rattle.atom_words.specs.declared.kind.Kind.TheVariants.{Load, Mark, Scan, Ack}
+use Rattle.sweep_core.specs.Cycles.{Marks, Unmarked, BeginsBy, last_epoch}
+use Rattle.atom_table.specs.Naming.{those}
+use Rattle.atom_table.specs.declared.marking.Marked.{Marked}
+use Rattle.atom_table.specs.declared.marking.Marked.TheVariants.{Acked, NoCycle}
+use Rattle.atom_table.specs.declared.collecting.Turn.{Turn}
+use Rattle.atom_table.specs.declared.collecting.Turn.TheVariants.{Began, Running, Worn}
+
+-- one scan for each slot of the list
+abbrev pub scans : List ℕ → List Kind
+scans [] = []
+scans (k ∷ ks) = Scan k ∷ scans ks
+
+-- the seat holds each atom of the list, or it is fixed
+abbrev pub AllHeld : List ℕ → View → Type 0
+AllHeld live v = (k : ℕ) → In k live → (h : Held) × Has v h × (h.slot ≡ k)
+
+-- THE STEPS OF TAKING PART IN A CYCLE: the epoch word is read. Where the cycle marks, and the engine has not acknowledged it, only the atoms of the list are held on, each of the list is scanned, and the epoch is acknowledged
+abbrev pub AcksBy : List ℕ → View → Marked → View → Type 0
+AcksBy live v (Acked e) w = (x : ℕ) × Marks v x × (e ≡ epoch_of x) × (w ≡ after v (Mark x (those live v.held) ∷ (scans live ++ Ack ∷ [])))
+AcksBy live v (NoCycle x) w = Unmarked v x × (w ≡ after v (Load 0 x ∷ []))
+
+-- what the collector keeps at run time of its view: the epoch word, and how many engines it found to have acknowledged
+abbrev pub word_known : ℕ → Option Sweeping → ℕ
+word_known d None = d
+word_known d (Some y) = y.word
+
+abbrev pub count_known : ℕ → Option Sweeping → ℕ
+count_known d None = d
+count_known d (Some y) = y.checked
+
+abbrev pub Collects : View → ℕ → ℕ → Type 0
+Collects v word checked = (is_some v.sweep ≡ true) × (word_known word v.sweep ≡ word) × (count_known checked v.sweep ≡ checked) × (checked ≤ v.size.engines)
+
+-- THE STEPS OF A CALL TO BEGIN, by the answer: a cycle begins, where none is at work and the epoch is not the last
+abbrev pub TurnsBy : View → Turn → View → Type 0
+TurnsBy v (Began e) w = BeginsBy v (Ok e) w
+TurnsBy v (Running x) w = (phase_of x ≢ 0) × (w ≡ after v (Load 0 x ∷ []))
+TurnsBy v (Worn x) w = (phase_of x ≡ 0) × (last_epoch ≤ epoch_of x) × (w ≡ after v (Load 0 x ∷ []))
