@@ -5,7 +5,6 @@ use Rattle.std.specs.List.{list_any}
 use Rattle.std.specs.Option.{is_some}
 use Rattle.std.proofs.lemmas.Bool.{cases_Bool, eq-eqb, eqb-true}
 use mathlib.Core.Option.{some}
-use lib.ListN.{get_elem?}
 use Rattle.atom_words.specs.Layout.{epoch_word, phase_of, epoch_of}
 use Rattle.atom_words.specs.Board.{ack_at}
 use Rattle.atom_words.specs.Chains.{In}
@@ -153,13 +152,13 @@ pub all_collects : (epoch word from n : ℕ) (v w : View) → phase_of word ≡ 
 all_collects epoch word from n v w phase many c t = let k = collects_known v word from c in let few = c.3 in let m : ℕ = v.size.engines - from in let r = checks_know v from m k.0 k.1 in
     let size : w.size ≡ v.size = checked_same (λ (y : View). y.size) (λ _ _. refl) (λ _. refl) (λ _ _ _. refl) epoch from v All w t in let engines : w.size.engines ≡ v.size.engines = ap (λ (z : Size). z.engines) size in
     known_collects w (word + 1) n (turning r.0)
-        (ap (λ (x : View). x.sweep) t ∙ (ap (λ (x : View). x.sweep) (after_append v (checks from m) (ToSweep ∷ [])) ∙ ap (option_map turning) r.1))
-        (let a = r.2 in let b = k.2 in let same : r.0.word ≡ word = a ∙ b in ap (λ (x : ℕ). epoch_word 2 (epoch_of x)) same ∙ (let plain : epoch_word 2 (epoch_of word) ≡ word + 1 = omega arith in plain))
-        (let a = r.3 in let b = k.3 in omega arith) (omega arith)
+    (ap (λ (x : View). x.sweep) t ∙ (ap (λ (x : View). x.sweep) (after_append v (checks from m) (ToSweep ∷ [])) ∙ ap (option_map turning) r.1))
+    (let a = r.2 in let b = k.2 in let same : r.0.word ≡ word = a ∙ b in ap (λ (x : ℕ). epoch_word 2 (epoch_of x)) same ∙ (let plain : epoch_word 2 (epoch_of word) ≡ word + 1 = omega arith in plain))
+    (let a = r.3 in let b = k.3 in omega arith) (omega arith)
 
 pub part_collects : (epoch word from engine x : ℕ) (v w : View) → Collects v word from → ChecksAll epoch from v (NotYet engine x) w → Collects w word (engine - 1)
 part_collects epoch word from engine x v w c t = let k = collects_known v word from c in let e : ℕ = t.0 in let past = t.1 in let low = t.2 in let number = t.3 in let m : ℕ = t.0 - from in let r = checks_know v from m k.0 k.1 in
     let size : w.size ≡ v.size = checked_same (λ (y : View). y.size) (λ _ _. refl) (λ _. refl) (λ _ _ _. refl) epoch from v (NotYet engine x) w t in let engines : w.size.engines ≡ v.size.engines = ap (λ (z : Size). z.engines) size in
     known_collects w word (engine - 1) r.0
-        (ap (λ (y : View). y.sweep) t.5 ∙ (ap (λ (y : View). y.sweep) (after_append v (checks from m) (Load (ack_at v.size t.0) x ∷ [])) ∙ r.1))
-        (r.2 ∙ k.2) (let a = r.3 in let b = k.3 in omega arith) (omega arith)
+    (ap (λ (y : View). y.sweep) t.5 ∙ (ap (λ (y : View). y.sweep) (after_append v (checks from m) (Load (ack_at v.size t.0) x ∷ [])) ∙ r.1))
+    (r.2 ∙ k.2) (let a = r.3 in let b = k.3 in omega arith) (omega arith)

@@ -1,5 +1,5 @@
 -- What the calls of a cycle of collection say.
-use Rattle.std.specs.Prelude.{◌≡◌, ◌≢◌, ℕ, ◌+◌, ◌<◌, ◌≤◌, true, List, [], ◌∷◌, ◌++◌, Option, Some, None, Ok}
+use Rattle.std.specs.Prelude.{◌≡◌, ◌≢◌, ℕ, ◌≤◌, true, List, [], ◌∷◌, ◌++◌, Option, Some, None, Ok}
 use Rattle.std.specs.Option.{is_some}
 use Rattle.atom_words.specs.Layout.{phase_of, epoch_of}
 use Rattle.atom_words.specs.Chains.{In}

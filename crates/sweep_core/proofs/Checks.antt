@@ -1,5 +1,5 @@
 -- The view over the checks of engines.
-use Rattle.std.proofs.Common.{◌≡◌, ◌≢◌, ℕ, zero, suc, ◌+◌, ◌-◌, ◌<◌, ◌≤◌, List, [], ◌∷◌, ◌++◌, refl, sym, ap, ◌∙◌, subst, arith, Some, option_map}
+use Rattle.std.proofs.Common.{◌≡◌, ℕ, zero, suc, ◌+◌, ◌-◌, ◌≤◌, List, [], ◌∷◌, ◌++◌, refl, ap, ◌∙◌, arith, option_map}
 use Rattle.atom_words.specs.Layout.{phase_of}
 use Rattle.atom_words.specs.Kinds.{checking, view_after, after}
 use Rattle.atom_words.specs.declared.view.Sweeping.{Sweeping}

@@ -1,5 +1,5 @@
 -- Each raw step of a cycle is of its kind.
-use Rattle.std.proofs.Common.{◌≡◌, ◌≢◌, ◌⊎◌, ℕ, ◌+◌, ◌-◌, ◌<◌, ◌≤◌, false, List, get_or, bit_or, refl, sym, ap, ◌∙◌, subst, inl, inr, arith, Some}
+use Rattle.std.proofs.Common.{◌≡◌, ◌≢◌, ◌⊎◌, ℕ, ◌+◌, ◌-◌, ◌<◌, false, List, get_or, bit_or, refl, sym, ap, ◌∙◌, subst, inl, inr, arith, Some}
 use mathlib.Core.Logic.{dite}
 use mathlib.Core.Option.{none, some}
 use native.Mathlib.Decide.{ℕ_discrete, dec_lt}
@@ -16,11 +16,9 @@ use Rattle.atom_words.specs.declared.view.Held.{Held}
 use Rattle.atom_words.specs.declared.view.Sweeping.{Sweeping}
 use Rattle.atom_words.specs.declared.view.View.{View}
 use Rattle.atom_words.specs.declared.kind.Kind.TheVariants.{Load, Begin, Mark, Scan, Ack, Check, ToSweep}
-use Rattle.atom_words.proofs.Regions.{epoch_read}
 use Rattle.atom_words.proofs.Slices.{some_same}
 use Rattle.atom_words.proofs.Steps.{or_mark}
 use Rattle.atom_words.proofs.Adapters.{Sat, atom_goes, epoch_load}
-use Rattle.sweep_core.specs.Cycles.{Marks, Unmarked}
 use Rattle.sweep_core.specs.Plays.{word_known, begun, mark_read, scanned, acknowledged, engine_checked, turned}
 use Rattle.sweep_core.proofs.Words.{epoch_goes, ack_goes, ack_load, ack_read}
 

@@ -1,5 +1,5 @@
 -- The epoch word and the acknowledgement words: reads, writes, and what a kind of step on them gives to a step of the table.
-use Rattle.std.proofs.Common.{◌≡◌, ℕ, ◌+◌, ◌-◌, ◌<◌, List, [], ◌∷◌, ◌++◌, length, get_or, set, refl, ap, ◌∙◌, arith, get_or-append-add, false}
+use Rattle.std.proofs.Common.{◌≡◌, ℕ, ◌+◌, ◌-◌, ◌<◌, List, [], ◌∷◌, ◌++◌, get_or, set, refl, ap, ◌∙◌, arith, get_or-append-add, false}
 use mathlib.Core.Option.{some}
 use lib.ListN.{get_elem?, get_or-append}
 use lib.Seq.{set-append_left}

@@ -24,10 +24,7 @@ pub fn mark<K: Keeps>(words: &Words, seat: &mut AtomSeat, _live: &[Atom]) -> Res
     ensures engine { (seen seat.new).cycle.engine ≤ words.now.size.engines }
     ensures steps { MarksBy K.those (seen seat.old) result (seen seat.new) }
 {
-    let word = words
-        .table
-        .shared
-        .load::<Marking<K>>(&mut seat.seat, 0);
+    let word = words.table.shared.load::<Marking<K>>(&mut seat.seat, 0);
     if word % 4 == 1 && word / 4 > seat.acked {
         Ok(word / 4)
     } else {

@@ -1,9 +1,7 @@
-use Rattle.std.proofs.Common.{◌≡◌, ◌<◌, ◌++◌, [], ◌∷◌, ℕ, List, take, refl, sym, ap, ◌∙◌, subst, arith, take_all}
+use Rattle.std.proofs.Common.{◌≡◌, ◌++◌, [], ◌∷◌, ℕ, List, take, refl, sym, ap, ◌∙◌, subst, arith, take_all}
 use Rattle.std.proofs.lemmas.List.{take_more}
-use Rattle.atom_words.specs.Chains.{In}
 use Rattle.atom_words.specs.Kinds.{Scanning, view_after, after}
-use Rattle.atom_words.specs.Seats.{seen, Has}
-use Rattle.atom_words.specs.declared.view.Held.{Held}
+use Rattle.atom_words.specs.Seats.{seen}
 use Rattle.atom_words.specs.declared.view.View.{View}
 use Rattle.atom_words.specs.declared.kind.Kind.TheVariants.{Scan}
 use Rattle.atom_table.specs.Collecting.{scans}

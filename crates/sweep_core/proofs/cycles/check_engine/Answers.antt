@@ -1,8 +1,5 @@
-use Rattle.std.proofs.Common.{◌≡◌, ◌<◌, ◌+◌, ℕ, refl, sym, ap, ◌∙◌, subst, arith}
-use Rattle.atom_words.specs.Board.{ack_at}
+use Rattle.std.proofs.Common.{◌≡◌, ◌<◌, ◌+◌, refl, sym, ◌∙◌, subst, arith}
 use Rattle.atom_words.specs.declared.size.Size.{Size}
-use Rattle.atom_words.specs.declared.view.Sweeping.{Sweeping}
-use Rattle.atom_words.specs.declared.view.View.{View}
 use Rattle.sweep_core.proofs.CycleSteps.{checking}
 use Rattle.sweep_core.proofs.cycles.check_engine.Goals as goal
 

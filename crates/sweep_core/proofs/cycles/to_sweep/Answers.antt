@@ -1,7 +1,5 @@
-use Rattle.std.proofs.Common.{◌≡◌, ◌<◌, ◌+◌, ℕ, sym, ap, ◌∙◌, subst, arith}
-use Rattle.atom_words.specs.Layout.{epoch_of, epoch_word}
+use Rattle.std.proofs.Common.{◌≡◌, ◌+◌, sym, ap, ◌∙◌, arith}
 use Rattle.atom_words.specs.declared.size.Size.{Size}
-use Rattle.atom_words.specs.declared.view.Sweeping.{Sweeping}
 use Rattle.sweep_core.proofs.CycleSteps.{turning}
 use Rattle.sweep_core.proofs.cycles.to_sweep.Goals as goal
 

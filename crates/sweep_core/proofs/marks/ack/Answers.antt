@@ -1,5 +1,4 @@
-use Rattle.std.proofs.Common.{◌≡◌, ◌≢◌, ◌<◌, ◌+◌, ◌-◌, ℕ, sym, ap, ◌∙◌, subst, arith}
-use Rattle.atom_words.specs.Board.{ack_at}
+use Rattle.std.proofs.Common.{◌≡◌, ◌<◌, ◌+◌, ◌-◌, sym, ◌∙◌, subst, arith}
 use Rattle.atom_words.specs.declared.size.Size.{Size}
 use Rattle.sweep_core.proofs.CycleSteps.{acking}
 use Rattle.sweep_core.proofs.marks.ack.Goals as goal

@@ -1,4 +1,4 @@
-use Rattle.std.proofs.Common.{◌≡◌, sym, ◌∙◌, arith}
+use Rattle.std.proofs.Common.{sym, ◌∙◌, arith}
 use Rattle.sweep_core.proofs.CycleSteps.{marking}
 use Rattle.sweep_core.proofs.marks.mark.Goals as goal
 

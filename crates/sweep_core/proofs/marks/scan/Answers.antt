@@ -1,4 +1,4 @@
-use Rattle.std.proofs.Common.{◌≡◌, ◌<◌, ℕ, sym, ap, ◌∙◌, subst}
+use Rattle.std.proofs.Common.{◌≡◌, ◌<◌, sym, ap, ◌∙◌, subst}
 use Rattle.atom_words.specs.Board.{atom_at}
 use Rattle.atom_words.specs.Kinds.{view_after}
 use Rattle.atom_words.specs.declared.size.Size.{Size}

@@ -1,4 +1,4 @@
-use Rattle.std.proofs.Common.{◌≡◌, sym, ap, ◌∙◌}
+use Rattle.std.proofs.Common.{ap}
 use Rattle.atom_words.specs.Seats.{seen}
 use Rattle.atom_words.specs.declared.view.View.{View}
 use Rattle.atom_table.proofs.Scans.{begun_collects, sits_same}

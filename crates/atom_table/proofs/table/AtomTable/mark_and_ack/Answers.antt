@@ -1,10 +1,8 @@
-use Rattle.std.proofs.Common.{◌≡◌, ◌≢◌, ◌<◌, ◌≤◌, ◌++◌, [], ◌∷◌, ℕ, List, refl, sym, ap, ◌∙◌, subst, arith}
-use Rattle.atom_words.specs.Layout.{epoch_of}
+use Rattle.std.proofs.Common.{◌≡◌, ◌<◌, ◌≤◌, [], ◌∷◌, ℕ, List, refl, sym, ap, ◌∙◌, subst, arith}
 use Rattle.atom_words.specs.Chains.{In}
 use Rattle.atom_words.specs.Kinds.{view_after, after}
-use Rattle.atom_words.specs.Seats.{seen, Has}
+use Rattle.atom_words.specs.Seats.{seen}
 use Rattle.atom_words.specs.declared.size.Size.{Size}
-use Rattle.atom_words.specs.declared.view.Held.{Held}
 use Rattle.atom_words.specs.declared.view.View.{View}
 use Rattle.atom_words.specs.declared.kind.Kind.TheVariants.{Mark, Scan, Ack}
 use Rattle.sweep_core.proofs.Checks.{after_append}
