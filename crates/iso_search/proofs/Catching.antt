@@ -6,7 +6,7 @@ use Rattle.pl_model.specs.Resolution.{Limits, Node, Pending, State, Choice, thro
 use Rattle.pl_model.specs.Control.{at_catch, caught, fitting, thrown}
 use Rattle.term_store.specs.declared.words.Place.{Place}
 use Rattle.iso_search.specs.declared.choices.Alternative.{Alternative}
-use Rattle.iso_search.specs.declared.choices.Alternative.TheVariants.{Clauses, Branch, Barrier, Catch}
+use Rattle.iso_search.specs.declared.choices.Alternative.TheVariants.{Clauses, Answers, Branch, Barrier, Catch}
 use Rattle.iso_search.specs.declared.frames.Task.{Task}
 use Rattle.iso_search.specs.declared.frames.Task.TheVariants.{Goal, Commit, Refute, Leave, Collect}
 use Rattle.term_store.specs.Contents.{Contents}
@@ -58,6 +58,7 @@ caught_by_no_catch l s ball outer cs older v r n a e other = go a other ∙ sym 
   where
     go : (x : Alternative) → ((c w : Place) → x ≡ Catch c w → ⊥) → record s { doing = throwing ball outer } ≡ caught l s ball outer (choice_at v r n x ∷ older)
     go (Clauses w g p) k = refl
+    go (Answers w line) k = refl
     go Branch k = refl
     go Barrier k = refl
     go (Catch c w) k = absurd (k c w refl)

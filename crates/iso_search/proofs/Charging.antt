@@ -13,7 +13,7 @@ use Rattle.pl_term.specs.Cells.{cells}
 use Rattle.term_store.specs.declared.words.Place.{Place}
 use Rattle.term_store.specs.Contents.{Contents, Adds, back_to}
 use Rattle.iso_search.specs.declared.choices.Alternative.{Alternative}
-use Rattle.iso_search.specs.declared.choices.Alternative.TheVariants.{Clauses, Branch, Barrier, Catch}
+use Rattle.iso_search.specs.declared.choices.Alternative.TheVariants.{Clauses, Answers, Branch, Barrier, Catch}
 use Rattle.iso_search.specs.declared.choices.ChoicePoint.{ChoicePoint}
 use Rattle.iso_search.specs.declared.frames.Frame.{Frame}
 use Rattle.iso_search.specs.declared.search.Search.{Search}
@@ -57,6 +57,7 @@ adds_charged s n =
 
 uncollected : (v : View) (r : Place → Tree) (n : Node) (a : Alternative) (cs : List Choice) → collected_cells (choice_at v r n a ∷ cs) ≡ collected_cells cs
 uncollected v r n (Clauses w g p) cs = refl
+uncollected v r n (Answers w line) cs = refl
 uncollected v r n Branch cs = refl
 uncollected v r n Barrier cs = refl
 uncollected v r n (Catch c w) cs = refl

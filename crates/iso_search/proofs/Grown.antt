@@ -14,7 +14,7 @@ use Rattle.term_store.specs.declared.words.Place.{Place}
 use Rattle.term_store.specs.Contents.{Contents, Holds, IsAbove}
 use Rattle.iso_search.specs.declared.calls.Checked.TheVariants.{Refused}
 use Rattle.iso_search.specs.declared.choices.Alternative.{Alternative}
-use Rattle.iso_search.specs.declared.choices.Alternative.TheVariants.{Clauses, Branch, Barrier, Catch}
+use Rattle.iso_search.specs.declared.choices.Alternative.TheVariants.{Clauses, Answers, Branch, Barrier, Catch}
 use Rattle.iso_search.specs.declared.frames.Task.{Task}
 use Rattle.iso_search.specs.declared.frames.Task.TheVariants.{Goal, Commit, Refute, Leave, Collect}
 use Rattle.iso_search.specs.declared.frames.Frame.{Frame}
@@ -22,7 +22,7 @@ use Rattle.iso_search.specs.declared.outcome.Fault.{Fault}
 use Rattle.iso_search.specs.declared.outcome.Outcome.TheVariants.{Raise}
 use Rattle.iso_search.specs.declared.search.Search.{Search}
 use Rattle.iso_search.specs.Calling.{goal_or_error}
-use Rattle.iso_search.specs.Choices.{choice_at, IsAlternativeIn, IsTaskIn}
+use Rattle.iso_search.specs.Choices.{answers_from, choice_at, IsAlternativeIn, IsTaskIn}
 use Rattle.iso_search.specs.Conversions.{Grows, Stays}
 use Rattle.iso_search.specs.Frames.{stacked, tasks}
 use Rattle.iso_search.specs.Outcomes.{Setting, fault_term, result_in, state_in}
@@ -110,6 +110,7 @@ module _ (e : Search) (s : Contents) (g : Stays e.store s) (w : IsWhole e) where
 
 pub alternative_grown : (s t : Contents) → Stays s t → (a : Alternative) → IsAlternativeIn s a → IsAlternativeIn t a
 alternative_grown s t g (Clauses w k p) i = g.adds.places w i
+alternative_grown s t g (Answers w line) i = g.adds.places w i
 alternative_grown s t g Branch i = tt
 alternative_grown s t g Barrier i = tt
 alternative_grown s t g (Catch c w) i = (g.adds.places c i.0, g.adds.places w i.1)
@@ -117,6 +118,7 @@ alternative_grown s t g (Catch c w) i = (g.adds.places c i.0, g.adds.places w i.
 pub choice_grown : (v : View) (s t : Contents) → Stays s t → (n : Node) (a : Alternative) → IsAlternativeIn s a
     → choice_at v (reads v t) n a ≡ choice_at v (reads v s) n a
 choice_grown v s t g n (Clauses w k p) i = ap (λ x. clauses resolving x (v.left x k p) n) (read_kept v s t g w i)
+choice_grown v s t g n (Answers w line) i = ap (λ x. answers_from x line n) (read_kept v s t g w i)
 choice_grown v s t g n Branch i = refl
 choice_grown v s t g n Barrier i = refl
 choice_grown v s t g n (Catch c w) i = ap₂ (λ x y. catch x y n) (read_kept v s t g c i.0) (read_kept v s t g w i.1)

@@ -1,14 +1,18 @@
 -- Going back to the newest choice point, by the definition.
-use Rattle.std.proofs.Common.{◌≡◌, ℕ, [], ◌∷◌, refl, sym, ap, ap₂, ◌∙◌}
+use Rattle.std.proofs.Common.{◌≡◌, ℕ, [], ◌∷◌, drop, refl, sym, ap, ap₂, ◌∙◌}
 use Rattle.pl_model.specs.Resolution.{running, failing, ended, no_more, resolving}
-use Rattle.pl_model.specs.Control.{gone_back, next_clause}
+use Rattle.pl_model.specs.BuiltinRows.{unifying}
+use Rattle.pl_model.specs.Control.{gone_back, next_answer, next_clause}
+use Rattle.pl_model.specs.Predicates.{proc_of}
+use Rattle.pl_model.specs.Terms.{arguments}
 use Rattle.term_store.specs.declared.words.Place.{Place}
 use Rattle.iso_search.specs.declared.choices.Alternative.{Alternative}
-use Rattle.iso_search.specs.declared.choices.Alternative.TheVariants.{Clauses, Branch, Barrier, Catch}
-use Rattle.iso_search.specs.declared.failure.Back.TheVariants.{Exhausted, Run, Fail, Retry}
+use Rattle.iso_search.specs.declared.choices.Alternative.TheVariants.{Clauses, Answers, Branch, Barrier, Catch}
+use Rattle.iso_search.specs.declared.failure.Back.TheVariants.{Exhausted, Run, Fail, Retry, Answers as Tried}
 use Rattle.iso_search.specs.declared.search.Search.{Search}
 use Rattle.iso_search.specs.Choices.{choice_at}
 use Rattle.iso_search.specs.Failures.{back_result}
+use Rattle.iso_search.specs.Lines.{lines_of}
 use Rattle.iso_search.specs.Outcomes.{Setting, limits_in, state_in}
 use Rattle.iso_search.specs.Reading.{reads}
 use Rattle.iso_search.specs.Searching.{node_of, choices_of}
@@ -55,3 +59,13 @@ module _ (t : Setting) (e d : Search) (list : ℕ) (a : Alternative)
       (same_limits t d e budgets)
       (state_by t.doing t.doing (choices_of t.view d) (choices_of t.view d) d.next e.next d.inferences e.inferences t.output refl refl next inferences)
       ∙ sym (ap (gone_back (limits_in t e) (state_in t e)) (newest (Clauses g generation place) is))
+
+  pub back_answers : d.budgets ≡ e.budgets → (g : Place) (line : ℕ) → a ≡ Answers g line
+      → back_result t d (Tried g line list) ≡ gone_back (limits_in t e) (state_in t e) (choices_of t.view e)
+  unfolding gone_back
+  back_answers budgets g line is =
+      let r = reads t.view d.store g in
+      ap₂ (λ l s. next_answer l s (node_of t.view d list) (proc_of r) (arguments r) (unifying (arguments r) (drop line (lines_of r))))
+      (same_limits t d e budgets)
+      (state_by t.doing t.doing (choices_of t.view d) (choices_of t.view d) d.next e.next d.inferences e.inferences t.output refl refl next inferences)
+      ∙ sym (ap (gone_back (limits_in t e) (state_in t e)) (newest (Answers g line) is))

@@ -1,22 +1,31 @@
 -- What choice points stand for. The older ones are read from the store as it was when the newest was made.
-use Rattle.std.specs.Prelude.{◌≤◌, List, [], ◌∷◌, length, take}
+use Rattle.std.specs.Prelude.{◌≤◌, ℕ, List, [], ◌∷◌, length, take, drop}
 use Rattle.std.specs.List.{All}
 use Rattle.pl_term.specs.Tree.{Tree}
-use Rattle.pl_model.specs.Resolution.{Node, resolving, Choice, clauses, branch, barrier, catch}
+use Rattle.pl_model.specs.BuiltinRows.{unifying}
+use Rattle.pl_model.specs.Predicates.{proc_of}
+use Rattle.pl_model.specs.Resolution.{Node, resolving, Choice, clauses, answers, branch, barrier, catch}
+use Rattle.pl_model.specs.Terms.{arguments}
 use Rattle.term_store.specs.declared.words.Place.{Place}
 use Rattle.term_store.specs.Contents.{Contents, Holds, IsMark, back_to}
 use Rattle.iso_search.specs.declared.frames.Task.{Task}
 use Rattle.iso_search.specs.declared.frames.Task.TheVariants.{Goal, Commit, Refute, Leave, Collect}
 use Rattle.iso_search.specs.declared.frames.Frame.{Frame}
 use Rattle.iso_search.specs.declared.choices.Alternative.{Alternative}
-use Rattle.iso_search.specs.declared.choices.Alternative.TheVariants.{Clauses, Branch, Barrier, Catch}
+use Rattle.iso_search.specs.declared.choices.Alternative.TheVariants.{Clauses, Answers, Branch, Barrier, Catch}
 use Rattle.iso_search.specs.declared.choices.ChoicePoint.{ChoicePoint}
 use Rattle.iso_search.specs.Frames.{tasks, AreLinked}
+use Rattle.iso_search.specs.Lines.{lines_of}
 use Rattle.iso_search.specs.Reading.{View, reads, node_at}
+
+-- The answers of a built-in predicate, called by this goal, that come from the lines of its table from a line on.
+abbrev pub answers_from : Tree → ℕ → Node → Choice
+answers_from t line n = answers (proc_of t) (arguments t) (unifying (arguments t) (drop line (lines_of t))) n
 
 -- The choice with this node after it.
 abbrev pub choice_at : View → (Place → Tree) → Node → Alternative → Choice
 choice_at v r n (Clauses w generation place) = clauses resolving (r w) (v.left (r w) generation place) n
+choice_at v r n (Answers w line) = answers_from (r w) line n
 choice_at v r n Branch = branch n
 choice_at v r n Barrier = barrier
 choice_at v r n (Catch c w) = catch (r c) (r w) n
@@ -41,6 +50,7 @@ IsTaskIn s (Collect w n) = Holds s w
 
 abbrev pub IsAlternativeIn : Contents → Alternative → Type 0
 IsAlternativeIn s (Clauses w g p) = Holds s w
+IsAlternativeIn s (Answers w line) = Holds s w
 IsAlternativeIn s Branch = Unit {0}
 IsAlternativeIn s Barrier = Unit {0}
 IsAlternativeIn s (Catch c w) = Holds s c × Holds s w

@@ -1,11 +1,16 @@
 -- What is left to do after a failure, as states of the search.
-use Rattle.std.specs.Prelude.{◌≡◌, ◌≤◌, ◌∷◌, length}
+use Rattle.std.specs.Prelude.{◌≡◌, ◌≤◌, ◌∷◌, length, drop}
 use Rattle.pl_model.specs.Resolution.{State, running, failing, resolving, clauses, ended, no_more}
-use Rattle.pl_model.specs.Control.{next_clause}
+use Rattle.pl_model.specs.BuiltinRows.{unifying}
+use Rattle.pl_model.specs.Control.{next_answer, next_clause}
+use Rattle.pl_model.specs.Predicates.{proc_of}
+use Rattle.pl_model.specs.Terms.{arguments}
 use Rattle.term_store.specs.Contents.{Holds}
 use Rattle.iso_search.specs.declared.failure.Back.{Back}
-use Rattle.iso_search.specs.declared.failure.Back.TheVariants.{Exhausted, Run, Fail, Retry}
+use Rattle.iso_search.specs.declared.failure.Back.TheVariants.{Exhausted, Run, Fail, Retry, Answers}
 use Rattle.iso_search.specs.declared.search.Search.{Search}
+use Rattle.iso_search.specs.Choices.{answers_from}
+use Rattle.iso_search.specs.Lines.{lines_of}
 use Rattle.iso_search.specs.Outcomes.{Setting, limits_in, state_in}
 use Rattle.iso_search.specs.Reading.{View, reads}
 use Rattle.iso_search.specs.Searching.{choices_of, node_of, state_of}
@@ -17,14 +22,19 @@ back_result t e Fail = state_of t.view e failing t.output
 back_result t e (Retry goal generation place next) =
     next_clause (limits_in t e) resolving (state_in t e) (reads t.view e.store goal) (node_of t.view e next)
     (t.view.left (reads t.view e.store goal) generation place)
+back_result t e (Answers goal line next) =
+    let g = reads t.view e.store goal
+    in next_answer (limits_in t e) (state_in t e) (node_of t.view e next) (proc_of g) (arguments g)
+    (unifying (arguments g) (drop line (lines_of g)))
 
 abbrev pub IsBackIn : Search → Back → Type 0
 IsBackIn e Exhausted = Unit {0}
 IsBackIn e (Run list) = list ≤ length e.frames.items
 IsBackIn e Fail = Unit {0}
 IsBackIn e (Retry goal generation place next) = Holds e.store goal × (next ≤ length e.frames.items)
+IsBackIn e (Answers goal line next) = Holds e.store goal × (next ≤ length e.frames.items)
 
--- The clauses that are to be tried were the newest choice point.
+-- What is to be tried was the newest choice point.
 abbrev pub IsTaken : Search → Search → Back → Type 0
 IsTaken e d Exhausted = Unit {0}
 IsTaken e d (Run list) = Unit {0}
@@ -33,3 +43,5 @@ IsTaken e d (Retry goal generation place next) =
     (v : View)
     → choices_of v e
     ≡ clauses resolving (reads v d.store goal) (v.left (reads v d.store goal) generation place) (node_of v d next) ∷ choices_of v d
+IsTaken e d (Answers goal line next) =
+    (v : View) → choices_of v e ≡ answers_from (reads v d.store goal) line (node_of v d next) ∷ choices_of v d

@@ -8,6 +8,7 @@ pub mod Extending
 pub mod Failures
 pub mod Frames
 pub mod Goals
+pub mod Lines
 pub mod Outcomes
 pub mod Reading
 pub mod Recovering

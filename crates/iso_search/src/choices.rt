@@ -10,6 +10,12 @@ pub enum Alternative {
         generation: u64,
         place: u64,
     },
+    /// The lines of the table of the built-in predicate that the goal calls, from a line on: those that unify with its
+    /// arguments, of which there is one at least.
+    Answers {
+        goal: Place,
+        line: usize,
+    },
     /// A branch of `;`, of `->` or of `\+`.
     Branch,
     /// None: a condition without an else branch, or the goal of `once/1`, is running.

@@ -26,6 +26,13 @@ pub enum Back {
         place: u64,
         next: usize,
     },
+    /// The answers of the built-in predicate that the goal calls are to be tried, from a line of its table on, before the
+    /// tasks of the list.
+    Answers {
+        goal: Place,
+        line: usize,
+        next: usize,
+    },
 }
 
 impl Search {
@@ -55,6 +62,11 @@ impl Search {
                 goal,
                 generation,
                 place,
+                next: k.next,
+            },
+            Alternative::Answers { goal, line } => Back::Answers {
+                goal,
+                line,
                 next: k.next,
             },
             Alternative::Branch => Back::Run(k.next),

@@ -3,7 +3,7 @@ use Rattle.iso_search.specs.Choices.{choice_at}
 use Rattle.iso_search.specs.Reading.{reads}
 use Rattle.iso_search.specs.Searching.{choices_of, node_of}
 use Rattle.iso_search.specs.declared.search.Search.{Search}
-use Rattle.iso_search.proofs.Resuming.{back_exhausted, back_branch, back_barrier, back_catch, back_clauses}
+use Rattle.iso_search.proofs.Resuming.{back_answers, back_barrier, back_branch, back_catch, back_clauses, back_exhausted}
 use Rattle.iso_search.proofs.search.Search.resume.Goals as goal
 
 pub returns-in_default-clause-step : goal.returns-in_default-clause-step
@@ -43,4 +43,17 @@ pub returns-in-Clauses-clause-taken : goal.returns-in-Clauses-clause-taken
 returns-in-Clauses-clause-taken c v =
     let d = c.go_back.new.self in
     subst (λ a. choices_of v c.args.self.now ≡ choice_at v (reads v d.store) (node_of v d c.in-Some.k.next) a ∷ choices_of v d) c.in-Clauses.is
+    (c.in-Some.ensures.back v)
+
+pub returns-in-Answers-clause-step : goal.returns-in-Answers-clause-step
+returns-in-Answers-clause-step c t fails =
+    let kept = c.go_back.ensures.kept in
+    back_answers t c.args.self.now c.go_back.new.self c.in-Some.k.next c.in-Some.k.alternative (c.in-Some.ensures.back t.view)
+    (ap (λ (s : Search). s.next) kept) (ap (λ (s : Search). s.inferences) kept) (ap (λ (s : Search). s.budgets) kept)
+    c.in-Answers.goal c.in-Answers.line c.in-Answers.is
+
+pub returns-in-Answers-clause-taken : goal.returns-in-Answers-clause-taken
+returns-in-Answers-clause-taken c v =
+    let d = c.go_back.new.self in
+    subst (λ a. choices_of v c.args.self.now ≡ choice_at v (reads v d.store) (node_of v d c.in-Some.k.next) a ∷ choices_of v d) c.in-Answers.is
     (c.in-Some.ensures.back v)
