@@ -5,7 +5,7 @@ use Rattle.pl_model.specs.History.{Proc}
 use Rattle.pl_model.specs.Predicates.{proc_of}
 use Rattle.pl_model.specs.Balls.{instantiation_error, not_callable, error_ball}
 use Rattle.pl_model.specs.BodyChecks.{body_of, called_goal, converted, if_callable, or_not_callable}
-use Rattle.pl_model.specs.Resolution.{Node, State, goal, throwing}
+use Rattle.pl_model.specs.Resolution.{Node, Pending, State, collect, goal, throwing}
 use Rattle.pl_model.specs.Control.{before, checked, extension_cells, over, run_on, taking, with_call}
 use Rattle.pl_model.specs.Terms.{extended}
 use Rattle.term_store.specs.declared.words.Place.{Place}
@@ -14,6 +14,7 @@ use Rattle.term_store.specs.Contents.{Contents, Holds, term_at}
 use Rattle.iso_search.specs.declared.calls.Checked.TheVariants.{Goal, Refused}
 use Rattle.iso_search.specs.declared.choices.Alternative.{Alternative}
 use Rattle.iso_search.specs.declared.control.Exit.{Exit}
+use Rattle.iso_search.specs.declared.control.Exit.TheVariants.{Commit, Refute, Leave, Collect}
 use Rattle.iso_search.specs.declared.extending.Extended.{Extended}
 use Rattle.iso_search.specs.declared.outcome.Fault.{Fault}
 use Rattle.iso_search.specs.declared.outcome.Outcome.{Outcome}
@@ -23,7 +24,7 @@ use Rattle.iso_search.specs.Calling.{goal_or_error}
 use Rattle.iso_search.specs.Choices.{IsAlternativeIn, choice_at}
 use Rattle.iso_search.specs.Conversions.{Stays}
 use Rattle.iso_search.specs.Extending.{IsCallable, further}
-use Rattle.iso_search.specs.Outcomes.{Setting, exit_at, fault_term, limits_in, result_in, state_in}
+use Rattle.iso_search.specs.Outcomes.{IsExitIn, Setting, exit_at, fault_term, limits_in, result_in, state_in}
 use Rattle.iso_search.specs.Reading.{View, reads}
 use Rattle.iso_search.specs.Searching.{IsWhole, node_of, choices_of}
 use Rattle.iso_search.specs.Spelling.{spelled, text_of}
@@ -66,28 +67,42 @@ callable_term v s p f ts e =
 
 -- A goal over a choice point
 
+-- What is to be done at its exit is read as before.
+exit_grown : (v : View) (s t : Contents) → Stays s t → (x : Exit) → IsExitIn s x
+    → (let a : ℕ → Pending = λ h. exit_at (reads v t) x h in let b : ℕ → Pending = λ h. exit_at (reads v s) x h in a ≡ b)
+exit_grown v s t g Commit i = refl
+exit_grown v s t g Refute i = refl
+exit_grown v s t g Leave i = refl
+exit_grown v s t g (Collect w) i = ap (λ y. let f : ℕ → Pending = λ h. collect y h in f) (read_kept v s t g w i)
+
+pub exit_inside : (s t : Contents) → Stays s t → (x : Exit) → IsExitIn s x → IsExitIn t x
+exit_inside s t g Commit i = tt
+exit_inside s t g Refute i = tt
+exit_inside s t g Leave i = tt
+exit_inside s t g (Collect w) i = g.adds.places w i
+
 module _ (t : Setting) (e f : Search) (s : Contents) (g : Stays e.store s) (w : IsWhole e) (rest : ℕ) (p : Proc) (o : Outcome) where
-  pub called_over : (a : Alternative) (argument inner : Place) (x : Exit) → IsAlternativeIn e.store a
+  pub called_over : (a : Alternative) (argument inner : Place) (x : Exit) → IsAlternativeIn e.store a → IsExitIn e.store x
       → called_goal (reads t.view e.store argument) ≡ Ok (reads t.view s inner)
       → (let d : Search = record e { store = s } in
       result_in t f (node_of t.view e rest) p o ≡ over (limits_in t d) (state_in t d) (node_of t.view e rest) p
-      (choice_at t.view (reads t.view s) (node_of t.view d rest) a) (λ h. goal (reads t.view s inner) (suc h) ∷ exit_at x h ∷ []))
+      (choice_at t.view (reads t.view s) (node_of t.view d rest) a) (λ h. goal (reads t.view s inner) (suc h) ∷ exit_at (reads t.view s) x h ∷ []))
       → result_in t f (node_of t.view e rest) p o ≡ checked (state_in t e) (node_of t.view e rest) p (called_goal (reads t.view e.store argument))
       (λ body. over (limits_in t e) (state_in t e) (node_of t.view e rest) p (choice_at t.view (reads t.view e.store) (node_of t.view e rest) a)
-      (λ h. goal body (suc h) ∷ exit_at x h ∷ []))
-  called_over a argument inner x inside is entered =
+      (λ h. goal body (suc h) ∷ exit_at (reads t.view e.store) x h ∷ []))
+  called_over a argument inner x inside exit_inside is entered =
       let v = t.view in
       let d : Search = record e { store = s } in
       let n = node_of v e rest in
       entered
       ∙ over_same (limits_in t d) (limits_in t e) (state_in t d) (state_in t e) n p
       (choice_at v (reads v s) (node_of v d rest) a) (choice_at v (reads v e.store) n a)
-      (λ h. goal (reads v s inner) (suc h) ∷ exit_at x h ∷ []) (λ h. goal (reads v s inner) (suc h) ∷ exit_at x h ∷ [])
+      (λ h. goal (reads v s inner) (suc h) ∷ exit_at (reads v s) x h ∷ []) (λ h. goal (reads v s inner) (suc h) ∷ exit_at (reads v e.store) x h ∷ [])
       refl (state_grown e s g w t)
       (ap (λ m. choice_at v (reads v s) m a) (node_grown e s g w v rest) ∙ choice_grown v e.store s g n a inside)
-      refl
+      (ap (λ (y : ℕ → Pending). let f : ℕ → List Pending = λ h. goal (reads v s inner) (suc h) ∷ y h ∷ [] in f) (exit_grown v e.store s g x exit_inside))
       ∙ sym (ap (λ q. checked (state_in t e) n p q
-      (λ body. over (limits_in t e) (state_in t e) n p (choice_at v (reads v e.store) n a) (λ h. goal body (suc h) ∷ exit_at x h ∷ []))) is)
+      (λ body. over (limits_in t e) (state_in t e) n p (choice_at v (reads v e.store) n a) (λ h. goal body (suc h) ∷ exit_at (reads v e.store) x h ∷ []))) is)
 
 -- A call of a goal that was given its arguments
 

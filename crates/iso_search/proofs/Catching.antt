@@ -6,7 +6,7 @@ use Rattle.pl_model.specs.Resolution.{Limits, Node, Pending, State, Choice, thro
 use Rattle.pl_model.specs.Control.{at_catch, caught, fitting, thrown}
 use Rattle.term_store.specs.declared.words.Place.{Place}
 use Rattle.iso_search.specs.declared.choices.Alternative.{Alternative}
-use Rattle.iso_search.specs.declared.choices.Alternative.TheVariants.{Clauses, Answers, Branch, Barrier, Catch}
+use Rattle.iso_search.specs.declared.choices.Alternative.TheVariants.{Clauses, Answers, Branch, Barrier, Catch, Findall}
 use Rattle.iso_search.specs.declared.frames.Task.{Task}
 use Rattle.iso_search.specs.declared.frames.Task.TheVariants.{Goal, Commit, Refute, Leave, Collect}
 use Rattle.term_store.specs.Contents.{Contents}
@@ -62,6 +62,7 @@ caught_by_no_catch l s ball outer cs older v r n a e other = go a other ∙ sym 
     go Branch k = refl
     go Barrier k = refl
     go (Catch c w) k = absurd (k c w refl)
+    go (Findall w f) k = refl
 
 pub caught_by_catch : (t : Setting) (e f : Search) (ball : Tree) (outer : List Pending) (cs : List Choice) (a : Alternative) (k : CatchPoint)
     → cs ≡ choice_at t.view (reads t.view f.store) (node_of t.view f k.next) a ∷ choices_of t.view f → a ≡ Catch k.catcher k.recovery

@@ -1,31 +1,26 @@
 -- What is taken from the budgets, by the definition.
-use Rattle.std.proofs.Common.{◌≡◌, ℕ, suc, ◌+◌, ◌<◌, ◌≤◌, ◌^◌, Bool, true, false, cond, nat_lt, nat_le, List, [], ◌∷◌, reverse, take, Some, None, refl, sym, ap, ap₂, subst, ◌∙◌, arith, ◌⊎◌, inl, inr}
+use Rattle.std.proofs.Common.{◌≡◌, ℕ, suc, ◌+◌, ◌<◌, ◌≤◌, ◌^◌, Bool, true, false, cond, nat_lt, nat_le, reverse, Some, None, refl, sym, ap, ap₂, subst, ◌∙◌, arith, ◌⊎◌, inl, inr}
 use Rattle.std.proofs.lemmas.Bool.Decides.{leb_tells}
 use Rattle.std.proofs.lemmas.List.Elements.{All-weaker}
 use Rattle.pl_term.specs.Tree.{Tree}
 use Rattle.pl_model.specs.History.{Proc}
 use Rattle.pl_model.specs.Predicates.{proc_of}
 use Rattle.pl_model.specs.Balls.{error_ball, no_inferences, no_cells}
-use Rattle.pl_model.specs.Resolution.{Node, Choice, State, Next, goes, collected_cells}
+use Rattle.pl_model.specs.Resolution.{Node, State, Next, goes, collected_cells}
 use Rattle.pl_model.specs.Terms.{variable_count}
 use Rattle.pl_model.specs.Control.{Caught, catch_proc, costing, taking, fits, fitting, raised}
 use Rattle.pl_term.specs.Cells.{cells}
-use Rattle.term_store.specs.declared.words.Place.{Place}
-use Rattle.term_store.specs.Contents.{Contents, Adds, back_to}
-use Rattle.iso_search.specs.declared.choices.Alternative.{Alternative}
-use Rattle.iso_search.specs.declared.choices.Alternative.TheVariants.{Clauses, Answers, Branch, Barrier, Catch}
-use Rattle.iso_search.specs.declared.choices.ChoicePoint.{ChoicePoint}
-use Rattle.iso_search.specs.declared.frames.Frame.{Frame}
+use Rattle.term_store.specs.Contents.{Contents, Adds}
 use Rattle.iso_search.specs.declared.search.Search.{Search}
 use Rattle.iso_search.specs.declared.outcome.Outcome.TheVariants.{Raise}
 use Rattle.iso_search.specs.declared.outcome.Fault.TheVariants.{Inferences, Cells}
 use Rattle.iso_search.specs.Budgeting.{fitted}
-use Rattle.iso_search.specs.Choices.{choice_at, choices_at, node_behind}
 use Rattle.iso_search.specs.Outcomes.{Setting, limits_in, state_in, result_in}
-use Rattle.iso_search.specs.Reading.{View, reads}
+use Rattle.iso_search.specs.Reading.{View}
 use Rattle.iso_search.specs.Searching.{IsWhole, node_of, choices_of}
-use Rattle.iso_search.proofs.Instances.{base_added, rests_kept, choices_kept}
+use Rattle.iso_search.proofs.Instances.{choices_kept}
 use Rattle.iso_search.proofs.Over.{is_below, not_below}
+use Rattle.iso_search.proofs.Wholes.{whole_added}
 
 -- An inference
 
@@ -55,19 +50,6 @@ adds_charged s n =
       back = λ m k. refl;
     }
 
-uncollected : (v : View) (r : Place → Tree) (n : Node) (a : Alternative) (cs : List Choice) → collected_cells (choice_at v r n a ∷ cs) ≡ collected_cells cs
-uncollected v r n (Clauses w g p) cs = refl
-uncollected v r n (Answers w line) cs = refl
-uncollected v r n Branch cs = refl
-uncollected v r n Barrier cs = refl
-uncollected v r n (Catch c w) cs = refl
-
-pub none_collected : (v : View) (ws : List Place) (s : Contents) (fs : List Frame) (ks : List ChoicePoint) → collected_cells (choices_at v ws s fs ks) ≡ 0
-none_collected v ws s fs [] = refl
-none_collected v ws s fs (k ∷ ks) =
-    uncollected v (reads v (back_to k.mark s)) (node_behind v ws s fs k) k.alternative (choices_at v ws (back_to k.mark s) (take k.frames fs) ks)
-    ∙ none_collected v ws (back_to k.mark s) (take k.frames fs) ks
-
 pub is_at_most : (a b : ℕ) → a ≤ b → nat_le a b ≡ true
 is_at_most a b le = go (leb_tells a b)
   where
@@ -85,14 +67,12 @@ not_at_most a b lt = go (leb_tells a b)
 cells_fit : (t : Setting) (e : Search) (list need : ℕ) → IsWhole e → e.store.used + need ≤ e.store.budget
     → fits (limits_in t e) (state_in t e) (node_of t.view e list) need ≡ true
 cells_fit t e list need w le =
-    let none = none_collected t.view e.answer.items e.store e.frames.items (reverse e.choices.items) in
-    is_at_most (e.store.used + collected_cells (choices_of t.view e) + need) e.budgets.cells (omega (arith, none, w.budget, le))
+    is_at_most (e.store.used + collected_cells (choices_of t.view e) + need) e.budgets.cells (let counted = w.budget t.view in omega (arith, counted, le))
 
 cells_do_not_fit : (t : Setting) (e : Search) (list need : ℕ) → IsWhole e → e.store.budget < e.store.used + need
     → fits (limits_in t e) (state_in t e) (node_of t.view e list) need ≡ false
 cells_do_not_fit t e list need w lt =
-    let none = none_collected t.view e.answer.items e.store e.frames.items (reverse e.choices.items) in
-    not_at_most (e.store.used + collected_cells (choices_of t.view e) + need) e.budgets.cells (omega (arith, none, w.budget, lt))
+    not_at_most (e.store.used + collected_cells (choices_of t.view e) + need) e.budgets.cells (let counted = w.budget t.view in omega (arith, counted, lt))
 
 -- Numbers of variables, and cells
 
@@ -118,6 +98,12 @@ module _ (t : Setting) (e d : Search) (new need : ℕ) (p : Proc) (list : ℕ) (
       (ap (λ cs. next (record s { choices = cs; next = s.next + new }) (record n { used = n.used + need })) kept
       ∙ by_tests true true (is_below (e.next + new) (2 ^ 64) room) (cells_fit t e list need w le))
 
+  -- What follows where both fit.
+  pub fitting_then : e.next + new < 2 ^ 64 → e.store.used + need ≤ e.store.budget
+      → (let s = state_in t e in let n = node_of t.view e list in next (record s { next = s.next + new }) (record n { used = n.used + need }))
+      ≡ taking (limits_in t e) (state_in t e) (node_of t.view e list) p new need next
+  fitting_then room le = by_tests true true (is_below (e.next + new) (2 ^ 64) room) (cells_fit t e list need w le)
+
   pub no_room : e.store.budget < e.store.used + need → e.next + new < 2 ^ 64 → d ≡ e
       → result_in t d (node_of t.view e list) p (Raise Cells) ≡ taking (limits_in t e) (state_in t e) (node_of t.view e list) p new need next
   no_room lt room is =
@@ -132,13 +118,8 @@ module _ (t : Setting) (e d : Search) (new need : ℕ) (p : Proc) (list : ℕ) (
 
 pub whole_taken : (e : Search) (new need : ℕ) → IsWhole e → IsWhole (record e { store = record e.store { used = e.store.used + need }; next = e.next + new })
 whole_taken e new need w =
-    let c = record e.store { used = e.store.used + need } in
-    record {
-      base = base_added e.answer.items e.store c e.frames.items (adds_charged e.store need) w.base;
-      rests = rests_kept e.answer.items e.store c e.frames.items (reverse e.choices.items) (adds_charged e.store need) w.rests;
-      budget = w.budget;
-      above = All-weaker (λ m. m < e.next) (λ m. m < e.next + new) (λ m lt. omega arith) e.store.heap.numbers w.above;
-    }
+    whole_added e (record e.store { used = e.store.used + need }) (e.next + new) (adds_charged e.store need) refl (omega arith)
+    (All-weaker (λ m. m < e.next) (λ m. m < e.next + new) (λ m lt. omega arith) e.store.heap.numbers w.above) w
 
 pub choices_taken : (v : View) (e : Search) (new need : ℕ) → IsWhole e
     → choices_of v (record e { store = record e.store { used = e.store.used + need }; next = e.next + new }) ≡ choices_of v e

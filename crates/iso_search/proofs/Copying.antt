@@ -1,9 +1,12 @@
 -- Copies of terms, their cells and their variables, however their names are spelled.
-use Rattle.std.proofs.Common.{◌≡◌, ℕ, zero, ◌+◌, length, refl, sym, ap, ap₂, ◌∙◌}
+use Rattle.std.proofs.Common.{◌≡◌, ℕ, zero, ◌+◌, ◌-◌, length, get_or, refl, sym, ap, ap₂, ◌∙◌, arith, zero-add}
 use Rattle.pl_term.specs.Tree.{Chars, Tree, Trees, var, int, atom, comp, none, more}
-use Rattle.pl_term.specs.Variables.{distinct, place, rename, rename_all_by, rename_by, variables}
+use Rattle.pl_term.specs.Variables.{distinct, occurrences, place, rename, rename_all_by, rename_by, variables}
 use Rattle.pl_term.specs.Cells.{cells, compound_cells, compound_cells_all}
+use Rattle.pl_term.proofs.Distinct.{get_or-place, is_in-distinct}
 use Rattle.pl_term.proofs.NodeLemmas.{count-rename_all_by}
+use Rattle.pl_term.proofs.Renaming.{rename_same}
+use Rattle.pl_term.proofs.Variants.{same_from_variant}
 use Rattle.term_store.proofs.Renumbering.{length-variables_renamed, raised_numbered, rename-raised, rename-rename}
 use Rattle.iso_search.specs.Spelling.{spelled, spelled_all}
 use Rattle.iso_search.proofs.Spelt.{count-spelled, occurrences-spelled}
@@ -60,3 +63,28 @@ cells-kept t = ap₂ (λ n m. n + m) (compound_cells-renamed (λ x. zero + place
 
 pub rename-kept : (from : ℕ) (t : Tree) → rename from (rename zero t) ≡ rename from t
 rename-kept from t = sym (raised_numbered from (rename zero t) (rename-rename t)) ∙ rename-raised from t
+
+-- A term is numbered again as it was before its variables were numbered from a number on.
+pub numbered_again : (from : ℕ) (t : Tree) → rename zero (rename from t) ≡ rename zero t
+numbered_again from t =
+    unzero (rename from t)
+    ∙ sym
+    (unzero t
+    ∙ same_from_variant t (rename from t)
+    (record {
+      to = λ x. from + place x (variables t);
+      back = λ k. get_or (variables t) (k - from) 0;
+      becomes = refl;
+      one_to_one = λ x h.
+          ap (λ k. get_or (variables t) k 0) (back_down from (place x (variables t)))
+          ∙ get_or-place x (variables t) (is_in-distinct x (occurrences t) ∙ h);
+    }))
+  where
+    unzero : (u : Tree) → rename zero u ≡ rename_by (λ x. place x (variables u)) u
+    unzero u = rename_same (λ x. zero + place x (variables u)) (λ x. place x (variables u)) u (λ x _. zero-add (place x (variables u)))
+
+    back_down : (n k : ℕ) → n + k - n ≡ k
+    back_down n k = omega arith
+
+pub cells-renamed : (from : ℕ) (t : Tree) → cells (rename from t) ≡ cells t
+cells-renamed from t = sym (cells-kept (rename from t)) ∙ ap cells (numbered_again from t) ∙ cells-kept t

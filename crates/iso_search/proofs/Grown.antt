@@ -3,18 +3,18 @@ use Rattle.std.proofs.Common.{◌≡◌, ℕ, zero, suc, ◌<◌, ◌≤◌, ◌
 use Rattle.std.specs.List.{All}
 use Rattle.std.proofs.Math.Seq.{get_or-append_seam}
 use Rattle.std.proofs.lemmas.List.{get_or_append_left, get_or_past}
-use Rattle.std.proofs.lemmas.List.Elements.{All-nil, All-cons, All-head, All-tail}
+use Rattle.std.proofs.lemmas.List.Elements.{All-nil, All-cons, All-head, All-tail, All-weaker}
 use Rattle.std.proofs.lemmas.Bool.Decides.{leb_tells}
 use Rattle.pl_term.specs.Tree.{Tree}
 use Rattle.pl_model.specs.History.{Proc}
-use Rattle.pl_model.specs.Resolution.{Pending, goal, collect, Node, State, clauses, catch, resolving, throwing}
+use Rattle.pl_model.specs.Resolution.{Pending, goal, collect, Node, State, clauses, catch, findall, resolving, throwing}
 use Rattle.pl_model.specs.Balls.{error_ball}
 use Rattle.pl_model.specs.Control.{checked}
 use Rattle.term_store.specs.declared.words.Place.{Place}
 use Rattle.term_store.specs.Contents.{Contents, Holds, IsAbove}
 use Rattle.iso_search.specs.declared.calls.Checked.TheVariants.{Refused}
 use Rattle.iso_search.specs.declared.choices.Alternative.{Alternative}
-use Rattle.iso_search.specs.declared.choices.Alternative.TheVariants.{Clauses, Answers, Branch, Barrier, Catch}
+use Rattle.iso_search.specs.declared.choices.Alternative.TheVariants.{Clauses, Answers, Branch, Barrier, Catch, Findall}
 use Rattle.iso_search.specs.declared.frames.Task.{Task}
 use Rattle.iso_search.specs.declared.frames.Task.TheVariants.{Goal, Commit, Refute, Leave, Collect}
 use Rattle.iso_search.specs.declared.frames.Frame.{Frame}
@@ -23,15 +23,18 @@ use Rattle.iso_search.specs.declared.outcome.Outcome.TheVariants.{Raise}
 use Rattle.iso_search.specs.declared.search.Search.{Search}
 use Rattle.iso_search.specs.Calling.{goal_or_error}
 use Rattle.iso_search.specs.Choices.{answers_from, choice_at, IsAlternativeIn, IsTaskIn}
+use Rattle.iso_search.specs.declared.copies.Copied.{Copied}
+use Rattle.iso_search.specs.Collecting.{copies_of}
 use Rattle.iso_search.specs.Conversions.{Grows, Stays}
 use Rattle.iso_search.specs.Frames.{stacked, tasks}
 use Rattle.iso_search.specs.Outcomes.{Setting, fault_term, result_in, state_in}
 use Rattle.iso_search.specs.Reading.{View, reads, pending}
 use Rattle.iso_search.specs.Searching.{IsWhole, node_of, choices_of}
 use Rattle.iso_search.specs.Spelling.{spelled, text_of}
-use Rattle.iso_search.proofs.Instances.{base_added, rests_kept, choices_kept}
+use Rattle.iso_search.proofs.Instances.{choices_kept}
 use Rattle.iso_search.proofs.Listing.{map-agree}
 use Rattle.iso_search.proofs.Over.{state_by}
+use Rattle.iso_search.proofs.Wholes.{whole_added}
 
 -- The tasks of each list are among those of the frames
 
@@ -83,13 +86,7 @@ node_same p q a b u w e f g = cc
 
 module _ (e : Search) (s : Contents) (g : Stays e.store s) (w : IsWhole e) where
   pub whole_stays : IsAbove e.next s → IsWhole (record e { store = s })
-  whole_stays above =
-      record {
-        base = base_added e.answer.items e.store s e.frames.items g.adds w.base;
-        rests = rests_kept e.answer.items e.store s e.frames.items (reverse e.choices.items) g.adds w.rests;
-        budget = g.budget ∙ w.budget;
-        above = above;
-      }
+  whole_stays above = whole_added e s e.next g.adds g.budget (omega arith) above w
 
   pub choices_grown : (v : View) → choices_of v (record e { store = s }) ≡ choices_of v e
   choices_grown v = choices_kept v e.answer.items e.store s e.frames.items (reverse e.choices.items) g.adds w.rests
@@ -108,12 +105,21 @@ module _ (e : Search) (s : Contents) (g : Stays e.store s) (w : IsWhole e) where
       state_by t.doing t.doing (choices_of t.view (record e { store = s })) (choices_of t.view e) e.next e.next e.inferences e.inferences t.output
       refl (choices_grown t.view) refl refl
 
-pub alternative_grown : (s t : Contents) → Stays s t → (a : Alternative) → IsAlternativeIn s a → IsAlternativeIn t a
-alternative_grown s t g (Clauses w k p) i = g.adds.places w i
-alternative_grown s t g (Answers w line) i = g.adds.places w i
+pub alternative_grown : (s t : Contents) → Grows s t → (a : Alternative) → IsAlternativeIn s a → IsAlternativeIn t a
+alternative_grown s t g (Clauses w k p) i = g.stays.adds.places w i
+alternative_grown s t g (Answers w line) i = g.stays.adds.places w i
 alternative_grown s t g Branch i = tt
 alternative_grown s t g Barrier i = tt
-alternative_grown s t g (Catch c w) i = (g.adds.places c i.0, g.adds.places w i.1)
+alternative_grown s t g (Catch c w) i = (g.stays.adds.places c i.0, g.stays.adds.places w i.1)
+alternative_grown s t g (Findall w f) i = (
+  g.stays.adds.places w i.0,
+  record {
+    counted = i.1.counted;
+    above =
+        All-weaker (λ (c : Copied). IsAbove c.from s) (λ (c : Copied). IsAbove c.from t) (λ c h. subst (All (λ m. m < c.from)) (sym g.numbers) h)
+        f.copies.items i.1.above;
+  },
+)
 
 pub choice_grown : (v : View) (s t : Contents) → Stays s t → (n : Node) (a : Alternative) → IsAlternativeIn s a
     → choice_at v (reads v t) n a ≡ choice_at v (reads v s) n a
@@ -122,6 +128,7 @@ choice_grown v s t g n (Answers w line) i = ap (λ x. answers_from x line n) (re
 choice_grown v s t g n Branch i = refl
 choice_grown v s t g n Barrier i = refl
 choice_grown v s t g n (Catch c w) i = ap₂ (λ x y. catch x y n) (read_kept v s t g c i.0) (read_kept v s t g w i.1)
+choice_grown v s t g n (Findall w f) i = ap (λ x. findall x (copies_of v f) n) (read_kept v s t g w i.0)
 
 pub whole_grown : (e : Search) (s : Contents) → Grows e.store s → IsWhole e → IsWhole (record e { store = s })
 whole_grown e s g w = whole_stays e s g.stays w (subst (All (λ m. m < e.next)) (sym g.numbers) w.above)

@@ -1,5 +1,5 @@
 -- Choices up to a height.
-use Rattle.std.proofs.Common.{◌≡◌, ℕ, zero, suc, ◌-◌, List, [], ◌∷◌, ◌++◌, length, take, drop, reverse, refl, sym, ap, ap₂, subst, ◌∙◌, length-drop}
+use Rattle.std.proofs.Common.{◌≡◌, ℕ, zero, suc, ◌-◌, ◌<◌, ◌≤◌, List, [], ◌∷◌, ◌++◌, length, take, drop, reverse, refl, sym, ap, ap₂, subst, ◌∙◌, arith, length-drop}
 use Rattle.std.proofs.Math.Seq.{drop-append_seam}
 use Rattle.std.proofs.lemmas.List.{reverse-append, length-reverse, take-append-drop}
 use Rattle.term_store.specs.declared.words.Place.{Place}
@@ -45,3 +45,13 @@ choices-truncated v ws s fs n ks r =
     ap (choices_at v ws s fs) (reverse-take n ks)
     ∙ choices-drop v ws s fs (length ks - n) (reverse ks) r
     ∙ ap (λ m. drop (m - n) (choices_at v ws s fs (reverse ks))) long
+
+-- As many as there are, or as the height says.
+pub take_as_far : {X : Type 0} (n h : ℕ) (xs : List X) → n ≤ h → n ≤ length xs → (n < length xs → h ≤ n) → take n xs ≡ take h xs
+take_as_far zero zero xs le within far = refl
+take_as_far zero (suc h) [] le within far = refl
+take_as_far zero (suc h) (x ∷ xs) le within far = let none = far (omega arith) in absurd (omega (arith, none))
+take_as_far (suc n) zero xs le within far = absurd (omega (arith, le))
+take_as_far (suc n) (suc h) [] le within far = absurd (omega (arith, within))
+take_as_far (suc n) (suc h) (x ∷ xs) le within far =
+    ap (λ ys. x ∷ ys) (take_as_far n h xs (omega (arith, le)) (omega (arith, within)) (λ lt. let more = far (omega (arith, lt)) in omega (arith, more)))

@@ -145,6 +145,14 @@ pub clause_is : fixed 62 ≡ Some (codes "clause")
 unfolding fixed_texts
 clause_is = refl
 
+pub dot_is : fixed 8 ≡ Some (codes ".")
+unfolding fixed_texts
+dot_is = refl
+
+pub nil_is : fixed 30 ≡ Some (codes "[]")
+unfolding fixed_texts
+nil_is = refl
+
 pub call_is : fixed 53 ≡ Some (codes "call")
 unfolding fixed_texts
 call_is = refl

@@ -2,15 +2,17 @@
 use Rattle.std.proofs.Common.{◌≡◌, ℕ, [], ◌∷◌, drop, refl, sym, ap, ap₂, ◌∙◌}
 use Rattle.pl_model.specs.Resolution.{running, failing, ended, no_more, resolving}
 use Rattle.pl_model.specs.BuiltinRows.{unifying}
-use Rattle.pl_model.specs.Control.{gone_back, next_answer, next_clause}
+use Rattle.pl_model.specs.Control.{gone_back, list_made, next_answer, next_clause}
 use Rattle.pl_model.specs.Predicates.{proc_of}
 use Rattle.pl_model.specs.Terms.{arguments}
 use Rattle.term_store.specs.declared.words.Place.{Place}
 use Rattle.iso_search.specs.declared.choices.Alternative.{Alternative}
-use Rattle.iso_search.specs.declared.choices.Alternative.TheVariants.{Clauses, Answers, Branch, Barrier, Catch}
-use Rattle.iso_search.specs.declared.failure.Back.TheVariants.{Exhausted, Run, Fail, Retry, Answers as Tried}
+use Rattle.iso_search.specs.declared.choices.Alternative.TheVariants.{Clauses, Answers, Branch, Barrier, Catch, Findall}
+use Rattle.iso_search.specs.declared.failure.Back.TheVariants.{Exhausted, Run, Fail, Retry, Answers as Tried, Found}
 use Rattle.iso_search.specs.declared.search.Search.{Search}
 use Rattle.iso_search.specs.Choices.{choice_at}
+use Rattle.iso_search.specs.declared.copies.Collection.{Collection}
+use Rattle.iso_search.specs.Collecting.{copies_of}
 use Rattle.iso_search.specs.Failures.{back_result}
 use Rattle.iso_search.specs.Lines.{lines_of}
 use Rattle.iso_search.specs.Outcomes.{Setting, limits_in, state_in}
@@ -69,3 +71,12 @@ module _ (t : Setting) (e d : Search) (list : ℕ) (a : Alternative)
       (same_limits t d e budgets)
       (state_by t.doing t.doing (choices_of t.view d) (choices_of t.view d) d.next e.next d.inferences e.inferences t.output refl refl next inferences)
       ∙ sym (ap (gone_back (limits_in t e) (state_in t e)) (newest (Answers g line) is))
+
+  pub back_findall : d.budgets ≡ e.budgets → (l : Place) (f : Collection) → a ≡ Findall l f
+      → back_result t d (Found l f list) ≡ gone_back (limits_in t e) (state_in t e) (choices_of t.view e)
+  unfolding gone_back
+  back_findall budgets l f is =
+      ap₂ (λ m s. list_made m s (node_of t.view d list) (reads t.view d.store l) (copies_of t.view f))
+      (same_limits t d e budgets)
+      (state_by t.doing t.doing (choices_of t.view d) (choices_of t.view d) d.next e.next d.inferences e.inferences t.output refl refl next inferences)
+      ∙ sym (ap (gone_back (limits_in t e) (state_in t e)) (newest (Findall l f) is))

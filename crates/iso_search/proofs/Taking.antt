@@ -7,7 +7,7 @@ use Rattle.pl_model.specs.Control.{succeeds, cuts, conjunction, disjunction, if_
 use Rattle.term_store.specs.Contents.{Contents}
 use Rattle.iso_search.specs.declared.construct.Construct.{Construct}
 use Rattle.iso_search.specs.declared.goals.Counted.{Counted}
-use Rattle.iso_search.specs.declared.goals.Counted.TheVariants.{Fails, Repeats, Calls, NotProvable, Once, Catches, Throws, Halts, HaltsWithZero}
+use Rattle.iso_search.specs.declared.goals.Counted.TheVariants.{Fails, Repeats, Calls, NotProvable, Once, Catches, Throws, FindsAll, Halts, HaltsWithZero}
 use Rattle.term_store.specs.declared.words.Place.{Place}
 use Rattle.iso_search.specs.declared.outcome.Fault.TheVariants.{Inferences}
 use Rattle.iso_search.specs.declared.outcome.Outcome.{Outcome}
@@ -32,6 +32,7 @@ counted v c (NotProvable t) l s n g h = refl
 counted v c (Once t) l s n g h = refl
 counted v c (Catches t k r) l s n g h = refl
 counted v c (Throws t) l s n g h = refl
+counted v c (FindsAll x t i) l s n g h = refl
 counted v c (Halts t) l s n g h = refl
 counted v c HaltsWithZero l s n g h = refl
 
@@ -94,7 +95,7 @@ counted_out t e x k h n g inferred =
 
 -- A cut leaves the choice points up to a height.
 pub cut_made : (t : Setting) (e d : Search) (g : Tree) (h rest : ℕ) → choices_of t.view d ≡ up_to h (choices_of t.view e)
-    → d ≡ record e { choices = d.choices }
+    → (let x : Search = record e { store = record e.store { budget = d.store.budget }; choices = d.choices } in d ≡ x)
     → goes (result_in t d (node_of t.view e rest) (proc_of g) (Run rest)) ≡ take_up (limits_in t e) (state_in t e) (node_of t.view e rest) g h cuts
 cut_made t e d g h rest choices kept =
     let v = t.view in

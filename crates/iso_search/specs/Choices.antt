@@ -4,7 +4,7 @@ use Rattle.std.specs.List.{All}
 use Rattle.pl_term.specs.Tree.{Tree}
 use Rattle.pl_model.specs.BuiltinRows.{unifying}
 use Rattle.pl_model.specs.Predicates.{proc_of}
-use Rattle.pl_model.specs.Resolution.{Node, resolving, Choice, clauses, answers, branch, barrier, catch}
+use Rattle.pl_model.specs.Resolution.{Node, resolving, Choice, clauses, answers, branch, barrier, catch, findall}
 use Rattle.pl_model.specs.Terms.{arguments}
 use Rattle.term_store.specs.declared.words.Place.{Place}
 use Rattle.term_store.specs.Contents.{Contents, Holds, IsMark, back_to}
@@ -12,8 +12,9 @@ use Rattle.iso_search.specs.declared.frames.Task.{Task}
 use Rattle.iso_search.specs.declared.frames.Task.TheVariants.{Goal, Commit, Refute, Leave, Collect}
 use Rattle.iso_search.specs.declared.frames.Frame.{Frame}
 use Rattle.iso_search.specs.declared.choices.Alternative.{Alternative}
-use Rattle.iso_search.specs.declared.choices.Alternative.TheVariants.{Clauses, Answers, Branch, Barrier, Catch}
+use Rattle.iso_search.specs.declared.choices.Alternative.TheVariants.{Clauses, Answers, Branch, Barrier, Catch, Findall}
 use Rattle.iso_search.specs.declared.choices.ChoicePoint.{ChoicePoint}
+use Rattle.iso_search.specs.Collecting.{IsCollectionIn, copies_of}
 use Rattle.iso_search.specs.Frames.{tasks, AreLinked}
 use Rattle.iso_search.specs.Lines.{lines_of}
 use Rattle.iso_search.specs.Reading.{View, reads, node_at}
@@ -29,6 +30,7 @@ choice_at v r n (Answers w line) = answers_from (r w) line n
 choice_at v r n Branch = branch n
 choice_at v r n Barrier = barrier
 choice_at v r n (Catch c w) = catch (r c) (r w) n
+choice_at v r n (Findall w found) = findall (r w) (copies_of v found) n
 
 -- The node after a choice point.
 abbrev pub node_behind : View → List Place → Contents → List Frame → ChoicePoint → Node
@@ -54,6 +56,7 @@ IsAlternativeIn s (Answers w line) = Holds s w
 IsAlternativeIn s Branch = Unit {0}
 IsAlternativeIn s Barrier = Unit {0}
 IsAlternativeIn s (Catch c w) = Holds s c × Holds s w
+IsAlternativeIn s (Findall w found) = Holds s w × IsCollectionIn s found
 
 -- The places of the frames and of the answer are of the store, and the frames are well made.
 pub record IsBase (ws : List Place) (s : Contents) (fs : List Frame) : Type 0 where

@@ -1,15 +1,16 @@
 -- What is left to do after a failure, as states of the search.
-use Rattle.std.specs.Prelude.{◌≡◌, ◌≤◌, ◌∷◌, length, drop}
+use Rattle.std.specs.Prelude.{◌≡◌, ◌≤◌, ◌∷◌, zero, length, drop}
 use Rattle.pl_model.specs.Resolution.{State, running, failing, resolving, clauses, ended, no_more}
 use Rattle.pl_model.specs.BuiltinRows.{unifying}
-use Rattle.pl_model.specs.Control.{next_answer, next_clause}
+use Rattle.pl_model.specs.Control.{list_made, next_answer, next_clause}
 use Rattle.pl_model.specs.Predicates.{proc_of}
 use Rattle.pl_model.specs.Terms.{arguments}
 use Rattle.term_store.specs.Contents.{Holds}
 use Rattle.iso_search.specs.declared.failure.Back.{Back}
-use Rattle.iso_search.specs.declared.failure.Back.TheVariants.{Exhausted, Run, Fail, Retry, Answers}
+use Rattle.iso_search.specs.declared.failure.Back.TheVariants.{Exhausted, Run, Fail, Retry, Answers, Found}
 use Rattle.iso_search.specs.declared.search.Search.{Search}
 use Rattle.iso_search.specs.Choices.{answers_from}
+use Rattle.iso_search.specs.Collecting.{IsCollectionIn, Rise, copies_of}
 use Rattle.iso_search.specs.Lines.{lines_of}
 use Rattle.iso_search.specs.Outcomes.{Setting, limits_in, state_in}
 use Rattle.iso_search.specs.Reading.{View, reads}
@@ -26,6 +27,8 @@ back_result t e (Answers goal line next) =
     let g = reads t.view e.store goal
     in next_answer (limits_in t e) (state_in t e) (node_of t.view e next) (proc_of g) (arguments g)
     (unifying (arguments g) (drop line (lines_of g)))
+back_result t e (Found list found next) =
+    list_made (limits_in t e) (state_in t e) (node_of t.view e next) (reads t.view e.store list) (copies_of t.view found)
 
 abbrev pub IsBackIn : Search → Back → Type 0
 IsBackIn e Exhausted = Unit {0}
@@ -33,6 +36,8 @@ IsBackIn e (Run list) = list ≤ length e.frames.items
 IsBackIn e Fail = Unit {0}
 IsBackIn e (Retry goal generation place next) = Holds e.store goal × (next ≤ length e.frames.items)
 IsBackIn e (Answers goal line next) = Holds e.store goal × (next ≤ length e.frames.items)
+IsBackIn e (Found list found next) =
+    Holds e.store list × ((next ≤ length e.frames.items) × (IsCollectionIn e.store found × Rise zero found.copies.items e.next))
 
 -- What is to be tried was the newest choice point.
 abbrev pub IsTaken : Search → Search → Back → Type 0
@@ -45,3 +50,4 @@ IsTaken e d (Retry goal generation place next) =
     ≡ clauses resolving (reads v d.store goal) (v.left (reads v d.store goal) generation place) (node_of v d next) ∷ choices_of v d
 IsTaken e d (Answers goal line next) =
     (v : View) → choices_of v e ≡ answers_from (reads v d.store goal) line (node_of v d next) ∷ choices_of v d
+IsTaken e d (Found list found next) = Unit {0}

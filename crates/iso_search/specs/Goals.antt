@@ -3,11 +3,11 @@ use Rattle.std.specs.Prelude.{[], ◌∷◌, length}
 use Rattle.pl_term.specs.Tree.{Tree}
 use Rattle.pl_model.specs.Predicates.{proc_of}
 use Rattle.pl_model.specs.Resolution.{Limits, Node, State, goal, branch}
-use Rattle.pl_model.specs.Control.{Construct as Construction, fails, repeats, calls, not_provable, once, catches, throws, halts, before, failed, over, with_call, with_catch, with_negation, with_once, with_status, with_throw}
+use Rattle.pl_model.specs.Control.{Construct as Construction, fails, repeats, calls, not_provable, once, catches, throws, finds_all, halts, before, failed, over, with_call, with_catch, with_findall, with_negation, with_once, with_status, with_throw}
 use Rattle.iso_search.specs.declared.construct.Construct.{Construct}
 use Rattle.iso_search.specs.declared.construct.Construct.TheVariants as constructs
 use Rattle.iso_search.specs.declared.goals.Counted.{Counted}
-use Rattle.iso_search.specs.declared.goals.Counted.TheVariants.{Fails, Repeats, Calls, NotProvable, Once, Catches, Throws, Halts, HaltsWithZero}
+use Rattle.iso_search.specs.declared.goals.Counted.TheVariants.{Fails, Repeats, Calls, NotProvable, Once, Catches, Throws, FindsAll, Halts, HaltsWithZero}
 
 abbrev pub flat : Counted → Construct
 flat Fails = constructs.Fails
@@ -17,6 +17,7 @@ flat (NotProvable t) = constructs.NotProvable t
 flat (Once t) = constructs.Once t
 flat (Catches t c r) = constructs.Catches t c r
 flat (Throws t) = constructs.Throws t
+flat (FindsAll x t l) = constructs.FindsAll x t l
 flat (Halts t) = constructs.Halts t
 flat HaltsWithZero = constructs.HaltsWithZero
 
@@ -29,6 +30,7 @@ run_counted l s n g (not_provable t) = with_negation l s n g t
 run_counted l s n g (once t) = with_once l s n g t
 run_counted l s n g (catches t c r) = with_catch l s n g t c r
 run_counted l s n g (throws t) = with_throw s n g t
+run_counted l s n g (finds_all x t list) = with_findall l s n g x t list
 run_counted l s n g (halts t) = with_status s n g t
 run_counted l s n g _ = s
 
@@ -41,6 +43,7 @@ IsUncounted (constructs.NotProvable t) = ⊥
 IsUncounted (constructs.Once t) = ⊥
 IsUncounted (constructs.Catches t c r) = ⊥
 IsUncounted (constructs.Throws t) = ⊥
+IsUncounted (constructs.FindsAll x t l) = ⊥
 IsUncounted (constructs.Halts t) = ⊥
 IsUncounted constructs.HaltsWithZero = ⊥
 IsUncounted _ = Unit {0}

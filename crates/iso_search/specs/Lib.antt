@@ -1,6 +1,7 @@
 pub mod Budgeting
 pub mod Calling
 pub mod Choices
+pub mod Collecting
 pub mod Constructs
 pub mod Conversions
 pub mod Errors
@@ -9,6 +10,7 @@ pub mod Failures
 pub mod Frames
 pub mod Goals
 pub mod Lines
+pub mod Lists
 pub mod Outcomes
 pub mod Reading
 pub mod Recovering

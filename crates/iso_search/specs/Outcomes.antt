@@ -4,12 +4,12 @@ use Rattle.pl_term.specs.Tree.{Chars, Tree}
 use Rattle.pl_model.specs.History.{Proc}
 use Rattle.pl_model.specs.Balls.{error_ball, instantiation_error, type_error, not_callable, no_inferences, no_cells, no_choices}
 use Rattle.pl_model.specs.ErrorTerms.{domain_error}
-use Rattle.pl_model.specs.Resolution.{Limits, Pending, commit, refute, leave, Node, Doing, running, failing, throwing, ended, halted, Output, State}
+use Rattle.pl_model.specs.Resolution.{Limits, Pending, commit, refute, leave, collect, Node, Doing, running, failing, throwing, ended, halted, Output, State}
 use Rattle.term_store.specs.declared.words.Place.{Place}
-use Rattle.term_store.specs.Contents.{Holds}
+use Rattle.term_store.specs.Contents.{Contents, Holds}
 use Rattle.iso_search.specs.declared.choices.Alternative.{Alternative}
 use Rattle.iso_search.specs.declared.control.Exit.{Exit}
-use Rattle.iso_search.specs.declared.control.Exit.TheVariants.{Commit, Refute, Leave}
+use Rattle.iso_search.specs.declared.control.Exit.TheVariants.{Commit, Refute, Leave, Collect}
 use Rattle.iso_search.specs.declared.outcome.Fault.{Fault}
 use Rattle.iso_search.specs.declared.outcome.Fault.TheVariants.{Inferences, Cells, Choices, Instantiation, NotCallable, NotInteger, NotList, NotStatus}
 use Rattle.iso_search.specs.declared.outcome.Outcome.{Outcome}
@@ -77,10 +77,17 @@ abbrev pub status_outcome : Place → ℤ → Outcome
 status_outcome w (pos k) = if nat_le k 254 then Halt k else Raise (NotStatus w)
 status_outcome w (negsuc k) = Raise (NotStatus w)
 
-abbrev pub exit_at : Exit → ℕ → Pending
-exit_at Commit h = commit h
-exit_at Refute h = refute h
-exit_at Leave h = leave h
+abbrev pub exit_at : (Place → Tree) → Exit → ℕ → Pending
+exit_at r Commit h = commit h
+exit_at r Refute h = refute h
+exit_at r Leave h = leave h
+exit_at r (Collect w) h = collect (r w) h
+
+abbrev pub IsExitIn : Contents → Exit → Type 0
+IsExitIn s Commit = Unit {0}
+IsExitIn s Refute = Unit {0}
+IsExitIn s Leave = Unit {0}
+IsExitIn s (Collect w) = Holds s w
 
 -- What was to be done from the lists on is still to be done as it was.
 abbrev pub KeepsTasks : Search → Search → Type 0

@@ -1,11 +1,13 @@
 -- What a search stands for.
-use Rattle.std.specs.Prelude.{◌≡◌, ℕ, List, reverse}
-use Rattle.pl_model.specs.Resolution.{Node, Choice, Doing, Output, State}
+use Rattle.std.specs.Prelude.{◌≡◌, ◌+◌, ℕ, List, reverse}
+use Rattle.std.specs.List.{All}
+use Rattle.pl_model.specs.Resolution.{Node, Choice, Doing, Output, State, collected_cells}
 use Rattle.term_store.specs.Contents.{IsAbove}
 use Rattle.iso_search.specs.declared.search.Search.{Search}
 use Rattle.iso_search.specs.Frames.{tasks}
 use Rattle.iso_search.specs.Reading.{View, reads, node_at}
 use Rattle.iso_search.specs.Choices.{choices_at, IsBase, AreRests}
+use Rattle.iso_search.specs.Collecting.{IsOlder}
 
 -- The node at which the tasks of a list are still to be done.
 abbrev pub node_of : View → Search → ℕ → Node
@@ -22,5 +24,7 @@ state_of v e doing output =
 pub record IsWhole (e : Search) : Type 0 where
   pub base : IsBase e.answer.items e.store e.frames.items
   pub rests : AreRests e.answer.items e.store e.frames.items (reverse e.choices.items)
-  pub budget : e.store.budget ≡ e.budgets.cells
+  -- What running calls of findall/3 have collected is taken away from the budget of the store.
+  pub budget : (v : View) → e.store.budget + collected_cells (choices_of v e) ≡ e.budgets.cells
   pub above : IsAbove e.next e.store
+  pub older : All (λ k. IsOlder e.next k.alternative) (reverse e.choices.items)

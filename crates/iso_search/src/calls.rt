@@ -9,9 +9,10 @@ ghost use Rattle.pl_model.specs.Control.{before, checked, over, run_on, taking, 
 ghost use Rattle.term_store.specs.Contents.{Holds, IsArguments};
 ghost use Rattle.iso_search.specs.Calling.{IsCheckedIn, goal_or_error};
 ghost use Rattle.iso_search.specs.Choices.{IsAlternativeIn, choice_at};
+ghost use Rattle.iso_search.specs.Collecting.{HoldsNone};
 ghost use Rattle.iso_search.specs.Conversions.{Grows};
 ghost use Rattle.iso_search.specs.Extending.{further};
-ghost use Rattle.iso_search.specs.Outcomes.{IsAfter, Setting, exit_at, limits_in, result_in, state_in};
+ghost use Rattle.iso_search.specs.Outcomes.{IsAfter, IsExitIn, Setting, exit_at, limits_in, result_in, state_in};
 ghost use Rattle.iso_search.specs.Reading.{View, IsView, reads};
 ghost use Rattle.iso_search.specs.Searching.{IsWhole, node_of};
 
@@ -80,7 +81,7 @@ impl Search {
     }
 
     /// Calls an argument over a choice point, in which a cut is local, before its exit and the tasks of a list: what `\+`,
-    /// `once/1` and `catch/3` do. The only error is out of memory.
+    /// `once/1`, `catch/3` and `findall/3` do. The only error is out of memory.
     pub fn call_over(
         &mut self,
         alloc: Global,
@@ -91,14 +92,16 @@ impl Search {
     ) -> Result<Outcome, Memory>
         requires whole { IsWhole self.old }
         requires words { IsAlternativeIn self.old.store alternative }
+        requires none { HoldsNone alternative }
         requires argument { Holds self.old.store argument }
+        requires exit { IsExitIn self.old.store exit }
         requires rest { rest ≤ length self.old.frames.items }
         ensures whole { OnOk result (IsWhole self.new) }
         ensures after { IfOk result (IsAfter self.old self.new) }
         ensures step { IfOk result (λ o. (t : Setting) (p : Proc) → IsView t.view
             → let r = reads t.view self.old.store in let n = node_of t.view self.old rest in let s = state_in t self.old in
             result_in t self.new n p o ≡ checked s n p (called_goal (r argument))
-            (λ body. over (limits_in t self.old) s n p (choice_at t.view r n alternative) (λ h. goal body (suc h) ∷ exit_at exit h ∷ []))) }
+            (λ body. over (limits_in t self.old) s n p (choice_at t.view r n alternative) (λ h. goal body (suc h) ∷ exit_at r exit h ∷ []))) }
     {
         let checked = self.check_called(alloc, argument)?;
         match checked {

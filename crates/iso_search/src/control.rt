@@ -6,7 +6,8 @@ ghost use Rattle.pl_model.specs.Control.{before, over, run_on};
 ghost use Rattle.pl_model.specs.Resolution.{Pending, Node, goal, commit, branch, barrier};
 ghost use Rattle.term_store.specs.Contents.{Contents, Holds};
 ghost use Rattle.iso_search.specs.Choices.{IsAlternativeIn, IsTaskIn, choice_at};
-ghost use Rattle.iso_search.specs.Outcomes.{IsAfter, Setting, IsMade, limits_in, state_in, result_in, exit_at};
+ghost use Rattle.iso_search.specs.Collecting.{HoldsNone};
+ghost use Rattle.iso_search.specs.Outcomes.{IsAfter, IsExitIn, Setting, IsMade, limits_in, state_in, result_in, exit_at};
 ghost use Rattle.iso_search.specs.Reading.{View, reads, pending};
 ghost use Rattle.iso_search.specs.Searching.{IsWhole, node_of};
 
@@ -26,17 +27,20 @@ pub enum Exit {
     Refute,
     /// The `catch/3` is left.
     Leave,
+    /// The `findall/3` collects a copy of the term.
+    Collect(Place),
 }
 
 /// The task of an exit from the choice point at the height.
 fn exit_task(exit: Exit, height: usize) -> Task
-    ensures task { (r : Place → Tree) → pending r result ≡ exit_at exit height }
-    ensures words { (s : Contents) → IsTaskIn s result }
+    ensures task { (r : Place → Tree) → pending r result ≡ exit_at r exit height }
+    ensures words { (s : Contents) → IsExitIn s exit → IsTaskIn s result }
 {
     match exit {
         Exit::Commit => Task::Commit(height),
         Exit::Refute => Task::Refute(height),
         Exit::Leave => Task::Leave(height),
+        Exit::Collect(template) => Task::Collect(template, height),
     }
 }
 
@@ -50,6 +54,7 @@ impl Search {
         requires whole { IsWhole self.old }
         requires words { IsAlternativeIn self.old.store alternative }
         requires behind { behind ≤ length self.old.frames.items }
+        requires none { HoldsNone alternative }
         ensures whole { OnOk result (IsWhole self.new) }
         ensures made { IfOk result (λ o. (v : View) → IsMade v o self.old alternative behind self.new) }
         ensures below { IfOk result (λ o. IfSome o (λ h. h + 1 < 2 ^ 64)) }
@@ -77,7 +82,9 @@ impl Search {
         requires whole { IsWhole self.old }
         requires words { IsAlternativeIn self.old.store alternative }
         requires behind { behind ≤ length self.old.frames.items }
+        requires none { HoldsNone alternative }
         requires inner { Holds self.old.store inner }
+        requires exit { IsExitIn self.old.store exit }
         requires rest { rest ≤ length self.old.frames.items }
         ensures whole { OnOk result (IsWhole self.new) }
         ensures after { IfOk result (IsAfter self.old self.new) }
@@ -86,7 +93,7 @@ impl Search {
             → let r = reads t.view self.old.store in
             result_in t self.new n p o ≡ over (limits_in t self.old) (state_in t self.old) n p
             (choice_at t.view r (node_of t.view self.old behind) alternative)
-            (λ h. goal (r inner) (suc h) ∷ exit_at exit h ∷ more)) }
+            (λ h. goal (r inner) (suc h) ∷ exit_at r exit h ∷ more)) }
     {
         let made = self.make_choice(alternative, behind)?;
         match made {

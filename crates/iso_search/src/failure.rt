@@ -6,12 +6,13 @@ ghost use Rattle.iso_search.specs.Failures.{IsBackIn, IsTaken, back_result};
 ghost use Rattle.iso_search.specs.Outcomes.{Setting, limits_in, state_in};
 ghost use Rattle.iso_search.specs.Searching.{IsWhole, choices_of};
 
-use crate::choices::Alternative;
+use crate::choices::{Alternative, ChoicePoint};
+use crate::copies::Collection;
 use crate::search::Search;
 use term_store::Place;
 
 /// What is left to do after a failure.
-#[derive(Clone, Copy, Debug, Drop)]
+#[derive(Drop)]
 pub enum Back {
     /// There is no choice point: there is no further solution.
     Exhausted,
@@ -31,6 +32,13 @@ pub enum Back {
     Answers {
         goal: Place,
         line: usize,
+        next: usize,
+    },
+    /// The goal of a `findall/3` has no further solution: the list of these copies is to be unified with its third argument,
+    /// before the tasks of the list.
+    Found {
+        list: Place,
+        found: Collection,
         next: usize,
     },
 }
@@ -53,7 +61,12 @@ impl Search {
         let Some(k) = self.go_back() else {
             return Back::Exhausted;
         };
-        match k.alternative {
+        let ChoicePoint {
+            alternative,
+            next,
+            ..
+        } = k;
+        match alternative {
             Alternative::Clauses {
                 goal,
                 generation,
@@ -62,16 +75,13 @@ impl Search {
                 goal,
                 generation,
                 place,
-                next: k.next,
+                next,
             },
-            Alternative::Answers { goal, line } => Back::Answers {
-                goal,
-                line,
-                next: k.next,
-            },
-            Alternative::Branch => Back::Run(k.next),
+            Alternative::Answers { goal, line } => Back::Answers { goal, line, next },
+            Alternative::Branch => Back::Run(next),
             Alternative::Barrier => Back::Fail,
             Alternative::Catch { .. } => Back::Fail,
+            Alternative::Findall { list, found } => Back::Found { list, found, next },
         }
     }
 }

@@ -29,6 +29,7 @@ pub enum Counted {
     Once(Place),
     Catches(Place, Place, Place),
     Throws(Place),
+    FindsAll(Place, Place, Place),
     Halts(Place),
     HaltsWithZero,
 }
@@ -47,6 +48,9 @@ fn counted_of(construct: Construct) -> Option<Counted>
             Some(Counted::Catches(goal, catcher, recovery))
         }
         Construct::Throws(ball) => Some(Counted::Throws(ball)),
+        Construct::FindsAll(template, goal, list) => {
+            Some(Counted::FindsAll(template, goal, list))
+        }
         Construct::Halts(status) => Some(Counted::Halts(status)),
         Construct::HaltsWithZero => Some(Counted::HaltsWithZero),
         _ => None,
@@ -191,6 +195,10 @@ impl Search {
                 Ok(outcome)
             }
             Counted::Throws(ball) => Ok(self.throw(ball)),
+            Counted::FindsAll(template, inner, list) => {
+                let outcome = self.find_all(alloc, template, inner, list, rest)?;
+                Ok(outcome)
+            }
             Counted::Halts(status) => Ok(self.halt(status)),
             Counted::HaltsWithZero => Ok(Outcome::Halt(0)),
         }

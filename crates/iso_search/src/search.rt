@@ -1,12 +1,13 @@
 //! The state of a search, and how its lists of tasks and its choice points change.
-ghost use Rattle.std.specs.Prelude.{◌≡◌, ◌≤◌, ℕ, [], ◌∷◌, ◌++◌, length, take, IfOk, OnOk, IfSome, MatchOption};
+ghost use Rattle.std.specs.Prelude.{◌≡◌, ◌≤◌, ◌<◌, ◌-◌, ℕ, [], ◌∷◌, ◌++◌, length, take, IfOk, OnOk, IfSome, MatchOption};
 ghost use Rattle.pl_model.specs.Control.{before};
 ghost use Rattle.pl_model.specs.Resolution.{up_to};
 ghost use Rattle.iso_search.specs.Choices.{IsTaskIn, IsAlternativeIn, choice_at};
+ghost use Rattle.iso_search.specs.Collecting.{HoldsNone, IsOlder};
 ghost use Rattle.iso_search.specs.Reading.{View, reads, pending};
 ghost use Rattle.iso_search.specs.Searching.{IsWhole, node_of, choices_of};
 
-use crate::choices::{Alternative, ChoicePoint};
+use crate::choices::{Alternative, ChoicePoint, held_cells};
 use crate::frames::{Frame, Task, push_task};
 use pl_term::Memory;
 use term_store::{Place, Store};
@@ -57,9 +58,31 @@ impl Search {
         ensures whole { IsWhole self.new }
         ensures choices { (v : View) → choices_of v self.new ≡ up_to height (choices_of v self.old) }
         ensures oldest { self.new.choices.items ≡ take height self.old.choices.items }
-        ensures kept { self.new ≡ record self.old { choices = self.new.choices } }
+        ensures kept { self.new ≡ record self.old {
+          store = record self.old.store { budget = self.new.store.budget };
+          choices = self.new.choices;
+        } }
     {
-        self.choices.truncate(height);
+        while self.choices.len() > height {
+            self.drop_newest();
+        }
+    }
+
+    /// Drops the newest choice point, of which there is one. The cells of the copies that it holds may be used again.
+    fn drop_newest(&mut self)
+        requires whole { IsWhole self.old }
+        requires some { 0 < length self.old.choices.items }
+        ensures whole { IsWhole self.new }
+        ensures oldest { self.new.choices.items ≡ take (length self.old.choices.items - 1) self.old.choices.items }
+        ensures kept { self.new ≡ record self.old {
+          store = record self.old.store { budget = self.new.store.budget };
+          choices = self.new.choices;
+        } }
+    {
+        let _most = self.budgets.cells;
+        if let Some(k) = self.choices.pop() {
+            self.store.release(held_cells(&k.alternative));
+        }
     }
 
     /// Goes back to the newest choice point, which is taken off (ISO 7.7.8): bindings and terms made since are gone.
@@ -69,6 +92,7 @@ impl Search {
         ensures back { MatchOption result ((v : View) → (choices_of v self.old ≡ []) × (choices_of v self.new ≡ [])) (λ k. (v : View)
             → choices_of v self.old ≡ choice_at v (reads v self.new.store) (node_of v self.new k.next) k.alternative ∷ choices_of v self.new) }
         ensures words { IfSome result (λ k. IsAlternativeIn self.new.store k.alternative × (k.next ≤ length self.new.frames.items)) }
+        ensures copies { IfSome result (λ k. IsOlder self.new.next k.alternative) }
         ensures newest { MatchOption result (self.old.choices.items ≡ []) (λ k. self.old.choices.items ≡ self.new.choices.items ++ k ∷ []) }
         ensures kept { self.new ≡ record self.old {
           store = self.new.store;
@@ -76,9 +100,11 @@ impl Search {
           choices = self.new.choices;
         } }
     {
+        let _most = self.budgets.cells;
         let k = self.choices.pop()?;
         self.store.undo_to(k.mark);
         self.frames.truncate(k.frames);
+        self.store.release(held_cells(&k.alternative));
         Some(k)
     }
 
@@ -87,6 +113,7 @@ impl Search {
         requires whole { IsWhole self.old }
         requires words { IsAlternativeIn self.old.store alternative }
         requires next { next ≤ length self.old.frames.items }
+        requires none { HoldsNone alternative }
         ensures whole { OnOk result (IsWhole self.new) }
         ensures choices { OnOk result ((v : View) → choices_of v self.new
             ≡ choice_at v (reads v self.old.store) (node_of v self.old next) alternative ∷ choices_of v self.old) }

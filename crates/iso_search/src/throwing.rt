@@ -1,5 +1,5 @@
 //! Where a ball is caught (ISO 7.8.9, 7.8.10).
-ghost use Rattle.std.specs.Prelude.{◌≡◌, ◌≤◌, ◌<◌, ◌+◌, ◌-◌, ℕ, suc, length, IfNone, IfSome};
+ghost use Rattle.std.specs.Prelude.{◌≡◌, ◌≤◌, ◌<◌, ◌+◌, ◌-◌, ℕ, suc, length, IfNone, IfSome, MatchOption};
 ghost use Rattle.pl_term.specs.Tree.{Tree};
 ghost use Rattle.pl_model.specs.Resolution.{up_to};
 ghost use Rattle.pl_model.specs.Control.{caught, thrown};
@@ -66,8 +66,7 @@ impl Search {
             return None;
         }
         let at = newest_below(height, count);
-        let newest = self.choices[at].alternative;
-        let Alternative::Catch { catcher, recovery } = newest else {
+        let Some((catcher, recovery)) = catch_of(&self.choices[at].alternative) else {
             return None;
         };
         self.cut_to(at + 1);
@@ -79,6 +78,16 @@ impl Search {
             }),
             None => unreachable!(),
         }
+    }
+}
+
+/// The catcher and the recovery goal, if it is a `catch/3`.
+fn catch_of(alternative: &Alternative) -> Option<(Place, Place)>
+    ensures { MatchOption result ((c w : Place) → alternative.now ≡ Alternative.Catch c w → ⊥) (λ k. alternative.now ≡ Alternative.Catch k.0 k.1) }
+{
+    match alternative {
+        Alternative::Catch { catcher, recovery } => Some((*catcher, *recovery)),
+        _ => None,
     }
 }
 

@@ -88,7 +88,43 @@ cwpXpYt 99 15 99 __|.
 cwpppabt 99 12 99 ezum/'c3
 ccwpppabtXt 99 19 99 zum/'c3_|.
 veXa 99 8 99 ezum/'l2
-veXa 99 9 99 a_|.";
+veXa 99 9 99 a_|.
+jX;=Xa=XbY 99 999 99 _+a+b-|.
+jpX;=Xa=XbY 99 999 99 _+pa+pb-|.
+jXtY 99 999 99 _+_-|.
+jXfY 99 999 99 _-|.
+jXZY 99 999 99 ezi/'j3
+jX1Y 99 999 99 ezyk1/'j3
+jXta 99 999 99 ezy@a/'j3
+jXt+ab 99 999 99 ezy@+ab/'j3
+jXt+Y- 99 999 99 __|.
+jXYa 99 999 99 ezi/'j3
+jX,t1Y 99 999 99 ezyk,t1/'j3
+jX,;=Xa=Xb!Y 99 999 99 _+a-|.
+cjX;=XawbYZt 99 999 99 __|.
+,jX=XaY=Xb 99 999 99 b+a-|.
+;jX=XaY=Ya 99 999 99 _+a-|_a|.
+jXjZ;=Za=ZbXY 99 999 99 _++a+b--|.
+jX;=Xa=Xb+XY 99 999 99 a+b-|.
+jX;=Xa=Xb+b+Y- 99 999 99 .
+,jzXZtY=XZ 99 999 99 _+z__-|.
+jZ;jX;=Xa=XbZ=ZbY 99 999 99 _++a+b-+b-|.
+ojX;=Xa=XbY 99 999 99 _+a+b-|.
+\jXf+Y- 99 999 99 __|.
+jX=XaY 1 999 99 ezun/'=2
+jX;=Xa=XbY 99 20 99 ezum/'j3
+jX;=Xa=XbY 99 21 99 _+a+b-|.
+jpX;=XaveZaY 99 21 99 ezum/'j3
+jpX;=XaveZaY 99 22 99 ezum/'l2
+jpX;=XaveZaY 99 24 99 ezum/'l2
+jpX;=XaveZaY 99 25 99 ezum/'j3
+jpX;=XaveZaY 99 30 99 ezum/'j3
+jpX;=XaveZaY 99 31 99 _+pa+p_-|.
+jX;=Xa=XbY 99 999 1 ezuq/';2
+jX;=Xa=XbY 99 999 2 _+a+b-|.
+cjX=XaYZt 99 999 1 __|.
+,cjpX;=XawbYZtjpX;=Xa=XbY 99 48 99 ezum/'j3
+,cjpX;=XawbYZtjpX;=Xa=XbY 99 49 99 _+pa+pb-|.";
 
 #[test]
 fn goals_are_run(rt: HostRuntime) -> Result<(), Fail> {

@@ -4,7 +4,7 @@ use pl_term::Memory;
 use term_store::AtomNode;
 
 /// The letters of names.
-const LETTERS: &[u8] = br"tf!rabplowh\,;>=cvezydu/ikgsnmqx";
+const LETTERS: &[u8] = br"tf!rabplowh\,;>=cjvezydu/ikgsnmqx+-@";
 
 /// The name that a letter stands for, with its number of arguments.
 pub fn named(letter: u8) -> Option<(Atom, usize)> {
@@ -29,6 +29,7 @@ fn control(letter: u8) -> Option<(Atom, usize)> {
         b'=' => Some((fixed::EQUAL, 2)),
         b'e' => Some((fixed::EQUAL, 1)),
         b'c' => Some((fixed::CATCH, 3)),
+        b'j' => Some((fixed::FINDALL, 3)),
         _ => None,
     }
 }
@@ -51,6 +52,9 @@ fn other(letter: u8) -> Option<(Atom, usize)> {
         b'm' => Some((fixed::CELLS, 0)),
         b'q' => Some((fixed::CHOICES, 0)),
         b'x' => Some((fixed::CONSULT, 0)),
+        b'+' => Some((fixed::LIST_CELL, 2)),
+        b'-' => Some((fixed::NIL, 0)),
+        b'@' => Some((fixed::LIST, 0)),
         _ => None,
     }
 }

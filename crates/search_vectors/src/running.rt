@@ -184,12 +184,26 @@ fn do_first(
             Ok(Doing::Fail)
         }
         Task::Leave(_) => Ok(Doing::Run(frame.next)),
-        Task::Collect(_, _) => Err(Memory),
+        Task::Collect(template, height) => {
+            if !search.store.holds(template) {
+                return Err(Memory);
+            }
+            let outcome = search.collect(template, height)?;
+            after(
+                alloc,
+                &search.store,
+                outcome,
+                fixed::FINDALL,
+                3,
+                frame.next,
+                out,
+            )
+        }
     }
 }
 
 /// Goes back to the newest choice point.
-fn go_back(search: &mut Search, out: &mut Vec<u8>) -> Result<Doing, Memory>
+fn go_back(alloc: Global, search: &mut Search, out: &mut Vec<u8>) -> Result<Doing, Memory>
     requires { IsWhole search.old }
     ensures { OnOk result (IsWhole search.new) }
 {
@@ -201,6 +215,11 @@ fn go_back(search: &mut Search, out: &mut Vec<u8>) -> Result<Doing, Memory>
         Back::Run(list) => Ok(Doing::Run(list)),
         Back::Fail => Ok(Doing::Fail),
         Back::Retry { .. } => Err(Memory),
+        Back::Answers { .. } => Err(Memory),
+        Back::Found { list, found, next } => {
+            let outcome = search.give_list(alloc, list, found, next)?;
+            after(alloc, &search.store, outcome, fixed::FINDALL, 3, next, out)
+        }
     }
 }
 
@@ -242,7 +261,7 @@ fn step(
 {
     match doing {
         Doing::Run(list) => do_first(alloc, search, list, x, y, out),
-        Doing::Fail => go_back(search, out),
+        Doing::Fail => go_back(alloc, search, out),
         Doing::Throw(ball, outer) => throw(alloc, search, ball, outer, out),
         Doing::End => Ok(Doing::End),
     }

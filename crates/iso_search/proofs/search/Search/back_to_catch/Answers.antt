@@ -30,7 +30,7 @@ returns-in_default c =
           v (reads v old) (node_behind v e.answer.items e.store e.frames.items k) k.alternative
           (capped (choices_of v e) c.args.height at same
           ∙ newest_up_to v e.answer.items e.store e.frames.items e.choices.items at k lt c.requires.whole.rests c.index.ensures)
-          c.in_default.not-Catch;
+          c.in_default.ensures;
       kept = refl;
       budgets = refl;
     }
@@ -50,10 +50,10 @@ returns-clause-inside c =
     let f = c.go_back.new.self in
     let at = c.newest_below-at.result in
     let lt : at < length e.choices.items = omega (arith, c.newest_below-at.ensures.below, c.len-count.ensures, e.choices.ok.0) in
-    let x : c.in-Some.k ≡ c.index.result.now =
-    looked_at e.choices.items f.choices.items at c.index.result.now c.in-Some.k lt c.index.ensures (sym c.cut_to.ensures.oldest ∙ c.in-Some.ensures.newest) in
-    let inside = subst (IsAlternativeIn f.store) (ap (λ (y : ChoicePoint). y.alternative) x ∙ c.in-Catch.is) c.in-Some.ensures.words.0 in
-    (inside.0, inside.1, c.in-Some.ensures.words.1)
+    let x : c.in-Some-go_back.k ≡ c.index.result.now =
+    looked_at e.choices.items f.choices.items at c.index.result.now c.in-Some-go_back.k lt c.index.ensures (sym c.cut_to.ensures.oldest ∙ c.in-Some-go_back.ensures.newest) in
+    let inside = subst (IsAlternativeIn f.store) (ap (λ (y : ChoicePoint). y.alternative) x ∙ c.in-Some.ensures) c.in-Some-go_back.ensures.words.0 in
+    (inside.0, inside.1, c.in-Some-go_back.ensures.words.1)
 
 pub returns-clause-step : goal.returns-clause-step
 returns-clause-step c t ball rest le =
@@ -63,17 +63,17 @@ returns-clause-step c t ball rest le =
     let v = t.view in
     let at = c.newest_below-at.result in
     let lt : at < length e.choices.items = omega (arith, c.newest_below-at.ensures.below, c.len-count.ensures, e.choices.ok.0) in
-    let x : c.in-Some.k ≡ c.index.result.now =
-    looked_at e.choices.items f.choices.items at c.index.result.now c.in-Some.k lt c.index.ensures (sym c.cut_to.ensures.oldest ∙ c.in-Some.ensures.newest) in
+    let x : c.in-Some-go_back.k ≡ c.index.result.now =
+    looked_at e.choices.items f.choices.items at c.index.result.now c.in-Some-go_back.k lt c.index.ensures (sym c.cut_to.ensures.oldest ∙ c.in-Some-go_back.ensures.newest) in
     let count : c.len-count.result ≡ length (choices_of v e) = omega (arith, c.len-count.ensures, e.choices.ok.0, length_choices v e) in
     let same : length (choices_of v e) - (c.args.height + 1) ≡ length (choices_of v e) - (at + 1) = omega (arith, c.newest_below-at.ensures.same, count) in
     let one : suc at ≡ at + 1 = omega arith in
     let cut = c.cut_to.ensures.kept in
     let back = c.go_back.ensures.kept in
-    caught_by_catch t e f ball (node_of v e rest).goals (up_to (suc c.args.height) (choices_of v e)) c.in-Some.k.alternative
-    (record { catcher = c.in-Catch.catcher; recovery = c.in-Catch.recovery; next = c.in-Some.k.next })
-    (capped (choices_of v e) c.args.height at same ∙ ap (λ n. up_to n (choices_of v e)) one ∙ sym (c.cut_to.ensures.choices v) ∙ c.in-Some.ensures.back v)
-    (ap (λ (y : ChoicePoint). y.alternative) x ∙ c.in-Catch.is)
+    caught_by_catch t e f ball (node_of v e rest).goals (up_to (suc c.args.height) (choices_of v e)) c.in-Some-go_back.k.alternative
+    (record { catcher = c.in-Some.catcher; recovery = c.in-Some.recovery; next = c.in-Some-go_back.k.next })
+    (capped (choices_of v e) c.args.height at same ∙ ap (λ n. up_to n (choices_of v e)) one ∙ sym (c.cut_to.ensures.choices v) ∙ c.in-Some-go_back.ensures.back v)
+    (ap (λ (y : ChoicePoint). y.alternative) x ∙ c.in-Some.ensures)
     (same_limits t f e (ap (λ (s : Search). s.budgets) back ∙ ap (λ (s : Search). s.budgets) cut))
     (ap (λ (s : Search). s.next) back ∙ ap (λ (s : Search). s.next) cut)
     (ap (λ (s : Search). s.inferences) back ∙ ap (λ (s : Search). s.inferences) cut)

@@ -1,4 +1,5 @@
-use Rattle.std.proofs.Common.{reverse}
+use Rattle.std.proofs.Common.{◌+◌, reverse, ap, ◌∙◌}
+use Rattle.pl_model.specs.Resolution.{collected_cells}
 use Rattle.iso_search.specs.declared.frames.Frame.{Frame}
 use Rattle.iso_search.proofs.Growing.{base_pushed, rests_pushed, choices_pushed}
 use Rattle.iso_search.proofs.search.Search.push.Goals as goal
@@ -11,8 +12,12 @@ returns-clause-whole c =
     record {
       base = base_pushed s.answer.items s.store s.frames.items c.push_task.new.frames.items f c.requires.whole.base c.requires.task e c.push_task.ensures.linked;
       rests = rests_pushed s.answer.items s.store s.frames.items c.push_task.new.frames.items f (reverse s.choices.items) c.requires.whole.rests e;
-      budget = c.requires.whole.budget;
+      budget =
+          λ v. ap (λ cs. s.store.budget + collected_cells cs)
+          (choices_pushed v s.answer.items s.store s.frames.items c.push_task.new.frames.items f (reverse s.choices.items) c.requires.whole.rests e)
+          ∙ c.requires.whole.budget v;
       above = c.requires.whole.above;
+      older = c.requires.whole.older;
     }
 
 pub returns-clause-choices : goal.returns-clause-choices

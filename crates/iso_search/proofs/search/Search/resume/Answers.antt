@@ -3,7 +3,7 @@ use Rattle.iso_search.specs.Choices.{choice_at}
 use Rattle.iso_search.specs.Reading.{reads}
 use Rattle.iso_search.specs.Searching.{choices_of, node_of}
 use Rattle.iso_search.specs.declared.search.Search.{Search}
-use Rattle.iso_search.proofs.Resuming.{back_answers, back_barrier, back_branch, back_catch, back_clauses, back_exhausted}
+use Rattle.iso_search.proofs.Resuming.{back_answers, back_barrier, back_branch, back_catch, back_clauses, back_exhausted, back_findall}
 use Rattle.iso_search.proofs.search.Search.resume.Goals as goal
 
 pub returns-in_default-clause-step : goal.returns-in_default-clause-step
@@ -57,3 +57,10 @@ returns-in-Answers-clause-taken c v =
     let d = c.go_back.new.self in
     subst (λ a. choices_of v c.args.self.now ≡ choice_at v (reads v d.store) (node_of v d c.in-Some.k.next) a ∷ choices_of v d) c.in-Answers.is
     (c.in-Some.ensures.back v)
+
+pub returns-in-Findall-clause-step : goal.returns-in-Findall-clause-step
+returns-in-Findall-clause-step c t fails =
+    let kept = c.go_back.ensures.kept in
+    back_findall t c.args.self.now c.go_back.new.self c.in-Some.k.next c.in-Some.k.alternative (c.in-Some.ensures.back t.view)
+    (ap (λ (s : Search). s.next) kept) (ap (λ (s : Search). s.inferences) kept) (ap (λ (s : Search). s.budgets) kept)
+    c.in-Findall.list c.in-Findall.found c.in-Findall.is

@@ -41,3 +41,10 @@ returns-in_ok-outcome-in-Catches-clause-step c t view =
     let g = reads t.view e.store c.args.goal in
     c.in_ok-outcome-in-Catches.ensures.step t (proc_of g) view
     ∙ sym (ap (λ k. run_counted (limits_in t e) (state_in t e) (node_of t.view e c.args.rest) g (construction t.view e.store (flat k))) c.in-Catches.is)
+
+pub returns-in_ok-outcome-in-FindsAll-clause-step : goal.returns-in_ok-outcome-in-FindsAll-clause-step
+returns-in_ok-outcome-in-FindsAll-clause-step c t view =
+    let e = c.args.self.now in
+    let g = reads t.view e.store c.args.goal in
+    c.in_ok-outcome-in-FindsAll.ensures.step t g view
+    ∙ sym (ap (λ k. run_counted (limits_in t e) (state_in t e) (node_of t.view e c.args.rest) g (construction t.view e.store (flat k))) c.in-FindsAll.is)

@@ -1,9 +1,10 @@
-use Rattle.std.proofs.Common.{◌<◌, reverse, refl, subst, sym, ◌∙◌}
+use Rattle.std.proofs.Common.{◌<◌, reverse, refl, subst, sym, arith}
 use Rattle.std.specs.List.{All}
 use Rattle.term_store.specs.Contents.{Unified}
 use Rattle.iso_search.specs.declared.search.Search.{Search}
 use Rattle.iso_search.specs.Searching.{node_of}
-use Rattle.iso_search.proofs.Instances.{base_added, rests_kept, choices_kept, unified_run, unified_fail}
+use Rattle.iso_search.proofs.Instances.{choices_kept, unified_run, unified_fail}
+use Rattle.iso_search.proofs.Wholes.{whole_added}
 use Rattle.iso_search.proofs.search.Search.unify_since.Goals as goal
 
 pub returns-then-same-clause-whole : goal.returns-then-same-clause-whole
@@ -11,12 +12,8 @@ returns-then-same-clause-whole c =
     let e = c.args.self.now in
     let s = c.unify_since.new.self in
     let adds = c.in_ok-same.ensures.adds in
-    record {
-      base = base_added e.answer.items e.store s e.frames.items adds c.requires.whole.base;
-      rests = rests_kept e.answer.items e.store s e.frames.items (reverse e.choices.items) adds c.requires.whole.rests;
-      budget = c.in_ok-same.ensures.size.budget ∙ c.requires.whole.budget;
-      above = subst (All (λ m. m < e.next)) (sym c.in_ok-same.ensures.size.numbers) c.requires.whole.above;
-    }
+    whole_added e s e.next adds c.in_ok-same.ensures.size.budget (omega arith)
+    (subst (All (λ m. m < e.next)) (sym c.in_ok-same.ensures.size.numbers) c.requires.whole.above) c.requires.whole
 
 pub returns-then-same-clause-step : goal.returns-then-same-clause-step
 returns-then-same-clause-step c t p view =
