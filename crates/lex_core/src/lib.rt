@@ -10,7 +10,12 @@ mod passing;
 mod quoted;
 mod tokens;
 
+pub use bytes::{behind, byte_at, first};
+pub use characters::{Run, run_end};
+pub use layout::skip_layout;
 pub use lex_fault::LexFault;
+pub use numerals::{begins_code, begins_radix, radix_of};
 pub use passing::pass;
 pub use pl_model::skipping::Passing;
+pub use quoted::{digits_value, piece};
 pub use tokens::next;

@@ -3,21 +3,28 @@
 //! says how a row is written.
 #![tactic(auto)]
 
+mod cells;
 mod characters;
 mod fields;
+mod files;
 mod lexemes;
+mod operators;
 mod report;
 mod runs;
 mod settings;
 mod shown;
+mod store;
 mod terms;
+mod unification;
 mod written;
 
 use anyhow::{Context, Result, bail, ensure};
 use fields::{Fields, bytes_of};
+use pl_io::{HostOutput, write_all};
 use settings::Settings;
 use std::alloc::Global;
 use std::io::Write;
+use std::os::unix::fs::FileExt;
 use std::{env, fs, io};
 
 /// How many rows there were, and how many of them gave something else than they say.
@@ -35,7 +42,8 @@ fn main(rt: HostRuntime) -> Result<()> {
     for name in env::args(&rt)?.skip(1) {
         check_file(&rt, name.as_str(), &mut tally)?;
     }
-    println!(rt; "{} cases, {} differ", tally.cases, tally.differing)?;
+    let counts = format!(in rt.alloc(); "{} cases, {} differ\n", tally.cases, tally.differing)?;
+    write_all(&mut HostOutput::new(&rt), counts.as_bytes())?;
     ensure!(tally.differing == 0, "some rows differ");
     Ok(())
 }
@@ -45,7 +53,10 @@ fn check_file<R: std::rt::Files + AllocGlobal + Print>(
     rt: &R,
     name: &str,
     tally: &mut Tally,
-) -> Result<()> {
+) -> Result<()>
+where
+    R::File: FileExt,
+{
     let text = fs::read_to_string(rt, name).context(format_args!("reading {name}"))?;
     let mut settings = Settings::new(rt.alloc())?;
     for line in text.as_str().split('\n') {
@@ -59,14 +70,21 @@ fn check_file<R: std::rt::Files + AllocGlobal + Print>(
 }
 
 /// Checks a row.
-fn check_row<R: AllocGlobal + Print>(
+fn check_row<R: std::rt::Files + AllocGlobal + Print>(
     rt: &R,
     row: &str,
     settings: &Settings,
     tally: &mut Tally,
-) -> Result<()> {
+) -> Result<()>
+where
+    R::File: FileExt,
+{
     let mut fields = Fields::new(row);
-    let got = result_of(rt.alloc(), settings, &mut fields)?;
+    let got = if settings.kind == "system_files" {
+        files::system_file(rt, &mut fields)?
+    } else {
+        result_of(rt.alloc(), settings, &mut fields)?
+    };
     let wanted = bytes_of(rt.alloc(), fields.rest())?;
     tally.cases = tally.cases.saturating_add(1);
     if got.as_slice() != wanted.as_slice() {
@@ -93,6 +111,32 @@ fn result_of(alloc: Global, settings: &Settings, fields: &mut Fields) -> Result<
         "solutions" => report::solution(alloc, settings, fields),
         "file_lines" => report::file_line(alloc, settings, fields),
         "runs" => runs::run(alloc, fields),
+        "operators" => operators::of_name(alloc, settings, fields),
+        "operator_names" => operators::all_names(alloc, settings, fields),
+        "operator_changes" => operators::changes(alloc, settings, fields),
+        "many_operators" => operators::many(alloc, settings, fields),
+        _ => result_of_store(alloc, settings.kind, fields),
+    }
+}
+
+/// What comes of a row about a store of terms, or about files.
+fn result_of_store(alloc: Global, kind: &str, fields: &mut Fields) -> Result<Vec<u8>> {
+    match kind {
+        "unified" => unification::unified_terms(alloc, fields),
+        "unifies" => unification::is_unified(alloc, fields),
+        "heads" => unification::heads(alloc, fields),
+        "walked" => unification::walked_term(alloc, fields),
+        "chains" => unification::chain(alloc, fields),
+        "loads" => store::load(alloc, fields),
+        "shares" => store::share(alloc, fields),
+        "undone" => store::undone(alloc, fields),
+        "seen" => store::seen(alloc, fields),
+        "bound" => store::bound(alloc, fields),
+        "cells" => store::cells(alloc, fields),
+        "files" => files::file_read(alloc, fields),
+        "replaced" => files::file_replaced(alloc, fields),
+        "one_text" => files::one_text(alloc, fields),
+        "sinks" => files::sink(alloc, fields),
         _ => bail!("no such kind of rows"),
     }
 }

@@ -1,7 +1,7 @@
 //! What is set for the rows of a file.
 
-use anyhow::{Context, Result, bail};
-use op_table::{Kind, OpTable};
+use anyhow::{Context, Result, bail, ensure};
+use op_table::{Kind, OpFault, OpTable};
 use pl_term::Text;
 use prolog_reader::Quotes;
 use std::alloc::Global;
@@ -49,13 +49,19 @@ impl<'a> Settings<'a> {
 
     /// Adds an operator with the priority, the specifier and the name that a text has.
     fn add_operator(&mut self, text: &str) -> Result<()> {
-        let (priority, rest) = text.split_once(' ').context("a priority")?;
-        let (specifier, name) = rest.split_once(' ').context("a specifier")?;
-        let name = Text::from_str(self.alloc, name)?;
-        self.ops
-            .add(priority.parse::<u16>()?, kind_of(specifier)?, &name)?;
+        let fault = change(self.alloc, &mut self.ops, text)?;
+        ensure!(fault.is_none(), "the operator is refused");
         Ok(())
     }
+}
+
+/// Changes a table by the priority, the specifier and the name that a text has, and answers why it is refused, if it is.
+pub fn change(alloc: Global, ops: &mut OpTable, text: &str) -> Result<Option<OpFault>> {
+    let (priority, rest) = text.split_once(' ').context("a priority")?;
+    let (specifier, name) = rest.split_once(' ').context("a specifier")?;
+    let name = Text::from_str(alloc, name)?;
+    let priority = priority.parse::<u16>()?;
+    Ok(ops.add(priority, kind_of(specifier)?, &name).err())
 }
 
 /// The value of the flag `double_quotes` with this name.
