@@ -33,4 +33,5 @@ pub mod Stacked
 pub mod Taking
 pub mod Texts
 pub mod Turning
+pub mod VariableCounts
 pub mod Wholes

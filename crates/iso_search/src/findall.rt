@@ -1,11 +1,12 @@
 //! All solutions of a goal (ISO 8.10.1).
-ghost use Rattle.std.specs.Prelude.{◌≡◌, ◌≤◌, ◌<◌, ◌+◌, ◌*◌, ◌^◌, ℕ, length, map, reverse, zero, IfOk, MatchOption, OnOk};
+ghost use Rattle.std.specs.Prelude.{◌≡◌, ◌≤◌, ◌<◌, ◌+◌, ◌*◌, ◌^◌, ℕ, length, map, reverse, zero, IfOk, IsTrue, MatchOption, OnOk};
 ghost use Rattle.std.specs.List.{All};
 ghost use Rattle.pl_term.specs.Cells.{cells};
 ghost use Rattle.pl_term.specs.Tree.{Tree};
+ghost use Rattle.pl_term.specs.Variables.{variables};
 ghost use Rattle.pl_model.specs.Predicates.{proc_of};
 ghost use Rattle.pl_model.specs.Control.{collected, findall_proc, list_made, with_findall};
-ghost use Rattle.term_store.specs.Contents.{Holds, IsAbove};
+ghost use Rattle.term_store.specs.Contents.{Holds, IsAbove, term_at};
 ghost use Rattle.iso_search.specs.Collecting.{AreBuilt, IsCollectionIn, IsJoined, Rise, cells_held, copies_of, copy_over};
 ghost use Rattle.iso_search.specs.Lists.{IsListBuilt};
 ghost use Rattle.iso_search.specs.Outcomes.{IsAfter, Setting, limits_in, result_in, state_in};
@@ -21,6 +22,9 @@ use crate::search::Search;
 use pl_term::Memory;
 use std::alloc::Global;
 use term_store::{Place, Store, View as Kind};
+
+/// The greatest number whose double is below 2^64.
+const MOST_DOUBLED: u64 = 9_223_372_036_854_775_807;
 
 impl Search {
     /// `findall/3` of a template, a goal and a list: calls the goal over a choice point that collects, in which a cut is
@@ -77,6 +81,10 @@ impl Search {
             result_in t self.new n findall_proc o
             ≡ collected (limits_in t self.old) (state_in t self.old) n (reads t.view self.old.store template) height) }
     {
+        let too_large = self.is_too_large(template)?;
+        if too_large {
+            return Ok(Outcome::Raise(Fault::Cells));
+        }
         let term = self.store.save(template)?;
         let cells = term.cells();
         let count = term.variables();
@@ -96,6 +104,22 @@ impl Search {
                 Ok(Outcome::Fail)
             }
         }
+    }
+
+    /// Whether the term at a place has more cells than the whole budget, in time linear in the budget, where there are numbers
+    /// for as many variables as the term can have. The only error is out of memory.
+    fn is_too_large(&self, place: Place) -> Result<bool, Memory>
+        requires whole { IsWhole self.now }
+        requires place { Holds self.now.store place }
+        ensures cells { IfOk result (λ b. IsTrue b → self.now.budgets.cells < cells (term_at self.now.store place)) }
+        ensures numbers { IfOk result (λ b. IsTrue b → self.now.next + length (variables (term_at self.now.store place)) < 2 ^ 64) }
+    {
+        if self.next > MOST_DOUBLED {
+            return Ok(false);
+        }
+        let _here = self.store.mark();
+        let counted = self.store.cells_within(place, self.budgets.cells)?;
+        Ok(counted.is_none())
     }
 
     /// The end of a `findall/3` whose goal has no further solution: unifies its third argument with the list of the copies

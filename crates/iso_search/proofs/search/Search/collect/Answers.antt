@@ -1,6 +1,6 @@
-use Rattle.std.proofs.Common.{◌≡◌, ◌+◌, ◌-◌, reverse, refl, ap, subst, ◌∙◌, arith}
+use Rattle.std.proofs.Common.{◌≡◌, ◌+◌, ◌-◌, zero, length, reverse, refl, sym, ap, subst, ◌∙◌, arith}
 use Rattle.pl_term.specs.Cells.{cells}
-use Rattle.pl_term.specs.Variables.{rename}
+use Rattle.pl_term.specs.Variables.{rename, variables}
 use Rattle.pl_model.specs.Control.{findall_proc, with_copy}
 use Rattle.term_store.specs.Contents.{term_at}
 use Rattle.iso_search.specs.declared.copies.Copied.{Copied}
@@ -12,6 +12,8 @@ use Rattle.iso_search.specs.Outcomes.{result_in}
 use Rattle.iso_search.specs.Reading.{reads}
 use Rattle.iso_search.specs.Searching.{choices_of, node_of}
 use Rattle.iso_search.proofs.Budgets.{with_budget}
+use Rattle.term_store.proofs.Renumbering.{length-variables_renamed}
+use Rattle.iso_search.proofs.Copying.{cells-kept}
 use Rattle.iso_search.proofs.Finding.{cells_saved, collect_done, collect_no_number, collect_no_room, count_saved, kept_copy}
 use Rattle.iso_search.proofs.Joining.{all_countable, choices_put, choices_unjoined, whole_joined, whole_unjoined}
 use Rattle.iso_search.proofs.Wholes.{some_view}
@@ -112,3 +114,18 @@ returns-else-not-joined-clause-step c t rest view =
     (omega (arith, c.in-Ok.ensures.fits, c.cells-cells.ensures)) kept v
     ∙ ap (λ x. with_copy x c.args.height (choices_of v e)) (kept_copy v tree c.in_ok-term.term e.next c.in_ok-term.ensures))
     refl refl
+
+pub returns-then-too_large-clause-step : goal.returns-then-too_large-clause-step
+returns-then-too_large-clause-step c t rest view =
+    let e = c.args.self.now in
+    let v = t.view in
+    let tree = term_at e.store c.args.template in
+    let u = reads v e.store c.args.template in
+    let large = c.in_ok-too_large.ensures in
+    let room = large.numbers c.if-too_large.true in
+    let over = large.cells c.if-too_large.true in
+    let counted = c.requires.whole.budget some_view in
+    let count = sym (count_saved v tree (rename zero tree) refl) ∙ length-variables_renamed tree in
+    let size = sym (cells_saved v tree (rename zero tree) refl) ∙ cells-kept tree in
+    collect_no_room t e e rest u c.args.height (length (variables tree)) (cells tree) c.requires.whole (sym count) (sym size) room
+    (omega (arith, over, counted))
