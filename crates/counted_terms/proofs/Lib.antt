@@ -1,0 +1,9 @@
+pub mod Showing
+pub mod Times
+pub mod Holding
+pub mod Recounting
+pub mod OneMaps
+pub mod Loops
+pub mod Listing
+pub mod Saying
+pub mod Exactly
