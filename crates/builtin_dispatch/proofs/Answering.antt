@@ -12,17 +12,18 @@ use Rattle.pl_model.specs.AtomBuiltins.{atom_row}
 use Rattle.atom_words.specs.declared.view.Refusal.{Refusal}
 use Rattle.atom_api.specs.Names.{Names}
 use Rattle.term_store.specs.Contents.{Contents}
-use Rattle.world_api.specs.Texts.{Holds}
+use Rattle.world_api.specs.Texts.{Holds as Keeps}
 use Rattle.world_api.specs.Gains.{Gains}
 use Rattle.world_api.proofs.Gaining.{gains_nothing, gains_weaker}
 use Rattle.builtin_names.specs.declared.predicates.Pred.{Pred}
 use Rattle.builtin_names.specs.Predicates.{name_of, arity_of}
 use Rattle.builtin_rows.specs.declared.row.Row.{Row}
+use Rattle.builtin_rows.specs.declared.row.Row.TheVariants.{Answer, Ball, CellsFull, Fails, Holds, Line, NeedsAtoms, Retry, Worn}
 use Rattle.builtin_rows.specs.Given.{given_texts}
 use Rattle.builtin_rows.specs.Rows.{IsRow, IsSingle, refusals_of, row_refusals}
 use Rattle.builtin_rows.specs.Steps.{IsPlainRow}
 use Rattle.term_tests.specs.Tests.{Answers}
-use Rattle.builtin_dispatch.specs.Dispatching.{Does, Dispatches, IsGivenText, answer_refusals, given_by, some_row}
+use Rattle.builtin_dispatch.specs.Dispatching.{Does, Dispatches, HasLines, IsGivenText, answer_refusals, given_by, some_row}
 use Rattle.builtin_dispatch.specs.Unbuilt.{is_unbuilt_row}
 
 -- The definition has this row.
@@ -35,22 +36,34 @@ pub record IsTold (p : Pred) (ts : Trees) (next : ℕ) (d : Option basic.Row) : 
   pub defined : IfSome d (IsDefined p ts next)
   pub unbuilt : IfNone d (is_unbuilt_row (name_of p) (arity_of p) ≡ true)
 
+-- A row that is no line of a table.
+single_lines : (p : Pred) (ts : Trees) (r : Row) → IsSingle r → HasLines p ts r
+single_lines p ts Fails h = tt
+single_lines p ts Holds h = tt
+single_lines p ts (Answer ps fresh) h = tt
+single_lines p ts (Line ps following) h = absurd h
+single_lines p ts (Ball w) h = tt
+single_lines p ts (CellsFull used need) h = tt
+single_lines p ts (NeedsAtoms pass) h = tt
+single_lines p ts (Retry cause) h = tt
+single_lines p ts (Worn word) h = tt
+
 pub answers_do : {E : Type 0} (s t : Contents) (p : Pred) (ts : Trees) (next : ℕ) (m : Names) (d : Option basic.Row) (result : Result (Option Row) E) → next < 2 ^ 64
     → IsTold p ts next d → IfOk result (Answers s ts d m t) → IfOk result (λ o. IfSome o IsSingle) → Does s next p ts m t result
-answers_do s t p ts next m d (Err e) few told h single = record { row = tt; single = tt; unbuilt = tt }
-answers_do s t p ts next m None (Ok None) few told h single = record { row = tt; single = single; unbuilt = record { listed = told.unbuilt; same = h } }
+answers_do s t p ts next m d (Err e) few told h single = record { row = tt; lines = tt; unbuilt = tt }
+answers_do s t p ts next m None (Ok None) few told h single = record { row = tt; lines = single; unbuilt = record { listed = told.unbuilt; same = h } }
 answers_do s t p ts next m (Some r) (Ok None) few told h single = absurd h
 answers_do s t p ts next m None (Ok (Some q)) few told h single = absurd h
 answers_do s t p ts next m (Some r) (Ok (Some q)) few told h single =
     record {
       row = record { means = r; row_is = told.defined.row_is; plain = told.defined.plain; stands = h (proc (name_of p) (arity_of p)) next few };
-      single = single;
+      lines = single_lines p ts q single;
       unbuilt = tt;
     }
 
 -- Nothing was interned.
-pub same_holds : (m n : Names) → n ≡ m → Holds m n
-same_holds m n e = subst (Holds m) (sym e) (λ a t h. h)
+pub same_holds : (m n : Names) → n ≡ m → Keeps m n
+same_holds m n e = subst (Keeps m) (sym e) (λ a t h. h)
 
 same_refused : {E : Type 0} (old new : List Refusal) (result : Result (Option Row) E) → new ≡ old → IfOk result (λ o. answer_refusals o ≡ [])
     → IfOk result (λ o. new ≡ old ++ answer_refusals o)
@@ -71,8 +84,8 @@ settles s t p ts next m n old new before after result held refused asked does re
 -- By the row of a predicate that is built.
 row_does : {E : Type 0} (s t : Contents) (q : Pred) (ts : Trees) (next : ℕ) (n : Names) (d : basic.Row) (result : Result Row E) → IsDefined q ts next d
     → IfOk result (λ r. IsRow s next ts (given_by s next q ts d) n t r) → IfOk result IsSingle → Does s next q ts n t (some_row result)
-row_does s t q ts next n d (Ok r) is h single = record { row = record { means = d; row_is = is.row_is; plain = is.plain; stands = h }; single = single; unbuilt = tt }
-row_does s t q ts next n d (Err e) is h single = record { row = tt; single = tt; unbuilt = tt }
+row_does s t q ts next n d (Ok r) is h single = record { row = record { means = d; row_is = is.row_is; plain = is.plain; stands = h }; lines = single_lines q ts r single; unbuilt = tt }
+row_does s t q ts next n d (Err e) is h single = record { row = tt; lines = tt; unbuilt = tt }
 
 row_refuses : {E : Type 0} (result : Result Row E) → IfOk result (λ r. row_refusals r ≡ []) → IfOk (some_row result) (λ o. answer_refusals o ≡ [])
 row_refuses (Ok r) h = h
@@ -96,7 +109,7 @@ settled s t p q ts next m n old new before after d result whole same is e held r
 -- The texts that were asked of the atoms stand in the answer.
 pub interned : {E : Type 0} (s t : Contents) (p q : Pred) (ts : Trees) (next : ℕ) (m n : Names) (old new : List Refusal) (before after : Option (List Chars))
     (d : basic.Row) (result : Result Row E) (whole : Result (Option Row) E) → p ≡ q → IsDefined q ts next d → whole ≡ some_row result
-    → Holds m n → new ≡ old ++ refusals_of result → Gains (λ c. Contains (given_texts (given_by s next q ts d)) c) before after
+    → Keeps m n → new ≡ old ++ refusals_of result → Gains (λ c. Contains (given_texts (given_by s next q ts d)) c) before after
     → IfOk result (λ r. IsRow s next ts (given_by s next q ts d) n t r) → IfOk result IsSingle
     → Dispatches s next p ts m n old new before after t whole
 interned s t p q ts next m n old new before after d result whole same is e keeps refused gains h single =
@@ -113,7 +126,7 @@ interned s t p q ts next m n old new before after d result whole same is e keeps
 pub nothing_does : (E : Type 0) (s : Contents) (p : Pred) (ts : Trees) (next : ℕ) (n : Names) (result : Result (Option Row) E) → result ≡ Ok None
     → is_unbuilt_row (name_of p) (arity_of p) ≡ true → Does s next p ts n s result
 nothing_does E s p ts next n result e listed =
-    subst (Does s next p ts n s) (sym e) (record { row = tt; single = tt; unbuilt = record { listed = listed; same = refl } })
+    subst (Does s next p ts n s) (sym e) (record { row = tt; lines = tt; unbuilt = record { listed = listed; same = refl } })
 
 -- What is said of a row, said otherwise.
 pub ok_weaker : {A E : Type 0} (P Q : A → Type 0) (r : Result A E) → IfOk r P → ((a : A) → P a → Q a) → IfOk r Q

@@ -5,6 +5,7 @@ use Rattle.pl_term.specs.Tree.{Chars, Trees, trees}
 use Rattle.pl_model.specs.History.{proc}
 use Rattle.pl_model.specs.Builtins.{row}
 use Rattle.pl_model.specs.BuiltinRows as rows
+use Rattle.pl_model.specs.BuiltinRows.{Answer}
 use Rattle.atom_words.specs.declared.view.Refusal.{Refusal}
 use Rattle.atom_api.specs.Names.{Names}
 use Rattle.term_store.specs.declared.views.Arguments.{Arguments}
@@ -16,8 +17,9 @@ use Rattle.world_builtins.specs.Spelling.{spelled, text_of}
 use Rattle.builtin_names.specs.declared.predicates.Pred.{Pred}
 use Rattle.builtin_names.specs.Predicates.{name_of, arity_of}
 use Rattle.builtin_rows.specs.declared.row.Row.{Row}
-use Rattle.builtin_rows.specs.Given.{Given, given, given_texts}
-use Rattle.builtin_rows.specs.Rows.{IsRow, IsSingle, row_refusals}
+use Rattle.builtin_rows.specs.declared.row.Row.TheVariants.{Line}
+use Rattle.builtin_rows.specs.Given.{Given, given, given_texts, lined}
+use Rattle.builtin_rows.specs.Rows.{IsRow, row_refusals}
 use Rattle.builtin_rows.specs.Steps.{IsPlainRow}
 use Rattle.builtin_dispatch.specs.Unbuilt.{is_unbuilt_row}
 
@@ -41,6 +43,24 @@ pub record IsRowOf (s : Contents) (next : ℕ) (p : Pred) (ts : Trees) (n : Name
   pub plain : IsPlainRow means
   pub stands : IsRow s next ts (given_by s next p ts means) n t r
 
+-- A line is one of a table that the definition has for the predicate and these arguments, whatever the next number of a
+-- variable is.
+abbrev pub HasLines : Pred → Trees → Row → Type 0
+HasLines p ts (Line ps following) = (xs : List Answer) × ((next : ℕ) → row (name_of p) ts next ≡ Some (rows.table xs))
+HasLines p ts r = Unit {0}
+
+-- The lines of the table of a predicate.
+abbrev pub lines_in : Option rows.Row → List Answer
+lines_in (Some (rows.table xs)) = xs
+lines_in _ = []
+
+abbrev pub lines_of : Pred → Trees → List Answer
+lines_of p ts = lines_in (row (name_of p) ts 0)
+
+-- What the predicate gives from a line of its table on.
+abbrev pub given_from : Pred → Trees → ℕ → Given
+given_from p ts line = lined ts (lines_of p ts) line
+
 -- The predicate is not built yet, and nothing has changed.
 pub record IsUnbuilt (s : Contents) (p : Pred) (t : Contents) : Type 0 where
   pub listed : is_unbuilt_row (name_of p) (arity_of p) ≡ true
@@ -61,7 +81,7 @@ some_row (Err e) = Err e
 -- What is answered for the predicate and these arguments.
 pub record Does {E : Type 0} (s : Contents) (next : ℕ) (p : Pred) (ts : Trees) (n : Names) (t : Contents) (result : Result (Option Row) E) : Type 0 where
   pub row : IfOk result (λ o. IfSome o (IsRowOf s next p ts n t))
-  pub single : IfOk result (λ o. IfSome o IsSingle)
+  pub lines : IfOk result (λ o. IfSome o (HasLines p ts))
   pub unbuilt : IfOk result (λ o. IfNone o (IsUnbuilt s p t))
 
 -- The same, where the atoms that are held, what was refused of atoms and what was asked of them were the former ones and are

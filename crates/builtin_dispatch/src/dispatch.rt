@@ -5,8 +5,7 @@ ghost use Rattle.world_api.specs.Gains.{Gains};
 ghost use Rattle.world_api.specs.Texts.{Holds};
 ghost use Rattle.builtin_names.specs.Predicates.{arity_of, kind_of};
 ghost use Rattle.builtin_names.specs.Predicates as kinds;
-ghost use Rattle.builtin_rows.specs.Rows.{IsSingle};
-ghost use Rattle.builtin_dispatch.specs.Dispatching.{AreHeld, Dispatches, IsGivenText, IsRowOf, IsUnbuilt, answer_refusals, terms_of};
+ghost use Rattle.builtin_dispatch.specs.Dispatching.{AreHeld, Dispatches, HasLines, IsGivenText, IsRowOf, IsUnbuilt, answer_refusals, terms_of};
 
 use crate::one::row_of_one;
 use crate::three::row_of_three;
@@ -34,7 +33,7 @@ pub fn row_of<A: Atoms>(
     requires held { AreHeld (A.held atoms.old) store.old arguments }
     requires above { IsAbove next store.old }
     ensures row { IfOk result (λ o. IfSome o (λ r. IsRowOf store.old next pred (terms_of (A.held atoms.old) store.old arguments) (A.held atoms.new) store.new r)) }
-    ensures single { IfOk result (λ o. IfSome o IsSingle) }
+    ensures lines { IfOk result (λ o. IfSome o (HasLines pred (terms_of (A.held atoms.old) store.old arguments))) }
     ensures unbuilt { IfOk result (λ o. IfNone o (IsUnbuilt store.old pred store.new)) }
     ensures holds { Holds (A.held atoms.old) (A.held atoms.new) }
     ensures refusals { IfOk result (λ o. A.refusals atoms.new ≡ A.refusals atoms.old ++ answer_refusals o) }

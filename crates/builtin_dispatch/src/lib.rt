@@ -4,8 +4,10 @@
 
 mod built;
 mod dispatch;
+mod lines;
 mod one;
 mod three;
 mod two;
 
 pub use dispatch::row_of;
+pub use lines::line_of;

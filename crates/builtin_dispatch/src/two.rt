@@ -11,7 +11,7 @@ ghost use Rattle.builtin_dispatch.specs.Dispatching.{Dispatches};
 
 use crate::built::built;
 use atom_api::Atoms;
-use atom_texts::{atom_length, char_code};
+use builtin_atom::{atom_length, char_code};
 use builtin_names::Pred;
 use builtin_rows::Row;
 use pl_term::Memory;

@@ -3,8 +3,8 @@ use Rattle.std.proofs.Common.{◌≡◌, ℕ, zero, List, [], ◌∷◌, refl}
 use Rattle.pl_term.specs.Tree.{Tree, Trees}
 use Rattle.pl_model.specs.History.{Proc}
 use Rattle.pl_model.specs.Balls.{error_ball}
-use Rattle.pl_model.specs.BuiltinRows.{Answer, gives, table, error, plain_answer, one_answer, unifying}
-use Rattle.builtin_rows.specs.Given.{answered, thrown, given, terms_of, with_room}
+use Rattle.pl_model.specs.BuiltinRows.{Answer, gives, table, error, plain_answer, one_answer}
+use Rattle.builtin_rows.specs.Given.{answered, lined, thrown, given, with_room}
 
 module _ (p : Proc) (ts : Trees) (next used budget : ℕ) where
   pub gives_none : given p ts next used budget (gives []) ≡ answered [] zero zero
@@ -19,7 +19,7 @@ module _ (p : Proc) (ts : Trees) (next used budget : ℕ) where
   unfolding given
   gives_plain us = refl
 
-  pub gives_table : (xs : List Answer) → given p ts next used budget (table xs) ≡ answered (terms_of (unifying ts xs)) zero zero
+  pub gives_table : (xs : List Answer) → given p ts next used budget (table xs) ≡ lined ts xs zero
   unfolding given
   gives_table xs = refl
 

@@ -1,17 +1,16 @@
 -- What a row gives leads to the step of the definition.
-use Rattle.std.proofs.Common.{◌≡◌, zero, ◌+◌, ◌<◌, ◌≤◌, ◌^◌, Bool, true, false, ◌&&◌, List, [], ◌∷◌, length, map, nat_lt, nat_le, if◌then◌else◌, is_some, refl, ap, ap₂, ◌∙◌, arith}
+use Rattle.std.proofs.Common.{◌≡◌, zero, ◌+◌, ◌<◌, ◌≤◌, ◌^◌, Bool, true, false, ◌&&◌, List, [], ◌∷◌, length, map, nat_lt, nat_le, if◌then◌else◌, refl, ap, ap₂, ◌∙◌, arith}
 use Rattle.std.specs.List.{All}
 use Rattle.std.proofs.lemmas.Bool.{lt-ltb, le-leb}
-use Rattle.std.proofs.lemmas.List.Elements.{All-cons, All-head, All-tail}
+use Rattle.std.proofs.lemmas.List.Elements.{All-head, All-tail}
 use Rattle.pl_term.specs.Tree.{Trees}
 use Rattle.pl_model.specs.History.{Proc}
 use Rattle.pl_model.specs.Balls.{error_ball, no_cells, no_choices, no_inferences}
-use Rattle.pl_model.specs.Unify.{solve_all}
-use Rattle.pl_model.specs.BuiltinRows.{Answer, Row, gives, table, error, plain_answer, unifying}
+use Rattle.pl_model.specs.BuiltinRows.{Answer, Row, gives, table, error, plain_answer}
 use Rattle.pl_model.specs.Resolution.{Limits, Node, answers, State, collected_cells}
-use Rattle.pl_model.specs.Control.{answer_tried, first_answer, next_answer, raised, with_row}
+use Rattle.pl_model.specs.Control.{answer_tried, first_answer, next_answer, raised, several, with_row}
 use Rattle.builtin_rows.specs.Given.{answered, thrown, full, given, terms_of, with_room}
-use Rattle.builtin_rows.specs.Steps.{IsPlain, IsPlainRow, answer_led, given_led}
+use Rattle.builtin_rows.specs.Steps.{IsPlain, IsPlainRow, answer_led, given_led, line_led}
 
 plain_is : (a : Answer) → IsPlain a → a ≡ plain_answer a.terms
 plain_is a p = ap₂ (λ f m. record { terms = a.terms; fresh = f; made = m }) p.fresh p.made
@@ -20,14 +19,6 @@ plains_are : (xs : List Answer) → All IsPlain xs → xs ≡ map plain_answer (
 plains_are [] all = refl
 plains_are (a ∷ xs) all =
     ap₂ (λ b bs. b ∷ bs) (plain_is a (All-head IsPlain a xs all)) (plains_are xs (All-tail IsPlain a xs all))
-
-unifying_plain : (ts : Trees) (xs : List Answer) → All IsPlain xs → All IsPlain (unifying ts xs)
-unifying_plain ts [] all = all
-unifying_plain ts (a ∷ xs) all = go (unifying_plain ts xs (All-tail IsPlain a xs all)) (is_some (solve_all [] ts a.terms))
-  where
-    go : All IsPlain (unifying ts xs) → (b : Bool) → All IsPlain (if b then a ∷ unifying ts xs else unifying ts xs)
-    go rest true = All-cons IsPlain a (unifying ts xs) (All-head IsPlain a xs all) rest
-    go rest false = rest
 
 module _ (l : Limits) (n : Node) (p : Proc) (ts : Trees) where
   -- An answer with its room.
@@ -78,6 +69,20 @@ module _ (l : Limits) (n : Node) (p : Proc) (ts : Trees) where
       go true = refl
       go false = tried
 
+  -- The first of the answers of a table, tried after the choice point before, or as the goal is called.
+  pub next_line_led : (s : State) (us : Trees) (later : List Answer) → s.next < 2 ^ 64 → n.used + collected_cells s.choices ≤ l.cells
+      → next_answer l s n p ts (plain_answer us ∷ later) ≡ line_led s n p ts us later
+  next_line_led s us [] few fits = plain_led s us few fits
+  next_line_led s us (a ∷ xs) few fits = plain_led (record s { choices = answers p ts (a ∷ xs) n ∷ s.choices }) us few fits
+
+  pub first_line_led : (s : State) (us : Trees) (later : List Answer) → s.next < 2 ^ 64 → n.used + collected_cells s.choices ≤ l.cells
+      → first_answer l s n p ts (plain_answer us ∷ later)
+      ≡ (if several (plain_answer us ∷ later) && nat_le l.choices (length s.choices) then raised s n no_choices p else line_led s n p ts us later)
+  first_line_led s us later few fits =
+      ap
+      (λ q. if several (plain_answer us ∷ later) && nat_le l.choices (length s.choices) then raised s n no_choices p else q)
+      (next_line_led s us later few fits)
+
   -- The step of the definition is the one to which what the row gives leads.
   pub row_led : (s : State) (r : Row) → s.next < 2 ^ 64 → n.used + collected_cells s.choices ≤ l.cells → IsPlainRow r
       → with_row l s n p ts r ≡ given_led l s n p ts (given p ts s.next (n.used + collected_cells s.choices) l.cells r)
@@ -85,5 +90,5 @@ module _ (l : Limits) (n : Node) (p : Proc) (ts : Trees) where
   row_led s (gives []) few fits plain = refl
   row_led s (gives (a ∷ [])) few fits plain = tried_led s a
   row_led s (gives (a ∷ (b ∷ bs))) few fits plain = plains_led s (a ∷ (b ∷ bs)) few fits plain
-  row_led s (table xs) few fits plain = plains_led s (unifying ts xs) few fits (unifying_plain ts xs plain)
+  row_led s (table xs) few fits plain = refl
   row_led s (error e) few fits plain = refl

@@ -1,5 +1,5 @@
 -- What a built-in predicate gives for its arguments, before it is unified with them.
-use Rattle.std.specs.Prelude.{ℕ, zero, ◌+◌, ◌^◌, List, [], ◌∷◌, ◌++◌, map, nat_lt, nat_le, if◌then◌else◌}
+use Rattle.std.specs.Prelude.{ℕ, zero, ◌+◌, ◌^◌, List, [], ◌∷◌, ◌++◌, map, drop, nat_lt, nat_le, if◌then◌else◌}
 use Rattle.pl_term.specs.Tree.{Chars, Tree, Trees}
 use Rattle.pl_model.specs.History.{Proc}
 use Rattle.pl_model.specs.Balls.{error_ball, no_inferences}
@@ -9,6 +9,9 @@ use Rattle.world_api.specs.Asked.{texts_in_all}
 pub data Given : Type 0 where
   -- the terms of each answer, with so many new variables, and so many cells for the terms that were made
   answered : List Trees → ℕ → ℕ → Given
+  -- for these arguments the lines of a table, which make no terms: of those from this one on, counted from 0, the ones that
+  -- unify with the arguments are the answers
+  lined : Trees → List Answer → ℕ → Given
   -- this ball is thrown
   thrown : Tree → Given
   -- so many cells do not fit
@@ -30,7 +33,7 @@ unfoldable pub given : Proc → Trees → ℕ → ℕ → ℕ → Row → Given
 given p ts next used budget (gives []) = answered [] zero zero
 given p ts next used budget (gives (a ∷ [])) = with_room p next used budget a
 given p ts next used budget (gives (a ∷ (b ∷ bs))) = answered (terms_of (a ∷ (b ∷ bs))) zero zero
-given p ts next used budget (table xs) = answered (terms_of (unifying ts xs)) zero zero
+given p ts next used budget (table xs) = lined ts xs zero
 given p ts next used budget (error e) = thrown (error_ball e p)
 
 -- The names that stand in the answers.
@@ -40,5 +43,6 @@ texts_of_all (ts ∷ tss) = texts_in_all ts ++ texts_of_all tss
 
 abbrev pub given_texts : Given → List Chars
 given_texts (answered xs f k) = texts_of_all xs
+given_texts (lined ts xs k) = texts_of_all (terms_of (unifying ts (drop k xs)))
 given_texts (thrown b) = []
 given_texts (full n) = []

@@ -11,13 +11,23 @@ pub enum Row {
     Holds,
     /// One answer: a place for each argument, with which it is unified. Its `fresh` new variables have the next numbers, and
     /// its cells were taken.
-    Answer { places: Vec<Place>, fresh: u64 },
-    /// Answers that make no terms, in their order: in each a place for each argument.
-    Table(Vec<Vec<Place>>),
+    Answer {
+        places: Vec<Place>,
+        fresh: u64,
+    },
+    /// The first of the answers of a table: a place for each argument, with which it is unified. No cells were taken. With it
+    /// the line of the next answer, counted from 0, where there is one.
+    Line {
+        places: Vec<Place>,
+        following: Option<usize>,
+    },
     /// This ball is thrown.
     Ball(Place),
     /// So many cells do not fit beside those that are used.
-    CellsFull { used: u64, need: u64 },
+    CellsFull {
+        used: u64,
+        need: u64,
+    },
     /// An atom of an answer has no place, as that pass over all slots shows. The predicate is to be called again.
     NeedsAtoms(Pass),
     /// Others stepped in between. The predicate is to be called again.
