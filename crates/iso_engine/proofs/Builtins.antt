@@ -2,7 +2,9 @@
 use Rattle.std.proofs.Common.{◌≡◌, ℕ, suc, ◌<◌, true, false, List, [], ◌∷◌, length, Option, Some, None, is_some, inl, inr, codes, refl, sym, ap, subst, ◌∙◌, arith}
 use Rattle.std.proofs.lemmas.Bool.{false≢true, true≢false}
 use Rattle.std.proofs.lemmas.Slice.Eq.{bytes_eq-Decides}
-use Rattle.pl_term.specs.Tree.{Chars, Tree, var, atom, count, compound, trees}
+use Rattle.pl_term.specs.Tree.{Chars, Tree, none as no_trees, var, atom, count, compound, trees}
+use Rattle.pl_model.specs.BuiltinRows.{Row}
+use Rattle.pl_model.specs.BuiltinRows as basic
 use Rattle.pl_model.specs.Builtins.{row}
 use Rattle.pl_model.specs.History.{proc}
 use Rattle.pl_model.specs.Predicates.{proc_of}
@@ -16,9 +18,10 @@ use Rattle.term_store.specs.declared.views.Arguments.{Arguments}
 use Rattle.term_store.specs.Heap.{atom_name}
 use Rattle.term_store.specs.Contents.{Contents, IsArguments, arguments_at, term_at}
 use Rattle.builtin_names.specs.declared.predicates.Pred.{Pred}
-use Rattle.builtin_names.specs.Predicates.{Kind, is_asking_kind, is_reserved_kind, is_row_kind, is_step_kind, kind_of}
+use Rattle.builtin_names.specs.Predicates.{Kind, has_row, is_asking_kind, is_reserved_kind, is_row_kind, is_step_kind, kind_of}
 use Rattle.builtin_names.specs.Predicates as kinds
 use Rattle.builtin_names.specs.Laws.{AreTexts, IsNamed, TellsConstructs, TellsReserved, TellsRows, TellsShared, goal_of, is_predicate}
+use Rattle.iso_search.specs.Lines.{lines_of, table_of}
 use Rattle.iso_search.specs.Reading.{IsView, View, reads}
 use Rattle.iso_search.specs.Spelling.{spelled, spelled_all, text_of}
 use Rattle.iso_search.proofs.Constructing.{count-trees, how_many}
@@ -51,6 +54,21 @@ pub record IsTold (name arity : ℕ) (o : Option Pred) : Type 0 where
   pub shares : TellsShared name arity o
   pub constructs : TellsConstructs name arity o
   pub reserves : TellsReserved name arity o
+
+no_lines : (o : Option Row) → is_some o ≡ false → table_of o ≡ []
+no_lines None e = refl
+no_lines (Some r) e = absurd (true≢false e)
+
+-- A goal without arguments has no table.
+no_row_alone : (f : Chars) (next : ℕ) → row f no_trees next ≡ None
+unfolding row basic.row
+no_row_alone f next = refl
+
+pub alone_no_lines : (g : Chars → Chars) (t x : Tree) → t ≡ x → arguments (spelled g x) ≡ no_trees → lines_of (spelled g t) ≡ []
+alone_no_lines g t x is no_arguments =
+    ap (λ y. lines_of (spelled g y)) is
+    ∙ ap (λ ts. table_of (row (name_of (spelled g x)) ts 0)) no_arguments
+    ∙ ap table_of (no_row_alone (name_of (spelled g x)) 0)
 
 module _ (v : View) (view : IsView v) where
   abbrev pub texts : ℕ → Chars
@@ -130,6 +148,13 @@ module _ (v : View) (view : IsView v) where
 
       pub compound_is_none : TellsRows name a.count None → TellsShared name a.count None → IsNoBuiltin (reads v s at)
       compound_is_none rows shares = told_at IsNoBuiltin (λ g named many plain kept. none_is g name a.count named many plain kept rows shares)
+
+      pub compound_no_lines : (o : Option Pred) → has_row o ≡ false → TellsRows name a.count o → lines_of (reads v s at) ≡ []
+      compound_no_lines o no_row rows =
+          told_at (λ g. lines_of g ≡ [])
+          (λ g named many plain kept.
+          no_lines (row (name_of g) (arguments g) 0)
+          (ap (λ f. is_some (row f (arguments g) 0)) named ∙ rows texts are_texts (arguments g) many 0 ∙ no_row))
 
       pub compound_is_other : (p : Pred) → is_row_kind (kind_of p) ≡ false → IsTold name a.count (Some p) → construct (reads v s at) ≡ other
           → IsSharedOrKept (reads v s at)

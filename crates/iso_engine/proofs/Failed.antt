@@ -1,17 +1,16 @@
 -- A step after a failure.
-use Rattle.std.proofs.Common.{◌≡◌, ℕ, [], ◌∷◌, Option, Some, None, inl, refl, sym, ap, subst, ◌∙◌}
-use Rattle.pl_model.specs.Resolution.{failing, goes, clauses, resolving}
+use Rattle.std.proofs.Common.{◌≡◌, ℕ, [], Option, Some, None, inl, refl, sym, ap, subst, ◌∙◌}
+use Rattle.pl_model.specs.Resolution.{failing, goes}
 use Rattle.pl_model.specs.Control.{gone_back}
 use Rattle.atom_api.specs.Names.{Names}
-use Rattle.term_store.specs.declared.words.Place.{Place}
 use Rattle.world_api.specs.Texts.{Holds}
 use Rattle.world_api.specs.Told.{Told}
-use Rattle.iso_search.specs.Reading.{IsView, View, reads}
-use Rattle.iso_search.specs.Searching.{IsWhole, choices_of, node_of}
+use Rattle.iso_search.specs.Reading.{IsView, View}
+use Rattle.iso_search.specs.Searching.{IsWhole, choices_of}
 use Rattle.iso_search.specs.declared.failure.Back.{Back}
-use Rattle.iso_search.specs.declared.failure.Back.TheVariants.{Retry as RetryBack}
+use Rattle.iso_search.specs.declared.failure.Back.TheVariants.{Answers as AnswersBack, Exhausted, Fail, Found as FoundBack, Retry as RetryBack, Run}
 use Rattle.iso_search.specs.declared.search.Search.{Search}
-use Rattle.iso_search.specs.Failures.{back_result}
+use Rattle.iso_search.specs.Failures.{IsTaken, back_result}
 use Rattle.iso_search.specs.Outcomes.{Setting, limits_in, state_in}
 use Rattle.iso_engine.specs.declared.doing.Doing.{Doing}
 use Rattle.iso_engine.specs.declared.doing.Doing.TheVariants.{Failing}
@@ -24,7 +23,8 @@ use Rattle.iso_engine.specs.Slices.{IsStepped}
 use Rattle.iso_engine.specs.Spending.{IsSpent}
 use Rattle.iso_engine.specs.Failing.{FailsTo, StandsForBack}
 use Rattle.iso_engine.specs.Ready.{IsReady, Steps, StepsFrom}
-use Rattle.iso_engine.specs.Retrying.{IsGoneOn, IsTried}
+use Rattle.iso_engine.specs.Standing.{state_at}
+use Rattle.iso_engine.specs.Retrying.{IsGoneOn, IsPutBack, IsTried}
 use Rattle.iso_engine.proofs.Alike.{visits_same}
 use Rattle.iso_engine.proofs.Followed.{fails_to}
 use Rattle.iso_engine.proofs.Later.{held_later}
@@ -37,8 +37,30 @@ failed_steps wanted given e f now d b same fails stands =
     subst (λ (y : Doing). Steps wanted given e y f d) (sym same)
     (λ t view wants gave. let r : Setting = record t { doing = failing } in fails r refl ∙ ap goes (stands f r))
 
--- The newest choice point was one of clauses, which was taken off the engine's search.
-module _ (m n : Names) (t u : Told) (e : Engine) (x : Search) (f : Engine) (goal : Place) (g place next : ℕ) (holds : Holds m n) (view : IsView (view_of n u)) (ready : IsReady m t e)
+-- The end of a findall/3.
+pub found_steps : (wanted given : ℕ) (e x f : Search) (now d : Doing) (b : Back) → now ≡ Failing → FailsTo e x b
+    → ((t : Setting) → IsView t.view → back_result t x b ≡ state_at t.view f d t.output)
+    → Steps wanted given e now f d
+found_steps wanted given e x f now d b same fails stands =
+    subst (λ (y : Doing). Steps wanted given e y f d) (sym same)
+    (λ t view wants gave. let r : Setting = record t { doing = failing } in fails r refl ∙ ap goes (stands r view))
+
+-- It has a choice point that can be put back.
+abbrev pub CanBePutBack : Back → Type 0
+CanBePutBack (RetryBack goal g place next) = Unit {0}
+CanBePutBack (AnswersBack goal line next) = Unit {0}
+CanBePutBack _ = ⊥
+
+choices_again : (e x f : Search) (b : Back) → CanBePutBack b → IsTaken e x b → IsTaken f x b → (v : View) → choices_of v f ≡ choices_of v e
+choices_again e x f Exhausted can taken again v = absurd can
+choices_again e x f (Run list) can taken again v = absurd can
+choices_again e x f Fail can taken again v = absurd can
+choices_again e x f (RetryBack goal g place next) can taken again v = again v ∙ sym (taken v)
+choices_again e x f (AnswersBack goal line next) can taken again v = again v ∙ sym (taken v)
+choices_again e x f (FoundBack list found next) can taken again v = absurd can
+
+-- The newest choice point was one of clauses, or of lines of a table, which was taken off the engine's search.
+module _ (m n : Names) (t u : Told) (e : Engine) (x : Search) (f : Engine) (b : Back) (can : CanBePutBack b) (holds : Holds m n) (view : IsView (view_of n u)) (ready : IsReady m t e)
     (fails : e.doing ≡ Failing) (kept : (let y : Search = record e.search { store = x.store; frames = x.frames; choices = x.choices } in x ≡ y)) (whole : IsWhole f.search) where
   abbrev taken_off : Engine
   taken_off = record e { search = x }
@@ -49,40 +71,36 @@ module _ (m n : Names) (t u : Told) (e : Engine) (x : Search) (f : Engine) (goal
   budgets_same : x.budgets ≡ e.search.budgets
   budgets_same = ap (λ (s : Search). s.budgets) kept
 
-  -- The next clause was tried.
-  tried_step : IsTried t taken_off goal g place next n u f
-      → ((r : Setting) → r.doing ≡ failing → back_result r x (RetryBack goal g place next) ≡ gone_back (limits_in r e.search) (state_in r e.search) (choices_of r.view e.search))
-      → IsStep None
+  abbrev GoesBack : Type 0
+  GoesBack = (r : Setting) → r.doing ≡ failing → back_result r x b ≡ gone_back (limits_in r e.search) (state_in r e.search) (choices_of r.view e.search)
+
+  -- The next one was tried.
+  tried_step : IsTried t taken_off b n u f → GoesBack → IsStep None
   tried_step tried step =
       let given : f.given ≡ e.given = ap (λ (y : Engine). y.given) tried.rest
       in let steps : StepsFrom n u e.wanted e.given e.search e.doing f.search f.doing =
       subst (λ (y : Doing). StepsFrom n u e.wanted e.given e.search y f.search f.doing) (sym fails)
       (λ r other alike wants gave.
       let s : Setting = record r { doing = failing }
-      in fails_to s e.search (back_result s x (RetryBack goal g place next)) refl (step s refl) ∙ ap goes (tried.stands s other alike))
+      in fails_to s e.search (back_result s x b) refl (step s refl) ∙ ap goes (tried.stands s other alike))
       in let moved = seen_moved m n t u e f holds view ready tried.before tried.follows tried.told steps (tried.budgets ∙ budgets_same)
       (ap (λ (y : Engine). y.wanted) tried.rest) given whole
       in (moved.0, moved.1, moved.2, given)
 
   -- The choice point is there again.
-  back_again : (s : Slice)
-      → IsGoneOn t taken_off goal g place next n u f (Some s)
-      → ((v : View) → choices_of v e.search ≡ clauses resolving (reads v x.store goal) (v.left (reads v x.store goal) g place) (node_of v x next) ∷ choices_of v x)
-      → Advances 0 m t e n u f [] × IsReady n u f × IsSpent e.search.inferences f.search.inferences × (f.given ≡ e.given)
-  back_again s gone taken =
-      let put = gone.1
-      in let rest = gone.2
-      in let choices : (v : View) → choices_of v f.search ≡ choices_of v e.search = λ v. put.choices v ∙ sym (taken v)
+  back_again : IsPutBack t taken_off b u f → IsTaken e.search x b → Advances 0 m t e n u f [] × IsReady n u f × IsSpent e.search.inferences f.search.inferences × (f.given ≡ e.given)
+  back_again put taken =
+      let choices : (v : View) → choices_of v f.search ≡ choices_of v e.search = choices_again e.search x f.search b can taken put.taken
       in let after = ap (λ (y : Search). y.next) put.search ∙ ap (λ (y : Search). y.next) kept
       in let count = ap (λ (y : Search). y.inferences) put.search ∙ ap (λ (y : Search). y.inferences) kept
       in let budgets = ap (λ (y : Search). y.budgets) put.search ∙ budgets_same
-      in let doing : f.doing ≡ Failing = ap (λ (y : Engine). y.doing) rest ∙ fails
-      in let given : f.given ≡ e.given = ap (λ (y : Engine). y.given) rest
+      in let doing : f.doing ≡ Failing = ap (λ (y : Engine). y.doing) put.rest ∙ fails
+      in let given : f.given ≡ e.given = ap (λ (y : Engine). y.given) put.rest
       in let same : IsView (view_of n t) = subst (λ (w : Told). IsView (view_of n w)) put.told view
       in let here : IsReady n t e = ready_later m n t t e same (held_later m n t holds) (visits_same t t refl) ready
       in let walk : Advances 0 m t e n t f [] =
       advance_then 0 0 m n n t t t e e f [] [] (advance_same m n t t e ready.stable same refl holds)
-      (restored_advances e f choices after count fails doing n t budgets (ap (λ (y : Engine). y.wanted) rest) given)
+      (restored_advances e f choices after count fails doing n t budgets (ap (λ (y : Engine). y.wanted) put.rest) given)
       in let ready_now : IsReady n t f = restored_ready e f choices after count fails doing n t whole here
       in (
         subst (λ (w : Told). Advances 0 m t e n w f []) (sym put.told) walk,
@@ -91,15 +109,11 @@ module _ (m n : Names) (t u : Told) (e : Engine) (x : Search) (f : Engine) (goal
         given,
       )
 
-  pub retried_step : (o : Option Slice) → IsGoneOn t taken_off goal g place next n u f o
-      → ((v : View) → choices_of v e.search ≡ clauses resolving (reads v x.store goal) (v.left (reads v x.store goal) g place) (node_of v x next) ∷ choices_of v x)
-      → ((r : Setting) → r.doing ≡ failing → back_result r x (RetryBack goal g place next) ≡ gone_back (limits_in r e.search) (state_in r e.search) (choices_of r.view e.search))
-      → IsStep o
+  pub retried_step : (o : Option Slice) → IsGoneOn t taken_off b n u f o → IsTaken e.search x b → GoesBack → IsStep o
   retried_step None gone taken step = tried_step gone step
-  retried_step (Some (NeedsAtoms p)) gone taken step =
-      let b = back_again (NeedsAtoms p) gone taken in ((refl, tt, b.0), b.1, b.2, b.3)
-  retried_step (Some (Retry c)) gone taken step = let b = back_again (Retry c) gone taken in ((refl, tt, b.0), b.1, b.2, b.3)
-  retried_step (Some (Worn w)) gone taken step = let b = back_again (Worn w) gone taken in ((refl, tt, b.0), b.1, b.2, b.3)
+  retried_step (Some (NeedsAtoms p)) gone taken step = let k = back_again gone.1 taken in ((refl, tt, k.0), k.1, k.2, k.3)
+  retried_step (Some (Retry c)) gone taken step = let k = back_again gone.1 taken in ((refl, tt, k.0), k.1, k.2, k.3)
+  retried_step (Some (Worn w)) gone taken step = let k = back_again gone.1 taken in ((refl, tt, k.0), k.1, k.2, k.3)
   retried_step (Some Yield) gone taken step = absurd gone.0
   retried_step (Some (Solution ops)) gone taken step = absurd gone.0
   retried_step (Some (Waits on k)) gone taken step = absurd gone.0

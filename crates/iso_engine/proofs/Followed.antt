@@ -61,9 +61,9 @@ module _ (t : Setting) (e f : Search) (list rest cut : ℕ) (g : Place) (o : Out
       ∙ ap (λ x. goes (state_of t.view f x t.output)) (sym (doing ∙ doing_same run_setting e f p (proc_of goal_at) rest o le inside (sym same)))
 
 -- An exit was passed.
-module _ (t : Setting) (e f : Search) (list next height : ℕ) (kept : (let x : Search = record e { choices = f.choices } in f ≡ x)) (cut : choices_of t.view f ≡ up_to height (choices_of t.view e)) where
+module _ (t : Setting) (e f : Search) (list next height : ℕ) (kept : (let x : Search = record e { store = record e.store { budget = f.store.budget }; choices = f.choices } in f ≡ x)) (cut : choices_of t.view f ≡ up_to height (choices_of t.view e)) where
   abbrev choices_off : Search → Search
-  choices_off x = record x { choices = e.choices }
+  choices_off x = record x { store = record x.store { budget = e.store.budget }; choices = e.choices }
 
   abbrev with_doing : List Choice → ℕ → ℕ → resolution.Doing → State
   with_doing cs n i d = let s : State = record { doing = d; choices = cs; next = n; inferences = i; output = t.output } in s

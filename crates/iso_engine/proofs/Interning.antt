@@ -1,9 +1,12 @@
 -- What an engine's steps intern.
-use Rattle.std.proofs.Common.{◌≡◌, ℕ, ◌+◌, ◌≤◌, List, ◌∷◌, ◌++◌, length, Option, None, Some, inl, inr, sym, ap, subst}
+use Rattle.std.proofs.Common.{◌≡◌, ℕ, ◌+◌, ◌≤◌, List, ◌∷◌, ◌++◌, drop, length, Option, None, Some, inl, inr, sym, ap, subst}
 use Rattle.std.proofs.lemmas.Bool.{lt-ltb}
 use Rattle.pl_term.specs.Tree.{Chars}
+use Rattle.pl_model.specs.BuiltinRows.{unifying}
+use Rattle.pl_model.specs.Predicates.{proc_of}
 use Rattle.pl_model.specs.Requests.{call_clauses}
 use Rattle.pl_model.specs.Resolution.{Output, clauses, failing, resolving}
+use Rattle.pl_model.specs.Terms.{arguments}
 use Rattle.atom_api.specs.Names.{Names}
 use Rattle.term_store.specs.declared.words.Place.{Place}
 use Rattle.world_api.specs.Gains.{Gains}
@@ -12,7 +15,9 @@ use Rattle.world_api.specs.declared.visit.Procedure.{Procedure}
 use Rattle.world_api.proofs.Gaining.{gains_nothing, gains_then, gains_weaker}
 use Rattle.iso_search.specs.declared.frames.Task.TheVariants.{Goal}
 use Rattle.iso_search.specs.declared.search.Search.{Search}
+use Rattle.iso_search.specs.Choices.{answers_from}
 use Rattle.iso_search.specs.Frames.{tasks}
+use Rattle.iso_search.specs.Lines.{lines_of}
 use Rattle.iso_search.specs.Reading.{IsView, View, reads}
 use Rattle.iso_search.specs.Searching.{choices_of, node_of}
 use Rattle.iso_calls.specs.Asked.{IsCallAsked, IsRetryAsked}
@@ -25,6 +30,7 @@ use Rattle.iso_engine.specs.Advancing.{Advances}
 use Rattle.iso_engine.specs.Asked.{AsksFor, AsksInSlice, AsksOnWay, ComesToAsk}
 use Rattle.iso_engine.specs.Calling.{IsCallAt}
 use Rattle.iso_engine.specs.Later.{view_of}
+use Rattle.iso_engine.specs.Lines.{IsLineAsked}
 use Rattle.iso_engine.specs.Rows.{IsRowText}
 use Rattle.iso_engine.specs.Slices.{IsStepped}
 use Rattle.iso_engine.specs.Standing.{doing_of}
@@ -86,10 +92,29 @@ retry_asks_for m t e x goal g place next fails taken old new =
       first = a;
     })))
 
+-- Going back to lines of a table, whose choice point was taken off the engine's search.
+pub line_asks_for : (m : Names) (t : Told) (e : Engine) (x : Search) (goal : Place) (line next : ℕ) → e.doing ≡ Failing
+    → ((v : View) → choices_of v e.search ≡ answers_from (reads v x.store goal) line (node_of v x next) ∷ choices_of v x)
+    → (old new : Option (List Chars))
+    → Gains (IsLineAsked m x.store goal line) old new
+    → Gains (AsksFor m t e) old new
+line_asks_for m t e x goal line next fails taken old new =
+    gains_weaker (IsLineAsked m x.store goal line) (AsksFor m t e) old new
+    (λ c a. let g = reads (view_of m t) x.store goal in inr (inr (inl (record {
+      fails = ap (doing_of (view_of m t) e.search) fails;
+      predicate = proc_of g;
+      terms = arguments g;
+      left = unifying (arguments g) (drop line (lines_of g));
+      node = node_of (view_of m t) x next;
+      older = choices_of (view_of m t) x;
+      newest = taken (view_of m t);
+      given = a;
+    }))))
+
 -- A built-in predicate that is a function of its arguments.
 pub row_asks_for : (m : Names) (t : Told) (e : Engine) (old new : Option (List Chars)) → Gains (λ c. (u : Told) → IsRowText m u e c) old new
     → Gains (AsksFor m t e) old new
-row_asks_for m t e old new = gains_weaker (λ c. (u : Told) → IsRowText m u e c) (AsksFor m t e) old new (λ c text. inr (inr (text t)))
+row_asks_for m t e old new = gains_weaker (λ c. (u : Told) → IsRowText m u e c) (AsksFor m t e) old new (λ c text. inr (inr (inr (text t))))
 
 -- The engine's work was taken out and put back.
 pub asked_again : (m : Names) (t : Told) (e : Engine) (d : Doing) (old new : Option (List Chars)) → e.doing ≡ d

@@ -5,6 +5,7 @@ pub mod Arms
 pub mod Beginning
 pub mod Builtins
 pub mod Calls
+pub mod Collected
 pub mod Equals
 pub mod Errors
 pub mod Failed
@@ -15,8 +16,8 @@ pub mod Heldness
 pub mod Interning
 pub mod Later
 pub mod Looked
-pub mod Moved
 pub mod Moreover
+pub mod Moved
 pub mod Moving
 pub mod Naming
 pub mod Numbered
@@ -31,6 +32,7 @@ pub mod Solutions
 pub mod Spending
 pub mod Stability
 pub mod Stepping
+pub mod Tables
 pub mod TakenBack
 pub mod Tasking
 pub mod Unbuilt

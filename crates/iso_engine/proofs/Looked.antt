@@ -1,5 +1,8 @@
 -- What a look tells.
 use Rattle.std.proofs.Common.{◌≡◌, ℕ, length, Option, refl, sym, ap, subst, ◌∙◌}
+use Rattle.std.specs.Arc.{arc_value}
+use Rattle.std.specs.declared.alloc.Global.{Global}
+use Rattle.std.specs.declared.sync.Arc.{Arc}
 use Rattle.pl_term.specs.Tree.{Chars, Tree}
 use Rattle.pl_model.specs.OperatorTable.{OperatorTable}
 use Rattle.pl_model.specs.declared.grammar.Quotes.{Quotes}
@@ -30,7 +33,7 @@ look_stands e goals h r k is =
     in (s.operators, s.flags.double_quotes, sym (ap (reply_of r) is))
 
 module _ {T K : Type 0} (term : (ℕ → Chars) → T → Tree) (key : T → K) (old_text new_text : ℕ → Chars) where
-  stands_only : (r : Reply T) (ops : OperatorTable) (quotes : Quotes) → ((x : OperatorTable) (y : Quotes) → r ≡ Standing x y → ⊥) → Says term new_text r (standing ops quotes) → ⊥
+  stands_only : (r : Reply T) (ops : OperatorTable) (quotes : Quotes) → ((x : Arc OperatorTable Global) (y : Quotes) → r ≡ Standing x y → ⊥) → Says term new_text r (standing ops quotes) → ⊥
   stands_only (Standing x y) ops quotes other h = other x y refl
   stands_only (Clauses f) ops quotes other h = h
   stands_only (Procedures ps) ops quotes other h = cc
@@ -44,19 +47,19 @@ module _ {T K : Type 0} (term : (ℕ → Chars) → T → Tree) (key : T → K) 
   stands_only (Refused e) ops quotes other h = cc
 
   pub never_else : (r : Reply T) (g : ℕ) (t : Told) (before : History) (u : Told) → Visited term key old_text new_text Look (ServedAnswer r g) t before u
-      → ((x : OperatorTable) (y : Quotes) → r ≡ Standing x y → ⊥) → ⊥
+      → ((x : Arc OperatorTable Global) (y : Quotes) → r ≡ Standing x y → ⊥) → ⊥
   never_else r g t before u v other =
       let s = v.1.serves look refl
       in let there = look_stands t.engine t.goals before s.0 v.1.update s.1
       in stands_only r there.0 there.1 other (subst (Says term new_text r) there.2 s.2)
 
-  pub looked_standing : (r : Reply T) (g : ℕ) (t : Told) (before : History) (u : Told) (ops : OperatorTable) (quotes : Quotes)
+  pub looked_standing : (r : Reply T) (g : ℕ) (t : Told) (before : History) (u : Told) (ops : Arc OperatorTable Global) (quotes : Quotes)
       → Visited term key old_text new_text Look (ServedAnswer r g) t before u
       → r ≡ Standing ops quotes
-      → Looks t ops u
+      → Looks t (arc_value ops) u
   looked_standing r g t before u ops quotes v is =
       let s = v.1.serves look refl
-      in let said : s.0 ≡ standing ops quotes = subst (λ (x : Reply T). Says term new_text x s.0) is s.2
+      in let said : s.0 ≡ standing (arc_value ops) quotes = subst (λ (x : Reply T). Says term new_text x s.0) is s.2
       in record {
         before = before;
         quotes = quotes;

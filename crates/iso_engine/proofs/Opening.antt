@@ -1,13 +1,15 @@
 -- The newest choice point of an engine that stands for the same state by all views may be gone on with.
-use Rattle.std.proofs.Common.{◌≡◌, ◌≢◌, ℕ, zero, suc, ◌<◌, ◌≤◌, ◌⊎◌, inl, inr, Bool, true, false, ◌==◌, List, [], ◌∷◌, length, Option, None, pos, refl, sym, ap, subst, ◌∙◌, arith, IsSome, is_some, codes}
+use Rattle.std.proofs.Common.{◌≡◌, ◌≢◌, ℕ, zero, suc, ◌<◌, ◌≤◌, ◌⊎◌, inl, inr, Bool, true, false, ◌==◌, List, [], ◌∷◌, length, Option, None, pos, refl, sym, ap, ap₂, subst, ◌∙◌, arith, IsSome, is_some, codes}
 use Rattle.std.specs.List.{All, Contains}
 use Rattle.std.specs.Str.{all_scalars}
 use Rattle.std.specs.Prelude.{◌^◌, Some}
 use Rattle.std.proofs.lemmas.Bool.{false≢true, true≢false}
 use Rattle.std.proofs.lemmas.Bool.Decides.{eqb_tells, leb_tells}
 use Rattle.pl_term.specs.Texts.{size}
-use Rattle.pl_term.specs.Tree.{Chars, Tree, int}
-use Rattle.pl_model.specs.History.{Clause}
+use Rattle.pl_term.specs.Tree.{Chars, Tree, Trees, var, int, atom, comp, none as no_trees, more}
+use Rattle.pl_model.specs.History.{Clause, Proc}
+use Rattle.pl_model.specs.Predicates.{proc_of}
+use Rattle.pl_model.specs.Terms.{arguments}
 use Rattle.pl_model.specs.Database.{Stored}
 use Rattle.pl_model.specs.Resolution.{Choice, clauses, answers, branch, barrier, catch, findall, resolving}
 use Rattle.atom_api.specs.Names.{FixedStand, Names}
@@ -15,10 +17,13 @@ use Rattle.term_store.specs.declared.words.Place.{Place}
 use Rattle.term_store.specs.Contents.{term_at}
 use Rattle.term_store.specs.NumberedNames.{atoms_in}
 use Rattle.world_api.specs.Told.{Told, clause_list, has_place}
+use Rattle.world_builtins.specs.Naming.{IsHeldAt}
 use Rattle.iso_search.specs.declared.search.Search.{Search}
+use Rattle.iso_search.specs.Choices.{answers_from}
 use Rattle.iso_search.specs.Reading.{IsView, View, reads}
 use Rattle.iso_search.specs.Searching.{choices_of, node_of}
 use Rattle.iso_search.specs.Spelling.{spelled, text_of}
+use Rattle.iso_output.proofs.Outputs.{atoms_same}
 use Rattle.iso_engine.specs.declared.doing.Doing.{Doing}
 use Rattle.iso_engine.specs.Following.{IsInteger}
 use Rattle.iso_engine.specs.Later.{view_of}
@@ -150,6 +155,54 @@ module _ (m : Names) (t : Told) (e x : Search) (d : Doing) (goal : Place) (g pla
       let other : IsView (view_of q t) = record { fixed = fixes; apart = apart }
       in let same = (stable (view_of q t) other (alike_view m q t t (held_later m q t later))).0
       in ap (first_tree goal_now) (sym (taken (view_of q t)) ∙ same ∙ taken (view_of m t))))
+
+-- A goal by its predicate and its arguments
+
+abbrev first_proc : Proc → List Choice → Proc
+first_proc d [] = d
+first_proc d (clauses p t cs n ∷ older) = d
+first_proc d (answers p ts xs n ∷ older) = p
+first_proc d (branch n ∷ older) = d
+first_proc d (barrier ∷ older) = d
+first_proc d (catch c r n ∷ older) = d
+first_proc d (findall list ts n ∷ older) = d
+
+abbrev first_terms : Trees → List Choice → Trees
+first_terms d [] = d
+first_terms d (clauses p t cs n ∷ older) = d
+first_terms d (answers p ts xs n ∷ older) = ts
+first_terms d (branch n ∷ older) = d
+first_terms d (barrier ∷ older) = d
+first_terms d (catch c r n ∷ older) = d
+first_terms d (findall list ts n ∷ older) = d
+
+abbrev goal_with : Chars → Trees → Tree
+goal_with f no_trees = atom f
+goal_with f (more t ts) = comp f t ts
+
+read_alike : (g h : Chars → Chars) (t : Tree) → proc_of (spelled g t) ≡ proc_of (spelled h t) → arguments (spelled g t) ≡ arguments (spelled h t)
+    → spelled g t ≡ spelled h t
+read_alike g h (var x) p a = refl
+read_alike g h (int i) p a = refl
+read_alike g h (atom f) p a = ap (λ (q : Proc). atom q.name) p
+read_alike g h (comp f t ts) p a = ap₂ (λ (q : Proc) us. goal_with q.name us) p a
+
+-- The choice point of lines of a table was taken off the search `e`, which left `x`.
+pub line_held : (m : Names) (t : Told) (e x : Search) (d : Doing) (goal : Place) (line next : ℕ) → IsStable m t e d
+    → ((v : View) → choices_of v e ≡ answers_from (reads v x.store goal) line (node_of v x next) ∷ choices_of v x)
+    → FixedStand m → ((a b : ℕ) (y : Chars) → m a ≡ Some y → m b ≡ Some y → a ≡ b)
+    → ((a : ℕ) (y : Chars) → m a ≡ Some y → (a < 2 ^ 32) × (size y ≤ 248) × (all_scalars y ≡ true))
+    → IsHeldAt m x.store goal
+line_held m t e x d goal line next stable taken stands unlike finite =
+    subst (All (λ a. IsSome (m a))) (sym (atoms_same (term_at x.store goal)))
+    (names_held m stands x.store goal
+    (held_names m stands unlike finite (term_at x.store goal)
+    (λ q fixes apart later.
+    let other : IsView (view_of q t) = record { fixed = fixes; apart = apart }
+    in let same = (stable (view_of q t) other (alike_view m q t t (held_later m q t later))).0
+    in let here = sym (taken (view_of q t)) ∙ same ∙ taken (view_of m t)
+    in let g = reads (view_of m t) x.store goal
+    in read_alike (text_of q) (text_of m) (term_at x.store goal) (ap (first_proc (proc_of g)) here) (ap (first_terms (arguments g)) here))))
 
 -- The atoms of a goal that is the first of a list.
 pub goal_held : (m : Names) (t : Told) (e : Engine) (list cut : ℕ) (at : Place) (rest : ℕ) → e.doing ≡ Running list

@@ -1,5 +1,5 @@
 -- The next clause of a list was tried, as a step of the definition.
-use Rattle.std.proofs.Common.{◌≡◌, ℕ, ◌≤◌, length, IsSome, sym, ap, subst, ◌∙◌}
+use Rattle.std.proofs.Common.{◌≡◌, ℕ, ◌≤◌, length, IsSome, refl, sym, ap, subst, ◌∙◌}
 use Rattle.std.specs.List.{All}
 use Rattle.pl_term.specs.Tree.{Tree}
 use Rattle.pl_model.specs.Predicates.{proc_of}
@@ -11,18 +11,20 @@ use Rattle.term_store.specs.NumberedNames.{atoms_in}
 use Rattle.world_api.specs.declared.visit.Procedure.{Procedure}
 use Rattle.world_api.specs.Texts.{Holds}
 use Rattle.world_api.specs.Told.{Told}
+use Rattle.iso_search.specs.declared.failure.Back.TheVariants.{Retry as RetryBack}
 use Rattle.iso_search.specs.declared.outcome.Outcome.{Outcome}
 use Rattle.iso_search.specs.Outcomes.{Setting, doing_by}
 use Rattle.iso_search.specs.Reading.{IsView, reads}
+use Rattle.iso_search.specs.declared.search.Search.{Search}
 use Rattle.iso_search.specs.Searching.{node_of, state_of}
 use Rattle.iso_search.specs.Spelling.{text_of}
 use Rattle.iso_calls.specs.Lists.{IsListed, IsOpen}
-use Rattle.iso_calls.specs.Retried.{IsNextRun}
+use Rattle.iso_calls.specs.Retried.{IsNextRun, IsPutBack as IsPutBackAfter}
 use Rattle.iso_engine.specs.declared.engine.Engine.{Engine}
 use Rattle.iso_engine.specs.Following.{HasProcedure, IsInteger}
 use Rattle.iso_engine.specs.Later.{IsLater, view_of}
 use Rattle.iso_engine.specs.Ready.{MayGoOn}
-use Rattle.iso_engine.specs.Retrying.{IsTried}
+use Rattle.iso_engine.specs.Retrying.{IsPutBack, IsTried}
 use Rattle.iso_engine.specs.Standing.{doing_of}
 use Rattle.iso_engine.proofs.Alike.{may_later, visits_same}
 use Rattle.iso_engine.proofs.Calls.{at_once, from_at_once, left_alike, listed_alike, no_integer}
@@ -52,7 +54,7 @@ module _ (m n : Names) (t u : Told) (e f : Engine) (goal : Place) (g place next 
       may_later m n t u later (visits_same t u (ap (λ (x : Told). x.gens) run.told)) (reads (view_of m t) e.search.store goal) g place
       (record { callable = no_integer (view_of m t) e.search.store goal callable; listed = opens })
 
-  pub tried : IsTried t e goal g place next n u f
+  pub tried : IsTried t e (RetryBack goal g place next) n u f
   tried =
       record {
         before = run.before;
@@ -75,3 +77,8 @@ module _ (m n : Names) (t u : Told) (e f : Engine) (goal : Place) (g place next 
         budgets = run.after.budgets;
         rest = rest;
       }
+
+-- The choice point is there again.
+pub put_back : (t u : Told) (e : Engine) (f : Search) (goal : Place) (g place next : ℕ) → IsPutBackAfter t e.search goal g place next u f
+    → (let y : Engine = record e { search = f } in IsPutBack t e (RetryBack goal g place next) u y)
+put_back t u e f goal g place next put = record { told = put.told; taken = put.choices; search = put.search; rest = refl }

@@ -22,16 +22,17 @@ use Rattle.builtin_names.specs.declared.predicates.Pred.{Pred}
 use Rattle.builtin_names.specs.Predicates as kinds
 use Rattle.builtin_names.specs.Predicates.{arity_of}
 use Rattle.builtin_rows.specs.declared.row.Row.{Row}
-use Rattle.builtin_rows.specs.declared.row.Row.TheVariants.{Fails, Holds as HoldsRow, Answer, Table, Ball, CellsFull, NeedsAtoms, Retry, Worn}
+use Rattle.builtin_rows.specs.declared.row.Row.TheVariants.{Fails, Holds as HoldsRow, Answer, Line, Ball, CellsFull, NeedsAtoms, Retry, Worn}
 use Rattle.builtin_rows.specs.Given.{given_texts}
 use Rattle.builtin_rows.specs.Rows.{row_refusals}
-use Rattle.builtin_dispatch.specs.Dispatching.{AreHeld, IsRowOf, given_by, terms_of}
-use Rattle.iso_rows.specs.Leading.{IsRowMade, Origin}
+use Rattle.builtin_dispatch.specs.Dispatching.{AreHeld, HasLines, IsRowOf, given_by, terms_of}
+use Rattle.iso_rows.specs.Leading.{IsOfTable, IsRowMade, Origin}
 use Rattle.iso_search.specs.declared.search.Search.{Search}
 use Rattle.iso_search.specs.declared.outcome.Fault.TheVariants.{Inferences}
 use Rattle.iso_search.specs.declared.outcome.Outcome.{Outcome}
 use Rattle.iso_search.specs.declared.outcome.Outcome.TheVariants.{Raise}
 use Rattle.iso_search.specs.Budgeting.{after_inference}
+use Rattle.iso_search.specs.Lines.{table_of}
 use Rattle.iso_search.specs.Outcomes.{IsAfter, Setting, limits_in, result_in, state_in}
 use Rattle.iso_search.specs.Reading.{IsView, View, reads}
 use Rattle.iso_search.specs.Searching.{IsWhole, node_of}
@@ -213,19 +214,44 @@ module _ (e x : Search) (kept : (let y : Search = record e { inferences = x.infe
         row = means;
       }
 
-  pub row_made : (m n : Names) (t : Contents) (row : Row) → IsRowGoal e.store r → IsHeldAt m e.store r.place → Holds m n → IsWhole x
-      → (is : IsRowOf x.store x.next r.pred (terms_of m x.store r.arguments) n t row)
-      → (let y : Search = record x { store = t } in IsRowMade (origin m n is.means) r.place y row)
-  row_made m n t row at held grown whole is =
+  -- A line is one of the table of the goal.
+  of_table : (m n : Names) → IsRowGoal x.store r → IsHeldAt m x.store r.place → Holds m n → (means : rows.Row)
+      → row (kinds.name_of r.pred) (terms_of m x.store r.arguments) x.next ≡ Some means → (row : Row)
+      → HasLines r.pred (terms_of m x.store r.arguments) row → IsOfTable (origin m n means) r.place row
+  of_table m n at held grown means row_is (Line ps following) h =
+      λ v view known. (
+        row_proc v view x.store r at,
+        λ xs is.
+            ap table_of
+            (same_row m v view (λ a y g. known a y (grown a y g)) x.store r at held 0
+            ∙ h.1 0
+            ∙ sym (h.1 x.next)
+            ∙ row_is
+            ∙ ap Some is),
+      )
+  of_table m n at held grown means row_is Fails h = tt
+  of_table m n at held grown means row_is HoldsRow h = tt
+  of_table m n at held grown means row_is (Answer ps fresh) h = tt
+  of_table m n at held grown means row_is (Ball w) h = tt
+  of_table m n at held grown means row_is (CellsFull used need) h = tt
+  of_table m n at held grown means row_is (NeedsAtoms p) h = tt
+  of_table m n at held grown means row_is (Retry c) h = tt
+  of_table m n at held grown means row_is (Worn w) h = tt
+
+  pub row_made : (m n : Names) (t : Contents) (made : Row) → IsRowGoal e.store r → IsHeldAt m e.store r.place → Holds m n → IsWhole x
+      → (is : IsRowOf x.store x.next r.pred (terms_of m x.store r.arguments) n t made) → HasLines r.pred (terms_of m x.store r.arguments) made
+      → (let y : Search = record x { store = t } in IsRowMade (origin m n is.means) r.place y made)
+  row_made m n t made at held grown whole is lines =
       let there : IsRowGoal x.store r = subst (λ (y : Search). IsRowGoal y.store r) (sym kept) at
+      in let known : IsHeldAt m x.store r.place = subst (λ (y : Search). IsHeldAt m y.store r.place) (sym kept) held
       in record {
         whole = whole;
         inside = there.holds;
-        held = subst (λ (y : Search). IsHeldAt m y.store r.place) (sym kept) held;
+        held = known;
         later = grown;
         arguments = written_terms m x.store r there;
-        plain = is.plain;
         made = is.stands;
+        of_table = of_table m n there known grown is.means is.row_is made lines;
       }
 
 -- A row of which no atom was refused.
@@ -233,7 +259,7 @@ pub unrefused : (row : Row) → refusal_of row ≡ None → row_refusals row ≡
 unrefused Fails e = refl
 unrefused HoldsRow e = refl
 unrefused (Answer ps fresh) e = refl
-unrefused (Table pss) e = refl
+unrefused (Line ps following) e = refl
 unrefused (Ball w) e = refl
 unrefused (CellsFull used need) e = refl
 unrefused (NeedsAtoms p) e = absurd (some_none (slice.NeedsAtoms p) e)

@@ -47,7 +47,7 @@ left v s (NotProvable t) g h built none = absurd h
 left v s (Once t) g h built none = absurd h
 left v s (Catches t c r) g h built none = absurd h
 left v s (Throws t) g h built none = absurd h
-left v s (FindsAll x t l) g h built none = tt
+left v s (FindsAll x t l) g h built none = absurd h
 left v s (Halts t) g h built none = absurd h
 left v s HaltsWithZero g h built none = absurd h
 left v s (Exits t) g h built none = tt
@@ -130,11 +130,6 @@ writes_is v s k g is e = ap is_output (sym is) ∙ output_is v s k e
 pub integer_reads : (v : View) (s : Contents) (goal : Place) → IsInteger s goal → is_integer (reads v s goal) ≡ true
 integer_reads v s goal i = ap (λ t. is_integer (spelled (text_of v.names) t)) i.1
 
--- The fixed atoms of the predicates of tasks that are no goals
-findall_is : fixed 90 ≡ Some (codes "findall")
-unfolding fixed_texts
-findall_is = refl
-
 abbrev fixed_proc : ℕ → ℕ → Procedure
 fixed_proc a k = record { name = a; arity = k }
 
@@ -196,18 +191,6 @@ integer_missing s w cut i =
             ap (λ f. let p : Proc = record { name = f; arity = 1 } in p) (text_is v view 53 (codes "call") call_is),
           );
       named = inl (codes "call", call_is);
-    }
-
--- Of the tasks that are for others only goals are done here.
-pub collect_missing : (s : Contents) (x : Task) → IsForOthers x → ((w : Place) (h : ℕ) → x ≡ Goal w h → ⊥) → IsMissingTask s x (fixed_proc 90 3)
-collect_missing s (Goal w h) others no_goal = absurd (no_goal w h refl)
-collect_missing s (Commit h) others no_goal = absurd others
-collect_missing s (Refute h) others no_goal = absurd others
-collect_missing s (Leave h) others no_goal = absurd others
-collect_missing s (Collect w h) others no_goal =
-    record {
-      unbuilt = λ v view. ap (λ f. let p : Proc = record { name = f; arity = 3 } in p) (text_is v view 90 (codes "findall") findall_is);
-      named = (codes "findall", findall_is);
     }
 
 -- What is left over of a goal was not done.

@@ -1,12 +1,14 @@
 -- What an engine's steps intern.
 use Rattle.std.specs.Prelude.{◌≡◌, ℕ, List, ◌∷◌, ◌⊎◌}
 use Rattle.std.specs.List.{Contains}
-use Rattle.pl_term.specs.Tree.{Chars, Tree}
-use Rattle.pl_model.specs.History.{Clause, History}
+use Rattle.pl_term.specs.Tree.{Chars, Tree, Trees}
+use Rattle.pl_model.specs.BuiltinRows.{Answer}
+use Rattle.pl_model.specs.History.{Clause, History, Proc}
 use Rattle.pl_model.specs.Database.{Stored}
 use Rattle.pl_model.specs.Requests.{Request}
-use Rattle.pl_model.specs.Resolution.{Choice, Node, Output, Purpose, clauses, failing}
+use Rattle.pl_model.specs.Resolution.{Choice, Node, Output, Purpose, answers, clauses, failing}
 use Rattle.atom_api.specs.Names.{Names}
+use Rattle.builtin_rows.specs.Given.{terms_of, texts_of_all}
 use Rattle.world_api.specs.Asked.{front_texts, IsInReply}
 use Rattle.world_api.specs.Told.{Told, Follows}
 use Rattle.iso_search.specs.Searching.{choices_of}
@@ -38,9 +40,20 @@ pub record IsClauseText (m : Names) (t : Told) (e : Engine) (c : Chars) : Type 0
   pub newest : choices_of (view_of m t) e.search ≡ clauses purpose goal left node ∷ older
   pub first : Contains (front_texts left) c
 
+-- The engine's next step goes back to answers of a built-in predicate that were not tried, and the text is one of theirs.
+pub record IsLineText (m : Names) (t : Told) (e : Engine) (c : Chars) : Type 0 where
+  pub fails : doing_of (view_of m t) e.search e.doing ≡ failing
+  pub predicate : Proc
+  pub terms : Trees
+  pub left : List Answer
+  pub node : Node
+  pub older : List Choice
+  pub newest : choices_of (view_of m t) e.search ≡ answers predicate terms left node ∷ older
+  pub given : Contains (texts_of_all (terms_of left)) c
+
 -- The engine's next step asks for the text.
 abbrev pub AsksFor : Names → Told → Engine → Chars → Type 0
-AsksFor m t e c = IsAnswerText m t e c ⊎ (IsClauseText m t e c ⊎ IsRowText m t e c)
+AsksFor m t e c = IsAnswerText m t e c ⊎ (IsClauseText m t e c ⊎ (IsLineText m t e c ⊎ IsRowText m t e c))
 
 -- The engine comes to where its next step asks for the text.
 pub record ComesToAsk (m : Names) (t : Told) (e : Engine) (c : Chars) : Type 0 where

@@ -7,6 +7,7 @@ pub mod Failing
 pub mod Finding
 pub mod Following
 pub mod Later
+pub mod Lines
 pub mod Looking
 pub mod Missing
 pub mod Ready

@@ -1,5 +1,8 @@
 -- A look at the shared state.
 use Rattle.std.specs.Prelude.{◌≡◌, ℕ, List, [], ◌∷◌, ◌++◌, length, Option, Some, None, Result, Ok, Err}
+use Rattle.std.specs.Arc.{arc_value}
+use Rattle.std.specs.declared.alloc.Global.{Global}
+use Rattle.std.specs.declared.sync.Arc.{Arc}
 use Rattle.pl_model.specs.OperatorTable.{OperatorTable}
 use Rattle.pl_model.specs.declared.grammar.Quotes.{Quotes}
 use Rattle.pl_model.specs.History.{Kind, History}
@@ -38,8 +41,8 @@ IsRefused t q Memory u = u ≡ t
 IsRefused t q (Waits on g) u = WaitsThere t q g u
 IsRefused t q _ u = ⊥
 
-abbrev pub IsLooked : Told → Result OperatorTable Slice → Told → Type 0
-IsLooked t (Ok ops) u = Looks t ops u
+abbrev pub IsLooked : Told → Result (Arc OperatorTable Global) Slice → Told → Type 0
+IsLooked t (Ok ops) u = Looks t (arc_value ops) u
 IsLooked t (Err s) u = IsRefused t look s u
 
 -- What a slice appends to the list of refusals of the atoms.
@@ -49,7 +52,7 @@ refusals_of (Retry c) = RefusalAgain c ∷ []
 refusals_of (Worn w) = RefusalWorn w ∷ []
 refusals_of _ = []
 
-abbrev pub looked_refusals : Result OperatorTable Slice → List Refusal
+abbrev pub looked_refusals : Result (Arc OperatorTable Global) Slice → List Refusal
 looked_refusals (Ok ops) = []
 looked_refusals (Err s) = refusals_of s
 

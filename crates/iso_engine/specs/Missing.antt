@@ -6,7 +6,7 @@ use Rattle.pl_model.specs.Predicates.{proc_of}
 use Rattle.pl_model.specs.Terms.{arguments}
 use Rattle.pl_model.specs.Resolution.{Pending, goal, commit, refute, leave, collect, running, failing, throwing, erasing, clearing, answering, ended}
 use Rattle.pl_model.specs.Resolution as resolution
-use Rattle.pl_model.specs.Control.{Construct, succeeds, cuts, conjunction, disjunction, if_then, if_then_else, fails, repeats, calls, not_provable, once, catches, throws, halts, writes, prints, puts, other, construct, name_of}
+use Rattle.pl_model.specs.Control.{Construct, succeeds, cuts, conjunction, disjunction, if_then, if_then_else, fails, repeats, calls, not_provable, once, catches, throws, finds_all, halts, writes, prints, puts, other, construct, name_of}
 use Rattle.atom_api.specs.Names.{Names}
 use Rattle.world_api.specs.declared.visit.Procedure.{Procedure}
 use Rattle.world_api.specs.Told.{Told}
@@ -37,6 +37,7 @@ IsUnbuilt g (not_provable t) = ⊥
 IsUnbuilt g (once t) = ⊥
 IsUnbuilt g (catches t c r) = ⊥
 IsUnbuilt g (throws t) = ⊥
+IsUnbuilt g (finds_all t u l) = ⊥
 IsUnbuilt g (halts t) = ⊥
 IsUnbuilt g (writes t) = ⊥
 IsUnbuilt g (prints t) = ⊥
@@ -48,11 +49,10 @@ abbrev pub is_integer : Tree → Bool
 is_integer (int i) = true
 is_integer _ = false
 
--- The first task is such a goal of this predicate; or an integer, which is no goal, and which call/1 refuses; or a copy for
--- findall/3.
+-- The first task is such a goal of this predicate; or an integer, which is no goal, and which call/1 refuses.
 abbrev pub IsUnbuiltTask : Proc → Pending → Type 0
 IsUnbuiltTask p (goal g h) = ((is_integer g ≡ true) × (p ≡ proc (codes "call") 1)) ⊎ (IsUnbuilt g (construct g) × (p ≡ proc_of g))
-IsUnbuiltTask p (collect t h) = p ≡ proc (codes "findall") 3
+IsUnbuiltTask p (collect t h) = ⊥
 IsUnbuiltTask p (commit h) = ⊥
 IsUnbuiltTask p (refute h) = ⊥
 IsUnbuiltTask p (leave h) = ⊥

@@ -1,5 +1,6 @@
 -- What a slice answers.
-use Rattle.std.specs.Prelude.{◌≡◌, ◌≤◌, ℕ, ◌+◌, List, [], ◌∷◌, ◌++◌, map, length, true, Option, Some, None, encode_utf8_all}
+use Rattle.std.specs.Prelude.{◌≡◌, ◌≤◌, ℕ, ◌+◌, List, [], ◌∷◌, ◌++◌, map, length, true, Option, Some, None, IsSome, encode_utf8_all}
+use Rattle.std.specs.Arc.{arc_value}
 use Rattle.pl_term.specs.Tree.{Chars, Tree}
 use Rattle.pl_model.specs.Resolution.{Output, text, solution, solution_count}
 use Rattle.pl_model.specs.Requests.{Request}
@@ -8,7 +9,7 @@ use Rattle.atom_api.specs.Names.{Names}
 use Rattle.std.specs.List.{All}
 use Rattle.world_builtins.specs.Naming.{IsHeldAt}
 use Rattle.world_api.specs.declared.answer.On.{On}
-use Rattle.world_api.specs.Answers.{on_by}
+use Rattle.world_api.specs.Answers.{on_by, on_names}
 use Rattle.world_api.specs.Texts.{text_of}
 use Rattle.world_api.specs.Told.{Told}
 use Rattle.iso_search.specs.Reading.{reads}
@@ -31,13 +32,14 @@ abbrev pub IsEnd : Doing → Type 0
 IsEnd (EndedDoing how) = Unit {0}
 IsEnd _ = ⊥
 
--- The next request waits as the shared state stands, on this.
+-- The next request waits as the shared state stands, on this, whose names are held.
 pub record IsWaitingNow (m : Names) (t : Told) (e : Engine) (on : On) (g : ℕ) : Type 0 where
   pub request : Request
   pub asking : IsAsking m t e request
   pub generation : g ≡ length t.history
   pub waiting : served_now t.engine t.goals t.history request ≡ waits
   pub awaits : on_of t.engine request ≡ Some (on_by (text_of m) on)
+  pub held : All (λ a. IsSome (m a)) (on_names on)
 
 -- The terms of the goal's variables.
 abbrev pub answer_of : Names → Told → Engine → List Tree
@@ -63,14 +65,14 @@ Stops m t e Memory = ⊥
 abbrev pub IsStepped : Names → Told → Engine → Option Slice → Names → Told → Engine → List Output → Type 0
 IsStepped m t e None n u f more = Advances 1 m t e n u f more
 IsStepped m t e (Some (Solution ops)) n u f more =
-    (more ≡ solution ops (answer_of n u f) ∷ []) × (f.doing ≡ Answering) × Advances 1 m t e n u f more × IsAnswerHeld n f
+    (more ≡ solution (arc_value ops) (answer_of n u f) ∷ []) × (f.doing ≡ Answering) × Advances 1 m t e n u f more × IsAnswerHeld n f
 IsStepped m t e (Some s) n u f more = (more ≡ []) × Stops n u f s × Advances 0 m t e n u f more
 
 -- How a slice of at most so many inferences ended, where the goal has written this in it.
 abbrev pub EndsWith : ℕ → Engine → Names → Told → Engine → List Output → Slice → Type 0
 EndsWith limit e n u f more Yield = (f.search.inferences ≡ e.search.inferences + limit) × (solution_count more ≡ 0)
 EndsWith limit e n u f more (Solution ops) =
-    (before : List Output) × (solution_count before ≡ 0) × (more ≡ before ++ solution ops (answer_of n u f) ∷ []) × (f.doing ≡ Answering)
+    (before : List Output) × (solution_count before ≡ 0) × (more ≡ before ++ solution (arc_value ops) (answer_of n u f) ∷ []) × (f.doing ≡ Answering)
     × IsAnswerHeld n f
 EndsWith limit e n u f more s = Stops n u f s × (solution_count more ≡ 0)
 

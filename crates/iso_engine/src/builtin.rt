@@ -1,7 +1,9 @@
 //! Which goals are built-in predicates.
-ghost use Rattle.std.specs.Prelude.{◌≡◌};
+ghost use Rattle.std.specs.Prelude.{◌≡◌, [], MatchOption};
 ghost use Rattle.term_store.specs.Contents.{Holds};
-ghost use Rattle.iso_engine.specs.Builtins.{IsBuiltinAt, builtin_alone};
+ghost use Rattle.iso_search.specs.Lines.{lines_of};
+ghost use Rattle.iso_search.specs.Reading.{IsView, View, reads};
+ghost use Rattle.iso_engine.specs.Builtins.{IsBuiltinAt, IsRowGoal, builtin_alone};
 ghost use Rattle.iso_engine.specs.Following.{IsInteger};
 
 use crate::kinds::is_row;
@@ -69,6 +71,33 @@ pub fn builtin_at(store: &Store, goal: Place) -> Builtin
                 }
             }
         },
+    }
+}
+
+/// The goal at a place, if it is one of a built-in predicate that is a function of its arguments. No other has a table.
+pub fn row_goal_at(store: &Store, goal: Place) -> Option<RowGoal>
+    requires { Holds store.now goal }
+    ensures { MatchOption result ((v : View) → IsView v → lines_of (reads v store.now goal) ≡ []) (λ r. (r.place ≡ goal) × IsRowGoal store.now r) }
+{
+    match store.look(goal) {
+        Kind::Variable(_) => None,
+        Kind::Integer(_) => None,
+        Kind::Atom(_) => None,
+        Kind::Compound(name, arguments) => {
+            let found = predicate_of(name, arguments.len());
+            let Some(pred) = found else {
+                return None;
+            };
+            if !is_row(pred) {
+                return None;
+            }
+            Some(RowGoal {
+                place: goal,
+                pred,
+                name,
+                arguments,
+            })
+        }
     }
 }
 

@@ -13,6 +13,7 @@ ghost use Rattle.iso_engine.specs.Slices.{IsStepped};
 use crate::doing::Doing;
 use crate::engine::Engine;
 use crate::failing::after_failure;
+use crate::findall::give_list;
 use crate::slices::Slice;
 use iso_search::failure::Back;
 use pl_term::Memory;
@@ -40,20 +41,29 @@ impl Engine {
             IsStepped (W.A.held atoms.old) (W.told world.old) self.old o (W.A.held atoms.new) (W.told world.new) self.new []) }
     {
         let back = self.search.resume();
-        if let Some(doing) = after_failure(back) {
+        if let Some(doing) = after_failure(&back) {
             self.doing = doing;
             return Ok(None);
         }
-        let Back::Retry {
-            goal,
-            generation,
-            place,
-            next,
-        } = back
-        else {
-            unreachable!();
-        };
-        let stopped = self.retry(goal, generation, place, next, world, atoms)?;
-        Ok(stopped)
+        match back {
+            Back::Retry {
+                goal,
+                generation,
+                place,
+                next,
+            } => {
+                let stopped = self.retry(goal, generation, place, next, world, atoms)?;
+                Ok(stopped)
+            }
+            Back::Answers { goal, line, next } => {
+                let stopped = self.retry_line(goal, line, next, atoms)?;
+                Ok(stopped)
+            }
+            Back::Found { list, found, next } => {
+                self.doing = give_list(self.alloc, &mut self.search, list, found, next)?;
+                Ok(None)
+            }
+            _ => unreachable!(),
+        }
     }
 }

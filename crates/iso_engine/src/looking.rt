@@ -7,10 +7,11 @@ ghost use Rattle.iso_engine.specs.Looking.{IsLooked, looked_refusals};
 use crate::slices::Slice;
 use op_table::OpTable;
 use pl_term::Memory;
+use std::sync::Arc;
 use world_api::{Answer, Reply, Visit, World};
 
-/// The operators that stand after all entries, or why there is no answer.
-pub fn look<W: World>(world: &mut W, atoms: &mut W::A) -> Result<OpTable, Slice>
+/// The table of operators that stands after all entries, or why there is no answer.
+pub fn look<W: World>(world: &mut W, atoms: &mut W::A) -> Result<Arc<OpTable>, Slice>
     requires runs { has_ended (W.told world.old).engine (W.told world.old).history ≡ false }
     ensures looked { IsLooked (W.told world.old) result (W.told world.new) }
     ensures runs { has_ended (W.told world.new).engine (W.told world.new).history ≡ false }

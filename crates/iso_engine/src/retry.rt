@@ -6,6 +6,7 @@ ghost use Rattle.term_store.specs.NumberedNames.{atoms_in};
 ghost use Rattle.world_api.specs.Gains.{Gains};
 ghost use Rattle.world_api.specs.Texts.{Holds};
 ghost use Rattle.world_api.specs.Told.{has_ended};
+ghost use Rattle.iso_search.specs.declared.failure.Back.TheVariants.{Retry};
 ghost use Rattle.iso_search.specs.Reading.{reads};
 ghost use Rattle.iso_search.specs.Searching.{IsWhole};
 ghost use Rattle.iso_calls.specs.Asked.{IsRetryAsked};
@@ -48,7 +49,7 @@ impl Engine {
         ensures holds { Holds (W.A.held atoms.old) (W.A.held atoms.new) }
         ensures refusals { IfOk result (λ o. W.A.refusals atoms.new ≡ W.A.refusals atoms.old ++ stopped_refusals o) }
         ensures asked { Gains (IsRetryAsked (W.A.held atoms.old) (W.told world.old) self.old.search goal generation place) (W.A.asked atoms.old) (W.A.asked atoms.new) }
-        ensures gone { IfOk result (IsGoneOn (W.told world.old) self.old goal generation place next (W.A.held atoms.new) (W.told world.new) self.new) }
+        ensures gone { IfOk result (IsGoneOn (W.told world.old) self.old (Retry goal generation place next) (W.A.held atoms.new) (W.told world.new) self.new) }
     {
         let Some(procedure) = procedure_at(&self.search.store, goal) else {
             unreachable!();

@@ -69,7 +69,7 @@ pub fn run_row<A: Atoms>(
 }
 
 /// How a slice ends, if an atom of the row was refused.
-fn refusal(row: &Row) -> Option<Slice>
+pub fn refusal(row: &Row) -> Option<Slice>
     ensures { result ≡ refusal_of row.now }
 {
     match row {

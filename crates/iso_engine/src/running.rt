@@ -16,6 +16,7 @@ ghost use Rattle.iso_engine.specs.Tasks.{IsDone, IsForOthers, IsLeftOver};
 use crate::builtin::{Builtin, RowGoal, builtin_at};
 use crate::doing::Doing;
 use crate::equal::{equal, unification_at};
+use crate::findall::collect;
 use crate::following::follow;
 use crate::kinds::{is_other, is_write};
 use crate::procedure::procedure_at;
@@ -60,10 +61,11 @@ pub fn do_task(alloc: Global, search: &mut Search, frame: Frame) -> Result<Did, 
             let did = do_goal(alloc, search, goal, cut, frame.next)?;
             Ok(did)
         }
-        _ => Ok(Did::Missing(Procedure {
-            name: fixed::FINDALL,
-            arity: 3,
-        })),
+        Task::Collect(template, height) => {
+            let doing = collect(alloc, search, template, height, frame.next)?;
+            Ok(Did::Next(doing))
+        }
+        _ => unreachable!(),
     }
 }
 

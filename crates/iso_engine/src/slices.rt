@@ -2,6 +2,7 @@
 use crate::doing::Doing;
 use atom_api::{Cause, Pass, WornWord};
 use op_table::OpTable;
+use std::sync::Arc;
 use world_api::{On, Procedure};
 
 /// Why a slice ended.
@@ -10,7 +11,7 @@ pub enum Slice {
     /// So many inferences were made.
     Yield,
     /// A solution was found, with the operators that stand then.
-    Solution(OpTable),
+    Solution(Arc<OpTable>),
     /// An atom has no place, as that pass over all slots shows. The step was taken back.
     NeedsAtoms(Pass),
     /// Others stepped in between. The step was taken back.

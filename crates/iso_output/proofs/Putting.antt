@@ -92,7 +92,7 @@ with_store e u k = record e { store = u; inferences = k }
 
 pub refused_whole : (e : Search) (u : Contents) → IsWhole e → Grows e.store u → IsWhole (with_store e u (e.inferences + 1))
 refused_whole e u whole grows =
-    let w = whole_grown e u grows whole in record { base = w.base; rests = w.rests; budget = w.budget; above = w.above }
+    let w = whole_grown e u grows whole in record { base = w.base; rests = w.rests; budget = w.budget; above = w.above; older = w.older }
 
 module _ (m : Names) (e : Search) (term goal : Place) (rest : ℕ) (a b : List ℕ) (held : IsHeldAt m e.store term) (few : e.inferences < e.budgets.inferences)
     (is : IsGoalOf e.store (Character term) goal) where

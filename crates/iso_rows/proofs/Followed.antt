@@ -7,7 +7,7 @@ use Rattle.std.proofs.lemmas.Bool.Decides.{leb_tells}
 use Rattle.std.proofs.lemmas.List.Elements.{All-head, All-tail}
 use Rattle.pl_term.specs.Tree.{Chars, Tree, Trees, var, int, atom, comp, more, trees}
 use Rattle.pl_model.specs.Balls.{error_ball, no_cells}
-use Rattle.pl_model.specs.Control.{unified, with_row}
+use Rattle.pl_model.specs.Control.{failed, first_answer, unified, with_row}
 use Rattle.pl_model.specs.History.{Proc}
 use Rattle.pl_model.specs.Resolution.{Doing, Limits, Node, Pending, State, collected_cells, collect, commit, failing, goal, leave, node_instance, pending_instance, refute, running, throwing}
 use Rattle.pl_model.specs.Terms.{arguments}
@@ -28,24 +28,23 @@ use Rattle.iso_search.specs.Outcomes.{IsAfter, Setting, limits_in, result_in, st
 use Rattle.iso_search.specs.Reading.{IsView, View, reads}
 use Rattle.iso_search.specs.Searching.{IsWhole, choices_of, node_of, state_of}
 use Rattle.iso_search.specs.Spelling.{spelled, spelled_all, spelled_bindings, text_of}
-use Rattle.iso_search.proofs.Charging.{none_collected}
 use Rattle.iso_search.proofs.Instances.{node-bound}
 use Rattle.iso_search.proofs.Over.{state_by}
 use Rattle.iso_search.proofs.Spelt.{bound-spelled, solve_all-spelled}
 use Rattle.iso_output.proofs.Steps.{read_held}
 use Rattle.builtin_rows.specs.declared.row.Row.{Row}
 use Rattle.builtin_rows.specs.declared.row.Row.TheVariants.{Answer, Ball, CellsFull, Fails, Holds}
-use Rattle.builtin_rows.specs.Given.{Given, answered, full, given, thrown}
-use Rattle.builtin_rows.specs.Rows.{ArePlaced, Makes, terms_at}
+use Rattle.builtin_rows.specs.Given.{Given, answered, full, given, lined, thrown}
+use Rattle.builtin_rows.specs.Rows.{ArePlaced, IsRow, Makes, terms_at}
 use Rattle.iso_rows.specs.Leading.{AreUnified, IsRowMade, Origin, as_before}
-use Rattle.iso_rows.proofs.Giving.{answer_gives, ball_gives, fails_gives, full_gives, holds_gives}
+use Rattle.iso_rows.proofs.Giving.{answer_gives, ball_gives, full_gives, given_beside, holds_gives}
 use Rattle.iso_rows.proofs.Grown.{choices_still, keeps_tasks, node_still, over, whole_still}
 use Rattle.iso_rows.proofs.Led.{LedTo, led}
 use Rattle.iso_rows.proofs.Paired.{adds_on}
 
 -- Arguments as they are read
 
-arguments_spelled : (g : Chars → Chars) (t : Tree) → arguments (spelled g t) ≡ spelled_all g (arguments t)
+pub arguments_spelled : (g : Chars → Chars) (t : Tree) → arguments (spelled g t) ≡ spelled_all g (arguments t)
 arguments_spelled g (var x) = refl
 arguments_spelled g (int i) = refl
 arguments_spelled g (atom a) = refl
@@ -76,7 +75,7 @@ unfolding solve_all
 themselves ts = solve-same _ [] ts
 
 -- The terms at places whose atoms are held.
-places_read : (n : Names) (v : View) → AreHeld n v.names → (t : Contents) (ps : List Place) → ArePlaced n t ps
+pub places_read : (n : Names) (v : View) → AreHeld n v.names → (t : Contents) (ps : List Place) → ArePlaced n t ps
     → terms_at n t ps ≡ spelled_all (text_of v.names) (trees (map (term_at t) ps))
 places_read n v grown t ps placed = go ps placed.held
   where
@@ -92,7 +91,7 @@ module _ (x : Origin) (at : Place) (e : Search) (row : Row) (m : IsRowMade x at 
   abbrev told : Given
   told = given x.predicate x.terms e.next x.store.used x.store.budget x.row
 
-  module _ (t : Setting) (known : AreHeld x.after t.view.names) (rest : ℕ) (few : e.next < 2 ^ 64) where
+  module _ (t : Setting) (known : AreHeld x.after t.view.names) (rest : ℕ) where
     abbrev v : View
     v = t.view
 
@@ -114,18 +113,14 @@ module _ (x : Origin) (at : Place) (e : Search) (row : Row) (m : IsRowMade x at 
     terms_are : x.terms ≡ ts
     terms_are = sym m.arguments ∙ ap arguments (read_held x.before v (λ a text h. known a text (m.later a text h)) x.store at m.held)
 
-    nothing_collected : collected_cells s.choices ≡ zero
-    nothing_collected = none_collected v e.answer.items x.store e.frames.items (reverse e.choices.items)
-
     told_is : given p ts s.next (n.used + collected_cells s.choices) l.cells x.row ≡ told
     told_is =
-        let used : n.used + collected_cells s.choices ≡ x.store.used = omega (arith, nothing_collected) in
-        ap₂ (λ us k. given p us s.next k l.cells x.row) (sym terms_are) used
-        ∙ ap (λ k. given p x.terms e.next x.store.used k x.row) (sym m.whole.budget)
+        ap₂ (λ us k. given p us s.next (n.used + collected_cells s.choices) k x.row) (sym terms_are) (sym (m.whole.budget v))
+        ∙ given_beside p x.terms e.next x.store.used x.store.budget (collected_cells s.choices) x.row
 
     -- The step of the definition, by what is given.
     led_by : (g : Given) → told ≡ g → LedTo l s n p ts (with_row l s n p ts x.row) g
-    led_by g is = subst (LedTo l s n p ts (with_row l s n p ts x.row)) (told_is ∙ is) (led l s n p ts x.row few m.plain)
+    led_by g is = subst (LedTo l s n p ts (with_row l s n p ts x.row)) (told_is ∙ is) (led l s n p ts x.row)
 
     -- The state of a search that differs in its store and the next number of a variable.
     state_still : (u : Contents) (next : ℕ) (d : Doing) → Adds x.store u
@@ -143,12 +138,13 @@ adds_same s u is = subst (Adds s) (sym is) (adds_itself s)
 pub same_size : (u : Contents) → SameSize u u
 same_size u = record { numbers = refl; used = refl; budget = refl }
 
-pub above_it : (a b : ℕ) → (a ≤ b → ⊥) → b < a
-above_it a b not = go (leb_tells a b)
-  where
-    go : ((nat_le a b ≡ true) × (a ≤ b)) ⊎ ((nat_le a b ≡ false) × (b < a)) → b < a
-    go (inl h) = absurd (not h.1)
-    go (inr h) = h.1
+-- No answer is given.
+fails_led : (l : Limits) (here : State) (d : Node) (p : Proc) (args : Trees) (q : State) (s : Contents) (next : ℕ) (us : Trees) (n : Names) (t : Contents) (g : Given)
+    → IsRow s next us g n t Fails → LedTo l here d p args q g → (q ≡ failed here) × (t ≡ s)
+fails_led l here d p args q s next us n t (answered xs f k) h to = (subst (λ ys. LedTo l here d p args q (answered ys f k)) h.0 to, h.1)
+fails_led l here d p args q s next us n t (lined vs xs k) h to = (to ∙ ap (first_answer l here d p args) h.0, h.1)
+fails_led l here d p args q s next us n t (thrown b) h to = absurd h
+fails_led l here d p args q s next us n t (full need) h to = absurd h
 
 -- By any view of what is held there are numbers for the new variables of an answer.
 abbrev any_setting : Names → Setting
@@ -161,7 +157,7 @@ any_setting names =
       output = [];
     }
 
-module _ (x : Origin) (at : Place) (e : Search) (rest : ℕ) (few : e.next < 2 ^ 64) where
+module _ (x : Origin) (at : Place) (e : Search) (rest : ℕ) where
   abbrev pub before : Search
   before = as_before x e
 
@@ -173,18 +169,19 @@ module _ (x : Origin) (at : Place) (e : Search) (rest : ℕ) (few : e.next < 2 ^
   pub fails_step : IsRowMade x at e Fails → (t : Setting) → AreHeld x.after t.view.names
       → result_in t e (node_of t.view before rest) x.predicate Fail ≡ row_step t
   fails_step m t known =
-      let k = fails_gives x.store e.next x.terms x.after e.store (told x at e Fails m) m.made in
-      state_still x at e Fails m t known rest few e.store e.next failing (adds_same x.store e.store k.1.1.1)
-      ∙ sym (led_by x at e Fails m t known rest few (answered [] k.0 k.1.0) k.1.1.0)
+      let g = told x at e Fails m in
+      let k = fails_led (limits_in t before) (state_in t before) (node_of t.view before rest) x.predicate (arguments (reads t.view x.store at)) (row_step t) x.store e.next
+      x.terms x.after e.store g m.made (led_by x at e Fails m t known rest g refl) in
+      state_still x at e Fails m t known rest e.store e.next failing (adds_same x.store e.store k.1) ∙ sym k.0
 
   pub full_step : (used need : ℕ) → IsRowMade x at e (CellsFull used need) → (t : Setting) → AreHeld x.after t.view.names
       → result_in t e (node_of t.view before rest) x.predicate (Raise Cells) ≡ row_step t
   full_step used need m t known =
       let row = CellsFull used need in
       let k = full_gives x.store e.next x.terms x.after e.store used need (told x at e row m) m.made in
-      state_still x at e row m t known rest few e.store e.next (throwing (error_ball no_cells x.predicate) (node_of t.view before rest).goals)
+      state_still x at e row m t known rest e.store e.next (throwing (error_ball no_cells x.predicate) (node_of t.view before rest).goals)
       (adds_same x.store e.store k.1)
-      ∙ sym (led_by x at e row m t known rest few (full need) k.0)
+      ∙ sym (led_by x at e row m t known rest (full need) k.0)
 
   pub ball_step : (w : Place) → IsRowMade x at e (Ball w) → (t : Setting) → AreHeld x.after t.view.names
       → result_in t e (node_of t.view before rest) x.predicate (Throw w) ≡ row_step t
@@ -192,41 +189,28 @@ module _ (x : Origin) (at : Place) (e : Search) (rest : ℕ) (few : e.next < 2 ^
       let row = Ball w in
       let k = ball_gives x.store e.next x.terms x.after e.store w (told x at e row m) m.made in
       let outer = (node_of t.view before rest).goals in
-      state_still x at e row m t known rest few e.store e.next (throwing (reads t.view e.store w) outer) k.1.0.adds
+      state_still x at e row m t known rest e.store e.next (throwing (reads t.view e.store w) outer) k.1.0.adds
       ∙ ap (λ ball. record (state_in t before) { doing = throwing ball outer }) (sym (read_held x.after t.view known e.store w k.1.1.1))
-      ∙ sym (led_by x at e row m t known rest few (thrown (written.reads x.after e.store w)) k.0)
+      ∙ sym (led_by x at e row m t known rest (thrown (written.reads x.after e.store w)) k.0)
 
-  module _ (m : IsRowMade x at e Holds) (t : Setting) (known : AreHeld x.after t.view.names) where
-    pub holds_step : e.store.used ≤ e.store.budget → result_in t e (node_of t.view before rest) x.predicate (Run rest) ≡ row_step t
-    holds_step fits =
-        let s = state_in t before in
-        let n = node_of t.view before rest in
-        let ts = arguments (reads t.view x.store at) in
-        let k = holds_gives x.store e.next x.terms x.after e.store (told x at e Holds m) m.made in
-        let q = led_by x at e Holds m t known rest few (answered (x.terms ∷ []) zero zero) k.0 in
-        let cells : n.used + collected_cells s.choices + zero ≤ e.budgets.cells =
-        omega (arith, nothing_collected x at e Holds m t known rest few, fits, ap (λ (u : Contents). u.used) k.1, ap (λ (u : Contents). u.budget) k.1, m.whole.budget) in
-        let next : s.next + zero ≡ e.next = omega arith in
-        let used : n.used + zero ≡ x.store.used = omega arith in
-        let solved : solve_all [] ts x.terms ≡ Some [] = ap (solve_all [] ts) (terms_are x at e Holds m t known rest few) ∙ themselves ts in
-        state_still x at e Holds m t known rest few e.store e.next (running (node_of t.view e rest)) (adds_same x.store e.store k.1)
-        ∙ ap (λ u. record s { doing = running (node_of t.view (record e { store = u }) rest) }) k.1
-        ∙ sym
-        (q.1 cells
-        ∙ ap (unified (record s { next = s.next + zero }) (record n { used = n.used + zero })) solved
-        ∙ ap₂ (λ j d. record s { doing = running d; next = j }) next
-        (instance_none (record n { used = n.used + zero }) ∙ ap (λ j. record n { used = j }) used))
-
-    pub holds_over : e.store.budget < e.store.used → result_in t e (node_of t.view before rest) x.predicate (Raise Cells) ≡ row_step t
-    holds_over over =
-        let s = state_in t before in
-        let n = node_of t.view before rest in
-        let k = holds_gives x.store e.next x.terms x.after e.store (told x at e Holds m) m.made in
-        let q = led_by x at e Holds m t known rest few (answered (x.terms ∷ []) zero zero) k.0 in
-        let cells : e.budgets.cells < n.used + collected_cells s.choices + zero =
-        omega (arith, nothing_collected x at e Holds m t known rest few, over, ap (λ (u : Contents). u.used) k.1, ap (λ (u : Contents). u.budget) k.1, m.whole.budget) in
-        state_still x at e Holds m t known rest few e.store e.next (throwing (error_ball no_cells x.predicate) n.goals) (adds_same x.store e.store k.1)
-        ∙ sym (q.2 cells).0
+  pub holds_step : IsRowMade x at e Holds → (t : Setting) → AreHeld x.after t.view.names
+      → result_in t e (node_of t.view before rest) x.predicate (Run rest) ≡ row_step t
+  holds_step m t known =
+      let s = state_in t before in
+      let n = node_of t.view before rest in
+      let ts = arguments (reads t.view x.store at) in
+      let k = holds_gives x.store e.next x.terms x.after e.store (told x at e Holds m) m.made in
+      let q = led_by x at e Holds m t known rest (answered (x.terms ∷ []) zero zero) k.0 in
+      let next : s.next + zero ≡ e.next = add-zero e.next in
+      let used : n.used + zero ≡ x.store.used = add-zero x.store.used in
+      let solved : solve_all [] ts x.terms ≡ Some [] = ap (solve_all [] ts) (terms_are x at e Holds m t known rest) ∙ themselves ts in
+      state_still x at e Holds m t known rest e.store e.next (running (node_of t.view e rest)) (adds_same x.store e.store k.1)
+      ∙ ap (λ u. record s { doing = running (node_of t.view (record e { store = u }) rest) }) k.1
+      ∙ sym
+      (q.2
+      ∙ ap (unified (record s { next = s.next + zero }) (record n { used = n.used + zero })) solved
+      ∙ ap₂ (λ j d. record s { doing = running d; next = j }) next
+      (instance_none (record n { used = n.used + zero }) ∙ ap (λ j. record n { used = j }) used))
 
 module _ (x : Origin) (at : Place) (e : Search) (w : Place) (m : IsRowMade x at e (Ball w)) where
   thrown_ball : Makes x.store e.next zero zero e.store × (IsIn e.store w × IsHeldAt x.after e.store w)
@@ -235,7 +219,7 @@ module _ (x : Origin) (at : Place) (e : Search) (w : Place) (m : IsRowMade x at 
   pub ball_whole : IsWhole e
   ball_whole =
       let makes = thrown_ball.0 in
-      whole_still e x.store e.store makes.adds m.whole e.next makes.budget
+      whole_still e x.store e.store makes.adds m.whole e.next (omega arith) makes.budget
       (subst (λ k. IsAbove k e.store) (add-zero e.next) (above_of x.store x.store e.store e.next zero zero refl m.whole.above makes.numbers refl))
 
   pub ball_after : IsAfter (as_before x e) e (Throw w)
@@ -243,7 +227,7 @@ module _ (x : Origin) (at : Place) (e : Search) (w : Place) (m : IsRowMade x at 
       let makes = thrown_ball.0 in
       record { budgets = refl; inside = (thrown_ball.1.0, keeps_tasks e x.store e.store makes.adds m.whole makes.others e.next) }
 
-module _ (x : Origin) (at : Place) (e : Search) (ps : Vec Place Global) (fresh : ℕ) (m : IsRowMade x at e (Answer ps fresh)) (few : e.next < 2 ^ 64) where
+module _ (x : Origin) (at : Place) (e : Search) (ps : Vec Place Global) (fresh : ℕ) (m : IsRowMade x at e (Answer ps fresh)) where
   abbrev gives : (k : ℕ)
       × ((told x at e (Answer ps fresh) m ≡ answered (terms_at x.after e.store ps.items ∷ []) fresh k)
       × (Makes x.store e.next fresh k e.store × ArePlaced x.after e.store ps.items))
@@ -260,11 +244,7 @@ module _ (x : Origin) (at : Place) (e : Search) (ps : Vec Place Global) (fresh :
 
   pub answer_numbers : e.next + fresh < 2 ^ 64
   answer_numbers =
-      (led_by x at e (Answer ps fresh) m (any_setting x.after) (λ a text h. h) zero few (answered (terms_at x.after e.store ps.items ∷ []) fresh gives.0) gives.1.0).0
-
-  pub answer_after : IsAfter (as_before x e) (over e e.store (e.next + fresh)) (Raise Cells)
-  answer_after =
-      record { budgets = refl; inside = (tt, keeps_tasks e x.store e.store makes.adds m.whole makes.others (e.next + fresh)) }
+      (led_by x at e (Answer ps fresh) m (any_setting x.after) (λ a text h. h) zero (answered (terms_at x.after e.store ps.items ∷ []) fresh gives.0) gives.1.0).0
 
   -- The search after the answer was unified, or was not.
   module _ (u : Contents) (adds : Adds e.store u) (size : SameSize e.store u) where
@@ -273,7 +253,7 @@ module _ (x : Origin) (at : Place) (e : Search) (ps : Vec Place Global) (fresh :
 
     pub answer_whole : IsWhole (over e u (e.next + fresh))
     answer_whole =
-        whole_still e x.store u all_adds m.whole (e.next + fresh) (size.budget ∙ makes.budget)
+        whole_still e x.store u all_adds m.whole (e.next + fresh) (omega arith) (size.budget ∙ makes.budget)
         (above_of x.store x.store u e.next fresh fresh refl m.whole.above (size.numbers ∙ makes.numbers) refl)
 
     module _ (t : Setting) (view : IsView t.view) (known : AreHeld x.after t.view.names) (rest : ℕ) where
@@ -298,10 +278,7 @@ module _ (x : Origin) (at : Place) (e : Search) (ps : Vec Place Global) (fresh :
 
       answer_led_by : LedTo (limits_in t (as_before x e)) here node x.predicate (arguments (reads t.view x.store at)) definition
           (answered (terms_at x.after e.store ps.items ∷ []) fresh gives.0)
-      answer_led_by = led_by x at e (Answer ps fresh) m t known rest few (answered (terms_at x.after e.store ps.items ∷ []) fresh gives.0) gives.1.0
-
-      none_there : collected_cells here.choices ≡ zero
-      none_there = nothing_collected x at e (Answer ps fresh) m t known rest few
+      answer_led_by = led_by x at e (Answer ps fresh) m t known rest (answered (terms_at x.after e.store ps.items ∷ []) fresh gives.0) gives.1.0
 
       solved_read : solve_all [] (arguments (reads t.view x.store at)) (terms_at x.after e.store ps.items)
           ≡ option_map (spelled_bindings g) (solve_all [] lefts rights)
@@ -311,39 +288,25 @@ module _ (x : Origin) (at : Place) (e : Search) (ps : Vec Place Global) (fresh :
           (places_read x.after t.view known e.store ps.items placed)
           ∙ solve_all-spelled g view.apart [] lefts rights
 
-      pub answer_over : e.store.budget < e.store.used
-          → result_in t (over e e.store (e.next + fresh)) node x.predicate (Raise Cells) ≡ definition
-      answer_over out =
-          let cells : e.budgets.cells < node.used + collected_cells here.choices + gives.0 =
-          omega (arith, none_there, out, makes.used, makes.budget, m.whole.budget) in
-          let q = answer_led_by.2 cells in
-          let next : e.next + fresh ≡ e.next = omega (arith, q.1) in
-          state_still x at e (Answer ps fresh) m t known rest few e.store (e.next + fresh) (throwing (error_ball no_cells x.predicate) node.goals) makes.adds
-          ∙ ap (λ k. record here { doing = throwing (error_ball no_cells x.predicate) node.goals; next = k }) next
-          ∙ sym q.0
+      led_on : (o : Option Bindings) → solve_all [] lefts rights ≡ o
+          → definition ≡ unified (record here { next = e.next + fresh }) (record node { used = x.store.used + gives.0 }) (option_map (spelled_bindings g) o)
+      led_on o is =
+          answer_led_by.2
+          ∙ ap (unified (record here { next = e.next + fresh }) (record node { used = x.store.used + gives.0 }))
+          (solved_read ∙ ap (option_map (spelled_bindings g)) is)
 
-      module _ (fits : e.store.used ≤ e.store.budget) where
-        led_on : (o : Option Bindings) → solve_all [] lefts rights ≡ o
-            → definition ≡ unified (record here { next = e.next + fresh }) (record node { used = x.store.used + gives.0 }) (option_map (spelled_bindings g) o)
-        led_on o is =
-            let cells : node.used + collected_cells here.choices + gives.0 ≤ e.budgets.cells =
-            omega (arith, none_there, fits, makes.used, makes.budget, m.whole.budget) in
-            answer_led_by.1 cells
-            ∙ ap (unified (record here { next = e.next + fresh }) (record node { used = x.store.used + gives.0 }))
-            (solved_read ∙ ap (option_map (spelled_bindings g)) is)
+      pub answer_fails : AreUnified false e.store lefts rights u → result_in t (over e u (e.next + fresh)) node x.predicate Fail ≡ definition
+      answer_fails differ =
+          state_still x at e (Answer ps fresh) m t known rest u (e.next + fresh) failing all_adds ∙ sym (led_on None differ)
 
-        pub answer_fails : AreUnified false e.store lefts rights u → result_in t (over e u (e.next + fresh)) node x.predicate Fail ≡ definition
-        answer_fails differ =
-            state_still x at e (Answer ps fresh) m t known rest few u (e.next + fresh) failing all_adds ∙ sym (led_on None differ)
-
-        pub answer_runs : AreUnified true e.store lefts rights u → result_in t (over e u (e.next + fresh)) node x.predicate (Run rest) ≡ definition
-        answer_runs same =
-            let bs : Bindings = spelled_bindings g same.0 in
-            let puts : (p : Place) → reads t.view u p ≡ bound bs (reads t.view e.store p) =
-            λ p. ap (spelled g) (same.1.1 p) ∙ sym (bound-spelled g same.0 (term_at e.store p)) in
-            let node_is : node_of t.view (over e u (e.next + fresh)) rest ≡ node_instance bs (record node { used = x.store.used + gives.0 }) =
-            node-bound (reads t.view e.store) (reads t.view u) bs puts (tasks e.frames.items rest) e.answer.items (x.store.used + gives.0) u.used (size.used ∙ makes.used)
-            ∙ ap (node_instance bs) (node_still e x.store e.store makes.adds m.whole makes.others t.view rest (x.store.used + gives.0)) in
-            state_still x at e (Answer ps fresh) m t known rest few u (e.next + fresh) (running (node_of t.view (over e u (e.next + fresh)) rest)) all_adds
-            ∙ ap (λ d. record here { doing = running d; next = e.next + fresh }) node_is
-            ∙ sym (led_on (Some same.0) same.1.0)
+      pub answer_runs : AreUnified true e.store lefts rights u → result_in t (over e u (e.next + fresh)) node x.predicate (Run rest) ≡ definition
+      answer_runs same =
+          let bs : Bindings = spelled_bindings g same.0 in
+          let puts : (p : Place) → reads t.view u p ≡ bound bs (reads t.view e.store p) =
+          λ p. ap (spelled g) (same.1.1 p) ∙ sym (bound-spelled g same.0 (term_at e.store p)) in
+          let node_is : node_of t.view (over e u (e.next + fresh)) rest ≡ node_instance bs (record node { used = x.store.used + gives.0 }) =
+          node-bound (reads t.view e.store) (reads t.view u) bs puts (tasks e.frames.items rest) e.answer.items (x.store.used + gives.0) u.used (size.used ∙ makes.used)
+          ∙ ap (node_instance bs) (node_still e x.store e.store makes.adds m.whole makes.others t.view rest (x.store.used + gives.0)) in
+          state_still x at e (Answer ps fresh) m t known rest u (e.next + fresh) (running (node_of t.view (over e u (e.next + fresh)) rest)) all_adds
+          ∙ ap (λ d. record here { doing = running d; next = e.next + fresh }) node_is
+          ∙ sym (led_on (Some same.0) same.1.0)

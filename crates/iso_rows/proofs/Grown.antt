@@ -1,5 +1,5 @@
 -- A search whose store has gained terms, variables and cells.
-use Rattle.std.proofs.Common.{◌≡◌, ℕ, List, map, reverse, refl, ap, ◌∙◌}
+use Rattle.std.proofs.Common.{◌≡◌, ◌≤◌, ℕ, List, map, reverse, refl, ap, ◌∙◌}
 use Rattle.pl_term.specs.Tree.{Tree}
 use Rattle.pl_model.specs.Resolution.{Node, Pending, goal, collect}
 use Rattle.term_store.specs.declared.words.Place.{Place}
@@ -14,8 +14,9 @@ use Rattle.iso_search.specs.Reading.{View, node_at, pending, reads}
 use Rattle.iso_search.specs.Searching.{IsWhole, choices_of}
 use Rattle.iso_search.specs.Spelling.{spelled, text_of}
 use Rattle.iso_search.proofs.Grown.{tasks_inside}
-use Rattle.iso_search.proofs.Instances.{base_added, choices_kept, rests_kept}
+use Rattle.iso_search.proofs.Instances.{choices_kept}
 use Rattle.iso_search.proofs.Listing.{map-agree}
+use Rattle.iso_search.proofs.Wholes.{whole_added}
 
 -- The search over another store, with another next number of a variable.
 abbrev pub over : Search → Contents → ℕ → Search
@@ -25,14 +26,8 @@ module _ (e : Search) (s t : Contents) (adds : Adds s t) (w : IsWhole (record e 
   pub choices_still : (v : View) (next : ℕ) → choices_of v (over e t next) ≡ choices_of v (record e { store = s })
   choices_still v next = choices_kept v e.answer.items s t e.frames.items (reverse e.choices.items) adds w.rests
 
-  pub whole_still : (next : ℕ) → t.budget ≡ s.budget → IsAbove next t → IsWhole (over e t next)
-  whole_still next budget above =
-      record {
-        base = base_added e.answer.items s t e.frames.items adds w.base;
-        rests = rests_kept e.answer.items s t e.frames.items (reverse e.choices.items) adds w.rests;
-        budget = budget ∙ w.budget;
-        above = above;
-      }
+  pub whole_still : (next : ℕ) → e.next ≤ next → t.budget ≡ s.budget → IsAbove next t → IsWhole (over e t next)
+  whole_still next le budget above = let was : Search = record e { store = s } in whole_added was t next adds budget le above w
 
   module _ (others : (p : Place) → Holds s p → term_at t p ≡ term_at s p) where
     read_still : (v : View) (p : Place) → Holds s p → reads v t p ≡ reads v s p

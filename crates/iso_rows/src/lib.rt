@@ -3,5 +3,7 @@
 
 mod arguments;
 mod following;
+mod lines;
 
 pub use following::follow_row;
+pub use lines::follow_next;

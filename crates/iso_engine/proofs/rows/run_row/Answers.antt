@@ -1,4 +1,4 @@
-use Rattle.std.proofs.Common.{refl, sym, subst, ◌∙◌}
+use Rattle.std.proofs.Common.{◌≤◌, length, refl, sym, subst, ◌∙◌}
 use Rattle.builtin_dispatch.specs.Dispatching.{AreHeld}
 use Rattle.iso_search.specs.declared.search.Search.{Search}
 use Rattle.iso_search.proofs.Texts.{texts_apart}
@@ -47,10 +47,11 @@ follow_row-requires g c =
         origin e x c.infer.ensures.kept r c.args.rest m n is.means,
         row_made e x c.infer.ensures.kept r c.args.rest m n c.row_of.new.store c.in-Some.row c.requires.goal.goal_is c.requires.held c.row_of.ensures.holds
             c.infer.ensures.whole
-            is,
+            is
+            (when_some _ _ _ found.ensures.lines c.in-Some.is),
       );
-      single = when_some _ _ _ found.ensures.single c.in-Some.is;
       served = unrefused c.in-Some.row (sym c.refusal.ensures ∙ c.in-None-refusal.is);
+      rest = subst (λ (y : Search). c.args.rest ≤ length y.frames.items) (sym c.infer.ensures.kept) c.requires.rest;
     }
 
 pub returns-in_err-outcome-in-None-refusal-clause-asked : goal.returns-in_err-outcome-in-None-refusal-clause-asked
@@ -76,7 +77,7 @@ returns-in-None-refusal-clause-tried g c =
     let is = when_some _ _ _ c.in_ok-found.ensures.row c.in-Some.is in
     let z = origin e x kept r c.args.rest m n is.means in
     let made = row_made e x kept r c.args.rest m n c.row_of.new.store c.in-Some.row c.requires.goal.goal_is c.requires.held c.row_of.ensures.holds
-    c.infer.ensures.whole is in
+    c.infer.ensures.whole is (when_some _ _ _ c.in_ok-found.ensures.lines c.in-Some.is) in
     led_leads e x kept r c.args.rest m n f o.outcome c.requires.goal
     (subst (IsCosted e x kept r c.args.rest) c.if-not-infer.false c.infer.ensures.step) c.row_of.ensures.holds c.requires.held is.means is.row_is
     o.ensures.whole (o.ensures.after z made) (λ t view grown. o.ensures.step z t made view grown)

@@ -1,13 +1,14 @@
 use Rattle.std.proofs.Common.{refl, sym, ap, subst, ◌∙◌}
+use Rattle.iso_search.specs.declared.failure.Back.TheVariants.{Answers, Found, Retry}
 use Rattle.iso_search.specs.declared.search.Search.{Search}
 use Rattle.iso_search.specs.Failures.{IsTaken, back_result}
 use Rattle.iso_engine.specs.declared.engine.Engine.{Engine}
-use Rattle.iso_engine.proofs.Failed.{failed_steps, retried_step}
+use Rattle.iso_engine.proofs.Failed.{failed_steps, found_steps, retried_step}
 use Rattle.iso_engine.proofs.Followed.{fails_to}
-use Rattle.iso_engine.proofs.Interning.{nothing_asked, retry_asks_for}
-use Rattle.iso_engine.proofs.Opening.{newest_callable, newest_held, newest_open}
+use Rattle.iso_engine.proofs.Interning.{line_asks_for, nothing_asked, retry_asks_for}
+use Rattle.iso_engine.proofs.Opening.{line_held, newest_callable, newest_held, newest_open}
 use Rattle.iso_engine.proofs.Solutions.{view_is}
-use Rattle.iso_engine.proofs.Stability.{advance_step, step_ready}
+use Rattle.iso_engine.proofs.Stability.{advance_step, spent_by, step_ready}
 use Rattle.iso_engine.proofs.engine.Engine.fail.Goals as goal
 
 pub returns-in-Some-clause-ready : goal.returns-in-Some-clause-ready
@@ -74,8 +75,8 @@ retry-requires-clause-open g c =
     let taken = subst (IsTaken e.search x) r.is c.resume-back.ensures.taken in
     (newest_open m t e.search x e.doing r.goal r.generation r.place r.next c.requires.ready.stable taken view).listed
 
-pub returns-clause-given : goal.returns-clause-given
-returns-clause-given g c =
+pub returns-in_ok-stopped-in-Retry-clause-given : goal.returns-in_ok-stopped-in-Retry-clause-given
+returns-in_ok-stopped-in-Retry-clause-given g c =
     let e = c.args.self.now in
     let a = c.retry.new.atoms in
     let m = g.W.A.Atoms.held c.args.atoms.now in
@@ -85,15 +86,15 @@ returns-clause-given g c =
     let view = view_is n u (g.met.W.A.Atoms.fixed_held a) (g.met.W.A.Atoms.unlike a) (g.met.W.A.Atoms.finite a) in
     let x = c.resume-back.new.self in
     let r = c.in-Retry in
-    let s = c.in_ok-stopped in
+    let s = c.in_ok-stopped-in-Retry in
     let taken = subst (IsTaken e.search x) r.is c.resume-back.ensures.taken in
-    let step = retried_step m n t u e x c.retry.new.self r.goal r.generation r.place r.next s.ensures.holds view c.requires.ready c.requires.fails c.resume-back.ensures.kept
-    s.ensures.whole s.stopped s.ensures.gone taken
+    let step = retried_step m n t u e x c.retry.new.self (Retry r.goal r.generation r.place r.next) tt s.ensures.holds view c.requires.ready c.requires.fails
+    c.resume-back.ensures.kept s.ensures.whole s.stopped s.ensures.gone taken
     (λ q fails. sym (ap (back_result q x) r.is) ∙ c.resume-back.ensures.step q fails) in
     step.3
 
-pub returns-clause-spent : goal.returns-clause-spent
-returns-clause-spent g c =
+pub returns-in_ok-stopped-in-Retry-clause-spent : goal.returns-in_ok-stopped-in-Retry-clause-spent
+returns-in_ok-stopped-in-Retry-clause-spent g c =
     let e = c.args.self.now in
     let a = c.retry.new.atoms in
     let m = g.W.A.Atoms.held c.args.atoms.now in
@@ -103,15 +104,15 @@ returns-clause-spent g c =
     let view = view_is n u (g.met.W.A.Atoms.fixed_held a) (g.met.W.A.Atoms.unlike a) (g.met.W.A.Atoms.finite a) in
     let x = c.resume-back.new.self in
     let r = c.in-Retry in
-    let s = c.in_ok-stopped in
+    let s = c.in_ok-stopped-in-Retry in
     let taken = subst (IsTaken e.search x) r.is c.resume-back.ensures.taken in
-    let step = retried_step m n t u e x c.retry.new.self r.goal r.generation r.place r.next s.ensures.holds view c.requires.ready c.requires.fails c.resume-back.ensures.kept
-    s.ensures.whole s.stopped s.ensures.gone taken
+    let step = retried_step m n t u e x c.retry.new.self (Retry r.goal r.generation r.place r.next) tt s.ensures.holds view c.requires.ready c.requires.fails
+    c.resume-back.ensures.kept s.ensures.whole s.stopped s.ensures.gone taken
     (λ q fails. sym (ap (back_result q x) r.is) ∙ c.resume-back.ensures.step q fails) in
     step.2
 
-pub returns-clause-ready : goal.returns-clause-ready
-returns-clause-ready g c =
+pub returns-in_ok-stopped-in-Retry-clause-ready : goal.returns-in_ok-stopped-in-Retry-clause-ready
+returns-in_ok-stopped-in-Retry-clause-ready g c =
     let e = c.args.self.now in
     let a = c.retry.new.atoms in
     let m = g.W.A.Atoms.held c.args.atoms.now in
@@ -121,15 +122,15 @@ returns-clause-ready g c =
     let view = view_is n u (g.met.W.A.Atoms.fixed_held a) (g.met.W.A.Atoms.unlike a) (g.met.W.A.Atoms.finite a) in
     let x = c.resume-back.new.self in
     let r = c.in-Retry in
-    let s = c.in_ok-stopped in
+    let s = c.in_ok-stopped-in-Retry in
     let taken = subst (IsTaken e.search x) r.is c.resume-back.ensures.taken in
-    let step = retried_step m n t u e x c.retry.new.self r.goal r.generation r.place r.next s.ensures.holds view c.requires.ready c.requires.fails c.resume-back.ensures.kept
-    s.ensures.whole s.stopped s.ensures.gone taken
+    let step = retried_step m n t u e x c.retry.new.self (Retry r.goal r.generation r.place r.next) tt s.ensures.holds view c.requires.ready c.requires.fails
+    c.resume-back.ensures.kept s.ensures.whole s.stopped s.ensures.gone taken
     (λ q fails. sym (ap (back_result q x) r.is) ∙ c.resume-back.ensures.step q fails) in
     step.1
 
-pub returns-clause-stepped : goal.returns-clause-stepped
-returns-clause-stepped g c =
+pub returns-in_ok-stopped-in-Retry-clause-stepped : goal.returns-in_ok-stopped-in-Retry-clause-stepped
+returns-in_ok-stopped-in-Retry-clause-stepped g c =
     let e = c.args.self.now in
     let a = c.retry.new.atoms in
     let m = g.W.A.Atoms.held c.args.atoms.now in
@@ -139,18 +140,18 @@ returns-clause-stepped g c =
     let view = view_is n u (g.met.W.A.Atoms.fixed_held a) (g.met.W.A.Atoms.unlike a) (g.met.W.A.Atoms.finite a) in
     let x = c.resume-back.new.self in
     let r = c.in-Retry in
-    let s = c.in_ok-stopped in
+    let s = c.in_ok-stopped-in-Retry in
     let taken = subst (IsTaken e.search x) r.is c.resume-back.ensures.taken in
-    let step = retried_step m n t u e x c.retry.new.self r.goal r.generation r.place r.next s.ensures.holds view c.requires.ready c.requires.fails c.resume-back.ensures.kept
-    s.ensures.whole s.stopped s.ensures.gone taken
+    let step = retried_step m n t u e x c.retry.new.self (Retry r.goal r.generation r.place r.next) tt s.ensures.holds view c.requires.ready c.requires.fails
+    c.resume-back.ensures.kept s.ensures.whole s.stopped s.ensures.gone taken
     (λ q fails. sym (ap (back_result q x) r.is) ∙ c.resume-back.ensures.step q fails) in
     step.0
 
 pub returns-in-Some-clause-asked : goal.returns-in-Some-clause-asked
 returns-in-Some-clause-asked g c = let asked = g.W.A.Atoms.asked c.args.atoms.now in nothing_asked _ asked asked refl
 
-pub returns-in_err-stopped-clause-asked : goal.returns-in_err-stopped-clause-asked
-returns-in_err-stopped-clause-asked g c =
+pub returns-in_err-stopped-in-Retry-clause-asked : goal.returns-in_err-stopped-in-Retry-clause-asked
+returns-in_err-stopped-in-Retry-clause-asked g c =
     let e = c.args.self.now in
     let a = c.args.atoms.now in
     let x = c.resume-back.new.self in
@@ -158,11 +159,165 @@ returns-in_err-stopped-clause-asked g c =
     retry_asks_for (g.W.A.Atoms.held a) (g.W.World.told c.args.world.now) e x r.goal r.generation r.place r.next c.requires.fails
     (subst (IsTaken e.search x) r.is c.resume-back.ensures.taken) (g.W.A.Atoms.asked a) (g.W.A.Atoms.asked c.retry.new.atoms) c.retry.ensures.asked
 
-pub returns-clause-asked : goal.returns-clause-asked
-returns-clause-asked g c =
+pub returns-in_ok-stopped-in-Retry-clause-asked : goal.returns-in_ok-stopped-in-Retry-clause-asked
+returns-in_ok-stopped-in-Retry-clause-asked g c =
     let e = c.args.self.now in
     let a = c.args.atoms.now in
     let x = c.resume-back.new.self in
     let r = c.in-Retry in
     retry_asks_for (g.W.A.Atoms.held a) (g.W.World.told c.args.world.now) e x r.goal r.generation r.place r.next c.requires.fails
     (subst (IsTaken e.search x) r.is c.resume-back.ensures.taken) (g.W.A.Atoms.asked a) (g.W.A.Atoms.asked c.retry.new.atoms) c.retry.ensures.asked
+
+pub retry_line-requires-clause-held : goal.retry_line-requires-clause-held
+retry_line-requires-clause-held g c =
+    let e = c.args.self.now in
+    let a = c.args.atoms.now in
+    let m = g.W.A.Atoms.held a in
+    let t = g.W.World.told c.args.world.now in
+    let x = c.resume-back.new.self in
+    let r = c.in-Answers in
+    line_held m t e.search x e.doing r.goal r.line r.next c.requires.ready.stable (subst (IsTaken e.search x) r.is c.resume-back.ensures.taken)
+    (g.met.W.A.Atoms.fixed_held a) (g.met.W.A.Atoms.unlike a) (g.met.W.A.Atoms.finite a)
+
+pub returns-in_ok-stopped-in-Answers-clause-given : goal.returns-in_ok-stopped-in-Answers-clause-given
+returns-in_ok-stopped-in-Answers-clause-given g c =
+    let e = c.args.self.now in
+    let a = c.retry_line.new.atoms in
+    let m = g.W.A.Atoms.held c.args.atoms.now in
+    let n = g.W.A.Atoms.held a in
+    let t = g.W.World.told c.args.world.now in
+    let view = view_is n t (g.met.W.A.Atoms.fixed_held a) (g.met.W.A.Atoms.unlike a) (g.met.W.A.Atoms.finite a) in
+    let x = c.resume-back.new.self in
+    let r = c.in-Answers in
+    let s = c.in_ok-stopped-in-Answers in
+    let taken = subst (IsTaken e.search x) r.is c.resume-back.ensures.taken in
+    let step = retried_step m n t t e x c.retry_line.new.self (Answers r.goal r.line r.next) tt c.retry_line.ensures.holds view c.requires.ready c.requires.fails
+    c.resume-back.ensures.kept s.ensures.whole s.stopped (s.ensures.gone t) taken
+    (λ q fails. sym (ap (back_result q x) r.is) ∙ c.resume-back.ensures.step q fails) in
+    step.3
+
+pub returns-in_ok-stopped-in-Answers-clause-spent : goal.returns-in_ok-stopped-in-Answers-clause-spent
+returns-in_ok-stopped-in-Answers-clause-spent g c =
+    let e = c.args.self.now in
+    let a = c.retry_line.new.atoms in
+    let m = g.W.A.Atoms.held c.args.atoms.now in
+    let n = g.W.A.Atoms.held a in
+    let t = g.W.World.told c.args.world.now in
+    let view = view_is n t (g.met.W.A.Atoms.fixed_held a) (g.met.W.A.Atoms.unlike a) (g.met.W.A.Atoms.finite a) in
+    let x = c.resume-back.new.self in
+    let r = c.in-Answers in
+    let s = c.in_ok-stopped-in-Answers in
+    let taken = subst (IsTaken e.search x) r.is c.resume-back.ensures.taken in
+    let step = retried_step m n t t e x c.retry_line.new.self (Answers r.goal r.line r.next) tt c.retry_line.ensures.holds view c.requires.ready c.requires.fails
+    c.resume-back.ensures.kept s.ensures.whole s.stopped (s.ensures.gone t) taken
+    (λ q fails. sym (ap (back_result q x) r.is) ∙ c.resume-back.ensures.step q fails) in
+    step.2
+
+pub returns-in_ok-stopped-in-Answers-clause-ready : goal.returns-in_ok-stopped-in-Answers-clause-ready
+returns-in_ok-stopped-in-Answers-clause-ready g c =
+    let e = c.args.self.now in
+    let a = c.retry_line.new.atoms in
+    let m = g.W.A.Atoms.held c.args.atoms.now in
+    let n = g.W.A.Atoms.held a in
+    let t = g.W.World.told c.args.world.now in
+    let view = view_is n t (g.met.W.A.Atoms.fixed_held a) (g.met.W.A.Atoms.unlike a) (g.met.W.A.Atoms.finite a) in
+    let x = c.resume-back.new.self in
+    let r = c.in-Answers in
+    let s = c.in_ok-stopped-in-Answers in
+    let taken = subst (IsTaken e.search x) r.is c.resume-back.ensures.taken in
+    let step = retried_step m n t t e x c.retry_line.new.self (Answers r.goal r.line r.next) tt c.retry_line.ensures.holds view c.requires.ready c.requires.fails
+    c.resume-back.ensures.kept s.ensures.whole s.stopped (s.ensures.gone t) taken
+    (λ q fails. sym (ap (back_result q x) r.is) ∙ c.resume-back.ensures.step q fails) in
+    step.1
+
+pub returns-in_ok-stopped-in-Answers-clause-stepped : goal.returns-in_ok-stopped-in-Answers-clause-stepped
+returns-in_ok-stopped-in-Answers-clause-stepped g c =
+    let e = c.args.self.now in
+    let a = c.retry_line.new.atoms in
+    let m = g.W.A.Atoms.held c.args.atoms.now in
+    let n = g.W.A.Atoms.held a in
+    let t = g.W.World.told c.args.world.now in
+    let view = view_is n t (g.met.W.A.Atoms.fixed_held a) (g.met.W.A.Atoms.unlike a) (g.met.W.A.Atoms.finite a) in
+    let x = c.resume-back.new.self in
+    let r = c.in-Answers in
+    let s = c.in_ok-stopped-in-Answers in
+    let taken = subst (IsTaken e.search x) r.is c.resume-back.ensures.taken in
+    let step = retried_step m n t t e x c.retry_line.new.self (Answers r.goal r.line r.next) tt c.retry_line.ensures.holds view c.requires.ready c.requires.fails
+    c.resume-back.ensures.kept s.ensures.whole s.stopped (s.ensures.gone t) taken
+    (λ q fails. sym (ap (back_result q x) r.is) ∙ c.resume-back.ensures.step q fails) in
+    step.0
+
+pub returns-in_err-stopped-in-Answers-clause-asked : goal.returns-in_err-stopped-in-Answers-clause-asked
+returns-in_err-stopped-in-Answers-clause-asked g c =
+    let e = c.args.self.now in
+    let a = c.args.atoms.now in
+    let x = c.resume-back.new.self in
+    let r = c.in-Answers in
+    line_asks_for (g.W.A.Atoms.held a) (g.W.World.told c.args.world.now) e x r.goal r.line r.next c.requires.fails
+    (subst (IsTaken e.search x) r.is c.resume-back.ensures.taken) (g.W.A.Atoms.asked a) (g.W.A.Atoms.asked c.retry_line.new.atoms) c.retry_line.ensures.asked
+
+pub returns-in_ok-stopped-in-Answers-clause-asked : goal.returns-in_ok-stopped-in-Answers-clause-asked
+returns-in_ok-stopped-in-Answers-clause-asked g c =
+    let e = c.args.self.now in
+    let a = c.args.atoms.now in
+    let x = c.resume-back.new.self in
+    let r = c.in-Answers in
+    line_asks_for (g.W.A.Atoms.held a) (g.W.World.told c.args.world.now) e x r.goal r.line r.next c.requires.fails
+    (subst (IsTaken e.search x) r.is c.resume-back.ensures.taken) (g.W.A.Atoms.asked a) (g.W.A.Atoms.asked c.retry_line.new.atoms) c.retry_line.ensures.asked
+
+pub returns-in_ok-self-in-Found-clause-ready : goal.returns-in_ok-self-in-Found-clause-ready
+returns-in_ok-self-in-Found-clause-ready g c =
+    let e = c.args.self.now in
+    let a = c.args.atoms.now in
+    let m = g.W.A.Atoms.held a in
+    let t = g.W.World.told c.args.world.now in
+    let view = view_is m t (g.met.W.A.Atoms.fixed_held a) (g.met.W.A.Atoms.unlike a) (g.met.W.A.Atoms.finite a) in
+    let x = c.resume-back.new.self in
+    let r = c.in-Found in
+    let b = Found r.list r.found r.next in
+    let k = c.in_ok-self-in-Found in
+    let f = c.give_list.new.search in
+    let new : Engine = record e { search = f; doing = k.field-0 } in
+    let steps = found_steps e.wanted e.given e.search x f e.doing k.field-0 b c.requires.fails
+    (λ q h. fails_to q e.search (back_result q x b) h (sym (ap (back_result q x) r.is) ∙ c.resume-back.ensures.step q h)) k.ensures.stands in
+    step_ready m t e new steps k.ensures.whole view c.requires.ready
+
+pub returns-in_ok-self-in-Found-clause-stepped : goal.returns-in_ok-self-in-Found-clause-stepped
+returns-in_ok-self-in-Found-clause-stepped g c =
+    let e = c.args.self.now in
+    let a = c.args.atoms.now in
+    let m = g.W.A.Atoms.held a in
+    let t = g.W.World.told c.args.world.now in
+    let view = view_is m t (g.met.W.A.Atoms.fixed_held a) (g.met.W.A.Atoms.unlike a) (g.met.W.A.Atoms.finite a) in
+    let x = c.resume-back.new.self in
+    let r = c.in-Found in
+    let b = Found r.list r.found r.next in
+    let k = c.in_ok-self-in-Found in
+    let f = c.give_list.new.search in
+    let new : Engine = record e { search = f; doing = k.field-0 } in
+    let steps = found_steps e.wanted e.given e.search x f e.doing k.field-0 b c.requires.fails
+    (λ q h. fails_to q e.search (back_result q x b) h (sym (ap (back_result q x) r.is) ∙ c.resume-back.ensures.step q h)) k.ensures.stands in
+    advance_step m t e new steps (k.ensures.budgets ∙ ap (λ (s : Search). s.budgets) c.resume-back.ensures.kept) refl refl view
+
+pub returns-in_ok-self-in-Found-clause-spent : goal.returns-in_ok-self-in-Found-clause-spent
+returns-in_ok-self-in-Found-clause-spent g c =
+    let e = c.args.self.now in
+    let a = c.args.atoms.now in
+    let m = g.W.A.Atoms.held a in
+    let t = g.W.World.told c.args.world.now in
+    let view = view_is m t (g.met.W.A.Atoms.fixed_held a) (g.met.W.A.Atoms.unlike a) (g.met.W.A.Atoms.finite a) in
+    let x = c.resume-back.new.self in
+    let r = c.in-Found in
+    let b = Found r.list r.found r.next in
+    let k = c.in_ok-self-in-Found in
+    let f = c.give_list.new.search in
+    spent_by e.wanted e.given e.search e.doing f k.field-0 m t
+    (found_steps e.wanted e.given e.search x f e.doing k.field-0 b c.requires.fails
+    (λ q h. fails_to q e.search (back_result q x b) h (sym (ap (back_result q x) r.is) ∙ c.resume-back.ensures.step q h)) k.ensures.stands)
+    view
+
+pub returns-in_err-self-in-Found-clause-asked : goal.returns-in_err-self-in-Found-clause-asked
+returns-in_err-self-in-Found-clause-asked g c = let asked = g.W.A.Atoms.asked c.args.atoms.now in nothing_asked _ asked asked refl
+
+pub returns-in_ok-self-in-Found-clause-asked : goal.returns-in_ok-self-in-Found-clause-asked
+returns-in_ok-self-in-Found-clause-asked g c = let asked = g.W.A.Atoms.asked c.args.atoms.now in nothing_asked _ asked asked refl

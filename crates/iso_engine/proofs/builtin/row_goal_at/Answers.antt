@@ -1,0 +1,35 @@
+use Rattle.std.proofs.Common.{[], refl, sym, ap, subst, ◌∙◌}
+use Rattle.pl_term.specs.Tree.{atom, int, var}
+use Rattle.builtin_names.specs.Laws.{TellsRows}
+use Rattle.builtin_names.specs.Predicates.{has_row}
+use Rattle.term_store.specs.Heap.{atom_name}
+use Rattle.term_store.specs.Contents.{term_at}
+use Rattle.iso_search.specs.Spelling.{text_of}
+use Rattle.iso_engine.proofs.Builtins.{alone_no_lines, compound_no_lines}
+use Rattle.iso_engine.proofs.builtin.row_goal_at.Goals as goal
+
+pub returns-in-Variable : goal.returns-in-Variable
+returns-in-Variable c v view =
+    alone_no_lines (text_of v.names) (term_at c.args.store.now c.args.goal) (var c.in-Variable.field-0) c.in-Variable.ensures refl
+
+pub returns-in-Integer : goal.returns-in-Integer
+returns-in-Integer c v view =
+    alone_no_lines (text_of v.names) (term_at c.args.store.now c.args.goal) (int c.in-Integer.field-0) c.in-Integer.ensures refl
+
+pub returns-in-Atom : goal.returns-in-Atom
+returns-in-Atom c v view =
+    alone_no_lines (text_of v.names) (term_at c.args.store.now c.args.goal) (atom (atom_name c.in-Atom.field-0)) c.in-Atom.ensures refl
+
+pub returns-in_default : goal.returns-in_default
+returns-in_default c v view =
+    let p = c.predicate_of-found in
+    let a = c.in-Compound.arguments in
+    compound_no_lines v view c.args.store.now c.args.goal c.in-Compound.name a c.in-Compound.ensures.0 c.in-Compound.ensures.1.0 c.in-Compound.ensures.1.1
+    p.result (ap has_row c.in_default.is) (subst (λ k. TellsRows c.in-Compound.name k p.result) c.len.ensures p.ensures.rows)
+
+pub returns-then-not-is_row : goal.returns-then-not-is_row
+returns-then-not-is_row c v view =
+    let p = c.predicate_of-found in
+    let a = c.in-Compound.arguments in
+    compound_no_lines v view c.args.store.now c.args.goal c.in-Compound.name a c.in-Compound.ensures.0 c.in-Compound.ensures.1.0 c.in-Compound.ensures.1.1
+    p.result (ap has_row c.in-Some.is ∙ sym c.is_row.ensures ∙ c.if-not-is_row.true) (subst (λ k. TellsRows c.in-Compound.name k p.result) c.len.ensures p.ensures.rows)
