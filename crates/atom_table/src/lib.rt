@@ -7,6 +7,8 @@
 
 mod atoms;
 mod collecting;
+#[cfg(test)]
+mod cycling;
 mod interning;
 mod making;
 mod marking;

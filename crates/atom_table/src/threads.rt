@@ -51,7 +51,7 @@ fn intern_all(alloc: Global, atoms: &mut TableAtoms) -> Result<Vec<u32>, Memory>
 }
 
 // The atoms of eight engines.
-fn eight<'a>(
+pub fn eight<'a>(
     alloc: Global,
     table: &'a AtomTable,
     seats: &mut Vec<AtomSeat>,
@@ -98,7 +98,7 @@ fn agree(found: &[Result<Vec<u32>, Memory>], slots: &[u32]) -> bool {
 }
 
 #[test]
-fn eight_threads_have_one_atom_for_each_text(rt: HostRuntime) -> Result<(), Fail> {
+pub fn eight_threads_have_one_atom_for_each_text(rt: HostRuntime) -> Result<(), Fail> {
     let alloc = rt.alloc();
     let Opened {
         table,

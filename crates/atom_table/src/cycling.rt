@@ -1,0 +1,108 @@
+//! A cycle of collection, up to its sweep, with one engine after the other and with eight at once.
+ghost use Rattle.atom_words.specs.Seats.{seen, Walking};
+ghost use Rattle.atom_table.specs.Holding.{Sits, IsEngine};
+
+use crate::atoms::TableAtoms;
+use crate::collecting::Turn;
+use crate::marking::Marked;
+use crate::opening::Opened;
+use crate::seats::Collector;
+use crate::table::AtomTable;
+use crate::tests::take_last;
+use crate::threads::eight;
+use atom_api::{Atoms, Interned};
+use atom_words::AtomSeat;
+use pl_term::{Memory, Text};
+use std::alloc::Global;
+use std::test::Fail;
+use std::thread;
+use sweep_core::Checked;
+
+// What the engine finds, as it takes part in a cycle with the atom of a text alone.
+fn mark_one(table: &AtomTable, seat: &mut AtomSeat, text: &Text) -> Option<Marked>
+    requires sits { Sits table.now.words seat.old }
+    requires walking { Walking (seen seat.old) }
+    requires engine { IsEngine (seen seat.old) }
+    ensures sits { Sits table.now.words seat.new }
+    ensures walking { Walking (seen seat.new) }
+    ensures engine { IsEngine (seen seat.new) }
+{
+    match table.intern(seat, text) {
+        Interned::Is(a) => Some(table.mark_and_ack(seat, &[a])),
+        _ => None,
+    }
+}
+
+// What a check finds, where the cycle marks.
+fn check(table: &AtomTable, collector: &mut Collector) -> Option<Checked>
+    requires sits { Sits table.now.words collector.old.seat }
+    ensures sits { Sits table.now.words collector.new.seat }
+{
+    if collector.word % 4 == 1 {
+        Some(table.check(collector))
+    } else {
+        None
+    }
+}
+
+#[test]
+fn a_cycle_waits_for_each_engine(rt: HostRuntime) -> Result<(), Fail> {
+    let Opened {
+        table,
+        mut seats,
+        keeper: _,
+        mut collector,
+    } = AtomTable::new(rt.alloc(), 512, 2)?;
+    let mut two = take_last(&table, &mut seats).ok_or("a seat")?;
+    let mut one = take_last(&table, &mut seats).ok_or("a seat")?;
+    let text = Text::from_str(rt.alloc(), "a")?;
+    assert_eq!(rt; mark_one(&table, &mut one, &text), Some(Marked::NoCycle(0)));
+    assert_eq!(rt; table.begin(&mut collector), Turn::Began(1));
+    assert_eq!(rt; table.begin(&mut collector), Turn::Running(5));
+    assert_eq!(rt; mark_one(&table, &mut one, &text), Some(Marked::Acked(1)));
+    assert_eq!(rt; mark_one(&table, &mut one, &text), Some(Marked::NoCycle(5)));
+    let not_yet = Checked::NotYet { engine: 2, seen: 0 };
+    assert_eq!(rt; check(&table, &mut collector), Some(not_yet));
+    assert_eq!(rt; mark_one(&table, &mut two, &text), Some(Marked::Acked(1)));
+    assert_eq!(rt; check(&table, &mut collector), Some(Checked::All));
+    assert_eq!(rt; check(&table, &mut collector), None);
+    assert_eq!(rt; table.begin(&mut collector), Turn::Running(6));
+    assert_eq!(rt; mark_one(&table, &mut one, &text), Some(Marked::NoCycle(6)));
+    Ok(())
+}
+
+// Interns some texts, and takes part in a cycle with none of their atoms.
+fn intern_and_mark(alloc: Global, atoms: TableAtoms) -> Result<Marked, Memory> {
+    let mut atoms = atoms;
+    for i in 0..100u32 {
+        let name = format!(in alloc; "t{i}")?;
+        atoms.intern(&Text::from_str(alloc, name.as_str())?);
+    }
+    let table = atoms.table;
+    let mut seat = atoms.into_seat();
+    Ok(table.mark_and_ack(&mut seat, &[]))
+}
+
+#[test]
+fn eight_engines_acknowledge_at_once(rt: HostRuntime) -> Result<(), Fail> {
+    let alloc = rt.alloc();
+    let Opened {
+        table,
+        mut seats,
+        keeper: _,
+        mut collector,
+    } = AtomTable::new(alloc, 512, 8)?;
+    let all = eight(alloc, &table, &mut seats)?;
+    assert_eq!(rt; table.begin(&mut collector), Turn::Began(1));
+    let found = thread::map_vec(
+        &rt,
+        all,
+        &|atoms: TableAtoms| -> Result<Marked, Memory> { intern_and_mark(alloc, atoms) },
+    )?;
+    assert_eq!(rt; found.len(), 8);
+    for one in found {
+        assert_eq!(rt; one?, Marked::Acked(1));
+    }
+    assert_eq!(rt; check(&table, &mut collector), Some(Checked::All));
+    Ok(())
+}
