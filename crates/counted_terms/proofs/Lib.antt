@@ -7,3 +7,4 @@ pub mod Loops
 pub mod Listing
 pub mod Saying
 pub mod Exactly
+pub mod Comparing
