@@ -22,7 +22,7 @@ use Rattle.builtin_rows.specs.declared.row.Row.TheVariants.{Answer, Ball, CellsF
 use Rattle.builtin_rows.specs.Given.{given_texts}
 use Rattle.builtin_rows.specs.Rows.{IsRow, IsSingle, refusals_of, row_refusals}
 use Rattle.builtin_rows.specs.Steps.{IsPlainRow}
-use Rattle.term_tests.specs.Tests.{Answers}
+use Rattle.builtin_term.specs.TestRows.{Answers}
 use Rattle.builtin_dispatch.specs.Dispatching.{Does, Dispatches, HasLines, IsGivenText, answer_refusals, given_by, some_row}
 use Rattle.builtin_dispatch.specs.Unbuilt.{is_unbuilt_row}
 

@@ -10,10 +10,10 @@ ghost use Rattle.builtin_dispatch.specs.Dispatching.{Does, answer_refusals};
 
 use builtin_names::Pred;
 use builtin_rows::Row;
+use builtin_term::type_test;
 use pl_term::Memory;
 use std::alloc::Global;
 use term_store::{Place, Store};
-use term_tests::type_test;
 
 /// The row of a predicate for its argument. The only error is out of memory.
 pub fn row_of_one(

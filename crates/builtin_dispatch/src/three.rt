@@ -12,11 +12,10 @@ use crate::built::built;
 use atom_api::Atoms;
 use builtin_names::Pred;
 use builtin_rows::Row;
+use builtin_term::{arg, compare, functor};
 use pl_term::Memory;
 use std::alloc::Global;
-use term_parts::{arg, functor};
 use term_store::{Place, Store};
-use term_tests::compare;
 
 /// The row of a predicate for its three arguments. The only error is out of memory.
 pub fn row_of_three<A: Atoms>(

@@ -14,13 +14,13 @@ use atom_api::Atoms;
 use builtin_atom::{atom_length, char_code};
 use builtin_names::Pred;
 use builtin_rows::Row;
+use builtin_term::{
+    comparison, copy_term, keysort, msort, not_unifiable, sort, subsumes_term, term_variables,
+    unifies, univ,
+};
 use pl_term::Memory;
 use std::alloc::Global;
-use term_lists::{keysort, univ};
-use term_order::{msort, sort};
-use term_parts::{copy_term, term_variables};
 use term_store::{Place, Store};
-use term_tests::{comparison, not_unifiable, subsumes_term, unifies};
 use term_values::{Comparison, compare_values, evaluate};
 
 /// The row of a predicate for its two arguments. The only error is out of memory.

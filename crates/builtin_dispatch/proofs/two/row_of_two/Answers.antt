@@ -13,9 +13,8 @@ use Rattle.builtin_names.specs.declared.predicates.Pred.TheVariants as pred
 use Rattle.builtin_names.specs.Predicates.{name_of}
 use Rattle.builtin_rows.specs.Rows.{IsRow}
 use Rattle.builtin_rows.specs.Given.{given}
-use Rattle.term_order.specs.Lists.{IsNaming}
-use Rattle.term_parts.specs.Texts as parts
-use Rattle.term_tests.specs.Names.{AreNames}
+use Rattle.builtin_rows.specs.Lists.{IsNaming}
+use Rattle.builtin_term.specs.TestRows.{AreNames}
 use Rattle.term_values.specs.Texts as values
 use Rattle.term_values.specs.Comparing.{holds_by}
 use Rattle.builtin_dispatch.specs.Comparisons.{pred_of}
@@ -121,8 +120,8 @@ returns-in-TermVariables g c =
     let t = reads m s c.args.first in
     let u = reads m s c.args.second in
     let next = c.args.next in
-    let texts : parts.AreTexts m =
-    record { standing = g.met.A.Atoms.fixed_held c.args.atoms.now; unlike = g.met.A.Atoms.unlike c.args.atoms.now } in
+    let texts : IsNaming m =
+    record { stands = g.met.A.Atoms.fixed_held c.args.atoms.now; unlike = g.met.A.Atoms.unlike c.args.atoms.now } in
     let refused = g.A.Atoms.refusals c.args.atoms.now in
     let asked = g.A.Atoms.asked c.args.atoms.now in
     settled s c.term_variables.new.store c.args.pred pred.TermVariables (two t u) next m m refused refused asked asked

@@ -1,0 +1,34 @@
+use Rattle.std.proofs.Common.{◌≡◌, [], length, refl, ◌∙◌, sym, arith}
+use Rattle.std.proofs.lemmas.List.Elements.{All-push, All-same}
+use Rattle.std.proofs.Common.{◌∷◌, ◌++◌}
+use Rattle.term_store.specs.Contents.{Holds, arguments_at}
+use Rattle.builtin_term.specs.VariableWalks.{pending}
+use Rattle.builtin_term.proofs.Compounds.{how_many}
+use Rattle.builtin_term.proofs.VariableWalking.{push_begins, push_more}
+use Rattle.builtin_term.proofs.variable_walk.push_arguments.Goals as goal
+
+pub loop-i-init : goal.loop-i-init
+loop-i-init c =
+    let s = c.args.store.now in
+    let a = c.args.arguments in
+    record {
+      within = omega arith;
+      inside = c.requires.walk;
+      pushed = push_begins s (arguments_at s a) c.args.walk.now.items c.args.walk.now.items c.len-i.result (how_many s a c.requires.arguments ∙ sym c.len-i.ensures) refl;
+    }
+
+pub loop-i-preserved : goal.loop-i-preserved
+loop-i-preserved c =
+    let s = c.args.store.now in
+    let a = c.args.arguments in
+    let ws = c.loop-i.walk.items in
+    let p = c.argument.result in
+    let within = c.loop-i.invariant.within in
+    let long : length (arguments_at s a) ≡ a.count = how_many s a c.requires.arguments in
+    record {
+      within = omega arith;
+      inside = All-same (Holds s) c.push.new.self.items (ws ++ p ∷ []) c.in_ok-push.ensures.items (All-push (Holds s) ws p c.loop-i.invariant.inside c.argument.ensures.holds);
+      pushed =
+          push_more s (arguments_at s a) (pending s c.args.walk.now.items) ws c.push.new.self.items p c.loop-i.i (omega arith) (omega arith)
+          c.loop-i.invariant.pushed c.argument.ensures.stands c.in_ok-push.ensures.items;
+    }

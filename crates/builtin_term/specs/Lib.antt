@@ -1,0 +1,16 @@
+pub mod Argument
+pub mod Composition
+pub mod Faults
+pub mod Functor
+pub mod Giving
+pub mod Heads
+pub mod Items
+pub mod KeyedPairs
+pub mod Kinds
+pub mod Orders
+pub mod Pending
+pub mod Renaming
+pub mod Sorting
+pub mod TermWalks
+pub mod TestRows
+pub mod VariableWalks

@@ -1,0 +1,44 @@
+-- Comparisons by what the standard order of two terms is, and signs of orders.
+use Rattle.std.specs.Prelude.{ℕ, Bool, true, false, ◌||◌, Option, Some, None, bytes_eq, if◌then◌else◌}
+use Rattle.std.specs.declared.cmp.Ordering.{Ordering}
+use Rattle.std.specs.declared.cmp.Ordering.TheVariants.{Less, Equal, Greater}
+use Rattle.pl_term.specs.Tree.{Chars, Tree, var, int, atom, comp}
+use Rattle.builtin_names.specs.declared.predicates.Pred.{Pred}
+use Rattle.builtin_names.specs.declared.predicates.Pred.TheVariants as pred
+use Rattle.term_store.specs.Heap.{atom_name}
+use Rattle.builtin_term.specs.declared.orders.Orders.{Orders}
+use Rattle.builtin_term.specs.declared.signs.Sign.{Sign}
+use Rattle.builtin_term.specs.declared.signs.Sign.TheVariants.{Fits, NoAtom, NoSign}
+
+abbrev pub orders : Bool → Bool → Bool → Orders
+orders l e g = record { less = l; equal = e; greater = g }
+
+abbrev pub orders_of : Pred → Option Orders
+orders_of pred.Identical = Some (orders false true false)
+orders_of pred.NotIdentical = Some (orders true false true)
+orders_of pred.TermLess = Some (orders true false false)
+orders_of pred.TermLessOrEqual = Some (orders true true false)
+orders_of pred.TermGreater = Some (orders false false true)
+orders_of pred.TermGreaterOrEqual = Some (orders false true true)
+orders_of _ = None
+
+abbrev pub admits : Orders → Ordering → Bool
+admits w Less = w.less
+admits w Equal = w.equal
+admits w Greater = w.greater
+
+-- The numbers of the atoms `<`, `=` and `>`.
+abbrev pub sign_number : Ordering → ℕ
+sign_number Less = 14
+sign_number Equal = 16
+sign_number Greater = 22
+
+abbrev pub is_sign_name : Chars → Bool
+is_sign_name f = bytes_eq f (atom_name 14) || (bytes_eq f (atom_name 16) || bytes_eq f (atom_name 22))
+
+-- What is wrong with the first argument of compare/3.
+abbrev pub sign_at : Tree → Sign
+sign_at (var x) = Fits
+sign_at (int i) = NoAtom
+sign_at (atom f) = if is_sign_name f then Fits else NoSign
+sign_at (comp f t ts) = NoAtom

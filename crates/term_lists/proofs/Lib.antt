@@ -1,6 +1,0 @@
-mod Cells
-mod Composed
-mod Keyed
-mod KeyRows
-mod Keys
-mod Parts

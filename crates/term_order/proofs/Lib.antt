@@ -1,9 +1,0 @@
-pub mod Answering
-pub mod Keying
-pub mod Listing
-pub mod Merging
-pub mod OrderLaws
-pub mod Repeating
-pub mod Seeing
-pub mod Stacking
-pub mod Weaving

@@ -1,9 +1,0 @@
-use Rattle.term_tests.proofs.Passing.{ground_passed}
-use Rattle.term_tests.proofs.type_tests.is_passed.Goals as goal
-
-pub returns-in_ok-ground-in-Ground : goal.returns-in_ok-ground-in-Ground
-returns-in_ok-ground-in-Ground c m =
-    ground_passed c.args.pred m c.args.store.now c.args.term c.in_ok-ground-in-Ground.ground c.in-Ground.is c.in_ok-ground-in-Ground.ensures
-
-pub returns-in_default : goal.returns-in_default
-returns-in_default c m = c.is_passed_by_kind.ensures m c.in_default.not-Ground

@@ -1,6 +1,0 @@
-use Rattle.term_tests.proofs.Rooms.{both_stand}
-use Rattle.term_tests.proofs.unifying.unifies.Goals as goal
-
-pub returns-clause-row : goal.returns-clause-row
-returns-clause-row c =
-    both_stand c.args.store.now c.answered.new.store c.answered.result c.in_ok-places.places c.args.right c.in_ok-places.ensures.items c.answered.ensures.row

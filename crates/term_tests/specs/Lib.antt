@@ -1,6 +1,0 @@
-pub mod Kinds
-pub mod Names
-pub mod Orders
-pub mod Renaming
-pub mod Tests
-pub mod Walks
