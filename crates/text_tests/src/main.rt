@@ -1,10 +1,11 @@
 //! Runs the rows of the files that the command line names by the public calls of the reader, the writer, the table of
-//! operators and the report, and writes each row that gives something else than it says, and the counts. README.md
+//! operators, the database and the report, and writes each row that gives something else than it says, and the counts. README.md
 //! says how a row is written.
 #![tactic(auto)]
 
 mod cells;
 mod characters;
+mod database;
 mod fields;
 mod files;
 mod lexemes;
@@ -119,7 +120,7 @@ fn result_of(alloc: Global, settings: &Settings, fields: &mut Fields) -> Result<
     }
 }
 
-/// What comes of a row about a store of terms, or about files.
+/// What comes of a row about a store of terms, a database, or files.
 fn result_of_store(alloc: Global, kind: &str, fields: &mut Fields) -> Result<Vec<u8>> {
     match kind {
         "unified" => unification::unified_terms(alloc, fields),
@@ -133,6 +134,7 @@ fn result_of_store(alloc: Global, kind: &str, fields: &mut Fields) -> Result<Vec
         "seen" => store::seen(alloc, fields),
         "bound" => store::bound(alloc, fields),
         "cells" => store::cells(alloc, fields),
+        "database" => database::answers(alloc, fields),
         "files" => files::file_read(alloc, fields),
         "replaced" => files::file_replaced(alloc, fields),
         "one_text" => files::one_text(alloc, fields),
