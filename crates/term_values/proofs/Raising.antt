@@ -13,7 +13,7 @@ use Rattle.world_builtins.specs.Naming.{IsHeldAt, atoms_in}
 use Rattle.world_builtins.specs.Spelling.{reads, spelled, text_of}
 use Rattle.builtin_rows.specs.Given.{thrown}
 use Rattle.builtin_rows.specs.declared.row.Row.{Row}
-use Rattle.builtin_rows.specs.declared.row.Row.TheVariants.{Fails, Holds, Answer, Table, Ball, CellsFull, NeedsAtoms, Retry, Worn}
+use Rattle.builtin_rows.specs.declared.row.Row.TheVariants.{Fails, Holds, Answer, Line, Ball, CellsFull, NeedsAtoms, Retry, Worn}
 use Rattle.builtin_rows.specs.Rows.{IsRow, Makes, row_refusals}
 use Rattle.builtin_rows.proofs.Balls.{fixed_held, makes_again, text_is}
 use Rattle.term_values.specs.declared.values.ValueFault.TheVariants.{NoEvaluable}
@@ -91,7 +91,7 @@ pub row_since : (s t u : Contents) → Makes s zero zero zero t → (next : ℕ)
 row_since s t u made next ts b m Fails e h = absurd h
 row_since s t u made next ts b m Holds e h = absurd h
 row_since s t u made next ts b m (Answer ps fresh) e h = absurd h
-row_since s t u made next ts b m (Table pss) e h = absurd h
+row_since s t u made next ts b m (Line ps following) e h = absurd h
 row_since s t u made next ts b m (Ball w) e h =
     let g = h.1.0 in
     (h.0, (makes_again next s t u made (record { others = g.others; adds = g.adds; numbers = g.numbers; used = g.used; budget = g.budget }), h.1.1))
