@@ -29,11 +29,10 @@ journey(From, To, Time, Seen, [N|Ns]) :-
 member(X, [X|_]).
 member(X, [_|L]) :- member(X, L).
 
-minutes([N|Ns], M) :-
-    train(N, _, Leaves, _, _),
-    last([N|Ns], End),
-    train(End, _, _, _, Arrives),
-    M is Arrives - Leaves.
+minutes(Ns, M) :- leaves(Ns, L), arrives(Ns, A), M is A - L.
+
+leaves([N|_], L) :- train(N, _, L, _, _).
+arrives(Ns, A) :- last(Ns, N), train(N, _, _, _, A).
 
 last([X], X) :- !.
 last([_|L], X) :- last(L, X).
@@ -43,7 +42,7 @@ journeys(From, To, Journeys) :-
     keysort(Found, Journeys).
 
 earliest(From, To, Time, Trains) :-
-    findall(A - Ns, ( journey(From, To, Ns), Ns = [N|_], train(N, _, L, _, _), L >= Time, last(Ns, E), train(E, _, _, _, A) ), Found),
+    findall(A - Ns, ( journey(From, To, Ns), leaves(Ns, L), L >= Time, arrives(Ns, A) ), Found),
     keysort(Found, [_ - Trains|_]).
 
 departures(Station, Departures) :-
