@@ -15,9 +15,9 @@ use Rattle.run_model.specs.Execution.{Job, consults, bytes_in, at_start, first_e
 use Rattle.pl_model.specs.Resolution.{Ending, solved, no_more, threw, exited, halted}
 use Rattle.run_model.specs.Report.{with_consulted, all_consulted}
 use Rattle.std.proofs.lemmas.Bool.{lt-ltb}
-use Rattle.pl_report.specs.declared.parts.How.{How}
-use Rattle.pl_report.specs.declared.parts.How.TheVariants.{False, Threw, Halted}
-use Rattle.pl_report.specs.Reported.{IsEnding}
+use Rattle.pl_model.specs.declared.ends.How.{How}
+use Rattle.pl_model.specs.declared.ends.How.TheVariants.{False, Threw, Halted}
+use Rattle.run_model.specs.Lawful.{EndsSo}
 use Rattle.pl_consult.specs.declared.consult.Consult.{Consult}
 use Rattle.pl_consult.specs.Consults.{is_too_large, first_place, first_lines, rest_of, activity_of, Stands, Does, Took}
 use Rattle.pl_consult.specs.declared.consult.Place.{Place}
@@ -187,31 +187,31 @@ first_stands c job bytes words out script text later place lines =
     )
 
 -- How a directive ended.
-failed_only : (e : Ending) → IsEnding False e → e ≡ no_more
+failed_only : (e : Ending) → EndsSo e False → e ≡ no_more
 failed_only solved h = absurd h
 failed_only no_more h = refl
 failed_only (threw b) h = absurd h
 failed_only (exited u) h = absurd h
 failed_only (halted n) h = absurd h
 
-threw_only : (t : Tree) (e : Ending) → IsEnding (Threw t) e → e ≡ threw t
+threw_only : (t : Tree) (e : Ending) → EndsSo e (Threw t) → e ≡ threw t
 threw_only t solved h = absurd h
 threw_only t no_more h = absurd h
-threw_only t (threw b) h = ap threw (sym h)
+threw_only t (threw b) h = ap threw h
 threw_only t (exited u) h = absurd h
 threw_only t (halted n) h = absurd h
 
-halted_only : (n : ℕ) (e : Ending) → IsEnding (Halted n) e → e ≡ halted n
+halted_only : (n : ℕ) (e : Ending) → EndsSo e (Halted n) → e ≡ halted n
 halted_only n solved h = absurd h
 halted_only n no_more h = absurd h
 halted_only n (threw b) h = absurd h
 halted_only n (exited u) h = absurd h
-halted_only n (halted k) h = ap halted (sym h)
+halted_only n (halted k) h = ap halted h
 
 -- The line for a directive that failed, and for one that ended with a ball.
-pub failed_stands : (c : Consult) (job : Job) (x : Execution) (p : Place) (place : ℕ) (how : How) (e : Ending) (ops : OperatorTable) (old new : List ℕ)
+pub failed_stands : (c : Consult) (job : Job) (x : Execution) (p : Place) (place : ℕ) (how : How Tree) (e : Ending) (ops : OperatorTable) (old new : List ℕ)
     → how ≡ False
-    → IsEnding how e
+    → EndsSo e how
     → Stands c job x old
     → new ≡ encode_utf8_all (with_consulted c.name (all_consulted c.name [] x.consulted) (directive_failed place))
     → Stands c job (reported x place (rest_of p) e ops) new
@@ -219,12 +219,12 @@ failed_stands c job x p place how e ops old new is ends s put =
     let z : Execution = with_line x (directive_failed place) in
     subst
     (λ (f : Ending). Stands c job (reported x place (rest_of p) f ops) new)
-    (sym (failed_only e (subst (λ (h : How). IsEnding h e) is ends)))
+    (sym (failed_only e (subst (λ (h : How Tree). EndsSo e h) is ends)))
     (gone_stands c job z (rest_of p) new (stands_line c job x z old new (directive_failed place) s refl refl put))
 
-pub threw_stands : (c : Consult) (job : Job) (x : Execution) (p : Place) (place : ℕ) (how : How) (ball : Tree) (e : Ending) (ops : OperatorTable) (old new : List ℕ)
+pub threw_stands : (c : Consult) (job : Job) (x : Execution) (p : Place) (place : ℕ) (how : How Tree) (ball : Tree) (e : Ending) (ops : OperatorTable) (old new : List ℕ)
     → how ≡ Threw ball
-    → IsEnding how e
+    → EndsSo e how
     → Stands c job x old
     → new ≡ encode_utf8_all (with_consulted c.name (all_consulted c.name [] x.consulted) (ball_of_item ops place ball))
     → Stands c job (reported x place (rest_of p) e ops) new
@@ -232,12 +232,12 @@ threw_stands c job x p place how ball e ops old new is ends s put =
     let z : Execution = with_line x (ball_of_item ops place ball) in
     subst
     (λ (f : Ending). Stands c job (reported x place (rest_of p) f ops) new)
-    (sym (threw_only ball e (subst (λ (h : How). IsEnding h e) is ends)))
+    (sym (threw_only ball e (subst (λ (h : How Tree). EndsSo e h) is ends)))
     (gone_stands c job z (rest_of p) new (stands_line c job x z old new (ball_of_item ops place ball) s refl refl put))
 
-pub halted_stands : (c : Consult) (job : Job) (x : Execution) (rest : Rest) (place : ℕ) (how : How) (n : ℕ) (e : Ending) (ops : OperatorTable) (old new : List ℕ)
+pub halted_stands : (c : Consult) (job : Job) (x : Execution) (rest : Rest) (place : ℕ) (how : How Tree) (n : ℕ) (e : Ending) (ops : OperatorTable) (old new : List ℕ)
     → how ≡ Halted n
-    → IsEnding how e
+    → EndsSo e how
     → Stands c job x old
     → new ≡ encode_utf8_all (with_consulted c.name (all_consulted c.name [] x.consulted) (directive_halted place n))
     → Stands c job (reported x place rest e ops) new
@@ -245,7 +245,7 @@ halted_stands c job x rest place how n e ops old new is ends s put =
     let z : Execution = record (with_line x (directive_halted place n)) { activity = over (halted n) } in
     subst
     (λ (f : Ending). Stands c job (reported x place rest f ops) new)
-    (sym (halted_only n e (subst (λ (h : How). IsEnding h e) is ends)))
+    (sym (halted_only n e (subst (λ (h : How Tree). EndsSo e h) is ends)))
     (stands_line c job x z old new (directive_halted place n) s refl refl put)
 
 -- What is written of a file that is too large.

@@ -8,3 +8,12 @@ pub mod Renumbered
 pub mod ItemTerms
 pub mod ConsultLemmas
 pub mod TakingLaws
+pub mod StepLaws
+pub mod LookLaws
+pub mod AddLaws
+pub mod FileLaws
+pub mod GivenLaws
+pub mod WordLaws
+pub mod GrowLaws
+pub mod ItemLaws
+pub mod NarrowLaws

@@ -4,3 +4,8 @@ pub mod Checks
 pub mod Items
 pub mod Consults
 pub mod Taking
+pub mod Steps
+pub mod ItemTexts
+pub mod GoalWords
+pub mod FileScripts
+pub mod TextLaws

@@ -8,7 +8,7 @@ ghost use Rattle.pl_model.specs.BodyChecks.{clause_of_term};
 ghost use Rattle.pl_model.specs.OperatorTable.{OperatorTable};
 ghost use Rattle.run_model.specs.Execution.{directive_of as goal_of_directive, initialization_of as goal_for_later, Job, consults, Execution, at_start, item_taken, with_term, with_clause, with_goal, clause_added, reported, next_initialization, behind_fault as rest_behind};
 ghost use Rattle.run_model.specs.Report.{all_consulted};
-ghost use Rattle.pl_report.specs.Reported.{IsEnding};
+ghost use Rattle.run_model.specs.Lawful.{EndsSo};
 ghost use Rattle.pl_consult.specs.declared.consult.Place.TheVariants.{Item};
 ghost use Rattle.pl_consult.specs.Consults.{is_too_large, first_place, first_lines, rest_of, activity_of, Stands, Took, Initializes};
 ghost use Rattle.pl_consult.specs.Taking.{IsTakenOf, IsTakenAt, HasPutOff, MayPutOff, IsNextOf, HasLost};
@@ -17,10 +17,11 @@ use crate::bodies::{Checked, checked_clause, few_variables};
 use crate::items::{directive_of, initialization_of};
 use crate::words::consulting_ball;
 use op_table::OpTable;
+use pl_model::ends::How;
 use pl_model::grammar::Quotes;
 use pl_model::syntax::SyntaxKind;
 use pl_report::{
-    How, put_failed_directive, put_halted_directive, put_no_atom_space, put_refused_item,
+    put_failed_directive, put_halted_directive, put_no_atom_space, put_refused_item,
     put_syntax_fault, put_too_large,
 };
 use pl_term::{Flat, Memory, Text};
@@ -201,7 +202,7 @@ impl Consult {
     }
 
     /// Writes on `out` that the clause of the item at the byte `place` is refused with this error term. The only error is
-    /// Out of memory.
+    /// out of memory.
     pub fn refuse(
         &self,
         alloc: Global,
@@ -218,25 +219,25 @@ impl Consult {
     }
 
     /// Writes on `out` how the directive of the item at the byte `place` ended, under these operators. The only error is
-    /// Out of memory.
+    /// out of memory.
     pub fn report(
         &self,
         alloc: Global,
         place: usize,
-        how: &How,
+        how: &How<Flat>,
         ops: &OpTable,
         out: &mut Vec<u8>,
     ) -> Result<(), Memory>
-        ensures { (job : Job) (x : Execution) (e : EndOfSearch) → Stands self.now job x out.old.items → IsEnding how.now e
+        ensures { (job : Job) (x : Execution) (e : EndOfSearch) → Stands self.now job x out.old.items → EndsSo e how.now
             → OnOk result (Stands self.now job (reported x place (rest_of self.now.place) e ops.now) out.new.items) }
     {
         match how {
             How::False => put_failed_directive(out, &self.name, place),
             How::Threw(ball) => put_refused_item(alloc, out, &self.name, place, ball, ops),
             How::Halted(status) => put_halted_directive(out, &self.name, place, *status),
-            How::AtomSpace => put_no_atom_space(out, &self.name, place),
+            How::AtomSpace(_) => put_no_atom_space(out, &self.name, place),
             How::Solved => Ok(()),
-            How::Exited => Ok(()),
+            How::Exited(_) => Ok(()),
         }
     }
 

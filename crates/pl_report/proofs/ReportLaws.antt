@@ -5,34 +5,25 @@ use Rattle.pl_term.specs.Tree.{Chars, Tree}
 use Rattle.pl_model.specs.OperatorTable.{OperatorTable}
 use Rattle.pl_model.specs.TermWriting.{writeq}
 use Rattle.pl_model.specs.declared.syntax.SyntaxKind.{SyntaxKind}
-use Rattle.pl_model.specs.declared.ends.How.{How as HowOf}
+use Rattle.pl_model.specs.declared.ends.How.{How}
 use Rattle.pl_model.specs.declared.ends.How.TheVariants.{Solved, False, Threw, Exited, Halted, AtomSpace}
 use Rattle.run_model.specs.Execution.{Execution, Refusal}
 use Rattle.run_model.specs.Lawful.{Beginning}
 use Rattle.run_model.specs.Report.{closed, stopped, with_output, output_of, with_end, with_last, goal_line, goal_text, refused_text, fault_text, texts, thread_name, thread_line, thread_section, of_thread}
-use Rattle.pl_report.specs.declared.parts.How.TheVariants as written
-use Rattle.pl_report.specs.declared.parts.GoalHow.{GoalHow}
-use Rattle.pl_report.specs.declared.parts.GoalHow.TheVariants.{Ended, Waits, Syntax}
+use Rattle.run_model.specs.declared.ends.GoalHow.{GoalHow}
+use Rattle.run_model.specs.declared.ends.GoalHow.TheVariants.{Ended, Waits, Syntax}
 use Rattle.pl_report.specs.declared.parts.SectionKind.TheVariants.{Goal, Thread}
-use Rattle.pl_report.specs.Sections.{fault_line, with_how, with_goal_how, thread_how_line, thread_last, thread_text, section_text}
-use Rattle.pl_report.specs.Reported.{Tells, IsEnough, written_of}
+use Rattle.pl_report.specs.Sections.{fault_line, with_goal_how, thread_how_line, thread_last, thread_text, section_text}
+use Rattle.pl_report.specs.Reported.{Tells, IsEnough}
 use Rattle.pl_report.proofs.LineLemmas.{closed_line}
 
-how_told : (ops : OperatorTable) (t : Chars) (end : HowOf Tree) → with_how ops t (written_of end) ≡ with_end ops t end
-how_told ops t Solved = refl
-how_told ops t False = refl
-how_told ops t (Threw b) = refl
-how_told ops t (Exited u) = refl
-how_told ops t (Halted n) = refl
-how_told ops t (AtomSpace found) = refl
-
-goal_told : (enough : Bool) (ops : OperatorTable) (t : Chars) (how : Option GoalHow) (end : Option (HowOf Tree))
+goal_told : (enough : Bool) (ops : OperatorTable) (t : Chars) (how : Option GoalHow) (end : Option (How Tree))
     → Tells how end → IsEnough enough end → with_goal_how enough ops t how ≡ with_last ops t end
 goal_told false ops t None end is ok = absurd is
 goal_told false ops t (Some (Ended how)) None is ok = absurd is
-goal_told false ops t (Some (Ended how)) (Some end) is ok = ap (with_how ops t) is ∙ how_told ops t end
-goal_told false ops t (Some Waits) None is ok = refl
-goal_told false ops t (Some Waits) (Some end) is ok = absurd is
+goal_told false ops t (Some (Ended how)) (Some end) is ok = ap (with_end ops t) is
+goal_told false ops t (Some (Waits on)) None is ok = refl
+goal_told false ops t (Some (Waits on)) (Some end) is ok = absurd is
 goal_told false ops t (Some (Syntax kind at)) end is ok = absurd is
 goal_told true ops t how None is ok = absurd ok
 goal_told true ops t how (Some Solved) is ok = refl
@@ -42,7 +33,7 @@ goal_told true ops t how (Some (Exited u)) is ok = absurd ok
 goal_told true ops t how (Some (Halted n)) is ok = absurd ok
 goal_told true ops t how (Some (AtomSpace found)) is ok = absurd ok
 
-pub goal_reported : (word : Chars) (enough : Bool) (names : List (Chars × ℕ)) (x : Execution) (how : Option GoalHow) (ops : OperatorTable) (end : Option (HowOf Tree))
+pub goal_reported : (word : Chars) (enough : Bool) (names : List (Chars × ℕ)) (x : Execution) (how : Option GoalHow) (ops : OperatorTable) (end : Option (How Tree))
     → Tells how end
     → IsEnough enough end
     → section_text (Goal word enough) (with_output names [] (output_of x)) how ops ≡ goal_line word ++ goal_text ops names x end
@@ -54,11 +45,11 @@ pub fault_reported : (word : Chars) (kind : SyntaxKind) (at : ℕ) (ops : Operat
 fault_reported word kind at ops = ap (λ t. goal_line word ++ t) (closed_line [] (fault_line kind at))
 
 pub refusal_reported : (word : Chars) (r : Refusal)
-    → section_text (Goal word false) [] (Some (Ended (written.Threw r.ball))) r.operators ≡ goal_line word ++ refused_text r
+    → section_text (Goal word false) [] (Some (Ended (Threw r.ball))) r.operators ≡ goal_line word ++ refused_text r
 refusal_reported word r =
     ap (λ t. goal_line word ++ t) (closed_line [] (stopped (codes "error: " ++ writeq r.operators 1200 r.ball)))
 
-how_line_told : (end : HowOf Tree) → thread_how_line (written_of end) ≡ thread_line (Some end)
+how_line_told : (end : How Tree) → thread_how_line end ≡ thread_line (Some end)
 how_line_told Solved = refl
 how_line_told False = refl
 how_line_told (Threw b) = refl
@@ -66,12 +57,12 @@ how_line_told (Exited u) = refl
 how_line_told (Halted n) = refl
 how_line_told (AtomSpace found) = refl
 
-last_told : (how : Option GoalHow) (end : Option (HowOf Tree)) → Tells how end → thread_last how ≡ thread_line end
+last_told : (how : Option GoalHow) (end : Option (How Tree)) → Tells how end → thread_last how ≡ thread_line end
 last_told None end is = absurd is
 last_told (Some (Ended how)) None is = absurd is
 last_told (Some (Ended how)) (Some end) is = ap thread_how_line is ∙ how_line_told end
-last_told (Some Waits) None is = refl
-last_told (Some Waits) (Some end) is = absurd is
+last_told (Some (Waits on)) None is = refl
+last_told (Some (Waits on)) (Some end) is = absurd is
 last_told (Some (Syntax kind at)) end is = absurd is
 
 text_told : (b : Beginning) (t : Chars) (last : Option Chars) → thread_text (thread_name b) t last ≡ thread_section b t last
@@ -80,7 +71,7 @@ text_told b (c ∷ cs) None = refl
 text_told b [] (Some line) = refl
 text_told b (c ∷ cs) (Some line) = refl
 
-pub thread_reported : (b : Beginning) (x : Execution) (how : Option GoalHow) (ops : OperatorTable) (end : Option (HowOf Tree))
+pub thread_reported : (b : Beginning) (x : Execution) (how : Option GoalHow) (ops : OperatorTable) (end : Option (How Tree))
     → Tells how end
     → section_text (Thread (thread_name b)) (texts [] (output_of x)) how ops ≡ of_thread b end (Some x)
 thread_reported b x how ops end is =

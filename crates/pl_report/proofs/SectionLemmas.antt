@@ -5,17 +5,17 @@ use Rattle.std.proofs.lemmas.Str.{encodes-append, length-le-encodes}
 use Rattle.std.specs.Prelude.{not, ◌&&◌, ◌==◌, if◌then◌else◌}
 use Rattle.std.specs.List.{flat_map}
 use Rattle.std.specs.Str.{encode_utf8_all}
-use Rattle.pl_term.specs.Tree.{Chars}
+use Rattle.pl_term.specs.Tree.{Chars, Tree}
 use Rattle.pl_model.specs.OperatorTable.{OperatorTable}
-use Rattle.run_model.specs.Report.{newline, closed, with_line, goal_line}
-use Rattle.pl_report.specs.declared.parts.How.{How}
-use Rattle.pl_report.specs.declared.parts.How.TheVariants.{Solved, False, Threw, Exited, Halted, AtomSpace}
-use Rattle.pl_report.specs.declared.parts.GoalHow.{GoalHow}
-use Rattle.pl_report.specs.declared.parts.GoalHow.TheVariants.{Ended, Waits, Syntax}
+use Rattle.run_model.specs.Report.{newline, closed, with_line, with_end, goal_line}
+use Rattle.pl_model.specs.declared.ends.How.{How}
+use Rattle.pl_model.specs.declared.ends.How.TheVariants.{Solved, False, Threw, Exited, Halted, AtomSpace}
+use Rattle.run_model.specs.declared.ends.GoalHow.{GoalHow}
+use Rattle.run_model.specs.declared.ends.GoalHow.TheVariants.{Ended, Waits, Syntax}
 use Rattle.pl_report.specs.declared.parts.SectionKind.{SectionKind}
 use Rattle.pl_report.specs.declared.parts.SectionKind.TheVariants.{Consult, Goal, Thread}
 use Rattle.pl_report.specs.declared.parts.Section.{Section}
-use Rattle.pl_report.specs.Sections.{with_how, with_goal_how, thread_head, thread_last, thread_text, section_text, AreWritten, transcript_text}
+use Rattle.pl_report.specs.Sections.{with_goal_how, thread_head, thread_last, thread_text, section_text, AreWritten, transcript_text}
 use Rattle.pl_report.specs.Pieces.{line_text, how_last, goal_last, has_line, is_silent, goal_bytes, thread_bytes, bytes_by, section_bytes}
 use Rattle.pl_report.specs.Adds.{Adds}
 use Rattle.pl_report.proofs.Endings.{closed_bytes}
@@ -31,21 +31,21 @@ unfolding with_last_line
 closed_last t None = sym (append-nil (closed t))
 closed_last t (Some line) = closed_line t line
 
-how_is : (ops : OperatorTable) (t : Chars) (how : How) → with_how ops t how ≡ with_last_line t (how_last ops how)
+how_is : (ops : OperatorTable) (t : Chars) (how : How Tree) → with_end ops t how ≡ with_last_line t (how_last ops how)
 unfolding with_last_line
 how_is ops t Solved = refl
 how_is ops t False = refl
 how_is ops t (Threw b) = refl
-how_is ops t Exited = refl
+how_is ops t (Exited u) = refl
 how_is ops t (Halted n) = refl
-how_is ops t AtomSpace = refl
+how_is ops t (AtomSpace found) = refl
 
 goal_how_is : (enough : Bool) (ops : OperatorTable) (t : Chars) (how : Option GoalHow) → with_goal_how enough ops t how ≡ with_last_line t (goal_last enough ops how)
 unfolding with_last_line
 goal_how_is true ops t how = refl
 goal_how_is false ops t None = refl
 goal_how_is false ops t (Some (Ended how)) = how_is ops t how
-goal_how_is false ops t (Some Waits) = refl
+goal_how_is false ops t (Some (Waits on)) = refl
 goal_how_is false ops t (Some (Syntax kind at)) = refl
 
 -- A head, a text and its last line, in bytes.

@@ -4,10 +4,10 @@ use Rattle.pl_term.specs.Tree.{Chars, Tree}
 use Rattle.pl_model.specs.OperatorTable.{OperatorTable}
 use Rattle.pl_model.specs.TermWriting.{writeq}
 use Rattle.run_model.specs.Report.{newline, closed, stopped, halted_text, goal_line, is_shown, binding_text, no_atoms_line}
-use Rattle.pl_report.specs.declared.parts.How.{How}
-use Rattle.pl_report.specs.declared.parts.How.TheVariants.{Solved, False, Threw, Exited, Halted, AtomSpace}
-use Rattle.pl_report.specs.declared.parts.GoalHow.{GoalHow}
-use Rattle.pl_report.specs.declared.parts.GoalHow.TheVariants.{Ended, Waits, Syntax}
+use Rattle.pl_model.specs.declared.ends.How.{How}
+use Rattle.pl_model.specs.declared.ends.How.TheVariants.{Solved, False, Threw, Exited, Halted, AtomSpace}
+use Rattle.run_model.specs.declared.ends.GoalHow.{GoalHow}
+use Rattle.run_model.specs.declared.ends.GoalHow.TheVariants.{Ended, Waits, Syntax}
 use Rattle.pl_report.specs.declared.parts.SectionKind.{SectionKind}
 use Rattle.pl_report.specs.declared.parts.SectionKind.TheVariants.{Consult, Goal, Thread}
 use Rattle.pl_report.specs.declared.parts.Section.{Section}
@@ -37,17 +37,17 @@ abbrev pub line_text : Option Chars → Chars
 line_text None = []
 line_text (Some line) = line ++ newline
 
-abbrev pub how_last : OperatorTable → How → Option Chars
+abbrev pub how_last : OperatorTable → How Tree → Option Chars
 how_last ops Solved = None
 how_last ops False = Some (codes "false.")
 how_last ops (Threw b) = Some (stopped (codes "error: " ++ writeq ops 1200 b))
-how_last ops Exited = None
+how_last ops (Exited t) = None
 how_last ops (Halted n) = Some (halted_text n ++ codes ".")
-how_last ops AtomSpace = Some no_atoms_line
+how_last ops (AtomSpace found) = Some no_atoms_line
 
 abbrev pub goal_how_last : OperatorTable → GoalHow → Option Chars
 goal_how_last ops (Ended how) = how_last ops how
-goal_how_last ops Waits = Some (codes "waiting.")
+goal_how_last ops (Waits on) = Some (codes "waiting.")
 goal_how_last ops (Syntax kind at) = Some (fault_line kind at)
 
 abbrev pub goal_last : Bool → OperatorTable → Option GoalHow → Option Chars

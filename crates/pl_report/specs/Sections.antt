@@ -1,15 +1,14 @@
 -- The text of a run, from its sections: the lines are those of the report of a run, put together from what was written in
 -- each section and how its engine ended.
 use Rattle.std.specs.Prelude.{◌≡◌, ℕ, List, [], ◌∷◌, ◌++◌, Bool, true, false, Option, Some, None, codes, decimal, encode_utf8_all}
-use Rattle.pl_term.specs.Tree.{Chars}
+use Rattle.pl_term.specs.Tree.{Chars, Tree}
 use Rattle.pl_model.specs.declared.syntax.SyntaxKind.{SyntaxKind}
 use Rattle.pl_model.specs.OperatorTable.{OperatorTable}
-use Rattle.pl_model.specs.declared.ends.How.TheVariants as ends
+use Rattle.pl_model.specs.declared.ends.How.{How}
+use Rattle.pl_model.specs.declared.ends.How.TheVariants.{Solved, False, Threw, Exited, Halted, AtomSpace}
 use Rattle.run_model.specs.Report.{newline, closed, with_line, kind_text, halted_text, with_end, with_last, goal_line, no_atoms_line}
-use Rattle.pl_report.specs.declared.parts.How.{How}
-use Rattle.pl_report.specs.declared.parts.How.TheVariants.{Solved, False, Threw, Exited, Halted, AtomSpace}
-use Rattle.pl_report.specs.declared.parts.GoalHow.{GoalHow}
-use Rattle.pl_report.specs.declared.parts.GoalHow.TheVariants.{Ended, Waits, Syntax}
+use Rattle.run_model.specs.declared.ends.GoalHow.{GoalHow}
+use Rattle.run_model.specs.declared.ends.GoalHow.TheVariants.{Ended, Waits, Syntax}
 use Rattle.pl_report.specs.declared.parts.SectionKind.{SectionKind}
 use Rattle.pl_report.specs.declared.parts.SectionKind.TheVariants.{Consult, Goal, Thread}
 use Rattle.pl_report.specs.declared.parts.Section.{Section}
@@ -18,36 +17,27 @@ use Rattle.pl_report.specs.declared.parts.Section.{Section}
 abbrev pub fault_line : SyntaxKind → ℕ → Chars
 fault_line kind at = codes "syntax error: " ++ (kind_text kind ++ (codes " at " ++ (decimal at ++ codes ".")))
 
--- The text of a goal with the last line that its engine's end gives.
-abbrev pub with_how : OperatorTable → Chars → How → Chars
-with_how ops t Solved = with_end ops t ends.Solved
-with_how ops t False = with_end ops t ends.False
-with_how ops t (Threw b) = with_end ops t (ends.Threw b)
-with_how ops t Exited = t
-with_how ops t (Halted n) = with_end ops t (ends.Halted n)
-with_how ops t AtomSpace = with_line t no_atoms_line
-
 -- A goal that has given the solutions that were wanted has no last line, nor has one that never began.
 abbrev pub with_goal_how : Bool → OperatorTable → Chars → Option GoalHow → Chars
 with_goal_how true ops t how = t
 with_goal_how false ops t None = t
-with_goal_how false ops t (Some (Ended how)) = with_how ops t how
-with_goal_how false ops t (Some Waits) = with_last ops t None
+with_goal_how false ops t (Some (Ended how)) = with_end ops t how
+with_goal_how false ops t (Some (Waits on)) = with_last ops t None
 with_goal_how false ops t (Some (Syntax kind at)) = with_line t (fault_line kind at)
 
 -- The last line of a thread, where it waits, halted or found no place for an atom.
-abbrev pub thread_how_line : How → Option Chars
+abbrev pub thread_how_line : How Tree → Option Chars
 thread_how_line Solved = None
 thread_how_line False = None
 thread_how_line (Threw b) = None
-thread_how_line Exited = None
+thread_how_line (Exited t) = None
 thread_how_line (Halted n) = Some (halted_text n ++ codes ".")
-thread_how_line AtomSpace = Some no_atoms_line
+thread_how_line (AtomSpace found) = Some no_atoms_line
 
 abbrev pub thread_last : Option GoalHow → Option Chars
 thread_last None = None
 thread_last (Some (Ended how)) = thread_how_line how
-thread_last (Some Waits) = Some (codes "waiting.")
+thread_last (Some (Waits on)) = Some (codes "waiting.")
 thread_last (Some (Syntax kind at)) = None
 
 abbrev pub thread_head : Chars → Chars

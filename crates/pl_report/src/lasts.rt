@@ -11,10 +11,11 @@ ghost use Rattle.pl_report.specs.Sections.{fault_line, thread_how_line, thread_l
 use crate::file::put_halted;
 use crate::kinds::put_kind;
 use crate::lines::{end_line, put_number, put_stop, put_term, put_words};
-use crate::parts::{GoalHow, How};
 use op_table::OpTable;
+use pl_model::ends::How;
 use pl_model::syntax::SyntaxKind;
 use pl_term::{Flat, Memory};
+use run_model::ends::GoalHow;
 use std::alloc::Global;
 
 /// Puts the last line of a goal, if it has one. `enough` says whether it has given the solutions that were wanted.
@@ -46,21 +47,21 @@ fn put_goal_how(
 {
     match how {
         GoalHow::Ended(how) => put_how(alloc, out, how, ops),
-        GoalHow::Waits => put_line(out, "waiting."),
+        GoalHow::Waits(_) => put_line(out, "waiting."),
         GoalHow::Syntax { kind, at } => put_word_fault(out, *kind, *at),
     }
 }
 
-fn put_how(alloc: Global, out: &mut Vec<u8>, how: &How, ops: &OpTable) -> Result<(), Memory>
+fn put_how(alloc: Global, out: &mut Vec<u8>, how: &How<Flat>, ops: &OpTable) -> Result<(), Memory>
     ensures { OnOk result (Adds out.old.items out.new.items (line_text (how_last ops.now how.now))) }
 {
     match how {
         How::Solved => Ok(()),
         How::False => put_line(out, "false."),
         How::Threw(ball) => put_ball(alloc, out, ball, ops),
-        How::Exited => Ok(()),
+        How::Exited(_) => Ok(()),
         How::Halted(status) => put_halted_line(out, *status),
-        How::AtomSpace => put_line(out, "error: resource_error(atom_space)."),
+        How::AtomSpace(_) => put_line(out, "error: resource_error(atom_space)."),
     }
 }
 
@@ -71,21 +72,21 @@ pub fn put_thread_last(out: &mut Vec<u8>, how: &Option<GoalHow>) -> Result<(), M
     match how {
         None => Ok(()),
         Some(GoalHow::Ended(how)) => put_thread_how(out, how),
-        Some(GoalHow::Waits) => put_line(out, "waiting."),
+        Some(GoalHow::Waits(_)) => put_line(out, "waiting."),
         Some(GoalHow::Syntax { .. }) => Ok(()),
     }
 }
 
-fn put_thread_how(out: &mut Vec<u8>, how: &How) -> Result<(), Memory>
+fn put_thread_how(out: &mut Vec<u8>, how: &How<Flat>) -> Result<(), Memory>
     ensures { OnOk result (Adds out.old.items out.new.items (line_text (thread_how_line how.now))) }
 {
     match how {
         How::Halted(status) => put_halted_line(out, *status),
-        How::AtomSpace => put_line(out, "error: resource_error(atom_space)."),
+        How::AtomSpace(_) => put_line(out, "error: resource_error(atom_space)."),
         How::Solved => Ok(()),
         How::False => Ok(()),
         How::Threw(_) => Ok(()),
-        How::Exited => Ok(()),
+        How::Exited(_) => Ok(()),
     }
 }
 
@@ -96,21 +97,21 @@ pub fn has_thread_last(how: &Option<GoalHow>) -> bool
     match how {
         None => false,
         Some(GoalHow::Ended(how)) => has_how_last(how),
-        Some(GoalHow::Waits) => true,
+        Some(GoalHow::Waits(_)) => true,
         Some(GoalHow::Syntax { .. }) => false,
     }
 }
 
-fn has_how_last(how: &How) -> bool
+fn has_how_last(how: &How<Flat>) -> bool
     ensures { result ≡ has_line (thread_how_line how.now) }
 {
     match how {
         How::Halted(_) => true,
-        How::AtomSpace => true,
+        How::AtomSpace(_) => true,
         How::Solved => false,
         How::False => false,
         How::Threw(_) => false,
-        How::Exited => false,
+        How::Exited(_) => false,
     }
 }
 

@@ -14,6 +14,6 @@ pub use file::{
     put_failed_directive, put_halted_directive, put_no_atom_space, put_refused_item,
     put_syntax_fault, put_too_large, put_waiting_directive,
 };
-pub use parts::{GoalHow, How, Section, SectionKind};
+pub use parts::{Section, SectionKind};
 pub use sections::transcript;
 pub use solutions::put_solution;

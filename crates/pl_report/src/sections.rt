@@ -8,8 +8,9 @@ ghost use Rattle.pl_report.specs.Sections.{thread_head, AreWritten, transcript_t
 
 use crate::lasts::{has_thread_last, put_goal_last, put_thread_last};
 use crate::lines::{end_line, put, put_closed, put_stop, put_words};
-use crate::parts::{GoalHow, Section, SectionKind};
+use crate::parts::{Section, SectionKind};
 use pl_term::{Memory, Text};
+use run_model::ends::GoalHow;
 use std::alloc::Global;
 
 /// The text of a run from its sections, in UTF-8. The sections stand in the order of the list. The only error is want of

@@ -1,5 +1,6 @@
 -- A slice with the line of its solution.
 use Rattle.std.proofs.Common.{◌≡◌, ℕ, List, [], ◌∷◌, ◌++◌, map, Option, None, Some, refl, ap, ap₂, ◌∙◌}
+use Rattle.std.specs.Arc.{arc_value}
 use Rattle.pl_term.specs.Tree.{Chars, Tree, Trees, var, int, atom, comp, none, more}
 use Rattle.pl_model.specs.Resolution.{solution, solution_count}
 use Rattle.run_model.specs.Report.{with_output}
@@ -62,8 +63,8 @@ module _ (names : List (Chars × ℕ)) (limit steps : ℕ) (m n : Names) (t u : 
         written = h.written;
         advances = h.advances;
         out =
-            bytes-answer names a b c h.written h.ends.0 ops ts h.ends.1
-            (h.ends.2 ∙ ap (λ l. h.ends.0 ++ solution ops l ∷ []) (answers_same n u f.search.store f.search.answer.items))
+            bytes-answer names a b c h.written h.ends.0 (arc_value ops) ts h.ends.1
+            (h.ends.2 ∙ ap (λ l. h.ends.0 ++ solution (arc_value ops) l ∷ []) (answers_same n u f.search.store f.search.answer.items))
             h.out put;
       }
   ran_goal (Retry q) h put = silent (Retry q) h h.ends.1 put

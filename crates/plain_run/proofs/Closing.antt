@@ -17,9 +17,8 @@ use Rattle.script_api.specs.Comes.{ComesBy}
 use Rattle.script_api.specs.Scripts.{EndsAs, Given, IsLast, LeavesOff, StandsBefore, some_fault, written_at}
 use Rattle.script_api.proofs.ComesLaws.{by_same, by_then}
 use Rattle.iso_search.specs.declared.search.Budgets.{Budgets}
-use Rattle.plain_run.specs.declared.ran.Ran.{Ran}
 use Rattle.plain_run.specs.declared.ran.Ran.TheVariants as ran
-use Rattle.plain_run.specs.Ran.{HasSearched, StandsSo, at_start_of}
+use Rattle.plain_run.specs.Ran.{HasSearched, Ran, StandsSo, at_start_of}
 use Rattle.plain_run.specs.Items.{GoalStandsAs, HasClosed, HasRunGoal}
 
 one_ending : (e f : Ending) → ended e ≡ ended f → e ≡ f
@@ -49,7 +48,7 @@ module _ {S : Type 0} (execution : (ℕ → Chars) → S → Job → List Consul
           → GoalStandsAs execution part m t s job cs q (with_search (execution (text_of m) s job cs) of_goal v)
       stands (ran.Ended how) n h = absurd (n how refl)
       stands (ran.Waits on) n h =
-          (record { item = of_goal; state = v; at_hand = at; is = refl }, h job of_goal (execution (text_of m) s job cs) has wants)
+          (record { item = of_goal; state = v; at_hand = at; is = refl }, h.1 job of_goal (execution (text_of m) s job cs) has wants)
       stands (ran.NeedsAtoms p) n h = tt
       stands (ran.Worn p) n h = tt
       stands (ran.Missing p) n h = (record { item = of_goal; state = v; at_hand = at; is = refl }, h)

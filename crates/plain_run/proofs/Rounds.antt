@@ -10,8 +10,7 @@ use Rattle.atom_api.specs.Names.{Names}
 use Rattle.world_api.specs.Told.{Told}
 use Rattle.iso_engine.specs.declared.engine.Engine.{Engine}
 use Rattle.iso_engine.proofs.Stability.{advance_none, advance_then}
-use Rattle.plain_run.specs.declared.searched.Searched.{Searched}
-use Rattle.plain_run.specs.Searched.{HasCounted, IsCarriedOn, IsRefusedOnce, IsSearched, last_refusals, stop_refusals}
+use Rattle.plain_run.specs.Searched.{HasCounted, IsCarriedOn, IsRefusedOnce, IsSearched, Searched, last_refusals, stop_refusals}
 
 -- The ways of writing by which a piece can be put after a piece.
 abbrev pub IsInPieces : (Chars → List Output → Chars) → Type 0

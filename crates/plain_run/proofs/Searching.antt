@@ -6,11 +6,12 @@ use Rattle.pl_model.specs.Resolution.{Limits, Output, State, Next, asks}
 use Rattle.pl_model.specs.Resolution as resolution
 use Rattle.pl_model.specs.Control.{start, step}
 use Rattle.run_model.specs.Execution.{Job, Execution, move, requests, searched, directed}
-use Rattle.run_model.specs.Progress.{WaitsNow}
+use Rattle.run_model.specs.Ends.{awaited_by}
 use Rattle.atom_words.specs.declared.view.Refusal.{Refusal}
 use Rattle.atom_api.specs.Names.{FixedStand, Names}
 use Rattle.term_store.specs.NumberedNames.{by_number, term_by}
 use Rattle.world_api.specs.declared.answer.On.{On}
+use Rattle.world_api.specs.Answers.{on_by}
 use Rattle.world_api.specs.Texts as worlds
 use Rattle.world_api.specs.Told.{Told}
 use Rattle.world_api.specs.Courses.{Course}
@@ -26,12 +27,9 @@ use Rattle.iso_engine.specs.Slices.{IsWaitingNow}
 use Rattle.iso_engine.specs.Standing.{state_now}
 use Rattle.iso_engine.specs.Standing as engines
 use Rattle.iso_engine.specs.Starting.{IsFresh}
-use Rattle.plain_run.specs.declared.ran.Ran.{Ran}
-use Rattle.plain_run.specs.declared.ran.Ran.TheVariants as ran
-use Rattle.plain_run.specs.declared.searched.Searched.{Searched}
-use Rattle.plain_run.specs.declared.searched.Searched.TheVariants.{Ended, Waits, NeedsAtoms, Worn, Missing}
-use Rattle.plain_run.specs.Ran.{HasBudgets, HasSearched, IsRanBy, StandsSo, at_start_of, ran_refusals}
-use Rattle.plain_run.specs.Searched.{IsRefusedOnce, IsSearched, Stands, last_refusals}
+use Rattle.plain_run.specs.declared.ran.Ran.TheVariants.{Ended, Waits, NeedsAtoms, Worn, Missing}
+use Rattle.plain_run.specs.Ran.{HasBudgets, HasSearched, IsRanBy, Ran, StandsSo, WaitsOn, at_start_of}
+use Rattle.plain_run.specs.Searched.{IsRefusedOnce, IsSearched, Searched, Stands, last_refusals}
 use Rattle.plain_run.proofs.Readings.{read_over}
 
 -- A step that asks is a move that asks.
@@ -100,21 +98,24 @@ module _ (budgets : Budgets) (wanted : ℕ) (e : Engine) (fresh : IsFresh budget
         ∙ (let q : 0 + resolution.solution_count came.counted.ran.written ≡ resolution.solution_count came.counted.ran.written = omega arith in q))
 
     waits_there : (on : On) (g : ℕ) → IsWaitingNow n u f on g → (job : Job) (part : Part) (x : Execution) → HasBudgets budgets job.limits
-        → (limits_of job part).solutions ≡ wanted → WaitsNow u.engine u.goals job (seen_in u (with_search x part there))
+        → (limits_of job part).solutions ≡ wanted → WaitsOn u job (on_by (worlds.text_of n) on) (with_search x part there)
     waits_there on g w job part x has wants =
         let same : limits_of job part ≡ engines.limits_of job.limits.stays f =
         limits_same job part has wants ∙ sym (came.counted.ran.advances.limits job.limits.stays)
         in let k = asks_in job part x there w.request (w.asking.follows job.limits.stays came.counted.ran.written given_there)
         (ap (λ (l : Limits). step l there) same ∙ w.asking.asks_is job.limits.stays came.counted.ran.written given_there)
-        in record { request = w.request; next = k.0; asks_is = k.1; served = w.waiting }
+        in record {
+          waits = record { request = w.request; next = k.0; asks_is = k.1; served = w.waiting };
+          awaits = ap (awaited_by u.engine) k.1 ∙ w.awaits;
+        }
 
     stands_there : (q : Searched) (r : Ran) → Stands n u f q → IsRanBy n f q r → StandsSo budgets wanted n u there r
-    stands_there Ended (ran.Ended how) h is = is u came.counted.ran.written
-    stands_there Ended (ran.Waits on) h is = absurd is
-    stands_there Ended (ran.NeedsAtoms p) h is = absurd is
-    stands_there Ended (ran.Worn w) h is = absurd is
-    stands_there Ended (ran.Missing p) h is = absurd is
-    stands_there (Waits on) r h is = subst (λ k. StandsSo budgets wanted n u there k) (sym is) (waits_there on h.0 h.1)
+    stands_there (Ended x) (Ended how) h is = is u came.counted.ran.written
+    stands_there (Ended x) (Waits on) h is = absurd is
+    stands_there (Ended x) (NeedsAtoms p) h is = absurd is
+    stands_there (Ended x) (Worn w) h is = absurd is
+    stands_there (Ended x) (Missing p) h is = absurd is
+    stands_there (Waits on) r h is = subst (λ k. StandsSo budgets wanted n u there k) (sym is) (h.1.held, waits_there on h.0 h.1)
     stands_there (NeedsAtoms p) r h is = subst (λ k. StandsSo budgets wanted n u there k) (sym is) tt
     stands_there (Worn w) r h is = subst (λ k. StandsSo budgets wanted n u there k) (sym is) tt
     stands_there (Missing p) r h is =
@@ -125,16 +126,16 @@ module _ (budgets : Budgets) (wanted : ℕ) (e : Engine) (fresh : IsFresh budget
     has_searched r is = record { state = there; comes = comes_there; out = came.counted.ran.out; stands = stands_there s r came.stands is }
 
 -- The refusals of the search are those that are told.
-pub same_refusals : (m : Names) (e : Engine) (s : Searched) (r : Ran) → IsRanBy m e s r → ran_refusals r ≡ last_refusals s
-same_refusals m e Ended (ran.Ended how) is = refl
-same_refusals m e Ended (ran.Waits on) is = absurd is
-same_refusals m e Ended (ran.NeedsAtoms p) is = absurd is
-same_refusals m e Ended (ran.Worn w) is = absurd is
-same_refusals m e Ended (ran.Missing p) is = absurd is
-same_refusals m e (Waits on) r is = ap ran_refusals is
-same_refusals m e (NeedsAtoms p) r is = ap ran_refusals is
-same_refusals m e (Worn w) r is = ap ran_refusals is
-same_refusals m e (Missing p) r is = ap ran_refusals is
+pub same_refusals : (m : Names) (e : Engine) (s : Searched) (r : Ran) → IsRanBy m e s r → last_refusals r ≡ last_refusals s
+same_refusals m e (Ended x) (Ended how) is = refl
+same_refusals m e (Ended x) (Waits on) is = absurd is
+same_refusals m e (Ended x) (NeedsAtoms p) is = absurd is
+same_refusals m e (Ended x) (Worn w) is = absurd is
+same_refusals m e (Ended x) (Missing p) is = absurd is
+same_refusals m e (Waits on) r is = ap last_refusals is
+same_refusals m e (NeedsAtoms p) r is = ap last_refusals is
+same_refusals m e (Worn w) r is = ap last_refusals is
+same_refusals m e (Missing p) r is = ap last_refusals is
 
 -- It stays so where the atoms hold the same.
 pub searched_after : (put : Chars → List Output → Chars) (budgets : Budgets) (wanted : ℕ) (m n k : Names) (t u : Told) (before after : ℕ) (goal : Tree) (a b : List ℕ) (r : Ran)
@@ -143,9 +144,9 @@ searched_after put budgets wanted m n k t u before after goal a b r same h =
     subst (λ (j : Names). HasSearched put budgets wanted m t before goal a j u after b r) (sym same) h
 
 pub refused_after : (xs ys zs : List Refusal) (m : Names) (e : Engine) (s : Searched) (r : Ran) → IsRefusedOnce xs ys (last_refusals s) → zs ≡ ys → IsRanBy m e s r
-    → IsRefusedOnce xs zs (ran_refusals r)
+    → IsRefusedOnce xs zs (last_refusals r)
 refused_after xs ys zs m e s r h same is =
-    subst (λ (ws : List Refusal). IsRefusedOnce xs ws (ran_refusals r)) (sym same)
+    subst (λ (ws : List Refusal). IsRefusedOnce xs ws (last_refusals r)) (sym same)
     (subst (λ (ls : List Refusal). IsRefusedOnce xs ys ls) (sym (same_refusals m e s r is)) h)
 
 pub holds_after : (m n k : Names) → worlds.Holds m n → k ≡ n → worlds.Holds m k

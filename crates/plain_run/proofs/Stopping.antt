@@ -13,9 +13,8 @@ use Rattle.iso_engine.specs.declared.slices.Slice.{Slice}
 use Rattle.iso_engine.specs.declared.slices.Slice.TheVariants.{Yield, Solution, Retry, Memory, NeedsAtoms as SliceNeedsAtoms, Worn as SliceWorn, Waits as SliceWaits, Ended as SliceEnded, Missing as SliceMissing}
 use Rattle.iso_engine.specs.Looking.{IsRefusedBy}
 use Rattle.iso_engine.specs.Slices.{IsSlice, IsSliced}
-use Rattle.plain_run.specs.declared.searched.Searched.{Searched}
-use Rattle.plain_run.specs.declared.searched.Searched.TheVariants.{Ended, Waits, NeedsAtoms, Worn, Missing}
-use Rattle.plain_run.specs.Searched.{HasCounted, HasRun, IsCarriedOn, IsRefusedOnce, IsSearched, IsStop, Stands, stop_refusals}
+use Rattle.plain_run.specs.declared.ran.Ran.TheVariants.{Ended, Waits, NeedsAtoms, Worn, Missing}
+use Rattle.plain_run.specs.Searched.{HasCounted, HasRun, IsCarriedOn, IsRefusedOnce, IsSearched, IsStop, Searched, Stands, stop_refusals}
 use Rattle.plain_run.proofs.Outputs.{bytes-texts}
 
 module _ (put : Chars → List Output → Chars) (limit before after : ℕ) (m n : Names) (t u : Told) (e f : Engine) (a b c : List ℕ) where
@@ -38,7 +37,7 @@ module _ (put : Chars → List Output → Chars) (limit before after : ℕ) (m n
   carried Yield r is h ran = is_on r is (came Yield ran h.0 h.1 h.2)
   carried (Solution ops) r is h ran = is_on r is (came (Solution ops) ran h.0 h.1 h.2)
   carried (Retry q) r is h ran = is_on r is (came (Retry q) ran h.0 h.1 h.2)
-  carried SliceEnded r is h ran = is_done r Ended is (came SliceEnded ran h.0 h.1 h.2) h.2.ends.0
+  carried SliceEnded r is h ran = is_done r (Ended tt) is (came SliceEnded ran h.0 h.1 h.2) h.2.ends.0
   carried (SliceWaits on g) r is h ran = is_done r (Waits on) is (came (SliceWaits on g) ran h.0 h.1 h.2) (g, h.2.ends.0)
   carried (SliceNeedsAtoms p) r is h ran = is_done r (NeedsAtoms p) is (came (SliceNeedsAtoms p) ran h.0 h.1 h.2) tt
   carried (SliceWorn w) r is h ran = is_done r (Worn w) is (came (SliceWorn w) ran h.0 h.1 h.2) tt
@@ -61,7 +60,7 @@ module _ (xs ys : List Refusal) where
   refused_once Yield r is h = once r None is (record { causes = []; grown = h })
   refused_once (Solution ops) r is h = once r None is (record { causes = []; grown = h })
   refused_once (Retry c) r is h = once r None is (record { causes = c ∷ []; grown = h })
-  refused_once SliceEnded r is h = once r (Some Ended) is (record { causes = []; grown = h })
+  refused_once SliceEnded r is h = once r (Some (Ended tt)) is (record { causes = []; grown = h })
   refused_once (SliceWaits on g) r is h = once r (Some (Waits on)) is (record { causes = []; grown = h })
   refused_once (SliceNeedsAtoms p) r is h = once r (Some (NeedsAtoms p)) is (record { causes = []; grown = h })
   refused_once (SliceWorn w) r is h = once r (Some (Worn w)) is (record { causes = []; grown = h })

@@ -11,10 +11,9 @@ use Rattle.script_api.specs.Parts.{Part}
 use Rattle.script_api.specs.Scripts.{StandsBefore}
 use Rattle.script_api.proofs.ComesLaws.{by_same, by_then}
 use Rattle.iso_search.specs.declared.search.Budgets.{Budgets}
-use Rattle.plain_run.specs.declared.items.Items.{Items}
 use Rattle.plain_run.specs.declared.items.Turn.{Turn}
 use Rattle.plain_run.specs.declared.items.Turn.TheVariants.{Goes, Stops}
-use Rattle.plain_run.specs.Items.{HasRunItems, HasTurned, IsDirectiveAsked}
+use Rattle.plain_run.specs.Items.{HasRunItems, HasTurned, IsDirectiveAsked, Items}
 
 -- No item is at hand.
 pub asked_at_start : (o : Option Part) → o ≡ None → IsDirectiveAsked o None

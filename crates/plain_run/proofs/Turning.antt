@@ -2,7 +2,7 @@
 use Rattle.std.proofs.Common.{◌≡◌, ℕ, List, [], ◌∷◌, ◌++◌, Bool, true, false, Option, None, Some, IsSome, is_some, refl, sym, ap, ap₂, subst, ◌∙◌, append-nil}
 use Rattle.std.specs.Prelude.{encode_utf8_all, ◌||◌}
 use Rattle.std.specs.List.{All, AllByRecursion}
-use Rattle.std.proofs.lemmas.List.Elements.{All-from_recursion, recursion_from_All}
+use Rattle.std.proofs.lemmas.List.Elements.{All-from_recursion, All-weaker, recursion_from_All}
 use Rattle.std.proofs.lemmas.Bool.{true≢false}
 use Rattle.pl_term.specs.Tree.{Chars, Tree}
 use Rattle.pl_model.specs.Resolution.{Output, solution, State}
@@ -17,6 +17,7 @@ use Rattle.term_store.specs.NumberedNames.{term_by}
 use Rattle.pl_model.specs.declared.ends.How.{How}
 use Rattle.script_api.specs.declared.script.Next.{Next}
 use Rattle.script_api.specs.declared.script.Next.TheVariants.{Item, NeedsAtoms, Retry, Worn}
+use Rattle.world_api.specs.Answers.{on_names}
 use Rattle.world_api.specs.Texts.{Holds, text_of}
 use Rattle.world_api.specs.Told.{Told}
 use Rattle.script_api.specs.Parts.{Part, of_goal, of_directive, limits_of, with_search}
@@ -25,12 +26,10 @@ use Rattle.script_api.specs.Scripts.{Given, IsAtHand, StandsBefore, is_directive
 use Rattle.script_api.proofs.ComesLaws.{by_then}
 use Rattle.script_api.proofs.OnceLaws.{same_texts}
 use Rattle.iso_search.specs.declared.search.Budgets.{Budgets}
-use Rattle.plain_run.specs.declared.items.Items.TheVariants as items
 use Rattle.plain_run.specs.declared.items.Turn.{Turn}
 use Rattle.plain_run.specs.declared.items.Turn.TheVariants.{Goes, Stops}
-use Rattle.plain_run.specs.declared.ran.Ran.{Ran}
 use Rattle.plain_run.specs.declared.ran.Ran.TheVariants as ran
-use Rattle.plain_run.specs.Ran.{HasBudgets, HasSearched, IsNameHeld, StandsSo, at_start_of}
+use Rattle.plain_run.specs.Ran.{HasBudgets, HasSearched, IsNameHeld, Ran, StandsSo, at_start_of}
 use Rattle.plain_run.specs.Items.{HasTurned, IsDirectiveAsked, IsDirectiveIn, IsNameHeldBy, IsText, IsTurnAtHand, IsTurnBy, TurnStands, turn_names}
 
 or_false : (b : Bool) → (b || false) ≡ b
@@ -114,12 +113,12 @@ module _ {S : Type 0} (execution : (ℕ → Chars) → S → Job → List Consul
     before_same job searched cs x b =
         subst (λ (h : Option (How Tree)). StandsBefore execution part term_by (text_of m) old job (part old) h searched cs x) (sym same) b
 
-    pub needs_atoms : (p : Pass) → GivenSo (NeedsAtoms p) → TurnedSo (Stops (items.NeedsAtoms p))
+    pub needs_atoms : (p : Pass) → GivenSo (NeedsAtoms p) → TurnedSo (Stops (ran.NeedsAtoms p))
     needs_atoms p given job cs searched x has pl b w =
         let g = given job cs searched x pl (before_same job searched cs x b) w.0 w.1
         in (g.0, g.1, g.2, tt, g.4, text_kept (text_of n) new job g.0 g.1 more g.3.1 g.5 g.6)
 
-    pub is_worn : (p : WornWord) → GivenSo (Worn p) → TurnedSo (Stops (items.Worn p))
+    pub is_worn : (p : WornWord) → GivenSo (Worn p) → TurnedSo (Stops (ran.Worn p))
     is_worn p given job cs searched x has pl b w =
         let g = given job cs searched x pl (before_same job searched cs x b) w.0 w.1
         in (g.0, g.1, g.2, tt, g.4, text_kept (text_of n) new job g.0 g.1 more g.3.1 g.5 g.6)
@@ -152,7 +151,7 @@ module _ {S : Type 0} (execution : (ℕ → Chars) → S → Job → List Consul
           )
       stands_by job ds p s (ran.Waits on) turn has wants at is h =
           subst (λ (q : Turn). TurnStands execution part plays kept name budgets k v new job ds q (with_search (execution (text_of k) new job ds) p s)) (sym is)
-          (record { item = p; state = s; at_hand = at; is = refl }, h job p (execution (text_of k) new job ds) has wants)
+          (record { item = p; state = s; at_hand = at; is = refl }, h.1 job p (execution (text_of k) new job ds) has wants)
       stands_by job ds p s (ran.NeedsAtoms q) turn has wants at is h =
           subst (λ (q : Turn). TurnStands execution part plays kept name budgets k v new job ds q (with_search (execution (text_of k) new job ds) p s)) (sym is) tt
       stands_by job ds p s (ran.Worn q) turn has wants at is h =
@@ -213,25 +212,25 @@ some_there None h = absurd (true≢false (sym h))
 pub still : (m n : Names) → Holds m n → (a : ℕ) → IsSome (m a) → IsSome (n a)
 still m n holds a h = let x = some_there (m a) h in ap is_some (holds a x.0 x.1)
 
--- The name of a predicate that is not built is held.
+-- The name of a predicate that is not built is held, and the alias of what is waited on.
 pub name_held : (put : Chars → List Output → Chars) (b : Budgets) (wanted : ℕ) (m n : Names) (t u : Told) (before after : ℕ) (goal : Tree) (old new : List ℕ) (r : Ran) → HasSearched put b wanted m t before goal old n u after new r
     → IsNameHeld n r
 name_held put b wanted m n t u before after goal old new (ran.Ended how) h = tt
-name_held put b wanted m n t u before after goal old new (ran.Waits on) h = tt
+name_held put b wanted m n t u before after goal old new (ran.Waits on) h = h.stands.0
 name_held put b wanted m n t u before after goal old new (ran.NeedsAtoms p) h = tt
 name_held put b wanted m n t u before after goal old new (ran.Worn w) h = tt
 name_held put b wanted m n t u before after goal old new (ran.Missing p) h = ap is_some h.stands.held
 
 pub name_held_by : (n : Names) (r : Ran) (turn : Turn) → IsNameHeld n r → IsTurnBy r turn → IsNameHeldBy n turn
 name_held_by n (ran.Ended how) turn h is = subst (λ (q : Turn). IsNameHeldBy n q) (sym is) tt
-name_held_by n (ran.Waits on) turn h is = subst (λ (q : Turn). IsNameHeldBy n q) (sym is) tt
+name_held_by n (ran.Waits on) turn h is = subst (λ (q : Turn). IsNameHeldBy n q) (sym is) h
 name_held_by n (ran.NeedsAtoms p) turn h is = subst (λ (q : Turn). IsNameHeldBy n q) (sym is) tt
 name_held_by n (ran.Worn w) turn h is = subst (λ (q : Turn). IsNameHeldBy n q) (sym is) tt
 name_held_by n (ran.Missing p) turn h is = subst (λ (q : Turn). IsNameHeldBy n q) (sym is) h
 
 pub still_named : (m n : Names) (r : Ran) → Holds m n → IsNameHeld m r → IsNameHeld n r
 still_named m n (ran.Ended how) holds h = tt
-still_named m n (ran.Waits on) holds h = tt
+still_named m n (ran.Waits on) holds h = All-weaker (λ (a : ℕ). IsSome (m a)) (λ (a : ℕ). IsSome (n a)) (still m n holds) (on_names on) h
 still_named m n (ran.NeedsAtoms p) holds h = tt
 still_named m n (ran.Worn w) holds h = tt
 still_named m n (ran.Missing p) holds h = still m n holds p.name h

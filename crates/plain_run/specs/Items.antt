@@ -1,59 +1,52 @@
 -- The items of a script, run one after the other.
-use Rattle.std.specs.Prelude.{◌≡◌, ℕ, List, [], ◌∷◌, Bool, true, false, Option, Some, None, IsSome, encode_utf8_all}
+use Rattle.std.specs.Prelude.{◌≡◌, ℕ, List, [], Bool, true, false, Option, Some, None, encode_utf8_all}
 use Rattle.pl_term.specs.Tree.{Chars, Tree}
 use Rattle.pl_model.specs.Resolution.{Ending, Output, State}
 use Rattle.run_model.specs.Execution.{Script, Job, Consulted, Execution, over}
-use Rattle.run_model.specs.Progress.{WaitsNow}
 use Rattle.run_model.specs.Report.{all_consulted, output_of, with_output}
 use Rattle.atom_words.specs.declared.view.Refusal.{Refusal}
-use Rattle.atom_words.specs.declared.view.Refusal.TheVariants.{Full as RefusalFull, Worn as RefusalWorn}
 use Rattle.atom_api.specs.Names.{Names}
 use Rattle.term_store.specs.NumberedNames.{names_of, term_by}
 use Rattle.pl_model.specs.declared.ends.How.{How}
+use Rattle.world_api.specs.Answers.{on_by}
 use Rattle.world_api.specs.Texts.{text_of}
 use Rattle.world_api.specs.Told.{Told}
-use Rattle.script_api.specs.Parts.{Part, of_goal, seen_in, with_search}
+use Rattle.script_api.specs.Parts.{Part, of_goal, with_search}
 use Rattle.script_api.specs.Comes.{ComesBy}
 use Rattle.script_api.specs.Scripts.{EndsAs, LeavesOff, StandsBefore, is_directive, some_fault, written_at}
 use Rattle.iso_search.specs.declared.search.Budgets.{Budgets}
-use Rattle.plain_run.specs.declared.items.Items.{Items}
-use Rattle.plain_run.specs.declared.items.Items.TheVariants.{Goal, Over, Waits, NeedsAtoms, Worn, Missing}
+use Rattle.plain_run.specs.declared.items.Item.{Item}
+use Rattle.plain_run.specs.declared.items.Item.TheVariants.{Goal, Over}
 use Rattle.plain_run.specs.declared.items.Turn.{Turn}
 use Rattle.plain_run.specs.declared.items.Turn.TheVariants.{Goes, Stops}
-use Rattle.plain_run.specs.declared.ran.Ran.{Ran}
-use Rattle.plain_run.specs.declared.ran.Ran.TheVariants as ran
-use Rattle.plain_run.specs.Ran.{HasBudgets, IsUnbuiltBy, StandsSo, at_start_of}
+use Rattle.plain_run.specs.declared.ran.Ran.{Ran as RanOf}
+use Rattle.plain_run.specs.declared.ran.Ran.TheVariants.{Ended, Waits, NeedsAtoms, Worn, Missing}
+use Rattle.plain_run.specs.Ran.{HasBudgets, IsNameHeld, IsUnbuiltBy, Ran, StandsSo, WaitsOn, at_start_of}
+use Rattle.plain_run.specs.Searched.{last_refusals}
 
--- The refusal for which the items do not go on.
-abbrev pub items_refusals : Items → List Refusal
-items_refusals (NeedsAtoms p) = RefusalFull p ∷ []
-items_refusals (Worn w) = RefusalWorn w ∷ []
-items_refusals i = []
+-- What the items of a script have come to.
+abbrev pub Items : Type 0
+Items = RanOf Item
 
 abbrev pub turn_refusals : Turn → List Refusal
 turn_refusals (Goes how) = []
-turn_refusals (Stops i) = items_refusals i
+turn_refusals (Stops i) = last_refusals i
 
 -- The atoms of the goal.
 abbrev pub items_names : Items → List ℕ
-items_names (Goal t) = names_of t
+items_names (Ended (Goal t)) = names_of t
 items_names i = []
 
 abbrev pub turn_names : Turn → List ℕ
 turn_names (Goes how) = []
 turn_names (Stops i) = items_names i
 
--- The name of a predicate that is not built is held.
-abbrev pub IsNameHeldIn : Names → Items → Type 0
-IsNameHeldIn n (Missing p) = IsSome (n p.name)
-IsNameHeldIn n i = Unit {0}
-
 abbrev pub IsNameHeldBy : Names → Turn → Type 0
 IsNameHeldBy n (Goes how) = Unit {0}
-IsNameHeldBy n (Stops i) = IsNameHeldIn n i
+IsNameHeldBy n (Stops i) = IsNameHeld n i
 
 abbrev pub is_over : Items → Bool
-is_over (Over h) = true
+is_over (Ended (Over h)) = true
 is_over i = false
 
 abbrev pub is_over_by : Turn → Bool
@@ -67,7 +60,7 @@ IsDirectiveIn (Some p) = is_directive p ≡ true
 
 -- The goal that was given is the item at hand; where a request waits, it is a directive's.
 abbrev pub IsGoalAtHand : Items → Option Part → Type 0
-IsGoalAtHand (Goal t) o = o ≡ Some of_goal
+IsGoalAtHand (Ended (Goal t)) o = o ≡ Some of_goal
 IsGoalAtHand (Waits on) o = IsDirectiveIn o
 IsGoalAtHand i o = Unit {0}
 
@@ -101,26 +94,26 @@ module _ {S : Type 0} (execution : (ℕ → Chars) → S → Job → List Consul
   -- Where the items do not go on: the goal's search is at its start; or the engine has ended, solved or by halt/1; or its
   -- next request waits; or its next step is of a predicate that is not built.
   abbrev pub StandsAs : (S → Option Part) → Names → Told → S → Job → List Consulted → Items → Execution → Type 0
-  StandsAs part n u s job ds (Goal t) y = y ≡ at_start_of job of_goal n t (execution (text_of n) s job ds)
-  StandsAs part n u s job ds (Over h) y =
+  StandsAs part n u s job ds (Ended (Goal t)) y = y ≡ at_start_of job of_goal n t (execution (text_of n) s job ds)
+  StandsAs part n u s job ds (Ended (Over h)) y =
       (ending : Ending) × (os : List Output)
       × LeavesOff h None None ending os
       × (y ≡ record (execution (text_of n) s job ds) { activity = over ending; output = os })
-  StandsAs part n u s job ds (Waits on) y = IsSearchedIn part n s job ds y × WaitsNow u.engine u.goals job (seen_in u y)
+  StandsAs part n u s job ds (Waits on) y = IsSearchedIn part n s job ds y × WaitsOn u job (on_by (text_of n) on) y
   StandsAs part n u s job ds (NeedsAtoms p) y = Unit {0}
   StandsAs part n u s job ds (Worn w) y = Unit {0}
   StandsAs part n u s job ds (Missing p) y = (h : IsSearchedIn part n s job ds y) × IsUnbuiltBy n p h.state.doing
 
   -- Where the goal's search does not go on: the engine has ended so.
   abbrev pub GoalStandsAs : (S → Option Part) → Names → Told → S → Job → List Consulted → Ran → Execution → Type 0
-  GoalStandsAs part n u s job ds (ran.Ended how) y =
+  GoalStandsAs part n u s job ds (Ended how) y =
       (ending : Ending) × (os : List Output)
       × EndsAs how ending
       × (y ≡ record (execution (text_of n) s job ds) { activity = over ending; output = os })
-  GoalStandsAs part n u s job ds (ran.Waits on) y = IsSearchedIn part n s job ds y × WaitsNow u.engine u.goals job (seen_in u y)
-  GoalStandsAs part n u s job ds (ran.NeedsAtoms p) y = Unit {0}
-  GoalStandsAs part n u s job ds (ran.Worn w) y = Unit {0}
-  GoalStandsAs part n u s job ds (ran.Missing p) y = (h : IsSearchedIn part n s job ds y) × IsUnbuiltBy n p h.state.doing
+  GoalStandsAs part n u s job ds (Waits on) y = IsSearchedIn part n s job ds y × WaitsOn u job (on_by (text_of n) on) y
+  GoalStandsAs part n u s job ds (NeedsAtoms p) y = Unit {0}
+  GoalStandsAs part n u s job ds (Worn w) y = Unit {0}
+  GoalStandsAs part n u s job ds (Missing p) y = (h : IsSearchedIn part n s job ds y) × IsUnbuiltBy n p h.state.doing
 
   module _ (part : S → Option Part) (plays : (ℕ → Chars) → S → Script → Type 0) (kept : S → Bool) (name : Chars) (budgets : Budgets) where
     -- Whatever execution of this script it is, it comes from where no item is at hand to where the items do not go on, and
@@ -192,8 +185,8 @@ module _ {S : Type 0} (execution : (ℕ → Chars) → S → Job → List Consul
 
 -- What comes of the search of a directive.
 abbrev pub IsTurnBy : Ran → Turn → Type 0
-IsTurnBy (ran.Ended how) r = r ≡ Goes (Some how)
-IsTurnBy (ran.Waits on) r = r ≡ Stops (Waits on)
-IsTurnBy (ran.NeedsAtoms p) r = r ≡ Stops (NeedsAtoms p)
-IsTurnBy (ran.Worn w) r = r ≡ Stops (Worn w)
-IsTurnBy (ran.Missing p) r = r ≡ Stops (Missing p)
+IsTurnBy (Ended how) r = r ≡ Goes (Some how)
+IsTurnBy (Waits on) r = r ≡ Stops (Waits on)
+IsTurnBy (NeedsAtoms p) r = r ≡ Stops (NeedsAtoms p)
+IsTurnBy (Worn w) r = r ≡ Stops (Worn w)
+IsTurnBy (Missing p) r = r ≡ Stops (Missing p)

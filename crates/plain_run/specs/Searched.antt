@@ -14,8 +14,12 @@ use Rattle.iso_engine.specs.declared.slices.Slice.TheVariants.{Yield, Solution, 
 use Rattle.iso_engine.specs.Advancing.{Advances}
 use Rattle.iso_engine.specs.Missing.{IsMissing}
 use Rattle.iso_engine.specs.Slices.{IsEnd, IsWaitingNow}
-use Rattle.plain_run.specs.declared.searched.Searched.{Searched}
-use Rattle.plain_run.specs.declared.searched.Searched.TheVariants.{Ended, Waits, NeedsAtoms, Worn, Missing}
+use Rattle.plain_run.specs.declared.ran.Ran.{Ran}
+use Rattle.plain_run.specs.declared.ran.Ran.TheVariants.{Ended, Waits, NeedsAtoms, Worn, Missing}
+
+-- What a search has come to. How it has ended the engine says.
+abbrev pub Searched : Type 0
+Searched = Ran (Unit {0})
 
 -- Why the search does not go on after a slice, if it does not.
 abbrev pub IsStop : Slice → Result (Option Searched) WantOfMemory → Type 0
@@ -24,7 +28,7 @@ IsStop Memory (Err x) = Unit {0}
 IsStop Yield r = r ≡ Ok None
 IsStop (Solution ops) r = r ≡ Ok None
 IsStop (Retry c) r = r ≡ Ok None
-IsStop SliceEnded r = r ≡ Ok (Some Ended)
+IsStop SliceEnded r = r ≡ Ok (Some (Ended tt))
 IsStop (SliceWaits on g) r = r ≡ Ok (Some (Waits on))
 IsStop (SliceNeedsAtoms p) r = r ≡ Ok (Some (NeedsAtoms p))
 IsStop (SliceWorn w) r = r ≡ Ok (Some (Worn w))
@@ -32,7 +36,7 @@ IsStop (SliceMissing p) r = r ≡ Ok (Some (Missing p))
 
 -- The state at which the search does not go on.
 abbrev pub Stands : Names → Told → Engine → Searched → Type 0
-Stands m t e Ended = IsEnd e.doing
+Stands m t e (Ended x) = IsEnd e.doing
 Stands m t e (Waits on) = (g : ℕ) × IsWaitingNow m t e on g
 Stands m t e (NeedsAtoms p) = Unit {0}
 Stands m t e (Worn w) = Unit {0}
@@ -61,13 +65,11 @@ abbrev pub IsCarriedOn : (Chars → List Output → Chars) → Names → Told �
 IsCarriedOn put m t e before n u f after old_out new_out None = HasCounted put m t e before n u f after old_out new_out
 IsCarriedOn put m t e before n u f after old_out new_out (Some s) = IsSearched put m t e before n u f after old_out new_out s
 
--- The refusal for which a search does not go on.
-abbrev pub last_refusals : Searched → List Refusal
-last_refusals Ended = []
-last_refusals (Waits on) = []
+-- The refusal for which a run does not go on.
+abbrev pub last_refusals : {E : Type 0} → Ran E → List Refusal
 last_refusals (NeedsAtoms p) = RefusalFull p ∷ []
 last_refusals (Worn w) = RefusalWorn w ∷ []
-last_refusals (Missing p) = []
+last_refusals r = []
 
 abbrev pub stop_refusals : Option Searched → List Refusal
 stop_refusals None = []

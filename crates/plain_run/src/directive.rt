@@ -6,7 +6,8 @@ ghost use Rattle.world_api.specs.Told.{has_ended};
 ghost use Rattle.iso_engine.specs.Ready.{IsReady};
 ghost use Rattle.plain_run.specs.Searched.{IsCarriedOn, IsRefusedOnce, IsSearched, last_refusals, stop_refusals};
 
-use crate::searched::{INFERENCES, Searched, stop_after};
+use crate::ran::Ran;
+use crate::slices::{INFERENCES, stop_after};
 use iso_engine::engine::Engine;
 use pl_term::Memory;
 use term_store::Stored;
@@ -20,7 +21,7 @@ pub fn search_directive<W: World<Term = Stored>>(
     atoms: &mut W::A,
     out: &mut Vec<u8>,
     moves: &mut u64,
-) -> Result<Searched, Memory>
+) -> Result<Ran<()>, Memory>
     requires runs { has_ended (W.told world.old).engine (W.told world.old).history ≡ false }
     requires ready { engine.old.broken ≡ false → IsReady (W.A.held atoms.old) (W.told world.old) engine.old }
     ensures runs { has_ended (W.told world.new).engine (W.told world.new).history ≡ false }
@@ -47,7 +48,7 @@ fn next_slice<W: World<Term = Stored>>(
     atoms: &mut W::A,
     out: &mut Vec<u8>,
     moves: &mut u64,
-) -> Result<Option<Searched>, Memory>
+) -> Result<Option<Ran<()>>, Memory>
     requires runs { has_ended (W.told world.old).engine (W.told world.old).history ≡ false }
     requires ready { engine.old.broken ≡ false → IsReady (W.A.held atoms.old) (W.told world.old) engine.old }
     ensures runs { has_ended (W.told world.new).engine (W.told world.new).history ≡ false }

@@ -7,12 +7,13 @@ ghost use Rattle.script_api.specs.Parts.{of_goal};
 ghost use Rattle.world_api.specs.Texts.{Holds};
 ghost use Rattle.world_api.specs.Told.{has_ended};
 ghost use Rattle.plain_run.specs.Items.{HasClosed, HasRunGoal, HasWords};
-ghost use Rattle.plain_run.specs.Ran.{IsEndedOr, IsNameHeld, ran_refusals};
-ghost use Rattle.plain_run.specs.Searched.{IsRefusedOnce};
+ghost use Rattle.plain_run.specs.Ran.{IsEndedOr, IsNameHeld};
+ghost use Rattle.plain_run.specs.Searched.{IsRefusedOnce, last_refusals};
 
 use crate::ran::{Ran, goal_ran};
 use iso_search::search::Budgets;
-use pl_term::{Memory, Text};
+use pl_model::ends::How;
+use pl_term::{Flat, Memory, Text};
 use script_api::{Next, Script};
 use std::alloc::Global;
 use term_store::Stored;
@@ -33,7 +34,7 @@ pub fn run_goal<S: Script<Term = Stored>, W: World<Term = Stored>>(
     text: &mut Vec<u8>,
     out: &mut Vec<u8>,
     moves: &mut u64,
-) -> Result<Ran, Memory>
+) -> Result<Ran<How<Flat>>, Memory>
     requires runs { has_ended (W.told world.old).engine (W.told world.old).history ≡ false }
     requires at_hand { S.part script.old ≡ Some of_goal }
     requires goes_on { S.over script.old ≡ false }
@@ -47,7 +48,7 @@ pub fn run_goal<S: Script<Term = Stored>, W: World<Term = Stored>>(
     ensures words { IfOk result (λ r. HasWords S.execution (W.A.held atoms.old) script.old (W.A.held atoms.new) script.new) }
     ensures runs { has_ended (W.told world.new).engine (W.told world.new).history ≡ false }
     ensures holds { Holds (W.A.held atoms.old) (W.A.held atoms.new) }
-    ensures refusals { IfOk result (λ r. IsRefusedOnce (W.A.refusals atoms.old) (W.A.refusals atoms.new) (ran_refusals r)) }
+    ensures refusals { IfOk result (λ r. IsRefusedOnce (W.A.refusals atoms.old) (W.A.refusals atoms.new) (last_refusals r)) }
 {
     let ran = goal_ran(
         alloc, goal, names, budgets, wanted, world, atoms, out, moves,
@@ -58,7 +59,7 @@ pub fn run_goal<S: Script<Term = Stored>, W: World<Term = Stored>>(
 
 /// Gives the end of the goal that a script has at hand to it, if its search has ended. The only error is out of memory.
 fn close<S: Script<Term = Stored>, W: World<Term = Stored>>(
-    ran: &Ran,
+    ran: &Ran<How<Flat>>,
     script: &mut S,
     world: &mut W,
     atoms: &mut W::A,

@@ -10,7 +10,8 @@ ghost use Rattle.iso_engine.specs.Ready.{IsReady};
 ghost use Rattle.plain_run.specs.Answered.{IsHeldFor, IsPut};
 ghost use Rattle.plain_run.specs.Searched.{IsCarriedOn, IsRefusedOnce, IsSearched, last_refusals, stop_refusals};
 
-use crate::searched::{INFERENCES, Searched, stop_after};
+use crate::ran::Ran;
+use crate::slices::{INFERENCES, stop_after};
 use atom_api::Atoms;
 use iso_engine::engine::Engine;
 use iso_engine::slices::Slice;
@@ -32,7 +33,7 @@ pub fn search_goal<W: World<Term = Stored>>(
     atoms: &mut W::A,
     out: &mut Vec<u8>,
     moves: &mut u64,
-) -> Result<Searched, Memory>
+) -> Result<Ran<()>, Memory>
     requires runs { has_ended (W.told world.old).engine (W.told world.old).history ≡ false }
     requires ready { engine.old.broken ≡ false → IsReady (W.A.held atoms.old) (W.told world.old) engine.old }
     ensures runs { has_ended (W.told world.new).engine (W.told world.new).history ≡ false }
@@ -62,7 +63,7 @@ fn next_slice<W: World<Term = Stored>>(
     atoms: &mut W::A,
     out: &mut Vec<u8>,
     moves: &mut u64,
-) -> Result<Option<Searched>, Memory>
+) -> Result<Option<Ran<()>>, Memory>
     requires runs { has_ended (W.told world.old).engine (W.told world.old).history ≡ false }
     requires ready { engine.old.broken ≡ false → IsReady (W.A.held atoms.old) (W.told world.old) engine.old }
     ensures runs { has_ended (W.told world.new).engine (W.told world.new).history ≡ false }

@@ -3,8 +3,9 @@ ghost use Rattle.std.specs.Prelude.{◌≡◌, ◌++◌, false, IfOk, IsSome, No
 ghost use Rattle.std.specs.List.{All};
 ghost use Rattle.world_api.specs.Texts.{Holds};
 ghost use Rattle.world_api.specs.Told.{has_ended};
-ghost use Rattle.plain_run.specs.Items.{HasRunItems, HasTurned, IsDirectiveAsked, IsGoalAtHand, IsNameHeldBy, IsNameHeldIn, IsTurnAtHand, IsTurnBy, is_over, is_over_by, items_names, items_refusals, turn_names, turn_refusals};
-ghost use Rattle.plain_run.specs.Searched.{IsRefusedOnce};
+ghost use Rattle.plain_run.specs.Items.{HasRunItems, HasTurned, IsDirectiveAsked, IsGoalAtHand, IsNameHeldBy, IsTurnAtHand, IsTurnBy, is_over, is_over_by, items_names, turn_names, turn_refusals};
+ghost use Rattle.plain_run.specs.Ran.{IsNameHeld};
+ghost use Rattle.plain_run.specs.Searched.{IsRefusedOnce, last_refusals};
 
 use crate::ran::{Ran, directive_ran};
 use iso_search::search::Budgets;
@@ -13,23 +14,15 @@ use pl_term::{Flat, Memory};
 use script_api::{Next, Script};
 use std::alloc::Global;
 use term_store::Stored;
-use world_api::{On, Pass, Procedure, World, WornWord};
+use world_api::World;
 
-/// Why the items of a script do not go on.
+/// What the directives of a script lead to.
 #[derive(Drop)]
-pub enum Items {
+pub enum Item {
     /// The next item is this goal, whose search has not begun.
     Goal(Stored),
     /// There is no further item, and no goal was one. It is said with which status a directive has halted, if one has.
     Over { halted: Option<u8> },
-    /// The next request of a directive has no reply as the shared state stands.
-    Waits(On),
-    /// An atom has no place, as that pass over all slots shows.
-    NeedsAtoms(Pass),
-    /// An atom is one of a bucket that takes no new atom.
-    Worn(WornWord),
-    /// The next goal of a directive is of a predicate that is not built yet.
-    Missing(Procedure),
 }
 
 /// What comes of a call for the next item.
@@ -37,8 +30,8 @@ pub enum Items {
 pub(crate) enum Turn {
     /// The next one is to be asked for, where a directive has ended so, or none is at hand.
     Goes(Option<How<Flat>>),
-    /// The items do not go on.
-    Stops(Items),
+    /// The items lead to a goal or to their end, or a directive does not go on.
+    Stops(Ran<Item>),
 }
 
 /// Runs the directives of a script, which has no item at hand, until its next item is a goal, or there is none, or
@@ -52,7 +45,7 @@ pub fn run_items<S: Script<Term = Stored>, W: World<Term = Stored>>(
     atoms: &mut W::A,
     text: &mut Vec<u8>,
     moves: &mut u64,
-) -> Result<Items, Memory>
+) -> Result<Ran<Item>, Memory>
     requires runs { has_ended (W.told world.old).engine (W.told world.old).history ≡ false }
     requires none { S.part script.old ≡ None }
     requires goes_on { S.over script.old ≡ false }
@@ -63,17 +56,17 @@ pub fn run_items<S: Script<Term = Stored>, W: World<Term = Stored>>(
     ensures over { IfOk result (λ i. S.over script.new ≡ is_over i) }
     ensures named { IfOk result (λ i. S.name script.new ≡ S.name script.old) }
     ensures held { IfOk result (λ i. All (λ a. IsSome (W.A.held atoms.new a)) (S.names script.new ++ items_names i)) }
-    ensures missing { IfOk result (IsNameHeldIn (W.A.held atoms.new)) }
+    ensures missing { IfOk result (IsNameHeld (W.A.held atoms.new)) }
     ensures runs { has_ended (W.told world.new).engine (W.told world.new).history ≡ false }
     ensures holds { Holds (W.A.held atoms.old) (W.A.held atoms.new) }
-    ensures refusals { IfOk result (λ i. IsRefusedOnce (W.A.refusals atoms.old) (W.A.refusals atoms.new) (items_refusals i)) }
+    ensures refusals { IfOk result (λ i. IsRefusedOnce (W.A.refusals atoms.old) (W.A.refusals atoms.new) (last_refusals i)) }
 {
     let mut ended = None;
     for _ in 0..u64::MAX {
         let next = next_turn(alloc, script, ended, budgets, world, atoms, text, moves)?;
         match next {
             Turn::Goes(how) => ended = how,
-            Turn::Stops(items) => return Ok(items),
+            Turn::Stops(ran) => return Ok(ran),
         }
     }
     Err(Memory)
@@ -113,26 +106,26 @@ fn next_turn<S: Script<Term = Stored>, W: World<Term = Stored>>(
                 let ran = directive_ran(alloc, &goal, budgets, world, atoms, text, moves)?;
                 Ok(turn_by(ran))
             } else {
-                Ok(Turn::Stops(Items::Goal(goal)))
+                Ok(Turn::Stops(Ran::Ended(Item::Goal(goal))))
             }
         }
-        Next::Done { halted } => Ok(Turn::Stops(Items::Over { halted })),
-        Next::NeedsAtoms(pass) => Ok(Turn::Stops(Items::NeedsAtoms(pass))),
+        Next::Done { halted } => Ok(Turn::Stops(Ran::Ended(Item::Over { halted }))),
+        Next::NeedsAtoms(pass) => Ok(Turn::Stops(Ran::NeedsAtoms(pass))),
         Next::Retry(_cause) => Ok(Turn::Goes(None)),
-        Next::Worn(word) => Ok(Turn::Stops(Items::Worn(word))),
+        Next::Worn(word) => Ok(Turn::Stops(Ran::Worn(word))),
         Next::Memory => Err(Memory),
     }
 }
 
 /// What comes of the search of a directive.
-fn turn_by(ran: Ran) -> Turn
+fn turn_by(ran: Ran<How<Flat>>) -> Turn
     ensures { IsTurnBy ran result }
 {
     match ran {
         Ran::Ended(how) => Turn::Goes(Some(how)),
-        Ran::Waits(on) => Turn::Stops(Items::Waits(on)),
-        Ran::NeedsAtoms(pass) => Turn::Stops(Items::NeedsAtoms(pass)),
-        Ran::Worn(word) => Turn::Stops(Items::Worn(word)),
-        Ran::Missing(procedure) => Turn::Stops(Items::Missing(procedure)),
+        Ran::Waits(on) => Turn::Stops(Ran::Waits(on)),
+        Ran::NeedsAtoms(pass) => Turn::Stops(Ran::NeedsAtoms(pass)),
+        Ran::Worn(word) => Turn::Stops(Ran::Worn(word)),
+        Ran::Missing(procedure) => Turn::Stops(Ran::Missing(procedure)),
     }
 }

@@ -8,13 +8,12 @@ mod first_goal;
 mod goal;
 mod items;
 mod ran;
-mod searched;
+mod slices;
 
 pub use complete::completes;
 pub use directive::search_directive;
 pub use ending::{ends_over, how_at};
 pub use first_goal::run_goal;
 pub use goal::search_goal;
-pub use items::{Items, run_items};
+pub use items::{Item, run_items};
 pub use ran::Ran;
-pub use searched::Searched;

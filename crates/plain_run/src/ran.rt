@@ -6,13 +6,12 @@ ghost use Rattle.term_store.specs.NumberedNames.{names_of};
 ghost use Rattle.world_api.specs.Texts.{Holds};
 ghost use Rattle.world_api.specs.Told.{Told, has_ended};
 ghost use Rattle.iso_engine.specs.Ready.{IsReady};
-ghost use Rattle.plain_run.specs.Ran.{HasSearched, IsEndedOr, IsRanBy, ran_refusals};
-ghost use Rattle.plain_run.specs.Searched.{IsRefusedOnce, Stands};
+ghost use Rattle.plain_run.specs.Ran.{HasSearched, IsEndedOr, IsRanBy};
+ghost use Rattle.plain_run.specs.Searched.{IsRefusedOnce, Stands, last_refusals};
 
 use crate::directive::search_directive;
 use crate::ending::how_at;
 use crate::goal::search_goal;
-use crate::searched::Searched;
 use atom_api::Atoms;
 use iso_engine::engine::Engine;
 use iso_search::search::Budgets;
@@ -22,12 +21,12 @@ use std::alloc::Global;
 use term_store::Stored;
 use world_api::{On, Pass, Procedure, World, WornWord};
 
-/// How a search has ended, or why it does not go on.
+/// What a run has come to: it has ended, as the value says, or why it does not go on.
 #[derive(Drop)]
-pub enum Ran {
+pub enum Ran<E> {
     /// It has ended so.
-    Ended(How<Flat>),
-    /// Its next request has no reply as the shared state stands.
+    Ended(E),
+    /// Its next request has no reply as the shared state stands: it waits on this.
     Waits(On),
     /// An atom has no place, as that pass over all slots shows.
     NeedsAtoms(Pass),
@@ -47,12 +46,12 @@ pub(crate) fn directive_ran<W: World<Term = Stored>>(
     atoms: &mut W::A,
     out: &mut Vec<u8>,
     moves: &mut u64,
-) -> Result<Ran, Memory>
+) -> Result<Ran<How<Flat>>, Memory>
     requires runs { has_ended (W.told world.old).engine (W.told world.old).history ≡ false }
     requires held { All (λ a. IsSome (W.A.held atoms.old a)) (names_of goal.now) }
     ensures runs { has_ended (W.told world.new).engine (W.told world.new).history ≡ false }
     ensures holds { Holds (W.A.held atoms.old) (W.A.held atoms.new) }
-    ensures refusals { IfOk result (λ r. IsRefusedOnce (W.A.refusals atoms.old) (W.A.refusals atoms.new) (ran_refusals r)) }
+    ensures refusals { IfOk result (λ r. IsRefusedOnce (W.A.refusals atoms.old) (W.A.refusals atoms.new) (last_refusals r)) }
     ensures told { IfOk result IsEndedOr }
     ensures searched { IfOk result (HasSearched texts budgets 1 (W.A.held atoms.old) (W.told world.old) moves.old goal.now out.old.items
         (W.A.held atoms.new) (W.told world.new) moves.new out.new.items) }
@@ -75,12 +74,12 @@ pub(crate) fn goal_ran<W: World<Term = Stored>>(
     atoms: &mut W::A,
     out: &mut Vec<u8>,
     moves: &mut u64,
-) -> Result<Ran, Memory>
+) -> Result<Ran<How<Flat>>, Memory>
     requires runs { has_ended (W.told world.old).engine (W.told world.old).history ≡ false }
     requires held { All (λ a. IsSome (W.A.held atoms.old a)) (names_of goal.now) }
     ensures runs { has_ended (W.told world.new).engine (W.told world.new).history ≡ false }
     ensures holds { Holds (W.A.held atoms.old) (W.A.held atoms.new) }
-    ensures refusals { IfOk result (λ r. IsRefusedOnce (W.A.refusals atoms.old) (W.A.refusals atoms.new) (ran_refusals r)) }
+    ensures refusals { IfOk result (λ r. IsRefusedOnce (W.A.refusals atoms.old) (W.A.refusals atoms.new) (last_refusals r)) }
     ensures told { IfOk result IsEndedOr }
     ensures searched { IfOk result (HasSearched (with_output names.now) budgets wanted (W.A.held atoms.old) (W.told world.old) moves.old goal.now out.old.items
         (W.A.held atoms.new) (W.told world.new) moves.new out.new.items) }
@@ -95,9 +94,9 @@ pub(crate) fn goal_ran<W: World<Term = Stored>>(
 fn ran_by<A: Atoms>(
     alloc: Global,
     engine: &Engine,
-    searched: Searched,
+    searched: Ran<()>,
     atoms: &mut A,
-) -> Result<Ran, Memory>
+) -> Result<Ran<How<Flat>>, Memory>
     requires stands { (t : Told) × IsReady (A.held atoms.old) t engine.now × Stands (A.held atoms.old) t engine.now searched }
     ensures ran { IfOk result (IsRanBy (A.held atoms.old) engine.now searched) }
     ensures told { IfOk result IsEndedOr }
@@ -105,13 +104,13 @@ fn ran_by<A: Atoms>(
     ensures refusals { A.refusals atoms.new ≡ A.refusals atoms.old }
 {
     match searched {
-        Searched::Ended => {
+        Ran::Ended(()) => {
             let how = how_at(alloc, engine, atoms)?;
             Ok(Ran::Ended(how))
         }
-        Searched::Waits(on) => Ok(Ran::Waits(on)),
-        Searched::NeedsAtoms(pass) => Ok(Ran::NeedsAtoms(pass)),
-        Searched::Worn(word) => Ok(Ran::Worn(word)),
-        Searched::Missing(procedure) => Ok(Ran::Missing(procedure)),
+        Ran::Waits(on) => Ok(Ran::Waits(on)),
+        Ran::NeedsAtoms(pass) => Ok(Ran::NeedsAtoms(pass)),
+        Ran::Worn(word) => Ok(Ran::Worn(word)),
+        Ran::Missing(procedure) => Ok(Ran::Missing(procedure)),
     }
 }

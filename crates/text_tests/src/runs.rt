@@ -4,9 +4,12 @@ use crate::fields::{Fields, bytes_of};
 use crate::written::term_of;
 use anyhow::{Context, Result, bail};
 use op_table::OpTable;
+use pl_model::ends::{AtomRecord, How, WornHead};
 use pl_model::syntax::SyntaxKind;
-use pl_report::{GoalHow, How, Section, SectionKind, transcript};
+use pl_model::threads::{Name, On};
+use pl_report::{Section, SectionKind, transcript};
 use pl_term::Text;
+use run_model::ends::GoalHow;
 use std::alloc::Global;
 
 /// The text of a run with these sections, which stand with `¤` between.
@@ -56,9 +59,13 @@ fn how_of(alloc: Global, end: &str) -> Result<Option<GoalHow>> {
         "false" => Some(GoalHow::Ended(How::False)),
         "halted" => Some(GoalHow::Ended(How::Halted(rest.parse::<u8>()?))),
         "threw" => Some(GoalHow::Ended(How::Threw(term_of(alloc, rest)?))),
-        "exited" => Some(GoalHow::Ended(How::Exited)),
-        "no_atom_space" => Some(GoalHow::Ended(How::AtomSpace)),
-        "waits" => Some(GoalHow::Waits),
+        "exited" => Some(GoalHow::Ended(How::Exited(term_of(alloc, "i1")?))),
+        "no_atom_space" => Some(GoalHow::Ended(How::AtomSpace(AtomRecord::WornBucket(WornHead {
+            head: 0,
+            word: 0,
+            start: 0,
+        })))),
+        "waits" => Some(GoalHow::Waits(On::Queue(Name::Number(1)))),
         "syntax" => Some(GoalHow::Syntax {
             kind: SyntaxKind::UnexpectedToken,
             at: rest.parse::<u64>()?,

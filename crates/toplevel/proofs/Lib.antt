@@ -1,3 +1,4 @@
+pub mod CommandLemmas
 pub mod SectionLaws
 pub mod RunLemmas
 pub mod OutcomeFacts

@@ -1,27 +1,28 @@
 -- What holds of a run whose first engine has come to its end, or waits.
 use Rattle.std.proofs.Common.{◌≡◌, ◌+◌, ℕ, zero, suc, Bool, true, false, List, [], ◌∷◌, ◌++◌, length, Option, Some, None, refl, sym, ◌∙◌, ap, subst, inl, inr, arith, append-nil}
-use Rattle.std.specs.Prelude.{not, ◌&&◌, ◌||◌, ◌==◌, codes, if◌then◌else◌}
+use Rattle.std.specs.Prelude.{not, ◌&&◌, ◌||◌, ◌==◌, if◌then◌else◌}
 use Rattle.pl_term.specs.Tree.{Chars, Tree}
 use Rattle.pl_model.specs.declared.ends.How.{How}
 use Rattle.pl_model.specs.declared.ends.How.TheVariants.{Solved, False, Threw, Exited, Halted, AtomSpace}
 use Rattle.pl_model.specs.declared.ends.AtomRecord.{AtomRecord}
+use Rattle.pl_model.specs.declared.threads.On.{On}
 use Rattle.pl_model.specs.OperatorTable.{OperatorTable}
 use Rattle.pl_model.specs.History.{Entry, Kind, History, finish, start, AllPlain, IsPlain}
 use Rattle.pl_model.specs.SharedState.{SharedState, state_at}
 use Rattle.pl_model.specs.Resolution.{Ending, solved, no_more, threw, exited, halted}
-use Rattle.run_model.specs.Execution.{Execution, Activity, over, Refusal, Word as WordOf}
+use Rattle.run_model.specs.Execution.{Execution, Job, Activity, move, over, Refusal, Word as WordOf}
 use Rattle.run_model.specs.Lawful.{EndsSo, IsComplete, Program, Told, Beginning, beginnings, beginnings_from, main_job}
 use Rattle.run_model.specs.Progress.{Alone}
 use Rattle.run_model.specs.Report.{AreFinal, Finals, all_consulted, end_in, place_of_main, with_directive, with_stop, words_by, words_of, end_place, end_operators, transcript, thread_sections, goal_sections, consult_section, closed, with_output, output_of, with_last, goal_line}
 use Rattle.run_model.proofs.LawfulAlone.{alone_end, alone_end_in, alone_no_end, alone_wait}
 use Rattle.pl_model.proofs.StateLater.{state_later}
 use Rattle.run_model.proofs.LoneFinal.{lone_final_end, lone_final_wait}
-use Rattle.pl_command.specs.declared.ends.GoalEnd.{GoalEnd}
-use Rattle.pl_command.specs.Ends.{all_solved, end_by, end_of, ends_from, engines, first_halt, goal_ends, goal_how, goal_numbers, halt_by, has_no_end, lacks_atoms, or_else, some_fault, some_lacks_atoms, some_waits, thread_numbers}
-use Rattle.pl_command.specs.Told.{words_in}
-use Rattle.pl_command.specs.declared.ends.GoalHow.{GoalHow}
-use Rattle.pl_command.specs.declared.ends.GoalHow.TheVariants.{Ended}
-use Rattle.toplevel.specs.Outcomes.{AreRead, HasStopped, history_of, history_with, seen_of, told_with}
+use Rattle.run_model.specs.declared.ends.GoalEnd.{GoalEnd}
+use Rattle.run_model.specs.Ends.{all_solved, awaited_by, end_by, end_of, ends_from, engines, first_halt, goal_ends, goal_how, goal_numbers, halt_by, has_no_end, job_of, lacks_atoms, or_else, some_fault, some_lacks_atoms, some_waits, thread_numbers, with_end}
+use Rattle.toplevel.specs.Commands.{words_in}
+use Rattle.run_model.specs.declared.ends.GoalHow.{GoalHow}
+use Rattle.pl_report.specs.Reported.{Tells}
+use Rattle.toplevel.specs.Outcomes.{AreRead, Awaits, HasStopped, history_of, history_with, seen_of, told_with}
 use Rattle.toplevel.specs.Parts.{end_told, ends_in, report_by, goal_part, is_good, done_or_failed}
 use Rattle.toplevel.specs.declared.outcome.Front.{Front}
 use Rattle.toplevel.specs.declared.outcome.Word.{Word}
@@ -183,42 +184,61 @@ text_reported p f end x n name goal word names ops words plain ops-are is none s
     (sym (none_begun (history_of f) f.generations.items end n plain))
 
 -- The ends of the goals.
-one_end : GoalHow → List GoalEnd
-one_end how = record { engine = 1; name = codes "main"; how = how } ∷ []
 
-ends_read : (h : History) (x : Execution) (end : Option (How Tree)) (word : Option Word) (names : List (Chars × ℕ)) (ws : List WordOf)
+-- What it waits on is what its request names.
+goal_awaits : (p : Program) (end : Option (How Tree)) (on : Option On) (x : Execution) → Awaits p end on x
+    → goal_how on end ≡ goal_how (awaited_by 1 (move (main_job p) x)) end
+goal_awaits p (Some how) on x a = refl
+goal_awaits p None None x a = absurd a
+goal_awaits p None (Some on) x a = ap (λ (o : Option On). goal_how o None) (sym a)
+
+pub last_tells : (p : Program) (end : Option (How Tree)) (on : Option On) (x : Execution) → Awaits p end on x → Tells (goal_how on end) end
+last_tells p (Some how) on x a = refl
+last_tells p None None x a = absurd a
+last_tells p None (Some on) x a = tt
+
+-- The job of the first engine, where none was started.
+first_job : (p : Program) (bs : List Beginning) → bs ≡ [] → main_job p ≡ job_of p bs 1
+first_job p bs none = ap (λ (cs : List Beginning). job_of p cs 1) (sym none)
+
+ends_read : (p : Program) (h : History) (x : Execution) (end : Option (How Tree)) (on : Option On) (word : Option Word) (names : List (Chars × ℕ)) (ws : List WordOf)
     → AreRead word names ws
+    → Awaits p end on x
+    → beginnings h ≡ []
     → end_in h 1 ≡ end
-    → ends_in end word ≡ ends_from h (alone_at x) [] 1 ws
-unfolding one_end
-ends_read h x end None names ws is stop = ap (ends_from h (alone_at x) [] 1) (sym is)
-ends_read h x end (Some Goal) names ws is stop =
-    ap one_end (ap goal_how (sym stop)) ∙ ap (ends_from h (alone_at x) [] 1) (sym is.1)
-ends_read h x end (Some (Fault kind at)) names ws is stop = ap (ends_from h (alone_at x) [] 1) (sym is)
+    → ends_in on end word ≡ ends_from p h (alone_at x) [] 1 ws
+ends_read p h x end on None names ws is awaits none stop = ap (ends_from p h (alone_at x) [] 1) (sym is)
+ends_read p h x end on (Some Goal) names ws is awaits none stop =
+    ap (λ (g : Option GoalHow). with_end 1 g []) (goal_awaits p end on x awaits)
+    ∙ ap (λ (j : Job). with_end 1 (goal_how (awaited_by 1 (move j x)) end) []) (first_job p (beginnings h) none)
+    ∙ ap (λ (e : Option (How Tree)). with_end 1 (goal_how (awaited_by 1 (move (job_of p (beginnings h) 1) x)) e) []) (sym stop)
+    ∙ ap (ends_from p h (alone_at x) [] 1) (sym is.1)
+ends_read p h x end on (Some (Fault kind at)) names ws is awaits none stop = ap (ends_from p h (alone_at x) [] 1) (sym is)
 
-pub ends_reported : (p : Program) (f : Front) (end : Option (How Tree)) (x : Execution) (n : ℕ) (word : Option Word) (names : List (Chars × ℕ))
+pub ends_reported : (p : Program) (f : Front) (end : Option (How Tree)) (on : Option On) (x : Execution) (n : ℕ) (word : Option Word) (names : List (Chars × ℕ))
     → AllPlain 1 (history_of f)
     → AreRead word names x.words
     → x.refusals ≡ []
     → HasStopped p f end x
-    → ends_in end word ≡ goal_ends p (told_with (history_of f) f.generations.items end n) (alone_at x)
-ends_reported p f end x n word names plain is none stopped =
+    → Awaits p end on x
+    → ends_in on end word ≡ goal_ends p (told_with (history_of f) f.generations.items end n) (alone_at x)
+ends_reported p f end on x n word names plain is none stopped awaits =
     let told : Told = told_with (history_of f) f.generations.items end n in
     let stop : end_in told.history 1 ≡ end = ended_at (history_of f) end n plain in
-    ends_read told.history x end word names x.words is stop
-    ∙ ap (λ (rs : List Refusal). ends_from told.history (alone_at x) rs 1 x.words) (sym none)
-    ∙ ap (ends_from told.history (alone_at x) x.refusals 1) (sym (stop_words p f told end x stopped) ∙ ap (words_by p told x) (sym stop))
+    ends_read p told.history x end on word names x.words is awaits (none_begun (history_of f) f.generations.items end n plain) stop
+    ∙ ap (λ (rs : List Refusal). ends_from p told.history (alone_at x) rs 1 x.words) (sym none)
+    ∙ ap (ends_from p told.history (alone_at x) x.refusals 1) (sym (stop_words p f told end x stopped) ∙ ap (words_by p told x) (sym stop))
 
 -- The end of the program.
-good_read : (how : How Tree) (word : Option Word) → all_solved (ends_in (Some how) word) ≡ is_good how word
-good_read how None = refl
-good_read Solved (Some Goal) = refl
-good_read False (Some Goal) = refl
-good_read (Threw b) (Some Goal) = refl
-good_read (Exited b) (Some Goal) = refl
-good_read (Halted b) (Some Goal) = refl
-good_read (AtomSpace found) (Some Goal) = refl
-good_read how (Some (Fault kind at)) = refl
+good_read : (on : Option On) (how : How Tree) (word : Option Word) → all_solved (ends_in on (Some how) word) ≡ is_good how word
+good_read on how None = refl
+good_read on Solved (Some Goal) = refl
+good_read on False (Some Goal) = refl
+good_read on (Threw b) (Some Goal) = refl
+good_read on (Exited b) (Some Goal) = refl
+good_read on (Halted b) (Some Goal) = refl
+good_read on (AtomSpace found) (Some Goal) = refl
+good_read on how (Some (Fault kind at)) = refl
 
 by_done : (done : Bool) → done_or_failed done ≡ end_by None false done
 by_done true = refl
@@ -228,42 +248,43 @@ never_done : (b : Bool) → (b && false) ≡ false
 never_done true = refl
 never_done false = refl
 
-end_by_parts : (end : Option (How Tree)) (word : Option Word) (faulty : Bool)
+end_by_parts : (on : Option On) (end : Option (How Tree)) (word : Option Word) (faulty : Bool)
     → end_told end word faulty
-    ≡ end_by (or_else (halt_by end) None) (has_no_end end || false) (all_solved (ends_in end word) && (not (lacks_atoms end || false) && not faulty))
-end_by_parts None word faulty = refl
-end_by_parts (Some Solved) word faulty =
-    by_done (is_good Solved word && not faulty) ∙ ap (λ (b : Bool). end_by None false (b && not faulty)) (sym (good_read Solved word))
-end_by_parts (Some False) word faulty =
-    by_done (is_good False word && not faulty) ∙ ap (λ (b : Bool). end_by None false (b && not faulty)) (sym (good_read False word))
-end_by_parts (Some (Threw t)) word faulty =
-    by_done (is_good (Threw t) word && not faulty) ∙ ap (λ (b : Bool). end_by None false (b && not faulty)) (sym (good_read (Threw t) word))
-end_by_parts (Some (Exited t)) word faulty =
-    by_done (is_good (Exited t) word && not faulty) ∙ ap (λ (b : Bool). end_by None false (b && not faulty)) (sym (good_read (Exited t) word))
-end_by_parts (Some (Halted n)) word faulty = refl
-end_by_parts (Some (AtomSpace found)) word faulty =
-    ap (end_by None false) (sym (never_done (all_solved (ends_in (Some (AtomSpace found)) word))))
+    ≡ end_by (or_else (halt_by end) None) (has_no_end end || false) (all_solved (ends_in on end word) && (not (lacks_atoms end || false) && not faulty))
+end_by_parts on None word faulty = refl
+end_by_parts on (Some Solved) word faulty =
+    by_done (is_good Solved word && not faulty) ∙ ap (λ (b : Bool). end_by None false (b && not faulty)) (sym (good_read on Solved word))
+end_by_parts on (Some False) word faulty =
+    by_done (is_good False word && not faulty) ∙ ap (λ (b : Bool). end_by None false (b && not faulty)) (sym (good_read on False word))
+end_by_parts on (Some (Threw t)) word faulty =
+    by_done (is_good (Threw t) word && not faulty) ∙ ap (λ (b : Bool). end_by None false (b && not faulty)) (sym (good_read on (Threw t) word))
+end_by_parts on (Some (Exited t)) word faulty =
+    by_done (is_good (Exited t) word && not faulty) ∙ ap (λ (b : Bool). end_by None false (b && not faulty)) (sym (good_read on (Exited t) word))
+end_by_parts on (Some (Halted n)) word faulty = refl
+end_by_parts on (Some (AtomSpace found)) word faulty =
+    ap (end_by None false) (sym (never_done (all_solved (ends_in on (Some (AtomSpace found)) word))))
 
 one_engine : (p : Program) (h : History) (gens : List ℕ) (end : Option (How Tree)) (n : ℕ) → AllPlain 1 h → engines p (told_with h gens end n) ≡ 1 ∷ []
 one_engine p h gens end n plain =
     ap (λ (bs : List Beginning). 1 ∷ (goal_numbers p bs ++ thread_numbers p bs)) (none_begun h gens end n plain)
 
-pub end_reported : (p : Program) (f : Front) (end : Option (How Tree)) (x : Execution) (n : ℕ) (word : Option Word) (names : List (Chars × ℕ)) (faulty : Bool)
+pub end_reported : (p : Program) (f : Front) (end : Option (How Tree)) (on : Option On) (x : Execution) (n : ℕ) (word : Option Word) (names : List (Chars × ℕ)) (faulty : Bool)
     → AllPlain 1 (history_of f)
     → AreRead word names x.words
     → x.refusals ≡ []
     → HasStopped p f end x
+    → Awaits p end on x
     → faulty ≡ some_fault x.consulted
     → end_told end word faulty ≡ end_of p (told_with (history_of f) f.generations.items end n) (alone_at x)
-end_reported p f end x n word names faulty plain is none stopped kept =
+end_reported p f end on x n word names faulty plain is none stopped awaits kept =
     let told : Told = told_with (history_of f) f.generations.items end n in
     let h : History = told.history in
     let stop : end_in h 1 ≡ end = ended_at (history_of f) end n plain in
-    end_by_parts end word faulty
-    ∙ ap (λ (e : Option (How Tree)). end_by (or_else (halt_by e) None) (has_no_end e || false) (all_solved (ends_in end word) && (not (lacks_atoms e || false) && not faulty)))
+    end_by_parts on end word faulty
+    ∙ ap (λ (e : Option (How Tree)). end_by (or_else (halt_by e) None) (has_no_end e || false) (all_solved (ends_in on end word) && (not (lacks_atoms e || false) && not faulty)))
     (sym stop)
     ∙ ap (λ (es : List GoalEnd). end_by (first_halt h (1 ∷ [])) (some_waits h (1 ∷ [])) (all_solved es && (not (some_lacks_atoms h (1 ∷ [])) && not faulty)))
-    (ends_reported p f end x n word names plain is none stopped)
+    (ends_reported p f end on x n word names plain is none stopped awaits)
     ∙ ap (λ (b : Bool). end_by (first_halt h (1 ∷ [])) (some_waits h (1 ∷ [])) (all_solved (goal_ends p told (alone_at x)) && (not (some_lacks_atoms h (1 ∷ [])) && not b))) kept
     ∙ ap (λ (es : List ℕ). end_by (first_halt h es) (some_waits h es) (all_solved (goal_ends p told (alone_at x)) && (not (some_lacks_atoms h es) && not (some_fault x.consulted))))
     (sym (one_engine p (history_of f) f.generations.items end n plain))

@@ -17,27 +17,28 @@ use Rattle.atom_words.specs.declared.view.Cause.{Cause}
 use Rattle.atom_words.specs.declared.view.Refusal.{Refusal}
 use Rattle.atom_words.specs.declared.view.Refusal.TheVariants.{Again as RefusalAgain}
 use Rattle.atom_api.specs.Names.{Names}
+use Rattle.world_api.specs.Answers.{on_by}
+use Rattle.world_api.specs.Texts.{text_of}
 use Rattle.world_api.specs.Told.{Told}
 use Rattle.script_api.specs.Parts.{Part, of_goal, of_directive, with_search}
 use Rattle.script_api.specs.Comes.{ComesBy}
 use Rattle.script_api.specs.Scripts.{AreNames, EndsAs, LeavesOff}
 use Rattle.script_api.proofs.ComesLaws.{by_then}
 use Rattle.iso_search.specs.declared.search.Budgets.{Budgets}
-use Rattle.first_script.specs.declared.file_script.FileScript.{FileScript}
-use Rattle.first_script.specs.FileScripts.{Plays, execution_of, part_in}
-use Rattle.plain_run.specs.declared.ran.Ran.{Ran}
+use Rattle.pl_consult.specs.declared.file_script.FileScript.{FileScript}
+use Rattle.pl_consult.specs.FileScripts.{Plays, execution_of, part_in}
 use Rattle.plain_run.specs.declared.ran.Ran.TheVariants as ran
-use Rattle.plain_run.specs.declared.items.Items.TheVariants as items
+use Rattle.plain_run.specs.declared.items.Item.TheVariants as items
 use Rattle.plain_run.specs.Items.{GoalStandsAs, HasRunGoal, HasRunItems, IsDirectiveIn, IsSearchedIn, IsText}
-use Rattle.plain_run.specs.Ran.{HasBudgets, IsUnbuiltBy, at_start_of}
+use Rattle.plain_run.specs.Ran.{HasBudgets, IsUnbuiltBy, Ran, WaitsOn, at_start_of}
 use Rattle.plain_run.specs.Searched.{IsRefusedOnce}
 use Rattle.iso_engine.specs.Missing.{IsUnbuiltDoing}
 use Rattle.toplevel.specs.Unbuilt.{IsAtUnbuilt, indicated}
 use Rattle.world_api.specs.declared.visit.Procedure.{Procedure}
-use Rattle.pl_command.specs.declared.command.Limits.{Limits}
+use Rattle.toplevel.specs.declared.command.Limits.{Limits}
 use Rattle.toplevel.specs.declared.play.Stop.{Stop}
 use Rattle.toplevel.specs.declared.play.Stop.TheVariants.{Ended, Waits, Missing}
-use Rattle.toplevel.specs.FirstRun.{HasLimits, HasPlayed, IsMissing, IsPlayed, IsStopOf, StandsSo}
+use Rattle.toplevel.specs.FirstRun.{HasLimits, HasPlayed, IsMissing, IsPlayed, IsStopOf, IsWaiting, StandsSo}
 
 -- Where nothing is refused before and after a search, no refusal has stopped it.
 last_none : (causes : List Cause) (last : List Refusal) → [] ≡ map RefusalAgain causes ++ last → last ≡ []
@@ -92,8 +93,18 @@ missing_as : (n : Names) (s : FileScript) (job : Job) (ds : List Consulted) (p :
     → (h : IsSearchedIn executed part_in n s job ds y) × IsUnbuiltBy n p h.state.doing
     → StandsSo s job ds u stop y
 missing_as n s job ds p (Ended h) u y is g = absurd is
-missing_as n s job ds p Waits u y is g = absurd is
+missing_as n s job ds p (Waits on) u y is g = absurd is
 missing_as n s job ds p (Missing name arity) u y is g = missing_at n s job ds p name arity y is.0 is.1 g
+
+-- What is waited on, by the text of its alias.
+waits_as : (n : Names) (s : FileScript) (job : Job) (ds : List Consulted) (on : On) (stop : Stop) (u : Told) (y : Execution)
+    → IsWaiting n on stop
+    → IsSearchedIn executed part_in n s job ds y × WaitsOn u job (on_by (text_of n) on) y
+    → StandsSo s job ds u stop y
+waits_as n s job ds on (Ended h) u y is g = absurd is
+waits_as n s job ds on (Waits x) u y is g =
+    (record { item = g.0.item; state = g.0.state; at_hand = g.0.at_hand; is = g.0.is }, subst (λ z. WaitsOn u job z y) (sym is) g.1)
+waits_as n s job ds on (Missing name arity) u y is g = absurd is
 
 -- The history has the end of a search as it is told.
 ends_so : (how : How Tree) (e : Ending) → EndsAs how e → EndsSo e how
@@ -137,11 +148,7 @@ goal_stands part n u s job ds (ran.Ended how) stop y is g =
     (λ (x : Stop). StandsSo s job ds u x y)
     (sym is)
     (record { ending = g.0; output = g.1; is = g.3 }, ends_so how g.0 g.2)
-goal_stands part n u s job ds (ran.Waits on) stop y is g =
-    subst
-    (λ (x : Stop). StandsSo s job ds u x y)
-    (sym is)
-    (record { item = g.0.item; state = g.0.state; at_hand = g.0.at_hand; is = g.0.is }, g.1)
+goal_stands part n u s job ds (ran.Waits on) stop y is g = waits_as n s job ds on stop u y is g
 goal_stands part n u s job ds (ran.NeedsAtoms p) stop y is g = absurd is
 goal_stands part n u s job ds (ran.Worn w) stop y is g = absurd is
 goal_stands part n u s job ds (ran.Missing p) stop y is g = missing_as n s job ds p stop u y is g
@@ -150,7 +157,7 @@ whole : (job : Job) (name : Chars) (x : Execution) (t : Told) (before : ℕ) (st
     → HasPlayed job name x t before stop s kept u after text out
     → IsPlayed job name x t before stop s kept u after text out
 whole job name x t before (Ended how) s kept u after text out h = h
-whole job name x t before Waits s kept u after text out h = h
+whole job name x t before (Waits on) s kept u after text out h = h
 whole job name x t before (Missing n a) s kept u after text out h = record { execution = h.execution; comes = h.comes; at = h.stands }
 
 pub goal_played : (kept : FileScript → Bool) (name : Chars) (b : Budgets) (l : Limits) (names : List (Chars × ℕ)) (goal : Tree) (m : Names) (t : Told) (before : ℕ) (old : FileScript) (bytes old_out : List ℕ) (r : Ran) (stop : Stop) (n : Names) (u : Told) (after : ℕ) (new : FileScript) (more new_out : List ℕ)
@@ -214,7 +221,7 @@ searched_none x s place rest = refl
 -- The stop that the items come to, where no goal was given.
 pub over_played : (kept : FileScript → Bool) (name : Chars) (b : Budgets) (l : Limits) (m : Names) (t : Told) (before : ℕ) (old : FileScript) (bytes : List ℕ) (h : Option ℕ) (how : How Tree) (n : Names) (u : Told) (after : ℕ) (new : FileScript) (more out : List ℕ)
     → b ≡ budgets_in l
-    → HasRunItems executed part_in played kept name b m t before old bytes (items.Over h) n u after new more
+    → HasRunItems executed part_in played kept name b m t before old bytes (ran.Ended (items.Over h)) n u after new more
     → out ≡ []
     → ((ending : Ending) (os : List Output) → LeavesOff h None None ending os → EndsSo ending how)
     → (job : Job) (cs : List Consulted) (x : Execution)
@@ -247,34 +254,36 @@ at_directive of_goal o is directive x s =
     let no : IsDirectiveIn (Some of_goal) = subst IsDirectiveIn is directive in absurd (false≢true no)
 at_directive (of_directive at rest) o is directive x s = refl
 
-pub waits_played : (kept : FileScript → Bool) (name : Chars) (b : Budgets) (l : Limits) (m : Names) (t : Told) (before : ℕ) (old : FileScript) (bytes : List ℕ) (on : On) (n : Names) (u : Told) (after : ℕ) (new : FileScript) (more out : List ℕ)
+pub waits_played : (kept : FileScript → Bool) (name : Chars) (b : Budgets) (l : Limits) (m : Names) (t : Told) (before : ℕ) (old : FileScript) (bytes : List ℕ) (on : On) (stop : Stop) (n : Names) (u : Told) (after : ℕ) (new : FileScript) (more out : List ℕ)
     → b ≡ budgets_in l
-    → HasRunItems executed part_in played kept name b m t before old bytes (items.Waits on) n u after new more
+    → HasRunItems executed part_in played kept name b m t before old bytes (ran.Waits on) n u after new more
     → out ≡ []
     → IsDirectiveIn (part_in new)
+    → IsWaiting n on stop
     → (job : Job) (cs : List Consulted) (x : Execution)
     → HasLimits job l
     → Plays old job.script
     → x ≡ execution_of old job cs
     → IsText name (kept old) x bytes
-    → HasPlayed job name x t before Waits new kept u after more out
-waits_played kept name b l m t before old bytes on n u after new more out budgets has empty directive job cs x limits p at w =
+    → IsPlayed job name x t before stop new kept u after more out
+waits_played kept name b l m t before old bytes on stop n u after new more out budgets has empty directive waiting job cs x limits p at w =
     let g = has job cs x (has_budgets job l b budgets limits) p at w in
     let s = g.3 in
     let words : List Word = (execution_of new job g.0).words in
-    record {
+    whole job name x t before stop new kept u after more out
+    (record {
       execution = g.1;
       lines = g.0;
       names = own_names words;
       comes = g.2;
-      stands = (record { item = s.0.item; state = s.0.state; at_hand = s.0.at_hand; is = s.0.is }, s.1);
+      stands = waits_as n new job g.0 on stop u g.1 waiting s;
       named = own words;
       text_is = g.5;
       output_is =
           empty
           ∙ ap (λ (os : List Output). encode_utf8_all (with_output (own_names words) [] os)) (sym (at_directive s.0.item (part_in new) s.0.at_hand directive (execution_of new job g.0) s.0.state))
           ∙ ap (λ (y : Execution). encode_utf8_all (with_output (own_names words) [] (output_of y))) (sym s.0.is);
-    }
+    })
 
 -- And after the items the goal.
 played_on : (job : Job) (name : Chars) (x y : Execution) (t v : Told) (before middle : ℕ) (stop : Stop) (s : FileScript) (kept : FileScript → Bool) (u : Told) (after : ℕ) (text out : List ℕ)
@@ -292,7 +301,7 @@ played_on job name x y t v before middle (Ended how) s kept u after text out c h
       text_is = h.text_is;
       output_is = h.output_is;
     }
-played_on job name x y t v before middle Waits s kept u after text out c h =
+played_on job name x y t v before middle (Waits on) s kept u after text out c h =
     record {
       execution = h.execution;
       lines = h.lines;
@@ -309,7 +318,7 @@ played_on job name x y t v before middle (Missing n a) s kept u after text out c
 pub goal_on : (kept : FileScript → Bool) (name next : Chars) (b : Budgets) (l : Limits) (m : Names) (t : Told) (before : ℕ) (old : FileScript) (bytes : List ℕ) (goal : Tree) (n : Names) (u : Told) (middle : ℕ) (mid : FileScript) (more : List ℕ) (r : Result Stop WantOfMemory) (s : FileScript) (v : Told) (after : ℕ) (last out : List ℕ)
     → b ≡ budgets_in l
     → next ≡ name
-    → HasRunItems executed part_in played kept name b m t before old bytes (items.Goal goal) n u middle mid more
+    → HasRunItems executed part_in played kept name b m t before old bytes (ran.Ended (items.Goal goal)) n u middle mid more
     → ((job : Job) (cs : List Consulted) (x : Execution)
     → HasLimits job l
     → Plays mid job.script
@@ -337,7 +346,7 @@ goal_on kept name next b l m t before old bytes goal n u middle mid more r s v a
 -- A directive came to a predicate that is not built.
 pub missing_played : (kept : FileScript → Bool) (name : Chars) (b : Budgets) (l : Limits) (m : Names) (t : Told) (before : ℕ) (old : FileScript) (bytes : List ℕ) (q : Procedure) (stop : Stop) (n : Names) (u : Told) (after : ℕ) (new : FileScript) (more out : List ℕ)
     → b ≡ budgets_in l
-    → HasRunItems executed part_in played kept name b m t before old bytes (items.Missing q) n u after new more
+    → HasRunItems executed part_in played kept name b m t before old bytes (ran.Missing q) n u after new more
     → IsMissing n q stop
     → (job : Job) (cs : List Consulted) (x : Execution)
     → HasLimits job l
@@ -346,7 +355,7 @@ pub missing_played : (kept : FileScript → Bool) (name : Chars) (b : Budgets) (
     → IsText name (kept old) x bytes
     → IsPlayed job name x t before stop new kept u after more out
 missing_played kept name b l m t before old bytes q (Ended h) n u after new more out budgets has is job cs x limits p at w = absurd is
-missing_played kept name b l m t before old bytes q Waits n u after new more out budgets has is job cs x limits p at w = absurd is
+missing_played kept name b l m t before old bytes q (Waits on) n u after new more out budgets has is job cs x limits p at w = absurd is
 missing_played kept name b l m t before old bytes q (Missing called arity) n u after new more out budgets has is job cs x limits p at w =
     let g = has job cs x (has_budgets job l b budgets limits) p at w in
     record { execution = g.1; comes = g.2; at = missing_at n new job g.0 q called arity g.1 is.0 is.1 g.3 }

@@ -3,12 +3,12 @@ use Rattle.std.proofs.Common.{◌≡◌, ◌≤◌, ℕ, suc, Bool, true, false,
 use Rattle.std.proofs.lemmas.List.{take_all}
 use Rattle.std.specs.Prelude.{Result, Ok, Err, OnOk, OnErr}
 use Rattle.run_model.specs.Execution.{most_bytes}
-use Rattle.pl_command.specs.declared.ends.End.{End}
-use Rattle.pl_command.specs.declared.ends.End.TheVariants.{Done, GoalFailed, Usage, Waiting, Memory, ReadFault, WriteFault, Halted, Unbuilt}
+use Rattle.run_model.specs.declared.ends.End.{End}
+use Rattle.run_model.specs.declared.ends.End.TheVariants.{Done, GoalFailed, Usage, Waiting, Memory, ReadFault, WriteFault, Halted, Unbuilt}
 use Rattle.pl_model.specs.History.{Proc}
 use Rattle.run_model.specs.Lawful.{Program, Told}
-use Rattle.pl_command.specs.CommandLine.{Command, program_of}
-use Rattle.pl_command.specs.Ends.{all_done, end_by, engines, first_halt, some_waits}
+use Rattle.run_model.specs.CommandLine.{Command, program_of}
+use Rattle.run_model.specs.Ends.{all_done, end_by, engines, first_halt, some_waits}
 use Rattle.toplevel.specs.Headline.{AreRead, GaveUp, IsNamed, IsPartlyWritten, IsReady, IsWritten, IsWrittenUnless, Missed, Promised, Ran, RanUnwritten}
 use Rattle.toplevel.specs.Outcomes.{told_by}
 use Rattle.toplevel.specs.Unbuilt.{IsStuck}

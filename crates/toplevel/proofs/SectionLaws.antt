@@ -8,8 +8,8 @@ use Rattle.pl_model.specs.declared.ends.How.{How}
 use Rattle.pl_model.specs.Resolution.{text}
 use Rattle.run_model.specs.Execution.{Execution, at_activity, initializing}
 use Rattle.run_model.specs.Report.{closed, fault_text, goal_line, with_last}
-use Rattle.pl_report.specs.declared.parts.GoalHow.{GoalHow}
-use Rattle.pl_report.specs.declared.parts.GoalHow.TheVariants.{Syntax}
+use Rattle.run_model.specs.declared.ends.GoalHow.{GoalHow}
+use Rattle.run_model.specs.declared.ends.GoalHow.TheVariants.{Syntax}
 use Rattle.pl_report.specs.declared.parts.Section.{Section}
 use Rattle.pl_report.specs.declared.parts.SectionKind.TheVariants.{Goal}
 use Rattle.pl_report.specs.Reported.{IsEnough, Tells}

@@ -1,12 +1,14 @@
 -- Where the first engine stands, from the run of its script.
 use Rattle.std.proofs.Common.{◌≡◌, ℕ, ◌+◌, zero, suc, take, Bool, true, false, List, [], ◌∷◌, ◌++◌, length, Option, Some, None, refl, sym, ◌∙◌, ap, subst, append-nil}
 use Rattle.std.specs.Prelude.{◌||◌, if◌then◌else◌, nat_lt, codes, encode_utf8_all}
+use Rattle.std.specs.Arc.{arc_value}
 use Rattle.pl_term.specs.Tree.{Chars, Tree}
 use Rattle.pl_model.specs.declared.ends.How.{How}
+use Rattle.pl_model.specs.declared.threads.On.{On}
 use Rattle.pl_model.specs.History.{History, AllPlain}
 use Rattle.pl_model.specs.SharedState.{state_at}
 use Rattle.pl_model.specs.Resolution.{Output, text, solution, State}
-use Rattle.run_model.specs.Execution.{Consulted, wrote, too_large, syntax_fault, ball_of_item, directive_failed, directive_halted, Execution, Job, Word as WordOf, at_activity, at_start, consults, first_execution, initializing, most_bytes, over, taking, texts_of}
+use Rattle.run_model.specs.Execution.{Consulted, wrote, too_large, syntax_fault, ball_of_item, directive_failed, directive_halted, Execution, Job, Word as WordOf, at_activity, at_start, consults, first_execution, initializing, most_bytes, move, over, taking, texts_of}
 use Rattle.run_model.specs.Lawful.{Program, main_job}
 use Rattle.run_model.specs.Progress.{Alone, Reached, WaitsNow}
 use Rattle.run_model.specs.Report.{all_consulted, with_consulted, item_line, with_directive, with_line}
@@ -16,18 +18,18 @@ use Rattle.script_api.specs.Parts.{Part, of_goal, of_directive, seen_in, with_se
 use Rattle.script_api.specs.Comes.{ComesBy}
 use Rattle.script_api.specs.Scripts.{AreNames, written_at}
 use Rattle.script_api.specs.Scripts as scripts
-use Rattle.first_script.specs.declared.file_script.FileScript.{FileScript}
-use Rattle.first_script.specs.FileScripts.{Begins, Plays, execution_of, part_in}
-use Rattle.first_script.specs.Words.{given_words}
+use Rattle.pl_consult.specs.declared.file_script.FileScript.{FileScript}
+use Rattle.pl_consult.specs.FileScripts.{Begins, Plays, execution_of, part_in}
+use Rattle.pl_consult.specs.GoalWords.{given_words}
 use Rattle.plain_run.specs.Items.{IsText}
-use Rattle.pl_command.specs.Ends.{is_fault, some_fault}
-use Rattle.pl_command.specs.CommandLine.{program_of}
-use Rattle.pl_command.specs.declared.command.Command.{Command}
-use Rattle.pl_command.specs.Told.{told_command, words_in}
+use Rattle.run_model.specs.Ends.{awaited_by, is_fault, some_fault}
+use Rattle.run_model.specs.CommandLine.{program_of}
+use Rattle.toplevel.specs.declared.command.Command.{Command}
+use Rattle.toplevel.specs.Commands.{told_command, words_in}
 use Rattle.toplevel.specs.declared.outcome.Outcome.{Outcome}
 use Rattle.toplevel.specs.declared.play.Stop.{Stop}
 use Rattle.toplevel.specs.declared.play.Stop.TheVariants.{Ended, Missing, Waits}
-use Rattle.toplevel.specs.Outcomes.{AreRead, HasStopped, IsLine, Stood, history_of, line_at, start_of}
+use Rattle.toplevel.specs.Outcomes.{AreRead, Awaits, HasStopped, IsLine, Stood, history_of, line_at, start_of}
 use Rattle.toplevel.specs.FirstRun.{HasLimits, HasMissed, HasPlayed, IsPlayed}
 use Rattle.toplevel.specs.Unbuilt.{IsStuck, indicated}
 
@@ -94,7 +96,7 @@ pub record Keeps (p : Program) (o : Outcome) (end : Option (How Tree)) (s : File
   pub history : history_of o.front ≡ u.history
   pub gens : o.front.generations.items ≡ u.gens
   pub plain : AllPlain 1 u.history
-  pub operators : o.operators ≡ (state_at u.goals u.history (length u.history)).operators
+  pub operators : arc_value o.operators ≡ (state_at u.goals u.history (length u.history)).operators
   pub words : (job : Job) (cs : List Consulted) (names : List (Chars × ℕ)) → AreNames names (execution_of s job cs).words → AreRead o.word names (execution_of s job cs).words
 
 told_of_it : (p : Program) (o : Outcome) (end : Option (How Tree)) (s : FileScript) (kept : FileScript → Bool) (u : Told) (moves : ℕ) (text output : List ℕ) (x y : Execution)
@@ -152,6 +154,7 @@ stood_ended p name o how stop s kept u moves bytes output is k played =
           (λ (z : Option (How Tree)). HasStopped p o.front z h.execution)
           (sym k.end_is)
           (record { ending = e.ending; is_over = ap (λ (z : Execution). z.activity) e.is; ends_so = h.stands.1 });
+      awaits = subst (λ (z : Option (How Tree)). Awaits p z o.awaits h.execution) (sym k.end_is) tt;
       operators = k.operators ∙ ap (λ (v : Told). (state_at v.goals v.history (length v.history)).operators) told;
       text =
           k.text_is
@@ -174,15 +177,16 @@ stood_ended p name o how stop s kept u moves bytes output is k played =
     }
 
 -- It waits.
-pub stood_waiting : (p : Program) (name : Chars) (o : Outcome) (stop : Stop) (s : FileScript) (kept : FileScript → Bool) (u : Told) (moves : ℕ) (text more output : List ℕ)
-    → stop ≡ Waits
+pub stood_waiting : (p : Program) (name : Chars) (o : Outcome) (on : On) (stop : Stop) (s : FileScript) (kept : FileScript → Bool) (u : Told) (moves : ℕ) (text more output : List ℕ)
+    → stop ≡ Waits on
     → Keeps p o None s kept u moves more output
+    → o.awaits ≡ Some on
     → IsLine (part_in s) name text more
     → IsPlayed (main_job p) name (at_start (main_job p)) (start_of p) 0 stop s kept u moves text output
     → Stood p name o
-stood_waiting p name o stop s kept u moves bytes more output is k line played =
+stood_waiting p name o on stop s kept u moves bytes more output is k awaited line played =
     let job : Job = main_job p in
-    let h : HasPlayed job name (at_start job) (start_of p) 0 Waits s kept u moves bytes output =
+    let h : HasPlayed job name (at_start job) (start_of p) 0 (Waits on) s kept u moves bytes output =
     subst (λ (z : Stop). IsPlayed job name (at_start job) (start_of p) 0 z s kept u moves bytes output) is played in
     let told = told_of_it p o None s kept u moves more output (at_start job) h.execution k h.comes in
     let comes : ComesBy job (at_start job) (start_of p) 0 h.execution (told_in p o) moves =
@@ -197,7 +201,15 @@ stood_waiting p name o stop s kept u moves bytes more output is k line played =
           subst
           (λ (z : Option (How Tree)). HasStopped p o.front z h.execution)
           (sym k.end_is)
-          (subst (λ (v : Told). WaitsNow v.engine v.goals job (record { execution = h.execution; history = v.history; gens = v.gens })) told h.stands.1);
+          (subst (λ (v : Told). WaitsNow v.engine v.goals job (record { execution = h.execution; history = v.history; gens = v.gens })) told h.stands.1.waits);
+      awaits =
+          subst
+          (λ (z : Option (How Tree)). Awaits p z o.awaits h.execution)
+          (sym k.end_is)
+          (subst
+          (λ (z : Option On). Awaits p None z h.execution)
+          (sym awaited)
+          (subst (λ (v : Told). awaited_by v.engine (move job h.execution) ≡ Some on) told h.stands.1.awaits));
       operators = k.operators ∙ ap (λ (v : Told). (state_at v.goals v.history (length v.history)).operators) told;
       text =
           k.text_is

@@ -5,21 +5,23 @@ use Rattle.pl_model.specs.History.{Proc}
 use Rattle.pl_model.specs.Resolution.{Ending, Output}
 use Rattle.run_model.specs.Execution.{Consulted, Execution, Job, over}
 use Rattle.run_model.specs.Lawful.{EndsSo}
-use Rattle.run_model.specs.Progress.{WaitsNow}
 use Rattle.run_model.specs.Report.{output_of, with_output}
 use Rattle.atom_api.specs.Names.{Names}
+use Rattle.world_api.specs.declared.answer.On.{On}
 use Rattle.world_api.specs.declared.visit.Procedure.{Procedure}
+use Rattle.world_api.specs.Answers.{on_by}
+use Rattle.world_api.specs.Texts.{text_of}
 use Rattle.world_api.specs.Told.{Told}
-use Rattle.script_api.specs.Parts.{Part, seen_in, with_search}
+use Rattle.script_api.specs.Parts.{Part, with_search}
 use Rattle.script_api.specs.Comes.{ComesBy}
 use Rattle.script_api.specs.Scripts.{AreNames}
 use Rattle.pl_model.specs.Resolution.{State}
-use Rattle.first_script.specs.declared.file_script.FileScript.{FileScript}
-use Rattle.first_script.specs.FileScripts.{execution_of, part_in}
+use Rattle.pl_consult.specs.declared.file_script.FileScript.{FileScript}
+use Rattle.pl_consult.specs.FileScripts.{execution_of, part_in}
 use Rattle.plain_run.specs.Items.{IsText}
-use Rattle.plain_run.specs.declared.ran.Ran.{Ran}
+use Rattle.plain_run.specs.Ran.{Ran, WaitsOn}
 use Rattle.plain_run.specs.declared.ran.Ran.TheVariants as ran
-use Rattle.pl_command.specs.declared.command.Limits.{Limits}
+use Rattle.toplevel.specs.declared.command.Limits.{Limits}
 use Rattle.toplevel.specs.Unbuilt.{IsAtUnbuilt, indicated}
 use Rattle.toplevel.specs.declared.play.Stop.{Stop}
 use Rattle.toplevel.specs.declared.play.Stop.TheVariants.{Ended, Waits, Missing}
@@ -39,7 +41,7 @@ pub record IsEnded (s : FileScript) (job : Job) (lines : List Consulted) (y : Ex
 
 abbrev pub StandsSo : FileScript → Job → List Consulted → Told → Stop → Execution → Type 0
 StandsSo s job lines u (Ended how) y = (e : IsEnded s job lines y) × EndsSo e.ending how
-StandsSo s job lines u Waits y = IsAtSearch s job lines y × WaitsNow u.engine u.goals job (seen_in u y)
+StandsSo s job lines u (Waits on) y = IsAtSearch s job lines y × WaitsOn u job on y
 StandsSo s job lines u (Missing name arity) y = IsAtUnbuilt (indicated name arity) y
 
 -- The execution has come to this stop in as many moves as were counted, with what is written of the file and what the goal
@@ -76,10 +78,15 @@ abbrev pub IsMissing : Names → Procedure → Stop → Type 0
 IsMissing n p (Missing name arity) = (n p.name ≡ Some name) × (arity ≡ p.arity)
 IsMissing n p stop = ⊥
 
+-- The stop tells what is waited on by the text of its alias.
+abbrev pub IsWaiting : Names → On → Stop → Type 0
+IsWaiting n on (Waits x) = x ≡ on_by (text_of n) on
+IsWaiting n on stop = ⊥
+
 -- The stop tells how the search of a goal has ended, or why it does not go on.
 abbrev pub IsStopOf : Names → Ran → Stop → Type 0
 IsStopOf n (ran.Ended how) stop = stop ≡ Ended how
-IsStopOf n (ran.Waits on) stop = stop ≡ Waits
+IsStopOf n (ran.Waits on) stop = IsWaiting n on stop
 IsStopOf n (ran.NeedsAtoms p) stop = ⊥
 IsStopOf n (ran.Worn w) stop = ⊥
 IsStopOf n (ran.Missing p) stop = IsMissing n p stop

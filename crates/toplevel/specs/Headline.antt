@@ -5,10 +5,10 @@ use Rattle.pl_term.specs.Tree.{Chars}
 use Rattle.pl_model.specs.History.{Proc}
 use Rattle.run_model.specs.Lawful.{IsComplete, Program}
 use Rattle.run_model.specs.Report.{AreFinal, Finals, transcript}
-use Rattle.pl_command.specs.declared.ends.End.{End}
-use Rattle.pl_command.specs.declared.ends.End.TheVariants.{Done, GoalFailed, Usage, Waiting, Memory, ReadFault, WriteFault, Halted, Unbuilt}
-use Rattle.pl_command.specs.CommandLine.{Command, program_of, unread_line}
-use Rattle.pl_command.specs.Ends.{end_of, goal_ends}
+use Rattle.run_model.specs.declared.ends.End.{End}
+use Rattle.run_model.specs.declared.ends.End.TheVariants.{Done, GoalFailed, Usage, Waiting, Memory, ReadFault, WriteFault, Halted, Unbuilt}
+use Rattle.run_model.specs.CommandLine.{Command, program_of, unread_line}
+use Rattle.run_model.specs.Ends.{end_of, goal_ends}
 use Rattle.toplevel.specs.Outcomes.{told_by}
 use Rattle.toplevel.specs.Unbuilt.{IsStuck, unbuilt_line}
 use Rattle.toplevel.specs.declared.outcome.Front.{Front}

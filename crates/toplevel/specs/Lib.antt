@@ -1,3 +1,4 @@
+pub mod Commands
 pub mod FirstRun
 pub mod Headline
 pub mod Outcomes

@@ -1,18 +1,20 @@
 -- Where the first engine stands at the end of its run.
 use Rattle.std.specs.Prelude.{◌≡◌, ℕ, List, [], ◌∷◌, ◌++◌, map, length, Option, Some, None, codes, encode_utf8_all}
+use Rattle.std.specs.Arc.{arc_value}
 use Rattle.pl_term.specs.Tree.{Chars, Tree}
 use Rattle.pl_model.specs.declared.ends.How.{How}
+use Rattle.pl_model.specs.declared.threads.On.{On}
 use Rattle.pl_model.specs.History.{History, finish}
 use Rattle.pl_model.specs.SharedState.{state_at}
 use Rattle.pl_model.specs.Resolution.{Ending}
-use Rattle.run_model.specs.Execution.{Execution, Word as WordOf, goal_word, faulty_word, over}
+use Rattle.run_model.specs.Execution.{Execution, Word as WordOf, goal_word, faulty_word, move, over}
 use Rattle.run_model.specs.Lawful.{EndsSo, Program, Told, main_job}
 use Rattle.run_model.specs.Progress.{Alone, Seen, WaitsNow}
 use Rattle.run_model.specs.Report.{all_consulted, item_line, output_of, with_directive, with_line, with_output}
 use Rattle.world_api.specs.Told.{Told as Engine}
 use Rattle.script_api.specs.Parts.{Part, of_directive}
 use Rattle.plain_world.specs.Entries.{entry_of}
-use Rattle.pl_command.specs.Ends.{some_fault}
+use Rattle.run_model.specs.Ends.{awaited_by, some_fault}
 use Rattle.toplevel.specs.declared.outcome.Front.{Front}
 use Rattle.toplevel.specs.declared.outcome.Outcome.{Outcome}
 use Rattle.toplevel.specs.Unbuilt.{IsStuck, indicated}
@@ -49,6 +51,12 @@ abbrev pub HasStopped : Program → Front → Option (How Tree) → Execution �
 HasStopped p f None x = WaitsNow 1 (length p.words) (main_job p) (seen_of f x)
 HasStopped p f (Some how) x = HasEnded how x
 
+-- What the first engine waits on, where it waits.
+abbrev pub Awaits : Program → Option (How Tree) → Option On → Execution → Type 0
+Awaits p (Some how) on x = Unit {0}
+Awaits p None None x = ⊥
+Awaits p None (Some on) x = awaited_by 1 (move (main_job p) x) ≡ Some on
+
 -- The words of the goals are read so, the goal with these names of its variables.
 abbrev pub AreRead : Option Word → List (Chars × ℕ) → List WordOf → Type 0
 AreRead None names ws = ws ≡ []
@@ -62,7 +70,8 @@ pub record Stood (p : Program) (name : Chars) (o : Outcome) : Type 0 where
   pub names : List (Chars × ℕ)
   pub alone : Alone (length p.words) (main_job p) (seen_of o.front execution) o.front.moves
   pub stopped : HasStopped p o.front o.front.end execution
-  pub operators : o.operators ≡ (state_at (length p.words) (history_of o.front) (length (history_of o.front))).operators
+  pub awaits : Awaits p o.front.end o.awaits execution
+  pub operators : arc_value o.operators ≡ (state_at (length p.words) (history_of o.front) (length (history_of o.front))).operators
   pub text : o.text.items ≡ encode_utf8_all (with_directive name (all_consulted name [] execution.consulted) execution.activity)
   pub output : o.output.items ≡ encode_utf8_all (with_output names [] (output_of execution))
   pub words : AreRead o.word names execution.words
@@ -70,7 +79,7 @@ pub record Stood (p : Program) (name : Chars) (o : Outcome) : Type 0 where
   pub faulty : o.faulty ≡ some_fault execution.consulted
 
 -- What the run of a program on a file of this name has come to.
-abbrev pub HasCome : Program → Chars → Course → Type 0
+abbrev pub HasCome : Program → Chars → Course Outcome → Type 0
 HasCome p name (Come o) = Stood p name o
 HasCome p name (Unbuilt n a) = IsStuck p (indicated n a)
 

@@ -1,18 +1,19 @@
 -- What the program makes of the end of the first engine: the text, the ends of the goals and its own end.
-use Rattle.std.specs.Prelude.{◌≡◌, List, [], ◌∷◌, ◌++◌, Bool, true, false, not, ◌&&◌, Option, Some, None, codes, encode_utf8_all}
+use Rattle.std.specs.Prelude.{◌≡◌, List, [], ◌++◌, Bool, true, false, not, ◌&&◌, Option, Some, None, encode_utf8_all}
 use Rattle.pl_term.specs.Tree.{Chars, Tree}
 use Rattle.pl_model.specs.declared.ends.How.{How}
 use Rattle.pl_model.specs.declared.ends.How.TheVariants.{Halted, AtomSpace}
+use Rattle.pl_model.specs.declared.threads.On.{On}
 use Rattle.pl_model.specs.OperatorTable.{OperatorTable}
 use Rattle.run_model.specs.Report.{closed, fault_text, goal_line, with_last}
 use Rattle.pl_report.specs.declared.parts.Section.{Section}
 use Rattle.pl_report.specs.Sections.{AreWritten, section_text, transcript_text}
-use Rattle.pl_command.specs.declared.ends.End.{End}
-use Rattle.pl_command.specs.declared.ends.End.TheVariants.{Done, GoalFailed, Waiting, Halted as EndHalted}
-use Rattle.pl_command.specs.declared.ends.GoalEnd.{GoalEnd}
-use Rattle.pl_command.specs.declared.ends.GoalHow.{GoalHow}
-use Rattle.pl_command.specs.declared.ends.GoalHow.TheVariants.{Syntax}
-use Rattle.pl_command.specs.Ends.{goal_how, is_solved_how}
+use Rattle.run_model.specs.declared.ends.End.{End}
+use Rattle.run_model.specs.declared.ends.End.TheVariants.{Done, GoalFailed, Waiting, Halted as EndHalted}
+use Rattle.run_model.specs.declared.ends.GoalEnd.{GoalEnd}
+use Rattle.run_model.specs.declared.ends.GoalHow.{GoalHow}
+use Rattle.run_model.specs.declared.ends.GoalHow.TheVariants.{Syntax}
+use Rattle.run_model.specs.Ends.{goal_how, is_solved_how, with_end}
 use Rattle.toplevel.specs.declared.outcome.Word.{Word}
 use Rattle.toplevel.specs.declared.outcome.Word.TheVariants.{Goal, Fault}
 
@@ -51,13 +52,13 @@ IsPart (Some s) wanted = IsSection s wanted
 
 -- Ends
 
-abbrev pub how_in : Option (How Tree) → Word → GoalHow
-how_in end Goal = goal_how end
-how_in end (Fault kind at) = Syntax kind at
+abbrev pub how_in : Option On → Option (How Tree) → Word → Option GoalHow
+how_in on end Goal = goal_how on end
+how_in on end (Fault kind at) = Some (Syntax kind at)
 
-abbrev pub ends_in : Option (How Tree) → Option Word → List GoalEnd
-ends_in end None = []
-ends_in end (Some word) = record { engine = 1; name = codes "main"; how = how_in end word } ∷ []
+abbrev pub ends_in : Option On → Option (How Tree) → Option Word → List GoalEnd
+ends_in on end None = []
+ends_in on end (Some word) = with_end 1 (how_in on end word) []
 
 -- Whether there is no goal, or it has ended solved.
 abbrev pub is_good : How Tree → Option Word → Bool

@@ -1,44 +1,66 @@
 //! How the goal and the program end, by how the first engine ended.
-ghost use Rattle.std.specs.Prelude.{◌≡◌, IfOk};
-ghost use Rattle.pl_command.specs.Ends.{is_solved_how};
+ghost use Rattle.std.specs.Prelude.{◌≡◌, [], IfOk};
+ghost use Rattle.run_model.specs.Ends.{is_solved_how, with_end};
 ghost use Rattle.toplevel.specs.Parts.{end_told, ends_in, how_in, is_good};
 
 use crate::hows::goal_ended;
 use crate::outcome::Word;
-use pl_command::{End, GoalEnd, GoalHow};
 use pl_model::ends::How;
+use pl_model::threads::On;
 use pl_term::{Flat, Memory, Text};
+use run_model::ends::{End, GoalEnd, GoalHow};
 use std::alloc::Global;
 
-/// The ends of the goals: the one goal is run by the first engine, which is named `main`. The only error is out of memory.
+/// The ends of the goals: the one goal is run by the first engine, which has ended so or waits on this. The only error is out
+/// of memory.
 pub(crate) fn goal_ends(
     alloc: Global,
     end: &Option<How<Flat>>,
+    awaits: &Option<On>,
     word: Option<Word>,
 ) -> Result<Vec<GoalEnd>, Memory>
-    ensures { IfOk result (λ v. v.items ≡ ends_in end.now word) }
+    ensures { IfOk result (λ v. v.items ≡ ends_in awaits.now end.now word) }
 {
-    let Some(word) = word else {
-        return Ok(Vec::new(alloc));
-    };
-    let how = goal_how(alloc, end, word)?;
-    let name = Text::from_str(alloc, "main")?;
-    let mut ends = Vec::new(alloc);
-    ends.push(GoalEnd {
-        engine: 1,
-        name,
-        how,
-    })?;
-    Ok(ends)
+    match word {
+        None => Ok(Vec::new(alloc)),
+        Some(word) => {
+            let how = word_how(alloc, end, awaits, word)?;
+            main_end(alloc, how)
+        }
+    }
 }
 
 /// How the goal ended whose word was read so. The only error is out of memory.
-fn goal_how(alloc: Global, end: &Option<How<Flat>>, word: Word) -> Result<GoalHow, Memory>
-    ensures { IfOk result (λ h. h ≡ how_in end.now word) }
+fn word_how(
+    alloc: Global,
+    end: &Option<How<Flat>>,
+    awaits: &Option<On>,
+    word: Word,
+) -> Result<Option<GoalHow>, Memory>
+    ensures { IfOk result (λ h. h ≡ how_in awaits.now end.now word) }
 {
     match word {
-        Word::Goal => goal_ended(alloc, end),
-        Word::Fault { kind, at } => Ok(GoalHow::Syntax { kind, at }),
+        Word::Goal => goal_ended(alloc, end, awaits),
+        Word::Fault { kind, at } => Ok(Some(GoalHow::Syntax { kind, at })),
+    }
+}
+
+/// The end of the goal that the engine `main` has run, if it has one. The only error is out of memory.
+fn main_end(alloc: Global, how: Option<GoalHow>) -> Result<Vec<GoalEnd>, Memory>
+    ensures { IfOk result (λ v. v.items ≡ with_end 1 how []) }
+{
+    match how {
+        None => Ok(Vec::new(alloc)),
+        Some(how) => {
+            let name = Text::from_str(alloc, "main")?;
+            let mut ends = Vec::new(alloc);
+            ends.push(GoalEnd {
+                engine: 1,
+                name,
+                how,
+            })?;
+            Ok(ends)
+        }
     }
 }
 

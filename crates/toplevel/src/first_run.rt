@@ -1,27 +1,29 @@
 //! The run of the first engine.
 ghost use Rattle.std.specs.Prelude.{◌≡◌, List, ℕ, length, Some, IfOk, suc, take};
+ghost use Rattle.std.specs.Arc.{arc_value};
 ghost use Rattle.pl_term.specs.Tree.{Chars};
 ghost use Rattle.pl_model.specs.SharedState.{state_at};
 ghost use Rattle.run_model.specs.Execution.{Consulted, Job, at_start, most_bytes};
 ghost use Rattle.run_model.specs.Lawful.{Program, main_job};
 ghost use Rattle.pl_model.specs.History.{AllPlain};
-ghost use Rattle.pl_command.specs.Told.{told_command};
-ghost use Rattle.pl_command.specs.CommandLine.{program_of};
-ghost use Rattle.first_script.specs.FileScripts.{execution_of, part_in};
-ghost use Rattle.first_script.specs.Words.{words_of};
+ghost use Rattle.toplevel.specs.Commands.{told_command};
+ghost use Rattle.run_model.specs.CommandLine.{program_of};
+ghost use Rattle.pl_consult.specs.FileScripts.{execution_of, part_in};
+ghost use Rattle.pl_consult.specs.GoalWords.{words_of};
 ghost use Rattle.script_api.specs.Scripts.{AreNames};
 ghost use Rattle.plain_world.specs.Entries.{told_of};
 ghost use Rattle.toplevel.specs.Outcomes.{AreRead, HasCome, IsLine, history_of, start_of};
 ghost use Rattle.toplevel.specs.FirstRun.{IsPlayed};
 
+use crate::command::Command;
 use crate::gated::Gated;
 use crate::outcome::{Front, Outcome, Word};
 use crate::play::{Stop, play};
 use atom_api::PlainAtoms;
-use first_script::{FileScript, GoalWord};
-use pl_command::Command;
+use pl_consult::{FileScript, GoalWord};
 use pl_io::Gate;
 use pl_model::ends::How;
+use pl_model::threads::On;
 use pl_report::put_waiting_directive;
 use pl_term::{Flat, Memory, Text};
 use plain_world::PlainWorld;
@@ -29,11 +31,11 @@ use script_api::Script;
 use std::alloc::Global;
 use term_store::Stored;
 
-/// What comes of the run of the first engine.
+/// What comes of a run: this, where the first engine has come to its end, or waits.
 #[derive(Drop)]
-pub enum Course {
-    /// It has come to its end, or waits.
-    Stood(Outcome),
+pub enum Course<T> {
+    /// It has.
+    Stood(T),
     /// Its next step is of a predicate of the system that is not built yet.
     Unbuilt { name: Text, arity: u64 },
 }
@@ -44,7 +46,7 @@ pub(crate) fn first_run<G: Gate>(
     command: &Command,
     bytes: Vec<u8>,
     gate: &G,
-) -> Result<Course, Memory>
+) -> Result<Course<Outcome>, Memory>
     ensures { (all : List ℕ) → bytes.items ≡ take (suc most_bytes) all
         → IfOk result (HasCome (program_of (told_command command.now) all) command.now.file) }
 {
@@ -69,7 +71,6 @@ pub(crate) fn first_run<G: Gate>(
         &mut moves,
     )?;
     close(
-        alloc,
         stop,
         &script,
         world.world,
@@ -105,7 +106,6 @@ fn copied(alloc: Global, word: &Option<Text>) -> Result<Option<Text>, Memory>
 
 /// What comes of a script that does not go on. The only error is out of memory.
 fn close(
-    alloc: Global,
     stop: Stop,
     script: &FileScript,
     world: PlainWorld<Stored, PlainAtoms>,
@@ -113,19 +113,19 @@ fn close(
     text: Vec<u8>,
     output: Vec<u8>,
     moves: u64,
-) -> Result<Course, Memory>
+) -> Result<Course<Outcome>, Memory>
     ensures { (p : Program) → IsPlayed (main_job p) name.now (at_start (main_job p)) (start_of p) 0 stop script.now
         ⟦<FileScript as Script>⟧.kept (told_of world.journal) moves text.items output.items
         → IfOk result (HasCome p name.now) }
 {
     match stop {
         Stop::Ended(how) => {
-            let outcome = outcome(alloc, Some(how), script, world, text, output, moves)?;
+            let outcome = outcome(Some(how), None, script, world, text, output, moves)?;
             Ok(Course::Stood(outcome))
         }
-        Stop::Waits => {
+        Stop::Waits(on) => {
             let text = with_waiting(script, name, text)?;
-            let outcome = outcome(alloc, None, script, world, text, output, moves)?;
+            let outcome = outcome(None, Some(on), script, world, text, output, moves)?;
             Ok(Course::Stood(outcome))
         }
         Stop::Missing { name, arity } => {
@@ -149,10 +149,10 @@ fn with_waiting(script: &FileScript, name: &Text, text: Vec<u8>) -> Result<Vec<u
     }
 }
 
-/// Where the first engine stands, which has ended so or waits. The only error is out of memory.
+/// Where the first engine stands, which has ended so or waits on this. The only error is out of memory.
 fn outcome(
-    alloc: Global,
     end: Option<How<Flat>>,
+    awaits: Option<On>,
     script: &FileScript,
     world: PlainWorld<Stored, PlainAtoms>,
     text: Vec<u8>,
@@ -160,10 +160,10 @@ fn outcome(
     moves: u64,
 ) -> Result<Outcome, Memory>
     ensures kept { IfOk result (λ o. (o.front.end ≡ end) × (o.front.moves ≡ moves) × (o.text.items ≡ text.items) × (o.output.items ≡ output.items)
-        × (o.faulty ≡ ⟦<FileScript as Script>⟧.kept script.now)) }
+        × (o.faulty ≡ ⟦<FileScript as Script>⟧.kept script.now) × (o.awaits ≡ awaits)) }
     ensures history { IfOk result (λ o. (history_of o.front ≡ (told_of world.journal).history) × (o.front.generations.items ≡ (told_of world.journal).gens)) }
     ensures plain { IfOk result (λ o. AllPlain 1 (told_of world.journal).history) }
-    ensures operators { IfOk result (λ o. o.operators ≡ (state_at (told_of world.journal).goals (told_of world.journal).history
+    ensures operators { IfOk result (λ o. arc_value o.operators ≡ (state_at (told_of world.journal).goals (told_of world.journal).history
         (length (told_of world.journal).history)).operators) }
     ensures words { IfOk result (λ o. (job : Job) (cs : List Consulted) (names : List (Chars × ℕ)) → AreNames names (execution_of script.now job cs).words
         → AreRead o.word names (execution_of script.now job cs).words) }
@@ -180,6 +180,7 @@ fn outcome(
             end,
             moves,
         },
+        awaits,
         operators,
         text,
         output,

@@ -1,12 +1,14 @@
-//! How the first engine ended, as it is told and as it is written.
-ghost use Rattle.std.specs.Prelude.{◌≡◌, IfOk, Some};
-ghost use Rattle.pl_command.specs.Ends.{goal_how};
-ghost use Rattle.pl_report.specs.Reported.{IsEnough, Tells, written_of};
+//! How the goal of the first engine ended, as it is told.
+ghost use Rattle.std.specs.Prelude.{◌≡◌, IfOk, None, Option};
+ghost use Rattle.pl_term.specs.Tree.{Tree};
+ghost use Rattle.pl_model.specs.declared.ends.How.{How as HowOf};
+ghost use Rattle.pl_report.specs.Reported.{IsEnough, Tells};
+ghost use Rattle.run_model.specs.Ends.{goal_how};
 
-use pl_command::GoalHow;
 use pl_model::ends::How;
-use pl_report::{GoalHow as Last, How as Written};
+use pl_model::threads::{Name, On};
 use pl_term::{Flat, Memory};
+use run_model::ends::GoalHow;
 use std::alloc::Global;
 
 /// A second end that is the same. The only error is out of memory.
@@ -29,55 +31,74 @@ fn copy_how(alloc: Global, how: &How<Flat>) -> Result<How<Flat>, Memory>
     }
 }
 
-/// How a goal ended that the first engine ran. The only error is out of memory.
-pub(crate) fn goal_ended(alloc: Global, end: &Option<How<Flat>>) -> Result<GoalHow, Memory>
-    ensures { IfOk result (λ h. h ≡ goal_how end.now) }
+/// A second name that is the same. The only error is out of memory.
+fn copy_name(alloc: Global, name: &Name) -> Result<Name, Memory>
+    ensures { IfOk result (λ n. n ≡ name.now) }
+{
+    match name {
+        Name::Number(number) => Ok(Name::Number(*number)),
+        Name::Alias(alias) => {
+            let alias = alias.copy(alloc)?;
+            Ok(Name::Alias(alias))
+        }
+    }
+}
+
+/// The same once more. The only error is out of memory.
+fn copy_on(alloc: Global, on: &On) -> Result<On, Memory>
+    ensures { IfOk result (λ x. x ≡ on.now) }
+{
+    match on {
+        On::Queue(name) => {
+            let name = copy_name(alloc, name)?;
+            Ok(On::Queue(name))
+        }
+        On::Thread(name) => {
+            let name = copy_name(alloc, name)?;
+            Ok(On::Thread(name))
+        }
+    }
+}
+
+/// How a goal ended that waits on this, if it does. The only error is out of memory.
+fn goal_waits(alloc: Global, awaits: &Option<On>) -> Result<Option<GoalHow>, Memory>
+    ensures { IfOk result (λ h. h ≡ goal_how awaits.now None) }
+{
+    match awaits {
+        None => Ok(None),
+        Some(on) => {
+            let on = copy_on(alloc, on)?;
+            Ok(Some(GoalHow::Waits(on)))
+        }
+    }
+}
+
+/// How a goal ended that the first engine ran, which has ended so or waits on this. The only error is out of memory.
+pub(crate) fn goal_ended(
+    alloc: Global,
+    end: &Option<How<Flat>>,
+    awaits: &Option<On>,
+) -> Result<Option<GoalHow>, Memory>
+    ensures { IfOk result (λ h. h ≡ goal_how awaits.now end.now) }
 {
     match end {
-        None => Ok(GoalHow::Waits),
+        None => goal_waits(alloc, awaits),
         Some(how) => {
             let how = copy_how(alloc, how)?;
-            Ok(GoalHow::Ended(how))
-        }
-    }
-}
-
-/// What is written of an end. The only error is out of memory.
-fn written_how(alloc: Global, how: &How<Flat>) -> Result<Written, Memory>
-    ensures { IfOk result (λ w. w ≡ written_of how.now) }
-{
-    match how {
-        How::Solved => Ok(Written::Solved),
-        How::False => Ok(Written::False),
-        How::Threw(ball) => {
-            let ball = ball.copy(alloc)?;
-            Ok(Written::Threw(ball))
-        }
-        How::Exited(_) => Ok(Written::Exited),
-        How::Halted(status) => Ok(Written::Halted(*status)),
-        How::AtomSpace(_) => Ok(Written::AtomSpace),
-    }
-}
-
-/// What is written of the end of an engine, or of one that waits. The only error is out of memory.
-pub(crate) fn written_end(alloc: Global, end: &Option<How<Flat>>) -> Result<Last, Memory>
-    ensures { IfOk result (λ w. Tells (Some w) end.now) }
-{
-    match end {
-        None => Ok(Last::Waits),
-        Some(how) => {
-            let how = written_how(alloc, how)?;
-            Ok(Last::Ended(how))
+            Ok(Some(GoalHow::Ended(how)))
         }
     }
 }
 
 /// Whether an engine has given the solutions that were wanted.
-pub(crate) fn is_enough(end: &Option<How<Flat>>) -> bool
-    ensures { IsEnough result end.now }
+pub(crate) fn is_enough(how: &Option<GoalHow>) -> bool
+    ensures { (end : Option (HowOf Tree)) → Tells how.now end → IsEnough result end }
 {
-    match end {
-        Some(How::Solved) => true,
+    match how {
+        Some(GoalHow::Ended(how)) => match how {
+            How::Solved => true,
+            _ => false,
+        },
         _ => false,
     }
 }

@@ -2,8 +2,10 @@
 use op_table::OpTable;
 use pl_model::ends::How;
 use pl_model::syntax::SyntaxKind;
+use pl_model::threads::On;
 use pl_term::Flat;
 use plain_world::Entry;
+use std::sync::Arc;
 
 /// What is told of a run: the updates of the shared state, all of them the first engine's, and the generations of its
 /// requests; how it ended, or nothing where it waits; and the number of its moves.
@@ -22,12 +24,14 @@ pub enum Word {
     Fault { kind: SyntaxKind, at: u64 },
 }
 
-/// Where the first engine stands at the end of its run: what is told of the run, the operators after it, what is written
-/// of the file, what the goal has given, how its word was read, if it was, and whether a fault of the file was kept.
+/// Where the first engine stands at the end of its run: what is told of the run, what it waits on, where it waits, the
+/// operators after it, what is written of the file, what the goal has given, how its word was read, if it was, and whether a
+/// fault of the file was kept.
 #[derive(Drop)]
 pub struct Outcome {
     pub front: Front,
-    pub operators: OpTable,
+    pub awaits: Option<On>,
+    pub operators: Arc<OpTable>,
     pub text: Vec<u8>,
     pub output: Vec<u8>,
     pub word: Option<Word>,

@@ -4,32 +4,36 @@ ghost use Rattle.std.specs.List.{All};
 ghost use Rattle.run_model.specs.Execution.{Consulted, Execution, Job};
 ghost use Rattle.term_store.specs.NumberedNames.{names_of};
 ghost use Rattle.script_api.specs.Parts.{of_goal};
+ghost use Rattle.world_api.specs.Answers.{on_names};
 ghost use Rattle.world_api.specs.Told.{has_ended};
-ghost use Rattle.first_script.specs.FileScripts.{Plays, execution_of, part_in};
+ghost use Rattle.pl_consult.specs.FileScripts.{Plays, execution_of, part_in};
 ghost use Rattle.plain_run.specs.Items.{IsText};
-ghost use Rattle.plain_run.specs.Ran.{IsNameHeld, at_start_of, ran_refusals};
-ghost use Rattle.pl_command.specs.Told.{told_limits};
-ghost use Rattle.toplevel.specs.FirstRun.{HasLimits, IsMissing, IsPlayed, IsStopOf};
+ghost use Rattle.plain_run.specs.Ran.{IsNameHeld, at_start_of};
+ghost use Rattle.plain_run.specs.Searched.{last_refusals};
+ghost use Rattle.toplevel.specs.Commands.{told_limits};
+ghost use Rattle.toplevel.specs.FirstRun.{HasLimits, IsMissing, IsPlayed, IsStopOf, IsWaiting};
 
-use atom_api::{Atoms, TextBuf};
-use first_script::FileScript;
+use crate::command::Limits;
+use crate::names::{atom_text, text_on};
+use atom_api::Atoms;
 use iso_search::search::Budgets;
-use pl_command::Limits;
+use pl_consult::FileScript;
 use pl_model::ends::How;
+use pl_model::threads::On;
 use pl_term::{Flat, Memory, Text};
-use plain_run::{Items, Ran, ends_over, run_goal, run_items};
+use plain_run::{Item, Ran, ends_over, run_goal, run_items};
 use script_api::Script;
 use std::alloc::Global;
 use term_store::Stored;
-use world_api::{Procedure, World};
+use world_api::{On as SharedOn, Procedure, World};
 
 /// Where the first engine does not go on.
 #[derive(Drop)]
 pub enum Stop {
     /// It has ended so.
     Ended(How<Flat>),
-    /// Its next request has no reply as the shared state stands.
-    Waits,
+    /// Its next request has no reply as the shared state stands: it waits on this.
+    Waits(On),
     /// Its next step is of the predicate of the system with this name and number of arguments, which is not built yet.
     Missing { name: Text, arity: u64 },
 }
@@ -72,16 +76,18 @@ pub(crate) fn play<W: World<Term = Stored>>(
         script.new ⟦<FileScript as Script>⟧.kept (W.told world.new) moves.new text.new.items output.new.items) }
 {
     let budgets = budgets_of(limits);
-    let items = run_items(alloc, script, budgets, world, atoms, text, moves)?;
-    match items {
-        Items::Goal(goal) => play_goal(
-            alloc, &goal, limits, script, world, atoms, text, output, moves,
-        ),
-        Items::Over { halted } => Ok(Stop::Ended(ends_over(halted))),
-        Items::Waits(_) => Ok(Stop::Waits),
-        Items::NeedsAtoms(_) => unreachable!(),
-        Items::Worn(_) => unreachable!(),
-        Items::Missing(procedure) => missing(alloc, procedure, atoms),
+    let ran = run_items(alloc, script, budgets, world, atoms, text, moves)?;
+    match ran {
+        Ran::Ended(item) => match item {
+            Item::Goal(goal) => play_goal(
+                alloc, &goal, limits, script, world, atoms, text, output, moves,
+            ),
+            Item::Over { halted } => Ok(Stop::Ended(ends_over(halted))),
+        },
+        Ran::Waits(on) => waits(alloc, on, atoms),
+        Ran::NeedsAtoms(_) => unreachable!(),
+        Ran::Worn(_) => unreachable!(),
+        Ran::Missing(procedure) => missing(alloc, procedure, atoms),
     }
 }
 
@@ -130,18 +136,27 @@ fn play_goal<W: World<Term = Stored>>(
 }
 
 /// Where a goal's search does not go on, if no atom was refused. The only error is out of memory.
-fn stop_of<A: Atoms>(alloc: Global, ran: Ran, atoms: &mut A) -> Result<Stop, Memory>
-    requires plain { ran_refusals ran ≡ [] }
+fn stop_of<A: Atoms>(alloc: Global, ran: Ran<How<Flat>>, atoms: &mut A) -> Result<Stop, Memory>
+    requires plain { last_refusals ran ≡ [] }
     requires named { IsNameHeld (A.held atoms.old) ran }
     ensures { IfOk result (IsStopOf (A.held atoms.old) ran) }
 {
     match ran {
         Ran::Ended(how) => Ok(Stop::Ended(how)),
-        Ran::Waits(_) => Ok(Stop::Waits),
+        Ran::Waits(on) => waits(alloc, on, atoms),
         Ran::NeedsAtoms(_) => unreachable!(),
         Ran::Worn(_) => unreachable!(),
         Ran::Missing(procedure) => missing(alloc, procedure, atoms),
     }
+}
+
+/// The stop at a request that waits on this. The only error is out of memory.
+fn waits<A: Atoms>(alloc: Global, on: SharedOn, atoms: &mut A) -> Result<Stop, Memory>
+    requires { All (λ a. IsSome (A.held atoms.old a)) (on_names on) }
+    ensures { IfOk result (IsWaiting (A.held atoms.old) on) }
+{
+    let on = text_on(alloc, on, atoms)?;
+    Ok(Stop::Waits(on))
 }
 
 /// The stop at a predicate that is not built yet. The only error is out of memory.
@@ -149,9 +164,7 @@ fn missing<A: Atoms>(alloc: Global, procedure: Procedure, atoms: &mut A) -> Resu
     requires { IsSome (A.held atoms.old procedure.name) }
     ensures { IfOk result (IsMissing (A.held atoms.old) procedure) }
 {
-    let mut text = TextBuf::new();
-    atoms.text(procedure.name, &mut text);
-    let name = text.to_text(alloc)?;
+    let name = atom_text(alloc, procedure.name, atoms)?;
     Ok(Stop::Missing {
         name,
         arity: procedure.arity,

@@ -1,15 +1,17 @@
 //! What is ready to be written of a run.
 ghost use Rattle.std.specs.Prelude.{◌≡◌, List, ℕ, IfOk};
-ghost use Rattle.pl_command.specs.Told.{told_command};
-ghost use Rattle.pl_command.specs.CommandLine.{program_of};
+ghost use Rattle.toplevel.specs.Commands.{told_command};
+ghost use Rattle.run_model.specs.CommandLine.{program_of};
 ghost use Rattle.toplevel.specs.Headline.{IsReady};
 ghost use Rattle.toplevel.specs.Outcomes.{Stood};
 
+use crate::command::Command;
 use crate::ends::{end_of, goal_ends};
+use crate::hows::goal_ended;
 use crate::outcome::{Front, Outcome};
 use crate::sections::report_text;
-use pl_command::{Command, End, GoalEnd};
 use pl_term::Memory;
+use run_model::ends::{End, GoalEnd};
 use std::alloc::Global;
 
 /// A run that came to its end, with the text that is to be written of it.
@@ -32,6 +34,7 @@ pub(crate) fn make_ready(
 {
     let Outcome {
         front,
+        awaits,
         operators,
         text,
         output,
@@ -39,16 +42,9 @@ pub(crate) fn make_ready(
         faulty,
     } = outcome;
     let end = end_of(&front.end, word, faulty);
-    let ends = goal_ends(alloc, &front.end, word)?;
-    let text = report_text(
-        alloc,
-        &command.goal,
-        word,
-        &front.end,
-        &operators,
-        text,
-        output,
-    )?;
+    let ends = goal_ends(alloc, &front.end, &awaits, word)?;
+    let last = goal_ended(alloc, &front.end, &awaits)?;
+    let text = report_text(alloc, &command.goal, word, last, &operators, text, output)?;
     Ok(Ready {
         end,
         front,

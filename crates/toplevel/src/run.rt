@@ -3,20 +3,21 @@ ghost use Rattle.std.specs.Prelude.{◌≡◌, ◌≢◌, ◌↔◌, suc, take, 
 ghost use Rattle.std.specs.Str.{encode_utf8_all};
 ghost use Rattle.pl_io.specs.Faults.{Rose};
 ghost use Rattle.run_model.specs.Execution.{most_bytes};
-ghost use Rattle.pl_command.specs.CommandLine.{Command as CommandOf, command, unread_line, usage_line};
-ghost use Rattle.pl_command.specs.Ends.{status_of};
-ghost use Rattle.pl_command.specs.Told.{told_command};
+ghost use Rattle.run_model.specs.CommandLine.{Command as CommandOf, command, unread_line, usage_line};
+ghost use Rattle.run_model.specs.Ends.{status_of};
+ghost use Rattle.toplevel.specs.Commands.{told_command};
 ghost use Rattle.toplevel.specs.Headline.{AreRead, GaveUp, HasRun, IsReady, IsUnbuilt, IsUnread, IsWrittenUnless, Missed, Promised, Ran, RanUnwritten, TellsNothing};
 ghost use Rattle.toplevel.specs.Settled.{IsSettled};
 ghost use Rattle.toplevel.specs.Unbuilt.{indicated};
 
+use crate::command::{Command, read_command};
 use crate::first_run::{Course, first_run};
 use crate::lines::{unbuilt_text, unread_text};
 use crate::outcome::Front;
 use crate::ready::{Ready, make_ready};
-use pl_command::{Command, End, GoalEnd, read_command, status_of};
 use pl_io::{Bytes, Files, Gate, ReadAllError, Sink, read_all, write_all};
 use pl_term::{Memory, Text};
+use run_model::ends::{End, GoalEnd, status_of};
 use std::alloc::Global;
 use std::sync::Wait;
 use std::thread::Threads;
@@ -41,15 +42,6 @@ pub struct Report {
     pub ends: Vec<GoalEnd>,
 }
 
-/// What is to be written of a run.
-#[derive(Drop)]
-pub enum Settled {
-    /// The run came to its end.
-    Told(Ready),
-    /// It came to a predicate of the system that is not built yet.
-    Unbuilt { name: Text, arity: u64 },
-}
-
 /// A report with nothing but an end.
 fn bare_report(alloc: Global, end: End) -> Report
     ensures end { result.end ≡ end }
@@ -71,7 +63,7 @@ fn settle<G: Gate>(
     command: &Command,
     bytes: Bytes,
     gate: &G,
-) -> Result<Settled, Memory>
+) -> Result<Course<Ready>, Memory>
     ensures { (all : List ℕ) → bytes ≡ take (suc most_bytes) all
         → IfOk result (IsSettled (told_command command.now) all) }
 {
@@ -79,9 +71,9 @@ fn settle<G: Gate>(
     match course {
         Course::Stood(outcome) => {
             let ready = make_ready(alloc, command, outcome)?;
-            Ok(Settled::Told(ready))
+            Ok(Course::Stood(ready))
         }
-        Course::Unbuilt { name, arity } => Ok(Settled::Unbuilt { name, arity }),
+        Course::Unbuilt { name, arity } => Ok(Course::Unbuilt { name, arity }),
     }
 }
 
@@ -93,7 +85,7 @@ fn prepare<F: Files, G: Gate>(
     command: &Command,
     files: &mut F,
     gate: &G,
-) -> Result<Settled, ReadAllError>
+) -> Result<Course<Ready>, ReadAllError>
     ensures failed { IfErr result (λ e. e ≡ ReadAllError.Failed
         → Rose (F.faults files.old command.now.file) (F.faults files.new command.now.file)) }
     ensures absent { IsTrue (F.absent files.old command.now.file) → IsErr result }
@@ -172,15 +164,15 @@ fn miss<S: Sink>(alloc: Global, name: &Text, arity: u64, out: &mut S) -> Report
 }
 
 /// Writes what is to be written of a run.
-fn finish<S: Sink>(alloc: Global, settled: Settled, out: &mut S) -> Report
+fn finish<S: Sink>(alloc: Global, settled: Course<Ready>, out: &mut S) -> Report
     ensures status { result.status ≡ status_of result.end }
     ensures promised { (c : CommandOf) (file : Option (List ℕ)) (bytes : List ℕ)
         → AreRead file bytes → IsSettled c bytes settled
         → Promised ⊥ (Rose (S.faults out.old) (S.faults out.new)) c file (S.written out.old) (S.written out.new) result result.end }
 {
     match settled {
-        Settled::Told(ready) => deliver(ready, out),
-        Settled::Unbuilt { name, arity } => miss(alloc, &name, arity, out),
+        Course::Stood(ready) => deliver(ready, out),
+        Course::Unbuilt { name, arity } => miss(alloc, &name, arity, out),
     }
 }
 

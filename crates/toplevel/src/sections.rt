@@ -2,17 +2,18 @@
 ghost use Rattle.std.specs.Prelude.{◌≡◌, ◌++◌, IfOk, Option, encode_utf8_all};
 ghost use Rattle.pl_term.specs.Tree.{Chars, Tree};
 ghost use Rattle.pl_model.specs.declared.ends.How.{How as HowOf};
+ghost use Rattle.pl_report.specs.Reported.{Tells};
 ghost use Rattle.run_model.specs.Report.{closed};
 ghost use Rattle.toplevel.specs.declared.outcome.Word.TheVariants.{Fault, Goal};
 ghost use Rattle.toplevel.specs.Parts.{AreSections, IsPart, IsSection, goal_part, report_by, section_by};
 
-use crate::hows::{is_enough, written_end};
+use crate::hows::is_enough;
 use crate::outcome::Word;
 use op_table::OpTable;
-use pl_model::ends::How;
 use pl_model::syntax::SyntaxKind;
-use pl_report::{GoalHow as Last, Section, SectionKind, transcript};
-use pl_term::{Flat, Memory, Text};
+use pl_report::{Section, SectionKind, transcript};
+use pl_term::{Memory, Text};
+use run_model::ends::GoalHow;
 use std::alloc::Global;
 
 /// The text of a run: of the file `text` was written, and the goal of this word, which was read so, has given `output`.
@@ -21,15 +22,15 @@ pub(crate) fn report_text(
     alloc: Global,
     goal: &Option<Text>,
     word: Option<Word>,
-    end: &Option<How<Flat>>,
+    last: Option<GoalHow>,
     ops: &OpTable,
     text: Vec<u8>,
     output: Vec<u8>,
 ) -> Result<Vec<u8>, Memory>
-    ensures { (t u : Chars) → text.items ≡ encode_utf8_all t → output.items ≡ encode_utf8_all u
-        → IfOk result (λ v. v.items ≡ encode_utf8_all (report_by t goal.now word end.now ops.now u)) }
+    ensures { (end : Option (HowOf Tree)) (t u : Chars) → Tells last end → text.items ≡ encode_utf8_all t → output.items ≡ encode_utf8_all u
+        → IfOk result (λ v. v.items ≡ encode_utf8_all (report_by t goal.now word end ops.now u)) }
 {
-    let sections = sections(alloc, goal, word, end, ops, text, output)?;
+    let sections = sections(alloc, goal, word, last, ops, text, output)?;
     transcript(alloc, sections.as_slice())
 }
 
@@ -38,16 +39,16 @@ fn sections(
     alloc: Global,
     goal: &Option<Text>,
     word: Option<Word>,
-    end: &Option<How<Flat>>,
+    last: Option<GoalHow>,
     ops: &OpTable,
     text: Vec<u8>,
     output: Vec<u8>,
 ) -> Result<Vec<Section>, Memory>
-    ensures { (t u : Chars) → text.items ≡ encode_utf8_all t → output.items ≡ encode_utf8_all u
-        → IfOk result (λ v. AreSections v.items (report_by t goal.now word end.now ops.now u)) }
+    ensures { (end : Option (HowOf Tree)) (t u : Chars) → Tells last end → text.items ≡ encode_utf8_all t → output.items ≡ encode_utf8_all u
+        → IfOk result (λ v. AreSections v.items (report_by t goal.now word end ops.now u)) }
 {
     let file = file_section(alloc, text, ops)?;
-    match goal_part(alloc, goal, word, end, ops, output)? {
+    match goal_part(alloc, goal, word, last, ops, output)? {
         None => one_section(alloc, file),
         Some(section) => two_sections(alloc, file, section),
     }
@@ -87,12 +88,12 @@ fn goal_part(
     alloc: Global,
     goal: &Option<Text>,
     word: Option<Word>,
-    end: &Option<How<Flat>>,
+    last: Option<GoalHow>,
     ops: &OpTable,
     output: Vec<u8>,
 ) -> Result<Option<Section>, Memory>
-    ensures { (u : Chars) → output.items ≡ encode_utf8_all u
-        → IfOk result (λ s. IsPart s (goal_part goal.now word end.now ops.now u)) }
+    ensures { (end : Option (HowOf Tree)) (u : Chars) → Tells last end → output.items ≡ encode_utf8_all u
+        → IfOk result (λ s. IsPart s (goal_part goal.now word end ops.now u)) }
 {
     let Some(goal) = goal else {
         return Ok(None);
@@ -100,7 +101,7 @@ fn goal_part(
     let Some(word) = word else {
         return Ok(None);
     };
-    let section = word_section(alloc, goal, word, end, ops, output)?;
+    let section = word_section(alloc, goal, word, last, ops, output)?;
     Ok(Some(section))
 }
 
@@ -109,15 +110,15 @@ fn word_section(
     alloc: Global,
     goal: &Text,
     word: Word,
-    end: &Option<How<Flat>>,
+    last: Option<GoalHow>,
     ops: &OpTable,
     output: Vec<u8>,
 ) -> Result<Section, Memory>
-    ensures { (u : Chars) → output.items ≡ encode_utf8_all u
-        → IfOk result (λ s. IsSection s (section_by goal.now word end.now ops.now u)) }
+    ensures { (end : Option (HowOf Tree)) (u : Chars) → Tells last end → output.items ≡ encode_utf8_all u
+        → IfOk result (λ s. IsSection s (section_by goal.now word end ops.now u)) }
 {
     match word {
-        Word::Goal => goal_section(alloc, goal, end, ops, output),
+        Word::Goal => goal_section(alloc, goal, last, ops, output),
         Word::Fault { kind, at } => fault_section(alloc, goal, kind, at, ops),
     }
 }
@@ -126,21 +127,20 @@ fn word_section(
 fn goal_section(
     alloc: Global,
     goal: &Text,
-    end: &Option<How<Flat>>,
+    last: Option<GoalHow>,
     ops: &OpTable,
     output: Vec<u8>,
 ) -> Result<Section, Memory>
-    ensures { (u : Chars) → output.items ≡ encode_utf8_all u
-        → IfOk result (λ s. IsSection s (section_by goal.now Goal end.now ops.now u)) }
+    ensures { (end : Option (HowOf Tree)) (u : Chars) → Tells last end → output.items ≡ encode_utf8_all u
+        → IfOk result (λ s. IsSection s (section_by goal.now Goal end ops.now u)) }
 {
     let word = goal.copy(alloc)?;
-    let how = written_end(alloc, end)?;
     let ops = ops.copy(alloc)?;
-    let enough = is_enough(end);
+    let enough = is_enough(&last);
     Ok(Section {
         kind: SectionKind::Goal { word, enough },
         text: output,
-        how: Some(how),
+        how: last,
         ops,
     })
 }
@@ -163,7 +163,7 @@ fn fault_section(
             enough: false,
         },
         text: Vec::new(alloc),
-        how: Some(Last::Syntax { kind, at }),
+        how: Some(GoalHow::Syntax { kind, at }),
         ops,
     })
 }

@@ -59,7 +59,7 @@ returns-in-Stops-clause-items g c =
     turns_stop g.S.Script.execution g.S.Script.part g.S.Script.plays g.S.Script.kept c.args.budgets (g.S.Script.name c.args.script.now)
     (g.W.A.Atoms.held c.args.atoms.now) k (g.W.World.told c.args.world.now) (g.W.World.told c.next_turn.new.world) c.args.moves.now c.next_turn.new.moves
     c.args.script.now new
-    c.args.text.now.items c.next_turn.new.text.items next c.in-Stops.items c.requires.none c.in-Stops.is
+    c.args.text.now.items c.next_turn.new.text.items next c.in-Stops.ran c.requires.none c.in-Stops.is
     (turns_on g.S.Script.execution g.S.Script.part g.S.Script.plays g.S.Script.kept c.args.budgets (g.S.Script.name c.args.script.now)
     (g.W.A.Atoms.held c.args.atoms.now) (g.W.A.Atoms.held c.loop.atoms) k (g.W.World.told c.args.world.now) (g.W.World.told c.loop.world)
     (g.W.World.told c.next_turn.new.world) c.args.moves.now c.loop.moves c.next_turn.new.moves c.args.script.now c.loop.script new None c.loop.ended

@@ -5,8 +5,8 @@ use Rattle.run_model.specs.Report.{with_output}
 use Rattle.term_store.specs.NumberedNames.{atoms_in, neck}
 use Rattle.term_store.proofs.KeptTerms.{stored_names}
 use Rattle.iso_engine.proofs.Solutions.{view_is}
-use Rattle.plain_run.specs.Ran.{HasSearched, IsRanBy, ran_refusals}
-use Rattle.plain_run.specs.Searched.{IsRefusedOnce}
+use Rattle.plain_run.specs.Ran.{HasSearched, IsRanBy}
+use Rattle.plain_run.specs.Searched.{IsRefusedOnce, last_refusals}
 use Rattle.plain_run.proofs.Searching.{has_searched, holds_after, refused_after, searched_after}
 use Rattle.plain_run.proofs.ran.goal_ran.Goals as goal
 
@@ -31,7 +31,7 @@ returns-clause-refusals g c =
     in let xs = g.W.A.Atoms.refusals c.args.atoms.now
     in let ys = g.W.A.Atoms.refusals c.search_goal.new.atoms
     in let zs = g.W.A.Atoms.refusals c.ran_by.new.atoms
-    in IfOk-weaker c.ran_by.result (IsRanBy n f s) (λ r. IsRefusedOnce xs zs (ran_refusals r))
+    in IfOk-weaker c.ran_by.result (IsRanBy n f s) (λ r. IsRefusedOnce xs zs (last_refusals r))
     (λ r is. refused_after xs ys zs n f s r c.in_ok-searched.ensures.refusals c.ran_by.ensures.refusals is) c.ran_by.ensures.ran
 
 pub returns-clause-searched : goal.returns-clause-searched

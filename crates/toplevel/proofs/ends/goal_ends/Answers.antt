@@ -1,18 +1,17 @@
-use Rattle.std.proofs.Common.{ℕ, List, [], ◌∷◌, ◌++◌, codes, sym, ◌∙◌, ap}
-use Rattle.std.specs.Str.{chars}
-use Rattle.pl_command.specs.declared.ends.GoalEnd.{GoalEnd}
-use Rattle.pl_command.specs.declared.ends.GoalHow.{GoalHow}
+use Rattle.std.proofs.Common.{[], sym, ◌∙◌, ap}
+use Rattle.std.proofs.lemmas.Result.{IfOk-weaker}
+use Rattle.run_model.specs.Ends.{with_end}
 use Rattle.toplevel.specs.Parts.{ends_in}
 use Rattle.toplevel.proofs.ends.goal_ends.Goals as goal
 
-pub returns : goal.returns
-unfolding chars
-returns c =
-    c.in_ok-push.ensures.items
-    ∙ ap (λ (x : List GoalEnd). x ++ one c.in_ok-name.name c.in_ok-how.how) c.new-ends.ensures.items
-    ∙ ap (λ (n : List ℕ). one n c.in_ok-how.how) c.in_ok-name.ensures
-    ∙ ap (one (codes "main")) c.in_ok-how.ensures
-    ∙ ap (ends_in c.args.end.now) (sym c.in-Some.is)
-  where
-    one : List ℕ → GoalHow → List GoalEnd
-    one n h = record { engine = 1; name = n; how = h } ∷ []
+pub returns-in_ok-how-in-Some : goal.returns-in_ok-how-in-Some
+returns-in_ok-how-in-Some c =
+    IfOk-weaker
+    c.main_end.result
+    _
+    _
+    (λ v is.
+    is
+    ∙ ap (λ h. with_end 1 h []) c.in_ok-how-in-Some.ensures
+    ∙ ap (ends_in c.args.awaits.now c.args.end.now) (sym c.in-Some.is))
+    c.main_end.ensures

@@ -1,4 +1,4 @@
-use Rattle.first_script.specs.declared.file_script.FileScript.{FileScript}
+use Rattle.pl_consult.specs.declared.file_script.FileScript.{FileScript}
 use Rattle.plain_world.specs.Entries.{told_of}
 use Rattle.toplevel.proofs.StoodLaws.{stood_ended, stood_waiting, stuck_at}
 use Rattle.toplevel.proofs.first_run.close.Goals as goal
@@ -40,6 +40,7 @@ returns-in_ok-outcome-in-Waits c p played =
     p
     c.args.name.now
     o.outcome
+    c.in-Waits.on
     c.args.stop
     c.args.script.now
     (λ (s : FileScript). s.faulty)
@@ -61,6 +62,7 @@ returns-in_ok-outcome-in-Waits c p played =
       operators = o.ensures.operators;
       words = o.ensures.words;
     })
+    o.ensures.kept.5
     c.in_ok-text-in-Waits.ensures
     played
 

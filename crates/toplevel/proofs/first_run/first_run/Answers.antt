@@ -1,6 +1,6 @@
 use Rattle.std.proofs.Common.{ℕ, [], ◌∙◌, ap}
-use Rattle.pl_command.specs.CommandLine.{program_of}
-use Rattle.pl_command.specs.Told.{told_command}
+use Rattle.run_model.specs.CommandLine.{program_of}
+use Rattle.toplevel.specs.Commands.{told_command}
 use Rattle.plain_world.specs.Entries.{told_of}
 use Rattle.world_api.specs.Told.{Told}
 use Rattle.toplevel.proofs.StoodLaws.{first_played}

@@ -1,11 +1,13 @@
-use Rattle.std.proofs.Common.{◌≡◌, [], subst, IsSome}
+use Rattle.std.proofs.Common.{◌≡◌, [], ◌∙◌, ap, subst, IsSome}
 use Rattle.std.specs.List.{All}
 use Rattle.std.proofs.lemmas.Result.{IfOk-weaker}
 use Rattle.atom_words.specs.declared.view.Refusal.TheVariants.{Full as RefusalFull, Worn as RefusalWorn}
-use Rattle.plain_run.specs.declared.items.Items.{Items}
-use Rattle.plain_run.specs.Items.{HasRunItems, IsGoalAtHand, IsNameHeldIn, items_names, items_refusals}
-use Rattle.first_script.specs.declared.file_script.FileScript.{FileScript}
-use Rattle.first_script.specs.FileScripts.{part_in}
+use Rattle.plain_run.specs.declared.ran.Ran.TheVariants.{Ended}
+use Rattle.plain_run.specs.Items.{HasRunItems, IsGoalAtHand, Items, items_names}
+use Rattle.plain_run.specs.Ran.{IsNameHeld}
+use Rattle.plain_run.specs.Searched.{last_refusals}
+use Rattle.pl_consult.specs.declared.file_script.FileScript.{FileScript}
+use Rattle.pl_consult.specs.FileScripts.{part_in}
 use Rattle.toplevel.proofs.PlayLaws.{executed, goal_on, missing_played, none_refused, one_never, over_played, played, waits_played}
 use Rattle.toplevel.proofs.play.play.Goals as goal
 
@@ -13,23 +15,23 @@ pub play_goal-requires-clause-held : goal.play_goal-requires-clause-held
 play_goal-requires-clause-held g c =
     subst
     (λ (i : Items). All (λ a. IsSome (g.W.A.Atoms.held c.run_items.new.atoms a)) (items_names i))
-    c.in-Goal.is
-    c.in_ok-items.ensures.held
+    (c.in-Ended.is ∙ ap Ended c.in-Goal.is)
+    c.in_ok-ran.ensures.held
 
 pub unreachable-requires : goal.unreachable-requires
 unreachable-requires g c =
     one_never
     (RefusalFull c.in-NeedsAtoms.field-0)
     (subst
-    (λ (i : Items). items_refusals i ≡ [])
+    (λ (i : Items). last_refusals i ≡ [])
     c.in-NeedsAtoms.is
     (none_refused
     (g.W.A.Atoms.refusals c.args.atoms.now)
     (g.W.A.Atoms.refusals c.run_items.new.atoms)
-    (items_refusals c.in_ok-items.items)
+    (last_refusals c.in_ok-ran.ran)
     (c.requires.plain c.args.atoms.now)
     (c.requires.plain c.run_items.new.atoms)
-    c.in_ok-items.ensures.refusals))
+    c.in_ok-ran.ensures.refusals))
 
 pub returns-in-Goal : goal.returns-in-Goal
 returns-in-Goal g c =
@@ -57,7 +59,7 @@ returns-in-Goal g c =
     _
     _
     c.budgets_of-budgets.ensures
-    c.in_ok-items.ensures.named
+    c.in_ok-ran.ensures.named
     (subst
     (λ (i : Items). HasRunItems
     executed
@@ -77,8 +79,8 @@ returns-in-Goal g c =
     c.run_items.new.moves
     c.run_items.new.script
     c.run_items.new.text.items)
-    c.in-Goal.is
-    c.in_ok-items.ensures.items)
+    (c.in-Ended.is ∙ ap Ended c.in-Goal.is)
+    c.in_ok-ran.ensures.items)
     c.play_goal.ensures
 
 pub returns-in-Over : goal.returns-in-Over
@@ -121,13 +123,18 @@ returns-in-Over g c =
     c.run_items.new.moves
     c.run_items.new.script
     c.run_items.new.text.items)
-    c.in-Over.is
-    c.in_ok-items.ensures.items)
+    (c.in-Ended.is ∙ ap Ended c.in-Over.is)
+    c.in_ok-ran.ensures.items)
     c.requires.empty
     c.ends_over.ensures
 
 pub returns-in-Waits : goal.returns-in-Waits
-returns-in-Waits g c =
+returns-in-Waits g c job cs x limits plays at text =
+    IfOk-weaker
+    c.waits.result
+    _
+    _
+    (λ stop is.
     waits_played
     (λ (s : FileScript). s.faulty)
     c.args.script.now.consult.name
@@ -138,7 +145,8 @@ returns-in-Waits g c =
     c.args.moves.now
     c.args.script.now
     c.args.text.now.items
-    c.in-Waits.field-0
+    c.in-Waits.on
+    stop
     (g.W.A.Atoms.held c.run_items.new.atoms)
     (g.W.World.told c.run_items.new.world)
     c.run_items.new.moves
@@ -166,13 +174,25 @@ returns-in-Waits g c =
     c.run_items.new.script
     c.run_items.new.text.items)
     c.in-Waits.is
-    c.in_ok-items.ensures.items)
+    c.in_ok-ran.ensures.items)
     c.requires.empty
-    (subst (λ (i : Items). IsGoalAtHand i (part_in c.run_items.new.script)) c.in-Waits.is c.in_ok-items.ensures.at_hand)
+    (subst (λ (i : Items). IsGoalAtHand i (part_in c.run_items.new.script)) c.in-Waits.is c.in_ok-ran.ensures.at_hand)
+    is
+    job
+    cs
+    x
+    limits
+    plays
+    at
+    text)
+    c.waits.ensures
+
+pub waits-requires : goal.waits-requires
+waits-requires g c = subst (λ (i : Items). IsNameHeld (g.W.A.Atoms.held c.run_items.new.atoms) i) c.in-Waits.is c.in_ok-ran.ensures.missing
 
 pub missing-requires : goal.missing-requires
 missing-requires g c =
-    subst (λ (i : Items). IsNameHeldIn (g.W.A.Atoms.held c.run_items.new.atoms) i) c.in-Missing.is c.in_ok-items.ensures.missing
+    subst (λ (i : Items). IsNameHeld (g.W.A.Atoms.held c.run_items.new.atoms) i) c.in-Missing.is c.in_ok-ran.ensures.missing
 
 pub returns-in-Missing : goal.returns-in-Missing
 returns-in-Missing g c job cs x limits plays at text =
@@ -220,7 +240,7 @@ returns-in-Missing g c job cs x limits plays at text =
     c.run_items.new.script
     c.run_items.new.text.items)
     c.in-Missing.is
-    c.in_ok-items.ensures.items)
+    c.in_ok-ran.ensures.items)
     is
     job
     cs

@@ -2,10 +2,10 @@ use Rattle.std.proofs.Common.{sym, ◌∙◌, subst, List, ℕ}
 use Rattle.std.proofs.lemmas.Result.{IfOk-weaker}
 use Rattle.pl_term.specs.Tree.{Chars}
 use Rattle.run_model.specs.Execution.{Word}
-use Rattle.first_script.specs.FileScripts.{execution_of}
+use Rattle.pl_consult.specs.FileScripts.{execution_of}
 use Rattle.script_api.specs.Scripts.{AreNames}
-use Rattle.first_script.specs.TextLaws.{names_told}
-use Rattle.plain_run.specs.Ran.{ran_refusals}
+use Rattle.pl_consult.specs.TextLaws.{names_told}
+use Rattle.plain_run.specs.Searched.{last_refusals}
 use Rattle.toplevel.proofs.PlayLaws.{goal_played, none_refused}
 use Rattle.toplevel.proofs.play.play_goal.Goals as goal
 
@@ -14,7 +14,7 @@ stop_of-requires-clause-plain g c =
     none_refused
     (g.W.A.Atoms.refusals c.args.atoms.now)
     (g.W.A.Atoms.refusals c.run_goal.new.atoms)
-    (ran_refusals c.in_ok-ran.ran)
+    (last_refusals c.in_ok-ran.ran)
     (c.requires.plain c.args.atoms.now)
     (c.requires.plain c.run_goal.new.atoms)
     c.in_ok-ran.ensures.refusals

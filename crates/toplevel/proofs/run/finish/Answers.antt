@@ -1,7 +1,8 @@
 use Rattle.std.proofs.Common.{subst}
 use Rattle.toplevel.specs.Settled.{IsSettled}
 use Rattle.toplevel.specs.Unbuilt.{indicated}
-use Rattle.toplevel.specs.declared.run.Settled.{Settled}
+use Rattle.toplevel.specs.declared.first_run.Course.{Course}
+use Rattle.toplevel.specs.declared.ready.Ready.{Ready}
 use Rattle.toplevel.proofs.RunLemmas.{missed_more}
 use Rattle.toplevel.proofs.run.finish.Goals as goal
 
@@ -19,5 +20,5 @@ returns-in-Unbuilt-clause-promised g c command file bytes read settled =
     bytes
     c.miss.result.end
     read
-    (subst (λ (x : Settled). IsSettled command bytes x) c.in-Unbuilt.is settled)
+    (subst (λ (x : Course Ready). IsSettled command bytes x) c.in-Unbuilt.is settled)
     c.miss.ensures.missed

@@ -1,4 +1,4 @@
-use Rattle.pl_command.specs.Told.{told_command}
+use Rattle.toplevel.specs.Commands.{told_command}
 use Rattle.toplevel.proofs.RunLemmas.{promised_more, unread}
 use Rattle.toplevel.proofs.run.run_command.Goals as goal
 

@@ -1,8 +1,9 @@
 use Rattle.std.proofs.Common.{◌∙◌, subst}
-use Rattle.pl_command.specs.CommandLine.{program_of}
-use Rattle.pl_command.specs.Told.{told_command}
+use Rattle.run_model.specs.CommandLine.{program_of}
+use Rattle.toplevel.specs.Commands.{told_command}
 use Rattle.toplevel.specs.Outcomes.{HasCome}
 use Rattle.toplevel.specs.declared.first_run.Course.{Course}
+use Rattle.toplevel.specs.declared.outcome.Outcome.{Outcome}
 use Rattle.toplevel.proofs.run.settle.Goals as goal
 
 pub returns-in_ok-ready-in-Stood : goal.returns-in_ok-ready-in-Stood
@@ -10,13 +11,13 @@ returns-in_ok-ready-in-Stood g c all e =
     c.in_ok-ready-in-Stood.ensures
     all
     (subst
-    (λ (x : Course). HasCome (program_of (told_command c.args.command.now) all) c.args.command.now.file x)
+    (λ (x : Course Outcome). HasCome (program_of (told_command c.args.command.now) all) c.args.command.now.file x)
     c.in-Stood.is
     (c.in_ok-course.ensures all (c.into_vec.ensures ∙ e)))
 
 pub returns-in-Unbuilt : goal.returns-in-Unbuilt
 returns-in-Unbuilt g c all e =
     subst
-    (λ (x : Course). HasCome (program_of (told_command c.args.command.now) all) c.args.command.now.file x)
+    (λ (x : Course Outcome). HasCome (program_of (told_command c.args.command.now) all) c.args.command.now.file x)
     c.in-Unbuilt.is
     (c.in_ok-course.ensures all (c.into_vec.ensures ∙ e))

@@ -1,9 +1,0 @@
-pub mod StepLaws
-pub mod LookLaws
-pub mod AddLaws
-pub mod FileLaws
-pub mod GivenLaws
-pub mod WordLaws
-pub mod GrowLaws
-pub mod ItemLaws
-pub mod NarrowLaws

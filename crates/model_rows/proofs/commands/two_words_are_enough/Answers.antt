@@ -1,0 +1,7 @@
+use Rattle.std.proofs.Common.{refl}
+use Rattle.clap.proofs.OnLiterals.{clap_on_literals}
+use Rattle.model_rows.proofs.commands.two_words_are_enough.Goals as goal
+
+pub returns : goal.returns
+unfolding clap_on_literals
+returns c = record { goal = refl; none = refl }

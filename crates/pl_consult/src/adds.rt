@@ -1,0 +1,153 @@
+//! The clauses of the file that are added.
+ghost use Rattle.std.specs.Prelude.{◌≡◌, ◌++◌, false, IsSome, Option, zero};
+ghost use Rattle.std.specs.List.{All};
+ghost use Rattle.pl_term.specs.Tree.{Chars, Tree};
+ghost use Rattle.pl_term.specs.Variables.{rename};
+ghost use Rattle.pl_model.specs.Requests.{consult_clause, refused};
+ghost use Rattle.pl_consult.specs.Checks.{kept_clause};
+ghost use Rattle.term_store.specs.NumberedNames.{names_of, term_by};
+ghost use Rattle.world_api.specs.Texts.{text_of, Holds};
+ghost use Rattle.world_api.specs.Told.{Told, has_ended};
+ghost use Rattle.world_api.specs.Visits.{clause_in};
+ghost use Rattle.world_api.specs.Gains.{Gains};
+ghost use Rattle.script_api.specs.Scripts.{IsLater, IsReplied};
+ghost use Rattle.pl_consult.specs.declared.stage.Stage.TheVariants.{Clause};
+ghost use Rattle.pl_consult.specs.ItemTexts.{MayIntern, Narrows};
+ghost use Rattle.pl_consult.specs.Steps.{AddedSo, Asked, IsAfter, IsAdded, IsAddition, IsQuiet, Moved, added_names, added_refusals, step_names, step_refusals};
+
+use crate::consult::Consult;
+use crate::stage::{Stage, Step};
+use crate::stops::stopped;
+use atom_api::Atoms;
+use atom_terms::{interned, with_texts};
+use op_table::OpTable;
+use pl_term::Flat;
+use script_api::Next;
+use std::alloc::Global;
+use std::sync::Arc;
+use term_store::Stored;
+use world_api::{Answer, Reply, Visit, World};
+
+/// What the adding of a clause gives.
+#[derive(Drop)]
+pub enum Added {
+    /// It was added.
+    Done,
+    /// It is refused with this error term.
+    Refused(Stored),
+    /// Nothing: the script stays where it is and answers this.
+    Stays(Next<Stored>),
+}
+
+/// Adds the clause of the item at this byte, which was read under these operators.
+pub fn add_clause<W: World<Term = Stored>>(
+    alloc: Global,
+    consult: &Consult,
+    clause: Flat,
+    place: usize,
+    operators: Arc<OpTable>,
+    world: &mut W,
+    atoms: &mut W::A,
+    text: &mut Vec<u8>,
+) -> (Stage, Step)
+    requires { has_ended (W.told world.old).engine (W.told world.old).history ≡ false }
+    ensures moved { Moved (term_by (text_of (W.A.held atoms.new))) consult.now (Clause clause place operators) (W.told world.old) text.old.items result.1 consult.now result.0 (W.told world.new) text.new.items }
+    ensures stage { IsAfter result.1 result.0 }
+    ensures runs { has_ended (W.told world.new).engine (W.told world.new).history ≡ false }
+    ensures named { All (λ a. IsSome (W.A.held atoms.new a)) (step_names names_of result.1) }
+    ensures holds { Holds (W.A.held atoms.old) (W.A.held atoms.new) }
+    ensures refusals { W.A.refusals atoms.new ≡ W.A.refusals atoms.old ++ step_refusals result.1 }
+    ensures told { IsLater (W.told world.old) (W.told world.new) }
+    ensures asked { (word : Option Chars) → Gains (MayIntern consult.now word (Clause clause place operators) (W.told world.old)) (W.A.asked atoms.old) (W.A.asked atoms.new) }
+    ensures narrows { (word : Option Chars) → Narrows word consult.now (Clause clause place operators) consult.now result.0 }
+{
+    match interned(alloc, &clause, atoms) {
+        Ok(kept) => match add(kept, world, atoms) {
+            Added::Done => (Stage::Items, Step::Goes),
+            Added::Refused(error) => {
+                refuse(alloc, consult, &error, place, &operators, atoms, text)
+            }
+            Added::Stays(next) => (
+                Stage::Clause {
+                    clause,
+                    place,
+                    operators,
+                },
+                Step::Gives(next),
+            ),
+        },
+        Err(stop) => (
+            Stage::Clause {
+                clause,
+                place,
+                operators,
+            },
+            Step::Gives(stopped(stop)),
+        ),
+    }
+}
+
+/// Adds the clause that is kept so.
+fn add<W: World<Term = Stored>>(kept: Stored, world: &mut W, atoms: &mut W::A) -> Added
+    requires runs { has_ended (W.told world.old).engine (W.told world.old).history ≡ false }
+    requires held { All (λ a. IsSome (W.A.held atoms.old a)) (names_of kept) }
+    ensures adds { AddedSo (term_by (text_of (W.A.held atoms.old)) kept) (term_by (text_of (W.A.held atoms.new))) result (W.told world.old) (W.told world.new) }
+    ensures runs { has_ended (W.told world.new).engine (W.told world.new).history ≡ false }
+    ensures named { All (λ a. IsSome (W.A.held atoms.new a)) (added_names names_of result) }
+    ensures holds { Holds (W.A.held atoms.old) (W.A.held atoms.new) }
+    ensures refusals { W.A.refusals atoms.new ≡ W.A.refusals atoms.old ++ added_refusals result }
+    ensures told { IsLater (W.told world.old) (W.told world.new) }
+    ensures asked { Gains (IsReplied (λ q. q ≡ consult_clause (clause_in (term_by (text_of (W.A.held atoms.old)) kept))) (W.told world.old)) (W.A.asked atoms.old) (W.A.asked atoms.new) }
+{
+    match world.visit(Visit::Consult { clause: kept }, atoms) {
+        Answer::Served { reply, .. } => told(reply),
+        Answer::Waits { .. } => unreachable!(),
+        Answer::NeedsAtoms(pass) => Added::Stays(Next::NeedsAtoms(pass)),
+        Answer::Retry(cause) => Added::Stays(Next::Retry(cause)),
+        Answer::Worn(word) => Added::Stays(Next::Worn(word)),
+        Answer::Memory => Added::Stays(Next::Memory),
+    }
+}
+
+/// What a reply tells of a clause that was to be added.
+fn told(reply: Reply<Stored>) -> Added
+    requires { IsAddition reply }
+    ensures { IsAdded reply result }
+{
+    match reply {
+        Reply::Done => Added::Done,
+        Reply::Refused(error) => Added::Refused(error),
+        _ => unreachable!(),
+    }
+}
+
+/// Writes that the clause of the item at this byte is refused with this error.
+fn refuse<A: Atoms>(
+    alloc: Global,
+    consult: &Consult,
+    error: &Stored,
+    place: usize,
+    operators: &Arc<OpTable>,
+    atoms: &mut A,
+    text: &mut Vec<u8>,
+) -> (Stage, Step)
+    requires { All (λ a. IsSome (A.held atoms.old a)) (names_of error.now) }
+    ensures moved { (term : Tree → Tree) (clause kept : Tree) (t u : Told)
+        → kept ≡ rename zero clause
+        → Asked t u (consult_clause (clause_in kept)) (refused (term_by (text_of (A.held atoms.old)) error.now))
+        → Moved term consult.now (Clause clause place operators.now) t text.old.items result.1 consult.now result.0 u text.new.items }
+    ensures stage { IsAfter result.1 result.0 }
+    ensures quiet { IsQuiet result.1 }
+    ensures same { A.held atoms.new ≡ A.held atoms.old }
+    ensures refusals { A.refusals atoms.new ≡ A.refusals atoms.old }
+    ensures asked { A.asked atoms.new ≡ A.asked atoms.old }
+    ensures narrows { (word : Option Chars) (t : Tree) → Narrows word consult.now (Clause t place operators.now) consult.now result.0 }
+{
+    match with_texts(alloc, error, atoms) {
+        Ok(error) => match consult.refuse(alloc, place, error, operators, text) {
+            Ok(()) => (Stage::Items, Step::Goes),
+            Err(_) => (Stage::Items, Step::Gives(Next::Memory)),
+        },
+        Err(_) => (Stage::Items, Step::Gives(Next::Memory)),
+    }
+}

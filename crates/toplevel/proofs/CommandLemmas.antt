@@ -1,0 +1,64 @@
+-- What the matches of a command line give.
+use Rattle.std.proofs.Common.{inl, inr, ◌≡◌, ◌^◌, ◌-◌, ℕ, Bool, true, false, List, [], ◌∷◌, Option, Some, None, refl, sym, ◌∙◌, ap, arith, codes}
+use Rattle.std.specs.Prelude.{Result, Ok, Err}
+use Rattle.std.specs.Str.Parse.{ParsesUnsigned}
+use Rattle.clap.specs.Words.{Row, first_of, one_of, one_text, rows_of, ReadsOne}
+use Rattle.clap.specs.ValueTests.{is_unsigned_in}
+use Rattle.clap.specs.Kinds.{Kinds, HasKind}
+use Rattle.clap.specs.declared.error.Error.{Error}
+use Rattle.clap.specs.declared.error.kind.ErrorKind.TheVariants.{OutOfMemory}
+use Rattle.clap.specs.declared.builder.value_parser.ValueParser.TheVariants.{Unsigned}
+use Rattle.clap.specs.declared.parser.matches.Found.{Found}
+use Rattle.clap.proofs.ValueTestLemmas.{accepts-Accepts, Accepts-accepts}
+use Rattle.clap.proofs.WalkLemmas.{one_text-rows}
+use Rattle.pl_model.specs.Resolution.{Limits}
+use Rattle.run_model.specs.CommandLine.{Command, command_by, limits_in, number_of, run_command, unless_refused, words_by}
+
+-- A number of 64 bits is read exactly where the text is one.
+pub number_reads : (E : Type 0) (G : List ℕ → Result ℕ E → Type 0) (t : List ℕ) (r : Option ℕ) → ReadsOne G t r
+    → ((u : List ℕ) (x : Result ℕ E) → G u x → ParsesUnsigned 64 10 u x) → r ≡ number_of (Some t)
+number_reads E G t (Some v) read only =
+    let parsed = only t (Ok v) read in
+    let passes : is_unsigned_in 0 (2 ^ 64 - 1) t ≡ true =
+    Accepts-accepts false (Unsigned 0 (2 ^ 64 - 1)) t (parsed.0.0, parsed.0.1, omega arith, omega arith) in
+    rw passes (ap Some parsed.1)
+number_reads E G t None read only = go (is_unsigned_in 0 (2 ^ 64 - 1) t) refl
+  where
+    go : (b : Bool) → is_unsigned_in 0 (2 ^ 64 - 1) t ≡ b → None ≡ number_of (Some t)
+    go false e = rw e refl
+    go true e =
+        let a = accepts-Accepts false (Unsigned 0 (2 ^ 64 - 1)) t e in
+        absurd (only t (Err read.0) read.1 (a.0, a.1))
+
+-- The number that a typed getter gives.
+pub number_by : (E : Type 0) (G : List ℕ → Result ℕ E → Type 0) (f : Found) (id : List ℕ) (r : Option ℕ)
+    → (one_text f id ≡ None → r ≡ None)
+    → ((t : List ℕ) → one_text f id ≡ Some t → ReadsOne G t r)
+    → ((u : List ℕ) (x : Result ℕ E) → G u x → ParsesUnsigned 64 10 u x)
+    → r ≡ number_of (one_of id (rows_of f))
+number_by E G f id r none value only = go (one_text f id) refl ∙ ap number_of (one_text-rows f id)
+  where
+    go : (o : Option (List ℕ)) → one_text f id ≡ o → r ≡ number_of (one_text f id)
+    go None e = none e ∙ ap number_of (sym e)
+    go (Some t) e = number_reads E G t r (value t e) only ∙ ap number_of (sym e)
+
+-- Words that are refused for another reason than out of memory are no command.
+pub refused_words : (kinds : Kinds) (e : Error) (c : Option Command) → HasKind kinds e → (e.kind ≡ OutOfMemory → ⊥) → unless_refused kinds c ≡ None
+refused_words [] e c h other = elim h [
+  | inl m ↦ absurd (other m)
+  | inr a ↦ absurd a
+]
+refused_words (k ∷ ks) e c h other = refl
+
+pub taken_words : (kinds : Kinds) (c : Option Command) → kinds ≡ [] → unless_refused kinds c ≡ c
+taken_words [] c e = refl
+taken_words (k ∷ ks) c e = cc
+
+-- The command by its parts.
+pub given_by : (rows : List Row) (f : Option (List ℕ)) (w : List (List ℕ)) (l : Option Limits)
+    → f ≡ first_of (codes "FILE") rows → w ≡ words_by (first_of (codes "GOAL") rows) → limits_in rows ≡ l
+    → run_command rows ≡ command_by f w l
+given_by rows f w l a b c =
+    ap (λ x. command_by x (words_by (first_of (codes "GOAL") rows)) (limits_in rows)) (sym a)
+    ∙ ap (λ x. command_by f x (limits_in rows)) (sym b)
+    ∙ ap (command_by f w) c
