@@ -8,8 +8,6 @@ mod hit;
 mod index;
 mod numbers;
 mod shelf;
-#[cfg(test)]
-mod tests;
 
 pub use dated::Dated;
 pub use dated_clause::DatedClause;
