@@ -12,12 +12,13 @@ use Rattle.atom_words.specs.Chains.{In, Chain, Linked}
 use Rattle.atom_words.specs.Views.{uncounted}
 use Rattle.atom_words.specs.Kinds.{marked, fresh, held_own, held_counted, counted, once_more, once_less, guarding, Sitting, view_after, Does}
 use Rattle.atom_words.specs.Plays.{Alone}
-use Rattle.atom_words.specs.Kept.{Left, Safe, OwnOk, HeldOk, CountsOk, WalkOk, MarksOk, SeatOk, Kept}
+use Rattle.atom_words.specs.Kept.{Left, Safe, OwnOk, HeldOk, CountsOk, WalkOk, MarksOk, SeatOk, Trail, Kept}
 use Rattle.atom_words.specs.declared.size.Size.{Size}
 use Rattle.atom_words.specs.declared.view.Held.{Held}
 use Rattle.atom_words.specs.declared.view.Counted.{Counted}
 use Rattle.atom_words.specs.declared.view.Own.{Own}
 use Rattle.atom_words.specs.declared.view.Walk.{Walk}
+use Rattle.atom_words.specs.declared.view.Sweeping.{Sweeping}
 use Rattle.atom_words.specs.declared.view.View.{View}
 use Rattle.atom_words.specs.declared.kind.Kind.TheVariants.{Reserve, Validate, Release, Protect, Fetch, Register, Unregister}
 use Rattle.atom_words.proofs.Layouts.{state-marked, mark-marked, count-marked}
@@ -48,8 +49,9 @@ module _ (z : Size) (b : Board) (vs : List View) (r : Kept z b vs) (id : ℕ) (v
       → ((t : Walk) → w.walk ≡ Some t → WalkOk z b.links b.heads b.texts r.plan.chain r.plan.fate t)
       → MarksOk z b.epoch b.acks (set b.atoms k x) r.plan.engine r.plan.sweep.cursor id w.cycle w.undealt w.held w.walk
       → w.sweep ≡ v.sweep → w.risen ≡ v.risen
+      → ((y : Sweeping) (t : Walk) → v.sweep ≡ Some y → w.walk ≡ Some t → Trail b.epoch b.row b.links b.heads r.plan.chain y t)
       → Kept z (with_atom b k x) (set vs id w)
-  knows k x owner' w soft size own held fixed counts walk marks sweep risen = keep_atom z b vs r owner' id k x w soft record {
+  knows k x owner' w soft size own held fixed counts walk marks sweep risen trail = keep_atom z b vs r owner' id k x w soft record {
     size = size ∙ s.size;
     own = own;
     held = held;
@@ -59,6 +61,7 @@ module _ (z : Size) (b : Board) (vs : List View) (r : Kept z b vs) (id : ℕ) (v
     walk = walk;
     marks = marks;
     sweeps = λ y e. s.sweeps y (sym sweep ∙ e);
+    trail = λ y t e. trail y t (sym sweep ∙ e);
     risen = λ h below. s.risen h (subst (λ (n : ℕ). h < n) risen below);
   }
 
@@ -120,7 +123,7 @@ module _ (z : Size) (b : Board) (vs : List View) (r : Kept z b vs) (id : ℕ) (v
         apart = λ _ l. not_free k l free;
         linked = λ no. cc;
       })
-      (held_as k 1 (put r.plan.owner k id) soft) refl (counts_as k 1 (put r.plan.owner k id) soft (sym none_counted)) s.walk (marks_as k 1 (put r.plan.owner k id) soft) refl refl)
+      (held_as k 1 (put r.plan.owner k id) soft) refl (counts_as k 1 (put r.plan.owner k id) soft (sym none_counted)) s.walk (marks_as k 1 (put r.plan.owner k id) soft) refl refl s.trail)
 
   -- VALIDATE AND RELEASE
   keep_validate_at : (o : Own) → v.own ≡ Some o → o.linked ≡ true → Sitting v → Kept z (with_atom b o.slot 7) (set vs id (view_after v Validate))
@@ -152,7 +155,7 @@ module _ (z : Size) (b : Board) (vs : List View) (r : Kept z b vs) (id : ℕ) (v
       (at_snoc v.held (record { slot = o.slot; text = o.text }) a i (sym (ap (λ y. get_elem? (v.held ++ held_own y) i) own) ∙ e)))
       refl (counts_as o.slot 7 r.plan.owner soft (sym none_counted)) s.walk
       (subst (λ (y : Option Own). MarksOk z b.epoch b.acks (set b.atoms o.slot 7) r.plan.engine r.plan.sweep.cursor id v.cycle v.undealt (v.held ++ held_own y) v.walk) (sym own)
-      (marks_more o.slot 7 r.plan.owner soft refl refl sits (record { slot = o.slot; text = o.text }) refl)) refl refl
+      (marks_more o.slot 7 r.plan.owner soft refl refl sits (record { slot = o.slot; text = o.text }) refl)) refl refl s.trail
 
   pub keep_validate : (b' : Board) → Does z b v Validate b' → Kept z b' (set vs id (view_after v Validate))
   keep_validate b' d = subst (λ y. Kept z y (set vs id (view_after v Validate))) (sym d.4) (keep_validate_at d.0 d.1 d.2 d.3)
@@ -173,7 +176,7 @@ module _ (z : Size) (b : Board) (vs : List View) (r : Kept z b vs) (id : ℕ) (v
         zero = λ _. refl;
         shut = λ f l _. ⊎_elim (λ (t : o.slot < z.fixed). absurd (omega arith)) (λ (t : 256 ≤ o.slot). absurd (omega arith)) ok.usable;
       } in
-      knows o.slot 0 r.plan.owner (view_after v Release) soft refl (λ q e. cc) (held_as o.slot 0 r.plan.owner soft) refl (counts_as o.slot 0 r.plan.owner soft (sym none_counted)) s.walk (marks_as o.slot 0 r.plan.owner soft) refl refl
+      knows o.slot 0 r.plan.owner (view_after v Release) soft refl (λ q e. cc) (held_as o.slot 0 r.plan.owner soft) refl (counts_as o.slot 0 r.plan.owner soft (sym none_counted)) s.walk (marks_as o.slot 0 r.plan.owner soft) refl refl s.trail
 
   pub keep_release : (b' : Board) → Does z b v Release b' → Kept z b' (set vs id (view_after v Release))
   keep_release b' d = subst (λ y. Kept z y (set vs id (view_after v Release))) (sym d.3) (keep_release_at d.0 d.1 d.2)
@@ -248,11 +251,15 @@ module _ (z : Size) (b : Board) (vs : List View) (r : Kept z b vs) (id : ℕ) (v
       (ap state_of word ∙ (state-marked n ∙ (ap state_of found ∙ l.1)), λ _. inl (ap mark_of word ∙ mark-marked n)))
       (or_true t.guarded ((t.place == k + 1) && (state_of x == 3)) (ap (λ (y : Walk). y.guarded) was.2 ∙ g)))
 
+  guard_trail : (k x : ℕ) (y : Sweeping) (w : Walk) → v.sweep ≡ Some y → option_map (guarding k x) v.walk ≡ Some w → Trail b.epoch b.row b.links b.heads r.plan.chain y w
+  guard_trail k x y w sweep walk = let was = unmapped (guarding k x) v.walk w walk in let t = s.trail y was.0 sweep was.1 in
+      subst (λ (q : Walk). Trail b.epoch b.row b.links b.heads r.plan.chain y q) was.2 record { news = t.news; path = t.path; whole = t.whole; reached = t.reached; fresh = t.fresh; ahead = t.ahead }
+
   pub keep_protect : (k x : ℕ) (b' : Board) → Does z b v (Protect k x) b' → Kept z b' (set vs id (view_after v (Protect k x)))
   keep_protect k x b' d = let n : ℕ = get_or b.atoms k 0 in let soft = mark_soft k d.0 in subst (λ y. Kept z y (set vs id (view_after v (Protect k x)))) (sym (d.2 ∙ ap (λ (i : ℕ). with_atom b k (marked i)) (sym d.1)))
       (knows k (marked n) r.plan.owner (view_after v (Protect k x)) soft refl (own_marked k d.0) (held_as k (marked n) r.plan.owner soft) refl (counts_as k (marked n) r.plan.owner soft (count-marked n))
       (λ t e. let was = unmapped (guarding k x) v.walk t e in subst (λ y. WalkOk z b.links b.heads b.texts r.plan.chain r.plan.fate y) was.2 (guard_ok k x d.1 was.0 was.1))
-      (guard_marks k x d.0 d.1) refl refl)
+      (guard_marks k x d.0 d.1) refl refl (guard_trail k x))
 
   pub keep_fetch : (k : ℕ) (b' : Board) → Does z b v (Fetch k) b' → Kept z b' (set vs id (view_after v (Fetch k)))
   keep_fetch k b' d = let n : ℕ = get_or b.atoms k 0 in let soft = mark_soft k d.2 in let ok = s.counts d.0 d.1 in let c : Counted = counted d.0 k in let a : Held = record { slot = k; text = c.text } in
@@ -263,7 +270,7 @@ module _ (z : Size) (b : Board) (vs : List View) (r : Kept z b vs) (id : ℕ) (v
       (at_snoc v.held a q i (sym (ap (λ y. get_elem? (v.held ++ held_counted k y) i) d.1) ∙ e)))
       refl (counts_as k (marked n) r.plan.owner soft (count-marked n)) s.walk
       (subst (λ (y : Option (List Counted)). MarksOk z b.epoch b.acks (set b.atoms k (marked n)) r.plan.engine r.plan.sweep.cursor id v.cycle v.undealt (v.held ++ held_counted k y) v.walk) (sym d.1)
-      (marks_more k (marked n) r.plan.owner soft (state-marked n ∙ ours.valid) (mark-marked n) d.4 a refl)) refl refl)
+      (marks_more k (marked n) r.plan.owner soft (state-marked n ∙ ours.valid) (mark-marked n) d.4 a refl)) refl refl s.trail)
 
   -- THE KEEPER COUNTS
   pub has : (a : Held) → In a v.held ⊎ In a v.fixed → HeldOk z b.atoms b.texts r.plan.chain a
@@ -326,7 +333,7 @@ module _ (z : Size) (b : Board) (vs : List View) (r : Kept z b vs) (id : ℕ) (v
       subst (λ y. Kept z y (set vs id (view_after v (Register a)))) (sym d.4) (knows k x r.plan.owner (view_after v (Register a)) soft refl (own_counted k x soft valid) (held_as k x r.plan.owner soft) refl
       (λ y e. let is = unmapped (once_more a) v.counts y e in let same : cs ≡ is.0 = some_same cs is.0 v.counts d.1 is.1 in
       subst (λ i. CountsOk z (set b.atoms k x) b.texts r.plan.chain r.plan.keeper id i) (ap (once_more a) same ∙ is.2) (counts_set k x cs c soft ok (omega arith) h))
-      s.walk (marks_as k x r.plan.owner soft) refl refl)
+      s.walk (marks_as k x r.plan.owner soft) refl refl s.trail)
 
   pub keep_unregister : (k : ℕ) (b' : Board) → Does z b v (Unregister k) b' → Kept z b' (set vs id (view_after v (Unregister k)))
   keep_unregister k b' d = let cs : List Counted = d.0 in let ok = s.counts cs d.1 in let n : ℕ = get_or b.atoms k 0 in let x : ℕ = n - 8 in let at = or_at cs k uncounted (omega (arith, ok.each_slot, d.2)) in
@@ -336,4 +343,4 @@ module _ (z : Size) (b : Board) (vs : List View) (r : Kept z b vs) (id : ℕ) (v
       subst (λ y. Kept z y (set vs id (view_after v (Unregister k)))) (sym d.4) (knows k x r.plan.owner (view_after v (Unregister k)) soft refl (own_counted k x soft valid) (held_as k x r.plan.owner soft) refl
       (λ y e. let is = unmapped (once_less k) v.counts y e in let same : cs ≡ is.0 = some_same cs is.0 v.counts d.1 is.1 in
       subst (λ i. CountsOk z (set b.atoms k x) b.texts r.plan.chain r.plan.keeper id i) (ap (once_less k) same ∙ is.2) (counts_set k x cs c soft ok (omega arith) h))
-      s.walk (marks_as k x r.plan.owner soft) refl refl)
+      s.walk (marks_as k x r.plan.owner soft) refl refl s.trail)

@@ -1,16 +1,17 @@
 -- Each step of the marking half of the cycle keeps the rule.
-use Rattle.std.proofs.Common.{◌≡◌, ◌≢◌, ◌⊎◌, ℕ, ◌+◌, ◌-◌, ◌<◌, ◌≤◌, List, [], ◌∷◌, ◌++◌, length, get_or, set, refl, sym, ap, ◌∙◌, subst, inl, inr, ⊎_elim, arith, Option, Some, None, length-set, get_or-set_same}
+use Rattle.std.proofs.Common.{◌≡◌, ◌≢◌, ◌⊎◌, ℕ, ◌+◌, ◌-◌, ◌<◌, ◌≤◌, List, [], ◌∷◌, ◌++◌, length, get_or, set, take, refl, sym, ap, ◌∙◌, subst, inl, inr, ⊎_elim, arith, Option, Some, None, option_map, length-set, get_or-set_same}
 use mathlib.Core.Option.{some}
 use mathlib.Core.Logic.{dite}
 use native.Mathlib.Decide.{ℕ_discrete}
 use lib.ListN.{get_elem?}
 use Rattle.atom_words.specs.Layout.{state_of, mark_of, epoch_word, phase_of, epoch_of}
-use Rattle.atom_words.specs.Board.{Board, with_epoch, with_ack}
+use Rattle.atom_words.specs.Board.{Board, text_of, with_epoch, with_ack}
 use Rattle.atom_words.specs.Chains.{In}
 use Rattle.atom_words.specs.Kinds.{marked, beginning, checking, turning, view_after, Does}
-use Rattle.atom_words.specs.Kept.{Plan, Safe, Acked, MarksOk, SeatOk, CycleOk, Kept}
+use Rattle.atom_words.specs.Kept.{Plan, Safe, Acked, MarksOk, SeatOk, CycleOk, SureOk, FateOk, Trail, Kept}
 use Rattle.atom_words.specs.declared.size.Size.{Size}
 use Rattle.atom_words.specs.declared.view.Held.{Held}
+use Rattle.atom_words.specs.declared.view.Walk.{Walk}
 use Rattle.atom_words.specs.declared.view.Sweeping.{Sweeping}
 use Rattle.atom_words.specs.declared.view.View.{View}
 use Rattle.atom_words.specs.declared.kind.Kind.TheVariants.{Begin, Mark, Scan, Ack, Check, ToSweep}
@@ -47,21 +48,42 @@ module _ (z : Size) (b : Board) (vs : List View) (r : Kept z b vs) (id : ℕ) (v
       walk = k.walk;
       marks = marks;
       sweeps = λ q has_. absurd (other (sym (k.sweeps q has_).0 ∙ (s.sweeps y e).0));
+      trail = λ q t has_. absurd (other (sym (k.sweeps q has_).0 ∙ (s.sweeps y e).0));
       risen = k.risen;
     }
 
-    collector_step : SeatOk z (with_epoch b epoch') (record r.plan { sweep = f r.plan.sweep }) id w → CycleOk z epoch' b.acks (f r.plan.sweep) → ((f r.plan.sweep).dying ≡ r.plan.sweep.dying) → ((f r.plan.sweep).unlinked ≡ r.plan.sweep.unlinked) → ((f r.plan.sweep).head ≡ r.plan.sweep.head)
+    pub collector_step : SeatOk z (with_epoch b epoch') (record r.plan { sweep = f r.plan.sweep }) id w → CycleOk z epoch' b.acks (f r.plan.sweep) → SureOk z b.atoms b.texts (f r.plan.sweep) → FateOk z epoch' b.links b.heads r.plan.chain (f r.plan.sweep) r.plan.fate
         → ((j : ℕ) (x : View) → SeatOk z b r.plan j x → MarksOk z epoch' b.acks b.atoms r.plan.engine (f r.plan.sweep).cursor j x.cycle x.undealt x.held x.walk) → Kept z (with_epoch b epoch') (set vs id w)
-    collector_step mine cycle dying unlinked head marks = record {
+    collector_step mine cycle sure fate marks = record {
       plan = record r.plan { sweep = f r.plan.sweep };
       sized = record { small = r.sized.small; acks = r.sized.acks; atoms = r.sized.atoms; links = r.sized.links; heads = r.sized.heads; texts = r.sized.texts };
       row = r.row;
       rows = r.rows;
       slots = r.slots;
       cycle = cycle;
-      fate = record { slot = dying ∙ r.fate.slot; out = unlinked ∙ r.fate.out; head = head ∙ r.fate.head };
+      sure = sure;
+      fate = fate;
       seats = seats_stay (SeatOk z (with_epoch b epoch') (record r.plan { sweep = f r.plan.sweep })) vs id w (λ _. mine) (λ j x other at here. let k = r.seats j x at here in other_turned j x other (marks j x k) k);
     }
+
+  -- the collector's walk, where the view changes by f
+  pub own_trail : (epoch' : ℕ) (f : Sweeping → Sweeping) (walk : Option Walk) → ((y : Sweeping) (w : Walk) → v.sweep ≡ Some y → Trail b.epoch b.row b.links b.heads r.plan.chain y w → Trail epoch' b.row b.links b.heads r.plan.chain (f y) w)
+      → (q : Sweeping) (w : Walk) → option_map f v.sweep ≡ Some q → v.walk ≡ Some w → Trail epoch' b.row b.links b.heads r.plan.chain q w
+  own_trail epoch' f walk on q w has_ at = let was = unmapped f v.sweep q has_ in subst (λ y. Trail epoch' b.row b.links b.heads r.plan.chain y w) was.2 (on was.0 w was.1 (s.trail was.0 w was.1 at))
+
+  -- the slot at the cursor, where the view changes in nothing that concerns it
+  pub sure_same : (f : Sweeping → Sweeping) → (f r.plan.sweep).sure ≡ r.plan.sweep.sure → (f r.plan.sweep).text ≡ r.plan.sweep.text → (f r.plan.sweep).cursor ≡ r.plan.sweep.cursor → SureOk z b.atoms b.texts (f r.plan.sweep)
+  sure_same f sure text cursor = let y : Sweeping = r.plan.sweep in record {
+    inside = λ on. subst (λ (k : ℕ). k < z.slots) (sym cursor) (r.sure.inside (sym sure ∙ on));
+    state = λ on. subst (λ (k : ℕ). (state_of (get_or b.atoms k 0) ≡ 3) ⊎ (state_of (get_or b.atoms k 0) ≡ 2)) (sym cursor) (r.sure.state (sym sure ∙ on));
+    short = subst (λ (l : List ℕ). length l ≤ 32) (sym text) r.sure.short;
+    text = λ on. subst (λ (p : List ℕ × ℕ). take (length p.0) (text_of b.texts p.1) ≡ p.0) (λ i. (sym text i, sym cursor i)) (r.sure.text (sym sure ∙ on));
+  }
+
+  -- no slot is dying where the cycle does not sweep
+  pub fate_none : (epoch' : ℕ) (f : Sweeping → Sweeping) → (f r.plan.sweep).dying ≡ r.plan.sweep.dying → (f r.plan.sweep).unlinked ≡ r.plan.sweep.unlinked → (f r.plan.sweep).head ≡ r.plan.sweep.head → (phase_of b.epoch ≡ 2 → ⊥)
+      → FateOk z epoch' b.links b.heads r.plan.chain (f r.plan.sweep) r.plan.fate
+  fate_none epoch' f dying unlinked head not = record { slot = dying ∙ r.fate.slot; out = unlinked ∙ r.fate.out; head = head ∙ r.fate.head; idle = r.fate.idle; dies = λ ne. absurd (not (r.fate.dies ne).sweeping) }
 
   -- BEGIN: no seat has acknowledged the next epoch
   begun_marks : (j : ℕ) (x : View) → phase_of b.epoch ≡ 0 → SeatOk z b r.plan j x
@@ -96,6 +118,7 @@ module _ (z : Size) (b : Board) (vs : List View) (r : Kept z b vs) (id : ℕ) (v
         walk = s.walk;
         marks = begun_marks id v idle_ s;
         sweeps = λ q has_. let was = unmapped beginning v.sweep q has_ in (k.0, ap beginning (s.sweeps was.0 was.1).1 ∙ was.2);
+        trail = own_trail new beginning v.walk (λ q w _ t. record { news = t.news; path = t.path; whole = t.whole; reached = t.reached; fresh = λ two _. absurd (omega arith); ahead = t.ahead });
         risen = s.risen;
       }
       record {
@@ -107,7 +130,9 @@ module _ (z : Size) (b : Board) (vs : List View) (r : Kept z b vs) (id : ℕ) (v
         swept = λ sweeping. absurd (omega arith);
         cursor = r.cycle.cursor;
       }
-      refl refl refl (λ j x q. begun_marks j x idle_ q))
+      (sure_same beginning refl refl refl)
+      (fate_none new beginning refl refl refl (λ two. omega (arith, two)))
+      (λ j x q. begun_marks j x idle_ q))
 
   pub keep_begin : (b' : Board) → Does z b v Begin b' → Kept z b' (set vs id (view_after v Begin))
   keep_begin b' d = subst (λ x. Kept z x (set vs id (view_after v Begin))) (sym d.4) (begin_at d.0 d.1 d.2)
@@ -117,6 +142,7 @@ module _ (z : Size) (b : Board) (vs : List View) (r : Kept z b vs) (id : ℕ) (v
   keep_check e b' d = let y : Sweeping = d.0 in let k = s.sweeps y d.1 in let at : e ≡ y.checked = d.3 in let inside : e < z.engines = d.4 in
       let count : y.checked ≡ r.plan.sweep.checked = sym (ap (λ (q : Sweeping). q.checked) k.1) in
       let word : epoch_of y.word ≡ epoch_of b.epoch = ap epoch_of (sym (ap (λ (q : Sweeping). q.word) k.1) ∙ r.cycle.word) in
+      let marking_ : phase_of b.epoch ≡ 1 = ap phase_of (sym r.cycle.word ∙ ap (λ (q : Sweeping). q.word) k.1) ∙ d.2 in
       let now : Kept z (with_epoch b b.epoch) (set vs id (view_after v (Check e))) = collector_step b.epoch checking (view_after v (Check e)) y d.1
       record {
         size = s.size;
@@ -128,6 +154,7 @@ module _ (z : Size) (b : Board) (vs : List View) (r : Kept z b vs) (id : ℕ) (v
         walk = s.walk;
         marks = s.marks;
         sweeps = λ q has_. let was = unmapped checking v.sweep q has_ in (k.0, ap checking (s.sweeps was.0 was.1).1 ∙ was.2);
+        trail = own_trail b.epoch checking v.walk (λ q w _ t. record { news = t.news; path = t.path; whole = t.whole; reached = t.reached; fresh = t.fresh; ahead = t.ahead });
         risen = s.risen;
       }
       record {
@@ -139,7 +166,8 @@ module _ (z : Size) (b : Board) (vs : List View) (r : Kept z b vs) (id : ℕ) (v
         swept = r.cycle.swept;
         cursor = r.cycle.cursor;
       }
-      refl refl refl (λ j x q. q.marks) in
+      (sure_same checking refl refl refl)
+      (fate_none b.epoch checking refl refl refl (λ two. omega (arith, two, marking_))) (λ j x q. q.marks) in
       subst (λ x. Kept z x (set vs id (view_after v (Check e)))) (sym d.6) now
 
   -- TO SWEEP: all have acknowledged, so that what each holds or guards is marked
@@ -184,6 +212,7 @@ module _ (z : Size) (b : Board) (vs : List View) (r : Kept z b vs) (id : ℕ) (v
         walk = λ w none. cc;
         marks = let m = turned_marks id v marking all s in Rattle.atom_words.proofs.Frames.marks_walk z new b.acks b.atoms r.plan.engine 0 id v.cycle v.undealt v.held v.walk m None (λ w q none. cc);
         sweeps = λ q has_. let was = unmapped turning v.sweep q has_ in (k.0, ap turning (s.sweeps was.0 was.1).1 ∙ was.2);
+        trail = λ q w has_ none. cc;
         risen = s.risen;
       }
       record {
@@ -195,7 +224,8 @@ module _ (z : Size) (b : Board) (vs : List View) (r : Kept z b vs) (id : ℕ) (v
         swept = λ _ i inside. all i inside ∙ sym epoch;
         cursor = omega arith;
       }
-      refl refl refl (λ j x q. turned_marks j x marking all q))
+      record { inside = λ on. cc; state = λ on. cc; short = omega arith; text = λ on. cc }
+      (fate_none new turning refl refl refl (λ two. omega (arith, two))) (λ j x q. turned_marks j x marking all q))
 
   pub keep_to_sweep : (b' : Board) → Does z b v ToSweep b' → Kept z b' (set vs id (view_after v ToSweep))
   keep_to_sweep b' d = subst (λ x. Kept z x (set vs id (view_after v ToSweep))) (sym d.4) (turn_at d.0 d.1 d.2 d.3)
@@ -226,6 +256,7 @@ module _ (z : Size) (b : Board) (vs : List View) (r : Kept z b vs) (id : ℕ) (v
           nothing = λ none. absurd (d.0 none);
         };
         sweeps = s.sweeps;
+        trail = s.trail;
         risen = s.risen;
       })
 
@@ -252,7 +283,7 @@ module _ (z : Size) (b : Board) (vs : List View) (r : Kept z b vs) (id : ℕ) (v
         guard = m.guard;
         nothing = m.nothing;
       }
-      refl refl)
+      refl refl s.trail)
 
   -- ACK: what the engine holds is scanned, and its walk ends
   module _ (scanning : v.cycle.acked < v.cycle.scanned_at) (engine_ : v.cycle.engine ≢ 0) (all : (a : Held) → In a v.held → In a.slot v.cycle.scanned) where
@@ -299,6 +330,7 @@ module _ (z : Size) (b : Board) (vs : List View) (r : Kept z b vs) (id : ℕ) (v
         nothing = m.nothing;
       };
       sweeps = k.sweeps;
+      trail = k.trail;
       risen = k.risen;
     }
 
@@ -325,6 +357,7 @@ module _ (z : Size) (b : Board) (vs : List View) (r : Kept z b vs) (id : ℕ) (v
         nothing = m.nothing;
       };
       sweeps = s.sweeps;
+      trail = λ q w has_ none. cc;
       risen = s.risen;
     }
 
@@ -344,6 +377,7 @@ module _ (z : Size) (b : Board) (vs : List View) (r : Kept z b vs) (id : ℕ) (v
         swept = λ sweeping. absurd (omega (arith, cycle_now.0));
         cursor = r.cycle.cursor;
       };
+      sure = r.sure;
       fate = r.fate;
       seats = seats_stay (SeatOk z (with_ack b (v.cycle.engine - 1) v.cycle.scanned_at) r.plan) vs id (view_after v Ack) (λ _. mine_acked) (λ j x other at here. others_acked j x other (r.seats j x at here));
     }

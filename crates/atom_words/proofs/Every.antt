@@ -7,13 +7,16 @@ use Rattle.atom_words.specs.Kept.{SeatOk, Kept}
 use Rattle.atom_words.specs.declared.size.Size.{Size}
 use Rattle.atom_words.specs.declared.view.View.{View}
 use Rattle.atom_words.specs.declared.kind.Kind.{Kind}
-use Rattle.atom_words.specs.declared.kind.Kind.TheVariants.{Raise, Risen, Reserve, PutWord, PutLink, Link, Validate, Release, Load, Refused, Start, Read, Next, Skip, Hold, Keep, Fix, StartPass, EndPass, Refuse, Ask, Protect, Fetch, Register, Unregister, Begin, Mark, Scan, Ack, Check, ToSweep}
+use Rattle.atom_words.specs.declared.kind.Kind.TheVariants.{Raise, Risen, Reserve, PutWord, PutLink, Link, Validate, Release, Load, Refused, Start, Read, Next, Skip, Hold, Keep, Fix, StartPass, EndPass, Refuse, Ask, Protect, Fetch, Register, Unregister, Begin, Mark, Scan, Ack, Check, ToSweep, Look, Spell, Condemn, PassOver, Behind, UnlinkAt, UnlinkHead, Note, Bump, Past, Free, End}
 use Rattle.atom_words.proofs.Loads.{keep_load, keep_refused, keep_start, keep_read, keep_next, keep_skip, keep_hold, keep_keep, keep_fix, keep_start_pass, keep_end_pass, keep_refuse, keep_ask}
 use Rattle.atom_words.proofs.AtomSteps.{keep_reserve, keep_validate, keep_release, keep_protect, keep_fetch, keep_register, keep_unregister}
 use Rattle.atom_words.proofs.TextSteps.{keep_put_word, keep_put_link}
 use Rattle.atom_words.proofs.LinkStep.{keep_link}
 use Rattle.atom_words.proofs.RaiseStep.{keep_raise, keep_risen}
 use Rattle.atom_words.proofs.Cycles.{keep_begin, keep_mark, keep_scan, keep_ack, keep_check, keep_to_sweep}
+use Rattle.atom_words.proofs.Sweeps.{keep_look, keep_spell, keep_behind, keep_note, keep_past, keep_end}
+use Rattle.atom_words.proofs.SweepWords.{keep_pass_over, keep_condemn, keep_free}
+use Rattle.atom_words.proofs.Unlinks.{keep_unlink_at, keep_unlink_head, keep_bump}
 use Rattle.atom_words.proofs.SeatSteps.{keep_make, keep_join, keep_split, keep_open}
 
 module _ (z : Size) (b : Board) (vs : List View) (r : Kept z b vs) (id : ℕ) (v : View) (s : SeatOk z b r.plan id v) (b' : Board) where
@@ -49,6 +52,18 @@ module _ (z : Size) (b : Board) (vs : List View) (r : Kept z b vs) (id : ℕ) (v
   keep_kind Ack d = keep_ack z b vs r id v s b' d
   keep_kind (Check e) d = keep_check z b vs r id v s e b' d
   keep_kind ToSweep d = keep_to_sweep z b vs r id v s b' d
+  keep_kind (Look x) d = keep_look z b vs r id v s x b' d
+  keep_kind (Spell x) d = keep_spell z b vs r id v s x b' d
+  keep_kind Condemn d = keep_condemn z b vs r id v s b' d
+  keep_kind (PassOver x) d = keep_pass_over z b vs r id v s x b' d
+  keep_kind (Behind x) d = keep_behind z b vs r id v s x b' d
+  keep_kind (UnlinkAt q) d = keep_unlink_at z b vs r id v s q b' d
+  keep_kind UnlinkHead d = keep_unlink_head z b vs r id v s b' d
+  keep_kind (Note x) d = keep_note z b vs r id v s x b' d
+  keep_kind Bump d = keep_bump z b vs r id v s b' d
+  keep_kind (Past x) d = keep_past z b vs r id v s x b' d
+  keep_kind Free d = keep_free z b vs r id v s b' d
+  keep_kind End d = keep_end z b vs r id v s b' d
   keep_kind _ d = absurd d
 
 pub keep_goes : (z : Size) (b : Board) (vs : List View) (b' : Board) (vs' : List View) → Kept z b vs → Goes z b vs b' vs' → Kept z b' vs'

@@ -7,13 +7,14 @@ use Rattle.atomic_table.proofs.Lists.{at_set}
 use Rattle.atom_words.specs.Layout.{state_of, mark_of, count_of, phase_of}
 use Rattle.atom_words.specs.Board.{Board, with_atom}
 use Rattle.atom_words.specs.Chains.{In, Linked}
-use Rattle.atom_words.specs.Kept.{Plan, Safe, Acked, OwnOk, HeldOk, CountsOk, MarksOk, SeatOk, Slots, Kept}
+use Rattle.atom_words.specs.Kept.{Plan, Safe, Acked, OwnOk, HeldOk, CountsOk, MarksOk, SeatOk, Slots, SureOk, Kept}
 use Rattle.atom_words.specs.declared.size.Size.{Size}
 use Rattle.atom_words.specs.declared.view.Held.{Held}
 use Rattle.atom_words.specs.declared.view.Counted.{Counted}
 use Rattle.atom_words.specs.declared.view.Own.{Own}
 use Rattle.atom_words.specs.declared.view.Walk.{Walk}
 use Rattle.atom_words.specs.declared.view.Cycling.{Cycling}
+use Rattle.atom_words.specs.declared.view.Sweeping.{Sweeping}
 use Rattle.atom_words.specs.declared.view.View.{View}
 use Rattle.atom_words.proofs.Slices.{word_after}
 
@@ -33,6 +34,7 @@ keep_view z b vs r id w mine = record {
   rows = r.rows;
   slots = r.slots;
   cycle = r.cycle;
+  sure = r.sure;
   fate = r.fate;
   seats = seats_stay (SeatOk z b r.plan) vs id w (λ _. mine) (λ j v _ at here. r.seats j v at here);
 }
@@ -159,6 +161,7 @@ module _ (z : Size) (atoms : List ℕ) (p : Plan) (owner' : ℕ → ℕ) (id k x
     walk = s.walk;
     marks = marks_stay z atoms (set atoms k x) b.epoch b.acks p.engine p.sweep.cursor j v.cycle v.undealt v.held v.walk soft_valid soft_marked s.marks;
     sweeps = s.sweeps;
+    trail = s.trail;
     risen = s.risen;
   }
 
@@ -175,6 +178,15 @@ module _ (z : Size) (atoms : List ℕ) (p : Plan) (owner' : ℕ → ℕ) (id k x
         (λ _. s.shut q inside fixed low);
   }
 
+  pub soft_sure : (texts : List ℕ) (y : Sweeping) → Slots z atoms p.chain p.fate → SureOk z atoms texts y → SureOk z (set atoms k x) texts y
+  soft_sure texts y slots s = record {
+    inside = s.inside;
+    state = λ on. ⊎_elim (λ (valid : state_of (get_or atoms y.cursor 0) ≡ 3). inl (soft_valid y.cursor valid))
+        (λ (dying : state_of (get_or atoms y.cursor 0) ≡ 2). inr (word_after (λ n. state_of n ≡ 2) atoms k x y.cursor soft.inside (λ e. soft.dies (slots.only y.cursor dying ∙ ap (λ (i : ℕ). i + 1) e)) (λ _. dying))) (s.state on);
+    short = s.short;
+    text = s.text;
+  }
+
 -- a step on an atom word keeps the rule where it keeps it of that slot and of the seat's own view
 pub keep_atom : (z : Size) (b : Board) (vs : List View) (r : Kept z b vs) (owner' : ℕ → ℕ) (id k x : ℕ) (w : View) → Soft z b.atoms r.plan owner' id k x
     → SeatOk z (with_atom b k x) (record r.plan { owner = owner' }) id w → Kept z (with_atom b k x) (set vs id w)
@@ -185,6 +197,7 @@ keep_atom z b vs r owner' id k x w soft mine = record {
   rows = r.rows;
   slots = soft_slots z b.atoms r.plan owner' id k x soft r.slots;
   cycle = r.cycle;
+  sure = soft_sure z b.atoms r.plan owner' id k x soft b.texts r.plan.sweep r.slots r.sure;
   fate = r.fate;
   seats = seats_stay (SeatOk z (with_atom b k x) (record r.plan { owner = owner' })) vs id w (λ _. mine)
       (λ j v other at here. soft_seat z b.atoms r.plan owner' id k x soft b refl j v other (r.seats j v at here));

@@ -1,7 +1,7 @@
 -- Each word reads back as it was made.
 use Rattle.std.proofs.Common.{◌≡◌, ℕ, ◌<◌, arith}
 use Rattle.atom_words.specs.Layout.{atom_word, state_of, mark_of, count_of, head_word, first_of, closed_of, version_of, epoch_word, phase_of, epoch_of}
-use Rattle.atom_words.specs.Kinds.{marked}
+use Rattle.atom_words.specs.Kinds.{marked, unmarked}
 
 pub state-atom_word : (s m c : ℕ) → s < 4 → m < 2 → state_of (atom_word s m c) ≡ s
 state-atom_word s m c p q = omega arith
@@ -36,3 +36,10 @@ count-marked w = omega arith
 
 pub mark-marked : (w : ℕ) → mark_of (marked w) ≡ 1
 mark-marked w = omega arith
+
+-- so does clearing it
+pub state-unmarked : (w : ℕ) → state_of (unmarked w) ≡ state_of w
+state-unmarked w = omega arith
+
+pub count-unmarked : (w : ℕ) → count_of (unmarked w) ≡ count_of w
+count-unmarked w = omega arith

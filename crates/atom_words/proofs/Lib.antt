@@ -18,3 +18,7 @@ pub mod Openings
 pub mod WalkSteps
 pub mod RowBytes
 pub mod Cycles
+pub mod Sweeps
+pub mod SweepWords
+pub mod Unlinks
+pub mod Laws

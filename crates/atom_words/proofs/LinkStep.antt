@@ -1,17 +1,18 @@
 -- Linking a slot in front of its bucket's chain keeps the rule.
 use Rattle.std.proofs.Common.{◌≡◌, ◌≢◌, ◌⊎◌, ℕ, ◌+◌, ◌<◌, ◌≤◌, false, List, [], ◌∷◌, length, get_or, set, take, refl, sym, ap, ◌∙◌, subst, inl, inr, ⊎_elim, arith, Some, None, length-set, take_all, get_or-set_same, get_or-set_other}
 use native.Mathlib.Decide.{ℕ_discrete}
-use Rattle.atom_words.specs.Layout.{state_of, first_of, version_of, head_word, worn}
+use Rattle.atom_words.specs.Layout.{state_of, first_of, version_of, head_word, worn, last, phase_of}
 use Rattle.atom_words.specs.Texts.{bucket}
 use Rattle.atom_words.specs.Board.{Board, text_of, with_head}
 use Rattle.atom_words.specs.Chains.{In, Chain, Linked}
 use Rattle.atom_words.specs.Kinds.{linked_own, view_after, Ended, Does}
-use Rattle.atom_words.specs.Kept.{Plan, Fate, OwnOk, HeldOk, CountsOk, Seen, Unwalked, WalkOk, SeatOk, Rows, Slots, Kept}
+use Rattle.atom_words.specs.Kept.{Plan, Fate, OwnOk, HeldOk, CountsOk, Seen, Unwalked, WalkOk, SeatOk, Rows, Slots, Trail, DyingOk, Kept}
 use Rattle.atom_words.specs.declared.size.Size.{Size}
 use Rattle.atom_words.specs.declared.view.Held.{Held}
 use Rattle.atom_words.specs.declared.view.Counted.{Counted}
 use Rattle.atom_words.specs.declared.view.Own.{Own}
 use Rattle.atom_words.specs.declared.view.Walk.{Walk}
+use Rattle.atom_words.specs.declared.view.Sweeping.{Sweeping}
 use Rattle.atom_words.specs.declared.view.View.{View}
 use Rattle.atom_words.specs.declared.kind.Kind.TheVariants.{Link}
 use Rattle.atom_words.proofs.Layouts.{first-head_word, version-head_word}
@@ -77,6 +78,39 @@ module _ (z : Size) (chain : ℕ → List ℕ) (h k : ℕ) (inside : h < z.heads
         (λ e. let here : version_of w.word < version_of (get_or heads h 0) = subst (λ (i : ℕ). version_of w.word < version_of (get_or heads i 0)) e (ok.lost g) in omega arith) (λ _. ok.lost g);
   }
 
+  -- the collector's walk: one slot is new in front
+  trail_linked : (epoch row : ℕ) (links heads : List ℕ) (n : ℕ) (y : Sweeping) (w : Walk) → h < length heads → version_of n < last → Trail epoch row links heads chain y w → Trail epoch row links (set heads h n) (put chain h (k ∷ chain h)) y w
+  trail_linked epoch row links heads n y w there early t = let fresh : phase_of epoch ≡ 2 → version_of w.word < last → version_of (get_or (set heads h n) w.head 0) < last = (λ two first. word_after (λ m. version_of m < last) heads h n w.head there (λ _. early) (λ _. t.fresh two first)) in
+      elim (ℕ_discrete w.head h) as (λ _. Trail epoch row links (set heads h n) (put chain h (k ∷ chain h)) y w) [
+        | yes e ↦ record { news = k ∷ t.news; path = t.path; whole = ap (put chain h (k ∷ chain h)) e ∙ (at_h ∙ ap (λ (l : List ℕ). k ∷ l) (ap chain (sym e) ∙ t.whole)); reached = t.reached; fresh = fresh; ahead = t.ahead }
+        | no ne ↦ record { news = t.news; path = t.path; whole = at_else w.head ne ∙ t.whole; reached = t.reached; fresh = fresh; ahead = t.ahead }
+      ]
+
+  -- the dying slot is another
+  dying_linked : (epoch : ℕ) (links heads : List ℕ) (n : ℕ) (y : Sweeping) (f : Fate) → h < length heads → version_of n ≡ version_of (get_or heads h 0) + 1 → version_of n < last → f.slot ≢ k + 1 → DyingOk z epoch links heads chain y f
+      → DyingOk z epoch links (set heads h n) (put chain h (k ∷ chain h)) y f
+  unfolding still_linked
+  dying_linked epoch links heads n y f there moved early other d = record {
+    sweeping = d.sweeping;
+    at = d.at;
+    high = d.high;
+    inside = d.inside;
+    there = λ in_. let t = d.there in_ in ((still_linked y.cursor (f.head, d.inside, t.0)).2, word_after (λ m. version_of m < last) heads h n f.head there (λ _. early) (λ _. t.1));
+    behind = d.behind;
+    gone = λ out. let t = d.gone out in (
+      (λ l. ⊎_elim (λ (e : k ≡ y.cursor). other (d.at ∙ ap (λ (i : ℕ). i + 1) (sym e))) t.0 (was_linked y.cursor l)),
+      word_after (λ m. f.left ≤ version_of m) heads h n f.head there (λ e. let here : f.left ≤ version_of (get_or heads h 0) = subst (λ (g : ℕ). f.left ≤ version_of (get_or heads g 0)) e t.1 in omega arith) (λ _. t.1),
+      λ not_past. word_after (λ m. version_of m < last) heads h n f.head there (λ _. early) (λ _. t.2 not_past),
+    );
+    noted = λ out x e. let t = d.noted out x e in let seen = t.1 in (
+      t.0,
+      word_after (λ m. version_of x ≤ version_of m) heads h n f.head there (λ same. let here : version_of x ≤ version_of (get_or heads h 0) = subst (λ (g : ℕ). version_of x ≤ version_of (get_or heads g 0)) same seen in omega arith) (λ _. seen),
+      word_after (λ m. version_of m ≡ version_of x → m ≡ x) heads h n f.head there
+          (λ same is. absurd (let here : version_of x ≤ version_of (get_or heads h 0) = subst (λ (g : ℕ). version_of x ≤ version_of (get_or heads g 0)) same seen in omega arith)) (λ _. t.2),
+    );
+    past = λ out p. let t = d.past out p in word_after (λ m. f.left < version_of m) heads h n f.head there (λ e. let here : f.left < version_of (get_or heads h 0) = subst (λ (g : ℕ). f.left < version_of (get_or heads g 0)) e t in omega arith) (λ _. t);
+  }
+
 module _ (z : Size) (b : Board) (vs : List View) (r : Kept z b vs) (id : ℕ) (v : View) (s : SeatOk z b r.plan id v) (o : Own) (w : Walk) (own : v.own ≡ Some o) (walk : v.walk ≡ Some w)
     (unlinked : o.linked ≡ false) (whole : length o.text ≡ 32) (link : o.link ≡ Some (first_of w.word)) (ended : Ended b.row o w) (found : get_or b.heads w.head 0 ≡ w.word) (fresh : version_of w.word < worn) where
   ok : OwnOk z b.atoms b.links b.texts r.plan.chain r.plan.owner id o
@@ -102,6 +136,9 @@ module _ (z : Size) (b : Board) (vs : List View) (r : Kept z b vs) (id : ℕ) (v
 
   version_is : version_of (head_word (o.slot + 1) 0 (version_of w.word + 1)) ≡ version_of (get_or b.heads w.head 0) + 1
   version_is = let i = ok.inside in let sm = r.sized.small in version-head_word (o.slot + 1) 0 (version_of w.word + 1) (omega arith) (omega arith) ∙ ap (λ (y : ℕ). version_of y + 1) (sym found)
+
+  early : version_of (head_word (o.slot + 1) 0 (version_of w.word + 1)) < last
+  early = let v' = version_is in let same = ap version_of found in omega arith
 
   text_is : text_of b.texts o.slot ≡ o.text
   text_is = let short = text_short b.texts o.slot in sym (take_all (length o.text) (text_of b.texts o.slot) (omega arith)) ∙ ok.text
@@ -193,6 +230,7 @@ module _ (z : Size) (b : Board) (vs : List View) (r : Kept z b vs) (id : ℕ) (v
     walk = λ t e. walk_linked z r.plan.chain w.head o.slot walked.inside b.links b.heads b.texts r.plan.fate n t there version_is (sj.walk t e);
     marks = sj.marks;
     sweeps = sj.sweeps;
+    trail = λ q t e f. trail_linked z r.plan.chain w.head o.slot walked.inside b.epoch b.row b.links b.heads n q t there early (sj.trail q t e f);
     risen = λ h below. let t = sj.risen h below in (t.0, risen_linked h t.1);
   }
 
@@ -218,6 +256,7 @@ module _ (z : Size) (b : Board) (vs : List View) (r : Kept z b vs) (id : ℕ) (v
     walk = λ t e. cc;
     marks = marks_walk z b.epoch b.acks b.atoms r.plan.engine r.plan.sweep.cursor id v.cycle v.undealt v.held v.walk s.marks None (λ t k e. cc);
     sweeps = s.sweeps;
+    trail = λ q t e none. cc;
     risen = λ h below. let t = s.risen h below in (t.0, risen_linked h t.1);
   }
 
@@ -229,7 +268,14 @@ module _ (z : Size) (b : Board) (vs : List View) (r : Kept z b vs) (id : ℕ) (v
     rows = rows_linked;
     slots = slots_linked;
     cycle = r.cycle;
-    fate = r.fate;
+    sure = r.sure;
+    fate = record {
+      slot = r.fate.slot;
+      out = r.fate.out;
+      head = r.fate.head;
+      idle = r.fate.idle;
+      dies = λ ne. dying_linked z r.plan.chain w.head o.slot walked.inside b.epoch b.links b.heads n r.plan.sweep r.plan.fate there version_is early (λ e. let dying = r.slots.dies o.slot e in let state = ok.state in omega arith) (r.fate.dies ne);
+    };
     seats = seats_stay (SeatOk z (with_head b w.head n) plan') vs id (view_after v Link) (λ _. mine_linked) (λ j y other at here. others_linked j y other (r.seats j y at here));
   }
 

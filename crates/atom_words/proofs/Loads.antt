@@ -1,17 +1,20 @@
 -- Each load keeps the rule.
-use Rattle.std.proofs.Common.{◌≡◌, ◌≢◌, ℕ, suc, ◌+◌, ◌-◌, ◌<◌, ◌≤◌, true, List, [], ◌∷◌, ◌++◌, length, get_or, set, take, refl, sym, ap, ◌∙◌, subst, inl, inr, ⊎_elim, arith, Option, Some, None, take_all, length-append}
+use Rattle.std.proofs.Common.{◌≡◌, ◌≢◌, ℕ, suc, ◌+◌, ◌-◌, ◌<◌, ◌≤◌, true, false, List, [], ◌∷◌, ◌++◌, length, get_or, set, take, refl, sym, ap, ◌∙◌, subst, inl, inr, ⊎_elim, arith, Option, Some, None, take_all, length-append, append_assoc}
 use mathlib.Core.Option.{some}
 use lib.ListN.{get_elem?}
 use Rattle.atomic_table.proofs.Lists.{at_longer, at_last}
 use Rattle.atom_words.specs.Layout.{state_of, first_of, version_of}
 use Rattle.atom_words.specs.Board.{Board, text_of}
-use Rattle.atom_words.specs.Chains.{In, Chain}
+use mathlib.Core.List.{map-append}
+use Rattle.atom_words.specs.Texts.{bucket}
+use Rattle.atom_words.specs.Chains.{In, Chain, Linked}
 use Rattle.atom_words.specs.Kinds.{starting, reading, going_on, skipping, at_hand, held_at_hand, Sitting, view_after, Does}
-use Rattle.atom_words.specs.Kept.{Plan, Left, Safe, Acked, HeldOk, Seen, WalkOk, SeatOk, Kept}
+use Rattle.atom_words.specs.Kept.{Plan, Left, Safe, Acked, HeldOk, Seen, WalkOk, SeatOk, slots, Trail, Kept}
 use Rattle.atom_words.specs.declared.size.Size.{Size}
 use Rattle.atom_words.specs.declared.view.Held.{Held}
 use Rattle.atom_words.specs.declared.view.Walk.{Walk}
 use Rattle.atom_words.specs.declared.view.Passing.{Passing}
+use Rattle.atom_words.specs.declared.view.Sweeping.{Sweeping}
 use Rattle.atom_words.specs.declared.view.Refusal.{Refusal}
 use Rattle.atom_words.specs.declared.view.View.{View}
 use Rattle.atom_words.specs.declared.kind.Kind.{Kind}
@@ -22,8 +25,9 @@ use Rattle.atom_words.proofs.Frames.{keep_view, marks_now, marks_walk}
 module _ (z : Size) (b : Board) (p : Plan) (j : ℕ) (v : View) (s : SeatOk z b p j v) where
   -- a view that differs in the walk
   pub walks : (walk : Option Walk) (made : List Kind) → ((t : Walk) → walk ≡ Some t → WalkOk z b.links b.heads b.texts p.chain p.fate t)
-      → ((w : Walk) (k : ℕ) → walk ≡ Some w → w.guarded ≡ true → w.place ≡ k + 1 → (t : Walk) × (v.walk ≡ Some t) × (t.guarded ≡ true) × (t.place ≡ k + 1)) → SeatOk z b p j (record v { walk = walk; made = made })
-  walks walk made ok was = record {
+      → ((w : Walk) (k : ℕ) → walk ≡ Some w → w.guarded ≡ true → w.place ≡ k + 1 → (t : Walk) × (v.walk ≡ Some t) × (t.guarded ≡ true) × (t.place ≡ k + 1))
+      → ((y : Sweeping) (w : Walk) → v.sweep ≡ Some y → walk ≡ Some w → Trail b.epoch b.row b.links b.heads p.chain y w) → SeatOk z b p j (record v { walk = walk; made = made })
+  walks walk made ok was trail = record {
     size = s.size;
     own = s.own;
     held = s.held;
@@ -33,6 +37,7 @@ module _ (z : Size) (b : Board) (p : Plan) (j : ℕ) (v : View) (s : SeatOk z b 
     walk = ok;
     marks = marks_walk z b.epoch b.acks b.atoms p.engine p.sweep.cursor j v.cycle v.undealt v.held v.walk s.marks walk was;
     sweeps = s.sweeps;
+    trail = trail;
     risen = s.risen;
   }
 
@@ -48,6 +53,7 @@ module _ (z : Size) (b : Board) (p : Plan) (j : ℕ) (v : View) (s : SeatOk z b 
     walk = s.walk;
     marks = s.marks;
     sweeps = s.sweeps;
+    trail = s.trail;
     risen = s.risen;
   }
 
@@ -67,6 +73,7 @@ module _ (z : Size) (b : Board) (p : Plan) (j : ℕ) (v : View) (s : SeatOk z b 
         (λ none dealt. absurd (⊎_elim (λ (t : v.cycle.engine ≢ 0). t none) (λ (t : 0 < v.undealt). omega arith) sits))
         (λ w k e. cc);
     sweeps = s.sweeps;
+    trail = λ y w e none. cc;
     risen = s.risen;
   }
 
@@ -179,6 +186,39 @@ module _ (z : Size) (b : Board) (vs : List View) (r : Kept z b vs) (id : ℕ) (v
         text = sym all ∙ u.part k place;
       }
 
+  -- the slot at the cursor, whose text was spelled, stands in the chain of its text's bucket
+  sure_on : (h : ℕ) (y : Sweeping) → v.sweep ≡ Some y → y.sure ≡ true → length y.text ≡ 32 → y.unlinked ≡ false → bucket b.row y.text ≡ h → In y.cursor (r.plan.chain h)
+  sure_on h y sweep on whole in_ at = let same_ : r.plan.sweep ≡ y = (s.sweeps y sweep).1 in let k : ℕ = r.plan.sweep.cursor in
+      let on' : r.plan.sweep.sure ≡ true = ap (λ (q : Sweeping). q.sure) same_ ∙ on in let text : r.plan.sweep.text ≡ y.text = ap (λ (q : Sweeping). q.text) same_ in let long : length r.plan.sweep.text ≡ 32 = ap length text ∙ whole in
+      let short = text_short b.texts k in let all : text_of b.texts k ≡ r.plan.sweep.text = sym (take_all (length r.plan.sweep.text) (text_of b.texts k) (omega arith)) ∙ r.sure.text on' in
+      let find : Linked z.heads r.plan.chain k = ⊎_elim (λ (valid : state_of (get_or b.atoms k 0) ≡ 3). r.slots.valid k valid)
+      (λ (dying : state_of (get_or b.atoms k 0) ≡ 2). let slot : r.plan.fate.slot ≡ k + 1 = r.slots.only k dying in let f = r.fate.dies (λ none. omega arith) in
+      (r.plan.fate.head, f.inside, (f.there (sym r.fate.out ∙ (ap (λ (q : Sweeping). q.unlinked) same_ ∙ in_))).0)) (r.sure.state on') in
+      let head : find.0 ≡ h = sym (r.rows.stands find.0 k find.1 find.2) ∙ (ap (bucket b.row) (all ∙ text) ∙ at) in
+      subst (λ (g : ℕ). In y.cursor (r.plan.chain g)) head (subst (λ (q : ℕ). In q (r.plan.chain find.0)) (ap (λ (q : Sweeping). q.cursor) same_) find.2)
+
+  -- the collector's walk, at its start and as it goes on
+  start_trail : (h x : ℕ) (y : Sweeping) → h < z.heads → get_or b.heads h 0 ≡ x → v.sweep ≡ Some y → Trail b.epoch b.row b.links b.heads r.plan.chain y (starting h x)
+  start_trail h x y inside found sweep = record {
+    news = [];
+    path = r.plan.chain h;
+    whole = refl;
+    reached = subst (λ (n : ℕ). Chain b.links (first_of n) (r.plan.chain h)) found (r.rows.chains h inside);
+    fresh = λ _ early. subst (λ (n : ℕ). version_of n < 4398046511103) (sym found) early;
+    ahead = λ on whole in_ at. sure_on h y sweep on whole in_ at;
+  }
+
+  next_trail : (w : Walk) (k x : ℕ) (y : Sweeping) → Trail b.epoch b.row b.links b.heads r.plan.chain y w → w.place ≡ k + 1 → get_or b.links k 0 ≡ x → Trail b.epoch b.row b.links b.heads r.plan.chain y (going_on x w)
+  next_trail w k x y t place found = let c = chain_at b.links k t.path (subst (λ (n : ℕ). Chain b.links n t.path) place t.reached) in let slot : w.place - 1 ≡ k = omega arith in
+      let moved : slots w.seen ++ t.path ≡ slots (w.seen ++ at_hand w ∷ []) ++ c.0 = ap (λ (l : List ℕ). slots w.seen ++ l) c.1 ∙ (ap (λ (q : ℕ). slots w.seen ++ q ∷ c.0) (sym slot) ∙ (sym (append_assoc (slots w.seen) ((w.place - 1) ∷ []) c.0) ∙ ap (λ (l : List ℕ). l ++ c.0) (sym (map-append (λ (a : Held). a.slot) w.seen (at_hand w ∷ []))))) in record {
+        news = t.news;
+        path = c.0;
+        whole = t.whole ∙ ap (λ (l : List ℕ). t.news ++ l) moved;
+        reached = subst (λ (n : ℕ). Chain b.links n c.0) found c.3;
+        fresh = t.fresh;
+        ahead = λ on whole in_ at. subst (In y.cursor) moved (t.ahead on whole in_ at);
+      }
+
   keep_same : (b' : Board) (w : View) → b' ≡ b → SeatOk z b r.plan id w → Kept z b' (set vs id w)
   keep_same b' w e ok = subst (λ y. Kept z y (set vs id w)) (sym e) (keep_view z b vs r id w ok)
 
@@ -191,22 +231,26 @@ module _ (z : Size) (b : Board) (vs : List View) (r : Kept z b vs) (id : ℕ) (v
   pub keep_start : (h x : ℕ) (b' : Board) → Does z b v (Start h x) b' → Kept z b' (set vs id (view_after v (Start h x)))
   keep_start h x b' d = keep_same b' (view_after v (Start h x)) d.3 (walks z b r.plan id v s (Some (starting h x)) (v.made ++ Start h x ∷ [])
       (λ t e. let is : starting h x ≡ t = cc in subst (λ y. WalkOk z b.links b.heads b.texts r.plan.chain r.plan.fate y) is (start_ok h x d.0 d.1))
-      (λ t k e g. absurd (let is : starting h x ≡ t = cc in let no = ap (λ (y : Walk). y.guarded) is ∙ g in cc)))
+      (λ t k e g. absurd (let is : starting h x ≡ t = cc in let no = ap (λ (y : Walk). y.guarded) is ∙ g in cc))
+      (λ y t e f. let is : starting h x ≡ t = cc in subst (λ q. Trail b.epoch b.row b.links b.heads r.plan.chain y q) is (start_trail h x y d.0 d.1 e)))
 
   pub keep_read : (x : ℕ) (b' : Board) → Does z b v (Read x) b' → Kept z b' (set vs id (view_after v (Read x)))
   keep_read x b' d = keep_same b' (view_after v (Read x)) d.6 (walks z b r.plan id v s (view_after v (Read x)).walk (v.made ++ Read x ∷ [])
       (λ t e. subst (λ y. WalkOk z b.links b.heads b.texts r.plan.chain r.plan.fate y) (mapped (reading x) v.walk d.0 t d.2 e) (read_ok d.0 d.1 x (s.walk d.0 d.2) d.3 d.4 d.5))
-      (λ t k e g at. let is = mapped (reading x) v.walk d.0 t d.2 e in (d.0, d.2, ap (λ (y : Walk). y.guarded) is ∙ g, ap (λ (y : Walk). y.place) is ∙ at)))
+      (λ t k e g at. let is = mapped (reading x) v.walk d.0 t d.2 e in (d.0, d.2, ap (λ (y : Walk). y.guarded) is ∙ g, ap (λ (y : Walk). y.place) is ∙ at))
+      (λ y t e f. let o = s.trail y d.0 e d.2 in subst (λ q. Trail b.epoch b.row b.links b.heads r.plan.chain y q) (mapped (reading x) v.walk d.0 t d.2 f) record { news = o.news; path = o.path; whole = o.whole; reached = o.reached; fresh = o.fresh; ahead = o.ahead }))
 
   pub keep_next : (x : ℕ) (b' : Board) → Does z b v (Next x) b' → Kept z b' (set vs id (view_after v (Next x)))
   keep_next x b' d = keep_same b' (view_after v (Next x)) d.5 (walks z b r.plan id v s (view_after v (Next x)).walk (v.made ++ Next x ∷ [])
       (λ t e. subst (λ y. WalkOk z b.links b.heads b.texts r.plan.chain r.plan.fate y) (mapped (going_on x) v.walk d.0 t d.2 e) (next_ok d.0 d.1 x (s.walk d.0 d.2) d.3 d.4))
-      (λ t k e g. absurd (let no = ap (λ (y : Walk). y.guarded) (mapped (going_on x) v.walk d.0 t d.2 e) ∙ g in cc)))
+      (λ t k e g. absurd (let no = ap (λ (y : Walk). y.guarded) (mapped (going_on x) v.walk d.0 t d.2 e) ∙ g in cc))
+      (λ y t e f. subst (λ q. Trail b.epoch b.row b.links b.heads r.plan.chain y q) (mapped (going_on x) v.walk d.0 t d.2 f) (next_trail d.0 d.1 x y (s.trail y d.0 e d.2) d.3 d.4)))
 
   pub keep_skip : (x : ℕ) (b' : Board) → Does z b v (Skip x) b' → Kept z b' (set vs id (view_after v (Skip x)))
   keep_skip x b' d = keep_same b' (view_after v (Skip x)) d.7 (walks z b r.plan id v s (view_after v (Skip x)).walk (v.made ++ Skip x ∷ [])
       (λ t e. subst (λ y. WalkOk z b.links b.heads b.texts r.plan.chain r.plan.fate y) (mapped (skipping x) v.walk d.0 t d.2 e) (skip_ok d.0 d.1 x (s.walk d.0 d.2) d.4 d.5 d.6))
-      (λ t k e g. absurd (let no = ap (λ (y : Walk). y.guarded) (mapped (skipping x) v.walk d.0 t d.2 e) ∙ g in cc)))
+      (λ t k e g. absurd (let no = ap (λ (y : Walk). y.guarded) (mapped (skipping x) v.walk d.0 t d.2 e) ∙ g in cc))
+      (λ y t e. absurd (let no : None ≡ Some y = sym d.3 ∙ e in cc)))
 
   pub keep_hold : (b' : Board) → Does z b v Hold b' → Kept z b' (set vs id (view_after v Hold))
   keep_hold b' d = let g = s.marks.guard d.0 d.1 d.2 d.4 d.3 d.7 in
@@ -226,6 +270,7 @@ module _ (z : Size) (b : Board) (vs : List View) (r : Kept z b vs) (id : ℕ) (v
     marks = marks_now z b.epoch b.acks b.atoms r.plan.engine r.plan.sweep.cursor id v.cycle v.undealt v.held v.walk s.marks those v.walk (λ acked a i. s.marks.held acked a (d.0 a i))
         (λ none dealt. none_in those (λ a i. in_none a (subst (In a) (s.marks.nothing none dealt) (d.0 a i)))) s.marks.guard;
     sweeps = s.sweeps;
+    trail = s.trail;
     risen = s.risen;
   }
 
@@ -240,6 +285,7 @@ module _ (z : Size) (b : Board) (vs : List View) (r : Kept z b vs) (id : ℕ) (v
     walk = s.walk;
     marks = marks_now z b.epoch b.acks b.atoms r.plan.engine r.plan.sweep.cursor id v.cycle v.undealt v.held v.walk s.marks [] v.walk (λ acked a i. absurd (in_none a i)) (λ _ _. refl) s.marks.guard;
     sweeps = s.sweeps;
+    trail = s.trail;
     risen = s.risen;
   }
 

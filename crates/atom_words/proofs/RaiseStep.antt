@@ -1,14 +1,15 @@
 -- Raising the version of a head keeps the rule.
-use Rattle.std.proofs.Common.{◌≡◌, ◌≢◌, ◌⊎◌, ℕ, ◌+◌, ◌<◌, ◌≤◌, Bool, if◌then◌else◌, List, length, get_or, set, sym, ap, ◌∙◌, subst, inl, inr, ⊎_elim, arith, length-set, get_or-set_same, get_or-set_other, eq-eqb, ne_eqb}
+use Rattle.std.proofs.Common.{◌≡◌, ◌≢◌, ◌⊎◌, ℕ, ◌+◌, ◌<◌, ◌≤◌, Bool, if◌then◌else◌, List, length, get_or, set, sym, ap, ◌∙◌, subst, inl, inr, ⊎_elim, arith, ◌-◌, length-set, get_or-set_same, get_or-set_other, eq-eqb, ne_eqb}
 use mathlib.Core.Logic.{dite}
 use native.Mathlib.Decide.{ℕ_discrete}
-use Rattle.atom_words.specs.Layout.{first_of, closed_of, version_of}
+use Rattle.atom_words.specs.Layout.{first_of, closed_of, version_of, phase_of}
 use Rattle.atom_words.specs.Board.{Board, with_head}
 use Rattle.atom_words.specs.Chains.{Chain}
 use Rattle.atom_words.specs.Kinds.{raised, rising, view_after, Does}
-use Rattle.atom_words.specs.Kept.{Fate, Unwalked, WalkOk, SeatOk, Kept}
+use Rattle.atom_words.specs.Kept.{Fate, Unwalked, WalkOk, SeatOk, Trail, Kept}
 use Rattle.atom_words.specs.declared.size.Size.{Size}
 use Rattle.atom_words.specs.declared.view.Walk.{Walk}
+use Rattle.atom_words.specs.declared.view.Sweeping.{Sweeping}
 use Rattle.atom_words.specs.declared.view.View.{View}
 use Rattle.atom_words.specs.declared.kind.Kind.TheVariants.{Raise, Risen}
 use Rattle.atom_words.proofs.Layouts.{first-head_word, version-head_word}
@@ -51,7 +52,7 @@ walk_risen z chain links heads texts f h n w there risen ok = let past = ok.past
       (λ e. let here : version_of w.word < version_of (get_or heads h 0) = subst (λ (i : ℕ). version_of w.word < version_of (get_or heads i 0)) e (ok.lost g) in omega arith) (λ _. ok.lost g);
 }
 
-module _ (z : Size) (b : Board) (vs : List View) (r : Kept z b vs) (id : ℕ) (v : View) (s : SeatOk z b r.plan id v) (h : ℕ) (inside : h < z.heads) (low : version_of (get_or b.heads h 0) < z.start) where
+module _ (z : Size) (b : Board) (vs : List View) (r : Kept z b vs) (id : ℕ) (v : View) (s : SeatOk z b r.plan id v) (h : ℕ) (inside : h < z.heads) (first : 0 < v.undealt) (low : version_of (get_or b.heads h 0) < z.start) where
   abbrev n : ℕ
   n = raised z.start (get_or b.heads h 0)
 
@@ -60,6 +61,13 @@ module _ (z : Size) (b : Board) (vs : List View) (r : Kept z b vs) (id : ℕ) (v
 
   risen : version_of (get_or b.heads h 0) < version_of (raised z.start (get_or b.heads h 0))
   risen = subst (λ (y : ℕ). version_of (get_or b.heads h 0) < y) (sym (version-raised z.start (get_or b.heads h 0))) low
+
+  -- an engine without a seat has acknowledged no epoch, so that no cycle sweeps
+  not_sweeping : phase_of b.epoch ≡ 2 → ⊥
+  not_sweeping sweeping = let t = s.marks.to_deal v.undealt first (omega arith) in let all = r.cycle.swept sweeping (v.undealt - 1) (omega (arith, t.0)) in let begun = r.cycle.begun (λ none. omega arith) in omega (arith, t.2)
+
+  trail_risen : (y : Sweeping) (w : Walk) → Trail b.epoch b.row b.links b.heads r.plan.chain y w → Trail b.epoch b.row b.links (set b.heads h n) r.plan.chain y w
+  trail_risen y w t = record { news = t.news; path = t.path; whole = t.whole; reached = t.reached; fresh = λ two _. absurd (not_sweeping two); ahead = t.ahead }
 
   higher : (g : ℕ) → z.start ≤ version_of (get_or b.heads g 0) → z.start ≤ version_of (get_or (set b.heads h n) g 0)
   higher g high = word_after (λ y. z.start ≤ version_of y) b.heads h n g there (λ _. let v = version-raised z.start (get_or b.heads h 0) in omega arith) (λ _. high)
@@ -75,6 +83,7 @@ module _ (z : Size) (b : Board) (vs : List View) (r : Kept z b vs) (id : ℕ) (v
     walk = λ w e. walk_risen z r.plan.chain b.links b.heads b.texts r.plan.fate h n w there risen (k.walk w e);
     marks = k.marks;
     sweeps = k.sweeps;
+    trail = λ q t e f. trail_risen q t (k.trail q t e f);
     risen = λ g below. let t = k.risen g below in (t.0, higher g t.1);
   }
 
@@ -92,6 +101,7 @@ module _ (z : Size) (b : Board) (vs : List View) (r : Kept z b vs) (id : ℕ) (v
     walk = λ w e. walk_risen z r.plan.chain b.links b.heads b.texts r.plan.fate h n w there risen (s.walk w e);
     marks = s.marks;
     sweeps = s.sweeps;
+    trail = λ q t e f. trail_risen q t (s.trail q t e f);
     risen = λ g below. ⊎_elim (λ (t : g < v.risen). let k = s.risen g t in (k.0, higher g k.1))
         (λ (t : h ≡ g). subst (λ (i : ℕ). (i < z.heads) × (z.start ≤ version_of (get_or (set b.heads h n) i 0))) t (inside, now)) (below_rising h v.risen g below);
   }
@@ -111,12 +121,13 @@ module _ (z : Size) (b : Board) (vs : List View) (r : Kept z b vs) (id : ℕ) (v
     };
     slots = r.slots;
     cycle = r.cycle;
-    fate = r.fate;
+    sure = r.sure;
+    fate = record { slot = r.fate.slot; out = r.fate.out; head = r.fate.head; idle = r.fate.idle; dies = λ ne. absurd (not_sweeping (r.fate.dies ne).sweeping) };
     seats = seats_stay (SeatOk z (with_head b h n) r.plan) vs id (view_after v (Raise h)) (λ _. mine) (λ j y _ at here. seat_risen j y (r.seats j y at here));
   }
 
 pub keep_raise : (z : Size) (b : Board) (vs : List View) (r : Kept z b vs) (id : ℕ) (v : View) → SeatOk z b r.plan id v → (h : ℕ) (b' : Board) → Does z b v (Raise h) b' → Kept z b' (set vs id (view_after v (Raise h)))
-keep_raise z b vs r id v s h b' d = subst (λ y. Kept z y (set vs id (view_after v (Raise h)))) (sym d.3) (raise_at z b vs r id v s h d.0 d.2)
+keep_raise z b vs r id v s h b' d = subst (λ y. Kept z y (set vs id (view_after v (Raise h)))) (sym d.3) (raise_at z b vs r id v s h d.0 d.1 d.2)
 
 pub keep_risen : (z : Size) (b : Board) (vs : List View) (r : Kept z b vs) (id : ℕ) (v : View) → SeatOk z b r.plan id v → (h x : ℕ) (b' : Board) → Does z b v (Risen h x) b' → Kept z b' (set vs id (view_after v (Risen h x)))
 keep_risen z b vs r id v s h x b' d = subst (λ y. Kept z y (set vs id (view_after v (Risen h x)))) (sym d.3) (keep_view z b vs r id (view_after v (Risen h x)) record {
@@ -129,5 +140,6 @@ keep_risen z b vs r id v s h x b' d = subst (λ y. Kept z y (set vs id (view_aft
   walk = s.walk;
   marks = s.marks;
   sweeps = s.sweeps;
+  trail = s.trail;
   risen = λ g below. ⊎_elim (s.risen g) (λ (t : h ≡ g). subst (λ (i : ℕ). (i < z.heads) × (z.start ≤ version_of (get_or b.heads i 0))) t (d.0, subst (λ (n : ℕ). z.start ≤ version_of n) (sym d.1) d.2)) (below_rising h v.risen g below);
 })

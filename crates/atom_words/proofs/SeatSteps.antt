@@ -35,6 +35,7 @@ replanned z b p keeper' collector' engine' j v keeps collects marks s = record {
   walk = s.walk;
   marks = marks;
   sweeps = λ y e. let h = s.sweeps y e in (collects y e h.0, h.1);
+  trail = s.trail;
   risen = s.risen;
 }
 
@@ -64,6 +65,7 @@ module _ (z : Size) (b : Board) (vs : List View) (r : Kept z b vs) where
     rows = r.rows;
     slots = r.slots;
     cycle = r.cycle;
+    sure = r.sure;
     fate = r.fate;
     seats = λ j v at here. ⊎_elim (λ (e : get_elem? vs j ≡ some v). r.seats j v e here)
         (λ (t : (j ≡ length vs) × (newcomer z ≡ v)). subst (SeatOk z b r.plan j) t.1 record {
@@ -76,6 +78,7 @@ module _ (z : Size) (b : Board) (vs : List View) (r : Kept z b vs) where
           walk = λ w e. cc;
           marks = no_marks z b.epoch b.acks b.atoms r.plan.engine r.plan.sweep.cursor j;
           sweeps = λ y e. cc;
+          trail = λ y w e. cc;
           risen = λ h below. absurd (omega arith);
         })
         (at_snoc vs (newcomer z) v j at);
@@ -113,6 +116,7 @@ module _ (z : Size) (b : Board) (vs : List View) (r : Kept z b vs) where
       walk = s.walk;
       marks = s.marks;
       sweeps = s.sweeps;
+      trail = s.trail;
       risen = s.risen;
     }
 
@@ -124,6 +128,7 @@ module _ (z : Size) (b : Board) (vs : List View) (r : Kept z b vs) where
       rows = r.rows;
       slots = r.slots;
       cycle = r.cycle;
+      sure = r.sure;
       fate = r.fate;
       seats = seats_stay K (set vs id (with_keeper v w)) other spent (λ gone. cc)
           (λ j y ne e alive. ⊎_elim
@@ -149,6 +154,7 @@ module _ (z : Size) (b : Board) (vs : List View) (r : Kept z b vs) where
       rows = r.rows;
       slots = r.slots;
       cycle = r.cycle;
+      sure = r.sure;
       fate = r.fate;
       seats = λ j y e alive. ⊎_elim
           (λ (x : get_elem? (set vs id left) j ≡ some y). seats_stay (SeatOk z b p) vs id left (λ _. l) others j y x alive)
@@ -170,6 +176,7 @@ module _ (z : Size) (b : Board) (vs : List View) (r : Kept z b vs) where
       walk = λ t e. cc;
       marks = marks;
       sweeps = sweeps;
+      trail = λ y w e none. cc;
       risen = mine.risen;
     }
 
@@ -185,6 +192,7 @@ module _ (z : Size) (b : Board) (vs : List View) (r : Kept z b vs) where
           walk = mine.walk;
           marks = mine.marks;
           sweeps = mine.sweeps;
+          trail = mine.trail;
           risen = mine.risen;
         }
         (λ j is. beside (record r.plan { keeper = k }) j v.counts (no_cycle 0) None refl
@@ -205,6 +213,7 @@ module _ (z : Size) (b : Board) (vs : List View) (r : Kept z b vs) where
           walk = mine.walk;
           marks = mine.marks;
           sweeps = λ y e. cc;
+          trail = λ y w e. cc;
           risen = mine.risen;
         }
         (λ j is. beside (record r.plan { collector = c }) j None (no_cycle 0) v.sweep refl (λ cs e. cc) (no_marks z b.epoch b.acks b.atoms r.plan.engine r.plan.sweep.cursor j)
@@ -280,6 +289,7 @@ module _ (z : Size) (b : Board) (vs : List View) (r : Kept z b vs) where
             walk = mine.walk;
             marks = left_marks;
             sweeps = mine.sweeps;
+            trail = mine.trail;
             risen = mine.risen;
           }
           (λ j is. beside (record r.plan { engine = e }) j None (no_cycle v.undealt) None refl (λ cs has. cc) (right_marks j is) (λ y has. cc))
@@ -321,7 +331,8 @@ keep_open z b vs o = let none : Plan = record { chain = λ _. []; place = λ _. 
         swept = λ sweeping e inside. absurd (omega arith);
         cursor = omega arith;
       };
-      fate = record { slot = refl; out = refl; head = refl };
+      sure = record { inside = λ on. cc; state = λ on. cc; short = omega arith; text = λ on. cc };
+      fate = record { slot = refl; out = refl; head = refl; idle = λ _. refl; dies = λ ne. absurd (ne refl) };
       seats = λ j v at alive. ⊎_elim (λ (t : (j ≡ 0) × (first_view z ≡ v)). subst (SeatOk z b none j) t.1 record {
         size = refl;
         own = λ n e. cc;
@@ -349,6 +360,7 @@ keep_open z b vs o = let none : Plan = record { chain = λ _. []; place = λ _. 
           nothing = λ _ _. refl;
         };
         sweeps = λ y e. let is : unswept ≡ y = cc in (sym t.0, is);
+        trail = λ y w e walk. cc;
         risen = λ h below. absurd (omega arith);
       }) (λ (t : (j ≢ 0) × (get_elem? (first_view z ∷ []) j ≡ some v)). absurd (beyond j v t.0 t.1)) (at_set (first_view z ∷ []) 0 j (first_view z) v (subst (λ y. get_elem? y j ≡ some v) o.views at));
     }

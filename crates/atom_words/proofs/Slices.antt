@@ -60,6 +60,19 @@ module _ {A : Type 0} where
   in_append (x ∷ xs) ys zero a e = inl e
   in_append (x ∷ xs) ys (suc i) a e = in_append xs ys i a e
 
+  pub in_front : (x : A) (xs ys : List A) → In x xs → In x (xs ++ ys)
+  in_front x [] ys i = absurd (in_none x i)
+  in_front x (y ∷ xs) ys i = ⊎_elim (λ (e : y ≡ x). subst (λ z. In z (y ∷ (xs ++ ys))) e (0, refl)) (λ (j : In x xs). in_later x y (xs ++ ys) (in_front x xs ys j)) (in_cases x y xs i)
+
+  pub in_back : (x : A) (xs ys : List A) → In x ys → In x (xs ++ ys)
+  in_back x [] ys i = i
+  in_back x (y ∷ xs) ys i = in_later x y (xs ++ ys) (in_back x xs ys i)
+
+  pub in_either : (x : A) (xs ys : List A) → In x (xs ++ ys) → In x xs ⊎ In x ys
+  in_either x [] ys i = inr i
+  in_either x (y ∷ xs) ys i = ⊎_elim (λ (e : y ≡ x). inl (subst (λ z. In z (y ∷ xs)) e (0, refl)))
+      (λ (j : In x (xs ++ ys)). ⊎_elim (λ (t : In x xs). inl (in_later x y xs t)) (λ (t : In x ys). inr t) (in_either x xs ys j)) (in_cases x y (xs ++ ys) i)
+
   pub at_inside : (l : List A) (i : ℕ) (a : A) → get_elem? l i ≡ some a → i < length l
   at_inside [] i a e = absurd (some-ne-none a (sym e))
   at_inside (x ∷ xs) zero a e = omega arith

@@ -1,19 +1,20 @@
 -- A step on a text word or on a link word of the seat's own slot keeps the rule.
 use Rattle.std.proofs.Common.{◌≡◌, ◌≢◌, ◌⊎◌, ℕ, ◌+◌, ◌*◌, ◌<◌, true, false, List, [], ◌∷◌, ◌++◌, length, get_or, set, take, refl, sym, ap, ◌∙◌, subst, inl, inr, ⊎_elim, arith, Some, length-set, length-append, get_or-set_same, get_or-set_other}
-use Rattle.atom_words.specs.Layout.{first_of}
+use Rattle.atom_words.specs.Layout.{state_of, first_of}
 use Rattle.atom_words.specs.Texts.{bucket}
 use Rattle.atom_words.specs.Board.{Board, text_of, with_text, with_link}
 use Rattle.atom_words.specs.Chains.{In, Chain, Linked}
 use Rattle.atom_words.specs.Kinds.{putting, linking, view_after, Does}
-use Rattle.atom_words.specs.Kept.{Fate, Left, OwnOk, HeldOk, CountsOk, Seen, WalkOk, SeatOk, Rows, Kept}
+use Rattle.atom_words.specs.Kept.{Fate, Left, OwnOk, HeldOk, CountsOk, Seen, WalkOk, SeatOk, Rows, slots, Trail, Kept}
 use Rattle.atom_words.specs.declared.size.Size.{Size}
 use Rattle.atom_words.specs.declared.view.Held.{Held}
 use Rattle.atom_words.specs.declared.view.Counted.{Counted}
 use Rattle.atom_words.specs.declared.view.Own.{Own}
 use Rattle.atom_words.specs.declared.view.Walk.{Walk}
+use Rattle.atom_words.specs.declared.view.Sweeping.{Sweeping}
 use Rattle.atom_words.specs.declared.view.View.{View}
 use Rattle.atom_words.specs.declared.kind.Kind.TheVariants.{PutWord, PutLink}
-use Rattle.atom_words.proofs.Slices.{some_same, text_else, text_put, chain_at, chain_else}
+use Rattle.atom_words.proofs.Slices.{some_same, text_else, text_put, in_back, chain_at, chain_else}
 use Rattle.atom_words.proofs.Puts.{unmapped}
 use Rattle.atom_words.proofs.Frames.{seats_stay}
 
@@ -91,6 +92,7 @@ module _ (z : Size) (b : Board) (vs : List View) (r : Kept z b vs) (id : ℕ) (v
       walk = λ w e. walk_text z b.texts t r.plan.chain r.plan.fate linked_text b.links b.heads w (sj.walk w e);
       marks = sj.marks;
       sweeps = sj.sweeps;
+      trail = sj.trail;
       risen = sj.risen;
     }
 
@@ -117,6 +119,7 @@ module _ (z : Size) (b : Board) (vs : List View) (r : Kept z b vs) (id : ℕ) (v
       walk = λ w e. walk_text z b.texts t r.plan.chain r.plan.fate linked_text b.links b.heads w (s.walk w e);
       marks = s.marks;
       sweeps = s.sweeps;
+      trail = s.trail;
       risen = s.risen;
     }
 
@@ -128,6 +131,13 @@ module _ (z : Size) (b : Board) (vs : List View) (r : Kept z b vs) (id : ℕ) (v
       rows = rows_text z b.texts (set b.texts (32 * o.slot + length o.text) x) r.plan.chain r.plan.fate linked_text b.row b.links b.heads r.plan.place r.rows;
       slots = r.slots;
       cycle = r.cycle;
+      sure = record {
+        inside = r.sure.inside;
+        state = r.sure.state;
+        short = r.sure.short;
+        text = λ on. ap (take (length r.plan.sweep.text)) (text_else b.texts o.slot (length o.text) x r.plan.sweep.cursor more (λ e. let state = (s.own o own).state in let here : state_of (get_or b.atoms r.plan.sweep.cursor 0) ≡ 1 = ap (λ (i : ℕ). state_of (get_or b.atoms i 0)) e ∙ state in
+            ⊎_elim (λ (t : state_of (get_or b.atoms r.plan.sweep.cursor 0) ≡ 3). omega arith) (λ (t : state_of (get_or b.atoms r.plan.sweep.cursor 0) ≡ 2). omega arith) (r.sure.state on))) ∙ r.sure.text on;
+      };
       fate = r.fate;
       seats = seats_stay (SeatOk z (with_text b (32 * o.slot + length o.text) x) r.plan) vs id (view_after v (PutWord x)) (λ _. mine_text) (λ j w other at here. others_text j w other (r.seats j w at here));
     }
@@ -153,6 +163,16 @@ module _ (z : Size) (b : Board) (vs : List View) (r : Kept z b vs) (id : ℕ) (v
       lost = h.lost;
     }
 
+    trail_link_word : (y : Sweeping) (w : Walk) → WalkOk z b.links b.heads b.texts r.plan.chain r.plan.fate w → Trail b.epoch b.row b.links b.heads r.plan.chain y w → Trail b.epoch b.row (set b.links o.slot l) b.heads r.plan.chain y w
+    trail_link_word y w ok t = record {
+      news = t.news;
+      path = t.path;
+      whole = t.whole;
+      reached = chain_else b.links o.slot l w.place t.path t.reached (λ i. not_on w.head ok.inside (subst (In o.slot) (sym t.whole) (in_back o.slot t.news (slots w.seen ++ t.path) (in_back o.slot (slots w.seen) t.path i))));
+      fresh = t.fresh;
+      ahead = t.ahead;
+    }
+
     others_link_word : (j : ℕ) (w : View) → j ≢ id → SeatOk z b r.plan j w → SeatOk z (with_link b o.slot l) r.plan j w
     others_link_word j w other sj = record {
       size = sj.size;
@@ -174,6 +194,7 @@ module _ (z : Size) (b : Board) (vs : List View) (r : Kept z b vs) (id : ℕ) (v
       walk = λ t e. walk_link_word t (sj.walk t e);
       marks = sj.marks;
       sweeps = sj.sweeps;
+      trail = λ y t e f. trail_link_word y t (sj.walk t f) (sj.trail y t e f);
       risen = sj.risen;
     }
 
@@ -199,6 +220,7 @@ module _ (z : Size) (b : Board) (vs : List View) (r : Kept z b vs) (id : ℕ) (v
       walk = λ t e. walk_link_word t (s.walk t e);
       marks = s.marks;
       sweeps = s.sweeps;
+      trail = λ y t e f. trail_link_word y t (s.walk t f) (s.trail y t e f);
       risen = s.risen;
     }
 
@@ -215,7 +237,24 @@ module _ (z : Size) (b : Board) (vs : List View) (r : Kept z b vs) (id : ℕ) (v
       };
       slots = r.slots;
       cycle = r.cycle;
-      fate = r.fate;
+      sure = r.sure;
+      fate = record {
+        slot = r.fate.slot;
+        out = r.fate.out;
+        head = r.fate.head;
+        idle = r.fate.idle;
+        dies = λ ne. let d = r.fate.dies ne in record {
+          sweeping = d.sweeping;
+          at = d.at;
+          high = d.high;
+          inside = d.inside;
+          there = d.there;
+          behind = λ in_ y e. get_or-set_other b.links o.slot r.plan.sweep.cursor l 0 (λ same. own_lives o own (d.at ∙ ap (λ (n : ℕ). n + 1) same)) ∙ d.behind in_ y e;
+          gone = d.gone;
+          noted = d.noted;
+          past = d.past;
+        };
+      };
       seats = seats_stay (SeatOk z (with_link b o.slot l) r.plan) vs id (view_after v (PutLink l)) (λ _. mine_link_word) (λ j w other at here. others_link_word j w other (r.seats j w at here));
     }
 

@@ -1,8 +1,8 @@
 -- What every reached state keeps.
-use Rattle.std.specs.Prelude.{◌≡◌, ◌≢◌, ◌⊎◌, ℕ, ◌+◌, ◌-◌, ◌<◌, ◌≤◌, Bool, true, false, List, [], length, take, slice_index, Option, Some}
+use Rattle.std.specs.Prelude.{◌≡◌, ◌≢◌, ◌⊎◌, ℕ, ◌+◌, ◌-◌, ◌<◌, ◌≤◌, Bool, true, false, List, [], ◌++◌, length, take, map, slice_index, Option, Some}
 use mathlib.Core.Option.{some}
 use lib.ListN.{get_elem?}
-use Rattle.atom_words.specs.Layout.{state_of, mark_of, count_of, first_of, version_of, phase_of, epoch_of}
+use Rattle.atom_words.specs.Layout.{state_of, mark_of, count_of, first_of, version_of, last, phase_of, epoch_of}
 use Rattle.atom_words.specs.Texts.{bucket}
 use Rattle.atom_words.specs.Board.{Board, Sized, text_of}
 use Rattle.atom_words.specs.Chains.{In, Chain, Linked}
@@ -108,6 +108,19 @@ pub record MarksOk (z : Size) (epoch : ℕ) (acks atoms : List ℕ) (engine : �
   pub guard : (w : Walk) (k : ℕ) → walk ≡ Some w → w.guarded ≡ true → w.place ≡ k + 1 → (y.engine ≢ 0) ⊎ (0 < undealt) → (state_of (slice_index atoms k) ≡ 3) × (Acked epoch y → Safe epoch atoms cursor k)
   pub nothing : y.engine ≡ 0 → undealt ≡ 0 → holds ≡ []
 
+-- the slots that a walk has passed
+abbrev pub slots : List Held → List ℕ
+slots seen = map (λ a. a.slot) seen
+
+-- The collector's walk, whatever the version, since only the collector takes slots out: the chain is the slots linked since, those that it passed, and those to come. In a sweep no version becomes the last while it walks. The slot that the sweep has come to, once its text is spelled, is in no other chain, and is not missed
+pub record Trail (epoch row : ℕ) (links heads : List ℕ) (chain : ℕ → List ℕ) (y : Sweeping) (w : Walk) : Type 0 where
+  pub news : List ℕ
+  pub path : List ℕ
+  pub whole : chain w.head ≡ news ++ (slots w.seen ++ path)
+  pub reached : Chain links w.place path
+  pub fresh : phase_of epoch ≡ 2 → version_of w.word < last → version_of (slice_index heads w.head) < last
+  pub ahead : y.sure ≡ true → length y.text ≡ 32 → y.unlinked ≡ false → bucket row y.text ≡ w.head → In y.cursor (slots w.seen ++ path)
+
 -- what the seat j knows is so
 pub record SeatOk (z : Size) (b : Board) (p : Plan) (j : ℕ) (v : View) : Type 0 where
   pub size : v.size ≡ z
@@ -119,6 +132,7 @@ pub record SeatOk (z : Size) (b : Board) (p : Plan) (j : ℕ) (v : View) : Type 
   pub walk : (w : Walk) → v.walk ≡ Some w → WalkOk z b.links b.heads b.texts p.chain p.fate w
   pub marks : MarksOk z b.epoch b.acks b.atoms p.engine p.sweep.cursor j v.cycle v.undealt v.held v.walk
   pub sweeps : (y : Sweeping) → v.sweep ≡ Some y → (p.collector ≡ j) × (p.sweep ≡ y)
+  pub trail : (y : Sweeping) (w : Walk) → v.sweep ≡ Some y → v.walk ≡ Some w → Trail b.epoch b.row b.links b.heads p.chain y w
   pub risen : (h : ℕ) → h < v.risen → (h < z.heads) × (z.start ≤ version_of (slice_index b.heads h))
 
 -- the chains: each linked slot is reached from one head, that of its text's bucket, and no two in a chain have equal texts, the dying one aside
@@ -147,11 +161,32 @@ pub record CycleOk (z : Size) (epoch : ℕ) (acks : List ℕ) (y : Sweeping) : T
   pub swept : phase_of epoch ≡ 2 → (e : ℕ) → e < z.engines → slice_index acks e ≡ epoch_of epoch
   pub cursor : y.cursor ≤ z.slots
 
+-- the slot at the cursor was found valid, so that it is valid or dying, and its text begins as it was spelled
+pub record SureOk (z : Size) (atoms texts : List ℕ) (y : Sweeping) : Type 0 where
+  pub inside : y.sure ≡ true → y.cursor < z.slots
+  pub state : y.sure ≡ true → (state_of (slice_index atoms y.cursor) ≡ 3) ⊎ (state_of (slice_index atoms y.cursor) ≡ 2)
+  pub short : length y.text ≤ 32
+  pub text : y.sure ≡ true → take (length y.text) (text_of texts y.cursor) ≡ y.text
+
+-- The dying slot. Until it is taken out it stands in the chain of its head, whose version is not the last. Afterwards it stands in no chain; that head's version is not below the one at which it was taken out, and not the last until it has moved on; and the head is still the word that was noted, or has a later version
+pub record DyingOk (z : Size) (epoch : ℕ) (links heads : List ℕ) (chain : ℕ → List ℕ) (y : Sweeping) (f : Fate) : Type 0 where
+  pub sweeping : phase_of epoch ≡ 2
+  pub at : f.slot ≡ y.cursor + 1
+  pub high : 256 ≤ y.cursor
+  pub inside : f.head < z.heads
+  pub there : f.out ≡ false → In y.cursor (chain f.head) × (version_of (slice_index heads f.head) < last)
+  pub behind : f.out ≡ false → (x : ℕ) → y.behind ≡ Some x → slice_index links y.cursor ≡ x
+  pub gone : f.out ≡ true → (Linked z.heads chain y.cursor → ⊥) × (f.left ≤ version_of (slice_index heads f.head)) × (y.past ≡ false → version_of (slice_index heads f.head) < last)
+  pub noted : f.out ≡ true → (x : ℕ) → y.noted ≡ Some x → (f.left ≤ version_of x) × (version_of x ≤ version_of (slice_index heads f.head)) × (version_of (slice_index heads f.head) ≡ version_of x → slice_index heads f.head ≡ x)
+  pub past : f.out ≡ true → y.past ≡ true → f.left < version_of (slice_index heads f.head)
+
 -- what the collector knows of the dying slot is so
-pub record FateOk (y : Sweeping) (f : Fate) : Type 0 where
+pub record FateOk (z : Size) (epoch : ℕ) (links heads : List ℕ) (chain : ℕ → List ℕ) (y : Sweeping) (f : Fate) : Type 0 where
   pub slot : y.dying ≡ f.slot
   pub out : y.unlinked ≡ f.out
   pub head : y.head ≡ f.head
+  pub idle : f.slot ≡ 0 → f.out ≡ false
+  pub dies : f.slot ≢ 0 → DyingOk z epoch links heads chain y f
 
 -- WHAT IS KEPT
 pub record Kept (z : Size) (b : Board) (vs : List View) : Type 0 where
@@ -161,5 +196,6 @@ pub record Kept (z : Size) (b : Board) (vs : List View) : Type 0 where
   pub rows : Rows z b.row b.links b.heads b.texts plan.chain plan.place plan.fate
   pub slots : Slots z b.atoms plan.chain plan.fate
   pub cycle : CycleOk z b.epoch b.acks plan.sweep
-  pub fate : FateOk plan.sweep plan.fate
+  pub sure : SureOk z b.atoms b.texts plan.sweep
+  pub fate : FateOk z b.epoch b.links b.heads plan.chain plan.sweep plan.fate
   pub seats : (j : ℕ) (v : View) → get_elem? vs j ≡ some v → v.gone ≡ false → SeatOk z b plan j v

@@ -1,8 +1,8 @@
 -- The kinds of steps: what each asks of the words and of the seat's view, what it does to the words, and the view after it.
-use Rattle.std.specs.Prelude.{◌≡◌, ◌≢◌, ◌⊎◌, ℕ, ◌+◌, ◌-◌, ◌*◌, ◌%◌, ◌<◌, ◌≤◌, ◌==◌, ◌&&◌, ◌||◌, nat_lt, true, false, if◌then◌else◌, List, [], ◌∷◌, ◌++◌, length, take, set, get_or, slice_index, Option, Some, None, option_map}
+use Rattle.std.specs.Prelude.{◌≡◌, ◌≢◌, ◌⊎◌, ℕ, ◌+◌, ◌-◌, ◌*◌, ◌%◌, ◌<◌, ◌≤◌, ◌==◌, ◌&&◌, ◌||◌, nat_lt, Bool, true, false, if◌then◌else◌, List, [], ◌∷◌, ◌++◌, length, take, set, get_or, slice_index, Option, Some, None, option_map}
 use mathlib.Core.Option.{some}
 use lib.ListN.{get_elem?}
-use Rattle.atom_words.specs.Layout.{state_of, mark_of, first_of, closed_of, version_of, head_word, worn, epoch_word, phase_of, epoch_of}
+use Rattle.atom_words.specs.Layout.{state_of, mark_of, first_of, closed_of, version_of, head_word, worn, last, epoch_word, phase_of, epoch_of}
 use Rattle.atom_words.specs.Texts.{bucket}
 use Rattle.atom_words.specs.Board.{Board, laid, atom_at, atom, link, head, text_of, with_epoch, with_ack, with_atom, with_link, with_head, with_text}
 use Rattle.atom_words.specs.Chains.{In}
@@ -21,11 +21,15 @@ use Rattle.atom_words.specs.declared.view.Refusal.{Refusal}
 use Rattle.atom_words.specs.declared.view.Refusal.TheVariants.{Full, Again, Worn}
 use Rattle.atom_words.specs.declared.view.View.{View}
 use Rattle.atom_words.specs.declared.kind.Kind.{Kind}
-use Rattle.atom_words.specs.declared.kind.Kind.TheVariants.{Raise, Risen, Reserve, PutWord, PutLink, Link, Validate, Release, Load, Refused, Start, Read, Next, Skip, Hold, Keep, Fix, StartPass, EndPass, Refuse, Ask, Protect, Fetch, Register, Unregister, Begin, Mark, Scan, Ack, Check, ToSweep}
+use Rattle.atom_words.specs.declared.kind.Kind.TheVariants.{Raise, Risen, Reserve, PutWord, PutLink, Link, Validate, Release, Load, Refused, Start, Read, Next, Skip, Hold, Keep, Fix, StartPass, EndPass, Refuse, Ask, Protect, Fetch, Register, Unregister, Begin, Mark, Scan, Ack, Check, ToSweep, Look, Spell, Condemn, PassOver, Behind, UnlinkAt, UnlinkHead, Note, Bump, Past, Free, End}
 
 -- the word with its mark set
 abbrev pub marked : ℕ → ℕ
 marked w = w + 4 * (1 - mark_of w)
+
+-- the word with its mark cleared
+abbrev pub unmarked : ℕ → ℕ
+unmarked w = w - 4 * mark_of w
 
 -- a slot that was just reserved
 abbrev pub fresh : ℕ → Own
@@ -137,7 +141,57 @@ abbrev pub checking : Sweeping → Sweeping
 checking y = record y { checked = y.checked + 1 }
 
 abbrev pub turning : Sweeping → Sweeping
-turning y = record y { word = epoch_word 2 (epoch_of y.word); cursor = 0 }
+turning y = record y { word = epoch_word 2 (epoch_of y.word); cursor = 0; sure = false; text = [] }
+
+-- The collector sweeps
+abbrev pub Sweeps : View → Sweeping → Type 0
+Sweeps v y = (v.sweep ≡ Some y) × (phase_of y.word ≡ 2)
+
+-- it has condemned the slot that the sweep has come to, which is still in its chain; or which is taken out
+abbrev pub Dying : View → Sweeping → Type 0
+Dying v y = Sweeps v y × (y.dying ≡ y.cursor + 1) × (y.unlinked ≡ false)
+
+abbrev pub Unlinked : View → Sweeping → Type 0
+Unlinked v y = Sweeps v y × (y.dying ≡ y.cursor + 1) × (y.unlinked ≡ true)
+
+-- the slot that the sweep has come to was found with the word x; the next word of its text was x
+abbrev pub looking : ℕ → Sweeping → Sweeping
+looking x y = record y { sure = state_of x == 3; text = [] }
+
+abbrev pub spelling : ℕ → Sweeping → Sweeping
+spelling x y = record y { text = y.text ++ x ∷ [] }
+
+-- the head of the walk at hand
+abbrev pub head_of : Option Walk → ℕ
+head_of None = 0
+head_of (Some w) = w.head
+
+-- that slot, which stands in the chain of the head h, is condemned; or it is passed
+abbrev pub condemning : ℕ → Sweeping → Sweeping
+condemning h y = record y { dying = y.cursor + 1; behind = None; unlinked = false; head = h; noted = None; past = false }
+
+abbrev pub passing : Sweeping → Sweeping
+passing y = record y { cursor = y.cursor + 1; sure = false; text = [] }
+
+-- the dying slot's link word is x; it is taken out, where its head's version has not moved, or has; that head's word was x since; its version has moved since
+abbrev pub with_behind : ℕ → Sweeping → Sweeping
+with_behind x y = record y { behind = Some x }
+
+abbrev pub unlinking : Bool → Sweeping → Sweeping
+unlinking moved y = record y { unlinked = true; noted = None; past = moved }
+
+abbrev pub noting : ℕ → Sweeping → Sweeping
+noting x y = record y { noted = Some x }
+
+abbrev pub moving_past : Sweeping → Sweeping
+moving_past y = record y { past = true }
+
+-- it is free, and the sweep may go on; the sweep has ended
+abbrev pub freeing : Sweeping → Sweeping
+freeing y = record y { sure = false; text = []; dying = 0; behind = None; unlinked = false; noted = None; past = false }
+
+abbrev pub ending : Sweeping → Sweeping
+ending y = record y { word = epoch_word 0 (epoch_of y.word) }
 
 -- THE VIEW AFTER A STEP
 abbrev pub view_after : View → Kind → View
@@ -171,6 +225,18 @@ view_after v (Scan k) = record v { cycle = scanning k v.cycle; made = v.made ++ 
 view_after v Ack = record v { walk = None; cycle = acknowledging v.cycle; made = v.made ++ Ack ∷ [] }
 view_after v (Check e) = record v { sweep = option_map checking v.sweep; made = v.made ++ Check e ∷ [] }
 view_after v ToSweep = record v { walk = None; sweep = option_map turning v.sweep; made = v.made ++ ToSweep ∷ [] }
+view_after v (Look x) = record v { sweep = option_map (looking x) v.sweep; made = v.made ++ Look x ∷ [] }
+view_after v (Spell x) = record v { walk = None; sweep = option_map (spelling x) v.sweep; made = v.made ++ Spell x ∷ [] }
+view_after v Condemn = record v { sweep = option_map (condemning (head_of v.walk)) v.sweep; made = v.made ++ Condemn ∷ [] }
+view_after v (PassOver x) = record v { sweep = option_map passing v.sweep; made = v.made ++ PassOver x ∷ [] }
+view_after v (Behind x) = record v { sweep = option_map (with_behind x) v.sweep; made = v.made ++ Behind x ∷ [] }
+view_after v (UnlinkAt q) = record v { walk = None; sweep = option_map (unlinking false) v.sweep; made = v.made ++ UnlinkAt q ∷ [] }
+view_after v UnlinkHead = record v { walk = None; sweep = option_map (unlinking true) v.sweep; made = v.made ++ UnlinkHead ∷ [] }
+view_after v (Note x) = record v { sweep = option_map (noting x) v.sweep; made = v.made ++ Note x ∷ [] }
+view_after v Bump = record v { walk = None; sweep = option_map moving_past v.sweep; made = v.made ++ Bump ∷ [] }
+view_after v (Past x) = record v { sweep = option_map moving_past v.sweep; made = v.made ++ Past x ∷ [] }
+view_after v Free = record v { sweep = option_map freeing v.sweep; made = v.made ++ Free ∷ [] }
+view_after v End = record v { sweep = option_map ending v.sweep; made = v.made ++ End ∷ [] }
 view_after v kind = record v { made = v.made ++ kind ∷ [] }
 
 -- the view after several steps
@@ -194,7 +260,7 @@ Shows z b v (Worn w) = (w.head < z.heads) × (head b w.head ≡ w.word) × (worn
 abbrev pub Lost : Size → View → ℕ → ℕ → ℕ → Type 0
 Lost z v k old found = (state_of old ≡ 0) × (found ≢ old) × ((before : List Kind) × (v.made ≡ before ++ Load (atom_at z k) old ∷ []))
 
--- WHAT A STEP ASKS AND DOES: the seat's step of this kind makes b' of the words b. The kinds of the sweep, of unlinking and of growth are still to come
+-- WHAT A STEP ASKS AND DOES: the seat's step of this kind makes b' of the words b. The kinds of growth are still to come
 abbrev pub Does : Size → Board → View → Kind → Board → Type 0
 Does z b v (Reserve k) b' = (k < z.slots) × (v.own ≡ None) × (state_of (atom b k) ≡ 0) × (b' ≡ with_atom b k 1)
 Does z b v (PutWord x) b' = (o : Own) × (v.own ≡ Some o) × (o.linked ≡ false) × (length o.text < 32) × (b' ≡ with_text b (32 * o.slot + length o.text) x)
@@ -228,4 +294,16 @@ Does z b v (Scan k) b' = Scanning v × (a : Held) × (In a v.held ⊎ In a v.fix
 Does z b v Ack b' = Scanning v × ((a : Held) → In a v.held → In a.slot v.cycle.scanned) × (b' ≡ with_ack b (v.cycle.engine - 1) v.cycle.scanned_at)
 Does z b v (Check e) b' = (y : Sweeping) × (v.sweep ≡ Some y) × (phase_of y.word ≡ 1) × (e ≡ y.checked) × (e < z.engines) × (slice_index b.acks e ≡ epoch_of y.word) × (b' ≡ b)
 Does z b v ToSweep b' = (y : Sweeping) × (v.sweep ≡ Some y) × (phase_of y.word ≡ 1) × (y.checked ≡ z.engines) × (b' ≡ with_epoch b (epoch_word 2 (epoch_of y.word)))
+Does z b v (Look x) b' = (y : Sweeping) × Sweeps v y × (y.dying ≡ 0) × (y.cursor < z.slots) × (atom b y.cursor ≡ x) × (b' ≡ b)
+Does z b v (Spell x) b' = (y : Sweeping) × Sweeps v y × (y.dying ≡ 0) × (y.sure ≡ true) × (length y.text < 32) × (slice_index (text_of b.texts y.cursor) (length y.text) ≡ x) × (b' ≡ b)
+Does z b v Condemn b' = (y : Sweeping) × (w : Walk) × Sweeps v y × (v.walk ≡ Some w) × (y.dying ≡ 0) × (256 ≤ y.cursor) × (w.place ≡ y.cursor + 1) × (version_of w.word < last) × (atom b y.cursor ≡ 3) × (b' ≡ with_atom b y.cursor 2)
+Does z b v (PassOver x) b' = (y : Sweeping) × Sweeps v y × (y.dying ≡ 0) × (y.cursor < z.slots) × (atom b y.cursor ≡ x) × (b' ≡ with_atom b y.cursor (unmarked x))
+Does z b v (Behind x) b' = (y : Sweeping) × Dying v y × (link b y.cursor ≡ x) × (b' ≡ b)
+Does z b v (UnlinkAt q) b' = (y : Sweeping) × (w : Walk) × (x : ℕ) × Dying v y × (v.walk ≡ Some w) × (w.place ≡ y.cursor + 1) × (y.behind ≡ Some x) × ((before : List Held) × (a : Held) × (w.seen ≡ before ++ a ∷ []) × (a.slot ≡ q)) × (b' ≡ with_link b q x)
+Does z b v UnlinkHead b' = (y : Sweeping) × (w : Walk) × (x : ℕ) × Dying v y × (v.walk ≡ Some w) × (first_of w.word ≡ y.cursor + 1) × (y.behind ≡ Some x) × (head b w.head ≡ w.word) × (b' ≡ with_head b w.head (head_word x (closed_of w.word) (version_of w.word + 1)))
+Does z b v (Note x) b' = (y : Sweeping) × Unlinked v y × (head b y.head ≡ x) × (b' ≡ b)
+Does z b v Bump b' = (y : Sweeping) × (x : ℕ) × Unlinked v y × (y.past ≡ false) × (y.noted ≡ Some x) × (head b y.head ≡ x) × (b' ≡ with_head b y.head (head_word (first_of x) (closed_of x) (version_of x + 1)))
+Does z b v (Past x) b' = (y : Sweeping) × (n : ℕ) × Unlinked v y × (y.noted ≡ Some n) × (head b y.head ≡ x) × (version_of n < version_of x) × (b' ≡ b)
+Does z b v Free b' = (y : Sweeping) × Unlinked v y × (y.past ≡ true) × (b' ≡ with_atom b y.cursor 0)
+Does z b v End b' = (y : Sweeping) × Sweeps v y × (y.dying ≡ 0) × (y.cursor ≡ z.slots) × (b' ≡ with_epoch b (epoch_word 0 (epoch_of y.word)))
 Does z b v kind b' = ⊥

@@ -31,6 +31,10 @@ version_of w = w / 4194304
 abbrev pub worn : ℕ
 worn = 4398046511102
 
+-- the last version
+abbrev pub last : ℕ
+last = 4398046511103
+
 -- An epoch word: bits 0 and 1 the phase (0 idle, 1 marking, 2 sweeping), bits 2 to 63 the epoch
 abbrev pub epoch_word : ℕ → ℕ → ℕ
 epoch_word phase epoch = phase + 4 * epoch

@@ -10,3 +10,4 @@ pub mod Ties
 pub mod Seats
 pub mod Plays
 pub mod Opening
+pub mod Laws

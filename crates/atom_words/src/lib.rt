@@ -35,7 +35,7 @@ pub use plays::{
     ReservingMarked, Rising, Seating, ShowingPending, Skipping, Spells, StartingPass, StartingWalk,
     Unregistering, Validating, WithKeeper,
 };
-pub use rule::{AtomRule, every_state};
+pub use rule::{AtomRule, every_state, slots_are_safe};
 pub use size::Size;
 pub use texts::{MOST_BYTES, row_word};
 pub use view::{

@@ -3,6 +3,7 @@ ghost use Rattle.std.specs.Prelude.{ℕ, List};
 ghost use Rattle.atom_words.specs.Board.{Board};
 ghost use Rattle.atom_words.specs.Rule.{Reached};
 ghost use Rattle.atom_words.specs.Kept.{Kept};
+ghost use Rattle.atom_words.specs.Laws.{Unlike, TextStays, Unused};
 ghost use Rattle.atom_words.specs.declared.view.View.{View};
 
 use crate::size::Size;
@@ -26,6 +27,17 @@ impl TableRule<(), View, Size> for AtomRule {
 #[tactic(auto, using(crate::proofs::Every::every))]
 pub fn every_state(size: Size)
     ensures { (n : ℕ) (b : Board) (vs : List View) → Reached n size b vs → Kept size b vs }
+{
+    let _ = size;
+}
+
+/// What that means for the slots, of every state that is reached: two valid slots never hold the same text; a slot that is
+/// held, counted or fixed before a step and after it is valid both times and has the same text, whichever seats use it; and
+/// no seat uses the slot that a step condemns or frees. It does nothing.
+pub fn slots_are_safe(size: Size)
+    ensures unlike { Unlike size }
+    ensures text { TextStays size }
+    ensures unused { Unused size }
 {
     let _ = size;
 }
