@@ -1,3 +1,4 @@
 pub mod Words
 pub mod CycleSteps
 pub mod Checks
+pub mod SweepSteps

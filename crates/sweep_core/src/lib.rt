@@ -8,6 +8,10 @@
 mod cycles;
 mod marks;
 mod plays;
+mod sweeps;
+mod unlinks;
 
 pub use cycles::{Checked, begin, check};
 pub use marks::{ack, mark, scan};
+pub use sweeps::{condemn, finish, look, pass, trace};
+pub use unlinks::{bump, free, note, read_behind, unlink_at, unlink_head};
