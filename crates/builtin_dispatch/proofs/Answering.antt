@@ -15,8 +15,8 @@ use Rattle.term_store.specs.Contents.{Contents}
 use Rattle.world_api.specs.Texts.{Holds as Keeps}
 use Rattle.world_api.specs.Gains.{Gains}
 use Rattle.world_api.proofs.Gaining.{gains_nothing, gains_weaker}
-use Rattle.builtin_names.specs.declared.predicates.Pred.{Pred}
-use Rattle.builtin_names.specs.Predicates.{name_of, arity_of}
+use Rattle.builtin_rows.specs.declared.predicates.Pred.{Pred}
+use Rattle.builtin_rows.specs.Predicates.{name_of, arity_of}
 use Rattle.builtin_rows.specs.declared.row.Row.{Row}
 use Rattle.builtin_rows.specs.declared.row.Row.TheVariants.{Answer, Ball, CellsFull, Fails, Holds, Line, NeedsAtoms, Retry, Worn}
 use Rattle.builtin_rows.specs.Given.{given_texts}

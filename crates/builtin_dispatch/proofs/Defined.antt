@@ -14,13 +14,13 @@ use Rattle.pl_model.specs.TermBuiltins.{argument_at, argument_of, compares, comp
 use Rattle.pl_model.specs.AtomBuiltins.{codes_character, coded_row, measures, number}
 use Rattle.pl_model.specs.Unify.{unify}
 use Rattle.pl_model.specs.History.{proc}
-use Rattle.builtin_names.specs.declared.predicates.Pred.TheVariants as pred
-use Rattle.builtin_names.specs.Predicates.{name_of, arity_of}
+use Rattle.builtin_rows.specs.declared.predicates.Pred.TheVariants as pred
+use Rattle.builtin_rows.specs.Predicates.{name_of, arity_of}
 use Rattle.builtin_rows.specs.Steps.{IsPlainRow}
-use Rattle.term_values.specs.declared.comparisons.Comparison.{Comparison}
-use Rattle.term_values.specs.declared.comparisons.Comparison.TheVariants.{Equal, Different, Less, LessOrEqual, Greater, GreaterOrEqual}
-use Rattle.term_values.specs.Comparing.{holds_by}
-use Rattle.term_values.specs.Comparing as values
+use Rattle.builtin_arithmetic.specs.declared.comparisons.Comparison.{Comparison}
+use Rattle.builtin_arithmetic.specs.declared.comparisons.Comparison.TheVariants.{Equal, Different, Less, LessOrEqual, Greater, GreaterOrEqual}
+use Rattle.builtin_arithmetic.specs.Comparing.{holds_by}
+use Rattle.builtin_arithmetic.specs.Comparing as values
 use Rattle.builtin_dispatch.specs.Comparisons.{pred_of}
 use Rattle.builtin_dispatch.proofs.Answering.{IsDefined, plain_test}
 

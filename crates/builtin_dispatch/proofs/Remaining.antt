@@ -7,10 +7,10 @@ use Rattle.pl_model.specs.Builtins as defined
 use Rattle.pl_model.specs.BuiltinRows as basic
 use Rattle.pl_model.specs.BuiltinRows.{comparison, test_row, type_test}
 use Rattle.pl_model.specs.TermBuiltins.{two}
-use Rattle.builtin_names.specs.declared.predicates.Pred.{Pred}
-use Rattle.builtin_names.specs.declared.predicates.Pred.TheVariants as pred
-use Rattle.builtin_names.specs.Predicates.{name_of, arity_of, kind_of, row}
-use Rattle.term_values.specs.declared.comparisons.Comparison.TheVariants as by
+use Rattle.builtin_rows.specs.declared.predicates.Pred.{Pred}
+use Rattle.builtin_rows.specs.declared.predicates.Pred.TheVariants as pred
+use Rattle.builtin_rows.specs.Predicates.{name_of, arity_of, kind_of, row}
+use Rattle.builtin_arithmetic.specs.declared.comparisons.Comparison.TheVariants as by
 use Rattle.builtin_dispatch.specs.Comparisons.{Compares}
 use Rattle.builtin_dispatch.specs.Unbuilt.{is_unbuilt_row}
 use Rattle.builtin_dispatch.proofs.Answering.{IsTold, plain_test}

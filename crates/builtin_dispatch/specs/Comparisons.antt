@@ -1,9 +1,9 @@
 -- Arithmetic comparisons and their predicates (ISO 8.7).
 use Rattle.std.specs.Prelude.{◌≡◌, ◌≢◌, Option, Some, None}
-use Rattle.builtin_names.specs.declared.predicates.Pred.{Pred}
-use Rattle.builtin_names.specs.declared.predicates.Pred.TheVariants as pred
-use Rattle.term_values.specs.declared.comparisons.Comparison.{Comparison}
-use Rattle.term_values.specs.declared.comparisons.Comparison.TheVariants.{Equal, Different, Less, LessOrEqual, Greater, GreaterOrEqual}
+use Rattle.builtin_rows.specs.declared.predicates.Pred.{Pred}
+use Rattle.builtin_rows.specs.declared.predicates.Pred.TheVariants as pred
+use Rattle.builtin_arithmetic.specs.declared.comparisons.Comparison.{Comparison}
+use Rattle.builtin_arithmetic.specs.declared.comparisons.Comparison.TheVariants.{Equal, Different, Less, LessOrEqual, Greater, GreaterOrEqual}
 
 abbrev pub pred_of : Comparison → Pred
 pred_of Equal = pred.NumbersEqual

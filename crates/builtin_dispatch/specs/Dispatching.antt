@@ -14,8 +14,8 @@ use Rattle.world_api.specs.Gains.{Gains}
 use Rattle.world_api.specs.Texts.{Holds}
 use Rattle.world_builtins.specs.Naming.{atoms_in}
 use Rattle.world_builtins.specs.Spelling.{spelled, text_of}
-use Rattle.builtin_names.specs.declared.predicates.Pred.{Pred}
-use Rattle.builtin_names.specs.Predicates.{name_of, arity_of}
+use Rattle.builtin_rows.specs.declared.predicates.Pred.{Pred}
+use Rattle.builtin_rows.specs.Predicates.{name_of, arity_of}
 use Rattle.builtin_rows.specs.declared.row.Row.{Row}
 use Rattle.builtin_rows.specs.declared.row.Row.TheVariants.{Line}
 use Rattle.builtin_rows.specs.Given.{Given, given, given_texts, lined}

@@ -4,14 +4,13 @@ ghost use Rattle.std.specs.List.{Contains};
 ghost use Rattle.term_store.specs.Contents.{IsArguments};
 ghost use Rattle.world_api.specs.Gains.{Gains};
 ghost use Rattle.world_api.specs.Texts.{Holds};
-ghost use Rattle.builtin_names.specs.Predicates.{arity_of};
+ghost use Rattle.builtin_rows.specs.Predicates.{arity_of};
 ghost use Rattle.builtin_rows.specs.Given.{given_texts};
 ghost use Rattle.builtin_rows.specs.Rows.{IsRow, refusals_of};
 ghost use Rattle.builtin_dispatch.specs.Dispatching.{AreHeld, given_from, terms_of};
 
 use atom_api::Atoms;
-use builtin_names::Pred;
-use builtin_rows::Row;
+use builtin_rows::{Pred, Row};
 use pl_term::Memory;
 use std::alloc::Global;
 use term_store::{Arguments, Store};

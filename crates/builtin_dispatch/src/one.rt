@@ -4,12 +4,11 @@ ghost use Rattle.pl_term.specs.Tree.{more, none};
 ghost use Rattle.atom_api.specs.Names.{Names};
 ghost use Rattle.term_store.specs.Contents.{Holds};
 ghost use Rattle.world_builtins.specs.Spelling.{reads};
-ghost use Rattle.builtin_names.specs.Predicates.{arity_of, kind_of};
-ghost use Rattle.builtin_names.specs.Predicates as kinds;
+ghost use Rattle.builtin_rows.specs.Predicates.{arity_of, kind_of};
+ghost use Rattle.builtin_rows.specs.Predicates as kinds;
 ghost use Rattle.builtin_dispatch.specs.Dispatching.{Does, answer_refusals};
 
-use builtin_names::Pred;
-use builtin_rows::Row;
+use builtin_rows::{Pred, Row};
 use builtin_term::type_test;
 use pl_term::Memory;
 use std::alloc::Global;

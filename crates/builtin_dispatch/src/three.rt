@@ -4,14 +4,13 @@ ghost use Rattle.pl_model.specs.TermBuiltins.{three};
 ghost use Rattle.term_store.specs.Contents.{Holds, IsAbove};
 ghost use Rattle.world_builtins.specs.Naming.{IsHeldAt};
 ghost use Rattle.world_builtins.specs.Spelling.{reads};
-ghost use Rattle.builtin_names.specs.Predicates.{arity_of, kind_of};
-ghost use Rattle.builtin_names.specs.Predicates as kinds;
+ghost use Rattle.builtin_rows.specs.Predicates.{arity_of, kind_of};
+ghost use Rattle.builtin_rows.specs.Predicates as kinds;
 ghost use Rattle.builtin_dispatch.specs.Dispatching.{Dispatches};
 
 use crate::built::built;
 use atom_api::Atoms;
-use builtin_names::Pred;
-use builtin_rows::Row;
+use builtin_rows::{Pred, Row};
 use builtin_term::{arg, compare, functor};
 use pl_term::Memory;
 use std::alloc::Global;

@@ -4,16 +4,16 @@ ghost use Rattle.pl_model.specs.TermBuiltins.{two};
 ghost use Rattle.term_store.specs.Contents.{Holds, IsAbove};
 ghost use Rattle.world_builtins.specs.Naming.{IsHeldAt};
 ghost use Rattle.world_builtins.specs.Spelling.{reads};
-ghost use Rattle.builtin_names.specs.Predicates.{arity_of, kind_of};
-ghost use Rattle.builtin_names.specs.Predicates as kinds;
+ghost use Rattle.builtin_rows.specs.Predicates.{arity_of, kind_of};
+ghost use Rattle.builtin_rows.specs.Predicates as kinds;
 ghost use Rattle.builtin_dispatch.specs.Comparisons.{Compares};
 ghost use Rattle.builtin_dispatch.specs.Dispatching.{Dispatches};
 
 use crate::built::built;
 use atom_api::Atoms;
+use builtin_arithmetic::{Comparison, compare_values, evaluate};
 use builtin_atom::{atom_length, char_code};
-use builtin_names::Pred;
-use builtin_rows::Row;
+use builtin_rows::{Pred, Row};
 use builtin_term::{
     comparison, copy_term, keysort, msort, not_unifiable, sort, subsumes_term, term_variables,
     unifies, univ,
@@ -21,7 +21,6 @@ use builtin_term::{
 use pl_term::Memory;
 use std::alloc::Global;
 use term_store::{Place, Store};
-use term_values::{Comparison, compare_values, evaluate};
 
 /// The row of a predicate for its two arguments. The only error is out of memory.
 pub fn row_of_two<A: Atoms>(

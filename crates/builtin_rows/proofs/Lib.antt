@@ -3,3 +3,7 @@ pub mod Balls
 pub mod Numbers
 pub mod Steps
 pub mod Listing
+mod Numbered
+mod Choosing
+mod Finding
+mod Telling

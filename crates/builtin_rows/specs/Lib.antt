@@ -1,4 +1,7 @@
 pub mod Given
+pub mod Laws
 pub mod Lists
+pub mod Predicates
 pub mod Rows
 pub mod Steps
+pub mod Tables

@@ -1,9 +1,11 @@
-//! What built-in predicates give for their arguments (ISO/IEC 13211-1:1995, 8): the answers, as places of a store, or the ball
-//! of an error.
+//! Built-in predicates (ISO/IEC 13211-1:1995, 8): which one a goal calls, by the number of its atom and the number of its
+//! arguments, and what they give for their arguments: the answers, as places of a store, or the ball of an error.
 #![tactic(auto)]
 
 mod errors;
 mod lists;
+mod names;
+mod predicates;
 mod room;
 mod row;
 #[cfg(test)]
@@ -11,5 +13,7 @@ mod tests;
 
 pub use errors::{raised, refused_for, refused_with};
 pub use lists::{ListEnd, list_elements, make_list};
+pub use names::predicate_of;
+pub use predicates::Pred;
 pub use room::take_room;
 pub use row::Row;

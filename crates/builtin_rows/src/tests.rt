@@ -1,6 +1,6 @@
-//! Each call once, with ample memory.
-use crate::{Row, raised, refused_for, refused_with, take_room};
-use atom_api::fixed;
+//! Each call once, with ample memory: predicates of each kind by their names, the balls of errors, and room.
+use crate::{Pred, Row, predicate_of, raised, refused_for, refused_with, take_room};
+use atom_api::{Atom, fixed};
 use pl_term::Memory;
 use std::alloc::Global;
 use std::test::Fail;
@@ -155,5 +155,31 @@ fn takes_numbers(alloc: Global) -> Result<bool, Memory> {
 fn room_is_taken(rt: HostRuntime) -> Result<(), Fail> {
     assert!(rt; takes_cells(rt.alloc())?);
     assert!(rt; takes_numbers(rt.alloc())?);
+    Ok(())
+}
+
+#[test]
+fn predicates_are_found(rt: HostRuntime) -> Result<(), Fail> {
+    assert_eq!(rt; predicate_of(fixed::NL, 0), Some(Pred::Nl));
+    assert_eq!(rt; predicate_of(fixed::ASSERTZ, 1), Some(Pred::Assertz));
+    assert_eq!(rt; predicate_of(fixed::EQUAL, 2), Some(Pred::Equal));
+    assert_eq!(rt;
+        predicate_of(fixed::THREAD_CREATE, 2),
+        Some(Pred::ThreadCreate)
+    );
+    assert_eq!(rt;
+        predicate_of(fixed::THREAD_CREATE, 3),
+        Some(Pred::ThreadCreateWith)
+    );
+    assert_eq!(rt; predicate_of(fixed::SUB_ATOM, 5), Some(Pred::SubAtom));
+    Ok(())
+}
+
+#[test]
+fn other_names_are_not(rt: HostRuntime) -> Result<(), Fail> {
+    assert_eq!(rt; predicate_of(fixed::NL, 1), None);
+    assert_eq!(rt; predicate_of(fixed::CUT, 0), None);
+    assert_eq!(rt; predicate_of(fixed::CALL, 3), None);
+    assert_eq!(rt; predicate_of(Atom::at(1000), 2), None);
     Ok(())
 }

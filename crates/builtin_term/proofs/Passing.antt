@@ -4,9 +4,9 @@ use Rattle.std.specs.Option.{option_map}
 use Rattle.pl_term.specs.Tree.{Chars, Tree, var, int, atom, comp}
 use Rattle.pl_model.specs.BuiltinRows.{type_test}
 use Rattle.pl_model.specs.Terms.{is_ground}
-use Rattle.builtin_names.specs.declared.predicates.Pred.{Pred}
-use Rattle.builtin_names.specs.declared.predicates.Pred.TheVariants as pred
-use Rattle.builtin_names.specs.Predicates.{name_of}
+use Rattle.builtin_rows.specs.declared.predicates.Pred.{Pred}
+use Rattle.builtin_rows.specs.declared.predicates.Pred.TheVariants as pred
+use Rattle.builtin_rows.specs.Predicates.{name_of}
 use Rattle.atom_api.specs.Names.{Names}
 use Rattle.term_store.specs.declared.words.Place.{Place}
 use Rattle.term_store.specs.Contents.{Contents, term_at}

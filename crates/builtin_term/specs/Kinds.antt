@@ -1,8 +1,8 @@
 -- Type tests by the kinds of terms that pass them.
 use Rattle.std.specs.Prelude.{Bool, true, false, Option, Some, None}
 use Rattle.pl_term.specs.Tree.{Tree, var, int, atom, comp}
-use Rattle.builtin_names.specs.declared.predicates.Pred.{Pred}
-use Rattle.builtin_names.specs.declared.predicates.Pred.TheVariants as pred
+use Rattle.builtin_rows.specs.declared.predicates.Pred.{Pred}
+use Rattle.builtin_rows.specs.declared.predicates.Pred.TheVariants as pred
 use Rattle.builtin_term.specs.declared.kinds.Kinds.{Kinds}
 
 abbrev pub kinds : Bool → Bool → Bool → Bool → Kinds

@@ -3,8 +3,8 @@ use Rattle.std.specs.Prelude.{ℕ, Bool, true, false, ◌||◌, Option, Some, No
 use Rattle.std.specs.declared.cmp.Ordering.{Ordering}
 use Rattle.std.specs.declared.cmp.Ordering.TheVariants.{Less, Equal, Greater}
 use Rattle.pl_term.specs.Tree.{Chars, Tree, var, int, atom, comp}
-use Rattle.builtin_names.specs.declared.predicates.Pred.{Pred}
-use Rattle.builtin_names.specs.declared.predicates.Pred.TheVariants as pred
+use Rattle.builtin_rows.specs.declared.predicates.Pred.{Pred}
+use Rattle.builtin_rows.specs.declared.predicates.Pred.TheVariants as pred
 use Rattle.term_store.specs.Heap.{atom_name}
 use Rattle.builtin_term.specs.declared.orders.Orders.{Orders}
 use Rattle.builtin_term.specs.declared.signs.Sign.{Sign}

@@ -3,7 +3,7 @@ ghost use Rattle.std.specs.Prelude.{◌≡◌};
 ghost use Rattle.term_store.specs.Contents.{Holds, term_at};
 ghost use Rattle.builtin_term.specs.Kinds.{kinds_of, passes};
 
-use builtin_names::Pred;
+use builtin_rows::Pred;
 use term_store::{Place, Store, View};
 
 /// Which kinds of terms pass a test.

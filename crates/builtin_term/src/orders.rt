@@ -3,7 +3,7 @@ ghost use Rattle.std.specs.Prelude.{◌≡◌};
 ghost use Rattle.builtin_term.specs.Orders.{admits, orders_of, sign_number};
 
 use atom_api::{Atom, fixed};
-use builtin_names::Pred;
+use builtin_rows::Pred;
 use std::cmp::Ordering;
 
 /// For which orders of two terms a comparison is true.

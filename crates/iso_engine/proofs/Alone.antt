@@ -1,8 +1,8 @@
 -- Built-in predicates without arguments.
 use Rattle.std.proofs.Common.{◌≡◌, false, refl, arith}
-use Rattle.builtin_names.specs.declared.predicates.Pred.{Pred}
-use Rattle.builtin_names.specs.declared.predicates.Pred.TheVariants as pred
-use Rattle.builtin_names.specs.Predicates.{arity_of, is_row_kind, kind_of}
+use Rattle.builtin_rows.specs.declared.predicates.Pred.{Pred}
+use Rattle.builtin_rows.specs.declared.predicates.Pred.TheVariants as pred
+use Rattle.builtin_rows.specs.Predicates.{arity_of, is_row_kind, kind_of}
 
 -- Such a predicate is no function of its arguments.
 pub alone_is_no_row : (p : Pred) → 0 ≡ arity_of p → is_row_kind (kind_of p) ≡ false

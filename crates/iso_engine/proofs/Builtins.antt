@@ -17,10 +17,10 @@ use Rattle.term_store.specs.declared.words.Place.{Place}
 use Rattle.term_store.specs.declared.views.Arguments.{Arguments}
 use Rattle.term_store.specs.Heap.{atom_name}
 use Rattle.term_store.specs.Contents.{Contents, IsArguments, arguments_at, term_at}
-use Rattle.builtin_names.specs.declared.predicates.Pred.{Pred}
-use Rattle.builtin_names.specs.Predicates.{Kind, has_row, is_asking_kind, is_reserved_kind, is_row_kind, is_step_kind, kind_of}
-use Rattle.builtin_names.specs.Predicates as kinds
-use Rattle.builtin_names.specs.Laws.{AreTexts, IsNamed, TellsConstructs, TellsReserved, TellsRows, TellsShared, goal_of, is_predicate}
+use Rattle.builtin_rows.specs.declared.predicates.Pred.{Pred}
+use Rattle.builtin_rows.specs.Predicates.{Kind, has_row, is_asking_kind, is_reserved_kind, is_row_kind, is_step_kind, kind_of}
+use Rattle.builtin_rows.specs.Predicates as kinds
+use Rattle.builtin_rows.specs.Laws.{AreTexts, IsNamed, TellsConstructs, TellsReserved, TellsRows, TellsShared, goal_of, is_predicate}
 use Rattle.iso_search.specs.Lines.{lines_of, table_of}
 use Rattle.iso_search.specs.Reading.{IsView, View, reads}
 use Rattle.iso_search.specs.Spelling.{spelled, spelled_all, text_of}

@@ -18,9 +18,9 @@ use Rattle.term_store.specs.Contents.{Contents, Holds as IsIn, arguments_at, ter
 use Rattle.world_api.specs.Texts.{Holds}
 use Rattle.world_builtins.specs.Naming.{IsHeldAt, atoms_in, atoms_in_all}
 use Rattle.world_builtins.specs.Spelling as written
-use Rattle.builtin_names.specs.declared.predicates.Pred.{Pred}
-use Rattle.builtin_names.specs.Predicates as kinds
-use Rattle.builtin_names.specs.Predicates.{arity_of}
+use Rattle.builtin_rows.specs.declared.predicates.Pred.{Pred}
+use Rattle.builtin_rows.specs.Predicates as kinds
+use Rattle.builtin_rows.specs.Predicates.{arity_of}
 use Rattle.builtin_rows.specs.declared.row.Row.{Row}
 use Rattle.builtin_rows.specs.declared.row.Row.TheVariants.{Fails, Holds as HoldsRow, Answer, Line, Ball, CellsFull, NeedsAtoms, Retry, Worn}
 use Rattle.builtin_rows.specs.Given.{given_texts}

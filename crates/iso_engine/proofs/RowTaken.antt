@@ -11,8 +11,8 @@ use Rattle.pl_model.specs.Terms.{arguments}
 use Rattle.pl_term.specs.Tree.{count}
 use Rattle.atom_api.specs.Names.{FixedStand, Names}
 use Rattle.builtin_dispatch.specs.Unbuilt.{is_unbuilt_row}
-use Rattle.builtin_names.specs.Predicates as kinds
-use Rattle.builtin_names.specs.Predicates.{arity_of}
+use Rattle.builtin_rows.specs.Predicates as kinds
+use Rattle.builtin_rows.specs.Predicates.{arity_of}
 use Rattle.term_store.specs.Contents.{term_at}
 use Rattle.term_store.specs.Heap.{atom_name}
 use Rattle.world_api.specs.declared.visit.Procedure.{Procedure}

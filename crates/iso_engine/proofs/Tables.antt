@@ -16,7 +16,7 @@ use Rattle.term_store.specs.Contents.{Contents, Holds as IsIn, term_at}
 use Rattle.world_api.specs.Texts.{Holds}
 use Rattle.world_api.specs.Told.{Told}
 use Rattle.world_builtins.specs.Naming.{IsHeldAt}
-use Rattle.builtin_names.specs.Predicates as kinds
+use Rattle.builtin_rows.specs.Predicates as kinds
 use Rattle.builtin_rows.specs.declared.row.Row.{Row}
 use Rattle.builtin_rows.specs.declared.row.Row.TheVariants as found
 use Rattle.builtin_rows.specs.Given.{given_texts, lined, texts_of_all, terms_of as answer_terms}

@@ -11,9 +11,9 @@ use Rattle.atom_api.specs.Fixed.{fixed}
 use Rattle.term_store.specs.declared.words.Place.{Place}
 use Rattle.term_store.specs.Heap.{atom_name}
 use Rattle.term_store.specs.Contents.{Contents, Holds, IsArguments, arguments_at, term_at}
-use Rattle.builtin_names.specs.Predicates as kinds
-use Rattle.builtin_names.specs.Predicates.{arity_of, kind_of}
-use Rattle.builtin_names.specs.declared.predicates.Pred.{Pred}
+use Rattle.builtin_rows.specs.Predicates as kinds
+use Rattle.builtin_rows.specs.Predicates.{arity_of, kind_of}
+use Rattle.builtin_rows.specs.declared.predicates.Pred.{Pred}
 use Rattle.iso_search.specs.Reading.{IsView, View, reads}
 use Rattle.iso_engine.specs.declared.builtin.Builtin.{Builtin}
 use Rattle.iso_engine.specs.declared.builtin.Builtin.TheVariants.{Row, Other, No}

@@ -12,8 +12,8 @@ use Rattle.pl_model.specs.Control.{construct, name_of, other, take_up}
 use Rattle.atom_api.specs.Names.{Names}
 use Rattle.atom_words.specs.declared.view.Refusal.{Refusal}
 use Rattle.builtin_dispatch.specs.Unbuilt.{is_unbuilt_row}
-use Rattle.builtin_names.specs.Predicates as kinds
-use Rattle.builtin_names.specs.Predicates.{arity_of}
+use Rattle.builtin_rows.specs.Predicates as kinds
+use Rattle.builtin_rows.specs.Predicates.{arity_of}
 use Rattle.builtin_rows.specs.Given.{given, given_texts}
 use Rattle.builtin_rows.specs.declared.row.Row.{Row}
 use Rattle.builtin_rows.specs.declared.row.Row.TheVariants.{NeedsAtoms as RefusedFull, Retry as RefusedAgain, Worn as RefusedWorn}

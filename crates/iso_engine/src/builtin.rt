@@ -8,7 +8,7 @@ ghost use Rattle.iso_engine.specs.Following.{IsInteger};
 
 use crate::kinds::is_row;
 use atom_api::{Atom, fixed};
-use builtin_names::{Pred, predicate_of};
+use builtin_rows::{Pred, predicate_of};
 use term_store::{Arguments, Place, Store, View as Kind};
 use world_api::Procedure;
 

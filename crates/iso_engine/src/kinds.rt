@@ -1,10 +1,10 @@
 //! Kinds of built-in predicates, and of goals.
 ghost use Rattle.std.specs.Prelude.{◌≡◌};
-ghost use Rattle.builtin_names.specs.Predicates.{is_row_kind, kind_of};
+ghost use Rattle.builtin_rows.specs.Predicates.{is_row_kind, kind_of};
 ghost use Rattle.iso_engine.specs.Calling.{is_other_kind};
 ghost use Rattle.iso_engine.specs.Writes.{is_write_kind};
 
-use builtin_names::Pred;
+use builtin_rows::Pred;
 use iso_search::construct::Construct;
 
 /// Whether a predicate is a function of its arguments.

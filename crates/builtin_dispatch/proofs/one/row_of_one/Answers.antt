@@ -2,7 +2,7 @@ use Rattle.pl_term.specs.Tree.{more, none}
 use Rattle.pl_model.specs.BuiltinRows.{test_row, type_test}
 use Rattle.std.proofs.Common.{◌≡◌, true}
 use Rattle.world_builtins.specs.Spelling.{reads}
-use Rattle.builtin_names.specs.Predicates.{name_of, arity_of}
+use Rattle.builtin_rows.specs.Predicates.{name_of, arity_of}
 use Rattle.builtin_dispatch.specs.Unbuilt.{is_unbuilt_row}
 use Rattle.builtin_dispatch.proofs.Answering.{answers_do, ok_weaker, type_test_defined}
 use Rattle.builtin_dispatch.proofs.Remaining.{no_type_test}

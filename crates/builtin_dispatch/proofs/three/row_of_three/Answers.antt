@@ -3,7 +3,7 @@ use Rattle.pl_model.specs.History.{proc}
 use Rattle.pl_model.specs.TermBuiltins.{argument_of, compares, functor_of, three}
 use Rattle.atom_api.specs.Names.{Names}
 use Rattle.world_builtins.specs.Spelling.{reads}
-use Rattle.builtin_names.specs.declared.predicates.Pred.TheVariants as pred
+use Rattle.builtin_rows.specs.declared.predicates.Pred.TheVariants as pred
 use Rattle.builtin_rows.specs.Given.{given}
 use Rattle.builtin_rows.specs.Rows.{IsRow}
 use Rattle.builtin_dispatch.proofs.Answering.{nothing_does, ok_weaker, settled, settles}

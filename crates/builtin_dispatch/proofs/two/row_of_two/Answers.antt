@@ -9,14 +9,14 @@ use Rattle.pl_model.specs.Unify.{unify}
 use Rattle.atom_api.specs.Names.{Names}
 use Rattle.world_api.proofs.Gaining.{gains_nothing, gains_weaker}
 use Rattle.world_builtins.specs.Spelling.{reads}
-use Rattle.builtin_names.specs.declared.predicates.Pred.TheVariants as pred
-use Rattle.builtin_names.specs.Predicates.{name_of}
+use Rattle.builtin_rows.specs.declared.predicates.Pred.TheVariants as pred
+use Rattle.builtin_rows.specs.Predicates.{name_of}
 use Rattle.builtin_rows.specs.Rows.{IsRow}
 use Rattle.builtin_rows.specs.Given.{given}
 use Rattle.builtin_rows.specs.Lists.{IsNaming}
 use Rattle.builtin_term.specs.TestRows.{AreNames}
-use Rattle.term_values.specs.Texts as values
-use Rattle.term_values.specs.Comparing.{holds_by}
+use Rattle.builtin_arithmetic.specs.Texts as values
+use Rattle.builtin_arithmetic.specs.Comparing.{holds_by}
 use Rattle.builtin_dispatch.specs.Comparisons.{pred_of}
 use Rattle.builtin_dispatch.specs.Dispatching.{Does}
 use Rattle.builtin_dispatch.proofs.Answering.{answers_do, interned, ok_weaker, same_holds, settled, settles}

@@ -1,5 +1,5 @@
 use Rattle.std.proofs.Common.{sym, subst, ◌∙◌}
-use Rattle.builtin_names.specs.Laws.{TellsRows, TellsShared}
+use Rattle.builtin_rows.specs.Laws.{TellsRows, TellsShared}
 use Rattle.iso_engine.proofs.Builtins.{IsTold, alone_at, atom_is, compound_is_none, compound_is_other, variable_is}
 use Rattle.iso_engine.proofs.builtin.builtin_at.Goals as goal
 

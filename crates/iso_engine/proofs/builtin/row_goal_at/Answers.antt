@@ -1,7 +1,7 @@
 use Rattle.std.proofs.Common.{[], refl, sym, ap, subst, ◌∙◌}
 use Rattle.pl_term.specs.Tree.{atom, int, var}
-use Rattle.builtin_names.specs.Laws.{TellsRows}
-use Rattle.builtin_names.specs.Predicates.{has_row}
+use Rattle.builtin_rows.specs.Laws.{TellsRows}
+use Rattle.builtin_rows.specs.Predicates.{has_row}
 use Rattle.term_store.specs.Heap.{atom_name}
 use Rattle.term_store.specs.Contents.{term_at}
 use Rattle.iso_search.specs.Spelling.{text_of}

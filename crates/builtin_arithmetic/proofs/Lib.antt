@@ -1,0 +1,10 @@
+pub mod Answering
+pub mod Chain
+pub mod Divisions
+pub mod ListedValues
+pub mod Names
+pub mod Naming
+pub mod Opening
+pub mod Powers
+pub mod Raising
+pub mod Stepping

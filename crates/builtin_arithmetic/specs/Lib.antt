@@ -1,0 +1,9 @@
+pub mod Comparing
+pub mod Division
+pub mod Magnitude
+pub mod NodeValues
+pub mod Powers
+pub mod Steps
+pub mod Tables
+pub mod Texts
+pub mod Values

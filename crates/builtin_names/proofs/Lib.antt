@@ -1,4 +1,0 @@
-mod Numbered
-mod Choosing
-mod Finding
-mod Telling

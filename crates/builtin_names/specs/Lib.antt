@@ -1,3 +1,0 @@
-pub mod Predicates
-pub mod Tables
-pub mod Laws

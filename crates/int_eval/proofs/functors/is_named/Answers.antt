@@ -1,5 +1,0 @@
-use Rattle.int_eval.proofs.Names.{spelled}
-use Rattle.int_eval.proofs.functors.is_named.Goals as goal
-
-pub returns : goal.returns
-returns c = spelled _ _ _ c.utf8.text c.requires c.is.ensures

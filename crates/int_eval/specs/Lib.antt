@@ -1,4 +1,0 @@
-pub mod Division
-pub mod Magnitude
-pub mod NodeValues
-pub mod Powers
