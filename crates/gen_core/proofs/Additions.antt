@@ -1,4 +1,4 @@
--- A clause more on a shelf.
+-- A clause more on an index.
 use Rattle.std.proofs.Common.{◌≡◌, ℕ, ◌<◌, Bool, true, false, cond, not, ◌&&◌, ◌||◌, ◌==◌, List, [], ◌∷◌, Option, Some, None, IsSome, refl, sym, ap, ap₂, ◌∙◌, subst, arith, eq-eqb, inl, inr}
 use Rattle.std.specs.Prelude.{sum_by}
 use Rattle.std.specs.Option.{IfSome, option_map, option_map_or, unwrap_or}
@@ -16,12 +16,12 @@ use Rattle.std.proofs.lemmas.Bool.Decides.{eqb_tells}
 use Rattle.std.proofs.lemmas.Map.Entries.{sum_by-insert_entry}
 use borrow.Author.Tests.{eqb-true}
 use Rattle.gen_core.specs.declared.dated_clause.DatedClause.{DatedClause}
-use Rattle.gen_core.specs.declared.shelf.Entry.{Entry}
-use Rattle.gen_core.specs.declared.shelf.Shelf.{Shelf}
+use Rattle.gen_core.specs.declared.clause_index.Entry.{Entry}
+use Rattle.gen_core.specs.declared.clause_index.ClauseIndex.{ClauseIndex}
 use Rattle.gen_core.specs.Index.{is_listed}
 use Rattle.gen_core.specs.Numbers.{IsNumbered, first_number, last_number}
 use Rattle.gen_core.specs.Visible.{fresh, counted}
-use Rattle.gen_core.specs.Shelf.{IsSound, Lists, ListsSame, holds, dated_at, pair_order, is_erased_at}
+use Rattle.gen_core.specs.ClauseIndex.{IsSound, Lists, ListsSame, holds, dated_at, pair_order, is_erased_at}
 
 -- Taking out what was just put in.
 removed_by : {K X : Type 0} (order : K → K → Ordering) → (k : K) → is_eq (order k k) ≡ true → (e : K × X) (es : List (K × X)) (v : X)
@@ -44,7 +44,7 @@ remove_entry-insert_entry order k same (e ∷ es) v h =
 pub is_at-number : (number q : ℕ) → is_eq (nat_cmp number q) ≡ (q == number)
 is_at-number number q = unsigned_tied number q ∙ nat_eq_equiv.symm number q
 
-module _ {C K : Type 0} (order : K → K → Ordering) (any : K → Bool) (key_of : C → K) (old new : Shelf C K) (number : ℕ) (place : ℕ) (clause : C) (key : K)
+module _ {C K : Type 0} (order : K → K → Ordering) (any : K → Bool) (key_of : C → K) (old new : ClauseIndex C K) (number : ℕ) (place : ℕ) (clause : C) (key : K)
     (sound : IsSound order any key_of old)
     (numbered : IsNumbered number place)
     (free : (p : ℕ) → IsNumbered p place → dated_at old.clauses p ≡ None)
@@ -139,7 +139,7 @@ module _ {C K : Type 0} (order : K → K → Ordering) (any : K → Bool) (key_o
     }
 
 -- The same clauses, listed alike.
-pub sound_same : {C K : Type 0} (order : K → K → Ordering) (any : K → Bool) (key_of : C → K) (old new : Shelf C K) → IsSound order any key_of old
+pub sound_same : {C K : Type 0} (order : K → K → Ordering) (any : K → Bool) (key_of : C → K) (old new : ClauseIndex C K) → IsSound order any key_of old
     → new.clauses.entries ≡ old.clauses.entries → ListsSame order old new → new.erased ≡ old.erased → IsSound order any key_of new
 sound_same {C} {K} order any key_of old new sound e lists erased = record {
   ordered = subst (λ es. IsStrictlySortedBy nat_cmp (keys_of es)) (sym e) sound.ordered;
@@ -155,7 +155,7 @@ sound_same {C} {K} order any key_of old new sound e lists erased = record {
     held t q = ap (λ es. option_map_or t (option_map (λ (x : Entry C K). x.dated) (lookup (is_at (nat_cmp q)) es)) false) (sym e)
 
 -- A clause put on a number, and then listed.
-pub sound_put : {C K : Type 0} (order : K → K → Ordering) (any : K → Bool) (key_of : C → K) (old mid new : Shelf C K) (number place : ℕ) (clause : C) (key other : K)
+pub sound_put : {C K : Type 0} (order : K → K → Ordering) (any : K → Bool) (key_of : C → K) (old mid new : ClauseIndex C K) (number place : ℕ) (clause : C) (key other : K)
     → IsSound order any key_of old → IsNumbered number place → ((p : ℕ) → IsNumbered p place → dated_at old.clauses p ≡ None)
     → key ≡ key_of clause → other ≡ key_of clause
     → tree.IsOrdered nat_cmp mid.clauses

@@ -1,4 +1,4 @@
--- All clauses of a shelf are erased.
+-- All clauses of an index are erased.
 use Rattle.std.proofs.Common.{◌≡◌, ℕ, suc, ◌+◌, ◌<◌, Bool, true, false, cond, not, ◌&&◌, ◌||◌, ◌==◌, List, [], ◌∷◌, map, length, Option, Some, None, IsSome, refl, sym, ap, ap₂, ◌∙◌, subst, arith}
 use Rattle.std.specs.Prelude.{sum_by}
 use Rattle.std.specs.List.{AllByRecursion, IsDistinct, list_any}
@@ -18,12 +18,12 @@ use Rattle.std.proofs.lemmas.Map.Keys.{sorted_tail}
 use Rattle.std.proofs.lemmas.Map.Made.{lookup-map_values, distinct_count-from_IsDistinct}
 use Rattle.std.proofs.lemmas.Map.Views.{btree_set_len-from_list}
 use Rattle.gen_core.specs.declared.dated_clause.DatedClause.{DatedClause}
-use Rattle.gen_core.specs.declared.shelf.Entry.{Entry}
-use Rattle.gen_core.specs.declared.shelf.Shelf.{Shelf}
+use Rattle.gen_core.specs.declared.clause_index.Entry.{Entry}
+use Rattle.gen_core.specs.declared.clause_index.ClauseIndex.{ClauseIndex}
 use Rattle.gen_core.specs.Index.{is_listed}
 use Rattle.gen_core.specs.Numbers.{IsNumbered, first_number, last_number}
 use Rattle.gen_core.specs.Visible.{is_live, erased_all, counted}
-use Rattle.gen_core.specs.Shelf.{IsSound, holds, pair_order, is_erased_at, erased_from, marked_all}
+use Rattle.gen_core.specs.ClauseIndex.{IsSound, holds, pair_order, is_erased_at, erased_from, marked_all}
 use Rattle.gen_core.proofs.Additions.{is_at-number}
 use Rattle.gen_core.proofs.Erasures.{is_at-pair}
 use Rattle.gen_core.proofs.Entries.{after_head}
@@ -148,7 +148,7 @@ module _ {C K : Type 0} (place : ℕ) where
   clauses_all [] = refl
   clauses_all (e ∷ es) = ap (λ ds. erased_all place e.1.dated ∷ ds) (clauses_all es)
 
-module _ {C K : Type 0} (order : K → K → Ordering) (any : K → Bool) (key_of : C → K) (old new : Shelf C K) (place : ℕ)
+module _ {C K : Type 0} (order : K → K → Ordering) (any : K → Bool) (key_of : C → K) (old new : ClauseIndex C K) (place : ℕ)
     (sound : IsSound order any key_of old)
     (ordered : tree.IsOrdered nat_cmp new.clauses)
     (entries : new.clauses.entries ≡ map (λ e. (e.0, marked_all place e.1)) old.clauses.entries)

@@ -1,4 +1,4 @@
--- What a call finds among the clauses of a shelf.
+-- What a call finds among the clauses of an index.
 use Rattle.std.proofs.Common.{◌≡◌, ℕ, Bool, true, false, cond, not, ◌&&◌, List, [], ◌∷◌, ◌++◌, map, Option, Some, None, refl, sym, ap, ap₂, ◌∙◌, arith, inl, inr}
 use Rattle.std.specs.Prelude.{filter, nat_lt}
 use Rattle.std.specs.Option.{option_map, is_some}
@@ -13,9 +13,9 @@ use Rattle.std.proofs.lemmas.Bool.{cases_lt}
 use Rattle.std.proofs.lemmas.List.Elements.{filter-append}
 use borrow.Author.Tests.{lt-ltb}
 use Rattle.gen_core.specs.declared.dated_clause.DatedClause.{DatedClause}
-use Rattle.gen_core.specs.declared.shelf.Entry.{Entry}
+use Rattle.gen_core.specs.declared.clause_index.Entry.{Entry}
 use Rattle.gen_core.specs.Visible.{is_visible, is_choice, first_choice}
-use Rattle.gen_core.specs.Shelf.{clauses_from, dated_at}
+use Rattle.gen_core.specs.ClauseIndex.{clauses_from, dated_at}
 use Rattle.gen_core.proofs.Entries.{ge-ltb}
 
 -- ---- lists

@@ -1,4 +1,4 @@
--- A clause of a shelf is erased, or taken out.
+-- A clause of an index is erased, or taken out.
 use Rattle.std.proofs.Common.{◌≡◌, ℕ, ◌+◌, ◌<◌, ◌≤◌, Bool, true, false, cond, not, ◌&&◌, ◌==◌, List, [], ◌∷◌, Option, Some, None, IsSome, length, refl, sym, ap, ap₂, ◌∙◌, subst, arith, eq-eqb, inl, inr}
 use Rattle.std.specs.Prelude.{sum_by, nat_lt}
 use Rattle.std.specs.List.{list_any}
@@ -16,12 +16,12 @@ use Rattle.std.proofs.lemmas.Bool.{false≢true, cases_lt}
 use Rattle.std.proofs.lemmas.Map.Entries.{sum_by-remove_entry, sum_by-set_value}
 use borrow.Author.Tests.{eqb-true, lt-ltb}
 use Rattle.gen_core.specs.declared.dated_clause.DatedClause.{DatedClause}
-use Rattle.gen_core.specs.declared.shelf.Entry.{Entry}
-use Rattle.gen_core.specs.declared.shelf.Shelf.{Shelf}
+use Rattle.gen_core.specs.declared.clause_index.Entry.{Entry}
+use Rattle.gen_core.specs.declared.clause_index.ClauseIndex.{ClauseIndex}
 use Rattle.gen_core.specs.Index.{is_listed}
 use Rattle.gen_core.specs.Visible.{is_droppable, counted, is_live}
 use Rattle.gen_core.specs.Numbers.{IsNumbered, first_number, last_number}
-use Rattle.gen_core.specs.Shelf.{IsSound, Unlists, holds, dated_at, pair_order, marked, is_erased_at, MarksAt, ErasesAt}
+use Rattle.gen_core.specs.ClauseIndex.{IsSound, Unlists, holds, dated_at, pair_order, marked, is_erased_at, MarksAt, ErasesAt}
 use Rattle.gen_core.proofs.Additions.{is_at-number}
 use Rattle.gen_core.proofs.Searches.{holds-both}
 
@@ -109,14 +109,14 @@ live_unlisted {C} m k q h = go (dated_at m q) h
     go None n = refl
     go (Some d) n = live_erased d.erased k n
 
-module _ {C K : Type 0} (order : K → K → Ordering) (any : K → Bool) (key_of : C → K) (old : Shelf C K) (sound : IsSound order any key_of old) (number place : ℕ) (entry : Entry C K)
+module _ {C K : Type 0} (order : K → K → Ordering) (any : K → Bool) (key_of : C → K) (old : ClauseIndex C K) (sound : IsSound order any key_of old) (number place : ℕ) (entry : Entry C K)
     (was : tree.get nat_cmp old.clauses number ≡ Some entry)
   where
     -- What the clause on the number passes.
     holds-here : (t : DatedClause C → Bool) → holds old.clauses t number ≡ t entry.dated
     holds-here t = ap (λ o. option_map_or t (option_map (λ e. e.dated) o) false) was
 
-    module _ (new : Shelf C K)
+    module _ (new : ClauseIndex C K)
         (ordered : tree.IsOrdered nat_cmp new.clauses)
         (gets : (q : ℕ) → tree.get nat_cmp new.clauses q ≡ cond (is_eq (nat_cmp number q)) None (tree.get nat_cmp old.clauses q))
         (entries : new.clauses.entries ≡ remove_entry (is_at (nat_cmp number)) old.clauses.entries)
@@ -195,7 +195,7 @@ module _ {C K : Type 0} (order : K → K → Ordering) (any : K → Bool) (key_o
           gone_is = gone-out;
         }
 
-    module _ (new : Shelf C K)
+    module _ (new : ClauseIndex C K)
         (live : is_live entry.dated ≡ true)
         (ordered : tree.IsOrdered nat_cmp new.clauses)
         (gets : (q : ℕ) → tree.get nat_cmp new.clauses q ≡ cond (q == number) (option_map (marked place) (tree.get nat_cmp old.clauses number)) (tree.get nat_cmp old.clauses q))

@@ -7,4 +7,4 @@ pub mod AllErased
 pub mod Places
 pub mod Cells
 pub mod Calls
-pub mod Later
+pub mod Dropping

@@ -1,4 +1,4 @@
--- A shelf as the list of its clauses.
+-- An index as the list of its clauses.
 use Rattle.std.proofs.Common.{◌≡◌, ℕ, ◌+◌, ◌<◌, ◌≤◌, Bool, true, false, cond, ◌&&◌, ◌||◌, ◌==◌, List, [], ◌∷◌, ◌++◌, map, Option, Some, None, refl, sym, ap, ◌∙◌, subst, arith, eq-eqb, inl, inr}
 use Rattle.std.specs.Prelude.{filter, nat_lt, All}
 use Rattle.std.specs.List.{AllByRecursion, list_any}
@@ -15,13 +15,13 @@ use Rattle.std.proofs.lemmas.Bool.{false≢true, cases_lt}
 use Rattle.std.proofs.lemmas.List.Elements.{All-head, All-tail}
 use borrow.Author.Tests.{eqb-true, lt-ltb}
 use Rattle.gen_core.specs.declared.dated_clause.DatedClause.{DatedClause}
-use Rattle.gen_core.specs.declared.shelf.Entry.{Entry}
-use Rattle.gen_core.specs.declared.shelf.Shelf.{Shelf}
+use Rattle.gen_core.specs.declared.clause_index.Entry.{Entry}
+use Rattle.gen_core.specs.declared.clause_index.ClauseIndex.{ClauseIndex}
 use Rattle.gen_core.specs.Index.{IsNext}
 use Rattle.gen_core.specs.Numbers.{IsNumbered, first_number, last_number}
 use Rattle.gen_core.specs.Visible.{is_visible, is_droppable, is_live, fresh, erased_by, behind, has_any, first_choice}
 use Rattle.gen_core.specs.Visible as list
-use Rattle.gen_core.specs.Shelf.{IsSound, IsNumberOf, Added, Erased, ErasesNone, ErasesAt, DropsOne, Drops, holds, dated_at, marked, is_erased_at, clauses_of}
+use Rattle.gen_core.specs.ClauseIndex.{IsSound, IsNumberOf, Added, Erased, ErasesNone, ErasesAt, DropsOne, Drops, holds, dated_at, marked, is_erased_at, clauses_of}
 use Rattle.gen_core.proofs.Entries.{ge-ltb, values, from_number, each_found, each_from, none_from, some_from, past, past_one, past_none, any_false, any_true, map_none, map_one, parted, insert_last, insert_first}
 use Rattle.gen_core.proofs.Searches.{holds-both}
 use Rattle.gen_core.proofs.Erasures.{not_droppable, erased_at, droppable_below}
@@ -73,7 +73,7 @@ module _ {C K : Type 0} where
       go None at n = absurd (false≢true n)
       go (Some x) at n = (x, at, n)
 
-  module _ (order : K → K → Ordering) (any : K → Bool) (key_of : C → K) (s : Shelf C K) (sound : IsSound order any key_of s) where
+  module _ (order : K → K → Ordering) (any : K → Bool) (key_of : C → K) (s : ClauseIndex C K) (sound : IsSound order any key_of s) where
     found : AllByRecursion (λ e. lookup (is_at (nat_cmp e.0)) s.clauses.entries ≡ Some e.1) s.clauses.entries
     found = each_found of s.clauses.entries sound.ordered
 

@@ -1,4 +1,4 @@
--- The places of the clauses of a shelf.
+-- The places of the clauses of an index.
 use Rattle.std.proofs.Common.{◌≡◌, ℕ, ◌-◌, ◌<◌, ◌≤◌, Bool, true, false, cond, not, ◌&&◌, ◌||◌, ◌==◌, List, [], ◌∷◌, map, length, Option, Some, None, IsSome, refl, sym, ap, ap₂, ◌∙◌, subst, arith, eq-eqb, inl, inr}
 use Rattle.std.specs.Prelude.{filter, nat_lt}
 use Rattle.std.specs.List.{AllByRecursion, list_any}
@@ -17,11 +17,11 @@ use Rattle.std.proofs.lemmas.Bool.{false≢true, cases_lt}
 use Rattle.std.proofs.lemmas.Map.Keys.{sorted_tail}
 use borrow.Author.Tests.{eqb-true, ltb-true, lt-ltb}
 use Rattle.gen_core.specs.declared.dated_clause.DatedClause.{DatedClause}
-use Rattle.gen_core.specs.declared.shelf.Entry.{Entry}
-use Rattle.gen_core.specs.declared.shelf.Shelf.{Shelf}
+use Rattle.gen_core.specs.declared.clause_index.Entry.{Entry}
+use Rattle.gen_core.specs.declared.clause_index.ClauseIndex.{ClauseIndex}
 use Rattle.gen_core.specs.Numbers.{IsNumbered, first_number, last_number, place_of}
 use Rattle.gen_core.specs.Visible.{is_droppable, is_droppable_at}
-use Rattle.gen_core.specs.Shelf.{IsSound, holds, pair_order, is_erased_at, clauses_of}
+use Rattle.gen_core.specs.ClauseIndex.{IsSound, holds, pair_order, is_erased_at, clauses_of}
 use Rattle.gen_core.proofs.Entries.{ge-ltb, after_head, each_found, each_from, any_true}
 use Rattle.gen_core.proofs.Erasures.{is_at-pair, erased_at, droppable_below}
 
@@ -144,7 +144,7 @@ at-most-one {C} {K} t r (e ∷ es) sorted h = go (at-most-one t r es (sorted_tai
     go next false i =
         subst (λ b. length (cond b (e.1.dated ∷ filter t (map (λ e. e.1.dated) es)) (filter t (map (λ e. e.1.dated) es))) ≤ 1) (sym i) next
 
-module _ {C K : Type 0} (order : K → K → Ordering) (any : K → Bool) (key_of : C → K) (s : Shelf C K) (sound : IsSound order any key_of s) where
+module _ {C K : Type 0} (order : K → K → Ordering) (any : K → Bool) (key_of : C → K) (s : ClauseIndex C K) (sound : IsSound order any key_of s) where
   found : AllByRecursion (λ e. lookup (is_at (nat_cmp e.0)) s.clauses.entries ≡ Some e.1) s.clauses.entries
   found = each_found (λ (e : Entry C K). e.dated) s.clauses.entries sound.ordered
 

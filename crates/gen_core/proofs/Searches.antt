@@ -7,9 +7,9 @@ use Rattle.std.specs.declared.cmp.Ordering.{Ordering}
 use Rattle.std.specs.BTreeMap.{BTreeMap}
 use Rattle.pl_model.specs.FirstArguments.{are_apart}
 use Rattle.gen_core.specs.declared.dated_clause.DatedClause.{DatedClause}
-use Rattle.gen_core.specs.declared.shelf.Entry.{Entry}
+use Rattle.gen_core.specs.declared.clause_index.Entry.{Entry}
 use Rattle.gen_core.specs.Index.{IsNext}
-use Rattle.gen_core.specs.Shelf.{holds, dated_at}
+use Rattle.gen_core.specs.ClauseIndex.{holds, dated_at}
 
 -- The same answer by a test that answers the same.
 pub IsNext-same : (P Q : ℕ → Bool) (from : ℕ) (r : Option ℕ) → ((q : ℕ) → P q ≡ Q q) → IsNext P from r → IsNext Q from r

@@ -2,4 +2,4 @@ pub mod Index
 pub mod Visible
 pub mod Hits
 pub mod Numbers
-pub mod Shelf
+pub mod ClauseIndex

@@ -4,10 +4,10 @@ ghost use Rattle.std.specs.List.{list_any};
 ghost use Rattle.gen_core.specs.Visible.{is_visible, is_droppable, is_live, fresh, erased_by, erased_all, live_size, is_droppable_at, counted, behind, is_choice, first_choice, DropsOne};
 ghost use Rattle.gen_core.specs.Hits.{hit_of};
 
+use crate::clause_index::ClauseIndex;
 use crate::dated_clause::DatedClause;
 use crate::hit::Hit;
 use crate::numbers::{first_number, last_number};
-use crate::shelf::Shelf;
 use pl_model::kept::Kept;
 use pl_term::Memory;
 use std::alloc::Global;
@@ -18,19 +18,19 @@ use std::marker::Model;
 /// no clause of another key.
 #[derive(Drop)]
 pub struct Dated<C: Kept> {
-    shelf: Shelf<C>,
+    index: ClauseIndex<C>,
 }
 
 impl<C: Kept> Model for Dated<C> {
     ghost use Rattle.std.specs.Prelude.{List};
     ghost use Rattle.gen_core.specs.declared.dated_clause.DatedClause.{DatedClause};
-    ghost use Rattle.gen_core.specs.Shelf.{IsSound, clauses_of};
+    ghost use Rattle.gen_core.specs.ClauseIndex.{IsSound, clauses_of};
 
     ghost Value = { List (DatedClause C) };
 
-    ghost view = { λ d. clauses_of d.shelf.clauses };
+    ghost view = { λ d. clauses_of d.index.clauses };
 
-    ghost invariant = { λ d. IsSound C.Key.Ord.cmp C.any C.key_of d.shelf };
+    ghost invariant = { λ d. IsSound C.Key.Ord.cmp C.any C.key_of d.index };
 }
 
 impl<C: Kept> Dated<C> {
@@ -39,7 +39,7 @@ impl<C: Kept> Dated<C> {
         ensures { result ≡ [] }
     {
         Dated {
-            shelf: Shelf::new(alloc),
+            index: ClauseIndex::new(alloc),
         }
     }
 
@@ -47,7 +47,7 @@ impl<C: Kept> Dated<C> {
     pub fn visible(&self, g: u64) -> bool
         ensures { result ≡ list_any (is_visible g) self.now }
     {
-        self.shelf.any_visible(g)
+        self.index.any_visible(g)
     }
 
     /// The first clause of a call at the generation `g` whose first argument has the key `first`, or the next one after
@@ -55,21 +55,21 @@ impl<C: Kept> Dated<C> {
     pub fn next_after(&self, place: Option<u64>, g: u64, first: &C::Key) -> Option<Hit<'_, C>>
         ensures { hit_of result ≡ first_choice (filter (is_choice C.Key.Ord.cmp C.any C.key_of g first.now) (behind place self.now)) }
     {
-        self.shelf.next_after(place, g, first)
+        self.index.next_after(place, g, first)
     }
 
     /// Whether one of the first `floor` updates erased a clause. It takes no memory.
     pub fn droppable(&self, floor: u64) -> bool
         ensures { result ≡ list_any (is_droppable floor) self.now }
     {
-        self.shelf.droppable(floor)
+        self.index.droppable(floor)
     }
 
     /// How many clauses are erased. It takes no memory.
     pub fn erased_len(&self) -> usize
         ensures { result ≡ sum_by counted self.now }
     {
-        self.shelf.erased_len()
+        self.index.erased_len()
     }
 
     /// Adds a clause as the first one (ISO 8.9.1), by the update at `place`, which is above the places of all earlier
@@ -80,7 +80,7 @@ impl<C: Kept> Dated<C> {
         ensures ok { OnOk result (self.new ≡ fresh place clause ∷ self.old) }
         ensures err { IfErr result (λ e. (e.0 ≡ clause) × (self.new ≡ self.old)) }
     {
-        self.shelf.add(clause, place, first_number(place))
+        self.index.add(clause, place, first_number(place))
     }
 
     /// Adds a clause as the last one (ISO 8.9.2), by the update at `place`, which is above the places of all earlier
@@ -91,7 +91,7 @@ impl<C: Kept> Dated<C> {
         ensures ok { OnOk result (self.new ≡ self.old ++ fresh place clause ∷ []) }
         ensures err { IfErr result (λ e. (e.0 ≡ clause) × (self.new ≡ self.old)) }
     {
-        self.shelf.add(clause, place, last_number(place))
+        self.index.add(clause, place, last_number(place))
     }
 
     /// Erases the clause that was added at the place `clause`, by the update at `place`, and says whether it was there and
@@ -101,7 +101,7 @@ impl<C: Kept> Dated<C> {
         ensures ok { OnOk result (self.new ≡ map (erased_by clause place) self.old) }
         ensures err { OnErr result (self.new ≡ self.old) }
     {
-        self.shelf.erase(clause, place)
+        self.index.erase(clause, place)
     }
 
     /// Erases all clauses that are not erased (ISO 8.9.4), by the update at `place`. The only error is out of memory;
@@ -110,7 +110,7 @@ impl<C: Kept> Dated<C> {
         ensures ok { OnOk result (self.new ≡ map (erased_all place) self.old) }
         ensures err { OnErr result (self.new ≡ self.old) }
     {
-        self.shelf.erase_all(place)
+        self.index.erase_all(place)
     }
 
     /// The cells of the clauses that are not erased, or 2^64 - 1 where they are more. It takes no memory. Its time grows
@@ -118,7 +118,7 @@ impl<C: Kept> Dated<C> {
     pub fn live_cells(&self) -> u64
         ensures { result ≡ min (sum_by (live_size C.size) self.now) (2 ^ 64 - 1) }
     {
-        self.shelf.live_cells()
+        self.index.live_cells()
     }
 
     /// The places of the additions of the clauses that one of the first `floor` updates erased. No two clauses have the
@@ -127,7 +127,7 @@ impl<C: Kept> Dated<C> {
         ensures places { IfOk result (λ ps. (p : ℕ) → list_any (λ q. q == p) ps.items ≡ list_any (is_droppable_at floor p) self.now) }
         ensures once { (p : ℕ) → length (filter (λ d. d.place == p) self.now) ≤ 1 }
     {
-        self.shelf.droppable_places(floor)
+        self.index.droppable_places(floor)
     }
 
     /// Takes out a clause that one of the first `floor` updates erased, the one that was erased first, if there is one,
@@ -136,6 +136,6 @@ impl<C: Kept> Dated<C> {
         ensures some { IfSome result (λ d. DropsOne floor d self.old self.new) }
         ensures none { IfNone result ((list_any (is_droppable floor) self.old ≡ false) × (self.new ≡ self.old)) }
     {
-        self.shelf.drop_erased(floor)
+        self.index.drop_erased(floor)
     }
 }

@@ -4,7 +4,7 @@ ghost use Rattle.std.specs.Prelude.{◌≡◌, ◌<◌, ◌≤◌, ◌+◌, ◌^
 use crate::fields::Fields;
 use anyhow::{Context, Result, bail, ensure};
 use clause_db::{Access, By, Db, DbFault, Origin, Proc};
-use clause_reclaim::Reclaimer;
+use gen_core::Reclaimer;
 use pl_model::kept::Kept;
 use pl_term::{Flat, Text};
 use std::alloc::Global;

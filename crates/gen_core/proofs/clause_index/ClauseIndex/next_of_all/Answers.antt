@@ -1,0 +1,34 @@
+use Rattle.std.proofs.Common.{ap, map, sym, ◌∙◌, true, false}
+use Rattle.std.specs.Prelude.{filter}
+use Rattle.std.specs.Option.{option_map, option_to_list}
+use Rattle.std.specs.Map.Iter.{deref_pair}
+use Rattle.std.proofs.lemmas.Map.Iter.{rest_more, rest_so_far, iter_end}
+use Rattle.gen_core.specs.Visible.{is_visible, first_choice}
+use Rattle.gen_core.proofs.Calls.{second_found, shown_is, read_more, read_all}
+use Rattle.gen_core.proofs.clause_index.ClauseIndex.next_of_all.Goals as goal
+
+pub returns-in-Some-found : goal.returns-in-Some-found
+returns-in-Some-found g c =
+    shown_is c.in-Some-found.dated.now c.hit.result.place c.hit.result.clause.now c.hit.result.more true c.hit.ensures
+    ∙ second_found (is_visible c.args.g) (map (λ e. e.1.now.dated) c.loop-entry.yielded) c.in-Some-found.dated.now c.in-Some.entry.now.dated (map (λ e. e.1.dated) c.next.new.self) _
+    (read_more deref_pair c.args.from c.args.self.now.clauses c.loop-entry.yielded c.into_iter-entry-iterator.result c.loop-entry.entry-iterator c.next.new.self (c.in-Some.field-0-0, c.in-Some.entry)
+    (c.into_iter-entry-iterator.ensures.into_iter_gives ∙ c.range-entry-items.ensures.between tt)
+    (rest_so_far deref_pair c.loop-entry.yielded c.into_iter-entry-iterator.result c.loop-entry.entry-iterator c.loop-entry.yielded_by)
+    (rest_more deref_pair c.loop-entry.entry-iterator c.next.new.self c.next.result (c.in-Some.field-0-0, c.in-Some.entry) c.in-Some.is c.next.ensures.steps))
+    (c.loop-entry.invariant ∙ ap (λ o. option_to_list (option_map (λ d. d.now) o)) c.in-Some-found.is)
+    (sym c.if-is_visible.ensures)
+
+pub returns-in-Some-found-2 : goal.returns-in-Some-found-2
+returns-in-Some-found-2 g c =
+    shown_is c.in-Some-found-2.dated.now c.hit-in-Some-found-2.result.place c.hit-in-Some-found-2.result.clause.now c.hit-in-Some-found-2.result.more false c.hit-in-Some-found-2.ensures
+    ∙ sym (ap (λ ds. first_choice (filter (is_visible c.args.g) ds))
+    (read_all deref_pair c.args.from c.args.self.now.clauses c.loop-entry.yielded
+    (iter_end deref_pair _ c.loop-entry.yielded c.into_iter-entry-iterator.result c.loop-entry.entry-iterator c.next.new.self c.next.result (c.into_iter-entry-iterator.ensures.into_iter_gives ∙ c.range-entry-items.ensures.between tt) c.loop-entry.yielded_by c.in-None.is c.next.ensures.steps).0)
+    ∙ ap first_choice (c.loop-entry.invariant ∙ ap (λ o. option_to_list (option_map (λ d. d.now) o)) c.in-Some-found-2.is))
+
+pub returns-in-None-found : goal.returns-in-None-found
+returns-in-None-found g c =
+    sym (ap (λ ds. first_choice (filter (is_visible c.args.g) ds))
+    (read_all deref_pair c.args.from c.args.self.now.clauses c.loop-entry.yielded
+    (iter_end deref_pair _ c.loop-entry.yielded c.into_iter-entry-iterator.result c.loop-entry.entry-iterator c.next.new.self c.next.result (c.into_iter-entry-iterator.ensures.into_iter_gives ∙ c.range-entry-items.ensures.between tt) c.loop-entry.yielded_by c.in-None.is c.next.ensures.steps).0)
+    ∙ ap first_choice (c.loop-entry.invariant ∙ ap (λ o. option_to_list (option_map (λ d. d.now) o)) c.in-None-found.is))
