@@ -9,8 +9,8 @@ use Rattle.atom_api.specs.Names.{Names}
 use Rattle.world_api.specs.Told.{Told, behind, clause_list, has_place}
 use Rattle.world_api.specs.Answers.{seen_as}
 use Rattle.iso_search.specs.Reading.{View}
-use Rattle.iso_calls.proofs.Later.{list_later}
-use Rattle.iso_engine.specs.Later.{IsLater, view_of}
+use Rattle.iso_engine.proofs.LaterLists.{list_later}
+use Rattle.iso_engine.specs.Views.{IsLater, view_of}
 use Rattle.iso_engine.specs.Ready.{IsAlike, MayGoOn}
 
 pub alike_itself : (m : Names) (t : Told) → IsAlike m t (view_of m t)

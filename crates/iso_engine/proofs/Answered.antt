@@ -16,7 +16,7 @@ use Rattle.iso_search.specs.Reading.{IsView, reads}
 use Rattle.iso_search.specs.Searching.{node_of}
 use Rattle.iso_engine.specs.declared.doing.Doing.TheVariants.{Running}
 use Rattle.iso_engine.specs.declared.engine.Engine.{Engine}
-use Rattle.iso_engine.specs.Later.{view_of}
+use Rattle.iso_engine.specs.Views.{view_of}
 use Rattle.iso_engine.specs.Ready.{IsStable}
 use Rattle.iso_engine.specs.Slices.{IsAnswerHeld}
 use Rattle.iso_engine.specs.Standing.{doing_of}

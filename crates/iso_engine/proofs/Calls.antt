@@ -34,17 +34,17 @@ use Rattle.iso_search.specs.Reading.{IsView, View, reads}
 use Rattle.iso_search.specs.Searching.{node_of, state_of}
 use Rattle.iso_search.specs.Spelling.{spelled, text_of}
 use Rattle.iso_search.proofs.After.{keeps_alike}
-use Rattle.iso_calls.specs.Called.{IsRefused, IsRun, IsSpent, counted}
-use Rattle.iso_calls.specs.Lists.{IsLeft, IsListed, IsOpen, IsOpenBehind}
-use Rattle.iso_calls.specs.Parts.{IsOverAtoms}
-use Rattle.iso_calls.specs.Views.{IsViewFrom}
-use Rattle.iso_calls.proofs.Readings.{read_over}
+use Rattle.iso_engine.specs.Called.{IsRefused, IsRun, IsSpent, counted}
+use Rattle.iso_engine.specs.Lists.{IsLeft, IsListed, IsOpen, IsOpenBehind}
+use Rattle.iso_engine.specs.Parts.{IsOverAtoms}
+use Rattle.iso_engine.specs.Views.{IsViewFrom}
+use Rattle.iso_engine.proofs.Readings.{read_over}
 use Rattle.iso_engine.specs.declared.doing.Doing.{Doing}
 use Rattle.iso_engine.specs.declared.doing.Doing.TheVariants.{Running, Throwing}
 use Rattle.iso_engine.specs.declared.engine.Engine.{Engine}
 use Rattle.iso_engine.specs.Calling.{IsCallAt, IsErrorBall}
 use Rattle.iso_engine.specs.Following.{IsInteger}
-use Rattle.iso_engine.specs.Later.{view_of}
+use Rattle.iso_engine.specs.Views.{view_of}
 use Rattle.iso_engine.specs.Missing.{IsCall, is_integer}
 use Rattle.iso_engine.specs.Ready.{IsAlike, IsReady, Steps}
 use Rattle.iso_engine.specs.Standing.{doing_of, state_at}

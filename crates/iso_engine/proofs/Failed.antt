@@ -18,7 +18,7 @@ use Rattle.iso_engine.specs.declared.engine.Engine.{Engine}
 use Rattle.iso_engine.specs.declared.slices.Slice.{Slice}
 use Rattle.iso_engine.specs.declared.slices.Slice.TheVariants.{Yield, Solution, NeedsAtoms, Retry, Worn, Waits, Ended, Missing, Memory}
 use Rattle.iso_engine.specs.Advancing.{Advances}
-use Rattle.iso_engine.specs.Later.{view_of}
+use Rattle.iso_engine.specs.Views.{view_of}
 use Rattle.iso_engine.specs.Slices.{IsStepped}
 use Rattle.iso_engine.specs.Spending.{IsSpent}
 use Rattle.iso_engine.specs.Failing.{FailsTo, StandsForBack}
@@ -66,7 +66,7 @@ module _ (m n : Names) (t u : Told) (e : Engine) (x : Search) (f : Engine) (b : 
   taken_off = record e { search = x }
 
   abbrev IsStep : Option Slice → Type 0
-  IsStep o = IsStepped m t e o n u f [] × IsReady n u f × IsSpent e.search.inferences f.search.inferences × (f.given ≡ e.given)
+  IsStep o = IsStepped m t e o n u f [] × IsReady n u f × IsSpent e.search.inferences f.search.inferences × (f.solutions_found ≡ e.solutions_found)
 
   budgets_same : x.budgets ≡ e.search.budgets
   budgets_same = ap (λ (s : Search). s.budgets) kept
@@ -77,30 +77,30 @@ module _ (m n : Names) (t u : Told) (e : Engine) (x : Search) (f : Engine) (b : 
   -- The next one was tried.
   tried_step : IsTried t taken_off b n u f → GoesBack → IsStep None
   tried_step tried step =
-      let given : f.given ≡ e.given = ap (λ (y : Engine). y.given) tried.rest
-      in let steps : StepsFrom n u e.wanted e.given e.search e.doing f.search f.doing =
-      subst (λ (y : Doing). StepsFrom n u e.wanted e.given e.search y f.search f.doing) (sym fails)
+      let given : f.solutions_found ≡ e.solutions_found = ap (λ (y : Engine). y.solutions_found) tried.rest
+      in let steps : StepsFrom n u e.solution_limit e.solutions_found e.search e.doing f.search f.doing =
+      subst (λ (y : Doing). StepsFrom n u e.solution_limit e.solutions_found e.search y f.search f.doing) (sym fails)
       (λ r other alike wants gave.
       let s : Setting = record r { doing = failing }
       in fails_to s e.search (back_result s x b) refl (step s refl) ∙ ap goes (tried.stands s other alike))
       in let moved = seen_moved m n t u e f holds view ready tried.before tried.follows tried.told steps (tried.budgets ∙ budgets_same)
-      (ap (λ (y : Engine). y.wanted) tried.rest) given whole
+      (ap (λ (y : Engine). y.solution_limit) tried.rest) given whole
       in (moved.0, moved.1, moved.2, given)
 
   -- The choice point is there again.
-  back_again : IsPutBack t taken_off b u f → IsTaken e.search x b → Advances 0 m t e n u f [] × IsReady n u f × IsSpent e.search.inferences f.search.inferences × (f.given ≡ e.given)
+  back_again : IsPutBack t taken_off b u f → IsTaken e.search x b → Advances 0 m t e n u f [] × IsReady n u f × IsSpent e.search.inferences f.search.inferences × (f.solutions_found ≡ e.solutions_found)
   back_again put taken =
       let choices : (v : View) → choices_of v f.search ≡ choices_of v e.search = choices_again e.search x f.search b can taken put.taken
       in let after = ap (λ (y : Search). y.next) put.search ∙ ap (λ (y : Search). y.next) kept
       in let count = ap (λ (y : Search). y.inferences) put.search ∙ ap (λ (y : Search). y.inferences) kept
       in let budgets = ap (λ (y : Search). y.budgets) put.search ∙ budgets_same
       in let doing : f.doing ≡ Failing = ap (λ (y : Engine). y.doing) put.rest ∙ fails
-      in let given : f.given ≡ e.given = ap (λ (y : Engine). y.given) put.rest
+      in let given : f.solutions_found ≡ e.solutions_found = ap (λ (y : Engine). y.solutions_found) put.rest
       in let same : IsView (view_of n t) = subst (λ (w : Told). IsView (view_of n w)) put.told view
       in let here : IsReady n t e = ready_later m n t t e same (held_later m n t holds) (visits_same t t refl) ready
       in let walk : Advances 0 m t e n t f [] =
       advance_then 0 0 m n n t t t e e f [] [] (advance_same m n t t e ready.stable same refl holds)
-      (restored_advances e f choices after count fails doing n t budgets (ap (λ (y : Engine). y.wanted) put.rest) given)
+      (restored_advances e f choices after count fails doing n t budgets (ap (λ (y : Engine). y.solution_limit) put.rest) given)
       in let ready_now : IsReady n t f = restored_ready e f choices after count fails doing n t whole here
       in (
         subst (λ (w : Told). Advances 0 m t e n w f []) (sym put.told) walk,

@@ -14,7 +14,7 @@ use Rattle.iso_search.specs.Reading.{IsView, View}
 use Rattle.iso_search.specs.Searching.{IsWhole}
 use Rattle.iso_search.specs.Spelling.{or_no_text, spelled, spelled_all, text_of}
 use Rattle.iso_engine.specs.declared.engine.Engine.{Engine}
-use Rattle.iso_engine.specs.Later.{view_of}
+use Rattle.iso_engine.specs.Views.{view_of}
 use Rattle.iso_engine.specs.Ready.{IsReady}
 use Rattle.iso_engine.specs.Standing.{limits_of, state_now}
 

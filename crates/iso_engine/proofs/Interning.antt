@@ -20,7 +20,7 @@ use Rattle.iso_search.specs.Frames.{tasks}
 use Rattle.iso_search.specs.Lines.{lines_of}
 use Rattle.iso_search.specs.Reading.{IsView, View, reads}
 use Rattle.iso_search.specs.Searching.{choices_of, node_of}
-use Rattle.iso_calls.specs.Asked.{IsCallAsked, IsRetryAsked}
+use Rattle.iso_engine.specs.ClausesAsked.{IsCallAsked, IsRetryAsked}
 use Rattle.iso_engine.specs.declared.doing.Doing.{Doing}
 use Rattle.iso_engine.specs.declared.doing.Doing.TheVariants.{Failing, Running}
 use Rattle.iso_engine.specs.declared.engine.Engine.{Engine}
@@ -29,7 +29,7 @@ use Rattle.iso_engine.specs.declared.slices.Slice.TheVariants.{Yield, Solution, 
 use Rattle.iso_engine.specs.Advancing.{Advances}
 use Rattle.iso_engine.specs.Asked.{AsksFor, AsksInSlice, AsksOnWay, ComesToAsk}
 use Rattle.iso_engine.specs.Calling.{IsCallAt}
-use Rattle.iso_engine.specs.Later.{view_of}
+use Rattle.iso_engine.specs.Views.{view_of}
 use Rattle.iso_engine.specs.Lines.{IsLineAsked}
 use Rattle.iso_engine.specs.Rows.{IsRowText}
 use Rattle.iso_engine.specs.Slices.{IsStepped}
@@ -60,11 +60,11 @@ call_asks_for m t e at p list cut rest running_is first le call view old new =
         follows =
             λ stays written count.
             answer_to m m t t e e at p list cut rest running_is first le call
-            (record { view = view_of m t; solutions = e.wanted; stays = stays; doing = failing; output = written });
+            (record { view = view_of m t; solutions = e.solution_limit; stays = stays; doing = failing; output = written });
         asks_is =
             λ stays written count.
             step_asks m m t t e e at p list cut rest running_is first le call
-            (record { view = view_of m t; solutions = e.wanted; stays = stays; doing = failing; output = written })
+            (record { view = view_of m t; solutions = e.solution_limit; stays = stays; doing = failing; output = written })
             view
             (lt-ltb e.search.inferences e.search.budgets.inferences a.count);
       };

@@ -3,7 +3,7 @@ use Rattle.std.proofs.Common.{[], ◌++◌, refl, sym, ap, ◌∙◌, append-nil
 use Rattle.world_api.specs.Texts.{Holds}
 use Rattle.atom_api.specs.Names.{Names}
 use Rattle.world_api.specs.Told.{Told}
-use Rattle.iso_engine.specs.Later.{IsLater}
+use Rattle.iso_engine.specs.Views.{IsLater}
 
 pub later_stays : (m : Names) (t : Told) → IsLater m t m t
 later_stays m t = record { holds = λ a x h. h; later = []; grown = sym (append-nil t.history); engine = refl; goals = refl }

@@ -9,15 +9,15 @@ use Rattle.pl_model.specs.Control.{step}
 use Rattle.atom_api.specs.Names.{Names}
 use Rattle.world_api.specs.Texts.{Holds}
 use Rattle.world_api.specs.Told.{Told, Follows}
-use Rattle.world_api.proofs.CourseLaws.{course_goes, course_stays}
+use Rattle.world_api.proofs.SearchStepLaws.{steps_go, steps_stay}
 use Rattle.iso_search.specs.Outcomes.{Setting, limits_in}
 use Rattle.iso_search.specs.Reading.{IsView, View}
 use Rattle.iso_search.specs.Searching.{IsWhole}
-use Rattle.iso_calls.specs.Called.{IsAsked}
+use Rattle.iso_engine.specs.Called.{IsAsked}
 use Rattle.iso_engine.specs.declared.engine.Engine.{Engine}
 use Rattle.iso_engine.specs.Advancing.{Advances}
 use Rattle.iso_engine.specs.Asking.{IsAnswered}
-use Rattle.iso_engine.specs.Later.{IsLater, view_of}
+use Rattle.iso_engine.specs.Views.{IsLater, view_of}
 use Rattle.iso_engine.specs.Ready.{IsAlike, IsReady, IsStable}
 use Rattle.iso_engine.specs.Spending.{IsSpent}
 use Rattle.iso_engine.specs.Standing.{limits_of, state_at, state_now}
@@ -32,17 +32,17 @@ abbrev pub IsMovedBy : Names → Told → Engine → Names → Told → Engine �
 IsMovedBy m t e n u f more = Advances 1 m t e n u f more × IsReady n u f × IsSpent e.search.inferences f.search.inferences
 
 module _ (m n : Names) (t u : Told) (e f : Engine) (more : List Output) (none : solution_count more ≡ 0) (holds : Holds m n) (view : IsView (view_of n u))
-    (ready : IsReady m t e) (budgets : f.search.budgets ≡ e.search.budgets) (wanted : f.wanted ≡ e.wanted) (given : f.given ≡ e.given) (whole : IsWhole f.search) where
+    (ready : IsReady m t e) (budgets : f.search.budgets ≡ e.search.budgets) (wanted : f.solution_limit ≡ e.solution_limit) (given : f.solutions_found ≡ e.solutions_found) (whole : IsWhole f.search) where
   abbrev set : View → Option Chars → List Output → Setting
-  set v stays out = record { view = v; solutions = e.wanted; stays = stays; doing = failing; output = out }
+  set v stays out = record { view = v; solutions = e.solution_limit; stays = stays; doing = failing; output = out }
 
-  gave_is : f.given ≡ e.given + solution_count more
+  gave_is : f.solutions_found ≡ e.solutions_found + solution_count more
   gave_is = omega (arith, given, none)
 
   -- By each view by which the engine may be read from then on, a step leads to the other state.
   abbrev pub StepsBy : Type 0
   StepsBy =
-      (r : Setting) → IsView r.view → IsAlike n u r.view → r.solutions ≡ e.wanted → solution_count r.output ≡ e.given
+      (r : Setting) → IsView r.view → IsAlike n u r.view → r.solutions ≡ e.solution_limit → solution_count r.output ≡ e.solutions_found
       → step (limits_in r e.search) (state_at r.view e.search e.doing r.output) ≡ goes (state_at r.view f.search f.doing (r.output ++ more))
 
   -- A step of the search's own.
@@ -56,11 +56,11 @@ module _ (m n : Names) (t u : Told) (e f : Engine) (more : List Output) (none : 
     advanced : Advances 1 n u e n u f more
     advanced =
         record {
-          course =
+          by_steps =
               λ stays written count.
               let l = limits_of stays e
               in let s = state_now (view_of n u) e written
-              in course_goes l s s (state_now (view_of n u) f (written ++ more)) u u 0 (course_stays l s u)
+              in steps_go l s s (state_now (view_of n u) f (written ++ more)) u u 0 (steps_stay l s u)
               (steps (set (view_of n u) stays written) view (alike_itself n u) refl count);
           limits = limits_same e f budgets wanted;
           given = gave_is;
@@ -69,7 +69,7 @@ module _ (m n : Names) (t u : Told) (e f : Engine) (more : List Output) (none : 
 
     stepped_alike : IsStable n u f.search f.doing
     stepped_alike v other alike =
-        let o = some_output e.given
+        let o = some_output e.solutions_found
         in let l = limits_in (set v None o.0) e.search
         in let same : state_at v f.search f.doing (o.0 ++ more) ≡ state_at (view_of n u) f.search f.doing (o.0 ++ more) =
         ap (or_same (state_at (view_of n u) f.search f.doing (o.0 ++ more)))
@@ -80,7 +80,7 @@ module _ (m n : Names) (t u : Told) (e f : Engine) (more : List Output) (none : 
 
     stepped_spends : IsSpent e.search.inferences f.search.inferences
     stepped_spends =
-        let o = some_output e.given
+        let o = some_output e.solutions_found
         in let r = set (view_of n u) None o.0
         in subst (Spends e.search.inferences) (steps r view (alike_itself n u) refl o.1) (step_spends (limits_in r e.search) (state_at (view_of n u) e.search e.doing o.0))
 
@@ -94,7 +94,7 @@ module _ (m n : Names) (t u : Told) (e f : Engine) (more : List Output) (none : 
   -- The engine asks, and stands where the reply leads to, by each view by which it may be read from then on.
   abbrev pub AsksBy : Request → Reply → Type 0
   AsksBy q reply =
-      (r : Setting) → IsView r.view → IsAlike n u r.view → r.solutions ≡ e.wanted → solution_count r.output ≡ e.given
+      (r : Setting) → IsView r.view → IsAlike n u r.view → r.solutions ≡ e.solution_limit → solution_count r.output ≡ e.solutions_found
       → (next : Reply → State)
       × (step (limits_in r e.search) (state_at r.view e.search e.doing r.output) ≡ asks q next)
       × (next reply ≡ state_at r.view f.search f.doing (r.output ++ more))
@@ -129,7 +129,7 @@ module _ (m n : Names) (t u : Told) (e f : Engine) (more : List Output) (none : 
           stands = λ stays written count. (asks_by (set (view_of n u) stays written) view (alike_itself n u) refl count).2;
         }
 
-    led_alike : (o : List Output) → solution_count o ≡ e.given → (v : View) → IsView v → IsAlike n u v
+    led_alike : (o : List Output) → solution_count o ≡ e.solutions_found → (v : View) → IsView v → IsAlike n u v
         → state_at v f.search f.doing (o ++ more) ≡ state_at (view_of n u) f.search f.doing (o ++ more)
     led_alike o count v other alike =
         let l = limits_in (set v None o) e.search
@@ -141,13 +141,13 @@ module _ (m n : Names) (t u : Told) (e f : Engine) (more : List Output) (none : 
 
     asked_alike : IsStable n u f.search f.doing
     asked_alike v other alike =
-        let o = some_output e.given
+        let o = some_output e.solutions_found
         in let same = led_alike o.0 o.1 v other alike
         in (ap (λ (s : State). s.choices) same, ap (λ (s : State). s.doing) same)
 
     asked_spends : IsSpent e.search.inferences f.search.inferences
     asked_spends =
-        let o = some_output e.given
+        let o = some_output e.solutions_found
         in let r = set (view_of n u) None o.0
         in let at = asks_by r view (alike_itself n u) refl o.1
         in let most : Spends e.search.inferences (asks q at.0) =

@@ -19,12 +19,12 @@ use Rattle.iso_search.specs.Outcomes.{Setting, doing_by}
 use Rattle.iso_search.specs.Reading.{IsView}
 use Rattle.iso_search.specs.Searching.{IsWhole, node_of}
 use Rattle.iso_search.specs.Spelling.{text_of}
-use Rattle.iso_calls.specs.Called.{IsRefused, IsRun, IsSpent}
-use Rattle.iso_calls.specs.Parts.{IsOverAtoms}
+use Rattle.iso_engine.specs.Called.{IsRefused, IsRun, IsSpent}
+use Rattle.iso_engine.specs.Parts.{IsOverAtoms}
 use Rattle.iso_engine.specs.declared.doing.Doing.TheVariants.{Running, Throwing}
 use Rattle.iso_engine.specs.declared.engine.Engine.{Engine}
 use Rattle.iso_engine.specs.Calling.{IsCallAt, IsErrorBall}
-use Rattle.iso_engine.specs.Later.{view_of}
+use Rattle.iso_engine.specs.Views.{view_of}
 use Rattle.iso_engine.specs.Ready.{IsReady}
 use Rattle.iso_engine.specs.Standing.{doing_of}
 use Rattle.iso_engine.proofs.Calls.{now_listed, refused_asks, refused_now, refused_served, request, run_asks, run_served, spent_steps}
@@ -35,7 +35,7 @@ use Rattle.std.proofs.Common.{[], append-nil}
 module _ (m n : Names) (t u : Told) (e f : Engine) (at : Place) (p : Procedure) (list cut rest : ℕ) (running_is : e.doing ≡ Running list)
     (first : tasks e.search.frames.items list ≡ Goal at cut ∷ tasks e.search.frames.items rest) (le : rest ≤ length e.search.frames.items)
     (call : IsCallAt e.search.store at p) (holds : Holds m n) (view : IsView (view_of n u)) (ready : IsReady m t e)
-    (wanted : f.wanted ≡ e.wanted) (given : f.given ≡ e.given) (whole : IsWhole f.search) where
+    (wanted : f.solution_limit ≡ e.solution_limit) (given : f.solutions_found ≡ e.solutions_found) (whole : IsWhole f.search) where
   -- The doing that follows an outcome of the predicate.
   abbrev IsFollowed : Outcome → Type 0
   IsFollowed o =
@@ -68,6 +68,6 @@ module _ (m n : Names) (t u : Told) (e f : Engine) (at : Place) (p : Procedure) 
   pub spent_moved : u ≡ t → f.search ≡ e.search → IsSpent e.search at rest → IsFollowed (Raise Inferences) → IsMoved m n t u e f holds view ready
   spent_moved told same spent follows =
       seen_moved m n t u e f holds view ready t.history (record { later = []; grown = sym (append-nil t.history); others = refl }) told
-      (steps_from n u e.wanted e.given e.search e.doing f.search f.doing
-      (spent_steps m n t u e f at p list cut rest running_is first le call e.wanted e.given same spent follows))
+      (steps_from n u e.solution_limit e.solutions_found e.search e.doing f.search f.doing
+      (spent_steps m n t u e f at p list cut rest running_is first le call e.solution_limit e.solutions_found same spent follows))
       (ap (λ (s : Search). s.budgets) same) wanted given whole

@@ -14,11 +14,11 @@ use Rattle.iso_search.specs.Outcomes.{Setting, limits_in}
 use Rattle.iso_search.specs.Reading.{IsView, View}
 use Rattle.iso_search.specs.Searching.{IsWhole}
 use Rattle.iso_search.specs.declared.search.Budgets.{Budgets}
-use Rattle.iso_calls.specs.Called.{IsAsked}
+use Rattle.iso_engine.specs.Called.{IsAsked}
 use Rattle.iso_engine.specs.declared.engine.Engine.{Engine}
 use Rattle.iso_engine.specs.Advancing.{Advances}
 use Rattle.iso_engine.specs.Asking.{IsAnswered}
-use Rattle.iso_engine.specs.Later.{IsLater, view_of}
+use Rattle.iso_engine.specs.Views.{IsLater, view_of}
 use Rattle.iso_engine.specs.Ready.{IsAlike, IsReady, IsStable, StepsFrom}
 use Rattle.iso_engine.specs.Spending.{IsSpent}
 use Rattle.iso_engine.specs.Standing.{limits_of, state_at, state_now}
@@ -29,7 +29,7 @@ use Rattle.iso_engine.proofs.Stability.{advance_asks, advance_from, advance_seen
 pub asks_same : (q r : Request) (f g : Reply → State) → asks q f ≡ asks r g → f ≡ g
 asks_same q r f g e = cc
 
-pub limits_same : (e f : Engine) → f.search.budgets ≡ e.search.budgets → f.wanted ≡ e.wanted → (stays : Option Chars) → limits_of stays f ≡ limits_of stays e
+pub limits_same : (e f : Engine) → f.search.budgets ≡ e.search.budgets → f.solution_limit ≡ e.solution_limit → (stays : Option Chars) → limits_of stays f ≡ limits_of stays e
 limits_same e f budgets wanted stays =
     ap₂ (λ (b : Budgets) w. let l : Limits = record { inferences = b.inferences; cells = b.cells; choices = b.choices; solutions = w; stays = stays } in l) budgets wanted
 
@@ -53,18 +53,18 @@ module _ (m n : Names) (t u : Told) (e f : Engine) (holds : Holds m n) (view : I
     seen_ready = ready_later m n t u e view seen_later (visits_same t u (ap (λ (x : Told). x.gens) told)) ready
 
     -- A step was made after them.
-    pub seen_moved : StepsFrom n u e.wanted e.given e.search e.doing f.search f.doing → f.search.budgets ≡ e.search.budgets → f.wanted ≡ e.wanted
-        → f.given ≡ e.given → IsWhole f.search → IsMoved
+    pub seen_moved : StepsFrom n u e.solution_limit e.solutions_found e.search e.doing f.search f.doing → f.search.budgets ≡ e.search.budgets → f.solution_limit ≡ e.solution_limit
+        → f.solutions_found ≡ e.solutions_found → IsWhole f.search → IsMoved
     seen_moved steps budgets wanted given whole = (
       advance_then 0 1 m n n t u u e e f [] [] (advance_seen m n t u e before ready.stable view follows told holds) (advance_from n u e f steps budgets wanted given view),
       ready_from n u e f steps whole view seen_ready,
-      spent_from n u e.wanted e.given e.search e.doing f.search f.doing steps view,
+      spent_from n u e.solution_limit e.solutions_found e.search e.doing f.search f.doing steps view,
     )
 
   -- The engine asks, and stands where the reply leads to, by each view by which it may be read from then on.
   abbrev pub AsksFrom : Request → Reply → Type 0
   AsksFrom q reply =
-      (r : Setting) → IsView r.view → IsAlike n u r.view → r.solutions ≡ e.wanted → solution_count r.output ≡ e.given
+      (r : Setting) → IsView r.view → IsAlike n u r.view → r.solutions ≡ e.solution_limit → solution_count r.output ≡ e.solutions_found
       → (next : Reply → State)
       × (step (limits_in r e.search) (state_at r.view e.search e.doing r.output) ≡ asks q next)
       × (next reply ≡ state_at r.view f.search f.doing r.output)
@@ -88,7 +88,7 @@ module _ (m n : Names) (t u : Told) (e f : Engine) (holds : Holds m n) (view : I
 
     module _ (q : Request) (reply : Reply) (served : served_now t.engine t.goals before q ≡ answers reply None) (asks_from : AsksFrom q reply) where
       abbrev set : View → Option Chars → List Output → Setting
-      set v stays out = record { view = v; solutions = e.wanted; stays = stays; doing = failing; output = out }
+      set v stays out = record { view = v; solutions = e.solution_limit; stays = stays; doing = failing; output = out }
 
       answered : IsAnswered m t e n u f []
       answered =
@@ -114,7 +114,7 @@ module _ (m n : Names) (t u : Told) (e f : Engine) (holds : Holds m n) (view : I
                 (asks_from (set (view_of n u) stays written) view (alike_itself n u) refl count).2 ∙ ap (state_now (view_of n u) f) (sym (append-nil written));
           }
 
-      led_alike : (o : List Output) → solution_count o ≡ e.given → (v : View) → IsView v → IsAlike n u v
+      led_alike : (o : List Output) → solution_count o ≡ e.solutions_found → (v : View) → IsView v → IsAlike n u v
           → state_at v f.search f.doing o ≡ state_at (view_of n u) f.search f.doing o
       led_alike o count v other alike =
           let l = limits_in (set v None o) e.search
@@ -127,13 +127,13 @@ module _ (m n : Names) (t u : Told) (e f : Engine) (holds : Holds m n) (view : I
 
       stable : IsStable n u f.search f.doing
       stable v other alike =
-          let o = some_output e.given
+          let o = some_output e.solutions_found
           in let same = led_alike o.0 o.1 v other alike
           in (ap (λ (s : State). s.choices) same, ap (λ (s : State). s.doing) same)
 
       spent : IsSpent e.search.inferences f.search.inferences
       spent =
-          let o = some_output e.given
+          let o = some_output e.solutions_found
           in let r = set (view_of n u) None o.0
           in let there = asks_from r view (alike_itself n u) refl o.1
           in let most : Spends e.search.inferences (asks q there.0) =
@@ -141,9 +141,9 @@ module _ (m n : Names) (t u : Told) (e f : Engine) (holds : Holds m n) (view : I
           in subst (λ (s : State). IsSpent e.search.inferences s.inferences) there.2 (most reply)
 
       -- The request was answered.
-      pub asked_moved : f.search.budgets ≡ e.search.budgets → f.wanted ≡ e.wanted → f.given ≡ e.given → IsWhole f.search → IsMoved
+      pub asked_moved : f.search.budgets ≡ e.search.budgets → f.solution_limit ≡ e.solution_limit → f.solutions_found ≡ e.solutions_found → IsWhole f.search → IsMoved
       asked_moved budgets wanted given whole = (
-        advance_asks m n t u e f [] answered holds (limits_same e f budgets wanted) (given ∙ (let k : e.given ≡ e.given + 0 = omega arith in k)),
+        advance_asks m n t u e f [] answered holds (limits_same e f budgets wanted) (given ∙ (let k : e.solutions_found ≡ e.solutions_found + 0 = omega arith in k)),
         record { whole = whole; stable = stable },
         spent,
       )

@@ -23,10 +23,10 @@ use Rattle.iso_search.specs.Choices.{answers_from}
 use Rattle.iso_search.specs.Reading.{IsView, View, reads}
 use Rattle.iso_search.specs.Searching.{choices_of, node_of}
 use Rattle.iso_search.specs.Spelling.{spelled, text_of}
-use Rattle.iso_output.proofs.Outputs.{atoms_same}
+use Rattle.iso_engine.proofs.Outputs.{atoms_same}
 use Rattle.iso_engine.specs.declared.doing.Doing.{Doing}
 use Rattle.iso_engine.specs.Following.{IsInteger}
-use Rattle.iso_engine.specs.Later.{view_of}
+use Rattle.iso_engine.specs.Views.{view_of}
 use Rattle.iso_engine.specs.Missing.{is_integer}
 use Rattle.iso_engine.specs.Ready.{IsAlike, IsStable, MayGoOn}
 use Rattle.iso_search.specs.declared.frames.Task.TheVariants.{Goal}

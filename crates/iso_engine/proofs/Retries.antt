@@ -18,11 +18,11 @@ use Rattle.iso_search.specs.Reading.{IsView, reads}
 use Rattle.iso_search.specs.declared.search.Search.{Search}
 use Rattle.iso_search.specs.Searching.{node_of, state_of}
 use Rattle.iso_search.specs.Spelling.{text_of}
-use Rattle.iso_calls.specs.Lists.{IsListed, IsOpen}
-use Rattle.iso_calls.specs.Retried.{IsNextRun, IsPutBack as IsPutBackAfter}
+use Rattle.iso_engine.specs.Lists.{IsListed, IsOpen}
+use Rattle.iso_engine.specs.Retried.{IsNextRun, IsPutBack as IsPutBackAfter}
 use Rattle.iso_engine.specs.declared.engine.Engine.{Engine}
 use Rattle.iso_engine.specs.Following.{HasProcedure, IsInteger}
-use Rattle.iso_engine.specs.Later.{IsLater, view_of}
+use Rattle.iso_engine.specs.Views.{IsLater, view_of}
 use Rattle.iso_engine.specs.Ready.{MayGoOn}
 use Rattle.iso_engine.specs.Retrying.{IsPutBack, IsTried}
 use Rattle.iso_engine.specs.Standing.{doing_of}

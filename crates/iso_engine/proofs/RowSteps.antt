@@ -26,7 +26,7 @@ use Rattle.builtin_rows.specs.declared.row.Row.TheVariants.{Fails, Holds as Hold
 use Rattle.builtin_rows.specs.Given.{given_texts}
 use Rattle.builtin_rows.specs.Rows.{row_refusals}
 use Rattle.builtin_dispatch.specs.Dispatching.{AreHeld, HasLines, IsRowOf, given_by, terms_of}
-use Rattle.iso_rows.specs.Leading.{IsOfTable, IsRowMade, Origin}
+use Rattle.iso_engine.specs.Leading.{IsOfTable, IsRowMade, Origin}
 use Rattle.iso_search.specs.declared.search.Search.{Search}
 use Rattle.iso_search.specs.declared.outcome.Fault.TheVariants.{Inferences}
 use Rattle.iso_search.specs.declared.outcome.Outcome.{Outcome}
@@ -41,7 +41,7 @@ use Rattle.iso_search.proofs.After.{after_behind}
 use Rattle.iso_search.proofs.Constructing.{count-trees, how_many}
 use Rattle.iso_search.proofs.Naming.{text_is}
 use Rattle.iso_search.proofs.Spelt.{count-spelled}
-use Rattle.iso_output.proofs.Steps.{read_held}
+use Rattle.iso_engine.proofs.OutputSteps.{read_held}
 use Rattle.iso_engine.specs.declared.builtin.RowGoal.{RowGoal}
 use Rattle.iso_engine.specs.Builtins.{IsRowGoal}
 use Rattle.iso_engine.specs.declared.slices.Slice.{Slice}

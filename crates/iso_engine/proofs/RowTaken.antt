@@ -28,7 +28,7 @@ use Rattle.iso_search.specs.Reading.{IsView, View, reads}
 use Rattle.iso_search.specs.Searching.{node_of}
 use Rattle.iso_search.specs.Spelling.{spelled, text_of}
 use Rattle.iso_search.proofs.Spelt.{count-spelled}
-use Rattle.iso_output.proofs.Outputs.{atoms_same}
+use Rattle.iso_engine.proofs.Outputs.{atoms_same}
 use Rattle.iso_engine.specs.declared.builtin.RowGoal.{RowGoal}
 use Rattle.iso_engine.specs.declared.doing.Doing.TheVariants.{Running}
 use Rattle.iso_engine.specs.declared.engine.Engine.{Engine}
@@ -36,7 +36,7 @@ use Rattle.iso_engine.specs.declared.slices.Slice.{Slice}
 use Rattle.iso_engine.specs.declared.slices.Slice.TheVariants.{Yield, Solution, NeedsAtoms, Retry, Worn, Waits, Ended, Missing, Memory}
 use Rattle.iso_engine.specs.Builtins.{IsRowGoal}
 use Rattle.iso_engine.specs.Following.{HasProcedure}
-use Rattle.iso_engine.specs.Later.{view_of}
+use Rattle.iso_engine.specs.Views.{view_of}
 use Rattle.iso_engine.specs.Missing.{IsUnbuilt}
 use Rattle.iso_engine.specs.Ready.{IsReady, StepsFrom}
 use Rattle.iso_engine.specs.Rows.{IsGivenText, IsNotRun, IsRowAt, IsRowText, LeadsTo}
@@ -96,10 +96,10 @@ module _ (m n : Names) (t : Told) (e f : Engine) (r : RowGoal) (list cut rest : 
   procedure = record { name = r.name; arity = r.arguments.count }
 
   -- The goal was run.
-  pub led_moved : (o : Outcome) → LeadsTo n e.search r rest f.search o → f.wanted ≡ e.wanted → f.given ≡ e.given
+  pub led_moved : (o : Outcome) → LeadsTo n e.search r rest f.search o → f.solution_limit ≡ e.solution_limit → f.solutions_found ≡ e.solutions_found
       → IsFollowedAs f rest procedure o → IsMoved m n t t e f holds view ready
   led_moved o leads wanted given follows =
-      let steps : StepsFrom n t e.wanted e.given e.search e.doing f.search f.doing =
+      let steps : StepsFrom n t e.solution_limit e.solutions_found e.search e.doing f.search f.doing =
       λ q viewed alike wants gave.
       let s = run_setting q e.search f.search list rest cut r.place o f.doing
       in ap (λ d. step (limits_in q e.search) (state_at q.view e.search d q.output)) doing

@@ -20,7 +20,7 @@ use Rattle.iso_search.specs.Searching.{choices_of, IsWhole, node_of}
 use Rattle.iso_search.proofs.Texts.{texts_apart}
 use Rattle.iso_engine.specs.declared.doing.Doing.TheVariants.{Running, Answering}
 use Rattle.iso_engine.specs.declared.engine.Engine.{Engine}
-use Rattle.iso_engine.specs.Later.{IsLater, view_of}
+use Rattle.iso_engine.specs.Views.{IsLater, view_of}
 use Rattle.iso_engine.specs.Standing.{doing_of, limits_of, state_at, state_now}
 use Rattle.iso_engine.specs.Ready.{IsReady, IsStable}
 use Rattle.iso_engine.specs.Advancing.{Advances}
@@ -58,7 +58,7 @@ module _ (m n : Names) (t u : Told) (e f : Engine) (list : ℕ) (ops : OperatorT
 
   -- The engine in which the solution was given.
   abbrev IsGiven : Type 0
-  IsGiven = (let x : Engine = record e { doing = Answering; given = e.given + 1 } in f ≡ x)
+  IsGiven = (let x : Engine = record e { doing = Answering; solutions_found = e.solutions_found + 1 } in f ≡ x)
 
   search_same : IsGiven → f.search ≡ e.search
   search_same is = ap (λ (x : Engine). x.search) is
@@ -79,7 +79,7 @@ module _ (m n : Names) (t u : Told) (e f : Engine) (list : ℕ) (ops : OperatorT
         asks_is =
             λ stays written count.
             ap (λ d. step (limits_of stays e) (state_at (view_of m t) e.search d written)) doing
-            ∙ step_done (record { view = view_of m t; solutions = e.wanted; stays = stays; doing = answering; output = written }) e.search list none;
+            ∙ step_done (record { view = view_of m t; solutions = e.solution_limit; stays = stays; doing = answering; output = written }) e.search list none;
       }
 
   answered : e.doing ≡ Running list → tasks e.search.frames.items list ≡ [] → IsGiven → IsStable m t e.search e.doing → IsView (view_of n u) → Holds m n → Looks t ops u
@@ -119,7 +119,7 @@ module _ (m n : Names) (t u : Told) (e f : Engine) (list : ℕ) (ops : OperatorT
   solved doing none is stable view holds looks =
       advance_asks m n t u e f (solution ops (answer_of n u f) ∷ []) (answered doing none is stable view holds looks (looked_later holds looks)) holds
       (λ stays. ap (limits_of stays) is)
-      (ap (λ (x : Engine). x.given) is)
+      (ap (λ (x : Engine). x.solutions_found) is)
 
   -- What was given stands so from then on.
   pub solved_ready : IsGiven → IsReady m t e → IsView (view_of n u) → Holds m n → Looks t ops u → IsReady n u f

@@ -1,4 +1,4 @@
--- What a step of the search's own leads to: it stands for the same state whatever others do, and the course goes on.
+-- What a step of the search's own leads to: it stands for the same state whatever others do, and the steps go on.
 use Rattle.std.proofs.Common.{◌≡◌, ℕ, zero, suc, ◌+◌, List, [], ◌∷◌, ◌++◌, length, Option, None, refl, sym, ap, ap₂, subst, ◌∙◌, arith, append-nil, append_assoc}
 use Rattle.pl_term.specs.Tree.{Chars}
 use Rattle.pl_model.specs.OperatorTable.{opening_table}
@@ -11,8 +11,8 @@ use Rattle.pl_model.specs.Service.{entry_by}
 use Rattle.world_api.specs.Texts.{Holds}
 use Rattle.world_api.specs.Told.{Told, Follows}
 use Rattle.world_api.specs.Answers.{seen_as}
-use Rattle.world_api.specs.Courses.{Course}
-use Rattle.world_api.proofs.CourseLaws.{course_asks, course_follows, course_goes, course_stays, course_then}
+use Rattle.world_api.specs.SearchSteps.{SearchSteps}
+use Rattle.world_api.proofs.SearchStepLaws.{steps_ask, steps_follow, steps_go, steps_stay, steps_join}
 use Rattle.iso_search.specs.declared.search.Search.{Search}
 use Rattle.iso_search.specs.Outcomes.{Setting, limits_in}
 use Rattle.iso_search.specs.Reading.{IsView, View}
@@ -20,7 +20,7 @@ use Rattle.iso_search.specs.Searching.{choices_of, IsWhole}
 use Rattle.iso_engine.specs.declared.doing.Doing.{Doing}
 use Rattle.iso_engine.specs.declared.doing.Doing.TheVariants.{Failing}
 use Rattle.iso_engine.specs.declared.engine.Engine.{Engine}
-use Rattle.iso_engine.specs.Later.{IsLater, view_of}
+use Rattle.iso_engine.specs.Views.{IsLater, view_of}
 use Rattle.iso_engine.specs.Standing.{doing_of, limits_of, state_at, state_now}
 use Rattle.iso_engine.specs.Ready.{IsAlike, IsReady, IsStable, Steps, StepsFrom}
 use Rattle.iso_engine.specs.Advancing.{Advances}
@@ -80,19 +80,19 @@ module _ (m : Names) (t : Told) (wanted given : ℕ) (e : Search) (d : Doing) (f
       in let r = setting (view_of m t) o.0
       in subst (Spends e.inferences) (steps r view (alike_itself m t) refl o.1) (step_spends (limits_in r e) (state_at (view_of m t) e d o.0))
 
--- The course of one step more.
+-- One step more.
 pub advance_from : (m : Names) (t : Told) (e f : Engine)
-    → StepsFrom m t e.wanted e.given e.search e.doing f.search f.doing
+    → StepsFrom m t e.solution_limit e.solutions_found e.search e.doing f.search f.doing
     → f.search.budgets ≡ e.search.budgets
-    → f.wanted ≡ e.wanted
-    → f.given ≡ e.given
+    → f.solution_limit ≡ e.solution_limit
+    → f.solutions_found ≡ e.solutions_found
     → IsView (view_of m t)
     → Advances 1 m t e m t f []
 advance_from m t e f steps budgets wanted given view =
     record {
-      course =
+      by_steps =
           λ stays written count.
-          course_goes
+          steps_go
           (limits_of stays e)
           (state_now (view_of m t) e written)
           (state_now (view_of m t) e written)
@@ -100,34 +100,34 @@ advance_from m t e f steps budgets wanted given view =
           t
           t
           0
-          (course_stays (limits_of stays e) (state_now (view_of m t) e written) t)
-          (steps (record { view = view_of m t; solutions = e.wanted; stays = stays; doing = failing; output = written }) view (alike_itself m t) refl count
+          (steps_stay (limits_of stays e) (state_now (view_of m t) e written) t)
+          (steps (record { view = view_of m t; solutions = e.solution_limit; stays = stays; doing = failing; output = written }) view (alike_itself m t) refl count
           ∙ ap (λ out. goes (state_now (view_of m t) f out)) (sym (append-nil written)));
       limits = λ stays. ap₂ (λ b w. let l : Limits = record { inferences = b.inferences; cells = b.cells; choices = b.choices; solutions = w; stays = stays } in l) budgets wanted;
-      given = given ∙ (let n : e.given ≡ e.given + 0 = omega arith in n);
+      given = given ∙ (let n : e.solutions_found ≡ e.solutions_found + 0 = omega arith in n);
       later = later_stays m t;
     }
 
 pub advance_step : (m : Names) (t : Told) (e f : Engine)
-    → Steps e.wanted e.given e.search e.doing f.search f.doing
+    → Steps e.solution_limit e.solutions_found e.search e.doing f.search f.doing
     → f.search.budgets ≡ e.search.budgets
-    → f.wanted ≡ e.wanted
-    → f.given ≡ e.given
+    → f.solution_limit ≡ e.solution_limit
+    → f.solutions_found ≡ e.solutions_found
     → IsView (view_of m t)
     → Advances 1 m t e m t f []
 advance_step m t e f steps budgets wanted given view =
-    advance_from m t e f (steps_from m t e.wanted e.given e.search e.doing f.search f.doing steps) budgets wanted given view
+    advance_from m t e f (steps_from m t e.solution_limit e.solutions_found e.search e.doing f.search f.doing steps) budgets wanted given view
 
 -- No step.
 pub advance_none : (m : Names) (t : Told) (e : Engine) → Advances 0 m t e m t e []
 advance_none m t e =
     record {
-      course =
+      by_steps =
           λ stays written count.
-          subst (λ out. Course (limits_of stays e) (state_now (view_of m t) e written) t 0 (state_now (view_of m t) e out) t) (sym (append-nil written))
-          (course_stays (limits_of stays e) (state_now (view_of m t) e written) t);
+          subst (λ out. SearchSteps (limits_of stays e) (state_now (view_of m t) e written) t 0 (state_now (view_of m t) e out) t) (sym (append-nil written))
+          (steps_stay (limits_of stays e) (state_now (view_of m t) e written) t);
       limits = λ stays. refl;
-      given = (let n : e.given ≡ e.given + 0 = omega arith in n);
+      given = (let n : e.solutions_found ≡ e.solutions_found + 0 = omega arith in n);
       later = later_stays m t;
     }
 
@@ -143,11 +143,11 @@ pub advance_then : (k j : ℕ) (m n r : Names) (t u w : Told) (e f g : Engine) (
     → Advances (j + k) m t e r w g (xs ++ ys)
 advance_then k j m n r t u w e f g xs ys a b =
     record {
-      course =
+      by_steps =
           λ stays written count.
-          let here : solution_count (written ++ xs) ≡ f.given =
+          let here : solution_count (written ++ xs) ≡ f.solutions_found =
           count-append written xs ∙ ap (λ c. c + solution_count xs) count ∙ sym a.given
-          in course_then
+          in steps_join
           (limits_of stays e)
           (state_now (view_of m t) e written)
           (state_now (view_of n u) f (written ++ xs))
@@ -157,14 +157,14 @@ advance_then k j m n r t u w e f g xs ys a b =
           w
           k
           j
-          (a.course stays written count)
-          (subst (λ out. Course (limits_of stays e) (state_now (view_of n u) f (written ++ xs)) u j (state_now (view_of r w) g out) w)
+          (a.by_steps stays written count)
+          (subst (λ out. SearchSteps (limits_of stays e) (state_now (view_of n u) f (written ++ xs)) u j (state_now (view_of r w) g out) w)
           (append_assoc written xs ys)
-          (subst (λ l. Course l (state_now (view_of n u) f (written ++ xs)) u j (state_now (view_of r w) g ((written ++ xs) ++ ys)) w)
+          (subst (λ l. SearchSteps l (state_now (view_of n u) f (written ++ xs)) u j (state_now (view_of r w) g ((written ++ xs) ++ ys)) w)
           (a.limits stays)
-          (b.course stays (written ++ xs) here)));
+          (b.by_steps stays (written ++ xs) here)));
       limits = λ stays. b.limits stays ∙ a.limits stays;
-      given = b.given ∙ ap (λ c. c + solution_count ys) a.given ∙ (let q : (e.given + solution_count xs) + solution_count ys ≡ e.given + (solution_count xs + solution_count ys) = omega arith in q) ∙ ap (λ c. e.given + c) (sym (count-append xs ys));
+      given = b.given ∙ ap (λ c. c + solution_count ys) a.given ∙ (let q : (e.solutions_found + solution_count xs) + solution_count ys ≡ e.solutions_found + (solution_count xs + solution_count ys) = omega arith in q) ∙ ap (λ c. e.solutions_found + c) (sym (count-append xs ys));
       later = later_then m n r t u w a.later b.later;
     }
 
@@ -181,19 +181,19 @@ answered_later m n t u e f more a holds =
       goals = ap (λ (x : Told). x.goals) a.told;
     }
 
--- The course of one request more.
+-- One request more.
 pub advance_asks : (m n : Names) (t u : Told) (e f : Engine) (more : List Output)
     → IsAnswered m t e n u f more
     → Holds m n
     → ((stays : Option Chars) → limits_of stays f ≡ limits_of stays e)
-    → f.given ≡ e.given + solution_count more
+    → f.solutions_found ≡ e.solutions_found + solution_count more
     → Advances 1 m t e n u f more
 advance_asks m n t u e f more a holds limits given =
     record {
-      course =
+      by_steps =
           λ stays written count.
-          let here : Course (limits_of stays e) (state_now (view_of m t) e written) t 1 (a.asking.follows stays written count a.reply) (seen_as t (a.before ++ entry_by t.engine a.update) (t.gens ++ length a.before ∷ [])) =
-          course_asks
+          let here : SearchSteps (limits_of stays e) (state_now (view_of m t) e written) t 1 (a.asking.follows stays written count a.reply) (seen_as t (a.before ++ entry_by t.engine a.update) (t.gens ++ length a.before ∷ [])) =
+          steps_ask
           (limits_of stays e)
           (state_now (view_of m t) e written)
           (state_now (view_of m t) e written)
@@ -205,18 +205,18 @@ advance_asks m n t u e f more a holds limits given =
           (a.asking.follows stays written count)
           a.reply
           a.update
-          (course_stays (limits_of stays e) (state_now (view_of m t) e written) t)
+          (steps_stay (limits_of stays e) (state_now (view_of m t) e written) t)
           a.entries
           (a.asking.asks_is stays written count)
           a.served
-          in subst (λ s. Course (limits_of stays e) (state_now (view_of m t) e written) t 1 s u) (a.stands stays written count)
-          (subst (λ w. Course (limits_of stays e) (state_now (view_of m t) e written) t 1 (a.asking.follows stays written count a.reply) w) (sym a.told) here);
+          in subst (λ s. SearchSteps (limits_of stays e) (state_now (view_of m t) e written) t 1 s u) (a.stands stays written count)
+          (subst (λ w. SearchSteps (limits_of stays e) (state_now (view_of m t) e written) t 1 (a.asking.follows stays written count a.reply) w) (sym a.told) here);
       limits = limits;
       given = given;
       later = answered_later m n t u e f more a holds;
     }
 
--- The course where others made entries, and the engine waits.
+-- Where others made entries, and the engine waits.
 pub advance_seen : (m n : Names) (t u : Told) (e : Engine) (before : History)
     → IsStable m t e.search e.doing
     → IsView (view_of n u)
@@ -233,20 +233,20 @@ advance_seen m n t u e before stable view entries told holds =
       goals = ap (λ (x : Told). x.goals) told;
     }
     in record {
-      course =
+      by_steps =
           λ stays written count.
           let l = limits_of stays e
           in let s = state_now (view_of m t) e written
-          in let there : Course l s t 0 s (seen_as t before t.gens) = course_follows l s s t t 0 before (course_stays l s t) entries
-          in subst (λ out. Course l s t 0 (state_now (view_of n u) e out) u) (sym (append-nil written))
-          (subst (λ r. Course l s t 0 r u) (sym (same_state (view_of n u) (view_of m t) e.search e.doing written (stable (view_of n u) view (alike_view m n t u later))))
-          (subst (λ w. Course l s t 0 s w) (sym told) there));
+          in let there : SearchSteps l s t 0 s (seen_as t before t.gens) = steps_follow l s s t t 0 before (steps_stay l s t) entries
+          in subst (λ out. SearchSteps l s t 0 (state_now (view_of n u) e out) u) (sym (append-nil written))
+          (subst (λ r. SearchSteps l s t 0 r u) (sym (same_state (view_of n u) (view_of m t) e.search e.doing written (stable (view_of n u) view (alike_view m n t u later))))
+          (subst (λ w. SearchSteps l s t 0 s w) (sym told) there));
       limits = λ stays. refl;
-      given = (let q : e.given ≡ e.given + 0 = omega arith in q);
+      given = (let q : e.solutions_found ≡ e.solutions_found + 0 = omega arith in q);
       later = later;
     }
 
--- The course where nothing was told.
+-- Where nothing was told.
 pub advance_same : (m n : Names) (t u : Told) (e : Engine)
     → IsStable m t e.search e.doing
     → IsView (view_of n u)
@@ -276,22 +276,22 @@ spent_by wanted given e d f x m t steps view = spent_from m t wanted given e d f
 
 -- The engine between two steps, after a step of the search's own.
 pub ready_from : (m : Names) (t : Told) (e f : Engine)
-    → StepsFrom m t e.wanted e.given e.search e.doing f.search f.doing
+    → StepsFrom m t e.solution_limit e.solutions_found e.search e.doing f.search f.doing
     → IsWhole f.search
     → IsView (view_of m t)
     → IsReady m t e
     → IsReady m t f
 ready_from m t e f steps whole view ready =
-    record { whole = whole; stable = stable_then m t e.wanted e.given e.search e.doing f.search f.doing steps view ready.stable }
+    record { whole = whole; stable = stable_then m t e.solution_limit e.solutions_found e.search e.doing f.search f.doing steps view ready.stable }
 
 pub step_ready : (m : Names) (t : Told) (e f : Engine)
-    → Steps e.wanted e.given e.search e.doing f.search f.doing
+    → Steps e.solution_limit e.solutions_found e.search e.doing f.search f.doing
     → IsWhole f.search
     → IsView (view_of m t)
     → IsReady m t e
     → IsReady m t f
 step_ready m t e f steps whole view ready =
-    ready_from m t e f (steps_from m t e.wanted e.given e.search e.doing f.search f.doing steps) whole view ready
+    ready_from m t e f (steps_from m t e.solution_limit e.solutions_found e.search e.doing f.search f.doing steps) whole view ready
 
 -- An engine that goes back to a choice point stands where it stood if the choice points are the same.
 module _ (e f : Engine) (choices : (v : View) → choices_of v f.search ≡ choices_of v e.search) (next : f.search.next ≡ e.search.next)
@@ -317,16 +317,16 @@ module _ (e f : Engine) (choices : (v : View) → choices_of v f.search ≡ choi
             );
       }
 
-  pub restored_advances : (m : Names) (t : Told) → f.search.budgets ≡ e.search.budgets → f.wanted ≡ e.wanted → f.given ≡ e.given → Advances 0 m t e m t f []
+  pub restored_advances : (m : Names) (t : Told) → f.search.budgets ≡ e.search.budgets → f.solution_limit ≡ e.solution_limit → f.solutions_found ≡ e.solutions_found → Advances 0 m t e m t f []
   restored_advances m t budgets wanted given =
       record {
-        course =
+        by_steps =
             λ stays written count.
-            subst (λ s. Course (limits_of stays e) (state_now (view_of m t) e written) t 0 s t)
+            subst (λ s. SearchSteps (limits_of stays e) (state_now (view_of m t) e written) t 0 s t)
             (sym (restored (view_of m t) written) ∙ ap (state_now (view_of m t) f) (sym (append-nil written)))
-            (course_stays (limits_of stays e) (state_now (view_of m t) e written) t);
+            (steps_stay (limits_of stays e) (state_now (view_of m t) e written) t);
         limits = λ stays. ap₂ (λ b w. let l : Limits = record { inferences = b.inferences; cells = b.cells; choices = b.choices; solutions = w; stays = stays } in l) budgets wanted;
-        given = given ∙ (let q : e.given ≡ e.given + 0 = omega arith in q);
+        given = given ∙ (let q : e.solutions_found ≡ e.solutions_found + 0 = omega arith in q);
         later = later_stays m t;
       }
 

@@ -34,7 +34,7 @@ use Rattle.iso_search.specs.Outcomes.{Setting, doing_by, limits_in, result_in, s
 use Rattle.iso_search.specs.Reading.{IsView, View, reads}
 use Rattle.iso_search.specs.Searching.{IsWhole, choices_of, node_of, state_of}
 use Rattle.iso_search.specs.Spelling.{TellsApart, spelled, text_of}
-use Rattle.iso_rows.specs.Lines.{IsGoneBack, IsNextMade, LineOrigin}
+use Rattle.iso_engine.specs.TableLines.{IsGoneBack, IsNextMade, LineOrigin}
 use Rattle.iso_engine.specs.declared.builtin.RowGoal.{RowGoal}
 use Rattle.iso_engine.specs.declared.doing.Doing.TheVariants.{Failing}
 use Rattle.iso_engine.specs.declared.engine.Engine.{Engine}

@@ -6,7 +6,7 @@ use Rattle.world_api.specs.Told.{Told}
 use Rattle.iso_search.specs.Reading.{IsView}
 use Rattle.iso_engine.specs.declared.engine.Engine.{Engine}
 use Rattle.iso_engine.specs.Advancing.{Advances}
-use Rattle.iso_engine.specs.Later.{view_of}
+use Rattle.iso_engine.specs.Views.{view_of}
 use Rattle.iso_engine.specs.Ready.{IsReady}
 use Rattle.iso_engine.proofs.Alike.{visits_same}
 use Rattle.iso_engine.proofs.Later.{held_later}

@@ -34,7 +34,7 @@ use Rattle.iso_engine.specs.declared.engine.Engine.{Engine}
 use Rattle.iso_engine.specs.declared.running.Did.{Did}
 use Rattle.iso_engine.specs.declared.running.Did.TheVariants.{Next as NextDid, Missing as MissingDid}
 use Rattle.iso_engine.specs.declared.slices.Slice.TheVariants.{Missing}
-use Rattle.iso_engine.specs.Later.{view_of}
+use Rattle.iso_engine.specs.Views.{view_of}
 use Rattle.iso_engine.specs.Following.{HasProcedure}
 use Rattle.iso_engine.specs.Missing.{IsMissing, IsUnbuiltDoing, IsUnbuiltFirst, IsUnbuiltTask}
 use Rattle.iso_engine.specs.Ready.{IsStable, Steps}

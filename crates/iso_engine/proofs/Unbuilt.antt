@@ -30,7 +30,7 @@ use Rattle.iso_search.specs.declared.search.Search.{Search}
 use Rattle.iso_engine.specs.declared.running.Did.{Did}
 use Rattle.iso_engine.specs.declared.running.Did.TheVariants.{Next as NextDid, Call as CallDid, Row as RowDid, Write as WriteDid, Missing as MissingDid}
 use Rattle.iso_engine.specs.Writes.{IsWriteAt, is_write_kind}
-use Rattle.iso_output.specs.Goals.{is_output}
+use Rattle.iso_engine.specs.OutputGoals.{is_output}
 use Rattle.iso_engine.specs.Tasks.{IsDone, IsForOthers, IsLeftOver, IsMissingTask}
 
 left : (v : View) (s : Contents) (k : Construct) (g : Tree) → IsLeft k → (is_other_kind k ≡ true → IsSharedOrKept g) → is_write_kind k ≡ false → IsUnbuilt g (construction v s k)

@@ -61,7 +61,7 @@ pub walk_on : (limit k : ℕ) (m n r : Names) (t u w : Told) (e f g : Engine) (a
     → IsReady r w g
     → Holds n r
     → IsSpent f.search.inferences g.search.inferences
-    → g.given ≡ f.given
+    → g.solutions_found ≡ f.solutions_found
     → f.search.inferences < e.search.inferences + limit
     → IsWalk limit (1 + k) m t e r w g a c
 walk_on limit k m n r t u w e f g a b c more walk step out runs ready holds spent given below =
@@ -117,7 +117,7 @@ module _ (limit i : ℕ) (m n r : Names) (t u w : Told) (e f g : Engine) (a b c 
       }
 
   silent : solution_count walk.written ≡ 0
-  silent = none_given e.given f.given (solution_count walk.written) walk.advances.given walk.given
+  silent = none_given e.solutions_found f.solutions_found (solution_count walk.written) walk.advances.given walk.given
 
   nothing : (more : List Output) → more ≡ [] → solution_count (walk.written ++ more) ≡ 0
   nothing more is = ap (λ l. solution_count (walk.written ++ l)) is ∙ ap solution_count (append-nil walk.written) ∙ silent
@@ -144,7 +144,7 @@ slice_yields limit k m n t u e f a b walk enough =
       spent = walk.high;
       ends = (
         (let p = walk.low in let q = walk.high in omega (arith, p, q, enough)),
-        none_given e.given f.given (solution_count walk.written) walk.advances.given walk.given,
+        none_given e.solutions_found f.solutions_found (solution_count walk.written) walk.advances.given walk.given,
       );
     }
 

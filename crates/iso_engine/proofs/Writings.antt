@@ -24,12 +24,12 @@ use Rattle.iso_search.specs.Reading.{IsView, View, reads}
 use Rattle.iso_search.specs.Searching.{IsWhole, node_of, state_of}
 use Rattle.iso_search.specs.Spelling.{text_of}
 use Rattle.iso_search.proofs.After.{keeps_alike}
-use Rattle.iso_output.specs.Goals.{IsNoOutput}
-use Rattle.iso_output.specs.Wrote.{IsAlone, IsRun, IsUnderOperators, added, bytes_of, led, taken, with_added}
-use Rattle.iso_output.specs.Wrote.{IsSpent as IsSpentGoal}
+use Rattle.iso_engine.specs.OutputGoals.{IsNoOutput}
+use Rattle.iso_engine.specs.Wrote.{IsAlone, IsRun, IsUnderOperators, added, bytes_of, led, taken, with_added}
+use Rattle.iso_engine.specs.Wrote.{IsSpent as IsSpentGoal}
 use Rattle.iso_engine.specs.declared.doing.Doing.TheVariants.{Running}
 use Rattle.iso_engine.specs.declared.engine.Engine.{Engine}
-use Rattle.iso_engine.specs.Later.{view_of}
+use Rattle.iso_engine.specs.Views.{view_of}
 use Rattle.iso_engine.specs.Ready.{IsAlike, IsReady}
 use Rattle.iso_engine.specs.Slices.{written_text}
 use Rattle.iso_engine.specs.Standing.{doing_of, state_at}
@@ -50,7 +50,7 @@ added_none (Some w) = refl
 module _ (m n : Names) (t u : Told) (e f : Engine) (at : Place) (p : Procedure) (list cut rest : ℕ) (running_is : e.doing ≡ Running list)
     (first : tasks e.search.frames.items list ≡ Goal at cut ∷ tasks e.search.frames.items rest) (le : rest ≤ length e.search.frames.items)
     (write : IsWriteAt e.search.store at p) (holds : Holds m n) (view : IsView (view_of n u)) (ready : IsReady m t e)
-    (wanted : f.wanted ≡ e.wanted) (given : f.given ≡ e.given) (whole : IsWhole f.search) (o : Outcome)
+    (wanted : f.solution_limit ≡ e.solution_limit) (given : f.solutions_found ≡ e.solutions_found) (whole : IsWhole f.search) (o : Outcome)
     (follows : (r : Setting) → IsView r.view → doing_of r.view f.search f.doing
     ≡ doing_by r f.search (node_of r.view f.search rest) (record { name = text_of r.view.names (atom_name p.name); arity = p.arity }) o) where
   -- What a step of the engine takes up.

@@ -17,7 +17,7 @@ use Rattle.iso_engine.specs.declared.slices.Slice.{Slice}
 use Rattle.iso_engine.specs.declared.slices.Slice.TheVariants.{Memory}
 use Rattle.iso_engine.specs.Advancing.{Advances}
 use Rattle.iso_engine.specs.Asking.{IsAsking}
-use Rattle.iso_engine.specs.Later.{view_of}
+use Rattle.iso_engine.specs.Views.{view_of}
 use Rattle.iso_engine.specs.Rows.{IsRowText}
 use Rattle.iso_engine.specs.Standing.{doing_of}
 

@@ -10,13 +10,13 @@ use Rattle.atom_api.specs.Names.{Names}
 use Rattle.world_api.specs.Told.{Told, Follows}
 use Rattle.world_api.specs.Answers.{seen_as}
 use Rattle.iso_engine.specs.declared.engine.Engine.{Engine}
-use Rattle.iso_engine.specs.Later.{view_of}
+use Rattle.iso_engine.specs.Views.{view_of}
 use Rattle.iso_engine.specs.Standing.{limits_of, state_now}
 
 -- The engine's next step asks this of the shared state.
 pub record IsAsking (m : Names) (t : Told) (e : Engine) (q : Request) : Type 0 where
-  pub follows : (stays : Option Chars) (written : List Output) → solution_count written ≡ e.given → Reply → State
-  pub asks_is : (stays : Option Chars) (written : List Output) (count : solution_count written ≡ e.given)
+  pub follows : (stays : Option Chars) (written : List Output) → solution_count written ≡ e.solutions_found → Reply → State
+  pub asks_is : (stays : Option Chars) (written : List Output) (count : solution_count written ≡ e.solutions_found)
       → step (limits_of stays e) (state_now (view_of m t) e written) ≡ asks q (follows stays written count)
 
 -- Its request was answered after all entries, and it is now in the state that the reply leads to.
@@ -30,5 +30,5 @@ pub record IsAnswered (m : Names) (t : Told) (e : Engine) (n : Names) (u : Told)
   pub told : u ≡ seen_as t (before ++ entry_by t.engine update) (t.gens ++ length before ∷ [])
   pub asking : IsAsking m t e request
   pub stands :
-      (stays : Option Chars) (written : List Output) (count : solution_count written ≡ e.given)
+      (stays : Option Chars) (written : List Output) (count : solution_count written ≡ e.solutions_found)
       → asking.follows stays written count reply ≡ state_now (view_of n u) f (written ++ more)

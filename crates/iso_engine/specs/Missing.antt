@@ -13,7 +13,7 @@ use Rattle.world_api.specs.Told.{Told}
 use Rattle.builtin_dispatch.specs.Unbuilt.{is_unbuilt_row}
 use Rattle.iso_engine.specs.declared.engine.Engine.{Engine}
 use Rattle.iso_engine.specs.Builtins.{IsNoBuiltin, IsSharedOrKept}
-use Rattle.iso_engine.specs.Later.{view_of}
+use Rattle.iso_engine.specs.Views.{view_of}
 use Rattle.iso_engine.specs.Standing.{doing_of}
 
 -- The goal calls the program's clauses: it is no control construct, and no built-in predicate.

@@ -10,10 +10,10 @@ use Rattle.iso_search.specs.declared.search.Search.{Search}
 use Rattle.iso_search.specs.Outcomes.{Setting, limits_in}
 use Rattle.iso_search.specs.Reading.{IsView, View}
 use Rattle.iso_search.specs.Searching.{IsWhole, choices_of}
-use Rattle.iso_calls.specs.Lists.{IsOpen}
+use Rattle.iso_engine.specs.Lists.{IsOpen}
 use Rattle.iso_engine.specs.declared.doing.Doing.{Doing}
 use Rattle.iso_engine.specs.declared.engine.Engine.{Engine}
-use Rattle.iso_engine.specs.Later.{view_of}
+use Rattle.iso_engine.specs.Views.{view_of}
 use Rattle.iso_engine.specs.Missing.{is_integer}
 use Rattle.iso_engine.specs.Standing.{doing_of, state_at}
 

@@ -32,7 +32,7 @@ use Rattle.iso_engine.specs.declared.rows.Tried.TheVariants.{Led, Stopped}
 use Rattle.iso_engine.specs.declared.slices.Slice.{Slice}
 use Rattle.iso_engine.specs.declared.slices.Slice.TheVariants.{NeedsAtoms, Retry, Worn, Missing}
 use Rattle.iso_engine.specs.Builtins.{IsRowGoal}
-use Rattle.iso_engine.specs.Later.{view_of}
+use Rattle.iso_engine.specs.Views.{view_of}
 use Rattle.iso_engine.specs.Looking.{refusals_of}
 use Rattle.iso_engine.specs.Standing.{doing_of}
 

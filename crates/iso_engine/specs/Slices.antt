@@ -20,7 +20,7 @@ use Rattle.iso_engine.specs.declared.slices.Slice.{Slice}
 use Rattle.iso_engine.specs.declared.slices.Slice.TheVariants.{Yield, Solution, NeedsAtoms, Retry, Worn, Waits, Ended, Missing, Memory}
 use Rattle.iso_engine.specs.Advancing.{Advances}
 use Rattle.iso_engine.specs.Asking.{IsAsking}
-use Rattle.iso_engine.specs.Later.{view_of}
+use Rattle.iso_engine.specs.Views.{view_of}
 use Rattle.iso_engine.specs.Missing.{IsMissing}
 
 -- The text of what a goal has written, its solutions aside.
@@ -92,5 +92,5 @@ pub record IsSlice (limit steps : ℕ) (m : Names) (t : Told) (e : Engine) (n : 
 
 -- Its steps are those by which the count has grown. Once memory is exhausted nothing is said.
 abbrev pub IsSliced : ℕ → Names → Told → Engine → Names → Told → Engine → List ℕ → List ℕ → ℕ → ℕ → Slice → Type 0
-IsSliced limit m t e n u f old_out new_out before after Memory = f.broken ≡ true
+IsSliced limit m t e n u f old_out new_out before after Memory = f.out_of_memory ≡ true
 IsSliced limit m t e n u f old_out new_out before after s = (k : ℕ) × (k + before ≡ after) × IsSlice limit k m t e n u f old_out new_out s

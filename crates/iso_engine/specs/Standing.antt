@@ -40,6 +40,6 @@ limits_of stays e =
       inferences = e.search.budgets.inferences;
       cells = e.search.budgets.cells;
       choices = e.search.budgets.choices;
-      solutions = e.wanted;
+      solutions = e.solution_limit;
       stays = stays;
     }

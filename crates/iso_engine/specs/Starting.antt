@@ -22,9 +22,9 @@ use Rattle.iso_engine.specs.declared.starting.Begun.TheVariants.{Refused, Taken}
 -- It has these budgets, so many solutions are wanted of it, and it gave none.
 pub record IsFresh (budgets : Budgets) (solutions : ℕ) (e : Engine) : Type 0 where
   pub budgets_are : e.search.budgets ≡ budgets
-  pub wants : e.wanted ≡ solutions
-  pub gave : e.given ≡ 0
-  pub works : e.broken ≡ false
+  pub wants : e.solution_limit ≡ solutions
+  pub gave : e.solutions_found ≡ 0
+  pub works : e.out_of_memory ≡ false
 
 abbrev pub outcome_of : Begun → Outcome
 outcome_of (Refused f) = Raise f

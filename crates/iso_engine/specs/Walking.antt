@@ -19,4 +19,4 @@ pub record IsWalk (limit steps : ℕ) (m : Names) (t : Told) (e : Engine) (n : N
   pub low : e.search.inferences ≤ f.search.inferences
   pub high : f.search.inferences ≤ e.search.inferences + limit
   pub holds : Holds m n
-  pub given : f.given ≡ e.given
+  pub given : f.solutions_found ≡ e.solutions_found

@@ -7,7 +7,7 @@ use Rattle.world_api.specs.declared.visit.Procedure.{Procedure}
 use Rattle.iso_search.specs.declared.construct.Construct.{Construct}
 use Rattle.iso_search.specs.declared.construct.Construct.TheVariants.{Writes, WritesQuoted, WritesCanonical, WritesNewline, Puts}
 use Rattle.iso_search.specs.Reading.{IsView, View, reads}
-use Rattle.iso_output.specs.Goals.{is_output}
+use Rattle.iso_engine.specs.OutputGoals.{is_output}
 use Rattle.iso_engine.specs.Following.{HasProcedure}
 
 abbrev pub is_write_kind : Construct → Bool

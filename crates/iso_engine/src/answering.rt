@@ -11,11 +11,11 @@ ghost use Rattle.iso_engine.specs.Standing.{state_at};
 use crate::doing::{Doing, End};
 
 /// What follows a solution: the search goes on until it has given the solutions that are wanted.
-pub fn after_solution(wanted: u64, given: u64) -> Doing
-    ensures { (t : Setting) (e : Search) → t.solutions ≡ wanted → solution_count t.output ≡ given
+pub fn after_solution(solution_limit: u64, solutions_found: u64) -> Doing
+    ensures { (t : Setting) (e : Search) → t.solutions ≡ solution_limit → solution_count t.output ≡ solutions_found
         → step (limits_in t e) (state_at t.view e Answering t.output) ≡ goes (state_at t.view e result t.output) }
 {
-    if wanted <= given {
+    if solution_limit <= solutions_found {
         Doing::Ended(End::Solved)
     } else {
         Doing::Failing

@@ -13,12 +13,19 @@ ghost use Rattle.iso_engine.specs.Ready.{IsReady};
 ghost use Rattle.iso_engine.specs.Spending.{IsSpent};
 ghost use Rattle.iso_engine.specs.Slices.{IsStepped};
 
+pub mod called;
+pub mod calls;
+pub mod clauses;
+pub mod goals;
+pub mod retries;
+
+use crate::call::called::Called;
+use crate::call::calls::call_clauses;
 use crate::doing::Doing;
 use crate::engine::Engine;
 use crate::following::follow;
 use crate::refused::error_of;
 use crate::slices::Slice;
-use iso_calls::{Called, call_clauses};
 use iso_search::outcome::{Fault, Outcome};
 use pl_term::Memory;
 use term_store::{Place, Stored};
@@ -45,7 +52,7 @@ impl Engine {
         ensures holds { Holds (W.A.held atoms.old) (W.A.held atoms.new) }
         ensures refusals { IfOk result (λ o. W.A.refusals atoms.new ≡ W.A.refusals atoms.old ++ stopped_refusals o) }
         ensures asked { Gains (AsksFor (W.A.held atoms.old) (W.told world.old) self.old) (W.A.asked atoms.old) (W.A.asked atoms.new) }
-        ensures given { OnOk result (self.new.given ≡ self.old.given) }
+        ensures given { OnOk result (self.new.solutions_found ≡ self.old.solutions_found) }
         ensures spent { OnOk result (IsSpent self.old.search.inferences self.new.search.inferences) }
         ensures ready { OnOk result (IsReady (W.A.held atoms.new) (W.told world.new) self.new) }
         ensures stepped { IfOk result (λ o.

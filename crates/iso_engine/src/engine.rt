@@ -9,8 +9,8 @@ use std::alloc::Global;
 pub struct Engine {
     pub search: Search,
     pub doing: Doing,
-    pub wanted: u64,
-    pub given: u64,
-    pub broken: bool,
+    pub solution_limit: u64,
+    pub solutions_found: u64,
+    pub out_of_memory: bool,
     pub alloc: Global,
 }

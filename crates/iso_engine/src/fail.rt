@@ -34,7 +34,7 @@ impl Engine {
         ensures holds { Holds (W.A.held atoms.old) (W.A.held atoms.new) }
         ensures refusals { IfOk result (λ o. W.A.refusals atoms.new ≡ W.A.refusals atoms.old ++ stopped_refusals o) }
         ensures asked { Gains (AsksFor (W.A.held atoms.old) (W.told world.old) self.old) (W.A.asked atoms.old) (W.A.asked atoms.new) }
-        ensures given { OnOk result (self.new.given ≡ self.old.given) }
+        ensures given { OnOk result (self.new.solutions_found ≡ self.old.solutions_found) }
         ensures spent { OnOk result (IsSpent self.old.search.inferences self.new.search.inferences) }
         ensures ready { OnOk result (IsReady (W.A.held atoms.new) (W.told world.new) self.new) }
         ensures stepped { IfOk result (λ o.

@@ -1,6 +1,6 @@
 //! Errors that the shared state raises.
 ghost use Rattle.std.specs.Prelude.{IfOk, OnOk};
-ghost use Rattle.iso_calls.specs.Parts.{IsOverAtoms};
+ghost use Rattle.iso_engine.specs.Parts.{IsOverAtoms};
 ghost use Rattle.iso_engine.specs.Calling.{IsErrorBall};
 
 use atom_api::fixed;

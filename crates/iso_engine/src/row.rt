@@ -37,7 +37,7 @@ impl Engine {
         ensures holds { Holds (A.held atoms.old) (A.held atoms.new) }
         ensures refusals { IfOk result (λ o. A.refusals atoms.new ≡ A.refusals atoms.old ++ stopped_refusals o) }
         ensures asked { Gains (λ c. (t : Told) → IsRowText (A.held atoms.old) t self.old c) (A.asked atoms.old) (A.asked atoms.new) }
-        ensures given { OnOk result (self.new.given ≡ self.old.given) }
+        ensures given { OnOk result (self.new.solutions_found ≡ self.old.solutions_found) }
         ensures spent { OnOk result (IsSpent self.old.search.inferences self.new.search.inferences) }
         ensures ready { OnOk result ((t : Told) → IsReady (A.held atoms.old) t self.old → IsReady (A.held atoms.new) t self.new) }
         ensures stepped { IfOk result (λ o. (t : Told) → IsReady (A.held atoms.old) t self.old

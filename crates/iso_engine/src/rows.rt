@@ -8,12 +8,16 @@ ghost use Rattle.iso_search.specs.Searching.{IsWhole};
 ghost use Rattle.iso_search.specs.Spelling.{spelled, text_of};
 ghost use Rattle.iso_engine.specs.Rows.{IsGivenText, IsRowAt, IsTried, refusal_of, tried_refusals};
 
+pub mod arguments;
+pub mod following;
+pub mod lines;
+
 use crate::builtin::RowGoal;
+use crate::rows::following::follow_row;
 use crate::slices::Slice;
 use atom_api::Atoms;
 use builtin_dispatch::row_of;
 use builtin_rows::Row;
-use iso_rows::follow_row;
 use iso_search::outcome::{Fault, Outcome};
 use iso_search::search::Search;
 use pl_term::Memory;

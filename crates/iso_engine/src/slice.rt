@@ -27,24 +27,24 @@ impl Engine {
         n: u32,
     ) -> Slice
         requires runs { has_ended (W.told world.old).engine (W.told world.old).history ≡ false }
-        requires ready { self.old.broken ≡ false → IsReady (W.A.held atoms.old) (W.told world.old) self.old }
+        requires ready { self.old.out_of_memory ≡ false → IsReady (W.A.held atoms.old) (W.told world.old) self.old }
         ensures runs { has_ended (W.told world.new).engine (W.told world.new).history ≡ false }
         ensures holds { Holds (W.A.held atoms.old) (W.A.held atoms.new) }
         ensures refusals { IsRefusedBy result (W.A.refusals atoms.old) (W.A.refusals atoms.new) }
         ensures asked { Gains (AsksInSlice result (W.A.held atoms.old) (W.told world.old) self.old (W.A.held atoms.new) (W.told world.new) self.new)
             (W.A.asked atoms.old) (W.A.asked atoms.new) }
-        ensures ready { self.new.broken ≡ false → IsReady (W.A.held atoms.new) (W.told world.new) self.new }
+        ensures ready { self.new.out_of_memory ≡ false → IsReady (W.A.held atoms.new) (W.told world.new) self.new }
         ensures sliced { IsSliced n (W.A.held atoms.old) (W.told world.old) self.old (W.A.held atoms.new) (W.told world.new) self.new out.old.items out.new.items
             moves.old moves.new result }
-        ensures broken { self.old.broken ≡ true → self.new ≡ self.old }
+        ensures out_of_memory { self.old.out_of_memory ≡ true → self.new ≡ self.old }
     {
-        if self.broken {
+        if self.out_of_memory {
             return Slice::Memory;
         }
         match self.steps(world, atoms, out, moves, n as u64) {
             Ok(slice) => slice,
             Err(_) => {
-                self.broken = true;
+                self.out_of_memory = true;
                 Slice::Memory
             }
         }

@@ -6,7 +6,7 @@ ghost use Rattle.world_api.specs.Told.{has_ended};
 ghost use Rattle.iso_search.specs.Frames.{tasks};
 ghost use Rattle.iso_search.specs.Reading.{IsView};
 ghost use Rattle.iso_engine.specs.declared.doing.Doing.TheVariants.{Running};
-ghost use Rattle.iso_engine.specs.Later.{view_of};
+ghost use Rattle.iso_engine.specs.Views.{view_of};
 ghost use Rattle.iso_engine.specs.Looking.{refusals_of};
 ghost use Rattle.iso_engine.specs.Ready.{IsReady};
 ghost use Rattle.iso_engine.specs.Spending.{IsSpent};
@@ -36,12 +36,12 @@ impl Engine {
             × IsStepped (W.A.held atoms.old) (W.told world.old) self.old (Some s) (W.A.held atoms.new) (W.told world.new) self.new more × (written_text more ≡ [])) }
         ensures search { OnOk result (self.new.search ≡ self.old.search) }
     {
-        let Some(given) = self.given.checked_add(1) else {
+        let Some(found) = self.solutions_found.checked_add(1) else {
             return Err(Memory);
         };
         match look(world, atoms) {
             Ok(operators) => {
-                self.given = given;
+                self.solutions_found = found;
                 self.doing = Doing::Answering;
                 Ok(Slice::Solution(operators))
             }

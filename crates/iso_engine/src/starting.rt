@@ -4,7 +4,7 @@ ghost use Rattle.std.specs.List.{All};
 ghost use Rattle.atom_api.specs.Names.{Names};
 ghost use Rattle.term_store.specs.NumberedNames.{atoms_in};
 ghost use Rattle.world_api.specs.Told.{Told};
-ghost use Rattle.iso_engine.specs.Later.{view_of};
+ghost use Rattle.iso_engine.specs.Views.{view_of};
 ghost use Rattle.iso_engine.specs.Ready.{IsReady};
 ghost use Rattle.pl_term.specs.Tree.{Chars};
 ghost use Rattle.pl_model.specs.History.{Proc};
@@ -135,9 +135,9 @@ impl Engine {
         Ok(Engine {
             search,
             doing,
-            wanted: solutions,
-            given: 0,
-            broken: false,
+            solution_limit: solutions,
+            solutions_found: 0,
+            out_of_memory: false,
             alloc,
         })
     }

@@ -12,10 +12,16 @@ ghost use Rattle.iso_engine.specs.Spending.{IsSpent};
 ghost use Rattle.iso_engine.specs.Slices.{IsStepped, written_text};
 ghost use Rattle.iso_engine.specs.Writes.{IsWriteAt};
 
+pub mod characters;
+pub mod goals;
+pub mod writing;
+pub mod wrote;
+
 use crate::engine::Engine;
 use crate::following::follow;
 use crate::slices::Slice;
-use iso_output::{Wrote, write_goal};
+use crate::write::writing::write_goal;
+use crate::write::wrote::Wrote;
 use iso_search::outcome::{Fault, Outcome};
 use pl_term::Memory;
 use term_store::Place;
@@ -43,7 +49,7 @@ impl Engine {
         ensures holds { Holds (W.A.held atoms.old) (W.A.held atoms.new) }
         ensures refusals { IfOk result (λ o. W.A.refusals atoms.new ≡ W.A.refusals atoms.old ++ stopped_refusals o) }
         ensures asked { W.A.asked atoms.new ≡ W.A.asked atoms.old }
-        ensures given { OnOk result (self.new.given ≡ self.old.given) }
+        ensures given { OnOk result (self.new.solutions_found ≡ self.old.solutions_found) }
         ensures spent { OnOk result (IsSpent self.old.search.inferences self.new.search.inferences) }
         ensures ready { OnOk result (IsReady (W.A.held atoms.new) (W.told world.new) self.new) }
         ensures stepped { IfOk result (λ o. (more : List Output)

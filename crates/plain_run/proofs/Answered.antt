@@ -14,7 +14,7 @@ use Rattle.iso_search.specs.Spelling.{or_no_text as or_none, spelled as spells, 
 use Rattle.iso_engine.specs.declared.engine.Engine.{Engine}
 use Rattle.iso_engine.specs.declared.slices.Slice.{Slice}
 use Rattle.iso_engine.specs.declared.slices.Slice.TheVariants.{Yield, Solution, Retry, Memory, NeedsAtoms, Worn, Waits, Ended, Missing}
-use Rattle.iso_engine.specs.Later.{view_of}
+use Rattle.iso_engine.specs.Views.{view_of}
 use Rattle.iso_engine.specs.Slices.{IsSlice}
 use Rattle.plain_run.specs.Answered.{IsPut}
 use Rattle.plain_run.specs.Searched.{HasRun}

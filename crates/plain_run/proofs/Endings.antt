@@ -25,7 +25,7 @@ use Rattle.iso_engine.specs.declared.doing.End.{End}
 use Rattle.iso_engine.specs.declared.doing.End.TheVariants.{Threw, Halted}
 use Rattle.iso_engine.specs.declared.doing.Doing.TheVariants.{Ended}
 use Rattle.iso_engine.specs.declared.engine.Engine.{Engine}
-use Rattle.iso_engine.specs.Later.{view_of}
+use Rattle.iso_engine.specs.Views.{view_of}
 use Rattle.iso_engine.specs.Ready.{IsAlike, IsReady}
 use Rattle.iso_engine.specs.Standing.{doing_of, ending_of}
 use Rattle.iso_engine.proofs.Heldness.{IsHeldName, held_names}

@@ -14,15 +14,15 @@ use Rattle.world_api.specs.declared.answer.On.{On}
 use Rattle.world_api.specs.Answers.{on_by}
 use Rattle.world_api.specs.Texts as worlds
 use Rattle.world_api.specs.Told.{Told}
-use Rattle.world_api.specs.Courses.{Course}
+use Rattle.world_api.specs.SearchSteps.{SearchSteps}
 use Rattle.script_api.specs.Parts.{Part, of_goal, of_directive, limits_of, seen_in, with_search}
 use Rattle.script_api.specs.Comes.{ComesBy}
-use Rattle.script_api.proofs.CourseRuns.{course_comes}
+use Rattle.script_api.proofs.SearchRuns.{steps_come}
 use Rattle.iso_search.specs.declared.search.Budgets.{Budgets}
 use Rattle.iso_search.specs.Reading.{IsView, View}
 use Rattle.iso_search.specs.Spelling.{spelled, text_of}
 use Rattle.iso_engine.specs.declared.engine.Engine.{Engine}
-use Rattle.iso_engine.specs.Later.{view_of}
+use Rattle.iso_engine.specs.Views.{view_of}
 use Rattle.iso_engine.specs.Slices.{IsWaitingNow}
 use Rattle.iso_engine.specs.Standing.{state_now}
 use Rattle.iso_engine.specs.Standing as engines
@@ -81,17 +81,17 @@ module _ (budgets : Budgets) (wanted : ℕ) (e : Engine) (fresh : IsFresh budget
         → ComesBy job (at_start_of job part m goal x) t before (with_search x part there) u after
     comes_there job part x has wants =
         let same : limits_of job part ≡ engines.limits_of job.limits.stays e = limits_same job part has wants
-        in let c : Course (engines.limits_of job.limits.stays e) (state_now (view_of m t) e []) t came.counted.steps there u =
-        came.counted.ran.advances.course job.limits.stays [] (sym fresh.gave)
+        in let c : SearchSteps (engines.limits_of job.limits.stays e) (state_now (view_of m t) e []) t came.counted.steps there u =
+        came.counted.ran.advances.by_steps job.limits.stays [] (sym fresh.gave)
         in subst (λ (z : State). ComesBy job (with_search x part z) t before (with_search x part there) u after) (start_same job part same)
         (record {
           moves = came.counted.steps;
           comes =
-              course_comes (engines.limits_of job.limits.stays e) (state_now (view_of m t) e []) there t u came.counted.steps job x part same c;
+              steps_come (engines.limits_of job.limits.stays e) (state_now (view_of m t) e []) there t u came.counted.steps job x part same c;
           counted = came.counted.counted;
         })
 
-    given_there : resolution.solution_count came.counted.ran.written ≡ f.given
+    given_there : resolution.solution_count came.counted.ran.written ≡ f.solutions_found
     given_there =
         sym (came.counted.ran.advances.given
         ∙ ap (λ k. k + resolution.solution_count came.counted.ran.written) fresh.gave

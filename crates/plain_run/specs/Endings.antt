@@ -8,7 +8,7 @@ use Rattle.pl_model.specs.declared.ends.How.TheVariants.{AtomSpace}
 use Rattle.world_api.specs.Told.{Told}
 use Rattle.script_api.specs.Scripts.{EndsAs}
 use Rattle.iso_engine.specs.declared.engine.Engine.{Engine}
-use Rattle.iso_engine.specs.Later.{view_of}
+use Rattle.iso_engine.specs.Views.{view_of}
 use Rattle.iso_engine.specs.Standing.{state_now}
 
 -- The state for which the engine stands has ended so.

@@ -35,11 +35,11 @@ pub fn search_goal<W: World<Term = Stored>>(
     moves: &mut u64,
 ) -> Result<Ran<()>, Memory>
     requires runs { has_ended (W.told world.old).engine (W.told world.old).history ≡ false }
-    requires ready { engine.old.broken ≡ false → IsReady (W.A.held atoms.old) (W.told world.old) engine.old }
+    requires ready { engine.old.out_of_memory ≡ false → IsReady (W.A.held atoms.old) (W.told world.old) engine.old }
     ensures runs { has_ended (W.told world.new).engine (W.told world.new).history ≡ false }
     ensures holds { Holds (W.A.held atoms.old) (W.A.held atoms.new) }
-    ensures sound { OnOk result (engine.new.broken ≡ false) }
-    ensures ready { engine.new.broken ≡ false → IsReady (W.A.held atoms.new) (W.told world.new) engine.new }
+    ensures sound { OnOk result (engine.new.out_of_memory ≡ false) }
+    ensures ready { engine.new.out_of_memory ≡ false → IsReady (W.A.held atoms.new) (W.told world.new) engine.new }
     ensures refusals { IfOk result (λ s. IsRefusedOnce (W.A.refusals atoms.old) (W.A.refusals atoms.new) (last_refusals s)) }
     ensures searched { IfOk result (IsSearched (with_output names.now) (W.A.held atoms.old) (W.told world.old) engine.old moves.old
         (W.A.held atoms.new) (W.told world.new) engine.new moves.new out.old.items out.new.items) }
@@ -65,17 +65,17 @@ fn next_slice<W: World<Term = Stored>>(
     moves: &mut u64,
 ) -> Result<Option<Ran<()>>, Memory>
     requires runs { has_ended (W.told world.old).engine (W.told world.old).history ≡ false }
-    requires ready { engine.old.broken ≡ false → IsReady (W.A.held atoms.old) (W.told world.old) engine.old }
+    requires ready { engine.old.out_of_memory ≡ false → IsReady (W.A.held atoms.old) (W.told world.old) engine.old }
     ensures runs { has_ended (W.told world.new).engine (W.told world.new).history ≡ false }
     ensures holds { Holds (W.A.held atoms.old) (W.A.held atoms.new) }
-    ensures sound { OnOk result (engine.new.broken ≡ false) }
-    ensures ready { engine.new.broken ≡ false → IsReady (W.A.held atoms.new) (W.told world.new) engine.new }
+    ensures sound { OnOk result (engine.new.out_of_memory ≡ false) }
+    ensures ready { engine.new.out_of_memory ≡ false → IsReady (W.A.held atoms.new) (W.told world.new) engine.new }
     ensures refusals { IfOk result (λ o. IsRefusedOnce (W.A.refusals atoms.old) (W.A.refusals atoms.new) (stop_refusals o)) }
     ensures carried { IfOk result (IsCarriedOn (with_output names.now) (W.A.held atoms.old) (W.told world.old) engine.old moves.old
         (W.A.held atoms.new) (W.told world.new) engine.new moves.new out.old.items out.new.items) }
 {
     let slice = engine.slice(world, atoms, out, moves, INFERENCES);
-    if engine.broken {
+    if engine.out_of_memory {
         return Err(Memory);
     }
     put_answer(alloc, engine, names, &slice, atoms, out)?;

@@ -1,4 +1,4 @@
 pub mod ComesLaws
-pub mod CourseRuns
+pub mod SearchRuns
 pub mod LaterLaws
 pub mod OnceLaws

@@ -7,7 +7,7 @@ ghost use Rattle.run_model.specs.Execution.{Job, Execution, move, moves, request
 ghost use Rattle.world_api.specs.Told.{Told, Follows};
 ghost use Rattle.pl_model.specs.Resolution.{Limits, State};
 ghost use Rattle.world_api.specs.Answers.{seen_as};
-ghost use Rattle.world_api.specs.Courses.{Course};
+ghost use Rattle.world_api.specs.SearchSteps.{SearchSteps};
 ghost use Rattle.script_api.specs.Parts.{Part, limits_of, with_search};
 ghost use Rattle.script_api.specs.Comes.{ComesIn};
 
@@ -40,10 +40,10 @@ pub fn execution_goes_on()
         → ComesIn job (k + n) x t z v }
 {}
 
-/// The course of a search is a way of each execution that it is a part of.
+/// The steps of a search are a way of each execution that they are a part of.
 pub fn search_is_a_way()
     ensures { (l : Limits) (s r : State) (t u : Told) (n : ℕ) (job : Job) (x : Execution) (part : Part)
         → limits_of job part ≡ l
-        → Course l s t n r u
+        → SearchSteps l s t n r u
         → ComesIn job n (with_search x part s) t (with_search x part r) u }
 {}

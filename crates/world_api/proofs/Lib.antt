@@ -1,3 +1,3 @@
 pub mod AskedLaws
-pub mod CourseLaws
+pub mod SearchStepLaws
 pub mod Gaining

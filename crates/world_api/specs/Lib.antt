@@ -5,4 +5,4 @@ pub mod Replies
 pub mod Answers
 pub mod Gains
 pub mod Asked
-pub mod Courses
+pub mod SearchSteps

@@ -2,7 +2,7 @@
 #![tactic(auto)]
 
 mod answer;
-pub mod courses;
+pub mod search_steps;
 mod named;
 mod reply;
 mod visit;

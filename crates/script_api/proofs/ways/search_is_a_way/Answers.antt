@@ -1,5 +1,5 @@
-use Rattle.script_api.proofs.CourseRuns.{course_comes}
+use Rattle.script_api.proofs.SearchRuns.{steps_come}
 use Rattle.script_api.proofs.ways.search_is_a_way.Goals as goal
 
 pub returns : goal.returns
-returns c = course_comes
+returns c = steps_come

@@ -1,5 +1,5 @@
 use Rattle.std.proofs.Common.{refl, ap, subst}
-use Rattle.iso_calls.specs.Called.{IsCalled}
+use Rattle.iso_engine.specs.Called.{IsCalled}
 use Rattle.iso_engine.specs.declared.doing.Doing.TheVariants.{Throwing}
 use Rattle.iso_search.specs.declared.search.Search.{Search}
 use Rattle.iso_engine.specs.declared.engine.Engine.{Engine}

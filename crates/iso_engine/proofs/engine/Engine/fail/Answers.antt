@@ -21,7 +21,7 @@ returns-in-Some-clause-ready g c =
     let f = c.resume-back.new.self in
     let d = c.in-Some.doing in
     let new : Engine = record e { search = f; doing = d } in
-    let steps = failed_steps e.wanted e.given e.search f e.doing d c.resume-back.result c.requires.fails
+    let steps = failed_steps e.solution_limit e.solutions_found e.search f e.doing d c.resume-back.result c.requires.fails
     (λ r q. fails_to r e.search (back_result r f c.resume-back.result) q (c.resume-back.ensures.step r q)) c.in-Some.ensures in
     step_ready m t e new steps c.resume-back.ensures.whole view c.requires.ready
 
@@ -35,7 +35,7 @@ returns-in-Some-clause-stepped g c =
     let f = c.resume-back.new.self in
     let d = c.in-Some.doing in
     let new : Engine = record e { search = f; doing = d } in
-    let steps = failed_steps e.wanted e.given e.search f e.doing d c.resume-back.result c.requires.fails
+    let steps = failed_steps e.solution_limit e.solutions_found e.search f e.doing d c.resume-back.result c.requires.fails
     (λ r q. fails_to r e.search (back_result r f c.resume-back.result) q (c.resume-back.ensures.step r q)) c.in-Some.ensures in
     advance_step m t e new steps (ap (λ (s : Search). s.budgets) c.resume-back.ensures.kept) refl refl view
 
@@ -278,7 +278,7 @@ returns-in_ok-self-in-Found-clause-ready g c =
     let k = c.in_ok-self-in-Found in
     let f = c.give_list.new.search in
     let new : Engine = record e { search = f; doing = k.field-0 } in
-    let steps = found_steps e.wanted e.given e.search x f e.doing k.field-0 b c.requires.fails
+    let steps = found_steps e.solution_limit e.solutions_found e.search x f e.doing k.field-0 b c.requires.fails
     (λ q h. fails_to q e.search (back_result q x b) h (sym (ap (back_result q x) r.is) ∙ c.resume-back.ensures.step q h)) k.ensures.stands in
     step_ready m t e new steps k.ensures.whole view c.requires.ready
 
@@ -295,7 +295,7 @@ returns-in_ok-self-in-Found-clause-stepped g c =
     let k = c.in_ok-self-in-Found in
     let f = c.give_list.new.search in
     let new : Engine = record e { search = f; doing = k.field-0 } in
-    let steps = found_steps e.wanted e.given e.search x f e.doing k.field-0 b c.requires.fails
+    let steps = found_steps e.solution_limit e.solutions_found e.search x f e.doing k.field-0 b c.requires.fails
     (λ q h. fails_to q e.search (back_result q x b) h (sym (ap (back_result q x) r.is) ∙ c.resume-back.ensures.step q h)) k.ensures.stands in
     advance_step m t e new steps (k.ensures.budgets ∙ ap (λ (s : Search). s.budgets) c.resume-back.ensures.kept) refl refl view
 
@@ -311,8 +311,8 @@ returns-in_ok-self-in-Found-clause-spent g c =
     let b = Found r.list r.found r.next in
     let k = c.in_ok-self-in-Found in
     let f = c.give_list.new.search in
-    spent_by e.wanted e.given e.search e.doing f k.field-0 m t
-    (found_steps e.wanted e.given e.search x f e.doing k.field-0 b c.requires.fails
+    spent_by e.solution_limit e.solutions_found e.search e.doing f k.field-0 m t
+    (found_steps e.solution_limit e.solutions_found e.search x f e.doing k.field-0 b c.requires.fails
     (λ q h. fails_to q e.search (back_result q x b) h (sym (ap (back_result q x) r.is) ∙ c.resume-back.ensures.step q h)) k.ensures.stands)
     view
 

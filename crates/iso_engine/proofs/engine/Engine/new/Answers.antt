@@ -47,9 +47,9 @@ returns-clause-ready c m t view held =
     let e : Engine = record {
       search = c.begin.new.search;
       doing = c.in_ok-doing.doing;
-      wanted = c.args.solutions;
-      given = 0;
-      broken = false;
+      solution_limit = c.args.solutions;
+      solutions_found = 0;
+      out_of_memory = false;
       alloc = c.args.alloc;
     } in
     started_ready e c.args.goal.now c.in_ok-begun.ensures.whole (λ v stays there. returns-clause-starts c v stays there) m t view held

@@ -1,5 +1,5 @@
 use Rattle.std.proofs.Common.{refl, subst}
-use Rattle.iso_calls.specs.Retried.{IsRetried}
+use Rattle.iso_engine.specs.Retried.{IsRetried}
 use Rattle.iso_engine.specs.declared.engine.Engine.{Engine}
 use Rattle.iso_engine.proofs.Retries.{put_back, tried}
 use Rattle.iso_engine.proofs.engine.Engine.retry.Goals as goal

@@ -3,7 +3,7 @@ use Rattle.world_api.specs.declared.visit.Procedure.{Procedure}
 use Rattle.world_api.proofs.Gaining.{gains_weaker}
 use Rattle.iso_search.specs.declared.search.Search.{Search}
 use Rattle.iso_engine.specs.declared.engine.Engine.{Engine}
-use Rattle.iso_engine.specs.Later.{view_of}
+use Rattle.iso_engine.specs.Views.{view_of}
 use Rattle.iso_engine.specs.Rows.{IsTried}
 use Rattle.iso_engine.proofs.RowTaken.{IsFollowedAs, given_text, led_moved, row_held, stopped_ready, stopped_stepped}
 use Rattle.iso_engine.proofs.Solutions.{view_is}

@@ -31,8 +31,8 @@ returns-in-Next-clause-spent g c =
     let did = c.in_ok-did-in-Some in
     let f = c.do_task.new.search in
     let d = c.in-Next.doing in
-    let steps = task_steps e.wanted e.given e.search f e.doing d c.args.list x.task x.next did.did c.requires.list first did.ensures.done c.in-Next.is in
-    spent_by e.wanted e.given e.search e.doing f d m t steps view
+    let steps = task_steps e.solution_limit e.solutions_found e.search f e.doing d c.args.list x.task x.next did.did c.requires.list first did.ensures.done c.in-Next.is in
+    spent_by e.solution_limit e.solutions_found e.search e.doing f d m t steps view
 
 pub returns-in-Next-clause-ready : goal.returns-in-Next-clause-ready
 returns-in-Next-clause-ready g c =
@@ -46,7 +46,7 @@ returns-in-Next-clause-ready g c =
     let did = c.in_ok-did-in-Some in
     let f = c.do_task.new.search in
     let d = c.in-Next.doing in
-    let steps = task_steps e.wanted e.given e.search f e.doing d c.args.list x.task x.next did.did c.requires.list first did.ensures.done c.in-Next.is in
+    let steps = task_steps e.solution_limit e.solutions_found e.search f e.doing d c.args.list x.task x.next did.did c.requires.list first did.ensures.done c.in-Next.is in
     let new : Engine = record e { search = f; doing = d } in
     step_ready m t e new steps did.ensures.whole view c.requires.ready
 
@@ -62,7 +62,7 @@ returns-in-Next-clause-stepped g c =
     let did = c.in_ok-did-in-Some in
     let f = c.do_task.new.search in
     let d = c.in-Next.doing in
-    let steps = task_steps e.wanted e.given e.search f e.doing d c.args.list x.task x.next did.did c.requires.list first did.ensures.done c.in-Next.is in
+    let steps = task_steps e.solution_limit e.solutions_found e.search f e.doing d c.args.list x.task x.next did.did c.requires.list first did.ensures.done c.in-Next.is in
     let new : Engine = record e { search = f; doing = d } in
     ([], advance_step m t e new steps did.ensures.budgets refl refl view, silent_out c.args.out.now.items [] refl)
 

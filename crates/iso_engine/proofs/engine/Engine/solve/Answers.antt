@@ -18,9 +18,9 @@ returns-in-Ok-clause-ready g c =
     let n = g.W.A.Atoms.held a in
     let t = g.W.World.told c.args.world.now in
     let u = g.W.World.told c.look.new.world in
-    let f : Engine = record e { doing = Answering; given = c.in-Some.given } in
+    let f : Engine = record e { doing = Answering; solutions_found = c.in-Some.found } in
     let view = view_is n u (g.met.W.A.Atoms.fixed_held a) (g.met.W.A.Atoms.unlike a) (g.met.W.A.Atoms.finite a) in
-    solved_ready m n t u e f c.requires.list.0 (arc_value c.in-Ok.operators) (ap (λ k. let x : Engine = record e { doing = Answering; given = k } in x) c.in-Some.ensures.1)
+    solved_ready m n t u e f c.requires.list.0 (arc_value c.in-Ok.operators) (ap (λ k. let x : Engine = record e { doing = Answering; solutions_found = k } in x) c.in-Some.ensures.1)
     c.requires.ready view c.look.ensures.holds c.in-Ok.ensures.looked
 
 pub returns-in-Ok-clause-stepped : goal.returns-in-Ok-clause-stepped
@@ -31,10 +31,10 @@ returns-in-Ok-clause-stepped g c =
     let n = g.W.A.Atoms.held a in
     let t = g.W.World.told c.args.world.now in
     let u = g.W.World.told c.look.new.world in
-    let f : Engine = record e { doing = Answering; given = c.in-Some.given } in
+    let f : Engine = record e { doing = Answering; solutions_found = c.in-Some.found } in
     let view = view_is n u (g.met.W.A.Atoms.fixed_held a) (g.met.W.A.Atoms.unlike a) (g.met.W.A.Atoms.finite a) in
     let walked = solved m n t u e f c.requires.list.0 (arc_value c.in-Ok.operators) c.requires.list.1 c.requires.list.2
-    (ap (λ k. let x : Engine = record e { doing = Answering; given = k } in x) c.in-Some.ensures.1) c.requires.ready.stable view c.look.ensures.holds c.in-Ok.ensures.looked
+    (ap (λ k. let x : Engine = record e { doing = Answering; solutions_found = k } in x) c.in-Some.ensures.1) c.requires.ready.stable view c.look.ensures.holds c.in-Ok.ensures.looked
     in let b = c.args.atoms.now
     in let answered = answer_held m n t e c.requires.list.0 (g.met.W.A.Atoms.fixed_held b) (g.met.W.A.Atoms.unlike b) (g.met.W.A.Atoms.finite b) c.requires.list.1 c.requires.ready.stable
     c.look.ensures.holds

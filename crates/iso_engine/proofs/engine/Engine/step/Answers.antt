@@ -49,9 +49,9 @@ returns-in_ok-self-in-Throwing-clause-spent g c =
     let view = view_is m t (g.met.W.A.Atoms.fixed_held a) (g.met.W.A.Atoms.unlike a) (g.met.W.A.Atoms.finite a) in
     let f = c.throw.new.search in
     let d = c.in_ok-self-in-Throwing.field-0 in
-    let steps = plain_steps e.wanted e.given e.search f e.doing (Throwing c.in-Throwing.ball c.in-Throwing.outer) d (sym c.replace.ensures.value ∙ c.in-Throwing.is)
+    let steps = plain_steps e.solution_limit e.solutions_found e.search f e.doing (Throwing c.in-Throwing.ball c.in-Throwing.outer) d (sym c.replace.ensures.value ∙ c.in-Throwing.is)
     c.in_ok-self-in-Throwing.ensures.step in
-    spent_by e.wanted e.given e.search e.doing f d m t steps view
+    spent_by e.solution_limit e.solutions_found e.search e.doing f d m t steps view
 
 pub returns-in_ok-self-in-Throwing-clause-ready : goal.returns-in_ok-self-in-Throwing-clause-ready
 returns-in_ok-self-in-Throwing-clause-ready g c =
@@ -62,7 +62,7 @@ returns-in_ok-self-in-Throwing-clause-ready g c =
     let view = view_is m t (g.met.W.A.Atoms.fixed_held a) (g.met.W.A.Atoms.unlike a) (g.met.W.A.Atoms.finite a) in
     let f = c.throw.new.search in
     let d = c.in_ok-self-in-Throwing.field-0 in
-    let steps = plain_steps e.wanted e.given e.search f e.doing (Throwing c.in-Throwing.ball c.in-Throwing.outer) d (sym c.replace.ensures.value ∙ c.in-Throwing.is)
+    let steps = plain_steps e.solution_limit e.solutions_found e.search f e.doing (Throwing c.in-Throwing.ball c.in-Throwing.outer) d (sym c.replace.ensures.value ∙ c.in-Throwing.is)
     c.in_ok-self-in-Throwing.ensures.step in
     let new : Engine = record e { search = f; doing = d } in
     step_ready m t e new steps c.in_ok-self-in-Throwing.ensures.whole view c.requires.ready
@@ -76,7 +76,7 @@ returns-in_ok-self-in-Throwing-clause-stepped g c =
     let view = view_is m t (g.met.W.A.Atoms.fixed_held a) (g.met.W.A.Atoms.unlike a) (g.met.W.A.Atoms.finite a) in
     let f = c.throw.new.search in
     let d = c.in_ok-self-in-Throwing.field-0 in
-    let steps = plain_steps e.wanted e.given e.search f e.doing (Throwing c.in-Throwing.ball c.in-Throwing.outer) d (sym c.replace.ensures.value ∙ c.in-Throwing.is)
+    let steps = plain_steps e.solution_limit e.solutions_found e.search f e.doing (Throwing c.in-Throwing.ball c.in-Throwing.outer) d (sym c.replace.ensures.value ∙ c.in-Throwing.is)
     c.in_ok-self-in-Throwing.ensures.step in
     let new : Engine = record e { search = f; doing = d } in
     ([], advance_step m t e new steps c.in_ok-self-in-Throwing.ensures.budgets refl refl view, silent_out c.args.out.now.items [] refl)
@@ -89,7 +89,7 @@ returns-in-Answering-clause-ready g c =
     let t = g.W.World.told c.args.world.now in
     let view = view_is m t (g.met.W.A.Atoms.fixed_held a) (g.met.W.A.Atoms.unlike a) (g.met.W.A.Atoms.finite a) in
     let d = c.after_solution.result in
-    let steps = subst (λ (y : Doing). Steps e.wanted e.given e.search y e.search d) (sym (sym c.replace.ensures.value ∙ c.in-Answering.is))
+    let steps = subst (λ (y : Doing). Steps e.solution_limit e.solutions_found e.search y e.search d) (sym (sym c.replace.ensures.value ∙ c.in-Answering.is))
     (λ r v wants gave. c.after_solution.ensures r e.search wants gave) in
     let new : Engine = record e { doing = d } in
     step_ready m t e new steps c.requires.ready.whole view c.requires.ready
@@ -102,7 +102,7 @@ returns-in-Answering-clause-stepped g c =
     let t = g.W.World.told c.args.world.now in
     let view = view_is m t (g.met.W.A.Atoms.fixed_held a) (g.met.W.A.Atoms.unlike a) (g.met.W.A.Atoms.finite a) in
     let d = c.after_solution.result in
-    let steps = subst (λ (y : Doing). Steps e.wanted e.given e.search y e.search d) (sym (sym c.replace.ensures.value ∙ c.in-Answering.is))
+    let steps = subst (λ (y : Doing). Steps e.solution_limit e.solutions_found e.search y e.search d) (sym (sym c.replace.ensures.value ∙ c.in-Answering.is))
     (λ r v wants gave. c.after_solution.ensures r e.search wants gave) in
     let new : Engine = record e { doing = d } in
     ([], advance_step m t e new steps refl refl refl view, silent_out c.args.out.now.items [] refl)

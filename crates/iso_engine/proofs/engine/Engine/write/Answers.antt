@@ -2,7 +2,7 @@ use Rattle.std.proofs.Common.{[], refl, sym, ap, subst, ◌∙◌, append-nil}
 use Rattle.iso_search.specs.declared.outcome.Fault.TheVariants.{Inferences}
 use Rattle.iso_search.specs.declared.outcome.Outcome.TheVariants.{Raise}
 use Rattle.iso_search.specs.declared.search.Search.{Search}
-use Rattle.iso_output.specs.Wrote.{IsTried, IsWrote}
+use Rattle.iso_engine.specs.Wrote.{IsTried, IsWrote}
 use Rattle.iso_engine.specs.declared.engine.Engine.{Engine}
 use Rattle.iso_engine.proofs.Opening.{goal_held}
 use Rattle.iso_engine.proofs.Solutions.{view_is}

@@ -1,0 +1,67 @@
+-- What the visits of calls and retries intern.
+use Rattle.std.proofs.Common.{◌≡◌, ℕ, ◌<◌, List, Option, refl, ap, subst, ◌∙◌}
+use Rattle.std.specs.List.{Contains}
+use Rattle.pl_term.specs.Tree.{Chars, Tree}
+use Rattle.pl_model.specs.History.{History}
+use Rattle.pl_model.specs.Requests.{call_clauses}
+use Rattle.atom_api.specs.Names.{Names, FixedStand}
+use Rattle.term_store.specs.declared.argument_key.ArgumentKey.{ArgumentKey}
+use Rattle.term_store.specs.declared.words.Place.{Place}
+use Rattle.term_store.specs.ArgumentKeys.{clause_key}
+use Rattle.term_store.specs.Contents.{term_at}
+use Rattle.term_store.specs.NumberedNames.{term_by}
+use Rattle.world_api.specs.declared.visit.Procedure.{Procedure}
+use Rattle.world_api.specs.declared.visit.Visit.TheVariants.{Call, Next}
+use Rattle.world_api.specs.Asked.{front_texts, IsInReply, IsInAnswer}
+use Rattle.world_api.specs.Gains.{Gains}
+use Rattle.world_api.specs.Texts.{text_of}
+use Rattle.world_api.specs.Told.{Told, behind, clause_list}
+use Rattle.world_api.proofs.Gaining.{gains_nothing, gains_weaker}
+use Rattle.iso_search.specs.declared.search.Search.{Search}
+use Rattle.iso_search.specs.Reading.{reads}
+use Rattle.iso_engine.specs.ClausesAsked.{IsCallAsked, IsRetryAsked}
+use Rattle.iso_engine.specs.CalledGoals.{HasPredicate}
+use Rattle.iso_engine.specs.Lists.{IsOpen}
+use Rattle.iso_engine.specs.Parts.{IsOverAtoms}
+use Rattle.iso_engine.specs.Views.{view_of}
+use Rattle.iso_engine.proofs.Asking.{call_asked, goal_asked}
+use Rattle.iso_engine.proofs.LaterLists.{list_later}
+use Rattle.iso_engine.proofs.Readings.{read_over}
+
+-- Nothing was asked of the atoms.
+pub nothing_asked : (P : Chars → Type 0) (o : Option (List Chars)) → Gains P o o
+nothing_asked P o = gains_nothing P o o refl
+
+module _ (m : Names) (t : Told) (e : Search) (goal : Place) (p : Procedure) (k : ArgumentKey) (fixed : FixedStand m) (over : IsOverAtoms (term_at e.store goal))
+    (is : HasPredicate (term_at e.store goal) p) (key : k ≡ clause_key (term_at e.store goal)) (old new : Option (List Chars)) where
+  abbrev goal_now : Tree
+  goal_now = term_by (text_of m) (term_at e.store goal)
+
+  -- The goal as it is read.
+  same_now : goal_now ≡ reads (view_of m t) e.store goal
+  same_now = read_over m fixed (term_at e.store goal) over
+
+  pub call_gains : e.inferences < e.budgets.inferences → Gains (IsInAnswer term_by clause_key (text_of m) (Call p k) t) old new → Gains (IsCallAsked m t e goal) old new
+  call_gains count =
+      gains_weaker (IsInAnswer term_by clause_key (text_of m) (Call p k) t) (IsCallAsked m t e goal) old new
+      (λ c a. record {
+        count = count;
+        before = a.before;
+        follows = a.follows;
+        handed =
+            subst (λ (g : Tree). IsInReply t a.before (call_clauses g) c) same_now
+            (a.stands (call_clauses goal_now) (call_asked m (term_at e.store goal) p k fixed is key));
+      })
+
+  pub retry_gains : (g place : ℕ) → IsOpen t (reads (view_of m t) e.store goal) g place → Gains (IsInAnswer term_by clause_key (text_of m) (Next p k g place) t) old new
+      → Gains (IsRetryAsked m t e goal g place) old new
+  retry_gains g place opens =
+      gains_weaker (IsInAnswer term_by clause_key (text_of m) (Next p k g place) t) (IsRetryAsked m t e goal g place) old new
+      (λ c a.
+      let there : Contains (front_texts (behind place (clause_list t.goals a.before g goal_now))) c =
+      a.stands goal_now (goal_asked m (term_at e.store goal) p k fixed is key)
+      in let here : Contains (front_texts (behind place (clause_list t.goals t.history g goal_now))) c =
+      subst (λ l. Contains (front_texts (behind place l)) c)
+      (ap (λ h. clause_list t.goals h g goal_now) a.follows.grown ∙ list_later t.goals t.history a.follows.later g goal_now opens.within)
+      there
+      in subst (λ (x : Tree). Contains (front_texts (behind place (clause_list t.goals t.history g x))) c) same_now here)

@@ -1,0 +1,94 @@
+//! Calls of the clauses of the program.
+ghost use Rattle.std.specs.Prelude.{◌≡◌, ◌≤◌, ◌++◌, ℤ, List, length, false, IfOk, OnOk, IsSome};
+ghost use Rattle.std.specs.List.{All};
+ghost use Rattle.pl_term.specs.Tree.{int};
+ghost use Rattle.term_store.specs.Contents.{Holds, term_at};
+ghost use Rattle.term_store.specs.NumberedNames.{atoms_in};
+ghost use Rattle.world_api.specs.Texts.{Holds as AreHeld};
+ghost use Rattle.world_api.specs.Told.{has_ended};
+ghost use Rattle.iso_search.specs.Searching.{IsWhole};
+ghost use Rattle.world_api.specs.Gains.{Gains};
+ghost use Rattle.iso_engine.specs.ClausesAsked.{IsCallAsked};
+ghost use Rattle.iso_engine.specs.Called.{IsCalled, call_refusals};
+ghost use Rattle.iso_engine.specs.Replies.{IsFollowed, IsListOrError};
+
+use crate::call::called::Called;
+use crate::call::clauses::try_first_clause;
+use crate::call::goals::{key_at, predicate_at};
+use iso_search::search::Search;
+use pl_term::Memory;
+use term_store::{Place, Stored};
+use world_api::{Answer, Reply, Visit, World};
+
+/// Calls the program's clauses for the goal at a place, before the tasks of a list (ISO 7.7.10): makes an inference, asks the
+/// shared state for the first of the clauses, and tries it. Where the visit is not served, nothing has changed, and the call is
+/// to be made again. The only error is out of memory, after which the search is not to be used.
+pub fn call_clauses<W: World<Term = Stored>>(
+    search: &mut Search,
+    world: &mut W,
+    atoms: &mut W::A,
+    goal: Place,
+    rest: usize,
+) -> Result<Called, Memory>
+    requires whole { IsWhole search.old }
+    requires goal { Holds search.old.store goal }
+    requires callable { (i : ℤ) → term_at search.old.store goal ≡ int i → ⊥ }
+    requires rest { rest ≤ length search.old.frames.items }
+    requires held { All (λ a. IsSome (W.A.held atoms.old a)) (atoms_in (term_at search.old.store goal)) }
+    requires runs { has_ended (W.told world.old).engine (W.told world.old).history ≡ false }
+    ensures whole { OnOk result (IsWhole search.new) }
+    ensures called { IfOk result (IsCalled (W.A.held atoms.old) (W.told world.old) search.old goal rest
+        (W.A.held atoms.new) (W.told world.new) search.new) }
+    ensures budgets { OnOk result (search.new.budgets ≡ search.old.budgets) }
+    ensures runs { has_ended (W.told world.new).engine (W.told world.new).history ≡ false }
+    ensures holds { AreHeld (W.A.held atoms.old) (W.A.held atoms.new) }
+    ensures refusals { W.A.refusals atoms.new ≡ W.A.refusals atoms.old ++ call_refusals result }
+    ensures asked { Gains (IsCallAsked (W.A.held atoms.old) (W.told world.old) search.old goal) (W.A.asked atoms.old) (W.A.asked atoms.new) }
+{
+    let most = search.budgets.inferences;
+    if search.inferences >= most {
+        return Ok(Called::Spent);
+    }
+    let _mark = search.store.mark();
+    let procedure = predicate_at(&search.store, goal);
+    let first = key_at(&search.store, goal);
+    let visit = Visit::Call { procedure, first };
+    match world.visit(visit, atoms) {
+        Answer::Served { reply, generation } => {
+            search.inferences += 1;
+            let called = follow_reply(search, goal, rest, reply, generation)?;
+            Ok(called)
+        }
+        Answer::Waits { .. } => unreachable!(),
+        Answer::NeedsAtoms(pass) => Ok(Called::NeedsAtoms(pass)),
+        Answer::Retry(cause) => Ok(Called::Retry(cause)),
+        Answer::Worn(word) => Ok(Called::Worn(word)),
+        Answer::Memory => Err(Memory),
+    }
+}
+
+/// Goes on by the reply to a call whose inference was made. The only error is out of memory.
+fn follow_reply(
+    search: &mut Search,
+    goal: Place,
+    rest: usize,
+    reply: Reply<Stored>,
+    generation: u64,
+) -> Result<Called, Memory>
+    requires whole { IsWhole search.old }
+    requires goal { Holds search.old.store goal }
+    requires rest { rest ≤ length search.old.frames.items }
+    requires reply { IsListOrError reply }
+    ensures whole { OnOk result (IsWhole search.new) }
+    ensures followed { IfOk result (IsFollowed search.old goal rest generation reply search.new) }
+    ensures budgets { OnOk result (search.new.budgets ≡ search.old.budgets) }
+{
+    match reply {
+        Reply::Clauses(found) => {
+            let outcome = try_first_clause(search, goal, rest, generation, found)?;
+            Ok(Called::Ran(outcome))
+        }
+        Reply::Refused(error) => Ok(Called::Refused(error)),
+        _ => unreachable!(),
+    }
+}

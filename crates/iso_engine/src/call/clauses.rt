@@ -1,0 +1,212 @@
+//! Clauses that are tried for a goal.
+ghost use Rattle.std.specs.Prelude.{◌≡◌, ◌≤◌, ◌+◌, ◌<◌, ◌^◌, ◌&&◌, nat_le, ℕ, List, length, IfOk, OnOk};
+ghost use Rattle.std.specs.Option.{option_map};
+ghost use Rattle.pl_term.specs.Variables.{variables};
+ghost use Rattle.pl_model.specs.History.{Clause, body_part, head_part};
+ghost use Rattle.pl_model.specs.Database.{Stored as StoredClause};
+ghost use Rattle.pl_model.specs.Predicates.{proc_of};
+ghost use Rattle.pl_model.specs.Resolution.{resolving};
+ghost use Rattle.pl_model.specs.Control.{first_clause, next_clause, tried, clause_unified};
+ghost use Rattle.pl_model.specs.Unify.{unify};
+ghost use Rattle.pl_model.specs.Terms.{raised_by};
+ghost use Rattle.term_store.specs.Contents.{Holds, IsAbove, term_at};
+ghost use Rattle.term_store.specs.NumberedNames.{term_by};
+ghost use Rattle.world_api.specs.Texts.{text_of};
+ghost use Rattle.world_api.specs.Visits.{clause_in};
+ghost use Rattle.iso_search.specs.Conversions.{Stays};
+ghost use Rattle.iso_search.specs.Outcomes.{IsAfter, Setting, limits_in, result_in, state_in};
+ghost use Rattle.iso_search.specs.Reading.{IsView, reads};
+ghost use Rattle.iso_search.specs.Searching.{IsWhole, node_of};
+ghost use Rattle.iso_engine.specs.Lists.{IsListed};
+ghost use Rattle.iso_engine.specs.Parts.{IsOverAtoms, IsParted, has_more};
+
+use atom_api::fixed;
+use iso_search::choices::Alternative;
+use iso_search::frames::Task;
+use iso_search::outcome::{Fault, Outcome};
+use iso_search::search::Search;
+use pl_model::kept::Kept;
+use pl_term::Memory;
+use term_store::{Place, Store, Stored, View as Kind};
+use world_api::Found;
+
+/// Tries the clauses of a list for a goal before the tasks of another list, of which the first was found at the generation. Where
+/// others follow it, a choice point is made, unless there are too many. The only error is out of memory.
+pub fn try_first_clause(
+    search: &mut Search,
+    goal: Place,
+    rest: usize,
+    generation: u64,
+    found: Option<Found<Stored>>,
+) -> Result<Outcome, Memory>
+    requires whole { IsWhole search.old }
+    requires goal { Holds search.old.store goal }
+    requires rest { rest ≤ length search.old.frames.items }
+    ensures whole { OnOk result (IsWhole search.new) }
+    ensures step { IfOk result (λ o. (t : Setting) (cs : List (StoredClause Clause)) → IsView t.view
+        → let g = reads t.view search.old.store goal in let n = node_of t.view search.old rest in
+        IsListed t.view g generation found cs
+        → result_in t search.new n (proc_of g) o ≡ first_clause (limits_in t search.old) resolving (state_in t search.old) g n cs) }
+    ensures after { IfOk result (IsAfter search.old search.new) }
+{
+    if is_full(search, &found) {
+        Ok(Outcome::Raise(Fault::Choices))
+    } else {
+        let outcome = try_next_clause(search, goal, rest, generation, found)?;
+        Ok(outcome)
+    }
+}
+
+/// Whether a clause was found that others follow, and no choice point can be made.
+fn is_full(search: &Search, found: &Option<Found<Stored>>) -> bool
+    ensures { result ≡ (has_more found.now && nat_le search.now.budgets.choices (length search.now.choices.items)) }
+{
+    let height = search.choices.len() as u64;
+    follows(found) && search.budgets.choices <= height
+}
+
+/// Whether a clause was found that others follow.
+fn follows(found: &Option<Found<Stored>>) -> bool
+    ensures { result ≡ has_more found.now }
+{
+    match found {
+        None => false,
+        Some(f) => f.more,
+    }
+}
+
+/// Tries the clauses of a list in their order. Where others follow the first one, a choice point is made. The only error is
+/// out of memory.
+pub fn try_next_clause(
+    search: &mut Search,
+    goal: Place,
+    rest: usize,
+    generation: u64,
+    found: Option<Found<Stored>>,
+) -> Result<Outcome, Memory>
+    requires whole { IsWhole search.old }
+    requires goal { Holds search.old.store goal }
+    requires rest { rest ≤ length search.old.frames.items }
+    ensures whole { OnOk result (IsWhole search.new) }
+    ensures step { IfOk result (λ o. (t : Setting) (cs : List (StoredClause Clause)) → IsView t.view
+        → let g = reads t.view search.old.store goal in let n = node_of t.view search.old rest in
+        IsListed t.view g generation found cs
+        → result_in t search.new n (proc_of g) o ≡ next_clause (limits_in t search.old) resolving (state_in t search.old) g n cs) }
+    ensures after { IfOk result (IsAfter search.old search.new) }
+{
+    match found {
+        None => Ok(Outcome::Fail),
+        Some(f) => {
+            let height = search.choices.len();
+            if f.more {
+                let alternative = Alternative::Clauses {
+                    goal,
+                    generation,
+                    place: f.place,
+                };
+                search.push_choice(alternative, rest)?;
+                let outcome = try_clause(search, goal, rest, height, &f.clause)?;
+                Ok(outcome)
+            } else {
+                let outcome = try_clause(search, goal, rest, height, &f.clause)?;
+                Ok(outcome)
+            }
+        }
+    }
+}
+
+/// Tries a clause for a goal: takes numbers and cells for a copy of it, makes the copy, and unifies its head with the goal.
+/// Its body is then to be done before the tasks of the list; a cut in it goes back to the height. The only error is want of
+/// memory.
+fn try_clause(
+    search: &mut Search,
+    goal: Place,
+    rest: usize,
+    height: usize,
+    clause: &Stored,
+) -> Result<Outcome, Memory>
+    requires whole { IsWhole search.old }
+    requires goal { Holds search.old.store goal }
+    requires rest { rest ≤ length search.old.frames.items }
+    ensures whole { OnOk result (IsWhole search.new) }
+    ensures step { IfOk result (λ o. (t : Setting) (c : StoredClause Clause) → IsView t.view
+        → clause_in (term_by (text_of t.view.names) clause.now) ≡ c.clause
+        → let g = reads t.view search.old.store goal in let n = node_of t.view search.old rest in
+        result_in t search.new n (proc_of g) o ≡ tried (limits_in t search.old) resolving (state_in t search.old) g n height c) }
+    ensures after { IfOk result (IsAfter search.old search.new) }
+{
+    let from = search.next;
+    let cells = Kept::cells(clause);
+    match search.take(clause.variables(), cells) {
+        Some(fault) => Ok(Outcome::Raise(fault)),
+        None => {
+            let outcome = resolve(search, goal, rest, height, clause, from)?;
+            Ok(outcome)
+        }
+    }
+}
+
+/// Makes a copy of a clause whose numbers and cells were taken, unifies its head with the goal, and puts its body before the
+/// tasks of the list.
+fn resolve(
+    search: &mut Search,
+    goal: Place,
+    rest: usize,
+    height: usize,
+    clause: &Stored,
+    from: u64,
+) -> Result<Outcome, Memory>
+    requires whole { IsWhole search.old }
+    requires goal { Holds search.old.store goal }
+    requires rest { rest ≤ length search.old.frames.items }
+    requires above { IsAbove from search.old.store }
+    requires taken { from + length (variables clause.now) ≤ search.old.next }
+    ensures whole { OnOk result (IsWhole search.new) }
+    ensures step { IfOk result (λ o. (t : Setting) (place : ℕ) → IsView t.view
+        → let g = reads t.view search.old.store goal in let n = node_of t.view search.old rest in
+        let c = term_by (text_of t.view.names) clause.now in
+        result_in t search.new n (proc_of g) o
+        ≡ clause_unified resolving (state_in t search.old) n height place (raised_by from (body_part c)) (unify g (raised_by from (head_part c)))) }
+    ensures after { IfOk result (IsAfter search.old search.new) }
+{
+    let mark = search.store.mark();
+    let copy = build_clause(search, clause, from)?;
+    let (head, body) = parts_at(&search.store, copy);
+    let list = search.push(Task::Goal(body, height), rest)?;
+    let outcome = search.unify_since(mark, goal, head, list)?;
+    Ok(outcome)
+}
+
+/// Makes a copy of a clause whose numbers and cells were taken.
+fn build_clause(search: &mut Search, clause: &Stored, from: u64) -> Result<Place, Memory>
+    requires whole { IsWhole search.old }
+    requires above { IsAbove from search.old.store }
+    requires taken { from + length (variables clause.now) ≤ search.old.next }
+    ensures whole { OnOk result (IsWhole search.new) }
+    ensures copied { IfOk result (λ p. Holds search.new.store p × (term_at search.new.store p ≡ raised_by from clause.now)) }
+    ensures stays { OnOk result (Stays search.old.store search.new.store) }
+    ensures named { IsOverAtoms clause.now }
+    ensures kept { search.new ≡ record search.old { store = search.new.store } }
+{
+    let _next = search.next;
+    let _nodes = clause.nodes();
+    let place = search.store.build(clause, from)?;
+    Ok(place)
+}
+
+/// The head and the body of the clause at a place. The body of a fact is `true`.
+fn parts_at(store: &Store, clause: Place) -> (Place, Place)
+    requires { Holds store.now clause }
+    ensures { IsParted store.now clause result.0 result.1 }
+{
+    match store.look(clause) {
+        Kind::Compound(name, arguments) => {
+            if name == fixed::NECK && arguments.len() == 2 {
+                (store.argument(arguments, 0), store.argument(arguments, 1))
+            } else {
+                (clause, Place::atom(fixed::TRUE))
+            }
+        }
+        _ => (clause, Place::atom(fixed::TRUE)),
+    }
+}

@@ -1,0 +1,92 @@
+//! Going back to clauses that were not tried.
+ghost use Rattle.std.specs.Prelude.{◌≡◌, ◌≤◌, ◌++◌, ℤ, List, length, false, IfOk, OnOk, IsSome};
+ghost use Rattle.std.specs.List.{All};
+ghost use Rattle.pl_term.specs.Tree.{int};
+ghost use Rattle.term_store.specs.Contents.{Holds, term_at};
+ghost use Rattle.term_store.specs.NumberedNames.{atoms_in};
+ghost use Rattle.world_api.specs.Texts.{Holds as AreHeld};
+ghost use Rattle.world_api.specs.Gains.{Gains};
+ghost use Rattle.world_api.specs.Told.{has_ended};
+ghost use Rattle.iso_search.specs.Reading.{reads};
+ghost use Rattle.iso_search.specs.Searching.{IsWhole};
+ghost use Rattle.iso_engine.specs.ClausesAsked.{IsRetryAsked};
+ghost use Rattle.iso_engine.specs.Lists.{IsOpen};
+ghost use Rattle.iso_engine.specs.Retried.{IsRetried, retry_refusals};
+ghost use Rattle.iso_engine.specs.Views.{view_of};
+
+use crate::call::called::Retried;
+use crate::call::clauses::try_next_clause;
+use crate::call::goals::{key_at, predicate_at};
+use iso_search::choices::Alternative;
+use iso_search::search::Search;
+use pl_term::Memory;
+use term_store::{Place, Stored};
+use world_api::{Answer, Reply, Visit, World};
+
+/// Goes on with the clauses for the goal at a place that were not tried (ISO 7.7.8), whose choice point was taken off: those of the
+/// generation after the clause with the place, before the tasks of a list. Asks the shared state for the next of them, and
+/// tries it. Where the visit is not served, the choice point is there again. The only error is out of memory, after which
+/// the search is not to be used.
+pub fn retry_clauses<W: World<Term = Stored>>(
+    search: &mut Search,
+    world: &mut W,
+    atoms: &mut W::A,
+    goal: Place,
+    generation: u64,
+    place: u64,
+    next: usize,
+) -> Result<Retried, Memory>
+    requires whole { IsWhole search.old }
+    requires goal { Holds search.old.store goal }
+    requires callable { (i : ℤ) → term_at search.old.store goal ≡ int i → ⊥ }
+    requires next { next ≤ length search.old.frames.items }
+    requires held { All (λ a. IsSome (W.A.held atoms.old a)) (atoms_in (term_at search.old.store goal)) }
+    requires open { IsOpen (W.told world.old) (reads (view_of (W.A.held atoms.old) (W.told world.old)) search.old.store goal) generation place }
+    requires runs { has_ended (W.told world.old).engine (W.told world.old).history ≡ false }
+    ensures whole { OnOk result (IsWhole search.new) }
+    ensures retried { IfOk result (IsRetried (W.told world.old) search.old goal generation place next
+        (W.A.held atoms.new) (W.told world.new) search.new) }
+    ensures budgets { OnOk result (search.new.budgets ≡ search.old.budgets) }
+    ensures runs { has_ended (W.told world.new).engine (W.told world.new).history ≡ false }
+    ensures holds { AreHeld (W.A.held atoms.old) (W.A.held atoms.new) }
+    ensures refusals { OnOk result (W.A.refusals atoms.new ≡ W.A.refusals atoms.old ++ retry_refusals result) }
+    ensures asked { Gains (IsRetryAsked (W.A.held atoms.old) (W.told world.old) search.old goal generation place) (W.A.asked atoms.old) (W.A.asked atoms.new) }
+{
+    let _mark = search.store.mark();
+    let procedure = predicate_at(&search.store, goal);
+    let first = key_at(&search.store, goal);
+    let visit = Visit::Next {
+        procedure,
+        first,
+        generation,
+        place,
+    };
+    let left = Alternative::Clauses {
+        goal,
+        generation,
+        place,
+    };
+    match world.visit(visit, atoms) {
+        Answer::Served { reply, .. } => {
+            let Reply::Clauses(found) = reply else {
+                unreachable!();
+            };
+            let outcome = try_next_clause(search, goal, next, generation, found)?;
+            Ok(Retried::Ran(outcome))
+        }
+        Answer::NeedsAtoms(pass) => {
+            search.push_choice(left, next)?;
+            Ok(Retried::NeedsAtoms(pass))
+        }
+        Answer::Retry(cause) => {
+            search.push_choice(left, next)?;
+            Ok(Retried::Retry(cause))
+        }
+        Answer::Worn(word) => {
+            search.push_choice(left, next)?;
+            Ok(Retried::Worn(word))
+        }
+        Answer::Waits { .. } => Err(Memory),
+        Answer::Memory => Err(Memory),
+    }
+}

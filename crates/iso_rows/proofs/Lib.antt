@@ -1,9 +1,0 @@
-pub mod Followed
-pub mod Giving
-pub mod Grown
-pub mod Led
-pub mod Lined
-pub mod Listed
-pub mod Paired
-pub mod Turns
-pub mod Unified
