@@ -3,8 +3,10 @@ pub mod CodeLaws
 pub mod FaultLaws
 pub mod Fixed
 pub mod Kept
+pub mod ListedLaws
 pub mod Looks
 pub mod MadeLaws
 pub mod MeasureLaws
 pub mod Rows
+pub mod SpellLaws
 pub mod TextLaws

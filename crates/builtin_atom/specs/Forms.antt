@@ -1,6 +1,6 @@
 -- Characters of lists: as atoms of one character, or as their codes.
 use Rattle.std.specs.Prelude.{◌≡◌, ℕ, false, Option, Some, None, codes}
-use Rattle.pl_term.specs.Tree.{Tree, var}
+use Rattle.pl_term.specs.Tree.{Chars, Tree, var}
 use Rattle.pl_model.specs.AtomBuiltins.{as_character, character_error, character_in, code_error, number}
 use Rattle.pl_model.specs.Balls.{instantiation_error, representation_error, type_error}
 use Rattle.pl_model.specs.Checks.{natural_of}
@@ -28,6 +28,11 @@ from_by Codes = natural_of
 abbrev pub to_by : Form → ℕ → Tree
 to_by Characters = as_character
 to_by Codes = number
+
+-- The predicates between atoms and lists (ISO 8.16.4, 8.16.5).
+abbrev pub atom_predicate : Form → Chars
+atom_predicate Characters = codes "atom_chars"
+atom_predicate Codes = codes "atom_codes"
 
 -- The error term of what is wrong with an element.
 abbrev pub error_of : Names → Contents → Fault → Tree

@@ -116,7 +116,7 @@ fn of_character<A: Atoms>(
 }
 
 /// The code of a character.
-fn code_of(c: char) -> Place
+pub fn code_of(c: char) -> Place
     ensures { (s : Contents) → Holds s result × (term_at s result ≡ number c) }
 {
     Place::integer(i64::from(u32::from(c)))

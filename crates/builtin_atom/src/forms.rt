@@ -114,9 +114,9 @@ pub fn fault_row(store: &mut Store, fault: Fault, name: Atom) -> Result<Row, Mem
     ensures single { IfOk result IsSingle }
 {
     match fault {
-        Fault::Unbound => unbound(store, name),
-        Fault::NoCharacter(place) => wrong_type(store, fixed::CHARACTER, place, name),
-        Fault::NoInteger(place) => wrong_type(store, fixed::INTEGER, place, name),
-        Fault::NoCode => past_limit(store, fixed::CHARACTER_CODE, name),
+        Fault::Unbound => unbound(store, name, 2),
+        Fault::NoCharacter(place) => wrong_type(store, fixed::CHARACTER, place, name, 2),
+        Fault::NoInteger(place) => wrong_type(store, fixed::INTEGER, place, name, 2),
+        Fault::NoCode => past_limit(store, fixed::CHARACTER_CODE, name, 2),
     }
 }

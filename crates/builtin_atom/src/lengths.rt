@@ -38,10 +38,10 @@ pub fn atom_length<A: Atoms>(
     ensures asked { A.asked atoms.new ≡ A.asked atoms.old }
 {
     match store.look(atom) {
-        Kind::Variable(_) => unbound(store, fixed::ATOM_LENGTH),
+        Kind::Variable(_) => unbound(store, fixed::ATOM_LENGTH, 2),
         Kind::Atom(name) => length_of(alloc, store, name, atom, length, atoms),
-        Kind::Integer(_) => wrong_type(store, fixed::ATOM, atom, fixed::ATOM_LENGTH),
-        Kind::Compound(_, _) => wrong_type(store, fixed::ATOM, atom, fixed::ATOM_LENGTH),
+        Kind::Integer(_) => wrong_type(store, fixed::ATOM, atom, fixed::ATOM_LENGTH, 2),
+        Kind::Compound(_, _) => wrong_type(store, fixed::ATOM, atom, fixed::ATOM_LENGTH, 2),
     }
 }
 
@@ -72,7 +72,7 @@ fn length_of<A: Atoms>(
         }
         Kind::Integer(given) => {
             if given < 0 {
-                return below_zero(store, length, fixed::ATOM_LENGTH);
+                return below_zero(store, length, fixed::ATOM_LENGTH, 2);
             }
             let count = character_count(name, atoms) as i64;
             if count == given {
@@ -80,7 +80,7 @@ fn length_of<A: Atoms>(
             }
             answer(alloc, store, atom, Place::integer(count))
         }
-        Kind::Atom(_) => wrong_type(store, fixed::INTEGER, length, fixed::ATOM_LENGTH),
-        Kind::Compound(_, _) => wrong_type(store, fixed::INTEGER, length, fixed::ATOM_LENGTH),
+        Kind::Atom(_) => wrong_type(store, fixed::INTEGER, length, fixed::ATOM_LENGTH, 2),
+        Kind::Compound(_, _) => wrong_type(store, fixed::INTEGER, length, fixed::ATOM_LENGTH, 2),
     }
 }

@@ -3,14 +3,23 @@
 #![tactic(auto)]
 
 mod answers;
+mod characters;
 mod codes;
 mod errors;
 mod forms;
 mod lengths;
+mod listed;
 mod making;
+mod spelled;
+mod spelling;
 #[cfg(test)]
 mod tests;
 mod texts;
 
+pub use answers::take_cells;
+pub use characters::text_from;
 pub use codes::char_code;
+pub use errors::{below_zero, past_limit, unbound, wrong_type};
 pub use lengths::atom_length;
+pub use making::{Made, make_atom};
+pub use spelling::{atom_chars, atom_codes};

@@ -3,7 +3,7 @@ ghost use Rattle.atom_api.specs.Names.{Names, FixedStand};
 ghost use Rattle.term_store.specs.Contents.{Contents, Holds};
 ghost use Rattle.world_builtins.specs.Naming.{IsHeldAt};
 
-use crate::{atom_length, char_code};
+use crate::{atom_chars, atom_codes, atom_length, char_code};
 use atom_api::{Atoms, PlainAtoms, fixed};
 use builtin_rows::Row;
 use pl_term::Memory;
@@ -69,5 +69,39 @@ fn codes_are_told(rt: HostRuntime) -> Result<(), Fail> {
     assert!(rt; matches!(&right, Row::Holds));
     assert!(rt; matches!(&other, Row::Answer { fresh: 0, .. }));
     assert!(rt; matches!(&surrogate, Row::Ball(_)));
+    Ok(())
+}
+
+/// The row of atom_chars(nl, 0), where so many cells fit.
+fn characters_of_newline<A: Atoms>(
+    alloc: Global,
+    cells: u64,
+    atoms: &mut A,
+) -> Result<Row, Memory> {
+    let mut store = Store::new(alloc, cells)?;
+    let atom = newline();
+    let list = number(0);
+    atom_chars(alloc, &mut store, atom, list, atoms)
+}
+
+/// The row of atom_codes(!, 0), where so many cells fit.
+fn codes_of_mark<A: Atoms>(alloc: Global, cells: u64, atoms: &mut A) -> Result<Row, Memory> {
+    let mut store = Store::new(alloc, cells)?;
+    let atom = mark();
+    let list = number(0);
+    atom_codes(alloc, &mut store, atom, list, atoms)
+}
+
+#[test]
+fn lists_of_characters_are_made(rt: HostRuntime) -> Result<(), Fail> {
+    let mut atoms = PlainAtoms::new(rt.alloc())?;
+    let characters = characters_of_newline(rt.alloc(), 6, &mut atoms)?;
+    let too_many = characters_of_newline(rt.alloc(), 5, &mut atoms)?;
+    let codes = codes_of_mark(rt.alloc(), 3, &mut atoms)?;
+    let none = codes_of_mark(rt.alloc(), 2, &mut atoms)?;
+    assert!(rt; matches!(&characters, Row::Answer { fresh: 0, .. }));
+    assert!(rt; matches!(&too_many, Row::CellsFull { used: 0, need: 6 }));
+    assert!(rt; matches!(&codes, Row::Answer { fresh: 0, .. }));
+    assert!(rt; matches!(&none, Row::CellsFull { used: 0, need: 3 }));
     Ok(())
 }

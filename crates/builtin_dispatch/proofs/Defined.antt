@@ -1,7 +1,7 @@
 -- The rows that the definitions have for the predicates.
 use Rattle.std.proofs.Common.{◌≡◌, ◌+◌, ◌*◌, [], ◌∷◌, map, length, ℕ, zero, suc, ℤ, refl, Bool, List, Option, Some, None, Result, Ok, Err}
-use Rattle.std.specs.Prelude.{is_some, not}
-use Rattle.pl_term.specs.Tree.{Tree, var, int, atom, comp}
+use Rattle.std.specs.Prelude.{is_some, not, true, false, if◌then◌else◌}
+use Rattle.pl_term.specs.Tree.{Chars, Tree, var, int, atom, comp}
 use Rattle.pl_model.specs.Builtins.{row}
 use Rattle.pl_model.specs.BuiltinRows as basic
 use Rattle.pl_model.specs.BuiltinRows.{one_answer, test}
@@ -11,7 +11,8 @@ use Rattle.pl_term.specs.Order.{order}
 use Rattle.pl_term.specs.Variables.{variables}
 use Rattle.pl_model.specs.Terms.{arguments, list_term, variable_count}
 use Rattle.pl_model.specs.TermBuiltins.{argument_at, argument_of, compares, compares_values, composed, composes, copies, evaluates, functor_of, gives_list, key, list_error, lists_variables, makes, makes_functor, merges, on_list, pairs_error, sign, sign_error, sorted, sorts, sorts_by_key, subsumes, three, two, univ, unless, with_argument, with_value}
-use Rattle.pl_model.specs.AtomBuiltins.{codes_character, coded_row, measures, number}
+use Rattle.pl_model.specs.AtomBuiltins.{all_errors, as_character, character_error, character_in, code_error, codes_character, coded_row, if_short, measures, number, spells}
+use Rattle.pl_model.specs.TermGrammar.{is_too_long}
 use Rattle.pl_model.specs.Unify.{unify}
 use Rattle.pl_model.specs.History.{proc}
 use Rattle.builtin_rows.specs.declared.predicates.Pred.TheVariants as pred
@@ -59,6 +60,22 @@ plain_coded (var x) n = tt
 plain_coded (int i) n = tt
 plain_coded (atom a) n = tt
 plain_coded (comp f u us) n = tt
+
+plain_if : (b : Bool) (r q : basic.Row) → IsPlainRow r → IsPlainRow q → IsPlainRow (if b then r else q)
+plain_if true r q h k = h
+plain_if false r q h k = k
+
+module _ (check : Tree → Option Tree) (from : Tree → ℕ) (to : ℕ → Tree) where
+  plain_short : (c : Chars) (r : basic.Row) → IsPlainRow r → IsPlainRow (if_short c r)
+  plain_short c r h = plain_if (is_too_long c) _ r tt h
+
+  plain_spells : (a l : Tree) → IsPlainRow (spells check from to a l)
+  plain_spells (var x) l =
+      plain_list (elements l) _
+      (λ ts. plain_unless (all_errors check ts) _ (plain_short (map from ts) (one_answer (two (atom (map from ts)) l)) tt))
+  plain_spells (int i) l = tt
+  plain_spells (atom b) l = tt
+  plain_spells (comp f u us) l = tt
 
 plain_values : (by : ℤ → ℤ → Bool) (t u : Tree) → IsPlainRow (compares_values by t u)
 plain_values by t u =
@@ -139,6 +156,14 @@ module _ (t u : Tree) (next : ℕ) where
             plain_unless (first_error (bound_error t ∷ atom_error t ∷ integer_error u ∷ negative_error u ∷ []))
             (one_answer (two t (number (length (text_of_atom t))))) tt;
       }
+
+  pub atom_chars_defined : IsDefined pred.AtomChars (two t u) next (spells character_error character_in as_character t u)
+  unfolding row basic.row
+  atom_chars_defined = record { row_is = refl; plain = plain_spells character_error character_in as_character t u }
+
+  pub atom_codes_defined : IsDefined pred.AtomCodes (two t u) next (spells code_error natural_of number t u)
+  unfolding row basic.row
+  atom_codes_defined = record { row_is = refl; plain = plain_spells code_error natural_of number t u }
 
   pub codes_defined : IsDefined pred.CharCode (two t u) next (codes_character t u)
   unfolding row basic.row

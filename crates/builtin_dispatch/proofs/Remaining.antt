@@ -125,6 +125,8 @@ pub record IsOther (p : Pred) : Type 0 where
   pub univ : p ≢ pred.Univ
   pub evaluates : p ≢ pred.Is
   pub measures : p ≢ pred.AtomLength
+  pub atom_chars : p ≢ pred.AtomChars
+  pub atom_codes : p ≢ pred.AtomCodes
   pub codes : p ≢ pred.CharCode
 
 pub comparison_told : (p : Pred) (t u : Tree) (next : ℕ) → IsOther p → Compares p None → kind_of p ≡ row → arity_of p ≡ 2
@@ -190,8 +192,8 @@ comparison_told pred.CurrentOp t u next is values kind arity = asks_no_row kind
 comparison_told pred.AtomLength t u next is values kind arity = absurd (is.measures refl)
 comparison_told pred.AtomConcat t u next is values kind arity = absurd (omega (arith, arity))
 comparison_told pred.SubAtom t u next is values kind arity = absurd (omega (arith, arity))
-comparison_told pred.AtomChars t u next is values kind arity = record { defined = tt; unbuilt = refl }
-comparison_told pred.AtomCodes t u next is values kind arity = record { defined = tt; unbuilt = refl }
+comparison_told pred.AtomChars t u next is values kind arity = absurd (is.atom_chars refl)
+comparison_told pred.AtomCodes t u next is values kind arity = absurd (is.atom_codes refl)
 comparison_told pred.CharCode t u next is values kind arity = absurd (is.codes refl)
 comparison_told pred.NumberChars t u next is values kind arity = record { defined = tt; unbuilt = refl }
 comparison_told pred.NumberCodes t u next is values kind arity = record { defined = tt; unbuilt = refl }

@@ -6,7 +6,7 @@ use Rattle.pl_term.specs.Tree.{Chars}
 -- Their names, by the number of their arguments.
 abbrev pub unbuilt_names : ℕ → List Chars
 unbuilt_names (suc (suc zero)) =
-    codes "atom_chars" ∷ codes "atom_codes" ∷ codes "number_chars" ∷ codes "number_codes" ∷ []
+    codes "number_chars" ∷ codes "number_codes" ∷ []
 unbuilt_names (suc (suc (suc zero))) = codes "atom_concat" ∷ []
 unbuilt_names (suc (suc (suc (suc (suc zero))))) = codes "sub_atom" ∷ []
 unbuilt_names _ = []

@@ -10,7 +10,7 @@ pub returns-clause-row : goal.returns-clause-row
 returns-clause-row c =
     let s = c.args.store.now in
     with_ok _ _ c.refused_for.result
-    (λ r h m p ts stand held known. error_row s (proc p 2) ts (domain_error (codes "not_less_than_zero") (reads m s c.args.culprit)) m c.refused_for.new.store r
+    (λ r h m p ts stand held known. error_row s (proc p c.args.arity) ts (domain_error (codes "not_less_than_zero") (reads m s c.args.culprit)) m c.refused_for.new.store r
     (λ next. h m (codes "domain_error") (codes "not_less_than_zero") p next ts stand held domain_error_is not_less_than_zero_is known))
     c.refused_for.ensures.row
 

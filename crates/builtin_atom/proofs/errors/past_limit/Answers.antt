@@ -9,7 +9,7 @@ pub returns-clause-row : goal.returns-clause-row
 returns-clause-row c =
     let s = c.args.store.now in
     with_ok _ _ c.refused_with.result
-    (λ r h m k p ts stand kind known. error_row s (proc p 2) ts (representation_error k) m c.refused_with.new.store r
+    (λ r h m k p ts stand kind known. error_row s (proc p c.args.arity) ts (representation_error k) m c.refused_with.new.store r
     (λ next. h m (codes "representation_error") k p next ts stand representation_error_is kind known))
     c.refused_with.ensures.row
 

@@ -9,7 +9,7 @@ pub returns-clause-row : goal.returns-clause-row
 returns-clause-row c =
     let s = c.args.store.now in
     with_ok _ _ c.raised.result
-    (λ r h m p ts stand known. error_row s (proc p 2) ts instantiation_error m c.raised.new.store r
+    (λ r h m p ts stand known. error_row s (proc p c.args.arity) ts instantiation_error m c.raised.new.store r
     (λ next. h m (codes "instantiation_error") p next ts stand instantiation_error_is known))
     c.raised.ensures.row
 

@@ -10,7 +10,7 @@ pub returns-clause-row : goal.returns-clause-row
 returns-clause-row c =
     let s = c.args.store.now in
     with_ok _ _ c.refused_for.result
-    (λ r h m k p ts stand held kind known. error_row s (proc p 2) ts (type_error k (reads m s c.args.culprit)) m c.refused_for.new.store r
+    (λ r h m k p ts stand held kind known. error_row s (proc p c.args.arity) ts (type_error k (reads m s c.args.culprit)) m c.refused_for.new.store r
     (λ next. h m (codes "type_error") k p next ts stand held type_error_is kind known))
     c.refused_for.ensures.row
 

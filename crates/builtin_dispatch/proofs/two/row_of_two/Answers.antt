@@ -1,8 +1,9 @@
 use Rattle.std.proofs.Common.{codes, refl, sym, subst, arith}
 use Rattle.std.specs.Prelude.{is_some, not}
 use Rattle.pl_term.specs.Order.{order}
-use Rattle.pl_model.specs.AtomBuiltins.{codes_character, measures}
+use Rattle.pl_model.specs.AtomBuiltins.{as_character, character_error, character_in, code_error, codes_character, measures, number, spells}
 use Rattle.pl_model.specs.BuiltinRows.{comparison, one_answer, test, test_row}
+use Rattle.pl_model.specs.Checks.{natural_of}
 use Rattle.pl_model.specs.History.{proc}
 use Rattle.pl_model.specs.TermBuiltins.{compares_values, copies, evaluates, lists_variables, merges, sorts, sorts_by_key, subsumes, two, univ}
 use Rattle.pl_model.specs.Unify.{unify}
@@ -20,7 +21,7 @@ use Rattle.builtin_arithmetic.specs.Comparing.{holds_by}
 use Rattle.builtin_dispatch.specs.Comparisons.{pred_of}
 use Rattle.builtin_dispatch.specs.Dispatching.{Does}
 use Rattle.builtin_dispatch.proofs.Answering.{answers_do, interned, ok_weaker, same_holds, settled, settles}
-use Rattle.builtin_dispatch.proofs.Defined.{codes_defined, copies_defined, equal_defined, evaluates_defined, keysorts_defined, measures_defined, merges_defined, not_unifiable_defined, occurs_defined, sorts_defined, subsumes_defined, univ_defined, values_defined, values_proc, variables_defined}
+use Rattle.builtin_dispatch.proofs.Defined.{atom_chars_defined, atom_codes_defined, codes_defined, copies_defined, equal_defined, evaluates_defined, keysorts_defined, measures_defined, merges_defined, not_unifiable_defined, occurs_defined, sorts_defined, subsumes_defined, univ_defined, values_defined, values_proc, variables_defined}
 use Rattle.builtin_dispatch.proofs.Remaining.{IsOther, comparison_told}
 use Rattle.builtin_dispatch.proofs.two.row_of_two.Goals as goal
 
@@ -220,6 +221,36 @@ returns-in-AtomLength g c =
     (gains_nothing _ _ _ c.atom_length.ensures.asked)
     (ok_weaker _ _ c.atom_length.result c.atom_length.ensures.row (λ r h. h next (omega arith))) c.atom_length.ensures.single
 
+pub returns-in-AtomChars : goal.returns-in-AtomChars
+returns-in-AtomChars g c =
+    let s = c.args.store.now in
+    let m = g.A.Atoms.held c.args.atoms.now in
+    let t = reads m s c.args.first in
+    let u = reads m s c.args.second in
+    let next = c.args.next in
+    let refused = g.A.Atoms.refusals c.args.atoms.now in
+    let asked = g.A.Atoms.asked c.args.atoms.now in
+    interned s c.atom_chars.new.store c.args.pred pred.AtomChars (two t u) next m (g.A.Atoms.held c.atom_chars.new.atoms) refused (g.A.Atoms.refusals c.atom_chars.new.atoms) asked (g.A.Atoms.asked c.atom_chars.new.atoms)
+    (spells character_error character_in as_character t u) c.atom_chars.result c.built-in-AtomChars.result
+    c.in-AtomChars.is (atom_chars_defined t u next) c.built-in-AtomChars.ensures c.atom_chars.ensures.holds c.atom_chars.ensures.refusals
+    (gains_weaker _ _ _ _ (λ x h. h next (omega arith)) c.atom_chars.ensures.asked)
+    (ok_weaker _ _ c.atom_chars.result c.atom_chars.ensures.row (λ r h. h next (omega arith))) c.atom_chars.ensures.single
+
+pub returns-in-AtomCodes : goal.returns-in-AtomCodes
+returns-in-AtomCodes g c =
+    let s = c.args.store.now in
+    let m = g.A.Atoms.held c.args.atoms.now in
+    let t = reads m s c.args.first in
+    let u = reads m s c.args.second in
+    let next = c.args.next in
+    let refused = g.A.Atoms.refusals c.args.atoms.now in
+    let asked = g.A.Atoms.asked c.args.atoms.now in
+    interned s c.atom_codes.new.store c.args.pred pred.AtomCodes (two t u) next m (g.A.Atoms.held c.atom_codes.new.atoms) refused (g.A.Atoms.refusals c.atom_codes.new.atoms) asked (g.A.Atoms.asked c.atom_codes.new.atoms)
+    (spells code_error natural_of number t u) c.atom_codes.result c.built-in-AtomCodes.result
+    c.in-AtomCodes.is (atom_codes_defined t u next) c.built-in-AtomCodes.ensures c.atom_codes.ensures.holds c.atom_codes.ensures.refusals
+    (gains_weaker _ _ _ _ (λ x h. h next (omega arith)) c.atom_codes.ensures.asked)
+    (ok_weaker _ _ c.atom_codes.result c.atom_codes.ensures.row (λ r h. h next (omega arith))) c.atom_codes.ensures.single
+
 pub returns-in-CharCode : goal.returns-in-CharCode
 returns-in-CharCode g c =
     let s = c.args.store.now in
@@ -276,6 +307,8 @@ returns-in-None g c =
       univ = c.in_default.not-Univ;
       evaluates = c.in_default.not-Is;
       measures = c.in_default.not-AtomLength;
+      atom_chars = c.in_default.not-AtomChars;
+      atom_codes = c.in_default.not-AtomCodes;
       codes = c.in_default.not-CharCode;
     } in
     let refused = g.A.Atoms.refusals c.args.atoms.now in
