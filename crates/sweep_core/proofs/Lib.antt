@@ -1,4 +1,9 @@
 pub mod Words
+pub mod Aheads
 pub mod CycleSteps
 pub mod Checks
 pub mod SweepSteps
+pub mod Treading
+pub mod RowBuckets
+pub mod Removing
+pub mod Judging

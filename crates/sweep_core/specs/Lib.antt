@@ -1,3 +1,4 @@
 pub mod Cycles
 pub mod Plays
 pub mod Sweeps
+pub mod Treads

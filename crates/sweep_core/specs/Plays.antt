@@ -1,5 +1,5 @@
 -- What each step tells its caller: of the step, the seat before, the number found (at a store, the number stored) and the seat after.
-use Rattle.std.specs.Prelude.{◌≡◌, ◌≢◌, ◌<◌, ◌≤◌, ℕ, List, Some}
+use Rattle.std.specs.Prelude.{◌≡◌, ◌≢◌, ◌<◌, ◌≤◌, ℕ, false, List, Some}
 use Rattle.atomic_table.specs.Table.{Me, Step}
 use Rattle.atom_words.specs.Layout.{version_of, last, epoch_of}
 use Rattle.atom_words.specs.Board.{atom_at, link_at, head_at}
@@ -8,8 +8,9 @@ use Rattle.atom_words.specs.Plays.{Is}
 use Rattle.atom_words.specs.declared.view.Held.{Held}
 use Rattle.atom_words.specs.declared.view.Sweeping.{Sweeping}
 use Rattle.atom_words.specs.declared.view.View.{View}
-use Rattle.atom_words.specs.declared.kind.Kind.TheVariants.{Load, Begin, Mark, Scan, Ack, Check, ToSweep, Start, Look, Spell, Condemn, PassOver, Behind, UnlinkAt, UnlinkHead, Note, Bump, Past, Free, End}
+use Rattle.atom_words.specs.declared.kind.Kind.TheVariants.{Load, Begin, Mark, Scan, Ack, Check, ToSweep, Start, Next, Look, Spell, Condemn, PassOver, Behind, UnlinkAt, UnlinkHead, Note, Bump, Past, Free, End}
 use Rattle.sweep_core.specs.Cycles.{Marks, Unmarked}
+use Rattle.sweep_core.specs.Treads.{Ahead}
 
 abbrev Sat : Type 0
 Sat = Me (Unit {0}) View
@@ -56,13 +57,16 @@ condemned st m r m' = (m'.1 ≡ m.1) × (r ≡ 3 → m'.0 ≡ view_after m.0 Con
 abbrev pub passed : At → Sat → ℕ → Sat → Type 0
 passed st m r m' = Is (PassOver r) m m'
 
--- the collector's walk begins
+-- the collector's walk begins; it goes on
 abbrev pub traced : At → Sat → ℕ → Sat → Type 0
-traced st m r m' = (m'.1 ≡ m.1) × ((h : ℕ) → st.word ≡ head_at m.0.size h → m'.0 ≡ view_after m.0 (Start h r))
+traced st m r m' = (m'.1 ≡ m.1) × ((h : ℕ) → st.word ≡ head_at m.0.size h → m'.0 ≡ view_after m.0 (Start h r)) × Ahead m'.0
 
--- the dying slot
+abbrev pub trod : At → Sat → ℕ → Sat → Type 0
+trod st m r m' = (m'.1 ≡ m.1) × (m'.0 ≡ view_after m.0 (Next r)) × Ahead m'.0
+
+-- the dying slot's link word, which fits the 21 bits of a head
 abbrev pub behind_read : At → Sat → ℕ → Sat → Type 0
-behind_read st m r m' = Is (Behind r) m m'
+behind_read st m r m' = (m'.1 ≡ m.1) × (m'.0 ≡ view_after m.0 (Behind r)) × (r < 2097152)
 
 abbrev pub unlinked_at : At → Sat → ℕ → Sat → Type 0
 unlinked_at st m r m' = (m'.1 ≡ m.1) × ((q : ℕ) → st.word ≡ link_at m.0.size q → m'.0 ≡ view_after m.0 (UnlinkAt q))
@@ -70,10 +74,11 @@ unlinked_at st m r m' = (m'.1 ≡ m.1) × ((q : ℕ) → st.word ≡ link_at m.0
 -- it is taken out as the first, where the head is still the word that the walk found; or the head has a later version, which is not the last, and a walk begins there
 abbrev pub unlinked_head : At → Sat → ℕ → Sat → Type 0
 unlinked_head st m r m' = (m'.1 ≡ m.1) × (r ≡ st.first → m'.0 ≡ view_after m.0 UnlinkHead)
-    × (r ≢ st.first → (version_of st.first < version_of r) × (version_of r < last) × ((h : ℕ) → st.word ≡ head_at m.0.size h → m'.0 ≡ view_after m.0 (Start h r)))
+    × (r ≢ st.first → (version_of st.first < version_of r) × (version_of r < last) × ((h : ℕ) → st.word ≡ head_at m.0.size h → m'.0 ≡ view_after m.0 (Start h r)) × Ahead m'.0)
 
+-- the head's word, whose version is not the last until it has moved
 abbrev pub head_noted : At → Sat → ℕ → Sat → Type 0
-head_noted st m r m' = Is (Note r) m m'
+head_noted st m r m' = (m'.1 ≡ m.1) × (m'.0 ≡ view_after m.0 (Note r)) × ((y : Sweeping) → m.0.sweep ≡ Some y → y.past ≡ false → version_of r < last)
 
 -- the head's version is moved, where the head is still the word noted; or it has moved since
 abbrev pub bumped : At → Sat → ℕ → Sat → Type 0

@@ -8,10 +8,20 @@
 mod cycles;
 mod marks;
 mod plays;
+mod removal;
+mod runs;
+mod slots;
+mod spells;
 mod sweeps;
+mod treads;
 mod unlinks;
 
 pub use cycles::{Checked, begin, check};
 pub use marks::{ack, mark, scan};
+pub use removal::unlink;
+pub use runs::sweep_run;
+pub use slots::{Verdict, sweep_slot};
+pub use spells::{row_bucket, spell_row};
 pub use sweeps::{condemn, finish, look, pass, trace};
+pub use treads::tread;
 pub use unlinks::{bump, free, note, read_behind, unlink_at, unlink_head};

@@ -1,5 +1,5 @@
 //! What each step tells its caller.
-ghost use Rattle.sweep_core.specs.Plays.{word_known, begun, mark_read, scanned, acknowledged, engine_checked, turned, looked, text_read, condemned, passed, traced, behind_read, unlinked_at, unlinked_head, head_noted, bumped, freed, ended};
+ghost use Rattle.sweep_core.specs.Plays.{word_known, begun, mark_read, scanned, acknowledged, engine_checked, turned, looked, text_read, condemned, passed, traced, trod, behind_read, unlinked_at, unlinked_head, head_noted, bumped, freed, ended};
 
 use atom_words::{Keeps, View};
 use atomic_table::Play;
@@ -89,6 +89,13 @@ pub struct Tracing;
 
 impl Play<(), View> for Tracing {
     ghost then = { traced };
+}
+
+/// The load of the link word with which that walk goes on.
+pub struct Treading;
+
+impl Play<(), View> for Treading {
+    ghost then = { trod };
 }
 
 /// The load of the dying slot's link word.

@@ -8,6 +8,7 @@ ghost use Rattle.atom_words.specs.declared.view.Walk.{Walk};
 ghost use Rattle.atom_words.specs.declared.view.Sweeping.{Sweeping};
 ghost use Rattle.atom_words.specs.declared.kind.Kind.TheVariants.{Load, Start, Look, Condemn, PassOver, End};
 ghost use Rattle.sweep_core.specs.Sweeps.{At};
+ghost use Rattle.sweep_core.specs.Treads.{Ahead};
 
 use crate::plays::{Condemning, Ending, Looking, Passing, Tracing};
 use atom_words::{AtomSeat, Words};
@@ -47,6 +48,7 @@ pub fn trace(words: &Words, seat: &mut AtomSeat, head: u32) -> u64
     requires collector { (y : Sweeping) × ((seen seat.old).sweep ≡ Some y) }
     ensures same { Same seat.old seat.new }
     ensures steps { seen seat.new ≡ after (seen seat.old) (Start head result ∷ []) }
+    ensures ahead { Ahead (seen seat.new) }
 {
     let place = words.head_place(head);
     let word = words.table.shared.load::<Tracing>(&mut seat.seat, place);

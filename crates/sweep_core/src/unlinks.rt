@@ -7,6 +7,7 @@ ghost use Rattle.atom_words.specs.declared.view.Held.{Held};
 ghost use Rattle.atom_words.specs.declared.view.Walk.{Walk};
 ghost use Rattle.atom_words.specs.declared.view.Sweeping.{Sweeping};
 ghost use Rattle.atom_words.specs.declared.kind.Kind.TheVariants.{Start, Behind, UnlinkAt, UnlinkHead, Note, Bump, Past, Free};
+ghost use Rattle.sweep_core.specs.Treads.{Ahead};
 
 use crate::plays::{Bumping, Freeing, Noting, ReadingBehind, UnlinkingAt, UnlinkingHead};
 use atom_words::{AtomSeat, Words};
@@ -18,6 +19,7 @@ pub fn read_behind(words: &Words, seat: &mut AtomSeat, slot: u32) -> u64
     requires dying { (y : Sweeping) × Dying (seen seat.old) y × (y.cursor ≡ slot) }
     ensures same { Same seat.old seat.new }
     ensures steps { seen seat.new ≡ after (seen seat.old) (Behind result ∷ []) }
+    ensures small { result < 2097152 }
 {
     let place = words.link_place(slot);
     words
@@ -53,6 +55,7 @@ pub fn unlink_head(words: &Words, seat: &mut AtomSeat, link: u64) -> Result<(), 
     requires dying { (y : Sweeping) × (w : Walk) × Dying (seen seat.old) y × (y.behind ≡ Some link) × ((seen seat.old).walk ≡ Some w) × (first_of w.word ≡ y.cursor + 1) × (version_of w.word < last) }
     ensures same { Same seat.old seat.new }
     ensures steps { MatchResult result (λ _. seen seat.new ≡ after (seen seat.old) (UnlinkHead ∷ [])) (λ x. (w : Walk) → (seen seat.old).walk ≡ Some w → (version_of w.word < version_of x) × (version_of x < last) × (seen seat.new ≡ after (seen seat.old) (Start w.head x ∷ []))) }
+    ensures walk { (seat.new.head ≡ seat.old.head) × MatchResult result (λ _. Unit {0}) (λ x. (seat.new.word ≡ x) × Ahead (seen seat.new)) }
 {
     let place = words.head_place(seat.head);
     let old = seat.word;
@@ -76,6 +79,7 @@ pub fn note(words: &Words, seat: &mut AtomSeat, head: u32) -> u64
     requires unlinked { (y : Sweeping) × Unlinked (seen seat.old) y × (y.head ≡ head) }
     ensures same { Same seat.old seat.new }
     ensures steps { seen seat.new ≡ after (seen seat.old) (Note result ∷ []) }
+    ensures early { (y : Sweeping) → (seen seat.old).sweep ≡ Some y → y.past ≡ false → version_of result < last }
 {
     let place = words.head_place(head);
     words.table.shared.load::<Noting>(&mut seat.seat, place)

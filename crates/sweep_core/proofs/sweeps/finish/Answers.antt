@@ -1,4 +1,4 @@
-use Rattle.std.proofs.Common.{◌≡◌, ◌<◌, ◌-◌, sym, ap, ◌∙◌, subst, arith}
+use Rattle.std.proofs.Common.{◌≡◌, ◌-◌, sym, ap, ◌∙◌, arith}
 use Rattle.atom_words.specs.declared.size.Size.{Size}
 use Rattle.sweep_core.proofs.SweepSteps.{ending}
 use Rattle.sweep_core.proofs.sweeps.finish.Goals as goal
