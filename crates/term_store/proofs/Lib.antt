@@ -5,6 +5,7 @@ pub mod Building
 pub mod Constructing
 pub mod Equations
 pub mod Following
+pub mod Grounding
 pub mod Growing
 pub mod Joining
 pub mod KeptTerms
@@ -16,6 +17,7 @@ pub mod Opening
 pub mod Pairing
 pub mod Planning
 pub mod Renumbering
+pub mod Sizing
 pub mod Spelling
 pub mod Stacking
 pub mod Storing

@@ -14,7 +14,7 @@ use Rattle.term_store.proofs.Following.{stands}
 use Rattle.term_store.proofs.Opening.{opened}
 use Rattle.term_store.proofs.Turning.{length-words}
 
-total-append : (h : Heap) (vs ws : List Word) → total h (vs ++ ws) ≡ total h vs + total h ws
+pub total-append : (h : Heap) (vs ws : List Word) → total h (vs ++ ws) ≡ total h vs + total h ws
 total-append h [] ws = omega arith
 total-append h (v ∷ vs) ws = omega (arith, total-append h vs ws)
 

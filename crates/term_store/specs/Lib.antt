@@ -5,6 +5,7 @@ pub mod Codes
 pub mod Contents
 pub mod Counting
 pub mod Fit
+pub mod Grounds
 pub mod Heap
 pub mod KeptLaws
 pub mod Making
@@ -14,6 +15,7 @@ pub mod NameLaws
 pub mod NameUnification
 pub mod Nodes
 pub mod NumberedNames
+pub mod Sizes
 pub mod StoredTerms
 pub mod Unifying
 pub mod Visits

@@ -114,7 +114,7 @@ fn is_here(
 
 /// Puts the arguments of a compound term on the stack, unless the walk is known to have come by it before, which is kept
 /// where the walk is long.
-fn come_by(cells: &Cells, walk: &mut Walk, k: usize) -> Result<(), Memory>
+pub fn come_by(cells: &Cells, walk: &mut Walk, k: usize) -> Result<(), Memory>
     requires fit { IsFit cells.now }
     requires inside { k < length cells.now.heads.items }
     requires others { All (IsIn (heap_of cells.now)) walk.old.words.items }
