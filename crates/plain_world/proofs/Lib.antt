@@ -12,4 +12,3 @@ pub mod Soundness
 pub mod HeadNodes
 pub mod Putting
 pub mod Plain
-pub mod KeySpelling

@@ -4,6 +4,5 @@ pub mod Adding
 pub mod Sound
 pub mod Made
 pub mod Heads
-pub mod KeyTexts
 pub mod TextReplies
 pub mod Handed

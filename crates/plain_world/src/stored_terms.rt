@@ -4,7 +4,7 @@ ghost use Rattle.std.specs.List.{All};
 ghost use Rattle.pl_term.specs.Variables.{rename};
 ghost use Rattle.term_store.specs.ArgumentKeys.{key_atoms};
 ghost use Rattle.world_api.specs.Texts.{text_of};
-ghost use Rattle.plain_world.specs.KeyTexts.{key_in};
+ghost use Rattle.world_api.specs.KeyTexts.{key_in};
 
 use crate::made::Made;
 use crate::spelled::Spelled;

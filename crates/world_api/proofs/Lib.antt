@@ -1,3 +1,4 @@
 pub mod AskedLaws
 pub mod SearchStepLaws
 pub mod Gaining
+pub mod KeyTextLaws

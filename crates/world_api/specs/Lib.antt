@@ -6,3 +6,4 @@ pub mod Answers
 pub mod Gains
 pub mod Asked
 pub mod SearchSteps
+pub mod KeyTexts

@@ -1,12 +1,18 @@
 use Rattle.std.proofs.Common.{◌≡◌, ap, sym, ◌∙◌}
+use Rattle.std.specs.Prelude.{Result, Ok, Err}
+use Rattle.std.specs.Result.{IfOk}
 use Rattle.pl_term.specs.Tree.{Tree}
 use Rattle.pl_model.specs.FirstArguments.{head_key, head_of}
 use Rattle.term_store.specs.ArgumentKeys.{clause_key}
 use Rattle.term_store.specs.NumberedNames.{term_by}
 use Rattle.world_api.specs.Texts.{text_of}
-use Rattle.plain_world.specs.KeyTexts.{key_in}
-use Rattle.plain_world.proofs.KeySpelling.{if_ok, key_spelled}
+use Rattle.world_api.specs.KeyTexts.{key_in}
+use Rattle.world_api.proofs.KeyTextLaws.{key_spelled}
 use Rattle.plain_world.proofs.stored_terms.StoredSpelled.spell_key.Goals as goal
+
+if_ok : {T E : Type 0} (r : Result T E) (P Q : T → Type 0) → ((x : T) → P x → Q x) → IfOk r P → IfOk r Q
+if_ok (Ok x) P Q f p = f x p
+if_ok (Err e) P Q f p = p
 
 pub returns-clause-spelled : goal.returns-clause-spelled
 returns-clause-spelled g c =

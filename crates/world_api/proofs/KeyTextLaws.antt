@@ -1,7 +1,6 @@
 -- The key of a term over atoms has the texts that the key of the term in texts has.
 use Rattle.std.proofs.Common.{◌≡◌, ◌==◌, ◌^◌, ℕ, suc, [], ◌∷◌, Option, Some, None, Bool, true, false, cond, refl, sym, ap, ap₂, ◌∙◌}
-use Rattle.std.specs.Prelude.{bytes_eq, codes, Result, Ok, Err}
-use Rattle.std.specs.Result.{IfOk}
+use Rattle.std.specs.Prelude.{bytes_eq, codes}
 use Rattle.std.specs.Str.{all_scalars}
 use Rattle.std.proofs.lemmas.Bool.{false≢true}
 use Rattle.std.proofs.lemmas.Bool.Decides.{Decides-eqb}
@@ -17,7 +16,7 @@ use Rattle.term_store.specs.ArgumentKeys.{argument_key, head_in, head_key, claus
 use Rattle.term_store.specs.NameUnification.{count-spelled}
 use Rattle.term_store.specs.KeptLaws.{head_is}
 use Rattle.world_api.specs.Texts.{text_of, or_no_text}
-use Rattle.plain_world.specs.KeyTexts.{key_in}
+use Rattle.world_api.specs.KeyTexts.{key_in}
 
 -- A map that gives the neck its text is not changed.
 neck_same : (text : ℕ → Chars) → text neck ≡ codes ":-" → (a : ℕ) → with_neck text a ≡ text a
@@ -77,7 +76,3 @@ module _ (m : Names) (unlike : (a b : ℕ) (t : Chars) → m a ≡ Some t → m 
       → (t : Tree) → key_in (text_of m) (clause_key t) ≡ texts.head_key (head_of (term_by (text_of m) t))
   key_spelled held t =
       head_spelled (text_of m) (neck_text m held) (head_in t) ∙ ap texts.head_key (head_is (text_of m) texts_apart t)
-
-pub if_ok : {T E : Type 0} (r : Result T E) (P Q : T → Type 0) → ((x : T) → P x → Q x) → IfOk r P → IfOk r Q
-if_ok (Ok x) P Q f p = f x p
-if_ok (Err e) P Q f p = p
