@@ -2,3 +2,4 @@ pub mod Cycles
 pub mod Plays
 pub mod Sweeps
 pub mod Treads
+pub mod TwoCycles

@@ -6,6 +6,7 @@
 #![tactic(auto)]
 
 mod cycles;
+mod laws;
 mod marks;
 mod plays;
 mod removal;
@@ -17,6 +18,7 @@ mod treads;
 mod unlinks;
 
 pub use cycles::{Checked, begin, check};
+pub use laws::two_cycles;
 pub use marks::{ack, mark, scan};
 pub use removal::unlink;
 pub use runs::sweep_run;
