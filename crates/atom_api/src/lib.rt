@@ -8,8 +8,6 @@ mod fixed_table;
 mod interned;
 mod plain;
 mod slots;
-#[cfg(test)]
-mod tests;
 mod text_buf;
 
 pub use atom::Atom;

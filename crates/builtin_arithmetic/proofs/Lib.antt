@@ -1,5 +1,4 @@
 pub mod Answering
-pub mod Chain
 pub mod Divisions
 pub mod ListedValues
 pub mod Names

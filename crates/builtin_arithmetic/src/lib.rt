@@ -11,14 +11,10 @@ mod evaluables;
 mod evaluation;
 mod expressions;
 mod functors;
-#[cfg(test)]
-mod integer_tests;
 mod magnitude;
 mod operations;
 mod power;
 mod steps;
-#[cfg(test)]
-mod tests;
 mod value_list;
 mod values;
 

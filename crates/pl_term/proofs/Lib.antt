@@ -1,5 +1,4 @@
 pub mod CellLemmas
-pub mod Chain
 pub mod Distinct
 pub mod NodeLemmas
 pub mod OrderLemmas

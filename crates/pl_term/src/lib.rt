@@ -8,8 +8,6 @@ mod node;
 mod numbering;
 mod order;
 mod rename;
-#[cfg(test)]
-mod tests;
 mod text;
 mod variant;
 

@@ -16,8 +16,8 @@ use Rattle.prolog_reader.specs.declared.stack.Frame.{Frame}
 use Rattle.prolog_reader.specs.declared.stack.Mode.{Mode}
 use Rattle.prolog_reader.specs.declared.stack.Mode.TheVariants.{Part as PartMode, Term as TermMode}
 use Rattle.prolog_reader.specs.declared.stack.Reader.{Reader}
-use Rattle.prolog_reader.specs.declared.stop.Stop.{Stop}
-use Rattle.prolog_reader.specs.declared.stop.Stop.TheVariants.{Memory, Fault}
+use Rattle.prolog_reader.specs.declared.read_error.ReadError.{ReadError}
+use Rattle.prolog_reader.specs.declared.read_error.ReadError.TheVariants.{Memory, Fault}
 use Rattle.prolog_reader.specs.Names.{reading_at}
 use Rattle.prolog_reader.specs.Pieces.{spelled}
 use Rattle.prolog_reader.specs.Stack.{Begins, Turns, TurnsBy, turns_left, PutsNodes, Pushes}
@@ -91,13 +91,13 @@ module _ (text : List ℕ) (old mid : Reader) (end : ℕ) (moved_is : mid ≡ ad
   }
 
 module _ (text : List ℕ) (ops : Lookup) (quotes : Quotes) where
-  pub turns-more : (m : Outcome Part) (b c : ℕ) (new : Reader) (r : Result Mode Stop) → b ≤ c → Turns text ops quotes m b new r → Turns text ops quotes m c new r
+  pub turns-more : (m : Outcome Part) (b c : ℕ) (new : Reader) (r : Result Mode ReadError) → b ≤ c → Turns text ops quotes m b new r → Turns text ops quotes m c new r
   turns-more m b c new (Ok x) h turns = (turns.0, omega (arith, turns.1), turns.2)
   turns-more m b c new (Err Memory) h turns = tt
   turns-more m b c new (Err (Fault f)) h turns = turns
 
   -- A leaf that ends after a second token.
-  pub advanced-leaf : (old mid new : Reader) (max : ℕ) (ns : List Node) (t : Tree) (end behind : ℕ) (m : Outcome Part) (r : Result Mode Stop)
+  pub advanced-leaf : (old mid new : Reader) (max : ℕ) (ns : List Node) (t : Tree) (end behind : ℕ) (m : Outcome Part) (r : Result Mode ReadError)
       → Begins text old end → mid ≡ advanced text old end
       → IfOk r (λ _. PutsNodes text mid new ns behind) → IfOk r (λ x. x ≡ PartMode max 0 (length mid.pieces.items))
       → IfErr r (λ e. e ≡ Memory) → ns ≡ nodes t → end < behind → behind ≤ length text

@@ -12,8 +12,8 @@ use Rattle.pl_model.specs.Grammar.{Part, Outcome, clause, fault, and_then, item}
 use Rattle.pl_model.specs.TermGrammar.{Lookup, ended, item_by}
 use Rattle.pl_model.proofs.TermDepth.{whole, clause_whole, item_whole, item_by-whole}
 use Rattle.prolog_reader.specs.declared.stack.Reader.{Reader}
-use Rattle.prolog_reader.specs.declared.stop.Stop.{Stop}
-use Rattle.prolog_reader.specs.declared.stop.Stop.TheVariants.{Memory, Fault}
+use Rattle.prolog_reader.specs.declared.read_error.ReadError.{ReadError}
+use Rattle.prolog_reader.specs.declared.read_error.ReadError.TheVariants.{Memory, Fault}
 use Rattle.prolog_reader.specs.Ahead.{fault_of, clause_end}
 use Rattle.prolog_reader.specs.Names.{pairs}
 use Rattle.prolog_reader.specs.Pieces.{spelled}
@@ -21,7 +21,7 @@ use Rattle.prolog_reader.specs.Stack.{part_at, Stops, Turns, IsRead, start_at}
 use Rattle.prolog_reader.proofs.Advances.{token-follows}
 
 -- A stop of a turn is one of what the turn was to give.
-pub turns-stop : (text : List ℕ) (ops : Lookup) (quotes : Quotes) (m n : Outcome Part) (bound : ℕ) (new : Reader) (e : Stop) → m ≡ n
+pub turns-stop : (text : List ℕ) (ops : Lookup) (quotes : Quotes) (m n : Outcome Part) (bound : ℕ) (new : Reader) (e : ReadError) → m ≡ n
     → Turns text ops quotes m bound new (Err e) → Stops n e
 turns-stop text ops quotes m n bound new Memory same turns = tt
 turns-stop text ops quotes m n bound new (Fault f) same turns = sym same ∙ turns
@@ -59,7 +59,7 @@ module _ (text : List ℕ) (ops : Lookup) (quotes : Quotes) (at start : ℕ) whe
       ∙ ap (λ (u : Tree). clause u (pairs r.names.list.items) start next) term
 
   -- A stop before the end of a clause's term.
-  pub clause-stop : (e : Stop) → Stops (whole text ops quotes 1200 (start_at at)) e → Stops (clause_whole text ops quotes at start) e
+  pub clause-stop : (e : ReadError) → Stops (whole text ops quotes 1200 (start_at at)) e → Stops (clause_whole text ops quotes at start) e
   clause-stop Memory stops = tt
   clause-stop (Fault f) stops = ap (λ (m : Outcome Part). and_then m (λ p. ended text start p (token_at text p.reading.at))) stops
 

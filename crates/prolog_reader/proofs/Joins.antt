@@ -25,7 +25,7 @@ use Rattle.prolog_reader.specs.declared.stack.Frame.TheVariants.{Behind}
 use Rattle.prolog_reader.specs.declared.stack.Mode.{Mode}
 use Rattle.prolog_reader.specs.declared.stack.Mode.TheVariants.{Term as TermMode, Part as PartMode, Ended}
 use Rattle.prolog_reader.specs.declared.stack.Reader.{Reader}
-use Rattle.prolog_reader.specs.declared.stop.Stop.{Stop}
+use Rattle.prolog_reader.specs.declared.read_error.ReadError.{ReadError}
 use Rattle.prolog_reader.specs.Operations.{is_fitting, operation_by, operation_of, joining_named, joining_ahead}
 use Rattle.prolog_reader.specs.Pieces.{spelled}
 use Rattle.prolog_reader.specs.Stack.{completed, joined, joined_by, plug, Holds, stack, reading, part_at, IsAt, IsSound, outcome, turns_left, Turns, TurnsFrom, Joins, Pushes}
@@ -98,7 +98,7 @@ module _ (text : List ℕ) (ops : Lookup) (quotes : Quotes) where
       ap (plug text ops quotes (stack r) (take start r.pieces.items)) (rest-ahead r max priority start (Err f) place is)
       ∙ plug-fault text ops quotes (stack r) (take start r.pieces.items) f
 
-  pub part-joined : (r new : Reader) (max priority start : ℕ) (l : Lexeme) (j : Option Joining) (x : Result Mode Stop) → IsAt text r → r.ahead ≡ Ok l
+  pub part-joined : (r new : Reader) (max priority start : ℕ) (l : Lexeme) (j : Option Joining) (x : Result Mode ReadError) → IsAt text r → r.ahead ≡ Ok l
       → j ≡ joining_ahead ops l max priority → Joins text ops quotes r max priority start j new x
       → TurnsFrom text ops quotes r (PartMode max priority start) new x
   part-joined r new max priority start l j x place is joining joins =

@@ -16,7 +16,7 @@ use Rattle.prolog_reader.specs.declared.stack.Frame.TheVariants.{Closing, Elemen
 use Rattle.prolog_reader.specs.declared.stack.Mode.{Mode}
 use Rattle.prolog_reader.specs.declared.stack.Mode.TheVariants.{Term as TermMode, Part as PartMode, Ended, Whole}
 use Rattle.prolog_reader.specs.declared.stack.Reader.{Reader}
-use Rattle.prolog_reader.specs.declared.stop.Stop.{Stop}
+use Rattle.prolog_reader.specs.declared.read_error.ReadError.{ReadError}
 use Rattle.prolog_reader.specs.Ahead.{fault_of}
 use Rattle.prolog_reader.specs.Pieces.{spelled}
 use Rattle.prolog_reader.specs.Stack.{behind, enclosed_by, tailed, listed, plug, Holds, stack, reading, part_at, IsBuilt, IsAt, IsSound, outcome, turns_left, TurnsFrom, Takes, taken, Pushes}
@@ -217,7 +217,7 @@ module _ (text : List ℕ) (ops : Lookup) (quotes : Quotes) where
       )
 
   -- The frame that waits takes the term.
-  pub popped-turns : (old new : Reader) (frames : Vec Frame Global) (f : Frame) (priority start : ℕ) (r : Result Mode Stop)
+  pub popped-turns : (old new : Reader) (frames : Vec Frame Global) (f : Frame) (priority start : ℕ) (r : Result Mode ReadError)
       → old.frames.items ≡ frames.items ++ f ∷ [] → Takes text ops quotes (record old { frames = frames }) f priority start new r
       → TurnsFrom text ops quotes old (Ended priority start) new r
   popped-turns old new frames f priority start r is turns =

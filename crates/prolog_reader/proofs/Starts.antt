@@ -11,7 +11,7 @@ use Rattle.pl_model.proofs.TermDepth.{whole, sequence}
 use Rattle.prolog_reader.specs.declared.stack.Mode.{Mode}
 use Rattle.prolog_reader.specs.declared.stack.Mode.TheVariants.{Term as TermMode}
 use Rattle.prolog_reader.specs.declared.stack.Reader.{Reader}
-use Rattle.prolog_reader.specs.declared.stop.Stop.{Stop}
+use Rattle.prolog_reader.specs.declared.read_error.ReadError.{ReadError}
 use Rattle.prolog_reader.specs.Stack.{stack, reading, going, Begins, IsSound, outcome, turns_left, TurnsFrom, TurnsBy}
 use Rattle.prolog_reader.proofs.Turns.{turns-same, term-outcome, going-fault, ahead-follows}
 
@@ -30,7 +30,7 @@ module _ (text : List ℕ) (ops : Lookup) (quotes : Quotes) where
   abbrev pub primary_of : Reader → ℕ → Lexed → Outcome Part
   primary_of r max l = primary text ops quotes (whole text ops quotes) (sequence text ops quotes) max (reading r) l
 
-  pub primary-turns : (old mid new : Reader) (max : ℕ) (l : Lexed) (r : Result Mode Stop) → mid ≡ without old → IsSound text old (TermMode max)
+  pub primary-turns : (old mid new : Reader) (max : ℕ) (l : Lexed) (r : Result Mode ReadError) → mid ≡ without old → IsSound text old (TermMode max)
       → old.ahead ≡ l → TurnsBy text ops quotes (primary_of mid max l) mid max new r → TurnsFrom text ops quotes old (TermMode max) new r
   primary-turns old mid new max l r is sound token turns =
       let here = subst (λ (x : Reader). TurnsBy text ops quotes (primary_of x max l) x max new r) is turns in

@@ -20,8 +20,8 @@ use Rattle.prolog_reader.specs.declared.stack.Frame.TheVariants.{Behind, Closing
 use Rattle.prolog_reader.specs.declared.stack.Mode.{Mode}
 use Rattle.prolog_reader.specs.declared.stack.Mode.TheVariants.{Term as TermMode, Part as PartMode, Whole}
 use Rattle.prolog_reader.specs.declared.stack.Reader.{Reader}
-use Rattle.prolog_reader.specs.declared.stop.Stop.{Stop}
-use Rattle.prolog_reader.specs.declared.stop.Stop.TheVariants.{Memory, Fault}
+use Rattle.prolog_reader.specs.declared.read_error.ReadError.{ReadError}
+use Rattle.prolog_reader.specs.declared.read_error.ReadError.TheVariants.{Memory, Fault}
 use Rattle.prolog_reader.specs.Names.{reading_at}
 use Rattle.prolog_reader.specs.Pieces.{spelled}
 use Rattle.prolog_reader.specs.Stack.{plug, going, Holds, stack, reading, part_at, IsBuilt, IsAt, outcome, turns_left, Turns, TurnsBy, PutsNodes, Pushes}
@@ -49,7 +49,7 @@ holds-same {Z} fs gs ps qs e d h =
 
 module _ (text : List ℕ) (ops : Lookup) (quotes : Quotes) where
   -- A turn from another outcome, or within another bound, that is the same.
-  pub turns-same : (m n : Outcome Part) (b c : ℕ) (new : Reader) (r : Result Mode Stop) → m ≡ n → b ≡ c
+  pub turns-same : (m n : Outcome Part) (b c : ℕ) (new : Reader) (r : Result Mode ReadError) → m ≡ n → b ≡ c
       → Turns text ops quotes m b new r → Turns text ops quotes n c new r
   turns-same m n b c new r e d h =
       subst (λ k. Turns text ops quotes n k new r) d (subst (λ (x : Outcome Part). Turns text ops quotes x b new r) e h)
@@ -73,7 +73,7 @@ module _ (text : List ℕ) (ops : Lookup) (quotes : Quotes) where
       ap (going text ops quotes (stack old) old.pieces.items max) is ∙ plug-fault (stack old) old.pieces.items f
 
   -- What a primary gives comes from what another that is the same gives.
-  pub turns-by : (old : Reader) (max : ℕ) (m n : Outcome Part) (new : Reader) (r : Result Mode Stop) → m ≡ n
+  pub turns-by : (old : Reader) (max : ℕ) (m n : Outcome Part) (new : Reader) (r : Result Mode ReadError) → m ≡ n
       → TurnsBy text ops quotes m old max new r → TurnsBy text ops quotes n old max new r
   turns-by old max m n new r e h = subst (λ (x : Outcome Part). TurnsBy text ops quotes x old max new r) e h
 
@@ -113,7 +113,7 @@ module _ (text : List ℕ) (ops : Lookup) (quotes : Quotes) where
       )
 
   -- The same for a result, which may be out of memory.
-  pub leaf-result : (old new : Reader) (names : Numbered) (max : ℕ) (ns : List Node) (t : Tree) (end : ℕ) (m : Outcome Part) (r : Result Mode Stop)
+  pub leaf-result : (old new : Reader) (names : Numbered) (max : ℕ) (ns : List Node) (t : Tree) (end : ℕ) (m : Outcome Part) (r : Result Mode ReadError)
       → IfOk r (λ _. PutsNodes text (record old { names = names }) new ns end) → IfOk r (λ x. x ≡ PartMode max 0 (length old.pieces.items))
       → IfErr r (λ e. e ≡ Memory) → Holds (stack old) old.pieces.items → ns ≡ nodes t
       → old.at < end → end ≤ length text → names.next ≤ end

@@ -19,8 +19,8 @@ use Rattle.prolog_reader.specs.declared.stack.Frame.TheVariants.{Behind, Closing
 use Rattle.prolog_reader.specs.declared.stack.Mode.{Mode}
 use Rattle.prolog_reader.specs.declared.stack.Mode.TheVariants.{Term as TermMode, Part as PartMode, Ended, Whole}
 use Rattle.prolog_reader.specs.declared.stack.Reader.{Reader}
-use Rattle.prolog_reader.specs.declared.stop.Stop.{Stop}
-use Rattle.prolog_reader.specs.declared.stop.Stop.TheVariants.{Memory, Fault}
+use Rattle.prolog_reader.specs.declared.read_error.ReadError.{ReadError}
+use Rattle.prolog_reader.specs.declared.read_error.ReadError.TheVariants.{Memory, Fault}
 use Rattle.prolog_reader.specs.Names.{reading_at}
 use Rattle.prolog_reader.specs.Pieces.{spelled}
 
@@ -186,18 +186,18 @@ abbrev pub turns_left : List ℕ → Reader → Mode → ℕ
 turns_left text r m = 4 * (length text - r.at) + 2 * length r.frames.items + weight m
 
 -- A turn was made, from where `m` was to come within a number of turns.
-abbrev pub Turns : List ℕ → Lookup → Quotes → Outcome Part → ℕ → Reader → Result Mode Stop → Type 0
+abbrev pub Turns : List ℕ → Lookup → Quotes → Outcome Part → ℕ → Reader → Result Mode ReadError → Type 0
 Turns text ops quotes m bound new (Ok mode) =
     IsSound text new mode × (turns_left text new mode < bound) × Gives text ops quotes new mode m
 Turns text ops quotes m bound new (Err Memory) = Unit {0}
 Turns text ops quotes m bound new (Err (Fault f)) = m ≡ Err f
 
 -- A turn was made from here.
-abbrev pub TurnsFrom : List ℕ → Lookup → Quotes → Reader → Mode → Reader → Result Mode Stop → Type 0
+abbrev pub TurnsFrom : List ℕ → Lookup → Quotes → Reader → Mode → Reader → Result Mode ReadError → Type 0
 TurnsFrom text ops quotes old mode new r = Turns text ops quotes (outcome text ops quotes old mode) (turns_left text old mode) new r
 
 -- A turn was made from the begin of a term of at most `max` whose primary gives this.
-abbrev pub TurnsBy : List ℕ → Lookup → Quotes → Outcome Part → Reader → ℕ → Reader → Result Mode Stop → Type 0
+abbrev pub TurnsBy : List ℕ → Lookup → Quotes → Outcome Part → Reader → ℕ → Reader → Result Mode ReadError → Type 0
 TurnsBy text ops quotes m old max new r =
     Turns text ops quotes (going text ops quotes (stack old) old.pieces.items max m) (turns_left text old (TermMode max)) new r
 
@@ -206,19 +206,19 @@ abbrev pub taken : List ℕ → Lookup → Quotes → Reader → Frame → ℕ �
 taken text ops quotes r f priority start = plug text ops quotes (f ∷ stack r) (take start r.pieces.items) (Ok (part_at r priority start))
 
 -- A frame took the term that had ended.
-abbrev pub Takes : List ℕ → Lookup → Quotes → Reader → Frame → ℕ → ℕ → Reader → Result Mode Stop → Type 0
+abbrev pub Takes : List ℕ → Lookup → Quotes → Reader → Frame → ℕ → ℕ → Reader → Result Mode ReadError → Type 0
 Takes text ops quotes old f priority start new r =
     Turns text ops quotes (taken text ops quotes old f priority start) (turns_left text old (Ended priority start) + 2) new r
 
 -- A turn was made by an operator after a left part, or by none.
-abbrev pub Joins : List ℕ → Lookup → Quotes → Reader → ℕ → ℕ → ℕ → Option Joining → Reader → Result Mode Stop → Type 0
+abbrev pub Joins : List ℕ → Lookup → Quotes → Reader → ℕ → ℕ → ℕ → Option Joining → Reader → Result Mode ReadError → Type 0
 Joins text ops quotes old max priority start j new r =
     Turns text ops quotes
     (plug text ops quotes (stack old) (take start old.pieces.items) (joined text ops quotes max (part_at old priority start) j))
     (turns_left text old (PartMode max priority start)) new r
 
 -- Why reading stops: out of memory, or this outcome's fault.
-abbrev pub Stops : {A : Type 0} → Outcome A → Stop → Type 0
+abbrev pub Stops : {A : Type 0} → Outcome A → ReadError → Type 0
 Stops m Memory = Unit {0}
 Stops m (Fault f) = m ≡ Err f
 

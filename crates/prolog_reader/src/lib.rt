@@ -9,9 +9,9 @@ mod operations;
 mod pieces;
 mod primary;
 mod read;
+mod read_error;
 mod skipping;
 mod stack;
-mod stop;
 
 pub use names::NamedVariable;
 pub use pl_model::grammar::Quotes;

@@ -16,8 +16,8 @@ use crate::lists::{characters, codes};
 use crate::marks::{behind_mark, integer_ahead};
 use crate::operations::{right_argument, stands_alone};
 use crate::pieces::put_leaf;
+use crate::read_error::{ReadError, refused, unexpected};
 use crate::stack::{Frame, Mode, Reader};
-use crate::stop::{Stop, refused, unexpected};
 use op_table::{Kind, OpTable};
 use pl_model::grammar::Quotes;
 use pl_model::lexical::{Lexeme, Mark, TokenKind};
@@ -37,7 +37,7 @@ impl Reader {
         ops: &OpTable,
         quotes: Quotes,
         max: u16,
-    ) -> Result<Mode, Stop>
+    ) -> Result<Mode, ReadError>
         requires { IsSound text.now self.old (Mode.Term max) }
         ensures { TurnsFrom text.now (operator_at ops.now) quotes self.old (Mode.Term max) self.new result }
     {
@@ -46,7 +46,7 @@ impl Reader {
                 self.token(alloc, text, ops, quotes, max, kind, start, end)
             }
             Ok(Lexeme::End) => Err(refused(SyntaxKind::UnexpectedEnd, text.len())),
-            Err(fault) => Err(Stop::Fault(fault)),
+            Err(fault) => Err(ReadError::Fault(fault)),
         }
     }
 
@@ -61,7 +61,7 @@ impl Reader {
         kind: TokenKind,
         start: usize,
         end: usize,
-    ) -> Result<Mode, Stop>
+    ) -> Result<Mode, ReadError>
         requires { Begins text.now self.old end }
         ensures { TurnsBy text.now (operator_at ops.now) quotes
             (primary text.now (operator_at ops.now) quotes (whole text.now (operator_at ops.now) quotes) (sequence text.now (operator_at ops.now) quotes)
@@ -91,7 +91,13 @@ impl Reader {
     }
 
     /// A negative numeral, whose minus ends at `end`.
-    fn negative(&mut self, alloc: Global, text: &[u8], max: u16, end: usize) -> Result<Mode, Stop>
+    fn negative(
+        &mut self,
+        alloc: Global,
+        text: &[u8],
+        max: u16,
+        end: usize,
+    ) -> Result<Mode, ReadError>
         requires { Begins text.now self.old end }
         ensures { (ops : Lookup) (quotes : QuotesFlag)
             → TurnsBy text.now ops quotes (negative text.now ops quotes (reading self.old) (token_at text.now end)) self.old max self.new result }
@@ -111,7 +117,7 @@ impl Reader {
         value: u64,
         start: usize,
         end: usize,
-    ) -> Result<Mode, Stop>
+    ) -> Result<Mode, ReadError>
         requires { Begins text.now self.old end }
         ensures { (ops : Lookup) (quotes : QuotesFlag)
             → TurnsBy text.now ops quotes (integer text.now ops quotes (reading self.old) value start end) self.old max self.new result }
@@ -129,7 +135,7 @@ impl Reader {
         max: u16,
         name: Text,
         end: usize,
-    ) -> Result<Mode, Stop>
+    ) -> Result<Mode, ReadError>
         requires { Begins text.now self.old end }
         ensures { (ops : Lookup) (quotes : QuotesFlag)
             → TurnsBy text.now ops quotes (Ok (variable_named (reading self.old) name end)) self.old max self.new result }
@@ -148,7 +154,7 @@ impl Reader {
         spelled: Text,
         start: usize,
         end: usize,
-    ) -> Result<Mode, Stop>
+    ) -> Result<Mode, ReadError>
         requires { Begins text.now self.old end }
         ensures { (ops : Lookup)
             → TurnsBy text.now ops quotes (double_quoted text.now ops quotes (reading self.old) spelled start end quotes) self.old max self.new result }
@@ -181,7 +187,7 @@ impl Reader {
         name: Text,
         start: usize,
         end: usize,
-    ) -> Result<Mode, Stop>
+    ) -> Result<Mode, ReadError>
         requires { Begins text.now self.old end }
         ensures { (quotes : QuotesFlag)
             → TurnsBy text.now (operator_at ops.now) quotes
@@ -208,7 +214,7 @@ impl Reader {
         max: u16,
         name: Text,
         end: usize,
-    ) -> Result<Mode, Stop>
+    ) -> Result<Mode, ReadError>
         requires { Begins text.now self.old end }
         ensures { (ops : Lookup) (quotes : QuotesFlag)
             → TurnsBy text.now ops quotes (functional text.now ops quotes (sequence text.now ops quotes) name (moved (reading self.old) end))
@@ -237,7 +243,7 @@ impl Reader {
         kind: Kind,
         start: usize,
         end: usize,
-    ) -> Result<Mode, Stop>
+    ) -> Result<Mode, ReadError>
         requires { Begins text.now self.old end }
         ensures { (quotes : QuotesFlag)
             → TurnsBy text.now (operator_at ops.now) quotes
@@ -247,7 +253,7 @@ impl Reader {
         self.advance(alloc, text, end)?;
         let alone = match &self.ahead {
             Ok(lexeme) => stands_alone(text, ops, lexeme),
-            Err(fault) => return Err(Stop::Fault(*fault)),
+            Err(fault) => return Err(ReadError::Fault(*fault)),
         };
         let first = self.pieces.len();
         if alone {
@@ -281,7 +287,7 @@ impl Reader {
         mark: Mark,
         start: usize,
         end: usize,
-    ) -> Result<Mode, Stop>
+    ) -> Result<Mode, ReadError>
         requires { Begins text.now self.old end }
         ensures { (ops : Lookup) (quotes : QuotesFlag)
             → TurnsBy text.now ops quotes
@@ -304,7 +310,7 @@ impl Reader {
         text: &[u8],
         max: u16,
         end: usize,
-    ) -> Result<Mode, Stop>
+    ) -> Result<Mode, ReadError>
         requires { Begins text.now self.old end }
         ensures { (ops : Lookup) (quotes : QuotesFlag)
             → TurnsBy text.now ops quotes (in_parentheses text.now ops quotes (moved (reading self.old) end)) self.old max self.new result }
@@ -320,7 +326,7 @@ impl Reader {
     }
 
     /// A list, whose opening bracket ends at `end`.
-    fn list(&mut self, alloc: Global, text: &[u8], max: u16, end: usize) -> Result<Mode, Stop>
+    fn list(&mut self, alloc: Global, text: &[u8], max: u16, end: usize) -> Result<Mode, ReadError>
         requires { Begins text.now self.old end }
         ensures { (ops : Lookup) (quotes : QuotesFlag)
             → TurnsBy text.now ops quotes
@@ -338,7 +344,7 @@ impl Reader {
     }
 
     /// A term in curly brackets, whose opening one ends at `end`.
-    fn curly(&mut self, alloc: Global, text: &[u8], max: u16, end: usize) -> Result<Mode, Stop>
+    fn curly(&mut self, alloc: Global, text: &[u8], max: u16, end: usize) -> Result<Mode, ReadError>
         requires { Begins text.now self.old end }
         ensures { (ops : Lookup) (quotes : QuotesFlag)
             → TurnsBy text.now ops quotes

@@ -11,8 +11,8 @@ use crate::ahead::look;
 use crate::marks::clause_end;
 use crate::names::{NamedVariable, Numbered};
 use crate::pieces::into_nodes;
+use crate::read_error::{ReadError, unexpected};
 use crate::stack::{Mode, Reader};
-use crate::stop::{Stop, unexpected};
 use op_table::OpTable;
 use pl_model::grammar::Quotes;
 use pl_model::lexical::Lexeme;
@@ -72,8 +72,8 @@ fn read_from(
 {
     match read_clause(alloc, text, at, start, ops, quotes) {
         Ok(read) => read,
-        Err(Stop::Memory) => Read::Memory,
-        Err(Stop::Fault(fault)) => Read::Syntax {
+        Err(ReadError::Memory) => Read::Memory,
+        Err(ReadError::Fault(fault)) => Read::Syntax {
             kind: fault.kind,
             at: fault.at,
         },
@@ -88,7 +88,7 @@ fn read_clause(
     start: usize,
     ops: &OpTable,
     quotes: Quotes,
-) -> Result<Read, Stop>
+) -> Result<Read, ReadError>
     requires { at ≤ length text.now }
     ensures read { IfOk result (λ r. Reads r (item (clause_whole text.now (operator_at ops.now) quotes at start))) }
     ensures stops { IfErr result (λ e. Stops (clause_whole text.now (operator_at ops.now) quotes at start) e) }
@@ -115,7 +115,7 @@ fn read_whole(
     at: usize,
     ops: &OpTable,
     quotes: Quotes,
-) -> Result<Reader, Stop>
+) -> Result<Reader, ReadError>
     requires { at ≤ length text.now }
     ensures read { IfOk result (λ r. IsRead text.now (operator_at ops.now) quotes at r) }
     ensures stops { IfErr result (λ e. Stops (whole text.now (operator_at ops.now) quotes 1200 (start_at at)) e) }

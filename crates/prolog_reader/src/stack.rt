@@ -14,7 +14,7 @@ use crate::marks::behind_mark;
 use crate::names::Numbered;
 use crate::operations::{Joining, Operation, joining_ahead};
 use crate::pieces::{put_front, put_leaf, put_nodes};
-use crate::stop::{Stop, unexpected};
+use crate::read_error::{ReadError, unexpected};
 use op_table::OpTable;
 use pl_model::lexical::{Lexeme, Mark};
 use pl_model::syntax::SyntaxFault;
@@ -122,9 +122,15 @@ impl Reader {
     }
 
     /// A frame waits from here on, and reading goes to the place after a token.
-    pub fn push(&mut self, alloc: Global, text: &[u8], frame: Frame, end: usize) -> Result<(), Stop>
+    pub fn push(
+        &mut self,
+        alloc: Global,
+        text: &[u8],
+        frame: Frame,
+        end: usize,
+    ) -> Result<(), ReadError>
         ensures pushes { OnOk result (Pushes text.now self.old self.new frame end) }
-        ensures stop { IfErr result (λ e. e ≡ Stop.Memory) }
+        ensures stop { IfErr result (λ e. e ≡ ReadError.Memory) }
     {
         self.frames.push(frame)?;
         self.advance(alloc, text, end)?;
@@ -139,10 +145,10 @@ impl Reader {
         max: u16,
         node: Node,
         end: usize,
-    ) -> Result<Mode, Stop>
+    ) -> Result<Mode, ReadError>
         ensures puts { IfOk result (λ _. PutsNodes text.now self.old self.new (node ∷ []) end) }
         ensures mode { IfOk result (λ m. m ≡ Mode.Part max 0 (length self.old.pieces.items)) }
-        ensures stop { IfErr result (λ e. e ≡ Stop.Memory) }
+        ensures stop { IfErr result (λ e. e ≡ ReadError.Memory) }
     {
         let start = self.pieces.len();
         put_leaf(alloc, &mut self.pieces, node)?;
@@ -162,10 +168,10 @@ impl Reader {
         max: u16,
         nodes: Vec<Node>,
         end: usize,
-    ) -> Result<Mode, Stop>
+    ) -> Result<Mode, ReadError>
         ensures puts { IfOk result (λ _. PutsNodes text.now self.old self.new nodes.items end) }
         ensures mode { IfOk result (λ m. m ≡ Mode.Part max 0 (length self.old.pieces.items)) }
-        ensures stop { IfErr result (λ e. e ≡ Stop.Memory) }
+        ensures stop { IfErr result (λ e. e ≡ ReadError.Memory) }
     {
         let start = self.pieces.len();
         put_nodes(&mut self.pieces, nodes)?;
@@ -186,13 +192,13 @@ impl Reader {
         max: u16,
         priority: u16,
         start: usize,
-    ) -> Result<Mode, Stop>
+    ) -> Result<Mode, ReadError>
         requires { IsSound text.now self.old (Mode.Part max priority start) }
         ensures { (quotes : QuotesFlag) → TurnsFrom text.now (operator_at ops.now) quotes self.old (Mode.Part max priority start) self.new result }
     {
         let joining = match &self.ahead {
             Ok(lexeme) => joining_ahead(alloc, ops, lexeme, max, priority)?,
-            Err(fault) => return Err(Stop::Fault(*fault)),
+            Err(fault) => return Err(ReadError::Fault(*fault)),
         };
         match joining {
             Some(joining) => self.join(alloc, text, max, priority, start, joining),
@@ -209,7 +215,7 @@ impl Reader {
         priority: u16,
         start: usize,
         joining: Joining,
-    ) -> Result<Mode, Stop>
+    ) -> Result<Mode, ReadError>
         requires sound { IsSound text.now self.old (Mode.Part max priority start) }
         requires forward { self.old.at < joining.end }
         requires within { joining.end ≤ length text.now }
@@ -254,7 +260,7 @@ impl Reader {
         text: &[u8],
         priority: u16,
         start: usize,
-    ) -> Result<Mode, Stop>
+    ) -> Result<Mode, ReadError>
         requires { IsSound text.now self.old (Mode.Ended priority start) }
         ensures { (ops : Lookup) (quotes : QuotesFlag) → TurnsFrom text.now ops quotes self.old (Mode.Ended priority start) self.new result }
     {
@@ -303,7 +309,7 @@ impl Reader {
         start: usize,
         priority: u16,
         last: usize,
-    ) -> Result<Mode, Stop>
+    ) -> Result<Mode, ReadError>
         requires place { IsAt text.now self.old }
         requires built { IsBuilt (Frame.Closing max mark start ∷ stack self.old) self.old last }
         ensures { (ops : Lookup) (quotes : QuotesFlag) → Takes text.now ops quotes self.old (Frame.Closing max mark start) priority last self.new result }
@@ -331,7 +337,7 @@ impl Reader {
         start: usize,
         priority: u16,
         last: usize,
-    ) -> Result<Mode, Stop>
+    ) -> Result<Mode, ReadError>
         requires place { IsAt text.now self.old }
         requires built { IsBuilt (Frame.Arguments max name count start ∷ stack self.old) self.old last }
         ensures { (ops : Lookup) (quotes : QuotesFlag) → Takes text.now ops quotes self.old (Frame.Arguments max name count start) priority last self.new result }
@@ -368,7 +374,7 @@ impl Reader {
         start: usize,
         priority: u16,
         last: usize,
-    ) -> Result<Mode, Stop>
+    ) -> Result<Mode, ReadError>
         requires place { IsAt text.now self.old }
         requires built { IsBuilt (Frame.Elements max start ∷ stack self.old) self.old last }
         ensures { (ops : Lookup) (quotes : QuotesFlag) → Takes text.now ops quotes self.old (Frame.Elements max start) priority last self.new result }

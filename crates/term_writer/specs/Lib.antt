@@ -1,3 +1,4 @@
 pub mod Pages
 pub mod Styles
 pub mod Work
+pub mod ReadingBack

@@ -101,7 +101,7 @@ fn update_at(
 }
 
 /// Adds a number in decimal digits.
-fn put_number(out: &mut Vec<u8>, number: u64) -> Result<()> {
+pub fn put_number(out: &mut Vec<u8>, number: u64) -> Result<()> {
     let mut buffer = itoa::Buffer::new();
     out.extend_from_slice(buffer.format(number).as_bytes())?;
     Ok(())

@@ -1,13 +1,16 @@
 //! Runs the rows of the files that the command line names by the public calls of the reader, the writer, the table of
-//! operators, the database and the report, and writes each row that gives something else than it says, and the counts. README.md
+//! operators, the database, the report and terms, and writes each row that gives something else than it says, and the counts. README.md
 //! says how a row is written.
 #![tactic(auto)]
 
+mod arithmetic;
+mod atoms;
 mod cells;
 mod characters;
 mod database;
 mod fields;
 mod files;
+mod flat_terms;
 mod lexemes;
 mod operators;
 mod report;
@@ -116,6 +119,13 @@ fn result_of(alloc: Global, settings: &Settings, fields: &mut Fields) -> Result<
         "operator_names" => operators::all_names(alloc, settings, fields),
         "operator_changes" => operators::changes(alloc, settings, fields),
         "many_operators" => operators::many(alloc, settings, fields),
+        "ordered_texts" => flat_terms::ordered_texts(alloc, fields),
+        "alike_texts" => flat_terms::alike_texts(alloc, fields),
+        "ordered_terms" => flat_terms::ordered_terms(alloc, settings, fields),
+        "alike_terms" => flat_terms::alike_terms(alloc, settings, fields),
+        "values" => arithmetic::value(alloc, settings, fields),
+        "atoms" => atoms::numbers(alloc, fields),
+        "measured" => flat_terms::measured(alloc, settings, fields),
         _ => result_of_store(alloc, settings.kind, fields),
     }
 }

@@ -26,7 +26,7 @@ pub fn shown(alloc: Global, read: &Read) -> Result<String, AllocError> {
 }
 
 /// The nodes of a term in prefix order.
-fn nodes_shown(alloc: Global, nodes: &[Node]) -> Result<String, AllocError> {
+pub fn nodes_shown(alloc: Global, nodes: &[Node]) -> Result<String, AllocError> {
     let mut all = String::new(alloc);
     for node in nodes {
         all.push_str(node_shown(alloc, node)?.as_str())?;
@@ -35,7 +35,7 @@ fn nodes_shown(alloc: Global, nodes: &[Node]) -> Result<String, AllocError> {
 }
 
 /// A node with a space after it, a compound term's with its arity.
-fn node_shown(alloc: Global, node: &Node) -> Result<String, AllocError> {
+pub fn node_shown(alloc: Global, node: &Node) -> Result<String, AllocError> {
     match node {
         Node::Var(number) => format!(in alloc; "_{number} "),
         Node::Int(value) => format!(in alloc; "{value} "),
