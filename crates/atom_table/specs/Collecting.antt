@@ -1,5 +1,5 @@
 -- What the calls of a cycle of collection say.
-use Rattle.std.specs.Prelude.{◌≡◌, ◌≢◌, ℕ, ◌≤◌, true, List, [], ◌∷◌, ◌++◌, Option, Some, None, Ok}
+use Rattle.std.specs.Prelude.{◌≡◌, ◌≢◌, ℕ, ◌+◌, ◌-◌, ◌<◌, ◌≤◌, Bool, true, false, List, [], ◌∷◌, ◌++◌, length, Option, Some, None, Ok}
 use Rattle.std.specs.Option.{is_some}
 use Rattle.atom_words.specs.Layout.{phase_of, epoch_of}
 use Rattle.atom_words.specs.Chains.{In}
@@ -9,13 +9,17 @@ use Rattle.atom_words.specs.declared.view.Held.{Held}
 use Rattle.atom_words.specs.declared.view.Sweeping.{Sweeping}
 use Rattle.atom_words.specs.declared.view.View.{View}
 use Rattle.atom_words.specs.declared.kind.Kind.{Kind}
-use Rattle.atom_words.specs.declared.kind.Kind.TheVariants.{Load, Mark, Scan, Ack}
+use Rattle.atom_words.specs.declared.kind.Kind.TheVariants.{Load, Mark, Scan, Ack, End}
 use Rattle.sweep_core.specs.Cycles.{Marks, Unmarked, BeginsBy, last_epoch}
+use Rattle.sweep_core.specs.declared.slots.Verdict.{Verdict}
+use Rattle.sweep_core.specs.Sweeps.{Run}
 use Rattle.atom_table.specs.Naming.{those}
 use Rattle.atom_table.specs.declared.marking.Marked.{Marked}
 use Rattle.atom_table.specs.declared.marking.Marked.TheVariants.{Acked, NoCycle}
 use Rattle.atom_table.specs.declared.collecting.Turn.{Turn}
 use Rattle.atom_table.specs.declared.collecting.Turn.TheVariants.{Began, Running, Worn}
+use Rattle.atom_table.specs.declared.sweeping.Swept.{Swept}
+use Rattle.atom_table.specs.declared.sweeping.Swept.TheVariants.{At, Done}
 
 -- one scan for each slot of the list
 abbrev pub scans : List ℕ → List Kind
@@ -31,7 +35,7 @@ abbrev pub AcksBy : List ℕ → View → Marked → View → Type 0
 AcksBy live v (Acked e) w = (x : ℕ) × Marks v x × (e ≡ epoch_of x) × (w ≡ after v (Mark x (those live v.held) ∷ (scans live ++ Ack ∷ [])))
 AcksBy live v (NoCycle x) w = Unmarked v x × (w ≡ after v (Load 0 x ∷ []))
 
--- what the collector keeps at run time of its view: the epoch word, and how many engines it found to have acknowledged
+-- what the collector keeps at run time of its view: the epoch word, how many engines it found to have acknowledged, and the slot that the sweep has come to. Between its calls no slot is dying
 abbrev pub word_known : ℕ → Option Sweeping → ℕ
 word_known d None = d
 word_known d (Some y) = y.word
@@ -40,11 +44,29 @@ abbrev pub count_known : ℕ → Option Sweeping → ℕ
 count_known d None = d
 count_known d (Some y) = y.checked
 
-abbrev pub Collects : View → ℕ → ℕ → Type 0
-Collects v word checked = (is_some v.sweep ≡ true) × (word_known word v.sweep ≡ word) × (count_known checked v.sweep ≡ checked) × (checked ≤ v.size.engines)
+abbrev pub cursor_known : ℕ → Option Sweeping → ℕ
+cursor_known d None = d
+cursor_known d (Some y) = y.cursor
+
+abbrev pub dying_known : Option Sweeping → ℕ
+dying_known None = 0
+dying_known (Some y) = y.dying
+
+abbrev pub out_known : Option Sweeping → Bool
+out_known None = false
+out_known (Some y) = y.unlinked
+
+abbrev pub Collects : View → ℕ → ℕ → ℕ → Type 0
+Collects v word checked cursor = (is_some v.sweep ≡ true) × (word_known word v.sweep ≡ word) × (count_known checked v.sweep ≡ checked) × (checked ≤ v.size.engines)
+    × (cursor_known cursor v.sweep ≡ cursor) × (cursor ≤ v.size.slots) × (dying_known v.sweep ≡ 0) × (out_known v.sweep ≡ false)
 
 -- THE STEPS OF A CALL TO BEGIN, by the answer: a cycle begins, where none is at work and the epoch is not the last
 abbrev pub TurnsBy : View → Turn → View → Type 0
 TurnsBy v (Began e) w = BeginsBy v (Ok e) w
 TurnsBy v (Running x) w = (phase_of x ≢ 0) × (w ≡ after v (Load 0 x ∷ []))
 TurnsBy v (Worn x) w = (phase_of x ≡ 0) × (last_epoch ≤ epoch_of x) × (w ≡ after v (Load 0 x ∷ []))
+
+-- THE STEPS OF A SWEEP OF m SLOTS from the slot k on, by the answer: the next m are swept, and the sweep has come to the slot n; or the slots that are left, which are m at most, and the cycle is idle
+abbrev pub SweepsBy : ℕ → ℕ → View → Swept → View → Type 0
+SweepsBy k m v (At n) w = (n < v.size.slots) × (n ≡ k + m) × ((rs : List Verdict) × (length rs ≡ m) × Run k rs v w)
+SweepsBy k m v Done w = (v.size.slots ≤ k + m) × ((rs : List Verdict) × (u : View) × (length rs ≡ v.size.slots - k) × Run k rs v u × (w ≡ after u (End ∷ [])))

@@ -66,6 +66,7 @@ impl AtomTable {
             Checked::All => {
                 collector.checked = self.words.size.engines;
                 collector.word += 1;
+                collector.cursor = 0;
             }
             Checked::NotYet { engine, seen: _ } => {
                 collector.checked = engine as u64 - 1;

@@ -16,6 +16,7 @@ mod opening;
 #[cfg(test)]
 mod pending;
 mod seats;
+mod sweeping;
 mod table;
 #[cfg(test)]
 mod tests;
@@ -30,5 +31,6 @@ pub use collecting::Turn;
 pub use marking::Marked;
 pub use opening::Opened;
 pub use seats::{Collector, Keeper};
-pub use sweep_core::Checked;
+pub use sweep_core::{Checked, two_cycles};
+pub use sweeping::Swept;
 pub use table::AtomTable;

@@ -218,6 +218,7 @@ impl AtomTable {
                 seat: collector,
                 word: 0,
                 checked: 0,
+                cursor: 0,
             },
         })
     }

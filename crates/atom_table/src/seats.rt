@@ -27,7 +27,9 @@ pub struct Collector {
     pub word: u64,
     /// How many engines it has found to have acknowledged this epoch.
     pub checked: u64,
-    pub ghost collects: { Collects (seen seat) word checked },
+    /// The slot that the sweep has come to.
+    pub cursor: u32,
+    pub ghost collects: { Collects (seen seat) word checked cursor },
 }
 
 impl AtomTable {

@@ -21,9 +21,9 @@ checks_more v e zero = let at : e ≡ e + 0 = omega arith in ap (λ (i : ℕ). v
 checks_more v e (suc n) = checks_more (view_after v (Check e)) (e + 1) n ∙ (let at : e + 1 + n ≡ e + suc n = omega arith in ap (λ (i : ℕ). view_after (after (view_after v (Check e)) (checks (e + 1) n)) (Check i)) at)
 
 -- the collector knows the same word, and counts on
-pub checks_know : (v : View) (e n : ℕ) (y : Sweeping) → Knows v y → (t : Sweeping) × Knows (after v (checks e n)) t × (t.word ≡ y.word) × (t.checked ≡ y.checked + n)
-checks_know v e zero y k = (y, k, refl, omega arith)
-checks_know v e (suc n) y k = let r = checks_know (view_after v (Check e)) (e + 1) n (checking y) (ap (option_map checking) k) in (r.0, r.1, r.2, (let c = r.3 in omega arith))
+pub checks_know : (v : View) (e n : ℕ) (y : Sweeping) → Knows v y → (t : Sweeping) × Knows (after v (checks e n)) t × (t.word ≡ y.word) × (t.checked ≡ y.checked + n) × (t.cursor ≡ y.cursor) × (t.dying ≡ y.dying) × (t.unlinked ≡ y.unlinked)
+checks_know v e zero y k = (y, k, refl, omega arith, refl, refl, refl)
+checks_know v e (suc n) y k = let r = checks_know (view_after v (Check e)) (e + 1) n (checking y) (ap (option_map checking) k) in (r.0, r.1, r.2, (let c = r.3 in omega arith), r.4, r.5, r.6)
 
 -- the collector's view at the engine e, where it checks from `from` on
 pub known_at : (u v : View) (from e word : ℕ) → from ≤ e → u ≡ after v (checks from (e - from)) → (y : Sweeping) × Knows v y × (phase_of y.word ≡ 1) × (y.word ≡ word) × (y.checked ≡ from)

@@ -7,6 +7,7 @@ pub mod Treading
 pub mod RowBuckets
 pub mod Removing
 pub mod Judging
+pub mod SweepKinds
 pub mod Stages
 pub mod CalmSteps
 pub mod TwoCycles

@@ -1,5 +1,6 @@
 pub mod Cycles
 pub mod Plays
+pub mod SweepKinds
 pub mod Sweeps
 pub mod Treads
 pub mod TwoCycles

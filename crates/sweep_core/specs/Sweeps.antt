@@ -11,6 +11,7 @@ use Rattle.atom_words.specs.declared.kind.Kind.TheVariants.{Load, Start, Look, C
 use Rattle.sweep_core.specs.declared.slots.Verdict.{Verdict}
 use Rattle.sweep_core.specs.declared.slots.Verdict.TheVariants.{Low, Passed, Worn, Freed}
 use Rattle.sweep_core.specs.Treads.{spells}
+use Rattle.sweep_core.specs.SweepKinds.{SweepKinds}
 
 -- the sweep has come to that slot, and no slot is dying
 abbrev pub At : ℕ → View → Type 0
@@ -24,11 +25,11 @@ Judges v k (Worn x) ks = (last ≤ version_of x) × ((row : List ℕ) × (ks ≡
 Judges v k Freed ks = (before : List Kind) × (between : List Kind) × (ks ≡ before ++ Condemn ∷ (between ++ Free ∷ []))
 
 abbrev pub JudgedBy : ℕ → View → Verdict → View → Type 0
-JudgedBy k v r w = (ks : List Kind) × (w ≡ after v ks) × Judges v k r ks
+JudgedBy k v r w = (ks : List Kind) × (w ≡ after v ks) × Judges v k r ks × SweepKinds ks
 
--- THE STEPS OF THE SWEEP OF A SLOT: those, and the pass that clears its mark. The sweep has come to the next slot
+-- THE STEPS OF THE SWEEP OF A SLOT, which are of the sweep's kinds: those, and the pass that clears its mark. The sweep has come to the next slot
 abbrev pub SweptBy : ℕ → View → Verdict → View → Type 0
-SweptBy k v r w = (ks : List Kind) × (x : ℕ) × (w ≡ after v (ks ++ PassOver x ∷ [])) × Judges v k r ks
+SweptBy k v r w = (ks : List Kind) × (x : ℕ) × (w ≡ after v (ks ++ PassOver x ∷ [])) × Judges v k r ks × SweepKinds ks
 
 -- THE STEPS OF A RUN OF SLOTS from the slot k on
 abbrev pub Run : ℕ → List Verdict → View → View → Type 0

@@ -2,6 +2,7 @@
 ghost use Rattle.std.specs.Prelude.{◌≡◌, ◌+◌, ◌-◌, ◌<◌, ◌≤◌, List, length};
 ghost use Rattle.atom_words.specs.Seats.{seen, Fits, Same};
 ghost use Rattle.sweep_core.specs.Treads.{AtSlot};
+ghost use Rattle.sweep_core.specs.SweepKinds.{Untouched};
 ghost use Rattle.sweep_core.specs.Sweeps.{Run};
 ghost use Rattle.sweep_core.specs.declared.slots.Verdict.{Verdict};
 
@@ -16,6 +17,7 @@ pub fn sweep_run(words: &Words, seat: &mut AtomSeat, from: u32, end: u32)
     ensures same { Same seat.old seat.new }
     ensures fits { Fits words.now seat.new }
     ensures steps { (rs : List Verdict) × (length rs ≡ end - from) × Run from rs (seen seat.old) (seen seat.new) }
+    ensures untouched { Untouched (seen seat.old) (seen seat.new) }
     ensures at { AtSlot end (seen seat.new) }
 {
     for slot in from..end {

@@ -8,6 +8,7 @@ ghost use Rattle.atom_words.specs.Seats.{seen, Fits, Same};
 ghost use Rattle.atom_words.specs.declared.kind.Kind.{Kind};
 ghost use Rattle.atom_words.specs.declared.kind.Kind.TheVariants.{Load, Start, Condemn, Free};
 ghost use Rattle.sweep_core.specs.Treads.{spells, AtSlot, Found, Reached};
+ghost use Rattle.sweep_core.specs.SweepKinds.{SweepKinds};
 ghost use Rattle.sweep_core.specs.Sweeps.{JudgedBy, SweptBy};
 
 use crate::removal::unlink;
@@ -42,7 +43,7 @@ fn reach(words: &Words, seat: &mut AtomSeat, slot: u32) -> Result<u64, u64>
     requires found { Found slot (seen seat.old) }
     ensures same { Same seat.old seat.new }
     ensures fits { Fits words.now seat.new }
-    ensures steps { MatchResult result (λ before. (ks : List Kind) × (seen seat.new ≡ after (seen seat.old) ks)) (λ x. (last ≤ version_of x) × ((row : List ℕ) × (seen seat.new ≡ after (seen seat.old) (spells row ++ Start (bucket 8 row) x ∷ [])))) }
+    ensures steps { MatchResult result (λ before. (ks : List Kind) × (seen seat.new ≡ after (seen seat.old) ks) × SweepKinds ks) (λ x. (last ≤ version_of x) × ((row : List ℕ) × (seen seat.new ≡ after (seen seat.old) (spells row ++ Start (bucket 8 row) x ∷ [])))) }
     ensures reached { MatchResult result (λ before. Reached slot seat.new.word before (seen seat.new) × (before ≤ words.now.size.slots)) (λ x. AtSlot slot (seen seat.new)) }
 {
     let row = spell_row(words, seat, slot);
@@ -62,7 +63,7 @@ fn take_out(words: &Words, seat: &mut AtomSeat, slot: u32, before: u64) -> Resul
     requires reached { Reached slot seat.old.word before (seen seat.old) }
     ensures same { Same seat.old seat.new }
     ensures fits { Fits words.now seat.new }
-    ensures steps { MatchResult result (λ _. (ks : List Kind) × (seen seat.new ≡ after (seen seat.old) (Condemn ∷ (ks ++ Free ∷ [])))) (λ x. (x ≢ 3) × (seen seat.new ≡ after (seen seat.old) (Load (atom_at words.now.size slot) x ∷ []))) }
+    ensures steps { MatchResult result (λ _. (ks : List Kind) × (seen seat.new ≡ after (seen seat.old) (Condemn ∷ (ks ++ Free ∷ []))) × SweepKinds ks) (λ x. (x ≢ 3) × (seen seat.new ≡ after (seen seat.old) (Load (atom_at words.now.size slot) x ∷ []))) }
     ensures at { AtSlot slot (seen seat.new) }
 {
     condemn(words, seat, slot)?;

@@ -24,12 +24,12 @@ bump-moved-requires-clause-unlinked c = let b = c.requires.caught in let s = c.a
 
 pub returns-clause-steps : goal.returns-clause-steps
 returns-clause-steps c = let v : View = seen c.args.seat.now in let u : View = seen c.unlink_at.new.seat in let t : View = seen c.note-noted.new.seat in let w : View = seen c.bump-moved.new.seat in let n : ℕ = c.note-noted.result in let m = bumped_by t w c.bump-moved.result c.bump-moved.ensures.steps in
-    (UnlinkAt c.args.before ∷ Note n ∷ m.0 ∷ [], m.1 ∙ ap (λ (y : View). view_after y m.0) (c.note-noted.ensures.steps ∙ ap (λ (y : View). view_after y (Note n)) c.unlink_at.ensures.steps))
+    (UnlinkAt c.args.before ∷ Note n ∷ m.0 ∷ [], m.1 ∙ ap (λ (y : View). view_after y m.0) (c.note-noted.ensures.steps ∙ ap (λ (y : View). view_after y (Note n)) c.unlink_at.ensures.steps), (tt, (tt, (m.2, tt))))
 
 pub returns-clause-out : goal.returns-clause-out
 returns-clause-out c = let b = c.requires.caught in let s = c.args.seat.now in let u : View = seen c.unlink_at.new.seat in let t : View = seen c.note-noted.new.seat in let w : View = seen c.bump-moved.new.seat in let n : ℕ = c.note-noted.result in let m = bumped_by t w c.bump-moved.result c.bump-moved.ensures.steps in (
   moving_past (noting n (unlinking false b.1.sweep)),
-  m.2 (noting n (unlinking false b.1.sweep)) (unlinked_noted n (unlinking false b.1.sweep) u t (unlinked_after c.args.slot s.word (c.args.before + 1) c.args.link c.args.before (seen s) u b c.unlink_at.ensures.steps) c.note-noted.ensures.steps),
+  m.3 (noting n (unlinking false b.1.sweep)) (unlinked_noted n (unlinking false b.1.sweep) u t (unlinked_after c.args.slot s.word (c.args.before + 1) c.args.link c.args.before (seen s) u b c.unlink_at.ensures.steps) c.note-noted.ensures.steps),
   refl,
   b.1.cursor,
 )

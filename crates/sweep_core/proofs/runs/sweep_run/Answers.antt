@@ -4,6 +4,7 @@ use Rattle.sweep_core.specs.declared.slots.Verdict.{Verdict}
 use Rattle.sweep_core.specs.Treads.{AtSlot}
 use Rattle.sweep_core.specs.Sweeps.{SweptBy}
 use Rattle.sweep_core.proofs.Judging.{run_more}
+use Rattle.sweep_core.proofs.SweepKinds.{untouched_run}
 use Rattle.sweep_core.proofs.runs.sweep_run.Goals as goal
 
 pub loop-slot-init : goal.loop-slot-init
@@ -26,3 +27,6 @@ returns-clause-steps c = let inv = c.loop-slot.invariant in let count = inv.step
 
 pub returns-clause-at : goal.returns-clause-at
 returns-clause-at c = let all : c.loop-slot.slot ≡ c.args.end = (let a = c.loop-slot-test.false in let b = c.loop-slot.auto.slot-end c.requires.slots.0 in omega arith) in subst (λ (n : ℕ). AtSlot n (seen c.loop-slot.seat)) all c.loop-slot.invariant.at
+
+pub returns-clause-untouched : goal.returns-clause-untouched
+returns-clause-untouched c = let inv = c.loop-slot.invariant in untouched_run c.args.from inv.steps.0 (seen c.args.seat.now) (seen c.loop-slot.seat) inv.steps.2

@@ -10,13 +10,14 @@ use Rattle.atom_words.specs.declared.kind.Kind.TheVariants.{Load, Start, Look, C
 use Rattle.sweep_core.specs.Treads.{spells}
 use Rattle.sweep_core.proofs.Removing.{then_steps}
 use Rattle.sweep_core.proofs.Judging.{found_of, looked_at}
+use Rattle.sweep_core.proofs.SweepKinds.{kinds_append, kinds_spells}
 use Rattle.sweep_core.proofs.slots.judge.Goals as goal
 
 pub returns-then-slot-lt256-clause-steps : goal.returns-then-slot-lt256-clause-steps
-returns-then-slot-lt256-clause-steps c = ([], refl, (c.if-slot-lt256.true, refl))
+returns-then-slot-lt256-clause-steps c = ([], refl, (c.if-slot-lt256.true, refl), tt)
 
 pub returns-then-found-ne3-clause-steps : goal.returns-then-found-ne3-clause-steps
-returns-then-found-ne3-clause-steps c = (Look c.look-found.result ∷ [], c.look-found.ensures.steps, (c.if-found-ne3.true, ([], inl refl)))
+returns-then-found-ne3-clause-steps c = (Look c.look-found.result ∷ [], c.look-found.ensures.steps, (c.if-found-ne3.true, ([], inl refl)), (tt, tt))
 
 pub returns-then-found-ne3-clause-at : goal.returns-then-found-ne3-clause-at
 returns-then-found-ne3-clause-at c = looked_at c.args.slot c.look-found.result (seen c.args.seat.now) (seen c.look-found.new.seat) c.requires.at c.look-found.ensures.steps
@@ -27,15 +28,15 @@ reach-requires-clause-found c = let v : View = seen c.args.seat.now in found_of 
 pub returns-in-Ok-take_out-clause-steps : goal.returns-in-Ok-take_out-clause-steps
 returns-in-Ok-take_out-clause-steps c = let v : View = seen c.args.seat.now in let u : View = seen c.look-found.new.seat in let t : View = seen c.reach.new.seat in let w : View = seen c.take_out.new.seat in let r = c.in-Ok.ensures.steps in let m = c.in-Ok-take_out.ensures.steps in
     let is : u ≡ after v (Look 3 ∷ []) = c.look-found.ensures.steps ∙ ap (λ (x : ℕ). view_after v (Look x)) c.if-found-ne3.false in let ks : List Kind = Look 3 ∷ r.0 in let js : List Kind = Condemn ∷ (m.0 ++ Free ∷ []) in
-    (ks ++ js, then_steps v t w ks js (then_steps v u t (Look 3 ∷ []) r.0 is r.1) m.1, (ks, m.0, refl))
+    (ks ++ js, then_steps v t w ks js (then_steps v u t (Look 3 ∷ []) r.0 is r.1) m.1, (ks, m.0, refl), kinds_append ks js (tt, r.2) (tt, kinds_append m.0 (Free ∷ []) m.2 (tt, tt)))
 
 pub returns-in-Err-take_out-clause-steps : goal.returns-in-Err-take_out-clause-steps
 returns-in-Err-take_out-clause-steps c = let v : View = seen c.args.seat.now in let u : View = seen c.look-found.new.seat in let t : View = seen c.reach.new.seat in let w : View = seen c.take_out.new.seat in let r = c.in-Ok.ensures.steps in let m = c.in-Err-take_out.ensures.steps in let x : ℕ = c.in-Err-take_out.word in
     let is : u ≡ after v (Look 3 ∷ []) = c.look-found.ensures.steps ∙ ap (λ (x : ℕ). view_after v (Look x)) c.if-found-ne3.false in let ks : List Kind = Look 3 ∷ r.0 in let js : List Kind = Load (atom_at v.size c.args.slot) x ∷ [] in
     let last_ : w ≡ after t js = m.1 ∙ ap (λ (z : Size). view_after t (Load (atom_at z c.args.slot) x)) (sym c.requires.fits.1) in
-    (ks ++ js, then_steps v t w ks js (then_steps v u t (Look 3 ∷ []) r.0 is r.1) last_, (m.0, (ks, inr refl)))
+    (ks ++ js, then_steps v t w ks js (then_steps v u t (Look 3 ∷ []) r.0 is r.1) last_, (m.0, (ks, inr refl)), kinds_append ks js (tt, r.2) (tt, tt))
 
 pub returns-in-Err-clause-steps : goal.returns-in-Err-clause-steps
 returns-in-Err-clause-steps c = let v : View = seen c.args.seat.now in let u : View = seen c.look-found.new.seat in let t : View = seen c.reach.new.seat in let m = c.in-Err.ensures.steps in let x : ℕ = c.in-Err.word in
     let is : u ≡ after v (Look 3 ∷ []) = c.look-found.ensures.steps ∙ ap (λ (x : ℕ). view_after v (Look x)) c.if-found-ne3.false in let js : List Kind = spells m.1.0 ++ Start (bucket 8 m.1.0) x ∷ [] in
-    (Look 3 ∷ js, then_steps v u t (Look 3 ∷ []) js is m.1.1, (m.0, (m.1.0, refl)))
+    (Look 3 ∷ js, then_steps v u t (Look 3 ∷ []) js is m.1.1, (m.0, (m.1.0, refl)), (tt, kinds_append (spells m.1.0) (Start (bucket 8 m.1.0) x ∷ []) (kinds_spells m.1.0) (tt, tt)))

@@ -10,6 +10,7 @@ use Rattle.sweep_core.specs.Treads.{spells, nexts, Treads}
 use Rattle.sweep_core.proofs.Treading.{spells_keep, spells_know, nexts_keep, treads_start}
 use Rattle.sweep_core.proofs.Removing.{then_steps, word_of}
 use Rattle.sweep_core.proofs.Judging.{spelled_at, reached_by}
+use Rattle.sweep_core.proofs.SweepKinds.{kinds_append, kinds_spells, kinds_nexts}
 use Rattle.sweep_core.proofs.slots.reach.Goals as goal
 
 pub trace-word-requires-clause-fits : goal.trace-word-requires-clause-fits
@@ -44,7 +45,7 @@ tread-requires-clause-start c = let v : View = seen c.args.seat.now in let u : V
 
 pub returns-clause-steps : goal.returns-clause-steps
 returns-clause-steps c = let v : View = seen c.args.seat.now in let u : View = seen c.spell_row-row.new.seat in let t : View = seen c.trace-word.new.seat in let w : View = seen c.tread.new.seat in let row : List ℕ = c.spell_row-row.result in let ks = Start c.row_bucket.result c.trace-word.result ∷ [] in let e = c.tread.ensures.steps in
-    ((spells row ++ ks) ++ nexts e.0, then_steps v t w (spells row ++ ks) (nexts e.0) (then_steps v u t (spells row) ks c.spell_row-row.ensures.steps c.trace-word.ensures.steps) e.1)
+    ((spells row ++ ks) ++ nexts e.0, then_steps v t w (spells row ++ ks) (nexts e.0) (then_steps v u t (spells row) ks c.spell_row-row.ensures.steps c.trace-word.ensures.steps) e.1, kinds_append (spells row ++ ks) (nexts e.0) (kinds_append (spells row) ks (kinds_spells row) (tt, tt)) (kinds_nexts e.0))
 
 pub returns-clause-reached : goal.returns-clause-reached
 returns-clause-reached c = let v : View = seen c.args.seat.now in let u : View = seen c.spell_row-row.new.seat in let t : View = seen c.trace-word.new.seat in let row : List ℕ = c.spell_row-row.result in let x : ℕ = c.trace-word.result in let f = c.requires.found in let s = c.trace-word.new.seat in let e = c.tread.ensures in

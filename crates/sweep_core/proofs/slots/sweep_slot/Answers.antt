@@ -7,7 +7,7 @@ use Rattle.sweep_core.proofs.slots.sweep_slot.Goals as goal
 
 pub returns-clause-steps : goal.returns-clause-steps
 returns-clause-steps c = let e = c.judge-verdict.ensures.steps in let x : ℕ = c.pass.result in
-    (e.0, x, then_steps (seen c.args.seat.now) (seen c.judge-verdict.new.seat) (seen c.pass.new.seat) e.0 (PassOver x ∷ []) e.1 c.pass.ensures.steps, e.2)
+    (e.0, x, then_steps (seen c.args.seat.now) (seen c.judge-verdict.new.seat) (seen c.pass.new.seat) e.0 (PassOver x ∷ []) e.1 c.pass.ensures.steps, e.2, e.3)
 
 pub returns-clause-at : goal.returns-clause-at
 returns-clause-at c = passed_at c.args.slot c.pass.result (seen c.judge-verdict.new.seat) (seen c.pass.new.seat) c.judge-verdict.ensures.at c.pass.ensures.steps

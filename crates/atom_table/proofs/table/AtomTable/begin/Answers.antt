@@ -5,7 +5,7 @@ use Rattle.atom_table.proofs.Scans.{begun_collects, sits_same}
 use Rattle.atom_table.proofs.table.AtomTable.begin.Goals as goal
 
 pub invariant_of-collector : goal.invariant_of-collector
-invariant_of-collector c = record { collects = begun_collects (seen c.args.collector.now.seat) (seen c.begin.new.seat) c.in-Ok.epoch c.in-Ok.ensures.steps }
+invariant_of-collector c = let o = c.args.collector.now in record { collects = begun_collects (seen o.seat) (seen c.begin.new.seat) c.in-Ok.epoch o.word o.checked o.cursor o.collects c.in-Ok.ensures.steps }
 
 pub returns-in-Ok-clause-sits : goal.returns-in-Ok-clause-sits
 returns-in-Ok-clause-sits c = let is = c.in-Ok.ensures.steps.5 in sits_same c.args.self.now.words c.args.collector.now.seat c.begin.new.seat c.begin.ensures.same

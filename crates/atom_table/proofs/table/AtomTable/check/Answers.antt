@@ -8,12 +8,12 @@ use Rattle.atom_table.proofs.table.AtomTable.check.Goals as goal
 
 pub invariant_of-collector : goal.invariant_of-collector
 invariant_of-collector c = let o = c.args.collector.now in record {
-  collects = all_collects (epoch_of o.word) o.word o.checked c.args.self.now.words.size.engines (seen o.seat) (seen c.check-checked.new.seat) c.requires.marking (ap (λ (z : Size). z.engines) c.requires.sits.0.1) o.collects c.in-All.ensures.steps;
+  collects = all_collects (epoch_of o.word) o.word o.checked o.cursor c.args.self.now.words.size.engines (seen o.seat) (seen c.check-checked.new.seat) c.requires.marking (ap (λ (z : Size). z.engines) c.requires.sits.0.1) o.collects c.in-All.ensures.steps;
 }
 
 pub invariant_of-collector-in-NotYet : goal.invariant_of-collector-in-NotYet
 invariant_of-collector-in-NotYet c = let o = c.args.collector.now in record {
-  collects = part_collects (epoch_of o.word) o.word o.checked c.in-NotYet.engine c.in-NotYet.seen (seen o.seat) (seen c.check-checked.new.seat) o.collects c.in-NotYet.ensures.steps;
+  collects = part_collects (epoch_of o.word) o.word o.checked o.cursor c.in-NotYet.engine c.in-NotYet.seen (seen o.seat) (seen c.check-checked.new.seat) o.collects c.in-NotYet.ensures.steps;
 }
 
 pub returns-in-All-clause-sits : goal.returns-in-All-clause-sits

@@ -1,0 +1,39 @@
+-- The kinds of steps that the sweep of slots makes.
+use Rattle.std.specs.Prelude.{◌≡◌, List, [], ◌∷◌, option_map}
+use Rattle.atom_words.specs.declared.view.Sweeping.{Sweeping}
+use Rattle.atom_words.specs.declared.view.View.{View}
+use Rattle.atom_words.specs.declared.kind.Kind.{Kind}
+use Rattle.atom_words.specs.declared.kind.Kind.TheVariants.{Load, Start, Next, Look, Spell, Condemn, PassOver, Behind, UnlinkAt, UnlinkHead, Note, Bump, Past, Free}
+
+abbrev pub SweepKind : Kind → Type 0
+SweepKind (Load i x) = Unit {0}
+SweepKind (Start h x) = Unit {0}
+SweepKind (Next x) = Unit {0}
+SweepKind (Look x) = Unit {0}
+SweepKind (Spell x) = Unit {0}
+SweepKind Condemn = Unit {0}
+SweepKind (PassOver x) = Unit {0}
+SweepKind (Behind x) = Unit {0}
+SweepKind (UnlinkAt q) = Unit {0}
+SweepKind UnlinkHead = Unit {0}
+SweepKind (Note x) = Unit {0}
+SweepKind Bump = Unit {0}
+SweepKind (Past x) = Unit {0}
+SweepKind Free = Unit {0}
+SweepKind kind = ⊥
+
+abbrev pub SweepKinds : List Kind → Type 0
+SweepKinds [] = Unit {0}
+SweepKinds (k ∷ ks) = SweepKind k × SweepKinds ks
+
+-- what such steps leave of the view; and of what the collector knows the epoch word, and how many engines are checked
+pub record Untouched (v w : View) : Type 0 where
+  pub gone : w.gone ≡ v.gone
+  pub size : w.size ≡ v.size
+  pub own : w.own ≡ v.own
+  pub held : w.held ≡ v.held
+  pub fixed : w.fixed ≡ v.fixed
+  pub counts : w.counts ≡ v.counts
+  pub cycle : w.cycle ≡ v.cycle
+  pub word : option_map (λ (y : Sweeping). y.word) w.sweep ≡ option_map (λ (y : Sweeping). y.word) v.sweep
+  pub checked : option_map (λ (y : Sweeping). y.checked) w.sweep ≡ option_map (λ (y : Sweeping). y.checked) v.sweep
