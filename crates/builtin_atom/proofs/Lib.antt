@@ -7,6 +7,7 @@ pub mod ListedLaws
 pub mod Looks
 pub mod MadeLaws
 pub mod MeasureLaws
+pub mod NumberLaws
 pub mod Rows
 pub mod SpellLaws
 pub mod TextLaws

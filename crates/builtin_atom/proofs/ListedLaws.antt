@@ -1,9 +1,9 @@
 -- Lists that are made for answers.
-use Rattle.std.proofs.Common.{◌≡◌, ◌⊎◌, inl, inr, ℕ, zero, ◌+◌, ◌*◌, ◌<◌, ◌≤◌, ◌^◌, suc, List, [], ◌∷◌, ◌++◌, length, map, take, drop, get_or, Option, Some, IsSome, Result, Ok, Err, codes, refl, sym, ap, ap₂, subst, ◌∙◌, arith, drop-cons}
+use Rattle.std.proofs.Common.{◌≡◌, ◌⊎◌, inl, inr, ℕ, zero, ◌<◌, suc, List, [], ◌∷◌, ◌++◌, length, map, take, drop, get_or, Option, IsSome, Result, Ok, codes, refl, sym, ap, ap₂, subst, ◌∙◌, arith, drop-cons}
 use Rattle.std.specs.List.{All, Contains}
 use Rattle.std.proofs.lemmas.List.{map-append, take-append-drop}
 use Rattle.std.proofs.lemmas.List.Elements.{All-append, All-cons, All-head, All-map, All-nil, All-push, All-tail, All-weaker, Contains-append_cases, Contains-append_left, Contains-append_right}
-use Rattle.pl_term.specs.Tree.{Chars, Tree, Trees, atom, comp, more, none}
+use Rattle.pl_term.specs.Tree.{Chars, Tree, atom, comp, more, none}
 use Rattle.pl_model.specs.Terms.{list_term}
 use Rattle.pl_model.specs.TermBuiltins.{two}
 use Rattle.atom_api.specs.FixedNames.{list_cell_name, nil_name}
@@ -25,7 +25,7 @@ use Rattle.builtin_atom.specs.declared.forms.Form.{Form}
 use Rattle.builtin_atom.specs.declared.forms.Form.TheVariants.{Characters, Codes}
 use Rattle.builtin_atom.specs.declared.listed.Element.{Element}
 use Rattle.builtin_atom.specs.declared.listed.Element.TheVariants as element
-use Rattle.builtin_atom.specs.Answering.{charged, pair_at}
+use Rattle.builtin_atom.specs.Answering.{charged}
 use Rattle.builtin_atom.specs.Forms.{to_by}
 use Rattle.builtin_atom.specs.Listed.{AreListedAt, IsElementAt, element_refusals, element_texts}
 use Rattle.builtin_atom.proofs.Kept.{held_kept, reads_kept}

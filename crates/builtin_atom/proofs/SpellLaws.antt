@@ -1,5 +1,5 @@
 -- What atom_chars/2 and atom_codes/2 come to.
-use Rattle.std.proofs.Common.{◌≡◌, ℕ, ℤ, ◌*◌, ◌<◌, ◌≤◌, true, false, if◌then◌else◌, List, length, map, Option, Some, None, Result, Ok, Err, IfOk, codes, refl, sym, ap, ap₂, subst, ◌∙◌}
+use Rattle.std.proofs.Common.{◌≡◌, ℕ, ℤ, ◌*◌, ◌<◌, ◌≤◌, if◌then◌else◌, List, length, map, Option, Some, None, Result, Ok, Err, codes, sym, ap, ap₂, ◌∙◌}
 use Rattle.std.specs.Fmt.{signed_decimal}
 use Rattle.std.proofs.lemmas.Bool.{le-ltb, lt-ltb}
 use Rattle.pl_term.specs.Texts.{size}

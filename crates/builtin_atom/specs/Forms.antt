@@ -34,6 +34,11 @@ abbrev pub atom_predicate : Form → Chars
 atom_predicate Characters = codes "atom_chars"
 atom_predicate Codes = codes "atom_codes"
 
+-- The predicates between integers and lists (ISO 8.16.7, 8.16.8).
+abbrev pub number_predicate : Form → Chars
+number_predicate Characters = codes "number_chars"
+number_predicate Codes = codes "number_codes"
+
 -- The error term of what is wrong with an element.
 abbrev pub error_of : Names → Contents → Fault → Tree
 error_of m s Unbound = instantiation_error

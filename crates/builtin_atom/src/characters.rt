@@ -51,12 +51,20 @@ pub fn integer_characters(alloc: Global, i: i64) -> Result<Vec<char>, Memory>
 pub fn text_from(alloc: Global, characters: &[char]) -> Result<Text, Memory>
     ensures { IfOk result (λ t. t ≡ characters.now) }
 {
+    let text = string_from(alloc, characters)?;
+    let made = Text::from_str(alloc, text.as_str())?;
+    Ok(made)
+}
+
+/// The string of these characters. The only error is out of memory.
+pub fn string_from(alloc: Global, characters: &[char]) -> Result<String, Memory>
+    ensures { IfOk result (λ s. chars (string_bytes s) ≡ characters.now) }
+{
     let mut text = String::new(alloc);
     for c in characters {
         push(&mut text, *c)?;
     }
-    let made = Text::from_str(alloc, text.as_str())?;
-    Ok(made)
+    Ok(text)
 }
 
 /// Adds a character to a text. The only error is out of memory.

@@ -1,7 +1,7 @@
 //! Errors of predicates (ISO 7.12.2).
 ghost use Rattle.std.specs.Prelude.{◌≡◌, [], Some, IfOk, codes};
 ghost use Rattle.pl_term.specs.Tree.{Chars, Trees};
-ghost use Rattle.pl_model.specs.Balls.{instantiation_error, type_error, representation_error};
+ghost use Rattle.pl_model.specs.Balls.{instantiation_error, type_error, representation_error, syntax_error};
 ghost use Rattle.pl_model.specs.ErrorTerms.{domain_error};
 ghost use Rattle.pl_model.specs.BuiltinRows.{error};
 ghost use Rattle.pl_model.specs.History.{proc};
@@ -67,4 +67,14 @@ pub fn past_limit(store: &mut Store, limit: Atom, name: Atom, arity: u32) -> Res
     ensures single { IfOk result IsSingle }
 {
     refused_with(store, fixed::REPRESENTATION_ERROR, limit, name, arity)
+}
+
+/// A list spells no term: the syntax error. The only error is out of memory.
+pub fn bad_syntax(store: &mut Store, fault: Atom, name: Atom, arity: u32) -> Result<Row, Memory>
+    ensures row { IfOk result (λ r. (m : Names) (k p : Chars) (ts : Trees) → FixedStand m → fixed fault ≡ Some k → fixed name ≡ Some p
+        → IsRowOf store.old (proc p arity) ts (error (syntax_error k)) m store.new r) }
+    ensures refusals { refusals_of result ≡ [] }
+    ensures single { IfOk result IsSingle }
+{
+    refused_with(store, fixed::SYNTAX_ERROR, fault, name, arity)
 }

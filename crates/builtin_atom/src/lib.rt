@@ -10,6 +10,7 @@ mod forms;
 mod lengths;
 mod listed;
 mod making;
+mod numbers;
 mod spelled;
 mod spelling;
 #[cfg(test)]
@@ -22,4 +23,5 @@ pub use codes::char_code;
 pub use errors::{below_zero, past_limit, unbound, wrong_type};
 pub use lengths::atom_length;
 pub use making::{Made, make_atom};
+pub use numbers::{number_chars, number_codes};
 pub use spelling::{atom_chars, atom_codes};

@@ -3,7 +3,7 @@ ghost use Rattle.atom_api.specs.Names.{Names, FixedStand};
 ghost use Rattle.term_store.specs.Contents.{Contents, Holds};
 ghost use Rattle.world_builtins.specs.Naming.{IsHeldAt};
 
-use crate::{atom_chars, atom_codes, atom_length, char_code};
+use crate::{atom_chars, atom_codes, atom_length, char_code, number_chars, number_codes};
 use atom_api::{Atoms, PlainAtoms, fixed};
 use builtin_rows::Row;
 use pl_term::Memory;
@@ -103,5 +103,38 @@ fn lists_of_characters_are_made(rt: HostRuntime) -> Result<(), Fail> {
     assert!(rt; matches!(&too_many, Row::CellsFull { used: 0, need: 6 }));
     assert!(rt; matches!(&codes, Row::Answer { fresh: 0, .. }));
     assert!(rt; matches!(&none, Row::CellsFull { used: 0, need: 3 }));
+    Ok(())
+}
+
+/// The row of number_chars(N, 0), where so many cells fit.
+fn characters_of_number<A: Atoms>(
+    alloc: Global,
+    n: i64,
+    cells: u64,
+    atoms: &mut A,
+) -> Result<Row, Memory> {
+    let mut store = Store::new(alloc, cells)?;
+    let integer = number(n);
+    let list = number(0);
+    number_chars(alloc, &mut store, integer, list, atoms)
+}
+
+/// The row of number_codes(!, 0).
+fn number_codes_of_mark<A: Atoms>(alloc: Global, atoms: &mut A) -> Result<Row, Memory> {
+    let mut store = Store::new(alloc, 100)?;
+    let integer = mark();
+    let list = number(0);
+    number_codes(alloc, &mut store, integer, list, atoms)
+}
+
+#[test]
+fn numbers_are_spelled(rt: HostRuntime) -> Result<(), Fail> {
+    let mut atoms = PlainAtoms::new(rt.alloc())?;
+    let characters = characters_of_number(rt.alloc(), -12, 9, &mut atoms)?;
+    let too_many = characters_of_number(rt.alloc(), -12, 8, &mut atoms)?;
+    let no_number = number_codes_of_mark(rt.alloc(), &mut atoms)?;
+    assert!(rt; matches!(&characters, Row::Answer { fresh: 0, .. }));
+    assert!(rt; matches!(&too_many, Row::CellsFull { used: 0, need: 9 }));
+    assert!(rt; matches!(&no_number, Row::Ball(_)));
     Ok(())
 }

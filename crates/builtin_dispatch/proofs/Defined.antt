@@ -5,13 +5,13 @@ use Rattle.pl_term.specs.Tree.{Chars, Tree, var, int, atom, comp}
 use Rattle.pl_model.specs.Builtins.{row}
 use Rattle.pl_model.specs.BuiltinRows as basic
 use Rattle.pl_model.specs.BuiltinRows.{one_answer, test}
-use Rattle.pl_model.specs.Evaluables.{Evaluated, evaluated}
+use Rattle.pl_model.specs.Evaluables.{Evaluated, evaluated, is_in_range}
 use Rattle.pl_model.specs.Checks.{atom_error, atomic_error, bound_error, elements, first_error, integer_error, natural_of, negative_error, text_of_atom}
 use Rattle.pl_term.specs.Order.{order}
 use Rattle.pl_term.specs.Variables.{variables}
 use Rattle.pl_model.specs.Terms.{arguments, list_term, variable_count}
 use Rattle.pl_model.specs.TermBuiltins.{argument_at, argument_of, compares, compares_values, composed, composes, copies, evaluates, functor_of, gives_list, key, list_error, lists_variables, makes, makes_functor, merges, on_list, pairs_error, sign, sign_error, sorted, sorts, sorts_by_key, subsumes, three, two, univ, unless, with_argument, with_value}
-use Rattle.pl_model.specs.AtomBuiltins.{all_errors, as_character, character_error, character_in, code_error, codes_character, coded_row, if_short, measures, number, spells}
+use Rattle.pl_model.specs.AtomBuiltins.{all_errors, as_character, character_error, character_in, code_error, codes_character, coded_row, if_short, measures, number, number_in, number_row, spells, spells_number}
 use Rattle.pl_model.specs.TermGrammar.{is_too_long}
 use Rattle.pl_model.specs.Unify.{unify}
 use Rattle.pl_model.specs.History.{proc}
@@ -65,6 +65,10 @@ plain_if : (b : Bool) (r q : basic.Row) → IsPlainRow r → IsPlainRow q → Is
 plain_if true r q h k = h
 plain_if false r q h k = k
 
+plain_number : (l : Tree) (o : Option ℤ) → IsPlainRow (number_row l o)
+plain_number l None = tt
+plain_number l (Some i) = plain_if (is_in_range i) (one_answer (two (int i) l)) _ tt tt
+
 module _ (check : Tree → Option Tree) (from : Tree → ℕ) (to : ℕ → Tree) where
   plain_short : (c : Chars) (r : basic.Row) → IsPlainRow r → IsPlainRow (if_short c r)
   plain_short c r h = plain_if (is_too_long c) _ r tt h
@@ -76,6 +80,14 @@ module _ (check : Tree → Option Tree) (from : Tree → ℕ) (to : ℕ → Tree
   plain_spells (int i) l = tt
   plain_spells (atom b) l = tt
   plain_spells (comp f u us) l = tt
+
+  plain_spells_number : (a l : Tree) → IsPlainRow (spells_number check from to a l)
+  plain_spells_number (var x) l =
+      plain_list (elements l) _
+      (λ ts. plain_unless (all_errors check ts) (number_row l (number_in (map from ts))) (plain_number l (number_in (map from ts))))
+  plain_spells_number (int i) l = tt
+  plain_spells_number (atom b) l = tt
+  plain_spells_number (comp f u us) l = tt
 
 plain_values : (by : ℤ → ℤ → Bool) (t u : Tree) → IsPlainRow (compares_values by t u)
 plain_values by t u =
@@ -168,6 +180,14 @@ module _ (t u : Tree) (next : ℕ) where
   pub codes_defined : IsDefined pred.CharCode (two t u) next (codes_character t u)
   unfolding row basic.row
   codes_defined = record { row_is = refl; plain = plain_unless _ (coded_row t u) (plain_coded t u) }
+
+  pub number_chars_defined : IsDefined pred.NumberChars (two t u) next (spells_number character_error character_in as_character t u)
+  unfolding row basic.row
+  number_chars_defined = record { row_is = refl; plain = plain_spells_number character_error character_in as_character t u }
+
+  pub number_codes_defined : IsDefined pred.NumberCodes (two t u) next (spells_number code_error natural_of number t u)
+  unfolding row basic.row
+  number_codes_defined = record { row_is = refl; plain = plain_spells_number code_error natural_of number t u }
 
   pub values_defined : (k : Comparison) → IsDefined (pred_of k) (two t u) next (compares_values (holds_by k) t u)
   unfolding row basic.row

@@ -128,6 +128,8 @@ pub record IsOther (p : Pred) : Type 0 where
   pub atom_chars : p ≢ pred.AtomChars
   pub atom_codes : p ≢ pred.AtomCodes
   pub codes : p ≢ pred.CharCode
+  pub number_chars : p ≢ pred.NumberChars
+  pub number_codes : p ≢ pred.NumberCodes
 
 pub comparison_told : (p : Pred) (t u : Tree) (next : ℕ) → IsOther p → Compares p None → kind_of p ≡ row → arity_of p ≡ 2
     → IsTold p (two t u) next (test_row (comparison (name_of p) (order t u)) (two t u))
@@ -195,8 +197,8 @@ comparison_told pred.SubAtom t u next is values kind arity = absurd (omega (arit
 comparison_told pred.AtomChars t u next is values kind arity = absurd (is.atom_chars refl)
 comparison_told pred.AtomCodes t u next is values kind arity = absurd (is.atom_codes refl)
 comparison_told pred.CharCode t u next is values kind arity = absurd (is.codes refl)
-comparison_told pred.NumberChars t u next is values kind arity = record { defined = tt; unbuilt = refl }
-comparison_told pred.NumberCodes t u next is values kind arity = record { defined = tt; unbuilt = refl }
+comparison_told pred.NumberChars t u next is values kind arity = absurd (is.number_chars refl)
+comparison_told pred.NumberCodes t u next is values kind arity = absurd (is.number_codes refl)
 comparison_told pred.GarbageCollectAtoms t u next is values kind arity = asks_no_row kind
 comparison_told pred.SetPrologFlag t u next is values kind arity = asks_no_row kind
 comparison_told pred.CurrentPrologFlag t u next is values kind arity = asks_no_row kind

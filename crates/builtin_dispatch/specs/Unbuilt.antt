@@ -5,8 +5,6 @@ use Rattle.pl_term.specs.Tree.{Chars}
 
 -- Their names, by the number of their arguments.
 abbrev pub unbuilt_names : ℕ → List Chars
-unbuilt_names (suc (suc zero)) =
-    codes "number_chars" ∷ codes "number_codes" ∷ []
 unbuilt_names (suc (suc (suc zero))) = codes "atom_concat" ∷ []
 unbuilt_names (suc (suc (suc (suc (suc zero))))) = codes "sub_atom" ∷ []
 unbuilt_names _ = []

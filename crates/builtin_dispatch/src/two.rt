@@ -12,7 +12,7 @@ ghost use Rattle.builtin_dispatch.specs.Dispatching.{Dispatches};
 use crate::built::built;
 use atom_api::Atoms;
 use builtin_arithmetic::{Comparison, compare_values, evaluate};
-use builtin_atom::{atom_chars, atom_codes, atom_length, char_code};
+use builtin_atom::{atom_chars, atom_codes, atom_length, char_code, number_chars, number_codes};
 use builtin_rows::{Pred, Row};
 use builtin_term::{
     comparison, copy_term, keysort, msort, not_unifiable, sort, subsumes_term, term_variables,
@@ -58,6 +58,8 @@ pub fn row_of_two<A: Atoms>(
         Pred::AtomChars => built(atom_chars(alloc, store, first, second, atoms)),
         Pred::AtomCodes => built(atom_codes(alloc, store, first, second, atoms)),
         Pred::CharCode => built(char_code(alloc, store, first, second, atoms)),
+        Pred::NumberChars => built(number_chars(alloc, store, first, second, atoms)),
+        Pred::NumberCodes => built(number_codes(alloc, store, first, second, atoms)),
         _ => match comparison_of(pred) {
             Some(by) => built(compare_values(alloc, store, by, first, second)),
             None => comparison(alloc, store, pred, first, second, atoms),

@@ -3,3 +3,4 @@ pub mod LexQuoted
 pub mod LexTokens
 pub mod LexPassing
 pub mod LexDecimals
+pub mod NumberLaws

@@ -1,2 +1,3 @@
+pub mod NumberTexts
 pub mod Views
 pub mod Skips

@@ -5,15 +5,18 @@ mod bytes;
 mod characters;
 mod layout;
 mod lex_fault;
+mod number_texts;
 mod numerals;
 mod passing;
 mod quoted;
 mod tokens;
+mod whole_numerals;
 
 pub use bytes::{behind, byte_at, first};
 pub use characters::{Run, run_end};
 pub use layout::skip_layout;
 pub use lex_fault::LexFault;
+pub use number_texts::{NumberText, number_in};
 pub use numerals::{begins_code, begins_radix, radix_of};
 pub use passing::pass;
 pub use pl_model::skipping::Passing;

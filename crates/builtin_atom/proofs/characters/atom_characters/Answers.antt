@@ -1,4 +1,4 @@
-use Rattle.std.proofs.Common.{◌≡◌, ◌∙◌, Vec}
+use Rattle.std.proofs.Common.{◌∙◌}
 use Rattle.builtin_atom.proofs.Looks.{text_is}
 use Rattle.builtin_atom.proofs.Rows.{with_ok}
 use Rattle.builtin_atom.proofs.TextLaws.{buffered}

@@ -1,6 +1,5 @@
-use Rattle.std.proofs.Common.{◌≡◌, ◌∷◌, [], sym, ap, subst, ◌∙◌}
+use Rattle.std.proofs.Common.{sym, ap, subst, ◌∙◌}
 use Rattle.pl_term.specs.Tree.{atom}
-use Rattle.builtin_atom.specs.declared.forms.Form.TheVariants.{Characters, Codes}
 use Rattle.builtin_atom.specs.Listed.{IsElementAt}
 use Rattle.builtin_atom.specs.Making.{IsMade}
 use Rattle.builtin_atom.proofs.Looks.{integer_held, standing_number}

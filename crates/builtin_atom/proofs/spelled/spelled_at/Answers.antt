@@ -1,5 +1,4 @@
-use Rattle.std.proofs.Common.{◌≡◌, List, Ok, map, subst, ap, ◌∙◌}
-use Rattle.std.specs.Prelude.{IfOk}
+use Rattle.std.proofs.Common.{◌≡◌, List, Ok, map, subst}
 use Rattle.pl_model.specs.Checks.{elements}
 use Rattle.term_store.specs.declared.words.Place.{Place}
 use Rattle.world_builtins.specs.Spelling.{reads}

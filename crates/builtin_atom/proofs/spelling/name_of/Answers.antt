@@ -1,4 +1,4 @@
-use Rattle.std.proofs.Common.{◌≡◌, Some, sym, ap, ◌∙◌}
+use Rattle.std.proofs.Common.{Some, sym, ap, ◌∙◌}
 use Rattle.builtin_atom.specs.Forms.{atom_predicate}
 use Rattle.builtin_atom.proofs.Fixed.{atom_chars_is, atom_codes_is}
 use Rattle.builtin_atom.proofs.spelling.name_of.Goals as goal

@@ -1,21 +1,15 @@
-use Rattle.std.proofs.Common.{◌≡◌, ◌*◌, List, Option, codes, length, map, sym, ap, subst, ◌∙◌}
-use Rattle.pl_term.specs.Tree.{Chars}
+use Rattle.std.proofs.Common.{codes}
 use Rattle.pl_model.specs.AtomBuiltins.{spells}
 use Rattle.pl_model.specs.Balls.{type_error}
 use Rattle.pl_model.specs.BuiltinRows.{error}
 use Rattle.pl_model.specs.History.{proc}
-use Rattle.pl_model.specs.Terms.{list_term}
-use Rattle.pl_model.specs.TermBuiltins.{makes, two}
-use Rattle.atom_api.specs.Names.{Names}
-use Rattle.term_store.specs.Heap.{atom_name}
-use Rattle.world_builtins.specs.Spelling.{reads, text_of}
-use Rattle.builtin_atom.specs.Answering.{AsksFor, pair_at}
+use Rattle.world_builtins.specs.Spelling.{reads}
+use Rattle.builtin_atom.specs.Answering.{pair_at}
 use Rattle.builtin_atom.specs.Forms.{atom_predicate, check_by, from_by, to_by}
-use Rattle.builtin_atom.proofs.Asking.{asks_as}
 use Rattle.builtin_atom.proofs.Fixed.{atomic_is}
-use Rattle.builtin_atom.proofs.Looks.{read_atom, read_compound, read_integer, read_variable}
+use Rattle.builtin_atom.proofs.Looks.{read_compound, read_variable}
 use Rattle.builtin_atom.proofs.Rows.{ok_as}
-use Rattle.builtin_atom.proofs.SpellLaws.{spells_atom, spells_compound, spells_integer}
+use Rattle.builtin_atom.proofs.SpellLaws.{spells_compound}
 use Rattle.builtin_atom.proofs.spelling.spell.Goals as goal
 
 pub spell_list-requires-clause-unbound : goal.spell_list-requires-clause-unbound

@@ -1,7 +1,7 @@
 use Rattle.std.proofs.Common.{codes, refl, sym, subst, arith}
 use Rattle.std.specs.Prelude.{is_some, not}
 use Rattle.pl_term.specs.Order.{order}
-use Rattle.pl_model.specs.AtomBuiltins.{as_character, character_error, character_in, code_error, codes_character, measures, number, spells}
+use Rattle.pl_model.specs.AtomBuiltins.{as_character, character_error, character_in, code_error, codes_character, measures, number, spells, spells_number}
 use Rattle.pl_model.specs.BuiltinRows.{comparison, one_answer, test, test_row}
 use Rattle.pl_model.specs.Checks.{natural_of}
 use Rattle.pl_model.specs.History.{proc}
@@ -21,7 +21,7 @@ use Rattle.builtin_arithmetic.specs.Comparing.{holds_by}
 use Rattle.builtin_dispatch.specs.Comparisons.{pred_of}
 use Rattle.builtin_dispatch.specs.Dispatching.{Does}
 use Rattle.builtin_dispatch.proofs.Answering.{answers_do, interned, ok_weaker, same_holds, settled, settles}
-use Rattle.builtin_dispatch.proofs.Defined.{atom_chars_defined, atom_codes_defined, codes_defined, copies_defined, equal_defined, evaluates_defined, keysorts_defined, measures_defined, merges_defined, not_unifiable_defined, occurs_defined, sorts_defined, subsumes_defined, univ_defined, values_defined, values_proc, variables_defined}
+use Rattle.builtin_dispatch.proofs.Defined.{atom_chars_defined, atom_codes_defined, codes_defined, copies_defined, equal_defined, evaluates_defined, keysorts_defined, measures_defined, merges_defined, not_unifiable_defined, number_chars_defined, number_codes_defined, occurs_defined, sorts_defined, subsumes_defined, univ_defined, values_defined, values_proc, variables_defined}
 use Rattle.builtin_dispatch.proofs.Remaining.{IsOther, comparison_told}
 use Rattle.builtin_dispatch.proofs.two.row_of_two.Goals as goal
 
@@ -266,6 +266,36 @@ returns-in-CharCode g c =
     (gains_weaker _ _ _ _ (λ x h. h next (omega arith)) c.char_code.ensures.asked)
     (ok_weaker _ _ c.char_code.result c.char_code.ensures.row (λ r h. h next (omega arith))) c.char_code.ensures.single
 
+pub returns-in-NumberChars : goal.returns-in-NumberChars
+returns-in-NumberChars g c =
+    let s = c.args.store.now in
+    let m = g.A.Atoms.held c.args.atoms.now in
+    let t = reads m s c.args.first in
+    let u = reads m s c.args.second in
+    let next = c.args.next in
+    let refused = g.A.Atoms.refusals c.args.atoms.now in
+    let asked = g.A.Atoms.asked c.args.atoms.now in
+    interned s c.number_chars.new.store c.args.pred pred.NumberChars (two t u) next m (g.A.Atoms.held c.number_chars.new.atoms) refused (g.A.Atoms.refusals c.number_chars.new.atoms) asked (g.A.Atoms.asked c.number_chars.new.atoms)
+    (spells_number character_error character_in as_character t u) c.number_chars.result c.built-in-NumberChars.result
+    c.in-NumberChars.is (number_chars_defined t u next) c.built-in-NumberChars.ensures c.number_chars.ensures.holds c.number_chars.ensures.refusals
+    (gains_weaker _ _ _ _ (λ x h. h next (omega arith)) c.number_chars.ensures.asked)
+    (ok_weaker _ _ c.number_chars.result c.number_chars.ensures.row (λ r h. h next (omega arith))) c.number_chars.ensures.single
+
+pub returns-in-NumberCodes : goal.returns-in-NumberCodes
+returns-in-NumberCodes g c =
+    let s = c.args.store.now in
+    let m = g.A.Atoms.held c.args.atoms.now in
+    let t = reads m s c.args.first in
+    let u = reads m s c.args.second in
+    let next = c.args.next in
+    let refused = g.A.Atoms.refusals c.args.atoms.now in
+    let asked = g.A.Atoms.asked c.args.atoms.now in
+    interned s c.number_codes.new.store c.args.pred pred.NumberCodes (two t u) next m (g.A.Atoms.held c.number_codes.new.atoms) refused (g.A.Atoms.refusals c.number_codes.new.atoms) asked (g.A.Atoms.asked c.number_codes.new.atoms)
+    (spells_number code_error natural_of number t u) c.number_codes.result c.built-in-NumberCodes.result
+    c.in-NumberCodes.is (number_codes_defined t u next) c.built-in-NumberCodes.ensures c.number_codes.ensures.holds c.number_codes.ensures.refusals
+    (gains_weaker _ _ _ _ (λ x h. h next (omega arith)) c.number_codes.ensures.asked)
+    (ok_weaker _ _ c.number_codes.result c.number_codes.ensures.row (λ r h. h next (omega arith))) c.number_codes.ensures.single
+
 pub returns-in-Some : goal.returns-in-Some
 returns-in-Some g c =
     let s = c.args.store.now in
@@ -310,6 +340,8 @@ returns-in-None g c =
       atom_chars = c.in_default.not-AtomChars;
       atom_codes = c.in_default.not-AtomCodes;
       codes = c.in_default.not-CharCode;
+      number_chars = c.in_default.not-NumberChars;
+      number_codes = c.in_default.not-NumberCodes;
     } in
     let refused = g.A.Atoms.refusals c.args.atoms.now in
     let asked = g.A.Atoms.asked c.args.atoms.now in

@@ -1,7 +1,7 @@
 use Rattle.std.proofs.Common.{ap, ◌∙◌}
 use Rattle.std.specs.Str.{chars}
 use Rattle.std.proofs.lemmas.Str.{chars-nil}
-use Rattle.builtin_atom.proofs.characters.text_from.Goals as goal
+use Rattle.builtin_atom.proofs.characters.string_from.Goals as goal
 
 pub loop-c-init : goal.loop-c-init
 loop-c-init c = ap chars c.new-text.ensures.bytes ∙ chars-nil
