@@ -1,5 +1,5 @@
 -- Terms of two arguments whose atoms are held.
-use Rattle.std.proofs.Common.{◌≡◌, ℕ, List, [], ◌∷◌, map, Some, IsSome, sym, subst}
+use Rattle.std.proofs.Common.{◌≡◌, ℕ, [], ◌∷◌, map, Some, IsSome, sym, subst}
 use Rattle.std.specs.List.{All}
 use Rattle.std.proofs.lemmas.List.Elements.{All-cons, All-nil}
 use Rattle.pl_term.specs.Tree.{Chars, Tree, compound, int}

@@ -1,8 +1,9 @@
 -- Copies of terms, their cells and their variables, however their names are spelled.
-use Rattle.std.proofs.Common.{◌≡◌, ℕ, zero, suc, ◌+◌, ◌<◌, ◌≤◌, ◌^◌, [], ◌∷◌, ◌++◌, length, codes, refl, sym, ap, ap₂, subst, ◌∙◌, arith}
+use Rattle.std.proofs.Common.{◌≡◌, ℕ, zero, suc, ◌+◌, ◌<◌, ◌≤◌, ◌^◌, List, [], ◌∷◌, ◌++◌, length, map, codes, refl, sym, ap, ap₂, subst, ◌∙◌, arith}
 use Rattle.std.specs.Prelude.{IsSome, Vec}
 use Rattle.std.specs.List.{All}
 use Rattle.std.specs.declared.alloc.Global.{Global}
+use Rattle.std.proofs.lemmas.List.{length-map}
 use Rattle.pl_term.specs.Tree.{Chars, Tree, Trees, var, int, atom, comp, none, more, count}
 use Rattle.pl_term.specs.Variables.{distinct, occurrences, occurrences_all, place, rename, rename_all_by, rename_by, variables}
 use Rattle.pl_term.specs.Cells.{cells, compound_cells, compound_cells_all}
@@ -106,6 +107,19 @@ kept_variables m s p kept e =
 
 pub kept_cells : (m : Names) (s : Contents) (p : Place) (kept : Tree) → kept ≡ rename zero (term_at s p) → cells (reads m s p) ≡ cells kept
 kept_cells m s p kept e = cells-spelled (text_of m) (term_at s p) ∙ sym (ap cells e ∙ cells-kept (term_at s p))
+
+-- The same, counted without a copy.
+pub counted_variables : (m : Names) (s : Contents) (p : Place) (ps : List Place) → map (term_at s) ps ≡ map var (variables (term_at s p))
+    → length (variables (reads m s p)) ≡ length ps
+counted_variables m s p ps e =
+    ap length (variables-spelled (text_of m) (term_at s p))
+    ∙ sym (sym (length-map ps (term_at s)) ∙ ap length e ∙ length-map (variables (term_at s p)) var)
+
+pub counted_cells : (m : Names) (s : Contents) (p : Place) (ps : List Place) (n k : ℕ) → map (term_at s) ps ≡ map var (variables (term_at s p))
+    → n ≡ compound_cells (term_at s p) → k ≡ n + length ps → cells (reads m s p) ≡ k
+counted_cells m s p ps n k e is sum =
+    let count : length ps ≡ length (variables (term_at s p)) = sym (length-map ps (term_at s)) ∙ ap length e ∙ length-map (variables (term_at s p)) var in
+    cells-spelled (text_of m) (term_at s p) ∙ sym (sum ∙ ap₂ ◌+◌ is count)
 
 pub makes_built : (t u : Contents) (next k : ℕ) (kept : Tree) (p : Place) → Builds t next kept u p → Adds t u → length (variables kept) ≡ k → Makes t next k zero u
 makes_built t u next k kept p b adds e =

@@ -1,8 +1,10 @@
 mod Cells
 pub mod Compared
+pub mod Comparing
 mod Composed
 mod Compounds
 mod CopyRows
+pub mod Coursing
 pub mod Different
 mod FixedNames
 mod FunctorRows
@@ -14,6 +16,7 @@ pub mod ListAnswers
 mod ListTerms
 mod Making
 pub mod Merging
+pub mod MetVariables
 pub mod OrderLaws
 pub mod Owners
 mod PartAnswers
@@ -29,4 +32,5 @@ pub mod Stacking
 pub mod TermWalking
 mod VariableLists
 mod VariableWalking
+mod Walked
 pub mod Weaving

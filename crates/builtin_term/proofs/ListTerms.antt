@@ -6,8 +6,8 @@ use Rattle.std.specs.declared.alloc.Global.{Global}
 use Rattle.std.proofs.Math.Bool.{and-true}
 use Rattle.std.proofs.lemmas.Bool.{ne_eqb}
 use Rattle.std.proofs.lemmas.List.Elements.{All-append, All-cons, All-head, All-nil, All-tail}
-use Rattle.pl_term.specs.Tree.{Chars, Tree, Trees, var, int, atom, comp, none, more, count}
-use Rattle.pl_model.specs.Balls.{instantiation_error, type_error}
+use Rattle.pl_term.specs.Tree.{Chars, Tree, var, int, atom, comp, none, more, count}
+use Rattle.pl_model.specs.Balls.{type_error}
 use Rattle.pl_model.specs.BuiltinRows.{Answer}
 use Rattle.pl_model.specs.Checks.{elements_within, with_element}
 use Rattle.pl_model.specs.History.{proc}

@@ -1,5 +1,5 @@
 -- The order of two terms is that of what they say by themselves, then that of their arguments.
-use Rattle.std.proofs.Common.{◌≡◌, ℕ, suc, ◌<◌, List, [], ◌∷◌, ◌++◌, length, drop, IsSome, false, refl, sym, ap, ap₂, subst, ◌∙◌, arith, length-drop}
+use Rattle.std.proofs.Common.{◌≡◌, ℕ, suc, ◌<◌, List, [], ◌∷◌, length, drop, IsSome, false, refl, sym, ap, ap₂, subst, ◌∙◌, arith, length-drop}
 use Rattle.std.specs.List.{All}
 use Rattle.std.specs.Ordering.{nat_cmp, ordering_then, is_ne}
 use Rattle.std.specs.declared.cmp.Ordering.{Ordering}
@@ -23,6 +23,7 @@ use Rattle.world_builtins.specs.Nodes.{IsNodeHeld, spelled_node}
 use Rattle.world_builtins.specs.Spelling.{spelled, spelled_all}
 use Rattle.builtin_rows.specs.Lists.{AreHeld}
 use Rattle.builtin_term.specs.Heads.{argument_count, behind, head, IsHeldBehind, list_order}
+use Rattle.builtin_term.proofs.Coursing.{parted}
 
 pub then_equal : (o : Ordering) → ordering_then o Equal ≡ o
 then_equal Less = refl
@@ -129,11 +130,6 @@ same_counts g (Compound f a) (Compound h b) e =
     equal_from a.count b.count (first_equal (nat_cmp a.count b.count) (text_order (g (atom_name f)) (g (atom_name h))) e)
 
 -- Where the atoms of a term are held, those of what it says by itself and of its arguments are.
-parted : {X : Type 0} (P : X → Type 0) (xs ys : List X) → All P (xs ++ ys) → All P xs × All P ys
-parted P [] ys h = (All-nil P, h)
-parted P (x ∷ xs) ys h =
-    let r : All P xs × All P ys = parted P xs ys (All-tail P x (xs ++ ys) h) in (All-cons P x xs (All-head P x (xs ++ ys) h) r.0, r.1)
-
 listed_held : (m : Names) (ts : List Tree) → All (λ a. IsSome (m a)) (atoms_in_all (trees ts)) → AreHeld m ts
 listed_held m [] h = All-nil (λ t. All (λ a. IsSome (m a)) (atoms_in t))
 listed_held m (t ∷ ts) h =

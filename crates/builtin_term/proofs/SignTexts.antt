@@ -11,7 +11,7 @@ use Rattle.pl_model.specs.Balls.{type_error}
 use Rattle.pl_model.specs.ErrorTerms.{domain_error}
 use Rattle.pl_model.specs.Checks.{first_error, atom_error}
 use Rattle.pl_model.specs.TermBuiltins.{is_sign, sign, sign_error}
-use Rattle.atom_api.specs.Fixed.{fixed, fixed_texts}
+use Rattle.atom_api.specs.Fixed.{fixed}
 use Rattle.atom_api.specs.Names.{Names}
 use Rattle.builtin_rows.proofs.Balls.{text_is}
 use Rattle.term_store.specs.Heap.{atom_name}

@@ -34,23 +34,27 @@ dropped : (g : Chars → Chars) (ts us : List Tree) (j : ℕ) (d : Tree) → j <
     ≡ ordering_then (order (spelled g (get_or ts j d)) (spelled g (get_or us j d))) (list_order g (drop (suc j) ts) (drop (suc j) us))
 dropped g ts us j d a b = ap₂ (list_order g) (drop-cons ts j d a) (drop-cons us j d b)
 
+-- The pairs on top come before the others.
+pub appended : (m : Names) (s : Contents) (ps qs : List Pair)
+    → pending_order m s (ps ++ qs) ≡ ordering_then (pending_order m s qs) (pending_order m s ps)
+appended m s [] qs = sym (then_equal (pending_order m s qs))
+appended m s (p ∷ ps) qs =
+    ap (λ o. ordering_then o (order (reads m s p.left) (reads m s p.right))) (appended m s ps qs)
+    ∙ then_assoc (pending_order m s qs) (pending_order m s ps) (order (reads m s p.left) (reads m s p.right))
+
 -- One more pair of arguments is put on the stack.
-pub argument_pushed : (m : Names) (s : Contents) (ts us : List Tree) (old new : List Pair) (p : Pair) (i : ℕ) (d : Tree) (base : Ordering)
+pub argument_gained : (m : Names) (s : Contents) (ts us : List Tree) (ps : List Pair) (p : Pair) (i : ℕ) (d : Tree)
     → 0 < i → i - 1 < length ts → i - 1 < length us
-    → pending_order m s old ≡ ordering_then (list_order (text_of m) (drop i ts) (drop i us)) base
-    → new ≡ old ++ p ∷ []
+    → pending_order m s ps ≡ list_order (text_of m) (drop i ts) (drop i us)
     → term_at s p.left ≡ get_or ts (i - 1) d → term_at s p.right ≡ get_or us (i - 1) d
-    → pending_order m s new ≡ ordering_then (list_order (text_of m) (drop (i - 1) ts) (drop (i - 1) us)) base
-argument_pushed m s ts us old new p i d base some a b e f l r =
+    → pending_order m s (ps ++ p ∷ []) ≡ list_order (text_of m) (drop (i - 1) ts) (drop (i - 1) us)
+argument_gained m s ts us ps p i d some a b e l r =
     let g = text_of m in
     let up : suc (i - 1) ≡ i = omega arith in
     let these = order (spelled g (get_or ts (i - 1) d)) (spelled g (get_or us (i - 1) d)) in
-    let rest = list_order g (drop i ts) (drop i us) in
-    ap (pending_order m s) f ∙ pushed m s old p
+    pushed m s ps p
     ∙ ap₂ ordering_then (ap₂ (λ t u. order (spelled g t) (spelled g u)) l r) e
-    ∙ sym (then_assoc these rest base)
-    ∙ ap (λ o. ordering_then o base)
-    (sym (dropped g ts us (i - 1) d a b ∙ ap (λ k. ordering_then these (list_order g (drop k ts) (drop k us))) up))
+    ∙ sym (dropped g ts us (i - 1) d a b ∙ ap (λ k. ordering_then these (list_order g (drop k ts) (drop k us))) up)
 
 pub argument_pairs : (m : Names) (s : Contents) (ts us : List Tree) (old new : List Pair) (p : Pair) (j : ℕ) (d : Tree)
     → j < length ts → j < length us → AreHeld m ts → AreHeld m us → All (IsPairAt m s) old

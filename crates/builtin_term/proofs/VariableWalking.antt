@@ -1,12 +1,13 @@
 -- A walk through a term for its variables.
-use Rattle.std.proofs.Common.{◌≡◌, ℕ, suc, ◌-◌, ◌<◌, ◌≤◌, Bool, true, false, if◌then◌else◌, List, [], ◌∷◌, ◌++◌, length, get_or, map, drop, drop-cons, refl, sym, ap, ap₂, subst, ◌∙◌, arith, append_assoc, append-nil}
+use Rattle.std.proofs.Common.{◌≡◌, ℕ, Bool, true, false, ◌||◌, ◌==◌, if◌then◌else◌, List, [], ◌∷◌, ◌++◌, map, reverse, refl, sym, ap, ap₂, subst, ◌∙◌, append_assoc, append-nil}
 use Rattle.std.specs.List.{All}
 use Rattle.std.proofs.lemmas.List.{map-append, reverse-append}
 use Rattle.std.proofs.lemmas.List.Elements.{All-cons, All-head, All-nil, All-push, All-tail}
 use Rattle.pl_term.specs.NodeLists.{with}
-use Rattle.pl_term.specs.Tree.{Chars, Tree, var, atom, compound, trees}
-use Rattle.pl_term.specs.Variables.{distinct, is_in, occurrences, occurrences_all, variables}
+use Rattle.pl_term.specs.Tree.{Chars, Tree, var, compound, trees}
+use Rattle.pl_term.specs.Variables.{distinct, has, is_in, occurrences, occurrences_all, variables}
 use Rattle.pl_term.proofs.Distinct.{distinct-push}
+use Rattle.pl_model.proofs.UnifyReplace.{eqb_same}
 use Rattle.term_store.specs.declared.words.Place.{Place}
 use Rattle.term_store.specs.Contents.{Contents, Holds, term_at}
 use Rattle.builtin_term.specs.VariableWalks.{Visits, met_after, occurrences_in, pending}
@@ -33,6 +34,9 @@ occurrences_compound f (t ∷ ts) = ap (λ xs. occurrences t ++ xs) (occurrences
 pub pending-push : (s : Contents) (ps : List Place) (p : Place) → pending s (ps ++ p ∷ []) ≡ term_at s p ∷ pending s ps
 pending-push s ps p = ap (map (term_at s)) (reverse-append ps (p ∷ []))
 
+pub pending-append : (s : Contents) (ps qs : List Place) → pending s (ps ++ qs) ≡ pending s qs ++ pending s ps
+pending-append s ps qs = ap (map (term_at s)) (reverse-append ps qs) ∙ map-append (term_at s) (reverse qs) (reverse ps)
+
 -- The walk at its start, and at its end.
 pub walk_begins : (s : Contents) (term : Place) (walk : List Place) (seen : List ℕ) → walk ≡ term ∷ [] → seen ≡ []
     → met_after seen (occurrences_in (pending s walk)) ≡ variables (term_at s term)
@@ -56,6 +60,20 @@ popped P walk left p e h = split left (subst (All P) e h)
     split (w ∷ ws) h =
         let r : All P ws × P p = split ws (All-tail P w (ws ++ p ∷ []) h) in (All-cons P w ws (All-head P w (ws ++ p ∷ []) h) r.0, r.1)
 
+or_right : (a b : Bool) → b ≡ true → (a || b) ≡ true
+or_right true b e = refl
+or_right false b e = e
+
+-- Variables that were met are not met again.
+with_met : (x : ℕ) (xs : List ℕ) → is_in x xs ≡ true → with x xs ≡ xs
+with_met x xs e = ap (λ b. if b then xs else xs ++ x ∷ []) e
+
+met_again : (ys zs xs : List ℕ) → ((x : ℕ) → is_in x ys ≡ true → is_in x xs ≡ true) → met_after xs (ys ++ zs) ≡ met_after xs zs
+met_again [] zs xs h = refl
+met_again (y ∷ ys) zs xs h =
+    ap (λ ws. met_after ws (ys ++ zs)) (with_met y xs (h y (ap (λ b. b || is_in y ys) (eqb_same y))))
+    ∙ met_again ys zs xs (λ x e. h x (or_right (x == y) (is_in x ys) e))
+
 -- A term was taken up.
 module _ (s : Contents) (t : Tree) (old met : List Place) (before : List ℕ) (inside : All (Holds s) old) (places : All (Holds s) met)
     (stand : map (term_at s) met ≡ map var before) where
@@ -74,6 +92,18 @@ module _ (s : Contents) (t : Tree) (old met : List Place) (before : List ℕ) (i
             ap (met_after before)
             (ap occurrences_in e ∙ occurrences_in-append ts (pending s old)
             ∙ ap (λ xs. xs ++ occurrences_in (pending s old)) (sym (ap occurrences is ∙ occurrences_compound f ts)));
+      }
+
+  pub visits_again : (walk : List Place) (seen : List ℕ) → ((x : ℕ) → has x t ≡ true → is_in x before ≡ true) → walk ≡ old → seen ≡ before
+      → Visits s t old before walk met seen
+  visits_again walk seen h e f =
+      record {
+        inside = subst (All (Holds s)) (sym e) inside;
+        places = places;
+        stand = stand ∙ ap (map var) (sym f);
+        rest =
+            ap₂ (λ xs ws. met_after xs (occurrences_in (pending s ws))) f e
+            ∙ sym (met_again (occurrences t) (occurrences_in (pending s old)) before h);
       }
 
   pub visits_variable : (x : ℕ) (p : Place) (more_met : List Place) (seen : List ℕ) → t ≡ var x → Holds s p → term_at s p ≡ t → seen ≡ with x before
@@ -105,18 +135,3 @@ module _ (s : Contents) (t : Tree) (old met : List Place) (before : List ℕ) (i
                 ap (λ xs. met_after xs (occurrences_in (pending s old))) e
                 ∙ ap (λ u. met_after before (occurrences u ++ occurrences_in (pending s old))) (sym is);
           }
-
--- The arguments of a compound term are put on the stack from the last to the first.
-pub push_begins : (s : Contents) (ts : List Tree) (walk old : List Place) (i : ℕ) → length ts ≡ i → walk ≡ old → pending s walk ≡ drop i ts ++ pending s old
-push_begins s ts walk old i e f = ap (pending s) f ∙ ap (λ us. us ++ pending s old) (sym (ap (λ k. drop k ts) (sym e) ∙ all_dropped ts))
-  where
-    all_dropped : (us : List Tree) → drop (length us) us ≡ []
-    all_dropped [] = refl
-    all_dropped (u ∷ us) = all_dropped us
-
-pub push_more : (s : Contents) (ts us : List Tree) (walk next : List Place) (p : Place) (i : ℕ) → 0 < i → i ≤ length ts → pending s walk ≡ drop i ts ++ us
-    → term_at s p ≡ get_or ts (i - 1) (atom []) → next ≡ walk ++ p ∷ [] → pending s next ≡ drop (i - 1) ts ++ us
-push_more s ts us walk next p i some within e at f =
-    let up : suc (i - 1) ≡ i = omega arith in
-    ap (pending s) f ∙ pending-push s walk p ∙ ap₂ ◌∷◌ at e
-    ∙ ap (λ vs. vs ++ us) (sym (drop-cons ts (i - 1) (atom []) (omega arith) ∙ ap (λ k. get_or ts (i - 1) (atom []) ∷ drop k ts) up))

@@ -1,6 +1,5 @@
 -- What a term says by itself, and what its arguments say.
-use Rattle.std.specs.Prelude.{ℕ, zero, List, IsSome}
-use Rattle.std.specs.List.{All}
+use Rattle.std.specs.Prelude.{ℕ, zero, List}
 use Rattle.std.specs.declared.cmp.Ordering.{Ordering}
 use Rattle.std.specs.declared.cmp.Ordering.TheVariants.{Equal}
 use Rattle.pl_term.specs.declared.node.Node.{Node}
@@ -12,7 +11,6 @@ use Rattle.term_store.specs.declared.views.View.{View}
 use Rattle.term_store.specs.declared.views.View.TheVariants.{Variable, Integer, Atom, Compound}
 use Rattle.term_store.specs.Heap.{atom_name}
 use Rattle.term_store.specs.Contents.{Contents, arguments_at}
-use Rattle.world_builtins.specs.Naming.{atoms_in}
 use Rattle.builtin_rows.specs.Lists.{AreHeld}
 use Rattle.world_builtins.specs.Spelling.{spelled_all}
 

@@ -1,5 +1,6 @@
 pub mod Argument
 pub mod Composition
+pub mod Courses
 pub mod Faults
 pub mod Functor
 pub mod Giving

@@ -1,16 +1,17 @@
 //! Pairs of places whose terms are still to be compared.
-ghost use Rattle.std.specs.Prelude.{◌≡◌, OnOk};
+ghost use Rattle.std.specs.Prelude.{◌≡◌, [], OnOk};
 ghost use Rattle.std.specs.List.{All};
-ghost use Rattle.std.specs.Ordering.{ordering_then};
 ghost use Rattle.pl_term.specs.Tree.{Tree};
 ghost use Rattle.atom_api.specs.Names.{Names};
-ghost use Rattle.term_store.specs.Contents.{Contents, IsArguments, Views, arguments_at};
+ghost use Rattle.term_store.specs.Contents.{IsArguments, Views, arguments_at};
 ghost use Rattle.world_builtins.specs.Spelling.{text_of};
 ghost use Rattle.builtin_rows.specs.Lists.{AreHeld};
 ghost use Rattle.builtin_term.specs.Heads.{argument_count, behind, IsHeldBehind, list_order};
-ghost use Rattle.builtin_term.specs.Pending.{IsPairAt, pending_order};
+ghost use Rattle.builtin_term.specs.Pending.{AreSame, Gains, IsPairAt, Opens};
 
+use crate::course::Course;
 use pl_term::Memory;
+use std::alloc::Global;
 use term_store::{Arguments, Place, Store, View};
 
 /// Two places whose terms are still to be compared.
@@ -20,28 +21,82 @@ pub struct Pair {
     pub right: Place,
 }
 
-/// Puts the pairs of the arguments of two terms on the stack, the first on top, where both are compound. The terms have the
-/// same number of arguments. The only error is out of memory.
+/// What a comparison has still to do: the pairs that are to be compared, the first on top, and the compound terms that it is
+/// within or has left.
+#[derive(Drop)]
+pub struct Comparing {
+    pub pairs: Vec<Pair>,
+    pub course: Course,
+}
+
+impl Comparing {
+    /// Nothing to do.
+    pub fn new(alloc: Global) -> Comparing {
+        Comparing {
+            pairs: Vec::new(alloc),
+            course: Course::new(alloc),
+        }
+    }
+
+    /// Lets all go.
+    pub fn clear(&mut self)
+        ensures pairs { self.new.pairs.items ≡ [] }
+        ensures opened { self.new.course.opened.items ≡ [] }
+        ensures left { self.new.course.left ≡ [] }
+    {
+        self.pairs.clear();
+        self.course.clear();
+    }
+}
+
+/// Compares the arguments of two terms where both are compound: puts their pairs on the stack, the first on top, unless the
+/// arguments are the same ones or such as the comparison has left. The terms have the same number of arguments. The only error
+/// is out of memory.
 pub fn push_arguments(
     store: &Store,
-    pending: &mut Vec<Pair>,
+    pending: &mut Comparing,
     left: &View,
     right: &View,
 ) -> Result<(), Memory>
     requires left { (t : Tree) × Views store.now t left.now }
     requires right { (t : Tree) × Views store.now t right.now }
     requires count { argument_count left.now ≡ argument_count right.now }
-    ensures order { OnOk result ((m : Names) → pending_order m store.now pending.new.items
-        ≡ ordering_then (behind (text_of m) store.now left.now right.now) (pending_order m store.now pending.old.items)) }
+    ensures opens { OnOk result ((m : Names) → All (AreSame m store.now) pending.old.course.left
+        → Opens m store.now (behind (text_of m) store.now left.now right.now) pending.old pending.new) }
     ensures pairs { OnOk result ((m : Names) → IsHeldBehind m store.now left.now → IsHeldBehind m store.now right.now
-        → All (IsPairAt m store.now) pending.old.items → All (IsPairAt m store.now) pending.new.items) }
+        → All (IsPairAt m store.now) pending.old.pairs.items → All (IsPairAt m store.now) pending.new.pairs.items) }
 {
     match (left, right) {
-        (View::Compound(_, these), View::Compound(_, those)) => push_pairs(
+        (View::Compound(_, these), View::Compound(_, those)) => enter_arguments(
             store, pending, *these, *those,
         ),
         _ => Ok(()),
     }
+}
+
+/// Does this for the arguments of two compound terms.
+fn enter_arguments(
+    store: &Store,
+    pending: &mut Comparing,
+    left: Arguments,
+    right: Arguments,
+) -> Result<(), Memory>
+    requires left { IsArguments store.now left }
+    requires right { IsArguments store.now right }
+    requires count { left.count ≡ right.count }
+    ensures opens { OnOk result ((m : Names) → All (AreSame m store.now) pending.old.course.left
+        → Opens m store.now (list_order (text_of m) (arguments_at store.now left) (arguments_at store.now right)) pending.old pending.new) }
+    ensures pairs { OnOk result ((m : Names) → AreHeld m (arguments_at store.now left) → AreHeld m (arguments_at store.now right)
+        → All (IsPairAt m store.now) pending.old.pairs.items → All (IsPairAt m store.now) pending.new.pairs.items) }
+{
+    if left.is_same(right) {
+        return Ok(());
+    }
+    let height = pending.pairs.len();
+    if !pending.course.enter(left, right, height)? {
+        return Ok(());
+    }
+    push_pairs(store, &mut pending.pairs, left, right)
 }
 
 /// Puts the pairs of arguments on the stack, the last ones first.
@@ -54,9 +109,8 @@ fn push_pairs(
     requires left { IsArguments store.now left }
     requires right { IsArguments store.now right }
     requires count { left.count ≡ right.count }
-    ensures order { OnOk result ((m : Names) → pending_order m store.now pending.new.items
-        ≡ ordering_then (list_order (text_of m) (arguments_at store.now left) (arguments_at store.now right))
-        (pending_order m store.now pending.old.items)) }
+    ensures gains { OnOk result (Gains store.now (λ m. list_order (text_of m) (arguments_at store.now left) (arguments_at store.now right))
+        pending.old.items pending.new.items) }
     ensures pairs { OnOk result ((m : Names) → AreHeld m (arguments_at store.now left) → AreHeld m (arguments_at store.now right)
         → All (IsPairAt m store.now) pending.old.items → All (IsPairAt m store.now) pending.new.items) }
 {

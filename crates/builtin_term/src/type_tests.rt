@@ -9,7 +9,6 @@ ghost use Rattle.term_store.specs.Contents.{Holds};
 ghost use Rattle.world_builtins.specs.Spelling.{reads};
 ghost use Rattle.builtin_term.specs.TestRows.{Answers, answer_refusals};
 
-use crate::groundness::is_ground;
 use crate::kinds::{kinds_of, passes};
 use crate::room::tested;
 use builtin_rows::{Pred, Row};
@@ -31,7 +30,7 @@ pub fn type_test(
     ensures refuses { IfOk result (λ o. answer_refusals o ≡ []) }
     ensures single { IfOk result (λ o. IfSome o IsSingle) }
 {
-    let passed = is_passed(alloc, store, pred, term)?;
+    let passed = is_passed(store, pred, term)?;
     match passed {
         None => Ok(None),
         Some(holds) => {
@@ -43,13 +42,14 @@ pub fn type_test(
 
 /// Whether the term at a place passes the type test. None where the predicate is no type test. The only error is want of
 /// memory.
-fn is_passed(alloc: Global, store: &Store, pred: Pred, term: Place) -> Result<Option<bool>, Memory>
-    requires { Holds store.now term }
-    ensures { IfOk result (λ o. (m : Names) → rows.type_test (name_of pred) (reads m store.now term) ≡ o) }
+fn is_passed(store: &mut Store, pred: Pred, term: Place) -> Result<Option<bool>, Memory>
+    requires { Holds store.old term }
+    ensures same { store.new ≡ store.old }
+    ensures test { IfOk result (λ o. (m : Names) → rows.type_test (name_of pred) (reads m store.old term) ≡ o) }
 {
     match pred {
         Pred::Ground => {
-            let ground = is_ground(alloc, store, term)?;
+            let ground = store.is_ground(term)?;
             Ok(Some(ground))
         }
         _ => Ok(is_passed_by_kind(store, pred, term)),
