@@ -20,12 +20,12 @@ use Rattle.atom_words.specs.declared.kind.Kind.TheVariants.{Load, Mark, Scan, Ch
 use Rattle.atom_words.proofs.Slices.{some_same, in_none, in_later, in_cases, or_at, or_true}
 use Rattle.atom_table.specs.Holding.{Sits}
 use Rattle.atom_table.specs.Naming.{those}
-use Rattle.sweep_core.specs.Cycles.{Knows, BeginsBy, checks, ChecksAll}
-use Rattle.sweep_core.specs.Treads.{AtSlot}
-use Rattle.sweep_core.specs.SweepKinds.{Untouched}
-use Rattle.sweep_core.specs.declared.cycles.Checked.{Checked}
-use Rattle.sweep_core.specs.declared.cycles.Checked.TheVariants.{All, NotYet}
-use Rattle.sweep_core.proofs.Checks.{after_append, checks_keep, checks_know}
+use Rattle.bucket_rows.specs.Cycles.{Knows, BeginsBy, checks, ChecksAll}
+use Rattle.bucket_rows.specs.Treads.{AtSlot}
+use Rattle.bucket_rows.specs.SweepKinds.{Untouched}
+use Rattle.bucket_rows.specs.declared.cycles.Checked.{Checked}
+use Rattle.bucket_rows.specs.declared.cycles.Checked.TheVariants.{All, NotYet}
+use Rattle.bucket_rows.proofs.Checks.{after_append, checks_keep, checks_know}
 use Rattle.atom_table.specs.Collecting.{scans, word_known, count_known, cursor_known, dying_known, out_known, Collects}
 use Rattle.atom_table.proofs.Naming.{only_those}
 use Rattle.atom_table.proofs.Settling.{sound_from}

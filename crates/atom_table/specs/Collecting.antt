@@ -10,9 +10,9 @@ use Rattle.atom_words.specs.declared.view.Sweeping.{Sweeping}
 use Rattle.atom_words.specs.declared.view.View.{View}
 use Rattle.atom_words.specs.declared.kind.Kind.{Kind}
 use Rattle.atom_words.specs.declared.kind.Kind.TheVariants.{Load, Mark, Scan, Ack, End}
-use Rattle.sweep_core.specs.Cycles.{Marks, Unmarked, BeginsBy, last_epoch}
-use Rattle.sweep_core.specs.declared.slots.Verdict.{Verdict}
-use Rattle.sweep_core.specs.Sweeps.{Run}
+use Rattle.bucket_rows.specs.Cycles.{Marks, Unmarked, BeginsBy, last_epoch}
+use Rattle.bucket_rows.specs.declared.slots.Verdict.{Verdict}
+use Rattle.bucket_rows.specs.Sweeps.{Run}
 use Rattle.atom_table.specs.Naming.{those}
 use Rattle.atom_table.specs.declared.marking.Marked.{Marked}
 use Rattle.atom_table.specs.declared.marking.Marked.TheVariants.{Acked, NoCycle}

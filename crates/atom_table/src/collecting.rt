@@ -2,13 +2,13 @@
 ghost use Rattle.std.specs.Prelude.{◌≡◌};
 ghost use Rattle.atom_words.specs.Layout.{phase_of, epoch_of};
 ghost use Rattle.atom_words.specs.Seats.{seen, Same};
-ghost use Rattle.sweep_core.specs.Cycles.{ChecksAll};
+ghost use Rattle.bucket_rows.specs.Cycles.{ChecksAll};
 ghost use Rattle.atom_table.specs.Holding.{Sits};
 ghost use Rattle.atom_table.specs.Collecting.{TurnsBy};
 
 use crate::seats::Collector;
 use crate::table::AtomTable;
-use sweep_core::{Checked, begin, check};
+use bucket_rows::{Checked, begin, check};
 
 /// What a call to begin a cycle found.
 #[derive(Clone, Copy, Debug, PartialEq, Eq, Drop)]

@@ -16,10 +16,10 @@ use pl_term::{Memory, Text};
 use std::alloc::Global;
 use std::test::Fail;
 use std::thread;
-use sweep_core::Checked;
+use bucket_rows::Checked;
 
 // What the engine finds, as it takes part in a cycle with the atom of a text alone.
-fn mark_one(table: &AtomTable, seat: &mut AtomSeat, text: &Text) -> Option<Marked>
+pub fn mark_one(table: &AtomTable, seat: &mut AtomSeat, text: &Text) -> Option<Marked>
     requires sits { Sits table.now.words seat.old }
     requires walking { Walking (seen seat.old) }
     requires engine { IsEngine (seen seat.old) }
@@ -34,7 +34,7 @@ fn mark_one(table: &AtomTable, seat: &mut AtomSeat, text: &Text) -> Option<Marke
 }
 
 // What a check finds, where the cycle marks.
-fn check(table: &AtomTable, collector: &mut Collector) -> Option<Checked>
+pub fn check(table: &AtomTable, collector: &mut Collector) -> Option<Checked>
     requires sits { Sits table.now.words collector.old.seat }
     ensures sits { Sits table.now.words collector.new.seat }
 {

@@ -15,6 +15,8 @@ mod marking;
 mod opening;
 #[cfg(test)]
 mod pending;
+#[cfg(test)]
+mod reuse;
 mod seats;
 mod sweeping;
 mod table;
@@ -31,6 +33,6 @@ pub use collecting::Turn;
 pub use marking::Marked;
 pub use opening::Opened;
 pub use seats::{Collector, Keeper};
-pub use sweep_core::{Checked, two_cycles};
+pub use bucket_rows::{Checked, two_cycles};
 pub use sweeping::Swept;
 pub use table::AtomTable;

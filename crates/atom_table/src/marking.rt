@@ -4,7 +4,7 @@ ghost use Rattle.atom_words.specs.Chains.{In};
 ghost use Rattle.atom_words.specs.Kinds.{Scanning, after};
 ghost use Rattle.atom_words.specs.Seats.{seen, Fits, Same, Has};
 ghost use Rattle.atom_words.specs.declared.view.Held.{Held};
-ghost use Rattle.sweep_core.specs.Cycles.{MarksBy};
+ghost use Rattle.bucket_rows.specs.Cycles.{MarksBy};
 ghost use Rattle.atom_table.specs.Holding.{Sits, IsEngine};
 ghost use Rattle.atom_table.specs.Naming.{those};
 ghost use Rattle.atom_table.specs.Collecting.{scans, AllHeld, AcksBy};
@@ -13,7 +13,7 @@ use crate::table::AtomTable;
 use atom_api::Atom;
 use atom_words::{AtomSeat, Words};
 use std::marker::Brand;
-use sweep_core::{ack, mark, scan};
+use bucket_rows::{ack, mark, scan};
 
 /// What an engine found of the cycle.
 #[derive(Clone, Copy, Debug, PartialEq, Eq, Drop)]

@@ -7,7 +7,7 @@ ghost use Rattle.atom_table.specs.Collecting.{SweepsBy};
 
 use crate::seats::Collector;
 use crate::table::AtomTable;
-use sweep_core::{finish, sweep_run};
+use bucket_rows::{finish, sweep_run};
 
 /// How far a call to sweep came.
 #[derive(Clone, Copy, Debug, PartialEq, Eq, Drop)]

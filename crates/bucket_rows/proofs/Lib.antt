@@ -2,3 +2,17 @@ pub mod Hashing
 pub mod Reading
 pub mod Told
 pub mod Making
+pub mod Words
+pub mod Aheads
+pub mod CycleSteps
+pub mod Checks
+pub mod SweepSteps
+pub mod Treading
+pub mod RowBuckets
+pub mod Removing
+pub mod Judging
+pub mod SweepKinds
+pub mod Stages
+pub mod CalmSteps
+pub mod TwoCycles
+pub mod ToldSteps

@@ -1,19 +1,44 @@
-//! Walks over the chains of the atom table's buckets, and links of new slots in front of them.
+//! Walks over the chains of the atom table's buckets, links of new slots in front of them, and cycles of collection.
 //!
 //! A walk begins at a bucket's head, whose word has a version, and reads the texts and link words of the slots of the
 //! chain. What it has read holds as long as the head has that version. So a slot that has the text is held only by a load
 //! of the head that finds the version again, and a new slot is linked only by an exchange of the whole head word as the
 //! walk found it.
+//!
+//! A cycle of collection marks, then sweeps. The collector's seat begins it, at the next epoch. Each engine reads the epoch
+//! word, sets the mark of every atom that it goes on to hold, and acknowledges the epoch. When the collector has found that
+//! all engines have acknowledged, the cycle goes over to the sweep, which frees each slot that nobody uses.
 #![tactic(auto)]
 
+mod cycles;
+mod laws;
 mod links;
+mod marks;
 mod missed;
+mod plays;
+mod removal;
 mod rows;
+mod runs;
+mod slots;
+mod spells;
+mod sweeps;
 #[cfg(test)]
 mod tests;
+mod treads;
+mod unlinks;
 mod walks;
 
+pub use cycles::{Checked, begin, check};
+pub use laws::two_cycles;
 pub use links::link;
+pub use marks::{ack, mark, scan};
 pub use missed::Missed;
+pub use removal::unlink;
 pub use rows::{bucket, hash, text_row};
+pub use runs::sweep_run;
+pub use slots::{Verdict, sweep_slot};
+pub use spells::{row_bucket, spell_row};
+pub use sweeps::{condemn, finish, look, pass, trace};
+pub use treads::tread;
+pub use unlinks::{bump, free, note, read_behind, unlink_at, unlink_head};
 pub use walks::walk;

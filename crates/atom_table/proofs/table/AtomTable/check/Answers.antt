@@ -2,7 +2,7 @@ use Rattle.std.proofs.Common.{ap}
 use Rattle.atom_words.specs.Layout.{epoch_of}
 use Rattle.atom_words.specs.Seats.{seen}
 use Rattle.atom_words.specs.declared.size.Size.{Size}
-use Rattle.sweep_core.specs.declared.cycles.Checked.TheVariants.{All, NotYet}
+use Rattle.bucket_rows.specs.declared.cycles.Checked.TheVariants.{All, NotYet}
 use Rattle.atom_table.proofs.Scans.{checked_sits, all_collects, part_collects}
 use Rattle.atom_table.proofs.table.AtomTable.check.Goals as goal
 

@@ -5,7 +5,7 @@ use Rattle.atom_words.specs.Seats.{seen}
 use Rattle.atom_words.specs.declared.size.Size.{Size}
 use Rattle.atom_words.specs.declared.view.View.{View}
 use Rattle.atom_words.specs.declared.kind.Kind.TheVariants.{Mark, Scan, Ack}
-use Rattle.sweep_core.proofs.Checks.{after_append}
+use Rattle.bucket_rows.proofs.Checks.{after_append}
 use Rattle.atom_table.specs.Naming.{those}
 use Rattle.atom_table.specs.Collecting.{scans}
 use Rattle.atom_table.proofs.Scans.{scans_keep, scans_all, those_live, has_marked, sits_cut, sits_same}

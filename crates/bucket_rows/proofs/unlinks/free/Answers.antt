@@ -1,0 +1,13 @@
+use Rattle.std.proofs.Common.{◌≡◌, ◌<◌, sym, ap, ◌∙◌, subst}
+use Rattle.atom_words.specs.Board.{atom_at}
+use Rattle.atom_words.specs.declared.size.Size.{Size}
+use Rattle.bucket_rows.proofs.SweepSteps.{freeing}
+use Rattle.bucket_rows.proofs.unlinks.free.Goals as goal
+
+pub store-requires : goal.store-requires
+store-requires c = let words = c.args.words.now in let s = c.args.seat.now.seat in let same : words.size ≡ s.me.0.size = sym c.requires.fits.1 in let q = c.requires.past in (
+  c.requires.fits.0,
+  c.atom_place-place.ensures.inside,
+  freeing words.table.shared.key words.table.shared.table_id.slots s.id s.me (words.keyed ∙ same) c.requires.fits.2 c.atom_place-place.result c.args.slot q.0 q.1 q.2 q.3
+      (subst (λ (z : Size). c.args.slot < z.slots) same c.requires.slot) (c.atom_place-place.ensures.place ∙ ap (λ (z : Size). atom_at z c.args.slot) same),
+)

@@ -1,0 +1,116 @@
+//! The sweep of one slot.
+ghost use Rattle.std.specs.Prelude.{◌≡◌, ◌≢◌, ℕ, ◌+◌, ◌<◌, ◌≤◌, List, [], ◌∷◌, ◌++◌, MatchResult};
+ghost use Rattle.atom_words.specs.Layout.{version_of, last};
+ghost use Rattle.atom_words.specs.Texts.{bucket};
+ghost use Rattle.atom_words.specs.Board.{atom_at};
+ghost use Rattle.atom_words.specs.Kinds.{after};
+ghost use Rattle.atom_words.specs.Seats.{seen, Fits, Same};
+ghost use Rattle.atom_words.specs.declared.kind.Kind.{Kind};
+ghost use Rattle.atom_words.specs.declared.kind.Kind.TheVariants.{Load, Start, Condemn, Free};
+ghost use Rattle.bucket_rows.specs.Treads.{spells, AtSlot, Found, Reached};
+ghost use Rattle.bucket_rows.specs.SweepKinds.{SweepKinds};
+ghost use Rattle.bucket_rows.specs.Sweeps.{JudgedBy, SweptBy};
+
+use crate::removal::unlink;
+use crate::spells::{row_bucket, spell_row};
+use crate::sweeps::{condemn, look, pass, trace};
+use crate::treads::tread;
+use crate::unlinks::free;
+use atom_words::{AtomSeat, Words};
+
+/// What the sweep made of a slot.
+#[derive(Clone, Copy, Debug, PartialEq, Eq, Drop)]
+pub enum Verdict {
+    /// It is one of the first 256, and stays as it is.
+    Low,
+    /// By that word, which was read last, it is not valid, or it is marked or counted.
+    Passed(u64),
+    /// Nobody uses it, but by that word the head of its bucket has the last version.
+    Worn(u64),
+    /// Nobody used it, and it is free.
+    Freed,
+}
+
+// The last version, at which a bucket stays as it is.
+const LAST: u64 = 4_398_046_511_103;
+
+// The text of the slot that the sweep has come to is read, and the collector's walk goes to the slot. The slot was found
+// valid just before. The answer is 0 where it is the first of its chain, or 1 more than the slot before it; or, where the
+// head of its bucket has the last version, that head's word.
+fn reach(words: &Words, seat: &mut AtomSeat, slot: u32) -> Result<u64, u64>
+    requires fits { Fits words.now seat.old }
+    requires slot { slot < words.now.size.slots }
+    requires found { Found slot (seen seat.old) }
+    ensures same { Same seat.old seat.new }
+    ensures fits { Fits words.now seat.new }
+    ensures steps { MatchResult result (λ before. (ks : List Kind) × (seen seat.new ≡ after (seen seat.old) ks) × SweepKinds ks) (λ x. (last ≤ version_of x) × ((row : List ℕ) × (seen seat.new ≡ after (seen seat.old) (spells row ++ Start (bucket 8 row) x ∷ [])))) }
+    ensures reached { MatchResult result (λ before. Reached slot seat.new.word before (seen seat.new) × (before ≤ words.now.size.slots)) (λ x. AtSlot slot (seen seat.new)) }
+{
+    let row = spell_row(words, seat, slot);
+    let word = trace(words, seat, row_bucket(&row));
+    if word / 4_194_304 >= LAST {
+        return Err(word);
+    }
+    Ok(tread(words, seat, slot))
+}
+
+// The slot at which the walk stands is condemned, taken out of its chain, and freed; or it is another word than 3 that was
+// found.
+fn take_out(words: &Words, seat: &mut AtomSeat, slot: u32, before: u64) -> Result<(), u64>
+    requires fits { Fits words.now seat.old }
+    requires slot { (slot < words.now.size.slots) × (256 ≤ slot) }
+    requires low { before ≤ words.now.size.slots }
+    requires reached { Reached slot seat.old.word before (seen seat.old) }
+    ensures same { Same seat.old seat.new }
+    ensures fits { Fits words.now seat.new }
+    ensures steps { MatchResult result (λ _. (ks : List Kind) × (seen seat.new ≡ after (seen seat.old) (Condemn ∷ (ks ++ Free ∷ []))) × SweepKinds ks) (λ x. (x ≢ 3) × (seen seat.new ≡ after (seen seat.old) (Load (atom_at words.now.size slot) x ∷ []))) }
+    ensures at { AtSlot slot (seen seat.new) }
+{
+    condemn(words, seat, slot)?;
+    unlink(words, seat, slot, before);
+    free(words, seat, slot);
+    Ok(())
+}
+
+// What becomes of the slot that the sweep has come to.
+fn judge(words: &Words, seat: &mut AtomSeat, slot: u32) -> Verdict
+    requires fits { Fits words.now seat.old }
+    requires slot { slot < words.now.size.slots }
+    requires at { AtSlot slot (seen seat.old) }
+    ensures same { Same seat.old seat.new }
+    ensures fits { Fits words.now seat.new }
+    ensures steps { JudgedBy slot (seen seat.old) result (seen seat.new) }
+    ensures at { AtSlot slot (seen seat.new) }
+{
+    if slot < 256 {
+        return Verdict::Low;
+    }
+    let found = look(words, seat, slot);
+    if found != 3 {
+        return Verdict::Passed(found);
+    }
+    match reach(words, seat, slot) {
+        Ok(before) => match take_out(words, seat, slot, before) {
+            Ok(()) => Verdict::Freed,
+            Err(word) => Verdict::Passed(word),
+        },
+        Err(word) => Verdict::Worn(word),
+    }
+}
+
+/// Sweeps the slot that the sweep has come to, and goes on to the next: the slot is freed where it is one from 256 on whose
+/// word, as it was read last, is valid, without mark and count, in a bucket whose version is not the last. Else its mark is
+/// cleared.
+pub fn sweep_slot(words: &Words, seat: &mut AtomSeat, slot: u32) -> Verdict
+    requires fits { Fits words.now seat.old }
+    requires slot { slot < words.now.size.slots }
+    requires at { AtSlot slot (seen seat.old) }
+    ensures same { Same seat.old seat.new }
+    ensures fits { Fits words.now seat.new }
+    ensures steps { SweptBy slot (seen seat.old) result (seen seat.new) }
+    ensures at { AtSlot (slot + 1) (seen seat.new) }
+{
+    let verdict = judge(words, seat, slot);
+    pass(words, seat, slot);
+    verdict
+}

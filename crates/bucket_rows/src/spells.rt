@@ -1,0 +1,65 @@
+//! The text of the slot that the sweep has come to, and its bucket.
+ghost use Rattle.std.specs.Prelude.{◌≡◌, ℕ, ◌<◌, ◌≤◌, false, length};
+ghost use Rattle.atom_words.specs.Texts.{bucket};
+ghost use Rattle.atom_words.specs.Kinds.{after};
+ghost use Rattle.atom_words.specs.Seats.{seen, Fits, Same};
+ghost use Rattle.bucket_rows.specs.Treads.{spells, Found};
+
+use crate::plays::Spelling;
+use atom_words::{AtomSeat, View, Words};
+use atomic_table::Seat;
+
+// Loads the words of that text, one after the other.
+fn read_row(words: &Words, seat: &mut Seat<(), View>, slot: u32) -> [u64; 32]
+    requires fits { (seat.old.table_id ≡ words.now.table.shared.table_id) × (seat.old.me.0.size ≡ words.now.size) × (seat.old.me.0.gone ≡ false) }
+    requires slot { slot < words.now.size.slots }
+    requires found { Found slot seat.old.me.0 }
+    ensures same { (seat.new.table_id ≡ seat.old.table_id) × (seat.new.id ≡ seat.old.id) × (seat.new.me.1 ≡ seat.old.me.1) }
+    ensures steps { seat.new.me.0 ≡ after seat.old.me.0 (spells result) }
+    ensures whole { length result ≡ 32 }
+{
+    let place = words.text_place(slot);
+    let mut row = [0u64; 32];
+    for i in 0..32 {
+        let word = words.table.shared.load::<Spelling>(seat, place + i);
+        row[i] = word;
+    }
+    row
+}
+
+/// Loads the 32 words of the text of the slot that the sweep has come to, which was found valid just before. A walk at hand
+/// ends.
+pub fn spell_row(words: &Words, seat: &mut AtomSeat, slot: u32) -> [u64; 32]
+    requires fits { Fits words.now seat.old }
+    requires slot { slot < words.now.size.slots }
+    requires found { Found slot (seen seat.old) }
+    ensures same { Same seat.old seat.new }
+    ensures steps { seen seat.new ≡ after (seen seat.old) (spells result) }
+    ensures whole { length result ≡ 32 }
+{
+    read_row(words, &mut seat.seat, slot)
+}
+
+// How many of 248 bytes a text of that length has.
+fn at_most_248(bytes: u64) -> usize
+    ensures most { result ≤ 248 }
+    ensures fewer { bytes ≤ 248 → result ≡ bytes }
+    ensures more { 248 ≤ bytes → result ≡ 248 }
+{
+    if bytes < 248 { bytes as usize } else { 248 }
+}
+
+/// The head of the bucket of the text with these words, by its hash, FNV-1a with 64 bits (G. Fowler, L. C. Noll, K.-P. Vo and
+/// D. Eastlake).
+pub fn row_bucket(row: &[u64; 32]) -> u32
+    ensures bucket { result ≡ bucket 8 row.now }
+    ensures small { result < 256 }
+{
+    let bytes = at_most_248(row[0]);
+    let mut hash: u64 = 14_695_981_039_346_656_037;
+    for i in 0..bytes {
+        let byte = (row[1 + i / 8] >> (8 * (i % 8))) % 256;
+        hash = (hash ^ byte).wrapping_mul(1_099_511_628_211);
+    }
+    (hash % 256) as u32
+}

@@ -1,6 +1,0 @@
-pub mod Cycles
-pub mod Plays
-pub mod SweepKinds
-pub mod Sweeps
-pub mod Treads
-pub mod TwoCycles
