@@ -7,3 +7,4 @@ pub mod Spelling
 pub mod Loading
 pub mod Naming
 pub mod Scans
+pub mod Refusals

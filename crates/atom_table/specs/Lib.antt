@@ -3,3 +3,4 @@ pub mod Holding
 pub mod Opening
 pub mod Naming
 pub mod Collecting
+pub mod Tables

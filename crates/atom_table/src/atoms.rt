@@ -1,5 +1,5 @@
 //! Atoms over the table and one seat.
-ghost use Rattle.std.specs.Prelude.{◌≡◌, ◌<◌, ℕ, false, List, [], ◌∷◌, Some};
+ghost use Rattle.std.specs.Prelude.{◌≡◌, ◌<◌, ℕ, true, false, List, [], ◌∷◌, Some};
 ghost use Rattle.pl_term.specs.Tree.{Chars};
 ghost use Rattle.atom_words.specs.Kinds.{view_after, after};
 ghost use Rattle.atom_words.specs.Chains.{In};
@@ -9,41 +9,72 @@ ghost use Rattle.atom_words.specs.declared.kind.Kind.TheVariants.{Keep};
 ghost use Rattle.atom_table.specs.Holding.{Sits, IsEngine};
 ghost use Rattle.atom_table.specs.Opening.{fixed_slots};
 ghost use Rattle.atom_table.specs.Naming.{names, requests, those, Lawful};
+ghost use Rattle.atom_table.specs.Tables.{SitsAt, are_so, size_is, table_is};
 
 use crate::table::AtomTable;
 use atom_api::{Atom, Atoms, Interned, TextBuf};
 use atom_words::{AtomSeat, Keeping, Keeps, View, Words};
 use atomic_table::Seat;
 use pl_term::Text;
-use std::marker::Brand;
+use std::marker::{Brand, PhantomData};
 
-/// The atoms that a seat holds at a table, of which each engine has one.
+/// Which table it is, and its size. The call picks it, so that each type that names it speaks of one table.
+pub trait NamesTable {
+    ghost use Rattle.atomic_table.specs.Seated.{TableId};
+    ghost use Rattle.atom_words.specs.declared.size.Size.{Size};
+
+    ghost atoms: { TableId };
+
+    ghost size: { Size };
+}
+
+impl NamesTable for Brand {
+    ghost use Rattle.atom_table.specs.Tables.{no_size, no_table};
+
+    ghost atoms = { no_table };
+
+    ghost size = { no_size };
+}
+
+/// The atoms that a seat holds at the table `K`, of which each engine has one.
 #[derive(Drop)]
-pub struct TableAtoms<'a> {
+pub struct TableAtoms<'a, K: NamesTable> {
     pub table: &'a AtomTable,
     pub seat: AtomSeat,
+    pub of: PhantomData<K>,
+    pub ghost named: { table.now.words.table.shared.table_id ≡ K.atoms } by { table_is table.now.words.table.shared.table_id K.atoms },
+    pub ghost sized: { table.now.words.size ≡ K.size } by { size_is table.now.words.size K.size },
     pub ghost sits: { Sits table.now.words seat },
     pub ghost engine: { IsEngine (seen seat) },
     pub ghost fixed: { (seen seat).fixed ≡ fixed_slots },
     pub ghost lawful: { Lawful (names (seen seat)) },
+    /// What the seat's refusals say is so.
+    pub ghost refused: { are_so (seen seat) ≡ true },
 }
 
-impl<'a> TableAtoms<'a> {
+impl<'a, K: NamesTable> TableAtoms<'a, K> {
     /// The atoms that the seat holds. It is an engine's seat of that table, between its calls.
-    pub fn new(table: &'a AtomTable, seat: AtomSeat) -> TableAtoms<'a>
+    pub fn new(table: &'a AtomTable, seat: AtomSeat) -> TableAtoms<'a, K>
+        requires named { (table.now.words.table.shared.table_id ≡ K.atoms) × (table.now.words.size ≡ K.size) }
         requires sits { Sits table.now.words seat }
         requires engine { IsEngine (seen seat) }
         requires fixed { (seen seat).fixed ≡ fixed_slots }
+        requires refused { are_so (seen seat) ≡ true }
         ensures { (result.table.now ≡ table.now) × (result.seat ≡ seat) }
     {
-        TableAtoms { table, seat }
+        TableAtoms {
+            table,
+            seat,
+            of: PhantomData,
+        }
     }
 
     /// The seat by itself.
     pub fn into_seat(self) -> AtomSeat
         ensures seat { result ≡ self.entry.seat }
-        ensures sits { Sits self.entry.table.now.words result × ((seen result).fixed ≡ fixed_slots) }
+        ensures sits { SitsAt K.atoms K.size result × ((seen result).fixed ≡ fixed_slots) }
         ensures engine { IsEngine (seen result) }
+        ensures refused { are_so (seen result) ≡ true }
     {
         self.seat
     }
@@ -68,7 +99,7 @@ fn keep(words: &Words, seat: &mut AtomSeat, live: &[Atom])
     load_kept::<Brand>(words, &mut seat.seat, live);
 }
 
-impl<'a> Atoms for TableAtoms<'a> {
+impl<'a, K: NamesTable> Atoms for TableAtoms<'a, K> {
     ghost held = { λ s. names (seen s.seat) };
 
     ghost refusals = { λ s. (seen s.seat).refusals };

@@ -1,8 +1,10 @@
 //! A cycle of collection, up to its sweep, with one engine after the other and with eight at once.
 ghost use Rattle.atom_words.specs.Seats.{seen, Walking};
+ghost use Rattle.std.specs.Prelude.{◌≡◌};
 ghost use Rattle.atom_table.specs.Holding.{Sits, IsEngine};
+ghost use Rattle.atom_table.specs.Opening.{FreshFrom};
 
-use crate::atoms::TableAtoms;
+use crate::atoms::{NamesTable, TableAtoms};
 use crate::collecting::Turn;
 use crate::marking::Marked;
 use crate::opening::Opened;
@@ -14,8 +16,10 @@ use atom_api::{Atoms, Interned};
 use atom_words::AtomSeat;
 use pl_term::{Memory, Text};
 use std::alloc::Global;
+use std::marker::Brand;
 use std::test::Fail;
 use std::thread;
+use std::thread::Threads;
 use bucket_rows::Checked;
 
 // What the engine finds, as it takes part in a cycle with the atom of a text alone.
@@ -72,7 +76,7 @@ fn a_cycle_waits_for_each_engine(rt: HostRuntime) -> Result<(), Fail> {
 }
 
 // Interns some texts, and takes part in a cycle with none of their atoms.
-fn intern_and_mark(alloc: Global, atoms: TableAtoms) -> Result<Marked, Memory> {
+fn intern_and_mark<K: NamesTable>(alloc: Global, atoms: TableAtoms<K>) -> Result<Marked, Memory> {
     let mut atoms = atoms;
     for i in 0..100u32 {
         let name = format!(in alloc; "t{i}")?;
@@ -81,6 +85,24 @@ fn intern_and_mark(alloc: Global, atoms: TableAtoms) -> Result<Marked, Memory> {
     let table = atoms.table;
     let mut seat = atoms.into_seat();
     Ok(table.mark_and_ack(&mut seat, &[]))
+}
+
+// What eight engines find at once.
+fn mark_at_once<K: NamesTable + Send + Sync, R: Threads + Sync>(
+    rt: &R,
+    alloc: Global,
+    table: &AtomTable,
+    seats: &mut Vec<AtomSeat>,
+) -> Result<Vec<Result<Marked, Memory>>, Memory>
+    requires named { (table.now.words.table.shared.table_id ≡ K.atoms) × (table.now.words.size ≡ K.size) }
+    requires fresh { FreshFrom table.now.words 1 seats.old.items }
+{
+    let all = eight::<K>(alloc, table, seats)?;
+    Ok(thread::map_vec(
+        rt,
+        all,
+        &|atoms: TableAtoms<K>| -> Result<Marked, Memory> { intern_and_mark(alloc, atoms) },
+    )?)
 }
 
 #[test]
@@ -92,13 +114,8 @@ fn eight_engines_acknowledge_at_once(rt: HostRuntime) -> Result<(), Fail> {
         keeper: _,
         mut collector,
     } = AtomTable::new(alloc, 512, 8)?;
-    let all = eight(alloc, &table, &mut seats)?;
     assert_eq!(rt; table.begin(&mut collector), Turn::Began(1));
-    let found = thread::map_vec(
-        &rt,
-        all,
-        &|atoms: TableAtoms| -> Result<Marked, Memory> { intern_and_mark(alloc, atoms) },
-    )?;
+    let found = mark_at_once::<Brand, _>(&rt, alloc, &table, &mut seats)?;
     assert_eq!(rt; found.len(), 8);
     for one in found {
         assert_eq!(rt; one?, Marked::Acked(1));

@@ -28,7 +28,7 @@ mod threads;
 
 pub use atom_api::{Atom, Cause, Interned, Pass, TextBuf, WornWord};
 pub use atom_words::AtomSeat;
-pub use atoms::TableAtoms;
+pub use atoms::{NamesTable, TableAtoms};
 pub use collecting::Turn;
 pub use marking::Marked;
 pub use opening::Opened;

@@ -1,5 +1,5 @@
 //! The table with one seat and with several.
-ghost use Rattle.std.specs.Prelude.{◌≡◌, ◌<◌, List, replicate, Some, IfSome};
+ghost use Rattle.std.specs.Prelude.{◌≡◌, ◌<◌, List, [], replicate, Some, IfSome};
 ghost use Rattle.atom_words.specs.Views.{uncounted};
 ghost use Rattle.atom_words.specs.Kinds.{counted};
 ghost use Rattle.atom_words.specs.Seats.{seen, Walking};
@@ -7,7 +7,7 @@ ghost use Rattle.atom_words.specs.declared.view.Counted.{Counted};
 ghost use Rattle.atom_table.specs.Holding.{Sits, IsEngine};
 ghost use Rattle.atom_table.specs.Opening.{fixed_slots, FreshFrom, IsKeeper};
 
-use crate::atoms::TableAtoms;
+use crate::atoms::{NamesTable, TableAtoms};
 use crate::opening::Opened;
 use crate::seats::Keeper;
 use crate::table::AtomTable;
@@ -17,6 +17,8 @@ use bucket_rows::bucket;
 use pl_term::{Memory, Text};
 use std::alloc::Global;
 use std::convert::AsStr;
+use std::marker::Brand;
+use std::process::Abort;
 use std::test::Fail;
 
 // The seat of the engine with the highest number that is still there.
@@ -27,13 +29,18 @@ pub fn take_last(table: &AtomTable, seats: &mut Vec<AtomSeat>) -> Option<AtomSea
     ensures fixed { IfSome result (λ s. (seen s).fixed ≡ fixed_slots) }
     ensures walking { IfSome result (λ s. Walking (seen s)) }
     ensures engine { IfSome result (λ s. IsEngine (seen s)) }
+    ensures refusals { IfSome result (λ s. (seen s).refusals ≡ []) }
 {
     seats.pop()
 }
 
 // The atoms of that seat.
-pub fn of_last<'a>(table: &'a AtomTable, seats: &mut Vec<AtomSeat>) -> Option<TableAtoms<'a>>
-    requires { FreshFrom table.now.words 1 seats.old.items }
+pub fn of_last<'a, K: NamesTable>(
+    table: &'a AtomTable,
+    seats: &mut Vec<AtomSeat>,
+) -> Option<TableAtoms<'a, K>>
+    requires named { (table.now.words.table.shared.table_id ≡ K.atoms) × (table.now.words.size ≡ K.size) }
+    requires fresh { FreshFrom table.now.words 1 seats.old.items }
     ensures { FreshFrom table.now.words 1 seats.new.items }
 {
     match take_last(table, seats) {
@@ -272,6 +279,25 @@ fn come_back<A: Atoms>(
     }
 }
 
+// The same over the atoms of the last engine.
+fn last_comes_back<K: NamesTable, R: Abort>(
+    rt: &R,
+    alloc: Global,
+    table: &AtomTable,
+    seats: &mut Vec<AtomSeat>,
+) -> Result<(), Fail>
+    requires named { (table.now.words.table.shared.table_id ≡ K.atoms) × (table.now.words.size ≡ K.size) }
+    requires fresh { FreshFrom table.now.words 1 seats.old.items }
+{
+    let mut atoms = of_last::<K>(table, seats).ok_or("a seat")?;
+    let Some((a, text, again)) = come_back(alloc, &mut atoms, "zz")? else {
+        panic!(rt; "there was no atom")
+    };
+    assert_eq!(rt; text.as_str(), "zz");
+    assert_eq!(rt; again, Interned::Is(a));
+    Ok(())
+}
+
 #[test]
 fn an_engine_has_atoms_of_the_table(rt: HostRuntime) -> Result<(), Fail> {
     let Opened {
@@ -280,11 +306,5 @@ fn an_engine_has_atoms_of_the_table(rt: HostRuntime) -> Result<(), Fail> {
         keeper: _,
         collector: _,
     } = AtomTable::new(rt.alloc(), 512, 1)?;
-    let mut atoms = of_last(&table, &mut seats).ok_or("a seat")?;
-    let Some((a, text, again)) = come_back(rt.alloc(), &mut atoms, "zz")? else {
-        panic!(rt; "there was no atom")
-    };
-    assert_eq!(rt; text.as_str(), "zz");
-    assert_eq!(rt; again, Interned::Is(a));
-    Ok(())
+    last_comes_back::<Brand, _>(&rt, rt.alloc(), &table, &mut seats)
 }

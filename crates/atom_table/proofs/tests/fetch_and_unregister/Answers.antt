@@ -1,4 +1,4 @@
-use Rattle.std.proofs.Common.{sym, subst, ◌∙◌, ap}
+use Rattle.std.proofs.Common.{sym, subst}
 use Rattle.atom_words.specs.Seats.{Walking}
 use Rattle.atom_words.specs.declared.view.View.{View}
 use Rattle.atom_table.proofs.tests.fetch_and_unregister.Goals as goal

@@ -1,4 +1,4 @@
-use Rattle.std.proofs.Common.{◌≡◌, ℕ, sym, ap, ◌∙◌, subst, Some, replicate}
+use Rattle.std.proofs.Common.{◌≡◌, sym, ap, ◌∙◌, subst, Some, replicate}
 use Rattle.atom_words.specs.Views.{uncounted}
 use Rattle.atom_words.specs.Seats.{seen, Walking}
 use Rattle.atom_words.specs.declared.size.Size.{Size}

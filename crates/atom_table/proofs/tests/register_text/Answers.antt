@@ -1,10 +1,9 @@
-use Rattle.std.proofs.Common.{◌≡◌, ◌<◌, ℕ, ◌+◌, List, [], ◌∷◌, ◌++◌, length, get_or, set, replicate, refl, sym, ap, ◌∙◌, subst, inl, arith, Some, option_map, get_or-set_same}
+use Rattle.std.proofs.Common.{◌≡◌, ◌<◌, ℕ, ◌+◌, List, length, set, replicate, refl, sym, ap, ◌∙◌, subst, inl, arith, Some, option_map, get_or-set_same}
 use lib.ListN.{length-replicate}
 use Rattle.atomic_table.proofs.Lists.{at_last}
 use Rattle.atom_words.specs.Views.{uncounted}
 use Rattle.atom_words.specs.Kinds.{counted, once_more}
 use Rattle.atom_words.specs.Seats.{seen, Has}
-use Rattle.atom_words.specs.declared.size.Size.{Size}
 use Rattle.atom_words.specs.declared.view.Held.{Held}
 use Rattle.atom_words.specs.declared.view.Counted.{Counted}
 use Rattle.atom_words.specs.declared.view.View.{View}

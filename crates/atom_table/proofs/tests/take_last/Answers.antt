@@ -1,4 +1,4 @@
-use Rattle.std.proofs.Common.{◌≡◌, ◌≢◌, ◌<◌, inl, arith, ℕ, ◌+◌, List, [], ◌∷◌, ◌++◌, length, refl, sym, ap, ◌∙◌, subst, Option, Some, None, option_to_list, IfSome, append-nil}
+use Rattle.std.proofs.Common.{◌≡◌, ◌<◌, inl, arith, ℕ, ◌+◌, List, [], ◌∷◌, ◌++◌, subst, Option, Some, None, option_to_list, IfSome}
 use Rattle.atom_words.specs.Seats.{seen, Walking}
 use Rattle.atom_words.specs.declared.words.Words.{Words}
 use Rattle.atom_words.specs.declared.words.AtomSeat.{AtomSeat}
@@ -32,3 +32,12 @@ returns-clause-walking c = (last_of c.args.table.now.words c.pop.new.self.items 
 
 pub returns-clause-engine : goal.returns-clause-engine
 returns-clause-engine c = (last_of c.args.table.now.words c.pop.new.self.items c.pop.result (subst (FreshFrom c.args.table.now.words 1) c.pop.ensures.items c.requires)).3
+
+-- the last has not been refused anything
+unrefused : (w : Words) (n : ℕ) (xs : List AtomSeat) (o : Option AtomSeat) → FreshFrom w n (xs ++ option_to_list o) → IfSome o (λ s. (seen s).refusals ≡ [])
+unrefused w n xs None f = tt
+unrefused w n [] (Some s) f = f.0.refusals
+unrefused w n (x ∷ xs) (Some s) f = unrefused w (n + 1) xs (Some s) f.1
+
+pub returns-clause-refusals : goal.returns-clause-refusals
+returns-clause-refusals c = unrefused c.args.table.now.words 1 c.pop.new.self.items c.pop.result (subst (FreshFrom c.args.table.now.words 1) c.pop.ensures.items c.requires)
