@@ -55,7 +55,7 @@ module _ (w : Words) (s : AtomSeat) (j : Joins w s) where
   said_held t held = names_are_told t (text_of (both (seen s))) (text_of (names (seen s))) (all_of (λ k. text_of (both (seen s)) k ≡ text_of (names (seen s)) k) (names_of t)
       (λ k e. let x = some_of (names (seen s) k) (at_any (λ a. IsSome (names (seen s) a)) (names_of t) k held e) in ap (or_no_text k) (held_both (seen s) k x.0 x.1 ∙ sym x.1)))
 
-  said_kept : (u : Tree) → IsCounted u (seen s) → said (both (seen s)) u ≡ said (kept (seen s)) u
+  pub said_kept : (u : Tree) → IsCounted u (seen s) → said (both (seen s)) u ≡ said (kept (seen s)) u
   said_kept u counted = said_same (both (seen s)) (kept (seen s)) u
       (λ k h. let x = some_of (kept (seen s) k) (kept_some (seen s) k (counted k h)) in keeps_both w s j k x.0 x.1 ∙ sym x.1)
       (λ k c e. let own = kept_fixed (seen s) k c j.fixed (fixed_named w s j.sits j.fixed k c e) in keeps_both w s j k c own ∙ sym own)

@@ -8,3 +8,5 @@ pub mod Listing
 pub mod Saying
 pub mod Exactly
 pub mod Comparing
+pub mod EngineAtoms
+pub mod Agreeing

@@ -16,6 +16,7 @@ use Rattle.atom_words.specs.declared.words.AtomSeat.{AtomSeat}
 use Rattle.atom_api.specs.Names.{Names}
 use Rattle.atom_table.specs.Holding.{unspelled, Sits, Sound}
 use Rattle.atom_table.specs.Naming.{named, names}
+use Rattle.atom_table.specs.Tables.{SitsAt}
 use Rattle.atom_table.specs.Opening.{fixed_slots}
 use Rattle.atom_table.specs.declared.seats.Keeper.{Keeper}
 
@@ -58,10 +59,6 @@ pub record Agrees (v : View) (cs : List Counted) : Type 0 where
 -- the load that shows it
 abbrev pub agreed : Step (Unit {0}) → Me (Unit {0}) View → ℕ → Me (Unit {0}) View → Type 0
 agreed st m r m' = Is (Load st.word r) m m' × ((cs : List Counted) → m.0.counts ≡ Some cs → Agrees m.0 cs)
-
--- a seat of the table with this number and this size, between its calls
-abbrev pub SitsAt : TableId → Size → AtomSeat → Type 0
-SitsAt t z s = ((s.seat.table_id ≡ t) × ((seen s).size ≡ z) × ((seen s).gone ≡ false)) × ((seen s).own ≡ None) × Sound (seen s)
 
 -- the seat of a keeper of that table
 pub record KeepsAt (t : TableId) (z : Size) (s : AtomSeat) : Type 0 where

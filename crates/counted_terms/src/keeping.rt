@@ -5,11 +5,32 @@ ghost use Rattle.atom_words.specs.Seats.{seen, Same};
 ghost use Rattle.atom_table.specs.Holding.{Sits};
 ghost use Rattle.atom_table.specs.Naming.{names};
 ghost use Rattle.atom_table.specs.Opening.{fixed_slots};
-ghost use Rattle.counted_terms.specs.Keeping.{FetchedBy, KeeperIn, RegisteredBy, UnregisteredBy, keeper_view, tally, times};
+ghost use Rattle.counted_terms.specs.Agreements.{Agreed};
+ghost use Rattle.counted_terms.specs.Keeping.{FetchedBy, KeeperIn, RegisteredBy, Stays, UnregisteredBy, keeper_view, kept, tally, times};
 
 use crate::joining::{join, part};
 use crate::lists::{fetch_all, register_all, unregister_all};
 use atom_table::{Atom, AtomSeat, AtomTable, Keeper};
+
+/// Shows, by one load, that the seat and the keeper agree. Nothing else is done.
+pub fn agree_kept(table: &AtomTable, keeper: &mut Option<Keeper>, seat: &mut AtomSeat)
+    requires keeper { KeeperIn table.now.words keeper.old }
+    requires seat { Sits table.now.words seat.old × ((seen seat.old).fixed ≡ fixed_slots) }
+    ensures keeper { KeeperIn table.now.words keeper.new }
+    ensures seat { Sits table.now.words seat.new × ((seen seat.new).fixed ≡ fixed_slots) }
+    ensures same { Same seat.old seat.new }
+    ensures agreed { Agreed (seen seat.old) (keeper_view keeper.old) }
+    ensures held { names (seen seat.new) ≡ names (seen seat.old) }
+    ensures keeps { kept (keeper_view keeper.new) ≡ kept (keeper_view keeper.old) }
+    ensures counts { tally (keeper_view keeper.new) ≡ tally (keeper_view keeper.old) }
+    ensures stays { Stays (seen seat.old) (seen seat.new) }
+{
+    let Some(taken) = keeper.take() else {
+        unreachable!()
+    };
+    join(table, seat, taken);
+    *keeper = Some(part(table, seat));
+}
 
 /// Holds all atoms of the list, each of which the keeper counts, with the texts that it keeps.
 pub fn fetch_kept(

@@ -6,6 +6,7 @@
 #![tactic(auto)]
 
 mod agreement;
+mod engines;
 mod joining;
 mod keeping;
 mod laws;
@@ -14,8 +15,9 @@ mod naming;
 mod storing;
 mod term;
 
+pub use engines::{agree, forget_by, lend_to, store_from};
 pub use joining::{join, part};
-pub use keeping::{fetch_kept, register_kept, unregister_kept};
+pub use keeping::{agree_kept, fetch_kept, register_kept, unregister_kept};
 pub use laws::{are_one_map, exact_counts_tell};
 pub use lists::{fetch_all, register_all, unregister_all};
 pub use naming::{fetch, register, unregister};

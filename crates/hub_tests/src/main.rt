@@ -3,18 +3,19 @@
 #![tactic(auto)]
 
 ghost use Rattle.std.specs.Prelude.{◌≡◌, ℕ, IfOk, IfSome};
-ghost use Rattle.atom_words.specs.Seats.{seen};
-ghost use Rattle.atom_table.specs.Holding.{IsEngine, Sits};
-ghost use Rattle.atom_table.specs.Opening.{fixed_slots, FreshFrom};
-ghost use Rattle.counted_terms.specs.Keeping.{KeeperIn, keeper_view, kept, tally};
+ghost use Rattle.atom_table.specs.Opening.{FreshFrom};
+ghost use Rattle.counted_terms.specs.Keeping.{KeeperAt, keeper_view, kept, tally};
+ghost use Rattle.hub_tests.specs.NewSeats.{IsNewSeat};
 ghost use Rattle.counted_terms.specs.CountedTerms.{naming, said};
 
 use anyhow::{Context, Result, bail};
-use atom_table::{AtomSeat, AtomTable, Interned, Keeper, Opened, TableAtoms};
+use atom_api::Atoms;
+use atom_table::{AtomSeat, AtomTable, Interned, Keeper, NamesTable, Opened, TableAtoms};
 use atom_terms::with_texts;
-use counted_terms::{CountedTerm, forget, lend, store};
+use counted_terms::{CountedTerm, forget_by, lend_to, store_from};
 use pl_term::{Flat, Text};
 use std::alloc::Global;
+use std::marker::Brand;
 use term_store::{AtomNode, Stored};
 
 fn main(rt: HostRuntime) -> Result<()> {
@@ -47,53 +48,68 @@ fn pass_through(alloc: Global, name: &Text) -> Result<Flat> {
     let mut place = Some(keeper);
     let reader = take_last(&table, &mut seats).context("a seat")?;
     let writer = take_last(&table, &mut seats).context("a seat")?;
-    pass_on(alloc, &table, &mut place, writer, reader, name)
+    pass_on::<Brand>(alloc, &table, &mut place, writer, reader, name)
 }
 
 /// The seat of the engine with the highest number that is still there.
 fn take_last(table: &AtomTable, seats: &mut Vec<AtomSeat>) -> Option<AtomSeat>
     requires { FreshFrom table.now.words 1 seats.old.items }
     ensures rest { FreshFrom table.now.words 1 seats.new.items }
-    ensures seat { IfSome result (λ s. Sits table.now.words s × ((seen s).fixed ≡ fixed_slots) × IsEngine (seen s)) }
+    ensures seat { IfSome result (λ s. IsNewSeat table.now.words s) }
 {
     seats.pop()
 }
 
-/// What the seat reads of a stored term, whose atoms the keeper counts. The term is forgotten then.
-fn read(
+/// What the atoms read of a stored term, which the keeper counts. The term is forgotten then.
+fn read<K: NamesTable>(
     alloc: Global,
-    table: &AtomTable,
     keeper: &mut Option<Keeper>,
-    mut seat: AtomSeat,
+    mut atoms: TableAtoms<K>,
     counted: &CountedTerm,
 ) -> Result<Flat>
-    requires seat { Sits table.now.words seat × ((seen seat).fixed ≡ fixed_slots) × IsEngine (seen seat) }
-    requires keeper { KeeperIn table.now.words keeper.old }
+    requires keeper { KeeperAt K.atoms K.size keeper.old }
     requires counted { (k : ℕ) → tally (keeper_view keeper.old) k ≡ naming k counted.now }
     ensures { IfOk result (λ t. t ≡ said (kept (keeper_view keeper.old)) counted.now) }
 {
-    let term = lend(table, keeper, &mut seat, counted)?;
-    forget(table, keeper, &mut seat, counted);
-    let mut atoms = TableAtoms::new(table, seat);
+    let term = lend_to(&mut atoms, keeper, counted)?;
+    forget_by(&mut atoms, keeper, counted);
     Ok(with_texts(alloc, &term, &mut atoms)?)
 }
 
 /// The term name(name, X) as the second seat reads it after the first has stored it.
-fn pass_on(
+fn pass_on<K: NamesTable>(
     alloc: Global,
     table: &AtomTable,
     keeper: &mut Option<Keeper>,
-    mut writer: AtomSeat,
+    writer: AtomSeat,
     reader: AtomSeat,
     name: &Text,
 ) -> Result<Flat>
-    requires writer { Sits table.now.words writer × ((seen writer).fixed ≡ fixed_slots) × IsEngine (seen writer) }
-    requires reader { Sits table.now.words reader × ((seen reader).fixed ≡ fixed_slots) × IsEngine (seen reader) }
-    requires keeper { KeeperIn table.now.words keeper.old }
+    requires named { (table.now.words.table.shared.table_id ≡ K.atoms) × (table.now.words.size ≡ K.size) }
+    requires writer { IsNewSeat table.now.words writer }
+    requires reader { IsNewSeat table.now.words reader }
+    requires keeper { KeeperAt K.atoms K.size keeper.old }
     requires none { (k : ℕ) → tally (keeper_view keeper.old) k ≡ 0 }
 {
-    name.scalars();
-    let Interned::Is(a) = table.intern(&mut writer, name) else {
+    let mut atoms = TableAtoms::<K>::new(table, writer);
+    let reader = TableAtoms::<K>::new(table, reader);
+    let counted = store_named(alloc, keeper, &mut atoms, name)?;
+    read(alloc, keeper, reader, &counted)
+}
+
+/// Stores the term name(name, X) over the atoms.
+fn store_named<K: NamesTable>(
+    alloc: Global,
+    keeper: &mut Option<Keeper>,
+    atoms: &mut TableAtoms<K>,
+    name: &Text,
+) -> Result<CountedTerm>
+    requires keeper { KeeperAt K.atoms K.size keeper.old }
+    requires none { (k : ℕ) → tally (keeper_view keeper.old) k ≡ 0 }
+    ensures keeper { IfOk result (λ _. KeeperAt K.atoms K.size keeper.new) }
+    ensures counted { IfOk result (λ t. (k : ℕ) → tally (keeper_view keeper.new) k ≡ naming k t) }
+{
+    let Interned::Is(a) = atoms.intern(name) else {
         bail!("no atom")
     };
     let slot = a.slot();
@@ -106,6 +122,6 @@ fn pass_on(
         ],
     )?;
     let counted = CountedTerm::new(alloc, term)?;
-    store(table, keeper, &mut writer, &counted);
-    read(alloc, table, keeper, reader, &counted)
+    store_from(atoms, keeper, &counted);
+    Ok(counted)
 }

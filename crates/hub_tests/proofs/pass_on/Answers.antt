@@ -1,31 +1,11 @@
-use Rattle.std.proofs.Common.{◌≡◌, ℕ, [], ◌∷◌, refl, sym, ap, ◌∙◌, subst, Option, Some}
-use Rattle.std.specs.List.{All}
-use Rattle.std.specs.Prelude.{IsSome}
-use Rattle.std.proofs.lemmas.List.Elements.{All-nil, All-cons}
-use Rattle.pl_term.specs.Tree.{Chars, Tree, atom, comp, var, more, none}
-use Rattle.atom_words.specs.Texts.{bucket}
+use Rattle.std.proofs.Common.{◌≡◌, ◌∙◌, ap, refl, true, subst, sym}
+use Rattle.std.specs.List.{list_all}
 use Rattle.atom_words.specs.Seats.{seen}
-use Rattle.bucket_rows.specs.Walks.{spelled}
-use Rattle.term_store.specs.Heap.{atom_name}
-use Rattle.term_store.specs.NumberedNames.{neck, names_of}
-use Rattle.atom_api.specs.Names.{Names}
-use Rattle.atom_api.specs.declared.interned.Interned.TheVariants.{Is}
-use Rattle.atom_table.specs.Naming.{names}
-use Rattle.atom_table.proofs.Naming.{lawful, interns_by}
-use Rattle.atom_terms.proofs.NamedTerms.{neck_held}
-use Rattle.counted_terms.proofs.Holding.{with_here}
+use Rattle.atom_table.specs.Tables.{is_so}
 use Rattle.hub_tests.proofs.pass_on.Goals as goal
 
-pub from_nodes-requires : goal.from_nodes-requires
-from_nodes-requires c = let a : ℕ = c.slot-slot.result in (comp (atom_name a) (atom (atom_name a)) (more (var 0) none), refl)
+pub new-atoms-requires-clause-refused : goal.new-atoms-requires-clause-refused
+new-atoms-requires-clause-refused g c = ap (list_all (is_so (seen c.args.writer).size.slots)) c.requires.writer.refusals
 
-some_is : (o : Option Chars) (t : Chars) → o ≡ Some t → IsSome o
-some_is o t e = subst (λ (x : Option Chars). IsSome x) (sym e) refl
-
-pub store-requires-clause-held : goal.store-requires-clause-held
-store-requires-clause-held c = let a : ℕ = c.slot-slot.result in let t = c.args.name.now in let w = c.intern.new.seat in let m : Names = names (seen w) in let P : ℕ → Type 0 = (λ k. IsSome (m k)) in
-    let fixed = c.in-Is.ensures.rest.fixed ∙ c.requires.writer.1 in
-    let here : m a ≡ Some t = ap m c.slot-slot.ensures
-    ∙ (ap (λ (n : Names). n c.in-Is.a) (interns_by t c.scalars.ensures (bucket 8 (spelled t)) (seen c.args.writer) (seen w) c.requires.writer.0.2 c.in-Is.ensures.rest.fixed (Is c.in-Is.a) c.in-Is.ensures.answer).now ∙ with_here (names (seen c.args.writer)) c.in-Is.a t c.in-Is.a refl) in
-    let all : All P (neck ∷ a ∷ a ∷ []) = All-cons P neck (a ∷ a ∷ []) (some_is (m neck) _ (neck_held m (lawful c.args.table.now.words w c.intern.ensures.sits fixed).stand)) (All-cons P a (a ∷ []) (some_is (m a) t here) (All-cons P a [] (some_is (m a) t here) (All-nil P))) in
-    subst (λ (u : Tree). All P (names_of u)) (sym (c.in_ok-counted.ensures ∙ c.in_ok-term.ensures)) all
+pub new-reader-requires-clause-refused : goal.new-reader-requires-clause-refused
+new-reader-requires-clause-refused g c = ap (list_all (is_so (seen c.args.reader).size.slots)) c.requires.reader.refusals

@@ -1,0 +1,28 @@
+use Rattle.std.proofs.Common.{◌≡◌, ◌∙◌, sym, ap, subst, inl}
+use Rattle.atom_words.specs.Seats.{seen}
+use Rattle.atom_table.proofs.Naming.{lawful}
+use Rattle.counted_terms.proofs.EngineAtoms.{keeper_in, keeper_at, stays_engine, stays_so, stays_requests}
+use Rattle.counted_terms.proofs.engines.store_from.Goals as goal
+
+pub invariant_of-atoms : goal.invariant_of-atoms
+invariant_of-atoms g c = let s = c.args.atoms.now in let r = c.store.new.seat in let e = c.store.ensures in record {
+  named = s.named;
+  sized = s.sized;
+  sits = e.seat.0;
+  engine = stays_engine (seen s.seat) (seen r) e.stays s.engine;
+  fixed = e.seat.1;
+  lawful = lawful s.table.now.words r e.seat.0 e.seat.1;
+  refused = stays_so (seen s.seat) (seen r) e.stays s.refused;
+}
+
+pub store-requires-clause-keeper : goal.store-requires-clause-keeper
+store-requires-clause-keeper g c = let s = c.args.atoms.now in keeper_in s.table.now.words g.K.NamesTable.atoms g.K.NamesTable.size c.args.keeper.now s.named s.sized c.requires.keeper
+
+pub returns-clause-keeper : goal.returns-clause-keeper
+returns-clause-keeper g c = let s = c.args.atoms.now in keeper_at s.table.now.words g.K.NamesTable.atoms g.K.NamesTable.size c.store.new.keeper s.named s.sized c.store.ensures.keeper
+
+pub returns-clause-refusals : goal.returns-clause-refusals
+returns-clause-refusals g c = c.store.ensures.stays.refusals
+
+pub returns-clause-requests : goal.returns-clause-requests
+returns-clause-requests g c = stays_requests (seen c.args.atoms.now.seat) (seen c.store.new.seat) c.store.ensures.stays
