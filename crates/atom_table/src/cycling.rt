@@ -14,13 +14,13 @@ use crate::tests::take_last;
 use crate::threads::eight;
 use atom_api::{Atoms, Interned};
 use atom_words::AtomSeat;
+use bucket_rows::Checked;
 use pl_term::{Memory, Text};
 use std::alloc::Global;
 use std::marker::Brand;
 use std::test::Fail;
 use std::thread;
 use std::thread::Threads;
-use bucket_rows::Checked;
 
 // What the engine finds, as it takes part in a cycle with the atom of a text alone.
 pub fn mark_one(table: &AtomTable, seat: &mut AtomSeat, text: &Text) -> Option<Marked>

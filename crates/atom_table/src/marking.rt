@@ -12,8 +12,8 @@ ghost use Rattle.atom_table.specs.Collecting.{scans, AllHeld, AcksBy};
 use crate::table::AtomTable;
 use atom_api::Atom;
 use atom_words::{AtomSeat, Words};
-use std::marker::Brand;
 use bucket_rows::{ack, mark, scan};
+use std::marker::Brand;
 
 /// What an engine found of the cycle.
 #[derive(Clone, Copy, Debug, PartialEq, Eq, Drop)]

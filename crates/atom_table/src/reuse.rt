@@ -12,10 +12,10 @@ use crate::table::AtomTable;
 use crate::tests::take_last;
 use atom_api::Interned;
 use atom_words::AtomSeat;
+use bucket_rows::Checked;
 use pl_term::{Memory, Text};
 use std::alloc::Global;
 use std::test::Fail;
-use bucket_rows::Checked;
 
 // The answer on a letter with a number after it.
 fn make(
@@ -38,12 +38,7 @@ fn make(
 }
 
 // How many of the texts with that letter and the numbers from 1 to 256 are answered with an atom.
-fn fill(
-    alloc: Global,
-    table: &AtomTable,
-    seat: &mut AtomSeat,
-    letter: char,
-) -> Result<u32, Memory>
+fn fill(alloc: Global, table: &AtomTable, seat: &mut AtomSeat, letter: char) -> Result<u32, Memory>
     requires sits { Sits table.now.words seat.old }
     requires walking { Walking (seen seat.old) }
     requires engine { IsEngine (seen seat.old) }
@@ -118,7 +113,10 @@ fn freed_slots_take_other_texts(rt: HostRuntime) -> Result<(), Fail> {
     assert_eq!(rt; sweep(&table, &mut collector, 300), Some(Swept::Done));
     assert!(rt; matches!(make(alloc, &table, &mut one, 'b', 1)?, Interned::Full(_)));
     // The second frees all but the one that the engine holds.
-    assert_eq!(rt; cycle(&table, &mut collector, &mut one, &held), Some(Swept::Done));
+    assert_eq!(rt;
+        cycle(&table, &mut collector, &mut one, &held),
+        Some(Swept::Done)
+    );
     assert_eq!(rt; fill(alloc, &table, &mut one, 'b')?, 255);
     assert_eq!(rt; make(alloc, &table, &mut one, 'a', 7)?, a7);
     assert!(rt; matches!(make(alloc, &table, &mut one, 'a', 1)?, Interned::Full(_)));
