@@ -91,7 +91,7 @@ row_refuses : {E : Type 0} (result : Result Row E) → IfOk result (λ r. row_re
 row_refuses (Ok r) h = h
 row_refuses (Err e) h = tt
 
-row_refused : {E : Type 0} (old new : List Refusal) (result : Result Row E) → new ≡ old ++ refusals_of result → IfOk (some_row result) (λ o. new ≡ old ++ answer_refusals o)
+pub row_refused : {E : Type 0} (old new : List Refusal) (result : Result Row E) → new ≡ old ++ refusals_of result → IfOk (some_row result) (λ o. new ≡ old ++ answer_refusals o)
 row_refused old new (Ok r) h = h
 row_refused old new (Err e) h = tt
 

@@ -3,3 +3,6 @@ mod Defined
 mod Places
 mod Remaining
 mod Rowless
+mod TableNames
+mod TableRows
+mod Tableless

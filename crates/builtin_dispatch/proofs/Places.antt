@@ -4,6 +4,7 @@ use Rattle.std.proofs.lemmas.List.{length-map}
 use Rattle.std.specs.Prelude.{IsSome, slice_index_or}
 use Rattle.std.specs.List.{All}
 use Rattle.pl_term.specs.Tree.{Chars, Tree, atom, none, more, trees}
+use Rattle.pl_model.specs.AtomBuiltins.{five}
 use Rattle.pl_model.specs.TermBuiltins.{two, three}
 use Rattle.atom_api.specs.Names.{Names}
 use Rattle.term_store.specs.declared.words.Place.{Place}
@@ -40,6 +41,16 @@ three_trees g (t ∷ (u ∷ [])) e = absurd (omega (arith, e))
 three_trees g (t ∷ (u ∷ (v ∷ []))) e = refl
 three_trees g (t ∷ (u ∷ (v ∷ (w ∷ ts)))) e = absurd (omega (arith, e))
 
+five_trees : (g : Chars → Chars) (ts : List Tree) → length ts ≡ 5
+    → trees (map (spelled g) ts) ≡ five (spelled g (at ts 0)) (spelled g (at ts 1)) (spelled g (at ts 2)) (spelled g (at ts 3)) (spelled g (at ts 4))
+five_trees g [] e = absurd (omega (arith, e))
+five_trees g (t ∷ []) e = absurd (omega (arith, e))
+five_trees g (t ∷ (u ∷ [])) e = absurd (omega (arith, e))
+five_trees g (t ∷ (u ∷ (v ∷ []))) e = absurd (omega (arith, e))
+five_trees g (t ∷ (u ∷ (v ∷ (w ∷ [])))) e = absurd (omega (arith, e))
+five_trees g (t ∷ (u ∷ (v ∷ (w ∷ (x ∷ []))))) e = refl
+five_trees g (t ∷ (u ∷ (v ∷ (w ∷ (x ∷ (y ∷ ts)))))) e = absurd (omega (arith, e))
+
 module _ (m : Names) (s : Contents) (a : Arguments) (is : IsArguments s a) where
   pub stands_held : (i : ℕ) (p : Place) → i < a.count → term_at s p ≡ at (arguments_at s a) i → AreHeld m s a → IsHeldAt m s p
   stands_held i p lt e held =
@@ -61,3 +72,14 @@ module _ (m : Names) (s : Contents) (a : Arguments) (is : IsArguments s a) where
       three_trees (text_of m) (arguments_at s a) (how_many s a is ∙ count)
       ∙ ap₂ (λ t u. three (spelled (text_of m) t) (spelled (text_of m) u) (spelled (text_of m) (at (arguments_at s a) 2))) (sym e) (sym f)
       ∙ ap (λ t. three (reads m s p) (reads m s q) (spelled (text_of m) t)) (sym h)
+
+  pub terms_five : (p q r t u : Place) → a.count ≡ 5 → term_at s p ≡ at (arguments_at s a) 0 → term_at s q ≡ at (arguments_at s a) 1
+      → term_at s r ≡ at (arguments_at s a) 2 → term_at s t ≡ at (arguments_at s a) 3 → term_at s u ≡ at (arguments_at s a) 4
+      → terms_of m s a ≡ five (reads m s p) (reads m s q) (reads m s r) (reads m s t) (reads m s u)
+  terms_five p q r t u count e f h i j =
+      let g = spelled (text_of m) in
+      let ts = arguments_at s a in
+      five_trees (text_of m) ts (how_many s a is ∙ count)
+      ∙ ap₂ (λ x y. five (g x) (g y) (g (at ts 2)) (g (at ts 3)) (g (at ts 4))) (sym e) (sym f)
+      ∙ ap₂ (λ x y. five (reads m s p) (reads m s q) (g x) (g y) (g (at ts 4))) (sym h) (sym i)
+      ∙ ap (λ x. five (reads m s p) (reads m s q) (reads m s r) (reads m s t) (g x)) (sym j)

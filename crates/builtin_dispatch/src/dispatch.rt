@@ -7,6 +7,7 @@ ghost use Rattle.builtin_rows.specs.Predicates.{arity_of, kind_of};
 ghost use Rattle.builtin_rows.specs.Predicates as kinds;
 ghost use Rattle.builtin_dispatch.specs.Dispatching.{AreHeld, Dispatches, HasLines, IsGivenText, IsRowOf, IsUnbuilt, answer_refusals, terms_of};
 
+use crate::five::row_of_five;
 use crate::one::row_of_one;
 use crate::three::row_of_three;
 use crate::two::row_of_two;
@@ -73,6 +74,16 @@ fn dispatch<A: Atoms>(
             let second = store.argument(arguments, 1);
             let third = store.argument(arguments, 2);
             row_of_three(alloc, store, pred, first, second, third, next, atoms)
+        }
+        5 => {
+            let first = store.argument(arguments, 0);
+            let second = store.argument(arguments, 1);
+            let third = store.argument(arguments, 2);
+            let fourth = store.argument(arguments, 3);
+            let fifth = store.argument(arguments, 4);
+            row_of_five(
+                alloc, store, pred, first, second, third, fourth, fifth, atoms,
+            )
         }
         _ => Ok(None),
     }

@@ -4,6 +4,7 @@
 
 mod built;
 mod dispatch;
+mod five;
 mod lines;
 mod one;
 mod three;

@@ -10,14 +10,14 @@ ghost use Rattle.builtin_rows.specs.Rows.{IsRow, refusals_of};
 ghost use Rattle.builtin_dispatch.specs.Dispatching.{AreHeld, given_from, terms_of};
 
 use atom_api::Atoms;
+use atom_parts::{atom_concat_line, sub_atom_line};
 use builtin_rows::{Pred, Row};
 use pl_term::Memory;
 use std::alloc::Global;
 use term_store::{Arguments, Store};
 
 /// The answer of a built-in predicate for these arguments that is the first one of its table from a line on, counted from 0, and
-/// the line of the next answer. No predicate gives a line yet, so that none is asked for: it answers that memory has run out. The
-/// only error is out of memory, after which nothing is said of the store.
+/// the line of the next answer. A predicate that has no table has no answer. The only error is out of memory.
 pub fn line_of<A: Atoms>(
     alloc: Global,
     store: &mut Store,
@@ -35,5 +35,23 @@ pub fn line_of<A: Atoms>(
     ensures refusals { A.refusals atoms.new ≡ A.refusals atoms.old ++ refusals_of result }
     ensures asked { Gains (Contains (given_texts (given_from pred (terms_of (A.held atoms.old) store.old arguments) line))) (A.asked atoms.old) (A.asked atoms.new) }
 {
-    Err(Memory)
+    match pred {
+        Pred::AtomConcat => {
+            let first = store.argument(arguments, 0);
+            let second = store.argument(arguments, 1);
+            let third = store.argument(arguments, 2);
+            atom_concat_line(alloc, store, first, second, third, line, atoms)
+        }
+        Pred::SubAtom => {
+            let first = store.argument(arguments, 0);
+            let second = store.argument(arguments, 1);
+            let third = store.argument(arguments, 2);
+            let fourth = store.argument(arguments, 3);
+            let fifth = store.argument(arguments, 4);
+            sub_atom_line(
+                alloc, store, first, second, third, fourth, fifth, line, atoms,
+            )
+        }
+        _ => Ok(Row::Fails),
+    }
 }

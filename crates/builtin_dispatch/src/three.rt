@@ -1,4 +1,4 @@
-//! The predicates of three arguments (ISO 8.5.1, 8.5.2, Cor.2 8.4.2).
+//! The predicates of three arguments (ISO 8.5.1, 8.5.2, 8.16.2, Cor.2 8.4.2).
 ghost use Rattle.std.specs.Prelude.{◌≡◌};
 ghost use Rattle.pl_model.specs.TermBuiltins.{three};
 ghost use Rattle.term_store.specs.Contents.{Holds, IsAbove};
@@ -10,6 +10,7 @@ ghost use Rattle.builtin_dispatch.specs.Dispatching.{Dispatches};
 
 use crate::built::built;
 use atom_api::Atoms;
+use atom_parts::atom_concat;
 use builtin_rows::{Pred, Row};
 use builtin_term::{arg, compare, functor};
 use pl_term::Memory;
@@ -44,6 +45,7 @@ pub fn row_of_three<A: Atoms>(
         Pred::Compare => built(compare(alloc, store, first, second, third, atoms)),
         Pred::Functor => built(functor(alloc, store, first, second, third, next)),
         Pred::Arg => built(arg(alloc, store, first, second, next)),
+        Pred::AtomConcat => built(atom_concat(alloc, store, first, second, third, atoms)),
         _ => Ok(None),
     }
 }

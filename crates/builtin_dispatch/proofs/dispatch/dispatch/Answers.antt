@@ -3,7 +3,7 @@ use Rattle.pl_term.specs.Tree.{more, none}
 use Rattle.world_builtins.specs.Spelling.{reads}
 use Rattle.builtin_dispatch.specs.Dispatching.{Dispatches, terms_of}
 use Rattle.builtin_dispatch.proofs.Answering.{nothing_does, settles}
-use Rattle.builtin_dispatch.proofs.Places.{terms_one}
+use Rattle.builtin_dispatch.proofs.Places.{terms_five, terms_one}
 use Rattle.builtin_dispatch.proofs.Remaining.{no_other}
 use Rattle.builtin_dispatch.proofs.dispatch.dispatch.Goals as goal
 
@@ -34,4 +34,17 @@ returns-in_default g c =
     (no_other c.args.pred c.requires.kind
     (λ e. omega (arith, e, c.in_default, c.len.ensures, c.requires.count))
     (λ e. omega (arith, e, c.in_default, c.len.ensures, c.requires.count))
+    (λ e. omega (arith, e, c.in_default, c.len.ensures, c.requires.count))
     (λ e. omega (arith, e, c.in_default, c.len.ensures, c.requires.count)))) refl
+
+pub returns-in-5 : goal.returns-in-5
+returns-in-5 g c =
+    let s = c.args.store.now in
+    let m = g.A.Atoms.held c.args.atoms.now in
+    let a = c.args.arguments in
+    let row = c.row_of_five in
+    subst (λ ts. Dispatches s c.args.next c.args.pred ts m (g.A.Atoms.held row.new.atoms) (g.A.Atoms.refusals c.args.atoms.now) (g.A.Atoms.refusals row.new.atoms)
+    (g.A.Atoms.asked c.args.atoms.now) (g.A.Atoms.asked row.new.atoms) row.new.store row.result)
+    (sym (terms_five m s a c.requires.inside _ _ _ _ _ (sym c.len.ensures ∙ c.in-5.is) c.argument-first-in-5.ensures.stands c.argument-second-in-5.ensures.stands
+    c.argument-third-in-5.ensures.stands c.argument-fourth.ensures.stands c.argument-fifth.ensures.stands))
+    (row.ensures c.args.next (omega arith))

@@ -1,14 +1,17 @@
 use Rattle.std.proofs.Common.{Ok, None, codes, refl, sym, subst, arith}
+use Rattle.pl_model.specs.AtomBuiltins.{concatenates}
 use Rattle.pl_model.specs.History.{proc}
 use Rattle.pl_model.specs.TermBuiltins.{argument_of, compares, functor_of, three}
 use Rattle.atom_api.specs.Names.{Names}
 use Rattle.world_builtins.specs.Spelling.{reads}
+use Rattle.world_api.proofs.Gaining.{gains_weaker}
 use Rattle.builtin_rows.specs.declared.predicates.Pred.TheVariants as pred
 use Rattle.builtin_rows.specs.Given.{given}
 use Rattle.builtin_rows.specs.Rows.{IsRow}
 use Rattle.builtin_dispatch.proofs.Answering.{nothing_does, ok_weaker, settled, settles}
 use Rattle.builtin_dispatch.proofs.Defined.{argument_defined, compares_defined, functor_defined}
 use Rattle.builtin_dispatch.proofs.Remaining.{no_other_three}
+use Rattle.builtin_dispatch.proofs.TableRows.{concatenates_defined, tabled}
 use Rattle.builtin_dispatch.proofs.three.row_of_three.Goals as goal
 
 pub returns-in-Compare : goal.returns-in-Compare
@@ -75,4 +78,20 @@ returns-in_default g c =
     let asked = g.A.Atoms.asked c.args.atoms.now in
     settles s s c.args.pred (three t u v) next m m refused refused asked asked (Ok None) refl refl refl
     (nothing_does _ s c.args.pred (three t u v) next m (Ok None) refl
-    (no_other_three c.args.pred c.in_default.not-Compare c.in_default.not-Functor c.in_default.not-Arg c.requires.kind c.requires.arity)) refl
+    (no_other_three c.args.pred c.in_default.not-Compare c.in_default.not-Functor c.in_default.not-Arg c.in_default.not-AtomConcat c.requires.kind c.requires.arity)) refl
+
+pub returns-in-AtomConcat : goal.returns-in-AtomConcat
+returns-in-AtomConcat g c =
+    let s = c.args.store.now in
+    let m = g.A.Atoms.held c.args.atoms.now in
+    let t = reads m s c.args.first in
+    let u = reads m s c.args.second in
+    let v = reads m s c.args.third in
+    let next = c.args.next in
+    let row = c.atom_concat in
+    tabled s row.new.store c.args.pred pred.AtomConcat (three t u v) next m (g.A.Atoms.held row.new.atoms) (g.A.Atoms.refusals c.args.atoms.now) (g.A.Atoms.refusals row.new.atoms)
+    (g.A.Atoms.asked c.args.atoms.now) (g.A.Atoms.asked row.new.atoms)
+    (concatenates t u v) row.result c.built-in-AtomConcat.result c.in-AtomConcat.is (concatenates_defined t u v) c.built-in-AtomConcat.ensures
+    row.ensures.holds row.ensures.refusals
+    (gains_weaker _ _ (g.A.Atoms.asked c.args.atoms.now) (g.A.Atoms.asked row.new.atoms) (λ x h. h next (omega arith)) row.ensures.asked)
+    (ok_weaker _ _ row.result row.ensures.row (λ r h. h next (omega arith)))

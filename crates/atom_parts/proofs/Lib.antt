@@ -1,0 +1,13 @@
+pub mod ArgumentLaws
+pub mod ColumnLaws
+pub mod JoinLaws
+pub mod LineLaws
+pub mod MisfitLaws
+pub mod Names
+pub mod PartLaws
+pub mod PartRows
+pub mod ReadLaws
+pub mod SkipLaws
+pub mod SplitLaws
+pub mod SplitRows
+pub mod TableLaws

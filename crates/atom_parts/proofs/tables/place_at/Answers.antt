@@ -1,0 +1,5 @@
+use Rattle.std.proofs.lemmas.List.{get_or_default}
+use Rattle.atom_parts.proofs.tables.place_at.Goals as goal
+
+pub returns : goal.returns
+returns c d = get_or_default c.args.places.now c.args.i d _ c.requires

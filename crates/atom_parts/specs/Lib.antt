@@ -1,0 +1,11 @@
+pub mod Columns
+pub mod Following
+pub mod Joining
+pub mod Lined
+pub mod Looking
+pub mod Misfits
+pub mod Parts
+pub mod Reading
+pub mod Skipping
+pub mod Splits
+pub mod Tables
