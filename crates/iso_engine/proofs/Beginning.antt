@@ -81,7 +81,7 @@ start_same l term = refl
 
 pub starts_as : (v : View) → IsView v → (e f : Search) (d : Doing) (b : Begun) (p : Option Procedure) (at : Place) (need wanted : ℕ) (stays : Option Chars) (term : Tree)
     → e.choices.items ≡ []
-    → e.next ≡ length (variables term)
+    → e.next_variable ≡ length (variables term)
     → e.inferences ≡ 0
     → e.store.used ≡ 0
     → map (term_at e.store) e.answer.items ≡ map var (upwards zero (length (variables term)))

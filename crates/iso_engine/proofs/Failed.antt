@@ -91,7 +91,7 @@ module _ (m n : Names) (t u : Told) (e : Engine) (x : Search) (f : Engine) (b : 
   back_again : IsPutBack t taken_off b u f → IsTaken e.search x b → Advances 0 m t e n u f [] × IsReady n u f × IsSpent e.search.inferences f.search.inferences × (f.solutions_found ≡ e.solutions_found)
   back_again put taken =
       let choices : (v : View) → choices_of v f.search ≡ choices_of v e.search = choices_again e.search x f.search b can taken put.taken
-      in let after = ap (λ (y : Search). y.next) put.search ∙ ap (λ (y : Search). y.next) kept
+      in let after = ap (λ (y : Search). y.next_variable) put.search ∙ ap (λ (y : Search). y.next_variable) kept
       in let count = ap (λ (y : Search). y.inferences) put.search ∙ ap (λ (y : Search). y.inferences) kept
       in let budgets = ap (λ (y : Search). y.budgets) put.search ∙ budgets_same
       in let doing : f.doing ≡ Failing = ap (λ (y : Engine). y.doing) put.rest ∙ fails

@@ -71,9 +71,9 @@ module _ (t : Setting) (e f : Search) (list next height : ℕ) (kept : (let x : 
   off_same : choices_off f ≡ e
   off_same = ap choices_off kept
 
-  state_same : (d : Search → resolution.Doing) → ((x : Search) → d x ≡ d (choices_off x)) → with_doing (up_to height (choices_of t.view e)) e.next e.inferences (d e) ≡ state_of t.view f (d f) t.output
+  state_same : (d : Search → resolution.Doing) → ((x : Search) → d x ≡ d (choices_off x)) → with_doing (up_to height (choices_of t.view e)) e.next_variable e.inferences (d e) ≡ state_of t.view f (d f) t.output
   state_same d alike =
-      ap₂ (λ cs (x : Search). with_doing cs x.next x.inferences (d x)) (sym cut) (sym off_same) ∙ ap (with_doing (choices_of t.view f) f.next f.inferences) (sym (alike f))
+      ap₂ (λ cs (x : Search). with_doing cs x.next_variable x.inferences (d x)) (sym cut) (sym off_same) ∙ ap (with_doing (choices_of t.view f) f.next_variable f.inferences) (sym (alike f))
 
   pub commit_done : tasks e.frames.items list ≡ Commit height ∷ tasks e.frames.items next
       → step (limits_in t e) (state_at t.view e (Running list) t.output) ≡ goes (state_at t.view f (Running next) t.output)

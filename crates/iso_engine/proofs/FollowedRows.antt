@@ -89,7 +89,7 @@ module _ (x : Origin) (at : Place) (e : Search) (row : Row) (m : IsRowMade x at 
   b = as_before x e
 
   abbrev told : Given
-  told = given x.predicate x.terms e.next x.store.used x.store.budget x.row
+  told = given x.predicate x.terms e.next_variable x.store.used x.store.budget x.row
 
   module _ (t : Setting) (known : AreHeld x.after t.view.names) (rest : ℕ) where
     abbrev v : View
@@ -116,7 +116,7 @@ module _ (x : Origin) (at : Place) (e : Search) (row : Row) (m : IsRowMade x at 
     told_is : given p ts s.next (n.used + collected_cells s.choices) l.cells x.row ≡ told
     told_is =
         ap₂ (λ us k. given p us s.next (n.used + collected_cells s.choices) k x.row) (sym terms_are) (sym (m.whole.budget v))
-        ∙ given_beside p x.terms e.next x.store.used x.store.budget (collected_cells s.choices) x.row
+        ∙ given_beside p x.terms e.next_variable x.store.used x.store.budget (collected_cells s.choices) x.row
 
     -- The step of the definition, by what is given.
     led_by : (g : Given) → told ≡ g → LedTo l s n p ts (with_row l s n p ts x.row) g
@@ -170,16 +170,16 @@ module _ (x : Origin) (at : Place) (e : Search) (rest : ℕ) where
       → result_in t e (node_of t.view before rest) x.predicate Fail ≡ row_step t
   fails_step m t known =
       let g = told x at e Fails m in
-      let k = fails_led (limits_in t before) (state_in t before) (node_of t.view before rest) x.predicate (arguments (reads t.view x.store at)) (row_step t) x.store e.next
+      let k = fails_led (limits_in t before) (state_in t before) (node_of t.view before rest) x.predicate (arguments (reads t.view x.store at)) (row_step t) x.store e.next_variable
       x.terms x.after e.store g m.made (led_by x at e Fails m t known rest g refl) in
-      state_still x at e Fails m t known rest e.store e.next failing (adds_same x.store e.store k.1) ∙ sym k.0
+      state_still x at e Fails m t known rest e.store e.next_variable failing (adds_same x.store e.store k.1) ∙ sym k.0
 
   pub full_step : (used need : ℕ) → IsRowMade x at e (CellsFull used need) → (t : Setting) → AreHeld x.after t.view.names
       → result_in t e (node_of t.view before rest) x.predicate (Raise Cells) ≡ row_step t
   full_step used need m t known =
       let row = CellsFull used need in
-      let k = full_gives x.store e.next x.terms x.after e.store used need (told x at e row m) m.made in
-      state_still x at e row m t known rest e.store e.next (throwing (error_ball no_cells x.predicate) (node_of t.view before rest).goals)
+      let k = full_gives x.store e.next_variable x.terms x.after e.store used need (told x at e row m) m.made in
+      state_still x at e row m t known rest e.store e.next_variable (throwing (error_ball no_cells x.predicate) (node_of t.view before rest).goals)
       (adds_same x.store e.store k.1)
       ∙ sym (led_by x at e row m t known rest (full need) k.0)
 
@@ -187,9 +187,9 @@ module _ (x : Origin) (at : Place) (e : Search) (rest : ℕ) where
       → result_in t e (node_of t.view before rest) x.predicate (Throw w) ≡ row_step t
   ball_step w m t known =
       let row = Ball w in
-      let k = ball_gives x.store e.next x.terms x.after e.store w (told x at e row m) m.made in
+      let k = ball_gives x.store e.next_variable x.terms x.after e.store w (told x at e row m) m.made in
       let outer = (node_of t.view before rest).goals in
-      state_still x at e row m t known rest e.store e.next (throwing (reads t.view e.store w) outer) k.1.0.adds
+      state_still x at e row m t known rest e.store e.next_variable (throwing (reads t.view e.store w) outer) k.1.0.adds
       ∙ ap (λ ball. record (state_in t before) { doing = throwing ball outer }) (sym (read_held x.after t.view known e.store w k.1.1.1))
       ∙ sym (led_by x at e row m t known rest (thrown (written.reads x.after e.store w)) k.0)
 
@@ -199,12 +199,12 @@ module _ (x : Origin) (at : Place) (e : Search) (rest : ℕ) where
       let s = state_in t before in
       let n = node_of t.view before rest in
       let ts = arguments (reads t.view x.store at) in
-      let k = holds_gives x.store e.next x.terms x.after e.store (told x at e Holds m) m.made in
+      let k = holds_gives x.store e.next_variable x.terms x.after e.store (told x at e Holds m) m.made in
       let q = led_by x at e Holds m t known rest (answered (x.terms ∷ []) zero zero) k.0 in
-      let next : s.next + zero ≡ e.next = add-zero e.next in
+      let next : s.next + zero ≡ e.next_variable = add-zero e.next_variable in
       let used : n.used + zero ≡ x.store.used = add-zero x.store.used in
       let solved : solve_all [] ts x.terms ≡ Some [] = ap (solve_all [] ts) (terms_are x at e Holds m t known rest) ∙ themselves ts in
-      state_still x at e Holds m t known rest e.store e.next (running (node_of t.view e rest)) (adds_same x.store e.store k.1)
+      state_still x at e Holds m t known rest e.store e.next_variable (running (node_of t.view e rest)) (adds_same x.store e.store k.1)
       ∙ ap (λ u. record s { doing = running (node_of t.view (record e { store = u }) rest) }) k.1
       ∙ sym
       (q.2
@@ -213,27 +213,27 @@ module _ (x : Origin) (at : Place) (e : Search) (rest : ℕ) where
       (instance_none (record n { used = n.used + zero }) ∙ ap (λ j. record n { used = j }) used))
 
 module _ (x : Origin) (at : Place) (e : Search) (w : Place) (m : IsRowMade x at e (Ball w)) where
-  thrown_ball : Makes x.store e.next zero zero e.store × (IsIn e.store w × IsHeldAt x.after e.store w)
-  thrown_ball = (ball_gives x.store e.next x.terms x.after e.store w (told x at e (Ball w) m) m.made).1
+  thrown_ball : Makes x.store e.next_variable zero zero e.store × (IsIn e.store w × IsHeldAt x.after e.store w)
+  thrown_ball = (ball_gives x.store e.next_variable x.terms x.after e.store w (told x at e (Ball w) m) m.made).1
 
   pub ball_whole : IsWhole e
   ball_whole =
       let makes = thrown_ball.0 in
-      whole_still e x.store e.store makes.adds m.whole e.next (omega arith) makes.budget
-      (subst (λ k. IsAbove k e.store) (add-zero e.next) (above_of x.store x.store e.store e.next zero zero refl m.whole.above makes.numbers refl))
+      whole_still e x.store e.store makes.adds m.whole e.next_variable (omega arith) makes.budget
+      (subst (λ k. IsAbove k e.store) (add-zero e.next_variable) (above_of x.store x.store e.store e.next_variable zero zero refl m.whole.above makes.numbers refl))
 
   pub ball_after : IsAfter (as_before x e) e (Throw w)
   ball_after =
       let makes = thrown_ball.0 in
-      record { budgets = refl; inside = (thrown_ball.1.0, keeps_tasks e x.store e.store makes.adds m.whole makes.others e.next) }
+      record { budgets = refl; inside = (thrown_ball.1.0, keeps_tasks e x.store e.store makes.adds m.whole makes.others e.next_variable) }
 
 module _ (x : Origin) (at : Place) (e : Search) (ps : Vec Place Global) (fresh : ℕ) (m : IsRowMade x at e (Answer ps fresh)) where
   abbrev gives : (k : ℕ)
       × ((told x at e (Answer ps fresh) m ≡ answered (terms_at x.after e.store ps.items ∷ []) fresh k)
-      × (Makes x.store e.next fresh k e.store × ArePlaced x.after e.store ps.items))
-  gives = answer_gives x.store e.next x.terms x.after e.store ps fresh (told x at e (Answer ps fresh) m) m.made
+      × (Makes x.store e.next_variable fresh k e.store × ArePlaced x.after e.store ps.items))
+  gives = answer_gives x.store e.next_variable x.terms x.after e.store ps fresh (told x at e (Answer ps fresh) m) m.made
 
-  makes : Makes x.store e.next fresh gives.0 e.store
+  makes : Makes x.store e.next_variable fresh gives.0 e.store
   makes = gives.1.1.0
 
   placed : ArePlaced x.after e.store ps.items
@@ -242,7 +242,7 @@ module _ (x : Origin) (at : Place) (e : Search) (ps : Vec Place Global) (fresh :
   pub answer_goal : IsIn e.store at
   answer_goal = makes.adds.places at m.inside
 
-  pub answer_numbers : e.next + fresh < 2 ^ 64
+  pub answer_numbers : e.next_variable + fresh < 2 ^ 64
   answer_numbers =
       (led_by x at e (Answer ps fresh) m (any_setting x.after) (λ a text h. h) zero (answered (terms_at x.after e.store ps.items ∷ []) fresh gives.0) gives.1.0).0
 
@@ -251,10 +251,10 @@ module _ (x : Origin) (at : Place) (e : Search) (ps : Vec Place Global) (fresh :
     all_adds : Adds x.store u
     all_adds = adds_on x.store e.store u makes.adds adds
 
-    pub answer_whole : IsWhole (over e u (e.next + fresh))
+    pub answer_whole : IsWhole (over e u (e.next_variable + fresh))
     answer_whole =
-        whole_still e x.store u all_adds m.whole (e.next + fresh) (omega arith) (size.budget ∙ makes.budget)
-        (above_of x.store x.store u e.next fresh fresh refl m.whole.above (size.numbers ∙ makes.numbers) refl)
+        whole_still e x.store u all_adds m.whole (e.next_variable + fresh) (omega arith) (size.budget ∙ makes.budget)
+        (above_of x.store x.store u e.next_variable fresh fresh refl m.whole.above (size.numbers ∙ makes.numbers) refl)
 
     module _ (t : Setting) (view : IsView t.view) (known : AreHeld x.after t.view.names) (rest : ℕ) where
       abbrev node : Node
@@ -289,24 +289,24 @@ module _ (x : Origin) (at : Place) (e : Search) (ps : Vec Place Global) (fresh :
           ∙ solve_all-spelled g view.apart [] lefts rights
 
       led_on : (o : Option Bindings) → solve_all [] lefts rights ≡ o
-          → definition ≡ unified (record here { next = e.next + fresh }) (record node { used = x.store.used + gives.0 }) (option_map (spelled_bindings g) o)
+          → definition ≡ unified (record here { next = e.next_variable + fresh }) (record node { used = x.store.used + gives.0 }) (option_map (spelled_bindings g) o)
       led_on o is =
           answer_led_by.2
-          ∙ ap (unified (record here { next = e.next + fresh }) (record node { used = x.store.used + gives.0 }))
+          ∙ ap (unified (record here { next = e.next_variable + fresh }) (record node { used = x.store.used + gives.0 }))
           (solved_read ∙ ap (option_map (spelled_bindings g)) is)
 
-      pub answer_fails : AreUnified false e.store lefts rights u → result_in t (over e u (e.next + fresh)) node x.predicate Fail ≡ definition
+      pub answer_fails : AreUnified false e.store lefts rights u → result_in t (over e u (e.next_variable + fresh)) node x.predicate Fail ≡ definition
       answer_fails differ =
-          state_still x at e (Answer ps fresh) m t known rest u (e.next + fresh) failing all_adds ∙ sym (led_on None differ)
+          state_still x at e (Answer ps fresh) m t known rest u (e.next_variable + fresh) failing all_adds ∙ sym (led_on None differ)
 
-      pub answer_runs : AreUnified true e.store lefts rights u → result_in t (over e u (e.next + fresh)) node x.predicate (Run rest) ≡ definition
+      pub answer_runs : AreUnified true e.store lefts rights u → result_in t (over e u (e.next_variable + fresh)) node x.predicate (Run rest) ≡ definition
       answer_runs same =
           let bs : Bindings = spelled_bindings g same.0 in
           let puts : (p : Place) → reads t.view u p ≡ bound bs (reads t.view e.store p) =
           λ p. ap (spelled g) (same.1.1 p) ∙ sym (bound-spelled g same.0 (term_at e.store p)) in
-          let node_is : node_of t.view (over e u (e.next + fresh)) rest ≡ node_instance bs (record node { used = x.store.used + gives.0 }) =
+          let node_is : node_of t.view (over e u (e.next_variable + fresh)) rest ≡ node_instance bs (record node { used = x.store.used + gives.0 }) =
           node-bound (reads t.view e.store) (reads t.view u) bs puts (tasks e.frames.items rest) e.answer.items (x.store.used + gives.0) u.used (size.used ∙ makes.used)
           ∙ ap (node_instance bs) (node_still e x.store e.store makes.adds m.whole makes.others t.view rest (x.store.used + gives.0)) in
-          state_still x at e (Answer ps fresh) m t known rest u (e.next + fresh) (running (node_of t.view (over e u (e.next + fresh)) rest)) all_adds
-          ∙ ap (λ d. record here { doing = running d; next = e.next + fresh }) node_is
+          state_still x at e (Answer ps fresh) m t known rest u (e.next_variable + fresh) (running (node_of t.view (over e u (e.next_variable + fresh)) rest)) all_adds
+          ∙ ap (λ d. record here { doing = running d; next = e.next_variable + fresh }) node_is
           ∙ sym (led_on (Some same.0) same.1.0)

@@ -20,13 +20,13 @@ use Rattle.iso_search.proofs.Wholes.{whole_added}
 
 -- The search over another store, with another next number of a variable.
 abbrev pub over : Search → Contents → ℕ → Search
-over e s next = record e { store = s; next = next }
+over e s next = record e { store = s; next_variable = next }
 
 module _ (e : Search) (s t : Contents) (adds : Adds s t) (w : IsWhole (record e { store = s })) where
   pub choices_still : (v : View) (next : ℕ) → choices_of v (over e t next) ≡ choices_of v (record e { store = s })
   choices_still v next = choices_kept v e.answer.items s t e.frames.items (reverse e.choices.items) adds w.rests
 
-  pub whole_still : (next : ℕ) → e.next ≤ next → t.budget ≡ s.budget → IsAbove next t → IsWhole (over e t next)
+  pub whole_still : (next : ℕ) → e.next_variable ≤ next → t.budget ≡ s.budget → IsAbove next t → IsWhole (over e t next)
   whole_still next le budget above = let was : Search = record e { store = s } in whole_added was t next adds budget le above w
 
   module _ (others : (p : Place) → Holds s p → term_at t p ≡ term_at s p) where

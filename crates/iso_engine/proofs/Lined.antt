@@ -90,7 +90,7 @@ module _ (x : LineOrigin) (at : Place) (e : Search) (ps : Vec Place Global) (fol
   line : IsLine x.terms x.lines x.from (terms_at x.held e.store ps.items) following
   line = m.made.0
 
-  makes : Makes x.store e.next zero zero e.store
+  makes : Makes x.store e.next_variable zero zero e.store
   makes = m.made.1.0
 
   placed : ArePlaced x.held e.store ps.items
@@ -98,8 +98,8 @@ module _ (x : LineOrigin) (at : Place) (e : Search) (ps : Vec Place Global) (fol
 
   pub line_whole : IsWhole e
   line_whole =
-      whole_still e x.store e.store makes.adds m.whole e.next (omega arith) makes.budget
-      (subst (λ k. IsAbove k e.store) (add-zero e.next) (above_of x.store x.store e.store e.next zero zero refl m.whole.above makes.numbers refl))
+      whole_still e x.store e.store makes.adds m.whole e.next_variable (omega arith) makes.budget
+      (subst (λ k. IsAbove k e.store) (add-zero e.next_variable) (above_of x.store x.store e.store e.next_variable zero zero refl m.whole.above makes.numbers refl))
 
   pub line_goal : IsIn e.store at
   line_goal = makes.adds.places at m.inside
@@ -108,10 +108,10 @@ module _ (x : LineOrigin) (at : Place) (e : Search) (ps : Vec Place Global) (fol
   line_places = placed.inside
 
   pub line_keeps : KeepsTasks b e
-  line_keeps = keeps_tasks e x.store e.store makes.adds m.whole makes.others e.next
+  line_keeps = keeps_tasks e x.store e.store makes.adds m.whole makes.others e.next_variable
 
   pub line_choices : (v : View) → choices_of v e ≡ choices_of v b
-  line_choices v = choices_still e x.store e.store makes.adds m.whole v e.next
+  line_choices v = choices_still e x.store e.store makes.adds m.whole v e.next_variable
 
   -- After the last one.
   pub last_after : (f : Search) (o : Outcome) → IsAfter e f o → IsAfter b f o
@@ -200,8 +200,8 @@ module _ (x : LineOrigin) (at : Place) (e : Search) (ps : Vec Place Global) (fol
         let cs : choices_of v d ≡ answers (proc_of g) (arguments g) line.later n ∷ s.choices = made ∙ ap₂ (λ c older. c ∷ older) choice (line_choices v) in
         let after : State = record s { choices = answers (proc_of g) (arguments g) line.later n ∷ s.choices } in
         let state_is : state_in t d ≡ after =
-        state_by t.doing t.doing (choices_of v d) (answers (proc_of g) (arguments g) line.later n ∷ s.choices) d.next e.next d.inferences e.inferences t.output
-        refl cs (ap (λ (y : Search). y.next) kept) (ap (λ (y : Search). y.inferences) kept) in
+        state_by t.doing t.doing (choices_of v d) (answers (proc_of g) (arguments g) line.later n ∷ s.choices) d.next_variable e.next_variable d.inferences e.inferences t.output
+        refl cs (ap (λ (y : Search). y.next_variable) kept) (ap (λ (y : Search). y.inferences) kept) in
         ap (λ j. result_in t f j (proc_of g) o) (sym node_same)
         ∙ ap (λ (y : Search). result_in t f (node_of v y rest) (proc_of g) o) (sym kept)
         ∙ tried
@@ -217,8 +217,8 @@ with_table l s n p ts xs = refl
 
 -- The first of them, as the goal is called.
 module _ (x : Origin) (at : Place) (e : Search) (ps : Vec Place Global) (following : Option ℕ) (m : IsRowMade x at e (Line ps following)) where
-  pub given_lines : (xs : List Answer) × (x.row ≡ table xs) × IsRow x.store e.next x.terms (lined x.terms xs zero) x.after e.store (Line ps following)
-  given_lines = line_gives x.store e.next x.terms x.after e.store x.predicate x.store.used x.store.budget ps following x.row m.made
+  pub given_lines : (xs : List Answer) × (x.row ≡ table xs) × IsRow x.store e.next_variable x.terms (lined x.terms xs zero) x.after e.store (Line ps following)
+  given_lines = line_gives x.store e.next_variable x.terms x.after e.store x.predicate x.store.used x.store.budget ps following x.row m.made
 
   abbrev pub first_origin : LineOrigin
   first_origin = record { store = x.store; held = x.after; terms = x.terms; lines = given_lines.0; from = zero }

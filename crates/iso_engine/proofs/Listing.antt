@@ -57,7 +57,7 @@ one_of_more t e d f goal rest gen height found (c ∷ (k ∷ ks)) o more listed 
     subst (λ (y : Search). result_in t f (node_of v y rest) (proc_of (reads v y.store goal)) o
     ≡ tried (limits_in t y) resolving (state_in t y) (reads v y.store goal) (node_of v y rest) height c) kept (ran c listed.front.clause) in
     let state : state_in t x ≡ record (state_in t e) { choices = clauses resolving g (k ∷ ks) n ∷ choices_of v e } =
-    state_by t.doing t.doing (choices_of v x) (clauses resolving g (k ∷ ks) n ∷ choices_of v e) e.next e.next e.inferences e.inferences t.output refl
+    state_by t.doing t.doing (choices_of v x) (clauses resolving g (k ∷ ks) n ∷ choices_of v e) e.next_variable e.next_variable e.inferences e.inferences t.output refl
     (sym (ap (choices_of v) kept) ∙ choices ∙ ap (λ l. clauses resolving g l n ∷ choices_of v e) (listed.left more)) refl refl in
     there ∙ ap₂ (λ (s : State) h. tried (limits_in t e) resolving s g n h c) state at
 

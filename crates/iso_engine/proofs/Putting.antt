@@ -126,7 +126,7 @@ module _ (m : Names) (e : Search) (term goal : Place) (rest : ℕ) (a b : List �
             made e goal rest (Character term) is few s h view
             ∙ ap goes (found s grown (Some instantiation_error) put.0
             ∙ same_parts (throwing (error_ball instantiation_error p) n.goals) (throwing (error_ball instantiation_error p) n.goals) (choices_of s.view e) (choices_of s.view e)
-            e.next (suc e.inferences) s.output (s.output ++ []) refl refl (sym (append-nil s.output)));
+            e.next_variable (suc e.inferences) s.output (s.output ++ []) refl refl (sym (append-nil s.output)));
         after = record { budgets = refl; inside = (tt, λ v j le. refl) };
         out = put.1 ∙ sym (append-nil a);
       })
@@ -150,7 +150,7 @@ module _ (m : Names) (e : Search) (term goal : Place) (rest : ℕ) (a b : List �
             made e goal rest (Character term) is few s h view
             ∙ ap goes (found s grown (Some (x t)) put.0
             ∙ same_parts (throwing (error_ball (x t) p) n.goals) (throwing (reads s.view u ball) n.goals) (choices_of s.view e)
-            (choices_of s.view (record e { store = u })) e.next (suc e.inferences) s.output (s.output ++ []) (ap (λ y. throwing y n.goals) ball_there)
+            (choices_of s.view (record e { store = u })) e.next_variable (suc e.inferences) s.output (s.output ++ []) (ap (λ y. throwing y n.goals) ball_there)
             (sym (choices_grown e u grows.stays whole s.view)) (sym (append-nil s.output)));
         after = record { budgets = refl; inside = (inside, λ v j le. ap (λ (n : Node). n.goals) (node_grown e u grows.stays whole v j)) };
         out = put.1 ∙ sym (append-nil a);

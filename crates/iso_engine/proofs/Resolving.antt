@@ -99,7 +99,7 @@ pub tried_spent : (t : Setting) → IsView t.view → (e d : Search) (rest heigh
 tried_spent t view e d rest height taken cells g c clause f is variables_are cells_are spent =
     let u = term_by (text_of t.view.names) clause in
     spent rest (proc_of g)
-    (λ s' n'. clause_unified resolving s' n' height c.place (raised_by e.next (body_part u)) (unify g (raised_by e.next (head_part u))))
+    (λ s' n'. clause_unified resolving s' n' height c.place (raised_by e.next_variable (body_part u)) (unify g (raised_by e.next_variable (head_part u))))
     ∙ tried_by_term (limits_in t e) (state_in t e) g (node_of t.view e rest) height c u taken cells is
     (variables_are ∙ numbers_taken t.view view clause) (cells_are ∙ cells_taken t.view view clause)
 
@@ -110,14 +110,14 @@ pub tried_resolved : (t : Setting) → IsView t.view → (e d f : Search) (rest 
     → next (state_in t d) (node_of t.view d list) ≡ taking (limits_in t e) (state_in t e) (node_of t.view e list) p taken cells next)
     → (let u = term_by (text_of t.view.names) clause in
     result_in t f (node_of t.view d rest) (proc_of g) o
-    ≡ clause_unified resolving (state_in t d) (node_of t.view d rest) height c.place (raised_by e.next (body_part u)) (unify g (raised_by e.next (head_part u))))
+    ≡ clause_unified resolving (state_in t d) (node_of t.view d rest) height c.place (raised_by e.next_variable (body_part u)) (unify g (raised_by e.next_variable (head_part u))))
     → (k : Node) → result_in t f k (proc_of g) o ≡ result_in t f (node_of t.view d rest) (proc_of g) o
     → result_in t f k (proc_of g) o ≡ tried (limits_in t e) resolving (state_in t e) g (node_of t.view e rest) height c
 tried_resolved t view e d f rest height taken cells g c clause o is variables_are cells_are step ran k any =
     let u = term_by (text_of t.view.names) clause in
     any ∙ ran
     ∙ step rest (proc_of g)
-    (λ s' n'. clause_unified resolving s' n' height c.place (raised_by e.next (body_part u)) (unify g (raised_by e.next (head_part u))))
+    (λ s' n'. clause_unified resolving s' n' height c.place (raised_by e.next_variable (body_part u)) (unify g (raised_by e.next_variable (head_part u))))
     ∙ tried_by_term (limits_in t e) (state_in t e) g (node_of t.view e rest) height c u taken cells is
     (variables_are ∙ numbers_taken t.view view clause) (cells_are ∙ cells_taken t.view view clause)
 

@@ -142,7 +142,7 @@ module _ (e x : Search) (kept : (let y : Search = record e { inferences = x.infe
 
   -- The row was followed.
   module _ (m n : Names) (f : Search) (o : Outcome) (at : IsRowAt e.store r) (made : IsCosted true) (grown : Holds m n) (held : IsHeldAt m e.store r.place)
-      (means : rows.Row) (row_is : row (kinds.name_of r.pred) (terms_of m x.store r.arguments) x.next ≡ Some means) (whole : IsWhole f) (after : IsAfter x f o) where
+      (means : rows.Row) (row_is : row (kinds.name_of r.pred) (terms_of m x.store r.arguments) x.next_variable ≡ Some means) (whole : IsWhole f) (after : IsAfter x f o) where
     abbrev pred : Proc
     pred = proc (kinds.name_of r.pred) (arity_of r.pred)
 
@@ -151,8 +151,8 @@ module _ (e x : Search) (kept : (let y : Search = record e { inferences = x.infe
         result_in t f (node_of t.view y rest) pred o
         ≡ with_row (limits_in t y) (state_in t x) (node_of t.view y rest) pred (arguments (reads t.view y.store r.place)) means
 
-    row_here : row (kinds.name_of r.pred) (terms_of m e.store r.arguments) x.next ≡ Some means
-    row_here = subst (λ (y : Search). row (kinds.name_of r.pred) (terms_of m y.store r.arguments) x.next ≡ Some means) kept row_is
+    row_here : row (kinds.name_of r.pred) (terms_of m e.store r.arguments) x.next_variable ≡ Some means
+    row_here = subst (λ (y : Search). row (kinds.name_of r.pred) (terms_of m y.store r.arguments) x.next_variable ≡ Some means) kept row_is
 
     led_step : (t : Setting) (cut : ℕ) → IsView t.view → Holds n t.view.names → IsLed t x
         → (let k = node_of t.view e rest in let g = reads t.view e.store r.place in
@@ -164,7 +164,7 @@ module _ (e x : Search) (kept : (let y : Search = record e { inferences = x.infe
         in let here : IsLed t e = subst (IsLed t) kept led
         in let named = row_proc t.view view e.store r at.goal_is
         in let known : Holds m t.view.names = λ a y h. later a y (grown a y h)
-        in let found = same_row m t.view view known e.store r at.goal_is held x.next ∙ row_here
+        in let found = same_row m t.view view known e.store r at.goal_is held x.next_variable ∙ row_here
         in ap (λ p. goes (result_in t f k p o)) named
         ∙ ap goes here
         ∙ ap (λ p. goes (with_row l (state_in t x) k p (arguments g) means)) (sym named)
@@ -184,22 +184,22 @@ module _ (e x : Search) (kept : (let y : Search = record e { inferences = x.infe
 
   -- What was asked of the atoms are texts of what the goal gives.
   pub asked_given : (m : Names) → FixedStand m → TellsApart (text_of m) → IsRowGoal e.store r → IsHeldAt m e.store r.place → (c : Chars)
-      → (means : rows.Row) × (row (kinds.name_of r.pred) (terms_of m x.store r.arguments) x.next ≡ Some means)
-      × Contains (given_texts (given_by x.store x.next r.pred (terms_of m x.store r.arguments) means)) c
-      → IsGivenText (spelled (text_of m) (term_at e.store r.place)) e.next e.store.used e.store.budget c
+      → (means : rows.Row) × (row (kinds.name_of r.pred) (terms_of m x.store r.arguments) x.next_variable ≡ Some means)
+      × Contains (given_texts (given_by x.store x.next_variable r.pred (terms_of m x.store r.arguments) means)) c
+      → IsGivenText (spelled (text_of m) (term_at e.store r.place)) e.next_variable e.store.used e.store.budget c
   asked_given m fixed apart at held c asked =
       let v : View = record { names = m; left = λ goal g place. [] }
       in let view : IsView v = record { fixed = fixed; apart = apart }
       in let ts = terms_of m e.store r.arguments
-      in let here = subst (λ (y : Search). (means : rows.Row) × (row (kinds.name_of r.pred) (terms_of m y.store r.arguments) y.next ≡ Some means)
-      × Contains (given_texts (given_by y.store y.next r.pred (terms_of m y.store r.arguments) means)) c) kept asked
+      in let here = subst (λ (y : Search). (means : rows.Row) × (row (kinds.name_of r.pred) (terms_of m y.store r.arguments) y.next_variable ≡ Some means)
+      × Contains (given_texts (given_by y.store y.next_variable r.pred (terms_of m y.store r.arguments) means)) c) kept asked
       in let same = same_terms m v view (λ a y h. h) e.store r at held
       in record {
         means = here.0;
-        row_is = same_row m v view (λ a y h. h) e.store r at held e.next ∙ here.1;
+        row_is = same_row m v view (λ a y h. h) e.store r at held e.next_variable ∙ here.1;
         given_is =
-            subst (λ us. Contains (given_texts (Rattle.builtin_rows.specs.Given.given (proc_of (reads v e.store r.place)) us e.next e.store.used e.store.budget here.0)) c) (sym same)
-            (subst (λ p. Contains (given_texts (Rattle.builtin_rows.specs.Given.given p ts e.next e.store.used e.store.budget here.0)) c) (sym (row_proc v view e.store r at)) here.2);
+            subst (λ us. Contains (given_texts (Rattle.builtin_rows.specs.Given.given (proc_of (reads v e.store r.place)) us e.next_variable e.store.used e.store.budget here.0)) c) (sym same)
+            (subst (λ p. Contains (given_texts (Rattle.builtin_rows.specs.Given.given p ts e.next_variable e.store.used e.store.budget here.0)) c) (sym (row_proc v view e.store r at)) here.2);
       }
 
   -- What is known of the row that is followed.
@@ -216,7 +216,7 @@ module _ (e x : Search) (kept : (let y : Search = record e { inferences = x.infe
 
   -- A line is one of the table of the goal.
   of_table : (m n : Names) → IsRowGoal x.store r → IsHeldAt m x.store r.place → Holds m n → (means : rows.Row)
-      → row (kinds.name_of r.pred) (terms_of m x.store r.arguments) x.next ≡ Some means → (row : Row)
+      → row (kinds.name_of r.pred) (terms_of m x.store r.arguments) x.next_variable ≡ Some means → (row : Row)
       → HasLines r.pred (terms_of m x.store r.arguments) row → IsOfTable (origin m n means) r.place row
   of_table m n at held grown means row_is (Line ps following) h =
       λ v view known. (
@@ -225,7 +225,7 @@ module _ (e x : Search) (kept : (let y : Search = record e { inferences = x.infe
             ap table_of
             (same_row m v view (λ a y g. known a y (grown a y g)) x.store r at held 0
             ∙ h.1 0
-            ∙ sym (h.1 x.next)
+            ∙ sym (h.1 x.next_variable)
             ∙ row_is
             ∙ ap Some is),
       )
@@ -239,7 +239,7 @@ module _ (e x : Search) (kept : (let y : Search = record e { inferences = x.infe
   of_table m n at held grown means row_is (Worn w) h = tt
 
   pub row_made : (m n : Names) (t : Contents) (made : Row) → IsRowGoal e.store r → IsHeldAt m e.store r.place → Holds m n → IsWhole x
-      → (is : IsRowOf x.store x.next r.pred (terms_of m x.store r.arguments) n t made) → HasLines r.pred (terms_of m x.store r.arguments) made
+      → (is : IsRowOf x.store x.next_variable r.pred (terms_of m x.store r.arguments) n t made) → HasLines r.pred (terms_of m x.store r.arguments) made
       → (let y : Search = record x { store = t } in IsRowMade (origin m n is.means) r.place y made)
   row_made m n t made at held grown whole is lines =
       let there : IsRowGoal x.store r = subst (λ (y : Search). IsRowGoal y.store r) (sym kept) at

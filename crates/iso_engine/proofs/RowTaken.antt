@@ -74,7 +74,7 @@ has_procedure e r at t view = compound_proc t.view e.store r.place r.name r.argu
 -- A text that was asked of the atoms.
 pub given_text : (m : Names) (t : Told) (e : Engine) (r : RowGoal) (list cut rest : ℕ) → e.doing ≡ Running list
     → tasks e.search.frames.items list ≡ Goal r.place cut ∷ tasks e.search.frames.items rest → IsRowAt e.search.store r → IsView (view_of m t) → (c : Chars)
-    → IsGivenText (spelled (text_of m) (term_at e.search.store r.place)) e.search.next e.search.store.used e.search.store.budget c
+    → IsGivenText (spelled (text_of m) (term_at e.search.store r.place)) e.search.next_variable e.search.store.used e.search.store.budget c
     → IsRowText m t e c
 given_text m t e r list cut rest doing first at view c given =
     let v = view_of m t

@@ -54,7 +54,7 @@ module _ (m n : Names) (t u : Told) (e f : Engine) (list : ℕ) (ops : OperatorT
 
   abbrev with_answer : List Choice → List Tree → List Output → State
   with_answer cs ts written =
-      let s : State = record { doing = answering; choices = cs; next = e.search.next; inferences = e.search.inferences; output = written ++ solution ops ts ∷ [] } in s
+      let s : State = record { doing = answering; choices = cs; next = e.search.next_variable; inferences = e.search.inferences; output = written ++ solution ops ts ∷ [] } in s
 
   -- The engine in which the solution was given.
   abbrev IsGiven : Type 0

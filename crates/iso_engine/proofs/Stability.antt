@@ -41,7 +41,7 @@ or_same s (asks q k) = s
 or_same s (stops how) = s
 
 abbrev with_doing : resolution.Doing → List Choice → Search → List Output → State
-with_doing d cs e out = let s : State = record { doing = d; choices = cs; next = e.next; inferences = e.inferences; output = out } in s
+with_doing d cs e out = let s : State = record { doing = d; choices = cs; next = e.next_variable; inferences = e.inferences; output = out } in s
 
 -- It stands for the same state in both views.
 pub same_state : (v w : View) (e : Search) (d : Doing) (out : List Output)
@@ -294,7 +294,7 @@ step_ready m t e f steps whole view ready =
     ready_from m t e f (steps_from m t e.solution_limit e.solutions_found e.search e.doing f.search f.doing steps) whole view ready
 
 -- An engine that goes back to a choice point stands where it stood if the choice points are the same.
-module _ (e f : Engine) (choices : (v : View) → choices_of v f.search ≡ choices_of v e.search) (next : f.search.next ≡ e.search.next)
+module _ (e f : Engine) (choices : (v : View) → choices_of v f.search ≡ choices_of v e.search) (next : f.search.next_variable ≡ e.search.next_variable)
     (inferences : f.search.inferences ≡ e.search.inferences) (fails : e.doing ≡ Failing) (fails' : f.doing ≡ Failing) where
   abbrev failing_in : List Choice → ℕ → ℕ → List Output → State
   failing_in cs n i out = let s : State = record { doing = failing; choices = cs; next = n; inferences = i; output = out } in s
@@ -303,7 +303,7 @@ module _ (e f : Engine) (choices : (v : View) → choices_of v f.search ≡ choi
   restored v out =
       ap (λ d. state_at v f.search d out) fails'
       ∙ ap₂ (λ cs n. failing_in cs n f.search.inferences out) (choices v) next
-      ∙ ap (λ i. failing_in (choices_of v e.search) e.search.next i out) inferences
+      ∙ ap (λ i. failing_in (choices_of v e.search) e.search.next_variable i out) inferences
       ∙ sym (ap (λ d. state_at v e.search d out) fails)
 
   pub restored_ready : (m : Names) (t : Told) → IsWhole f.search → IsReady m t e → IsReady m t f

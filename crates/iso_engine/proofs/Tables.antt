@@ -90,7 +90,7 @@ module _ (e : Search) (m n : Names) (r : RowGoal) (line : ℕ) (t : Contents) (r
         from = line;
       }
 
-  pub line_made : IsRow e.store e.next (terms_of m e.store r.arguments) (given_from r.pred (terms_of m e.store r.arguments) line) n t row
+  pub line_made : IsRow e.store e.next_variable (terms_of m e.store r.arguments) (given_from r.pred (terms_of m e.store r.arguments) line) n t row
       → (let y : Search = record e { store = t } in IsNextMade line_origin r.place y row)
   line_made is =
       record {

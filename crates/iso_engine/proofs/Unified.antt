@@ -37,7 +37,7 @@ module _ (e : Search) (at : Place) (ps : List Place) (rest : ℕ) (u : Contents)
 
   pub unified_whole : IsWhole later
   unified_whole =
-      whole_still e e.store u adds w e.next (omega arith) size.budget (subst (λ ns. All (λ m. m < e.next) ns) (sym size.numbers) w.above)
+      whole_still e e.store u adds w e.next_variable (omega arith) size.budget (subst (λ ns. All (λ m. m < e.next_variable) ns) (sym size.numbers) w.above)
 
   abbrev lefts : Trees
   lefts = arguments (term_at e.store at)
@@ -60,7 +60,7 @@ module _ (e : Search) (at : Place) (ps : List Place) (rest : ℕ) (u : Contents)
 
     state_is : (d : Doing) → state_of t.view later d t.output ≡ record here { doing = d }
     state_is d =
-        state_by d d (choices_of t.view later) (choices_of t.view e) e.next e.next e.inferences e.inferences t.output refl
+        state_by d d (choices_of t.view later) (choices_of t.view e) e.next_variable e.next_variable e.inferences e.inferences t.output refl
         (choices_kept t.view e.answer.items e.store u e.frames.items (reverse e.choices.items) adds w.rests) refl refl
 
     solved : (o : Option Bindings) → solve_all [] lefts rights ≡ o → definition ≡ unified here node (option_map (spelled_bindings g) o)
@@ -86,7 +86,7 @@ module _ (e : Search) (at : Place) (ps : List Place) (rest : ℕ) (u : Contents)
 
 -- The same after nothing was taken.
 pub tried_run : (t : Setting) (e d f : Search) (p : Proc) (at : Place) (ps : List Place) (rest : ℕ) (o : Outcome)
-    → d ≡ record e { store = record e.store { used = d.store.used }; next = d.next }
+    → d ≡ record e { store = record e.store { used = d.store.used }; next_variable = d.next_variable }
     → ((list : ℕ) (q : Proc) (next : State → Node → State)
     → next (state_in t d) (node_of t.view d list) ≡ taking (limits_in t e) (state_in t e) (node_of t.view e list) q 0 0 next)
     → result_in t f (node_of t.view d rest) p o

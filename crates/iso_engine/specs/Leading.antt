@@ -50,7 +50,7 @@ pub record IsRowMade (x : Origin) (goal : Place) (e : Search) (row : Row) : Type
   pub held : IsHeldAt x.before x.store goal
   pub later : AreHeld x.before x.after
   pub arguments : arguments (written.reads x.before x.store goal) ≡ x.terms
-  pub made : IsRow x.store e.next x.terms (given x.predicate x.terms e.next x.store.used x.store.budget x.row) x.after e.store row
+  pub made : IsRow x.store e.next_variable x.terms (given x.predicate x.terms e.next_variable x.store.used x.store.budget x.row) x.after e.store row
   pub of_table : IsOfTable x goal row
 
 -- Bindings unify the two lists of terms, and each place has them put into its term; or none unify them.

@@ -89,4 +89,4 @@ pub record IsRowText (m : Names) (t : Told) (e : Engine) (c : Chars) : Type 0 wh
   pub runs : doing_of (view_of m t) e.search e.doing ≡ running node
   pub first : node.goals ≡ resolution.goal goal cut ∷ later
   pub other_is : construct goal ≡ other
-  pub given : IsGivenText goal e.search.next e.search.store.used e.search.store.budget c
+  pub given : IsGivenText goal e.search.next_variable e.search.store.used e.search.store.budget c

@@ -39,7 +39,7 @@ pub record IsNextMade (x : LineOrigin) (goal : Place) (e : Search) (row : Row) :
   pub whole : IsWhole (search_before x e)
   pub inside : IsIn x.store goal
   pub read_as : (v : View) → IsView v → AreHeld x.held v.names → let g = reads v x.store goal in (arguments g ≡ x.terms) × (lines_of g ≡ x.lines)
-  pub made : IsRow x.store e.next x.terms (lined x.terms x.lines x.from) x.held e.store row
+  pub made : IsRow x.store e.next_variable x.terms (lined x.terms x.lines x.from) x.held e.store row
 
 -- The state of the search with its outcome is where the definition goes back to the lines, before the tasks of a list.
 abbrev pub IsGoneBack : LineOrigin → Place → ℕ → Search → Search → Outcome → Type 0

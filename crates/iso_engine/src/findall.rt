@@ -61,7 +61,7 @@ pub fn give_list(
     requires whole { IsWhole search.old }
     requires list { Holds search.old.store list }
     requires found { IsCollectionIn search.old.store found }
-    requires rise { Rise zero found.copies.items search.old.next }
+    requires rise { Rise zero found.copies.items search.old.next_variable }
     requires rest { rest ≤ length search.old.frames.items }
     ensures whole { OnOk result (IsWhole search.new) }
     ensures stands { IfOk result (λ d. (t : Setting) → IsView t.view

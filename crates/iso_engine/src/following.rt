@@ -38,7 +38,7 @@ pub fn follow(
             Ok(Doing::Throwing { ball, outer: rest })
         }
         Outcome::Throw(place) => {
-            let ball = Ball::at(&search.store, place)?;
+            let ball = Ball::at(alloc, &search.store, place)?;
             Ok(Doing::Throwing { ball, outer: rest })
         }
         Outcome::Halt(status) => Ok(Doing::Ended(End::Halted(status))),

@@ -26,6 +26,6 @@ pub fn error_of(alloc: Global, error: &Stored, procedure: Procedure) -> Result<B
     let indicator = store.make_compound(fixed::SLASH, &parts)?;
     let arguments = [culprit, indicator];
     let ball = store.make_compound(fixed::ERROR, &arguments)?;
-    let thrown = Ball::at(&store, ball)?;
+    let thrown = Ball::at(alloc, &store, ball)?;
     Ok(thrown)
 }

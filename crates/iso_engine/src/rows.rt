@@ -48,14 +48,14 @@ pub fn run_row<A: Atoms>(
     ensures tried { IfOk result (IsTried (A.held atoms.new) search.old goal.now rest search.new) }
     ensures holds { Holds (A.held atoms.old) (A.held atoms.new) }
     ensures refusals { IfOk result (λ r. A.refusals atoms.new ≡ A.refusals atoms.old ++ tried_refusals r) }
-    ensures asked { Gains (IsGivenText (spelled (text_of (A.held atoms.old)) (term_at search.old.store goal.now.place)) search.old.next search.old.store.used search.old.store.budget)
+    ensures asked { Gains (IsGivenText (spelled (text_of (A.held atoms.old)) (term_at search.old.store goal.now.place)) search.old.next_variable search.old.store.used search.old.store.budget)
         (A.asked atoms.old) (A.asked atoms.new) }
 {
     let before = search.inferences;
     if !search.infer() {
         return Ok(Tried::Led(Outcome::Raise(Fault::Inferences)));
     }
-    let next = search.next;
+    let next = search.next_variable;
     let store = &mut search.store;
     let found = row_of(alloc, store, goal.pred, goal.arguments, next, atoms)?;
     let slice = match found {

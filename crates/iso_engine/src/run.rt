@@ -56,15 +56,15 @@ impl Engine {
                         Ok(None)
                     }
                     Did::Call(goal, procedure) => {
-                        let stopped = self.call(goal, procedure, frame.next, world, atoms)?;
+                        let stopped = self.call(goal, procedure, frame.continuation, world, atoms)?;
                         Ok(stopped)
                     }
                     Did::Row(goal) => {
-                        let stopped = self.row(&goal, frame.next, atoms)?;
+                        let stopped = self.row(&goal, frame.continuation, atoms)?;
                         Ok(stopped)
                     }
                     Did::Write(goal, procedure) => {
-                        let next = frame.next;
+                        let next = frame.continuation;
                         let stopped = self.write(goal, procedure, next, world, atoms, out)?;
                         Ok(stopped)
                     }

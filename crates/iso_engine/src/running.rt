@@ -48,9 +48,9 @@ pub enum Did {
 pub fn do_task(alloc: Global, search: &mut Search, frame: Frame) -> Result<Did, Memory>
     requires whole { IsWhole search.old }
     requires task { IsTaskIn search.old.store frame.task }
-    requires rest { frame.next ≤ length search.old.frames.items }
+    requires rest { frame.continuation ≤ length search.old.frames.items }
     ensures whole { OnOk result (IsWhole search.new) }
-    ensures done { IfOk result (IsDone search.old frame.task frame.next search.new) }
+    ensures done { IfOk result (IsDone search.old frame.task frame.continuation search.new) }
     ensures budgets { OnOk result (search.new.budgets ≡ search.old.budgets) }
 {
     if let Some(doing) = leave(search, frame) {
@@ -58,11 +58,11 @@ pub fn do_task(alloc: Global, search: &mut Search, frame: Frame) -> Result<Did, 
     }
     match frame.task {
         Task::Goal(goal, cut) => {
-            let did = do_goal(alloc, search, goal, cut, frame.next)?;
+            let did = do_goal(alloc, search, goal, cut, frame.continuation)?;
             Ok(did)
         }
         Task::Collect(template, height) => {
-            let doing = collect(alloc, search, template, height, frame.next)?;
+            let doing = collect(alloc, search, template, height, frame.continuation)?;
             Ok(Did::Next(doing))
         }
         _ => unreachable!(),
@@ -73,7 +73,7 @@ pub fn do_task(alloc: Global, search: &mut Search, frame: Frame) -> Result<Did, 
 fn leave(search: &mut Search, frame: Frame) -> Option<Doing>
     requires { IsWhole search.old }
     ensures whole { IsWhole search.new }
-    ensures step { IfSome result (λ d. (list : ℕ) → tasks search.old.frames.items list ≡ frame.task ∷ tasks search.old.frames.items frame.next
+    ensures step { IfSome result (λ d. (list : ℕ) → tasks search.old.frames.items list ≡ frame.task ∷ tasks search.old.frames.items frame.continuation
         → StepsTo search.old (Running list) search.new d) }
     ensures others { IfNone result (IsForOthers frame.task × (search.new ≡ search.old)) }
     ensures budgets { search.new.budgets ≡ search.old.budgets }
@@ -82,13 +82,13 @@ fn leave(search: &mut Search, frame: Frame) -> Option<Doing>
         Task::Goal(_, _) => None,
         Task::Commit(height) => {
             search.cut_to(height);
-            Some(Doing::Running(frame.next))
+            Some(Doing::Running(frame.continuation))
         }
         Task::Refute(height) => {
             search.cut_to(height);
             Some(Doing::Failing)
         }
-        Task::Leave(_) => Some(Doing::Running(frame.next)),
+        Task::Leave(_) => Some(Doing::Running(frame.continuation)),
         Task::Collect(_, _) => None,
     }
 }

@@ -125,7 +125,7 @@ impl Engine {
             frames: Vec::new(alloc),
             choices: Vec::new(alloc),
             answer,
-            next: count,
+            next_variable: count,
             inferences: 0,
             budgets,
         };

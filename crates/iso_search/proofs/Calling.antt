@@ -148,11 +148,11 @@ module _ (t : Setting) (b d f : Search) (s : Contents) (g : Stays b.store s) (w 
       → (let e : Search = record b { store = s } in
       ((l : ℕ) (q : Proc) (next : State → Node → State)
       → next (state_in t d) (node_of t.view d l) ≡ taking (limits_in t e) (state_in t e) (node_of t.view e l) q 0 cells next))
-      → (let e : Search = record b { store = s } in d ≡ record e { store = record e.store { used = d.store.used }; next = d.next })
+      → (let e : Search = record b { store = s } in d ≡ record e { store = record e.store { used = d.store.used }; next_variable = d.next_variable })
       → (let e : Search = record b { store = s } in choices_of t.view d ≡ choices_of t.view e)
       → height ≡ length (choices_of t.view d)
       → node_of t.view f list ≡ before (goal (reads t.view d.store inner) height ∷ []) (node_of t.view d rest)
-      → choices_of t.view f ≡ choices_of t.view d → f.next ≡ d.next → f.inferences ≡ d.inferences
+      → choices_of t.view f ≡ choices_of t.view d → f.next_variable ≡ d.next_variable → f.inferences ≡ d.inferences
       → result_in t f (node_of t.view b rest) p (Run list) ≡ checked (state_in t b) (node_of t.view b rest) p (body_of (reads t.view b.store whole)) (CallOf t b p rest cells)
   call_run inner height list is taken kept same at node choices next inferences =
       let v = t.view in

@@ -66,14 +66,14 @@ caught_by_no_catch l s ball outer cs older v r n a e other = go a other ∙ sym 
 
 pub caught_by_catch : (t : Setting) (e f : Search) (ball : Tree) (outer : List Pending) (cs : List Choice) (a : Alternative) (k : CatchPoint)
     → cs ≡ choice_at t.view (reads t.view f.store) (node_of t.view f k.next) a ∷ choices_of t.view f → a ≡ Catch k.catcher k.recovery
-    → limits_in t f ≡ limits_in t e → f.next ≡ e.next → f.inferences ≡ e.inferences
+    → limits_in t f ≡ limits_in t e → f.next_variable ≡ e.next_variable → f.inferences ≡ e.inferences
     → caught_result t f ball outer (Some k) ≡ caught (limits_in t e) (state_in t e) ball outer cs
 caught_by_catch t e f ball outer cs a k is at limits next inferences =
     let v = t.view in
     let n = node_of v f k.next in
     let newer : Choice = choice_at v (reads v f.store) n (Catch k.catcher k.recovery) in
     let same : state_in t f ≡ record (state_in t e) { choices = choices_of v f } =
-    state_by t.doing t.doing (choices_of v f) (choices_of v f) f.next e.next f.inferences e.inferences t.output refl refl next inferences in
+    state_by t.doing t.doing (choices_of v f) (choices_of v f) f.next_variable e.next_variable f.inferences e.inferences t.output refl refl next inferences in
     ap₂ (λ (l : Limits) (s : State). at_catch s n (reads v f.store k.catcher) (reads v f.store k.recovery) (fitting l s n ball)) limits same
     ∙ sym (ap (caught (limits_in t e) (state_in t e) ball outer) (is ∙ ap (λ x. choice_at v (reads v f.store) n x ∷ choices_of v f) at))
 

@@ -77,7 +77,7 @@ cells_do_not_fit t e list need w lt =
 -- Numbers of variables, and cells
 
 module _ (t : Setting) (e d : Search) (new need : ℕ) (p : Proc) (list : ℕ) (next : State → Node → State) (w : IsWhole e) where
-  by_tests : (a b : Bool) → nat_lt (e.next + new) (2 ^ 64) ≡ a → fits (limits_in t e) (state_in t e) (node_of t.view e list) need ≡ b
+  by_tests : (a b : Bool) → nat_lt (e.next_variable + new) (2 ^ 64) ≡ a → fits (limits_in t e) (state_in t e) (node_of t.view e list) need ≡ b
       → (let s = state_in t e in let n = node_of t.view e list in
       cond a (cond b (next (record s { next = s.next + new }) (record n { used = n.used + need })) (raised s n no_cells p)) (raised s n no_inferences p)
       ≡ taking (limits_in t e) s n p new need next)
@@ -86,8 +86,8 @@ module _ (t : Setting) (e d : Search) (new need : ℕ) (p : Proc) (list : ℕ) (
       let n = node_of t.view e list in
       sym (ap₂ (λ x y. cond x (cond y (next (record s { next = s.next + new }) (record n { used = n.used + need })) (raised s n no_cells p)) (raised s n no_inferences p)) first second)
 
-  pub taken : e.next + new < 2 ^ 64 → e.store.used + need ≤ e.store.budget
-      → d ≡ record e { store = record e.store { used = e.store.used + need }; next = e.next + new }
+  pub taken : e.next_variable + new < 2 ^ 64 → e.store.used + need ≤ e.store.budget
+      → d ≡ record e { store = record e.store { used = e.store.used + need }; next_variable = e.next_variable + new }
       → next (state_in t d) (node_of t.view d list) ≡ taking (limits_in t e) (state_in t e) (node_of t.view e list) p new need next
   taken room le is =
       let s = state_in t e in
@@ -96,33 +96,33 @@ module _ (t : Setting) (e d : Search) (new need : ℕ) (p : Proc) (list : ℕ) (
       let kept = choices_kept t.view e.answer.items e.store c e.frames.items (reverse e.choices.items) (adds_charged e.store need) w.rests in
       subst (λ (x : Search). next (state_in t x) (node_of t.view x list) ≡ taking (limits_in t e) s n p new need next) (sym is)
       (ap (λ cs. next (record s { choices = cs; next = s.next + new }) (record n { used = n.used + need })) kept
-      ∙ by_tests true true (is_below (e.next + new) (2 ^ 64) room) (cells_fit t e list need w le))
+      ∙ by_tests true true (is_below (e.next_variable + new) (2 ^ 64) room) (cells_fit t e list need w le))
 
   -- What follows where both fit.
-  pub fitting_then : e.next + new < 2 ^ 64 → e.store.used + need ≤ e.store.budget
+  pub fitting_then : e.next_variable + new < 2 ^ 64 → e.store.used + need ≤ e.store.budget
       → (let s = state_in t e in let n = node_of t.view e list in next (record s { next = s.next + new }) (record n { used = n.used + need }))
       ≡ taking (limits_in t e) (state_in t e) (node_of t.view e list) p new need next
-  fitting_then room le = by_tests true true (is_below (e.next + new) (2 ^ 64) room) (cells_fit t e list need w le)
+  fitting_then room le = by_tests true true (is_below (e.next_variable + new) (2 ^ 64) room) (cells_fit t e list need w le)
 
-  pub no_room : e.store.budget < e.store.used + need → e.next + new < 2 ^ 64 → d ≡ e
+  pub no_room : e.store.budget < e.store.used + need → e.next_variable + new < 2 ^ 64 → d ≡ e
       → result_in t d (node_of t.view e list) p (Raise Cells) ≡ taking (limits_in t e) (state_in t e) (node_of t.view e list) p new need next
   no_room lt room is =
       subst (λ (x : Search). result_in t x (node_of t.view e list) p (Raise Cells) ≡ taking (limits_in t e) (state_in t e) (node_of t.view e list) p new need next) (sym is)
-      (by_tests true false (is_below (e.next + new) (2 ^ 64) room) (cells_do_not_fit t e list need w lt))
+      (by_tests true false (is_below (e.next_variable + new) (2 ^ 64) room) (cells_do_not_fit t e list need w lt))
 
-  pub no_number : 2 ^ 64 ≤ e.next + new → d ≡ e
+  pub no_number : 2 ^ 64 ≤ e.next_variable + new → d ≡ e
       → result_in t d (node_of t.view e list) p (Raise Inferences) ≡ taking (limits_in t e) (state_in t e) (node_of t.view e list) p new need next
   no_number le is =
       subst (λ (x : Search). result_in t x (node_of t.view e list) p (Raise Inferences) ≡ taking (limits_in t e) (state_in t e) (node_of t.view e list) p new need next) (sym is)
-      (by_tests false (fits (limits_in t e) (state_in t e) (node_of t.view e list) need) (not_below (e.next + new) (2 ^ 64) le) refl)
+      (by_tests false (fits (limits_in t e) (state_in t e) (node_of t.view e list) need) (not_below (e.next_variable + new) (2 ^ 64) le) refl)
 
-pub whole_taken : (e : Search) (new need : ℕ) → IsWhole e → IsWhole (record e { store = record e.store { used = e.store.used + need }; next = e.next + new })
+pub whole_taken : (e : Search) (new need : ℕ) → IsWhole e → IsWhole (record e { store = record e.store { used = e.store.used + need }; next_variable = e.next_variable + new })
 whole_taken e new need w =
-    whole_added e (record e.store { used = e.store.used + need }) (e.next + new) (adds_charged e.store need) refl (omega arith)
-    (All-weaker (λ m. m < e.next) (λ m. m < e.next + new) (λ m lt. omega arith) e.store.heap.numbers w.above) w
+    whole_added e (record e.store { used = e.store.used + need }) (e.next_variable + new) (adds_charged e.store need) refl (omega arith)
+    (All-weaker (λ m. m < e.next_variable) (λ m. m < e.next_variable + new) (λ m lt. omega arith) e.store.heap.numbers w.above) w
 
 pub choices_taken : (v : View) (e : Search) (new need : ℕ) → IsWhole e
-    → choices_of v (record e { store = record e.store { used = e.store.used + need }; next = e.next + new }) ≡ choices_of v e
+    → choices_of v (record e { store = record e.store { used = e.store.used + need }; next_variable = e.next_variable + new }) ≡ choices_of v e
 choices_taken v e new need w =
     let c = record e.store { used = e.store.used + need } in
     choices_kept v e.answer.items e.store c e.frames.items (reverse e.choices.items) (adds_charged e.store need) w.rests
@@ -130,7 +130,7 @@ choices_taken v e new need w =
 -- A ball that comes to a catch
 
 module _ (t : Setting) (e : Search) (list : ℕ) (ball : Tree) (new need : ℕ) (w : IsWhole e) (count : new ≡ variable_count ball) (size : need ≡ cells ball) where
-  by_fit : (a b : Bool) → nat_lt (e.next + new) (2 ^ 64) ≡ a → fits (limits_in t e) (state_in t e) (node_of t.view e list) need ≡ b
+  by_fit : (a b : Bool) → nat_lt (e.next_variable + new) (2 ^ 64) ≡ a → fits (limits_in t e) (state_in t e) (node_of t.view e list) need ≡ b
       → (let whole : Caught = record { ball = ball; need = cells ball } in
       let cellless : Caught = record { ball = error_ball no_cells catch_proc; need = 0 } in
       let numberless : Caught = record { ball = error_ball no_inferences catch_proc; need = 0 } in
@@ -142,18 +142,18 @@ module _ (t : Setting) (e : Search) (list : ℕ) (ball : Tree) (new need : ℕ) 
       let cellless : Caught = record { ball = error_ball no_cells catch_proc; need = 0 } in
       let numberless : Caught = record { ball = error_ball no_inferences catch_proc; need = 0 } in
       ap₂ (λ x y. cond x (cond y whole cellless) numberless)
-      (sym first ∙ ap (λ k. nat_lt (e.next + k) (2 ^ 64)) count)
+      (sym first ∙ ap (λ k. nat_lt (e.next_variable + k) (2 ^ 64)) count)
       (sym second ∙ ap (fits (limits_in t e) s n) size)
 
-  pub ball_fits : e.next + new < 2 ^ 64 → e.store.used + need ≤ e.store.budget
+  pub ball_fits : e.next_variable + new < 2 ^ 64 → e.store.used + need ≤ e.store.budget
       → fitted t e ball None ≡ fitting (limits_in t e) (state_in t e) (node_of t.view e list) ball
-  ball_fits room le = by_fit true true (is_below (e.next + new) (2 ^ 64) room) (cells_fit t e list need w le)
+  ball_fits room le = by_fit true true (is_below (e.next_variable + new) (2 ^ 64) room) (cells_fit t e list need w le)
 
-  pub ball_too_large : e.next + new < 2 ^ 64 → e.store.budget < e.store.used + need
+  pub ball_too_large : e.next_variable + new < 2 ^ 64 → e.store.budget < e.store.used + need
       → fitted t e ball (Some Cells) ≡ fitting (limits_in t e) (state_in t e) (node_of t.view e list) ball
-  ball_too_large room lt = by_fit true false (is_below (e.next + new) (2 ^ 64) room) (cells_do_not_fit t e list need w lt)
+  ball_too_large room lt = by_fit true false (is_below (e.next_variable + new) (2 ^ 64) room) (cells_do_not_fit t e list need w lt)
 
-  pub ball_not_numbered : 2 ^ 64 ≤ e.next + new
+  pub ball_not_numbered : 2 ^ 64 ≤ e.next_variable + new
       → fitted t e ball (Some Inferences) ≡ fitting (limits_in t e) (state_in t e) (node_of t.view e list) ball
   ball_not_numbered le =
-      by_fit false (fits (limits_in t e) (state_in t e) (node_of t.view e list) need) (not_below (e.next + new) (2 ^ 64) le) refl
+      by_fit false (fits (limits_in t e) (state_in t e) (node_of t.view e list) need) (not_below (e.next_variable + new) (2 ^ 64) le) refl

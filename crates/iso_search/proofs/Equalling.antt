@@ -65,7 +65,7 @@ result_goals t e n m p (Halt k) g = refl
 
 -- Unification after nothing was taken.
 pub equal_run : (t : Setting) (e d f : Search) (p : Proc) (left right : Place) (rest : ℕ) (o : Outcome)
-    → d ≡ record e { store = record e.store { used = d.store.used }; next = d.next }
+    → d ≡ record e { store = record e.store { used = d.store.used }; next_variable = d.next_variable }
     → ((list : ℕ) (p : Proc) (next : State → Node → State)
     → next (state_in t d) (node_of t.view d list) ≡ taking (limits_in t e) (state_in t e) (node_of t.view e list) p 0 0 next)
     → result_in t f (node_of t.view d rest) p o

@@ -1,6 +1,6 @@
 -- Balls of errors, read as terms over texts.
-use Rattle.std.proofs.Common.{◌≡◌, ℕ, pos, codes, Some, refl, ap, ap₂, ◌∙◌}
-use Rattle.pl_term.specs.Tree.{Chars, Tree, int, atom, comp, none, more}
+use Rattle.std.proofs.Common.{◌≡◌, ℕ, [], ◌∷◌, pos, codes, Some, refl, ap, ap₂, ◌∙◌}
+use Rattle.pl_term.specs.Tree.{Chars, Tree, int, atom, comp, none, more, compound}
 use Rattle.pl_model.specs.History.{Proc}
 use Rattle.pl_model.specs.Balls.{error_ball}
 use Rattle.atom_api.specs.Fixed.{fixed, fixed_texts}
@@ -95,3 +95,15 @@ error_spelled v view s f name arity =
     (text_is v view 80 (codes "error") error_is) (fault_spelled v view s f)
     ∙ ap (λ x. comp (codes "error") (fault_term (reads v s) f) (more (comp x (atom (g (atom_name name))) (more (int (pos arity)) none)) none))
     (text_is v view 9 (codes "/") slash_is)
+
+-- The ball of an error over the terms of which it is made.
+pub ball_made : (ball culprit indicator name_term count e : Tree) (name arity : ℕ)
+    → ball ≡ compound (atom_name 80) (culprit ∷ indicator ∷ [])
+    → culprit ≡ e
+    → indicator ≡ compound (atom_name 9) (name_term ∷ count ∷ [])
+    → name_term ≡ atom (atom_name name)
+    → count ≡ int (pos arity)
+    → ball ≡ comp (atom_name 80) e (more (comp (atom_name 9) (atom (atom_name name)) (more (int (pos arity)) none)) none)
+ball_made ball culprit indicator name_term count e name arity is first second third last =
+    is
+    ∙ ap₂ (λ x y. compound (atom_name 80) (x ∷ y ∷ [])) first (second ∙ ap₂ (λ x y. compound (atom_name 9) (x ∷ y ∷ [])) third last)

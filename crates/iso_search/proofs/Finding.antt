@@ -79,18 +79,18 @@ kept_copy v t kept from e =
 
 -- The state after a copy was put to the others, or none was.
 module _ (t : Setting) (e d : Search) (rest : ℕ) (u : Tree) (h : ℕ) (new need : ℕ) (w : IsWhole e) (count : new ≡ variable_count u) (size : need ≡ cells u) where
-  pub collect_done : e.next + new < 2 ^ 64 → e.store.used + need ≤ e.store.budget
-      → choices_of t.view d ≡ with_copy (rename e.next u) h (choices_of t.view e) → d.next ≡ e.next + new → d.inferences ≡ e.inferences
+  pub collect_done : e.next_variable + new < 2 ^ 64 → e.store.used + need ≤ e.store.budget
+      → choices_of t.view d ≡ with_copy (rename e.next_variable u) h (choices_of t.view e) → d.next_variable ≡ e.next_variable + new → d.inferences ≡ e.inferences
       → result_in t d (node_of t.view e rest) findall_proc Fail ≡ collected (limits_in t e) (state_in t e) (node_of t.view e rest) u h
   collect_done room le choices next inferences =
       let s = state_in t e in
-      state_by failing failing (choices_of t.view d) (with_copy (rename e.next u) h (choices_of t.view e)) d.next (e.next + new) d.inferences e.inferences t.output
+      state_by failing failing (choices_of t.view d) (with_copy (rename e.next_variable u) h (choices_of t.view e)) d.next_variable (e.next_variable + new) d.inferences e.inferences t.output
       refl choices next inferences
       ∙ fitting_then t e e new need findall_proc rest (λ s' n'. record s' { choices = with_copy (rename s.next u) h s.choices; doing = failing }) w room le
       ∙ ap₂ (λ k m. taking (limits_in t e) s (node_of t.view e rest) findall_proc k m (λ s' n'. record s' { choices = with_copy (rename s.next u) h s.choices; doing = failing }))
       count size
 
-  pub collect_no_room : e.next + new < 2 ^ 64 → e.store.budget < e.store.used + need
+  pub collect_no_room : e.next_variable + new < 2 ^ 64 → e.store.budget < e.store.used + need
       → result_in t e (node_of t.view e rest) findall_proc (Raise Cells) ≡ collected (limits_in t e) (state_in t e) (node_of t.view e rest) u h
   collect_no_room room lt =
       let s = state_in t e in
@@ -98,7 +98,7 @@ module _ (t : Setting) (e d : Search) (rest : ℕ) (u : Tree) (h : ℕ) (new nee
       ∙ ap₂ (λ k m. taking (limits_in t e) s (node_of t.view e rest) findall_proc k m (λ s' n'. record s' { choices = with_copy (rename s.next u) h s.choices; doing = failing }))
       count size
 
-  pub collect_no_number : 2 ^ 64 ≤ e.next + new
+  pub collect_no_number : 2 ^ 64 ≤ e.next_variable + new
       → result_in t e (node_of t.view e rest) findall_proc (Raise Inferences) ≡ collected (limits_in t e) (state_in t e) (node_of t.view e rest) u h
   collect_no_number le =
       let s = state_in t e in
@@ -119,14 +119,14 @@ abbrev pub list_of_copies : View → Collection → Tree
 list_of_copies v f = list_term (copies_of v f)
 
 -- The list has too many cells.
-pub list_too_large : (t : Setting) (e : Search) (n : Node) (list : Tree) (ts : List Tree) → e.next < 2 ^ 64 → e.budgets.cells < cells (list_term ts)
+pub list_too_large : (t : Setting) (e : Search) (n : Node) (list : Tree) (ts : List Tree) → e.next_variable < 2 ^ 64 → e.budgets.cells < cells (list_term ts)
     → result_in t e n findall_proc (Raise Cells) ≡ list_made (limits_in t e) (state_in t e) n list ts
 list_too_large t e n list ts few lt =
     let s = state_in t e in
     let next : State → Node → State = λ s' n'. unified s' n' (unify list (list_term ts)) in
     sym (ap₂ (λ a b. cond a (cond b (next (record s { next = s.next + 0 }) (record n { used = n.used + cells (list_term ts) }))
     (result_in t e n findall_proc (Raise Cells))) (result_in t e n findall_proc (Raise Inferences)))
-    (is_below (e.next + 0) (2 ^ 64) (omega (arith, few)))
+    (is_below (e.next_variable + 0) (2 ^ 64) (omega (arith, few)))
     (not_at_most (n.used + collected_cells s.choices + cells (list_term ts)) e.budgets.cells (omega (arith, lt))))
 
 -- The list that was built is the definition's.
@@ -136,7 +136,7 @@ copies_read v (c ∷ cs) = ap (λ ts. copy_of v c ∷ ts) (copies_read v cs)
 
 -- The list was built and unified, after its cells were taken.
 module _ (t : Setting) (view : IsView t.view) (e d f g : Search) (list made : Place) (found : Collection) (rest : ℕ) (o : Outcome)
-    (taken : d ≡ record e { store = record e.store { used = d.store.used }; next = d.next }) (w : IsWhole d) (stays : Stays d.store f.store)
+    (taken : d ≡ record e { store = record e.store { used = d.store.used }; next_variable = d.next_variable }) (w : IsWhole d) (stays : Stays d.store f.store)
     (built : f ≡ record d { store = f.store }) (held : Holds d.store list) (means : term_at f.store made ≡ listed (map copy_over found.copies.items)) where
   list_reads : reads t.view f.store made ≡ list_term (copies_of t.view found)
   list_reads =

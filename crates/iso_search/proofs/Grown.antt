@@ -57,8 +57,8 @@ module _ (P : Task → Type 0) where
       → (i : ℕ) → All P (get_or (stacked fs done) i [])
   stacked_inside [] done h d = d
   stacked_inside (f ∷ fs) done h d =
-      stacked_inside fs (done ++ (f.task ∷ get_or done f.next []) ∷ []) (All-tail (λ (g : Frame). P g.task) f fs h)
-      (pushed_inside done (f.task ∷ get_or done f.next []) (All-cons P f.task (get_or done f.next []) (All-head (λ (g : Frame). P g.task) f fs h) (d f.next)) d)
+      stacked_inside fs (done ++ (f.task ∷ get_or done f.continuation []) ∷ []) (All-tail (λ (g : Frame). P g.task) f fs h)
+      (pushed_inside done (f.task ∷ get_or done f.continuation []) (All-cons P f.task (get_or done f.continuation []) (All-head (λ (g : Frame). P g.task) f fs h) (d f.continuation)) d)
 
   nothing_inside : (i : ℕ) → All P (get_or ([] ∷ []) i [])
   nothing_inside zero = All-nil P
@@ -85,8 +85,8 @@ node_same : (p q : List Pending) (a b : List Tree) (u w : ℕ) → p ≡ q → a
 node_same p q a b u w e f g = cc
 
 module _ (e : Search) (s : Contents) (g : Stays e.store s) (w : IsWhole e) where
-  pub whole_stays : IsAbove e.next s → IsWhole (record e { store = s })
-  whole_stays above = whole_added e s e.next g.adds g.budget (omega arith) above w
+  pub whole_stays : IsAbove e.next_variable s → IsWhole (record e { store = s })
+  whole_stays above = whole_added e s e.next_variable g.adds g.budget (omega arith) above w
 
   pub choices_grown : (v : View) → choices_of v (record e { store = s }) ≡ choices_of v e
   choices_grown v = choices_kept v e.answer.items e.store s e.frames.items (reverse e.choices.items) g.adds w.rests
@@ -102,7 +102,7 @@ module _ (e : Search) (s : Contents) (g : Stays e.store s) (w : IsWhole e) where
 
   pub state_grown : (t : Setting) → state_in t (record e { store = s }) ≡ state_in t e
   state_grown t =
-      state_by t.doing t.doing (choices_of t.view (record e { store = s })) (choices_of t.view e) e.next e.next e.inferences e.inferences t.output
+      state_by t.doing t.doing (choices_of t.view (record e { store = s })) (choices_of t.view e) e.next_variable e.next_variable e.inferences e.inferences t.output
       refl (choices_grown t.view) refl refl
 
 pub alternative_grown : (s t : Contents) → Grows s t → (a : Alternative) → IsAlternativeIn s a → IsAlternativeIn t a
@@ -131,7 +131,7 @@ choice_grown v s t g n (Catch c w) i = ap₂ (λ x y. catch x y n) (read_kept v 
 choice_grown v s t g n (Findall w f) i = ap (λ x. findall x (copies_of v f) n) (read_kept v s t g w i.0)
 
 pub whole_grown : (e : Search) (s : Contents) → Grows e.store s → IsWhole e → IsWhole (record e { store = s })
-whole_grown e s g w = whole_stays e s g.stays w (subst (All (λ m. m < e.next)) (sym g.numbers) w.above)
+whole_grown e s g w = whole_stays e s g.stays w (subst (All (λ m. m < e.next_variable)) (sym g.numbers) w.above)
 
 -- A refusal
 

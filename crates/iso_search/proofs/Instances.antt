@@ -79,7 +79,7 @@ choices_kept v ws s t fs ks a r =
 -- The terms at two places were unified.
 pub unified_run : (t : Setting) (e d : Search) (a b : Place) (rest : ℕ) (p : Proc) → IsView t.view → Unified true e.store a b d.store
     → d.frames.items ≡ e.frames.items → d.answer.items ≡ e.answer.items → d.store.used ≡ e.store.used
-    → choices_of t.view d ≡ choices_of t.view e → d.next ≡ e.next → d.inferences ≡ e.inferences
+    → choices_of t.view d ≡ choices_of t.view e → d.next_variable ≡ e.next_variable → d.inferences ≡ e.inferences
     → result_in t d (node_of t.view e rest) p (Run rest)
     ≡ unified (state_in t e) (node_of t.view e rest) (unify (reads t.view e.store a) (reads t.view e.store b))
 unified_run t e d a b rest p view u frames answer used cs next inferences =
@@ -93,15 +93,15 @@ unified_run t e d a b rest p view u frames answer used cs next inferences =
     ap₂ (λ fs ws. node_at (reads t.view d.store) (tasks fs rest) ws d.store.used) frames answer
     ∙ node-bound (reads t.view e.store) (reads t.view d.store) bs terms (tasks e.frames.items rest) e.answer.items e.store.used d.store.used used in
     state_by (running (node_of t.view d rest)) (running (node_instance bs (node_of t.view e rest))) (choices_of t.view d) (choices_of t.view e)
-    d.next e.next d.inferences e.inferences t.output (ap running node) cs next inferences
+    d.next_variable e.next_variable d.inferences e.inferences t.output (ap running node) cs next inferences
     ∙ ap (unified (state_in t e) (node_of t.view e rest)) (sym found)
 
 pub unified_fail : (t : Setting) (e d : Search) (a b : Place) (n : Node) (p : Proc) → IsView t.view → unify (term_at e.store a) (term_at e.store b) ≡ None
-    → choices_of t.view d ≡ choices_of t.view e → d.next ≡ e.next → d.inferences ≡ e.inferences
+    → choices_of t.view d ≡ choices_of t.view e → d.next_variable ≡ e.next_variable → d.inferences ≡ e.inferences
     → result_in t d n p Fail ≡ unified (state_in t e) n (unify (reads t.view e.store a) (reads t.view e.store b))
 unified_fail t e d a b n p view u cs next inferences =
     let g = text_of t.view.names in
     let found : unify (reads t.view e.store a) (reads t.view e.store b) ≡ None =
     unify-spelled g view.apart (term_at e.store a) (term_at e.store b) ∙ ap (option_map (spelled_bindings g)) u in
-    state_by failing failing (choices_of t.view d) (choices_of t.view e) d.next e.next d.inferences e.inferences t.output refl cs next inferences
+    state_by failing failing (choices_of t.view d) (choices_of t.view e) d.next_variable e.next_variable d.inferences e.inferences t.output refl cs next inferences
     ∙ ap (unified (state_in t e) n) (sym found)

@@ -229,9 +229,9 @@ none_here items h c le = (refl, none_below h (reverse items) (omega (arith, leng
 
 -- The search after a copy was put to the others.
 module _ (e d : Search) (c : Copied) (h next : ℕ) (w : IsWhole e) (j : HasCopy c h (reverse e.choices.items) (reverse d.choices.items))
-    (from : c.from ≡ e.next) (le : e.next + length (variables c.term) ≤ next) (room : cells c.term ≤ e.store.budget)
+    (from : c.from ≡ e.next_variable) (le : e.next_variable + length (variables c.term) ≤ next) (room : cells c.term ≤ e.store.budget)
     (kept :
-    (let x : Search = record e { store = with_budget e.store (e.store.budget - cells c.term); choices = d.choices; next = next } in d ≡ x)) where
+    (let x : Search = record e { store = with_budget e.store (e.store.budget - cells c.term); choices = d.choices; next_variable = next } in d ≡ x)) where
   abbrev ws : List Place
   ws = e.answer.items
 
@@ -268,10 +268,10 @@ module _ (e d : Search) (c : Copied) (h next : ℕ) (w : IsWhole e) (j : HasCopy
         base = base_budget ws e.store fs b w.base;
         rests = subst (AreRests ws (with_budget e.store b) fs) (sym j.after) (rests_budget ws e.store fs (j.newer ++ put_here ∷ j.older) b after_rests);
         budget = joined_cells;
-        above = All-weaker (λ m. m < e.next) (λ m. m < next) (λ m lt. omega (arith, lt, le)) e.store.heap.numbers w.above;
+        above = All-weaker (λ m. m < e.next_variable) (λ m. m < next) (λ m lt. omega (arith, lt, le)) e.store.heap.numbers w.above;
         older =
             subst (All (λ (k : ChoicePoint). IsOlder next k.alternative)) (sym j.after)
-            (older_joined c e.next next j.was j.is j.older j.newer from le j.put (subst (All (λ (k : ChoicePoint). IsOlder e.next k.alternative)) j.before w.older));
+            (older_joined c e.next_variable next j.was j.is j.older j.newer from le j.put (subst (All (λ (k : ChoicePoint). IsOlder e.next_variable k.alternative)) j.before w.older));
       })
 
   pub choices_put : (v : View) → choices_of v d ≡ with_copy (copy_of v c) h (choices_of v e)
@@ -282,7 +282,7 @@ module _ (e d : Search) (c : Copied) (h next : ℕ) (w : IsWhole e) (j : HasCopy
 
 -- The search after a copy was put nowhere.
 module _ (e d : Search) (h next : ℕ) (w : IsWhole e) (same : reverse d.choices.items ≡ reverse e.choices.items) (none : CollectsNone h (reverse e.choices.items))
-    (le : e.next ≤ next) (kept : (let x : Search = record e { choices = d.choices; next = next } in d ≡ x)) where
+    (le : e.next_variable ≤ next) (kept : (let x : Search = record e { choices = d.choices; next_variable = next } in d ≡ x)) where
   pub whole_unjoined : IsWhole d
   whole_unjoined =
       subst IsWhole (sym kept)
@@ -291,11 +291,11 @@ module _ (e d : Search) (h next : ℕ) (w : IsWhole e) (same : reverse d.choices
         rests = subst (AreRests e.answer.items e.store e.frames.items) (sym same) w.rests;
         budget =
             λ v. ap (λ ks. e.store.budget + collected_cells (choices_at v e.answer.items e.store e.frames.items ks)) same ∙ w.budget v;
-        above = All-weaker (λ m. m < e.next) (λ m. m < next) (λ m lt. omega (arith, lt, le)) e.store.heap.numbers w.above;
+        above = All-weaker (λ m. m < e.next_variable) (λ m. m < next) (λ m lt. omega (arith, lt, le)) e.store.heap.numbers w.above;
         older =
             subst (All (λ (k : ChoicePoint). IsOlder next k.alternative)) (sym same)
-            (All-weaker (λ (k : ChoicePoint). IsOlder e.next k.alternative) (λ (k : ChoicePoint). IsOlder next k.alternative)
-            (λ k o. older_later e.next next le k.alternative o) (reverse e.choices.items) w.older);
+            (All-weaker (λ (k : ChoicePoint). IsOlder e.next_variable k.alternative) (λ (k : ChoicePoint). IsOlder next k.alternative)
+            (λ k o. older_later e.next_variable next le k.alternative o) (reverse e.choices.items) w.older);
       })
 
   pub choices_unjoined : (v : View) (t : Tree) → choices_of v d ≡ with_copy t h (choices_of v e)

@@ -24,7 +24,6 @@ pub mod Listing
 pub mod Naming
 pub mod Others
 pub mod Over
-pub mod Pushing
 pub mod Recoveries
 pub mod Resting
 pub mod Resuming

@@ -22,29 +22,29 @@ state_by d e cs ds n m i j out p q r s = cc
 
 pub over_made : (t : Setting) (e d : Search) (n : Node) (p : Proc) (c : Choice) (first : ℕ → List Pending) (list : ℕ)
     → nat_lt (length (choices_of t.view e)) e.budgets.choices ≡ true → choices_of t.view d ≡ c ∷ choices_of t.view e
-    → node_of t.view d list ≡ before (first (length (choices_of t.view e))) n → d.next ≡ e.next → d.inferences ≡ e.inferences
+    → node_of t.view d list ≡ before (first (length (choices_of t.view e))) n → d.next_variable ≡ e.next_variable → d.inferences ≡ e.inferences
     → result_in t d n p (Run list) ≡ over (limits_in t e) (state_in t e) n p c first
 over_made t e d n p c first list fits cs at next inferences =
     state_by (running (node_of t.view d list)) (running (before (first (length (choices_of t.view e))) n)) (choices_of t.view d) (c ∷ choices_of t.view e)
-    d.next e.next d.inferences e.inferences t.output (ap running at) cs next inferences
+    d.next_variable e.next_variable d.inferences e.inferences t.output (ap running at) cs next inferences
     ∙ ap (λ b. cond b (record (state_in t e) { choices = c ∷ choices_of t.view e; doing = running (before (first (length (choices_of t.view e))) n) })
     (record (state_in t e) { doing = throwing (error_ball no_choices p) n.goals })) (sym fits)
 
 pub over_full : (t : Setting) (e d : Search) (n : Node) (p : Proc) (c : Choice) (first : ℕ → List Pending)
     → nat_lt (length (choices_of t.view e)) e.budgets.choices ≡ false → choices_of t.view d ≡ choices_of t.view e
-    → d.next ≡ e.next → d.inferences ≡ e.inferences
+    → d.next_variable ≡ e.next_variable → d.inferences ≡ e.inferences
     → result_in t d n p (Raise Choices) ≡ over (limits_in t e) (state_in t e) n p c first
 over_full t e d n p c first fits cs next inferences =
     state_by (throwing (error_ball no_choices p) n.goals) (throwing (error_ball no_choices p) n.goals) (choices_of t.view d) (choices_of t.view e)
-    d.next e.next d.inferences e.inferences t.output refl cs next inferences
+    d.next_variable e.next_variable d.inferences e.inferences t.output refl cs next inferences
     ∙ ap (λ b. cond b (record (state_in t e) { choices = c ∷ choices_of t.view e; doing = running (before (first (length (choices_of t.view e))) n) })
     (record (state_in t e) { doing = throwing (error_ball no_choices p) n.goals })) (sym fits)
 
 pub run_made : (t : Setting) (e d : Search) (n m : Node) (p : Proc) (list : ℕ) → choices_of t.view d ≡ choices_of t.view e
-    → node_of t.view d list ≡ m → d.next ≡ e.next → d.inferences ≡ e.inferences → result_in t d n p (Run list) ≡ run_on (state_in t e) m
+    → node_of t.view d list ≡ m → d.next_variable ≡ e.next_variable → d.inferences ≡ e.inferences → result_in t d n p (Run list) ≡ run_on (state_in t e) m
 run_made t e d n m p list cs at next inferences =
     state_by (running (node_of t.view d list)) (running m) (choices_of t.view d) (choices_of t.view e)
-    d.next e.next d.inferences e.inferences t.output (ap running at) cs next inferences
+    d.next_variable e.next_variable d.inferences e.inferences t.output (ap running at) cs next inferences
 
 pub not_below : (a b : ℕ) → b ≤ a → nat_lt a b ≡ false
 not_below a b le = go (nat_lt a b) refl
@@ -66,10 +66,10 @@ same_limits t b e k =
     λ g. record { inferences = g.inferences; cells = g.cells; choices = g.choices; solutions = t.solutions; stays = t.stays } in
     ap limits k
 
-pub same_state : (t : Setting) (b e : Search) → choices_of t.view b ≡ choices_of t.view e → b.next ≡ e.next → b.inferences ≡ e.inferences
+pub same_state : (t : Setting) (b e : Search) → choices_of t.view b ≡ choices_of t.view e → b.next_variable ≡ e.next_variable → b.inferences ≡ e.inferences
     → state_in t b ≡ state_in t e
 same_state t b e cs next inferences =
-    state_by t.doing t.doing (choices_of t.view b) (choices_of t.view e) b.next e.next b.inferences e.inferences t.output refl cs next inferences
+    state_by t.doing t.doing (choices_of t.view b) (choices_of t.view e) b.next_variable e.next_variable b.inferences e.inferences t.output refl cs next inferences
 
 -- The same over a choice point that is made in equal states.
 pub over_same : (l m : Limits) (s u : State) (n : Node) (p : Proc) (c d : Choice) (first next : ℕ → List Pending)

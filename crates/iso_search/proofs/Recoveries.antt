@@ -59,7 +59,7 @@ module _ (t : Setting) (view : IsView t.view) (e : Search) (s u : Contents) (g :
 
   state_left : state_in t (record e { store = u }) ≡ state_in t e
   state_left =
-      state_by t.doing t.doing (choices_of t.view (record e { store = u })) (choices_of t.view e) e.next e.next e.inferences e.inferences t.output
+      state_by t.doing t.doing (choices_of t.view (record e { store = u })) (choices_of t.view e) e.next_variable e.next_variable e.inferences e.inferences t.output
       refl choices_left refl refl
 
   -- Nothing unifies them.
@@ -133,25 +133,25 @@ module _ (t : Setting) (view : IsView t.view) (e : Search) (s u : Contents) (g :
 
 -- The copy of the ball fits: its numbers and cells were taken, which led to the search `d`.
 pub at_catch_fits : (t : Setting) (e d : Search) (next count need : ℕ) (catcher recovery : Place) (ball : Tree)
-    → d ≡ record e { store = record e.store { used = d.store.used }; next = d.next }
-    → choices_of t.view d ≡ choices_of t.view e → d.next ≡ e.next + count → d.store.used ≡ e.store.used + need
+    → d ≡ record e { store = record e.store { used = d.store.used }; next_variable = d.next_variable }
+    → choices_of t.view d ≡ choices_of t.view e → d.next_variable ≡ e.next_variable + count → d.store.used ≡ e.store.used + need
     → IsCopyOf ball count need
     → fitted t e ball None ≡ fitting (limits_in t e) (state_in t e) (node_of t.view e next) ball
-    → ball_result (state_in t d) (node_of t.view d next) (reads t.view d.store catcher) (reads t.view d.store recovery) e.next ball
+    → ball_result (state_in t d) (node_of t.view d next) (reads t.view d.store catcher) (reads t.view d.store recovery) e.next_variable ball
     ≡ at_catch (state_in t e) (node_of t.view e next) (reads t.view e.store catcher) (reads t.view e.store recovery)
     (fitting (limits_in t e) (state_in t e) (node_of t.view e next) ball)
 at_catch_fits t e d next count need catcher recovery ball kept choices numbers used copy fits =
     let v = t.view in
     let s = state_in t e in
     let n = node_of v e next in
-    let state : state_in t d ≡ record s { next = e.next + variable_count ball } =
-    state_by t.doing t.doing (choices_of v d) (choices_of v e) d.next (e.next + variable_count ball) d.inferences e.inferences t.output
-    refl choices (numbers ∙ ap (λ k. e.next + k) copy.variables_are) (ap (λ (x : Search). x.inferences) kept) in
+    let state : state_in t d ≡ record s { next = e.next_variable + variable_count ball } =
+    state_by t.doing t.doing (choices_of v d) (choices_of v e) d.next_variable (e.next_variable + variable_count ball) d.inferences e.inferences t.output
+    refl choices (numbers ∙ ap (λ k. e.next_variable + k) copy.variables_are) (ap (λ (x : Search). x.inferences) kept) in
     let node : node_of v d next ≡ record n { used = e.store.used + cells ball } =
     ap (λ (x : Search). node_of v x next) kept ∙ ap (λ k. record n { used = k }) (used ∙ ap (λ k. e.store.used + k) copy.cells_are) in
-    ap₂ (λ (x : State) (m : Node). ball_result x m (reads v d.store catcher) (reads v d.store recovery) e.next ball) state node
-    ∙ ap (λ (x : Search). ball_unified (record s { next = e.next + variable_count ball }) (record n { used = e.store.used + cells ball }) ball
-    (reads v x.store recovery) (unify (rename e.next ball) (reads v x.store catcher))) kept
+    ap₂ (λ (x : State) (m : Node). ball_result x m (reads v d.store catcher) (reads v d.store recovery) e.next_variable ball) state node
+    ∙ ap (λ (x : Search). ball_unified (record s { next = e.next_variable + variable_count ball }) (record n { used = e.store.used + cells ball }) ball
+    (reads v x.store recovery) (unify (rename e.next_variable ball) (reads v x.store catcher))) kept
     ∙ ap (at_catch s n (reads v e.store catcher) (reads v e.store recovery)) fits
 
 pub copy_kept : (v : View) (kept ball : Tree) (count need : ℕ) → kept ≡ rename zero ball → count ≡ length (variables kept) → need ≡ cells kept
@@ -178,7 +178,7 @@ no_variables s (NotStatus p) name arity b = absurd b
 pub at_catch_error : (t : Setting) (e : Search) (next : ℕ) (catcher recovery : Place) (f : Fault) (ball error : Tree) → IsOfBudget f
     → error ≡ error_ball (fault_term (reads t.view e.store) f) catch_proc
     → fitted t e ball (Some f) ≡ fitting (limits_in t e) (state_in t e) (node_of t.view e next) ball
-    → ball_result (state_in t e) (node_of t.view e next) (reads t.view e.store catcher) (reads t.view e.store recovery) e.next error
+    → ball_result (state_in t e) (node_of t.view e next) (reads t.view e.store catcher) (reads t.view e.store recovery) e.next_variable error
     ≡ at_catch (state_in t e) (node_of t.view e next) (reads t.view e.store catcher) (reads t.view e.store recovery)
     (fitting (limits_in t e) (state_in t e) (node_of t.view e next) ball)
 at_catch_error t e next catcher recovery f ball error budget is fits =
@@ -187,19 +187,19 @@ at_catch_error t e next catcher recovery f ball error budget is fits =
     let n = node_of v e next in
     let c = reads v e.store catcher in
     let r = reads v e.store recovery in
-    ap (ball_result s n c r e.next) is
+    ap (ball_result s n c r e.next_variable) is
     ∙ go f budget
     ∙ ap (at_catch s n c r) fits
   where
     go : (x : Fault) → IsOfBudget x
-        → ball_result (state_in t e) (node_of t.view e next) (reads t.view e.store catcher) (reads t.view e.store recovery) e.next (error_ball (fault_term (reads t.view e.store) x) catch_proc)
+        → ball_result (state_in t e) (node_of t.view e next) (reads t.view e.store catcher) (reads t.view e.store recovery) e.next_variable (error_ball (fault_term (reads t.view e.store) x) catch_proc)
         ≡ at_catch (state_in t e) (node_of t.view e next) (reads t.view e.store catcher) (reads t.view e.store recovery) (fitted t e ball (Some x))
     go Inferences b =
         ap₂ (λ k u. ball_unified (record (state_in t e) { next = k }) (record (node_of t.view e next) { used = u }) (error_ball no_inferences catch_proc) (reads t.view e.store recovery)
-        (unify (rename e.next (error_ball no_inferences catch_proc)) (reads t.view e.store catcher))) (sym (add-zero e.next)) (sym (add-zero e.store.used))
+        (unify (rename e.next_variable (error_ball no_inferences catch_proc)) (reads t.view e.store catcher))) (sym (add-zero e.next_variable)) (sym (add-zero e.store.used))
     go Cells b =
         ap₂ (λ k u. ball_unified (record (state_in t e) { next = k }) (record (node_of t.view e next) { used = u }) (error_ball no_cells catch_proc) (reads t.view e.store recovery)
-        (unify (rename e.next (error_ball no_cells catch_proc)) (reads t.view e.store catcher))) (sym (add-zero e.next)) (sym (add-zero e.store.used))
+        (unify (rename e.next_variable (error_ball no_cells catch_proc)) (reads t.view e.store catcher))) (sym (add-zero e.next_variable)) (sym (add-zero e.store.used))
     go Choices b = absurd b
     go Instantiation b = absurd b
     go (NotCallable p) b = absurd b

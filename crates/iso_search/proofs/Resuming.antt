@@ -20,17 +20,17 @@ use Rattle.iso_search.specs.Reading.{reads}
 use Rattle.iso_search.specs.Searching.{node_of, choices_of}
 use Rattle.iso_search.proofs.Over.{state_by, same_limits}
 
-pub back_exhausted : (t : Setting) (e d : Search) → choices_of t.view e ≡ [] → choices_of t.view d ≡ [] → d.next ≡ e.next → d.inferences ≡ e.inferences
+pub back_exhausted : (t : Setting) (e d : Search) → choices_of t.view e ≡ [] → choices_of t.view d ≡ [] → d.next_variable ≡ e.next_variable → d.inferences ≡ e.inferences
     → back_result t d Exhausted ≡ gone_back (limits_in t e) (state_in t e) (choices_of t.view e)
 unfolding gone_back
 back_exhausted t e d none left next inferences =
-    state_by (ended no_more) (ended no_more) (choices_of t.view d) (choices_of t.view e) d.next e.next d.inferences e.inferences t.output
+    state_by (ended no_more) (ended no_more) (choices_of t.view d) (choices_of t.view e) d.next_variable e.next_variable d.inferences e.inferences t.output
     refl (left ∙ sym none) next inferences
     ∙ sym (ap (gone_back (limits_in t e) (state_in t e)) none)
 
 module _ (t : Setting) (e d : Search) (list : ℕ) (a : Alternative)
     (back : choices_of t.view e ≡ choice_at t.view (reads t.view d.store) (node_of t.view d list) a ∷ choices_of t.view d)
-    (next : d.next ≡ e.next) (inferences : d.inferences ≡ e.inferences) where
+    (next : d.next_variable ≡ e.next_variable) (inferences : d.inferences ≡ e.inferences) where
   newest : (b : Alternative) → a ≡ b → choices_of t.view e ≡ choice_at t.view (reads t.view d.store) (node_of t.view d list) b ∷ choices_of t.view d
   newest b is = back ∙ ap (λ x. choice_at t.view (reads t.view d.store) (node_of t.view d list) x ∷ choices_of t.view d) is
 
@@ -38,19 +38,19 @@ module _ (t : Setting) (e d : Search) (list : ℕ) (a : Alternative)
   unfolding gone_back
   back_branch is =
       state_by (running (node_of t.view d list)) (running (node_of t.view d list)) (choices_of t.view d) (choices_of t.view d)
-      d.next e.next d.inferences e.inferences t.output refl refl next inferences
+      d.next_variable e.next_variable d.inferences e.inferences t.output refl refl next inferences
       ∙ sym (ap (gone_back (limits_in t e) (state_in t e)) (newest Branch is))
 
   pub back_barrier : t.doing ≡ failing → a ≡ Barrier → back_result t d Fail ≡ gone_back (limits_in t e) (state_in t e) (choices_of t.view e)
   unfolding gone_back
   back_barrier fails is =
-      state_by failing t.doing (choices_of t.view d) (choices_of t.view d) d.next e.next d.inferences e.inferences t.output (sym fails) refl next inferences
+      state_by failing t.doing (choices_of t.view d) (choices_of t.view d) d.next_variable e.next_variable d.inferences e.inferences t.output (sym fails) refl next inferences
       ∙ sym (ap (gone_back (limits_in t e) (state_in t e)) (newest Barrier is))
 
   pub back_catch : t.doing ≡ failing → (c r : Place) → a ≡ Catch c r → back_result t d Fail ≡ gone_back (limits_in t e) (state_in t e) (choices_of t.view e)
   unfolding gone_back
   back_catch fails c r is =
-      state_by failing t.doing (choices_of t.view d) (choices_of t.view d) d.next e.next d.inferences e.inferences t.output (sym fails) refl next inferences
+      state_by failing t.doing (choices_of t.view d) (choices_of t.view d) d.next_variable e.next_variable d.inferences e.inferences t.output (sym fails) refl next inferences
       ∙ sym (ap (gone_back (limits_in t e) (state_in t e)) (newest (Catch c r) is))
 
   pub back_clauses : d.budgets ≡ e.budgets → (g : Place) (generation place : ℕ) → a ≡ Clauses g generation place
@@ -59,7 +59,7 @@ module _ (t : Setting) (e d : Search) (list : ℕ) (a : Alternative)
   back_clauses budgets g generation place is =
       ap₂ (λ l s. next_clause l resolving s (reads t.view d.store g) (node_of t.view d list) (t.view.left (reads t.view d.store g) generation place))
       (same_limits t d e budgets)
-      (state_by t.doing t.doing (choices_of t.view d) (choices_of t.view d) d.next e.next d.inferences e.inferences t.output refl refl next inferences)
+      (state_by t.doing t.doing (choices_of t.view d) (choices_of t.view d) d.next_variable e.next_variable d.inferences e.inferences t.output refl refl next inferences)
       ∙ sym (ap (gone_back (limits_in t e) (state_in t e)) (newest (Clauses g generation place) is))
 
   pub back_answers : d.budgets ≡ e.budgets → (g : Place) (line : ℕ) → a ≡ Answers g line
@@ -69,7 +69,7 @@ module _ (t : Setting) (e d : Search) (list : ℕ) (a : Alternative)
       let r = reads t.view d.store g in
       ap₂ (λ l s. next_answer l s (node_of t.view d list) (proc_of r) (arguments r) (unifying (arguments r) (drop line (lines_of r))))
       (same_limits t d e budgets)
-      (state_by t.doing t.doing (choices_of t.view d) (choices_of t.view d) d.next e.next d.inferences e.inferences t.output refl refl next inferences)
+      (state_by t.doing t.doing (choices_of t.view d) (choices_of t.view d) d.next_variable e.next_variable d.inferences e.inferences t.output refl refl next inferences)
       ∙ sym (ap (gone_back (limits_in t e) (state_in t e)) (newest (Answers g line) is))
 
   pub back_findall : d.budgets ≡ e.budgets → (l : Place) (f : Collection) → a ≡ Findall l f
@@ -78,5 +78,5 @@ module _ (t : Setting) (e d : Search) (list : ℕ) (a : Alternative)
   back_findall budgets l f is =
       ap₂ (λ m s. list_made m s (node_of t.view d list) (reads t.view d.store l) (copies_of t.view f))
       (same_limits t d e budgets)
-      (state_by t.doing t.doing (choices_of t.view d) (choices_of t.view d) d.next e.next d.inferences e.inferences t.output refl refl next inferences)
+      (state_by t.doing t.doing (choices_of t.view d) (choices_of t.view d) d.next_variable e.next_variable d.inferences e.inferences t.output refl refl next inferences)
       ∙ sym (ap (gone_back (limits_in t e) (state_in t e)) (newest (Findall l f) is))

@@ -100,8 +100,8 @@ pub cut_made : (t : Setting) (e d : Search) (g : Tree) (h rest : ℕ) → choice
 cut_made t e d g h rest choices kept =
     let v = t.view in
     let n = node_of v e rest in
-    ap goes (state_by (running (node_of v d rest)) (running n) (choices_of v d) (up_to h (choices_of v e)) d.next e.next d.inferences e.inferences t.output
-    (ap (λ (x : Search). running (node_of v x rest)) kept) choices (ap (λ (x : Search). x.next) kept) (ap (λ (x : Search). x.inferences) kept))
+    ap goes (state_by (running (node_of v d rest)) (running n) (choices_of v d) (up_to h (choices_of v e)) d.next_variable e.next_variable d.inferences e.inferences t.output
+    (ap (λ (x : Search). running (node_of v x rest)) kept) choices (ap (λ (x : Search). x.next_variable) kept) (ap (λ (x : Search). x.inferences) kept))
     ∙ cut_off (limits_in t e) (state_in t e) n g h
 
 -- A construct that makes an inference is run as one at each height of a cut, or it is none.

@@ -24,8 +24,8 @@ pub some_view : View
 some_view = record { names = λ a. None; left = λ t g p. [] }
 
 -- The store has gained terms, variables, bindings or cells.
-pub whole_added : (e : Search) (s : Contents) (next : ℕ) → Adds e.store s → s.budget ≡ e.store.budget → e.next ≤ next → IsAbove next s → IsWhole e
-    → IsWhole (record e { store = s; next = next })
+pub whole_added : (e : Search) (s : Contents) (next : ℕ) → Adds e.store s → s.budget ≡ e.store.budget → e.next_variable ≤ next → IsAbove next s → IsWhole e
+    → IsWhole (record e { store = s; next_variable = next })
 whole_added e s next adds budget le above w =
     record {
       base = base_added e.answer.items e.store s e.frames.items adds w.base;
@@ -36,7 +36,7 @@ whole_added e s next adds budget le above w =
           ∙ w.budget v;
       above = above;
       older =
-          All-weaker (λ k. IsOlder e.next k.alternative) (λ k. IsOlder next k.alternative) (λ k h. older_later e.next next le k.alternative h)
+          All-weaker (λ k. IsOlder e.next_variable k.alternative) (λ k. IsOlder next k.alternative) (λ k h. older_later e.next_variable next le k.alternative h)
           (reverse e.choices.items) w.older;
     }
 
@@ -58,11 +58,11 @@ module _ (e : Search) (ks : List ChoicePoint) (k : ChoicePoint) (split : e.choic
   pub rests_here : AreRests ws e.store fs (k ∷ reverse ks)
   rests_here = subst (AreRests ws e.store fs) turned w.rests
 
-  older_here : All (λ (x : ChoicePoint). IsOlder e.next x.alternative) (k ∷ reverse ks)
-  older_here = subst (All (λ (x : ChoicePoint). IsOlder e.next x.alternative)) turned w.older
+  older_here : All (λ (x : ChoicePoint). IsOlder e.next_variable x.alternative) (k ∷ reverse ks)
+  older_here = subst (All (λ (x : ChoicePoint). IsOlder e.next_variable x.alternative)) turned w.older
 
-  pub newest_older : IsOlder e.next k.alternative
-  newest_older = All-head (λ (x : ChoicePoint). IsOlder e.next x.alternative) k (reverse ks) older_here
+  pub newest_older : IsOlder e.next_variable k.alternative
+  newest_older = All-head (λ (x : ChoicePoint). IsOlder e.next_variable x.alternative) k (reverse ks) older_here
 
   pub choices_here : (v : View) → choices_of v e
       ≡ choice_at v (reads v (back_to k.mark e.store)) (node_behind v ws e.store fs k) k.alternative
@@ -103,8 +103,8 @@ module _ (e : Search) (ks : List ChoicePoint) (k : ChoicePoint) (split : e.choic
             ap (λ cs. b + collected_cells cs) (sym older) ∙ moved e.store.budget (cells_held k.alternative) _ ∙ counted_here v;
         above = w.above;
         older =
-            subst (All (λ (x : ChoicePoint). IsOlder e.next x.alternative)) (sym turned_left)
-            (All-tail (λ (x : ChoicePoint). IsOlder e.next x.alternative) k (reverse ks) older_here);
+            subst (All (λ (x : ChoicePoint). IsOlder e.next_variable x.alternative)) (sym turned_left)
+            (All-tail (λ (x : ChoicePoint). IsOlder e.next_variable x.alternative) k (reverse ks) older_here);
       })
 
   -- It is gone back to.
@@ -129,10 +129,10 @@ module _ (e : Search) (ks : List ChoicePoint) (k : ChoicePoint) (split : e.choic
             λ v. both (λ l cs. b + collected_cells (choices_at v ws (with_budget s b) l cs) ≡ e.budgets.cells)
             (ap (λ cs. b + collected_cells cs) (choices_budget v ws s (take k.frames fs) (reverse ks) b)
             ∙ moved e.store.budget (cells_held k.alternative) _ ∙ counted_here v);
-        above = All-take (λ m. m < e.next) k.mark.numbers e.store.heap.numbers w.above;
+        above = All-take (λ m. m < e.next_variable) k.mark.numbers e.store.heap.numbers w.above;
         older =
-            subst (All (λ (x : ChoicePoint). IsOlder e.next x.alternative)) (sym turned_left)
-            (All-tail (λ (x : ChoicePoint). IsOlder e.next x.alternative) k (reverse ks) older_here);
+            subst (All (λ (x : ChoicePoint). IsOlder e.next_variable x.alternative)) (sym turned_left)
+            (All-tail (λ (x : ChoicePoint). IsOlder e.next_variable x.alternative) k (reverse ks) older_here);
       })
 
   pub choices_back : (d : Search) → d.choices.items ≡ ks → d.frames.items ≡ take k.frames fs
@@ -174,6 +174,6 @@ whole_chosen e d k kept more rests none inside choices w =
           ∙ w.budget v;
       above = w.above;
       older =
-          subst (All (λ (y : ChoicePoint). IsOlder e.next y.alternative)) (sym turned)
-          (All-cons (λ (y : ChoicePoint). IsOlder e.next y.alternative) k (reverse e.choices.items) (older_empty e.next k.alternative none) w.older);
+          subst (All (λ (y : ChoicePoint). IsOlder e.next_variable y.alternative)) (sym turned)
+          (All-cons (λ (y : ChoicePoint). IsOlder e.next_variable y.alternative) k (reverse e.choices.items) (older_empty e.next_variable k.alternative none) w.older);
     })

@@ -37,7 +37,7 @@ IsBackIn e Fail = Unit {0}
 IsBackIn e (Retry goal generation place next) = Holds e.store goal × (next ≤ length e.frames.items)
 IsBackIn e (Answers goal line next) = Holds e.store goal × (next ≤ length e.frames.items)
 IsBackIn e (Found list found next) =
-    Holds e.store list × ((next ≤ length e.frames.items) × (IsCollectionIn e.store found × Rise zero found.copies.items e.next))
+    Holds e.store list × ((next ≤ length e.frames.items) × (IsCollectionIn e.store found × Rise zero found.copies.items e.next_variable))
 
 -- What is to be tried was the newest choice point.
 abbrev pub IsTaken : Search → Search → Back → Type 0

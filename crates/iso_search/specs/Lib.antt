@@ -1,3 +1,4 @@
+pub mod BallCells
 pub mod Budgeting
 pub mod Calling
 pub mod Choices

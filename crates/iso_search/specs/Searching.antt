@@ -19,12 +19,12 @@ choices_of v e = choices_at v e.answer.items e.store e.frames.items (reverse e.c
 -- The state of the search, with what it does and what was written.
 abbrev pub state_of : View → Search → Doing → List Output → State
 state_of v e doing output =
-    record { doing = doing; choices = choices_of v e; next = e.next; inferences = e.inferences; output = output }
+    record { doing = doing; choices = choices_of v e; next = e.next_variable; inferences = e.inferences; output = output }
 
 pub record IsWhole (e : Search) : Type 0 where
   pub base : IsBase e.answer.items e.store e.frames.items
   pub rests : AreRests e.answer.items e.store e.frames.items (reverse e.choices.items)
   -- What running calls of findall/3 have collected is taken away from the budget of the store.
   pub budget : (v : View) → e.store.budget + collected_cells (choices_of v e) ≡ e.budgets.cells
-  pub above : IsAbove e.next e.store
-  pub older : All (λ k. IsOlder e.next k.alternative) (reverse e.choices.items)
+  pub above : IsAbove e.next_variable e.store
+  pub older : All (λ k. IsOlder e.next_variable k.alternative) (reverse e.choices.items)

@@ -1,12 +1,14 @@
 //! Balls, which stay as they are when the store goes back (ISO 7.8.10).
-ghost use Rattle.std.specs.Prelude.{◌≡◌, ◌++◌, zero, IfOk, OnOk};
+ghost use Rattle.std.specs.Prelude.{◌≡◌, ◌<◌, ◌≤◌, [], length, zero, IfOk, IsTrue};
+ghost use Rattle.pl_term.specs.Cells.{cells};
 ghost use Rattle.pl_term.specs.Nodes.{nodes};
 ghost use Rattle.pl_term.specs.Tree.{atom, comp, more, none};
-ghost use Rattle.pl_term.specs.Variables.{rename};
+ghost use Rattle.pl_term.specs.Variables.{rename, variables};
 ghost use Rattle.pl_model.specs.Balls.{error_ball};
 ghost use Rattle.term_store.specs.Heap.{atom_name};
 ghost use Rattle.term_store.specs.Nodes.{node_views};
-ghost use Rattle.term_store.specs.Contents.{Holds, term_at};
+ghost use Rattle.term_store.specs.Contents.{Holds, numbers_of, term_at};
+ghost use Rattle.term_copies.specs.Parts.{StandsFor};
 ghost use Rattle.iso_search.specs.Errors.{IsFaultIn, error_tree, fault_tree};
 ghost use Rattle.iso_search.specs.Outcomes.{fault_term};
 ghost use Rattle.iso_search.specs.Reading.{View, IsView, reads};
@@ -17,51 +19,80 @@ use atom_api::{Atom, fixed};
 use pl_term::Memory;
 use std::alloc::Global;
 use std::marker::Model;
+use term_copies::copy_into;
 use term_store::{AtomNode, Place, Store, Stored};
 
-/// A term that is thrown, seen by contracts as that term. Its variables have the numbers that they had in the store.
+/// A term that is thrown, seen by contracts as that term. Its variables have the numbers that they had in the store. It stands
+/// in a store of its own, in which each part that it shares stands once. Beside it stand the cells of its compound terms, if
+/// they are fewer than 2^64.
 #[derive(Drop)]
 pub struct Ball {
-    all: Vec<AtomNode>,
+    own: Box<Store>,
+    place: Place,
+    cells: Option<u64>,
 }
 
 impl Model for Ball {
-    ghost use Rattle.std.specs.Prelude.{◌≡◌};
     ghost use Rattle.pl_term.specs.Tree.{Tree};
-    ghost use Rattle.pl_term.specs.Nodes.{nodes, tree, coded_tree};
-    ghost use Rattle.term_store.specs.Nodes.{node_views};
+    ghost use Rattle.pl_term.specs.Nodes.{coded_tree};
+    ghost use Rattle.term_store.specs.Contents.{Holds, term_at};
+    ghost use Rattle.iso_search.specs.BallCells.{IsCount};
 
     ghost Value = { Tree };
 
     ghost coded = { coded_tree };
 
-    ghost view = { λ b. tree (node_views b.all.items) };
+    ghost view = { λ b. term_at b.own.value b.place };
 
-    ghost invariant = { λ b. nodes (tree (node_views b.all.items)) ≡ node_views b.all.items };
+    ghost invariant = { λ b. Holds b.own.value b.place × IsCount (term_at b.own.value b.place) b.cells };
 }
 
 impl Ball {
     /// The term at a place. The only error is out of memory.
-    pub fn at(store: &Store, place: Place) -> Result<Ball, Memory>
+    pub fn at(alloc: Global, store: &Store, place: Place) -> Result<Ball, Memory>
         requires { Holds store.now place }
         ensures { IfOk result (λ b. b ≡ term_at store.now place) }
     {
-        let all = store.nodes(place)?;
-        Ok(Ball { all })
+        let mut own = Store::new(alloc, 0)?;
+        let copy = copy_into(alloc, store, place, &mut own)?;
+        kept(alloc, own, copy)
     }
 
-    /// The term's nodes in prefix order.
-    pub fn nodes(&self) -> &[AtomNode]
-        ensures { node_views result.now ≡ nodes self.now }
+    /// Whether a number is above those of all variables of the term.
+    pub fn is_below(&self, number: u64) -> bool
+        ensures { IsTrue result → length (variables self.now) ≤ number }
     {
-        self.all.as_slice()
+        let own: &Store = &self.own;
+        let _mark = own.mark();
+        own.is_above(number)
+    }
+
+    /// Whether the term is known to have more cells than the limit. It is not where its compound terms alone have no more.
+    pub fn is_larger(&self, limit: u64) -> bool
+        ensures { IsTrue result → limit < cells self.now }
+    {
+        match self.cells {
+            Some(count) => limit < count,
+            None => true,
+        }
+    }
+
+    /// The term's nodes in prefix order. The only error is out of memory, which is found at once where there is no room for as
+    /// many nodes as the term has cells.
+    pub fn nodes(&self, alloc: Global) -> Result<Vec<AtomNode>, Memory>
+        ensures { IfOk result (λ v. node_views v.items ≡ nodes self.now) }
+    {
+        find_room(alloc, self.cells)?;
+        let own: &Store = &self.own;
+        own.nodes(self.place)
     }
 
     /// The term as it is kept, its variables numbered from 0 on. The only error is out of memory.
-    pub fn stored(&self, alloc: Global) -> Result<Stored, Memory>
+    pub fn stored(&self) -> Result<Stored, Memory>
         ensures { IfOk result (λ s. s ≡ rename zero self.now) }
     {
-        Stored::from_nodes(alloc, &self.all)
+        let own: &Store = &self.own;
+        own.save(self.place)
     }
 
     /// The ball of an error in the predicate with this name and this number of arguments. The only error is out of memory.
@@ -81,72 +112,107 @@ impl Ball {
         let Ok(count) = i64::try_from(arity) else {
             return Err(Memory);
         };
-        let mut all = Vec::new(alloc);
-        all.push(AtomNode::Comp(fixed::ERROR.slot(), 2))?;
-        push_fault(store, &mut all, fault)?;
-        all.push(AtomNode::Comp(fixed::SLASH.slot(), 2))?;
-        all.push(AtomNode::Atom(name.slot()))?;
-        all.push(AtomNode::Int(count))?;
-        Ok(Ball { all })
+        let mut own = Store::new(alloc, 0)?;
+        let term = fault_in(alloc, store, &mut own, fault)?;
+        let parts = [Place::atom(name), Place::integer(count)];
+        let indicator = own.make_compound(fixed::SLASH, &parts)?;
+        let arguments = [term, indicator];
+        let place = own.make_compound(fixed::ERROR, &arguments)?;
+        kept(alloc, own, place)
     }
 }
 
-/// Puts the nodes of an error term after the others.
-fn push_fault(store: &Store, all: &mut Vec<AtomNode>, fault: Fault) -> Result<(), Memory>
-    requires { IsFaultIn store.now fault }
-    ensures { OnOk result (node_views all.new.items ≡ node_views all.old.items ++ nodes (fault_tree store.now fault)) }
+/// The ball that stands at a place of a store of its own. The only error is out of memory.
+fn kept(alloc: Global, mut own: Store, place: Place) -> Result<Ball, Memory>
+    requires { Holds own place }
+    ensures { IfOk result (λ b. b ≡ term_at own place) }
+{
+    let cells = own.compound_cells(place)?;
+    let own = Box::new(alloc, own)?;
+    Ok(Ball { own, place, cells })
+}
+
+/// Whether there is room for so many nodes. The only error is that there is none.
+fn find_room(alloc: Global, cells: Option<u64>) -> Result<(), Memory> {
+    let Some(count) = cells else {
+        return Err(Memory);
+    };
+    let Ok(count) = usize::try_from(count) else {
+        return Err(Memory);
+    };
+    let room: Vec<AtomNode> = Vec::with_capacity(alloc, count)?;
+    drop(room);
+    Ok(())
+}
+
+/// Makes an error term in a ball's own store, which has no variables. The only error is out of memory.
+fn fault_in(alloc: Global, store: &Store, own: &mut Store, fault: Fault) -> Result<Place, Memory>
+    requires fault { IsFaultIn store.now fault }
+    requires empty { numbers_of own.old ≡ [] }
+    ensures { IfOk result (StandsFor own.new (fault_tree store.now fault)) }
 {
     match fault {
-        Fault::Inferences => push_resource(all, fixed::INFERENCES),
-        Fault::Cells => push_resource(all, fixed::CELLS),
-        Fault::Choices => push_resource(all, fixed::CHOICES),
-        Fault::Instantiation => {
-            all.push(AtomNode::Atom(fixed::INSTANTIATION_ERROR.slot()))?;
-            Ok(())
-        }
-        Fault::NotCallable(culprit) => {
-            push_culprit(store, all, fixed::TYPE_ERROR, fixed::CALLABLE, culprit)
-        }
-        Fault::NotInteger(culprit) => {
-            push_culprit(store, all, fixed::TYPE_ERROR, fixed::INTEGER, culprit)
-        }
-        Fault::NotList(culprit) => push_culprit(
+        Fault::Inferences => resource_in(own, fixed::INFERENCES),
+        Fault::Cells => resource_in(own, fixed::CELLS),
+        Fault::Choices => resource_in(own, fixed::CHOICES),
+        Fault::Instantiation => Ok(Place::atom(fixed::INSTANTIATION_ERROR)),
+        Fault::NotCallable(culprit) => culprit_in(
+            alloc,
             store,
-            all,
+            own,
+            fixed::TYPE_ERROR,
+            fixed::CALLABLE,
+            culprit,
+        ),
+        Fault::NotInteger(culprit) => culprit_in(
+            alloc,
+            store,
+            own,
+            fixed::TYPE_ERROR,
+            fixed::INTEGER,
+            culprit,
+        ),
+        Fault::NotList(culprit) => culprit_in(
+            alloc,
+            store,
+            own,
             fixed::TYPE_ERROR,
             fixed::LIST,
             culprit,
         ),
-        Fault::NotStatus(culprit) => {
-            push_culprit(store, all, fixed::DOMAIN_ERROR, fixed::EXIT_STATUS, culprit)
-        }
+        Fault::NotStatus(culprit) => culprit_in(
+            alloc,
+            store,
+            own,
+            fixed::DOMAIN_ERROR,
+            fixed::EXIT_STATUS,
+            culprit,
+        ),
     }
 }
 
-/// Puts the nodes of the error that this budget is spent after the others (ISO 7.12.2 h).
-fn push_resource(all: &mut Vec<AtomNode>, resource: Atom) -> Result<(), Memory>
-    ensures { OnOk result (node_views all.new.items ≡ node_views all.old.items ++ nodes (comp (atom_name 152) (atom (atom_name resource)) none)) }
+/// Makes the error that this budget is spent (ISO 7.12.2 h). The only error is out of memory.
+fn resource_in(own: &mut Store, resource: Atom) -> Result<Place, Memory>
+    ensures { IfOk result (StandsFor own.new (comp (atom_name 152) (atom (atom_name resource)) none)) }
 {
-    all.push(AtomNode::Comp(fixed::RESOURCE_ERROR.slot(), 1))?;
-    all.push(AtomNode::Atom(resource.slot()))?;
-    Ok(())
+    let arguments = [Place::atom(resource)];
+    own.make_compound(fixed::RESOURCE_ERROR, &arguments)
 }
 
-/// Puts the nodes of an error of this name, kind and culprit after the others (ISO 7.12.2 b and c).
-fn push_culprit(
+/// Makes an error of this name, kind and culprit (ISO 7.12.2 b and c). The only error is out of memory.
+fn culprit_in(
+    alloc: Global,
     store: &Store,
-    all: &mut Vec<AtomNode>,
+    own: &mut Store,
     name: Atom,
     kind: Atom,
     culprit: Place,
-) -> Result<(), Memory>
-    requires { Holds store.now culprit }
-    ensures { OnOk result (node_views all.new.items
-        ≡ node_views all.old.items ++ nodes (comp (atom_name name) (atom (atom_name kind)) (more (term_at store.now culprit) none))) }
+) -> Result<Place, Memory>
+    requires culprit { Holds store.now culprit }
+    requires empty { numbers_of own.old ≡ [] }
+    ensures { IfOk result (StandsFor own.new (comp (atom_name name) (atom (atom_name kind)) (more (term_at store.now culprit) none))) }
 {
-    let of_culprit = store.nodes(culprit)?;
-    all.push(AtomNode::Comp(name.slot(), 2))?;
-    all.push(AtomNode::Atom(kind.slot()))?;
-    all.extend_from_slice(&of_culprit)?;
-    Ok(())
+    let copy = copy_into(alloc, store, culprit, own)?;
+    let arguments = [Place::atom(kind), copy];
+    own.make_compound(name, &arguments)
 }

@@ -40,21 +40,21 @@ impl Search {
         ensures choices { (v : View) → choices_of v self.new ≡ choices_of v self.old }
         ensures fits { (t : Setting) (list : ℕ) (ball : Tree) → IsCopyOf ball variables cells
             → fitted t self.old ball result ≡ fitting (limits_in t self.old) (state_in t self.old) (node_of t.view self.old list) ball }
-        ensures taken { IfNone result (self.new.next ≡ self.old.next + variables) }
+        ensures taken { IfNone result (self.new.next_variable ≡ self.old.next_variable + variables) }
         ensures used { IfNone result (self.new.store.used ≡ self.old.store.used + cells) }
         ensures budgets { IfSome result IsOfBudget }
         ensures refused { IfSome result (λ _. self.new ≡ self.old) }
         ensures kept { self.new ≡ record self.old {
           store = record self.old.store { used = self.new.store.used };
-          next = self.new.next;
+          next_variable = self.new.next_variable;
         } }
     {
-        if variables > u64::MAX - self.next {
+        if variables > u64::MAX - self.next_variable {
             return Some(Fault::Inferences);
         }
         match self.store.charge(cells) {
             Ok(()) => {
-                self.next += variables;
+                self.next_variable += variables;
                 None
             }
             Err(_) => Some(Fault::Cells),

@@ -58,7 +58,7 @@ impl Search {
         ensures step { (t : Setting) → t.doing ≡ failing
             → back_result t self.new result ≡ gone_back (limits_in t self.old) (state_in t self.old) (choices_of t.view self.old) }
     {
-        let Some(k) = self.go_back() else {
+        let Some(k) = self.backtrack() else {
             return Back::Exhausted;
         };
         let ChoicePoint {

@@ -18,13 +18,11 @@ use crate::control::Exit;
 use crate::copies::{Collection, Copied};
 use crate::lists::{is_list_or_partial, make_list};
 use crate::outcome::{Fault, Outcome};
+use crate::recovering::MOST_DOUBLED;
 use crate::search::Search;
 use pl_term::Memory;
 use std::alloc::Global;
 use term_store::{Place, Store, View as Kind};
-
-/// The greatest number whose double is below 2^64.
-const MOST_DOUBLED: u64 = 9_223_372_036_854_775_807;
 
 impl Search {
     /// `findall/3` of a template, a goal and a list: calls the goal over a choice point that collects, in which a cut is
@@ -88,15 +86,15 @@ impl Search {
         let term = self.store.save(template)?;
         let cells = term.cells();
         let count = term.variables();
-        if count > u64::MAX - self.next {
+        if count > u64::MAX - self.next_variable {
             return Ok(Outcome::Raise(Fault::Inferences));
         }
         match self.store.reserve(cells) {
             Err(_) => Ok(Outcome::Raise(Fault::Cells)),
             Ok(()) => {
                 let _most = self.budgets.cells;
-                let from = self.next;
-                self.next += count;
+                let from = self.next_variable;
+                self.next_variable += count;
                 let joined = join(&mut self.choices, height, Copied { term, from })?;
                 if !joined {
                     self.store.release(cells);
@@ -112,9 +110,9 @@ impl Search {
         requires whole { IsWhole self.now }
         requires place { Holds self.now.store place }
         ensures cells { IfOk result (λ b. IsTrue b → self.now.budgets.cells < cells (term_at self.now.store place)) }
-        ensures numbers { IfOk result (λ b. IsTrue b → self.now.next + length (variables (term_at self.now.store place)) < 2 ^ 64) }
+        ensures numbers { IfOk result (λ b. IsTrue b → self.now.next_variable + length (variables (term_at self.now.store place)) < 2 ^ 64) }
     {
-        if self.next > MOST_DOUBLED {
+        if self.next_variable > MOST_DOUBLED {
             return Ok(false);
         }
         let _here = self.store.mark();
@@ -134,7 +132,7 @@ impl Search {
         requires whole { IsWhole self.old }
         requires list { Holds self.old.store list }
         requires found { IsCollectionIn self.old.store found }
-        requires rise { Rise zero found.copies.items self.old.next }
+        requires rise { Rise zero found.copies.items self.old.next_variable }
         ensures whole { OnOk result (IsWhole self.new) }
         ensures after { IfOk result (IsAfter self.old self.new) }
         ensures step { IfOk result (λ o. (t : Setting) → IsView t.view
@@ -142,7 +140,7 @@ impl Search {
             result_in t self.new n findall_proc o
             ≡ list_made (limits_in t self.old) (state_in t self.old) n (reads t.view self.old.store list) (copies_of t.view found)) }
     {
-        let _next = self.next;
+        let _next = self.next_variable;
         let _most = self.budgets.cells;
         let Some(need) = list_cells(&found) else {
             return Ok(Outcome::Raise(Fault::Cells));
@@ -161,12 +159,12 @@ impl Search {
     fn build_list(&mut self, alloc: Global, copies: &[Copied]) -> Result<Place, Memory>
         requires whole { IsWhole self.old }
         requires above { All (λ c. IsAbove c.from self.old.store) copies.now }
-        requires rise { Rise zero copies.now self.old.next }
+        requires rise { Rise zero copies.now self.old.next_variable }
         ensures whole { OnOk result (IsWhole self.new) }
         ensures built { IfOk result (λ p. IsListBuilt self.old.store (map copy_over copies.now) self.new.store p) }
         ensures kept { self.new ≡ record self.old { store = self.new.store } }
     {
-        let _next = self.next;
+        let _next = self.next_variable;
         let items = build_all(alloc, &mut self.store, copies)?;
         let place = make_list(&mut self.store, &items)?;
         Ok(place)

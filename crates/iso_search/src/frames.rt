@@ -25,7 +25,7 @@ pub enum Task {
 #[derive(Clone, Copy, Debug, Drop)]
 pub struct Frame {
     pub task: Task,
-    pub next: usize,
+    pub continuation: usize,
 }
 
 /// The list with this task in front. The only error is out of memory.
@@ -35,17 +35,20 @@ pub fn push_task(frames: &mut Vec<Frame>, task: Task, next: usize) -> Result<usi
     ensures linked { AreLinked frames.new.items }
     ensures list { IfOk result (λ k. (tasks frames.new.items k ≡ task ∷ tasks frames.old.items next) × (k ≤ length frames.new.items)) }
     ensures others { (j : ℕ) → j ≤ length frames.old.items → tasks frames.new.items j ≡ tasks frames.old.items j }
-    ensures longer { OnOk result (frames.new.items ≡ frames.old.items ++ record { task = task; next = next } ∷ []) }
+    ensures longer { OnOk result (frames.new.items ≡ frames.old.items ++ record { task = task; continuation = next } ∷ []) }
     ensures kept { OnErr result (frames.new.items ≡ frames.old.items) }
 {
-    frames.push(Frame { task, next })?;
+    frames.push(Frame {
+        task,
+        continuation: next,
+    })?;
     Ok(frames.len())
 }
 
 /// The first task of the list, with the list of the others.
 pub fn first_task(frames: &[Frame], list: usize) -> Option<Frame>
     requires { AreLinked frames.now }
-    ensures { MatchOption result (tasks frames.now list ≡ []) (λ f. (tasks frames.now list ≡ f.task ∷ tasks frames.now f.next) × ((f.next ≤ length frames.now) × (f.next < list))) }
+    ensures { MatchOption result (tasks frames.now list ≡ []) (λ f. (tasks frames.now list ≡ f.task ∷ tasks frames.now f.continuation) × ((f.continuation ≤ length frames.now) × (f.continuation < list))) }
 {
     if list == 0 {
         return None;

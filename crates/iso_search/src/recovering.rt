@@ -1,11 +1,12 @@
 //! What is done with a ball at a catch (ISO 7.8.9, 7.8.10).
-ghost use Rattle.std.specs.Prelude.{◌≡◌, ◌≤◌, ◌+◌, ◌<◌, ◌^◌, zero, length, IfOk, OnOk};
+ghost use Rattle.std.specs.Prelude.{◌≡◌, ◌≤◌, ◌+◌, ◌<◌, ◌^◌, zero, length, IfOk, IsTrue, OnOk};
+ghost use Rattle.pl_term.specs.Cells.{cells};
 ghost use Rattle.pl_term.specs.Variables.{rename, variables};
 ghost use Rattle.pl_model.specs.Control.{at_catch, fitting};
 ghost use Rattle.term_store.specs.Contents.{Adds, Builds, Holds, IsAbove, Unified};
 ghost use Rattle.iso_search.specs.Outcomes.{Setting, limits_in, state_in};
 ghost use Rattle.iso_search.specs.Reading.{IsView, reads};
-ghost use Rattle.iso_search.specs.Recovering.{IsRecoveryIn, ball_result, recovery_result};
+ghost use Rattle.iso_search.specs.Recovering.{IsBallTaking, IsRecoveryIn, ball_result, recovery_result};
 ghost use Rattle.iso_search.specs.Searching.{IsWhole, node_of};
 ghost use Rattle.iso_search.specs.Spelling.{spelled, text_of};
 
@@ -19,6 +20,18 @@ use atom_api::fixed;
 use pl_term::Memory;
 use std::alloc::Global;
 use term_store::{Place, Stored};
+
+/// The greatest number whose double is below 2^64.
+pub const MOST_DOUBLED: u64 = 9_223_372_036_854_775_807;
+
+/// Whether a ball fits at a catch.
+#[derive(Drop)]
+pub enum BallTaking {
+    /// The numbers and cells of a copy were taken: the ball as it is kept.
+    Taken(Stored),
+    /// This budget has no room for a copy.
+    Refused(Fault),
+}
 
 /// What comes of a ball at a catch.
 #[derive(Drop)]
@@ -52,20 +65,52 @@ impl Search {
             recovery_result t self.new point.next o
             ≡ at_catch s n (r point.catcher) (r point.recovery) (fitting (limits_in t self.old) s n (spelled (text_of t.view.names) ball))) }
     {
-        let stored = ball.stored(alloc)?;
-        let from = self.next;
-        match self.take(stored.variables(), stored.cells()) {
-            None => {
-                let recovery = self.meet_catcher(alloc, ball, stored, from, point)?;
+        let from = self.next_variable;
+        let taking = self.take_ball(&ball)?;
+        match taking {
+            BallTaking::Taken(kept) => {
+                let recovery = self.meet_catcher(alloc, ball, kept, from, point)?;
                 Ok(recovery)
             }
-            Some(fault) => {
+            BallTaking::Refused(fault) => {
                 let error = Ball::error(alloc, &self.store, fault, fixed::CATCH, 3)?;
-                let kept = error.stored(alloc)?;
+                let kept = error.stored()?;
                 let recovery = self.meet_catcher(alloc, error, kept, from, point)?;
                 Ok(recovery)
             }
         }
+    }
+
+    /// Takes the numbers and the cells of a copy of a ball, where they are there. A ball with more cells than the whole budget is
+    /// refused before it is copied. The only error is out of memory.
+    fn take_ball(&mut self, ball: &Ball) -> Result<BallTaking, Memory>
+        requires whole { IsWhole self.old }
+        ensures whole { IsWhole self.new }
+        ensures taken { IfOk result (IsBallTaking self.old ball.now self.new) }
+    {
+        if self.is_ball_too_large(ball) {
+            return Ok(BallTaking::Refused(Fault::Cells));
+        }
+        let kept = ball.stored()?;
+        match self.take(kept.variables(), kept.cells()) {
+            None => Ok(BallTaking::Taken(kept)),
+            Some(fault) => Ok(BallTaking::Refused(fault)),
+        }
+    }
+
+    /// Whether a ball has more cells than the whole budget, where there are numbers for as many variables as it can have.
+    fn is_ball_too_large(&self, ball: &Ball) -> bool
+        requires { IsWhole self.now }
+        ensures cells { IsTrue result → self.now.budgets.cells < cells ball.now }
+        ensures numbers { IsTrue result → self.now.next_variable + length (variables ball.now) < 2 ^ 64 }
+    {
+        if self.next_variable > MOST_DOUBLED {
+            return false;
+        }
+        if !ball.is_below(self.next_variable) {
+            return false;
+        }
+        ball.is_larger(self.budgets.cells)
     }
 
     /// Builds a copy of a ball, whose numbers and cells were taken, and unifies it with the catcher.
@@ -79,7 +124,7 @@ impl Search {
     ) -> Result<Recovery, Memory>
         requires whole { IsWhole self.old }
         requires above { IsAbove from self.old.store }
-        requires taken { from + length (variables kept) ≤ self.old.next }
+        requires taken { from + length (variables kept) ≤ self.old.next_variable }
         requires kept { kept ≡ rename zero ball }
         requires catcher { Holds self.old.store point.catcher }
         requires recovery { Holds self.old.store point.recovery }
@@ -112,13 +157,13 @@ impl Search {
     fn build(&mut self, term: Stored, from: u64) -> Result<Place, Memory>
         requires whole { IsWhole self.old }
         requires above { IsAbove from self.old.store }
-        requires taken { from + length (variables term) ≤ self.old.next }
+        requires taken { from + length (variables term) ≤ self.old.next_variable }
         ensures whole { OnOk result (IsWhole self.new) }
         ensures built { IfOk result (Builds self.old.store from term self.new.store) }
         ensures adds { Adds self.old.store self.new.store }
         ensures kept { self.new ≡ record self.old { store = self.new.store } }
     {
-        let _next = self.next;
+        let _next = self.next_variable;
         let place = self.store.build(&term, from)?;
         Ok(place)
     }

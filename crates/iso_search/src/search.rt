@@ -28,7 +28,7 @@ pub struct Search {
     pub frames: Vec<Frame>,
     pub choices: Vec<ChoicePoint>,
     pub answer: Vec<Place>,
-    pub next: u64,
+    pub next_variable: u64,
     pub inferences: u64,
     pub budgets: Budgets,
 }
@@ -86,13 +86,13 @@ impl Search {
     }
 
     /// Goes back to the newest choice point, which is taken off (ISO 7.7.8): bindings and terms made since are gone.
-    pub fn go_back(&mut self) -> Option<ChoicePoint>
+    pub fn backtrack(&mut self) -> Option<ChoicePoint>
         requires { IsWhole self.old }
         ensures whole { IsWhole self.new }
         ensures back { MatchOption result ((v : View) → (choices_of v self.old ≡ []) × (choices_of v self.new ≡ [])) (λ k. (v : View)
             → choices_of v self.old ≡ choice_at v (reads v self.new.store) (node_of v self.new k.next) k.alternative ∷ choices_of v self.new) }
         ensures words { IfSome result (λ k. IsAlternativeIn self.new.store k.alternative × (k.next ≤ length self.new.frames.items)) }
-        ensures copies { IfSome result (λ k. IsOlder self.new.next k.alternative) }
+        ensures copies { IfSome result (λ k. IsOlder self.new.next_variable k.alternative) }
         ensures newest { MatchOption result (self.old.choices.items ≡ []) (λ k. self.old.choices.items ≡ self.new.choices.items ++ k ∷ []) }
         ensures kept { self.new ≡ record self.old {
           store = self.new.store;

@@ -41,10 +41,10 @@ impl Search {
             if let Task::Leave(height) = frame.task {
                 return Some(CatchExit {
                     height,
-                    rest: frame.next,
+                    rest: frame.continuation,
                 });
             }
-            at = frame.next;
+            at = frame.continuation;
         }
         None
     }
@@ -70,7 +70,7 @@ impl Search {
             return None;
         };
         self.cut_to(at + 1);
-        match self.go_back() {
+        match self.backtrack() {
             Some(k) => Some(CatchPoint {
                 catcher,
                 recovery,

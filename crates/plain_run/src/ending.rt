@@ -33,7 +33,8 @@ pub fn how_at<A: Atoms>(alloc: Global, engine: &Engine, atoms: &mut A) -> Result
         End::Solved => Ok(How::Solved),
         End::NoMore => Ok(How::False),
         End::Threw(ball) => {
-            let term = flat_of(alloc, ball.nodes(), atoms)?;
+            let nodes = ball.nodes(alloc)?;
+            let term = flat_of(alloc, &nodes, atoms)?;
             Ok(How::Threw(term))
         }
         End::Halted(status) => Ok(How::Halted(*status)),

@@ -10,6 +10,7 @@ mod chains;
 mod count;
 mod faults;
 mod ground;
+mod identity;
 mod kept;
 mod known_pairs;
 mod load;

@@ -135,7 +135,7 @@ fn try_clause(
         result_in t search.new n (proc_of g) o ≡ tried (limits_in t search.old) resolving (state_in t search.old) g n height c) }
     ensures after { IfOk result (IsAfter search.old search.new) }
 {
-    let from = search.next;
+    let from = search.next_variable;
     let cells = Kept::cells(clause);
     match search.take(clause.variables(), cells) {
         Some(fault) => Ok(Outcome::Raise(fault)),
@@ -160,7 +160,7 @@ fn resolve(
     requires goal { Holds search.old.store goal }
     requires rest { rest ≤ length search.old.frames.items }
     requires above { IsAbove from search.old.store }
-    requires taken { from + length (variables clause.now) ≤ search.old.next }
+    requires taken { from + length (variables clause.now) ≤ search.old.next_variable }
     ensures whole { OnOk result (IsWhole search.new) }
     ensures step { IfOk result (λ o. (t : Setting) (place : ℕ) → IsView t.view
         → let g = reads t.view search.old.store goal in let n = node_of t.view search.old rest in
@@ -181,14 +181,14 @@ fn resolve(
 fn build_clause(search: &mut Search, clause: &Stored, from: u64) -> Result<Place, Memory>
     requires whole { IsWhole search.old }
     requires above { IsAbove from search.old.store }
-    requires taken { from + length (variables clause.now) ≤ search.old.next }
+    requires taken { from + length (variables clause.now) ≤ search.old.next_variable }
     ensures whole { OnOk result (IsWhole search.new) }
     ensures copied { IfOk result (λ p. Holds search.new.store p × (term_at search.new.store p ≡ raised_by from clause.now)) }
     ensures stays { OnOk result (Stays search.old.store search.new.store) }
     ensures named { IsOverAtoms clause.now }
     ensures kept { search.new ≡ record search.old { store = search.new.store } }
 {
-    let _next = search.next;
+    let _next = search.next_variable;
     let _nodes = clause.nodes();
     let place = search.store.build(clause, from)?;
     Ok(place)

@@ -36,7 +36,7 @@ pub fn follow_row(
         → let e = as_before x search.old in let n = node_of t.view e rest in
         result_in t search.new n x.predicate o ≡ with_row (limits_in t e) (state_in t e) n x.predicate (arguments (reads t.view e.store goal)) x.row) }
 {
-    let _next = search.next;
+    let _next = search.next_variable;
     match row {
         Row::Fails => Ok(Outcome::Fail),
         Row::Holds => Ok(Outcome::Run(rest)),
@@ -64,7 +64,7 @@ fn give(
         → let e = as_before x search.old in let n = node_of t.view e rest in
         result_in t search.new n x.predicate o ≡ with_row (limits_in t e) (state_in t e) n x.predicate (arguments (reads t.view e.store goal)) x.row) }
 {
-    search.next += fresh;
+    search.next_variable += fresh;
     let same = unify_arguments(&mut search.store, goal, &places)?;
     if same {
         Ok(Outcome::Run(rest))

@@ -64,7 +64,7 @@ pub fn first_line(
         → let e = as_before x search.old in let n = node_of t.view e rest in
         result_in t search.new n x.predicate o ≡ with_row (limits_in t e) (state_in t e) n x.predicate (arguments (reads t.view e.store goal)) x.row) }
 {
-    let _next = search.next;
+    let _next = search.next_variable;
     if is_full(search, following) {
         return Ok(Outcome::Raise(Fault::Choices));
     }

@@ -23,7 +23,7 @@ follow_next-requires g c =
     record {
       made = (
         line_origin e m n r c.args.line c.line_of.new.store row.row c.requires.goal c.requires.held c.line_of.ensures.holds c.requires.whole,
-        line_made e m n r c.args.line c.line_of.new.store row.row c.requires.goal c.requires.held c.line_of.ensures.holds c.requires.whole (row.ensures.row e.next),
+        line_made e m n r c.args.line c.line_of.new.store row.row c.requires.goal c.requires.held c.line_of.ensures.holds c.requires.whole (row.ensures.row e.next_variable),
       );
       served = unrefused row.row (sym c.refusal.ensures ∙ c.in-None.is);
       rest = c.requires.rest;
@@ -38,7 +38,7 @@ returns-in_ok-outcome-in-None-clause-tried g c =
     let row = c.in_ok-row in
     let o = c.in_ok-outcome-in-None in
     let x = line_origin e m n r c.args.line c.line_of.new.store row.row c.requires.goal c.requires.held c.line_of.ensures.holds c.requires.whole in
-    let made = line_made e m n r c.args.line c.line_of.new.store row.row c.requires.goal c.requires.held c.line_of.ensures.holds c.requires.whole (row.ensures.row e.next) in
+    let made = line_made e m n r c.args.line c.line_of.new.store row.row c.requires.goal c.requires.held c.line_of.ensures.holds c.requires.whole (row.ensures.row e.next_variable) in
     record { after = o.ensures.after x made; step = λ t view known. o.ensures.step x made t view known }
 
 pub push_choice-requires-clause-whole : goal.push_choice-requires-clause-whole
@@ -48,7 +48,7 @@ push_choice-requires-clause-whole g c =
     let r = c.args.goal.now in
     let row = c.in_ok-row in
     let ts = terms_of (g.A.Atoms.held c.args.atoms.now) e.store r.arguments in
-    let same = refused_same e.store e.next ts ts (lines_of r.pred ts) c.args.line n c.line_of.new.store row.row c.in-Some.slice (row.ensures.row e.next) (sym c.refusal.ensures ∙ c.in-Some.is) in
+    let same = refused_same e.store e.next_variable ts ts (lines_of r.pred ts) c.args.line n c.line_of.new.store row.row c.in-Some.slice (row.ensures.row e.next_variable) (sym c.refusal.ensures ∙ c.in-Some.is) in
     subst (λ u. let y : Search = record e { store = u } in IsWhole y) (sym same) c.requires.whole
 
 pub push_choice-requires-clause-words : goal.push_choice-requires-clause-words
@@ -58,7 +58,7 @@ push_choice-requires-clause-words g c =
     let r = c.args.goal.now in
     let row = c.in_ok-row in
     let ts = terms_of (g.A.Atoms.held c.args.atoms.now) e.store r.arguments in
-    let same = refused_same e.store e.next ts ts (lines_of r.pred ts) c.args.line n c.line_of.new.store row.row c.in-Some.slice (row.ensures.row e.next) (sym c.refusal.ensures ∙ c.in-Some.is) in
+    let same = refused_same e.store e.next_variable ts ts (lines_of r.pred ts) c.args.line n c.line_of.new.store row.row c.in-Some.slice (row.ensures.row e.next_variable) (sym c.refusal.ensures ∙ c.in-Some.is) in
     subst (λ u. Holds u r.place) (sym same) c.requires.goal.holds
 
 pub returns-in_ok-push_choice-in-Some-clause-tried : goal.returns-in_ok-push_choice-in-Some-clause-tried
@@ -70,7 +70,7 @@ returns-in_ok-push_choice-in-Some-clause-tried g c =
     let x : Search = record e { store = c.line_of.new.store } in
     let is = sym c.refusal.ensures ∙ c.in-Some.is in
     let ts = terms_of (g.A.Atoms.held c.args.atoms.now) e.store r.arguments in
-    let same = refused_same e.store e.next ts ts (lines_of r.pred ts) c.args.line n c.line_of.new.store row.row c.in-Some.slice (row.ensures.row e.next) is in
+    let same = refused_same e.store e.next_variable ts ts (lines_of r.pred ts) c.args.line n c.line_of.new.store row.row c.in-Some.slice (row.ensures.row e.next_variable) is in
     let again = line_again e x c.push_choice.new.self r.place c.args.line c.args.rest (ap (λ u. let y : Search = record e { store = u } in y) same)
     c.in_ok-push_choice-in-Some.ensures.choices c.push_choice.ensures.kept in
     (refused_back row.row c.in-Some.slice is, again.0, again.1)

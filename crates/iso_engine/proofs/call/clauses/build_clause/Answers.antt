@@ -20,7 +20,7 @@ returns-clause-whole c =
     let s = c.build.new.self in
     let built = c.in_ok-place.ensures in
     whole_stays e s (stays_built e.store s c.args.from c.args.clause.now c.in_ok-place.place built.built built.adds) c.requires.whole
-    (All-weaker (λ m. m < c.args.from + length (variables c.args.clause.now)) (λ m. m < e.next) (λ m lt. omega (arith, lt, c.requires.taken)) (numbers_of s) built.above)
+    (All-weaker (λ m. m < c.args.from + length (variables c.args.clause.now)) (λ m. m < e.next_variable) (λ m lt. omega (arith, lt, c.requires.taken)) (numbers_of s) built.above)
 
 pub returns-clause-copied : goal.returns-clause-copied
 returns-clause-copied c =

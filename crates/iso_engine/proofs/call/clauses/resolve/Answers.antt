@@ -62,6 +62,6 @@ returns-clause-step c t place view =
     (ap (λ (x : Search). x.store) pushed.kept)
     (pushed.node v ∙ ap (λ (x : Search). before (a_goal (reads v s c.parts_at.result.1) c.args.height ∷ []) (node_of v x c.args.rest)) copied.kept)
     (same_state t d same (pushed.choices v ∙ ap (choices_of v) copied.kept)
-    (ap (λ (x : Search). x.next) pushed.kept ∙ ap (λ (x : Search). x.next) copied.kept)
+    (ap (λ (x : Search). x.next_variable) pushed.kept ∙ ap (λ (x : Search). x.next_variable) copied.kept)
     (ap (λ (x : Search). x.inferences) pushed.kept ∙ ap (λ (x : Search). x.inferences) copied.kept))
     (c.in_ok-outcome.ensures.step t (proc_of (reads v e.store c.args.goal)) view)

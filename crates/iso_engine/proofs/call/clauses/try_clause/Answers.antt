@@ -38,12 +38,12 @@ returns-in_ok-outcome-in-None-clause-step c t k view is =
     let same : reads v d.store c.args.goal ≡ g = ap (λ (x : Search). reads v x.store c.args.goal) c.in-None.ensures.kept in
     let ran =
     subst (λ (h : Tree). result_in t f (node_of v d c.args.rest) (proc_of h) o
-    ≡ clause_unified resolving (state_in t d) (node_of v d c.args.rest) c.args.height k.place (raised_by e.next (body_part u)) (unify h (raised_by e.next (head_part u))))
+    ≡ clause_unified resolving (state_in t d) (node_of v d c.args.rest) c.args.height k.place (raised_by e.next_variable (body_part u)) (unify h (raised_by e.next_variable (head_part u))))
     same (c.in_ok-outcome-in-None.ensures.step t k.place view) in
     tried_resolved t view e d f c.args.rest c.args.height c.variables.result c.cells-cells.result g k c.args.clause.now o is
     c.variables.ensures c.cells-cells.ensures (c.in-None.ensures.step t) ran (node_of v e c.args.rest)
     (at_any_other t f (node_of v d c.args.rest) (node_of v d c.args.rest) (node_of v e c.args.rest) (proc_of g) o (state_in t d) c.args.height k.place
-    (raised_by e.next (body_part u)) (unify g (raised_by e.next (head_part u))) ran)
+    (raised_by e.next_variable (body_part u)) (unify g (raised_by e.next_variable (head_part u))) ran)
 
 pub returns-in_ok-outcome-in-None-clause-after : goal.returns-in_ok-outcome-in-None-clause-after
 returns-in_ok-outcome-in-None-clause-after c =

@@ -18,7 +18,7 @@ returns-clause-starts c v stays view =
       frames = c.new-2.result;
       choices = c.new-3.result;
       answer = c.in_ok-answer.answer;
-      next = c.variables-count.result;
+      next_variable = c.variables-count.result;
       inferences = 0;
       budgets = c.args.budgets;
     } in

@@ -16,8 +16,8 @@ pub do_task-requires-clause-task : goal.do_task-requires-clause-task
 do_task-requires-clause-task g c =
     let e = c.args.self.now.search in
     let f = c.in-Some.frame in
-    let first = subst (λ l. tasks l c.args.list ≡ f.task ∷ tasks l f.next) c.deref.ensures.value c.in-Some.ensures.0 in
-    task_inside e.store e.frames.items c.requires.ready.whole.base.words c.requires.ready.whole.base.linked c.args.list f.task (tasks e.frames.items f.next) first
+    let first = subst (λ l. tasks l c.args.list ≡ f.task ∷ tasks l f.continuation) c.deref.ensures.value c.in-Some.ensures.0 in
+    task_inside e.store e.frames.items c.requires.ready.whole.base.words c.requires.ready.whole.base.linked c.args.list f.task (tasks e.frames.items f.continuation) first
 
 pub returns-in-Next-clause-spent : goal.returns-in-Next-clause-spent
 returns-in-Next-clause-spent g c =
@@ -27,11 +27,11 @@ returns-in-Next-clause-spent g c =
     let m = g.W.A.Atoms.held a in
     let t = g.W.World.told c.args.world.now in
     let view = view_is m t (g.met.W.A.Atoms.fixed_held a) (g.met.W.A.Atoms.unlike a) (g.met.W.A.Atoms.finite a) in
-    let first = subst (λ l. tasks l c.args.list ≡ x.task ∷ tasks l x.next) c.deref.ensures.value c.in-Some.ensures.0 in
+    let first = subst (λ l. tasks l c.args.list ≡ x.task ∷ tasks l x.continuation) c.deref.ensures.value c.in-Some.ensures.0 in
     let did = c.in_ok-did-in-Some in
     let f = c.do_task.new.search in
     let d = c.in-Next.doing in
-    let steps = task_steps e.solution_limit e.solutions_found e.search f e.doing d c.args.list x.task x.next did.did c.requires.list first did.ensures.done c.in-Next.is in
+    let steps = task_steps e.solution_limit e.solutions_found e.search f e.doing d c.args.list x.task x.continuation did.did c.requires.list first did.ensures.done c.in-Next.is in
     spent_by e.solution_limit e.solutions_found e.search e.doing f d m t steps view
 
 pub returns-in-Next-clause-ready : goal.returns-in-Next-clause-ready
@@ -42,11 +42,11 @@ returns-in-Next-clause-ready g c =
     let m = g.W.A.Atoms.held a in
     let t = g.W.World.told c.args.world.now in
     let view = view_is m t (g.met.W.A.Atoms.fixed_held a) (g.met.W.A.Atoms.unlike a) (g.met.W.A.Atoms.finite a) in
-    let first = subst (λ l. tasks l c.args.list ≡ x.task ∷ tasks l x.next) c.deref.ensures.value c.in-Some.ensures.0 in
+    let first = subst (λ l. tasks l c.args.list ≡ x.task ∷ tasks l x.continuation) c.deref.ensures.value c.in-Some.ensures.0 in
     let did = c.in_ok-did-in-Some in
     let f = c.do_task.new.search in
     let d = c.in-Next.doing in
-    let steps = task_steps e.solution_limit e.solutions_found e.search f e.doing d c.args.list x.task x.next did.did c.requires.list first did.ensures.done c.in-Next.is in
+    let steps = task_steps e.solution_limit e.solutions_found e.search f e.doing d c.args.list x.task x.continuation did.did c.requires.list first did.ensures.done c.in-Next.is in
     let new : Engine = record e { search = f; doing = d } in
     step_ready m t e new steps did.ensures.whole view c.requires.ready
 
@@ -58,11 +58,11 @@ returns-in-Next-clause-stepped g c =
     let m = g.W.A.Atoms.held a in
     let t = g.W.World.told c.args.world.now in
     let view = view_is m t (g.met.W.A.Atoms.fixed_held a) (g.met.W.A.Atoms.unlike a) (g.met.W.A.Atoms.finite a) in
-    let first = subst (λ l. tasks l c.args.list ≡ x.task ∷ tasks l x.next) c.deref.ensures.value c.in-Some.ensures.0 in
+    let first = subst (λ l. tasks l c.args.list ≡ x.task ∷ tasks l x.continuation) c.deref.ensures.value c.in-Some.ensures.0 in
     let did = c.in_ok-did-in-Some in
     let f = c.do_task.new.search in
     let d = c.in-Next.doing in
-    let steps = task_steps e.solution_limit e.solutions_found e.search f e.doing d c.args.list x.task x.next did.did c.requires.list first did.ensures.done c.in-Next.is in
+    let steps = task_steps e.solution_limit e.solutions_found e.search f e.doing d c.args.list x.task x.continuation did.did c.requires.list first did.ensures.done c.in-Next.is in
     let new : Engine = record e { search = f; doing = d } in
     ([], advance_step m t e new steps did.ensures.budgets refl refl view, silent_out c.args.out.now.items [] refl)
 
@@ -74,9 +74,9 @@ returns-in-Missing-clause-stepped g c =
     let m = g.W.A.Atoms.held a in
     let t = g.W.World.told c.args.world.now in
     let view = view_is m t (g.met.W.A.Atoms.fixed_held a) (g.met.W.A.Atoms.unlike a) (g.met.W.A.Atoms.finite a) in
-    let first = subst (λ l. tasks l c.args.list ≡ x.task ∷ tasks l x.next) c.deref.ensures.value c.in-Some.ensures.0 in
+    let first = subst (λ l. tasks l c.args.list ≡ x.task ∷ tasks l x.continuation) c.deref.ensures.value c.in-Some.ensures.0 in
     let did = c.in_ok-did-in-Some in
-    let left = task_missing m t e c.args.list x.next c.requires.list c.requires.ready.stable (g.met.W.A.Atoms.fixed_held a) (g.met.W.A.Atoms.unlike a)
+    let left = task_missing m t e c.args.list x.continuation c.requires.list c.requires.ready.stable (g.met.W.A.Atoms.fixed_held a) (g.met.W.A.Atoms.unlike a)
     (g.met.W.A.Atoms.finite a) view c.do_task.new.search x.task did.did c.in-Missing.procedure first did.ensures.done c.in-Missing.is in
     (left.0, left.1, silent_out c.args.out.now.items left.0 left.2)
 
@@ -86,7 +86,7 @@ call-requires-clause-ready g c =
     let x = c.in-Some.frame in
     let f = c.do_task.new.search in
     let did = c.in_ok-did-in-Some in
-    let called = subst (IsDone e.search x.task x.next f) c.in-Call.is did.ensures.done in
+    let called = subst (IsDone e.search x.task x.continuation f) c.in-Call.is did.ensures.done in
     subst (λ (s : Search). let y : Engine = record e { search = s } in IsReady (g.W.A.Atoms.held c.args.atoms.now) (g.W.World.told c.args.world.now) y) (sym called.0)
     c.requires.ready
 
@@ -96,7 +96,7 @@ returns-in_ok-stopped-in-Call-clause-stepped g c =
     let x = c.in-Some.frame in
     let f = c.do_task.new.search in
     let did = c.in_ok-did-in-Some in
-    let called = subst (IsDone e.search x.task x.next f) c.in-Call.is did.ensures.done in
+    let called = subst (IsDone e.search x.task x.continuation f) c.in-Call.is did.ensures.done in
     let m = g.W.A.Atoms.held c.args.atoms.now in
     let n = g.W.A.Atoms.held c.call.new.atoms in
     let t = g.W.World.told c.args.world.now in
@@ -113,7 +113,7 @@ write-requires-clause-ready g c =
     let x = c.in-Some.frame in
     let f = c.do_task.new.search in
     let did = c.in_ok-did-in-Some in
-    let writes = subst (IsDone e.search x.task x.next f) c.in-Write.is did.ensures.done in
+    let writes = subst (IsDone e.search x.task x.continuation f) c.in-Write.is did.ensures.done in
     subst (λ (s : Search). let y : Engine = record e { search = s } in IsReady (g.W.A.Atoms.held c.args.atoms.now) (g.W.World.told c.args.world.now) y) (sym writes.0)
     c.requires.ready
 
@@ -123,7 +123,7 @@ returns-in_ok-stopped-in-Write-clause-stepped g c =
     let x = c.in-Some.frame in
     let f = c.do_task.new.search in
     let did = c.in_ok-did-in-Some in
-    let writes = subst (IsDone e.search x.task x.next f) c.in-Write.is did.ensures.done in
+    let writes = subst (IsDone e.search x.task x.continuation f) c.in-Write.is did.ensures.done in
     let m = g.W.A.Atoms.held c.args.atoms.now in
     let n = g.W.A.Atoms.held c.write.new.atoms in
     let t = g.W.World.told c.args.world.now in
@@ -141,7 +141,7 @@ returns-in_err-stopped-in-Call-clause-asked g c =
     let x = c.in-Some.frame in
     let f = c.do_task.new.search in
     let a = c.args.atoms.now in
-    let called = subst (IsDone e.search x.task x.next f) c.in-Call.is c.in_ok-did-in-Some.ensures.done in
+    let called = subst (IsDone e.search x.task x.continuation f) c.in-Call.is c.in_ok-did-in-Some.ensures.done in
     asked_same (g.W.A.Atoms.held a) (g.W.World.told c.args.world.now) e f (g.W.A.Atoms.asked a) (g.W.A.Atoms.asked c.call.new.atoms) called.0 c.call.ensures.asked
 
 pub returns-in_ok-stopped-in-Call-clause-asked : goal.returns-in_ok-stopped-in-Call-clause-asked
@@ -150,7 +150,7 @@ returns-in_ok-stopped-in-Call-clause-asked g c =
     let x = c.in-Some.frame in
     let f = c.do_task.new.search in
     let a = c.args.atoms.now in
-    let called = subst (IsDone e.search x.task x.next f) c.in-Call.is c.in_ok-did-in-Some.ensures.done in
+    let called = subst (IsDone e.search x.task x.continuation f) c.in-Call.is c.in_ok-did-in-Some.ensures.done in
     asked_same (g.W.A.Atoms.held a) (g.W.World.told c.args.world.now) e f (g.W.A.Atoms.asked a) (g.W.A.Atoms.asked c.call.new.atoms) called.0 c.call.ensures.asked
 
 pub row-requires-clause-ready : goal.row-requires-clause-ready
@@ -158,7 +158,7 @@ row-requires-clause-ready g c =
     let e = c.args.self.now in
     let x = c.in-Some.frame in
     let f = c.do_task.new.search in
-    let done = subst (IsDone e.search x.task x.next f) c.in-Row.is c.in_ok-did-in-Some.ensures.done in
+    let done = subst (IsDone e.search x.task x.continuation f) c.in-Row.is c.in_ok-did-in-Some.ensures.done in
     let m = g.W.A.Atoms.held c.args.atoms.now in
     let t = g.W.World.told c.args.world.now in
     let ready = subst (λ (s : Search). let y : Engine = record e { search = s } in IsReady m t y) (sym done.0) c.requires.ready in
@@ -172,7 +172,7 @@ returns-in_err-stopped-in-Row-clause-asked g c =
     let a = c.args.atoms.now in
     let m = g.W.A.Atoms.held a in
     let t = g.W.World.told c.args.world.now in
-    let done = subst (IsDone e.search x.task x.next f) c.in-Row.is c.in_ok-did-in-Some.ensures.done in
+    let done = subst (IsDone e.search x.task x.continuation f) c.in-Row.is c.in_ok-did-in-Some.ensures.done in
     asked_same m t e f (g.W.A.Atoms.asked a) (g.W.A.Atoms.asked c.row.new.atoms) done.0
     (row_asks_for m t (record e { search = f }) (g.W.A.Atoms.asked a) (g.W.A.Atoms.asked c.row.new.atoms) c.row.ensures.asked)
 
@@ -184,7 +184,7 @@ returns-in_ok-stopped-in-Row-clause-asked g c =
     let a = c.args.atoms.now in
     let m = g.W.A.Atoms.held a in
     let t = g.W.World.told c.args.world.now in
-    let done = subst (IsDone e.search x.task x.next f) c.in-Row.is c.in_ok-did-in-Some.ensures.done in
+    let done = subst (IsDone e.search x.task x.continuation f) c.in-Row.is c.in_ok-did-in-Some.ensures.done in
     asked_same m t e f (g.W.A.Atoms.asked a) (g.W.A.Atoms.asked c.row.new.atoms) done.0
     (row_asks_for m t (record e { search = f }) (g.W.A.Atoms.asked a) (g.W.A.Atoms.asked c.row.new.atoms) c.row.ensures.asked)
 
@@ -193,7 +193,7 @@ returns-in_ok-stopped-in-Row-clause-ready g c =
     let e = c.args.self.now in
     let x = c.in-Some.frame in
     let f = c.do_task.new.search in
-    let done = subst (IsDone e.search x.task x.next f) c.in-Row.is c.in_ok-did-in-Some.ensures.done in
+    let done = subst (IsDone e.search x.task x.continuation f) c.in-Row.is c.in_ok-did-in-Some.ensures.done in
     let m = g.W.A.Atoms.held c.args.atoms.now in
     let t = g.W.World.told c.args.world.now in
     let ready = subst (λ (s : Search). let y : Engine = record e { search = s } in IsReady m t y) (sym done.0) c.requires.ready in
@@ -204,7 +204,7 @@ returns-in_ok-stopped-in-Row-clause-stepped g c =
     let e = c.args.self.now in
     let x = c.in-Some.frame in
     let f = c.do_task.new.search in
-    let done = subst (IsDone e.search x.task x.next f) c.in-Row.is c.in_ok-did-in-Some.ensures.done in
+    let done = subst (IsDone e.search x.task x.continuation f) c.in-Row.is c.in_ok-did-in-Some.ensures.done in
     let m = g.W.A.Atoms.held c.args.atoms.now in
     let t = g.W.World.told c.args.world.now in
     let ready = subst (λ (s : Search). let y : Engine = record e { search = s } in IsReady m t y) (sym done.0) c.requires.ready in

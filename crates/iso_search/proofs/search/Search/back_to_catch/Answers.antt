@@ -47,33 +47,33 @@ unreachable-requires c =
 pub returns-clause-inside : goal.returns-clause-inside
 returns-clause-inside c =
     let e = c.args.self.now in
-    let f = c.go_back.new.self in
+    let f = c.backtrack.new.self in
     let at = c.newest_below-at.result in
     let lt : at < length e.choices.items = omega (arith, c.newest_below-at.ensures.below, c.len-count.ensures, e.choices.ok.0) in
-    let x : c.in-Some-go_back.k ≡ c.index.result.now =
-    looked_at e.choices.items f.choices.items at c.index.result.now c.in-Some-go_back.k lt c.index.ensures (sym c.cut_to.ensures.oldest ∙ c.in-Some-go_back.ensures.newest) in
-    let inside = subst (IsAlternativeIn f.store) (ap (λ (y : ChoicePoint). y.alternative) x ∙ c.in-Some.ensures) c.in-Some-go_back.ensures.words.0 in
-    (inside.0, inside.1, c.in-Some-go_back.ensures.words.1)
+    let x : c.in-Some-backtrack.k ≡ c.index.result.now =
+    looked_at e.choices.items f.choices.items at c.index.result.now c.in-Some-backtrack.k lt c.index.ensures (sym c.cut_to.ensures.oldest ∙ c.in-Some-backtrack.ensures.newest) in
+    let inside = subst (IsAlternativeIn f.store) (ap (λ (y : ChoicePoint). y.alternative) x ∙ c.in-Some.ensures) c.in-Some-backtrack.ensures.words.0 in
+    (inside.0, inside.1, c.in-Some-backtrack.ensures.words.1)
 
 pub returns-clause-step : goal.returns-clause-step
 returns-clause-step c t ball rest le =
     let e = c.args.self.now in
     let d = c.cut_to.new.self in
-    let f = c.go_back.new.self in
+    let f = c.backtrack.new.self in
     let v = t.view in
     let at = c.newest_below-at.result in
     let lt : at < length e.choices.items = omega (arith, c.newest_below-at.ensures.below, c.len-count.ensures, e.choices.ok.0) in
-    let x : c.in-Some-go_back.k ≡ c.index.result.now =
-    looked_at e.choices.items f.choices.items at c.index.result.now c.in-Some-go_back.k lt c.index.ensures (sym c.cut_to.ensures.oldest ∙ c.in-Some-go_back.ensures.newest) in
+    let x : c.in-Some-backtrack.k ≡ c.index.result.now =
+    looked_at e.choices.items f.choices.items at c.index.result.now c.in-Some-backtrack.k lt c.index.ensures (sym c.cut_to.ensures.oldest ∙ c.in-Some-backtrack.ensures.newest) in
     let count : c.len-count.result ≡ length (choices_of v e) = omega (arith, c.len-count.ensures, e.choices.ok.0, length_choices v e) in
     let same : length (choices_of v e) - (c.args.height + 1) ≡ length (choices_of v e) - (at + 1) = omega (arith, c.newest_below-at.ensures.same, count) in
     let one : suc at ≡ at + 1 = omega arith in
     let cut = c.cut_to.ensures.kept in
-    let back = c.go_back.ensures.kept in
-    caught_by_catch t e f ball (node_of v e rest).goals (up_to (suc c.args.height) (choices_of v e)) c.in-Some-go_back.k.alternative
-    (record { catcher = c.in-Some.catcher; recovery = c.in-Some.recovery; next = c.in-Some-go_back.k.next })
-    (capped (choices_of v e) c.args.height at same ∙ ap (λ n. up_to n (choices_of v e)) one ∙ sym (c.cut_to.ensures.choices v) ∙ c.in-Some-go_back.ensures.back v)
+    let back = c.backtrack.ensures.kept in
+    caught_by_catch t e f ball (node_of v e rest).goals (up_to (suc c.args.height) (choices_of v e)) c.in-Some-backtrack.k.alternative
+    (record { catcher = c.in-Some.catcher; recovery = c.in-Some.recovery; next = c.in-Some-backtrack.k.next })
+    (capped (choices_of v e) c.args.height at same ∙ ap (λ n. up_to n (choices_of v e)) one ∙ sym (c.cut_to.ensures.choices v) ∙ c.in-Some-backtrack.ensures.back v)
     (ap (λ (y : ChoicePoint). y.alternative) x ∙ c.in-Some.ensures)
     (same_limits t f e (ap (λ (s : Search). s.budgets) back ∙ ap (λ (s : Search). s.budgets) cut))
-    (ap (λ (s : Search). s.next) back ∙ ap (λ (s : Search). s.next) cut)
+    (ap (λ (s : Search). s.next_variable) back ∙ ap (λ (s : Search). s.next_variable) cut)
     (ap (λ (s : Search). s.inferences) back ∙ ap (λ (s : Search). s.inferences) cut)

@@ -8,5 +8,5 @@ returns-clause-whole c =
     let e = c.args.self.now in
     let s = c.unify.new.self in
     let adds = c.in_ok-same.ensures.adds in
-    whole_added e s e.next adds c.in_ok-same.ensures.size.budget (omega arith)
-    (subst (All (λ m. m < e.next)) (sym c.in_ok-same.ensures.size.numbers) c.requires.whole.above) c.requires.whole
+    whole_added e s e.next_variable adds c.in_ok-same.ensures.size.budget (omega arith)
+    (subst (All (λ m. m < e.next_variable)) (sym c.in_ok-same.ensures.size.numbers) c.requires.whole.above) c.requires.whole

@@ -14,7 +14,7 @@ returns-clause-whole c =
     let built = c.in_ok-items.ensures.built in
     let list = c.in_ok-place.ensures in
     whole_stays e u (stays_again e.store s u built.stays list.grows.stays) c.requires.whole
-    (subst (All (λ m. m < e.next)) (sym list.grows.numbers) (c.in_ok-items.ensures.above e.next c.requires.whole.above c.requires.rise))
+    (subst (All (λ m. m < e.next_variable)) (sym list.grows.numbers) (c.in_ok-items.ensures.above e.next_variable c.requires.whole.above c.requires.rise))
 
 pub returns-clause-built : goal.returns-clause-built
 returns-clause-built c =

@@ -62,10 +62,10 @@ returns-in_ok-list-in-None-clause-step c t p view =
     kept (c.in-None.ensures.step t) in
     let pushed = c.in_ok-list-in-None.ensures in
     call_run t b d f e.store g c.requires.whole c.args.rest cells p whole c.in-Goal.goal c.len-height.result c.in_ok-list-in-None.list is taken
-    (subst (λ (y : Search). d ≡ record y { store = record y.store { used = d.store.used }; next = d.next }) kept c.in-None.ensures.kept)
+    (subst (λ (y : Search). d ≡ record y { store = record y.store { used = d.store.used }; next_variable = d.next_variable }) kept c.in-None.ensures.kept)
     (c.in-None.ensures.choices v ∙ ap (choices_of v) kept)
     (omega (arith, c.len-height.ensures, d.choices.ok.0, length_choices v d))
-    (pushed.node v) (pushed.choices v) (ap (λ (s : Search). s.next) pushed.kept) (ap (λ (s : Search). s.inferences) pushed.kept)
+    (pushed.node v) (pushed.choices v) (ap (λ (s : Search). s.next_variable) pushed.kept) (ap (λ (s : Search). s.inferences) pushed.kept)
 
 pub returns-in-Refused-clause-after : goal.returns-in-Refused-clause-after
 returns-in-Refused-clause-after c =

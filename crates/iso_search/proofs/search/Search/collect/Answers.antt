@@ -55,13 +55,13 @@ pub returns-then-not-joined-clause-whole : goal.returns-then-not-joined-clause-w
 returns-then-not-joined-clause-whole c =
     let e = c.args.self.now in
     let n = c.variables-count.result in
-    let d : Search = record e { store = c.release.new.self; choices = c.join.new.choices; next = e.next + n } in
-    let copy : Copied = record { term = c.in_ok-term.term; from = e.next } in
+    let d : Search = record e { store = c.release.new.self; choices = c.join.new.choices; next_variable = e.next_variable + n } in
+    let copy : Copied = record { term = c.in_ok-term.term; from = e.next_variable } in
     let j = subst (λ q. IsJoined q copy c.args.height (reverse e.choices.items) (reverse d.choices.items)) c.if-not-joined.true c.in_ok-joined-in-Ok.ensures in
     let back : e.store.budget - c.cells-cells.result + c.cells-cells.result ≡ e.store.budget = omega (arith, c.in-Ok.ensures.fits) in
     let stored = c.release.ensures ∙ ap (λ s. with_budget s (s.budget + c.cells-cells.result)) c.in-Ok.ensures.ok ∙ ap (with_budget e.store) back in
-    whole_unjoined e d c.args.height (e.next + n) c.requires.whole j.0 j.1 (omega arith)
-    (ap (λ s. let x : Search = record e { store = s; choices = c.join.new.choices; next = e.next + n } in x) stored)
+    whole_unjoined e d c.args.height (e.next_variable + n) c.requires.whole j.0 j.1 (omega arith)
+    (ap (λ s. let x : Search = record e { store = s; choices = c.join.new.choices; next_variable = e.next_variable + n } in x) stored)
 
 pub returns-then-not-joined-clause-step : goal.returns-then-not-joined-clause-step
 returns-then-not-joined-clause-step c t rest view =
@@ -70,29 +70,29 @@ returns-then-not-joined-clause-step c t rest view =
     let n = c.variables-count.result in
     let tree = term_at e.store c.args.template in
     let u = reads v e.store c.args.template in
-    let d : Search = record e { store = c.release.new.self; choices = c.join.new.choices; next = e.next + n } in
-    let copy : Copied = record { term = c.in_ok-term.term; from = e.next } in
+    let d : Search = record e { store = c.release.new.self; choices = c.join.new.choices; next_variable = e.next_variable + n } in
+    let copy : Copied = record { term = c.in_ok-term.term; from = e.next_variable } in
     let j = subst (λ q. IsJoined q copy c.args.height (reverse e.choices.items) (reverse d.choices.items)) c.if-not-joined.true c.in_ok-joined-in-Ok.ensures in
     let back : e.store.budget - c.cells-cells.result + c.cells-cells.result ≡ e.store.budget = omega (arith, c.in-Ok.ensures.fits) in
     let stored = c.release.ensures ∙ ap (λ s. with_budget s (s.budget + c.cells-cells.result)) c.in-Ok.ensures.ok ∙ ap (with_budget e.store) back in
-    let kept = ap (λ s. let x : Search = record e { store = s; choices = c.join.new.choices; next = e.next + n } in x) stored in
+    let kept = ap (λ s. let x : Search = record e { store = s; choices = c.join.new.choices; next_variable = e.next_variable + n } in x) stored in
     collect_done t e d rest u c.args.height n c.cells-cells.result c.requires.whole
     (c.variables-count.ensures ∙ count_saved v tree c.in_ok-term.term c.in_ok-term.ensures)
     (c.cells-cells.ensures ∙ cells_saved v tree c.in_ok-term.term c.in_ok-term.ensures)
     (omega (arith, c.if-count-self.false)) c.in-Ok.ensures.fits
-    (choices_unjoined e d c.args.height (e.next + n) c.requires.whole j.0 j.1 (omega arith) kept v (rename e.next u)) refl refl
+    (choices_unjoined e d c.args.height (e.next_variable + n) c.requires.whole j.0 j.1 (omega arith) kept v (rename e.next_variable u)) refl refl
 
 pub returns-else-not-joined-clause-whole : goal.returns-else-not-joined-clause-whole
 returns-else-not-joined-clause-whole c =
     let e = c.args.self.now in
     let n = c.variables-count.result in
-    let d : Search = record e { store = c.reserve.new.self; choices = c.join.new.choices; next = e.next + n } in
-    let copy : Copied = record { term = c.in_ok-term.term; from = e.next } in
+    let d : Search = record e { store = c.reserve.new.self; choices = c.join.new.choices; next_variable = e.next_variable + n } in
+    let copy : Copied = record { term = c.in_ok-term.term; from = e.next_variable } in
     let j = subst (λ q. IsJoined q copy c.args.height (reverse e.choices.items) (reverse d.choices.items)) c.if-not-joined.false c.in_ok-joined-in-Ok.ensures in
     let stored = c.in-Ok.ensures.ok ∙ ap (λ k. with_budget e.store (e.store.budget - k)) c.cells-cells.ensures in
-    whole_joined e d copy c.args.height (e.next + n) c.requires.whole j refl (omega (arith, c.variables-count.ensures))
+    whole_joined e d copy c.args.height (e.next_variable + n) c.requires.whole j refl (omega (arith, c.variables-count.ensures))
     (omega (arith, c.in-Ok.ensures.fits, c.cells-cells.ensures))
-    (ap (λ s. let x : Search = record e { store = s; choices = c.join.new.choices; next = e.next + n } in x) stored)
+    (ap (λ s. let x : Search = record e { store = s; choices = c.join.new.choices; next_variable = e.next_variable + n } in x) stored)
 
 pub returns-else-not-joined-clause-step : goal.returns-else-not-joined-clause-step
 returns-else-not-joined-clause-step c t rest view =
@@ -101,18 +101,18 @@ returns-else-not-joined-clause-step c t rest view =
     let n = c.variables-count.result in
     let tree = term_at e.store c.args.template in
     let u = reads v e.store c.args.template in
-    let d : Search = record e { store = c.reserve.new.self; choices = c.join.new.choices; next = e.next + n } in
-    let copy : Copied = record { term = c.in_ok-term.term; from = e.next } in
+    let d : Search = record e { store = c.reserve.new.self; choices = c.join.new.choices; next_variable = e.next_variable + n } in
+    let copy : Copied = record { term = c.in_ok-term.term; from = e.next_variable } in
     let j = subst (λ q. IsJoined q copy c.args.height (reverse e.choices.items) (reverse d.choices.items)) c.if-not-joined.false c.in_ok-joined-in-Ok.ensures in
     let stored = c.in-Ok.ensures.ok ∙ ap (λ k. with_budget e.store (e.store.budget - k)) c.cells-cells.ensures in
-    let kept = ap (λ s. let x : Search = record e { store = s; choices = c.join.new.choices; next = e.next + n } in x) stored in
+    let kept = ap (λ s. let x : Search = record e { store = s; choices = c.join.new.choices; next_variable = e.next_variable + n } in x) stored in
     collect_done t e d rest u c.args.height n c.cells-cells.result c.requires.whole
     (c.variables-count.ensures ∙ count_saved v tree c.in_ok-term.term c.in_ok-term.ensures)
     (c.cells-cells.ensures ∙ cells_saved v tree c.in_ok-term.term c.in_ok-term.ensures)
     (omega (arith, c.if-count-self.false)) c.in-Ok.ensures.fits
-    (choices_put e d copy c.args.height (e.next + n) c.requires.whole j refl (omega (arith, c.variables-count.ensures))
+    (choices_put e d copy c.args.height (e.next_variable + n) c.requires.whole j refl (omega (arith, c.variables-count.ensures))
     (omega (arith, c.in-Ok.ensures.fits, c.cells-cells.ensures)) kept v
-    ∙ ap (λ x. with_copy x c.args.height (choices_of v e)) (kept_copy v tree c.in_ok-term.term e.next c.in_ok-term.ensures))
+    ∙ ap (λ x. with_copy x c.args.height (choices_of v e)) (kept_copy v tree c.in_ok-term.term e.next_variable c.in_ok-term.ensures))
     refl refl
 
 pub returns-then-too_large-clause-step : goal.returns-then-too_large-clause-step

@@ -25,7 +25,7 @@ returns-in-None-clause-step c t p =
     over_full t e d n p (branch (before (a_goal (r c.args.right) c.args.cut ∷ []) n)) (λ k. a_goal (r c.args.left) c.args.cut ∷ [])
     (ap₂ (λ l k. nat_lt (length l) k) (sym (pushed.choices t.view)) (sym (ap (λ (s : Search). s.budgets.choices) pushed.kept)) ∙ made.0)
     (made.1 ∙ pushed.choices t.view)
-    (ap (λ (s : Search). s.next) kept ∙ ap (λ (s : Search). s.next) pushed.kept)
+    (ap (λ (s : Search). s.next_variable) kept ∙ ap (λ (s : Search). s.next_variable) pushed.kept)
     (ap (λ (s : Search). s.inferences) kept ∙ ap (λ (s : Search). s.inferences) pushed.kept)
 
 pub returns-in_ok-list-in-Some-clause-step : goal.returns-in_ok-list-in-Some-clause-step
@@ -48,7 +48,7 @@ returns-in_ok-list-in-Some-clause-step c t p =
     (again.node v
     ∙ ap₂ (λ s m. before (a_goal (reads v s c.args.left) c.args.cut ∷ []) m) stores
     (ap (λ (s : Search). node_of v s c.args.rest) kept ∙ pushed.nodes v c.args.rest c.requires.rest))
-    (ap (λ (s : Search). s.next) again.kept ∙ ap (λ (s : Search). s.next) kept ∙ ap (λ (s : Search). s.next) pushed.kept)
+    (ap (λ (s : Search). s.next_variable) again.kept ∙ ap (λ (s : Search). s.next_variable) kept ∙ ap (λ (s : Search). s.next_variable) pushed.kept)
     (ap (λ (s : Search). s.inferences) again.kept ∙ ap (λ (s : Search). s.inferences) kept ∙ ap (λ (s : Search). s.inferences) pushed.kept)
 
 pub returns-in-None-clause-after : goal.returns-in-None-clause-after

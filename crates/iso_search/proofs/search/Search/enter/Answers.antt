@@ -18,7 +18,7 @@ returns-in-None-clause-step c t p n more at =
     let made = subst (λ o. IsMade t.view o e c.args.alternative c.args.behind d) c.in-None.is (c.in_ok-made.ensures.made t.view) in
     over_full t e d n p (choice_at t.view r (node_of t.view e c.args.behind) c.args.alternative)
     (λ h. a_goal (r c.args.inner) (suc h) ∷ exit_at r c.args.exit h ∷ more) made.0 made.1
-    (ap (λ (s : Search). s.next) kept) (ap (λ (s : Search). s.inferences) kept)
+    (ap (λ (s : Search). s.next_variable) kept) (ap (λ (s : Search). s.inferences) kept)
 
 pub returns-in_ok-list-in-Some-clause-step : goal.returns-in_ok-list-in-Some-clause-step
 returns-in_ok-list-in-Some-clause-step c t p n more at =
@@ -46,7 +46,7 @@ returns-in_ok-list-in-Some-clause-step c t p n more at =
     ∙ ap₂ (λ s h. exit_at (reads v s) c.args.exit h) (ap (λ (s : Search). s.store) kept) height)
     (ap (λ (s : Search). node_of v s c.args.rest) kept ∙ at))
     ∙ ap (λ h. before (a_goal (r c.args.inner) h ∷ exit_at r c.args.exit (length (choices_of v e)) ∷ more) n) next)
-    (ap (λ (s : Search). s.next) last.kept ∙ ap (λ (s : Search). s.next) out.kept ∙ ap (λ (s : Search). s.next) kept)
+    (ap (λ (s : Search). s.next_variable) last.kept ∙ ap (λ (s : Search). s.next_variable) out.kept ∙ ap (λ (s : Search). s.next_variable) kept)
     (ap (λ (s : Search). s.inferences) last.kept ∙ ap (λ (s : Search). s.inferences) out.kept ∙ ap (λ (s : Search). s.inferences) kept)
 
 pub push-requires-clause-task : goal.push-requires-clause-task

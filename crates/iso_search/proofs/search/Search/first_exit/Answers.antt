@@ -14,9 +14,9 @@ loop-frame-preserved c t ball =
     let e = c.args.self.now in
     let fs = e.frames.items in
     let f = c.in-Some.frame in
-    let first : tasks fs c.loop-frame.at ≡ f.task ∷ tasks fs f.next =
-    subst (λ l. tasks l c.loop-frame.at ≡ f.task ∷ tasks l f.next) c.deref.ensures.value c.in-Some.ensures.0 in
-    passed_by (limits_in t e) (state_in t e) ball (reads t.view e.store) (tasks fs c.loop-frame.at) (tasks fs f.next) f.task first c.in_default-task.not-Leave
+    let first : tasks fs c.loop-frame.at ≡ f.task ∷ tasks fs f.continuation =
+    subst (λ l. tasks l c.loop-frame.at ≡ f.task ∷ tasks l f.continuation) c.deref.ensures.value c.in-Some.ensures.0 in
+    passed_by (limits_in t e) (state_in t e) ball (reads t.view e.store) (tasks fs c.loop-frame.at) (tasks fs f.continuation) f.task first c.in_default-task.not-Leave
     ∙ c.loop-frame.invariant t ball
 
 pub returns-in-Leave-clause-step : goal.returns-in-Leave-clause-step
@@ -24,9 +24,9 @@ returns-in-Leave-clause-step c t ball =
     let e = c.args.self.now in
     let fs = e.frames.items in
     let f = c.in-Some.frame in
-    let first : tasks fs c.loop-frame.at ≡ f.task ∷ tasks fs f.next =
-    subst (λ l. tasks l c.loop-frame.at ≡ f.task ∷ tasks l f.next) c.deref.ensures.value c.in-Some.ensures.0 in
-    thrown_at_exit (limits_in t e) (state_in t e) ball (reads t.view e.store) (tasks fs c.loop-frame.at) (tasks fs f.next) c.in-Leave.height f.task first c.in-Leave.is
+    let first : tasks fs c.loop-frame.at ≡ f.task ∷ tasks fs f.continuation =
+    subst (λ l. tasks l c.loop-frame.at ≡ f.task ∷ tasks l f.continuation) c.deref.ensures.value c.in-Some.ensures.0 in
+    thrown_at_exit (limits_in t e) (state_in t e) ball (reads t.view e.store) (tasks fs c.loop-frame.at) (tasks fs f.continuation) c.in-Leave.height f.task first c.in-Leave.is
     ∙ c.loop-frame.invariant t ball
 
 pub returns-clause-step : goal.returns-clause-step

@@ -21,7 +21,7 @@ returns-in_default-clause-step c t view =
     let e = c.args.self.now in
     let v = t.view in
     let cs = c.args.found.copies.items in
-    let many = list_cells v zero cs e.next c.requires.rise in
+    let many = list_cells v zero cs e.next_variable c.requires.rise in
     let counted = c.requires.found.counted in
     list_too_large t e (node_of v e c.args.rest) (reads v e.store c.args.list) (copies_of v c.args.found) (omega arith)
     (omega (arith, many, counted, c.in_default.ensures))
@@ -34,7 +34,7 @@ returns-in-Some-take-clause-step c t view =
     let list = reads v e.store c.args.list in
     let ts = copies_of v c.args.found in
     let next : State → Node → State = λ s m. unified s m (unify list (list_term ts)) in
-    let many = list_cells v zero c.args.found.copies.items e.next c.requires.rise in
+    let many = list_cells v zero c.args.found.copies.items e.next_variable c.requires.rise in
     let counted = c.requires.found.counted in
     let need : c.in-Some.need ≡ cells (list_term ts) = omega (arith, many, counted, c.in-Some.ensures) in
     c.in-Some-take.ensures.step t c.args.rest findall_proc next
@@ -67,7 +67,7 @@ returns-clause-step c t view =
     let f = c.build_list.new.self in
     let g = c.unify.new.self in
     let built = c.in_ok-made-in-None.ensures.built in
-    let many = list_cells v zero c.args.found.copies.items e.next c.requires.rise in
+    let many = list_cells v zero c.args.found.copies.items e.next_variable c.requires.rise in
     let counted = c.requires.found.counted in
     let need : c.in-Some.need ≡ cells (list_term (copies_of v c.args.found)) = omega (arith, many, counted, c.in-Some.ensures) in
     list_given t view e d f g c.args.list c.in_ok-made-in-None.made c.args.found c.args.rest c.in_ok-outcome-in-None.outcome

@@ -22,7 +22,7 @@ returns-clause-step c t p =
     (λ k. a_goal (reads v b.store c.args.condition) (suc k) ∷ commit k ∷ a_goal (r c.args.then_goal) c.args.cut ∷ [])
     (λ k. a_goal (r c.args.condition) (suc k) ∷ commit k ∷ a_goal (r c.args.then_goal) c.args.cut ∷ [])
     (same_limits t b e (ap (λ (s : Search). s.budgets) pushed.kept))
-    (same_state t b e (pushed.choices v) (ap (λ (s : Search). s.next) pushed.kept) (ap (λ (s : Search). s.inferences) pushed.kept))
+    (same_state t b e (pushed.choices v) (ap (λ (s : Search). s.next_variable) pushed.kept) (ap (λ (s : Search). s.inferences) pushed.kept))
     refl
     (ap (λ s k. a_goal (reads v s c.args.condition) (suc k) ∷ commit k ∷ a_goal (r c.args.then_goal) c.args.cut ∷ []) stores)
 

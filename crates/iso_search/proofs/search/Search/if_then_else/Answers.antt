@@ -30,7 +30,7 @@ returns-clause-step c t p =
     (λ k. a_goal (r c.args.condition) (suc k) ∷ commit k ∷ a_goal (r c.args.then_goal) c.args.cut ∷ [])
     (same_limits t b e (ap (λ (s : Search). s.budgets) second.kept ∙ ap (λ (s : Search). s.budgets) first.kept))
     (same_state t b e (second.choices v ∙ first.choices v)
-    (ap (λ (s : Search). s.next) second.kept ∙ ap (λ (s : Search). s.next) first.kept)
+    (ap (λ (s : Search). s.next_variable) second.kept ∙ ap (λ (s : Search). s.next_variable) first.kept)
     (ap (λ (s : Search). s.inferences) second.kept ∙ ap (λ (s : Search). s.inferences) first.kept))
     (ap branch behind)
     (ap (λ s k. a_goal (reads v s c.args.condition) (suc k) ∷ commit k ∷ a_goal (r c.args.then_goal) c.args.cut ∷ []) stores)

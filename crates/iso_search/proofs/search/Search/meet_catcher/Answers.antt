@@ -76,7 +76,7 @@ returns-clause-step c t view =
     let pushed = c.in_ok-list-in-Goal.ensures in
     let tall : c.len-height.result ≡ length (choices_of v d) = omega (arith, c.len-height.ensures, d.choices.ok.0, length_choices v d) in
     let same : state_in t f ≡ state_in t d =
-    same_state t f d (pushed.choices v) (ap (λ (x : Search). x.next) pushed.kept) (ap (λ (x : Search). x.inferences) pushed.kept) in
+    same_state t f d (pushed.choices v) (ap (λ (x : Search). x.next_variable) pushed.kept) (ap (λ (x : Search). x.inferences) pushed.kept) in
     recovery_run t view e s u g c.requires.whole point.next c.args.from place point.catcher point.recovery c.args.ball bound.adds bound.used
     (subst IsWhole made c.in_ok-place.ensures.whole) c.requires.catcher c.requires.recovery (copy_read v e.store s c.args.from c.args.kept c.args.ball place built c.requires.kept)
     found.0 found.1.0 found.1.1 d.store c.in-Goal.goal f c.len-height.result c.in_ok-list-in-Goal.list c.check_body.ensures.grows.stays (subst IsWhole at bound.whole) is

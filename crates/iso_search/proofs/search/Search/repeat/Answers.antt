@@ -24,7 +24,7 @@ returns-in-None-clause-step c t p =
     over_full t e d n p (branch (before (a_goal (reads t.view e.store c.args.again) (length (choices_of t.view e)) ∷ []) n)) (λ k. [])
     (ap₂ (λ l k. nat_lt (length l) k) (sym (pushed.choices t.view)) (sym (ap (λ (s : Search). s.budgets.choices) pushed.kept)) ∙ made.0)
     (made.1 ∙ pushed.choices t.view)
-    (ap (λ (s : Search). s.next) kept ∙ ap (λ (s : Search). s.next) pushed.kept)
+    (ap (λ (s : Search). s.next_variable) kept ∙ ap (λ (s : Search). s.next_variable) pushed.kept)
     (ap (λ (s : Search). s.inferences) kept ∙ ap (λ (s : Search). s.inferences) pushed.kept)
 
 pub returns-in-Some-clause-step : goal.returns-in-Some-clause-step
@@ -43,7 +43,7 @@ returns-in-Some-clause-step c t p =
     (made.1 ∙ ap₂ (λ m l. branch m ∷ l)
     (pushed.node v ∙ ap (λ h. before (a_goal (reads v e.store c.args.again) h ∷ []) n) height) (pushed.choices v))
     (ap (λ (s : Search). node_of v s c.args.rest) kept ∙ pushed.nodes v c.args.rest c.requires.rest)
-    (ap (λ (s : Search). s.next) kept ∙ ap (λ (s : Search). s.next) pushed.kept)
+    (ap (λ (s : Search). s.next_variable) kept ∙ ap (λ (s : Search). s.next_variable) pushed.kept)
     (ap (λ (s : Search). s.inferences) kept ∙ ap (λ (s : Search). s.inferences) pushed.kept)
 
 pub returns-in-None-clause-after : goal.returns-in-None-clause-after

@@ -2,7 +2,7 @@ use Rattle.std.proofs.Common.{◌+◌, ◌<◌, ◌^◌, refl, sym, ap, ap₂, s
 use Rattle.iso_search.specs.declared.search.Search.{Search}
 use Rattle.iso_search.proofs.Budgets.{with_budget}
 use Rattle.iso_search.proofs.Wholes.{choices_back, newest_older, release_fits, whole_back}
-use Rattle.iso_search.proofs.search.Search.go_back.Goals as goal
+use Rattle.iso_search.proofs.search.Search.backtrack.Goals as goal
 
 pub release-requires : goal.release-requires
 release-requires c =
