@@ -1,9 +1,9 @@
-use Rattle.std.proofs.Common.{◌≡◌, [], ◌∷◌, IfOk, pos, sym, ap, subst, ◌∙◌, w64}
+use Rattle.std.proofs.Common.{◌≡◌, [], ◌∷◌, IfOk, pos, ap, subst, ◌∙◌, w64}
 use Rattle.std.proofs.lemmas.Int.{to_z-of_z}
 use Rattle.std.proofs.lemmas.Result.{IfOk-weaker}
 use Rattle.std.proofs.lemmas.List.Elements.{All-cons, All-nil}
 use mir.Val.{of_z, to_z}
-use Rattle.pl_term.specs.Tree.{Tree, int}
+use Rattle.pl_term.specs.Tree.{int}
 use Rattle.term_store.specs.Contents.{Holds, term_at}
 use Rattle.iso_search.specs.Errors.{error_tree, fault_tree}
 use Rattle.iso_search.specs.Spelling.{spelled, text_of}

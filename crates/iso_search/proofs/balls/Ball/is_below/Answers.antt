@@ -10,5 +10,5 @@ returns c above =
     let s = c.deref-own.result.now in
     let place = c.self.inside.place in
     let fit = subst Fit (ap (λ t. t.heap) c.mark-mark.ensures.here) c.mark-mark.ensures.mark.fit in
-    let few = variables_within s place c.args.number fit (subst (λ u. Holds u place) (sym c.deref-own.ensures) c.self.invariant) (c.is_above.ensures.0 above) in
+    let few = variables_within s place c.args.number fit (subst (λ u. Holds u place) (sym c.deref-own.ensures) c.self.invariant.0) (c.is_above.ensures.0 above) in
     subst (λ t. length (variables t) ≤ c.args.number) (ap (λ u. term_at u place) c.deref-own.ensures ∙ c.self.view_is) few

@@ -1,10 +1,9 @@
-use Rattle.std.proofs.Common.{◌≡◌, codes, length, refl, sym, ap, subst, ◌∙◌}
+use Rattle.std.proofs.Common.{◌≡◌, codes, length, refl, ap, subst, ◌∙◌}
 use Rattle.pl_term.specs.Cells.{cells}
 use Rattle.pl_term.specs.Variables.{variables}
 use Rattle.pl_model.specs.History.{Proc}
 use Rattle.pl_model.specs.Balls.{error_ball}
 use Rattle.pl_model.specs.Control.{catch_proc}
-use Rattle.term_store.specs.Contents.{Holds, IsAbove}
 use Rattle.term_store.specs.Heap.{atom_name}
 use Rattle.iso_search.specs.declared.search.Search.{Search}
 use Rattle.iso_search.specs.Outcomes.{fault_term, state_in}

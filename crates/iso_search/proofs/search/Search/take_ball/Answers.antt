@@ -1,6 +1,5 @@
-use Rattle.std.proofs.Common.{◌≡◌, ◌+◌, ◌<◌, ◌^◌, length, refl, sym, ap, ◌∙◌, arith}
+use Rattle.std.proofs.Common.{◌+◌, ◌<◌, ◌^◌, length, refl, ap, ◌∙◌, arith}
 use Rattle.pl_term.specs.Cells.{cells}
-use Rattle.pl_term.specs.Variables.{variables}
 use Rattle.pl_model.specs.Terms.{variable_count}
 use Rattle.iso_search.specs.Spelling.{spelled, text_of}
 use Rattle.iso_search.proofs.Charging.{ball_too_large}
