@@ -1,5 +1,7 @@
 -- A step after a failure.
-use Rattle.std.proofs.Common.{◌≡◌, ℕ, [], Option, Some, None, inl, refl, sym, ap, subst, ◌∙◌}
+use Rattle.std.proofs.Common.{◌≡◌, ℕ, [], Option, Some, None, IfOk, Result, Ok, Err, inl, refl, sym, ap, subst, ◌∙◌}
+use Rattle.std.specs.Prelude.{OnOk}
+use Rattle.pl_term.specs.declared.memory.Memory.{Memory as NoMemory}
 use Rattle.pl_model.specs.Resolution.{failing, goes}
 use Rattle.pl_model.specs.Control.{gone_back}
 use Rattle.atom_api.specs.Names.{Names}
@@ -120,3 +122,21 @@ module _ (m n : Names) (t u : Told) (e : Engine) (x : Search) (f : Engine) (b : 
   retried_step (Some Ended) gone taken step = absurd gone.0
   retried_step (Some (Missing p)) gone taken step = absurd gone.0
   retried_step (Some Memory) gone taken step = absurd gone.0
+
+-- A step was made, or none.
+abbrev pub IsStepAfter : Names → Told → Engine → Names → Told → Engine → Option Slice → Type 0
+IsStepAfter m t e n u f o =
+    IsStepped m t e o n u f [] × IsReady n u f × IsSpent e.search.inferences f.search.inferences × (f.solutions_found ≡ e.solutions_found)
+
+-- By the answer.
+pub retried_end : (m n : Names) (t u : Told) (e : Engine) (x : Search) (f : Engine) (b : Back) (can : CanBePutBack b) (holds : Holds m n) (view : IsView (view_of n u)) (ready : IsReady m t e)
+    (fails : e.doing ≡ Failing) (kept : (let y : Search = record e.search { store = x.store; frames = x.frames; choices = x.choices } in x ≡ y))
+    (r : Result (Option Slice) NoMemory)
+    → OnOk r (IsWhole f.search)
+    → (let y : Engine = record e { search = x } in IfOk r (IsGoneOn t y b n u f))
+    → IsTaken e.search x b
+    → ((q : Setting) → q.doing ≡ failing → back_result q x b ≡ gone_back (limits_in q e.search) (state_in q e.search) (choices_of q.view e.search))
+    → IfOk r (IsStepAfter m t e n u f)
+retried_end m n t u e x f b can holds view ready fails kept (Ok o) whole gone taken step =
+    retried_step m n t u e x f b can holds view ready fails kept whole o gone taken step
+retried_end m n t u e x f b can holds view ready fails kept (Err d) whole gone taken step = tt

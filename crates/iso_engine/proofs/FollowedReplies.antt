@@ -118,16 +118,10 @@ module _ (m n : Names) (t u : Told) (before : History) (e d : Search) (goal : Pl
     called_is (replies.Clauses f) (calls.Ran o) served named followed = run_is f o (replies.Clauses f) served served.reply named followed
     called_is (replies.Clauses f) calls.Spent served named followed = absurd followed
     called_is (replies.Clauses f) (calls.Refused x) served named followed = absurd followed
-    called_is (replies.Clauses f) (calls.NeedsAtoms x) served named followed = absurd followed
-    called_is (replies.Clauses f) (calls.Retry x) served named followed = absurd followed
-    called_is (replies.Clauses f) (calls.Worn x) served named followed = absurd followed
     called_is (replies.Refused x) (calls.Refused y) served named followed =
         refused_is x y (replies.Refused x) served served.reply named followed.0 followed.1
     called_is (replies.Refused x) calls.Spent served named followed = absurd followed
     called_is (replies.Refused x) (calls.Ran o) served named followed = absurd followed
-    called_is (replies.Refused x) (calls.NeedsAtoms y) served named followed = absurd followed
-    called_is (replies.Refused x) (calls.Retry y) served named followed = absurd followed
-    called_is (replies.Refused x) (calls.Worn y) served named followed = absurd followed
     called_is (replies.Standing ops quotes) c served named followed = absurd served.reply
     called_is (replies.Procedures ps) c served named followed = absurd served.reply
     called_is (replies.Flags fs) c served named followed = absurd served.reply

@@ -207,7 +207,7 @@ module _ (x : Origin) (at : Place) (e : Search) (rest : ℕ) where
       state_still x at e Holds m t known rest e.store e.next_variable (running (node_of t.view e rest)) (adds_same x.store e.store k.1)
       ∙ ap (λ u. record s { doing = running (node_of t.view (record e { store = u }) rest) }) k.1
       ∙ sym
-      (q.2
+      (q.1
       ∙ ap (unified (record s { next = s.next + zero }) (record n { used = n.used + zero })) solved
       ∙ ap₂ (λ j d. record s { doing = running d; next = j }) next
       (instance_none (record n { used = n.used + zero }) ∙ ap (λ j. record n { used = j }) used))

@@ -45,6 +45,7 @@ pub mod Procedures
 pub mod Putting
 pub mod Reading
 pub mod Readings
+pub mod Refusals
 pub mod Resolving
 pub mod Retries
 pub mod RowSteps

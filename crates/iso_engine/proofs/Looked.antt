@@ -11,7 +11,8 @@ use Rattle.pl_model.specs.SharedState.{state_at}
 use Rattle.pl_model.specs.Requests.{look, standing}
 use Rattle.pl_model.specs.Requests as requests
 use Rattle.pl_model.specs.Service.{Served, answers, waits, serve, served_now}
-use Rattle.world_api.specs.declared.answer.Answer.TheVariants.{Served as ServedAnswer}
+use Rattle.world_api.specs.declared.answer.Answer.TheVariants.{Served as ServedAnswer, Waits as WaitsAnswer}
+use Rattle.world_api.specs.declared.answer.On.{On}
 use Rattle.world_api.specs.declared.reply.Reply.{Reply}
 use Rattle.world_api.specs.declared.reply.Reply.TheVariants.{Standing, Clauses, Procedures, Flags, Named, Message, NoMessage, Status, Done, Gone, Refused}
 use Rattle.world_api.specs.declared.visit.Visit.TheVariants.{Look}
@@ -31,6 +32,11 @@ unfolding serve reply_of
 look_stands e goals h r k is =
     let s = state_at goals h (length h)
     in (s.operators, s.flags.double_quotes, sym (ap (reply_of r) is))
+
+-- A look never waits.
+look_serves : (e goals : ℕ) (h : History) → served_now e goals h look ≡ waits → ⊥
+unfolding serve
+look_serves e goals h is = absurd (cc)
 
 module _ {T K : Type 0} (term : (ℕ → Chars) → T → Tree) (key : T → K) (old_text new_text : ℕ → Chars) where
   stands_only : (r : Reply T) (ops : OperatorTable) (quotes : Quotes) → ((x : Arc OperatorTable Global) (y : Quotes) → r ≡ Standing x y → ⊥) → Says term new_text r (standing ops quotes) → ⊥
@@ -52,6 +58,9 @@ module _ {T K : Type 0} (term : (ℕ → Chars) → T → Tree) (key : T → K) 
       let s = v.1.serves look refl
       in let there = look_stands t.engine t.goals before s.0 v.1.update s.1
       in stands_only r there.0 there.1 other (subst (Says term new_text r) there.2 s.2)
+
+  pub never_waits : (on : On) (g : ℕ) (t : Told) (before : History) (u : Told) → Visited term key old_text new_text Look (WaitsAnswer on g) t before u → ⊥
+  never_waits on g t before u v = look_serves t.engine t.goals before (v.1.waiting look refl)
 
   pub looked_standing : (r : Reply T) (g : ℕ) (t : Told) (before : History) (u : Told) (ops : Arc OperatorTable Global) (quotes : Quotes)
       → Visited term key old_text new_text Look (ServedAnswer r g) t before u

@@ -1,10 +1,9 @@
 -- Goals that write, as steps of the definition.
-use Rattle.std.proofs.Common.{◌≡◌, inl, inr, ℕ, suc, ◌+◌, ◌<◌, ◌≤◌, cond, List, [], ◌∷◌, ◌++◌, length, Option, Some, None, IsSome, is_some, IfOk, Result, Ok, Err, refl, sym, ap, ap₂, subst, ◌∙◌, arith}
+use Rattle.std.proofs.Common.{◌≡◌, inl, inr, ℕ, suc, ◌+◌, ◌<◌, ◌≤◌, cond, List, [], ◌∷◌, ◌++◌, length, Option, Some, None, IsSome, is_some, refl, sym, ap, ap₂, subst, ◌∙◌, arith}
 use Rattle.std.specs.Prelude.{encode_utf8_all}
 use Rattle.std.specs.List.{AllByRecursion}
 use Rattle.std.proofs.lemmas.Bool.{le-ltb, lt-ltb, true≢false}
 use Rattle.std.proofs.lemmas.List.Elements.{recursion_from_All}
-use Rattle.pl_term.specs.declared.memory.Memory.{Memory}
 use Rattle.pl_term.specs.Tree.{Chars, Tree, Trees, var, int, atom, comp, none, more}
 use Rattle.pl_model.specs.AtomBuiltins.{character_error}
 use Rattle.pl_model.specs.Balls.{no_inferences}
@@ -37,7 +36,7 @@ use Rattle.iso_engine.specs.declared.write.goals.OutputGoal.TheVariants.{Term, C
 use Rattle.iso_engine.specs.declared.write.wrote.Wrote.{Wrote}
 use Rattle.iso_engine.specs.declared.write.wrote.Wrote.TheVariants as wrote
 use Rattle.iso_engine.specs.OutputGoals.{IsGoalOf, construction}
-use Rattle.iso_engine.specs.Wrote.{IsDone, IsRun, IsSpent, IsUnderOperators, IsWrote, WritesAlone, taken, write_refusals}
+use Rattle.iso_engine.specs.Wrote.{IsDone, IsRun, IsSpent, IsUnderOperators, IsWrote, WritesAlone, taken}
 
 -- Terms over atoms that are held
 
@@ -214,25 +213,3 @@ pub alone_wrote : (m n : Names) (t : Told) (e : Search) (o : OutputGoal) (goal :
 alone_wrote m n t e o goal rest a d b wrote.Spent same h is = (((λ k. ap (λ (x : Names). x k) same), refl, h.0, h.1), h.2 goal is)
 alone_wrote m n t e o goal rest a d b (wrote.Ran x) same h is =
     inl (record { names = λ k. ap (λ (y : Names). y k) same; told = refl; done = h goal is })
-alone_wrote m n t e o goal rest a d b (wrote.NeedsAtoms p) same h is = absurd h
-alone_wrote m n t e o goal rest a d b (wrote.Retry c) same h is = absurd h
-alone_wrote m n t e o goal rest a d b (wrote.Worn x) same h is = absurd h
-
-pub alone_refusals : (m : Names) (e : Search) (o : OutputGoal) (rest : ℕ) (a : List ℕ) (d : Search) (b : List ℕ) (r : Result Wrote Memory)
-    → IfOk r (WritesAlone m e o rest a d b)
-    → write_refusals r ≡ []
-alone_refusals m e o rest a d b (Ok wrote.Spent) h = refl
-alone_refusals m e o rest a d b (Ok (wrote.Ran x)) h = refl
-alone_refusals m e o rest a d b (Ok (wrote.NeedsAtoms p)) h = absurd h
-alone_refusals m e o rest a d b (Ok (wrote.Retry c)) h = absurd h
-alone_refusals m e o rest a d b (Ok (wrote.Worn x)) h = absurd h
-alone_refusals m e o rest a d b (Err x) h = refl
-
-pub all_wrote : (m n : Names) (t : Told) (e : Search) (o q : OutputGoal) (rest : ℕ) (a : List ℕ) (d : Search) (b : List ℕ) (r : Result Wrote Memory)
-    → q ≡ o
-    → n ≡ m
-    → IfOk r (WritesAlone m e o rest a d b)
-    → IfOk r (λ w. (goal : Place) → IsGoalOf e.store q goal → IsWrote m t e goal rest a n t d b w)
-all_wrote m n t e o q rest a d b (Ok w) which same h =
-    λ goal is. alone_wrote m n t e o goal rest a d b w same h (subst (λ x. IsGoalOf e.store x goal) which is)
-all_wrote m n t e o q rest a d b (Err x) which same h = tt

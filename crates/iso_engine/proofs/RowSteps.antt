@@ -1,5 +1,5 @@
 -- Built-in predicates that are functions of their arguments, as steps of a search.
-use Rattle.std.proofs.Common.{◌≡◌, ℕ, suc, ◌<◌, ◌++◌, Bool, true, false, List, [], ◌∷◌, length, map, Some, None, IsSome, refl, sym, ap, ap₂, subst, ◌∙◌, arith}
+use Rattle.std.proofs.Common.{◌≡◌, ℕ, suc, ◌<◌, ◌++◌, Bool, true, false, List, [], ◌∷◌, length, map, Option, Some, None, IsSome, refl, sym, ap, ap₂, subst, ◌∙◌, arith}
 use Rattle.std.specs.List.{All, AllByRecursion, Contains}
 use Rattle.std.proofs.lemmas.List.Elements.{All-from_recursion, recursion_from_All}
 use Rattle.pl_term.specs.Tree.{Chars, Tree, Trees, none, more, compound, count, trees}
@@ -11,6 +11,7 @@ use Rattle.pl_model.specs.Resolution.{Next, Node, State, goes}
 use Rattle.pl_model.specs.Terms.{arguments}
 use Rattle.pl_model.specs.Control.{costing, name_of, with_other, with_row}
 use Rattle.atom_api.specs.Names.{FixedStand, Names}
+use Rattle.atom_words.specs.declared.view.Refusal.{Refusal}
 use Rattle.term_store.specs.declared.words.Place.{Place}
 use Rattle.term_store.specs.declared.views.Arguments.{Arguments}
 use Rattle.term_store.specs.Heap.{atom_name}
@@ -44,14 +45,15 @@ use Rattle.iso_search.proofs.Spelt.{count-spelled}
 use Rattle.iso_engine.proofs.OutputSteps.{read_held}
 use Rattle.iso_engine.specs.declared.builtin.RowGoal.{RowGoal}
 use Rattle.iso_engine.specs.Builtins.{IsRowGoal}
-use Rattle.iso_engine.specs.declared.slices.Slice.{Slice}
-use Rattle.iso_engine.specs.declared.slices.Slice.TheVariants as slice
+use Rattle.iso_engine.specs.declared.unserved.Unserved.{Unserved}
+use Rattle.iso_engine.specs.declared.unserved.Unserved.TheVariants as unserved
 use Rattle.iso_engine.specs.Rows.{IsGivenText, IsRowAt, LeadsTo, refusal_of}
+use Rattle.iso_engine.specs.Unserved.{refusals_of, slice_of}
 use Rattle.iso_engine.proofs.Calls.{taken_costs}
 use Rattle.iso_engine.proofs.Equals.{keeps_counted}
 use Rattle.iso_engine.proofs.Procedures.{compound_proc, proc_as}
 
-some_none : (s : Slice) → Some s ≡ None → ⊥
+some_none : (u : Unserved) → Some u ≡ None → ⊥
 some_none s e = cc
 
 -- The arguments of a goal
@@ -262,6 +264,27 @@ unrefused (Answer ps fresh) e = refl
 unrefused (Line ps following) e = refl
 unrefused (Ball w) e = refl
 unrefused (CellsFull used need) e = refl
-unrefused (NeedsAtoms p) e = absurd (some_none (slice.NeedsAtoms p) e)
-unrefused (Retry c) e = absurd (some_none (slice.Retry c) e)
-unrefused (Worn w) e = absurd (some_none (slice.Worn w) e)
+unrefused (NeedsAtoms p) e = absurd (some_none (unserved.NeedsAtoms p) e)
+unrefused (Retry c) e = absurd (some_none (unserved.Retry c) e)
+unrefused (Worn w) e = absurd (some_none (unserved.Worn w) e)
+
+refusals_told : Option Unserved → List Refusal
+refusals_told None = []
+refusals_told (Some u) = refusals_of (slice_of u)
+
+all_told : (row : Row) → row_refusals row ≡ refusals_told (refusal_of row)
+unfolding refusals_told
+all_told Fails = refl
+all_told HoldsRow = refl
+all_told (Answer ps fresh) = refl
+all_told (Line ps following) = refl
+all_told (Ball w) = refl
+all_told (CellsFull used need) = refl
+all_told (NeedsAtoms p) = refl
+all_told (Retry c) = refl
+all_told (Worn w) = refl
+
+-- The refusal of a row.
+pub row_refused : (row : Row) (u : Unserved) → refusal_of row ≡ Some u → row_refusals row ≡ refusals_of (slice_of u)
+unfolding refusals_told
+row_refused row u is = all_told row ∙ ap refusals_told is

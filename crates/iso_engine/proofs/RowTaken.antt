@@ -33,13 +33,14 @@ use Rattle.iso_engine.specs.declared.builtin.RowGoal.{RowGoal}
 use Rattle.iso_engine.specs.declared.doing.Doing.TheVariants.{Running}
 use Rattle.iso_engine.specs.declared.engine.Engine.{Engine}
 use Rattle.iso_engine.specs.declared.slices.Slice.{Slice}
-use Rattle.iso_engine.specs.declared.slices.Slice.TheVariants.{Yield, Solution, NeedsAtoms, Retry, Worn, Waits, Ended, Missing, Memory}
+use Rattle.iso_engine.specs.declared.slices.Slice.TheVariants.{Missing}
 use Rattle.iso_engine.specs.Builtins.{IsRowGoal}
 use Rattle.iso_engine.specs.Following.{HasProcedure}
 use Rattle.iso_engine.specs.Views.{view_of}
 use Rattle.iso_engine.specs.Missing.{IsUnbuilt}
 use Rattle.iso_engine.specs.Ready.{IsReady, StepsFrom}
-use Rattle.iso_engine.specs.Rows.{IsGivenText, IsNotRun, IsRowAt, IsRowText, LeadsTo}
+use Rattle.iso_engine.specs.Rows.{IsGivenText, IsRowAt, IsRowText, IsUnbuiltRow, LeadsTo}
+use Rattle.iso_engine.specs.Retrying.{IsTakenBack}
 use Rattle.iso_engine.specs.Slices.{IsStepped}
 use Rattle.iso_engine.specs.Standing.{doing_of, state_at}
 use Rattle.iso_engine.specs.Tasks.{IsMissingTask}
@@ -47,6 +48,7 @@ use Rattle.iso_engine.proofs.Followed.{goal_done, run_setting}
 use Rattle.iso_engine.proofs.Moving.{IsMoved, seen_moved}
 use Rattle.iso_engine.proofs.Opening.{goal_held}
 use Rattle.iso_engine.proofs.Procedures.{compound_proc}
+use Rattle.iso_engine.proofs.Refusals.{refused_step}
 use Rattle.iso_engine.proofs.RowSteps.{row_count, row_proc}
 use Rattle.iso_engine.proofs.TakenBack.{called_back}
 use Rattle.iso_engine.proofs.Tasking.{task_is_missing}
@@ -126,11 +128,13 @@ module _ (m n : Names) (t : Told) (e f : Engine) (r : RowGoal) (list cut rest : 
     pub stopped_ready : IsReady n t f
     stopped_ready = stays.1
 
-    pub stopped_stepped : (s : Slice) → IsNotRun r s → IsStepped m t e (Some s) n t f []
-    stopped_stepped (NeedsAtoms p) h = (refl, tt, stays.0)
-    stopped_stepped (Retry q) h = (refl, tt, stays.0)
-    stopped_stepped (Worn w) h = (refl, tt, stays.0)
-    stopped_stepped (Missing p) h =
+    -- The goal is to be tried again.
+    pub refused_stepped : (s : Slice) → IsTakenBack s → IsStepped m t e (Some s) n t f []
+    refused_stepped s again = refused_step m t e n t f s again stays.0
+
+    -- Its predicate is not built.
+    pub missing_stepped : (p : Procedure) → IsUnbuiltRow r p → IsStepped m t e (Some (Missing p)) n t f []
+    missing_stepped p h =
         let here : IsReady n t e = subst (IsReady n t) same stays.1
         in let missing = task_is_missing n t e list rest doing here.stable stands unlike finite view (Goal r.place cut) procedure first (row_missing h.0)
         in (
@@ -139,8 +143,3 @@ module _ (m n : Names) (t : Told) (e f : Engine) (r : RowGoal) (list cut rest : 
               (subst (Rattle.iso_engine.specs.Missing.IsMissing n t e) (sym h.1) missing),
           stays.0,
         )
-    stopped_stepped Yield h = absurd h
-    stopped_stepped (Solution ops) h = absurd h
-    stopped_stepped (Waits on q) h = absurd h
-    stopped_stepped Ended h = absurd h
-    stopped_stepped Memory h = absurd h

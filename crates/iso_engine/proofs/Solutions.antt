@@ -3,8 +3,8 @@ use Rattle.std.proofs.Common.{◌≡◌, ℕ, ◌+◌, List, [], ◌∷◌, ◌+
 use Rattle.pl_term.specs.Tree.{Chars, Tree}
 use Rattle.pl_model.specs.OperatorTable.{OperatorTable, opening_table}
 use Rattle.pl_model.specs.History.{History}
-use Rattle.pl_model.specs.Service.{waits, serve, entry_by, served_now}
-use Rattle.pl_model.specs.Requests.{Request, look, standing}
+use Rattle.pl_model.specs.Service.{entry_by}
+use Rattle.pl_model.specs.Requests.{look, standing}
 use Rattle.pl_model.specs.Resolution.{answering, running, failing, throwing, erasing, clearing, ended, Choice, Limits, Node, Output, solution, solution_count, State, asks}
 use Rattle.pl_model.specs.Resolution as resolution
 use Rattle.pl_model.specs.Control.{step, with_solution}
@@ -25,10 +25,8 @@ use Rattle.iso_engine.specs.Standing.{doing_of, limits_of, state_at, state_now}
 use Rattle.iso_engine.specs.Ready.{IsReady, IsStable}
 use Rattle.iso_engine.specs.Advancing.{Advances}
 use Rattle.iso_engine.specs.Asking.{IsAnswered, IsAsking}
-use Rattle.iso_engine.specs.declared.slices.Slice.{Slice}
-use Rattle.iso_engine.specs.declared.slices.Slice.TheVariants.{Yield, Solution, NeedsAtoms, Retry, Worn, Waits, Ended, Missing, Memory}
-use Rattle.iso_engine.specs.Looking.{IsRefused, Looks}
-use Rattle.iso_engine.specs.Slices.{IsStepped, answer_of, written_text}
+use Rattle.iso_engine.specs.Looking.{Looks}
+use Rattle.iso_engine.specs.Slices.{answer_of}
 use Rattle.iso_engine.proofs.Alike.{KeepsVisits, alike_view, visits_more, visits_same}
 use Rattle.iso_engine.proofs.Later.{held_later}
 use Rattle.iso_engine.proofs.Stability.{advance_asks, advance_same, advance_seen, ready_later, stable_later}
@@ -136,56 +134,3 @@ module _ (m n : Names) (t u : Told) (e f : Engine) (list : ℕ) (ops : OperatorT
               ap (λ (x : Engine). doing_of v x.search x.doing) is ∙ sym (ap (λ (x : Engine). doing_of (view_of n u) x.search x.doing) is),
             );
       }
-
--- The view is later where the request was not answered.
-refused_later : (m n : Names) (t u : Told) (q : Request) (s : Slice) → IsRefused t q s u → (s ≡ Memory → ⊥) → Holds m n → IsLater m t n u
-refused_later m n t u q Yield h differs holds = absurd h
-refused_later m n t u q (Solution ops) h differs holds = absurd h
-refused_later m n t u q (NeedsAtoms p) h differs holds = subst (IsLater m t n) (sym h) (held_later m n t holds)
-refused_later m n t u q (Retry c) h differs holds = subst (IsLater m t n) (sym h) (held_later m n t holds)
-refused_later m n t u q (Worn w) h differs holds = subst (IsLater m t n) (sym h) (held_later m n t holds)
-refused_later m n t u q (Waits on g) h differs holds =
-    record {
-      holds = holds;
-      later = h.entries.later;
-      grown = ap (λ (x : Told). x.history) h.told ∙ h.entries.grown;
-      engine = ap (λ (x : Told). x.engine) h.told;
-      goals = ap (λ (x : Told). x.goals) h.told;
-    }
-refused_later m n t u q Ended h differs holds = absurd h
-refused_later m n t u q (Missing p) h differs holds = absurd h
-refused_later m n t u q Memory h differs holds = absurd (differs refl)
-
-refused_visits : (t u : Told) (q : Request) (s : Slice) → IsRefused t q s u → (s ≡ Memory → ⊥) → KeepsVisits t u
-refused_visits t u q Yield h differs = absurd h
-refused_visits t u q (Solution ops) h differs = absurd h
-refused_visits t u q (NeedsAtoms p) h differs = visits_same t u (ap (λ (x : Told). x.gens) h)
-refused_visits t u q (Retry c) h differs = visits_same t u (ap (λ (x : Told). x.gens) h)
-refused_visits t u q (Worn w) h differs = visits_same t u (ap (λ (x : Told). x.gens) h)
-refused_visits t u q (Waits on g) h differs = visits_same t u (ap (λ (x : Told). x.gens) h.told)
-refused_visits t u q Ended h differs = absurd h
-refused_visits t u q (Missing p) h differs = absurd h
-refused_visits t u q Memory h differs = absurd (differs refl)
-
-pub refused_ready : (m n : Names) (t u : Told) (e : Engine) (s : Slice) → IsRefused t look s u → (s ≡ Memory → ⊥) → Holds m n → IsView (view_of n u) → IsReady m t e → IsReady n u e
-refused_ready m n t u e s h differs holds view ready =
-    ready_later m n t u e view (refused_later m n t u look s h differs holds) (refused_visits t u look s h differs) ready
-
--- A look never waits.
-look_serves : (e goals : ℕ) (h : History) → served_now e goals h look ≡ waits → ⊥
-unfolding serve
-look_serves e goals h is = absurd (cc)
-
--- A look that was not answered is no step.
-module _ (m n : Names) (t u : Told) (e : Engine) (list : ℕ) (doing : e.doing ≡ Running list) (none : tasks e.search.frames.items list ≡ []) (holds : Holds m n)
-    (view : IsView (view_of n u)) (ready : IsReady m t e) where
-  pub refused_stepped : (s : Slice) → IsRefused t look s u → (s ≡ Memory → ⊥) → (more : List Output) × IsStepped m t e (Some s) n u e more × (written_text more ≡ [])
-  refused_stepped Yield h differs = absurd h
-  refused_stepped (Solution ops) h differs = absurd h
-  refused_stepped (NeedsAtoms p) h differs = ([], (refl, tt, advance_same m n t u e ready.stable view h holds), refl)
-  refused_stepped (Retry c) h differs = ([], (refl, tt, advance_same m n t u e ready.stable view h holds), refl)
-  refused_stepped (Worn w) h differs = ([], (refl, tt, advance_same m n t u e ready.stable view h holds), refl)
-  refused_stepped (Waits on g) h differs = absurd (look_serves t.engine t.goals h.before h.waiting)
-  refused_stepped Ended h differs = absurd h
-  refused_stepped (Missing p) h differs = absurd h
-  refused_stepped Memory h differs = absurd (differs refl)

@@ -38,10 +38,10 @@ use Rattle.iso_engine.specs.TableLines.{IsGoneBack, IsNextMade, LineOrigin}
 use Rattle.iso_engine.specs.declared.builtin.RowGoal.{RowGoal}
 use Rattle.iso_engine.specs.declared.doing.Doing.TheVariants.{Failing}
 use Rattle.iso_engine.specs.declared.engine.Engine.{Engine}
-use Rattle.iso_engine.specs.declared.slices.Slice.{Slice}
+use Rattle.iso_engine.specs.declared.unserved.Unserved.{Unserved}
 use Rattle.iso_engine.specs.Builtins.{IsRowGoal}
 use Rattle.iso_engine.specs.Lines.{IsLineAsked, LineLeadsTo}
-use Rattle.iso_engine.specs.Retrying.{IsTakenBack, IsTried}
+use Rattle.iso_engine.specs.Retrying.{IsTried}
 use Rattle.iso_engine.specs.Rows.{refusal_of}
 use Rattle.iso_engine.specs.Standing.{doing_of, state_at}
 use Rattle.iso_engine.proofs.Arms.{when_some}
@@ -148,21 +148,7 @@ no_table_tried n t e goal line next none =
       rest = refl;
     }
 
--- A row of which an atom was refused: the step is to be taken again, and nothing has changed.
-all_back : (row : Row) → IfSome (refusal_of row) IsTakenBack
-all_back found.Fails = tt
-all_back found.Holds = tt
-all_back (found.Answer ps fresh) = tt
-all_back (found.Line ps following) = tt
-all_back (found.Ball w) = tt
-all_back (found.CellsFull used need) = tt
-all_back (found.NeedsAtoms p) = tt
-all_back (found.Retry c) = tt
-all_back (found.Worn w) = tt
-
-pub refused_back : (row : Row) (s : Slice) → refusal_of row ≡ Some s → IsTakenBack s
-refused_back row s is = when_some IsTakenBack (refusal_of row) s (all_back row) is
-
+-- A row of which an atom was refused: nothing has changed.
 module _ (s : Contents) (next : ℕ) (ts us : Trees) (xs : List Answer) (k : ℕ) (n : Names) (t : Contents) where
   all_same : (row : Row) → IsRow s next ts (lined us xs k) n t row → IfSome (refusal_of row) (λ x. t ≡ s)
   all_same found.Fails h = tt
@@ -175,7 +161,7 @@ module _ (s : Contents) (next : ℕ) (ts us : Trees) (xs : List Answer) (k : ℕ
   all_same (found.Retry c) h = h
   all_same (found.Worn w) h = h
 
-  pub refused_same : (row : Row) (x : Slice) → IsRow s next ts (lined us xs k) n t row → refusal_of row ≡ Some x → t ≡ s
+  pub refused_same : (row : Row) (x : Unserved) → IsRow s next ts (lined us xs k) n t row → refusal_of row ≡ Some x → t ≡ s
   refused_same row x made is = when_some (λ y. t ≡ s) (refusal_of row) x (all_same row made) is
 
 -- The choice point is there again.

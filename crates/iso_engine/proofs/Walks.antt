@@ -13,8 +13,8 @@ use Rattle.iso_engine.specs.Advancing.{Advances}
 use Rattle.iso_engine.specs.Ready.{IsReady}
 use Rattle.iso_engine.specs.declared.slices.Slice.{Slice}
 use Rattle.iso_engine.specs.declared.slices.Slice.TheVariants.{Yield, Solution, NeedsAtoms, Retry, Worn, Waits, Ended, Missing, Memory}
-use Rattle.iso_engine.specs.Looking.{IsRefusedBy, refusals_of, stopped_refusals}
 use Rattle.iso_engine.specs.Slices.{EndsWith, IsSlice, IsSliced, IsStepped, steps_of, written_text}
+use Rattle.iso_engine.specs.Unserved.{IsRefusedBy, refusals_of, stopped_refusals}
 use Rattle.iso_engine.specs.Spending.{IsSpent}
 use Rattle.iso_engine.specs.Walking.{IsWalk}
 use Rattle.iso_engine.proofs.Stability.{advance_none, advance_then}

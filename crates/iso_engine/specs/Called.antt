@@ -10,8 +10,6 @@ use Rattle.pl_model.specs.Service.{answers, entry_by, served_now}
 use Rattle.pl_model.specs.Resolution.{State, Next, goes, resolving}
 use Rattle.pl_model.specs.Control.{costing, first_clause}
 use Rattle.atom_api.specs.Names.{Names}
-use Rattle.atom_words.specs.declared.view.Refusal.{Refusal}
-use Rattle.atom_words.specs.declared.view.Refusal.TheVariants.{Full as RefusalFull, Again as RefusalAgain, Worn as RefusalWorn}
 use Rattle.term_store.specs.declared.words.Place.{Place}
 use Rattle.term_store.specs.NumberedNames.{names_of, term_by}
 use Rattle.world_api.specs.declared.reply.Found.{Found}
@@ -27,7 +25,7 @@ use Rattle.iso_search.specs.Outcomes.{IsAfter, Setting, limits_in, result_in, st
 use Rattle.iso_search.specs.Reading.{View, IsView, reads}
 use Rattle.iso_search.specs.Searching.{node_of}
 use Rattle.iso_engine.specs.declared.call.called.Called.{Called}
-use Rattle.iso_engine.specs.declared.call.called.Called.TheVariants.{Spent, Ran, Refused, NeedsAtoms, Retry, Worn}
+use Rattle.iso_engine.specs.declared.call.called.Called.TheVariants.{Spent, Ran, Refused}
 use Rattle.iso_engine.specs.Views.{IsViewFrom}
 use Rattle.iso_engine.specs.Lists.{IsListed, IsOpenBehind}
 
@@ -87,7 +85,7 @@ pub record IsSpent (e : Search) (goal : Place) (rest : ℕ) : Type 0 where
 abbrev pub IsUntouched : Names → Told → Search → Names → Told → Search → Type 0
 IsUntouched m t e n u d = ((a : ℕ) → n a ≡ m a) × (u ≡ t) × (d ≡ e)
 
--- The same, but that more atoms may be held.
+-- The same, but that more atoms may be held: the call is to be made again.
 abbrev pub IsTakenBack : Told → Search → Told → Search → Type 0
 IsTakenBack t e u d = (u ≡ t) × (d ≡ e)
 
@@ -95,19 +93,3 @@ abbrev pub IsCalled : Names → Told → Search → Place → ℕ → Names → 
 IsCalled m t e goal rest n u d Spent = IsUntouched m t e n u d × IsSpent e goal rest
 IsCalled m t e goal rest n u d (Ran o) = IsRun m t e goal rest n u d o
 IsCalled m t e goal rest n u d (Refused error) = IsRefused m t e goal n u d error
-IsCalled m t e goal rest n u d (NeedsAtoms p) = IsTakenBack t e u d
-IsCalled m t e goal rest n u d (Retry c) = IsTakenBack t e u d
-IsCalled m t e goal rest n u d (Worn w) = IsTakenBack t e u d
-
--- The refusals of atoms that it hands on.
-abbrev pub refusals_of : Called → List Refusal
-refusals_of Spent = []
-refusals_of (Ran o) = []
-refusals_of (Refused e) = []
-refusals_of (NeedsAtoms p) = RefusalFull p ∷ []
-refusals_of (Retry c) = RefusalAgain c ∷ []
-refusals_of (Worn w) = RefusalWorn w ∷ []
-
-abbrev pub call_refusals : {E : Type 0} → Result Called E → List Refusal
-call_refusals (Ok c) = refusals_of c
-call_refusals (Err e) = []

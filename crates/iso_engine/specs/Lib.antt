@@ -27,6 +27,7 @@ pub mod Standing
 pub mod Starting
 pub mod TableLines
 pub mod Tasks
+pub mod Unserved
 pub mod Views
 pub mod Walking
 pub mod Writes

@@ -20,9 +20,6 @@ use Rattle.iso_search.specs.Reading.{IsView, reads}
 use Rattle.iso_search.specs.Searching.{node_of}
 use Rattle.iso_search.specs.Spelling.{spelled, text_of}
 use Rattle.iso_engine.specs.declared.builtin.RowGoal.{RowGoal}
-use Rattle.iso_engine.specs.declared.rows.Tried.{Tried}
-use Rattle.iso_engine.specs.declared.rows.Tried.TheVariants.{Led, Stopped}
-use Rattle.iso_engine.specs.Retrying.{IsTakenBack}
 
 -- The text is one of an answer that the lines give from there on for the goal at the place.
 abbrev pub IsLineAsked : Names → Contents → Place → ℕ → Chars → Type 0
@@ -36,8 +33,6 @@ pub record LineLeadsTo (n : Names) (e : Search) (r : RowGoal) (line rest : ℕ) 
   pub step : (t : Setting) → IsView t.view → Holds n t.view.names
       → result_in t f (node_of t.view e rest) (proc_of (reads t.view e.store r.place)) o ≡ back_result t e (Answers r.place line rest)
 
--- What came of it, before the tasks of a list: the goal went on, or the choice point is there again.
-abbrev pub IsLineTried : Names → Search → RowGoal → ℕ → ℕ → Search → Tried → Type 0
-IsLineTried n e r line rest f (Led o) = LineLeadsTo n e r line rest f o
-IsLineTried n e r line rest f (Stopped s) =
-    IsTakenBack s × IsTaken f e (Answers r.place line rest) × (let x : Search = record e { choices = f.choices } in f ≡ x)
+-- The choice point is there again.
+abbrev pub IsLineThere : Search → RowGoal → ℕ → ℕ → Search → Type 0
+IsLineThere e r line rest f = IsTaken f e (Answers r.place line rest) × (let x : Search = record e { choices = f.choices } in f ≡ x)

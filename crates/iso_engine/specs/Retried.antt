@@ -1,5 +1,5 @@
 -- What going back to the clauses that were not tried leads to.
-use Rattle.std.specs.Prelude.{◌≡◌, ℕ, List, [], ◌∷◌, Option, Result, Ok, Err, IsSome}
+use Rattle.std.specs.Prelude.{◌≡◌, ℕ, List, ◌∷◌, Option, IsSome}
 use Rattle.std.specs.List.{All}
 use Rattle.pl_term.specs.Tree.{Tree}
 use Rattle.pl_model.specs.History.{Clause, History}
@@ -8,8 +8,6 @@ use Rattle.pl_model.specs.Predicates.{proc_of}
 use Rattle.pl_model.specs.Resolution.{resolving, clauses}
 use Rattle.pl_model.specs.Control.{next_clause}
 use Rattle.atom_api.specs.Names.{Names}
-use Rattle.atom_words.specs.declared.view.Refusal.{Refusal}
-use Rattle.atom_words.specs.declared.view.Refusal.TheVariants.{Full as RefusalFull, Again as RefusalAgain, Worn as RefusalWorn}
 use Rattle.term_store.specs.declared.words.Place.{Place}
 use Rattle.term_store.specs.NumberedNames.{names_of}
 use Rattle.world_api.specs.declared.reply.Found.{Found}
@@ -21,8 +19,6 @@ use Rattle.iso_search.specs.declared.search.Search.{Search}
 use Rattle.iso_search.specs.Outcomes.{IsAfter, Setting, limits_in, result_in, state_in}
 use Rattle.iso_search.specs.Reading.{View, IsView, reads}
 use Rattle.iso_search.specs.Searching.{choices_of, node_of}
-use Rattle.iso_engine.specs.declared.call.called.Retried.{Retried}
-use Rattle.iso_engine.specs.declared.call.called.Retried.TheVariants.{Ran, NeedsAtoms, Retry, Worn}
 use Rattle.iso_engine.specs.Views.{IsViewFrom}
 use Rattle.iso_engine.specs.Lists.{IsListed, IsOpenBehind}
 
@@ -54,20 +50,3 @@ pub record IsPutBack (t : Told) (e : Search) (goal : Place) (g place next : ℕ)
       (v : View)
       → choices_of v d ≡ clauses resolving (reads v e.store goal) (v.left (reads v e.store goal) g place) (node_of v e next) ∷ choices_of v e
   pub search : d ≡ record e { choices = d.choices }
-
-abbrev pub IsRetried : Told → Search → Place → ℕ → ℕ → ℕ → Names → Told → Search → Retried → Type 0
-IsRetried t e goal g place next n u d (Ran o) = IsNextRun t e goal g place next n u d o
-IsRetried t e goal g place next n u d (NeedsAtoms p) = IsPutBack t e goal g place next u d
-IsRetried t e goal g place next n u d (Retry c) = IsPutBack t e goal g place next u d
-IsRetried t e goal g place next n u d (Worn w) = IsPutBack t e goal g place next u d
-
--- The refusals of atoms that it hands on.
-abbrev pub refusals_in : Retried → List Refusal
-refusals_in (Ran o) = []
-refusals_in (NeedsAtoms p) = RefusalFull p ∷ []
-refusals_in (Retry c) = RefusalAgain c ∷ []
-refusals_in (Worn w) = RefusalWorn w ∷ []
-
-abbrev pub retry_refusals : {E : Type 0} → Result Retried E → List Refusal
-retry_refusals (Ok r) = refusals_in r
-retry_refusals (Err e) = []

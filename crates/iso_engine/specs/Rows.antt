@@ -10,7 +10,6 @@ use Rattle.pl_model.specs.Resolution as resolution
 use Rattle.pl_model.specs.Terms.{arguments}
 use Rattle.pl_model.specs.Control.{construct, name_of, other, take_up}
 use Rattle.atom_api.specs.Names.{Names}
-use Rattle.atom_words.specs.declared.view.Refusal.{Refusal}
 use Rattle.builtin_dispatch.specs.Unbuilt.{is_unbuilt_row}
 use Rattle.builtin_rows.specs.Predicates as kinds
 use Rattle.builtin_rows.specs.Predicates.{arity_of}
@@ -18,6 +17,7 @@ use Rattle.builtin_rows.specs.Given.{given, given_texts}
 use Rattle.builtin_rows.specs.declared.row.Row.{Row}
 use Rattle.builtin_rows.specs.declared.row.Row.TheVariants.{NeedsAtoms as RefusedFull, Retry as RefusedAgain, Worn as RefusedWorn}
 use Rattle.term_store.specs.Contents.{Contents}
+use Rattle.world_api.specs.declared.visit.Procedure.{Procedure}
 use Rattle.world_api.specs.Texts.{Holds}
 use Rattle.world_api.specs.Told.{Told}
 use Rattle.iso_search.specs.declared.search.Search.{Search}
@@ -28,12 +28,11 @@ use Rattle.iso_search.specs.Searching.{IsWhole, node_of}
 use Rattle.iso_engine.specs.declared.builtin.RowGoal.{RowGoal}
 use Rattle.iso_engine.specs.declared.engine.Engine.{Engine}
 use Rattle.iso_engine.specs.declared.rows.Tried.{Tried}
-use Rattle.iso_engine.specs.declared.rows.Tried.TheVariants.{Led, Stopped}
-use Rattle.iso_engine.specs.declared.slices.Slice.{Slice}
-use Rattle.iso_engine.specs.declared.slices.Slice.TheVariants.{NeedsAtoms, Retry, Worn, Missing}
+use Rattle.iso_engine.specs.declared.rows.Tried.TheVariants.{Led, Missing}
+use Rattle.iso_engine.specs.declared.unserved.Unserved.{Unserved}
+use Rattle.iso_engine.specs.declared.unserved.Unserved.TheVariants.{NeedsAtoms, Retry, Worn}
 use Rattle.iso_engine.specs.Builtins.{IsRowGoal}
 use Rattle.iso_engine.specs.Views.{view_of}
-use Rattle.iso_engine.specs.Looking.{refusals_of}
 use Rattle.iso_engine.specs.Standing.{doing_of}
 
 -- The goal is no control construct, however it is read.
@@ -49,30 +48,21 @@ pub record LeadsTo (n : Names) (e : Search) (r : RowGoal) (rest : ℕ) (f : Sear
       → let k = node_of t.view e rest in let g = reads t.view e.store r.place in
       goes (result_in t f k (proc_of g) o) ≡ take_up (limits_in t e) (state_in t e) k g cut (construct g)
 
--- How a slice ends where an atom of the row was refused.
-abbrev pub refusal_of : Row → Option Slice
+-- Why the goal is to be tried again where an atom of the row was refused.
+abbrev pub refusal_of : Row → Option Unserved
 refusal_of (RefusedFull p) = Some (NeedsAtoms p)
 refusal_of (RefusedAgain c) = Some (Retry c)
 refusal_of (RefusedWorn w) = Some (Worn w)
 refusal_of r = None
 
--- Why the goal was not run: an atom was refused, or its predicate is not built.
-abbrev pub IsNotRun : RowGoal → Slice → Type 0
-IsNotRun r (NeedsAtoms p) = Unit {0}
-IsNotRun r (Retry c) = Unit {0}
-IsNotRun r (Worn w) = Unit {0}
-IsNotRun r (Missing p) =
-    (is_unbuilt_row (kinds.name_of r.pred) (arity_of r.pred) ≡ true) × (p ≡ record { name = r.name; arity = r.arguments.count })
-IsNotRun r _ = ⊥
+-- Its predicate is not built.
+abbrev pub IsUnbuiltRow : RowGoal → Procedure → Type 0
+IsUnbuiltRow r p = (is_unbuilt_row (kinds.name_of r.pred) (arity_of r.pred) ≡ true) × (p ≡ record { name = r.name; arity = r.arguments.count })
 
 -- What came of the goal, before the tasks of a list.
 abbrev pub IsTried : Names → Search → RowGoal → ℕ → Search → Tried → Type 0
 IsTried n e r rest f (Led o) = LeadsTo n e r rest f o
-IsTried n e r rest f (Stopped s) = (f ≡ e) × IsNotRun r s
-
-abbrev pub tried_refusals : Tried → List Refusal
-tried_refusals (Led o) = []
-tried_refusals (Stopped s) = refusals_of s
+IsTried n e r rest f (Missing p) = (f ≡ e) × IsUnbuiltRow r p
 
 -- The text is one of what the row of the goal gives.
 pub record IsGivenText (g : Tree) (next used budget : ℕ) (c : Chars) : Type 0 where

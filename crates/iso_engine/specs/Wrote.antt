@@ -10,8 +10,6 @@ use Rattle.pl_model.specs.Service.{answers, entry_by, served_now}
 use Rattle.pl_model.specs.Resolution.{Next, Output, State, asks, goes, text}
 use Rattle.pl_model.specs.Control.{construct, take_up}
 use Rattle.atom_api.specs.Names.{Names}
-use Rattle.atom_words.specs.declared.view.Refusal.{Refusal}
-use Rattle.atom_words.specs.declared.view.Refusal.TheVariants.{Full as RefusalFull, Again as RefusalAgain, Worn as RefusalWorn}
 use Rattle.term_store.specs.declared.words.Place.{Place}
 use Rattle.world_api.specs.Texts.{Holds}
 use Rattle.world_api.specs.Told.{Told, Follows}
@@ -26,7 +24,7 @@ use Rattle.iso_search.specs.Searching.{node_of}
 use Rattle.iso_engine.specs.declared.write.goals.OutputGoal.{OutputGoal}
 use Rattle.iso_engine.specs.OutputGoals.{IsGoalOf, IsNoOutput}
 use Rattle.iso_engine.specs.declared.write.wrote.Wrote.{Wrote}
-use Rattle.iso_engine.specs.declared.write.wrote.Wrote.TheVariants.{Spent, Ran, NeedsAtoms, Retry, Worn}
+use Rattle.iso_engine.specs.declared.write.wrote.Wrote.TheVariants.{Spent, Ran}
 
 -- The step of the definition that takes up the goal at a place, before the tasks of a list; a cut in it goes back to the
 -- height `h`.
@@ -94,7 +92,7 @@ IsSpent e goal rest = (s : Setting) (h : ℕ) → IsView s.view → taken s e go
 abbrev pub IsUntouched : Names → Told → Search → List ℕ → Names → Told → Search → List ℕ → Type 0
 IsUntouched m t e a n u d b = ((k : ℕ) → n k ≡ m k) × (u ≡ t) × (d ≡ e) × (b ≡ a)
 
--- The same, but that more atoms may be held.
+-- The same, but that more atoms may be held: the goal is to be taken up again.
 abbrev pub IsTakenBack : Told → Search → List ℕ → Told → Search → List ℕ → Type 0
 IsTakenBack t e a u d b = (u ≡ t) × (d ≡ e) × (b ≡ a)
 
@@ -102,34 +100,13 @@ IsTakenBack t e a u d b = (u ≡ t) × (d ≡ e) × (b ≡ a)
 abbrev pub IsWrote : Names → Told → Search → Place → ℕ → List ℕ → Names → Told → Search → List ℕ → Wrote → Type 0
 IsWrote m t e goal rest a n u d b Spent = IsUntouched m t e a n u d b × IsSpent e goal rest
 IsWrote m t e goal rest a n u d b (Ran o) = IsRun m t e goal rest a n u d b o
-IsWrote m t e goal rest a n u d b (NeedsAtoms p) = IsTakenBack t e a u d b
-IsWrote m t e goal rest a n u d b (Retry c) = IsTakenBack t e a u d b
-IsWrote m t e goal rest a n u d b (Worn w) = IsTakenBack t e a u d b
 
 -- The same of a goal at any place that is this one, which asks for nothing.
 abbrev pub WritesAlone : Names → Search → OutputGoal → ℕ → List ℕ → Search → List ℕ → Wrote → Type 0
 WritesAlone m e o rest a d b Spent = (d ≡ e) × (b ≡ a) × ((goal : Place) → IsGoalOf e.store o goal → IsSpent e goal rest)
 WritesAlone m e o rest a d b (Ran x) = (goal : Place) → IsGoalOf e.store o goal → IsDone m e goal rest a d b x
-WritesAlone m e o rest a d b _ = ⊥
 
 -- None where the goal is none that writes.
 abbrev pub IsTried : Names → Told → Search → Place → ℕ → List ℕ → Names → Told → Search → List ℕ → Option Wrote → Type 0
 IsTried m t e goal rest a n u d b None = IsUntouched m t e a n u d b × IsNoOutput e.store goal
 IsTried m t e goal rest a n u d b (Some w) = IsWrote m t e goal rest a n u d b w
-
--- The refusals of atoms that it hands on.
-abbrev pub refusals_of : Wrote → List Refusal
-refusals_of Spent = []
-refusals_of (Ran o) = []
-refusals_of (NeedsAtoms p) = RefusalFull p ∷ []
-refusals_of (Retry c) = RefusalAgain c ∷ []
-refusals_of (Worn w) = RefusalWorn w ∷ []
-
-abbrev pub write_refusals : {E : Type 0} → Result Wrote E → List Refusal
-write_refusals (Ok w) = refusals_of w
-write_refusals (Err e) = []
-
-abbrev pub tried_refusals : {E : Type 0} → Result (Option Wrote) E → List Refusal
-tried_refusals (Ok None) = []
-tried_refusals (Ok (Some w)) = refusals_of w
-tried_refusals (Err e) = []

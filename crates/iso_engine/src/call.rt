@@ -8,10 +8,10 @@ ghost use Rattle.iso_search.specs.Frames.{tasks};
 ghost use Rattle.iso_engine.specs.declared.doing.Doing.TheVariants.{Running};
 ghost use Rattle.iso_engine.specs.Asked.{AsksFor};
 ghost use Rattle.iso_engine.specs.Calling.{IsCallAt};
-ghost use Rattle.iso_engine.specs.Looking.{stopped_refusals};
 ghost use Rattle.iso_engine.specs.Ready.{IsReady};
 ghost use Rattle.iso_engine.specs.Spending.{IsSpent};
 ghost use Rattle.iso_engine.specs.Slices.{IsStepped};
+ghost use Rattle.iso_engine.specs.Unserved.{as_stopped, stopped_refusals};
 
 pub mod called;
 pub mod calls;
@@ -26,14 +26,13 @@ use crate::engine::Engine;
 use crate::following::follow;
 use crate::refused::error_of;
 use crate::slices::Slice;
+use crate::unserved::Unserved;
 use iso_search::outcome::{Fault, Outcome};
-use pl_term::Memory;
 use term_store::{Place, Stored};
 use world_api::{Procedure, World};
 
 impl Engine {
-    /// Calls the program's clauses for the goal at a place, which has this predicate, before the tasks of a list (ISO 7.7.10). The
-    /// only error is out of memory.
+    /// Calls the program's clauses for the goal at a place, which has this predicate, before the tasks of a list (ISO 7.7.10).
     pub fn call<W: World<Term = Stored>>(
         &mut self,
         goal: Place,
@@ -41,7 +40,7 @@ impl Engine {
         rest: usize,
         world: &mut W,
         atoms: &mut W::A,
-    ) -> Result<Option<Slice>, Memory>
+    ) -> Result<Option<Slice>, Unserved>
         requires runs { has_ended (W.told world.old).engine (W.told world.old).history ≡ false }
         requires ready { IsReady (W.A.held atoms.old) (W.told world.old) self.old }
         requires list { (list cut : ℕ) × (self.old.doing ≡ Running list)
@@ -50,12 +49,12 @@ impl Engine {
         requires calls { IsCallAt self.old.search.store goal procedure }
         ensures runs { has_ended (W.told world.new).engine (W.told world.new).history ≡ false }
         ensures holds { Holds (W.A.held atoms.old) (W.A.held atoms.new) }
-        ensures refusals { IfOk result (λ o. W.A.refusals atoms.new ≡ W.A.refusals atoms.old ++ stopped_refusals o) }
+        ensures refusals { IfOk (as_stopped result) (λ o. W.A.refusals atoms.new ≡ W.A.refusals atoms.old ++ stopped_refusals o) }
         ensures asked { Gains (AsksFor (W.A.held atoms.old) (W.told world.old) self.old) (W.A.asked atoms.old) (W.A.asked atoms.new) }
-        ensures given { OnOk result (self.new.solutions_found ≡ self.old.solutions_found) }
-        ensures spent { OnOk result (IsSpent self.old.search.inferences self.new.search.inferences) }
-        ensures ready { OnOk result (IsReady (W.A.held atoms.new) (W.told world.new) self.new) }
-        ensures stepped { IfOk result (λ o.
+        ensures given { OnOk (as_stopped result) (self.new.solutions_found ≡ self.old.solutions_found) }
+        ensures spent { OnOk (as_stopped result) (IsSpent self.old.search.inferences self.new.search.inferences) }
+        ensures ready { OnOk (as_stopped result) (IsReady (W.A.held atoms.new) (W.told world.new) self.new) }
+        ensures stepped { IfOk (as_stopped result) (λ o.
             IsStepped (W.A.held atoms.old) (W.told world.old) self.old o (W.A.held atoms.new) (W.told world.new) self.new []) }
     {
         let called = call_clauses(&mut self.search, world, atoms, goal, rest)?;
@@ -74,9 +73,6 @@ impl Engine {
                 self.doing = Doing::Throwing { ball, outer: rest };
                 Ok(None)
             }
-            Called::NeedsAtoms(pass) => Ok(Some(Slice::NeedsAtoms(pass))),
-            Called::Retry(cause) => Ok(Some(Slice::Retry(cause))),
-            Called::Worn(word) => Ok(Some(Slice::Worn(word))),
         }
     }
 }

@@ -5,39 +5,39 @@ ghost use Rattle.world_api.specs.Texts.{Holds};
 ghost use Rattle.world_api.specs.Told.{has_ended};
 ghost use Rattle.iso_engine.specs.declared.doing.Doing.TheVariants.{Failing};
 ghost use Rattle.iso_engine.specs.Asked.{AsksFor};
-ghost use Rattle.iso_engine.specs.Looking.{stopped_refusals};
 ghost use Rattle.iso_engine.specs.Ready.{IsReady};
 ghost use Rattle.iso_engine.specs.Spending.{IsSpent};
 ghost use Rattle.iso_engine.specs.Slices.{IsStepped};
+ghost use Rattle.iso_engine.specs.Unserved.{as_stopped, stopped_refusals};
 
 use crate::doing::Doing;
 use crate::engine::Engine;
 use crate::failing::after_failure;
 use crate::findall::give_list;
 use crate::slices::Slice;
+use crate::unserved::Unserved;
 use iso_search::failure::Back;
-use pl_term::Memory;
 use term_store::Stored;
 use world_api::World;
 
 impl Engine {
-    /// Goes back to the newest choice point (ISO 7.7.8). The only error is out of memory.
+    /// Goes back to the newest choice point (ISO 7.7.8).
     pub fn fail<W: World<Term = Stored>>(
         &mut self,
         world: &mut W,
         atoms: &mut W::A,
-    ) -> Result<Option<Slice>, Memory>
+    ) -> Result<Option<Slice>, Unserved>
         requires runs { has_ended (W.told world.old).engine (W.told world.old).history ≡ false }
         requires ready { IsReady (W.A.held atoms.old) (W.told world.old) self.old }
         requires fails { self.old.doing ≡ Failing }
         ensures runs { has_ended (W.told world.new).engine (W.told world.new).history ≡ false }
         ensures holds { Holds (W.A.held atoms.old) (W.A.held atoms.new) }
-        ensures refusals { IfOk result (λ o. W.A.refusals atoms.new ≡ W.A.refusals atoms.old ++ stopped_refusals o) }
+        ensures refusals { IfOk (as_stopped result) (λ o. W.A.refusals atoms.new ≡ W.A.refusals atoms.old ++ stopped_refusals o) }
         ensures asked { Gains (AsksFor (W.A.held atoms.old) (W.told world.old) self.old) (W.A.asked atoms.old) (W.A.asked atoms.new) }
-        ensures given { OnOk result (self.new.solutions_found ≡ self.old.solutions_found) }
-        ensures spent { OnOk result (IsSpent self.old.search.inferences self.new.search.inferences) }
-        ensures ready { OnOk result (IsReady (W.A.held atoms.new) (W.told world.new) self.new) }
-        ensures stepped { IfOk result (λ o.
+        ensures given { OnOk (as_stopped result) (self.new.solutions_found ≡ self.old.solutions_found) }
+        ensures spent { OnOk (as_stopped result) (IsSpent self.old.search.inferences self.new.search.inferences) }
+        ensures ready { OnOk (as_stopped result) (IsReady (W.A.held atoms.new) (W.told world.new) self.new) }
+        ensures stepped { IfOk (as_stopped result) (λ o.
             IsStepped (W.A.held atoms.old) (W.told world.old) self.old o (W.A.held atoms.new) (W.told world.new) self.new []) }
     {
         let back = self.search.resume();
@@ -51,14 +51,8 @@ impl Engine {
                 generation,
                 place,
                 next,
-            } => {
-                let stopped = self.retry(goal, generation, place, next, world, atoms)?;
-                Ok(stopped)
-            }
-            Back::Answers { goal, line, next } => {
-                let stopped = self.retry_line(goal, line, next, atoms)?;
-                Ok(stopped)
-            }
+            } => self.retry(goal, generation, place, next, world, atoms),
+            Back::Answers { goal, line, next } => self.retry_line(goal, line, next, atoms),
             Back::Found { list, found, next } => {
                 self.doing = give_list(self.alloc, &mut self.search, list, found, next)?;
                 Ok(None)

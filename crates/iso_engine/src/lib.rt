@@ -27,5 +27,6 @@ pub mod solving;
 pub mod starting;
 pub mod step;
 pub mod throwing;
+pub mod unserved;
 pub mod variables;
 pub mod write;

@@ -13,22 +13,20 @@ ghost use Rattle.iso_engine.specs.ClausesAsked.{IsRetryAsked};
 ghost use Rattle.iso_engine.specs.Lists.{IsOpen};
 ghost use Rattle.iso_engine.specs.Following.{IsInteger};
 ghost use Rattle.iso_engine.specs.Views.{view_of};
-ghost use Rattle.iso_engine.specs.Looking.{stopped_refusals};
 ghost use Rattle.iso_engine.specs.Retrying.{IsGoneOn};
+ghost use Rattle.iso_engine.specs.Unserved.{as_stopped, stopped_refusals};
 
-use crate::call::called::Retried;
 use crate::call::retries::retry_clauses;
 use crate::engine::Engine;
 use crate::following::follow;
 use crate::procedure::procedure_at;
 use crate::slices::Slice;
-use pl_term::Memory;
+use crate::unserved::Unserved;
 use term_store::{Place, Stored};
 use world_api::World;
 
 impl Engine {
-    /// Goes on with the clauses for the goal at a place that were not tried, whose choice point was taken off (ISO 7.7.8). The only
-    /// error is out of memory.
+    /// Goes on with the clauses for the goal at a place that were not tried, whose choice point was taken off (ISO 7.7.8).
     pub fn retry<W: World<Term = Stored>>(
         &mut self,
         goal: Place,
@@ -37,7 +35,7 @@ impl Engine {
         next: usize,
         world: &mut W,
         atoms: &mut W::A,
-    ) -> Result<Option<Slice>, Memory>
+    ) -> Result<Option<Slice>, Unserved>
         requires whole { IsWhole self.old.search }
         requires goal { HoldsPlace self.old.search.store goal }
         requires callable { IsInteger self.old.search.store goal → ⊥ }
@@ -45,17 +43,17 @@ impl Engine {
         requires held { All (λ a. IsSome (W.A.held atoms.old a)) (atoms_in (term_at self.old.search.store goal)) }
         requires open { IsOpen (W.told world.old) (reads (view_of (W.A.held atoms.old) (W.told world.old)) self.old.search.store goal) generation place }
         requires runs { has_ended (W.told world.old).engine (W.told world.old).history ≡ false }
-        ensures whole { OnOk result (IsWhole self.new.search) }
+        ensures whole { OnOk (as_stopped result) (IsWhole self.new.search) }
         ensures runs { has_ended (W.told world.new).engine (W.told world.new).history ≡ false }
         ensures holds { Holds (W.A.held atoms.old) (W.A.held atoms.new) }
-        ensures refusals { IfOk result (λ o. W.A.refusals atoms.new ≡ W.A.refusals atoms.old ++ stopped_refusals o) }
+        ensures refusals { IfOk (as_stopped result) (λ o. W.A.refusals atoms.new ≡ W.A.refusals atoms.old ++ stopped_refusals o) }
         ensures asked { Gains (IsRetryAsked (W.A.held atoms.old) (W.told world.old) self.old.search goal generation place) (W.A.asked atoms.old) (W.A.asked atoms.new) }
-        ensures gone { IfOk result (IsGoneOn (W.told world.old) self.old (Retry goal generation place next) (W.A.held atoms.new) (W.told world.new) self.new) }
+        ensures gone { IfOk (as_stopped result) (IsGoneOn (W.told world.old) self.old (Retry goal generation place next) (W.A.held atoms.new) (W.told world.new) self.new) }
     {
         let Some(procedure) = procedure_at(&self.search.store, goal) else {
             unreachable!();
         };
-        let retried = retry_clauses(
+        let outcome = retry_clauses(
             &mut self.search,
             world,
             atoms,
@@ -64,14 +62,7 @@ impl Engine {
             place,
             next,
         )?;
-        match retried {
-            Retried::Ran(outcome) => {
-                self.doing = follow(self.alloc, &self.search, outcome, procedure, next)?;
-                Ok(None)
-            }
-            Retried::NeedsAtoms(pass) => Ok(Some(Slice::NeedsAtoms(pass))),
-            Retried::Retry(cause) => Ok(Some(Slice::Retry(cause))),
-            Retried::Worn(word) => Ok(Some(Slice::Worn(word))),
-        }
+        self.doing = follow(self.alloc, &self.search, outcome, procedure, next)?;
+        Ok(None)
     }
 }

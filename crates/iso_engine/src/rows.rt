@@ -6,7 +6,8 @@ ghost use Rattle.world_api.specs.Texts.{Holds};
 ghost use Rattle.world_builtins.specs.Naming.{IsHeldAt};
 ghost use Rattle.iso_search.specs.Searching.{IsWhole};
 ghost use Rattle.iso_search.specs.Spelling.{spelled, text_of};
-ghost use Rattle.iso_engine.specs.Rows.{IsGivenText, IsRowAt, IsTried, refusal_of, tried_refusals};
+ghost use Rattle.iso_engine.specs.Rows.{IsGivenText, IsRowAt, IsTried, refusal_of};
+ghost use Rattle.iso_engine.specs.Unserved.{OnRefusal, UnlessMemory, refusals_in};
 
 pub mod arguments;
 pub mod following;
@@ -14,41 +15,42 @@ pub mod lines;
 
 use crate::builtin::RowGoal;
 use crate::rows::following::follow_row;
-use crate::slices::Slice;
+use crate::unserved::Unserved;
 use atom_api::Atoms;
 use builtin_dispatch::row_of;
 use builtin_rows::Row;
 use iso_search::outcome::{Fault, Outcome};
 use iso_search::search::Search;
-use pl_term::Memory;
 use std::alloc::Global;
+use world_api::Procedure;
 
 /// What came of such a goal.
 #[derive(Drop)]
 pub enum Tried {
     /// The search goes on so.
     Led(Outcome),
-    /// Nothing was done: the predicate is not built yet, or an atom was refused and the goal is to be tried again.
-    Stopped(Slice),
+    /// Nothing was done: this predicate is not built yet.
+    Missing(Procedure),
 }
 
 /// Runs the goal, before the tasks of a list: makes an inference, and unifies the arguments with what the predicate gives for
-/// them. Where nothing was done the inference is taken back too. The only error is out of memory.
+/// them. Where the predicate is not built yet, or an atom was refused, the inference is taken back too.
 pub fn run_row<A: Atoms>(
     alloc: Global,
     search: &mut Search,
     goal: &RowGoal,
     rest: usize,
     atoms: &mut A,
-) -> Result<Tried, Memory>
+) -> Result<Tried, Unserved>
     requires whole { IsWhole search.old }
     requires goal { IsRowAt search.old.store goal.now }
     requires held { IsHeldAt (A.held atoms.old) search.old.store goal.now.place }
     requires rest { rest ≤ length search.old.frames.items }
     ensures tried { IfOk result (IsTried (A.held atoms.new) search.old goal.now rest search.new) }
+    ensures taken_back { OnRefusal result (search.new ≡ search.old) }
     ensures holds { Holds (A.held atoms.old) (A.held atoms.new) }
-    ensures refusals { IfOk result (λ r. A.refusals atoms.new ≡ A.refusals atoms.old ++ tried_refusals r) }
-    ensures asked { Gains (IsGivenText (spelled (text_of (A.held atoms.old)) (term_at search.old.store goal.now.place)) search.old.next_variable search.old.store.used search.old.store.budget)
+    ensures refusals { UnlessMemory result (A.refusals atoms.new ≡ A.refusals atoms.old ++ refusals_in result) }
+    ensures asked { Gains (IsGivenText (spelled (text_of (A.held atoms.old)) (term_at search.old.store goal.now.place)) search.old.next search.old.store.used search.old.store.budget)
         (A.asked atoms.old) (A.asked atoms.new) }
 {
     let before = search.inferences;
@@ -58,28 +60,30 @@ pub fn run_row<A: Atoms>(
     let next = search.next_variable;
     let store = &mut search.store;
     let found = row_of(alloc, store, goal.pred, goal.arguments, next, atoms)?;
-    let slice = match found {
-        None => Slice::Missing(goal.procedure()),
-        Some(row) => match refusal(&row) {
-            None => {
-                let outcome = follow_row(search, goal.place, row, rest)?;
-                return Ok(Tried::Led(outcome));
-            }
-            Some(slice) => slice,
-        },
+    let Some(row) = found else {
+        search.inferences = before;
+        return Ok(Tried::Missing(goal.procedure()));
     };
-    search.inferences = before;
-    Ok(Tried::Stopped(slice))
+    match refusal(&row) {
+        None => {
+            let outcome = follow_row(search, goal.place, row, rest)?;
+            Ok(Tried::Led(outcome))
+        }
+        Some(unserved) => {
+            search.inferences = before;
+            Err(unserved)
+        }
+    }
 }
 
-/// How a slice ends, if an atom of the row was refused.
-pub fn refusal(row: &Row) -> Option<Slice>
+/// Why the goal is to be tried again, if an atom of the row was refused.
+pub fn refusal(row: &Row) -> Option<Unserved>
     ensures { result ≡ refusal_of row.now }
 {
     match row {
-        Row::NeedsAtoms(pass) => Some(Slice::NeedsAtoms(*pass)),
-        Row::Retry(cause) => Some(Slice::Retry(*cause)),
-        Row::Worn(word) => Some(Slice::Worn(*word)),
+        Row::NeedsAtoms(pass) => Some(Unserved::NeedsAtoms(*pass)),
+        Row::Retry(cause) => Some(Unserved::Retry(*cause)),
+        Row::Worn(word) => Some(Unserved::Worn(*word)),
         _ => None,
     }
 }

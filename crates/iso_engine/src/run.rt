@@ -6,48 +6,44 @@ ghost use Rattle.world_api.specs.Texts.{Holds};
 ghost use Rattle.world_api.specs.Told.{has_ended};
 ghost use Rattle.iso_engine.specs.declared.doing.Doing.TheVariants.{Running};
 ghost use Rattle.iso_engine.specs.Asked.{AsksFor};
-ghost use Rattle.iso_engine.specs.Looking.{stopped_refusals};
 ghost use Rattle.iso_engine.specs.Ready.{IsReady};
 ghost use Rattle.iso_engine.specs.Spending.{IsSpent};
 ghost use Rattle.iso_engine.specs.Slices.{IsStepped, written_text};
+ghost use Rattle.iso_engine.specs.Unserved.{as_stopped, stopped_refusals};
 
 use crate::engine::Engine;
 use crate::running::{Did, do_task};
 use crate::slices::Slice;
+use crate::unserved::Unserved;
 use iso_search::frames::first_task;
-use pl_term::Memory;
 use term_store::Stored;
 use world_api::World;
 
 impl Engine {
-    /// Does the first task of a list, or gives a solution where there is none. What the goal writes is put after `out`. The
-    /// only error is out of memory.
+    /// Does the first task of a list, or gives a solution where there is none. What the goal writes is put after `out`.
     pub fn run<W: World<Term = Stored>>(
         &mut self,
         list: usize,
         world: &mut W,
         atoms: &mut W::A,
         out: &mut Vec<u8>,
-    ) -> Result<Option<Slice>, Memory>
+    ) -> Result<Option<Slice>, Unserved>
         requires runs { has_ended (W.told world.old).engine (W.told world.old).history ≡ false }
         requires ready { IsReady (W.A.held atoms.old) (W.told world.old) self.old }
         requires list { self.old.doing ≡ Running list }
         ensures runs { has_ended (W.told world.new).engine (W.told world.new).history ≡ false }
         ensures holds { Holds (W.A.held atoms.old) (W.A.held atoms.new) }
-        ensures refusals { IfOk result (λ o. W.A.refusals atoms.new ≡ W.A.refusals atoms.old ++ stopped_refusals o) }
+        ensures refusals { IfOk (as_stopped result) (λ o. W.A.refusals atoms.new ≡ W.A.refusals atoms.old ++ stopped_refusals o) }
         ensures asked { Gains (AsksFor (W.A.held atoms.old) (W.told world.old) self.old) (W.A.asked atoms.old) (W.A.asked atoms.new) }
-        ensures given { IfOk result (λ o. IfNone o (self.new.solutions_found ≡ self.old.solutions_found)) }
-        ensures spent { OnOk result (IsSpent self.old.search.inferences self.new.search.inferences) }
-        ensures ready { OnOk result (IsReady (W.A.held atoms.new) (W.told world.new) self.new) }
-        ensures stepped { IfOk result (λ o. (more : List Output)
+        ensures given { IfOk (as_stopped result) (λ o. IfNone o (self.new.solutions_found ≡ self.old.solutions_found)) }
+        ensures spent { OnOk (as_stopped result) (IsSpent self.old.search.inferences self.new.search.inferences) }
+        ensures ready { OnOk (as_stopped result) (IsReady (W.A.held atoms.new) (W.told world.new) self.new) }
+        ensures stepped { IfOk (as_stopped result) (λ o. (more : List Output)
             × IsStepped (W.A.held atoms.old) (W.told world.old) self.old o (W.A.held atoms.new) (W.told world.new) self.new more
             × (out.new.items ≡ out.old.items ++ encode_utf8_all (written_text more))) }
     {
         match first_task(&self.search.frames, list) {
-            None => {
-                let slice = self.solve(world, atoms)?;
-                Ok(Some(slice))
-            }
+            None => self.solve(world, atoms),
             Some(frame) => {
                 let did = do_task(self.alloc, &mut self.search, frame)?;
                 match did {
@@ -56,17 +52,11 @@ impl Engine {
                         Ok(None)
                     }
                     Did::Call(goal, procedure) => {
-                        let stopped = self.call(goal, procedure, frame.continuation, world, atoms)?;
-                        Ok(stopped)
+                        self.call(goal, procedure, frame.next, world, atoms)
                     }
-                    Did::Row(goal) => {
-                        let stopped = self.row(&goal, frame.continuation, atoms)?;
-                        Ok(stopped)
-                    }
+                    Did::Row(goal) => self.row(&goal, frame.next, atoms),
                     Did::Write(goal, procedure) => {
-                        let next = frame.continuation;
-                        let stopped = self.write(goal, procedure, next, world, atoms, out)?;
-                        Ok(stopped)
+                        self.write(goal, procedure, frame.next, world, atoms, out)
                     }
                     Did::Missing(procedure) => Ok(Some(Slice::Missing(procedure))),
                 }

@@ -4,12 +4,13 @@ ghost use Rattle.world_api.specs.Gains.{Gains};
 ghost use Rattle.world_api.specs.Texts.{Holds};
 ghost use Rattle.world_api.specs.Told.{has_ended};
 ghost use Rattle.iso_engine.specs.Asked.{AsksInSlice, AsksOnWay, ComesToAsk};
-ghost use Rattle.iso_engine.specs.Looking.{IsRefusedBy, refusals_of};
 ghost use Rattle.iso_engine.specs.Ready.{IsReady};
 ghost use Rattle.iso_engine.specs.Slices.{IsSlice, IsSliced, steps_of};
+ghost use Rattle.iso_engine.specs.Unserved.{IsRefusedBy, refusals_of};
 
 use crate::engine::Engine;
 use crate::slices::Slice;
+use crate::unserved::stop_of;
 use pl_term::Memory;
 use term_store::Stored;
 use world_api::World;
@@ -77,7 +78,7 @@ impl Engine {
             if self.search.inferences - start >= n {
                 return Ok(Slice::Yield);
             }
-            let stopped = self.step(world, atoms, out)?;
+            let stopped = stop_of(self.step(world, atoms, out))?;
             let Some(count) = moves.checked_add(steps_made(&stopped)) else {
                 return Err(Memory);
             };

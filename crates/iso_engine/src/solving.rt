@@ -1,5 +1,5 @@
 //! Solutions.
-ghost use Rattle.std.specs.Prelude.{◌≡◌, ◌++◌, ℕ, [], false, List, Some, IfOk, OnOk};
+ghost use Rattle.std.specs.Prelude.{◌≡◌, ◌++◌, ℕ, [], false, List, IfNone, IfOk, OnOk};
 ghost use Rattle.pl_model.specs.Resolution.{Output};
 ghost use Rattle.world_api.specs.Texts.{Holds};
 ghost use Rattle.world_api.specs.Told.{has_ended};
@@ -7,48 +7,45 @@ ghost use Rattle.iso_search.specs.Frames.{tasks};
 ghost use Rattle.iso_search.specs.Reading.{IsView};
 ghost use Rattle.iso_engine.specs.declared.doing.Doing.TheVariants.{Running};
 ghost use Rattle.iso_engine.specs.Views.{view_of};
-ghost use Rattle.iso_engine.specs.Looking.{refusals_of};
 ghost use Rattle.iso_engine.specs.Ready.{IsReady};
 ghost use Rattle.iso_engine.specs.Spending.{IsSpent};
 ghost use Rattle.iso_engine.specs.Slices.{IsStepped, written_text};
+ghost use Rattle.iso_engine.specs.Unserved.{as_stopped, stopped_refusals};
 
 use crate::doing::Doing;
 use crate::engine::Engine;
-use crate::looking::{look, unless_memory};
+use crate::looking::look;
 use crate::slices::Slice;
-use pl_term::Memory;
+use crate::unserved::Unserved;
 use world_api::World;
 
 impl Engine {
-    /// Gives the solution where nothing is left to be done, with the operators that stand now. The only error is want of
-    /// memory.
-    pub fn solve<W: World>(&mut self, world: &mut W, atoms: &mut W::A) -> Result<Slice, Memory>
+    /// Gives the solution where nothing is left to be done, with the operators that stand now.
+    pub fn solve<W: World>(
+        &mut self,
+        world: &mut W,
+        atoms: &mut W::A,
+    ) -> Result<Option<Slice>, Unserved>
         requires runs { has_ended (W.told world.old).engine (W.told world.old).history ≡ false }
         requires ready { IsReady (W.A.held atoms.old) (W.told world.old) self.old }
         requires list { (list : ℕ) × (self.old.doing ≡ Running list) × (tasks self.old.search.frames.items list ≡ []) }
         ensures runs { has_ended (W.told world.new).engine (W.told world.new).history ≡ false }
         ensures holds { Holds (W.A.held atoms.old) (W.A.held atoms.new) }
-        ensures refusals { IfOk result (λ s. W.A.refusals atoms.new ≡ W.A.refusals atoms.old ++ refusals_of s) }
+        ensures refusals { IfOk (as_stopped result) (λ o. W.A.refusals atoms.new ≡ W.A.refusals atoms.old ++ stopped_refusals o) }
         ensures asked { W.A.asked atoms.new ≡ W.A.asked atoms.old }
-        ensures spent { OnOk result (IsSpent self.old.search.inferences self.new.search.inferences) }
-        ensures ready { OnOk result (IsReady (W.A.held atoms.new) (W.told world.new) self.new) }
-        ensures stepped { IfOk result (λ s. (more : List Output)
-            × IsStepped (W.A.held atoms.old) (W.told world.old) self.old (Some s) (W.A.held atoms.new) (W.told world.new) self.new more × (written_text more ≡ [])) }
-        ensures search { OnOk result (self.new.search ≡ self.old.search) }
+        ensures given { IfOk (as_stopped result) (λ o. IfNone o (self.new.solutions_found ≡ self.old.solutions_found)) }
+        ensures spent { OnOk (as_stopped result) (IsSpent self.old.search.inferences self.new.search.inferences) }
+        ensures ready { OnOk (as_stopped result) (IsReady (W.A.held atoms.new) (W.told world.new) self.new) }
+        ensures stepped { IfOk (as_stopped result) (λ o. (more : List Output)
+            × IsStepped (W.A.held atoms.old) (W.told world.old) self.old o (W.A.held atoms.new) (W.told world.new) self.new more × (written_text more ≡ [])) }
+        ensures search { OnOk (as_stopped result) (self.new.search ≡ self.old.search) }
     {
         let Some(found) = self.solutions_found.checked_add(1) else {
-            return Err(Memory);
+            return Err(Unserved::Memory);
         };
-        match look(world, atoms) {
-            Ok(operators) => {
-                self.solutions_found = found;
-                self.doing = Doing::Answering;
-                Ok(Slice::Solution(operators))
-            }
-            Err(slice) => {
-                let stopped = unless_memory(slice)?;
-                Ok(stopped)
-            }
-        }
+        let operators = look(world, atoms)?;
+        self.solutions_found = found;
+        self.doing = Doing::Answering;
+        Ok(Some(Slice::Solution(operators)))
     }
 }

@@ -5,53 +5,48 @@ ghost use Rattle.world_api.specs.Gains.{Gains};
 ghost use Rattle.world_api.specs.Texts.{Holds};
 ghost use Rattle.world_api.specs.Told.{has_ended};
 ghost use Rattle.iso_engine.specs.Asked.{AsksFor};
-ghost use Rattle.iso_engine.specs.Looking.{stopped_refusals};
 ghost use Rattle.iso_engine.specs.Ready.{IsReady};
 ghost use Rattle.iso_engine.specs.Spending.{IsSpent};
 ghost use Rattle.iso_engine.specs.Slices.{IsStepped, written_text};
+ghost use Rattle.iso_engine.specs.Unserved.{as_stopped, stopped_refusals};
 
 use crate::answering::after_solution;
 use crate::doing::Doing;
 use crate::engine::Engine;
 use crate::slices::Slice;
 use crate::throwing::throw;
-use pl_term::Memory;
+use crate::unserved::Unserved;
 use std::mem;
 use term_store::Stored;
 use world_api::World;
 
 impl Engine {
-    /// Makes a step, or says why none can be made. What the goal writes is put after `out`. The only error is want of
-    /// memory.
+    /// Makes a step, or says why none can be made. What the goal writes is put after `out`.
     pub fn step<W: World<Term = Stored>>(
         &mut self,
         world: &mut W,
         atoms: &mut W::A,
         out: &mut Vec<u8>,
-    ) -> Result<Option<Slice>, Memory>
+    ) -> Result<Option<Slice>, Unserved>
         requires runs { has_ended (W.told world.old).engine (W.told world.old).history ≡ false }
         requires ready { IsReady (W.A.held atoms.old) (W.told world.old) self.old }
         ensures runs { has_ended (W.told world.new).engine (W.told world.new).history ≡ false }
         ensures holds { Holds (W.A.held atoms.old) (W.A.held atoms.new) }
-        ensures refusals { IfOk result (λ o. W.A.refusals atoms.new ≡ W.A.refusals atoms.old ++ stopped_refusals o) }
+        ensures refusals { IfOk (as_stopped result) (λ o. W.A.refusals atoms.new ≡ W.A.refusals atoms.old ++ stopped_refusals o) }
         ensures asked { Gains (AsksFor (W.A.held atoms.old) (W.told world.old) self.old) (W.A.asked atoms.old) (W.A.asked atoms.new) }
-        ensures given { IfOk result (λ o. IfNone o (self.new.solutions_found ≡ self.old.solutions_found)) }
-        ensures spent { OnOk result (IsSpent self.old.search.inferences self.new.search.inferences) }
-        ensures ready { OnOk result (IsReady (W.A.held atoms.new) (W.told world.new) self.new) }
-        ensures stepped { IfOk result (λ o. (more : List Output)
+        ensures given { IfOk (as_stopped result) (λ o. IfNone o (self.new.solutions_found ≡ self.old.solutions_found)) }
+        ensures spent { OnOk (as_stopped result) (IsSpent self.old.search.inferences self.new.search.inferences) }
+        ensures ready { OnOk (as_stopped result) (IsReady (W.A.held atoms.new) (W.told world.new) self.new) }
+        ensures stepped { IfOk (as_stopped result) (λ o. (more : List Output)
             × IsStepped (W.A.held atoms.old) (W.told world.old) self.old o (W.A.held atoms.new) (W.told world.new) self.new more
             × (out.new.items ≡ out.old.items ++ encode_utf8_all (written_text more))) }
     {
         match mem::replace(&mut self.doing, Doing::Failing) {
             Doing::Running(list) => {
                 self.doing = Doing::Running(list);
-                let stopped = self.run(list, world, atoms, out)?;
-                Ok(stopped)
+                self.run(list, world, atoms, out)
             }
-            Doing::Failing => {
-                let stopped = self.fail(world, atoms)?;
-                Ok(stopped)
-            }
+            Doing::Failing => self.fail(world, atoms),
             Doing::Throwing { ball, outer } => {
                 self.doing = throw(self.alloc, &mut self.search, ball, outer)?;
                 Ok(None)

@@ -6,10 +6,10 @@ ghost use Rattle.world_api.specs.Told.{has_ended};
 ghost use Rattle.iso_search.specs.declared.frames.Task.TheVariants.{Goal};
 ghost use Rattle.iso_search.specs.Frames.{tasks};
 ghost use Rattle.iso_engine.specs.declared.doing.Doing.TheVariants.{Running};
-ghost use Rattle.iso_engine.specs.Looking.{stopped_refusals};
 ghost use Rattle.iso_engine.specs.Ready.{IsReady};
 ghost use Rattle.iso_engine.specs.Spending.{IsSpent};
 ghost use Rattle.iso_engine.specs.Slices.{IsStepped, written_text};
+ghost use Rattle.iso_engine.specs.Unserved.{as_stopped, stopped_refusals};
 ghost use Rattle.iso_engine.specs.Writes.{IsWriteAt};
 
 pub mod characters;
@@ -20,16 +20,16 @@ pub mod wrote;
 use crate::engine::Engine;
 use crate::following::follow;
 use crate::slices::Slice;
+use crate::unserved::Unserved;
 use crate::write::writing::write_goal;
 use crate::write::wrote::Wrote;
 use iso_search::outcome::{Fault, Outcome};
-use pl_term::Memory;
 use term_store::Place;
 use world_api::{Procedure, World};
 
 impl Engine {
     /// Takes up the goal at a place, which writes and has this predicate, before the tasks of a list (ISO 8.12 and 8.14.2). What
-    /// it writes is put after `out`. The only error is out of memory.
+    /// it writes is put after `out`.
     pub fn write<W: World>(
         &mut self,
         goal: Place,
@@ -38,7 +38,7 @@ impl Engine {
         world: &mut W,
         atoms: &mut W::A,
         out: &mut Vec<u8>,
-    ) -> Result<Option<Slice>, Memory>
+    ) -> Result<Option<Slice>, Unserved>
         requires runs { has_ended (W.told world.old).engine (W.told world.old).history ≡ false }
         requires ready { IsReady (W.A.held atoms.old) (W.told world.old) self.old }
         requires list { (list cut : ℕ) × (self.old.doing ≡ Running list)
@@ -47,12 +47,12 @@ impl Engine {
         requires writes { IsWriteAt self.old.search.store goal procedure }
         ensures runs { has_ended (W.told world.new).engine (W.told world.new).history ≡ false }
         ensures holds { Holds (W.A.held atoms.old) (W.A.held atoms.new) }
-        ensures refusals { IfOk result (λ o. W.A.refusals atoms.new ≡ W.A.refusals atoms.old ++ stopped_refusals o) }
+        ensures refusals { IfOk (as_stopped result) (λ o. W.A.refusals atoms.new ≡ W.A.refusals atoms.old ++ stopped_refusals o) }
         ensures asked { W.A.asked atoms.new ≡ W.A.asked atoms.old }
-        ensures given { OnOk result (self.new.solutions_found ≡ self.old.solutions_found) }
-        ensures spent { OnOk result (IsSpent self.old.search.inferences self.new.search.inferences) }
-        ensures ready { OnOk result (IsReady (W.A.held atoms.new) (W.told world.new) self.new) }
-        ensures stepped { IfOk result (λ o. (more : List Output)
+        ensures given { OnOk (as_stopped result) (self.new.solutions_found ≡ self.old.solutions_found) }
+        ensures spent { OnOk (as_stopped result) (IsSpent self.old.search.inferences self.new.search.inferences) }
+        ensures ready { OnOk (as_stopped result) (IsReady (W.A.held atoms.new) (W.told world.new) self.new) }
+        ensures stepped { IfOk (as_stopped result) (λ o. (more : List Output)
             × IsStepped (W.A.held atoms.old) (W.told world.old) self.old o (W.A.held atoms.new) (W.told world.new) self.new more
             × (out.new.items ≡ out.old.items ++ encode_utf8_all (written_text more))) }
     {
@@ -70,9 +70,6 @@ impl Engine {
                 self.doing = follow(self.alloc, &self.search, outcome, procedure, rest)?;
                 Ok(None)
             }
-            Wrote::NeedsAtoms(pass) => Ok(Some(Slice::NeedsAtoms(pass))),
-            Wrote::Retry(cause) => Ok(Some(Slice::Retry(cause))),
-            Wrote::Worn(word) => Ok(Some(Slice::Worn(word))),
         }
     }
 }

@@ -11,7 +11,7 @@ use Rattle.world_api.specs.Told.{Told}
 use Rattle.iso_engine.specs.declared.engine.Engine.{Engine}
 use Rattle.iso_engine.specs.declared.slices.Slice.{Slice}
 use Rattle.iso_engine.specs.declared.slices.Slice.TheVariants.{Yield, Solution, Retry, Memory, NeedsAtoms as SliceNeedsAtoms, Worn as SliceWorn, Waits as SliceWaits, Ended as SliceEnded, Missing as SliceMissing}
-use Rattle.iso_engine.specs.Looking.{IsRefusedBy}
+use Rattle.iso_engine.specs.Unserved.{IsRefusedBy}
 use Rattle.iso_engine.specs.Slices.{IsSlice, IsSliced}
 use Rattle.plain_run.specs.declared.ran.Ran.TheVariants.{Ended, Waits, NeedsAtoms, Worn, Missing}
 use Rattle.plain_run.specs.Searched.{HasCounted, HasRun, IsCarriedOn, IsRefusedOnce, IsSearched, IsStop, Searched, Stands, stop_refusals}

@@ -1,5 +1,4 @@
 //! What calls lead to.
-use atom_api::{Cause, Pass, WornWord};
 use iso_search::outcome::Outcome;
 use term_store::Stored;
 
@@ -12,23 +11,4 @@ pub enum Called {
     Ran(Outcome),
     /// The call raises this error: the program has no such procedure (ISO 7.7.7).
     Refused(Stored),
-    /// An atom of the first clause has no place, as that pass over all slots shows. The call is to be made again.
-    NeedsAtoms(Pass),
-    /// Others stepped in between. The call is to be made again.
-    Retry(Cause),
-    /// An atom of the first clause is one of a bucket that takes no new atom.
-    Worn(WornWord),
-}
-
-/// What going back to the clauses that were not tried leads to.
-#[derive(Drop)]
-pub enum Retried {
-    /// The next clause was tried, which led to this.
-    Ran(Outcome),
-    /// An atom of the clause has no place, as that pass over all slots shows. The choice point is there again.
-    NeedsAtoms(Pass),
-    /// Others stepped in between. The choice point is there again.
-    Retry(Cause),
-    /// An atom of the clause is one of a bucket that takes no new atom. The choice point is there again.
-    Worn(WornWord),
 }

@@ -9,12 +9,14 @@ ghost use Rattle.world_api.specs.Told.{has_ended};
 ghost use Rattle.iso_search.specs.Searching.{IsWhole};
 ghost use Rattle.world_api.specs.Gains.{Gains};
 ghost use Rattle.iso_engine.specs.ClausesAsked.{IsCallAsked};
-ghost use Rattle.iso_engine.specs.Called.{IsCalled, call_refusals};
+ghost use Rattle.iso_engine.specs.Called.{IsCalled, IsTakenBack};
 ghost use Rattle.iso_engine.specs.Replies.{IsFollowed, IsListOrError};
+ghost use Rattle.iso_engine.specs.Unserved.{OnRefusal, refusals_in};
 
 use crate::call::called::Called;
 use crate::call::clauses::try_first_clause;
 use crate::call::goals::{key_at, predicate_at};
+use crate::unserved::Unserved;
 use iso_search::search::Search;
 use pl_term::Memory;
 use term_store::{Place, Stored};
@@ -22,14 +24,14 @@ use world_api::{Answer, Reply, Visit, World};
 
 /// Calls the program's clauses for the goal at a place, before the tasks of a list (ISO 7.7.10): makes an inference, asks the
 /// shared state for the first of the clauses, and tries it. Where the visit is not served, nothing has changed, and the call is
-/// to be made again. The only error is out of memory, after which the search is not to be used.
+/// to be made again. When memory runs out the search is not to be used any more.
 pub fn call_clauses<W: World<Term = Stored>>(
     search: &mut Search,
     world: &mut W,
     atoms: &mut W::A,
     goal: Place,
     rest: usize,
-) -> Result<Called, Memory>
+) -> Result<Called, Unserved>
     requires whole { IsWhole search.old }
     requires goal { Holds search.old.store goal }
     requires callable { (i : ℤ) → term_at search.old.store goal ≡ int i → ⊥ }
@@ -39,10 +41,11 @@ pub fn call_clauses<W: World<Term = Stored>>(
     ensures whole { OnOk result (IsWhole search.new) }
     ensures called { IfOk result (IsCalled (W.A.held atoms.old) (W.told world.old) search.old goal rest
         (W.A.held atoms.new) (W.told world.new) search.new) }
+    ensures taken_back { OnRefusal result (IsTakenBack (W.told world.old) search.old (W.told world.new) search.new) }
     ensures budgets { OnOk result (search.new.budgets ≡ search.old.budgets) }
     ensures runs { has_ended (W.told world.new).engine (W.told world.new).history ≡ false }
     ensures holds { AreHeld (W.A.held atoms.old) (W.A.held atoms.new) }
-    ensures refusals { W.A.refusals atoms.new ≡ W.A.refusals atoms.old ++ call_refusals result }
+    ensures refusals { W.A.refusals atoms.new ≡ W.A.refusals atoms.old ++ refusals_in result }
     ensures asked { Gains (IsCallAsked (W.A.held atoms.old) (W.told world.old) search.old goal) (W.A.asked atoms.old) (W.A.asked atoms.new) }
 {
     let most = search.budgets.inferences;
@@ -60,10 +63,10 @@ pub fn call_clauses<W: World<Term = Stored>>(
             Ok(called)
         }
         Answer::Waits { .. } => unreachable!(),
-        Answer::NeedsAtoms(pass) => Ok(Called::NeedsAtoms(pass)),
-        Answer::Retry(cause) => Ok(Called::Retry(cause)),
-        Answer::Worn(word) => Ok(Called::Worn(word)),
-        Answer::Memory => Err(Memory),
+        Answer::NeedsAtoms(pass) => Err(Unserved::NeedsAtoms(pass)),
+        Answer::Retry(cause) => Err(Unserved::Retry(cause)),
+        Answer::Worn(word) => Err(Unserved::Worn(word)),
+        Answer::Memory => Err(Unserved::Memory),
     }
 }
 

@@ -11,22 +11,23 @@ ghost use Rattle.iso_search.specs.Reading.{reads};
 ghost use Rattle.iso_search.specs.Searching.{IsWhole};
 ghost use Rattle.iso_engine.specs.ClausesAsked.{IsRetryAsked};
 ghost use Rattle.iso_engine.specs.Lists.{IsOpen};
-ghost use Rattle.iso_engine.specs.Retried.{IsRetried, retry_refusals};
+ghost use Rattle.iso_engine.specs.Retried.{IsNextRun, IsPutBack};
+ghost use Rattle.iso_engine.specs.Unserved.{OnRefusal, UnlessMemory, refusals_in};
 ghost use Rattle.iso_engine.specs.Views.{view_of};
 
-use crate::call::called::Retried;
 use crate::call::clauses::try_next_clause;
 use crate::call::goals::{key_at, predicate_at};
+use crate::unserved::Unserved;
 use iso_search::choices::Alternative;
+use iso_search::outcome::Outcome;
 use iso_search::search::Search;
-use pl_term::Memory;
 use term_store::{Place, Stored};
 use world_api::{Answer, Reply, Visit, World};
 
 /// Goes on with the clauses for the goal at a place that were not tried (ISO 7.7.8), whose choice point was taken off: those of the
 /// generation after the clause with the place, before the tasks of a list. Asks the shared state for the next of them, and
-/// tries it. Where the visit is not served, the choice point is there again. The only error is out of memory, after which
-/// the search is not to be used.
+/// tries it. Where the visit is not served, the choice point is there again. When memory runs out the search is not to be used
+/// any more.
 pub fn retry_clauses<W: World<Term = Stored>>(
     search: &mut Search,
     world: &mut W,
@@ -35,7 +36,7 @@ pub fn retry_clauses<W: World<Term = Stored>>(
     generation: u64,
     place: u64,
     next: usize,
-) -> Result<Retried, Memory>
+) -> Result<Outcome, Unserved>
     requires whole { IsWhole search.old }
     requires goal { Holds search.old.store goal }
     requires callable { (i : ℤ) → term_at search.old.store goal ≡ int i → ⊥ }
@@ -43,13 +44,14 @@ pub fn retry_clauses<W: World<Term = Stored>>(
     requires held { All (λ a. IsSome (W.A.held atoms.old a)) (atoms_in (term_at search.old.store goal)) }
     requires open { IsOpen (W.told world.old) (reads (view_of (W.A.held atoms.old) (W.told world.old)) search.old.store goal) generation place }
     requires runs { has_ended (W.told world.old).engine (W.told world.old).history ≡ false }
-    ensures whole { OnOk result (IsWhole search.new) }
-    ensures retried { IfOk result (IsRetried (W.told world.old) search.old goal generation place next
+    ensures whole { UnlessMemory result (IsWhole search.new) }
+    ensures retried { IfOk result (IsNextRun (W.told world.old) search.old goal generation place next
         (W.A.held atoms.new) (W.told world.new) search.new) }
-    ensures budgets { OnOk result (search.new.budgets ≡ search.old.budgets) }
+    ensures put_back { OnRefusal result (IsPutBack (W.told world.old) search.old goal generation place next (W.told world.new) search.new) }
+    ensures budgets { UnlessMemory result (search.new.budgets ≡ search.old.budgets) }
     ensures runs { has_ended (W.told world.new).engine (W.told world.new).history ≡ false }
     ensures holds { AreHeld (W.A.held atoms.old) (W.A.held atoms.new) }
-    ensures refusals { OnOk result (W.A.refusals atoms.new ≡ W.A.refusals atoms.old ++ retry_refusals result) }
+    ensures refusals { UnlessMemory result (W.A.refusals atoms.new ≡ W.A.refusals atoms.old ++ refusals_in result) }
     ensures asked { Gains (IsRetryAsked (W.A.held atoms.old) (W.told world.old) search.old goal generation place) (W.A.asked atoms.old) (W.A.asked atoms.new) }
 {
     let _mark = search.store.mark();
@@ -72,21 +74,21 @@ pub fn retry_clauses<W: World<Term = Stored>>(
                 unreachable!();
             };
             let outcome = try_next_clause(search, goal, next, generation, found)?;
-            Ok(Retried::Ran(outcome))
+            Ok(outcome)
         }
         Answer::NeedsAtoms(pass) => {
             search.push_choice(left, next)?;
-            Ok(Retried::NeedsAtoms(pass))
+            Err(Unserved::NeedsAtoms(pass))
         }
         Answer::Retry(cause) => {
             search.push_choice(left, next)?;
-            Ok(Retried::Retry(cause))
+            Err(Unserved::Retry(cause))
         }
         Answer::Worn(word) => {
             search.push_choice(left, next)?;
-            Ok(Retried::Worn(word))
+            Err(Unserved::Worn(word))
         }
-        Answer::Waits { .. } => Err(Memory),
-        Answer::Memory => Err(Memory),
+        Answer::Waits { .. } => Err(Unserved::Memory),
+        Answer::Memory => Err(Unserved::Memory),
     }
 }

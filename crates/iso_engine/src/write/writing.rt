@@ -9,8 +9,10 @@ ghost use Rattle.world_builtins.specs.Naming.{IsHeldAt};
 ghost use Rattle.iso_search.specs.Searching.{IsWhole};
 ghost use Rattle.iso_engine.specs.declared.write.goals.OutputGoal.TheVariants.{Canonical, NewLine, Term};
 ghost use Rattle.iso_engine.specs.OutputGoals.{IsGoalHeld, IsGoalOf, IsHeldIn, IsOutputIn};
-ghost use Rattle.iso_engine.specs.Wrote.{IsTried, IsWrote, WritesAlone, tried_refusals, write_refusals};
+ghost use Rattle.iso_engine.specs.Unserved.{OnRefusal, refusals_in};
+ghost use Rattle.iso_engine.specs.Wrote.{IsTakenBack, IsTried, IsWrote, WritesAlone};
 
+use crate::unserved::Unserved;
 use crate::write::characters::put_character;
 use crate::write::goals::{OutputGoal, output_at};
 use crate::write::wrote::Wrote;
@@ -25,8 +27,8 @@ use world_builtins::{Style, Written, nl, write, write_canonical};
 
 /// Takes up the goal at a place, if it is one that writes, before the tasks of a list: makes an inference, asks the shared
 /// state for the operators where terms are written under them, and puts the text after what was written (ISO 8.12.1,
-/// 8.12.3 and 8.14.2). None where the goal is another one: then nothing has changed. The only error is out of memory, after
-/// which neither the search nor what was written is to be used.
+/// 8.12.3 and 8.14.2). None where the goal is another one: then nothing has changed. Where the visit is not served, nothing has
+/// changed either. When memory runs out neither the search nor what was written is to be used any more.
 pub fn write_goal<W: World>(
     alloc: Global,
     search: &mut Search,
@@ -35,7 +37,7 @@ pub fn write_goal<W: World>(
     out: &mut Vec<u8>,
     goal: Place,
     rest: usize,
-) -> Result<Option<Wrote>, Memory>
+) -> Result<Option<Wrote>, Unserved>
     requires whole { IsWhole search.old }
     requires goal { Holds search.old.store goal }
     requires held { IsGoalHeld (W.A.held atoms.old) search.old.store goal }
@@ -43,10 +45,11 @@ pub fn write_goal<W: World>(
     ensures whole { OnOk result (IsWhole search.new) }
     ensures wrote { IfOk result (IsTried (W.A.held atoms.old) (W.told world.old) search.old goal rest out.old.items
         (W.A.held atoms.new) (W.told world.new) search.new out.new.items) }
+    ensures taken_back { OnRefusal result (IsTakenBack (W.told world.old) search.old out.old.items (W.told world.new) search.new out.new.items) }
     ensures budgets { OnOk result (search.new.budgets ≡ search.old.budgets) }
     ensures runs { has_ended (W.told world.new).engine (W.told world.new).history ≡ false }
     ensures holds { AreHeld (W.A.held atoms.old) (W.A.held atoms.new) }
-    ensures refusals { W.A.refusals atoms.new ≡ W.A.refusals atoms.old ++ tried_refusals result }
+    ensures refusals { W.A.refusals atoms.new ≡ W.A.refusals atoms.old ++ refusals_in result }
     ensures asked { W.A.asked atoms.new ≡ W.A.asked atoms.old }
 {
     let Some(output) = output_at(&search.store, goal) else {
@@ -56,7 +59,7 @@ pub fn write_goal<W: World>(
     Ok(Some(wrote))
 }
 
-/// Does a goal that writes. The only error is out of memory.
+/// Does a goal that writes.
 fn write_output<W: World>(
     alloc: Global,
     search: &mut Search,
@@ -65,7 +68,7 @@ fn write_output<W: World>(
     out: &mut Vec<u8>,
     output: OutputGoal,
     rest: usize,
-) -> Result<Wrote, Memory>
+) -> Result<Wrote, Unserved>
     requires whole { IsWhole search.old }
     requires inside { IsOutputIn search.old.store output }
     requires held { IsHeldIn (W.A.held atoms.old) search.old.store output }
@@ -73,23 +76,33 @@ fn write_output<W: World>(
     ensures whole { OnOk result (IsWhole search.new) }
     ensures wrote { IfOk result (λ w. (goal : PlaceOf) → IsGoalOf search.old.store output goal
         → IsWrote (W.A.held atoms.old) (W.told world.old) search.old goal rest out.old.items (W.A.held atoms.new) (W.told world.new) search.new out.new.items w) }
+    ensures taken_back { OnRefusal result (IsTakenBack (W.told world.old) search.old out.old.items (W.told world.new) search.new out.new.items) }
     ensures budgets { OnOk result (search.new.budgets ≡ search.old.budgets) }
     ensures runs { has_ended (W.told world.new).engine (W.told world.new).history ≡ false }
     ensures holds { AreHeld (W.A.held atoms.old) (W.A.held atoms.new) }
-    ensures refusals { W.A.refusals atoms.new ≡ W.A.refusals atoms.old ++ write_refusals result }
+    ensures refusals { W.A.refusals atoms.new ≡ W.A.refusals atoms.old ++ refusals_in result }
     ensures asked { W.A.asked atoms.new ≡ W.A.asked atoms.old }
 {
     match output {
         OutputGoal::Term(style, term) => {
             write_term(alloc, search, world, atoms, out, style, term, rest)
         }
-        OutputGoal::Canonical(term) => write_alone(alloc, search, atoms, out, term, rest),
-        OutputGoal::NewLine => new_line(search, out, rest),
-        OutputGoal::Character(term) => put_character(search, atoms, out, term, rest),
+        OutputGoal::Canonical(term) => {
+            let wrote = write_alone(alloc, search, atoms, out, term, rest)?;
+            Ok(wrote)
+        }
+        OutputGoal::NewLine => {
+            let wrote = new_line(search, out, rest)?;
+            Ok(wrote)
+        }
+        OutputGoal::Character(term) => {
+            let wrote = put_character(search, atoms, out, term, rest)?;
+            Ok(wrote)
+        }
     }
 }
 
-/// write/1, writeq/1 and print/1. The only error is out of memory.
+/// write/1, writeq/1 and print/1.
 fn write_term<W: World>(
     alloc: Global,
     search: &mut Search,
@@ -99,7 +112,7 @@ fn write_term<W: World>(
     style: Style,
     term: Place,
     rest: usize,
-) -> Result<Wrote, Memory>
+) -> Result<Wrote, Unserved>
     requires whole { IsWhole search.old }
     requires inside { Holds search.old.store term }
     requires held { IsHeldAt (W.A.held atoms.old) search.old.store term }
@@ -107,10 +120,11 @@ fn write_term<W: World>(
     ensures whole { OnOk result (IsWhole search.new) }
     ensures wrote { IfOk result (λ w. (goal : PlaceOf) → IsGoalOf search.old.store (Term style term) goal
         → IsWrote (W.A.held atoms.old) (W.told world.old) search.old goal rest out.old.items (W.A.held atoms.new) (W.told world.new) search.new out.new.items w) }
+    ensures taken_back { OnRefusal result (IsTakenBack (W.told world.old) search.old out.old.items (W.told world.new) search.new out.new.items) }
     ensures budgets { OnOk result (search.new.budgets ≡ search.old.budgets) }
     ensures runs { has_ended (W.told world.new).engine (W.told world.new).history ≡ false }
     ensures holds { AreHeld (W.A.held atoms.old) (W.A.held atoms.new) }
-    ensures refusals { W.A.refusals atoms.new ≡ W.A.refusals atoms.old ++ write_refusals result }
+    ensures refusals { W.A.refusals atoms.new ≡ W.A.refusals atoms.old ++ refusals_in result }
     ensures asked { W.A.asked atoms.new ≡ W.A.asked atoms.old }
 {
     let most = search.budgets.inferences;
@@ -123,9 +137,9 @@ fn write_term<W: World>(
             search.inferences += 1;
             Ok(Wrote::Ran(Outcome::Run(rest)))
         }
-        Written::NeedsAtoms(pass) => Ok(Wrote::NeedsAtoms(pass)),
-        Written::Retry(cause) => Ok(Wrote::Retry(cause)),
-        Written::Worn(word) => Ok(Wrote::Worn(word)),
+        Written::NeedsAtoms(pass) => Err(Unserved::NeedsAtoms(pass)),
+        Written::Retry(cause) => Err(Unserved::Retry(cause)),
+        Written::Worn(word) => Err(Unserved::Worn(word)),
     }
 }
 

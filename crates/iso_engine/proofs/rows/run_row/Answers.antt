@@ -50,12 +50,12 @@ follow_row-requires g c =
             is
             (when_some _ _ _ found.ensures.lines c.in-Some.is),
       );
-      served = unrefused c.in-Some.row (sym c.refusal.ensures ∙ c.in-None-refusal.is);
+      served = unrefused c.in-Some.row (sym c.refusal.ensures ∙ c.in-None.is);
       rest = subst (λ (y : Search). c.args.rest ≤ length y.frames.items) (sym c.infer.ensures.kept) c.requires.rest;
     }
 
-pub returns-in_err-outcome-in-None-refusal-clause-asked : goal.returns-in_err-outcome-in-None-refusal-clause-asked
-returns-in_err-outcome-in-None-refusal-clause-asked g c =
+pub returns-in_err-outcome-in-None-clause-asked : goal.returns-in_err-outcome-in-None-clause-asked
+returns-in_err-outcome-in-None-clause-asked g c =
     let e = c.args.search.now in
     let a = c.args.atoms.now in
     let m = g.A.Atoms.held a in
@@ -64,8 +64,8 @@ returns-in_err-outcome-in-None-refusal-clause-asked g c =
     (texts_apart m (g.met.A.Atoms.unlike a) (λ k y h. (g.met.A.Atoms.finite a k y h).2)) c.requires.goal.goal_is c.requires.held)
     c.row_of.ensures.asked
 
-pub returns-in-None-refusal-clause-tried : goal.returns-in-None-refusal-clause-tried
-returns-in-None-refusal-clause-tried g c =
+pub returns-in_ok-outcome-in-None-clause-tried : goal.returns-in_ok-outcome-in-None-clause-tried
+returns-in_ok-outcome-in-None-clause-tried g c =
     let e = c.args.search.now in
     let x = c.infer.new.self in
     let kept = c.infer.ensures.kept in
@@ -73,7 +73,7 @@ returns-in-None-refusal-clause-tried g c =
     let n = g.A.Atoms.held c.row_of.new.atoms in
     let r = c.args.goal.now in
     let f = c.follow_row.new.search in
-    let o = c.in_ok-outcome-in-None-refusal in
+    let o = c.in_ok-outcome-in-None in
     let is = when_some _ _ _ c.in_ok-found.ensures.row c.in-Some.is in
     let z = origin e x kept r c.args.rest m n is.means in
     let made = row_made e x kept r c.args.rest m n c.row_of.new.store c.in-Some.row c.requires.goal.goal_is c.requires.held c.row_of.ensures.holds
@@ -82,8 +82,8 @@ returns-in-None-refusal-clause-tried g c =
     (subst (IsCosted e x kept r c.args.rest) c.if-not-infer.false c.infer.ensures.step) c.row_of.ensures.holds c.requires.held is.means is.row_is
     o.ensures.whole (o.ensures.after z made) (λ t view grown. o.ensures.step z t made view grown)
 
-pub returns-in-None-refusal-clause-asked : goal.returns-in-None-refusal-clause-asked
-returns-in-None-refusal-clause-asked g c =
+pub returns-in_ok-outcome-in-None-clause-asked : goal.returns-in_ok-outcome-in-None-clause-asked
+returns-in_ok-outcome-in-None-clause-asked g c =
     let e = c.args.search.now in
     let a = c.args.atoms.now in
     let m = g.A.Atoms.held a in
@@ -92,8 +92,18 @@ returns-in-None-refusal-clause-asked g c =
     (texts_apart m (g.met.A.Atoms.unlike a) (λ k y h. (g.met.A.Atoms.finite a k y h).2)) c.requires.goal.goal_is c.requires.held)
     c.row_of.ensures.asked
 
-pub returns-clause-asked : goal.returns-clause-asked
-returns-clause-asked g c =
+pub returns-in_default-clause-asked : goal.returns-in_default-clause-asked
+returns-in_default-clause-asked g c =
+    let e = c.args.search.now in
+    let a = c.args.atoms.now in
+    let m = g.A.Atoms.held a in
+    gains_weaker _ _ (g.A.Atoms.asked a) (g.A.Atoms.asked c.row_of.new.atoms)
+    (asked_given e c.infer.new.self c.infer.ensures.kept c.args.goal.now c.args.rest m (g.met.A.Atoms.fixed_held a)
+    (texts_apart m (g.met.A.Atoms.unlike a) (λ k y h. (g.met.A.Atoms.finite a k y h).2)) c.requires.goal.goal_is c.requires.held)
+    c.row_of.ensures.asked
+
+pub returns-in-Some-refusal-clause-asked : goal.returns-in-Some-refusal-clause-asked
+returns-in-Some-refusal-clause-asked g c =
     let e = c.args.search.now in
     let a = c.args.atoms.now in
     let m = g.A.Atoms.held a in

@@ -65,7 +65,7 @@ returns-in_ok-list-in-None-clause-step c t p view =
     (subst (λ (y : Search). d ≡ record y { store = record y.store { used = d.store.used }; next_variable = d.next_variable }) kept c.in-None.ensures.kept)
     (c.in-None.ensures.choices v ∙ ap (choices_of v) kept)
     (omega (arith, c.len-height.ensures, d.choices.ok.0, length_choices v d))
-    (pushed.node v) (pushed.choices v) (ap (λ (s : Search). s.next) pushed.kept) (ap (λ (s : Search). s.inferences) pushed.kept)
+    (pushed.node v) (pushed.choices v) (ap (λ (s : Search). s.next_variable) pushed.kept) (ap (λ (s : Search). s.inferences) pushed.kept)
 
 pub returns-in-Refused-clause-placed : goal.returns-in-Refused-clause-placed
 returns-in-Refused-clause-placed c = subst (IsCheckedIn c.check_body.new.self.store) c.in-Refused.is c.in_ok-checked.ensures.inside

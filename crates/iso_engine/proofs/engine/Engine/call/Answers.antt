@@ -1,11 +1,16 @@
-use Rattle.std.proofs.Common.{refl, ap, subst}
-use Rattle.iso_engine.specs.Called.{IsCalled}
+use Rattle.std.proofs.Common.{[], inl, refl, ap, subst}
+use Rattle.iso_engine.specs.Called.{IsCalled, IsTakenBack}
+use Rattle.iso_engine.specs.Ready.{IsReady}
+use Rattle.iso_engine.specs.Slices.{IsStepped}
+use Rattle.iso_engine.specs.Spending.{IsSpent}
 use Rattle.iso_engine.specs.declared.doing.Doing.TheVariants.{Throwing}
 use Rattle.iso_search.specs.declared.search.Search.{Search}
 use Rattle.iso_engine.specs.declared.engine.Engine.{Engine}
+use Rattle.iso_engine.specs.declared.call.called.Called.{Called}
 use Rattle.iso_engine.proofs.Interning.{call_asks_for}
 use Rattle.iso_engine.proofs.Moved.{ran_moved, refused_moved, spent_moved}
 use Rattle.iso_engine.proofs.Opening.{goal_held}
+use Rattle.iso_engine.proofs.Refusals.{at_exit, refused_end, refused_list, refused_step, unless_memory}
 use Rattle.iso_engine.proofs.Solutions.{view_is}
 use Rattle.iso_engine.proofs.TakenBack.{called_back}
 use Rattle.iso_engine.proofs.engine.Engine.call.Goals as goal
@@ -149,8 +154,8 @@ returns-in_ok-ball-in-Refused-clause-stepped g c =
     refl refl k.whole c.in-Refused.error b.ball r b.ensures.over b.ensures.ball refl in
     moved.0
 
-pub returns-in-NeedsAtoms-clause-ready : goal.returns-in-NeedsAtoms-clause-ready
-returns-in-NeedsAtoms-clause-ready g c =
+pub returns-in_err-called-clause-ready : goal.returns-in_err-called-clause-ready
+returns-in_err-called-clause-ready g c =
     let e = c.args.self.now in
     let a = c.call_clauses.new.atoms in
     let m = g.W.A.Atoms.held c.args.atoms.now in
@@ -158,16 +163,15 @@ returns-in-NeedsAtoms-clause-ready g c =
     let t = g.W.World.told c.args.world.now in
     let u = g.W.World.told c.call_clauses.new.world in
     let x = c.call_clauses.new.search in
-    let view = view_is n u (g.met.W.A.Atoms.fixed_held a) (g.met.W.A.Atoms.unlike a) (g.met.W.A.Atoms.finite a) in
-    let l = c.requires.list in
-    let k = c.in_ok-called.ensures in
-    let back = subst (IsCalled m t e.search c.args.goal c.args.rest n u x) c.in-NeedsAtoms.is k.called in
     let f : Engine = record e { search = x } in
-    let stayed = called_back m n t u e f c.call_clauses.ensures.holds view c.requires.ready back.0 (ap (λ (s : Search). let y : Engine = record e { search = s } in y) back.1) in
-    stayed.1
+    let w = c.in_err-called.field-0.0 in
+    let exit = at_exit c.from_residual.result w c.from_residual.ensures.1 in
+    refused_end Called c.from_residual.result w exit (IsTakenBack t e.search u x) (λ o. IsReady n u f) c.in_err-called.ensures.taken_back
+    (λ s again back. (called_back m n t u e f c.call_clauses.ensures.holds (view_is n u (g.met.W.A.Atoms.fixed_held a) (g.met.W.A.Atoms.unlike a) (g.met.W.A.Atoms.finite a)) c.requires.ready
+    back.0 (ap (λ (y : Search). let z : Engine = record e { search = y } in z) back.1)).1)
 
-pub returns-in-NeedsAtoms-clause-stepped : goal.returns-in-NeedsAtoms-clause-stepped
-returns-in-NeedsAtoms-clause-stepped g c =
+pub returns-in_err-called-clause-stepped : goal.returns-in_err-called-clause-stepped
+returns-in_err-called-clause-stepped g c =
     let e = c.args.self.now in
     let a = c.call_clauses.new.atoms in
     let m = g.W.A.Atoms.held c.args.atoms.now in
@@ -175,16 +179,15 @@ returns-in-NeedsAtoms-clause-stepped g c =
     let t = g.W.World.told c.args.world.now in
     let u = g.W.World.told c.call_clauses.new.world in
     let x = c.call_clauses.new.search in
-    let view = view_is n u (g.met.W.A.Atoms.fixed_held a) (g.met.W.A.Atoms.unlike a) (g.met.W.A.Atoms.finite a) in
-    let l = c.requires.list in
-    let k = c.in_ok-called.ensures in
-    let back = subst (IsCalled m t e.search c.args.goal c.args.rest n u x) c.in-NeedsAtoms.is k.called in
     let f : Engine = record e { search = x } in
-    let stayed = called_back m n t u e f c.call_clauses.ensures.holds view c.requires.ready back.0 (ap (λ (s : Search). let y : Engine = record e { search = s } in y) back.1) in
-    (refl, tt, stayed.0)
+    let w = c.in_err-called.field-0.0 in
+    let exit = at_exit c.from_residual.result w c.from_residual.ensures.1 in
+    refused_end Called c.from_residual.result w exit (IsTakenBack t e.search u x) (λ o. IsStepped m t e o n u f []) c.in_err-called.ensures.taken_back
+    (λ s again back. refused_step m t e n u f s again (called_back m n t u e f c.call_clauses.ensures.holds (view_is n u (g.met.W.A.Atoms.fixed_held a) (g.met.W.A.Atoms.unlike a) (g.met.W.A.Atoms.finite a)) c.requires.ready
+    back.0 (ap (λ (y : Search). let z : Engine = record e { search = y } in z) back.1)).0)
 
-pub returns-in-Retry-clause-ready : goal.returns-in-Retry-clause-ready
-returns-in-Retry-clause-ready g c =
+pub returns-in_err-called-clause-spent : goal.returns-in_err-called-clause-spent
+returns-in_err-called-clause-spent g c =
     let e = c.args.self.now in
     let a = c.call_clauses.new.atoms in
     let m = g.W.A.Atoms.held c.args.atoms.now in
@@ -192,64 +195,17 @@ returns-in-Retry-clause-ready g c =
     let t = g.W.World.told c.args.world.now in
     let u = g.W.World.told c.call_clauses.new.world in
     let x = c.call_clauses.new.search in
-    let view = view_is n u (g.met.W.A.Atoms.fixed_held a) (g.met.W.A.Atoms.unlike a) (g.met.W.A.Atoms.finite a) in
-    let l = c.requires.list in
-    let k = c.in_ok-called.ensures in
-    let back = subst (IsCalled m t e.search c.args.goal c.args.rest n u x) c.in-Retry.is k.called in
     let f : Engine = record e { search = x } in
-    let stayed = called_back m n t u e f c.call_clauses.ensures.holds view c.requires.ready back.0 (ap (λ (s : Search). let y : Engine = record e { search = s } in y) back.1) in
-    stayed.1
+    let w = c.in_err-called.field-0.0 in
+    let exit = at_exit c.from_residual.result w c.from_residual.ensures.1 in
+    refused_end Called c.from_residual.result w exit (IsTakenBack t e.search u x) (λ o. IsSpent e.search.inferences x.inferences) c.in_err-called.ensures.taken_back
+    (λ s again back. inl (ap (λ (y : Search). y.inferences) back.1))
 
-pub returns-in-Retry-clause-stepped : goal.returns-in-Retry-clause-stepped
-returns-in-Retry-clause-stepped g c =
-    let e = c.args.self.now in
-    let a = c.call_clauses.new.atoms in
-    let m = g.W.A.Atoms.held c.args.atoms.now in
-    let n = g.W.A.Atoms.held a in
-    let t = g.W.World.told c.args.world.now in
-    let u = g.W.World.told c.call_clauses.new.world in
-    let x = c.call_clauses.new.search in
-    let view = view_is n u (g.met.W.A.Atoms.fixed_held a) (g.met.W.A.Atoms.unlike a) (g.met.W.A.Atoms.finite a) in
-    let l = c.requires.list in
-    let k = c.in_ok-called.ensures in
-    let back = subst (IsCalled m t e.search c.args.goal c.args.rest n u x) c.in-Retry.is k.called in
-    let f : Engine = record e { search = x } in
-    let stayed = called_back m n t u e f c.call_clauses.ensures.holds view c.requires.ready back.0 (ap (λ (s : Search). let y : Engine = record e { search = s } in y) back.1) in
-    (refl, tt, stayed.0)
-
-pub returns-in-Worn-clause-ready : goal.returns-in-Worn-clause-ready
-returns-in-Worn-clause-ready g c =
-    let e = c.args.self.now in
-    let a = c.call_clauses.new.atoms in
-    let m = g.W.A.Atoms.held c.args.atoms.now in
-    let n = g.W.A.Atoms.held a in
-    let t = g.W.World.told c.args.world.now in
-    let u = g.W.World.told c.call_clauses.new.world in
-    let x = c.call_clauses.new.search in
-    let view = view_is n u (g.met.W.A.Atoms.fixed_held a) (g.met.W.A.Atoms.unlike a) (g.met.W.A.Atoms.finite a) in
-    let l = c.requires.list in
-    let k = c.in_ok-called.ensures in
-    let back = subst (IsCalled m t e.search c.args.goal c.args.rest n u x) c.in-Worn.is k.called in
-    let f : Engine = record e { search = x } in
-    let stayed = called_back m n t u e f c.call_clauses.ensures.holds view c.requires.ready back.0 (ap (λ (s : Search). let y : Engine = record e { search = s } in y) back.1) in
-    stayed.1
-
-pub returns-in-Worn-clause-stepped : goal.returns-in-Worn-clause-stepped
-returns-in-Worn-clause-stepped g c =
-    let e = c.args.self.now in
-    let a = c.call_clauses.new.atoms in
-    let m = g.W.A.Atoms.held c.args.atoms.now in
-    let n = g.W.A.Atoms.held a in
-    let t = g.W.World.told c.args.world.now in
-    let u = g.W.World.told c.call_clauses.new.world in
-    let x = c.call_clauses.new.search in
-    let view = view_is n u (g.met.W.A.Atoms.fixed_held a) (g.met.W.A.Atoms.unlike a) (g.met.W.A.Atoms.finite a) in
-    let l = c.requires.list in
-    let k = c.in_ok-called.ensures in
-    let back = subst (IsCalled m t e.search c.args.goal c.args.rest n u x) c.in-Worn.is k.called in
-    let f : Engine = record e { search = x } in
-    let stayed = called_back m n t u e f c.call_clauses.ensures.holds view c.requires.ready back.0 (ap (λ (s : Search). let y : Engine = record e { search = s } in y) back.1) in
-    (refl, tt, stayed.0)
+pub returns-in_err-called-clause-refusals : goal.returns-in_err-called-clause-refusals
+returns-in_err-called-clause-refusals g c =
+    let w = c.in_err-called.field-0.0 in
+    refused_list Called c.from_residual.result w (at_exit c.from_residual.result w c.from_residual.ensures.1) (g.W.A.Atoms.refusals c.args.atoms.now)
+    (g.W.A.Atoms.refusals c.call_clauses.new.atoms) (unless_memory Called w c.in_err-called.ensures.refusals)
 
 pub returns-in_err-called-clause-asked : goal.returns-in_err-called-clause-asked
 returns-in_err-called-clause-asked g c =
@@ -313,36 +269,6 @@ returns-in_err-ball-in-Refused-clause-asked g c =
 
 pub returns-in_ok-ball-in-Refused-clause-asked : goal.returns-in_ok-ball-in-Refused-clause-asked
 returns-in_ok-ball-in-Refused-clause-asked g c =
-    let a = c.args.atoms.now in
-    let m = g.W.A.Atoms.held a in
-    let t = g.W.World.told c.args.world.now in
-    let view = view_is m t (g.met.W.A.Atoms.fixed_held a) (g.met.W.A.Atoms.unlike a) (g.met.W.A.Atoms.finite a) in
-    let l = c.requires.list in
-    call_asks_for m t c.args.self.now c.args.goal c.args.procedure l.0 l.1 c.args.rest l.2 l.3 c.requires.rest c.requires.calls view (g.W.A.Atoms.asked a)
-    (g.W.A.Atoms.asked c.call_clauses.new.atoms) c.call_clauses.ensures.asked
-
-pub returns-in-NeedsAtoms-clause-asked : goal.returns-in-NeedsAtoms-clause-asked
-returns-in-NeedsAtoms-clause-asked g c =
-    let a = c.args.atoms.now in
-    let m = g.W.A.Atoms.held a in
-    let t = g.W.World.told c.args.world.now in
-    let view = view_is m t (g.met.W.A.Atoms.fixed_held a) (g.met.W.A.Atoms.unlike a) (g.met.W.A.Atoms.finite a) in
-    let l = c.requires.list in
-    call_asks_for m t c.args.self.now c.args.goal c.args.procedure l.0 l.1 c.args.rest l.2 l.3 c.requires.rest c.requires.calls view (g.W.A.Atoms.asked a)
-    (g.W.A.Atoms.asked c.call_clauses.new.atoms) c.call_clauses.ensures.asked
-
-pub returns-in-Retry-clause-asked : goal.returns-in-Retry-clause-asked
-returns-in-Retry-clause-asked g c =
-    let a = c.args.atoms.now in
-    let m = g.W.A.Atoms.held a in
-    let t = g.W.World.told c.args.world.now in
-    let view = view_is m t (g.met.W.A.Atoms.fixed_held a) (g.met.W.A.Atoms.unlike a) (g.met.W.A.Atoms.finite a) in
-    let l = c.requires.list in
-    call_asks_for m t c.args.self.now c.args.goal c.args.procedure l.0 l.1 c.args.rest l.2 l.3 c.requires.rest c.requires.calls view (g.W.A.Atoms.asked a)
-    (g.W.A.Atoms.asked c.call_clauses.new.atoms) c.call_clauses.ensures.asked
-
-pub returns-in-Worn-clause-asked : goal.returns-in-Worn-clause-asked
-returns-in-Worn-clause-asked g c =
     let a = c.args.atoms.now in
     let m = g.W.A.Atoms.held a in
     let t = g.W.World.told c.args.world.now in

@@ -1,9 +1,16 @@
-use Rattle.std.proofs.Common.{refl, sym, ap, subst, ◌∙◌}
+use Rattle.std.proofs.Common.{◌≡◌, [], refl, sym, ap, subst, ◌∙◌}
+use Rattle.std.proofs.lemmas.Result.{IfOk-weaker}
+use Rattle.world_api.specs.Told.{Told}
 use Rattle.iso_search.specs.declared.failure.Back.TheVariants.{Answers, Found, Retry}
 use Rattle.iso_search.specs.declared.search.Search.{Search}
 use Rattle.iso_search.specs.Failures.{IsTaken, back_result}
 use Rattle.iso_engine.specs.declared.engine.Engine.{Engine}
-use Rattle.iso_engine.proofs.Failed.{failed_steps, found_steps, retried_step}
+use Rattle.iso_engine.specs.Ready.{IsReady}
+use Rattle.iso_engine.specs.Retrying.{IsGoneOn}
+use Rattle.iso_engine.specs.Slices.{IsStepped}
+use Rattle.iso_engine.specs.Spending.{IsSpent}
+use Rattle.iso_engine.specs.Unserved.{as_stopped}
+use Rattle.iso_engine.proofs.Failed.{IsStepAfter, failed_steps, found_steps, retried_end}
 use Rattle.iso_engine.proofs.Followed.{fails_to}
 use Rattle.iso_engine.proofs.Interning.{line_asks_for, nothing_asked, retry_asks_for}
 use Rattle.iso_engine.proofs.Opening.{line_held, newest_callable, newest_held, newest_open}
@@ -75,98 +82,8 @@ retry-requires-clause-open g c =
     let taken = subst (IsTaken e.search x) r.is c.resume-back.ensures.taken in
     (newest_open m t e.search x e.doing r.goal r.generation r.place r.next c.requires.ready.stable taken view).listed
 
-pub returns-in_ok-stopped-in-Retry-clause-given : goal.returns-in_ok-stopped-in-Retry-clause-given
-returns-in_ok-stopped-in-Retry-clause-given g c =
-    let e = c.args.self.now in
-    let a = c.retry.new.atoms in
-    let m = g.W.A.Atoms.held c.args.atoms.now in
-    let n = g.W.A.Atoms.held a in
-    let t = g.W.World.told c.args.world.now in
-    let u = g.W.World.told c.retry.new.world in
-    let view = view_is n u (g.met.W.A.Atoms.fixed_held a) (g.met.W.A.Atoms.unlike a) (g.met.W.A.Atoms.finite a) in
-    let x = c.resume-back.new.self in
-    let r = c.in-Retry in
-    let s = c.in_ok-stopped-in-Retry in
-    let taken = subst (IsTaken e.search x) r.is c.resume-back.ensures.taken in
-    let step = retried_step m n t u e x c.retry.new.self (Retry r.goal r.generation r.place r.next) tt s.ensures.holds view c.requires.ready c.requires.fails
-    c.resume-back.ensures.kept s.ensures.whole s.stopped s.ensures.gone taken
-    (λ q fails. sym (ap (back_result q x) r.is) ∙ c.resume-back.ensures.step q fails) in
-    step.3
-
-pub returns-in_ok-stopped-in-Retry-clause-spent : goal.returns-in_ok-stopped-in-Retry-clause-spent
-returns-in_ok-stopped-in-Retry-clause-spent g c =
-    let e = c.args.self.now in
-    let a = c.retry.new.atoms in
-    let m = g.W.A.Atoms.held c.args.atoms.now in
-    let n = g.W.A.Atoms.held a in
-    let t = g.W.World.told c.args.world.now in
-    let u = g.W.World.told c.retry.new.world in
-    let view = view_is n u (g.met.W.A.Atoms.fixed_held a) (g.met.W.A.Atoms.unlike a) (g.met.W.A.Atoms.finite a) in
-    let x = c.resume-back.new.self in
-    let r = c.in-Retry in
-    let s = c.in_ok-stopped-in-Retry in
-    let taken = subst (IsTaken e.search x) r.is c.resume-back.ensures.taken in
-    let step = retried_step m n t u e x c.retry.new.self (Retry r.goal r.generation r.place r.next) tt s.ensures.holds view c.requires.ready c.requires.fails
-    c.resume-back.ensures.kept s.ensures.whole s.stopped s.ensures.gone taken
-    (λ q fails. sym (ap (back_result q x) r.is) ∙ c.resume-back.ensures.step q fails) in
-    step.2
-
-pub returns-in_ok-stopped-in-Retry-clause-ready : goal.returns-in_ok-stopped-in-Retry-clause-ready
-returns-in_ok-stopped-in-Retry-clause-ready g c =
-    let e = c.args.self.now in
-    let a = c.retry.new.atoms in
-    let m = g.W.A.Atoms.held c.args.atoms.now in
-    let n = g.W.A.Atoms.held a in
-    let t = g.W.World.told c.args.world.now in
-    let u = g.W.World.told c.retry.new.world in
-    let view = view_is n u (g.met.W.A.Atoms.fixed_held a) (g.met.W.A.Atoms.unlike a) (g.met.W.A.Atoms.finite a) in
-    let x = c.resume-back.new.self in
-    let r = c.in-Retry in
-    let s = c.in_ok-stopped-in-Retry in
-    let taken = subst (IsTaken e.search x) r.is c.resume-back.ensures.taken in
-    let step = retried_step m n t u e x c.retry.new.self (Retry r.goal r.generation r.place r.next) tt s.ensures.holds view c.requires.ready c.requires.fails
-    c.resume-back.ensures.kept s.ensures.whole s.stopped s.ensures.gone taken
-    (λ q fails. sym (ap (back_result q x) r.is) ∙ c.resume-back.ensures.step q fails) in
-    step.1
-
-pub returns-in_ok-stopped-in-Retry-clause-stepped : goal.returns-in_ok-stopped-in-Retry-clause-stepped
-returns-in_ok-stopped-in-Retry-clause-stepped g c =
-    let e = c.args.self.now in
-    let a = c.retry.new.atoms in
-    let m = g.W.A.Atoms.held c.args.atoms.now in
-    let n = g.W.A.Atoms.held a in
-    let t = g.W.World.told c.args.world.now in
-    let u = g.W.World.told c.retry.new.world in
-    let view = view_is n u (g.met.W.A.Atoms.fixed_held a) (g.met.W.A.Atoms.unlike a) (g.met.W.A.Atoms.finite a) in
-    let x = c.resume-back.new.self in
-    let r = c.in-Retry in
-    let s = c.in_ok-stopped-in-Retry in
-    let taken = subst (IsTaken e.search x) r.is c.resume-back.ensures.taken in
-    let step = retried_step m n t u e x c.retry.new.self (Retry r.goal r.generation r.place r.next) tt s.ensures.holds view c.requires.ready c.requires.fails
-    c.resume-back.ensures.kept s.ensures.whole s.stopped s.ensures.gone taken
-    (λ q fails. sym (ap (back_result q x) r.is) ∙ c.resume-back.ensures.step q fails) in
-    step.0
-
 pub returns-in-Some-clause-asked : goal.returns-in-Some-clause-asked
 returns-in-Some-clause-asked g c = let asked = g.W.A.Atoms.asked c.args.atoms.now in nothing_asked _ asked asked refl
-
-pub returns-in_err-stopped-in-Retry-clause-asked : goal.returns-in_err-stopped-in-Retry-clause-asked
-returns-in_err-stopped-in-Retry-clause-asked g c =
-    let e = c.args.self.now in
-    let a = c.args.atoms.now in
-    let x = c.resume-back.new.self in
-    let r = c.in-Retry in
-    retry_asks_for (g.W.A.Atoms.held a) (g.W.World.told c.args.world.now) e x r.goal r.generation r.place r.next c.requires.fails
-    (subst (IsTaken e.search x) r.is c.resume-back.ensures.taken) (g.W.A.Atoms.asked a) (g.W.A.Atoms.asked c.retry.new.atoms) c.retry.ensures.asked
-
-pub returns-in_ok-stopped-in-Retry-clause-asked : goal.returns-in_ok-stopped-in-Retry-clause-asked
-returns-in_ok-stopped-in-Retry-clause-asked g c =
-    let e = c.args.self.now in
-    let a = c.args.atoms.now in
-    let x = c.resume-back.new.self in
-    let r = c.in-Retry in
-    retry_asks_for (g.W.A.Atoms.held a) (g.W.World.told c.args.world.now) e x r.goal r.generation r.place r.next c.requires.fails
-    (subst (IsTaken e.search x) r.is c.resume-back.ensures.taken) (g.W.A.Atoms.asked a) (g.W.A.Atoms.asked c.retry.new.atoms) c.retry.ensures.asked
 
 pub retry_line-requires-clause-held : goal.retry_line-requires-clause-held
 retry_line-requires-clause-held g c =
@@ -178,92 +95,6 @@ retry_line-requires-clause-held g c =
     let r = c.in-Answers in
     line_held m t e.search x e.doing r.goal r.line r.next c.requires.ready.stable (subst (IsTaken e.search x) r.is c.resume-back.ensures.taken)
     (g.met.W.A.Atoms.fixed_held a) (g.met.W.A.Atoms.unlike a) (g.met.W.A.Atoms.finite a)
-
-pub returns-in_ok-stopped-in-Answers-clause-given : goal.returns-in_ok-stopped-in-Answers-clause-given
-returns-in_ok-stopped-in-Answers-clause-given g c =
-    let e = c.args.self.now in
-    let a = c.retry_line.new.atoms in
-    let m = g.W.A.Atoms.held c.args.atoms.now in
-    let n = g.W.A.Atoms.held a in
-    let t = g.W.World.told c.args.world.now in
-    let view = view_is n t (g.met.W.A.Atoms.fixed_held a) (g.met.W.A.Atoms.unlike a) (g.met.W.A.Atoms.finite a) in
-    let x = c.resume-back.new.self in
-    let r = c.in-Answers in
-    let s = c.in_ok-stopped-in-Answers in
-    let taken = subst (IsTaken e.search x) r.is c.resume-back.ensures.taken in
-    let step = retried_step m n t t e x c.retry_line.new.self (Answers r.goal r.line r.next) tt c.retry_line.ensures.holds view c.requires.ready c.requires.fails
-    c.resume-back.ensures.kept s.ensures.whole s.stopped (s.ensures.gone t) taken
-    (λ q fails. sym (ap (back_result q x) r.is) ∙ c.resume-back.ensures.step q fails) in
-    step.3
-
-pub returns-in_ok-stopped-in-Answers-clause-spent : goal.returns-in_ok-stopped-in-Answers-clause-spent
-returns-in_ok-stopped-in-Answers-clause-spent g c =
-    let e = c.args.self.now in
-    let a = c.retry_line.new.atoms in
-    let m = g.W.A.Atoms.held c.args.atoms.now in
-    let n = g.W.A.Atoms.held a in
-    let t = g.W.World.told c.args.world.now in
-    let view = view_is n t (g.met.W.A.Atoms.fixed_held a) (g.met.W.A.Atoms.unlike a) (g.met.W.A.Atoms.finite a) in
-    let x = c.resume-back.new.self in
-    let r = c.in-Answers in
-    let s = c.in_ok-stopped-in-Answers in
-    let taken = subst (IsTaken e.search x) r.is c.resume-back.ensures.taken in
-    let step = retried_step m n t t e x c.retry_line.new.self (Answers r.goal r.line r.next) tt c.retry_line.ensures.holds view c.requires.ready c.requires.fails
-    c.resume-back.ensures.kept s.ensures.whole s.stopped (s.ensures.gone t) taken
-    (λ q fails. sym (ap (back_result q x) r.is) ∙ c.resume-back.ensures.step q fails) in
-    step.2
-
-pub returns-in_ok-stopped-in-Answers-clause-ready : goal.returns-in_ok-stopped-in-Answers-clause-ready
-returns-in_ok-stopped-in-Answers-clause-ready g c =
-    let e = c.args.self.now in
-    let a = c.retry_line.new.atoms in
-    let m = g.W.A.Atoms.held c.args.atoms.now in
-    let n = g.W.A.Atoms.held a in
-    let t = g.W.World.told c.args.world.now in
-    let view = view_is n t (g.met.W.A.Atoms.fixed_held a) (g.met.W.A.Atoms.unlike a) (g.met.W.A.Atoms.finite a) in
-    let x = c.resume-back.new.self in
-    let r = c.in-Answers in
-    let s = c.in_ok-stopped-in-Answers in
-    let taken = subst (IsTaken e.search x) r.is c.resume-back.ensures.taken in
-    let step = retried_step m n t t e x c.retry_line.new.self (Answers r.goal r.line r.next) tt c.retry_line.ensures.holds view c.requires.ready c.requires.fails
-    c.resume-back.ensures.kept s.ensures.whole s.stopped (s.ensures.gone t) taken
-    (λ q fails. sym (ap (back_result q x) r.is) ∙ c.resume-back.ensures.step q fails) in
-    step.1
-
-pub returns-in_ok-stopped-in-Answers-clause-stepped : goal.returns-in_ok-stopped-in-Answers-clause-stepped
-returns-in_ok-stopped-in-Answers-clause-stepped g c =
-    let e = c.args.self.now in
-    let a = c.retry_line.new.atoms in
-    let m = g.W.A.Atoms.held c.args.atoms.now in
-    let n = g.W.A.Atoms.held a in
-    let t = g.W.World.told c.args.world.now in
-    let view = view_is n t (g.met.W.A.Atoms.fixed_held a) (g.met.W.A.Atoms.unlike a) (g.met.W.A.Atoms.finite a) in
-    let x = c.resume-back.new.self in
-    let r = c.in-Answers in
-    let s = c.in_ok-stopped-in-Answers in
-    let taken = subst (IsTaken e.search x) r.is c.resume-back.ensures.taken in
-    let step = retried_step m n t t e x c.retry_line.new.self (Answers r.goal r.line r.next) tt c.retry_line.ensures.holds view c.requires.ready c.requires.fails
-    c.resume-back.ensures.kept s.ensures.whole s.stopped (s.ensures.gone t) taken
-    (λ q fails. sym (ap (back_result q x) r.is) ∙ c.resume-back.ensures.step q fails) in
-    step.0
-
-pub returns-in_err-stopped-in-Answers-clause-asked : goal.returns-in_err-stopped-in-Answers-clause-asked
-returns-in_err-stopped-in-Answers-clause-asked g c =
-    let e = c.args.self.now in
-    let a = c.args.atoms.now in
-    let x = c.resume-back.new.self in
-    let r = c.in-Answers in
-    line_asks_for (g.W.A.Atoms.held a) (g.W.World.told c.args.world.now) e x r.goal r.line r.next c.requires.fails
-    (subst (IsTaken e.search x) r.is c.resume-back.ensures.taken) (g.W.A.Atoms.asked a) (g.W.A.Atoms.asked c.retry_line.new.atoms) c.retry_line.ensures.asked
-
-pub returns-in_ok-stopped-in-Answers-clause-asked : goal.returns-in_ok-stopped-in-Answers-clause-asked
-returns-in_ok-stopped-in-Answers-clause-asked g c =
-    let e = c.args.self.now in
-    let a = c.args.atoms.now in
-    let x = c.resume-back.new.self in
-    let r = c.in-Answers in
-    line_asks_for (g.W.A.Atoms.held a) (g.W.World.told c.args.world.now) e x r.goal r.line r.next c.requires.fails
-    (subst (IsTaken e.search x) r.is c.resume-back.ensures.taken) (g.W.A.Atoms.asked a) (g.W.A.Atoms.asked c.retry_line.new.atoms) c.retry_line.ensures.asked
 
 pub returns-in_ok-self-in-Found-clause-ready : goal.returns-in_ok-self-in-Found-clause-ready
 returns-in_ok-self-in-Found-clause-ready g c =
@@ -321,3 +152,185 @@ returns-in_err-self-in-Found-clause-asked g c = let asked = g.W.A.Atoms.asked c.
 
 pub returns-in_ok-self-in-Found-clause-asked : goal.returns-in_ok-self-in-Found-clause-asked
 returns-in_ok-self-in-Found-clause-asked g c = let asked = g.W.A.Atoms.asked c.args.atoms.now in nothing_asked _ asked asked refl
+
+pub returns-in-Retry-clause-given : goal.returns-in-Retry-clause-given
+returns-in-Retry-clause-given g c =
+    let e = c.args.self.now in
+    let a = c.retry.new.atoms in
+    let m = g.W.A.Atoms.held c.args.atoms.now in
+    let n = g.W.A.Atoms.held a in
+    let t = g.W.World.told c.args.world.now in
+    let u = g.W.World.told c.retry.new.world in
+    let view = view_is n u (g.met.W.A.Atoms.fixed_held a) (g.met.W.A.Atoms.unlike a) (g.met.W.A.Atoms.finite a) in
+    let x = c.resume-back.new.self in
+    let f = c.retry.new.self in
+    let r = c.in-Retry in
+    let b = Retry r.goal r.generation r.place r.next in
+    let end = as_stopped c.retry.result in
+    let taken = subst (IsTaken e.search x) r.is c.resume-back.ensures.taken in
+    let step = retried_end m n t u e x f b tt c.retry.ensures.holds view c.requires.ready c.requires.fails c.resume-back.ensures.kept end
+    c.retry.ensures.whole c.retry.ensures.gone taken
+    (λ q fails. sym (ap (back_result q x) r.is) ∙ c.resume-back.ensures.step q fails) in
+    IfOk-weaker end (IsStepAfter m t e n u f) (λ o. f.solutions_found ≡ e.solutions_found) (λ o h. h.3) step
+
+pub returns-in-Retry-clause-spent : goal.returns-in-Retry-clause-spent
+returns-in-Retry-clause-spent g c =
+    let e = c.args.self.now in
+    let a = c.retry.new.atoms in
+    let m = g.W.A.Atoms.held c.args.atoms.now in
+    let n = g.W.A.Atoms.held a in
+    let t = g.W.World.told c.args.world.now in
+    let u = g.W.World.told c.retry.new.world in
+    let view = view_is n u (g.met.W.A.Atoms.fixed_held a) (g.met.W.A.Atoms.unlike a) (g.met.W.A.Atoms.finite a) in
+    let x = c.resume-back.new.self in
+    let f = c.retry.new.self in
+    let r = c.in-Retry in
+    let b = Retry r.goal r.generation r.place r.next in
+    let end = as_stopped c.retry.result in
+    let taken = subst (IsTaken e.search x) r.is c.resume-back.ensures.taken in
+    let step = retried_end m n t u e x f b tt c.retry.ensures.holds view c.requires.ready c.requires.fails c.resume-back.ensures.kept end
+    c.retry.ensures.whole c.retry.ensures.gone taken
+    (λ q fails. sym (ap (back_result q x) r.is) ∙ c.resume-back.ensures.step q fails) in
+    IfOk-weaker end (IsStepAfter m t e n u f) (λ o. IsSpent e.search.inferences f.search.inferences) (λ o h. h.2) step
+
+pub returns-in-Retry-clause-ready : goal.returns-in-Retry-clause-ready
+returns-in-Retry-clause-ready g c =
+    let e = c.args.self.now in
+    let a = c.retry.new.atoms in
+    let m = g.W.A.Atoms.held c.args.atoms.now in
+    let n = g.W.A.Atoms.held a in
+    let t = g.W.World.told c.args.world.now in
+    let u = g.W.World.told c.retry.new.world in
+    let view = view_is n u (g.met.W.A.Atoms.fixed_held a) (g.met.W.A.Atoms.unlike a) (g.met.W.A.Atoms.finite a) in
+    let x = c.resume-back.new.self in
+    let f = c.retry.new.self in
+    let r = c.in-Retry in
+    let b = Retry r.goal r.generation r.place r.next in
+    let end = as_stopped c.retry.result in
+    let taken = subst (IsTaken e.search x) r.is c.resume-back.ensures.taken in
+    let step = retried_end m n t u e x f b tt c.retry.ensures.holds view c.requires.ready c.requires.fails c.resume-back.ensures.kept end
+    c.retry.ensures.whole c.retry.ensures.gone taken
+    (λ q fails. sym (ap (back_result q x) r.is) ∙ c.resume-back.ensures.step q fails) in
+    IfOk-weaker end (IsStepAfter m t e n u f) (λ o. IsReady n u f) (λ o h. h.1) step
+
+pub returns-in-Retry-clause-stepped : goal.returns-in-Retry-clause-stepped
+returns-in-Retry-clause-stepped g c =
+    let e = c.args.self.now in
+    let a = c.retry.new.atoms in
+    let m = g.W.A.Atoms.held c.args.atoms.now in
+    let n = g.W.A.Atoms.held a in
+    let t = g.W.World.told c.args.world.now in
+    let u = g.W.World.told c.retry.new.world in
+    let view = view_is n u (g.met.W.A.Atoms.fixed_held a) (g.met.W.A.Atoms.unlike a) (g.met.W.A.Atoms.finite a) in
+    let x = c.resume-back.new.self in
+    let f = c.retry.new.self in
+    let r = c.in-Retry in
+    let b = Retry r.goal r.generation r.place r.next in
+    let end = as_stopped c.retry.result in
+    let taken = subst (IsTaken e.search x) r.is c.resume-back.ensures.taken in
+    let step = retried_end m n t u e x f b tt c.retry.ensures.holds view c.requires.ready c.requires.fails c.resume-back.ensures.kept end
+    c.retry.ensures.whole c.retry.ensures.gone taken
+    (λ q fails. sym (ap (back_result q x) r.is) ∙ c.resume-back.ensures.step q fails) in
+    IfOk-weaker end (IsStepAfter m t e n u f) (λ o. IsStepped m t e o n u f []) (λ o h. h.0) step
+
+pub returns-in-Retry-clause-asked : goal.returns-in-Retry-clause-asked
+returns-in-Retry-clause-asked g c =
+    let e = c.args.self.now in
+    let a = c.args.atoms.now in
+    let x = c.resume-back.new.self in
+    let r = c.in-Retry in
+    retry_asks_for (g.W.A.Atoms.held a) (g.W.World.told c.args.world.now) e x r.goal r.generation r.place r.next c.requires.fails
+    (subst (IsTaken e.search x) r.is c.resume-back.ensures.taken) (g.W.A.Atoms.asked a) (g.W.A.Atoms.asked c.retry.new.atoms) c.retry.ensures.asked
+
+pub returns-in-Answers-clause-given : goal.returns-in-Answers-clause-given
+returns-in-Answers-clause-given g c =
+    let e = c.args.self.now in
+    let a = c.retry_line.new.atoms in
+    let m = g.W.A.Atoms.held c.args.atoms.now in
+    let n = g.W.A.Atoms.held a in
+    let t = g.W.World.told c.args.world.now in
+    let u = t in
+    let view = view_is n u (g.met.W.A.Atoms.fixed_held a) (g.met.W.A.Atoms.unlike a) (g.met.W.A.Atoms.finite a) in
+    let x = c.resume-back.new.self in
+    let f = c.retry_line.new.self in
+    let r = c.in-Answers in
+    let b = Answers r.goal r.line r.next in
+    let end = as_stopped c.retry_line.result in
+    let taken = subst (IsTaken e.search x) r.is c.resume-back.ensures.taken in
+    let y : Engine = record e { search = x } in
+    let step = retried_end m n t u e x f b tt c.retry_line.ensures.holds view c.requires.ready c.requires.fails c.resume-back.ensures.kept end
+    c.retry_line.ensures.whole (IfOk-weaker end (λ o. (k : Told) → IsGoneOn k y b n k f o) (IsGoneOn t y b n t f) (λ o h. h t) c.retry_line.ensures.gone) taken
+    (λ q fails. sym (ap (back_result q x) r.is) ∙ c.resume-back.ensures.step q fails) in
+    IfOk-weaker end (IsStepAfter m t e n u f) (λ o. f.solutions_found ≡ e.solutions_found) (λ o h. h.3) step
+
+pub returns-in-Answers-clause-spent : goal.returns-in-Answers-clause-spent
+returns-in-Answers-clause-spent g c =
+    let e = c.args.self.now in
+    let a = c.retry_line.new.atoms in
+    let m = g.W.A.Atoms.held c.args.atoms.now in
+    let n = g.W.A.Atoms.held a in
+    let t = g.W.World.told c.args.world.now in
+    let u = t in
+    let view = view_is n u (g.met.W.A.Atoms.fixed_held a) (g.met.W.A.Atoms.unlike a) (g.met.W.A.Atoms.finite a) in
+    let x = c.resume-back.new.self in
+    let f = c.retry_line.new.self in
+    let r = c.in-Answers in
+    let b = Answers r.goal r.line r.next in
+    let end = as_stopped c.retry_line.result in
+    let taken = subst (IsTaken e.search x) r.is c.resume-back.ensures.taken in
+    let y : Engine = record e { search = x } in
+    let step = retried_end m n t u e x f b tt c.retry_line.ensures.holds view c.requires.ready c.requires.fails c.resume-back.ensures.kept end
+    c.retry_line.ensures.whole (IfOk-weaker end (λ o. (k : Told) → IsGoneOn k y b n k f o) (IsGoneOn t y b n t f) (λ o h. h t) c.retry_line.ensures.gone) taken
+    (λ q fails. sym (ap (back_result q x) r.is) ∙ c.resume-back.ensures.step q fails) in
+    IfOk-weaker end (IsStepAfter m t e n u f) (λ o. IsSpent e.search.inferences f.search.inferences) (λ o h. h.2) step
+
+pub returns-in-Answers-clause-ready : goal.returns-in-Answers-clause-ready
+returns-in-Answers-clause-ready g c =
+    let e = c.args.self.now in
+    let a = c.retry_line.new.atoms in
+    let m = g.W.A.Atoms.held c.args.atoms.now in
+    let n = g.W.A.Atoms.held a in
+    let t = g.W.World.told c.args.world.now in
+    let u = t in
+    let view = view_is n u (g.met.W.A.Atoms.fixed_held a) (g.met.W.A.Atoms.unlike a) (g.met.W.A.Atoms.finite a) in
+    let x = c.resume-back.new.self in
+    let f = c.retry_line.new.self in
+    let r = c.in-Answers in
+    let b = Answers r.goal r.line r.next in
+    let end = as_stopped c.retry_line.result in
+    let taken = subst (IsTaken e.search x) r.is c.resume-back.ensures.taken in
+    let y : Engine = record e { search = x } in
+    let step = retried_end m n t u e x f b tt c.retry_line.ensures.holds view c.requires.ready c.requires.fails c.resume-back.ensures.kept end
+    c.retry_line.ensures.whole (IfOk-weaker end (λ o. (k : Told) → IsGoneOn k y b n k f o) (IsGoneOn t y b n t f) (λ o h. h t) c.retry_line.ensures.gone) taken
+    (λ q fails. sym (ap (back_result q x) r.is) ∙ c.resume-back.ensures.step q fails) in
+    IfOk-weaker end (IsStepAfter m t e n u f) (λ o. IsReady n u f) (λ o h. h.1) step
+
+pub returns-in-Answers-clause-stepped : goal.returns-in-Answers-clause-stepped
+returns-in-Answers-clause-stepped g c =
+    let e = c.args.self.now in
+    let a = c.retry_line.new.atoms in
+    let m = g.W.A.Atoms.held c.args.atoms.now in
+    let n = g.W.A.Atoms.held a in
+    let t = g.W.World.told c.args.world.now in
+    let u = t in
+    let view = view_is n u (g.met.W.A.Atoms.fixed_held a) (g.met.W.A.Atoms.unlike a) (g.met.W.A.Atoms.finite a) in
+    let x = c.resume-back.new.self in
+    let f = c.retry_line.new.self in
+    let r = c.in-Answers in
+    let b = Answers r.goal r.line r.next in
+    let end = as_stopped c.retry_line.result in
+    let taken = subst (IsTaken e.search x) r.is c.resume-back.ensures.taken in
+    let y : Engine = record e { search = x } in
+    let step = retried_end m n t u e x f b tt c.retry_line.ensures.holds view c.requires.ready c.requires.fails c.resume-back.ensures.kept end
+    c.retry_line.ensures.whole (IfOk-weaker end (λ o. (k : Told) → IsGoneOn k y b n k f o) (IsGoneOn t y b n t f) (λ o h. h t) c.retry_line.ensures.gone) taken
+    (λ q fails. sym (ap (back_result q x) r.is) ∙ c.resume-back.ensures.step q fails) in
+    IfOk-weaker end (IsStepAfter m t e n u f) (λ o. IsStepped m t e o n u f []) (λ o h. h.0) step
+
+pub returns-in-Answers-clause-asked : goal.returns-in-Answers-clause-asked
+returns-in-Answers-clause-asked g c =
+    let e = c.args.self.now in
+    let a = c.args.atoms.now in
+    let x = c.resume-back.new.self in
+    let r = c.in-Answers in
+    line_asks_for (g.W.A.Atoms.held a) (g.W.World.told c.args.world.now) e x r.goal r.line r.next c.requires.fails
+    (subst (IsTaken e.search x) r.is c.resume-back.ensures.taken) (g.W.A.Atoms.asked a) (g.W.A.Atoms.asked c.retry_line.new.atoms) c.retry_line.ensures.asked

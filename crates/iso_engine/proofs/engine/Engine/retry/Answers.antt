@@ -1,51 +1,43 @@
-use Rattle.std.proofs.Common.{refl, subst}
-use Rattle.iso_engine.specs.Retried.{IsRetried}
+use Rattle.std.proofs.Common.{refl}
+use Rattle.iso_search.specs.declared.failure.Back.TheVariants.{Retry}
+use Rattle.iso_search.specs.Searching.{IsWhole}
+use Rattle.iso_engine.specs.Retried.{IsPutBack}
 use Rattle.iso_engine.specs.declared.engine.Engine.{Engine}
+use Rattle.iso_engine.specs.Retrying.{IsGoneOn}
+use Rattle.iso_search.specs.declared.outcome.Outcome.{Outcome}
+use Rattle.iso_engine.proofs.Refusals.{at_exit, refused_end, refused_list, refused_on}
 use Rattle.iso_engine.proofs.Retries.{put_back, tried}
 use Rattle.iso_engine.proofs.engine.Engine.retry.Goals as goal
 
-pub returns-in_ok-self-in-Ran-clause-gone : goal.returns-in_ok-self-in-Ran-clause-gone
-returns-in_ok-self-in-Ran-clause-gone g c =
+pub returns-clause-gone : goal.returns-clause-gone
+returns-clause-gone g c =
     let e = c.args.self.now in
-    let f : Engine = record e { search = c.retry_clauses.new.search; doing = c.in_ok-self-in-Ran.field-0 } in
+    let f : Engine = record e { search = c.retry_clauses.new.search; doing = c.in_ok-self.field-0 } in
     tried (g.W.A.Atoms.held c.args.atoms.now) (g.W.A.Atoms.held c.retry_clauses.new.atoms) (g.W.World.told c.args.world.now) (g.W.World.told c.retry_clauses.new.world)
-    e f c.args.goal c.args.generation c.args.place c.args.next c.in-Ran.outcome c.in-Some.procedure c.retry_clauses.ensures.holds c.requires.callable c.requires.held c.requires.open
-    c.requires.next c.in-Some.ensures.0
-    (subst (IsRetried (g.W.World.told c.args.world.now) e.search c.args.goal c.args.generation c.args.place c.args.next (g.W.A.Atoms.held c.retry_clauses.new.atoms) (g.W.World.told c.retry_clauses.new.world) f.search)
-    c.in-Ran.is c.in_ok-retried.ensures.retried) c.in_ok-self-in-Ran.ensures refl
+    e f c.args.goal c.args.generation c.args.place c.args.next c.in_ok-outcome.outcome c.in-Some.procedure c.retry_clauses.ensures.holds c.requires.callable c.requires.held c.requires.open
+    c.requires.next c.in-Some.ensures.0 c.in_ok-outcome.ensures.retried c.in_ok-self.ensures refl
 
-pub returns-in-NeedsAtoms-clause-gone : goal.returns-in-NeedsAtoms-clause-gone
-returns-in-NeedsAtoms-clause-gone g c =
+pub returns-in_err-outcome-clause-gone : goal.returns-in_err-outcome-clause-gone
+returns-in_err-outcome-clause-gone g c =
     let t = g.W.World.told c.args.world.now in
     let u = g.W.World.told c.retry_clauses.new.world in
     let e = c.args.self.now in
-    let f = c.retry_clauses.new.search in (
-      tt,
-      put_back t u e f c.args.goal c.args.generation c.args.place c.args.next
-          (subst (IsRetried t e.search c.args.goal c.args.generation c.args.place c.args.next (g.W.A.Atoms.held c.retry_clauses.new.atoms) u f)
-          c.in-NeedsAtoms.is c.in_ok-retried.ensures.retried),
-    )
+    let x = c.retry_clauses.new.search in
+    let f : Engine = record e { search = x } in
+    let w = c.in_err-outcome.field-0.0 in
+    refused_end Outcome c.from_residual.result w (at_exit c.from_residual.result w c.from_residual.ensures.1)
+    (IsPutBack t e.search c.args.goal c.args.generation c.args.place c.args.next u x)
+    (IsGoneOn t e (Retry c.args.goal c.args.generation c.args.place c.args.next) (g.W.A.Atoms.held c.retry_clauses.new.atoms) u f)
+    c.in_err-outcome.ensures.put_back
+    (λ s again put. (again, put_back t u e x c.args.goal c.args.generation c.args.place c.args.next put))
 
-pub returns-in-Retry-clause-gone : goal.returns-in-Retry-clause-gone
-returns-in-Retry-clause-gone g c =
-    let t = g.W.World.told c.args.world.now in
-    let u = g.W.World.told c.retry_clauses.new.world in
-    let e = c.args.self.now in
-    let f = c.retry_clauses.new.search in (
-      tt,
-      put_back t u e f c.args.goal c.args.generation c.args.place c.args.next
-          (subst (IsRetried t e.search c.args.goal c.args.generation c.args.place c.args.next (g.W.A.Atoms.held c.retry_clauses.new.atoms) u f)
-          c.in-Retry.is c.in_ok-retried.ensures.retried),
-    )
+pub returns-in_err-outcome-clause-whole : goal.returns-in_err-outcome-clause-whole
+returns-in_err-outcome-clause-whole g c =
+    let w = c.in_err-outcome.field-0.0 in
+    refused_on Outcome c.from_residual.result w (at_exit c.from_residual.result w c.from_residual.ensures.1) (IsWhole c.retry_clauses.new.search) c.in_err-outcome.ensures.whole
 
-pub returns-in-Worn-clause-gone : goal.returns-in-Worn-clause-gone
-returns-in-Worn-clause-gone g c =
-    let t = g.W.World.told c.args.world.now in
-    let u = g.W.World.told c.retry_clauses.new.world in
-    let e = c.args.self.now in
-    let f = c.retry_clauses.new.search in (
-      tt,
-      put_back t u e f c.args.goal c.args.generation c.args.place c.args.next
-          (subst (IsRetried t e.search c.args.goal c.args.generation c.args.place c.args.next (g.W.A.Atoms.held c.retry_clauses.new.atoms) u f)
-          c.in-Worn.is c.in_ok-retried.ensures.retried),
-    )
+pub returns-in_err-outcome-clause-refusals : goal.returns-in_err-outcome-clause-refusals
+returns-in_err-outcome-clause-refusals g c =
+    let w = c.in_err-outcome.field-0.0 in
+    refused_list Outcome c.from_residual.result w (at_exit c.from_residual.result w c.from_residual.ensures.1) (g.W.A.Atoms.refusals c.args.atoms.now)
+    (g.W.A.Atoms.refusals c.retry_clauses.new.atoms) c.in_err-outcome.ensures.refusals

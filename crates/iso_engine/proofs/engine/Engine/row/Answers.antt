@@ -1,11 +1,17 @@
-use Rattle.std.proofs.Common.{[], refl, sym, ap, subst, ◌∙◌}
+use Rattle.std.proofs.Common.{◌≡◌, [], inl, refl, sym, ap, subst, ◌∙◌}
 use Rattle.world_api.specs.declared.visit.Procedure.{Procedure}
+use Rattle.world_api.specs.Told.{Told}
 use Rattle.world_api.proofs.Gaining.{gains_weaker}
 use Rattle.iso_search.specs.declared.search.Search.{Search}
 use Rattle.iso_engine.specs.declared.engine.Engine.{Engine}
 use Rattle.iso_engine.specs.Views.{view_of}
+use Rattle.iso_engine.specs.Ready.{IsReady}
 use Rattle.iso_engine.specs.Rows.{IsTried}
-use Rattle.iso_engine.proofs.RowTaken.{IsFollowedAs, given_text, led_moved, row_held, stopped_ready, stopped_stepped}
+use Rattle.iso_engine.specs.Slices.{IsStepped}
+use Rattle.iso_engine.specs.Spending.{IsSpent}
+use Rattle.iso_engine.specs.declared.rows.Tried.{Tried}
+use Rattle.iso_engine.proofs.Refusals.{at_exit, refused_end, refused_list}
+use Rattle.iso_engine.proofs.RowTaken.{IsFollowedAs, given_text, led_moved, missing_stepped, refused_stepped, row_held, stopped_ready}
 use Rattle.iso_engine.proofs.Solutions.{view_is}
 use Rattle.iso_engine.proofs.engine.Engine.row.Goals as goal
 
@@ -50,8 +56,8 @@ returns-in_ok-self-in-Led-clause-asked g c =
     (view_is m t (g.met.A.Atoms.fixed_held a) (g.met.A.Atoms.unlike a) (g.met.A.Atoms.finite a)) x h)
     c.run_row.ensures.asked
 
-pub returns-in-Stopped-clause-asked : goal.returns-in-Stopped-clause-asked
-returns-in-Stopped-clause-asked g c =
+pub returns-in-Missing-clause-asked : goal.returns-in-Missing-clause-asked
+returns-in-Missing-clause-asked g c =
     let e = c.args.self.now in
     let a = c.args.atoms.now in
     let m = g.A.Atoms.held a in
@@ -111,8 +117,8 @@ returns-in_ok-self-in-Led-clause-spent g c =
     (subst (λ (p : Procedure). IsFollowedAs f c.args.rest p c.in-Led.outcome) c.procedure.ensures c.in_ok-self-in-Led.ensures) in
     moved.2
 
-pub returns-in-Stopped-clause-ready : goal.returns-in-Stopped-clause-ready
-returns-in-Stopped-clause-ready g c t ready =
+pub returns-in-Missing-clause-ready : goal.returns-in-Missing-clause-ready
+returns-in-Missing-clause-ready g c t ready =
     let e = c.args.self.now in
     let m = g.A.Atoms.held c.args.atoms.now in
     let there = c.run_row.new.atoms in
@@ -123,13 +129,13 @@ returns-in-Stopped-clause-ready g c t ready =
     let unlike = g.met.A.Atoms.unlike there in
     let finite = g.met.A.Atoms.finite there in
     let view = view_is n t fixed unlike finite in
-    let stopped = subst (IsTried n e.search r c.args.rest c.run_row.new.search) c.in-Stopped.is c.in_ok-tried.ensures.tried in
+    let stopped = subst (IsTried n e.search r c.args.rest c.run_row.new.search) c.in-Missing.is c.in_ok-tried.ensures.tried in
     let f : Engine = record e { search = c.run_row.new.search } in
     stopped_ready m n t e f r l.0 l.1 c.args.rest l.2 l.3 c.requires.rest c.requires.row c.run_row.ensures.holds view ready fixed unlike finite
     (ap (λ (s : Search). let y : Engine = record e { search = s } in y) stopped.0)
 
-pub returns-in-Stopped-clause-stepped : goal.returns-in-Stopped-clause-stepped
-returns-in-Stopped-clause-stepped g c t ready =
+pub returns-in-Missing-clause-stepped : goal.returns-in-Missing-clause-stepped
+returns-in-Missing-clause-stepped g c t ready =
     let e = c.args.self.now in
     let m = g.A.Atoms.held c.args.atoms.now in
     let there = c.run_row.new.atoms in
@@ -140,7 +146,55 @@ returns-in-Stopped-clause-stepped g c t ready =
     let unlike = g.met.A.Atoms.unlike there in
     let finite = g.met.A.Atoms.finite there in
     let view = view_is n t fixed unlike finite in
-    let stopped = subst (IsTried n e.search r c.args.rest c.run_row.new.search) c.in-Stopped.is c.in_ok-tried.ensures.tried in
+    let stopped = subst (IsTried n e.search r c.args.rest c.run_row.new.search) c.in-Missing.is c.in_ok-tried.ensures.tried in
     let f : Engine = record e { search = c.run_row.new.search } in
-    stopped_stepped m n t e f r l.0 l.1 c.args.rest l.2 l.3 c.requires.rest c.requires.row c.run_row.ensures.holds view ready fixed unlike finite
-    (ap (λ (s : Search). let y : Engine = record e { search = s } in y) stopped.0) c.in-Stopped.slice stopped.1
+    missing_stepped m n t e f r l.0 l.1 c.args.rest l.2 l.3 c.requires.rest c.requires.row c.run_row.ensures.holds view ready fixed unlike finite
+    (ap (λ (s : Search). let y : Engine = record e { search = s } in y) stopped.0) c.in-Missing.procedure stopped.1
+
+pub returns-in_err-tried-clause-ready : goal.returns-in_err-tried-clause-ready
+returns-in_err-tried-clause-ready g c =
+    let e = c.args.self.now in
+    let m = g.A.Atoms.held c.args.atoms.now in
+    let there = c.run_row.new.atoms in
+    let n = g.A.Atoms.held there in
+    let r = c.args.goal.now in
+    let l = c.requires.list in
+    let x = c.run_row.new.search in
+    let f : Engine = record e { search = x } in
+    let w = c.in_err-tried.field-0.0 in
+    let exit = at_exit c.from_residual.result w c.from_residual.ensures.1 in
+    refused_end Tried c.from_residual.result w exit (x ≡ e.search) (λ o. (t : Told) → IsReady m t e → IsReady n t f) c.in_err-tried.ensures.taken_back
+    (λ s again back t ready. stopped_ready m n t e f r l.0 l.1 c.args.rest l.2 l.3 c.requires.rest c.requires.row c.run_row.ensures.holds
+    (view_is n t (g.met.A.Atoms.fixed_held there) (g.met.A.Atoms.unlike there) (g.met.A.Atoms.finite there)) ready (g.met.A.Atoms.fixed_held there)
+    (g.met.A.Atoms.unlike there) (g.met.A.Atoms.finite there) (ap (λ (y : Search). let z : Engine = record e { search = y } in z) back))
+
+pub returns-in_err-tried-clause-stepped : goal.returns-in_err-tried-clause-stepped
+returns-in_err-tried-clause-stepped g c =
+    let e = c.args.self.now in
+    let m = g.A.Atoms.held c.args.atoms.now in
+    let there = c.run_row.new.atoms in
+    let n = g.A.Atoms.held there in
+    let r = c.args.goal.now in
+    let l = c.requires.list in
+    let x = c.run_row.new.search in
+    let f : Engine = record e { search = x } in
+    let w = c.in_err-tried.field-0.0 in
+    let exit = at_exit c.from_residual.result w c.from_residual.ensures.1 in
+    refused_end Tried c.from_residual.result w exit (x ≡ e.search) (λ o. (t : Told) → IsReady m t e → IsStepped m t e o n t f []) c.in_err-tried.ensures.taken_back
+    (λ s again back t ready. refused_stepped m n t e f r l.0 l.1 c.args.rest l.2 l.3 c.requires.rest c.requires.row c.run_row.ensures.holds
+    (view_is n t (g.met.A.Atoms.fixed_held there) (g.met.A.Atoms.unlike there) (g.met.A.Atoms.finite there)) ready (g.met.A.Atoms.fixed_held there)
+    (g.met.A.Atoms.unlike there) (g.met.A.Atoms.finite there) (ap (λ (y : Search). let z : Engine = record e { search = y } in z) back) s again)
+
+pub returns-in_err-tried-clause-spent : goal.returns-in_err-tried-clause-spent
+returns-in_err-tried-clause-spent g c =
+    let e = c.args.self.now in
+    let x = c.run_row.new.search in
+    let w = c.in_err-tried.field-0.0 in
+    refused_end Tried c.from_residual.result w (at_exit c.from_residual.result w c.from_residual.ensures.1) (x ≡ e.search) (λ o. IsSpent e.search.inferences x.inferences)
+    c.in_err-tried.ensures.taken_back (λ s again back. inl (ap (λ (y : Search). y.inferences) back))
+
+pub returns-in_err-tried-clause-refusals : goal.returns-in_err-tried-clause-refusals
+returns-in_err-tried-clause-refusals g c =
+    let w = c.in_err-tried.field-0.0 in
+    refused_list Tried c.from_residual.result w (at_exit c.from_residual.result w c.from_residual.ensures.1) (g.A.Atoms.refusals c.args.atoms.now)
+    (g.A.Atoms.refusals c.run_row.new.atoms) c.in_err-tried.ensures.refusals

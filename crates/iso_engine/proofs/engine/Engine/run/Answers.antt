@@ -1,11 +1,17 @@
-use Rattle.std.proofs.Common.{◌≡◌, ◌∷◌, [], refl, sym, subst}
+use Rattle.std.proofs.Common.{◌≡◌, ◌∷◌, [], ◌++◌, List, refl, sym, subst}
+use Rattle.std.specs.Prelude.{encode_utf8_all}
+use Rattle.std.proofs.lemmas.Result.{IfOk-weaker}
+use Rattle.pl_model.specs.Resolution.{Output}
+use Rattle.world_api.specs.Told.{Told}
 use Rattle.iso_search.specs.Frames.{tasks}
 use Rattle.iso_search.specs.declared.search.Search.{Search}
 use Rattle.iso_engine.specs.declared.engine.Engine.{Engine}
 use Rattle.iso_engine.specs.Ready.{IsReady}
-use Rattle.iso_engine.specs.Slices.{IsStepped}
+use Rattle.iso_engine.specs.Slices.{IsStepped, written_text}
 use Rattle.iso_engine.specs.Tasks.{IsDone}
+use Rattle.iso_engine.specs.Unserved.{as_stopped}
 use Rattle.iso_engine.proofs.Interning.{asked_same, row_asks_for}
+use Rattle.iso_engine.proofs.Refusals.{none_ok}
 use Rattle.iso_engine.proofs.Solutions.{view_is}
 use Rattle.iso_engine.proofs.Stability.{advance_step, spent_by, step_ready}
 use Rattle.iso_engine.proofs.Stepping.{silent_out}
@@ -90,23 +96,6 @@ call-requires-clause-ready g c =
     subst (λ (s : Search). let y : Engine = record e { search = s } in IsReady (g.W.A.Atoms.held c.args.atoms.now) (g.W.World.told c.args.world.now) y) (sym called.0)
     c.requires.ready
 
-pub returns-in_ok-stopped-in-Call-clause-stepped : goal.returns-in_ok-stopped-in-Call-clause-stepped
-returns-in_ok-stopped-in-Call-clause-stepped g c =
-    let e = c.args.self.now in
-    let x = c.in-Some.frame in
-    let f = c.do_task.new.search in
-    let did = c.in_ok-did-in-Some in
-    let called = subst (IsDone e.search x.task x.continuation f) c.in-Call.is did.ensures.done in
-    let m = g.W.A.Atoms.held c.args.atoms.now in
-    let n = g.W.A.Atoms.held c.call.new.atoms in
-    let t = g.W.World.told c.args.world.now in
-    let u = g.W.World.told c.call.new.world in
-    let s = c.in_ok-stopped-in-Call in (
-      [],
-      subst (λ (y : Search). let z : Engine = record e { search = y } in IsStepped m t z s.stopped n u c.call.new.self []) called.0 s.ensures.stepped,
-      silent_out c.args.out.now.items [] refl,
-    )
-
 pub write-requires-clause-ready : goal.write-requires-clause-ready
 write-requires-clause-ready g c =
     let e = c.args.self.now in
@@ -116,42 +105,6 @@ write-requires-clause-ready g c =
     let writes = subst (IsDone e.search x.task x.continuation f) c.in-Write.is did.ensures.done in
     subst (λ (s : Search). let y : Engine = record e { search = s } in IsReady (g.W.A.Atoms.held c.args.atoms.now) (g.W.World.told c.args.world.now) y) (sym writes.0)
     c.requires.ready
-
-pub returns-in_ok-stopped-in-Write-clause-stepped : goal.returns-in_ok-stopped-in-Write-clause-stepped
-returns-in_ok-stopped-in-Write-clause-stepped g c =
-    let e = c.args.self.now in
-    let x = c.in-Some.frame in
-    let f = c.do_task.new.search in
-    let did = c.in_ok-did-in-Some in
-    let writes = subst (IsDone e.search x.task x.continuation f) c.in-Write.is did.ensures.done in
-    let m = g.W.A.Atoms.held c.args.atoms.now in
-    let n = g.W.A.Atoms.held c.write.new.atoms in
-    let t = g.W.World.told c.args.world.now in
-    let u = g.W.World.told c.write.new.world in
-    let s = c.in_ok-stopped-in-Write in
-    let r = s.ensures.stepped in (
-      r.0,
-      subst (λ (y : Search). let z : Engine = record e { search = y } in IsStepped m t z s.stopped n u c.write.new.self r.0) writes.0 r.1,
-      r.2,
-    )
-
-pub returns-in_err-stopped-in-Call-clause-asked : goal.returns-in_err-stopped-in-Call-clause-asked
-returns-in_err-stopped-in-Call-clause-asked g c =
-    let e = c.args.self.now in
-    let x = c.in-Some.frame in
-    let f = c.do_task.new.search in
-    let a = c.args.atoms.now in
-    let called = subst (IsDone e.search x.task x.continuation f) c.in-Call.is c.in_ok-did-in-Some.ensures.done in
-    asked_same (g.W.A.Atoms.held a) (g.W.World.told c.args.world.now) e f (g.W.A.Atoms.asked a) (g.W.A.Atoms.asked c.call.new.atoms) called.0 c.call.ensures.asked
-
-pub returns-in_ok-stopped-in-Call-clause-asked : goal.returns-in_ok-stopped-in-Call-clause-asked
-returns-in_ok-stopped-in-Call-clause-asked g c =
-    let e = c.args.self.now in
-    let x = c.in-Some.frame in
-    let f = c.do_task.new.search in
-    let a = c.args.atoms.now in
-    let called = subst (IsDone e.search x.task x.continuation f) c.in-Call.is c.in_ok-did-in-Some.ensures.done in
-    asked_same (g.W.A.Atoms.held a) (g.W.World.told c.args.world.now) e f (g.W.A.Atoms.asked a) (g.W.A.Atoms.asked c.call.new.atoms) called.0 c.call.ensures.asked
 
 pub row-requires-clause-ready : goal.row-requires-clause-ready
 row-requires-clause-ready g c =
@@ -164,53 +117,117 @@ row-requires-clause-ready g c =
     let ready = subst (λ (s : Search). let y : Engine = record e { search = s } in IsReady m t y) (sym done.0) c.requires.ready in
     (t, ready)
 
-pub returns-in_err-stopped-in-Row-clause-asked : goal.returns-in_err-stopped-in-Row-clause-asked
-returns-in_err-stopped-in-Row-clause-asked g c =
-    let e = c.args.self.now in
-    let x = c.in-Some.frame in
-    let f = c.do_task.new.search in
-    let a = c.args.atoms.now in
-    let m = g.W.A.Atoms.held a in
-    let t = g.W.World.told c.args.world.now in
-    let done = subst (IsDone e.search x.task x.continuation f) c.in-Row.is c.in_ok-did-in-Some.ensures.done in
-    asked_same m t e f (g.W.A.Atoms.asked a) (g.W.A.Atoms.asked c.row.new.atoms) done.0
-    (row_asks_for m t (record e { search = f }) (g.W.A.Atoms.asked a) (g.W.A.Atoms.asked c.row.new.atoms) c.row.ensures.asked)
-
-pub returns-in_ok-stopped-in-Row-clause-asked : goal.returns-in_ok-stopped-in-Row-clause-asked
-returns-in_ok-stopped-in-Row-clause-asked g c =
-    let e = c.args.self.now in
-    let x = c.in-Some.frame in
-    let f = c.do_task.new.search in
-    let a = c.args.atoms.now in
-    let m = g.W.A.Atoms.held a in
-    let t = g.W.World.told c.args.world.now in
-    let done = subst (IsDone e.search x.task x.continuation f) c.in-Row.is c.in_ok-did-in-Some.ensures.done in
-    asked_same m t e f (g.W.A.Atoms.asked a) (g.W.A.Atoms.asked c.row.new.atoms) done.0
-    (row_asks_for m t (record e { search = f }) (g.W.A.Atoms.asked a) (g.W.A.Atoms.asked c.row.new.atoms) c.row.ensures.asked)
-
-pub returns-in_ok-stopped-in-Row-clause-ready : goal.returns-in_ok-stopped-in-Row-clause-ready
-returns-in_ok-stopped-in-Row-clause-ready g c =
-    let e = c.args.self.now in
-    let x = c.in-Some.frame in
-    let f = c.do_task.new.search in
-    let done = subst (IsDone e.search x.task x.continuation f) c.in-Row.is c.in_ok-did-in-Some.ensures.done in
+pub returns-in-None-clause-stepped : goal.returns-in-None-clause-stepped
+returns-in-None-clause-stepped g c =
     let m = g.W.A.Atoms.held c.args.atoms.now in
+    let n = g.W.A.Atoms.held c.solve.new.atoms in
     let t = g.W.World.told c.args.world.now in
-    let ready = subst (λ (s : Search). let y : Engine = record e { search = s } in IsReady m t y) (sym done.0) c.requires.ready in
-    c.in_ok-stopped-in-Row.ensures.ready t ready
+    let u = g.W.World.told c.solve.new.world in
+    let e = c.args.self.now in
+    let f = c.solve.new.self in
+    let a = c.args.out.now.items in
+    IfOk-weaker (as_stopped c.solve.result) (λ o. (more : List Output) × IsStepped m t e o n u f more × (written_text more ≡ []))
+    (λ o. (more : List Output) × IsStepped m t e o n u f more × (a ≡ a ++ encode_utf8_all (written_text more)))
+    (λ o h. (h.0, h.1, silent_out a h.0 h.2)) c.solve.ensures.stepped
 
-pub returns-in_ok-stopped-in-Row-clause-stepped : goal.returns-in_ok-stopped-in-Row-clause-stepped
-returns-in_ok-stopped-in-Row-clause-stepped g c =
+pub returns-in-Call-clause-stepped : goal.returns-in-Call-clause-stepped
+returns-in-Call-clause-stepped g c =
     let e = c.args.self.now in
     let x = c.in-Some.frame in
     let f = c.do_task.new.search in
-    let done = subst (IsDone e.search x.task x.continuation f) c.in-Row.is c.in_ok-did-in-Some.ensures.done in
+    let y : Engine = record e { search = f } in
+    let done = subst (IsDone e.search x.task x.next f) c.in-Call.is c.in_ok-did-in-Some.ensures.done in
     let m = g.W.A.Atoms.held c.args.atoms.now in
+    let n = g.W.A.Atoms.held c.call.new.atoms in
     let t = g.W.World.told c.args.world.now in
-    let ready = subst (λ (s : Search). let y : Engine = record e { search = s } in IsReady m t y) (sym done.0) c.requires.ready in
+    let u = g.W.World.told c.call.new.world in
+    let after = c.call.new.self in
+    let end = as_stopped c.call.result in
+    let a = c.args.out.now.items in
+    IfOk-weaker end (λ o. IsStepped m t y o n u after [])
+    (λ o. (more : List Output) × IsStepped m t e o n u after more × (a ≡ a ++ encode_utf8_all (written_text more)))
+    (λ o h. ([], subst (λ (s : Search). let z : Engine = record e { search = s } in IsStepped m t z o n u after []) done.0 h, silent_out a [] refl)) c.call.ensures.stepped
+
+pub returns-in-Write-clause-stepped : goal.returns-in-Write-clause-stepped
+returns-in-Write-clause-stepped g c =
+    let e = c.args.self.now in
+    let x = c.in-Some.frame in
+    let f = c.do_task.new.search in
+    let y : Engine = record e { search = f } in
+    let done = subst (IsDone e.search x.task x.next f) c.in-Write.is c.in_ok-did-in-Some.ensures.done in
+    let m = g.W.A.Atoms.held c.args.atoms.now in
+    let n = g.W.A.Atoms.held c.write.new.atoms in
+    let t = g.W.World.told c.args.world.now in
+    let u = g.W.World.told c.write.new.world in
+    let after = c.write.new.self in
+    let end = as_stopped c.write.result in
+    let a = c.args.out.now.items in
+    let b = c.write.new.out.items in
+    IfOk-weaker end (λ o. (more : List Output) × IsStepped m t y o n u after more × (b ≡ a ++ encode_utf8_all (written_text more)))
+    (λ o. (more : List Output) × IsStepped m t e o n u after more × (b ≡ a ++ encode_utf8_all (written_text more)))
+    (λ o h. (h.0, subst (λ (s : Search). let z : Engine = record e { search = s } in IsStepped m t z o n u after h.0) done.0 h.1, h.2)) c.write.ensures.stepped
+
+pub returns-in-Row-clause-ready : goal.returns-in-Row-clause-ready
+returns-in-Row-clause-ready g c =
+    let e = c.args.self.now in
+    let x = c.in-Some.frame in
+    let f = c.do_task.new.search in
+    let y : Engine = record e { search = f } in
+    let done = subst (IsDone e.search x.task x.next f) c.in-Row.is c.in_ok-did-in-Some.ensures.done in
+    let m = g.W.A.Atoms.held c.args.atoms.now in
     let n = g.W.A.Atoms.held c.row.new.atoms in
-    let s = c.in_ok-stopped-in-Row in (
-      [],
-      subst (λ (y : Search). let z : Engine = record e { search = y } in IsStepped m t z s.stopped n t c.row.new.self []) done.0 (s.ensures.stepped t ready),
-      silent_out c.args.out.now.items [] refl,
-    )
+    let t = g.W.World.told c.args.world.now in
+    let u = g.W.World.told c.args.world.now in
+    let after = c.row.new.self in
+    let end = as_stopped c.row.result in
+    let ready = subst (λ (s : Search). let z : Engine = record e { search = s } in IsReady m t z) (sym done.0) c.requires.ready in
+    IfOk-weaker end (λ o. (k : Told) → IsReady m k y → IsReady n k after) (λ o. IsReady n t after) (λ o h. h t ready) c.row.ensures.ready
+
+pub returns-in-Row-clause-stepped : goal.returns-in-Row-clause-stepped
+returns-in-Row-clause-stepped g c =
+    let e = c.args.self.now in
+    let x = c.in-Some.frame in
+    let f = c.do_task.new.search in
+    let y : Engine = record e { search = f } in
+    let done = subst (IsDone e.search x.task x.next f) c.in-Row.is c.in_ok-did-in-Some.ensures.done in
+    let m = g.W.A.Atoms.held c.args.atoms.now in
+    let n = g.W.A.Atoms.held c.row.new.atoms in
+    let t = g.W.World.told c.args.world.now in
+    let u = g.W.World.told c.args.world.now in
+    let after = c.row.new.self in
+    let end = as_stopped c.row.result in
+    let ready = subst (λ (s : Search). let z : Engine = record e { search = s } in IsReady m t z) (sym done.0) c.requires.ready in
+    let a = c.args.out.now.items in
+    IfOk-weaker end (λ o. (k : Told) → IsReady m k y → IsStepped m k y o n k after [])
+    (λ o. (more : List Output) × IsStepped m t e o n u after more × (a ≡ a ++ encode_utf8_all (written_text more)))
+    (λ o h. ([], subst (λ (s : Search). let z : Engine = record e { search = s } in IsStepped m t z o n u after []) done.0 (h t ready), silent_out a [] refl)) c.row.ensures.stepped
+
+pub returns-in-Call-clause-asked : goal.returns-in-Call-clause-asked
+returns-in-Call-clause-asked g c =
+    let e = c.args.self.now in
+    let x = c.in-Some.frame in
+    let f = c.do_task.new.search in
+    let a = c.args.atoms.now in
+    let called = subst (IsDone e.search x.task x.next f) c.in-Call.is c.in_ok-did-in-Some.ensures.done in
+    asked_same (g.W.A.Atoms.held a) (g.W.World.told c.args.world.now) e f (g.W.A.Atoms.asked a) (g.W.A.Atoms.asked c.call.new.atoms) called.0 c.call.ensures.asked
+
+pub returns-in-Row-clause-asked : goal.returns-in-Row-clause-asked
+returns-in-Row-clause-asked g c =
+    let e = c.args.self.now in
+    let x = c.in-Some.frame in
+    let f = c.do_task.new.search in
+    let a = c.args.atoms.now in
+    let m = g.W.A.Atoms.held a in
+    let t = g.W.World.told c.args.world.now in
+    let done = subst (IsDone e.search x.task x.next f) c.in-Row.is c.in_ok-did-in-Some.ensures.done in
+    asked_same m t e f (g.W.A.Atoms.asked a) (g.W.A.Atoms.asked c.row.new.atoms) done.0
+    (row_asks_for m t (record e { search = f }) (g.W.A.Atoms.asked a) (g.W.A.Atoms.asked c.row.new.atoms) c.row.ensures.asked)
+
+pub returns-in-Call-clause-given : goal.returns-in-Call-clause-given
+returns-in-Call-clause-given g c = none_ok (as_stopped c.call.result) (c.call.new.self.solutions_found ≡ c.args.self.now.solutions_found) c.call.ensures.given
+
+pub returns-in-Write-clause-given : goal.returns-in-Write-clause-given
+returns-in-Write-clause-given g c = none_ok (as_stopped c.write.result) (c.write.new.self.solutions_found ≡ c.args.self.now.solutions_found) c.write.ensures.given
+
+pub returns-in-Row-clause-given : goal.returns-in-Row-clause-given
+returns-in-Row-clause-given g c = none_ok (as_stopped c.row.result) (c.row.new.self.solutions_found ≡ c.args.self.now.solutions_found) c.row.ensures.given

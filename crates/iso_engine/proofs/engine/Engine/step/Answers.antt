@@ -1,10 +1,16 @@
-use Rattle.std.proofs.Common.{[], Some, refl, sym, subst, ◌∙◌}
+use Rattle.std.proofs.Common.{◌≡◌, [], ◌++◌, List, Some, refl, sym, subst, ◌∙◌}
+use Rattle.std.specs.Prelude.{encode_utf8_all}
+use Rattle.std.proofs.lemmas.Result.{IfOk-weaker}
+use Rattle.pl_model.specs.Resolution.{Output}
 use Rattle.iso_engine.specs.declared.doing.Doing.TheVariants.{Running, Throwing, Ended}
 use Rattle.iso_engine.specs.declared.engine.Engine.{Engine}
 use Rattle.iso_engine.specs.declared.slices.Slice.TheVariants.{Ended as SliceEnded}
 use Rattle.iso_engine.specs.Ready.{Steps}
+use Rattle.iso_engine.specs.Slices.{IsStepped, written_text}
+use Rattle.iso_engine.specs.Unserved.{as_stopped}
 use Rattle.iso_engine.specs.declared.doing.Doing.{Doing}
 use Rattle.iso_engine.proofs.Interning.{asked_again}
+use Rattle.iso_engine.proofs.Refusals.{none_ok}
 use Rattle.iso_engine.proofs.Solutions.{view_is}
 use Rattle.iso_engine.proofs.Stability.{advance_none, advance_step, plain_steps, ready_again, spent_by, step_ready}
 use Rattle.iso_engine.proofs.Stepping.{silent_out, stepped_again}
@@ -15,30 +21,10 @@ run-requires-clause-ready g c =
     ready_again (g.W.A.Atoms.held c.args.atoms.now) (g.W.World.told c.args.world.now) c.args.self.now (Running c.in-Running.list)
     (sym c.replace.ensures.value ∙ c.in-Running.is) c.requires.ready
 
-pub returns-in_ok-stopped-in-Running-clause-stepped : goal.returns-in_ok-stopped-in-Running-clause-stepped
-returns-in_ok-stopped-in-Running-clause-stepped g c =
-    let s = c.in_ok-stopped-in-Running in
-    let r = s.ensures.stepped in (
-      r.0,
-      stepped_again (g.W.A.Atoms.held c.args.atoms.now) (g.W.World.told c.args.world.now) c.args.self.now (Running c.in-Running.list) s.stopped
-          (g.W.A.Atoms.held c.run.new.atoms) (g.W.World.told c.run.new.world) c.run.new.self r.0 (sym c.replace.ensures.value ∙ c.in-Running.is) r.1,
-      r.2,
-    )
-
 pub fail-requires-clause-ready : goal.fail-requires-clause-ready
 fail-requires-clause-ready g c =
     ready_again (g.W.A.Atoms.held c.args.atoms.now) (g.W.World.told c.args.world.now) c.args.self.now c.replace.new.dest
     (sym c.replace.ensures.value ∙ c.in-Failing.is ∙ sym c.replace.ensures.after) c.requires.ready
-
-pub returns-in_ok-stopped-in-Failing-clause-stepped : goal.returns-in_ok-stopped-in-Failing-clause-stepped
-returns-in_ok-stopped-in-Failing-clause-stepped g c =
-    let same = sym c.replace.ensures.value ∙ c.in-Failing.is ∙ sym c.replace.ensures.after in
-    let s = c.in_ok-stopped-in-Failing in (
-      [],
-      stepped_again (g.W.A.Atoms.held c.args.atoms.now) (g.W.World.told c.args.world.now) c.args.self.now c.replace.new.dest s.stopped
-          (g.W.A.Atoms.held c.fail.new.atoms) (g.W.World.told c.fail.new.world) c.fail.new.self [] same s.ensures.stepped,
-      silent_out c.args.out.now.items [] refl,
-    )
 
 pub returns-in_ok-self-in-Throwing-clause-spent : goal.returns-in_ok-self-in-Throwing-clause-spent
 returns-in_ok-self-in-Throwing-clause-spent g c =
@@ -123,26 +109,49 @@ returns-in-Ended-clause-stepped g c =
       silent_out c.args.out.now.items [] refl,
     )
 
-pub returns-in_err-stopped-in-Running-clause-asked : goal.returns-in_err-stopped-in-Running-clause-asked
-returns-in_err-stopped-in-Running-clause-asked g c =
+pub returns-in-Running-clause-stepped : goal.returns-in-Running-clause-stepped
+returns-in-Running-clause-stepped g c =
+    let e = c.args.self.now in
+    let d = Running c.in-Running.list in
+    let y : Engine = record e { doing = d } in
+    let m = g.W.A.Atoms.held c.args.atoms.now in
+    let n = g.W.A.Atoms.held c.run.new.atoms in
+    let t = g.W.World.told c.args.world.now in
+    let u = g.W.World.told c.run.new.world in
+    let f = c.run.new.self in
+    let a = c.args.out.now.items in
+    let b = c.run.new.out.items in
+    IfOk-weaker (as_stopped c.run.result) (λ o. (more : List Output) × IsStepped m t y o n u f more × (b ≡ a ++ encode_utf8_all (written_text more)))
+    (λ o. (more : List Output) × IsStepped m t e o n u f more × (b ≡ a ++ encode_utf8_all (written_text more)))
+    (λ o h. (h.0, stepped_again m t e d o n u f h.0 (sym c.replace.ensures.value ∙ c.in-Running.is) h.1, h.2)) c.run.ensures.stepped
+
+pub returns-in-Failing-clause-stepped : goal.returns-in-Failing-clause-stepped
+returns-in-Failing-clause-stepped g c =
+    let e = c.args.self.now in
+    let d = c.replace.new.dest in
+    let y : Engine = record e { doing = d } in
+    let same = sym c.replace.ensures.value ∙ c.in-Failing.is ∙ sym c.replace.ensures.after in
+    let m = g.W.A.Atoms.held c.args.atoms.now in
+    let n = g.W.A.Atoms.held c.fail.new.atoms in
+    let t = g.W.World.told c.args.world.now in
+    let u = g.W.World.told c.fail.new.world in
+    let f = c.fail.new.self in
+    let a = c.args.out.now.items in
+    IfOk-weaker (as_stopped c.fail.result) (λ o. IsStepped m t y o n u f [])
+    (λ o. (more : List Output) × IsStepped m t e o n u f more × (a ≡ a ++ encode_utf8_all (written_text more)))
+    (λ o h. ([], stepped_again m t e d o n u f [] same h, silent_out a [] refl)) c.fail.ensures.stepped
+
+pub returns-in-Failing-clause-given : goal.returns-in-Failing-clause-given
+returns-in-Failing-clause-given g c = none_ok (as_stopped c.fail.result) (c.fail.new.self.solutions_found ≡ c.args.self.now.solutions_found) c.fail.ensures.given
+
+pub returns-in-Running-clause-asked : goal.returns-in-Running-clause-asked
+returns-in-Running-clause-asked g c =
     let a = c.args.atoms.now in
     asked_again (g.W.A.Atoms.held a) (g.W.World.told c.args.world.now) c.args.self.now (Running c.in-Running.list) (g.W.A.Atoms.asked a)
     (g.W.A.Atoms.asked c.run.new.atoms) (sym c.replace.ensures.value ∙ c.in-Running.is) c.run.ensures.asked
 
-pub returns-in_err-stopped-in-Failing-clause-asked : goal.returns-in_err-stopped-in-Failing-clause-asked
-returns-in_err-stopped-in-Failing-clause-asked g c =
-    let a = c.args.atoms.now in
-    asked_again (g.W.A.Atoms.held a) (g.W.World.told c.args.world.now) c.args.self.now c.replace.new.dest (g.W.A.Atoms.asked a)
-    (g.W.A.Atoms.asked c.fail.new.atoms) (sym c.replace.ensures.value ∙ c.in-Failing.is ∙ sym c.replace.ensures.after) c.fail.ensures.asked
-
-pub returns-in_ok-stopped-in-Running-clause-asked : goal.returns-in_ok-stopped-in-Running-clause-asked
-returns-in_ok-stopped-in-Running-clause-asked g c =
-    let a = c.args.atoms.now in
-    asked_again (g.W.A.Atoms.held a) (g.W.World.told c.args.world.now) c.args.self.now (Running c.in-Running.list) (g.W.A.Atoms.asked a)
-    (g.W.A.Atoms.asked c.run.new.atoms) (sym c.replace.ensures.value ∙ c.in-Running.is) c.run.ensures.asked
-
-pub returns-in_ok-stopped-in-Failing-clause-asked : goal.returns-in_ok-stopped-in-Failing-clause-asked
-returns-in_ok-stopped-in-Failing-clause-asked g c =
+pub returns-in-Failing-clause-asked : goal.returns-in-Failing-clause-asked
+returns-in-Failing-clause-asked g c =
     let a = c.args.atoms.now in
     asked_again (g.W.A.Atoms.held a) (g.W.World.told c.args.world.now) c.args.self.now c.replace.new.dest (g.W.A.Atoms.asked a)
     (g.W.A.Atoms.asked c.fail.new.atoms) (sym c.replace.ensures.value ∙ c.in-Failing.is ∙ sym c.replace.ensures.after) c.fail.ensures.asked

@@ -1,8 +1,12 @@
-use Rattle.std.proofs.Common.{◌≡◌, ◌+◌, [], ◌++◌, List, Option, Some, None, refl, ap, subst, arith}
-use Rattle.std.specs.Prelude.{encode_utf8_all}
+use Rattle.std.proofs.Common.{◌≡◌, ◌+◌, [], ◌++◌, ◌∙◌, List, Option, Some, None, refl, sym, ap, subst, arith}
+use Rattle.std.specs.Prelude.{IfNone, encode_utf8_all}
+use Rattle.std.proofs.lemmas.Result.{IfOk-at_ok}
 use Rattle.pl_model.specs.Resolution.{Output}
 use Rattle.iso_engine.specs.declared.slices.Slice.{Slice}
+use Rattle.iso_engine.specs.Ready.{IsReady}
 use Rattle.iso_engine.specs.Slices.{IsStepped, steps_of, written_text}
+use Rattle.iso_engine.specs.Spending.{IsSpent}
+use Rattle.iso_engine.specs.Unserved.{stopped_refusals}
 use Rattle.iso_engine.proofs.Arms.{when_none}
 use Rattle.iso_engine.proofs.Interning.{came, come_gains, nothing_asked, step_advances, way_gains}
 use Rattle.iso_engine.proofs.Walks.{none_refused, slice_ends, some_refused, walk_begins, walk_on, went_on}
@@ -29,14 +33,15 @@ loop-preserved g c =
     let low = walk.low in
     let less = c.if-self-start.false in
     let s = c.in_ok-stopped in
-    let went = went_on n r u w c.loop.self c.step.new.self c.loop.out.items c.step.new.out.items s.stopped s.ensures.stepped c.in_default-stopped.is in (
+    let told = sym c.stop_of.ensures ∙ s.was in
+    let went = went_on n r u w c.loop.self c.step.new.self c.loop.out.items c.step.new.out.items s.stopped (IfOk-at_ok (λ o. (more : List Output) × IsStepped n u c.loop.self o r w c.step.new.self more × (c.step.new.out.items ≡ c.loop.out.items ++ encode_utf8_all (written_text more))) told c.step.ensures.stepped) c.in_default-stopped.is in (
       1 + c.loop.invariant.0,
       (let counted = c.loop.invariant.1 in let one = ap steps_of c.in_default-stopped.is in let made = c.steps_made.ensures in let sum = c.in-Some.ensures.1 in
           omega (arith, counted, one, made, sum)),
       walk_on c.args.n c.loop.invariant.0 m n r t u w c.args.self.now c.loop.self c.step.new.self c.args.out.now.items c.loop.out.items c.step.new.out.items went.0 walk went.1 went.2
-          c.step.ensures.runs s.ensures.ready c.step.ensures.holds s.ensures.spent (when_none _ _ s.ensures.given c.in_default-stopped.is) (omega (arith, low, less)),
+          c.step.ensures.runs (IfOk-at_ok (λ o. IsReady r w c.step.new.self) told c.step.ensures.ready) c.step.ensures.holds (IfOk-at_ok (λ o. IsSpent c.loop.self.search.inferences c.step.new.self.search.inferences) told c.step.ensures.spent) (when_none _ _ (IfOk-at_ok (λ o. IfNone o (c.step.new.self.solutions_found ≡ c.loop.self.solutions_found)) told c.step.ensures.given) c.in_default-stopped.is) (omega (arith, low, less)),
       none_refused (g.W.A.Atoms.refusals c.args.atoms.now) (g.W.A.Atoms.refusals c.loop.atoms) (g.W.A.Atoms.refusals c.step.new.atoms) s.stopped c.loop.invariant.3
-          s.ensures.refusals c.in_default-stopped.is,
+          (IfOk-at_ok (λ o. g.W.A.Atoms.refusals c.step.new.atoms ≡ g.W.A.Atoms.refusals c.loop.atoms ++ stopped_refusals o) told c.step.ensures.refusals) c.in_default-stopped.is,
       way_gains c.loop.invariant.0 1 m n r t u w c.args.self.now c.loop.self c.step.new.self walk.written went.0 (g.W.A.Atoms.asked c.args.atoms.now)
           (g.W.A.Atoms.asked c.loop.atoms) (g.W.A.Atoms.asked c.step.new.atoms) walk.advances went.1 c.loop.invariant.4 c.step.ensures.asked,
     )
@@ -53,20 +58,22 @@ returns-in-Some-stopped-clause-sliced g c =
     let low = walk.low in
     let less = c.if-self-start.false in
     let s = c.in_ok-stopped in
+    let told = sym c.stop_of.ensures ∙ s.was in
     let step = subst (λ (x : Option Slice). (more : List Output) × IsStepped n u c.loop.self x r w c.step.new.self more
-    × (c.step.new.out.items ≡ c.loop.out.items ++ encode_utf8_all (written_text more))) c.in-Some-stopped.is s.ensures.stepped in (
+    × (c.step.new.out.items ≡ c.loop.out.items ++ encode_utf8_all (written_text more))) c.in-Some-stopped.is (IfOk-at_ok (λ o. (more : List Output) × IsStepped n u c.loop.self o r w c.step.new.self more × (c.step.new.out.items ≡ c.loop.out.items ++ encode_utf8_all (written_text more))) told c.step.ensures.stepped) in (
       steps_of (Some c.in-Some-stopped.slice) + c.loop.invariant.0,
       (let counted = c.loop.invariant.1 in let some = ap steps_of c.in-Some-stopped.is in let made = c.steps_made.ensures in let sum = c.in-Some.ensures.1 in
           omega (arith, counted, some, made, sum)),
-      slice_ends c.args.n c.loop.invariant.0 m n r t u w c.args.self.now c.loop.self c.step.new.self c.args.out.now.items c.loop.out.items c.step.new.out.items walk s.ensures.spent
+      slice_ends c.args.n c.loop.invariant.0 m n r t u w c.args.self.now c.loop.self c.step.new.self c.args.out.now.items c.loop.out.items c.step.new.out.items walk (IfOk-at_ok (λ o. IsSpent c.loop.self.search.inferences c.step.new.self.search.inferences) told c.step.ensures.spent)
           (omega (arith, low, less)) c.in-Some-stopped.slice step,
     )
 
 pub returns-in-Some-stopped-clause-refusals : goal.returns-in-Some-stopped-clause-refusals
 returns-in-Some-stopped-clause-refusals g c =
     let s = c.in_ok-stopped in
+    let told = sym c.stop_of.ensures ∙ s.was in
     some_refused (g.W.A.Atoms.refusals c.args.atoms.now) (g.W.A.Atoms.refusals c.loop.atoms) (g.W.A.Atoms.refusals c.step.new.atoms) s.stopped c.in-Some-stopped.slice c.loop.invariant.3
-    s.ensures.refusals c.in-Some-stopped.is
+    (IfOk-at_ok (λ o. g.W.A.Atoms.refusals c.step.new.atoms ≡ g.W.A.Atoms.refusals c.loop.atoms ++ stopped_refusals o) told c.step.ensures.refusals) c.in-Some-stopped.is
 
 pub returns-in-Some-stopped-clause-asked : goal.returns-in-Some-stopped-clause-asked
 returns-in-Some-stopped-clause-asked g c =
@@ -78,7 +85,8 @@ returns-in-Some-stopped-clause-asked g c =
     let w = g.W.World.told c.step.new.world in
     let walk = c.loop.invariant.2 in
     let s = c.in_ok-stopped in
-    let stepped = s.ensures.stepped in
+    let told = sym c.stop_of.ensures ∙ s.was in
+    let stepped = (IfOk-at_ok (λ o. (more : List Output) × IsStepped n u c.loop.self o r w c.step.new.self more × (c.step.new.out.items ≡ c.loop.out.items ++ encode_utf8_all (written_text more))) told c.step.ensures.stepped) in
     let step = step_advances n r u w c.loop.self c.step.new.self s.stopped stepped.0 stepped.1 in
     way_gains c.loop.invariant.0 step.0 m n r t u w c.args.self.now c.loop.self c.step.new.self walk.written stepped.0 (g.W.A.Atoms.asked c.args.atoms.now)
     (g.W.A.Atoms.asked c.loop.atoms) (g.W.A.Atoms.asked c.step.new.atoms) walk.advances step.1 c.loop.invariant.4 c.step.ensures.asked
