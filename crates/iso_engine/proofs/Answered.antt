@@ -6,6 +6,7 @@ use Rattle.std.proofs.lemmas.List.Elements.{All-append, All-cons, All-nil, All-w
 use Rattle.pl_term.specs.Texts.{size}
 use Rattle.pl_term.specs.Tree.{Chars, Tree, Trees, var, int, atom, comp, none, more}
 use Rattle.pl_model.specs.Resolution.{Node}
+use Rattle.atom_api.specs.FixedNames.{cut_name}
 use Rattle.atom_api.specs.Fixed.{fixed, fixed_texts}
 use Rattle.atom_api.specs.Names.{FixedStand, Names}
 use Rattle.term_store.specs.Contents.{term_at}
@@ -59,7 +60,7 @@ module _ (m : Names) (first : IsSome (m 0)) where
     all_held_in none s h = All-nil IsHeld
     all_held_in (more t ts) s h = All-append IsHeld (atoms_in t) (atoms_in_all ts) (all_held t s.0 h.0) (all_held_in ts s.1 h.1)
 
-pub zero_text : fixed 0 ≡ Some (codes "!")
+pub zero_text : fixed cut_name ≡ Some (codes "!")
 unfolding fixed_texts
 zero_text = refl
 

@@ -8,6 +8,7 @@ use Rattle.pl_model.specs.Predicates.{proc_of}
 use Rattle.pl_model.specs.BodyChecks.{body_of}
 use Rattle.pl_model.specs.Resolution.{Choice, goal, Limits, Node, Pending, State, running, Output}
 use Rattle.pl_model.specs.Control.{before, checked, consult_proc, run_on, start, start_node, start_state, taking}
+use Rattle.atom_api.specs.FixedNames.{consult_name}
 use Rattle.atom_api.specs.Fixed.{fixed, fixed_texts}
 use Rattle.term_store.specs.declared.words.Place.{Place}
 use Rattle.term_store.specs.Contents.{Contents, term_at, upwards}
@@ -30,7 +31,7 @@ use Rattle.iso_engine.specs.declared.starting.Begun.TheVariants.{Refused, Taken}
 use Rattle.iso_engine.specs.Starting.{IsKind, IsNamed, begun, outcome_of, proc_begun}
 use Rattle.iso_engine.proofs.Numbered.{numbered_variables}
 
-pub consult_text : fixed 66 ≡ Some (codes "consult")
+pub consult_text : fixed consult_name ≡ Some (codes "consult")
 unfolding fixed_texts
 consult_text = refl
 

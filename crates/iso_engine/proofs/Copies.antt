@@ -7,6 +7,7 @@ use Rattle.pl_term.specs.Tree.{Chars, Tree, Trees, var, int, atom, comp, none, m
 use Rattle.pl_term.specs.Variables.{distinct, variables, rename_by, rename_all_by}
 use Rattle.pl_model.specs.History.{body_part, head_part}
 use Rattle.pl_model.specs.Terms.{clause_cells, raised_by, variable_count}
+use Rattle.atom_api.specs.FixedNames.{neck_name, true_name}
 use Rattle.term_store.specs.declared.words.Place.{Place}
 use Rattle.term_store.specs.Contents.{Contents, term_at}
 use Rattle.term_store.specs.Heap.{atom_name}
@@ -57,7 +58,7 @@ body-renamed f (atom a) = refl
 body-renamed f (comp h t none) = refl
 body-renamed f (comp h t (more u none)) = go (number_of h == neck)
   where
-    go : (b : Bool) → cond b (rename_by f u) (atom (atom_name 176)) ≡ rename_by f (cond b u (atom (atom_name 176)))
+    go : (b : Bool) → cond b (rename_by f u) (atom (atom_name true_name)) ≡ rename_by f (cond b u (atom (atom_name true_name)))
     go true = refl
     go false = refl
 body-renamed f (comp h t (more u (more v ts))) = refl
@@ -70,7 +71,7 @@ name_of_atom f t ts over = cc
 module _ (v : View) (view : IsView v) where
   neck_read : (f : Chars) → atom_name (number_of f) ≡ f → bytes_eq (text_of v.names f) (codes ":-") ≡ (number_of f == neck)
   neck_read f is =
-      ap (λ h. bytes_eq (text_of v.names h) (codes ":-")) (sym is) ∙ is_named v view (number_of f) 12 (codes ":-") neck_is
+      ap (λ h. bytes_eq (text_of v.names h) (codes ":-")) (sym is) ∙ is_named v view (number_of f) neck_name (codes ":-") neck_is
 
   pub head_read : (t : Tree) → IsOverAtoms t → head_part (spelled (text_of v.names) t) ≡ spelled (text_of v.names) (head_in t)
   head_read (var x) over = refl
@@ -87,8 +88,8 @@ module _ (v : View) (view : IsView v) where
       go b false e = ap (λ q. cond q (spelled (text_of v.names) t) (spelled (text_of v.names) (comp f t (more u none)))) e
   head_read (comp f t (more u (more w ts))) over = refl
 
-  true_read : spelled (text_of v.names) (atom (atom_name 176)) ≡ atom (codes "true")
-  true_read = ap atom (text_is v view 176 (codes "true") true_is)
+  true_read : spelled (text_of v.names) (atom (atom_name true_name)) ≡ atom (codes "true")
+  true_read = ap atom (text_is v view true_name (codes "true") true_is)
 
   pub body_read : (t : Tree) → IsOverAtoms t → body_part (spelled (text_of v.names) t) ≡ spelled (text_of v.names) (body_in t)
   body_read (var x) over = sym true_read
@@ -100,7 +101,7 @@ module _ (v : View) (view : IsView v) where
     where
       go : (b c : Bool) → b ≡ c
           → cond b (spelled (text_of v.names) u) (atom (codes "true"))
-          ≡ spelled (text_of v.names) (cond c u (atom (atom_name 176)))
+          ≡ spelled (text_of v.names) (cond c u (atom (atom_name true_name)))
       go b true e = ap (λ q. cond q (spelled (text_of v.names) u) (atom (codes "true"))) e
       go b false e = ap (λ q. cond q (spelled (text_of v.names) u) (atom (codes "true"))) e ∙ sym true_read
   body_read (comp f t (more u (more w ts))) over = sym true_read
@@ -146,7 +147,7 @@ rule_parts s clause head body f [] at is two h b = absurd (omega (arith, two))
 rule_parts s clause head body f (x ∷ []) at is two h b = absurd (omega (arith, two))
 rule_parts s clause head body f (x ∷ (y ∷ [])) at is two h b = (
   h ∙ sym (ap head_in at ∙ ap (λ q. cond q x (comp (atom_name f) x (more y none))) is),
-  b ∙ sym (ap body_in at ∙ ap (λ q. cond q y (atom (atom_name 176))) is),
+  b ∙ sym (ap body_in at ∙ ap (λ q. cond q y (atom (atom_name true_name))) is),
 )
 rule_parts s clause head body f (x ∷ (y ∷ (z ∷ zs))) at is two h b = absurd (omega (arith, two))
 
@@ -160,18 +161,18 @@ fact_head f (x ∷ (y ∷ [])) is = go (f == neck) is
     go false e = refl
 fact_head f (x ∷ (y ∷ (z ∷ zs))) is = refl
 
-fact_body : (f : ℕ) (ts : List Tree) → ((f == neck) && (length ts == 2)) ≡ false → body_in (compound (atom_name f) ts) ≡ atom (atom_name 176)
+fact_body : (f : ℕ) (ts : List Tree) → ((f == neck) && (length ts == 2)) ≡ false → body_in (compound (atom_name f) ts) ≡ atom (atom_name true_name)
 fact_body f [] is = refl
 fact_body f (x ∷ []) is = refl
 fact_body f (x ∷ (y ∷ [])) is = go (f == neck) is
   where
-    go : (q : Bool) → (q && true) ≡ false → cond q y (atom (atom_name 176)) ≡ atom (atom_name 176)
+    go : (q : Bool) → (q && true) ≡ false → cond q y (atom (atom_name true_name)) ≡ atom (atom_name true_name)
     go true e = absurd (false≢true (sym e))
     go false e = refl
 fact_body f (x ∷ (y ∷ (z ∷ zs))) is = refl
 
 pub fact_parts : (s : Contents) (clause body : Place) (f : ℕ) (ts : List Tree) → term_at s clause ≡ compound (atom_name f) ts
-    → ((f == neck) && (length ts == 2)) ≡ false → term_at s body ≡ atom (atom_name 176)
+    → ((f == neck) && (length ts == 2)) ≡ false → term_at s body ≡ atom (atom_name true_name)
     → (term_at s clause ≡ head_in (term_at s clause)) × (term_at s body ≡ body_in (term_at s clause))
 fact_parts s clause body f ts at is b = (
   at ∙ sym (ap head_in at ∙ fact_head f ts is),

@@ -10,6 +10,7 @@ use Rattle.pl_model.specs.Builtins.{row}
 use Rattle.pl_model.specs.Predicates.{proc_of}
 use Rattle.pl_model.specs.Resolution.{Limits, Next, Node, State, goes}
 use Rattle.pl_model.specs.Control.{construct, costing, other, take_up, with_row}
+use Rattle.atom_api.specs.FixedNames.{equal_name}
 use Rattle.atom_api.specs.Fixed.{fixed, fixed_texts}
 use Rattle.term_store.specs.declared.words.Place.{Place}
 use Rattle.term_store.specs.declared.views.Arguments.{Arguments}
@@ -27,7 +28,7 @@ use Rattle.iso_search.specs.Spelling.{spelled, text_of}
 use Rattle.iso_search.proofs.Constructing.{how_many, shape_two}
 use Rattle.iso_search.proofs.Naming.{is_named, text_is}
 
-pub equal_text : fixed 16 ≡ Some (codes "=")
+pub equal_text : fixed equal_name ≡ Some (codes "=")
 unfolding fixed_texts
 equal_text = refl
 
@@ -55,18 +56,18 @@ equal_step l s n g t u h is =
 
 -- What the goal reads as.
 pub equal_shape : (v : View) → IsView v → (s : Contents) (goal : Place) (a : Arguments)
-    → term_at s goal ≡ compound (atom_name 16) (arguments_at s a)
+    → term_at s goal ≡ compound (atom_name equal_name) (arguments_at s a)
     → IsArguments s a
     → a.count ≡ 2
     → reads v s goal ≡ goal_of (spelled (text_of v.names) (get_or (arguments_at s a) 0 (atom []))) (spelled (text_of v.names) (get_or (arguments_at s a) 1 (atom [])))
 equal_shape v view s goal a is args two =
     let g = text_of v.names
     in let shape = shape_two (arguments_at s a) (atom []) (how_many s a args ∙ two)
-    in ap (spelled g) (is ∙ ap (compound (atom_name 16)) shape)
-    ∙ ap (λ f. comp f (spelled g (get_or (arguments_at s a) 0 (atom []))) (more (spelled g (get_or (arguments_at s a) 1 (atom []))) none)) (text_is v view 16 (codes "=") equal_text)
+    in ap (spelled g) (is ∙ ap (compound (atom_name equal_name)) shape)
+    ∙ ap (λ f. comp f (spelled g (get_or (arguments_at s a) 0 (atom []))) (more (spelled g (get_or (arguments_at s a) 1 (atom []))) none)) (text_is v view equal_name (codes "=") equal_text)
 
 pub equal_reads : (v : View) → IsView v → (s : Contents) (goal left right : Place) (a : Arguments)
-    → term_at s goal ≡ compound (atom_name 16) (arguments_at s a)
+    → term_at s goal ≡ compound (atom_name equal_name) (arguments_at s a)
     → IsArguments s a
     → a.count ≡ 2
     → term_at s left ≡ get_or (arguments_at s a) 0 (atom [])

@@ -9,6 +9,7 @@ use Rattle.pl_model.specs.Predicates.{proc_of}
 use Rattle.pl_model.specs.Control.{construct, construct_by_count, construct_of_two, construct_of_three, or_else}
 use Rattle.pl_model.specs.History.{proc}
 use Rattle.pl_model.specs.Control as control
+use Rattle.atom_api.specs.FixedNames.{call_name, cut_name, fail_name, false_name, halt_name, nl_name, not_provable_name, once_name, print_name, put_char_name, repeat_name, retract_name, retractall_name, thread_exit_name, throw_name, true_name, write_canonical_name, write_name, writeq_name}
 use Rattle.atom_api.specs.Names.{Names}
 use Rattle.term_store.specs.declared.words.Place.{Place}
 use Rattle.term_store.specs.declared.views.Arguments.{Arguments}
@@ -82,7 +83,7 @@ is_number : (a k : ℕ) → (a == k) ≡ true → a ≡ k
 is_number a k e = (Decides-eqb a k).0 e
 
 atom_found : (a : ℕ) → output_of (atom_construct a) ≡ atom_output a
-atom_found a = go (a == 176) (a == 0) (a == 88) (a == 89) (a == 150) (a == 101) (at 176) (at 0) (at 88) (at 89) (at 150) (at 101)
+atom_found a = go (a == true_name) (a == cut_name) (a == fail_name) (a == false_name) (a == repeat_name) (a == halt_name) (at true_name) (at cut_name) (at fail_name) (at false_name) (at repeat_name) (at halt_name)
   where
     at : (k : ℕ) → (a == k) ≡ true → atom_output k ≡ atom_output a
     at k e = sym (ap atom_output (is_number a k e))
@@ -92,7 +93,7 @@ atom_found a = go (a == 176) (a == 0) (a == 88) (a == 89) (a == 150) (a == 101) 
     last false = refl
 
     go : (b c d e f i : Bool) → Lacks (atom_output a) b → Lacks (atom_output a) c → Lacks (atom_output a) d → Lacks (atom_output a) e → Lacks (atom_output a) f → Lacks (atom_output a) i
-        → output_of (cond b Succeeds (cond c Cuts (cond d Fails (cond e Fails (cond f Repeats (cond i HaltsWithZero (cond (a == 128) WritesNewline Other)))))))
+        → output_of (cond b Succeeds (cond c Cuts (cond d Fails (cond e Fails (cond f Repeats (cond i HaltsWithZero (cond (a == nl_name) WritesNewline Other)))))))
         ≡ atom_output a
     go true c d e f i p q r s u w = p refl
     go false true d e f i p q r s u w = q refl
@@ -100,10 +101,10 @@ atom_found a = go (a == 176) (a == 0) (a == 88) (a == 89) (a == 150) (a == 101) 
     go false false false true f i p q r s u w = s refl
     go false false false false true i p q r s u w = u refl
     go false false false false false true p q r s u w = w refl
-    go false false false false false false p q r s u w = last (a == 128)
+    go false false false false false false p q r s u w = last (a == nl_name)
 
 output_found : (a : ℕ) (t : Place) → output_of (output_construct a t) ≡ one_output a t
-output_found a t = go (a == 183) (a == 185) (a == 144) (a == 148) (a == 184)
+output_found a t = go (a == write_name) (a == writeq_name) (a == print_name) (a == put_char_name) (a == write_canonical_name)
   where
     go : (b c d e f : Bool)
         → output_of (cond b (Writes t) (cond c (WritesQuoted t) (cond d (WritesQuoted t) (cond e (Puts t) (cond f (WritesCanonical t) Other)))))
@@ -116,7 +117,7 @@ output_found a t = go (a == 183) (a == 185) (a == 144) (a == 148) (a == 184)
     go false false false false false = refl
 
 one_found : (a : ℕ) (t : Place) → output_of (one_construct a t) ≡ one_output a t
-one_found a t = go (a == 32) (a == 135) (a == 174) (a == 101) (a == 165) (a == 153) (a == 154) (at 32) (at 135) (at 174) (at 101) (at 165) (at 153) (at 154)
+one_found a t = go (a == not_provable_name) (a == once_name) (a == throw_name) (a == halt_name) (a == thread_exit_name) (a == retract_name) (a == retractall_name) (at not_provable_name) (at once_name) (at throw_name) (at halt_name) (at thread_exit_name) (at retract_name) (at retractall_name)
   where
     at : (k : ℕ) → (a == k) ≡ true → one_output k t ≡ one_output a t
     at k e = sym (ap (λ x. one_output x t) (is_number a k e))
@@ -134,9 +135,9 @@ one_found a t = go (a == 32) (a == 135) (a == 174) (a == 101) (a == 165) (a == 1
     go false false false false false false false p q r s u w x = output_found a t
 
 -- What holds of each goal that writes one argument
-each_one : (P : Option OutputGoal → Type 0) (a : ℕ) (t : Place) → P (Some (Term Bare t)) → P (Some (Term Quoted t)) → (a ≡ 148 → P (Some (Character t)))
+each_one : (P : Option OutputGoal → Type 0) (a : ℕ) (t : Place) → P (Some (Term Bare t)) → P (Some (Term Quoted t)) → (a ≡ put_char_name → P (Some (Character t)))
     → P (Some (Canonical t)) → P None → P (one_output a t)
-each_one P a t bare quoted character canonical absent = go (a == 183) (a == 185) (a == 144) (a == 148) (a == 184) (λ e. character (is_number a 148 e))
+each_one P a t bare quoted character canonical absent = go (a == write_name) (a == writeq_name) (a == print_name) (a == put_char_name) (a == write_canonical_name) (λ e. character (is_number a put_char_name e))
   where
     go : (b c d e f : Bool) → (e ≡ true → P (Some (Character t)))
         → P (cond b (Some (Term Bare t)) (cond c (Some (Term Quoted t)) (cond d (Some (Term Quoted t)) (cond e (Some (Character t)) (cond f (Some (Canonical t)) None)))))
@@ -167,7 +168,7 @@ pub no_integer : (v : View) (s : Contents) (p : Place) (i : ℤ) → term_at s p
 no_integer v s p i e = sym (ap is_output (no_goal_integer v s p i e))
 
 atom_named : (g : Tree) (a : ℕ) → IsNamedSo g (atom_output a)
-atom_named g a = go (a == 128)
+atom_named g a = go (a == nl_name)
   where
     go : (b : Bool) → IsNamedSo g (cond b (Some NewLine) None)
     go true = tt
@@ -222,20 +223,20 @@ module _ (s : Contents) (goal first : Place) (name : ℕ) (a : Arguments) (at : 
         subst (IsTold v s (construct (reads v s goal))) found
         (subst (λ c. IsTold v s c (output_of k)) (is ∙ sym (ap (λ u. construct (spelled (text_of v.names) u)) at)) (told v s k))
 
-    told_by : (b : Bool) → (name == 53) ≡ b → IsTold v s (construct (reads v s goal)) r
+    told_by : (b : Bool) → (name == call_name) ≡ b → IsTold v s (construct (reads v s goal)) r
     told_by true e =
         told_of (Calls first a) (called v view s name (arguments_at s a) first a e (omega (arith, long)) (omega (arith, long)) stands refl)
-        (sym (ap (λ x. one_output x first) (is_number name 53 e)))
+        (sym (ap (λ x. one_output x first) (is_number name call_name e)))
     told_by false e =
         told_of (one_construct name first)
         (named_otherwise v view s name (arguments_at s a) (one_construct name first) (by_one v view s name (arguments_at s a) first (one_construct name first) long stands refl) e)
         (one_found name first)
 
-    proc_is : name ≡ 148 → proc_of (reads v s goal) ≡ proc (codes "put_char") 1
+    proc_is : name ≡ put_char_name → proc_of (reads v s goal) ≡ proc (codes "put_char") 1
     proc_is e =
         ap (λ u. proc_of (spelled (text_of v.names) u)) goal_is
         ∙ ap (λ n. proc (text_of v.names (atom_name n)) 1) e
-        ∙ ap (λ f. proc f 1) (text_is v view 148 (codes "put_char") put_char_is)
+        ∙ ap (λ f. proc f 1) (text_is v view put_char_name (codes "put_char") put_char_is)
 
     named_so : IsNamedSo (reads v s goal) r
     named_so = each_one (IsNamedSo (reads v s goal)) name first tt tt proc_is tt tt
@@ -243,7 +244,7 @@ module _ (s : Contents) (goal first : Place) (name : ℕ) (a : Arguments) (at : 
   pub at_one : (q : Option OutputGoal) → q ≡ one_output name first → MatchOption q (IsNoOutput s goal) (λ o. IsGoalOf s o goal)
   at_one q is =
       subst (λ o. MatchOption o (IsNoOutput s goal) (λ x. IsGoalOf s x goal)) (sym is)
-      (gathered s goal r (λ v view. (told_by v view (name == 53) refl, named_so v view)))
+      (gathered s goal r (λ v view. (told_by v view (name == call_name) refl, named_so v view)))
 
   first_held : (m : Names) → IsGoalHeld m s goal → IsHeldAt m s first
   first_held m held =

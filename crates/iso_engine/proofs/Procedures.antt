@@ -3,6 +3,7 @@ use Rattle.std.proofs.Common.{◌≡◌, ℕ, ℤ, suc, ◌<◌, List, [], ◌�
 use Rattle.pl_term.specs.Tree.{Tree, var, int, atom, compound, trees}
 use Rattle.pl_model.specs.History.{Proc}
 use Rattle.pl_model.specs.Predicates.{proc_of}
+use Rattle.atom_api.specs.FixedNames.{call_name}
 use Rattle.term_store.specs.declared.words.Place.{Place}
 use Rattle.term_store.specs.declared.views.Arguments.{Arguments}
 use Rattle.term_store.specs.Heap.{atom_name}
@@ -17,10 +18,10 @@ use Rattle.iso_search.proofs.Spelt.{count-spelled}
 abbrev pub proc_as : View → ℕ → ℕ → Proc
 proc_as v name arity = record { name = text_of v.names (atom_name name); arity = arity }
 
-pub variable_proc : (v : View) → IsView v → (s : Contents) (goal : Place) (n : ℕ) → term_at s goal ≡ var n → proc_of (reads v s goal) ≡ proc_as v 53 1
+pub variable_proc : (v : View) → IsView v → (s : Contents) (goal : Place) (n : ℕ) → term_at s goal ≡ var n → proc_of (reads v s goal) ≡ proc_as v call_name 1
 variable_proc v view s goal n is =
     ap (λ t. proc_of (spelled (text_of v.names) t)) is
-    ∙ sym (ap (λ f. let p : Proc = record { name = f; arity = 1 } in p) (text_is v view 53 (codes "call") call_is))
+    ∙ sym (ap (λ f. let p : Proc = record { name = f; arity = 1 } in p) (text_is v view call_name (codes "call") call_is))
 
 compound_is : (v : View) (name : ℕ) (xs : List Tree) → 0 < length xs → proc_of (spelled (text_of v.names) (compound (atom_name name) xs)) ≡ proc_as v name (length xs)
 compound_is v name [] lt = absurd (omega arith)

@@ -10,6 +10,7 @@ use Rattle.pl_model.specs.Predicates.{proc_of}
 use Rattle.pl_model.specs.Resolution.{Choice, Doing, Node, Output, State, goes, throwing}
 use Rattle.pl_model.specs.History.{proc}
 use Rattle.pl_model.specs.Control.{with_character, with_text}
+use Rattle.atom_api.specs.FixedNames.{character_name, error_name, put_char_name, slash_name, type_error_name}
 use Rattle.atom_api.specs.Fixed.{fixed, fixed_texts}
 use Rattle.atom_api.specs.Names.{Names}
 use Rattle.term_store.specs.declared.words.Place.{Place}
@@ -44,27 +45,27 @@ grows_again s t u g h = record { stays = stays_again s t u g.stays h.stays; numb
 pub two_places : (s : Contents) (p q : Place) → Holds s p → Holds s q → All (Holds s) (p ∷ (q ∷ []))
 two_places s p q hp hq = All-cons (Holds s) p (q ∷ []) hp (All-cons (Holds s) q [] hq (All-nil (Holds s)))
 
-type_error_is : fixed 177 ≡ Some (codes "type_error")
+type_error_is : fixed type_error_name ≡ Some (codes "type_error")
 unfolding fixed_texts
 type_error_is = refl
 
-character_is : fixed 58 ≡ Some (codes "character")
+character_is : fixed character_name ≡ Some (codes "character")
 unfolding fixed_texts
 character_is = refl
 
-slash_is : fixed 9 ≡ Some (codes "/")
+slash_is : fixed slash_name ≡ Some (codes "/")
 unfolding fixed_texts
 slash_is = refl
 
-error_is : fixed 80 ≡ Some (codes "error")
+error_is : fixed error_name ≡ Some (codes "error")
 unfolding fixed_texts
 error_is = refl
 
 -- The ball over atoms.
 abbrev ball_tree : Tree → Tree
 ball_tree t =
-    comp (atom_name 80) (comp (atom_name 177) (atom (atom_name 58)) (more t none))
-    (more (comp (atom_name 9) (atom (atom_name 148)) (more (int (pos 1)) none)) none)
+    comp (atom_name error_name) (comp (atom_name type_error_name) (atom (atom_name character_name)) (more t none))
+    (more (comp (atom_name slash_name) (atom (atom_name put_char_name)) (more (int (pos 1)) none)) none)
 
 pub ball_read : (v : View) → IsView v → (s u : Contents) (term ball : Place) → term_at u ball ≡ ball_tree (term_at s term)
     → reads v u ball ≡ error_ball (type_error (codes "character") (reads v s term)) (proc (codes "put_char") 1)
@@ -72,12 +73,12 @@ ball_read v view s u term ball is =
     let g = text_of v.names in
     let t = reads v s term in
     ap (spelled g) is
-    ∙ ap₂ (λ x y. comp x (comp y (atom (g (atom_name 58))) (more t none)) (more (comp (g (atom_name 9)) (atom (g (atom_name 148))) (more (int (pos 1)) none)) none))
-    (text_is v view 80 (codes "error") error_is) (text_is v view 177 (codes "type_error") type_error_is)
-    ∙ ap₂ (λ x y. comp (codes "error") (comp (codes "type_error") (atom x) (more t none)) (more (comp y (atom (g (atom_name 148))) (more (int (pos 1)) none)) none))
-    (text_is v view 58 (codes "character") character_is) (text_is v view 9 (codes "/") slash_is)
+    ∙ ap₂ (λ x y. comp x (comp y (atom (g (atom_name character_name))) (more t none)) (more (comp (g (atom_name slash_name)) (atom (g (atom_name put_char_name))) (more (int (pos 1)) none)) none))
+    (text_is v view error_name (codes "error") error_is) (text_is v view type_error_name (codes "type_error") type_error_is)
+    ∙ ap₂ (λ x y. comp (codes "error") (comp (codes "type_error") (atom x) (more t none)) (more (comp y (atom (g (atom_name put_char_name))) (more (int (pos 1)) none)) none))
+    (text_is v view character_name (codes "character") character_is) (text_is v view slash_name (codes "/") slash_is)
     ∙ ap (λ x. comp (codes "error") (comp (codes "type_error") (atom (codes "character")) (more t none)) (more (comp (codes "/") (atom x) (more (int (pos 1)) none)) none))
-    (text_is v view 148 (codes "put_char") put_char_is)
+    (text_is v view put_char_name (codes "put_char") put_char_is)
 
 -- The step
 
@@ -158,15 +159,15 @@ module _ (m : Names) (e : Search) (term goal : Place) (rest : ℕ) (a b : List �
 
 -- The ball as it was made.
 pub ball_made : (s t u w : Contents) (term kind name one error indicator ball : Place)
-    → term_at s kind ≡ atom (atom_name 58)
-    → term_at t name ≡ atom (atom_name 148)
+    → term_at s kind ≡ atom (atom_name character_name)
+    → term_at t name ≡ atom (atom_name put_char_name)
     → term_at t one ≡ int (pos 1)
-    → term_at t error ≡ comp (atom_name 177) (term_at s kind) (more (term_at s term) none)
+    → term_at t error ≡ comp (atom_name type_error_name) (term_at s kind) (more (term_at s term) none)
     → term_at u error ≡ term_at t error
-    → term_at u indicator ≡ comp (atom_name 9) (term_at t name) (more (term_at t one) none)
-    → term_at w ball ≡ comp (atom_name 80) (term_at u error) (more (term_at u indicator) none)
+    → term_at u indicator ≡ comp (atom_name slash_name) (term_at t name) (more (term_at t one) none)
+    → term_at w ball ≡ comp (atom_name error_name) (term_at u error) (more (term_at u indicator) none)
     → term_at w ball ≡ ball_tree (term_at s term)
 ball_made s t u w term kind name one error indicator ball k n i e same d h =
     h
-    ∙ ap₂ (λ x y. comp (atom_name 80) x (more y none)) (same ∙ e ∙ ap (λ x. comp (atom_name 177) x (more (term_at s term) none)) k)
-    (d ∙ ap₂ (λ x y. comp (atom_name 9) x (more y none)) n i)
+    ∙ ap₂ (λ x y. comp (atom_name error_name) x (more y none)) (same ∙ e ∙ ap (λ x. comp (atom_name type_error_name) x (more (term_at s term) none)) k)
+    (d ∙ ap₂ (λ x y. comp (atom_name slash_name) x (more y none)) n i)

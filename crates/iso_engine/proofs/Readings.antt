@@ -7,6 +7,7 @@ use Rattle.std.proofs.lemmas.Bool.Decides.{Decides-eqb}
 use Rattle.std.proofs.lemmas.Slice.Eq.{bytes_eq-Decides}
 use Rattle.std.proofs.lemmas.List.Elements.{All-weaker}
 use Rattle.pl_term.specs.Tree.{Chars, Tree, Trees, var, int, atom, comp, none, more}
+use Rattle.atom_api.specs.FixedNames.{call_name, neck_name, true_name}
 use Rattle.atom_api.specs.Fixed.{fixed, fixed_texts}
 use Rattle.atom_api.specs.Names.{Names, FixedStand}
 use Rattle.term_store.specs.Heap.{atom_name}
@@ -16,15 +17,15 @@ use Rattle.world_api.specs.Texts as worlds
 use Rattle.iso_search.specs.Spelling.{spelled, spelled_all, text_of, or_no_text}
 use Rattle.iso_engine.specs.Parts.{IsOverAtoms}
 
-pub neck_is : fixed 12 ≡ Some (codes ":-")
+pub neck_is : fixed neck_name ≡ Some (codes ":-")
 unfolding fixed_texts
 neck_is = refl
 
-pub true_is : fixed 176 ≡ Some (codes "true")
+pub true_is : fixed true_name ≡ Some (codes "true")
 unfolding fixed_texts
 true_is = refl
 
-pub call_is : fixed 53 ≡ Some (codes "call")
+pub call_is : fixed call_name ≡ Some (codes "call")
 unfolding fixed_texts
 call_is = refl
 

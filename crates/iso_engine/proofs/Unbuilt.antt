@@ -5,6 +5,7 @@ use Rattle.pl_term.specs.Tree.{Tree}
 use Rattle.pl_model.specs.History.{Proc}
 use Rattle.pl_model.specs.Resolution.{failing}
 use Rattle.pl_model.specs.Control.{construct, other}
+use Rattle.atom_api.specs.FixedNames.{call_name}
 use Rattle.atom_api.specs.Fixed.{fixed, fixed_texts}
 use Rattle.world_api.specs.declared.visit.Procedure.{Procedure}
 use Rattle.term_store.specs.declared.words.Place.{Place}
@@ -182,13 +183,13 @@ module _ (s : Contents) (w : Place) (p : Procedure) (k : Construct) (a : Bool) (
       left_unbuilt v s k (reads v s w) (stands v view) kept (λ e. absurd (true≢false (sym e ∙ sym other_as ∙ kind))) (sym write_as ∙ write))
 
 -- An integer is refused as call/1 refuses it.
-pub integer_missing : (s : Contents) (w : Place) (cut : ℕ) → IsInteger s w → IsMissingTask s (Goal w cut) (fixed_proc 53 1)
+pub integer_missing : (s : Contents) (w : Place) (cut : ℕ) → IsInteger s w → IsMissingTask s (Goal w cut) (fixed_proc call_name 1)
 integer_missing s w cut i =
     record {
       unbuilt =
           λ v view. inl (
             integer_reads v s w i,
-            ap (λ f. let p : Proc = record { name = f; arity = 1 } in p) (text_is v view 53 (codes "call") call_is),
+            ap (λ f. let p : Proc = record { name = f; arity = 1 } in p) (text_is v view call_name (codes "call") call_is),
           );
       named = inl (codes "call", call_is);
     }

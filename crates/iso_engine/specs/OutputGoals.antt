@@ -6,6 +6,7 @@ use Rattle.pl_model.specs.TermWriting.{write_canonical}
 use Rattle.pl_model.specs.Predicates.{proc_of}
 use Rattle.pl_model.specs.Control.{Construct, succeeds, cuts, conjunction, disjunction, if_then, if_then_else, fails, repeats, calls, not_provable, once, catches, throws, finds_all, halts, exits, inspects, retracts, clears, writes, prints, puts, other, construct}
 use Rattle.pl_model.specs.History.{proc}
+use Rattle.atom_api.specs.FixedNames.{nl_name, print_name, put_char_name, write_canonical_name, write_name, writeq_name}
 use Rattle.atom_api.specs.Names.{Names}
 use Rattle.term_store.specs.declared.words.Place.{Place}
 use Rattle.term_store.specs.Contents.{Contents, Holds, term_at}
@@ -82,12 +83,12 @@ IsHeldIn m s (Character w) = IsHeldAt m s w
 
 -- By the numbers of the fixed atoms.
 abbrev pub atom_output : ℕ → Option OutputGoal
-atom_output a = if a == 128 then Some NewLine else None
+atom_output a = if a == nl_name then Some NewLine else None
 
 abbrev pub one_output : ℕ → Place → Option OutputGoal
 one_output a t =
-    if a == 183 then Some (Term Bare t) else
-    if a == 185 then Some (Term Quoted t) else
-    if a == 144 then Some (Term Quoted t) else
-    if a == 148 then Some (Character t) else
-    if a == 184 then Some (Canonical t) else None
+    if a == write_name then Some (Term Bare t) else
+    if a == writeq_name then Some (Term Quoted t) else
+    if a == print_name then Some (Term Quoted t) else
+    if a == put_char_name then Some (Character t) else
+    if a == write_canonical_name then Some (Canonical t) else None

@@ -2,6 +2,7 @@
 use Rattle.std.specs.Prelude.{◌≡◌, Bool, false, ◌==◌, if◌then◌else◌, Option, Some, None}
 use Rattle.pl_term.specs.Tree.{Tree, comp, atom, none, more}
 use Rattle.world_api.specs.declared.reply.Found.{Found}
+use Rattle.atom_api.specs.FixedNames.{true_name}
 use Rattle.term_store.specs.declared.words.Place.{Place}
 use Rattle.term_store.specs.Contents.{Contents, Holds, term_at}
 use Rattle.term_store.specs.Heap.{atom_name}
@@ -14,8 +15,8 @@ IsOverAtoms t = by_number t ≡ t
 
 -- The body of a clause that is kept as one term: of a rule its second argument, of a fact `true`, the fixed atom 176.
 abbrev pub body_in : Tree → Tree
-body_in (comp f t (more u none)) = if number_of f == neck then u else atom (atom_name 176)
-body_in t = atom (atom_name 176)
+body_in (comp f t (more u none)) = if number_of f == neck then u else atom (atom_name true_name)
+body_in t = atom (atom_name true_name)
 
 pub record IsParted (s : Contents) (clause head body : Place) : Type 0 where
   pub head_holds : Holds s head

@@ -1,6 +1,7 @@
 //! Term unification (ISO 8.2.1).
 ghost use Rattle.std.specs.Prelude.{◌≡◌, ◌≤◌, ℕ, ◌∷◌, false, length, IfOk, IfSome, OnOk};
 ghost use Rattle.pl_term.specs.Tree.{compound};
+ghost use Rattle.atom_api.specs.FixedNames.{equal_name};
 ghost use Rattle.term_store.specs.Contents.{Holds, IsArguments, arguments_at, term_at};
 ghost use Rattle.term_store.specs.Heap.{atom_name};
 ghost use Rattle.iso_search.specs.Frames.{tasks};
@@ -28,7 +29,7 @@ pub fn equal(
     rest: usize,
 ) -> Result<Doing, Memory>
     requires whole { IsWhole search.old }
-    requires goal { term_at search.old.store goal ≡ compound (atom_name 16) (arguments_at search.old.store arguments) }
+    requires goal { term_at search.old.store goal ≡ compound (atom_name equal_name) (arguments_at search.old.store arguments) }
     requires arguments { IsArguments search.old.store arguments }
     requires two { arguments.count ≡ 2 }
     requires rest { rest ≤ length search.old.frames.items }
@@ -61,7 +62,7 @@ pub fn equal(
 /// The arguments of the goal at a place, if it is `=` of two.
 pub fn unification_at(store: &Store, goal: Place) -> Option<Arguments>
     requires { Holds store.now goal }
-    ensures { IfSome result (λ a. (term_at store.now goal ≡ compound (atom_name 16) (arguments_at store.now a)) × (IsArguments store.now a × (a.count ≡ 2))) }
+    ensures { IfSome result (λ a. (term_at store.now goal ≡ compound (atom_name equal_name) (arguments_at store.now a)) × (IsArguments store.now a × (a.count ≡ 2))) }
 {
     let Kind::Compound(name, arguments) = store.look(goal) else {
         return None;

@@ -1,6 +1,7 @@
 use Rattle.std.proofs.Common.{◌≡◌, [], length, get_or, sym, ap, subst, arith}
 use Rattle.pl_term.specs.Tree.{atom}
 use Rattle.pl_model.specs.Predicates.{proc_of}
+use Rattle.atom_api.specs.FixedNames.{equal_name}
 use Rattle.term_store.specs.Heap.{atom_name}
 use Rattle.term_store.specs.Contents.{arguments_at, term_at}
 use Rattle.iso_search.specs.declared.outcome.Fault.TheVariants.{Inferences}
@@ -26,7 +27,7 @@ returns-then-not-infer-clause-step c list cut is t view =
     let right = spelled (text_of t.view.names) (get_or xs 1 (atom [])) in
     let two = c.requires.two in
     goal_done t e x list c.args.rest cut c.args.goal (Raise Inferences) d
-    (record { name = text_of t.view.names (atom_name 16); arity = 2 })
+    (record { name = text_of t.view.names (atom_name equal_name); arity = 2 })
     is
     c.requires.rest
     (tt, keeps_counted e x c.infer.ensures.kept)
@@ -52,7 +53,7 @@ returns-clause-step c list cut is t view =
     let l = subst (λ (y : Search). term_at y.store left ≡ get_or (arguments_at y.store a) 0 (atom [])) kept c.argument-left.ensures.stands in
     let q = subst (λ (y : Search). term_at y.store right ≡ get_or (arguments_at y.store a) 1 (atom [])) kept c.argument-right.ensures.stands in
     goal_done t e f list c.args.rest cut c.args.goal o d
-    (record { name = text_of t.view.names (atom_name 16); arity = 2 })
+    (record { name = text_of t.view.names (atom_name equal_name); arity = 2 })
     is
     c.requires.rest
     (outcome_behind e x f o (omega (arith, longer)) (keeps_counted e x kept) c.in_ok-outcome.ensures.after.inside)
