@@ -11,12 +11,12 @@ ghost use Rattle.counted_terms.specs.CountedTerms.{naming, said};
 use anyhow::{Context, Result, bail};
 use atom_api::Atoms;
 use atom_table::{AtomSeat, AtomTable, Interned, Keeper, NamesTable, Opened, TableAtoms};
-use atom_terms::with_texts;
 use counted_terms::{CountedTerm, forget_by, lend_to, store_from};
 use pl_term::{Flat, Text};
 use std::alloc::Global;
 use std::marker::Brand;
 use term_store::{AtomNode, Stored};
+use world_api::with_texts;
 
 fn main(rt: HostRuntime) -> Result<()> {
     for name in ["zz", "[]", "été", "a longer name, of two words"] {

@@ -19,14 +19,13 @@ use crate::consult::Consult;
 use crate::stage::{Stage, Step};
 use crate::stops::stopped;
 use atom_api::Atoms;
-use atom_terms::{interned, with_texts};
 use op_table::OpTable;
 use pl_term::Flat;
 use script_api::Next;
 use std::alloc::Global;
 use std::sync::Arc;
 use term_store::Stored;
-use world_api::{Answer, Reply, Visit, World};
+use world_api::{Answer, Reply, Visit, World, interned, with_texts};
 
 /// What the adding of a clause gives.
 #[derive(Drop)]

@@ -18,10 +18,10 @@ use crate::consult::Consult;
 use crate::stage::{Stage, Step};
 use crate::stops::stopped;
 use atom_api::Atoms;
-use atom_terms::interned;
 use pl_term::Flat;
 use script_api::Next;
 use std::alloc::Global;
+use world_api::interned;
 
 /// Gives the goal of the directive at this byte.
 pub fn give_directive<A: Atoms>(

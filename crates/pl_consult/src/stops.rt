@@ -1,12 +1,12 @@
 //! What a script answers where a term of it has no term over atoms.
 ghost use Rattle.std.specs.Prelude.{◌≡◌};
-ghost use Rattle.atom_terms.specs.NamedNodes.{stop_refusals};
+ghost use Rattle.world_api.specs.NamedNodes.{stop_refusals};
 ghost use Rattle.script_api.specs.Scripts.{next_refusals};
 ghost use Rattle.pl_consult.specs.Steps.{IsStay};
 
-use atom_terms::NoTerm;
 use script_api::Next;
 use term_store::Stored;
+use world_api::NoTerm;
 
 /// What a script answers then. A name that is too long for an atom is no name of an item, since the reader refuses it.
 pub fn stopped(stop: NoTerm) -> Next<Stored>

@@ -9,11 +9,11 @@ ghost use Rattle.world_api.specs.KeyTexts.{key_in};
 use crate::made::Made;
 use crate::spelled::Spelled;
 use atom_api::{Atom, Atoms, TextBuf};
-use atom_terms::{NoTerm, interned, reads_as, with_texts};
 use pl_model::first_argument::FirstArgument;
 use pl_term::{Flat, Memory, Text};
 use std::alloc::Global;
 use term_store::{ArgumentKey, Stored};
+use world_api::{NoTerm, interned, reads_as, with_texts};
 
 /// The text of the atom of a slot, which is held. The only error is out of memory.
 fn atom_text<A: Atoms>(alloc: Global, slot: u32, atoms: &mut A) -> Result<Text, Memory>

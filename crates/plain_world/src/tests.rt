@@ -6,13 +6,12 @@ ghost use Rattle.std.specs.Prelude.{IfOk, IsSome};
 use crate::entry::Entry;
 use crate::world::PlainWorld;
 use atom_api::{Atom, Atoms, Interned, PlainAtoms};
-use atom_terms::interned;
 use pl_model::kept::Kept;
 use pl_term::{Flat, Memory, Text};
 use std::alloc::Global;
 use std::test::Fail;
 use term_store::{ArgumentKey, AtomNode, Stored};
-use world_api::{Answer, Found, Procedure, Reply, Visit, World};
+use world_api::{Answer, Found, Procedure, Reply, Visit, World, interned};
 
 type Plain = PlainWorld<Flat, PlainAtoms>;
 

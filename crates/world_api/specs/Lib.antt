@@ -7,3 +7,4 @@ pub mod Gains
 pub mod Asked
 pub mod SearchSteps
 pub mod KeyTexts
+pub mod NamedNodes

@@ -2,15 +2,23 @@
 #![tactic(auto)]
 
 mod answer;
-pub mod search_steps;
+mod interning;
 mod named;
+mod readings;
 mod reply;
+pub mod search_steps;
+#[cfg(test)]
+mod tests;
+mod texts;
 mod visit;
 mod world;
 
 pub use answer::{Answer, On};
 pub use atom_api::{Cause, Pass, WornWord};
+pub use interning::{NoTerm, interned};
 pub use named::Named;
+pub use readings::reads_as;
 pub use reply::{FlagValue, Found, Name, Reply};
+pub use texts::with_texts;
 pub use visit::{Procedure, Visit};
 pub use world::World;

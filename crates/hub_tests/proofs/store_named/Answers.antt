@@ -8,7 +8,7 @@ use Rattle.term_store.specs.Heap.{atom_name}
 use Rattle.term_store.specs.NumberedNames.{neck, names_of}
 use Rattle.atom_api.specs.Names.{Names}
 use Rattle.atom_table.specs.Naming.{names}
-use Rattle.atom_terms.proofs.NamedTerms.{neck_held}
+use Rattle.world_api.proofs.NamedTerms.{neck_held}
 use Rattle.counted_terms.proofs.Holding.{with_here}
 use Rattle.hub_tests.proofs.store_named.Goals as goal
 

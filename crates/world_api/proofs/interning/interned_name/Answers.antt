@@ -1,7 +1,7 @@
 use Rattle.std.proofs.Common.{◌≡◌, refl}
 use Rattle.pl_term.specs.Tree.{Chars}
 use Rattle.world_api.proofs.Gaining.{gains_one}
-use Rattle.atom_terms.proofs.interning.interned_name.Goals as goal
+use Rattle.world_api.proofs.interning.interned_name.Goals as goal
 
 pub returns-in-Is-clause-asked : goal.returns-in-Is-clause-asked
 returns-in-Is-clause-asked g c =

@@ -1,8 +1,8 @@
 use Rattle.std.proofs.Common.{◌≡◌, IsSome, take}
 use Rattle.std.specs.List.{All}
 use Rattle.world_api.specs.Texts.{text_of}
-use Rattle.atom_terms.specs.NamedNodes.{atoms_of, nodes_in}
-use Rattle.atom_terms.proofs.readings.reads_as.Given as goal
+use Rattle.world_api.specs.NamedNodes.{atoms_of, nodes_in}
+use Rattle.world_api.proofs.readings.reads_as.Given as goal
 
 abbrev pub invariant-loop-i : goal.invariant-loop-i
 invariant-loop-i g l =

@@ -8,7 +8,7 @@ ghost use Rattle.term_store.specs.NumberedNames.{names_of, term_by};
 ghost use Rattle.world_api.specs.Asked.{texts_in};
 ghost use Rattle.world_api.specs.Gains.{Gains};
 ghost use Rattle.world_api.specs.Texts.{text_of, Holds};
-ghost use Rattle.atom_terms.specs.NamedNodes.{atoms_of, node_atoms, node_in, node_name, node_texts, nodes_in, refusals_by, texts_of, HasTooLong};
+ghost use Rattle.world_api.specs.NamedNodes.{atoms_of, node_atoms, node_in, node_name, node_texts, nodes_in, refusals_by, texts_of, HasTooLong};
 
 use atom_api::{Atoms, Cause, Interned, Pass, WornWord};
 use pl_term::{Flat, Memory, Node, Text};

@@ -3,7 +3,7 @@ ghost use Rattle.std.specs.Prelude.{◌≡◌, true, IsSome};
 ghost use Rattle.std.specs.List.{All};
 ghost use Rattle.term_store.specs.NumberedNames.{names_of, term_by};
 ghost use Rattle.world_api.specs.Texts.{text_of};
-ghost use Rattle.atom_terms.specs.NamedNodes.{node_atoms, node_in};
+ghost use Rattle.world_api.specs.NamedNodes.{node_atoms, node_in};
 
 use atom_api::{Atom, Atoms};
 use pl_term::{Flat, Node};

@@ -19,7 +19,7 @@ use Rattle.term_store.specs.Nodes.{node_views, IsSpelled}
 use Rattle.term_store.specs.NumberedNames.{number_of, spelled, spelled_all, neck, with_neck, text_by, term_by, atoms_in, atoms_in_all, names_of}
 use Rattle.term_store.specs.NameUnification.{count-spelled, rename-spelled}
 use Rattle.world_api.specs.Texts.{text_of, or_no_text}
-use Rattle.atom_terms.specs.NamedNodes.{nodes_in, atoms_of}
+use Rattle.world_api.specs.NamedNodes.{nodes_in, atoms_of}
 
 -- A term over atoms whose nodes stand first, each name of which has the text that a term has there.
 pub record Named (text : ℕ → Chars) (t : Tree) (ns : List AtomNode) (rest : List Node) : Type 0 where

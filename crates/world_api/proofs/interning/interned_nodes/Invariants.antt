@@ -2,8 +2,8 @@ use Rattle.std.proofs.Common.{◌≡◌, IsSome, take}
 use Rattle.std.specs.List.{All, Contains}
 use Rattle.world_api.specs.Gains.{Gains}
 use Rattle.world_api.specs.Texts.{text_of, Holds}
-use Rattle.atom_terms.specs.NamedNodes.{atoms_of, nodes_in, texts_of}
-use Rattle.atom_terms.proofs.interning.interned_nodes.Given as goal
+use Rattle.world_api.specs.NamedNodes.{atoms_of, nodes_in, texts_of}
+use Rattle.world_api.proofs.interning.interned_nodes.Given as goal
 
 abbrev pub invariant-loop-node : goal.invariant-loop-node
 invariant-loop-node g l =

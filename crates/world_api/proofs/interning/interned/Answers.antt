@@ -1,8 +1,8 @@
 use Rattle.std.proofs.Common.{◌∙◌}
 use Rattle.world_api.specs.Texts.{text_of}
-use Rattle.atom_terms.proofs.NamedTerms.{nodes_spelled, stored_means, stored_named}
-use Rattle.atom_terms.proofs.AskedNames.{asked_of}
-use Rattle.atom_terms.proofs.interning.interned.Goals as goal
+use Rattle.world_api.proofs.NamedTerms.{nodes_spelled, stored_means, stored_named}
+use Rattle.world_api.proofs.AskedNames.{asked_of}
+use Rattle.world_api.proofs.interning.interned.Goals as goal
 
 pub from_nodes-requires : goal.from_nodes-requires
 from_nodes-requires g c =

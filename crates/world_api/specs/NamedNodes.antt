@@ -9,8 +9,8 @@ use Rattle.term_store.specs.declared.nodes.AtomNode.{AtomNode}
 use Rattle.term_store.specs.declared.nodes.AtomNode.TheVariants.{Var, Int, Atom, Comp}
 use Rattle.atom_words.specs.declared.view.Refusal.{Refusal}
 use Rattle.atom_words.specs.declared.view.Refusal.TheVariants.{Full as RefusalFull, Again as RefusalAgain, Worn as RefusalWorn}
-use Rattle.atom_terms.specs.declared.interning.NoTerm.{NoTerm}
-use Rattle.atom_terms.specs.declared.interning.NoTerm.TheVariants.{Full, Again, TooLong, Worn, Memory}
+use Rattle.world_api.specs.declared.interning.NoTerm.{NoTerm}
+use Rattle.world_api.specs.declared.interning.NoTerm.TheVariants.{Full, Again, TooLong, Worn, Memory}
 
 -- The node in which an atom has the text that the map gives it.
 abbrev pub node_in : (ℕ → Chars) → AtomNode → Node

@@ -11,8 +11,8 @@ use Rattle.world_api.specs.Asked.{texts_in, texts_in_all}
 use Rattle.world_api.specs.Gains.{Gains}
 use Rattle.world_api.specs.Texts.{text_of, or_no_text}
 use Rattle.world_api.proofs.Gaining.{gains_then, gains_weaker}
-use Rattle.atom_terms.specs.NamedNodes.{node_texts, texts_of}
-use Rattle.atom_terms.proofs.NamedTerms.{some_of}
+use Rattle.world_api.specs.NamedNodes.{node_texts, texts_of}
+use Rattle.world_api.proofs.NamedTerms.{some_of}
 
 texts_of-append : (ms ns : List Node) → texts_of (ms ++ ns) ≡ texts_of ms ++ texts_of ns
 texts_of-append [] ns = refl

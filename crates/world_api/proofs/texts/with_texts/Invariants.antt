@@ -1,7 +1,7 @@
 use Rattle.std.proofs.Common.{◌≡◌, take}
 use Rattle.world_api.specs.Texts.{text_of}
-use Rattle.atom_terms.specs.NamedNodes.{nodes_in}
-use Rattle.atom_terms.proofs.texts.with_texts.Given as goal
+use Rattle.world_api.specs.NamedNodes.{nodes_in}
+use Rattle.world_api.proofs.texts.with_texts.Given as goal
 
 abbrev pub invariant-loop-node : goal.invariant-loop-node
 invariant-loop-node g l =

@@ -4,10 +4,10 @@ use Rattle.std.proofs.lemmas.List.{take_all}
 use Rattle.std.proofs.lemmas.List.Elements.{All-tail, All-same}
 use Rattle.term_store.specs.NumberedNames.{neck, atoms_in, term_by}
 use Rattle.world_api.specs.Texts.{text_of}
-use Rattle.atom_terms.specs.NamedNodes.{nodes_in, atoms_of}
-use Rattle.atom_terms.proofs.NamedTerms.{atoms_of-spelled, nodes_with_texts, term_with_texts}
-use Rattle.atom_terms.proofs.HeldNodes.{node_named}
-use Rattle.atom_terms.proofs.texts.with_texts.Goals as goal
+use Rattle.world_api.specs.NamedNodes.{nodes_in, atoms_of}
+use Rattle.world_api.proofs.NamedTerms.{atoms_of-spelled, nodes_with_texts, term_with_texts}
+use Rattle.world_api.proofs.HeldNodes.{node_named}
+use Rattle.world_api.proofs.texts.with_texts.Goals as goal
 
 pub node_with_text-requires : goal.node_with_text-requires
 node_with_text-requires g c =

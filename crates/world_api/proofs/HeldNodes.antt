@@ -10,7 +10,7 @@ use Rattle.atom_api.specs.Names.{Names}
 use Rattle.term_store.specs.declared.nodes.AtomNode.{AtomNode}
 use Rattle.term_store.specs.declared.nodes.AtomNode.TheVariants.{Var, Int, Atom, Comp}
 use Rattle.world_api.specs.Texts.{text_of, or_no_text, Holds}
-use Rattle.atom_terms.specs.NamedNodes.{node_in, nodes_in, node_atoms, atoms_of}
+use Rattle.world_api.specs.NamedNodes.{node_in, nodes_in, node_atoms, atoms_of}
 
 text_kept : (m n : Names) (a : ℕ) (o : Option Chars) → m a ≡ o → IsSome o → Holds m n → text_of m a ≡ text_of n a
 text_kept m n a None is some holds = absurd (false≢true some)

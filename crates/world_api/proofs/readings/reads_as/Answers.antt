@@ -4,10 +4,10 @@ use Rattle.std.proofs.lemmas.List.{take_all, take_more}
 use Rattle.std.proofs.lemmas.List.Elements.{All-same}
 use Rattle.term_store.specs.declared.nodes.AtomNode.TheVariants.{Var}
 use Rattle.world_api.specs.Texts.{text_of}
-use Rattle.atom_terms.specs.NamedNodes.{atoms_of, nodes_in}
-use Rattle.atom_terms.proofs.NamedTerms.{reads_so, spelled_named}
-use Rattle.atom_terms.proofs.HeldNodes.{nodes_more, named_more}
-use Rattle.atom_terms.proofs.readings.reads_as.Goals as goal
+use Rattle.world_api.specs.NamedNodes.{atoms_of, nodes_in}
+use Rattle.world_api.proofs.NamedTerms.{reads_so, spelled_named}
+use Rattle.world_api.proofs.HeldNodes.{nodes_more, named_more}
+use Rattle.world_api.proofs.readings.reads_as.Goals as goal
 
 pub loop-i-preserved : goal.loop-i-preserved
 loop-i-preserved g c =

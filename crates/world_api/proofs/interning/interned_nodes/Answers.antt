@@ -1,7 +1,7 @@
 use Rattle.std.proofs.Common.{◌∙◌, append-nil}
-use Rattle.atom_terms.proofs.HeldNodes.{nodes_more, named_more, holds_then}
-use Rattle.atom_terms.proofs.AskedNames.{asked_more}
-use Rattle.atom_terms.proofs.interning.interned_nodes.Goals as goal
+use Rattle.world_api.proofs.HeldNodes.{nodes_more, named_more, holds_then}
+use Rattle.world_api.proofs.AskedNames.{asked_more}
+use Rattle.world_api.proofs.interning.interned_nodes.Goals as goal
 
 pub loop-node-preserved : goal.loop-node-preserved
 loop-node-preserved g c =

@@ -1,3 +1,0 @@
-pub mod NamedTerms
-pub mod HeldNodes
-pub mod AskedNames
