@@ -31,7 +31,7 @@ use Rattle.iso_engine.proofs.Alike.{visits_same}
 use Rattle.iso_engine.proofs.Followed.{fails_to}
 use Rattle.iso_engine.proofs.Later.{held_later}
 use Rattle.iso_engine.proofs.Moving.{seen_moved}
-use Rattle.iso_engine.proofs.Stability.{advance_same, advance_then, ready_later, restored_advances, restored_ready}
+use Rattle.iso_engine.proofs.Stability.{advance_same, advance_step, advance_then, ready_later, restored_advances, restored_ready, step_ready}
 
 pub failed_steps : (wanted given : ℕ) (e f : Search) (now d : Doing) (b : Back) → now ≡ Failing → FailsTo e f b → ((x : Search) → StandsForBack x b d)
     → Steps wanted given e now f d
@@ -140,3 +140,16 @@ pub retried_end : (m n : Names) (t u : Told) (e : Engine) (x : Search) (f : Engi
 retried_end m n t u e x f b can holds view ready fails kept (Ok o) whole gone taken step =
     retried_step m n t u e x f b can holds view ready fails kept whole o gone taken step
 retried_end m n t u e x f b can holds view ready fails kept (Err d) whole gone taken step = tt
+
+-- It goes on by itself.
+pub failed_after : (m : Names) (t : Told) (e : Engine) (x : Search) (d : Doing) (b : Back) → IsView (view_of m t) → IsReady m t e → e.doing ≡ Failing
+    → x.budgets ≡ e.search.budgets
+    → IsWhole x
+    → ((q : Setting) → q.doing ≡ failing → back_result q x b ≡ gone_back (limits_in q e.search) (state_in q e.search) (choices_of q.view e.search))
+    → ((y : Search) → StandsForBack y b d)
+    → (let f : Engine = record e { search = x; doing = d } in IsStepped m t e None m t f [] × IsReady m t f)
+failed_after m t e x d b view ready fails budgets whole step stands =
+    let f : Engine = record e { search = x; doing = d }
+    in let steps : Steps e.solution_limit e.solutions_found e.search e.doing x d =
+    failed_steps e.solution_limit e.solutions_found e.search x e.doing d b fails (λ r q. fails_to r e.search (back_result r x b) q (step r q)) stands
+    in (advance_step m t e f steps budgets refl refl view, step_ready m t e f steps whole view ready)

@@ -291,7 +291,7 @@ module _ (x : Origin) (at : Place) (e : Search) (ps : Vec Place Global) (fresh :
       led_on : (o : Option Bindings) → solve_all [] lefts rights ≡ o
           → definition ≡ unified (record here { next = e.next_variable + fresh }) (record node { used = x.store.used + gives.0 }) (option_map (spelled_bindings g) o)
       led_on o is =
-          answer_led_by.2
+          answer_led_by.1
           ∙ ap (unified (record here { next = e.next_variable + fresh }) (record node { used = x.store.used + gives.0 }))
           (solved_read ∙ ap (option_map (spelled_bindings g)) is)
 

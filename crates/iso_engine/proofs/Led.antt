@@ -1,7 +1,6 @@
 -- What a row of the definition leads to, by what it gives.
-use Rattle.std.proofs.Common.{◌≡◌, ℕ, ◌+◌, ◌<◌, ◌≤◌, ◌^◌, ◌⊎◌, inl, inr, Bool, true, false, cond, [], ◌∷◌, drop, nat_lt, nat_le, refl, sym, ap₂, ◌∙◌}
-use Rattle.std.proofs.lemmas.Bool.{true≢false}
-use Rattle.std.proofs.lemmas.Bool.Decides.{Decides-ltb, leb_tells}
+use Rattle.std.proofs.Common.{◌≡◌, ℕ, ◌+◌, ◌<◌, ◌^◌, Bool, true, false, cond, [], ◌∷◌, drop, nat_lt, nat_le, refl, ap₂}
+use Rattle.std.proofs.lemmas.Bool.Decides.{Decides-ltb}
 use Rattle.pl_term.specs.Tree.{Trees}
 use Rattle.pl_model.specs.Balls.{error_ball, no_cells, no_inferences}
 use Rattle.pl_model.specs.BuiltinRows.{Answer, Row, gives, table, error, unifying}
@@ -11,19 +10,11 @@ use Rattle.pl_model.specs.Resolution.{Limits, Node, State, collected_cells, thro
 use Rattle.builtin_rows.specs.Given.{Given, answered, full, given, lined, thrown}
 use Rattle.builtin_rows.specs.Steps.{answer_led}
 
--- At most.
-at_most : (a b : ℕ) → nat_le a b ≡ true → a ≤ b
-at_most a b e = go (leb_tells a b)
-  where
-    go : ((nat_le a b ≡ true) × (a ≤ b)) ⊎ ((nat_le a b ≡ false) × (b < a)) → a ≤ b
-    go (inl h) = h.1
-    go (inr h) = absurd (true≢false (sym e ∙ h.0))
-
--- A state to which what is given leads. One answer has numbers for its variables, and its cells fit; of several nothing is said.
+-- A state to which what is given leads. One answer has numbers for its variables; of several nothing is said.
 abbrev pub LedTo : Limits → State → Node → Proc → Trees → State → Given → Type 0
 LedTo l s n p ts q (answered [] f k) = q ≡ failed s
 LedTo l s n p ts q (answered (us ∷ []) f k) =
-    (s.next + f < 2 ^ 64) × (n.used + collected_cells s.choices + k ≤ l.cells) × (q ≡ answer_led s n ts us f k)
+    (s.next + f < 2 ^ 64) × (q ≡ answer_led s n ts us f k)
 LedTo l s n p ts q (answered (us ∷ (vs ∷ vss)) f k) = Unit {0}
 LedTo l s n p ts q (lined us xs k) = q ≡ first_answer l s n p ts (unifying us (drop k xs))
 LedTo l s n p ts q (thrown b) = q ≡ record s { doing = throwing b n.goals }
@@ -44,7 +35,7 @@ module _ (l : Limits) (s : State) (n : Node) (p : Proc) (ts : Trees) where
       → LedTo l s n p ts (answer_tried l s n p ts a)
       (cond b (cond c (answered (a.terms ∷ []) a.fresh a.made) (full a.made)) (thrown (error_ball no_inferences p)))
   one_led a true true few fits =
-      ((Decides-ltb (s.next + a.fresh) (2 ^ 64)).0 few, at_most (used + a.made) l.cells fits, tried_is a true true few fits)
+      ((Decides-ltb (s.next + a.fresh) (2 ^ 64)).0 few, tried_is a true true few fits)
   one_led a true false few fits = tried_is a true false few fits
   one_led a false c few fits = tried_is a false c few fits
 

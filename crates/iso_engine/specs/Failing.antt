@@ -3,21 +3,11 @@ use Rattle.std.specs.Prelude.{◌≡◌}
 use Rattle.pl_model.specs.Resolution.{failing, goes}
 use Rattle.pl_model.specs.Control.{step}
 use Rattle.iso_search.specs.declared.failure.Back.{Back}
-use Rattle.iso_search.specs.declared.failure.Back.TheVariants.{Exhausted, Run, Fail, Retry, Answers, Found}
 use Rattle.iso_search.specs.declared.search.Search.{Search}
 use Rattle.iso_search.specs.Failures.{back_result}
 use Rattle.iso_search.specs.Outcomes.{Setting, limits_in, state_in}
 use Rattle.iso_engine.specs.declared.doing.Doing.{Doing}
 use Rattle.iso_engine.specs.Standing.{state_at}
-
--- The next clause of a list, or the next line of a table, is to be tried, or a list is to be given.
-abbrev pub IsRetry : Back → Type 0
-IsRetry Exhausted = ⊥
-IsRetry (Run list) = ⊥
-IsRetry Fail = ⊥
-IsRetry (Retry goal g place next) = Unit {0}
-IsRetry (Answers goal line next) = Unit {0}
-IsRetry (Found list found next) = Unit {0}
 
 -- It stands for what is left to do.
 abbrev pub StandsForBack : Search → Back → Doing → Type 0

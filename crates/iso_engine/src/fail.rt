@@ -10,9 +10,8 @@ ghost use Rattle.iso_engine.specs.Spending.{IsSpent};
 ghost use Rattle.iso_engine.specs.Slices.{IsStepped};
 ghost use Rattle.iso_engine.specs.Unserved.{as_stopped, stopped_refusals};
 
-use crate::doing::Doing;
+use crate::doing::{Doing, End};
 use crate::engine::Engine;
-use crate::failing::after_failure;
 use crate::findall::give_list;
 use crate::slices::Slice;
 use crate::unserved::Unserved;
@@ -40,12 +39,19 @@ impl Engine {
         ensures stepped { IfOk (as_stopped result) (λ o.
             IsStepped (W.A.held atoms.old) (W.told world.old) self.old o (W.A.held atoms.new) (W.told world.new) self.new []) }
     {
-        let back = self.search.resume();
-        if let Some(doing) = after_failure(&back) {
-            self.doing = doing;
-            return Ok(None);
-        }
-        match back {
+        match self.search.resume() {
+            Back::Exhausted => {
+                self.doing = Doing::Ended(End::NoMore);
+                Ok(None)
+            }
+            Back::Run(list) => {
+                self.doing = Doing::Running(list);
+                Ok(None)
+            }
+            Back::Fail => {
+                self.doing = Doing::Failing;
+                Ok(None)
+            }
             Back::Retry {
                 goal,
                 generation,
@@ -57,7 +63,6 @@ impl Engine {
                 self.doing = give_list(self.alloc, &mut self.search, list, found, next)?;
                 Ok(None)
             }
-            _ => unreachable!(),
         }
     }
 }

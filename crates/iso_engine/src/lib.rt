@@ -8,7 +8,6 @@ pub mod doing;
 pub mod engine;
 pub mod equal;
 pub mod fail;
-pub mod failing;
 pub mod findall;
 pub mod following;
 pub mod kinds;

@@ -50,7 +50,7 @@ pub fn run_row<A: Atoms>(
     ensures taken_back { OnRefusal result (search.new ≡ search.old) }
     ensures holds { Holds (A.held atoms.old) (A.held atoms.new) }
     ensures refusals { UnlessMemory result (A.refusals atoms.new ≡ A.refusals atoms.old ++ refusals_in result) }
-    ensures asked { Gains (IsGivenText (spelled (text_of (A.held atoms.old)) (term_at search.old.store goal.now.place)) search.old.next search.old.store.used search.old.store.budget)
+    ensures asked { Gains (IsGivenText (spelled (text_of (A.held atoms.old)) (term_at search.old.store goal.now.place)) search.old.next_variable search.old.store.used search.old.store.budget)
         (A.asked atoms.old) (A.asked atoms.new) }
 {
     let before = search.inferences;

@@ -52,11 +52,11 @@ impl Engine {
                         Ok(None)
                     }
                     Did::Call(goal, procedure) => {
-                        self.call(goal, procedure, frame.next, world, atoms)
+                        self.call(goal, procedure, frame.continuation, world, atoms)
                     }
-                    Did::Row(goal) => self.row(&goal, frame.next, atoms),
+                    Did::Row(goal) => self.row(&goal, frame.continuation, atoms),
                     Did::Write(goal, procedure) => {
-                        self.write(goal, procedure, frame.next, world, atoms, out)
+                        self.write(goal, procedure, frame.continuation, world, atoms, out)
                     }
                     Did::Missing(procedure) => Ok(Some(Slice::Missing(procedure))),
                 }

@@ -50,7 +50,7 @@ push_choice-requires-clause-whole g c =
     let r = c.args.goal.now in
     let row = c.in_ok-row in
     let ts = terms_of (g.A.Atoms.held c.args.atoms.now) e.store r.arguments in
-    let same = refused_same e.store e.next ts ts (lines_of r.pred ts) c.args.line n c.line_of.new.store row.row c.in-Some.unserved (row.ensures.row e.next) (sym c.refusal.ensures ∙ c.in-Some.is) in
+    let same = refused_same e.store e.next_variable ts ts (lines_of r.pred ts) c.args.line n c.line_of.new.store row.row c.in-Some.unserved (row.ensures.row e.next_variable) (sym c.refusal.ensures ∙ c.in-Some.is) in
     subst (λ u. let y : Search = record e { store = u } in IsWhole y) (sym same) c.requires.whole
 
 pub push_choice-requires-clause-words : goal.push_choice-requires-clause-words
@@ -60,7 +60,7 @@ push_choice-requires-clause-words g c =
     let r = c.args.goal.now in
     let row = c.in_ok-row in
     let ts = terms_of (g.A.Atoms.held c.args.atoms.now) e.store r.arguments in
-    let same = refused_same e.store e.next ts ts (lines_of r.pred ts) c.args.line n c.line_of.new.store row.row c.in-Some.unserved (row.ensures.row e.next) (sym c.refusal.ensures ∙ c.in-Some.is) in
+    let same = refused_same e.store e.next_variable ts ts (lines_of r.pred ts) c.args.line n c.line_of.new.store row.row c.in-Some.unserved (row.ensures.row e.next_variable) (sym c.refusal.ensures ∙ c.in-Some.is) in
     subst (λ u. Holds u r.place) (sym same) c.requires.goal.holds
 
 pub returns-in_ok-push_choice-in-Some-clause-put_back : goal.returns-in_ok-push_choice-in-Some-clause-put_back
@@ -72,7 +72,7 @@ returns-in_ok-push_choice-in-Some-clause-put_back g c =
     let x : Search = record e { store = c.line_of.new.store } in
     let is = sym c.refusal.ensures ∙ c.in-Some.is in
     let ts = terms_of (g.A.Atoms.held c.args.atoms.now) e.store r.arguments in
-    let same = refused_same e.store e.next ts ts (lines_of r.pred ts) c.args.line n c.line_of.new.store row.row c.in-Some.unserved (row.ensures.row e.next) is in
+    let same = refused_same e.store e.next_variable ts ts (lines_of r.pred ts) c.args.line n c.line_of.new.store row.row c.in-Some.unserved (row.ensures.row e.next_variable) is in
     let again = line_again e x c.push_choice.new.self r.place c.args.line c.args.rest (ap (λ u. let y : Search = record e { store = u } in y) same)
     c.in_ok-push_choice-in-Some.ensures.choices c.push_choice.ensures.kept in
     on_refusal Outcome c.in-Some.unserved again

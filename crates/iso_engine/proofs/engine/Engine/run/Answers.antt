@@ -136,7 +136,7 @@ returns-in-Call-clause-stepped g c =
     let x = c.in-Some.frame in
     let f = c.do_task.new.search in
     let y : Engine = record e { search = f } in
-    let done = subst (IsDone e.search x.task x.next f) c.in-Call.is c.in_ok-did-in-Some.ensures.done in
+    let done = subst (IsDone e.search x.task x.continuation f) c.in-Call.is c.in_ok-did-in-Some.ensures.done in
     let m = g.W.A.Atoms.held c.args.atoms.now in
     let n = g.W.A.Atoms.held c.call.new.atoms in
     let t = g.W.World.told c.args.world.now in
@@ -154,7 +154,7 @@ returns-in-Write-clause-stepped g c =
     let x = c.in-Some.frame in
     let f = c.do_task.new.search in
     let y : Engine = record e { search = f } in
-    let done = subst (IsDone e.search x.task x.next f) c.in-Write.is c.in_ok-did-in-Some.ensures.done in
+    let done = subst (IsDone e.search x.task x.continuation f) c.in-Write.is c.in_ok-did-in-Some.ensures.done in
     let m = g.W.A.Atoms.held c.args.atoms.now in
     let n = g.W.A.Atoms.held c.write.new.atoms in
     let t = g.W.World.told c.args.world.now in
@@ -173,7 +173,7 @@ returns-in-Row-clause-ready g c =
     let x = c.in-Some.frame in
     let f = c.do_task.new.search in
     let y : Engine = record e { search = f } in
-    let done = subst (IsDone e.search x.task x.next f) c.in-Row.is c.in_ok-did-in-Some.ensures.done in
+    let done = subst (IsDone e.search x.task x.continuation f) c.in-Row.is c.in_ok-did-in-Some.ensures.done in
     let m = g.W.A.Atoms.held c.args.atoms.now in
     let n = g.W.A.Atoms.held c.row.new.atoms in
     let t = g.W.World.told c.args.world.now in
@@ -189,7 +189,7 @@ returns-in-Row-clause-stepped g c =
     let x = c.in-Some.frame in
     let f = c.do_task.new.search in
     let y : Engine = record e { search = f } in
-    let done = subst (IsDone e.search x.task x.next f) c.in-Row.is c.in_ok-did-in-Some.ensures.done in
+    let done = subst (IsDone e.search x.task x.continuation f) c.in-Row.is c.in_ok-did-in-Some.ensures.done in
     let m = g.W.A.Atoms.held c.args.atoms.now in
     let n = g.W.A.Atoms.held c.row.new.atoms in
     let t = g.W.World.told c.args.world.now in
@@ -208,7 +208,7 @@ returns-in-Call-clause-asked g c =
     let x = c.in-Some.frame in
     let f = c.do_task.new.search in
     let a = c.args.atoms.now in
-    let called = subst (IsDone e.search x.task x.next f) c.in-Call.is c.in_ok-did-in-Some.ensures.done in
+    let called = subst (IsDone e.search x.task x.continuation f) c.in-Call.is c.in_ok-did-in-Some.ensures.done in
     asked_same (g.W.A.Atoms.held a) (g.W.World.told c.args.world.now) e f (g.W.A.Atoms.asked a) (g.W.A.Atoms.asked c.call.new.atoms) called.0 c.call.ensures.asked
 
 pub returns-in-Row-clause-asked : goal.returns-in-Row-clause-asked
@@ -219,7 +219,7 @@ returns-in-Row-clause-asked g c =
     let a = c.args.atoms.now in
     let m = g.W.A.Atoms.held a in
     let t = g.W.World.told c.args.world.now in
-    let done = subst (IsDone e.search x.task x.next f) c.in-Row.is c.in_ok-did-in-Some.ensures.done in
+    let done = subst (IsDone e.search x.task x.continuation f) c.in-Row.is c.in_ok-did-in-Some.ensures.done in
     asked_same m t e f (g.W.A.Atoms.asked a) (g.W.A.Atoms.asked c.row.new.atoms) done.0
     (row_asks_for m t (record e { search = f }) (g.W.A.Atoms.asked a) (g.W.A.Atoms.asked c.row.new.atoms) c.row.ensures.asked)
 
