@@ -8,8 +8,6 @@ mod names;
 mod predicates;
 mod room;
 mod row;
-#[cfg(test)]
-mod tests;
 
 pub use errors::{raised, refused_for, refused_with};
 pub use lists::{ListEnd, list_elements, make_list};

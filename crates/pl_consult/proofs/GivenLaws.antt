@@ -5,6 +5,7 @@ use Rattle.pl_term.specs.Tree.{Chars, Tree}
 use Rattle.pl_model.specs.Resolution.{Ending, solved, no_more, threw, exited, halted, ended, State}
 use Rattle.pl_model.specs.Control.{step, step_by}
 use Rattle.run_model.specs.Execution.{Script, consults, runs, first_execution, at_start, most_bytes, Job, Consulted, bytes_in, directive_limits, Rest, Activity, directing, reporting, searching, over, Execution, texts_of, directed, searched, Word, move, moves}
+use Rattle.run_model.specs.Lawful.{EndsSo}
 use Rattle.run_model.specs.Report.{all_consulted}
 use Rattle.pl_consult.specs.declared.consult.Place.{Place}
 use Rattle.pl_consult.specs.Consults.{rest_of, activity_of, Stands}
@@ -16,7 +17,7 @@ use Rattle.script_api.specs.declared.script.Next.TheVariants.{Item, Done, NeedsA
 use Rattle.world_api.specs.Told.{Told}
 use Rattle.script_api.specs.Parts.{Part, of_goal, of_directive, with_search}
 use Rattle.script_api.specs.Comes.{ComesBy}
-use Rattle.script_api.specs.Scripts.{EndsAs, CameBy, StandsBefore, StandsAfter, LeavesOff, IsWritten, IsKept, IsLast, Given, some_fault, texts_at, written_at}
+use Rattle.script_api.specs.Scripts.{CameBy, StandsBefore, StandsAfter, LeavesOff, IsWritten, IsKept, IsLast, Given, some_fault, texts_at, written_at}
 use Rattle.script_api.proofs.ComesLaws.{comes_same, comes_then, by_move, by_then}
 use Rattle.pl_consult.specs.declared.stage.Stage.{Stage}
 use Rattle.pl_consult.specs.declared.stage.Stage.TheVariants.{Items, Clause, Directive, AtDirective, Report, Words, Goal, AtGoal, Over, Lost}
@@ -66,7 +67,7 @@ fits_at_hand Over d p is = absurd (let no : ⊥ = cc in no)
 fits_at_hand Lost d p is = absurd (let no : ⊥ = cc in no)
 
 -- The end of a search is the one that is told.
-ending_is : (h : How Tree) (ending : Ending) → EndsAs h ending → ending ≡ ending_of h
+ending_is : (h : How Tree) (ending : Ending) → EndsSo ending h → ending ≡ ending_of h
 ending_is Solved solved e = refl
 ending_is Solved no_more e = absurd e
 ending_is Solved (threw b) e = absurd e
@@ -79,26 +80,26 @@ ending_is False (exited u) e = absurd e
 ending_is False (halted n) e = absurd e
 ending_is (Threw t) solved e = absurd e
 ending_is (Threw t) no_more e = absurd e
-ending_is (Threw t) (threw b) e = ap threw (sym e)
+ending_is (Threw t) (threw b) e = ap threw e
 ending_is (Threw t) (exited u) e = absurd e
 ending_is (Threw t) (halted n) e = absurd e
 ending_is (Exited t) solved e = absurd e
 ending_is (Exited t) no_more e = absurd e
 ending_is (Exited t) (threw b) e = absurd e
-ending_is (Exited t) (exited u) e = ap exited (sym e)
+ending_is (Exited t) (exited u) e = ap exited e
 ending_is (Exited t) (halted n) e = absurd e
 ending_is (Halted k) solved e = absurd e
 ending_is (Halted k) no_more e = absurd e
 ending_is (Halted k) (threw b) e = absurd e
 ending_is (Halted k) (exited u) e = absurd e
-ending_is (Halted k) (halted n) e = ap halted (sym e)
+ending_is (Halted k) (halted n) e = ap halted e
 ending_is (AtomSpace r) solved e = absurd e
 ending_is (AtomSpace r) no_more e = absurd e
 ending_is (AtomSpace r) (threw b) e = absurd e
 ending_is (AtomSpace r) (exited u) e = absurd e
 ending_is (AtomSpace r) (halted n) e = absurd e
 
-ending_told : (h : How Tree) (ending : Ending) → EndsAs h ending → IsTold h
+ending_told : (h : How Tree) (ending : Ending) → EndsSo ending h → IsTold h
 ending_told Solved solved e = tt
 ending_told Solved no_more e = absurd e
 ending_told Solved (threw b) e = absurd e
@@ -316,7 +317,7 @@ given_open old_text text s r how t u before after bytes more next can grew moved
 -- The search of an item has ended.
 before_some : (old_text : ℕ → Chars) (s : FileScript) (job : Job) (p : Part) (h : How Tree) (searched : Option State) (cs : List Consulted) (x : Execution)
     → StandsBefore (λ (z : ℕ → Chars). execution_of) part_in term_by old_text s job (Some p) (Some h) searched cs x
-    → (st : State) × (searched ≡ Some st) × (ending : Ending) × (st.doing ≡ ended ending) × EndsAs h ending × (x ≡ with_search (execution_of s job cs) p st)
+    → (st : State) × (searched ≡ Some st) × (ending : Ending) × (st.doing ≡ ended ending) × EndsSo ending h × (x ≡ with_search (execution_of s job cs) p st)
 before_some old_text s job p h None cs x b = absurd b
 before_some old_text s job p h (Some st) cs x b = (st, refl, b.0, b.1, b.2, b.3)
 
@@ -349,7 +350,7 @@ came_behind (Worn w) job x y z t u v before middle after c d = by_then job x y z
 -- From the end of a directive, which is to be reported.
 reported_runs : (s : FileScript) (job : Job) (cs : List Consulted) (place : ℕ) (h : How Tree) (st : State) (ending : Ending) (bytes : List ℕ)
     → IsOf s job.script
-    → EndsAs h ending
+    → EndsSo ending h
     → bytes ≡ encode_utf8_all (all_consulted s.consult.name [] (cs ++ texts_of st.output))
     → Runs job s.consult.name s (Report place h) (record (execution_of s job cs) { activity = reporting place (rest_of s.consult.place) ending; consulted = cs ++ texts_of st.output }) bytes
 reported_runs s job cs place h st ending bytes of ends written =

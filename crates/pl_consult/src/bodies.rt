@@ -78,13 +78,13 @@ fn numbered_clause(alloc: Global, head: Flat, goal: Flat) -> Result<Flat, Memory
 {
     let neck = Text::from_str(alloc, ":-")?;
     let rule = Flat::comp(alloc, &neck, &[head, goal])?;
-    few_variables(&rule);
+    bounded_variables(&rule);
     let (copy, _) = rule.rename(alloc, 0)?;
     Ok(copy)
 }
 
 /// No term in memory has 2^63 variables.
-pub fn few_variables(t: &Flat)
+pub fn bounded_variables(t: &Flat)
     ensures { length (variables t.now) < 2 ^ 63 }
 {
     let _ = t.nodes();

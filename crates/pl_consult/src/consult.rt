@@ -13,7 +13,7 @@ ghost use Rattle.pl_consult.specs.declared.consult.Place.TheVariants.{Item};
 ghost use Rattle.pl_consult.specs.Consults.{is_too_large, first_place, first_lines, rest_of, activity_of, Stands, Took, Initializes};
 ghost use Rattle.pl_consult.specs.Taking.{IsTakenOf, IsTakenAt, HasPutOff, MayPutOff, IsNextOf, HasLost};
 
-use crate::bodies::{Checked, checked_clause, few_variables};
+use crate::bodies::{Checked, bounded_variables, checked_clause};
 use crate::items::{directive_of, initialization_of};
 use crate::words::consulting_ball;
 use op_table::OpTable;
@@ -256,7 +256,7 @@ impl Consult {
         match self.later.pop_front() {
             None => Ok(None),
             Some((place, goal)) => {
-                few_variables(&goal);
+                bounded_variables(&goal);
                 let (copy, _) = goal.rename(alloc, 0)?;
                 Ok(Some((place, copy)))
             }

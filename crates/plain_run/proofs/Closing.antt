@@ -4,6 +4,7 @@ use Rattle.std.specs.Prelude.{encode_utf8_all}
 use Rattle.pl_term.specs.Tree.{Chars, Tree}
 use Rattle.pl_model.specs.Resolution.{Ending, ended, Output}
 use Rattle.run_model.specs.Execution.{Script, Job, Consulted, Execution}
+use Rattle.run_model.specs.Lawful.{EndsSo}
 use Rattle.run_model.specs.Report.{all_consulted, output_of, with_output}
 use Rattle.atom_api.specs.Names.{Names}
 use Rattle.term_store.specs.NumberedNames.{term_by}
@@ -14,7 +15,7 @@ use Rattle.world_api.specs.Texts.{text_of}
 use Rattle.world_api.specs.Told.{Told}
 use Rattle.script_api.specs.Parts.{Part, of_goal, with_search}
 use Rattle.script_api.specs.Comes.{ComesBy}
-use Rattle.script_api.specs.Scripts.{EndsAs, Given, IsLast, LeavesOff, StandsBefore, some_fault, written_at}
+use Rattle.script_api.specs.Scripts.{Given, IsLast, LeavesOff, StandsBefore, some_fault, written_at}
 use Rattle.script_api.proofs.ComesLaws.{by_same, by_then}
 use Rattle.iso_search.specs.declared.search.Budgets.{Budgets}
 use Rattle.plain_run.specs.declared.ran.Ran.TheVariants as ran
@@ -79,7 +80,7 @@ module _ {S : Type 0} (execution : (ℕ → Chars) → S → Job → List Consul
         g.0,
         g.1,
         g.2,
-        subst (λ q. GoalStandsAs execution part n u new job g.0 q g.1) (sym is) (ending, os, subst (λ e. EndsAs how e) same st'.2, g.3.3),
+        subst (λ q. GoalStandsAs execution part n u new job g.0 q g.1) (sym is) (ending, os, subst (λ e. EndsSo e how) same st'.2, g.3.3),
         g.4,
         (g.5 ∙ ap (λ l. encode_utf8_all (all_consulted name [] l)) (sym written), ap some_fault written ∙ g.6),
         ap output_of g.3.3 ∙ leaves.1,

@@ -16,7 +16,7 @@ use Rattle.term_store.specs.declared.nodes.AtomNode.TheVariants as an
 use Rattle.term_store.specs.Nodes.{node_view, node_views}
 use Rattle.pl_model.specs.declared.ends.How.{How}
 use Rattle.pl_model.specs.declared.ends.How.TheVariants as how
-use Rattle.script_api.specs.Scripts.{EndsAs}
+use Rattle.run_model.specs.Lawful.{EndsSo}
 use Rattle.world_api.specs.Told.{Told}
 use Rattle.world_builtins.specs.Nodes.{IsNodeHeld}
 use Rattle.world_builtins.specs.Spelling.{spelled as spells, text_of as texts_by}
@@ -105,13 +105,13 @@ ball_held m stands unlike finite t e end b ns doing thrown ready are =
 
 -- The state has ended as the engine says.
 pub ends_as : (m : Names) (e : Engine) (end : End) (how : How Tree) → e.doing ≡ Ended end
-    → ((t : Told) → EndsAs how (ending_of (view_of m t) end)) → HasEndedAs m e how
+    → ((t : Told) → EndsSo (ending_of (view_of m t) end) how) → HasEndedAs m e how
 ends_as m e end how is so t written = (ending_of (view_of m t) end, ap (doing_of (view_of m t) e.search) is, so t)
 
 pub throws_so : (m : Names) (e : Engine) (end : End) (b f : Tree) → e.doing ≡ Ended end → end ≡ Threw b
     → f ≡ spells (texts_by m) b → HasEndedAs m e (how.Threw f)
 throws_so m e end b f is thrown same =
-    ends_as m e (Threw b) (how.Threw f) (is ∙ ap Ended thrown) (λ t. same ∙ sym (spelled_same m b))
+    ends_as m e (Threw b) (how.Threw f) (is ∙ ap Ended thrown) (λ t. spelled_same m b ∙ sym same)
 
 pub halts_so : (m : Names) (e : Engine) (end : End) (k : ℕ) → e.doing ≡ Ended end → end ≡ Halted k → HasEndedAs m e (how.Halted k)
 halts_so m e end k is halts = ends_as m e (Halted k) (how.Halted k) (is ∙ ap Ended halts) (λ t. refl)

@@ -2,18 +2,18 @@
 use Rattle.std.specs.Prelude.{◌≡◌, List}
 use Rattle.pl_term.specs.Tree.{Tree}
 use Rattle.pl_model.specs.Resolution.{Ending, ended, Output}
+use Rattle.run_model.specs.Lawful.{EndsSo}
 use Rattle.atom_api.specs.Names.{Names}
 use Rattle.pl_model.specs.declared.ends.How.{How}
 use Rattle.pl_model.specs.declared.ends.How.TheVariants.{AtomSpace}
 use Rattle.world_api.specs.Told.{Told}
-use Rattle.script_api.specs.Scripts.{EndsAs}
 use Rattle.iso_engine.specs.declared.engine.Engine.{Engine}
 use Rattle.iso_engine.specs.Views.{view_of}
 use Rattle.iso_engine.specs.Standing.{state_now}
 
 -- The state for which the engine stands has ended so.
 abbrev pub HasEndedAs : Names → Engine → How Tree → Type 0
-HasEndedAs m e how = (t : Told) (written : List Output) → (ending : Ending) × ((state_now (view_of m t) e written).doing ≡ ended ending) × EndsAs how ending
+HasEndedAs m e how = (t : Told) (written : List Output) → (ending : Ending) × ((state_now (view_of m t) e written).doing ≡ ended ending) × EndsSo ending how
 
 -- Want of atoms is no end of a search.
 abbrev pub IsEndOfSearch : How Tree → Type 0

@@ -3,6 +3,7 @@ use Rattle.std.specs.Prelude.{◌≡◌, ℕ, List, [], Bool, true, false, Optio
 use Rattle.pl_term.specs.Tree.{Chars, Tree}
 use Rattle.pl_model.specs.Resolution.{Ending, Output, State}
 use Rattle.run_model.specs.Execution.{Script, Job, Consulted, Execution, over}
+use Rattle.run_model.specs.Lawful.{EndsSo}
 use Rattle.run_model.specs.Report.{all_consulted, output_of, with_output}
 use Rattle.atom_words.specs.declared.view.Refusal.{Refusal}
 use Rattle.atom_api.specs.Names.{Names}
@@ -13,7 +14,7 @@ use Rattle.world_api.specs.Texts.{text_of}
 use Rattle.world_api.specs.Told.{Told}
 use Rattle.script_api.specs.Parts.{Part, of_goal, with_search}
 use Rattle.script_api.specs.Comes.{ComesBy}
-use Rattle.script_api.specs.Scripts.{EndsAs, LeavesOff, StandsBefore, is_directive, some_fault, written_at}
+use Rattle.script_api.specs.Scripts.{LeavesOff, StandsBefore, is_directive, some_fault, written_at}
 use Rattle.iso_search.specs.declared.search.Budgets.{Budgets}
 use Rattle.plain_run.specs.declared.items.Item.{Item}
 use Rattle.plain_run.specs.declared.items.Item.TheVariants.{Goal, Over}
@@ -108,7 +109,7 @@ module _ {S : Type 0} (execution : (ℕ → Chars) → S → Job → List Consul
   abbrev pub GoalStandsAs : (S → Option Part) → Names → Told → S → Job → List Consulted → Ran → Execution → Type 0
   GoalStandsAs part n u s job ds (Ended how) y =
       (ending : Ending) × (os : List Output)
-      × EndsAs how ending
+      × EndsSo ending how
       × (y ≡ record (execution (text_of n) s job ds) { activity = over ending; output = os })
   GoalStandsAs part n u s job ds (Waits on) y = IsSearchedIn part n s job ds y × WaitsOn u job (on_by (text_of n) on) y
   GoalStandsAs part n u s job ds (NeedsAtoms p) y = Unit {0}

@@ -8,6 +8,7 @@ use Rattle.pl_model.specs.declared.ends.How.{How}
 use Rattle.pl_model.specs.declared.threads.On.{On}
 use Rattle.run_model.specs.Execution.{Job, Execution, move}
 use Rattle.run_model.specs.Ends.{awaited_by}
+use Rattle.run_model.specs.Lawful.{EndsSo}
 use Rattle.run_model.specs.Progress.{WaitsNow}
 use Rattle.atom_api.specs.Names.{Names}
 use Rattle.term_store.specs.NumberedNames.{term_by}
@@ -17,7 +18,6 @@ use Rattle.world_api.specs.Texts.{text_of}
 use Rattle.world_api.specs.Told.{Told}
 use Rattle.script_api.specs.Parts.{Part, limits_of, seen_in, with_search}
 use Rattle.script_api.specs.Comes.{ComesBy}
-use Rattle.script_api.specs.Scripts.{EndsAs}
 use Rattle.iso_search.specs.declared.search.Budgets.{Budgets}
 use Rattle.iso_engine.specs.declared.engine.Engine.{Engine}
 use Rattle.iso_engine.specs.Missing.{IsUnbuiltDoing}
@@ -60,7 +60,7 @@ IsNameHeld n r = Unit {0}
 -- How a search stands where it does not go on.
 module _ (budgets : Budgets) (wanted : ℕ) (n : Names) (u : Told) (s : State) where
   abbrev pub StandsSo : Ran → Type 0
-  StandsSo (Ended how) = (ending : Ending) × (s.doing ≡ ended ending) × EndsAs how ending
+  StandsSo (Ended how) = (ending : Ending) × (s.doing ≡ ended ending) × EndsSo ending how
   StandsSo (Waits on) =
       All (λ a. IsSome (n a)) (on_names on)
       × ((job : Job) (part : Part) (x : Execution) → HasBudgets budgets job.limits → (limits_of job part).solutions ≡ wanted

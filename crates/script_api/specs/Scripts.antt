@@ -3,14 +3,14 @@ use Rattle.std.specs.Prelude.{◌≡◌, ℕ, ◌+◌, List, [], ◌∷◌, ◌+
 use Rattle.pl_term.specs.Tree.{Chars, Tree}
 use Rattle.pl_model.specs.History.{History}
 use Rattle.pl_model.specs.Requests.{Request}
-use Rattle.pl_model.specs.Resolution.{Ending, solved, no_more, threw, exited, halted, ended, Output, State}
+use Rattle.pl_model.specs.Resolution.{Ending, solved, halted, ended, Output, State}
 use Rattle.pl_model.specs.Control.{start}
 use Rattle.run_model.specs.Execution.{Script, Word, goal_word, faulty_word, Job, Consulted, wrote, Activity, directing, over, Execution, texts_of}
+use Rattle.run_model.specs.Lawful.{EndsSo}
 use Rattle.run_model.specs.Report.{all_consulted}
 use Rattle.atom_words.specs.declared.view.Refusal.{Refusal}
 use Rattle.atom_words.specs.declared.view.Refusal.TheVariants.{Full as RefusalFull, Again as RefusalAgain, Worn as RefusalWorn}
 use Rattle.pl_model.specs.declared.ends.How.{How}
-use Rattle.pl_model.specs.declared.ends.How.TheVariants.{Solved, False, Threw, Exited, Halted}
 use Rattle.script_api.specs.declared.script.Next.{Next}
 use Rattle.script_api.specs.declared.script.Next.TheVariants.{Item, Done, NeedsAtoms, Retry, Worn, Memory}
 use Rattle.world_api.specs.Told.{Told}
@@ -34,15 +34,6 @@ is_done _ = false
 abbrev pub next_names : {T : Type 0} → (T → List ℕ) → Next T → List ℕ
 next_names names (Item t d) = names t
 next_names names _ = []
-
--- How a search ended, by its state's end. Want of atoms is no end of a search.
-abbrev pub EndsAs : How Tree → Ending → Type 0
-EndsAs Solved solved = Unit {0}
-EndsAs False no_more = Unit {0}
-EndsAs (Threw t) (threw b) = t ≡ b
-EndsAs (Exited t) (exited u) = t ≡ u
-EndsAs (Halted n) (halted k) = n ≡ k
-EndsAs _ _ = ⊥
 
 -- An item at hand has ended, or there is none.
 abbrev pub IsAsked : {A B : Type 0} → Option A → Option B → Type 0
@@ -135,7 +126,7 @@ module _ {S T : Type 0} (execution : (ℕ → Chars) → S → Job → List Cons
   abbrev pub StandsBefore : (ℕ → Chars) → S → Job → Option Part → Option (How Tree) → Option State → List Consulted → Execution → Type 0
   StandsBefore text s job None None searched cs x = x ≡ execution text s job cs
   StandsBefore text s job (Some p) (Some how) (Some r) cs x =
-      (ending : Ending) × (r.doing ≡ ended ending) × EndsAs how ending × (x ≡ with_search (execution text s job cs) p r)
+      (ending : Ending) × (r.doing ≡ ended ending) × EndsSo ending how × (x ≡ with_search (execution text s job cs) p r)
   StandsBefore text s job _ _ _ cs x = ⊥
 
   -- The execution as the next item is given, or as there is none, or as it stays at hand.

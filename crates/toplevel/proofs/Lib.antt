@@ -2,5 +2,5 @@ pub mod CommandLemmas
 pub mod SectionLaws
 pub mod RunLemmas
 pub mod OutcomeFacts
-pub mod PlayLaws
+pub mod ScriptRunLaws
 pub mod StoodLaws

@@ -27,10 +27,10 @@ use Rattle.run_model.specs.CommandLine.{program_of}
 use Rattle.toplevel.specs.declared.command.Command.{Command}
 use Rattle.toplevel.specs.Commands.{told_command, words_in}
 use Rattle.toplevel.specs.declared.outcome.Outcome.{Outcome}
-use Rattle.toplevel.specs.declared.play.Stop.{Stop}
-use Rattle.toplevel.specs.declared.play.Stop.TheVariants.{Ended, Missing, Waits}
+use Rattle.toplevel.specs.declared.script_run.Stop.{Stop}
+use Rattle.toplevel.specs.declared.script_run.Stop.TheVariants.{Ended, Missing, Waits}
 use Rattle.toplevel.specs.Outcomes.{AreRead, Awaits, HasStopped, IsLine, Stood, history_of, line_at, start_of}
-use Rattle.toplevel.specs.FirstRun.{HasLimits, HasMissed, HasPlayed, IsPlayed}
+use Rattle.toplevel.specs.FirstRun.{HasLimits, HasMissed, HasRunScript, IsScriptRun}
 use Rattle.toplevel.specs.Unbuilt.{IsStuck, indicated}
 
 -- Faults.
@@ -132,12 +132,12 @@ alone_there p o y moves c same plain =
 pub stood_ended : (p : Program) (name : Chars) (o : Outcome) (how : How Tree) (stop : Stop) (s : FileScript) (kept : FileScript → Bool) (u : Told) (moves : ℕ) (text output : List ℕ)
     → stop ≡ Ended how
     → Keeps p o (Some how) s kept u moves text output
-    → IsPlayed (main_job p) name (at_start (main_job p)) (start_of p) 0 stop s kept u moves text output
+    → IsScriptRun (main_job p) name (at_start (main_job p)) (start_of p) 0 stop s kept u moves text output
     → Stood p name o
 stood_ended p name o how stop s kept u moves bytes output is k played =
     let job : Job = main_job p in
-    let h : HasPlayed job name (at_start job) (start_of p) 0 (Ended how) s kept u moves bytes output =
-    subst (λ (z : Stop). IsPlayed job name (at_start job) (start_of p) 0 z s kept u moves bytes output) is played in
+    let h : HasRunScript job name (at_start job) (start_of p) 0 (Ended how) s kept u moves bytes output =
+    subst (λ (z : Stop). IsScriptRun job name (at_start job) (start_of p) 0 z s kept u moves bytes output) is played in
     let told = told_of_it p o (Some how) s kept u moves bytes output (at_start job) h.execution k h.comes in
     let comes : ComesBy job (at_start job) (start_of p) 0 h.execution (told_in p o) moves =
     subst (λ (v : Told). ComesBy job (at_start job) (start_of p) 0 h.execution v moves) told h.comes in
@@ -182,12 +182,12 @@ pub stood_waiting : (p : Program) (name : Chars) (o : Outcome) (on : On) (stop :
     → Keeps p o None s kept u moves more output
     → o.awaits ≡ Some on
     → IsLine (part_in s) name text more
-    → IsPlayed (main_job p) name (at_start (main_job p)) (start_of p) 0 stop s kept u moves text output
+    → IsScriptRun (main_job p) name (at_start (main_job p)) (start_of p) 0 stop s kept u moves text output
     → Stood p name o
 stood_waiting p name o on stop s kept u moves bytes more output is k awaited line played =
     let job : Job = main_job p in
-    let h : HasPlayed job name (at_start job) (start_of p) 0 (Waits on) s kept u moves bytes output =
-    subst (λ (z : Stop). IsPlayed job name (at_start job) (start_of p) 0 z s kept u moves bytes output) is played in
+    let h : HasRunScript job name (at_start job) (start_of p) 0 (Waits on) s kept u moves bytes output =
+    subst (λ (z : Stop). IsScriptRun job name (at_start job) (start_of p) 0 z s kept u moves bytes output) is played in
     let told = told_of_it p o None s kept u moves more output (at_start job) h.execution k h.comes in
     let comes : ComesBy job (at_start job) (start_of p) 0 h.execution (told_in p o) moves =
     subst (λ (v : Told). ComesBy job (at_start job) (start_of p) 0 h.execution v moves) told h.comes in
@@ -265,8 +265,8 @@ pub first_played : (c : Command) (all : List ℕ) (s r : FileScript) (bytes : Li
     → Plays s job.script
     → x ≡ execution_of s job cs
     → IsText s.consult.name s.faulty x opening
-    → IsPlayed job s.consult.name x t 0 stop r (λ (z : FileScript). z.faulty) u moves lines output)
-    → IsPlayed
+    → IsScriptRun job s.consult.name x t 0 stop r (λ (z : FileScript). z.faulty) u moves lines output)
+    → IsScriptRun
     (main_job (program_of (told_command c) all))
     c.file
     (at_start (main_job (program_of (told_command c) all)))
@@ -288,10 +288,10 @@ first_played c all s r bytes goal t u moves stop opening lines output read same 
     let b = begins job script in
     let written : written_at (at_start job) ≡ (at_start job).consulted = start_written p.bytes p.words in
     subst
-    (λ (z : Told). IsPlayed job c.file (at_start job) z 0 stop r (λ (q : FileScript). q.faulty) u moves lines output)
+    (λ (z : Told). IsScriptRun job c.file (at_start job) z 0 stop r (λ (q : FileScript). q.faulty) u moves lines output)
     told
     (subst
-    (λ (z : Chars). IsPlayed job z (at_start job) t 0 stop r (λ (q : FileScript). q.faulty) u moves lines output)
+    (λ (z : Chars). IsScriptRun job z (at_start job) t 0 stop r (λ (q : FileScript). q.faulty) u moves lines output)
     name-is
     (plays
     job
@@ -310,12 +310,12 @@ first_played c all s r bytes goal t u moves stop opening lines output read same 
 pub stuck_at : (p : Program) (name called : Chars) (arity : ℕ) (stop : Stop) (s : FileScript) (kept : FileScript → Bool) (u : Told) (moves : ℕ) (lines output : List ℕ)
     → stop ≡ Missing called arity
     → AllPlain 1 u.history
-    → IsPlayed (main_job p) name (at_start (main_job p)) (start_of p) 0 stop s kept u moves lines output
+    → IsScriptRun (main_job p) name (at_start (main_job p)) (start_of p) 0 stop s kept u moves lines output
     → IsStuck p (indicated called arity)
 stuck_at p name called arity stop s kept u moves lines output is plain played =
     let job : Job = main_job p in
     let h : HasMissed (indicated called arity) job (at_start job) (start_of p) 0 u moves =
-    subst (λ (z : Stop). IsPlayed job name (at_start job) (start_of p) 0 z s kept u moves lines output) is played in
+    subst (λ (z : Stop). IsScriptRun job name (at_start job) (start_of p) 0 z s kept u moves lines output) is played in
     let told : u ≡ record { engine = 1; goals = length p.words; history = u.history; gens = u.gens } =
     told_is u 1 (length p.words) u.history u.gens h.comes.comes.engine h.comes.comes.goals refl refl in
     let comes : ComesBy job (at_start job) (start_of p) 0 h.execution (record { engine = 1; goals = length p.words; history = u.history; gens = u.gens }) moves =

@@ -23,8 +23,8 @@ use Rattle.plain_run.specs.Ran.{Ran, WaitsOn}
 use Rattle.plain_run.specs.declared.ran.Ran.TheVariants as ran
 use Rattle.toplevel.specs.declared.command.Limits.{Limits}
 use Rattle.toplevel.specs.Unbuilt.{IsAtUnbuilt, indicated}
-use Rattle.toplevel.specs.declared.play.Stop.{Stop}
-use Rattle.toplevel.specs.declared.play.Stop.TheVariants.{Ended, Waits, Missing}
+use Rattle.toplevel.specs.declared.script_run.Stop.{Stop}
+use Rattle.toplevel.specs.declared.script_run.Stop.TheVariants.{Ended, Waits, Missing}
 
 -- The search of the item at hand has come to this state.
 pub record IsAtSearch (s : FileScript) (job : Job) (lines : List Consulted) (y : Execution) : Type 0 where
@@ -46,7 +46,7 @@ StandsSo s job lines u (Missing name arity) y = IsAtUnbuilt (indicated name arit
 
 -- The execution has come to this stop in as many moves as were counted, with what is written of the file and what the goal
 -- has given.
-pub record HasPlayed (job : Job) (name : Chars) (x : Execution) (t : Told) (before : ℕ) (stop : Stop) (s : FileScript) (kept : FileScript → Bool) (u : Told) (after : ℕ) (text output : List ℕ) : Type 0 where
+pub record HasRunScript (job : Job) (name : Chars) (x : Execution) (t : Told) (before : ℕ) (stop : Stop) (s : FileScript) (kept : FileScript → Bool) (u : Told) (after : ℕ) (text output : List ℕ) : Type 0 where
   pub execution : Execution
   pub lines : List Consulted
   pub names : List (Chars × ℕ)
@@ -62,9 +62,9 @@ pub record HasMissed (q : Proc) (job : Job) (x : Execution) (t : Told) (before :
   pub comes : ComesBy job x t before execution u after
   pub at : IsAtUnbuilt q execution
 
-abbrev pub IsPlayed : Job → Chars → Execution → Told → ℕ → Stop → FileScript → (FileScript → Bool) → Told → ℕ → List ℕ → List ℕ → Type 0
-IsPlayed job name x t before (Missing n a) s kept u after text output = HasMissed (indicated n a) job x t before u after
-IsPlayed job name x t before stop s kept u after text output = HasPlayed job name x t before stop s kept u after text output
+abbrev pub IsScriptRun : Job → Chars → Execution → Told → ℕ → Stop → FileScript → (FileScript → Bool) → Told → ℕ → List ℕ → List ℕ → Type 0
+IsScriptRun job name x t before (Missing n a) s kept u after text output = HasMissed (indicated n a) job x t before u after
+IsScriptRun job name x t before stop s kept u after text output = HasRunScript job name x t before stop s kept u after text output
 
 -- The limits of the job are these.
 pub record HasLimits (job : Job) (l : Limits) : Type 0 where

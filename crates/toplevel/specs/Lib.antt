@@ -3,5 +3,5 @@ pub mod FirstRun
 pub mod Headline
 pub mod Outcomes
 pub mod Parts
-pub mod Settled
+pub mod RunOutcomes
 pub mod Unbuilt

@@ -18,8 +18,8 @@ use Rattle.run_model.specs.Ends.{awaited_by, some_fault}
 use Rattle.toplevel.specs.declared.outcome.Front.{Front}
 use Rattle.toplevel.specs.declared.outcome.Outcome.{Outcome}
 use Rattle.toplevel.specs.Unbuilt.{IsStuck, indicated}
-use Rattle.toplevel.specs.declared.first_run.Course.{Course}
-use Rattle.toplevel.specs.declared.first_run.Course.TheVariants.{Stood as Come, Unbuilt}
+use Rattle.toplevel.specs.declared.first_run.RunOutcome.{RunOutcome}
+use Rattle.toplevel.specs.declared.first_run.RunOutcome.TheVariants.{Stood as Come, Unbuilt}
 use Rattle.toplevel.specs.declared.outcome.Word.{Word}
 use Rattle.toplevel.specs.declared.outcome.Word.TheVariants.{Goal, Fault}
 
@@ -79,7 +79,7 @@ pub record Stood (p : Program) (name : Chars) (o : Outcome) : Type 0 where
   pub faulty : o.faulty ≡ some_fault execution.consulted
 
 -- What the run of a program on a file of this name has come to.
-abbrev pub HasCome : Program → Chars → Course Outcome → Type 0
+abbrev pub HasCome : Program → Chars → RunOutcome Outcome → Type 0
 HasCome p name (Come o) = Stood p name o
 HasCome p name (Unbuilt n a) = IsStuck p (indicated n a)
 

@@ -13,12 +13,12 @@ ghost use Rattle.pl_consult.specs.GoalWords.{words_of};
 ghost use Rattle.script_api.specs.Scripts.{AreNames};
 ghost use Rattle.plain_world.specs.Entries.{told_of};
 ghost use Rattle.toplevel.specs.Outcomes.{AreRead, HasCome, IsLine, history_of, start_of};
-ghost use Rattle.toplevel.specs.FirstRun.{IsPlayed};
+ghost use Rattle.toplevel.specs.FirstRun.{IsScriptRun};
 
 use crate::command::Command;
 use crate::gated::Gated;
 use crate::outcome::{Front, Outcome, Word};
-use crate::play::{Stop, play};
+use crate::script_run::{Stop, run_script};
 use atom_api::PlainAtoms;
 use pl_consult::{FileScript, GoalWord};
 use pl_io::Gate;
@@ -33,7 +33,7 @@ use term_store::Stored;
 
 /// What comes of a run: this, where the first engine has come to its end, or waits.
 #[derive(Drop)]
-pub enum Course<T> {
+pub enum RunOutcome<T> {
     /// It has.
     Stood(T),
     /// Its next step is of a predicate of the system that is not built yet.
@@ -46,7 +46,7 @@ pub(crate) fn first_run<G: Gate>(
     command: &Command,
     bytes: Vec<u8>,
     gate: &G,
-) -> Result<Course<Outcome>, Memory>
+) -> Result<RunOutcome<Outcome>, Memory>
     ensures { (all : List ℕ) → bytes.items ≡ take (suc most_bytes) all
         → IfOk result (HasCome (program_of (told_command command.now) all) command.now.file) }
 {
@@ -60,7 +60,7 @@ pub(crate) fn first_run<G: Gate>(
     let mut atoms = PlainAtoms::new(alloc)?;
     let mut output = Vec::new(alloc);
     let mut moves = 0;
-    let stop = play(
+    let stop = run_script(
         alloc,
         &command.limits,
         &mut script,
@@ -113,24 +113,24 @@ fn close(
     text: Vec<u8>,
     output: Vec<u8>,
     moves: u64,
-) -> Result<Course<Outcome>, Memory>
-    ensures { (p : Program) → IsPlayed (main_job p) name.now (at_start (main_job p)) (start_of p) 0 stop script.now
+) -> Result<RunOutcome<Outcome>, Memory>
+    ensures { (p : Program) → IsScriptRun (main_job p) name.now (at_start (main_job p)) (start_of p) 0 stop script.now
         ⟦<FileScript as Script>⟧.kept (told_of world.journal) moves text.items output.items
         → IfOk result (HasCome p name.now) }
 {
     match stop {
         Stop::Ended(how) => {
             let outcome = outcome(Some(how), None, script, world, text, output, moves)?;
-            Ok(Course::Stood(outcome))
+            Ok(RunOutcome::Stood(outcome))
         }
         Stop::Waits(on) => {
             let text = with_waiting(script, name, text)?;
             let outcome = outcome(None, Some(on), script, world, text, output, moves)?;
-            Ok(Course::Stood(outcome))
+            Ok(RunOutcome::Stood(outcome))
         }
         Stop::Missing { name, arity } => {
             let _updates = world.entries();
-            Ok(Course::Unbuilt { name, arity })
+            Ok(RunOutcome::Unbuilt { name, arity })
         }
     }
 }

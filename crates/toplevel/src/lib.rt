@@ -9,9 +9,9 @@ mod hows;
 mod lines;
 mod names;
 mod outcome;
-mod play;
 mod ready;
 pub mod run;
+mod script_run;
 mod sections;
 
 pub use outcome::Front;

@@ -7,11 +7,11 @@ ghost use Rattle.run_model.specs.CommandLine.{Command as CommandOf, command, unr
 ghost use Rattle.run_model.specs.Ends.{status_of};
 ghost use Rattle.toplevel.specs.Commands.{told_command};
 ghost use Rattle.toplevel.specs.Headline.{AreRead, GaveUp, HasRun, IsReady, IsUnbuilt, IsUnread, IsWrittenUnless, Missed, Promised, Ran, RanUnwritten, TellsNothing};
-ghost use Rattle.toplevel.specs.Settled.{IsSettled};
+ghost use Rattle.toplevel.specs.RunOutcomes.{IsRunOutcome};
 ghost use Rattle.toplevel.specs.Unbuilt.{indicated};
 
 use crate::command::{Command, read_command};
-use crate::first_run::{Course, first_run};
+use crate::first_run::{RunOutcome, first_run};
 use crate::lines::{unbuilt_text, unread_text};
 use crate::outcome::Front;
 use crate::ready::{Ready, make_ready};
@@ -58,22 +58,22 @@ fn bare_report(alloc: Global, end: End) -> Report
 
 /// Runs the command on a file with these bytes, and makes the text that is to be written. The only error is out of
 /// memory.
-fn settle<G: Gate>(
+fn run_file<G: Gate>(
     alloc: Global,
     command: &Command,
     bytes: Bytes,
     gate: &G,
-) -> Result<Course<Ready>, Memory>
+) -> Result<RunOutcome<Ready>, Memory>
     ensures { (all : List ℕ) → bytes ≡ take (suc most_bytes) all
-        → IfOk result (IsSettled (told_command command.now) all) }
+        → IfOk result (IsRunOutcome (told_command command.now) all) }
 {
     let course = first_run(alloc, command, bytes.into_vec(), gate)?;
     match course {
-        Course::Stood(outcome) => {
+        RunOutcome::Stood(outcome) => {
             let ready = make_ready(alloc, command, outcome)?;
-            Ok(Course::Stood(ready))
+            Ok(RunOutcome::Stood(ready))
         }
-        Course::Unbuilt { name, arity } => Ok(Course::Unbuilt { name, arity }),
+        RunOutcome::Unbuilt { name, arity } => Ok(RunOutcome::Unbuilt { name, arity }),
     }
 }
 
@@ -85,20 +85,20 @@ fn prepare<F: Files, G: Gate>(
     command: &Command,
     files: &mut F,
     gate: &G,
-) -> Result<Course<Ready>, ReadAllError>
+) -> Result<RunOutcome<Ready>, ReadAllError>
     ensures failed { IfErr result (λ e. e ≡ ReadAllError.Failed
         → Rose (F.faults files.old command.now.file) (F.faults files.new command.now.file)) }
     ensures absent { IsTrue (F.absent files.old command.now.file) → IsErr result }
-    ensures settled { IfOk result (λ settled. (bytes : List ℕ) × (AreRead (F.told files.old command.now.file) bytes
-        × IsSettled (told_command command.now) bytes settled)) }
+    ensures run_outcome { IfOk result (λ run_outcome. (bytes : List ℕ) × (AreRead (F.told files.old command.now.file) bytes
+        × IsRunOutcome (told_command command.now) bytes run_outcome)) }
 {
     let bytes = read_all(alloc, files, &command.file, MOST_BYTES)?;
-    let settled = settle(alloc, command, bytes, gate)?;
-    Ok(settled)
+    let run_outcome = run_file(alloc, command, bytes, gate)?;
+    Ok(run_outcome)
 }
 
 /// Writes the text of a run.
-fn deliver<S: Sink>(ready: Ready, out: &mut S) -> Report
+fn write_transcript<S: Sink>(ready: Ready, out: &mut S) -> Report
     ensures status { result.status ≡ status_of result.end }
     ensures promised { (c : CommandOf) (file : Option (List ℕ)) (bytes : List ℕ)
         → AreRead file bytes → IsReady c bytes ready
@@ -121,7 +121,7 @@ fn deliver<S: Sink>(ready: Ready, out: &mut S) -> Report
 }
 
 /// Writes the line for words that are no command.
-fn refuse<S: Sink>(alloc: Global, out: &mut S) -> Report
+fn write_usage<S: Sink>(alloc: Global, out: &mut S) -> Report
     ensures end { result.end ≡ End.Usage }
     ensures status { result.status ≡ status_of End.Usage }
     ensures nothing { TellsNothing result }
@@ -133,7 +133,7 @@ fn refuse<S: Sink>(alloc: Global, out: &mut S) -> Report
 }
 
 /// Writes the line for a file that cannot be read.
-fn give_up<S: Sink>(alloc: Global, file: &Text, out: &mut S) -> Report
+fn write_unread<S: Sink>(alloc: Global, file: &Text, out: &mut S) -> Report
     ensures end { IsUnread result.end }
     ensures status { result.status ≡ status_of result.end }
     ensures given_up { GaveUp (Rose (S.faults out.old) (S.faults out.new)) file.now (S.written out.old) (S.written out.new)
@@ -149,7 +149,7 @@ fn give_up<S: Sink>(alloc: Global, file: &Text, out: &mut S) -> Report
 }
 
 /// Writes the line for a predicate that is not built yet.
-fn miss<S: Sink>(alloc: Global, name: &Text, arity: u64, out: &mut S) -> Report
+fn write_unbuilt<S: Sink>(alloc: Global, name: &Text, arity: u64, out: &mut S) -> Report
     ensures status { result.status ≡ status_of result.end }
     ensures missed { Missed (indicated name.now arity) (Rose (S.faults out.old) (S.faults out.new)) (S.written out.old) (S.written out.new)
         result result.end }
@@ -164,15 +164,15 @@ fn miss<S: Sink>(alloc: Global, name: &Text, arity: u64, out: &mut S) -> Report
 }
 
 /// Writes what is to be written of a run.
-fn finish<S: Sink>(alloc: Global, settled: Course<Ready>, out: &mut S) -> Report
+fn finish<S: Sink>(alloc: Global, run_outcome: RunOutcome<Ready>, out: &mut S) -> Report
     ensures status { result.status ≡ status_of result.end }
     ensures promised { (c : CommandOf) (file : Option (List ℕ)) (bytes : List ℕ)
-        → AreRead file bytes → IsSettled c bytes settled
+        → AreRead file bytes → IsRunOutcome c bytes run_outcome
         → Promised ⊥ (Rose (S.faults out.old) (S.faults out.new)) c file (S.written out.old) (S.written out.new) result result.end }
 {
-    match settled {
-        Course::Stood(ready) => deliver(ready, out),
-        Course::Unbuilt { name, arity } => miss(alloc, &name, arity, out),
+    match run_outcome {
+        RunOutcome::Stood(ready) => write_transcript(ready, out),
+        RunOutcome::Unbuilt { name, arity } => write_unbuilt(alloc, &name, arity, out),
     }
 }
 
@@ -191,8 +191,8 @@ fn run_command<F: Files, S: Sink, G: Gate>(
     ensures absent { IsTrue (F.absent files.old command.now.file) → IsUnread result.end }
 {
     match prepare(alloc, command, files, gate) {
-        Ok(settled) => finish(alloc, settled, out),
-        Err(ReadAllError::Failed) => give_up(alloc, &command.file, out),
+        Ok(run_outcome) => finish(alloc, run_outcome, out),
+        Err(ReadAllError::Failed) => write_unread(alloc, &command.file, out),
         Err(ReadAllError::Memory) => bare_report(alloc, End::Memory),
     }
 }
@@ -239,7 +239,7 @@ pub fn run<R: Threads + Wait + Sync, F: Files, S: Sink, G: Gate + Sync>(
 {
     let _ = rt;
     match read_command(alloc, words) {
-        Ok(None) => refuse(alloc, out),
+        Ok(None) => write_usage(alloc, out),
         Ok(Some(command)) => run_command(alloc, &command, files, out, gate),
         Err(_) => bare_report(alloc, End::Memory),
     }

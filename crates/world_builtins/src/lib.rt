@@ -5,8 +5,6 @@ mod characters;
 mod output;
 mod styles;
 mod terms;
-#[cfg(test)]
-mod tests;
 mod written;
 
 pub use characters::{Character, put_char};

@@ -14,12 +14,12 @@ returns g c all e =
     c.args.command.now
     all
     c.in_ok-script.script
-    c.play.new.script
+    c.run_script.new.script
     c.args.bytes.items
     c.in_ok-goal.goal
     (told_of c.in_ok-new.field-0.journal)
-    (told_of c.play.new.world.world.journal)
-    c.play.new.moves
+    (told_of c.run_script.new.world.world.journal)
+    c.run_script.new.moves
     c.in_ok-stop.stop
     _
     _

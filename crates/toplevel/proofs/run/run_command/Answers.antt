@@ -11,10 +11,10 @@ returns-in-Err-Failed-clause-promised g c =
     _
     _
     _
-    c.give_up.result
-    c.give_up.result.end
+    c.write_unread.result
+    c.write_unread.result.end
     (c.in-Err-Failed.ensures.failed c.in-Err-Failed.field-0-is)
-    c.give_up.ensures.given_up
+    c.write_unread.ensures.given_up
 
 pub returns-in-Ok-clause-promised : goal.returns-in-Ok-clause-promised
 returns-in-Ok-clause-promised g c =
@@ -30,6 +30,6 @@ returns-in-Ok-clause-promised g c =
     (c.finish.ensures.promised
     (told_command c.args.command.now)
     _
-    c.in-Ok.ensures.settled.0
-    c.in-Ok.ensures.settled.1.0
-    c.in-Ok.ensures.settled.1.1)
+    c.in-Ok.ensures.run_outcome.0
+    c.in-Ok.ensures.run_outcome.1.0
+    c.in-Ok.ensures.run_outcome.1.1)
