@@ -168,7 +168,7 @@ fn deal_all(
 {
     let mut seats = Vec::new(alloc);
     for i in 0..engines {
-        let seat = words.deal(first, (engines - i) as u64);
+        let seat = words.split_engine_seat(first, (engines - i) as u64);
         seats.insert(0, seat)?;
     }
     Ok(seats)

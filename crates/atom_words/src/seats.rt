@@ -83,7 +83,7 @@ impl Words {
 
     /// The seat of the engine with that number is cut off, which is how many had no seat yet. The seat that it is cut off
     /// from holds no slot.
-    pub fn deal(&self, seat: &mut AtomSeat, engine: u64) -> AtomSeat
+    pub fn split_engine_seat(&self, seat: &mut AtomSeat, engine: u64) -> AtomSeat
         requires fits { Fits self.now seat.old }
         requires engine { ((seen seat.old).undealt ≡ engine) × (0 < engine) }
         requires none { (seen seat.old).held ≡ [] }

@@ -76,8 +76,8 @@ fn take_all(words: &Words)
 #[test]
 fn a_slot_is_reserved_once(rt: HostRuntime) -> Result<(), Fail> {
     let (words, mut first) = Words::new(rt.alloc(), SMALL)?;
-    let mut one = words.deal(&mut first, 2);
-    let mut two = words.deal(&mut first, 1);
+    let mut one = words.split_engine_seat(&mut first, 2);
+    let mut two = words.split_engine_seat(&mut first, 1);
     assert!(rt; words.reserve(&mut two, 255) == Err(1));
     assert!(rt; !is_taken(&words, &mut two, 300));
     assert!(rt; words.protect(&mut two, 300) == Err(0));
@@ -111,7 +111,7 @@ fn a_pass_counts_all_slots(rt: HostRuntime) -> Result<(), Fail> {
     let (words, mut first) = Words::new(rt.alloc(), SMALL)?;
     let keeper = words.part_keeper(&mut first);
     let collector = words.part_collector(&mut first);
-    let mut one = words.deal(&mut first, 2);
+    let mut one = words.split_engine_seat(&mut first, 2);
     words.with_keeper(&mut one, keeper);
     let keeper = words.part_keeper(&mut one);
     words.start_pass(&mut one);

@@ -113,8 +113,8 @@ fn short(alloc: Global, s: &str) -> Result<Text, Memory>
 #[test]
 fn a_linked_slot_is_pending_until_it_is_valid(rt: HostRuntime) -> Result<(), Fail> {
     let (words, mut first) = Words::new(rt.alloc(), SMALL)?;
-    let mut two = words.deal(&mut first, 2);
-    let mut one = words.deal(&mut first, 1);
+    let mut two = words.split_engine_seat(&mut first, 2);
+    let mut one = words.split_engine_seat(&mut first, 1);
     let text = short(rt.alloc(), "a")?;
     let ready = make_ready(&words, &mut two, 300, &text);
     assert!(rt; ready);
@@ -162,8 +162,8 @@ fn holds(words: &Words, seat: &mut AtomSeat, text: &Text) -> Option<Atom>
 #[test]
 fn a_link_behind_another_finds_the_head_moved(rt: HostRuntime) -> Result<(), Fail> {
     let (words, mut first) = Words::new(rt.alloc(), SMALL)?;
-    let mut two = words.deal(&mut first, 2);
-    let mut one = words.deal(&mut first, 1);
+    let mut two = words.split_engine_seat(&mut first, 2);
+    let mut one = words.split_engine_seat(&mut first, 1);
     let text = short(rt.alloc(), "a")?;
     let ready = make_ready(&words, &mut two, 300, &text);
     assert!(rt; ready);

@@ -55,7 +55,7 @@ module _ {C : Type 0} (need : C → ℕ) (h new : Held C) (d : ℕ → Database 
   view_stored First g m q x = view_first a.place g (proc_of p) q c x.clauses m
   view_stored Last g m q x = view_last a.place g (proc_of p) q c x.clauses m
 
-  stands_then : StandsFor need (with_added a p c (need c) h) (then_at a.place change d)
+  pub stands_then : StandsFor need (with_added a p c (need c) h) (then_at a.place change d)
   stands_then =
       updated need h d s a.place l change (with_clause a p c h.parts) (h.used + need c) h.flags h.operators
       (stands_added need h (d h.next) s.newest a p c l)

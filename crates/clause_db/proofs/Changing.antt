@@ -9,7 +9,7 @@ use Rattle.pl_model.specs.History as entries
 use Rattle.pl_model.specs.Predicates.{same_proc}
 use Rattle.pl_model.specs.laws.Shown.{proc_of}
 use Rattle.clause_db.specs.declared.db.Home.{Home}
-use Rattle.clause_db.specs.declared.parts.Part.{Part}
+use Rattle.clause_db.specs.declared.parts.ProcedureClauses.{ProcedureClauses}
 use Rattle.clause_db.specs.Located.{IsAt}
 use Rattle.clause_db.specs.Parts.{Piece, piece, is_part_of, changed_in}
 use Rattle.clause_db.specs.Sound.{Homed, names}
@@ -94,7 +94,7 @@ module _ {C : Type 0} (f : Piece C → Piece C) (named : (x : Piece C) → (f x)
       go false ih = (h.0, ih)
 
   module _ {K : Type 0} (p : entries.Proc) where
-    changed_at : (before : List (Part C K)) (x z : Part C K) (after : List (Part C K)) → find (test p) before ≡ None → test p x ≡ true → piece z ≡ f (piece x)
+    changed_at : (before : List (ProcedureClauses C K)) (x z : ProcedureClauses C K) (after : List (ProcedureClauses C K)) → find (test p) before ≡ None → test p x ≡ true → piece z ≡ f (piece x)
         → map piece (before ++ z ∷ after) ≡ changed_in f p (map piece (before ++ x ∷ after))
     changed_at [] x z after miss hit is =
         ap (λ w. w ∷ map piece after) is
@@ -112,14 +112,14 @@ module _ {C : Type 0} (f : Piece C → Piece C) (named : (x : Piece C) → (f x)
             ap (λ l. piece y ∷ l) (ih m)
             ∙ sym (ap (λ b. cond b (f (piece y) ∷ rest) (piece y ∷ changed_in f p rest)) e)
 
-    pub changed_found : (xs : List (Part C K)) (i : ℕ) (z : Part C K) (at : IsAt (test p) xs i) → piece z ≡ f (piece at.item)
+    pub changed_found : (xs : List (ProcedureClauses C K)) (i : ℕ) (z : ProcedureClauses C K) (at : IsAt (test p) xs i) → piece z ≡ f (piece at.item)
         → map piece (slice_set xs i z) ≡ changed_in f p (map piece xs)
     changed_found xs i z at is =
         ap (map piece) (located_set (test p) xs i z at)
         ∙ changed_at at.before at.item z at.after at.missed at.hits is
         ∙ sym (ap (λ l. changed_in f p (map piece l)) at.whole)
 
-    pub changed_missed : (xs : List (Part C K)) → find (test p) xs ≡ None → map piece xs ≡ changed_in f p (map piece xs)
+    pub changed_missed : (xs : List (ProcedureClauses C K)) → find (test p) xs ≡ None → map piece xs ≡ changed_in f p (map piece xs)
     changed_missed [] e = refl
     changed_missed (y ∷ xs) e = go (test p y) refl e (changed_missed xs)
       where

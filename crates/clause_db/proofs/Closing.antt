@@ -19,7 +19,7 @@ use Rattle.gen_core.specs.Visible.{is_live, erased_all, live_size}
 use Rattle.clause_db.specs.declared.access.Access.{Access}
 use Rattle.clause_db.specs.declared.access.Life.{Life}
 use Rattle.clause_db.specs.declared.db.Home.{Home}
-use Rattle.clause_db.specs.declared.parts.Part.{Part}
+use Rattle.clause_db.specs.declared.parts.ProcedureClauses.{ProcedureClauses}
 use Rattle.clause_db.specs.Located.{IsAt}
 use Rattle.clause_db.specs.Access.{access_of, is_alive, life_at}
 use Rattle.clause_db.specs.Parts.{Held, Piece, piece, is_part_of, clauses_at, access_when, piece_access, access_now, changed_in}
@@ -290,8 +290,8 @@ module _ {C : Type 0} where
           go d m false = m
 
   -- The procedures as a list of parts.
-  module _ {K : Type 0} (p : entries.Proc) (xs : List (Part C K)) where
-    pub same_found : (i : ℕ) (z : Part C K) (at : IsAt (test p) xs i) → piece z ≡ piece at.item → map piece (slice_set xs i z) ≡ map piece xs
+  module _ {K : Type 0} (p : entries.Proc) (xs : List (ProcedureClauses C K)) where
+    pub same_found : (i : ℕ) (z : ProcedureClauses C K) (at : IsAt (test p) xs i) → piece z ≡ piece at.item → map piece (slice_set xs i z) ≡ map piece xs
     same_found i z at is =
         ap (map piece) (located_set (test p) xs i z at)
         ∙ map-append piece at.before (z ∷ at.after)

@@ -17,7 +17,7 @@ use Rattle.pl_model.specs.laws.Shown.{proc_of}
 use Rattle.pl_model.specs.Database.{Database, Stored, is_of, is_at, is_erased, is_there, cells_of, erased_where, without_clause}
 use Rattle.gen_core.specs.declared.dated_clause.DatedClause.{DatedClause}
 use Rattle.gen_core.specs.Visible.{is_live, erased_by}
-use Rattle.clause_db.specs.declared.parts.Part.{Part}
+use Rattle.clause_db.specs.declared.parts.ProcedureClauses.{ProcedureClauses}
 use Rattle.clause_db.specs.declared.db.Home.{Home}
 use Rattle.clause_db.specs.Access.{access_of}
 use Rattle.clause_db.specs.Parts.{Held, Piece, piece, is_part_of, clauses_at, piece_access, access_now, access_at, without_place, without_at, has_live}
@@ -55,22 +55,22 @@ if_both (Err e) P O Q f h k = tt
 
 -- The procedures as a list of parts.
 module _ {C K : Type 0} (j k : ℕ) where
-  pub set_without : (xs : List (Part C K)) (i : ℕ) (d z : Part C K) → i < length xs → piece z ≡ without_place j k (piece (slice_index_or xs i d)) → map piece (slice_set xs i z) ≡ without_at i j k (map piece xs)
+  pub set_without : (xs : List (ProcedureClauses C K)) (i : ℕ) (d z : ProcedureClauses C K) → i < length xs → piece z ≡ without_place j k (piece (slice_index_or xs i d)) → map piece (slice_set xs i z) ≡ without_at i j k (map piece xs)
   set_without [] i d z l e = absurd (omega (arith, l))
   set_without (x ∷ xs) zero d z l e = ap (λ y. y ∷ map piece xs) e
   set_without (x ∷ xs) (suc i) d z l e = ap (λ l. piece x ∷ l) (set_without xs i d z (omega (arith, l)) e)
 
-  pub past_without : (xs : List (Part C K)) (i : ℕ) → length xs ≤ i → without_at i j k (map piece xs) ≡ map piece xs
+  pub past_without : (xs : List (ProcedureClauses C K)) (i : ℕ) → length xs ≤ i → without_at i j k (map piece xs) ≡ map piece xs
   past_without [] i l = refl
   past_without (x ∷ xs) zero l = absurd (omega (arith, l))
   past_without (x ∷ xs) (suc i) l = ap (λ l. piece x ∷ l) (past_without xs i (omega (arith, l)))
 
-  pub get_piece : (xs : List (Part C K)) (i : ℕ) (d : Part C K) → i < length xs → slice_get (map piece xs) i ≡ Some (piece (slice_index_or xs i d))
+  pub get_piece : (xs : List (ProcedureClauses C K)) (i : ℕ) (d : ProcedureClauses C K) → i < length xs → slice_get (map piece xs) i ≡ Some (piece (slice_index_or xs i d))
   get_piece [] i d l = absurd (omega (arith, l))
   get_piece (x ∷ xs) zero d l = refl
   get_piece (x ∷ xs) (suc i) d l = get_piece xs i d (omega (arith, l))
 
-  pub get_past : (xs : List (Part C K)) (i : ℕ) → length xs ≤ i → ◌≡◌ {A = Option (Piece C)} (slice_get (map piece xs) i) None
+  pub get_past : (xs : List (ProcedureClauses C K)) (i : ℕ) → length xs ≤ i → ◌≡◌ {A = Option (Piece C)} (slice_get (map piece xs) i) None
   get_past [] i l = refl
   get_past (x ∷ xs) zero l = absurd (omega (arith, l))
   get_past (x ∷ xs) (suc i) l = get_past xs i (omega (arith, l))

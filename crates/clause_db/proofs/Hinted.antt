@@ -5,7 +5,7 @@ use Rattle.std.proofs.lemmas.Bool.{false≢true}
 use Rattle.pl_model.specs.History.{Proc}
 use Rattle.pl_model.specs.Predicates.{same_proc}
 use Rattle.pl_model.specs.laws.Shown.{proc_of}
-use Rattle.clause_db.specs.declared.parts.Part.{Part}
+use Rattle.clause_db.specs.declared.parts.ProcedureClauses.{ProcedureClauses}
 use Rattle.clause_db.specs.Located.{IsAt, stands_at}
 use Rattle.clause_db.specs.Parts.{piece, is_part_of}
 use Rattle.clause_db.specs.Sound.{Apart, names}
@@ -24,10 +24,10 @@ not_third y x p e h = go (same_proc y p) refl
     go true q = absurd (false≢true (sym e ∙ ap (same_proc y) (is_same x p h) ∙ q))
 
 module _ {C K : Type 0} (p : Proc) where
-  abbrev test : Part C K → Bool
+  abbrev test : ProcedureClauses C K → Bool
   test x = is_part_of p (piece x)
 
-  other : (y : Proc) (xs : List (Part C K)) (i : ℕ) → list_any (same_proc y) (names (map piece xs)) ≡ false
+  other : (y : Proc) (xs : List (ProcedureClauses C K)) (i : ℕ) → list_any (same_proc y) (names (map piece xs)) ≡ false
       → stands_at test xs i ≡ true → same_proc y p ≡ false
   other y [] i none hit = absurd (false≢true hit)
   other y (x ∷ xs) zero none hit =
@@ -35,10 +35,10 @@ module _ {C K : Type 0} (p : Proc) where
   other y (x ∷ xs) (suc i) none hit =
       other y xs i (neither (same_proc y (proc_of x.name)) (list_any (same_proc y) (names (map piece xs))) none).1 hit
 
-  missed_more : (y : Part C K) (before : List (Part C K)) → test y ≡ false → find test before ≡ None → find test (y ∷ before) ≡ None
+  missed_more : (y : ProcedureClauses C K) (before : List (ProcedureClauses C K)) → test y ≡ false → find test before ≡ None → find test (y ∷ before) ≡ None
   missed_more y before e m = ap (λ b. cond b (Some y) (find test before)) e ∙ m
 
-  pub member_found : (xs : List (Part C K)) (i : ℕ) → Apart (names (map piece xs)) → stands_at test xs i ≡ true → IsAt test xs i
+  pub member_found : (xs : List (ProcedureClauses C K)) (i : ℕ) → Apart (names (map piece xs)) → stands_at test xs i ≡ true → IsAt test xs i
   member_found [] i apart at = absurd (false≢true at)
   member_found (y ∷ xs) zero apart at = record {
     before = [];

@@ -13,7 +13,7 @@ use Rattle.pl_model.specs.laws.Shown.{proc_of}
 use Rattle.pl_model.specs.declared.shows.Proc.{Proc}
 use Rattle.gen_core.specs.declared.dated_clause.DatedClause.{DatedClause}
 use Rattle.gen_core.specs.Visible.{fresh}
-use Rattle.clause_db.specs.declared.parts.Part.{Part}
+use Rattle.clause_db.specs.declared.parts.ProcedureClauses.{ProcedureClauses}
 use Rattle.clause_db.specs.declared.parts.End.{End}
 use Rattle.clause_db.specs.declared.parts.End.TheVariants.{First, Last}
 use Rattle.clause_db.specs.declared.parts.Addition.{Addition}
@@ -52,7 +52,7 @@ index_of p [] = 0
 index_of p (x ∷ xs) = cond (is_part_of (proc_of p) x) 0 (suc (index_of p xs))
 
 module _ {C K : Type 0} (p : Proc) where
-  index_at : (before : List (Part C K)) (x : Part C K) (after : List (Part C K)) → find (test (proc_of p)) before ≡ None → test (proc_of p) x ≡ true → index_of p (map piece (before ++ x ∷ after)) ≡ length before
+  index_at : (before : List (ProcedureClauses C K)) (x : ProcedureClauses C K) (after : List (ProcedureClauses C K)) → find (test (proc_of p)) before ≡ None → test (proc_of p) x ≡ true → index_of p (map piece (before ++ x ∷ after)) ≡ length before
   index_at [] x after miss hit = ap (λ b. cond b 0 (suc (index_of p (map piece after)))) hit
   index_at (y ∷ before) x after miss hit = go (test (proc_of p) y) refl miss (λ m. index_at before x after m hit)
     where
@@ -62,7 +62,7 @@ module _ {C K : Type 0} (p : Proc) where
       go true e m ih = absurd (cc)
       go false e m ih = ap (λ b. cond b 0 (suc (index_of p (map piece (before ++ x ∷ after))))) e ∙ ap suc (ih m)
 
-  index_none : (xs : List (Part C K)) → find (test (proc_of p)) xs ≡ None → index_of p (map piece xs) ≡ length xs
+  index_none : (xs : List (ProcedureClauses C K)) → find (test (proc_of p)) xs ≡ None → index_of p (map piece xs) ≡ length xs
   index_none [] e = refl
   index_none (y ∷ xs) e = go (test (proc_of p) y) refl e (index_none xs)
     where
@@ -72,7 +72,7 @@ module _ {C K : Type 0} (p : Proc) where
       go true u m ih = absurd (cc)
       go false u m ih = ap (λ b. cond b 0 (suc (index_of p (map piece xs)))) u ∙ ap suc (ih m)
 
-  pub index_is : (xs : List (Part C K)) (r : Option ℕ) → Locates (test (proc_of p)) xs r → index_of p (map piece xs) ≡ unwrap_or r (length xs)
+  pub index_is : (xs : List (ProcedureClauses C K)) (r : Option ℕ) → Locates (test (proc_of p)) xs r → index_of p (map piece xs) ≡ unwrap_or r (length xs)
   index_is xs None e = index_none xs e
   index_is xs (Some i) at = ap (λ l. index_of p (map piece l)) at.whole ∙ index_at at.before at.item at.after at.missed at.hits ∙ at.index
 

@@ -12,7 +12,7 @@ use borrow.Author.Tests.{eqb-true}
 use Rattle.pl_model.specs.History.{Proc}
 use Rattle.pl_model.specs.laws.Shown.{proc_of}
 use Rattle.clause_db.specs.declared.index.Index.{Index}
-use Rattle.clause_db.specs.declared.parts.Part.{Part}
+use Rattle.clause_db.specs.declared.parts.ProcedureClauses.{ProcedureClauses}
 use Rattle.clause_db.specs.declared.index.Places.{Places}
 use Rattle.clause_db.specs.Index.{hash_of, is_in, is_listed, stands_under, Indexed}
 use Rattle.clause_db.specs.Located.{Locates, stands_at}
@@ -148,7 +148,7 @@ listed_in ix h k o at e q = ap (λ n. is_listed ix n q) (sym e) ∙ ap (λ o. op
 
 module _ {C K : Type 0} (p : Proc) where
   -- No procedure of the predicate is there, where none stands at a place under its hash.
-  none_found : (xs : List (Part C K)) → ((q : ℕ) → stands_under (hash_of p) q (names (map piece xs)) ≡ true → stands_at (test p) xs q ≡ false) → find (test p) xs ≡ None
+  none_found : (xs : List (ProcedureClauses C K)) → ((q : ℕ) → stands_under (hash_of p) q (names (map piece xs)) ≡ true → stands_at (test p) xs q ≡ false) → find (test p) xs ≡ None
   none_found [] none = refl
   none_found (x ∷ xs) none = go (test p x) refl (none zero) (none_found xs (λ q l. none (suc q) l))
     where
@@ -156,7 +156,7 @@ module _ {C K : Type 0} (p : Proc) where
       go true e here ih = absurd (false≢true (sym (here (eq-eqb (hash_of p) (hash_of (proc_of x.name)) (ap hash_of (sym (is_same (proc_of x.name) p e))))) ∙ e))
       go false e here ih = ih
 
-  pub found_under : (ix : Index) (xs : List (Part C K)) (r : Option ℕ) (h : ℕ) (s : Places) → Apart (names (map piece xs)) → Indexed ix (names (map piece xs))
+  pub found_under : (ix : Index) (xs : List (ProcedureClauses C K)) (r : Option ℕ) (h : ℕ) (s : Places) → Apart (names (map piece xs)) → Indexed ix (names (map piece xs))
       → Some s ≡ table.get nat_eq ix.by_hash h → h ≡ hash_of p
       → IfSome r (λ i. stands_at (test p) xs i ≡ true)
       → IfNone r ((q : ℕ) → is_in s q ≡ true → stands_at (test p) xs q ≡ false)
@@ -165,7 +165,7 @@ module _ {C K : Type 0} (p : Proc) where
       none_found xs (λ q l. none q (sym (listed_in ix h (hash_of p) (Some s) at e q) ∙ all.exactly (hash_of p) q ∙ l))
   found_under ix xs (Some i) h s apart all at e some none = member_found p xs i apart some
 
-  pub found_nowhere : (ix : Index) (xs : List (Part C K)) (h : ℕ) → Indexed ix (names (map piece xs)) → None ≡ table.get nat_eq ix.by_hash h → h ≡ hash_of p → find (test p) xs ≡ None
+  pub found_nowhere : (ix : Index) (xs : List (ProcedureClauses C K)) (h : ℕ) → Indexed ix (names (map piece xs)) → None ≡ table.get nat_eq ix.by_hash h → h ≡ hash_of p → find (test p) xs ≡ None
   found_nowhere ix xs h all at e = none_found xs (λ q l. absurd (false≢true (sym (listed_in ix h (hash_of p) None at e q) ∙ all.exactly (hash_of p) q ∙ l)))
 
 left_out : (b o s : Bool) → (b ≡ true → s ≡ false) → o ≡ s → (not b && (b || o)) ≡ s
@@ -173,31 +173,31 @@ left_out true o s none e = sym (none refl)
 left_out false o s none e = e
 
 module _ {C K : Type 0} where
-  names_push : (xs : List (Part C K)) (x : Part C K) → names (map piece (xs ++ x ∷ [])) ≡ names (map piece xs) ++ proc_of x.name ∷ []
+  names_push : (xs : List (ProcedureClauses C K)) (x : ProcedureClauses C K) → names (map piece (xs ++ x ∷ [])) ≡ names (map piece xs) ++ proc_of x.name ∷ []
   names_push [] x = refl
   names_push (y ∷ xs) x = ap (λ l. proc_of y.name ∷ l) (names_push xs x)
 
-  names_length : (xs : List (Part C K)) → length (names (map piece xs)) ≡ length xs
+  names_length : (xs : List (ProcedureClauses C K)) → length (names (map piece xs)) ≡ length xs
   names_length [] = refl
   names_length (y ∷ xs) = ap suc (names_length xs)
 
   -- A procedure is changed in its place.
-  pub names_set : (xs : List (Part C K)) (i : ℕ) (z d : Part C K) → i < length xs → z.name ≡ (slice_index_or xs i d).name → names (map piece (slice_set xs i z)) ≡ names (map piece xs)
+  pub names_set : (xs : List (ProcedureClauses C K)) (i : ℕ) (z d : ProcedureClauses C K) → i < length xs → z.name ≡ (slice_index_or xs i d).name → names (map piece (slice_set xs i z)) ≡ names (map piece xs)
   names_set [] i z d lt e = absurd (omega (arith, lt))
   names_set (y ∷ xs) zero z d lt e = ap (λ n. proc_of n ∷ names (map piece xs)) e
   names_set (y ∷ xs) (suc i) z d lt e = ap (λ l. proc_of y.name ∷ l) (names_set xs i z d (omega (arith, lt)) e)
 
-  pub parts_stay : (old new : Index) (xs : List (Part C K)) → ((k q : ℕ) → is_listed new k q ≡ is_listed old k q) → Indexed old (names (map piece xs)) → Indexed new (names (map piece xs))
+  pub parts_stay : (old new : Index) (xs : List (ProcedureClauses C K)) → ((k q : ℕ) → is_listed new k q ≡ is_listed old k q) → Indexed old (names (map piece xs)) → Indexed new (names (map piece xs))
   parts_stay old new xs same all = record { exactly = λ k q. same k q ∙ all.exactly k q }
 
-  parts_under : (k q : ℕ) (xs : List (Part C K)) (x : Part C K) (h : ℕ) → hash_of (proc_of x.name) ≡ h
+  parts_under : (k q : ℕ) (xs : List (ProcedureClauses C K)) (x : ProcedureClauses C K) (h : ℕ) → hash_of (proc_of x.name) ≡ h
       → stands_under k q (names (map piece (xs ++ x ∷ []))) ≡ (((k == h) && (q == length xs)) || stands_under k q (names (map piece xs)))
   parts_under k q xs x h is =
       ap (stands_under k q) (names_push xs x)
       ∙ under_push k q (names (map piece xs)) (proc_of x.name)
       ∙ ap₂ (λ g n. ((k == g) && (q == n)) || stands_under k q (names (map piece xs))) is (names_length xs)
 
-  none_at_end : (k h q : ℕ) (xs : List (Part C K)) → ((k == h) && (q == length xs)) ≡ true → stands_under k q (names (map piece xs)) ≡ false
+  none_at_end : (k h q : ℕ) (xs : List (ProcedureClauses C K)) → ((k == h) && (q == length xs)) ≡ true → stands_under k q (names (map piece xs)) ≡ false
   none_at_end k h q xs = go (k == h) (q == length xs) refl
     where
       go : (a d : Bool) → (q == length xs) ≡ d → (a && d) ≡ true → stands_under k q (names (map piece xs)) ≡ false
@@ -206,7 +206,7 @@ module _ {C K : Type 0} where
       go false d u e = absurd (false≢true e)
 
   -- One more procedure is listed.
-  pub parts_push : (old new : Index) (xs : List (Part C K)) (x : Part C K) (h : ℕ) → hash_of (proc_of x.name) ≡ h
+  pub parts_push : (old new : Index) (xs : List (ProcedureClauses C K)) (x : ProcedureClauses C K) (h : ℕ) → hash_of (proc_of x.name) ≡ h
       → ((k q : ℕ) → is_listed new k q ≡ (((k == h) && (q == length xs)) || is_listed old k q))
       → Indexed old (names (map piece xs)) → Indexed new (names (map piece (xs ++ x ∷ [])))
   parts_push old new xs x h is grown all = record {
@@ -214,7 +214,7 @@ module _ {C K : Type 0} where
   }
 
   -- The place after the last one is listed, and taken back.
-  pub parts_back : (old more new : Index) (xs : List (Part C K)) (h : ℕ)
+  pub parts_back : (old more new : Index) (xs : List (ProcedureClauses C K)) (h : ℕ)
       → ((k q : ℕ) → is_listed more k q ≡ (((k == h) && (q == length xs)) || is_listed old k q))
       → ((k q : ℕ) → is_listed new k q ≡ (not ((k == h) && (q == length xs)) && is_listed more k q))
       → Indexed old (names (map piece xs)) → Indexed new (names (map piece xs))
@@ -226,7 +226,7 @@ module _ {C K : Type 0} where
   }
 
   -- The last procedure is listed no longer.
-  pub parts_pop : (old new : Index) (xs : List (Part C K)) (x : Part C K) (h : ℕ) → h ≡ hash_of (proc_of x.name)
+  pub parts_pop : (old new : Index) (xs : List (ProcedureClauses C K)) (x : ProcedureClauses C K) (h : ℕ) → h ≡ hash_of (proc_of x.name)
       → ((k q : ℕ) → is_listed new k q ≡ (not ((k == h) && (q == length xs)) && is_listed old k q))
       → Indexed old (names (map piece (xs ++ x ∷ []))) → Indexed new (names (map piece xs))
   parts_pop old new xs x h is back all = record {
@@ -237,13 +237,13 @@ module _ {C K : Type 0} where
   }
 
   -- The first procedures without the last one, which is none of them.
-  pub take_last : (n : ℕ) (xs : List (Part C K)) (x : Part C K) → n ≤ length xs → take n (map piece (xs ++ x ∷ [])) ≡ take n (map piece xs)
+  pub take_last : (n : ℕ) (xs : List (ProcedureClauses C K)) (x : ProcedureClauses C K) → n ≤ length xs → take n (map piece (xs ++ x ∷ [])) ≡ take n (map piece xs)
   take_last zero [] x l = refl
   take_last (suc n) [] x l = absurd (omega (arith, l))
   take_last zero (y ∷ xs) x l = refl
   take_last (suc n) (y ∷ xs) x l = ap (λ r. piece y ∷ r) (take_last n xs x (omega (arith, l)))
 
-  pub take_whole : (n : ℕ) (xs : List (Part C K)) → length xs ≤ n → take n (map piece xs) ≡ map piece xs
+  pub take_whole : (n : ℕ) (xs : List (ProcedureClauses C K)) → length xs ≤ n → take n (map piece xs) ≡ map piece xs
   take_whole zero [] l = refl
   take_whole (suc n) [] l = refl
   take_whole zero (y ∷ xs) l = absurd (omega (arith, l))

@@ -23,3 +23,5 @@ mod InOrder
 mod Hinted
 mod Indexing
 mod Housing
+mod Reading
+pub mod Says

@@ -18,7 +18,7 @@ use Rattle.clause_db.specs.declared.access.Access.TheVariants.{Dynamic}
 use Rattle.clause_db.specs.declared.db.Home.{Home}
 use Rattle.clause_db.specs.declared.fault.DbFault.{DbFault}
 use Rattle.clause_db.specs.declared.fault.DbFault.TheVariants.{Static as StaticFault}
-use Rattle.clause_db.specs.declared.parts.Part.{Part}
+use Rattle.clause_db.specs.declared.parts.ProcedureClauses.{ProcedureClauses}
 use Rattle.clause_db.specs.Located.{IsAt}
 use Rattle.clause_db.specs.Faults.{change_fault, is_static_access}
 use Rattle.clause_db.specs.Access.{access_of}
@@ -311,7 +311,7 @@ module _ {C : Type 0} where
       go None = take-append-le n xs (blank p ∷ []) within ∙ h
       go (Some x) = h
 
-  module _ {K : Type 0} (p : Proc) (xs : List (Part C K)) where
+  module _ {K : Type 0} (p : Proc) (xs : List (ProcedureClauses C K)) where
     pub blank_found : (i : ℕ) → IsAt (test (proc_of p)) xs i → map piece xs ≡ with_blank p (map piece xs)
     blank_found i at = sym (ap (λ o. option_map_or (λ x. map piece xs) o (map piece xs ++ blank p ∷ [])) (piece_found (proc_of p) xs i at))
 

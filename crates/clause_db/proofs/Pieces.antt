@@ -7,7 +7,7 @@ use Rattle.pl_model.specs.History as entries
 use Rattle.pl_model.specs.Predicates.{same_proc}
 use Rattle.pl_model.specs.laws.Shown.{proc_of}
 use Rattle.pl_model.specs.declared.shows.Proc.{Proc}
-use Rattle.clause_db.specs.declared.parts.Part.{Part}
+use Rattle.clause_db.specs.declared.parts.ProcedureClauses.{ProcedureClauses}
 use Rattle.clause_db.specs.declared.parts.Addition.{Addition}
 use Rattle.clause_db.specs.Located.{IsAt}
 use Rattle.clause_db.specs.Parts.{Piece, piece, blank, is_part_of, clauses_at, piece_access, access_at, added_to, with_clause}
@@ -26,36 +26,36 @@ module _ {C : Type 0} where
       ∙ find_amend (λ (x : Piece C). proc_of x.name) (proc_of p) (added_to a c) (added_to a c (blank p)) (λ x. refl) refl q xs
 
   module _ {K : Type 0} (p : entries.Proc) where
-    abbrev pub test : Part C K → Bool
+    abbrev pub test : ProcedureClauses C K → Bool
     test x = is_part_of p (piece x)
 
-    pub piece_found : (xs : List (Part C K)) (i : ℕ) (at : IsAt test xs i) → find (is_part_of p) (map piece xs) ≡ Some (piece at.item)
+    pub piece_found : (xs : List (ProcedureClauses C K)) (i : ℕ) (at : IsAt test xs i) → find (is_part_of p) (map piece xs) ≡ Some (piece at.item)
     piece_found xs i at = find_map piece (is_part_of p) xs ∙ ap (option_map piece) (find_is test xs i at)
 
-    pub piece_missed : (xs : List (Part C K)) → find test xs ≡ None → find (is_part_of p) (map piece xs) ≡ None
+    pub piece_missed : (xs : List (ProcedureClauses C K)) → find test xs ≡ None → find (is_part_of p) (map piece xs) ≡ None
     piece_missed xs e = find_map piece (is_part_of p) xs ∙ ap (option_map piece) e
 
-    pub clauses_found : (xs : List (Part C K)) (i : ℕ) (at : IsAt test xs i) → clauses_at (map piece xs) p ≡ at.item.clauses
+    pub clauses_found : (xs : List (ProcedureClauses C K)) (i : ℕ) (at : IsAt test xs i) → clauses_at (map piece xs) p ≡ at.item.clauses
     clauses_found xs i at = ap (λ o. option_map_or (λ (x : Piece C). x.clauses) o []) (piece_found xs i at)
 
-    pub clauses_missed : (xs : List (Part C K)) → find test xs ≡ None → clauses_at (map piece xs) p ≡ []
+    pub clauses_missed : (xs : List (ProcedureClauses C K)) → find test xs ≡ None → clauses_at (map piece xs) p ≡ []
     clauses_missed xs e = ap (λ o. option_map_or (λ (x : Piece C). x.clauses) o []) (piece_missed xs e)
 
-    pub access_found : (g : ℕ) (xs : List (Part C K)) (i : ℕ) (at : IsAt test xs i) → access_at g (map piece xs) p ≡ piece_access g (piece at.item)
+    pub access_found : (g : ℕ) (xs : List (ProcedureClauses C K)) (i : ℕ) (at : IsAt test xs i) → access_at g (map piece xs) p ≡ piece_access g (piece at.item)
     access_found g xs i at = ap (λ o. option_and_then (λ (x : Piece C). piece_access g x) o) (piece_found xs i at)
 
-    pub access_missed : (g : ℕ) (xs : List (Part C K)) → find test xs ≡ None → access_at g (map piece xs) p ≡ None
+    pub access_missed : (g : ℕ) (xs : List (ProcedureClauses C K)) → find test xs ≡ None → access_at g (map piece xs) p ≡ None
     access_missed g xs e = ap (λ o. option_and_then (λ (x : Piece C). piece_access g x) o) (piece_missed xs e)
 
-    all_item : (P : Piece C → Type 0) (before : List (Part C K)) (x : Part C K) (after : List (Part C K)) → All P (map piece (before ++ x ∷ after)) → P (piece x)
+    all_item : (P : Piece C → Type 0) (before : List (ProcedureClauses C K)) (x : ProcedureClauses C K) (after : List (ProcedureClauses C K)) → All P (map piece (before ++ x ∷ after)) → P (piece x)
     all_item P [] x after h = All-head P (piece x) (map piece after) h
     all_item P (y ∷ before) x after h = all_item P before x after (All-tail P (piece y) (map piece (before ++ x ∷ after)) h)
 
-    pub all_found : (P : Piece C → Type 0) (xs : List (Part C K)) (i : ℕ) (at : IsAt test xs i) → All P (map piece xs) → P (piece at.item)
+    pub all_found : (P : Piece C → Type 0) (xs : List (ProcedureClauses C K)) (i : ℕ) (at : IsAt test xs i) → All P (map piece xs) → P (piece at.item)
     all_found P xs i at h = all_item P at.before at.item at.after (subst (λ l. All P (map piece l)) at.whole h)
 
   module _ {K : Type 0} (a : Addition) (p : Proc) (c : C) where
-    with_at : (before : List (Part C K)) (x z : Part C K) (after : List (Part C K)) → find (test (proc_of p)) before ≡ None → test (proc_of p) x ≡ true → piece z ≡ added_to a c (piece x)
+    with_at : (before : List (ProcedureClauses C K)) (x z : ProcedureClauses C K) (after : List (ProcedureClauses C K)) → find (test (proc_of p)) before ≡ None → test (proc_of p) x ≡ true → piece z ≡ added_to a c (piece x)
         → map piece (before ++ z ∷ after) ≡ with_clause a p c (map piece (before ++ x ∷ after))
     with_at [] x z after miss hit is =
         ap (λ w. w ∷ map piece after) is
@@ -73,14 +73,14 @@ module _ {C : Type 0} where
             ap (λ l. piece y ∷ l) (ih m)
             ∙ sym (ap (λ b. cond b (added_to a c (piece y) ∷ rest) (piece y ∷ with_clause a p c rest)) e)
 
-    pub with_found : (xs : List (Part C K)) (i : ℕ) (z : Part C K) (at : IsAt (test (proc_of p)) xs i) → piece z ≡ added_to a c (piece at.item)
+    pub with_found : (xs : List (ProcedureClauses C K)) (i : ℕ) (z : ProcedureClauses C K) (at : IsAt (test (proc_of p)) xs i) → piece z ≡ added_to a c (piece at.item)
         → map piece (slice_set xs i z) ≡ with_clause a p c (map piece xs)
     with_found xs i z at is =
         ap (map piece) (located_set (test (proc_of p)) xs i z at)
         ∙ with_at at.before at.item z at.after at.missed at.hits is
         ∙ sym (ap (λ l. with_clause a p c (map piece l)) at.whole)
 
-    pub with_missed : (xs : List (Part C K)) → find (test (proc_of p)) xs ≡ None → map piece xs ++ added_to a c (blank p) ∷ [] ≡ with_clause a p c (map piece xs)
+    pub with_missed : (xs : List (ProcedureClauses C K)) → find (test (proc_of p)) xs ≡ None → map piece xs ++ added_to a c (blank p) ∷ [] ≡ with_clause a p c (map piece xs)
     with_missed [] e = refl
     with_missed (y ∷ xs) e = go (test (proc_of p) y) refl e (with_missed xs)
       where

@@ -17,7 +17,7 @@ use Rattle.clause_db.specs.declared.access.Access.{Access}
 use Rattle.clause_db.specs.declared.access.Life.{Life}
 use Rattle.clause_db.specs.declared.db.Home.{Home}
 use Rattle.clause_db.specs.Access.{access_of, is_alive, life_at}
-use Rattle.clause_db.specs.declared.parts.Part.{Part}
+use Rattle.clause_db.specs.declared.parts.ProcedureClauses.{ProcedureClauses}
 use Rattle.clause_db.specs.Parts.{Held, Piece, piece, is_part_of, clauses_at, access_when, piece_access}
 use Rattle.clause_db.specs.Sound.{Homed, IsSound, Apart, names}
 use Rattle.clause_db.specs.Stands.{dated, is_gone, Keeps, StandsNow, StandsFor, LivedBelow}
@@ -334,7 +334,7 @@ module _ {C : Type 0} where
 
 module _ {C K : Type 0} (floor : ℕ) where
   -- The procedures as a list of parts.
-  pub set_reclaimed : (xs : List (Part C K)) (i : ℕ) (d z : Part C K) → i < length xs → piece z ≡ reclaimed floor (piece (slice_index_or xs i d)) → map piece (slice_set xs i z) ≡ reclaimed_at i floor (map piece xs)
+  pub set_reclaimed : (xs : List (ProcedureClauses C K)) (i : ℕ) (d z : ProcedureClauses C K) → i < length xs → piece z ≡ reclaimed floor (piece (slice_index_or xs i d)) → map piece (slice_set xs i z) ≡ reclaimed_at i floor (map piece xs)
   set_reclaimed [] i d z l e = absurd (omega (arith, l))
   set_reclaimed (x ∷ xs) zero d z l e = ap (λ y. y ∷ map piece xs) e
   set_reclaimed (x ∷ xs) (suc i) d z l e = ap (λ l. piece x ∷ l) (set_reclaimed xs i d z (omega (arith, l)) e)

@@ -51,7 +51,7 @@ module _ {C : Type 0} where
       more true h = refl
       more false h = h
 
-  own_found : (i : ℕ) (xs : List (Piece C)) (x : Piece C) → Apart (names xs) → slice_get xs i ≡ Some x → find (is_part_of (proc_of x.name)) xs ≡ Some x
+  pub own_found : (i : ℕ) (xs : List (Piece C)) (x : Piece C) → Apart (names xs) → slice_get xs i ≡ Some x → find (is_part_of (proc_of x.name)) xs ≡ Some x
   own_found i [] x h at = absurd (cc)
   own_found zero (y ∷ ys) x h at =
       ap (λ b. cond b (Some y) (find (is_part_of (proc_of x.name)) ys)) (ap (λ o. option_map_or (λ (z : Piece C). same_proc (proc_of z.name) (proc_of x.name)) o true) at ∙ same_self (proc_of x.name)) ∙ at

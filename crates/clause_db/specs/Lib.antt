@@ -11,3 +11,4 @@ pub mod Dynamic
 pub mod Abolished
 pub mod Reclaimed
 pub mod Listed
+pub mod Reading

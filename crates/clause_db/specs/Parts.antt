@@ -14,7 +14,7 @@ use Rattle.gen_core.specs.Visible.{fresh, erased_by, is_live}
 use Rattle.clause_db.specs.declared.access.Access.{Access}
 use Rattle.clause_db.specs.declared.access.Access.TheVariants.{Static}
 use Rattle.clause_db.specs.declared.access.Life.{Life}
-use Rattle.clause_db.specs.declared.parts.Part.{Part}
+use Rattle.clause_db.specs.declared.parts.ProcedureClauses.{ProcedureClauses}
 use Rattle.clause_db.specs.declared.parts.End.{End}
 use Rattle.clause_db.specs.declared.parts.End.TheVariants.{First, Last}
 use Rattle.clause_db.specs.declared.parts.Addition.{Addition}
@@ -31,7 +31,7 @@ pub record Piece (C : Type 0) : Type 0 where
   pub lives : List Life
   pub clauses : List (DatedClause C)
 
-abbrev pub piece : {C K : Type 0} → Part C K → Piece C
+abbrev pub piece : {C K : Type 0} → ProcedureClauses C K → Piece C
 piece x = record { name = x.name; access = x.access; since = x.since; lives = x.lives.items; clauses = x.clauses }
 
 -- A predicate of which there has been no procedure.

@@ -9,7 +9,7 @@ ghost use Rattle.clause_db.specs.Sound.{Apart, names};
 
 use crate::access::{Access, Life};
 use crate::index::Index;
-use crate::parts::Part;
+use crate::parts::ProcedureClauses;
 use crate::search::locate;
 use pl_model::kept::Kept;
 use pl_model::shows::Proc;
@@ -31,7 +31,7 @@ fn bury(lives: &mut Vec<Life>, access: Option<Access>, since: u64, place: u64)
 
 /// Takes the procedure away with all its clauses by the update at `place`, and says how many cells they took. The only
 /// error is out of memory; after it all is as it was.
-fn close<C: Kept>(part: &mut Part<C>, place: u64) -> Result<u64, Memory>
+fn close<C: Kept>(part: &mut ProcedureClauses<C>, place: u64) -> Result<u64, Memory>
     ensures cells { IfOk result (λ n. n ≡ min (live_cells C.size part.old.clauses) (2 ^ 64 - 1)) }
     ensures ok { IfOk result (λ n. piece part.new ≡ closed place (piece part.old)) }
     ensures err { OnErr result (piece part.new ≡ piece part.old) }
@@ -47,7 +47,7 @@ fn close<C: Kept>(part: &mut Part<C>, place: u64) -> Result<u64, Memory>
 /// Takes the procedure away, where it is there, and says how many cells its clauses took. The only error is out of memory;
 /// after it all is as it was.
 pub fn close_in<C: Kept>(
-    parts: &mut Vec<Part<C>>,
+    parts: &mut Vec<ProcedureClauses<C>>,
     index: &Index,
     p: &Proc,
     place: u64,

@@ -1,5 +1,5 @@
 //! The clause database.
-ghost use Rattle.std.specs.Prelude.{◌≡◌, ◌∷◌, [], ℕ, ◌<◌, ◌≤◌, ◌+◌, ◌^◌, ◌⊎◌, ◌==◌, Err, Some, None, IfOk, IfSome, IfNone, IfErr, OnOk, OnErr, false, true, not, filter, map, max, length, is_some};
+ghost use Rattle.std.specs.Prelude.{◌≡◌, ◌∷◌, [], ℕ, Bool, ◌<◌, ◌≤◌, ◌+◌, ◌^◌, ◌⊎◌, ◌==◌, Err, Some, None, IfOk, IfSome, IfNone, IfErr, OnOk, OnErr, false, true, not, filter, map, max, length, is_some};
 ghost use Rattle.std.specs.Result.{MatchResult, IsOkAnd};
 ghost use Rattle.std.specs.Option.{MatchOption, option_map, option_map_or};
 ghost use Rattle.std.specs.List.{list_any, slice_get};
@@ -12,19 +12,21 @@ ghost use Rattle.pl_model.specs.History as entries;
 ghost use Rattle.pl_model.specs.Database.{Database, access_of, opening_database, is_at, is_there, seen, choices, with_first, with_last, without_clause, without_procedure, with_dynamic_procedures, current_procedures};
 ghost use Rattle.pl_model.specs.FirstArguments.{are_apart};
 ghost use Rattle.pl_model.specs.Flags.{opening_flags, with_flag};
+ghost use Rattle.pl_model.specs.Service.{clause_cells};
 ghost use Rattle.pl_model.specs.OperatorTable.{opening_table};
 ghost use Rattle.pl_model.specs.SharedState.{with_operators};
 ghost use Rattle.gen_core.specs.Hits.{hit_of};
 ghost use Rattle.gen_core.specs.Visible.{is_droppable, first_choice, is_choice, behind};
 ghost use Rattle.clause_db.specs.Parts.{Held, clauses_at, access_at, held_access, with_added, has_live, erased_held};
 ghost use Rattle.clause_db.specs.Access.{access_of as access_as};
-ghost use Rattle.clause_db.specs.Stands.{StandsFor, dated, then_at, first_named, after};
+ghost use Rattle.clause_db.specs.Stands.{StandsFor, dated, then_at, first_named, after, program_access};
 ghost use Rattle.clause_db.specs.Dynamic.{dynamic_held};
 ghost use Rattle.clause_db.specs.Abolished.{abolished_held};
 ghost use Rattle.clause_db.specs.Reclaimed.{reclaimed_held};
 ghost use Rattle.clause_db.specs.Sound.{Apart, names};
 ghost use Rattle.clause_db.specs.Faults.{call_fault, addition_fault, change_fault, held_call_fault, held_addition_fault, is_held_closed, is_static_access};
 ghost use Rattle.clause_db.specs.Flags.{flags_as, flag_name, value_name};
+ghost use Rattle.clause_db.specs.Reading.{Costs, EachHeld, IsHeld, SaysFor, read_hit};
 ghost use Rattle.clause_db.specs.Operators.{shown, first_fault};
 ghost use Rattle.clause_db.specs.declared.access.By.TheVariants.{Goal, Clause};
 ghost use Rattle.clause_db.specs.declared.fault.DbFault.TheVariants.{Memory as NoMemory};
@@ -38,7 +40,7 @@ use crate::flags::{Flag, FlagValue, Flags, first_flags, flags_with};
 use crate::index::Index;
 use crate::listing::listed;
 use crate::operators::table_with;
-use crate::parts::{Addition, End, Part, access_in, add_to, erase_in};
+use crate::parts::{Addition, End, ProcedureClauses, access_in, add_to, erase_in};
 use crate::reclaim::reclaim_at;
 use crate::search::locate;
 use crate::system::is_system;
@@ -67,7 +69,7 @@ pub struct Home {
 #[derive(Drop)]
 pub struct Db<C: Kept> {
     alloc: Global,
-    parts: Vec<Part<C>>,
+    parts: Vec<ProcedureClauses<C>>,
     index: Index,
     homes: BTreeMap<u64, Home>,
     used: u64,
@@ -126,6 +128,7 @@ impl<C: Kept> Db<C> {
     /// No procedures, with the flags and operators of the start. The only error is out of memory.
     pub fn new(alloc: Global) -> Result<Db<C>, Memory>
         ensures stands { IfOk result (λ h. StandsFor C.size h (λ g. opening_database)) }
+        ensures says { IfOk result (λ h. (f : C → entries.Clause) → SaysFor f h (λ g. opening_database)) }
         ensures start { IfOk result (λ d. (d.next ≡ 0) × (d.floor ≡ 0)) }
         ensures settings { IfOk result (λ d. (d.flags ≡ opening_flags) × (d.operators ≡ opening_table)) }
     {
@@ -180,7 +183,8 @@ impl<C: Kept> Db<C> {
 
     /// The next clause of a call in a procedure, after the clause that was added at `place`.
     fn next_in(&self, part: usize, place: u64, goal: &C::Key, g: u64) -> Option<Hit<'_, C>>
-        ensures { IfSome (slice_get self.now.parts part) (λ x. hit_of result ≡ first_choice (filter (is_choice C.Key.Ord.cmp C.any C.key_of g goal.now) (behind (Some place) x.clauses))) }
+        ensures found { IfSome (slice_get self.now.parts part) (λ x. hit_of result ≡ first_choice (filter (is_choice C.Key.Ord.cmp C.any C.key_of g goal.now) (behind (Some place) x.clauses))) }
+        ensures past { IfNone (slice_get self.now.parts part) (result ≡ None) }
     {
         if part < self.parts.len() {
             return self.parts[part].clauses.next_after(Some(place), g, goal);
@@ -261,6 +265,58 @@ impl<C: Kept> Db<C> {
         }
     }
 
+    /// Where the procedure stands among those that have stood in the database. It stays there. `None` where it has not
+    /// stood there: then it has no clauses, whatever the generation.
+    pub fn index_of(&self, p: &Proc) -> Option<u64>
+        ensures there { IfSome result (λ i. option_map (λ x. proc_of x.name) (slice_get self.now.parts i) ≡ Some (proc_of p.now)) }
+        ensures none { IfNone result ((f : C → entries.Clause) (d : ℕ → Database entries.Clause) (g : ℕ) → SaysFor f self.now d → self.now.floor ≤ g
+            → (program_access (d g) (proc_of p.now) ≡ None) × ((t : entries.Clause → Bool) → choices t g (proc_of p.now) (d g) ≡ [])) }
+    {
+        match locate(self.parts.as_slice(), &self.index, p) {
+            Some(i) => Some(i as u64),
+            None => None,
+        }
+    }
+
+    /// How the procedure at the index may be used at the generation `g`, or `None` where it is not there then.
+    pub fn access_at(&self, i: u64, g: u64) -> Option<Access>
+        requires there { i < length self.now.parts }
+        requires floor { self.now.floor ≤ g }
+        ensures { (f : C → entries.Clause) (d : ℕ → Database entries.Clause) → SaysFor f self.now d
+            → IfSome (slice_get self.now.parts i) (λ x. option_map access_as result ≡ program_access (d g) (proc_of x.name)) }
+    {
+        access_in(&self.parts[i as usize], g)
+    }
+
+    /// The first clause of a call at the generation `g` of the procedure at the index, whose first argument has the key
+    /// `goal`, with its place and whether more follow.
+    pub fn first_at(&self, i: u64, goal: &C::Key, g: u64) -> Option<Hit<'_, C>>
+        requires there { i < length self.now.parts }
+        requires floor { self.now.floor ≤ g }
+        ensures held { IfSome result (λ h. IsHeld h.clause.now self.now) }
+        ensures says { (f : C → entries.Clause) (d : ℕ → Database entries.Clause) (t : entries.Clause → Bool) → SaysFor f self.now d
+            → EachHeld (λ c. are_apart C.Key.Ord.cmp C.any goal.now (C.key_of c) ≡ t (f c)) self.now
+            → IfSome (slice_get self.now.parts i) (λ x. read_hit f (hit_of result) ≡ first_named (choices t g (proc_of x.name) (d g))) }
+    {
+        self.parts[i as usize].clauses.next_after(None, g, goal)
+    }
+
+    /// The next clause of a call at the generation `g`, whose first argument has the key `goal`, after the clause that was
+    /// added at `place`, which `g` sees.
+    pub fn next_at(&self, place: u64, goal: &C::Key, g: u64) -> Option<Hit<'_, C>>
+        requires { self.now.floor ≤ g }
+        ensures held { IfSome result (λ h. IsHeld h.clause.now self.now) }
+        ensures says { (f : C → entries.Clause) (d : ℕ → Database entries.Clause) (t : entries.Clause → Bool) (p : entries.Proc) → Costs C.size f → SaysFor f self.now d
+            → EachHeld (λ c. are_apart C.Key.Ord.cmp C.any goal.now (C.key_of c) ≡ t (f c)) self.now
+            → list_any (is_at place) (seen g p (d g)) ≡ true
+            → read_hit f (hit_of result) ≡ first_named (filter (λ s. not (t s.clause)) (after place (seen g p (d g)))) }
+    {
+        match self.homes.get(&place) {
+            Some(home) => self.next_in(home.part, place, goal, g),
+            None => None,
+        }
+    }
+
     /// Adds a clause as the first one of the procedure, which is made where it is not there (ISO 8.9.1), by the update at
     /// `place`, which is after all updates so far. The errors are `Static`, `CellsFull` and `Memory`; after an error the
     /// database is as it was, and the clause is handed back.
@@ -280,6 +336,12 @@ impl<C: Kept> Db<C> {
             (MatchResult result
             (λ _. StandsFor C.size self.new (then_at place (with_first place (proc_of p.now) clause (origin_of origin)) d))
             (λ e. e ≡ (clause, NoMemory))) }
+        ensures says { (f : C → entries.Clause) (d : ℕ → Database entries.Clause) → C.size clause ≡ clause_cells (f clause) → SaysFor f self.old d
+            → MatchOption (addition_fault clause_cells (d place) (proc_of p.now) origin (f clause))
+            (MatchResult result
+            (λ _. SaysFor f self.new (then_at place (with_first place (proc_of p.now) (f clause) (origin_of origin)) d))
+            (λ e. e ≡ (clause, NoMemory)))
+            (λ x. result ≡ Err (clause, x)) }
         ensures rest { OnOk result ((self.new.next ≡ place + 1) × (self.new.floor ≡ self.old.floor)) }
         ensures settings { OnOk result ((self.new.flags ≡ self.old.flags) × (self.new.operators ≡ self.old.operators)) }
         ensures unchanged { OnErr result (self.new ≡ self.old) }
@@ -311,6 +373,12 @@ impl<C: Kept> Db<C> {
             (MatchResult result
             (λ _. StandsFor C.size self.new (then_at place (with_last place (proc_of p.now) clause (origin_of origin)) d))
             (λ e. e ≡ (clause, NoMemory))) }
+        ensures says { (f : C → entries.Clause) (d : ℕ → Database entries.Clause) → C.size clause ≡ clause_cells (f clause) → SaysFor f self.old d
+            → MatchOption (addition_fault clause_cells (d place) (proc_of p.now) origin (f clause))
+            (MatchResult result
+            (λ _. SaysFor f self.new (then_at place (with_last place (proc_of p.now) (f clause) (origin_of origin)) d))
+            (λ e. e ≡ (clause, NoMemory)))
+            (λ x. result ≡ Err (clause, x)) }
         ensures rest { OnOk result ((self.new.next ≡ place + 1) × (self.new.floor ≡ self.old.floor)) }
         ensures settings { OnOk result ((self.new.flags ≡ self.old.flags) × (self.new.operators ≡ self.old.operators)) }
         ensures unchanged { OnErr result (self.new ≡ self.old) }
@@ -405,6 +473,8 @@ impl<C: Kept> Db<C> {
         ensures was { (d : ℕ → Database C) → StandsFor C.size self.old d → IfOk result (λ b. b ≡ is_there clause (d place)) }
         ensures erased { (d : ℕ → Database C) → StandsFor C.size self.old d
             → IfOk result (λ b. b ≡ true → StandsFor C.size self.new (then_at place (without_clause clause place) d)) }
+        ensures says { (f : C → entries.Clause) (d : ℕ → Database entries.Clause) → Costs C.size f → SaysFor f self.old d
+            → IfOk result (λ b. (b ≡ is_there clause (d place)) × (b ≡ true → SaysFor f self.new (then_at place (without_clause clause place) d))) }
         ensures rest { IfOk result (λ b. b ≡ true → (self.new.next ≡ place + 1) × (self.new.floor ≡ self.old.floor)) }
         ensures settings { IfOk result (λ b. b ≡ true → (self.new.flags ≡ self.old.flags) × (self.new.operators ≡ self.old.operators)) }
         ensures gone { IfOk result (λ b. b ≡ false → self.new ≡ self.old) }
@@ -451,6 +521,12 @@ impl<C: Kept> Db<C> {
             (MatchResult result
             (λ _. StandsFor C.size self.new (then_at place (with_dynamic_procedures (map proc_of ps.now)) d))
             (λ f. f ≡ NoMemory)) }
+        ensures says { (f : C → entries.Clause) (d : ℕ → Database entries.Clause) → SaysFor f self.old d
+            → MatchOption (change_fault (d place) (map proc_of ps.now))
+            (MatchResult result
+            (λ _. SaysFor f self.new (then_at place (with_dynamic_procedures (map proc_of ps.now)) d))
+            (λ x. x ≡ NoMemory))
+            (λ x. result ≡ Err x) }
         ensures rest { OnOk result ((self.new.next ≡ place + 1) × (self.new.floor ≡ self.old.floor)) }
         ensures settings { OnOk result ((self.new.flags ≡ self.old.flags) × (self.new.operators ≡ self.old.operators)) }
         ensures unchanged { OnErr result (self.new ≡ self.old) }
@@ -507,6 +583,12 @@ impl<C: Kept> Db<C> {
             (MatchResult result
             (λ _. StandsFor C.size self.new (then_at place (without_procedure (proc_of p.now) place) d))
             (λ f. f ≡ NoMemory)) }
+        ensures says { (f : C → entries.Clause) (d : ℕ → Database entries.Clause) → Costs C.size f → SaysFor f self.old d
+            → MatchOption (change_fault (d place) (proc_of p.now ∷ []))
+            (MatchResult result
+            (λ _. SaysFor f self.new (then_at place (without_procedure (proc_of p.now) place) d))
+            (λ x. x ≡ NoMemory))
+            (λ x. result ≡ Err x) }
         ensures rest { OnOk result ((self.new.next ≡ place + 1) × (self.new.floor ≡ self.old.floor)) }
         ensures settings { OnOk result ((self.new.flags ≡ self.old.flags) × (self.new.operators ≡ self.old.operators)) }
         ensures unchanged { OnErr result (self.new ≡ self.old) }
@@ -551,6 +633,7 @@ impl<C: Kept> Db<C> {
         requires later { self.old.next ≤ place }
         ensures set { self.new ≡ record self.old { flags = with_flag (flag_name flag) (value_name value) self.old.flags; next = place + 1 } }
         ensures stands { (d : ℕ → Database C) → StandsFor C.size self.old d → StandsFor C.size self.new d }
+        ensures says { (f : C → entries.Clause) (d : ℕ → Database entries.Clause) → SaysFor f self.old d → SaysFor f self.new d }
     {
         self.flags = flags_with(self.flags, flag, value);
         self.next = place + 1;
@@ -580,6 +663,7 @@ impl<C: Kept> Db<C> {
         ensures granted { OnOk result (first_fault operators.now self.old.operators ≡ None) }
         ensures set { OnOk result (self.new ≡ record self.old { operators = with_operators (map shown operators.now) self.old.operators; next = place + 1 }) }
         ensures stands { OnOk result ((d : ℕ → Database C) → StandsFor C.size self.old d → StandsFor C.size self.new d) }
+        ensures says { OnOk result ((f : C → entries.Clause) (d : ℕ → Database entries.Clause) → SaysFor f self.old d → SaysFor f self.new d) }
         ensures err { IfErr result (λ f. (f ≡ NoRoom) ⊎ (first_fault operators.now self.old.operators ≡ Some f)) }
         ensures unchanged { OnErr result (self.new ≡ self.old) }
     {
@@ -604,7 +688,8 @@ impl<C: Kept> Db<C> {
     /// and with the number of clauses.
     pub fn current_procedures(&self, g: u64) -> Result<Vec<Proc>, Memory>
         requires { self.now.floor ≤ g }
-        ensures { (d : ℕ → Database C) → StandsFor C.size self.now d → IfOk result (λ ps. map proc_of ps.items ≡ current_procedures g (d g)) }
+        ensures stands { (d : ℕ → Database C) → StandsFor C.size self.now d → IfOk result (λ ps. map proc_of ps.items ≡ current_procedures g (d g)) }
+        ensures says { (f : C → entries.Clause) (d : ℕ → Database entries.Clause) → SaysFor f self.now d → IfOk result (λ ps. map proc_of ps.items ≡ current_procedures g (d g)) }
     {
         listed(self.alloc, self.parts.as_slice(), g)
     }

@@ -9,7 +9,7 @@ ghost use Rattle.clause_db.specs.Sound.{Apart, names};
 
 use crate::access::Access;
 use crate::index::{Index, hash_of};
-use crate::parts::{Part, make, make_room, no_part};
+use crate::parts::{ProcedureClauses, make, make_room, no_part};
 use crate::search::locate;
 use pl_model::kept::Kept;
 use pl_model::shows::Proc;
@@ -19,7 +19,7 @@ use std::alloc::Global;
 /// Puts the predicate after the others, without clauses. The only error is out of memory; after it all is as it was.
 fn push_blank<C: Kept>(
     alloc: Global,
-    parts: &mut Vec<Part<C>>,
+    parts: &mut Vec<ProcedureClauses<C>>,
     index: &mut Index,
     p: &Proc,
 ) -> Result<(), Memory>
@@ -38,7 +38,7 @@ fn push_blank<C: Kept>(
 /// after it all is as it was.
 fn add_blank<C: Kept>(
     alloc: Global,
-    parts: &mut Vec<Part<C>>,
+    parts: &mut Vec<ProcedureClauses<C>>,
     index: &mut Index,
     p: &Proc,
 ) -> Result<(), Memory>
@@ -55,7 +55,7 @@ fn add_blank<C: Kept>(
 }
 
 /// Takes the procedures off again that stand from the index `stood` on, and lists their places no longer.
-fn take_back<C: Kept>(parts: &mut Vec<Part<C>>, index: &mut Index, stood: usize)
+fn take_back<C: Kept>(parts: &mut Vec<ProcedureClauses<C>>, index: &mut Index, stood: usize)
     requires { Indexed index.old (names (map piece parts.old.items)) }
     ensures left { map piece parts.new.items ≡ take stood (map piece parts.old.items) }
     ensures indexed { Indexed index.new (names (map piece parts.new.items)) }
@@ -71,7 +71,7 @@ fn take_back<C: Kept>(parts: &mut Vec<Part<C>>, index: &mut Index, stood: usize)
 /// is as it was.
 pub fn add_blanks<C: Kept>(
     alloc: Global,
-    parts: &mut Vec<Part<C>>,
+    parts: &mut Vec<ProcedureClauses<C>>,
     index: &mut Index,
     ps: &[Proc],
 ) -> Result<(), Memory>
@@ -93,7 +93,7 @@ pub fn add_blanks<C: Kept>(
 }
 
 /// Makes the procedure dynamic by the update at `place`, where it is not there.
-fn open_in<C: Kept>(parts: &mut Vec<Part<C>>, index: &Index, p: &Proc, place: u64)
+fn open_in<C: Kept>(parts: &mut Vec<ProcedureClauses<C>>, index: &Index, p: &Proc, place: u64)
     requires apart { Apart (names (map piece parts.old.items)) }
     requires indexed { Indexed index.now (names (map piece parts.old.items)) }
     ensures { map piece parts.new.items ≡ changed_in (opened place Dynamic) (proc_of p.now) (map piece parts.old.items) }
@@ -105,7 +105,12 @@ fn open_in<C: Kept>(parts: &mut Vec<Part<C>>, index: &Index, p: &Proc, place: u6
 }
 
 /// Makes the procedures dynamic by the update at `place`, where they are not there. It takes no memory.
-pub fn open_all<C: Kept>(parts: &mut Vec<Part<C>>, index: &Index, ps: &[Proc], place: u64)
+pub fn open_all<C: Kept>(
+    parts: &mut Vec<ProcedureClauses<C>>,
+    index: &Index,
+    ps: &[Proc],
+    place: u64,
+)
     requires apart { Apart (names (map piece parts.old.items)) }
     requires indexed { Indexed index.now (names (map piece parts.old.items)) }
     ensures { map piece parts.new.items ≡ opened_all place ps.now (map piece parts.old.items) }

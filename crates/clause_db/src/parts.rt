@@ -20,7 +20,7 @@ use std::alloc::Global;
 
 /// A procedure with its clauses. They stay after the procedure is abolished, for the calls that still see them.
 #[derive(Drop)]
-pub struct Part<C: Kept> {
+pub struct ProcedureClauses<C: Kept> {
     pub name: Proc,
     /// `None` where there is no such procedure now.
     pub access: Option<Access>,
@@ -61,7 +61,7 @@ fn put<C: Kept>(d: &mut Dated<C>, clause: C, place: u64, end: End) -> Result<(),
 }
 
 /// How the procedure may be used at the generation `g`.
-pub fn access_in<C: Kept>(part: &Part<C>, g: u64) -> Option<Access>
+pub fn access_in<C: Kept>(part: &ProcedureClauses<C>, g: u64) -> Option<Access>
     ensures { result ≡ piece_access g (piece part.now) }
 {
     match part.access {
@@ -77,7 +77,7 @@ pub fn access_in<C: Kept>(part: &Part<C>, g: u64) -> Option<Access>
 }
 
 /// Makes the procedure by the update at `place`, where it is not there.
-pub fn make<C: Kept>(part: &mut Part<C>, access: Access, place: u64)
+pub fn make<C: Kept>(part: &mut ProcedureClauses<C>, access: Access, place: u64)
     ensures { piece part.new ≡ opened place access (piece part.old) }
 {
     if part.access.is_none() {
@@ -87,7 +87,11 @@ pub fn make<C: Kept>(part: &mut Part<C>, access: Access, place: u64)
 }
 
 /// Adds a clause to a procedure, which is made where it is not there.
-fn add_in<C: Kept>(part: &mut Part<C>, clause: C, by: Addition) -> Result<(), (C, Memory)>
+fn add_in<C: Kept>(
+    part: &mut ProcedureClauses<C>,
+    clause: C,
+    by: Addition,
+) -> Result<(), (C, Memory)>
     requires bound { by.place < 2 ^ 49 }
     requires later { All (λ x. x.place < by.place) part.old.clauses }
     ensures ok { OnOk result (piece part.new ≡ added_to by clause (piece part.old)) }
@@ -104,14 +108,14 @@ fn add_in<C: Kept>(part: &mut Part<C>, clause: C, by: Addition) -> Result<(), (C
 }
 
 /// A procedure that is not there, without clauses. The only error is out of memory.
-pub fn no_part<C: Kept>(alloc: Global, p: &Proc) -> Result<Part<C>, Memory>
+pub fn no_part<C: Kept>(alloc: Global, p: &Proc) -> Result<ProcedureClauses<C>, Memory>
     ensures { IfOk result (λ x. piece x ≡ blank p.now) }
 {
     let name = Proc {
         name: p.name.copy(alloc)?,
         arity: p.arity,
     };
-    Ok(Part {
+    Ok(ProcedureClauses {
         name,
         access: None,
         since: 0,
@@ -124,7 +128,7 @@ pub fn no_part<C: Kept>(alloc: Global, p: &Proc) -> Result<Part<C>, Memory>
 /// it was; the only cause is that memory runs out.
 pub fn add_to<C: Kept>(
     alloc: Global,
-    parts: &mut Vec<Part<C>>,
+    parts: &mut Vec<ProcedureClauses<C>>,
     index: &mut Index,
     found: Option<usize>,
     p: &Proc,
@@ -148,7 +152,7 @@ pub fn add_to<C: Kept>(
 /// Makes room for the procedure after the others, and lists its place. The only error is out of memory; after it the index
 /// is as it was.
 pub fn make_room<C: Kept>(
-    parts: &mut Vec<Part<C>>,
+    parts: &mut Vec<ProcedureClauses<C>>,
     index: &mut Index,
     p: &Proc,
 ) -> Result<(), Memory>
@@ -165,7 +169,7 @@ pub fn make_room<C: Kept>(
 /// Adds a clause to a procedure that stands after the others from now on.
 fn add_new<C: Kept>(
     alloc: Global,
-    parts: &mut Vec<Part<C>>,
+    parts: &mut Vec<ProcedureClauses<C>>,
     index: &mut Index,
     p: &Proc,
     clause: C,
@@ -198,7 +202,7 @@ fn add_new<C: Kept>(
 /// Erases a clause in the procedure that stands at the index, and says whether it was there and not erased before. The only
 /// error is out of memory; after it all is as it was.
 pub fn erase_in<C: Kept>(
-    parts: &mut Vec<Part<C>>,
+    parts: &mut Vec<ProcedureClauses<C>>,
     i: usize,
     clause: u64,
     place: u64,

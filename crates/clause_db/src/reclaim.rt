@@ -5,7 +5,7 @@ ghost use Rattle.clause_db.specs.Parts.{piece};
 ghost use Rattle.clause_db.specs.Reclaimed.{is_remembered, reclaimed, reclaimed_at, IsDropped};
 
 use crate::access::Life;
-use crate::parts::Part;
+use crate::parts::ProcedureClauses;
 use gen_core::Drops;
 use pl_model::kept::Kept;
 use pl_term::Memory;
@@ -29,7 +29,7 @@ fn forget(lives: &mut Vec<Life>, floor: u64)
 /// it all is as it was.
 fn reclaim_part<C: Kept, D: Drops>(
     alloc: Global,
-    part: &mut Part<C>,
+    part: &mut ProcedureClauses<C>,
     d: &D,
     floor: u64,
 ) -> Result<Dropped<C>, Memory>
@@ -47,7 +47,7 @@ fn reclaim_part<C: Kept, D: Drops>(
 /// memory; after it all is as it was.
 pub fn reclaim_at<C: Kept, D: Drops>(
     alloc: Global,
-    parts: &mut Vec<Part<C>>,
+    parts: &mut Vec<ProcedureClauses<C>>,
     i: usize,
     d: &D,
     floor: u64,

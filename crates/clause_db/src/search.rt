@@ -9,7 +9,7 @@ ghost use Rattle.clause_db.specs.Located.{Locates, stands_at};
 ghost use Rattle.clause_db.specs.Sound.{Apart, names};
 
 use crate::index::{Index, Places, hash_of};
-use crate::parts::Part;
+use crate::parts::ProcedureClauses;
 use pl_model::kept::Kept;
 use pl_model::shows::Proc;
 use pl_term::Text;
@@ -29,14 +29,14 @@ fn is_same(left: &Proc, right: &Proc) -> bool
 }
 
 /// Whether the procedure stands at the index.
-fn is_at<C: Kept>(parts: &[Part<C>], i: usize, p: &Proc) -> bool
+fn is_at<C: Kept>(parts: &[ProcedureClauses<C>], i: usize, p: &Proc) -> bool
     ensures { result ≡ stands_at (λ x. is_part_of (proc_of p.now) (piece x)) parts.now i }
 {
     i < parts.len() && is_same(&parts[i].name, p)
 }
 
 /// At which of these places the procedure stands.
-fn among<C: Kept>(parts: &[Part<C>], places: &[usize], p: &Proc) -> Option<usize>
+fn among<C: Kept>(parts: &[ProcedureClauses<C>], places: &[usize], p: &Proc) -> Option<usize>
     ensures some { IfSome result (λ i. stands_at (λ x. is_part_of (proc_of p.now) (piece x)) parts.now i ≡ true) }
     ensures none { IfNone result (list_any (stands_at (λ x. is_part_of (proc_of p.now) (piece x)) parts.now) places.now ≡ false) }
 {
@@ -49,7 +49,7 @@ fn among<C: Kept>(parts: &[Part<C>], places: &[usize], p: &Proc) -> Option<usize
 }
 
 /// At which of the places under a hash the procedure stands.
-fn under<C: Kept>(parts: &[Part<C>], places: &Places, p: &Proc) -> Option<usize>
+fn under<C: Kept>(parts: &[ProcedureClauses<C>], places: &Places, p: &Proc) -> Option<usize>
     ensures some { IfSome result (λ i. stands_at (λ x. is_part_of (proc_of p.now) (piece x)) parts.now i ≡ true) }
     ensures none { IfNone result ((q : ℕ) → is_in places.now q ≡ true → stands_at (λ x. is_part_of (proc_of p.now) (piece x)) parts.now q ≡ false) }
 {
@@ -60,7 +60,7 @@ fn under<C: Kept>(parts: &[Part<C>], places: &Places, p: &Proc) -> Option<usize>
 }
 
 /// Where the procedure stands, or `None` where it is not there. Its time does not grow with the number of procedures.
-pub fn locate<C: Kept>(parts: &[Part<C>], index: &Index, p: &Proc) -> Option<usize>
+pub fn locate<C: Kept>(parts: &[ProcedureClauses<C>], index: &Index, p: &Proc) -> Option<usize>
     requires apart { Apart (names (map piece parts.now)) }
     requires indexed { Indexed index.now (names (map piece parts.now)) }
     ensures { Locates (λ x. is_part_of (proc_of p.now) (piece x)) parts.now result }

@@ -64,9 +64,9 @@ impl Names for Brand {
 }
 
 /// A new seat.
-pub struct Sits;
+pub struct NewSeat;
 
-impl Play<(), Known> for Sits {
+impl Play<(), Known> for NewSeat {
     ghost use Rattle.std.specs.Prelude.{◌≡◌, []};
     ghost use Rattle.pl_history.specs.Steps.{front_alone, newcomer};
 

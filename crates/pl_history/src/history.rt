@@ -5,7 +5,7 @@ ghost use Rattle.pl_model.specs.History.{is_end};
 ghost use Rattle.pl_history.specs.Fronts.{Life, new_hub, new_front, AllTold, own_runs, times, all_over, gains, begun_by, visited, picked, without, longer};
 ghost use Rattle.pl_history.specs.Steps.{MayAppend};
 
-use crate::board::{Adds, FLOOR, Names, Sits, Words};
+use crate::board::{Adds, FLOOR, Names, NewSeat, Words};
 use crate::fronts::{Front, HubFront};
 use crate::steps;
 use pl_model::shows::Shows;
@@ -51,7 +51,7 @@ fn take_seats(alloc: Global, words: &Words, count: usize) -> Result<Vec<Front>, 
 {
     let mut fronts = Vec::with_capacity(alloc, count)?;
     for _ in 0..count {
-        let seat = words.shared.load_new_seat::<Sits>(FLOOR).1;
+        let seat = words.shared.load_new_seat::<NewSeat>(FLOOR).1;
         fronts.push_reserved(Front {
             badge: seat.into_badge(),
         });

@@ -41,7 +41,7 @@ pub struct Named<K: Naming> {
 
 // What lies under the lock.
 #[derive(Drop)]
-pub struct Desk<K: Naming> {
+pub struct HubSeat<K: Naming> {
     hub: HubFront,
     of: PhantomData<K>,
     ghost named: { hub.table ≡ K.table } by { table_is hub.table K.table },
@@ -81,30 +81,30 @@ fn erase(history: &History, hub: &mut HubFront, front: &mut Front, engine: u64) 
 }
 
 // Appends and visits once.
-fn turn<K: Naming>(named: &Named<K>, desk: &mut Desk<K>, worker: &mut Worker<K>) {
-    if desk.hub.generation() >= 1 << 40 || worker.made >= 1 << 40 {
+fn turn<K: Naming>(named: &Named<K>, hub_seat: &mut HubSeat<K>, worker: &mut Worker<K>) {
+    if hub_seat.hub.generation() >= 1 << 40 || worker.made >= 1 << 40 {
         return;
     }
     erase(
         &named.history,
-        &mut desk.hub,
+        &mut hub_seat.hub,
         &mut worker.front,
         worker.engine,
     );
     worker.made += 1;
-    named.history.visit(&mut desk.hub, &mut worker.front);
+    named.history.visit(&mut hub_seat.hub, &mut worker.front);
 }
 
 fn work<K: Naming, R: Wait>(
     rt: &R,
     named: &Named<K>,
-    lock: &Mutex<Desk<K>>,
+    lock: &Mutex<HubSeat<K>>,
     mut worker: Worker<K>,
 ) -> Worker<K> {
     for _ in 0..TURNS {
-        let mut desk = lock.lock(rt);
-        turn(named, &mut *desk, &mut worker);
-        drop(desk);
+        let mut hub_seat = lock.lock(rt);
+        turn(named, &mut *hub_seat, &mut worker);
+        drop(hub_seat);
     }
     worker
 }
@@ -228,17 +228,17 @@ fn run_all<K: Naming + Send + Sync, R: Threads + Wait + Abort + Sync>(
     };
     let shared = &named;
     let workers = begin_all::<K>(alloc, shared, &mut hub, fronts)?;
-    let lock = Mutex::new(Desk {
+    let lock = Mutex::new(HubSeat {
         hub,
         of: PhantomData,
     });
-    let desk = &lock;
+    let hub_seat = &lock;
     let workers = thread::map_vec(
         rt,
         workers,
-        &|worker: Worker<K>| -> Worker<K> { work(rt, shared, desk, worker) },
+        &|worker: Worker<K>| -> Worker<K> { work(rt, shared, hub_seat, worker) },
     )?;
-    let Desk { mut hub, of: _ } = lock.into_inner();
+    let HubSeat { mut hub, of: _ } = lock.into_inner();
     let sum = settle_all(shared, &mut hub, workers);
     assert_eq!(rt; sum, 207);
     assert_eq!(rt; hub.generation(), 207);

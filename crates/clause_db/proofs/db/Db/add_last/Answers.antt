@@ -4,6 +4,7 @@ use Rattle.pl_model.specs.laws.Shown.{proc_of}
 use Rattle.clause_db.specs.declared.parts.End.TheVariants.{Last}
 use Rattle.clause_db.specs.declared.fault.DbFault.TheVariants.{Memory as NoMemory}
 use Rattle.clause_db.proofs.Added.{addition_fault_same, added_stands}
+use Rattle.clause_db.proofs.Says.{added_says}
 use Rattle.clause_db.proofs.db.Db.add_last.Goals as goal
 
 pub returns-clause-refused : goal.returns-clause-refused
@@ -13,3 +14,7 @@ returns-clause-refused g c = λ d s.
 pub returns-clause-added : goal.returns-clause-added
 returns-clause-added g c = λ d s.
     added_stands g.C.Kept.size c.args.self.now c.add.new.self d s (record { origin = c.args.origin; place = c.args.place; end = Last }) c.args.p.now c.args.clause c.requires.later c.add.result (λ e. e ≡ (c.args.clause, NoMemory)) c.add.ensures.added
+
+pub returns-clause-says : goal.returns-clause-says
+returns-clause-says g c = λ f d costs s.
+    added_says g.C.Kept.size f c.args.self.now c.add.new.self d s (record { origin = c.args.origin; place = c.args.place; end = Last }) c.args.p.now c.args.clause c.requires.later costs c.add.result (λ e. e ≡ (c.args.clause, NoMemory)) (λ x. c.add.result ≡ Err (c.args.clause, x)) c.add.ensures.refused c.add.ensures.added

@@ -11,7 +11,7 @@ returns-in-Some g c = λ d p s a.
     let view = s.views c.args.g c.requires p in
     retry_is g.C.Kept.size c.args.self.now (d c.args.self.now.next) s.newest p c.args.g c.args.place c.requires (sym (any_named c.args.place _ _ view) ∙ a) c.self.inside.homes
     (subst (λ h. Homed g.C.Kept.size c.self.inside.homes 0 h.parts) c.self.view_is c.self.invariant.sound.homed)
-    c.in-Some.home.now (sym c.in-Some.ensures.value) (λ x. are_apart g.C.Key.Ord.cmp g.C.Kept.any c.args.goal.now (g.C.Kept.key_of x)) (hit_of c.next_in.result) c.next_in.ensures
+    c.in-Some.home.now (sym c.in-Some.ensures.value) (λ x. are_apart g.C.Key.Ord.cmp g.C.Kept.any c.args.goal.now (g.C.Kept.key_of x)) (hit_of c.next_in.result) c.next_in.ensures.found
     ∙ sym (after_named (λ x. are_apart g.C.Key.Ord.cmp g.C.Kept.any c.args.goal.now (g.C.Kept.key_of x)) c.args.place _ _ view)
 
 pub returns-in-None : goal.returns-in-None

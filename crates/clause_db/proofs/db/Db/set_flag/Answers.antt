@@ -4,6 +4,8 @@ use Rattle.std.specs.Arc.{arc_value}
 use Rattle.clause_db.specs.Flags.{flags_as, flag_name, value_name}
 use Rattle.clause_db.specs.Parts.{Held, piece}
 use Rattle.clause_db.specs.Stands.{StandsFor}
+use Rattle.pl_model.specs.Service.{clause_cells}
+use Rattle.clause_db.specs.Reading.{SaysFor, read_held}
 use Rattle.clause_db.proofs.Settings.{sound_set, stands_set}
 use Rattle.clause_db.proofs.db.Db.set_flag.Goals as goal
 
@@ -27,3 +29,9 @@ returns-clause-stands g c = λ d s.
     let flags = flags_as c.flags_with-self-inside.result in
     subst (λ (h : Held g.row.C.Denot). StandsFor g.C.Kept.size (record h { flags = flags; operators = (arc_value c.self.inside.operators); next = c.args.place + 1 }) d) (sym c.self.view_is)
     (stands_set g.C.Kept.size c.args.self.now d flags (arc_value c.self.inside.operators) c.args.place c.requires.later s)
+
+pub returns-clause-says : goal.returns-clause-says
+returns-clause-says g c = λ f d s.
+    let flags = flags_as c.flags_with-self-inside.result in
+    subst (λ (h : Held g.row.C.Denot). SaysFor f (record h { flags = flags; operators = (arc_value c.self.inside.operators); next = c.args.place + 1 }) d) (sym c.self.view_is)
+    (stands_set clause_cells (read_held f c.args.self.now) d flags (arc_value c.self.inside.operators) c.args.place c.requires.later s)

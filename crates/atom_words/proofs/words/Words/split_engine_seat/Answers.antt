@@ -3,7 +3,7 @@ use Rattle.atom_words.specs.Views.{with_one_dealt, engine_of}
 use Rattle.atom_words.specs.Rule.{engine}
 use Rattle.atom_words.specs.declared.view.View.{View}
 use Rattle.atom_words.proofs.Openings.{split_at}
-use Rattle.atom_words.proofs.words.Words.deal.Goals as goal
+use Rattle.atom_words.proofs.words.Words.split_engine_seat.Goals as goal
 
 pub split_seat-requires : goal.split_seat-requires
 split_seat-requires c = let v : View = c.args.seat.now.seat.me.0 in (
