@@ -24,7 +24,7 @@ use term_store::{Arguments, Place, Store, View};
 
 /// The value of the term at a place as an arithmetic expression, or the first fault on the way to it: at each subterm its
 /// functor is looked at first, then its arguments are evaluated from the left, and then the operation is made. Nothing
-/// recurses on the depth of the term, and an integer and an operation over integers take no memory. The only error is want of
+/// recurses on the depth of the term, and an integer and an operation over integers take no memory. The only error is out of
 /// memory.
 pub fn value_at(alloc: Global, store: &Store, place: Place) -> Result<Value, Memory>
     requires { Holds store.now place }
@@ -151,7 +151,7 @@ fn two(
     }
 }
 
-/// Makes an operation of a number and the term at a place, or asks for the term's value first. The only error is want of
+/// Makes an operation of a number and the term at a place, or asks for the term's value first. The only error is out of
 /// memory.
 fn with_left(
     store: &Store,

@@ -46,8 +46,8 @@ pub fn make_atom<A: Atoms>(text: &Text, atoms: &mut A) -> Result<Made, Memory>
     }
 }
 
-/// The one answer with the atom of a text of at most 248 bytes, which is made, and the term at a place. The only error is want
-/// of memory.
+/// The one answer with the atom of a text of at most 248 bytes, which is made, and the term at a place. The only error is out of
+/// memory.
 pub fn answer_atom<A: Atoms>(
     alloc: Global,
     store: &mut Store,

@@ -16,7 +16,7 @@ use builtin_rows::{Row, take_room};
 use pl_term::Memory;
 use term_store::{Place, Store};
 
-/// The one answer of the predicate with this name and so many arguments: the terms at these places. The only error is want of
+/// The one answer of the predicate with this name and so many arguments: the terms at these places. The only error is out of
 /// memory.
 pub fn answer(
     store: &mut Store,

@@ -41,7 +41,7 @@ fn is_own(store: &Store, owners: &mut BTreeMap<u64, u64>, met: Met) -> Result<bo
     }
 }
 
-/// Makes a variable the owner of a number that has none yet, and says whether it is its owner. The only error is want of
+/// Makes a variable the owner of a number that has none yet, and says whether it is its owner. The only error is out of
 /// memory.
 fn claim(owners: &mut BTreeMap<u64, u64>, number: u64, owner: u64) -> Result<bool, Memory>
     ensures { IfOk result (λ b. Claims b number owner (tree.get nat_cmp owners.old) (tree.get nat_cmp owners.new)) }

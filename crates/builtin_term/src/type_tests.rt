@@ -40,7 +40,7 @@ pub fn type_test(
     }
 }
 
-/// Whether the term at a place passes the type test. None where the predicate is no type test. The only error is want of
+/// Whether the term at a place passes the type test. None where the predicate is no type test. The only error is out of
 /// memory.
 fn is_passed(store: &mut Store, pred: Pred, term: Place) -> Result<Option<bool>, Memory>
     requires { Holds store.old term }

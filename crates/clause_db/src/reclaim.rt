@@ -43,7 +43,7 @@ fn reclaim_part<C: Kept, D: Drops>(
     Ok(Dropped { places, clauses })
 }
 
-/// Drops the clauses of the procedure at the index that one of the first `floor` updates erased. The only error is want of
+/// Drops the clauses of the procedure at the index that one of the first `floor` updates erased. The only error is out of
 /// memory; after it all is as it was.
 pub fn reclaim_at<C: Kept, D: Drops>(
     alloc: Global,

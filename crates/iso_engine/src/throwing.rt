@@ -11,7 +11,7 @@ use iso_search::thrown::Thrown;
 use pl_term::Memory;
 use std::alloc::Global;
 
-/// Brings a ball to the innermost active catch, whose exit stands among the tasks of a list. The only error is want of
+/// Brings a ball to the innermost active catch, whose exit stands among the tasks of a list. The only error is out of
 /// memory.
 pub fn throw(alloc: Global, search: &mut Search, ball: Ball, outer: usize) -> Result<Doing, Memory>
     requires { IsWhole search.old }

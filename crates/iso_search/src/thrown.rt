@@ -28,7 +28,7 @@ pub enum Thrown {
 }
 
 impl Search {
-    /// Brings a ball to the innermost active catch, whose exit stands among the tasks of a list. The only error is want of
+    /// Brings a ball to the innermost active catch, whose exit stands among the tasks of a list. The only error is out of
     /// memory.
     pub fn throw_ball(&mut self, alloc: Global, ball: Ball, outer: usize) -> Result<Thrown, Memory>
         requires { IsWhole self.old }

@@ -57,8 +57,8 @@ pub struct FileScript {
 
 impl FileScript {
     /// The script of a command that consults a file with these bytes and this name, and then runs the goal of this word, if
-    /// there is one. A file of more than 16 MiB has no items, and `out` gets the line that says so. The only error is want
-    /// of memory.
+    /// there is one. A file of more than 16 MiB has no items, and `out` gets the line that says so. The only error is out of
+    /// memory.
     pub fn new(
         alloc: Global,
         bytes: Vec<u8>,

@@ -30,8 +30,8 @@ pub enum GoalWord {
     Faulty(SyntaxFault),
 }
 
-/// The word as it is read under these operators, and with texts in double quotes as `quotes` says. The only error is want
-/// of memory.
+/// The word as it is read under these operators, and with texts in double quotes as `quotes` says. The only error is out of
+/// memory.
 pub(crate) fn read_word(
     alloc: Global,
     word: &Text,

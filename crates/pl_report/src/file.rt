@@ -97,7 +97,7 @@ pub fn put_halted_directive(
     Ok(())
 }
 
-/// Puts the line that the directive of the item at the byte `at` waits, and nothing wakes it. The only error is want of
+/// Puts the line that the directive of the item at the byte `at` waits, and nothing wakes it. The only error is out of
 /// memory: then the text may have a part of the line.
 pub fn put_waiting_directive(out: &mut Vec<u8>, name: &Text, at: usize) -> Result<(), Memory>
     ensures { (t : Chars) → out.old.items ≡ encode_utf8_all t

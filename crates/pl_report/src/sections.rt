@@ -13,7 +13,7 @@ use pl_term::{Memory, Text};
 use run_model::ends::GoalHow;
 use std::alloc::Global;
 
-/// The text of a run from its sections, in UTF-8. The sections stand in the order of the list. The only error is want of
+/// The text of a run from its sections, in UTF-8. The sections stand in the order of the list. The only error is out of
 /// memory.
 pub fn transcript(alloc: Global, sections: &[Section]) -> Result<Vec<u8>, Memory>
     ensures { (texts : List Chars) → AreWritten sections.now texts

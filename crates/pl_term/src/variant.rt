@@ -10,7 +10,7 @@ use crate::numbering::Numbering;
 use std::alloc::Global;
 
 impl Flat {
-    /// Whether the terms are the same up to the names of their variables (ISO 7.1.6.1). The only error is want of
+    /// Whether the terms are the same up to the names of their variables (ISO 7.1.6.1). The only error is out of
     /// memory.
     pub fn variant(&self, alloc: Global, other: &Flat) -> Result<bool, Memory>
         ensures { IfOk result (λ b. IsTrue b ↔ IsVariant self.now other.now) }

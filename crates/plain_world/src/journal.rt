@@ -96,7 +96,7 @@ impl Journal {
         self.entries.len() as u64
     }
 
-    /// Notes a visit that changes nothing, and answers the generation at which it stands. The only error is want of
+    /// Notes a visit that changes nothing, and answers the generation at which it stands. The only error is out of
     /// memory, after which nothing has changed.
     pub fn note(&mut self) -> Result<u64, Memory>
         ensures generation { IfOk result (λ g. g ≡ length self.old.entries) }

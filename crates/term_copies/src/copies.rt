@@ -130,8 +130,8 @@ fn copy_compounds(
     Ok(())
 }
 
-/// Makes a compound term over what was copied before. `words` is room for the places of its arguments. The only error is want
-/// of memory.
+/// Makes a compound term over what was copied before. `words` is room for the places of its arguments. The only error is out of
+/// memory.
 fn copy_compound(
     store: &Store,
     parts: &Parts,

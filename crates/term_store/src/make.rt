@@ -29,7 +29,7 @@ pub fn make_variable(cells: &mut Cells, number: u64) -> Result<Word, Memory>
     }
 }
 
-/// The compound term with this name and these arguments, of which there is at least one. The only error is want of
+/// The compound term with this name and these arguments, of which there is at least one. The only error is out of
 /// memory.
 pub fn make_compound(cells: &mut Cells, name: u32, places: &[Place]) -> Result<Word, Memory>
     requires fit { IsFit cells.old }

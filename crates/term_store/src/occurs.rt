@@ -41,7 +41,7 @@ pub fn occurs(
 }
 
 /// Whether the unbound variable of a slot is found in what a word stands for. The bound is raised above the slots of the
-/// unbound variables that were met. A walk that is not short comes to each compound term once. The only error is want of
+/// unbound variables that were met. A walk that is not short comes to each compound term once. The only error is out of
 /// memory.
 fn is_found(
     cells: &Cells,

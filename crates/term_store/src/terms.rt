@@ -62,8 +62,8 @@ impl Store {
         }
     }
 
-    /// Builds a term without counting its cells. Its variables are new ones, as those of `load`. The only error is want
-    /// of memory, after which nothing has changed.
+    /// Builds a term without counting its cells. Its variables are new ones, as those of `load`. The only error is out of
+    /// memory, after which nothing has changed.
     pub fn build(&mut self, term: &Stored, from: u64) -> Result<Place, Memory>
         requires above { IsAbove from self.old }
         requires room { from + length (variables term.now) < 2 ^ 64 }

@@ -116,7 +116,7 @@ pub fn try_next_clause(
 }
 
 /// Tries a clause for a goal: takes numbers and cells for a copy of it, makes the copy, and unifies its head with the goal.
-/// Its body is then to be done before the tasks of the list; a cut in it goes back to the height. The only error is want of
+/// Its body is then to be done before the tasks of the list; a cut in it goes back to the height. The only error is out of
 /// memory.
 fn try_clause(
     search: &mut Search,
