@@ -24,4 +24,6 @@ mod Hinted
 mod Indexing
 mod Housing
 mod Reading
+mod ReadReclaimed
+mod Weighing
 pub mod Says

@@ -12,3 +12,4 @@ pub mod Abolished
 pub mod Reclaimed
 pub mod Listed
 pub mod Reading
+pub mod Weights

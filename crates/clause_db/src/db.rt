@@ -2,7 +2,7 @@
 ghost use Rattle.std.specs.Prelude.{◌≡◌, ◌∷◌, [], ℕ, Bool, ◌<◌, ◌≤◌, ◌+◌, ◌^◌, ◌⊎◌, ◌==◌, Err, Some, None, IfOk, IfSome, IfNone, IfErr, OnOk, OnErr, false, true, not, filter, map, max, length, is_some};
 ghost use Rattle.std.specs.Result.{MatchResult, IsOkAnd};
 ghost use Rattle.std.specs.Option.{MatchOption, option_map, option_map_or};
-ghost use Rattle.std.specs.List.{list_any, slice_get};
+ghost use Rattle.std.specs.List.{list_any, slice_get, sum_by};
 ghost use Rattle.std.specs.List.Sorted.{IsPermutation};
 ghost use Rattle.std.specs.Ordering.{nat_cmp};
 ghost use Rattle.std.specs.Arc.{arc_value};
@@ -27,6 +27,7 @@ ghost use Rattle.clause_db.specs.Sound.{Apart, names};
 ghost use Rattle.clause_db.specs.Faults.{call_fault, addition_fault, change_fault, held_call_fault, held_addition_fault, is_held_closed, is_static_access};
 ghost use Rattle.clause_db.specs.Flags.{flags_as, flag_name, value_name};
 ghost use Rattle.clause_db.specs.Reading.{Costs, EachHeld, IsHeld, SaysFor, read_hit};
+ghost use Rattle.clause_db.specs.Weights.{weight};
 ghost use Rattle.clause_db.specs.Operators.{shown, first_fault};
 ghost use Rattle.clause_db.specs.declared.access.By.TheVariants.{Goal, Clause};
 ghost use Rattle.clause_db.specs.declared.fault.DbFault.TheVariants.{Memory as NoMemory};
@@ -131,6 +132,7 @@ impl<C: Kept> Db<C> {
         ensures says { IfOk result (λ h. (f : C → entries.Clause) → SaysFor f h (λ g. opening_database)) }
         ensures start { IfOk result (λ d. (d.next ≡ 0) × (d.floor ≡ 0)) }
         ensures settings { IfOk result (λ d. (d.flags ≡ opening_flags) × (d.operators ≡ opening_table)) }
+        ensures weighs { IfOk result (λ d. (w : C → ℕ) → weight w d ≡ 0) }
     {
         let operators = Arc::new(alloc, OpTable::iso(alloc)?)?;
         Ok(Db {
@@ -237,7 +239,8 @@ impl<C: Kept> Db<C> {
     /// How the procedure may be used at the generation `g`, where there is one then. It takes no memory.
     pub fn access(&self, p: &Proc, g: u64) -> Option<Access>
         requires { self.now.floor ≤ g }
-        ensures { (d : ℕ → Database C) → StandsFor C.size self.now d → option_map access_as result ≡ access_of (d g) (proc_of p.now) }
+        ensures stands { (d : ℕ → Database C) → StandsFor C.size self.now d → option_map access_as result ≡ access_of (d g) (proc_of p.now) }
+        ensures says { (f : C → entries.Clause) (d : ℕ → Database entries.Clause) → SaysFor f self.now d → option_map access_as result ≡ access_of (d g) (proc_of p.now) }
     {
         self.access_of(p, g)
     }
@@ -345,6 +348,7 @@ impl<C: Kept> Db<C> {
         ensures rest { OnOk result ((self.new.next ≡ place + 1) × (self.new.floor ≡ self.old.floor)) }
         ensures settings { OnOk result ((self.new.flags ≡ self.old.flags) × (self.new.operators ≡ self.old.operators)) }
         ensures unchanged { OnErr result (self.new ≡ self.old) }
+        ensures weighs { OnOk result ((w : C → ℕ) → weight w self.new ≡ w clause + weight w self.old) }
     {
         let by = Addition {
             origin,
@@ -382,6 +386,7 @@ impl<C: Kept> Db<C> {
         ensures rest { OnOk result ((self.new.next ≡ place + 1) × (self.new.floor ≡ self.old.floor)) }
         ensures settings { OnOk result ((self.new.flags ≡ self.old.flags) × (self.new.operators ≡ self.old.operators)) }
         ensures unchanged { OnErr result (self.new ≡ self.old) }
+        ensures weighs { OnOk result ((w : C → ℕ) → weight w self.new ≡ w clause + weight w self.old) }
     {
         let by = Addition {
             origin,
@@ -429,6 +434,27 @@ impl<C: Kept> Db<C> {
                 Err((clause, DbFault::Memory))
             }
         }
+    }
+
+    /// Why a clause would be refused that is to be added to the procedure by the update at `place`, which is after all updates
+    /// so far: `Static` or `CellsFull`. `None` where it would be added. Nothing is changed.
+    pub fn addition_refusal(
+        &self,
+        p: &Proc,
+        clause: &C,
+        origin: Origin,
+        place: u64,
+    ) -> Option<DbFault>
+        requires { self.now.next ≤ place }
+        ensures { (f : C → entries.Clause) (d : ℕ → Database entries.Clause) → C.size clause.now ≡ clause_cells (f clause.now) → SaysFor f self.now d
+            → result ≡ addition_fault clause_cells (d place) (proc_of p.now) origin (f clause.now) }
+    {
+        let by = Addition {
+            origin,
+            place,
+            end: End::Last,
+        };
+        self.addition_fault(p, by, clause.cells())
     }
 
     /// Why an addition is refused.
@@ -479,6 +505,7 @@ impl<C: Kept> Db<C> {
         ensures settings { IfOk result (λ b. b ≡ true → (self.new.flags ≡ self.old.flags) × (self.new.operators ≡ self.old.operators)) }
         ensures gone { IfOk result (λ b. b ≡ false → self.new ≡ self.old) }
         ensures err { IfErr result (λ e. (e ≡ NoMemory) × (self.new ≡ self.old)) }
+        ensures weighs { IfOk result (λ b. (w : C → ℕ) → weight w self.new ≡ weight w self.old) }
     {
         match self.homes.get(&clause) {
             Some(home) => {
@@ -530,6 +557,7 @@ impl<C: Kept> Db<C> {
         ensures rest { OnOk result ((self.new.next ≡ place + 1) × (self.new.floor ≡ self.old.floor)) }
         ensures settings { OnOk result ((self.new.flags ≡ self.old.flags) × (self.new.operators ≡ self.old.operators)) }
         ensures unchanged { OnErr result (self.new ≡ self.old) }
+        ensures weighs { OnOk result ((w : C → ℕ) → weight w self.new ≡ weight w self.old) }
     {
         if self.any_static(ps, place) {
             return Err(DbFault::Static);
@@ -592,6 +620,7 @@ impl<C: Kept> Db<C> {
         ensures rest { OnOk result ((self.new.next ≡ place + 1) × (self.new.floor ≡ self.old.floor)) }
         ensures settings { OnOk result ((self.new.flags ≡ self.old.flags) × (self.new.operators ≡ self.old.operators)) }
         ensures unchanged { OnErr result (self.new ≡ self.old) }
+        ensures weighs { OnOk result ((w : C → ℕ) → weight w self.new ≡ weight w self.old) }
     {
         if self.is_static(p, place) {
             return Err(DbFault::Static);
@@ -634,6 +663,7 @@ impl<C: Kept> Db<C> {
         ensures set { self.new ≡ record self.old { flags = with_flag (flag_name flag) (value_name value) self.old.flags; next = place + 1 } }
         ensures stands { (d : ℕ → Database C) → StandsFor C.size self.old d → StandsFor C.size self.new d }
         ensures says { (f : C → entries.Clause) (d : ℕ → Database entries.Clause) → SaysFor f self.old d → SaysFor f self.new d }
+        ensures weighs { (w : C → ℕ) → weight w self.new ≡ weight w self.old }
     {
         self.flags = flags_with(self.flags, flag, value);
         self.next = place + 1;
@@ -666,6 +696,7 @@ impl<C: Kept> Db<C> {
         ensures says { OnOk result ((f : C → entries.Clause) (d : ℕ → Database entries.Clause) → SaysFor f self.old d → SaysFor f self.new d) }
         ensures err { IfErr result (λ f. (f ≡ NoRoom) ⊎ (first_fault operators.now self.old.operators ≡ Some f)) }
         ensures unchanged { OnErr result (self.new ≡ self.old) }
+        ensures weighs { OnOk result ((w : C → ℕ) → weight w self.new ≡ weight w self.old) }
     {
         let changed = table_with(self.alloc, &self.operators, operators)?;
         let Ok(shared) = Arc::new(self.alloc, changed) else {
@@ -706,6 +737,8 @@ impl<C: Kept> Db<C> {
         ensures left { OnOk result ((b : ℕ → Database C) → StandsFor C.size self.old b → self.old.next ≤ floor
             → IfSome (slice_get self.new.parts i) (λ x. x.clauses ≡ map dated (seen floor (proc_of x.name) (b floor)))) }
         ensures unchanged { OnErr result (self.new ≡ self.old) }
+        ensures weighs { IfOk result (λ r. (w : C → ℕ) → sum_by w r.items + weight w self.new ≡ weight w self.old) }
+        ensures says { OnOk result ((f : C → entries.Clause) (b : ℕ → Database entries.Clause) → SaysFor f self.old b → SaysFor f self.new b) }
     {
         self.reclaim_in(i, d, floor)
     }

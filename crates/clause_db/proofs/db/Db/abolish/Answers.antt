@@ -1,4 +1,4 @@
-use Rattle.std.proofs.Common.{◌∷◌, [], refl, sym, subst, ◌∙◌}
+use Rattle.std.proofs.Common.{◌∷◌, [], refl, sym, subst, ap, ◌∙◌}
 use Rattle.pl_model.specs.laws.Shown.{proc_of}
 use Rattle.pl_model.specs.Database.{without_procedure}
 use Rattle.clause_db.specs.Stands.{StandsFor, then_at}
@@ -6,6 +6,8 @@ use Rattle.clause_db.proofs.Closing.{or_none, stands_closed}
 use Rattle.clause_db.proofs.MadeDynamic.{without_fault}
 use Rattle.std.proofs.lemmas.Bool.{false≢true}
 use Rattle.clause_db.proofs.Says.{changed_says, closed_says}
+use Rattle.clause_db.specs.Weights.{weight}
+use Rattle.clause_db.proofs.Weighing.{abolished_weight}
 use Rattle.clause_db.proofs.db.Db.abolish.Goals as goal
 
 pub returns-in-Ok-clause-abolished : goal.returns-in-Ok-clause-abolished
@@ -26,3 +28,6 @@ returns-in-Ok-clause-says g c = λ f d costs s.
 pub returns-in-Err-clause-says : goal.returns-in-Err-clause-says
 returns-in-Err-clause-says g c = λ f d costs s.
     changed_says f c.args.self.now d s c.args.place c.requires.later (c.args.p.now ∷ []) c.is_static.result (c.is_static.ensures ∙ or_none _) _ _ (λ t. absurd (false≢true (sym c.if-is_static.false ∙ t))) (λ t. refl)
+
+pub returns-in-Ok-clause-weighs : goal.returns-in-Ok-clause-weighs
+returns-in-Ok-clause-weighs g c = λ w. ap (weight w) c.in-Ok.ensures.ok ∙ abolished_weight w g.C.Kept.size c.args.place (proc_of c.args.p.now) c.args.self.now

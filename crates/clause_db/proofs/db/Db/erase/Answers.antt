@@ -9,6 +9,8 @@ use Rattle.clause_db.proofs.Erasing.{if_ok, if_both}
 use Rattle.clause_db.proofs.Erased.{there_is, none_there, erased_stands}
 use Rattle.clause_db.specs.Reading.{SaysFor}
 use Rattle.clause_db.proofs.Says.{erased_says, none_says}
+use Rattle.clause_db.specs.Weights.{weight}
+use Rattle.clause_db.proofs.Weighing.{either_weight}
 use Rattle.clause_db.proofs.db.Db.erase.Goals as goal
 
 pub returns-in-Some-clause-was : goal.returns-in-Some-clause-was
@@ -52,3 +54,13 @@ returns-in-Some-clause-says g c = λ f d costs s.
 pub returns-in-None-clause-says : goal.returns-in-None-clause-says
 returns-in-None-clause-says g c = λ f d costs s.
     none_says c.args.clause c.args.place g.C.Kept.size f costs c.args.self.now d s c.requires.later c.self.inside.homes (subst (λ h. Homed g.C.Kept.size c.self.inside.homes 0 h.parts) c.self.view_is c.self.invariant.sound.homed) false (sym c.in-None.ensures.value) refl c.args.self.now
+
+pub returns-in-Some-clause-weighs : goal.returns-in-Some-clause-weighs
+returns-in-Some-clause-weighs g c =
+    if_both c.erase_at.result
+    (λ b. b ≡ true → c.erase_at.new.self ≡ erased_held c.in-Some.home.now.part c.args.clause c.args.place c.in-Some.home.now.cells c.args.self.now)
+    (λ b. b ≡ false → c.erase_at.new.self ≡ c.args.self.now)
+    (λ b. (w : _) → weight w c.erase_at.new.self ≡ weight w c.args.self.now)
+    (λ b hit miss. λ w. either_weight w c.in-Some.home.now.part c.args.clause c.args.place c.in-Some.home.now.cells c.args.self.now c.erase_at.new.self b hit miss)
+    c.erase_at.ensures.erased
+    c.erase_at.ensures.gone

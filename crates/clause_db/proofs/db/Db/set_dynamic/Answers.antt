@@ -1,10 +1,12 @@
-use Rattle.std.proofs.Common.{map, refl, sym, subst, ◌∙◌}
+use Rattle.std.proofs.Common.{map, refl, sym, subst, ap, ◌∙◌}
 use Rattle.pl_model.specs.laws.Shown.{proc_of}
 use Rattle.pl_model.specs.Database.{with_dynamic_procedures}
 use Rattle.clause_db.specs.Stands.{StandsFor, then_at}
 use Rattle.clause_db.proofs.MadeDynamic.{some_fault, no_fault, without_fault, stands_dynamic}
 use Rattle.std.proofs.lemmas.Bool.{false≢true}
 use Rattle.clause_db.proofs.Says.{changed_says, dynamic_says}
+use Rattle.clause_db.specs.Weights.{weight}
+use Rattle.clause_db.proofs.Weighing.{dynamic_weight}
 use Rattle.clause_db.proofs.db.Db.set_dynamic.Goals as goal
 
 pub returns-then-any_static-clause-made : goal.returns-then-any_static-clause-made
@@ -37,3 +39,6 @@ returns-in-Ok-clause-says g c = λ f d s.
 pub returns-in-Err-clause-says : goal.returns-in-Err-clause-says
 returns-in-Err-clause-says g c = λ f d s.
     changed_says f c.args.self.now d s c.args.place c.requires.later c.args.ps.now c.any_static.result c.any_static.ensures _ _ (λ t. absurd (false≢true (sym c.if-any_static.false ∙ t))) (λ t. refl)
+
+pub returns-in-Ok-clause-weighs : goal.returns-in-Ok-clause-weighs
+returns-in-Ok-clause-weighs g c = λ w. ap (weight w) c.in-Ok.ensures.ok ∙ dynamic_weight w c.args.place c.args.ps.now c.args.self.now

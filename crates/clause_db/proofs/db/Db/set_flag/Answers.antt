@@ -7,6 +7,7 @@ use Rattle.clause_db.specs.Stands.{StandsFor}
 use Rattle.pl_model.specs.Service.{clause_cells}
 use Rattle.clause_db.specs.Reading.{SaysFor, read_held}
 use Rattle.clause_db.proofs.Settings.{sound_set, stands_set}
+use Rattle.clause_db.specs.Weights.{weight}
 use Rattle.clause_db.proofs.db.Db.set_flag.Goals as goal
 
 pub invariant_of-self : goal.invariant_of-self
@@ -35,3 +36,6 @@ returns-clause-says g c = λ f d s.
     let flags = flags_as c.flags_with-self-inside.result in
     subst (λ (h : Held g.row.C.Denot). SaysFor f (record h { flags = flags; operators = (arc_value c.self.inside.operators); next = c.args.place + 1 }) d) (sym c.self.view_is)
     (stands_set clause_cells (read_held f c.args.self.now) d flags (arc_value c.self.inside.operators) c.args.place c.requires.later s)
+
+pub returns-clause-weighs : goal.returns-clause-weighs
+returns-clause-weighs g c = λ w. ap (λ (h : Held g.row.C.Denot). weight w h) c.self.view_is

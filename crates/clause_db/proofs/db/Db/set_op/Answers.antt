@@ -1,4 +1,4 @@
-use Rattle.std.proofs.Common.{◌+◌, ◌≤◌, map, sym, subst}
+use Rattle.std.proofs.Common.{◌+◌, ◌≤◌, map, ap, sym, subst}
 use Rattle.std.specs.Arc.{arc_value}
 use Rattle.clause_db.specs.Flags.{flags_as}
 use Rattle.clause_db.specs.Parts.{Held, piece}
@@ -6,6 +6,7 @@ use Rattle.clause_db.specs.Stands.{StandsFor}
 use Rattle.pl_model.specs.Service.{clause_cells}
 use Rattle.clause_db.specs.Reading.{SaysFor, read_held}
 use Rattle.clause_db.proofs.Settings.{sound_set, stands_set}
+use Rattle.clause_db.specs.Weights.{weight}
 use Rattle.clause_db.proofs.db.Db.set_op.Goals as goal
 
 pub invariant_of-self : goal.invariant_of-self
@@ -26,3 +27,6 @@ pub returns-clause-says : goal.returns-clause-says
 returns-clause-says g c = λ f d s.
     subst (λ (h : Held g.row.C.Denot). SaysFor f (record h { flags = flags_as c.self.inside.flags; operators = (arc_value c.in-Ok.shared); next = c.args.place + 1 }) d) (sym c.self.view_is)
     (stands_set clause_cells (read_held f c.args.self.now) d (flags_as c.self.inside.flags) (arc_value c.in-Ok.shared) c.args.place c.requires.later s)
+
+pub returns-clause-weighs : goal.returns-clause-weighs
+returns-clause-weighs g c = λ w. ap (λ (h : Held g.row.C.Denot). weight w h) c.self.view_is
