@@ -10,3 +10,7 @@ pub mod Exactly
 pub mod Comparing
 pub mod EngineAtoms
 pub mod Agreeing
+pub mod MadeTerms
+pub mod StateAfter
+pub mod TermNames
+pub mod Sharing

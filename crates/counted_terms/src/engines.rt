@@ -10,7 +10,7 @@ ghost use Rattle.counted_terms.specs.Agreements.{Agreed};
 ghost use Rattle.counted_terms.specs.CountedTerms.{IsCounted, IsExact, SaysOn, naming, said};
 
 use crate::keeping::agree_kept;
-use crate::storing::{forget, lend, store};
+use crate::storing::{forget, hold, lend, store};
 use crate::term::CountedTerm;
 use atom_table::{Keeper, NamesTable, TableAtoms};
 use pl_term::Memory;
@@ -95,4 +95,50 @@ pub fn forget_by<K: NamesTable>(
     ensures requests { requests (seen atoms.new.seat) ≡ requests (seen atoms.old.seat) }
 {
     forget(atoms.table, keeper, &mut atoms.seat, term);
+}
+
+/// Holds the atoms of a stored term, which the keeper counts: the term says by the engine's texts what it says by those that
+/// the keeper keeps.
+pub fn hold_by<K: NamesTable>(
+    atoms: &mut TableAtoms<K>,
+    keeper: &mut Option<Keeper>,
+    term: &CountedTerm,
+)
+    requires keeper { KeeperAt K.atoms K.size keeper.old }
+    requires counted { IsCounted term.now (keeper_view keeper.old) }
+    ensures keeper { KeeperAt K.atoms K.size keeper.new }
+    ensures named { All (λ a. IsSome (names (seen atoms.new.seat) a)) (names_of term.now) }
+    ensures says { said (names (seen atoms.new.seat)) term.now ≡ said (kept (keeper_view keeper.old)) term.now }
+    ensures holds { HoldsOn (names (seen atoms.old.seat)) (names (seen atoms.new.seat)) }
+    ensures keeps { kept (keeper_view keeper.new) ≡ kept (keeper_view keeper.old) }
+    ensures counts { (k : ℕ) → tally (keeper_view keeper.new) k ≡ tally (keeper_view keeper.old) k }
+    ensures refusals { (seen atoms.new.seat).refusals ≡ (seen atoms.old.seat).refusals }
+    ensures requests { requests (seen atoms.new.seat) ≡ requests (seen atoms.old.seat) }
+{
+    hold(atoms.table, keeper, &mut atoms.seat, term);
+}
+
+/// Hands over a stored term that is stored no longer, and whose atoms the keeper counts: the engine holds its atoms from then
+/// on, which are counted once less each. Each term whose atoms are counted still says what it said. It takes no memory, and
+/// there is no error.
+pub fn hand_over<K: NamesTable>(
+    atoms: &mut TableAtoms<K>,
+    keeper: &mut Option<Keeper>,
+    term: CountedTerm,
+) -> Stored
+    requires keeper { KeeperAt K.atoms K.size keeper.old }
+    requires counted { IsCounted term (keeper_view keeper.old) }
+    ensures keeper { KeeperAt K.atoms K.size keeper.new }
+    ensures term { result ≡ term }
+    ensures named { All (λ a. IsSome (names (seen atoms.new.seat) a)) (names_of result) }
+    ensures says { said (names (seen atoms.new.seat)) result ≡ said (kept (keeper_view keeper.old)) term }
+    ensures holds { HoldsOn (names (seen atoms.old.seat)) (names (seen atoms.new.seat)) }
+    ensures others { (t : Tree) → IsCounted t (keeper_view keeper.new) → said (kept (keeper_view keeper.new)) t ≡ said (kept (keeper_view keeper.old)) t }
+    ensures counts { (k : ℕ) → naming k term + tally (keeper_view keeper.new) k ≡ tally (keeper_view keeper.old) k }
+    ensures refusals { (seen atoms.new.seat).refusals ≡ (seen atoms.old.seat).refusals }
+    ensures requests { requests (seen atoms.new.seat) ≡ requests (seen atoms.old.seat) }
+{
+    hold_by(atoms, keeper, &term);
+    forget_by(atoms, keeper, &term);
+    term.into_term()
 }

@@ -46,6 +46,27 @@ pub fn lend(
     Ok(shared)
 }
 
+/// Holds the atoms of a stored term, which the keeper counts: the term says by the texts that the seat holds what it says
+/// by those that the keeper keeps.
+pub fn hold(table: &AtomTable, keeper: &mut Option<Keeper>, seat: &mut AtomSeat, term: &CountedTerm)
+    requires keeper { KeeperIn table.now.words keeper.old }
+    requires seat { Sits table.now.words seat.old × ((seen seat.old).fixed ≡ fixed_slots) }
+    requires sitting { Sitting (seen seat.old) }
+    requires counted { IsCounted term.now (keeper_view keeper.old) }
+    ensures keeper { KeeperIn table.now.words keeper.new }
+    ensures seat { Sits table.now.words seat.new × ((seen seat.new).fixed ≡ fixed_slots) }
+    ensures same { Same seat.old seat.new }
+    ensures named { All (λ a. IsSome (names (seen seat.new) a)) (names_of term.now) }
+    ensures says { said (names (seen seat.new)) term.now ≡ said (kept (keeper_view keeper.old)) term.now }
+    ensures holds { HoldsOn (names (seen seat.old)) (names (seen seat.new)) }
+    ensures keeps { kept (keeper_view keeper.new) ≡ kept (keeper_view keeper.old) }
+    ensures counts { (k : ℕ) → tally (keeper_view keeper.new) k ≡ tally (keeper_view keeper.old) k }
+    ensures stays { Stays (seen seat.old) (seen seat.new) }
+{
+    let listed = term.atoms();
+    fetch_kept(table, keeper, seat, listed);
+}
+
 /// Counts the atoms of a term that is stored, all of which the seat holds: by the texts that the keeper keeps the term
 /// says from then on what it says by those that the seat holds, and each term whose atoms were counted says what it said.
 /// Each atom is counted less than 2^61 - 1 times before.

@@ -55,6 +55,13 @@ impl CountedTerm {
         &self.term
     }
 
+    /// The term by itself.
+    pub fn into_term(self) -> Stored
+        ensures { result ≡ self }
+    {
+        self.term
+    }
+
     /// The atoms that it counts.
     pub fn atoms(&self) -> &[Atom]
         ensures { (k : ℕ) → times k result.now ≡ naming k self.now }
