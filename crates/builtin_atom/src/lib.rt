@@ -13,8 +13,6 @@ mod making;
 mod numbers;
 mod spelled;
 mod spelling;
-#[cfg(test)]
-mod tests;
 mod texts;
 
 pub use answers::take_cells;
