@@ -1,8 +1,10 @@
 -- What a call finds among the clauses of an index.
-use Rattle.std.proofs.Common.{◌≡◌, ℕ, Bool, true, false, cond, not, ◌&&◌, List, [], ◌∷◌, ◌++◌, map, Option, Some, None, refl, sym, ap, ap₂, ◌∙◌, arith, inl, inr}
+use Rattle.std.proofs.Common.{◌≡◌, ℕ, Bool, true, false, cond, not, ◌&&◌, List, [], ◌∷◌, ◌++◌, map, Option, Some, None, refl, sym, ap, ap₂, subst, ◌∙◌, arith, inl, inr}
 use Rattle.std.specs.Prelude.{filter, nat_lt}
+use Rattle.std.specs.List.{AllByRecursion}
 use Rattle.std.specs.Option.{option_map, is_some}
-use Rattle.std.specs.Ordering.{is_eq, is_le, nat_cmp}
+use Rattle.pl_model.specs.FirstArguments.{are_apart}
+use Rattle.std.specs.Ordering.{is_le, nat_cmp}
 use Rattle.std.specs.Cmp.{nat_cmp_is}
 use Rattle.std.specs.declared.cmp.Ordering.{Ordering}
 use Rattle.std.specs.declared.cmp.Ordering.TheVariants.{Less, Equal, Greater}
@@ -10,6 +12,7 @@ use Rattle.std.specs.declared.ops.Bound.TheVariants.{Included, Unbounded}
 use Rattle.std.specs.BTreeMap.{BTreeMap}
 use Rattle.std.specs.BTreeMap.Range.{range_contains, entries_between}
 use Rattle.std.proofs.lemmas.Bool.{cases_lt}
+use Rattle.std.proofs.lemmas.List.{map-append}
 use Rattle.std.proofs.lemmas.List.Elements.{filter-append}
 use borrow.Author.Tests.{lt-ltb}
 use Rattle.gen_core.specs.declared.dated_clause.DatedClause.{DatedClause}
@@ -42,18 +45,6 @@ is_some-mapped f None = refl
 is_some-mapped f (Some x) = refl
 
 module _ {C : Type 0} where
-  -- A call whose first argument may be equal to any tries what its generation sees.
-  pub all_choices : {K : Type 0} (order : K → K → Ordering) (any : K → Bool) (key_of : C → K) (g : ℕ) (first : K) → any first ≡ true → (ds : List (DatedClause C))
-      → filter (is_visible g) ds ≡ filter (is_choice order any key_of g first) ds
-  all_choices order any key_of g first h ds = filter-same (is_visible g) (is_choice order any key_of g first) each ds
-    where
-      simple : (x : Bool) → x ≡ (x && true)
-      simple true = refl
-      simple false = refl
-
-      each : (d : DatedClause C) → is_visible g d ≡ is_choice order any key_of g first d
-      each d = simple (is_visible g d) ∙ ap (λ b. is_visible g d && not (not b && (not (any (key_of d.clause)) && not (is_eq (order first (key_of d.clause)))))) (sym h)
-
   -- ---- one after the other
 
   abbrev pub shown : DatedClause C → Bool → Option (ℕ × C × Bool)
@@ -94,3 +85,39 @@ module _ {X C K : Type 0} (read : X → ℕ × Entry C K) where
   -- All are read.
   pub read_all : (n : ℕ) (m : BTreeMap ℕ (Entry C K)) (xs : List X) → map read xs ≡ entries_between nat_cmp (Included n) Unbounded m.entries → clauses_from n m ≡ map (λ x. (read x).1.dated) xs
   read_all n m xs h = ap (map (λ (e : ℕ × Entry C K). e.1.dated)) (sym (range_from n m.entries) ∙ sym h) ∙ mapped xs
+
+  all_passing : (P : Entry C K → Type 0) (t : ℕ × Entry C K → Bool) (es : List (ℕ × Entry C K)) → AllByRecursion (λ e. P e.1) es → AllByRecursion (λ e. P e.1) (filter t es)
+  all_passing P t [] all = tt
+  all_passing P t (e ∷ es) all = go (t e) (all_passing P t es all.1)
+    where
+      go : (b : Bool) → AllByRecursion (λ x. P x.1) (filter t es) → AllByRecursion (λ x. P x.1) (cond b (e ∷ filter t es) (filter t es))
+      go true rest = (all.0, rest)
+      go false rest = rest
+
+  one_of : (P : Entry C K → Type 0) (xs : List (ℕ × Entry C K)) (y : ℕ × Entry C K) (ys : List (ℕ × Entry C K)) → AllByRecursion (λ e. P e.1) (xs ++ y ∷ ys) → P y.1
+  one_of P [] y ys all = all.0
+  one_of P (x ∷ xs) y ys all = one_of P xs y ys all.1
+
+  -- What holds of all entries holds of the next one that is read.
+  pub read_holds : (P : Entry C K → Type 0) (n : ℕ) (m : BTreeMap ℕ (Entry C K)) (xs : List X) (s t u : List (ℕ × Entry C K)) (x : X)
+      → AllByRecursion (λ e. P e.1) m.entries
+      → s ≡ entries_between nat_cmp (Included n) Unbounded m.entries → s ≡ map read xs ++ t → t ≡ read x ∷ u
+      → P (read x).1
+  read_holds P n m xs s t u x all start so next =
+      one_of P (map read xs) (read x) u
+      (subst (λ es. AllByRecursion (λ e. P e.1) es)
+      (sym (range_from n m.entries) ∙ sym start ∙ so ∙ ap (λ es. map read xs ++ es) next)
+      (all_passing P (λ e. not (nat_lt e.0 n)) m.entries all))
+
+-- One more is read.
+pub passed_more : {X C : Type 0} (t : C → Bool) (f : X → C) (xs : List X) (x : X) (b : Bool) → t (f x) ≡ b
+    → filter t (map f (xs ++ x ∷ [])) ≡ filter t (map f xs) ++ cond b (f x ∷ []) []
+passed_more t f xs x b e =
+    ap (filter t) (map-append f xs (x ∷ [])) ∙ filter-append t (map f xs) (f x ∷ []) ∙ ap (λ r. filter t (map f xs) ++ cond r (f x ∷ []) []) e
+
+-- A clause is tried by the key that is kept with it.
+pub tried_is : {C K : Type 0} (order : K → K → Ordering) (any : K → Bool) (key_of : C → K) (g : ℕ) (first : K) (e : Entry C K) (b : Bool)
+    → e.key ≡ key_of e.dated.clause
+    → b ≡ (is_visible g e.dated && not (are_apart order any first e.key))
+    → is_choice order any key_of g first e.dated ≡ b
+tried_is order any key_of g first e b same is = ap (λ k. is_visible g e.dated && not (are_apart order any first k)) (sym same) ∙ sym is

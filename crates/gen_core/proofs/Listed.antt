@@ -197,7 +197,44 @@ module _ {C K : Type 0} where
     erases_at new clause place true e = let p = erases new clause place e in (sym p.0, p.1)
     erases_at new clause place false e = let p = erases_none new clause place e in (sym p.0, p.1)
 
+    -- Whether the clause that was added at a place is there and not erased.
+    pub live_none : (clause : ℕ) → IsNumberOf s.clauses clause None → false ≡ list_any (λ d. (d.place == clause) && is_live d) (clauses_of s.clauses)
+    live_none clause none =
+        sym (any_false of (λ d. (d.place == clause) && is_live d) s.clauses.entries
+        (each_is (λ d. (d.place == clause) && is_live d) (λ q. false)
+        (λ q. holds-both s.clauses (λ d. d.place == clause) is_live q ∙ ap (λ b. b && holds s.clauses is_live q) (none q))))
+
+    pub live_some : (clause n : ℕ) (b : Bool) → IsNumberOf s.clauses clause (Some n) → b ≡ holds s.clauses is_live n
+        → b ≡ list_any (λ d. (d.place == clause) && is_live d) (clauses_of s.clauses)
+    live_some clause n b only is = is ∙ go (holds s.clauses is_live n) refl
+      where
+        both : (q : ℕ) → holds s.clauses (λ d. (d.place == clause) && is_live d) q ≡ ((q == n) && holds s.clauses is_live q)
+        both q = holds-both s.clauses (λ d. d.place == clause) is_live q ∙ ap (λ r. r && holds s.clauses is_live q) (only q)
+
+        never : holds s.clauses is_live n ≡ false → (q : ℕ) (r : Bool) → (q == n) ≡ r → (r && holds s.clauses is_live q) ≡ false
+        never e q true k = ap (λ p. holds s.clauses is_live p) (eqb-true q n k) ∙ e
+        never e q false k = refl
+
+        go : (r : Bool) → holds s.clauses is_live n ≡ r → holds s.clauses is_live n ≡ list_any (λ d. (d.place == clause) && is_live d) (clauses_of s.clauses)
+        go true e =
+            let x = found_on s.clauses is_live n e in
+            e
+            ∙ sym (any_true of (λ d. (d.place == clause) && is_live d) n x.0 s.clauses.entries x.1
+            (sym (here (λ d. (d.place == clause) && is_live d) n x.0 x.1) ∙ both n ∙ ap (λ r. r && holds s.clauses is_live n) (eq-eqb n n refl) ∙ e))
+        go false e =
+            e
+            ∙ sym (any_false of (λ d. (d.place == clause) && is_live d) s.clauses.entries
+            (each_is (λ d. (d.place == clause) && is_live d) (λ q. false) (λ q. both q ∙ never e q (q == n) refl)))
+
     -- ---- adding
+
+    -- The key that is kept with a clause is that of its first argument.
+    pub keys_are : AllByRecursion (λ e. e.1.key ≡ key_of e.1.dated.clause) s.clauses.entries
+    keys_are =
+        each_from (λ (e : Entry C K). e) (λ q e. e.key ≡ key_of e.dated.clause) s.clauses.entries s.clauses.entries found
+        (λ q x at.
+        let p : IfSome (Some x) (λ e. IsNumbered q e.dated.place × (e.key ≡ key_of e.dated.clause)) =
+        subst (λ o. IfSome o (λ e. IsNumbered q e.dated.place × (e.key ≡ key_of e.dated.clause))) at (sound.numbered q) in p.1)
 
     before_on : (place q : ℕ) (x : Entry C K) → All (λ d. d.place < place) (clauses_of s.clauses) → tree.get nat_cmp s.clauses q ≡ Some x → x.dated.place < place
     before_on place q x h at = all_on (λ d. d.place < place) q x s.clauses.entries h at

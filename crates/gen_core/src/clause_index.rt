@@ -21,6 +21,9 @@ use pl_term::Memory;
 use std::alloc::Global;
 use std::collections::{BTreeMap, BTreeSet};
 
+/// So many clauses are looked at one after the other, which takes less time than to find them by their keys.
+const FEW: usize = 8;
+
 /// A clause with the key of its first argument.
 #[derive(Drop)]
 pub struct Entry<C, K> {
@@ -185,6 +188,17 @@ impl<C: Kept> ClauseIndex<C> {
     {
         match self.clauses.get(&number) {
             Some(entry) => entry.dated.erased.is_none(),
+            None => false,
+        }
+    }
+
+    /// Whether the clause that the update at the place added is there and not erased.
+    pub fn has_live(&self, clause: u64) -> bool
+        requires { IsSound C.Key.Ord.cmp C.any C.key_of self.now }
+        ensures { result ≡ list_any (λ d. (d.place == clause) && is_live d) (clauses_of self.now.clauses) }
+    {
+        match self.number_of(clause) {
+            Some(number) => self.is_live(number),
             None => false,
         }
     }
@@ -381,13 +395,14 @@ impl<C: Kept> ClauseIndex<C> {
         Some(hit(dated, more))
     }
 
-    /// The first clause from `from` on that a call tries whose first argument may be equal to any.
-    fn next_of_all(&self, g: u64, from: u64) -> Option<Hit<'_, C>>
-        ensures { hit_of result ≡ first_choice (filter (is_visible g) (clauses_from from self.now.clauses)) }
+    /// The first clause from `from` on that a call with this key tries, found by a look at one clause after the other.
+    fn next_in_order(&self, first: &C::Key, g: u64, from: u64) -> Option<Hit<'_, C>>
+        requires { IsSound C.Key.Ord.cmp C.any C.key_of self.now }
+        ensures { hit_of result ≡ first_choice (filter (is_choice C.Key.Ord.cmp C.any C.key_of g first.now) (clauses_from from self.now.clauses)) }
     {
         let mut found: Option<&DatedClause<C>> = None;
         for (_, entry) in self.clauses.range(from..) {
-            if entry.dated.is_visible(g) {
+            if is_tried::<C>(entry, first, g) {
                 if let Some(dated) = found {
                     return Some(hit(dated, true));
                 }
@@ -408,11 +423,19 @@ impl<C: Kept> ClauseIndex<C> {
         let Some(from) = self.number_after(place) else {
             return None;
         };
-        if C::is_any(first) {
-            return self.next_of_all(g, from);
+        if C::is_any(first) || self.clauses.len() <= FEW {
+            return self.next_in_order(first, g, from);
         }
         self.next_of_key(first, g, from)
     }
+}
+
+/// Whether a call at the generation `g` with this key tries the clause.
+fn is_tried<C: Kept>(entry: &Entry<C, C::Key>, first: &C::Key, g: u64) -> bool
+    ensures { result ≡ (is_visible g entry.now.dated && not (are_apart C.Key.Ord.cmp C.any first.now entry.now.key)) }
+{
+    entry.dated.is_visible(g)
+        && (C::is_any(first) || C::is_any(&entry.key) || first.cmp(&entry.key).is_eq())
 }
 
 /// A clause with its place, and whether others follow.

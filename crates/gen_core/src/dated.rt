@@ -14,8 +14,8 @@ use std::alloc::Global;
 use std::marker::Model;
 
 /// The clauses of a procedure, seen by contracts as the list of them in database order, each with the places of the
-/// updates that added and that erased it. A call finds its next clause by the key of its first argument and passes over
-/// no clause of another key.
+/// updates that added and that erased it. A call looks through a few clauses one after the other; among more it finds its next
+/// clause by the key of its first argument, and passes over no clause of another key.
 #[derive(Drop)]
 pub struct Dated<C: Kept> {
     index: ClauseIndex<C>,
@@ -92,6 +92,13 @@ impl<C: Kept> Dated<C> {
         ensures err { IfErr result (λ e. (e.0 ≡ clause) × (self.new ≡ self.old)) }
     {
         self.index.add(clause, place, last_number(place))
+    }
+
+    /// Whether the clause that was added at the place is there and not erased. It takes no memory.
+    pub fn has_live(&self, clause: u64) -> bool
+        ensures { result ≡ list_any (λ d. (d.place == clause) && is_live d) self.now }
+    {
+        self.index.has_live(clause)
     }
 
     /// Erases the clause that was added at the place `clause`, by the update at `place`, and says whether it was there and
