@@ -30,8 +30,9 @@ read_tokens(Cs, [T|Ts], Rest) :- token(T, Cs, More), !, read_tokens(More, Ts, Re
 read_tokens(Rest, [], Rest).
 
 token(number(N), [C|Cs], Rest) :-
-    digit(C, V),
-    digits(Cs, V, N, Rest).
+    digit(C),
+    digits(Cs, Ds, Rest),
+    number_chars(N, [C|Ds]).
 token(T, [C|Cs], Rest) :-
     letter(C),
     letters(Cs, Ls, Rest),
@@ -40,14 +41,14 @@ token(T, [C|Cs], Rest) :-
 token(symbol(S), [C, D|Rest], Rest) :- atom_chars(S, [C, D]), symbol(S).
 token(symbol(C), [C|Rest], Rest) :- symbol(C).
 
-digit(C, V) :- '0' @=< C, C @=< '9', char_code(C, Code), V is Code - 0'0.
+digit(C) :- '0' @=< C, C @=< '9'.
 letter(C) :- a @=< C, C @=< z.
 
-% The value of the digits in front, after those with the value V.
-digits([C|Cs], V, N, Rest) :- digit(C, D), !, W is 10 * V + D, digits(Cs, W, N, Rest).
-digits(Rest, N, N, Rest).
+% The digits in front.
+digits([C|Cs], [C|Ds], Rest) :- digit(C), !, digits(Cs, Ds, Rest).
+digits(Rest, [], Rest).
 
-letters([C|Cs], [C|Ls], Rest) :- ( letter(C) ; digit(C, _) ), !, letters(Cs, Ls, Rest).
+letters([C|Cs], [C|Ls], Rest) :- ( letter(C) ; digit(C) ), !, letters(Cs, Ls, Rest).
 letters(Rest, [], Rest).
 
 % A token of one of the lines that have tokens alone.
@@ -68,10 +69,7 @@ alike(Pairs) :-
     sort(Names, Each),
     findall(A < B, ( member(A, Each), member(B, Each), A \== B, begins(A, B) ), Pairs).
 
-begins(A, B) :- atom_chars(A, As), atom_chars(B, Bs), append(As, _, Bs).
-
-append([], L, L).
-append([X|Xs], L, [X|Ys]) :- append(Xs, L, Ys).
+begins(A, B) :- sub_atom(B, 0, _, _, A).
 
 member(X, [X|_]).
 member(X, [_|L]) :- member(X, L).
