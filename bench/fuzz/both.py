@@ -131,12 +131,12 @@ def show(seed, number, wanted, got):
     print(got[0].decode('utf-8', 'replace'), end='', flush=True)
 
 
-def trial(seed, count):
+def trial(seed, count, first):
     plt = the_program()
     ends = Counter()
     differences = 0
     with multiprocessing.Pool(int(os.environ.get('PROCESSES', '2'))) as pool:
-        for number, wanted, got, end in pool.imap_unordered(compare, ((plt, seed, n) for n in range(count)), 20):
+        for number, wanted, got, end in pool.imap_unordered(compare, ((plt, seed, n) for n in range(first, first + count)), 20):
             ends[end] += 1
             if got != wanted:
                 differences += 1
@@ -148,12 +148,12 @@ def trial(seed, count):
 
 
 def main(words, usage, program):
-    if len(words) != 3 or words[0] not in ('trial', 'show'):
+    if len(words) not in (3, 4) or words[0] not in ('trial', 'show') or (words[0] == 'show' and len(words) == 4):
         print(usage)
         return 2
     MAKERS.append(program)
     if words[0] == 'trial':
-        return trial(words[1], int(words[2]))
+        return trial(words[1], int(words[2]), int(words[3]) if len(words) == 4 else 0)
     number, wanted, got, end = compare((the_program(), words[1], int(words[2])))
     if wanted is None:
         print(end)
