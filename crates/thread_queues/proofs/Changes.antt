@@ -34,7 +34,7 @@ lacks_by : {X : Type 0} (key : X → ℕ) (b : Bool) (n : ℕ) (x : X) (xs : Lis
 lacks_by key true n x xs p q = or_both (key x == n) (has_number n (map key xs)) p q
 lacks_by key false n x xs p q = q
 
-filter_lacks : {X : Type 0} (key : X → ℕ) (test : X → Bool) (n : ℕ) (xs : List X)
+pub filter_lacks : {X : Type 0} (key : X → ℕ) (test : X → Bool) (n : ℕ) (xs : List X)
     → has_number n (map key xs) ≡ false
     → has_number n (map key (filter test xs)) ≡ false
 filter_lacks key test n [] e = refl

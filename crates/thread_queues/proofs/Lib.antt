@@ -1,4 +1,5 @@
 pub mod Answered
+pub mod Below
 pub mod Changes
 pub mod Free
 pub mod Located
@@ -6,3 +7,4 @@ pub mod Names
 pub mod Numbers
 pub mod Searched
 pub mod Served
+pub mod Weighing

@@ -3,3 +3,4 @@ pub mod Held
 pub mod Located
 pub mod Refusals
 pub mod Serving
+pub mod Weights

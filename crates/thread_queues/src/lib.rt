@@ -9,8 +9,10 @@ mod searches;
 mod serving;
 #[cfg(test)]
 mod tests;
+mod weights;
 
 pub use fault::QueueFault;
 pub use pl_model::threads::{Name, Status};
 pub use queues::Queues;
 pub use serving::{changes_are_kept, messages_unify_as_terms, requests_are_served};
+pub use weights::{numbers_stay_below, terms_are_kept};

@@ -1,10 +1,10 @@
 //! The threads and queues.
 ghost use Rattle.std.specs.Prelude.{◌≡◌, ◌↔◌, IsTrue, ◌≤◌, ◌+◌, Ok, Err, Some, None, IfOk, IfSome, IfNone, OnErr, OnOk, find, vec_len, vec_capacity};
 ghost use Rattle.std.specs.Result.{MatchResult};
-ghost use Rattle.std.specs.Option.{option_map};
+ghost use Rattle.std.specs.Option.{is_some, option_map};
 ghost use Rattle.pl_model.specs.Threads.{alias_of, is_alias, is_queue, number_of, queue_named, thread_named, first_message, has_engine, queue_made, queue_dropped, message_sent, thread_ended, is_joined};
 ghost use Rattle.thread_queues.specs.declared.fault.QueueFault.TheVariants.{NoQueue, Memory as NoMemory};
-ghost use Rattle.thread_queues.specs.Held.{opening_held, Removes, IsNew, IsNewPlace, contents, named_message, goal_of, without_goal, Takes, left_by_join, own_contents, started};
+ghost use Rattle.thread_queues.specs.Held.{opening_held, Removes, IsNew, IsNewPlace, IsSound, contents, named_message, goal_of, without_goal, Takes, left_by_join, own_contents, started};
 ghost use Rattle.thread_queues.specs.Located.{Locates};
 ghost use Rattle.thread_queues.specs.Refusals.{is_taken, make_refusal, start_refusal, drop_refusal, end_refusal, join_refusal, join_fault};
 
@@ -121,6 +121,33 @@ impl<M: Drop> Queues<M> {
             None => None,
             Some(i) => Some(&self.aliases[i].0),
         }
+    }
+
+    /// Whether a queue is named so.
+    pub fn has_queue(&self, q: &Name) -> bool
+        ensures { result ≡ is_some (queue_named self.now.state q.now) }
+    {
+        self.queue_of(q).is_some()
+    }
+
+    /// The number of the thread that is named so, and whether it has ended.
+    pub fn find_thread(&self, t: &Name) -> Option<(u64, bool)>
+        ensures { result ≡ option_map (λ h. (h.number, is_some h.status)) (thread_named self.now.state t.now) }
+    {
+        match self.thread_of(t) {
+            None => None,
+            Some(i) => {
+                let thread = &self.threads[i];
+                Some((thread.number, thread.status.is_some()))
+            }
+        }
+    }
+
+    /// A number is one queue's, one thread's, one alias's and one goal's, and a place is one message's. It does nothing.
+    pub fn is_sound(&self)
+        ensures { IsSound self.now }
+    {
+        let _count = self.queues.len();
     }
 
     /// Makes a queue with the number, which no thread and no queue has, and with an alias where one is given
@@ -326,7 +353,7 @@ impl<M: Drop> Queues<M> {
     }
 
     /// Whether one engine more can run.
-    fn has_engine(&self) -> bool
+    pub fn has_engine(&self) -> bool
         ensures { result ≡ has_engine self.now.state }
     {
         running(self.threads.as_slice()) < MOST_ENGINES
