@@ -1,5 +1,5 @@
 -- Arithmetic comparisons (ISO 8.7), and what is/2 and they give.
-use Rattle.std.specs.Prelude.{ℕ, ◌<◌, ◌^◌, ℤ, Bool, not, int_lt, int_le, codes}
+use Rattle.std.specs.Prelude.{ℕ, ◌<◌, ◌^◌, ℤ, Bool, not, int_lt, int_le}
 use Rattle.std.specs.Ordering.{int_eq}
 use Rattle.pl_term.specs.Tree.{Chars, Tree}
 use Rattle.pl_model.specs.BuiltinRows.{Row as Defined}
@@ -8,18 +8,11 @@ use Rattle.pl_model.specs.TermBuiltins.{two}
 use Rattle.atom_api.specs.Names.{Names}
 use Rattle.term_store.specs.Contents.{Contents}
 use Rattle.builtin_rows.specs.Given.{given}
+pub use Rattle.builtin_rows.specs.Predicates.{name_of_values as name_of}
 use Rattle.builtin_rows.specs.Rows.{IsRow}
 use Rattle.builtin_rows.specs.declared.row.Row.{Row}
-use Rattle.builtin_arithmetic.specs.declared.comparisons.Comparison.{Comparison}
-use Rattle.builtin_arithmetic.specs.declared.comparisons.Comparison.TheVariants.{Equal, Different, Less, LessOrEqual, Greater, GreaterOrEqual}
-
-abbrev pub name_of : Comparison → Chars
-name_of Equal = codes "=:="
-name_of Different = codes "=\\="
-name_of Less = codes "<"
-name_of LessOrEqual = codes "=<"
-name_of Greater = codes ">"
-name_of GreaterOrEqual = codes ">="
+use Rattle.builtin_rows.specs.declared.predicates.Comparison.{Comparison}
+use Rattle.builtin_rows.specs.declared.predicates.Comparison.TheVariants.{Equal, Different, Less, LessOrEqual, Greater, GreaterOrEqual}
 
 abbrev pub holds_by : Comparison → ℤ → ℤ → Bool
 holds_by Equal = int_eq

@@ -14,11 +14,11 @@ ghost use Rattle.builtin_rows.specs.Rows.{IsRow, IsSingle, row_refusals};
 ghost use Rattle.builtin_arithmetic.specs.Comparing.{Gives, holds_by, name_of};
 ghost use Rattle.builtin_arithmetic.specs.Texts.{AreTexts};
 
-use crate::comparisons::Comparison;
+use crate::comparisons::{holds, predicate_name};
 use crate::errors::refused;
 use crate::evaluation::value_at;
 use atom_api::fixed;
-use builtin_rows::Row;
+use builtin_rows::{Comparison, Row};
 use pl_term::Memory;
 use std::alloc::Global;
 use term_store::{Place, Store, StoreFault};
@@ -70,7 +70,7 @@ pub fn compare_values(
             Ok(row)
         }
         Err(fault) => {
-            let row = refused(store, fault, comparison.name())?;
+            let row = refused(store, fault, predicate_name(comparison))?;
             Ok(row)
         }
     }
@@ -93,11 +93,11 @@ fn compare_with(
     let second = value_at(alloc, store, right)?;
     match second {
         Ok(y) => {
-            let row = decided(store, comparison.holds(x, y))?;
+            let row = decided(store, holds(comparison, x, y))?;
             Ok(row)
         }
         Err(fault) => {
-            let row = refused(store, fault, comparison.name())?;
+            let row = refused(store, fault, predicate_name(comparison))?;
             Ok(row)
         }
     }

@@ -3,7 +3,7 @@
 #![tactic(auto)]
 
 mod bits;
-mod comparing;
+pub mod comparing;
 mod comparisons;
 mod division;
 mod errors;
@@ -18,8 +18,6 @@ mod steps;
 mod value_list;
 mod values;
 
-pub use comparing::{compare_values, evaluate};
-pub use comparisons::Comparison;
 pub use evaluation::value_at;
 pub use expressions::eval;
 pub use operations::{apply1, apply2};

@@ -1,10 +1,10 @@
 -- The rows that the definitions have for the predicates.
 use Rattle.std.proofs.Common.{◌≡◌, ◌+◌, ◌*◌, [], ◌∷◌, map, length, ℕ, zero, suc, ℤ, refl, Bool, List, Option, Some, None, Result, Ok, Err}
-use Rattle.std.specs.Prelude.{is_some, not, true, false, if◌then◌else◌}
+use Rattle.std.specs.Prelude.{is_some, not, true, false, if◌then◌else◌, IfSome}
 use Rattle.pl_term.specs.Tree.{Chars, Tree, var, int, atom, comp}
 use Rattle.pl_model.specs.Builtins.{row}
 use Rattle.pl_model.specs.BuiltinRows as basic
-use Rattle.pl_model.specs.BuiltinRows.{one_answer, test}
+use Rattle.pl_model.specs.BuiltinRows.{comparison, one_answer, test, test_row}
 use Rattle.pl_model.specs.Evaluables.{Evaluated, evaluated, is_in_range}
 use Rattle.pl_model.specs.Checks.{atom_error, atomic_error, bound_error, elements, first_error, integer_error, natural_of, negative_error, text_of_atom}
 use Rattle.pl_term.specs.Order.{order}
@@ -14,16 +14,16 @@ use Rattle.pl_model.specs.TermBuiltins.{argument_at, argument_of, compares, comp
 use Rattle.pl_model.specs.AtomBuiltins.{all_errors, as_character, character_error, character_in, code_error, codes_character, coded_row, if_short, measures, number, number_in, number_row, spells, spells_number}
 use Rattle.pl_model.specs.TermGrammar.{is_too_long}
 use Rattle.pl_model.specs.Unify.{unify}
-use Rattle.pl_model.specs.History.{proc}
-use Rattle.builtin_rows.specs.declared.predicates.Pred.TheVariants as pred
-use Rattle.builtin_rows.specs.Predicates.{name_of, arity_of}
+use Rattle.builtin_rows.specs.declared.predicates.Pred.TheVariants.{Two, Three}
+use Rattle.builtin_rows.specs.declared.predicates.OfTwo.TheVariants as of_two
+use Rattle.builtin_rows.specs.declared.predicates.OfThree.TheVariants as of_three
+use Rattle.builtin_rows.specs.Predicates.{name_of_terms}
 use Rattle.builtin_rows.specs.Steps.{IsPlainRow}
-use Rattle.builtin_arithmetic.specs.declared.comparisons.Comparison.{Comparison}
-use Rattle.builtin_arithmetic.specs.declared.comparisons.Comparison.TheVariants.{Equal, Different, Less, LessOrEqual, Greater, GreaterOrEqual}
+use Rattle.builtin_rows.specs.declared.predicates.Comparison.{Comparison}
+use Rattle.builtin_rows.specs.declared.predicates.Comparison.TheVariants.{Equal, Different, Less, LessOrEqual, Greater, GreaterOrEqual}
 use Rattle.builtin_arithmetic.specs.Comparing.{holds_by}
-use Rattle.builtin_arithmetic.specs.Comparing as values
-use Rattle.builtin_dispatch.specs.Comparisons.{pred_of}
-use Rattle.builtin_dispatch.proofs.Answering.{IsDefined, plain_test}
+use Rattle.builtin_rows.proofs.Answering.{IsDefined}
+use Rattle.builtin_dispatch.proofs.Answering.{plain_test}
 
 -- Several answers make no terms.
 plain_unless : (e : Option Tree) (r : basic.Row) → IsPlainRow r → IsPlainRow (unless e r)
@@ -107,27 +107,27 @@ plain_univ (atom a) l = tt
 plain_univ (comp f u us) l = tt
 
 module _ (t u : Tree) (next : ℕ) where
-  pub equal_defined : IsDefined pred.Equal (two t u) next (one_answer (two u u))
+  pub equal_defined : IsDefined (Two of_two.Equal) (two t u) next (one_answer (two u u))
   unfolding row basic.row
   equal_defined = record { row_is = refl; plain = tt }
 
-  pub occurs_defined : IsDefined pred.UnifyWithOccursCheck (two t u) next (one_answer (two u u))
+  pub occurs_defined : IsDefined (Two of_two.UnifyWithOccursCheck) (two t u) next (one_answer (two u u))
   unfolding row basic.row
   occurs_defined = record { row_is = refl; plain = tt }
 
-  pub not_unifiable_defined : IsDefined pred.NotUnifiable (two t u) next (test (not (is_some (unify t u))) (two t u))
+  pub not_unifiable_defined : IsDefined (Two of_two.NotUnifiable) (two t u) next (test (not (is_some (unify t u))) (two t u))
   unfolding row basic.row
   not_unifiable_defined = record { row_is = refl; plain = plain_test (not (is_some (unify t u))) (two t u) }
 
-  pub subsumes_defined : IsDefined pred.SubsumesTerm (two t u) next (subsumes t u)
+  pub subsumes_defined : IsDefined (Two of_two.SubsumesTerm) (two t u) next (subsumes t u)
   unfolding row basic.row
   subsumes_defined = record { row_is = refl; plain = plain_test _ (two t u) }
 
-  pub copies_defined : IsDefined pred.CopyTerm (two t u) next (copies next t u)
+  pub copies_defined : IsDefined (Two of_two.CopyTerm) (two t u) next (copies next t u)
   unfolding row basic.row
   copies_defined = record { row_is = refl; plain = tt }
 
-  pub variables_defined : IsDefined pred.TermVariables (two t u) next (lists_variables t u)
+  pub variables_defined : IsDefined (Two of_two.TermVariables) (two t u) next (lists_variables t u)
   unfolding row basic.row
   variables_defined =
       record {
@@ -135,15 +135,15 @@ module _ (t u : Tree) (next : ℕ) where
         plain = plain_unless (list_error u) (makes (two t (list_term (map var (variables t)))) (3 * variable_count t)) tt;
       }
 
-  pub sorts_defined : IsDefined pred.Sort (two t u) next (sorts t)
+  pub sorts_defined : IsDefined (Two of_two.Sort) (two t u) next (sorts t)
   unfolding row basic.row
   sorts_defined = record { row_is = refl; plain = plain_list (elements t) _ (λ ts. tt) }
 
-  pub merges_defined : IsDefined pred.Msort (two t u) next (merges t)
+  pub merges_defined : IsDefined (Two of_two.Msort) (two t u) next (merges t)
   unfolding row basic.row
   merges_defined = record { row_is = refl; plain = plain_list (elements t) _ (λ ts. tt) }
 
-  pub keysorts_defined : IsDefined pred.Keysort (two t u) next (sorts_by_key t)
+  pub keysorts_defined : IsDefined (Two of_two.Keysort) (two t u) next (sorts_by_key t)
   unfolding row basic.row
   keysorts_defined =
       record {
@@ -151,15 +151,15 @@ module _ (t u : Tree) (next : ℕ) where
         plain = plain_list (elements t) _ (λ ts. plain_unless (pairs_error ts) (gives_list t (sorted key ts)) tt);
       }
 
-  pub univ_defined : IsDefined pred.Univ (two t u) next (univ t u)
+  pub univ_defined : IsDefined (Two of_two.Univ) (two t u) next (univ t u)
   unfolding row basic.row
   univ_defined = record { row_is = refl; plain = plain_univ t u }
 
-  pub evaluates_defined : IsDefined pred.Is (two t u) next (evaluates t u)
+  pub evaluates_defined : IsDefined (Two of_two.Is) (two t u) next (evaluates t u)
   unfolding row basic.row
   evaluates_defined = record { row_is = refl; plain = plain_value (evaluated u) _ (λ x. tt) }
 
-  pub measures_defined : IsDefined pred.AtomLength (two t u) next (measures t u)
+  pub measures_defined : IsDefined (Two of_two.AtomLength) (two t u) next (measures t u)
   unfolding row basic.row
   measures_defined =
       record {
@@ -169,27 +169,27 @@ module _ (t u : Tree) (next : ℕ) where
             (one_answer (two t (number (length (text_of_atom t))))) tt;
       }
 
-  pub atom_chars_defined : IsDefined pred.AtomChars (two t u) next (spells character_error character_in as_character t u)
+  pub atom_chars_defined : IsDefined (Two of_two.AtomChars) (two t u) next (spells character_error character_in as_character t u)
   unfolding row basic.row
   atom_chars_defined = record { row_is = refl; plain = plain_spells character_error character_in as_character t u }
 
-  pub atom_codes_defined : IsDefined pred.AtomCodes (two t u) next (spells code_error natural_of number t u)
+  pub atom_codes_defined : IsDefined (Two of_two.AtomCodes) (two t u) next (spells code_error natural_of number t u)
   unfolding row basic.row
   atom_codes_defined = record { row_is = refl; plain = plain_spells code_error natural_of number t u }
 
-  pub codes_defined : IsDefined pred.CharCode (two t u) next (codes_character t u)
+  pub codes_defined : IsDefined (Two of_two.CharCode) (two t u) next (codes_character t u)
   unfolding row basic.row
   codes_defined = record { row_is = refl; plain = plain_unless _ (coded_row t u) (plain_coded t u) }
 
-  pub number_chars_defined : IsDefined pred.NumberChars (two t u) next (spells_number character_error character_in as_character t u)
+  pub number_chars_defined : IsDefined (Two of_two.NumberChars) (two t u) next (spells_number character_error character_in as_character t u)
   unfolding row basic.row
   number_chars_defined = record { row_is = refl; plain = plain_spells_number character_error character_in as_character t u }
 
-  pub number_codes_defined : IsDefined pred.NumberCodes (two t u) next (spells_number code_error natural_of number t u)
+  pub number_codes_defined : IsDefined (Two of_two.NumberCodes) (two t u) next (spells_number code_error natural_of number t u)
   unfolding row basic.row
   number_codes_defined = record { row_is = refl; plain = plain_spells_number code_error natural_of number t u }
 
-  pub values_defined : (k : Comparison) → IsDefined (pred_of k) (two t u) next (compares_values (holds_by k) t u)
+  pub values_defined : (k : Comparison) → IsDefined (Two (of_two.Values k)) (two t u) next (compares_values (holds_by k) t u)
   unfolding row basic.row
   values_defined Equal = record { row_is = refl; plain = plain_values (holds_by Equal) t u }
   values_defined Different = record { row_is = refl; plain = plain_values (holds_by Different) t u }
@@ -198,8 +198,17 @@ module _ (t u : Tree) (next : ℕ) where
   values_defined Greater = record { row_is = refl; plain = plain_values (holds_by Greater) t u }
   values_defined GreaterOrEqual = record { row_is = refl; plain = plain_values (holds_by GreaterOrEqual) t u }
 
+  pub terms_defined : (k : Comparison) → IfSome (test_row (comparison (name_of_terms k) (order t u)) (two t u)) (IsDefined (Two (of_two.Terms k)) (two t u) next)
+  unfolding row basic.row
+  terms_defined Equal = record { row_is = refl; plain = plain_test _ (two t u) }
+  terms_defined Different = record { row_is = refl; plain = plain_test _ (two t u) }
+  terms_defined Less = record { row_is = refl; plain = plain_test _ (two t u) }
+  terms_defined LessOrEqual = record { row_is = refl; plain = plain_test _ (two t u) }
+  terms_defined Greater = record { row_is = refl; plain = plain_test _ (two t u) }
+  terms_defined GreaterOrEqual = record { row_is = refl; plain = plain_test _ (two t u) }
+
 module _ (t u v : Tree) (next : ℕ) where
-  pub compares_defined : IsDefined pred.Compare (three t u v) next (compares t u v)
+  pub compares_defined : IsDefined (Three of_three.Compare) (three t u v) next (compares t u v)
   unfolding row basic.row
   compares_defined =
       record {
@@ -207,19 +216,10 @@ module _ (t u v : Tree) (next : ℕ) where
         plain = plain_unless (first_error (atom_error t ∷ sign_error t ∷ [])) (one_answer (three (atom (sign (order u v))) u v)) tt;
       }
 
-  pub functor_defined : IsDefined pred.Functor (three t u v) next (functor_of next t u v)
+  pub functor_defined : IsDefined (Three of_three.Functor) (three t u v) next (functor_of next t u v)
   unfolding row basic.row
   functor_defined = record { row_is = refl; plain = plain_functor next t u v }
 
-  pub argument_defined : IsDefined pred.Arg (three t u v) next (argument_of t u v)
+  pub argument_defined : IsDefined (Three of_three.Arg) (three t u v) next (argument_of t u v)
   unfolding row basic.row
   argument_defined = record { row_is = refl; plain = plain_unless _ (with_argument t u (argument_at (natural_of t) (arguments u))) (plain_argument t u (argument_at (natural_of t) (arguments u))) }
-
--- The predicate of an arithmetic comparison has its name.
-pub values_proc : (k : Comparison) → proc (values.name_of k) 2 ≡ proc (name_of (pred_of k)) (arity_of (pred_of k))
-values_proc Equal = refl
-values_proc Different = refl
-values_proc Less = refl
-values_proc LessOrEqual = refl
-values_proc Greater = refl
-values_proc GreaterOrEqual = refl

@@ -56,6 +56,13 @@ module _ (m : Names) (s : Contents) (a : Arguments) (is : IsArguments s a) where
   stands_held i p lt e held =
       subst (λ t. All (λ x. IsSome (m x)) (atoms_in t)) (sym e) (held i (atom []) (omega (arith, lt, how_many s a is)))
 
+  pub one_counted : a.count ≡ 1 → (t : Tree) × (terms_of m s a ≡ more t none)
+  one_counted count = (spelled (text_of m) (at (arguments_at s a) 0), one_tree (text_of m) (arguments_at s a) (how_many s a is ∙ count))
+
+  pub two_counted : a.count ≡ 2 → (t u : Tree) × (terms_of m s a ≡ two t u)
+  two_counted count =
+      (spelled (text_of m) (at (arguments_at s a) 0), spelled (text_of m) (at (arguments_at s a) 1), two_trees (text_of m) (arguments_at s a) (how_many s a is ∙ count))
+
   pub terms_one : (p : Place) → a.count ≡ 1 → term_at s p ≡ at (arguments_at s a) 0 → terms_of m s a ≡ more (reads m s p) none
   terms_one p count e =
       one_tree (text_of m) (arguments_at s a) (how_many s a is ∙ count) ∙ ap (λ t. more (spelled (text_of m) t) none) (sym e)

@@ -1,4 +1,4 @@
--- The predicates whose rows are no tables.
+-- Predicates whose rows are no tables.
 use Rattle.std.proofs.Common.{◌≡◌, ℕ, zero, suc, ◌+◌, ◌*◌, ℤ, Bool, true, false, ◌||◌, if◌then◌else◌, List, [], ◌∷◌, map, length, Option, Some, None, Result, Ok, Err, codes, bytes_eq, refl, ap}
 use Rattle.std.specs.Prelude.{is_some, not}
 use Rattle.pl_term.specs.Order.{order}
@@ -7,7 +7,7 @@ use Rattle.pl_term.specs.Tree.{Chars, Tree, Trees, var, int, atom, comp, none, m
 use Rattle.pl_model.specs.Builtins.{or_else, row}
 use Rattle.pl_model.specs.BuiltinRows as basic
 use Rattle.pl_model.specs.BuiltinRows.{Answer, Row, comparison, one_answer, test, test_row, type_test}
-use Rattle.pl_model.specs.AtomBuiltins.{all_errors, as_character, atom_row, character_error, character_in, code_error, codes_character, coded_row, concatenates, if_short, measures, number, number_in, number_row, one_of_character, one_of_code, spells, spells_number, sub_atoms}
+use Rattle.pl_model.specs.AtomBuiltins.{all_errors, as_character, atom_row, character_error, character_in, code_error, codes_character, coded_row, concatenates, if_short, measures, number, number_in, number_row, one_of_character, one_of_code, spells, spells_number}
 use Rattle.pl_model.specs.Balls.{representation_error, syntax_error}
 use Rattle.pl_model.specs.Checks.{atom_error, bound_error, compound_error, elements, first_error, integer_error, natural_of, negative_error, text_of_atom}
 use Rattle.pl_model.specs.Evaluables.{Evaluated, evaluated, is_in_range}
@@ -198,10 +198,8 @@ of_coded (int i) n = refl
 of_coded (atom a) n = refl
 of_coded (comp f u us) n = refl
 
-of_atoms : (f : Chars) (ts : Trees) → bytes_eq f (codes "atom_concat") ≡ false → bytes_eq f (codes "sub_atom") ≡ false → NoLines (atom_row f ts)
-of_atoms f none c s = refl
-of_atoms f (more t none) c s = refl
-of_atoms f (more t (more u none)) c s =
+of_atoms : (f : Chars) (t u : Tree) → NoLines (atom_row f (more t (more u none)))
+of_atoms f t u =
     of_chosen
     ((bytes_eq f (codes "atom_length"), measures t u)
     ∷ ((bytes_eq f (codes "atom_chars"), spells character_error character_in as_character t u)
@@ -224,11 +222,21 @@ of_atoms f (more t (more u none)) c s =
         ),
       ),
     ) refl
-of_atoms f (more t (more u (more v none))) c s = ap (λ b. lines_in (if b then Some (concatenates t u v) else None)) c
-of_atoms f (more t (more u (more v (more w none)))) c s = refl
-of_atoms f (more t (more u (more v (more w (more x none))))) c s = ap (λ b. lines_in (if b then Some (sub_atoms t u v w x) else None)) s
-of_atoms f (more t (more u (more v (more w (more x (more y ts)))))) c s = refl
 
-pub no_lines : (f : Chars) (ts : Trees) (next : ℕ) → bytes_eq f (codes "atom_concat") ≡ false → bytes_eq f (codes "sub_atom") ≡ false → NoLines (row f ts next)
+-- By the number of arguments.
+abbrev HasNone : Chars → Trees → ℕ → Type 0
+HasNone f ts next = NoLines (atom_row f ts) → NoLines (row f ts next)
+
+has_none : (f : Chars) (ts : Trees) (next : ℕ) → HasNone f ts next
 unfolding row
-no_lines f ts next c s = one_of (basic.row f ts next) _ (of_basic f ts next) (one_of (term_row f ts next) _ (of_terms f ts next) (of_atoms f ts c s))
+has_none f ts next atoms = one_of (basic.row f ts next) _ (of_basic f ts next) (one_of (term_row f ts next) _ (of_terms f ts next) atoms)
+
+pub no_lines_of_one : (f : Chars) (t : Tree) (next : ℕ) → NoLines (row f (more t none) next)
+no_lines_of_one f t next = has_none f (more t none) next refl
+
+pub no_lines_of_two : (f : Chars) (t u : Tree) (next : ℕ) → NoLines (row f (two t u) next)
+no_lines_of_two f t u next = has_none f (two t u) next (of_atoms f t u)
+
+-- Of three arguments only atom_concat/3 has a table.
+pub no_lines_of_three : (f : Chars) (t u v : Tree) (next : ℕ) → bytes_eq f (codes "atom_concat") ≡ false → NoLines (row f (three t u v) next)
+no_lines_of_three f t u v next other = has_none f (three t u v) next (ap (λ b. lines_in (if b then Some (concatenates t u v) else None)) other)

@@ -1,3 +1,1 @@
-pub mod Comparisons
 pub mod Dispatching
-pub mod Unbuilt

@@ -1,11 +1,12 @@
 //! The row of a predicate for its arguments.
-ghost use Rattle.std.specs.Prelude.{◌≡◌, ◌++◌, IfNone, IfOk, IfSome};
+ghost use Rattle.std.specs.Prelude.{◌≡◌, ◌++◌, IfOk};
 ghost use Rattle.term_store.specs.Contents.{IsAbove, IsArguments};
 ghost use Rattle.world_api.specs.Gains.{Gains};
 ghost use Rattle.world_api.specs.Texts.{Holds};
-ghost use Rattle.builtin_rows.specs.Predicates.{arity_of, kind_of};
-ghost use Rattle.builtin_rows.specs.Predicates as kinds;
-ghost use Rattle.builtin_dispatch.specs.Dispatching.{AreHeld, Dispatches, HasLines, IsGivenText, IsRowOf, IsUnbuilt, answer_refusals, terms_of};
+ghost use Rattle.builtin_rows.specs.Predicates.{arity_of};
+ghost use Rattle.builtin_rows.specs.Rows.{row_refusals};
+ghost use Rattle.builtin_rows.specs.Dispatching.{Dispatches, HasLines, IsGivenText, IsRowOf};
+ghost use Rattle.builtin_dispatch.specs.Dispatching.{AreHeld, terms_of};
 
 use crate::five::row_of_five;
 use crate::one::row_of_one;
@@ -18,7 +19,7 @@ use std::alloc::Global;
 use term_store::{Arguments, Store};
 
 /// What a built-in predicate that is a function of its arguments gives for these, where `next` is the next number of a variable.
-/// None where the predicate is not built yet. The only error is out of memory, after which nothing is said of the store.
+/// The only error is out of memory, after which nothing is said of the store.
 pub fn row_of<A: Atoms>(
     alloc: Global,
     store: &mut Store,
@@ -26,17 +27,15 @@ pub fn row_of<A: Atoms>(
     arguments: Arguments,
     next: u64,
     atoms: &mut A,
-) -> Result<Option<Row>, Memory>
+) -> Result<Row, Memory>
     requires inside { IsArguments store.old arguments }
     requires count { arguments.count ≡ arity_of pred }
-    requires kind { kind_of pred ≡ kinds.row }
     requires held { AreHeld (A.held atoms.old) store.old arguments }
     requires above { IsAbove next store.old }
-    ensures row { IfOk result (λ o. IfSome o (λ r. IsRowOf store.old next pred (terms_of (A.held atoms.old) store.old arguments) (A.held atoms.new) store.new r)) }
-    ensures lines { IfOk result (λ o. IfSome o (HasLines pred (terms_of (A.held atoms.old) store.old arguments))) }
-    ensures unbuilt { IfOk result (λ o. IfNone o (IsUnbuilt store.old pred store.new)) }
+    ensures row { IfOk result (IsRowOf store.old next pred (terms_of (A.held atoms.old) store.old arguments) (A.held atoms.new) store.new) }
+    ensures lines { IfOk result (HasLines pred (terms_of (A.held atoms.old) store.old arguments)) }
     ensures holds { Holds (A.held atoms.old) (A.held atoms.new) }
-    ensures refusals { IfOk result (λ o. A.refusals atoms.new ≡ A.refusals atoms.old ++ answer_refusals o) }
+    ensures refusals { IfOk result (λ r. A.refusals atoms.new ≡ A.refusals atoms.old ++ row_refusals r) }
     ensures asked { Gains (IsGivenText store.old next pred (terms_of (A.held atoms.old) store.old arguments)) (A.asked atoms.old) (A.asked atoms.new) }
 {
     dispatch(alloc, store, pred, arguments, next, atoms)
@@ -50,41 +49,37 @@ fn dispatch<A: Atoms>(
     arguments: Arguments,
     next: u64,
     atoms: &mut A,
-) -> Result<Option<Row>, Memory>
+) -> Result<Row, Memory>
     requires inside { IsArguments store.old arguments }
     requires count { arguments.count ≡ arity_of pred }
-    requires kind { kind_of pred ≡ kinds.row }
     requires held { AreHeld (A.held atoms.old) store.old arguments }
     requires above { IsAbove next store.old }
     ensures { Dispatches store.old next pred (terms_of (A.held atoms.old) store.old arguments)
         (A.held atoms.old) (A.held atoms.new) (A.refusals atoms.old) (A.refusals atoms.new) (A.asked atoms.old) (A.asked atoms.new) store.new result }
 {
-    match arguments.len() {
-        1 => {
+    match pred {
+        Pred::One(test) => {
             let term = store.argument(arguments, 0);
-            row_of_one(alloc, store, pred, term)
+            row_of_one(alloc, store, test, term)
         }
-        2 => {
+        Pred::Two(pred) => {
             let first = store.argument(arguments, 0);
             let second = store.argument(arguments, 1);
             row_of_two(alloc, store, pred, first, second, next, atoms)
         }
-        3 => {
+        Pred::Three(pred) => {
             let first = store.argument(arguments, 0);
             let second = store.argument(arguments, 1);
             let third = store.argument(arguments, 2);
             row_of_three(alloc, store, pred, first, second, third, next, atoms)
         }
-        5 => {
+        Pred::SubAtom => {
             let first = store.argument(arguments, 0);
             let second = store.argument(arguments, 1);
             let third = store.argument(arguments, 2);
             let fourth = store.argument(arguments, 3);
             let fifth = store.argument(arguments, 4);
-            row_of_five(
-                alloc, store, pred, first, second, third, fourth, fifth, atoms,
-            )
+            row_of_five(alloc, store, first, second, third, fourth, fifth, atoms)
         }
-        _ => Ok(None),
     }
 }

@@ -2,7 +2,6 @@
 //! 8.7, 8.16): each of them by the crate that gives its row.
 #![tactic(auto)]
 
-mod built;
 mod dispatch;
 mod five;
 mod lines;

@@ -4,14 +4,12 @@ ghost use Rattle.pl_model.specs.TermBuiltins.{three};
 ghost use Rattle.term_store.specs.Contents.{Holds, IsAbove};
 ghost use Rattle.world_builtins.specs.Naming.{IsHeldAt};
 ghost use Rattle.world_builtins.specs.Spelling.{reads};
-ghost use Rattle.builtin_rows.specs.Predicates.{arity_of, kind_of};
-ghost use Rattle.builtin_rows.specs.Predicates as kinds;
-ghost use Rattle.builtin_dispatch.specs.Dispatching.{Dispatches};
+ghost use Rattle.builtin_rows.specs.declared.predicates.Pred.TheVariants.{Three};
+ghost use Rattle.builtin_rows.specs.Dispatching.{Dispatches};
 
-use crate::built::built;
 use atom_api::Atoms;
 use atom_parts::atom_concat;
-use builtin_rows::{Pred, Row};
+use builtin_rows::{OfThree, Row};
 use builtin_term::{arg, compare, functor};
 use pl_term::Memory;
 use std::alloc::Global;
@@ -21,15 +19,13 @@ use term_store::{Place, Store};
 pub fn row_of_three<A: Atoms>(
     alloc: Global,
     store: &mut Store,
-    pred: Pred,
+    pred: OfThree,
     first: Place,
     second: Place,
     third: Place,
     next: u64,
     atoms: &mut A,
-) -> Result<Option<Row>, Memory>
-    requires arity { arity_of pred ≡ 3 }
-    requires kind { kind_of pred ≡ kinds.row }
+) -> Result<Row, Memory>
     requires first { Holds store.old first }
     requires second { Holds store.old second }
     requires third { Holds store.old third }
@@ -37,15 +33,14 @@ pub fn row_of_three<A: Atoms>(
     requires second_held { IsHeldAt (A.held atoms.old) store.old second }
     requires third_held { IsHeldAt (A.held atoms.old) store.old third }
     requires above { IsAbove next store.old }
-    ensures { Dispatches store.old next pred
+    ensures { Dispatches store.old next (Three pred)
         (three (reads (A.held atoms.old) store.old first) (reads (A.held atoms.old) store.old second) (reads (A.held atoms.old) store.old third))
         (A.held atoms.old) (A.held atoms.new) (A.refusals atoms.old) (A.refusals atoms.new) (A.asked atoms.old) (A.asked atoms.new) store.new result }
 {
     match pred {
-        Pred::Compare => built(compare(alloc, store, first, second, third, atoms)),
-        Pred::Functor => built(functor(alloc, store, first, second, third, next)),
-        Pred::Arg => built(arg(alloc, store, first, second, next)),
-        Pred::AtomConcat => built(atom_concat(alloc, store, first, second, third, atoms)),
-        _ => Ok(None),
+        OfThree::Compare => compare(alloc, store, first, second, third, atoms),
+        OfThree::Functor => functor(alloc, store, first, second, third, next),
+        OfThree::Arg => arg(alloc, store, first, second, next),
+        OfThree::AtomConcat => atom_concat(alloc, store, first, second, third, atoms),
     }
 }

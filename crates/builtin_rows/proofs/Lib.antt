@@ -1,3 +1,4 @@
+pub mod Answering
 pub mod Giving
 pub mod Balls
 pub mod Numbers

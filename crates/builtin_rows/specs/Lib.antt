@@ -1,3 +1,4 @@
+pub mod Dispatching
 pub mod Given
 pub mod Laws
 pub mod Lists

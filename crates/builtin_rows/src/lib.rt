@@ -12,6 +12,6 @@ mod row;
 pub use errors::{raised, refused_for, refused_with};
 pub use lists::{ListEnd, list_elements, make_list};
 pub use names::predicate_of;
-pub use predicates::Pred;
+pub use predicates::{Comparison, Meaning, OfOne, OfThree, OfTwo, Pred};
 pub use room::take_room;
 pub use row::Row;

@@ -3,11 +3,11 @@ ghost use Rattle.std.specs.Prelude.{◌≡◌, [], get_or};
 ghost use Rattle.builtin_rows.specs.Tables.{rows_of, with_count};
 ghost use Rattle.builtin_rows.specs.Laws.{IsNamed, TellsRows, TellsShared, TellsConstructs, TellsReserved};
 
-use crate::predicates::{PREDICATES, Pred};
+use crate::predicates::{Meaning, PREDICATES};
 use atom_api::Atom;
 
-/// The predicate with so many arguments, of those with one name.
-fn with_count(named: &[(usize, Pred)], arity: usize) -> Option<Pred>
+/// The meaning of the predicate with so many arguments, of those with one name.
+fn with_count(named: &[(usize, Meaning)], arity: usize) -> Option<Meaning>
     ensures { result ≡ with_count arity named.now }
 {
     for row in named {
@@ -19,7 +19,7 @@ fn with_count(named: &[(usize, Pred)], arity: usize) -> Option<Pred>
 }
 
 /// The row with this number, or an empty one where there is none.
-fn row_at(rows: &[&'static [(usize, Pred)]], number: usize) -> &'static [(usize, Pred)]
+fn row_at(rows: &[&'static [(usize, Meaning)]], number: usize) -> &'static [(usize, Meaning)]
     ensures { result.now ≡ get_or (rows_of rows.now) number [] }
 {
     if number < rows.len() {
@@ -29,8 +29,9 @@ fn row_at(rows: &[&'static [(usize, Pred)]], number: usize) -> &'static [(usize,
     }
 }
 
-/// The built-in predicate with this name and so many arguments, if there is one, by the number of the name alone.
-pub fn predicate_of(name: Atom, arity: usize) -> Option<Pred>
+/// Where the meaning of the built-in predicate with this name and so many arguments stands, if there is one, by the number of the
+/// name alone.
+pub fn predicate_of(name: Atom, arity: usize) -> Option<Meaning>
     ensures named { IsNamed name arity result }
     ensures rows { TellsRows name arity result }
     ensures shares { TellsShared name arity result }

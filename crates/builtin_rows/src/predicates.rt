@@ -1,8 +1,39 @@
 //! The built-in predicates.
 
-/// A built-in predicate of the language that is no control construct.
-#[derive(Clone, Copy, Debug, PartialEq, Eq, Drop)]
+use Comparison::{Different, Greater, GreaterOrEqual, Less, LessOrEqual};
+use Meaning::{Asks, Reserved, Row, Steps};
+use OfTwo::{Terms, Values};
+use Pred::{One, Three, Two};
+
+/// Where the meaning of a built-in predicate stands that is no control construct.
+#[derive(Clone, Copy, Debug, Drop)]
+pub enum Meaning {
+    /// It is a function of its arguments alone.
+    Row(Pred),
+    /// It asks something of the shared state, or checks for it.
+    Asks,
+    /// It is a step of the search.
+    Steps,
+    /// It has none yet: its name is kept for a predicate to come.
+    Reserved,
+}
+
+/// A built-in predicate that is a function of its arguments alone, by how many they are.
+#[derive(Clone, Copy, Debug, Drop)]
 pub enum Pred {
+    /// It has one argument.
+    One(OfOne),
+    /// It has two arguments.
+    Two(OfTwo),
+    /// It has three arguments.
+    Three(OfThree),
+    /// `sub_atom/5`, ISO 8.16.3.
+    SubAtom,
+}
+
+/// The predicates of one argument.
+#[derive(Clone, Copy, Debug, Drop)]
+pub enum OfOne {
     // Type testing (ISO 8.3)
     /// `var/1`, ISO 8.3.1.
     Var,
@@ -24,7 +55,11 @@ pub enum Pred {
     Callable,
     /// `ground/1`, ISO Cor.2 8.3.10.
     Ground,
+}
 
+/// The predicates of two arguments.
+#[derive(Clone, Copy, Debug, Drop)]
+pub enum OfTwo {
     // Unification and comparison (ISO 8.2, 8.4)
     /// `=/2`, ISO 8.2.1.
     Equal,
@@ -34,20 +69,8 @@ pub enum Pred {
     NotUnifiable,
     /// `subsumes_term/2`, ISO Cor.2 8.2.4.
     SubsumesTerm,
-    /// `==/2`, ISO 8.4.1.
-    Identical,
-    /// `\==/2`, ISO 8.4.1.
-    NotIdentical,
-    /// `@</2`, ISO 8.4.1.
-    TermLess,
-    /// `@=</2`, ISO 8.4.1.
-    TermLessOrEqual,
-    /// `@>/2`, ISO 8.4.1.
-    TermGreater,
-    /// `@>=/2`, ISO 8.4.1.
-    TermGreaterOrEqual,
-    /// `compare/3`, ISO Cor.2 8.4.2.
-    Compare,
+    /// `==/2`, `\==/2`, `@</2`, `@=</2`, `@>/2` and `@>=/2`, ISO 8.4.1: terms are compared in the standard order.
+    Terms(Comparison),
     /// `sort/2`, ISO Cor.2 8.4.3.
     Sort,
     /// `msort/2`, SWI-Prolog manual.
@@ -56,10 +79,6 @@ pub enum Pred {
     Keysort,
 
     // Terms (ISO 8.5)
-    /// `functor/3`, ISO 8.5.1.
-    Functor,
-    /// `arg/3`, ISO 8.5.2.
-    Arg,
     /// `=../2`, ISO 8.5.3.
     Univ,
     /// `copy_term/2`, ISO 8.5.4.
@@ -70,76 +89,12 @@ pub enum Pred {
     // Arithmetic (ISO 8.6, 8.7)
     /// `is/2`, ISO 8.6.1.
     Is,
-    /// `=:=/2`, ISO 8.7.1.
-    NumbersEqual,
-    /// `=\=/2`, ISO 8.7.1.
-    NumbersDiffer,
-    /// `</2`, ISO 8.7.1.
-    Less,
-    /// `=</2`, ISO 8.7.1.
-    LessOrEqual,
-    /// `>/2`, ISO 8.7.1.
-    Greater,
-    /// `>=/2`, ISO 8.7.1.
-    GreaterOrEqual,
-
-    // Clauses (ISO 8.8, 8.9, 7.4.2)
-    /// `clause/2`, ISO 8.8.1.
-    Clause,
-    /// `current_predicate/1`, ISO 8.8.2.
-    CurrentPredicate,
-    /// `asserta/1`, ISO 8.9.1.
-    Asserta,
-    /// `assertz/1`, ISO 8.9.2.
-    Assertz,
-    /// `assert/1`, SWI-Prolog manual.
-    Assert,
-    /// `retract/1`, ISO 8.9.3.
-    Retract,
-    /// `retractall/1`, ISO Cor.2 8.9.5.
-    Retractall,
-    /// `abolish/1`, ISO 8.9.4.
-    Abolish,
-    /// `dynamic/1`, ISO 7.4.2.1.
-    Dynamic,
-    /// `discontiguous/1`, ISO 7.4.2.3.
-    Discontiguous,
-    /// `multifile/1`, ISO 7.4.2.2.
-    Multifile,
-    /// `garbage_collect_clauses/0`, SWI-Prolog manual.
-    GarbageCollectClauses,
-
-    // Lists of solutions (ISO 8.10)
-    /// `findall/3`, ISO 8.10.1.
-    Findall,
-
-    // Output (ISO 8.12, 8.14)
-    /// `nl/0`, ISO 8.12.1.
-    Nl,
-    /// `put_char/1`, ISO 8.12.3.
-    PutChar,
-    /// `write/1`, ISO 8.14.2.
-    Write,
-    /// `writeq/1`, ISO 8.14.2.
-    Writeq,
-    /// `print/1`, SWI-Prolog manual.
-    Print,
-    /// `write_canonical/1`, ISO 8.14.2.
-    WriteCanonical,
-
-    // Operators (ISO 8.14)
-    /// `op/3`, ISO 8.14.3.
-    Op,
-    /// `current_op/3`, ISO 8.14.4.
-    CurrentOp,
+    /// `=:=/2`, `=\=/2`, `</2`, `=</2`, `>/2` and `>=/2`, ISO 8.7.1: the values of terms are compared.
+    Values(Comparison),
 
     // Atoms (ISO 8.16)
     /// `atom_length/2`, ISO 8.16.1.
     AtomLength,
-    /// `atom_concat/3`, ISO 8.16.2.
-    AtomConcat,
-    /// `sub_atom/5`, ISO 8.16.3.
-    SubAtom,
     /// `atom_chars/2`, ISO 8.16.4.
     AtomChars,
     /// `atom_codes/2`, ISO 8.16.5.
@@ -150,71 +105,46 @@ pub enum Pred {
     NumberChars,
     /// `number_codes/2`, ISO 8.16.8.
     NumberCodes,
-    /// `garbage_collect_atoms/0`, SWI-Prolog manual.
-    GarbageCollectAtoms,
+}
 
-    // Flags (ISO 8.17)
-    /// `set_prolog_flag/2`, ISO 8.17.1.
-    SetPrologFlag,
-    /// `current_prolog_flag/2`, ISO 8.17.2.
-    CurrentPrologFlag,
+/// The predicates of three arguments.
+#[derive(Clone, Copy, Debug, Drop)]
+pub enum OfThree {
+    // Unification and comparison (ISO 8.2, 8.4)
+    /// `compare/3`, ISO Cor.2 8.4.2.
+    Compare,
 
-    // Threads and queues (SWI-Prolog manual, section 'Multithreaded applications')
-    /// `thread_self/1`, SWI-Prolog manual.
-    ThreadSelf,
-    /// `thread_create/2`, SWI-Prolog manual.
-    ThreadCreate,
-    /// `thread_create/3`, SWI-Prolog manual.
-    ThreadCreateWith,
-    /// `thread_join/2`, SWI-Prolog manual.
-    ThreadJoin,
-    /// `thread_exit/1`, SWI-Prolog manual.
-    ThreadExit,
-    /// `thread_send_message/2`, SWI-Prolog manual.
-    ThreadSendMessage,
-    /// `thread_get_message/1`, SWI-Prolog manual.
-    ThreadGetMessage,
-    /// `thread_get_message/2`, SWI-Prolog manual.
-    ThreadGetMessageFrom,
-    /// `thread_peek_message/1`, SWI-Prolog manual.
-    ThreadPeekMessage,
-    /// `thread_peek_message/2`, SWI-Prolog manual.
-    ThreadPeekMessageFrom,
-    /// `message_queue_create/1`, SWI-Prolog manual.
-    MessageQueueCreate,
-    /// `message_queue_destroy/1`, SWI-Prolog manual.
-    MessageQueueDestroy,
+    // Terms (ISO 8.5)
+    /// `functor/3`, ISO 8.5.1.
+    Functor,
+    /// `arg/3`, ISO 8.5.2.
+    Arg,
 
-    // Names that are kept for predicates to come
-    /// `thread_local/1`, SWI-Prolog manual.
-    ThreadLocal,
-    /// `mutex_create/1`, SWI-Prolog manual.
-    MutexCreate,
-    /// `with_mutex/2`, SWI-Prolog manual.
-    WithMutex,
-    /// `transaction/1`, SWI-Prolog manual.
-    Transaction,
-    /// `snapshot/1`, SWI-Prolog manual.
-    Snapshot,
-    /// `engine_create/3`, SWI-Prolog manual.
-    EngineCreate,
-    /// `engine_next/2`, SWI-Prolog manual.
-    EngineNext,
-    /// `engine_destroy/1`, SWI-Prolog manual.
-    EngineDestroy,
-    /// `phrase/2`, SWI-Prolog manual.
-    Phrase,
-    /// `phrase/3`, SWI-Prolog manual.
-    PhraseWithRest,
-    /// `bagof/3`, ISO 8.10.2.
-    Bagof,
-    /// `setof/3`, ISO 8.10.3.
-    Setof,
+    // Atoms (ISO 8.16)
+    /// `atom_concat/3`, ISO 8.16.2.
+    AtomConcat,
+}
+
+/// A comparison, of terms or of their values.
+#[derive(Clone, Copy, Debug, Drop)]
+pub enum Comparison {
+    /// `==`, `=:=`
+    Equal,
+    /// `\==`, `=\=`
+    Different,
+    /// `@<`, `<`
+    Less,
+    /// `@=<`, `=<`
+    LessOrEqual,
+    /// `@>`, `>`
+    Greater,
+    /// `@>=`, `>=`
+    GreaterOrEqual,
 }
 
 /// The predicates by the number of their name, from the first fixed atom to the last one that is a name, each with the
 /// number of its arguments.
-pub(crate) static PREDICATES: [&[(usize, Pred)]; 203] = [
+pub(crate) static PREDICATES: [&[(usize, Meaning)]; 203] = [
     // `!`
     &[],
     // `*`
@@ -244,37 +174,37 @@ pub(crate) static PREDICATES: [&[(usize, Pred)]; 203] = [
     // `;`
     &[],
     // `<`
-    &[(2, Pred::Less)],
+    &[(2, Row(Two(Values(Less))))],
     // `<<`
     &[],
     // `=`
-    &[(2, Pred::Equal)],
+    &[(2, Row(Two(OfTwo::Equal)))],
     // `=..`
-    &[(2, Pred::Univ)],
+    &[(2, Row(Two(OfTwo::Univ)))],
     // `=:=`
-    &[(2, Pred::NumbersEqual)],
+    &[(2, Row(Two(Values(Comparison::Equal))))],
     // `=<`
-    &[(2, Pred::LessOrEqual)],
+    &[(2, Row(Two(Values(LessOrEqual))))],
     // `==`
-    &[(2, Pred::Identical)],
+    &[(2, Row(Two(Terms(Comparison::Equal))))],
     // `=\=`
-    &[(2, Pred::NumbersDiffer)],
+    &[(2, Row(Two(Values(Different))))],
     // `>`
-    &[(2, Pred::Greater)],
+    &[(2, Row(Two(Values(Greater))))],
     // `>=`
-    &[(2, Pred::GreaterOrEqual)],
+    &[(2, Row(Two(Values(GreaterOrEqual))))],
     // `>>`
     &[],
     // `?-`
     &[],
     // `@<`
-    &[(2, Pred::TermLess)],
+    &[(2, Row(Two(Terms(Less))))],
     // `@=<`
-    &[(2, Pred::TermLessOrEqual)],
+    &[(2, Row(Two(Terms(LessOrEqual))))],
     // `@>`
-    &[(2, Pred::TermGreater)],
+    &[(2, Row(Two(Terms(Greater))))],
     // `@>=`
-    &[(2, Pred::TermGreaterOrEqual)],
+    &[(2, Row(Two(Terms(GreaterOrEqual))))],
     // `[]`
     &[],
     // `\`
@@ -284,13 +214,13 @@ pub(crate) static PREDICATES: [&[(usize, Pred)]; 203] = [
     // `\/`
     &[],
     // `\=`
-    &[(2, Pred::NotUnifiable)],
+    &[(2, Row(Two(OfTwo::NotUnifiable)))],
     // `\==`
-    &[(2, Pred::NotIdentical)],
+    &[(2, Row(Two(Terms(Different))))],
     // `^`
     &[],
     // `abolish`
-    &[(1, Pred::Abolish)],
+    &[(1, Asks)],
     // `abs`
     &[],
     // `access`
@@ -298,39 +228,39 @@ pub(crate) static PREDICATES: [&[(usize, Pred)]; 203] = [
     // `alias`
     &[],
     // `arg`
-    &[(3, Pred::Arg)],
+    &[(3, Row(Three(OfThree::Arg)))],
     // `assert`
-    &[(1, Pred::Assert)],
+    &[(1, Asks)],
     // `asserta`
-    &[(1, Pred::Asserta)],
+    &[(1, Asks)],
     // `assertz`
-    &[(1, Pred::Assertz)],
+    &[(1, Asks)],
     // `atom`
-    &[(1, Pred::Atom)],
+    &[(1, Row(One(OfOne::Atom)))],
     // `atom_chars`
-    &[(2, Pred::AtomChars)],
+    &[(2, Row(Two(OfTwo::AtomChars)))],
     // `atom_codes`
-    &[(2, Pred::AtomCodes)],
+    &[(2, Row(Two(OfTwo::AtomCodes)))],
     // `atom_concat`
-    &[(3, Pred::AtomConcat)],
+    &[(3, Row(Three(OfThree::AtomConcat)))],
     // `atom_length`
-    &[(2, Pred::AtomLength)],
+    &[(2, Row(Two(OfTwo::AtomLength)))],
     // `atom_space`
     &[],
     // `atomic`
-    &[(1, Pred::Atomic)],
+    &[(1, Row(One(OfOne::Atomic)))],
     // `bounded`
     &[],
     // `call`
     &[],
     // `callable`
-    &[(1, Pred::Callable)],
+    &[(1, Row(One(OfOne::Callable)))],
     // `catch`
     &[],
     // `cells`
     &[],
     // `char_code`
-    &[(2, Pred::CharCode)],
+    &[(2, Row(Two(OfTwo::CharCode)))],
     // `character`
     &[],
     // `character_code`
@@ -340,25 +270,25 @@ pub(crate) static PREDICATES: [&[(usize, Pred)]; 203] = [
     // `choices`
     &[],
     // `clause`
-    &[(2, Pred::Clause)],
+    &[(2, Steps)],
     // `codes`
     &[],
     // `compare`
-    &[(3, Pred::Compare)],
+    &[(3, Row(Three(OfThree::Compare)))],
     // `compound`
-    &[(1, Pred::Compound)],
+    &[(1, Row(One(OfOne::Compound)))],
     // `consult`
     &[],
     // `copy_term`
-    &[(2, Pred::CopyTerm)],
+    &[(2, Row(Two(OfTwo::CopyTerm)))],
     // `create`
     &[],
     // `current_op`
-    &[(3, Pred::CurrentOp)],
+    &[(3, Asks)],
     // `current_predicate`
-    &[(1, Pred::CurrentPredicate)],
+    &[(1, Asks)],
     // `current_prolog_flag`
-    &[(2, Pred::CurrentPrologFlag)],
+    &[(2, Asks)],
     // `database`
     &[],
     // `destroy`
@@ -366,7 +296,7 @@ pub(crate) static PREDICATES: [&[(usize, Pred)]; 203] = [
     // `detached`
     &[],
     // `discontiguous`
-    &[(1, Pred::Discontiguous)],
+    &[(1, Asks)],
     // `div`
     &[],
     // `domain_error`
@@ -374,7 +304,7 @@ pub(crate) static PREDICATES: [&[(usize, Pred)]; 203] = [
     // `double_quotes`
     &[],
     // `dynamic`
-    &[(1, Pred::Dynamic)],
+    &[(1, Asks)],
     // `error`
     &[],
     // `evaluable`
@@ -396,27 +326,27 @@ pub(crate) static PREDICATES: [&[(usize, Pred)]; 203] = [
     // `false`
     &[],
     // `findall`
-    &[(3, Pred::Findall)],
+    &[(3, Steps)],
     // `flag`
     &[],
     // `flag_value`
     &[],
     // `float`
-    &[(1, Pred::Float)],
+    &[(1, Row(One(OfOne::Float)))],
     // `functor`
-    &[(3, Pred::Functor)],
+    &[(3, Row(Three(OfThree::Functor)))],
     // `fx`
     &[],
     // `fy`
     &[],
     // `garbage_collect_atoms`
-    &[(0, Pred::GarbageCollectAtoms)],
+    &[(0, Asks)],
     // `garbage_collect_clauses`
-    &[(0, Pred::GarbageCollectClauses)],
+    &[(0, Asks)],
     // `generations`
     &[],
     // `ground`
-    &[(1, Pred::Ground)],
+    &[(1, Row(One(OfOne::Ground)))],
     // `halt`
     &[],
     // `halted`
@@ -432,17 +362,17 @@ pub(crate) static PREDICATES: [&[(usize, Pred)]; 203] = [
     // `int_overflow`
     &[],
     // `integer`
-    &[(1, Pred::Integer)],
+    &[(1, Row(One(OfOne::Integer)))],
     // `integer_rounding_function`
     &[],
     // `integer_too_large`
     &[],
     // `is`
-    &[(2, Pred::Is)],
+    &[(2, Row(Two(OfTwo::Is)))],
     // `join`
     &[],
     // `keysort`
-    &[(2, Pred::Keysort)],
+    &[(2, Row(Two(OfTwo::Keysort)))],
     // `list`
     &[],
     // `main`
@@ -456,9 +386,9 @@ pub(crate) static PREDICATES: [&[(usize, Pred)]; 203] = [
     // `message_queue`
     &[],
     // `message_queue_create`
-    &[(1, Pred::MessageQueueCreate)],
+    &[(1, Asks)],
     // `message_queue_destroy`
-    &[(1, Pred::MessageQueueDestroy)],
+    &[(1, Asks)],
     // `min`
     &[],
     // `min_integer`
@@ -468,27 +398,27 @@ pub(crate) static PREDICATES: [&[(usize, Pred)]; 203] = [
     // `modify`
     &[],
     // `msort`
-    &[(2, Pred::Msort)],
+    &[(2, Row(Two(OfTwo::Msort)))],
     // `multifile`
-    &[(1, Pred::Multifile)],
+    &[(1, Asks)],
     // `nl`
-    &[(0, Pred::Nl)],
+    &[(0, Steps)],
     // `non_empty_list`
     &[],
     // `nonvar`
-    &[(1, Pred::Nonvar)],
+    &[(1, Row(One(OfOne::Nonvar)))],
     // `not_less_than_zero`
     &[],
     // `number`
-    &[(1, Pred::Number)],
+    &[(1, Row(One(OfOne::Number)))],
     // `number_chars`
-    &[(2, Pred::NumberChars)],
+    &[(2, Row(Two(OfTwo::NumberChars)))],
     // `number_codes`
-    &[(2, Pred::NumberCodes)],
+    &[(2, Row(Two(OfTwo::NumberCodes)))],
     // `once`
     &[],
     // `op`
-    &[(3, Pred::Op)],
+    &[(3, Asks)],
     // `operator`
     &[],
     // `operator_priority`
@@ -504,7 +434,7 @@ pub(crate) static PREDICATES: [&[(usize, Pred)]; 203] = [
     // `predicate_indicator`
     &[],
     // `print`
-    &[(1, Pred::Print)],
+    &[(1, Steps)],
     // `private_procedure`
     &[],
     // `procedure`
@@ -512,7 +442,7 @@ pub(crate) static PREDICATES: [&[(usize, Pred)]; 203] = [
     // `prolog_flag`
     &[],
     // `put_char`
-    &[(1, Pred::PutChar)],
+    &[(1, Steps)],
     // `rem`
     &[],
     // `repeat`
@@ -522,48 +452,45 @@ pub(crate) static PREDICATES: [&[(usize, Pred)]; 203] = [
     // `resource_error`
     &[],
     // `retract`
-    &[(1, Pred::Retract)],
+    &[(1, Steps)],
     // `retractall`
-    &[(1, Pred::Retractall)],
+    &[(1, Steps)],
     // `set_prolog_flag`
-    &[(2, Pred::SetPrologFlag)],
+    &[(2, Asks)],
     // `sign`
     &[],
     // `sort`
-    &[(2, Pred::Sort)],
+    &[(2, Row(Two(OfTwo::Sort)))],
     // `static_procedure`
     &[],
     // `sub_atom`
-    &[(5, Pred::SubAtom)],
+    &[(5, Row(Pred::SubAtom))],
     // `subsumes_term`
-    &[(2, Pred::SubsumesTerm)],
+    &[(2, Row(Two(OfTwo::SubsumesTerm)))],
     // `syntax_error`
     &[],
     // `term_variables`
-    &[(2, Pred::TermVariables)],
+    &[(2, Row(Two(OfTwo::TermVariables)))],
     // `thread`
     &[],
     // `thread_create`
-    &[(2, Pred::ThreadCreate), (3, Pred::ThreadCreateWith)],
+    &[(2, Asks), (3, Asks)],
     // `thread_exit`
-    &[(1, Pred::ThreadExit)],
+    &[(1, Steps)],
     // `thread_get_message`
-    &[(1, Pred::ThreadGetMessage), (2, Pred::ThreadGetMessageFrom)],
+    &[(1, Asks), (2, Asks)],
     // `thread_join`
-    &[(2, Pred::ThreadJoin)],
+    &[(2, Asks)],
     // `thread_local`
-    &[(1, Pred::ThreadLocal)],
+    &[(1, Reserved)],
     // `thread_option`
     &[],
     // `thread_peek_message`
-    &[
-        (1, Pred::ThreadPeekMessage),
-        (2, Pred::ThreadPeekMessageFrom),
-    ],
+    &[(1, Asks), (2, Asks)],
     // `thread_self`
-    &[(1, Pred::ThreadSelf)],
+    &[(1, Asks)],
     // `thread_send_message`
-    &[(2, Pred::ThreadSendMessage)],
+    &[(2, Asks)],
     // `threads`
     &[],
     // `throw`
@@ -577,19 +504,19 @@ pub(crate) static PREDICATES: [&[(usize, Pred)]; 203] = [
     // `undefined`
     &[],
     // `unify_with_occurs_check`
-    &[(2, Pred::UnifyWithOccursCheck)],
+    &[(2, Row(Two(OfTwo::UnifyWithOccursCheck)))],
     // `uninstantiation_error`
     &[],
     // `unknown`
     &[],
     // `var`
-    &[(1, Pred::Var)],
+    &[(1, Row(One(OfOne::Var)))],
     // `write`
-    &[(1, Pred::Write)],
+    &[(1, Steps)],
     // `write_canonical`
-    &[(1, Pred::WriteCanonical)],
+    &[(1, Steps)],
     // `writeq`
-    &[(1, Pred::Writeq)],
+    &[(1, Steps)],
     // `xf`
     &[],
     // `xfx`
@@ -605,23 +532,23 @@ pub(crate) static PREDICATES: [&[(usize, Pred)]; 203] = [
     // `{}`
     &[],
     // `mutex_create`
-    &[(1, Pred::MutexCreate)],
+    &[(1, Reserved)],
     // `with_mutex`
-    &[(2, Pred::WithMutex)],
+    &[(2, Reserved)],
     // `transaction`
-    &[(1, Pred::Transaction)],
+    &[(1, Reserved)],
     // `snapshot`
-    &[(1, Pred::Snapshot)],
+    &[(1, Reserved)],
     // `engine_create`
-    &[(3, Pred::EngineCreate)],
+    &[(3, Reserved)],
     // `engine_next`
-    &[(2, Pred::EngineNext)],
+    &[(2, Reserved)],
     // `engine_destroy`
-    &[(1, Pred::EngineDestroy)],
+    &[(1, Reserved)],
     // `phrase`
-    &[(2, Pred::Phrase), (3, Pred::PhraseWithRest)],
+    &[(2, Reserved), (3, Reserved)],
     // `bagof`
-    &[(3, Pred::Bagof)],
+    &[(3, Reserved)],
     // `setof`
-    &[(3, Pred::Setof)],
+    &[(3, Reserved)],
 ];

@@ -1,10 +1,10 @@
 -- Comparisons by what the standard order of two terms is, and signs of orders.
-use Rattle.std.specs.Prelude.{ℕ, Bool, true, false, ◌||◌, Option, Some, None, bytes_eq, if◌then◌else◌}
+use Rattle.std.specs.Prelude.{ℕ, Bool, true, false, ◌||◌, bytes_eq, if◌then◌else◌}
 use Rattle.std.specs.declared.cmp.Ordering.{Ordering}
 use Rattle.std.specs.declared.cmp.Ordering.TheVariants.{Less, Equal, Greater}
 use Rattle.pl_term.specs.Tree.{Chars, Tree, var, int, atom, comp}
-use Rattle.builtin_rows.specs.declared.predicates.Pred.{Pred}
-use Rattle.builtin_rows.specs.declared.predicates.Pred.TheVariants as pred
+use Rattle.builtin_rows.specs.declared.predicates.Comparison.{Comparison}
+use Rattle.builtin_rows.specs.declared.predicates.Comparison.TheVariants as by
 use Rattle.term_store.specs.Heap.{atom_name}
 use Rattle.builtin_term.specs.declared.orders.Orders.{Orders}
 use Rattle.builtin_term.specs.declared.signs.Sign.{Sign}
@@ -13,14 +13,13 @@ use Rattle.builtin_term.specs.declared.signs.Sign.TheVariants.{Fits, NoAtom, NoS
 abbrev pub orders : Bool → Bool → Bool → Orders
 orders l e g = record { less = l; equal = e; greater = g }
 
-abbrev pub orders_of : Pred → Option Orders
-orders_of pred.Identical = Some (orders false true false)
-orders_of pred.NotIdentical = Some (orders true false true)
-orders_of pred.TermLess = Some (orders true false false)
-orders_of pred.TermLessOrEqual = Some (orders true true false)
-orders_of pred.TermGreater = Some (orders false false true)
-orders_of pred.TermGreaterOrEqual = Some (orders false true true)
-orders_of _ = None
+abbrev pub orders_of : Comparison → Orders
+orders_of by.Equal = orders false true false
+orders_of by.Different = orders true false true
+orders_of by.Less = orders true false false
+orders_of by.LessOrEqual = orders true true false
+orders_of by.Greater = orders false false true
+orders_of by.GreaterOrEqual = orders false true true
 
 abbrev pub admits : Orders → Ordering → Bool
 admits w Less = w.less

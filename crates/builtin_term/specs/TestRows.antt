@@ -1,15 +1,14 @@
 -- Rows of predicates that make no terms.
-use Rattle.std.specs.Prelude.{◌≡◌, ◌<◌, ◌^◌, ℕ, zero, List, [], Option, Some, None, true}
+use Rattle.std.specs.Prelude.{◌≡◌, ◌<◌, ◌^◌, ℕ, zero, Option, Some, None, true}
 use Rattle.pl_term.specs.Tree.{Trees, Chars}
 use Rattle.pl_model.specs.History.{Proc}
 use Rattle.pl_model.specs.BuiltinRows as rows
-use Rattle.atom_words.specs.declared.view.Refusal.{Refusal}
 use Rattle.atom_api.specs.Names.{Names, FixedStand}
 use Rattle.term_store.specs.Contents.{Contents}
 use Rattle.builtin_rows.specs.Given.{given}
 use Rattle.builtin_rows.specs.declared.row.Row.{Row}
 use Rattle.builtin_rows.specs.declared.row.Row.TheVariants.{CellsFull}
-use Rattle.builtin_rows.specs.Rows.{IsRow, row_refusals}
+use Rattle.builtin_rows.specs.Rows.{IsRow}
 use Rattle.std.specs.Str.{all_scalars}
 
 -- The row stands for what the definition's row gives, whichever predicate it is of, and whatever the next number of a
@@ -22,16 +21,10 @@ pub record IsFull (s : Contents) (r : Row) : Type 0 where
   pub row : r ≡ CellsFull s.used zero
   pub over : s.budget < s.used
 
--- The same of a predicate that may be none of these.
-abbrev pub Answers : Contents → Trees → Option rows.Row → Names → Contents → Option Row → Type 0
-Answers s ts None m t None = t ≡ s
-Answers s ts (Some row) m t (Some r) = Stands s ts row m t r
-Answers s ts None m t (Some r) = ⊥
-Answers s ts (Some row) m t None = ⊥
-
-abbrev pub answer_refusals : Option Row → List Refusal
-answer_refusals None = []
-answer_refusals (Some r) = row_refusals r
+-- The definition has a row, and the row of places stands for what it gives.
+abbrev pub Answers : Contents → Trees → Option rows.Row → Names → Contents → Row → Type 0
+Answers s ts None m t r = ⊥
+Answers s ts (Some row) m t r = Stands s ts row m t r
 
 -- The fixed atoms have their texts, different atoms have different ones, and these are texts.
 pub record AreNames (m : Names) : Type 0 where

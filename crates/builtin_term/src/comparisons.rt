@@ -1,58 +1,52 @@
 //! Comparison by the standard order (ISO 8.4, Cor.2 8.4.2).
-ghost use Rattle.std.specs.Prelude.{◌≡◌, ◌<◌, ◌^◌, ℕ, [], IfOk, IfSome, codes};
+ghost use Rattle.std.specs.Prelude.{◌≡◌, ◌<◌, ◌^◌, ℕ, [], IfOk, codes};
 ghost use Rattle.pl_term.specs.Order.{order as order_of};
 ghost use Rattle.pl_term.specs.Tree.{more, none};
 ghost use Rattle.pl_model.specs.BuiltinRows as rows;
 ghost use Rattle.pl_model.specs.History.{proc};
 ghost use Rattle.pl_model.specs.TermBuiltins.{compares, three};
-ghost use Rattle.builtin_rows.specs.Predicates.{name_of};
+ghost use Rattle.builtin_rows.specs.Predicates.{name_of_terms};
 ghost use Rattle.builtin_rows.specs.Given.{given};
 ghost use Rattle.builtin_rows.specs.Rows.{IsRow, IsSingle, row_refusals};
 ghost use Rattle.term_store.specs.Contents.{Holds};
 ghost use Rattle.world_builtins.specs.Naming.{IsHeldAt};
 ghost use Rattle.world_builtins.specs.Spelling.{reads};
-ghost use Rattle.builtin_term.specs.TestRows.{Answers, answer_refusals};
+ghost use Rattle.builtin_term.specs.TestRows.{Answers};
 
 use crate::order::compare_places;
 use crate::orders::{admits, orders_of, sign_of};
 use crate::room::{answered, tested};
 use crate::signs::{Sign, sign_at};
 use atom_api::{Atoms, fixed};
-use builtin_rows::{Pred, Row, refused_for};
+use builtin_rows::{Comparison, Row, refused_for};
 use pl_term::Memory;
 use std::alloc::Global;
 use term_store::{Place, Store};
 
-/// ==/2, \==/2, @</2, @=</2, @>/2 and @>=/2 (ISO 8.4.1). None for any other predicate. The only error is out of memory.
+/// ==/2, \==/2, @</2, @=</2, @>/2 and @>=/2 (ISO 8.4.1). The only error is out of memory.
 pub fn comparison<A: Atoms>(
     alloc: Global,
     store: &mut Store,
-    pred: Pred,
+    comparison: Comparison,
     left: Place,
     right: Place,
     atoms: &mut A,
-) -> Result<Option<Row>, Memory>
+) -> Result<Row, Memory>
     requires left { Holds store.old left }
     requires right { Holds store.old right }
     requires left_held { IsHeldAt (A.held atoms.old) store.old left }
     requires right_held { IsHeldAt (A.held atoms.old) store.old right }
-    ensures row { IfOk result (λ o. let m = A.held atoms.old in let t = reads m store.old left in let u = reads m store.old right in
+    ensures row { IfOk result (λ r. let m = A.held atoms.old in let t = reads m store.old left in let u = reads m store.old right in
         let ts = more t (more u none) in
-        Answers store.old ts (rows.test_row (rows.comparison (name_of pred) (order_of t u)) ts) m store.new o) }
-    ensures refuses { IfOk result (λ o. answer_refusals o ≡ []) }
-    ensures single { IfOk result (λ o. IfSome o IsSingle) }
+        Answers store.old ts (rows.test_row (rows.comparison (name_of_terms comparison) (order_of t u)) ts) m store.new r) }
+    ensures refuses { IfOk result (λ r. row_refusals r ≡ []) }
+    ensures single { IfOk result IsSingle }
     ensures same { A.held atoms.new ≡ A.held atoms.old }
     ensures refusals { A.refusals atoms.new ≡ A.refusals atoms.old }
     ensures asked { A.asked atoms.new ≡ A.asked atoms.old }
 {
-    match orders_of(pred) {
-        None => Ok(None),
-        Some(orders) => {
-            let order = compare_places(alloc, store, left, right, atoms)?;
-            let row = tested(store, admits(orders, order))?;
-            Ok(Some(row))
-        }
-    }
+    let order = compare_places(alloc, store, left, right, atoms)?;
+    tested(store, admits(orders_of(comparison), order))
 }
 
 /// compare/3 (ISO Cor.2 8.4.2). Its first argument is a variable or one of `<`, `=` and `>`: for what is no atom it raises

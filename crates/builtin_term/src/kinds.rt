@@ -3,7 +3,7 @@ ghost use Rattle.std.specs.Prelude.{◌≡◌};
 ghost use Rattle.term_store.specs.Contents.{Holds, term_at};
 ghost use Rattle.builtin_term.specs.Kinds.{kinds_of, passes};
 
-use builtin_rows::Pred;
+use builtin_rows::OfOne;
 use term_store::{Place, Store, View};
 
 /// Which kinds of terms pass a test.
@@ -15,21 +15,21 @@ pub struct Kinds {
     pub compound: bool,
 }
 
-/// The kinds of terms that pass a type test. None where the predicate is no type test, and for ground/1.
-pub fn kinds_of(pred: Pred) -> Option<Kinds>
-    ensures { result ≡ kinds_of pred }
+/// The kinds of terms that pass a type test. None for ground/1, which asks for more.
+pub fn kinds_of(test: OfOne) -> Option<Kinds>
+    ensures { result ≡ kinds_of test }
 {
-    match pred {
-        Pred::Var => Some(passing(true, false, false, false)),
-        Pred::Nonvar => Some(passing(false, true, true, true)),
-        Pred::Atom => Some(passing(false, false, true, false)),
-        Pred::Integer => Some(passing(false, true, false, false)),
-        Pred::Float => Some(passing(false, false, false, false)),
-        Pred::Number => Some(passing(false, true, false, false)),
-        Pred::Atomic => Some(passing(false, true, true, false)),
-        Pred::Compound => Some(passing(false, false, false, true)),
-        Pred::Callable => Some(passing(false, false, true, true)),
-        _ => None,
+    match test {
+        OfOne::Var => Some(passing(true, false, false, false)),
+        OfOne::Nonvar => Some(passing(false, true, true, true)),
+        OfOne::Atom => Some(passing(false, false, true, false)),
+        OfOne::Integer => Some(passing(false, true, false, false)),
+        OfOne::Float => Some(passing(false, false, false, false)),
+        OfOne::Number => Some(passing(false, true, false, false)),
+        OfOne::Atomic => Some(passing(false, true, true, false)),
+        OfOne::Compound => Some(passing(false, false, false, true)),
+        OfOne::Callable => Some(passing(false, false, true, true)),
+        OfOne::Ground => None,
     }
 }
 

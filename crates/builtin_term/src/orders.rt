@@ -3,7 +3,7 @@ ghost use Rattle.std.specs.Prelude.{◌≡◌};
 ghost use Rattle.builtin_term.specs.Orders.{admits, orders_of, sign_number};
 
 use atom_api::{Atom, fixed};
-use builtin_rows::Pred;
+use builtin_rows::Comparison;
 use std::cmp::Ordering;
 
 /// For which orders of two terms a comparison is true.
@@ -14,18 +14,17 @@ pub struct Orders {
     pub greater: bool,
 }
 
-/// The orders for which a comparison is true. None where the predicate is no comparison.
-pub fn orders_of(pred: Pred) -> Option<Orders>
-    ensures { result ≡ orders_of pred }
+/// The orders for which a comparison is true.
+pub fn orders_of(comparison: Comparison) -> Orders
+    ensures { result ≡ orders_of comparison }
 {
-    match pred {
-        Pred::Identical => Some(admitting(false, true, false)),
-        Pred::NotIdentical => Some(admitting(true, false, true)),
-        Pred::TermLess => Some(admitting(true, false, false)),
-        Pred::TermLessOrEqual => Some(admitting(true, true, false)),
-        Pred::TermGreater => Some(admitting(false, false, true)),
-        Pred::TermGreaterOrEqual => Some(admitting(false, true, true)),
-        _ => None,
+    match comparison {
+        Comparison::Equal => admitting(false, true, false),
+        Comparison::Different => admitting(true, false, true),
+        Comparison::Less => admitting(true, false, false),
+        Comparison::LessOrEqual => admitting(true, true, false),
+        Comparison::Greater => admitting(false, false, true),
+        Comparison::GreaterOrEqual => admitting(false, true, true),
     }
 }
 

@@ -17,9 +17,10 @@ use Rattle.term_store.specs.declared.words.Place.{Place}
 use Rattle.term_store.specs.declared.views.Arguments.{Arguments}
 use Rattle.term_store.specs.Heap.{atom_name}
 use Rattle.term_store.specs.Contents.{Contents, IsArguments, arguments_at, term_at}
-use Rattle.builtin_rows.specs.declared.predicates.Pred.{Pred}
-use Rattle.builtin_rows.specs.Predicates.{Kind, has_row, is_asking_kind, is_reserved_kind, is_row_kind, is_step_kind, kind_of}
-use Rattle.builtin_rows.specs.Predicates as kinds
+use Rattle.builtin_rows.specs.declared.predicates.Meaning.{Meaning}
+use Rattle.builtin_rows.specs.declared.predicates.Meaning.TheVariants as meaning
+use Rattle.builtin_rows.specs.declared.predicates.Pred.TheVariants.{One, Two, Three, SubAtom}
+use Rattle.builtin_rows.specs.Predicates.{has_row}
 use Rattle.builtin_rows.specs.Laws.{AreTexts, IsNamed, TellsConstructs, TellsReserved, TellsRows, TellsShared, goal_of, is_predicate}
 use Rattle.iso_search.specs.Lines.{lines_of, table_of}
 use Rattle.iso_search.specs.Reading.{IsView, View, reads}
@@ -29,7 +30,6 @@ use Rattle.iso_search.proofs.Naming.{call_is, text_is}
 use Rattle.iso_search.proofs.Spelt.{count-spelled}
 use Rattle.iso_engine.specs.declared.builtin.Builtin.{Builtin}
 use Rattle.iso_engine.specs.Builtins.{IsBuiltinAt, IsNoBuiltin, IsOther, IsSharedOrKept, builtin_alone}
-use Rattle.iso_engine.proofs.Alone.{alone_is_no_row}
 
 one_name : (a b : ℕ) → atom_name a ≡ atom_name b → a ≡ b
 one_name a b e = first a b [] [] e
@@ -48,7 +48,7 @@ unfolding system_predicates
 call_not_kept = refl
 
 -- What is told of a predicate by its name and the number of its arguments.
-pub record IsTold (name arity : ℕ) (o : Option Pred) : Type 0 where
+pub record IsTold (name arity : ℕ) (o : Option Meaning) : Type 0 where
   pub named : IsNamed name arity o
   pub rows : TellsRows name arity o
   pub shares : TellsShared name arity o
@@ -70,6 +70,16 @@ alone_no_lines g t x is no_arguments =
     ∙ ap (λ ts. table_of (row (name_of (spelled g x)) ts 0)) no_arguments
     ∙ ap table_of (no_row_alone (name_of (spelled g x)) 0)
 
+-- A predicate without arguments is no function of them.
+alone_no_row : (name arity : ℕ) (w : Meaning) → arity ≡ 0 → IsNamed name arity (Some w) → has_row (Some w) ≡ false
+alone_no_row name arity (meaning.Row (One p)) none named = absurd (omega (arith, none, named.1))
+alone_no_row name arity (meaning.Row (Two p)) none named = absurd (omega (arith, none, named.1))
+alone_no_row name arity (meaning.Row (Three p)) none named = absurd (omega (arith, none, named.1))
+alone_no_row name arity (meaning.Row SubAtom) none named = absurd (omega (arith, none, named.1))
+alone_no_row name arity meaning.Asks none named = refl
+alone_no_row name arity meaning.Steps none named = refl
+alone_no_row name arity meaning.Reserved none named = refl
+
 module _ (v : View) (view : IsView v) where
   abbrev pub texts : ℕ → Chars
   texts a = text_of v.names (atom_name a)
@@ -88,14 +98,14 @@ module _ (v : View) (view : IsView v) where
       (plain : construct g ≡ other → is_predicate (construct (goal_of (texts name) (arguments g))) ≡ false)
       (kept : is_reserved (proc (texts name) arity) ≡ true → is_reserved (proc_of g) ≡ true) where
     -- A predicate that is no function of its arguments is one of the shared state, or its name is kept.
-    other_is : (p : Pred) (k : Kind) → kind_of p ≡ k → is_row_kind (kind_of p) ≡ false → TellsShared name arity (Some p) → TellsConstructs name arity (Some p)
-        → TellsReserved name arity (Some p) → construct g ≡ other → IsSharedOrKept g
-    other_is p kinds.row e no_row shares constructs reserves is = absurd (true≢false (ap is_row_kind (sym e) ∙ no_row))
-    other_is p kinds.asks e no_row shares constructs reserves is =
-        inl (ap (λ f. is_some (shared f (arguments g))) named ∙ shares texts are_texts (arguments g) many ∙ ap is_asking_kind e)
-    other_is p kinds.steps e no_row shares constructs reserves is =
-        absurd (false≢true (sym (plain is) ∙ constructs texts are_texts (arguments g) many ∙ ap is_step_kind e))
-    other_is p kinds.reserved e no_row shares constructs reserves is = inr (kept (reserves texts are_texts ∙ ap is_reserved_kind e))
+    other_is : (w : Meaning) → has_row (Some w) ≡ false → TellsShared name arity (Some w) → TellsConstructs name arity (Some w) → TellsReserved name arity (Some w)
+        → construct g ≡ other → IsSharedOrKept g
+    other_is (meaning.Row p) no_row shares constructs reserves is = absurd (true≢false no_row)
+    other_is meaning.Asks no_row shares constructs reserves is =
+        inl (ap (λ f. is_some (shared f (arguments g))) named ∙ shares texts are_texts (arguments g) many)
+    other_is meaning.Steps no_row shares constructs reserves is =
+        absurd (false≢true (sym (plain is) ∙ constructs texts are_texts (arguments g) many))
+    other_is meaning.Reserved no_row shares constructs reserves is = inr (kept (reserves texts are_texts))
 
     none_is : TellsRows name arity None → TellsShared name arity None → IsNoBuiltin g
     none_is rows shares =
@@ -105,20 +115,20 @@ module _ (v : View) (view : IsView v) where
         }
 
     -- Where the goal has no arguments.
-    alone_is : arity ≡ 0 → (o : Option Pred) → IsTold name arity o → IsOther g (builtin_alone o)
+    alone_is : arity ≡ 0 → (o : Option Meaning) → IsTold name arity o → IsOther g (builtin_alone o)
     alone_is none None told = none_is told.rows told.shares
-    alone_is none (Some p) told = other_is p (kind_of p) refl (alone_is_no_row p (sym none ∙ told.named.1)) told.shares told.constructs told.reserves
+    alone_is none (Some w) told = other_is w (alone_no_row name arity w none told.named) told.shares told.constructs told.reserves
 
   -- The goal at a place
   module _ (s : Contents) (at : Place) where
-    pub variable_is : (n : ℕ) (o : Option Pred) → term_at s at ≡ var n → IsTold call_name 0 o → IsOther (reads v s at) (builtin_alone o)
+    pub variable_is : (n : ℕ) (o : Option Meaning) → term_at s at ≡ var n → IsTold call_name 0 o → IsOther (reads v s at) (builtin_alone o)
     variable_is n o is told =
         let call = text_is v view call_name (codes "call") call_is
         in subst (λ x. IsOther (spelled (text_of v.names) x) (builtin_alone o)) (sym is)
         (alone_is (var n) call_name 0 (sym call) refl (λ k. ap (λ f. is_predicate (construct (atom f))) call ∙ no_call)
         (λ k. absurd (false≢true (sym call_not_kept ∙ ap (λ f. is_reserved (proc f 0)) (sym call) ∙ k))) refl o told)
 
-    pub atom_is : (name : ℕ) (o : Option Pred) → term_at s at ≡ atom (atom_name name) → IsTold name 0 o → IsOther (reads v s at) (builtin_alone o)
+    pub atom_is : (name : ℕ) (o : Option Meaning) → term_at s at ≡ atom (atom_name name) → IsTold name 0 o → IsOther (reads v s at) (builtin_alone o)
     atom_is name o is told =
         subst (λ x. IsOther (spelled (text_of v.names) x) (builtin_alone o)) (sym is)
         (alone_is (atom (texts name)) name 0 refl refl (λ k. ap is_predicate k) (λ k. k) refl o told)
@@ -149,25 +159,25 @@ module _ (v : View) (view : IsView v) where
       pub compound_is_none : TellsRows name a.count None → TellsShared name a.count None → IsNoBuiltin (reads v s at)
       compound_is_none rows shares = told_at IsNoBuiltin (λ g named many plain kept. none_is g name a.count named many plain kept rows shares)
 
-      pub compound_no_lines : (o : Option Pred) → has_row o ≡ false → TellsRows name a.count o → lines_of (reads v s at) ≡ []
+      pub compound_no_lines : (o : Option Meaning) → has_row o ≡ false → TellsRows name a.count o → lines_of (reads v s at) ≡ []
       compound_no_lines o no_row rows =
           told_at (λ g. lines_of g ≡ [])
           (λ g named many plain kept.
           no_lines (row (name_of g) (arguments g) 0)
           (ap (λ f. is_some (row f (arguments g) 0)) named ∙ rows texts are_texts (arguments g) many 0 ∙ no_row))
 
-      pub compound_is_other : (p : Pred) → is_row_kind (kind_of p) ≡ false → IsTold name a.count (Some p) → construct (reads v s at) ≡ other
+      pub compound_is_other : (w : Meaning) → has_row (Some w) ≡ false → IsTold name a.count (Some w) → construct (reads v s at) ≡ other
           → IsSharedOrKept (reads v s at)
-      compound_is_other p no_row told =
+      compound_is_other w no_row told =
           told_at (λ g. construct g ≡ other → IsSharedOrKept g)
           (λ g named many plain kept.
-          other_is g name a.count named many plain kept p (kind_of p) refl no_row told.shares told.constructs told.reserves)
+          other_is g name a.count named many plain kept w no_row told.shares told.constructs told.reserves)
 
 -- What the goal at a place is that has no arguments.
-pub alone_at : (s : Contents) (at : Place) (o : Option Pred) (b : Builtin) → b ≡ builtin_alone o → ((v : View) → IsView v → IsOther (reads v s at) (builtin_alone o))
+pub alone_at : (s : Contents) (at : Place) (o : Option Meaning) (b : Builtin) → b ≡ builtin_alone o → ((v : View) → IsView v → IsOther (reads v s at) (builtin_alone o))
     → IsBuiltinAt s at b
 alone_at s at o b is told = subst (IsBuiltinAt s at) (sym is) (go o told)
   where
-    go : (p : Option Pred) → ((v : View) → IsView v → IsOther (reads v s at) (builtin_alone p)) → IsBuiltinAt s at (builtin_alone p)
+    go : (p : Option Meaning) → ((v : View) → IsView v → IsOther (reads v s at) (builtin_alone p)) → IsBuiltinAt s at (builtin_alone p)
     go None h = h
     go (Some p) h = h

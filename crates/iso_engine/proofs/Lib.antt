@@ -1,5 +1,4 @@
 pub mod Alike
-pub mod Alone
 pub mod Answered
 pub mod Arms
 pub mod Asking

@@ -10,8 +10,8 @@ use Rattle.world_api.specs.Told.{Told}
 use Rattle.iso_engine.specs.declared.engine.Engine.{Engine}
 use Rattle.iso_engine.specs.declared.slices.Slice.{Slice}
 use Rattle.iso_engine.specs.declared.slices.Slice.TheVariants as slices
-use Rattle.iso_engine.specs.declared.unserved.Unserved.{Unserved}
-use Rattle.iso_engine.specs.declared.unserved.Unserved.TheVariants.{NeedsAtoms, Retry, Worn, Memory}
+use Rattle.world_api.specs.declared.unserved.Unserved.{Unserved}
+use Rattle.world_api.specs.declared.unserved.Unserved.TheVariants.{NeedsAtoms, Retry, Worn, Memory}
 use Rattle.iso_engine.specs.Advancing.{Advances}
 use Rattle.iso_engine.specs.Retrying.{IsTakenBack}
 use Rattle.iso_engine.specs.Slices.{IsStepped}

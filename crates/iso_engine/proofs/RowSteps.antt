@@ -26,7 +26,8 @@ use Rattle.builtin_rows.specs.declared.row.Row.{Row}
 use Rattle.builtin_rows.specs.declared.row.Row.TheVariants.{Fails, Holds as HoldsRow, Answer, Line, Ball, CellsFull, NeedsAtoms, Retry, Worn}
 use Rattle.builtin_rows.specs.Given.{given_texts}
 use Rattle.builtin_rows.specs.Rows.{row_refusals}
-use Rattle.builtin_dispatch.specs.Dispatching.{AreHeld, HasLines, IsRowOf, given_by, terms_of}
+use Rattle.builtin_rows.specs.Dispatching.{HasLines, IsRowOf, given_by}
+use Rattle.builtin_dispatch.specs.Dispatching.{AreHeld, terms_of}
 use Rattle.iso_engine.specs.Leading.{IsOfTable, IsRowMade, Origin}
 use Rattle.iso_search.specs.declared.search.Search.{Search}
 use Rattle.iso_search.specs.declared.outcome.Fault.TheVariants.{Inferences}
@@ -45,10 +46,10 @@ use Rattle.iso_search.proofs.Spelt.{count-spelled}
 use Rattle.iso_engine.proofs.OutputSteps.{read_held}
 use Rattle.iso_engine.specs.declared.builtin.RowGoal.{RowGoal}
 use Rattle.iso_engine.specs.Builtins.{IsRowGoal}
-use Rattle.iso_engine.specs.declared.unserved.Unserved.{Unserved}
-use Rattle.iso_engine.specs.declared.unserved.Unserved.TheVariants as unserved
+use Rattle.world_api.specs.declared.unserved.Unserved.{Unserved}
+use Rattle.world_api.specs.declared.unserved.Unserved.TheVariants as unserved
 use Rattle.iso_engine.specs.Rows.{IsGivenText, IsRowAt, LeadsTo, refusal_of}
-use Rattle.iso_engine.specs.Unserved.{refusals_of, slice_of}
+use Rattle.world_api.specs.Unserved.{unserved_refusals}
 use Rattle.iso_engine.proofs.Calls.{taken_costs}
 use Rattle.iso_engine.proofs.Equals.{keeps_counted}
 use Rattle.iso_engine.proofs.Procedures.{compound_proc, proc_as}
@@ -100,18 +101,6 @@ pub row_proc : (v : View) → IsView v → (s : Contents) (r : RowGoal) → IsRo
 row_proc v view s r at =
     compound_proc v s r.place r.name r.arguments.count r.arguments at.means at.inside at.some refl
     ∙ ap₂ proc (text_is v view r.name (kinds.name_of r.pred) at.named) at.many
-
-listed_count : (h : Chars → Chars) (f : Chars) (xs : List Tree) → count (arguments (spelled h (compound f xs))) ≡ length xs
-listed_count h f [] = refl
-listed_count h f (x ∷ xs) = ap suc (count-spelled h (trees xs) ∙ count-trees xs)
-
--- It has so many arguments.
-pub row_count : (v : View) (s : Contents) (r : RowGoal) → IsRowGoal s r → count (arguments (reads v s r.place)) ≡ arity_of r.pred
-row_count v s r at =
-    ap (λ x. count (arguments (spelled (text_of v.names) x))) at.means
-    ∙ listed_count (text_of v.names) (atom_name r.name) (arguments_at s r.arguments)
-    ∙ how_many s r.arguments at.inside
-    ∙ at.many
 
 -- What the goal gives
 module _ (m : Names) (v : View) (view : IsView v) (grown : Holds m v.names) (s : Contents) (r : RowGoal) (at : IsRowGoal s r) (held : IsHeldAt m s r.place) where
@@ -270,7 +259,7 @@ unrefused (Worn w) e = absurd (some_none (unserved.Worn w) e)
 
 refusals_told : Option Unserved → List Refusal
 refusals_told None = []
-refusals_told (Some u) = refusals_of (slice_of u)
+refusals_told (Some u) = unserved_refusals u
 
 all_told : (row : Row) → row_refusals row ≡ refusals_told (refusal_of row)
 unfolding refusals_told
@@ -285,6 +274,6 @@ all_told (Retry c) = refl
 all_told (Worn w) = refl
 
 -- The refusal of a row.
-pub row_refused : (row : Row) (u : Unserved) → refusal_of row ≡ Some u → row_refusals row ≡ refusals_of (slice_of u)
+pub row_refused : (row : Row) (u : Unserved) → refusal_of row ≡ Some u → row_refusals row ≡ unserved_refusals u
 unfolding refusals_told
 row_refused row u is = all_told row ∙ ap refusals_told is

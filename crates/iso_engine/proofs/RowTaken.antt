@@ -10,9 +10,6 @@ use Rattle.pl_model.specs.Control.{construct, name_of, step}
 use Rattle.pl_model.specs.Terms.{arguments}
 use Rattle.pl_term.specs.Tree.{count}
 use Rattle.atom_api.specs.Names.{FixedStand, Names}
-use Rattle.builtin_dispatch.specs.Unbuilt.{is_unbuilt_row}
-use Rattle.builtin_rows.specs.Predicates as kinds
-use Rattle.builtin_rows.specs.Predicates.{arity_of}
 use Rattle.term_store.specs.Contents.{term_at}
 use Rattle.term_store.specs.Heap.{atom_name}
 use Rattle.world_api.specs.declared.visit.Procedure.{Procedure}
@@ -33,26 +30,20 @@ use Rattle.iso_engine.specs.declared.builtin.RowGoal.{RowGoal}
 use Rattle.iso_engine.specs.declared.doing.Doing.TheVariants.{Running}
 use Rattle.iso_engine.specs.declared.engine.Engine.{Engine}
 use Rattle.iso_engine.specs.declared.slices.Slice.{Slice}
-use Rattle.iso_engine.specs.declared.slices.Slice.TheVariants.{Missing}
 use Rattle.iso_engine.specs.Builtins.{IsRowGoal}
 use Rattle.iso_engine.specs.Following.{HasProcedure}
 use Rattle.iso_engine.specs.Views.{view_of}
-use Rattle.iso_engine.specs.Missing.{IsUnbuilt}
 use Rattle.iso_engine.specs.Ready.{IsReady, StepsFrom}
-use Rattle.iso_engine.specs.Rows.{IsGivenText, IsRowAt, IsRowText, IsUnbuiltRow, LeadsTo}
+use Rattle.iso_engine.specs.Rows.{IsGivenText, IsRowAt, IsRowText, LeadsTo}
 use Rattle.iso_engine.specs.Retrying.{IsTakenBack}
 use Rattle.iso_engine.specs.Slices.{IsStepped}
 use Rattle.iso_engine.specs.Standing.{doing_of, state_at}
-use Rattle.iso_engine.specs.Tasks.{IsMissingTask}
 use Rattle.iso_engine.proofs.Followed.{goal_done, run_setting}
 use Rattle.iso_engine.proofs.Moving.{IsMoved, seen_moved}
 use Rattle.iso_engine.proofs.Opening.{goal_held}
 use Rattle.iso_engine.proofs.Procedures.{compound_proc}
 use Rattle.iso_engine.proofs.Refusals.{refused_step}
-use Rattle.iso_engine.proofs.RowSteps.{row_count, row_proc}
 use Rattle.iso_engine.proofs.TakenBack.{called_back}
-use Rattle.iso_engine.proofs.Tasking.{task_is_missing}
-use Rattle.iso_engine.proofs.Unbuilt.{goal_missing}
 
 -- What is done next follows the outcome of the predicate.
 abbrev pub IsFollowedAs : Engine → ℕ → Procedure → Outcome → Type 0
@@ -109,17 +100,7 @@ module _ (m n : Names) (t : Told) (e f : Engine) (r : RowGoal) (list cut rest : 
       leads.after.inside (has_procedure e.search r at.goal_is q viewed) (leads.step s cut viewed alike.holds) (follows s viewed)
       in seen_moved m n t t e f holds view ready t.history (record { later = []; grown = sym (append-nil t.history); others = refl }) refl steps leads.after.budgets wanted given leads.whole
 
-  -- The predicate is not built yet.
-  row_missing : is_unbuilt_row (kinds.name_of r.pred) (arity_of r.pred) ≡ true → IsMissingTask e.search.store (Goal r.place cut) procedure
-  row_missing unbuilt =
-      goal_missing e.search.store r.place procedure (has_procedure e.search r at.goal_is)
-      (λ v viewed.
-      let g = reads v e.search.store r.place
-      in subst (IsUnbuilt g) (sym (at.other_is v viewed))
-      (inl (ap₂ is_unbuilt_row (ap (λ (p : Rattle.pl_model.specs.History.Proc). p.name) (row_proc v viewed e.search.store r at.goal_is)) (row_count v e.search.store r at.goal_is) ∙ unbuilt)))
-      cut
-
-  -- It was not.
+  -- It was not run.
   module _ (stands : FixedStand n) (unlike : (a b : ℕ) (y : Chars) → n a ≡ Some y → n b ≡ Some y → a ≡ b)
       (finite : (a : ℕ) (y : Chars) → n a ≡ Some y → (a < 2 ^ 32) × (size y ≤ 248) × (all_scalars y ≡ true)) (same : f ≡ e) where
     abbrev stays : Rattle.iso_engine.specs.Advancing.Advances 0 m t e n t f [] × IsReady n t f
@@ -131,15 +112,3 @@ module _ (m n : Names) (t : Told) (e f : Engine) (r : RowGoal) (list cut rest : 
     -- The goal is to be tried again.
     pub refused_stepped : (s : Slice) → IsTakenBack s → IsStepped m t e (Some s) n t f []
     refused_stepped s again = refused_step m t e n t f s again stays.0
-
-    -- Its predicate is not built.
-    pub missing_stepped : (p : Procedure) → IsUnbuiltRow r p → IsStepped m t e (Some (Missing p)) n t f []
-    missing_stepped p h =
-        let here : IsReady n t e = subst (IsReady n t) same stays.1
-        in let missing = task_is_missing n t e list rest doing here.stable stands unlike finite view (Goal r.place cut) procedure first (row_missing h.0)
-        in (
-          refl,
-          subst (λ (x : Engine). Rattle.iso_engine.specs.Missing.IsMissing n t x p) (sym same)
-              (subst (Rattle.iso_engine.specs.Missing.IsMissing n t e) (sym h.1) missing),
-          stays.0,
-        )

@@ -38,7 +38,7 @@ use Rattle.iso_engine.specs.TableLines.{IsGoneBack, IsNextMade, LineOrigin}
 use Rattle.iso_engine.specs.declared.builtin.RowGoal.{RowGoal}
 use Rattle.iso_engine.specs.declared.doing.Doing.TheVariants.{Failing}
 use Rattle.iso_engine.specs.declared.engine.Engine.{Engine}
-use Rattle.iso_engine.specs.declared.unserved.Unserved.{Unserved}
+use Rattle.world_api.specs.declared.unserved.Unserved.{Unserved}
 use Rattle.iso_engine.specs.Builtins.{IsRowGoal}
 use Rattle.iso_engine.specs.Lines.{IsLineAsked, LineLeadsTo}
 use Rattle.iso_engine.specs.Retrying.{IsTried}

@@ -60,7 +60,7 @@ left v s (WritesQuoted t) g h built none = absurd (true≢false none)
 left v s (WritesCanonical t) g h built none = absurd (true≢false none)
 left v s WritesNewline g h built none = absurd (true≢false none)
 left v s (Puts t) g h built none = absurd (true≢false none)
-left v s Other g h built none = inr (built refl)
+left v s Other g h built none = built refl
 
 pub left_unbuilt : (v : View) (s : Contents) (k : Construct) (g : Tree) → construction v s k ≡ construct g → IsLeft k → (is_other_kind k ≡ true → IsSharedOrKept g)
     → is_write_kind k ≡ false → IsUnbuilt g (construct g)
@@ -155,7 +155,7 @@ module _ (s : Contents) (w : Place) (p : Procedure) (k : Construct) (a : Bool) (
   left_other b kind told same =
       let other_at = subst (IsBuiltinAt s w) same told
       in goal_missing s w p is
-      (λ v view. subst (IsUnbuilt (reads v s w)) (sym (is_other_at kind v view)) (inr (other_at v view (is_other_at kind v view))))
+      (λ v view. subst (IsUnbuilt (reads v s w)) (sym (is_other_at kind v view)) (other_at v view (is_other_at kind v view)))
 
   pub left_row : (b : Builtin) (r : RowGoal) → a ≡ true → IsBuiltinAt s w b → b ≡ RowBuiltin r → IsLeftOver s w (RowDid r)
   left_row b r kind told row =

@@ -12,8 +12,8 @@ use Rattle.term_store.specs.declared.words.Place.{Place}
 use Rattle.term_store.specs.Heap.{atom_name}
 use Rattle.term_store.specs.Contents.{Contents, Holds, IsArguments, arguments_at, term_at}
 use Rattle.builtin_rows.specs.Predicates as kinds
-use Rattle.builtin_rows.specs.Predicates.{arity_of, kind_of}
-use Rattle.builtin_rows.specs.declared.predicates.Pred.{Pred}
+use Rattle.builtin_rows.specs.Predicates.{arity_of}
+use Rattle.builtin_rows.specs.declared.predicates.Meaning.{Meaning}
 use Rattle.iso_search.specs.Reading.{IsView, View, reads}
 use Rattle.iso_engine.specs.declared.builtin.Builtin.{Builtin}
 use Rattle.iso_engine.specs.declared.builtin.Builtin.TheVariants.{Row, Other, No}
@@ -36,7 +36,6 @@ pub record IsRowGoal (s : Contents) (r : RowGoal) : Type 0 where
   pub means : term_at s r.place ≡ compound (atom_name r.name) (arguments_at s r.arguments)
   pub named : fixed r.name ≡ Some (kinds.name_of r.pred)
   pub many : r.arguments.count ≡ arity_of r.pred
-  pub kind : kind_of r.pred ≡ kinds.row
 
 -- What is said of a goal that is no function of its arguments.
 abbrev pub IsOther : Tree → Builtin → Type 0
@@ -50,6 +49,6 @@ IsBuiltinAt s goal (Row r) = (r.place ≡ goal) × IsRowGoal s r
 IsBuiltinAt s goal b = (v : View) → IsView v → IsOther (reads v s goal) b
 
 -- A goal without arguments, by the predicate with its name.
-abbrev pub builtin_alone : Option Pred → Builtin
+abbrev pub builtin_alone : Option Meaning → Builtin
 builtin_alone None = No
 builtin_alone (Some p) = Other

@@ -1,16 +1,14 @@
 -- What is not built yet.
 use Rattle.std.specs.Prelude.{◌≡◌, List, [], ◌∷◌, ◌⊎◌, Some, true, false, codes, Bool}
-use Rattle.pl_term.specs.Tree.{Chars, Tree, int, count}
+use Rattle.pl_term.specs.Tree.{Chars, Tree, int}
 use Rattle.pl_model.specs.History.{Proc, proc}
 use Rattle.pl_model.specs.Predicates.{proc_of}
-use Rattle.pl_model.specs.Terms.{arguments}
 use Rattle.pl_model.specs.Resolution.{Pending, goal, commit, refute, leave, collect, running, failing, throwing, erasing, clearing, answering, ended}
 use Rattle.pl_model.specs.Resolution as resolution
-use Rattle.pl_model.specs.Control.{Construct, succeeds, cuts, conjunction, disjunction, if_then, if_then_else, fails, repeats, calls, not_provable, once, catches, throws, finds_all, halts, writes, prints, puts, other, construct, name_of}
+use Rattle.pl_model.specs.Control.{Construct, succeeds, cuts, conjunction, disjunction, if_then, if_then_else, fails, repeats, calls, not_provable, once, catches, throws, finds_all, halts, writes, prints, puts, other, construct}
 use Rattle.atom_api.specs.Names.{Names}
 use Rattle.world_api.specs.declared.visit.Procedure.{Procedure}
 use Rattle.world_api.specs.Told.{Told}
-use Rattle.builtin_dispatch.specs.Unbuilt.{is_unbuilt_row}
 use Rattle.iso_engine.specs.declared.engine.Engine.{Engine}
 use Rattle.iso_engine.specs.Builtins.{IsNoBuiltin, IsSharedOrKept}
 use Rattle.iso_engine.specs.Views.{view_of}
@@ -21,8 +19,8 @@ pub record IsCall (g : Tree) : Type 0 where
   pub construct_is : construct g ≡ other
   pub no_builtin : IsNoBuiltin g
 
--- Goals that are no control constructs, of which those that are no steps of the search of their own are predicates of their
--- arguments that are not built, or predicates of the shared state, or have a name that is kept.
+-- Goals that are no control constructs, of which those that are no steps of the search of their own are predicates of the
+-- shared state, or have a name that is kept.
 abbrev pub IsUnbuilt : Tree → Construct → Type 0
 IsUnbuilt g succeeds = ⊥
 IsUnbuilt g cuts = ⊥
@@ -42,7 +40,7 @@ IsUnbuilt g (halts t) = ⊥
 IsUnbuilt g (writes t) = ⊥
 IsUnbuilt g (prints t) = ⊥
 IsUnbuilt g (puts t) = ⊥
-IsUnbuilt g other = (is_unbuilt_row (name_of g) (count (arguments g)) ≡ true) ⊎ IsSharedOrKept g
+IsUnbuilt g other = IsSharedOrKept g
 IsUnbuilt g _ = Unit {0}
 
 abbrev pub is_integer : Tree → Bool

@@ -1,5 +1,5 @@
 -- Goals of built-in predicates that are functions of their arguments, and what they lead to.
-use Rattle.std.specs.Prelude.{◌≡◌, ℕ, List, [], ◌∷◌, true, Option, Some, None}
+use Rattle.std.specs.Prelude.{◌≡◌, ℕ, List, ◌∷◌, Option, Some, None}
 use Rattle.std.specs.List.{Contains}
 use Rattle.pl_term.specs.Tree.{Chars, Tree}
 use Rattle.pl_model.specs.Builtins.{row}
@@ -10,14 +10,10 @@ use Rattle.pl_model.specs.Resolution as resolution
 use Rattle.pl_model.specs.Terms.{arguments}
 use Rattle.pl_model.specs.Control.{construct, name_of, other, take_up}
 use Rattle.atom_api.specs.Names.{Names}
-use Rattle.builtin_dispatch.specs.Unbuilt.{is_unbuilt_row}
-use Rattle.builtin_rows.specs.Predicates as kinds
-use Rattle.builtin_rows.specs.Predicates.{arity_of}
 use Rattle.builtin_rows.specs.Given.{given, given_texts}
 use Rattle.builtin_rows.specs.declared.row.Row.{Row}
 use Rattle.builtin_rows.specs.declared.row.Row.TheVariants.{NeedsAtoms as RefusedFull, Retry as RefusedAgain, Worn as RefusedWorn}
 use Rattle.term_store.specs.Contents.{Contents}
-use Rattle.world_api.specs.declared.visit.Procedure.{Procedure}
 use Rattle.world_api.specs.Texts.{Holds}
 use Rattle.world_api.specs.Told.{Told}
 use Rattle.iso_search.specs.declared.search.Search.{Search}
@@ -27,10 +23,8 @@ use Rattle.iso_search.specs.Reading.{IsView, View, reads}
 use Rattle.iso_search.specs.Searching.{IsWhole, node_of}
 use Rattle.iso_engine.specs.declared.builtin.RowGoal.{RowGoal}
 use Rattle.iso_engine.specs.declared.engine.Engine.{Engine}
-use Rattle.iso_engine.specs.declared.rows.Tried.{Tried}
-use Rattle.iso_engine.specs.declared.rows.Tried.TheVariants.{Led, Missing}
-use Rattle.iso_engine.specs.declared.unserved.Unserved.{Unserved}
-use Rattle.iso_engine.specs.declared.unserved.Unserved.TheVariants.{NeedsAtoms, Retry, Worn}
+use Rattle.world_api.specs.declared.unserved.Unserved.{Unserved}
+use Rattle.world_api.specs.declared.unserved.Unserved.TheVariants.{NeedsAtoms, Retry, Worn}
 use Rattle.iso_engine.specs.Builtins.{IsRowGoal}
 use Rattle.iso_engine.specs.Views.{view_of}
 use Rattle.iso_engine.specs.Standing.{doing_of}
@@ -54,15 +48,6 @@ refusal_of (RefusedFull p) = Some (NeedsAtoms p)
 refusal_of (RefusedAgain c) = Some (Retry c)
 refusal_of (RefusedWorn w) = Some (Worn w)
 refusal_of r = None
-
--- Its predicate is not built.
-abbrev pub IsUnbuiltRow : RowGoal → Procedure → Type 0
-IsUnbuiltRow r p = (is_unbuilt_row (kinds.name_of r.pred) (arity_of r.pred) ≡ true) × (p ≡ record { name = r.name; arity = r.arguments.count })
-
--- What came of the goal, before the tasks of a list.
-abbrev pub IsTried : Names → Search → RowGoal → ℕ → Search → Tried → Type 0
-IsTried n e r rest f (Led o) = LeadsTo n e r rest f o
-IsTried n e r rest f (Missing p) = (f ≡ e) × IsUnbuiltRow r p
 
 -- The text is one of what the row of the goal gives.
 pub record IsGivenText (g : Tree) (next used budget : ℕ) (c : Chars) : Type 0 where

@@ -5,24 +5,9 @@ use Rattle.atom_words.specs.declared.view.Refusal.{Refusal}
 use Rattle.atom_words.specs.declared.view.Refusal.TheVariants.{Full as RefusalFull, Again as RefusalAgain, Worn as RefusalWorn}
 use Rattle.iso_engine.specs.declared.slices.Slice.{Slice}
 use Rattle.iso_engine.specs.declared.slices.Slice.TheVariants as slices
-use Rattle.iso_engine.specs.declared.unserved.Unserved.{Unserved}
-use Rattle.iso_engine.specs.declared.unserved.Unserved.TheVariants.{NeedsAtoms, Retry, Worn, Memory}
-
--- Where the step is to be made again.
-abbrev pub OnRefusal : {T : Type 0} → Result T Unserved → Type 0 → Type 0
-OnRefusal (Ok x) P = Unit {0}
-OnRefusal (Err (NeedsAtoms p)) P = P
-OnRefusal (Err (Retry c)) P = P
-OnRefusal (Err (Worn w)) P = P
-OnRefusal (Err Memory) P = Unit {0}
-
--- Where memory did not run out.
-abbrev pub UnlessMemory : {T : Type 0} → Result T Unserved → Type 0 → Type 0
-UnlessMemory (Ok x) P = P
-UnlessMemory (Err (NeedsAtoms p)) P = P
-UnlessMemory (Err (Retry c)) P = P
-UnlessMemory (Err (Worn w)) P = P
-UnlessMemory (Err Memory) P = Unit {0}
+pub use Rattle.world_api.specs.Unserved.{OnRefusal, UnlessMemory, refusals_in}
+use Rattle.world_api.specs.declared.unserved.Unserved.{Unserved}
+use Rattle.world_api.specs.declared.unserved.Unserved.TheVariants.{NeedsAtoms, Retry, Worn, Memory}
 
 -- How a slice ends at the step, if it does.
 abbrev pub as_stopped : Result (Option Slice) Unserved → Result (Option Slice) NoMemory
@@ -42,17 +27,6 @@ refusals_of _ = []
 abbrev pub stopped_refusals : Option Slice → List Refusal
 stopped_refusals None = []
 stopped_refusals (Some s) = refusals_of s
-
--- What a step that was not made appends to it.
-abbrev pub slice_of : Unserved → Slice
-slice_of (NeedsAtoms p) = slices.NeedsAtoms p
-slice_of (Retry c) = slices.Retry c
-slice_of (Worn w) = slices.Worn w
-slice_of Memory = slices.Memory
-
-abbrev pub refusals_in : {T : Type 0} → Result T Unserved → List Refusal
-refusals_in (Ok x) = []
-refusals_in (Err u) = refusals_of (slice_of u)
 
 -- The list of refusals has grown by that of the answer. After running out of memory nothing is said.
 abbrev pub IsRefusedBy : Slice → List Refusal → List Refusal → Type 0

@@ -6,9 +6,8 @@ ghost use Rattle.iso_search.specs.Reading.{IsView, View, reads};
 ghost use Rattle.iso_engine.specs.Builtins.{IsBuiltinAt, IsRowGoal, builtin_alone};
 ghost use Rattle.iso_engine.specs.Following.{IsInteger};
 
-use crate::kinds::is_row;
 use atom_api::{Atom, fixed};
-use builtin_rows::{Pred, predicate_of};
+use builtin_rows::{Meaning, Pred, predicate_of};
 use term_store::{Arguments, Place, Store, View as Kind};
 use world_api::Procedure;
 
@@ -58,18 +57,17 @@ pub fn builtin_at(store: &Store, goal: Place) -> Builtin
         Kind::Atom(name) => alone(predicate_of(name, 0)),
         Kind::Compound(name, arguments) => match predicate_of(name, arguments.len()) {
             None => Builtin::No,
-            Some(pred) => {
-                if is_row(pred) {
-                    Builtin::Row(RowGoal {
-                        place: goal,
-                        pred,
-                        name,
-                        arguments,
-                    })
-                } else {
-                    Builtin::Other
-                }
-            }
+            Some(meaning) => match meaning {
+                Meaning::Row(pred) => Builtin::Row(RowGoal {
+                    place: goal,
+                    pred,
+                    name,
+                    arguments,
+                }),
+                Meaning::Asks => Builtin::Other,
+                Meaning::Steps => Builtin::Other,
+                Meaning::Reserved => Builtin::Other,
+            },
         },
     }
 }
@@ -85,25 +83,27 @@ pub fn row_goal_at(store: &Store, goal: Place) -> Option<RowGoal>
         Kind::Atom(_) => None,
         Kind::Compound(name, arguments) => {
             let found = predicate_of(name, arguments.len());
-            let Some(pred) = found else {
+            let Some(meaning) = found else {
                 return None;
             };
-            if !is_row(pred) {
-                return None;
+            match meaning {
+                Meaning::Row(pred) => Some(RowGoal {
+                    place: goal,
+                    pred,
+                    name,
+                    arguments,
+                }),
+                Meaning::Asks => None,
+                Meaning::Steps => None,
+                Meaning::Reserved => None,
             }
-            Some(RowGoal {
-                place: goal,
-                pred,
-                name,
-                arguments,
-            })
         }
     }
 }
 
 /// What a goal without arguments is, by the predicate with its name. All predicates that are functions of their arguments have
 /// some.
-fn alone(found: Option<Pred>) -> Builtin
+fn alone(found: Option<Meaning>) -> Builtin
     ensures { result ≡ builtin_alone found }
 {
     match found {

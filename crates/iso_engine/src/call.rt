@@ -26,10 +26,9 @@ use crate::engine::Engine;
 use crate::following::follow;
 use crate::refused::error_of;
 use crate::slices::Slice;
-use crate::unserved::Unserved;
 use iso_search::outcome::{Fault, Outcome};
 use term_store::{Place, Stored};
-use world_api::{Procedure, World};
+use world_api::{Procedure, Unserved, World};
 
 impl Engine {
     /// Calls the program's clauses for the goal at a place, which has this predicate, before the tasks of a list (ISO 7.7.10).

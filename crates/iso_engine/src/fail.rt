@@ -14,10 +14,9 @@ use crate::doing::{Doing, End};
 use crate::engine::Engine;
 use crate::findall::give_list;
 use crate::slices::Slice;
-use crate::unserved::Unserved;
 use iso_search::failure::Back;
 use term_store::Stored;
-use world_api::World;
+use world_api::{Unserved, World};
 
 impl Engine {
     /// Goes back to the newest choice point (ISO 7.7.8).

@@ -19,7 +19,6 @@ use crate::following::follow;
 use crate::rows::lines::follow_next;
 use crate::rows::refusal;
 use crate::slices::Slice;
-use crate::unserved::Unserved;
 use atom_api::Atoms;
 use builtin_dispatch::line_of;
 use iso_search::choices::Alternative;
@@ -27,6 +26,7 @@ use iso_search::outcome::Outcome;
 use iso_search::search::Search;
 use std::alloc::Global;
 use term_store::Place;
+use world_api::Unserved;
 
 /// Goes on with the table of the goal from one of its lines on, before the tasks of a list: unifies the arguments with the first
 /// line that unifies. Where an atom is refused the choice point is there again.

@@ -6,10 +6,9 @@ ghost use Rattle.world_api.specs.Told.{has_ended};
 ghost use Rattle.iso_engine.specs.Looking.{Looks};
 ghost use Rattle.iso_engine.specs.Unserved.{refusals_in};
 
-use crate::unserved::Unserved;
 use op_table::OpTable;
 use std::sync::Arc;
-use world_api::{Answer, Reply, Visit, World};
+use world_api::{Answer, Reply, Unserved, Visit, World};
 
 /// The table of operators that stands after all entries.
 pub fn look<W: World>(world: &mut W, atoms: &mut W::A) -> Result<Arc<OpTable>, Unserved>

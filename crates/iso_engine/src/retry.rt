@@ -21,9 +21,8 @@ use crate::engine::Engine;
 use crate::following::follow;
 use crate::procedure::procedure_at;
 use crate::slices::Slice;
-use crate::unserved::Unserved;
 use term_store::{Place, Stored};
-use world_api::World;
+use world_api::{Unserved, World};
 
 impl Engine {
     /// Goes on with the clauses for the goal at a place that were not tried, whose choice point was taken off (ISO 7.7.8).

@@ -15,10 +15,10 @@ ghost use Rattle.iso_engine.specs.Unserved.{as_stopped, stopped_refusals};
 use crate::builtin::RowGoal;
 use crate::engine::Engine;
 use crate::following::follow;
-use crate::rows::{Tried, run_row};
+use crate::rows::run_row;
 use crate::slices::Slice;
-use crate::unserved::Unserved;
 use atom_api::Atoms;
+use world_api::Unserved;
 
 impl Engine {
     /// Takes up a goal of a built-in predicate that is a function of its arguments, before the tasks of a list (ISO 8.2 to 8.7,
@@ -43,13 +43,8 @@ impl Engine {
         ensures stepped { IfOk (as_stopped result) (λ o. (t : Told) → IsReady (A.held atoms.old) t self.old
             → IsStepped (A.held atoms.old) t self.old o (A.held atoms.new) t self.new []) }
     {
-        let tried = run_row(self.alloc, &mut self.search, goal, rest, atoms)?;
-        match tried {
-            Tried::Led(outcome) => {
-                self.doing = follow(self.alloc, &self.search, outcome, goal.procedure(), rest)?;
-                Ok(None)
-            }
-            Tried::Missing(procedure) => Ok(Some(Slice::Missing(procedure))),
-        }
+        let outcome = run_row(self.alloc, &mut self.search, goal, rest, atoms)?;
+        self.doing = follow(self.alloc, &self.search, outcome, goal.procedure(), rest)?;
+        Ok(None)
     }
 }

@@ -6,7 +6,7 @@ ghost use Rattle.world_api.specs.Texts.{Holds};
 ghost use Rattle.world_builtins.specs.Naming.{IsHeldAt};
 ghost use Rattle.iso_search.specs.Searching.{IsWhole};
 ghost use Rattle.iso_search.specs.Spelling.{spelled, text_of};
-ghost use Rattle.iso_engine.specs.Rows.{IsGivenText, IsRowAt, IsTried, refusal_of};
+ghost use Rattle.iso_engine.specs.Rows.{IsGivenText, IsRowAt, LeadsTo, refusal_of};
 ghost use Rattle.iso_engine.specs.Unserved.{OnRefusal, UnlessMemory, refusals_in};
 
 pub mod arguments;
@@ -15,38 +15,28 @@ pub mod lines;
 
 use crate::builtin::RowGoal;
 use crate::rows::following::follow_row;
-use crate::unserved::Unserved;
 use atom_api::Atoms;
 use builtin_dispatch::row_of;
 use builtin_rows::Row;
 use iso_search::outcome::{Fault, Outcome};
 use iso_search::search::Search;
 use std::alloc::Global;
-use world_api::Procedure;
-
-/// What came of such a goal.
-#[derive(Drop)]
-pub enum Tried {
-    /// The search goes on so.
-    Led(Outcome),
-    /// Nothing was done: this predicate is not built yet.
-    Missing(Procedure),
-}
+use world_api::Unserved;
 
 /// Runs the goal, before the tasks of a list: makes an inference, and unifies the arguments with what the predicate gives for
-/// them. Where the predicate is not built yet, or an atom was refused, the inference is taken back too.
+/// them. Where an atom was refused, the inference is taken back too.
 pub fn run_row<A: Atoms>(
     alloc: Global,
     search: &mut Search,
     goal: &RowGoal,
     rest: usize,
     atoms: &mut A,
-) -> Result<Tried, Unserved>
+) -> Result<Outcome, Unserved>
     requires whole { IsWhole search.old }
     requires goal { IsRowAt search.old.store goal.now }
     requires held { IsHeldAt (A.held atoms.old) search.old.store goal.now.place }
     requires rest { rest ≤ length search.old.frames.items }
-    ensures tried { IfOk result (IsTried (A.held atoms.new) search.old goal.now rest search.new) }
+    ensures tried { IfOk result (LeadsTo (A.held atoms.new) search.old goal.now rest search.new) }
     ensures taken_back { OnRefusal result (search.new ≡ search.old) }
     ensures holds { Holds (A.held atoms.old) (A.held atoms.new) }
     ensures refusals { UnlessMemory result (A.refusals atoms.new ≡ A.refusals atoms.old ++ refusals_in result) }
@@ -55,19 +45,15 @@ pub fn run_row<A: Atoms>(
 {
     let before = search.inferences;
     if !search.infer() {
-        return Ok(Tried::Led(Outcome::Raise(Fault::Inferences)));
+        return Ok(Outcome::Raise(Fault::Inferences));
     }
     let next = search.next_variable;
     let store = &mut search.store;
-    let found = row_of(alloc, store, goal.pred, goal.arguments, next, atoms)?;
-    let Some(row) = found else {
-        search.inferences = before;
-        return Ok(Tried::Missing(goal.procedure()));
-    };
+    let row = row_of(alloc, store, goal.pred, goal.arguments, next, atoms)?;
     match refusal(&row) {
         None => {
             let outcome = follow_row(search, goal.place, row, rest)?;
-            Ok(Tried::Led(outcome))
+            Ok(outcome)
         }
         Some(unserved) => {
             search.inferences = before;

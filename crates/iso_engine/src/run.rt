@@ -14,10 +14,9 @@ ghost use Rattle.iso_engine.specs.Unserved.{as_stopped, stopped_refusals};
 use crate::engine::Engine;
 use crate::running::{Did, do_task};
 use crate::slices::Slice;
-use crate::unserved::Unserved;
 use iso_search::frames::first_task;
 use term_store::Stored;
-use world_api::World;
+use world_api::{Unserved, World};
 
 impl Engine {
     /// Does the first task of a list, or gives a solution where there is none. What the goal writes is put after `out`.

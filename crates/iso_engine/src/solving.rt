@@ -16,8 +16,7 @@ use crate::doing::Doing;
 use crate::engine::Engine;
 use crate::looking::look;
 use crate::slices::Slice;
-use crate::unserved::Unserved;
-use world_api::World;
+use world_api::{Unserved, World};
 
 impl Engine {
     /// Gives the solution where nothing is left to be done, with the operators that stand now.

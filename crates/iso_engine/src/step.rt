@@ -15,10 +15,9 @@ use crate::doing::Doing;
 use crate::engine::Engine;
 use crate::slices::Slice;
 use crate::throwing::throw;
-use crate::unserved::Unserved;
 use std::mem;
 use term_store::Stored;
-use world_api::World;
+use world_api::{Unserved, World};
 
 impl Engine {
     /// Makes a step, or says why none can be made. What the goal writes is put after `out`.

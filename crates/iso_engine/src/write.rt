@@ -20,12 +20,11 @@ pub mod wrote;
 use crate::engine::Engine;
 use crate::following::follow;
 use crate::slices::Slice;
-use crate::unserved::Unserved;
 use crate::write::writing::write_goal;
 use crate::write::wrote::Wrote;
 use iso_search::outcome::{Fault, Outcome};
 use term_store::Place;
-use world_api::{Procedure, World};
+use world_api::{Procedure, Unserved, World};
 
 impl Engine {
     /// Takes up the goal at a place, which writes and has this predicate, before the tasks of a list (ISO 8.12 and 8.14.2). What

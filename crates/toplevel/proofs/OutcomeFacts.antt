@@ -22,11 +22,11 @@ use Rattle.run_model.specs.Ends.{all_solved, awaited_by, end_by, end_of, ends_fr
 use Rattle.toplevel.specs.Commands.{words_in}
 use Rattle.run_model.specs.declared.ends.GoalHow.{GoalHow}
 use Rattle.pl_report.specs.Reported.{Tells}
-use Rattle.toplevel.specs.Outcomes.{AreRead, Awaits, HasStopped, history_of, history_with, seen_of, told_with}
+use Rattle.toplevel.specs.FirstEngines.{AreRead, Awaits, HasStopped, history_of, history_with, seen_of, told_with}
 use Rattle.toplevel.specs.Parts.{end_told, ends_in, report_by, goal_part, is_good, done_or_failed}
-use Rattle.toplevel.specs.declared.outcome.Front.{Front}
-use Rattle.toplevel.specs.declared.outcome.Word.{Word}
-use Rattle.toplevel.specs.declared.outcome.Word.TheVariants.{Goal, Fault}
+use Rattle.toplevel.specs.declared.first_engine.Front.{Front}
+use Rattle.toplevel.specs.declared.first_engine.Word.{Word}
+use Rattle.toplevel.specs.declared.first_engine.Word.TheVariants.{Goal, Fault}
 
 -- The states of the engines at the end: the first one's alone.
 abbrev pub alone_at : Execution → Finals

@@ -26,10 +26,10 @@ use Rattle.run_model.specs.Ends.{awaited_by, is_fault, some_fault}
 use Rattle.run_model.specs.CommandLine.{program_of}
 use Rattle.toplevel.specs.declared.command.Command.{Command}
 use Rattle.toplevel.specs.Commands.{told_command, words_in}
-use Rattle.toplevel.specs.declared.outcome.Outcome.{Outcome}
+use Rattle.toplevel.specs.declared.first_engine.FirstEngine.{FirstEngine}
 use Rattle.toplevel.specs.declared.script_run.Stop.{Stop}
 use Rattle.toplevel.specs.declared.script_run.Stop.TheVariants.{Ended, Missing, Waits}
-use Rattle.toplevel.specs.Outcomes.{AreRead, Awaits, HasStopped, IsLine, Stood, history_of, line_at, start_of}
+use Rattle.toplevel.specs.FirstEngines.{AreRead, Awaits, HasStopped, IsLine, Stood, history_of, line_at, start_of}
 use Rattle.toplevel.specs.FirstRun.{HasLimits, HasMissed, HasRunScript, IsScriptRun}
 use Rattle.toplevel.specs.Unbuilt.{IsStuck, indicated}
 
@@ -83,11 +83,11 @@ told_is u e goals h gens a b c d =
     ∙ ap (λ (z : History). let r : Told = record { engine = e; goals = goals; history = z; gens = u.gens } in r) (sym c)
     ∙ ap (λ (z : List ℕ). let r : Told = record { engine = e; goals = goals; history = h; gens = z } in r) (sym d)
 
-abbrev pub told_in : Program → Outcome → Told
+abbrev pub told_in : Program → FirstEngine → Told
 told_in p o = record { engine = 1; goals = length p.words; history = history_of o.front; gens = o.front.generations.items }
 
 -- What the outcome keeps.
-pub record Keeps (p : Program) (o : Outcome) (end : Option (How Tree)) (s : FileScript) (kept : FileScript → Bool) (u : Told) (moves : ℕ) (text output : List ℕ) : Type 0 where
+pub record Keeps (p : Program) (o : FirstEngine) (end : Option (How Tree)) (s : FileScript) (kept : FileScript → Bool) (u : Told) (moves : ℕ) (text output : List ℕ) : Type 0 where
   pub end_is : o.front.end ≡ end
   pub moves_are : o.front.moves ≡ moves
   pub text_is : o.text.items ≡ text
@@ -99,7 +99,7 @@ pub record Keeps (p : Program) (o : Outcome) (end : Option (How Tree)) (s : File
   pub operators : arc_value o.operators ≡ (state_at u.goals u.history (length u.history)).operators
   pub words : (job : Job) (cs : List Consulted) (names : List (Chars × ℕ)) → AreNames names (execution_of s job cs).words → AreRead o.word names (execution_of s job cs).words
 
-told_of_it : (p : Program) (o : Outcome) (end : Option (How Tree)) (s : FileScript) (kept : FileScript → Bool) (u : Told) (moves : ℕ) (text output : List ℕ) (x y : Execution)
+told_of_it : (p : Program) (o : FirstEngine) (end : Option (How Tree)) (s : FileScript) (kept : FileScript → Bool) (u : Told) (moves : ℕ) (text output : List ℕ) (x y : Execution)
     → Keeps p o end s kept u moves text output
     → ComesBy (main_job p) x (start_of p) 0 y u moves
     → u ≡ told_in p o
@@ -113,7 +113,7 @@ counted_from_start : (job : Job) (u : Told) (x y : Execution) (goals moves : ℕ
 counted_from_start job u x y goals moves c r =
     subst (λ (n : ℕ). Reached 1 goals job 0 (seen_in u y) n) c.counted (c.comes.comes 0 0 r)
 
-alone_there : (p : Program) (o : Outcome) (y : Execution) (moves : ℕ)
+alone_there : (p : Program) (o : FirstEngine) (y : Execution) (moves : ℕ)
     → ComesBy (main_job p) (at_start (main_job p)) (start_of p) 0 y (told_in p o) moves
     → o.front.moves ≡ moves
     → AllPlain 1 (history_of o.front)
@@ -129,7 +129,7 @@ alone_there p o y moves c same plain =
     }
 
 -- It has ended.
-pub stood_ended : (p : Program) (name : Chars) (o : Outcome) (how : How Tree) (stop : Stop) (s : FileScript) (kept : FileScript → Bool) (u : Told) (moves : ℕ) (text output : List ℕ)
+pub stood_ended : (p : Program) (name : Chars) (o : FirstEngine) (how : How Tree) (stop : Stop) (s : FileScript) (kept : FileScript → Bool) (u : Told) (moves : ℕ) (text output : List ℕ)
     → stop ≡ Ended how
     → Keeps p o (Some how) s kept u moves text output
     → IsScriptRun (main_job p) name (at_start (main_job p)) (start_of p) 0 stop s kept u moves text output
@@ -177,7 +177,7 @@ stood_ended p name o how stop s kept u moves bytes output is k played =
     }
 
 -- It waits.
-pub stood_waiting : (p : Program) (name : Chars) (o : Outcome) (on : On) (stop : Stop) (s : FileScript) (kept : FileScript → Bool) (u : Told) (moves : ℕ) (text more output : List ℕ)
+pub stood_waiting : (p : Program) (name : Chars) (o : FirstEngine) (on : On) (stop : Stop) (s : FileScript) (kept : FileScript → Bool) (u : Told) (moves : ℕ) (text more output : List ℕ)
     → stop ≡ Waits on
     → Keeps p o None s kept u moves more output
     → o.awaits ≡ Some on

@@ -1,7 +1,7 @@
 pub mod Commands
 pub mod FirstRun
 pub mod Headline
-pub mod Outcomes
+pub mod FirstEngines
 pub mod Parts
 pub mod RunOutcomes
 pub mod Unbuilt

@@ -14,8 +14,8 @@ use Rattle.run_model.specs.declared.ends.GoalEnd.{GoalEnd}
 use Rattle.run_model.specs.declared.ends.GoalHow.{GoalHow}
 use Rattle.run_model.specs.declared.ends.GoalHow.TheVariants.{Syntax}
 use Rattle.run_model.specs.Ends.{goal_how, is_solved_how, with_end}
-use Rattle.toplevel.specs.declared.outcome.Word.{Word}
-use Rattle.toplevel.specs.declared.outcome.Word.TheVariants.{Goal, Fault}
+use Rattle.toplevel.specs.declared.first_engine.Word.{Word}
+use Rattle.toplevel.specs.declared.first_engine.Word.TheVariants.{Goal, Fault}
 
 -- Texts
 

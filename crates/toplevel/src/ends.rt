@@ -3,8 +3,8 @@ ghost use Rattle.std.specs.Prelude.{◌≡◌, [], IfOk};
 ghost use Rattle.run_model.specs.Ends.{is_solved_how, with_end};
 ghost use Rattle.toplevel.specs.Parts.{end_told, ends_in, how_in, is_good};
 
+use crate::first_engine::Word;
 use crate::hows::goal_ended;
-use crate::outcome::Word;
 use pl_model::ends::How;
 use pl_model::threads::On;
 use pl_term::{Flat, Memory, Text};

@@ -12,12 +12,12 @@ ghost use Rattle.pl_consult.specs.FileScripts.{execution_of, part_in};
 ghost use Rattle.pl_consult.specs.GoalWords.{words_of};
 ghost use Rattle.script_api.specs.Scripts.{AreNames};
 ghost use Rattle.plain_world.specs.Entries.{told_of};
-ghost use Rattle.toplevel.specs.Outcomes.{AreRead, HasCome, IsLine, history_of, start_of};
+ghost use Rattle.toplevel.specs.FirstEngines.{AreRead, HasCome, IsLine, history_of, start_of};
 ghost use Rattle.toplevel.specs.FirstRun.{IsScriptRun};
 
 use crate::command::Command;
+use crate::first_engine::{FirstEngine, Front, Word};
 use crate::gated::Gated;
-use crate::outcome::{Front, Outcome, Word};
 use crate::script_run::{Stop, run_script};
 use atom_api::PlainAtoms;
 use pl_consult::{FileScript, GoalWord};
@@ -46,7 +46,7 @@ pub(crate) fn first_run<G: Gate>(
     command: &Command,
     bytes: Vec<u8>,
     gate: &G,
-) -> Result<RunOutcome<Outcome>, Memory>
+) -> Result<RunOutcome<FirstEngine>, Memory>
     ensures { (all : List ℕ) → bytes.items ≡ take (suc most_bytes) all
         → IfOk result (HasCome (program_of (told_command command.now) all) command.now.file) }
 {
@@ -113,7 +113,7 @@ fn close(
     text: Vec<u8>,
     output: Vec<u8>,
     moves: u64,
-) -> Result<RunOutcome<Outcome>, Memory>
+) -> Result<RunOutcome<FirstEngine>, Memory>
     ensures { (p : Program) → IsScriptRun (main_job p) name.now (at_start (main_job p)) (start_of p) 0 stop script.now
         ⟦<FileScript as Script>⟧.kept (told_of world.journal) moves text.items output.items
         → IfOk result (HasCome p name.now) }
@@ -158,7 +158,7 @@ fn outcome(
     text: Vec<u8>,
     output: Vec<u8>,
     moves: u64,
-) -> Result<Outcome, Memory>
+) -> Result<FirstEngine, Memory>
     ensures kept { IfOk result (λ o. (o.front.end ≡ end) × (o.front.moves ≡ moves) × (o.text.items ≡ text.items) × (o.output.items ≡ output.items)
         × (o.faulty ≡ ⟦<FileScript as Script>⟧.kept script.now) × (o.awaits ≡ awaits)) }
     ensures history { IfOk result (λ o. (history_of o.front ≡ (told_of world.journal).history) × (o.front.generations.items ≡ (told_of world.journal).gens)) }
@@ -173,7 +173,7 @@ fn outcome(
     let word = word_of(script);
     let faulty = script.is_faulty();
     let (entries, generations) = world.into_parts();
-    Ok(Outcome {
+    Ok(FirstEngine {
         front: Front {
             entries,
             generations,

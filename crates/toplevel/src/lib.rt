@@ -3,15 +3,15 @@
 
 mod command;
 mod ends;
+mod first_engine;
 mod first_run;
 mod gated;
 mod hows;
 mod lines;
 mod names;
-mod outcome;
 mod ready;
 pub mod run;
 mod script_run;
 mod sections;
 
-pub use outcome::Front;
+pub use first_engine::Front;

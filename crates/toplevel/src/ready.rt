@@ -3,12 +3,12 @@ ghost use Rattle.std.specs.Prelude.{◌≡◌, List, ℕ, IfOk};
 ghost use Rattle.toplevel.specs.Commands.{told_command};
 ghost use Rattle.run_model.specs.CommandLine.{program_of};
 ghost use Rattle.toplevel.specs.Headline.{IsReady};
-ghost use Rattle.toplevel.specs.Outcomes.{Stood};
+ghost use Rattle.toplevel.specs.FirstEngines.{Stood};
 
 use crate::command::Command;
 use crate::ends::{end_of, goal_ends};
+use crate::first_engine::{FirstEngine, Front};
 use crate::hows::goal_ended;
-use crate::outcome::{Front, Outcome};
 use crate::sections::report_text;
 use pl_term::Memory;
 use run_model::ends::{End, GoalEnd};
@@ -27,12 +27,12 @@ pub struct Ready {
 pub(crate) fn make_ready(
     alloc: Global,
     command: &Command,
-    outcome: Outcome,
+    outcome: FirstEngine,
 ) -> Result<Ready, Memory>
     ensures { (bytes : List ℕ) → Stood (program_of (told_command command.now) bytes) command.now.file outcome
         → IfOk result (IsReady (told_command command.now) bytes) }
 {
-    let Outcome {
+    let FirstEngine {
         front,
         awaits,
         operators,

@@ -11,9 +11,9 @@ ghost use Rattle.toplevel.specs.RunOutcomes.{IsRunOutcome};
 ghost use Rattle.toplevel.specs.Unbuilt.{indicated};
 
 use crate::command::{Command, read_command};
+use crate::first_engine::Front;
 use crate::first_run::{RunOutcome, first_run};
 use crate::lines::{unbuilt_text, unread_text};
-use crate::outcome::Front;
 use crate::ready::{Ready, make_ready};
 use pl_io::{Bytes, Files, Gate, ReadAllError, Sink, read_all, write_all};
 use pl_term::{Memory, Text};

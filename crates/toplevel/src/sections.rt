@@ -4,11 +4,11 @@ ghost use Rattle.pl_term.specs.Tree.{Chars, Tree};
 ghost use Rattle.pl_model.specs.declared.ends.How.{How as HowOf};
 ghost use Rattle.pl_report.specs.Reported.{Tells};
 ghost use Rattle.run_model.specs.Report.{closed};
-ghost use Rattle.toplevel.specs.declared.outcome.Word.TheVariants.{Fault, Goal};
+ghost use Rattle.toplevel.specs.declared.first_engine.Word.TheVariants.{Fault, Goal};
 ghost use Rattle.toplevel.specs.Parts.{AreSections, IsPart, IsSection, goal_part, report_by, section_by};
 
+use crate::first_engine::Word;
 use crate::hows::is_enough;
-use crate::outcome::Word;
 use op_table::OpTable;
 use pl_model::syntax::SyntaxKind;
 use pl_report::{Section, SectionKind, transcript};

@@ -8,3 +8,4 @@ pub mod Asked
 pub mod SearchSteps
 pub mod KeyTexts
 pub mod NamedNodes
+pub mod Unserved

@@ -10,6 +10,7 @@ pub mod search_steps;
 #[cfg(test)]
 mod tests;
 mod texts;
+mod unserved;
 mod visit;
 mod world;
 
@@ -20,5 +21,6 @@ pub use named::Named;
 pub use readings::reads_as;
 pub use reply::{FlagValue, Found, Name, Reply};
 pub use texts::with_texts;
+pub use unserved::Unserved;
 pub use visit::{Procedure, Visit};
 pub use world::World;

@@ -5,10 +5,8 @@ mod characters;
 mod output;
 mod styles;
 mod terms;
-mod written;
 
 pub use characters::{Character, put_char};
 pub use output::{nl, write, write_canonical};
 pub use styles::Style;
 pub use terms::{flat_at, flat_of, flats_at};
-pub use written::Written;

@@ -5,22 +5,22 @@ ghost use Rattle.pl_model.specs.TermWriting.{write_canonical};
 ghost use Rattle.term_store.specs.Contents.{Holds};
 ghost use Rattle.world_api.specs.Told.{has_ended};
 ghost use Rattle.world_api.specs.Texts.{Holds as HoldsOn};
+ghost use Rattle.world_api.specs.Unserved.{OnRefusal, refusals_in};
 ghost use Rattle.world_builtins.specs.Naming.{IsHeldAt};
 ghost use Rattle.world_builtins.specs.Operators.{HasOperators, Stands};
 ghost use Rattle.world_builtins.specs.Spelling.{reads};
 ghost use Rattle.world_builtins.specs.Styles.{text_by};
-ghost use Rattle.world_builtins.specs.Writing.{Writes, refusals_of};
+ghost use Rattle.world_builtins.specs.Writing.{IsWritten};
 
 use crate::styles::Style;
 use crate::terms::flat_at;
-use crate::written::Written;
 use atom_api::Atoms;
 use op_table::OpTable;
 use pl_term::{Flat, Memory};
 use std::alloc::Global;
 use std::sync::Arc;
 use term_store::{Place, Store};
-use world_api::{Answer, Reply, Visit, World};
+use world_api::{Answer, Reply, Unserved, Visit, World};
 
 /// The operators of a reply that has some.
 fn operators_of<T: Drop>(reply: Reply<T>) -> Arc<OpTable>
@@ -50,8 +50,8 @@ fn put_term(
 }
 
 /// write/1, writeq/1 and print/1 (ISO 8.14.2; SWI-Prolog manual, section 'Term reading and writing'): puts the text of the
-/// term at a place after what was written, under the operators of the shared state, which one visit reads. The only error
-/// is out of memory.
+/// term at a place after what was written, under the operators of the shared state, which one visit reads. Where the visit is
+/// not served, nothing has changed.
 pub fn write<W: World>(
     alloc: Global,
     style: Style,
@@ -60,15 +60,16 @@ pub fn write<W: World>(
     world: &mut W,
     atoms: &mut W::A,
     out: &mut Vec<u8>,
-) -> Result<Written, Memory>
+) -> Result<(), Unserved>
     requires runs { has_ended (W.told world.old).engine (W.told world.old).history ≡ false }
     requires inside { Holds store.now term }
     requires held { IsHeldAt (W.A.held atoms.old) store.now term }
-    ensures writes { Writes (text_by style (reads (W.A.held atoms.old) store.now term)) result
-        (W.told world.old) (W.told world.new) out.old.items out.new.items }
+    ensures writes { OnOk result (IsWritten (text_by style (reads (W.A.held atoms.old) store.now term))
+        (W.told world.old) (W.told world.new) out.old.items out.new.items) }
+    ensures taken_back { OnRefusal result ((W.told world.new ≡ W.told world.old) × (out.new.items ≡ out.old.items)) }
     ensures runs { has_ended (W.told world.new).engine (W.told world.new).history ≡ false }
     ensures holds { HoldsOn (W.A.held atoms.old) (W.A.held atoms.new) }
-    ensures refusals { W.A.refusals atoms.new ≡ W.A.refusals atoms.old ++ refusals_of result }
+    ensures refusals { W.A.refusals atoms.new ≡ W.A.refusals atoms.old ++ refusals_in result }
     ensures asked { W.A.asked atoms.new ≡ W.A.asked atoms.old }
 {
     let flat = flat_at(alloc, store, term, atoms)?;
@@ -76,13 +77,13 @@ pub fn write<W: World>(
         Answer::Served { reply, .. } => {
             let operators = operators_of(reply);
             put_term(alloc, style, &flat, &operators, out)?;
-            Ok(Written::Done)
+            Ok(())
         }
         Answer::Waits { .. } => unreachable!(),
-        Answer::NeedsAtoms(pass) => Ok(Written::NeedsAtoms(pass)),
-        Answer::Retry(cause) => Ok(Written::Retry(cause)),
-        Answer::Worn(word) => Ok(Written::Worn(word)),
-        Answer::Memory => Err(Memory),
+        Answer::NeedsAtoms(pass) => Err(Unserved::NeedsAtoms(pass)),
+        Answer::Retry(cause) => Err(Unserved::Retry(cause)),
+        Answer::Worn(word) => Err(Unserved::Worn(word)),
+        Answer::Memory => Err(Unserved::Memory),
     }
 }
 

@@ -16,11 +16,10 @@ ghost use Rattle.iso_engine.specs.Unserved.{OnRefusal, refusals_in};
 use crate::call::called::Called;
 use crate::call::clauses::try_first_clause;
 use crate::call::goals::{key_at, predicate_at};
-use crate::unserved::Unserved;
 use iso_search::search::Search;
 use pl_term::Memory;
 use term_store::{Place, Stored};
-use world_api::{Answer, Reply, Visit, World};
+use world_api::{Answer, Reply, Unserved, Visit, World};
 
 /// Calls the program's clauses for the goal at a place, before the tasks of a list (ISO 7.7.10): makes an inference, asks the
 /// shared state for the first of the clauses, and tries it. Where the visit is not served, nothing has changed, and the call is

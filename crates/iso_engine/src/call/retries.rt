@@ -17,12 +17,11 @@ ghost use Rattle.iso_engine.specs.Views.{view_of};
 
 use crate::call::clauses::try_next_clause;
 use crate::call::goals::{key_at, predicate_at};
-use crate::unserved::Unserved;
 use iso_search::choices::Alternative;
 use iso_search::outcome::Outcome;
 use iso_search::search::Search;
 use term_store::{Place, Stored};
-use world_api::{Answer, Reply, Visit, World};
+use world_api::{Answer, Reply, Unserved, Visit, World};
 
 /// Goes on with the clauses for the goal at a place that were not tried (ISO 7.7.8), whose choice point was taken off: those of the
 /// generation after the clause with the place, before the tasks of a list. Asks the shared state for the next of them, and

@@ -12,7 +12,6 @@ ghost use Rattle.iso_engine.specs.OutputGoals.{IsGoalHeld, IsGoalOf, IsHeldIn, I
 ghost use Rattle.iso_engine.specs.Unserved.{OnRefusal, refusals_in};
 ghost use Rattle.iso_engine.specs.Wrote.{IsTakenBack, IsTried, IsWrote, WritesAlone};
 
-use crate::unserved::Unserved;
 use crate::write::characters::put_character;
 use crate::write::goals::{OutputGoal, output_at};
 use crate::write::wrote::Wrote;
@@ -22,8 +21,8 @@ use iso_search::search::Search;
 use pl_term::Memory;
 use std::alloc::Global;
 use term_store::Place;
-use world_api::World;
-use world_builtins::{Style, Written, nl, write, write_canonical};
+use world_api::{Unserved, World};
+use world_builtins::{Style, nl, write, write_canonical};
 
 /// Takes up the goal at a place, if it is one that writes, before the tasks of a list: makes an inference, asks the shared
 /// state for the operators where terms are written under them, and puts the text after what was written (ISO 8.12.1,
@@ -131,16 +130,9 @@ fn write_term<W: World>(
     if search.inferences >= most {
         return Ok(Wrote::Spent);
     }
-    let written = write(alloc, style, &search.store, term, world, atoms, out)?;
-    match written {
-        Written::Done => {
-            search.inferences += 1;
-            Ok(Wrote::Ran(Outcome::Run(rest)))
-        }
-        Written::NeedsAtoms(pass) => Err(Unserved::NeedsAtoms(pass)),
-        Written::Retry(cause) => Err(Unserved::Retry(cause)),
-        Written::Worn(word) => Err(Unserved::Worn(word)),
-    }
+    write(alloc, style, &search.store, term, world, atoms, out)?;
+    search.inferences += 1;
+    Ok(Wrote::Ran(Outcome::Run(rest)))
 }
 
 /// write_canonical/1. The only error is out of memory.

@@ -27,4 +27,4 @@ returns-in_ok-row-in-Err-clause-row c m texts held held_too next few =
     error_row m s c.refused.new.store next (proc (name_of c.args.comparison) 2) (two t u) c.in_ok-row-in-Err.row (value_error f) (compares_values by t u)
     (left_fails by t u f value)
     (c.in_ok-row-in-Err.ensures.row m (name_of c.args.comparison) next (two t u) texts.stand
-    (subst (IsValueHeld m) c.in-Err.is (c.in_ok-first.ensures.held m held)) c.name.ensures.name)
+    (subst (IsValueHeld m) c.in-Err.is (c.in_ok-first.ensures.held m held)) c.predicate_name.ensures.name)

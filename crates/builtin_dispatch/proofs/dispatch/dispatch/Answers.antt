@@ -1,50 +1,46 @@
-use Rattle.std.proofs.Common.{Ok, None, refl, sym, subst, ◌∙◌, arith}
+use Rattle.std.proofs.Common.{refl, sym, ap, ◌∙◌, arith}
 use Rattle.pl_term.specs.Tree.{more, none}
+use Rattle.pl_model.specs.AtomBuiltins.{five}
 use Rattle.world_builtins.specs.Spelling.{reads}
-use Rattle.builtin_dispatch.specs.Dispatching.{Dispatches, terms_of}
-use Rattle.builtin_dispatch.proofs.Answering.{nothing_does, settles}
+use Rattle.builtin_rows.specs.declared.predicates.Pred.TheVariants.{One, SubAtom}
+use Rattle.builtin_rows.specs.Predicates.{arity_of}
+use Rattle.builtin_rows.specs.Dispatching.{Dispatches}
+use Rattle.builtin_rows.proofs.Answering.{settles}
+use Rattle.builtin_dispatch.specs.Dispatching.{terms_of}
 use Rattle.builtin_dispatch.proofs.Places.{terms_five, terms_one}
-use Rattle.builtin_dispatch.proofs.Remaining.{no_other}
+use Rattle.builtin_dispatch.proofs.TableRows.{as_same}
 use Rattle.builtin_dispatch.proofs.dispatch.dispatch.Goals as goal
 
-pub returns-in-1 : goal.returns-in-1
-returns-in-1 g c =
+pub returns-in-One : goal.returns-in-One
+returns-in-One g c =
     let s = c.args.store.now in
     let m = g.A.Atoms.held c.args.atoms.now in
-    let p = c.args.pred in
+    let a = c.args.arguments in
     let next = c.args.next in
     let term = c.argument-term.result in
     let result = c.row_of_one.result in
     let t = c.row_of_one.new.store in
-    let r = g.A.Atoms.refusals c.args.atoms.now in
-    let a = g.A.Atoms.asked c.args.atoms.now in
-    subst (λ ts. Dispatches s next p ts m m r r a a t result)
-    (sym (terms_one m s c.args.arguments c.requires.inside term (sym c.len.ensures ∙ c.in-1.is) c.argument-term.ensures.stands))
-    (settles s t p (more (reads m s term) none) next m m r r a a result refl refl refl (c.row_of_one.ensures.does m next (omega arith)) c.row_of_one.ensures.refuses)
-
-pub returns-in_default : goal.returns-in_default
-returns-in_default g c =
-    let s = c.args.store.now in
-    let m = g.A.Atoms.held c.args.atoms.now in
-    let ts = terms_of m s c.args.arguments in
     let refused = g.A.Atoms.refusals c.args.atoms.now in
     let asked = g.A.Atoms.asked c.args.atoms.now in
-    settles s s c.args.pred ts c.args.next m m refused refused asked asked (Ok None) refl refl refl
-    (nothing_does _ s c.args.pred ts c.args.next m (Ok None) refl
-    (no_other c.args.pred c.requires.kind
-    (λ e. omega (arith, e, c.in_default, c.len.ensures, c.requires.count))
-    (λ e. omega (arith, e, c.in_default, c.len.ensures, c.requires.count))
-    (λ e. omega (arith, e, c.in_default, c.len.ensures, c.requires.count))
-    (λ e. omega (arith, e, c.in_default, c.len.ensures, c.requires.count)))) refl
+    as_same (λ p ts. Dispatches s next p ts m m refused refused asked asked t result) c.args.pred (One c.in-One.test) (terms_of m s a) (more (reads m s term) none)
+    c.in-One.is (terms_one m s a c.requires.inside term (c.requires.count ∙ ap arity_of c.in-One.is) c.argument-term.ensures.stands)
+    (settles s t (One c.in-One.test) (more (reads m s term) none) next m m refused refused asked asked result refl refl refl
+    (c.row_of_one.ensures.does m next (omega arith)) c.row_of_one.ensures.refuses)
 
-pub returns-in-5 : goal.returns-in-5
-returns-in-5 g c =
+pub returns-in-SubAtom : goal.returns-in-SubAtom
+returns-in-SubAtom g c =
     let s = c.args.store.now in
     let m = g.A.Atoms.held c.args.atoms.now in
     let a = c.args.arguments in
     let row = c.row_of_five in
-    subst (λ ts. Dispatches s c.args.next c.args.pred ts m (g.A.Atoms.held row.new.atoms) (g.A.Atoms.refusals c.args.atoms.now) (g.A.Atoms.refusals row.new.atoms)
-    (g.A.Atoms.asked c.args.atoms.now) (g.A.Atoms.asked row.new.atoms) row.new.store row.result)
-    (sym (terms_five m s a c.requires.inside _ _ _ _ _ (sym c.len.ensures ∙ c.in-5.is) c.argument-first-in-5.ensures.stands c.argument-second-in-5.ensures.stands
-    c.argument-third-in-5.ensures.stands c.argument-fourth.ensures.stands c.argument-fifth.ensures.stands))
+    let first = c.argument-first-in-SubAtom in
+    let second = c.argument-second-in-SubAtom in
+    let third = c.argument-third-in-SubAtom in
+    let fourth = c.argument-fourth in
+    let fifth = c.argument-fifth in
+    as_same (λ p ts. Dispatches s c.args.next p ts m (g.A.Atoms.held row.new.atoms) (g.A.Atoms.refusals c.args.atoms.now) (g.A.Atoms.refusals row.new.atoms)
+    (g.A.Atoms.asked c.args.atoms.now) (g.A.Atoms.asked row.new.atoms) row.new.store row.result) c.args.pred SubAtom (terms_of m s a)
+    (five (reads m s first.result) (reads m s second.result) (reads m s third.result) (reads m s fourth.result) (reads m s fifth.result)) c.in-SubAtom.is
+    (terms_five m s a c.requires.inside first.result second.result third.result fourth.result fifth.result (c.requires.count ∙ ap arity_of c.in-SubAtom.is)
+    first.ensures.stands second.ensures.stands third.ensures.stands fourth.ensures.stands fifth.ensures.stands)
     (row.ensures c.args.next (omega arith))

@@ -1,15 +1,14 @@
-use Rattle.std.proofs.Common.{Ok, None, refl}
+use Rattle.std.proofs.Common.{refl}
 use Rattle.pl_model.specs.AtomBuiltins.{five, sub_atoms}
 use Rattle.world_api.proofs.Gaining.{gains_weaker}
 use Rattle.world_builtins.specs.Spelling.{reads}
-use Rattle.builtin_rows.specs.declared.predicates.Pred.TheVariants as pred
-use Rattle.builtin_dispatch.proofs.Answering.{nothing_does, ok_weaker, settles}
-use Rattle.builtin_dispatch.proofs.Remaining.{no_other_five}
+use Rattle.builtin_rows.specs.declared.predicates.Pred.TheVariants.{SubAtom}
+use Rattle.builtin_rows.proofs.Answering.{ok_weaker}
 use Rattle.builtin_dispatch.proofs.TableRows.{sub_atoms_defined, tabled}
 use Rattle.builtin_dispatch.proofs.five.row_of_five.Goals as goal
 
-pub returns-in-SubAtom : goal.returns-in-SubAtom
-returns-in-SubAtom g c next below =
+pub returns : goal.returns
+returns g c next below =
     let s = c.args.store.now in
     let m = g.A.Atoms.held c.args.atoms.now in
     let a = reads m s c.args.first in
@@ -18,19 +17,9 @@ returns-in-SubAtom g c next below =
     let f = reads m s c.args.fourth in
     let t = reads m s c.args.fifth in
     let row = c.sub_atom in
-    tabled s row.new.store c.args.pred pred.SubAtom (five a b l f t) next m (g.A.Atoms.held row.new.atoms) (g.A.Atoms.refusals c.args.atoms.now) (g.A.Atoms.refusals row.new.atoms)
+    tabled s row.new.store SubAtom SubAtom (five a b l f t) next m (g.A.Atoms.held row.new.atoms) (g.A.Atoms.refusals c.args.atoms.now) (g.A.Atoms.refusals row.new.atoms)
     (g.A.Atoms.asked c.args.atoms.now) (g.A.Atoms.asked row.new.atoms)
-    (sub_atoms a b l f t) row.result c.built.result c.in-SubAtom.is (sub_atoms_defined a b l f t) c.built.ensures
+    (sub_atoms a b l f t) row.result refl (sub_atoms_defined a b l f t)
     row.ensures.holds row.ensures.refusals
     (gains_weaker _ _ (g.A.Atoms.asked c.args.atoms.now) (g.A.Atoms.asked row.new.atoms) (λ x h. h next below) row.ensures.asked)
     (ok_weaker _ _ row.result row.ensures.row (λ r h. h next below))
-
-pub returns-in_default : goal.returns-in_default
-returns-in_default g c next below =
-    let s = c.args.store.now in
-    let m = g.A.Atoms.held c.args.atoms.now in
-    let refused = g.A.Atoms.refusals c.args.atoms.now in
-    let asked = g.A.Atoms.asked c.args.atoms.now in
-    let ts = five (reads m s c.args.first) (reads m s c.args.second) (reads m s c.args.third) (reads m s c.args.fourth) (reads m s c.args.fifth) in
-    settles s s c.args.pred ts next m m refused refused asked asked (Ok None) refl refl refl
-    (nothing_does _ s c.args.pred ts next m (Ok None) refl (no_other_five c.args.pred c.in_default.not-SubAtom c.requires.kind c.requires.arity)) refl

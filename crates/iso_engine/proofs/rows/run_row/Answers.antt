@@ -4,7 +4,6 @@ use Rattle.iso_search.specs.declared.search.Search.{Search}
 use Rattle.iso_search.proofs.Texts.{texts_apart}
 use Rattle.world_api.proofs.Gaining.{gains_weaker}
 use Rattle.iso_engine.specs.Leading.{IsRowMade, Origin}
-use Rattle.iso_engine.proofs.Arms.{when_some}
 use Rattle.iso_engine.proofs.RowSteps.{IsCosted, arguments_held, asked_given, led_leads, origin, row_made, spent_leads, unrefused}
 use Rattle.iso_engine.proofs.rows.run_row.Goals as goal
 
@@ -23,8 +22,8 @@ row_of-requires-clause-held g c =
     subst (λ (y : Search). AreHeld m y.store r.arguments) (sym c.infer.ensures.kept)
     (arguments_held m e.store r c.requires.goal.goal_is c.requires.held)
 
-pub returns-in_err-found-clause-asked : goal.returns-in_err-found-clause-asked
-returns-in_err-found-clause-asked g c =
+pub returns-in_err-row-clause-asked : goal.returns-in_err-row-clause-asked
+returns-in_err-row-clause-asked g c =
     let e = c.args.search.now in
     let a = c.args.atoms.now in
     let m = g.A.Atoms.held a in
@@ -40,17 +39,17 @@ follow_row-requires g c =
     let m = g.A.Atoms.held c.args.atoms.now in
     let n = g.A.Atoms.held c.row_of.new.atoms in
     let r = c.args.goal.now in
-    let found = c.in_ok-found in
-    let is = when_some _ _ _ found.ensures.row c.in-Some.is in
+    let row = c.in_ok-row in
+    let is = row.ensures.row in
     record {
       made = (
         origin e x c.infer.ensures.kept r c.args.rest m n is.means,
-        row_made e x c.infer.ensures.kept r c.args.rest m n c.row_of.new.store c.in-Some.row c.requires.goal.goal_is c.requires.held c.row_of.ensures.holds
+        row_made e x c.infer.ensures.kept r c.args.rest m n c.row_of.new.store row.row c.requires.goal.goal_is c.requires.held c.row_of.ensures.holds
             c.infer.ensures.whole
             is
-            (when_some _ _ _ found.ensures.lines c.in-Some.is),
+            row.ensures.lines,
       );
-      served = unrefused c.in-Some.row (sym c.refusal.ensures ∙ c.in-None.is);
+      served = unrefused row.row (sym c.refusal.ensures ∙ c.in-None.is);
       rest = subst (λ (y : Search). c.args.rest ≤ length y.frames.items) (sym c.infer.ensures.kept) c.requires.rest;
     }
 
@@ -74,10 +73,11 @@ returns-in_ok-outcome-in-None-clause-tried g c =
     let r = c.args.goal.now in
     let f = c.follow_row.new.search in
     let o = c.in_ok-outcome-in-None in
-    let is = when_some _ _ _ c.in_ok-found.ensures.row c.in-Some.is in
+    let row = c.in_ok-row in
+    let is = row.ensures.row in
     let z = origin e x kept r c.args.rest m n is.means in
-    let made = row_made e x kept r c.args.rest m n c.row_of.new.store c.in-Some.row c.requires.goal.goal_is c.requires.held c.row_of.ensures.holds
-    c.infer.ensures.whole is (when_some _ _ _ c.in_ok-found.ensures.lines c.in-Some.is) in
+    let made = row_made e x kept r c.args.rest m n c.row_of.new.store row.row c.requires.goal.goal_is c.requires.held c.row_of.ensures.holds
+    c.infer.ensures.whole is row.ensures.lines in
     led_leads e x kept r c.args.rest m n f o.outcome c.requires.goal
     (subst (IsCosted e x kept r c.args.rest) c.if-not-infer.false c.infer.ensures.step) c.row_of.ensures.holds c.requires.held is.means is.row_is
     o.ensures.whole (o.ensures.after z made) (λ t view grown. o.ensures.step z t made view grown)
@@ -92,18 +92,8 @@ returns-in_ok-outcome-in-None-clause-asked g c =
     (texts_apart m (g.met.A.Atoms.unlike a) (λ k y h. (g.met.A.Atoms.finite a k y h).2)) c.requires.goal.goal_is c.requires.held)
     c.row_of.ensures.asked
 
-pub returns-in_default-clause-asked : goal.returns-in_default-clause-asked
-returns-in_default-clause-asked g c =
-    let e = c.args.search.now in
-    let a = c.args.atoms.now in
-    let m = g.A.Atoms.held a in
-    gains_weaker _ _ (g.A.Atoms.asked a) (g.A.Atoms.asked c.row_of.new.atoms)
-    (asked_given e c.infer.new.self c.infer.ensures.kept c.args.goal.now c.args.rest m (g.met.A.Atoms.fixed_held a)
-    (texts_apart m (g.met.A.Atoms.unlike a) (λ k y h. (g.met.A.Atoms.finite a k y h).2)) c.requires.goal.goal_is c.requires.held)
-    c.row_of.ensures.asked
-
-pub returns-in-Some-refusal-clause-asked : goal.returns-in-Some-refusal-clause-asked
-returns-in-Some-refusal-clause-asked g c =
+pub returns-in-Some-clause-asked : goal.returns-in-Some-clause-asked
+returns-in-Some-clause-asked g c =
     let e = c.args.search.now in
     let a = c.args.atoms.now in
     let m = g.A.Atoms.held a in

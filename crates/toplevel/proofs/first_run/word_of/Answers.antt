@@ -3,7 +3,7 @@ use Rattle.std.specs.Option.{option_copied}
 use Rattle.run_model.specs.Execution.{Word as WordOf}
 use Rattle.script_api.specs.Scripts.{AreNames}
 use Rattle.pl_consult.specs.GoalWords.{words_of}
-use Rattle.toplevel.specs.Outcomes.{AreRead}
+use Rattle.toplevel.specs.FirstEngines.{AreRead}
 use Rattle.toplevel.proofs.first_run.word_of.Goals as goal
 
 pub returns-in-Some : goal.returns-in-Some

@@ -1,6 +1,6 @@
 use Rattle.std.proofs.Common.{subst, sym}
 use Rattle.std.specs.Prelude.{IfOk}
-use Rattle.toplevel.specs.declared.outcome.Word.{Word}
+use Rattle.toplevel.specs.declared.first_engine.Word.{Word}
 use Rattle.toplevel.specs.Parts.{IsSection, section_by}
 use Rattle.toplevel.proofs.sections.word_section.Goals as goal
 

@@ -6,12 +6,11 @@ use Rattle.iso_search.specs.declared.search.Search.{Search}
 use Rattle.iso_engine.specs.declared.engine.Engine.{Engine}
 use Rattle.iso_engine.specs.Views.{view_of}
 use Rattle.iso_engine.specs.Ready.{IsReady}
-use Rattle.iso_engine.specs.Rows.{IsTried}
 use Rattle.iso_engine.specs.Slices.{IsStepped}
 use Rattle.iso_engine.specs.Spending.{IsSpent}
-use Rattle.iso_engine.specs.declared.rows.Tried.{Tried}
+use Rattle.iso_search.specs.declared.outcome.Outcome.{Outcome}
 use Rattle.iso_engine.proofs.Refusals.{at_exit, refused_end, refused_list}
-use Rattle.iso_engine.proofs.RowTaken.{IsFollowedAs, given_text, led_moved, missing_stepped, refused_stepped, row_held, stopped_ready}
+use Rattle.iso_engine.proofs.RowTaken.{IsFollowedAs, given_text, led_moved, refused_stepped, row_held, stopped_ready}
 use Rattle.iso_engine.proofs.Solutions.{view_is}
 use Rattle.iso_engine.proofs.engine.Engine.row.Goals as goal
 
@@ -23,8 +22,8 @@ run_row-requires-clause-held g c =
     row_held (g.A.Atoms.held a) c.requires.ready.0 e c.args.goal.now l.0 l.1 c.args.rest l.2 l.3 c.requires.ready.1 (g.met.A.Atoms.fixed_held a)
     (g.met.A.Atoms.unlike a) (g.met.A.Atoms.finite a)
 
-pub returns-in_err-tried-clause-asked : goal.returns-in_err-tried-clause-asked
-returns-in_err-tried-clause-asked g c =
+pub returns-in_err-outcome-clause-asked : goal.returns-in_err-outcome-clause-asked
+returns-in_err-outcome-clause-asked g c =
     let e = c.args.self.now in
     let a = c.args.atoms.now in
     let m = g.A.Atoms.held a in
@@ -34,8 +33,8 @@ returns-in_err-tried-clause-asked g c =
     (view_is m t (g.met.A.Atoms.fixed_held a) (g.met.A.Atoms.unlike a) (g.met.A.Atoms.finite a)) x h)
     c.run_row.ensures.asked
 
-pub returns-in_err-self-in-Led-clause-asked : goal.returns-in_err-self-in-Led-clause-asked
-returns-in_err-self-in-Led-clause-asked g c =
+pub returns-in_err-self-clause-asked : goal.returns-in_err-self-clause-asked
+returns-in_err-self-clause-asked g c =
     let e = c.args.self.now in
     let a = c.args.atoms.now in
     let m = g.A.Atoms.held a in
@@ -45,8 +44,8 @@ returns-in_err-self-in-Led-clause-asked g c =
     (view_is m t (g.met.A.Atoms.fixed_held a) (g.met.A.Atoms.unlike a) (g.met.A.Atoms.finite a)) x h)
     c.run_row.ensures.asked
 
-pub returns-in_ok-self-in-Led-clause-asked : goal.returns-in_ok-self-in-Led-clause-asked
-returns-in_ok-self-in-Led-clause-asked g c =
+pub returns-clause-asked : goal.returns-clause-asked
+returns-clause-asked g c =
     let e = c.args.self.now in
     let a = c.args.atoms.now in
     let m = g.A.Atoms.held a in
@@ -56,19 +55,8 @@ returns-in_ok-self-in-Led-clause-asked g c =
     (view_is m t (g.met.A.Atoms.fixed_held a) (g.met.A.Atoms.unlike a) (g.met.A.Atoms.finite a)) x h)
     c.run_row.ensures.asked
 
-pub returns-in-Missing-clause-asked : goal.returns-in-Missing-clause-asked
-returns-in-Missing-clause-asked g c =
-    let e = c.args.self.now in
-    let a = c.args.atoms.now in
-    let m = g.A.Atoms.held a in
-    let l = c.requires.list in
-    gains_weaker _ _ (g.A.Atoms.asked a) (g.A.Atoms.asked c.run_row.new.atoms)
-    (λ x h t. given_text m t e c.args.goal.now l.0 l.1 c.args.rest l.2 l.3 c.requires.row
-    (view_is m t (g.met.A.Atoms.fixed_held a) (g.met.A.Atoms.unlike a) (g.met.A.Atoms.finite a)) x h)
-    c.run_row.ensures.asked
-
-pub returns-in_ok-self-in-Led-clause-ready : goal.returns-in_ok-self-in-Led-clause-ready
-returns-in_ok-self-in-Led-clause-ready g c t ready =
+pub returns-clause-ready : goal.returns-clause-ready
+returns-clause-ready g c t ready =
     let e = c.args.self.now in
     let m = g.A.Atoms.held c.args.atoms.now in
     let there = c.run_row.new.atoms in
@@ -76,15 +64,14 @@ returns-in_ok-self-in-Led-clause-ready g c t ready =
     let r = c.args.goal.now in
     let l = c.requires.list in
     let view = view_is n t (g.met.A.Atoms.fixed_held there) (g.met.A.Atoms.unlike there) (g.met.A.Atoms.finite there) in
-    let k = c.in_ok-tried.ensures in
-    let f : Engine = record e { search = c.run_row.new.search; doing = c.in_ok-self-in-Led.field-0 } in
-    let led = subst (IsTried n e.search r c.args.rest f.search) c.in-Led.is k.tried in
-    let moved = led_moved m n t e f r l.0 l.1 c.args.rest l.2 l.3 c.requires.rest c.requires.row c.run_row.ensures.holds view ready c.in-Led.outcome led refl refl
-    (subst (λ (p : Procedure). IsFollowedAs f c.args.rest p c.in-Led.outcome) c.procedure.ensures c.in_ok-self-in-Led.ensures) in
+    let k = c.in_ok-outcome.ensures in
+    let f : Engine = record e { search = c.run_row.new.search; doing = c.in_ok-self.field-0 } in
+    let moved = led_moved m n t e f r l.0 l.1 c.args.rest l.2 l.3 c.requires.rest c.requires.row c.run_row.ensures.holds view ready c.in_ok-outcome.outcome k.tried refl refl
+    (subst (λ (p : Procedure). IsFollowedAs f c.args.rest p c.in_ok-outcome.outcome) c.procedure.ensures c.in_ok-self.ensures) in
     moved.1
 
-pub returns-in_ok-self-in-Led-clause-stepped : goal.returns-in_ok-self-in-Led-clause-stepped
-returns-in_ok-self-in-Led-clause-stepped g c t ready =
+pub returns-clause-stepped : goal.returns-clause-stepped
+returns-clause-stepped g c t ready =
     let e = c.args.self.now in
     let m = g.A.Atoms.held c.args.atoms.now in
     let there = c.run_row.new.atoms in
@@ -92,15 +79,14 @@ returns-in_ok-self-in-Led-clause-stepped g c t ready =
     let r = c.args.goal.now in
     let l = c.requires.list in
     let view = view_is n t (g.met.A.Atoms.fixed_held there) (g.met.A.Atoms.unlike there) (g.met.A.Atoms.finite there) in
-    let k = c.in_ok-tried.ensures in
-    let f : Engine = record e { search = c.run_row.new.search; doing = c.in_ok-self-in-Led.field-0 } in
-    let led = subst (IsTried n e.search r c.args.rest f.search) c.in-Led.is k.tried in
-    let moved = led_moved m n t e f r l.0 l.1 c.args.rest l.2 l.3 c.requires.rest c.requires.row c.run_row.ensures.holds view ready c.in-Led.outcome led refl refl
-    (subst (λ (p : Procedure). IsFollowedAs f c.args.rest p c.in-Led.outcome) c.procedure.ensures c.in_ok-self-in-Led.ensures) in
+    let k = c.in_ok-outcome.ensures in
+    let f : Engine = record e { search = c.run_row.new.search; doing = c.in_ok-self.field-0 } in
+    let moved = led_moved m n t e f r l.0 l.1 c.args.rest l.2 l.3 c.requires.rest c.requires.row c.run_row.ensures.holds view ready c.in_ok-outcome.outcome k.tried refl refl
+    (subst (λ (p : Procedure). IsFollowedAs f c.args.rest p c.in_ok-outcome.outcome) c.procedure.ensures c.in_ok-self.ensures) in
     moved.0
 
-pub returns-in_ok-self-in-Led-clause-spent : goal.returns-in_ok-self-in-Led-clause-spent
-returns-in_ok-self-in-Led-clause-spent g c =
+pub returns-clause-spent : goal.returns-clause-spent
+returns-clause-spent g c =
     let e = c.args.self.now in
     let m = g.A.Atoms.held c.args.atoms.now in
     let there = c.run_row.new.atoms in
@@ -110,49 +96,14 @@ returns-in_ok-self-in-Led-clause-spent g c =
     let t = c.requires.ready.0 in
     let ready = c.requires.ready.1 in
     let view = view_is n t (g.met.A.Atoms.fixed_held there) (g.met.A.Atoms.unlike there) (g.met.A.Atoms.finite there) in
-    let k = c.in_ok-tried.ensures in
-    let f : Engine = record e { search = c.run_row.new.search; doing = c.in_ok-self-in-Led.field-0 } in
-    let led = subst (IsTried n e.search r c.args.rest f.search) c.in-Led.is k.tried in
-    let moved = led_moved m n t e f r l.0 l.1 c.args.rest l.2 l.3 c.requires.rest c.requires.row c.run_row.ensures.holds view ready c.in-Led.outcome led refl refl
-    (subst (λ (p : Procedure). IsFollowedAs f c.args.rest p c.in-Led.outcome) c.procedure.ensures c.in_ok-self-in-Led.ensures) in
+    let k = c.in_ok-outcome.ensures in
+    let f : Engine = record e { search = c.run_row.new.search; doing = c.in_ok-self.field-0 } in
+    let moved = led_moved m n t e f r l.0 l.1 c.args.rest l.2 l.3 c.requires.rest c.requires.row c.run_row.ensures.holds view ready c.in_ok-outcome.outcome k.tried refl refl
+    (subst (λ (p : Procedure). IsFollowedAs f c.args.rest p c.in_ok-outcome.outcome) c.procedure.ensures c.in_ok-self.ensures) in
     moved.2
 
-pub returns-in-Missing-clause-ready : goal.returns-in-Missing-clause-ready
-returns-in-Missing-clause-ready g c t ready =
-    let e = c.args.self.now in
-    let m = g.A.Atoms.held c.args.atoms.now in
-    let there = c.run_row.new.atoms in
-    let n = g.A.Atoms.held there in
-    let r = c.args.goal.now in
-    let l = c.requires.list in
-    let fixed = g.met.A.Atoms.fixed_held there in
-    let unlike = g.met.A.Atoms.unlike there in
-    let finite = g.met.A.Atoms.finite there in
-    let view = view_is n t fixed unlike finite in
-    let stopped = subst (IsTried n e.search r c.args.rest c.run_row.new.search) c.in-Missing.is c.in_ok-tried.ensures.tried in
-    let f : Engine = record e { search = c.run_row.new.search } in
-    stopped_ready m n t e f r l.0 l.1 c.args.rest l.2 l.3 c.requires.rest c.requires.row c.run_row.ensures.holds view ready fixed unlike finite
-    (ap (λ (s : Search). let y : Engine = record e { search = s } in y) stopped.0)
-
-pub returns-in-Missing-clause-stepped : goal.returns-in-Missing-clause-stepped
-returns-in-Missing-clause-stepped g c t ready =
-    let e = c.args.self.now in
-    let m = g.A.Atoms.held c.args.atoms.now in
-    let there = c.run_row.new.atoms in
-    let n = g.A.Atoms.held there in
-    let r = c.args.goal.now in
-    let l = c.requires.list in
-    let fixed = g.met.A.Atoms.fixed_held there in
-    let unlike = g.met.A.Atoms.unlike there in
-    let finite = g.met.A.Atoms.finite there in
-    let view = view_is n t fixed unlike finite in
-    let stopped = subst (IsTried n e.search r c.args.rest c.run_row.new.search) c.in-Missing.is c.in_ok-tried.ensures.tried in
-    let f : Engine = record e { search = c.run_row.new.search } in
-    missing_stepped m n t e f r l.0 l.1 c.args.rest l.2 l.3 c.requires.rest c.requires.row c.run_row.ensures.holds view ready fixed unlike finite
-    (ap (λ (s : Search). let y : Engine = record e { search = s } in y) stopped.0) c.in-Missing.procedure stopped.1
-
-pub returns-in_err-tried-clause-ready : goal.returns-in_err-tried-clause-ready
-returns-in_err-tried-clause-ready g c =
+pub returns-in_err-outcome-clause-ready : goal.returns-in_err-outcome-clause-ready
+returns-in_err-outcome-clause-ready g c =
     let e = c.args.self.now in
     let m = g.A.Atoms.held c.args.atoms.now in
     let there = c.run_row.new.atoms in
@@ -161,15 +112,15 @@ returns-in_err-tried-clause-ready g c =
     let l = c.requires.list in
     let x = c.run_row.new.search in
     let f : Engine = record e { search = x } in
-    let w = c.in_err-tried.field-0.0 in
+    let w = c.in_err-outcome.field-0.0 in
     let exit = at_exit c.from_residual.result w c.from_residual.ensures.1 in
-    refused_end Tried c.from_residual.result w exit (x ≡ e.search) (λ o. (t : Told) → IsReady m t e → IsReady n t f) c.in_err-tried.ensures.taken_back
+    refused_end Outcome c.from_residual.result w exit (x ≡ e.search) (λ o. (t : Told) → IsReady m t e → IsReady n t f) c.in_err-outcome.ensures.taken_back
     (λ s again back t ready. stopped_ready m n t e f r l.0 l.1 c.args.rest l.2 l.3 c.requires.rest c.requires.row c.run_row.ensures.holds
     (view_is n t (g.met.A.Atoms.fixed_held there) (g.met.A.Atoms.unlike there) (g.met.A.Atoms.finite there)) ready (g.met.A.Atoms.fixed_held there)
     (g.met.A.Atoms.unlike there) (g.met.A.Atoms.finite there) (ap (λ (y : Search). let z : Engine = record e { search = y } in z) back))
 
-pub returns-in_err-tried-clause-stepped : goal.returns-in_err-tried-clause-stepped
-returns-in_err-tried-clause-stepped g c =
+pub returns-in_err-outcome-clause-stepped : goal.returns-in_err-outcome-clause-stepped
+returns-in_err-outcome-clause-stepped g c =
     let e = c.args.self.now in
     let m = g.A.Atoms.held c.args.atoms.now in
     let there = c.run_row.new.atoms in
@@ -178,23 +129,23 @@ returns-in_err-tried-clause-stepped g c =
     let l = c.requires.list in
     let x = c.run_row.new.search in
     let f : Engine = record e { search = x } in
-    let w = c.in_err-tried.field-0.0 in
+    let w = c.in_err-outcome.field-0.0 in
     let exit = at_exit c.from_residual.result w c.from_residual.ensures.1 in
-    refused_end Tried c.from_residual.result w exit (x ≡ e.search) (λ o. (t : Told) → IsReady m t e → IsStepped m t e o n t f []) c.in_err-tried.ensures.taken_back
+    refused_end Outcome c.from_residual.result w exit (x ≡ e.search) (λ o. (t : Told) → IsReady m t e → IsStepped m t e o n t f []) c.in_err-outcome.ensures.taken_back
     (λ s again back t ready. refused_stepped m n t e f r l.0 l.1 c.args.rest l.2 l.3 c.requires.rest c.requires.row c.run_row.ensures.holds
     (view_is n t (g.met.A.Atoms.fixed_held there) (g.met.A.Atoms.unlike there) (g.met.A.Atoms.finite there)) ready (g.met.A.Atoms.fixed_held there)
     (g.met.A.Atoms.unlike there) (g.met.A.Atoms.finite there) (ap (λ (y : Search). let z : Engine = record e { search = y } in z) back) s again)
 
-pub returns-in_err-tried-clause-spent : goal.returns-in_err-tried-clause-spent
-returns-in_err-tried-clause-spent g c =
+pub returns-in_err-outcome-clause-spent : goal.returns-in_err-outcome-clause-spent
+returns-in_err-outcome-clause-spent g c =
     let e = c.args.self.now in
     let x = c.run_row.new.search in
-    let w = c.in_err-tried.field-0.0 in
-    refused_end Tried c.from_residual.result w (at_exit c.from_residual.result w c.from_residual.ensures.1) (x ≡ e.search) (λ o. IsSpent e.search.inferences x.inferences)
-    c.in_err-tried.ensures.taken_back (λ s again back. inl (ap (λ (y : Search). y.inferences) back))
+    let w = c.in_err-outcome.field-0.0 in
+    refused_end Outcome c.from_residual.result w (at_exit c.from_residual.result w c.from_residual.ensures.1) (x ≡ e.search) (λ o. IsSpent e.search.inferences x.inferences)
+    c.in_err-outcome.ensures.taken_back (λ s again back. inl (ap (λ (y : Search). y.inferences) back))
 
-pub returns-in_err-tried-clause-refusals : goal.returns-in_err-tried-clause-refusals
-returns-in_err-tried-clause-refusals g c =
-    let w = c.in_err-tried.field-0.0 in
-    refused_list Tried c.from_residual.result w (at_exit c.from_residual.result w c.from_residual.ensures.1) (g.A.Atoms.refusals c.args.atoms.now)
-    (g.A.Atoms.refusals c.run_row.new.atoms) c.in_err-tried.ensures.refusals
+pub returns-in_err-outcome-clause-refusals : goal.returns-in_err-outcome-clause-refusals
+returns-in_err-outcome-clause-refusals g c =
+    let w = c.in_err-outcome.field-0.0 in
+    refused_list Outcome c.from_residual.result w (at_exit c.from_residual.result w c.from_residual.ensures.1) (g.A.Atoms.refusals c.args.atoms.now)
+    (g.A.Atoms.refusals c.run_row.new.atoms) c.in_err-outcome.ensures.refusals

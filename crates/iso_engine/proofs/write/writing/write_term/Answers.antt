@@ -1,8 +1,5 @@
-use Rattle.std.proofs.Common.{refl, subst, arith, Ok}
+use Rattle.std.proofs.Common.{refl, arith}
 use Rattle.iso_engine.specs.declared.write.goals.OutputGoal.TheVariants.{Term}
-use Rattle.world_builtins.specs.Spelling.{reads}
-use Rattle.world_builtins.specs.Styles.{text_by}
-use Rattle.world_builtins.specs.Writing.{Writes}
 use Rattle.iso_engine.proofs.OutputSteps.{spent, under_operators}
 use Rattle.iso_engine.proofs.write.writing.write_term.Goals as goal
 
@@ -11,8 +8,8 @@ returns-then-search-most-clause-wrote g c place is =
     let e = c.args.search.now in
     (((λ k. refl), refl, refl, refl), spent e place c.args.rest (Term c.args.style c.args.term) is (omega (arith, c.if-search-most.true)))
 
-pub returns-in-Done-clause-wrote : goal.returns-in-Done-clause-wrote
-returns-in-Done-clause-wrote g c place is =
+pub returns-clause-wrote : goal.returns-clause-wrote
+returns-clause-wrote g c place is =
     let e = c.args.search.now in
     let m = g.W.A.Atoms.held c.args.atoms.now in
     let t = g.W.World.told c.args.world.now in
@@ -21,4 +18,4 @@ returns-in-Done-clause-wrote g c place is =
     let b = c.write.new.out.items in
     under_operators m (g.W.A.Atoms.held c.write.new.atoms) t u e c.args.style c.args.term place c.args.rest a b c.requires.held
     (omega (arith, c.if-search-most.false)) is
-    (subst (λ x. Writes (text_by c.args.style (reads m e.store c.args.term)) (Ok x) t u a b) c.in-Done.is c.in_ok-written.ensures.writes)
+    c.in_ok-write.ensures.writes

@@ -15,13 +15,13 @@ use Rattle.world_api.specs.Told.{Told as Engine}
 use Rattle.script_api.specs.Parts.{Part, of_directive}
 use Rattle.plain_world.specs.Entries.{entry_of}
 use Rattle.run_model.specs.Ends.{awaited_by, some_fault}
-use Rattle.toplevel.specs.declared.outcome.Front.{Front}
-use Rattle.toplevel.specs.declared.outcome.Outcome.{Outcome}
+use Rattle.toplevel.specs.declared.first_engine.Front.{Front}
+use Rattle.toplevel.specs.declared.first_engine.FirstEngine.{FirstEngine}
 use Rattle.toplevel.specs.Unbuilt.{IsStuck, indicated}
 use Rattle.toplevel.specs.declared.first_run.RunOutcome.{RunOutcome}
 use Rattle.toplevel.specs.declared.first_run.RunOutcome.TheVariants.{Stood as Come, Unbuilt}
-use Rattle.toplevel.specs.declared.outcome.Word.{Word}
-use Rattle.toplevel.specs.declared.outcome.Word.TheVariants.{Goal, Fault}
+use Rattle.toplevel.specs.declared.first_engine.Word.{Word}
+use Rattle.toplevel.specs.declared.first_engine.Word.TheVariants.{Goal, Fault}
 
 -- The updates that are told.
 abbrev pub history_of : Front → History
@@ -65,7 +65,7 @@ AreRead (Some (Fault kind at)) names ws = ws ≡ faulty_word kind at ∷ []
 
 -- The first engine of the program has come to this end or to this request, and what the outcome keeps is what the report
 -- says of it.
-pub record Stood (p : Program) (name : Chars) (o : Outcome) : Type 0 where
+pub record Stood (p : Program) (name : Chars) (o : FirstEngine) : Type 0 where
   pub execution : Execution
   pub names : List (Chars × ℕ)
   pub alone : Alone (length p.words) (main_job p) (seen_of o.front execution) o.front.moves
@@ -79,7 +79,7 @@ pub record Stood (p : Program) (name : Chars) (o : Outcome) : Type 0 where
   pub faulty : o.faulty ≡ some_fault execution.consulted
 
 -- What the run of a program on a file of this name has come to.
-abbrev pub HasCome : Program → Chars → RunOutcome Outcome → Type 0
+abbrev pub HasCome : Program → Chars → RunOutcome FirstEngine → Type 0
 HasCome p name (Come o) = Stood p name o
 HasCome p name (Unbuilt n a) = IsStuck p (indicated n a)
 

@@ -1,7 +1,7 @@
 use Rattle.std.proofs.Common.{Some, sym, ap, ◌∙◌}
 use Rattle.builtin_arithmetic.specs.Comparing.{name_of}
 use Rattle.builtin_arithmetic.proofs.Raising.{greater_is, greater_or_equal_is, less_is, less_or_equal_is, numbers_differ_is, numbers_equal_is}
-use Rattle.builtin_arithmetic.proofs.comparisons.Comparison.name.Goals as goal
+use Rattle.builtin_arithmetic.proofs.comparisons.predicate_name.Goals as goal
 
 pub returns-in-Equal-clause-name : goal.returns-in-Equal-clause-name
 returns-in-Equal-clause-name c = numbers_equal_is ∙ ap (λ k. Some (name_of k)) (sym c.in-Equal.is)

@@ -28,7 +28,7 @@ pub enum Word {
 /// operators after it, what is written of the file, what the goal has given, how its word was read, if it was, and whether a
 /// fault of the file was kept.
 #[derive(Drop)]
-pub struct Outcome {
+pub struct FirstEngine {
     pub front: Front,
     pub awaits: Option<On>,
     pub operators: Arc<OpTable>,
