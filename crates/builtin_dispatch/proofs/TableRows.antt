@@ -1,5 +1,5 @@
 -- The rows of the two predicates that have tables.
-use Rattle.std.proofs.Common.{◌≡◌, ◌≢◌, ℕ, zero, suc, ◌+◌, ◌-◌, ◌^◌, Bool, true, false, ◌&&◌, if◌then◌else◌, nat_le, nat_lt, Vec, Global, List, [], ◌∷◌, ◌++◌, length, drop, Option, Some, None, Result, Ok, Err, IfOk, bytes_eq, codes, refl, sym, ap, subst, ◌∙◌}
+use Rattle.std.proofs.Common.{◌≡◌, ◌≢◌, ℕ, zero, suc, ◌+◌, ◌-◌, ◌^◌, Bool, true, false, ◌&&◌, if◌then◌else◌, nat_le, nat_lt, Vec, Global, List, [], ◌∷◌, ◌++◌, length, drop, Option, Some, None, Result, Ok, Err, IfOk, bytes_eq, codes, refl, sym, ap, subst, ◌∙◌, arith}
 use Rattle.std.specs.List.{All, Contains}
 use Rattle.std.proofs.lemmas.List.Elements.{All-append, All-cons, All-nil}
 use Rattle.pl_term.specs.Tree.{Chars, Tree, Trees, atom, more, none}
@@ -190,10 +190,7 @@ two_has_none p q ts same found =
     as_same (λ r us. lines_of r us ≡ []) p (Two q) ts (two found.0 found.1) same found.2 (no_lines_of_two (name_of_two q) found.0 found.1 0)
 
 other_name : (p : OfThree) → p ≢ of_three.AtomConcat → bytes_eq (name_of_three p) (codes "atom_concat") ≡ false
-other_name of_three.Compare other = refl
-other_name of_three.Functor other = refl
-other_name of_three.Arg other = refl
-other_name of_three.AtomConcat other = absurd (other refl)
+other_name p other = grind arith
 
 pub three_has_none : (p : OfThree) (t u v : Tree) → p ≢ of_three.AtomConcat → lines_of (Three p) (three t u v) ≡ []
 three_has_none p t u v other = no_lines_of_three (name_of_three p) t u v 0 (other_name p other)

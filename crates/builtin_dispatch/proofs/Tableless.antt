@@ -116,6 +116,14 @@ of_keysorts t =
     of_list (elements t) (λ ts. unless (pairs_error ts) (gives_list t (sorted key ts)))
     (λ ts. of_unless (pairs_error ts) (gives_list t (sorted key ts)) refl)
 
+-- What is chosen by a name has no lines where neither choice has some.
+of_if : (b : Bool) (r : Row) (o : Option Row) → NoLines (Some r) → NoLines o → NoLines (if b then Some r else o)
+of_if true r o h k = h
+of_if false r o h k = k
+
+of_three : (f : Chars) (t u v : Tree) (next : ℕ) → NoLines (term_row f (three t u v) next)
+of_three f t u v next = search (of_if, of_unless, of_list, of_value, of_test, of_functor, of_argument) depth 12 fits 5000
+
 of_terms : (f : Chars) (ts : Trees) (next : ℕ) → NoLines (term_row f ts next)
 of_terms f none next = refl
 of_terms f (more t none) next = refl
@@ -143,20 +151,7 @@ of_terms f (more t (more u none)) next =
       ),
     )
     (of_arithmetic (arithmetic f) t u)
-of_terms f (more t (more u (more v none))) next =
-    of_chosen
-    ((bytes_eq f (codes "compare"), compares t u v)
-    ∷ ((bytes_eq f (codes "functor"), functor_of next t u v) ∷ ((bytes_eq f (codes "arg"), argument_of t u v) ∷ []))) None (
-      of_unless (first_error (atom_error t ∷ sign_error t ∷ [])) (one_answer (three (atom (sign (order u v))) u v)) refl,
-      (
-        of_functor next t u v,
-        (
-          of_unless (first_error (bound_error t ∷ bound_error u ∷ integer_error t ∷ compound_error u ∷ negative_error t ∷ []))
-              (with_argument t u (argument_at (natural_of t) (arguments u))) (of_argument t u (argument_at (natural_of t) (arguments u))),
-          tt,
-        ),
-      ),
-    ) refl
+of_terms f (more t (more u (more v none))) next = of_three f t u v next
 of_terms f (more t (more u (more v (more w ts)))) next = refl
 
 of_basic : (f : Chars) (ts : Trees) (next : ℕ) → NoLines (basic.row f ts next)
