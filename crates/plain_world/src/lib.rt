@@ -12,8 +12,6 @@ mod made;
 mod made_terms;
 mod spelled;
 mod stored_terms;
-#[cfg(test)]
-mod tests;
 mod text_reply;
 mod visits;
 mod world;

@@ -7,8 +7,6 @@ mod named;
 mod readings;
 mod reply;
 pub mod search_steps;
-#[cfg(test)]
-mod tests;
 mod texts;
 mod unserved;
 mod visit;
