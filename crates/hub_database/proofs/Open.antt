@@ -1,0 +1,83 @@
+-- Predicates of the system have no clauses.
+use Rattle.std.proofs.Common.{◌≡◌, ℕ, List, [], ◌∷◌, ◌++◌, map, Option, Some, None, Bool, true, false, cond, refl, sym, ap, ap₂, ◌∙◌, rules}
+use Rattle.std.specs.Prelude.{◌&&◌, ◌==◌, not, filter, bytes_eq, codes}
+use Rattle.std.specs.Bool.{Decides}
+use Rattle.std.proofs.lemmas.Bool.{false≢true}
+use Rattle.std.proofs.lemmas.Bool.Decides.{Decides-like, Decides-and, Decides-eqb}
+use Rattle.std.proofs.lemmas.Slice.Eq.{bytes_eq-Decides}
+use Rattle.pl_term.specs.Tree.{Tree, var, int, atom, comp, none, more}
+use Rattle.pl_model.specs.History.{Clause, Proc}
+use Rattle.pl_model.specs.Predicates.{is_excluded, proc_of, same_proc}
+use Rattle.pl_model.specs.FirstArguments.{head_of}
+use Rattle.pl_model.specs.SystemPredicates.{system_predicates}
+use Rattle.pl_model.specs.Database.{Stored, Database, choices, erased_where, has_room, is_erased, is_of, is_static, is_system, is_visible, seen, used_cells}
+use Rattle.pl_model.specs.Service.{clause_cells}
+use Rattle.hub_database.specs.Database.{AllOpen}
+
+-- the test for the same predicate is an equation
+same_proc-Decides : (p q : Proc) → Decides (same_proc p q) (p ≡ q)
+same_proc-Decides p q =
+    Decides-like
+    (same_proc p q)
+    (λ e. ap₂ (λ n k. record { name = n; arity = k }) e.0 e.1)
+    (λ e. (ap (λ r. r.name) e, ap (λ r. r.arity) e))
+    (Decides-and
+    (bytes_eq p.name q.name)
+    (p.arity == q.arity)
+    (bytes_eq-Decides p.name q.name)
+    (Decides-eqb p.arity q.arity))
+
+pub is_same : (p q : Proc) → same_proc p q ≡ true → p ≡ q
+is_same p q e = (same_proc-Decides p q).0 e
+
+rule_is_system : is_system (record { name = codes ":-"; arity = 2 }) ≡ true
+unfolding system_predicates
+rule_is_system = refl
+
+-- a goal that is no rule is its own head
+pub own_head : (goal : Tree) → is_system (proc_of goal) ≡ false → head_of goal ≡ goal
+own_head (var x) e = refl
+own_head (int i) e = refl
+own_head (atom a) e = refl
+own_head (comp f t none) e = refl
+own_head (comp f t (more u none)) e = go (bytes_eq f (codes ":-")) refl
+  where
+    go : (b : Bool) → bytes_eq f (codes ":-") ≡ b → cond b t (comp f t (more u none)) ≡ comp f t (more u none)
+    go true h = absurd (false≢true (sym e ∙ ap (λ n. is_system (record { name = n; arity = 2 })) ((bytes_eq-Decides f (codes ":-")).0 h) ∙ rule_is_system))
+    go false h = refl
+own_head (comp f t (more u (more v ts))) e = refl
+
+-- none of a predicate of the system is seen
+pub none_seen : (p : Proc) → is_system p ≡ true → (g : ℕ) (ss : List (Stored Clause))
+    → AllOpen ss
+    → filter (λ s. is_of p s && is_visible g s) ss ≡ []
+none_seen p sys g [] all = refl
+none_seen p sys g (s ∷ ss) all = go (same_proc s.procedure p) refl (none_seen p sys g ss all.1)
+  where
+    go : (b : Bool) → same_proc s.procedure p ≡ b
+        → filter (λ s. is_of p s && is_visible g s) ss ≡ []
+        → cond (b && is_visible g s) (s ∷ filter (λ s. is_of p s && is_visible g s) ss) (filter (λ s. is_of p s && is_visible g s) ss) ≡ []
+    go true h rest = absurd (false≢true (sym all.0 ∙ ap is_system (is_same s.procedure p h) ∙ sys))
+    go false h rest = rest
+
+-- CHANGES leave it so
+pub open_erased : (test : Stored Clause → Bool) (k : ℕ) (ss : List (Stored Clause)) → AllOpen ss → AllOpen (map (erased_where test k) ss)
+open_erased test k [] all = tt
+open_erased test k (s ∷ ss) all = (go (test s && not (is_erased s)), open_erased test k ss all.1)
+  where
+    go : (b : Bool) → is_system (cond b (record s { erased = Some k }) s).procedure ≡ false
+    go true = all.0
+    go false = all.0
+
+-- THE LIST OF A GOAL is found by the goal's head
+pub list_same : (goal : Tree) (g : ℕ) (d : Database Clause) → AllOpen d.clauses
+    → choices (λ (c : Clause). is_excluded (head_of goal) c.head) g (proc_of goal) d ≡ choices (λ (c : Clause). is_excluded goal c.head) g (proc_of goal) d
+list_same goal g d all = go (is_system (proc_of goal)) refl
+  where
+    go : (b : Bool) → is_system (proc_of goal) ≡ b
+        → choices (λ (c : Clause). is_excluded (head_of goal) c.head) g (proc_of goal) d ≡ choices (λ (c : Clause). is_excluded goal c.head) g (proc_of goal) d
+    go false e = ap (λ (t : Tree). choices (λ (c : Clause). is_excluded t c.head) g (proc_of goal) d) (own_head goal e)
+    go true e =
+        let empty = none_seen (proc_of goal) e g d.clauses all in
+        ap (filter (λ (s : Stored Clause). not (is_excluded (head_of goal) s.clause.head))) empty
+        ∙ sym (ap (filter (λ (s : Stored Clause). not (is_excluded goal s.clause.head))) empty)

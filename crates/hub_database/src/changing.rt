@@ -1,0 +1,47 @@
+//! Clauses are erased. No term is stored or forgotten by that.
+ghost use Rattle.std.specs.Prelude.{◌≡◌, ℕ, IsSome, length};
+ghost use Rattle.std.specs.List.{All};
+ghost use Rattle.pl_model.specs.History as entries;
+ghost use Rattle.pl_model.specs.Requests as requests;
+ghost use Rattle.atom_words.specs.Seats.{seen};
+ghost use Rattle.atom_table.specs.Naming.{names};
+ghost use Rattle.world_api.specs.Texts.{text_of};
+ghost use Rattle.counted_terms.specs.Keeping.{KeeperAt, keeper_view};
+ghost use Rattle.counted_terms.specs.Rows.{row_names};
+ghost use Rattle.hub_database.specs.Database.{IsDatabase, IsUpTo, clause_counts};
+ghost use Rattle.hub_database.specs.Rows.{Decides, IsQuiet, IsSteady, generation_after};
+
+use atom_table::{Keeper, NamesTable, TableAtoms};
+use clause_db::Db;
+use counted_terms::{CountedTerm, MOST_UPDATES, Row, agree};
+use world_api::Reply;
+
+/// The clause that was added at this place is erased (ISO 8.9.3). From 2^47 updates on the answer is out of memory.
+pub fn erase_clause<K: NamesTable>(
+    db: &mut Db<CountedTerm>,
+    atoms: &mut TableAtoms<K>,
+    keeper: &mut Option<Keeper>,
+    clause: u64,
+    generation: u64,
+) -> Row
+    requires keeper { KeeperAt K.atoms K.size keeper.old }
+    requires upto { IsUpTo generation db.old }
+    ensures keeper { KeeperAt K.atoms K.size keeper.new }
+    ensures steady { IsSteady (keeper_view keeper.old) (keeper_view keeper.new) }
+    ensures weighs { (a : ℕ) → clause_counts db.new a ≡ clause_counts db.old a }
+    ensures upto { IsUpTo (generation_after result generation) db.new }
+    ensures quiet { IsQuiet (seen atoms.old.seat) (seen atoms.new.seat) }
+    ensures named { All (λ a. IsSome (names (seen atoms.new.seat) a)) (row_names result) }
+    ensures says { (goals e : ℕ) (h : entries.History) → length h ≡ generation → IsDatabase (keeper_view keeper.old) db.old goals h
+        → Decides goals e (text_of (names (seen atoms.new.seat))) (requests.erase_clause clause) h (entries.erase clause) (keeper_view keeper.new) db.new result }
+{
+    if generation >= MOST_UPDATES {
+        return Row::Memory;
+    }
+    agree(atoms, keeper);
+    match db.erase(clause, generation) {
+        Ok(true) => Row::Makes(Reply::Done),
+        Ok(false) => Row::Reads(Reply::Gone),
+        Err(_) => Row::Memory,
+    }
+}
