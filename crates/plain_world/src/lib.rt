@@ -10,6 +10,7 @@ mod heads;
 mod journal;
 mod made;
 mod made_terms;
+mod recent;
 mod spelled;
 mod stored_terms;
 mod text_reply;

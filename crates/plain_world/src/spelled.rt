@@ -36,6 +36,14 @@ pub trait Spelled: Named {
         ensures refusals { A.refusals atoms.new ≡ A.refusals atoms.old }
         ensures asked { A.asked atoms.new ≡ A.asked atoms.old };
 
+    /// A number for a key that takes time to spell; keys that are likely to be spelled one after the other have different ones.
+    fn key_number(key: &Self::Key) -> Option<usize>;
+
+    /// Whether the key in texts is what this one is spelled as. Where the atoms do not tell their texts (`Atoms::reads`), it may
+    /// answer false. It takes no memory.
+    fn key_reads<A: Atoms>(key: &Self::Key, known: &FirstArgument, atoms: &A) -> bool
+        ensures { result ≡ true → (t : Self) → Self.key_of t ≡ key.now → known.now ≡ head_key (head_of (Self.term (text_of (A.held atoms.now)) t)) };
+
     /// The term that stands for this one in texts, by the atoms. No text but its names is asked of them.
     fn read<A: Atoms>(flat: &Flat, alloc: Global, atoms: &mut A) -> Made<Self>
         ensures read { IfMade result (λ t. Self.term (text_of (A.held atoms.new)) t ≡ flat.now) }
@@ -79,6 +87,14 @@ impl Spelled for Flat {
         _atoms: &mut A,
     ) -> Result<FirstArgument, Memory> {
         copied(alloc, key)
+    }
+
+    fn key_number(_key: &FirstArgument) -> Option<usize> {
+        None
+    }
+
+    fn key_reads<A: Atoms>(_key: &FirstArgument, _known: &FirstArgument, _atoms: &A) -> bool {
+        false
     }
 
     fn read<A: Atoms>(flat: &Flat, alloc: Global, _atoms: &mut A) -> Made<Flat> {

@@ -54,6 +54,19 @@ fn key_text<A: Atoms>(
     }
 }
 
+/// Whether the key in texts is what a key of one atom is spelled as. Where the atoms do not tell their texts, it answers false.
+fn is_key_text<A: Atoms>(key: &ArgumentKey, known: &FirstArgument, atoms: &A) -> bool
+    ensures { result ≡ true → known.now ≡ key_in (text_of (A.held atoms.now)) key.now }
+{
+    match (key, known) {
+        (ArgumentKey::Atom(slot), FirstArgument::Atom(name)) => atoms.reads(Atom::at(*slot), name),
+        (ArgumentKey::Compound(slot, arity), FirstArgument::Compound(name, k)) => {
+            *arity as u64 == *k && atoms.reads(Atom::at(*slot), name)
+        }
+        _ => false,
+    }
+}
+
 /// Whether the variables of the term are numbered from 0 on in the order in which they first occur, as those of each term
 /// that was kept are. It answers false where memory is wanting.
 fn is_numbered(alloc: Global, flat: &Flat) -> bool
@@ -81,6 +94,19 @@ impl Spelled for Stored {
         atoms: &mut A,
     ) -> Result<FirstArgument, Memory> {
         key_text(alloc, key, atoms)
+    }
+
+    fn key_number(key: &ArgumentKey) -> Option<usize> {
+        match key {
+            ArgumentKey::Any => None,
+            ArgumentKey::Int(_) => None,
+            ArgumentKey::Atom(slot) => Some((*slot as usize) * 2),
+            ArgumentKey::Compound(slot, _) => Some((*slot as usize) * 2 + 1),
+        }
+    }
+
+    fn key_reads<A: Atoms>(key: &ArgumentKey, known: &FirstArgument, atoms: &A) -> bool {
+        is_key_text(key, known, atoms)
     }
 
     fn read<A: Atoms>(flat: &Flat, alloc: Global, atoms: &mut A) -> Made<Stored> {

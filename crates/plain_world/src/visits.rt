@@ -1,6 +1,7 @@
 //! The visits, one by one.
 ghost use Rattle.std.specs.Prelude.{◌≡◌, ◌++◌, IfOk, IsSome, Some};
 ghost use Rattle.std.specs.List.{All, Contains};
+ghost use Rattle.pl_model.specs.FirstArguments.{head_key, head_of};
 ghost use Rattle.pl_model.specs.laws.Shown.{proc_of};
 ghost use Rattle.world_api.specs.Asked.{IsInAnswer};
 ghost use Rattle.world_api.specs.Gains.{Gains};
@@ -18,15 +19,22 @@ ghost use Rattle.plain_world.specs.Handed.{Answered, Handed, VisitedNow, Noted, 
 use crate::adding::Adding;
 use crate::handing::read_reply;
 use crate::made::Made;
+use crate::recent::Recent;
 use crate::spelled::Spelled;
 use crate::text_reply::TextReply;
 use crate::world::PlainWorld;
 use atom_api::{Atoms, TextBuf};
+use pl_model::first_argument::FirstArgument;
 use pl_model::kept::Kept;
 use pl_model::shows::Proc;
 use pl_term::Memory;
 use std::alloc::Global;
 use world_api::{Answer, Procedure, Reply};
+
+/// A number for a predicate: those of one name and those of one number of arguments have different ones.
+fn predicate_number(p: &Procedure) -> usize {
+    (p.name.slot() as usize) ^ ((p.arity as usize) << 5)
+}
 
 /// The predicate in texts. The only error is out of memory.
 fn spelled_predicate<A: Atoms>(alloc: Global, p: &Procedure, atoms: &mut A) -> Result<Proc, Memory>
@@ -43,6 +51,59 @@ fn spelled_predicate<A: Atoms>(alloc: Global, p: &Procedure, atoms: &mut A) -> R
         name,
         arity: p.arity,
     })
+}
+
+/// The predicate in texts: the one that was spelled of late, where it still reads so, or else a new one. The only error is want of
+/// memory.
+fn known_predicate<A: Atoms>(
+    alloc: Global,
+    recent: &mut Recent<Proc>,
+    p: &Procedure,
+    atoms: &mut A,
+) -> Result<Proc, Memory>
+    requires { IsSome (A.held atoms.old p.now.name) }
+    ensures spelled { IfOk result (λ q. proc_of q ≡ proc_named (text_of (A.held atoms.old)) p.now) }
+    ensures same { A.held atoms.new ≡ A.held atoms.old }
+    ensures refusals { A.refusals atoms.new ≡ A.refusals atoms.old }
+    ensures asked { A.asked atoms.new ≡ A.asked atoms.old }
+{
+    if let Some(known) = recent.take(predicate_number(p)) {
+        if known.arity == p.arity && atoms.reads(p.name, &known.name) {
+            return Ok(known);
+        }
+    }
+    spelled_predicate(alloc, p, atoms)
+}
+
+/// The key of a first argument in texts: the one that was spelled of late, where it still reads so, or else a new one. The only
+/// error is out of memory.
+fn known_key<T: Spelled, A: Atoms>(
+    alloc: Global,
+    recent: &mut Recent<FirstArgument>,
+    key: &T::Key,
+    atoms: &mut A,
+) -> Result<FirstArgument, Memory>
+    requires { All (λ a. IsSome (A.held atoms.old a)) (T.key_names key.now) }
+    ensures spelled { IfOk result (λ k. (t : T) → T.key_of t ≡ key.now → k ≡ head_key (head_of (T.term (text_of (A.held atoms.old)) t))) }
+    ensures same { A.held atoms.new ≡ A.held atoms.old }
+    ensures refusals { A.refusals atoms.new ≡ A.refusals atoms.old }
+    ensures asked { A.asked atoms.new ≡ A.asked atoms.old }
+{
+    if let Some(number) = T::key_number(key) {
+        if let Some(known) = recent.take(number) {
+            if T::key_reads(key, &known, atoms) {
+                return Ok(known);
+            }
+        }
+    }
+    T::spell_key(key, alloc, atoms)
+}
+
+/// Keeps a key that was spelled.
+fn keep_key<T: Spelled>(recent: &mut Recent<FirstArgument>, key: &T::Key, spelled: FirstArgument) {
+    if let Some(number) = T::key_number(key) {
+        recent.put(number, spelled);
+    }
 }
 
 impl<T: Spelled, A: Atoms> PlainWorld<T, A> {
@@ -122,15 +183,17 @@ impl<T: Spelled, A: Atoms> PlainWorld<T, A> {
         ensures asked { Gains (IsInAnswer T.term T.key_of (text_of (A.held atoms.old)) (Call procedure.now first.now) (told_of self.old.journal)) (A.asked atoms.old) (A.asked atoms.new) }
     {
         let alloc = self.journal.alloc();
-        let Ok(p) = spelled_predicate(alloc, procedure, atoms) else {
+        let Ok(p) = known_predicate(alloc, &mut self.predicates, procedure, atoms) else {
             return Answer::Memory;
         };
-        let Ok(first) = T::spell_key(first, alloc, atoms) else {
+        let Ok(key) = known_key::<T, A>(alloc, &mut self.keys, first, atoms) else {
             return Answer::Memory;
         };
-        match self.journal.call(&p, &first) {
+        match self.journal.call(&p, &key) {
             Ok(reply) => {
                 let made = read_reply(alloc, reply, &mut self.terms, atoms);
+                self.predicates.put(predicate_number(procedure), p);
+                keep_key::<T>(&mut self.keys, first, key);
                 self.answered(made)
             }
             Err(Memory) => Answer::Memory,
@@ -156,16 +219,19 @@ impl<T: Spelled, A: Atoms> PlainWorld<T, A> {
         ensures asked { Gains (IsInAnswer T.term T.key_of (text_of (A.held atoms.old)) (Next procedure.now first.now generation place) (told_of self.old.journal)) (A.asked atoms.old) (A.asked atoms.new) }
     {
         let alloc = self.journal.alloc();
-        let Ok(p) = spelled_predicate(alloc, procedure, atoms) else {
+        let Ok(p) = known_predicate(alloc, &mut self.predicates, procedure, atoms) else {
             return Answer::Memory;
         };
-        let Ok(first) = T::spell_key(first, alloc, atoms) else {
+        let Ok(key) = known_key::<T, A>(alloc, &mut self.keys, first, atoms) else {
             return Answer::Memory;
         };
-        let Ok(found) = self.journal.next(&p, &first, generation, place) else {
+        let Ok(found) = self.journal.next(&p, &key, generation, place) else {
             return Answer::Memory;
         };
-        match read_reply(alloc, TextReply::Clauses(found), &mut self.terms, atoms) {
+        let made = read_reply(alloc, TextReply::Clauses(found), &mut self.terms, atoms);
+        self.predicates.put(predicate_number(procedure), p);
+        keep_key::<T>(&mut self.keys, first, key);
+        match made {
             Made::Is(reply) => Answer::Served { reply, generation },
             Made::Full(pass) => Answer::NeedsAtoms(pass),
             Made::Again(cause) => Answer::Retry(cause),

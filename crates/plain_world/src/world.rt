@@ -9,10 +9,13 @@ use crate::adding::Adding;
 use crate::entry::Entry;
 use crate::journal::Journal;
 use crate::made_terms::MadeTerms;
+use crate::recent::Recent;
 use crate::spelled::Spelled;
 use atom_api::Atoms;
 use op_table::OpTable;
+use pl_model::first_argument::FirstArgument;
 use pl_model::kept::Kept;
+use pl_model::shows::Proc;
 use pl_term::Memory;
 use std::alloc::Global;
 use std::marker::PhantomData;
@@ -26,6 +29,8 @@ use world_api::{Answer, Visit, World};
 pub struct PlainWorld<T, A> {
     pub(crate) journal: Journal,
     pub(crate) terms: MadeTerms<T>,
+    pub(crate) predicates: Recent<Proc>,
+    pub(crate) keys: Recent<FirstArgument>,
     pub(crate) atoms: PhantomData<A>,
 }
 
@@ -37,6 +42,8 @@ impl<T: Spelled, A: Atoms> PlainWorld<T, A> {
         Ok(PlainWorld {
             journal: Journal::new(alloc, goals)?,
             terms: MadeTerms::new(alloc),
+            predicates: Recent::new(alloc)?,
+            keys: Recent::new(alloc)?,
             atoms: PhantomData,
         })
     }
@@ -72,6 +79,8 @@ impl<T: Spelled, A: Atoms> PlainWorld<T, A> {
         let PlainWorld {
             journal,
             terms: _,
+            predicates: _,
+            keys: _,
             atoms: _,
         } = self;
         journal.into_parts()
