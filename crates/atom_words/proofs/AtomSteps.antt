@@ -5,7 +5,7 @@ use mathlib.Core.Logic.{dite}
 use native.Mathlib.Decide.{dec_le, ℕ_discrete}
 use lib.ListN.{get_elem?}
 use Rattle.atomic_table.proofs.Lists.{at_set}
-use Rattle.atom_words.specs.Layout.{state_of, mark_of, count_of, version_of}
+use Rattle.atom_words.specs.Layout.{state_of, mark_of, count_of, version_of, closed_of}
 use Rattle.atom_words.specs.Texts.{bucket}
 use Rattle.atom_words.specs.Board.{Board, text_of, with_atom}
 use Rattle.atom_words.specs.Chains.{In, Chain, Linked}
@@ -50,8 +50,9 @@ module _ (z : Size) (b : Board) (vs : List View) (r : Kept z b vs) (id : ℕ) (v
       → MarksOk z b.epoch b.acks (set b.atoms k x) r.plan.engine r.plan.sweep.cursor id w.cycle w.undealt w.held w.walk
       → w.sweep ≡ v.sweep → w.risen ≡ v.risen
       → ((y : Sweeping) (t : Walk) → v.sweep ≡ Some y → w.walk ≡ Some t → Trail b.epoch b.row b.links b.heads r.plan.chain y t)
+      → ((t : Walk) → w.walk ≡ Some t → (r.plan.collector ≡ id → ⊥) → closed_of t.word ≡ 0) → w.growing ≡ v.growing
       → Kept z (with_atom b k x) (set vs id w)
-  knows k x owner' w soft size own held fixed counts walk marks sweep risen trail = keep_atom z b vs r owner' id k x w soft record {
+  knows k x owner' w soft size own held fixed counts walk marks sweep risen trail unclosed growing = keep_atom z b vs r owner' id k x w soft record {
     size = size ∙ s.size;
     own = own;
     held = held;
@@ -63,6 +64,8 @@ module _ (z : Size) (b : Board) (vs : List View) (r : Kept z b vs) (id : ℕ) (v
     sweeps = λ y e. s.sweeps y (sym sweep ∙ e);
     trail = λ y t e. trail y t (sym sweep ∙ e);
     risen = λ h below. s.risen h (subst (λ (n : ℕ). h < n) risen below);
+    unclosed = unclosed;
+    grows = λ y e. s.grows y (sym sweep ∙ e) ∙ sym growing;
   }
 
   pub held_as : (k x : ℕ) (owner' : ℕ → ℕ) → Soft z b.atoms r.plan owner' id k x → (i : ℕ) (a : Held) → get_elem? v.held i ≡ some a → HeldOk z (set b.atoms k x) b.texts r.plan.chain a
@@ -123,7 +126,7 @@ module _ (z : Size) (b : Board) (vs : List View) (r : Kept z b vs) (id : ℕ) (v
         apart = λ _ l. not_free k l free;
         linked = λ no. cc;
       })
-      (held_as k 1 (put r.plan.owner k id) soft) refl (counts_as k 1 (put r.plan.owner k id) soft (sym none_counted)) s.walk (marks_as k 1 (put r.plan.owner k id) soft) refl refl s.trail)
+      (held_as k 1 (put r.plan.owner k id) soft) refl (counts_as k 1 (put r.plan.owner k id) soft (sym none_counted)) s.walk (marks_as k 1 (put r.plan.owner k id) soft) refl refl s.trail s.unclosed refl)
 
   -- VALIDATE AND RELEASE
   keep_validate_at : (o : Own) → v.own ≡ Some o → o.linked ≡ true → Sitting v → Kept z (with_atom b o.slot 7) (set vs id (view_after v Validate))
@@ -155,7 +158,7 @@ module _ (z : Size) (b : Board) (vs : List View) (r : Kept z b vs) (id : ℕ) (v
       (at_snoc v.held (record { slot = o.slot; text = o.text }) a i (sym (ap (λ y. get_elem? (v.held ++ held_own y) i) own) ∙ e)))
       refl (counts_as o.slot 7 r.plan.owner soft (sym none_counted)) s.walk
       (subst (λ (y : Option Own). MarksOk z b.epoch b.acks (set b.atoms o.slot 7) r.plan.engine r.plan.sweep.cursor id v.cycle v.undealt (v.held ++ held_own y) v.walk) (sym own)
-      (marks_more o.slot 7 r.plan.owner soft refl refl sits (record { slot = o.slot; text = o.text }) refl)) refl refl s.trail
+      (marks_more o.slot 7 r.plan.owner soft refl refl sits (record { slot = o.slot; text = o.text }) refl)) refl refl s.trail s.unclosed refl
 
   pub keep_validate : (b' : Board) → Does z b v Validate b' → Kept z b' (set vs id (view_after v Validate))
   keep_validate b' d = subst (λ y. Kept z y (set vs id (view_after v Validate))) (sym d.4) (keep_validate_at d.0 d.1 d.2 d.3)
@@ -176,7 +179,7 @@ module _ (z : Size) (b : Board) (vs : List View) (r : Kept z b vs) (id : ℕ) (v
         zero = λ _. refl;
         shut = λ f l _. ⊎_elim (λ (t : o.slot < z.fixed). absurd (omega arith)) (λ (t : 256 ≤ o.slot). absurd (omega arith)) ok.usable;
       } in
-      knows o.slot 0 r.plan.owner (view_after v Release) soft refl (λ q e. cc) (held_as o.slot 0 r.plan.owner soft) refl (counts_as o.slot 0 r.plan.owner soft (sym none_counted)) s.walk (marks_as o.slot 0 r.plan.owner soft) refl refl s.trail
+      knows o.slot 0 r.plan.owner (view_after v Release) soft refl (λ q e. cc) (held_as o.slot 0 r.plan.owner soft) refl (counts_as o.slot 0 r.plan.owner soft (sym none_counted)) s.walk (marks_as o.slot 0 r.plan.owner soft) refl refl s.trail s.unclosed refl
 
   pub keep_release : (b' : Board) → Does z b v Release b' → Kept z b' (set vs id (view_after v Release))
   keep_release b' d = subst (λ y. Kept z y (set vs id (view_after v Release))) (sym d.3) (keep_release_at d.0 d.1 d.2)
@@ -253,13 +256,14 @@ module _ (z : Size) (b : Board) (vs : List View) (r : Kept z b vs) (id : ℕ) (v
 
   guard_trail : (k x : ℕ) (y : Sweeping) (w : Walk) → v.sweep ≡ Some y → option_map (guarding k x) v.walk ≡ Some w → Trail b.epoch b.row b.links b.heads r.plan.chain y w
   guard_trail k x y w sweep walk = let was = unmapped (guarding k x) v.walk w walk in let t = s.trail y was.0 sweep was.1 in
-      subst (λ (q : Walk). Trail b.epoch b.row b.links b.heads r.plan.chain y q) was.2 record { news = t.news; path = t.path; whole = t.whole; reached = t.reached; fresh = t.fresh; ahead = t.ahead }
+      subst (λ (q : Walk). Trail b.epoch b.row b.links b.heads r.plan.chain y q) was.2 record { news = t.news; path = t.path; whole = t.whole; reached = t.reached; fresh = t.fresh; ahead = t.ahead; still = t.still }
 
   pub keep_protect : (k x : ℕ) (b' : Board) → Does z b v (Protect k x) b' → Kept z b' (set vs id (view_after v (Protect k x)))
   keep_protect k x b' d = let n : ℕ = get_or b.atoms k 0 in let soft = mark_soft k d.0 in subst (λ y. Kept z y (set vs id (view_after v (Protect k x)))) (sym (d.2 ∙ ap (λ (i : ℕ). with_atom b k (marked i)) (sym d.1)))
       (knows k (marked n) r.plan.owner (view_after v (Protect k x)) soft refl (own_marked k d.0) (held_as k (marked n) r.plan.owner soft) refl (counts_as k (marked n) r.plan.owner soft (count-marked n))
       (λ t e. let was = unmapped (guarding k x) v.walk t e in subst (λ y. WalkOk z b.links b.heads b.texts r.plan.chain r.plan.fate y) was.2 (guard_ok k x d.1 was.0 was.1))
-      (guard_marks k x d.0 d.1) refl refl (guard_trail k x))
+      (guard_marks k x d.0 d.1) refl refl (guard_trail k x)
+      (λ t e else. let was = unmapped (guarding k x) v.walk t e in ap (λ (q : Walk). closed_of q.word) (sym was.2) ∙ s.unclosed was.0 was.1 else) refl)
 
   pub keep_fetch : (k : ℕ) (b' : Board) → Does z b v (Fetch k) b' → Kept z b' (set vs id (view_after v (Fetch k)))
   keep_fetch k b' d = let n : ℕ = get_or b.atoms k 0 in let soft = mark_soft k d.2 in let ok = s.counts d.0 d.1 in let c : Counted = counted d.0 k in let a : Held = record { slot = k; text = c.text } in
@@ -270,7 +274,7 @@ module _ (z : Size) (b : Board) (vs : List View) (r : Kept z b vs) (id : ℕ) (v
       (at_snoc v.held a q i (sym (ap (λ y. get_elem? (v.held ++ held_counted k y) i) d.1) ∙ e)))
       refl (counts_as k (marked n) r.plan.owner soft (count-marked n)) s.walk
       (subst (λ (y : Option (List Counted)). MarksOk z b.epoch b.acks (set b.atoms k (marked n)) r.plan.engine r.plan.sweep.cursor id v.cycle v.undealt (v.held ++ held_counted k y) v.walk) (sym d.1)
-      (marks_more k (marked n) r.plan.owner soft (state-marked n ∙ ours.valid) (mark-marked n) d.4 a refl)) refl refl s.trail)
+      (marks_more k (marked n) r.plan.owner soft (state-marked n ∙ ours.valid) (mark-marked n) d.4 a refl)) refl refl s.trail s.unclosed refl)
 
   -- THE KEEPER COUNTS
   pub has : (a : Held) → In a v.held ⊎ In a v.fixed → HeldOk z b.atoms b.texts r.plan.chain a
@@ -278,8 +282,7 @@ module _ (z : Size) (b : Board) (vs : List View) (r : Kept z b vs) (id : ℕ) (v
 
   -- linked slots with equal texts are one
   same_slot : (q k : ℕ) → Linked z.heads r.plan.chain q → Linked z.heads r.plan.chain k → q + 1 ≢ r.plan.fate.slot → k + 1 ≢ r.plan.fate.slot → text_of b.texts q ≡ text_of b.texts k → q ≡ k
-  same_slot q k l m live live_too e = let at : m.0 ≡ l.0 = sym (r.rows.stands m.0 k m.1 m.2) ∙ (ap (bucket b.row) (sym e) ∙ r.rows.stands l.0 q l.1 l.2) in
-      r.rows.unlike l.0 q k l.1 l.2 (subst (λ (h : ℕ). In k (r.plan.chain h)) at m.2) live live_too e
+  same_slot q k l m live live_too e = r.rows.unlike l.0 m.0 q k l.1 m.1 l.2 m.2 live live_too e
 
   pub alone_at : (k : ℕ) (t : List ℕ) → Linked z.heads r.plan.chain k → state_of (get_or b.atoms k 0) ≢ 2 → text_of b.texts k ≡ t → Alone v k t
   alone_at k t on alive is a ours = let ok = has a ours in let valid = ok.valid in
@@ -333,7 +336,7 @@ module _ (z : Size) (b : Board) (vs : List View) (r : Kept z b vs) (id : ℕ) (v
       subst (λ y. Kept z y (set vs id (view_after v (Register a)))) (sym d.4) (knows k x r.plan.owner (view_after v (Register a)) soft refl (own_counted k x soft valid) (held_as k x r.plan.owner soft) refl
       (λ y e. let is = unmapped (once_more a) v.counts y e in let same : cs ≡ is.0 = some_same cs is.0 v.counts d.1 is.1 in
       subst (λ i. CountsOk z (set b.atoms k x) b.texts r.plan.chain r.plan.keeper id i) (ap (once_more a) same ∙ is.2) (counts_set k x cs c soft ok (omega arith) h))
-      s.walk (marks_as k x r.plan.owner soft) refl refl s.trail)
+      s.walk (marks_as k x r.plan.owner soft) refl refl s.trail s.unclosed refl)
 
   pub keep_unregister : (k : ℕ) (b' : Board) → Does z b v (Unregister k) b' → Kept z b' (set vs id (view_after v (Unregister k)))
   keep_unregister k b' d = let cs : List Counted = d.0 in let ok = s.counts cs d.1 in let n : ℕ = get_or b.atoms k 0 in let x : ℕ = n - 8 in let at = or_at cs k uncounted (omega (arith, ok.each_slot, d.2)) in
@@ -343,4 +346,4 @@ module _ (z : Size) (b : Board) (vs : List View) (r : Kept z b vs) (id : ℕ) (v
       subst (λ y. Kept z y (set vs id (view_after v (Unregister k)))) (sym d.4) (knows k x r.plan.owner (view_after v (Unregister k)) soft refl (own_counted k x soft valid) (held_as k x r.plan.owner soft) refl
       (λ y e. let is = unmapped (once_less k) v.counts y e in let same : cs ≡ is.0 = some_same cs is.0 v.counts d.1 is.1 in
       subst (λ i. CountsOk z (set b.atoms k x) b.texts r.plan.chain r.plan.keeper id i) (ap (once_less k) same ∙ is.2) (counts_set k x cs c soft ok (omega arith) h))
-      s.walk (marks_as k x r.plan.owner soft) refl refl s.trail)
+      s.walk (marks_as k x r.plan.owner soft) refl refl s.trail s.unclosed refl)

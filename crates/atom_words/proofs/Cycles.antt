@@ -13,11 +13,13 @@ use Rattle.atom_words.specs.declared.size.Size.{Size}
 use Rattle.atom_words.specs.declared.view.Held.{Held}
 use Rattle.atom_words.specs.declared.view.Walk.{Walk}
 use Rattle.atom_words.specs.declared.view.Sweeping.{Sweeping}
+use Rattle.atom_words.specs.declared.view.Growing.{Growing}
 use Rattle.atom_words.specs.declared.view.View.{View}
 use Rattle.atom_words.specs.declared.kind.Kind.TheVariants.{Begin, Mark, Scan, Ack, Check, ToSweep}
 use Rattle.atom_words.proofs.Layouts.{phase-epoch_word, epoch-epoch_word, state-marked, mark-marked, count-marked}
 use Rattle.atom_words.proofs.Slices.{in_none, at_snoc, word_after}
 use Rattle.atom_words.proofs.Puts.{unmapped}
+use Rattle.atom_words.proofs.Rowing.{grow_epoch}
 use Rattle.atom_words.proofs.Frames.{seats_stay, keep_view}
 use Rattle.atom_words.proofs.AtomSteps.{has, mark_soft, own_marked, held_as, counts_as, marks_as, knows}
 
@@ -50,14 +52,16 @@ module _ (z : Size) (b : Board) (vs : List View) (r : Kept z b vs) (id : ℕ) (v
       sweeps = λ q has_. absurd (other (sym (k.sweeps q has_).0 ∙ (s.sweeps y e).0));
       trail = λ q t has_. absurd (other (sym (k.sweeps q has_).0 ∙ (s.sweeps y e).0));
       risen = k.risen;
+      unclosed = k.unclosed;
+      grows = k.grows;
     }
 
     pub collector_step : SeatOk z (with_epoch b epoch') (record r.plan { sweep = f r.plan.sweep }) id w → CycleOk z epoch' b.acks (f r.plan.sweep) → SureOk z b.atoms b.texts (f r.plan.sweep) → FateOk z epoch' b.links b.heads r.plan.chain (f r.plan.sweep) r.plan.fate
-        → ((j : ℕ) (x : View) → SeatOk z b r.plan j x → MarksOk z epoch' b.acks b.atoms r.plan.engine (f r.plan.sweep).cursor j x.cycle x.undealt x.held x.walk) → Kept z (with_epoch b epoch') (set vs id w)
-    collector_step mine cycle sure fate marks = record {
+        → ((j : ℕ) (x : View) → SeatOk z b r.plan j x → MarksOk z epoch' b.acks b.atoms r.plan.engine (f r.plan.sweep).cursor j x.cycle x.undealt x.held x.walk) → (0 < r.plan.grow.shut → phase_of epoch' ≡ 0) → Kept z (with_epoch b epoch') (set vs id w)
+    collector_step mine cycle sure fate marks idle = record {
       plan = record r.plan { sweep = f r.plan.sweep };
       sized = record { small = r.sized.small; acks = r.sized.acks; atoms = r.sized.atoms; links = r.sized.links; heads = r.sized.heads; texts = r.sized.texts };
-      row = r.row;
+      grow = grow_epoch z b.epoch b.row b.heads b.texts r.plan.chain r.plan.grow r.grow epoch' idle;
       rows = r.rows;
       slots = r.slots;
       cycle = cycle;
@@ -102,8 +106,8 @@ module _ (z : Size) (b : Board) (vs : List View) (r : Kept z b vs) (id : ℕ) (v
     nothing = m.nothing;
   }
 
-  begin_at : (y : Sweeping) → v.sweep ≡ Some y → phase_of y.word ≡ 0 → Kept z (with_epoch b (epoch_word 1 (epoch_of y.word + 1))) (set vs id (view_after v Begin))
-  begin_at y e idle = let k = s.sweeps y e in let word : b.epoch ≡ y.word = sym r.cycle.word ∙ ap (λ (q : Sweeping). q.word) k.1 in
+  begin_at : (y : Sweeping) → v.sweep ≡ Some y → phase_of y.word ≡ 0 → v.growing.shut ≡ 0 → Kept z (with_epoch b (epoch_word 1 (epoch_of y.word + 1))) (set vs id (view_after v Begin))
+  begin_at y e idle none = let k = s.sweeps y e in let word : b.epoch ≡ y.word = sym r.cycle.word ∙ ap (λ (q : Sweeping). q.word) k.1 in
       let idle_ : phase_of b.epoch ≡ 0 = ap phase_of word ∙ idle in let new : ℕ = epoch_word 1 (epoch_of b.epoch + 1) in
       let is : new ≡ epoch_word 1 (epoch_of y.word + 1) = ap (λ (n : ℕ). epoch_word 1 (epoch_of n + 1)) word in
       let phase : phase_of new ≡ 1 = phase-epoch_word 1 (epoch_of b.epoch + 1) (omega arith) in let epoch : epoch_of new ≡ epoch_of b.epoch + 1 = epoch-epoch_word 1 (epoch_of b.epoch + 1) (omega arith) in
@@ -118,8 +122,10 @@ module _ (z : Size) (b : Board) (vs : List View) (r : Kept z b vs) (id : ℕ) (v
         walk = s.walk;
         marks = begun_marks id v idle_ s;
         sweeps = λ q has_. let was = unmapped beginning v.sweep q has_ in (k.0, ap beginning (s.sweeps was.0 was.1).1 ∙ was.2);
-        trail = own_trail new beginning v.walk (λ q w _ t. record { news = t.news; path = t.path; whole = t.whole; reached = t.reached; fresh = λ two _. absurd (omega arith); ahead = t.ahead });
+        trail = own_trail new beginning v.walk (λ q w _ t. record { news = t.news; path = t.path; whole = t.whole; reached = t.reached; fresh = λ two _. absurd (omega arith); ahead = λ two. absurd (omega arith); still = t.still });
         risen = s.risen;
+        unclosed = s.unclosed;
+        grows = λ q has_. let was = unmapped beginning v.sweep q has_ in s.grows was.0 was.1;
       }
       record {
         word = ap (λ (n : ℕ). epoch_word 1 (epoch_of n + 1)) r.cycle.word;
@@ -132,10 +138,11 @@ module _ (z : Size) (b : Board) (vs : List View) (r : Kept z b vs) (id : ℕ) (v
       }
       (sure_same beginning refl refl refl)
       (fate_none new beginning refl refl refl (λ two. omega (arith, two)))
-      (λ j x q. begun_marks j x idle_ q))
+      (λ j x q. begun_marks j x idle_ q)
+      (λ some_. absurd (let open_ : r.plan.grow.shut ≡ 0 = ap (λ (g : Growing). g.shut) (s.grows y e) ∙ none in omega (arith, some_))))
 
   pub keep_begin : (b' : Board) → Does z b v Begin b' → Kept z b' (set vs id (view_after v Begin))
-  keep_begin b' d = subst (λ x. Kept z x (set vs id (view_after v Begin))) (sym d.4) (begin_at d.0 d.1 d.2)
+  keep_begin b' d = subst (λ x. Kept z x (set vs id (view_after v Begin))) (sym d.5) (begin_at d.0 d.1 d.2 d.4)
 
   -- CHECK: one engine more has acknowledged
   pub keep_check : (e : ℕ) (b' : Board) → Does z b v (Check e) b' → Kept z b' (set vs id (view_after v (Check e)))
@@ -154,8 +161,10 @@ module _ (z : Size) (b : Board) (vs : List View) (r : Kept z b vs) (id : ℕ) (v
         walk = s.walk;
         marks = s.marks;
         sweeps = λ q has_. let was = unmapped checking v.sweep q has_ in (k.0, ap checking (s.sweeps was.0 was.1).1 ∙ was.2);
-        trail = own_trail b.epoch checking v.walk (λ q w _ t. record { news = t.news; path = t.path; whole = t.whole; reached = t.reached; fresh = t.fresh; ahead = t.ahead });
+        trail = own_trail b.epoch checking v.walk (λ q w _ t. record { news = t.news; path = t.path; whole = t.whole; reached = t.reached; fresh = t.fresh; ahead = t.ahead; still = t.still });
         risen = s.risen;
+        unclosed = s.unclosed;
+        grows = λ q has_. let was = unmapped checking v.sweep q has_ in s.grows was.0 was.1;
       }
       record {
         word = r.cycle.word;
@@ -167,7 +176,7 @@ module _ (z : Size) (b : Board) (vs : List View) (r : Kept z b vs) (id : ℕ) (v
         cursor = r.cycle.cursor;
       }
       (sure_same checking refl refl refl)
-      (fate_none b.epoch checking refl refl refl (λ two. omega (arith, two, marking_))) (λ j x q. q.marks) in
+      (fate_none b.epoch checking refl refl refl (λ two. omega (arith, two, marking_))) (λ j x q. q.marks) r.grow.idle in
       subst (λ x. Kept z x (set vs id (view_after v (Check e)))) (sym d.6) now
 
   -- TO SWEEP: all have acknowledged, so that what each holds or guards is marked
@@ -214,6 +223,8 @@ module _ (z : Size) (b : Board) (vs : List View) (r : Kept z b vs) (id : ℕ) (v
         sweeps = λ q has_. let was = unmapped turning v.sweep q has_ in (k.0, ap turning (s.sweeps was.0 was.1).1 ∙ was.2);
         trail = λ q w has_ none. cc;
         risen = s.risen;
+        unclosed = λ w none. cc;
+        grows = λ q has_. let was = unmapped turning v.sweep q has_ in s.grows was.0 was.1;
       }
       record {
         word = ap (λ (n : ℕ). epoch_word 2 (epoch_of n)) r.cycle.word;
@@ -225,7 +236,7 @@ module _ (z : Size) (b : Board) (vs : List View) (r : Kept z b vs) (id : ℕ) (v
         cursor = omega arith;
       }
       record { inside = λ on. cc; state = λ on. cc; short = omega arith; text = λ on. cc }
-      (fate_none new turning refl refl refl (λ two. omega (arith, two))) (λ j x q. turned_marks j x marking all q))
+      (fate_none new turning refl refl refl (λ two. omega (arith, two))) (λ j x q. turned_marks j x marking all q) (λ some_. absurd (let none = r.grow.idle some_ in omega arith)))
 
   pub keep_to_sweep : (b' : Board) → Does z b v ToSweep b' → Kept z b' (set vs id (view_after v ToSweep))
   keep_to_sweep b' d = subst (λ x. Kept z x (set vs id (view_after v ToSweep))) (sym d.4) (turn_at d.0 d.1 d.2 d.3)
@@ -258,6 +269,8 @@ module _ (z : Size) (b : Board) (vs : List View) (r : Kept z b vs) (id : ℕ) (v
         sweeps = s.sweeps;
         trail = s.trail;
         risen = s.risen;
+        unclosed = s.unclosed;
+        grows = s.grows;
       })
 
   -- it scans a slot that it holds, or a fixed atom
@@ -283,7 +296,7 @@ module _ (z : Size) (b : Board) (vs : List View) (r : Kept z b vs) (id : ℕ) (v
         guard = m.guard;
         nothing = m.nothing;
       }
-      refl refl s.trail)
+      refl refl s.trail s.unclosed refl)
 
   -- ACK: what the engine holds is scanned, and its walk ends
   module _ (scanning : v.cycle.acked < v.cycle.scanned_at) (engine_ : v.cycle.engine ≢ 0) (all : (a : Held) → In a v.held → In a.slot v.cycle.scanned) where
@@ -332,6 +345,8 @@ module _ (z : Size) (b : Board) (vs : List View) (r : Kept z b vs) (id : ℕ) (v
       sweeps = k.sweeps;
       trail = k.trail;
       risen = k.risen;
+      unclosed = k.unclosed;
+      grows = k.grows;
     }
 
     mine_acked : SeatOk z (with_ack b (v.cycle.engine - 1) v.cycle.scanned_at) r.plan id (view_after v Ack)
@@ -359,13 +374,15 @@ module _ (z : Size) (b : Board) (vs : List View) (r : Kept z b vs) (id : ℕ) (v
       sweeps = s.sweeps;
       trail = λ q w has_ none. cc;
       risen = s.risen;
+      unclosed = λ w none. cc;
+      grows = s.grows;
     }
 
     ack_at : Kept z (with_ack b (v.cycle.engine - 1) v.cycle.scanned_at) (set vs id (view_after v Ack))
     ack_at = record {
       plan = r.plan;
       sized = record { small = r.sized.small; acks = length-set b.acks (v.cycle.engine - 1) v.cycle.scanned_at ∙ r.sized.acks; atoms = r.sized.atoms; links = r.sized.links; heads = r.sized.heads; texts = r.sized.texts };
-      row = r.row;
+      grow = r.grow;
       rows = r.rows;
       slots = r.slots;
       cycle = record {

@@ -7,7 +7,7 @@ use Rattle.atom_words.specs.Kept.{SeatOk, Kept}
 use Rattle.atom_words.specs.declared.size.Size.{Size}
 use Rattle.atom_words.specs.declared.view.View.{View}
 use Rattle.atom_words.specs.declared.kind.Kind.{Kind}
-use Rattle.atom_words.specs.declared.kind.Kind.TheVariants.{Raise, Risen, Reserve, PutWord, PutLink, Link, Validate, Release, Load, Refused, Start, Read, Next, Skip, Hold, Keep, Fix, StartPass, EndPass, Refuse, Ask, Protect, Fetch, Register, Unregister, Begin, Mark, Scan, Ack, Check, ToSweep, Look, Spell, Condemn, PassOver, Behind, UnlinkAt, UnlinkHead, Note, Bump, Past, Free, End}
+use Rattle.atom_words.specs.declared.kind.Kind.TheVariants.{Raise, Risen, Reserve, PutWord, PutLink, Link, Validate, Release, Load, Refused, Start, Read, Next, Skip, Hold, Keep, Fix, StartPass, EndPass, Refuse, Ask, Protect, Fetch, Register, Unregister, Begin, Mark, Scan, Ack, Check, ToSweep, Look, Spell, Condemn, PassOver, Behind, UnlinkAt, UnlinkHead, Note, Bump, Past, Free, End, Make, Split, Join, Aim, Sound, Close, Emptied, Pick, MoveHead, MoveLink, LeaveHead, LeaveLink, PublishRow, Publish}
 use Rattle.atom_words.proofs.Loads.{keep_load, keep_refused, keep_start, keep_read, keep_next, keep_skip, keep_hold, keep_keep, keep_fix, keep_start_pass, keep_end_pass, keep_refuse, keep_ask}
 use Rattle.atom_words.proofs.AtomSteps.{keep_reserve, keep_validate, keep_release, keep_protect, keep_fetch, keep_register, keep_unregister}
 use Rattle.atom_words.proofs.TextSteps.{keep_put_word, keep_put_link}
@@ -17,6 +17,8 @@ use Rattle.atom_words.proofs.Cycles.{keep_begin, keep_mark, keep_scan, keep_ack,
 use Rattle.atom_words.proofs.Sweeps.{keep_look, keep_spell, keep_behind, keep_note, keep_past, keep_end}
 use Rattle.atom_words.proofs.SweepWords.{keep_pass_over, keep_condemn, keep_free}
 use Rattle.atom_words.proofs.Unlinks.{keep_unlink_at, keep_unlink_head, keep_bump}
+use Rattle.atom_words.proofs.Grows.{keep_aim, keep_sound, keep_close, keep_emptied, keep_publish_row, keep_publish}
+use Rattle.atom_words.proofs.Moving.{keep_pick, keep_move_head, keep_move_link, keep_leave_head, keep_leave_link}
 use Rattle.atom_words.proofs.SeatSteps.{keep_make, keep_join, keep_split, keep_open}
 
 module _ (z : Size) (b : Board) (vs : List View) (r : Kept z b vs) (id : ℕ) (v : View) (s : SeatOk z b r.plan id v) (b' : Board) where
@@ -64,7 +66,20 @@ module _ (z : Size) (b : Board) (vs : List View) (r : Kept z b vs) (id : ℕ) (v
   keep_kind (Past x) d = keep_past z b vs r id v s x b' d
   keep_kind Free d = keep_free z b vs r id v s b' d
   keep_kind End d = keep_end z b vs r id v s b' d
-  keep_kind _ d = absurd d
+  keep_kind Make d = absurd d
+  keep_kind Split d = absurd d
+  keep_kind Join d = absurd d
+  keep_kind (Aim row) d = keep_aim z b vs r id v s row b' d
+  keep_kind (Sound x) d = keep_sound z b vs r id v s x b' d
+  keep_kind (Close h) d = keep_close z b vs r id v s h b' d
+  keep_kind Emptied d = keep_emptied z b vs r id v s b' d
+  keep_kind (Pick a before) d = keep_pick z b vs r id v s a before b' d
+  keep_kind (MoveHead h) d = keep_move_head z b vs r id v s h b' d
+  keep_kind (MoveLink q) d = keep_move_link z b vs r id v s q b' d
+  keep_kind (LeaveHead h) d = keep_leave_head z b vs r id v s h b' d
+  keep_kind (LeaveLink q) d = keep_leave_link z b vs r id v s q b' d
+  keep_kind (PublishRow row) d = keep_publish_row z b vs r id v s row b' d
+  keep_kind (Publish h) d = keep_publish z b vs r id v s h b' d
 
 pub keep_goes : (z : Size) (b : Board) (vs : List View) (b' : Board) (vs' : List View) → Kept z b vs → Goes z b vs b' vs' → Kept z b' vs'
 keep_goes z b vs b' vs' r g = subst (Kept z b') (sym g.views) (keep_kind z b vs r g.id g.view (r.seats g.id g.view g.at g.here) b' g.kind g.does)

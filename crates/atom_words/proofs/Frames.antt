@@ -30,7 +30,7 @@ pub keep_view : (z : Size) (b : Board) (vs : List View) (r : Kept z b vs) (id : 
 keep_view z b vs r id w mine = record {
   plan = r.plan;
   sized = r.sized;
-  row = r.row;
+  grow = r.grow;
   rows = r.rows;
   slots = r.slots;
   cycle = r.cycle;
@@ -163,6 +163,8 @@ module _ (z : Size) (atoms : List ℕ) (p : Plan) (owner' : ℕ → ℕ) (id k x
     sweeps = s.sweeps;
     trail = s.trail;
     risen = s.risen;
+    unclosed = s.unclosed;
+    grows = s.grows;
   }
 
   soft_slots : Slots z atoms p.chain p.fate → Slots z (set atoms k x) p.chain p.fate
@@ -193,7 +195,7 @@ pub keep_atom : (z : Size) (b : Board) (vs : List View) (r : Kept z b vs) (owner
 keep_atom z b vs r owner' id k x w soft mine = record {
   plan = record r.plan { owner = owner' };
   sized = record { small = r.sized.small; acks = r.sized.acks; atoms = length-set b.atoms k x ∙ r.sized.atoms; links = r.sized.links; heads = r.sized.heads; texts = r.sized.texts };
-  row = r.row;
+  grow = r.grow;
   rows = r.rows;
   slots = soft_slots z b.atoms r.plan owner' id k x soft r.slots;
   cycle = r.cycle;

@@ -3,7 +3,6 @@ use Rattle.std.proofs.Common.{◌≡◌, ◌≢◌, ◌⊎◌, ℕ, ◌+◌, ◌
 use mathlib.Core.Option.{some}
 use lib.ListN.{get_elem?}
 use Rattle.atom_words.specs.Layout.{state_of, mark_of, count_of}
-use Rattle.atom_words.specs.Texts.{bucket}
 use Rattle.atom_words.specs.Board.{Board, atom, text_of}
 use Rattle.atom_words.specs.Chains.{In}
 use Rattle.atom_words.specs.Kinds.{Does}
@@ -16,7 +15,7 @@ use Rattle.atom_words.specs.declared.view.Counted.{Counted}
 use Rattle.atom_words.specs.declared.view.Sweeping.{Sweeping}
 use Rattle.atom_words.specs.declared.view.View.{View}
 use Rattle.atom_words.specs.declared.kind.Kind.{Kind}
-use Rattle.atom_words.specs.declared.kind.Kind.TheVariants.{Raise, Risen, Reserve, PutWord, PutLink, Link, Validate, Release, Load, Refused, Start, Read, Next, Skip, Hold, Keep, Fix, StartPass, EndPass, Refuse, Ask, Protect, Fetch, Register, Unregister, Begin, Mark, Scan, Ack, Check, ToSweep, Look, Spell, Condemn, PassOver, Behind, UnlinkAt, UnlinkHead, Note, Bump, Past, Free, End}
+use Rattle.atom_words.specs.declared.kind.Kind.TheVariants.{Raise, Risen, Reserve, PutWord, PutLink, Link, Validate, Release, Load, Refused, Start, Read, Next, Skip, Hold, Keep, Fix, StartPass, EndPass, Refuse, Ask, Protect, Fetch, Register, Unregister, Begin, Mark, Scan, Ack, Check, ToSweep, Look, Spell, Condemn, PassOver, Behind, UnlinkAt, UnlinkHead, Note, Bump, Past, Free, End, Aim, Sound, Close, Emptied, Pick, MoveHead, MoveLink, LeaveHead, LeaveLink, PublishRow, Publish}
 use Rattle.atom_words.proofs.Slices.{some_same, text_else}
 use Rattle.atom_words.proofs.Every.{keep_move, reached_kept}
 use Rattle.atom_words.proofs.Sweeps.{known, swept_by}
@@ -31,8 +30,7 @@ uses_ok z b vs r j v s a u = ⊎_elim
 
 pub unlike : (z : Size) (n : ℕ) (b : Board) (vs : List View) → Reached n z b vs → (k q : ℕ) → state_of (atom b k) ≡ 3 → state_of (atom b q) ≡ 3 → text_of b.texts k ≡ text_of b.texts q → k ≡ q
 unlike z n b vs h k q valid too e = let r = reached_kept n z b vs h in let l = r.slots.valid k valid in let m = r.slots.valid q too in
-    let at : m.0 ≡ l.0 = sym (r.rows.stands m.0 q m.1 m.2) ∙ (ap (bucket b.row) (sym e) ∙ r.rows.stands l.0 k l.1 l.2) in
-    r.rows.unlike l.0 k q l.1 l.2 (subst (λ (g : ℕ). In q (r.plan.chain g)) at m.2) (λ d. let dying = r.slots.dies k (sym d) in omega arith) (λ d. let dying = r.slots.dies q (sym d) in omega arith) e
+    r.rows.unlike l.0 m.0 k q l.1 m.1 l.2 m.2 (λ d. let dying = r.slots.dies k (sym d) in omega arith) (λ d. let dying = r.slots.dies q (sym d) in omega arith) e
 
 -- a valid slot keeps its text over a step
 module _ (z : Size) (b : Board) (vs : List View) (r : Kept z b vs) (b' : Board) (k : ℕ) (valid : state_of (get_or b.atoms k 0) ≡ 3) where
@@ -64,9 +62,9 @@ module _ (z : Size) (b : Board) (vs : List View) (r : Kept z b vs) (b' : Board) 
   text_kind id v s (Fetch i) d = same_text (ap (λ (x : Board). x.texts) d.5)
   text_kind id v s (Register a) d = same_text (ap (λ (x : Board). x.texts) d.4)
   text_kind id v s (Unregister i) d = same_text (ap (λ (x : Board). x.texts) d.4)
-  text_kind id v s (Raise h) d = same_text (ap (λ (x : Board). x.texts) d.3)
+  text_kind id v s (Raise h) d = same_text (ap (λ (x : Board). x.texts) d.4)
   text_kind id v s (Risen h x) d = same_text (ap (λ (y : Board). y.texts) d.3)
-  text_kind id v s Begin d = same_text (ap (λ (x : Board). x.texts) d.4)
+  text_kind id v s Begin d = same_text (ap (λ (x : Board). x.texts) d.5)
   text_kind id v s (Mark x those) d = same_text (ap (λ (y : Board). y.texts) d.5)
   text_kind id v s (Scan i) d = same_text (ap (λ (x : Board). x.texts) d.4)
   text_kind id v s Ack d = same_text (ap (λ (x : Board). x.texts) d.2)
@@ -84,6 +82,17 @@ module _ (z : Size) (b : Board) (vs : List View) (r : Kept z b vs) (b' : Board) 
   text_kind id v s (Past x) d = same_text (ap (λ (y : Board). y.texts) d.6)
   text_kind id v s Free d = same_text (ap (λ (x : Board). x.texts) d.3)
   text_kind id v s End d = same_text (ap (λ (x : Board). x.texts) d.4)
+  text_kind id v s (Aim row) d = same_text (ap (λ (x : Board). x.texts) d.3)
+  text_kind id v s (Sound x) d = same_text (ap (λ (y : Board). y.texts) d.6)
+  text_kind id v s (Close h) d = same_text (ap (λ (x : Board). x.texts) d.5)
+  text_kind id v s Emptied d = same_text (ap (λ (x : Board). x.texts) d.4)
+  text_kind id v s (Pick a before) d = same_text (ap (λ (x : Board). x.texts) d.9)
+  text_kind id v s (MoveHead h) d = same_text (ap (λ (x : Board). x.texts) d.6)
+  text_kind id v s (MoveLink q) d = same_text (ap (λ (x : Board). x.texts) d.9)
+  text_kind id v s (LeaveHead h) d = same_text (ap (λ (x : Board). x.texts) d.4)
+  text_kind id v s (LeaveLink q) d = same_text (ap (λ (x : Board). x.texts) d.3)
+  text_kind id v s (PublishRow row) d = same_text (ap (λ (x : Board). x.texts) d.5)
+  text_kind id v s (Publish h) d = same_text (ap (λ (x : Board). x.texts) d.5)
   text_kind id v s _ d = absurd d
 
   text_move : (vs' : List View) → Moves z b vs b' vs' → text_of b'.texts k ≡ text_of b.texts k

@@ -1,6 +1,9 @@
 pub mod Layouts
 pub mod Regions
 pub mod Slices
+pub mod Rowing
+pub mod Grows
+pub mod Moving
 pub mod Frames
 pub mod Loads
 pub mod Puts

@@ -1,7 +1,7 @@
 -- Linking a slot in front of its bucket's chain keeps the rule.
-use Rattle.std.proofs.Common.{◌≡◌, ◌≢◌, ◌⊎◌, ℕ, ◌+◌, ◌<◌, ◌≤◌, false, List, [], ◌∷◌, length, get_or, set, take, refl, sym, ap, ◌∙◌, subst, inl, inr, ⊎_elim, arith, Some, None, length-set, take_all, get_or-set_same, get_or-set_other}
+use Rattle.std.proofs.Common.{◌≡◌, ◌≢◌, ◌⊎◌, ℕ, ◌+◌, ◌<◌, ◌≤◌, false, List, [], ◌∷◌, length, get_or, set, take, refl, sym, ap, ◌∙◌, subst, inl, inr, ⊎_elim, arith, Some, None, length-set, take_all, get_or-set_same, get_or-set_other, ◌^◌}
 use native.Mathlib.Decide.{ℕ_discrete}
-use Rattle.atom_words.specs.Layout.{state_of, first_of, version_of, head_word, worn, last, phase_of}
+use Rattle.atom_words.specs.Layout.{state_of, first_of, version_of, head_word, worn, last, phase_of, closed_of}
 use Rattle.atom_words.specs.Texts.{bucket}
 use Rattle.atom_words.specs.Board.{Board, text_of, with_head}
 use Rattle.atom_words.specs.Chains.{In, Chain, Linked}
@@ -15,9 +15,10 @@ use Rattle.atom_words.specs.declared.view.Walk.{Walk}
 use Rattle.atom_words.specs.declared.view.Sweeping.{Sweeping}
 use Rattle.atom_words.specs.declared.view.View.{View}
 use Rattle.atom_words.specs.declared.kind.Kind.TheVariants.{Link}
-use Rattle.atom_words.proofs.Layouts.{first-head_word, version-head_word}
+use Rattle.atom_words.proofs.Layouts.{first-head_word, closed-head_word, version-head_word}
 use Rattle.atom_words.proofs.Slices.{some_same, in_none, in_later, in_cases, text_short, word_after}
 use Rattle.atom_words.proofs.Puts.{put, put_here, put_else, unmapped}
+use Rattle.atom_words.proofs.Rowing.{early_open, chains_still, stands_early, grow_early}
 use Rattle.atom_words.proofs.Frames.{seats_stay, marks_walk}
 
 -- THE SLOT k STANDS IN FRONT OF THE CHAIN OF h
@@ -79,11 +80,12 @@ module _ (z : Size) (chain : ℕ → List ℕ) (h k : ℕ) (inside : h < z.heads
   }
 
   -- the collector's walk: one slot is new in front
-  trail_linked : (epoch row : ℕ) (links heads : List ℕ) (n : ℕ) (y : Sweeping) (w : Walk) → h < length heads → version_of n < last → Trail epoch row links heads chain y w → Trail epoch row links (set heads h n) (put chain h (k ∷ chain h)) y w
-  trail_linked epoch row links heads n y w there early t = let fresh : phase_of epoch ≡ 2 → version_of w.word < last → version_of (get_or (set heads h n) w.head 0) < last = (λ two first. word_after (λ m. version_of m < last) heads h n w.head there (λ _. early) (λ _. t.fresh two first)) in
+  trail_linked : (epoch row : ℕ) (links heads : List ℕ) (n : ℕ) (y : Sweeping) (w : Walk) → h < length heads → version_of n < last → closed_of n ≡ 0 → Trail epoch row links heads chain y w → Trail epoch row links (set heads h n) (put chain h (k ∷ chain h)) y w
+  trail_linked epoch row links heads n y w there early open_ t = let fresh : phase_of epoch ≡ 2 → version_of w.word < last → version_of (get_or (set heads h n) w.head 0) < last = (λ two first. word_after (λ m. version_of m < last) heads h n w.head there (λ _. early) (λ _. t.fresh two first)) in
+      let still : closed_of (get_or (set heads h n) w.head 0) ≢ 0 → get_or (set heads h n) w.head 0 ≡ w.word = word_after (λ m. closed_of m ≢ 0 → m ≡ w.word) heads h n w.head there (λ _ c. absurd (c open_)) (λ _. t.still) in
       elim (ℕ_discrete w.head h) as (λ _. Trail epoch row links (set heads h n) (put chain h (k ∷ chain h)) y w) [
-        | yes e ↦ record { news = k ∷ t.news; path = t.path; whole = ap (put chain h (k ∷ chain h)) e ∙ (at_h ∙ ap (λ (l : List ℕ). k ∷ l) (ap chain (sym e) ∙ t.whole)); reached = t.reached; fresh = fresh; ahead = t.ahead }
-        | no ne ↦ record { news = t.news; path = t.path; whole = at_else w.head ne ∙ t.whole; reached = t.reached; fresh = fresh; ahead = t.ahead }
+        | yes e ↦ record { news = k ∷ t.news; path = t.path; whole = ap (put chain h (k ∷ chain h)) e ∙ (at_h ∙ ap (λ (l : List ℕ). k ∷ l) (ap chain (sym e) ∙ t.whole)); reached = t.reached; fresh = fresh; ahead = t.ahead; still = still }
+        | no ne ↦ record { news = t.news; path = t.path; whole = at_else w.head ne ∙ t.whole; reached = t.reached; fresh = fresh; ahead = t.ahead; still = still }
       ]
 
   -- the dying slot is another
@@ -112,7 +114,7 @@ module _ (z : Size) (chain : ℕ → List ℕ) (h k : ℕ) (inside : h < z.heads
   }
 
 module _ (z : Size) (b : Board) (vs : List View) (r : Kept z b vs) (id : ℕ) (v : View) (s : SeatOk z b r.plan id v) (o : Own) (w : Walk) (own : v.own ≡ Some o) (walk : v.walk ≡ Some w)
-    (unlinked : o.linked ≡ false) (whole : length o.text ≡ 32) (link : o.link ≡ Some (first_of w.word)) (ended : Ended b.row o w) (found : get_or b.heads w.head 0 ≡ w.word) (fresh : version_of w.word < worn) where
+    (unlinked : o.linked ≡ false) (whole : length o.text ≡ 32) (link : o.link ≡ Some (first_of w.word)) (ended : Ended b.row o w) (found : get_or b.heads w.head 0 ≡ w.word) (open_ : closed_of w.word ≡ 0) (fresh : version_of w.word < worn) where
   ok : OwnOk z b.atoms b.links b.texts r.plan.chain r.plan.owner id o
   ok = s.own o own
 
@@ -146,7 +148,23 @@ module _ (z : Size) (b : Board) (vs : List View) (r : Kept z b vs) (id : ℕ) (v
   apart : (q : ℕ) → Linked z.heads r.plan.chain q → q ≢ o.slot
   apart q l e = ok.apart unlinked (subst (Linked z.heads r.plan.chain) e l)
 
-  -- no slot of the chain but the dying one has the text
+  -- the head is open, so that no chain is being moved
+  open_head : closed_of (get_or b.heads w.head 0) ≡ 0
+  open_head = ap closed_of found ∙ open_
+
+  early_row : r.plan.grow.shut < 2 ^ b.row
+  early_row = early_open z b.epoch b.row b.heads b.texts r.plan.chain r.plan.grow r.grow w.head walked.inside open_head
+
+  closed_is : closed_of (head_word (o.slot + 1) 0 (version_of w.word + 1)) ≡ 0
+  closed_is = let i = ok.inside in let sm = r.sized.small in closed-head_word (o.slot + 1) 0 (version_of w.word + 1) (omega arith) (omega arith)
+
+  stood : (g q : ℕ) → g < z.heads → In q (r.plan.chain g) → bucket b.row (text_of b.texts q) ≡ g
+  stood g q inside i = stands_early z b.row r.plan.grow b.links b.heads b.texts r.plan.chain r.plan.place r.plan.fate r.rows early_row g q inside i
+
+  whole_chain : (g : ℕ) → g < z.heads → Chain b.links (first_of (get_or b.heads g 0)) (r.plan.chain g)
+  whole_chain g inside = chains_still z b.row r.plan.grow b.links b.heads b.texts r.plan.chain r.plan.place r.plan.fate r.rows (r.grow.rest (inl early_row)).1 g inside
+
+  -- no slot but the dying one has the text
   new_text : (q : ℕ) → In q (r.plan.chain w.head) → q + 1 ≢ r.plan.fate.slot → text_of b.texts q ≢ o.text
   new_text q i alive e = let u = walked.claim (ap version_of found) in ⊎_elim
       (λ (t : Seen b.texts w.seen q). ended.2 t.0 t.1 t.2 (sym t.4 ∙ ap (take (length t.1.text)) e))
@@ -157,6 +175,9 @@ module _ (z : Size) (b : Board) (vs : List View) (r : Kept z b vs) (id : ℕ) (v
       over [] c = refl
       over (k ∷ ks) c = absurd (let at : w.place ≡ k + 1 = c.0 in omega (arith, ended.1))
 
+  new_anywhere : (g q : ℕ) → g < z.heads → In q (r.plan.chain g) → q + 1 ≢ r.plan.fate.slot → text_of b.texts q ≡ o.text → ⊥
+  new_anywhere g q inside i alive e = let at : g ≡ w.head = sym (stood g q inside i) ∙ (ap (bucket b.row) e ∙ ended.0) in new_text q (subst (λ (h : ℕ). In q (r.plan.chain h)) at i) alive e
+
   -- facts of each slot of a chain, by whether it is the new one
   on_chain : (P : ℕ → ℕ → Type 0) → P w.head o.slot → ((g q : ℕ) → g < z.heads → In q (r.plan.chain g) → P g q) → (g q : ℕ) → g < z.heads → In q (put r.plan.chain w.head (o.slot ∷ r.plan.chain w.head) g) → P g q
   on_chain P new old g q inside i = elim (ℕ_discrete g w.head) as (λ _. P g q) [
@@ -165,30 +186,29 @@ module _ (z : Size) (b : Board) (vs : List View) (r : Kept z b vs) (id : ℕ) (v
     | no ne ↦ old g q inside (subst (In q) (put_else r.plan.chain w.head (o.slot ∷ r.plan.chain w.head) g ne) i)
   ]
 
-  rows_linked : Rows z b.row b.links (set b.heads w.head (head_word (o.slot + 1) 0 (version_of w.word + 1))) b.texts (put r.plan.chain w.head (o.slot ∷ r.plan.chain w.head)) (put r.plan.place o.slot w.head) r.plan.fate
+  was_on : (g q : ℕ) → g < z.heads → In q (put r.plan.chain w.head (o.slot ∷ r.plan.chain w.head) g) → (o.slot ≡ q) ⊎ In q (r.plan.chain g)
+  was_on g q inside i = on_chain (λ h k. (o.slot ≡ k) ⊎ In k (r.plan.chain h)) (inl refl) (λ h k _ j. inr j) g q inside i
+
+  rows_linked : Rows z b.row r.plan.grow b.links (set b.heads w.head (head_word (o.slot + 1) 0 (version_of w.word + 1))) b.texts (put r.plan.chain w.head (o.slot ∷ r.plan.chain w.head)) (put r.plan.place o.slot w.head) r.plan.fate
   rows_linked = record {
-    chains = λ g inside. elim (ℕ_discrete g w.head) as (λ _. Chain b.links (first_of (get_or (set b.heads w.head n) g 0)) (put r.plan.chain w.head (o.slot ∷ r.plan.chain w.head) g)) [
+    chains = λ g inside _. elim (ℕ_discrete g w.head) as (λ _. Chain b.links (first_of (get_or (set b.heads w.head n) g 0)) (put r.plan.chain w.head (o.slot ∷ r.plan.chain w.head) g)) [
       | yes e ↦ subst (λ (y : ℕ). Chain b.links (first_of (get_or (set b.heads w.head n) y 0)) (put r.plan.chain w.head (o.slot ∷ r.plan.chain w.head) y)) (sym e)
           (subst (Chain b.links (first_of (get_or (set b.heads w.head n) w.head 0))) (sym (put_here r.plan.chain w.head (o.slot ∷ r.plan.chain w.head))) (
             ap first_of (get_or-set_same b.heads w.head n 0 there) ∙ first_is,
             omega (arith, ok.inside, r.sized.links),
-            subst (λ (y : ℕ). Chain b.links y (r.plan.chain w.head)) (ap first_of found ∙ sym (ok.link (first_of w.word) link unlinked)) (r.rows.chains w.head walked.inside),
+            subst (λ (y : ℕ). Chain b.links y (r.plan.chain w.head)) (ap first_of found ∙ sym (ok.link (first_of w.word) link unlinked)) (whole_chain w.head walked.inside),
           ))
       | no ne ↦ subst (Chain b.links (first_of (get_or (set b.heads w.head n) g 0))) (sym (put_else r.plan.chain w.head (o.slot ∷ r.plan.chain w.head) g ne))
-          (subst (λ (y : ℕ). Chain b.links (first_of y) (r.plan.chain g)) (sym (get_or-set_other b.heads w.head g n 0 ne)) (r.rows.chains g inside))
+          (subst (λ (y : ℕ). Chain b.links (first_of y) (r.plan.chain g)) (sym (get_or-set_other b.heads w.head g n 0 ne)) (whole_chain g inside))
     ];
+    leaves = λ ne. absurd (ne (r.grow.rest (inl early_row)).1);
     once = on_chain (λ g q. put r.plan.place o.slot w.head q ≡ g) (put_here r.plan.place o.slot w.head)
         (λ g q inside i. put_else r.plan.place o.slot w.head q (apart q (g, inside, i)) ∙ r.rows.once g q inside i);
-    stands = on_chain (λ g q. bucket b.row (text_of b.texts q) ≡ g) (ap (bucket b.row) text_is ∙ ended.0) r.rows.stands;
-    unlike = λ g k q inside i j alive too e. elim (ℕ_discrete g w.head) as (λ _. k ≡ q) [
-      | yes is ↦ let here : (y : ℕ) → In y (put r.plan.chain w.head (o.slot ∷ r.plan.chain w.head) g) → (o.slot ≡ y) ⊎ In y (r.plan.chain w.head) =
-          (λ y l. in_cases y o.slot (r.plan.chain w.head) (subst (In y) (put_here r.plan.chain w.head (o.slot ∷ r.plan.chain w.head)) (subst (λ (x : ℕ). In y (put r.plan.chain w.head (o.slot ∷ r.plan.chain w.head) x)) is l))) in
-          ⊎_elim
-          (λ (a : o.slot ≡ k). ⊎_elim (λ (c : o.slot ≡ q). sym a ∙ c) (λ (c : In q (r.plan.chain w.head)). absurd (new_text q c too (sym e ∙ (ap (text_of b.texts) (sym a) ∙ text_is)))) (here q j))
-          (λ (a : In k (r.plan.chain w.head)). ⊎_elim (λ (c : o.slot ≡ q). absurd (new_text k a alive (e ∙ (ap (text_of b.texts) (sym c) ∙ text_is)))) (λ (c : In q (r.plan.chain w.head)). r.rows.unlike w.head k q walked.inside a c alive too e) (here q j))
-          (here k i)
-      | no ne ↦ r.rows.unlike g k q inside (subst (In k) (put_else r.plan.chain w.head (o.slot ∷ r.plan.chain w.head) g ne) i) (subst (In q) (put_else r.plan.chain w.head (o.slot ∷ r.plan.chain w.head) g ne) j) alive too e
-    ];
+    stands = λ g q inside i. inl (on_chain (λ h k. bucket b.row (text_of b.texts k) ≡ h) (ap (bucket b.row) text_is ∙ ended.0) stood g q inside i);
+    unlike = λ g h k q inside inside_too i j alive too e. ⊎_elim
+        (λ (a : o.slot ≡ k). ⊎_elim (λ (c : o.slot ≡ q). sym a ∙ c) (λ (c : In q (r.plan.chain h)). absurd (new_anywhere h q inside_too c too (sym e ∙ (ap (text_of b.texts) (sym a) ∙ text_is)))) (was_on h q inside_too j))
+        (λ (a : In k (r.plan.chain g)). ⊎_elim (λ (c : o.slot ≡ q). absurd (new_anywhere g k inside a alive (e ∙ (ap (text_of b.texts) (sym c) ∙ text_is)))) (λ (c : In q (r.plan.chain h)). r.rows.unlike g h k q inside inside_too a c alive too e) (was_on h q inside_too j))
+        (was_on g k inside i);
   }
 
   slots_linked : Slots z b.atoms (put r.plan.chain w.head (o.slot ∷ r.plan.chain w.head)) r.plan.fate
@@ -230,8 +250,10 @@ module _ (z : Size) (b : Board) (vs : List View) (r : Kept z b vs) (id : ℕ) (v
     walk = λ t e. walk_linked z r.plan.chain w.head o.slot walked.inside b.links b.heads b.texts r.plan.fate n t there version_is (sj.walk t e);
     marks = sj.marks;
     sweeps = sj.sweeps;
-    trail = λ q t e f. trail_linked z r.plan.chain w.head o.slot walked.inside b.epoch b.row b.links b.heads n q t there early (sj.trail q t e f);
+    trail = λ q t e f. trail_linked z r.plan.chain w.head o.slot walked.inside b.epoch b.row b.links b.heads n q t there early closed_is (sj.trail q t e f);
     risen = λ h below. let t = sj.risen h below in (t.0, risen_linked h t.1);
+    unclosed = sj.unclosed;
+    grows = sj.grows;
   }
 
   mine_linked : SeatOk z (with_head b w.head n) plan' id (view_after v Link)
@@ -258,13 +280,17 @@ module _ (z : Size) (b : Board) (vs : List View) (r : Kept z b vs) (id : ℕ) (v
     sweeps = s.sweeps;
     trail = λ q t e none. cc;
     risen = λ h below. let t = s.risen h below in (t.0, risen_linked h t.1);
+    unclosed = λ t none. cc;
+    grows = s.grows;
   }
 
   pub link_at : Kept z (with_head b w.head (head_word (o.slot + 1) 0 (version_of w.word + 1))) (set vs id (view_after v Link))
   link_at = record {
     plan = plan';
     sized = record { small = r.sized.small; acks = r.sized.acks; atoms = r.sized.atoms; links = r.sized.links; heads = length-set b.heads w.head n ∙ r.sized.heads; texts = r.sized.texts };
-    row = r.row;
+    grow = grow_early z b.epoch b.row b.heads b.texts r.plan.chain r.plan.grow r.grow early_row (set b.heads w.head n) chain'
+        (λ g inside. word_after (λ m. closed_of m ≡ closed_of (get_or b.heads g 0)) b.heads w.head n g there (λ e. closed_is ∙ sym (ap (λ (q : ℕ). closed_of (get_or b.heads q 0)) e ∙ open_head)) (λ _. refl))
+        (λ _ g inside shut. get_or-set_other b.heads w.head g n 0 (λ e. shut (ap (λ (q : ℕ). closed_of (get_or b.heads q 0)) e ∙ open_head)));
     rows = rows_linked;
     slots = slots_linked;
     cycle = r.cycle;
@@ -280,4 +306,4 @@ module _ (z : Size) (b : Board) (vs : List View) (r : Kept z b vs) (id : ℕ) (v
   }
 
 pub keep_link : (z : Size) (b : Board) (vs : List View) (r : Kept z b vs) (id : ℕ) (v : View) → SeatOk z b r.plan id v → (b' : Board) → Does z b v Link b' → Kept z b' (set vs id (view_after v Link))
-keep_link z b vs r id v s b' d = subst (λ y. Kept z y (set vs id (view_after v Link))) (sym d.11) (link_at z b vs r id v s d.0 d.1 d.2 d.3 d.4 d.5 d.6 d.7 d.8 d.10)
+keep_link z b vs r id v s b' d = subst (λ y. Kept z y (set vs id (view_after v Link))) (sym d.11) (link_at z b vs r id v s d.0 d.1 d.2 d.3 d.4 d.5 d.6 d.7 d.8 d.9 d.10)

@@ -1,9 +1,9 @@
 -- Each load keeps the rule.
-use Rattle.std.proofs.Common.{◌≡◌, ◌≢◌, ℕ, suc, ◌+◌, ◌-◌, ◌<◌, ◌≤◌, true, false, List, [], ◌∷◌, ◌++◌, length, get_or, set, take, refl, sym, ap, ◌∙◌, subst, inl, inr, ⊎_elim, arith, Option, Some, None, take_all, length-append, append_assoc}
+use Rattle.std.proofs.Common.{◌≡◌, ◌≢◌, ℕ, suc, ◌+◌, ◌-◌, ◌<◌, ◌≤◌, true, false, List, [], ◌∷◌, ◌++◌, length, get_or, set, take, refl, sym, ap, ◌∙◌, subst, inl, inr, ⊎_elim, arith, Option, Some, None, take_all, length-append, append_assoc, ◌⊎◌}
 use mathlib.Core.Option.{some}
 use lib.ListN.{get_elem?}
 use Rattle.atomic_table.proofs.Lists.{at_longer, at_last}
-use Rattle.atom_words.specs.Layout.{state_of, first_of, version_of}
+use Rattle.atom_words.specs.Layout.{state_of, first_of, closed_of, version_of, phase_of}
 use Rattle.atom_words.specs.Board.{Board, text_of}
 use mathlib.Core.List.{map-append}
 use Rattle.atom_words.specs.Texts.{bucket}
@@ -15,19 +15,21 @@ use Rattle.atom_words.specs.declared.view.Held.{Held}
 use Rattle.atom_words.specs.declared.view.Walk.{Walk}
 use Rattle.atom_words.specs.declared.view.Passing.{Passing}
 use Rattle.atom_words.specs.declared.view.Sweeping.{Sweeping}
+use Rattle.atom_words.specs.declared.view.Growing.{Growing}
 use Rattle.atom_words.specs.declared.view.Refusal.{Refusal}
 use Rattle.atom_words.specs.declared.view.View.{View}
 use Rattle.atom_words.specs.declared.kind.Kind.{Kind}
 use Rattle.atom_words.specs.declared.kind.Kind.TheVariants.{Load, Refused, Start, Read, Next, Skip, Hold, Keep, Fix, StartPass, EndPass, Refuse, Ask}
-use Rattle.atom_words.proofs.Slices.{mapped, in_none, in_append, in_later, in_cases, at_snoc, none_in, text_length, text_short, read_more, chain_at, chain_few}
+use Rattle.atom_words.proofs.Slices.{mapped, some_is, in_none, in_append, in_later, in_cases, at_snoc, none_in, text_length, text_short, read_more, chain_at, chain_few}
+use Rattle.atom_words.proofs.Rowing.{early_open, early_sweep, stands_early}
 use Rattle.atom_words.proofs.Frames.{keep_view, marks_now, marks_walk}
 
 module _ (z : Size) (b : Board) (p : Plan) (j : ℕ) (v : View) (s : SeatOk z b p j v) where
   -- a view that differs in the walk
   pub walks : (walk : Option Walk) (made : List Kind) → ((t : Walk) → walk ≡ Some t → WalkOk z b.links b.heads b.texts p.chain p.fate t)
       → ((w : Walk) (k : ℕ) → walk ≡ Some w → w.guarded ≡ true → w.place ≡ k + 1 → (t : Walk) × (v.walk ≡ Some t) × (t.guarded ≡ true) × (t.place ≡ k + 1))
-      → ((y : Sweeping) (w : Walk) → v.sweep ≡ Some y → walk ≡ Some w → Trail b.epoch b.row b.links b.heads p.chain y w) → SeatOk z b p j (record v { walk = walk; made = made })
-  walks walk made ok was trail = record {
+      → ((y : Sweeping) (w : Walk) → v.sweep ≡ Some y → walk ≡ Some w → Trail b.epoch b.row b.links b.heads p.chain y w) → ((w : Walk) → walk ≡ Some w → (p.collector ≡ j → ⊥) → closed_of w.word ≡ 0) → SeatOk z b p j (record v { walk = walk; made = made })
+  walks walk made ok was trail open_ = record {
     size = s.size;
     own = s.own;
     held = s.held;
@@ -39,6 +41,8 @@ module _ (z : Size) (b : Board) (p : Plan) (j : ℕ) (v : View) (s : SeatOk z b 
     sweeps = s.sweeps;
     trail = trail;
     risen = s.risen;
+    unclosed = open_;
+    grows = s.grows;
   }
 
   -- a view that differs in nothing that the rule speaks of
@@ -55,6 +59,8 @@ module _ (z : Size) (b : Board) (p : Plan) (j : ℕ) (v : View) (s : SeatOk z b 
     sweeps = s.sweeps;
     trail = s.trail;
     risen = s.risen;
+    unclosed = s.unclosed;
+    grows = s.grows;
   }
 
   -- one slot more is held, and no walk is at hand
@@ -75,6 +81,8 @@ module _ (z : Size) (b : Board) (p : Plan) (j : ℕ) (v : View) (s : SeatOk z b 
     sweeps = s.sweeps;
     trail = λ y w e none. cc;
     risen = s.risen;
+    unclosed = λ w none. cc;
+    grows = s.grows;
   }
 
 module _ (z : Size) (b : Board) (vs : List View) (r : Kept z b vs) (id : ℕ) (v : View) (s : SeatOk z b r.plan id v) where
@@ -82,18 +90,18 @@ module _ (z : Size) (b : Board) (vs : List View) (r : Kept z b vs) (id : ℕ) (v
   Walks w = WalkOk z b.links b.heads b.texts r.plan.chain r.plan.fate w
 
   -- at the start all slots of the chain are still to come
-  start_ok : (h x : ℕ) → h < z.heads → get_or b.heads h 0 ≡ x → WalkOk z b.links b.heads b.texts r.plan.chain r.plan.fate (starting h x)
-  start_ok h x inside found = record {
+  start_ok : (h x : ℕ) → h < z.heads → get_or b.heads h 0 ≡ x → Chain b.links (first_of (get_or b.heads h 0)) (r.plan.chain h) → WalkOk z b.links b.heads b.texts r.plan.chain r.plan.fate (starting h x)
+  start_ok h x inside found whole = record {
     inside = inside;
     short = omega arith;
     past = subst (λ (n : ℕ). version_of x ≤ version_of n) (sym found) (omega arith);
     word = λ _. found;
     claim = λ _. record {
       path = r.plan.chain h;
-      reached = subst (λ (n : ℕ). Chain b.links (first_of n) (r.plan.chain h)) found (r.rows.chains h inside);
+      reached = subst (λ (n : ℕ). Chain b.links (first_of n) (r.plan.chain h)) found whole;
       each = λ k i _. inr i;
       inside = λ k i. inl i;
-      few = let f = chain_few b.links (first_of (get_or b.heads h 0)) (r.plan.chain h) (r.rows.chains h inside) in omega (arith, f);
+      few = let f = chain_few b.links (first_of (get_or b.heads h 0)) (r.plan.chain h) whole in omega (arith, f);
       part = λ k e. refl;
       dead = λ k e g. cc;
     };
@@ -187,25 +195,26 @@ module _ (z : Size) (b : Board) (vs : List View) (r : Kept z b vs) (id : ℕ) (v
       }
 
   -- the slot at the cursor, whose text was spelled, stands in the chain of its text's bucket
-  sure_on : (h : ℕ) (y : Sweeping) → v.sweep ≡ Some y → y.sure ≡ true → length y.text ≡ 32 → y.unlinked ≡ false → bucket b.row y.text ≡ h → In y.cursor (r.plan.chain h)
-  sure_on h y sweep on whole in_ at = let same_ : r.plan.sweep ≡ y = (s.sweeps y sweep).1 in let k : ℕ = r.plan.sweep.cursor in
+  sure_on : (h : ℕ) (y : Sweeping) → phase_of b.epoch ≡ 2 → v.sweep ≡ Some y → y.sure ≡ true → length y.text ≡ 32 → y.unlinked ≡ false → bucket b.row y.text ≡ h → In y.cursor (r.plan.chain h)
+  sure_on h y two sweep on whole in_ at = let same_ : r.plan.sweep ≡ y = (s.sweeps y sweep).1 in let k : ℕ = r.plan.sweep.cursor in
       let on' : r.plan.sweep.sure ≡ true = ap (λ (q : Sweeping). q.sure) same_ ∙ on in let text : r.plan.sweep.text ≡ y.text = ap (λ (q : Sweeping). q.text) same_ in let long : length r.plan.sweep.text ≡ 32 = ap length text ∙ whole in
       let short = text_short b.texts k in let all : text_of b.texts k ≡ r.plan.sweep.text = sym (take_all (length r.plan.sweep.text) (text_of b.texts k) (omega arith)) ∙ r.sure.text on' in
       let find : Linked z.heads r.plan.chain k = ⊎_elim (λ (valid : state_of (get_or b.atoms k 0) ≡ 3). r.slots.valid k valid)
       (λ (dying : state_of (get_or b.atoms k 0) ≡ 2). let slot : r.plan.fate.slot ≡ k + 1 = r.slots.only k dying in let f = r.fate.dies (λ none. omega arith) in
       (r.plan.fate.head, f.inside, (f.there (sym r.fate.out ∙ (ap (λ (q : Sweeping). q.unlinked) same_ ∙ in_))).0)) (r.sure.state on') in
-      let head : find.0 ≡ h = sym (r.rows.stands find.0 k find.1 find.2) ∙ (ap (bucket b.row) (all ∙ text) ∙ at) in
+      let head : find.0 ≡ h = sym (stands_early z b.row r.plan.grow b.links b.heads b.texts r.plan.chain r.plan.place r.plan.fate r.rows (early_sweep z b vs r two) find.0 k find.1 find.2) ∙ (ap (bucket b.row) (all ∙ text) ∙ at) in
       subst (λ (g : ℕ). In y.cursor (r.plan.chain g)) head (subst (λ (q : ℕ). In q (r.plan.chain find.0)) (ap (λ (q : Sweeping). q.cursor) same_) find.2)
 
   -- the collector's walk, at its start and as it goes on
-  start_trail : (h x : ℕ) (y : Sweeping) → h < z.heads → get_or b.heads h 0 ≡ x → v.sweep ≡ Some y → Trail b.epoch b.row b.links b.heads r.plan.chain y (starting h x)
-  start_trail h x y inside found sweep = record {
+  start_trail : (h x : ℕ) (y : Sweeping) → get_or b.heads h 0 ≡ x → Chain b.links (first_of (get_or b.heads h 0)) (r.plan.chain h) → v.sweep ≡ Some y → Trail b.epoch b.row b.links b.heads r.plan.chain y (starting h x)
+  start_trail h x y found whole sweep = record {
     news = [];
     path = r.plan.chain h;
     whole = refl;
-    reached = subst (λ (n : ℕ). Chain b.links (first_of n) (r.plan.chain h)) found (r.rows.chains h inside);
+    reached = subst (λ (n : ℕ). Chain b.links (first_of n) (r.plan.chain h)) found whole;
     fresh = λ _ early. subst (λ (n : ℕ). version_of n < 4398046511103) (sym found) early;
-    ahead = λ on whole in_ at. sure_on h y sweep on whole in_ at;
+    ahead = λ two on whole in_ at. sure_on h y two sweep on whole in_ at;
+    still = λ _. found;
   }
 
   next_trail : (w : Walk) (k x : ℕ) (y : Sweeping) → Trail b.epoch b.row b.links b.heads r.plan.chain y w → w.place ≡ k + 1 → get_or b.links k 0 ≡ x → Trail b.epoch b.row b.links b.heads r.plan.chain y (going_on x w)
@@ -216,7 +225,8 @@ module _ (z : Size) (b : Board) (vs : List View) (r : Kept z b vs) (id : ℕ) (v
         whole = t.whole ∙ ap (λ (l : List ℕ). t.news ++ l) moved;
         reached = subst (λ (n : ℕ). Chain b.links n c.0) found c.3;
         fresh = t.fresh;
-        ahead = λ on whole in_ at. subst (In y.cursor) moved (t.ahead on whole in_ at);
+        ahead = λ two on whole in_ at. subst (In y.cursor) moved (t.ahead two on whole in_ at);
+        still = t.still;
       }
 
   keep_same : (b' : Board) (w : View) → b' ≡ b → SeatOk z b r.plan id w → Kept z b' (set vs id w)
@@ -228,29 +238,40 @@ module _ (z : Size) (b : Board) (vs : List View) (r : Kept z b vs) (id : ℕ) (v
   pub keep_refused : (k old found : ℕ) (b' : Board) → Does z b v (Refused k old found) b' → Kept z b' (set vs id (view_after v (Refused k old found)))
   keep_refused k old found b' d = keep_same b' (view_after v (Refused k old found)) d.3 (same z b r.plan id v s (view_after v (Refused k old found)).pass v.refusals v.asked (v.made ++ Refused k old found ∷ []))
 
+  -- the chain of a head at which a walk begins is whole: the head is open, or the collector moves no slot
+  started : (h x : ℕ) → h < z.heads → get_or b.heads h 0 ≡ x → (closed_of x ≡ 0) ⊎ ((v.sweep ≢ None) × (v.growing.moving ≡ 0)) → Chain b.links (first_of (get_or b.heads h 0)) (r.plan.chain h)
+  started h x inside found open_ = r.rows.chains h inside (λ l. ⊎_elim
+      (λ (e : closed_of x ≡ 0). l.0 (r.grow.rest (inl (early_open z b.epoch b.row b.heads b.texts r.plan.chain r.plan.grow r.grow h inside (ap closed_of found ∙ e)))).1)
+      (λ (t : (v.sweep ≢ None) × (v.growing.moving ≡ 0)). let y = some_is v.sweep t.0 in l.0 (ap (λ (g : Growing). g.moving) (s.grows y.0 y.1) ∙ t.1)) open_)
+
   pub keep_start : (h x : ℕ) (b' : Board) → Does z b v (Start h x) b' → Kept z b' (set vs id (view_after v (Start h x)))
-  keep_start h x b' d = keep_same b' (view_after v (Start h x)) d.3 (walks z b r.plan id v s (Some (starting h x)) (v.made ++ Start h x ∷ [])
-      (λ t e. let is : starting h x ≡ t = cc in subst (λ y. WalkOk z b.links b.heads b.texts r.plan.chain r.plan.fate y) is (start_ok h x d.0 d.1))
+  keep_start h x b' d = let whole = started h x d.0 d.1 d.2 in keep_same b' (view_after v (Start h x)) d.3 (walks z b r.plan id v s (Some (starting h x)) (v.made ++ Start h x ∷ [])
+      (λ t e. let is : starting h x ≡ t = cc in subst (λ y. WalkOk z b.links b.heads b.texts r.plan.chain r.plan.fate y) is (start_ok h x d.0 d.1 whole))
       (λ t k e g. absurd (let is : starting h x ≡ t = cc in let no = ap (λ (y : Walk). y.guarded) is ∙ g in cc))
-      (λ y t e f. let is : starting h x ≡ t = cc in subst (λ q. Trail b.epoch b.row b.links b.heads r.plan.chain y q) is (start_trail h x y d.0 d.1 e)))
+      (λ y t e f. let is : starting h x ≡ t = cc in subst (λ q. Trail b.epoch b.row b.links b.heads r.plan.chain y q) is (start_trail h x y d.1 whole e))
+      (λ t e else. let is : starting h x ≡ t = cc in ap (λ (q : Walk). closed_of q.word) (sym is) ∙ ⊎_elim (λ (c : closed_of x ≡ 0). c)
+      (λ (u : (v.sweep ≢ None) × (v.growing.moving ≡ 0)). absurd (let y = some_is v.sweep u.0 in else (s.sweeps y.0 y.1).0)) d.2))
 
   pub keep_read : (x : ℕ) (b' : Board) → Does z b v (Read x) b' → Kept z b' (set vs id (view_after v (Read x)))
   keep_read x b' d = keep_same b' (view_after v (Read x)) d.6 (walks z b r.plan id v s (view_after v (Read x)).walk (v.made ++ Read x ∷ [])
       (λ t e. subst (λ y. WalkOk z b.links b.heads b.texts r.plan.chain r.plan.fate y) (mapped (reading x) v.walk d.0 t d.2 e) (read_ok d.0 d.1 x (s.walk d.0 d.2) d.3 d.4 d.5))
       (λ t k e g at. let is = mapped (reading x) v.walk d.0 t d.2 e in (d.0, d.2, ap (λ (y : Walk). y.guarded) is ∙ g, ap (λ (y : Walk). y.place) is ∙ at))
-      (λ y t e f. let o = s.trail y d.0 e d.2 in subst (λ q. Trail b.epoch b.row b.links b.heads r.plan.chain y q) (mapped (reading x) v.walk d.0 t d.2 f) record { news = o.news; path = o.path; whole = o.whole; reached = o.reached; fresh = o.fresh; ahead = o.ahead }))
+      (λ y t e f. let o = s.trail y d.0 e d.2 in subst (λ q. Trail b.epoch b.row b.links b.heads r.plan.chain y q) (mapped (reading x) v.walk d.0 t d.2 f) record { news = o.news; path = o.path; whole = o.whole; reached = o.reached; fresh = o.fresh; ahead = o.ahead; still = o.still })
+      (λ t e else. ap (λ (q : Walk). closed_of q.word) (sym (mapped (reading x) v.walk d.0 t d.2 e)) ∙ s.unclosed d.0 d.2 else))
 
   pub keep_next : (x : ℕ) (b' : Board) → Does z b v (Next x) b' → Kept z b' (set vs id (view_after v (Next x)))
   keep_next x b' d = keep_same b' (view_after v (Next x)) d.5 (walks z b r.plan id v s (view_after v (Next x)).walk (v.made ++ Next x ∷ [])
       (λ t e. subst (λ y. WalkOk z b.links b.heads b.texts r.plan.chain r.plan.fate y) (mapped (going_on x) v.walk d.0 t d.2 e) (next_ok d.0 d.1 x (s.walk d.0 d.2) d.3 d.4))
       (λ t k e g. absurd (let no = ap (λ (y : Walk). y.guarded) (mapped (going_on x) v.walk d.0 t d.2 e) ∙ g in cc))
-      (λ y t e f. subst (λ q. Trail b.epoch b.row b.links b.heads r.plan.chain y q) (mapped (going_on x) v.walk d.0 t d.2 f) (next_trail d.0 d.1 x y (s.trail y d.0 e d.2) d.3 d.4)))
+      (λ y t e f. subst (λ q. Trail b.epoch b.row b.links b.heads r.plan.chain y q) (mapped (going_on x) v.walk d.0 t d.2 f) (next_trail d.0 d.1 x y (s.trail y d.0 e d.2) d.3 d.4))
+      (λ t e else. ap (λ (q : Walk). closed_of q.word) (sym (mapped (going_on x) v.walk d.0 t d.2 e)) ∙ s.unclosed d.0 d.2 else))
 
   pub keep_skip : (x : ℕ) (b' : Board) → Does z b v (Skip x) b' → Kept z b' (set vs id (view_after v (Skip x)))
   keep_skip x b' d = keep_same b' (view_after v (Skip x)) d.7 (walks z b r.plan id v s (view_after v (Skip x)).walk (v.made ++ Skip x ∷ [])
       (λ t e. subst (λ y. WalkOk z b.links b.heads b.texts r.plan.chain r.plan.fate y) (mapped (skipping x) v.walk d.0 t d.2 e) (skip_ok d.0 d.1 x (s.walk d.0 d.2) d.4 d.5 d.6))
       (λ t k e g. absurd (let no = ap (λ (y : Walk). y.guarded) (mapped (skipping x) v.walk d.0 t d.2 e) ∙ g in cc))
-      (λ y t e. absurd (let no : None ≡ Some y = sym d.3 ∙ e in cc)))
+      (λ y t e. absurd (let no : None ≡ Some y = sym d.3 ∙ e in cc))
+      (λ t e else. ap (λ (q : Walk). closed_of q.word) (sym (mapped (skipping x) v.walk d.0 t d.2 e)) ∙ s.unclosed d.0 d.2 else))
 
   pub keep_hold : (b' : Board) → Does z b v Hold b' → Kept z b' (set vs id (view_after v Hold))
   keep_hold b' d = let g = s.marks.guard d.0 d.1 d.2 d.4 d.3 d.7 in
@@ -272,6 +293,8 @@ module _ (z : Size) (b : Board) (vs : List View) (r : Kept z b vs) (id : ℕ) (v
     sweeps = s.sweeps;
     trail = s.trail;
     risen = s.risen;
+    unclosed = s.unclosed;
+    grows = s.grows;
   }
 
   pub keep_fix : (b' : Board) → Does z b v Fix b' → Kept z b' (set vs id (view_after v Fix))
@@ -287,6 +310,8 @@ module _ (z : Size) (b : Board) (vs : List View) (r : Kept z b vs) (id : ℕ) (v
     sweeps = s.sweeps;
     trail = s.trail;
     risen = s.risen;
+    unclosed = s.unclosed;
+    grows = s.grows;
   }
 
   pub keep_start_pass : (x : ℕ) (b' : Board) → Does z b v (StartPass x) b' → Kept z b' (set vs id (view_after v (StartPass x)))

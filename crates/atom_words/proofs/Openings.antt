@@ -35,6 +35,7 @@ opens z ok = record {
     heads = simp (length-append {A = ℕ}) (simp (length-replicate {A = ℕ}) (omega (arith, ok)));
     texts = length-replicate (32 * z.slots) 0;
   };
+  wide = omega (arith, ok);
   idle = refl;
   row = refl;
   unseen = λ e. zeros z.engines e;

@@ -5,25 +5,26 @@ use mathlib.Core.Logic.{dite}
 use native.Mathlib.Decide.{dec_le}
 use lib.ListN.{get_elem?, length-replicate}
 use Rattle.atomic_table.proofs.Lists.{at_set}
-use Rattle.atom_words.specs.Layout.{state_of, count_of, first_of, phase_of}
+use Rattle.atom_words.specs.Layout.{state_of, count_of, first_of, closed_of, phase_of}
 use Rattle.atom_words.specs.Board.{Board}
-use Rattle.atom_words.specs.Views.{uncounted, no_cycle, bare, unswept, first_view, newcomer, spent, with_keeper, without_keeper, keeper_of, without_collector, collector_of, with_one_dealt, engine_of}
+use Rattle.atom_words.specs.Views.{uncounted, no_cycle, bare, unswept, ungrown, first_view, newcomer, spent, with_keeper, without_keeper, keeper_of, without_collector, collector_of, with_one_dealt, engine_of}
 use Rattle.atom_words.specs.Rule.{Cut, keeper, collector, engine, Opens}
-use Rattle.atom_words.specs.Kept.{Plan, HeldOk, CountsOk, MarksOk, SeatOk, Kept}
+use Rattle.atom_words.specs.Kept.{Plan, HeldOk, CountsOk, MarksOk, SeatOk, GrowOk, Kept}
 use Rattle.atom_words.specs.declared.size.Size.{Size}
 use Rattle.atom_words.specs.declared.view.Counted.{Counted}
 use Rattle.atom_words.specs.declared.view.Cycling.{Cycling}
 use Rattle.atom_words.specs.declared.view.Sweeping.{Sweeping}
+use Rattle.atom_words.specs.declared.view.Growing.{Growing}
 use Rattle.atom_words.specs.declared.view.View.{View}
 use Rattle.atom_words.specs.declared.kind.Kind.TheVariants.{Split}
-use Rattle.atom_words.proofs.Layouts.{first-head_word}
+use Rattle.atom_words.proofs.Layouts.{first-head_word, closed-head_word}
 use Rattle.atom_words.proofs.Slices.{in_none, at_snoc, at_replicate, or_beyond}
 use Rattle.atom_words.proofs.Puts.{put, put_here, put_else}
-use Rattle.atom_words.proofs.Frames.{seats_stay}
+use Rattle.atom_words.proofs.Frames.{seats_stay, marks_walk}
 
 -- the rule where other seats keep, collect or are an engine's, and the seat's own part stays
 pub replanned : (z : Size) (b : Board) (p : Plan) (keeper' collector' : ℕ) (engine' : ℕ → ℕ) (j : ℕ) (v : View) → ((cs : List Counted) → v.counts ≡ Some cs → p.keeper ≡ j → keeper' ≡ j)
-    → ((y : Sweeping) → v.sweep ≡ Some y → p.collector ≡ j → collector' ≡ j) → MarksOk z b.epoch b.acks b.atoms engine' p.sweep.cursor j v.cycle v.undealt v.held v.walk
+    → (p.collector ≡ j → collector' ≡ j) → MarksOk z b.epoch b.acks b.atoms engine' p.sweep.cursor j v.cycle v.undealt v.held v.walk
     → SeatOk z b p j v → SeatOk z b (record p { keeper = keeper'; collector = collector'; engine = engine' }) j v
 replanned z b p keeper' collector' engine' j v keeps collects marks s = record {
   size = s.size;
@@ -34,9 +35,11 @@ replanned z b p keeper' collector' engine' j v keeps collects marks s = record {
   counts = λ cs e. let h = s.counts cs e in record { mine = keeps cs e h.mine; each_slot = h.each_slot; counts = h.counts; live = h.live };
   walk = s.walk;
   marks = marks;
-  sweeps = λ y e. let h = s.sweeps y e in (collects y e h.0, h.1);
+  sweeps = λ y e. let h = s.sweeps y e in (collects h.0, h.1);
   trail = s.trail;
   risen = s.risen;
+  unclosed = λ w e other. s.unclosed w e (λ mine. other (collects mine));
+  grows = s.grows;
 }
 
 -- a seat that is no engine's, and from which none is to be dealt
@@ -61,7 +64,7 @@ module _ (z : Size) (b : Board) (vs : List View) (r : Kept z b vs) where
   keep_make = record {
     plan = r.plan;
     sized = r.sized;
-    row = r.row;
+    grow = r.grow;
     rows = r.rows;
     slots = r.slots;
     cycle = r.cycle;
@@ -80,6 +83,8 @@ module _ (z : Size) (b : Board) (vs : List View) (r : Kept z b vs) where
           sweeps = λ y e. cc;
           trail = λ y w e. cc;
           risen = λ h below. absurd (omega arith);
+          unclosed = λ w e. cc;
+          grows = λ y e. cc;
         })
         (at_snoc vs (newcomer z) v j at);
   }
@@ -118,13 +123,15 @@ module _ (z : Size) (b : Board) (vs : List View) (r : Kept z b vs) where
       sweeps = s.sweeps;
       trail = s.trail;
       risen = s.risen;
+      unclosed = s.unclosed;
+      grows = s.grows;
     }
 
     pub keep_join : Kept z b (set (set vs id (with_keeper v w)) other spent)
     keep_join = let K : ℕ → View → Type 0 = SeatOk z b (record r.plan { keeper = keeper_at r.plan.keeper id w.counts }) in record {
       plan = record r.plan { keeper = keeper_at r.plan.keeper id w.counts };
       sized = r.sized;
-      row = r.row;
+      grow = r.grow;
       rows = r.rows;
       slots = r.slots;
       cycle = r.cycle;
@@ -134,7 +141,7 @@ module _ (z : Size) (b : Board) (vs : List View) (r : Kept z b vs) where
           (λ j y ne e alive. ⊎_elim
           (λ (t : (j ≡ id) × (with_keeper v w ≡ y)). subst (λ (x : ℕ × View). K x.0 x.1) (λ i. (sym t.0 i, t.1 i)) joined)
           (λ (t : (j ≢ id) × (get_elem? vs j ≡ some y)). let s = r.seats j y t.1 alive in replanned z b r.plan (keeper_at r.plan.keeper id w.counts) r.plan.collector r.plan.engine j y
-          (λ cs has mine. keeper_else r.plan.keeper id other j w.counts (λ ws has_too. (theirs.counts ws has_too).mine) ne mine) (λ _ _ mine. mine) s.marks s)
+          (λ cs has mine. keeper_else r.plan.keeper id other j w.counts (λ ws has_too. (theirs.counts ws has_too).mine) ne mine) (λ mine. mine) s.marks s)
           (at_set vs id j (with_keeper v w) y e));
     }
 
@@ -150,7 +157,7 @@ module _ (z : Size) (b : Board) (vs : List View) (r : Kept z b vs) where
     split_with keeper' collector' engine' left right l t others = let p : Plan = record r.plan { keeper = keeper'; collector = collector'; engine = engine' } in record {
       plan = record r.plan { keeper = keeper'; collector = collector'; engine = engine' };
       sized = r.sized;
-      row = r.row;
+      grow = r.grow;
       rows = r.rows;
       slots = r.slots;
       cycle = r.cycle;
@@ -163,10 +170,10 @@ module _ (z : Size) (b : Board) (vs : List View) (r : Kept z b vs) where
     }
 
     -- the seat that is cut off knows the fixed atoms and the heads that have risen, and what it is cut off for
-    beside : (p : Plan) (j : ℕ) (counts : Option (List Counted)) (cycle : Cycling) (sweep : Option Sweeping) → p.chain ≡ r.plan.chain → ((cs : List Counted) → counts ≡ Some cs → CountsOk z b.atoms b.texts p.chain p.keeper j cs)
-        → MarksOk z b.epoch b.acks b.atoms p.engine p.sweep.cursor j cycle 0 [] None → ((y : Sweeping) → sweep ≡ Some y → (p.collector ≡ j) × (p.sweep ≡ y))
-        → SeatOk z b p j (record (bare v.size) { fixed = v.fixed; risen = v.risen; counts = counts; cycle = cycle; sweep = sweep; made = Split ∷ [] })
-    beside p j counts cycle sweep same counted marks sweeps = record {
+    beside : (p : Plan) (j : ℕ) (counts : Option (List Counted)) (cycle : Cycling) (sweep : Option Sweeping) (growing : Growing) → p.chain ≡ r.plan.chain → ((cs : List Counted) → counts ≡ Some cs → CountsOk z b.atoms b.texts p.chain p.keeper j cs)
+        → MarksOk z b.epoch b.acks b.atoms p.engine p.sweep.cursor j cycle 0 [] None → ((y : Sweeping) → sweep ≡ Some y → (p.collector ≡ j) × (p.sweep ≡ y)) → ((y : Sweeping) → sweep ≡ Some y → p.grow ≡ growing)
+        → SeatOk z b p j (record (bare v.size) { fixed = v.fixed; risen = v.risen; counts = counts; cycle = cycle; sweep = sweep; growing = growing; made = Split ∷ [] })
+    beside p j counts cycle sweep growing same counted marks sweeps grows = record {
       size = mine.size;
       own = λ o e. cc;
       held = λ i a e. absurd (in_none a (i, e));
@@ -178,6 +185,8 @@ module _ (z : Size) (b : Board) (vs : List View) (r : Kept z b vs) where
       sweeps = sweeps;
       trail = λ y w e none. cc;
       risen = mine.risen;
+      unclosed = λ w none. cc;
+      grows = grows;
     }
 
     cut_keeper : Kept z b (set vs id (without_keeper v) ++ keeper_of v ∷ [])
@@ -194,12 +203,14 @@ module _ (z : Size) (b : Board) (vs : List View) (r : Kept z b vs) where
           sweeps = mine.sweeps;
           trail = mine.trail;
           risen = mine.risen;
+          unclosed = mine.unclosed;
+          grows = mine.grows;
         }
-        (λ j is. beside (record r.plan { keeper = k }) j v.counts (no_cycle 0) None refl
+        (λ j is. beside (record r.plan { keeper = k }) j v.counts (no_cycle 0) None ungrown refl
         (λ cs e. let h = mine.counts cs e in record { mine = keeper_is r.plan.keeper (length vs) v.counts cs e ∙ sym is; each_slot = h.each_slot; counts = h.counts; live = h.live })
-        (no_marks z b.epoch b.acks b.atoms r.plan.engine r.plan.sweep.cursor j) (λ y e. cc))
+        (no_marks z b.epoch b.acks b.atoms r.plan.engine r.plan.sweep.cursor j) (λ y e. cc) (λ y e. cc))
         (λ j y ne e alive. let s = r.seats j y e alive in replanned z b r.plan k r.plan.collector r.plan.engine j y
-        (λ cs has ours. keeper_else r.plan.keeper (length vs) id j v.counts (λ ws has_too. (mine.counts ws has_too).mine) ne ours) (λ _ _ ours. ours) s.marks s)
+        (λ cs has ours. keeper_else r.plan.keeper (length vs) id j v.counts (λ ws has_too. (mine.counts ws has_too).mine) ne ours) (λ ours. ours) s.marks s)
 
     cut_collector : Kept z b (set vs id (without_collector v) ++ collector_of v ∷ [])
     cut_collector = let c : ℕ = keeper_at r.plan.collector (length vs) v.sweep in split_with r.plan.keeper c r.plan.engine (without_collector v) (collector_of v)
@@ -210,16 +221,18 @@ module _ (z : Size) (b : Board) (vs : List View) (r : Kept z b vs) where
           fixed = mine.fixed;
           low = mine.low;
           counts = mine.counts;
-          walk = mine.walk;
-          marks = mine.marks;
+          walk = λ w none. cc;
+          marks = marks_walk z b.epoch b.acks b.atoms r.plan.engine r.plan.sweep.cursor id v.cycle v.undealt v.held v.walk mine.marks None (λ w k none. cc);
           sweeps = λ y e. cc;
           trail = λ y w e. cc;
           risen = mine.risen;
+          unclosed = λ w none. cc;
+          grows = λ y e. cc;
         }
-        (λ j is. beside (record r.plan { collector = c }) j None (no_cycle 0) v.sweep refl (λ cs e. cc) (no_marks z b.epoch b.acks b.atoms r.plan.engine r.plan.sweep.cursor j)
-        (λ y e. (keeper_is r.plan.collector (length vs) v.sweep y e ∙ sym is, (mine.sweeps y e).1)))
+        (λ j is. beside (record r.plan { collector = c }) j None (no_cycle 0) v.sweep v.growing refl (λ cs e. cc) (no_marks z b.epoch b.acks b.atoms r.plan.engine r.plan.sweep.cursor j)
+        (λ y e. (keeper_is r.plan.collector (length vs) v.sweep y e ∙ sym is, (mine.sweeps y e).1)) mine.grows)
         (λ j y ne e alive. let s = r.seats j y e alive in replanned z b r.plan r.plan.keeper c r.plan.engine j y (λ _ _ ours. ours)
-        (λ x has ours. keeper_else r.plan.collector (length vs) id j v.sweep (λ xs has_too. (mine.sweeps xs has_too).0) ne ours) s.marks s)
+        (λ ours. keeper_else r.plan.collector (length vs) id j v.sweep (λ xs has_too. (mine.sweeps xs has_too).0) ne ours) s.marks s)
 
     module _ (more : 0 < v.undealt) (empty : v.held ≡ []) where
       engine' : ℕ → ℕ
@@ -291,9 +304,11 @@ module _ (z : Size) (b : Board) (vs : List View) (r : Kept z b vs) where
             sweeps = mine.sweeps;
             trail = mine.trail;
             risen = mine.risen;
+            unclosed = mine.unclosed;
+            grows = mine.grows;
           }
-          (λ j is. beside (record r.plan { engine = e }) j None (no_cycle v.undealt) None refl (λ cs has. cc) (right_marks j is) (λ y has. cc))
-          (λ j y ne at_ alive. let s = r.seats j y at_ alive in replanned z b r.plan r.plan.keeper r.plan.collector e j y (λ _ _ ours. ours) (λ _ _ ours. ours) (other_marks j y ne s) s)
+          (λ j is. beside (record r.plan { engine = e }) j None (no_cycle v.undealt) None ungrown refl (λ cs has. cc) (right_marks j is) (λ y has. cc) (λ y has. cc))
+          (λ j y ne at_ alive. let s = r.seats j y at_ alive in replanned z b r.plan r.plan.keeper r.plan.collector e j y (λ _ _ ours. ours) (λ ours. ours) (other_marks j y ne s) s)
 
     pub keep_split : (left right : View) → Cut v left right → Kept z b (set vs id left ++ right ∷ [])
     keep_split left right keeper = cut_keeper
@@ -302,17 +317,36 @@ module _ (z : Size) (b : Board) (vs : List View) (r : Kept z b vs) where
 
 -- A NEW TABLE
 pub keep_open : (z : Size) (b : Board) (vs : List View) → Opens z b vs → Kept z b vs
-keep_open z b vs o = let none : Plan = record { chain = λ _. []; place = λ _. 0; owner = λ _. 0; keeper = 0; collector = 0; engine = λ _. 0; sweep = unswept; fate = record { slot = 0; out = false; head = 0; left = 0 } } in
+keep_open z b vs o = let none : Plan = record { chain = λ _. []; place = λ _. 0; owner = λ _. 0; keeper = 0; collector = 0; engine = λ _. 0; sweep = unswept; grow = ungrown; fate = record { slot = 0; out = false; head = 0; left = 0 } } in
     let low : (k : ℕ) → (get_or b.atoms k 0 ≡ 0) ⊎ (get_or b.atoms k 0 ≡ 1) = λ k. low_word k in record {
       plan = none;
       sized = o.sized;
-      row = o.row;
+      grow = subst (λ (n : ℕ). GrowOk z b.epoch n b.heads b.texts (λ _. []) ungrown) (sym o.row) record {
+        known = refl;
+        size = let wide = o.wide in (omega arith, omega arith);
+        aim = let wide = o.wide in (omega arith, omega arith);
+        most = omega arith;
+        closed = λ h inside e. dite (dec_le 256 h)
+            (λ (le : 256 ≤ h). absurd (let c : closed_of (get_or b.heads h 0) ≡ 1 = ap closed_of (o.other_rows h inside le) ∙ closed-head_word 0 1 z.start (omega arith) (omega arith) in omega (arith, c, e)))
+            (λ (gt : ¬ (256 ≤ h)). (omega arith, omega (arith, gt)));
+        opened = λ h above below. let wide = o.wide in ap closed_of (o.buckets h (omega (arith, below, wide)) (omega (arith, below)));
+        idle = λ some_. absurd (omega (arith, some_));
+        firm = λ h above below. absurd (omega (arith, above, below));
+        begun = λ some_. absurd (omega (arith, some_));
+        few = omega arith;
+        sound = λ ne. absurd (ne refl);
+        rest = λ _. (refl, refl, refl);
+        emptied = λ h above below. refl;
+        picked = λ a e. cc;
+        there = λ ne. absurd (ne refl);
+      };
       rows = record {
-        chains = λ h inside. dite (dec_le 256 h) (λ (le : 256 ≤ h). ap first_of (o.other_rows h inside le) ∙ first-head_word 0 1 z.start (omega arith) (omega arith))
+        leaves = λ ne. absurd (ne refl);
+        chains = λ h inside _. dite (dec_le 256 h) (λ (le : 256 ≤ h). ap first_of (o.other_rows h inside le) ∙ first-head_word 0 1 z.start (omega arith) (omega arith))
             (λ (gt : ¬ (256 ≤ h)). ap first_of (o.buckets h inside (omega arith)));
         once = λ h k inside i. absurd (in_none k i);
         stands = λ h k inside i. absurd (in_none k i);
-        unlike = λ h k q inside i j e. absurd (in_none k i);
+        unlike = λ h g k q inside too i j e. absurd (in_none k i);
       };
       slots = record {
         live = λ k l. absurd (in_none k l.2);
@@ -362,6 +396,8 @@ keep_open z b vs o = let none : Plan = record { chain = λ _. []; place = λ _. 
         sweeps = λ y e. let is : unswept ≡ y = cc in (sym t.0, is);
         trail = λ y w e walk. cc;
         risen = λ h below. absurd (omega arith);
+        unclosed = λ w e. cc;
+        grows = λ y e. refl;
       }) (λ (t : (j ≢ 0) × (get_elem? (first_view z ∷ []) j ≡ some v)). absurd (beyond j v t.0 t.1)) (at_set (first_view z ∷ []) 0 j (first_view z) v (subst (λ y. get_elem? y j ≡ some v) o.views at));
     }
   where

@@ -19,6 +19,10 @@ mapped f (Some x) a b e h = cc
 pub some_same : {A : Type 0} (a b : A) (o : Option A) → o ≡ Some a → o ≡ Some b → a ≡ b
 some_same a b o e h = cc
 
+pub some_is : {A : Type 0} (o : Option A) → o ≢ None → (a : A) × (o ≡ Some a)
+some_is None ne = absurd (ne refl)
+some_is (Some a) ne = (a, refl)
+
 pub or_true : (a b : Bool) → (a || b) ≡ true → (a ≡ true) ⊎ (b ≡ true)
 or_true true b e = inl refl
 or_true false b e = inr e

@@ -7,7 +7,7 @@ use mathlib.Core.Option.{none}
 use native.Mathlib.Decide.{ℕ_discrete, dec_le}
 use prog.Atomic.{either}
 use Rattle.atomic_table.specs.Table.{step, Allows}
-use Rattle.atom_words.specs.Layout.{state_of, count_of, version_of}
+use Rattle.atom_words.specs.Layout.{state_of, count_of, closed_of, version_of}
 use Rattle.atom_words.specs.Board.{Board, atom, head, atom_at, head_at, text_at, text_of, with_atom, with_head}
 use Rattle.atom_words.specs.Chains.{In}
 use Rattle.atom_words.specs.Views.{uncounted}
@@ -157,14 +157,14 @@ module _ (key : Size) (slots id : ℕ) (me : Sat) (is : key ≡ me.0.size) (here
   pub ending_pass : (p : Passing) → me.0.pass ≡ Some p → Allows (Rule key) slots id me 0 (λ n. n) (pass_ended (step slots 0 0 0 none) me)
   ending_pass p pass = epoch_load key me.0.size slots id me (pass_ended (step slots 0 0 0 none) me) is here (λ b vs r seen small. (EndPass b.epoch, (p, pass, refl, refl), (refl, refl)))
 
-  pub raising : (i h old : ℕ) → i ≡ head_at me.0.size h → h < me.0.size.heads → 0 < me.0.undealt → version_of old < me.0.size.start
+  pub raising : (i h old : ℕ) → i ≡ head_at me.0.size h → h < me.0.size.heads → 0 < me.0.undealt → closed_of old ≡ 0 → version_of old < me.0.size.start
       → Allows (Rule key) slots id me i (λ n. either (eqb n old) (raised me.0.size.start old) n) (head_raised (step slots i old (raised me.0.size.start old) none) me)
-  raising i h old at inside first low = let new : ℕ = raised me.0.size.start old in
+  raising i h old at inside first open_ low = let new : ℕ = raised me.0.size.start old in
       subst (λ (w : ℕ). Allows (Rule key) slots id me w (λ n. either (eqb n old) new n) (head_raised (step slots w old new none) me)) (sym at)
       (head_exchange key me.0.size slots id me h old new (head_raised (step slots (head_at me.0.size h) old new none) me) is here inside
       (λ b vs r seen hit. (
         Raise h,
-        (inside, first, subst (λ (n : ℕ). version_of n < me.0.size.start) (sym hit) low, ap (λ (n : ℕ). with_head b h (raised me.0.size.start n)) (sym hit)),
+        (inside, first, ap closed_of hit ∙ open_, subst (λ (n : ℕ). version_of n < me.0.size.start) (sym hit) low, ap (λ (n : ℕ). with_head b h (raised me.0.size.start n)) (sym hit)),
         (refl, λ j e. let same : h ≡ j = omega arith in ((λ _. ap (λ (x : ℕ). view_after me.0 (Raise x)) same), λ ne. absurd (ne hit))),
       ))
       (λ b vs r seen miss. (

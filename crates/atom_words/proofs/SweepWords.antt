@@ -21,6 +21,7 @@ use Rattle.atom_words.specs.declared.kind.Kind.TheVariants.{Condemn, PassOver, F
 use Rattle.atom_words.proofs.Layouts.{state-unmarked, count-unmarked}
 use Rattle.atom_words.proofs.Slices.{in_none, in_back, chain_at, chain_inside, or_beyond, word_after}
 use Rattle.atom_words.proofs.Puts.{unmapped}
+use Rattle.atom_words.proofs.Rowing.{chains_at_work}
 use Rattle.atom_words.proofs.Frames.{seats_stay}
 use Rattle.atom_words.proofs.Cycles.{own_trail}
 use Rattle.atom_words.proofs.Sweeps.{known, swept_by, idle_by}
@@ -42,8 +43,9 @@ module _ (z : Size) (b : Board) (vs : List View) (r : Kept z b vs) (k n : ℕ) (
 
   seat_left : (j : ℕ) (x : View) → SeatOk z b r.plan j x → Leaves j x → (sweep : Option Sweeping) (made : List Kind) → ((q : Sweeping) → sweep ≡ Some q → (r.plan.collector ≡ j) × (f r.plan.sweep ≡ q))
       → ((q : Sweeping) (w : Walk) → sweep ≡ Some q → x.walk ≡ Some w → Trail b.epoch b.row b.links b.heads r.plan.chain q w)
+      → ((q : Sweeping) → sweep ≡ Some q → r.plan.grow ≡ x.growing)
       → SeatOk z (with_atom b k n) (record r.plan { sweep = f r.plan.sweep; fate = fate' }) j (record x { sweep = sweep; made = made })
-  seat_left j x s l sweep made sweeps trail = record {
+  seat_left j x s l sweep made sweeps trail grows = record {
     size = s.size;
     own = λ o e. let h = s.own o e in record { inside = h.inside; mine = h.mine; usable = h.usable; state = l.own o e; short = h.short; text = h.text; link = h.link; apart = h.apart; linked = h.linked };
     held = λ i a e. held_now a (s.held i a e) (l.held a (i, e));
@@ -60,27 +62,29 @@ module _ (z : Size) (b : Board) (vs : List View) (r : Kept z b vs) (k n : ℕ) (
     sweeps = sweeps;
     trail = trail;
     risen = s.risen;
+    unclosed = s.unclosed;
+    grows = grows;
   }
 
   -- the collector's step
   collector_atom : (id : ℕ) (v : View) → SeatOk z b r.plan id v → (y : Sweeping) → v.sweep ≡ Some y → (made : List Kind)
-      → Rows z b.row b.links b.heads b.texts r.plan.chain r.plan.place fate' → Slots z (set b.atoms k n) r.plan.chain fate' → CycleOk z b.epoch b.acks (f r.plan.sweep) → SureOk z (set b.atoms k n) b.texts (f r.plan.sweep)
+      → Rows z b.row r.plan.grow b.links b.heads b.texts r.plan.chain r.plan.place fate' → Slots z (set b.atoms k n) r.plan.chain fate' → CycleOk z b.epoch b.acks (f r.plan.sweep) → SureOk z (set b.atoms k n) b.texts (f r.plan.sweep)
       → FateOk z b.epoch b.links b.heads r.plan.chain (f r.plan.sweep) fate' → ((j : ℕ) (x : View) → SeatOk z b r.plan j x → Leaves j x)
       → ((q : Sweeping) (w : Walk) → option_map f v.sweep ≡ Some q → v.walk ≡ Some w → Trail b.epoch b.row b.links b.heads r.plan.chain q w)
       → Kept z (with_atom b k n) (set vs id (record v { sweep = option_map f v.sweep; made = made }))
   collector_atom id v s y at made rows slots_ cycle sure fate leaves trail = record {
     plan = record r.plan { sweep = f r.plan.sweep; fate = fate' };
     sized = record { small = r.sized.small; acks = r.sized.acks; atoms = length-set b.atoms k n ∙ r.sized.atoms; links = r.sized.links; heads = r.sized.heads; texts = r.sized.texts };
-    row = r.row;
+    grow = r.grow;
     rows = rows;
     slots = slots_;
     cycle = cycle;
     sure = sure;
     fate = fate;
     seats = seats_stay (SeatOk z (with_atom b k n) (record r.plan { sweep = f r.plan.sweep; fate = fate' })) vs id (record v { sweep = option_map f v.sweep; made = made })
-        (λ _. seat_left id v s (leaves id v s) (option_map f v.sweep) made (λ q has_. let was = unmapped f v.sweep q has_ in ((s.sweeps y at).0, ap f (s.sweeps was.0 was.1).1 ∙ was.2)) trail)
+        (λ _. seat_left id v s (leaves id v s) (option_map f v.sweep) made (λ q has_. let was = unmapped f v.sweep q has_ in ((s.sweeps y at).0, ap f (s.sweeps was.0 was.1).1 ∙ was.2)) trail (λ q has_. let was = unmapped f v.sweep q has_ in s.grows was.0 was.1))
         (λ j x other here alive. let t = r.seats j x here alive in seat_left j x t (leaves j x t) x.sweep x.made
-        (λ q has_. absurd (other (sym (t.sweeps q has_).0 ∙ (s.sweeps y at).0))) (λ q w has_. absurd (other (sym (t.sweeps q has_).0 ∙ (s.sweeps y at).0))));
+        (λ q has_. absurd (other (sym (t.sweeps q has_).0 ∙ (s.sweeps y at).0))) (λ q w has_. absurd (other (sym (t.sweeps q has_).0 ∙ (s.sweeps y at).0))) (λ q has_. absurd (other (sym (t.sweeps q has_).0 ∙ (s.sweeps y at).0))));
   }
 
 -- IN A SWEEP every engine has acknowledged
@@ -169,7 +173,7 @@ module _ (z : Size) (b : Board) (vs : List View) (r : Kept z b vs) (id : ℕ) (v
       record { inside = λ on. cc; state = λ on. cc; short = omega arith; text = λ on. cc }
       record { slot = r.fate.slot; out = r.fate.out; head = r.fate.head; idle = r.fate.idle; dies = λ ne. absurd (ne none) }
       leaves_passed
-      (own_trail z b vs r id v s b.epoch passing v.walk (λ q w _ t. record { news = t.news; path = t.path; whole = t.whole; reached = t.reached; fresh = t.fresh; ahead = λ on. cc }))
+      (own_trail z b vs r id v s b.epoch passing v.walk (λ q w _ t. record { news = t.news; path = t.path; whole = t.whole; reached = t.reached; fresh = t.fresh; ahead = λ two_ on. cc; still = t.still }))
 
 pub keep_pass_over : (z : Size) (b : Board) (vs : List View) (r : Kept z b vs) (id : ℕ) (v : View) → SeatOk z b r.plan id v → (x : ℕ) (b' : Board) → Does z b v (PassOver x) b' → Kept z b' (set vs id (view_after v (PassOver x)))
 keep_pass_over z b vs r id v s x b' d = let y : Sweeping = d.0 in let at = d.1.0 in let here : r.plan.sweep.cursor ≡ y.cursor = ap (λ (t : Sweeping). t.cursor) (known z b vs r id v s y at) in
@@ -187,7 +191,7 @@ module _ (z : Size) (b : Board) (vs : List View) (r : Kept z b vs) (id : ℕ) (v
   on = r.slots.valid r.plan.sweep.cursor (ap state_of clean)
 
   low : r.plan.sweep.cursor < z.slots
-  low = let i = chain_inside b.links (first_of (get_or b.heads on.0 0)) r.plan.sweep.cursor (r.plan.chain on.0) (r.rows.chains on.0 on.1) on.2 in omega (arith, i, r.sized.links)
+  low = let i = chain_inside b.links (first_of (get_or b.heads on.0 0)) r.plan.sweep.cursor (r.plan.chain on.0) (chains_at_work z b vs r two on.0 on.1) on.2 in omega (arith, i, r.sized.links)
 
   within : r.plan.sweep.cursor < length b.atoms
   within = omega (arith, low, r.sized.atoms)
@@ -252,7 +256,7 @@ module _ (z : Size) (b : Board) (vs : List View) (r : Kept z b vs) (id : ℕ) (v
 
   condemn_at : Kept z (with_atom b r.plan.sweep.cursor 2) (set vs id (view_after v Condemn))
   condemn_at = let c : ℕ = r.plan.sweep.cursor in collector_atom z b vs r r.plan.sweep.cursor 2 (condemning (head_of v.walk)) (record { slot = r.plan.sweep.cursor + 1; out = false; head = w.head; left = 0 }) id v s y at (v.made ++ Condemn ∷ [])
-      record { chains = r.rows.chains; once = r.rows.once; stands = r.rows.stands; unlike = λ h k q inside i j _ _ e. r.rows.unlike h k q inside i j (living k) (living q) e }
+      record { chains = r.rows.chains; leaves = r.rows.leaves; once = r.rows.once; stands = r.rows.stands; unlike = λ h g k q inside too i j _ _ e. r.rows.unlike h g k q inside too i j (living k) (living q) e }
       record {
         live = λ q l. word_after (λ n. ((state_of n ≡ 1) ⊎ (state_of n ≡ 3)) ⊎ (c + 1 ≡ q + 1)) b.atoms c 2 q within (λ e. inr (ap (λ (i : ℕ). i + 1) (sym e)))
             (λ _. ⊎_elim (λ (t : (state_of (get_or b.atoms q 0) ≡ 1) ⊎ (state_of (get_or b.atoms q 0) ≡ 3)). inl t) (λ (t : r.plan.fate.slot ≡ q + 1). absurd (living q (sym t))) (r.slots.live q l));
@@ -288,8 +292,9 @@ module _ (z : Size) (b : Board) (vs : List View) (r : Kept z b vs) (id : ℕ) (v
         whole = o.whole;
         reached = o.reached;
         fresh = o.fresh;
-        ahead = λ sure_ whole _ bucket_. o.ahead sure_ whole
+        ahead = λ two_ sure_ whole _ bucket_. o.ahead two_ sure_ whole
             (sym (ap (λ (p : Sweeping). p.unlinked) (known z b vs r id v s q e)) ∙ (r.fate.out ∙ r.fate.idle idle)) bucket_;
+        still = o.still;
       }))
 
 pub keep_condemn : (z : Size) (b : Board) (vs : List View) (r : Kept z b vs) (id : ℕ) (v : View) → SeatOk z b r.plan id v → (b' : Board) → Does z b v Condemn b' → Kept z b' (set vs id (view_after v Condemn))
@@ -363,7 +368,7 @@ module _ (z : Size) (b : Board) (vs : List View) (r : Kept z b vs) (id : ℕ) (v
 
   free_at : Kept z (with_atom b r.plan.sweep.cursor 0) (set vs id (view_after v Free))
   free_at = let c : ℕ = r.plan.sweep.cursor in let slot = d.at in let high = d.high in collector_atom z b vs r r.plan.sweep.cursor 0 freeing (record { slot = 0; out = false; head = r.plan.fate.head; left = 0 }) id v s y at (v.made ++ Free ∷ [])
-      record { chains = r.rows.chains; once = r.rows.once; stands = r.rows.stands; unlike = λ h k q inside i j _ _ e. r.rows.unlike h k q inside i j (alive k (h, inside, i)) (alive q (h, inside, j)) e }
+      record { chains = r.rows.chains; leaves = r.rows.leaves; once = r.rows.once; stands = r.rows.stands; unlike = λ h g k q inside too i j _ _ e. r.rows.unlike h g k q inside too i j (alive k (h, inside, i)) (alive q (g, too, j)) e }
       record {
         live = λ q l. word_after (λ n. ((state_of n ≡ 1) ⊎ (state_of n ≡ 3)) ⊎ (0 ≡ q + 1)) b.atoms c 0 q room (λ e. absurd (apart q l e))
             (λ _. ⊎_elim (λ (t : (state_of (get_or b.atoms q 0) ≡ 1) ⊎ (state_of (get_or b.atoms q 0) ≡ 3)). inl t) (λ (t : r.plan.fate.slot ≡ q + 1). absurd (alive q l (sym t))) (r.slots.live q l));
@@ -377,7 +382,7 @@ module _ (z : Size) (b : Board) (vs : List View) (r : Kept z b vs) (id : ℕ) (v
       record { inside = λ on_. cc; state = λ on_. cc; short = omega arith; text = λ on_. cc }
       record { slot = refl; out = refl; head = r.fate.head; idle = λ _. refl; dies = λ ne. absurd (ne refl) }
       leaves_freed
-      (own_trail z b vs r id v s b.epoch freeing v.walk (λ q t _ o. record { news = o.news; path = o.path; whole = o.whole; reached = o.reached; fresh = o.fresh; ahead = λ on_. cc }))
+      (own_trail z b vs r id v s b.epoch freeing v.walk (λ q t _ o. record { news = o.news; path = o.path; whole = o.whole; reached = o.reached; fresh = o.fresh; ahead = λ two_ on_. cc; still = o.still }))
 
 pub keep_free : (z : Size) (b : Board) (vs : List View) (r : Kept z b vs) (id : ℕ) (v : View) → SeatOk z b r.plan id v → (b' : Board) → Does z b v Free b' → Kept z b' (set vs id (view_after v Free))
 keep_free z b vs r id v s b' d = let y : Sweeping = d.0 in let at = d.1.0.0 in let is = known z b vs r id v s y at in let here : r.plan.sweep.cursor ≡ y.cursor = ap (λ (t : Sweeping). t.cursor) is in

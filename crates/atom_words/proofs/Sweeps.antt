@@ -55,6 +55,8 @@ module _ (z : Size) (b : Board) (vs : List View) (r : Kept z b vs) (id : ℕ) (v
         sweeps = λ q has_. let was = unmapped f v.sweep q has_ in ((s.sweeps y at).0, ap f (s.sweeps was.0 was.1).1 ∙ was.2);
         trail = trail;
         risen = s.risen;
+        unclosed = λ w e. s.unclosed w (same_walk w e);
+        grows = λ q has_. let was = unmapped f v.sweep q has_ in s.grows was.0 was.1;
       }
       record {
         word = word ∙ r.cycle.word;
@@ -65,7 +67,7 @@ module _ (z : Size) (b : Board) (vs : List View) (r : Kept z b vs) (id : ℕ) (v
         swept = r.cycle.swept;
         cursor = subst (λ (n : ℕ). n ≤ z.slots) (sym cursor) r.cycle.cursor;
       }
-      sure fate (λ j x q. moved j x q.marks)
+      sure fate (λ j x q. moved j x q.marks) r.grow.idle
 
   pub keep_look : (x : ℕ) (b' : Board) → Does z b v (Look x) b' → Kept z b' (set vs id (view_after v (Look x)))
   keep_look x b' d = let y : Sweeping = d.0 in let at = d.1.0 in let is = known y at in let here : r.plan.sweep.cursor ≡ y.cursor = ap (λ (t : Sweeping). t.cursor) is in
@@ -78,7 +80,7 @@ module _ (z : Size) (b : Board) (vs : List View) (r : Kept z b vs) (id : ℕ) (v
         text = λ _. refl;
       }
       (fate_idle b.epoch (looking x) refl refl refl (idle_by y at d.2))
-      (own_trail z b vs r id v s b.epoch (looking x) v.walk (λ q w _ t. record { news = t.news; path = t.path; whole = t.whole; reached = t.reached; fresh = t.fresh; ahead = λ on whole. absurd (omega (arith, whole)) })))
+      (own_trail z b vs r id v s b.epoch (looking x) v.walk (λ q w _ t. record { news = t.news; path = t.path; whole = t.whole; reached = t.reached; fresh = t.fresh; ahead = λ two on whole. absurd (omega (arith, whole)); still = t.still })))
 
   pub keep_spell : (x : ℕ) (b' : Board) → Does z b v (Spell x) b' → Kept z b' (set vs id (view_after v (Spell x)))
   keep_spell x b' d = let y : Sweeping = d.0 in let at = d.1.0 in let is = known y at in let c : Sweeping = r.plan.sweep in let on : c.sure ≡ true = ap (λ (t : Sweeping). t.sure) is ∙ d.3 in
@@ -105,7 +107,7 @@ module _ (z : Size) (b : Board) (vs : List View) (r : Kept z b vs) (id : ℕ) (v
         idle = r.fate.idle;
         dies = λ ne. let f = r.fate.dies ne in record { sweeping = f.sweeping; at = f.at; high = f.high; inside = f.inside; there = f.there; behind = λ _ q e. link ∙ (let same : x ≡ q = cc in same); gone = f.gone; noted = f.noted; past = f.past };
       }
-      (own_trail z b vs r id v s b.epoch (with_behind x) v.walk (λ q w _ t. record { news = t.news; path = t.path; whole = t.whole; reached = t.reached; fresh = t.fresh; ahead = t.ahead })))
+      (own_trail z b vs r id v s b.epoch (with_behind x) v.walk (λ q w _ t. record { news = t.news; path = t.path; whole = t.whole; reached = t.reached; fresh = t.fresh; ahead = t.ahead; still = t.still })))
 
   -- the dying slot's head
   head_is : (y : Sweeping) → v.sweep ≡ Some y → y.head ≡ r.plan.fate.head
@@ -132,7 +134,7 @@ module _ (z : Size) (b : Board) (vs : List View) (r : Kept z b vs) (id : ℕ) (v
           past = f.past;
         };
       }
-      (own_trail z b vs r id v s b.epoch (noting x) v.walk (λ q w _ t. record { news = t.news; path = t.path; whole = t.whole; reached = t.reached; fresh = t.fresh; ahead = t.ahead })))
+      (own_trail z b vs r id v s b.epoch (noting x) v.walk (λ q w _ t. record { news = t.news; path = t.path; whole = t.whole; reached = t.reached; fresh = t.fresh; ahead = t.ahead; still = t.still })))
 
   pub keep_past : (x : ℕ) (b' : Board) → Does z b v (Past x) b' → Kept z b' (set vs id (view_after v (Past x)))
   keep_past x b' d = let y : Sweeping = d.0 in let n : ℕ = d.1 in let at = d.2.0.0 in let is = known y at in let word : get_or b.heads r.plan.fate.head 0 ≡ x = ap (λ (h : ℕ). get_or b.heads h 0) (sym (head_is y at)) ∙ d.4 in let later = d.5 in
@@ -156,7 +158,7 @@ module _ (z : Size) (b : Board) (vs : List View) (r : Kept z b vs) (id : ℕ) (v
           past = λ out _. let l = (f.noted out n noted_).0 in subst (λ (q : ℕ). r.plan.fate.left < version_of q) (sym word) (omega arith);
         };
       }
-      (own_trail z b vs r id v s b.epoch moving_past v.walk (λ q w _ t. record { news = t.news; path = t.path; whole = t.whole; reached = t.reached; fresh = t.fresh; ahead = t.ahead })))
+      (own_trail z b vs r id v s b.epoch moving_past v.walk (λ q w _ t. record { news = t.news; path = t.path; whole = t.whole; reached = t.reached; fresh = t.fresh; ahead = t.ahead; still = t.still })))
 
   -- THE END of a sweep
   ended_marks : (j : ℕ) (x : View) → phase_of b.epoch ≡ 2 → SeatOk z b r.plan j x → MarksOk z (epoch_word 0 (epoch_of b.epoch)) b.acks b.atoms r.plan.engine r.plan.sweep.cursor j x.cycle x.undealt x.held x.walk
@@ -189,8 +191,10 @@ module _ (z : Size) (b : Board) (vs : List View) (r : Kept z b vs) (id : ℕ) (v
         walk = s.walk;
         marks = ended_marks id v two s;
         sweeps = λ t has_. let was = unmapped ending v.sweep t has_ in (k.0, ap ending (s.sweeps was.0 was.1).1 ∙ was.2);
-        trail = own_trail z b vs r id v s new ending v.walk (λ t w _ o. record { news = o.news; path = o.path; whole = o.whole; reached = o.reached; fresh = λ sweeping _. absurd (omega (arith, sweeping, phase)); ahead = o.ahead });
+        trail = own_trail z b vs r id v s new ending v.walk (λ t w _ o. record { news = o.news; path = o.path; whole = o.whole; reached = o.reached; fresh = λ sweeping _. absurd (omega (arith, sweeping, phase)); ahead = λ sweeping. absurd (omega (arith, sweeping, phase)); still = o.still });
         risen = s.risen;
+        unclosed = s.unclosed;
+        grows = λ t has_. let was = unmapped ending v.sweep t has_ in s.grows was.0 was.1;
       }
       record {
         word = ap (λ (n : ℕ). epoch_word 0 (epoch_of n)) r.cycle.word;
@@ -203,7 +207,8 @@ module _ (z : Size) (b : Board) (vs : List View) (r : Kept z b vs) (id : ℕ) (v
       }
       (sure_same z b vs r id v s ending refl refl refl)
       (fate_idle new ending refl refl refl (idle_by y at none))
-      (λ j x t. ended_marks j x two t))
+      (λ j x t. ended_marks j x two t)
+      (λ _. phase))
 
   pub keep_end : (b' : Board) → Does z b v End b' → Kept z b' (set vs id (view_after v End))
   keep_end b' d = subst (λ t. Kept z t (set vs id (view_after v End))) (sym d.4) (end_at d.0 d.1 d.2)

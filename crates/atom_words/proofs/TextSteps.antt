@@ -1,6 +1,6 @@
 -- A step on a text word or on a link word of the seat's own slot keeps the rule.
-use Rattle.std.proofs.Common.{◌≡◌, ◌≢◌, ◌⊎◌, ℕ, ◌+◌, ◌*◌, ◌<◌, true, false, List, [], ◌∷◌, ◌++◌, length, get_or, set, take, refl, sym, ap, ◌∙◌, subst, inl, inr, ⊎_elim, arith, Some, length-set, length-append, get_or-set_same, get_or-set_other}
-use Rattle.atom_words.specs.Layout.{state_of, first_of}
+use Rattle.std.proofs.Common.{◌≡◌, ◌≢◌, ◌⊎◌, ℕ, ◌+◌, ◌*◌, ◌<◌, true, false, List, [], ◌∷◌, ◌++◌, length, get_or, set, take, refl, sym, ap, ◌∙◌, subst, inl, inr, ⊎_elim, arith, Some, length-set, length-append, get_or-set_same, get_or-set_other, ◌^◌, ◌-◌}
+use Rattle.atom_words.specs.Layout.{state_of, first_of, row_first}
 use Rattle.atom_words.specs.Texts.{bucket}
 use Rattle.atom_words.specs.Board.{Board, text_of, with_text, with_link}
 use Rattle.atom_words.specs.Chains.{In, Chain, Linked}
@@ -12,10 +12,12 @@ use Rattle.atom_words.specs.declared.view.Counted.{Counted}
 use Rattle.atom_words.specs.declared.view.Own.{Own}
 use Rattle.atom_words.specs.declared.view.Walk.{Walk}
 use Rattle.atom_words.specs.declared.view.Sweeping.{Sweeping}
+use Rattle.atom_words.specs.declared.view.Growing.{Growing}
 use Rattle.atom_words.specs.declared.view.View.{View}
 use Rattle.atom_words.specs.declared.kind.Kind.TheVariants.{PutWord, PutLink}
-use Rattle.atom_words.proofs.Slices.{some_same, text_else, text_put, in_back, chain_at, chain_else}
+use Rattle.atom_words.proofs.Slices.{some_same, text_else, text_put, in_none, in_cases, in_back, in_either, chain_at, chain_else}
 use Rattle.atom_words.proofs.Puts.{unmapped}
+use Rattle.atom_words.proofs.Rowing.{grow_text, picked_linked, old_inside}
 use Rattle.atom_words.proofs.Frames.{seats_stay}
 
 -- the texts of linked slots and of the dying one stay
@@ -45,12 +47,14 @@ module _ (z : Size) (texts texts' : List ℕ) (chain : ℕ → List ℕ) (f : Fa
     lost = h.lost;
   }
 
-  pub rows_text : (row : ℕ) (links heads : List ℕ) (place : ℕ → ℕ) → Rows z row links heads texts chain place f → Rows z row links heads texts' chain place f
-  rows_text row links heads place r = record {
+  pub rows_text : (row : ℕ) (g : Growing) (links heads : List ℕ) (place : ℕ → ℕ) → Rows z row g links heads texts chain place f → Rows z row g links heads texts' chain place f
+  rows_text row g links heads place r = record {
     chains = r.chains;
+    leaves = r.leaves;
     once = r.once;
-    stands = λ h k inside i. ap (bucket row) (same k (inl (h, inside, i))) ∙ r.stands h k inside i;
-    unlike = λ h k q inside i j alive too e. r.unlike h k q inside i j alive too (sym (same k (inl (h, inside, i))) ∙ (e ∙ same q (inl (h, inside, j))));
+    stands = λ h k inside i. ⊎_elim (λ (e : bucket row (text_of texts k) ≡ h). inl (ap (bucket row) (same k (inl (h, inside, i))) ∙ e))
+        (λ (t : (g.shut ≡ 2 ^ row) × (bucket g.aim (text_of texts k) ≡ h)). inr (t.0, ap (bucket g.aim) (same k (inl (h, inside, i))) ∙ t.1)) (r.stands h k inside i);
+    unlike = λ h g_ k q inside inside_too i j alive too e. r.unlike h g_ k q inside inside_too i j alive too (sym (same k (inl (h, inside, i))) ∙ (e ∙ same q (inl (g_, inside_too, j))));
   }
 
 module _ (z : Size) (b : Board) (vs : List View) (r : Kept z b vs) (id : ℕ) (v : View) (s : SeatOk z b r.plan id v) where
@@ -70,6 +74,10 @@ module _ (z : Size) (b : Board) (vs : List View) (r : Kept z b vs) (id : ℕ) (v
     linked_text : (q : ℕ) → Linked z.heads r.plan.chain q ⊎ (r.plan.fate.slot ≡ q + 1) → text_of (set b.texts (32 * o.slot + length o.text) x) q ≡ text_of b.texts q
     linked_text q l = text_else b.texts o.slot (length o.text) x q more (λ e. ⊎_elim (λ (t : Linked z.heads r.plan.chain q). (s.own o own).apart unlinked (subst (Linked z.heads r.plan.chain) e t))
         (λ (t : r.plan.fate.slot ≡ q + 1). own_lives o own (t ∙ ap (λ (n : ℕ). n + 1) e)) l)
+
+    -- the slot that is picked is linked
+    picked_text : (k : ℕ) (a : Held) → r.plan.grow.picked ≡ Some a → a.slot ≡ k → text_of (set b.texts (32 * o.slot + length o.text) x) k ≡ text_of b.texts k
+    picked_text k a e at = linked_text k (inl (subst (Linked z.heads r.plan.chain) at (picked_linked z b.epoch b.row b.heads b.texts r.plan.chain r.plan.grow r.grow a e)))
 
     others_text : (j : ℕ) (w : View) → j ≢ id → SeatOk z b r.plan j w → SeatOk z (with_text b (32 * o.slot + length o.text) x) r.plan j w
     others_text j w other sj = let t : List ℕ = set b.texts (32 * o.slot + length o.text) x in record {
@@ -94,6 +102,8 @@ module _ (z : Size) (b : Board) (vs : List View) (r : Kept z b vs) (id : ℕ) (v
       sweeps = sj.sweeps;
       trail = sj.trail;
       risen = sj.risen;
+      unclosed = sj.unclosed;
+      grows = sj.grows;
     }
 
     mine_text : SeatOk z (with_text b (32 * o.slot + length o.text) x) r.plan id (view_after v (PutWord x))
@@ -121,14 +131,16 @@ module _ (z : Size) (b : Board) (vs : List View) (r : Kept z b vs) (id : ℕ) (v
       sweeps = s.sweeps;
       trail = s.trail;
       risen = s.risen;
+      unclosed = s.unclosed;
+      grows = s.grows;
     }
 
     put_word_at : Kept z (with_text b (32 * o.slot + length o.text) x) (set vs id (view_after v (PutWord x)))
     put_word_at = record {
       plan = r.plan;
       sized = record { small = r.sized.small; acks = r.sized.acks; atoms = r.sized.atoms; links = r.sized.links; heads = r.sized.heads; texts = length-set b.texts (32 * o.slot + length o.text) x ∙ r.sized.texts };
-      row = r.row;
-      rows = rows_text z b.texts (set b.texts (32 * o.slot + length o.text) x) r.plan.chain r.plan.fate linked_text b.row b.links b.heads r.plan.place r.rows;
+      grow = grow_text z b.epoch b.row b.heads b.texts r.plan.chain r.plan.grow r.grow (set b.texts (32 * o.slot + length o.text) x) picked_text;
+      rows = rows_text z b.texts (set b.texts (32 * o.slot + length o.text) x) r.plan.chain r.plan.fate linked_text b.row r.plan.grow b.links b.heads r.plan.place r.rows;
       slots = r.slots;
       cycle = r.cycle;
       sure = record {
@@ -171,6 +183,7 @@ module _ (z : Size) (b : Board) (vs : List View) (r : Kept z b vs) (id : ℕ) (v
       reached = chain_else b.links o.slot l w.place t.path t.reached (λ i. not_on w.head ok.inside (subst (In o.slot) (sym t.whole) (in_back o.slot t.news (slots w.seen ++ t.path) (in_back o.slot (slots w.seen) t.path i))));
       fresh = t.fresh;
       ahead = t.ahead;
+      still = t.still;
     }
 
     others_link_word : (j : ℕ) (w : View) → j ≢ id → SeatOk z b r.plan j w → SeatOk z (with_link b o.slot l) r.plan j w
@@ -196,6 +209,8 @@ module _ (z : Size) (b : Board) (vs : List View) (r : Kept z b vs) (id : ℕ) (v
       sweeps = sj.sweeps;
       trail = λ y t e f. trail_link_word y t (sj.walk t f) (sj.trail y t e f);
       risen = sj.risen;
+      unclosed = sj.unclosed;
+      grows = sj.grows;
     }
 
     mine_link_word : SeatOk z (with_link b o.slot l) r.plan id (view_after v (PutLink l))
@@ -222,15 +237,22 @@ module _ (z : Size) (b : Board) (vs : List View) (r : Kept z b vs) (id : ℕ) (v
       sweeps = s.sweeps;
       trail = λ y t e f. trail_link_word y t (s.walk t f) (s.trail y t e f);
       risen = s.risen;
+      unclosed = s.unclosed;
+      grows = s.grows;
     }
 
     put_link_at : Kept z (with_link b o.slot l) (set vs id (view_after v (PutLink l)))
     put_link_at = record {
       plan = r.plan;
       sized = record { small = r.sized.small; acks = r.sized.acks; atoms = r.sized.atoms; links = length-set b.links o.slot l ∙ r.sized.links; heads = r.sized.heads; texts = r.sized.texts };
-      row = r.row;
+      grow = r.grow;
       rows = record {
-        chains = λ h inside. chain_else b.links o.slot l (first_of (get_or b.heads h 0)) (r.plan.chain h) (r.rows.chains h inside) (not_on h inside);
+        chains = λ h inside whole. chain_else b.links o.slot l (first_of (get_or b.heads h 0)) (r.plan.chain h) (r.rows.chains h inside whole) (not_on h inside);
+        leaves = λ ne. let h : ℕ = row_first b.row + r.plan.grow.moved in let t = r.grow.there ne in let inside : h < z.heads = old_inside z b.epoch b.row b.heads b.texts r.plan.chain r.plan.grow r.grow t.0 in
+            chain_else b.links o.slot l (first_of (get_or b.heads h 0)) (r.plan.chain h ++ (r.plan.grow.moving - 1) ∷ []) (r.rows.leaves ne)
+            (λ i. ⊎_elim (not_on h inside)
+            (λ (u : In o.slot ((r.plan.grow.moving - 1) ∷ [])). ⊎_elim (λ (e : r.plan.grow.moving - 1 ≡ o.slot). (s.own o own).apart unlinked (subst (Linked z.heads r.plan.chain) e t.1)) (in_none o.slot) (in_cases o.slot (r.plan.grow.moving - 1) [] u))
+            (in_either o.slot (r.plan.chain h) ((r.plan.grow.moving - 1) ∷ []) i));
         once = r.rows.once;
         stands = r.rows.stands;
         unlike = r.rows.unlike;

@@ -1,6 +1,6 @@
 -- What a seat keeps at run time stays tied to its view.
-use Rattle.std.proofs.Common.{◌≡◌, ℕ, ◌<◌, ◌≤◌, [], ◌∷◌, ◌++◌, refl, sym, ap, ◌∙◌, subst, ⊎_elim, Option, Some, None, Result, Ok, Err, option_map}
-use Rattle.atom_words.specs.Layout.{version_of}
+use Rattle.std.proofs.Common.{◌≡◌, ◌≢◌, ℕ, ◌<◌, ◌≤◌, [], ◌∷◌, ◌++◌, refl, sym, ap, ◌∙◌, subst, ⊎_elim, Option, Some, None, Result, Ok, Err, option_map}
+use Rattle.atom_words.specs.Layout.{closed_of, version_of}
 use Rattle.atom_words.specs.Board.{head_at}
 use Rattle.atom_words.specs.Kinds.{next_first, next_counted, counting, rising, after}
 use Rattle.atom_words.specs.Seats.{Raises, Unchanged}
@@ -57,7 +57,10 @@ raises_unchanged h v (Ok _) w e = ⊎_elim
     (λ (t : (v.size.start ≤ version_of e.0) × (w ≡ after v (Risen h e.0 ∷ []))). ((v.made ++ Risen h e.0 ∷ []), rising h v.risen, t.1))
     (λ (t : (version_of e.0 < v.size.start) × (w ≡ after v (Load (head_at v.size h) e.0 ∷ Raise h ∷ []))). (((v.made ++ Load (head_at v.size h) e.0 ∷ []) ++ Raise h ∷ []), rising h v.risen, t.1))
     e.1
-raises_unchanged h v (Err y) w e = (((v.made ++ Load (head_at v.size h) e.0 ∷ []) ++ Load (head_at v.size h) y ∷ []), v.risen, e.3)
+raises_unchanged h v (Err y) w e = ⊎_elim
+    (λ (t : (closed_of y ≢ 0) × (version_of y < v.size.start) × (w ≡ after v (Load (head_at v.size h) y ∷ []))). ((v.made ++ Load (head_at v.size h) y ∷ []), v.risen, t.2))
+    (λ (t : (x : ℕ) × (version_of x < v.size.start) × (y ≢ x) × (w ≡ after v (Load (head_at v.size h) x ∷ Load (head_at v.size h) y ∷ []))). (((v.made ++ Load (head_at v.size h) t.0 ∷ []) ++ Load (head_at v.size h) y ∷ []), v.risen, t.3))
+    e
 
 -- a head whose version was raised is known to have risen
 pub raises_rising : (h : ℕ) (v : View) (a : Unit {0}) (w : View) → Raises h v (Ok a) w → w.risen ≡ rising h v.risen

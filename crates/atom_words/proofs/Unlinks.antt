@@ -16,10 +16,11 @@ use Rattle.atom_words.specs.declared.view.Sweeping.{Sweeping}
 use Rattle.atom_words.specs.declared.view.View.{View}
 use Rattle.atom_words.specs.declared.kind.Kind.{Kind}
 use Rattle.atom_words.specs.declared.kind.Kind.TheVariants.{UnlinkAt, UnlinkHead, Bump}
-use Rattle.atom_words.proofs.Layouts.{first-head_word, version-head_word}
+use Rattle.atom_words.proofs.Layouts.{first-head_word, closed-head_word, version-head_word}
 use Rattle.atom_words.proofs.Slices.{in_none, in_later, in_cases, in_back, chain_at, chain_else, chain_once, word_after}
 use Rattle.atom_words.proofs.Puts.{put, put_here, put_else, unmapped}
 use Rattle.atom_words.proofs.Frames.{seats_stay, marks_walk}
+use Rattle.atom_words.proofs.Rowing.{early_sweep, chains_at_work, grow_at_work}
 use Rattle.atom_words.proofs.RaiseStep.{walk_risen}
 use Rattle.atom_words.proofs.Cycles.{sure_same}
 use Rattle.atom_words.proofs.Sweeps.{known}
@@ -113,6 +114,10 @@ chain_small links p (k ∷ ks) c = omega (arith, c.0, c.1)
 -- THE DYING SLOT LEAVES ITS CHAIN, by a link word or by the head's
 module _ (z : Size) (b : Board) (vs : List View) (r : Kept z b vs) (id : ℕ) (v : View) (s : SeatOk z b r.plan id v) (y : Sweeping) (at : v.sweep ≡ Some y)
     (d : DyingOk z b.epoch b.links b.heads r.plan.chain r.plan.sweep r.plan.fate) (still : r.plan.fate.out ≡ false) where
+  -- each chain is whole
+  whole_ : (h : ℕ) → h < z.heads → Chain b.links (first_of (get_or b.heads h 0)) (r.plan.chain h)
+  whole_ h inside = chains_at_work z b vs r d.sweeping h inside
+
   -- the fate of the slot that is out
   abbrev pub gone_out : Fate
   gone_out = record { slot = r.plan.fate.slot; out = true; head = r.plan.fate.head; left = version_of (get_or b.heads r.plan.fate.head 0) }
@@ -126,6 +131,7 @@ module _ (z : Size) (b : Board) (vs : List View) (r : Kept z b vs) (id : ℕ) (v
       pub chains : (h : ℕ) → h < z.heads → Chain links' (first_of (get_or heads' h 0)) (chain' h)
       pub many_links : length links' ≡ length b.links
       pub many_heads : length heads' ≡ length b.heads
+      pub same_closed : (h : ℕ) → h < z.heads → closed_of (get_or heads' h 0) ≡ closed_of (get_or b.heads h 0)
       pub own_link : (k : ℕ) → (Linked z.heads r.plan.chain k → ⊥) → get_or links' k 0 ≡ get_or b.links k 0
       pub later : (h : ℕ) → version_of (get_or b.heads h 0) ≤ version_of (get_or heads' h 0)
       pub early : moved ≡ false → version_of (get_or heads' r.plan.fate.head 0) < last
@@ -145,8 +151,9 @@ module _ (z : Size) (b : Board) (vs : List View) (r : Kept z b vs) (id : ℕ) (v
       seat_out : (j : ℕ) (x : View) → SeatOk z b r.plan j x → (walk : Option Walk) (sweep : Option Sweeping) (made : List Kind) → ((t : Walk) → walk ≡ Some t → x.walk ≡ Some t)
           → ((q : Sweeping) → sweep ≡ Some q → (r.plan.collector ≡ j) × (unlinking moved r.plan.sweep ≡ q))
           → ((q : Sweeping) (t : Walk) → sweep ≡ Some q → walk ≡ Some t → Trail b.epoch b.row links' heads' chain' q t)
+          → ((q : Sweeping) → sweep ≡ Some q → r.plan.grow ≡ x.growing)
           → SeatOk z (record b { links = links'; heads = heads' }) (record r.plan { chain = chain'; sweep = unlinking moved r.plan.sweep; fate = gone_out }) j (record x { walk = walk; sweep = sweep; made = made })
-      seat_out j x k walk sweep made same sweeps trail = record {
+      seat_out j x k walk sweep made same sweeps trail grows = record {
         size = k.size;
         own = λ n e. let h = k.own n e in let state = h.state in record {
           inside = h.inside;
@@ -168,18 +175,21 @@ module _ (z : Size) (b : Board) (vs : List View) (r : Kept z b vs) (id : ℕ) (v
         sweeps = sweeps;
         trail = trail;
         risen = λ h below. let t = k.risen h below in (t.0, (let l = o.later h in let low = t.1 in omega arith));
+        unclosed = λ t e. k.unclosed t (same t e);
+        grows = grows;
       }
 
       pub taken_out : (made : List Kind) → Kept z (record b { links = links'; heads = heads' }) (set vs id (record v { walk = None; sweep = option_map (unlinking moved) v.sweep; made = made }))
       taken_out made = record {
         plan = record r.plan { chain = chain'; sweep = unlinking moved r.plan.sweep; fate = gone_out };
         sized = record { small = r.sized.small; acks = r.sized.acks; atoms = r.sized.atoms; links = o.many_links ∙ r.sized.links; heads = o.many_heads ∙ r.sized.heads; texts = r.sized.texts };
-        row = r.row;
+        grow = grow_at_work z b vs r d.sweeping heads' chain' o.same_closed;
         rows = record {
-          chains = o.chains;
+          chains = λ h inside _. o.chains h inside;
+          leaves = λ ne. absurd (ne (r.grow.rest (inl (early_sweep z b vs r d.sweeping))).1);
           once = λ h k inside i. r.rows.once h k inside (o.subset h k i);
           stands = λ h k inside i. r.rows.stands h k inside (o.subset h k i);
-          unlike = λ h k q inside i j alive too e. r.rows.unlike h k q inside (o.subset h k i) (o.subset h q j) alive too e;
+          unlike = λ h g k q inside inside_too i j alive too e. r.rows.unlike h g k q inside inside_too (o.subset h k i) (o.subset g q j) alive too e;
         };
         slots = record {
           live = λ q l. r.slots.live q (was_on q l);
@@ -209,9 +219,9 @@ module _ (z : Size) (b : Board) (vs : List View) (r : Kept z b vs) (id : ℕ) (v
           };
         };
         seats = seats_stay (SeatOk z (record b { links = links'; heads = heads' }) (record r.plan { chain = chain'; sweep = unlinking moved r.plan.sweep; fate = gone_out })) vs id (record v { walk = None; sweep = option_map (unlinking moved) v.sweep; made = made })
-            (λ _. seat_out id v s None (option_map (unlinking moved) v.sweep) made (λ t none. cc) (λ q has_. let was = unmapped (unlinking moved) v.sweep q has_ in ((s.sweeps y at).0, ap (unlinking moved) (s.sweeps was.0 was.1).1 ∙ was.2)) (λ q t has_ none. cc))
+            (λ _. seat_out id v s None (option_map (unlinking moved) v.sweep) made (λ t none. cc) (λ q has_. let was = unmapped (unlinking moved) v.sweep q has_ in ((s.sweeps y at).0, ap (unlinking moved) (s.sweeps was.0 was.1).1 ∙ was.2)) (λ q t has_ none. cc) (λ q has_. let was = unmapped (unlinking moved) v.sweep q has_ in s.grows was.0 was.1))
             (λ j x other here alive. let k = r.seats j x here alive in seat_out j x k x.walk x.sweep x.made (λ t e. e)
-            (λ q has_. absurd (other (sym (k.sweeps q has_).0 ∙ (s.sweeps y at).0))) (λ q t has_. absurd (other (sym (k.sweeps q has_).0 ∙ (s.sweeps y at).0))));
+            (λ q has_. absurd (other (sym (k.sweeps q has_).0 ∙ (s.sweeps y at).0))) (λ q t has_. absurd (other (sym (k.sweeps q has_).0 ∙ (s.sweeps y at).0))) (λ q has_. absurd (other (sym (k.sweeps q has_).0 ∙ (s.sweeps y at).0))));
       }
 
   -- no walk was to come to a slot that was out
@@ -237,7 +247,7 @@ module _ (z : Size) (b : Board) (vs : List View) (r : Kept z b vs) (id : ℕ) (v
     inside_w = (s.walk w walk).inside
 
     next : get_or b.links a.slot 0 ≡ r.plan.sweep.cursor + 1
-    next = chain_next b.links (first_of (get_or b.heads w.head 0)) (trailed.news ++ slots before) a.slot r.plan.sweep.cursor ahead_.0 (subst (Chain b.links (first_of (get_or b.heads w.head 0))) split_at (r.rows.chains w.head inside_w))
+    next = chain_next b.links (first_of (get_or b.heads w.head 0)) (trailed.news ++ slots before) a.slot r.plan.sweep.cursor ahead_.0 (subst (Chain b.links (first_of (get_or b.heads w.head 0))) split_at (whole_ w.head inside_w))
 
     on_w : In a.slot (r.plan.chain w.head)
     on_w = subst (In a.slot) (sym split_at) (in_back a.slot (trailed.news ++ slots before) (a.slot ∷ r.plan.sweep.cursor ∷ ahead_.0) (0, refl))
@@ -263,7 +273,7 @@ module _ (z : Size) (b : Board) (vs : List View) (r : Kept z b vs) (id : ℕ) (v
             (λ (j : In k (r.plan.chain t.head)). elim (ℕ_discrete k r.plan.sweep.cursor) as (λ _. In k (skip a.slot (r.plan.chain t.head)) ⊎ Left (record { slot = r.plan.fate.slot; out = true; head = r.plan.fate.head; left = version_of (get_or b.heads r.plan.fate.head 0) }) t k) [
               | yes e ↦ let one : t.head ≡ w.head = here_alone t.head ok.inside (subst (λ (n : ℕ). In n (r.plan.chain t.head)) e j) in let two : r.plan.fate.head ≡ w.head = here_alone r.plan.fate.head d.inside (d.there still).0 in
                   inr (d.at ∙ ap (λ (n : ℕ). n + 1) (sym e), refl, two ∙ sym one, (let past = ok.past in let heads_ : version_of (get_or b.heads t.head 0) ≡ version_of (get_or b.heads r.plan.fate.head 0) = ap (λ (h : ℕ). version_of (get_or b.heads h 0)) (one ∙ sym two) in omega arith))
-              | no ne ↦ inl (skip_in b.links a.slot r.plan.sweep.cursor next k (first_of (get_or b.heads t.head 0)) (r.plan.chain t.head) (r.rows.chains t.head ok.inside) ne j)
+              | no ne ↦ inl (skip_in b.links a.slot r.plan.sweep.cursor next k (first_of (get_or b.heads t.head 0)) (r.plan.chain t.head) (whole_ t.head ok.inside) ne j)
             ])
             (λ (l : Left r.plan.fate t k). absurd (not_out t k l)) (u.inside k (in_skip b.links a.slot r.plan.sweep.cursor next k u.path i));
         few = let f = u.few in let l = skip_length b.links a.slot r.plan.sweep.cursor next u.path in omega (arith, f, l, length-set b.links a.slot (get_or b.links r.plan.sweep.cursor 0));
@@ -277,12 +287,13 @@ module _ (z : Size) (b : Board) (vs : List View) (r : Kept z b vs) (id : ℕ) (v
     unlink_at_ = taken_out (λ h. skip a.slot (r.plan.chain h)) (set b.links a.slot (get_or b.links r.plan.sweep.cursor 0)) b.heads false
         record {
           subset = λ h x i. in_skip b.links a.slot r.plan.sweep.cursor next x (r.plan.chain h) i;
-          most = λ h x inside i ne. skip_in b.links a.slot r.plan.sweep.cursor next x (first_of (get_or b.heads h 0)) (r.plan.chain h) (r.rows.chains h inside) ne i;
+          most = λ h x inside i ne. skip_in b.links a.slot r.plan.sweep.cursor next x (first_of (get_or b.heads h 0)) (r.plan.chain h) (whole_ h inside) ne i;
           lacks = λ h inside i. let there = in_skip b.links a.slot r.plan.sweep.cursor next r.plan.sweep.cursor (r.plan.chain h) i in let one : h ≡ w.head = here_alone h inside there in
-              skip_out b.links a.slot r.plan.sweep.cursor next (first_of (get_or b.heads h 0)) (r.plan.chain h) (r.rows.chains h inside) (subst (λ (g : ℕ). In a.slot (r.plan.chain g)) (sym one) on_w) i;
-          chains = λ h inside. path_skip b.links a.slot r.plan.sweep.cursor next (first_of (get_or b.heads h 0)) (r.plan.chain h) (r.rows.chains h inside);
+              skip_out b.links a.slot r.plan.sweep.cursor next (first_of (get_or b.heads h 0)) (r.plan.chain h) (whole_ h inside) (subst (λ (g : ℕ). In a.slot (r.plan.chain g)) (sym one) on_w) i;
+          chains = λ h inside. path_skip b.links a.slot r.plan.sweep.cursor next (first_of (get_or b.heads h 0)) (r.plan.chain h) (whole_ h inside);
           many_links = length-set b.links a.slot (get_or b.links r.plan.sweep.cursor 0);
           many_heads = refl;
+          same_closed = λ h inside. refl;
           own_link = λ k un. get_or-set_other b.links a.slot k (get_or b.links r.plan.sweep.cursor 0) 0 (λ e. un (w.head, inside_w, subst (λ (n : ℕ). In n (r.plan.chain w.head)) (sym e) on_w));
           later = λ h. omega arith;
           early = λ _. (d.there still).1;
@@ -305,7 +316,7 @@ module _ (z : Size) (b : Board) (vs : List View) (r : Kept z b vs) (id : ℕ) (v
     heads_w = omega (arith, r.sized.heads, in_w)
 
     rest : (ks : List ℕ) × (r.plan.chain w.head ≡ r.plan.sweep.cursor ∷ ks) × (r.plan.sweep.cursor < length b.links) × Chain b.links (get_or b.links r.plan.sweep.cursor 0) ks
-    rest = chain_at b.links r.plan.sweep.cursor (r.plan.chain w.head) (subst (λ (p : ℕ). Chain b.links p (r.plan.chain w.head)) (ap first_of found ∙ first) (r.rows.chains w.head in_w))
+    rest = chain_at b.links r.plan.sweep.cursor (r.plan.chain w.head) (subst (λ (p : ℕ). Chain b.links p (r.plan.chain w.head)) (ap first_of found ∙ first) (whole_ w.head in_w))
 
     abbrev chain_ : ℕ → List ℕ
     chain_ = put r.plan.chain w.head rest.0
@@ -318,6 +329,10 @@ module _ (z : Size) (b : Board) (vs : List View) (r : Kept z b vs) (id : ℕ) (v
 
     first_n : first_of (head_word (get_or b.links r.plan.sweep.cursor 0) (closed_of w.word) (version_of w.word + 1)) ≡ get_or b.links r.plan.sweep.cursor 0
     first_n = let small = chain_small b.links (get_or b.links r.plan.sweep.cursor 0) rest.0 rest.3 in let sized = r.sized.small in first-head_word (get_or b.links r.plan.sweep.cursor 0) (closed_of w.word) (version_of w.word + 1) (omega (arith, small, sized, r.sized.links)) (omega arith)
+
+    closed_n : closed_of (head_word (get_or b.links r.plan.sweep.cursor 0) (closed_of w.word) (version_of w.word + 1)) ≡ closed_of w.word
+    closed_n = let small = chain_small b.links (get_or b.links r.plan.sweep.cursor 0) rest.0 rest.3 in let sized = r.sized.small in
+        closed-head_word (get_or b.links r.plan.sweep.cursor 0) (closed_of w.word) (version_of w.word + 1) (omega (arith, small, sized, r.sized.links)) (omega arith)
 
     version_n : version_of (head_word (get_or b.links r.plan.sweep.cursor 0) (closed_of w.word) (version_of w.word + 1)) ≡ version_of (get_or b.heads w.head 0) + 1
     version_n = let small = chain_small b.links (get_or b.links r.plan.sweep.cursor 0) rest.0 rest.3 in let sized = r.sized.small in
@@ -339,7 +354,7 @@ module _ (z : Size) (b : Board) (vs : List View) (r : Kept z b vs) (id : ℕ) (v
     not_rest : (h : ℕ) → h < z.heads → In r.plan.sweep.cursor (put r.plan.chain w.head rest.0 h) → ⊥
     not_rest h inside i = elim (ℕ_discrete h w.head) as (λ _. ⊥) [
       | yes e ↦ let j : In r.plan.sweep.cursor rest.0 = subst (In r.plan.sweep.cursor) (ap (put r.plan.chain w.head rest.0) e ∙ at_w) i in
-          let twice = chain_once b.links (first_of (get_or b.heads w.head 0)) (r.plan.chain w.head) 0 (suc j.0) r.plan.sweep.cursor (r.rows.chains w.head in_w) (ap (λ (l : List ℕ). get_elem? l 0) rest.1) (ap (λ (l : List ℕ). get_elem? l (suc j.0)) rest.1 ∙ j.1) in omega arith
+          let twice = chain_once b.links (first_of (get_or b.heads w.head 0)) (r.plan.chain w.head) 0 (suc j.0) r.plan.sweep.cursor (whole_ w.head in_w) (ap (λ (l : List ℕ). get_elem? l 0) rest.1) (ap (λ (l : List ℕ). get_elem? l (suc j.0)) rest.1 ∙ j.1) in omega arith
       | no ne ↦ ne (sym (r.rows.once h r.plan.sweep.cursor inside (subst (In r.plan.sweep.cursor) (put_else r.plan.chain w.head rest.0 h ne) i)) ∙ r.rows.once w.head r.plan.sweep.cursor in_w (subst (In r.plan.sweep.cursor) (sym rest.1) (0, refl)))
     ]
 
@@ -384,10 +399,11 @@ module _ (z : Size) (b : Board) (vs : List View) (r : Kept z b vs) (id : ℕ) (v
           chains = λ h inside. elim (ℕ_discrete h w.head) as (λ _. Chain b.links (first_of (get_or (set b.heads w.head n) h 0)) (put r.plan.chain w.head rest.0 h)) [
             | yes e ↦ subst (λ (g : ℕ). Chain b.links (first_of (get_or (set b.heads w.head n) g 0)) (put r.plan.chain w.head rest.0 g)) (sym e)
                 (subst (Chain b.links (first_of (get_or (set b.heads w.head n) w.head 0))) (sym at_w) (subst (λ (p : ℕ). Chain b.links p rest.0) (sym (ap first_of (get_or-set_same b.heads w.head n 0 heads_w) ∙ first_n)) rest.3))
-            | no ne ↦ subst (Chain b.links (first_of (get_or (set b.heads w.head n) h 0))) (sym (put_else r.plan.chain w.head rest.0 h ne)) (subst (λ (m : ℕ). Chain b.links (first_of m) (r.plan.chain h)) (sym (get_or-set_other b.heads w.head h n 0 ne)) (r.rows.chains h inside))
+            | no ne ↦ subst (Chain b.links (first_of (get_or (set b.heads w.head n) h 0))) (sym (put_else r.plan.chain w.head rest.0 h ne)) (subst (λ (m : ℕ). Chain b.links (first_of m) (r.plan.chain h)) (sym (get_or-set_other b.heads w.head h n 0 ne)) (whole_ h inside))
           ];
           many_links = refl;
           many_heads = length-set b.heads w.head n;
+          same_closed = λ h inside. word_after (λ m. closed_of m ≡ closed_of (get_or b.heads h 0)) b.heads w.head n h heads_w (λ e. closed_n ∙ (ap closed_of (sym found) ∙ ap (λ (g : ℕ). closed_of (get_or b.heads g 0)) (sym e))) (λ _. refl);
           own_link = λ k un. refl;
           later = λ h. word_after (λ m. version_of (get_or b.heads h 0) ≤ version_of m) b.heads w.head n h heads_w (λ e. let same = ap (λ (g : ℕ). version_of (get_or b.heads g 0)) e in omega arith) (λ _. omega arith);
           early = λ e. cc;
@@ -428,6 +444,9 @@ module _ (z : Size) (b : Board) (vs : List View) (r : Kept z b vs) (id : ℕ) (v
   version_bumped : version_of (head_word (first_of (get_or b.heads r.plan.fate.head 0)) (closed_of (get_or b.heads r.plan.fate.head 0)) (version_of (get_or b.heads r.plan.fate.head 0) + 1)) ≡ version_of (get_or b.heads r.plan.fate.head 0) + 1
   version_bumped = version-head_word (first_of (get_or b.heads r.plan.fate.head 0)) (closed_of (get_or b.heads r.plan.fate.head 0)) (version_of (get_or b.heads r.plan.fate.head 0) + 1) (omega arith) (omega arith)
 
+  closed_bumped : closed_of (head_word (first_of (get_or b.heads r.plan.fate.head 0)) (closed_of (get_or b.heads r.plan.fate.head 0)) (version_of (get_or b.heads r.plan.fate.head 0) + 1)) ≡ closed_of (get_or b.heads r.plan.fate.head 0)
+  closed_bumped = closed-head_word (first_of (get_or b.heads r.plan.fate.head 0)) (closed_of (get_or b.heads r.plan.fate.head 0)) (version_of (get_or b.heads r.plan.fate.head 0) + 1) (omega arith) (omega arith)
+
   further : version_of (get_or b.heads r.plan.fate.head 0) < version_of (head_word (first_of (get_or b.heads r.plan.fate.head 0)) (closed_of (get_or b.heads r.plan.fate.head 0)) (version_of (get_or b.heads r.plan.fate.head 0) + 1))
   further = let version = version_bumped in omega arith
 
@@ -438,8 +457,9 @@ module _ (z : Size) (b : Board) (vs : List View) (r : Kept z b vs) (id : ℕ) (v
   seat_bumped : (j : ℕ) (x : View) → SeatOk z b r.plan j x → (walk : Option Walk) (sweep : Option Sweeping) (made : List Kind) → ((t : Walk) → walk ≡ Some t → x.walk ≡ Some t)
       → ((q : Sweeping) → sweep ≡ Some q → (r.plan.collector ≡ j) × (moving_past r.plan.sweep ≡ q))
       → ((q : Sweeping) (t : Walk) → sweep ≡ Some q → walk ≡ Some t → Trail b.epoch b.row b.links (set b.heads r.plan.fate.head bumped) r.plan.chain q t)
+      → ((q : Sweeping) → sweep ≡ Some q → r.plan.grow ≡ x.growing)
       → SeatOk z (with_head b r.plan.fate.head bumped) (record r.plan { sweep = moving_past r.plan.sweep }) j (record x { walk = walk; sweep = sweep; made = made })
-  seat_bumped j x k walk sweep made same sweeps trail = record {
+  seat_bumped j x k walk sweep made same sweeps trail grows = record {
     size = k.size;
     own = k.own;
     held = k.held;
@@ -451,16 +471,20 @@ module _ (z : Size) (b : Board) (vs : List View) (r : Kept z b vs) (id : ℕ) (v
     sweeps = sweeps;
     trail = trail;
     risen = λ g below. let t = k.risen g below in (t.0, not_lower g z.start t.1);
+    unclosed = λ t e. k.unclosed t (same t e);
+    grows = grows;
   }
 
   bump_at : Kept z (with_head b r.plan.fate.head bumped) (set vs id (view_after v Bump))
   bump_at = record {
     plan = record r.plan { sweep = moving_past r.plan.sweep };
     sized = record { small = r.sized.small; acks = r.sized.acks; atoms = r.sized.atoms; links = r.sized.links; heads = length-set b.heads r.plan.fate.head bumped ∙ r.sized.heads; texts = r.sized.texts };
-    row = r.row;
+    grow = grow_at_work z b vs r d.sweeping (set b.heads r.plan.fate.head bumped) r.plan.chain
+        (λ g inside. word_after (λ m. closed_of m ≡ closed_of (get_or b.heads g 0)) b.heads r.plan.fate.head bumped g heads_h (λ e. closed_bumped ∙ ap (λ (q : ℕ). closed_of (get_or b.heads q 0)) (sym e)) (λ _. refl));
     rows = record {
-      chains = λ g i. word_after (λ m. Chain b.links (first_of m) (r.plan.chain g)) b.heads r.plan.fate.head bumped g heads_h
-          (λ e. subst (λ (p : ℕ). Chain b.links p (r.plan.chain g)) (ap (λ (q : ℕ). first_of (get_or b.heads q 0)) e ∙ sym first_bumped) (r.rows.chains g i)) (λ _. r.rows.chains g i);
+      leaves = λ ne. absurd (ne (r.grow.rest (inl (early_sweep z b vs r d.sweeping))).1);
+      chains = λ g i _. word_after (λ m. Chain b.links (first_of m) (r.plan.chain g)) b.heads r.plan.fate.head bumped g heads_h
+          (λ e. subst (λ (p : ℕ). Chain b.links p (r.plan.chain g)) (ap (λ (q : ℕ). first_of (get_or b.heads q 0)) e ∙ sym first_bumped) (chains_at_work z b vs r d.sweeping g i)) (λ _. chains_at_work z b vs r d.sweeping g i);
       once = r.rows.once;
       stands = r.rows.stands;
       unlike = r.rows.unlike;
@@ -486,9 +510,9 @@ module _ (z : Size) (b : Board) (vs : List View) (r : Kept z b vs) (id : ℕ) (v
       };
     };
     seats = seats_stay (SeatOk z (with_head b r.plan.fate.head bumped) (record r.plan { sweep = moving_past r.plan.sweep })) vs id (view_after v Bump)
-        (λ _. seat_bumped id v s None (option_map moving_past v.sweep) (v.made ++ Bump ∷ []) (λ t none. cc) (λ q has_. let was = unmapped moving_past v.sweep q has_ in ((s.sweeps y at).0, ap moving_past (s.sweeps was.0 was.1).1 ∙ was.2)) (λ q t has_ none. cc))
+        (λ _. seat_bumped id v s None (option_map moving_past v.sweep) (v.made ++ Bump ∷ []) (λ t none. cc) (λ q has_. let was = unmapped moving_past v.sweep q has_ in ((s.sweeps y at).0, ap moving_past (s.sweeps was.0 was.1).1 ∙ was.2)) (λ q t has_ none. cc) (λ q has_. let was = unmapped moving_past v.sweep q has_ in s.grows was.0 was.1))
         (λ j x other here alive. let k = r.seats j x here alive in seat_bumped j x k x.walk x.sweep x.made (λ t e. e)
-        (λ q has_. absurd (other (sym (k.sweeps q has_).0 ∙ (s.sweeps y at).0))) (λ q t has_. absurd (other (sym (k.sweeps q has_).0 ∙ (s.sweeps y at).0))));
+        (λ q has_. absurd (other (sym (k.sweeps q has_).0 ∙ (s.sweeps y at).0))) (λ q t has_. absurd (other (sym (k.sweeps q has_).0 ∙ (s.sweeps y at).0))) (λ q has_. absurd (other (sym (k.sweeps q has_).0 ∙ (s.sweeps y at).0))));
   }
 
 pub keep_bump : (z : Size) (b : Board) (vs : List View) (r : Kept z b vs) (id : ℕ) (v : View) → SeatOk z b r.plan id v → (b' : Board) → Does z b v Bump b' → Kept z b' (set vs id (view_after v Bump))

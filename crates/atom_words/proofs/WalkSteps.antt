@@ -1,12 +1,12 @@
 -- Each raw step of a walk, of linking and of fetching is of its kind. For the crates above.
-use Rattle.std.proofs.Common.{◌≡◌, ◌≢◌, ◌⊎◌, ℕ, ◌+◌, ◌-◌, ◌*◌, ◌<◌, ◌≤◌, eqb, true, false, List, [], ◌∷◌, ◌++◌, length, get_or, take, drop, bit_or, refl, sym, ap, ◌∙◌, subst, inl, ⊎_elim, arith, Some, None, take_all, get_or-drop, get_or-take}
+use Rattle.std.proofs.Common.{◌≡◌, ◌≢◌, ◌⊎◌, ℕ, ◌+◌, ◌-◌, ◌*◌, ◌^◌, ◌<◌, ◌≤◌, eqb, true, false, List, [], ◌∷◌, ◌++◌, length, get_or, take, drop, bit_or, refl, sym, ap, ◌∙◌, subst, inl, ⊎_elim, arith, Some, None, take_all, get_or-drop, get_or-take}
 use mathlib.Core.Logic.{dite}
 use mathlib.Core.Option.{none, some}
 use lib.ListN.{get_elem?}
 use native.Mathlib.Decide.{ℕ_discrete, dec_le}
 use prog.Atomic.{either}
 use Rattle.atomic_table.specs.Table.{step, Allows}
-use Rattle.atom_words.specs.Layout.{state_of, first_of, closed_of, version_of, head_word, worn}
+use Rattle.atom_words.specs.Layout.{state_of, first_of, closed_of, version_of, head_word, worn, row_first}
 use Rattle.atom_words.specs.Board.{Board, laid, atom, link, head, atom_at, link_at, head_at, text_at, text_of, with_atom}
 use Rattle.atom_words.specs.Chains.{In, Chain}
 use Rattle.atom_words.specs.Views.{uncounted}
@@ -29,6 +29,7 @@ use Rattle.atom_words.proofs.Regions.{head_read, text_read}
 use Rattle.atom_words.proofs.Slices.{some_same, or_at, last_same, text_short}
 use Rattle.atom_words.proofs.AtomSteps.{has, alone_at}
 use Rattle.atom_words.proofs.Loads.{in_chain}
+use Rattle.atom_words.proofs.Rowing.{bucket_in, rows_apart}
 use Rattle.atom_words.proofs.Steps.{or_mark}
 use Rattle.atom_words.proofs.Adapters.{Sat, load_at, link_load, head_load, text_load, epoch_load, atom_goes, link_goes, head_exchange}
 
@@ -175,14 +176,19 @@ module _ (key : Size) (slots id : ℕ) (me : Sat) (is : key ≡ me.0.size) (here
       (link_goes key me.0.size slots id me o.slot (λ _. x) (λ _. link_put (step slots (link_at me.0.size o.slot) x 0 none) me x) is here inside
       (λ b vs r seen small. (PutLink x, (o, own, un, refl), (refl, refl))))
 
-  -- the bucket is that of the first row, whose size the row word has
-  pub linking : (i : ℕ) (o : Own) (w : Walk) → me.0.own ≡ Some o → me.0.walk ≡ Some w → o.linked ≡ false → length o.text ≡ 32 → o.link ≡ Some (first_of w.word) → Ended 8 o w → closed_of w.word ≡ 0 → version_of w.word < worn
+  -- the head is open, so that the bucket is that of the row in use
+  row_in_use : (row : ℕ) (o : Own) (w : Walk) → 256 ≤ 2 ^ row → Ended row o w → w.head < me.0.size.heads → closed_of w.word ≡ 0 → (b : Board) (vs : List View) (r : Kept me.0.size b vs) → head b w.head ≡ w.word → row ≡ b.row
+  row_in_use row o w wide ended inside open_ b vs r hit = let c = r.grow.closed w.head inside (ap closed_of hit ∙ open_) in let at = bucket_in row o.text wide in
+      dite (ℕ_discrete row b.row) (λ (e : row ≡ b.row). e)
+      (λ (ne : row ≢ b.row). absurd (rows_apart row b.row w.head wide r.grow.size.0 ne (subst (λ (n : ℕ). row_first row ≤ n) ended.0 at.0) (subst (λ (n : ℕ). n < row_first row + 2 ^ row) ended.0 at.1) (omega (arith, c.0)) c.1))
+
+  pub linking : (i row : ℕ) (o : Own) (w : Walk) → 256 ≤ 2 ^ row → me.0.own ≡ Some o → me.0.walk ≡ Some w → o.linked ≡ false → length o.text ≡ 32 → o.link ≡ Some (first_of w.word) → Ended row o w → closed_of w.word ≡ 0 → version_of w.word < worn
       → w.head < me.0.size.heads → i ≡ head_at me.0.size w.head
       → Allows (Rule key) slots id me i (λ n. either (eqb n w.word) (head_word (o.slot + 1) 0 (version_of w.word + 1)) n) (slot_linked (step slots i w.word (head_word (o.slot + 1) 0 (version_of w.word + 1)) none) me)
-  linking i o w own walk un whole link_is ended open_ fresh inside at = let new : ℕ = head_word (o.slot + 1) 0 (version_of w.word + 1) in
+  linking i row o w wide own walk un whole link_is ended open_ fresh inside at = let new : ℕ = head_word (o.slot + 1) 0 (version_of w.word + 1) in
       subst (λ (x : ℕ). Allows (Rule key) slots id me x (λ n. either (eqb n w.word) new n) (slot_linked (step slots x w.word new none) me)) (sym at)
       (head_exchange key me.0.size slots id me w.head w.word new (slot_linked (step slots (head_at me.0.size w.head) w.word new none) me) is here inside
-      (λ b vs r seen hit. (Link, (o, w, own, walk, un, whole, link_is, subst (λ (n : ℕ). Ended n o w) (sym r.row) ended, hit, open_, fresh, refl), (refl, (λ _. refl), λ ne. absurd (ne hit))))
+      (λ b vs r seen hit. (Link, (o, w, own, walk, un, whole, link_is, subst (λ (n : ℕ). Ended n o w) (row_in_use row o w wide ended inside open_ b vs r hit) ended, hit, open_, fresh, refl), (refl, (λ _. refl), λ ne. absurd (ne hit))))
       (λ b vs r seen miss. let moved : version_of (head b w.head) ≢ version_of w.word = (λ same. miss (((r.seats id me.0 seen here).walk w walk).word same)) in
       (Refuse (Again (Moved w.word (head b w.head))), ((w, walk, refl, inside, refl, moved), refl), (refl, (λ e. absurd (miss e)), λ _. (moved, refl)))))
 

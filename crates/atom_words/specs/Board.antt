@@ -65,6 +65,9 @@ text_of texts k = take 32 (drop (32 * k) texts)
 abbrev pub with_epoch : Board → ℕ → Board
 with_epoch b x = record b { epoch = x }
 
+abbrev pub with_row : Board → ℕ → Board
+with_row b r = record b { row = r }
+
 abbrev pub with_ack : Board → ℕ → ℕ → Board
 with_ack b e x = record b { acks = set b.acks e x }
 

@@ -1,11 +1,12 @@
 -- What every reached state keeps.
-use Rattle.std.specs.Prelude.{◌≡◌, ◌≢◌, ◌⊎◌, ℕ, ◌+◌, ◌-◌, ◌<◌, ◌≤◌, Bool, true, false, List, [], ◌++◌, length, take, map, slice_index, Option, Some}
+use Rattle.std.specs.Prelude.{◌≡◌, ◌≢◌, ◌⊎◌, ℕ, ◌+◌, ◌-◌, ◌^◌, ◌<◌, ◌≤◌, Bool, true, false, List, [], ◌∷◌, ◌++◌, length, take, map, slice_index, Option, Some, None}
 use mathlib.Core.Option.{some}
 use lib.ListN.{get_elem?}
-use Rattle.atom_words.specs.Layout.{state_of, mark_of, count_of, first_of, version_of, last, phase_of, epoch_of}
+use Rattle.atom_words.specs.Layout.{state_of, mark_of, count_of, first_of, closed_of, version_of, worn, last, phase_of, epoch_of, row_first}
 use Rattle.atom_words.specs.Texts.{bucket}
 use Rattle.atom_words.specs.Board.{Board, Sized, text_of}
 use Rattle.atom_words.specs.Chains.{In, Chain, Linked}
+use Rattle.atom_words.specs.Kinds.{RowOk}
 use Rattle.atom_words.specs.declared.size.Size.{Size}
 use Rattle.atom_words.specs.declared.view.Held.{Held}
 use Rattle.atom_words.specs.declared.view.Counted.{Counted}
@@ -13,6 +14,7 @@ use Rattle.atom_words.specs.declared.view.Own.{Own}
 use Rattle.atom_words.specs.declared.view.Walk.{Walk}
 use Rattle.atom_words.specs.declared.view.Cycling.{Cycling}
 use Rattle.atom_words.specs.declared.view.Sweeping.{Sweeping}
+use Rattle.atom_words.specs.declared.view.Growing.{Growing}
 use Rattle.atom_words.specs.declared.view.View.{View}
 
 -- the dying slot: 0 or its number plus one; whether it is out of its chain; that chain's head; and the head's version as it was taken out
@@ -22,7 +24,7 @@ pub record Fate : Type 0 where
   pub head : ℕ
   pub left : ℕ
 
--- what stands in no word: the chain of each head, the head of each linked slot, the seat that owns each reserved slot, the keeper's seat, the collector's and each engine's, what the collector knows, and the dying slot
+-- what stands in no word: the chain of each head, the head of each linked slot, the seat that owns each reserved slot, the keeper's seat, the collector's and each engine's, what the collector knows of the cycle and of the rows, and the dying slot. A slot that is moved to another row stands in the chain of its new head as soon as it is put there
 pub record Plan : Type 0 where
   pub chain : ℕ → List ℕ
   pub place : ℕ → ℕ
@@ -31,6 +33,7 @@ pub record Plan : Type 0 where
   pub collector : ℕ
   pub engine : ℕ → ℕ
   pub sweep : Sweeping
+  pub grow : Growing
   pub fate : Fate
 
 -- the slot that the seat j has reserved
@@ -112,14 +115,15 @@ pub record MarksOk (z : Size) (epoch : ℕ) (acks atoms : List ℕ) (engine : �
 abbrev pub slots : List Held → List ℕ
 slots seen = map (λ a. a.slot) seen
 
--- The collector's walk, whatever the version, since only the collector takes slots out: the chain is the slots linked since, those that it passed, and those to come. In a sweep no version becomes the last while it walks. The slot that the sweep has come to, once its text is spelled, is in no other chain, and is not missed
+-- The collector's walk, whatever the version, since only the collector takes slots out: the chain is the slots linked since, those that it passed, and those to come. In a sweep no version becomes the last while it walks. The slot that the sweep has come to, once its text is spelled, is in no other chain, and is not missed. A closed head is the word that the walk found
 pub record Trail (epoch row : ℕ) (links heads : List ℕ) (chain : ℕ → List ℕ) (y : Sweeping) (w : Walk) : Type 0 where
   pub news : List ℕ
   pub path : List ℕ
   pub whole : chain w.head ≡ news ++ (slots w.seen ++ path)
   pub reached : Chain links w.place path
   pub fresh : phase_of epoch ≡ 2 → version_of w.word < last → version_of (slice_index heads w.head) < last
-  pub ahead : y.sure ≡ true → length y.text ≡ 32 → y.unlinked ≡ false → bucket row y.text ≡ w.head → In y.cursor (slots w.seen ++ path)
+  pub ahead : phase_of epoch ≡ 2 → y.sure ≡ true → length y.text ≡ 32 → y.unlinked ≡ false → bucket row y.text ≡ w.head → In y.cursor (slots w.seen ++ path)
+  pub still : closed_of (slice_index heads w.head) ≢ 0 → slice_index heads w.head ≡ w.word
 
 -- what the seat j knows is so
 pub record SeatOk (z : Size) (b : Board) (p : Plan) (j : ℕ) (v : View) : Type 0 where
@@ -134,13 +138,42 @@ pub record SeatOk (z : Size) (b : Board) (p : Plan) (j : ℕ) (v : View) : Type 
   pub sweeps : (y : Sweeping) → v.sweep ≡ Some y → (p.collector ≡ j) × (p.sweep ≡ y)
   pub trail : (y : Sweeping) (w : Walk) → v.sweep ≡ Some y → v.walk ≡ Some w → Trail b.epoch b.row b.links b.heads p.chain y w
   pub risen : (h : ℕ) → h < v.risen → (h < z.heads) × (z.start ≤ version_of (slice_index b.heads h))
+  pub unclosed : (w : Walk) → v.walk ≡ Some w → (p.collector ≡ j → ⊥) → closed_of w.word ≡ 0
+  pub grows : (y : Sweeping) → v.sweep ≡ Some y → p.grow ≡ v.growing
 
--- the chains: each linked slot is reached from one head, that of its text's bucket, and no two in a chain have equal texts, the dying one aside
-pub record Rows (z : Size) (row : ℕ) (links heads texts : List ℕ) (chain : ℕ → List ℕ) (place : ℕ → ℕ) (f : Fate) : Type 0 where
-  pub chains : (h : ℕ) → h < z.heads → Chain links (first_of (slice_index heads h)) (chain h)
+-- the chain of the head h is being left by its last slot, which stands in its new chain too
+abbrev pub Leaving : ℕ → Growing → ℕ → Type 0
+Leaving row g h = (g.moving ≢ 0) × (h ≡ row_first row + g.moved)
+
+-- the chains: each linked slot is reached from one head, that of its text's bucket in the row in use or, while all its heads are closed, in the one that is to take its place; the slot that is moved is reached from its old head too. No two have equal texts, the dying one aside
+pub record Rows (z : Size) (row : ℕ) (g : Growing) (links heads texts : List ℕ) (chain : ℕ → List ℕ) (place : ℕ → ℕ) (f : Fate) : Type 0 where
+  pub chains : (h : ℕ) → h < z.heads → (Leaving row g h → ⊥) → Chain links (first_of (slice_index heads h)) (chain h)
+  pub leaves : g.moving ≢ 0 → Chain links (first_of (slice_index heads (row_first row + g.moved))) (chain (row_first row + g.moved) ++ (g.moving - 1) ∷ [])
   pub once : (h k : ℕ) → h < z.heads → In k (chain h) → place k ≡ h
-  pub stands : (h k : ℕ) → h < z.heads → In k (chain h) → bucket row (text_of texts k) ≡ h
-  pub unlike : (h k q : ℕ) → h < z.heads → In k (chain h) → In q (chain h) → k + 1 ≢ f.slot → q + 1 ≢ f.slot → text_of texts k ≡ text_of texts q → k ≡ q
+  pub stands : (h k : ℕ) → h < z.heads → In k (chain h) → (bucket row (text_of texts k) ≡ h) ⊎ ((g.shut ≡ 2 ^ row) × (bucket g.aim (text_of texts k) ≡ h))
+  pub unlike : (h i k q : ℕ) → h < z.heads → i < z.heads → In k (chain h) → In q (chain i) → k + 1 ≢ f.slot → q + 1 ≢ f.slot → text_of texts k ≡ text_of texts q → k ≡ q
+
+-- what stands before the last slot of a chain: nothing, or a slot that is named
+abbrev pub LastBefore : ℕ → List ℕ → Type 0
+LastBefore before xs = ((before ≡ 0) × (xs ≡ [])) ⊎ ((q : ℕ) × (ys : List ℕ) × (before ≡ q + 1) × (xs ≡ ys ++ q ∷ []))
+
+-- The rows of buckets. The open heads are those of the row in use, but for the first of them where a row is put in its place, which happens between cycles; no closed one of them has the last version. Of the other row so many heads, from the first on, are not worn. Only where all heads of the row in use are closed, and another is to take its place, are its chains moved: those up to one are empty, and of the next the last slot, with its text, may be known, or has been put in its new chain
+pub record GrowOk (z : Size) (epoch row : ℕ) (heads texts : List ℕ) (chain : ℕ → List ℕ) (g : Growing) : Type 0 where
+  pub known : g.row ≡ row
+  pub size : RowOk z row
+  pub aim : RowOk z g.aim
+  pub most : g.shut ≤ 2 ^ row
+  pub closed : (h : ℕ) → h < z.heads → closed_of (slice_index heads h) ≡ 0 → (row_first row + g.shut ≤ h) × (h < row_first row + 2 ^ row)
+  pub opened : (h : ℕ) → row_first row + g.shut ≤ h → h < row_first row + 2 ^ row → closed_of (slice_index heads h) ≡ 0
+  pub idle : 0 < g.shut → phase_of epoch ≡ 0
+  pub firm : (h : ℕ) → row_first row ≤ h → h < row_first row + g.shut → version_of (slice_index heads h) < last
+  pub begun : 0 < g.sound → 0 < g.shut
+  pub few : g.sound ≤ 2 ^ g.aim
+  pub sound : g.aim ≢ row → (h : ℕ) → row_first g.aim ≤ h → h < row_first g.aim + g.sound → version_of (slice_index heads h) < worn
+  pub rest : (g.shut < 2 ^ row) ⊎ (g.aim ≡ row) → (g.moved ≡ 0) × (g.moving ≡ 0) × (g.picked ≡ None)
+  pub emptied : (h : ℕ) → row_first row ≤ h → h < row_first row + g.moved → chain h ≡ []
+  pub picked : (a : Held) → g.picked ≡ Some a → (g.moved < 2 ^ row) × (text_of texts a.slot ≡ a.text) × ((xs : List ℕ) × (chain (row_first row + g.moved) ≡ xs ++ a.slot ∷ []) × LastBefore g.before xs)
+  pub there : g.moving ≢ 0 → (g.moved < 2 ^ row) × Linked z.heads chain (g.moving - 1) × LastBefore g.before (chain (row_first row + g.moved))
 
 -- the states of the slots: a linked slot is reserved, valid or the dying one, and a valid slot is linked; one that is not valid is not counted; and those below 256 that hold no fixed atom stand reserved
 pub record Slots (z : Size) (atoms : List ℕ) (chain : ℕ → List ℕ) (f : Fate) : Type 0 where
@@ -192,8 +225,8 @@ pub record FateOk (z : Size) (epoch : ℕ) (links heads : List ℕ) (chain : ℕ
 pub record Kept (z : Size) (b : Board) (vs : List View) : Type 0 where
   pub plan : Plan
   pub sized : Sized z b
-  pub row : b.row ≡ 8
-  pub rows : Rows z b.row b.links b.heads b.texts plan.chain plan.place plan.fate
+  pub grow : GrowOk z b.epoch b.row b.heads b.texts plan.chain plan.grow
+  pub rows : Rows z b.row plan.grow b.links b.heads b.texts plan.chain plan.place plan.fate
   pub slots : Slots z b.atoms plan.chain plan.fate
   pub cycle : CycleOk z b.epoch b.acks plan.sweep
   pub sure : SureOk z b.atoms b.texts plan.sweep

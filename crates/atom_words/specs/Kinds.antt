@@ -1,10 +1,10 @@
 -- The kinds of steps: what each asks of the words and of the seat's view, what it does to the words, and the view after it.
-use Rattle.std.specs.Prelude.{◌≡◌, ◌≢◌, ◌⊎◌, ℕ, ◌+◌, ◌-◌, ◌*◌, ◌%◌, ◌<◌, ◌≤◌, ◌==◌, ◌&&◌, ◌||◌, nat_lt, Bool, true, false, if◌then◌else◌, List, [], ◌∷◌, ◌++◌, length, take, set, get_or, slice_index, Option, Some, None, option_map}
+use Rattle.std.specs.Prelude.{◌≡◌, ◌≢◌, ◌⊎◌, ℕ, ◌+◌, ◌-◌, ◌*◌, ◌%◌, ◌<◌, ◌≤◌, ◌^◌, ◌==◌, ◌&&◌, ◌||◌, nat_lt, Bool, true, false, if◌then◌else◌, List, [], ◌∷◌, ◌++◌, length, take, set, get_or, slice_index, Option, Some, None, option_map}
 use mathlib.Core.Option.{some}
 use lib.ListN.{get_elem?}
-use Rattle.atom_words.specs.Layout.{state_of, mark_of, first_of, closed_of, version_of, head_word, worn, last, epoch_word, phase_of, epoch_of}
+use Rattle.atom_words.specs.Layout.{state_of, mark_of, first_of, closed_of, version_of, head_word, worn, last, epoch_word, phase_of, epoch_of, row_first}
 use Rattle.atom_words.specs.Texts.{bucket}
-use Rattle.atom_words.specs.Board.{Board, laid, atom_at, atom, link, head, text_of, with_epoch, with_ack, with_atom, with_link, with_head, with_text}
+use Rattle.atom_words.specs.Board.{Board, laid, atom_at, atom, link, head, text_of, with_epoch, with_row, with_ack, with_atom, with_link, with_head, with_text}
 use Rattle.atom_words.specs.Chains.{In}
 use Rattle.atom_words.specs.Views.{uncounted}
 use Rattle.atom_words.specs.declared.size.Size.{Size}
@@ -14,6 +14,7 @@ use Rattle.atom_words.specs.declared.view.Own.{Own}
 use Rattle.atom_words.specs.declared.view.Walk.{Walk}
 use Rattle.atom_words.specs.declared.view.Cycling.{Cycling}
 use Rattle.atom_words.specs.declared.view.Sweeping.{Sweeping}
+use Rattle.atom_words.specs.declared.view.Growing.{Growing}
 use Rattle.atom_words.specs.declared.view.Passing.{Passing}
 use Rattle.atom_words.specs.declared.view.Pass.{Pass}
 use Rattle.atom_words.specs.declared.view.Cause.TheVariants.{Moved, Pending, Closed}
@@ -21,7 +22,7 @@ use Rattle.atom_words.specs.declared.view.Refusal.{Refusal}
 use Rattle.atom_words.specs.declared.view.Refusal.TheVariants.{Full, Again, Worn}
 use Rattle.atom_words.specs.declared.view.View.{View}
 use Rattle.atom_words.specs.declared.kind.Kind.{Kind}
-use Rattle.atom_words.specs.declared.kind.Kind.TheVariants.{Raise, Risen, Reserve, PutWord, PutLink, Link, Validate, Release, Load, Refused, Start, Read, Next, Skip, Hold, Keep, Fix, StartPass, EndPass, Refuse, Ask, Protect, Fetch, Register, Unregister, Begin, Mark, Scan, Ack, Check, ToSweep, Look, Spell, Condemn, PassOver, Behind, UnlinkAt, UnlinkHead, Note, Bump, Past, Free, End}
+use Rattle.atom_words.specs.declared.kind.Kind.TheVariants.{Raise, Risen, Reserve, PutWord, PutLink, Link, Validate, Release, Load, Refused, Start, Read, Next, Skip, Hold, Keep, Fix, StartPass, EndPass, Refuse, Ask, Protect, Fetch, Register, Unregister, Begin, Mark, Scan, Ack, Check, ToSweep, Look, Spell, Condemn, PassOver, Behind, UnlinkAt, UnlinkHead, Note, Bump, Past, Free, End, Aim, Sound, Close, Emptied, Pick, MoveHead, MoveLink, LeaveHead, LeaveLink, PublishRow, Publish}
 
 -- the word with its mark set
 abbrev pub marked : ℕ → ℕ
@@ -193,6 +194,59 @@ freeing y = record y { sure = false; text = []; dying = 0; behind = None; unlink
 abbrev pub ending : Sweeping → Sweeping
 ending y = record y { word = epoch_word 0 (epoch_of y.word) }
 
+-- a row has 256 heads at least, and the table has its heads
+abbrev pub RowOk : Size → ℕ → Type 0
+RowOk z row = (256 ≤ 2 ^ row) × (2 ^ row + 2 ^ row ≤ z.heads + 256)
+
+-- The collector, where no cycle is at work
+abbrev pub Idle : View → Type 0
+Idle v = (y : Sweeping) × (v.sweep ≡ Some y) × (phase_of y.word ≡ 0)
+
+-- all heads of the row in use are closed, and another row is to take its place
+abbrev pub MovesChains : View → Type 0
+MovesChains v = Idle v × (v.growing.shut ≡ 2 ^ v.growing.row) × (v.growing.aim ≢ v.growing.row)
+
+-- the head of the chain that is to be moved next, or is being moved
+abbrev pub old_head : Growing → ℕ
+old_head g = row_first g.row + g.moved
+
+abbrev pub aiming : ℕ → Growing → Growing
+aiming row g = record g { aim = row; sound = 0 }
+
+abbrev pub sounding : Growing → Growing
+sounding g = record g { sound = g.sound + 1 }
+
+abbrev pub closing : Growing → Growing
+closing g = record g { shut = g.shut + 1 }
+
+abbrev pub emptying : Growing → Growing
+emptying g = record g { moved = g.moved + 1; picked = None }
+
+abbrev pub picking : Held → ℕ → Growing → Growing
+picking a before g = record g { picked = Some a; before = before }
+
+-- 0, or 1 more than the slot picked
+abbrev pub picked_slot : Option Held → ℕ
+picked_slot None = 0
+picked_slot (Some a) = a.slot + 1
+
+abbrev pub moving : Growing → Growing
+moving g = record g { picked = None; moving = picked_slot g.picked }
+
+abbrev pub leaving : Growing → Growing
+leaving g = record g { moving = 0 }
+
+-- the row is in use, and all its heads are closed; and one head fewer is
+abbrev pub publishing : ℕ → Growing → Growing
+publishing row g = record g { row = row; shut = 2 ^ row; sound = 0; moved = 0; picked = None }
+
+abbrev pub opening : Growing → Growing
+opening g = record g { shut = g.shut - 1; sound = 0 }
+
+-- the slot picked is the last of its chain: it is the first, too, or stands behind that other slot
+abbrev pub Picks : Walk → Held → ℕ → Type 0
+Picks w a before = ((w.seen ≡ a ∷ []) × (first_of w.word ≡ a.slot + 1) × (before ≡ 0)) ⊎ ((front : List Held) × (c : Held) × (w.seen ≡ front ++ c ∷ a ∷ []) × (before ≡ c.slot + 1))
+
 -- THE VIEW AFTER A STEP
 abbrev pub view_after : View → Kind → View
 view_after v (Raise h) = record v { risen = rising h v.risen; made = v.made ++ Raise h ∷ [] }
@@ -237,6 +291,17 @@ view_after v Bump = record v { walk = None; sweep = option_map moving_past v.swe
 view_after v (Past x) = record v { sweep = option_map moving_past v.sweep; made = v.made ++ Past x ∷ [] }
 view_after v Free = record v { sweep = option_map freeing v.sweep; made = v.made ++ Free ∷ [] }
 view_after v End = record v { sweep = option_map ending v.sweep; made = v.made ++ End ∷ [] }
+view_after v (Aim row) = record v { walk = None; growing = aiming row v.growing; made = v.made ++ Aim row ∷ [] }
+view_after v (Sound x) = record v { walk = None; growing = sounding v.growing; made = v.made ++ Sound x ∷ [] }
+view_after v (Close h) = record v { walk = None; growing = closing v.growing; made = v.made ++ Close h ∷ [] }
+view_after v Emptied = record v { walk = None; growing = emptying v.growing; made = v.made ++ Emptied ∷ [] }
+view_after v (Pick a before) = record v { walk = None; growing = picking a before v.growing; made = v.made ++ Pick a before ∷ [] }
+view_after v (MoveHead h) = record v { walk = None; growing = moving v.growing; made = v.made ++ MoveHead h ∷ [] }
+view_after v (MoveLink q) = record v { walk = None; growing = moving v.growing; made = v.made ++ MoveLink q ∷ [] }
+view_after v (LeaveHead h) = record v { walk = None; growing = leaving v.growing; made = v.made ++ LeaveHead h ∷ [] }
+view_after v (LeaveLink q) = record v { walk = None; growing = leaving v.growing; made = v.made ++ LeaveLink q ∷ [] }
+view_after v (PublishRow row) = record v { walk = None; growing = publishing row v.growing; made = v.made ++ PublishRow row ∷ [] }
+view_after v (Publish h) = record v { walk = None; growing = opening v.growing; made = v.made ++ Publish h ∷ [] }
 view_after v kind = record v { made = v.made ++ kind ∷ [] }
 
 -- the view after several steps
@@ -260,7 +325,7 @@ Shows z b v (Worn w) = (w.head < z.heads) × (head b w.head ≡ w.word) × (worn
 abbrev pub Lost : Size → View → ℕ → ℕ → ℕ → Type 0
 Lost z v k old found = (state_of old ≡ 0) × (found ≢ old) × ((before : List Kind) × (v.made ≡ before ++ Load (atom_at z k) old ∷ []))
 
--- WHAT A STEP ASKS AND DOES: the seat's step of this kind makes b' of the words b. The kinds of growth are still to come
+-- WHAT A STEP ASKS AND DOES: the seat's step of this kind makes b' of the words b
 abbrev pub Does : Size → Board → View → Kind → Board → Type 0
 Does z b v (Reserve k) b' = (k < z.slots) × (v.own ≡ None) × (state_of (atom b k) ≡ 0) × (b' ≡ with_atom b k 1)
 Does z b v (PutWord x) b' = (o : Own) × (v.own ≡ Some o) × (o.linked ≡ false) × (length o.text < 32) × (b' ≡ with_text b (32 * o.slot + length o.text) x)
@@ -271,7 +336,7 @@ Does z b v Validate b' = (o : Own) × (v.own ≡ Some o) × (o.linked ≡ true) 
 Does z b v Release b' = (o : Own) × (v.own ≡ Some o) × (o.linked ≡ false) × (b' ≡ with_atom b o.slot 0)
 Does z b v (Load i x) b' = (slice_index (laid b) i ≡ x) × (b' ≡ b)
 Does z b v (Refused k old found) b' = (k < z.slots) × (atom b k ≡ found) × ((state_of found ≢ 0) ⊎ Lost z v k old found) × (b' ≡ b)
-Does z b v (Start h x) b' = (h < z.heads) × (head b h ≡ x) × ((closed_of x ≡ 0) ⊎ (v.sweep ≢ None)) × (b' ≡ b)
+Does z b v (Start h x) b' = (h < z.heads) × (head b h ≡ x) × ((closed_of x ≡ 0) ⊎ ((v.sweep ≢ None) × (v.growing.moving ≡ 0))) × (b' ≡ b)
 Does z b v (Read x) b' = (w : Walk) × (k : ℕ) × (v.walk ≡ Some w) × (w.place ≡ k + 1) × (length w.part < 32) × (slice_index (text_of b.texts k) (length w.part) ≡ x) × (b' ≡ b)
 Does z b v (Next x) b' = (w : Walk) × (k : ℕ) × (v.walk ≡ Some w) × (w.place ≡ k + 1) × (link b k ≡ x) × (b' ≡ b)
 Does z b v (Skip x) b' = (w : Walk) × (k : ℕ) × (v.walk ≡ Some w) × (v.sweep ≡ None) × (w.place ≡ k + 1) × (w.dead ≡ true) × (link b k ≡ x) × (b' ≡ b)
@@ -286,9 +351,9 @@ Does z b v (Protect k x) b' = (k < z.slots) × (atom b k ≡ x) × (b' ≡ with_
 Does z b v (Fetch k) b' = (cs : List Counted) × (v.counts ≡ Some cs) × (k < z.slots) × (0 < (counted cs k).count) × Sitting v × (b' ≡ with_atom b k (marked (atom b k)))
 Does z b v (Register a) b' = (cs : List Counted) × (v.counts ≡ Some cs) × (In a v.held ⊎ In a v.fixed) × ((counted cs a.slot).count < 2305843009213693951) × (b' ≡ with_atom b a.slot (atom b a.slot + 8))
 Does z b v (Unregister k) b' = (cs : List Counted) × (v.counts ≡ Some cs) × (k < z.slots) × (0 < (counted cs k).count) × (b' ≡ with_atom b k (atom b k - 8))
-Does z b v (Raise h) b' = (h < z.heads) × (0 < v.undealt) × (version_of (head b h) < z.start) × (b' ≡ with_head b h (raised z.start (head b h)))
+Does z b v (Raise h) b' = (h < z.heads) × (0 < v.undealt) × (closed_of (head b h) ≡ 0) × (version_of (head b h) < z.start) × (b' ≡ with_head b h (raised z.start (head b h)))
 Does z b v (Risen h x) b' = (h < z.heads) × (head b h ≡ x) × (z.start ≤ version_of x) × (b' ≡ b)
-Does z b v Begin b' = (y : Sweeping) × (v.sweep ≡ Some y) × (phase_of y.word ≡ 0) × (epoch_of y.word < 4611686018427387903) × (b' ≡ with_epoch b (epoch_word 1 (epoch_of y.word + 1)))
+Does z b v Begin b' = (y : Sweeping) × (v.sweep ≡ Some y) × (phase_of y.word ≡ 0) × (epoch_of y.word < 4611686018427387903) × (v.growing.shut ≡ 0) × (b' ≡ with_epoch b (epoch_word 1 (epoch_of y.word + 1)))
 Does z b v (Mark x those) b' = (v.cycle.engine ≢ 0) × (b.epoch ≡ x) × (phase_of x ≡ 1) × (v.cycle.acked < epoch_of x) × ((a : Held) → In a those → In a v.held) × (b' ≡ b)
 Does z b v (Scan k) b' = Scanning v × (a : Held) × (In a v.held ⊎ In a v.fixed) × (a.slot ≡ k) × (b' ≡ with_atom b k (marked (atom b k)))
 Does z b v Ack b' = Scanning v × ((a : Held) → In a v.held → In a.slot v.cycle.scanned) × (b' ≡ with_ack b (v.cycle.engine - 1) v.cycle.scanned_at)
@@ -306,4 +371,17 @@ Does z b v Bump b' = (y : Sweeping) × (x : ℕ) × Unlinked v y × (y.past ≡ 
 Does z b v (Past x) b' = (y : Sweeping) × (n : ℕ) × Unlinked v y × (y.noted ≡ Some n) × (head b y.head ≡ x) × (version_of n < version_of x) × (b' ≡ b)
 Does z b v Free b' = (y : Sweeping) × Unlinked v y × (y.past ≡ true) × (b' ≡ with_atom b y.cursor 0)
 Does z b v End b' = (y : Sweeping) × Sweeps v y × (y.dying ≡ 0) × (y.cursor ≡ z.slots) × (b' ≡ with_epoch b (epoch_word 0 (epoch_of y.word)))
+Does z b v (Aim row) b' = Idle v × (v.growing.shut ≡ 0) × RowOk z row × (b' ≡ b)
+Does z b v (Sound x) b' = Idle v × (0 < v.growing.shut) × (v.growing.aim ≢ v.growing.row) × (v.growing.sound < 2 ^ v.growing.aim) × (head b (row_first v.growing.aim + v.growing.sound) ≡ x) × (version_of x < worn) × (b' ≡ b)
+Does z b v (Close h) b' = Idle v × (v.growing.shut < 2 ^ v.growing.row) × (h ≡ row_first v.growing.row + v.growing.shut) × (closed_of (head b h) ≡ 0) × (version_of (head b h) < worn) × (b' ≡ with_head b h (head_word (first_of (head b h)) 1 (version_of (head b h) + 1)))
+Does z b v Emptied b' = MovesChains v × (v.growing.moving ≡ 0) × (v.growing.moved < 2 ^ v.growing.row) × (first_of (head b (old_head v.growing)) ≡ 0) × (b' ≡ b)
+Does z b v (Pick a before) b' = MovesChains v × (w : Walk) × (v.growing.moving ≡ 0) × (v.growing.moved < 2 ^ v.growing.row) × (v.walk ≡ Some w) × (w.head ≡ old_head v.growing) × (w.place ≡ 0) × (length a.text ≡ 32) × Picks w a before × (b' ≡ b)
+Does z b v (MoveHead h) b' = MovesChains v × (a : Held) × (v.growing.moving ≡ 0) × (v.growing.picked ≡ Some a) × (h ≡ bucket v.growing.aim a.text) × (first_of (head b h) ≡ 0) × (b' ≡ with_head b h (head_word (a.slot + 1) 1 (version_of (head b h))))
+Does z b v (MoveLink q) b' = MovesChains v × (a : Held) × (w : Walk) × (v.growing.moving ≡ 0) × (v.growing.picked ≡ Some a) × (v.walk ≡ Some w) × (w.head ≡ bucket v.growing.aim a.text) × (w.place ≡ 0)
+    × ((front : List Held) × (c : Held) × (w.seen ≡ front ++ c ∷ []) × (c.slot ≡ q)) × (b' ≡ with_link b q (a.slot + 1))
+Does z b v (LeaveHead h) b' = MovesChains v × (v.growing.moving ≢ 0) × (v.growing.before ≡ 0) × (h ≡ old_head v.growing) × (b' ≡ with_head b h (head_word 0 1 (version_of (head b h))))
+Does z b v (LeaveLink q) b' = MovesChains v × (v.growing.moving ≢ 0) × (v.growing.before ≡ q + 1) × (b' ≡ with_link b q 0)
+Does z b v (PublishRow row) b' = MovesChains v × (v.growing.moving ≡ 0) × (v.growing.moved ≡ 2 ^ v.growing.row) × (row ≡ v.growing.aim) × (v.growing.sound ≡ 2 ^ v.growing.aim) × (b' ≡ with_row b row)
+Does z b v (Publish h) b' = Idle v × (0 < v.growing.shut) × ((v.growing.aim ≡ v.growing.row) ⊎ (v.growing.shut < 2 ^ v.growing.row)) × (h + 1 ≡ row_first v.growing.row + v.growing.shut) × (version_of (head b h) < last)
+    × (b' ≡ with_head b h (head_word (first_of (head b h)) 0 (version_of (head b h) + 1)))
 Does z b v kind b' = ⊥

@@ -1,5 +1,5 @@
 -- What the bits of each word say.
-use Rattle.std.specs.Prelude.{ℕ, ◌+◌, ◌*◌, ◌/◌, ◌%◌}
+use Rattle.std.specs.Prelude.{ℕ, ◌+◌, ◌-◌, ◌*◌, ◌/◌, ◌%◌, ◌^◌}
 
 -- An atom word: bits 0 and 1 the state (0 free, 1 reserved, 3 valid, 2 dying), bit 2 the mark, bits 3 to 63 the count
 abbrev pub atom_word : ℕ → ℕ → ℕ → ℕ
@@ -44,3 +44,7 @@ phase_of w = w % 4
 
 abbrev pub epoch_of : ℕ → ℕ
 epoch_of w = w / 4
+
+-- The rows of buckets of all sizes stand one after the other, from 256 heads on: the first head of the row with 2 ^ row heads
+abbrev pub row_first : ℕ → ℕ
+row_first row = 2 ^ row - 256

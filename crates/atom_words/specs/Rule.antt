@@ -61,6 +61,7 @@ pub data Moves (z : Size) (b : Board) (vs : List View) (b' : Board) (vs' : List 
 -- the words of a new table: no atom, all chains empty, the first 256 heads open. Their versions are 0 until the first seat raises them
 pub record Opens (z : Size) (b : Board) (vs : List View) : Type 0 where
   pub sized : Sized z b
+  pub wide : 256 ≤ z.heads
   pub idle : b.epoch ≡ 0
   pub row : b.row ≡ 8
   pub unseen : (e : ℕ) → slice_index b.acks e ≡ 0

@@ -1,6 +1,6 @@
 -- What the calls say of a table and a seat.
 use Rattle.std.specs.Prelude.{◌≡◌, ◌≢◌, ◌⊎◌, ℕ, ◌<◌, ◌≤◌, false, List, [], ◌∷◌, map, Option, Some, None, Result, Ok, Err}
-use Rattle.atom_words.specs.Layout.{state_of, version_of}
+use Rattle.atom_words.specs.Layout.{state_of, closed_of, version_of}
 use Rattle.atom_words.specs.Board.{atom_at, head_at}
 use Rattle.atom_words.specs.Chains.{In}
 use Rattle.atom_words.specs.Kinds.{Sitting, after}
@@ -58,7 +58,7 @@ Unchanged v w = (kinds : List Kind) × (n : ℕ) × (w ≡ record v { risen = n;
 abbrev pub Walking : View → Type 0
 Walking v = Sitting v × (v.sweep ≡ None)
 
--- The steps of a raise of a head's version: the head's word is loaded, and where its version is below the one that the table begins with, it is exchanged; or that exchange is lost
+-- The steps of a raise of a head's version: the head's word is loaded, and where its version is below the one that the table begins with, it is exchanged; or the head is closed, or that exchange is lost
 abbrev pub Raises : ℕ → View → Result (Unit {0}) ℕ → View → Type 0
 Raises h v (Ok _) w = (x : ℕ) × (((v.size.start ≤ version_of x) × (w ≡ after v (Risen h x ∷ []))) ⊎ ((version_of x < v.size.start) × (w ≡ after v (Load (head_at v.size h) x ∷ Raise h ∷ []))))
-Raises h v (Err y) w = (x : ℕ) × (version_of x < v.size.start) × (y ≢ x) × (w ≡ after v (Load (head_at v.size h) x ∷ Load (head_at v.size h) y ∷ []))
+Raises h v (Err y) w = ((closed_of y ≢ 0) × (version_of y < v.size.start) × (w ≡ after v (Load (head_at v.size h) y ∷ []))) ⊎ ((x : ℕ) × (version_of x < v.size.start) × (y ≢ x) × (w ≡ after v (Load (head_at v.size h) x ∷ Load (head_at v.size h) y ∷ [])))

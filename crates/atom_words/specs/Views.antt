@@ -4,15 +4,20 @@ use Rattle.atom_words.specs.declared.size.Size.{Size}
 use Rattle.atom_words.specs.declared.view.Counted.{Counted}
 use Rattle.atom_words.specs.declared.view.Cycling.{Cycling}
 use Rattle.atom_words.specs.declared.view.Sweeping.{Sweeping}
+use Rattle.atom_words.specs.declared.view.Growing.{Growing}
 use Rattle.atom_words.specs.declared.view.View.{View}
 use Rattle.atom_words.specs.declared.kind.Kind.TheVariants.{Make, Split, Join}
 
 abbrev pub no_cycle : ℕ → Cycling
 no_cycle engine = record { engine = engine; acked = 0; scanned_at = 0; scanned = [] }
 
+-- the row of 256 buckets is in use, and all its heads are open
+abbrev pub ungrown : Growing
+ungrown = record { row = 8; shut = 0; aim = 8; sound = 0; moved = 0; picked = None; before = 0; moving = 0 }
+
 -- a view that knows the size and nothing else
 abbrev pub bare : Size → View
-bare z = record { gone = false; size = z; own = None; held = []; fixed = []; counts = None; walk = None; pass = None; refusals = []; asked = []; undealt = 0; risen = 0; cycle = no_cycle 0; sweep = None; made = [] }
+bare z = record { gone = false; size = z; own = None; held = []; fixed = []; counts = None; walk = None; pass = None; refusals = []; asked = []; undealt = 0; risen = 0; cycle = no_cycle 0; sweep = None; growing = ungrown; made = [] }
 
 -- the first seat: the keeper's and the collector's, with all engines still to be dealt
 abbrev pub uncounted : Counted
@@ -20,7 +25,7 @@ uncounted = record { count = 0; text = [] }
 
 -- the collector before its first cycle
 abbrev pub unswept : Sweeping
-unswept = record { word = 0; checked = 0; cursor = 0; sure = false; text = []; dying = 0; behind = None; unlinked = false; head = 0; noted = None; past = false; moving = 0 }
+unswept = record { word = 0; checked = 0; cursor = 0; sure = false; text = []; dying = 0; behind = None; unlinked = false; head = 0; noted = None; past = false }
 
 abbrev pub first_view : Size → View
 first_view z = record (bare z) { counts = Some (replicate z.slots uncounted); sweep = Some unswept; undealt = z.engines }
@@ -46,12 +51,12 @@ without_keeper v = record v { counts = None; made = v.made ++ Split ∷ [] }
 abbrev pub keeper_of : View → View
 keeper_of v = record (bare v.size) { fixed = v.fixed; risen = v.risen; counts = v.counts; made = Split ∷ [] }
 
--- the collector's part of the first seat
+-- the collector's part of the first seat, whose walk ends
 abbrev pub without_collector : View → View
-without_collector v = record v { sweep = None; made = v.made ++ Split ∷ [] }
+without_collector v = record v { walk = None; sweep = None; made = v.made ++ Split ∷ [] }
 
 abbrev pub collector_of : View → View
-collector_of v = record (bare v.size) { fixed = v.fixed; risen = v.risen; sweep = v.sweep; made = Split ∷ [] }
+collector_of v = record (bare v.size) { fixed = v.fixed; risen = v.risen; sweep = v.sweep; growing = v.growing; made = Split ∷ [] }
 
 -- one engine's part of the first seat
 abbrev pub with_one_dealt : View → View

@@ -111,9 +111,26 @@ pub enum Kind {
     End,
 
     // Growth
+    /// Chains are to be moved to that row.
+    Aim(u64),
+    /// The next head of that row was that number, and is not worn.
+    Sound(u64),
+    /// The next head of the row in use, which is that one, is closed.
     Close(u64),
+    /// The next chain of the row in use is empty.
+    Emptied,
+    /// That slot, with its text, is the last one of that chain: the slot, and 0 or 1 more than the slot before it.
+    Pick(Held, u64),
+    /// The slot picked is put in front of its new chain, at that head, which was empty.
     MoveHead(u64),
+    /// The slot picked is put behind that slot, the last one of its new chain.
     MoveLink(u64),
-    Publish(u64),
+    /// It is taken off its old chain, at that head, where it was the only slot.
+    LeaveHead(u64),
+    /// It is taken off its old chain, behind that slot.
+    LeaveLink(u64),
+    /// The row word names that row.
     PublishRow(u64),
+    /// The last closed head of the row in use, which is that one, is opened.
+    Publish(u64),
 }

@@ -85,6 +85,9 @@ impl Words {
         if word / 4_194_304 >= self.size.start {
             return Ok(());
         }
+        if word / 2_097_152 % 2 == 1 {
+            return Err(word);
+        }
         let new = word % 4_194_304 + 4_194_304 * self.size.start;
         let found = self
             .table
@@ -97,7 +100,7 @@ impl Words {
     /// engines have still to be dealt from it. Where all heads before this one are known to have risen, this one is too.
     ///
     /// # Errors
-    /// The word that was found, where another seat has exchanged the head's word in between.
+    /// The word that was found, where the head is closed, or another seat has exchanged its word in between.
     pub fn raise(&self, seat: &mut AtomSeat, head: u32) -> Result<(), u64>
         requires fits { Fits self.now seat.old }
         requires head { head < self.now.size.heads }

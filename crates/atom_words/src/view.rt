@@ -189,7 +189,27 @@ pub struct Sweeping {
     pub noted: Option<u64>,
     /// That head's version has moved since the slot was taken out.
     pub past: bool,
-    /// 0, or 1 more than the slot that it is moving to another row.
+}
+
+/// What the collector's seat knows of the rows of buckets, as it puts another in the place of the one in use. A row is
+/// named by the binary logarithm of its size.
+#[derive(Drop)]
+pub struct Growing {
+    /// The row in use, which is what the row word has. This seat alone writes it.
+    pub row: u64,
+    /// How many heads of that row, from its first on, are closed.
+    pub shut: u64,
+    /// The row that is to take its place, or that row itself.
+    pub aim: u64,
+    /// How many heads of that other row, from its first on, were found not worn.
+    pub sound: u64,
+    /// How many chains of the row in use, from the first on, were found empty.
+    pub moved: u64,
+    /// The last slot of the chain after those, with its text, once it is found.
+    pub picked: Option<Held>,
+    /// 0 where that is the first slot of its chain, or 1 more than the slot before it.
+    pub before: u64,
+    /// 0, or 1 more than that slot, which stands in its new chain and is still the last of its old one.
     pub moving: u64,
 }
 
@@ -216,6 +236,8 @@ pub struct View {
     pub risen: u64,
     pub cycle: Cycling,
     pub sweep: Option<Sweeping>,
+    /// Where it is the collector's seat, what it knows of the rows.
+    pub growing: Growing,
     /// The steps that it has made.
     pub made: LinkedList<Kind>,
 }

@@ -20,7 +20,7 @@ use Rattle.atom_words.proofs.Putting.{after_more, puts_keep, puts_own}
 use Rattle.atom_words.proofs.Slices.{at_snoc}
 use Rattle.bucket_rows.specs.declared.missed.Missed.{Missed}
 use Rattle.bucket_rows.specs.declared.missed.Missed.TheVariants.{Moved, Pending, Closed, Worn}
-use Rattle.bucket_rows.specs.Walks.{Dying, Passed, reads, goes_on, passes, meets, Another, Others, WalksBy, Goes, Missing, Ready, Aside}
+use Rattle.bucket_rows.specs.Walks.{Dying, Passed, reads, goes_on, passes, meets, Another, Others, WalksBy, Goes, Missing, MissingIn, Ready, Aside}
 use Rattle.bucket_rows.specs.Standing.{Standing, Ends, Meets}
 
 -- STEPS ONE AFTER THE OTHER
@@ -243,11 +243,33 @@ reserved_as v k w r = ⊎_elim
     (λ (e : w ≡ after v (Load (atom_at v.size k) 4 ∷ Reserve k ∷ [])). subst (Reserved k v) (sym e) (record { own = refl; walk = refl; held = refl; fixed = refl; size = refl; gone = refl })) r
 
 -- a reserved slot is ready once its text is put
-pub ready_put : (row : List ℕ) (k : ℕ) (v w : View) → length row ≡ 32 → v.own ≡ Some (fresh k) → Missing row (bucket 8 row) v → w ≡ after v (puts row) → Ready w
+pub ready_put : (row : List ℕ) (k : ℕ) (v w : View) → length row ≡ 32 → v.own ≡ Some (fresh k) → MissingIn row v → w ≡ after v (puts row) → Ready w
 ready_put row k v w long own m is = (
   record { slot = k; text = row; link = None; linked = false },
   ap (λ (y : View). y.own) is ∙ puts_own v (fresh k) row own,
   refl,
   long,
-  missing_as row (bucket 8 row) v w (ap (λ (y : View). y.walk) is ∙ puts_keep (λ (y : View). y.walk) (λ _ _. refl) v row) m,
+  (m.0, m.1, missing_as row (bucket m.0 row) v w (ap (λ (y : View). y.walk) is ∙ puts_keep (λ (y : View). y.walk) (λ _ _. refl) v row) m.2),
 )
+
+-- a walk whose row word was loaded first
+pub aside_loaded : (v : View) (i x : ℕ) → Aside v (after v (Load i x ∷ []))
+aside_loaded v i x = record { gone = refl; size = refl; own = refl; fixed = refl; counts = refl; pass = refl; asked = refl; undealt = refl; cycle = refl; sweep = refl; risen = refl }
+
+pub held_loaded : (row : List ℕ) (v : View) (i x : ℕ) (r : Result (Option ℕ) Missed) → held_after row (after v (Load i x ∷ [])) r ≡ held_after row v r
+held_loaded row v i x (Ok None) = refl
+held_loaded row v i x (Ok (Some k)) = refl
+held_loaded row v i x (Err e) = refl
+
+pub refused_loaded : (v : View) (i x : ℕ) (r : Result (Option ℕ) Missed) → refused_after (after v (Load i x ∷ [])) r ≡ refused_after v r
+refused_loaded v i x (Ok o) = refl
+refused_loaded v i x (Err (Moved old new)) = refl
+refused_loaded v i x (Err (Pending k y)) = refl
+refused_loaded v i x (Err (Closed y)) = refl
+refused_loaded v i x (Err (Worn y)) = refl
+
+pub last_loaded : (row : List ℕ) (s n i x : ℕ) (v w : View) (r : Result (Option ℕ) Missed) → 256 ≤ 2 ^ s → IfOk r (λ o. MatchOption o (Missing row (bucket s row) w) (λ a. (a < n) × Alone (after v (Load i x ∷ [])) a row))
+    → IfOk r (λ o. MatchOption o (MissingIn row w) (λ a. (a < n) × Alone v a row))
+last_loaded row s n i x v w (Ok None) wide e = (s, wide, e)
+last_loaded row s n i x v w (Ok (Some k)) wide e = e
+last_loaded row s n i x v w (Err f) wide e = e

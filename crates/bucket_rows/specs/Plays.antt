@@ -3,7 +3,7 @@ use Rattle.std.specs.Prelude.{◌≡◌, ◌≢◌, ◌<◌, ◌≤◌, ℕ, fal
 use Rattle.atomic_table.specs.Table.{Me, Step}
 use Rattle.atom_words.specs.Layout.{version_of, last, epoch_of}
 use Rattle.atom_words.specs.Board.{atom_at, link_at, head_at}
-use Rattle.atom_words.specs.Kinds.{view_after}
+use Rattle.atom_words.specs.Kinds.{RowOk, view_after}
 use Rattle.atom_words.specs.Plays.{Is}
 use Rattle.atom_words.specs.declared.view.Held.{Held}
 use Rattle.atom_words.specs.declared.view.Sweeping.{Sweeping}
@@ -42,6 +42,10 @@ engine_checked st m r m' = (m'.1 ≡ m.1) × ((y : Sweeping) → m.0.sweep ≡ S
 
 abbrev pub turned : At → Sat → ℕ → Sat → Type 0
 turned st m r m' = Is ToSweep m m'
+
+-- the row word names a row of the table, and is what the collector knows
+abbrev pub row_read : At → Sat → ℕ → Sat → Type 0
+row_read st m r m' = Is (Load 1 r) m m' × RowOk m.0.size r × ((y : Sweeping) → m.0.sweep ≡ Some y → m.0.growing.row ≡ r)
 
 -- FOR THE SWEEP: the slot that the sweep has come to
 abbrev pub looked : At → Sat → ℕ → Sat → Type 0

@@ -26,7 +26,7 @@ abbrev pub SweepKinds : List Kind → Type 0
 SweepKinds [] = Unit {0}
 SweepKinds (k ∷ ks) = SweepKind k × SweepKinds ks
 
--- what such steps leave of the view; and of what the collector knows the epoch word, and how many engines are checked
+-- what such steps leave of the view; and of what the collector knows the rows, the epoch word, and how many engines are checked
 pub record Untouched (v w : View) : Type 0 where
   pub gone : w.gone ≡ v.gone
   pub size : w.size ≡ v.size
@@ -35,5 +35,6 @@ pub record Untouched (v w : View) : Type 0 where
   pub fixed : w.fixed ≡ v.fixed
   pub counts : w.counts ≡ v.counts
   pub cycle : w.cycle ≡ v.cycle
+  pub growing : w.growing ≡ v.growing
   pub word : option_map (λ (y : Sweeping). y.word) w.sweep ≡ option_map (λ (y : Sweeping). y.word) v.sweep
   pub checked : option_map (λ (y : Sweeping). y.checked) w.sweep ≡ option_map (λ (y : Sweeping). y.checked) v.sweep

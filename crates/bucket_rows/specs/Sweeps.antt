@@ -21,7 +21,7 @@ At slot v = (y : Sweeping) × Sweeps v y × (y.dying ≡ 0) × (y.cursor ≡ slo
 abbrev pub Judges : View → ℕ → Verdict → List Kind → Type 0
 Judges v k Low ks = (k < 256) × (ks ≡ [])
 Judges v k (Passed x) ks = (x ≢ 3) × ((before : List Kind) × ((ks ≡ before ++ Look x ∷ []) ⊎ (ks ≡ before ++ Load (atom_at v.size k) x ∷ [])))
-Judges v k (Worn x) ks = (last ≤ version_of x) × ((row : List ℕ) × (ks ≡ Look 3 ∷ (spells row ++ Start (bucket 8 row) x ∷ [])))
+Judges v k (Worn x) ks = (last ≤ version_of x) × ((row : List ℕ) × (s : ℕ) × (ks ≡ Look 3 ∷ (spells row ++ (Load 1 s ∷ Start (bucket s row) x ∷ []))))
 Judges v k Freed ks = (before : List Kind) × (between : List Kind) × (ks ≡ before ++ Condemn ∷ (between ++ Free ∷ []))
 
 abbrev pub JudgedBy : ℕ → View → Verdict → View → Type 0

@@ -1,5 +1,5 @@
 -- What walks over a bucket's chain, and links of a slot, make of the seat's view.
-use Rattle.std.specs.Prelude.{◌≡◌, ◌≢◌, ◌⊎◌, ℕ, ◌≤◌, false, List, [], ◌∷◌, ◌++◌, length, take, map, Option, Some, None, Result, Ok, Err, encode_utf8_all}
+use Rattle.std.specs.Prelude.{◌≡◌, ◌≢◌, ◌⊎◌, ℕ, ◌^◌, ◌≤◌, false, List, [], ◌∷◌, ◌++◌, length, take, map, Option, Some, None, Result, Ok, Err, encode_utf8_all}
 use mathlib.Core.Option.{some}
 use lib.ListN.{get_elem?}
 use Rattle.pl_term.specs.Tree.{Chars}
@@ -13,7 +13,7 @@ use Rattle.atom_words.specs.declared.view.Cause.TheVariants.{Moved as CauseMoved
 use Rattle.atom_words.specs.declared.view.Refusal.TheVariants.{Again, Worn as RefusalWorn}
 use Rattle.atom_words.specs.declared.view.View.{View}
 use Rattle.atom_words.specs.declared.kind.Kind.{Kind}
-use Rattle.atom_words.specs.declared.kind.Kind.TheVariants.{Start, Read, Next, Skip, Protect, Hold, Refuse, PutLink, Link}
+use Rattle.atom_words.specs.declared.kind.Kind.TheVariants.{Load, Start, Read, Next, Skip, Protect, Hold, Refuse, PutLink, Link}
 use Rattle.bucket_rows.specs.declared.missed.Missed.{Missed}
 use Rattle.bucket_rows.specs.declared.missed.Missed.TheVariants.{Moved, Pending, Closed, Worn}
 
@@ -93,9 +93,17 @@ pub record Missing (row : List ℕ) (h : ℕ) (v : View) : Type 0 where
   pub ended : walk.place ≡ 0
   pub others : (i : ℕ) (a : Held) → get_elem? walk.seen i ≡ some a → a.text ≢ take (length a.text) row
 
+-- THE STEPS OF A WALK for a text: the row word is loaded, and then it walks over the chain of the text's bucket in that row
+abbrev pub WalksIn : List ℕ → View → Result (Option ℕ) Missed → View → Type 0
+WalksIn row v r w = (s : ℕ) × (256 ≤ 2 ^ s) × Walks row (bucket s row) (after v (Load 1 s ∷ [])) r w
+
+-- the walk at hand did so, and saw the text in no slot
+abbrev pub MissingIn : List ℕ → View → Type 0
+MissingIn row v = (s : ℕ) × (256 ≤ 2 ^ s) × Missing row (bucket s row) v
+
 -- The seat has reserved a slot and put the text in it, and its walk shows that no slot of the bucket's chain has the text
 abbrev pub Ready : View → Type 0
-Ready v = (o : Own) × (v.own ≡ Some o) × (o.linked ≡ false) × (length o.text ≡ 32) × Missing o.text (bucket 8 o.text) v
+Ready v = (o : Own) × (v.own ≡ Some o) × (o.linked ≡ false) × (length o.text ≡ 32) × MissingIn o.text v
 
 -- the walk, the slots held, the refusals and the steps made aside, the view w is v
 pub record Aside (v w : View) : Type 0 where

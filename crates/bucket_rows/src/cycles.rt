@@ -21,13 +21,13 @@ pub enum Checked {
 
 const LAST_EPOCH: u64 = 4_611_686_018_427_387_903;
 
-/// Begins a cycle, which marks, and answers its epoch.
+/// Begins a cycle, which marks, and answers its epoch. No row is being put in the place of the one in use.
 ///
 /// # Errors
 /// The epoch word, where a cycle is at work, or where its epoch is the last, 2^62 - 1. Nothing is then begun.
 pub fn begin(words: &Words, seat: &mut AtomSeat) -> Result<u64, u64>
     requires fits { Fits words.now seat.old }
-    requires collector { (y : Sweeping) × Knows (seen seat.old) y }
+    requires collector { (y : Sweeping) × Knows (seen seat.old) y × ((seen seat.old).growing.shut ≡ 0) }
     ensures same { Same seat.old seat.new }
     ensures steps { BeginsBy (seen seat.old) result (seen seat.new) }
 {

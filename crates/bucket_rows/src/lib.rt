@@ -34,7 +34,7 @@ pub use links::link;
 pub use marks::{ack, mark, scan};
 pub use missed::Missed;
 pub use removal::unlink;
-pub use rows::{bucket, hash, text_row};
+pub use rows::{bucket, hash, row_heads, row_in_use, text_row};
 pub use runs::sweep_run;
 pub use slots::{Verdict, sweep_slot};
 pub use spells::{row_bucket, spell_row};

@@ -1,9 +1,16 @@
 //! What each step tells its caller.
-ghost use Rattle.bucket_rows.specs.Plays.{word_known, begun, mark_read, scanned, acknowledged, engine_checked, turned, looked, text_read, condemned, passed, traced, trod, behind_read, unlinked_at, unlinked_head, head_noted, bumped, freed, ended};
+ghost use Rattle.bucket_rows.specs.Plays.{row_read, word_known, begun, mark_read, scanned, acknowledged, engine_checked, turned, looked, text_read, condemned, passed, traced, trod, behind_read, unlinked_at, unlinked_head, head_noted, bumped, freed, ended};
 
 use atom_words::{Keeps, View};
 use atomic_table::Play;
 use std::marker::PhantomData;
+
+/// The load of the row word.
+pub struct ReadingRow;
+
+impl Play<(), View> for ReadingRow {
+    ghost then = { row_read };
+}
 
 /// The load of the epoch word, which the collector knows.
 pub struct KnowingWord;

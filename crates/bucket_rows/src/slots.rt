@@ -12,6 +12,7 @@ ghost use Rattle.bucket_rows.specs.SweepKinds.{SweepKinds};
 ghost use Rattle.bucket_rows.specs.Sweeps.{JudgedBy, SweptBy};
 
 use crate::removal::unlink;
+use crate::rows::row_in_use;
 use crate::spells::{row_bucket, spell_row};
 use crate::sweeps::{condemn, look, pass, trace};
 use crate::treads::tread;
@@ -47,7 +48,8 @@ fn reach(words: &Words, seat: &mut AtomSeat, slot: u32) -> Result<u64, u64>
     ensures reached { MatchResult result (λ before. Reached slot seat.new.word before (seen seat.new) × (before ≤ words.now.size.slots)) (λ x. AtSlot slot (seen seat.new)) }
 {
     let row = spell_row(words, seat, slot);
-    let word = trace(words, seat, row_bucket(&row));
+    let size = row_in_use(words, seat);
+    let word = trace(words, seat, row_bucket(&row, size));
     if word / 4_194_304 >= LAST {
         return Err(word);
     }

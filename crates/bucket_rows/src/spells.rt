@@ -1,11 +1,12 @@
 //! The text of the slot that the sweep has come to, and its bucket.
-ghost use Rattle.std.specs.Prelude.{◌≡◌, ℕ, ◌<◌, ◌≤◌, false, length};
+ghost use Rattle.std.specs.Prelude.{◌≡◌, ℕ, ◌+◌, ◌^◌, ◌<◌, ◌≤◌, false, length};
 ghost use Rattle.atom_words.specs.Texts.{bucket};
 ghost use Rattle.atom_words.specs.Kinds.{after};
 ghost use Rattle.atom_words.specs.Seats.{seen, Fits, Same};
 ghost use Rattle.bucket_rows.specs.Treads.{spells, Found};
 
 use crate::plays::Spelling;
+use crate::rows::row_heads;
 use atom_words::{AtomSeat, View, Words};
 use atomic_table::Seat;
 
@@ -49,17 +50,19 @@ fn at_most_248(bytes: u64) -> usize
     if bytes < 248 { bytes as usize } else { 248 }
 }
 
-/// The head of the bucket of the text with these words, by its hash, FNV-1a with 64 bits (G. Fowler, L. C. Noll, K.-P. Vo and
+/// The head of the bucket of the text with these words, in the row with that binary logarithm of its heads, by its hash, FNV-1a with 64 bits (G. Fowler, L. C. Noll, K.-P. Vo and
 /// D. Eastlake).
-pub fn row_bucket(row: &[u64; 32]) -> u32
-    ensures bucket { result ≡ bucket 8 row.now }
-    ensures small { result < 256 }
+pub fn row_bucket(row: &[u64; 32], size: u64) -> u32
+    requires { (256 ≤ 2 ^ size) × (2 ^ size + 2 ^ size ≤ 4194560) }
+    ensures bucket { result ≡ bucket size row.now }
+    ensures inside { result + 256 < 2 ^ size + 2 ^ size }
 {
+    let heads = row_heads(size);
     let bytes = at_most_248(row[0]);
     let mut hash: u64 = 14_695_981_039_346_656_037;
     for i in 0..bytes {
         let byte = (row[1 + i / 8] >> (8 * (i % 8))) % 256;
         hash = (hash ^ byte).wrapping_mul(1_099_511_628_211);
     }
-    (hash % 256) as u32
+    (heads - 256 + hash % heads) as u32
 }

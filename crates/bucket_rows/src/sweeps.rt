@@ -41,11 +41,11 @@ pub fn pass(words: &Words, seat: &mut AtomSeat, slot: u32) -> u64
         .fetch_and::<Passing>(&mut seat.seat, place, 18_446_744_073_709_551_611)
 }
 
-/// Begins a walk of the collector's over the chain of a head, whether that is open or closed, and answers the head's word.
+/// Begins a walk of the collector's over the chain of a head, while the cycle sweeps, and answers the head's word.
 pub fn trace(words: &Words, seat: &mut AtomSeat, head: u32) -> u64
     requires fits { Fits words.now seat.old }
     requires head { head < words.now.size.heads }
-    requires collector { (y : Sweeping) × ((seen seat.old).sweep ≡ Some y) }
+    requires collector { (y : Sweeping) × Sweeps (seen seat.old) y }
     ensures same { Same seat.old seat.new }
     ensures steps { seen seat.new ≡ after (seen seat.old) (Start head result ∷ []) }
     ensures ahead { Ahead (seen seat.new) }

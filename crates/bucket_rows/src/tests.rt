@@ -1,11 +1,10 @@
 //! Two seats at one bucket, and slots that are linked.
 ghost use Rattle.std.specs.Prelude.{◌≡◌, ◌≤◌, ◌<◌, true, false, Some, None, IfOk};
 ghost use Rattle.pl_term.specs.Texts.{size};
-ghost use Rattle.atom_words.specs.Texts.{bucket};
 ghost use Rattle.atom_words.specs.Kinds.{Sitting};
 ghost use Rattle.atom_words.specs.Seats.{seen, Fits, Walking};
 ghost use Rattle.atom_words.specs.declared.view.Own.{Own};
-ghost use Rattle.bucket_rows.specs.Walks.{spelled, Missing, Ready};
+ghost use Rattle.bucket_rows.specs.Walks.{spelled, MissingIn, Ready};
 
 use crate::{Missed, bucket, link, walk};
 use atom_api::Atom;
@@ -30,7 +29,7 @@ fn take(words: &Words, seat: &mut AtomSeat, slot: u32, text: &Text) -> bool
     requires slot { slot < words.now.size.slots }
     requires none { (seen seat.old).own ≡ None }
     requires walking { Walking (seen seat.old) }
-    requires missing { Missing (spelled text.now) (bucket 8 (spelled text.now)) (seen seat.old) }
+    requires missing { MissingIn (spelled text.now) (seen seat.old) }
     ensures fits { Fits words.now seat.new }
     ensures ready { result ≡ true → Ready (seen seat.new) × Walking (seen seat.new) }
     ensures none { result ≡ false → (seen seat.new).own ≡ None }
@@ -94,8 +93,8 @@ fn link_missed(words: &Words, seat: &mut AtomSeat) -> Option<Missed>
 
 #[test]
 fn texts_have_buckets(rt: HostRuntime) {
-    assert!(rt; bucket(b"") == 37);
-    assert!(rt; bucket(b"a") == 140);
+    assert!(rt; bucket(b"", 8) == 37);
+    assert!(rt; bucket(b"a", 8) == 140);
 }
 
 // The text that `s` spells, which is short.
@@ -203,7 +202,7 @@ fn a_worn_bucket_takes_no_slot(rt: HostRuntime) -> Result<(), Fail> {
     let (words, mut first) = Words::new(rt.alloc(), old)?;
     let _collector = words.part_collector(&mut first);
     let text = short(rt.alloc(), "zz")?;
-    let high = raised(&words, &mut first, bucket(b"zz"));
+    let high = raised(&words, &mut first, bucket(b"zz", 8));
     assert!(rt; high);
     let ready = make_ready(&words, &mut first, 511, &text);
     assert!(rt; ready);
@@ -211,6 +210,6 @@ fn a_worn_bucket_takes_no_slot(rt: HostRuntime) -> Result<(), Fail> {
         panic!(rt; "the bucket was not worn")
     };
     assert!(rt; worn.start() == 4_398_046_511_102);
-    assert!(rt; worn.head() == bucket(b"zz") as u64);
+    assert!(rt; worn.head() == bucket(b"zz", 8) as u64);
     Ok(())
 }

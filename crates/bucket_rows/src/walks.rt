@@ -3,18 +3,18 @@ ghost use Rattle.std.specs.Prelude.{◌≡◌, ◌≢◌, ◌⊎◌, ℕ, ◌+�
 ghost use Rattle.pl_term.specs.Texts.{size};
 ghost use Rattle.atom_words.specs.Layout.{first_of, closed_of, version_of};
 ghost use Rattle.atom_words.specs.Texts.{bucket};
-ghost use Rattle.atom_words.specs.Kinds.{after};
+ghost use Rattle.atom_words.specs.Kinds.{RowOk, after};
 ghost use Rattle.atom_words.specs.Seats.{seen, Fits, Same, Walking};
 ghost use Rattle.atom_words.specs.Plays.{Alone, Stale};
 ghost use Rattle.atom_words.specs.declared.view.Walk.{Walk};
 ghost use Rattle.atom_words.specs.declared.view.Cause.TheVariants.{Moved as CauseMoved};
 ghost use Rattle.atom_words.specs.declared.view.Refusal.TheVariants.{Again};
 ghost use Rattle.atom_words.specs.declared.kind.Kind.TheVariants.{Refuse};
-ghost use Rattle.bucket_rows.specs.Walks.{spelled, reads, Goes, Walks, Missing, Aside, held_after, refused_after};
+ghost use Rattle.bucket_rows.specs.Walks.{spelled, reads, Goes, Walks, WalksIn, Missing, MissingIn, Aside, held_after, refused_after};
 ghost use Rattle.bucket_rows.specs.Standing.{Standing, Ends, Meets};
 
 use crate::missed::Missed;
-use crate::rows::{bucket, text_row};
+use crate::rows::{bucket, row_in_use, text_row};
 use atom_api::Atom;
 use atom_words::{
     AtomSeat, FindingMoved, GoingOn, Holding, Protecting, ReadingWord, ShowingPending, Skipping,
@@ -171,10 +171,41 @@ fn walk_chain(
     }
 }
 
-/// Looks for a text in its bucket's chain. Where a slot has it, the seat holds that slot afterwards. Otherwise the walk is at
-/// hand, and shows that no slot of the chain but a dying one had the text while the head has the version that the walk
-/// found. It reads at most as many link words as there are slots. The text has at most 248 bytes; the seat has no slot
-/// reserved, may hold slots, and is not the collector's.
+// Looks for a text in the chain of its bucket in that row.
+fn walk_row(
+    words: &Words,
+    seat: &mut AtomSeat,
+    text: &Text,
+    row_size: u64,
+) -> Result<Option<Atom>, Missed>
+    requires fits { Fits words.now seat.old }
+    requires short { size text.now ≤ 248 }
+    requires row { RowOk words.now.size row_size }
+    requires none { (seen seat.old).own ≡ None }
+    requires walking { Walking (seen seat.old) }
+    ensures same { Same seat.old seat.new }
+    ensures steps { Walks (spelled text.now) (bucket row_size (spelled text.now)) (seen seat.old) result (seen seat.new) }
+    ensures aside { Aside (seen seat.old) (seen seat.new) }
+    ensures held { (seen seat.new).held ≡ held_after (spelled text.now) (seen seat.old) result }
+    ensures refused { (seen seat.new).refusals ≡ refused_after (seen seat.old) result }
+    ensures last { IfOk result (λ o. MatchOption o (Missing (spelled text.now) (bucket row_size (spelled text.now)) (seen seat.new)) (λ a. (a < words.now.size.slots) × Alone (seen seat.old) a (spelled text.now))) }
+{
+    let row = text_row(text.as_str().as_bytes());
+    let head = bucket(text.as_str().as_bytes(), row_size);
+    let top = words.head_place(head);
+    let word = words.table.shared.load::<StartingWalk>(&mut seat.seat, top);
+    if word / 2_097_152 % 2 == 1 {
+        return Err(Missed::Closed { word });
+    }
+    seat.head = head;
+    seat.word = word;
+    walk_chain(words, &mut seat.seat, head, word, &row)
+}
+
+/// Looks for a text in the chain of its bucket, in the row that the row word names as it is loaded. Where a slot has it, the
+/// seat holds that slot afterwards. Otherwise the walk is at hand, and shows that no slot of the chain but a dying one had
+/// the text while the head has the version that the walk found. It reads at most as many link words as there are slots. The
+/// text has at most 248 bytes; the seat has no slot reserved, may hold slots, and is not the collector's.
 ///
 /// # Errors
 /// `Moved`, where the head was loaded with two versions; `Pending`, where another seat has reserved the slot that has the
@@ -185,20 +216,12 @@ pub fn walk(words: &Words, seat: &mut AtomSeat, text: &Text) -> Result<Option<At
     requires none { (seen seat.old).own ≡ None }
     requires walking { Walking (seen seat.old) }
     ensures same { Same seat.old seat.new }
-    ensures steps { Walks (spelled text.now) (bucket 8 (spelled text.now)) (seen seat.old) result (seen seat.new) }
+    ensures steps { WalksIn (spelled text.now) (seen seat.old) result (seen seat.new) }
     ensures aside { Aside (seen seat.old) (seen seat.new) }
     ensures held { (seen seat.new).held ≡ held_after (spelled text.now) (seen seat.old) result }
     ensures refused { (seen seat.new).refusals ≡ refused_after (seen seat.old) result }
-    ensures last { IfOk result (λ o. MatchOption o (Missing (spelled text.now) (bucket 8 (spelled text.now)) (seen seat.new)) (λ a. (a < words.now.size.slots) × Alone (seen seat.old) a (spelled text.now))) }
+    ensures last { IfOk result (λ o. MatchOption o (MissingIn (spelled text.now) (seen seat.new)) (λ a. (a < words.now.size.slots) × Alone (seen seat.old) a (spelled text.now))) }
 {
-    let row = text_row(text.as_str().as_bytes());
-    let head = bucket(text.as_str().as_bytes());
-    let top = words.head_place(head);
-    let word = words.table.shared.load::<StartingWalk>(&mut seat.seat, top);
-    if word / 2_097_152 % 2 == 1 {
-        return Err(Missed::Closed { word });
-    }
-    seat.head = head;
-    seat.word = word;
-    walk_chain(words, &mut seat.seat, head, word, &row)
+    let row_size = row_in_use(words, seat);
+    walk_row(words, seat, text, row_size)
 }

@@ -1,4 +1,4 @@
-use Rattle.std.proofs.Common.{◌≡◌, ◌<◌, ◌+◌, ◌*◌, ◌%◌, eqb, ℕ, sym, ap, ◌∙◌, subst, arith}
+use Rattle.std.proofs.Common.{◌≡◌, ◌<◌, ◌+◌, ◌*◌, ◌%◌, eqb, ℕ, sym, ap, ◌∙◌, subst, inl, inr, arith}
 use mathlib.Core.Option.{none}
 use prog.Atomic.{either}
 use Rattle.atomic_table.specs.Table.{step, Allows}
@@ -35,7 +35,7 @@ compare_exchange-found-requires c = let v : View = c.args.seat.now.me.0 in let u
       c.load-word.ensures.0 ∙ c.requires.fits.0,
       c.head_place-place.ensures.inside,
       subst P new (raising key slots id me (c.args.self.now.keyed ∙ size) (ap (λ (y : View). y.gone) is ∙ c.requires.fits.2) i c.args.head word (c.head_place-place.ensures.place ∙ ap (λ (y : Size). head_at y c.args.head) size)
-          (subst (λ (y : Size). c.args.head < y.heads) size c.requires.head) (subst (λ (n : ℕ). 0 < n) (sym (ap (λ (y : View). y.undealt) is)) c.requires.first) (subst (λ (y : Size). version_of word < y.start) size low)),
+          (subst (λ (y : Size). c.args.head < y.heads) size c.requires.head) (subst (λ (n : ℕ). 0 < n) (sym (ap (λ (y : View). y.undealt) is)) c.requires.first) (let unshut = c.if-word-eq1.false in omega (arith, unshut)) (subst (λ (y : Size). version_of word < y.start) size low)),
     )
 
 pub returns-else-found-word-clause-steps : goal.returns-else-found-word-clause-steps
@@ -44,9 +44,15 @@ returns-else-found-word-clause-steps c = let v : View = c.args.seat.now.me.0 in 
     let place : c.head_place-place.result ≡ head_at v.size h = c.head_place-place.ensures.place ∙ ap (λ (y : Size). head_at y h) same in
     let low : version_of word < v.size.start = subst (λ (y : Size). version_of word < y.start) same (let no = c.if-word-self.false in omega arith) in
     let is : u ≡ view_after v (Load (head_at v.size h) word) = (c.load-word.ensures.2.1 h place).1 low in
-    let at : c.head_place-place.result ≡ head_at u.size h = place ∙ sym (ap (λ (y : View). head_at y.size h) is) in (
+    let at : c.head_place-place.result ≡ head_at u.size h = place ∙ sym (ap (λ (y : View). head_at y.size h) is) in inr (
       word,
       low,
       c.if-found-word.false,
       (c.compare_exchange-found.ensures.2.1 h at).1 c.if-found-word.false ∙ ap (λ (y : View). view_after y (Load (head_at y.size h) found)) is,
     )
+
+pub returns-then-word-eq1-clause-steps : goal.returns-then-word-eq1-clause-steps
+returns-then-word-eq1-clause-steps c = let v : View = c.args.seat.now.me.0 in let word : ℕ = c.load-word.result in let h : ℕ = c.args.head in let same : c.args.self.now.size ≡ v.size = sym c.requires.fits.1 in
+    let place : c.head_place-place.result ≡ head_at v.size h = c.head_place-place.ensures.place ∙ ap (λ (y : Size). head_at y h) same in
+    let low : version_of word < v.size.start = subst (λ (y : Size). version_of word < y.start) same (let no = c.if-word-self.false in omega arith) in
+    inl (let shut = c.if-word-eq1.true in omega (arith, shut), low, (c.load-word.ensures.2.1 h place).1 low)
