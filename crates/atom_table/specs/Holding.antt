@@ -1,9 +1,9 @@
 -- What a seat of an atom table holds.
-use Rattle.std.specs.Prelude.{◌≡◌, ◌≢◌, ℕ, ◌+◌, ◌<◌, ◌≤◌, true, List, [], ◌∷◌, ◌++◌, length, Some, None}
+use Rattle.std.specs.Prelude.{◌≡◌, ◌≢◌, ℕ, ◌+◌, ◌^◌, ◌<◌, ◌≤◌, true, List, [], ◌∷◌, ◌++◌, length, Some, None}
 use Rattle.std.specs.Str.{all_scalars, chars}
 use Rattle.pl_term.specs.Tree.{Chars}
 use Rattle.pl_term.specs.Texts.{size}
-use Rattle.atom_words.specs.Texts.{bytes_of}
+use Rattle.atom_words.specs.Texts.{bytes_of, bucket}
 use Rattle.atom_words.specs.Layout.{version_of, worn}
 use Rattle.atom_words.specs.Seats.{seen, Fits, Has}
 use Rattle.atom_words.specs.Plays.{Alone}
@@ -55,7 +55,7 @@ pub record Rest (v w : View) : Type 0 where
   pub sweep : w.sweep ≡ v.sweep
   pub risen : w.risen ≡ v.risen
 
--- THE ANSWERS of interning a text: the atom is held afterwards with that text, and nothing else that is held has changed; no other slot that was held has the text, and the slot had no other text
+-- THE ANSWERS of interning a text, where h is the head of its bucket: the atom is held afterwards with that text, and nothing else that is held has changed; no other slot that was held has the text, and the slot had no other text
 abbrev pub Answers : Chars → ℕ → View → Interned → View → Type 0
 Answers t h v (Is a) w = (size t ≤ 248) × (w.held ≡ v.held ++ record { slot = a; text = spelled t } ∷ []) × Alone v a (spelled t) × (a < v.size.slots)
 Answers t h v (Full p) w = (size t ≤ 248) × (w.held ≡ v.held) × (p.counted ≡ v.size.slots) × (p.seat ≡ v.cycle.engine)
@@ -64,11 +64,18 @@ Answers t h v (TooLong b) w = (248 < size t) × (b ≡ size t) × (w ≡ v)
 Answers t h v (Worn x) w = (size t ≤ 248) × (w.held ≡ v.held) × (x.head ≡ h) × (worn ≤ version_of x.word)
 Answers t h v Memory w = ⊥
 
+-- the bucket is the text's in some row
+abbrev pub AnswersIn : Chars → View → Interned → View → Type 0
+AnswersIn t v r w = (s : ℕ) × (256 ≤ 2 ^ s) × Answers t (bucket s (spelled t)) v r w
+
 -- what an answer tells, the texts asked and the steps made aside
 pub record Told (t : Chars) (h : ℕ) (v : View) (r : Interned) (w : View) : Type 0 where
   pub answer : Answers t h v r w
   pub rest : Rest v w
   pub refusal : w.refusals ≡ v.refusals ++ refused r
+
+abbrev pub ToldIn : Chars → View → Interned → View → Type 0
+ToldIn t v r w = (s : ℕ) × (256 ≤ 2 ^ s) × Told t (bucket s (spelled t)) v r w
 
 -- the texts asked, after an answer
 abbrev pub asked_after : List ℕ → Interned → List (List ℕ) → List (List ℕ)

@@ -12,7 +12,7 @@ use Rattle.atom_words.specs.declared.view.View.{View}
 use Rattle.atom_words.specs.declared.kind.Kind.TheVariants.{Ask, StartPass, EndPass, PutLink, Link, Validate, Release, Refuse}
 use Rattle.bucket_rows.specs.declared.missed.Missed.{Missed}
 use Rattle.bucket_rows.specs.declared.missed.Missed.TheVariants.{Moved, Pending, Closed, Worn}
-use Rattle.bucket_rows.specs.Walks.{Walks}
+use Rattle.bucket_rows.specs.Walks.{WalksIn}
 use Rattle.atom_api.specs.declared.interned.Interned.{Interned}
 use Rattle.atom_api.specs.declared.interned.Interned.TheVariants.{Is, Full, Again, TooLong, Worn as InternedWorn, Memory}
 
@@ -63,11 +63,11 @@ MakesBy row v (InternedWorn x) w = (w ≡ after v (Refuse (RefusalWorn x) ∷ []
 MakesBy row v (TooLong b) w = ⊥
 MakesBy row v Memory w = ⊥
 
--- THE STEPS OF INTERNING the text with the words `row`, of the bucket with the head h, by the answer: it is asked, and there is a walk, which finds it, is refused, or ends without it
-abbrev pub InternsBy : List ℕ → ℕ → View → Interned → View → Type 0
-InternsBy row h v (Is a) w = Walks row h (after v (Ask row ∷ [])) (Ok (Some a)) w ⊎ ((u : View) × Walks row h (after v (Ask row ∷ [])) (Ok None) u × MakesBy row u (Is a) w)
-InternsBy row h v (Full p) w = (u : View) × Walks row h (after v (Ask row ∷ [])) (Ok None) u × MakesBy row u (Full p) w
-InternsBy row h v (Again c) w = Walks row h (after v (Ask row ∷ [])) (Err (missed_by c)) w ⊎ ((u : View) × Walks row h (after v (Ask row ∷ [])) (Ok None) u × MakesBy row u (Again c) w)
-InternsBy row h v (InternedWorn x) w = (u : View) × Walks row h (after v (Ask row ∷ [])) (Ok None) u × MakesBy row u (InternedWorn x) w
-InternsBy row h v (TooLong b) w = w ≡ v
-InternsBy row h v Memory w = ⊥
+-- THE STEPS OF INTERNING the text with the words `row`, by the answer: it is asked, and there is a walk, which finds it, is refused, or ends without it
+abbrev pub InternsBy : List ℕ → View → Interned → View → Type 0
+InternsBy row v (Is a) w = WalksIn row (after v (Ask row ∷ [])) (Ok (Some a)) w ⊎ ((u : View) × WalksIn row (after v (Ask row ∷ [])) (Ok None) u × MakesBy row u (Is a) w)
+InternsBy row v (Full p) w = (u : View) × WalksIn row (after v (Ask row ∷ [])) (Ok None) u × MakesBy row u (Full p) w
+InternsBy row v (Again c) w = WalksIn row (after v (Ask row ∷ [])) (Err (missed_by c)) w ⊎ ((u : View) × WalksIn row (after v (Ask row ∷ [])) (Ok None) u × MakesBy row u (Again c) w)
+InternsBy row v (InternedWorn x) w = (u : View) × WalksIn row (after v (Ask row ∷ [])) (Ok None) u × MakesBy row u (InternedWorn x) w
+InternsBy row v (TooLong b) w = w ≡ v
+InternsBy row v Memory w = ⊥

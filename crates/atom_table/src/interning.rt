@@ -1,21 +1,20 @@
 //! Texts are interned.
 ghost use Rattle.std.specs.Prelude.{◌≡◌, ◌≤◌, ◌++◌, false, [], ◌∷◌, None};
 ghost use Rattle.pl_term.specs.Texts.{size};
-ghost use Rattle.atom_words.specs.Texts.{bucket};
 ghost use Rattle.atom_words.specs.Kinds.{view_after, after};
 ghost use Rattle.atom_words.specs.Seats.{seen, Fits, Same, Walking};
 ghost use Rattle.atom_words.specs.declared.kind.Kind.TheVariants.{Ask};
-ghost use Rattle.bucket_rows.specs.Walks.{spelled, Missing};
+ghost use Rattle.bucket_rows.specs.Walks.{spelled, MissingIn};
 ghost use Rattle.atom_api.specs.Interns.{refused};
 ghost use Rattle.atom_table.specs.Interning.{answered_by, made_by, MakesBy, InternsBy};
-ghost use Rattle.atom_table.specs.Holding.{Sits, Rest, Answers, Told, asked_after};
+ghost use Rattle.atom_table.specs.Holding.{Sits, Rest, AnswersIn, ToldIn, asked_after};
 
 use crate::making::{add_text, take_slot};
 use crate::table::AtomTable;
 use atom_api::{Atom, Cause, Interned};
 use atom_words::{Asking, AtomSeat, MOST_BYTES, Spells, View, WORN, Words};
 use atomic_table::Seat;
-use bucket_rows::{Missed, hash, walk};
+use bucket_rows::{Missed, walk};
 use pl_term::Text;
 use std::convert::AsStr;
 use std::marker::Brand;
@@ -61,15 +60,30 @@ fn made(added: Result<Atom, Missed>) -> Interned
 }
 
 impl AtomTable {
+    // Where a seat looks for a free slot first: at the one after that which it took last, or, as long as it took none, at a
+    // place of its engine's own.
+    fn next_slot(&self, seat: &AtomSeat) -> u32
+        ensures { result < self.now.words.size.slots }
+    {
+        let slots = self.words.size.slots;
+        let engines = self.words.size.engines;
+        let after = if seat.own == 0 {
+            seat.engine % (engines + 1) * (slots / (engines + 1))
+        } else {
+            seat.own as u64 + 1
+        };
+        (after % slots) as u32
+    }
+
     // Makes an atom of a text that the walk at hand did not find.
     fn make(&self, seat: &mut AtomSeat, text: &Text) -> Interned
         requires fits { Fits self.now.words seat.old }
         requires short { size text.now ≤ 248 }
         requires none { (seen seat.old).own ≡ None }
         requires walking { Walking (seen seat.old) }
-        requires missing { Missing (spelled text.now) (bucket 8 (spelled text.now)) (seen seat.old) }
+        requires missing { MissingIn (spelled text.now) (seen seat.old) }
         ensures same { Same seat.old seat.new }
-        ensures told { Told text.now (bucket 8 (spelled text.now)) (seen seat.old) result (seen seat.new) }
+        ensures told { ToldIn text.now (seen seat.old) result (seen seat.new) }
         ensures request { (seen seat.new).asked ≡ (seen seat.old).asked }
         ensures steps { MakesBy (spelled text.now) (seen seat.old) result (seen seat.new) }
     {
@@ -77,8 +91,7 @@ impl AtomTable {
             let head = seat.head;
             return Interned::Worn(self.words.find_worn(seat, head).unwrap());
         }
-        let bytes = text.as_str().as_bytes();
-        let from = (hash(bytes) / 256 % self.words.size.slots) as u32;
+        let from = self.next_slot(seat);
         match take_slot(&self.words, seat, from) {
             Ok(()) => made(add_text(&self.words, seat, text)),
             Err(pass) => Interned::Full(pass),
@@ -92,9 +105,9 @@ impl AtomTable {
         requires none { (seen seat.old).own ≡ None }
         requires walking { Walking (seen seat.old) }
         ensures same { Same seat.old seat.new }
-        ensures told { Told text.now (bucket 8 (spelled text.now)) (seen seat.old) result (seen seat.new) }
+        ensures told { ToldIn text.now (seen seat.old) result (seen seat.new) }
         ensures request { (seen seat.new).asked ≡ asked_after (spelled text.now) result (seen seat.old).asked }
-        ensures steps { InternsBy (spelled text.now) (bucket 8 (spelled text.now)) (seen seat.old) result (seen seat.new) }
+        ensures steps { InternsBy (spelled text.now) (seen seat.old) result (seen seat.new) }
     {
         ask(&self.words, seat, text);
         match walk(&self.words, seat, text) {
@@ -127,11 +140,11 @@ impl AtomTable {
         ensures same { Same seat.old seat.new }
         ensures sits { Sits self.now.words seat.new }
         ensures walking { Walking (seen seat.new) }
-        ensures answer { Answers text.now (bucket 8 (spelled text.now)) (seen seat.old) result (seen seat.new) }
+        ensures answer { AnswersIn text.now (seen seat.old) result (seen seat.new) }
         ensures rest { Rest (seen seat.old) (seen seat.new) }
         ensures refusal { (seen seat.new).refusals ≡ (seen seat.old).refusals ++ refused result }
         ensures request { (seen seat.new).asked ≡ asked_after (spelled text.now) result (seen seat.old).asked }
-        ensures steps { InternsBy (spelled text.now) (bucket 8 (spelled text.now)) (seen seat.old) result (seen seat.new) }
+        ensures steps { InternsBy (spelled text.now) (seen seat.old) result (seen seat.new) }
     {
         text.scalars();
         let bytes = text.size();

@@ -1,12 +1,11 @@
 //! A text that no slot has is made an atom.
 ghost use Rattle.std.specs.Prelude.{◌≡◌, ℕ, ◌<◌, ◌≤◌, ◌++◌, [], ◌∷◌, Some, None, IfOk, IfErr};
 ghost use Rattle.pl_term.specs.Texts.{size};
-ghost use Rattle.atom_words.specs.Texts.{bucket};
 ghost use Rattle.atom_words.specs.Kinds.{Sitting, fresh, after};
 ghost use Rattle.atom_words.specs.Plays.{Alone};
 ghost use Rattle.atom_words.specs.Seats.{seen, Fits, Same};
 ghost use Rattle.atom_words.specs.declared.view.Walk.{Walk};
-ghost use Rattle.bucket_rows.specs.Walks.{spelled, Missing};
+ghost use Rattle.bucket_rows.specs.Walks.{spelled, MissingIn};
 ghost use Rattle.atom_table.specs.Interning.{Takes, Adds};
 
 use atom_api::Atom;
@@ -48,7 +47,7 @@ pub fn add_text(words: &Words, seat: &mut AtomSeat, text: &Text) -> Result<Atom,
     requires short { size text.now ≤ 248 }
     requires own { (k : ℕ) × ((seen seat.old).own ≡ Some (fresh k)) }
     requires sitting { Sitting (seen seat.old) }
-    requires missing { Missing (spelled text.now) (bucket 8 (spelled text.now)) (seen seat.old) }
+    requires missing { MissingIn (spelled text.now) (seen seat.old) }
     ensures same { Same seat.old seat.new }
     ensures steps { (t : Walk) → (seen seat.old).walk ≡ Some t → Adds (spelled text.now) t (seen seat.old) result (seen seat.new) }
     ensures held { IfOk result (λ a. (k : ℕ) → (seen seat.old).own ≡ Some (fresh k) → (a ≡ k) × (a < words.now.size.slots) × Alone (seen seat.old) a (spelled text.now) × ((seen seat.new).held ≡ (seen seat.old).held ++ record { slot = a; text = spelled text.now } ∷ [])) }

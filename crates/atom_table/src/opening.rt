@@ -2,14 +2,13 @@
 ghost use Rattle.std.specs.Prelude.{◌≡◌, ◌^◌, ◌<◌, ◌≤◌, ◌++◌, true, length, [], ◌∷◌, Some, None, IfOk};
 ghost use Rattle.std.specs.Str.{all_scalars};
 ghost use Rattle.pl_term.specs.Texts.{size};
-ghost use Rattle.atom_words.specs.Texts.{bucket};
 ghost use Rattle.atom_words.specs.Kinds.{Sitting, fresh, after};
 ghost use Rattle.atom_words.specs.Opening.{Allowed};
 ghost use Rattle.atom_words.specs.Plays.{Alone};
 ghost use Rattle.atom_words.specs.Seats.{seen, Fits, Same, Unchanged, Walking};
 ghost use Rattle.atom_words.specs.declared.kind.Kind.TheVariants.{Fix};
 ghost use Rattle.atom_api.specs.Fixed.{fixed_count};
-ghost use Rattle.bucket_rows.specs.Walks.{spelled, Missing};
+ghost use Rattle.bucket_rows.specs.Walks.{spelled, MissingIn};
 ghost use Rattle.atom_table.specs.Holding.{Sits};
 ghost use Rattle.atom_table.specs.Opening.{fixed_slots, FreshFrom, Source, IsKeeper, Stays, Placed, Carries, Low};
 
@@ -62,7 +61,7 @@ fn settle(words: &Words, seat: &mut AtomSeat, slot: u32, text: &Text) -> Result<
     requires short { size text.now ≤ 248 }
     requires own { (seen seat.old).own ≡ Some (fresh slot) }
     requires sitting { Sitting (seen seat.old) }
-    requires missing { Missing (spelled text.now) (bucket 8 (spelled text.now)) (seen seat.old) }
+    requires missing { MissingIn (spelled text.now) (seen seat.old) }
     ensures same { Same seat.old seat.new }
     ensures placed { IfOk result (λ _. ((seen seat.new).held ≡ (seen seat.old).held ++ record { slot = slot; text = spelled text.now } ∷ []) × Alone (seen seat.old) slot (spelled text.now) × (slot < words.now.size.slots) × ((seen seat.new).own ≡ None) × Carries (seen seat.old) (seen seat.new)) }
 {
@@ -79,7 +78,7 @@ fn take_fixed(words: &Words, seat: &mut AtomSeat, slot: u32, text: &Text) -> Res
     requires short { size text.now ≤ 248 }
     requires none { (seen seat.old).own ≡ None }
     requires sitting { Sitting (seen seat.old) }
-    requires missing { Missing (spelled text.now) (bucket 8 (spelled text.now)) (seen seat.old) }
+    requires missing { MissingIn (spelled text.now) (seen seat.old) }
     ensures same { Same seat.old seat.new }
     ensures placed { IfOk result (λ _. Placed (spelled text.now) slot (seen seat.old) (seen seat.new)) }
 {

@@ -1,11 +1,10 @@
 //! A slot that is linked and not valid yet.
 ghost use Rattle.std.specs.Prelude.{◌≡◌, ◌≤◌, ◌<◌, true, false, Some, None, IfOk};
 ghost use Rattle.pl_term.specs.Texts.{size};
-ghost use Rattle.atom_words.specs.Texts.{bucket};
 ghost use Rattle.atom_words.specs.Kinds.{Sitting};
 ghost use Rattle.atom_words.specs.Seats.{seen, Fits, Walking};
 ghost use Rattle.atom_words.specs.declared.view.Own.{Own};
-ghost use Rattle.bucket_rows.specs.Walks.{spelled, Missing, Ready};
+ghost use Rattle.bucket_rows.specs.Walks.{spelled, MissingIn, Ready};
 
 use crate::opening::Opened;
 use crate::table::AtomTable;
@@ -25,7 +24,7 @@ fn take(words: &Words, seat: &mut AtomSeat, slot: u32, text: &Text) -> bool
     requires slot { slot < words.now.size.slots }
     requires none { (seen seat.old).own ≡ None }
     requires walking { Walking (seen seat.old) }
-    requires missing { Missing (spelled text.now) (bucket 8 (spelled text.now)) (seen seat.old) }
+    requires missing { MissingIn (spelled text.now) (seen seat.old) }
     ensures fits { Fits words.now seat.new }
     ensures ready { result ≡ true → Ready (seen seat.new) × Walking (seen seat.new) }
 {

@@ -158,7 +158,7 @@ fn a_worn_bucket_takes_no_new_atom(rt: HostRuntime) -> Result<(), Fail> {
     };
     assert_eq!(rt; worn.start(), start);
     assert_eq!(rt; worn.word() / 4_194_304, start);
-    assert_eq!(rt; worn.head(), bucket(b"zz") as u64);
+    assert_eq!(rt; worn.head(), bucket(b"zz", 8) as u64);
     let fixed = intern(rt.alloc(), &table, &mut one, "yfx")?;
     assert_eq!(rt; fixed, Interned::Is(fixed::YFX));
     Ok(())

@@ -43,6 +43,8 @@ pub fn row_word(text: &[u8], i: usize) -> u64
 {
     if i == 0 {
         text.len() as u64
+    } else if 8 * (i - 1) >= text.len() {
+        0
     } else {
         packed(text, 8 * (i - 1))
     }

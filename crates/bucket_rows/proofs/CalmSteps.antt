@@ -91,7 +91,7 @@ module _ (z : Size) (e : ℕ) (old : List ℕ) (b : Board) (vs : List View) (r :
 
     pub begins : (b' : Board) → ((k : ℕ) → E k → D k) → Does z b v Begin b' → After Begin b'
     begins b' back d = let word = word_is d.0 d.1 in let next = epoch-epoch_word 1 (epoch_of d.0.word + 1) (omega arith) in
-        subst (λ (x : Board). After Begin x) (sym d.4)
+        subst (λ (x : Board). After Begin x) (sym d.5)
         (begun z e old b.epoch b.atoms vs D s (epoch_word 1 (epoch_of d.0.word + 1)) (set vs id (view_after v Begin)) E back (none_after Begin own_none) (ap phase_of word ∙ d.2) (phase-epoch_word 1 (epoch_of d.0.word + 1) (omega arith))
         (next ∙ ap (λ (n : ℕ). epoch_of n + 1) (sym word)) r.sized.atoms)
 

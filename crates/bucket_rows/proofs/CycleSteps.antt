@@ -14,12 +14,13 @@ use Rattle.atom_words.specs.Kept.{Kept}
 use Rattle.atom_words.specs.declared.size.Size.{Size}
 use Rattle.atom_words.specs.declared.view.Held.{Held}
 use Rattle.atom_words.specs.declared.view.Sweeping.{Sweeping}
+use Rattle.atom_words.specs.declared.view.Growing.{Growing}
 use Rattle.atom_words.specs.declared.view.View.{View}
 use Rattle.atom_words.specs.declared.kind.Kind.TheVariants.{Load, Begin, Mark, Scan, Ack, Check, ToSweep}
 use Rattle.atom_words.proofs.Slices.{some_same}
 use Rattle.atom_words.proofs.Steps.{or_mark}
-use Rattle.atom_words.proofs.Adapters.{Sat, atom_goes, epoch_load}
-use Rattle.bucket_rows.specs.Plays.{word_known, begun, mark_read, scanned, acknowledged, engine_checked, turned}
+use Rattle.atom_words.proofs.Adapters.{Sat, atom_goes, epoch_load, row_load}
+use Rattle.bucket_rows.specs.Plays.{row_read, word_known, begun, mark_read, scanned, acknowledged, engine_checked, turned}
 use Rattle.bucket_rows.proofs.Words.{epoch_goes, ack_goes, ack_load, ack_read}
 
 module _ (key : Size) (slots id : ℕ) (me : Sat) (is : key ≡ me.0.size) (here : me.0.gone ≡ false) where
@@ -31,12 +32,17 @@ module _ (key : Size) (slots id : ℕ) (me : Sat) (is : key ≡ me.0.size) (here
   knowing_word = epoch_load key me.0.size slots id me (word_known (step slots 0 0 0 none) me) is here
       (λ b vs r seen small. (Load 0 b.epoch, (refl, refl), ((refl, refl), λ y sweep. word_is b vs r seen y sweep)))
 
-  pub beginning : (x : ℕ) (y : Sweeping) → me.0.sweep ≡ Some y → phase_of y.word ≡ 0 → epoch_of y.word < 4611686018427387903 → x ≡ epoch_word 1 (epoch_of y.word + 1)
+  -- the row word is the one that the collector knows
+  pub reading_row : Allows (Rule key) slots id me 1 (λ n. n) (row_read (step slots 1 0 0 none) me)
+  reading_row = row_load key me.0.size slots id me (row_read (step slots 1 0 0 none) me) is here
+      (λ b vs r seen small. (Load 1 b.row, (refl, refl), ((refl, refl), r.grow.size, λ y sweep. ap (λ (g : Growing). g.row) (sym ((r.seats id me.0 seen here).grows y sweep)) ∙ r.grow.known)))
+
+  pub beginning : (x : ℕ) (y : Sweeping) → me.0.sweep ≡ Some y → phase_of y.word ≡ 0 → epoch_of y.word < 4611686018427387903 → me.0.growing.shut ≡ 0 → x ≡ epoch_word 1 (epoch_of y.word + 1)
       → Allows (Rule key) slots id me 0 (λ _. x) (λ _. begun (step slots 0 x 0 none) me x)
-  beginning x y sweep idle room at = let new : ℕ = epoch_word 1 (epoch_of y.word + 1) in
+  beginning x y sweep idle room still at = let new : ℕ = epoch_word 1 (epoch_of y.word + 1) in
       subst (λ (n : ℕ). Allows (Rule key) slots id me 0 (λ _. n) (λ _. begun (step slots 0 n 0 none) me n)) (sym at)
       (epoch_goes key me.0.size slots id me (λ _. new) (λ _. begun (step slots 0 new 0 none) me new) is here
-      (λ b vs r seen small. (Begin, (y, sweep, idle, room, refl), (refl, refl))))
+      (λ b vs r seen small. (Begin, (y, sweep, idle, room, still, refl), (refl, refl))))
 
   pub marking : (those : List Held) → me.0.cycle.engine ≢ 0 → ((a : Held) → In a those → In a me.0.held) → Allows (Rule key) slots id me 0 (λ n. n) (mark_read those (step slots 0 0 0 none) me)
   marking those engine ours = epoch_load key me.0.size slots id me (mark_read those (step slots 0 0 0 none) me) is here

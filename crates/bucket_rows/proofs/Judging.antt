@@ -23,8 +23,8 @@ pub looked_at : (k x : ℕ) (v u : View) → AtSlot k v → u ≡ after v (Look 
 looked_at k x v u a is = (looking x a.0, (ap (λ (y : View). y.sweep) is ∙ ap (option_map (looking x)) a.1.0, a.1.1), a.2, a.3, a.4)
 
 -- its text was read, and a walk begun
-pub spelled_at : (k h x : ℕ) (row : List ℕ) (v u w : View) → Found k v → u ≡ after v (spells row) → w ≡ after u (Start h x ∷ []) → AtSlot k w
-spelled_at k h x row v u w f is now = (record f.0 { text = f.0.text ++ row }, (ap (λ (y : View). y.sweep) now ∙ (ap (λ (y : View). y.sweep) is ∙ spells_know v f.0 row f.1.0), f.1.1), f.2, f.3, f.4)
+pub spelled_at : (k h x n : ℕ) (row : List ℕ) (v u t w : View) → Found k v → u ≡ after v (spells row) → t ≡ after u (Load 1 n ∷ []) → w ≡ after t (Start h x ∷ []) → AtSlot k w
+spelled_at k h x n row v u t w f is loaded now = (record f.0 { text = f.0.text ++ row }, (ap (λ (y : View). y.sweep) now ∙ (ap (λ (y : View). y.sweep) loaded ∙ (ap (λ (y : View). y.sweep) is ∙ spells_know v f.0 row f.1.0)), f.1.1), f.2, f.3, f.4)
 
 -- the walk has come to it
 pub reached_by : (k x y n before : ℕ) (q : Sweeping) (u : View) → Treads k x n before (k + 1) u → u.sweep ≡ Some q → q.dying ≡ 0 → x ≡ y → version_of x < last → Reached k y before u

@@ -1,5 +1,5 @@
 -- What a walk's steps make of the view.
-use Rattle.std.proofs.Common.{◌≡◌, ◌≢◌, ◌==◌, ◌&&◌, ◌||◌, Bool, true, false, eq-eqb, ℕ, ◌+◌, ◌-◌, ◌<◌, ◌≤◌, List, [], ◌∷◌, ◌++◌, length, take, refl, sym, ap, ◌∙◌, subst, inl, inr, ⊎_elim, arith, Option, Some, None, Result, Ok, Err, IfOk, MatchOption, option_map, append_assoc, append-nil, length-append}
+use Rattle.std.proofs.Common.{◌≡◌, ◌≢◌, ◌==◌, ◌&&◌, ◌||◌, Bool, true, false, eq-eqb, ℕ, ◌+◌, ◌-◌, ◌^◌, ◌<◌, ◌≤◌, List, [], ◌∷◌, ◌++◌, length, take, refl, sym, ap, ◌∙◌, subst, inl, inr, ⊎_elim, arith, Option, Some, None, Result, Ok, Err, IfOk, MatchOption, option_map, append_assoc, append-nil, length-append}
 use mathlib.Core.List.{map-append}
 use Rattle.atom_words.specs.Layout.{first_of, closed_of, version_of}
 use Rattle.atom_words.specs.Chains.{In}
@@ -20,7 +20,7 @@ use Rattle.atom_words.proofs.Putting.{after_more, puts_keep, puts_own}
 use Rattle.atom_words.proofs.Slices.{at_snoc}
 use Rattle.bucket_rows.specs.declared.missed.Missed.{Missed}
 use Rattle.bucket_rows.specs.declared.missed.Missed.TheVariants.{Moved, Pending, Closed, Worn}
-use Rattle.bucket_rows.specs.Walks.{Dying, Passed, reads, goes_on, passes, meets, Another, Others, WalksBy, Goes, Missing, MissingIn, Ready, Aside}
+use Rattle.bucket_rows.specs.Walks.{Dying, Passed, reads, goes_on, passes, meets, Another, Others, WalksBy, Goes, Missing, MissingIn, Ready, Aside, held_after, refused_after}
 use Rattle.bucket_rows.specs.Standing.{Standing, Ends, Meets}
 
 -- STEPS ONE AFTER THE OTHER

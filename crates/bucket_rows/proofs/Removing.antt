@@ -43,12 +43,12 @@ pub behinds_word : (s : AtomSeat) (k x before link : ℕ) → Behinds k x before
 behinds_word s k x before link b = subst (λ (y : ℕ). Behinds k y before link (seen s)) (word_of s k x b.0 before (k + 1) b.1) b
 
 -- the walk was made again
-pub behinds_again : (k x y before n after_ link : ℕ) (v u : View) → Behinds k x before link v → Treads k y n after_ (k + 1) u → u.sweep ≡ v.sweep → version_of y < last → Behinds k y after_ link u
-behinds_again k x y before n after_ link v u b t same early = let is : t.sweep ≡ b.1.sweep = some_same t.sweep b.1.sweep u.sweep t.sweeps.0 (same ∙ b.1.sweeps.0) in (
+pub behinds_again : (k x y before n after_ link : ℕ) (v u : View) → Behinds k x before link v → Treads k y n after_ (k + 1) u → u.sweep ≡ v.sweep → u.growing ≡ v.growing → version_of y < last → Behinds k y after_ link u
+behinds_again k x y before n after_ link v u b t same rows early = let is : t.sweep ≡ b.1.sweep = some_same t.sweep b.1.sweep u.sweep t.sweeps.0 (same ∙ b.1.sweeps.0) in (
   n,
   t,
   ap (λ (s : Sweeping). s.dying) is ∙ b.2,
-  ap (λ (s : Sweeping). s.head) is ∙ (b.3 ∙ (sym b.1.head ∙ (ap (λ (s : Sweeping). bucket 8 s.text) (sym is) ∙ t.head))),
+  ap (λ (s : Sweeping). s.head) is ∙ (b.3 ∙ (sym b.1.head ∙ ((λ i. bucket (sym rows i).row (sym is i).text) ∙ t.head))),
   ap (λ (s : Sweeping). s.behind) is ∙ b.4,
   early,
 )

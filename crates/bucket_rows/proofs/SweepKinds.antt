@@ -27,27 +27,27 @@ kept_on f g same None = refl
 kept_on f g same (Some y) = ap Some (same y)
 
 untouched_kind : (v : View) (k : Kind) → SweepKind k → Untouched v (view_after v k)
-untouched_kind v (Load i x) t = record { gone = refl; size = refl; own = refl; held = refl; fixed = refl; counts = refl; cycle = refl; word = refl; checked = refl }
-untouched_kind v (Start h x) t = record { gone = refl; size = refl; own = refl; held = refl; fixed = refl; counts = refl; cycle = refl; word = refl; checked = refl }
-untouched_kind v (Next x) t = record { gone = refl; size = refl; own = refl; held = refl; fixed = refl; counts = refl; cycle = refl; word = refl; checked = refl }
-untouched_kind v (Look x) t = record { gone = refl; size = refl; own = refl; held = refl; fixed = refl; counts = refl; cycle = refl; word = kept_on (looking x) (λ y. y.word) (λ _. refl) v.sweep; checked = kept_on (looking x) (λ y. y.checked) (λ _. refl) v.sweep }
-untouched_kind v (Spell x) t = record { gone = refl; size = refl; own = refl; held = refl; fixed = refl; counts = refl; cycle = refl; word = kept_on (spelling x) (λ y. y.word) (λ _. refl) v.sweep; checked = kept_on (spelling x) (λ y. y.checked) (λ _. refl) v.sweep }
-untouched_kind v Condemn t = record { gone = refl; size = refl; own = refl; held = refl; fixed = refl; counts = refl; cycle = refl; word = kept_on (condemning (head_of v.walk)) (λ y. y.word) (λ _. refl) v.sweep; checked = kept_on (condemning (head_of v.walk)) (λ y. y.checked) (λ _. refl) v.sweep }
-untouched_kind v (PassOver x) t = record { gone = refl; size = refl; own = refl; held = refl; fixed = refl; counts = refl; cycle = refl; word = kept_on passing (λ y. y.word) (λ _. refl) v.sweep; checked = kept_on passing (λ y. y.checked) (λ _. refl) v.sweep }
-untouched_kind v (Behind x) t = record { gone = refl; size = refl; own = refl; held = refl; fixed = refl; counts = refl; cycle = refl; word = kept_on (with_behind x) (λ y. y.word) (λ _. refl) v.sweep; checked = kept_on (with_behind x) (λ y. y.checked) (λ _. refl) v.sweep }
-untouched_kind v (UnlinkAt q) t = record { gone = refl; size = refl; own = refl; held = refl; fixed = refl; counts = refl; cycle = refl; word = kept_on (unlinking false) (λ y. y.word) (λ _. refl) v.sweep; checked = kept_on (unlinking false) (λ y. y.checked) (λ _. refl) v.sweep }
-untouched_kind v UnlinkHead t = record { gone = refl; size = refl; own = refl; held = refl; fixed = refl; counts = refl; cycle = refl; word = kept_on (unlinking true) (λ y. y.word) (λ _. refl) v.sweep; checked = kept_on (unlinking true) (λ y. y.checked) (λ _. refl) v.sweep }
-untouched_kind v (Note x) t = record { gone = refl; size = refl; own = refl; held = refl; fixed = refl; counts = refl; cycle = refl; word = kept_on (noting x) (λ y. y.word) (λ _. refl) v.sweep; checked = kept_on (noting x) (λ y. y.checked) (λ _. refl) v.sweep }
-untouched_kind v Bump t = record { gone = refl; size = refl; own = refl; held = refl; fixed = refl; counts = refl; cycle = refl; word = kept_on moving_past (λ y. y.word) (λ _. refl) v.sweep; checked = kept_on moving_past (λ y. y.checked) (λ _. refl) v.sweep }
-untouched_kind v (Past x) t = record { gone = refl; size = refl; own = refl; held = refl; fixed = refl; counts = refl; cycle = refl; word = kept_on moving_past (λ y. y.word) (λ _. refl) v.sweep; checked = kept_on moving_past (λ y. y.checked) (λ _. refl) v.sweep }
-untouched_kind v Free t = record { gone = refl; size = refl; own = refl; held = refl; fixed = refl; counts = refl; cycle = refl; word = kept_on freeing (λ y. y.word) (λ _. refl) v.sweep; checked = kept_on freeing (λ y. y.checked) (λ _. refl) v.sweep }
+untouched_kind v (Load i x) t = record { gone = refl; size = refl; own = refl; held = refl; fixed = refl; counts = refl; cycle = refl; growing = refl; word = refl; checked = refl }
+untouched_kind v (Start h x) t = record { gone = refl; size = refl; own = refl; held = refl; fixed = refl; counts = refl; cycle = refl; growing = refl; word = refl; checked = refl }
+untouched_kind v (Next x) t = record { gone = refl; size = refl; own = refl; held = refl; fixed = refl; counts = refl; cycle = refl; growing = refl; word = refl; checked = refl }
+untouched_kind v (Look x) t = record { gone = refl; size = refl; own = refl; held = refl; fixed = refl; counts = refl; cycle = refl; growing = refl; word = kept_on (looking x) (λ y. y.word) (λ _. refl) v.sweep; checked = kept_on (looking x) (λ y. y.checked) (λ _. refl) v.sweep }
+untouched_kind v (Spell x) t = record { gone = refl; size = refl; own = refl; held = refl; fixed = refl; counts = refl; cycle = refl; growing = refl; word = kept_on (spelling x) (λ y. y.word) (λ _. refl) v.sweep; checked = kept_on (spelling x) (λ y. y.checked) (λ _. refl) v.sweep }
+untouched_kind v Condemn t = record { gone = refl; size = refl; own = refl; held = refl; fixed = refl; counts = refl; cycle = refl; growing = refl; word = kept_on (condemning (head_of v.walk)) (λ y. y.word) (λ _. refl) v.sweep; checked = kept_on (condemning (head_of v.walk)) (λ y. y.checked) (λ _. refl) v.sweep }
+untouched_kind v (PassOver x) t = record { gone = refl; size = refl; own = refl; held = refl; fixed = refl; counts = refl; cycle = refl; growing = refl; word = kept_on passing (λ y. y.word) (λ _. refl) v.sweep; checked = kept_on passing (λ y. y.checked) (λ _. refl) v.sweep }
+untouched_kind v (Behind x) t = record { gone = refl; size = refl; own = refl; held = refl; fixed = refl; counts = refl; cycle = refl; growing = refl; word = kept_on (with_behind x) (λ y. y.word) (λ _. refl) v.sweep; checked = kept_on (with_behind x) (λ y. y.checked) (λ _. refl) v.sweep }
+untouched_kind v (UnlinkAt q) t = record { gone = refl; size = refl; own = refl; held = refl; fixed = refl; counts = refl; cycle = refl; growing = refl; word = kept_on (unlinking false) (λ y. y.word) (λ _. refl) v.sweep; checked = kept_on (unlinking false) (λ y. y.checked) (λ _. refl) v.sweep }
+untouched_kind v UnlinkHead t = record { gone = refl; size = refl; own = refl; held = refl; fixed = refl; counts = refl; cycle = refl; growing = refl; word = kept_on (unlinking true) (λ y. y.word) (λ _. refl) v.sweep; checked = kept_on (unlinking true) (λ y. y.checked) (λ _. refl) v.sweep }
+untouched_kind v (Note x) t = record { gone = refl; size = refl; own = refl; held = refl; fixed = refl; counts = refl; cycle = refl; growing = refl; word = kept_on (noting x) (λ y. y.word) (λ _. refl) v.sweep; checked = kept_on (noting x) (λ y. y.checked) (λ _. refl) v.sweep }
+untouched_kind v Bump t = record { gone = refl; size = refl; own = refl; held = refl; fixed = refl; counts = refl; cycle = refl; growing = refl; word = kept_on moving_past (λ y. y.word) (λ _. refl) v.sweep; checked = kept_on moving_past (λ y. y.checked) (λ _. refl) v.sweep }
+untouched_kind v (Past x) t = record { gone = refl; size = refl; own = refl; held = refl; fixed = refl; counts = refl; cycle = refl; growing = refl; word = kept_on moving_past (λ y. y.word) (λ _. refl) v.sweep; checked = kept_on moving_past (λ y. y.checked) (λ _. refl) v.sweep }
+untouched_kind v Free t = record { gone = refl; size = refl; own = refl; held = refl; fixed = refl; counts = refl; cycle = refl; growing = refl; word = kept_on freeing (λ y. y.word) (λ _. refl) v.sweep; checked = kept_on freeing (λ y. y.checked) (λ _. refl) v.sweep }
 untouched_kind v _ t = absurd t
 
 pub untouched_refl : (v : View) → Untouched v v
-untouched_refl v = record { gone = refl; size = refl; own = refl; held = refl; fixed = refl; counts = refl; cycle = refl; word = refl; checked = refl }
+untouched_refl v = record { gone = refl; size = refl; own = refl; held = refl; fixed = refl; counts = refl; cycle = refl; growing = refl; word = refl; checked = refl }
 
 pub untouched_both : (u v w : View) → Untouched u v → Untouched v w → Untouched u w
-untouched_both u v w a b = record { gone = b.gone ∙ a.gone; size = b.size ∙ a.size; own = b.own ∙ a.own; held = b.held ∙ a.held; fixed = b.fixed ∙ a.fixed; counts = b.counts ∙ a.counts; cycle = b.cycle ∙ a.cycle; word = b.word ∙ a.word; checked = b.checked ∙ a.checked }
+untouched_both u v w a b = record { gone = b.gone ∙ a.gone; size = b.size ∙ a.size; own = b.own ∙ a.own; held = b.held ∙ a.held; fixed = b.fixed ∙ a.fixed; counts = b.counts ∙ a.counts; cycle = b.cycle ∙ a.cycle; growing = b.growing ∙ a.growing; word = b.word ∙ a.word; checked = b.checked ∙ a.checked }
 
 pub untouched_all : (v : View) (ks : List Kind) → SweepKinds ks → Untouched v (after v ks)
 untouched_all v [] t = untouched_refl v

@@ -1,5 +1,5 @@
 -- Each raw step of a sweep is of its kind.
-use Rattle.std.proofs.Common.{◌≡◌, ℕ, ◌+◌, ◌*◌, ◌/◌, ◌%◌, ◌<◌, ◌≤◌, eqb, true, false, [], ◌∷◌, ◌++◌, List, length, get_or, bit_and, refl, sym, ap, ◌∙◌, subst, inr, ⊎_elim, arith, Some, None}
+use Rattle.std.proofs.Common.{◌≡◌, ℕ, ◌+◌, ◌*◌, ◌/◌, ◌%◌, ◌<◌, ◌≤◌, eqb, true, false, [], ◌∷◌, ◌++◌, List, length, get_or, bit_and, refl, sym, ap, ◌∙◌, subst, inl, inr, ⊎_elim, arith, Some, None}
 use Rattle.std.proofs.lemmas.Nat.{and_block, and_mask}
 use mathlib.Core.Logic.{dite}
 use mathlib.Core.Option.{none, some}
@@ -17,10 +17,13 @@ use Rattle.atom_words.specs.declared.size.Size.{Size}
 use Rattle.atom_words.specs.declared.view.Held.{Held}
 use Rattle.atom_words.specs.declared.view.Walk.{Walk}
 use Rattle.atom_words.specs.declared.view.Sweeping.{Sweeping}
+use Rattle.atom_words.specs.declared.view.Growing.{Growing}
 use Rattle.atom_words.specs.declared.view.View.{View}
 use Rattle.atom_words.specs.declared.kind.Kind.TheVariants.{Load, Start, Next, Look, Spell, Condemn, PassOver, Behind, UnlinkAt, UnlinkHead, Note, Bump, Past, Free, End}
 use Rattle.atom_words.proofs.Regions.{atom_read}
 use Rattle.atom_words.proofs.Slices.{in_none, in_cases}
+use Rattle.atom_words.proofs.Rowing.{early_sweep, chains_at_work}
+use Rattle.atom_words.proofs.Sweeps.{swept_by}
 use Rattle.atom_words.proofs.WalkSteps.{text_word}
 use Rattle.atom_words.proofs.Adapters.{Sat, atom_goes, atom_load, atom_exchange, link_load, link_goes, head_load, head_exchange, text_load}
 use Rattle.bucket_rows.specs.Plays.{looked, text_read, condemned, passed, traced, trod, behind_read, unlinked_at, unlinked_head, head_noted, bumped, freed, ended}
@@ -75,11 +78,15 @@ module _ (key : Size) (slots id : ℕ) (me : Sat) (is : key ≡ me.0.size) (here
         (refl, refl),
       )))
 
+  -- in a sweep no slot is moved to another row
+  not_moving : (b : Board) (vs : List View) (r : Kept me.0.size b vs) → get_elem? vs id ≡ some me.0 → (y : Sweeping) → Sweeps me.0 y → me.0.growing.moving ≡ 0
+  not_moving b vs r seen y q = let s = r.seats id me.0 seen here in let two = swept_by me.0.size b vs r id me.0 s y q in ap (λ (g : Growing). g.moving) (sym (s.grows y q.0)) ∙ (r.grow.rest (inl (early_sweep me.0.size b vs r two))).1
+
   -- THE COLLECTOR'S WALK
-  pub tracing : (i h : ℕ) (y : Sweeping) → me.0.sweep ≡ Some y → h < me.0.size.heads → i ≡ head_at me.0.size h → Allows (Rule key) slots id me i (λ n. n) (traced (step slots i 0 0 none) me)
-  tracing i h y sweep inside at = subst (λ (w : ℕ). Allows (Rule key) slots id me w (λ n. n) (traced (step slots w 0 0 none) me)) (sym at)
+  pub tracing : (i h : ℕ) (y : Sweeping) → Sweeps me.0 y → h < me.0.size.heads → i ≡ head_at me.0.size h → Allows (Rule key) slots id me i (λ n. n) (traced (step slots i 0 0 none) me)
+  tracing i h y q inside at = subst (λ (w : ℕ). Allows (Rule key) slots id me w (λ n. n) (traced (step slots w 0 0 none) me)) (sym at)
       (head_load key me.0.size slots id me h (traced (step slots (head_at me.0.size h) 0 0 none) me) is here inside
-      (λ b vs r seen small. let does : Does me.0.size b me.0 (Start h (head b h)) b = (inside, refl, inr (λ no. let some_ : None ≡ Some y = sym no ∙ sweep in cc), refl) in
+      (λ b vs r seen small. let does : Does me.0.size b me.0 (Start h (head b h)) b = (inside, refl, inr ((λ no. let some_ : None ≡ Some y = sym no ∙ q.0 in cc), not_moving b vs r seen y q), refl) in
       (Start h (head b h), does, (refl, (λ j e. let same : h ≡ j = omega arith in ap (λ (x : ℕ). view_after me.0 (Start x (head b h))) same), ahead_after me.0.size b vs r id me.0 seen here (Start h (head b h)) b does here))))
 
   pub treading : (i k : ℕ) (w : Walk) → me.0.walk ≡ Some w → w.place ≡ k + 1 → k < me.0.size.slots → i ≡ link_at me.0.size k → Allows (Rule key) slots id me i (λ n. n) (trod (step slots i 0 0 none) me)
@@ -97,7 +104,7 @@ module _ (key : Size) (slots id : ℕ) (me : Sat) (is : key ≡ me.0.size) (here
   small_link b vs r seen k y q cursor = let d = dying_part b vs r seen y q.0.0 q.1 in let same = ((r.seats id me.0 seen here).sweeps y q.0.0).1 in
       let in_ : r.plan.fate.out ≡ false = sym r.fate.out ∙ (ap (λ (t : Sweeping). t.unlinked) same ∙ q.2) in
       let on : In k (r.plan.chain r.plan.fate.head) = subst (λ (n : ℕ). In n (r.plan.chain r.plan.fate.head)) (ap (λ (t : Sweeping). t.cursor) same ∙ cursor) (d.there in_).0 in
-      let low = chain_link b.links (first_of (head b r.plan.fate.head)) k (r.plan.chain r.plan.fate.head) (r.rows.chains r.plan.fate.head d.inside) on in
+      let low = chain_link b.links (first_of (head b r.plan.fate.head)) k (r.plan.chain r.plan.fate.head) (chains_at_work me.0.size b vs r d.sweeping r.plan.fate.head d.inside) on in
       let most = r.sized.small in let many = r.sized.links in omega arith
 
   pub reading_behind : (i k : ℕ) (y : Sweeping) → Dying me.0 y → y.cursor ≡ k → k < me.0.size.slots → i ≡ link_at me.0.size k → Allows (Rule key) slots id me i (λ n. n) (behind_read (step slots i 0 0 none) me)
@@ -120,7 +127,7 @@ module _ (key : Size) (slots id : ℕ) (me : Sat) (is : key ≡ me.0.size) (here
       (λ b vs r seen hit. (UnlinkHead, (y, w, x, q, walk, first, behind, hit, refl), (refl, (λ _. refl), λ ne. absurd (ne hit))))
       (λ b vs r seen miss. let s = r.seats id me.0 seen here in let ok = s.walk w walk in let t = s.trail y w q.0.0 walk in let d = dying_part b vs r seen y q.0.0 q.1 in let past = ok.past in
       let later : version_of w.word < version_of (head b w.head) = dite (ℕ_discrete (version_of (head b w.head)) (version_of w.word)) (λ same. absurd (miss (ok.word same))) (λ ne. omega arith) in
-      let does : Does me.0.size b me.0 (Start w.head (head b w.head)) b = (inside, refl, inr (λ no. let some_ : None ≡ Some y = sym no ∙ q.0.0 in cc), refl) in (
+      let does : Does me.0.size b me.0 (Start w.head (head b w.head)) b = (inside, refl, inr ((λ no. let some_ : None ≡ Some y = sym no ∙ q.0.0 in cc), not_moving b vs r seen y q.0), refl) in (
         Start w.head (head b w.head),
         does,
         (

@@ -13,7 +13,7 @@ use Rattle.atom_words.specs.declared.size.Size.{Size}
 use Rattle.atom_words.specs.declared.view.Sweeping.{Sweeping}
 use Rattle.atom_words.specs.declared.view.View.{View}
 use Rattle.atom_words.specs.declared.kind.Kind.{Kind}
-use Rattle.atom_words.specs.declared.kind.Kind.TheVariants.{Raise, Risen, Reserve, PutWord, PutLink, Link, Validate, Release, Load, Refused, Start, Read, Next, Skip, Hold, Keep, Fix, StartPass, EndPass, Refuse, Ask, Protect, Fetch, Register, Unregister, Split, Join, Begin, Mark, Scan, Ack, Check, ToSweep, Look, Spell, Condemn, PassOver, Behind, UnlinkAt, UnlinkHead, Note, Bump, Past, Free, End}
+use Rattle.atom_words.specs.declared.kind.Kind.TheVariants.{Raise, Risen, Reserve, PutWord, PutLink, Link, Validate, Release, Load, Refused, Start, Read, Next, Skip, Hold, Keep, Fix, StartPass, EndPass, Refuse, Ask, Protect, Fetch, Register, Unregister, Split, Join, Begin, Mark, Scan, Ack, Check, ToSweep, Look, Spell, Condemn, PassOver, Behind, UnlinkAt, UnlinkHead, Note, Bump, Past, Free, End, Aim, Sound, Close, Emptied, Pick, MoveHead, MoveLink, LeaveHead, LeaveLink, PublishRow, Publish}
 use Rattle.atom_words.proofs.Regions.{atom_read}
 use Rattle.atom_words.proofs.Slices.{some_same, last_same}
 use Rattle.atom_words.proofs.Puts.{unmapped}
@@ -52,7 +52,7 @@ effect z b b' v none Release calm d = absurd (let some_ : None ≡ Some d.0 = sy
 effect z b b' v none (PutWord x) calm d = inl (ap (λ (x : Board). x.atoms) d.4, ap (λ (x : Board). x.epoch) d.4)
 effect z b b' v none (PutLink l) calm d = inl (ap (λ (x : Board). x.atoms) d.3, ap (λ (x : Board). x.epoch) d.3)
 effect z b b' v none Link calm d = inl (ap (λ (x : Board). x.atoms) d.11, ap (λ (x : Board). x.epoch) d.11)
-effect z b b' v none (Raise h) calm d = inl (ap (λ (x : Board). x.atoms) d.3, ap (λ (x : Board). x.epoch) d.3)
+effect z b b' v none (Raise h) calm d = inl (ap (λ (x : Board). x.atoms) d.4, ap (λ (x : Board). x.epoch) d.4)
 effect z b b' v none (Risen h x) calm d = leaves b b' v d.3
 effect z b b' v none (Load i x) calm d = leaves b b' v d.1
 effect z b b' v none (Refused i a f) calm d = leaves b b' v d.3
@@ -85,6 +85,17 @@ effect z b b' v none Bump calm d = inr (inl (d.0, d.2.0.0))
 effect z b b' v none (Past x) calm d = inr (inl (d.0, d.2.0.0))
 effect z b b' v none Free calm d = inr (inl (d.0, d.1.0.0))
 effect z b b' v none End calm d = inr (inl (d.0, d.1.0))
+effect z b b' v none (Aim row) calm d = inl (ap (λ (x_ : Board). x_.atoms) d.3, ap (λ (x_ : Board). x_.epoch) d.3)
+effect z b b' v none (Sound x) calm d = inl (ap (λ (x_ : Board). x_.atoms) d.6, ap (λ (x_ : Board). x_.epoch) d.6)
+effect z b b' v none (Close h) calm d = inl (ap (λ (x_ : Board). x_.atoms) d.5, ap (λ (x_ : Board). x_.epoch) d.5)
+effect z b b' v none Emptied calm d = inl (ap (λ (x_ : Board). x_.atoms) d.4, ap (λ (x_ : Board). x_.epoch) d.4)
+effect z b b' v none (Pick a before) calm d = inl (ap (λ (x_ : Board). x_.atoms) d.9, ap (λ (x_ : Board). x_.epoch) d.9)
+effect z b b' v none (MoveHead h) calm d = inl (ap (λ (x_ : Board). x_.atoms) d.6, ap (λ (x_ : Board). x_.epoch) d.6)
+effect z b b' v none (MoveLink q) calm d = inl (ap (λ (x_ : Board). x_.atoms) d.9, ap (λ (x_ : Board). x_.epoch) d.9)
+effect z b b' v none (LeaveHead h) calm d = inl (ap (λ (x_ : Board). x_.atoms) d.4, ap (λ (x_ : Board). x_.epoch) d.4)
+effect z b b' v none (LeaveLink q) calm d = inl (ap (λ (x_ : Board). x_.atoms) d.3, ap (λ (x_ : Board). x_.epoch) d.3)
+effect z b b' v none (PublishRow row) calm d = inl (ap (λ (x_ : Board). x_.atoms) d.5, ap (λ (x_ : Board). x_.epoch) d.5)
+effect z b b' v none (Publish h) calm d = inl (ap (λ (x_ : Board). x_.atoms) d.5, ap (λ (x_ : Board). x_.epoch) d.5)
 effect z b b' v none _ calm d = absurd d
 
 -- a word that was made 0

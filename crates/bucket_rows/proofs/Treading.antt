@@ -11,7 +11,7 @@ use Rattle.atom_words.specs.declared.view.Held.{Held}
 use Rattle.atom_words.specs.declared.view.Walk.{Walk}
 use Rattle.atom_words.specs.declared.view.Sweeping.{Sweeping}
 use Rattle.atom_words.specs.declared.view.View.{View}
-use Rattle.atom_words.specs.declared.kind.Kind.TheVariants.{Start, Next, Spell, Condemn, Behind}
+use Rattle.atom_words.specs.declared.kind.Kind.TheVariants.{Load, Start, Next, Spell, Condemn, Behind}
 use Rattle.atom_words.proofs.Slices.{in_none, in_cases, in_either}
 use Rattle.atom_words.proofs.Tied.{walk_head_on, walk_word_on}
 use Rattle.bucket_rows.specs.Treads.{spells, nexts, Found, Treads}
@@ -90,17 +90,18 @@ treads_again k x n before p y v t = record {
 }
 
 -- the first walk begins at the head of the bucket of the text that was spelled
-pub treads_start : (k x : ℕ) (row : List ℕ) (u v : View) → Found k u → length row ≡ 32 → v ≡ after u (spells row) → Treads k x 0 0 (first_of x) (view_after v (Start (bucket 8 row) x))
-treads_start k x row u v f long is = let y : Sweeping = record f.0 { text = f.0.text ++ row } in let text : f.0.text ++ row ≡ row = ap (λ (l : List ℕ). l ++ row) f.6 in record {
+pub treads_start : (k x n : ℕ) (row : List ℕ) (u v t : View) → Found k u → length row ≡ 32 → v ≡ after u (spells row) → t ≡ after v (Load 1 n ∷ []) → u.growing.row ≡ n → Treads k x 0 0 (first_of x) (view_after t (Start (bucket n row) x))
+treads_start k x n row u v t f long is loaded known = let y : Sweeping = record f.0 { text = f.0.text ++ row } in let text : f.0.text ++ row ≡ row = ap (λ (l : List ℕ). l ++ row) f.6 in
+    let rows : t.growing.row ≡ n = ap (λ (q : View). q.growing.row) loaded ∙ (ap (λ (q : View). q.growing.row) is ∙ (spells_keep (λ (q : View). q.growing.row) (λ _ _. refl) u row ∙ known)) in record {
   sweep = y;
-  sweeps = (ap (λ (q : View). q.sweep) is ∙ spells_know u f.0 row f.1.0, f.1.1);
+  sweeps = (ap (λ (q : View). q.sweep) loaded ∙ (ap (λ (q : View). q.sweep) is ∙ spells_know u f.0 row f.1.0), f.1.1);
   cursor = f.4;
   sure = f.5;
   whole = ap length text ∙ long;
   linked = f.3;
-  walk = starting (bucket 8 row) x;
+  walk = starting (bucket n row) x;
   at = refl;
-  head = ap (bucket 8) text;
+  head = (λ i. bucket (rows i) (text i));
   word = refl;
   count = refl;
   place = refl;

@@ -13,7 +13,7 @@ use Rattle.atom_words.specs.declared.size.Size.{Size}
 use Rattle.atom_words.specs.declared.view.Sweeping.{Sweeping}
 use Rattle.atom_words.specs.declared.view.View.{View}
 use Rattle.atom_words.specs.declared.kind.Kind.{Kind}
-use Rattle.atom_words.specs.declared.kind.Kind.TheVariants.{Raise, Risen, Reserve, PutWord, PutLink, Link, Validate, Release, Load, Refused, Start, Read, Next, Skip, Hold, Keep, Fix, StartPass, EndPass, Refuse, Ask, Protect, Fetch, Register, Unregister, Begin, Mark, Scan, Ack, Check, ToSweep, Look, Spell, Condemn, PassOver, Behind, UnlinkAt, UnlinkHead, Note, Bump, Past, Free, End}
+use Rattle.atom_words.specs.declared.kind.Kind.TheVariants.{Raise, Risen, Reserve, PutWord, PutLink, Link, Validate, Release, Load, Refused, Start, Read, Next, Skip, Hold, Keep, Fix, StartPass, EndPass, Refuse, Ask, Protect, Fetch, Register, Unregister, Begin, Mark, Scan, Ack, Check, ToSweep, Look, Spell, Condemn, PassOver, Behind, UnlinkAt, UnlinkHead, Note, Bump, Past, Free, End, Make, Split, Join, Aim, Sound, Close, Emptied, Pick, MoveHead, MoveLink, LeaveHead, LeaveLink, PublishRow, Publish}
 use Rattle.atom_words.proofs.Puts.{unmapped}
 use Rattle.atom_words.proofs.Every.{keep_move, reached_kept}
 use Rattle.bucket_rows.specs.TwoCycles.{Calm, CalmMove, Leads, ScanMove, Scanned, NoneReserved}
@@ -47,7 +47,7 @@ module _ (z : Size) (e : ℕ) (old : List ℕ) (b : Board) (vs : List View) (r :
     calm_kind (PassOver x) back here_ calm d = passes z e old b vs r D E s on id v at here x b' (flat (PassOver x) (λ k e. cc) back) calm d
     calm_kind Condemn back here_ calm d = condemns z e old b vs r D E s on id v at here b' (flat Condemn (λ k e. cc) back) d
     calm_kind Free back here_ calm d = frees z e old b vs r D E s on id v at here b' (flat Free (λ k e. cc) back) d
-    calm_kind (Raise h) back here_ calm d = quiet z e old b vs r D E s on id v at here (Raise h) b' (flat (Raise h) (λ k e. cc) back) (ap (λ (x : Board). x.atoms) d.3) (ap (λ (x : Board). x.epoch) d.3) (λ n. n) (λ q h. (q, h, refl))
+    calm_kind (Raise h) back here_ calm d = quiet z e old b vs r D E s on id v at here (Raise h) b' (flat (Raise h) (λ k e. cc) back) (ap (λ (x : Board). x.atoms) d.4) (ap (λ (x : Board). x.epoch) d.4) (λ n. n) (λ q h. (q, h, refl))
     calm_kind (Risen h x) back here_ calm d = quiet z e old b vs r D E s on id v at here (Risen h x) b' (flat (Risen h x) (λ k e. cc) back) (ap (λ (x : Board). x.atoms) d.3) (ap (λ (x : Board). x.epoch) d.3) (λ n. n) (λ q h. (q, h, refl))
     calm_kind (Load i x) back here_ calm d = quiet z e old b vs r D E s on id v at here (Load i x) b' (flat (Load i x) (λ k e. cc) back) (ap (λ (x : Board). x.atoms) d.1) (ap (λ (x : Board). x.epoch) d.1) (λ n. n) (λ q h. (q, h, refl))
     calm_kind (Refused i a f) back here_ calm d = quiet z e old b vs r D E s on id v at here (Refused i a f) b' (flat (Refused i a f) (λ k e. cc) back) (ap (λ (x : Board). x.atoms) d.3) (ap (λ (x : Board). x.epoch) d.3) (λ n. n) (λ q h. (q, h, refl))
@@ -73,6 +73,17 @@ module _ (z : Size) (e : ℕ) (old : List ℕ) (b : Board) (vs : List View) (r :
     calm_kind (Note x) back here_ calm d = quiet z e old b vs r D E s on id v at here (Note x) b' (flat (Note x) (λ k e. cc) back) (ap (λ (x : Board). x.atoms) d.3) (ap (λ (x : Board). x.epoch) d.3) (λ n. n) (steady (noting x) (λ _. refl) v)
     calm_kind Bump back here_ calm d = quiet z e old b vs r D E s on id v at here Bump b' (flat Bump (λ k e. cc) back) (ap (λ (x : Board). x.atoms) d.6) (ap (λ (x : Board). x.epoch) d.6) (λ n. n) (steady moving_past (λ _. refl) v)
     calm_kind (Past x) back here_ calm d = quiet z e old b vs r D E s on id v at here (Past x) b' (flat (Past x) (λ k e. cc) back) (ap (λ (x : Board). x.atoms) d.6) (ap (λ (x : Board). x.epoch) d.6) (λ n. n) (steady moving_past (λ _. refl) v)
+    calm_kind (Aim row) back here_ calm d = quiet z e old b vs r D E s on id v at here (Aim row) b' (flat (Aim row) (λ k e. cc) back) (ap (λ (x_ : Board). x_.atoms) d.3) (ap (λ (x_ : Board). x_.epoch) d.3) (λ n. n) (λ q_ h_. (q_, h_, refl))
+    calm_kind (Sound x) back here_ calm d = quiet z e old b vs r D E s on id v at here (Sound x) b' (flat (Sound x) (λ k e. cc) back) (ap (λ (x_ : Board). x_.atoms) d.6) (ap (λ (x_ : Board). x_.epoch) d.6) (λ n. n) (λ q_ h_. (q_, h_, refl))
+    calm_kind (Close h) back here_ calm d = quiet z e old b vs r D E s on id v at here (Close h) b' (flat (Close h) (λ k e. cc) back) (ap (λ (x_ : Board). x_.atoms) d.5) (ap (λ (x_ : Board). x_.epoch) d.5) (λ n. n) (λ q_ h_. (q_, h_, refl))
+    calm_kind Emptied back here_ calm d = quiet z e old b vs r D E s on id v at here Emptied b' (flat Emptied (λ k e. cc) back) (ap (λ (x_ : Board). x_.atoms) d.4) (ap (λ (x_ : Board). x_.epoch) d.4) (λ n. n) (λ q_ h_. (q_, h_, refl))
+    calm_kind (Pick a before) back here_ calm d = quiet z e old b vs r D E s on id v at here (Pick a before) b' (flat (Pick a before) (λ k e. cc) back) (ap (λ (x_ : Board). x_.atoms) d.9) (ap (λ (x_ : Board). x_.epoch) d.9) (λ n. n) (λ q_ h_. (q_, h_, refl))
+    calm_kind (MoveHead h) back here_ calm d = quiet z e old b vs r D E s on id v at here (MoveHead h) b' (flat (MoveHead h) (λ k e. cc) back) (ap (λ (x_ : Board). x_.atoms) d.6) (ap (λ (x_ : Board). x_.epoch) d.6) (λ n. n) (λ q_ h_. (q_, h_, refl))
+    calm_kind (MoveLink q) back here_ calm d = quiet z e old b vs r D E s on id v at here (MoveLink q) b' (flat (MoveLink q) (λ k e. cc) back) (ap (λ (x_ : Board). x_.atoms) d.9) (ap (λ (x_ : Board). x_.epoch) d.9) (λ n. n) (λ q_ h_. (q_, h_, refl))
+    calm_kind (LeaveHead h) back here_ calm d = quiet z e old b vs r D E s on id v at here (LeaveHead h) b' (flat (LeaveHead h) (λ k e. cc) back) (ap (λ (x_ : Board). x_.atoms) d.4) (ap (λ (x_ : Board). x_.epoch) d.4) (λ n. n) (λ q_ h_. (q_, h_, refl))
+    calm_kind (LeaveLink q) back here_ calm d = quiet z e old b vs r D E s on id v at here (LeaveLink q) b' (flat (LeaveLink q) (λ k e. cc) back) (ap (λ (x_ : Board). x_.atoms) d.3) (ap (λ (x_ : Board). x_.epoch) d.3) (λ n. n) (λ q_ h_. (q_, h_, refl))
+    calm_kind (PublishRow row) back here_ calm d = quiet z e old b vs r D E s on id v at here (PublishRow row) b' (flat (PublishRow row) (λ k e. cc) back) (ap (λ (x_ : Board). x_.atoms) d.5) (ap (λ (x_ : Board). x_.epoch) d.5) (λ n. n) (λ q_ h_. (q_, h_, refl))
+    calm_kind (Publish h) back here_ calm d = quiet z e old b vs r D E s on id v at here (Publish h) b' (flat (Publish h) (λ k e. cc) back) (ap (λ (x_ : Board). x_.atoms) d.5) (ap (λ (x_ : Board). x_.epoch) d.5) (λ n. n) (λ q_ h_. (q_, h_, refl))
     calm_kind _ back here_ calm d = absurd d
 
 -- one step more

@@ -44,7 +44,7 @@ fn reach(words: &Words, seat: &mut AtomSeat, slot: u32) -> Result<u64, u64>
     requires found { Found slot (seen seat.old) }
     ensures same { Same seat.old seat.new }
     ensures fits { Fits words.now seat.new }
-    ensures steps { MatchResult result (λ before. (ks : List Kind) × (seen seat.new ≡ after (seen seat.old) ks) × SweepKinds ks) (λ x. (last ≤ version_of x) × ((row : List ℕ) × (seen seat.new ≡ after (seen seat.old) (spells row ++ Start (bucket 8 row) x ∷ [])))) }
+    ensures steps { MatchResult result (λ before. (ks : List Kind) × (seen seat.new ≡ after (seen seat.old) ks) × SweepKinds ks) (λ x. (last ≤ version_of x) × ((row : List ℕ) × (s : ℕ) × (seen seat.new ≡ after (seen seat.old) (spells row ++ (Load 1 s ∷ Start (bucket s row) x ∷ []))))) }
     ensures reached { MatchResult result (λ before. Reached slot seat.new.word before (seen seat.new) × (before ≤ words.now.size.slots)) (λ x. AtSlot slot (seen seat.new)) }
 {
     let row = spell_row(words, seat, slot);

@@ -14,7 +14,7 @@ mark_and_ack-requires-clause-engine c = let rest = c.intern.ensures.rest in ((λ
 pub mark_and_ack-requires-clause-held : goal.mark_and_ack-requires-clause-held
 mark_and_ack-requires-clause-held c = λ k i. let h : Held = record { slot = c.in-Is.a; text = spelled c.args.text.now } in (
   h,
-  inl (subst (In h) (sym c.in-Is.ensures.answer.1) (in_back h (seen c.args.seat.now).held (h ∷ []) (0, refl))),
+  inl (subst (In h) (sym c.in-Is.ensures.answer.2.1) (in_back h (seen c.args.seat.now).held (h ∷ []) (0, refl))),
   ⊎_elim (λ (e : c.in-Is.a ≡ k). e) (λ (none : In k []). absurd (in_none k none)) (in_cases k c.in-Is.a [] i),
 )
 

@@ -29,30 +29,30 @@ link-requires-clause-ready c = let v : View = seen c.args.seat.now in let row : 
 pub validate-requires-clause-fits : goal.validate-requires-clause-fits
 validate-requires-clause-fits c = let v : View = seen c.args.seat.now in let u : View = seen c.put_text.new.seat in let w : View = seen c.link.new.seat in let row : List ℕ = spelled c.args.text.now in let is : row_of c.as_bytes.result.now ≡ row = ap row_of (c.as_bytes.ensures.value ∙ c.as_str.ensures) in
     let r : Ready u = ready_put row c.requires.own.0 v u (row_length (encode_utf8_all c.args.text.now)) c.requires.own.1 c.requires.missing (c.put_text.ensures.steps ∙ ap (λ (l : List ℕ). after v (puts l)) is) in
-    let b = beside_trans v u w (subst (Beside v) (sym c.put_text.ensures.steps) (beside_puts v (row_of c.as_bytes.result.now))) (beside_links u r.4.walk c.link.result w (c.link.ensures.steps r.4.walk r.4.at)) in
+    let b = beside_trans v u w (subst (Beside v) (sym c.put_text.ensures.steps) (beside_puts v (row_of c.as_bytes.result.now))) (beside_links u r.4.2.walk c.link.result w (c.link.ensures.steps r.4.2.walk r.4.2.at)) in
     (c.link.ensures.same.0 ∙ (c.put_text.ensures.same.0 ∙ c.requires.fits.0), b.size ∙ c.requires.fits.1, b.gone ∙ c.requires.fits.2)
 
 pub validate-requires-clause-sitting : goal.validate-requires-clause-sitting
 validate-requires-clause-sitting c = let v : View = seen c.args.seat.now in let u : View = seen c.put_text.new.seat in let w : View = seen c.link.new.seat in let row : List ℕ = spelled c.args.text.now in let is : row_of c.as_bytes.result.now ≡ row = ap row_of (c.as_bytes.ensures.value ∙ c.as_str.ensures) in
     let r : Ready u = ready_put row c.requires.own.0 v u (row_length (encode_utf8_all c.args.text.now)) c.requires.own.1 c.requires.missing (c.put_text.ensures.steps ∙ ap (λ (l : List ℕ). after v (puts l)) is) in
-    let b = beside_trans v u w (subst (Beside v) (sym c.put_text.ensures.steps) (beside_puts v (row_of c.as_bytes.result.now))) (beside_links u r.4.walk c.link.result w (c.link.ensures.steps r.4.walk r.4.at)) in
+    let b = beside_trans v u w (subst (Beside v) (sym c.put_text.ensures.steps) (beside_puts v (row_of c.as_bytes.result.now))) (beside_links u r.4.2.walk c.link.result w (c.link.ensures.steps r.4.2.walk r.4.2.at)) in
     sitting_by v w b.cycle b.undealt c.requires.sitting
 
 pub release-requires-clause-fits : goal.release-requires-clause-fits
 release-requires-clause-fits c = let v : View = seen c.args.seat.now in let u : View = seen c.put_text.new.seat in let w : View = seen c.link.new.seat in let row : List ℕ = spelled c.args.text.now in let is : row_of c.as_bytes.result.now ≡ row = ap row_of (c.as_bytes.ensures.value ∙ c.as_str.ensures) in
     let r : Ready u = ready_put row c.requires.own.0 v u (row_length (encode_utf8_all c.args.text.now)) c.requires.own.1 c.requires.missing (c.put_text.ensures.steps ∙ ap (λ (l : List ℕ). after v (puts l)) is) in
-    let b = beside_trans v u w (subst (Beside v) (sym c.put_text.ensures.steps) (beside_puts v (row_of c.as_bytes.result.now))) (beside_links u r.4.walk c.link.result w (c.link.ensures.steps r.4.walk r.4.at)) in
+    let b = beside_trans v u w (subst (Beside v) (sym c.put_text.ensures.steps) (beside_puts v (row_of c.as_bytes.result.now))) (beside_links u r.4.2.walk c.link.result w (c.link.ensures.steps r.4.2.walk r.4.2.at)) in
     (c.link.ensures.same.0 ∙ (c.put_text.ensures.same.0 ∙ c.requires.fits.0), b.size ∙ c.requires.fits.1, b.gone ∙ c.requires.fits.2)
 
 pub validate-requires-clause-linked : goal.validate-requires-clause-linked
 validate-requires-clause-linked c = let v : View = seen c.args.seat.now in let u : View = seen c.put_text.new.seat in let w : View = seen c.link.new.seat in let row : List ℕ = spelled c.args.text.now in let is : row_of c.as_bytes.result.now ≡ row = ap row_of (c.as_bytes.ensures.value ∙ c.as_str.ensures) in
     let r : Ready u = ready_put row c.requires.own.0 v u (row_length (encode_utf8_all c.args.text.now)) c.requires.own.1 c.requires.missing (c.put_text.ensures.steps ∙ ap (λ (l : List ℕ). after v (puts l)) is) in
-    (linked_own (linking (first_of r.4.walk.word) r.0), linked_by u r.4.walk tt w r.0 (c.in-Ok.ensures.steps r.4.walk r.4.at) r.1, refl)
+    (linked_own (linking (first_of r.4.2.walk.word) r.0), linked_by u r.4.2.walk tt w r.0 (c.in-Ok.ensures.steps r.4.2.walk r.4.2.at) r.1, refl)
 
 pub release-requires-clause-unlinked : goal.release-requires-clause-unlinked
 release-requires-clause-unlinked c = let v : View = seen c.args.seat.now in let u : View = seen c.put_text.new.seat in let w : View = seen c.link.new.seat in let row : List ℕ = spelled c.args.text.now in let is : row_of c.as_bytes.result.now ≡ row = ap row_of (c.as_bytes.ensures.value ∙ c.as_str.ensures) in
     let r : Ready u = ready_put row c.requires.own.0 v u (row_length (encode_utf8_all c.args.text.now)) c.requires.own.1 c.requires.missing (c.put_text.ensures.steps ∙ ap (λ (l : List ℕ). after v (puts l)) is) in
-    unlinked_by u r.4.walk c.in-Err.missed w r.0 (c.in-Err.ensures.steps r.4.walk r.4.at) r.1 r.2
+    unlinked_by u r.4.2.walk c.in-Err.missed w r.0 (c.in-Err.ensures.steps r.4.2.walk r.4.2.at) r.1 r.2
 
 pub returns-in-Ok-clause-steps : goal.returns-in-Ok-clause-steps
 returns-in-Ok-clause-steps c = λ t at. let v : View = seen c.args.seat.now in let u : View = seen c.put_text.new.seat in let row : List ℕ = spelled c.args.text.now in let is : row_of c.as_bytes.result.now ≡ row = ap row_of (c.as_bytes.ensures.value ∙ c.as_str.ensures) in
@@ -66,7 +66,7 @@ returns-in-Err-clause-steps c = λ t at. let v : View = seen c.args.seat.now in 
 
 pub returns-in-Ok-clause-held : goal.returns-in-Ok-clause-held
 returns-in-Ok-clause-held c = λ k own. let s = c.args.seat.now in let v : View = seen s in let u : View = seen c.put_text.new.seat in let w : View = seen c.link.new.seat in let row : List ℕ = spelled c.args.text.now in let is : row_of c.as_bytes.result.now ≡ row = ap row_of (c.as_bytes.ensures.value ∙ c.as_str.ensures) in
-    let put : u ≡ after v (puts row) = c.put_text.ensures.steps ∙ ap (λ (l : List ℕ). after v (puts l)) is in let m = c.requires.missing in let walk : u.walk ≡ Some m.walk = ap (λ (y : View). y.walk) put ∙ (puts_keep (λ (y : View). y.walk) (λ _ _. refl) v row ∙ m.at) in
+    let put : u ≡ after v (puts row) = c.put_text.ensures.steps ∙ ap (λ (l : List ℕ). after v (puts l)) is in let m = c.requires.missing.2 in let walk : u.walk ≡ Some m.walk = ap (λ (y : View). y.walk) put ∙ (puts_keep (λ (y : View). y.walk) (λ _ _. refl) v row ∙ m.at) in
     let o : Own = record { slot = k; text = row; link = None; linked = false } in let u_own : u.own ≡ Some o = ap (λ (y : View). y.own) put ∙ puts_own v (fresh k) row own in
     let p : Own = linked_own (linking (first_of m.walk.word) o) in let w_own : w.own ≡ Some p = linked_by u m.walk tt w o (c.in-Ok.ensures.steps m.walk walk) u_own in
     let slot : c.at.result ≡ k = c.at.ensures ∙ c.validate.ensures.slot p w_own in

@@ -21,7 +21,7 @@ pub settle-requires-clause-sitting : goal.settle-requires-clause-sitting
 settle-requires-clause-sitting c = let v : View = seen c.args.seat.now in let u : View = seen c.reserve.new.seat in let b = beside_reserve v c.args.slot u c.in-Ok.ensures.steps in sitting_by v u b.cycle b.undealt c.requires.sitting
 
 pub settle-requires-clause-missing : goal.settle-requires-clause-missing
-settle-requires-clause-missing c = let row : List ℕ = spelled c.args.text.now in missing_as row (bucket 8 row) (seen c.args.seat.now) (seen c.reserve.new.seat) (reserved_as (seen c.args.seat.now) c.args.slot (seen c.reserve.new.seat) c.in-Ok.ensures.steps).walk c.requires.missing
+settle-requires-clause-missing c = let row : List ℕ = spelled c.args.text.now in (c.requires.missing.0, c.requires.missing.1, missing_as row (bucket c.requires.missing.0 row) (seen c.args.seat.now) (seen c.reserve.new.seat) (reserved_as (seen c.args.seat.now) c.args.slot (seen c.reserve.new.seat) c.in-Ok.ensures.steps).walk c.requires.missing.2)
 
 pub returns-in-Ok-clause-placed : goal.returns-in-Ok-clause-placed
 returns-in-Ok-clause-placed c = let row : List ℕ = spelled c.args.text.now in let v : View = seen c.args.seat.now in let u : View = seen c.reserve.new.seat in let w : View = seen c.settle.new.seat in let b = beside_reserve v c.args.slot u c.in-Ok.ensures.steps in

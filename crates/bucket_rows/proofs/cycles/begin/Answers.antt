@@ -23,7 +23,7 @@ store-requires c = let words = c.args.words.now in let v : View = c.args.seat.no
       c.load-word.ensures.0 ∙ c.requires.fits.0,
       omega (arith, words.counted),
       beginning words.table.shared.key words.table.shared.table_id.slots s.id s.me (words.keyed ∙ size) (ap (λ (q : View). q.gone) is ∙ c.requires.fits.2) (1 + 4 * (c.load-word.result / 4 + 1)) y
-          (ap (λ (q : View). q.sweep) is ∙ c.requires.collector.1) (ap phase_of (sym word) ∙ idle) (subst (λ (n : ℕ). epoch_of n < 4611686018427387903) word room) (sym plain ∙ ap (λ (n : ℕ). epoch_word 1 (epoch_of n + 1)) word),
+          (ap (λ (q : View). q.sweep) is ∙ c.requires.collector.1) (ap phase_of (sym word) ∙ idle) (subst (λ (n : ℕ). epoch_of n < 4611686018427387903) word room) (ap (λ (q : View). q.growing.shut) is ∙ c.requires.collector.2) (sym plain ∙ ap (λ (n : ℕ). epoch_word 1 (epoch_of n + 1)) word),
     )
 
 pub returns-clause-steps : goal.returns-clause-steps

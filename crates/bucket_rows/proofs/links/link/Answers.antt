@@ -26,7 +26,7 @@ store-requires c = let same : c.args.words.now.size ≡ c.args.seat.now.seat.me.
     )
 
 pub compare_exchange-found-requires : goal.compare_exchange-found-requires
-compare_exchange-found-requires c = let s = c.args.seat.now in let v : View = s.seat.me.0 in let u : View = c.store.new.seat.me.0 in let first : ℕ = s.word % 2097152 in let o : Own = c.requires.ready.0 in let m = c.requires.ready.4 in let w : Walk = m.walk in
+compare_exchange-found-requires c = let s = c.args.seat.now in let v : View = s.seat.me.0 in let u : View = c.store.new.seat.me.0 in let first : ℕ = s.word % 2097152 in let o : Own = c.requires.ready.0 in let m = c.requires.ready.4.2 in let w : Walk = m.walk in
     let is : u ≡ view_after v (PutLink first) = c.store.ensures.2.1 in let size : c.args.words.now.size ≡ u.size = sym c.requires.fits.1 ∙ sym (ap (λ (y : View). y.size) is) in
     let slot : o.slot ≡ s.own = ap (own_slot s.own) (sym c.requires.ready.1) ∙ s.owns.0 in let word : w.word ≡ s.word = ap (walk_word s.word) (sym m.at) ∙ s.walks.1 in let head : s.head ≡ w.head = sym (ap (walk_head s.head) (sym m.at) ∙ s.walks.0) in
     let new : head_word (o.slot + 1) 0 (version_of w.word + 1) ≡ s.own + 1 + 4194304 * (s.word / 4194304 + 1) =
@@ -35,7 +35,7 @@ compare_exchange-found-requires c = let s = c.args.seat.now in let v : View = s.
     let P : ℕ × ℕ → Type 0 = λ p. Allows (Rule key) slots id me i (λ n. either (eqb n p.0) p.1 n) (slot_linked (step slots i p.0 p.1 none) me) in (
       c.store.ensures.0 ∙ c.requires.fits.0,
       c.head_place-top.ensures.inside,
-      subst P (λ j. (word j, new j)) (linking_step key slots id me (c.args.words.now.keyed ∙ size) (ap (λ (y : View). y.gone) is ∙ c.requires.fits.2) i (linking first o) w
+      subst P (λ j. (word j, new j)) (linking_step key slots id me (c.args.words.now.keyed ∙ size) (ap (λ (y : View). y.gone) is ∙ c.requires.fits.2) i c.requires.ready.4.0 (linking first o) w c.requires.ready.4.1
           (ap (λ (y : View). y.own) is ∙ ap (option_map (linking first)) c.requires.ready.1) (ap (λ (y : View). y.walk) is ∙ m.at) c.requires.ready.2 c.requires.ready.3 (ap (λ (n : ℕ). Some (n % 2097152)) (sym word))
           (sym m.head, m.ended, m.others) m.unclosed (subst (λ (n : ℕ). version_of n < 4398046511102) (sym word) (let low = c.if-seat-ge-WORN.false in omega arith))
           (subst (λ (h : ℕ). h < u.size.heads) head (subst (λ (y : Size). s.head < y.heads) (sym (ap (λ (y : View). y.size) is)) s.walks.2)) (c.head_place-top.ensures.place ∙ (λ j. head_at (size j) (head j)))),

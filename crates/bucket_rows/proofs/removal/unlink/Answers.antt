@@ -77,7 +77,8 @@ loop-i-preserved c = let inv = c.loop-i.invariant in let s = c.loop-i.seat in le
       low = e.low;
       caught = behinds_word new c.args.slot mid.word c.tread-before.result c.read_behind-link.result
           (behinds_again c.args.slot s.word mid.word c.loop-i.before e.stands.0 c.tread-before.result c.read_behind-link.result u (seen new) inv.caught e.stands.1
-          (ap (λ (y : View). y.sweep) e.steps.1 ∙ (nexts_keep (λ (y : View). y.sweep) (λ _ _. refl) (seen mid) xs ∙ ap (λ (y : View). y.sweep) is)) (subst (λ (n : ℕ). version_of n < last) (sym word) told.1));
+          (ap (λ (y : View). y.sweep) e.steps.1 ∙ (nexts_keep (λ (y : View). y.sweep) (λ _ _. refl) (seen mid) xs ∙ ap (λ (y : View). y.sweep) is))
+          (ap (λ (y : View). y.growing) e.steps.1 ∙ (nexts_keep (λ (y : View). y.growing) (λ _ _. refl) (seen mid) xs ∙ ap (λ (y : View). y.growing) is)) (subst (λ (n : ℕ). version_of n < last) (sym word) told.1));
       count = subst (λ (n : ℕ). c.loop-i._i + 1 ≤ version_of n) (sym now) (let le : version_of s.word < version_of x = subst (λ (n : ℕ). version_of n < version_of x) old later in omega arith);
     }
 

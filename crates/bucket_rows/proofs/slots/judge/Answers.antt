@@ -38,5 +38,5 @@ returns-in-Err-take_out-clause-steps c = let v : View = seen c.args.seat.now in 
 
 pub returns-in-Err-clause-steps : goal.returns-in-Err-clause-steps
 returns-in-Err-clause-steps c = let v : View = seen c.args.seat.now in let u : View = seen c.look-found.new.seat in let t : View = seen c.reach.new.seat in let m = c.in-Err.ensures.steps in let x : ℕ = c.in-Err.word in
-    let is : u ≡ after v (Look 3 ∷ []) = c.look-found.ensures.steps ∙ ap (λ (x : ℕ). view_after v (Look x)) c.if-found-ne3.false in let js : List Kind = spells m.1.0 ++ Start (bucket 8 m.1.0) x ∷ [] in
-    (Look 3 ∷ js, then_steps v u t (Look 3 ∷ []) js is m.1.1, (m.0, (m.1.0, refl)), (tt, kinds_append (spells m.1.0) (Start (bucket 8 m.1.0) x ∷ []) (kinds_spells m.1.0) (tt, tt)))
+    let is : u ≡ after v (Look 3 ∷ []) = c.look-found.ensures.steps ∙ ap (λ (x : ℕ). view_after v (Look x)) c.if-found-ne3.false in let ends : List Kind = Load 1 m.1.1 ∷ Start (bucket m.1.1 m.1.0) x ∷ [] in let js : List Kind = spells m.1.0 ++ ends in
+    (Look 3 ∷ js, then_steps v u t (Look 3 ∷ []) js is m.1.2, (m.0, (m.1.0, m.1.1, refl)), (tt, kinds_append (spells m.1.0) ends (kinds_spells m.1.0) (tt, (tt, tt))))

@@ -27,5 +27,5 @@ returns-clause-bucket c = let row : List ℕ = c.args.row.now in let n : ℕ = g
     let bytes : take i xs ≡ take n xs = dite (dec_le n 248)
     (λ (few : n ≤ 248). ap (λ (k : ℕ). take k xs) (end ∙ m.fewer few))
     (λ (over : ¬ (n ≤ 248)). take_all i xs (let is = m.more (omega arith) in omega arith) ∙ sym (take_all n xs (omega arith))) in
-    let sum : c.loop-i.hash % 256 ≡ 2 ^ 8 - 256 + c.loop-i.hash % 2 ^ 8 = omega arith in
-    sum ∙ ap (λ (h : ℕ). 2 ^ 8 - 256 + h % 2 ^ 8) (c.loop-i.invariant ∙ ap (fnv 14695981039346656037) bytes)
+    let heads : c.row_heads-heads.result ≡ 2 ^ c.args.size = c.row_heads-heads.ensures in
+    (λ j. heads j - 256 + c.loop-i.hash % heads j) ∙ ap (λ (h : ℕ). 2 ^ c.args.size - 256 + h % 2 ^ c.args.size) (c.loop-i.invariant ∙ ap (fnv 14695981039346656037) bytes)

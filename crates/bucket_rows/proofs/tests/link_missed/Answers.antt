@@ -5,9 +5,9 @@ use Rattle.bucket_rows.proofs.Making.{beside_links, unlinked_by}
 use Rattle.bucket_rows.proofs.tests.link_missed.Goals as goal
 
 pub release-requires-clause-fits : goal.release-requires-clause-fits
-release-requires-clause-fits c = let v : View = seen c.args.seat.now in let m = c.requires.ready.0.4 in let b = beside_links v m.walk c.link.result (seen c.link.new.seat) (c.link.ensures.steps m.walk m.at) in
+release-requires-clause-fits c = let v : View = seen c.args.seat.now in let m = c.requires.ready.0.4.2 in let b = beside_links v m.walk c.link.result (seen c.link.new.seat) (c.link.ensures.steps m.walk m.at) in
     (c.link.ensures.same.0 ∙ c.requires.fits.0, b.size ∙ c.requires.fits.1, b.gone ∙ c.requires.fits.2)
 
 pub release-requires-clause-unlinked : goal.release-requires-clause-unlinked
-release-requires-clause-unlinked c = let v : View = seen c.args.seat.now in let m = c.requires.ready.0.4 in
+release-requires-clause-unlinked c = let v : View = seen c.args.seat.now in let m = c.requires.ready.0.4.2 in
     unlinked_by v m.walk c.in-Err.missed (seen c.link.new.seat) c.requires.ready.0.0 (c.in-Err.ensures.steps m.walk m.at) c.requires.ready.0.1 c.requires.ready.0.2

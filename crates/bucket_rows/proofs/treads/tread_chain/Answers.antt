@@ -16,7 +16,7 @@ not_missed : (k x n before p m : ℕ) (v : View) → Treads k x n before p v →
 not_missed k x n before p m v t ahead size = let at = t.place in let many = t.count in ⊎_elim
     (λ (seen : In t.sweep.cursor (slots t.walk.seen)). absurd (t.unseen (subst (λ (i : ℕ). In i (slots t.walk.seen)) t.cursor seen)))
     (λ (on : (t.walk.place ≢ 0) × (t.walk.place ≤ v.size.slots) × (length t.walk.seen < v.size.slots)). let some_ = on.0 in let inside = on.1 in let few = on.2 in ((λ none. some_ (at ∙ none)), omega arith, omega arith))
-    (ahead t.sweep t.walk t.sweeps.0 t.at t.sure t.whole t.linked t.head)
+    (ahead t.sweep t.walk t.sweeps.0 t.at t.sweeps.1 t.sure t.whole t.linked t.head)
 
 pub loop-i-init : goal.loop-i-init
 loop-i-init c = record { same = (refl, refl, refl); steps = ([], refl); stands = c.requires.start; ahead = c.requires.ahead; low = omega arith }

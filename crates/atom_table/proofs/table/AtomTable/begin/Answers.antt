@@ -1,7 +1,7 @@
 use Rattle.std.proofs.Common.{ap}
 use Rattle.atom_words.specs.Seats.{seen}
 use Rattle.atom_words.specs.declared.view.View.{View}
-use Rattle.atom_table.proofs.Scans.{begun_collects, sits_same}
+use Rattle.atom_table.proofs.Scans.{collects_known, begun_collects, sits_same}
 use Rattle.atom_table.proofs.table.AtomTable.begin.Goals as goal
 
 pub invariant_of-collector : goal.invariant_of-collector
@@ -18,3 +18,6 @@ returns-then-word-eq0-clause-sits c = let is = c.in-Err.ensures.steps.2 in sits_
 pub returns-else-word-eq0-clause-sits : goal.returns-else-word-eq0-clause-sits
 returns-else-word-eq0-clause-sits c = let is = c.in-Err.ensures.steps.2 in sits_same c.args.self.now.words c.args.collector.now.seat c.begin.new.seat c.begin.ensures.same
     (ap (λ (y : View). y.held) is) (ap (λ (y : View). y.fixed) is) (ap (λ (y : View). y.size) is) (ap (λ (y : View). y.gone) is) (ap (λ (y : View). y.own) is) (ap (λ (y : View). y.counts) is) c.requires.sits
+
+pub begin-requires-clause-collector : goal.begin-requires-clause-collector
+begin-requires-clause-collector c = let o = c.args.collector.now in let k = collects_known (seen o.seat) o.word o.checked o.cursor o.collects in (k.0, k.1, o.collects.8)
