@@ -1,5 +1,5 @@
 //! Texts are interned.
-ghost use Rattle.std.specs.Prelude.{◌≡◌, ◌≤◌, ◌++◌, false, [], ◌∷◌, None};
+ghost use Rattle.std.specs.Prelude.{◌≡◌, ◌<◌, ◌≤◌, ◌++◌, false, [], ◌∷◌, None};
 ghost use Rattle.pl_term.specs.Texts.{size};
 ghost use Rattle.atom_words.specs.Kinds.{view_after, after};
 ghost use Rattle.atom_words.specs.Seats.{seen, Fits, Same, Walking};

@@ -283,8 +283,12 @@ module _ (z : Size) (b : Board) (vs : List View) (r : Kept z b vs) (id : ℕ) (v
       | no ne ↦ elim (ℕ_discrete h (bucket r.plan.grow.aim a.text)) as (λ _. Linked z.heads chain2 q) [
         | yes e ↦ (bucket r.plan.grow.aim a.text, to_in, subst (In q) (sym at_to) (in_front q (r.plan.chain (bucket r.plan.grow.aim a.text)) (a.slot ∷ []) (subst (λ (n : ℕ). In q (r.plan.chain n)) e i)))
         | no other ↦ elim (ℕ_discrete h (row_first b.row + r.plan.grow.moved)) as (λ _. Linked z.heads chain2 q) [
-          | yes e ↦ (row_first b.row + r.plan.grow.moved, from_in, subst (In q) (sym at_from) (⊎_elim (λ (t : In q known_.2.0). t) (λ (t : In q (a.slot ∷ [])). ⊎_elim (λ (same : a.slot ≡ q). absurd (ne (sym same))) (λ (none : In q []). absurd (in_none q none)) (in_cases q a.slot [] t))
-              (in_either q known_.2.0 (a.slot ∷ []) (subst (In q) (ap r.plan.chain e ∙ known_.2.1) i))))
+          | yes e ↦ (
+            row_first b.row + r.plan.grow.moved,
+            from_in,
+            subst (In q) (sym at_from) (⊎_elim (λ (t : In q known_.2.0). t) (λ (t : In q (a.slot ∷ [])). ⊎_elim (λ (same : a.slot ≡ q). absurd (ne (sym same))) (λ (none : In q []). absurd (in_none q none)) (in_cases q a.slot [] t))
+                (in_either q known_.2.0 (a.slot ∷ []) (subst (In q) (ap r.plan.chain e ∙ known_.2.1) i))),
+          )
           | no out ↦ (h, inside, subst (In q) (sym (at_else h other out)) i)
         ]
       ]

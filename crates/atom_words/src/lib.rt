@@ -39,7 +39,8 @@ pub use rule::{AtomRule, every_state, slots_are_safe};
 pub use size::Size;
 pub use texts::{MOST_BYTES, row_word};
 pub use view::{
-    Cause, Counted, Cycling, Growing, Held, Own, Pass, Passing, Refusal, Sweeping, View, Walk, WornWord,
+    Cause, Counted, Cycling, Growing, Held, Own, Pass, Passing, Refusal, Sweeping, View, Walk,
+    WornWord,
 };
 pub use words::{AtomSeat, Words};
 pub use worn::WORN;

@@ -93,22 +93,22 @@ treads_again k x n before p y v t = record {
 pub treads_start : (k x n : ℕ) (row : List ℕ) (u v t : View) → Found k u → length row ≡ 32 → v ≡ after u (spells row) → t ≡ after v (Load 1 n ∷ []) → u.growing.row ≡ n → Treads k x 0 0 (first_of x) (view_after t (Start (bucket n row) x))
 treads_start k x n row u v t f long is loaded known = let y : Sweeping = record f.0 { text = f.0.text ++ row } in let text : f.0.text ++ row ≡ row = ap (λ (l : List ℕ). l ++ row) f.6 in
     let rows : t.growing.row ≡ n = ap (λ (q : View). q.growing.row) loaded ∙ (ap (λ (q : View). q.growing.row) is ∙ (spells_keep (λ (q : View). q.growing.row) (λ _ _. refl) u row ∙ known)) in record {
-  sweep = y;
-  sweeps = (ap (λ (q : View). q.sweep) loaded ∙ (ap (λ (q : View). q.sweep) is ∙ spells_know u f.0 row f.1.0), f.1.1);
-  cursor = f.4;
-  sure = f.5;
-  whole = ap length text ∙ long;
-  linked = f.3;
-  walk = starting (bucket n row) x;
-  at = refl;
-  head = (λ i. bucket (rows i) (text i));
-  word = refl;
-  count = refl;
-  place = refl;
-  last_seen = inl (refl, refl);
-  first = λ _. refl;
-  unseen = λ i. in_none k i;
-}
+      sweep = y;
+      sweeps = (ap (λ (q : View). q.sweep) loaded ∙ (ap (λ (q : View). q.sweep) is ∙ spells_know u f.0 row f.1.0), f.1.1);
+      cursor = f.4;
+      sure = f.5;
+      whole = ap length text ∙ long;
+      linked = f.3;
+      walk = starting (bucket n row) x;
+      at = refl;
+      head = (λ i. bucket (rows i) (text i));
+      word = refl;
+      count = refl;
+      place = refl;
+      last_seen = inl (refl, refl);
+      first = λ _. refl;
+      unseen = λ i. in_none k i;
+    }
 
 -- the slot is condemned; its link word is read
 pub treads_condemn : (k x n before p : ℕ) (v : View) → (t : Treads k x n before p v) → (u : Treads k x n before p (view_after v Condemn)) × (u.sweep.dying ≡ k + 1) × (u.sweep.head ≡ u.walk.head)

@@ -60,8 +60,5 @@ pub fn row_in_use(words: &Words, seat: &mut AtomSeat) -> u64
     ensures row { RowOk words.now.size result }
     ensures known { (y : Sweeping) → (seen seat.old).sweep ≡ Some y → (seen seat.old).growing.row ≡ result }
 {
-    words
-        .table
-        .shared
-        .load::<ReadingRow>(&mut seat.seat, 1)
+    words.table.shared.load::<ReadingRow>(&mut seat.seat, 1)
 }

@@ -42,7 +42,7 @@ returns-then-word-ge-LAST-clause-steps c = let v : View = seen c.args.seat.now i
 pub returns-then-word-ge-LAST-clause-reached : goal.returns-then-word-ge-LAST-clause-reached
 returns-then-word-ge-LAST-clause-reached c =
     spelled_at c.args.slot c.row_bucket.result c.trace-word.result c.row_in_use-size.result c.spell_row-row.result (seen c.args.seat.now) (seen c.spell_row-row.new.seat) (seen c.row_in_use-size.new.seat) (seen c.trace-word.new.seat) c.requires.found c.spell_row-row.ensures.steps
-        c.row_in_use-size.ensures.steps c.trace-word.ensures.steps
+    c.row_in_use-size.ensures.steps c.trace-word.ensures.steps
 
 pub tread-requires-clause-fits : goal.tread-requires-clause-fits
 tread-requires-clause-fits c = let v : View = seen c.args.seat.now in let row : List ℕ = c.spell_row-row.result in let is = c.spell_row-row.ensures.steps in let loaded = c.row_in_use-size.ensures.steps in let now = c.trace-word.ensures.steps in (

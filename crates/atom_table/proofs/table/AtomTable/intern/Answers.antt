@@ -1,4 +1,4 @@
-use Rattle.std.proofs.Common.{◌∙◌}
+use Rattle.std.proofs.Common.{◌∙◌, refl, arith}
 use Rattle.atom_words.specs.Texts.{bucket}
 use Rattle.atom_words.specs.Seats.{seen}
 use Rattle.bucket_rows.specs.Walks.{spelled}
@@ -15,3 +15,6 @@ returns-else-bytes-gt-MOST_BYTES-clause-sits c = let t = c.args.text.now in let 
 
 pub returns-else-bytes-gt-MOST_BYTES-clause-walking : goal.returns-else-bytes-gt-MOST_BYTES-clause-walking
 returns-else-bytes-gt-MOST_BYTES-clause-walking c = walking_rest (seen c.args.seat.now) (seen c.intern_short.new.seat) c.intern_short.ensures.told.2.rest c.requires.walking
+
+pub returns-then-bytes-gt-MOST_BYTES-clause-answer : goal.returns-then-bytes-gt-MOST_BYTES-clause-answer
+returns-then-bytes-gt-MOST_BYTES-clause-answer c = let is = c.size-bytes.ensures in (8, omega arith, (omega (arith, c.if-bytes-gt-MOST_BYTES.true, is), is, refl))

@@ -34,9 +34,12 @@ add_text-requires-clause-sitting c = let v : View = seen c.args.seat.now in let 
 pub returns-in-Ok-clause-told : goal.returns-in-Ok-clause-told
 returns-in-Ok-clause-told c = let t = c.args.text.now in let h : ℕ = bucket c.requires.missing.0 (spelled t) in let v : View = seen c.args.seat.now in let u : View = seen c.take_slot.new.seat in let w : View = seen c.add_text.new.seat in let m = c.requires.missing.2 in
     let slots : c.args.self.now.words.size.slots ≡ v.size.slots = sym (ap (λ (y : Size). y.slots) c.requires.fits.1) in
-    let P : ℕ → Type 0 = λ k. IfOk c.add_text.result (λ a. (i : ℕ) → u.own ≡ Some (fresh i) → (a ≡ i) × (a < k) × Alone u a (spelled t) × (w.held ≡ u.held ++ record { slot = a; text = spelled t } ∷ [])) in
-    (c.requires.missing.0, c.requires.missing.1, subst (λ r. Told t h v r w) (sym c.made.ensures)
-    (slot_told t h c.requires.short v c.next_slot-from.result u w tt c.in-Ok.ensures.steps m.walk m.at m.head c.requires.none c.add_text.result c.add_text.ensures.steps (subst P slots c.add_text.ensures.held)))
+    let P : ℕ → Type 0 = λ k. IfOk c.add_text.result (λ a. (i : ℕ) → u.own ≡ Some (fresh i) → (a ≡ i) × (a < k) × Alone u a (spelled t) × (w.held ≡ u.held ++ record { slot = a; text = spelled t } ∷ [])) in (
+      c.requires.missing.0,
+      c.requires.missing.1,
+      subst (λ r. Told t h v r w) (sym c.made.ensures)
+          (slot_told t h c.requires.short v c.next_slot-from.result u w tt c.in-Ok.ensures.steps m.walk m.at m.head c.requires.none c.add_text.result c.add_text.ensures.steps (subst P slots c.add_text.ensures.held)),
+    )
 
 pub returns-in-Ok-clause-request : goal.returns-in-Ok-clause-request
 returns-in-Ok-clause-request c = let t = c.args.text.now in let h : ℕ = bucket c.requires.missing.0 (spelled t) in let m = c.requires.missing.2 in
@@ -48,9 +51,12 @@ returns-in-Ok-clause-steps c = let t = c.args.text.now in let h : ℕ = bucket c
     (slot_steps t h c.requires.short (seen c.args.seat.now) c.next_slot-from.result (seen c.take_slot.new.seat) (seen c.add_text.new.seat) tt c.in-Ok.ensures.steps m.walk m.at m.head c.requires.none c.add_text.result c.add_text.ensures.steps)
 
 pub returns-in-Err-clause-told : goal.returns-in-Err-clause-told
-returns-in-Err-clause-told c = let t = c.args.text.now in let v : View = seen c.args.seat.now in let slots : c.args.self.now.words.size.slots ≡ v.size.slots = sym (ap (λ (y : Size). y.slots) c.requires.fits.1) in let ok = c.args.self.now.words.allowed in
-    (c.requires.missing.0, c.requires.missing.1, (full_told t (bucket c.requires.missing.0 (spelled t)) c.requires.short v c.next_slot-from.result (seen c.take_slot.new.seat) c.in-Err.pass
-    (subst (λ (n : ℕ). c.next_slot-from.result < n) slots c.next_slot-from.ensures) c.in-Err.ensures.steps).0)
+returns-in-Err-clause-told c = let t = c.args.text.now in let v : View = seen c.args.seat.now in let slots : c.args.self.now.words.size.slots ≡ v.size.slots = sym (ap (λ (y : Size). y.slots) c.requires.fits.1) in let ok = c.args.self.now.words.allowed in (
+  c.requires.missing.0,
+  c.requires.missing.1,
+  (full_told t (bucket c.requires.missing.0 (spelled t)) c.requires.short v c.next_slot-from.result (seen c.take_slot.new.seat) c.in-Err.pass
+      (subst (λ (n : ℕ). c.next_slot-from.result < n) slots c.next_slot-from.ensures) c.in-Err.ensures.steps).0,
+)
 
 pub returns-in-Err-clause-request : goal.returns-in-Err-clause-request
 returns-in-Err-clause-request c = let t = c.args.text.now in let v : View = seen c.args.seat.now in let slots : c.args.self.now.words.size.slots ≡ v.size.slots = sym (ap (λ (y : Size). y.slots) c.requires.fits.1) in let ok = c.args.self.now.words.allowed in
