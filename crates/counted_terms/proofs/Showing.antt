@@ -6,9 +6,7 @@ use mathlib.Core.Option.{none, some}
 use lib.ListN.{get_elem?}
 use Rattle.std.specs.Prelude.{length}
 use Rattle.atomic_table.specs.Table.{step, Allows}
-use Rattle.atom_words.specs.Texts.{bucket}
 use Rattle.atom_words.specs.Board.{Board, text_of}
-use Rattle.atom_words.specs.Chains.{In}
 use Rattle.atom_words.specs.Views.{uncounted}
 use Rattle.atom_words.specs.Kinds.{counted}
 use Rattle.atom_words.specs.Rule.{Rule}
@@ -33,8 +31,7 @@ module _ (key : Size) (slots id : ℕ) (me : Sat) (is : key ≡ me.0.size) (here
   agrees_at b vs r seen cs e = record {
     alone = λ k some_. let h = live k some_ in let valid = h.valid in alone_at me.0.size b vs r id me.0 s k (counted cs k).text h.linked (λ two. omega arith) h.text;
     unlike = λ j k x y same. let h = live j x in let i = live k y in let texts : text_of b.texts j ≡ text_of b.texts k = h.text ∙ (same ∙ sym i.text) in let l = h.linked in let m = i.linked in
-        let at : m.0 ≡ l.0 = sym (r.rows.stands m.0 k m.1 m.2) ∙ (ap (bucket b.row) (sym texts) ∙ r.rows.stands l.0 j l.1 l.2) in
-        r.rows.unlike l.0 j k l.1 l.2 (subst (λ (n : ℕ). In k (r.plan.chain n)) at m.2) (stays j h) (stays k i) texts;
+        r.rows.unlike l.0 m.0 j k l.1 m.1 l.2 m.2 (stays j h) (stays k i) texts;
   }
     where
       s : SeatOk me.0.size b r.plan id me.0
