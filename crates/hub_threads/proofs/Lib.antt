@@ -1,0 +1,7 @@
+pub mod Creating
+pub mod FoundQueues
+pub mod RefusedRows
+pub mod Renaming
+pub mod Same
+pub mod Sending
+pub mod Steps

@@ -1,0 +1,33 @@
+use Rattle.std.proofs.Common.{◌≡◌, ◌≤◌, ◌<◌, ℕ, ◌+◌, List, [], refl, sym, ap, subst, ◌∙◌, arith, codes}
+use Rattle.std.specs.Prelude.{◌^◌, Some, length}
+use Rattle.pl_term.specs.Tree.{Tree, atom}
+use Rattle.pl_model.specs.ErrorTerms.{resource_error}
+use Rattle.pl_model.specs.History.{make_queue}
+use Rattle.pl_model.specs.Requests as requests
+use Rattle.world_api.specs.Texts.{or_no_text}
+use Rattle.world_api.specs.declared.reply.Name.TheVariants.{Alias}
+use Rattle.hub_threads.specs.Rows.{updates_in}
+use Rattle.hub_threads.proofs.Creating.{free, free_made, made_below, made_changes, made_weighs}
+use Rattle.hub_threads.proofs.RefusedRows.{refuses_decides, updates_refused}
+use Rattle.hub_threads.proofs.Sending.{nothing_below}
+use Rattle.hub_threads.proofs.queues.create_named.Goals as goal
+
+pub returns-then-generation-ge-MOST_UPDATES-clause-below : goal.returns-then-generation-ge-MOST_UPDATES-clause-below
+returns-then-generation-ge-MOST_UPDATES-clause-below c = nothing_below c.args.queues.now c.args.count.now c.args.generation (updates_in c.worn_out.result) c.requires.below
+
+pub returns-then-generation-ge-MOST_UPDATES-clause-says : goal.returns-then-generation-ge-MOST_UPDATES-clause-says
+returns-then-generation-ge-MOST_UPDATES-clause-says c = λ k m e goals h stand held long stands.
+    refuses_decides k m e (requests.create_queue (Some c.args.text)) c.args.queues.now c.args.count.now goals h (resource_error (codes "generations"))
+    (free k c.args.queues.now c.args.count.now goals h stands e c.args.text c.requires.free ∙ updates_refused (length h) (requests.named (atom c.args.text)) (make_queue c.args.count.now (Some c.args.text)) (let high = c.if-generation-ge-MOST_UPDATES.true in let l = long in omega (arith, high, l)))
+    stands c.worn_out.result (c.worn_out.ensures.says m stand)
+
+pub returns-in-Ok-clause-stored : goal.returns-in-Ok-clause-stored
+returns-in-Ok-clause-stored c = λ w. made_weighs c.args.queues.now c.make_queue.new.self c.args.count.now (Some c.args.text) c.is_sound.ensures (free_made c.args.queues.now c.args.text c.requires.free c.in-Ok.ensures.made) w
+
+pub returns-in-Ok-clause-below : goal.returns-in-Ok-clause-below
+returns-in-Ok-clause-below c = made_below c.args.queues.now c.make_queue.new.self c.args.count.now (Some c.args.text) c.is_sound.ensures (free_made c.args.queues.now c.args.text c.requires.free c.in-Ok.ensures.made) c.args.generation (c.args.count.now + 1) refl c.requires.below
+
+pub returns-in-Ok-clause-says : goal.returns-in-Ok-clause-says
+returns-in-Ok-clause-says c = λ k m e goals h stand held long stands.
+    made_changes c.args.queues.now c.make_queue.new.self c.args.count.now (c.args.count.now + 1) (Some c.args.text) c.is_sound.ensures (free_made c.args.queues.now c.args.text c.requires.free c.in-Ok.ensures.made) refl k m e goals c.args.generation h (requests.create_queue (Some c.args.text)) (atom c.args.text) (Alias c.args.a)
+    long (let low = c.if-generation-ge-MOST_UPDATES.false in omega (arith, low)) (free k c.args.queues.now c.args.count.now goals h stands e c.args.text c.requires.free) (ap (λ o. atom (or_no_text c.args.a o)) (sym held)) stands

@@ -1,0 +1,17 @@
+//! The threads and message queues that all engines share, over atoms that are counted (SWI-Prolog manual, section
+//! 'Multithreaded applications').
+//!
+//! Each visit that concerns them is a row of its own: it decides what the state answers, changes what is held, and counts
+//! the atoms of each message, goal and status as it is stored, and no longer as it is handed out or dropped. The step on
+//! the history is made by the caller.
+#![tactic(auto)]
+
+mod finding;
+mod messages;
+mod names;
+mod queues;
+mod refusing;
+
+pub use messages::send_message;
+pub use names::own_name;
+pub use queues::create_queue;

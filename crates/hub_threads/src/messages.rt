@@ -1,0 +1,102 @@
+//! Messages.
+ghost use Rattle.std.specs.Prelude.{◌≡◌, ◌≤◌, ◌<◌, ◌+◌, ◌++◌, ◌^◌, ℕ, IsSome, IfSome, Some, length};
+ghost use Rattle.std.specs.List.{All};
+ghost use Rattle.pl_term.specs.Tree.{Tree};
+ghost use Rattle.pl_model.specs.History.{History};
+ghost use Rattle.pl_model.specs.Requests as requests;
+ghost use Rattle.pl_model.specs.Service.{name_of};
+ghost use Rattle.pl_model.specs.Threads.{queue_named};
+ghost use Rattle.atom_words.specs.Seats.{seen};
+ghost use Rattle.atom_table.specs.Naming.{names, requests as asked};
+ghost use Rattle.term_store.specs.NumberedNames.{names_of};
+ghost use Rattle.thread_queues.specs.Weights.{IsBelow};
+ghost use Rattle.counted_terms.specs.CountedTerms.{said};
+ghost use Rattle.counted_terms.specs.Keeping.{HoldsOn, KeeperAt, keeper_view};
+ghost use Rattle.counted_terms.specs.Rows.{row_names, row_refusals};
+ghost use Rattle.counted_terms.specs.Sharing.{Counts, Restored};
+ghost use Rattle.hub_threads.specs.Rows.{Decides, updates_in};
+ghost use Rattle.hub_threads.specs.Threads.{IsThreads, thread_counts};
+
+use crate::finding::{FoundQueue, find_queue};
+use crate::refusing::{no_queue, worn_out};
+use atom_table::{Keeper, NamesTable, TableAtoms};
+use counted_terms::{CountedTerm, MOST_UPDATES, Row, forget_by, store_from};
+use std::alloc::Global;
+use term_store::Stored;
+use thread_queues::{Name, Queues};
+use world_api::Reply;
+
+/// thread_send_message/2: a message is sent to the queue that the term names, at the generation, which is the length of
+/// the history.
+pub fn send_message<K: NamesTable>(
+    alloc: Global,
+    queues: &mut Queues<CountedTerm>,
+    atoms: &mut TableAtoms<K>,
+    keeper: &mut Option<Keeper>,
+    generation: u64,
+    queue: &Stored,
+    message: CountedTerm,
+) -> Row
+    requires keeper { KeeperAt K.atoms K.size keeper.old }
+    requires counts { Counts (thread_counts queues.old) (keeper_view keeper.old) generation }
+    requires queue { All (λ a. IsSome (names (seen atoms.old.seat) a)) (names_of queue.now) }
+    requires message { All (λ a. IsSome (names (seen atoms.old.seat) a)) (names_of message) }
+    requires below { (count : ℕ) × IsBelow count generation queues.old }
+    ensures keeper { KeeperAt K.atoms K.size keeper.new }
+    ensures restored { Restored (thread_counts queues.old) (thread_counts queues.new) (keeper_view keeper.old) (keeper_view keeper.new) generation (generation + updates_in result) }
+    ensures below { (count : ℕ) → IsBelow count generation queues.old → IsBelow count (generation + updates_in result) queues.new }
+    ensures says { (e count goals : ℕ) (h : History) → length h ≡ generation → IsThreads (keeper_view keeper.old) queues.old count goals h
+        → Decides (keeper_view keeper.new) (names (seen atoms.new.seat)) e (requests.send_message (said (names (seen atoms.old.seat)) queue.now) (said (names (seen atoms.old.seat)) message)) queues.new count goals h result }
+    ensures named { All (λ a. IsSome (names (seen atoms.new.seat) a)) (row_names result) }
+    ensures holds { HoldsOn (names (seen atoms.old.seat)) (names (seen atoms.new.seat)) }
+    ensures refusals { (seen atoms.new.seat).refusals ≡ (seen atoms.old.seat).refusals ++ row_refusals result }
+    ensures asked { asked (seen atoms.new.seat) ≡ asked (seen atoms.old.seat) }
+{
+    match find_queue(alloc, queues, atoms, queue) {
+        FoundQueue::Memory => Row::Memory,
+        FoundQueue::Missing => no_queue(alloc, queue),
+        FoundQueue::Is(name) => {
+            if generation >= MOST_UPDATES {
+                return worn_out(alloc);
+            }
+            put_message(queues, atoms, keeper, generation, &name, message)
+        }
+    }
+}
+
+// The message is stored, and put after the others of the queue.
+fn put_message<K: NamesTable>(
+    queues: &mut Queues<CountedTerm>,
+    atoms: &mut TableAtoms<K>,
+    keeper: &mut Option<Keeper>,
+    generation: u64,
+    name: &Name,
+    message: CountedTerm,
+) -> Row
+    requires keeper { KeeperAt K.atoms K.size keeper.old }
+    requires counts { Counts (thread_counts queues.old) (keeper_view keeper.old) generation }
+    requires message { All (λ a. IsSome (names (seen atoms.old.seat) a)) (names_of message) }
+    requires below { (count : ℕ) × IsBelow count generation queues.old }
+    requires there { IsSome (queue_named queues.old.state name.now) }
+    requires room { generation < 2 ^ 47 }
+    ensures keeper { KeeperAt K.atoms K.size keeper.new }
+    ensures restored { Restored (thread_counts queues.old) (thread_counts queues.new) (keeper_view keeper.old) (keeper_view keeper.new) generation (generation + updates_in result) }
+    ensures below { (count : ℕ) → IsBelow count generation queues.old → IsBelow count (generation + updates_in result) queues.new }
+    ensures says { (e count goals : ℕ) (h : History) (x : Tree) → length h ≡ generation → IsThreads (keeper_view keeper.old) queues.old count goals h → name_of x ≡ Some name.now
+        → Decides (keeper_view keeper.new) (names (seen atoms.new.seat)) e (requests.send_message x (said (names (seen atoms.old.seat)) message)) queues.new count goals h result }
+    ensures named { All (λ a. IsSome (names (seen atoms.new.seat) a)) (row_names result) }
+    ensures held { names (seen atoms.new.seat) ≡ names (seen atoms.old.seat) }
+    ensures refusals { (seen atoms.new.seat).refusals ≡ (seen atoms.old.seat).refusals ++ row_refusals result }
+    ensures asked { asked (seen atoms.new.seat) ≡ asked (seen atoms.old.seat) }
+{
+    queues.is_sound();
+    let _numbered = message.term().nodes();
+    store_from(atoms, keeper, &message);
+    match queues.send(name, message, generation) {
+        Ok(()) => Row::Makes(Reply::Done),
+        Err((message, _)) => {
+            forget_by(atoms, keeper, &message);
+            Row::Memory
+        }
+    }
+}
