@@ -6,3 +6,4 @@ pub mod Served
 pub mod Open
 pub mod ErasedClauses
 pub mod Elsewhere
+pub mod StoredClauses

@@ -12,7 +12,12 @@ use Rattle.pl_model.specs.FirstArguments.{head_of}
 use Rattle.pl_model.specs.SystemPredicates.{system_predicates}
 use Rattle.pl_model.specs.Database.{Stored, Database, choices, erased_where, has_room, is_erased, is_of, is_static, is_system, is_visible, seen, used_cells}
 use Rattle.pl_model.specs.Service.{clause_cells}
+use Rattle.clause_db.specs.Faults.{addition_fault}
+use Rattle.clause_db.specs.declared.fault.DbFault.TheVariants.{Static, CellsFull}
 use Rattle.hub_database.specs.Database.{AllOpen}
+use Rattle.hub_database.specs.Adding.{origin_by, with_adding}
+use Rattle.hub_database.specs.declared.storing.Adding.{Adding}
+use Rattle.hub_database.specs.declared.storing.Adding.TheVariants.{Text, First, Last}
 
 -- the test for the same predicate is an equation
 same_proc-Decides : (p q : Proc) → Decides (same_proc p q) (p ≡ q)
@@ -68,6 +73,32 @@ open_erased test k (s ∷ ss) all = (go (test s && not (is_erased s)), open_eras
     go : (b : Bool) → is_system (cond b (record s { erased = Some k }) s).procedure ≡ false
     go true = all.0
     go false = all.0
+
+open_last : (s : Stored Clause) (ss : List (Stored Clause)) → is_system s.procedure ≡ false → AllOpen ss → AllOpen (ss ++ s ∷ [])
+open_last s [] one all = (one, tt)
+open_last s (x ∷ ss) one all = (all.0, open_last s ss one all.1)
+
+pub open_with : (by : Adding) (k : ℕ) (p : Proc) (c : Clause) (d : Database Clause) → is_system p ≡ false → AllOpen d.clauses → AllOpen (with_adding by k p c d).clauses
+open_with Text k p c d one all = open_last _ d.clauses one all
+open_with First k p c d one all = (one, all)
+open_with Last k p c d one all = open_last _ d.clauses one all
+
+-- a clause that is granted is none of a predicate of the system
+granted_open : (closed room : Bool) (used need : ℕ) → cond closed (Some Static) (cond room None (Some (CellsFull used need))) ≡ None → closed ≡ false
+granted_open true room used need e = absurd (cc)
+granted_open false room used need e = refl
+
+static_system : (d : Database Clause) (p : Proc) → is_static d p ≡ false → is_system p ≡ false
+static_system d p e = go (is_system p) refl
+  where
+    go : (b : Bool) → is_system p ≡ b → b ≡ false
+    go true h = absurd (false≢true (sym e ∙ search (rules, h)))
+    go false h = refl
+
+pub open_by : (by : Adding) (p : Proc) (c : Clause) (d : Database Clause) → addition_fault clause_cells d p (origin_by by) c ≡ None → is_system p ≡ false
+open_by Text p c d e = granted_open (is_system p) (has_room clause_cells c d) (used_cells clause_cells d) (clause_cells c) e
+open_by First p c d e = static_system d p (granted_open (is_static d p) (has_room clause_cells c d) (used_cells clause_cells d) (clause_cells c) e)
+open_by Last p c d e = static_system d p (granted_open (is_static d p) (has_room clause_cells c d) (used_cells clause_cells d) (clause_cells c) e)
 
 -- THE LIST OF A GOAL is found by the goal's head
 pub list_same : (goal : Tree) (g : ℕ) (d : Database Clause) → AllOpen d.clauses

@@ -11,6 +11,13 @@ use Rattle.pl_term.specs.Tree.{Tree}
 use Rattle.pl_model.specs.Requests.{Reply, abolish_procedure, call_clauses, done, erase_clause, gone, inspected_clauses, listed, look, read_operators, refused, retracted_clauses, standing}
 use Rattle.pl_model.specs.Service.{Served, answers, clause_cells, clauses_for, most_updates, reads, refuses, serve, unknown_called, updates}
 use Rattle.pl_model.specs.SharedState.{SharedState}
+use Rattle.pl_model.specs.declared.shows.Origin.TheVariants.{Consult, Assert}
+use Rattle.clause_db.specs.Faults.{addition_fault, is_closed}
+use Rattle.clause_db.specs.declared.fault.DbFault.{DbFault}
+use Rattle.clause_db.specs.declared.fault.DbFault.TheVariants.{Static, CellsFull}
+use Rattle.hub_database.specs.declared.storing.Adding.{Adding}
+use Rattle.hub_database.specs.declared.storing.Adding.TheVariants.{Text, First, Last}
+use Rattle.hub_database.specs.Adding.{adding_kind, adding_request, origin_by}
 
 -- UPDATES are made below the last generation
 pub made : (g : ℕ) (r : Reply) (k : Kind) → g < 2 ^ 47 → updates g r k ≡ answers r (Some k)
@@ -87,3 +94,59 @@ module _ (e : ℕ) (s : SharedState) (g : ℕ) where
   pub operators_read : serve e read_operators s g ≡ answers (standing s.operators s.flags.double_quotes) None
   unfolding serve
   operators_read = refl
+
+-- CLAUSES THAT ARE ADDED: refused for their procedure, then for want of cells, and last for want of generations
+abbrev served_by : Bool → Bool → ℕ → Proc → Kind → Served
+served_by closed room g p k =
+    if closed then refuses (static_procedure p) else (if room then updates g done k else refuses (resource_error (codes "database")))
+
+abbrev fault_by : Bool → Bool → ℕ → ℕ → Option DbFault
+fault_by closed room used need = if closed then Some Static else (if room then None else Some (CellsFull used need))
+
+made_by : (closed room : Bool) (used need g : ℕ) (p : Proc) (k : Kind) → fault_by closed room used need ≡ None → g < 2 ^ 47 → served_by closed room g p k ≡ answers done (Some k)
+made_by true room used need g p k e few = absurd (cc)
+made_by false true used need g p k e few = made g done k few
+made_by false false used need g p k e few = absurd (cc)
+
+worn_by : (closed room : Bool) (used need g : ℕ) (p : Proc) (k : Kind) → fault_by closed room used need ≡ None → 2 ^ 47 ≤ g → served_by closed room g p k ≡ answers (refused (resource_error (codes "generations"))) None
+worn_by true room used need g p k e many = absurd (cc)
+worn_by false true used need g p k e many = worn g done k many
+worn_by false false used need g p k e many = absurd (cc)
+
+static_by : (closed room : Bool) (used need g : ℕ) (p : Proc) (k : Kind) → fault_by closed room used need ≡ Some Static → served_by closed room g p k ≡ answers (refused (static_procedure p)) None
+static_by true room used need g p k e = refl
+static_by false true used need g p k e = absurd (cc)
+static_by false false used need g p k e = absurd (cc)
+
+cells_by : (closed room : Bool) (used need g u n : ℕ) (p : Proc) (k : Kind) → fault_by closed room used need ≡ Some (CellsFull u n) → served_by closed room g p k ≡ answers (refused (resource_error (codes "database"))) None
+cells_by true room used need g u n p k e = absurd (cc)
+cells_by false true used need g u n p k e = absurd (cc)
+cells_by false false used need g u n p k e = refl
+
+module _ (e : ℕ) (by : Adding) (s : SharedState) (g : ℕ) (c : Clause) (p : Proc) (own : p ≡ proc_of c.head) where
+  abbrev closed : Bool
+  closed = is_closed s.database p (origin_by by)
+
+  abbrev room : Bool
+  room = has_room clause_cells c s.database
+
+  abbrev used : ℕ
+  used = used_cells clause_cells s.database
+
+  addition_served : (a : Adding) → serve e (adding_request a c) s g ≡ served_by (is_closed s.database p (origin_by a)) room g p (adding_kind a p c)
+  unfolding serve
+  addition_served Text = ap (λ q. served_by (is_system q) room g q (adding_kind Text q c)) (sym own)
+  addition_served First = ap (λ q. served_by (is_static s.database q) room g q (adding_kind First q c)) (sym own)
+  addition_served Last = ap (λ q. served_by (is_static s.database q) room g q (adding_kind Last q c)) (sym own)
+
+  pub addition_made : addition_fault clause_cells s.database p (origin_by by) c ≡ None → g < 2 ^ 47 → serve e (adding_request by c) s g ≡ answers done (Some (adding_kind by p c))
+  addition_made none few = addition_served by ∙ made_by closed room used (clause_cells c) g p (adding_kind by p c) none few
+
+  pub addition_worn : addition_fault clause_cells s.database p (origin_by by) c ≡ None → 2 ^ 47 ≤ g → serve e (adding_request by c) s g ≡ answers (refused (resource_error (codes "generations"))) None
+  addition_worn none many = addition_served by ∙ worn_by closed room used (clause_cells c) g p (adding_kind by p c) none many
+
+  pub addition_static : addition_fault clause_cells s.database p (origin_by by) c ≡ Some Static → serve e (adding_request by c) s g ≡ answers (refused (static_procedure p)) None
+  addition_static is = addition_served by ∙ static_by closed room used (clause_cells c) g p (adding_kind by p c) is
+
+  pub addition_cells : (u n : ℕ) → addition_fault clause_cells s.database p (origin_by by) c ≡ Some (CellsFull u n) → serve e (adding_request by c) s g ≡ answers (refused (resource_error (codes "database"))) None
+  addition_cells u n is = addition_served by ∙ cells_by closed room used (clause_cells c) g u n p (adding_kind by p c) is

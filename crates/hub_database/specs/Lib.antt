@@ -1,3 +1,4 @@
 pub mod Clauses
 pub mod Database
 pub mod Rows
+pub mod Adding

@@ -9,8 +9,10 @@ mod calls;
 mod changing;
 mod laws;
 mod looking;
+mod storing;
 
 pub use calls::{first_clause, next_clause};
 pub use changing::erase_clause;
 pub use laws::other_updates_leave_it;
 pub use looking::{first_of, look};
+pub use storing::{Adding, store_clause};
