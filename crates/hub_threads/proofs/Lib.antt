@@ -5,3 +5,4 @@ pub mod Renaming
 pub mod Same
 pub mod Sending
 pub mod Steps
+pub mod TakenMessages

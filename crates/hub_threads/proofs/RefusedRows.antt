@@ -99,6 +99,10 @@ module _ (k : View) (q : Held Tree) (count goals : ℕ) (h : History) (term : Tr
     unfolding serve
     get_missing t = ap (with_queue x (λ y. got (length h) (first_message (λ m. matches t m) y))) missing
 
+    pub peek_missing : (t : Tree) → served_now e goals h (peek_message (Some x) t) ≡ refuses (existence_error (codes "message_queue") x)
+    unfolding serve
+    peek_missing t = ap (with_queue x (λ y. peeked (first_message (λ m. matches t m) y))) missing
+
     pub destroy_missing : served_now e goals h (destroy_queue x) ≡ refuses (existence_error (codes "message_queue") x)
     unfolding serve
     destroy_missing = ap (with_queue x (destroyed (length h) x)) missing

@@ -11,7 +11,9 @@ mod messages;
 mod names;
 mod queues;
 mod refusing;
+mod taking;
 
 pub use messages::send_message;
 pub use names::own_name;
 pub use queues::create_queue;
+pub use taking::{get_message, peek_message};
