@@ -2,8 +2,9 @@
 
 use crate::fields::Fields;
 use crate::flat_terms::one_term;
+use crate::output::{put_integer, put_text};
 use crate::settings::Settings;
-use crate::shown::node_shown;
+use crate::shown::put_node;
 use anyhow::{Result, bail};
 use builtin_arithmetic::{EvalFault, OpFault, eval};
 use std::alloc::Global;
@@ -14,10 +15,8 @@ pub fn value(alloc: Global, settings: &Settings, fields: &mut Fields) -> Result<
     let mut out = Vec::new(alloc);
     match eval(alloc, &term) {
         Ok(i) => put_integer(&mut out, i)?,
-        Err(EvalFault::Inst) => out.extend_from_slice(b"unbound")?,
-        Err(EvalFault::NotEvaluable { node }) => {
-            out.extend_from_slice(node_shown(alloc, &node)?.as_bytes())?
-        }
+        Err(EvalFault::Inst) => put_text(&mut out, "unbound")?,
+        Err(EvalFault::NotEvaluable { node }) => put_node(&mut out, &node)?,
         Err(EvalFault::Operation { fault }) => put_fault(&mut out, fault)?,
         Err(EvalFault::Memory) => bail!("no memory"),
     }
@@ -27,20 +26,12 @@ pub fn value(alloc: Global, settings: &Settings, fields: &mut Fields) -> Result<
 /// Adds the word of an operation's fault.
 fn put_fault(out: &mut Vec<u8>, fault: OpFault) -> Result<()> {
     match fault {
-        OpFault::ZeroDivisor => out.extend_from_slice(b"zero_divisor")?,
-        OpFault::IntOverflow => out.extend_from_slice(b"int_overflow")?,
-        OpFault::Undefined => out.extend_from_slice(b"undefined")?,
+        OpFault::ZeroDivisor => put_text(out, "zero_divisor"),
+        OpFault::IntOverflow => put_text(out, "int_overflow"),
+        OpFault::Undefined => put_text(out, "undefined"),
         OpFault::NeedsFloat { base } => {
-            out.extend_from_slice(b"float ")?;
-            put_integer(out, base)?
+            put_text(out, "float ")?;
+            put_integer(out, base)
         }
     }
-    Ok(())
-}
-
-/// Adds an integer in decimal digits.
-fn put_integer(out: &mut Vec<u8>, i: i64) -> Result<()> {
-    let mut buffer = itoa::Buffer::new();
-    out.extend_from_slice(buffer.format(i).as_bytes())?;
-    Ok(())
 }

@@ -1,7 +1,7 @@
 //! Rows of atoms for one thread.
 
-use crate::database::put_number;
 use crate::fields::{Fields, text_of};
+use crate::output::put_number;
 use anyhow::Result;
 use atom_api::{Atom, Atoms, Interned, PlainAtoms, TextBuf, fixed};
 use pl_term::Text;

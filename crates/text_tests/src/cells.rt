@@ -5,6 +5,8 @@ ghost use Rattle.std.specs.Prelude.{IsTrue};
 ghost use Rattle.std.specs.List.{All};
 ghost use Rattle.term_store.specs.Contents.{Holds};
 
+use crate::fields::Fields;
+use anyhow::Result;
 use atom_api::Atom;
 use pl_term::Memory;
 use std::alloc::Global;
@@ -122,7 +124,7 @@ pub fn read(
 }
 
 /// A term outside of a store.
-pub fn stored(alloc: Global, text: &[u8]) -> Result<Stored, Memory> {
+fn stored(alloc: Global, text: &[u8]) -> Result<Stored, Memory> {
     let (mut store, variables) = with_variables(alloc, 0)?;
     let place = read(alloc, &mut store, &variables, text)?;
     saved(&store, place)
@@ -143,12 +145,44 @@ fn put_node(text: &mut Vec<u8>, node: AtomNode) -> Result<(), Memory> {
     Ok(())
 }
 
-/// The term at a place as a text, its variables numbered anew.
-pub fn spelled(alloc: Global, store: &Store, place: Place) -> Result<Vec<u8>, Memory> {
+/// Adds the term at a place as a text, its variables numbered anew.
+pub fn put_spelled(out: &mut Vec<u8>, store: &Store, place: Place) -> Result<()> {
     let term = saved(store, place)?;
-    let mut text = Vec::new(alloc);
     for node in term.nodes() {
-        put_node(&mut text, *node)?;
+        put_node(out, *node)?;
     }
-    Ok(text)
+    Ok(())
+}
+
+/// The term of the next field, in a store with these variables.
+pub fn next_place(
+    alloc: Global,
+    store: &mut Store,
+    variables: &[Place],
+    fields: &mut Fields,
+) -> Result<Place> {
+    let text = fields.next_bytes(alloc)?;
+    Ok(read(alloc, store, variables, &text)?)
+}
+
+/// The term of the next field, outside of a store.
+pub fn next_stored(alloc: Global, fields: &mut Fields) -> Result<Stored> {
+    let text = fields.next_bytes(alloc)?;
+    Ok(stored(alloc, &text)?)
+}
+
+/// A store with the terms of two fields, which share their variables.
+#[derive(Drop)]
+pub struct Two {
+    pub store: Store,
+    pub left: Place,
+    pub right: Place,
+}
+
+/// The terms of the next two fields in a store with a budget.
+pub fn next_two(alloc: Global, budget: u64, fields: &mut Fields) -> Result<Two> {
+    let (mut store, variables) = with_variables(alloc, budget)?;
+    let left = next_place(alloc, &mut store, &variables, fields)?;
+    let right = next_place(alloc, &mut store, &variables, fields)?;
+    Ok(Two { store, left, right })
 }

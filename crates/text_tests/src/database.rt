@@ -2,9 +2,11 @@
 ghost use Rattle.std.specs.Prelude.{◌≡◌, ◌<◌, ◌≤◌, ◌+◌, ◌^◌, max, IfOk};
 
 use crate::fields::Fields;
+use crate::output::{put_number, put_text};
 use anyhow::{Context, Result, bail, ensure};
 use clause_db::{Access, By, Db, DbFault, Origin, Proc};
 use gen_core::Reclaimer;
+use pl_model::first_argument::FirstArgument;
 use pl_model::kept::Kept;
 use pl_term::{Flat, Text};
 use std::alloc::Global;
@@ -98,13 +100,6 @@ fn update_at(
         place: clock.place + 1,
         floor: clock.floor,
     })
-}
-
-/// Adds a number in decimal digits.
-pub fn put_number(out: &mut Vec<u8>, number: u64) -> Result<()> {
-    let mut buffer = itoa::Buffer::new();
-    out.extend_from_slice(buffer.format(number).as_bytes())?;
-    Ok(())
 }
 
 /// The predicate with this name and one argument.
@@ -299,24 +294,40 @@ fn put_clauses(
     let g = g.parse::<u64>()?;
     ensure!(floor <= g, "a generation");
     let p = procedure(alloc, name)?;
-    let key = fact(alloc, name, argument)?.key(alloc)?;
-    if let Err(fault) = db.call(&p, &key, g, By::Clause) {
-        out.extend_from_slice(word_of(fault).as_bytes())?;
+    let key = key_of(alloc, name, argument)?;
+    put_fault(out, db.call(&p, &key, g, By::Clause).err())?;
+    put_places(db, &p, &key, g, out)
+}
+
+/// The key of the first argument of a fact.
+fn key_of(alloc: Global, name: &str, argument: &str) -> Result<FirstArgument> {
+    Ok(fact(alloc, name, argument)?.key(alloc)?)
+}
+
+/// Adds why clause/2 is refused, with a blank after it, where it is.
+fn put_fault(out: &mut Vec<u8>, fault: Option<DbFault>) -> Result<()> {
+    if let Some(fault) = fault {
+        put_text(out, word_of(fault))?;
         out.push(b' ')?;
     }
-    let mut answer = db.call(&p, &key, g, By::Goal);
+    Ok(())
+}
+
+/// Adds the places of all clauses of a call, each with `+` after it where more follow, or why the call is refused.
+fn put_places(db: &Db<Flat>, p: &Proc, key: &FirstArgument, g: u64, out: &mut Vec<u8>) -> Result<()>
+    requires { db.now.floor ≤ g }
+{
+    let mut answer = db.call(p, key, g, By::Goal);
     for _ in 0..100000u32 {
-        let hit = match answer {
-            Ok(Some(hit)) => hit,
-            Ok(None) => return Ok(()),
-            Err(fault) => {
-                out.extend_from_slice(word_of(fault).as_bytes())?;
-                return Ok(());
+        match answer {
+            Ok(Some(hit)) => {
+                put_number(out, hit.place)?;
+                out.push(if hit.more { b'+' } else { b'.' })?;
+                answer = db.retry(hit.place, key, g);
             }
-        };
-        put_number(out, hit.place)?;
-        out.push(if hit.more { b'+' } else { b'.' })?;
-        answer = db.retry(hit.place, &key, g);
+            Ok(None) => return Ok(()),
+            Err(fault) => return put_text(out, word_of(fault)),
+        }
     }
     bail!("too many clauses")
 }

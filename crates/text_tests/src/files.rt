@@ -1,7 +1,8 @@
 //! Rows of files and sinks in memory, and of the system's files.
 
 use crate::fields::{Fields, bytes_of};
-use anyhow::Result;
+use crate::output::{put_named, put_numbers, put_text};
+use anyhow::{Result, bail};
 use pl_io::{
     Bytes, Failed, Files, HostFiles, MemoryFiles, MemorySink, OneText, ReadAllError, read_all,
     write_all,
@@ -16,46 +17,66 @@ pub fn file_read(alloc: Global, fields: &mut Fields) -> Result<Vec<u8>> {
     let content = fields.next_bytes(alloc)?;
     let limit = fields.next_field()?.parse::<u64>()?;
     let failing = fields.next_field()?.parse::<u64>()?;
+    let mut files = two_files(alloc, content, failing)?;
+    let name = Text::from_str(alloc, "f.pl")?;
+    let mut out = read_shown(alloc, read_all(alloc, &mut files, &name, limit))?;
+    put_named(&mut out, " ", files.calls())?;
+    put_faults(alloc, &mut out, &files)?;
+    Ok(out)
+}
+
+/// The file f.pl with a content, and an empty file g.pl, of which the call with a number fails.
+fn two_files(alloc: Global, content: Vec<u8>, failing: u64) -> Result<MemoryFiles> {
     let mut files = MemoryFiles::new(alloc, vec![in alloc; failing]?);
+    put_file(alloc, &mut files, "f.pl", Bytes::from_vec(content))?;
+    put_file(alloc, &mut files, "g.pl", Bytes::from_slice(alloc, b"")?)?;
+    Ok(files)
+}
+
+/// Puts a file in the place of that with its name.
+fn put_file(alloc: Global, files: &mut MemoryFiles, name: &str, bytes: Bytes) -> Result<()> {
+    files.insert(Text::from_str(alloc, name)?, bytes)?;
+    Ok(())
+}
+
+/// Adds the counts of faults of f.pl and g.pl.
+fn put_faults(alloc: Global, out: &mut Vec<u8>, files: &MemoryFiles) -> Result<()> {
     let name = Text::from_str(alloc, "f.pl")?;
     let other = Text::from_str(alloc, "g.pl")?;
-    files.insert(name.copy(alloc)?, Bytes::from_vec(content))?;
-    files.insert(other.copy(alloc)?, Bytes::from_slice(alloc, b"")?)?;
-    let read = read_all(alloc, &mut files, &name, limit);
-    let mut out = read_shown(alloc, read)?;
-    let calls = files.calls();
-    let faults = files.faults(&name);
-    let others = files.faults(&other);
-    out.extend_from_slice(format!(in alloc; " {calls} {faults} {others}")?.as_bytes())?;
-    Ok(out)
+    put_numbers(out, &[files.faults(&name), files.faults(&other)])
 }
 
 /// What is read of a file that is not there, of one that is put there, and of one in the place of that; then the counts of
 /// faults of this file and of another one.
 pub fn file_replaced(alloc: Global, fields: &mut Fields) -> Result<Vec<u8>> {
     let mut files = MemoryFiles::new(alloc, Vec::new(alloc));
-    let name = Text::from_str(alloc, "f.pl")?;
-    let other = Text::from_str(alloc, "g.pl")?;
-    files.insert(other.copy(alloc)?, Bytes::from_slice(alloc, b"")?)?;
-    let mut out = read_shown(alloc, read_all(alloc, &mut files, &name, 100))?;
+    put_file(alloc, &mut files, "g.pl", Bytes::from_slice(alloc, b"")?)?;
+    let mut out = Vec::new(alloc);
+    put_file_read(alloc, &mut out, &mut files)?;
     for content in fields.next_field()?.split('¬') {
         let bytes = Bytes::from_vec(bytes_of(alloc, content)?);
-        files.insert(name.copy(alloc)?, bytes)?;
+        put_file(alloc, &mut files, "f.pl", bytes)?;
         out.push(b' ')?;
-        let read = read_all(alloc, &mut files, &name, 100);
-        out.extend_from_slice(&read_shown(alloc, read)?)?;
+        put_file_read(alloc, &mut out, &mut files)?;
     }
-    let faults = files.faults(&name);
-    let others = files.faults(&other);
-    out.extend_from_slice(format!(in alloc; " {faults} {others}")?.as_bytes())?;
+    put_faults(alloc, &mut out, &files)?;
     Ok(out)
+}
+
+/// Adds what is read of the first 100 bytes of f.pl.
+fn put_file_read(alloc: Global, out: &mut Vec<u8>, files: &mut MemoryFiles) -> Result<()> {
+    let name = Text::from_str(alloc, "f.pl")?;
+    let read = read_shown(alloc, read_all(alloc, files, &name, 100))?;
+    out.extend_from_slice(&read)?;
+    Ok(())
 }
 
 /// The bytes that were read, or the error.
 fn read_shown(alloc: Global, read: Result<Bytes, ReadAllError>) -> Result<Vec<u8>> {
     match read {
         Ok(bytes) => Ok(bytes.into_vec()),
-        Err(e) => Ok(format!(in alloc; "{e:?}")?.into_bytes()),
+        Err(ReadAllError::Failed) => bytes_of(alloc, "Failed"),
+        Err(ReadAllError::Memory) => bail!("no memory"),
     }
 }
 
@@ -68,19 +89,19 @@ pub fn one_text(alloc: Global, fields: &mut Fields) -> Result<Vec<u8>> {
     let mut buffer = [b'-'; 3];
     let other = Text::from_str(alloc, "other")?;
     let answer = files.read(&other, at, &mut buffer);
-    out.push(b' ')?;
-    out.extend_from_slice(&piece_shown(alloc, &answer, &buffer)?)?;
+    put_piece(&mut out, &answer, &buffer)?;
     Ok(out)
 }
 
-/// How many bytes were read, or the error, and a buffer after it.
-fn piece_shown(alloc: Global, answer: &Result<usize, Failed>, buffer: &[u8]) -> Result<Vec<u8>> {
-    let mut out = match answer {
-        Ok(count) => format!(in alloc; "{count} ")?.into_bytes(),
-        Err(_) => format!(in alloc; "Failed ")?.into_bytes(),
-    };
+/// Adds how many bytes were read, or the error, and a buffer after it.
+fn put_piece(out: &mut Vec<u8>, answer: &Result<usize, Failed>, buffer: &[u8]) -> Result<()> {
+    match answer {
+        Ok(count) => put_named(out, " ", *count as u64)?,
+        Err(_) => put_text(out, " Failed")?,
+    }
+    out.push(b' ')?;
     out.extend_from_slice(buffer)?;
-    Ok(out)
+    Ok(())
 }
 
 /// What a sink holds once pieces were written on it, and whether each was; then the counts of its calls and faults. The sink
@@ -96,12 +117,10 @@ pub fn sink(alloc: Global, fields: &mut Fields) -> Result<Vec<u8>> {
     for piece in pieces.split('¬') {
         let answer = write_all(&mut sink, &bytes_of(alloc, piece)?);
         let word = if answer.is_ok() { "done " } else { "failed " };
-        out.extend_from_slice(word.as_bytes())?;
+        put_text(&mut out, word)?;
     }
     out.extend_from_slice(sink.bytes())?;
-    let calls = sink.calls();
-    let faults = sink.faults();
-    out.extend_from_slice(format!(in alloc; " {calls} {faults}")?.as_bytes())?;
+    put_numbers(&mut out, &[sink.calls(), sink.faults()])?;
     Ok(out)
 }
 
@@ -118,9 +137,7 @@ where
     let mut out = read_shown(alloc, read_all(alloc, &mut files, &name, limit))?;
     let mut buffer = [b'-'; 6];
     let answer = files.read(&name, at, &mut buffer);
-    out.push(b' ')?;
-    out.extend_from_slice(&piece_shown(alloc, &answer, &buffer)?)?;
-    let faults = files.faults();
-    out.extend_from_slice(format!(in alloc; " {faults}")?.as_bytes())?;
+    put_piece(&mut out, &answer, &buffer)?;
+    put_named(&mut out, " ", files.faults())?;
     Ok(out)
 }

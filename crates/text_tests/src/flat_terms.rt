@@ -1,9 +1,9 @@
 //! Rows of texts and terms by themselves.
 
-use crate::database::put_number;
 use crate::fields::{Fields, text_of};
+use crate::output::{put_named, put_number};
 use crate::settings::Settings;
-use crate::shown::nodes_shown;
+use crate::shown::put_nodes;
 use crate::written::term_of;
 use anyhow::{Result, bail};
 use pl_term::{Flat, Text};
@@ -87,7 +87,7 @@ fn put_orders_of_term(out: &mut Vec<u8>, left: &Flat, terms: &[Flat]) -> Result<
 /// A term from the list of its parts, or, where the field begins with `:`, from the text after it.
 pub fn one_term(alloc: Global, settings: &Settings, field: &str) -> Result<Flat> {
     let Some(text) = field.strip_prefix(':') else {
-        return term_of(alloc, field);
+        return term_of(alloc, text_of(alloc, field)?.as_str());
     };
     let text = text_of(alloc, text)?;
     match read_term(alloc, text.as_bytes(), 0, &settings.ops, Quotes::Codes) {
@@ -120,29 +120,38 @@ pub fn measured(alloc: Global, settings: &Settings, fields: &mut Fields) -> Resu
     let term = one_term(alloc, settings, fields.next_field()?)?;
     let number = fields.next_field()?.parse::<u64>()?;
     let mut out = Vec::new(alloc);
-    out.extend_from_slice(nodes_shown(alloc, term.nodes())?.as_bytes())?;
-    put_number(&mut out, term.cells())?;
-    out.push(b' ')?;
-    put_number(&mut out, term.variable_count())?;
-    put_variables(&mut out, &term.variables(alloc)?)?;
+    put_measures(alloc, &mut out, &term)?;
     out.push(truth_mark(term.has(number)))?;
     out.push(b' ')?;
+    put_renamed(alloc, &mut out, &term, number)?;
+    Ok(out)
+}
+
+/// Adds the nodes of a term, its cells, the number of its variables, and these.
+fn put_measures(alloc: Global, out: &mut Vec<u8>, term: &Flat) -> Result<()> {
+    put_nodes(out, term)?;
+    put_number(out, term.cells())?;
+    put_named(out, " ", term.variable_count())?;
+    put_variables(out, &term.variables(alloc)?)
+}
+
+/// Adds the term renamed from a number on, the next free number, and how both terms are alike.
+fn put_renamed(alloc: Global, out: &mut Vec<u8>, term: &Flat, number: u64) -> Result<()> {
     if number > 1000000 {
         bail!("a smaller number");
     }
+    let _count = term.variable_count();
     let (renamed, free) = term.rename(alloc, number)?;
-    out.extend_from_slice(nodes_shown(alloc, renamed.nodes())?.as_bytes())?;
-    put_number(&mut out, free)?;
+    put_nodes(out, &renamed)?;
+    put_number(out, free)?;
     out.push(b' ')?;
-    put_likeness(alloc, &mut out, &term, &renamed)?;
-    Ok(out)
+    put_likeness(alloc, out, term, &renamed)
 }
 
 /// Adds the numbers of variables, with a colon before each and a blank at the end.
 fn put_variables(out: &mut Vec<u8>, variables: &[u64]) -> Result<()> {
     for number in variables {
-        out.push(b':')?;
-        put_number(out, *number)?;
+        put_named(out, ":", *number)?;
     }
     out.push(b' ')?;
     Ok(())

@@ -1,66 +1,72 @@
 //! Rows of the lexer.
 
 use crate::fields::Fields;
+use crate::output::{put_named, put_number, put_text};
 use anyhow::Result;
 use lex_core::{LexFault, next};
 use pl_model::lexical::{Lexeme, Mark, TokenKind};
-use std::alloc::{AllocError, Global};
+use pl_term::Text;
+use std::alloc::Global;
 use std::convert::AsStr;
 
 /// The lexemes of a text, one after the other: each with its places, up to the end or the first fault.
 pub fn lexemes(alloc: Global, fields: &mut Fields) -> Result<Vec<u8>> {
     let text = fields.next_bytes(alloc)?;
-    let mut all = String::new(alloc);
+    let mut out = Vec::new(alloc);
     let mut at = Some(0);
     for _ in 0..=text.len() {
         let Some(place) = at else {
             break;
         };
-        at = put_lexeme(alloc, &text, place, &mut all)?;
+        at = put_lexeme(alloc, &text, place, &mut out)?;
     }
-    Ok(all.into_bytes())
+    Ok(out)
 }
 
 /// Adds the lexeme at a place, and answers where the next one is looked for, if it is.
-fn put_lexeme(
-    alloc: Global,
-    text: &[u8],
-    at: usize,
-    all: &mut String,
-) -> Result<Option<usize>, AllocError> {
+fn put_lexeme(alloc: Global, text: &[u8], at: usize, out: &mut Vec<u8>) -> Result<Option<usize>> {
     match next(alloc, text, at) {
         Ok(Lexeme::Token { kind, start, end }) => {
-            let token = shown(alloc, &kind)?;
-            all.push_str(format!(in alloc; "{token} {start}-{end} | ")?.as_str())?;
+            put_token(out, &kind)?;
+            put_named(out, " ", start as u64)?;
+            put_named(out, "-", end as u64)?;
+            put_text(out, " | ")?;
             Ok(Some(end))
         }
         Ok(Lexeme::End) => {
-            all.push_str("eof")?;
+            put_text(out, "eof")?;
             Ok(None)
         }
         Err(LexFault::Syntax(fault)) => {
-            all.push_str(format!(in alloc; "{:?} {}", fault.kind, fault.at)?.as_str())?;
+            put_text(out, format!(in alloc; "{:?} ", fault.kind)?.as_str())?;
+            put_number(out, fault.at as u64)?;
             Ok(None)
         }
         Err(LexFault::Memory) => {
-            all.push_str("out of memory")?;
+            put_text(out, "out of memory")?;
             Ok(None)
         }
     }
 }
 
-/// A token's kind and value.
-fn shown(alloc: Global, kind: &TokenKind) -> Result<String, AllocError> {
+/// Adds a token's kind and value.
+fn put_token(out: &mut Vec<u8>, kind: &TokenKind) -> Result<()> {
     match kind {
-        TokenKind::Name(text) => format!(in alloc; "name {}", text.as_str()),
-        TokenKind::Quoted(text) => format!(in alloc; "quoted {}", text.as_str()),
-        TokenKind::Variable(text) => format!(in alloc; "var {}", text.as_str()),
-        TokenKind::Integer(value) => format!(in alloc; "int {value}"),
-        TokenKind::DoubleQuoted(text) => format!(in alloc; "double {}", text.as_str()),
-        TokenKind::BackQuoted(text) => format!(in alloc; "back {}", text.as_str()),
-        TokenKind::Punctuation(mark) => String::from_str(alloc, mark_name(*mark)),
-        TokenKind::EndToken => String::from_str(alloc, "end"),
+        TokenKind::Name(text) => put_word(out, "name ", text),
+        TokenKind::Quoted(text) => put_word(out, "quoted ", text),
+        TokenKind::Variable(text) => put_word(out, "var ", text),
+        TokenKind::Integer(value) => put_named(out, "int ", *value),
+        TokenKind::DoubleQuoted(text) => put_word(out, "double ", text),
+        TokenKind::BackQuoted(text) => put_word(out, "back ", text),
+        TokenKind::Punctuation(mark) => put_text(out, mark_name(*mark)),
+        TokenKind::EndToken => put_text(out, "end"),
     }
+}
+
+/// Adds the word of a token's kind, and the token's text.
+fn put_word(out: &mut Vec<u8>, word: &str, text: &Text) -> Result<()> {
+    put_text(out, word)?;
+    put_text(out, text.as_str())
 }
 
 /// The name of a punctuation token.

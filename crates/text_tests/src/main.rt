@@ -11,8 +11,10 @@ mod database;
 mod fields;
 mod files;
 mod flat_terms;
+mod interned;
 mod lexemes;
 mod operators;
+mod output;
 mod report;
 mod runs;
 mod settings;
@@ -24,6 +26,7 @@ mod written;
 
 use anyhow::{Context, Result, bail, ensure};
 use fields::{Fields, bytes_of};
+use output::{put_named, put_number, put_text};
 use pl_io::{HostOutput, write_all};
 use settings::Settings;
 use std::alloc::Global;
@@ -46,13 +49,22 @@ fn main(rt: HostRuntime) -> Result<()> {
     for name in env::args(&rt)?.skip(1) {
         check_file(&rt, name.as_str(), &mut tally)?;
     }
-    let counts = format!(in rt.alloc(); "{} cases, {} differ\n", tally.cases, tally.differing)?;
-    write_all(&mut HostOutput::new(&rt), counts.as_bytes())?;
+    write_counts(&rt, &tally)?;
     ensure!(tally.differing == 0, "some rows differ");
     Ok(())
 }
 
-/// Checks the rows of a file. Lines without `§` are settings of the rows after them, comments or empty.
+/// Writes how many rows there were, and how many differ, by the adapter over standard output.
+fn write_counts<R: AllocGlobal + Print>(rt: &R, tally: &Tally) -> Result<()> {
+    let mut counts = Vec::new(rt.alloc());
+    put_number(&mut counts, tally.cases)?;
+    put_named(&mut counts, " cases, ", tally.differing)?;
+    put_text(&mut counts, " differ\n")?;
+    write_all(&mut HostOutput::new(rt), &counts)?;
+    Ok(())
+}
+
+/// Checks the rows of a file.
 fn check_file<R: std::rt::Files + AllocGlobal + Print>(
     rt: &R,
     name: &str,
@@ -61,16 +73,45 @@ fn check_file<R: std::rt::Files + AllocGlobal + Print>(
 where
     R::File: FileExt,
 {
-    let text = fs::read_to_string(rt, name).context(format_args!("reading {name}"))?;
+    let text = fs::read_to_string(rt, name).context("reading a file of rows")?;
+    check_rows(rt, text.as_str(), tally)
+}
+
+/// Checks the rows of a text. A line that ends in an error is written.
+fn check_rows<R: std::rt::Files + AllocGlobal + Print>(
+    rt: &R,
+    text: &str,
+    tally: &mut Tally,
+) -> Result<()>
+where
+    R::File: FileExt,
+{
     let mut settings = Settings::new(rt.alloc())?;
-    for line in text.as_str().split('\n') {
-        if line.contains('§') {
-            check_row(rt, line, &settings, tally).context(format_args!("at {line}"))?;
-        } else {
-            settings.take_line(line).context(format_args!("at {line}"))?;
+    for line in text.split('\n') {
+        let checked = check_line(rt, line, &mut settings, tally);
+        if checked.is_err() {
+            io::writer(rt).write_all(line.as_bytes())?;
         }
+        checked?;
     }
     Ok(())
+}
+
+/// Checks a row, or takes a line without `§`: a setting of the rows after it, a comment, or an empty one.
+fn check_line<'a, R: std::rt::Files + AllocGlobal + Print>(
+    rt: &R,
+    line: &'a str,
+    settings: &mut Settings<'a>,
+    tally: &mut Tally,
+) -> Result<()>
+where
+    R::File: FileExt,
+{
+    if line.contains('§') {
+        check_row(rt, line, settings, tally)
+    } else {
+        settings.take_line(line)
+    }
 }
 
 /// Checks a row.
@@ -93,11 +134,17 @@ where
     tally.cases = tally.cases.saturating_add(1);
     if got.as_slice() != wanted.as_slice() {
         tally.differing = tally.differing.saturating_add(1);
-        println!(rt; "{row}")?;
-        io::writer(rt).write_all(&got)?;
-        println!(rt; " came")?;
+        show(rt, row, &got)?;
     }
     Ok(())
+}
+
+/// Writes a row and what came of it.
+fn show<R: Print>(rt: &R, row: &str, got: &[u8]) -> io::Result<()> {
+    io::writer(rt).write_all(row.as_bytes())?;
+    io::writer(rt).write_all(b"\n")?;
+    io::writer(rt).write_all(got)?;
+    io::writer(rt).write_all(b" came\n")
 }
 
 /// What comes of a row of the kind that is set.
@@ -126,6 +173,7 @@ fn result_of(alloc: Global, settings: &Settings, fields: &mut Fields) -> Result<
         "values" => arithmetic::value(alloc, settings, fields),
         "atoms" => atoms::numbers(alloc, fields),
         "measured" => flat_terms::measured(alloc, settings, fields),
+        "over_atoms" => interned::over_atoms(alloc, settings, fields),
         _ => result_of_store(alloc, settings.kind, fields),
     }
 }

@@ -1,17 +1,20 @@
 //! Rows of the table of operators.
 
 use crate::fields::Fields;
+use crate::output::{put_named, put_number, put_text};
 use crate::settings::{Settings, change};
 use anyhow::{Result, ensure};
 use op_table::{Kind, OpFault, OpTable};
 use pl_term::Text;
-use std::alloc::{AllocError, Global};
+use std::alloc::Global;
 use std::convert::AsStr;
 
 /// The operators of a name: the prefix, the infix and the postfix one.
 pub fn of_name(alloc: Global, settings: &Settings, fields: &mut Fields) -> Result<Vec<u8>> {
     let name = Text::from_str(alloc, fields.next_field()?)?;
-    Ok(operators_shown(alloc, &settings.ops, &name)?.into_bytes())
+    let mut out = Vec::new(alloc);
+    put_operators(alloc, &mut out, &settings.ops, &name)?;
+    Ok(out)
 }
 
 /// The names of all operators in the order of the table, with a blank after each.
@@ -32,12 +35,12 @@ pub fn changes(alloc: Global, settings: &Settings, fields: &mut Fields) -> Resul
     let mut out = Vec::new(alloc);
     for text in fields.next_field()?.split('¦') {
         let fault = change(alloc, &mut ops, text)?;
-        out.extend_from_slice(answer_shown(alloc, fault)?.as_bytes())?;
+        put_answer(alloc, &mut out, fault)?;
     }
     let name = Text::from_str(alloc, fields.next_field()?)?;
-    out.extend_from_slice(operators_shown(alloc, &ops, &name)?.as_bytes())?;
-    let counts = counts_shown(alloc, &ops, &settings.ops)?;
-    out.extend_from_slice(counts.as_bytes())?;
+    put_operators(alloc, &mut out, &ops, &name)?;
+    put_named(&mut out, "; ", ops.operators().len() as u64)?;
+    put_named(&mut out, " of ", settings.ops.operators().len() as u64)?;
     Ok(out)
 }
 
@@ -46,17 +49,18 @@ pub fn changes(alloc: Global, settings: &Settings, fields: &mut Fields) -> Resul
 pub fn many(alloc: Global, settings: &Settings, fields: &mut Fields) -> Result<Vec<u8>> {
     let count = fields.next_field()?.parse::<u32>()?;
     let mut ops = settings.ops.copy(alloc)?;
-    let added = added_all(alloc, &mut ops, count)?;
-    let found = found_all(alloc, &ops, count)?;
-    let all = ops.operators().len();
-    let last = Text::from_str(alloc, "op1")?;
-    let fault = ops.add(0, Kind::Xfx, &last).err();
-    let answer = answer_shown(alloc, fault)?;
-    let left = ops.operators().len();
-    Ok(format!(in alloc; "{added} {found} {all} {answer}{left}")?.into_bytes())
+    let mut out = Vec::new(alloc);
+    put_number(&mut out, added_all(alloc, &mut ops, count)? as u64)?;
+    put_named(&mut out, " ", found_all(alloc, &ops, count)? as u64)?;
+    put_named(&mut out, " ", ops.operators().len() as u64)?;
+    put_text(&mut out, " ")?;
+    let fault = ops.add(0, Kind::Xfx, &numbered(alloc, 1)?).err();
+    put_answer(alloc, &mut out, fault)?;
+    put_number(&mut out, ops.operators().len() as u64)?;
+    Ok(out)
 }
 
-/// How many of so many operators are added, each after others that come before it and behind it.
+/// How many of so many operators are added, each beside others that come before it and after it.
 fn added_all(alloc: Global, ops: &mut OpTable, count: u32) -> Result<u32> {
     let mut added: u32 = 0;
     for i in 0..count {
@@ -87,35 +91,30 @@ fn numbered(alloc: Global, number: u32) -> Result<Text> {
     Ok(Text::from_str(alloc, name.as_str())?)
 }
 
-/// The operators of a name at the three places.
-fn operators_shown(alloc: Global, ops: &OpTable, name: &Text) -> Result<String, AllocError> {
-    let prefix = operator_shown(alloc, ops.prefix(name))?;
-    let infix = operator_shown(alloc, ops.infix(name))?;
-    let postfix = operator_shown(alloc, ops.postfix(name))?;
-    format!(in alloc; "{prefix}, {infix}, {postfix}")
+/// Adds the operators of a name at the three places.
+fn put_operators(alloc: Global, out: &mut Vec<u8>, ops: &OpTable, name: &Text) -> Result<()> {
+    put_operator(alloc, out, ops.prefix(name))?;
+    put_text(out, ", ")?;
+    put_operator(alloc, out, ops.infix(name))?;
+    put_text(out, ", ")?;
+    put_operator(alloc, out, ops.postfix(name))
 }
 
-/// The priority and the specifier of an operator, or `none`.
-fn operator_shown(alloc: Global, operator: Option<(u16, Kind)>) -> Result<String, AllocError> {
+/// Adds the priority and the specifier of an operator, or `none`.
+fn put_operator(alloc: Global, out: &mut Vec<u8>, operator: Option<(u16, Kind)>) -> Result<()> {
     match operator {
-        Some((priority, kind)) => format!(in alloc; "{priority} {kind:?}"),
-        None => String::from_str(alloc, "none"),
+        Some((priority, kind)) => {
+            put_number(out, priority as u64)?;
+            put_text(out, format!(in alloc; " {kind:?}")?.as_str())
+        }
+        None => put_text(out, "none"),
     }
 }
 
-/// What a change answered, with a blank after it.
-fn answer_shown(alloc: Global, fault: Option<OpFault>) -> Result<String, AllocError> {
+/// Adds what a change answered, with a blank after it.
+fn put_answer(alloc: Global, out: &mut Vec<u8>, fault: Option<OpFault>) -> Result<()> {
     match fault {
-        Some(fault) => format!(in alloc; "{fault:?} "),
-        None => String::from_str(alloc, "done "),
+        Some(fault) => put_text(out, format!(in alloc; "{fault:?} ")?.as_str()),
+        None => put_text(out, "done "),
     }
-}
-
-/// The number of operators after the changes, and of those before them.
-fn counts_shown(alloc: Global, after: &OpTable, before: &OpTable) -> Result<String, AllocError> {
-    format!(in alloc;
-        "; {} of {}",
-        after.operators().len(),
-        before.operators().len()
-    )
 }

@@ -1,13 +1,14 @@
 //! What the reader answers, as the rows have it.
 
+use crate::output::{put_integer, put_named, put_number, put_text};
 use anyhow::Result;
-use pl_term::Node;
+use pl_term::{Flat, Node};
 use prolog_reader::{NamedVariable, Read};
-use std::alloc::{AllocError, Global};
+use std::alloc::Global;
 use std::convert::AsStr;
 
 /// What was read: of a clause its nodes, its named variables and its places, or the fault.
-pub fn shown(alloc: Global, read: &Read) -> Result<String, AllocError> {
+pub fn put_read(alloc: Global, out: &mut Vec<u8>, read: &Read) -> Result<()> {
     match read {
         Read::Clause {
             term,
@@ -15,45 +16,48 @@ pub fn shown(alloc: Global, read: &Read) -> Result<String, AllocError> {
             start,
             next,
         } => {
-            let nodes = nodes_shown(alloc, term.nodes())?;
-            let names = names_shown(alloc, names)?;
-            format!(in alloc; "{nodes}{names}{start}-{next}")
+            put_nodes(out, term)?;
+            put_names(out, names)?;
+            put_number(out, *start as u64)?;
+            put_named(out, "-", *next as u64)
         }
-        Read::End => String::from_str(alloc, "end"),
-        Read::Syntax { kind, at } => format!(in alloc; "{kind:?} {at}"),
-        Read::Memory => String::from_str(alloc, "memory"),
+        Read::End => put_text(out, "end"),
+        Read::Syntax { kind, at } => {
+            put_text(out, format!(in alloc; "{kind:?} ")?.as_str())?;
+            put_number(out, *at as u64)
+        }
+        Read::Memory => put_text(out, "memory"),
     }
 }
 
-/// The nodes of a term in prefix order.
-pub fn nodes_shown(alloc: Global, nodes: &[Node]) -> Result<String, AllocError> {
-    let mut all = String::new(alloc);
-    for node in nodes {
-        all.push_str(node_shown(alloc, node)?.as_str())?;
+/// Adds the nodes of a term in prefix order.
+pub fn put_nodes(out: &mut Vec<u8>, term: &Flat) -> Result<()> {
+    for node in term.nodes() {
+        put_node(out, node)?;
     }
-    Ok(all)
+    Ok(())
 }
 
-/// A node with a space after it, a compound term's with its arity.
-pub fn node_shown(alloc: Global, node: &Node) -> Result<String, AllocError> {
+/// Adds a node with a space after it, a compound term's with its arity.
+pub fn put_node(out: &mut Vec<u8>, node: &Node) -> Result<()> {
     match node {
-        Node::Var(number) => format!(in alloc; "_{number} "),
-        Node::Int(value) => format!(in alloc; "{value} "),
-        Node::Atom(name) => format!(in alloc; "{} ", name.as_str()),
-        Node::Comp(name, arity) => format!(in alloc; "{}/{arity} ", name.as_str()),
+        Node::Var(number) => put_named(out, "_", *number)?,
+        Node::Int(value) => put_integer(out, *value)?,
+        Node::Atom(name) => put_text(out, name.as_str())?,
+        Node::Comp(name, arity) => {
+            put_text(out, name.as_str())?;
+            put_named(out, "/", *arity)?
+        }
     }
+    put_text(out, " ")
 }
 
-/// The named variables with their numbers.
-fn names_shown(alloc: Global, names: &[NamedVariable]) -> Result<String, AllocError> {
-    let mut all = String::new(alloc);
+/// Adds the named variables with their numbers, with a space after each.
+fn put_names(out: &mut Vec<u8>, names: &[NamedVariable]) -> Result<()> {
     for named in names {
-        all.push_str(name_shown(alloc, named)?.as_str())?;
+        put_text(out, named.name.as_str())?;
+        put_named(out, "=", named.variable)?;
+        put_text(out, " ")?;
     }
-    Ok(all)
-}
-
-/// A named variable with its number and a space after it.
-fn name_shown(alloc: Global, named: &NamedVariable) -> Result<String, AllocError> {
-    format!(in alloc; "{}={} ", named.name.as_str(), named.variable)
+    Ok(())
 }

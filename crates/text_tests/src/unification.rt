@@ -1,57 +1,78 @@
 //! Rows of unification in a store.
 
-use crate::cells::{compound, loaded, read, spelled, stored, unified, variable, with_variables};
+use crate::cells::{
+    Two, compound, loaded, next_place, next_stored, next_two, put_spelled, read, unified, variable,
+    with_variables,
+};
 use crate::fields::Fields;
-use anyhow::{Context, Result};
+use crate::output::{put_integer, put_named, put_text, put_truth};
+use anyhow::{Result, bail};
 use pl_term::Memory;
 use std::alloc::Global;
 use term_store::{Place, Store, StoreFault, Stored, View};
 
 /// The two terms once they are unified, with a blank between, or `no` and the number of bindings.
 pub fn unified_terms(alloc: Global, fields: &mut Fields) -> Result<Vec<u8>> {
-    let (mut store, variables) = with_variables(alloc, 0)?;
-    let left = read(alloc, &mut store, &variables, &fields.next_bytes(alloc)?)?;
-    let right = read(alloc, &mut store, &variables, &fields.next_bytes(alloc)?)?;
-    if !unified(&mut store, left, right)? {
-        let bindings = store.trail_len();
-        return Ok(format!(in alloc; "no {bindings}")?.into_bytes());
+    let Two {
+        mut store,
+        left,
+        right,
+    } = next_two(alloc, 0, fields)?;
+    let mut out = Vec::new(alloc);
+    if unified(&mut store, left, right)? {
+        put_spelled(&mut out, &store, left)?;
+        put_text(&mut out, " ")?;
+        put_spelled(&mut out, &store, right)?;
+    } else {
+        put_named(&mut out, "no ", store.trail_len() as u64)?;
     }
-    let mut out = spelled(alloc, &store, left)?;
-    out.push(b' ')?;
-    out.extend_from_slice(&spelled(alloc, &store, right)?)?;
     Ok(out)
 }
 
 /// Whether two terms are unified, with the number of bindings.
 pub fn is_unified(alloc: Global, fields: &mut Fields) -> Result<Vec<u8>> {
-    let (mut store, variables) = with_variables(alloc, 0)?;
-    let left = read(alloc, &mut store, &variables, &fields.next_bytes(alloc)?)?;
-    let right = read(alloc, &mut store, &variables, &fields.next_bytes(alloc)?)?;
-    let same = unified(&mut store, left, right)?;
-    let bindings = store.trail_len();
-    Ok(format!(in alloc; "{same} {bindings}")?.into_bytes())
+    let Two {
+        mut store,
+        left,
+        right,
+    } = next_two(alloc, 0, fields)?;
+    let mut out = Vec::new(alloc);
+    put_unified(&mut out, &mut store, left, right)?;
+    Ok(out)
+}
+
+/// Adds whether two terms are unified, and the number of bindings.
+fn put_unified(out: &mut Vec<u8>, store: &mut Store, left: Place, right: Place) -> Result<()> {
+    put_truth(out, unified(store, left, right)?)?;
+    put_named(out, " ", store.trail_len() as u64)
 }
 
 /// A goal once it is unified with a head that is loaded after it, or `no` and the number of bindings: by `unify`, and by
 /// `unify_since`.
 pub fn heads(alloc: Global, fields: &mut Fields) -> Result<Vec<u8>> {
     let goal = fields.next_bytes(alloc)?;
-    let head = stored(alloc, &fields.next_bytes(alloc)?)?;
-    let mut out = goal_after(alloc, &goal, &head, false)?;
-    out.push(b' ')?;
-    out.extend_from_slice(&goal_after(alloc, &goal, &head, true)?)?;
+    let head = next_stored(alloc, fields)?;
+    let mut out = Vec::new(alloc);
+    put_goal(alloc, &mut out, &goal, &head, false)?;
+    put_text(&mut out, " ")?;
+    put_goal(alloc, &mut out, &goal, &head, true)?;
     Ok(out)
 }
 
-/// A goal once it is unified with a head, or `no` and the number of bindings.
-fn goal_after(alloc: Global, goal: &[u8], head: &Stored, since: bool) -> Result<Vec<u8>> {
+/// Adds a goal once it is unified with a head, or `no` and the number of bindings.
+fn put_goal(
+    alloc: Global,
+    out: &mut Vec<u8>,
+    goal: &[u8],
+    head: &Stored,
+    since: bool,
+) -> Result<()> {
     let (mut store, variables) = with_variables(alloc, 100)?;
     let place = read(alloc, &mut store, &variables, goal)?;
     if head_unified(&mut store, place, head, since)? {
-        return Ok(spelled(alloc, &store, place)?);
+        return put_spelled(out, &store, place);
     }
-    let bindings = store.trail_len();
-    Ok(format!(in alloc; "no {bindings}")?.into_bytes())
+    put_named(out, "no ", store.trail_len() as u64)
 }
 
 /// Unifies a goal with a head that is loaded first, by the one call or the other.
@@ -77,12 +98,14 @@ fn head_unified(
 /// What stands at a place that begins as a term, and becomes so many times the second argument of a clause of which it is
 /// unified with the first.
 pub fn walked_term(alloc: Global, fields: &mut Fields) -> Result<Vec<u8>> {
-    let clause = stored(alloc, &fields.next_bytes(alloc)?)?;
+    let clause = next_stored(alloc, fields)?;
     let (mut store, variables) = with_variables(alloc, 1_000_000)?;
-    let start = read(alloc, &mut store, &variables, &fields.next_bytes(alloc)?)?;
+    let start = next_place(alloc, &mut store, &variables, fields)?;
     let rounds = fields.next_field()?.parse::<usize>()?;
     let place = walked(&mut store, &clause, start, rounds)?;
-    Ok(at_place(alloc, &store, place)?)
+    let mut out = Vec::new(alloc);
+    put_view(&mut out, &store, place)?;
+    Ok(out)
 }
 
 /// What comes of a place in so many rounds.
@@ -133,21 +156,24 @@ fn next_of(
     }
 }
 
-/// What stands at a place: a variable with its number, an integer, an atom with its number, or a compound term with the
+/// Adds what stands at a place: a variable with its number, an integer, an atom with its number, or a compound term with the
 /// numbers of its name and its arguments.
-pub fn at_place(alloc: Global, store: &Store, place: Place) -> Result<Vec<u8>> {
+pub fn put_view(out: &mut Vec<u8>, store: &Store, place: Place) -> Result<()> {
     if !store.holds(place) {
-        return Err(Memory.into());
+        bail!("no such place");
     }
-    let text = match store.look(place) {
-        View::Variable(number) => format!(in alloc; "variable {number}")?,
-        View::Integer(value) => format!(in alloc; "integer {value}")?,
-        View::Atom(name) => format!(in alloc; "atom {}", name.slot())?,
-        View::Compound(name, arguments) => {
-            format!(in alloc; "compound {} {}", name.slot(), arguments.len())?
+    match store.look(place) {
+        View::Variable(number) => put_named(out, "variable ", number),
+        View::Integer(value) => {
+            put_text(out, "integer ")?;
+            put_integer(out, value)
         }
-    };
-    Ok(text.into_bytes())
+        View::Atom(name) => put_named(out, "atom ", name.slot() as u64),
+        View::Compound(name, arguments) => {
+            put_named(out, "compound ", name.slot() as u64)?;
+            put_named(out, " ", arguments.len() as u64)
+        }
+    }
 }
 
 /// Whether the first of so many variables, each of which is bound to a term that has the one before it twice, is unified
@@ -156,14 +182,20 @@ pub fn chain(alloc: Global, fields: &mut Fields) -> Result<Vec<u8>> {
     let levels = fields.next_field()?.parse::<u64>()?;
     let mut store = Store::new(alloc, 0)?;
     let first = variable(&mut store, 0)?;
+    let last = last_doubled(&mut store, first, levels)?;
+    let around = compound(&mut store, b'g', &[last])?;
+    let mut out = Vec::new(alloc);
+    put_unified(&mut out, &mut store, first, around)?;
+    Ok(out)
+}
+
+/// The last of so many variables, each bound to a term that has the one before it twice.
+fn last_doubled(store: &mut Store, first: Place, levels: u64) -> Result<Place, Memory> {
     let mut last = first;
     for i in 1..levels {
-        last = doubled(&mut store, i, last)?;
+        last = doubled(store, i, last)?;
     }
-    let around = compound(&mut store, b'g', &[last])?;
-    let same = unified(&mut store, first, around)?;
-    let bindings = store.trail_len();
-    Ok(format!(in alloc; "{same} {bindings}")?.into_bytes())
+    Ok(last)
 }
 
 /// A new variable that is bound to a term that has the one before it twice.
