@@ -77,13 +77,13 @@ impl Ball {
         }
     }
 
-    /// The term's nodes in prefix order. The only error is out of memory, which is found at once where there is no room for as
-    /// many nodes as the term has cells.
-    pub fn nodes(&self, alloc: Global) -> Result<Vec<AtomNode>, Memory>
+    /// The term's nodes in prefix order. The only error is out of memory, which is found at once where shared parts make the
+    /// term larger than any memory.
+    pub fn nodes(&self) -> Result<Vec<AtomNode>, Memory>
         ensures { IfOk result (λ v. node_views v.items ≡ nodes self.now) }
     {
-        find_room(alloc, self.cells)?;
         let own: &Store = &self.own;
+        own.find_room(self.place)?;
         own.nodes(self.place)
     }
 
@@ -130,19 +130,6 @@ fn kept(alloc: Global, mut own: Store, place: Place) -> Result<Ball, Memory>
     let cells = own.compound_cells(place)?;
     let own = Box::new(alloc, own)?;
     Ok(Ball { own, place, cells })
-}
-
-/// Whether there is room for so many nodes. The only error is that there is none.
-fn find_room(alloc: Global, cells: Option<u64>) -> Result<(), Memory> {
-    let Some(count) = cells else {
-        return Err(Memory);
-    };
-    let Ok(count) = usize::try_from(count) else {
-        return Err(Memory);
-    };
-    let room: Vec<AtomNode> = Vec::with_capacity(alloc, count)?;
-    drop(room);
-    Ok(())
 }
 
 /// Makes an error term in a ball's own store, which has no variables. The only error is out of memory.

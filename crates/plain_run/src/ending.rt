@@ -33,7 +33,7 @@ pub fn how_at<A: Atoms>(alloc: Global, engine: &Engine, atoms: &mut A) -> Result
         End::Solved => Ok(How::Solved),
         End::NoMore => Ok(How::False),
         End::Threw(ball) => {
-            let nodes = ball.nodes(alloc)?;
+            let nodes = ball.nodes()?;
             let term = flat_of(alloc, &nodes, atoms)?;
             Ok(How::Threw(term))
         }

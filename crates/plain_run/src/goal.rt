@@ -11,16 +11,15 @@ ghost use Rattle.plain_run.specs.Answered.{IsHeldFor, IsPut};
 ghost use Rattle.plain_run.specs.Searched.{IsCarriedOn, IsRefusedOnce, IsSearched, last_refusals, stop_refusals};
 
 use crate::ran::Ran;
+use crate::shown::put_shown;
 use crate::slices::{INFERENCES, stop_after};
 use atom_api::Atoms;
 use iso_engine::engine::Engine;
 use iso_engine::slices::Slice;
-use pl_report::put_solution;
 use pl_term::{Memory, Text};
 use std::alloc::Global;
 use term_store::Stored;
 use world_api::World;
-use world_builtins::flats_at;
 
 /// Runs the search of a goal until it does not go on. What the goal writes is put after `out`, and a line for each of its
 /// solutions; `names` has the names of the goal's variables, each with the variable's number. Its steps are counted by
@@ -101,8 +100,16 @@ fn put_answer<A: Atoms>(
 {
     match slice {
         Slice::Solution(operators) => {
-            let values = flats_at(alloc, &engine.search.store, &engine.search.answer, atoms)?;
-            put_solution(alloc, out, names, &values, operators)
+            let search = &engine.search;
+            put_shown(
+                alloc,
+                &search.store,
+                &search.answer,
+                names,
+                operators,
+                atoms,
+                out,
+            )
         }
         _ => Ok(()),
     }

@@ -8,6 +8,7 @@ mod first_goal;
 mod goal;
 mod items;
 mod ran;
+mod shown;
 mod slices;
 
 pub use complete::completes;

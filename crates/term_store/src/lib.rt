@@ -22,6 +22,7 @@ mod numbering;
 mod occurs;
 mod older;
 mod pace;
+mod room;
 mod save;
 mod seen;
 mod size;

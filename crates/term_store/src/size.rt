@@ -48,7 +48,7 @@ impl Store {
 
 /// The cells of the compound terms in what a word stands for, or none where they are 2^64 or more. The only error is out of
 /// memory.
-fn count_cells(
+pub fn count_cells(
     alloc: Global,
     cells: &Cells,
     walk: &mut Walk,

@@ -9,4 +9,4 @@ mod terms;
 pub use characters::{Character, put_char};
 pub use output::{nl, write, write_canonical};
 pub use styles::Style;
-pub use terms::{flat_at, flat_of, flats_at};
+pub use terms::{flat_at, flat_of};

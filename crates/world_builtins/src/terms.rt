@@ -85,7 +85,8 @@ pub fn flat_of<A: Atoms>(alloc: Global, nodes: &[AtomNode], atoms: &mut A) -> Re
 }
 
 /// The term that stands at a place, over the texts of its atoms, its variables with their numbers. Each atom that it names
-/// is held. The only error is out of memory.
+/// is held. The only error is out of memory, which is found out at once where shared parts make the term larger than any
+/// memory.
 pub fn flat_at<A: Atoms>(
     alloc: Global,
     store: &Store,
@@ -99,28 +100,7 @@ pub fn flat_at<A: Atoms>(
     ensures refusals { A.refusals atoms.new ≡ A.refusals atoms.old }
     ensures asked { A.asked atoms.new ≡ A.asked atoms.old }
 {
+    store.find_room(place)?;
     let nodes = store.nodes(place)?;
     flat_of(alloc, &nodes, atoms)
-}
-
-/// The terms that stand at some places. The only error is out of memory.
-pub fn flats_at<A: Atoms>(
-    alloc: Global,
-    store: &Store,
-    places: &[Place],
-    atoms: &mut A,
-) -> Result<Vec<Flat>, Memory>
-    requires inside { All (Holds store.now) places.now }
-    requires held { All (IsHeldAt (A.held atoms.old) store.now) places.now }
-    ensures terms { IfOk result (λ ts. ts.items ≡ map (reads (A.held atoms.old) store.now) places.now) }
-    ensures same { A.held atoms.new ≡ A.held atoms.old }
-    ensures refusals { A.refusals atoms.new ≡ A.refusals atoms.old }
-    ensures asked { A.asked atoms.new ≡ A.asked atoms.old }
-{
-    let mut all = Vec::new(alloc);
-    for place in places {
-        let next = flat_at(alloc, store, *place, atoms)?;
-        all.push(next)?;
-    }
-    Ok(all)
 }
