@@ -31,6 +31,7 @@ pub mod Spelt
 pub mod Stacked
 pub mod Taking
 pub mod Texts
+pub mod Transferring
 pub mod Turning
 pub mod VariableCounts
 pub mod Wholes

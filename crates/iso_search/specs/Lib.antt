@@ -13,6 +13,7 @@ pub mod Goals
 pub mod Lines
 pub mod Lists
 pub mod Outcomes
+pub mod Parts
 pub mod Reading
 pub mod Recovering
 pub mod Searching

@@ -8,18 +8,18 @@ ghost use Rattle.pl_model.specs.Balls.{error_ball};
 ghost use Rattle.term_store.specs.Heap.{atom_name};
 ghost use Rattle.term_store.specs.Nodes.{node_views};
 ghost use Rattle.term_store.specs.Contents.{Holds, numbers_of, term_at};
-ghost use Rattle.term_copies.specs.Parts.{StandsFor};
+ghost use Rattle.iso_search.specs.Parts.{StandsFor};
 ghost use Rattle.iso_search.specs.Errors.{IsFaultIn, error_tree, fault_tree};
 ghost use Rattle.iso_search.specs.Outcomes.{fault_term};
 ghost use Rattle.iso_search.specs.Reading.{View, IsView, reads};
 ghost use Rattle.iso_search.specs.Spelling.{spelled, text_of};
 
 use crate::outcome::Fault;
+use crate::transfers::copy_into;
 use atom_api::{Atom, fixed};
 use pl_term::Memory;
 use std::alloc::Global;
 use std::marker::Model;
-use term_copies::copy_into;
 use term_store::{AtomNode, Place, Store, Stored};
 
 /// A term that is thrown, seen by contracts as that term. Its variables have the numbers that they had in the store. It stands

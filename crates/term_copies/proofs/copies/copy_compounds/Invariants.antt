@@ -1,5 +1,0 @@
-use Rattle.term_copies.specs.Parts.{AreCopies, Grows}
-use Rattle.term_copies.proofs.copies.copy_compounds.Given as goal
-
-abbrev pub invariant-loop-compound : goal.invariant-loop-compound
-invariant-loop-compound l = record { grows : Grows l.fn.other l.other; copies : AreCopies l.store l.other l.copies }
