@@ -1,6 +1,6 @@
 -- What an addition answers, beside what it would answer in the database of the definitions.
 use Rattle.std.proofs.Common.{◌≡◌, ◌+◌, ◌≤◌, ◌^◌, ℕ, cond, Option, Some, None, refl, ap, ap₂, sym, subst, ◌∙◌, arith}
-use Rattle.std.specs.Prelude.{nat_lt, IfNone}
+use Rattle.std.specs.Prelude.{nat_lt, IfErr, IfNone, IfSome}
 use Rattle.std.specs.Option.{MatchOption}
 use Rattle.std.specs.Result.{MatchResult, OnOk}
 use Rattle.std.specs.declared.result.Result.{Result}
@@ -15,7 +15,7 @@ use Rattle.clause_db.specs.declared.parts.Addition.{Addition}
 use Rattle.clause_db.specs.declared.parts.End.{End}
 use Rattle.clause_db.specs.declared.parts.End.TheVariants.{First, Last}
 use Rattle.clause_db.specs.declared.fault.DbFault.{DbFault}
-use Rattle.clause_db.specs.declared.fault.DbFault.TheVariants.{Static as StaticFault, CellsFull}
+use Rattle.clause_db.specs.declared.fault.DbFault.TheVariants.{Static as StaticFault, CellsFull, Memory as NoMemory}
 use Rattle.clause_db.specs.Parts.{Held, with_clause, with_added}
 use Rattle.clause_db.specs.Stands.{StandsFor, then_at}
 use Rattle.clause_db.specs.Faults.{is_closed, is_held_closed, addition_fault, held_addition_fault}
@@ -33,6 +33,14 @@ match_none Q P o e h = subst (λ x. MatchOption x Q P) e h
 pub on_ok : {T E : Type 0} (r : Result T E) (P Q : Type 0) → (P → Q) → OnOk r P → OnOk r Q
 on_ok (Ok x) P Q f h = f h
 on_ok (Err e) P Q f h = tt
+
+-- what is not added is handed back
+pub handed_back : {C T : Type 0} (o : Option DbFault) (r : Result T (C × DbFault)) (c : C) (Q : T → Type 0)
+    → IfSome o (λ f. r ≡ Err (c, f)) → IfNone o (MatchResult r Q (λ e. e ≡ (c, NoMemory))) → IfErr r (λ e. e.0 ≡ c)
+handed_back None (Ok x) c Q some none = tt
+handed_back None (Err e) c Q some none = ap (λ p. p.0) none
+handed_back (Some f) (Ok x) c Q some none = tt
+handed_back {C} (Some f) (Err e) c Q some none = let same : e ≡ (c, f) = cc in ap (λ (p : C × DbFault). p.0) same
 
 module _ {C : Type 0} (need : C → ℕ) (h : Held C) (d : ℕ → Database C) (s : StandsFor need h d) (k : ℕ) (l : h.next ≤ k) where
   pub low_at : h.floor ≤ k

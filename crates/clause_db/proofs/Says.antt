@@ -93,6 +93,9 @@ module _ {C : Type 0} (j k : ℕ) (need : C → ℕ) (f : C → Clause) (costs :
     apart_in : Apart (names (read_held f h).parts)
     apart_in = subst Apart (sym (names_read f h.parts)) apart
 
+    pub there_says : option_map_or (λ (x : Piece C). has_live j x.clauses) (slice_get h.parts home.part) false ≡ is_there j (d k)
+    there_says = sym (any_live_read f home.part j h.parts) ∙ there_is j k clause_cells (read_held f h) d s l homes homed_in apart_in home at
+
     pub erased_says : (new : Held C) (b : Bool) → b ≡ option_map_or (λ (x : Piece C). has_live j x.clauses) (slice_get h.parts home.part) false
         → (b ≡ true → new ≡ erased_held home.part j k home.cells h)
         → (b ≡ is_there j (d k)) × (b ≡ true → SaysFor f new (then_at k (without_clause j k) d))

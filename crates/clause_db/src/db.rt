@@ -41,7 +41,7 @@ use crate::flags::{Flag, FlagValue, Flags, first_flags, flags_with};
 use crate::index::Index;
 use crate::listing::listed;
 use crate::operators::table_with;
-use crate::parts::{Addition, End, ProcedureClauses, access_in, add_to, erase_in};
+use crate::parts::{Addition, End, ProcedureClauses, access_in, add_to, erase_in, has_live_in};
 use crate::reclaim::reclaim_at;
 use crate::search::locate;
 use crate::system::is_system;
@@ -348,6 +348,7 @@ impl<C: Kept> Db<C> {
         ensures rest { OnOk result ((self.new.next ≡ place + 1) × (self.new.floor ≡ self.old.floor)) }
         ensures settings { OnOk result ((self.new.flags ≡ self.old.flags) × (self.new.operators ≡ self.old.operators)) }
         ensures unchanged { OnErr result (self.new ≡ self.old) }
+        ensures back { IfErr result (λ e. e.0 ≡ clause) }
         ensures weighs { OnOk result ((w : C → ℕ) → weight w self.new ≡ w clause + weight w self.old) }
     {
         let by = Addition {
@@ -386,6 +387,7 @@ impl<C: Kept> Db<C> {
         ensures rest { OnOk result ((self.new.next ≡ place + 1) × (self.new.floor ≡ self.old.floor)) }
         ensures settings { OnOk result ((self.new.flags ≡ self.old.flags) × (self.new.operators ≡ self.old.operators)) }
         ensures unchanged { OnErr result (self.new ≡ self.old) }
+        ensures back { IfErr result (λ e. e.0 ≡ clause) }
         ensures weighs { OnOk result ((w : C → ℕ) → weight w self.new ≡ w clause + weight w self.old) }
     {
         let by = Addition {
@@ -488,6 +490,16 @@ impl<C: Kept> Db<C> {
         ensures { result ≡ is_static_access (held_access g self.now (proc_of p.now)) }
     {
         matches!(self.access_of(p, g), Some(Access::Static))
+    }
+
+    /// Whether the clause that was added at this place is there and was not erased. It takes no memory.
+    pub fn has_clause(&self, clause: u64) -> bool
+        ensures { (f : C → entries.Clause) (d : ℕ → Database entries.Clause) → Costs C.size f → SaysFor f self.now d → result ≡ is_there clause (d self.now.next) }
+    {
+        match self.homes.get(&clause) {
+            Some(home) => has_live_in(self.parts.as_slice(), home.part, clause),
+            None => false,
+        }
     }
 
     /// Erases the clause that was added at the place `clause` (ISO 8.9.3), by the update at `place`, which is after all

@@ -199,6 +199,16 @@ fn add_new<C: Kept>(
     }
 }
 
+/// Whether the procedure that stands at the index has the clause that was added at a place, not erased.
+pub fn has_live_in<C: Kept>(parts: &[ProcedureClauses<C>], i: usize, clause: u64) -> bool
+    ensures { result ≡ option_map_or (λ x. has_live clause x.clauses) (slice_get (map piece parts.now) i) false }
+{
+    if i < parts.len() {
+        return parts[i].clauses.has_live(clause);
+    }
+    false
+}
+
 /// Erases a clause in the procedure that stands at the index, and says whether it was there and not erased before. The only
 /// error is out of memory; after it all is as it was.
 pub fn erase_in<C: Kept>(

@@ -3,7 +3,7 @@ use Rattle.std.specs.Prelude.{IfSome, Err}
 use Rattle.pl_model.specs.laws.Shown.{proc_of}
 use Rattle.clause_db.specs.declared.parts.End.TheVariants.{First}
 use Rattle.clause_db.specs.declared.fault.DbFault.TheVariants.{Memory as NoMemory}
-use Rattle.clause_db.proofs.Added.{addition_fault_same, added_stands}
+use Rattle.clause_db.proofs.Added.{addition_fault_same, added_stands, handed_back}
 use Rattle.clause_db.proofs.Says.{added_says}
 use Rattle.clause_db.specs.declared.parts.Addition.{Addition}
 use Rattle.clause_db.specs.Parts.{with_added}
@@ -32,3 +32,6 @@ returns-clause-weighs g c =
     on_ok c.add.result (c.add.new.self ≡ held) _
     (λ e. λ w. ap (weight w) e ∙ added_weight w by c.args.p.now c.args.clause (g.C.Kept.size c.args.clause) c.args.self.now)
     (granted (held_addition_fault c.args.place c.args.self.now (proc_of c.args.p.now) c.args.origin (g.C.Kept.size c.args.clause)) c.add.result (λ f. (c.args.clause, f)) c.add.new.self held (λ e. e ≡ (c.args.clause, NoMemory)) c.add.ensures.refused c.add.ensures.added)
+
+pub returns-clause-back : goal.returns-clause-back
+returns-clause-back g c = handed_back (held_addition_fault c.args.place c.args.self.now (proc_of c.args.p.now) c.args.origin (g.C.Kept.size c.args.clause)) c.add.result c.args.clause _ c.add.ensures.refused c.add.ensures.added
