@@ -1,5 +1,6 @@
 -- What is handed out meets the contract of a visit.
-use Rattle.std.proofs.Common.{◌≡◌, ℕ, List, [], ◌∷◌, ◌++◌, map, length, Option, Some, None, refl, sym, ap, ◌∙◌, subst, append-nil}
+use Rattle.std.proofs.Common.{◌≡◌, ℕ, List, [], ◌∷◌, ◌++◌, map, length, Option, Some, None, Result, Ok, Err, refl, sym, ap, ◌∙◌, subst, append-nil}
+use Rattle.std.specs.Prelude.{IfOk}
 use Rattle.std.proofs.lemmas.List.{map-append, length-map}
 use Rattle.pl_term.specs.Tree.{Chars, Tree}
 use Rattle.pl_model.specs.History.{Clause}
@@ -18,6 +19,8 @@ use Rattle.world_api.specs.declared.reply.Found.{Found}
 use Rattle.gen_core.specs.declared.hit.Hit.{Hit}
 use Rattle.world_api.specs.declared.answer.Answer.{Answer}
 use Rattle.world_api.specs.declared.answer.Answer.TheVariants.{Served, Waits, NeedsAtoms, Retry, Worn, Memory}
+use Rattle.world_api.specs.declared.unserved.Unserved.{Unserved}
+use Rattle.world_api.specs.declared.unserved.Unserved.TheVariants as unserved
 use Rattle.world_api.specs.Visits.{IsGoal, Asks, clause_in, proc_named}
 use Rattle.world_api.specs.Replies.{Says, IsFront}
 use Rattle.world_api.specs.Answers.{IsServed, Serves, Visited, seen_as}
@@ -29,10 +32,7 @@ use Rattle.plain_world.specs.declared.adding.Adding.TheVariants.{Text, First, La
 use Rattle.plain_world.specs.Adding.{adding_request}
 use Rattle.plain_world.specs.Entries.{Log, history_of, told_of, entry_of, kind_of, noted, updated}
 use Rattle.plain_world.specs.TextReplies.{Reads, Makes, IsGoalOf, IsFrontOf}
-use Rattle.plain_world.specs.declared.made.Made.{Made}
-use Rattle.plain_world.specs.declared.made.Made.TheVariants.{Is, Full, Again, Worn as MadeWorn, Memory as MadeMemory}
-use Rattle.plain_world.specs.Made.{IfMade}
-use Rattle.plain_world.specs.Handed.{Answered, Handed, SaysAs, VisitedNow, adding_visit}
+use Rattle.plain_world.specs.Handed.{Answered, Handed, SaysAs, VisitedNow, adding_visit, answer_by}
 
 pub follows_none : (l : Log) → Follows 1 (history_of l) (history_of l)
 follows_none l = record { later = []; grown = sym (append-nil (history_of l)); others = refl }
@@ -84,20 +84,27 @@ module _ {T K : Type 0} (term : (ℕ → Chars) → T → Tree) (key : T → K) 
 
   -- What was made of a reply in texts is handed out.
   pub handed_made :
-      (t : TextReply) (made : Made (Reply T)) (a : Answer T) (l m : Log)
-      → IfMade made (SaysAs term new_text t)
+      (t : TextReply) (made : Result (Reply T) Unserved) (a : Answer T) (l m : Log)
+      → IfOk made (SaysAs term new_text t)
       → Answered made a l m
       → Handed term new_text t a l m
-  handed_made t (Is r) (Served s g) l m says h = (subst (SaysAs term new_text t) (sym h.0) says, h.1, h.2)
-  handed_made t (Is r) (Waits on g) l m says h = absurd h
-  handed_made t (Is r) (NeedsAtoms p) l m says h = absurd h
-  handed_made t (Is r) (Retry c) l m says h = absurd h
-  handed_made t (Is r) (Worn w) l m says h = absurd h
-  handed_made t (Is r) Memory l m says h = h
-  handed_made t (Full p) a l m says h = subst (λ (b : Answer T). Handed term new_text t b l m) (sym h.0) h.1
-  handed_made t (Again c) a l m says h = subst (λ (b : Answer T). Handed term new_text t b l m) (sym h.0) h.1
-  handed_made t (MadeWorn w) a l m says h = subst (λ (b : Answer T). Handed term new_text t b l m) (sym h.0) h.1
-  handed_made t MadeMemory a l m says h = subst (λ (b : Answer T). Handed term new_text t b l m) (sym h.0) h.1
+  handed_made t (Ok r) (Served s g) l m says h = (subst (SaysAs term new_text t) (sym h.0) says, h.1, h.2)
+  handed_made t (Ok r) (Waits on g) l m says h = absurd h
+  handed_made t (Ok r) (NeedsAtoms p) l m says h = absurd h
+  handed_made t (Ok r) (Retry c) l m says h = absurd h
+  handed_made t (Ok r) (Worn w) l m says h = absurd h
+  handed_made t (Ok r) Memory l m says h = h
+  handed_made t (Err (unserved.NeedsAtoms p)) a l m says h = subst (λ (b : Answer T). Handed term new_text t b l m) (sym h.0) h.1
+  handed_made t (Err (unserved.Retry c)) a l m says h = subst (λ (b : Answer T). Handed term new_text t b l m) (sym h.0) h.1
+  handed_made t (Err (unserved.Worn w)) a l m says h = subst (λ (b : Answer T). Handed term new_text t b l m) (sym h.0) h.1
+  handed_made t (Err unserved.Memory) a l m says h = subst (λ (b : Answer T). Handed term new_text t b l m) (sym h.0) h.1
+
+  -- A visit that was not served.
+  pub visited_not : (v : Visit T K) (l : Log) (u : Unserved) (a : Answer T) → a ≡ answer_by u → VisitedNow term key old_text new_text v a l l
+  visited_not v l (unserved.NeedsAtoms p) a is = subst (λ (b : Answer T). VisitedNow term key old_text new_text v b l l) (sym is) refl
+  visited_not v l (unserved.Retry c) a is = subst (λ (b : Answer T). VisitedNow term key old_text new_text v b l l) (sym is) refl
+  visited_not v l (unserved.Worn w) a is = subst (λ (b : Answer T). VisitedNow term key old_text new_text v b l l) (sym is) refl
+  visited_not v l unserved.Memory a is = subst (λ (b : Answer T). VisitedNow term key old_text new_text v b l l) (sym is) refl
 
   -- A visit that makes an update.
   pub is_made :

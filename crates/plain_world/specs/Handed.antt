@@ -1,5 +1,5 @@
 -- What an answer says that hands out a reply in texts.
-use Rattle.std.specs.Prelude.{◌≡◌, ℕ, length}
+use Rattle.std.specs.Prelude.{◌≡◌, ℕ, length, Result, Ok, Err}
 use Rattle.pl_term.specs.Tree.{Chars, Tree}
 use Rattle.pl_model.specs.Requests as requests
 use Rattle.world_api.specs.declared.visit.Visit.{Visit}
@@ -7,12 +7,12 @@ use Rattle.world_api.specs.declared.visit.Visit.TheVariants.{AssertFirst, Assert
 use Rattle.world_api.specs.declared.reply.Reply.{Reply}
 use Rattle.world_api.specs.declared.answer.Answer.{Answer}
 use Rattle.world_api.specs.declared.answer.Answer.TheVariants.{Served, Waits, NeedsAtoms, Retry, Worn, Memory}
+use Rattle.world_api.specs.declared.unserved.Unserved.{Unserved}
+use Rattle.world_api.specs.declared.unserved.Unserved.TheVariants as unserved
 use Rattle.world_api.specs.Replies.{Says}
 use Rattle.world_api.specs.Answers.{Visited}
 use Rattle.plain_world.specs.declared.adding.Adding.{Adding}
 use Rattle.plain_world.specs.declared.adding.Adding.TheVariants.{Text, First, Last}
-use Rattle.plain_world.specs.declared.made.Made.{Made}
-use Rattle.plain_world.specs.declared.made.Made.TheVariants.{Is, Full, Again, Worn as MadeWorn, Memory as MadeMemory}
 use Rattle.plain_world.specs.declared.text_reply.TextReply.{TextReply}
 use Rattle.plain_world.specs.Entries.{Log, history_of, told_of, noted}
 use Rattle.plain_world.specs.TextReplies.{SaysText}
@@ -41,13 +41,17 @@ Noted r (Served s g) l m = (s ≡ r) × (g ≡ length l.entries) × (m ≡ noted
 Noted r Memory l m = m ≡ l
 Noted r _ l m = ⊥
 
+-- The answer to a visit that was not served.
+abbrev pub answer_by : {T : Type 0} → Unserved → Answer T
+answer_by (unserved.NeedsAtoms p) = NeedsAtoms p
+answer_by (unserved.Retry c) = Retry c
+answer_by (unserved.Worn w) = Worn w
+answer_by unserved.Memory = Memory
+
 -- What was made is handed out as it is, and the visit is noted; or nothing has changed.
-abbrev pub Answered : {T : Type 0} → Made (Reply T) → Answer T → Log → Log → Type 0
-Answered (Is r) a l m = Noted r a l m
-Answered (Full p) a l m = (a ≡ NeedsAtoms p) × (m ≡ l)
-Answered (Again c) a l m = (a ≡ Retry c) × (m ≡ l)
-Answered (MadeWorn w) a l m = (a ≡ Worn w) × (m ≡ l)
-Answered MadeMemory a l m = (a ≡ Memory) × (m ≡ l)
+abbrev pub Answered : {T : Type 0} → Result (Reply T) Unserved → Answer T → Log → Log → Type 0
+Answered (Ok r) a l m = Noted r a l m
+Answered (Err u) a l m = (a ≡ answer_by u) × (m ≡ l)
 
 abbrev pub adding_visit : {T K : Type 0} → Adding → T → Visit T K
 adding_visit Text c = Consult c

@@ -2,7 +2,6 @@ pub mod Entries
 pub mod Trees
 pub mod Adding
 pub mod Sound
-pub mod Made
 pub mod Heads
 pub mod TextReplies
 pub mod Handed

@@ -1,17 +1,16 @@
 //! Replies in texts, handed out over an engine's atoms.
-ghost use Rattle.std.specs.Prelude.{◌≡◌, ◌++◌, IsSome, Some};
+ghost use Rattle.std.specs.Prelude.{◌≡◌, ◌++◌, IfOk, IsSome, Some};
 ghost use Rattle.std.specs.List.{All, Contains};
 ghost use Rattle.pl_term.specs.Tree.{Tree};
 ghost use Rattle.world_api.specs.Asked.{texts_in};
 ghost use Rattle.world_api.specs.Gains.{Gains};
 ghost use Rattle.world_api.specs.Texts.{text_of, Holds};
 ghost use Rattle.world_api.specs.Replies.{reply_names};
-ghost use Rattle.plain_world.specs.Made.{IfMade, made_refusals};
+ghost use Rattle.world_api.specs.Unserved.{refusals_in};
 ghost use Rattle.plain_world.specs.Handed.{SaysAs};
 ghost use Rattle.plain_world.specs.TextReplies.{said_texts};
 ghost use Rattle.plain_world.specs.declared.text_reply.TextReply.TheVariants.{Clauses, Refused};
 
-use crate::made::Made;
 use crate::made_terms::MadeTerms;
 use crate::spelled::Spelled;
 use crate::text_reply::TextReply;
@@ -19,29 +18,27 @@ use atom_api::Atoms;
 use clause_db::Hit;
 use pl_term::Flat;
 use std::alloc::Global;
-use world_api::{Found, Reply};
+use world_api::{Found, Reply, Unserved};
 
-/// The reply that says what the one in texts says.
+/// The reply that says what the one in texts says, or why it is not made of texts. A text that is longer than that of any atom
+/// is told as out of memory.
 pub fn read_reply<T: Spelled, A: Atoms>(
     alloc: Global,
     reply: TextReply<'_>,
     terms: &mut MadeTerms<T>,
     atoms: &mut A,
-) -> Made<Reply<T>>
-    ensures says { IfMade result (SaysAs T.term (text_of (A.held atoms.new)) reply.entry) }
-    ensures names { IfMade result (λ r. All (λ a. IsSome (A.held atoms.new a)) (reply_names T.names r)) }
+) -> Result<Reply<T>, Unserved>
+    ensures says { IfOk result (SaysAs T.term (text_of (A.held atoms.new)) reply.entry) }
+    ensures names { IfOk result (λ r. All (λ a. IsSome (A.held atoms.new a)) (reply_names T.names r)) }
     ensures holds { Holds (A.held atoms.old) (A.held atoms.new) }
-    ensures refusals { A.refusals atoms.new ≡ A.refusals atoms.old ++ made_refusals result }
+    ensures refusals { A.refusals atoms.new ≡ A.refusals atoms.old ++ refusals_in result }
     ensures asked { Gains (λ c. Contains (said_texts reply.entry) c) (A.asked atoms.old) (A.asked atoms.new) }
 {
     match reply {
-        TextReply::Standing { operators, quotes } => Made::Is(Reply::Standing {
-            operators,
-            quotes,
-        }),
+        TextReply::Standing { operators, quotes } => Ok(Reply::Standing { operators, quotes }),
         TextReply::Clauses(found) => read_front(alloc, found, terms, atoms),
-        TextReply::Done => Made::Is(Reply::Done),
-        TextReply::Gone => Made::Is(Reply::Gone),
+        TextReply::Done => Ok(Reply::Done),
+        TextReply::Gone => Ok(Reply::Gone),
         TextReply::Refused(error) => read_refused(alloc, &error, atoms),
     }
 }
@@ -52,16 +49,16 @@ fn read_front<T: Spelled, A: Atoms>(
     found: Option<Hit<'_, Flat>>,
     terms: &mut MadeTerms<T>,
     atoms: &mut A,
-) -> Made<Reply<T>>
-    ensures says { IfMade result (SaysAs T.term (text_of (A.held atoms.new)) (Clauses found.entry)) }
-    ensures names { IfMade result (λ r. All (λ a. IsSome (A.held atoms.new a)) (reply_names T.names r)) }
+) -> Result<Reply<T>, Unserved>
+    ensures says { IfOk result (SaysAs T.term (text_of (A.held atoms.new)) (Clauses found.entry)) }
+    ensures names { IfOk result (λ r. All (λ a. IsSome (A.held atoms.new a)) (reply_names T.names r)) }
     ensures holds { Holds (A.held atoms.old) (A.held atoms.new) }
-    ensures refusals { A.refusals atoms.new ≡ A.refusals atoms.old ++ made_refusals result }
+    ensures refusals { A.refusals atoms.new ≡ A.refusals atoms.old ++ refusals_in result }
     ensures asked { Gains (λ c. Contains (said_texts (Clauses found.entry)) c) (A.asked atoms.old) (A.asked atoms.new) }
 {
     match found {
         Some(found) => read_found(alloc, &found, terms, atoms),
-        None => Made::Is(Reply::Clauses(None)),
+        None => Ok(Reply::Clauses(None)),
     }
 }
 
@@ -71,24 +68,19 @@ fn read_found<T: Spelled, A: Atoms>(
     found: &Hit<'_, Flat>,
     terms: &mut MadeTerms<T>,
     atoms: &mut A,
-) -> Made<Reply<T>>
-    ensures says { IfMade result (SaysAs T.term (text_of (A.held atoms.new)) (Clauses (Some found.now))) }
-    ensures names { IfMade result (λ r. All (λ a. IsSome (A.held atoms.new a)) (reply_names T.names r)) }
+) -> Result<Reply<T>, Unserved>
+    ensures says { IfOk result (SaysAs T.term (text_of (A.held atoms.new)) (Clauses (Some found.now))) }
+    ensures names { IfOk result (λ r. All (λ a. IsSome (A.held atoms.new a)) (reply_names T.names r)) }
     ensures holds { Holds (A.held atoms.old) (A.held atoms.new) }
-    ensures refusals { A.refusals atoms.new ≡ A.refusals atoms.old ++ made_refusals result }
+    ensures refusals { A.refusals atoms.new ≡ A.refusals atoms.old ++ refusals_in result }
     ensures asked { Gains (λ c. Contains (texts_in found.now.clause.now) c) (A.asked atoms.old) (A.asked atoms.new) }
 {
-    match clause_term(alloc, found.place, found.clause, terms, atoms) {
-        Made::Is(clause) => Made::Is(Reply::Clauses(Some(Found {
-            clause,
-            place: found.place,
-            more: found.more,
-        }))),
-        Made::Full(pass) => Made::Full(pass),
-        Made::Again(cause) => Made::Again(cause),
-        Made::Worn(word) => Made::Worn(word),
-        Made::Memory => Made::Memory,
-    }
+    let clause = clause_term(alloc, found.place, found.clause, terms, atoms)?;
+    Ok(Reply::Clauses(Some(Found {
+        clause,
+        place: found.place,
+        more: found.more,
+    })))
 }
 
 /// The term that stands for the clause that was added at a place: the one that was made before, where it still does, or else
@@ -99,41 +91,33 @@ fn clause_term<T: Spelled, A: Atoms>(
     clause: &Flat,
     terms: &mut MadeTerms<T>,
     atoms: &mut A,
-) -> Made<T>
-    ensures read { IfMade result (λ t. T.term (text_of (A.held atoms.new)) t ≡ clause.now) }
-    ensures names { IfMade result (λ t. All (λ a. IsSome (A.held atoms.new a)) (T.names t)) }
+) -> Result<T, Unserved>
+    ensures read { IfOk result (λ t. T.term (text_of (A.held atoms.new)) t ≡ clause.now) }
+    ensures names { IfOk result (λ t. All (λ a. IsSome (A.held atoms.new a)) (T.names t)) }
     ensures holds { Holds (A.held atoms.old) (A.held atoms.new) }
-    ensures refusals { A.refusals atoms.new ≡ A.refusals atoms.old ++ made_refusals result }
+    ensures refusals { A.refusals atoms.new ≡ A.refusals atoms.old ++ refusals_in result }
     ensures asked { Gains (λ c. Contains (texts_in clause.now) c) (A.asked atoms.old) (A.asked atoms.new) }
 {
     if let Some(term) = terms.term(place, clause, atoms) {
-        return Made::Is(term);
+        return Ok(term);
     }
-    match T::read(clause, alloc, atoms) {
-        Made::Is(term) => {
-            terms.keep_too(place, &term);
-            Made::Is(term)
-        }
-        Made::Full(pass) => Made::Full(pass),
-        Made::Again(cause) => Made::Again(cause),
-        Made::Worn(word) => Made::Worn(word),
-        Made::Memory => Made::Memory,
-    }
+    let term = T::read(clause, alloc, atoms)?;
+    terms.keep_too(place, &term);
+    Ok(term)
 }
 
 /// The error term.
-fn read_refused<T: Spelled, A: Atoms>(alloc: Global, error: &Flat, atoms: &mut A) -> Made<Reply<T>>
-    ensures says { IfMade result (SaysAs T.term (text_of (A.held atoms.new)) (Refused error.now)) }
-    ensures names { IfMade result (λ r. All (λ a. IsSome (A.held atoms.new a)) (reply_names T.names r)) }
+fn read_refused<T: Spelled, A: Atoms>(
+    alloc: Global,
+    error: &Flat,
+    atoms: &mut A,
+) -> Result<Reply<T>, Unserved>
+    ensures says { IfOk result (SaysAs T.term (text_of (A.held atoms.new)) (Refused error.now)) }
+    ensures names { IfOk result (λ r. All (λ a. IsSome (A.held atoms.new a)) (reply_names T.names r)) }
     ensures holds { Holds (A.held atoms.old) (A.held atoms.new) }
-    ensures refusals { A.refusals atoms.new ≡ A.refusals atoms.old ++ made_refusals result }
+    ensures refusals { A.refusals atoms.new ≡ A.refusals atoms.old ++ refusals_in result }
     ensures asked { Gains (λ c. Contains (texts_in error.now) c) (A.asked atoms.old) (A.asked atoms.new) }
 {
-    match T::read(error, alloc, atoms) {
-        Made::Is(error) => Made::Is(Reply::Refused(error)),
-        Made::Full(pass) => Made::Full(pass),
-        Made::Again(cause) => Made::Again(cause),
-        Made::Worn(word) => Made::Worn(word),
-        Made::Memory => Made::Memory,
-    }
+    let error = T::read(error, alloc, atoms)?;
+    Ok(Reply::Refused(error))
 }

@@ -8,7 +8,6 @@ mod errors;
 mod handing;
 mod heads;
 mod journal;
-mod made;
 mod made_terms;
 mod recent;
 mod spelled;
@@ -18,6 +17,5 @@ mod visits;
 mod world;
 
 pub use entry::Entry;
-pub use made::Made;
 pub use spelled::Spelled;
 pub use world::PlainWorld;

@@ -5,14 +5,13 @@ ghost use Rattle.pl_model.specs.FirstArguments.{head_key, head_of};
 ghost use Rattle.world_api.specs.Asked.{texts_in};
 ghost use Rattle.world_api.specs.Gains.{Gains};
 ghost use Rattle.world_api.specs.Texts.{text_of, Holds};
-ghost use Rattle.plain_world.specs.Made.{IfMade, made_refusals};
+ghost use Rattle.world_api.specs.Unserved.{refusals_in};
 
-use crate::made::Made;
 use atom_api::Atoms;
 use pl_model::first_argument::FirstArgument;
 use pl_term::{Flat, Memory};
 use std::alloc::Global;
-use world_api::Named;
+use world_api::{Named, Unserved};
 
 /// A term over atoms that can be spelled out in texts, and made of texts again.
 pub trait Spelled: Named {
@@ -44,12 +43,13 @@ pub trait Spelled: Named {
     fn key_reads<A: Atoms>(key: &Self::Key, known: &FirstArgument, atoms: &A) -> bool
         ensures { result ≡ true → (t : Self) → Self.key_of t ≡ key.now → known.now ≡ head_key (head_of (Self.term (text_of (A.held atoms.now)) t)) };
 
-    /// The term that stands for this one in texts, by the atoms. No text but its names is asked of them.
-    fn read<A: Atoms>(flat: &Flat, alloc: Global, atoms: &mut A) -> Made<Self>
-        ensures read { IfMade result (λ t. Self.term (text_of (A.held atoms.new)) t ≡ flat.now) }
-        ensures names { IfMade result (λ t. All (λ a. IsSome (A.held atoms.new a)) (Self.names t)) }
+    /// The term that stands for this one in texts, by the atoms, all of which are held; or why it is not made of them: a name
+    /// that is longer than that of any atom is told as out of memory. No text but its names is asked of them.
+    fn read<A: Atoms>(flat: &Flat, alloc: Global, atoms: &mut A) -> Result<Self, Unserved>
+        ensures read { IfOk result (λ t. Self.term (text_of (A.held atoms.new)) t ≡ flat.now) }
+        ensures names { IfOk result (λ t. All (λ a. IsSome (A.held atoms.new a)) (Self.names t)) }
         ensures holds { Holds (A.held atoms.old) (A.held atoms.new) }
-        ensures refusals { A.refusals atoms.new ≡ A.refusals atoms.old ++ made_refusals result }
+        ensures refusals { A.refusals atoms.new ≡ A.refusals atoms.old ++ refusals_in result }
         ensures asked { Gains (λ c. Contains (texts_in flat.now) c) (A.asked atoms.old) (A.asked atoms.new) };
 
     /// Whether this term stands for the one in texts, all its atoms held. Where the atoms do not tell their texts
@@ -97,11 +97,8 @@ impl Spelled for Flat {
         false
     }
 
-    fn read<A: Atoms>(flat: &Flat, alloc: Global, _atoms: &mut A) -> Made<Flat> {
-        match flat.copy(alloc) {
-            Ok(term) => Made::Is(term),
-            Err(Memory) => Made::Memory,
-        }
+    fn read<A: Atoms>(flat: &Flat, alloc: Global, _atoms: &mut A) -> Result<Flat, Unserved> {
+        Ok(flat.copy(alloc)?)
     }
 
     fn stands_for<A: Atoms>(&self, flat: &Flat, _atoms: &A) -> bool {

@@ -6,14 +6,13 @@ ghost use Rattle.term_store.specs.ArgumentKeys.{key_atoms};
 ghost use Rattle.world_api.specs.Texts.{text_of};
 ghost use Rattle.world_api.specs.KeyTexts.{key_in};
 
-use crate::made::Made;
 use crate::spelled::Spelled;
 use atom_api::{Atom, Atoms, TextBuf};
 use pl_model::first_argument::FirstArgument;
 use pl_term::{Flat, Memory, Text};
 use std::alloc::Global;
 use term_store::{ArgumentKey, Stored};
-use world_api::{NoTerm, interned, reads_as, with_texts};
+use world_api::{NoTerm, Unserved, interned, reads_as, with_texts};
 
 /// The text of the atom of a slot, which is held. The only error is out of memory.
 fn atom_text<A: Atoms>(alloc: Global, slot: u32, atoms: &mut A) -> Result<Text, Memory>
@@ -109,17 +108,17 @@ impl Spelled for Stored {
         is_key_text(key, known, atoms)
     }
 
-    fn read<A: Atoms>(flat: &Flat, alloc: Global, atoms: &mut A) -> Made<Stored> {
+    fn read<A: Atoms>(flat: &Flat, alloc: Global, atoms: &mut A) -> Result<Stored, Unserved> {
         if !is_numbered(alloc, flat) {
-            return Made::Memory;
+            return Err(Unserved::Memory);
         }
         match interned(alloc, flat, atoms) {
-            Ok(term) => Made::Is(term),
-            Err(NoTerm::Full(pass)) => Made::Full(pass),
-            Err(NoTerm::Again(cause)) => Made::Again(cause),
-            Err(NoTerm::TooLong) => Made::Memory,
-            Err(NoTerm::Worn(word)) => Made::Worn(word),
-            Err(NoTerm::Memory) => Made::Memory,
+            Ok(term) => Ok(term),
+            Err(NoTerm::Full(pass)) => Err(Unserved::NeedsAtoms(pass)),
+            Err(NoTerm::Again(cause)) => Err(Unserved::Retry(cause)),
+            Err(NoTerm::TooLong) => Err(Unserved::Memory),
+            Err(NoTerm::Worn(word)) => Err(Unserved::Worn(word)),
+            Err(NoTerm::Memory) => Err(Unserved::Memory),
         }
     }
 

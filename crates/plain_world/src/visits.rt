@@ -1,5 +1,5 @@
 //! The visits, one by one.
-ghost use Rattle.std.specs.Prelude.{◌≡◌, ◌++◌, IfOk, IsSome, Some};
+ghost use Rattle.std.specs.Prelude.{◌≡◌, ◌++◌, [], IfOk, IsSome, Some};
 ghost use Rattle.std.specs.List.{All, Contains};
 ghost use Rattle.pl_model.specs.FirstArguments.{head_key, head_of};
 ghost use Rattle.pl_model.specs.laws.Shown.{proc_of};
@@ -13,12 +13,11 @@ ghost use Rattle.plain_world.specs.Entries.{told_of};
 ghost use Rattle.plain_world.specs.TextReplies.{said_texts};
 ghost use Rattle.atom_api.specs.Names.{Names};
 ghost use Rattle.world_api.specs.Replies.{reply_names};
-ghost use Rattle.plain_world.specs.Made.{IfMade, made_refusals};
-ghost use Rattle.plain_world.specs.Handed.{Answered, Handed, VisitedNow, Noted, adding_visit};
+ghost use Rattle.world_api.specs.Unserved.{refusals_in, unserved_refusals};
+ghost use Rattle.plain_world.specs.Handed.{Answered, Handed, VisitedNow, Noted, adding_visit, answer_by};
 
 use crate::adding::Adding;
 use crate::handing::read_reply;
-use crate::made::Made;
 use crate::recent::Recent;
 use crate::spelled::Spelled;
 use crate::text_reply::TextReply;
@@ -29,7 +28,7 @@ use pl_model::kept::Kept;
 use pl_model::shows::Proc;
 use pl_term::Memory;
 use std::alloc::Global;
-use world_api::{Answer, Procedure, Reply};
+use world_api::{Answer, Named, Procedure, Reply, Unserved};
 
 /// A number for a predicate: those of one name and those of one number of arguments have different ones.
 fn predicate_number(p: &Procedure) -> usize {
@@ -106,6 +105,20 @@ fn keep_key<T: Spelled>(recent: &mut Recent<FirstArgument>, key: &T::Key, spelle
     }
 }
 
+/// The answer to a visit that was not served.
+fn answer_of<T: Named>(unserved: Unserved) -> Answer<T>
+    ensures answer { result ≡ answer_by unserved }
+    ensures names { answer_names T.names result ≡ [] }
+    ensures refusals { refusals_by result ≡ unserved_refusals unserved }
+{
+    match unserved {
+        Unserved::NeedsAtoms(pass) => Answer::NeedsAtoms(pass),
+        Unserved::Retry(cause) => Answer::Retry(cause),
+        Unserved::Worn(word) => Answer::Worn(word),
+        Unserved::Memory => Answer::Memory,
+    }
+}
+
 impl<T: Spelled, A: Atoms> PlainWorld<T, A> {
     /// Hands out a reply, and notes the visit.
     fn hand_out(&mut self, reply: TextReply<'_>, atoms: &mut A) -> Answer<T>
@@ -120,17 +133,14 @@ impl<T: Spelled, A: Atoms> PlainWorld<T, A> {
     }
 
     /// Answers with what was made of a reply, and notes the visit where there is one.
-    fn answered(&mut self, made: Made<Reply<T>>) -> Answer<T>
+    fn answered(&mut self, made: Result<Reply<T>, Unserved>) -> Answer<T>
         ensures answered { Answered made result self.old.journal self.new.journal }
-        ensures names { (m : Names) → IfMade made (λ r. All (λ a. IsSome (m a)) (reply_names T.names r)) → All (λ a. IsSome (m a)) (answer_names T.names result) }
-        ensures refusals { refusals_by result ≡ made_refusals made }
+        ensures names { (m : Names) → IfOk made (λ r. All (λ a. IsSome (m a)) (reply_names T.names r)) → All (λ a. IsSome (m a)) (answer_names T.names result) }
+        ensures refusals { refusals_by result ≡ refusals_in made }
     {
         match made {
-            Made::Is(reply) => self.noted(reply),
-            Made::Full(pass) => Answer::NeedsAtoms(pass),
-            Made::Again(cause) => Answer::Retry(cause),
-            Made::Worn(word) => Answer::Worn(word),
-            Made::Memory => Answer::Memory,
+            Ok(reply) => self.noted(reply),
+            Err(unserved) => answer_of(unserved),
         }
     }
 
@@ -232,11 +242,8 @@ impl<T: Spelled, A: Atoms> PlainWorld<T, A> {
         self.predicates.put(predicate_number(procedure), p);
         keep_key::<T>(&mut self.keys, first, key);
         match made {
-            Made::Is(reply) => Answer::Served { reply, generation },
-            Made::Full(pass) => Answer::NeedsAtoms(pass),
-            Made::Again(cause) => Answer::Retry(cause),
-            Made::Worn(word) => Answer::Worn(word),
-            Made::Memory => Answer::Memory,
+            Ok(reply) => Answer::Served { reply, generation },
+            Err(unserved) => answer_of(unserved),
         }
     }
 
