@@ -1,5 +1,6 @@
 //! Rows beside what comes of them.
 
+use crate::output::{put, put_number, put_pair};
 use crate::row::Row;
 use crate::runs::{Outcome, outcome_of};
 use anyhow::Result;
@@ -44,9 +45,16 @@ fn gives(outcome: &Outcome, wanted: &[u8], status: u8) -> bool {
 
 /// Whether a run made the visits and the report that a row says, where it says so.
 fn reports(outcome: &Outcome, row: &Row) -> bool {
-    let has_visits = row.visits.is_empty() || row.visits == outcome.visits.as_str();
-    let has_front = row.front.is_empty() || row.front == outcome.front.as_str();
-    has_visits && has_front
+    is_as_said(row.visits, Some(outcome.visits)) && is_as_said(row.front, outcome.front)
+}
+
+/// Whether two numbers are those that a row says, where it says so.
+fn is_as_said(said: Option<(u64, u64)>, came: Option<(u64, u64)>) -> bool {
+    match (said, came) {
+        (Some(wanted), Some(got)) => wanted.0 == got.0 && wanted.1 == got.1,
+        (Some(_), None) => false,
+        (None, _) => true,
+    }
 }
 
 /// Writes what a row says and what came of it.
@@ -56,26 +64,44 @@ fn show<R: Print>(
     wanted: (&[u8], u8),
     outcome: &Outcome,
 ) -> io::Result<()> {
-    let (file, line) = place;
-    let (text, status) = wanted;
-    println!(rt; "{file}, the row that ends in line {line}: wanted status {status} and")?;
-    io::writer(rt).write_all(text)?;
-    let Outcome {
-        status,
-        visits,
-        front,
-        ..
-    } = outcome;
-    println!(rt; "came status {status}, visits {visits}, front {front} and")?;
-    io::writer(rt).write_all(outcome.out.bytes())?;
-    println!(rt; "end")
+    put(rt, place.0)?;
+    put_number(rt, ", the row that ends in line ", place.1)?;
+    put_number(rt, ": wanted status ", u64::from(wanted.1))?;
+    put(rt, " and\n")?;
+    io::writer(rt).write_all(wanted.0)?;
+    show_outcome(rt, outcome)
 }
 
-/// Checks a row, which ends in this line of the file.
+/// Writes what came of a row.
+fn show_outcome<R: Print>(rt: &R, outcome: &Outcome) -> io::Result<()> {
+    put_number(rt, "came status ", u64::from(outcome.status))?;
+    put_pair(rt, ", visits", outcome.visits)?;
+    if let Some(front) = outcome.front {
+        put_pair(rt, ", front", front)?;
+    }
+    put(rt, " and\n")?;
+    io::writer(rt).write_all(outcome.out.bytes())?;
+    put(rt, "end\n")
+}
+
+/// Checks a row, which ends at this place.
 pub fn check_row<R: AllocGlobal + Print + Threads + Wait + Sync>(
     rt: &R,
-    file: &str,
-    line: u64,
+    place: (&str, u64),
+    row: &Row,
+    tally: &mut Tally,
+) -> Result<()> {
+    check_whole(rt, place, row, tally)?;
+    match row.failing_writes {
+        Some(most) => check_failing_writes(rt, place, row, most, tally),
+        None => Ok(()),
+    }
+}
+
+/// Checks a row where no write fails.
+fn check_whole<R: AllocGlobal + Print + Threads + Wait + Sync>(
+    rt: &R,
+    place: (&str, u64),
     row: &Row,
     tally: &mut Tally,
 ) -> Result<()> {
@@ -86,10 +112,7 @@ pub fn check_row<R: AllocGlobal + Print + Threads + Wait + Sync>(
     let differs = !(gives(&outcome, wanted, status) && reports(&outcome, row));
     tally.count(differs);
     if differs {
-        show(rt, (file, line), (wanted, status), &outcome)?;
-    }
-    if let Some(most) = row.failing_writes {
-        check_failing_writes(rt, (file, line), row, most, tally)?;
+        show(rt, place, (wanted, status), &outcome)?;
     }
     Ok(())
 }

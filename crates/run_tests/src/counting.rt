@@ -7,8 +7,8 @@ use std::sync::atomic::Ordering::SeqCst;
 /// A gate that counts its calls, and apart from them those that are not for worker 0 and engine 1.
 #[derive(Drop)]
 pub struct Counting {
-    pub visits: AtomicU64,
-    pub others: AtomicU64,
+    visits: AtomicU64,
+    others: AtomicU64,
 }
 
 impl Counting {
@@ -18,6 +18,11 @@ impl Counting {
             visits: AtomicU64::new(0),
             others: AtomicU64::new(0),
         }
+    }
+
+    /// Both counts.
+    pub fn counts(&self) -> (u64, u64) {
+        (self.visits.load(SeqCst), self.others.load(SeqCst))
     }
 }
 

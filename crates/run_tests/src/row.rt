@@ -23,9 +23,9 @@ pub struct Row<'a> {
     /// How many bytes a call of `write` takes at most where the row is run with each write failing in turn too.
     pub failing_writes: Option<usize>,
     /// The calls of the gate, and those that are not for worker 0 and engine 1, as two numbers.
-    pub visits: &'a str,
+    pub visits: Option<(u64, u64)>,
     /// The updates and the generations that the report has, as two numbers.
-    pub front: &'a str,
+    pub front: Option<(u64, u64)>,
     /// What is written.
     pub wanted: String,
     /// The exit status, which the last line of a row has.
@@ -46,8 +46,8 @@ impl<'a> Row<'a> {
             goal: None,
             failing_read: None,
             failing_writes: None,
-            visits: "",
-            front: "",
+            visits: None,
+            front: None,
             wanted: String::new(alloc),
             status: None,
             has_begun: false,
@@ -113,12 +113,12 @@ impl<'a> Row<'a> {
                 self.failing_writes.is_some()
             }
             "visits:" => {
-                self.visits = rest;
-                true
+                self.visits = pair_of(rest);
+                self.visits.is_some()
             }
             "front:" => {
-                self.front = rest;
-                true
+                self.front = pair_of(rest);
+                self.front.is_some()
             }
             "status:" => {
                 self.status = rest.parse::<u8>().ok();
@@ -126,6 +126,15 @@ impl<'a> Row<'a> {
             }
             _ => false,
         }
+    }
+}
+
+/// The two numbers that a text has, with a blank between.
+fn pair_of(text: &str) -> Option<(u64, u64)> {
+    let (first, second) = text.split_once(' ')?;
+    match (first.parse::<u64>(), second.parse::<u64>()) {
+        (Ok(first), Ok(second)) => Some((first, second)),
+        _ => None,
     }
 }
 

@@ -6,7 +6,6 @@ use pl_io::{Bytes, MemoryFiles, MemorySink};
 use pl_term::{Memory, Text};
 use std::alloc::Global;
 use std::sync::Wait;
-use std::sync::atomic::Ordering::SeqCst;
 use std::thread::Threads;
 use toplevel::run::{Report, run};
 
@@ -21,9 +20,9 @@ pub struct Outcome {
     /// The exit status.
     pub status: u8,
     /// The calls of the gate, and those that are not for worker 0 and engine 1.
-    pub visits: String,
-    /// The updates and the generations that the report has, and nothing where it has none.
-    pub front: String,
+    pub visits: (u64, u64),
+    /// The updates and the generations that the report has, where it has any.
+    pub front: Option<(u64, u64)>,
 }
 
 /// The words of a row's command: those between blanks, where `""` stands for an empty one, and the goal.
@@ -44,29 +43,38 @@ fn words_of(alloc: Global, row: &Row) -> Result<Vec<Text>, Memory> {
 
 /// The files of a row: f.pl, where one read may fail.
 fn files_of(alloc: Global, row: &Row) -> Result<MemoryFiles, Memory> {
+    let content = content_of(alloc, row)?;
     let mut failing = Vec::new(alloc);
     if let Some(call) = row.failing_read {
         failing.push(call)?;
     }
+    let mut files = MemoryFiles::new(alloc, failing);
+    files.insert(Text::from_str(alloc, "f.pl")?, Bytes::from_vec(content))?;
+    Ok(files)
+}
+
+/// The bytes of the file of a row.
+fn content_of(alloc: Global, row: &Row) -> Result<Vec<u8>, Memory> {
     let mut all = Vec::new(alloc);
     if let Some(text) = &row.file {
         all.extend_from_slice(text.as_bytes())?;
     }
     all.extend_from_slice(&row.bytes)?;
-    let mut files = MemoryFiles::new(alloc, failing);
-    files.insert(Text::from_str(alloc, "f.pl")?, Bytes::from_vec(all))?;
-    Ok(files)
+    Ok(all)
+}
+
+/// A sink of which a call of `write` takes at most `most` bytes, and the calls in `failing` fail.
+fn sink_of(alloc: Global, most: usize, failing: Vec<u64>) -> Result<MemorySink, Memory> {
+    let mut out = MemorySink::with_room(alloc, ROOM, failing)?;
+    out.take_at_most(most);
+    Ok(out)
 }
 
 /// The numbers of a report's updates and generations.
-fn front_of(alloc: Global, report: &Report) -> Result<String, Memory> {
+fn front_of(report: &Report) -> Option<(u64, u64)> {
     match &report.front {
-        Some(front) => {
-            let updates = front.entries.len();
-            let generations = front.generations.len();
-            Ok(format!(in alloc; "{updates} {generations}")?)
-        }
-        None => Ok(String::new(alloc)),
+        Some(front) => Some((front.entries.len() as u64, front.generations.len() as u64)),
+        None => None,
     }
 }
 
@@ -78,18 +86,26 @@ pub fn outcome_of<R: Threads + Wait + Sync>(
     most: usize,
     failing: Vec<u64>,
 ) -> Result<Outcome, Memory> {
+    let out = sink_of(alloc, most, failing)?;
     let words = words_of(alloc, row)?;
-    let mut files = files_of(alloc, row)?;
-    let mut out = MemorySink::with_room(alloc, ROOM, failing)?;
-    out.take_at_most(most);
+    let files = files_of(alloc, row)?;
+    Ok(outcome_over(rt, alloc, words.as_slice(), files, out))
+}
+
+/// Runs the command with these words over these files and this sink.
+fn outcome_over<R: Threads + Wait + Sync>(
+    rt: &R,
+    alloc: Global,
+    words: &[Text],
+    mut files: MemoryFiles,
+    mut out: MemorySink,
+) -> Outcome {
     let gate = Counting::new();
-    let report = run(rt, alloc, words.as_slice(), &mut files, &mut out, &gate);
-    let visits = gate.visits.load(SeqCst);
-    let others = gate.others.load(SeqCst);
-    Ok(Outcome {
-        out,
+    let report = run(rt, alloc, words, &mut files, &mut out, &gate);
+    Outcome {
         status: report.status,
-        visits: format!(in alloc; "{visits} {others}")?,
-        front: front_of(alloc, &report)?,
-    })
+        visits: gate.counts(),
+        front: front_of(&report),
+        out,
+    }
 }
