@@ -8,6 +8,11 @@ ghost use Rattle.counted_terms.specs.Keeping.{KeeperAt, keeper_view, kept, tally
 ghost use Rattle.hub_tests.specs.NewSeats.{IsNewSeat};
 ghost use Rattle.counted_terms.specs.CountedTerms.{naming, said};
 
+#[cfg(test)]
+mod plain_queues;
+#[cfg(test)]
+mod queue_rows;
+
 use anyhow::{Context, Result, bail};
 use atom_api::Atoms;
 use atom_table::{AtomSeat, AtomTable, Interned, Keeper, NamesTable, Opened, TableAtoms};

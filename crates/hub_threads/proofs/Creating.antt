@@ -19,15 +19,15 @@ use Rattle.atom_api.specs.declared.interned.Interned.{Interned}
 use Rattle.atom_api.specs.declared.interned.Interned.TheVariants.{Is, Full, Again, TooLong}
 use Rattle.atom_api.specs.declared.interned.Interned.TheVariants as interned
 use Rattle.atom_words.specs.declared.view.View.{View}
-use Rattle.thread_queues.specs.declared.fault.QueueFault.TheVariants.{AliasTaken}
-use Rattle.thread_queues.specs.Distinct.{has_number}
-use Rattle.thread_queues.specs.Held.{Held, IsSound, thread_numbers}
-use Rattle.thread_queues.specs.Refusals.{make_refusal}
-use Rattle.thread_queues.specs.Serving.{threads_as, unless}
-use Rattle.thread_queues.specs.Weights.{IsBelow, weigh}
-use Rattle.thread_queues.proofs.Below.{stays_below}
-use Rattle.thread_queues.proofs.Served.{all_changes, served}
-use Rattle.thread_queues.proofs.Weighing.{keeps_all}
+use Rattle.hub_threads.specs.declared.held.fault.QueueFault.TheVariants.{AliasTaken}
+use Rattle.hub_threads.specs.Distinct.{has_number}
+use Rattle.hub_threads.specs.Held.{Held, IsSound, thread_numbers}
+use Rattle.hub_threads.specs.Refusals.{make_refusal}
+use Rattle.hub_threads.specs.Serving.{threads_as, unless}
+use Rattle.hub_threads.specs.Weights.{IsBelow, weigh}
+use Rattle.hub_threads.proofs.Below.{stays_below}
+use Rattle.hub_threads.proofs.Served.{all_changes, served}
+use Rattle.hub_threads.proofs.Weighing.{keeps_all}
 use Rattle.world_api.specs.Gains.{Gains}
 use Rattle.world_api.specs.Replies.{name_term as reply_term}
 use Rattle.world_api.specs.Texts.{or_no_text, text_of}

@@ -18,9 +18,9 @@ use Rattle.pl_model.specs.Threads.{Queue, Threads, first_message, queue_named}
 use Rattle.atom_api.specs.Fixed.{fixed, fixed_texts}
 use Rattle.atom_api.specs.Names.{FixedStand, Names}
 use Rattle.atom_words.specs.declared.view.View.{View}
-use Rattle.thread_queues.specs.Held.{Held}
-use Rattle.thread_queues.specs.Serving.{queue_as, threads_as}
-use Rattle.thread_queues.proofs.Served.{queue_by}
+use Rattle.hub_threads.specs.Held.{Held}
+use Rattle.hub_threads.specs.Serving.{queue_as, threads_as}
+use Rattle.hub_threads.proofs.Served.{queue_by}
 use Rattle.world_api.specs.declared.reply.Reply.TheVariants.{Standing, Clauses, Procedures, Flags, Named, Message, NoMessage, Status, Done, Gone, Refused}
 use Rattle.counted_terms.specs.CountedTerms.{said}
 use Rattle.counted_terms.specs.Rows.{Answers, row_names, row_refusals}

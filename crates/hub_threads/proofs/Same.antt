@@ -9,9 +9,9 @@ use Rattle.pl_model.specs.declared.threads.Status.{Status}
 use Rattle.pl_model.specs.declared.threads.Status.TheVariants.{Succeeded, Failed, Exception, Exited, Halted, AtomSpace}
 use Rattle.pl_model.specs.declared.threads.Thread.{Thread}
 use Rattle.pl_model.specs.Threads.{Queue, Threads}
-use Rattle.thread_queues.specs.Held.{Held, contents}
-use Rattle.thread_queues.specs.Serving.{message_as, queue_as, status_as, thread_as, threads_as}
-use Rattle.thread_queues.specs.Weights.{weigh, weigh_goal, weigh_how, weigh_queue, weigh_status, weigh_thread}
+use Rattle.hub_threads.specs.Held.{Held, contents}
+use Rattle.hub_threads.specs.Serving.{message_as, queue_as, status_as, thread_as, threads_as}
+use Rattle.hub_threads.specs.Weights.{weigh, weigh_goal, weigh_how, weigh_queue, weigh_status, weigh_thread}
 use Rattle.hub_threads.specs.Threads.{IsStored}
 
 -- a test on messages, where it is the same for each

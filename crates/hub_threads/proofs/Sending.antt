@@ -14,14 +14,14 @@ use Rattle.pl_model.specs.SharedState.{SharedState, state_at}
 use Rattle.pl_model.specs.Threads.{Queue, Threads, message_sent, number_of, queue_named, queue_numbered}
 use Rattle.atom_api.specs.Names.{Names}
 use Rattle.atom_words.specs.declared.view.View.{View}
-use Rattle.thread_queues.specs.Distinct.{has_number}
-use Rattle.thread_queues.specs.Held.{Held, IsSound, thread_numbers}
-use Rattle.thread_queues.specs.Serving.{threads_as}
-use Rattle.thread_queues.specs.Weights.{IsBelow, weigh}
-use Rattle.thread_queues.proofs.Below.{stays_below}
-use Rattle.thread_queues.proofs.Located.{key_is}
-use Rattle.thread_queues.proofs.Served.{all_changes, served}
-use Rattle.thread_queues.proofs.Weighing.{keeps_all}
+use Rattle.hub_threads.specs.Distinct.{has_number}
+use Rattle.hub_threads.specs.Held.{Held, IsSound, thread_numbers}
+use Rattle.hub_threads.specs.Serving.{threads_as}
+use Rattle.hub_threads.specs.Weights.{IsBelow, weigh}
+use Rattle.hub_threads.proofs.Below.{stays_below}
+use Rattle.hub_threads.proofs.Located.{key_is}
+use Rattle.hub_threads.proofs.Served.{all_changes, served}
+use Rattle.hub_threads.proofs.Weighing.{keeps_all}
 use Rattle.counted_terms.specs.CountedTerms.{IsCounted, naming, said}
 use Rattle.counted_terms.specs.Keeping.{kept, tally}
 use Rattle.counted_terms.specs.Sharing.{Counts, Restored}

@@ -7,11 +7,11 @@ use Rattle.pl_model.specs.History.{Entry, History, Kind, begins, has_begun}
 use Rattle.pl_model.specs.SharedState.{SharedState, change, state_at}
 use Rattle.pl_model.specs.Threads.{Threads}
 use Rattle.atom_words.specs.declared.view.View.{View}
-use Rattle.thread_queues.specs.Distinct.{has_number}
-use Rattle.thread_queues.specs.Held.{Held, IsSound, goal_of, thread_numbers, without_goal}
-use Rattle.thread_queues.specs.Serving.{threads_as}
-use Rattle.thread_queues.specs.Weights.{weigh}
-use Rattle.thread_queues.proofs.Weighing.{keeps_all}
+use Rattle.hub_threads.specs.Distinct.{has_number}
+use Rattle.hub_threads.specs.Held.{Held, IsSound, goal_of, thread_numbers, without_goal}
+use Rattle.hub_threads.specs.Serving.{threads_as}
+use Rattle.hub_threads.specs.Weights.{weigh}
+use Rattle.hub_threads.proofs.Weighing.{keeps_all}
 use Rattle.counted_terms.specs.CountedTerms.{said}
 use Rattle.counted_terms.specs.Keeping.{kept}
 use Rattle.counted_terms.proofs.StateAfter.{newest_after}

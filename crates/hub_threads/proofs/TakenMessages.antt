@@ -22,13 +22,13 @@ use Rattle.atom_api.specs.Names.{Names}
 use Rattle.atom_words.specs.declared.view.View.{View}
 use Rattle.atom_table.specs.Naming.{names}
 use Rattle.term_store.specs.NumberedNames.{names_of, unify_by_number}
-use Rattle.thread_queues.specs.Distinct.{has_number}
-use Rattle.thread_queues.specs.Held.{Held, IsSound, Takes, contents, named_message, thread_numbers}
-use Rattle.thread_queues.specs.Serving.{found, message_as, threads_as}
-use Rattle.thread_queues.specs.Weights.{IsBelow, weigh}
-use Rattle.thread_queues.proofs.Below.{stays_below}
-use Rattle.thread_queues.proofs.Served.{all_changes, served}
-use Rattle.thread_queues.proofs.Weighing.{keeps_all}
+use Rattle.hub_threads.specs.Distinct.{has_number}
+use Rattle.hub_threads.specs.Held.{Held, IsSound, Takes, contents, named_message, thread_numbers}
+use Rattle.hub_threads.specs.Serving.{found, message_as, threads_as}
+use Rattle.hub_threads.specs.Weights.{IsBelow, weigh}
+use Rattle.hub_threads.proofs.Below.{stays_below}
+use Rattle.hub_threads.proofs.Served.{all_changes, served}
+use Rattle.hub_threads.proofs.Weighing.{keeps_all}
 use Rattle.world_api.specs.Answers.{on_by, named_by}
 use Rattle.world_api.specs.Texts.{text_of}
 use Rattle.world_api.specs.declared.answer.On.TheVariants.{Queue as WaitsQueue, Thread as WaitsThread}

@@ -1,3 +1,9 @@
+pub mod Distinct
 pub mod Finding
+pub mod Held
+pub mod Located
+pub mod Refusals
 pub mod Rows
+pub mod Serving
 pub mod Threads
+pub mod Weights

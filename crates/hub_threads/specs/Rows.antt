@@ -10,7 +10,7 @@ use Rattle.atom_api.specs.declared.interned.Interned.{Interned}
 use Rattle.atom_api.specs.declared.interned.Interned.TheVariants.{Is, Full, Again, TooLong}
 use Rattle.atom_api.specs.declared.interned.Interned.TheVariants as interned
 use Rattle.atom_words.specs.declared.view.View.{View}
-use Rattle.thread_queues.specs.Held.{Held}
+use Rattle.hub_threads.specs.Held.{Held}
 use Rattle.world_api.specs.declared.reply.Name.TheVariants.{Alias}
 use Rattle.world_api.specs.declared.reply.Reply.{Reply}
 use Rattle.world_api.specs.declared.reply.Reply.TheVariants.{Message, Named, Refused}

@@ -5,10 +5,10 @@ use Rattle.pl_term.specs.Variables.{is_in}
 use Rattle.pl_model.specs.History.{History, Kind, start, has_begun}
 use Rattle.pl_model.specs.SharedState.{state_at}
 use Rattle.atom_words.specs.declared.view.View.{View}
-use Rattle.thread_queues.specs.Distinct.{has_number}
-use Rattle.thread_queues.specs.Held.{Held, goal_of, thread_numbers}
-use Rattle.thread_queues.specs.Serving.{threads_as}
-use Rattle.thread_queues.specs.Weights.{weigh}
+use Rattle.hub_threads.specs.Distinct.{has_number}
+use Rattle.hub_threads.specs.Held.{Held, goal_of, thread_numbers}
+use Rattle.hub_threads.specs.Serving.{threads_as}
+use Rattle.hub_threads.specs.Weights.{weigh}
 use Rattle.counted_terms.specs.CountedTerms.{naming, said}
 use Rattle.counted_terms.specs.Keeping.{kept}
 

@@ -10,12 +10,12 @@ ghost use Rattle.world_api.specs.Texts.{text_of};
 ghost use Rattle.counted_terms.specs.CountedTerms.{said};
 ghost use Rattle.hub_threads.specs.Finding.{Finds};
 
+use crate::held::{Name, Queues};
 use atom_table::{NamesTable, TableAtoms};
 use counted_terms::{CountedTerm, name_in, text_of_atom};
 use pl_term::Memory;
 use std::alloc::Global;
 use term_store::Stored;
-use thread_queues::{Name, Queues};
 use world_api::Name as NameByAtom;
 
 /// A name in texts. The only error is out of memory.

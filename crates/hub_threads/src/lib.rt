@@ -7,12 +7,17 @@
 #![tactic(auto)]
 
 mod finding;
+mod held;
 mod messages;
 mod names;
 mod queues;
 mod refusing;
 mod taking;
 
+pub use held::{
+    Name, QueueFault, Queues, Status, changes_are_kept, messages_unify_as_terms,
+    numbers_stay_below, requests_are_served, terms_are_kept,
+};
 pub use messages::send_message;
 pub use names::own_name;
 pub use queues::create_queue;

@@ -9,7 +9,7 @@ ghost use Rattle.pl_model.specs.Threads.{queue_named};
 ghost use Rattle.atom_words.specs.Seats.{seen};
 ghost use Rattle.atom_table.specs.Naming.{names, requests as asked};
 ghost use Rattle.term_store.specs.NumberedNames.{names_of};
-ghost use Rattle.thread_queues.specs.Weights.{IsBelow};
+ghost use Rattle.hub_threads.specs.Weights.{IsBelow};
 ghost use Rattle.counted_terms.specs.CountedTerms.{said};
 ghost use Rattle.counted_terms.specs.Keeping.{HoldsOn, KeeperAt, keeper_view};
 ghost use Rattle.counted_terms.specs.Rows.{row_names, row_refusals};
@@ -18,12 +18,12 @@ ghost use Rattle.hub_threads.specs.Rows.{Decides, updates_in};
 ghost use Rattle.hub_threads.specs.Threads.{IsThreads, thread_counts};
 
 use crate::finding::{FoundQueue, find_queue};
+use crate::held::{Name, Queues};
 use crate::refusing::{no_queue, worn_out};
 use atom_table::{Keeper, NamesTable, TableAtoms};
 use counted_terms::{CountedTerm, MOST_UPDATES, Row, forget_by, store_from};
 use std::alloc::Global;
 use term_store::Stored;
-use thread_queues::{Name, Queues};
 use world_api::Reply;
 
 /// thread_send_message/2: a message is sent to the queue that the term names, at the generation, which is the length of

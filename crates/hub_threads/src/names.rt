@@ -14,10 +14,10 @@ ghost use Rattle.counted_terms.specs.Rows.{row_names, row_refusals};
 ghost use Rattle.hub_threads.specs.Rows.{Decides, row_named, updates_in};
 ghost use Rattle.hub_threads.specs.Threads.{IsThreads};
 
+use crate::held::Queues;
 use atom_api::{Atoms, Interned};
 use atom_table::{NamesTable, TableAtoms};
 use counted_terms::{CountedTerm, Row};
-use thread_queues::Queues;
 use world_api::{Name, Reply};
 
 /// thread_self/1: the alias of the engine, or its number where it has none. The alias is interned, and held from then on; an

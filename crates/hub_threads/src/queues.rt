@@ -9,19 +9,19 @@ ghost use Rattle.atom_api.specs.Names.{FixedStand, Names};
 ghost use Rattle.atom_words.specs.Seats.{seen};
 ghost use Rattle.atom_words.specs.declared.view.View.{View};
 ghost use Rattle.atom_table.specs.Naming.{names, requests as asked};
-ghost use Rattle.thread_queues.specs.Weights.{IsBelow, weigh};
+ghost use Rattle.hub_threads.specs.Weights.{IsBelow, weigh};
 ghost use Rattle.world_api.specs.Texts.{text_of};
 ghost use Rattle.counted_terms.specs.Rows.{row_names, row_refusals};
 ghost use Rattle.hub_threads.specs.Rows.{Decides, updates_in};
 ghost use Rattle.hub_threads.specs.Threads.{IsThreads};
 
+use crate::held::Queues;
 use crate::refusing::{alias_taken, worn_out};
 use atom_api::{Atom, fixed};
 use atom_table::{NamesTable, TableAtoms};
 use counted_terms::{CountedTerm, MOST_UPDATES, Row, text_of_atom};
 use pl_term::{Memory, Text};
 use std::alloc::Global;
-use thread_queues::Queues;
 use world_api::{Name, Reply};
 
 /// message_queue_create/1: a queue is made, with an alias or without one, and gets the number that comes next.

@@ -9,8 +9,8 @@ ghost use Rattle.pl_model.specs.Threads.{queue_named};
 ghost use Rattle.atom_words.specs.Seats.{seen};
 ghost use Rattle.atom_table.specs.Naming.{names, requests as asked};
 ghost use Rattle.term_store.specs.NumberedNames.{names_of};
-ghost use Rattle.thread_queues.specs.Held.{IsSound};
-ghost use Rattle.thread_queues.specs.Weights.{IsBelow};
+ghost use Rattle.hub_threads.specs.Held.{IsSound};
+ghost use Rattle.hub_threads.specs.Weights.{IsBelow};
 ghost use Rattle.counted_terms.specs.CountedTerms.{said};
 ghost use Rattle.counted_terms.specs.Keeping.{HoldsOn, KeeperAt, keeper_view};
 ghost use Rattle.counted_terms.specs.Rows.{row_names, row_refusals};
@@ -19,13 +19,13 @@ ghost use Rattle.hub_threads.specs.Rows.{Decides, row_of, row_with, updates_in};
 ghost use Rattle.hub_threads.specs.Threads.{IsThreads, thread_counts};
 
 use crate::finding::{FoundQueue, find_queue};
+use crate::held::{Name, Queues};
 use crate::refusing::{no_queue, wait_on_queue, worn_out};
 use atom_table::{Keeper, NamesTable, TableAtoms};
 use counted_terms::{CountedTerm, MOST_UPDATES, Row, agree, hand_over, lend_to};
 use pl_term::Memory;
 use std::alloc::Global;
 use term_store::Stored;
-use thread_queues::{Name, Queues};
 use world_api::Reply;
 
 /// thread_get_message/2: the first message of the queue that the term names which unifies with the pattern is taken out and

@@ -4,8 +4,8 @@ use Rattle.pl_term.specs.Tree.{Tree}
 use Rattle.pl_term.specs.Variables.{rename}
 use Rattle.atom_words.specs.Seats.{seen}
 use Rattle.atom_table.specs.Naming.{names}
-use Rattle.thread_queues.specs.Held.{Held}
-use Rattle.thread_queues.specs.declared.fault.QueueFault.{QueueFault}
+use Rattle.hub_threads.specs.Held.{Held}
+use Rattle.hub_threads.specs.declared.held.fault.QueueFault.{QueueFault}
 use Rattle.counted_terms.specs.CountedTerms.{naming, said}
 use Rattle.counted_terms.specs.Sharing.{Restored}
 use Rattle.counted_terms.proofs.Sharing.{restored_wider}

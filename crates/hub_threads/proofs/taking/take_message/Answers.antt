@@ -11,8 +11,8 @@ use Rattle.atom_words.specs.Seats.{seen}
 use Rattle.atom_words.specs.declared.view.Refusal.{Refusal}
 use Rattle.atom_table.specs.Naming.{names}
 use Rattle.term_store.specs.NumberedNames.{names_of, unify_by_number}
-use Rattle.thread_queues.specs.Held.{Held, Takes}
-use Rattle.thread_queues.specs.Weights.{IsBelow}
+use Rattle.hub_threads.specs.Held.{Held, Takes}
+use Rattle.hub_threads.specs.Weights.{IsBelow}
 use Rattle.counted_terms.specs.CountedTerms.{IsCounted, naming, said}
 use Rattle.counted_terms.specs.Keeping.{HoldsOn, keeper_view, kept, tally}
 use Rattle.counted_terms.specs.Rows.{row_names, row_refusals}

@@ -1,5 +1,0 @@
-use Rattle.thread_queues.proofs.Searched.{Passed}
-use Rattle.thread_queues.proofs.queue.first_unifying.Given as goal
-
-abbrev pub invariant-loop-i : goal.invariant-loop-i
-invariant-loop-i g l = Passed (λ m. g.M.Kept.unified l.pattern m.content) l.messages l.i

@@ -1,6 +1,0 @@
-use Rattle.std.proofs.Common.{◌∙◌}
-use Rattle.thread_queues.proofs.Numbers.{any_is_in}
-use Rattle.thread_queues.proofs.searches.has.Goals as goal
-
-pub returns : goal.returns
-returns c = c.contains.ensures.value ∙ any_is_in c.args.n c.args.numbers.now

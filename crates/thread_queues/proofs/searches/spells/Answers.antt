@@ -1,7 +1,0 @@
-use Rattle.std.specs.Prelude.{bytes_eq}
-use Rattle.std.proofs.lemmas.Bool.Decides.{same_from_decides}
-use Rattle.std.proofs.lemmas.Slice.Eq.{bytes_eq-Decides}
-use Rattle.thread_queues.proofs.searches.spells.Goals as goal
-
-pub returns : goal.returns
-returns c = same_from_decides c.same.result (bytes_eq c.args.alias.now c.args.name.now) c.same.ensures (bytes_eq-Decides c.args.alias.now c.args.name.now)

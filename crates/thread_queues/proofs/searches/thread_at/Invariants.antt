@@ -1,6 +1,0 @@
-use Rattle.pl_model.specs.Threads.{is_thread}
-use Rattle.thread_queues.proofs.Searched.{Passed}
-use Rattle.thread_queues.proofs.searches.thread_at.Given as goal
-
-abbrev pub invariant-loop-i : goal.invariant-loop-i
-invariant-loop-i g l = Passed (is_thread l.n) l.threads l.i
