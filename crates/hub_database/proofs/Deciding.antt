@@ -1,5 +1,5 @@
 -- What an answer of the database comes to.
-use Rattle.std.proofs.Common.{◌≡◌, ℕ, suc, List, ◌++◌, [], ◌∷◌, length, refl, sym, ap, subst, ◌∙◌, ◌+◌, ◌≤◌, arith, Option, Some, None}
+use Rattle.std.proofs.Common.{◌≡◌, ℕ, suc, List, ◌++◌, length, refl, sym, ap, subst, ◌∙◌, ◌+◌, arith, Option, Some, None}
 use Rattle.std.specs.Prelude.{Bool, true, false, nat_le, if◌then◌else◌, IsSome}
 use Rattle.std.specs.List.{All}
 use Rattle.std.proofs.lemmas.List.Elements.{All-nil}
@@ -7,14 +7,12 @@ use Rattle.pl_term.specs.Tree.{Chars, Tree}
 use Rattle.pl_model.specs.History.{Clause, Entry, History, Kind}
 use Rattle.pl_model.specs.Database as model
 use Rattle.pl_model.specs.Requests.{Request, listed, refused}
-use Rattle.pl_model.specs.Requests as requests
 use Rattle.pl_model.specs.Service.{answers, entry_by, served_now}
 use Rattle.pl_model.specs.SharedState.{SharedState, change, state_at}
 use Rattle.atom_api.specs.Names.{FixedStand, Names}
 use Rattle.atom_words.specs.declared.view.View.{View}
 use Rattle.atom_table.specs.Naming.{names, requests as requests_of}
-use Rattle.term_store.specs.NumberedNames.{names_of, term_by}
-use Rattle.world_api.specs.declared.reply.Reply.{Reply}
+use Rattle.term_store.specs.NumberedNames.{term_by}
 use Rattle.world_api.specs.declared.reply.Reply.TheVariants.{Standing, Clauses, Procedures, Flags, Named, Message, NoMessage, Status, Done, Gone, Refused}
 use Rattle.world_api.specs.Replies.{IsFront}
 use Rattle.world_api.specs.Texts.{text_of}
@@ -25,12 +23,12 @@ use Rattle.counted_terms.specs.Keeping.{kept, tally}
 use Rattle.counted_terms.specs.CountedTerms.{said}
 use Rattle.counted_terms.specs.declared.row.Row.{Row}
 use Rattle.counted_terms.specs.declared.row.Row.TheVariants.{Reads, Makes, Waits, NeedsAtoms, Retry, Worn, Memory}
-use Rattle.counted_terms.specs.Rows.{Answers, row_names}
+use Rattle.counted_terms.specs.Rows.{row_names}
 use Rattle.world_api.specs.Visits.{clause_in}
 use Rattle.hub_database.specs.Clauses.{clause_by}
-use Rattle.hub_database.specs.Database.{AllOpen, IsDatabase, IsUpTo, clause_counts, databases}
+use Rattle.hub_database.specs.Database.{AllOpen, IsDatabase, IsUpTo, databases}
 use Rattle.hub_database.specs.Rows.{Decides, HandsOut, IsHeldBy, IsQuiet, IsSteady, Refuses, Tells, generation_after}
-use Rattle.hub_database.proofs.Histories.{databases_same, databases_then, newest_after}
+use Rattle.hub_database.proofs.Histories.{databases_then, newest_after}
 
 -- THE DATABASE BY ANOTHER KEEPER that keeps the same
 pub steady_database : (k l : View) (db : Held Tree) (goals : ℕ) (h : History) → kept l ≡ kept k → IsDatabase k db goals h → IsDatabase l db goals h

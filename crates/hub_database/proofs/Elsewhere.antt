@@ -1,5 +1,5 @@
 -- Updates that are none of the database's leave it as it is.
-use Rattle.std.proofs.Common.{◌≡◌, ℕ, ◌++◌, [], ◌∷◌, length, Some, refl, sym, ap, subst, ◌∙◌}
+use Rattle.std.proofs.Common.{◌≡◌, ℕ, ◌++◌, length, Some, refl, sym, ap, subst, ◌∙◌}
 use Rattle.pl_model.specs.History.{Clause, Entry, History, Kind, add_first, add_last, erase, abolish, set_dynamic, set_flag, set_op, make_queue, drop_queue, send, start, finish, join}
 use Rattle.pl_model.specs.History as entries
 use Rattle.pl_model.specs.Database as model
@@ -10,7 +10,7 @@ use Rattle.clause_db.specs.Parts.{Held}
 use Rattle.pl_term.specs.Tree.{Tree}
 use Rattle.clause_db.specs.Reading.{SaysFor}
 use Rattle.hub_database.specs.Clauses.{clause_by}
-use Rattle.hub_database.specs.Database.{AllOpen, IsDatabase, IsElsewhere, databases}
+use Rattle.hub_database.specs.Database.{AllOpen, IsDatabase, IsElsewhere}
 use Rattle.hub_database.proofs.Histories.{databases_same, newest_after}
 
 module _ (n e : ℕ) (s : SharedState) where

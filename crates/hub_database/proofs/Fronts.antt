@@ -8,8 +8,7 @@ use Rattle.std.proofs.lemmas.Option.{same_Some}
 use Rattle.pl_term.specs.Tree.{Chars, Tree, var, int, atom, comp, none, more}
 use Rattle.pl_model.specs.History.{Clause, head_part}
 use Rattle.pl_model.specs.Database.{Stored}
-use Rattle.pl_model.specs.FirstArguments.{are_apart, head_of}
-use Rattle.pl_model.specs.Predicates.{is_excluded}
+use Rattle.pl_model.specs.FirstArguments.{head_of}
 use Rattle.gen_core.specs.declared.dated_clause.DatedClause.{DatedClause}
 use Rattle.gen_core.specs.Visible.{has_any}
 use Rattle.gen_core.specs.declared.hit.Hit.{Hit}

@@ -1,11 +1,11 @@
 -- The shared state at each generation, after one update more.
-use Rattle.std.proofs.Common.{◌≡◌, ◌<◌, ◌≤◌, ℕ, zero, suc, ◌+◌, List, [], ◌∷◌, ◌++◌, Bool, true, false, length, refl, sym, ap, ◌∙◌, subst, arith, leb-true}
+use Rattle.std.proofs.Common.{◌≡◌, ◌<◌, ◌≤◌, ℕ, zero, suc, ◌+◌, List, [], ◌∷◌, ◌++◌, Bool, true, false, length, refl, sym, ap, ◌∙◌, arith, leb-true}
 use Rattle.std.specs.Prelude.{nat_le, if◌then◌else◌, take}
 use Rattle.std.proofs.Math.Path.{fun_ext}
 use Rattle.std.proofs.Math.Seq.{take-length}
 use Rattle.std.proofs.lemmas.Bool.{leb-false}
 use Rattle.std.proofs.lemmas.List.{take-append-le, length-append}
-use Rattle.pl_model.specs.History.{Clause, Entry, History, Kind}
+use Rattle.pl_model.specs.History.{Clause, Entry, History}
 use Rattle.pl_model.specs.Database.{Database}
 use Rattle.pl_model.specs.SharedState.{SharedState, change, changes, state_at, opening_state}
 use Rattle.clause_db.specs.Stands.{then_at}

@@ -7,3 +7,8 @@ pub mod Open
 pub mod ErasedClauses
 pub mod Elsewhere
 pub mod StoredClauses
+pub mod Heads
+pub mod Errors
+pub mod CalledClauses
+pub mod AddedRows
+pub mod ChangedRows

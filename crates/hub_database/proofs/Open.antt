@@ -1,5 +1,5 @@
 -- Predicates of the system have no clauses.
-use Rattle.std.proofs.Common.{◌≡◌, ℕ, List, [], ◌∷◌, ◌++◌, map, Option, Some, None, Bool, true, false, cond, refl, sym, ap, ap₂, ◌∙◌, rules}
+use Rattle.std.proofs.Common.{◌≡◌, ℕ, List, [], ◌∷◌, ◌++◌, map, Some, None, Bool, true, false, cond, refl, sym, ap, ap₂, ◌∙◌, rules}
 use Rattle.std.specs.Prelude.{◌&&◌, ◌==◌, not, filter, bytes_eq, codes}
 use Rattle.std.specs.Bool.{Decides}
 use Rattle.std.proofs.lemmas.Bool.{false≢true}
@@ -10,7 +10,7 @@ use Rattle.pl_model.specs.History.{Clause, Proc}
 use Rattle.pl_model.specs.Predicates.{is_excluded, proc_of, same_proc}
 use Rattle.pl_model.specs.FirstArguments.{head_of}
 use Rattle.pl_model.specs.SystemPredicates.{system_predicates}
-use Rattle.pl_model.specs.Database.{Stored, Database, choices, erased_where, has_room, is_erased, is_of, is_static, is_system, is_visible, seen, used_cells}
+use Rattle.pl_model.specs.Database.{Stored, Database, choices, erased_where, has_room, is_erased, is_of, is_static, is_system, is_visible, used_cells}
 use Rattle.pl_model.specs.Service.{clause_cells}
 use Rattle.clause_db.specs.Faults.{addition_fault}
 use Rattle.clause_db.specs.declared.fault.DbFault.TheVariants.{Static, CellsFull}

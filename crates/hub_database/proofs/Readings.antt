@@ -1,21 +1,21 @@
 -- What is stored says the same by other texts, as long as each clause does.
-use Rattle.std.proofs.Common.{◌≡◌, ◌<◌, ◌≤◌, ℕ, ◌+◌, List, [], ◌∷◌, map, refl, sym, ap, ap₂, subst, ◌∙◌, arith}
+use Rattle.std.proofs.Common.{◌≡◌, ◌≤◌, ℕ, ◌+◌, List, [], ◌∷◌, map, refl, sym, ap, ap₂, subst, arith}
 use Rattle.std.specs.Prelude.{All}
 use Rattle.std.proofs.lemmas.List.Elements.{All-nil, All-cons, All-head, All-tail}
 use Rattle.pl_term.specs.Tree.{Tree}
-use Rattle.pl_model.specs.History.{Clause, Entry, History}
+use Rattle.pl_model.specs.History.{Clause}
 use Rattle.pl_model.specs.Database as model
 use Rattle.gen_core.specs.declared.dated_clause.DatedClause.{DatedClause}
 use Rattle.atom_words.specs.declared.view.View.{View}
 use Rattle.clause_db.specs.Parts.{Held, Piece}
 use Rattle.clause_db.specs.Reading.{EachHeld, SaysFor, read_dated, read_held, read_piece}
 use Rattle.clause_db.specs.Stands.{StandsFor}
-use Rattle.clause_db.specs.Weights.{weight, weight_in, weight_of}
+use Rattle.clause_db.specs.Weights.{weight_in, weight_of}
 use Rattle.pl_model.specs.Service.{clause_cells}
 use Rattle.world_api.specs.Visits.{clause_in}
 use Rattle.counted_terms.specs.CountedTerms.{IsCounted, naming, said}
-use Rattle.counted_terms.specs.Keeping.{kept, tally}
-use Rattle.counted_terms.specs.Sharing.{Counts, IsWithin, Sums}
+use Rattle.counted_terms.specs.Keeping.{kept}
+use Rattle.counted_terms.specs.Sharing.{Counts, IsWithin}
 use Rattle.counted_terms.proofs.Sharing.{part_counted}
 use Rattle.hub_database.specs.Clauses.{AllCounted, clause_by}
 use Rattle.hub_database.specs.Database.{clause_counts}

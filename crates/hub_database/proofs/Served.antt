@@ -1,17 +1,21 @@
 -- What requests of the database are answered by the definitions.
-use Rattle.std.proofs.Common.{◌≡◌, ◌<◌, ◌≤◌, ◌^◌, ℕ, List, [], ◌∷◌, length, Option, Some, None, Bool, true, false, cond, refl, sym, ap, ◌∙◌, arith, leb-true}
+use Rattle.std.proofs.Common.{◌≡◌, ◌<◌, ◌≤◌, ◌^◌, ℕ, zero, suc, List, [], ◌∷◌, map, take, Option, Some, None, Bool, true, false, cond, ◌||◌, refl, sym, ap, ◌∙◌, arith, leb-true}
+use Rattle.std.specs.List.{list_any, slice_get}
+use Rattle.std.proofs.lemmas.Option.{same_Some}
 use Rattle.std.specs.Prelude.{if◌then◌else◌, nat_le, codes}
-use Rattle.std.proofs.lemmas.Bool.{leb-false}
-use Rattle.pl_model.specs.History.{Clause, Kind, Proc, abolish, erase, set_dynamic}
-use Rattle.pl_model.specs.Database.{has_room, is_known, is_static, is_system, is_there, used_cells}
+use Rattle.std.proofs.lemmas.Bool.{false≢true, leb-false}
+use Rattle.pl_model.specs.History.{Clause, Kind, Proc, abolish, erase, set_dynamic, set_flag, set_op}
+use Rattle.pl_model.specs.Flags.{listed_flags}
+use Rattle.pl_model.specs.OperatorTable.{specifier_of}
+use Rattle.pl_model.specs.declared.operators.Kind.{Kind as OperatorKind}
+use Rattle.pl_model.specs.Database.{current_procedures, has_room, is_known, is_static, is_system, is_there, used_cells}
 use Rattle.pl_model.specs.Errors.{static_procedure}
 use Rattle.pl_model.specs.Predicates.{proc_of}
 use Rattle.pl_model.specs.ErrorTerms.{private_procedure, resource_error}
-use Rattle.pl_term.specs.Tree.{Tree}
-use Rattle.pl_model.specs.Requests.{Reply, abolish_procedure, call_clauses, done, erase_clause, gone, inspected_clauses, listed, look, read_operators, refused, retracted_clauses, standing}
-use Rattle.pl_model.specs.Service.{Served, answers, clause_cells, clauses_for, most_updates, reads, refuses, serve, unknown_called, updates}
+use Rattle.pl_term.specs.Tree.{Chars, Tree}
+use Rattle.pl_model.specs.Requests.{Reply, abolish_procedure, all_flags, all_procedures, call_clauses, cleared_clauses, collect_atoms, collect_clauses, done, flags, make_dynamic, procedures, put_flag, put_operators, erase_clause, gone, inspected_clauses, listed, look, read_operators, refused, retracted_clauses, standing}
+use Rattle.pl_model.specs.Service.{Served, answers, clause_cells, cleared, clauses_for, modified, most_updates, operators_error, operators_put, reads, refuses, serve, unknown_called, updates}
 use Rattle.pl_model.specs.SharedState.{SharedState}
-use Rattle.pl_model.specs.declared.shows.Origin.TheVariants.{Consult, Assert}
 use Rattle.clause_db.specs.Faults.{addition_fault, is_closed}
 use Rattle.clause_db.specs.declared.fault.DbFault.{DbFault}
 use Rattle.clause_db.specs.declared.fault.DbFault.TheVariants.{Static, CellsFull}
@@ -33,6 +37,10 @@ worn g r k many = go (nat_le most_updates g) refl
     go : (b : Bool) → nat_le most_updates g ≡ b → cond b (refuses (resource_error (codes "generations"))) (answers r (Some k)) ≡ answers (refused (resource_error (codes "generations"))) None
     go true e = refl
     go false e = let under = leb-false most_updates g e in absurd (omega (arith, many, under))
+
+neither : (b c : Bool) → (b || c) ≡ false → (b ≡ false) × (c ≡ false)
+neither true c e = absurd (false≢true (sym e))
+neither false c e = (refl, e)
 
 module _ (e : ℕ) (s : SharedState) (g : ℕ) where
   -- ERASURES
@@ -85,6 +93,97 @@ module _ (e : ℕ) (s : SharedState) (g : ℕ) where
   pub retracted : (goal : Tree) → is_static s.database (proc_of goal) ≡ false → serve e (retracted_clauses goal) s g ≡ answers (listed (clauses_for s g goal)) None
   unfolding serve
   retracted goal is = ap (λ b. cond b (refuses (static_procedure (proc_of goal))) (reads (listed (clauses_for s g goal)))) is
+
+  pub clear_refused : (goal : Tree) → is_static s.database (proc_of goal) ≡ true → serve e (cleared_clauses goal) s g ≡ answers (refused (static_procedure (proc_of goal))) None
+  unfolding serve
+  clear_refused goal is = ap (λ b. cond b (refuses (static_procedure (proc_of goal))) (cleared g (is_known s.database (proc_of goal)) (proc_of goal) (clauses_for s g goal))) is
+
+  clear_open : (goal : Tree) (known : Bool) → is_static s.database (proc_of goal) ≡ false → is_known s.database (proc_of goal) ≡ known → serve e (cleared_clauses goal) s g ≡ cleared g known (proc_of goal) (clauses_for s g goal)
+  unfolding serve
+  clear_open goal known open_ is =
+      ap (λ b. cond b (refuses (static_procedure (proc_of goal))) (cleared g (is_known s.database (proc_of goal)) (proc_of goal) (clauses_for s g goal))) open_
+      ∙ ap (λ b. cleared g b (proc_of goal) (clauses_for s g goal)) is
+
+  pub clear_known : (goal : Tree) → is_static s.database (proc_of goal) ≡ false → is_known s.database (proc_of goal) ≡ true → serve e (cleared_clauses goal) s g ≡ answers (listed (clauses_for s g goal)) None
+  clear_known goal open_ is = clear_open goal true open_ is
+
+  pub clear_opened : (goal : Tree) → is_static s.database (proc_of goal) ≡ false → is_known s.database (proc_of goal) ≡ false → g < 2 ^ 47 → serve e (cleared_clauses goal) s g ≡ answers (listed []) (Some (set_dynamic (proc_of goal ∷ [])))
+  clear_opened goal open_ is few = clear_open goal false open_ is ∙ made g (listed []) (set_dynamic (proc_of goal ∷ [])) few
+
+  pub clear_worn : (goal : Tree) → is_static s.database (proc_of goal) ≡ false → is_known s.database (proc_of goal) ≡ false → 2 ^ 47 ≤ g → serve e (cleared_clauses goal) s g ≡ answers (refused (resource_error (codes "generations"))) None
+  clear_worn goal open_ is many = clear_open goal false open_ is ∙ worn g (listed []) (set_dynamic (proc_of goal ∷ [])) many
+
+  -- PROCEDURES THAT ARE MADE DYNAMIC: the first static one is refused
+  modified_open : (ps : List Proc) (k : Kind) → list_any (is_static s.database) ps ≡ false → modified s g ps k ≡ updates g done k
+  modified_open [] k none = refl
+  modified_open (p ∷ ps) k none =
+      let both = neither (is_static s.database p) (list_any (is_static s.database) ps) none in
+      ap (λ b. cond b (refuses (static_procedure p)) (modified s g ps k)) both.0 ∙ modified_open ps k both.1
+
+  modified_static : (ps : List Proc) (i : ℕ) (k : Kind) (p : Proc) → slice_get ps i ≡ Some p → list_any (is_static s.database) (take i ps) ≡ false → is_static s.database p ≡ true → modified s g ps k ≡ refuses (static_procedure p)
+  modified_static [] i k p at none is = absurd (cc)
+  modified_static (q ∷ ps) zero k p at none is =
+      let same : q ≡ p = same_Some q p at in
+      ap (λ b. cond b (refuses (static_procedure q)) (modified s g ps k)) (ap (is_static s.database) same ∙ is) ∙ ap (λ r. refuses (static_procedure r)) same
+  modified_static (q ∷ ps) (suc i) k p at none is =
+      let both = neither (is_static s.database q) (list_any (is_static s.database) (take i ps)) none in
+      ap (λ b. cond b (refuses (static_procedure q)) (modified s g ps k)) both.0 ∙ modified_static ps i k p at both.1 is
+
+  pub dynamic_made : (ps : List Proc) → list_any (is_static s.database) ps ≡ false → g < 2 ^ 47 → serve e (make_dynamic ps) s g ≡ answers done (Some (set_dynamic ps))
+  unfolding serve
+  dynamic_made ps none few = modified_open ps (set_dynamic ps) none ∙ made g done (set_dynamic ps) few
+
+  pub dynamic_worn : (ps : List Proc) → list_any (is_static s.database) ps ≡ false → 2 ^ 47 ≤ g → serve e (make_dynamic ps) s g ≡ answers (refused (resource_error (codes "generations"))) None
+  unfolding serve
+  dynamic_worn ps none many = modified_open ps (set_dynamic ps) none ∙ worn g done (set_dynamic ps) many
+
+  pub dynamic_refused : (ps : List Proc) (i : ℕ) (p : Proc) → slice_get ps i ≡ Some p → list_any (is_static s.database) (take i ps) ≡ false → is_static s.database p ≡ true
+      → serve e (make_dynamic ps) s g ≡ answers (refused (static_procedure p)) None
+  unfolding serve
+  dynamic_refused ps i p at none is = modified_static ps i (set_dynamic ps) p at none is
+
+  -- FLAGS
+  pub flag_put : (f v : Chars) → g < 2 ^ 47 → serve e (put_flag f v) s g ≡ answers done (Some (set_flag f v))
+  unfolding serve
+  flag_put f v few = made g done (set_flag f v) few
+
+  pub flag_worn : (f v : Chars) → 2 ^ 47 ≤ g → serve e (put_flag f v) s g ≡ answers (refused (resource_error (codes "generations"))) None
+  unfolding serve
+  flag_worn f v many = worn g done (set_flag f v) many
+
+  pub flags_listed : serve e all_flags s g ≡ answers (flags (listed_flags s.flags)) None
+  unfolding serve
+  flags_listed = refl
+
+  -- OPERATORS
+  abbrev operators_of : ℕ → OperatorKind → List Chars → Kind
+  operators_of p k fs = set_op (map (λ (f : Chars). record { name = f; priority = p; specifier = specifier_of k }) fs)
+
+  pub operators_set : (p : ℕ) (k : OperatorKind) (fs : List Chars) → operators_error s.operators p k fs ≡ None → g < 2 ^ 47 → serve e (put_operators p k fs) s g ≡ answers done (Some (operators_of p k fs))
+  unfolding serve
+  operators_set p k fs none few = ap (operators_put g p k fs) none ∙ made g done (operators_of p k fs) few
+
+  pub operators_worn : (p : ℕ) (k : OperatorKind) (fs : List Chars) → operators_error s.operators p k fs ≡ None → 2 ^ 47 ≤ g
+      → serve e (put_operators p k fs) s g ≡ answers (refused (resource_error (codes "generations"))) None
+  unfolding serve
+  operators_worn p k fs none many = ap (operators_put g p k fs) none ∙ worn g done (operators_of p k fs) many
+
+  pub operators_refused : (p : ℕ) (k : OperatorKind) (fs : List Chars) (t : Tree) → operators_error s.operators p k fs ≡ Some t → serve e (put_operators p k fs) s g ≡ answers (refused t) None
+  unfolding serve
+  operators_refused p k fs t is = ap (operators_put g p k fs) is
+
+  -- ALL PROCEDURES, and what asks for a cycle
+  pub all_listed : serve e all_procedures s g ≡ answers (procedures (current_procedures g s.database)) None
+  unfolding serve
+  all_listed = refl
+
+  pub atoms_asked : serve e collect_atoms s g ≡ answers done None
+  unfolding serve
+  atoms_asked = refl
+
+  pub clauses_asked : serve e collect_clauses s g ≡ answers done None
+  unfolding serve
+  clauses_asked = refl
 
   -- LOOKS
   pub looked : serve e look s g ≡ answers (standing s.operators s.flags.double_quotes) None

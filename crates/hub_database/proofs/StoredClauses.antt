@@ -1,13 +1,11 @@
 -- A clause is stored, or it is stored nowhere and forgotten again.
-use Rattle.std.proofs.Common.{◌≡◌, ◌<◌, ◌≤◌, ℕ, suc, ◌+◌, ◌++◌, [], ◌∷◌, length, Option, Some, None, refl, sym, ap, subst, ◌∙◌, inl, inr, arith}
+use Rattle.std.proofs.Common.{◌≡◌, ◌<◌, ◌≤◌, ℕ, suc, ◌+◌, ◌++◌, length, Option, Some, None, refl, sym, ap, subst, ◌∙◌, inl, inr, arith}
 use Rattle.std.specs.Prelude.{◌⊎◌}
 use Rattle.std.specs.Option.{MatchOption}
-use Rattle.std.specs.Result.{MatchResult}
 use Rattle.std.specs.declared.result.Result.{Result}
 use Rattle.std.specs.declared.result.Result.TheVariants.{Ok, Err}
 use Rattle.pl_term.specs.Tree.{Tree}
 use Rattle.pl_model.specs.History.{Clause, History, Proc}
-use Rattle.pl_model.specs.Database as model
 use Rattle.pl_model.specs.Service.{clause_cells, entry_by}
 use Rattle.pl_model.specs.SharedState.{SharedState, change}
 use Rattle.atom_api.specs.Names.{Names}
@@ -22,7 +20,7 @@ use Rattle.clause_db.specs.declared.fault.DbFault.TheVariants.{Memory as NoMemor
 use Rattle.world_api.specs.Visits.{clause_in}
 use Rattle.counted_terms.specs.CountedTerms.{IsCounted, naming, said}
 use Rattle.counted_terms.specs.Keeping.{kept, tally}
-use Rattle.counted_terms.specs.Sharing.{Counts, IsWithin, Restored, Sums}
+use Rattle.counted_terms.specs.Sharing.{Counts, IsWithin, Restored}
 use Rattle.counted_terms.proofs.Sharing.{part_counted, rest_counted, restored_as, restored_same, restored_then, store_restores}
 use Rattle.hub_database.specs.Adding.{adding_kind, origin_by, with_adding}
 use Rattle.hub_database.specs.Clauses.{clause_by}

@@ -2,3 +2,4 @@ pub mod Clauses
 pub mod Database
 pub mod Rows
 pub mod Adding
+pub mod Heads

@@ -1,5 +1,5 @@
 -- What the database answers to a visit, and what is stored then.
-use Rattle.std.specs.Prelude.{◌≡◌, ℕ, suc, ◌++◌, Option, Some, None, IsSome, codes}
+use Rattle.std.specs.Prelude.{◌≡◌, ◌<◌, ◌≤◌, ◌^◌, ℕ, suc, ◌++◌, Option, Some, None, IsSome, Bool, true, false, codes}
 use Rattle.std.specs.List.{All}
 use Rattle.pl_term.specs.Tree.{Chars, Tree}
 use Rattle.pl_model.specs.History.{History, Kind}
@@ -10,9 +10,9 @@ use Rattle.atom_api.specs.Names.{FixedStand, Names}
 use Rattle.atom_words.specs.declared.view.View.{View}
 use Rattle.atom_table.specs.Naming.{names, requests}
 use Rattle.term_store.specs.NumberedNames.{names_of}
-use Rattle.world_api.specs.declared.reply.Reply.{Reply}
 use Rattle.world_api.specs.declared.reply.Found.{Found}
-use Rattle.world_api.specs.declared.reply.Reply.TheVariants.{Clauses, Refused}
+use Rattle.world_api.specs.declared.reply.Reply.{Reply}
+use Rattle.world_api.specs.declared.reply.Reply.TheVariants.{Clauses, Gone, Refused}
 use Rattle.pl_model.specs.Requests.{Request}
 use Rattle.clause_db.specs.Parts.{Held}
 use Rattle.clause_db.specs.declared.fault.DbFault.{DbFault}
@@ -98,3 +98,20 @@ HandsOut P _ = ⊥
 abbrev pub Unknowns : UnknownCall → Procedure → Row → Type 0
 Unknowns Raises p r = Refuses (Some p.name) (λ m. unknown_procedure (proc_named (text_of m) p)) r
 Unknowns Fails p r = r ≡ Reads (Clauses None)
+
+-- what an erasure is answered where no update can be made: it is refused where the clause is still there
+abbrev pub ErasesNone : Bool → Row → Type 0
+ErasesNone true r = Refuses None (λ m. resource_error (codes "generations")) r
+ErasesNone false r = r ≡ Reads Gone
+
+-- what an update that nothing refuses is answered: with the reply, out of memory, or for want of generations
+abbrev pub Updates : ℕ → Reply Tree → Row → Type 0
+Updates g made (Makes r) = (r ≡ made) × (g < 2 ^ 47)
+Updates g made (Reads r) = (2 ^ 47 ≤ g) × Refuses None (λ m. resource_error (codes "generations")) (Reads r)
+Updates g made Memory = Unit {0}
+Updates g made _ = ⊥
+
+-- the history after the row, with the update where one is made
+abbrev pub history_after : ℕ → Row → Kind → History → History
+history_after e (Makes r) kind h = h ++ entry_by e (Some kind)
+history_after e _ kind h = h

@@ -9,15 +9,18 @@ ghost use Rattle.world_api.specs.Texts.{text_of};
 ghost use Rattle.counted_terms.specs.Keeping.{KeeperAt, keeper_view};
 ghost use Rattle.counted_terms.specs.Rows.{row_names};
 ghost use Rattle.hub_database.specs.Database.{IsDatabase, IsUpTo, clause_counts};
-ghost use Rattle.hub_database.specs.Rows.{Decides, IsQuiet, IsSteady, generation_after};
+ghost use Rattle.hub_database.specs.Rows.{Decides, ErasesNone, IsQuiet, IsSteady, generation_after};
 
+use crate::refusals::{refusal, worn_error};
 use atom_table::{Keeper, NamesTable, TableAtoms};
 use clause_db::Db;
 use counted_terms::{CountedTerm, MOST_UPDATES, Row, agree};
+use std::alloc::Global;
 use world_api::Reply;
 
-/// The clause that was added at this place is erased (ISO 8.9.3). From 2^47 updates on the answer is out of memory.
+/// The clause that was added at this place is erased (ISO 8.9.3).
 pub fn erase_clause<K: NamesTable>(
+    alloc: Global,
     db: &mut Db<CountedTerm>,
     atoms: &mut TableAtoms<K>,
     keeper: &mut Option<Keeper>,
@@ -30,18 +33,30 @@ pub fn erase_clause<K: NamesTable>(
     ensures steady { IsSteady (keeper_view keeper.old) (keeper_view keeper.new) }
     ensures weighs { (a : ℕ) → clause_counts db.new a ≡ clause_counts db.old a }
     ensures upto { IsUpTo (generation_after result generation) db.new }
+    ensures floor { db.new.floor ≡ db.old.floor }
     ensures quiet { IsQuiet (seen atoms.old.seat) (seen atoms.new.seat) }
     ensures named { All (λ a. IsSome (names (seen atoms.new.seat) a)) (row_names result) }
     ensures says { (goals e : ℕ) (h : entries.History) → length h ≡ generation → IsDatabase (keeper_view keeper.old) db.old goals h
         → Decides goals e (text_of (names (seen atoms.new.seat))) (requests.erase_clause clause) h (entries.erase clause) (keeper_view keeper.new) db.new result }
 {
-    if generation >= MOST_UPDATES {
-        return Row::Memory;
-    }
     agree(atoms, keeper);
+    if generation >= MOST_UPDATES {
+        return no_erasure(alloc, db.has_clause(clause));
+    }
     match db.erase(clause, generation) {
         Ok(true) => Row::Makes(Reply::Done),
         Ok(false) => Row::Reads(Reply::Gone),
         Err(_) => Row::Memory,
+    }
+}
+
+// What is answered where no update can be made: whether the clause is still there.
+fn no_erasure(alloc: Global, is_there: bool) -> Row
+    ensures { ErasesNone is_there result }
+{
+    if is_there {
+        refusal(worn_error(alloc))
+    } else {
+        Row::Reads(Reply::Gone)
     }
 }

@@ -5,14 +5,22 @@
 //! after all updates of the history, or refused with nothing changed.
 #![tactic(auto)]
 
+mod adding;
+mod calling;
 mod calls;
 mod changing;
 mod laws;
 mod looking;
+mod naming;
+mod procedures;
+mod refusals;
 mod storing;
 
+pub use adding::add_clause;
+pub use calling::{call_clauses, inspect_clauses, retract_clauses};
 pub use calls::{first_clause, next_clause};
 pub use changing::erase_clause;
 pub use laws::other_updates_leave_it;
-pub use looking::{first_of, look};
+pub use looking::{collection, first_of, look};
+pub use procedures::{abolish_procedure, clear_clauses, make_dynamic};
 pub use storing::{Adding, store_clause};

@@ -1,5 +1,5 @@
 //! The database is read: its operators and flags, and the first clause for a goal.
-ghost use Rattle.std.specs.Prelude.{◌≡◌, ◌≤◌, ℕ, IsSome};
+ghost use Rattle.std.specs.Prelude.{◌≡◌, ◌≤◌, [], ℕ, IsSome};
 ghost use Rattle.std.specs.List.{All};
 ghost use Rattle.pl_term.specs.Tree.{Chars, Tree};
 ghost use Rattle.pl_model.specs.Database as database;
@@ -23,7 +23,7 @@ ghost use Rattle.counted_terms.specs.Sharing.{Counts};
 ghost use Rattle.counted_terms.specs.Rows.{row_names};
 ghost use Rattle.hub_database.specs.Clauses.{clause_by};
 ghost use Rattle.hub_database.specs.Database.{IsDatabase, clause_counts};
-ghost use Rattle.hub_database.specs.Rows.{HandsOut, IsQuiet, IsSteady, Tells};
+ghost use Rattle.hub_database.specs.Rows.{HandsOut, IsQuiet, IsSteady, Tells, generation_after};
 
 use crate::calls::first_clause;
 use atom_table::{Keeper, NamesTable, TableAtoms};
@@ -36,6 +36,7 @@ use world_api::Reply;
 
 /// The operators and the flag `double_quotes`.
 pub fn look(db: &Db<CountedTerm>) -> Row
+    ensures named { row_names result ≡ [] }
     ensures look { (goals e : ℕ) (h : entries.History) (k : View) (text : ℕ → Chars) → IsDatabase k db.now goals h → Tells goals e text requests.look h result }
     ensures operators { (goals e : ℕ) (h : entries.History) (k : View) (text : ℕ → Chars) → IsDatabase k db.now goals h → Tells goals e text requests.read_operators h result }
 {
@@ -66,6 +67,7 @@ pub fn first_of<K: NamesTable>(
     ensures steady { IsSteady (keeper_view keeper.old) (keeper_view keeper.new) }
     ensures quiet { IsQuiet (seen atoms.old.seat) (seen atoms.new.seat) }
     ensures named { All (λ a. IsSome (names (seen atoms.new.seat) a)) (row_names result) }
+    ensures reads { (g : ℕ) → generation_after result g ≡ g }
     ensures says { (d : ℕ → database.Database entries.Clause) (t : Tree) → SaysFor (clause_by (keeper_view keeper.old)) db.now d → clause_key t ≡ first.now
         → HandsOut (λ f. IsFront term_by (text_of (names (seen atoms.new.seat))) f
         (choices (λ (c : entries.Clause). is_excluded (head_of (said (names (seen atoms.old.seat)) t)) c.head) generation (proc_of p.now) (d generation))) result }
@@ -77,4 +79,13 @@ pub fn first_of<K: NamesTable>(
         },
         None => Row::Reads(Reply::Clauses(None)),
     }
+}
+
+/// A cycle of collection is asked for, and not waited for (SWI-Prolog manual, section 'Multithreaded applications').
+pub fn collection() -> Row
+    ensures named { row_names result ≡ [] }
+    ensures atoms { (goals e : ℕ) (h : entries.History) (text : ℕ → Chars) → Tells goals e text requests.collect_atoms h result }
+    ensures clauses { (goals e : ℕ) (h : entries.History) (text : ℕ → Chars) → Tells goals e text requests.collect_clauses h result }
+{
+    Row::Reads(Reply::Done)
 }

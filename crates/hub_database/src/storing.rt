@@ -1,5 +1,5 @@
 //! Clauses are stored: their atoms are counted, and the database holds them.
-ghost use Rattle.std.specs.Prelude.{◌≡◌, ◌≤◌, ◌<◌, ◌+◌, ◌++◌, ◌^◌, ◌⊎◌, ℕ, suc, None, Some, IsSome, IfOk, OnOk, OnErr, Err, length};
+ghost use Rattle.std.specs.Prelude.{◌≡◌, ◌≤◌, ◌<◌, ◌+◌, ◌++◌, ◌^◌, ◌⊎◌, ℕ, suc, None, Some, IsSome, IfErr, OnOk, OnErr, Err, length};
 ghost use Rattle.std.specs.List.{All};
 ghost use Rattle.std.specs.Option.{MatchOption};
 ghost use Rattle.std.specs.Result.{MatchResult};
@@ -28,8 +28,6 @@ use atom_table::{Keeper, NamesTable, TableAtoms};
 use clause_db::{Db, DbFault};
 use counted_terms::{CountedTerm, agree, forget_by, store_from};
 use pl_model::shows::{Origin, Proc};
-use pl_term::Memory;
-use std::alloc::Global;
 
 /// How a clause is added.
 #[derive(Clone, Copy, Debug, Drop)]
@@ -40,6 +38,17 @@ pub enum Adding {
     First,
     /// By assertz/1 (ISO 8.9.2).
     Last,
+}
+
+/// What adds the clause.
+pub(crate) fn origin_of(by: Adding) -> Origin
+    ensures { result ≡ origin_by by }
+{
+    match by {
+        Adding::Text => Origin::Consult,
+        Adding::First => Origin::Assert,
+        Adding::Last => Origin::Assert,
+    }
 }
 
 // Adds a clause to its procedure, or hands it back with the cause.
@@ -60,6 +69,7 @@ fn put(
     ensures rest { OnOk result ((db.new.next ≡ place + 1) × (db.new.floor ≡ db.old.floor)) }
     ensures settings { OnOk result ((db.new.flags ≡ db.old.flags) × (db.new.operators ≡ db.old.operators)) }
     ensures unchanged { OnErr result (db.new ≡ db.old) }
+    ensures back { IfErr result (λ e. e.0 ≡ clause) }
 {
     match by {
         Adding::Text => db.add_last(p, clause, Origin::Consult, place),
@@ -72,7 +82,6 @@ fn put(
 /// atoms are counted, and it is added to its procedure. The errors are those of the database; after one the clause is
 /// stored nowhere, and its atoms are counted as before.
 pub fn store_clause<K: NamesTable>(
-    alloc: Global,
     db: &mut Db<CountedTerm>,
     atoms: &mut TableAtoms<K>,
     keeper: &mut Option<Keeper>,
@@ -90,6 +99,7 @@ pub fn store_clause<K: NamesTable>(
     ensures stored { OnOk result (Restored (clause_counts db.old) (clause_counts db.new) (keeper_view keeper.old) (keeper_view keeper.new) place (suc place)) }
     ensures forgotten { OnErr result (Restored (clause_counts db.old) (clause_counts db.new) (keeper_view keeper.old) (keeper_view keeper.new) place place) }
     ensures upto { OnOk result (IsUpTo (suc place) db.new) }
+    ensures floor { db.new.floor ≡ db.old.floor }
     ensures unchanged { OnErr result (db.new ≡ db.old) }
     ensures quiet { IsQuiet (seen atoms.old.seat) (seen atoms.new.seat) }
     ensures held { names (seen atoms.new.seat) ≡ names (seen atoms.old.seat) }
@@ -100,24 +110,13 @@ pub fn store_clause<K: NamesTable>(
         × IsDatabase (keeper_view keeper.new) db.new goals (h ++ entry_by e (Some (adding_kind by (proc_of p.now) (clause_in (said (names (seen atoms.old.seat)) clause))))))
         (λ x. (x ≡ NoMemory) ⊎ (addition_fault clause_cells (databases goals h place) (proc_of p.now) (origin_by by) (clause_in (said (names (seen atoms.old.seat)) clause)) ≡ Some x)) }
 {
-    let Ok(spare) = shared(alloc, &clause) else {
-        return Err(DbFault::Memory);
-    };
     store_from(atoms, keeper, &clause);
     agree(atoms, keeper);
     match put(db, p, clause, by, place) {
         Ok(()) => Ok(()),
-        Err((_, fault)) => {
-            forget_by(atoms, keeper, &spare);
+        Err((back, fault)) => {
+            forget_by(atoms, keeper, &back);
             Err(fault)
         }
     }
-}
-
-// The same clause for another holder. The only error is out of memory.
-fn shared(alloc: Global, clause: &CountedTerm) -> Result<CountedTerm, Memory>
-    ensures { IfOk result (λ c. c ≡ clause.now) }
-{
-    let term = clause.term().share()?;
-    CountedTerm::new(alloc, term)
 }

@@ -1,17 +1,14 @@
-use Rattle.std.proofs.Common.{◌≡◌, ◌<◌, ◌^◌, ◌+◌, ℕ, [], ◌∷◌, ◌++◌, length, true, false, Option, Some, None, refl, sym, ap, subst, ◌∙◌, arith}
+use Rattle.std.proofs.Common.{◌<◌, ◌^◌, ℕ, sym, subst, ◌∙◌, arith}
 use Rattle.pl_term.specs.Tree.{Tree}
-use Rattle.pl_model.specs.laws.Shown.{proc_of}
 use Rattle.atom_words.specs.Seats.{seen}
 use Rattle.atom_table.specs.Naming.{names}
 use Rattle.clause_db.specs.Parts.{Held}
 use Rattle.world_api.specs.Texts.{text_of}
-use Rattle.world_api.specs.Visits.{clause_in}
-use Rattle.counted_terms.specs.CountedTerms.{naming, said}
-use Rattle.counted_terms.specs.Keeping.{keeper_view, kept, tally}
+use Rattle.counted_terms.specs.Keeping.{keeper_view}
 use Rattle.hub_database.specs.Clauses.{clause_by}
-use Rattle.hub_database.specs.Database.{IsDatabase, clause_counts, databases}
+use Rattle.hub_database.specs.Database.{IsDatabase, IsUpTo, databases}
 use Rattle.hub_database.proofs.Deciding.{quiet_by, steady_by, steady_database}
-use Rattle.hub_database.proofs.ErasedClauses.{erased_decides, gone_decides}
+use Rattle.hub_database.proofs.ErasedClauses.{erased_decides, gone_decides, unerased_after, unerased_decides, unerased_named}
 use Rattle.hub_database.proofs.changing.erase_clause.Goals as goal
 
 pub returns-in-Ok-true-clause-steady : goal.returns-in-Ok-true-clause-steady
@@ -51,3 +48,20 @@ pub returns-in-Err-clause-says : goal.returns-in-Err-clause-says
 returns-in-Err-clause-says g c = λ goals e h at is.
     subst (λ (d : Held Tree). IsDatabase (keeper_view c.agree.new.keeper) d goals h) (sym c.in-Err.ensures.err.1)
     (steady_database (keeper_view c.args.keeper.now) (keeper_view c.agree.new.keeper) c.args.db.now goals h c.agree.ensures.keeps is)
+
+pub returns-then-generation-ge-MOST_UPDATES-clause-steady : goal.returns-then-generation-ge-MOST_UPDATES-clause-steady
+returns-then-generation-ge-MOST_UPDATES-clause-steady g c = steady_by (keeper_view c.args.keeper.now) (keeper_view c.agree.new.keeper) c.agree.ensures.keeps c.agree.ensures.counts
+
+pub returns-then-generation-ge-MOST_UPDATES-clause-quiet : goal.returns-then-generation-ge-MOST_UPDATES-clause-quiet
+returns-then-generation-ge-MOST_UPDATES-clause-quiet g c = quiet_by (seen c.args.atoms.now.seat) (seen c.agree.new.atoms.seat) c.agree.ensures.held c.agree.ensures.refusals c.agree.ensures.requests
+
+pub returns-then-generation-ge-MOST_UPDATES-clause-upto : goal.returns-then-generation-ge-MOST_UPDATES-clause-upto
+returns-then-generation-ge-MOST_UPDATES-clause-upto g c = subst (λ (n : ℕ). IsUpTo n c.args.db.now) (sym (unerased_after c.has_clause.result c.no_erasure.result c.args.generation c.no_erasure.ensures)) c.requires.upto
+
+pub returns-then-generation-ge-MOST_UPDATES-clause-named : goal.returns-then-generation-ge-MOST_UPDATES-clause-named
+returns-then-generation-ge-MOST_UPDATES-clause-named g c = unerased_named (names (seen c.agree.new.atoms.seat)) c.agree.new.atoms.lawful.stand c.has_clause.result c.no_erasure.result c.no_erasure.ensures
+
+pub returns-then-generation-ge-MOST_UPDATES-clause-says : goal.returns-then-generation-ge-MOST_UPDATES-clause-says
+returns-then-generation-ge-MOST_UPDATES-clause-says g c = λ goals e h at is.
+    unerased_decides goals e c.args.generation (names (seen c.agree.new.atoms.seat)) c.agree.new.atoms.lawful.stand h (keeper_view c.args.keeper.now) (keeper_view c.agree.new.keeper) c.args.db.now at c.if-generation-ge-MOST_UPDATES.true is c.agree.ensures.keeps
+    c.args.clause c.requires.upto.next c.has_clause.result (c.has_clause.ensures (clause_by (keeper_view c.args.keeper.now)) (databases goals h) c.agree.ensures.agreed.costs is.says) c.no_erasure.result c.no_erasure.ensures

@@ -1,15 +1,12 @@
-use Rattle.std.proofs.Common.{◌≡◌, ◌<◌, ◌^◌, ◌+◌, ℕ, List, [], ◌∷◌, ◌++◌, length, true, false, Option, Some, None, refl, sym, ap, subst, ◌∙◌, arith}
+use Rattle.std.proofs.Common.{List, None, sym, subst}
 use Rattle.pl_term.specs.Tree.{Tree}
 use Rattle.pl_model.specs.laws.Shown.{proc_of}
 use Rattle.atom_words.specs.Seats.{seen}
 use Rattle.atom_table.specs.Naming.{names}
-use Rattle.clause_db.specs.Parts.{Held}
 use Rattle.world_api.specs.Texts.{text_of}
-use Rattle.world_api.specs.Visits.{clause_in}
-use Rattle.counted_terms.specs.CountedTerms.{naming, said}
-use Rattle.counted_terms.specs.Keeping.{keeper_view, kept, tally}
+use Rattle.counted_terms.specs.CountedTerms.{said}
+use Rattle.counted_terms.specs.Keeping.{keeper_view}
 use Rattle.hub_database.specs.Clauses.{clause_by}
-use Rattle.hub_database.specs.Database.{IsDatabase, clause_counts, databases}
 use Rattle.std.specs.List.{slice_get}
 use Rattle.pl_model.specs.History as entries
 use Rattle.pl_model.specs.Database as model

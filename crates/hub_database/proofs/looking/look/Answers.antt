@@ -1,4 +1,4 @@
-use Rattle.std.proofs.Common.{◌≡◌, length, sym, ap, ap₂, ◌∙◌}
+use Rattle.std.proofs.Common.{length, sym, ap, ap₂, ◌∙◌}
 use Rattle.pl_model.specs.Flags.{Flags}
 use Rattle.pl_model.specs.Requests.{standing}
 use Rattle.pl_model.specs.SharedState.{state_at}

@@ -1,0 +1,126 @@
+//! Predicates over atoms, and what they are in texts.
+ghost use Rattle.std.specs.Prelude.{◌≡◌, ◌<◌, ℕ, IsSome, IfOk, IfSome, length, map};
+ghost use Rattle.std.specs.List.{All};
+ghost use Rattle.pl_model.specs.History.{head_part};
+ghost use Rattle.pl_model.specs.Predicates.{proc_of as predicate_of};
+ghost use Rattle.pl_model.specs.laws.Shown.{proc_of};
+ghost use Rattle.atom_api.specs.Names.{Names};
+ghost use Rattle.atom_words.specs.Seats.{seen};
+ghost use Rattle.atom_table.specs.Naming.{Lawful, names};
+ghost use Rattle.term_store.specs.ArgumentKeys.{begins_rule, head_nodes};
+ghost use Rattle.term_store.specs.Nodes.{node_view, node_views};
+ghost use Rattle.term_store.specs.NumberedNames.{names_of};
+ghost use Rattle.world_api.specs.Texts.{text_of};
+ghost use Rattle.world_api.specs.Visits.{proc_named};
+ghost use Rattle.world_api.specs.declared.visit.Procedure as predicates;
+ghost use Rattle.counted_terms.specs.CountedTerms.{said};
+ghost use Rattle.hub_database.specs.Heads.{node_procedure};
+ghost use Rattle.hub_database.specs.Rows.{IsQuiet};
+
+use atom_api::{Atom, Atoms, fixed};
+use atom_table::{NamesTable, TableAtoms};
+use counted_terms::text_of_atom;
+use pl_model::shows::Proc;
+use pl_term::Memory;
+use std::alloc::Global;
+use term_store::{AtomNode, Stored};
+use world_api::Procedure;
+
+// The predicate in texts. The only error is out of memory.
+fn spelled<A: Atoms>(alloc: Global, atoms: &mut A, p: &Procedure) -> Result<Proc, Memory>
+    requires { IsSome (A.held atoms.old p.now.name) }
+    ensures spelled { IfOk result (λ q. proc_of q ≡ proc_named (text_of (A.held atoms.old)) p.now) }
+    ensures same { A.held atoms.new ≡ A.held atoms.old }
+    ensures refusals { A.refusals atoms.new ≡ A.refusals atoms.old }
+    ensures asked { A.asked atoms.new ≡ A.asked atoms.old }
+{
+    let name = text_of_atom(alloc, atoms, p.name)?;
+    Ok(Proc {
+        name,
+        arity: p.arity,
+    })
+}
+
+/// The predicate in texts, by what the engine holds. The only error is out of memory.
+pub(crate) fn predicate_text<K: NamesTable>(
+    alloc: Global,
+    atoms: &mut TableAtoms<K>,
+    p: &Procedure,
+) -> Result<Proc, Memory>
+    requires { IsSome (names (seen atoms.old.seat) p.now.name) }
+    ensures spelled { IfOk result (λ q. proc_of q ≡ proc_named (text_of (names (seen atoms.old.seat))) p.now) }
+    ensures held { names (seen atoms.new.seat) ≡ names (seen atoms.old.seat) }
+    ensures quiet { IsQuiet (seen atoms.old.seat) (seen atoms.new.seat) }
+{
+    spelled(alloc, atoms, p)
+}
+
+/// The predicates in texts, by what the engine holds. The only error is out of memory.
+pub(crate) fn predicate_texts<K: NamesTable>(
+    alloc: Global,
+    atoms: &mut TableAtoms<K>,
+    ps: &[Procedure],
+) -> Result<Vec<Proc>, Memory>
+    requires { All (λ (p : predicates.Procedure). IsSome (names (seen atoms.old.seat) p.name)) ps.now }
+    ensures spelled { IfOk result (λ v. map proc_of v.items ≡ map (proc_named (text_of (names (seen atoms.old.seat)))) ps.now) }
+    ensures held { names (seen atoms.new.seat) ≡ names (seen atoms.old.seat) }
+    ensures quiet { IsQuiet (seen atoms.old.seat) (seen atoms.new.seat) }
+{
+    let mut texts = Vec::new(alloc);
+    for i in 0..ps.len() {
+        texts.push(predicate_text(alloc, atoms, &ps[i])?)?;
+    }
+    Ok(texts)
+}
+
+/// The predicate of the head of a clause that is kept as one term (ISO 6.2.1). A head that is an integer has none.
+pub(crate) fn head_procedure(clause: &Stored) -> Option<Procedure>
+    ensures says { IfSome result (λ p. (m : Names) → Lawful m → proc_named (text_of m) p ≡ predicate_of (head_part (said m clause.now))) }
+    ensures named { IfSome result (λ p. (m : Names) → Lawful m → All (λ a. IsSome (m a)) (names_of clause.now) → IsSome (m p.name)) }
+{
+    let nodes = head(clause.nodes());
+    predicate(nodes[0])
+}
+
+// The nodes of a clause from its head's first one on.
+fn head(nodes: &[AtomNode]) -> &[AtomNode]
+    requires { 0 < length nodes.now }
+    ensures { node_views result.now ≡ head_nodes (node_views nodes.now) }
+{
+    if is_rule(nodes[0]) {
+        &nodes[1..]
+    } else {
+        nodes
+    }
+}
+
+// Whether this is the first node of a rule Head :- Body.
+fn is_rule(node: AtomNode) -> bool
+    ensures { result ≡ begins_rule (node_view node) }
+{
+    match node {
+        AtomNode::Comp(f, k) => k == 2 && f == fixed::NECK.slot(),
+        _ => false,
+    }
+}
+
+// The predicate of a term that begins with this node. A variable stands for call/1 of it.
+fn predicate(node: AtomNode) -> Option<Procedure>
+    ensures { result ≡ node_procedure (node_view node) }
+{
+    match node {
+        AtomNode::Var(_) => Some(Procedure {
+            name: fixed::CALL,
+            arity: 1,
+        }),
+        AtomNode::Int(_) => None,
+        AtomNode::Atom(a) => Some(Procedure {
+            name: Atom::at(a),
+            arity: 0,
+        }),
+        AtomNode::Comp(f, k) => Some(Procedure {
+            name: Atom::at(f),
+            arity: k as u64,
+        }),
+    }
+}
