@@ -20,7 +20,7 @@ ghost use Rattle.atom_parts.specs.Reading.{IsAtom};
 
 use atom_api::{Atoms, TextBuf, fixed};
 use builtin_atom::{Made, make_atom, past_limit, take_cells};
-use builtin_rows::Row;
+use builtin_rows::{Places, Row};
 use pl_term::{Memory, Text};
 use std::alloc::Global;
 use std::convert::AsStr;
@@ -82,13 +82,12 @@ pub fn join<A: Atoms>(
     if text.size() > 248 {
         return past_limit(store, fixed::MAX_ATOM_LENGTH, fixed::ATOM_CONCAT, 3);
     }
-    answer_joined(alloc, store, first, second, &text, atoms)
+    answer_joined(store, first, second, &text, atoms)
 }
 
 /// The one answer with the terms at two places and the atom of a text of at most 248 bytes, which is made. The only error is
 /// out of memory.
 fn answer_joined<A: Atoms>(
-    alloc: Global,
     store: &mut Store,
     first: Place,
     second: Place,
@@ -114,22 +113,11 @@ fn answer_joined<A: Atoms>(
             let made = make_atom(text, atoms)?;
             match made {
                 Made::Refused(row) => Ok(row),
-                Made::Is(a) => {
-                    let places = all_three(alloc, first, second, Place::atom(a))?;
-                    Ok(Row::Answer { places, fresh: 0 })
-                }
+                Made::Is(a) => Ok(Row::Answer {
+                    places: Places::Three(first, second, Place::atom(a)),
+                    fresh: 0,
+                }),
             }
         }
     }
-}
-
-/// The three places, in their order. The only error is out of memory.
-fn all_three(alloc: Global, first: Place, second: Place, third: Place) -> Result<Vec<Place>, Memory>
-    ensures { IfOk result (λ ps. ps.items ≡ first ∷ (second ∷ (third ∷ []))) }
-{
-    let mut places = Vec::new(alloc);
-    places.push(first)?;
-    places.push(second)?;
-    places.push(third)?;
-    Ok(places)
 }

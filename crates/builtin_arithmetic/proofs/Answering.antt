@@ -1,9 +1,9 @@
 -- What is/2 and arithmetic comparison give.
-use Rattle.std.proofs.Common.{◌≡◌, ℕ, zero, ◌+◌, ◌<◌, ◌≤◌, ◌^◌, ℤ, Bool, false, [], ◌∷◌, map, nat_le, if◌then◌else◌, IsSome, Vec, Global, Ok, Err, refl, sym, ap, subst, ◌∙◌, arith}
+use Rattle.std.proofs.Common.{◌≡◌, ℕ, zero, ◌+◌, ◌<◌, ◌≤◌, ◌^◌, ℤ, Bool, false, [], ◌∷◌, nat_le, if◌then◌else◌, IsSome, Ok, Err, refl, sym, ap, subst, ◌∙◌, arith}
 use Rattle.std.specs.List.{All}
 use Rattle.std.proofs.lemmas.Bool.{lt-ltb, lt-leb}
 use Rattle.std.proofs.lemmas.List.Elements.{All-cons, All-nil}
-use Rattle.pl_term.specs.Tree.{Tree, Trees, int, none, more, trees}
+use Rattle.pl_term.specs.Tree.{Tree, Trees, int, none, more}
 use Rattle.pl_model.specs.History.{Proc}
 use Rattle.pl_model.specs.declared.evaluables.EvalFault.{EvalFault}
 use Rattle.pl_model.specs.Balls.{error_ball, no_inferences}
@@ -16,6 +16,7 @@ use Rattle.term_store.specs.Contents.{Contents, Holds as IsIn, term_at}
 use Rattle.world_builtins.specs.Naming.{IsHeldAt, atoms_in}
 use Rattle.world_builtins.specs.Spelling.{reads, spelled, text_of}
 use Rattle.builtin_rows.specs.Given.{answered, full, given, thrown, with_room}
+use Rattle.builtin_rows.specs.declared.row.Places.TheVariants.{Two}
 use Rattle.builtin_rows.specs.declared.row.Row.{Row}
 use Rattle.builtin_rows.specs.declared.row.Row.TheVariants.{Fails, Holds, Answer, CellsFull}
 use Rattle.builtin_rows.specs.Rows.{IsRow}
@@ -49,23 +50,22 @@ module _ (m : Names) (s t : Contents) (next : ℕ) (p : Proc) (ts us : Trees) (f
       subst (λ g. IsRow s next ts g m t (CellsFull u n)) (sym (gives_plain p ts next s.used s.budget us ∙ is_full)) (used, (need, e))
 
 -- A value and the expression
-module _ (m : Names) (s : Contents) (next : ℕ) (ts : Trees) (x : ℤ) (p e : Place) (ps : Vec Place Global) (items : ps.items ≡ p ∷ (e ∷ []))
+module _ (m : Names) (s : Contents) (next : ℕ) (ts : Trees) (x : ℤ) (p e : Place)
     (stands : IsIn s p × (term_at s p ≡ int x)) (holds : IsIn s e) (held : IsHeldAt m s e) where
-  pub answer_row : IsRow s next ts (answered (two (int x) (reads m s e) ∷ []) zero zero) m s (Answer ps zero)
+  pub answer_row : IsRow s next ts (answered (two (int x) (reads m s e) ∷ []) zero zero) m s (Answer (Two p e) zero)
   answer_row =
       let P : ℕ → Type 0 = λ a. IsSome (m a) in (
         ap (λ l. l ∷ [])
-            (sym (ap (λ l. trees (map (reads m s) l)) items ∙ ap (λ t. more (spelled (text_of m) t) (more (reads m s e) none)) stands.1)),
+            (sym (ap (λ t. more (spelled (text_of m) t) (more (reads m s e) none)) stands.1)),
         (
           refl,
           (
             makes_from next s s (makes_nothing s),
             record {
-              inside = subst (All (IsIn s)) (sym items) (two_places s p e stands.0 holds);
+              inside = two_places s p e stands.0 holds;
               held =
-                  subst (All (IsHeldAt m s)) (sym items)
-                  (All-cons (IsHeldAt m s) p (e ∷ []) (subst (λ t. All P (atoms_in t)) (sym stands.1) (All-nil P))
-                  (All-cons (IsHeldAt m s) e [] held (All-nil (IsHeldAt m s))));
+                  All-cons (IsHeldAt m s) p (e ∷ []) (subst (λ t. All P (atoms_in t)) (sym stands.1) (All-nil P))
+                  (All-cons (IsHeldAt m s) e [] held (All-nil (IsHeldAt m s)));
             },
           ),
         ),

@@ -18,7 +18,7 @@ use crate::comparisons::{holds, predicate_name};
 use crate::errors::refused;
 use crate::evaluation::value_at;
 use atom_api::fixed;
-use builtin_rows::{Comparison, Row};
+use builtin_rows::{Comparison, Places, Row};
 use pl_term::Memory;
 use std::alloc::Global;
 use term_store::{Place, Store, StoreFault};
@@ -35,8 +35,11 @@ pub fn evaluate(alloc: Global, store: &mut Store, expression: Place) -> Result<R
     let value = value_at(alloc, store, expression)?;
     match value {
         Ok(x) => {
-            let places = pair(alloc, Place::integer(x), expression)?;
-            let row = within_budget(store, Row::Answer { places, fresh: 0 })?;
+            let answer = Row::Answer {
+                places: Places::Two(Place::integer(x), expression),
+                fresh: 0,
+            };
+            let row = within_budget(store, answer)?;
             Ok(row)
         }
         Err(fault) => {
@@ -115,16 +118,6 @@ fn decided(store: &mut Store, holds: bool) -> Result<Row, Memory>
         return Ok(row);
     }
     Ok(Row::Fails)
-}
-
-/// Two places. The only error is out of memory.
-fn pair(alloc: Global, first: Place, second: Place) -> Result<Vec<Place>, Memory>
-    ensures { IfOk result (λ v. v.items ≡ first ∷ second ∷ []) }
-{
-    let mut places = Vec::with_capacity(alloc, 2)?;
-    places.push(first)?;
-    places.push(second)?;
-    Ok(places)
 }
 
 /// The row of one answer that takes no cells, where those that are used fit in the budget, which they do in every store. The

@@ -14,7 +14,7 @@ ghost use Rattle.builtin_arithmetic.specs.Steps.{IsPendingIn, IsStepFor, IsStepI
 
 use crate::evaluables::{binary, unary};
 use crate::operations::{apply1, apply2};
-use crate::steps::{Pending, Step, step_of};
+use crate::steps::{Pending, Stack, Step, step_of};
 use crate::values::{Value, ValueFault};
 use atom_api::Atom;
 use pl_model::evaluables::{Op1, Op2};
@@ -31,7 +31,7 @@ pub fn value_at(alloc: Global, store: &Store, place: Place) -> Result<Value, Mem
     ensures value { IfOk result (λ v. (m : Names) → AreTexts m → value_of m v ≡ evaluated (reads m store.now place)) }
     ensures held { IfOk result (λ v. (m : Names) → IsHeldAt m store.now place → IsValueHeld m v) }
 {
-    let mut stack = Vec::new(alloc);
+    let mut stack = Stack::new(alloc);
     let mut step = Step::Visit(place);
     for _ in 0..u64::MAX {
         if let Step::Ended(value) = step {
@@ -43,7 +43,7 @@ pub fn value_at(alloc: Global, store: &Store, place: Place) -> Result<Value, Mem
 }
 
 /// Does a step. The only error is out of memory.
-fn advance(store: &Store, step: Step, stack: &mut Vec<Pending>) -> Result<Step, Memory>
+fn advance(store: &Store, step: Step, stack: &mut Stack) -> Result<Step, Memory>
     requires step { IsStepIn store.now step }
     requires stack { All (IsPendingIn store.now) stack.old.items }
     ensures inside { IfOk result (IsStepIn store.now) }
@@ -111,7 +111,7 @@ fn integer_at(store: &Store, place: Place) -> Option<i64>
 }
 
 /// Makes an operation of one argument, or asks for the argument's value first. The only error is out of memory.
-fn one(store: &Store, op: Op1, argument: Place, stack: &mut Vec<Pending>) -> Result<Step, Memory>
+fn one(store: &Store, op: Op1, argument: Place, stack: &mut Stack) -> Result<Step, Memory>
     requires argument { Holds store.now argument }
     requires stack { All (IsPendingIn store.now) stack.old.items }
     ensures inside { IfOk result (IsStepIn store.now) }
@@ -128,13 +128,7 @@ fn one(store: &Store, op: Op1, argument: Place, stack: &mut Vec<Pending>) -> Res
 }
 
 /// Makes an operation of two arguments, or asks for the value of one of them first. The only error is out of memory.
-fn two(
-    store: &Store,
-    op: Op2,
-    left: Place,
-    right: Place,
-    stack: &mut Vec<Pending>,
-) -> Result<Step, Memory>
+fn two(store: &Store, op: Op2, left: Place, right: Place, stack: &mut Stack) -> Result<Step, Memory>
     requires left { Holds store.now left }
     requires right { Holds store.now right }
     requires stack { All (IsPendingIn store.now) stack.old.items }
@@ -158,7 +152,7 @@ fn with_left(
     op: Op2,
     x: i64,
     right: Place,
-    stack: &mut Vec<Pending>,
+    stack: &mut Stack,
 ) -> Result<Step, Memory>
     requires right { Holds store.now right }
     requires stack { All (IsPendingIn store.now) stack.old.items }
@@ -176,7 +170,7 @@ fn with_left(
 }
 
 /// Goes on with a value. The only error is out of memory.
-fn resume(store: &Store, x: i64, stack: &mut Vec<Pending>) -> Result<Step, Memory>
+fn resume(store: &Store, x: i64, stack: &mut Stack) -> Result<Step, Memory>
     requires { All (IsPendingIn store.now) stack.old.items }
     ensures inside { IfOk result (IsStepIn store.now) }
     ensures stack { OnOk result (All (IsPendingIn store.now) stack.new.items) }

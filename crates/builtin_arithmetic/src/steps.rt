@@ -4,6 +4,7 @@ ghost use Rattle.builtin_arithmetic.specs.Steps.{step_of};
 
 use crate::values::{Value, ValueFault};
 use pl_model::evaluables::{Op1, Op2, OpFault};
+use smallvec::SmallVec;
 use term_store::Place;
 
 /// What is still to be done with the value of a term.
@@ -16,6 +17,15 @@ pub enum Pending {
     /// It is the right argument of the operation. The left one is this number.
     Right(Op2, i64),
 }
+
+impl Default for Pending {
+    fn default() -> Pending {
+        Pending::One(Op1::Plus)
+    }
+}
+
+/// What is still to be done, the next on top. It takes no memory for the first few.
+pub type Stack = SmallVec<Pending, 8>;
 
 /// How far an evaluation has come.
 #[derive(Clone, Copy, Drop)]

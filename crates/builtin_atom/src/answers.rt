@@ -1,5 +1,5 @@
 //! Answers with the terms at two places.
-ghost use Rattle.std.specs.Prelude.{◌≡◌, ◌+◌, ◌≤◌, [], ◌∷◌, ℕ, IfOk, IfSome, IfNone};
+ghost use Rattle.std.specs.Prelude.{◌≡◌, ◌+◌, ◌≤◌, [], ℕ, IfSome, IfNone};
 ghost use Rattle.pl_term.specs.Tree.{Trees};
 ghost use Rattle.pl_model.specs.BuiltinRows.{one_answer};
 ghost use Rattle.pl_model.specs.TermBuiltins.{makes};
@@ -7,23 +7,11 @@ ghost use Rattle.pl_model.specs.History.{Proc};
 ghost use Rattle.atom_api.specs.Names.{Names};
 ghost use Rattle.term_store.specs.Contents.{Holds};
 ghost use Rattle.world_builtins.specs.Naming.{IsHeldAt};
-ghost use Rattle.builtin_rows.specs.Rows.{IsSingle, refusals_of, row_refusals};
+ghost use Rattle.builtin_rows.specs.Rows.{IsSingle, row_refusals};
 ghost use Rattle.builtin_atom.specs.Answering.{IsRowOf, charged, pair_at};
 
-use builtin_rows::Row;
-use pl_term::Memory;
-use std::alloc::Global;
+use builtin_rows::{Places, Row};
 use term_store::{Place, Store, StoreFault};
-
-/// The two places, in their order. The only error is out of memory.
-pub fn both(alloc: Global, first: Place, second: Place) -> Result<Vec<Place>, Memory>
-    ensures { IfOk result (λ ps. ps.items ≡ first ∷ (second ∷ [])) }
-{
-    let mut places = Vec::new(alloc);
-    places.push(first)?;
-    places.push(second)?;
-    Ok(places)
-}
 
 /// Takes so many cells for an answer, or says that they do not fit.
 pub fn take_cells(store: &mut Store, made: u64) -> Option<Row>
@@ -40,21 +28,21 @@ pub fn take_cells(store: &mut Store, made: u64) -> Option<Row>
     }
 }
 
-/// The one answer with the terms at two places. The only error is out of memory.
-pub fn answer(alloc: Global, store: &mut Store, first: Place, second: Place) -> Result<Row, Memory>
+/// The one answer with the terms at two places.
+pub fn answer(store: &mut Store, first: Place, second: Place) -> Row
     requires first { Holds store.old first }
     requires second { Holds store.old second }
-    ensures row { IfOk result (λ r. (m : Names) (p : Proc) (ts : Trees) → IsHeldAt m store.old first → IsHeldAt m store.old second
-        → IsRowOf store.old p ts (one_answer (pair_at m store.old first second)) m store.new r) }
-    ensures refusals { refusals_of result ≡ [] }
-    ensures single { IfOk result IsSingle }
+    ensures row { (m : Names) (p : Proc) (ts : Trees) → IsHeldAt m store.old first → IsHeldAt m store.old second
+        → IsRowOf store.old p ts (one_answer (pair_at m store.old first second)) m store.new result }
+    ensures refusals { row_refusals result ≡ [] }
+    ensures single { IsSingle result }
 {
     match take_cells(store, 0) {
-        Some(row) => Ok(row),
-        None => {
-            let places = both(alloc, first, second)?;
-            Ok(Row::Answer { places, fresh: 0 })
-        }
+        Some(row) => row,
+        None => Row::Answer {
+            places: Places::Two(first, second),
+            fresh: 0,
+        },
     }
 }
 

@@ -49,7 +49,7 @@ pub fn char_code<A: Atoms>(
             }
             fault_row(store, fault, fixed::CHAR_CODE)
         }
-        Read::Character(c) => of_character(alloc, store, c, second, character, code, atoms),
+        Read::Character(c) => of_character(store, c, second, character, code, atoms),
     }
 }
 
@@ -76,14 +76,13 @@ fn of_code<A: Atoms>(
         Read::Bad(fault) => fault_row(store, fault, fixed::CHAR_CODE),
         Read::Character(c) => {
             let text = one_character(alloc, c)?;
-            answer_atom(alloc, store, &text, code, atoms)
+            answer_atom(store, &text, code, atoms)
         }
     }
 }
 
 /// The same where the first argument is a character. The only error is out of memory.
 fn of_character<A: Atoms>(
-    alloc: Global,
     store: &mut Store,
     c: char,
     second: Read,
@@ -102,7 +101,7 @@ fn of_character<A: Atoms>(
     match second {
         Read::Bad(fault) => {
             if is_unbound(fault) {
-                return answer(alloc, store, character, code_of(c));
+                return Ok(answer(store, character, code_of(c)));
             }
             fault_row(store, fault, fixed::CHAR_CODE)
         }
@@ -110,7 +109,7 @@ fn of_character<A: Atoms>(
             if c == d {
                 return Ok(unchanged(store));
             }
-            answer(alloc, store, character, code_of(c))
+            Ok(answer(store, character, code_of(c)))
         }
     }
 }

@@ -14,14 +14,12 @@ use crate::texts::character_count;
 use atom_api::{Atom, Atoms, fixed};
 use builtin_rows::Row;
 use pl_term::Memory;
-use std::alloc::Global;
 use term_store::{Place, Store, View as Kind};
 
 /// atom_length/2 (ISO 8.16.1): the second argument is the number of characters of the atom that is the first one. A variable
 /// and what is no atom are refused in the first place, and in the second one what is neither a variable nor an integer from 0
 /// on. The only error is out of memory.
 pub fn atom_length<A: Atoms>(
-    alloc: Global,
     store: &mut Store,
     atom: Place,
     length: Place,
@@ -39,7 +37,7 @@ pub fn atom_length<A: Atoms>(
 {
     match store.look(atom) {
         Kind::Variable(_) => unbound(store, fixed::ATOM_LENGTH, 2),
-        Kind::Atom(name) => length_of(alloc, store, name, atom, length, atoms),
+        Kind::Atom(name) => length_of(store, name, atom, length, atoms),
         Kind::Integer(_) => wrong_type(store, fixed::ATOM, atom, fixed::ATOM_LENGTH, 2),
         Kind::Compound(_, _) => wrong_type(store, fixed::ATOM, atom, fixed::ATOM_LENGTH, 2),
     }
@@ -47,7 +45,6 @@ pub fn atom_length<A: Atoms>(
 
 /// The same for an atom in the first place. The only error is out of memory.
 fn length_of<A: Atoms>(
-    alloc: Global,
     store: &mut Store,
     name: Atom,
     atom: Place,
@@ -68,7 +65,7 @@ fn length_of<A: Atoms>(
     match store.look(length) {
         Kind::Variable(_) => {
             let count = character_count(name, atoms);
-            answer(alloc, store, atom, Place::integer(count as i64))
+            Ok(answer(store, atom, Place::integer(count as i64)))
         }
         Kind::Integer(given) => {
             if given < 0 {
@@ -78,7 +75,7 @@ fn length_of<A: Atoms>(
             if count == given {
                 return Ok(unchanged(store));
             }
-            answer(alloc, store, atom, Place::integer(count))
+            Ok(answer(store, atom, Place::integer(count)))
         }
         Kind::Atom(_) => wrong_type(store, fixed::INTEGER, length, fixed::ATOM_LENGTH, 2),
         Kind::Compound(_, _) => wrong_type(store, fixed::INTEGER, length, fixed::ATOM_LENGTH, 2),

@@ -15,13 +15,13 @@ ghost use Rattle.builtin_atom.specs.Answering.{AsksFor, IsRowOf};
 ghost use Rattle.builtin_atom.specs.Forms.{to_by};
 ghost use Rattle.builtin_atom.specs.Listed.{AreListed, IsElement, element_refusals, element_texts, listed_refusals};
 
-use crate::answers::{both, take_cells};
+use crate::answers::take_cells;
 use crate::codes::code_of;
 use crate::forms::Form;
 use crate::making::{Made, make_atom};
 use crate::texts::one_character;
 use atom_api::Atoms;
-use builtin_rows::{Row, make_list};
+use builtin_rows::{Places, Row, make_list};
 use pl_term::Memory;
 use std::alloc::Global;
 use term_store::{Place, Store};
@@ -123,8 +123,10 @@ pub fn answer_list<A: Atoms>(
                 }
                 Listed::At(places) => {
                     let list = make_list(store, &places)?;
-                    let places = both(alloc, first, list)?;
-                    Ok(Row::Answer { places, fresh: 0 })
+                    Ok(Row::Answer {
+                        places: Places::Two(first, list),
+                        fresh: 0,
+                    })
                 }
             }
         }

@@ -14,11 +14,10 @@ ghost use Rattle.builtin_rows.specs.Rows.{IsSingle, refusals_of};
 ghost use Rattle.builtin_atom.specs.Answering.{AsksFor, IsRowOf};
 ghost use Rattle.builtin_atom.specs.Making.{IsMade, made_refusals};
 
-use crate::answers::{both, take_cells};
+use crate::answers::take_cells;
 use atom_api::{Atom, Atoms, Interned};
-use builtin_rows::Row;
+use builtin_rows::{Places, Row};
 use pl_term::{Memory, Text};
-use std::alloc::Global;
 use term_store::{Place, Store};
 
 /// What becomes of an atom that is to be made: it is held, or the predicate is to be called again, as the row says.
@@ -49,7 +48,6 @@ pub fn make_atom<A: Atoms>(text: &Text, atoms: &mut A) -> Result<Made, Memory>
 /// The one answer with the atom of a text of at most 248 bytes, which is made, and the term at a place. The only error is out of
 /// memory.
 pub fn answer_atom<A: Atoms>(
-    alloc: Global,
     store: &mut Store,
     text: &Text,
     second: Place,
@@ -72,10 +70,10 @@ pub fn answer_atom<A: Atoms>(
             let made = make_atom(text, atoms)?;
             match made {
                 Made::Refused(row) => Ok(row),
-                Made::Is(a) => {
-                    let places = both(alloc, Place::atom(a), second)?;
-                    Ok(Row::Answer { places, fresh: 0 })
-                }
+                Made::Is(a) => Ok(Row::Answer {
+                    places: Places::Two(Place::atom(a), second),
+                    fresh: 0,
+                }),
             }
         }
     }

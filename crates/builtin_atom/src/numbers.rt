@@ -141,25 +141,13 @@ fn read_number<A: Atoms>(
         Spelled::Bad(fault) => fault_row(store, fault, number_name(form)),
         Spelled::Text(characters) => {
             let text = string_from(alloc, &characters)?;
-            number_row(
-                alloc,
-                store,
-                number_in(text.as_str()),
-                list,
-                number_name(form),
-            )
+            number_row(store, number_in(text.as_str()), list, number_name(form))
         }
     }
 }
 
 /// The row of the predicate with this name for a list that is read as a number. The only error is out of memory.
-fn number_row(
-    alloc: Global,
-    store: &mut Store,
-    number: NumberText,
-    list: Place,
-    name: Atom,
-) -> Result<Row, Memory>
+fn number_row(store: &mut Store, number: NumberText, list: Place, name: Atom) -> Result<Row, Memory>
     requires { Holds store.old list }
     ensures row { IfOk result (λ r. (m : Names) (p : Chars) (ts : Trees) (o : Option ℤ) → FixedStand m → IsHeldAt m store.old list → fixed name ≡ Some p
         → IsNumber o number → IsRowOf store.old (proc p 2) ts (number_row (reads m store.old list) o) m store.new r) }
@@ -169,6 +157,6 @@ fn number_row(
     match number {
         NumberText::Illegal => bad_syntax(store, fixed::ILLEGAL_NUMBER, name, 2),
         NumberText::TooLarge => bad_syntax(store, fixed::INTEGER_TOO_LARGE, name, 2),
-        NumberText::Integer(i) => answer(alloc, store, Place::integer(i), list),
+        NumberText::Integer(i) => Ok(answer(store, Place::integer(i), list)),
     }
 }

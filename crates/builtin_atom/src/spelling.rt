@@ -142,7 +142,7 @@ fn spell_list<A: Atoms>(
             if text.size() > 248 {
                 past_limit(store, fixed::MAX_ATOM_LENGTH, name_of(form), 2)
             } else {
-                answer_atom(alloc, store, &text, list, atoms)
+                answer_atom(store, &text, list, atoms)
             }
         }
     }

@@ -40,7 +40,7 @@ pub fn row_of_three<A: Atoms>(
     match pred {
         OfThree::Compare => compare(alloc, store, first, second, third, atoms),
         OfThree::Functor => functor(alloc, store, first, second, third, next),
-        OfThree::Arg => arg(alloc, store, first, second, next),
+        OfThree::Arg => arg(store, first, second, next),
         OfThree::AtomConcat => atom_concat(alloc, store, first, second, third, atoms),
     }
 }

@@ -38,8 +38,8 @@ pub fn row_of_two<A: Atoms>(
         (A.held atoms.old) (A.held atoms.new) (A.refusals atoms.old) (A.refusals atoms.new) (A.asked atoms.old) (A.asked atoms.new) store.new result }
 {
     match pred {
-        OfTwo::Equal => unifies(alloc, store, second),
-        OfTwo::UnifyWithOccursCheck => unifies(alloc, store, second),
+        OfTwo::Equal => unifies(store, second),
+        OfTwo::UnifyWithOccursCheck => unifies(store, second),
         OfTwo::NotUnifiable => not_unifiable(store, first, second),
         OfTwo::SubsumesTerm => subsumes_term(alloc, store, first, second),
         OfTwo::CopyTerm => copy_term(alloc, store, first, next),
@@ -49,7 +49,7 @@ pub fn row_of_two<A: Atoms>(
         OfTwo::Keysort => keysort(alloc, store, first, next, atoms),
         OfTwo::Univ => univ(alloc, store, first, second, next),
         OfTwo::Is => evaluate(alloc, store, second),
-        OfTwo::AtomLength => atom_length(alloc, store, first, second, atoms),
+        OfTwo::AtomLength => atom_length(store, first, second, atoms),
         OfTwo::AtomChars => atom_chars(alloc, store, first, second, atoms),
         OfTwo::AtomCodes => atom_codes(alloc, store, first, second, atoms),
         OfTwo::CharCode => char_code(alloc, store, first, second, atoms),

@@ -13,6 +13,8 @@ use Rattle.term_store.specs.Contents.{Contents, Holds as IsIn, Adds, numbers_of,
 use Rattle.world_builtins.specs.Naming.{IsHeldAt}
 use Rattle.world_builtins.specs.Spelling.{reads}
 use Rattle.builtin_rows.specs.Given.{Given, answered, lined, thrown, full}
+use Rattle.builtin_rows.specs.declared.row.Places.{Places}
+use Rattle.builtin_rows.specs.declared.row.Places.TheVariants.{Two, Three}
 use Rattle.builtin_rows.specs.declared.row.Row.{Row}
 use Rattle.builtin_rows.specs.declared.row.Row.TheVariants.{Fails, Holds, Answer as RowAnswer, Line, Ball, CellsFull, NeedsAtoms, Retry, Worn}
 
@@ -23,6 +25,11 @@ pub record Makes (s : Contents) (next fresh made : ℕ) (t : Contents) : Type 0 
   pub numbers : numbers_of t ≡ numbers_of s ++ upwards next fresh
   pub used : t.used ≡ s.used + made
   pub budget : t.budget ≡ s.budget
+
+-- The places, in the order of the arguments.
+abbrev pub listed : Places → List Place
+listed (Two p q) = p ∷ q ∷ []
+listed (Three p q r) = p ∷ q ∷ r ∷ []
 
 -- The terms at some places.
 abbrev pub terms_at : Names → Contents → List Place → Trees
@@ -57,7 +64,7 @@ abbrev pub IsRow : Contents → ℕ → Trees → Given → Names → Contents �
 IsRow s next ts (answered xs f k) n t Fails = (xs ≡ []) × (t ≡ s)
 IsRow s next ts (answered xs f k) n t Holds = (xs ≡ ts ∷ []) × ((f ≡ zero) × ((k ≡ zero) × (t ≡ s)))
 IsRow s next ts (answered xs f k) n t (RowAnswer ps fresh) =
-    (xs ≡ terms_at n t ps.items ∷ []) × ((fresh ≡ f) × (Makes s next f k t × ArePlaced n t ps.items))
+    (xs ≡ terms_at n t (listed ps) ∷ []) × ((fresh ≡ f) × (Makes s next f k t × ArePlaced n t (listed ps)))
 IsRow s next ts (lined us xs k) n t Fails = (unifying us (drop k xs) ≡ []) × (t ≡ s)
 IsRow s next ts (lined us xs k) n t (Line ps following) =
     IsLine us xs k (terms_at n t ps.items) following × (Makes s next zero zero t × ArePlaced n t ps.items)

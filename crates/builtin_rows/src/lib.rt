@@ -14,4 +14,4 @@ pub use lists::{ListEnd, list_elements, make_list};
 pub use names::predicate_of;
 pub use predicates::{Comparison, Meaning, OfOne, OfThree, OfTwo, Pred};
 pub use room::take_room;
-pub use row::Row;
+pub use row::{Places, Row};

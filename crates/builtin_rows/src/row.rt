@@ -2,6 +2,13 @@
 use atom_api::{Cause, Pass, WornWord};
 use term_store::Place;
 
+/// A place for each argument of a predicate of two or three.
+#[derive(Clone, Copy, Drop)]
+pub enum Places {
+    Two(Place, Place),
+    Three(Place, Place, Place),
+}
+
 /// What a built-in predicate gives for its arguments.
 #[derive(Drop)]
 pub enum Row {
@@ -12,7 +19,7 @@ pub enum Row {
     /// One answer: a place for each argument, with which it is unified. Its `fresh` new variables have the next numbers, and
     /// its cells were taken.
     Answer {
-        places: Vec<Place>,
+        places: Places,
         fresh: u64,
     },
     /// The first of the answers of a table: a place for each argument, with which it is unified. No cells were taken. With it

@@ -1,5 +1,5 @@
 -- compare/3.
-use Rattle.std.proofs.Common.{◌≡◌, ℕ, ◌<◌, ◌^◌, [], ◌∷◌, Vec, Global, Result, Ok, Err, Option, Some, IfOk, codes, sym, ap, subst, ◌∙◌}
+use Rattle.std.proofs.Common.{◌≡◌, ℕ, ◌<◌, ◌^◌, [], ◌∷◌, Result, Ok, Err, Option, Some, IfOk, codes, sym, ap, subst, ◌∙◌}
 use Rattle.std.specs.List.{All}
 use Rattle.std.specs.declared.cmp.Ordering.{Ordering}
 use Rattle.std.proofs.lemmas.List.Elements.{All-cons, All-nil}
@@ -54,22 +54,21 @@ module _ (s : Contents) (o l r : Place) (m : Names) (names : AreNames m) where
       ap (spelled (text_of m)) stands
       ∙ ap atom (text_is m names.fixed k (sign x) (ap fixed number ∙ sign_is x) ∙ ap sign found)
 
-  pub compares_stand : {E : Type 0} (t : Contents) (result : Result Row E) (ps : Vec Place Global) (p : Place) (k : ℕ) (x : Ordering)
+  pub compares_stand : {E : Type 0} (t : Contents) (result : Result Row E) (p : Place) (k : ℕ) (x : Ordering)
       → sign_at (term_at s o) ≡ Fits → x ≡ order (reads m s l) (reads m s r) → k ≡ sign_number x → term_at s p ≡ atom (atom_name k)
-      → ps.items ≡ p ∷ (l ∷ (r ∷ [])) → IsHeldAt m s l → IsHeldAt m s r
-      → IfOk result (λ q. (n : Names) (ts : Trees) → All (IsHeldAt n s) ps.items → Stands s ts (one_answer (terms_at n s ps.items)) n t q)
+      → IsHeldAt m s l → IsHeldAt m s r
+      → IfOk result (λ q. (n : Names) (ts : Trees) → let ps = p ∷ (l ∷ (r ∷ [])) in All (IsHeldAt n s) ps → Stands s ts (one_answer (terms_at n s ps)) n t q)
       → IfOk result (Compares s o l r m t)
-  compares_stand t (Err y) ps p k x fits found number stands items hl hr h = tt
-  compares_stand t (Ok q) ps p k x fits found number stands items hl hr h =
+  compares_stand t (Err y) p k x fits found number stands hl hr h = tt
+  compares_stand t (Ok q) p k x fits found number stands hl hr h =
       let ts = three (reads m s o) (reads m s l) (reads m s r) in
-      let held : All (IsHeldAt m s) ps.items =
-      subst (All (IsHeldAt m s)) (sym items)
-      (All-cons (IsHeldAt m s) p (l ∷ (r ∷ [])) (atom_held m names.fixed s p k (sign x) (ap fixed number ∙ sign_is x) stands)
-      (All-cons (IsHeldAt m s) l (r ∷ []) hl (All-cons (IsHeldAt m s) r [] hr (All-nil (IsHeldAt m s))))) in
-      by_row t q (one_answer (terms_at m s ps.items))
+      let ps = p ∷ (l ∷ (r ∷ [])) in
+      let held : All (IsHeldAt m s) ps =
+      All-cons (IsHeldAt m s) p (l ∷ (r ∷ [])) (atom_held m names.fixed s p k (sign x) (ap fixed number ∙ sign_is x) stands)
+      (All-cons (IsHeldAt m s) l (r ∷ []) hl (All-cons (IsHeldAt m s) r [] hr (All-nil (IsHeldAt m s)))) in
+      by_row t q (one_answer (terms_at m s ps))
       (ap (λ e. unless e (one_answer (three (atom (sign (order (reads m s l) (reads m s r)))) (reads m s l) (reads m s r)))) (no_error m names (term_at s o) fits)
-      ∙ ap (λ a. one_answer (three a (reads m s l) (reads m s r))) (sym (sign_reads p k x number found stands))
-      ∙ ap (λ y. one_answer (terms_at m s y)) (sym items))
+      ∙ ap (λ a. one_answer (three a (reads m s l) (reads m s r))) (sym (sign_reads p k x number found stands)))
       (h m ts held (proc (codes "compare") 3))
 
   pub refuses_stand : {E : Type 0} (t : Contents) (result : Result Row E) (a k : ℕ) (e x : Chars)

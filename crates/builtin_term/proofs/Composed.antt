@@ -1,8 +1,6 @@
 -- A list as the term of its elements.
 use Rattle.std.proofs.Common.{◌≡◌, ℕ, zero, ◌+◌, ◌-◌, ◌<◌, ◌≤◌, ◌^◌, ◌==◌, true, false, List, [], ◌∷◌, ◌++◌, length, get_or, map, take, drop, IsSome, codes, refl, sym, ap, ap₂, subst, ◌∙◌, arith}
-use Rattle.std.specs.Prelude.{Vec}
 use Rattle.std.specs.List.{All}
-use Rattle.std.specs.declared.alloc.Global.{Global}
 use Rattle.std.proofs.lemmas.Bool.{false≢true}
 use Rattle.std.proofs.lemmas.Bool.Decides.{Decides-eqb}
 use Rattle.std.proofs.lemmas.List.{length-map, take_all}
@@ -18,6 +16,7 @@ use Rattle.term_store.specs.Heap.{atom_name}
 use Rattle.term_store.specs.Contents.{Contents, Holds, term_at}
 use Rattle.world_builtins.specs.Naming.{IsHeldAt, atoms_in, atoms_in_all}
 use Rattle.world_builtins.specs.Spelling.{reads, spelled, text_of}
+use Rattle.builtin_rows.specs.declared.row.Places.TheVariants.{Two}
 use Rattle.builtin_rows.specs.declared.row.Row.{Row}
 use Rattle.builtin_rows.specs.declared.row.Row.TheVariants as rows
 use Rattle.builtin_rows.specs.Given.{with_room}
@@ -118,16 +117,16 @@ module _ (m : Names) (s t : Contents) (next f made : ℕ) (list : Place) (argume
     held_still : IsHeldAt m t list
     held_still = subst (λ u. All P (atoms_in u)) (sym (changes.others list list_in)) list_held
 
-    pub composed_given : (ps : Vec Place Global) → ps.items ≡ term ∷ (list ∷ []) → next + zero < 2 ^ 64 → s.used + made ≤ s.budget
-        → IsGiven s next (proc (codes "=..") 2) (composed_row m s f list arguments) m t (rows.Answer ps zero)
-    composed_given ps items few fits ts =
+    pub composed_given : next + zero < 2 ^ 64 → s.used + made ≤ s.budget
+        → IsGiven s next (proc (codes "=..") 2) (composed_row m s f list arguments) m t (rows.Answer (Two term list) zero)
+    composed_given few fits ts =
         let q = proc (codes "=..") 2 in
-        let there : a.terms ≡ terms_at m t ps.items = ap₂ two term_reads list_reads ∙ ap (terms_at m t) (sym items) in
+        let there : a.terms ≡ terms_at m t (term ∷ (list ∷ [])) = ap₂ two term_reads list_reads in
         let placed : ArePlaced m t (term ∷ (list ∷ [])) =
         record {
           inside = two_places t term list inside (changes.adds.places list list_in);
           held = both_held m t term list term_held held_still;
         } in
-        subst (λ g. IsRow s next ts g m t (rows.Answer ps zero))
+        subst (λ g. IsRow s next ts g m t (rows.Answer (Two term list) zero))
         (sym (gives_one q ts next s.used s.budget a ∙ has_room q next s.used s.budget a few (omega (arith, cost, fits))))
-        (ap (λ us. us ∷ []) there, (refl, (subst (λ k. Makes s next zero k t) cost changes, subst (ArePlaced m t) (sym items) placed)))
+        (ap (λ us. us ∷ []) there, (refl, (subst (λ k. Makes s next zero k t) cost changes, placed)))

@@ -1,8 +1,7 @@
 -- Copies of terms, their cells and their variables, however their names are spelled.
-use Rattle.std.proofs.Common.{◌≡◌, ℕ, zero, suc, ◌+◌, ◌<◌, ◌≤◌, ◌^◌, List, [], ◌∷◌, ◌++◌, length, map, codes, refl, sym, ap, ap₂, subst, ◌∙◌, arith}
-use Rattle.std.specs.Prelude.{IsSome, Vec}
+use Rattle.std.proofs.Common.{◌≡◌, ℕ, zero, suc, ◌+◌, ◌<◌, ◌≤◌, ◌^◌, List, ◌∷◌, ◌++◌, length, map, codes, refl, sym, ap, ap₂, subst, ◌∙◌, arith}
+use Rattle.std.specs.Prelude.{IsSome}
 use Rattle.std.specs.List.{All}
-use Rattle.std.specs.declared.alloc.Global.{Global}
 use Rattle.std.proofs.lemmas.List.{length-map}
 use Rattle.pl_term.specs.Tree.{Chars, Tree, Trees, var, int, atom, comp, none, more, count}
 use Rattle.pl_term.specs.Variables.{distinct, occurrences, occurrences_all, place, rename, rename_all_by, rename_by, variables}
@@ -15,8 +14,9 @@ use Rattle.atom_api.specs.Names.{Names}
 use Rattle.term_store.specs.declared.words.Place.{Place}
 use Rattle.term_store.specs.Contents.{Adds, Builds, Contents, Holds, term_at}
 use Rattle.term_store.proofs.Renumbering.{length-variables_renamed, raised_numbered, rename-raised, rename-rename}
+use Rattle.builtin_rows.specs.declared.row.Places.TheVariants.{Two}
 use Rattle.builtin_rows.specs.declared.row.Row.TheVariants as rows
-use Rattle.builtin_rows.specs.Rows.{Makes, terms_at}
+use Rattle.builtin_rows.specs.Rows.{Makes}
 use Rattle.world_builtins.specs.Naming.{IsHeldAt, atoms_in, atoms_in_all, number_of}
 use Rattle.world_builtins.specs.Spelling.{reads, spelled, spelled_all, text_of}
 use Rattle.builtin_term.specs.Giving.{IsGiven}
@@ -139,20 +139,19 @@ module _ (m : Names) (s u : Contents) (next : ℕ) (term copy : Place) (kept : T
   copy_held =
       subst (All P) (sym (ap atoms_in copied ∙ atoms_in-renamed (λ x. next + place x (variables (term_at s term))) (term_at s term))) held
 
-  pub copy_given : (v : Tree) (ps : Vec Place Global) (fresh : ℕ) → fresh ≡ length (variables kept) → ps.items ≡ term ∷ (copy ∷ []) → next + length (variables kept) < 2 ^ 64 → s.used + cells kept ≤ s.budget
-      → IsGiven s next (proc (codes "copy_term") 2) (copies next (reads m s term) v) m u (rows.Answer ps fresh)
-  copy_given v ps fresh new items few fits =
+  pub copy_given : (v : Tree) (fresh : ℕ) → fresh ≡ length (variables kept) → next + length (variables kept) < 2 ^ 64 → s.used + cells kept ≤ s.budget
+      → IsGiven s next (proc (codes "copy_term") 2) (copies next (reads m s term) v) m u (rows.Answer (Two term copy) fresh)
+  copy_given v fresh new few fits =
       let t = reads m s term in
       let n : length (variables t) ≡ length (variables kept) = kept_variables m s term kept is in
       let k : cells t ≡ cells kept = kept_cells m s term kept is in
       let a : Answer = record { terms = two t (rename next t); fresh = length (variables t); made = cells t } in
-      answer_given s next (proc (codes "copy_term") 2) m u a ps fresh (new ∙ sym n) (subst (λ l. next + l < 2 ^ 64) (sym n) few) (subst (λ l. s.used + l ≤ s.budget) (sym k) fits)
+      answer_given s next (proc (codes "copy_term") 2) m u a (Two term copy) fresh (new ∙ sym n) (subst (λ l. next + l < 2 ^ 64) (sym n) few) (subst (λ l. s.used + l ≤ s.budget) (sym k) fits)
       (ap₂ two (sym (ap (spelled (text_of m)) (makes.others term term_in)))
-      (rename-spelled (text_of m) next (term_at s term) ∙ ap (spelled (text_of m)) (sym copied)) ∙ ap (terms_at m u) (sym items))
+      (rename-spelled (text_of m) next (term_at s term) ∙ ap (spelled (text_of m)) (sym copied)))
       (subst (λ l. Makes s next l (cells t) u) (sym n) (subst (λ l. Makes s next (length (variables kept)) l u) (sym k) makes))
       (record {
-        inside = subst (All (Holds u)) (sym items) (all_two (Holds u) term copy (makes.adds.places term term_in) inside);
+        inside = all_two (Holds u) term copy (makes.adds.places term term_in) inside;
         held =
-            subst (All (IsHeldAt m u)) (sym items)
-            (all_two (IsHeldAt m u) term copy (subst (λ w. All P (atoms_in w)) (sym (makes.others term term_in)) held) copy_held);
+            all_two (IsHeldAt m u) term copy (subst (λ w. All P (atoms_in w)) (sym (makes.others term term_in)) held) copy_held;
       })

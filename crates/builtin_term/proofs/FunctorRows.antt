@@ -1,8 +1,7 @@
 -- functor/3.
 use Rattle.std.proofs.Common.{◌≡◌, ℕ, suc, ◌+◌, ◌*◌, ◌<◌, ◌≤◌, ◌^◌, Bool, true, false, ℤ, pos, List, [], ◌∷◌, map, length, if◌then◌else◌, Err, codes, refl, sym, ap, ap₂, subst, ◌∙◌, arith}
-use Rattle.std.specs.Prelude.{IsSome, Vec}
+use Rattle.std.specs.Prelude.{IsSome}
 use Rattle.std.specs.List.{All}
-use Rattle.std.specs.declared.alloc.Global.{Global}
 use Rattle.std.proofs.lemmas.List.{length-map}
 use Rattle.std.proofs.lemmas.List.Elements.{All-cons, All-nil}
 use Rattle.pl_term.proofs.Spelled.{count-trees}
@@ -16,6 +15,7 @@ use Rattle.atom_api.specs.Names.{Names}
 use Rattle.term_store.specs.declared.words.Place.{Place}
 use Rattle.term_store.specs.Heap.{atom_name}
 use Rattle.term_store.specs.Contents.{Contents, Holds, term_at, upwards}
+use Rattle.builtin_rows.specs.declared.row.Places.TheVariants.{Three}
 use Rattle.builtin_rows.specs.declared.row.Row.TheVariants as rows
 use Rattle.builtin_rows.specs.Rows.{Makes, terms_at}
 use Rattle.world_builtins.specs.Naming.{IsHeldAt, atoms_in}
@@ -52,22 +52,20 @@ module _ (m : Names) (s t : Contents) (next f k : ℕ) (term name arity : Place)
       let here : All P (f ∷ []) = subst (λ u. All P (atoms_in u)) stands name_held in
       subst (All P) (sym (ap atoms_in means ∙ atoms_of_functor (atom_name f) (upwards next k))) here
 
-  pub functor_made : (ps : Vec Place Global) → ps.items ≡ term ∷ (name ∷ (arity ∷ [])) → next + k < 2 ^ 64 → s.used + (2 * k + 1) ≤ s.budget
-      → IsGiven s next (proc (codes "functor") 3) (functor_row m s next f k name arity) m t (rows.Answer ps k)
-  functor_made ps items few fits =
+  pub functor_made : next + k < 2 ^ 64 → s.used + (2 * k + 1) ≤ s.budget
+      → IsGiven s next (proc (codes "functor") 3) (functor_row m s next f k name arity) m t (rows.Answer (Three term name arity) k)
+  functor_made few fits =
       let named : named_term (text_of m (atom_name f)) (new_variables next k) ≡ reads m t term =
       sym (ap (spelled (text_of m)) means ∙ functor_read (text_of m) (atom_name f) next k) in
-      let there : three (named_term (text_of m (atom_name f)) (new_variables next k)) (reads m s name) (reads m s arity) ≡ terms_at m t ps.items =
-      ap₂ (λ x y. three x y (reads m s arity)) named (still name name_in) ∙ ap (three (reads m t term) (reads m t name)) (still arity arity_in)
-      ∙ ap (terms_at m t) (sym items) in
+      let there : three (named_term (text_of m (atom_name f)) (new_variables next k)) (reads m s name) (reads m s arity) ≡ terms_at m t (term ∷ (name ∷ (arity ∷ []))) =
+      ap₂ (λ x y. three x y (reads m s arity)) named (still name name_in) ∙ ap (three (reads m t term) (reads m t name)) (still arity arity_in) in
       answer_given s next (proc (codes "functor") 3) m t
-      (record { terms = three (named_term (text_of m (atom_name f)) (new_variables next k)) (reads m s name) (reads m s arity); fresh = k; made = 2 * k + 1 }) ps k refl few fits
+      (record { terms = three (named_term (text_of m (atom_name f)) (new_variables next k)) (reads m s name) (reads m s arity); fresh = k; made = 2 * k + 1 }) (Three term name arity) k refl few fits
       there makes
       (record {
-        inside = subst (All (Holds t)) (sym items) (all_three (Holds t) term name arity inside (makes.adds.places name name_in) (makes.adds.places arity arity_in));
+        inside = all_three (Holds t) term name arity inside (makes.adds.places name name_in) (makes.adds.places arity arity_in);
         held =
-            subst (All (IsHeldAt m t)) (sym items)
-            (all_three (IsHeldAt m t) term name arity made_held (held_still name name_in name_held) (held_still arity arity_in arity_held));
+            all_three (IsHeldAt m t) term name arity made_held (held_still name name_in name_held) (held_still arity arity_in arity_held);
       })
 
 -- A compound name is refused, unless the number of arguments is unbound.

@@ -1,8 +1,7 @@
 -- Lists, as they stand in a store and as they are read.
 use Rattle.std.proofs.Common.{◌≡◌, ℕ, zero, suc, ◌+◌, ◌*◌, ◌<◌, ◌≤◌, ◌^◌, ◌==◌, ◌&&◌, if◌then◌else◌, Bool, true, false, List, [], ◌∷◌, ◌++◌, length, map, Result, Ok, Err, codes, refl, sym, ap, ap₂, subst, ◌∙◌, arith}
-use Rattle.std.specs.Prelude.{IsSome, Vec, bytes_eq}
+use Rattle.std.specs.Prelude.{IsSome, bytes_eq}
 use Rattle.std.specs.List.{All}
-use Rattle.std.specs.declared.alloc.Global.{Global}
 use Rattle.std.proofs.Math.Bool.{and-true}
 use Rattle.std.proofs.lemmas.Bool.{ne_eqb}
 use Rattle.std.proofs.lemmas.List.Elements.{All-append, All-cons, All-head, All-nil, All-tail}
@@ -19,9 +18,10 @@ use Rattle.term_store.specs.declared.words.Place.{Place}
 use Rattle.term_store.specs.Contents.{Contents, Holds, term_at}
 use Rattle.builtin_rows.specs.declared.lists.ListEnd.{ListEnd}
 use Rattle.builtin_rows.specs.declared.lists.ListEnd.TheVariants.{Closed, Open, Broken}
+use Rattle.builtin_rows.specs.declared.row.Places.TheVariants.{Two}
 use Rattle.builtin_rows.specs.declared.row.Row.TheVariants as rows
 use Rattle.builtin_rows.specs.Lists.{EndsAs, cells_of}
-use Rattle.builtin_rows.specs.Rows.{Makes, terms_at}
+use Rattle.builtin_rows.specs.Rows.{Makes}
 use Rattle.builtin_rows.proofs.Balls.{fixed_held, text_is}
 use Rattle.builtin_rows.proofs.Listing.{cell_is, nil_is}
 use Rattle.world_builtins.specs.Naming.{IsHeldAt, atoms_in}
@@ -129,17 +129,16 @@ module _ (m : Names) (stands : FixedStand m) (s u : Contents) (next : ℕ) (p : 
       subst (λ t. All P (atoms_in t)) (sym means)
       (cells_held P (map (term_at s) items) (fixed_held m stands list_cell_name (codes ".") cell_is) (fixed_held m stands nil_name (codes "[]") nil_is) (terms_held m s items items_held))
 
-  pub list_given : (ps : Vec Place Global) → ps.items ≡ first ∷ (list ∷ []) → made ≡ 3 * length items → next < 2 ^ 64 → s.used + made ≤ s.budget
-      → IsGiven s next (proc p 2) (list_row m s first items) m u (rows.Answer ps zero)
-  list_given ps items_are same few fits =
+  pub list_given : made ≡ 3 * length items → next < 2 ^ 64 → s.used + made ≤ s.budget
+      → IsGiven s next (proc p 2) (list_row m s first items) m u (rows.Answer (Two first list) zero)
+  list_given same few fits =
       let P : ℕ → Type 0 = λ a. IsSome (m a) in
       let a : Answer = record { terms = two (reads m s first) (list_term (map (reads m s) items)); fresh = zero; made = 3 * length items } in
-      answer_given s next (proc p 2) m u a ps zero refl (omega (arith, few)) (omega (arith, same, fits))
-      (ap₂ two (sym (ap (spelled (text_of m)) (makes.others first first_in))) list_reads ∙ ap (terms_at m u) (sym items_are))
+      answer_given s next (proc p 2) m u a (Two first list) zero refl (omega (arith, few)) (omega (arith, same, fits))
+      (ap₂ two (sym (ap (spelled (text_of m)) (makes.others first first_in))) list_reads)
       (subst (λ k. Makes s next zero k u) same makes)
       (record {
-        inside = subst (All (Holds u)) (sym items_are) (all_two (Holds u) first list (makes.adds.places first first_in) inside);
+        inside = all_two (Holds u) first list (makes.adds.places first first_in) inside;
         held =
-            subst (All (IsHeldAt m u)) (sym items_are)
-            (all_two (IsHeldAt m u) first list (subst (λ t. All P (atoms_in t)) (sym (makes.others first first_in)) first_held) list_held);
+            all_two (IsHeldAt m u) first list (subst (λ t. All P (atoms_in t)) (sym (makes.others first first_in)) first_held) list_held;
       })

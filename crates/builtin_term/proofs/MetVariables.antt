@@ -1,11 +1,14 @@
 -- The variables that were met are those of the term.
-use Rattle.std.proofs.Common.{◌≡◌, ℕ, zero, ◌+◌, ◌<◌, ◌≤◌, List, [], ◌∷◌, ◌++◌, length, get_or, map, take, refl, sym, ap, ap₂, ◌∙◌}
+use Rattle.std.proofs.Common.{◌≡◌, Bool, true, false, ℕ, zero, ◌+◌, ◌<◌, ◌≤◌, List, [], ◌∷◌, ◌++◌, length, get_or, map, take, refl, sym, ap, ap₂, ◌∙◌}
 use Rattle.std.specs.List.{All}
+use Rattle.std.proofs.lemmas.Bool.{false≢true}
 use Rattle.std.proofs.lemmas.List.{map_push, take_all, take_more}
 use Rattle.std.proofs.lemmas.List.Elements.{All-head, All-tail}
 use Rattle.pl_term.specs.Tree.{Tree, var, int, atom, comp}
 use Rattle.pl_term.specs.Variables.{has, is_in, occurrences, variables}
 use Rattle.pl_term.proofs.Distinct.{is_in-distinct}
+use Rattle.pl_model.specs.Terms.{is_ground}
+use Rattle.term_store.proofs.Grounding.{not_ground}
 use Rattle.term_store.specs.declared.words.Place.{Place}
 use Rattle.term_store.specs.Contents.{Contents, term_at}
 use Rattle.builtin_term.specs.declared.met_variables.Met.{Met}
@@ -42,3 +45,11 @@ met_all s t es ps i le all places stand x =
     sym (numbers_at s es all) ∙ sym (places_of s es) ∙ ap (λ qs. map number (map (term_at s) qs)) (places ∙ take_all i ps le)
     ∙ ap (map number) stand ∙ numbers_of (variables t) in
     ap (is_in x) same ∙ is_in-distinct x (occurrences t)
+
+-- A term without variables.
+pub none_met : (t : Tree) → true ≡ is_ground t → (x : ℕ) → is_in x (numbers []) ≡ has x t
+none_met t ground x = tells (has x t) refl
+  where
+    tells : (b : Bool) → has x t ≡ b → false ≡ b
+    tells false e = refl
+    tells true e = absurd (false≢true (not_ground t x e ∙ sym ground))

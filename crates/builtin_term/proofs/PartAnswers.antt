@@ -1,9 +1,8 @@
 -- Answers as they stand in a store.
 use Rattle.std.proofs.Common.{◌≡◌, ℕ, zero, ◌+◌, ◌<◌, ◌≤◌, ◌^◌, List, [], ◌∷◌, refl, sym, ap, subst, ◌∙◌, append-nil, arith}
-use Rattle.std.specs.Prelude.{IfNone, IfOk, IfSome, OnOk, Option, None, Some, Result, Ok, Err, Vec}
+use Rattle.std.specs.Prelude.{IfNone, IfOk, IfSome, OnOk, Option, None, Some, Result, Ok, Err}
 use Rattle.std.specs.List.{All}
 use Rattle.std.proofs.lemmas.List.Elements.{All-cons, All-nil}
-use Rattle.std.specs.declared.alloc.Global.{Global}
 use Rattle.pl_term.specs.Tree.{Tree, Trees}
 use Rattle.pl_model.specs.History.{Proc}
 use Rattle.pl_model.specs.Balls.{error_ball}
@@ -12,10 +11,11 @@ use Rattle.atom_api.specs.Names.{Names}
 use Rattle.term_store.specs.Contents.{Contents, Holds, numbers_of}
 use Rattle.world_builtins.specs.Naming.{IsHeldAt}
 use Rattle.term_store.specs.declared.words.Place.{Place}
+use Rattle.builtin_rows.specs.declared.row.Places.{Places}
 use Rattle.builtin_rows.specs.declared.row.Row.{Row}
 use Rattle.builtin_rows.specs.declared.row.Row.TheVariants as rows
 use Rattle.builtin_rows.specs.Given.{thrown, with_room}
-use Rattle.builtin_rows.specs.Rows.{ArePlaced, IsRow, Makes, terms_at}
+use Rattle.builtin_rows.specs.Rows.{ArePlaced, IsRow, Makes, listed, terms_at}
 use Rattle.builtin_rows.proofs.Giving.{gives_error, gives_none, gives_one}
 use Rattle.builtin_rows.proofs.Numbers.{has_room}
 use Rattle.builtin_term.specs.Giving.{IsGiven}
@@ -70,8 +70,8 @@ module _ (m : Names) (s t : Contents) (k : ℕ) (ps : List Place) (e : t ≡ rec
   placed_still inside held = subst (λ u. ArePlaced m u ps) (sym e) (record { inside = inside; held = held })
 
 module _ (s : Contents) (next : ℕ) (p : Proc) (m : Names) (t : Contents) where
-  pub answer_given : (a : Answer) (ps : Vec Place Global) (fresh : ℕ) → fresh ≡ a.fresh → next + a.fresh < 2 ^ 64 → s.used + a.made ≤ s.budget
-      → a.terms ≡ terms_at m t ps.items → Makes s next a.fresh a.made t → ArePlaced m t ps.items
+  pub answer_given : (a : Answer) (ps : Places) (fresh : ℕ) → fresh ≡ a.fresh → next + a.fresh < 2 ^ 64 → s.used + a.made ≤ s.budget
+      → a.terms ≡ terms_at m t (listed ps) → Makes s next a.fresh a.made t → ArePlaced m t (listed ps)
       → IsGiven s next p (gives (a ∷ [])) m t (rows.Answer ps fresh)
   answer_given a ps fresh new few fits is made placed ts =
       subst (λ g. IsRow s next ts g m t (rows.Answer ps fresh)) (sym (gives_one p ts next s.used s.budget a ∙ has_room p next s.used s.budget a few fits))

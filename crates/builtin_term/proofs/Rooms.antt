@@ -1,5 +1,5 @@
 -- Rows of predicates that make no terms.
-use Rattle.std.proofs.Common.{◌≡◌, ℕ, zero, ◌+◌, ◌<◌, ◌≤◌, ◌^◌, Bool, true, false, [], ◌∷◌, if◌then◌else◌, Vec, Global, Result, Ok, Err, Option, Some, None, IfOk, refl, sym, ap, ap₂, subst, ◌∙◌, arith}
+use Rattle.std.proofs.Common.{◌≡◌, ℕ, zero, ◌+◌, ◌<◌, ◌≤◌, ◌^◌, Bool, true, false, [], ◌∷◌, if◌then◌else◌, Result, Ok, Err, Option, Some, None, IfOk, refl, sym, ap, ap₂, subst, ◌∙◌, arith}
 use Rattle.std.specs.Prelude.{IfNone, IfSome, is_some, not}
 use Rattle.std.specs.List.{All}
 use Rattle.std.proofs.lemmas.Bool.{lt-leb, lt-ltb}
@@ -11,9 +11,10 @@ use Rattle.pl_model.specs.BuiltinRows.{gives, one_answer, plain_answer, test}
 use Rattle.pl_model.specs.Unify.{unify}
 use Rattle.atom_api.specs.Names.{Names}
 use Rattle.builtin_rows.specs.Given.{answered, full, given, thrown}
+use Rattle.builtin_rows.specs.declared.row.Places.{Places}
 use Rattle.builtin_rows.specs.declared.row.Row.{Row}
 use Rattle.builtin_rows.specs.declared.row.Row.TheVariants.{Answer, CellsFull, Fails, Holds}
-use Rattle.builtin_rows.specs.Rows.{IsRow, row_refusals, terms_at}
+use Rattle.builtin_rows.specs.Rows.{IsRow, listed, row_refusals, terms_at}
 use Rattle.builtin_rows.proofs.Balls.{makes_from, makes_nothing}
 use Rattle.builtin_rows.proofs.Giving.{gives_none, gives_plain}
 use Rattle.builtin_rows.proofs.Numbers.{has_room}
@@ -66,11 +67,11 @@ pub full_refuses : (s : Contents) (r : Row) → IsFull s r → row_refusals r �
 full_refuses s r is = ap row_refusals is.row
 
 -- The places of an answer.
-pub answer_stands : (s t : Contents) (ts : Trees) (m : Names) (ps : Vec Place Global) → t ≡ s → s.used ≤ s.budget → All (IsIn s) ps.items → All (IsHeldAt m s) ps.items
-    → Stands s ts (one_answer (terms_at m s ps.items)) m t (Answer ps zero)
+pub answer_stands : (s t : Contents) (ts : Trees) (m : Names) (ps : Places) → t ≡ s → s.used ≤ s.budget → All (IsIn s) (listed ps) → All (IsHeldAt m s) (listed ps)
+    → Stands s ts (one_answer (terms_at m s (listed ps))) m t (Answer ps zero)
 answer_stands s t ts m ps same fits inside held p next few =
-    subst (λ u. IsRow s next ts (given p ts next s.used s.budget (one_answer (terms_at m s ps.items))) m u (Answer ps zero)) (sym same)
-    (subst (λ g. IsRow s next ts g m s (Answer ps zero)) (sym (given_one s ts (terms_at m s ps.items) p next few fits))
+    subst (λ u. IsRow s next ts (given p ts next s.used s.budget (one_answer (terms_at m s (listed ps)))) m u (Answer ps zero)) (sym same)
+    (subst (λ g. IsRow s next ts g m s (Answer ps zero)) (sym (given_one s ts (terms_at m s (listed ps)) p next few fits))
     (refl, (refl, (makes_from next s s (makes_nothing s), record { inside = inside; held = held }))))
 
 -- By what was found of the cells.
@@ -95,10 +96,9 @@ differs_stand s d t same a b (Ok r) e tells h =
     λ m ts names. subst (λ q. Stands s ts (test (not q) ts) m t r) (tells m names) (subst (λ x. Stands x ts (test (not same) ts) m t r) e (h m ts))
 differs_stand s d t same a b (Err x) e tells h = tt
 
-pub both_stand : {E : Type 0} (s t : Contents) (result : Result Row E) (ps : Vec Place Global) (right : Place) → ps.items ≡ right ∷ (right ∷ [])
-    → IfOk result (λ r. (m : Names) (ts : Trees) → All (IsHeldAt m s) ps.items → Stands s ts (one_answer (terms_at m s ps.items)) m t r)
+pub both_stand : {E : Type 0} (s t : Contents) (result : Result Row E) (right : Place)
+    → IfOk result (λ r. (m : Names) (ts : Trees) → let ps = right ∷ (right ∷ []) in All (IsHeldAt m s) ps → Stands s ts (one_answer (terms_at m s ps)) m t r)
     → IfOk result (λ r. (m : Names) (ts : Trees) → IsHeldAt m s right → Stands s ts (one_answer (more (reads m s right) (more (reads m s right) none))) m t r)
-both_stand s t (Ok r) ps right e h =
-    λ m ts held. subst (λ l. Stands s ts (one_answer (terms_at m s l)) m t r) e
-    (h m ts (subst (All (IsHeldAt m s)) (sym e) (All-cons (IsHeldAt m s) right (right ∷ []) held (All-cons (IsHeldAt m s) right [] held (All-nil (IsHeldAt m s))))))
-both_stand s t (Err x) ps right e h = tt
+both_stand s t (Ok r) right h =
+    λ m ts held. h m ts (All-cons (IsHeldAt m s) right (right ∷ []) held (All-cons (IsHeldAt m s) right [] held (All-nil (IsHeldAt m s))))
+both_stand s t (Err x) right h = tt

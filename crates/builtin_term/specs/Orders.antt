@@ -5,6 +5,7 @@ use Rattle.std.specs.declared.cmp.Ordering.TheVariants.{Less, Equal, Greater}
 use Rattle.pl_term.specs.Tree.{Chars, Tree, var, int, atom, comp}
 use Rattle.builtin_rows.specs.declared.predicates.Comparison.{Comparison}
 use Rattle.builtin_rows.specs.declared.predicates.Comparison.TheVariants as by
+use Rattle.atom_api.specs.FixedNames.{equal_name, greater_name, less_name}
 use Rattle.term_store.specs.Heap.{atom_name}
 use Rattle.builtin_term.specs.declared.orders.Orders.{Orders}
 use Rattle.builtin_term.specs.declared.signs.Sign.{Sign}
@@ -28,12 +29,12 @@ admits w Greater = w.greater
 
 -- The numbers of the atoms `<`, `=` and `>`.
 abbrev pub sign_number : Ordering → ℕ
-sign_number Less = 14
-sign_number Equal = 16
-sign_number Greater = 22
+sign_number Less = less_name
+sign_number Equal = equal_name
+sign_number Greater = greater_name
 
 abbrev pub is_sign_name : Chars → Bool
-is_sign_name f = bytes_eq f (atom_name 14) || (bytes_eq f (atom_name 16) || bytes_eq f (atom_name 22))
+is_sign_name f = bytes_eq f (atom_name less_name) || (bytes_eq f (atom_name equal_name) || bytes_eq f (atom_name greater_name))
 
 -- What is wrong with the first argument of compare/3.
 abbrev pub sign_at : Tree → Sign

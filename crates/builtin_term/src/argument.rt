@@ -14,21 +14,14 @@ ghost use Rattle.builtin_term.specs.Giving.{IsGiven};
 use crate::answers::answer;
 use crate::faults::{Fault, Kind, raise, unbound_or};
 use atom_api::fixed;
-use builtin_rows::Row;
+use builtin_rows::{Places, Row};
 use pl_term::Memory;
-use std::alloc::Global;
 use term_store::{Arguments, Place, Store, View};
 
 /// arg/3 (ISO/IEC 13211-1:1995, 8.5.2): the argument of a compound term that has this number, counted from 1. It fails where
 /// there is none. An argument that is unbound gives an instantiation error; a number that is no integer, and a term that is not
 /// compound, a type error; a negative number a domain error. The only error of the call is out of memory.
-pub fn arg(
-    alloc: Global,
-    store: &mut Store,
-    number: Place,
-    term: Place,
-    next: u64,
-) -> Result<Row, Memory>
+pub fn arg(store: &mut Store, number: Place, term: Place, next: u64) -> Result<Row, Memory>
     requires number { Holds store.old number }
     requires term { Holds store.old term }
     ensures row { IfOk result (λ r. (m : Names) (argument : Tree) → FixedStand m → IsHeldAt m store.old number → IsHeldAt m store.old term
@@ -40,7 +33,7 @@ pub fn arg(
         Err(fault) => raise(store, fault, fixed::ARG, 3),
         Ok(None) => Ok(Row::Fails),
         Ok(Some(argument)) => {
-            let places = vec![in alloc; number, term, argument]?;
+            let places = Places::Three(number, term, argument);
             answer(store, places, next, fixed::ARG, 3)
         }
     }

@@ -18,7 +18,7 @@ use crate::orders::{admits, orders_of, sign_of};
 use crate::room::{answered, tested};
 use crate::signs::{Sign, sign_at};
 use atom_api::{Atoms, fixed};
-use builtin_rows::{Comparison, Row, refused_for};
+use builtin_rows::{Comparison, Places, Row, refused_for};
 use pl_term::Memory;
 use std::alloc::Global;
 use term_store::{Place, Store};
@@ -77,7 +77,7 @@ pub fn compare<A: Atoms>(
     match sign_at(store, order) {
         Sign::Fits => {
             let found = compare_places(alloc, store, left, right, atoms)?;
-            let places = vec![in alloc; Place::atom(sign_of(found)), left, right]?;
+            let places = Places::Three(Place::atom(sign_of(found)), left, right);
             answered(store, places)
         }
         Sign::NoAtom => refused_for(

@@ -16,7 +16,7 @@ ghost use Rattle.builtin_term.specs.Composition.{IsAlone, IsName, composed_row};
 use crate::answers::answer;
 use crate::faults::{Fault, Kind, raise};
 use atom_api::{Atom, fixed};
-use builtin_rows::{ListEnd, Row, list_elements, take_room};
+use builtin_rows::{ListEnd, Places, Row, list_elements, take_room};
 use pl_term::Memory;
 use std::alloc::Global;
 use term_store::{Place, Store, View};
@@ -37,18 +37,12 @@ pub fn compose(alloc: Global, store: &mut Store, list: Place, next: u64) -> Resu
             let fault = Fault::Mistyped(Kind::List, list);
             raise(store, fault, fixed::UNIV, 2)
         }
-        ListEnd::Closed => compose_all(alloc, store, list, &elements, next),
+        ListEnd::Closed => compose_all(store, list, &elements, next),
     }
 }
 
 /// The same, where these are the elements of the list.
-fn compose_all(
-    alloc: Global,
-    store: &mut Store,
-    list: Place,
-    elements: &[Place],
-    next: u64,
-) -> Result<Row, Memory>
+fn compose_all(store: &mut Store, list: Place, elements: &[Place], next: u64) -> Result<Row, Memory>
     requires list { Holds store.old list }
     requires elements { All (Holds store.old) elements.now }
     ensures row { IfOk result (λ r. (m : Names) → FixedStand m → IsHeldAt m store.old list → All (IsHeldAt m store.old) elements.now
@@ -62,20 +56,14 @@ fn compose_all(
     let first = elements[0];
     let rest = &elements[1..];
     if rest.is_empty() {
-        compose_atomic(alloc, store, list, first, next)
+        compose_atomic(store, list, first, next)
     } else {
-        compose_compound(alloc, store, list, first, rest, next)
+        compose_compound(store, list, first, rest, next)
     }
 }
 
 /// The same for a list of one element.
-fn compose_atomic(
-    alloc: Global,
-    store: &mut Store,
-    list: Place,
-    first: Place,
-    next: u64,
-) -> Result<Row, Memory>
+fn compose_atomic(store: &mut Store, list: Place, first: Place, next: u64) -> Result<Row, Memory>
     requires list { Holds store.old list }
     requires first { Holds store.old first }
     ensures row { IfOk result (λ r. (m : Names) → FixedStand m → IsHeldAt m store.old list → IsHeldAt m store.old first
@@ -86,7 +74,7 @@ fn compose_atomic(
     match atomic_fault(store, first) {
         Some(fault) => raise(store, fault, fixed::UNIV, 2),
         None => {
-            let places = vec![in alloc; first, list]?;
+            let places = Places::Two(first, list);
             answer(store, places, next, fixed::UNIV, 2)
         }
     }
@@ -94,7 +82,6 @@ fn compose_atomic(
 
 /// The same for a list of more elements: the first, and the rest, of which there are some.
 fn compose_compound(
-    alloc: Global,
     store: &mut Store,
     list: Place,
     first: Place,
@@ -112,13 +99,12 @@ fn compose_compound(
 {
     match name_at(store, first) {
         Err(fault) => raise(store, fault, fixed::UNIV, 2),
-        Ok(name) => make_composed(alloc, store, list, name, rest, next),
+        Ok(name) => make_composed(store, list, name, rest, next),
     }
 }
 
 /// The answer in which the compound term of this name and these arguments, of which there are some, is made.
 fn make_composed(
-    alloc: Global,
     store: &mut Store,
     list: Place,
     name: Atom,
@@ -139,7 +125,7 @@ fn make_composed(
         Some(row) => Ok(row),
         None => {
             let term = store.make_compound(name, arguments)?;
-            let places = vec![in alloc; term, list]?;
+            let places = Places::Two(term, list);
             Ok(Row::Answer { places, fresh: 0 })
         }
     }

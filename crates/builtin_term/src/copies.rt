@@ -14,7 +14,7 @@ ghost use Rattle.builtin_term.specs.Giving.{IsGiven};
 
 use crate::variable_walk::variables_at;
 use atom_api::fixed;
-use builtin_rows::{Row, take_room};
+use builtin_rows::{Places, Row, take_room};
 use pl_term::Memory;
 use std::alloc::Global;
 use term_store::{Place, Store, Stored};
@@ -34,7 +34,7 @@ pub fn copy_term(alloc: Global, store: &mut Store, term: Place, next: u64) -> Re
         return refuse_copy(alloc, store, term, next);
     }
     let kept = store.save(term)?;
-    copy_kept(alloc, store, &kept, term, next)
+    copy_kept(store, &kept, term, next)
 }
 
 /// The row of a copy whose cells do not fit. The cells are counted, and no copy is made. The only error is out of memory, which
@@ -62,13 +62,7 @@ fn refuse_copy(alloc: Global, store: &mut Store, term: Place, next: u64) -> Resu
 }
 
 /// The same, where the term is kept outside of the store.
-fn copy_kept(
-    alloc: Global,
-    store: &mut Store,
-    kept: &Stored,
-    term: Place,
-    next: u64,
-) -> Result<Row, Memory>
+fn copy_kept(store: &mut Store, kept: &Stored, term: Place, next: u64) -> Result<Row, Memory>
     requires term { Holds store.old term }
     requires above { IsAbove next store.old }
     requires kept { kept.now ≡ rename zero (term_at store.old term) }
@@ -83,9 +77,8 @@ fn copy_kept(
         Some(row) => Ok(row),
         None => {
             let copy = store.build(kept, next)?;
-            let places = vec![in alloc; term, copy]?;
             Ok(Row::Answer {
-                places,
+                places: Places::Two(term, copy),
                 fresh: count,
             })
         }

@@ -42,11 +42,11 @@ pub fn univ(
 {
     match store.look(term) {
         View::Variable(_) => compose(alloc, store, list, next),
-        View::Integer(_) => list_answer(alloc, store, term, &[term], next, fixed::UNIV),
-        View::Atom(_) => list_answer(alloc, store, term, &[term], next, fixed::UNIV),
+        View::Integer(_) => list_answer(store, term, &[term], next, fixed::UNIV),
+        View::Atom(_) => list_answer(store, term, &[term], next, fixed::UNIV),
         View::Compound(name, arguments) => {
             let parts = parts_at(alloc, store, name, arguments)?;
-            list_answer(alloc, store, term, &parts, next, fixed::UNIV)
+            list_answer(store, term, &parts, next, fixed::UNIV)
         }
     }
 }

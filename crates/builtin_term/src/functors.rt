@@ -16,7 +16,7 @@ ghost use Rattle.builtin_term.specs.Giving.{IsFresh, IsGiven};
 use crate::answers::answer;
 use crate::faults::{Fault, Kind, raise, unbound_or};
 use atom_api::{Atom, fixed};
-use builtin_rows::{Row, take_room};
+use builtin_rows::{Places, Row, take_room};
 use pl_term::Memory;
 use std::alloc::Global;
 use term_store::{Place, Store, View};
@@ -54,27 +54,19 @@ pub fn functor(
 {
     match store.look(term) {
         View::Variable(_) => construct(alloc, store, name, arity, next),
-        View::Integer(_) => answer_functor(alloc, store, term, term, Place::integer(0), next),
-        View::Atom(_) => answer_functor(alloc, store, term, term, Place::integer(0), next),
+        View::Integer(_) => answer_functor(store, term, term, Place::integer(0), next),
+        View::Atom(_) => answer_functor(store, term, term, Place::integer(0), next),
         View::Compound(f, arguments) => {
             let Ok(count) = i64::try_from(arguments.len()) else {
                 return Err(Memory);
             };
-            answer_functor(
-                alloc,
-                store,
-                term,
-                Place::atom(f),
-                Place::integer(count),
-                next,
-            )
+            answer_functor(store, term, Place::atom(f), Place::integer(count), next)
         }
     }
 }
 
 /// The answer in which the terms at these places are the arguments of functor/3.
 fn answer_functor(
-    alloc: Global,
     store: &mut Store,
     term: Place,
     name: Place,
@@ -89,7 +81,7 @@ fn answer_functor(
     ensures refuses { IfOk result (λ r. row_refusals r ≡ []) }
     ensures single { IfOk result IsSingle }
 {
-    let places = vec![in alloc; term, name, arity]?;
+    let places = Places::Three(term, name, arity);
     answer(store, places, next, fixed::FUNCTOR, 3)
 }
 
@@ -112,7 +104,7 @@ fn construct(
     match check_name(store, name, arity) {
         Err(fault) => raise(store, fault, fixed::FUNCTOR, 3),
         Ok(want) => match want {
-            Wanted::Itself => answer_functor(alloc, store, name, name, arity, next),
+            Wanted::Itself => answer_functor(store, name, name, arity, next),
             Wanted::Compound(f, count) => make_functor(alloc, store, f, count, name, arity, next),
         },
     }
@@ -145,9 +137,8 @@ fn make_functor(
         None => {
             let arguments = make_variables(alloc, store, next, count)?;
             let term = store.make_compound(f, &arguments)?;
-            let places = vec![in alloc; term, name, arity]?;
             Ok(Row::Answer {
-                places,
+                places: Places::Three(term, name, arity),
                 fresh: count,
             })
         }

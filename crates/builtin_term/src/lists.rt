@@ -14,7 +14,7 @@ ghost use Rattle.builtin_term.specs.Giving.{list_row, IsGiven};
 ghost use Rattle.builtin_rows.specs.Lists.{IsNaming};
 
 use atom_api::Atom;
-use builtin_rows::{ListEnd, Row, list_elements, make_list, take_room};
+use builtin_rows::{ListEnd, Places, Row, list_elements, make_list, take_room};
 use pl_term::Memory;
 use std::alloc::Global;
 use term_store::{Place, Store};
@@ -36,7 +36,6 @@ pub fn is_list_or_partial(alloc: Global, store: &Store, place: Place) -> Result<
 /// The answer of the predicate with this name and two arguments: a term, and the list of the terms at these places, which is
 /// made. The only error is out of memory.
 pub fn list_answer(
-    alloc: Global,
     store: &mut Store,
     first: Place,
     items: &[Place],
@@ -58,8 +57,10 @@ pub fn list_answer(
         Some(row) => Ok(row),
         None => {
             let list = make_list(store, items)?;
-            let places = vec![in alloc; first, list]?;
-            Ok(Row::Answer { places, fresh: 0 })
+            Ok(Row::Answer {
+                places: Places::Two(first, list),
+                fresh: 0,
+            })
         }
     }
 }

@@ -18,7 +18,7 @@ pub struct Met {
 }
 
 /// The variables that occur in the term at a place. The only error is out of memory.
-pub fn met_variables(alloc: Global, store: &Store, term: Place) -> Result<Vec<Met>, Memory>
+fn met_variables(alloc: Global, store: &Store, term: Place) -> Result<Vec<Met>, Memory>
     requires { Holds store.now term }
     ensures places { IfOk result (λ v. All (IsMet store.now) v.items) }
     ensures all { IfOk result (λ v. (x : ℕ) → is_in x (numbers v.items) ≡ has x (term_at store.now term)) }
@@ -30,6 +30,19 @@ pub fn met_variables(alloc: Global, store: &Store, term: Place) -> Result<Vec<Me
         met.push(next)?;
     }
     Ok(met)
+}
+
+/// The same, where a term that has none takes no memory.
+pub fn variables_in(alloc: Global, store: &mut Store, term: Place) -> Result<Vec<Met>, Memory>
+    requires { Holds store.old term }
+    ensures same { store.new ≡ store.old }
+    ensures places { IfOk result (λ v. All (IsMet store.old) v.items) }
+    ensures all { IfOk result (λ v. (x : ℕ) → is_in x (numbers v.items) ≡ has x (term_at store.old term)) }
+{
+    if store.is_ground(term)? {
+        return Ok(Vec::new(alloc));
+    }
+    met_variables(alloc, store, term)
 }
 
 /// The variable at a place. The only error is that none stands there.

@@ -11,6 +11,7 @@ ghost use Rattle.builtin_term.specs.Pending.{AreSame, Gains, IsPairAt, Opens};
 
 use crate::course::Course;
 use pl_term::Memory;
+use smallvec::SmallVec;
 use std::alloc::Global;
 use term_store::{Arguments, Place, Store, View};
 
@@ -21,11 +22,23 @@ pub struct Pair {
     pub right: Place,
 }
 
+impl Default for Pair {
+    fn default() -> Pair {
+        Pair {
+            left: Place::integer(0),
+            right: Place::integer(0),
+        }
+    }
+}
+
+/// A stack of pairs, which takes no memory for the first few.
+pub type Pairs = SmallVec<Pair, 8>;
+
 /// What a comparison has still to do: the pairs that are to be compared, the first on top, and the compound terms that it is
 /// within or has left.
 #[derive(Drop)]
 pub struct Comparing {
-    pub pairs: Vec<Pair>,
+    pub pairs: Pairs,
     pub course: Course,
 }
 
@@ -33,7 +46,7 @@ impl Comparing {
     /// Nothing to do.
     pub fn new(alloc: Global) -> Comparing {
         Comparing {
-            pairs: Vec::new(alloc),
+            pairs: SmallVec::new(alloc),
             course: Course::new(alloc),
         }
     }
@@ -102,7 +115,7 @@ fn enter_arguments(
 /// Puts the pairs of arguments on the stack, the last ones first.
 fn push_pairs(
     store: &Store,
-    pending: &mut Vec<Pair>,
+    pending: &mut Pairs,
     left: Arguments,
     right: Arguments,
 ) -> Result<(), Memory>

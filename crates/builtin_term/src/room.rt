@@ -4,14 +4,14 @@ ghost use Rattle.std.specs.List.{All};
 ghost use Rattle.pl_term.specs.Tree.{Trees};
 ghost use Rattle.pl_model.specs.BuiltinRows.{one_answer, test};
 ghost use Rattle.atom_api.specs.Names.{Names};
-ghost use Rattle.builtin_rows.specs.Rows.{IsSingle, row_refusals, terms_at};
+ghost use Rattle.builtin_rows.specs.Rows.{IsSingle, listed, row_refusals, terms_at};
 ghost use Rattle.term_store.specs.Contents.{Holds};
 ghost use Rattle.world_builtins.specs.Naming.{IsHeldAt};
 ghost use Rattle.builtin_term.specs.TestRows.{IsFull, Stands};
 
-use builtin_rows::Row;
+use builtin_rows::{Places, Row};
 use pl_term::Memory;
-use term_store::{Place, Store, StoreFault};
+use term_store::{Store, StoreFault};
 
 /// None where no more cells are used than may be. Else the row of that. The only error is out of memory.
 fn overdrawn(store: &mut Store) -> Result<Option<Row>, Memory>
@@ -55,10 +55,10 @@ fn succeeded(store: &mut Store) -> Result<Row, Memory>
 }
 
 /// The row of a predicate with one answer, which is what stands at some places. The only error is out of memory.
-pub fn answered(store: &mut Store, places: Vec<Place>) -> Result<Row, Memory>
-    requires { All (Holds store.old) places.items }
-    ensures row { IfOk result (λ r. (m : Names) (ts : Trees) → All (IsHeldAt m store.old) places.items
-        → Stands store.old ts (one_answer (terms_at m store.old places.items)) m store.new r) }
+pub fn answered(store: &mut Store, places: Places) -> Result<Row, Memory>
+    requires { All (Holds store.old) (listed places) }
+    ensures row { IfOk result (λ r. (m : Names) (ts : Trees) → All (IsHeldAt m store.old) (listed places)
+        → Stands store.old ts (one_answer (terms_at m store.old (listed places))) m store.new r) }
     ensures refuses { IfOk result (λ r. row_refusals r ≡ []) }
     ensures single { IfOk result IsSingle }
 {

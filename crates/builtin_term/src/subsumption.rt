@@ -9,7 +9,7 @@ ghost use Rattle.term_store.specs.Contents.{Holds};
 ghost use Rattle.world_builtins.specs.Spelling.{reads};
 ghost use Rattle.builtin_term.specs.TestRows.{AreNames, Stands};
 
-use crate::met_variables::met_variables;
+use crate::met_variables::variables_in;
 use crate::renaming::is_renaming;
 use crate::room::tested;
 use builtin_rows::Row;
@@ -49,7 +49,7 @@ fn is_subsumed(
     ensures subsumed { IfOk result (λ b. (m : Names) → AreNames m → let t = reads m store.old general in let u = reads m store.old specific in
         b ≡ renames_only u (unify t u)) }
 {
-    let met = met_variables(alloc, store, specific)?;
+    let met = variables_in(alloc, store, specific)?;
     let mark = store.mark();
     if !store.unify(general, specific)? {
         return Ok(false);

@@ -11,21 +11,19 @@ ghost use Rattle.world_builtins.specs.Spelling.{reads};
 ghost use Rattle.builtin_term.specs.TestRows.{AreNames, Stands};
 
 use crate::room::{answered, tested};
-use builtin_rows::Row;
+use builtin_rows::{Places, Row};
 use pl_term::Memory;
-use std::alloc::Global;
 use term_store::{Place, Store};
 
 /// =/2 and unify_with_occurs_check/2 (ISO 8.2.1, 8.2.2): both arguments are the second one. The only error is out of memory.
-pub fn unifies(alloc: Global, store: &mut Store, right: Place) -> Result<Row, Memory>
+pub fn unifies(store: &mut Store, right: Place) -> Result<Row, Memory>
     requires { Holds store.old right }
     ensures row { IfOk result (λ r. (m : Names) (ts : Trees) → IsHeldAt m store.old right
         → let t = reads m store.old right in Stands store.old ts (one_answer (more t (more t none))) m store.new r) }
     ensures refuses { IfOk result (λ r. row_refusals r ≡ []) }
     ensures single { IfOk result IsSingle }
 {
-    let places = vec![in alloc; right, right]?;
-    answered(store, places)
+    answered(store, Places::Two(right, right))
 }
 
 /// \=/2 (ISO 8.2.3): whether no bindings unify the terms at both places. Nothing is bound. The only error is out of memory.

@@ -56,5 +56,5 @@ fn list_variables(alloc: Global, store: &mut Store, term: Place, next: u64) -> R
     ensures single { IfOk result IsSingle }
 {
     let items = variables_at(alloc, store, term)?;
-    list_answer(alloc, store, term, &items, next, fixed::TERM_VARIABLES)
+    list_answer(store, term, &items, next, fixed::TERM_VARIABLES)
 }

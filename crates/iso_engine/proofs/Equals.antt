@@ -1,9 +1,6 @@
 -- Term unification as a step.
-use Rattle.std.proofs.Common.{◌≡◌, ◌≢◌, ◌⊎◌, inl, inr, ℕ, Bool, true, false, not, ◌==◌, List, [], ◌∷◌, length, get_or, codes, Some, refl, sym, ap, ap₂, subst, ◌∙◌}
-use Rattle.std.specs.Str.{bytes_eq}
-use Rattle.std.proofs.lemmas.Bool.{true≢false}
-use Rattle.std.proofs.lemmas.Bool.Decides.{eqb_tells}
-use Rattle.pl_term.specs.Tree.{Chars, Tree, atom, comp, none, more, compound}
+use Rattle.std.proofs.Common.{◌≡◌, ℕ, Bool, true, false, [], get_or, codes, Some, refl, sym, ap, ap₂, subst, ◌∙◌}
+use Rattle.pl_term.specs.Tree.{Tree, atom, comp, none, more, compound}
 use Rattle.pl_model.specs.BuiltinRows.{one_answer}
 use Rattle.pl_model.specs.BuiltinRows as basic
 use Rattle.pl_model.specs.Builtins.{row}
@@ -26,7 +23,7 @@ use Rattle.iso_search.specs.Searching.{node_of}
 use Rattle.iso_search.specs.Reading.{IsView, View, reads}
 use Rattle.iso_search.specs.Spelling.{spelled, text_of}
 use Rattle.iso_search.proofs.Constructing.{how_many, shape_two}
-use Rattle.iso_search.proofs.Naming.{is_named, text_is}
+use Rattle.iso_search.proofs.Naming.{text_is}
 
 pub equal_text : fixed equal_name ≡ Some (codes "=")
 unfolding fixed_texts

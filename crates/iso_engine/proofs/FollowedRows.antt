@@ -1,9 +1,7 @@
 -- What a row of places leads to is the step of the definition.
-use Rattle.std.proofs.Common.{◌≡◌, ℕ, zero, true, false, ◌+◌, ◌<◌, ◌≤◌, ◌^◌, ◌⊎◌, inl, inr, nat_le, List, [], ◌∷◌, map, reverse, Option, Some, None, Vec, refl, sym, ap, ap₂, subst, ◌∙◌, add-zero, arith}
-use Rattle.std.specs.declared.alloc.Global.{Global}
+use Rattle.std.proofs.Common.{◌≡◌, ℕ, zero, true, false, ◌+◌, ◌<◌, ◌^◌, List, [], ◌∷◌, map, Option, Some, None, refl, sym, ap, ap₂, subst, ◌∙◌, add-zero, arith}
 use Rattle.std.specs.List.{All}
 use Rattle.std.specs.Option.{option_map}
-use Rattle.std.proofs.lemmas.Bool.Decides.{leb_tells}
 use Rattle.std.proofs.lemmas.List.Elements.{All-head, All-tail}
 use Rattle.pl_term.specs.Tree.{Chars, Tree, Trees, var, int, atom, comp, more, trees}
 use Rattle.pl_model.specs.Balls.{error_ball, no_cells}
@@ -32,10 +30,11 @@ use Rattle.iso_search.proofs.Instances.{node-bound}
 use Rattle.iso_search.proofs.Over.{state_by}
 use Rattle.iso_search.proofs.Spelt.{bound-spelled, solve_all-spelled}
 use Rattle.iso_engine.proofs.OutputSteps.{read_held}
+use Rattle.builtin_rows.specs.declared.row.Places.{Places}
 use Rattle.builtin_rows.specs.declared.row.Row.{Row}
 use Rattle.builtin_rows.specs.declared.row.Row.TheVariants.{Answer, Ball, CellsFull, Fails, Holds}
 use Rattle.builtin_rows.specs.Given.{Given, answered, full, given, lined, thrown}
-use Rattle.builtin_rows.specs.Rows.{ArePlaced, IsRow, Makes, terms_at}
+use Rattle.builtin_rows.specs.Rows.{ArePlaced, IsRow, Makes, listed, terms_at}
 use Rattle.iso_engine.specs.Leading.{AreUnified, IsRowMade, Origin, as_before}
 use Rattle.iso_engine.proofs.Giving.{answer_gives, ball_gives, full_gives, given_beside, holds_gives}
 use Rattle.iso_engine.proofs.Grown.{choices_still, keeps_tasks, node_still, over, whole_still}
@@ -227,16 +226,16 @@ module _ (x : Origin) (at : Place) (e : Search) (w : Place) (m : IsRowMade x at 
       let makes = thrown_ball.0 in
       record { budgets = refl; inside = (thrown_ball.1.0, keeps_tasks e x.store e.store makes.adds m.whole makes.others e.next_variable) }
 
-module _ (x : Origin) (at : Place) (e : Search) (ps : Vec Place Global) (fresh : ℕ) (m : IsRowMade x at e (Answer ps fresh)) where
+module _ (x : Origin) (at : Place) (e : Search) (ps : Places) (fresh : ℕ) (m : IsRowMade x at e (Answer ps fresh)) where
   abbrev gives : (k : ℕ)
-      × ((told x at e (Answer ps fresh) m ≡ answered (terms_at x.after e.store ps.items ∷ []) fresh k)
-      × (Makes x.store e.next_variable fresh k e.store × ArePlaced x.after e.store ps.items))
+      × ((told x at e (Answer ps fresh) m ≡ answered (terms_at x.after e.store (listed ps) ∷ []) fresh k)
+      × (Makes x.store e.next_variable fresh k e.store × ArePlaced x.after e.store (listed ps)))
   gives = answer_gives x.store e.next_variable x.terms x.after e.store ps fresh (told x at e (Answer ps fresh) m) m.made
 
   makes : Makes x.store e.next_variable fresh gives.0 e.store
   makes = gives.1.1.0
 
-  placed : ArePlaced x.after e.store ps.items
+  placed : ArePlaced x.after e.store (listed ps)
   placed = gives.1.1.1
 
   pub answer_goal : IsIn e.store at
@@ -244,7 +243,7 @@ module _ (x : Origin) (at : Place) (e : Search) (ps : Vec Place Global) (fresh :
 
   pub answer_numbers : e.next_variable + fresh < 2 ^ 64
   answer_numbers =
-      (led_by x at e (Answer ps fresh) m (any_setting x.after) (λ a text h. h) zero (answered (terms_at x.after e.store ps.items ∷ []) fresh gives.0) gives.1.0).0
+      (led_by x at e (Answer ps fresh) m (any_setting x.after) (λ a text h. h) zero (answered (terms_at x.after e.store (listed ps) ∷ []) fresh gives.0) gives.1.0).0
 
   -- The search after the answer was unified, or was not.
   module _ (u : Contents) (adds : Adds e.store u) (size : SameSize e.store u) where
@@ -274,18 +273,18 @@ module _ (x : Origin) (at : Place) (e : Search) (ps : Vec Place Global) (fresh :
       lefts = arguments (term_at e.store at)
 
       abbrev rights : Trees
-      rights = trees (map (term_at e.store) ps.items)
+      rights = trees (map (term_at e.store) (listed ps))
 
       answer_led_by : LedTo (limits_in t (as_before x e)) here node x.predicate (arguments (reads t.view x.store at)) definition
-          (answered (terms_at x.after e.store ps.items ∷ []) fresh gives.0)
-      answer_led_by = led_by x at e (Answer ps fresh) m t known rest (answered (terms_at x.after e.store ps.items ∷ []) fresh gives.0) gives.1.0
+          (answered (terms_at x.after e.store (listed ps) ∷ []) fresh gives.0)
+      answer_led_by = led_by x at e (Answer ps fresh) m t known rest (answered (terms_at x.after e.store (listed ps) ∷ []) fresh gives.0) gives.1.0
 
-      solved_read : solve_all [] (arguments (reads t.view x.store at)) (terms_at x.after e.store ps.items)
+      solved_read : solve_all [] (arguments (reads t.view x.store at)) (terms_at x.after e.store (listed ps))
           ≡ option_map (spelled_bindings g) (solve_all [] lefts rights)
       solved_read =
           ap₂ (solve_all [])
           (arguments_spelled g (term_at x.store at) ∙ ap (λ w. spelled_all g (arguments w)) (sym (makes.others at m.inside)))
-          (places_read x.after t.view known e.store ps.items placed)
+          (places_read x.after t.view known e.store (listed ps) placed)
           ∙ solve_all-spelled g view.apart [] lefts rights
 
       led_on : (o : Option Bindings) → solve_all [] lefts rights ≡ o

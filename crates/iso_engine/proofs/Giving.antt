@@ -12,9 +12,10 @@ use Rattle.term_store.specs.declared.words.Place.{Place}
 use Rattle.term_store.specs.Contents.{Contents, Holds as IsIn}
 use Rattle.world_builtins.specs.Naming.{IsHeldAt}
 use Rattle.world_builtins.specs.Spelling.{reads}
-use Rattle.builtin_rows.specs.declared.row.Row.TheVariants.{Fails, Holds, Answer, Line, Ball, CellsFull}
+use Rattle.builtin_rows.specs.declared.row.Places.{Places}
+use Rattle.builtin_rows.specs.declared.row.Row.TheVariants.{Holds, Answer, Line, Ball, CellsFull}
 use Rattle.builtin_rows.specs.Given.{Given, answered, full, given, lined, thrown}
-use Rattle.builtin_rows.specs.Rows.{ArePlaced, IsRow, Makes, terms_at}
+use Rattle.builtin_rows.specs.Rows.{ArePlaced, IsRow, Makes, listed, terms_at}
 
 module _ (s : Contents) (next : ℕ) (ts : Trees) (n : Names) (t : Contents) where
   pub holds_gives : (g : Given) → IsRow s next ts g n t Holds → (g ≡ answered (ts ∷ []) zero zero) × (t ≡ s)
@@ -37,8 +38,8 @@ module _ (s : Contents) (next : ℕ) (ts : Trees) (n : Names) (t : Contents) whe
   ball_gives w (thrown b) h = (ap thrown h.0, h.1)
   ball_gives w (full m) h = absurd h
 
-  pub answer_gives : (ps : Vec Place Global) (fresh : ℕ) (g : Given) → IsRow s next ts g n t (Answer ps fresh)
-      → (k : ℕ) × ((g ≡ answered (terms_at n t ps.items ∷ []) fresh k) × (Makes s next fresh k t × ArePlaced n t ps.items))
+  pub answer_gives : (ps : Places) (fresh : ℕ) (g : Given) → IsRow s next ts g n t (Answer ps fresh)
+      → (k : ℕ) × ((g ≡ answered (terms_at n t (listed ps) ∷ []) fresh k) × (Makes s next fresh k t × ArePlaced n t (listed ps)))
   answer_gives ps fresh (answered xs f k) h = (
     k,
     (

@@ -1,5 +1,5 @@
 -- A search whose store has gained terms, variables and cells.
-use Rattle.std.proofs.Common.{◌≡◌, ◌≤◌, ℕ, List, map, reverse, refl, ap, ◌∙◌}
+use Rattle.std.proofs.Common.{◌≡◌, ◌≤◌, ℕ, List, map, reverse, refl, ap}
 use Rattle.pl_term.specs.Tree.{Tree}
 use Rattle.pl_model.specs.Resolution.{Node, Pending, goal, collect}
 use Rattle.term_store.specs.declared.words.Place.{Place}

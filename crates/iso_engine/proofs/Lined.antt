@@ -5,14 +5,13 @@ use Rattle.std.specs.List.{All}
 use Rattle.pl_term.specs.Tree.{Tree, Trees, trees}
 use Rattle.pl_model.specs.Balls.{error_ball, no_choices}
 use Rattle.pl_model.specs.BuiltinRows.{Answer, plain_answer, table, unifying}
-use Rattle.pl_model.specs.BuiltinRows as defined
-use Rattle.pl_model.specs.Control.{answer_tried, failed, first_answer, next_answer, raised, several, with_row}
+use Rattle.pl_model.specs.Control.{answer_tried, first_answer, next_answer, raised, several, with_row}
 use Rattle.pl_model.specs.History.{Proc}
 use Rattle.pl_model.specs.Predicates.{proc_of}
-use Rattle.pl_model.specs.Resolution.{Choice, Limits, Node, State, answers, failing, throwing}
+use Rattle.pl_model.specs.Resolution.{Limits, Node, State, answers, failing, throwing}
 use Rattle.pl_model.specs.Terms.{arguments}
 use Rattle.term_store.specs.declared.words.Place.{Place}
-use Rattle.term_store.specs.Contents.{Contents, Holds as IsIn, IsAbove}
+use Rattle.term_store.specs.Contents.{Holds as IsIn, IsAbove}
 use Rattle.term_store.proofs.Storing.{above_of}
 use Rattle.world_api.specs.Texts.{Holds as AreHeld}
 use Rattle.iso_search.specs.declared.choices.Alternative.TheVariants.{Answers as AnswersLeft}
@@ -30,7 +29,7 @@ use Rattle.iso_search.specs.Reading.{IsView, View, node_at, reads}
 use Rattle.iso_search.specs.Searching.{IsWhole, choices_of, node_of, state_of}
 use Rattle.iso_search.specs.Spelling.{spelled, text_of}
 use Rattle.iso_search.proofs.After.{after_behind, keeps_choices}
-use Rattle.iso_search.proofs.Over.{length_choices, same_limits, state_by}
+use Rattle.iso_search.proofs.Over.{length_choices, state_by}
 use Rattle.iso_engine.proofs.OutputSteps.{read_held}
 use Rattle.builtin_rows.specs.declared.row.Row.TheVariants.{Fails, Line}
 use Rattle.builtin_rows.specs.Given.{lined}

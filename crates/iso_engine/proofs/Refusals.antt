@@ -1,9 +1,8 @@
 -- What holds where a step was not made.
-use Rattle.std.proofs.Common.{◌≡◌, [], ◌∷◌, ◌++◌, List, Option, None, Some, IfOk, Result, Ok, Err, refl, sym, ap, subst, ◌∙◌, append-nil}
+use Rattle.std.proofs.Common.{◌≡◌, [], ◌++◌, List, Option, None, Some, IfOk, Result, Ok, Err, refl, sym, ap, subst, ◌∙◌}
 use Rattle.std.specs.Prelude.{IfNone, OnOk}
 use Rattle.std.specs.Result.{IsErrAnd}
 use Rattle.std.proofs.lemmas.Result.{err_from_is_err_and}
-use Rattle.pl_model.specs.Resolution.{Output}
 use Rattle.atom_api.specs.Names.{Names}
 use Rattle.atom_words.specs.declared.view.Refusal.{Refusal}
 use Rattle.world_api.specs.Told.{Told}

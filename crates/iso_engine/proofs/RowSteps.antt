@@ -1,8 +1,8 @@
 -- Built-in predicates that are functions of their arguments, as steps of a search.
-use Rattle.std.proofs.Common.{◌≡◌, ℕ, suc, ◌<◌, ◌++◌, Bool, true, false, List, [], ◌∷◌, length, map, Option, Some, None, IsSome, refl, sym, ap, ap₂, subst, ◌∙◌, arith}
+use Rattle.std.proofs.Common.{◌≡◌, ℕ, ◌++◌, Bool, true, false, List, [], ◌∷◌, length, map, Option, Some, None, IsSome, refl, sym, ap, ap₂, subst, ◌∙◌, arith}
 use Rattle.std.specs.List.{All, AllByRecursion, Contains}
 use Rattle.std.proofs.lemmas.List.Elements.{All-from_recursion, recursion_from_All}
-use Rattle.pl_term.specs.Tree.{Chars, Tree, Trees, none, more, compound, count, trees}
+use Rattle.pl_term.specs.Tree.{Chars, Tree, more, compound, trees}
 use Rattle.pl_model.specs.History.{Proc, proc}
 use Rattle.pl_model.specs.Builtins.{row}
 use Rattle.pl_model.specs.BuiltinRows as rows
@@ -12,14 +12,11 @@ use Rattle.pl_model.specs.Terms.{arguments}
 use Rattle.pl_model.specs.Control.{costing, name_of, with_other, with_row}
 use Rattle.atom_api.specs.Names.{FixedStand, Names}
 use Rattle.atom_words.specs.declared.view.Refusal.{Refusal}
-use Rattle.term_store.specs.declared.words.Place.{Place}
-use Rattle.term_store.specs.declared.views.Arguments.{Arguments}
 use Rattle.term_store.specs.Heap.{atom_name}
-use Rattle.term_store.specs.Contents.{Contents, Holds as IsIn, arguments_at, term_at}
+use Rattle.term_store.specs.Contents.{Contents, arguments_at, term_at}
 use Rattle.world_api.specs.Texts.{Holds}
 use Rattle.world_builtins.specs.Naming.{IsHeldAt, atoms_in, atoms_in_all}
 use Rattle.world_builtins.specs.Spelling as written
-use Rattle.builtin_rows.specs.declared.predicates.Pred.{Pred}
 use Rattle.builtin_rows.specs.Predicates as kinds
 use Rattle.builtin_rows.specs.Predicates.{arity_of}
 use Rattle.builtin_rows.specs.declared.row.Row.{Row}
@@ -38,11 +35,9 @@ use Rattle.iso_search.specs.Lines.{table_of}
 use Rattle.iso_search.specs.Outcomes.{IsAfter, Setting, limits_in, result_in, state_in}
 use Rattle.iso_search.specs.Reading.{IsView, View, reads}
 use Rattle.iso_search.specs.Searching.{IsWhole, node_of}
-use Rattle.iso_search.specs.Spelling.{TellsApart, spelled, spelled_all, text_of}
+use Rattle.iso_search.specs.Spelling.{TellsApart, spelled, text_of}
 use Rattle.iso_search.proofs.After.{after_behind}
-use Rattle.iso_search.proofs.Constructing.{count-trees, how_many}
 use Rattle.iso_search.proofs.Naming.{text_is}
-use Rattle.iso_search.proofs.Spelt.{count-spelled}
 use Rattle.iso_engine.proofs.OutputSteps.{read_held}
 use Rattle.iso_engine.specs.declared.builtin.RowGoal.{RowGoal}
 use Rattle.iso_engine.specs.Builtins.{IsRowGoal}
@@ -52,7 +47,7 @@ use Rattle.iso_engine.specs.Rows.{IsGivenText, IsRowAt, LeadsTo, refusal_of}
 use Rattle.world_api.specs.Unserved.{unserved_refusals}
 use Rattle.iso_engine.proofs.Calls.{taken_costs}
 use Rattle.iso_engine.proofs.Equals.{keeps_counted}
-use Rattle.iso_engine.proofs.Procedures.{compound_proc, proc_as}
+use Rattle.iso_engine.proofs.Procedures.{compound_proc}
 
 some_none : (u : Unserved) → Some u ≡ None → ⊥
 some_none s e = cc

@@ -4,11 +4,7 @@ use Rattle.std.specs.List.{All}
 use Rattle.std.specs.Str.{all_scalars}
 use Rattle.pl_term.specs.Texts.{size}
 use Rattle.pl_term.specs.Tree.{Chars}
-use Rattle.pl_model.specs.Predicates.{proc_of}
-use Rattle.pl_model.specs.Resolution.{Output, running}
-use Rattle.pl_model.specs.Control.{construct, name_of, step}
-use Rattle.pl_model.specs.Terms.{arguments}
-use Rattle.pl_term.specs.Tree.{count}
+use Rattle.pl_model.specs.Control.{step}
 use Rattle.atom_api.specs.Names.{FixedStand, Names}
 use Rattle.term_store.specs.Contents.{term_at}
 use Rattle.term_store.specs.Heap.{atom_name}
@@ -24,7 +20,6 @@ use Rattle.iso_search.specs.Outcomes.{Setting, doing_by, limits_in}
 use Rattle.iso_search.specs.Reading.{IsView, View, reads}
 use Rattle.iso_search.specs.Searching.{node_of}
 use Rattle.iso_search.specs.Spelling.{spelled, text_of}
-use Rattle.iso_search.proofs.Spelt.{count-spelled}
 use Rattle.iso_engine.proofs.Outputs.{atoms_same}
 use Rattle.iso_engine.specs.declared.builtin.RowGoal.{RowGoal}
 use Rattle.iso_engine.specs.declared.doing.Doing.TheVariants.{Running}

@@ -1,8 +1,7 @@
 -- How a solution is given.
-use Rattle.std.proofs.Common.{◌≡◌, ℕ, ◌+◌, List, [], ◌∷◌, ◌++◌, length, refl, sym, ap, ap₂, subst, ◌∙◌, append_assoc}
+use Rattle.std.proofs.Common.{◌≡◌, ℕ, ◌+◌, List, [], ◌∷◌, ◌++◌, sym, ap, ap₂, subst, ◌∙◌, append_assoc}
 use Rattle.pl_term.specs.Tree.{Chars, Tree}
-use Rattle.pl_model.specs.OperatorTable.{OperatorTable, opening_table}
-use Rattle.pl_model.specs.History.{History}
+use Rattle.pl_model.specs.OperatorTable.{OperatorTable}
 use Rattle.pl_model.specs.Service.{entry_by}
 use Rattle.pl_model.specs.Requests.{look, standing}
 use Rattle.pl_model.specs.Resolution.{answering, running, failing, throwing, erasing, clearing, ended, Choice, Limits, Node, Output, solution, solution_count, State, asks}
@@ -27,9 +26,8 @@ use Rattle.iso_engine.specs.Advancing.{Advances}
 use Rattle.iso_engine.specs.Asking.{IsAnswered, IsAsking}
 use Rattle.iso_engine.specs.Looking.{Looks}
 use Rattle.iso_engine.specs.Slices.{answer_of}
-use Rattle.iso_engine.proofs.Alike.{KeepsVisits, alike_view, visits_more, visits_same}
-use Rattle.iso_engine.proofs.Later.{held_later}
-use Rattle.iso_engine.proofs.Stability.{advance_asks, advance_same, advance_seen, ready_later, stable_later}
+use Rattle.iso_engine.proofs.Alike.{KeepsVisits, alike_view, visits_more}
+use Rattle.iso_engine.proofs.Stability.{advance_asks, stable_later}
 use Rattle.iso_engine.proofs.Tasking.{step_done}
 
 -- What atoms hold is a view.

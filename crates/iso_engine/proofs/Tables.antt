@@ -1,18 +1,17 @@
 -- Lines of a table that were not tried, as a step of an engine.
-use Rattle.std.proofs.Common.{◌≡◌, ◌≤◌, ◌<◌, ◌^◌, ℕ, List, [], ◌∷◌, ◌++◌, drop, zero, suc, length, Option, Some, None, IfSome, IsSome, refl, sym, ap, ap₂, subst, ◌∙◌, append-nil}
+use Rattle.std.proofs.Common.{◌≡◌, ◌≤◌, ℕ, List, [], ◌∷◌, drop, zero, suc, length, Option, Some, None, IfSome, refl, sym, ap, subst, ◌∙◌, append-nil}
 use Rattle.std.specs.List.{Contains}
 use Rattle.pl_term.specs.Tree.{Chars, Trees}
 use Rattle.pl_model.specs.Builtins.{row}
 use Rattle.pl_model.specs.BuiltinRows.{Answer, gives, table, error, unifying}
 use Rattle.pl_model.specs.BuiltinRows as defined
 use Rattle.pl_model.specs.Control.{next_answer}
-use Rattle.pl_model.specs.History.{Proc}
 use Rattle.pl_model.specs.Predicates.{proc_of}
 use Rattle.pl_model.specs.Terms.{arguments}
 use Rattle.atom_api.specs.Names.{FixedStand, Names}
 use Rattle.term_store.specs.declared.words.Place.{Place}
 use Rattle.term_store.specs.Heap.{atom_name}
-use Rattle.term_store.specs.Contents.{Contents, Holds as IsIn, term_at}
+use Rattle.term_store.specs.Contents.{Contents}
 use Rattle.world_api.specs.Texts.{Holds}
 use Rattle.world_api.specs.Told.{Told}
 use Rattle.world_builtins.specs.Naming.{IsHeldAt}
@@ -28,13 +27,13 @@ use Rattle.iso_search.specs.declared.outcome.Outcome.{Outcome}
 use Rattle.iso_search.specs.declared.search.Search.{Search}
 use Rattle.iso_search.specs.declared.choices.Alternative.TheVariants.{Answers as AnswersLeft}
 use Rattle.iso_search.specs.Choices.{answers_from, choice_at}
-use Rattle.iso_search.specs.Failures.{IsTaken, back_result}
+use Rattle.iso_search.specs.Failures.{IsTaken}
 use Rattle.iso_search.specs.Lines.{lines_of, table_of}
-use Rattle.iso_search.specs.Outcomes.{Setting, doing_by, limits_in, result_in, state_in}
+use Rattle.iso_search.specs.Outcomes.{limits_in, state_in}
 use Rattle.iso_search.specs.Reading.{IsView, View, reads}
 use Rattle.iso_search.specs.Searching.{IsWhole, choices_of, node_of, state_of}
-use Rattle.iso_search.specs.Spelling.{TellsApart, spelled, text_of}
-use Rattle.iso_engine.specs.TableLines.{IsGoneBack, IsNextMade, LineOrigin}
+use Rattle.iso_search.specs.Spelling.{TellsApart, text_of}
+use Rattle.iso_engine.specs.TableLines.{IsNextMade, LineOrigin}
 use Rattle.iso_engine.specs.declared.builtin.RowGoal.{RowGoal}
 use Rattle.iso_engine.specs.declared.doing.Doing.TheVariants.{Failing}
 use Rattle.iso_engine.specs.declared.engine.Engine.{Engine}
@@ -43,11 +42,10 @@ use Rattle.iso_engine.specs.Builtins.{IsRowGoal}
 use Rattle.iso_engine.specs.Lines.{IsLineAsked, LineLeadsTo}
 use Rattle.iso_engine.specs.Retrying.{IsTried}
 use Rattle.iso_engine.specs.Rows.{refusal_of}
-use Rattle.iso_engine.specs.Standing.{doing_of, state_at}
 use Rattle.iso_engine.proofs.Arms.{when_some}
 use Rattle.iso_engine.proofs.Followed.{doing_same}
 use Rattle.iso_engine.proofs.Procedures.{compound_proc}
-use Rattle.iso_engine.proofs.RowSteps.{row_proc, same_row, same_terms}
+use Rattle.iso_engine.proofs.RowSteps.{same_row, same_terms}
 use Rattle.iso_engine.proofs.RowTaken.{IsFollowedAs}
 
 lines_as : (o : Option defined.Row) → table_of o ≡ lines_in o

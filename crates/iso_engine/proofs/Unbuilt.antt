@@ -1,17 +1,15 @@
 -- What is left over is not built yet.
-use Rattle.std.proofs.Common.{◌≡◌, ℕ, Bool, true, false, [], Some, None, codes, inl, inr, refl, sym, ap, subst, ◌∙◌}
+use Rattle.std.proofs.Common.{◌≡◌, ℕ, Bool, true, false, [], None, codes, inl, inr, refl, sym, ap, subst, ◌∙◌}
 use Rattle.std.proofs.lemmas.Bool.{false≢true, true≢false}
 use Rattle.pl_term.specs.Tree.{Tree}
 use Rattle.pl_model.specs.History.{Proc}
 use Rattle.pl_model.specs.Resolution.{failing}
 use Rattle.pl_model.specs.Control.{construct, other}
 use Rattle.atom_api.specs.FixedNames.{call_name}
-use Rattle.atom_api.specs.Fixed.{fixed, fixed_texts}
 use Rattle.world_api.specs.declared.visit.Procedure.{Procedure}
 use Rattle.term_store.specs.declared.words.Place.{Place}
 use Rattle.term_store.specs.Contents.{Contents, Holds}
-use Rattle.iso_search.specs.declared.frames.Task.{Task}
-use Rattle.iso_search.specs.declared.frames.Task.TheVariants.{Goal, Commit, Refute, Leave, Collect}
+use Rattle.iso_search.specs.declared.frames.Task.TheVariants.{Goal}
 use Rattle.iso_search.specs.declared.construct.Construct.{Construct}
 use Rattle.iso_search.specs.declared.construct.Construct.TheVariants.{Succeeds, Cuts, Conjunction, Disjunction, IfThen, IfThenElse, Fails, Repeats, Calls, NotProvable, Once, Catches, Throws, FindsAll, Halts, HaltsWithZero, Exits, Inspects, Retracts, Clears, Writes, WritesQuoted, WritesCanonical, WritesNewline, Puts, Other}
 use Rattle.iso_search.specs.Constructs.{construction}
@@ -32,7 +30,7 @@ use Rattle.iso_engine.specs.declared.running.Did.{Did}
 use Rattle.iso_engine.specs.declared.running.Did.TheVariants.{Next as NextDid, Call as CallDid, Row as RowDid, Write as WriteDid, Missing as MissingDid}
 use Rattle.iso_engine.specs.Writes.{IsWriteAt, is_write_kind}
 use Rattle.iso_engine.specs.OutputGoals.{is_output}
-use Rattle.iso_engine.specs.Tasks.{IsDone, IsForOthers, IsLeftOver, IsMissingTask}
+use Rattle.iso_engine.specs.Tasks.{IsDone, IsLeftOver, IsMissingTask}
 
 left : (v : View) (s : Contents) (k : Construct) (g : Tree) → IsLeft k → (is_other_kind k ≡ true → IsSharedOrKept g) → is_write_kind k ≡ false → IsUnbuilt g (construction v s k)
 left v s Succeeds g h built none = absurd h

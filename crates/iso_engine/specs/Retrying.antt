@@ -1,11 +1,10 @@
 -- What going back to clauses, or to lines of a table, leads to.
-use Rattle.std.specs.Prelude.{◌≡◌, ℕ, Option, Some, None}
+use Rattle.std.specs.Prelude.{◌≡◌, Option, Some, None}
 use Rattle.pl_model.specs.History.{History}
 use Rattle.atom_api.specs.Names.{Names}
 use Rattle.world_api.specs.Told.{Told, Follows}
 use Rattle.world_api.specs.Answers.{seen_as}
 use Rattle.iso_search.specs.declared.failure.Back.{Back}
-use Rattle.iso_search.specs.declared.search.Search.{Search}
 use Rattle.iso_search.specs.Failures.{IsTaken, back_result}
 use Rattle.iso_search.specs.Outcomes.{Setting}
 use Rattle.iso_search.specs.Reading.{IsView}

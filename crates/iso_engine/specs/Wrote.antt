@@ -1,5 +1,5 @@
 -- What a goal that writes leads to.
-use Rattle.std.specs.Prelude.{◌≡◌, ◌⊎◌, ℕ, suc, List, [], ◌∷◌, ◌++◌, length, Option, Some, None, Result, Ok, Err, encode_utf8_all}
+use Rattle.std.specs.Prelude.{◌≡◌, ◌⊎◌, ℕ, suc, List, [], ◌∷◌, ◌++◌, length, Option, Some, None, encode_utf8_all}
 use Rattle.pl_term.specs.Tree.{Chars}
 use Rattle.pl_model.specs.declared.grammar.Quotes.{Quotes}
 use Rattle.pl_model.specs.OperatorTable.{OperatorTable}

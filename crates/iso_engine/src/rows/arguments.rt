@@ -4,8 +4,10 @@ ghost use Rattle.std.specs.List.{All};
 ghost use Rattle.pl_term.specs.Tree.{after, count, more, trees};
 ghost use Rattle.pl_model.specs.Terms.{arguments};
 ghost use Rattle.term_store.specs.Contents.{Adds, Holds, SameSize, term_at};
+ghost use Rattle.builtin_rows.specs.Rows.{listed};
 ghost use Rattle.iso_engine.specs.Leading.{AreUnified};
 
+use builtin_rows::Places;
 use pl_term::Memory;
 use term_store::{Place, Store, View as Kind};
 
@@ -29,6 +31,24 @@ pub fn unify_arguments(store: &mut Store, term: Place, places: &[Place]) -> Resu
         }
     }
     Ok(true)
+}
+
+/// The same with the places of an answer. The only error is out of memory.
+pub fn unify_answer(store: &mut Store, term: Place, places: Places) -> Result<bool, Memory>
+    requires term { Holds store.old term }
+    requires places { All (Holds store.old) (listed places) }
+    ensures unified { IfOk result (λ b. AreUnified b store.old (arguments (term_at store.old term)) (trees (map (term_at store.old) (listed places))) store.new) }
+    ensures adds { Adds store.old store.new }
+    ensures size { SameSize store.old store.new }
+{
+    match places {
+        Places::Two(first, second) => unify_arguments(store, term, &[first, second]),
+        Places::Three(first, second, third) => unify_arguments(
+            store,
+            term,
+            &[first, second, third],
+        ),
+    }
 }
 
 /// How many arguments the term at a place has.

@@ -10,9 +10,9 @@ ghost use Rattle.builtin_rows.specs.declared.row.Row.TheVariants.{Answer};
 ghost use Rattle.builtin_rows.specs.Rows.{row_refusals};
 ghost use Rattle.iso_engine.specs.Leading.{IsRowMade, Origin, as_before};
 
-use crate::rows::arguments::unify_arguments;
+use crate::rows::arguments::unify_answer;
 use crate::rows::lines::first_line;
-use builtin_rows::Row;
+use builtin_rows::{Places, Row};
 use iso_search::outcome::{Fault, Outcome};
 use iso_search::search::Search;
 use pl_term::Memory;
@@ -53,7 +53,7 @@ pub fn follow_row(
 fn give(
     search: &mut Search,
     goal: Place,
-    places: Vec<Place>,
+    places: Places,
     fresh: u64,
     rest: usize,
 ) -> Result<Outcome, Memory>
@@ -65,7 +65,7 @@ fn give(
         result_in t search.new n x.predicate o ≡ with_row (limits_in t e) (state_in t e) n x.predicate (arguments (reads t.view e.store goal)) x.row) }
 {
     search.next_variable += fresh;
-    let same = unify_arguments(&mut search.store, goal, &places)?;
+    let same = unify_answer(&mut search.store, goal, places)?;
     if same {
         Ok(Outcome::Run(rest))
     } else {

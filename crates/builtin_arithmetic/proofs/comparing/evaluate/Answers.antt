@@ -24,7 +24,7 @@ returns-in_ok-row-in-Ok-clause-row c m t texts held next few =
     let value : Ok x ≡ evaluated u = sym (ap (value_of m) c.in-Ok.is) ∙ c.in_ok-value.ensures.value m texts in
     subst (λ d. IsRow s next (two t u) (given p (two t u) next s.used s.budget d) m c.within_budget.new.store c.in_ok-row-in-Ok.row) (sym (one_value t u x value))
     (c.in_ok-row-in-Ok.ensures.row m next p (two t u) (two (int x) u) few
-    (answer_row m s next (two t u) x c.integer.result e c.in_ok-places-in-Ok.places c.in_ok-places-in-Ok.ensures (at.0, at.1 ∙ ap int same) c.requires held))
+    (answer_row m s next (two t u) x c.integer.result e (at.0, at.1 ∙ ap int same) c.requires held))
 
 pub returns-in_ok-row-in-Err-clause-row : goal.returns-in_ok-row-in-Err-clause-row
 returns-in_ok-row-in-Err-clause-row c m t texts held next few =

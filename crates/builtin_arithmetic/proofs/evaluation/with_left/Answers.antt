@@ -22,4 +22,4 @@ returns-in_ok-push-in-None-clause-leads c =
     let ps = c.args.stack.now.items in
     let same : to_z w64 (of_z w64 c.args.x) ≡ c.args.x = to_z-of_z w64 c.args.x c.ranges.x in
     right_later c.args.store.now ps c.push.new.self.items c.args.op c.args.x c.args.right
-    (c.in_ok-push-in-None.ensures.items ∙ ap (λ z. ps ++ Right c.args.op z ∷ []) same)
+    (c.in_ok-push-in-None.ensures.ok ∙ ap (λ z. ps ++ Right c.args.op z ∷ []) same)

@@ -13,7 +13,7 @@ use Rattle.builtin_atom.proofs.CodeLaws.{bound_by, code_any, code_bad, code_give
 use Rattle.builtin_atom.proofs.FaultLaws.{fault_given, read_bad, read_character}
 use Rattle.builtin_atom.proofs.Fixed.{char_code_is}
 use Rattle.builtin_atom.proofs.Looks.{integer_held, standing_number}
-use Rattle.builtin_atom.proofs.Rows.{ok_as}
+use Rattle.builtin_atom.proofs.Rows.{row_as}
 use Rattle.builtin_atom.proofs.codes.of_character.Goals as goal
 
 pub returns-then-is_unbound-clause-row : goal.returns-then-is_unbound-clause-row
@@ -26,9 +26,9 @@ returns-then-is_unbound-clause-row g c =
     let bad = read_bad Codes m s b c.args.second f c.in-Bad.is c.requires.second in
     let free = unbound_by b f (subst (λ (x : Bool). MatchBool x (f ≡ Unbound) (IsBound f)) c.if-is_unbound.true c.is_unbound.ensures) bad.1.0 in
     let ts = pair_at m s c.args.character c.args.code in
-    ok_as c.answer.result s (proc (codes "char_code") 2) ts (one_answer (pair_at m s c.args.character c.code_of.result)) (codes_character a b) m c.answer.new.store
-    (ap (λ u. one_answer (two a u)) (standing_number m s c.code_of.result c.args.c c.code_of.ensures) ∙ code_any a b c.args.c c.requires.first free.0 free.1) _
-    (λ r h. h m (proc (codes "char_code") 2) ts c.requires.held (integer_held m s c.code_of.result _ c.code_of.ensures)) c.answer.ensures.row
+    row_as s (proc (codes "char_code") 2) ts (one_answer (pair_at m s c.args.character c.code_of.result)) (codes_character a b) m c.answer.new.store c.answer.result
+    (ap (λ u. one_answer (two a u)) (standing_number m s c.code_of.result c.args.c c.code_of.ensures) ∙ code_any a b c.args.c c.requires.first free.0 free.1)
+    (c.answer.ensures.row m (proc (codes "char_code") 2) ts c.requires.held (integer_held m s c.code_of.result _ c.code_of.ensures))
 
 pub returns-else-is_unbound-clause-row : goal.returns-else-is_unbound-clause-row
 returns-else-is_unbound-clause-row g c =
@@ -53,6 +53,6 @@ returns-else-c-d-clause-row g c =
     let num = read_character Codes m s b c.args.second d c.in-Character.is c.requires.second in
     let ts = pair_at m s c.args.character c.args.code in
     let place = c.code_of-in-Character in
-    ok_as c.answer-in-Character.result s (proc (codes "char_code") 2) ts (one_answer (pair_at m s c.args.character place.result)) (codes_character a b) m c.answer-in-Character.new.store
-    (ap (λ u. one_answer (two a u)) (standing_number m s place.result c.args.c place.ensures) ∙ code_given a b c.args.c c.requires.first d num.1 num.0) _
-    (λ r h. h m (proc (codes "char_code") 2) ts c.requires.held (integer_held m s place.result _ place.ensures)) c.answer-in-Character.ensures.row
+    row_as s (proc (codes "char_code") 2) ts (one_answer (pair_at m s c.args.character place.result)) (codes_character a b) m c.answer-in-Character.new.store c.answer-in-Character.result
+    (ap (λ u. one_answer (two a u)) (standing_number m s place.result c.args.c place.ensures) ∙ code_given a b c.args.c c.requires.first d num.1 num.0)
+    (c.answer-in-Character.ensures.row m (proc (codes "char_code") 2) ts c.requires.held (integer_held m s place.result _ place.ensures))

@@ -1,5 +1,4 @@
 use Rattle.std.proofs.Common.{codes, length, sym, ap, subst, ◌∙◌, ◌<◌, ◌^◌, w64, arith, rules}
-use Rattle.std.specs.Prelude.{IfOk}
 use Rattle.std.proofs.lemmas.Int.{ints}
 use mir.Val.{SFits}
 use Rattle.pl_model.specs.Balls.{type_error}
@@ -15,7 +14,7 @@ use Rattle.builtin_atom.specs.Answering.{IsRowOf, pair_at}
 use Rattle.builtin_atom.proofs.Fixed.{atom_length_is, integer_is}
 use Rattle.builtin_atom.proofs.Looks.{integer_held, number_reads, read_atom, read_compound, read_integer, read_variable}
 use Rattle.builtin_atom.proofs.MeasureLaws.{length_any, length_atom, length_below, length_compound, length_given}
-use Rattle.builtin_atom.proofs.Rows.{ok_as}
+use Rattle.builtin_atom.proofs.Rows.{ok_as, row_as}
 use Rattle.builtin_atom.proofs.lengths.length_of.Goals as goal
 
 pub returns-then-given-lt0-clause-row : goal.returns-then-given-lt0-clause-row
@@ -48,11 +47,11 @@ returns-in-Variable-clause-row g c =
     let call = c.character_count-count in
     let place = c.integer.result in
     let small : call.result < 2 ^ 63 = omega (arith, call.ensures.few) in
-    subst (λ (x : Names). IfOk c.answer.result (IsRowOf s p ts (measures a b) x c.answer.new.store)) (sym call.ensures.same)
-    (ok_as c.answer.result s p ts (one_answer (pair_at m s c.args.atom place)) (measures a b) m c.answer.new.store
+    subst (λ (x : Names). IsRowOf s p ts (measures a b) x c.answer.new.store c.answer.result) (sym call.ensures.same)
+    (row_as s p ts (one_answer (pair_at m s c.args.atom place)) (measures a b) m c.answer.new.store c.answer.result
     (ap (λ u. one_answer (two a u)) (number_reads m s place _ (length t) c.integer.ensures (omega (arith, ints, small, call.ensures.count)))
-    ∙ length_any a b t is c.in-Variable.field-0 (read_variable m s c.args.length c.in-Variable.field-0 c.in-Variable.ensures)) _
-    (λ r h. h m p ts c.requires.atom_held (integer_held m s place _ c.integer.ensures)) c.answer.ensures.row)
+    ∙ length_any a b t is c.in-Variable.field-0 (read_variable m s c.args.length c.in-Variable.field-0 c.in-Variable.ensures))
+    (c.answer.ensures.row m p ts c.requires.atom_held (integer_held m s place _ c.integer.ensures)))
 
 pub returns-else-count-given-clause-row : goal.returns-else-count-given-clause-row
 returns-else-count-given-clause-row g c =
@@ -69,11 +68,11 @@ returns-else-count-given-clause-row g c =
     let place = c.integer-in-Integer.result in
     let small : call.result < 2 ^ 63 = omega (arith, call.ensures.few) in
     let fits : SFits w64 c.in-Integer.given = search rules in
-    subst (λ (x : Names). IfOk c.answer-in-Integer.result (IsRowOf s p ts (measures a b) x c.answer-in-Integer.new.store)) (sym call.ensures.same)
-    (ok_as c.answer-in-Integer.result s p ts (one_answer (pair_at m s c.args.atom place)) (measures a b) m c.answer-in-Integer.new.store
+    subst (λ (x : Names). IsRowOf s p ts (measures a b) x c.answer-in-Integer.new.store c.answer-in-Integer.result) (sym call.ensures.same)
+    (row_as s p ts (one_answer (pair_at m s c.args.atom place)) (measures a b) m c.answer-in-Integer.new.store c.answer-in-Integer.result
     (ap (λ u. one_answer (two a u)) (number_reads m s place _ (length t) c.integer-in-Integer.ensures (omega (arith, ints, small, call.ensures.count)))
-    ∙ length_given a b t is c.in-Integer.given (read_integer m s c.args.length c.in-Integer.given c.in-Integer.ensures) fits c.if-given-lt0.false) _
-    (λ r h. h m p ts c.requires.atom_held (integer_held m s place _ c.integer-in-Integer.ensures)) c.answer-in-Integer.ensures.row)
+    ∙ length_given a b t is c.in-Integer.given (read_integer m s c.args.length c.in-Integer.given c.in-Integer.ensures) fits c.if-given-lt0.false)
+    (c.answer-in-Integer.ensures.row m p ts c.requires.atom_held (integer_held m s place _ c.integer-in-Integer.ensures)))
 
 pub returns-in-Atom-clause-row : goal.returns-in-Atom-clause-row
 returns-in-Atom-clause-row g c =

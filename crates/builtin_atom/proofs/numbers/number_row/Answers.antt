@@ -40,21 +40,18 @@ returns-in-TooLarge-clause-row c =
     c.bad_syntax-in-TooLarge.ensures.row
 
 pub returns-in-Integer-clause-row : goal.returns-in-Integer-clause-row
-returns-in-Integer-clause-row c =
+returns-in-Integer-clause-row c m p ts o stand held known number =
     let s = c.args.store.now in
     let t = c.answer.new.store in
     let i = c.in-Integer.i in
     let place = c.integer.result in
-    with_ok _ _ c.answer.result
-    (λ r h m p ts o stand held known number.
     let is = subst (λ n. IsNumber o n) c.in-Integer.is number in
     let l = reads m s c.args.list in
     let same : to_z w64 (of_z w64 i) ≡ i = search (rules, to_z-of_z) in
     let reads_as = ap (spelled (text_of m)) ((c.integer.ensures s).1) ∙ ap int same in
-    row_as s (proc p 2) ts (one_answer (pair_at m s place c.args.list)) (number_row l o) m t r
+    row_as s (proc p 2) ts (one_answer (pair_at m s place c.args.list)) (number_row l o) m t c.answer.result
     (ap (λ u. one_answer (two u l)) reads_as ∙ read_number l o i is.0 is.1)
-    (h m (proc p 2) ts (integer_held m s place (to_z w64 (of_z w64 i)) c.integer.ensures) held))
-    c.answer.ensures.row
+    (c.answer.ensures.row m (proc p 2) ts (integer_held m s place (to_z w64 (of_z w64 i)) c.integer.ensures) held)
 
 pub answer-requires-clause-first : goal.answer-requires-clause-first
 answer-requires-clause-first c = (c.integer.ensures c.args.store.now).0

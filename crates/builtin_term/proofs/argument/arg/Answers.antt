@@ -1,8 +1,5 @@
-use Rattle.std.proofs.Common.{Ok, codes, refl, sym, ap, subst, ◌∙◌}
-use Rattle.std.specs.List.{All}
-use Rattle.pl_model.specs.BuiltinRows.{one_answer}
+use Rattle.std.proofs.Common.{Ok, codes, refl, sym, subst}
 use Rattle.builtin_rows.specs.declared.row.Row.TheVariants.{Fails}
-use Rattle.builtin_rows.specs.Rows.{terms_at}
 use Rattle.pl_model.specs.History.{proc}
 use Rattle.world_builtins.specs.Naming.{IsHeldAt}
 use Rattle.builtin_term.specs.Argument.{Selects}
@@ -27,8 +24,8 @@ returns-in-Ok-None-clause-row c =
     let f = subst (λ o. Selects s c.args.number c.args.term (Ok o)) c.in-Ok-None.field-0-is c.in-Ok-None.ensures in
     λ m a stands number term. subst (λ d. IsGiven s c.args.next p d m s Fails) (sym (f m a)) (none_given s c.args.next p m s refl)
 
-pub returns-in_ok-places-in-Ok-Some-clause-row : goal.returns-in_ok-places-in-Ok-Some-clause-row
-returns-in_ok-places-in-Ok-Some-clause-row c =
+pub returns-in-Ok-Some-clause-row : goal.returns-in-Ok-Some-clause-row
+returns-in-Ok-Some-clause-row c =
     let s = c.args.store.now in
     let t = c.answer.new.store in
     let p = proc (codes "arg") 3 in
@@ -36,7 +33,6 @@ returns-in_ok-places-in-Ok-Some-clause-row c =
     (λ r h m a stands number term.
     let x = c.in-Ok-Some.argument in
     let f = subst (λ o. Selects s c.args.number c.args.term (Ok o)) c.in-Ok-Some.field-0-is c.in-Ok-Some.ensures in
-    let items = c.in_ok-places-in-Ok-Some.ensures.items in
-    subst (λ d. IsGiven s c.args.next p d m t r) (ap (λ ps. one_answer (terms_at m s ps)) items ∙ sym (f.1 m a))
+    subst (λ d. IsGiven s c.args.next p d m t r) (sym (f.1 m a))
     (h m (codes "arg") stands
-    (subst (All (IsHeldAt m s)) (sym items) (all_three (IsHeldAt m s) c.args.number c.args.term x number term (f.0.1 m term))) arg_is))
+    (all_three (IsHeldAt m s) c.args.number c.args.term x number term (f.0.1 m term)) arg_is))

@@ -7,8 +7,8 @@ use Rattle.term_store.specs.Contents.{term_at}
 use Rattle.builtin_term.proofs.FixedNames.{atom_is, domain_error_is, order_is, type_error_is}
 use Rattle.builtin_term.proofs.comparisons.compare.Goals as goal
 
-pub returns-in_ok-places-in-Fits-clause-row : goal.returns-in_ok-places-in-Fits-clause-row
-returns-in_ok-places-in-Fits-clause-row g c =
+pub returns-in_ok-found-in-Fits-clause-row : goal.returns-in_ok-found-in-Fits-clause-row
+returns-in_ok-found-in-Fits-clause-row g c =
     let s = c.args.store.now in
     let m : Names = g.A.Atoms.held c.args.atoms.now in
     let names : AreNames m =
@@ -17,9 +17,9 @@ returns-in_ok-places-in-Fits-clause-row g c =
       unlike = g.met.A.Atoms.unlike c.args.atoms.now;
       texts = λ a t e. (g.met.A.Atoms.finite c.args.atoms.now a t e).2;
     } in
-    compares_stand s c.args.order c.args.left c.args.right m names c.answered.new.store c.answered.result c.in_ok-places-in-Fits.places c.atom.result
+    compares_stand s c.args.order c.args.left c.args.right m names c.answered.new.store c.answered.result c.atom.result
     c.sign_of.result c.in_ok-found-in-Fits.found (sym c.in-Fits.ensures) c.in_ok-found-in-Fits.ensures.order c.sign_of.ensures (c.atom.ensures s).1
-    c.in_ok-places-in-Fits.ensures.items c.requires.left_held c.requires.right_held c.answered.ensures.row
+    c.requires.left_held c.requires.right_held c.answered.ensures.row
 
 pub returns-in-NoAtom-clause-row : goal.returns-in-NoAtom-clause-row
 returns-in-NoAtom-clause-row g c =

@@ -1,9 +1,5 @@
-use Rattle.std.proofs.Common.{codes, sym, ap, subst, ◌∙◌}
-use Rattle.std.specs.List.{All}
-use Rattle.pl_model.specs.BuiltinRows.{one_answer}
+use Rattle.std.proofs.Common.{codes, sym, subst}
 use Rattle.pl_model.specs.History.{proc}
-use Rattle.builtin_rows.specs.Rows.{terms_at}
-use Rattle.world_builtins.specs.Naming.{IsHeldAt}
 use Rattle.world_builtins.specs.Spelling.{reads}
 use Rattle.builtin_term.proofs.PartAnswers.{ok_weaker}
 use Rattle.builtin_term.specs.Giving.{IsGiven}
@@ -19,12 +15,11 @@ returns-in-Some-clause-row c =
     subst (λ d. IsGiven s c.args.next (proc (codes "=..") 2) d m c.raise.new.store r) (sym (c.in-Some.ensures.1 m (reads m s c.args.list)))
     (h m (codes "=..") c.args.next stands (c.in-Some.ensures.0.held m first) univ_is))
 
-pub returns-in_ok-places-in-None-clause-row : goal.returns-in_ok-places-in-None-clause-row
-returns-in_ok-places-in-None-clause-row c =
+pub returns-in-None-clause-row : goal.returns-in-None-clause-row
+returns-in-None-clause-row c =
     let s = c.args.store.now in
-    let items = c.in_ok-places-in-None.ensures.items in
     ok_weaker _ _ c.answer.result c.answer.ensures.row
     (λ r h m stands list first.
     subst (λ d. IsGiven s c.args.next (proc (codes "=..") 2) d m c.answer.new.store r)
-    (ap (λ ps. one_answer (terms_at m s ps)) items ∙ sym (c.in-None.ensures m (reads m s c.args.list)))
-    (h m (codes "=..") stands (subst (All (IsHeldAt m s)) (sym items) (both_held m s c.args.first c.args.list first list)) univ_is))
+    (sym (c.in-None.ensures m (reads m s c.args.list)))
+    (h m (codes "=..") stands (both_held m s c.args.first c.args.list first list) univ_is))

@@ -20,8 +20,8 @@ returns-in-Some-clause-row c m stands list named held =
     (λ ts. some_of _ c.in_ok-refused.refused c.in-Some.row c.in-Some.is c.in_ok-refused.ensures.refused m (codes "=..") ts
     (a m s t c.args.next c.args.name made c.args.list c.args.arguments.now cost) stands univ_is refl (omega arith))
 
-pub returns-in_ok-places-in-None-clause-row : goal.returns-in_ok-places-in-None-clause-row
-returns-in_ok-places-in-None-clause-row c m stands list named held =
+pub returns-in_ok-term-in-None-clause-row : goal.returns-in_ok-term-in-None-clause-row
+returns-in_ok-term-in-None-clause-row c m stands list named held =
     let s = c.args.store.now in
     let t = c.take_room.new.store in
     let w = c.make_compound.new.self in
@@ -35,6 +35,6 @@ returns-in_ok-places-in-None-clause-row c m stands list named held =
     composed_given m s w c.args.next c.args.name made c.args.list args cost term
     (makes_after s w c.args.next made
     (subst (λ v. Makes v zero zero zero w) same (makes_one t w (compound f (map (term_at t) args)) term so.made so.numbers so.adds)))
-    so.made.holds (so.made.means ∙ ap (λ v. compound f (map (term_at v) args)) same) c.requires.list list named held c.in_ok-places-in-None.places
-    c.in_ok-places-in-None.ensures.items (none_of _ c.in_ok-refused.refused c.in-None.is c.in_ok-refused.ensures.numbers)
+    so.made.holds (so.made.means ∙ ap (λ v. compound f (map (term_at v) args)) same) c.requires.list list named held
+    (none_of _ c.in_ok-refused.refused c.in-None.is c.in_ok-refused.ensures.numbers)
     (none_of _ c.in_ok-refused.refused c.in-None.is c.in_ok-refused.ensures.cells)

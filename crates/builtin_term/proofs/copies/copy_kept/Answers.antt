@@ -27,8 +27,8 @@ returns-in-Some-clause-row c m v stands held =
     (λ ts. some_of _ c.in_ok-refused.refused c.in-Some.row c.in-Some.is c.in_ok-refused.ensures.refused m (codes "copy_term") ts a stands copy_term_is
     (kept_variables m s c.args.term kept c.requires.kept ∙ sym c.variables-count.ensures) (kept_cells m s c.args.term kept c.requires.kept ∙ sym c.cells.ensures))
 
-pub returns-in_ok-places-in-None-clause-row : goal.returns-in_ok-places-in-None-clause-row
-returns-in_ok-places-in-None-clause-row c m v stands held =
+pub returns-in_ok-copy-in-None-clause-row : goal.returns-in_ok-copy-in-None-clause-row
+returns-in_ok-copy-in-None-clause-row c m v stands held =
     let s = c.args.store.now in
     let t = c.take_room.new.store in
     let u = c.build.new.self in
@@ -41,6 +41,6 @@ returns-in_ok-places-in-None-clause-row c m v stands held =
     copy_given m s u next c.args.term c.in_ok-copy-in-None.copy kept c.requires.kept b.built.means b.built.holds c.requires.term held
     (subst (λ k. Makes s next n k u) c.cells.ensures
     (makes_after s t u next n c.cells.result room (makes_built t u next n kept c.in_ok-copy-in-None.copy b.built b.adds refl)))
-    v c.in_ok-places-in-None.places c.variables-count.result c.variables-count.ensures c.in_ok-places-in-None.ensures.items
+    v c.variables-count.result c.variables-count.ensures
     (subst (λ k. next + k < 2 ^ 64) c.variables-count.ensures (none_of _ c.in_ok-refused.refused c.in-None.is c.in_ok-refused.ensures.numbers))
     (subst (λ k. s.used + k ≤ s.budget) c.cells.ensures (none_of _ c.in_ok-refused.refused c.in-None.is c.in_ok-refused.ensures.cells))

@@ -36,8 +36,8 @@ returns-in-Some-clause-row c m stands name arity =
     refused_given s c.args.next (proc (codes "functor") 3) m c.take_room.new.store a c.in-Some.row
     (λ ts. some_of _ c.in_ok-refused.refused c.in-Some.row c.in-Some.is c.in_ok-refused.ensures.refused m (codes "functor") ts a stands functor_is refl refl)
 
-pub returns-in_ok-places-in-None-clause-row : goal.returns-in_ok-places-in-None-clause-row
-returns-in_ok-places-in-None-clause-row c m stands name arity =
+pub returns-in_ok-term-in-None-clause-row : goal.returns-in_ok-term-in-None-clause-row
+returns-in_ok-term-in-None-clause-row c m stands name arity =
     let s = c.args.store.now in
     let t = c.take_room.new.store in
     let u = c.make_variables.new.store in
@@ -54,5 +54,5 @@ returns-in_ok-places-in-None-clause-row c m stands name arity =
     (makes_then s u w next k (2 * k + 1) (makes_after s t u next k (2 * k + 1) (makes_room s t next (2 * k + 1) same) fresh.makes)
     (makes_one u w (compound f (map (term_at u) vs)) term made.made made.numbers made.adds))
     made.made.holds (made.made.means ∙ ap (λ ps. compound f (map (term_at u) ps)) c.deref.ensures.value ∙ ap (compound f) fresh.stand)
-    c.requires.name c.requires.stands c.requires.arity name arity c.in_ok-places-in-None.places c.in_ok-places-in-None.ensures.items
+    c.requires.name c.requires.stands c.requires.arity name arity
     (none_of _ c.in_ok-refused.refused c.in-None.is c.in_ok-refused.ensures.numbers) (none_of _ c.in_ok-refused.refused c.in-None.is c.in_ok-refused.ensures.cells)

@@ -23,8 +23,8 @@ returns-in-Some-refused-clause-row c m p stands held all known =
     refused_given s c.args.next (proc p 2) m c.take_room.new.store a c.in-Some-refused.row
     (λ ts. some_of _ c.in_ok-refused.refused c.in-Some-refused.row c.in-Some-refused.is c.in_ok-refused.ensures.refused m p ts a stands known refl (omega (arith, c.in-Some.ensures)))
 
-pub returns-in_ok-places-in-None-clause-row : goal.returns-in_ok-places-in-None-clause-row
-returns-in_ok-places-in-None-clause-row c m p stands held all known =
+pub returns-in_ok-list-in-None-clause-row : goal.returns-in_ok-list-in-None-clause-row
+returns-in_ok-list-in-None-clause-row c m p stands held all known =
     let s = c.args.store.now in
     let t = c.take_room.new.store in
     let u = c.make_list.new.store in
@@ -35,5 +35,5 @@ returns-in_ok-places-in-None-clause-row c m p stands held all known =
     let l = c.in_ok-list-in-None.ensures in
     let same = none_of _ c.in_ok-refused.refused c.in-None.is c.in_ok-refused.ensures.taken in
     list_given m stands s u next p c.args.first list items made (makes_then s t u next zero made (makes_room s t next made same) l.makes) l.inside
-    (l.means ∙ ap (λ v. cells_of (map (term_at v) items)) same) c.requires.first held all c.in_ok-places-in-None.places c.in_ok-places-in-None.ensures.items
+    (l.means ∙ ap (λ v. cells_of (map (term_at v) items)) same) c.requires.first held all
     (omega (arith, c.in-Some.ensures)) (omega arith) (none_of _ c.in_ok-refused.refused c.in-None.is c.in_ok-refused.ensures.cells)

@@ -14,7 +14,7 @@ compare_here-requires-clause-course g c =
     let new = record old { course = c.leave.new.self } in
     subst (λ k. IsCompared k s (c.pop.new.self.items ++ c.in-Some.pair ∷ []) (record new { pairs = c.pop.new.self })) (sym c.loop.invariant.same)
     (subst (λ ps. IsCompared m s ps (record new { pairs = c.pop.new.self })) c.in-Some.ensures.items
-    (course_leaves m s c.len.result old new (c.len.ensures ∙ old.pairs.ok.0) c.in_ok-leave.ensures c.loop.invariant.course))
+    (course_leaves m s c.len.result old new c.len.ensures.value c.in_ok-leave.ensures c.loop.invariant.course))
 
 pub returns-then-is_ne-clause-order : goal.returns-then-is_ne-clause-order
 returns-then-is_ne-clause-order g c =

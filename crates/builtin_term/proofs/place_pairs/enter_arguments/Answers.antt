@@ -1,4 +1,4 @@
-use Rattle.std.proofs.Common.{refl, subst, ◌∙◌}
+use Rattle.std.proofs.Common.{refl, subst}
 use Rattle.term_store.specs.Contents.{arguments_at}
 use Rattle.world_builtins.specs.Spelling.{text_of}
 use Rattle.builtin_term.specs.Courses.{Enters}
@@ -29,7 +29,7 @@ returns-clause-opens c =
     on_both _ _ _ c.push_pairs.result c.push_pairs.ensures.gains c.push_pairs.ensures.gains
     (λ gains _ m known.
     opens_pairs m s c.args.left c.args.right c.len-height.result old (record { pairs = c.push_pairs.new.pending; course = c.enter.new.self })
-    (c.len-height.ensures ∙ old.pairs.ok.0)
+    c.len-height.ensures.value
     (subst (λ b. Enters b (record { left = c.args.left; right = c.args.right }) c.len-height.result old.course.opened.items old.course.left
     c.enter.new.self.opened.items) c.if-not-branch.false c.in_ok-enter.ensures.enters)
     c.in_ok-enter.ensures.left gains)

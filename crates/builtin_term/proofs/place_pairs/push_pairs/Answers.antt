@@ -35,10 +35,10 @@ loop-i-preserved c =
       within = omega arith;
       gains =
           gains_more s ts us c.args.pending.now.items c.loop-i.pending.items c.push.new.self.items p i (atom []) some left right
-          c.loop-i.invariant.gains c.in_ok-push.ensures.items c.argument.ensures.stands c.argument-in-loop-i.ensures.stands;
+          c.loop-i.invariant.gains c.in_ok-push.ensures.ok c.argument.ensures.stands c.argument-in-loop-i.ensures.stands;
       pairs = λ m these those all.
           argument_pairs m s ts us c.loop-i.pending.items c.push.new.self.items p (i - 1) (atom []) left right these those
-          (c.loop-i.invariant.pairs m these those all) c.in_ok-push.ensures.items c.argument.ensures.holds c.argument-in-loop-i.ensures.holds
+          (c.loop-i.invariant.pairs m these those all) c.in_ok-push.ensures.ok c.argument.ensures.holds c.argument-in-loop-i.ensures.holds
           c.argument.ensures.stands c.argument-in-loop-i.ensures.stands;
     }
 

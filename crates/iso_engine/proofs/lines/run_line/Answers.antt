@@ -1,4 +1,4 @@
-use Rattle.std.proofs.Common.{◌++◌, refl, sym, ap, subst, ◌∙◌}
+use Rattle.std.proofs.Common.{◌++◌, sym, ap, subst, ◌∙◌}
 use Rattle.term_store.specs.Contents.{Holds}
 use Rattle.world_api.proofs.Gaining.{gains_weaker}
 use Rattle.builtin_dispatch.specs.Dispatching.{lines_of, terms_of}

@@ -1,9 +1,8 @@
-use Rattle.std.proofs.Common.{◌≤◌, length, refl, sym, subst, ◌∙◌}
+use Rattle.std.proofs.Common.{◌≤◌, length, sym, subst, ◌∙◌}
 use Rattle.builtin_dispatch.specs.Dispatching.{AreHeld}
 use Rattle.iso_search.specs.declared.search.Search.{Search}
 use Rattle.iso_search.proofs.Texts.{texts_apart}
 use Rattle.world_api.proofs.Gaining.{gains_weaker}
-use Rattle.iso_engine.specs.Leading.{IsRowMade, Origin}
 use Rattle.iso_engine.proofs.RowSteps.{IsCosted, arguments_held, asked_given, led_leads, origin, row_made, spent_leads, unrefused}
 use Rattle.iso_engine.proofs.rows.run_row.Goals as goal
 

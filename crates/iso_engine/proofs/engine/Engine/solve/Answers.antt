@@ -1,4 +1,4 @@
-use Rattle.std.proofs.Common.{◌≡◌, ◌∷◌, [], List, refl, inl, ap}
+use Rattle.std.proofs.Common.{◌≡◌, ◌∷◌, [], List, refl, ap}
 use Rattle.std.specs.Arc.{arc_value}
 use Rattle.std.specs.Prelude.{IfNone}
 use Rattle.pl_model.specs.Resolution.{Output, solution}

@@ -1,4 +1,4 @@
-use Rattle.std.proofs.Common.{[], map, ◌∙◌}
+use Rattle.std.proofs.Common.{[], map}
 use Rattle.pl_term.specs.Tree.{trees}
 use Rattle.pl_model.specs.Control.{unified}
 use Rattle.pl_model.specs.Resolution.{Node, State}

@@ -1,4 +1,4 @@
-use Rattle.std.proofs.Common.{map, sym, subst, ◌∙◌}
+use Rattle.std.proofs.Common.{map, subst}
 use Rattle.pl_term.specs.Tree.{trees}
 use Rattle.pl_model.specs.Terms.{arguments}
 use Rattle.term_store.specs.Contents.{term_at}
