@@ -2,8 +2,11 @@ pub mod Answered
 pub mod Below
 pub mod Changes
 pub mod Creating
+pub mod DestroyedQueues
 pub mod FoundQueues
+pub mod Forgotten
 pub mod Free
+pub mod JoinedThreads
 pub mod Located
 pub mod MainAlias
 pub mod Numbers
@@ -13,6 +16,7 @@ pub mod Same
 pub mod Searched
 pub mod Sending
 pub mod Served
+pub mod MadeStatuses
 pub mod Steps
 pub mod TakenMessages
 pub mod Weighing

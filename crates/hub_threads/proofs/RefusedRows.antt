@@ -43,6 +43,46 @@ pub create_is : fixed 68 ≡ Some (codes "create")
 unfolding fixed_texts
 create_is = refl
 
+pub destroy_is : fixed 73 ≡ Some (codes "destroy")
+unfolding fixed_texts
+destroy_is = refl
+
+pub join_is : fixed 112 ≡ Some (codes "join")
+unfolding fixed_texts
+join_is = refl
+
+pub thread_is : fixed 163 ≡ Some (codes "thread")
+unfolding fixed_texts
+thread_is = refl
+
+pub threads_is : fixed 173 ≡ Some (codes "threads")
+unfolding fixed_texts
+threads_is = refl
+
+pub truth_is : fixed 176 ≡ Some (codes "true")
+unfolding fixed_texts
+truth_is = refl
+
+pub falsity_is : fixed 89 ≡ Some (codes "false")
+unfolding fixed_texts
+falsity_is = refl
+
+pub exception_is : fixed 83 ≡ Some (codes "exception")
+unfolding fixed_texts
+exception_is = refl
+
+pub exited_is : fixed 87 ≡ Some (codes "exited")
+unfolding fixed_texts
+exited_is = refl
+
+pub halted_is : fixed 102 ≡ Some (codes "halted")
+unfolding fixed_texts
+halted_is = refl
+
+pub atom_space_is : fixed 50 ≡ Some (codes "atom_space")
+unfolding fixed_texts
+atom_space_is = refl
+
 -- ROWS
 pub refusal_says : (n : Names) (error : Tree) (r : Result Tree NoMemory) → IfOk r (λ e. said n e ≡ error) → Refuses n error (refusal r)
 refusal_says n error (Ok e) h = h

@@ -48,6 +48,9 @@ some_of (Some x) h = (x, refl)
 pub at_some : {X : Type 0} (P : X → Type 0) (o : Option X) (x : X) → o ≡ Some x → IfSome o P → P x
 at_some P o x e h = subst (λ p. IfSome p P) e h
 
+pub some_at : {X : Type 0} (P : X → Type 0) (o : Option X) (x : X) → o ≡ Some x → P x → IfSome o P
+some_at P o x e h = subst (λ p. IfSome p P) (sym e) h
+
 -- each stored term is counted
 pub stored_counted : (k : View) (q : Held Tree) (g : ℕ) → Counts (thread_counts q) k g → (t : Tree) → IsStored t q → IsCounted t k
 stored_counted k q g counts t inside = part_counted (thread_counts q) counts.rest k counts.exact t (λ a. inside (naming a))

@@ -3,6 +3,8 @@ use Rattle.std.specs.Prelude.{◌≡◌, ℕ, List, [], ◌∷◌, ◌++◌, Opt
 use Rattle.pl_term.specs.Tree.{Chars, Tree}
 use Rattle.pl_term.specs.declared.memory.Memory.{Memory as NoMemory}
 use Rattle.pl_model.specs.declared.threads.Name.{Name as SharedName}
+use Rattle.pl_model.specs.declared.threads.Status.{Status}
+use Rattle.pl_model.specs.declared.threads.Status.TheVariants.{Exception, Exited}
 use Rattle.pl_model.specs.History.{Kind, History, begins, has_begun}
 use Rattle.pl_model.specs.Requests.{Request}
 use Rattle.atom_api.specs.Names.{Names}
@@ -11,6 +13,7 @@ use Rattle.atom_api.specs.declared.interned.Interned.TheVariants.{Is, Full, Agai
 use Rattle.atom_api.specs.declared.interned.Interned.TheVariants as interned
 use Rattle.atom_words.specs.declared.view.View.{View}
 use Rattle.hub_threads.specs.Held.{Held}
+use Rattle.term_store.specs.NumberedNames.{names_of}
 use Rattle.world_api.specs.declared.reply.Name.TheVariants.{Alias}
 use Rattle.world_api.specs.declared.reply.Reply.{Reply}
 use Rattle.world_api.specs.declared.reply.Reply.TheVariants.{Message, Named, Refused}
@@ -61,6 +64,18 @@ abbrev pub WaitsOnQueue : Names → SharedName → Row → Type 0
 WaitsOnQueue m n (Waits (Queue x)) = named_by (text_of m) x ≡ n
 WaitsOnQueue m n Memory = Unit {0}
 WaitsOnQueue m n _ = ⊥
+
+-- the row waits on the end of the thread of this name, or memory ran out
+abbrev pub WaitsOnThread : Names → SharedName → Row → Type 0
+WaitsOnThread m n (Waits (Thread x)) = named_by (text_of m) x ≡ n
+WaitsOnThread m n Memory = Unit {0}
+WaitsOnThread m n _ = ⊥
+
+-- the atoms of the term of a status
+abbrev pub status_names : Status Tree → List ℕ
+status_names (Exception b) = names_of b
+status_names (Exited t) = names_of t
+status_names _ = []
 
 -- The engine e is answered with the texts n of the atoms held; q and count are what is held afterwards, by the texts of the keeper with the view l.
 module _ (l : View) (n : Names) (e : ℕ) (r : Request) (q : Held Tree) (count goals : ℕ) (h : History) where

@@ -8,7 +8,7 @@ ghost use Rattle.term_store.specs.NumberedNames.{names_of};
 ghost use Rattle.world_api.specs.Answers.{alias_names, named_by};
 ghost use Rattle.world_api.specs.Texts.{text_of};
 ghost use Rattle.counted_terms.specs.CountedTerms.{said};
-ghost use Rattle.hub_threads.specs.Finding.{Finds};
+ghost use Rattle.hub_threads.specs.Finding.{Finds, FindsThread};
 
 use crate::held::{Name, Queues};
 use atom_table::{NamesTable, TableAtoms};
@@ -80,5 +80,48 @@ fn found_queue(queues: &Queues<CountedTerm>, name: Name) -> FoundQueue
         FoundQueue::Is(name)
     } else {
         FoundQueue::Missing
+    }
+}
+
+/// The thread that a term names.
+#[derive(Drop)]
+pub enum FoundThread {
+    /// It has this name and this number; whether it has ended.
+    Is(Name, u64, bool),
+    /// There is none.
+    Missing,
+    /// Out of memory.
+    Memory,
+}
+
+/// Finds the thread that a term names.
+pub fn find_thread<K: NamesTable>(
+    alloc: Global,
+    queues: &Queues<CountedTerm>,
+    atoms: &mut TableAtoms<K>,
+    term: &Stored,
+) -> FoundThread
+    requires held { All (λ a. IsSome (names (seen atoms.old.seat) a)) (names_of term.now) }
+    ensures finds { FindsThread queues.now.state (name_of (said (names (seen atoms.old.seat)) term.now)) result }
+    ensures held { names (seen atoms.new.seat) ≡ names (seen atoms.old.seat) }
+    ensures refusals { (seen atoms.new.seat).refusals ≡ (seen atoms.old.seat).refusals }
+    ensures requests { requests (seen atoms.new.seat) ≡ requests (seen atoms.old.seat) }
+{
+    match name_in(term) {
+        None => FoundThread::Missing,
+        Some(name) => match spelled_name(alloc, atoms, name) {
+            Err(Memory) => FoundThread::Memory,
+            Ok(name) => found_thread(queues, name),
+        },
+    }
+}
+
+// The thread of this name.
+fn found_thread(queues: &Queues<CountedTerm>, name: Name) -> FoundThread
+    ensures { FindsThread queues.now.state (Some name) result }
+{
+    match queues.find_thread(&name) {
+        None => FoundThread::Missing,
+        Some((number, has_ended)) => FoundThread::Is(name, number, has_ended),
     }
 }

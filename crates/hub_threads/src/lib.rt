@@ -6,18 +6,24 @@
 //! the history is made by the caller.
 #![tactic(auto)]
 
+mod destroying;
 mod finding;
+mod forgetting;
 mod held;
+mod joining;
 mod messages;
 mod names;
 mod queues;
 mod refusing;
+mod statuses;
 mod taking;
 
+pub use destroying::destroy_queue;
 pub use held::{
     Name, QueueFault, Queues, Status, changes_are_kept, messages_unify_as_terms,
     numbers_stay_below, requests_are_served, terms_are_kept,
 };
+pub use joining::join_thread;
 pub use messages::send_message;
 pub use names::own_name;
 pub use queues::create_queue;

@@ -9,7 +9,7 @@ ghost use Rattle.atom_api.specs.Names.{FixedStand, Names};
 ghost use Rattle.term_store.specs.NumberedNames.{names_of};
 ghost use Rattle.counted_terms.specs.CountedTerms.{said};
 ghost use Rattle.counted_terms.specs.Rows.{row_names, row_refusals};
-ghost use Rattle.hub_threads.specs.Rows.{Refuses, WaitsOnQueue, refusal, updates_in};
+ghost use Rattle.hub_threads.specs.Rows.{Refuses, WaitsOnQueue, WaitsOnThread, refusal, updates_in};
 
 use atom_api::{Atom, fixed};
 use counted_terms::{Row, atom_term, existence_error, name_in, permission_error, resource_error};
@@ -51,6 +51,19 @@ pub fn wait_on_queue(queue: &Stored) -> Row
     }
 }
 
+/// The engine waits on the end of the thread that the term names.
+pub fn wait_on_thread(thread: &Stored) -> Row
+    ensures says { (m : Names) (n : SharedName) → FixedStand m → name_of (said m thread.now) ≡ Some n → WaitsOnThread m n result }
+    ensures named { (m : Names) → All (λ a. IsSome (m a)) (names_of thread.now) → All (λ a. IsSome (m a)) (row_names result) }
+    ensures reads { updates_in result ≡ 0 }
+    ensures refusals { row_refusals result ≡ [] }
+{
+    match name_in(thread) {
+        Some(name) => Row::Waits(On::Thread(name)),
+        None => Row::Memory,
+    }
+}
+
 /// No update is made any more.
 pub fn worn_out(alloc: Global) -> Row
     ensures says { (m : Names) → FixedStand m → Refuses m (errors.resource_error (codes "generations")) result }
@@ -72,4 +85,34 @@ pub fn alias_taken(alloc: Global, kind: Atom, alias: Atom) -> Row
         Err(Memory) => Row::Memory,
         Ok(culprit) => refused(permission_error(alloc, fixed::CREATE, kind, &culprit)),
     }
+}
+
+/// No such thing is there.
+pub fn not_there(alloc: Global, kind: Atom, culprit: &Stored) -> Row
+    ensures says { (m : Names) (k : Chars) → FixedStand m → m kind ≡ Some k → Refuses m (errors.existence_error k (said m culprit.now)) result }
+    ensures named { (m : Names) → FixedStand m → IsSome (m kind) → All (λ a. IsSome (m a)) (names_of culprit.now) → All (λ a. IsSome (m a)) (row_names result) }
+    ensures reads { updates_in result ≡ 0 }
+    ensures refusals { row_refusals result ≡ [] }
+{
+    refused(existence_error(alloc, kind, culprit))
+}
+
+/// That must not be done.
+pub fn not_permitted(alloc: Global, action: Atom, kind: Atom, culprit: &Stored) -> Row
+    ensures says { (m : Names) (t k : Chars) → FixedStand m → m action ≡ Some t → m kind ≡ Some k → Refuses m (errors.permission_error t k (said m culprit.now)) result }
+    ensures named { (m : Names) → FixedStand m → IsSome (m action) → IsSome (m kind) → All (λ a. IsSome (m a)) (names_of culprit.now) → All (λ a. IsSome (m a)) (row_names result) }
+    ensures reads { updates_in result ≡ 0 }
+    ensures refusals { row_refusals result ≡ [] }
+{
+    refused(permission_error(alloc, action, kind, culprit))
+}
+
+/// The resource is used up.
+pub fn used_up(alloc: Global, resource: Atom) -> Row
+    ensures says { (m : Names) (t : Chars) → FixedStand m → m resource ≡ Some t → Refuses m (errors.resource_error t) result }
+    ensures named { (m : Names) → FixedStand m → IsSome (m resource) → All (λ a. IsSome (m a)) (row_names result) }
+    ensures reads { updates_in result ≡ 0 }
+    ensures refusals { row_refusals result ≡ [] }
+{
+    refused(resource_error(alloc, resource))
 }

@@ -210,8 +210,8 @@ fn lend_message<K: NamesTable>(
     }
 }
 
-// What always holds of the queues.
-fn are_sound(queues: &Queues<CountedTerm>)
+/// What always holds of the queues. It does nothing.
+pub fn are_sound(queues: &Queues<CountedTerm>)
     ensures { IsSound queues.now }
 {
     queues.is_sound();

@@ -132,6 +132,26 @@ impl<M: Drop> Queues<M> {
         self.queue_of(q).is_some()
     }
 
+    /// Whether the queue that is named so is a thread's own.
+    pub fn is_own(&self, q: &Name) -> bool
+        ensures { IfSome (queue_named self.now.state q.now) (λ x. result ≡ x.is_own) }
+    {
+        match self.queue_of(q) {
+            None => false,
+            Some(i) => self.queues[i].is_own(),
+        }
+    }
+
+    /// How the thread that is named so ended, where it has.
+    pub fn status_of(&self, t: &Name) -> Option<&Status<M>>
+        ensures { IfSome (thread_named self.now.state t.now) (λ h. option_map (λ s. s.now) result ≡ h.status) }
+    {
+        match self.thread_of(t) {
+            None => None,
+            Some(i) => self.threads[i].status.as_ref(),
+        }
+    }
+
     /// The number of the thread that is named so, and whether it has ended.
     pub fn find_thread(&self, t: &Name) -> Option<(u64, bool)>
         ensures { result ≡ option_map (λ h. (h.number, is_some h.status)) (thread_named self.now.state t.now) }

@@ -1,0 +1,2 @@
+-- How threads ended, as terms.
+use Rattle.std.proofs.Common.{◌≡◌}
