@@ -1,5 +1,5 @@
 -- What changes of procedures, flags and operators come to.
-use Rattle.std.proofs.Common.{◌≡◌, zero, take, ◌||◌, ◌<◌, ◌≤◌, ◌^◌, ℕ, List, [], ◌∷◌, ◌++◌, map, length, Some, None, Bool, true, false, refl, sym, ap, subst, ◌∙◌, suc, arith}
+use Rattle.std.proofs.Common.{◌≡◌, ◌≢◌, zero, take, ◌||◌, ◌<◌, ◌≤◌, ◌^◌, ℕ, List, [], ◌∷◌, ◌++◌, map, length, Some, None, Bool, true, false, refl, sym, ap, subst, ◌∙◌, suc, arith}
 use Rattle.std.specs.Prelude.{IsSome, codes}
 use Rattle.std.specs.List.{All, list_any, slice_get}
 use Rattle.std.specs.Option.{option_map_or}
@@ -31,7 +31,7 @@ use Rattle.counted_terms.specs.declared.row.Row.{Row}
 use Rattle.counted_terms.specs.declared.row.Row.TheVariants.{Reads, Makes, Waits, NeedsAtoms, Retry, Worn, Memory}
 use Rattle.hub_database.specs.Clauses.{clause_by}
 use Rattle.hub_database.specs.Database.{AllOpen, IsDatabase, databases}
-use Rattle.hub_database.specs.Rows.{Decides, Refuses, Updates, generation_after, history_after}
+use Rattle.hub_database.specs.Rows.{Decides, IsReply, IsReplyOrMade, Refuses, Updates, generation_after, history_after}
 use Rattle.hub_database.proofs.Deciding.{database_then, refused_named, refused_tells}
 use Rattle.hub_database.proofs.Histories.{databases_same, newest_after}
 
@@ -159,3 +159,23 @@ module _ (goals e : ℕ) (h : History) (g : ℕ) (at : length h ≡ g) (qs : Lis
   dynamic_static i p got none is =
       dynamic_refused e (state_at goals h (length h)) (length h) qs i p got
       (ap (λ (n : ℕ). list_any (is_static (databases goals h n)) (take i qs)) at ∙ none) (ap (λ (n : ℕ). is_static (databases goals h n) p) at ∙ is)
+
+-- such an update is made below the last generation
+pub early_by : (g : ℕ) (made : Reply Tree) (row : Row) → Updates g made row → generation_after row g ≢ g → g < 2 ^ 47
+early_by g made (Reads r) u n = absurd (n refl)
+early_by g made (Makes r) u n = u.1
+early_by g made (Waits on) u n = absurd u
+early_by g made (NeedsAtoms p) u n = absurd u
+early_by g made (Retry c) u n = absurd u
+early_by g made (Worn w) u n = absurd u
+early_by g made Memory u n = absurd (n refl)
+
+-- a reply alone
+pub reply_or_made : (row : Row) → IsReply row → IsReplyOrMade row
+reply_or_made (Reads r) is = tt
+reply_or_made (Makes r) is = absurd is
+reply_or_made (Waits on) is = absurd is
+reply_or_made (NeedsAtoms p) is = absurd is
+reply_or_made (Retry c) is = absurd is
+reply_or_made (Worn w) is = absurd is
+reply_or_made Memory is = tt

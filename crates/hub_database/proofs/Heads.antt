@@ -79,7 +79,7 @@ neck_fixed : fixed neck ≡ Some (codes ":-")
 unfolding fixed_texts
 neck_fixed = refl
 
-text_is : (m : Names) (a : ℕ) (t : Chars) → m a ≡ Some t → text_of m a ≡ t
+pub text_is : (m : Names) (a : ℕ) (t : Chars) → m a ≡ Some t → text_of m a ≡ t
 text_is m a t e = ap (or_no_text a) e
 
 with_neck-same : (text : ℕ → Chars) → text neck ≡ codes ":-" → (a : ℕ) → with_neck text a ≡ text a

@@ -12,3 +12,5 @@ pub mod Errors
 pub mod CalledClauses
 pub mod AddedRows
 pub mod ChangedRows
+pub mod FlagRows
+pub mod ReclaimedClauses

@@ -3,3 +3,4 @@ pub mod Database
 pub mod Rows
 pub mod Adding
 pub mod Heads
+pub mod Flags

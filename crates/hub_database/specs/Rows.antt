@@ -115,3 +115,16 @@ Updates g made _ = ⊥
 abbrev pub history_after : ℕ → Row → Kind → History → History
 history_after e (Makes r) kind h = h ++ entry_by e (Some kind)
 history_after e _ kind h = h
+
+-- a reply with nothing changed, or out of memory
+abbrev pub IsReply : Row → Type 0
+IsReply (Reads r) = Unit {0}
+IsReply Memory = Unit {0}
+IsReply _ = ⊥
+
+-- the same, or a reply with the change made
+abbrev pub IsReplyOrMade : Row → Type 0
+IsReplyOrMade (Reads r) = Unit {0}
+IsReplyOrMade (Makes r) = Unit {0}
+IsReplyOrMade Memory = Unit {0}
+IsReplyOrMade _ = ⊥

@@ -1,5 +1,5 @@
 //! Clauses are added to the database (ISO 7.4.2, 8.9.1, 8.9.2).
-ghost use Rattle.std.specs.Prelude.{◌≡◌, ◌≤◌, ◌<◌, ◌^◌, ℕ, IsSome, length};
+ghost use Rattle.std.specs.Prelude.{◌≡◌, [], ◌≤◌, ◌<◌, ◌^◌, ℕ, IsSome, length};
 ghost use Rattle.std.specs.List.{All};
 ghost use Rattle.pl_model.specs.History as entries;
 ghost use Rattle.pl_model.specs.Predicates.{proc_of as predicate_of};
@@ -12,7 +12,7 @@ ghost use Rattle.world_api.specs.Visits.{clause_in, proc_named};
 ghost use Rattle.counted_terms.specs.CountedTerms.{said};
 ghost use Rattle.counted_terms.specs.Keeping.{KeeperAt, keeper_view};
 ghost use Rattle.counted_terms.specs.Sharing.{Counts, Restored};
-ghost use Rattle.counted_terms.specs.Rows.{row_names};
+ghost use Rattle.counted_terms.specs.Rows.{row_names, row_refusals};
 ghost use Rattle.hub_database.specs.Adding.{adding_kind, adding_request};
 ghost use Rattle.hub_database.specs.Database.{IsDatabase, IsUpTo, clause_counts};
 ghost use Rattle.hub_database.specs.Rows.{Decides, IsQuiet, RefusesAddition, generation_after};
@@ -47,6 +47,7 @@ pub fn add_clause<K: NamesTable>(
     ensures floor { db.new.floor ≡ db.old.floor }
     ensures quiet { IsQuiet (seen atoms.old.seat) (seen atoms.new.seat) }
     ensures named { All (λ a. IsSome (names (seen atoms.new.seat) a)) (row_names result) }
+    ensures unrefused { row_refusals result ≡ [] }
     ensures says { (goals e : ℕ) (h : entries.History) → length h ≡ generation → IsDatabase (keeper_view keeper.old) db.old goals h
         → Decides goals e (text_of (names (seen atoms.new.seat))) (adding_request by (clause_in (said (names (seen atoms.old.seat)) clause))) h
         (adding_kind by (predicate_of (clause_in (said (names (seen atoms.old.seat)) clause)).head) (clause_in (said (names (seen atoms.old.seat)) clause))) (keeper_view keeper.new) db.new result }
@@ -73,7 +74,8 @@ pub fn add_clause<K: NamesTable>(
 
 // The refusal for this cause, or where there is none for want of generations.
 fn no_addition(alloc: Global, procedure: &Procedure, fault: Option<DbFault>) -> Row
-    ensures { RefusesAddition procedure.now fault result }
+    ensures refuses { RefusesAddition procedure.now fault result }
+    ensures unrefused { row_refusals result ≡ [] }
 {
     match fault {
         Some(DbFault::Static) => refusal(static_error(alloc, procedure)),

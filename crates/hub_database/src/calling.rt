@@ -1,5 +1,5 @@
 //! The clauses for goals: calls, clause/2 and retract/1, with their refusals.
-ghost use Rattle.std.specs.Prelude.{◌≡◌, ◌≤◌, ℕ, IsSome, length};
+ghost use Rattle.std.specs.Prelude.{◌≡◌, ◌≤◌, [], ℕ, IsSome, length};
 ghost use Rattle.std.specs.List.{All};
 ghost use Rattle.pl_term.specs.Tree.{Tree};
 ghost use Rattle.pl_model.specs.Database as database;
@@ -17,9 +17,9 @@ ghost use Rattle.world_api.specs.Visits.{proc_named};
 ghost use Rattle.counted_terms.specs.CountedTerms.{said};
 ghost use Rattle.counted_terms.specs.Keeping.{KeeperAt, keeper_view};
 ghost use Rattle.counted_terms.specs.Sharing.{Counts};
-ghost use Rattle.counted_terms.specs.Rows.{row_names};
+ghost use Rattle.counted_terms.specs.Rows.{row_names, row_refusals};
 ghost use Rattle.hub_database.specs.Database.{IsDatabase, clause_counts};
-ghost use Rattle.hub_database.specs.Rows.{IsQuiet, IsSteady, Tells, Unknowns};
+ghost use Rattle.hub_database.specs.Rows.{IsQuiet, IsReply, IsSteady, Tells, Unknowns};
 
 use crate::looking::first_of;
 use crate::naming::predicate_text;
@@ -34,7 +34,9 @@ use world_api::{Procedure, Reply};
 
 // What the call of an unknown procedure is answered (ISO 7.7.7, 7.11.2.4).
 fn unknown(alloc: Global, call: UnknownCall, procedure: &Procedure) -> Row
-    ensures { Unknowns call procedure.now result }
+    ensures answers { Unknowns call procedure.now result }
+    ensures replies { IsReply result }
+    ensures unrefused { row_refusals result ≡ [] }
 {
     match call {
         UnknownCall::Raises => refusal(unknown_error(alloc, procedure)),
@@ -89,6 +91,8 @@ pub fn call_clauses<K: NamesTable>(
     ensures steady { IsSteady (keeper_view keeper.old) (keeper_view keeper.new) }
     ensures quiet { IsQuiet (seen atoms.old.seat) (seen atoms.new.seat) }
     ensures named { All (λ a. IsSome (names (seen atoms.new.seat) a)) (row_names result) }
+    ensures replies { IsReply result }
+    ensures unrefused { row_refusals result ≡ [] }
     ensures says { (goals e : ℕ) (h : entries.History) (t : Tree) → length h ≡ generation → IsDatabase (keeper_view keeper.old) db.now goals h
         → predicate_of (said (names (seen atoms.old.seat)) t) ≡ proc_named (text_of (names (seen atoms.old.seat))) procedure.now → clause_key t ≡ first.now
         → Tells goals e (text_of (names (seen atoms.new.seat))) (requests.call_clauses (said (names (seen atoms.old.seat)) t)) h result }
@@ -121,6 +125,8 @@ pub fn inspect_clauses<K: NamesTable>(
     ensures steady { IsSteady (keeper_view keeper.old) (keeper_view keeper.new) }
     ensures quiet { IsQuiet (seen atoms.old.seat) (seen atoms.new.seat) }
     ensures named { All (λ a. IsSome (names (seen atoms.new.seat) a)) (row_names result) }
+    ensures replies { IsReply result }
+    ensures unrefused { row_refusals result ≡ [] }
     ensures says { (goals e : ℕ) (h : entries.History) (t : Tree) → length h ≡ generation → IsDatabase (keeper_view keeper.old) db.now goals h
         → predicate_of (said (names (seen atoms.old.seat)) t) ≡ proc_named (text_of (names (seen atoms.old.seat))) procedure.now → clause_key t ≡ first.now
         → Tells goals e (text_of (names (seen atoms.new.seat))) (requests.inspected_clauses (said (names (seen atoms.old.seat)) t)) h result }
@@ -153,6 +159,8 @@ pub fn retract_clauses<K: NamesTable>(
     ensures steady { IsSteady (keeper_view keeper.old) (keeper_view keeper.new) }
     ensures quiet { IsQuiet (seen atoms.old.seat) (seen atoms.new.seat) }
     ensures named { All (λ a. IsSome (names (seen atoms.new.seat) a)) (row_names result) }
+    ensures replies { IsReply result }
+    ensures unrefused { row_refusals result ≡ [] }
     ensures says { (goals e : ℕ) (h : entries.History) (t : Tree) → length h ≡ generation → IsDatabase (keeper_view keeper.old) db.now goals h
         → predicate_of (said (names (seen atoms.old.seat)) t) ≡ proc_named (text_of (names (seen atoms.old.seat))) procedure.now → clause_key t ≡ first.now
         → Tells goals e (text_of (names (seen atoms.new.seat))) (requests.retracted_clauses (said (names (seen atoms.old.seat)) t)) h result }

@@ -1,5 +1,5 @@
 //! Clauses are erased. No term is stored or forgotten by that.
-ghost use Rattle.std.specs.Prelude.{◌≡◌, ℕ, IsSome, length};
+ghost use Rattle.std.specs.Prelude.{◌≡◌, [], ℕ, IsSome, length};
 ghost use Rattle.std.specs.List.{All};
 ghost use Rattle.pl_model.specs.History as entries;
 ghost use Rattle.pl_model.specs.Requests as requests;
@@ -7,7 +7,7 @@ ghost use Rattle.atom_words.specs.Seats.{seen};
 ghost use Rattle.atom_table.specs.Naming.{names};
 ghost use Rattle.world_api.specs.Texts.{text_of};
 ghost use Rattle.counted_terms.specs.Keeping.{KeeperAt, keeper_view};
-ghost use Rattle.counted_terms.specs.Rows.{row_names};
+ghost use Rattle.counted_terms.specs.Rows.{row_names, row_refusals};
 ghost use Rattle.hub_database.specs.Database.{IsDatabase, IsUpTo, clause_counts};
 ghost use Rattle.hub_database.specs.Rows.{Decides, ErasesNone, IsQuiet, IsSteady, generation_after};
 
@@ -36,6 +36,7 @@ pub fn erase_clause<K: NamesTable>(
     ensures floor { db.new.floor ≡ db.old.floor }
     ensures quiet { IsQuiet (seen atoms.old.seat) (seen atoms.new.seat) }
     ensures named { All (λ a. IsSome (names (seen atoms.new.seat) a)) (row_names result) }
+    ensures unrefused { row_refusals result ≡ [] }
     ensures says { (goals e : ℕ) (h : entries.History) → length h ≡ generation → IsDatabase (keeper_view keeper.old) db.old goals h
         → Decides goals e (text_of (names (seen atoms.new.seat))) (requests.erase_clause clause) h (entries.erase clause) (keeper_view keeper.new) db.new result }
 {
@@ -52,7 +53,8 @@ pub fn erase_clause<K: NamesTable>(
 
 // What is answered where no update can be made: whether the clause is still there.
 fn no_erasure(alloc: Global, is_there: bool) -> Row
-    ensures { ErasesNone is_there result }
+    ensures erases { ErasesNone is_there result }
+    ensures unrefused { row_refusals result ≡ [] }
 {
     if is_there {
         refusal(worn_error(alloc))

@@ -20,10 +20,10 @@ ghost use Rattle.world_api.specs.Texts.{text_of};
 ghost use Rattle.counted_terms.specs.CountedTerms.{said};
 ghost use Rattle.counted_terms.specs.Keeping.{KeeperAt, keeper_view};
 ghost use Rattle.counted_terms.specs.Sharing.{Counts};
-ghost use Rattle.counted_terms.specs.Rows.{row_names};
+ghost use Rattle.counted_terms.specs.Rows.{row_names, row_refusals};
 ghost use Rattle.hub_database.specs.Clauses.{clause_by};
 ghost use Rattle.hub_database.specs.Database.{IsDatabase, clause_counts};
-ghost use Rattle.hub_database.specs.Rows.{HandsOut, IsQuiet, IsSteady, Tells, generation_after};
+ghost use Rattle.hub_database.specs.Rows.{HandsOut, IsQuiet, IsReply, IsSteady, Tells, generation_after};
 
 use crate::calls::first_clause;
 use atom_table::{Keeper, NamesTable, TableAtoms};
@@ -37,6 +37,7 @@ use world_api::Reply;
 /// The operators and the flag `double_quotes`.
 pub fn look(db: &Db<CountedTerm>) -> Row
     ensures named { row_names result ≡ [] }
+    ensures unrefused { row_refusals result ≡ [] }
     ensures look { (goals e : ℕ) (h : entries.History) (k : View) (text : ℕ → Chars) → IsDatabase k db.now goals h → Tells goals e text requests.look h result }
     ensures operators { (goals e : ℕ) (h : entries.History) (k : View) (text : ℕ → Chars) → IsDatabase k db.now goals h → Tells goals e text requests.read_operators h result }
 {
@@ -68,6 +69,8 @@ pub fn first_of<K: NamesTable>(
     ensures quiet { IsQuiet (seen atoms.old.seat) (seen atoms.new.seat) }
     ensures named { All (λ a. IsSome (names (seen atoms.new.seat) a)) (row_names result) }
     ensures reads { (g : ℕ) → generation_after result g ≡ g }
+    ensures replies { IsReply result }
+    ensures unrefused { row_refusals result ≡ [] }
     ensures says { (d : ℕ → database.Database entries.Clause) (t : Tree) → SaysFor (clause_by (keeper_view keeper.old)) db.now d → clause_key t ≡ first.now
         → HandsOut (λ f. IsFront term_by (text_of (names (seen atoms.new.seat))) f
         (choices (λ (c : entries.Clause). is_excluded (head_of (said (names (seen atoms.old.seat)) t)) c.head) generation (proc_of p.now) (d generation))) result }
@@ -84,6 +87,7 @@ pub fn first_of<K: NamesTable>(
 /// A cycle of collection is asked for, and not waited for (SWI-Prolog manual, section 'Multithreaded applications').
 pub fn collection() -> Row
     ensures named { row_names result ≡ [] }
+    ensures unrefused { row_refusals result ≡ [] }
     ensures atoms { (goals e : ℕ) (h : entries.History) (text : ℕ → Chars) → Tells goals e text requests.collect_atoms h result }
     ensures clauses { (goals e : ℕ) (h : entries.History) (text : ℕ → Chars) → Tells goals e text requests.collect_clauses h result }
 {

@@ -1,5 +1,5 @@
 //! Procedures are abolished, cleared and made dynamic.
-ghost use Rattle.std.specs.Prelude.{◌≡◌, ◌≤◌, ◌<◌, ◌∷◌, [], ℕ, IsSome, IfSome, length, map, take, false, true};
+ghost use Rattle.std.specs.Prelude.{◌≡◌, ◌≢◌, ◌≤◌, ◌<◌, ◌^◌, ◌∷◌, [], ℕ, IsSome, IfSome, length, map, take, false, true};
 ghost use Rattle.std.specs.Option.{MatchOption, option_map_or};
 ghost use Rattle.std.specs.List.{All, list_any, slice_get};
 ghost use Rattle.pl_term.specs.Tree.{Chars, Tree};
@@ -19,9 +19,9 @@ ghost use Rattle.world_api.specs.declared.visit.Procedure.{Procedure};
 ghost use Rattle.counted_terms.specs.CountedTerms.{said};
 ghost use Rattle.counted_terms.specs.Keeping.{KeeperAt, keeper_view};
 ghost use Rattle.counted_terms.specs.Sharing.{Counts};
-ghost use Rattle.counted_terms.specs.Rows.{row_names};
+ghost use Rattle.counted_terms.specs.Rows.{row_names, row_refusals};
 ghost use Rattle.hub_database.specs.Database.{IsDatabase, IsUpTo, clause_counts, databases};
-ghost use Rattle.hub_database.specs.Rows.{Decides, IsQuiet, IsSteady, Updates, generation_after, history_after};
+ghost use Rattle.hub_database.specs.Rows.{Decides, IsQuiet, IsReplyOrMade, IsSteady, Updates, generation_after, history_after};
 
 use crate::calling::{is_known, is_static};
 use crate::looking::first_of;
@@ -54,6 +54,7 @@ pub fn abolish_procedure<K: NamesTable>(
     ensures floor { db.new.floor ≡ db.old.floor }
     ensures quiet { IsQuiet (seen atoms.old.seat) (seen atoms.new.seat) }
     ensures named { All (λ a. IsSome (names (seen atoms.new.seat) a)) (row_names result) }
+    ensures unrefused { row_refusals result ≡ [] }
     ensures says { (goals e : ℕ) (h : entries.History) → length h ≡ generation → IsDatabase (keeper_view keeper.old) db.old goals h
         → Decides goals e (text_of (names (seen atoms.new.seat))) (requests.abolish_procedure (proc_named (text_of (names (seen atoms.old.seat))) procedure.now)) h (entries.abolish (proc_named (text_of (names (seen atoms.old.seat))) procedure.now)) (keeper_view keeper.new) db.new result }
 {
@@ -96,6 +97,11 @@ pub fn clear_clauses<K: NamesTable>(
     ensures floor { db.new.floor ≡ db.old.floor }
     ensures quiet { IsQuiet (seen atoms.old.seat) (seen atoms.new.seat) }
     ensures named { All (λ a. IsSome (names (seen atoms.new.seat) a)) (row_names result) }
+    ensures unrefused { row_refusals result ≡ [] }
+    ensures replies { IsReplyOrMade result }
+    ensures early { generation_after result generation ≢ generation → generation < 2 ^ 47 }
+    ensures database { (goals e : ℕ) (h : entries.History) → length h ≡ generation → IsDatabase (keeper_view keeper.old) db.old goals h
+        → IsDatabase (keeper_view keeper.new) db.new goals (history_after e result (entries.set_dynamic (proc_named (text_of (names (seen atoms.old.seat))) procedure.now ∷ [])) h) }
     ensures says { (goals e : ℕ) (h : entries.History) (t : Tree) → length h ≡ generation → IsDatabase (keeper_view keeper.old) db.old goals h
         → predicate_of (said (names (seen atoms.old.seat)) t) ≡ proc_named (text_of (names (seen atoms.old.seat))) procedure.now → clause_key t ≡ first.now
         → Decides goals e (text_of (names (seen atoms.new.seat))) (requests.cleared_clauses (said (names (seen atoms.old.seat)) t)) h (entries.set_dynamic (proc_named (text_of (names (seen atoms.old.seat))) procedure.now ∷ [])) (keeper_view keeper.new) db.new result }
@@ -128,6 +134,7 @@ pub fn make_dynamic<K: NamesTable>(
     ensures floor { db.new.floor ≡ db.old.floor }
     ensures quiet { IsQuiet (seen atoms.old.seat) (seen atoms.new.seat) }
     ensures named { All (λ a. IsSome (names (seen atoms.new.seat) a)) (row_names result) }
+    ensures unrefused { row_refusals result ≡ [] }
     ensures says { (k : View) (goals e : ℕ) (h : entries.History) → length h ≡ generation → IsDatabase k db.old goals h
         → Decides goals e (text_of (names (seen atoms.new.seat))) (requests.make_dynamic (map (proc_named (text_of (names (seen atoms.old.seat)))) procedures.now)) h (entries.set_dynamic (map (proc_named (text_of (names (seen atoms.old.seat)))) procedures.now)) k db.new result }
 {
@@ -169,6 +176,8 @@ fn open_procedures(
     ensures weighs { (a : ℕ) → clause_counts db.new a ≡ clause_counts db.old a }
     ensures upto { IsUpTo (generation_after result generation) db.new }
     ensures floor { db.new.floor ≡ db.old.floor }
+    ensures unrefused { row_refusals result ≡ [] }
+    ensures replies { IsReplyOrMade result }
     ensures says { Updates generation made result }
     ensures database { (k : View) (goals e : ℕ) (h : entries.History) → length h ≡ generation → IsDatabase k db.old goals h
         → list_any (database.is_static (databases goals h generation)) (map proc_of ps.now) ≡ false

@@ -1,12 +1,13 @@
 //! Refusals with an error term (ISO 7.12.2).
-ghost use Rattle.std.specs.Prelude.{◌≡◌, ℕ, IfOk, Option, None, Some, codes};
+ghost use Rattle.std.specs.Prelude.{◌≡◌, [], ℕ, IfOk, Option, None, Some, codes};
 ghost use Rattle.pl_term.specs.Tree.{Tree};
 ghost use Rattle.pl_model.specs.Errors as errors;
 ghost use Rattle.pl_model.specs.ErrorTerms as terms;
 ghost use Rattle.atom_api.specs.Names.{Names};
 ghost use Rattle.world_api.specs.Texts.{text_of};
 ghost use Rattle.world_api.specs.Visits.{proc_named};
-ghost use Rattle.hub_database.specs.Rows.{IsErrorTerm, Refuses};
+ghost use Rattle.counted_terms.specs.Rows.{row_refusals};
+ghost use Rattle.hub_database.specs.Rows.{IsErrorTerm, IsReply, Refuses};
 
 use atom_api::fixed;
 use counted_terms::{Row, existence_error, indicator_term, permission_error, resource_error};
@@ -27,7 +28,9 @@ fn copied(p: &Procedure) -> Procedure
 
 /// The refusal with this error, or out of memory.
 pub(crate) fn refusal(error: Result<Stored, Memory>) -> Row
-    ensures { (a : Option ℕ) (term : Names → Tree) → IfOk error (IsErrorTerm a term) → Refuses a term result }
+    ensures refuses { (a : Option ℕ) (term : Names → Tree) → IfOk error (IsErrorTerm a term) → Refuses a term result }
+    ensures replies { IsReply result }
+    ensures unrefused { row_refusals result ≡ [] }
 {
     match error {
         Ok(error) => Row::Reads(Reply::Refused(error)),

@@ -38,12 +38,12 @@ store_clause-requires-clause-held g c = subst (λ (m : Names). All (λ a. IsSome
 pub returns-then-generation-ge-MOST_UPDATES-clause-restored : goal.returns-then-generation-ge-MOST_UPDATES-clause-restored
 returns-then-generation-ge-MOST_UPDATES-clause-restored g c =
     subst (λ (n : ℕ). Restored (clause_counts c.args.db.now) (clause_counts c.args.db.now) (keeper_view c.args.keeper.now) (keeper_view c.agree.new.keeper) c.args.generation n)
-    (sym (addition_after c.in-Some.procedure c.addition_refusal.result c.no_addition.result c.args.generation c.no_addition.ensures))
+    (sym (addition_after c.in-Some.procedure c.addition_refusal.result c.no_addition.result c.args.generation c.no_addition.ensures.refuses))
     (restored_same (clause_counts c.args.db.now) (keeper_view c.args.keeper.now) (keeper_view c.agree.new.keeper) c.args.generation c.agree.ensures.keeps (λ a. ap (λ (f : ℕ → ℕ). f a) c.agree.ensures.counts))
 
 pub returns-then-generation-ge-MOST_UPDATES-clause-upto : goal.returns-then-generation-ge-MOST_UPDATES-clause-upto
 returns-then-generation-ge-MOST_UPDATES-clause-upto g c =
-    subst (λ (n : ℕ). IsUpTo n c.args.db.now) (sym (addition_after c.in-Some.procedure c.addition_refusal.result c.no_addition.result c.args.generation c.no_addition.ensures)) c.requires.upto
+    subst (λ (n : ℕ). IsUpTo n c.args.db.now) (sym (addition_after c.in-Some.procedure c.addition_refusal.result c.no_addition.result c.args.generation c.no_addition.ensures.refuses)) c.requires.upto
 
 pub returns-then-generation-ge-MOST_UPDATES-clause-quiet : goal.returns-then-generation-ge-MOST_UPDATES-clause-quiet
 returns-then-generation-ge-MOST_UPDATES-clause-quiet g c =
@@ -56,7 +56,7 @@ returns-then-generation-ge-MOST_UPDATES-clause-named g c =
     let held : m ≡ names (seen c.args.atoms.now.seat) = c.agree.ensures.held ∙ c.predicate_text.ensures.held in
     addition_named m c.in-Some.procedure c.agree.new.atoms.lawful.stand
     (subst (λ (n : Names). IsSome (n c.in-Some.procedure.name)) (sym held) (c.in-Some.ensures.named (names (seen c.args.atoms.now.seat)) c.args.atoms.now.lawful (subst (λ (t : Tree). All (λ a. IsSome (names (seen c.args.atoms.now.seat) a)) (names_of t)) (sym c.term.ensures) c.requires.held)))
-    c.addition_refusal.result c.no_addition.result c.no_addition.ensures
+    c.addition_refusal.result c.no_addition.result c.no_addition.ensures.refuses
 
 pub returns-then-generation-ge-MOST_UPDATES-clause-says : goal.returns-then-generation-ge-MOST_UPDATES-clause-says
 returns-then-generation-ge-MOST_UPDATES-clause-says g c = λ goals e h at is.
@@ -77,7 +77,7 @@ returns-then-generation-ge-MOST_UPDATES-clause-says g c = λ goals e h at is.
     (c.in-Ok.ensures.spelled ∙ ap (λ (n : Names). proc_named (text_of n) c.in-Some.procedure) (sym held)) c.agree.new.atoms.lawful.stand
     (subst (λ (n : Names). IsSome (n c.in-Some.procedure.name)) (sym held) (c.in-Some.ensures.named old c.args.atoms.now.lawful (subst (λ (u : Tree). All (λ a. IsSome (old a)) (names_of u)) (sym c.term.ensures) c.requires.held)))
     (steady_database k (keeper_view c.agree.new.keeper) c.args.db.now goals h c.agree.ensures.keeps is)
-    c.addition_refusal.result fault (λ none. let many = c.if-generation-ge-MOST_UPDATES.true in omega (arith, many)) c.no_addition.result c.no_addition.ensures
+    c.addition_refusal.result fault (λ none. let many = c.if-generation-ge-MOST_UPDATES.true in omega (arith, many)) c.no_addition.result c.no_addition.ensures.refuses
 
 -- THE CLAUSE IS STORED
 pub returns-in-Ok-store_clause-clause-restored : goal.returns-in-Ok-store_clause-clause-restored
@@ -102,11 +102,11 @@ returns-in-Ok-store_clause-clause-says g c = λ goals e h at is.
 pub returns-clause-restored : goal.returns-clause-restored
 returns-clause-restored g c =
     subst (λ (n : ℕ). Restored (clause_counts c.args.db.now) (clause_counts c.store_clause.new.db) (keeper_view c.args.keeper.now) (keeper_view c.store_clause.new.keeper) c.args.generation n)
-    (sym (addition_after c.in-Some.procedure (Some c.in-Err.fault) c.no_addition-in-Err.result c.args.generation c.no_addition-in-Err.ensures)) c.in-Err.ensures.forgotten
+    (sym (addition_after c.in-Some.procedure (Some c.in-Err.fault) c.no_addition-in-Err.result c.args.generation c.no_addition-in-Err.ensures.refuses)) c.in-Err.ensures.forgotten
 
 pub returns-clause-upto : goal.returns-clause-upto
 returns-clause-upto g c =
-    subst (λ (n : ℕ). IsUpTo n c.store_clause.new.db) (sym (addition_after c.in-Some.procedure (Some c.in-Err.fault) c.no_addition-in-Err.result c.args.generation c.no_addition-in-Err.ensures))
+    subst (λ (n : ℕ). IsUpTo n c.store_clause.new.db) (sym (addition_after c.in-Some.procedure (Some c.in-Err.fault) c.no_addition-in-Err.result c.args.generation c.no_addition-in-Err.ensures.refuses))
     (subst (λ d. IsUpTo c.args.generation d) (sym c.in-Err.ensures.unchanged) c.requires.upto)
 
 pub returns-clause-quiet : goal.returns-clause-quiet
@@ -118,7 +118,7 @@ returns-clause-named g c =
     let held : m ≡ names (seen c.args.atoms.now.seat) = c.store_clause.ensures.held ∙ c.predicate_text.ensures.held in
     addition_named m c.in-Some.procedure c.store_clause.new.atoms.lawful.stand
     (subst (λ (n : Names). IsSome (n c.in-Some.procedure.name)) (sym held) (c.in-Some.ensures.named (names (seen c.args.atoms.now.seat)) c.args.atoms.now.lawful (subst (λ (t : Tree). All (λ a. IsSome (names (seen c.args.atoms.now.seat) a)) (names_of t)) (sym c.term.ensures) c.requires.held)))
-    (Some c.in-Err.fault) c.no_addition-in-Err.result c.no_addition-in-Err.ensures
+    (Some c.in-Err.fault) c.no_addition-in-Err.result c.no_addition-in-Err.ensures.refuses
 
 pub returns-clause-says : goal.returns-clause-says
 returns-clause-says g c = λ goals e h at is.
@@ -133,4 +133,4 @@ returns-clause-says g c = λ goals e h at is.
     (subst (λ (n : Names). IsSome (n c.in-Some.procedure.name)) (sym held) (c.in-Some.ensures.named old c.args.atoms.now.lawful (subst (λ (u : Tree). All (λ a. IsSome (old a)) (names_of u)) (sym c.term.ensures) c.requires.held)))
     (c.in-Err.ensures.was goals h is) c.in-Err.fault
     (subst (λ (n : Names). (c.in-Err.fault ≡ NoMemory) ⊎ (addition_fault clause_cells (databases goals h c.args.generation) p (origin_by c.args.by) (clause_in (said n t)) ≡ Some c.in-Err.fault)) c.predicate_text.ensures.held (c.in-Err.ensures.says goals e h at is))
-    c.no_addition-in-Err.result c.no_addition-in-Err.ensures
+    c.no_addition-in-Err.result c.no_addition-in-Err.ensures.refuses

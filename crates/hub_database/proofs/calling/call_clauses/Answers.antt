@@ -41,7 +41,7 @@ returns-then-is_known-clause-says g c = λ goals e h t at is own key.
 pub returns-clause-named : goal.returns-clause-named
 returns-clause-named g c =
     unknown_named (names (seen c.predicate_text.new.atoms.seat)) c.args.procedure.now c.predicate_text.new.atoms.lawful.stand
-    (subst (λ (m : Names). IsSome (m c.args.procedure.now.name)) (sym c.predicate_text.ensures.held) c.requires.name) c.flags.result.unknown c.unknown.result c.unknown.ensures
+    (subst (λ (m : Names). IsSome (m c.args.procedure.now.name)) (sym c.predicate_text.ensures.held) c.requires.name) c.flags.result.unknown c.unknown.result c.unknown.ensures.answers
 
 pub returns-clause-says : goal.returns-clause-says
 returns-clause-says g c = λ goals e h t at is own key.
@@ -49,4 +49,4 @@ returns-clause-says g c = λ goals e h t at is own key.
     unknown_tells goals e h k c.args.db.now c.args.generation at is (said (names (seen c.args.atoms.now.seat)) t) (proc_of c.in-Ok.p) (own ∙ sym c.in-Ok.ensures.spelled)
     (names (seen c.predicate_text.new.atoms.seat)) c.args.procedure.now (c.in-Ok.ensures.spelled ∙ ap (λ (m : Names). proc_named (text_of m) c.args.procedure.now) (sym c.predicate_text.ensures.held)) c.predicate_text.new.atoms.lawful.stand
     (subst (λ (m : Names). IsSome (m c.args.procedure.now.name)) (sym c.predicate_text.ensures.held) c.requires.name)
-    (sym (c.is_known.ensures (clause_by k) (databases goals h) is.says) ∙ c.if-is_known.false) c.flags.result.unknown (ap (λ (f : Flags). f.unknown) (c.flags.ensures ∙ is.flags)) c.unknown.result c.unknown.ensures
+    (sym (c.is_known.ensures (clause_by k) (databases goals h) is.says) ∙ c.if-is_known.false) c.flags.result.unknown (ap (λ (f : Flags). f.unknown) (c.flags.ensures ∙ is.flags)) c.unknown.result c.unknown.ensures.answers

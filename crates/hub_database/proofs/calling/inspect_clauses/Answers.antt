@@ -30,7 +30,7 @@ first_of-requires-clause-key g c = subst (λ (m : Names). All (λ a. IsSome (m a
 pub returns-then-is_static-clause-named : goal.returns-then-is_static-clause-named
 returns-then-is_static-clause-named g c =
     refused_named (names (seen c.predicate_text.new.atoms.seat)) (Some c.args.procedure.now.name) (λ m. private_procedure (proc_named (text_of m) c.args.procedure.now)) c.predicate_text.new.atoms.lawful.stand
-    (subst (λ (m : Names). IsSome (m c.args.procedure.now.name)) (sym c.predicate_text.ensures.held) c.requires.name) c.refusal.result (c.refusal.ensures (Some c.args.procedure.now.name) (λ m. private_procedure (proc_named (text_of m) c.args.procedure.now)) c.private_error.ensures)
+    (subst (λ (m : Names). IsSome (m c.args.procedure.now.name)) (sym c.predicate_text.ensures.held) c.requires.name) c.refusal.result (c.refusal.ensures.refuses (Some c.args.procedure.now.name) (λ m. private_procedure (proc_named (text_of m) c.args.procedure.now)) c.private_error.ensures)
 
 pub returns-then-is_static-clause-says : goal.returns-then-is_static-clause-says
 returns-then-is_static-clause-says g c = λ goals e h t at is own key.
@@ -38,7 +38,7 @@ returns-then-is_static-clause-says g c = λ goals e h t at is own key.
     private_tells goals e h k c.args.db.now c.args.generation at is (said (names (seen c.args.atoms.now.seat)) t) (proc_of c.in-Ok.p) (own ∙ sym c.in-Ok.ensures.spelled)
     (names (seen c.predicate_text.new.atoms.seat)) c.args.procedure.now (c.in-Ok.ensures.spelled ∙ ap (λ (m : Names). proc_named (text_of m) c.args.procedure.now) (sym c.predicate_text.ensures.held)) c.predicate_text.new.atoms.lawful.stand
     (subst (λ (m : Names). IsSome (m c.args.procedure.now.name)) (sym c.predicate_text.ensures.held) c.requires.name)
-    (sym (c.is_static.ensures (clause_by k) (databases goals h) is.says) ∙ c.if-is_static.true) c.refusal.result (c.refusal.ensures (Some c.args.procedure.now.name) (λ m. private_procedure (proc_named (text_of m) c.args.procedure.now)) c.private_error.ensures)
+    (sym (c.is_static.ensures (clause_by k) (databases goals h) is.says) ∙ c.if-is_static.true) c.refusal.result (c.refusal.ensures.refuses (Some c.args.procedure.now.name) (λ m. private_procedure (proc_named (text_of m) c.args.procedure.now)) c.private_error.ensures)
 
 pub returns-clause-quiet : goal.returns-clause-quiet
 returns-clause-quiet g c = quiet_then (seen c.args.atoms.now.seat) (seen c.predicate_text.new.atoms.seat) (seen c.first_of.new.atoms.seat) c.predicate_text.ensures.quiet c.first_of.ensures.quiet

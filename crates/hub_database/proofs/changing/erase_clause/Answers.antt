@@ -56,12 +56,12 @@ pub returns-then-generation-ge-MOST_UPDATES-clause-quiet : goal.returns-then-gen
 returns-then-generation-ge-MOST_UPDATES-clause-quiet g c = quiet_by (seen c.args.atoms.now.seat) (seen c.agree.new.atoms.seat) c.agree.ensures.held c.agree.ensures.refusals c.agree.ensures.requests
 
 pub returns-then-generation-ge-MOST_UPDATES-clause-upto : goal.returns-then-generation-ge-MOST_UPDATES-clause-upto
-returns-then-generation-ge-MOST_UPDATES-clause-upto g c = subst (λ (n : ℕ). IsUpTo n c.args.db.now) (sym (unerased_after c.has_clause.result c.no_erasure.result c.args.generation c.no_erasure.ensures)) c.requires.upto
+returns-then-generation-ge-MOST_UPDATES-clause-upto g c = subst (λ (n : ℕ). IsUpTo n c.args.db.now) (sym (unerased_after c.has_clause.result c.no_erasure.result c.args.generation c.no_erasure.ensures.erases)) c.requires.upto
 
 pub returns-then-generation-ge-MOST_UPDATES-clause-named : goal.returns-then-generation-ge-MOST_UPDATES-clause-named
-returns-then-generation-ge-MOST_UPDATES-clause-named g c = unerased_named (names (seen c.agree.new.atoms.seat)) c.agree.new.atoms.lawful.stand c.has_clause.result c.no_erasure.result c.no_erasure.ensures
+returns-then-generation-ge-MOST_UPDATES-clause-named g c = unerased_named (names (seen c.agree.new.atoms.seat)) c.agree.new.atoms.lawful.stand c.has_clause.result c.no_erasure.result c.no_erasure.ensures.erases
 
 pub returns-then-generation-ge-MOST_UPDATES-clause-says : goal.returns-then-generation-ge-MOST_UPDATES-clause-says
 returns-then-generation-ge-MOST_UPDATES-clause-says g c = λ goals e h at is.
     unerased_decides goals e c.args.generation (names (seen c.agree.new.atoms.seat)) c.agree.new.atoms.lawful.stand h (keeper_view c.args.keeper.now) (keeper_view c.agree.new.keeper) c.args.db.now at c.if-generation-ge-MOST_UPDATES.true is c.agree.ensures.keeps
-    c.args.clause c.requires.upto.next c.has_clause.result (c.has_clause.ensures (clause_by (keeper_view c.args.keeper.now)) (databases goals h) c.agree.ensures.agreed.costs is.says) c.no_erasure.result c.no_erasure.ensures
+    c.args.clause c.requires.upto.next c.has_clause.result (c.has_clause.ensures (clause_by (keeper_view c.args.keeper.now)) (databases goals h) c.agree.ensures.agreed.costs is.says) c.no_erasure.result c.no_erasure.ensures.erases

@@ -26,32 +26,32 @@ pub returns-then-is_static-clause-steady : goal.returns-then-is_static-clause-st
 returns-then-is_static-clause-steady g c = steady_same (keeper_view c.args.keeper.now)
 
 pub returns-then-is_static-clause-upto : goal.returns-then-is_static-clause-upto
-returns-then-is_static-clause-upto g c = subst (λ (n : ℕ). IsUpTo n c.args.db.now) (sym (refused_after (Some c.args.procedure.now.name) (λ m. static_procedure (proc_named (text_of m) c.args.procedure.now)) c.refusal.result c.args.generation (c.refusal.ensures (Some c.args.procedure.now.name) (λ m. static_procedure (proc_named (text_of m) c.args.procedure.now)) c.static_error.ensures))) c.requires.upto
+returns-then-is_static-clause-upto g c = subst (λ (n : ℕ). IsUpTo n c.args.db.now) (sym (refused_after (Some c.args.procedure.now.name) (λ m. static_procedure (proc_named (text_of m) c.args.procedure.now)) c.refusal.result c.args.generation (c.refusal.ensures.refuses (Some c.args.procedure.now.name) (λ m. static_procedure (proc_named (text_of m) c.args.procedure.now)) c.static_error.ensures))) c.requires.upto
 
 pub returns-then-is_static-clause-named : goal.returns-then-is_static-clause-named
-returns-then-is_static-clause-named g c = refused_named (names (seen c.predicate_text.new.atoms.seat)) (Some c.args.procedure.now.name) (λ m. static_procedure (proc_named (text_of m) c.args.procedure.now)) c.predicate_text.new.atoms.lawful.stand (subst (λ (m : Names). IsSome (m c.args.procedure.now.name)) (sym c.predicate_text.ensures.held) c.requires.name) c.refusal.result (c.refusal.ensures (Some c.args.procedure.now.name) (λ m. static_procedure (proc_named (text_of m) c.args.procedure.now)) c.static_error.ensures)
+returns-then-is_static-clause-named g c = refused_named (names (seen c.predicate_text.new.atoms.seat)) (Some c.args.procedure.now.name) (λ m. static_procedure (proc_named (text_of m) c.args.procedure.now)) c.predicate_text.new.atoms.lawful.stand (subst (λ (m : Names). IsSome (m c.args.procedure.now.name)) (sym c.predicate_text.ensures.held) c.requires.name) c.refusal.result (c.refusal.ensures.refuses (Some c.args.procedure.now.name) (λ m. static_procedure (proc_named (text_of m) c.args.procedure.now)) c.static_error.ensures)
 
 pub returns-then-is_static-clause-says : goal.returns-then-is_static-clause-says
 returns-then-is_static-clause-says g c = λ goals e h at is.
     static_kept goals e c.args.generation (names (seen c.predicate_text.new.atoms.seat)) c.predicate_text.new.atoms.lawful.stand h (keeper_view c.args.keeper.now) c.args.db.now at is
     (proc_of c.in-Ok.p) (proc_named (text_of (names (seen c.args.atoms.now.seat))) c.args.procedure.now) c.in-Ok.ensures.spelled c.args.procedure.now (subst (λ (m : Names). IsSome (m c.args.procedure.now.name)) (sym c.predicate_text.ensures.held) c.requires.name)
     (ap (λ (m : Names). proc_named (text_of m) c.args.procedure.now) (sym c.predicate_text.ensures.held))
-    (sym (c.is_static.ensures (clause_by (keeper_view c.args.keeper.now)) (databases goals h) is.says) ∙ c.if-is_static.true) c.refusal.result (c.refusal.ensures (Some c.args.procedure.now.name) (λ m. static_procedure (proc_named (text_of m) c.args.procedure.now)) c.static_error.ensures)
+    (sym (c.is_static.ensures (clause_by (keeper_view c.args.keeper.now)) (databases goals h) is.says) ∙ c.if-is_static.true) c.refusal.result (c.refusal.ensures.refuses (Some c.args.procedure.now.name) (λ m. static_procedure (proc_named (text_of m) c.args.procedure.now)) c.static_error.ensures)
 
 pub returns-then-generation-ge-MOST_UPDATES-clause-steady : goal.returns-then-generation-ge-MOST_UPDATES-clause-steady
 returns-then-generation-ge-MOST_UPDATES-clause-steady g c = steady_same (keeper_view c.args.keeper.now)
 
 pub returns-then-generation-ge-MOST_UPDATES-clause-upto : goal.returns-then-generation-ge-MOST_UPDATES-clause-upto
-returns-then-generation-ge-MOST_UPDATES-clause-upto g c = subst (λ (n : ℕ). IsUpTo n c.args.db.now) (sym (refused_after None (λ m. resource_error (codes "generations")) c.refusal-then-generation-ge-MOST_UPDATES.result c.args.generation (c.refusal-then-generation-ge-MOST_UPDATES.ensures None (λ m. resource_error (codes "generations")) c.worn_error.ensures))) c.requires.upto
+returns-then-generation-ge-MOST_UPDATES-clause-upto g c = subst (λ (n : ℕ). IsUpTo n c.args.db.now) (sym (refused_after None (λ m. resource_error (codes "generations")) c.refusal-then-generation-ge-MOST_UPDATES.result c.args.generation (c.refusal-then-generation-ge-MOST_UPDATES.ensures.refuses None (λ m. resource_error (codes "generations")) c.worn_error.ensures))) c.requires.upto
 
 pub returns-then-generation-ge-MOST_UPDATES-clause-named : goal.returns-then-generation-ge-MOST_UPDATES-clause-named
-returns-then-generation-ge-MOST_UPDATES-clause-named g c = refused_named (names (seen c.predicate_text.new.atoms.seat)) None (λ m. resource_error (codes "generations")) c.predicate_text.new.atoms.lawful.stand tt c.refusal-then-generation-ge-MOST_UPDATES.result (c.refusal-then-generation-ge-MOST_UPDATES.ensures None (λ m. resource_error (codes "generations")) c.worn_error.ensures)
+returns-then-generation-ge-MOST_UPDATES-clause-named g c = refused_named (names (seen c.predicate_text.new.atoms.seat)) None (λ m. resource_error (codes "generations")) c.predicate_text.new.atoms.lawful.stand tt c.refusal-then-generation-ge-MOST_UPDATES.result (c.refusal-then-generation-ge-MOST_UPDATES.ensures.refuses None (λ m. resource_error (codes "generations")) c.worn_error.ensures)
 
 pub returns-then-generation-ge-MOST_UPDATES-clause-says : goal.returns-then-generation-ge-MOST_UPDATES-clause-says
 returns-then-generation-ge-MOST_UPDATES-clause-says g c = λ goals e h at is.
     unabolished_decides goals e c.args.generation (names (seen c.predicate_text.new.atoms.seat)) c.predicate_text.new.atoms.lawful.stand h (keeper_view c.args.keeper.now) (keeper_view c.args.keeper.now) c.args.db.now at c.if-generation-ge-MOST_UPDATES.true is refl
     (proc_of c.in-Ok.p) (proc_named (text_of (names (seen c.args.atoms.now.seat))) c.args.procedure.now) c.in-Ok.ensures.spelled
-    (sym (c.is_static.ensures (clause_by (keeper_view c.args.keeper.now)) (databases goals h) is.says) ∙ c.if-is_static.false) c.refusal-then-generation-ge-MOST_UPDATES.result (c.refusal-then-generation-ge-MOST_UPDATES.ensures None (λ m. resource_error (codes "generations")) c.worn_error.ensures)
+    (sym (c.is_static.ensures (clause_by (keeper_view c.args.keeper.now)) (databases goals h) is.says) ∙ c.if-is_static.false) c.refusal-then-generation-ge-MOST_UPDATES.result (c.refusal-then-generation-ge-MOST_UPDATES.ensures.refuses None (λ m. resource_error (codes "generations")) c.worn_error.ensures)
 
 pub returns-in-Ok-abolish-clause-steady : goal.returns-in-Ok-abolish-clause-steady
 returns-in-Ok-abolish-clause-steady g c = steady_by (keeper_view c.args.keeper.now) (keeper_view c.agree.new.keeper) c.agree.ensures.keeps c.agree.ensures.counts

@@ -24,7 +24,7 @@ use Rattle.hub_database.specs.Clauses.{clause_by}
 use Rattle.hub_database.specs.Database.{IsDatabase, IsUpTo, databases}
 use Rattle.hub_database.specs.Rows.{HandsOut, history_after}
 use Rattle.hub_database.proofs.CalledClauses.{clear_lacks, clear_serves, clear_static, cleared_tells}
-use Rattle.hub_database.proofs.ChangedRows.{updated_decides, updated_named}
+use Rattle.hub_database.proofs.ChangedRows.{early_by, reply_or_made, unmade_database, updated_decides, updated_named}
 use Rattle.hub_database.proofs.Deciding.{quiet_then, refused_after, refused_named, steady_database, steady_same, told_decides}
 use Rattle.hub_database.proofs.ErasedClauses.{no_static}
 use Rattle.hub_database.proofs.procedures.clear_clauses.Goals as goal
@@ -36,17 +36,17 @@ pub returns-then-is_static-clause-steady : goal.returns-then-is_static-clause-st
 returns-then-is_static-clause-steady g c = steady_same (keeper_view c.args.keeper.now)
 
 pub returns-then-is_static-clause-upto : goal.returns-then-is_static-clause-upto
-returns-then-is_static-clause-upto g c = subst (λ (n : ℕ). IsUpTo n c.args.db.now) (sym (refused_after (Some c.args.procedure.now.name) (λ m. static_procedure (proc_named (text_of m) c.args.procedure.now)) c.refusal.result c.args.generation (c.refusal.ensures (Some c.args.procedure.now.name) (λ m. static_procedure (proc_named (text_of m) c.args.procedure.now)) c.static_error.ensures))) c.requires.upto
+returns-then-is_static-clause-upto g c = subst (λ (n : ℕ). IsUpTo n c.args.db.now) (sym (refused_after (Some c.args.procedure.now.name) (λ m. static_procedure (proc_named (text_of m) c.args.procedure.now)) c.refusal.result c.args.generation (c.refusal.ensures.refuses (Some c.args.procedure.now.name) (λ m. static_procedure (proc_named (text_of m) c.args.procedure.now)) c.static_error.ensures))) c.requires.upto
 
 pub returns-then-is_static-clause-named : goal.returns-then-is_static-clause-named
-returns-then-is_static-clause-named g c = refused_named (names (seen c.predicate_text.new.atoms.seat)) (Some c.args.procedure.now.name) (λ m. static_procedure (proc_named (text_of m) c.args.procedure.now)) c.predicate_text.new.atoms.lawful.stand (subst (λ (m : Names). IsSome (m c.args.procedure.now.name)) (sym c.predicate_text.ensures.held) c.requires.name) c.refusal.result (c.refusal.ensures (Some c.args.procedure.now.name) (λ m. static_procedure (proc_named (text_of m) c.args.procedure.now)) c.static_error.ensures)
+returns-then-is_static-clause-named g c = refused_named (names (seen c.predicate_text.new.atoms.seat)) (Some c.args.procedure.now.name) (λ m. static_procedure (proc_named (text_of m) c.args.procedure.now)) c.predicate_text.new.atoms.lawful.stand (subst (λ (m : Names). IsSome (m c.args.procedure.now.name)) (sym c.predicate_text.ensures.held) c.requires.name) c.refusal.result (c.refusal.ensures.refuses (Some c.args.procedure.now.name) (λ m. static_procedure (proc_named (text_of m) c.args.procedure.now)) c.static_error.ensures)
 
 pub returns-then-is_static-clause-says : goal.returns-then-is_static-clause-says
 returns-then-is_static-clause-says g c = λ goals e h t at is own key.
     told_decides goals e (text_of (names (seen c.predicate_text.new.atoms.seat))) (cleared_clauses (said (names (seen c.args.atoms.now.seat)) t)) h (set_dynamic (proc_named (text_of (names (seen c.args.atoms.now.seat))) c.args.procedure.now ∷ [])) (keeper_view c.args.keeper.now) c.args.db.now is c.refusal.result
     (clear_static goals e h (keeper_view c.args.keeper.now) c.args.db.now c.args.generation at is (said (names (seen c.args.atoms.now.seat)) t) (proc_of c.in-Ok.p) (own ∙ sym c.in-Ok.ensures.spelled)
     (names (seen c.predicate_text.new.atoms.seat)) c.args.procedure.now (c.in-Ok.ensures.spelled ∙ ap (λ (m : Names). proc_named (text_of m) c.args.procedure.now) (sym c.predicate_text.ensures.held)) c.predicate_text.new.atoms.lawful.stand (subst (λ (m : Names). IsSome (m c.args.procedure.now.name)) (sym c.predicate_text.ensures.held) c.requires.name)
-    (sym (c.is_static.ensures (clause_by (keeper_view c.args.keeper.now)) (databases goals h) is.says) ∙ c.if-is_static.true) c.refusal.result (c.refusal.ensures (Some c.args.procedure.now.name) (λ m. static_procedure (proc_named (text_of m) c.args.procedure.now)) c.static_error.ensures))
+    (sym (c.is_static.ensures (clause_by (keeper_view c.args.keeper.now)) (databases goals h) is.says) ∙ c.if-is_static.true) c.refusal.result (c.refusal.ensures.refuses (Some c.args.procedure.now.name) (λ m. static_procedure (proc_named (text_of m) c.args.procedure.now)) c.static_error.ensures))
 
 pub returns-then-is_known-clause-upto : goal.returns-then-is_known-clause-upto
 returns-then-is_known-clause-upto g c = subst (λ (n : ℕ). IsUpTo n c.args.db.now) (sym (c.first_of.ensures.reads c.args.generation)) c.requires.upto
@@ -82,3 +82,32 @@ returns-clause-says g c = λ goals e h t at is own key.
     c.open_procedures.result c.open_procedures.ensures.says
     (subst (λ (q : Proc). IsDatabase (keeper_view c.args.keeper.now) c.open_procedures.new.db goals (history_after e c.open_procedures.result (set_dynamic (q ∷ [])) h)) c.in-Ok.ensures.spelled
     (c.open_procedures.ensures.database (keeper_view c.args.keeper.now) goals e h at is (no_static (databases goals h c.args.generation) p open_)))
+
+pub returns-then-is_static-clause-replies : goal.returns-then-is_static-clause-replies
+returns-then-is_static-clause-replies g c = reply_or_made c.refusal.result c.refusal.ensures.replies
+
+pub returns-then-is_static-clause-early : goal.returns-then-is_static-clause-early
+returns-then-is_static-clause-early g c = λ n. absurd (n (refused_after (Some c.args.procedure.now.name) (λ m. static_procedure (proc_named (text_of m) c.args.procedure.now)) c.refusal.result c.args.generation (c.refusal.ensures.refuses (Some c.args.procedure.now.name) (λ m. static_procedure (proc_named (text_of m) c.args.procedure.now)) c.static_error.ensures)))
+
+pub returns-then-is_static-clause-database : goal.returns-then-is_static-clause-database
+returns-then-is_static-clause-database g c = λ goals e h at is. unmade_database goals e h (keeper_view c.args.keeper.now) c.args.db.now (set_dynamic (proc_named (text_of (names (seen c.args.atoms.now.seat))) c.args.procedure.now ∷ [])) c.refusal.result c.args.generation (refused_after (Some c.args.procedure.now.name) (λ m. static_procedure (proc_named (text_of m) c.args.procedure.now)) c.refusal.result c.args.generation (c.refusal.ensures.refuses (Some c.args.procedure.now.name) (λ m. static_procedure (proc_named (text_of m) c.args.procedure.now)) c.static_error.ensures)) is
+
+pub returns-then-is_known-clause-replies : goal.returns-then-is_known-clause-replies
+returns-then-is_known-clause-replies g c = reply_or_made c.first_of.result c.first_of.ensures.replies
+
+pub returns-then-is_known-clause-early : goal.returns-then-is_known-clause-early
+returns-then-is_known-clause-early g c = λ n. absurd (n (c.first_of.ensures.reads c.args.generation))
+
+pub returns-then-is_known-clause-database : goal.returns-then-is_known-clause-database
+returns-then-is_known-clause-database g c = λ goals e h at is. unmade_database goals e h (keeper_view c.first_of.new.keeper) c.args.db.now (set_dynamic (proc_named (text_of (names (seen c.args.atoms.now.seat))) c.args.procedure.now ∷ [])) c.first_of.result c.args.generation (c.first_of.ensures.reads c.args.generation)
+    (steady_database (keeper_view c.args.keeper.now) (keeper_view c.first_of.new.keeper) c.args.db.now goals h c.first_of.ensures.steady.keeps is)
+
+pub returns-clause-early : goal.returns-clause-early
+returns-clause-early g c = early_by c.args.generation (Clauses None) c.open_procedures.result c.open_procedures.ensures.says
+
+pub returns-clause-database : goal.returns-clause-database
+returns-clause-database g c = λ goals e h at is.
+    let p = proc_of c.in-Ok.p in
+    let open_ = sym (c.is_static.ensures (clause_by (keeper_view c.args.keeper.now)) (databases goals h) is.says) ∙ c.if-is_static.false in
+    subst (λ (q : Proc). IsDatabase (keeper_view c.args.keeper.now) c.open_procedures.new.db goals (history_after e c.open_procedures.result (set_dynamic (q ∷ [])) h)) c.in-Ok.ensures.spelled
+    (c.open_procedures.ensures.database (keeper_view c.args.keeper.now) goals e h at is (no_static (databases goals h c.args.generation) p open_))

@@ -34,14 +34,14 @@ bounds-procedures-i g c =
     omega (arith, c.in-Some.ensures.within, same, here, length-map c.in-Ok.ps.items proc_of, length-map c.args.procedures.now (proc_named (text_of (names (seen c.args.atoms.now.seat)))))
 
 pub returns-in-Some-clause-upto : goal.returns-in-Some-clause-upto
-returns-in-Some-clause-upto g c = subst (λ (n : ℕ). IsUpTo n c.args.db.now) (sym (refused_after (Some c.index-procedures-i.result.name) (λ m. static_procedure (proc_named (text_of m) c.index-procedures-i.result)) c.refusal.result c.args.generation (c.refusal.ensures (Some c.index-procedures-i.result.name) (λ m. static_procedure (proc_named (text_of m) c.index-procedures-i.result)) c.static_error.ensures))) c.requires.upto
+returns-in-Some-clause-upto g c = subst (λ (n : ℕ). IsUpTo n c.args.db.now) (sym (refused_after (Some c.index-procedures-i.result.name) (λ m. static_procedure (proc_named (text_of m) c.index-procedures-i.result)) c.refusal.result c.args.generation (c.refusal.ensures.refuses (Some c.index-procedures-i.result.name) (λ m. static_procedure (proc_named (text_of m) c.index-procedures-i.result)) c.static_error.ensures))) c.requires.upto
 
 pub returns-in-Some-clause-named : goal.returns-in-Some-clause-named
 returns-in-Some-clause-named g c =
     let low : c.in-Some.i < length c.args.procedures.now = (let same = ap (λ (l : List Proc). length l) c.in-Ok.ensures.spelled in let here = ap (λ (l : List Shown). length l) c.as_slice.ensures.value in
     omega (arith, c.in-Some.ensures.within, same, here, length-map c.in-Ok.ps.items proc_of, length-map c.args.procedures.now (proc_named (text_of (names (seen c.args.atoms.now.seat)))))) in
     refused_named (names (seen c.predicate_texts.new.atoms.seat)) (Some c.index-procedures-i.result.name) (λ m. static_procedure (proc_named (text_of m) c.index-procedures-i.result)) c.predicate_texts.new.atoms.lawful.stand (subst (λ (m : Names). IsSome (m c.index-procedures-i.result.name)) (sym c.predicate_texts.ensures.held)
-    (subst (λ (p : Procedure). IsSome ((names (seen c.args.atoms.now.seat)) p.name)) (sym c.index-procedures-i.is) (All-get_or (λ (p : Procedure). IsSome ((names (seen c.args.atoms.now.seat)) p.name)) c.args.procedures.now c.in-Some.i c.index-procedures-i.result low c.requires.held))) c.refusal.result (c.refusal.ensures (Some c.index-procedures-i.result.name) (λ m. static_procedure (proc_named (text_of m) c.index-procedures-i.result)) c.static_error.ensures)
+    (subst (λ (p : Procedure). IsSome ((names (seen c.args.atoms.now.seat)) p.name)) (sym c.index-procedures-i.is) (All-get_or (λ (p : Procedure). IsSome ((names (seen c.args.atoms.now.seat)) p.name)) c.args.procedures.now c.in-Some.i c.index-procedures-i.result low c.requires.held))) c.refusal.result (c.refusal.ensures.refuses (Some c.index-procedures-i.result.name) (λ m. static_procedure (proc_named (text_of m) c.index-procedures-i.result)) c.static_error.ensures)
 
 pub returns-in-Some-clause-says : goal.returns-in-Some-clause-says
 returns-in-Some-clause-says g c = λ k goals e h at is.
@@ -58,7 +58,7 @@ returns-in-Some-clause-says g c = λ k goals e h at is.
     (ap (λ (l : List Proc). list_any test (take c.in-Some.i l)) (sym c.in-Ok.ensures.spelled) ∙ (front_mapped test proc_of ps c.in-Some.i ∙ first.0))
     (static_read test proc_of ps qs c.in-Some.i (proc_named (text_of (names (seen c.args.atoms.now.seat))) c.index-procedures-i.result) c.in-Ok.ensures.spelled got first.1)
     ∙ ap (λ (n : Names). answers (refused (static_procedure (proc_named (text_of n) c.index-procedures-i.result))) None) (sym c.predicate_texts.ensures.held))
-    (set_dynamic qs) k c.args.db.now is c.refusal.result (c.refusal.ensures (Some c.index-procedures-i.result.name) (λ m. static_procedure (proc_named (text_of m) c.index-procedures-i.result)) c.static_error.ensures)
+    (set_dynamic qs) k c.args.db.now is c.refusal.result (c.refusal.ensures.refuses (Some c.index-procedures-i.result.name) (λ m. static_procedure (proc_named (text_of m) c.index-procedures-i.result)) c.static_error.ensures)
 
 pub returns-clause-named : goal.returns-clause-named
 returns-clause-named g c = updated_named (names (seen c.predicate_texts.new.atoms.seat)) c.predicate_texts.new.atoms.lawful.stand c.args.generation Done (All-nil (λ a. IsSome ((names (seen c.predicate_texts.new.atoms.seat)) a))) c.open_procedures.result c.open_procedures.ensures.says

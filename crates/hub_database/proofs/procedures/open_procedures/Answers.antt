@@ -11,21 +11,21 @@ use Rattle.clause_db.specs.declared.fault.DbFault.TheVariants.{Static}
 use Rattle.counted_terms.specs.CountedTerms.{naming}
 use Rattle.hub_database.specs.Clauses.{clause_by}
 use Rattle.hub_database.specs.Database.{IsDatabase, IsUpTo, databases}
-use Rattle.hub_database.proofs.ChangedRows.{dynamic_database, unmade_database, worn_updates}
+use Rattle.hub_database.proofs.ChangedRows.{dynamic_database, reply_or_made, unmade_database, worn_updates}
 use Rattle.hub_database.proofs.Deciding.{refused_after, upto_next}
 use Rattle.hub_database.proofs.ErasedClauses.{granted_says}
 use Rattle.hub_database.proofs.procedures.open_procedures.Goals as goal
 
 pub returns-then-generation-ge-MOST_UPDATES-clause-upto : goal.returns-then-generation-ge-MOST_UPDATES-clause-upto
-returns-then-generation-ge-MOST_UPDATES-clause-upto c = subst (λ (n : ℕ). IsUpTo n c.args.db.now) (sym (refused_after None (λ m. resource_error (codes "generations")) c.refusal.result c.args.generation (c.refusal.ensures None (λ m. resource_error (codes "generations")) c.worn_error.ensures))) c.requires.upto
+returns-then-generation-ge-MOST_UPDATES-clause-upto c = subst (λ (n : ℕ). IsUpTo n c.args.db.now) (sym (refused_after None (λ m. resource_error (codes "generations")) c.refusal.result c.args.generation (c.refusal.ensures.refuses None (λ m. resource_error (codes "generations")) c.worn_error.ensures))) c.requires.upto
 
 pub returns-then-generation-ge-MOST_UPDATES-clause-says : goal.returns-then-generation-ge-MOST_UPDATES-clause-says
-returns-then-generation-ge-MOST_UPDATES-clause-says c = worn_updates c.args.generation c.args.made c.if-generation-ge-MOST_UPDATES.true c.refusal.result (c.refusal.ensures None (λ m. resource_error (codes "generations")) c.worn_error.ensures)
+returns-then-generation-ge-MOST_UPDATES-clause-says c = worn_updates c.args.generation c.args.made c.if-generation-ge-MOST_UPDATES.true c.refusal.result (c.refusal.ensures.refuses None (λ m. resource_error (codes "generations")) c.worn_error.ensures)
 
 pub returns-then-generation-ge-MOST_UPDATES-clause-database : goal.returns-then-generation-ge-MOST_UPDATES-clause-database
 returns-then-generation-ge-MOST_UPDATES-clause-database c = λ k goals e h at is open_.
     unmade_database goals e h k c.args.db.now (set_dynamic (map proc_of c.args.ps.now)) c.refusal.result c.args.generation
-    (refused_after None (λ m. resource_error (codes "generations")) c.refusal.result c.args.generation (c.refusal.ensures None (λ m. resource_error (codes "generations")) c.worn_error.ensures)) is
+    (refused_after None (λ m. resource_error (codes "generations")) c.refusal.result c.args.generation (c.refusal.ensures.refuses None (λ m. resource_error (codes "generations")) c.worn_error.ensures)) is
 
 pub returns-in-Ok-clause-weighs : goal.returns-in-Ok-clause-weighs
 returns-in-Ok-clause-weighs c = λ a. c.in-Ok.ensures.weighs (naming a)
@@ -40,3 +40,6 @@ returns-in-Ok-clause-database c = λ k goals e h at is open_.
 
 pub returns-in-Err-clause-database : goal.returns-in-Err-clause-database
 returns-in-Err-clause-database c = λ k goals e h at is open_. subst (λ (d : Held Tree). IsDatabase k d goals h) (sym c.in-Err.ensures.unchanged) is
+
+pub returns-then-generation-ge-MOST_UPDATES-clause-replies : goal.returns-then-generation-ge-MOST_UPDATES-clause-replies
+returns-then-generation-ge-MOST_UPDATES-clause-replies c = reply_or_made c.refusal.result c.refusal.ensures.replies
