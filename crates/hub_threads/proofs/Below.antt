@@ -38,7 +38,7 @@ named_last : {M : Type 0} (m n : ℕ) (a : Option Chars) (t : Threads M) → has
 named_last m n None t e f = e
 named_last m n (Some a) t e f = key_last (λ (x : Chars × ℕ). x.1) m t.aliases (a, n) e f
 
-same_numbers : {X : Type 0} (key : X → ℕ) (f : X → X) → ((x : X) → key (f x) ≡ key x) → (xs : List X) → map key (map f xs) ≡ map key xs
+pub same_numbers : {X : Type 0} (key : X → ℕ) (f : X → X) → ((x : X) → key (f x) ≡ key x) → (xs : List X) → map key (map f xs) ≡ map key xs
 same_numbers key f e [] = refl
 same_numbers key f e (x ∷ xs) = ap (λ n. n ∷ map key (map f xs)) (e x) ∙ ap (λ l. key x ∷ l) (same_numbers key f e xs)
 
@@ -51,7 +51,7 @@ module _ {M : Type 0} where
   sent_number n m q true = refl
   sent_number n m q false = refl
 
-  ended_number : (how : Status M) (t : Thread M) (b : Bool) → (if b then record t { status = Some how } else t).number ≡ t.number
+  pub ended_number : (how : Status M) (t : Thread M) (b : Bool) → (if b then record t { status = Some how } else t).number ≡ t.number
   ended_number how t true = refl
   ended_number how t false = refl
 

@@ -43,7 +43,7 @@ eq_turned : (a b : ℕ) → (a == b) ≡ false → (b == a) ≡ false
 eq_turned a b e = grind (arith)
 
 -- A test from either side
-eq_sides : (a b : ℕ) (c d : Bool) → (a == b) ≡ c → (b == a) ≡ d → c ≡ d
+pub eq_sides : (a b : ℕ) (c d : Bool) → (a == b) ≡ c → (b == a) ≡ d → c ≡ d
 eq_sides a b true true p q = refl
 eq_sides a b false false p q = refl
 eq_sides a b true false p q = sym (sym q ∙ ap (λ x. b == x) (eqb-true a b p) ∙ eq_same b)

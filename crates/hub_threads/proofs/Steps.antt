@@ -41,7 +41,7 @@ or_back true false = refl
 or_back false true = refl
 or_back false false = refl
 
-begun_later : (e : ℕ) (h : History) (x : Entry) → has_begun (h ++ x ∷ []) e ≡ (has_begun h e || begins e x.kind)
+pub begun_later : (e : ℕ) (h : History) (x : Entry) → has_begun (h ++ x ∷ []) e ≡ (has_begun h e || begins e x.kind)
 begun_later e [] x = or_back (begins e x.kind) (e == 1)
 begun_later e (y ∷ h) x = ap (λ b. begins e y.kind || b) (begun_later e h x) ∙ or_turned (begins e y.kind) (has_begun h e) (begins e x.kind)
 

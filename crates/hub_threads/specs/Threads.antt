@@ -2,7 +2,7 @@
 use Rattle.std.specs.Prelude.{◌≡◌, ◌≤◌, ℕ, List, [], ◌∷◌, length, Option, Some, None, ◌==◌, ◌||◌, if◌then◌else◌}
 use Rattle.pl_term.specs.Tree.{Tree}
 use Rattle.pl_term.specs.Variables.{is_in}
-use Rattle.pl_model.specs.History.{History, Kind, start, has_begun}
+use Rattle.pl_model.specs.History.{History, Kind, abolish, add_first, add_last, erase, set_dynamic, set_flag, set_op, start, has_begun}
 use Rattle.pl_model.specs.SharedState.{state_at}
 use Rattle.atom_words.specs.declared.view.View.{View}
 use Rattle.hub_threads.specs.Distinct.{has_number}
@@ -19,6 +19,17 @@ thread_counts q a = weigh (naming a) q
 -- a term is stored among them: no weight of it is above that of all
 abbrev pub IsStored : Tree → Held Tree → Type 0
 IsStored t q = (w : Tree → ℕ) → w t ≤ weigh w q
+
+-- the update is one of clauses, flags or operators
+abbrev pub IsOfDatabase : Kind → Type 0
+IsOfDatabase (add_first p c o) = Unit {0}
+IsOfDatabase (add_last p c o) = Unit {0}
+IsOfDatabase (erase j) = Unit {0}
+IsOfDatabase (abolish p) = Unit {0}
+IsOfDatabase (set_dynamic ps) = Unit {0}
+IsOfDatabase (set_flag f v) = Unit {0}
+IsOfDatabase (set_op os) = Unit {0}
+IsOfDatabase _ = ⊥
 
 -- the goal with which an engine was started
 abbrev pub goal_in : ℕ → Kind → Option Tree

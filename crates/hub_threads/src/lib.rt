@@ -7,10 +7,13 @@
 #![tactic(auto)]
 
 mod destroying;
+mod ending;
 mod finding;
 mod forgetting;
+mod goals;
 mod held;
 mod joining;
+mod laws;
 mod messages;
 mod names;
 mod queues;
@@ -19,11 +22,14 @@ mod statuses;
 mod taking;
 
 pub use destroying::destroy_queue;
+pub use ending::end_thread;
+pub use goals::take_goal;
 pub use held::{
     Name, QueueFault, Queues, Status, changes_are_kept, messages_unify_as_terms,
     numbers_stay_below, requests_are_served, terms_are_kept,
 };
 pub use joining::join_thread;
+pub use laws::{database_updates_leave_them, open_queues, readings_leave_them};
 pub use messages::send_message;
 pub use names::own_name;
 pub use queues::create_queue;

@@ -1,5 +1,5 @@
 //! How threads ended, as terms.
-ghost use Rattle.std.specs.Prelude.{◌≡◌, ℕ, ◌<◌, ◌+◌, IfOk, IfSome, IsSome};
+ghost use Rattle.std.specs.Prelude.{◌≡◌, ℕ, ◌≤◌, ◌<◌, ◌+◌, IfOk, IfSome, IsSome};
 ghost use Rattle.std.specs.List.{All};
 ghost use Rattle.pl_term.specs.Tree.{Tree};
 ghost use Rattle.pl_model.specs.declared.threads.Status.TheVariants.{AtomSpace, Halted};
@@ -18,7 +18,9 @@ ghost use Rattle.hub_threads.specs.Weights.{weigh_how};
 use crate::held::Status;
 use atom_api::fixed;
 use atom_table::{Keeper, NamesTable, TableAtoms};
-use counted_terms::{CountedTerm, atom_term, hand_over, int_term, resource_error, wrapped};
+use counted_terms::{
+    CountedTerm, atom_term, forget_by, hand_over, int_term, resource_error, store_from, wrapped,
+};
 use pl_term::Memory;
 use std::alloc::Global;
 use term_store::Stored;
@@ -80,6 +82,58 @@ pub fn hand_over_status<K: NamesTable>(
         Status::Exited(term) => {
             hand_over(atoms, keeper, term);
         }
+        Status::Succeeded => {}
+        Status::Failed => {}
+        Status::Halted(_) => {}
+        Status::AtomSpace => {}
+    }
+}
+
+/// Counts the atoms of the term of a status that is stored, where it has one.
+pub fn store_status<K: NamesTable>(
+    atoms: &mut TableAtoms<K>,
+    keeper: &mut Option<Keeper>,
+    status: &Status<CountedTerm>,
+)
+    requires keeper { KeeperAt K.atoms K.size keeper.old }
+    requires held { All (λ a. IsSome (names (seen atoms.old.seat) a)) (status_names status.now) }
+    requires room { (k : ℕ) → tally (keeper_view keeper.old) k < 2305843009213693951 }
+    ensures keeper { KeeperAt K.atoms K.size keeper.new }
+    ensures says { status_as (said (kept (keeper_view keeper.new))) status.now ≡ status_as (said (names (seen atoms.old.seat))) status.now }
+    ensures others { (t : Tree) → IsCounted t (keeper_view keeper.old) → said (kept (keeper_view keeper.new)) t ≡ said (kept (keeper_view keeper.old)) t }
+    ensures held { names (seen atoms.new.seat) ≡ names (seen atoms.old.seat) }
+    ensures counts { (k : ℕ) → tally (keeper_view keeper.new) k ≡ weigh_how (naming k) status.now + tally (keeper_view keeper.old) k }
+    ensures refusals { (seen atoms.new.seat).refusals ≡ (seen atoms.old.seat).refusals }
+    ensures requests { requests (seen atoms.new.seat) ≡ requests (seen atoms.old.seat) }
+{
+    match status {
+        Status::Exception(ball) => store_from(atoms, keeper, ball),
+        Status::Exited(term) => store_from(atoms, keeper, term),
+        Status::Succeeded => {}
+        Status::Failed => {}
+        Status::Halted(_) => {}
+        Status::AtomSpace => {}
+    }
+}
+
+/// Counts the atoms of the term of a status that is stored no longer once less, where it has one.
+pub fn forget_status<K: NamesTable>(
+    atoms: &mut TableAtoms<K>,
+    keeper: &mut Option<Keeper>,
+    status: &Status<CountedTerm>,
+)
+    requires keeper { KeeperAt K.atoms K.size keeper.old }
+    requires counted { (k : ℕ) → weigh_how (naming k) status.now ≤ tally (keeper_view keeper.old) k }
+    ensures keeper { KeeperAt K.atoms K.size keeper.new }
+    ensures others { (t : Tree) → IsCounted t (keeper_view keeper.new) → said (kept (keeper_view keeper.new)) t ≡ said (kept (keeper_view keeper.old)) t }
+    ensures held { names (seen atoms.new.seat) ≡ names (seen atoms.old.seat) }
+    ensures counts { (k : ℕ) → weigh_how (naming k) status.now + tally (keeper_view keeper.new) k ≡ tally (keeper_view keeper.old) k }
+    ensures refusals { (seen atoms.new.seat).refusals ≡ (seen atoms.old.seat).refusals }
+    ensures requests { requests (seen atoms.new.seat) ≡ requests (seen atoms.old.seat) }
+{
+    match status {
+        Status::Exception(ball) => forget_by(atoms, keeper, ball),
+        Status::Exited(term) => forget_by(atoms, keeper, term),
         Status::Succeeded => {}
         Status::Failed => {}
         Status::Halted(_) => {}

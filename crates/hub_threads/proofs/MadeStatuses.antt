@@ -1,2 +1,0 @@
--- How threads ended, as terms.
-use Rattle.std.proofs.Common.{◌≡◌}
