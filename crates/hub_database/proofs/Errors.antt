@@ -40,7 +40,7 @@ pub procedure_fixed : fixed 146 ≡ Some (codes "procedure")
 unfolding fixed_texts
 procedure_fixed = refl
 
-some_held : (m : Names) (a : ℕ) (t : Chars) → FixedStand m → fixed a ≡ Some t → IsSome (m a)
+pub some_held : (m : Names) (a : ℕ) (t : Chars) → FixedStand m → fixed a ≡ Some t → IsSome (m a)
 some_held m a t stand e = subst (λ (o : Option Chars). IsSome o) (sym (stand a t e)) refl
 
 -- the error that a resource is used up

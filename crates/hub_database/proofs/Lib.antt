@@ -14,3 +14,5 @@ pub mod AddedRows
 pub mod ChangedRows
 pub mod FlagRows
 pub mod ReclaimedClauses
+pub mod PutOperators
+pub mod ListedProcedures

@@ -38,7 +38,7 @@ worn g r k many = go (nat_le most_updates g) refl
     go true e = refl
     go false e = let under = leb-false most_updates g e in absurd (omega (arith, many, under))
 
-neither : (b c : Bool) → (b || c) ≡ false → (b ≡ false) × (c ≡ false)
+pub neither : (b c : Bool) → (b || c) ≡ false → (b ≡ false) × (c ≡ false)
 neither true c e = absurd (false≢true (sym e))
 neither false c e = (refl, e)
 

@@ -4,3 +4,5 @@ pub mod Rows
 pub mod Adding
 pub mod Heads
 pub mod Flags
+pub mod Operators
+pub mod Listing

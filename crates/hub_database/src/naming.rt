@@ -21,7 +21,7 @@ use atom_api::{Atom, Atoms, fixed};
 use atom_table::{NamesTable, TableAtoms};
 use counted_terms::text_of_atom;
 use pl_model::shows::Proc;
-use pl_term::Memory;
+use pl_term::{Memory, Text};
 use std::alloc::Global;
 use term_store::{AtomNode, Stored};
 use world_api::Procedure;
@@ -71,6 +71,20 @@ pub(crate) fn predicate_texts<K: NamesTable>(
         texts.push(predicate_text(alloc, atoms, &ps[i])?)?;
     }
     Ok(texts)
+}
+
+/// The text of an atom that the engine holds. The only error is out of memory.
+pub(crate) fn name_text<K: NamesTable>(
+    alloc: Global,
+    atoms: &mut TableAtoms<K>,
+    a: Atom,
+) -> Result<Text, Memory>
+    requires { IsSome (names (seen atoms.old.seat) a) }
+    ensures text { IfOk result (λ t. t ≡ text_of (names (seen atoms.old.seat)) a) }
+    ensures held { names (seen atoms.new.seat) ≡ names (seen atoms.old.seat) }
+    ensures quiet { IsQuiet (seen atoms.old.seat) (seen atoms.new.seat) }
+{
+    text_of_atom(alloc, atoms, a)
 }
 
 /// The predicate of the head of a clause that is kept as one term (ISO 6.2.1). A head that is an integer has none.

@@ -1,0 +1,47 @@
+-- What the list of all procedures says, and which texts become atoms for it.
+use Rattle.std.specs.Prelude.{◌≡◌, ◌⊎◌, ℕ, List, [], ◌∷◌, ◌++◌, map}
+use Rattle.std.specs.List.{All, Contains}
+use Rattle.std.specs.declared.result.Result.{Result}
+use Rattle.std.specs.declared.result.Result.TheVariants.{Ok, Err}
+use Rattle.pl_term.specs.Tree.{Chars}
+use Rattle.pl_model.specs.History.{Proc}
+use Rattle.atom_words.specs.declared.view.Refusal.{Refusal}
+use Rattle.world_api.specs.Visits.{proc_named}
+use Rattle.world_api.specs.declared.reply.Reply.TheVariants.{Procedures}
+use Rattle.counted_terms.specs.Rows.{row_refusals}
+use Rattle.counted_terms.specs.declared.row.Row.{Row}
+use Rattle.counted_terms.specs.declared.row.Row.TheVariants.{Reads, Makes, Waits, NeedsAtoms, Retry, Worn, Memory}
+
+-- texts were asked since, each of them the name of one of the procedures
+pub record AsksSome (ps : List Proc) (old new : List Chars) : Type 0 where
+  pub more : List Chars
+  pub asked : new ≡ old ++ more
+  pub each : All (λ t. Contains (map (λ (p : Proc). p.name) ps) t) more
+
+-- at most this text
+abbrev pub AsksOne : Chars → List Chars → List Chars → Type 0
+AsksOne t old new = (new ≡ old) ⊎ (new ≡ old ++ t ∷ [])
+
+-- the row lists these procedures, or no text could become an atom
+abbrev pub Lists : (ℕ → Chars) → List Proc → Row → Type 0
+Lists text ps (Reads (Procedures v)) = map (proc_named text) v.items ≡ ps
+Lists text ps (Reads r) = ⊥
+Lists text ps (Makes r) = ⊥
+Lists text ps (Waits on) = ⊥
+Lists text ps (NeedsAtoms p) = Unit {0}
+Lists text ps (Retry c) = Unit {0}
+Lists text ps (Worn w) = Unit {0}
+Lists text ps Memory = Unit {0}
+
+-- the text did not become an atom
+abbrev pub IsWithout : Row → Type 0
+IsWithout (NeedsAtoms p) = Unit {0}
+IsWithout (Retry c) = Unit {0}
+IsWithout (Worn w) = Unit {0}
+IsWithout Memory = Unit {0}
+IsWithout _ = ⊥
+
+-- what is refused by it
+abbrev pub refusals_in : Result ℕ Row → List Refusal
+refusals_in (Ok a) = []
+refusals_in (Err r) = row_refusals r
