@@ -189,8 +189,8 @@ impl Journal {
     }
 
     /// Adds a clause, and notes the visit; or the error term for which it is refused. The only error is out of memory,
-    /// after which nothing has changed. A history of 2^47 updates, at which a clause is refused for want of generations,
-    /// has no place in memory, and is answered as want of it.
+    /// after which nothing has changed. A history of 2^47 updates, at which a clause is refused because generations are
+    /// used up, has no place in memory, and is answered as out of memory.
     pub fn add(&mut self, clause: Flat, by: Adding) -> Result<Option<Flat>, Memory>
         ensures changes { IfOk result (λ r. Changes self.old (adding_request by (clause_in clause)) r self.new) }
         ensures err { OnErr result (self.new ≡ self.old) }

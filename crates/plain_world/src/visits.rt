@@ -52,7 +52,7 @@ fn spelled_predicate<A: Atoms>(alloc: Global, p: &Procedure, atoms: &mut A) -> R
     })
 }
 
-/// The predicate in texts: the one that was spelled of late, where it still reads so, or else a new one. The only error is want of
+/// The predicate in texts: the one that was spelled of late, where it still reads so, or else a new one. The only error is out of
 /// memory.
 fn known_predicate<A: Atoms>(
     alloc: Global,
