@@ -1,5 +1,5 @@
 -- What the adding of a clause of the file is answered, and leads to.
-use Rattle.std.proofs.Common.{◌≡◌, ◌⊎◌, inl, inr, ℕ, zero, Bool, true, false, List, [], length, Option, Some, refl, sym, ap, ◌∙◌, subst}
+use Rattle.std.proofs.Common.{◌≡◌, ◌⊎◌, inl, inr, ℕ, zero, Bool, true, false, List, [], length, Option, Some, Ok, refl, sym, ap, ◌∙◌, subst}
 use Rattle.std.specs.Prelude.{if◌then◌else◌, nat_le, codes}
 use Rattle.std.specs.Arc.{arc_value}
 use Rattle.std.specs.declared.alloc.Global.{Global}
@@ -46,8 +46,7 @@ use Rattle.pl_consult.specs.declared.stage.Step.TheVariants.{Goes, Gives}
 use Rattle.script_api.specs.declared.script.Next.TheVariants.{Memory}
 use Rattle.pl_model.specs.Balls.{error_ball}
 use Rattle.pl_model.specs.Control.{consult_proc}
-use Rattle.pl_consult.specs.declared.adds.Added.{Added}
-use Rattle.pl_consult.specs.Steps.{Asked, AddedSo, IsAddition, IsAdded, added_refusals, added_names, IsItem, SameGoals, Keeps, After, CameAt, Moved, next_of}
+use Rattle.pl_consult.specs.Steps.{Asked, AddedSo, IsAddition, IsAdded, added_names, IsItem, SameGoals, Keeps, After, CameAt, Moved, next_of}
 use Rattle.pl_consult.proofs.GrowLaws.{grows_line}
 use Rattle.pl_consult.proofs.StepLaws.{same_file, same_goals, gone_goals}
 
@@ -115,17 +114,17 @@ module _ {K : Type 0} (term : (ℕ → Chars) → Tree → Tree) (key : Tree →
       let s = v.1.serves (consult_clause (clause_in (term text kept))) refl in
       said r s.0 (add_answers t.engine t.goals before (clause_in (term text kept)) s.0 v.1.update s.1) s.2
 
-  pub add_added : (kept : Tree) (r : Reply Tree) (g : ℕ) (t : Told) (before : History) (u : Told) (a : Added)
+  pub add_added : (kept : Tree) (r : Reply Tree) (g : ℕ) (t : Told) (before : History) (u : Told) (a : Option Tree)
       → Visited term key text other (ConsultVisit kept) (Served r g) t before u
       → IsAdded r a
-      → AddedSo (term text kept) (term other) a t u
+      → AddedSo (term text kept) (term other) (Ok a) t u
   add_added kept Done g t before u a v is =
       let s = v.1.serves (consult_clause (clause_in (term text kept))) refl in
-      subst (λ (b : Added). AddedSo (term text kept) (term other) b t u) (sym is)
+      subst (λ (b : Option Tree). AddedSo (term text kept) (term other) (Ok b) t u) (sym is)
       (record { before = before; update = v.1.update; follows = v.0; served = s.1 ∙ ap (λ (q : requests.Reply). answers q v.1.update) s.2; told = v.1.told })
   add_added kept (Refused e) g t before u a v is =
       let s = v.1.serves (consult_clause (clause_in (term text kept))) refl in
-      subst (λ (b : Added). AddedSo (term text kept) (term other) b t u) (sym is)
+      subst (λ (b : Option Tree). AddedSo (term text kept) (term other) (Ok b) t u) (sym is)
       (record { before = before; update = v.1.update; follows = v.0; served = s.1 ∙ ap (λ (q : requests.Reply). answers q v.1.update) s.2; told = v.1.told })
   add_added kept (Standing o q) g t before u a v is = absurd is
   add_added kept (Clauses f) g t before u a v is = absurd is
@@ -235,10 +234,10 @@ refuse_failed term c clause kept error place ops t u out more stage renamed l =
     (λ job x y c. (1, c))
     (λ job x s is. (tt, tt))
 
--- What the adding names and hands on.
-pub added_named : (P : ℕ → Type 0) (names : Tree → List ℕ) (r : Reply Tree) (a : Added) → IsAdded r a → All P (reply_names names r) → All P (added_names names a)
-added_named P names Done a is all = All-same P (added_names names a) [] (ap (added_names names) is) (All-nil P)
-added_named P names (Refused e) a is all = All-same P (added_names names a) (names e) (ap (added_names names) is) all
+-- What the adding names.
+pub added_named : (P : ℕ → Type 0) (names : Tree → List ℕ) (r : Reply Tree) (a : Option Tree) → IsAdded r a → All P (reply_names names r) → All P (added_names names (Ok a))
+added_named P names Done a is all = All-same P (added_names names (Ok a)) [] (ap (λ (b : Option Tree). added_names names (Ok b)) is) (All-nil P)
+added_named P names (Refused e) a is all = All-same P (added_names names (Ok a)) (names e) (ap (λ (b : Option Tree). added_names names (Ok b)) is) all
 added_named P names (Standing o q) a is all = absurd is
 added_named P names (Clauses f) a is all = absurd is
 added_named P names (Procedures ps) a is all = absurd is
@@ -248,16 +247,3 @@ added_named P names (Message m) a is all = absurd is
 added_named P names NoMessage a is all = absurd is
 added_named P names (Status m) a is all = absurd is
 added_named P names Gone a is all = absurd is
-
-pub added_quiet : (r : Reply Tree) (a : Added) → IsAdded r a → added_refusals a ≡ []
-added_quiet Done a is = ap added_refusals is
-added_quiet (Refused e) a is = ap added_refusals is
-added_quiet (Standing o q) a is = absurd is
-added_quiet (Clauses f) a is = absurd is
-added_quiet (Procedures ps) a is = absurd is
-added_quiet (Flags fs) a is = absurd is
-added_quiet (Named n) a is = absurd is
-added_quiet (Message m) a is = absurd is
-added_quiet NoMessage a is = absurd is
-added_quiet (Status m) a is = absurd is
-added_quiet Gone a is = absurd is

@@ -1,14 +1,12 @@
 -- The names that are in a clause, in the goal of a directive and in what is left of them when an item is taken up.
 use Rattle.std.proofs.Common.{◌≡◌, ◌⊎◌, inl, inr, ℕ, zero, ◌+◌, List, [], ◌∷◌, ◌++◌, Bool, true, false, Option, Some, None, IfSome, refl, sym, ap, ap₂, ◌∙◌, subst, append_assoc, append-nil}
-use Rattle.std.specs.Prelude.{Result, Ok, Err, IfOk, bytes_eq, codes, if◌then◌else◌}
+use Rattle.std.specs.Prelude.{Result, Ok, IfOk, bytes_eq, codes, if◌then◌else◌}
 use Rattle.std.specs.List.{All, Contains}
-use Rattle.std.proofs.lemmas.List.Elements.{All-nil, All-cons, All-head, All-tail, All-same, All-append, All-contains, All-contains_itself, All-weaker, Contains-append_left, Contains-append_right, Contains-append_cases}
+use Rattle.std.proofs.lemmas.List.Elements.{All-nil, All-cons, All-head, All-tail, All-same, All-append, All-contains, All-contains_itself, All-weaker}
 use Rattle.pl_term.specs.Tree.{Chars, Tree, Trees, var, int, atom, comp, none, more}
 use Rattle.pl_term.specs.Variables.{place, variables, rename, rename_by, rename_all_by}
-use Rattle.pl_model.specs.declared.grammar.Quotes.{Quotes}
-use Rattle.pl_model.specs.OperatorTable.{OperatorTable}
 use Rattle.pl_model.specs.History.{Clause as ClauseOf, head_part, body_part}
-use Rattle.pl_model.specs.BodyChecks.{is_transparent, both_goals, converted, or_not_callable, body_of, rule, numbered_clause, with_body, clause_of, clause_of_term}
+use Rattle.pl_model.specs.BodyChecks.{is_transparent, both_goals, converted, or_not_callable, rule, numbered_clause, with_body, clause_of, clause_of_term}
 use Rattle.run_model.specs.Execution.{directive_of, initialization_of}
 use Rattle.pl_consult.specs.Checks.{kept_clause}
 use Rattle.world_api.specs.Asked.{texts_in, texts_in_all, clause_texts}

@@ -1,5 +1,5 @@
 -- What a look is answered.
-use Rattle.std.proofs.Common.{◌≡◌, ℕ, [], length, Option, refl, sym, ap, ◌∙◌, subst}
+use Rattle.std.proofs.Common.{◌≡◌, ℕ, length, Option, Ok, refl, sym, ap, ◌∙◌, subst}
 use Rattle.pl_term.specs.Tree.{Chars, Tree}
 use Rattle.pl_model.specs.declared.grammar.Quotes.{Quotes}
 use Rattle.pl_model.specs.OperatorTable.{OperatorTable}
@@ -15,8 +15,8 @@ use Rattle.world_api.specs.declared.answer.Answer.TheVariants.{Served}
 use Rattle.world_api.specs.Told.{Told}
 use Rattle.world_api.specs.Replies.{Says}
 use Rattle.world_api.specs.Answers.{Visited}
-use Rattle.pl_consult.specs.declared.looks.Look.{Look as LookOf}
-use Rattle.pl_consult.specs.Steps.{LooksSo, IsStanding, IsLook, look_refusals}
+use Rattle.pl_consult.specs.declared.looks.Standing.{Standing as StandingOf}
+use Rattle.pl_consult.specs.Steps.{LooksSo, IsStanding, IsLook}
 
 -- A look never waits, and tells the operators and the flag.
 pub look_serves : (e goals : ℕ) (h : History) → served_now e goals h look ≡ waits → ⊥
@@ -52,13 +52,13 @@ module _ {K : Type 0} (term : (ℕ → Chars) → Tree → Tree) (key : Tree →
       let p = stands t.engine t.goals before s.0 v.1.update s.1 in
       said r p.0 p.1 (subst (λ (q : requests.Reply). Says term other r q) p.2 s.2)
 
-  pub look_looked : (r : Reply Tree) (g : ℕ) (t : Told) (before : History) (u : Told) (l : LookOf)
+  pub look_looked : (r : Reply Tree) (g : ℕ) (t : Told) (before : History) (u : Told) (l : StandingOf)
       → Visited term key text other Look (Served r g) t before u
       → IsLook r l
-      → LooksSo l t u
+      → LooksSo (Ok l) t u
   look_looked (ReplyStanding ops quotes) g t before u l v is =
       let s = v.1.serves look refl in
-      subst (λ (k : LookOf). LooksSo k t u) (sym is)
+      subst (λ (k : StandingOf). LooksSo (Ok k) t u) (sym is)
       (record {
         before = before;
         update = v.1.update;
@@ -76,17 +76,3 @@ module _ {K : Type 0} (term : (ℕ → Chars) → Tree → Tree) (key : Tree →
   look_looked Done g t before u l v is = absurd is
   look_looked Gone g t before u l v is = absurd is
   look_looked (Refused e) g t before u l v is = absurd is
-
--- What a look appends to the list of refusals: nothing.
-pub look_refused : (r : Reply Tree) (l : LookOf) → IsLook r l → look_refusals l ≡ []
-look_refused (ReplyStanding ops quotes) l is = ap look_refusals is
-look_refused (Clauses f) l is = absurd is
-look_refused (Procedures ps) l is = absurd is
-look_refused (Flags fs) l is = absurd is
-look_refused (Named n) l is = absurd is
-look_refused (Message m) l is = absurd is
-look_refused NoMessage l is = absurd is
-look_refused (Status m) l is = absurd is
-look_refused Done l is = absurd is
-look_refused Gone l is = absurd is
-look_refused (Refused e) l is = absurd is

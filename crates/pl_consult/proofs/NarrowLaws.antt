@@ -1,7 +1,6 @@
 -- Of the names and the requests of a script none comes with a step.
-use Rattle.std.proofs.Common.{◌≡◌, ◌⊎◌, inl, inr, ℕ, zero, List, [], ◌∷◌, ◌++◌, Bool, true, false, Option, Some, None, refl, sym, ap, ◌∙◌, subst}
-use Rattle.std.specs.Prelude.{Ok}
-use Rattle.std.specs.List.{All, Contains}
+use Rattle.std.proofs.Common.{◌≡◌, ◌⊎◌, inl, inr, ℕ, zero, List, [], true, Option, Some, None, refl, sym, ap, ◌∙◌, subst}
+use Rattle.std.specs.List.{Contains}
 use Rattle.std.proofs.lemmas.List.Elements.{Contains-append_left, Contains-append_right, Contains-append_cases}
 use Rattle.std.specs.Arc.{arc_value}
 use Rattle.std.specs.declared.alloc.Global.{Global}
@@ -10,14 +9,14 @@ use Rattle.pl_term.specs.Tree.{Chars, Tree}
 use Rattle.pl_term.specs.Variables.{rename}
 use Rattle.pl_model.specs.declared.grammar.Quotes.{Quotes}
 use Rattle.pl_model.specs.OperatorTable.{OperatorTable}
-use Rattle.pl_model.specs.Requests.{Request, look, consult_clause}
+use Rattle.pl_model.specs.Requests.{Request, consult_clause}
 use Rattle.run_model.specs.Execution.{goal_word, word_read}
 use Rattle.pl_consult.specs.declared.consult.Place.{Place}
 use Rattle.pl_consult.specs.declared.consult.Consult.{Consult}
 use Rattle.pl_consult.specs.declared.consult.Taken.{Taken}
 use Rattle.pl_consult.specs.declared.consult.Taken.TheVariants.{Clause as ClauseTaken, Directive as DirectiveTaken, Passed}
 use Rattle.pl_consult.specs.Checks.{kept_clause}
-use Rattle.pl_consult.specs.Taking.{IsReadAt, IsTakenAt, PutsOff, HasPutOff, IsNextOf, HasLost}
+use Rattle.pl_consult.specs.Taking.{IsTakenAt, HasPutOff, IsNextOf, HasLost}
 use Rattle.world_api.specs.Visits.{clause_in}
 use Rattle.world_api.specs.Told.{Told}
 use Rattle.world_api.specs.Gains.{Gains}
@@ -30,7 +29,7 @@ use Rattle.pl_consult.specs.declared.stage.Stage.{Stage}
 use Rattle.pl_consult.specs.declared.stage.Stage.TheVariants.{Items, Clause, Directive, AtDirective, Report, Words, Goal, AtGoal, Over, Lost}
 use Rattle.pl_consult.specs.declared.file_script.FileScript.{FileScript}
 use Rattle.pl_consult.specs.Steps.{can_step, part_of, stage_by, stage_for}
-use Rattle.pl_consult.specs.ItemTexts.{IsItem, IsItemText, named, added, IsWordText, later_texts, stage_texts, IsOwnText, of_item, of_word, of_later, at_hand, clause_words, clause_at, IsFileRequest, looks, adds, IsOwnRequest, of_file, clause_at_hand, MayIntern, Narrows}
+use Rattle.pl_consult.specs.ItemTexts.{IsItem, IsItemText, named, added, IsWordText, later_texts, stage_texts, IsOwnText, of_item, of_word, of_later, at_hand, clause_words, clause_at, IsFileRequest, adds, IsOwnRequest, of_file, clause_at_hand, MayIntern, Narrows}
 use Rattle.pl_consult.proofs.ItemLaws.{clause_name, directive_name, later_name, later_more, numbered_name}
 
 pub narrows_same : (word : Option Chars) (c : Consult) (stage : Stage) → Narrows word c stage c stage

@@ -1,5 +1,5 @@
 -- What is taken up of an item that is read from a place on.
-use Rattle.std.proofs.Common.{◌≡◌, ◌⊎◌, inl, inr, ℕ, List, [], ◌∷◌, ◌++◌, Option, Some, sym}
+use Rattle.std.proofs.Common.{◌≡◌, inl, inr, ℕ, List, [], ◌∷◌, ◌++◌, Some, sym}
 use Rattle.std.specs.Prelude.{Result, Ok, Err, IfOk}
 use Rattle.pl_term.specs.Tree.{Chars, Tree}
 use Rattle.pl_model.specs.declared.grammar.Quotes.{Quotes}
@@ -9,7 +9,7 @@ use Rattle.pl_model.specs.TermGrammar.{item_of}
 use Rattle.run_model.specs.Execution.{directive_of, initialization_of}
 use Rattle.pl_consult.specs.declared.consult.Taken.{Taken}
 use Rattle.pl_consult.specs.declared.consult.Taken.TheVariants.{Clause, Directive, Passed}
-use Rattle.pl_consult.specs.Taking.{IsReadAt, IsTakenOf, IsTakenAt, PutsOff, MayPutOff, HasPutOff}
+use Rattle.pl_consult.specs.Taking.{IsReadAt, IsTakenOf, IsTakenAt, MayPutOff, HasPutOff}
 
 pub read_at : {text : List ℕ} {at : ℕ} {ops : OperatorTable} {quotes : Quotes} {t : Tree} {names : List (Chars × ℕ)} {start next : ℕ}
     → item_of text at ops quotes ≡ clause t names start next

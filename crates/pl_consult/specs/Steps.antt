@@ -1,5 +1,5 @@
 -- What a step of the script is of an execution.
-use Rattle.std.specs.Prelude.{◌≡◌, ◌+◌, ℕ, zero, List, [], ◌∷◌, ◌++◌, length, Option, Some, None, Bool, true, false}
+use Rattle.std.specs.Prelude.{◌≡◌, ◌+◌, ℕ, zero, List, [], ◌∷◌, ◌++◌, length, Option, Some, None, Result, Ok, Err, Bool, true, false}
 use Rattle.std.specs.Arc.{arc_value}
 use Rattle.std.specs.declared.alloc.Global.{Global}
 use Rattle.std.specs.declared.sync.Arc.{Arc}
@@ -29,8 +29,7 @@ use Rattle.script_api.specs.declared.script.Next.TheVariants.{Item, Done, Memory
 use Rattle.world_api.specs.declared.reply.Reply.{Reply}
 use Rattle.world_api.specs.declared.reply.Reply.TheVariants.{Standing as ReplyStanding, Done as ReplyDone, Refused as ReplyRefused}
 use Rattle.world_api.specs.Visits.{clause_in}
-use Rattle.pl_consult.specs.declared.adds.Added.{Added}
-use Rattle.pl_consult.specs.declared.adds.Added.TheVariants.{Done as AddedDone, Refused as AddedRefused, Stays as AddedStays}
+use Rattle.world_api.specs.declared.unserved.Unserved.{Unserved}
 use Rattle.world_api.specs.Told.{Told, Follows}
 use Rattle.world_api.specs.Answers.{seen_as}
 use Rattle.script_api.specs.Parts.{Part, of_goal, of_directive, limits_of}
@@ -40,8 +39,7 @@ use Rattle.pl_consult.specs.declared.stage.Stage.{Stage}
 use Rattle.pl_consult.specs.declared.stage.Stage.TheVariants.{Items, Clause, Directive, AtDirective, Report, Words, Goal, AtGoal, Over, Lost}
 use Rattle.pl_consult.specs.declared.stage.Step.{Step}
 use Rattle.pl_consult.specs.declared.stage.Step.TheVariants.{Goes, Gives}
-use Rattle.pl_consult.specs.declared.looks.Look.{Look}
-use Rattle.pl_consult.specs.declared.looks.Look.TheVariants.{Standing, Stays}
+use Rattle.pl_consult.specs.declared.looks.Standing.{Standing}
 
 -- The answers by which a script stays where it is.
 abbrev pub IsStay : {T : Type 0} → Next T → Type 0
@@ -57,22 +55,19 @@ pub record Looked (t u : Told) (ops : OperatorTable) (quotes : Quotes) : Type 0 
   pub served : served_now t.engine t.goals before look ≡ answers (standing ops quotes) update
   pub told : u ≡ seen_as t (before ++ entry_by t.engine update) (t.gens ++ length before ∷ [])
 
-abbrev pub LooksSo : Look → Told → Told → Type 0
-LooksSo (Standing ops quotes) t u = Looked t u (arc_value ops) quotes
-LooksSo (Stays next) t u = IsStay next × (u ≡ t)
+-- Where the look was not served, nothing has changed.
+abbrev pub LooksSo : Result Standing Unserved → Told → Told → Type 0
+LooksSo (Ok s) t u = Looked t u (arc_value s.operators) s.quotes
+LooksSo (Err w) t u = u ≡ t
 
 -- What a reply to a look tells.
 abbrev pub IsStanding : Reply Tree → Type 0
 IsStanding (ReplyStanding ops quotes) = Unit {0}
 IsStanding reply = ⊥
 
-abbrev pub IsLook : Reply Tree → Look → Type 0
-IsLook (ReplyStanding ops quotes) l = l ≡ Standing ops quotes
-IsLook reply l = ⊥
-
-abbrev pub look_refusals : Look → List Refusal
-look_refusals (Standing ops quotes) = []
-look_refusals (Stays next) = next_refusals next
+abbrev pub IsLook : Reply Tree → Standing → Type 0
+IsLook (ReplyStanding ops quotes) s = s ≡ record { operators = ops; quotes = quotes }
+IsLook reply s = ⊥
 
 -- A request after all entries that was answered so.
 pub record Asked (t u : Told) (q : Request) (reply : requests.Reply) : Type 0 where
@@ -82,11 +77,11 @@ pub record Asked (t u : Told) (q : Request) (reply : requests.Reply) : Type 0 wh
   pub served : served_now t.engine t.goals before q ≡ answers reply update
   pub told : u ≡ seen_as t (before ++ entry_by t.engine update) (t.gens ++ length before ∷ [])
 
--- What the adding of this clause gives.
-abbrev pub AddedSo : Tree → (Tree → Tree) → Added → Told → Told → Type 0
-AddedSo clause term AddedDone t u = Asked t u (consult_clause (clause_in clause)) requests.done
-AddedSo clause term (AddedRefused e) t u = Asked t u (consult_clause (clause_in clause)) (requests.refused (term e))
-AddedSo clause term (AddedStays next) t u = IsStay next × (u ≡ t)
+-- This clause was added, or refused with an error; where the call was not served, nothing has changed.
+abbrev pub AddedSo : Tree → (Tree → Tree) → Result (Option Tree) Unserved → Told → Told → Type 0
+AddedSo clause term (Ok None) t u = Asked t u (consult_clause (clause_in clause)) requests.done
+AddedSo clause term (Ok (Some e)) t u = Asked t u (consult_clause (clause_in clause)) (requests.refused (term e))
+AddedSo clause term (Err w) t u = u ≡ t
 
 -- What a reply tells of it.
 abbrev pub IsAddition : Reply Tree → Type 0
@@ -94,20 +89,15 @@ IsAddition ReplyDone = Unit {0}
 IsAddition (ReplyRefused e) = Unit {0}
 IsAddition reply = ⊥
 
-abbrev pub IsAdded : Reply Tree → Added → Type 0
-IsAdded ReplyDone a = a ≡ AddedDone
-IsAdded (ReplyRefused e) a = a ≡ AddedRefused e
+abbrev pub IsAdded : Reply Tree → Option Tree → Type 0
+IsAdded ReplyDone a = a ≡ None
+IsAdded (ReplyRefused e) a = a ≡ Some e
 IsAdded reply a = ⊥
 
-abbrev pub added_refusals : Added → List Refusal
-added_refusals AddedDone = []
-added_refusals (AddedRefused e) = []
-added_refusals (AddedStays next) = next_refusals next
-
-abbrev pub added_names : (Tree → List ℕ) → Added → List ℕ
-added_names names AddedDone = []
-added_names names (AddedRefused e) = names e
-added_names names (AddedStays next) = []
+abbrev pub added_names : (Tree → List ℕ) → Result (Option Tree) Unserved → List ℕ
+added_names names (Ok None) = []
+added_names names (Ok (Some e)) = names e
+added_names names (Err w) = []
 
 abbrev pub step_refusals : Step → List Refusal
 step_refusals Goes = []

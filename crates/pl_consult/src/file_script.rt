@@ -26,9 +26,10 @@ use crate::counts::{count, counted, moves_at};
 use crate::ends::to_report;
 use crate::gives::{give_directive, give_goal, next_initialization};
 use crate::goal_words::{GoalWord, begun_by, fault_in, names_in, read_word};
-use crate::looks::{Look, look_at};
+use crate::looks::look_at;
 use crate::reports::report;
 use crate::stage::{Stage, Step, can_step, directive_at};
+use crate::stops::next_by;
 use crate::taking::take_item;
 use op_table::OpTable;
 use pl_model::ends::How;
@@ -285,8 +286,8 @@ impl FileScript {
         ensures word { self.new.word ≡ self.old.word }
     {
         match look_at(world, atoms) {
-            Look::Stays(next) => (Stage::Words, Step::Gives(next)),
-            Look::Standing { operators, quotes } => self.read_under(&operators, quotes),
+            Err(unserved) => (Stage::Words, Step::Gives(next_by(unserved))),
+            Ok(standing) => self.read_under(&standing.operators, standing.quotes),
         }
     }
 

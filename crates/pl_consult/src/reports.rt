@@ -12,8 +12,9 @@ ghost use Rattle.pl_consult.specs.ItemTexts.{Narrows};
 ghost use Rattle.pl_consult.specs.Steps.{IsAfter, IsQuiet, Looked, Moved, status_of, step_names, step_refusals};
 
 use crate::consult::Consult;
-use crate::looks::{Look, look_at};
+use crate::looks::look_at;
 use crate::stage::{Stage, Step};
+use crate::stops::next_by;
 use op_table::OpTable;
 use pl_model::ends::How;
 use pl_term::Flat;
@@ -44,10 +45,8 @@ pub fn report<W: World<Term = Stored>>(
     ensures narrows { (word : Option Chars) → Narrows word consult.now (Report place how) consult.now result.0 }
 {
     match look_at(world, atoms) {
-        Look::Stays(next) => (Stage::Report { place, how }, Step::Gives(next)),
-        Look::Standing { operators, .. } => {
-            report_under(alloc, consult, place, how, &operators, text)
-        }
+        Err(unserved) => (Stage::Report { place, how }, Step::Gives(next_by(unserved))),
+        Ok(standing) => report_under(alloc, consult, place, how, &standing.operators, text),
     }
 }
 

@@ -12,8 +12,9 @@ ghost use Rattle.pl_consult.specs.ItemTexts.{Narrows};
 ghost use Rattle.pl_consult.specs.Steps.{IsAfter, Moved, stage_by, step_names, step_refusals};
 
 use crate::consult::{Consult, Taken};
-use crate::looks::{Look, look_at};
+use crate::looks::{Standing, look_at};
 use crate::stage::{Stage, Step};
+use crate::stops::next_by;
 use op_table::OpTable;
 use script_api::Next;
 use std::alloc::Global;
@@ -44,8 +45,8 @@ pub fn take_item<W: World<Term = Stored>>(
     ensures narrows { (word : Option Chars) → Narrows word consult.old Items consult.new result.0 }
 {
     match look_at(world, atoms) {
-        Look::Stays(next) => (Stage::Items, Step::Gives(next)),
-        Look::Standing { operators, quotes } => {
+        Err(unserved) => (Stage::Items, Step::Gives(next_by(unserved))),
+        Ok(Standing { operators, quotes }) => {
             match consult.take(alloc, at, &operators, quotes, text) {
                 Ok(taken) => (stage_of(taken, operators), Step::Goes),
                 Err(_) => (Stage::Items, Step::Gives(Next::Memory)),

@@ -1,14 +1,14 @@
-use Rattle.std.proofs.Common.{◌++◌, IsSome, refl, ap, sym, ◌∙◌}
+use Rattle.std.proofs.Common.{IsSome, refl}
 use Rattle.pl_model.specs.Requests.{consult_clause}
 use Rattle.term_store.specs.NumberedNames.{names_of, term_by}
 use Rattle.world_api.specs.Texts.{text_of}
 use Rattle.world_api.specs.Visits.{clause_in}
 use Rattle.script_api.proofs.LaterLaws.{later_by, later_same}
-use Rattle.pl_consult.proofs.AddLaws.{add_serves, add_told, add_added, add_asked, added_named, added_quiet}
+use Rattle.pl_consult.proofs.AddLaws.{add_serves, add_told, add_added, add_asked, added_named}
 use Rattle.pl_consult.proofs.adds.add.Goals as goal
 
-pub told-requires : goal.told-requires
-told-requires g c =
+pub refused_by-requires : goal.refused_by-requires
+refused_by-requires g c =
     add_told term_by _ (text_of (g.W.A.Atoms.held c.args.atoms.now)) (text_of (g.W.A.Atoms.held c.visit.new.atoms)) c.args.kept c.in-Served.reply c.in-Served.generation
     (g.W.World.told c.args.world.now) c.in-Served.ensures.visited.0 (g.W.World.told c.visit.new.self) c.in-Served.ensures.visited.1
 
@@ -20,16 +20,11 @@ unreachable-requires g c =
 pub returns-in-Served-clause-adds : goal.returns-in-Served-clause-adds
 returns-in-Served-clause-adds g c =
     add_added term_by _ (text_of (g.W.A.Atoms.held c.args.atoms.now)) (text_of (g.W.A.Atoms.held c.visit.new.atoms)) c.args.kept c.in-Served.reply c.in-Served.generation
-    (g.W.World.told c.args.world.now) c.in-Served.ensures.visited.0 (g.W.World.told c.visit.new.self) c.told.result c.in-Served.ensures.visited.1 c.told.ensures
+    (g.W.World.told c.args.world.now) c.in-Served.ensures.visited.0 (g.W.World.told c.visit.new.self) c.refused_by.result c.in-Served.ensures.visited.1 c.refused_by.ensures
 
 pub returns-in-Served-clause-named : goal.returns-in-Served-clause-named
 returns-in-Served-clause-named g c =
-    added_named (λ a. IsSome (g.W.A.Atoms.held c.visit.new.atoms a)) names_of c.in-Served.reply c.told.result c.told.ensures c.in-Served.ensures.names
-
-pub returns-in-Served-clause-refusals : goal.returns-in-Served-clause-refusals
-returns-in-Served-clause-refusals g c =
-    c.in-Served.ensures.refusals
-    ∙ ap (λ rs. g.W.A.Atoms.refusals c.args.atoms.now ++ rs) (sym (added_quiet c.in-Served.reply c.told.result c.told.ensures))
+    added_named (λ a. IsSome (g.W.A.Atoms.held c.visit.new.atoms a)) names_of c.in-Served.reply c.refused_by.result c.refused_by.ensures c.in-Served.ensures.names
 
 pub returns-in-Served-clause-told : goal.returns-in-Served-clause-told
 returns-in-Served-clause-told g c =

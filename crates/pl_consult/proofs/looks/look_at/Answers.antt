@@ -7,8 +7,8 @@ use Rattle.world_api.proofs.AskedLaws.{look_asks_nothing}
 use Rattle.pl_consult.proofs.LookLaws.{look_serves, look_told, look_looked}
 use Rattle.pl_consult.proofs.looks.look_at.Goals as goal
 
-pub standing-requires : goal.standing-requires
-standing-requires g c =
+pub standing_by-requires : goal.standing_by-requires
+standing_by-requires g c =
     look_told term_by _ (text_of (g.W.A.Atoms.held c.args.atoms.now)) (text_of (g.W.A.Atoms.held c.visit.new.atoms)) c.in-Served.reply c.in-Served.generation
     (g.W.World.told c.args.world.now) c.in-Served.ensures.visited.0 (g.W.World.told c.visit.new.self) c.in-Served.ensures.visited.1
 
@@ -19,7 +19,7 @@ unreachable-requires g c =
 pub returns-in-Served-clause-looks : goal.returns-in-Served-clause-looks
 returns-in-Served-clause-looks g c =
     look_looked term_by _ (text_of (g.W.A.Atoms.held c.args.atoms.now)) (text_of (g.W.A.Atoms.held c.visit.new.atoms)) c.in-Served.reply c.in-Served.generation
-    (g.W.World.told c.args.world.now) c.in-Served.ensures.visited.0 (g.W.World.told c.visit.new.self) c.standing.result c.in-Served.ensures.visited.1 c.standing.ensures
+    (g.W.World.told c.args.world.now) c.in-Served.ensures.visited.0 (g.W.World.told c.visit.new.self) c.standing_by.result c.in-Served.ensures.visited.1 c.standing_by.ensures
 
 pub returns-in-Served-clause-told : goal.returns-in-Served-clause-told
 returns-in-Served-clause-told g c =

@@ -5,7 +5,7 @@ use Rattle.world_api.specs.Texts.{text_of}
 use Rattle.script_api.specs.declared.script.Next.{Next}
 use Rattle.pl_consult.specs.declared.file_script.FileScript.{FileScript}
 use Rattle.pl_consult.specs.declared.stage.Step.{Step}
-use Rattle.pl_consult.specs.declared.stage.Step.TheVariants.{Goes, Gives}
+use Rattle.pl_consult.specs.declared.stage.Step.TheVariants.{Gives}
 use Rattle.pl_consult.specs.Steps.{IsAfter, step_refusals}
 use Rattle.pl_consult.specs.FileScripts.{FileRan, IsGiven, is_memory}
 use Rattle.world_api.proofs.Gaining.{gains_nothing}
