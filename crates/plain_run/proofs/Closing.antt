@@ -1,5 +1,5 @@
 -- After the search of the goal.
-use Rattle.std.proofs.Common.{◌≡◌, ℕ, Bool, List, [], ◌++◌, Option, None, Some, refl, sym, ap, subst, ◌∙◌, append-nil}
+use Rattle.std.proofs.Common.{◌≡◌, ℕ, Bool, List, [], ◌++◌, Option, None, Some, Ok, Err, refl, sym, ap, subst, ◌∙◌, append-nil}
 use Rattle.std.specs.Prelude.{encode_utf8_all}
 use Rattle.pl_term.specs.Tree.{Chars, Tree}
 use Rattle.pl_model.specs.Resolution.{Ending, ended, Output}
@@ -18,7 +18,8 @@ use Rattle.script_api.specs.Comes.{ComesBy}
 use Rattle.script_api.specs.Scripts.{Given, IsLast, LeavesOff, StandsBefore, some_fault, written_at}
 use Rattle.script_api.proofs.ComesLaws.{by_same, by_then}
 use Rattle.iso_search.specs.declared.search.Budgets.{Budgets}
-use Rattle.plain_run.specs.declared.ran.Ran.TheVariants as ran
+use Rattle.plain_run.specs.declared.unfinished.Unfinished.{Unfinished}
+use Rattle.plain_run.specs.declared.unfinished.Unfinished.TheVariants.{Waits, NeedsAtoms, Worn, Missing, Memory}
 use Rattle.plain_run.specs.Ran.{HasSearched, Ran, StandsSo, at_start_of}
 use Rattle.plain_run.specs.Items.{GoalStandsAs, HasClosed, HasRunGoal}
 
@@ -33,40 +34,39 @@ module _ {S : Type 0} (execution : (ℕ → Chars) → S → Job → List Consul
     (kept : S → Bool) (name : Chars) (budgets : Budgets) (wanted : ℕ)
     (lines : (text : ℕ → Chars) (s : S) (job : Job) (cs : List Consulted) → (execution text s job cs).consulted ≡ cs) where
   -- Nothing was done.
-  pub stays_open : (m : Names) (t : Told) (before : ℕ) (s : S) (bytes : List ℕ) (r : Ran) → part s ≡ Some of_goal → ((how : How Tree) → r ≡ ran.Ended how → ⊥)
-      → HasClosed execution part plays kept name budgets wanted m t before s bytes r m t before s bytes
-  stays_open m t before s bytes r at none job cs v has wants pl st w = (
+  pub stays_open : (m : Names) (t : Told) (before : ℕ) (s : S) (bytes : List ℕ) (w : Unfinished) → part s ≡ Some of_goal
+      → HasClosed execution part plays kept name budgets wanted m t before s bytes (Err w) m t before s bytes
+  stays_open m t before s bytes w at job cs v has wants pl st text = (
     cs,
     with_search (execution (text_of m) s job cs) of_goal v,
     by_same job (with_search (execution (text_of m) s job cs) of_goal v) (with_search (execution (text_of m) s job cs) of_goal v) t before refl,
-    stands r none st,
+    stands w st,
     pl,
-    w,
+    text,
     refl,
   )
     where
-      stands : (q : Ran) → ((how : How Tree) → q ≡ ran.Ended how → ⊥) → StandsSo budgets wanted m t v q
-          → GoalStandsAs execution part m t s job cs q (with_search (execution (text_of m) s job cs) of_goal v)
-      stands (ran.Ended how) n h = absurd (n how refl)
-      stands (ran.Waits on) n h =
+      stands : (q : Unfinished) → StandsSo budgets wanted m t v (Err q)
+          → GoalStandsAs execution part m t s job cs (Err q) (with_search (execution (text_of m) s job cs) of_goal v)
+      stands (Waits on) h =
           (record { item = of_goal; state = v; at_hand = at; is = refl }, h.1 job of_goal (execution (text_of m) s job cs) has wants)
-      stands (ran.NeedsAtoms p) n h = tt
-      stands (ran.Worn p) n h = tt
-      stands (ran.Missing p) n h = (record { item = of_goal; state = v; at_hand = at; is = refl }, h)
+      stands (NeedsAtoms p) h = tt
+      stands (Worn p) h = tt
+      stands (Missing p) h = (record { item = of_goal; state = v; at_hand = at; is = refl }, h)
+      stands Memory h = tt
 
   -- The script was told, and has no further item.
-  pub is_closed : (m n : Names) (t u : Told) (before after : ℕ) (old new : S) (bytes more : List ℕ) (r : Ran) (how : How Tree) (given_how : Option (How Tree)) (h : Option ℕ)
-      → part old ≡ Some of_goal → r ≡ ran.Ended how → given_how ≡ Some how
+  pub is_closed : (m n : Names) (t u : Told) (before after : ℕ) (old new : S) (bytes more : List ℕ) (how : How Tree) (given_how : Option (How Tree)) (h : Option ℕ)
+      → part old ≡ Some of_goal → given_how ≡ Some how
       → (let next : Next Tree = Done h in IsLast (part old) next)
       → Given execution part term_by plays kept name (text_of m) (text_of n) old given_how t before bytes (Done h) new u after more
-      → HasClosed execution part plays kept name budgets wanted m t before old bytes r n u after new more
-  is_closed m n t u before after old new bytes more r how given_how h at is told last given job cs s has wants pl st w =
-      let st' : StandsSo budgets wanted m t s (ran.Ended how) = subst (λ q. StandsSo budgets wanted m t s q) is st
-      in let x : Execution = with_search (execution (text_of m) old job cs) of_goal s
+      → HasClosed execution part plays kept name budgets wanted m t before old bytes (Ok how) n u after new more
+  is_closed m n t u before after old new bytes more how given_how h at told last given job cs s has wants pl st w =
+      let x : Execution = with_search (execution (text_of m) old job cs) of_goal s
       in let stood : StandsBefore execution part term_by (text_of m) old job (part old) given_how (Some s) cs x =
       subst (λ (o : Option Part). StandsBefore execution part term_by (text_of m) old job o given_how (Some s) cs x) (sym at)
       (subst (λ (k : Option (How Tree)). StandsBefore execution part term_by (text_of m) old job (Some of_goal) k (Some s) cs x) (sym told)
-      (st'.0, st'.1, st'.2, refl))
+      (st.0, st.1, st.2, refl))
       in let g = given job cs (Some s) x pl stood w.0 w.1
       in let ending : Ending = g.3.0
       in let os : List Output = g.3.1
@@ -74,13 +74,13 @@ module _ {S : Type 0} (execution : (ℕ → Chars) → S → Job → List Consul
       subst (λ (k : Option ℕ). LeavesOff k (Some of_goal) (Some s) ending os)
       (none_last h (subst (λ (o : Option Part). let next : Next Tree = Done h in IsLast o next) at last))
       (subst (λ (o : Option Part). LeavesOff h o (Some s) ending os) at g.3.2)
-      in let same : st'.0 ≡ ending = one_ending st'.0 ending (sym st'.1 ∙ leaves.0)
+      in let same : st.0 ≡ ending = one_ending st.0 ending (sym st.1 ∙ leaves.0)
       in let written : written_at g.1 ≡ g.0 = ap written_at g.3.3 ∙ ap (λ l. l ++ []) (lines (text_of n) new job g.0) ∙ append-nil g.0
       in (
         g.0,
         g.1,
         g.2,
-        subst (λ q. GoalStandsAs execution part n u new job g.0 q g.1) (sym is) (ending, os, subst (λ e. EndsSo e how) same st'.2, g.3.3),
+        (ending, os, subst (λ e. EndsSo e how) same st.2, g.3.3),
         g.4,
         (g.5 ∙ ap (λ l. encode_utf8_all (all_consulted name [] l)) (sym written), ap some_fault written ∙ g.6),
         ap output_of g.3.3 ∙ leaves.1,

@@ -2,6 +2,7 @@ pub mod Answered
 pub mod Closing
 pub mod Completions
 pub mod Endings
+pub mod Exits
 pub mod Outputs
 pub mod Readings
 pub mod Rounds

@@ -1,5 +1,5 @@
 -- One slice after another.
-use Rattle.std.proofs.Common.{◌≡◌, ℕ, ◌+◌, List, [], ◌∷◌, ◌++◌, map, Option, None, Some, refl, sym, ap, subst, ◌∙◌, append_assoc, append-nil, arith}
+use Rattle.std.proofs.Common.{◌≡◌, ℕ, ◌+◌, List, [], ◌∷◌, ◌++◌, map, Bool, true, false, Result, Ok, Err, refl, sym, ap, subst, ◌∙◌, append_assoc, append-nil, arith}
 use Rattle.std.specs.Prelude.{encode_utf8_all}
 use Rattle.pl_term.specs.Tree.{Chars}
 use Rattle.pl_model.specs.Resolution.{Output}
@@ -10,7 +10,9 @@ use Rattle.atom_api.specs.Names.{Names}
 use Rattle.world_api.specs.Told.{Told}
 use Rattle.iso_engine.specs.declared.engine.Engine.{Engine}
 use Rattle.iso_engine.proofs.Stability.{advance_none, advance_then}
-use Rattle.plain_run.specs.Searched.{HasCounted, IsCarriedOn, IsRefusedOnce, IsSearched, Searched, last_refusals, stop_refusals}
+use Rattle.plain_run.specs.declared.unfinished.Unfinished.{Unfinished}
+use Rattle.plain_run.specs.Searched.{HasCounted, IsCarriedOn, IsRefusedOnce, IsSearched, UnlessMemory, last_refusals}
+use Rattle.plain_run.proofs.Exits.{exit_with}
 
 -- The ways of writing by which a piece can be put after a piece.
 abbrev pub IsInPieces : (Chars → List Output → Chars) → Type 0
@@ -45,17 +47,30 @@ module _ (put : Chars → List Output → Chars) (pieces : IsInPieces put) where
       }
 
   -- A slice that does not stop the search.
-  pub goes_on : (m n r : Names) (t u w : Told) (e f g : Engine) (before middle after : ℕ) (a b c : List ℕ) (o : Option Searched)
-      → HasCounted put m t e before n u f middle a b → IsCarriedOn put n u f middle r w g after b c o → o ≡ None → HasCounted put m t e before r w g after a c
+  pub goes_on : (m n r : Names) (t u w : Told) (e f g : Engine) (before middle after : ℕ) (a b c : List ℕ) (o : Bool)
+      → HasCounted put m t e before n u f middle a b → IsCarriedOn put n u f middle r w g after b c (Ok o) → o ≡ false → HasCounted put m t e before r w g after a c
   goes_on m n r t u w e f g before middle after a b c o x y is =
-      run_then m n r t u w e f g before middle after a b c x (subst (λ k. IsCarriedOn put n u f middle r w g after b c k) is y)
+      run_then m n r t u w e f g before middle after a b c x (subst (λ k. IsCarriedOn put n u f middle r w g after b c (Ok k)) is y)
 
-  -- A slice that does.
-  pub stops_there : (m n r : Names) (t u w : Told) (e f g : Engine) (before middle after : ℕ) (a b c : List ℕ) (o : Option Searched) (s : Searched)
-      → HasCounted put m t e before n u f middle a b → IsCarriedOn put n u f middle r w g after b c o → o ≡ Some s → IsSearched put m t e before r w g after a c s
-  stops_there m n r t u w e f g before middle after a b c o s x y is =
-      let z : IsSearched put n u f middle r w g after b c s = subst (λ k. IsCarriedOn put n u f middle r w g after b c k) is y
-      in record { counted = run_then m n r t u w e f g before middle after a b c x z.counted; stands = z.stands }
+  stops : (m n r : Names) (t u w : Told) (e f g : Engine) (before middle after : ℕ) (a b c : List ℕ) (s : Result (Unit {0}) Unfinished)
+      → HasCounted put m t e before n u f middle a b → IsSearched put n u f middle r w g after b c s → IsSearched put m t e before r w g after a c s
+  stops m n r t u w e f g before middle after a b c s x z =
+      record { counted = run_then m n r t u w e f g before middle after a b c x z.counted; stands = z.stands }
+
+  -- A slice that ends it.
+  pub ends_there : (m n r : Names) (t u w : Told) (e f g : Engine) (before middle after : ℕ) (a b c : List ℕ) (o : Bool)
+      → HasCounted put m t e before n u f middle a b → IsCarriedOn put n u f middle r w g after b c (Ok o) → o ≡ true → IsSearched put m t e before r w g after a c (Ok tt)
+  ends_there m n r t u w e f g before middle after a b c o x y is =
+      stops m n r t u w e f g before middle after a b c (Ok tt) x (subst (λ k. IsCarriedOn put n u f middle r w g after b c (Ok k)) is y)
+
+  -- A slice after which the search does not go on, though it has not ended.
+  pub breaks_there : (m n r : Names) (t u w : Told) (e f g : Engine) (before middle after : ℕ) (a b c : List ℕ) (q : Result (Unit {0}) Unfinished) (z : Unfinished)
+      → q ≡ Err z → HasCounted put m t e before n u f middle a b
+      → UnlessMemory {E = Bool} (Err z) (IsCarriedOn put n u f middle r w g after b c (Err z))
+      → UnlessMemory q (IsSearched put m t e before r w g after a c q)
+  breaks_there m n r t u w e f g before middle after a b c q z is x y =
+      exit_with Bool q z is (IsCarriedOn put n u f middle r w g after b c (Err z)) (IsSearched put m t e before r w g after a c) y
+      (stops m n r t u w e f g before middle after a b c (Err z) x)
 
 -- Refusals
 
@@ -77,9 +92,8 @@ refused_then xs ys zs last a b =
           ∙ ap (λ l. xs ++ l) (again-append a.causes b.causes last);
     }
 
-pub refused_on : (xs ys zs : List Refusal) (o : Option Searched) → IsRefusedOnce xs ys [] → IsRefusedOnce ys zs (stop_refusals o) → o ≡ None → IsRefusedOnce xs zs []
-refused_on xs ys zs o a b is = refused_then xs ys zs [] a (subst (λ k. IsRefusedOnce ys zs (stop_refusals k)) is b)
-
-pub refused_last : (xs ys zs : List Refusal) (o : Option Searched) (s : Searched) → IsRefusedOnce xs ys [] → IsRefusedOnce ys zs (stop_refusals o) → o ≡ Some s
-    → IsRefusedOnce xs zs (last_refusals s)
-refused_last xs ys zs o s a b is = refused_then xs ys zs (last_refusals s) a (subst (λ k. IsRefusedOnce ys zs (stop_refusals k)) is b)
+pub refused_break : (E : Type 0) {F : Type 0} (xs ys zs : List Refusal) (r : Result F Unfinished) (w : Unfinished) → r ≡ Err w → IsRefusedOnce xs ys []
+    → UnlessMemory {E = E} (Err w) (IsRefusedOnce ys zs (last_refusals {E = E} (Err w))) → UnlessMemory r (IsRefusedOnce xs zs (last_refusals r))
+refused_break E xs ys zs r w is a b =
+    exit_with E r w is (IsRefusedOnce ys zs (last_refusals {E = E} (Err w))) (λ q. IsRefusedOnce xs zs (last_refusals q)) b
+    (refused_then xs ys zs (last_refusals {E = E} (Err w)) a)

@@ -1,5 +1,5 @@
 -- A search, from its start to where it does not go on, as a part of an execution.
-use Rattle.std.proofs.Common.{◌≡◌, ℕ, ◌+◌, List, [], Option, refl, sym, ap, ap₂, subst, ◌∙◌, arith}
+use Rattle.std.proofs.Common.{◌≡◌, ℕ, ◌+◌, List, [], Option, Ok, Err, sym, ap, ap₂, subst, ◌∙◌, arith}
 use Rattle.pl_term.specs.Tree.{Chars, Tree}
 use Rattle.pl_model.specs.Requests.{Request, Reply}
 use Rattle.pl_model.specs.Resolution.{Limits, Output, State, Next, asks}
@@ -15,7 +15,7 @@ use Rattle.world_api.specs.Answers.{on_by}
 use Rattle.world_api.specs.Texts as worlds
 use Rattle.world_api.specs.Told.{Told}
 use Rattle.world_api.specs.SearchSteps.{SearchSteps}
-use Rattle.script_api.specs.Parts.{Part, of_goal, of_directive, limits_of, seen_in, with_search}
+use Rattle.script_api.specs.Parts.{Part, of_goal, of_directive, limits_of, with_search}
 use Rattle.script_api.specs.Comes.{ComesBy}
 use Rattle.script_api.proofs.SearchRuns.{steps_come}
 use Rattle.iso_search.specs.declared.search.Budgets.{Budgets}
@@ -27,9 +27,12 @@ use Rattle.iso_engine.specs.Slices.{IsWaitingNow}
 use Rattle.iso_engine.specs.Standing.{state_now}
 use Rattle.iso_engine.specs.Standing as engines
 use Rattle.iso_engine.specs.Starting.{IsFresh}
-use Rattle.plain_run.specs.declared.ran.Ran.TheVariants.{Ended, Waits, NeedsAtoms, Worn, Missing}
-use Rattle.plain_run.specs.Ran.{HasBudgets, HasSearched, IsRanBy, Ran, StandsSo, WaitsOn, at_start_of}
-use Rattle.plain_run.specs.Searched.{IsRefusedOnce, IsSearched, Searched, Stands, last_refusals}
+use Rattle.pl_model.specs.declared.ends.How.{How}
+use Rattle.plain_run.specs.declared.unfinished.Unfinished.{Unfinished}
+use Rattle.plain_run.specs.declared.unfinished.Unfinished.TheVariants.{Waits, NeedsAtoms, Worn, Missing, Memory}
+use Rattle.plain_run.specs.Endings.{HasEndedAs}
+use Rattle.plain_run.specs.Ran.{HasBudgets, HasSearched, Ran, StandsSo, StandsUnfinished, WaitsOn, at_start_of}
+use Rattle.plain_run.specs.Searched.{IsRefusedOnce, IsSearched, Searched, StandsAt}
 use Rattle.plain_run.proofs.Readings.{read_over}
 
 -- A step that asks is a move that asks.
@@ -109,33 +112,23 @@ module _ (budgets : Budgets) (wanted : ℕ) (e : Engine) (fresh : IsFresh budget
           awaits = ap (awaited_by u.engine) k.1 ∙ w.awaits;
         }
 
-    stands_there : (q : Searched) (r : Ran) → Stands n u f q → IsRanBy n f q r → StandsSo budgets wanted n u there r
-    stands_there (Ended x) (Ended how) h is = is u came.counted.ran.written
-    stands_there (Ended x) (Waits on) h is = absurd is
-    stands_there (Ended x) (NeedsAtoms p) h is = absurd is
-    stands_there (Ended x) (Worn w) h is = absurd is
-    stands_there (Ended x) (Missing p) h is = absurd is
-    stands_there (Waits on) r h is = subst (λ k. StandsSo budgets wanted n u there k) (sym is) (h.1.held, waits_there on h.0 h.1)
-    stands_there (NeedsAtoms p) r h is = subst (λ k. StandsSo budgets wanted n u there k) (sym is) tt
-    stands_there (Worn w) r h is = subst (λ k. StandsSo budgets wanted n u there k) (sym is) tt
-    stands_there (Missing p) r h is =
-        subst (λ k. StandsSo budgets wanted n u there k) (sym is)
-        (record { name = h.name; held = h.held; next = h.next })
+    unfinished_there : (w : Unfinished) → StandsAt n u f w → StandsUnfinished budgets wanted n u there w
+    unfinished_there (Waits on) h = (h.1.held, waits_there on h.0 h.1)
+    unfinished_there (NeedsAtoms p) h = tt
+    unfinished_there (Worn w) h = tt
+    unfinished_there (Missing p) h = record { name = h.name; held = h.held; next = h.next }
+    unfinished_there Memory h = tt
 
-    pub has_searched : (r : Ran) → IsRanBy n f s r → HasSearched put budgets wanted m t before goal a n u after b r
-    has_searched r is = record { state = there; comes = comes_there; out = came.counted.ran.out; stands = stands_there s r came.stands is }
+    searched_so : (r : Ran) → StandsSo budgets wanted n u there r → HasSearched put budgets wanted m t before goal a n u after b r
+    searched_so r h = record { state = there; comes = comes_there; out = came.counted.ran.out; stands = h }
 
--- The refusals of the search are those that are told.
-pub same_refusals : (m : Names) (e : Engine) (s : Searched) (r : Ran) → IsRanBy m e s r → last_refusals r ≡ last_refusals s
-same_refusals m e (Ended x) (Ended how) is = refl
-same_refusals m e (Ended x) (Waits on) is = absurd is
-same_refusals m e (Ended x) (NeedsAtoms p) is = absurd is
-same_refusals m e (Ended x) (Worn w) is = absurd is
-same_refusals m e (Ended x) (Missing p) is = absurd is
-same_refusals m e (Waits on) r is = ap last_refusals is
-same_refusals m e (NeedsAtoms p) r is = ap last_refusals is
-same_refusals m e (Worn w) r is = ap last_refusals is
-same_refusals m e (Missing p) r is = ap last_refusals is
+    -- The search has ended so.
+    pub search_ended : (how : How Tree) → HasEndedAs n f how → HasSearched put budgets wanted m t before goal a n u after b (Ok how)
+    search_ended how is = searched_so (Ok how) (is u came.counted.ran.written)
+
+    -- It does not go on.
+    pub search_stopped : (w : Unfinished) → StandsAt n u f w → HasSearched put budgets wanted m t before goal a n u after b (Err w)
+    search_stopped w h = searched_so (Err w) (unfinished_there w h)
 
 -- It stays so where the atoms hold the same.
 pub searched_after : (put : Chars → List Output → Chars) (budgets : Budgets) (wanted : ℕ) (m n k : Names) (t u : Told) (before after : ℕ) (goal : Tree) (a b : List ℕ) (r : Ran)
@@ -143,11 +136,8 @@ pub searched_after : (put : Chars → List Output → Chars) (budgets : Budgets)
 searched_after put budgets wanted m n k t u before after goal a b r same h =
     subst (λ (j : Names). HasSearched put budgets wanted m t before goal a j u after b r) (sym same) h
 
-pub refused_after : (xs ys zs : List Refusal) (m : Names) (e : Engine) (s : Searched) (r : Ran) → IsRefusedOnce xs ys (last_refusals s) → zs ≡ ys → IsRanBy m e s r
-    → IsRefusedOnce xs zs (last_refusals r)
-refused_after xs ys zs m e s r h same is =
-    subst (λ (ws : List Refusal). IsRefusedOnce xs ws (last_refusals r)) (sym same)
-    (subst (λ (ls : List Refusal). IsRefusedOnce xs ys ls) (sym (same_refusals m e s r is)) h)
+pub refused_after : (xs ys zs last : List Refusal) → IsRefusedOnce xs ys last → zs ≡ ys → IsRefusedOnce xs zs last
+refused_after xs ys zs last h same = subst (λ (ws : List Refusal). IsRefusedOnce xs ws last) (sym same) h
 
 pub holds_after : (m n k : Names) → worlds.Holds m n → k ≡ n → worlds.Holds m k
 holds_after m n k h same = subst (λ (j : Names). worlds.Holds m j) (sym same) h

@@ -1,11 +1,11 @@
 -- A turn of the items of a script: what it gives next, and the search of a directive.
-use Rattle.std.proofs.Common.{◌≡◌, ℕ, List, [], ◌∷◌, ◌++◌, Bool, true, false, Option, None, Some, IsSome, is_some, refl, sym, ap, ap₂, subst, ◌∙◌, append-nil}
+use Rattle.std.proofs.Common.{◌≡◌, ℕ, List, [], ◌∷◌, ◌++◌, Bool, true, false, Option, None, Some, Ok, Err, IsSome, is_some, refl, sym, ap, ap₂, subst, ◌∙◌, append-nil}
 use Rattle.std.specs.Prelude.{encode_utf8_all, ◌||◌}
 use Rattle.std.specs.List.{All, AllByRecursion}
-use Rattle.std.proofs.lemmas.List.Elements.{All-from_recursion, All-weaker, recursion_from_All}
+use Rattle.std.proofs.lemmas.List.Elements.{All-from_recursion, recursion_from_All}
 use Rattle.std.proofs.lemmas.Bool.{true≢false}
 use Rattle.pl_term.specs.Tree.{Chars, Tree}
-use Rattle.pl_model.specs.Resolution.{Output, solution, State}
+use Rattle.pl_model.specs.Resolution.{Ending, Output, solution, State}
 use Rattle.pl_model.specs.Resolution.{text as text_out}
 use Rattle.run_model.specs.Execution.{Script, Job, Consulted, Execution, texts_of}
 use Rattle.run_model.specs.Report.{all_consulted, texts, with_consulted}
@@ -16,21 +16,22 @@ use Rattle.atom_api.specs.Names.{Names}
 use Rattle.term_store.specs.NumberedNames.{term_by}
 use Rattle.pl_model.specs.declared.ends.How.{How}
 use Rattle.script_api.specs.declared.script.Next.{Next}
-use Rattle.script_api.specs.declared.script.Next.TheVariants.{Item, NeedsAtoms, Retry, Worn}
-use Rattle.world_api.specs.Answers.{on_names}
+use Rattle.script_api.specs.declared.script.Next.TheVariants as next
 use Rattle.world_api.specs.Texts.{Holds, text_of}
 use Rattle.world_api.specs.Told.{Told}
 use Rattle.script_api.specs.Parts.{Part, of_goal, of_directive, limits_of, with_search}
 use Rattle.script_api.specs.Comes.{ComesBy}
-use Rattle.script_api.specs.Scripts.{Given, IsAtHand, StandsBefore, is_directive, is_fault, some_fault, texts_at, written_at}
+use Rattle.script_api.specs.Scripts.{Given, IsAtHand, LeavesOff, StandsBefore, is_directive, is_fault, some_fault, texts_at, written_at}
 use Rattle.script_api.proofs.ComesLaws.{by_then}
 use Rattle.script_api.proofs.OnceLaws.{same_texts}
 use Rattle.iso_search.specs.declared.search.Budgets.{Budgets}
-use Rattle.plain_run.specs.declared.items.Turn.{Turn}
+use Rattle.plain_run.specs.declared.items.Item.TheVariants.{Over}
 use Rattle.plain_run.specs.declared.items.Turn.TheVariants.{Goes, Stops}
-use Rattle.plain_run.specs.declared.ran.Ran.TheVariants as ran
+use Rattle.plain_run.specs.declared.unfinished.Unfinished.{Unfinished}
+use Rattle.plain_run.specs.declared.unfinished.Unfinished.TheVariants.{Waits, NeedsAtoms, Worn, Missing, Memory}
 use Rattle.plain_run.specs.Ran.{HasBudgets, HasSearched, IsNameHeld, Ran, StandsSo, at_start_of}
-use Rattle.plain_run.specs.Items.{HasTurned, IsDirectiveAsked, IsDirectiveIn, IsNameHeldBy, IsText, IsTurnAtHand, IsTurnBy, TurnStands, turn_names}
+use Rattle.plain_run.specs.Searched.{UnlessMemory}
+use Rattle.plain_run.specs.Items.{HasTurned, IsDirectiveAsked, IsDirectiveIn, IsText, IsTurnAtHand, TurnStands, Turned}
 
 or_false : (b : Bool) → (b || false) ≡ b
 or_false true = refl
@@ -85,6 +86,21 @@ written_in : (x : Execution) (p : Part) (s : State) (cs : List Consulted) → is
 written_in x of_goal s cs is lines = absurd (true≢false (sym is))
 written_in x (of_directive place rest) s cs is lines = ap (λ ds. ds ++ texts_of s.output) lines
 
+-- Where no goal was at hand, the engine ends by what its directives say alone.
+left_by : (h : Option ℕ) (o : Option Part) (how : Option (How Tree)) (searched : Option State) (ending : Ending) (os : List Output) → IsDirectiveAsked o how
+    → LeavesOff h o searched ending os → LeavesOff h None None ending os
+left_by (Some n) o how searched ending os asked l = l
+left_by None None None searched ending os asked l = l
+left_by None None (Some how) searched ending os asked l = absurd asked
+left_by None (Some p) None searched ending os asked l = absurd asked
+left_by None (Some of_goal) (Some how) searched ending os asked l = absurd (true≢false (sym asked))
+left_by None (Some (of_directive place rest)) (Some how) searched ending os asked l = l
+
+-- What comes of the search of a directive.
+abbrev pub turn_of : Ran → Turned
+turn_of (Ok how) = Ok (Goes (Some how))
+turn_of (Err w) = Err w
+
 module _ {S : Type 0} (execution : (ℕ → Chars) → S → Job → List Consulted → Execution) (part : S → Option Part) (plays : (ℕ → Chars) → S → Script → Type 0) (kept : S → Bool)
     (names : S → List ℕ) (name : Chars) (budgets : Budgets)
     (lines : (text : ℕ → Chars) (s : S) (job : Job) (cs : List Consulted) → (execution text s job cs).consulted ≡ cs)
@@ -102,9 +118,9 @@ module _ {S : Type 0} (execution : (ℕ → Chars) → S → Job → List Consul
 
   module _ (m n : Names) (t u : Told) (before after : ℕ) (old new : S) (given_how how : Option (How Tree)) (same : given_how ≡ how) (bytes more : List ℕ) where
     abbrev GivenSo : Next Tree → Type 0
-    GivenSo next = Given execution part term_by plays kept name (text_of m) (text_of n) old given_how t before bytes next new u after more
+    GivenSo item = Given execution part term_by plays kept name (text_of m) (text_of n) old given_how t before bytes item new u after more
 
-    abbrev TurnedSo : Turn → Type 0
+    abbrev TurnedSo : Turned → Type 0
     TurnedSo turn = HasTurned execution part plays kept name budgets m t before old how bytes turn n u after new more
 
     before_same : (job : Job) (searched : Option State) (cs : List Consulted) (x : Execution)
@@ -113,17 +129,17 @@ module _ {S : Type 0} (execution : (ℕ → Chars) → S → Job → List Consul
     before_same job searched cs x b =
         subst (λ (h : Option (How Tree)). StandsBefore execution part term_by (text_of m) old job (part old) h searched cs x) (sym same) b
 
-    pub needs_atoms : (p : Pass) → GivenSo (NeedsAtoms p) → TurnedSo (Stops (ran.NeedsAtoms p))
+    pub needs_atoms : (p : Pass) → GivenSo (next.NeedsAtoms p) → TurnedSo (Err (NeedsAtoms p))
     needs_atoms p given job cs searched x has pl b w =
         let g = given job cs searched x pl (before_same job searched cs x b) w.0 w.1
         in (g.0, g.1, g.2, tt, g.4, text_kept (text_of n) new job g.0 g.1 more g.3.1 g.5 g.6)
 
-    pub is_worn : (p : WornWord) → GivenSo (Worn p) → TurnedSo (Stops (ran.Worn p))
+    pub is_worn : (p : WornWord) → GivenSo (next.Worn p) → TurnedSo (Err (Worn p))
     is_worn p given job cs searched x has pl b w =
         let g = given job cs searched x pl (before_same job searched cs x b) w.0 w.1
         in (g.0, g.1, g.2, tt, g.4, text_kept (text_of n) new job g.0 g.1 more g.3.1 g.5 g.6)
 
-    pub is_again : (p : Cause) → GivenSo (Retry p) → TurnedSo (Goes None)
+    pub is_again : (p : Cause) → GivenSo (next.Retry p) → TurnedSo (Ok (Goes None))
     is_again p given job cs searched x has pl b w =
         let g = given job cs searched x pl (before_same job searched cs x b) w.0 w.1
         in (
@@ -135,34 +151,42 @@ module _ {S : Type 0} (execution : (ℕ → Chars) → S → Job → List Consul
           text_kept (text_of n) new job g.0 g.1 more g.3.1 g.5 g.6,
         )
 
+    pub is_done : (h : Option ℕ) → IsDirectiveAsked (part old) how → GivenSo (next.Done h) → TurnedSo (Ok (Stops (Over h)))
+    is_done h asked given job cs searched x has pl b w =
+        let g = given job cs searched x pl (before_same job searched cs x b) w.0 w.1
+        in let written : written_at g.1 ≡ g.0 = ap written_at g.3.3 ∙ ap (λ l. l ++ []) (lines (text_of n) new job g.0) ∙ append-nil g.0
+        in (
+          g.0,
+          g.1,
+          g.2,
+          (g.3.0, g.3.1, left_by h (part old) how searched g.3.0 g.3.1 asked g.3.2, g.3.3),
+          g.4,
+          (g.5 ∙ ap (bytes_of name) (sym written), ap some_fault written ∙ g.6),
+        )
+
     -- A directive was given, and its search has come so far.
-    module _ (goal : Tree) (d : Bool) (is_true : d ≡ true) (given : GivenSo (Item goal d)) (k : Names) (v : Told) (final : ℕ) (last : List ℕ) (holds : Holds n k) (held : All (λ a. IsSome (n a)) (names new)) where
+    module _ (goal : Tree) (d : Bool) (is_true : d ≡ true) (given : GivenSo (next.Item goal d)) (k : Names) (v : Told) (final : ℕ) (last : List ℕ) (holds : Holds n k) (held : All (λ a. IsSome (n a)) (names new)) where
       texts_same : All (λ a. text_of n a ≡ text_of k a) (names new)
       texts_same = same_texts n k (names new) held holds
 
-      stands_by : (job : Job) (ds : List Consulted) (p : Part) (s : State) (r : Ran) (turn : Turn) → HasBudgets budgets job.limits → (limits_of job p).solutions ≡ 1
-          → part new ≡ Some p → IsTurnBy r turn → StandsSo budgets 1 k v s r
-          → TurnStands execution part plays kept name budgets k v new job ds turn (with_search (execution (text_of k) new job ds) p s)
-      stands_by job ds p s (ran.Ended how') turn has wants at is h =
-          subst (λ (q : Turn). TurnStands execution part plays kept name budgets k v new job ds q (with_search (execution (text_of k) new job ds) p s)) (sym is) (
-            Some s,
-            subst (λ (o : Option Part). StandsBefore execution part term_by (text_of k) new job o (Some how') (Some s) ds (with_search (execution (text_of k) new job ds) p s)) (sym at)
-                (h.0, h.1, h.2, refl),
-          )
-      stands_by job ds p s (ran.Waits on) turn has wants at is h =
-          subst (λ (q : Turn). TurnStands execution part plays kept name budgets k v new job ds q (with_search (execution (text_of k) new job ds) p s)) (sym is)
+      stands_by : (job : Job) (ds : List Consulted) (p : Part) (s : State) (r : Ran) → HasBudgets budgets job.limits → (limits_of job p).solutions ≡ 1
+          → part new ≡ Some p → StandsSo budgets 1 k v s r
+          → TurnStands execution part plays kept name budgets k v new job ds (turn_of r) (with_search (execution (text_of k) new job ds) p s)
+      stands_by job ds p s (Ok how') has wants at h = (
+        Some s,
+        subst (λ (o : Option Part). StandsBefore execution part term_by (text_of k) new job o (Some how') (Some s) ds (with_search (execution (text_of k) new job ds) p s)) (sym at)
+            (h.0, h.1, h.2, refl),
+      )
+      stands_by job ds p s (Err (Waits on)) has wants at h =
           (record { item = p; state = s; at_hand = at; is = refl }, h.1 job p (execution (text_of k) new job ds) has wants)
-      stands_by job ds p s (ran.NeedsAtoms q) turn has wants at is h =
-          subst (λ (q : Turn). TurnStands execution part plays kept name budgets k v new job ds q (with_search (execution (text_of k) new job ds) p s)) (sym is) tt
-      stands_by job ds p s (ran.Worn q) turn has wants at is h =
-          subst (λ (q : Turn). TurnStands execution part plays kept name budgets k v new job ds q (with_search (execution (text_of k) new job ds) p s)) (sym is) tt
-      stands_by job ds p s (ran.Missing q) turn has wants at is h =
-          subst (λ (q : Turn). TurnStands execution part plays kept name budgets k v new job ds q (with_search (execution (text_of k) new job ds) p s)) (sym is)
-          (record { item = p; state = s; at_hand = at; is = refl }, h)
+      stands_by job ds p s (Err (NeedsAtoms q)) has wants at h = tt
+      stands_by job ds p s (Err (Worn q)) has wants at h = tt
+      stands_by job ds p s (Err (Missing q)) has wants at h = (record { item = p; state = s; at_hand = at; is = refl }, h)
+      stands_by job ds p s (Err Memory) has wants at h = tt
 
-      pub is_directed : (r : Ran) (turn : Turn) → HasSearched texts budgets 1 n u after goal more k v final last r → IsTurnBy r turn
-          → HasTurned execution part plays kept name budgets m t before old how bytes turn k v final new last
-      is_directed r turn h is job cs searched x has pl b w =
+      pub is_directed : (r : Ran) → HasSearched texts budgets 1 n u after goal more k v final last r
+          → HasTurned execution part plays kept name budgets m t before old how bytes (turn_of r) k v final new last
+      is_directed r h job cs searched x has pl b w =
           let g = given job cs searched x pl (before_same job searched cs x b) w.0 w.1
           in let ds : List Consulted = g.0
           in let p : Part = g.3.0
@@ -180,7 +204,7 @@ module _ {S : Type 0} (execution : (ℕ → Chars) → S → Job → List Consul
             ds,
             with_search (execution (text_of k) new job ds) p h.state,
             by_then job x g.1 (with_search (execution (text_of k) new job ds) p h.state) t u v before after final g.2 there,
-            stands_by job ds p h.state r turn has wants g.3.1 is h.stands,
+            stands_by job ds p h.state r has wants g.3.1 h.stands,
             tell.1 job.script g.4,
             (
               bytes_behind name ds h.state.output last (h.out (all_consulted name [] ds) g.5) ∙ ap (bytes_of name) (sym there_written),
@@ -189,7 +213,7 @@ module _ {S : Type 0} (execution : (ℕ → Chars) → S → Job → List Consul
           )
 
 -- The item at hand is the directive that was given.
-pub directive_in : (o : Option Part) (goal : Tree) (d : Bool) → d ≡ true → (let next : Next Tree = Item goal d in IsAtHand next o) → IsDirectiveIn o
+pub directive_in : (o : Option Part) (goal : Tree) (d : Bool) → d ≡ true → (let item : Next Tree = next.Item goal d in IsAtHand item o) → IsDirectiveIn o
 directive_in None goal d is h = h
 directive_in (Some p) goal d is h = h ∙ is
 
@@ -197,12 +221,13 @@ asked_of : (o : Option Part) (how : How Tree) → IsDirectiveIn o → IsDirectiv
 asked_of None how h = h
 asked_of (Some p) how h = h
 
-pub turn_at_hand : (o : Option Part) (r : Ran) (turn : Turn) → IsDirectiveIn o → IsTurnBy r turn → IsTurnAtHand turn o
-turn_at_hand o (ran.Ended how) turn h is = subst (λ (q : Turn). IsTurnAtHand q o) (sym is) (asked_of o how h)
-turn_at_hand o (ran.Waits on) turn h is = subst (λ (q : Turn). IsTurnAtHand q o) (sym is) h
-turn_at_hand o (ran.NeedsAtoms p) turn h is = subst (λ (q : Turn). IsTurnAtHand q o) (sym is) tt
-turn_at_hand o (ran.Worn w) turn h is = subst (λ (q : Turn). IsTurnAtHand q o) (sym is) tt
-turn_at_hand o (ran.Missing p) turn h is = subst (λ (q : Turn). IsTurnAtHand q o) (sym is) tt
+pub turn_at_hand : (o : Option Part) (r : Ran) → IsDirectiveIn o → IsTurnAtHand (turn_of r) o
+turn_at_hand o (Ok how) h = asked_of o how h
+turn_at_hand o (Err (Waits on)) h = h
+turn_at_hand o (Err (NeedsAtoms p)) h = tt
+turn_at_hand o (Err (Worn w)) h = tt
+turn_at_hand o (Err (Missing p)) h = tt
+turn_at_hand o (Err Memory) h = tt
 
 some_there : (o : Option Chars) → IsSome o → (x : Chars) × (o ≡ Some x)
 some_there (Some x) h = (x, refl)
@@ -213,35 +238,13 @@ pub still : (m n : Names) → Holds m n → (a : ℕ) → IsSome (m a) → IsSom
 still m n holds a h = let x = some_there (m a) h in ap is_some (holds a x.0 x.1)
 
 -- The name of a predicate that is not built is held, and the alias of what is waited on.
-pub name_held : (put : Chars → List Output → Chars) (b : Budgets) (wanted : ℕ) (m n : Names) (t u : Told) (before after : ℕ) (goal : Tree) (old new : List ℕ) (r : Ran) → HasSearched put b wanted m t before goal old n u after new r
-    → IsNameHeld n r
-name_held put b wanted m n t u before after goal old new (ran.Ended how) h = tt
-name_held put b wanted m n t u before after goal old new (ran.Waits on) h = h.stands.0
-name_held put b wanted m n t u before after goal old new (ran.NeedsAtoms p) h = tt
-name_held put b wanted m n t u before after goal old new (ran.Worn w) h = tt
-name_held put b wanted m n t u before after goal old new (ran.Missing p) h = ap is_some h.stands.held
-
-pub name_held_by : (n : Names) (r : Ran) (turn : Turn) → IsNameHeld n r → IsTurnBy r turn → IsNameHeldBy n turn
-name_held_by n (ran.Ended how) turn h is = subst (λ (q : Turn). IsNameHeldBy n q) (sym is) tt
-name_held_by n (ran.Waits on) turn h is = subst (λ (q : Turn). IsNameHeldBy n q) (sym is) h
-name_held_by n (ran.NeedsAtoms p) turn h is = subst (λ (q : Turn). IsNameHeldBy n q) (sym is) tt
-name_held_by n (ran.Worn w) turn h is = subst (λ (q : Turn). IsNameHeldBy n q) (sym is) tt
-name_held_by n (ran.Missing p) turn h is = subst (λ (q : Turn). IsNameHeldBy n q) (sym is) h
-
-pub still_named : (m n : Names) (r : Ran) → Holds m n → IsNameHeld m r → IsNameHeld n r
-still_named m n (ran.Ended how) holds h = tt
-still_named m n (ran.Waits on) holds h = All-weaker (λ (a : ℕ). IsSome (m a)) (λ (a : ℕ). IsSome (n a)) (still m n holds) (on_names on) h
-still_named m n (ran.NeedsAtoms p) holds h = tt
-still_named m n (ran.Worn w) holds h = tt
-still_named m n (ran.Missing p) holds h = still m n holds p.name h
-
--- A search of a directive gives no goal.
-pub none_named : (r : Ran) (turn : Turn) → IsTurnBy r turn → turn_names turn ≡ []
-none_named (ran.Ended how) turn is = ap turn_names is
-none_named (ran.Waits on) turn is = ap turn_names is
-none_named (ran.NeedsAtoms p) turn is = ap turn_names is
-none_named (ran.Worn w) turn is = ap turn_names is
-none_named (ran.Missing p) turn is = ap turn_names is
+pub name_held : (put : Chars → List Output → Chars) (b : Budgets) (wanted : ℕ) (m n : Names) (t u : Told) (before after : ℕ) (goal : Tree) (old new : List ℕ) (w : Unfinished)
+    → UnlessMemory {E = How Tree} (Err w) (HasSearched put b wanted m t before goal old n u after new (Err w)) → IsNameHeld n w
+name_held put b wanted m n t u before after goal old new (Waits on) h = h.stands.0
+name_held put b wanted m n t u before after goal old new (NeedsAtoms p) h = tt
+name_held put b wanted m n t u before after goal old new (Worn w) h = tt
+name_held put b wanted m n t u before after goal old new (Missing p) h = ap is_some h.stands.held
+name_held put b wanted m n t u before after goal old new Memory h = tt
 
 -- What holds of all in two lists holds of all in each.
 front_by : {X : Type 0} (P : X → Type 0) (xs ys : List X) → AllByRecursion P (xs ++ ys) → AllByRecursion P xs

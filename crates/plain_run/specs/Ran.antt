@@ -1,5 +1,5 @@
 -- The search of a goal, from its start to where it does not go on, as a part of whatever execution.
-use Rattle.std.specs.Prelude.{◌≡◌, ℕ, List, Some, IsSome, encode_utf8_all}
+use Rattle.std.specs.Prelude.{◌≡◌, ℕ, List, Some, IsSome, Result, Ok, Err, encode_utf8_all}
 use Rattle.std.specs.List.{All}
 use Rattle.pl_term.specs.Tree.{Chars, Tree}
 use Rattle.pl_model.specs.Resolution.{Limits, Doing, Ending, ended, Output, State}
@@ -19,16 +19,13 @@ use Rattle.world_api.specs.Told.{Told}
 use Rattle.script_api.specs.Parts.{Part, limits_of, seen_in, with_search}
 use Rattle.script_api.specs.Comes.{ComesBy}
 use Rattle.iso_search.specs.declared.search.Budgets.{Budgets}
-use Rattle.iso_engine.specs.declared.engine.Engine.{Engine}
 use Rattle.iso_engine.specs.Missing.{IsUnbuiltDoing}
-use Rattle.plain_run.specs.declared.ran.Ran.{Ran as RanOf}
-use Rattle.plain_run.specs.declared.ran.Ran.TheVariants.{Ended, Waits, NeedsAtoms, Worn, Missing}
-use Rattle.plain_run.specs.Endings.{HasEndedAs, IsEndOfSearch}
-use Rattle.plain_run.specs.Searched.{Searched}
+use Rattle.plain_run.specs.declared.unfinished.Unfinished.{Unfinished}
+use Rattle.plain_run.specs.declared.unfinished.Unfinished.TheVariants.{Waits, NeedsAtoms, Worn, Missing, Memory}
 
--- What the search of a goal has come to.
+-- How the search of a goal has ended, or why it does not go on.
 abbrev pub Ran : Type 0
-Ran = RanOf (How Tree)
+Ran = Result (How Tree) Unfinished
 
 -- The limits have these budgets.
 pub record HasBudgets (b : Budgets) (l : Limits) : Type 0 where
@@ -52,22 +49,26 @@ pub record WaitsOn (u : Told) (job : Job) (on : On) (y : Execution) : Type 0 whe
   pub awaits : awaited_by u.engine (move job y) ≡ Some on
 
 -- The name of a predicate that is not built is held, and so is the alias of what is waited on.
-abbrev pub IsNameHeld : {E : Type 0} → Names → RanOf E → Type 0
+abbrev pub IsNameHeld : Names → Unfinished → Type 0
 IsNameHeld n (Waits on) = All (λ a. IsSome (n a)) (on_names on)
 IsNameHeld n (Missing p) = IsSome (n p.name)
-IsNameHeld n r = Unit {0}
+IsNameHeld n w = Unit {0}
 
 -- How a search stands where it does not go on.
 module _ (budgets : Budgets) (wanted : ℕ) (n : Names) (u : Told) (s : State) where
-  abbrev pub StandsSo : Ran → Type 0
-  StandsSo (Ended how) = (ending : Ending) × (s.doing ≡ ended ending) × EndsSo ending how
-  StandsSo (Waits on) =
+  abbrev pub StandsUnfinished : Unfinished → Type 0
+  StandsUnfinished (Waits on) =
       All (λ a. IsSome (n a)) (on_names on)
       × ((job : Job) (part : Part) (x : Execution) → HasBudgets budgets job.limits → (limits_of job part).solutions ≡ wanted
       → WaitsOn u job (on_by (text_of n) on) (with_search x part s))
-  StandsSo (NeedsAtoms p) = Unit {0}
-  StandsSo (Worn w) = Unit {0}
-  StandsSo (Missing p) = IsUnbuiltBy n p s.doing
+  StandsUnfinished (NeedsAtoms p) = Unit {0}
+  StandsUnfinished (Worn w) = Unit {0}
+  StandsUnfinished (Missing p) = IsUnbuiltBy n p s.doing
+  StandsUnfinished Memory = Unit {0}
+
+  abbrev pub StandsSo : Ran → Type 0
+  StandsSo (Ok how) = (ending : Ending) × (s.doing ≡ ended ending) × EndsSo ending how
+  StandsSo (Err w) = StandsUnfinished w
 
 -- The search of this goal came to a state in which it does not go on, as many moves were counted, and what was written
 -- stands after the text.
@@ -80,16 +81,3 @@ pub record HasSearched (put : Chars → List Output → Chars) (budgets : Budget
       → ComesBy job (at_start_of job part m goal x) t before (with_search x part state) u after
   pub out : (front : Chars) → old_out ≡ encode_utf8_all front → new_out ≡ encode_utf8_all (put front state.output)
   pub stands : StandsSo budgets wanted n u state r
-
-abbrev pub IsEndedOr : Ran → Type 0
-IsEndedOr (Ended how) = IsEndOfSearch how
-IsEndedOr r = Unit {0}
-
--- What an engine has come to is told so.
-abbrev pub IsRanBy : Names → Engine → Searched → Ran → Type 0
-IsRanBy m e (Ended x) (Ended how) = HasEndedAs m e how
-IsRanBy m e (Waits on) r = r ≡ Waits on
-IsRanBy m e (NeedsAtoms p) r = r ≡ NeedsAtoms p
-IsRanBy m e (Worn w) r = r ≡ Worn w
-IsRanBy m e (Missing p) r = r ≡ Missing p
-IsRanBy m e (Ended x) r = ⊥

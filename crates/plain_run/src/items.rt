@@ -1,16 +1,17 @@
 //! The items of a script, run one after the other.
-ghost use Rattle.std.specs.Prelude.{◌≡◌, ◌++◌, false, IfOk, IsSome, None};
+ghost use Rattle.std.specs.Prelude.{◌≡◌, ◌++◌, false, IfErr, IsSome, None};
 ghost use Rattle.std.specs.List.{All};
 ghost use Rattle.world_api.specs.Texts.{Holds};
 ghost use Rattle.world_api.specs.Told.{has_ended};
-ghost use Rattle.plain_run.specs.Items.{HasRunItems, HasTurned, IsDirectiveAsked, IsGoalAtHand, IsNameHeldBy, IsTurnAtHand, IsTurnBy, is_over, is_over_by, items_names, turn_names, turn_refusals};
+ghost use Rattle.plain_run.specs.Items.{HasRunItems, HasTurned, IsDirectiveAsked, IsGoalAtHand, IsTurnAtHand, is_over, is_over_by, items_names, turn_names};
 ghost use Rattle.plain_run.specs.Ran.{IsNameHeld};
-ghost use Rattle.plain_run.specs.Searched.{IsRefusedOnce, last_refusals};
+ghost use Rattle.plain_run.specs.Searched.{IsRefusedOnce, UnlessMemory, last_refusals};
 
-use crate::ran::{Ran, directive_ran};
+use crate::ran::directive_ran;
+use crate::unfinished::Unfinished;
 use iso_search::search::Budgets;
 use pl_model::ends::How;
-use pl_term::{Flat, Memory};
+use pl_term::Flat;
 use script_api::{Next, Script};
 use std::alloc::Global;
 use term_store::Stored;
@@ -30,13 +31,13 @@ pub enum Item {
 pub(crate) enum Turn {
     /// The next one is to be asked for, where a directive has ended so, or none is at hand.
     Goes(Option<How<Flat>>),
-    /// The items lead to a goal or to their end, or a directive does not go on.
-    Stops(Ran<Item>),
+    /// The items lead to a goal or to their end.
+    Stops(Item),
 }
 
-/// Runs the directives of a script, which has no item at hand, until its next item is a goal, or there is none, or
-/// something stops it. What is written of the file is put after `text`. The budgets are those of each search. The moves are
-/// counted by `moves`. The only error is out of memory.
+/// Runs the directives of a script, which has no item at hand, until its next item is a goal, or there is none; or the error
+/// says why it does not go on. What is written of the file is put after `text`. The budgets are those of each search. The
+/// moves are counted by `moves`.
 pub fn run_items<S: Script<Term = Stored>, W: World<Term = Stored>>(
     alloc: Global,
     script: &mut S,
@@ -45,35 +46,35 @@ pub fn run_items<S: Script<Term = Stored>, W: World<Term = Stored>>(
     atoms: &mut W::A,
     text: &mut Vec<u8>,
     moves: &mut u64,
-) -> Result<Ran<Item>, Memory>
+) -> Result<Item, Unfinished>
     requires runs { has_ended (W.told world.old).engine (W.told world.old).history ≡ false }
     requires none { S.part script.old ≡ None }
     requires goes_on { S.over script.old ≡ false }
     requires held { All (λ a. IsSome (W.A.held atoms.old a)) (S.names script.old) }
-    ensures items { IfOk result (λ i. HasRunItems S.execution S.part S.plays S.kept (S.name script.old) budgets (W.A.held atoms.old) (W.told world.old) moves.old script.old text.old.items i
+    ensures items { UnlessMemory result (HasRunItems S.execution S.part S.plays S.kept (S.name script.old) budgets (W.A.held atoms.old) (W.told world.old) moves.old script.old text.old.items result
         (W.A.held atoms.new) (W.told world.new) moves.new script.new text.new.items) }
-    ensures at_hand { IfOk result (λ i. IsGoalAtHand i (S.part script.new)) }
-    ensures over { IfOk result (λ i. S.over script.new ≡ is_over i) }
-    ensures named { IfOk result (λ i. S.name script.new ≡ S.name script.old) }
-    ensures held { IfOk result (λ i. All (λ a. IsSome (W.A.held atoms.new a)) (S.names script.new ++ items_names i)) }
-    ensures missing { IfOk result (IsNameHeld (W.A.held atoms.new)) }
+    ensures at_hand { UnlessMemory result (IsGoalAtHand result (S.part script.new)) }
+    ensures over { UnlessMemory result (S.over script.new ≡ is_over result) }
+    ensures named { UnlessMemory result (S.name script.new ≡ S.name script.old) }
+    ensures held { UnlessMemory result (All (λ a. IsSome (W.A.held atoms.new a)) (S.names script.new ++ items_names result)) }
+    ensures missing { IfErr result (IsNameHeld (W.A.held atoms.new)) }
     ensures runs { has_ended (W.told world.new).engine (W.told world.new).history ≡ false }
     ensures holds { Holds (W.A.held atoms.old) (W.A.held atoms.new) }
-    ensures refusals { IfOk result (λ i. IsRefusedOnce (W.A.refusals atoms.old) (W.A.refusals atoms.new) (last_refusals i)) }
+    ensures refusals { UnlessMemory result (IsRefusedOnce (W.A.refusals atoms.old) (W.A.refusals atoms.new) (last_refusals result)) }
 {
     let mut ended = None;
     for _ in 0..u64::MAX {
         let next = next_turn(alloc, script, ended, budgets, world, atoms, text, moves)?;
         match next {
             Turn::Goes(how) => ended = how,
-            Turn::Stops(ran) => return Ok(ran),
+            Turn::Stops(item) => return Ok(item),
         }
     }
-    Err(Memory)
+    Err(Unfinished::Memory)
 }
 
 /// Asks a script for its next item, where a directive has ended so or none is at hand, and runs it if it is a directive.
-/// The only error is out of memory.
+/// The error says why it does not go on.
 fn next_turn<S: Script<Term = Stored>, W: World<Term = Stored>>(
     alloc: Global,
     script: &mut S,
@@ -83,49 +84,36 @@ fn next_turn<S: Script<Term = Stored>, W: World<Term = Stored>>(
     atoms: &mut W::A,
     text: &mut Vec<u8>,
     moves: &mut u64,
-) -> Result<Turn, Memory>
+) -> Result<Turn, Unfinished>
     requires runs { has_ended (W.told world.old).engine (W.told world.old).history ≡ false }
     requires asked { IsDirectiveAsked (S.part script.old) ended }
     requires goes_on { S.over script.old ≡ false }
     requires held { All (λ a. IsSome (W.A.held atoms.old a)) (S.names script.old) }
-    ensures turned { IfOk result (λ r. HasTurned S.execution S.part S.plays S.kept (S.name script.old) budgets (W.A.held atoms.old) (W.told world.old) moves.old script.old ended text.old.items r
+    ensures turned { UnlessMemory result (HasTurned S.execution S.part S.plays S.kept (S.name script.old) budgets (W.A.held atoms.old) (W.told world.old) moves.old script.old ended text.old.items result
         (W.A.held atoms.new) (W.told world.new) moves.new script.new text.new.items) }
-    ensures at_hand { IfOk result (λ r. IsTurnAtHand r (S.part script.new)) }
-    ensures over { IfOk result (λ r. S.over script.new ≡ is_over_by r) }
-    ensures named { IfOk result (λ r. S.name script.new ≡ S.name script.old) }
-    ensures held { IfOk result (λ r. All (λ a. IsSome (W.A.held atoms.new a)) (S.names script.new ++ turn_names r)) }
-    ensures missing { IfOk result (IsNameHeldBy (W.A.held atoms.new)) }
+    ensures at_hand { UnlessMemory result (IsTurnAtHand result (S.part script.new)) }
+    ensures over { UnlessMemory result (S.over script.new ≡ is_over_by result) }
+    ensures named { UnlessMemory result (S.name script.new ≡ S.name script.old) }
+    ensures held { UnlessMemory result (All (λ a. IsSome (W.A.held atoms.new a)) (S.names script.new ++ turn_names result)) }
+    ensures missing { IfErr result (IsNameHeld (W.A.held atoms.new)) }
     ensures runs { has_ended (W.told world.new).engine (W.told world.new).history ≡ false }
     ensures holds { Holds (W.A.held atoms.old) (W.A.held atoms.new) }
-    ensures refusals { IfOk result (λ r. IsRefusedOnce (W.A.refusals atoms.old) (W.A.refusals atoms.new) (turn_refusals r)) }
+    ensures refusals { UnlessMemory result (IsRefusedOnce (W.A.refusals atoms.old) (W.A.refusals atoms.new) (last_refusals result)) }
 {
     let next = script.next(ended.as_ref(), world, atoms, text, moves);
     match next {
         Next::Item { goal, directive } => {
             if directive {
-                let ran = directive_ran(alloc, &goal, budgets, world, atoms, text, moves)?;
-                Ok(turn_by(ran))
+                let how = directive_ran(alloc, &goal, budgets, world, atoms, text, moves)?;
+                Ok(Turn::Goes(Some(how)))
             } else {
-                Ok(Turn::Stops(Ran::Ended(Item::Goal(goal))))
+                Ok(Turn::Stops(Item::Goal(goal)))
             }
         }
-        Next::Done { halted } => Ok(Turn::Stops(Ran::Ended(Item::Over { halted }))),
-        Next::NeedsAtoms(pass) => Ok(Turn::Stops(Ran::NeedsAtoms(pass))),
+        Next::Done { halted } => Ok(Turn::Stops(Item::Over { halted })),
+        Next::NeedsAtoms(pass) => Err(Unfinished::NeedsAtoms(pass)),
         Next::Retry(_cause) => Ok(Turn::Goes(None)),
-        Next::Worn(word) => Ok(Turn::Stops(Ran::Worn(word))),
-        Next::Memory => Err(Memory),
-    }
-}
-
-/// What comes of the search of a directive.
-fn turn_by(ran: Ran<How<Flat>>) -> Turn
-    ensures { IsTurnBy ran result }
-{
-    match ran {
-        Ran::Ended(how) => Turn::Goes(Some(how)),
-        Ran::Waits(on) => Turn::Stops(Ran::Waits(on)),
-        Ran::NeedsAtoms(pass) => Turn::Stops(Ran::NeedsAtoms(pass)),
-        Ran::Worn(word) => Turn::Stops(Ran::Worn(word)),
-        Ran::Missing(procedure) => Turn::Stops(Ran::Missing(procedure)),
+        Next::Worn(word) => Err(Unfinished::Worn(word)),
+        Next::Memory => Err(Unfinished::Memory),
     }
 }

@@ -10,6 +10,7 @@ mod items;
 mod ran;
 mod shown;
 mod slices;
+mod unfinished;
 
 pub use complete::completes;
 pub use directive::search_directive;
@@ -17,4 +18,4 @@ pub use ending::{ends_over, how_at};
 pub use first_goal::run_goal;
 pub use goal::search_goal;
 pub use items::{Item, run_items};
-pub use ran::Ran;
+pub use unfinished::Unfinished;

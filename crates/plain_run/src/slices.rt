@@ -1,27 +1,27 @@
 //! What a slice says of the run of a search.
-ghost use Rattle.plain_run.specs.Searched.{IsStop};
+ghost use Rattle.std.specs.Prelude.{◌≡◌};
+ghost use Rattle.plain_run.specs.Searched.{ended_by};
 
-use crate::ran::Ran;
+use crate::unfinished::Unfinished;
 use iso_engine::slices::Slice;
-use pl_term::Memory;
 
 /// How many inferences a slice makes.
 pub(crate) const INFERENCES: u32 = 1000;
 
-/// Where the search does not go on after a slice, if it does not: it goes on where the slice made all its inferences, where
-/// it gave a solution, and where others stepped in between. How it ended the engine says. The only error is out of memory.
-pub(crate) fn stop_after(slice: Slice) -> Result<Option<Ran<()>>, Memory>
-    ensures { IsStop slice result }
+/// Whether the search has ended after a slice: it goes on where the slice made all its inferences, where it gave a solution,
+/// and where others stepped in between. How it ended the engine says. The error says why it does not go on otherwise.
+pub(crate) fn ended_after(slice: Slice) -> Result<bool, Unfinished>
+    ensures { result ≡ ended_by slice }
 {
     match slice {
-        Slice::Yield => Ok(None),
-        Slice::Solution(_operators) => Ok(None),
-        Slice::Retry(_cause) => Ok(None),
-        Slice::Ended => Ok(Some(Ran::Ended(()))),
-        Slice::Waits(on, _generation) => Ok(Some(Ran::Waits(on))),
-        Slice::NeedsAtoms(pass) => Ok(Some(Ran::NeedsAtoms(pass))),
-        Slice::Worn(word) => Ok(Some(Ran::Worn(word))),
-        Slice::Missing(procedure) => Ok(Some(Ran::Missing(procedure))),
-        Slice::Memory => Err(Memory),
+        Slice::Yield => Ok(false),
+        Slice::Solution(_operators) => Ok(false),
+        Slice::Retry(_cause) => Ok(false),
+        Slice::Ended => Ok(true),
+        Slice::Waits(on, _generation) => Err(Unfinished::Waits(on)),
+        Slice::NeedsAtoms(pass) => Err(Unfinished::NeedsAtoms(pass)),
+        Slice::Worn(word) => Err(Unfinished::Worn(word)),
+        Slice::Missing(procedure) => Err(Unfinished::Missing(procedure)),
+        Slice::Memory => Err(Unfinished::Memory),
     }
 }

@@ -1,5 +1,5 @@
 -- What holds of a run whose first engine has come to its end, or waits.
-use Rattle.std.proofs.Common.{◌≡◌, ◌+◌, ℕ, zero, suc, Bool, true, false, List, [], ◌∷◌, ◌++◌, length, Option, Some, None, refl, sym, ◌∙◌, ap, subst, inl, inr, arith, append-nil}
+use Rattle.std.proofs.Common.{◌≡◌, ◌+◌, ℕ, zero, suc, Bool, true, false, List, [], ◌∷◌, ◌++◌, length, Option, Some, None, refl, sym, ◌∙◌, ap, subst, arith, append-nil}
 use Rattle.std.specs.Prelude.{not, ◌&&◌, ◌||◌, ◌==◌, if◌then◌else◌}
 use Rattle.pl_term.specs.Tree.{Chars, Tree}
 use Rattle.pl_model.specs.declared.ends.How.{How}
@@ -7,7 +7,7 @@ use Rattle.pl_model.specs.declared.ends.How.TheVariants.{Solved, False, Threw, E
 use Rattle.pl_model.specs.declared.ends.AtomRecord.{AtomRecord}
 use Rattle.pl_model.specs.declared.threads.On.{On}
 use Rattle.pl_model.specs.OperatorTable.{OperatorTable}
-use Rattle.pl_model.specs.History.{Entry, Kind, History, finish, start, AllPlain, IsPlain}
+use Rattle.pl_model.specs.History.{Kind, History, finish, start, AllPlain, IsPlain}
 use Rattle.pl_model.specs.SharedState.{SharedState, state_at}
 use Rattle.pl_model.specs.Resolution.{Ending, solved, no_more, threw, exited, halted}
 use Rattle.run_model.specs.Execution.{Execution, Job, Activity, move, over, Refusal, Word as WordOf}

@@ -1,6 +1,6 @@
 -- The run of a script, from what is told of its items and of its goal.
 use Rattle.std.proofs.Common.{◌≡◌, ℕ, Bool, List, [], ◌∷◌, ◌++◌, map, Option, Some, None, refl, sym, ◌∙◌, ap, subst}
-use Rattle.std.specs.Prelude.{encode_utf8_all, Result, IfOk}
+use Rattle.std.specs.Prelude.{encode_utf8_all, Result, Ok, Err, IfOk}
 use Rattle.std.proofs.lemmas.Bool.{false≢true}
 use Rattle.std.proofs.lemmas.Option.{same_Some}
 use Rattle.std.proofs.lemmas.Result.{IfOk-weaker}
@@ -26,11 +26,12 @@ use Rattle.script_api.proofs.ComesLaws.{by_then}
 use Rattle.iso_search.specs.declared.search.Budgets.{Budgets}
 use Rattle.pl_consult.specs.declared.file_script.FileScript.{FileScript}
 use Rattle.pl_consult.specs.FileScripts.{Plays, execution_of, part_in}
-use Rattle.plain_run.specs.declared.ran.Ran.TheVariants as ran
+use Rattle.plain_run.specs.declared.unfinished.Unfinished.{Unfinished}
+use Rattle.plain_run.specs.declared.unfinished.Unfinished.TheVariants as unfinished
 use Rattle.plain_run.specs.declared.items.Item.TheVariants as items
-use Rattle.plain_run.specs.Items.{GoalStandsAs, HasRunGoal, HasRunItems, IsDirectiveIn, IsSearchedIn, IsText}
+use Rattle.plain_run.specs.Items.{GoalStandsAs, HasRunGoal, HasRunItems, IsDirectiveIn, IsGoalAtHand, IsSearchedIn, IsText, IsUnfinishedAs}
 use Rattle.plain_run.specs.Ran.{HasBudgets, IsUnbuiltBy, Ran, WaitsOn, at_start_of}
-use Rattle.plain_run.specs.Searched.{IsRefusedOnce}
+use Rattle.plain_run.specs.Searched.{IsRefusedOnce, UnlessMemory, last_refusals, unfinished_refusals}
 use Rattle.iso_engine.specs.Missing.{IsUnbuiltDoing}
 use Rattle.toplevel.specs.Unbuilt.{IsAtUnbuilt, indicated}
 use Rattle.world_api.specs.declared.visit.Procedure.{Procedure}
@@ -47,6 +48,15 @@ last_none (c ∷ cs) last e = cc
 pub none_refused : (old new last : List Refusal) → old ≡ [] → new ≡ [] → IsRefusedOnce old new last → last ≡ []
 none_refused old new last before behind once =
     last_none once.causes last (sym behind ∙ once.grown ∙ ap (λ (l : List Refusal). l ++ (map RefusalAgain once.causes ++ last)) before)
+
+-- Where memory did not run out and nothing is refused, no refusal has stopped it.
+pub none_unfinished : (E : Type 0) (old new : List Refusal) (w : Unfinished) → old ≡ [] → new ≡ []
+    → UnlessMemory {E = E} (Err w) (IsRefusedOnce old new (last_refusals {E = E} (Err w))) → unfinished_refusals w ≡ []
+none_unfinished E old new (unfinished.Waits on) before behind once = refl
+none_unfinished E old new (unfinished.NeedsAtoms p) before behind once = none_refused old new _ before behind once
+none_unfinished E old new (unfinished.Worn p) before behind once = none_refused old new _ before behind once
+none_unfinished E old new (unfinished.Missing p) before behind once = refl
+none_unfinished E old new unfinished.Memory before behind once = refl
 
 pub one_never : {X : Type 0} (x : X) → x ∷ [] ≡ [] → ⊥
 one_never x e = cc
@@ -105,19 +115,15 @@ waits_as n s job ds on (Waits x) u y is g =
     (record { item = g.0.item; state = g.0.state; at_hand = g.0.at_hand; is = g.0.is }, subst (λ z. WaitsOn u job z y) (sym is) g.1)
 waits_as n s job ds on (Missing name arity) u y is g = absurd is
 
-goal_stands : (part : FileScript → Option Part) (n : Names) (u : Told) (s : FileScript) (job : Job) (ds : List Consulted) (r : Ran) (stop : Stop) (y : Execution)
-    → IsStopOf n r stop
-    → GoalStandsAs executed part_in n u s job ds r y
+unfinished_stands : (n : Names) (u : Told) (s : FileScript) (job : Job) (ds : List Consulted) (w : Unfinished) (stop : Stop) (y : Execution)
+    → IsStopOf n w stop
+    → IsUnfinishedAs executed part_in n u s job ds w y
     → StandsSo s job ds u stop y
-goal_stands part n u s job ds (ran.Ended how) stop y is g =
-    subst
-    (λ (x : Stop). StandsSo s job ds u x y)
-    (sym is)
-    (record { ending = g.0; output = g.1; is = g.3 }, g.2)
-goal_stands part n u s job ds (ran.Waits on) stop y is g = waits_as n s job ds on stop u y is g
-goal_stands part n u s job ds (ran.NeedsAtoms p) stop y is g = absurd is
-goal_stands part n u s job ds (ran.Worn w) stop y is g = absurd is
-goal_stands part n u s job ds (ran.Missing p) stop y is g = missing_as n s job ds p stop u y is g
+unfinished_stands n u s job ds (unfinished.Waits on) stop y is g = waits_as n s job ds on stop u y is g
+unfinished_stands n u s job ds (unfinished.NeedsAtoms p) stop y is g = absurd is
+unfinished_stands n u s job ds (unfinished.Worn w) stop y is g = absurd is
+unfinished_stands n u s job ds (unfinished.Missing p) stop y is g = missing_as n s job ds p stop u y is g
+unfinished_stands n u s job ds unfinished.Memory stop y is g = absurd is
 
 whole : (job : Job) (name : Chars) (x : Execution) (t : Told) (before : ℕ) (stop : Stop) (s : FileScript) (kept : FileScript → Bool) (u : Told) (after : ℕ) (text out : List ℕ)
     → HasRunScript job name x t before stop s kept u after text out
@@ -126,11 +132,35 @@ whole job name x t before (Ended how) s kept u after text out h = h
 whole job name x t before (Waits on) s kept u after text out h = h
 whole job name x t before (Missing n a) s kept u after text out h = record { execution = h.execution; comes = h.comes; at = h.stands }
 
+-- Where there is a stop, memory did not run out.
+pub unless_stopped : (E : Type 0) (n : Names) (w : Unfinished) (stop : Stop) (P : Type 0) → IsStopOf n w stop → UnlessMemory {E = E} (Err w) P → P
+unless_stopped E n (unfinished.Waits on) stop P is h = h
+unless_stopped E n (unfinished.NeedsAtoms p) stop P is h = absurd is
+unless_stopped E n (unfinished.Worn p) stop P is h = absurd is
+unless_stopped E n (unfinished.Missing p) stop P is h = h
+unless_stopped E n unfinished.Memory stop P is h = absurd is
+
+-- The stop tells how the search of the goal has ended, or why it does not go on.
+abbrev pub StopsAs : Names → Ran → Stop → Type 0
+StopsAs n (Ok how) stop = stop ≡ Ended how
+StopsAs n (Err w) stop = IsStopOf n w stop
+
+goal_stands : (n : Names) (u : Told) (s : FileScript) (job : Job) (ds : List Consulted) (r : Ran) (stop : Stop) (y : Execution)
+    → StopsAs n r stop
+    → GoalStandsAs executed part_in n u s job ds r y
+    → StandsSo s job ds u stop y
+goal_stands n u s job ds (Ok how) stop y is g =
+    subst
+    (λ (x : Stop). StandsSo s job ds u x y)
+    (sym is)
+    (record { ending = g.0; output = g.1; is = g.3 }, g.2)
+goal_stands n u s job ds (Err w) stop y is g = unfinished_stands n u s job ds w stop y is g
+
 pub goal_played : (kept : FileScript → Bool) (name : Chars) (b : Budgets) (l : Limits) (names : List (Chars × ℕ)) (goal : Tree) (m : Names) (t : Told) (before : ℕ) (old : FileScript) (bytes old_out : List ℕ) (r : Ran) (stop : Stop) (n : Names) (u : Told) (after : ℕ) (new : FileScript) (more new_out : List ℕ)
     → b ≡ budgets_in l
     → HasRunGoal executed part_in played kept name b names l.solutions goal m t before old bytes old_out r n u after new more new_out
     → old_out ≡ []
-    → IsStopOf n r stop
+    → StopsAs n r stop
     → ((job : Job) (cs : List Consulted) → AreNames names (execution_of new job cs).words)
     → (job : Job) (cs : List Consulted) (x : Execution)
     → HasLimits job l
@@ -158,7 +188,7 @@ goal_played kept name b l names goal m t before old bytes old_out r stop n u aft
       lines = g.0;
       names = names;
       comes = g.2;
-      stands = goal_stands part_in n u new job g.0 r stop g.1 is g.3;
+      stands = goal_stands n u new job g.0 r stop g.1 is g.3;
       named = named job g.0;
       text_is = g.5;
       output_is = g.6 [] empty;
@@ -187,7 +217,7 @@ searched_none x s place rest = refl
 -- The stop that the items come to, where no goal was given.
 pub over_played : (kept : FileScript → Bool) (name : Chars) (b : Budgets) (l : Limits) (m : Names) (t : Told) (before : ℕ) (old : FileScript) (bytes : List ℕ) (h : Option ℕ) (how : How Tree) (n : Names) (u : Told) (after : ℕ) (new : FileScript) (more out : List ℕ)
     → b ≡ budgets_in l
-    → HasRunItems executed part_in played kept name b m t before old bytes (ran.Ended (items.Over h)) n u after new more
+    → HasRunItems executed part_in played kept name b m t before old bytes (Ok (items.Over h)) n u after new more
     → out ≡ []
     → ((ending : Ending) (os : List Output) → LeavesOff h None None ending os → EndsSo ending how)
     → (job : Job) (cs : List Consulted) (x : Execution)
@@ -220,9 +250,9 @@ at_directive of_goal o is directive x s =
     let no : IsDirectiveIn (Some of_goal) = subst IsDirectiveIn is directive in absurd (false≢true no)
 at_directive (of_directive at rest) o is directive x s = refl
 
-pub waits_played : (kept : FileScript → Bool) (name : Chars) (b : Budgets) (l : Limits) (m : Names) (t : Told) (before : ℕ) (old : FileScript) (bytes : List ℕ) (on : On) (stop : Stop) (n : Names) (u : Told) (after : ℕ) (new : FileScript) (more out : List ℕ)
+waits_played : (kept : FileScript → Bool) (name : Chars) (b : Budgets) (l : Limits) (m : Names) (t : Told) (before : ℕ) (old : FileScript) (bytes : List ℕ) (on : On) (stop : Stop) (n : Names) (u : Told) (after : ℕ) (new : FileScript) (more out : List ℕ)
     → b ≡ budgets_in l
-    → HasRunItems executed part_in played kept name b m t before old bytes (ran.Waits on) n u after new more
+    → HasRunItems executed part_in played kept name b m t before old bytes (Err (unfinished.Waits on)) n u after new more
     → out ≡ []
     → IsDirectiveIn (part_in new)
     → IsWaiting n on stop
@@ -284,7 +314,7 @@ played_on job name x y t v before middle (Missing n a) s kept u after text out c
 pub goal_on : (kept : FileScript → Bool) (name next : Chars) (b : Budgets) (l : Limits) (m : Names) (t : Told) (before : ℕ) (old : FileScript) (bytes : List ℕ) (goal : Tree) (n : Names) (u : Told) (middle : ℕ) (mid : FileScript) (more : List ℕ) (r : Result Stop WantOfMemory) (s : FileScript) (v : Told) (after : ℕ) (last out : List ℕ)
     → b ≡ budgets_in l
     → next ≡ name
-    → HasRunItems executed part_in played kept name b m t before old bytes (ran.Ended (items.Goal goal)) n u middle mid more
+    → HasRunItems executed part_in played kept name b m t before old bytes (Ok (items.Goal goal)) n u middle mid more
     → ((job : Job) (cs : List Consulted) (x : Execution)
     → HasLimits job l
     → Plays mid job.script
@@ -310,9 +340,9 @@ goal_on kept name next b l m t before old bytes goal n u middle mid more r s v a
     (goes job g.0 g.1 limits g.4 g.3 (subst (λ (z : Chars). IsText z (kept mid) g.1 more) (sym same) g.5)))
 
 -- A directive came to a predicate that is not built.
-pub missing_played : (kept : FileScript → Bool) (name : Chars) (b : Budgets) (l : Limits) (m : Names) (t : Told) (before : ℕ) (old : FileScript) (bytes : List ℕ) (q : Procedure) (stop : Stop) (n : Names) (u : Told) (after : ℕ) (new : FileScript) (more out : List ℕ)
+missing_played : (kept : FileScript → Bool) (name : Chars) (b : Budgets) (l : Limits) (m : Names) (t : Told) (before : ℕ) (old : FileScript) (bytes : List ℕ) (q : Procedure) (stop : Stop) (n : Names) (u : Told) (after : ℕ) (new : FileScript) (more out : List ℕ)
     → b ≡ budgets_in l
-    → HasRunItems executed part_in played kept name b m t before old bytes (ran.Missing q) n u after new more
+    → HasRunItems executed part_in played kept name b m t before old bytes (Err (unfinished.Missing q)) n u after new more
     → IsMissing n q stop
     → (job : Job) (cs : List Consulted) (x : Execution)
     → HasLimits job l
@@ -325,3 +355,24 @@ missing_played kept name b l m t before old bytes q (Waits on) n u after new mor
 missing_played kept name b l m t before old bytes q (Missing called arity) n u after new more out budgets has is job cs x limits p at w =
     let g = has job cs x (has_budgets job l b budgets limits) p at w in
     record { execution = g.1; comes = g.2; at = missing_at n new job g.0 q called arity g.1 is.0 is.1 g.3 }
+
+-- The items do not go on, and memory did not run out.
+pub stop_played : (kept : FileScript → Bool) (name : Chars) (b : Budgets) (l : Limits) (m : Names) (t : Told) (before : ℕ) (old : FileScript) (bytes : List ℕ) (w : Unfinished) (stop : Stop) (n : Names) (u : Told) (after : ℕ) (new : FileScript) (more out : List ℕ)
+    → b ≡ budgets_in l
+    → HasRunItems executed part_in played kept name b m t before old bytes (Err w) n u after new more
+    → out ≡ []
+    → IsGoalAtHand (Err w) (part_in new)
+    → IsStopOf n w stop
+    → (job : Job) (cs : List Consulted) (x : Execution)
+    → HasLimits job l
+    → Plays old job.script
+    → x ≡ execution_of old job cs
+    → IsText name (kept old) x bytes
+    → IsScriptRun job name x t before stop new kept u after more out
+stop_played kept name b l m t before old bytes (unfinished.Waits on) stop n u after new more out budgets has empty at_hand is =
+    waits_played kept name b l m t before old bytes on stop n u after new more out budgets has empty at_hand is
+stop_played kept name b l m t before old bytes (unfinished.NeedsAtoms p) stop n u after new more out budgets has empty at_hand is = absurd is
+stop_played kept name b l m t before old bytes (unfinished.Worn p) stop n u after new more out budgets has empty at_hand is = absurd is
+stop_played kept name b l m t before old bytes (unfinished.Missing p) stop n u after new more out budgets has empty at_hand is =
+    missing_played kept name b l m t before old bytes p stop n u after new more out budgets has is
+stop_played kept name b l m t before old bytes unfinished.Memory stop n u after new more out budgets has empty at_hand is = absurd is

@@ -1,5 +1,5 @@
 -- Where the first engine stands, from the run of its script.
-use Rattle.std.proofs.Common.{◌≡◌, ℕ, ◌+◌, zero, suc, take, Bool, true, false, List, [], ◌∷◌, ◌++◌, length, Option, Some, None, refl, sym, ◌∙◌, ap, subst, append-nil}
+use Rattle.std.proofs.Common.{◌≡◌, ℕ, zero, suc, take, Bool, true, false, List, [], ◌∷◌, ◌++◌, length, Option, Some, None, refl, sym, ◌∙◌, ap, subst, append-nil}
 use Rattle.std.specs.Prelude.{◌||◌, if◌then◌else◌, nat_lt, codes, encode_utf8_all}
 use Rattle.std.specs.Arc.{arc_value}
 use Rattle.pl_term.specs.Tree.{Chars, Tree}

@@ -1,5 +1,5 @@
 -- The run of a script from its beginning to where it does not go on.
-use Rattle.std.specs.Prelude.{◌≡◌, ℕ, Bool, true, is_some, List, [], Some, encode_utf8_all}
+use Rattle.std.specs.Prelude.{◌≡◌, ℕ, Bool, List, [], Some, encode_utf8_all}
 use Rattle.pl_term.specs.Tree.{Chars}
 use Rattle.pl_model.specs.History.{Proc}
 use Rattle.pl_model.specs.Resolution.{Ending, Output}
@@ -19,8 +19,9 @@ use Rattle.pl_model.specs.Resolution.{State}
 use Rattle.pl_consult.specs.declared.file_script.FileScript.{FileScript}
 use Rattle.pl_consult.specs.FileScripts.{execution_of, part_in}
 use Rattle.plain_run.specs.Items.{IsText}
-use Rattle.plain_run.specs.Ran.{Ran, WaitsOn}
-use Rattle.plain_run.specs.declared.ran.Ran.TheVariants as ran
+use Rattle.plain_run.specs.Ran.{WaitsOn}
+use Rattle.plain_run.specs.declared.unfinished.Unfinished.{Unfinished}
+use Rattle.plain_run.specs.declared.unfinished.Unfinished.TheVariants as unfinished
 use Rattle.toplevel.specs.declared.command.Limits.{Limits}
 use Rattle.toplevel.specs.Unbuilt.{IsAtUnbuilt, indicated}
 use Rattle.toplevel.specs.declared.script_run.Stop.{Stop}
@@ -83,10 +84,10 @@ abbrev pub IsWaiting : Names → On → Stop → Type 0
 IsWaiting n on (Waits x) = x ≡ on_by (text_of n) on
 IsWaiting n on stop = ⊥
 
--- The stop tells how the search of a goal has ended, or why it does not go on.
-abbrev pub IsStopOf : Names → Ran → Stop → Type 0
-IsStopOf n (ran.Ended how) stop = stop ≡ Ended how
-IsStopOf n (ran.Waits on) stop = IsWaiting n on stop
-IsStopOf n (ran.NeedsAtoms p) stop = ⊥
-IsStopOf n (ran.Worn w) stop = ⊥
-IsStopOf n (ran.Missing p) stop = IsMissing n p stop
+-- The stop tells why a run does not go on.
+abbrev pub IsStopOf : Names → Unfinished → Stop → Type 0
+IsStopOf n (unfinished.Waits on) stop = IsWaiting n on stop
+IsStopOf n (unfinished.NeedsAtoms p) stop = ⊥
+IsStopOf n (unfinished.Worn w) stop = ⊥
+IsStopOf n (unfinished.Missing p) stop = IsMissing n p stop
+IsStopOf n unfinished.Memory stop = ⊥

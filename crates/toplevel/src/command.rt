@@ -30,7 +30,7 @@ pub struct Limits {
 }
 
 /// The command that these words are, without the program's name: `run [--solutions N] [--inferences N] [--cells N]
-/// [--choices N] FILE [GOAL]`, as clap reads it. No other words are one, help among them. The only error is want of memory.
+/// [--choices N] FILE [GOAL]`, as clap reads it. No other words are one, help among them. The only error is out of memory.
 pub fn read_command(alloc: Global, words: &[Text]) -> Result<Option<Command>, Memory>
     ensures { IfOk result (λ r. IsCommand r (command words.now)) }
 {

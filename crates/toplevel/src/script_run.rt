@@ -9,7 +9,7 @@ ghost use Rattle.world_api.specs.Told.{has_ended};
 ghost use Rattle.pl_consult.specs.FileScripts.{Plays, execution_of, part_in};
 ghost use Rattle.plain_run.specs.Items.{IsText};
 ghost use Rattle.plain_run.specs.Ran.{IsNameHeld, at_start_of};
-ghost use Rattle.plain_run.specs.Searched.{last_refusals};
+ghost use Rattle.plain_run.specs.Searched.{unfinished_refusals};
 ghost use Rattle.toplevel.specs.Commands.{told_limits};
 ghost use Rattle.toplevel.specs.FirstRun.{HasLimits, IsMissing, IsScriptRun, IsStopOf, IsWaiting};
 
@@ -21,7 +21,7 @@ use pl_consult::FileScript;
 use pl_model::ends::How;
 use pl_model::threads::On;
 use pl_term::{Flat, Memory, Text};
-use plain_run::{Item, Ran, ends_over, run_goal, run_items};
+use plain_run::{Item, Unfinished, ends_over, run_goal, run_items};
 use script_api::Script;
 use std::alloc::Global;
 use term_store::Stored;
@@ -76,18 +76,14 @@ pub(crate) fn run_script<W: World<Term = Stored>>(
         script.new ⟦<FileScript as Script>⟧.kept (W.told world.new) moves.new text.new.items output.new.items) }
 {
     let budgets = budgets_of(limits);
-    let ran = run_items(alloc, script, budgets, world, atoms, text, moves)?;
-    match ran {
-        Ran::Ended(item) => match item {
+    match run_items(alloc, script, budgets, world, atoms, text, moves) {
+        Ok(item) => match item {
             Item::Goal(goal) => run_script_goal(
                 alloc, &goal, limits, script, world, atoms, text, output, moves,
             ),
             Item::Over { halted } => Ok(Stop::Ended(ends_over(halted))),
         },
-        Ran::Waits(on) => waits(alloc, on, atoms),
-        Ran::NeedsAtoms(_) => unreachable!(),
-        Ran::Worn(_) => unreachable!(),
-        Ran::Missing(procedure) => missing(alloc, procedure, atoms),
+        Err(unfinished) => stop_of(alloc, unfinished, atoms),
     }
 }
 
@@ -119,7 +115,7 @@ fn run_script_goal<W: World<Term = Stored>>(
 {
     let names = copy_names(alloc, script.variable_names())?;
     let budgets = budgets_of(limits);
-    let ran = run_goal(
+    match run_goal(
         alloc,
         goal,
         names.as_slice(),
@@ -131,22 +127,24 @@ fn run_script_goal<W: World<Term = Stored>>(
         text,
         output,
         moves,
-    )?;
-    stop_of(alloc, ran, atoms)
+    ) {
+        Ok(how) => Ok(Stop::Ended(how)),
+        Err(unfinished) => stop_of(alloc, unfinished, atoms),
+    }
 }
 
-/// Where a goal's search does not go on, if no atom was refused. The only error is out of memory.
-fn stop_of<A: Atoms>(alloc: Global, ran: Ran<How<Flat>>, atoms: &mut A) -> Result<Stop, Memory>
-    requires plain { last_refusals ran ≡ [] }
-    requires named { IsNameHeld (A.held atoms.old) ran }
-    ensures { IfOk result (IsStopOf (A.held atoms.old) ran) }
+/// Where a run does not go on that has not ended, if no atom was refused. The only error is out of memory.
+fn stop_of<A: Atoms>(alloc: Global, unfinished: Unfinished, atoms: &mut A) -> Result<Stop, Memory>
+    requires plain { unfinished_refusals unfinished ≡ [] }
+    requires named { IsNameHeld (A.held atoms.old) unfinished }
+    ensures { IfOk result (IsStopOf (A.held atoms.old) unfinished) }
 {
-    match ran {
-        Ran::Ended(how) => Ok(Stop::Ended(how)),
-        Ran::Waits(on) => waits(alloc, on, atoms),
-        Ran::NeedsAtoms(_) => unreachable!(),
-        Ran::Worn(_) => unreachable!(),
-        Ran::Missing(procedure) => missing(alloc, procedure, atoms),
+    match unfinished {
+        Unfinished::Waits(on) => waits(alloc, on, atoms),
+        Unfinished::NeedsAtoms(_) => unreachable!(),
+        Unfinished::Worn(_) => unreachable!(),
+        Unfinished::Missing(procedure) => missing(alloc, procedure, atoms),
+        Unfinished::Memory => Err(Memory),
     }
 }
 

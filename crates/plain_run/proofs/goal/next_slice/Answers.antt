@@ -1,9 +1,8 @@
 use Rattle.std.proofs.Common.{List, sym, subst}
-use Rattle.std.specs.Prelude.{IfOk}
 use Rattle.run_model.specs.Report.{with_output}
 use Rattle.atom_words.specs.declared.view.Refusal.{Refusal}
 use Rattle.atom_api.specs.Names.{Names}
-use Rattle.plain_run.specs.Searched.{IsCarriedOn, IsRefusedOnce, stop_refusals}
+use Rattle.plain_run.specs.Searched.{IsCarriedOn, IsRefusedOnce, UnlessMemory, last_refusals}
 use Rattle.plain_run.proofs.Answered.{ran_goal}
 use Rattle.plain_run.proofs.Stopping.{carried, refused_once}
 use Rattle.plain_run.proofs.goal.next_slice.Goals as goal
@@ -11,9 +10,9 @@ use Rattle.plain_run.proofs.goal.next_slice.Goals as goal
 pub returns-clause-refusals : goal.returns-clause-refusals
 returns-clause-refusals g c =
     let xs = g.W.A.Atoms.refusals c.args.atoms.now in
-    let r = c.stop_after.result in
-    subst (λ (ys : List Refusal). IfOk r (λ o. IsRefusedOnce xs ys (stop_refusals o))) (sym c.put_answer.ensures.refusals)
-    (refused_once xs (g.W.A.Atoms.refusals c.slice-slice.new.atoms) c.slice-slice.result r c.stop_after.ensures c.slice-slice.ensures.refusals)
+    let r = c.ended_after.result in
+    subst (λ (ys : List Refusal). UnlessMemory r (IsRefusedOnce xs ys (last_refusals r))) (sym c.put_answer.ensures.refusals)
+    (refused_once xs (g.W.A.Atoms.refusals c.slice-slice.new.atoms) c.slice-slice.result r c.ended_after.ensures c.slice-slice.ensures.refusals)
 
 pub returns-clause-carried : goal.returns-clause-carried
 returns-clause-carried g c =
@@ -28,9 +27,9 @@ returns-clause-carried g c =
     let mid = c.slice-slice.new.out.items in
     let new = c.put_answer.new.out.items in
     let s = c.slice-slice.result in
-    let r = c.stop_after.result in
+    let r = c.ended_after.result in
     let before = c.args.moves.now in
     let after = c.slice-slice.new.moves in
-    subst (λ (k : Names). IfOk r (IsCarriedOn (with_output names) m t e before k u f after old new)) (sym c.put_answer.ensures.same)
-    (carried (with_output names) 1000 before after m n t u e f old mid new s r c.stop_after.ensures c.slice-slice.ensures.sliced
+    subst (λ (k : Names). UnlessMemory r (IsCarriedOn (with_output names) m t e before k u f after old new r)) (sym c.put_answer.ensures.same)
+    (carried (with_output names) 1000 before after m n t u e f old mid new s r c.ended_after.ensures c.slice-slice.ensures.sliced
     (λ k h. ran_goal names 1000 k m n t u e f old mid new s h c.in_ok-put_answer.ensures.puts))

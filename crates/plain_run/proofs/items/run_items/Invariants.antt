@@ -1,4 +1,4 @@
-use Rattle.std.proofs.Common.{◌≡◌, ℕ, false, [], None, IsSome}
+use Rattle.std.proofs.Common.{◌≡◌, ℕ, false, [], None, Ok, IsSome}
 use Rattle.std.specs.List.{All}
 use Rattle.world_api.specs.Texts.{Holds}
 use Rattle.world_api.specs.Told.{has_ended}
@@ -17,5 +17,5 @@ invariant-loop g l =
     × All (λ (a : ℕ). IsSome (g.W.A.Atoms.held l.atoms a)) (g.S.Script.names l.script)
     × IsDirectiveAsked (g.S.Script.part l.script) l.ended
     × HasTurned g.S.Script.execution g.S.Script.part g.S.Script.plays g.S.Script.kept (g.S.Script.name l.initial.script) l.fn.budgets
-    (g.W.A.Atoms.held l.initial.atoms) (g.W.World.told l.initial.world) l.initial.moves l.initial.script None l.initial.text.items (Goes l.ended)
+    (g.W.A.Atoms.held l.initial.atoms) (g.W.World.told l.initial.world) l.initial.moves l.initial.script None l.initial.text.items (Ok (Goes l.ended))
     (g.W.A.Atoms.held l.atoms) (g.W.World.told l.world) l.moves l.script l.text.items

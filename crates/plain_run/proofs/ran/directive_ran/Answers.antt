@@ -1,13 +1,13 @@
 use Rattle.std.proofs.lemmas.List.Elements.{All-tail}
-use Rattle.std.proofs.lemmas.Result.{IfOk-weaker}
-use Rattle.std.specs.Prelude.{IsSome, ℕ}
+use Rattle.std.specs.Prelude.{IsSome, ℕ, Ok, Err, []}
 use Rattle.run_model.specs.Report.{texts}
 use Rattle.term_store.specs.NumberedNames.{atoms_in, neck}
 use Rattle.term_store.proofs.KeptTerms.{stored_names}
 use Rattle.iso_engine.proofs.Solutions.{view_is}
-use Rattle.plain_run.specs.Ran.{HasSearched, IsRanBy}
-use Rattle.plain_run.specs.Searched.{IsRefusedOnce, last_refusals}
-use Rattle.plain_run.proofs.Searching.{has_searched, holds_after, refused_after, searched_after}
+use Rattle.plain_run.specs.Ran.{HasSearched}
+use Rattle.plain_run.specs.Searched.{IsRefusedOnce, IsSearched, last_refusals}
+use Rattle.plain_run.proofs.Exits.{at_exit, exit_with}
+use Rattle.plain_run.proofs.Searching.{holds_after, refused_after, search_ended, search_stopped, searched_after}
 use Rattle.plain_run.proofs.ran.directive_ran.Goals as goal
 
 pub search_directive-requires-clause-ready : goal.search_directive-requires-clause-ready
@@ -20,40 +20,66 @@ search_directive-requires-clause-ready g c works =
 
 pub returns-clause-holds : goal.returns-clause-holds
 returns-clause-holds g c =
-    holds_after (g.W.A.Atoms.held c.args.atoms.now) (g.W.A.Atoms.held c.search_directive.new.atoms) (g.W.A.Atoms.held c.ran_by.new.atoms)
-    c.search_directive.ensures.holds c.ran_by.ensures.same
+    holds_after (g.W.A.Atoms.held c.args.atoms.now) (g.W.A.Atoms.held c.search_directive.new.atoms) (g.W.A.Atoms.held c.how_at.new.atoms)
+    c.search_directive.ensures.holds c.how_at.ensures.same
+
+pub returns-in_err-how-clause-holds : goal.returns-in_err-how-clause-holds
+returns-in_err-how-clause-holds g c =
+    holds_after (g.W.A.Atoms.held c.args.atoms.now) (g.W.A.Atoms.held c.search_directive.new.atoms) (g.W.A.Atoms.held c.how_at.new.atoms)
+    c.search_directive.ensures.holds c.how_at.ensures.same
 
 pub returns-clause-refusals : goal.returns-clause-refusals
 returns-clause-refusals g c =
-    let n = g.W.A.Atoms.held c.search_directive.new.atoms
-    in let f = c.search_directive.new.engine
-    in let s = c.in_ok-searched.searched
-    in let xs = g.W.A.Atoms.refusals c.args.atoms.now
-    in let ys = g.W.A.Atoms.refusals c.search_directive.new.atoms
-    in let zs = g.W.A.Atoms.refusals c.ran_by.new.atoms
-    in IfOk-weaker c.ran_by.result (IsRanBy n f s) (λ r. IsRefusedOnce xs zs (last_refusals r))
-    (λ r is. refused_after xs ys zs n f s r c.in_ok-searched.ensures.refusals c.ran_by.ensures.refusals is) c.ran_by.ensures.ran
+    refused_after (g.W.A.Atoms.refusals c.args.atoms.now) (g.W.A.Atoms.refusals c.search_directive.new.atoms) (g.W.A.Atoms.refusals c.how_at.new.atoms) []
+    c.in_ok-search_directive.ensures.refusals c.how_at.ensures.refusals
 
 pub returns-clause-searched : goal.returns-clause-searched
 returns-clause-searched g c =
     let a = c.args.atoms.now
     in let m = g.W.A.Atoms.held a
     in let n = g.W.A.Atoms.held c.search_directive.new.atoms
-    in let k = g.W.A.Atoms.held c.ran_by.new.atoms
     in let t = g.W.World.told c.args.world.now
     in let u = g.W.World.told c.search_directive.new.world
     in let e = c.in_ok-engine.engine
     in let f = c.search_directive.new.engine
-    in let s = c.in_ok-searched.searched
     in let before = c.args.moves.now
     in let after = c.search_directive.new.moves
     in let old = c.args.out.now.items
     in let new = c.search_directive.new.out.items
     in let view = view_is m t (g.met.W.A.Atoms.fixed_held a) (g.met.W.A.Atoms.unlike a) (g.met.W.A.Atoms.finite a)
     in let over = stored_names c.args.goal.now c.nodes-nodes.result.now c.nodes-nodes.ensures.spelled
-    in IfOk-weaker c.ran_by.result (IsRanBy n f s) (HasSearched texts c.args.budgets 1 m t before c.args.goal.now old k u after new)
-    (λ r is.
-    searched_after texts c.args.budgets 1 m n k t u before after c.args.goal.now old new r c.ran_by.ensures.same
-    (has_searched c.args.budgets 1 e c.in_ok-engine.ensures.fresh texts m n t u f before after c.args.goal.now old new s (g.met.W.A.Atoms.fixed_held a) over view
-    c.in_ok-engine.ensures.starts c.in_ok-searched.ensures.searched r is))
-    c.ran_by.ensures.ran
+    in searched_after texts c.args.budgets 1 m n (g.W.A.Atoms.held c.how_at.new.atoms) t u before after c.args.goal.now old new (Ok c.in_ok-how.how) c.how_at.ensures.same
+    (search_ended c.args.budgets 1 e c.in_ok-engine.ensures.fresh texts m n t u f before after c.args.goal.now old new _ (g.met.W.A.Atoms.fixed_held a) over view
+    c.in_ok-engine.ensures.starts c.in_ok-search_directive.ensures.searched c.in_ok-how.how c.in_ok-how.ensures.how)
+
+pub returns-in_err-search_directive-clause-refusals : goal.returns-in_err-search_directive-clause-refusals
+returns-in_err-search_directive-clause-refusals g c =
+    let r = c.from_residual-in_err-search_directive.result
+    in let w = c.in_err-search_directive.field-0.0
+    in let xs = g.W.A.Atoms.refusals c.args.atoms.now
+    in let ys = g.W.A.Atoms.refusals c.search_directive.new.atoms
+    in exit_with (Unit {0}) r w (at_exit r w c.from_residual-in_err-search_directive.ensures.1) (IsRefusedOnce xs ys (last_refusals {E = Unit {0}} (Err w))) (λ q. IsRefusedOnce xs ys (last_refusals q))
+    c.in_err-search_directive.ensures.refusals (λ h. h)
+
+pub returns-in_err-search_directive-clause-searched : goal.returns-in_err-search_directive-clause-searched
+returns-in_err-search_directive-clause-searched g c =
+    let a = c.args.atoms.now
+    in let m = g.W.A.Atoms.held a
+    in let n = g.W.A.Atoms.held c.search_directive.new.atoms
+    in let t = g.W.World.told c.args.world.now
+    in let u = g.W.World.told c.search_directive.new.world
+    in let e = c.in_ok-engine.engine
+    in let f = c.search_directive.new.engine
+    in let before = c.args.moves.now
+    in let after = c.search_directive.new.moves
+    in let old = c.args.out.now.items
+    in let new = c.search_directive.new.out.items
+    in let view = view_is m t (g.met.W.A.Atoms.fixed_held a) (g.met.W.A.Atoms.unlike a) (g.met.W.A.Atoms.finite a)
+    in let over = stored_names c.args.goal.now c.nodes-nodes.result.now c.nodes-nodes.ensures.spelled
+    in let r = c.from_residual-in_err-search_directive.result
+    in let w = c.in_err-search_directive.field-0.0
+    in exit_with (Unit {0}) r w (at_exit r w c.from_residual-in_err-search_directive.ensures.1) (IsSearched texts m t e before n u f after old new (Err w))
+    (HasSearched texts c.args.budgets 1 m t before c.args.goal.now old n u after new)
+    c.in_err-search_directive.ensures.searched
+    (λ h. search_stopped c.args.budgets 1 e c.in_ok-engine.ensures.fresh texts m n t u f before after c.args.goal.now old new (Err w) (g.met.W.A.Atoms.fixed_held a) over view
+    c.in_ok-engine.ensures.starts h w h.stands)

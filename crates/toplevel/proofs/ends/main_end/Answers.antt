@@ -1,4 +1,4 @@
-use Rattle.std.proofs.Common.{ℕ, List, [], ◌∷◌, ◌++◌, codes, sym, ◌∙◌, ap}
+use Rattle.std.proofs.Common.{ℕ, List, [], ◌∷◌, ◌++◌, sym, ◌∙◌, ap}
 use Rattle.std.specs.Str.{chars}
 use Rattle.run_model.specs.declared.ends.GoalEnd.{GoalEnd}
 use Rattle.run_model.specs.declared.ends.GoalHow.{GoalHow}

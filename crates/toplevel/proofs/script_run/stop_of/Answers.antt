@@ -1,18 +1,19 @@
 use Rattle.std.proofs.Common.{◌≡◌, [], sym, subst}
 use Rattle.std.proofs.lemmas.Result.{IfOk-weaker}
-use Rattle.atom_words.specs.declared.view.Refusal.TheVariants.{Full as RefusalFull, Worn as RefusalWorn}
-use Rattle.plain_run.specs.Ran.{IsNameHeld, Ran}
-use Rattle.plain_run.specs.Searched.{last_refusals}
+use Rattle.atom_words.specs.declared.view.Refusal.TheVariants.{Full as RefusalFull}
+use Rattle.plain_run.specs.declared.unfinished.Unfinished.{Unfinished}
+use Rattle.plain_run.specs.Ran.{IsNameHeld}
+use Rattle.plain_run.specs.Searched.{unfinished_refusals}
 use Rattle.toplevel.specs.FirstRun.{IsStopOf}
 use Rattle.toplevel.proofs.ScriptRunLaws.{one_never}
 use Rattle.toplevel.proofs.script_run.stop_of.Goals as goal
 
 pub unreachable-requires : goal.unreachable-requires
 unreachable-requires g c =
-    one_never (RefusalFull c.in-NeedsAtoms.field-0) (subst (λ (r : Ran). last_refusals r ≡ []) c.in-NeedsAtoms.is c.requires.plain)
+    one_never (RefusalFull c.in-NeedsAtoms.field-0) (subst (λ (r : Unfinished). unfinished_refusals r ≡ []) c.in-NeedsAtoms.is c.requires.plain)
 
 pub missing-requires : goal.missing-requires
-missing-requires g c = subst (λ (r : Ran). IsNameHeld (g.A.Atoms.held c.args.atoms.now) r) c.in-Missing.is c.requires.named
+missing-requires g c = subst (λ (r : Unfinished). IsNameHeld (g.A.Atoms.held c.args.atoms.now) r) c.in-Missing.is c.requires.named
 
 pub returns-in-Missing : goal.returns-in-Missing
 returns-in-Missing g c =
@@ -20,11 +21,11 @@ returns-in-Missing g c =
     c.missing.result
     _
     _
-    (λ stop is. subst (λ (r : Ran). IsStopOf (g.A.Atoms.held c.args.atoms.now) r stop) (sym c.in-Missing.is) is)
+    (λ stop is. subst (λ (r : Unfinished). IsStopOf (g.A.Atoms.held c.args.atoms.now) r stop) (sym c.in-Missing.is) is)
     c.missing.ensures
 
 pub waits-requires : goal.waits-requires
-waits-requires g c = subst (λ (r : Ran). IsNameHeld (g.A.Atoms.held c.args.atoms.now) r) c.in-Waits.is c.requires.named
+waits-requires g c = subst (λ (r : Unfinished). IsNameHeld (g.A.Atoms.held c.args.atoms.now) r) c.in-Waits.is c.requires.named
 
 pub returns-in-Waits : goal.returns-in-Waits
 returns-in-Waits g c =
@@ -32,5 +33,5 @@ returns-in-Waits g c =
     c.waits.result
     _
     _
-    (λ stop is. subst (λ (r : Ran). IsStopOf (g.A.Atoms.held c.args.atoms.now) r stop) (sym c.in-Waits.is) is)
+    (λ stop is. subst (λ (r : Unfinished). IsStopOf (g.A.Atoms.held c.args.atoms.now) r stop) (sym c.in-Waits.is) is)
     c.waits.ensures
