@@ -10,7 +10,7 @@ use Rattle.pl_model.specs.History.{Entry, History, has_begun}
 use Rattle.pl_history.specs.Fronts.{times, all_over, own_runs, AllTold}
 use Rattle.pl_history.specs.Steps.{Board, Part, View, Step, append, visit, look, make, join, merge, split, hand, MayAppend, Takes, Reached, Ruled, laid, hub_alone, front_alone, both, nobody, at_start, newcomer, merged, beside, as_one, kept, cut_off, kept_by_hub, handed}
 use Rattle.pl_history.specs.Laws.{carried, one_if, Kept}
-use Rattle.pl_history.specs.Seats.{Fits, Tells, Compared, after_append, after_visit, after_look, hub_of, front_of}
+use Rattle.pl_history.specs.Seats.{Fits, Tells, Compared, after_append, after_visit, after_look, after_nothing, hub_of, front_of}
 use Rattle.pl_history.proofs.Totals.{total-at}
 use Rattle.pl_history.proofs.Keeps.{reached_kept}
 
@@ -160,6 +160,25 @@ module _ (engines : ℕ) where
           once = λ e. omega (arith, total-at (carried e) s.views id me.0 at, k.carried_once e, at_most_one (has_begun r.board.history e));
         },
       )
+
+  pub allows_nothing : (slots id : ℕ) (h p : Part) (me : Me (Unit {0}) View) → me ≡ (both h p, []) → Allows (Ruled engines) slots id me 1 (λ n. n) (Tells after_nothing me)
+  allows_nothing slots id h p me e = subst (λ m. Allows (Ruled engines) slots id m 1 (λ n. n) (Tells after_nothing m)) (sym e) told
+    where
+      told : Allows (Ruled engines) slots id (both h p, []) 1 (λ n. n) (Tells after_nothing (both h p, []))
+      told s r homes at small =
+          let k = reached_kept engines r.steps r.board s.views r.reached in
+          let found : slice_index s.words 1 ≡ r.board.generation = ap (λ ws. slice_index ws 1) r.words in (
+            both h p,
+            keeps,
+            tt,
+            record {
+              board = r.board;
+              words = ap (λ ws. slice_set ws 1 (slice_index ws 1)) r.words;
+              steps = r.steps;
+              reached = subst (Reached engines r.steps r.board) (sym (set_again s.views id (both h p) at)) r.reached;
+            },
+            record { found_is = found ∙ found_length r.board s.views id h p k at; view = refl; fits = fits r.board s.views id h p k at },
+          )
 
   -- A new front, and the table as it is made
 

@@ -47,6 +47,9 @@ abbrev pub after_visit : View → View
 after_visit v =
     both (hub_of v) (record { seen = (hub_of v).seen; lives = visited (length (hub_of v).seen) (front_of v).lives })
 
+abbrev pub after_nothing : View → View
+after_nothing v = both (hub_of v) (front_of v)
+
 abbrev pub after_look : View → View
 after_look v = both (hub_of v) (record { seen = (hub_of v).seen; lives = (front_of v).lives })
 

@@ -111,6 +111,15 @@ impl Play<(), Known> for Compares {
     ghost then = { λ _ old _ new. Compared old new };
 }
 
+/// A load that tells how far the front is behind, and changes nothing.
+pub struct Behind;
+
+impl Play<(), Known> for Behind {
+    ghost use Rattle.pl_history.specs.Seats.{Tells, after_nothing};
+
+    ghost then = { λ _. Tells after_nothing };
+}
+
 /// Two views side by side.
 pub struct Beside;
 

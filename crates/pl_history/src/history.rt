@@ -91,6 +91,21 @@ impl History {
         steps::look(&self.words, &mut hub.badge, &mut front.badge)
     }
 
+    /// What the front has seen is a beginning of the history, which tells of the engines that it carries; the answer is the
+    /// length of the history. Nothing changes.
+    pub fn tell(&self, hub: &mut HubFront, front: &mut Front) -> u64
+        requires hub_here { hub.old.table ≡ self.now }
+        requires front_here { front.old.table ≡ self.now }
+        ensures generation { result ≡ length hub.old.seen }
+        ensures hub { hub.new ≡ hub.old }
+        ensures front { front.new ≡ front.old }
+        ensures seen { IsPrefix front.old.seen hub.old.seen }
+        ensures told { AllTold hub.old.seen front.old.lives }
+        ensures hub_told { AllTold hub.old.seen hub.old.lives }
+    {
+        steps::tell(&self.words, &mut hub.badge, &mut front.badge)
+    }
+
     /// The front sees the whole history, and the answer is its length, which is added to the generations of the
     /// front's engine.
     pub fn visit(&self, hub: &mut HubFront, front: &mut Front) -> u64

@@ -2,11 +2,11 @@
 ghost use Rattle.std.specs.Prelude.{◌≡◌, ◌<◌, ◌≤◌, ◌^◌, ◌+◌, ℕ, [], ◌∷◌, true, length};
 ghost use Rattle.pl_history.specs.Fronts.{own_runs, times, all_over};
 ghost use Rattle.pl_history.specs.Steps.{MayAppend, hub_alone, front_alone, both, merged, kept_by_hub, handed};
-ghost use Rattle.pl_history.specs.Seats.{hub_in_badge, front_in_badge, hub_of, front_of, after_look, after_visit, after_append, IsStep};
+ghost use Rattle.pl_history.specs.Seats.{hub_in_badge, front_in_badge, hub_of, front_of, after_look, after_nothing, after_visit, after_append, IsStep};
 
 use crate::board::{
-    Adds, Appends, AsOne, Beside, Compares, FromFirst, FromHub, GENERATION, Hands, Known, Looks,
-    Names, Place, Visits, Words,
+    Adds, Appends, AsOne, Behind, Beside, Compares, FromFirst, FromHub, GENERATION, Hands, Known,
+    Looks, Names, Place, Visits, Words,
 };
 use atomic_table::Badge;
 use std::mem;
@@ -58,6 +58,20 @@ pub(crate) fn look(words: &Words, hub: &mut Badge<Known>, front: &mut Badge<Know
 {
     let mut seat = meet(words, hub, front);
     let found = words.shared.load::<Looks>(&mut seat, GENERATION);
+    part(words, seat, hub, front);
+    found
+}
+
+/// What the front has seen is a beginning of the history. Nothing changes.
+pub(crate) fn tell(words: &Words, hub: &mut Badge<Known>, front: &mut Badge<Known>) -> u64
+    requires tables { (hub.old.table_id ≡ words.now.shared.table_id) × (front.old.table_id ≡ words.now.shared.table_id) × (1 < words.now.shared.table_id.words) }
+    requires hub_is { hub.old.views ≡ hub_alone (hub_in_badge hub.old.views) ∷ [] }
+    requires front_is { front.old.views ≡ front_alone (front_in_badge front.old.views) ∷ [] }
+    ensures tables { (hub.new.table_id ≡ hub.old.table_id) × (front.new.table_id ≡ front.old.table_id) }
+    ensures step { let old = both (hub_in_badge hub.old.views) (front_in_badge front.old.views) in IsStep after_nothing old result hub.new.views front.new.views }
+{
+    let mut seat = meet(words, hub, front);
+    let found = words.shared.load::<Behind>(&mut seat, GENERATION);
     part(words, seat, hub, front);
     found
 }

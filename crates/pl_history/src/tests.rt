@@ -33,6 +33,7 @@ fn merges_two_fronts(rt: HostRuntime) -> Result<(), Fail> {
     };
     assert_eq!(rt; history.append(&mut hub, &mut second, &erases), Ok(0));
     assert_eq!(rt; history.visit(&mut hub, &mut second), 1);
+    assert_eq!(rt; history.tell(&mut hub, &mut second), 1);
     assert_eq!(rt; history.look(&mut hub, &mut second), 1);
     Ok(())
 }

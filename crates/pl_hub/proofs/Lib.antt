@@ -1,0 +1,12 @@
+pub mod Own
+pub mod Serving
+pub mod Visiting
+pub mod Answering
+pub mod States
+pub mod Retrying
+pub mod ThreadRows
+pub mod Held
+pub mod ClauseRows
+pub mod NextClauses
+pub mod Added
+pub mod Opening

@@ -1,0 +1,23 @@
+-- The front of an engine that runs: what it is told of the shared state.
+use Rattle.std.specs.Prelude.{◌≡◌, ◌≤◌, ℕ, [], true, length}
+use Rattle.std.specs.List.{Contains}
+use Rattle.atomic_table.specs.Seated.{TableId}
+use Rattle.pl_model.specs.History.{mine}
+use Rattle.pl_history.specs.Fronts.{FrontState, own_engine, own_generations, own_runs, own_updates}
+use Rattle.world_api.specs.Told.{Told}
+
+-- WHAT AN ENGINE IS TOLD by its front, in a run of a command with this number of goals
+abbrev pub told_of : ℕ → FrontState → Told
+told_of goals f = record { engine = own_engine f.lives; goals = goals; history = f.seen; gens = own_generations f.lives }
+
+-- THE FRONT IS OF THE HISTORY'S TABLE, and its own engine is the one with the number, which runs: its updates are those that it has in what the front has seen, and its visits stood within it
+pub record IsOwn (t : TableId) (e : ℕ) (f : FrontState) : Type 0 where
+  pub table : f.table ≡ t
+  pub engine : own_engine f.lives ≡ e
+  pub runs : own_runs f.lives ≡ true
+  pub updates : own_updates f.lives ≡ mine f.seen e
+  pub within : (g : ℕ) → Contains (own_generations f.lives) g → g ≤ length f.seen
+
+-- THE HUB'S FRONT at the start, when engine 1 has been handed over
+abbrev pub is_begun : TableId → FrontState
+is_begun t = record { table = t; seen = []; lives = [] }

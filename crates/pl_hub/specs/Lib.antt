@@ -1,0 +1,5 @@
+pub mod Fronts
+pub mod Settling
+pub mod State
+pub mod Visits
+pub mod Adding

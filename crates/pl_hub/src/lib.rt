@@ -1,0 +1,16 @@
+//! The state that all engines share, behind one lock: stored clauses, queues and threads, the keeper of their atoms, and
+//! the hub's front of the one history.
+//!
+//! Each visit of an engine is answered as the definitions answer it after all entries of the history, which gains the
+//! update where one is made; or it is refused with nothing changed.
+#![tactic(auto)]
+
+mod clauses;
+mod goals;
+mod naming;
+mod settling;
+mod shared;
+mod threads;
+
+pub use naming::Naming;
+pub use shared::Shared;
