@@ -3,6 +3,7 @@ use Rattle.std.specs.Prelude.{◌≡◌, ◌<◌, ℕ, pos, ◌==◌, List, [], 
 use Rattle.pl_term.specs.Tree.{Tree, int, trees}
 use Rattle.pl_model.specs.TermWriting.{write, writeq, write_canonical}
 use Rattle.pl_model.specs.Control.{Construct as Construction, succeeds, cuts, conjunction, disjunction, if_then, if_then_else, fails, repeats, calls, not_provable, once, catches, throws, finds_all, halts, exits, inspects, retracts, clears, writes, prints, puts, other, construct_by_count}
+use Rattle.atom_api.specs.FixedNames.{catch_name, cut_name, fail_name, false_name, findall_name, halt_name, nl_name, not_provable_name, once_name, print_name, put_char_name, repeat_name, retract_name, retractall_name, thread_exit_name, throw_name, true_name, write_canonical_name, write_name, writeq_name}
 use Rattle.term_store.specs.declared.words.Place.{Place}
 use Rattle.term_store.specs.Heap.{atom_name}
 use Rattle.term_store.specs.Contents.{Contents, Holds, IsArguments, arguments_at}
@@ -71,33 +72,33 @@ IsByCount v s name (t ∷ ts) c =
 -- By the numbers of the fixed atoms.
 abbrev pub atom_construct : ℕ → Construct
 atom_construct a =
-    if a == 176 then Succeeds else
-    if a == 0 then Cuts else
-    if a == 88 then Fails else
-    if a == 89 then Fails else
-    if a == 150 then Repeats else
-    if a == 101 then HaltsWithZero else
-    if a == 128 then WritesNewline else Other
+    if a == true_name then Succeeds else
+    if a == cut_name then Cuts else
+    if a == fail_name then Fails else
+    if a == false_name then Fails else
+    if a == repeat_name then Repeats else
+    if a == halt_name then HaltsWithZero else
+    if a == nl_name then WritesNewline else Other
 
 abbrev pub output_construct : ℕ → Place → Construct
 output_construct a t =
-    if a == 183 then Writes t else
-    if a == 185 then WritesQuoted t else
-    if a == 144 then WritesQuoted t else
-    if a == 148 then Puts t else
-    if a == 184 then WritesCanonical t else Other
+    if a == write_name then Writes t else
+    if a == writeq_name then WritesQuoted t else
+    if a == print_name then WritesQuoted t else
+    if a == put_char_name then Puts t else
+    if a == write_canonical_name then WritesCanonical t else Other
 
 abbrev pub one_construct : ℕ → Place → Construct
 one_construct a t =
-    if a == 32 then NotProvable t else
-    if a == 135 then Once t else
-    if a == 174 then Throws t else
-    if a == 101 then Halts t else
-    if a == 165 then Exits t else
-    if a == 153 then Retracts t else
-    if a == 154 then Clears t else output_construct a t
+    if a == not_provable_name then NotProvable t else
+    if a == once_name then Once t else
+    if a == throw_name then Throws t else
+    if a == halt_name then Halts t else
+    if a == thread_exit_name then Exits t else
+    if a == retract_name then Retracts t else
+    if a == retractall_name then Clears t else output_construct a t
 
 abbrev pub three_construct : ℕ → Place → Place → Place → Construct
 three_construct a t u v =
-    if a == 55 then Catches t u v else
-    if a == 90 then FindsAll t u v else Other
+    if a == catch_name then Catches t u v else
+    if a == findall_name then FindsAll t u v else Other

@@ -1,6 +1,7 @@
 -- Error terms over atoms.
 use Rattle.std.specs.Prelude.{ℕ, pos}
 use Rattle.pl_term.specs.Tree.{Tree, int, atom, comp, none, more}
+use Rattle.atom_api.specs.FixedNames.{callable_name, cells_name, choices_name, domain_error_name, error_name, exit_status_name, inferences_name, instantiation_error_name, integer_name, list_name, resource_error_name, slash_name, type_error_name}
 use Rattle.term_store.specs.Heap.{atom_name}
 use Rattle.term_store.specs.Contents.{Contents, Holds, term_at}
 use Rattle.iso_search.specs.declared.outcome.Fault.{Fault}
@@ -16,19 +17,19 @@ IsFaultIn s _ = Unit {0}
 
 -- The error term by the numbers of the fixed atoms.
 abbrev pub fault_tree : Contents → Fault → Tree
-fault_tree s Inferences = comp (atom_name 152) (atom (atom_name 104)) none
-fault_tree s Cells = comp (atom_name 152) (atom (atom_name 56)) none
-fault_tree s Choices = comp (atom_name 152) (atom (atom_name 61)) none
-fault_tree s Instantiation = atom (atom_name 106)
-fault_tree s (NotCallable p) = comp (atom_name 177) (atom (atom_name 54)) (more (term_at s p) none)
-fault_tree s (NotInteger p) = comp (atom_name 177) (atom (atom_name 108)) (more (term_at s p) none)
-fault_tree s (NotList p) = comp (atom_name 177) (atom (atom_name 114)) (more (term_at s p) none)
-fault_tree s (NotStatus p) = comp (atom_name 77) (atom (atom_name 86)) (more (term_at s p) none)
+fault_tree s Inferences = comp (atom_name resource_error_name) (atom (atom_name inferences_name)) none
+fault_tree s Cells = comp (atom_name resource_error_name) (atom (atom_name cells_name)) none
+fault_tree s Choices = comp (atom_name resource_error_name) (atom (atom_name choices_name)) none
+fault_tree s Instantiation = atom (atom_name instantiation_error_name)
+fault_tree s (NotCallable p) = comp (atom_name type_error_name) (atom (atom_name callable_name)) (more (term_at s p) none)
+fault_tree s (NotInteger p) = comp (atom_name type_error_name) (atom (atom_name integer_name)) (more (term_at s p) none)
+fault_tree s (NotList p) = comp (atom_name type_error_name) (atom (atom_name list_name)) (more (term_at s p) none)
+fault_tree s (NotStatus p) = comp (atom_name domain_error_name) (atom (atom_name exit_status_name)) (more (term_at s p) none)
 
 -- The ball of the error in the predicate with this name and this number of arguments.
 abbrev pub error_tree : Contents → Fault → ℕ → ℕ → Tree
 error_tree s f name arity =
-    comp (atom_name 80) (fault_tree s f) (more (comp (atom_name 9) (atom (atom_name name)) (more (int (pos arity)) none)) none)
+    comp (atom_name error_name) (fault_tree s f) (more (comp (atom_name slash_name) (atom (atom_name name)) (more (int (pos arity)) none)) none)
 
 -- It is about a budget.
 abbrev pub IsOfBudget : Fault → Type 0

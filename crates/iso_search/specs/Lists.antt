@@ -2,6 +2,7 @@
 use Rattle.std.specs.Prelude.{◌≡◌, Bool, List, [], ◌∷◌}
 use Rattle.pl_term.specs.Tree.{Tree, atom, comp, none, more}
 use Rattle.pl_model.specs.Terms.{is_list_or_partial}
+use Rattle.atom_api.specs.FixedNames.{list_cell_name, nil_name}
 use Rattle.term_store.specs.declared.words.Place.{Place}
 use Rattle.term_store.specs.Heap.{atom_name}
 use Rattle.term_store.specs.Contents.{Contents, Holds, term_at}
@@ -21,8 +22,8 @@ link_tells v s (Goes p) = is_list_or_partial (reads v s p)
 
 -- The list of these terms over atoms.
 abbrev pub listed : List Tree → Tree
-listed [] = atom (atom_name 30)
-listed (t ∷ ts) = comp (atom_name 8) t (more (listed ts) none)
+listed [] = atom (atom_name nil_name)
+listed (t ∷ ts) = comp (atom_name list_cell_name) t (more (listed ts) none)
 
 -- The list of these terms was made.
 pub record IsListed (s : Contents) (ts : List Tree) (t : Contents) (p : Place) : Type 0 where

@@ -5,6 +5,7 @@ ghost use Rattle.pl_term.specs.Nodes.{nodes};
 ghost use Rattle.pl_term.specs.Tree.{atom, comp, more, none};
 ghost use Rattle.pl_term.specs.Variables.{rename, variables};
 ghost use Rattle.pl_model.specs.Balls.{error_ball};
+ghost use Rattle.atom_api.specs.FixedNames.{resource_error_name};
 ghost use Rattle.term_store.specs.Heap.{atom_name};
 ghost use Rattle.term_store.specs.Nodes.{node_views};
 ghost use Rattle.term_store.specs.Contents.{Holds, numbers_of, term_at};
@@ -180,7 +181,7 @@ fn fault_in(alloc: Global, store: &Store, own: &mut Store, fault: Fault) -> Resu
 
 /// Makes the error that this budget is spent (ISO 7.12.2 h). The only error is out of memory.
 fn resource_in(own: &mut Store, resource: Atom) -> Result<Place, Memory>
-    ensures { IfOk result (StandsFor own.new (comp (atom_name 152) (atom (atom_name resource)) none)) }
+    ensures { IfOk result (StandsFor own.new (comp (atom_name resource_error_name) (atom (atom_name resource)) none)) }
 {
     let arguments = [Place::atom(resource)];
     own.make_compound(fixed::RESOURCE_ERROR, &arguments)

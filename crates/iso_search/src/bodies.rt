@@ -2,6 +2,7 @@
 ghost use Rattle.std.specs.Prelude.{◌≡◌, ◌<◌, ◌==◌, ◌||◌, IfOk, IfSome, OnOk, List};
 ghost use Rattle.std.specs.List.{All};
 ghost use Rattle.pl_term.specs.Tree.{compound};
+ghost use Rattle.atom_api.specs.FixedNames.{comma_name, semicolon_name, then_name};
 ghost use Rattle.term_store.specs.Heap.{atom_name};
 ghost use Rattle.term_store.specs.Contents.{Holds, IsArguments, arguments_at, term_at};
 ghost use Rattle.iso_search.specs.Conversions.{Converts, Grows, IsConverted, IsStepIn, Joins, Part, Visits};
@@ -162,7 +163,7 @@ fn open(
 
 /// Whether the arguments of the control construct with this name are goals of the body itself (ISO 7.6.2, table 7).
 fn is_transparent(name: Atom) -> bool
-    ensures { result ≡ (name == 4 || (name == 13 || name == 7)) }
+    ensures { result ≡ (name == comma_name || (name == semicolon_name || name == then_name)) }
 {
     name == fixed::COMMA || name == fixed::SEMICOLON || name == fixed::THEN
 }
