@@ -1,6 +1,7 @@
 pub mod Answered
 pub mod Below
 pub mod Changes
+pub mod CreatedThreads
 pub mod Creating
 pub mod DestroyedQueues
 pub mod EndedThreads
@@ -19,6 +20,7 @@ pub mod Same
 pub mod Searched
 pub mod Sending
 pub mod Served
+pub mod StartedThreads
 pub mod Steps
 pub mod TakenMessages
 pub mod Weighing

@@ -1,3 +1,4 @@
+pub mod Aliases
 pub mod Distinct
 pub mod Finding
 pub mod Held

@@ -6,6 +6,7 @@
 //! the history is made by the caller.
 #![tactic(auto)]
 
+mod beginning;
 mod destroying;
 mod ending;
 mod finding;
@@ -18,9 +19,11 @@ mod messages;
 mod names;
 mod queues;
 mod refusing;
+mod starting;
 mod statuses;
 mod taking;
 
+pub use beginning::create_thread;
 pub use destroying::destroy_queue;
 pub use ending::end_thread;
 pub use goals::take_goal;
