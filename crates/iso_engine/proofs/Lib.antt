@@ -8,6 +8,9 @@ pub mod Calls
 pub mod ClauseGains
 pub mod Collected
 pub mod Copies
+pub mod Defined
+pub mod Dispatched
+pub mod DispatchedPlaces
 pub mod Equals
 pub mod Errors
 pub mod Failed
@@ -54,6 +57,8 @@ pub mod Solutions
 pub mod Spending
 pub mod Stability
 pub mod Stepping
+pub mod Tableless
+pub mod TableRows
 pub mod Tables
 pub mod TakenBack
 pub mod Tasking

@@ -24,7 +24,7 @@ use Rattle.builtin_rows.specs.declared.row.Row.TheVariants.{Fails, Holds as Hold
 use Rattle.builtin_rows.specs.Given.{given_texts}
 use Rattle.builtin_rows.specs.Rows.{row_refusals}
 use Rattle.builtin_rows.specs.Dispatching.{HasLines, IsRowOf, given_by}
-use Rattle.builtin_dispatch.specs.Dispatching.{AreHeld, terms_of}
+use Rattle.iso_engine.specs.Dispatching.{AreHeld, terms_of}
 use Rattle.iso_engine.specs.Leading.{IsOfTable, IsRowMade, Origin}
 use Rattle.iso_search.specs.declared.search.Search.{Search}
 use Rattle.iso_search.specs.declared.outcome.Fault.TheVariants.{Inferences}

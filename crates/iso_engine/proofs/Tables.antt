@@ -20,8 +20,8 @@ use Rattle.builtin_rows.specs.declared.row.Row.{Row}
 use Rattle.builtin_rows.specs.declared.row.Row.TheVariants as found
 use Rattle.builtin_rows.specs.Given.{given_texts, lined, texts_of_all, terms_of as answer_terms}
 use Rattle.builtin_rows.specs.Rows.{IsRow}
-use Rattle.builtin_dispatch.specs.Dispatching.{given_from, lines_in, terms_of}
-use Rattle.builtin_dispatch.specs.Dispatching as dispatched
+use Rattle.iso_engine.specs.Dispatching.{given_from, lines_in, terms_of}
+use Rattle.iso_engine.specs.Dispatching as dispatched
 use Rattle.iso_search.specs.declared.failure.Back.TheVariants.{Answers}
 use Rattle.iso_search.specs.declared.outcome.Outcome.{Outcome}
 use Rattle.iso_search.specs.declared.search.Search.{Search}

@@ -6,6 +6,7 @@ pub mod Called
 pub mod CalledGoals
 pub mod Calling
 pub mod ClausesAsked
+pub mod Dispatching
 pub mod Failing
 pub mod Finding
 pub mod Following

@@ -4,6 +4,7 @@
 pub mod answering;
 pub mod builtin;
 pub mod call;
+pub mod dispatch;
 pub mod doing;
 pub mod engine;
 pub mod equal;

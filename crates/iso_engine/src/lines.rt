@@ -13,6 +13,7 @@ ghost use Rattle.iso_engine.specs.Retrying.{IsGoneOn};
 ghost use Rattle.iso_engine.specs.Unserved.{OnRefusal, UnlessMemory, as_stopped, refusals_in, stopped_refusals};
 
 use crate::builtin::{RowGoal, row_goal_at};
+use crate::dispatch::lines::line_of;
 use crate::doing::Doing;
 use crate::engine::Engine;
 use crate::following::follow;
@@ -20,7 +21,6 @@ use crate::rows::lines::follow_next;
 use crate::rows::refusal;
 use crate::slices::Slice;
 use atom_api::Atoms;
-use builtin_dispatch::line_of;
 use iso_search::choices::Alternative;
 use iso_search::outcome::Outcome;
 use iso_search::search::Search;

@@ -14,9 +14,9 @@ pub mod following;
 pub mod lines;
 
 use crate::builtin::RowGoal;
+use crate::dispatch::row_of;
 use crate::rows::following::follow_row;
 use atom_api::Atoms;
-use builtin_dispatch::row_of;
 use builtin_rows::Row;
 use iso_search::outcome::{Fault, Outcome};
 use iso_search::search::Search;

@@ -1,7 +1,7 @@
 use Rattle.std.proofs.Common.{◌++◌, sym, ap, subst, ◌∙◌}
 use Rattle.term_store.specs.Contents.{Holds}
 use Rattle.world_api.proofs.Gaining.{gains_weaker}
-use Rattle.builtin_dispatch.specs.Dispatching.{lines_of, terms_of}
+use Rattle.iso_engine.specs.Dispatching.{lines_of, terms_of}
 use Rattle.iso_search.specs.declared.search.Search.{Search}
 use Rattle.iso_search.specs.Searching.{IsWhole}
 use Rattle.iso_search.specs.declared.outcome.Outcome.{Outcome}

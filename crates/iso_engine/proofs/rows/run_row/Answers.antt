@@ -1,5 +1,5 @@
 use Rattle.std.proofs.Common.{◌≤◌, length, sym, subst, ◌∙◌}
-use Rattle.builtin_dispatch.specs.Dispatching.{AreHeld}
+use Rattle.iso_engine.specs.Dispatching.{AreHeld}
 use Rattle.iso_search.specs.declared.search.Search.{Search}
 use Rattle.iso_search.proofs.Texts.{texts_apart}
 use Rattle.world_api.proofs.Gaining.{gains_weaker}

@@ -1,5 +1,0 @@
-mod Answering
-mod Defined
-mod Places
-mod TableRows
-mod Tableless
