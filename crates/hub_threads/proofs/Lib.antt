@@ -1,6 +1,7 @@
 pub mod Answered
 pub mod Below
 pub mod Changes
+pub mod CommandedGoals
 pub mod CreatedThreads
 pub mod Creating
 pub mod DestroyedQueues

@@ -7,6 +7,7 @@
 #![tactic(auto)]
 
 mod beginning;
+mod commanding;
 mod destroying;
 mod ending;
 mod finding;
@@ -24,6 +25,7 @@ mod statuses;
 mod taking;
 
 pub use beginning::create_thread;
+pub use commanding::start_goal;
 pub use destroying::destroy_queue;
 pub use ending::end_thread;
 pub use goals::take_goal;

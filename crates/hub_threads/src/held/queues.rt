@@ -2,6 +2,7 @@
 ghost use Rattle.std.specs.Prelude.{◌≡◌, ◌↔◌, IsTrue, ◌≤◌, ◌+◌, Ok, Err, Some, None, IfOk, IfSome, IfNone, OnErr, OnOk, find, vec_len, vec_capacity};
 ghost use Rattle.std.specs.Result.{MatchResult};
 ghost use Rattle.std.specs.Option.{is_some, option_map};
+ghost use Rattle.pl_term.specs.Variables.{is_in};
 ghost use Rattle.pl_model.specs.Threads.{alias_of, is_alias, is_queue, number_of, queue_named, thread_named, first_message, has_engine, queue_made, queue_dropped, message_sent, thread_ended, is_joined};
 ghost use Rattle.hub_threads.specs.declared.held.fault.QueueFault.TheVariants.{NoQueue, Memory as NoMemory};
 ghost use Rattle.hub_threads.specs.Held.{opening_held, Removes, IsNew, IsNewPlace, IsSound, contents, named_message, goal_of, without_goal, Takes, left_by_join, own_contents, started};
@@ -163,6 +164,13 @@ impl<M: Drop> Queues<M> {
                 Some((thread.number, thread.status.is_some()))
             }
         }
+    }
+
+    /// Whether a thread with the number was joined.
+    pub fn was_joined(&self, n: u64) -> bool
+        ensures { result ≡ is_in n self.now.state.joined }
+    {
+        has(self.joined.as_slice(), n)
     }
 
     /// A number is one queue's, one thread's, one alias's and one goal's, and a place is one message's. It does nothing.

@@ -17,10 +17,11 @@ check_alias-requires g c = record {
 pub returns-in-Ok-true-clause-checks : goal.returns-in-Ok-true-clause-checks
 returns-in-Ok-true-clause-checks g c =
     let m = names (seen c.args.atoms.now.seat) in
-    let a : ℕ = c.a-item.result in
-    (taken_then (is_alias c.args.queues.now.state) (text_of m) c.args.aliases.now c.loop-a.a-index a c.loop-a-test.true c.a-item.is c.loop-a.invariant.free
-    (subst (λ (z : Names). is_alias c.args.queues.now.state (text_of z a) ≡ true) c.loop-a.invariant.held (c.in-Ok-true.ensures.names ∙ c.in-Ok-true.field-0-test)),
-    subst (λ (x : ℕ). IsSome (m x)) (sym c.a-item.is) (c.requires.aliases c.loop-a.a-index a c.loop-a-test.true))
+    let a : ℕ = c.a-item.result in (
+      taken_then (is_alias c.args.queues.now.state) (text_of m) c.args.aliases.now c.loop-a.a-index a c.loop-a-test.true c.a-item.is c.loop-a.invariant.free
+          (subst (λ (z : Names). is_alias c.args.queues.now.state (text_of z a) ≡ true) c.loop-a.invariant.held (c.in-Ok-true.ensures.names ∙ c.in-Ok-true.field-0-test)),
+      subst (λ (x : ℕ). IsSome (m x)) (sym c.a-item.is) (c.requires.aliases c.loop-a.a-index a c.loop-a-test.true),
+    )
 
 pub loop-a-preserved : goal.loop-a-preserved
 loop-a-preserved g c =

@@ -61,11 +61,12 @@ returns-in-Some-clause-says g c = λ e goals h long stands.
     let m = names (seen c.args.atoms.now.seat) in
     let t = said m c.args.goal in
     let texts = map (text_of m) c.args.aliases.now in
-    let error = said m c.in-Some.error in
-    (subst (λ (z : Names). Answers goals e (text_of z) (requests.create_thread t texts (option_map (said m) c.args.error)) h (Refused c.in-Some.error) None) (sym c.check_aliases.ensures.held)
-    (subst (λ (o : Option Tree). Answers goals e (text_of m) (requests.create_thread t texts (option_map (said m) o)) h (Refused c.in-Some.error) None) (sym c.in-Some.is)
-    (record { reply = requests.refused error; serves = create_wrong k q c.args.count.now goals h stands e t texts c.in-Free.ensures.checks error; says = refl })),
-    stands)
+    let error = said m c.in-Some.error in (
+      subst (λ (z : Names). Answers goals e (text_of z) (requests.create_thread t texts (option_map (said m) c.args.error)) h (Refused c.in-Some.error) None) (sym c.check_aliases.ensures.held)
+          (subst (λ (o : Option Tree). Answers goals e (text_of m) (requests.create_thread t texts (option_map (said m) o)) h (Refused c.in-Some.error) None) (sym c.in-Some.is)
+          (record { reply = requests.refused error; serves = create_wrong k q c.args.count.now goals h stands e t texts c.in-Free.ensures.checks error; says = refl })),
+      stands,
+    )
 
 pub returns-in-Some-clause-named : goal.returns-in-Some-clause-named
 returns-in-Some-clause-named g c =
