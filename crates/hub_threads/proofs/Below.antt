@@ -1,6 +1,6 @@
 -- Numbers and places that are counted upwards are new.
 use Rattle.std.proofs.Common.{◌≡◌, ◌<◌, ◌≤◌, ℕ, suc, List, [], ◌∷◌, ◌++◌, map, filter, find, Option, Some, None, Bool, true, false, refl, ap, sym, subst, ◌∙◌, arith}
-use Rattle.std.specs.Prelude.{if◌then◌else◌, ◌==◌, ◌||◌, cond, nat_lt, not}
+use Rattle.std.specs.Prelude.{if◌then◌else◌, ◌==◌, cond, nat_lt, not}
 use Rattle.std.proofs.lemmas.List.{map-append, append-nil}
 use Rattle.std.proofs.lemmas.Bool.{ltb-false, ltb-true, ne_eqb, true≢false}
 use Rattle.pl_term.specs.Tree.{Chars}
@@ -8,13 +8,12 @@ use Rattle.pl_term.specs.Variables.{is_in}
 use Rattle.pl_model.specs.declared.threads.Message.{Message}
 use Rattle.pl_model.specs.declared.threads.Status.{Status}
 use Rattle.pl_model.specs.declared.threads.Thread.{Thread}
-use Rattle.pl_model.specs.Threads.{Queue, Threads, counted, is_queue, is_thread, thread_numbered, queue_made, queue_dropped, message_sent, message_taken, own_queue, running_thread, with_alias, with_message, without_message, with_end, thread_ended, thread_joined}
+use Rattle.pl_model.specs.Threads.{Queue, Threads, counted, is_queue, is_thread, queue_made, queue_dropped, message_sent, message_taken, own_queue, running_thread, with_alias, with_message, without_message, with_end, thread_ended, thread_joined}
 use Rattle.hub_threads.specs.Distinct.{has_number}
-use Rattle.hub_threads.specs.Held.{Held, IsNew, IsNewPlace, alias_numbers, goal_numbers, is_goal_of, message_places, opening_held, places, queue_numbers, started, thread_numbers, without_goal}
+use Rattle.hub_threads.specs.Held.{Held, IsNew, alias_numbers, is_goal_of, message_places, opening_held, places, started, thread_numbers, without_goal}
 use Rattle.hub_threads.specs.Weights.{IsBelow, StaysBelow}
-use Rattle.hub_threads.proofs.Numbers.{eq_same, has_neither, has_front, has_back, or_both, or_left, or_right}
+use Rattle.hub_threads.proofs.Numbers.{has_neither, has_front, has_back, or_both, or_left, or_right}
 use Rattle.hub_threads.proofs.Changes.{filter_lacks, places_append}
-use Rattle.hub_threads.proofs.Located.{key_is}
 use Rattle.hub_threads.proofs.Searched.{some_any}
 use Rattle.hub_threads.proofs.Free.{any_number}
 

@@ -1,21 +1,19 @@
 -- A thread is created.
-use Rattle.std.proofs.Common.{◌≡◌, ◌<◌, ◌≤◌, ℕ, ◌+◌, List, [], ◌∷◌, ◌++◌, map, find, get_or, length, take, drop, Option, Some, None, Bool, true, false, refl, sym, ap, subst, ◌∙◌, arith, codes, take_all}
-use Rattle.std.specs.Prelude.{cond, if◌then◌else◌, pos, slice_index_or}
+use Rattle.std.proofs.Common.{◌≡◌, ◌<◌, ℕ, ◌+◌, List, [], ◌∷◌, ◌++◌, map, find, get_or, length, take, drop, Option, Some, None, Bool, true, false, refl, sym, ap, subst, ◌∙◌, arith, codes, take_all}
+use Rattle.std.specs.Prelude.{cond, if◌then◌else◌}
 use Rattle.std.specs.List.{All}
-use Rattle.std.specs.Option.{IsSome, option_or}
+use Rattle.std.specs.Option.{option_or}
 use Rattle.std.proofs.lemmas.List.{map-append, take-append-drop, take_more}
 use Rattle.std.proofs.lemmas.List.Folds.{find-append}
 use Rattle.std.proofs.lemmas.Option.{same_Some}
-use Rattle.pl_term.specs.Tree.{Chars, Tree, atom, int}
+use Rattle.pl_term.specs.Tree.{Chars, Tree, atom}
 use Rattle.pl_model.specs.ErrorTerms.{permission_error}
 use Rattle.pl_model.specs.History.{History}
 use Rattle.pl_model.specs.Requests.{create_thread, named}
 use Rattle.pl_model.specs.Service.{Served, alias_taken, created, name_term, refuses, serve, served_now, started as starts}
 use Rattle.pl_model.specs.SharedState.{SharedState, state_at}
-use Rattle.pl_model.specs.Threads.{Threads, is_alias}
-use Rattle.atom_api.specs.Names.{Names}
+use Rattle.pl_model.specs.Threads.{is_alias}
 use Rattle.atom_words.specs.declared.view.View.{View}
-use Rattle.world_api.specs.Texts.{text_of}
 use Rattle.counted_terms.specs.CountedTerms.{said}
 use Rattle.counted_terms.specs.Keeping.{kept}
 use Rattle.hub_threads.specs.Aliases.{IsLast, first_taken, last_of}

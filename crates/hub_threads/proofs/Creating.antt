@@ -1,18 +1,18 @@
 -- A queue is made, and names are answered.
-use Rattle.std.proofs.Common.{◌≡◌, ◌<◌, ◌≤◌, ℕ, suc, ◌+◌, List, [], ◌∷◌, ◌++◌, length, Option, Some, None, Bool, true, false, refl, sym, ap, subst, ◌∙◌, append-nil, arith, codes, eq-eqb, inl, inr}
-use Rattle.std.specs.Prelude.{◌^◌, ◌||◌, ◌==◌, IfNone, IfSome, if◌then◌else◌, nat_lt, option_map, pos}
+use Rattle.std.proofs.Common.{◌≡◌, ◌<◌, ℕ, suc, ◌+◌, List, [], ◌∷◌, ◌++◌, length, Option, Some, None, Bool, true, false, refl, sym, ap, subst, ◌∙◌, append-nil, arith, codes, eq-eqb, inl, inr}
+use Rattle.std.specs.Prelude.{◌^◌, ◌||◌, IfNone, if◌then◌else◌, pos}
 use Rattle.std.specs.List.{All}
 use Rattle.std.specs.Option.{IsSome}
 use Rattle.std.proofs.lemmas.Bool.{cases_eq, le-ltb, ne_eqb}
 use Rattle.std.proofs.lemmas.List.Elements.{All-cons, All-nil}
 use Rattle.pl_term.specs.Tree.{Chars, Tree, atom, int}
 use Rattle.pl_term.specs.Variables.{is_in}
-use Rattle.pl_model.specs.ErrorTerms.{permission_error, resource_error}
-use Rattle.pl_model.specs.History.{Entry, History, Kind, begins, has_begun, make_queue}
+use Rattle.pl_model.specs.ErrorTerms.{permission_error}
+use Rattle.pl_model.specs.History.{Entry, History, make_queue}
 use Rattle.pl_model.specs.Requests.{Request, create_queue, named, own_name}
-use Rattle.pl_model.specs.Service.{alias_taken, answers, name_term, reads, refuses, serve, served_now, updates}
-use Rattle.pl_model.specs.SharedState.{SharedState, state_at}
-use Rattle.pl_model.specs.Threads.{Queue, Threads, alias_of, counted, is_alias, queue_made}
+use Rattle.pl_model.specs.Service.{alias_taken, name_term, reads, refuses, serve, served_now, updates}
+use Rattle.pl_model.specs.SharedState.{state_at}
+use Rattle.pl_model.specs.Threads.{alias_of, counted, is_alias, queue_made}
 use Rattle.atom_api.specs.Interns.{Interns, asked_with, refused}
 use Rattle.atom_api.specs.Names.{Names, with_name}
 use Rattle.atom_api.specs.declared.interned.Interned.{Interned}
@@ -23,7 +23,7 @@ use Rattle.hub_threads.specs.declared.held.fault.QueueFault.TheVariants.{AliasTa
 use Rattle.hub_threads.specs.Distinct.{has_number}
 use Rattle.hub_threads.specs.Held.{Held, IsSound, thread_numbers}
 use Rattle.hub_threads.specs.Refusals.{make_refusal}
-use Rattle.hub_threads.specs.Serving.{threads_as, unless}
+use Rattle.hub_threads.specs.Serving.{unless}
 use Rattle.hub_threads.specs.Weights.{IsBelow, weigh}
 use Rattle.hub_threads.proofs.Below.{stays_below}
 use Rattle.hub_threads.proofs.Served.{all_changes, served}
@@ -40,7 +40,7 @@ use Rattle.counted_terms.specs.Rows.{Answers, row_names, row_refusals}
 use Rattle.counted_terms.proofs.MadeTerms.{held_some}
 use Rattle.hub_threads.specs.Rows.{Changed, Decides, row_named, updates_in}
 use Rattle.hub_threads.specs.Threads.{IsThreads}
-use Rattle.hub_threads.proofs.RefusedRows.{updates_made, updates_refused}
+use Rattle.hub_threads.proofs.RefusedRows.{updates_made}
 use Rattle.hub_threads.proofs.Steps.{goals_stay, moves_on}
 
 counted_up : (c : ℕ) → counted c c ≡ c + 1

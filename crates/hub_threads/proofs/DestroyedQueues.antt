@@ -1,6 +1,6 @@
 -- A queue is destroyed.
-use Rattle.std.proofs.Common.{◌≡◌, ◌<◌, ◌≤◌, ℕ, ◌+◌, List, [], ◌∷◌, ◌++◌, length, Option, Some, None, Bool, true, false, refl, sym, ap, subst, ◌∙◌, arith, codes}
-use Rattle.std.specs.Prelude.{◌^◌, ◌||◌, IfNone, IfSome, if◌then◌else◌}
+use Rattle.std.proofs.Common.{◌≡◌, ◌<◌, ◌≤◌, ℕ, ◌+◌, [], ◌∷◌, ◌++◌, length, Option, Some, None, Bool, true, false, refl, sym, ap, subst, ◌∙◌, arith, codes}
+use Rattle.std.specs.Prelude.{◌^◌, ◌||◌, IfNone, IfSome}
 use Rattle.std.specs.List.{sum_by}
 use Rattle.pl_term.specs.Tree.{Tree}
 use Rattle.pl_term.specs.Variables.{is_in}
@@ -22,7 +22,7 @@ use Rattle.hub_threads.specs.Distinct.{has_number}
 use Rattle.hub_threads.specs.Held.{Held, IsSound, contents, thread_numbers}
 use Rattle.hub_threads.specs.Refusals.{drop_refusal}
 use Rattle.hub_threads.specs.Rows.{Changed}
-use Rattle.hub_threads.specs.Serving.{drop_error, threads_as, unless}
+use Rattle.hub_threads.specs.Serving.{drop_error, unless}
 use Rattle.hub_threads.specs.Threads.{IsStored, IsThreads, thread_counts}
 use Rattle.hub_threads.specs.Weights.{IsBelow, weigh}
 use Rattle.hub_threads.specs.declared.held.fault.QueueFault.{QueueFault}

@@ -10,7 +10,6 @@ use Rattle.counted_terms.specs.Keeping.{kept, tally}
 use Rattle.counted_terms.specs.Sharing.{Restored, Sums}
 use Rattle.counted_terms.proofs.Sharing.{rest_counted}
 use Rattle.hub_threads.specs.Held.{Held}
-use Rattle.hub_threads.specs.Weights.{weigh}
 use Rattle.hub_threads.specs.Threads.{IsStored, thread_counts}
 
 -- THE TERMS OF A LIST, one after the other: k is the view of the keeper before them, and l that after those before the next

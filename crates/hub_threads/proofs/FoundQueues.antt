@@ -1,9 +1,9 @@
 -- A queue or a thread is found by a term.
-use Rattle.std.proofs.Common.{◌≡◌, ℕ, Option, Some, None, Bool, true, false, refl, sym, ap, subst, ◌∙◌}
+use Rattle.std.proofs.Common.{◌≡◌, Option, Some, None, Bool, true, false, refl, sym, ◌∙◌}
 use Rattle.std.specs.Prelude.{is_some, option_map}
 use Rattle.pl_term.specs.Tree.{Tree}
 use Rattle.pl_model.specs.declared.threads.Thread.{Thread}
-use Rattle.pl_model.specs.Threads.{Queue, Threads, queue_named}
+use Rattle.pl_model.specs.Threads.{Queue}
 
 pub no_queue_is : (o : Option (Queue Tree)) (b : Bool) → b ≡ is_some o → b ≡ false → o ≡ None
 no_queue_is None b e f = refl

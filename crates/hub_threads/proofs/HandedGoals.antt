@@ -1,5 +1,5 @@
 -- The goal of an engine that begins is handed over.
-use Rattle.std.proofs.Common.{◌≡◌, ◌≤◌, ◌<◌, ℕ, ◌+◌, List, [], ◌∷◌, filter, find, Option, Some, None, Bool, true, false, refl, sym, ap, subst, ◌∙◌, arith, eqb-true, inl, inr}
+use Rattle.std.proofs.Common.{◌≡◌, ℕ, ◌+◌, List, [], ◌∷◌, filter, find, Option, Some, None, Bool, true, false, refl, sym, ap, subst, ◌∙◌, arith, eqb-true, inl, inr}
 use Rattle.std.specs.Prelude.{◌==◌, cond, not, option_map}
 use Rattle.std.proofs.lemmas.Bool.{cases_eq, ne_eqb}
 use Rattle.pl_term.specs.Tree.{Tree}
@@ -10,7 +10,7 @@ use Rattle.counted_terms.specs.Keeping.{kept, tally}
 use Rattle.counted_terms.specs.Sharing.{Counts, Restored}
 use Rattle.counted_terms.proofs.Sharing.{forget_restores}
 use Rattle.hub_threads.specs.Held.{Held, IsSound, goal_of, is_goal_of, without_goal}
-use Rattle.hub_threads.specs.Threads.{IsStored, IsThreads, started_goal, thread_counts}
+use Rattle.hub_threads.specs.Threads.{IsThreads, thread_counts}
 use Rattle.hub_threads.specs.Weights.{IsBelow, weigh}
 use Rattle.hub_threads.proofs.Below.{stays_below}
 use Rattle.hub_threads.proofs.Forgotten.{less_counted}

@@ -1,5 +1,5 @@
 -- A thread is joined.
-use Rattle.std.proofs.Common.{◌≡◌, ◌<◌, ◌≤◌, ℕ, ◌+◌, List, [], ◌∷◌, ◌++◌, map, filter, find, length, Option, Some, None, Bool, true, false, refl, sym, ap, subst, ◌∙◌, arith, codes, eq-eqb, eqb-true, inl, inr}
+use Rattle.std.proofs.Common.{◌≡◌, ◌<◌, ◌≤◌, ℕ, ◌+◌, List, [], ◌∷◌, ◌++◌, filter, find, length, Option, Some, None, Bool, true, false, refl, sym, ap, subst, ◌∙◌, arith, codes, eqb-true, inl, inr}
 use Rattle.std.specs.Prelude.{◌^◌, ◌||◌, ◌==◌, cond, is_some, not, option_and_then, option_map, if◌then◌else◌}
 use Rattle.std.proofs.lemmas.Bool.{cases_eq, ne_eqb}
 use Rattle.std.proofs.lemmas.Option.{same_Some}
@@ -11,7 +11,7 @@ use Rattle.pl_model.specs.declared.threads.Thread.{Thread}
 use Rattle.pl_model.specs.ErrorTerms.{existence_error, permission_error, resource_error}
 use Rattle.pl_model.specs.History.{Entry, History, join}
 use Rattle.pl_model.specs.Requests.{join_thread, status}
-use Rattle.pl_model.specs.Service.{Served, answers, ended, joined, name_of, on_of, refuses, serve, served_now, status_term, thread_for, updates, waits}
+use Rattle.pl_model.specs.Service.{Served, answers, ended, joined, name_of, refuses, serve, served_now, status_term, thread_for, waits}
 use Rattle.pl_model.specs.SharedState.{state_at}
 use Rattle.pl_model.specs.declared.threads.On.TheVariants.{Thread as OnThread}
 use Rattle.pl_model.specs.Threads.{Threads, is_thread, number_of, thread_joined, thread_named, thread_numbered}
@@ -30,7 +30,7 @@ use Rattle.hub_threads.specs.Finding.{HasEnded, known, status_named}
 use Rattle.hub_threads.specs.Held.{Held, IsSound, left_by_join, thread_numbers}
 use Rattle.hub_threads.specs.Rows.{Changed, Decides, WaitsOnThread}
 use Rattle.hub_threads.specs.Serving.{no_thread, status_as, thread_as, threads_as}
-use Rattle.hub_threads.specs.Threads.{IsStored, IsThreads, thread_counts}
+use Rattle.hub_threads.specs.Threads.{IsThreads, thread_counts}
 use Rattle.hub_threads.specs.Weights.{IsBelow, weigh, weigh_how, weigh_status}
 use Rattle.hub_threads.proofs.Below.{stays_below}
 use Rattle.hub_threads.proofs.Forgotten.{less_counted, less_restores}

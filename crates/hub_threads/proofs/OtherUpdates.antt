@@ -1,18 +1,18 @@
 -- What leaves the threads and queues as they are, and how they are at the start.
-use Rattle.std.proofs.Common.{◌≡◌, ◌≤◌, ℕ, List, [], ◌∷◌, ◌++◌, length, Option, Some, None, Bool, true, false, refl, sym, ap, ◌∙◌}
+use Rattle.std.proofs.Common.{◌≡◌, ℕ, [], ◌∷◌, ◌++◌, length, Some, None, Bool, true, false, refl, sym, ap, ◌∙◌}
 use Rattle.std.specs.Prelude.{◌==◌, ◌||◌}
 use Rattle.pl_term.specs.Tree.{Tree}
 use Rattle.pl_model.specs.History.{Entry, History, Kind, abolish, add_first, add_last, begins, drop_queue, erase, finish, has_begun, join, make_queue, send, set_dynamic, set_flag, set_op, start}
 use Rattle.pl_model.specs.History as entries
 use Rattle.pl_model.specs.SharedState.{SharedState, change, opening_state, state_at}
-use Rattle.pl_model.specs.Threads.{Threads, opening_count, opening_threads}
+use Rattle.pl_model.specs.Threads.{opening_count}
 use Rattle.atom_words.specs.declared.view.View.{View}
 use Rattle.counted_terms.specs.CountedTerms.{naming, said}
 use Rattle.counted_terms.specs.Keeping.{kept}
 use Rattle.counted_terms.specs.Sharing.{IsWithin}
 use Rattle.counted_terms.proofs.StateAfter.{newest_after}
-use Rattle.hub_threads.specs.Held.{Held, IsSound, goal_of, opening_held}
-use Rattle.hub_threads.specs.Threads.{IsOfDatabase, IsStored, IsThreads, thread_counts}
+use Rattle.hub_threads.specs.Held.{Held, IsSound, opening_held}
+use Rattle.hub_threads.specs.Threads.{IsOfDatabase, IsThreads, thread_counts}
 use Rattle.hub_threads.proofs.Numbers.{eq_sides}
 use Rattle.hub_threads.proofs.Steps.{begun_later, started_later, stays}
 

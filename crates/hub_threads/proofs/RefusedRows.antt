@@ -1,29 +1,28 @@
 -- Rows that refuse, and requests that are refused.
-use Rattle.std.proofs.Common.{◌≡◌, ◌<◌, ◌≤◌, ℕ, zero, List, [], ◌∷◌, length, Option, Some, None, Result, Ok, Err, Bool, true, false, codes, refl, sym, ap, ◌∙◌, arith}
-use Rattle.std.specs.Prelude.{◌^◌, IfOk, if◌then◌else◌, nat_le, option_and_then, option_map, pos}
-use Rattle.std.specs.Option.{IsSome}
+use Rattle.std.proofs.Common.{◌≡◌, ◌<◌, ◌≤◌, ℕ, zero, [], length, Option, Some, None, Result, Ok, Err, codes, refl, sym, ap, ◌∙◌}
+use Rattle.std.specs.Prelude.{◌^◌, IfOk, if◌then◌else◌, option_and_then, option_map}
 use Rattle.std.specs.List.{All}
 use Rattle.std.proofs.lemmas.Bool.{lt-leb, le-leb}
 use Rattle.std.proofs.lemmas.List.Elements.{All-nil}
-use Rattle.pl_term.specs.Tree.{Chars, Tree, int}
+use Rattle.pl_term.specs.Tree.{Tree}
 use Rattle.pl_term.specs.Variables.{rename}
 use Rattle.pl_term.specs.declared.memory.Memory.{Memory as NoMemory}
 use Rattle.pl_model.specs.declared.threads.Name.{Name as SharedName}
-use Rattle.pl_model.specs.ErrorTerms.{existence_error, permission_error, resource_error}
+use Rattle.pl_model.specs.ErrorTerms.{existence_error, resource_error}
 use Rattle.pl_model.specs.History.{History, Kind, send}
-use Rattle.pl_model.specs.Requests.{Request, Reply, create_queue, destroy_queue, done, get_message, message, no_message, peek_message, refused, send_message}
-use Rattle.pl_model.specs.Service.{Served, answers, destroyed, got, matches, name_of, no_queue, peeked, queue_for, queue_term, refuses, serve, served_now, updates, with_queue}
-use Rattle.pl_model.specs.SharedState.{SharedState, state_at}
-use Rattle.pl_model.specs.Threads.{Queue, Threads, first_message, queue_named}
+use Rattle.pl_model.specs.Requests.{Request, Reply, destroy_queue, done, get_message, peek_message, refused, send_message}
+use Rattle.pl_model.specs.Service.{answers, destroyed, got, matches, name_of, peeked, queue_for, refuses, serve, served_now, updates, with_queue}
+use Rattle.pl_model.specs.SharedState.{state_at}
+use Rattle.pl_model.specs.Threads.{Threads, first_message, queue_named}
 use Rattle.atom_api.specs.Fixed.{fixed, fixed_texts}
-use Rattle.atom_api.specs.Names.{FixedStand, Names}
+use Rattle.atom_api.specs.Names.{Names}
 use Rattle.atom_words.specs.declared.view.View.{View}
 use Rattle.hub_threads.specs.Held.{Held}
 use Rattle.hub_threads.specs.Serving.{queue_as, threads_as}
 use Rattle.hub_threads.proofs.Served.{queue_by}
 use Rattle.world_api.specs.declared.reply.Reply.TheVariants.{Standing, Clauses, Procedures, Flags, Named, Message, NoMessage, Status, Done, Gone, Refused}
 use Rattle.counted_terms.specs.CountedTerms.{said}
-use Rattle.counted_terms.specs.Rows.{Answers, row_names, row_refusals}
+use Rattle.counted_terms.specs.Rows.{row_names, row_refusals}
 use Rattle.counted_terms.specs.declared.row.Row.{Row}
 use Rattle.counted_terms.specs.declared.row.Row.TheVariants.{Reads, Makes, Waits, NeedsAtoms, Retry, Worn, Memory}
 use Rattle.hub_threads.specs.Rows.{Decides, Refuses, refusal, updates_in}

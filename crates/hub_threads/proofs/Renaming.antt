@@ -1,5 +1,5 @@
 -- A term that is numbered in order, read in texts.
-use Rattle.std.proofs.Common.{◌≡◌, ℕ, zero, ◌+◌, List, [], ◌∷◌, ◌++◌, refl, sym, ap, ap₂, ◌∙◌}
+use Rattle.std.proofs.Common.{◌≡◌, ℕ, zero, ◌+◌, ◌++◌, refl, ap, ap₂, ◌∙◌}
 use Rattle.pl_term.specs.Tree.{Chars, Tree, Trees, var, int, atom, comp, none, more}
 use Rattle.pl_term.specs.Variables.{distinct, occurrences, occurrences_all, place, rename, rename_all_by, rename_by, variables}
 use Rattle.term_store.specs.NumberedNames.{spelled, spelled_all, text_by}

@@ -1,5 +1,5 @@
 -- Threads and queues are read alike where each stored term is.
-use Rattle.std.proofs.Common.{◌≡◌, ◌≤◌, ℕ, ◌+◌, List, [], ◌∷◌, map, find, Option, Some, None, Bool, true, false, refl, sym, ap, ◌∙◌, arith}
+use Rattle.std.proofs.Common.{◌≡◌, ◌≤◌, ℕ, List, [], ◌∷◌, map, find, Option, Some, None, Bool, refl, ap, arith}
 use Rattle.std.specs.Prelude.{cond, option_map}
 use Rattle.std.specs.List.{sum_by}
 use Rattle.std.proofs.lemmas.List.Sums.{sum_by-cons}
@@ -8,10 +8,10 @@ use Rattle.pl_model.specs.declared.threads.Message.{Message}
 use Rattle.pl_model.specs.declared.threads.Status.{Status}
 use Rattle.pl_model.specs.declared.threads.Status.TheVariants.{Succeeded, Failed, Exception, Exited, Halted, AtomSpace}
 use Rattle.pl_model.specs.declared.threads.Thread.{Thread}
-use Rattle.pl_model.specs.Threads.{Queue, Threads}
+use Rattle.pl_model.specs.Threads.{Queue}
 use Rattle.hub_threads.specs.Held.{Held, contents}
 use Rattle.hub_threads.specs.Serving.{message_as, queue_as, status_as, thread_as, threads_as}
-use Rattle.hub_threads.specs.Weights.{weigh, weigh_goal, weigh_how, weigh_queue, weigh_status, weigh_thread}
+use Rattle.hub_threads.specs.Weights.{weigh_how, weigh_queue, weigh_status, weigh_thread}
 use Rattle.hub_threads.specs.Threads.{IsStored}
 
 -- a test on messages, where it is the same for each

@@ -1,16 +1,16 @@
 -- A message is sent.
-use Rattle.std.proofs.Common.{◌≡◌, ◌<◌, ◌≤◌, ℕ, zero, suc, ◌+◌, List, [], ◌∷◌, ◌++◌, length, Option, Some, None, Bool, true, false, refl, sym, ap, subst, ◌∙◌, arith}
+use Rattle.std.proofs.Common.{◌≡◌, ◌<◌, ◌≤◌, ℕ, zero, suc, ◌+◌, [], ◌∷◌, ◌++◌, length, Option, Some, None, Bool, true, false, refl, sym, ap, subst, ◌∙◌, arith}
 use Rattle.std.specs.Prelude.{◌^◌, ◌||◌, IfSome, codes, option_and_then}
 use Rattle.std.specs.Option.{IsSome}
 use Rattle.std.proofs.lemmas.Bool.{false≢true}
 use Rattle.pl_term.specs.Tree.{Tree}
 use Rattle.pl_term.specs.Variables.{is_in, rename}
 use Rattle.pl_model.specs.declared.threads.Name.{Name as SharedName}
-use Rattle.pl_model.specs.History.{History, Kind, begins, has_begun, send}
+use Rattle.pl_model.specs.History.{History, send}
 use Rattle.pl_model.specs.Requests.{done, send_message}
 use Rattle.pl_model.specs.ErrorTerms.{resource_error}
-use Rattle.pl_model.specs.Service.{answers, name_of, no_queue, refuses, served_now, updates}
-use Rattle.pl_model.specs.SharedState.{SharedState, state_at}
+use Rattle.pl_model.specs.Service.{name_of, no_queue, refuses, served_now, updates}
+use Rattle.pl_model.specs.SharedState.{state_at}
 use Rattle.pl_model.specs.Threads.{Queue, Threads, message_sent, number_of, queue_named, queue_numbered}
 use Rattle.atom_api.specs.Names.{Names}
 use Rattle.atom_words.specs.declared.view.View.{View}
@@ -25,12 +25,12 @@ use Rattle.hub_threads.proofs.Weighing.{keeps_all}
 use Rattle.counted_terms.specs.CountedTerms.{IsCounted, naming, said}
 use Rattle.counted_terms.specs.Keeping.{kept, tally}
 use Rattle.counted_terms.specs.Sharing.{Counts, Restored}
-use Rattle.counted_terms.proofs.Sharing.{counts_then, forget_restores, part_counted, restored_as, restored_same, restored_then, restored_wider, store_restores}
+use Rattle.counted_terms.proofs.Sharing.{forget_restores, part_counted, restored_as, restored_same, restored_then, restored_wider, store_restores}
 use Rattle.world_api.specs.declared.reply.Reply.TheVariants.{Done}
 use Rattle.hub_threads.specs.Rows.{Changed}
 use Rattle.hub_threads.specs.Threads.{IsStored, IsThreads, thread_counts}
 use Rattle.hub_threads.proofs.RefusedRows.{updates_made, updates_refused}
-use Rattle.hub_threads.proofs.Steps.{goals_stay, moves_on, stays}
+use Rattle.hub_threads.proofs.Steps.{goals_stay, moves_on}
 
 -- A queue that is named so has its number.
 by_number : (t : Threads Tree) (o : Option ℕ) (x : Queue Tree) → option_and_then (queue_numbered t) o ≡ Some x → queue_numbered t x.number ≡ Some x

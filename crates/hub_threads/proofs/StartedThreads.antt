@@ -1,5 +1,5 @@
 -- A thread begins.
-use Rattle.std.proofs.Common.{◌≡◌, ◌<◌, ◌≤◌, ℕ, zero, suc, ◌+◌, List, [], ◌∷◌, ◌++◌, map, find, length, Option, Some, None, Result, Ok, Err, Bool, true, false, refl, sym, ap, subst, ◌∙◌, arith, codes, eqb-true, inl, inr}
+use Rattle.std.proofs.Common.{◌≡◌, ◌<◌, ◌≤◌, ℕ, zero, suc, ◌+◌, List, [], ◌∷◌, ◌++◌, find, length, Option, Some, None, Bool, true, false, refl, sym, ap, subst, ◌∙◌, arith, codes, eqb-true, inl, inr}
 use Rattle.std.specs.Prelude.{◌^◌, ◌||◌, ◌==◌, IfNone, cond, option_map, if◌then◌else◌}
 use Rattle.std.proofs.lemmas.Bool.{cases_eq, ne_eqb}
 use Rattle.std.proofs.lemmas.List.{map-append}
@@ -12,7 +12,7 @@ use Rattle.pl_model.specs.History.{Entry, History, Kind, abolish, add_first, add
 use Rattle.pl_model.specs.History as entries
 use Rattle.pl_model.specs.Requests.{Request, Reply}
 use Rattle.pl_model.specs.Service.{Served, answers, refuses, served_now, started as starts, updates}
-use Rattle.pl_model.specs.SharedState.{SharedState, state_at}
+use Rattle.pl_model.specs.SharedState.{state_at}
 use Rattle.pl_model.specs.Threads.{Threads, counted, has_engine, running_thread, thread_started}
 use Rattle.atom_api.specs.Names.{Names}
 use Rattle.atom_words.specs.declared.view.View.{View}
@@ -24,13 +24,10 @@ use Rattle.counted_terms.specs.CountedTerms.{IsCounted, naming, said}
 use Rattle.counted_terms.specs.Keeping.{kept, tally}
 use Rattle.counted_terms.specs.Sharing.{Counts, Restored}
 use Rattle.counted_terms.proofs.Sharing.{restored_as, restored_wider, store_restores}
-use Rattle.counted_terms.proofs.StateAfter.{newest_after}
-use Rattle.hub_threads.specs.declared.held.fault.QueueFault.{QueueFault}
 use Rattle.hub_threads.specs.Distinct.{has_number}
 use Rattle.hub_threads.specs.Held.{Held, IsNew, IsSound, goal_numbers, goal_of, is_goal_of, started, thread_numbers}
 use Rattle.hub_threads.specs.Refusals.{is_taken, start_refusal}
 use Rattle.hub_threads.specs.Rows.{Changed}
-use Rattle.hub_threads.specs.Serving.{threads_as}
 use Rattle.hub_threads.specs.Threads.{IsStored, IsThreads, first_some, goal_in, started_goal, thread_counts}
 use Rattle.hub_threads.specs.Weights.{IsBelow, weigh}
 use Rattle.hub_threads.proofs.Answered.{starts as unrefused}
@@ -40,7 +37,7 @@ use Rattle.hub_threads.proofs.Numbers.{eq_same, or_both, or_left, or_right}
 use Rattle.hub_threads.proofs.RefusedRows.{updates_made, updates_refused}
 use Rattle.hub_threads.proofs.Sending.{stored_counted}
 use Rattle.hub_threads.proofs.Served.{all_changes, engines_as}
-use Rattle.hub_threads.proofs.Steps.{begun_later, goal_stored, moves_on, started_later}
+use Rattle.hub_threads.proofs.Steps.{goal_stored, moves_on, started_later}
 use Rattle.hub_threads.proofs.Weighing.{keeps_all}
 
 -- WHAT THE STATE ANSWERS

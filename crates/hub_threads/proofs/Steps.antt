@@ -1,5 +1,5 @@
 -- What is held stays the state after the history, where nothing was changed and where an update was made.
-use Rattle.std.proofs.Common.{◌≡◌, ◌≤◌, ℕ, ◌+◌, List, [], ◌∷◌, ◌++◌, length, Option, Some, None, Bool, true, false, refl, sym, ap, subst, ◌∙◌, arith}
+use Rattle.std.proofs.Common.{◌≡◌, ℕ, [], ◌∷◌, ◌++◌, length, Option, Some, None, Bool, true, false, refl, sym, ap, ◌∙◌, arith}
 use Rattle.std.specs.Prelude.{◌==◌, ◌||◌}
 use Rattle.pl_term.specs.Tree.{Tree}
 use Rattle.pl_term.specs.Variables.{is_in}
@@ -8,9 +8,8 @@ use Rattle.pl_model.specs.SharedState.{SharedState, change, state_at}
 use Rattle.pl_model.specs.Threads.{Threads}
 use Rattle.atom_words.specs.declared.view.View.{View}
 use Rattle.hub_threads.specs.Distinct.{has_number}
-use Rattle.hub_threads.specs.Held.{Held, IsSound, goal_of, thread_numbers, without_goal}
+use Rattle.hub_threads.specs.Held.{Held, IsSound, goal_of, thread_numbers}
 use Rattle.hub_threads.specs.Serving.{threads_as}
-use Rattle.hub_threads.specs.Weights.{weigh}
 use Rattle.hub_threads.proofs.Weighing.{keeps_all}
 use Rattle.counted_terms.specs.CountedTerms.{said}
 use Rattle.counted_terms.specs.Keeping.{kept}

@@ -1,5 +1,5 @@
 -- A message is taken, or looked at.
-use Rattle.std.proofs.Common.{◌≡◌, ◌<◌, ◌≤◌, ℕ, zero, suc, ◌+◌, List, [], ◌∷◌, ◌++◌, find, length, Option, Some, None, Result, Ok, Err, Bool, true, false, refl, sym, ap, subst, ◌∙◌, arith}
+use Rattle.std.proofs.Common.{◌≡◌, ◌<◌, ◌≤◌, ℕ, ◌+◌, [], ◌∷◌, ◌++◌, length, Option, Some, None, Result, Ok, Err, Bool, true, false, refl, sym, ap, subst, ◌∙◌, arith}
 use Rattle.std.specs.Prelude.{◌^◌, ◌||◌, IfOk, IsSome, codes, option_map}
 use Rattle.std.specs.List.{All, sum_by}
 use Rattle.std.proofs.lemmas.List.Elements.{All-nil}
@@ -15,29 +15,26 @@ use Rattle.pl_model.specs.History.{History, Kind, begins, has_begun}
 use Rattle.pl_model.specs.History as entries
 use Rattle.pl_term.specs.declared.memory.Memory.{Memory as NoMemory}
 use Rattle.pl_model.specs.Requests.{Request, get_message, message, no_message, peek_message}
-use Rattle.pl_model.specs.Service.{answers, got, matches, name_of, no_queue, on_of, peeked, reads, refuses, served_now, updates, waits}
-use Rattle.pl_model.specs.SharedState.{SharedState, state_at}
-use Rattle.pl_model.specs.Threads.{Queue, Threads, first_message, message_taken, queue_named, queue_numbered}
+use Rattle.pl_model.specs.Service.{answers, got, matches, name_of, no_queue, peeked, reads, refuses, served_now, waits}
+use Rattle.pl_model.specs.SharedState.{state_at}
+use Rattle.pl_model.specs.Threads.{Queue, first_message, message_taken, queue_named, queue_numbered}
 use Rattle.atom_api.specs.Names.{Names}
 use Rattle.atom_words.specs.declared.view.View.{View}
 use Rattle.atom_table.specs.Naming.{names}
 use Rattle.term_store.specs.NumberedNames.{names_of, unify_by_number}
 use Rattle.hub_threads.specs.Distinct.{has_number}
 use Rattle.hub_threads.specs.Held.{Held, IsSound, Takes, contents, named_message, thread_numbers}
-use Rattle.hub_threads.specs.Serving.{found, message_as, threads_as}
+use Rattle.hub_threads.specs.Serving.{found, message_as}
 use Rattle.hub_threads.specs.Weights.{IsBelow, weigh}
 use Rattle.hub_threads.proofs.Below.{stays_below}
 use Rattle.hub_threads.proofs.Served.{all_changes, served}
 use Rattle.hub_threads.proofs.Weighing.{keeps_all}
-use Rattle.world_api.specs.Answers.{on_by, named_by}
-use Rattle.world_api.specs.Texts.{text_of}
 use Rattle.world_api.specs.declared.answer.On.TheVariants.{Queue as WaitsQueue, Thread as WaitsThread}
-use Rattle.world_api.specs.declared.reply.Name.{Name}
-use Rattle.world_api.specs.declared.reply.Reply.TheVariants.{Message as Handed, NoMessage}
+use Rattle.world_api.specs.declared.reply.Reply.TheVariants.{Message as Handed}
 use Rattle.counted_terms.specs.Agreements.{Agreed}
 use Rattle.counted_terms.specs.CountedTerms.{IsCounted, naming, said}
 use Rattle.counted_terms.specs.Keeping.{kept, tally}
-use Rattle.counted_terms.specs.Rows.{Answers, WaitsOn, row_names, row_refusals}
+use Rattle.counted_terms.specs.Rows.{row_names, row_refusals}
 use Rattle.counted_terms.specs.Sharing.{Counts, Restored, Sums}
 use Rattle.counted_terms.proofs.Sharing.{forget_restores, restored_wider}
 use Rattle.counted_terms.specs.declared.row.Row.{Row}

@@ -1,20 +1,19 @@
 -- What changes put in and hand out, weighed.
 use Rattle.std.proofs.Common.{◌≡◌, ℕ, ◌+◌, List, [], ◌∷◌, ◌++◌, map, filter, find, length, Option, Some, None, Bool, true, false, refl, ap, sym, ◌∙◌, arith}
-use Rattle.std.specs.Prelude.{if◌then◌else◌, ◌==◌, cond, not, option_map, remove, slice_set}
+use Rattle.std.specs.Prelude.{if◌then◌else◌, ◌==◌, cond, not, option_map, remove}
 use Rattle.std.specs.List.{sum_by}
 use Rattle.std.proofs.lemmas.List.{map-append}
 use Rattle.std.proofs.lemmas.List.Sums.{sum_by-append, sum_by-cons}
 use Rattle.std.proofs.lemmas.Option.{same_Some}
-use Rattle.pl_term.specs.Tree.{Chars}
 use Rattle.pl_model.specs.declared.threads.Message.{Message}
 use Rattle.pl_model.specs.declared.threads.Status.{Status}
 use Rattle.pl_model.specs.declared.threads.Thread.{Thread}
-use Rattle.pl_model.specs.Threads.{Queue, Threads, first_message, is_queue, is_thread, queue_numbered, thread_numbered, queue_made, queue_dropped, message_sent, message_taken, with_message, without_message, with_end, without_queue, own_queue, running_thread, thread_ended, thread_joined}
+use Rattle.pl_model.specs.Threads.{Queue, first_message, is_queue, queue_numbered, thread_numbered, message_sent, message_taken, without_queue, own_queue, running_thread, thread_ended}
 use Rattle.hub_threads.specs.Distinct.{Distinct}
-use Rattle.hub_threads.specs.Held.{Held, held, IsSound, contents, goal_of, is_goal_of, own_contents, started, without_goal, queue_numbers, thread_numbers, goal_numbers, message_places}
+use Rattle.hub_threads.specs.Held.{Held, IsSound, contents, is_goal_of, own_contents, without_goal}
 use Rattle.hub_threads.specs.Located.{IsAt}
 use Rattle.hub_threads.specs.Weights.{weigh, weigh_queue, weigh_thread, weigh_status, weigh_how, weigh_goal, KeepsAll}
-use Rattle.hub_threads.proofs.Located.{located_removed, located_set, located_out, located_changed, key_is}
+use Rattle.hub_threads.proofs.Located.{located_removed, located_set, located_out, located_changed}
 use Rattle.hub_threads.proofs.Searched.{none_out}
 use Rattle.hub_threads.proofs.Changes.{taken_state}
 

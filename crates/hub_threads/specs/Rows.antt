@@ -1,6 +1,6 @@
 -- What a row says of the shared state, for each history after which the threads and queues are those that are held.
-use Rattle.std.specs.Prelude.{◌≡◌, ℕ, List, [], ◌∷◌, ◌++◌, Option, Some, None, Result, Ok, Err, true, false}
-use Rattle.pl_term.specs.Tree.{Chars, Tree}
+use Rattle.std.specs.Prelude.{◌≡◌, ℕ, List, [], ◌∷◌, ◌++◌, Some, None, Result, Ok, Err, true, false}
+use Rattle.pl_term.specs.Tree.{Tree}
 use Rattle.pl_term.specs.declared.memory.Memory.{Memory as NoMemory}
 use Rattle.pl_model.specs.declared.threads.Name.{Name as SharedName}
 use Rattle.pl_model.specs.declared.threads.Status.{Status}

@@ -1,5 +1,5 @@
 -- When the threads and queues that are held are those of the shared state after a history.
-use Rattle.std.specs.Prelude.{◌≡◌, ◌≤◌, ℕ, List, [], ◌∷◌, length, Option, Some, None, ◌==◌, ◌||◌, if◌then◌else◌}
+use Rattle.std.specs.Prelude.{◌≡◌, ◌≤◌, ℕ, [], ◌∷◌, length, Option, Some, None, ◌==◌, ◌||◌, if◌then◌else◌}
 use Rattle.pl_term.specs.Tree.{Tree}
 use Rattle.pl_term.specs.Variables.{is_in}
 use Rattle.pl_model.specs.History.{History, Kind, abolish, add_first, add_last, erase, set_dynamic, set_flag, set_op, start, has_begun}

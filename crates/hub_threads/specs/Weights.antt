@@ -8,8 +8,8 @@ use Rattle.pl_model.specs.declared.threads.Message.{Message}
 use Rattle.pl_model.specs.declared.threads.Status.{Status}
 use Rattle.pl_model.specs.declared.threads.Status.TheVariants.{Exception, Exited}
 use Rattle.pl_model.specs.declared.threads.Thread.{Thread}
-use Rattle.pl_model.specs.Threads.{Queue, Threads, counted, first_message, queue_numbered, thread_numbered, queue_made, queue_dropped, message_sent, message_taken, thread_ended, thread_joined}
-use Rattle.hub_threads.specs.Held.{Held, IsNew, IsNewPlace, IsSound, contents, goal_of, own_contents, started, without_goal}
+use Rattle.pl_model.specs.Threads.{Queue, counted, first_message, queue_numbered, thread_numbered, queue_made, queue_dropped, message_sent, message_taken, thread_ended, thread_joined}
+use Rattle.hub_threads.specs.Held.{Held, IsNew, IsNewPlace, contents, goal_of, own_contents, started, without_goal}
 
 module _ {M : Type 0} (w : M → ℕ) where
   abbrev pub weigh_queue : Queue M → ℕ

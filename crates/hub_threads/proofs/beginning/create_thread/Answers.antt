@@ -1,8 +1,8 @@
-use Rattle.std.proofs.Common.{◌≡◌, ℕ, Option, Some, None, length, map, refl, sym, ap, subst, ◌∙◌, codes}
+use Rattle.std.proofs.Common.{◌≡◌, Option, Some, None, map, refl, sym, ap, subst, ◌∙◌, codes}
 use Rattle.std.specs.Prelude.{option_map}
 use Rattle.std.specs.List.{All}
 use Rattle.std.specs.Option.{IsSome}
-use Rattle.pl_term.specs.Tree.{Chars, Tree, atom}
+use Rattle.pl_term.specs.Tree.{Tree, atom}
 use Rattle.pl_model.specs.ErrorTerms.{permission_error}
 use Rattle.pl_model.specs.Requests as requests
 use Rattle.atom_api.specs.Names.{Names}

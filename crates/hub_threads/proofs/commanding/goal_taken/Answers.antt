@@ -3,8 +3,7 @@ use Rattle.pl_term.specs.Tree.{Chars, atom}
 use Rattle.pl_model.specs.ErrorTerms.{permission_error}
 use Rattle.pl_model.specs.Requests as requests
 use Rattle.pl_model.specs.Threads.{goal_alias, is_alias}
-use Rattle.atom_api.specs.declared.interned.Interned.TheVariants.{Is, Full, Again, TooLong}
-use Rattle.atom_api.specs.declared.interned.Interned.TheVariants as interned
+use Rattle.atom_api.specs.declared.interned.Interned.TheVariants.{Is}
 use Rattle.atom_words.specs.Seats.{seen}
 use Rattle.atom_words.specs.declared.view.Refusal.{Refusal}
 use Rattle.atom_table.specs.Naming.{names, requests as asked}

@@ -1,4 +1,4 @@
-use Rattle.std.proofs.Common.{◌≡◌, ℕ, Some, false, true, length, refl, sym, ap, subst, ◌∙◌, append-nil}
+use Rattle.std.proofs.Common.{◌≡◌, Some, false, true, length, refl, sym, ap, subst, ◌∙◌}
 use Rattle.pl_term.specs.Tree.{Chars}
 use Rattle.pl_model.specs.Requests as requests
 use Rattle.pl_model.specs.Service.{started as starts}
@@ -9,11 +9,8 @@ use Rattle.atom_words.specs.Seats.{seen}
 use Rattle.atom_table.specs.Naming.{names, requests as asked}
 use Rattle.counted_terms.specs.CountedTerms.{said}
 use Rattle.counted_terms.specs.Keeping.{keeper_view}
-use Rattle.hub_threads.specs.Rows.{updates_in}
-use Rattle.hub_threads.specs.Threads.{thread_counts}
 use Rattle.hub_threads.proofs.CommandedGoals.{goal_starts}
 use Rattle.hub_threads.proofs.Creating.{asks_nothing}
-use Rattle.hub_threads.proofs.Sending.{nothing_below, nothing_restores}
 use Rattle.hub_threads.proofs.commanding.start_goal.Goals as goal
 
 pub returns-in-Err-clause-asked : goal.returns-in-Err-clause-asked

@@ -1,26 +1,20 @@
-use Rattle.std.proofs.Common.{◌≡◌, ◌≤◌, ◌<◌, ℕ, ◌+◌, List, [], ◌++◌, length, refl, sym, ap, subst, ◌∙◌, append-nil, arith, codes}
-use Rattle.std.specs.Prelude.{◌^◌, Some, false}
+use Rattle.std.proofs.Common.{◌≡◌, List, ◌++◌, refl, sym, ap, subst, ◌∙◌, append-nil, codes}
+use Rattle.std.specs.Prelude.{Some}
 use Rattle.std.specs.List.{All}
 use Rattle.std.specs.Option.{IsSome}
-use Rattle.pl_term.specs.Tree.{Tree}
-use Rattle.pl_model.specs.ErrorTerms.{existence_error, permission_error, resource_error}
+use Rattle.pl_model.specs.ErrorTerms.{existence_error}
 use Rattle.pl_model.specs.Requests as requests
 use Rattle.pl_model.specs.Service.{name_of}
-use Rattle.pl_model.specs.Threads.{Queue, queue_named}
 use Rattle.atom_api.specs.Names.{Names}
 use Rattle.atom_words.specs.Seats.{seen}
 use Rattle.atom_words.specs.declared.view.Refusal.{Refusal}
 use Rattle.atom_table.specs.Naming.{names}
 use Rattle.term_store.specs.NumberedNames.{names_of}
-use Rattle.counted_terms.specs.CountedTerms.{IsCounted, naming, said}
-use Rattle.counted_terms.specs.Keeping.{keeper_view, kept, tally}
+use Rattle.counted_terms.specs.CountedTerms.{said}
+use Rattle.counted_terms.specs.Keeping.{keeper_view, kept}
 use Rattle.counted_terms.specs.Rows.{row_names, row_refusals}
-use Rattle.counted_terms.specs.Sharing.{Restored}
-use Rattle.counted_terms.proofs.MadeTerms.{held_some}
-use Rattle.hub_threads.specs.Held.{Held}
 use Rattle.hub_threads.specs.Rows.{Decides, updates_in}
-use Rattle.hub_threads.specs.Threads.{IsThreads, thread_counts}
-use Rattle.hub_threads.specs.Weights.{IsBelow}
+use Rattle.hub_threads.specs.Threads.{thread_counts}
 use Rattle.hub_threads.proofs.RefusedRows.{destroy_missing, refuses_decides}
 use Rattle.hub_threads.proofs.Sending.{nothing_below, nothing_restores}
 use Rattle.hub_threads.proofs.destroying.destroy_queue.Goals as goal

@@ -1,24 +1,12 @@
-use Rattle.std.proofs.Common.{◌≡◌, ◌≤◌, ◌<◌, ℕ, ◌+◌, List, [], ◌++◌, length, refl, sym, ap, subst, ◌∙◌, append-nil, arith, codes}
-use Rattle.std.specs.Prelude.{◌^◌, Some, false}
-use Rattle.std.specs.List.{All, sum_by}
-use Rattle.std.specs.Option.{IsSome}
+use Rattle.std.proofs.Common.{◌≡◌, ◌≤◌, ℕ, ◌+◌, List, refl, sym, ap, subst, ◌∙◌, append-nil}
+use Rattle.std.specs.List.{sum_by}
 use Rattle.pl_term.specs.Tree.{Tree}
-use Rattle.pl_model.specs.ErrorTerms.{existence_error, permission_error, resource_error}
-use Rattle.pl_model.specs.Requests as requests
-use Rattle.pl_model.specs.Service.{name_of}
-use Rattle.pl_model.specs.Threads.{Queue, queue_named}
-use Rattle.atom_api.specs.Names.{Names}
+use Rattle.pl_model.specs.Threads.{queue_named}
 use Rattle.atom_words.specs.Seats.{seen}
-use Rattle.atom_words.specs.declared.view.Refusal.{Refusal}
-use Rattle.atom_table.specs.Naming.{names}
-use Rattle.term_store.specs.NumberedNames.{names_of}
-use Rattle.counted_terms.specs.CountedTerms.{IsCounted, naming, said}
-use Rattle.counted_terms.specs.Keeping.{keeper_view, kept, tally}
-use Rattle.counted_terms.specs.Rows.{row_names, row_refusals}
+use Rattle.counted_terms.specs.CountedTerms.{naming}
+use Rattle.counted_terms.specs.Keeping.{keeper_view, tally}
 use Rattle.counted_terms.specs.Sharing.{Restored}
-use Rattle.counted_terms.proofs.MadeTerms.{held_some}
 use Rattle.hub_threads.specs.Held.{Held, contents}
-use Rattle.hub_threads.specs.Rows.{Decides, updates_in}
 use Rattle.hub_threads.specs.Threads.{IsThreads, thread_counts}
 use Rattle.hub_threads.specs.Weights.{IsBelow}
 use Rattle.hub_threads.proofs.DestroyedQueues.{drop_changes, dropped_below, dropped_restores, dropped_says, dropped_within, was_dropped}

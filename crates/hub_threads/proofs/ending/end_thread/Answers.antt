@@ -1,11 +1,9 @@
-use Rattle.std.proofs.Common.{◌≡◌, ◌≤◌, ℕ, ◌+◌, List, Ok, refl, sym, ap, subst, ◌∙◌, arith}
+use Rattle.std.proofs.Common.{◌≡◌, ◌≤◌, ℕ, ◌+◌, List, sym, ap, subst, ◌∙◌, arith}
 use Rattle.std.specs.List.{sum_by}
 use Rattle.pl_term.specs.Tree.{Tree}
 use Rattle.pl_model.specs.declared.threads.Status.{Status}
-use Rattle.atom_words.specs.Seats.{seen}
-use Rattle.atom_table.specs.Naming.{names}
-use Rattle.counted_terms.specs.CountedTerms.{naming, said}
-use Rattle.counted_terms.specs.Keeping.{keeper_view, kept, tally}
+use Rattle.counted_terms.specs.CountedTerms.{naming}
+use Rattle.counted_terms.specs.Keeping.{keeper_view, tally}
 use Rattle.counted_terms.specs.Sharing.{Restored}
 use Rattle.hub_threads.specs.Held.{Held, own_contents}
 use Rattle.hub_threads.specs.Refusals.{end_refusal}

@@ -1,4 +1,3 @@
-use Rattle.std.proofs.Common.{◌≡◌, refl, sym, ◌∙◌}
 use Rattle.pl_model.specs.Threads.{queue_named}
 use Rattle.hub_threads.proofs.FoundQueues.{no_queue_is}
 use Rattle.hub_threads.proofs.finding.found_queue.Goals as goal

@@ -1,7 +1,4 @@
-use Rattle.std.proofs.Common.{◌≡◌, ◌<◌, ℕ, ◌+◌, List, [], ◌∷◌, ◌++◌, get_or, length, take, sym, ◌∙◌, ap, subst, arith}
-use Rattle.std.specs.List.{sum_by}
-use Rattle.std.proofs.lemmas.List.{take_more}
-use Rattle.std.proofs.lemmas.List.Sums.{sum_by-take-le, sum_by_push}
+use Rattle.std.proofs.Common.{List, take, sym, ◌∙◌, subst}
 use Rattle.pl_term.specs.Tree.{Tree}
 use Rattle.counted_terms.specs.CountedTerms.{naming}
 use Rattle.counted_terms.specs.Keeping.{keeper_view, tally}

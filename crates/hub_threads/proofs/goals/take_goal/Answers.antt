@@ -1,9 +1,6 @@
-use Rattle.std.proofs.Common.{◌≡◌, ℕ, ◌+◌, Some, refl, sym, ap, subst, ◌∙◌}
+use Rattle.std.proofs.Common.{Some, refl, sym, ap, subst, ◌∙◌}
 use Rattle.pl_term.specs.Tree.{Tree}
-use Rattle.atom_words.specs.Seats.{seen}
-use Rattle.atom_table.specs.Naming.{names}
-use Rattle.counted_terms.specs.CountedTerms.{said}
-use Rattle.counted_terms.specs.Keeping.{keeper_view, kept}
+use Rattle.counted_terms.specs.Keeping.{keeper_view}
 use Rattle.counted_terms.specs.Sharing.{Restored}
 use Rattle.counted_terms.proofs.Sharing.{restored_same}
 use Rattle.hub_threads.specs.Held.{Held}

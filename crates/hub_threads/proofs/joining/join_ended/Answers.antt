@@ -1,4 +1,4 @@
-use Rattle.std.proofs.Common.{◌≡◌, ◌≤◌, length, arith, codes}
+use Rattle.std.proofs.Common.{arith, codes}
 use Rattle.pl_model.specs.ErrorTerms.{resource_error}
 use Rattle.pl_model.specs.Requests as requests
 use Rattle.atom_words.specs.Seats.{seen}

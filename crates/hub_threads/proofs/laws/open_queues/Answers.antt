@@ -1,4 +1,4 @@
-use Rattle.std.proofs.Common.{◌≡◌, ℕ, [], refl, sym, subst, ap, arith}
+use Rattle.std.proofs.Common.{[], sym, subst, ap, arith}
 use Rattle.std.proofs.lemmas.Result.{IfOk-weaker}
 use Rattle.pl_term.specs.Tree.{Tree}
 use Rattle.pl_model.specs.Threads.{opening_count}

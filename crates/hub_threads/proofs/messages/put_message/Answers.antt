@@ -1,4 +1,4 @@
-use Rattle.std.proofs.Common.{◌≡◌, ◌≤◌, ℕ, ◌+◌, sym, ap, subst, ◌∙◌, arith}
+use Rattle.std.proofs.Common.{◌≡◌, ◌+◌, sym, ap, subst, ◌∙◌, arith}
 use Rattle.pl_model.specs.Threads.{queue_named}
 use Rattle.pl_term.specs.Tree.{Tree}
 use Rattle.pl_term.specs.Variables.{rename}
@@ -6,7 +6,7 @@ use Rattle.atom_words.specs.Seats.{seen}
 use Rattle.atom_table.specs.Naming.{names}
 use Rattle.hub_threads.specs.Held.{Held}
 use Rattle.hub_threads.specs.declared.held.fault.QueueFault.{QueueFault}
-use Rattle.counted_terms.specs.CountedTerms.{naming, said}
+use Rattle.counted_terms.specs.CountedTerms.{naming}
 use Rattle.counted_terms.specs.Sharing.{Restored}
 use Rattle.counted_terms.proofs.Sharing.{restored_wider}
 use Rattle.counted_terms.specs.Keeping.{keeper_view, tally}

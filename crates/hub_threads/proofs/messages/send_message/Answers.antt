@@ -1,8 +1,6 @@
-use Rattle.std.proofs.Common.{◌≡◌, ◌≤◌, ◌<◌, ℕ, ◌+◌, List, [], ◌++◌, length, refl, sym, ap, subst, ◌∙◌, append-nil, arith, codes}
-use Rattle.std.specs.Prelude.{◌^◌}
+use Rattle.std.proofs.Common.{List, ◌++◌, refl, sym, ap, subst, ◌∙◌, append-nil, arith, codes}
 use Rattle.std.specs.List.{All}
 use Rattle.std.specs.Option.{IsSome}
-use Rattle.pl_term.specs.Tree.{Tree}
 use Rattle.pl_model.specs.ErrorTerms.{existence_error, resource_error}
 use Rattle.pl_model.specs.Requests as requests
 use Rattle.atom_api.specs.Names.{Names}

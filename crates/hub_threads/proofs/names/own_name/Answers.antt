@@ -1,7 +1,6 @@
-use Rattle.std.proofs.Common.{◌≡◌, ◌++◌, ℕ, List, Some, sym, ap, subst, ◌∙◌, append-nil}
+use Rattle.std.proofs.Common.{◌≡◌, ◌++◌, List, Some, sym, ap, subst, ◌∙◌, append-nil}
 use Rattle.std.specs.List.{All}
 use Rattle.std.specs.Option.{IsSome}
-use Rattle.pl_term.specs.Tree.{Chars}
 use Rattle.pl_model.specs.Requests as requests
 use Rattle.pl_model.specs.Threads.{alias_of}
 use Rattle.atom_words.specs.Seats.{seen}

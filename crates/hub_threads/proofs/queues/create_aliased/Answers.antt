@@ -1,4 +1,4 @@
-use Rattle.std.proofs.Common.{◌≡◌, ℕ, ◌+◌, refl, sym, ap, subst, ◌∙◌, codes}
+use Rattle.std.proofs.Common.{sym, ◌∙◌, codes}
 use Rattle.std.specs.Prelude.{Some}
 use Rattle.pl_term.specs.Tree.{atom}
 use Rattle.pl_model.specs.ErrorTerms.{permission_error}

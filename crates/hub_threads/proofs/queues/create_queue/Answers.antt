@@ -1,7 +1,5 @@
-use Rattle.std.proofs.Common.{◌≡◌, ◌++◌, ℕ, List, Option, Some, None, sym, ap, subst, ◌∙◌, append-nil}
+use Rattle.std.proofs.Common.{◌≡◌, ◌++◌, ℕ, List, Option, Some, sym, ap, subst, ◌∙◌, append-nil}
 use Rattle.std.specs.Prelude.{option_map}
-use Rattle.std.specs.List.{All}
-use Rattle.std.specs.Option.{IsSome}
 use Rattle.pl_term.specs.Tree.{Chars}
 use Rattle.pl_model.specs.Requests as requests
 use Rattle.atom_api.specs.Names.{Names}
@@ -9,7 +7,6 @@ use Rattle.atom_words.specs.Seats.{seen}
 use Rattle.atom_words.specs.declared.view.Refusal.{Refusal}
 use Rattle.atom_table.specs.Naming.{names}
 use Rattle.world_api.specs.Texts.{or_no_text, text_of}
-use Rattle.counted_terms.specs.Rows.{row_names, row_refusals}
 use Rattle.counted_terms.proofs.MadeTerms.{held_some}
 use Rattle.hub_threads.specs.Rows.{Decides}
 use Rattle.hub_threads.proofs.queues.create_queue.Goals as goal

@@ -1,6 +1,6 @@
-use Rattle.std.proofs.Common.{◌≡◌, ◌≤◌, ◌<◌, ℕ, ◌+◌, List, [], refl, sym, ap, subst, ◌∙◌, arith, codes}
-use Rattle.std.specs.Prelude.{◌^◌, None, length, pos}
-use Rattle.pl_term.specs.Tree.{Tree, int}
+use Rattle.std.proofs.Common.{◌+◌, refl, ◌∙◌, arith, codes}
+use Rattle.std.specs.Prelude.{None, length, pos}
+use Rattle.pl_term.specs.Tree.{int}
 use Rattle.pl_model.specs.ErrorTerms.{resource_error}
 use Rattle.pl_model.specs.History.{make_queue}
 use Rattle.pl_model.specs.Requests as requests

@@ -1,4 +1,4 @@
-use Rattle.std.proofs.Common.{◌≡◌, ◌∙◌, ℕ, ap, codes, sym, subst}
+use Rattle.std.proofs.Common.{◌∙◌, ap, sym, subst}
 use Rattle.std.specs.List.{All}
 use Rattle.std.specs.Option.{IsSome}
 use Rattle.std.proofs.lemmas.Result.{IfOk-weaker}
@@ -6,7 +6,6 @@ use Rattle.pl_model.specs.ErrorTerms as errors
 use Rattle.counted_terms.specs.CountedTerms.{said}
 use Rattle.counted_terms.specs.Rows.{row_names, row_refusals}
 use Rattle.counted_terms.specs.declared.row.Row.{Row}
-use Rattle.counted_terms.proofs.MadeTerms.{held_some}
 use Rattle.hub_threads.specs.Rows.{Refuses, updates_in}
 use Rattle.hub_threads.proofs.RefusedRows.{refusal_named, refusal_reads, refusal_says, refusal_silent}
 use Rattle.hub_threads.proofs.refusing.not_there.Goals as goal

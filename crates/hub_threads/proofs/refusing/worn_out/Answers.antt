@@ -1,9 +1,8 @@
-use Rattle.std.proofs.Common.{◌≡◌, ◌∙◌, ℕ, ap, codes, sym, subst}
+use Rattle.std.proofs.Common.{◌∙◌, ap, codes, sym, subst}
 use Rattle.std.specs.List.{All}
 use Rattle.std.specs.Option.{IsSome}
 use Rattle.std.proofs.lemmas.Result.{IfOk-weaker}
 use Rattle.pl_model.specs.ErrorTerms as errors
-use Rattle.counted_terms.specs.CountedTerms.{said}
 use Rattle.counted_terms.specs.Rows.{row_names, row_refusals}
 use Rattle.counted_terms.specs.declared.row.Row.{Row}
 use Rattle.counted_terms.proofs.MadeTerms.{held_some}

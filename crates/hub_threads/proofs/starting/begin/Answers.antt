@@ -1,5 +1,4 @@
-use Rattle.std.proofs.Common.{◌≡◌, ◌≤◌, ◌<◌, ℕ, ◌+◌, sym, ap, subst, ◌∙◌, arith}
-use Rattle.std.specs.Prelude.{◌^◌}
+use Rattle.std.proofs.Common.{◌≡◌, ℕ, ◌+◌, sym, ap, subst, ◌∙◌, arith}
 use Rattle.std.specs.List.{All}
 use Rattle.std.specs.Option.{IsSome}
 use Rattle.pl_term.specs.Tree.{Tree}
@@ -10,8 +9,8 @@ use Rattle.atom_words.specs.Seats.{seen}
 use Rattle.atom_table.specs.Naming.{names}
 use Rattle.term_store.specs.NumberedNames.{names_of}
 use Rattle.world_api.specs.Replies.{reply_names}
-use Rattle.counted_terms.specs.CountedTerms.{naming, said}
-use Rattle.counted_terms.specs.Keeping.{keeper_view, kept, tally}
+use Rattle.counted_terms.specs.CountedTerms.{naming}
+use Rattle.counted_terms.specs.Keeping.{keeper_view, tally}
 use Rattle.counted_terms.specs.Sharing.{Restored}
 use Rattle.counted_terms.proofs.Sharing.{restored_wider}
 use Rattle.hub_threads.specs.declared.held.fault.QueueFault.{QueueFault}

@@ -1,4 +1,4 @@
-use Rattle.std.proofs.Common.{◌≡◌, ◌∙◌, ap, sym, subst, codes}
+use Rattle.std.proofs.Common.{◌∙◌, ap, sym, subst, codes}
 use Rattle.std.specs.List.{All}
 use Rattle.std.specs.Option.{IsSome}
 use Rattle.std.proofs.lemmas.Result.{IfOk-weaker}

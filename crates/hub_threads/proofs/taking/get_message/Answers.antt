@@ -1,9 +1,8 @@
-use Rattle.std.proofs.Common.{◌≡◌, ◌≤◌, ◌<◌, ℕ, ◌+◌, List, [], ◌++◌, length, refl, sym, ap, subst, ◌∙◌, append-nil, arith, codes}
-use Rattle.std.specs.Prelude.{◌^◌, Some}
+use Rattle.std.proofs.Common.{◌≡◌, ◌+◌, List, ◌++◌, refl, sym, ap, subst, ◌∙◌, append-nil, arith, codes}
+use Rattle.std.specs.Prelude.{Some}
 use Rattle.std.specs.List.{All}
 use Rattle.std.specs.Option.{IsSome}
-use Rattle.pl_term.specs.Tree.{Tree}
-use Rattle.pl_model.specs.ErrorTerms.{existence_error, resource_error}
+use Rattle.pl_model.specs.ErrorTerms.{existence_error}
 use Rattle.pl_model.specs.Requests as requests
 use Rattle.pl_model.specs.Service.{name_of}
 use Rattle.atom_api.specs.Names.{Names}

@@ -1,4 +1,4 @@
-use Rattle.std.proofs.Common.{◌≡◌, ◌<◌, ◌≤◌, ℕ, ◌+◌, ◌++◌, List, Option, Some, refl, sym, ap, subst, ◌∙◌, arith, append-nil}
+use Rattle.std.proofs.Common.{◌<◌, ℕ, ◌++◌, List, Some, refl, sym, ap, subst, ◌∙◌, append-nil}
 use denote.Ref.{Bor}
 use Rattle.std.specs.Prelude.{option_map}
 use Rattle.std.specs.List.{All}
@@ -6,25 +6,20 @@ use Rattle.std.proofs.lemmas.Result.{IfOk-weaker}
 use Rattle.counted_terms.proofs.Sharing.{restored_same}
 use Rattle.std.specs.Option.{IsSome}
 use Rattle.pl_term.specs.Tree.{Tree}
-use Rattle.pl_model.specs.declared.threads.Message.{Message}
 use Rattle.pl_model.specs.Requests as requests
 use Rattle.pl_model.specs.Threads.{first_message, queue_named}
-use Rattle.pl_model.specs.Service.{matches}
 use Rattle.atom_api.specs.Names.{Names}
 use Rattle.atom_words.specs.Seats.{seen}
 use Rattle.atom_words.specs.declared.view.Refusal.{Refusal}
 use Rattle.atom_table.specs.Naming.{names}
-use Rattle.term_store.specs.NumberedNames.{names_of, unify_by_number}
-use Rattle.hub_threads.specs.Held.{Held, named_message}
-use Rattle.hub_threads.specs.Weights.{IsBelow}
-use Rattle.counted_terms.specs.CountedTerms.{IsCounted, naming, said}
-use Rattle.counted_terms.specs.Keeping.{HoldsOn, keeper_view, kept, tally}
+use Rattle.term_store.specs.NumberedNames.{unify_by_number}
+use Rattle.counted_terms.specs.CountedTerms.{naming, said}
+use Rattle.counted_terms.specs.Keeping.{keeper_view, kept}
 use Rattle.counted_terms.specs.Rows.{row_names, row_refusals}
-use Rattle.counted_terms.specs.Sharing.{Restored}
 use Rattle.counted_terms.specs.declared.row.Row.{Row}
 use Rattle.hub_threads.specs.Rows.{Decides, updates_in}
-use Rattle.hub_threads.specs.Threads.{IsThreads, thread_counts}
-use Rattle.hub_threads.proofs.Sending.{at_some, nothing_below, nothing_restores, numbered, some_of, stored_counted}
+use Rattle.hub_threads.specs.Threads.{thread_counts}
+use Rattle.hub_threads.proofs.Sending.{at_some, numbered, some_of, stored_counted}
 use Rattle.hub_threads.proofs.TakenMessages.{first_alike, lent_decides, lent_named, lent_reads, lent_silent, peek_none, peek_sees, same_stands, seen_stored, sees_none, sees_some}
 use Rattle.hub_threads.proofs.taking.lend_message.Goals as goal
 

@@ -1,9 +1,8 @@
-use Rattle.std.proofs.Common.{◌≡◌, ◌≤◌, ◌<◌, ℕ, ◌+◌, List, [], ◌++◌, length, refl, sym, ap, subst, ◌∙◌, append-nil, arith, codes}
+use Rattle.std.proofs.Common.{◌≡◌, List, ◌++◌, refl, sym, ap, subst, ◌∙◌, append-nil, codes}
 use Rattle.std.specs.Prelude.{Some}
 use Rattle.std.specs.List.{All}
 use Rattle.std.specs.Option.{IsSome}
-use Rattle.pl_term.specs.Tree.{Tree}
-use Rattle.pl_model.specs.ErrorTerms.{existence_error, resource_error}
+use Rattle.pl_model.specs.ErrorTerms.{existence_error}
 use Rattle.pl_model.specs.Requests as requests
 use Rattle.pl_model.specs.Service.{name_of}
 use Rattle.atom_api.specs.Names.{Names}
@@ -15,10 +14,9 @@ use Rattle.counted_terms.specs.CountedTerms.{said}
 use Rattle.counted_terms.specs.Keeping.{keeper_view, kept}
 use Rattle.counted_terms.specs.Rows.{row_names, row_refusals}
 use Rattle.counted_terms.proofs.Sharing.{restored_same}
-use Rattle.hub_threads.specs.Rows.{Decides, updates_in}
+use Rattle.hub_threads.specs.Rows.{Decides}
 use Rattle.hub_threads.specs.Threads.{thread_counts}
 use Rattle.hub_threads.proofs.RefusedRows.{peek_missing, refuses_decides}
-use Rattle.hub_threads.proofs.Sending.{nothing_below}
 use Rattle.hub_threads.proofs.taking.peek_message.Goals as goal
 
 -- OUT OF MEMORY

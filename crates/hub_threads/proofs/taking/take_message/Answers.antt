@@ -1,11 +1,9 @@
-use Rattle.std.proofs.Common.{◌≡◌, ◌<◌, ◌≤◌, ℕ, ◌+◌, ◌++◌, List, Option, Some, refl, sym, ap, subst, ◌∙◌, arith, append-nil}
+use Rattle.std.proofs.Common.{◌≡◌, ◌<◌, ℕ, ◌+◌, ◌++◌, List, Option, Some, sym, ap, subst, ◌∙◌, append-nil}
 use Rattle.std.specs.List.{All}
 use Rattle.std.specs.Option.{IsSome}
 use Rattle.pl_term.specs.Tree.{Tree}
-use Rattle.pl_model.specs.declared.threads.Message.{Message}
 use Rattle.pl_model.specs.Requests as requests
 use Rattle.pl_model.specs.Threads.{first_message, queue_named}
-use Rattle.pl_model.specs.Service.{matches}
 use Rattle.atom_api.specs.Names.{Names}
 use Rattle.atom_words.specs.Seats.{seen}
 use Rattle.atom_words.specs.declared.view.Refusal.{Refusal}
@@ -13,8 +11,8 @@ use Rattle.atom_table.specs.Naming.{names}
 use Rattle.term_store.specs.NumberedNames.{names_of, unify_by_number}
 use Rattle.hub_threads.specs.Held.{Held, Takes}
 use Rattle.hub_threads.specs.Weights.{IsBelow}
-use Rattle.counted_terms.specs.CountedTerms.{IsCounted, naming, said}
-use Rattle.counted_terms.specs.Keeping.{HoldsOn, keeper_view, kept, tally}
+use Rattle.counted_terms.specs.CountedTerms.{naming, said}
+use Rattle.counted_terms.specs.Keeping.{keeper_view, tally}
 use Rattle.counted_terms.specs.Rows.{row_names, row_refusals}
 use Rattle.counted_terms.specs.Sharing.{Restored}
 use Rattle.counted_terms.specs.declared.row.Row.{Row}
