@@ -43,7 +43,7 @@ pub fn evaluate(alloc: Global, store: &mut Store, expression: Place) -> Result<R
             Ok(row)
         }
         Err(fault) => {
-            let row = refused(store, fault, fixed::IS)?;
+            let row = refused(store, fault, fixed::IS, 2)?;
             Ok(row)
         }
     }
@@ -73,7 +73,7 @@ pub fn compare_values(
             Ok(row)
         }
         Err(fault) => {
-            let row = refused(store, fault, predicate_name(comparison))?;
+            let row = refused(store, fault, predicate_name(comparison), 2)?;
             Ok(row)
         }
     }
@@ -100,7 +100,7 @@ fn compare_with(
             Ok(row)
         }
         Err(fault) => {
-            let row = refused(store, fault, predicate_name(comparison))?;
+            let row = refused(store, fault, predicate_name(comparison), 2)?;
             Ok(row)
         }
     }

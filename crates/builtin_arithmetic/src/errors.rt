@@ -17,83 +17,89 @@ use pl_model::evaluables::OpFault;
 use pl_term::Memory;
 use term_store::{Place, Store};
 
-/// The predicate of two arguments with this name raises the error of this fault. The only error is out of memory.
-pub fn refused(store: &mut Store, fault: ValueFault, name: Atom) -> Result<Row, Memory>
+/// The predicate with this name and number of arguments raises the error of this fault. The only error is out of memory.
+pub fn refused(store: &mut Store, fault: ValueFault, name: Atom, arity: u32) -> Result<Row, Memory>
     ensures row { IfOk result (λ r. (m : Names) (p : Chars) (next : ℕ) (ts : Trees) → FixedStand m → IsFaultHeld m fault → fixed name ≡ Some p
-        → IsRow store.old next ts (thrown (error_ball (value_error (fault_of m fault)) (proc p 2))) m store.new r) }
+        → IsRow store.old next ts (thrown (error_ball (value_error (fault_of m fault)) (proc p arity))) m store.new r) }
     ensures refuses { IfOk result (λ r. row_refusals r ≡ []) }
     ensures single { IfOk result IsSingle }
 {
     match fault {
         ValueFault::Unbound => {
-            let row = raised(store, fixed::INSTANTIATION_ERROR, name, 2)?;
+            let row = raised(store, fixed::INSTANTIATION_ERROR, name, arity)?;
             Ok(row)
         }
-        ValueFault::NoEvaluable(functor, arity) => {
-            let row = no_evaluable(store, functor, arity, name)?;
+        ValueFault::NoEvaluable(functor, count) => {
+            let row = no_evaluable(store, functor, count, name, arity)?;
             Ok(row)
         }
         ValueFault::Operation(fault) => {
-            let row = no_value(store, fault, name)?;
+            let row = no_value(store, fault, name, arity)?;
             Ok(row)
         }
     }
 }
 
 /// It raises the error of an operation that has no value (ISO 7.12.2 b, g). The only error is out of memory.
-fn no_value(store: &mut Store, fault: OpFault, name: Atom) -> Result<Row, Memory>
+fn no_value(store: &mut Store, fault: OpFault, name: Atom, arity: u32) -> Result<Row, Memory>
     ensures row { IfOk result (λ r. (m : Names) (p : Chars) (next : ℕ) (ts : Trees) → FixedStand m → fixed name ≡ Some p
-        → IsRow store.old next ts (thrown (error_ball (operation_error fault) (proc p 2))) m store.new r) }
+        → IsRow store.old next ts (thrown (error_ball (operation_error fault) (proc p arity))) m store.new r) }
     ensures refuses { IfOk result (λ r. row_refusals r ≡ []) }
     ensures single { IfOk result IsSingle }
 {
     match fault {
         OpFault::ZeroDivisor => {
-            let row = evaluation_error(store, fixed::ZERO_DIVISOR, name)?;
+            let row = evaluation_error(store, fixed::ZERO_DIVISOR, name, arity)?;
             Ok(row)
         }
         OpFault::IntOverflow => {
-            let row = evaluation_error(store, fixed::INT_OVERFLOW, name)?;
+            let row = evaluation_error(store, fixed::INT_OVERFLOW, name, arity)?;
             Ok(row)
         }
         OpFault::Undefined => {
-            let row = evaluation_error(store, fixed::UNDEFINED, name)?;
+            let row = evaluation_error(store, fixed::UNDEFINED, name, arity)?;
             Ok(row)
         }
         OpFault::NeedsFloat { base } => {
             let base = Place::integer(base);
-            let row = refused_for(store, fixed::TYPE_ERROR, fixed::FLOAT, base, name, 2)?;
+            let row = refused_for(store, fixed::TYPE_ERROR, fixed::FLOAT, base, name, arity)?;
             Ok(row)
         }
     }
 }
 
 /// It raises the evaluation error for this reason (ISO 7.12.2 g). The only error is out of memory.
-fn evaluation_error(store: &mut Store, reason: Atom, name: Atom) -> Result<Row, Memory>
+fn evaluation_error(store: &mut Store, reason: Atom, name: Atom, arity: u32) -> Result<Row, Memory>
     ensures row { IfOk result (λ r. (m : Names) (x p : Chars) (next : ℕ) (ts : Trees) → FixedStand m → fixed reason ≡ Some x → fixed name ≡ Some p
-        → IsRow store.old next ts (thrown (error_ball (error_of x) (proc p 2))) m store.new r) }
+        → IsRow store.old next ts (thrown (error_ball (error_of x) (proc p arity))) m store.new r) }
     ensures refuses { IfOk result (λ r. row_refusals r ≡ []) }
     ensures single { IfOk result IsSingle }
 {
-    let row = refused_with(store, fixed::EVALUATION_ERROR, reason, name, 2)?;
+    let row = refused_with(store, fixed::EVALUATION_ERROR, reason, name, arity)?;
     Ok(row)
 }
 
-/// It raises the type error of a functor that is no evaluable, with the indicator of that (ISO 7.12.2 b). The only error is
-/// Out of memory.
-fn no_evaluable(store: &mut Store, functor: Atom, arity: usize, name: Atom) -> Result<Row, Memory>
-    ensures row { IfOk result (λ r. (m : Names) (p : Chars) (next : ℕ) (ts : Trees) → FixedStand m → IsFaultHeld m (ValueFault.NoEvaluable functor arity)
+/// It raises the type error of a functor that is no evaluable, with the indicator of that (ISO 7.12.2 b). The only error
+/// is out of memory.
+fn no_evaluable(
+    store: &mut Store,
+    functor: Atom,
+    count: usize,
+    name: Atom,
+    arity: u32,
+) -> Result<Row, Memory>
+    ensures row { IfOk result (λ r. (m : Names) (p : Chars) (next : ℕ) (ts : Trees) → FixedStand m → IsFaultHeld m (ValueFault.NoEvaluable functor count)
         → fixed name ≡ Some p
-        → IsRow store.old next ts (thrown (error_ball (value_error (fault_of m (ValueFault.NoEvaluable functor arity))) (proc p 2))) m store.new r) }
+        → IsRow store.old next ts (thrown (error_ball (value_error (fault_of m (ValueFault.NoEvaluable functor count))) (proc p arity))) m store.new r) }
     ensures refuses { IfOk result (λ r. row_refusals r ≡ []) }
     ensures single { IfOk result IsSingle }
 {
-    let Ok(count) = i64::try_from(arity) else {
+    let Ok(number) = i64::try_from(count) else {
         return Err(Memory);
     };
     let indicator = store.make_compound(
         fixed::SLASH,
-        &[Place::atom(functor), Place::integer(count)],
+        &[Place::atom(functor), Place::integer(number)],
     )?;
     let row = refused_for(
         store,
@@ -101,7 +107,7 @@ fn no_evaluable(store: &mut Store, functor: Atom, arity: usize, name: Atom) -> R
         fixed::EVALUABLE,
         indicator,
         name,
-        2,
+        arity,
     )?;
     Ok(row)
 }

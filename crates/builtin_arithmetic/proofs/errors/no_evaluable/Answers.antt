@@ -24,14 +24,14 @@ returns-clause-row c m p next ts stands held known =
     let w = c.in_ok-indicator.indicator in
     let made = c.in_ok-indicator.ensures in
     let a = c.args.functor in
-    let k = c.args.arity in
-    let counted : to_z w64 (of_z w64 c.in-Ok.count) ≡ pos k = ap (λ z. to_z w64 (of_z w64 z)) c.in-Ok.ensures.1 ∙ to_z-of_z w64 (pos k) c.in-Ok.ensures.0 in
+    let k = c.args.count in
+    let counted : to_z w64 (of_z w64 c.in-Ok.number) ≡ pos k = ap (λ z. to_z w64 (of_z w64 z)) c.in-Ok.ensures.1 ∙ to_z-of_z w64 (pos k) c.in-Ok.ensures.0 in
     let name = (c.atom.ensures s).1 in
     let number = (c.integer.ensures s).1 ∙ ap int counted in
     let b = made.made.means in
     row_since s t u (makes_one s t (compound (atom_name 9) (map (term_at s) (c.atom.result ∷ (c.integer.result ∷ [])))) w made.made made.numbers made.adds) next ts
     _ m c.in_ok-row.row c.in_ok-row.ensures.refuses
-    (subst (λ e. IsRow t next ts (thrown (error_ball e (proc p 2))) m u c.in_ok-row.row)
+    (subst (λ e. IsRow t next ts (thrown (error_ball e (proc p c.args.arity))) m u c.in_ok-row.row)
     (indicator_reads m stands s t w c.atom.result c.integer.result a k name number b)
     (c.in_ok-row.ensures.row m (codes "type_error") (codes "evaluable") p next ts stands
     (indicator_held m stands s t w c.atom.result c.integer.result a k name number b held) type_is evaluable_is known))
