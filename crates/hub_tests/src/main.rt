@@ -12,6 +12,8 @@ ghost use Rattle.counted_terms.specs.CountedTerms.{naming, said};
 mod plain_queues;
 #[cfg(test)]
 mod queue_rows;
+#[cfg(test)]
+mod shared_visits;
 
 use anyhow::{Context, Result, bail};
 use atom_api::Atoms;
