@@ -1,5 +1,5 @@
 -- A row of clauses, with the update that was picked before it.
-use Rattle.std.proofs.Common.{◌≡◌, ◌≢◌, ◌≤◌, ◌<◌, ℕ, List, [], ◌++◌, false, length, Option, None, refl, sym, ap, subst, ◌∙◌, arith, append-nil}
+use Rattle.std.proofs.Common.{◌≡◌, ◌≢◌, ◌≤◌, ◌<◌, ℕ, List, [], ◌++◌, false, length, Option, Some, None, refl, sym, ap, subst, ◌∙◌, arith, append-nil}
 use Rattle.std.specs.Prelude.{IsSome, ◌^◌}
 use Rattle.std.specs.List.{All}
 use Rattle.atomic_table.specs.Seated.{TableId}
@@ -20,6 +20,8 @@ use Rattle.term_store.specs.NumberedNames.{term_by}
 use Rattle.term_store.specs.declared.argument_key.ArgumentKey.{ArgumentKey}
 use Rattle.world_api.specs.declared.answer.Answer.{Answer}
 use Rattle.world_api.specs.declared.visit.Visit.{Visit}
+use Rattle.world_api.specs.Asked.{IsInAnswer}
+use Rattle.world_api.specs.Gains.{Gains}
 use Rattle.world_api.specs.Texts.{Holds, text_of}
 use Rattle.world_api.specs.declared.visit.Procedure.{Procedure}
 use Rattle.world_api.specs.Visits.{Asks, IsGoal, proc_named}
@@ -33,7 +35,7 @@ use Rattle.hub_database.specs.Database.{IsDatabase, IsUpTo, clause_counts}
 use Rattle.hub_database.specs.Rows.{Decides as DatabaseDecides, IsQuiet, IsReply, IsReplyOrMade, IsSteady, Tells, generation_after, history_after}
 use Rattle.hub_database.proofs.Deciding.{steady_database}
 use Rattle.hub_threads.specs.Threads.{thread_counts}
-use Rattle.pl_hub.specs.Fronts.{IsOwn}
+use Rattle.pl_hub.specs.Fronts.{IsOwn, told_of}
 use Rattle.pl_hub.specs.Settling.{CanSettle, Meets, Sees, answer_of, front_after, hub_after}
 use Rattle.pl_hub.specs.State.{IsShared}
 use Rattle.pl_hub.specs.Visits.{IsVisit}
@@ -105,6 +107,24 @@ module _ (goals e : ℕ) (j : Kind) (f now : FrontState) (is : f ≡ now) (v w :
       (told_asked goals e (text_of (names w)) (text_of (names v)) any f.seen visit row one)
       (λ q asks. told_meets goals e (text_of (names w)) q f.seen j row (says q asks))
       named holds refusals (none_asked _ v w asked))
+
+  pub told_visit_asking : (table : TableId) → IsPlainVisit (text_of (names v)) (text_of (names w)) visit
+      → (any : Request) → Tells goals e (text_of (names w)) any f.seen row
+      → ((q : Request) → Asks term_by clause_key (text_of (names v)) visit q → Tells goals e (text_of (names w)) q f.seen row)
+      → (front : FrontState) → IsOwn table e front
+      → (a : Answer Tree) (g new : FrontState) → a ≡ answer_of row (length f.seen) → g ≡ front_after e j row f.seen front → new ≡ hub_after e j row f
+      → Sees f.seen front row
+      → All (λ x. IsSome (names w x)) (row_names row)
+      → Holds (names v) (names w)
+      → w.refusals ≡ v.refusals ++ row_refusals row
+      → Gains (IsInAnswer term_by clause_key (text_of (names v)) visit (told_of goals front)) (Some (requests v)) (Some (requests w))
+      → IsVisit table goals e v w visit a front g now new
+  told_visit_asking table plain any one says front own a g new a_is g_is new_is sees named holds refusals asked =
+      subst (λ (x : FrontState). IsVisit table goals e v w visit a front g x new) is
+      (is_visit table goals e v w visit plain front own f j row a g new a_is g_is new_is (told_can goals e (text_of (names w)) any f.seen j row one) sees
+      (told_asked goals e (text_of (names w)) (text_of (names v)) any f.seen visit row one)
+      (λ q asks. told_meets goals e (text_of (names w)) q f.seen j row (says q asks))
+      named holds refusals asked)
 
 -- A ROW THAT CHANGES CLAUSES is a visit, for the one request that the visit stands for
 module _ (goals e : ℕ) (j kind : Kind) (picked : j ≡ kind) (plain_kind : is_end kind ≡ false) (of : IsOfClauses kind) (f now : FrontState) (is : f ≡ now) (q : Request) (w l : View) (db : HeldClauses Tree) (row : Row)

@@ -10,3 +10,4 @@ pub mod ClauseRows
 pub mod NextClauses
 pub mod Added
 pub mod Opening
+pub mod AskedTexts

@@ -1,5 +1,5 @@
 -- A row of queues and threads, with the update that was picked before it.
-use Rattle.std.proofs.Common.{◌≡◌, ℕ, suc, ◌+◌, ◌++◌, length, Option, refl, sym, ap, subst, ◌∙◌, arith}
+use Rattle.std.proofs.Common.{◌≡◌, ℕ, suc, ◌+◌, ◌++◌, length, Option, Some, refl, sym, ap, subst, ◌∙◌, arith}
 use Rattle.std.specs.Prelude.{IsSome}
 use Rattle.std.specs.List.{All}
 use Rattle.atomic_table.specs.Seated.{TableId}
@@ -20,6 +20,8 @@ use Rattle.term_store.specs.NumberedNames.{term_by}
 use Rattle.term_store.specs.declared.argument_key.ArgumentKey.{ArgumentKey}
 use Rattle.world_api.specs.declared.answer.Answer.{Answer}
 use Rattle.world_api.specs.declared.visit.Visit.{Visit}
+use Rattle.world_api.specs.Asked.{IsInAnswer}
+use Rattle.world_api.specs.Gains.{Gains}
 use Rattle.world_api.specs.Texts.{Holds, text_of}
 use Rattle.world_api.specs.Visits.{Asks}
 use Rattle.counted_terms.specs.CountedTerms.{naming}
@@ -32,7 +34,7 @@ use Rattle.counted_terms.proofs.Sharing.{restored_as, restored_same, restored_wi
 use Rattle.hub_threads.specs.Rows.{Decides as ThreadsDecide, updates_in}
 use Rattle.hub_threads.specs.Threads.{thread_counts}
 use Rattle.hub_database.specs.Database.{clause_counts}
-use Rattle.pl_hub.specs.Fronts.{IsOwn}
+use Rattle.pl_hub.specs.Fronts.{IsOwn, told_of}
 use Rattle.pl_hub.specs.Settling.{CanSettle, Meets, Sees, answer_of, front_after, hub_after, kind_of}
 use Rattle.pl_hub.specs.State.{IsShared}
 use Rattle.pl_hub.specs.Visits.{IsVisit}
@@ -151,6 +153,24 @@ module _ (goals e : ℕ) (j : Kind) (f now : FrontState) (is : f ≡ now) (q : R
       (is_visit_of table goals e v w visit plain front own f j row q asks only a g new a_is g_is new_is (reads_can j f.seen row reads) sees
       (reads_meet l (names w) e q r d goals f.seen j row reads says)
       named holds refusals (none_asked _ v w asked))
+
+  pub reads_visit_asking : (table : TableId) (v : View) (visit : Visit Tree ArgumentKey)
+      → IsPlainVisit (text_of (names v)) (text_of (names w)) visit
+      → Asks term_by clause_key (text_of (names v)) visit q
+      → ((z : Request) → Asks term_by clause_key (text_of (names v)) visit z → z ≡ q)
+      → (front : FrontState) → IsOwn table e front
+      → (a : Answer Tree) (g new : FrontState) → a ≡ answer_of row (length f.seen) → g ≡ front_after e j row f.seen front → new ≡ hub_after e j row f
+      → Sees f.seen front row
+      → All (λ x. IsSome (names w x)) (row_names row)
+      → Holds (names v) (names w)
+      → w.refusals ≡ v.refusals ++ row_refusals row
+      → Gains (IsInAnswer term_by clause_key (text_of (names v)) visit (told_of goals front)) (Some (requests v)) (Some (requests w))
+      → IsVisit table goals e v w visit a front g now new
+  reads_visit_asking table v visit plain asks only front own a g new a_is g_is new_is sees named holds refusals asked =
+      subst (λ (x : FrontState). IsVisit table goals e v w visit a front g x new) is
+      (is_visit_of table goals e v w visit plain front own f j row q asks only a g new a_is g_is new_is (reads_can j f.seen row reads) sees
+      (reads_meet l (names w) e q r d goals f.seen j row reads says)
+      named holds refusals asked)
 
   pub reads_shared : {atoms : TableId} {size : Size} {table : TableId} {keeper new_keeper : Option Keeper} {db : HeldClauses Tree} {p : HeldThreads Tree} {c : ℕ}
       → IsShared atoms size table goals f keeper db p c → KeeperAt atoms size new_keeper → l ≡ keeper_view new_keeper

@@ -9,9 +9,10 @@ ghost use Rattle.term_store.specs.ArgumentKeys.{key_atoms};
 ghost use Rattle.term_store.specs.NumberedNames.{names_of};
 ghost use Rattle.world_api.specs.Texts.{text_of};
 ghost use Rattle.world_api.specs.Visits.{clause_in, proc_named, visit_names};
-ghost use Rattle.world_api.specs.declared.visit.Visit.TheVariants.{Abolish, AllFlags, CollectAtoms, CollectClauses, Erase, Look, MakeDynamic, PutFlag, ReadOperators};
+ghost use Rattle.world_api.specs.declared.visit.Visit.TheVariants.{Abolish, AllFlags, AllProcedures, CollectAtoms, CollectClauses, Erase, Look, MakeDynamic, PutFlag, PutOperators, ReadOperators};
 ghost use Rattle.counted_terms.specs.CountedTerms.{said};
 ghost use Rattle.hub_database.specs.Adding.{adding_kind};
+ghost use Rattle.hub_database.specs.Operators.{operators_put};
 ghost use Rattle.pl_hub.specs.Adding.{adding_visit};
 ghost use Rattle.pl_hub.specs.Fronts.{IsOwn};
 ghost use Rattle.pl_hub.specs.Visits.{IsVisit};
@@ -24,6 +25,7 @@ use atom_table::TableAtoms;
 use counted_terms::CountedTerm;
 use hub_database::Adding;
 use pl_history::{Front, History};
+use pl_model::operators::Kind;
 use std::alloc::Global;
 use std::marker::Brand;
 use term_store::Stored;
@@ -312,6 +314,78 @@ impl<K: Naming> Shared<K> {
         ensures { IsVisit K.history K.goals engine (seen atoms.now.seat) (seen atoms.now.seat) AllFlags result front.old front.new self.old self.new }
     {
         let row = hub_database::all_flags(alloc, &self.db, atoms);
+        settle::<Brand>(history, &mut self.front, front, engine, row)
+    }
+
+    /// op/3 (ISO 8.14.3).
+    pub fn put_operators(
+        &mut self,
+        alloc: Global,
+        history: &History,
+        atoms: &mut TableAtoms<K>,
+        front: &mut Front,
+        engine: u64,
+        priority: u16,
+        kind: Kind,
+        operators: Vec<Atom>,
+    ) -> Answer<Stored>
+        requires history { history.now ≡ K.history }
+        requires front { IsOwn K.history engine front.old }
+        requires held { All (λ a. IsSome (names (seen atoms.old.seat) a)) (visit_names names_of key_atoms (PutOperators priority kind operators)) }
+        ensures { IsVisit K.history K.goals engine (seen atoms.old.seat) (seen atoms.new.seat) (PutOperators priority kind operators) result front.old front.new self.old self.new }
+    {
+        self.put_operators_by::<Brand>(
+            alloc, history, atoms, front, engine, priority, kind, operators,
+        )
+    }
+
+    // The same, with the update picked.
+    fn put_operators_by<N: Updates>(
+        &mut self,
+        alloc: Global,
+        history: &History,
+        atoms: &mut TableAtoms<K>,
+        front: &mut Front,
+        engine: u64,
+        priority: u16,
+        kind: Kind,
+        operators: Vec<Atom>,
+    ) -> Answer<Stored>
+        requires kind { N.kind ≡ operators_put priority kind (map (text_of (names (seen atoms.old.seat))) operators.items) }
+        requires history { history.now ≡ K.history }
+        requires front { IsOwn K.history engine front.old }
+        requires held { All (λ a. IsSome (names (seen atoms.old.seat) a)) (visit_names names_of key_atoms (PutOperators priority kind operators)) }
+        ensures { IsVisit K.history K.goals engine (seen atoms.old.seat) (seen atoms.new.seat) (PutOperators priority kind operators) result front.old front.new self.old self.new }
+    {
+        self.queues.is_sound();
+        let generation = self.front.generation();
+        let row = hub_database::put_operators(
+            alloc,
+            &mut self.db,
+            atoms,
+            priority,
+            kind,
+            operators.as_slice(),
+            generation,
+        );
+        settle::<N>(history, &mut self.front, front, engine, row)
+    }
+
+    /// current_predicate/1: the procedures with clauses (ISO 8.8.2).
+    pub fn all_procedures(
+        &mut self,
+        alloc: Global,
+        history: &History,
+        atoms: &mut TableAtoms<K>,
+        front: &mut Front,
+        engine: u64,
+    ) -> Answer<Stored>
+        requires history { history.now ≡ K.history }
+        requires front { IsOwn K.history engine front.old }
+        ensures { IsVisit K.history K.goals engine (seen atoms.old.seat) (seen atoms.new.seat) AllProcedures result front.old front.new self.old self.new }
+    {
+        let generation = history.tell(&mut self.front, front);
+        let row = hub_database::all_procedures(alloc, &self.db, atoms, generation);
         settle::<Brand>(history, &mut self.front, front, engine, row)
     }
 }

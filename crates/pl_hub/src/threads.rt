@@ -8,7 +8,7 @@ ghost use Rattle.term_store.specs.ArgumentKeys.{key_atoms};
 ghost use Rattle.term_store.specs.NumberedNames.{names_of};
 ghost use Rattle.world_api.specs.Texts.{text_of};
 ghost use Rattle.world_api.specs.Visits.{visit_names};
-ghost use Rattle.world_api.specs.declared.visit.Visit.TheVariants.{CreateQueue, DestroyQueue, GetMessage, JoinThread, PeekMessage, SendMessage};
+ghost use Rattle.world_api.specs.declared.visit.Visit.TheVariants.{CreateQueue, DestroyQueue, GetMessage, JoinThread, OwnName, PeekMessage, SendMessage};
 ghost use Rattle.counted_terms.specs.CountedTerms.{said};
 ghost use Rattle.pl_hub.specs.Fronts.{IsOwn};
 ghost use Rattle.pl_hub.specs.Settling.{kind_of};
@@ -289,5 +289,22 @@ impl<K: Naming> Shared<K> {
             thread,
         );
         settle::<N>(history, &mut self.front, front, engine, row)
+    }
+
+    /// thread_self/1: the alias of the engine, or its number.
+    pub fn own_name(
+        &mut self,
+        history: &History,
+        atoms: &mut TableAtoms<K>,
+        front: &mut Front,
+        engine: u64,
+    ) -> Answer<Stored>
+        requires history { history.now ≡ K.history }
+        requires front { IsOwn K.history engine front.old }
+        ensures { IsVisit K.history K.goals engine (seen atoms.old.seat) (seen atoms.new.seat) OwnName result front.old front.new self.old self.new }
+    {
+        history.tell(&mut self.front, front);
+        let row = hub_threads::own_name(&self.queues, atoms, engine);
+        settle::<Brand>(history, &mut self.front, front, engine, row)
     }
 }

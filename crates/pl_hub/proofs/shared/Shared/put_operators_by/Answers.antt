@@ -1,0 +1,63 @@
+use Rattle.std.proofs.Common.{ℕ, List, refl, sym, ap, subst, ◌∙◌, map}
+use Rattle.std.specs.Prelude.{IsSome}
+use Rattle.std.specs.List.{All}
+use Rattle.hub_database.specs.Operators.{operators_put}
+use Rattle.pl_model.specs.Requests as requests
+use Rattle.atom_words.specs.Seats.{seen}
+use Rattle.atom_table.specs.Naming.{names}
+use Rattle.world_api.specs.Texts.{text_of}
+use Rattle.world_api.specs.declared.visit.Visit.TheVariants.{PutOperators}
+use Rattle.counted_terms.specs.Keeping.{keeper_view}
+use Rattle.hub_database.specs.Database.{clause_counts}
+use Rattle.hub_database.specs.Rows.{generation_after}
+use Rattle.hub_database.proofs.Deciding.{steady_same}
+use Rattle.pl_hub.proofs.ClauseRows.{changes_can, changes_shared, changes_visit, generation_le, upto_of}
+use Rattle.pl_hub.proofs.States.{steady_restores}
+use Rattle.pl_hub.proofs.shared.Shared.put_operators_by.Goals as goal
+
+pub put_operators-row-requires-clause-upto : goal.put_operators-row-requires-clause-upto
+put_operators-row-requires-clause-upto g c = upto_of c.self.invariant c.generation-generation.result c.generation-generation.ensures
+
+pub put_operators-row-requires-clause-held : goal.put_operators-row-requires-clause-held
+put_operators-row-requires-clause-held g c =
+    subst (λ (l : List ℕ). All (λ a. IsSome (names (seen c.args.atoms.now.seat) a)) l) (sym c.as_slice.ensures.value) c.requires.held
+
+pub settle-requires-clause-can : goal.settle-requires-clause-can
+settle-requires-clause-can g c =
+    let f = c.self.inside.front in
+    let n = names (seen c.args.atoms.now.seat) in
+    let q = requests.put_operators c.args.priority c.args.kind (map (text_of n) c.as_slice.result.now) in
+    let k = operators_put c.args.priority c.args.kind (map (text_of n) c.as_slice.result.now) in
+    let l = keeper_view c.self.inside.keeper in
+    changes_can g.K.Naming.goals c.args.engine g.N.Updates.kind k (c.requires.kind ∙ ap (λ (l : List ℕ). operators_put c.args.priority c.args.kind (map (text_of n) l)) (sym c.as_slice.ensures.value)) refl tt f c.args.self.now c.self.view_is q
+    (seen c.put_operators-row.new.atoms.seat) l c.put_operators-row.new.db c.put_operators-row.result
+    (c.put_operators-row.ensures.says l g.K.Naming.goals c.args.engine f.seen (sym c.generation-generation.ensures) c.self.invariant.database)
+
+pub invariant_of-self : goal.invariant_of-self
+invariant_of-self g c =
+    let f = c.self.inside.front in
+    let n = names (seen c.args.atoms.now.seat) in
+    let q = requests.put_operators c.args.priority c.args.kind (map (text_of n) c.as_slice.result.now) in
+    let k = operators_put c.args.priority c.args.kind (map (text_of n) c.as_slice.result.now) in
+    let l = keeper_view c.self.inside.keeper in
+    changes_shared g.K.Naming.goals c.args.engine g.N.Updates.kind k (c.requires.kind ∙ ap (λ (l : List ℕ). operators_put c.args.priority c.args.kind (map (text_of n) l)) (sym c.as_slice.ensures.value)) refl tt f c.args.self.now c.self.view_is q
+    (seen c.put_operators-row.new.atoms.seat) l c.put_operators-row.new.db c.put_operators-row.result
+    (c.put_operators-row.ensures.says l g.K.Naming.goals c.args.engine f.seen (sym c.generation-generation.ensures) c.self.invariant.database)
+    c.self.invariant c.is_sound.ensures c.self.invariant.keeper_is refl c.generation-generation.result c.generation-generation.ensures
+    (steady_restores (clause_counts c.self.inside.db) (clause_counts c.put_operators-row.new.db) l l c.generation-generation.result (generation_after c.put_operators-row.result c.generation-generation.result) (steady_same l) c.put_operators-row.ensures.weighs (generation_le c.put_operators-row.result c.generation-generation.result))
+    c.put_operators-row.ensures.upto c.put_operators-row.ensures.floor c.settle.new.hub c.settle.ensures.hub
+
+pub returns : goal.returns
+returns g c =
+    let f = c.self.inside.front in
+    let n = names (seen c.args.atoms.now.seat) in
+    let q = requests.put_operators c.args.priority c.args.kind (map (text_of n) c.as_slice.result.now) in
+    let k = operators_put c.args.priority c.args.kind (map (text_of n) c.as_slice.result.now) in
+    let l = keeper_view c.self.inside.keeper in
+    changes_visit g.K.Naming.goals c.args.engine g.N.Updates.kind k (c.requires.kind ∙ ap (λ (l : List ℕ). operators_put c.args.priority c.args.kind (map (text_of n) l)) (sym c.as_slice.ensures.value)) refl tt f c.args.self.now c.self.view_is q
+    (seen c.put_operators-row.new.atoms.seat) l c.put_operators-row.new.db c.put_operators-row.result
+    (c.put_operators-row.ensures.says l g.K.Naming.goals c.args.engine f.seen (sym c.generation-generation.ensures) c.self.invariant.database)
+    g.K.Naming.history (seen c.args.atoms.now.seat) (PutOperators c.args.priority c.args.kind c.args.operators) (λ r m old before new x. x)
+    (ap (λ (l : List ℕ). requests.put_operators c.args.priority c.args.kind (map (text_of n) l)) c.as_slice.ensures.value) (λ z e. e ∙ ap (λ (l : List ℕ). requests.put_operators c.args.priority c.args.kind (map (text_of n) l)) (sym c.as_slice.ensures.value))
+    c.args.front.now c.requires.front c.settle.result c.settle.new.front c.settle.new.hub c.settle.ensures.answer c.settle.ensures.front c.settle.ensures.hub
+    c.settle.ensures.sees c.put_operators-row.ensures.named c.put_operators-row.ensures.quiet c.put_operators-row.ensures.unrefused
