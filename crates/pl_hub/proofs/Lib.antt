@@ -11,3 +11,4 @@ pub mod NextClauses
 pub mod Added
 pub mod Opening
 pub mod AskedTexts
+pub mod SameVisits

@@ -1,5 +1,5 @@
 //! Visits to queues and threads.
-ghost use Rattle.std.specs.Prelude.{◌≡◌, None, Some, IsSome, option_map};
+ghost use Rattle.std.specs.Prelude.{◌≡◌, None, Some, IsSome, map, option_map};
 ghost use Rattle.std.specs.List.{All};
 ghost use Rattle.pl_model.specs.Requests as requests;
 ghost use Rattle.atom_words.specs.Seats.{seen};
@@ -8,7 +8,7 @@ ghost use Rattle.term_store.specs.ArgumentKeys.{key_atoms};
 ghost use Rattle.term_store.specs.NumberedNames.{names_of};
 ghost use Rattle.world_api.specs.Texts.{text_of};
 ghost use Rattle.world_api.specs.Visits.{visit_names};
-ghost use Rattle.world_api.specs.declared.visit.Visit.TheVariants.{CreateQueue, DestroyQueue, GetMessage, JoinThread, OwnName, PeekMessage, SendMessage};
+ghost use Rattle.world_api.specs.declared.visit.Visit.TheVariants.{CreateQueue, CreateThread, DestroyQueue, GetMessage, JoinThread, OwnName, PeekMessage, SendMessage};
 ghost use Rattle.counted_terms.specs.CountedTerms.{said};
 ghost use Rattle.pl_hub.specs.Fronts.{IsOwn};
 ghost use Rattle.pl_hub.specs.Settling.{kind_of};
@@ -19,8 +19,9 @@ use crate::settling::{Updates, settle};
 use crate::shared::Shared;
 use atom_api::Atom;
 use atom_table::TableAtoms;
-use counted_terms::CountedTerm;
+use counted_terms::{CountedTerm, int_term};
 use pl_history::{Front, History};
+use pl_term::Memory;
 use std::alloc::Global;
 use std::marker::Brand;
 use term_store::Stored;
@@ -306,5 +307,100 @@ impl<K: Naming> Shared<K> {
         history.tell(&mut self.front, front);
         let row = hub_threads::own_name(&self.queues, atoms, engine);
         settle::<Brand>(history, &mut self.front, front, engine, row)
+    }
+
+    /// thread_create/2,3: the aliases of its options up to the first one that is wrong, and the error of that one.
+    pub fn create_thread(
+        &mut self,
+        alloc: Global,
+        history: &History,
+        atoms: &mut TableAtoms<K>,
+        front: &mut Front,
+        engine: u64,
+        goal: CountedTerm,
+        aliases: Vec<Atom>,
+        error: Option<Stored>,
+    ) -> Answer<Stored>
+        requires history { history.now ≡ K.history }
+        requires front { IsOwn K.history engine front.old }
+        requires held { All (λ a. IsSome (names (seen atoms.old.seat) a)) (visit_names names_of key_atoms (CreateThread goal aliases error)) }
+        ensures { IsVisit K.history K.goals engine (seen atoms.old.seat) (seen atoms.new.seat) (CreateThread goal aliases error) result front.old front.new self.old self.new }
+    {
+        self.create_thread_by::<Brand>(alloc, history, atoms, front, engine, goal, aliases, error)
+    }
+
+    // The same, with the update picked.
+    fn create_thread_by<N: Updates>(
+        &mut self,
+        alloc: Global,
+        history: &History,
+        atoms: &mut TableAtoms<K>,
+        front: &mut Front,
+        engine: u64,
+        goal: CountedTerm,
+        aliases: Vec<Atom>,
+        error: Option<Stored>,
+    ) -> Answer<Stored>
+        requires kind { N.kind ≡ kind_of engine K.goals self.old.seen (requests.create_thread (said (names (seen atoms.old.seat)) goal) (map (text_of (names (seen atoms.old.seat))) aliases.items) (option_map (said (names (seen atoms.old.seat))) error)) }
+        requires history { history.now ≡ K.history }
+        requires front { IsOwn K.history engine front.old }
+        requires held { All (λ a. IsSome (names (seen atoms.old.seat) a)) (visit_names names_of key_atoms (CreateThread goal aliases error)) }
+        ensures { IsVisit K.history K.goals engine (seen atoms.old.seat) (seen atoms.new.seat) (CreateThread goal aliases error) result front.old front.new self.old self.new }
+    {
+        let generation = self.front.generation();
+        let row = hub_threads::create_thread(
+            alloc,
+            &mut self.queues,
+            &mut self.count,
+            atoms,
+            &mut self.keeper,
+            generation,
+            goal,
+            aliases.as_slice(),
+            error,
+        );
+        settle::<N>(history, &mut self.front, front, engine, row)
+    }
+
+    /// thread_get_message/1: the queue is the engine's own.
+    pub fn get_own_message(
+        &mut self,
+        alloc: Global,
+        history: &History,
+        atoms: &mut TableAtoms<K>,
+        front: &mut Front,
+        engine: u64,
+        pattern: &CountedTerm,
+    ) -> Answer<Stored>
+        requires history { history.now ≡ K.history }
+        requires front { IsOwn K.history engine front.old }
+        requires held { All (λ a. IsSome (names (seen atoms.old.seat) a)) (visit_names names_of key_atoms (GetMessage None pattern.now)) }
+        ensures { IsVisit K.history K.goals engine (seen atoms.old.seat) (seen atoms.new.seat) (GetMessage None pattern.now) result front.old front.new self.old self.new }
+    {
+        match int_term(alloc, engine) {
+            Err(Memory) => Answer::Memory,
+            Ok(queue) => self.get_message(alloc, history, atoms, front, engine, &queue, pattern),
+        }
+    }
+
+    /// thread_peek_message/1: the queue is the engine's own.
+    pub fn peek_own_message(
+        &mut self,
+        alloc: Global,
+        history: &History,
+        atoms: &mut TableAtoms<K>,
+        front: &mut Front,
+        engine: u64,
+        pattern: &CountedTerm,
+    ) -> Answer<Stored>
+        requires history { history.now ≡ K.history }
+        requires front { IsOwn K.history engine front.old }
+        requires held { All (λ a. IsSome (names (seen atoms.old.seat) a)) (visit_names names_of key_atoms (PeekMessage None pattern.now)) }
+        ensures { IsVisit K.history K.goals engine (seen atoms.old.seat) (seen atoms.new.seat) (PeekMessage None pattern.now) result front.old front.new self.old self.new }
+    {
+        match int_term(alloc, engine) {
+            Err(Memory) => Answer::Memory,
+            Ok(queue) => self.peek_message(alloc, history, atoms, front, engine, &queue, pattern),
+        }
     }
 }

@@ -38,8 +38,8 @@ returns g c =
     let k = keeper_view c.self.inside.keeper in
     let own : IsOwn g.K.Naming.history c.args.engine m = subst (IsOwn g.K.Naming.history c.args.engine) (sym c.tell-generation.ensures.front) c.requires.front in
     let behind : IsBehind f.seen m =
-        subst (λ (x : FrontState). IsBehind x.seen m) (sym c.tell-generation.ensures.hub)
-        (subst (λ (y : FrontState). IsBehind c.self.inside.front.seen y) (sym c.tell-generation.ensures.front) (record { seen = c.tell-generation.ensures.seen; told = c.tell-generation.ensures.told })) in
+    subst (λ (x : FrontState). IsBehind x.seen m) (sym c.tell-generation.ensures.hub)
+    (subst (λ (y : FrontState). IsBehind c.self.inside.front.seen y) (sym c.tell-generation.ensures.front) (record { seen = c.tell-generation.ensures.seen; told = c.tell-generation.ensures.told })) in
     let long : length f.seen ≡ c.tell-generation.result = ap (λ (x : FrontState). length x.seen) c.tell-generation.ensures.hub ∙ sym c.tell-generation.ensures.generation in
     let is_database = subst (λ (x : FrontState). IsDatabase k c.self.inside.db g.K.Naming.goals x.seen) (sym c.tell-generation.ensures.hub) c.self.invariant.database in
     let says = c.all_procedures-row.ensures.says k g.K.Naming.goals c.args.engine f.seen long is_database in

@@ -35,8 +35,8 @@ returns g c =
     let k = keeper_view c.self.inside.keeper in
     let own : IsOwn g.K.Naming.history c.args.engine m = subst (IsOwn g.K.Naming.history c.args.engine) (sym c.tell.ensures.front) c.requires.front in
     let behind : IsBehind f.seen m =
-        subst (λ (x : FrontState). IsBehind x.seen m) (sym c.tell.ensures.hub)
-        (subst (λ (y : FrontState). IsBehind c.self.inside.front.seen y) (sym c.tell.ensures.front) (record { seen = c.tell.ensures.seen; told = c.tell.ensures.told })) in
+    subst (λ (x : FrontState). IsBehind x.seen m) (sym c.tell.ensures.hub)
+    (subst (λ (y : FrontState). IsBehind c.self.inside.front.seen y) (sym c.tell.ensures.front) (record { seen = c.tell.ensures.seen; told = c.tell.ensures.told })) in
     let is_threads = subst (λ (x : FrontState). IsThreads k c.self.inside.queues c.self.inside.count g.K.Naming.goals x.seen) (sym c.tell.ensures.hub) c.self.invariant.threads in
     subst (λ (x : FrontState). IsVisit g.K.Naming.history g.K.Naming.goals c.args.engine v w OwnName c.settle.result x c.settle.new.front c.args.self.now c.settle.new.hub) c.tell.ensures.front
     (reads_visit_asking g.K.Naming.goals c.args.engine (erase 0) f c.args.self.now (c.tell.ensures.hub ∙ c.self.view_is) requests.own_name tt w k c.self.inside.queues c.self.inside.count c.own_name-row.result c.own_name-row.ensures.reads

@@ -1,0 +1,23 @@
+use Rattle.std.proofs.Common.{None, refl, subst}
+use Rattle.std.specs.Prelude.{IsSome}
+use Rattle.std.proofs.lemmas.List.Elements.{All-append}
+use Rattle.pl_history.specs.Fronts.{FrontState}
+use Rattle.atom_words.specs.Seats.{seen}
+use Rattle.atom_table.specs.Naming.{names}
+use Rattle.term_store.specs.NumberedNames.{names_of}
+use Rattle.world_api.specs.declared.visit.Visit.TheVariants.{PeekMessage}
+use Rattle.pl_hub.proofs.SameVisits.{memory_visit, own_peek}
+use Rattle.pl_hub.proofs.shared.Shared.peek_own_message.Goals as goal
+
+pub peek_message-requires-clause-held : goal.peek_message-requires-clause-held
+peek_message-requires-clause-held g c =
+    let m = names (seen c.args.atoms.now.seat) in
+    All-append (λ a. IsSome (m a)) (names_of c.in-Ok.queue) (names_of c.args.pattern.now) (c.in-Ok.ensures.named m c.args.atoms.now.lawful.stand) c.requires.held
+
+pub returns-in-Err : goal.returns-in-Err
+returns-in-Err g c = memory_visit g.K.Naming.history g.K.Naming.goals c.args.engine (seen c.args.atoms.now.seat) (PeekMessage None c.args.pattern.now) c.args.front.now c.args.self.now c.requires.front
+
+pub returns-in-Ok : goal.returns-in-Ok
+returns-in-Ok g c =
+    own_peek g.K.Naming.history g.K.Naming.goals c.args.engine (seen c.args.atoms.now.seat) (seen c.peek_message.new.atoms.seat) c.in-Ok.queue c.args.pattern.now
+    (c.in-Ok.ensures.says (names (seen c.args.atoms.now.seat))) c.args.front.now c.requires.front.engine c.peek_message.result c.peek_message.new.front c.args.self.now c.peek_message.new.self c.peek_message.ensures
