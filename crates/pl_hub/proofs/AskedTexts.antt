@@ -1,23 +1,24 @@
 -- The texts that a visit interns stand in its answer.
-use Rattle.std.proofs.Common.{◌≡◌, ◌<◌, ℕ, List, [], ◌∷◌, ◌++◌, length, map, Option, Some, None, refl, sym, ap, subst, ◌∙◌, arith}
+use Rattle.std.proofs.Common.{◌≡◌, ℕ, List, length, map, Option, Some, None, refl, sym, ap, subst, ◌∙◌, arith}
 use Rattle.std.specs.List.{Contains}
+use Rattle.std.specs.Prelude.{true, codes, if◌then◌else◌}
 use Rattle.std.proofs.lemmas.List.Elements.{All-weaker}
 use Rattle.atomic_table.specs.Seated.{TableId}
-use Rattle.pl_term.specs.Tree.{Chars}
+use Rattle.pl_term.specs.Tree.{Chars, Tree, atom}
 use Rattle.pl_model.specs.Database.{current_procedures}
+use Rattle.pl_model.specs.ErrorTerms.{permission_error}
 use Rattle.pl_model.specs.History.{History, Proc, mine}
-use Rattle.pl_model.specs.Requests.{Request, all_procedures, named, own_name, procedures}
-use Rattle.pl_model.specs.Service.{answers, name_term, serve, served_now}
+use Rattle.pl_model.specs.Requests.{Request, all_procedures, done, named, own_name, procedures, refused, start_goal}
+use Rattle.pl_model.specs.Service.{alias_taken, answers, name_term, serve, served_now, started}
 use Rattle.pl_model.specs.SharedState.{state_at}
-use Rattle.pl_model.specs.Threads.{Threads, alias_of}
-use Rattle.pl_term.specs.Tree.{Tree}
+use Rattle.pl_model.specs.Threads.{Threads, alias_of, goal_alias, is_alias}
 use Rattle.atom_words.specs.declared.view.View.{View}
 use Rattle.pl_history.specs.Fronts.{FrontState, own_engine}
 use Rattle.term_store.specs.ArgumentKeys.{clause_key}
 use Rattle.term_store.specs.NumberedNames.{term_by}
 use Rattle.world_api.specs.Asked.{IsInAnswer, IsInReply, texts_in}
 use Rattle.world_api.specs.Gains.{Gains}
-use Rattle.world_api.specs.declared.visit.Visit.TheVariants.{AllProcedures, OwnName}
+use Rattle.world_api.specs.declared.visit.Visit.TheVariants.{AllProcedures, OwnName, StartGoal}
 use Rattle.hub_database.specs.Database.{databases}
 use Rattle.hub_database.specs.Listing.{AsksSome}
 use Rattle.hub_threads.specs.Held.{Held as HeldThreads}
@@ -33,6 +34,14 @@ named_by_alias e goals h = refl
 listed_now : (e goals : ℕ) (h : History) → served_now e goals h all_procedures ≡ answers (procedures (current_procedures (length h) (databases goals h (length h)))) None
 unfolding serve
 listed_now e goals h = refl
+
+started_now : (e goals : ℕ) (h : History) (n : ℕ) (goal : Tree) → is_alias (state_at goals h (length h)).threads (goal_alias n) ≡ true
+    → served_now e goals h (start_goal n goal) ≡ answers (refused (permission_error (codes "create") (codes "thread") (atom (goal_alias n)))) None
+unfolding serve
+started_now e goals h n goal taken = ap (λ b. if b then alias_taken (codes "thread") (goal_alias n) else started (state_at goals h (length h)) (length h) n goal (Some (goal_alias n)) done) taken
+
+handed_alias : (a t : Chars) → t ≡ a → Contains (texts_in (permission_error (codes "create") (codes "thread") (atom a))) t
+handed_alias a t same = subst (λ (x : Chars). Contains (texts_in (permission_error (codes "create") (codes "thread") (atom a))) x) (sym same) (3, omega arith, refl)
 
 module _ (table : TableId) (goals e : ℕ) (f : FrontState) (own : IsOwn table e f) (h : History) (behind : IsBehind h f) (text : ℕ → Chars) where
   -- THE ALIAS of the engine
@@ -72,4 +81,24 @@ module _ (table : TableId) (goals e : ℕ) (f : FrontState) (own : IsOwn table e
         handed = subst (λ (n : ℕ). Contains (map (λ (p : Proc). p.name) (current_procedures n (databases goals h n))) t) (sym at) among;
       });
     }) asks.more asks.each;
+  }
+
+  -- THE ALIAS of a goal, where it is taken
+  pub start_asked : (k : View) (q : HeldThreads Tree) (c : ℕ) → IsThreads k q c goals h → (n : ℕ) (goal : Tree) (old new : List Chars)
+      → Gains (λ t. (t ≡ goal_alias n) × (is_alias q.state t ≡ true)) (Some old) (Some new)
+      → Gains (IsInAnswer term_by clause_key text (StartGoal n goal) (told_of goals f)) (Some old) (Some new)
+  start_asked k q c is n goal old new gains = record {
+    more = gains.more;
+    asked = gains.asked;
+    each = All-weaker (λ t. (t ≡ goal_alias n) × (is_alias q.state t ≡ true)) (IsInAnswer term_by clause_key text (StartGoal n goal) (told_of goals f)) (λ t alias. record {
+      before = h;
+      follows = follows f h own.runs (own.updates ∙ ap (mine f.seen) (sym own.engine)) behind;
+      stands = λ r asks. subst (λ (z : Request). IsInReply (told_of goals f) h z t) (sym asks) (record {
+        reply = refused (permission_error (codes "create") (codes "thread") (atom (goal_alias n)));
+        update = None;
+        served = started_now (own_engine f.lives) goals h n (term_by text goal)
+            (ap (λ (s : Threads Tree). is_alias s (goal_alias n)) is.threads ∙ ap (is_alias q.state) (sym alias.0) ∙ alias.1);
+        handed = handed_alias (goal_alias n) t alias.0;
+      });
+    }) gains.more gains.each;
   }

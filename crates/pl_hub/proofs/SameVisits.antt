@@ -1,12 +1,12 @@
 -- Two visits whose requests are answered alike, and a visit that is refused for want of memory.
-use Rattle.std.proofs.Common.{◌≡◌, ℕ, List, [], ◌++◌, length, Option, Some, None, refl, sym, ap, subst, ◌∙◌, append-nil}
+use Rattle.std.proofs.Common.{◌≡◌, ℕ, [], Some, None, refl, sym, ap, ◌∙◌, append-nil}
 use Rattle.std.specs.Prelude.{pos}
 use Rattle.std.proofs.lemmas.List.Elements.{All-nil, All-weaker}
 use Rattle.std.specs.Prelude.{IsSome}
 use Rattle.atomic_table.specs.Seated.{TableId}
 use Rattle.pl_term.specs.Tree.{Chars, Tree, int}
 use Rattle.pl_model.specs.History.{History}
-use Rattle.pl_model.specs.Requests.{Request, get_message, peek_message}
+use Rattle.pl_model.specs.Requests.{get_message, peek_message}
 use Rattle.pl_model.specs.Service.{on_of, serve, served_now}
 use Rattle.atom_words.specs.declared.view.View.{View}
 use Rattle.atom_table.specs.Naming.{names, requests}
@@ -16,14 +16,12 @@ use Rattle.term_store.specs.NumberedNames.{term_by}
 use Rattle.term_store.specs.declared.argument_key.ArgumentKey.{ArgumentKey}
 use Rattle.world_api.specs.declared.answer.Answer.{Answer}
 use Rattle.world_api.specs.declared.answer.Answer.TheVariants.{Served, Waits, NeedsAtoms, Retry, Worn, Memory}
-use Rattle.world_api.specs.declared.reply.Reply.{Reply}
 use Rattle.world_api.specs.declared.visit.Visit.{Visit}
 use Rattle.world_api.specs.declared.visit.Visit.TheVariants.{GetMessage, PeekMessage}
-use Rattle.world_api.specs.Answers.{IsServed, Serves, Visited}
-use Rattle.world_api.specs.Asked.{IsInAnswer, IsInReply, StandsIn}
+use Rattle.world_api.specs.Answers.{Visited}
+use Rattle.world_api.specs.Asked.{IsInAnswer}
 use Rattle.world_api.specs.Texts.{text_of}
 use Rattle.world_api.specs.Told.{Told}
-use Rattle.world_api.specs.Visits.{Asks}
 use Rattle.counted_terms.specs.CountedTerms.{said}
 use Rattle.pl_hub.specs.Fronts.{IsOwn, told_of}
 use Rattle.pl_hub.specs.Visits.{IsVisit}

@@ -86,6 +86,24 @@ module _ (goals e : ℕ) (j : Kind) (f now : FrontState) (is : f ≡ now) (q : R
       (subst (λ (k : Kind). Meets goals e (text_of (names w)) q f.seen k row) kind_here (threads_meet l (names w) e q r d goals f.seen of row says))
       named holds refusals (none_asked _ v w asked))
 
+  pub threads_visit_asking : (table : TableId) (v : View) (visit : Visit Tree ArgumentKey)
+      → IsPlainVisit (text_of (names v)) (text_of (names w)) visit
+      → Asks term_by clause_key (text_of (names v)) visit q
+      → ((z : Request) → Asks term_by clause_key (text_of (names v)) visit z → z ≡ q)
+      → (front : FrontState) → IsOwn table e front
+      → (a : Answer Tree) (g new : FrontState) → a ≡ answer_of row (length f.seen) → g ≡ front_after e j row f.seen front → new ≡ hub_after e j row f
+      → Sees f.seen front row
+      → All (λ x. IsSome (names w x)) (row_names row)
+      → Holds (names v) (names w)
+      → w.refusals ≡ v.refusals ++ row_refusals row
+      → Gains (IsInAnswer term_by clause_key (text_of (names v)) visit (told_of goals front)) (Some (requests v)) (Some (requests w))
+      → IsVisit table goals e v w visit a front g now new
+  threads_visit_asking table v visit plain asks only front own a g new a_is g_is new_is sees named holds refusals asked =
+      subst (λ (x : FrontState). IsVisit table goals e v w visit a front g x new) is
+      (is_visit_of table goals e v w visit plain front own f j row q asks only a g new a_is g_is new_is can_settle sees
+      (subst (λ (k : Kind). Meets goals e (text_of (names w)) q f.seen k row) kind_here (threads_meet l (names w) e q r d goals f.seen of row says))
+      named holds refusals asked)
+
   -- AND WHAT IS SHARED is the state after the history
   pub shared_then : {atoms : TableId} {size : Size} {table : TableId} {keeper new_keeper : Option Keeper} {db : HeldClauses Tree} {p : HeldThreads Tree} {c : ℕ}
       → IsShared atoms size table goals f keeper db p c → KeeperAt atoms size new_keeper → l ≡ keeper_view new_keeper

@@ -8,7 +8,7 @@ ghost use Rattle.term_store.specs.ArgumentKeys.{key_atoms};
 ghost use Rattle.term_store.specs.NumberedNames.{names_of};
 ghost use Rattle.world_api.specs.Texts.{text_of};
 ghost use Rattle.world_api.specs.Visits.{visit_names};
-ghost use Rattle.world_api.specs.declared.visit.Visit.TheVariants.{CreateQueue, CreateThread, DestroyQueue, GetMessage, JoinThread, OwnName, PeekMessage, SendMessage};
+ghost use Rattle.world_api.specs.declared.visit.Visit.TheVariants.{CreateQueue, CreateThread, DestroyQueue, GetMessage, JoinThread, OwnName, PeekMessage, SendMessage, StartGoal};
 ghost use Rattle.counted_terms.specs.CountedTerms.{said};
 ghost use Rattle.pl_hub.specs.Fronts.{IsOwn};
 ghost use Rattle.pl_hub.specs.Settling.{kind_of};
@@ -402,5 +402,55 @@ impl<K: Naming> Shared<K> {
             Err(Memory) => Answer::Memory,
             Ok(queue) => self.peek_message(alloc, history, atoms, front, engine, &queue, pattern),
         }
+    }
+
+    /// The goal of the command with this number begins as an engine of its own.
+    pub fn start_goal(
+        &mut self,
+        alloc: Global,
+        history: &History,
+        atoms: &mut TableAtoms<K>,
+        front: &mut Front,
+        engine: u64,
+        number: u64,
+        goal: CountedTerm,
+    ) -> Answer<Stored>
+        requires history { history.now ≡ K.history }
+        requires front { IsOwn K.history engine front.old }
+        requires held { All (λ a. IsSome (names (seen atoms.old.seat) a)) (visit_names names_of key_atoms (StartGoal number goal)) }
+        ensures { IsVisit K.history K.goals engine (seen atoms.old.seat) (seen atoms.new.seat) (StartGoal number goal) result front.old front.new self.old self.new }
+    {
+        self.start_goal_by::<Brand>(alloc, history, atoms, front, engine, number, goal)
+    }
+
+    // The same, with the update picked.
+    fn start_goal_by<N: Updates>(
+        &mut self,
+        alloc: Global,
+        history: &History,
+        atoms: &mut TableAtoms<K>,
+        front: &mut Front,
+        engine: u64,
+        number: u64,
+        goal: CountedTerm,
+    ) -> Answer<Stored>
+        requires kind { N.kind ≡ kind_of engine K.goals self.old.seen (requests.start_goal number (said (names (seen atoms.old.seat)) goal)) }
+        requires history { history.now ≡ K.history }
+        requires front { IsOwn K.history engine front.old }
+        requires held { All (λ a. IsSome (names (seen atoms.old.seat) a)) (visit_names names_of key_atoms (StartGoal number goal)) }
+        ensures { IsVisit K.history K.goals engine (seen atoms.old.seat) (seen atoms.new.seat) (StartGoal number goal) result front.old front.new self.old self.new }
+    {
+        let generation = history.tell(&mut self.front, front);
+        let row = hub_threads::start_goal(
+            alloc,
+            &mut self.queues,
+            &mut self.count,
+            atoms,
+            &mut self.keeper,
+            generation,
+            number,
+            goal,
+        );
+        settle::<N>(history, &mut self.front, front, engine, row)
     }
 }

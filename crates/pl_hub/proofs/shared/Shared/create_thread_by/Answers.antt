@@ -10,7 +10,6 @@ use Rattle.world_api.specs.Visits.{optional_names}
 use Rattle.world_api.specs.declared.visit.Visit.TheVariants.{CreateThread}
 use Rattle.counted_terms.specs.CountedTerms.{said}
 use Rattle.counted_terms.specs.Keeping.{keeper_view}
-use Rattle.hub_threads.specs.Weights.{IsBelow}
 use Rattle.pl_hub.specs.Settling.{kind_of}
 use Rattle.pl_hub.proofs.Held.{all_left, all_right}
 use Rattle.pl_hub.proofs.ThreadRows.{can_settle, shared_then, thread_counts_of, threads_visit}

@@ -1,4 +1,4 @@
-use Rattle.std.proofs.Common.{ℕ, length, refl, sym, ap, subst, ◌≡◌, ◌∙◌}
+use Rattle.std.proofs.Common.{refl, sym, subst, ◌∙◌}
 use Rattle.pl_history.specs.Fronts.{FrontState}
 use Rattle.pl_model.specs.History.{erase}
 use Rattle.pl_model.specs.Requests as requests
