@@ -8,6 +8,7 @@
 mod clauses;
 mod goals;
 mod naming;
+mod session;
 mod settling;
 mod shared;
 mod threads;
