@@ -34,7 +34,7 @@ nodes_all-join none us = refl
 nodes_all-join (more t ts) us =
     append_assoc (nodes t) (nodes_all ts) (nodes_all us) ∙ ap (λ ns. nodes t ++ ns) (nodes_all-join ts us)
 
-some_node : (t : Tree) (ns : List Node) → 0 < length (nodes t ++ ns)
+pub some_node : (t : Tree) (ns : List Node) → 0 < length (nodes t ++ ns)
 some_node (var x) ns = omega arith
 some_node (int i) ns = omega arith
 some_node (atom a) ns = omega arith

@@ -3,6 +3,8 @@ pub mod Chain
 pub mod Opens
 pub mod Rest
 pub mod Shown
+pub mod Stepping
+pub mod Wanted
 pub mod Texts
 pub mod Whole
 pub mod Bits

@@ -1,6 +1,5 @@
 -- How a compound term is begun: what was put on the page and on the stack stands for the pieces of the term.
 use Rattle.std.proofs.Common.{◌≡◌, ℕ, suc, Bool, true, false, cond, List, [], ◌∷◌, ◌++◌, Option, Some, None, reverse, refl, sym, ◌∙◌, ap, append_assoc, append-nil, arith}
-use Rattle.std.specs.Borrow.{Bor}
 use Rattle.std.specs.Prelude.{◌==◌, ◌&&◌, bytes_eq, if◌then◌else◌, codes}
 use Rattle.std.proofs.lemmas.Bool.{eqb-true}
 use Rattle.std.proofs.lemmas.List.{reverse-append}
@@ -271,9 +270,9 @@ module _ (manner : Manner) (ops : Lookup) where
   enclosed false qs ws us = refl
 
   -- An infix operator's term: its parenthesis is put, its operands with the operator between them are to come.
-  pub infix_opens : (old new : Page) (f : Bor Chars) (k max : ℕ) (p : Position) (r l q : ℕ) (d : Kind) (b : Bool) (s0 s1 s2 s3 : List Work) (t : Tree) (ts us : Trees)
+  pub infix_opens : (old new : Page) (f : Chars) (k max : ℕ) (p : Position) (r l q : ℕ) (d : Kind) (b : Bool) (s0 s1 s2 s3 : List Work) (t : Tree) (ts us : Trees)
       → Puts old new (if b then plain (codes "(") ∷ [] else [])
-      → Infix q d ≡ shape_view (form manner ops f.now k)
+      → Infix q d ≡ shape_view (form manner ops f k)
       → b ≡ needs_parentheses max (place_of p) (q, d)
       → r ≡ right_argument (q, d)
       → l ≡ left_argument (q, d)
@@ -282,15 +281,15 @@ module _ (manner : Manner) (ops : Lookup) where
       → s3 ≡ s2 ++ Term l (LeftOperand q) ∷ []
       → k ≡ suc (count ts)
       → shown new.bytes.items (behind_page new) (coming manner ops (reverse s3) (more t (join ts us)))
-      ≡ shown old.bytes.items (behind_page old) (pieces manner ops max (place_of p) (comp f.now t ts) ++ coming manner ops (reverse s0) us)
+      ≡ shown old.bytes.items (behind_page old) (pieces manner ops max (place_of p) (comp f t ts) ++ coming manner ops (reverse s0) us)
   unfolding by_form opened parenthesis pieces
   infix_opens old new f k max p r l q d b s0 s1 s2 s3 t none us puts shape needs r_is l_is e1 e2 e3 is =
-      absurd (omega (arith, infix_two f.now k (q, d) (infix_shape _ q d shape)))
+      absurd (omega (arith, infix_two f k (q, d) (infix_shape _ q d shape)))
   infix_opens old new f k max p r l q d b s0 s1 s2 s3 t (more u none) us puts shape needs r_is l_is e1 e2 e3 is =
-      let w : form manner ops f.now 2 ≡ infix_operation (q, d) = ap (form manner ops f.now) (sym is) ∙ infix_shape _ q d shape in
+      let w : form manner ops f 2 ≡ infix_operation (q, d) = ap (form manner ops f) (sym is) ∙ infix_shape _ q d shape in
       let left = pieces manner ops (left_argument (q, d)) (left_operand q) t in
       let right = pieces manner ops (right_argument (q, d)) operand u in
-      let name = infix_pieces manner f.now in
+      let name = infix_pieces manner f in
       let rest = coming manner ops (reverse s0) us in
       ap (λ ws. shown new.bytes.items (behind_page new) (coming manner ops ws (more t (more u us)))) (pushed_three b s0 s1 s2 s3 _ _ e1 e2 e3)
       ∙ ap (λ n. shown new.bytes.items (behind_page new) (pieces manner ops l (left_operand q) t ++ (name ++ (pieces manner ops n operand u ++ coming manner ops (parenthesis b ++ reverse s0) us)))) r_is
@@ -299,12 +298,12 @@ module _ (manner : Manner) (ops : Lookup) where
       ∙ ap (λ qs. shown old.bytes.items (behind_page old) (opened b ++ qs)) (regroup left name right (coming manner ops (parenthesis b ++ reverse s0) us))
       ∙ ap (shown old.bytes.items (behind_page old)) (enclosed b (left ++ (name ++ right)) (reverse s0) us)
       ∙ ap (λ c. shown old.bytes.items (behind_page old) (parenthesized c (left ++ (name ++ right)) ++ rest)) needs
-      ∙ ap (λ qs. shown old.bytes.items (behind_page old) (qs ++ rest)) (sym (pieces_by_form max (place_of p) f.now t (more u none) (infix_operation (q, d)) w))
+      ∙ ap (λ qs. shown old.bytes.items (behind_page old) (qs ++ rest)) (sym (pieces_by_form max (place_of p) f t (more u none) (infix_operation (q, d)) w))
     where
       regroup : (a b c d : List Piece) → a ++ (b ++ (c ++ d)) ≡ (a ++ (b ++ c)) ++ d
       regroup a b c d = sym (append_assoc a (b ++ c) d ∙ ap (λ e. a ++ e) (append_assoc b c d))
   infix_opens old new f k max p r l q d b s0 s1 s2 s3 t (more u (more v vs)) us puts shape needs r_is l_is e1 e2 e3 is =
-      absurd (omega (arith, infix_two f.now k (q, d) (infix_shape _ q d shape)))
+      absurd (omega (arith, infix_two f k (q, d) (infix_shape _ q d shape)))
 
   -- A prefix operator's term: its parenthesis and the operator are put, its operand is to come.
   pub prefix_opens : (old begun new : Page) (f : Chars) (k max : ℕ) (p : Position) (r q : ℕ) (d : Kind) (b : Bool) (s0 s1 s2 : List Work) (t : Tree) (ts us : Trees)
@@ -335,9 +334,9 @@ module _ (manner : Manner) (ops : Lookup) where
       absurd (omega (arith, prefix_one f k (q, d) (prefix_shape _ q d shape)))
 
   -- A postfix operator's term: its parenthesis is put, its operand with the operator after it are to come.
-  pub postfix_opens : (old new : Page) (f : Bor Chars) (k max : ℕ) (p : Position) (l q : ℕ) (d : Kind) (b : Bool) (s0 s1 s2 s3 : List Work) (t : Tree) (ts us : Trees)
+  pub postfix_opens : (old new : Page) (f : Chars) (k max : ℕ) (p : Position) (l q : ℕ) (d : Kind) (b : Bool) (s0 s1 s2 s3 : List Work) (t : Tree) (ts us : Trees)
       → Puts old new (if b then plain (codes "(") ∷ [] else [])
-      → Postfix q d ≡ shape_view (form manner ops f.now k)
+      → Postfix q d ≡ shape_view (form manner ops f k)
       → b ≡ needs_parentheses max (place_of p) (q, d)
       → l ≡ left_argument (q, d)
       → s1 ≡ s0 ++ (if b then Parenthesis ∷ [] else [])
@@ -345,12 +344,12 @@ module _ (manner : Manner) (ops : Lookup) where
       → s3 ≡ s2 ++ Term l (LeftOperand q) ∷ []
       → k ≡ suc (count ts)
       → shown new.bytes.items (behind_page new) (coming manner ops (reverse s3) (more t (join ts us)))
-      ≡ shown old.bytes.items (behind_page old) (pieces manner ops max (place_of p) (comp f.now t ts) ++ coming manner ops (reverse s0) us)
+      ≡ shown old.bytes.items (behind_page old) (pieces manner ops max (place_of p) (comp f t ts) ++ coming manner ops (reverse s0) us)
   unfolding by_form opened parenthesis
   postfix_opens old new f k max p l q d b s0 s1 s2 s3 t none us puts shape needs l_is e1 e2 e3 is =
-      let w : form manner ops f.now 1 ≡ postfix_operation (q, d) = ap (form manner ops f.now) (sym is) ∙ postfix_shape _ q d shape in
+      let w : form manner ops f 1 ≡ postfix_operation (q, d) = ap (form manner ops f) (sym is) ∙ postfix_shape _ q d shape in
       let left = pieces manner ops (left_argument (q, d)) (left_operand q) t in
-      let name = postfix_pieces manner f.now in
+      let name = postfix_pieces manner f in
       let rest = coming manner ops (reverse s0) us in
       let behind = coming manner ops (parenthesis b ++ reverse s0) us in
       ap (λ ws. shown new.bytes.items (behind_page new) (coming manner ops ws (more t us))) (pushed_three b s0 s1 s2 s3 _ _ e1 e2 e3)
@@ -359,6 +358,6 @@ module _ (manner : Manner) (ops : Lookup) where
       ∙ ap (λ qs. shown old.bytes.items (behind_page old) (opened b ++ qs)) (sym (append_assoc left name behind))
       ∙ ap (shown old.bytes.items (behind_page old)) (enclosed b (left ++ name) (reverse s0) us)
       ∙ ap (λ c. shown old.bytes.items (behind_page old) (parenthesized c (left ++ name) ++ rest)) needs
-      ∙ ap (λ qs. shown old.bytes.items (behind_page old) (qs ++ rest)) (sym (pieces_by_form max (place_of p) f.now t none (postfix_operation (q, d)) w))
+      ∙ ap (λ qs. shown old.bytes.items (behind_page old) (qs ++ rest)) (sym (pieces_by_form max (place_of p) f t none (postfix_operation (q, d)) w))
   postfix_opens old new f k max p l q d b s0 s1 s2 s3 t (more u vs) us puts shape needs l_is e1 e2 e3 is =
-      absurd (omega (arith, postfix_one f.now k (q, d) (postfix_shape _ q d shape)))
+      absurd (omega (arith, postfix_one f k (q, d) (postfix_shape _ q d shape)))

@@ -130,6 +130,13 @@ module _ (manner : Manner) (ops : Lookup) where
       ∙ argument_of m ws a.trees enough
       ∙ ap (λ ts. plain (codes ",") ∷ coming manner ops (Term 999 Alone ∷ Arguments m ∷ ws) ts) (sym e)
 
+  -- The end of the arguments, whatever terms are still to be read.
+  pub arguments_close : (ws : List Work) (ts : Trees) (k : ℕ)
+      → k ≡ 0
+      → coming manner ops (Arguments k ∷ ws) ts ≡ plain (codes ")") ∷ coming manner ops ws ts
+  unfolding pieces
+  arguments_close ws ts k none_left = ap (λ j. coming manner ops (Arguments j ∷ ws) ts) none_left
+
   -- The end of the arguments.
   pub arguments_end : (ns : List Node) (at k : ℕ) (ws : List Work)
       → k ≡ 0

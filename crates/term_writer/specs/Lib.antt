@@ -1,4 +1,5 @@
 pub mod Pages
 pub mod Styles
 pub mod Work
+pub mod Writings
 pub mod ReadingBack

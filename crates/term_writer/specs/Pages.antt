@@ -1,18 +1,13 @@
 -- What is written on a page: a text after which further pieces are put.
 use Rattle.std.specs.Prelude.{◌≡◌, ℕ, List, [], ◌∷◌, ◌++◌, Option, Some, None}
-use Rattle.std.specs.Borrow.{Bor}
 use Rattle.std.specs.Str.{encode_utf8_all}
 use Rattle.pl_term.specs.Tree.{Chars}
 use Rattle.pl_model.specs.TermWriting.{Piece, plain, before_operand, Behind, text_behind}
 use Rattle.term_writer.specs.declared.page.Page.{Page}
 
-abbrev pub named : Option (Bor Chars) → Option Chars
-named None = None
-named (Some f) = Some f.now
-
 -- What stands before the next piece of a page.
 abbrev pub behind_page : Page → Behind
-behind_page p = record { last = p.last; prefix = named p.prefix }
+behind_page p = record { last = p.last; prefix = p.prefix }
 
 -- A piece, that of a prefix operator where there is one.
 abbrev pub piece_of : Option Chars → Chars → Piece

@@ -12,6 +12,8 @@ use Rattle.term_writer.specs.declared.writer.Work.{Work}
 use Rattle.term_writer.specs.declared.writer.Work.TheVariants.{Term, Infix, Postfix, Arguments, Rest, Parenthesis, Bracket, Brace}
 use Rattle.term_writer.specs.declared.writer.Continues.{Continues}
 use Rattle.term_writer.specs.declared.writer.Continues.TheVariants.{Ends, GoesOn, Partial}
+use Rattle.term_writer.specs.declared.page.Page.{Page}
+use Rattle.term_writer.specs.Pages.{behind_page, shown}
 use Rattle.term_writer.specs.Styles.{place_of}
 
 -- How many terms the items read.
@@ -41,8 +43,8 @@ module _ (m : Manner) (ops : Lookup) where
   abbrev pub coming : List Work → Trees → List Piece
   coming [] ts = []
   coming (Term max p ∷ ws) ts = with_term max (place_of p) (coming ws) ts
-  coming (Infix f max ∷ ws) ts = infix_pieces m f.now ++ with_term max operand (coming ws) ts
-  coming (Postfix f ∷ ws) ts = postfix_pieces m f.now ++ coming ws ts
+  coming (Infix f max ∷ ws) ts = infix_pieces m f ++ with_term max operand (coming ws) ts
+  coming (Postfix f ∷ ws) ts = postfix_pieces m f ++ coming ws ts
   coming (Arguments k ∷ ws) ts = arguments m ops (first k ts) ++ coming ws (after k ts)
   coming (Rest ∷ ws) ts = with_tail (coming ws) ts
   coming (Parenthesis ∷ ws) ts = plain (codes ")") ∷ coming ws ts
@@ -58,6 +60,27 @@ pub record Ahead (nodes : List Node) (at : ℕ) (ws : List Work) : Type 0 where
   pub spelled : drop at nodes ≡ nodes_all trees
   pub enough : reads ws ≡ count trees
   pub within : 0 < reads ws → at < length nodes
+
+-- The nodes from a place on begin with this one.
+abbrev pub IsNode : List Node → ℕ → Node → Type 0
+IsNode ns at n = drop at ns ≡ n ∷ drop (at + 1) ns
+
+-- The node may be the next one of terms that just the items read.
+abbrev pub Fits : Node → List Work → Type 0
+Fits n ws = (ns : List Node) × (at : ℕ) × IsNode ns at n × Ahead ns at ws
+
+-- With the node one goes on from items and a page to others: whatever nodes follow, the page shows in the end what it would have
+-- shown.
+pub record Steps (m : Manner) (ops : Lookup) (n : Node) (vs : List Work) (old : Page) (ws : List Work) (new : Page) : Type 0 where
+  pub ahead : (ns : List Node) (at : ℕ) → IsNode ns at n → Ahead ns at vs → Ahead ns (at + 1) ws
+  pub shows : (ns : List Node) (at : ℕ) → IsNode ns at n → Ahead ns at vs
+      → shown new.bytes.items (behind_page new) (left m ops ns (at + 1) ws) ≡ shown old.bytes.items (behind_page old) (left m ops ns at vs)
+
+-- An item that reads no node was written.
+pub record Closes (m : Manner) (ops : Lookup) (w : Work) (old new : Page) : Type 0 where
+  pub none_read : reads (w ∷ []) ≡ zero
+  pub shows : (ws : List Work) (ts : Trees)
+      → shown new.bytes.items (behind_page new) (coming m ops ws ts) ≡ shown old.bytes.items (behind_page old) (coming m ops (w ∷ ws) ts)
 
 -- What follows an element of a list, by the first node of the tail.
 abbrev pub tail_node : Node → Tail

@@ -9,9 +9,11 @@ mod pieces;
 mod quotes;
 mod reading_back;
 mod writer;
+mod writing;
 
 pub use reading_back::{
     awkward_terms_are_read_back, premises_are_needed, tables_keep_names,
     written_terms_are_read_back,
 };
 pub use writer::{write, write_canonical, writeq};
+pub use writing::Writing;

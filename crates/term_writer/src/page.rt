@@ -3,7 +3,7 @@ ghost use Rattle.std.specs.Prelude.{◌≡◌, ◌<◌, ◌++◌, ◌∷◌, [],
 ghost use Rattle.std.specs.Str.{chars};
 ghost use Rattle.pl_model.specs.Writing.{last_character, would_join};
 ghost use Rattle.pl_model.specs.TermWriting.{gap, plain, would_bind};
-ghost use Rattle.term_writer.specs.Pages.{Grows, Puts, behind_page, named, piece_of};
+ghost use Rattle.term_writer.specs.Pages.{Grows, Puts, behind_page, piece_of};
 
 use crate::names::{continues_name, is_named, is_symbol};
 use pl_term::{Memory, Text};
@@ -11,16 +11,16 @@ use pl_term::{Memory, Text};
 /// Text in UTF-8 whose last character, or the one that it was begun after, is `last`. `prefix` is the prefix
 /// operator that its last piece is, if it is one.
 #[derive(Debug, Drop)]
-pub struct Page<'a> {
+pub struct Page {
     pub bytes: Vec<u8>,
     pub last: char,
-    pub prefix: Option<&'a Text>,
+    pub prefix: Option<Text>,
 }
 
-impl<'a> Page<'a> {
+impl Page {
     /// Puts a piece, that of the prefix operator `prefix` where there is one.
-    pub fn put(&mut self, piece: &str, prefix: Option<&'a Text>) -> Result<(), Memory>
-        ensures puts { OnOk result (Puts self.old self.new (piece_of (named prefix.entry) (chars piece.now) ∷ [])) }
+    pub fn put(&mut self, piece: &str, prefix: Option<Text>) -> Result<(), Memory>
+        ensures puts { OnOk result (Puts self.old self.new (piece_of prefix (chars piece.now) ∷ [])) }
         ensures grows { Grows self.old.bytes.items self.new.bytes.items }
     {
         if let Some(first) = piece.chars().next() {
@@ -38,7 +38,7 @@ impl<'a> Page<'a> {
         ensures behind { behind_page self.new ≡ behind_page self.old }
         ensures grows { Grows self.old.bytes.items self.new.bytes.items }
     {
-        if would_join(self.last, first) || would_bind(self.prefix, first) {
+        if would_join(self.last, first) || would_bind(&self.prefix, first) {
             self.bytes.push(b' ')?;
         }
         Ok(())
@@ -79,8 +79,8 @@ fn would_join(c: char, d: char) -> bool
 }
 
 /// Whether a prefix operator would be read as a functor, or as a sign, before a character.
-fn would_bind(prefix: Option<&Text>, d: char) -> bool
-    ensures { result ≡ would_bind (named prefix.entry) d }
+fn would_bind(prefix: &Option<Text>, d: char) -> bool
+    ensures { result ≡ would_bind prefix.now d }
 {
     match prefix {
         Some(f) => d == '(' || (is_named(f, "-") && d.is_ascii_digit()),

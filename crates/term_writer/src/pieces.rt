@@ -3,7 +3,7 @@ ghost use Rattle.std.specs.Prelude.{◌≡◌, ◌∷◌, [], OnOk};
 ghost use Rattle.std.specs.Fmt.{signed_decimal};
 ghost use Rattle.pl_model.specs.TermWriting.{functor_by, infix_pieces, is_tight, name_by, operator_name, plain, postfix_pieces};
 ghost use Rattle.pl_model.specs.Writing.{quoted, variable};
-ghost use Rattle.term_writer.specs.Pages.{Grows, Puts, named, piece_of};
+ghost use Rattle.term_writer.specs.Pages.{Grows, Puts, piece_of};
 ghost use Rattle.term_writer.specs.Styles.{manner_of};
 
 use crate::names::{is_bare_name, is_named, is_symbol_name};
@@ -15,8 +15,8 @@ use pl_term::{Memory, Text};
 use std::convert::AsStr;
 
 /// Puts a name as it is.
-fn put_text<'a>(page: &mut Page<'a>, f: &Text, prefix: Option<&'a Text>) -> Result<(), Memory>
-    ensures puts { OnOk result (Puts page.old page.new (piece_of (named prefix.entry) f.now ∷ [])) }
+fn put_text(page: &mut Page, f: &Text, prefix: Option<Text>) -> Result<(), Memory>
+    ensures puts { OnOk result (Puts page.old page.new (piece_of prefix f.now ∷ [])) }
     ensures grows { Grows page.old.bytes.items page.new.bytes.items }
 {
     page.put(f.as_str(), prefix)?;
@@ -24,8 +24,8 @@ fn put_text<'a>(page: &mut Page<'a>, f: &Text, prefix: Option<&'a Text>) -> Resu
 }
 
 /// Puts a name in quotes.
-fn put_quoted<'a>(page: &mut Page<'a>, f: &Text, prefix: Option<&'a Text>) -> Result<(), Memory>
-    ensures puts { OnOk result (Puts page.old page.new (piece_of (named prefix.entry) (quoted f.now) ∷ [])) }
+fn put_quoted(page: &mut Page, f: &Text, prefix: Option<Text>) -> Result<(), Memory>
+    ensures puts { OnOk result (Puts page.old page.new (piece_of prefix (quoted f.now) ∷ [])) }
     ensures grows { Grows page.old.bytes.items page.new.bytes.items }
 {
     page.space('\'')?;
@@ -39,13 +39,8 @@ fn put_quoted<'a>(page: &mut Page<'a>, f: &Text, prefix: Option<&'a Text>) -> Re
 
 /// Puts the name of an atom or an operator, in quotes where the style wants them and it would not read back without
 /// them.
-pub fn put_name<'a>(
-    style: Style,
-    page: &mut Page<'a>,
-    f: &Text,
-    prefix: Option<&'a Text>,
-) -> Result<(), Memory>
-    ensures puts { OnOk result (Puts page.old page.new (piece_of (named prefix.entry) (name_by (manner_of style.entry) f.now) ∷ [])) }
+pub fn put_name(style: Style, page: &mut Page, f: &Text, prefix: Option<Text>) -> Result<(), Memory>
+    ensures puts { OnOk result (Puts page.old page.new (piece_of prefix (name_by (manner_of style.entry) f.now) ∷ [])) }
     ensures grows { Grows page.old.bytes.items page.new.bytes.items }
 {
     if !style.quotes {
@@ -75,13 +70,13 @@ pub fn put_functor(style: Style, page: &mut Page, f: &Text) -> Result<(), Memory
 }
 
 /// Puts the name of an operator. The comma stands without quotes.
-pub fn put_operator<'a>(
+pub fn put_operator(
     style: Style,
-    page: &mut Page<'a>,
+    page: &mut Page,
     f: &Text,
-    prefix: Option<&'a Text>,
+    prefix: Option<Text>,
 ) -> Result<(), Memory>
-    ensures puts { OnOk result (Puts page.old page.new (piece_of (named prefix.entry) (operator_name (manner_of style.entry) f.now) ∷ [])) }
+    ensures puts { OnOk result (Puts page.old page.new (piece_of prefix (operator_name (manner_of style.entry) f.now) ∷ [])) }
     ensures grows { Grows page.old.bytes.items page.new.bytes.items }
 {
     if is_named(f, ",") {

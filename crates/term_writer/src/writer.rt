@@ -1,13 +1,13 @@
-//! The text of a term (ISO 7.10.5), written from its nodes with a stack of what is still to come.
-ghost use Rattle.std.specs.Prelude.{◌≡◌, ◌++◌, ◌∷◌, [], ◌+◌, ◌*◌, ◌-◌, ◌<◌, ◌≤◌, suc, IfOk, OnOk, codes, if◌then◌else◌, length, reverse, vec_len};
+//! The text of a term (ISO 7.10.5), written from its nodes, one after the other, with a stack of what is still to come.
+ghost use Rattle.std.specs.Prelude.{◌≡◌, ◌++◌, ◌∷◌, [], ◌+◌, ◌<◌, suc, zero, true, false, IfOk, OnOk, codes, if◌then◌else◌, reverse};
 ghost use Rattle.std.specs.Str.{encode_utf8_all};
-ghost use Rattle.pl_term.specs.Tree.{Tree, Trees, comp, count, join, more};
+ghost use Rattle.pl_term.specs.Tree.{Tree, Trees, comp, count, join, more, none};
 ghost use Rattle.pl_term.specs.Nodes.{nodes, tree};
 ghost use Rattle.pl_model.specs.TermWriting.{atom_pieces, pieces, plain, text_of, writeq, write, write_canonical};
 ghost use Rattle.pl_model.specs.Writing.{alone};
 ghost use Rattle.term_writer.specs.Pages.{Grows, Puts, behind_page, shown};
 ghost use Rattle.term_writer.specs.Styles.{lookup_of, manner_of, place_of};
-ghost use Rattle.term_writer.specs.Work.{Ahead, coming, continues_view, left, reads, tail_node};
+ghost use Rattle.term_writer.specs.Work.{Closes, Fits, Steps, coming, continues_view, reads, tail_node};
 
 use crate::names::is_named;
 use crate::operators::{
@@ -24,11 +24,11 @@ use std::mem;
 
 /// What is still to be written: a term at a largest priority, an infix operator and its right operand, a postfix
 /// operator, further arguments, what follows an element of a list, or a closing bracket.
-#[derive(Debug, Clone, Copy, Drop)]
-pub enum Work<'a> {
+#[derive(Debug, Drop)]
+pub enum Work {
     Term(u16, Position),
-    Infix(&'a Text, u16),
-    Postfix(&'a Text),
+    Infix(Text, u16),
+    Postfix(Text),
     Arguments(u64),
     Rest,
     Parenthesis,
@@ -84,14 +84,15 @@ fn continuation(node: &Node) -> Continues
 }
 
 /// Begins a compound term: puts what stands before its first argument, and what is to come on the stack.
-fn open_compound<'a>(
+fn open_compound(
+    alloc: Global,
     style: Style,
-    f: &'a Text,
+    f: &Text,
     k: u64,
     max: u16,
     position: Position,
-    stack: &mut Vec<Work<'a>>,
-    page: &mut Page<'a>,
+    stack: &mut Vec<Work>,
+    page: &mut Page,
 ) -> Result<(), Memory>
     requires { 0 < k }
     ensures reads { OnOk result (reads (reverse stack.new.items) ≡ k + reads (reverse stack.old.items)) }
@@ -101,7 +102,6 @@ fn open_compound<'a>(
         ≡ shown page.old.bytes.items (behind_page page.old)
         (pieces (manner_of style.entry) (lookup_of style.entry.operators) max (place_of position) (comp f.now t ts)
         ++ coming (manner_of style.entry) (lookup_of style.entry.operators) (reverse stack.old.items) us)) }
-    ensures few { OnOk result (vec_len stack.new ≤ vec_len stack.old + 3) }
     ensures grows { Grows page.old.bytes.items page.new.bytes.items }
 {
     match shape_of(style, f, k) {
@@ -117,17 +117,20 @@ fn open_compound<'a>(
         }
         Shape::Infix(priority, kind) => {
             open_parenthesis(encloses(position, max, priority, kind), stack, page)?;
-            stack.push(Work::Infix(f, right_max(priority, kind)))?;
+            let name = f.copy(alloc)?;
+            stack.push(Work::Infix(name, right_max(priority, kind)))?;
             stack.push(Work::Term(left_max(priority, kind), Position::LeftOperand(priority)))?;
         }
         Shape::Prefix(priority, kind) => {
             open_parenthesis(encloses(position, max, priority, kind), stack, page)?;
-            put_operator(style, page, f, Some(f))?;
+            let name = f.copy(alloc)?;
+            put_operator(style, page, f, Some(name))?;
             stack.push(Work::Term(right_max(priority, kind), Position::Operand))?;
         }
         Shape::Postfix(priority, kind) => {
             open_parenthesis(encloses(position, max, priority, kind), stack, page)?;
-            stack.push(Work::Postfix(f))?;
+            let name = f.copy(alloc)?;
+            stack.push(Work::Postfix(name))?;
             stack.push(Work::Term(left_max(priority, kind), Position::LeftOperand(priority)))?;
         }
         Shape::Functional => {
@@ -143,7 +146,6 @@ fn open_compound<'a>(
 fn open_parenthesis(needed: bool, stack: &mut Vec<Work>, page: &mut Page) -> Result<(), Memory>
     ensures puts { OnOk result (Puts page.old page.new (if needed then plain (codes "(") ∷ [] else [])) }
     ensures pushes { OnOk result (stack.new.items ≡ stack.old.items ++ (if needed then Work.Parenthesis ∷ [] else [])) }
-    ensures few { OnOk result (vec_len stack.new ≤ vec_len stack.old + 1) }
     ensures grows { Grows page.old.bytes.items page.new.bytes.items }
 {
     if needed {
@@ -153,51 +155,44 @@ fn open_parenthesis(needed: bool, stack: &mut Vec<Work>, page: &mut Page) -> Res
     Ok(())
 }
 
-/// Writes the term whose nodes begin at `at`, up to what its first argument or left operand begins.
-fn write_term<'a>(
+/// Writes the term that begins with a node, up to what its first argument or left operand begins.
+fn write_term(
+    alloc: Global,
     style: Style,
-    all: &'a [Node],
-    at: usize,
+    node: &Node,
     max: u16,
     position: Position,
-    stack: &mut Vec<Work<'a>>,
-    page: &mut Page<'a>,
+    stack: &mut Vec<Work>,
+    page: &mut Page,
 ) -> Result<(), Memory>
-    requires { Ahead all.now at (Work.Term max position ∷ reverse stack.old.items) }
-    ensures ahead { OnOk result (Ahead all.now (at + 1) (reverse stack.new.items)) }
-    ensures shows { OnOk result
-        (shown page.new.bytes.items (behind_page page.new) (left (manner_of style.entry) (lookup_of style.entry.operators) all.now (at + 1) (reverse stack.new.items))
-        ≡ shown page.old.bytes.items (behind_page page.old)
-        (left (manner_of style.entry) (lookup_of style.entry.operators) all.now at (Work.Term max position ∷ reverse stack.old.items))) }
-    ensures few { OnOk result (vec_len stack.new ≤ vec_len stack.old + 3) }
+    requires { Fits node.now (Work.Term max position ∷ reverse stack.old.items) }
+    ensures steps { OnOk result (Steps (manner_of style.entry) (lookup_of style.entry.operators) node.now
+        (Work.Term max position ∷ reverse stack.old.items) page.old (reverse stack.new.items) page.new) }
     ensures grows { Grows page.old.bytes.items page.new.bytes.items }
 {
-    match &all[at] {
+    match node {
         Node::Var(n) => put_variable(page, *n)?,
         Node::Int(i) => put_integer(page, *i)?,
         Node::Atom(f) => write_atom(style, position, f, page)?,
-        Node::Comp(f, k) => open_compound(style, f, *k, max, position, stack, page)?,
+        Node::Comp(f, k) => open_compound(alloc, style, f, *k, max, position, stack, page)?,
     }
     Ok(())
 }
 
-/// Writes what follows an element of a list whose tail's nodes begin at `at`.
-fn write_rest<'a>(
+/// Writes what follows an element of a list whose tail begins with a node.
+fn write_rest(
+    alloc: Global,
     style: Style,
-    all: &'a [Node],
-    at: usize,
-    stack: &mut Vec<Work<'a>>,
-    page: &mut Page<'a>,
+    node: &Node,
+    stack: &mut Vec<Work>,
+    page: &mut Page,
 ) -> Result<(), Memory>
-    requires { Ahead all.now at (Work.Rest ∷ reverse stack.old.items) }
-    ensures ahead { OnOk result (Ahead all.now (at + 1) (reverse stack.new.items)) }
-    ensures shows { OnOk result
-        (shown page.new.bytes.items (behind_page page.new) (left (manner_of style.entry) (lookup_of style.entry.operators) all.now (at + 1) (reverse stack.new.items))
-        ≡ shown page.old.bytes.items (behind_page page.old) (left (manner_of style.entry) (lookup_of style.entry.operators) all.now at (Work.Rest ∷ reverse stack.old.items))) }
-    ensures few { OnOk result (vec_len stack.new ≤ vec_len stack.old + 4) }
+    requires { Fits node.now (Work.Rest ∷ reverse stack.old.items) }
+    ensures steps { OnOk result (Steps (manner_of style.entry) (lookup_of style.entry.operators) node.now
+        (Work.Rest ∷ reverse stack.old.items) page.old (reverse stack.new.items) page.new) }
     ensures grows { Grows page.old.bytes.items page.new.bytes.items }
 {
-    match continuation(&all[at]) {
+    match continuation(node) {
         Continues::Ends => page.put_mark(b']')?,
         Continues::GoesOn => {
             page.put_mark(b',')?;
@@ -207,100 +202,133 @@ fn write_rest<'a>(
         Continues::Partial => {
             page.put_mark(b'|')?;
             stack.push(Work::Bracket)?;
-            write_term(style, all, at, 999, Position::Alone, stack, page)?;
+            write_term(alloc, style, node, 999, Position::Alone, stack, page)?;
         }
     }
     Ok(())
 }
 
-/// Writes the next of `k` arguments, whose nodes begin at `at`, after a comma.
-fn write_argument<'a>(
+/// Writes the next of `k` arguments, which begins with a node, after a comma.
+fn write_argument(
+    alloc: Global,
     style: Style,
-    all: &'a [Node],
-    at: usize,
+    node: &Node,
     k: u64,
-    stack: &mut Vec<Work<'a>>,
-    page: &mut Page<'a>,
+    stack: &mut Vec<Work>,
+    page: &mut Page,
 ) -> Result<(), Memory>
     requires some { 0 < k }
-    requires ahead { Ahead all.now at (Work.Arguments k ∷ reverse stack.old.items) }
-    ensures ahead { OnOk result (Ahead all.now (at + 1) (reverse stack.new.items)) }
-    ensures shows { OnOk result
-        (shown page.new.bytes.items (behind_page page.new) (left (manner_of style.entry) (lookup_of style.entry.operators) all.now (at + 1) (reverse stack.new.items))
-        ≡ shown page.old.bytes.items (behind_page page.old) (left (manner_of style.entry) (lookup_of style.entry.operators) all.now at (Work.Arguments k ∷ reverse stack.old.items))) }
-    ensures few { OnOk result (vec_len stack.new ≤ vec_len stack.old + 4) }
+    requires fits { Fits node.now (Work.Arguments k ∷ reverse stack.old.items) }
+    ensures steps { OnOk result (Steps (manner_of style.entry) (lookup_of style.entry.operators) node.now
+        (Work.Arguments k ∷ reverse stack.old.items) page.old (reverse stack.new.items) page.new) }
     ensures grows { Grows page.old.bytes.items page.new.bytes.items }
 {
     page.put_mark(b',')?;
     stack.push(Work::Arguments(k - 1))?;
-    write_term(style, all, at, 999, Position::Alone, stack, page)?;
+    write_term(alloc, style, node, 999, Position::Alone, stack, page)?;
     Ok(())
 }
 
-/// Does what an item says, and returns the place of the next node to be read.
-fn turn<'a>(
-    style: Style,
-    all: &'a [Node],
-    at: usize,
-    work: Work<'a>,
-    stack: &mut Vec<Work<'a>>,
-    page: &mut Page<'a>,
-) -> Result<usize, Memory>
-    requires { Ahead all.now at (work ∷ reverse stack.old.items) }
-    ensures ahead { IfOk result (λ to. Ahead all.now to (reverse stack.new.items)) }
-    ensures shows { IfOk result (λ to. shown page.new.bytes.items (behind_page page.new) (left (manner_of style.entry) (lookup_of style.entry.operators) all.now to (reverse stack.new.items))
-        ≡ shown page.old.bytes.items (behind_page page.old) (left (manner_of style.entry) (lookup_of style.entry.operators) all.now at (work.entry ∷ reverse stack.old.items))) }
-    ensures nearer { IfOk result (λ to. 4 * (length all.now - to) + vec_len stack.new
-        ≤ 4 * (length all.now - at) + vec_len stack.old) }
+/// Writes an item that reads no node, and says whether it is one.
+fn close(style: Style, work: &Work, page: &mut Page) -> Result<bool, Memory>
+    ensures closes { IfOk result (λ b. b ≡ true → Closes (manner_of style.entry) (lookup_of style.entry.operators) work.now page.old page.new) }
+    ensures open { IfOk result (λ b. b ≡ false → (0 < reads (work.now ∷ [])) × (page.new ≡ page.old)) }
     ensures grows { Grows page.old.bytes.items page.new.bytes.items }
 {
     match work {
-        Work::Term(max, position) => {
-            write_term(style, all, at, max, position, stack, page)?;
-            Ok(at + 1)
-        }
-        Work::Infix(f, max) => {
-            put_infix(style, page, f)?;
-            write_term(style, all, at, max, Position::Operand, stack, page)?;
-            Ok(at + 1)
-        }
-        Work::Postfix(f) => {
-            put_postfix(style, page, f)?;
-            Ok(at)
-        }
+        Work::Postfix(f) => put_postfix(style, page, f)?,
         Work::Arguments(k) => {
-            if k == 0 {
-                page.put_mark(b')')?;
-                return Ok(at);
+            if *k != 0 {
+                return Ok(false);
             }
-            write_argument(style, all, at, k, stack, page)?;
-            Ok(at + 1)
+            page.put_mark(b')')?
         }
-        Work::Rest => {
-            write_rest(style, all, at, stack, page)?;
-            Ok(at + 1)
-        }
-        Work::Parenthesis => {
-            page.put_mark(b')')?;
-            Ok(at)
-        }
-        Work::Bracket => {
-            page.put_mark(b']')?;
-            Ok(at)
-        }
-        Work::Brace => {
-            page.put_mark(b'}')?;
-            Ok(at)
-        }
+        Work::Parenthesis => page.put_mark(b')')?,
+        Work::Bracket => page.put_mark(b']')?,
+        Work::Brace => page.put_mark(b'}')?,
+        Work::Term(_, _) => return Ok(false),
+        Work::Infix(_, _) => return Ok(false),
+        Work::Rest => return Ok(false),
     }
+    Ok(true)
 }
 
-fn write_nodes<'a>(
+/// Does what an item says that reads a node.
+fn read(
     alloc: Global,
     style: Style,
-    all: &'a [Node],
+    node: &Node,
+    work: Work,
+    stack: &mut Vec<Work>,
+    page: &mut Page,
+) -> Result<(), Memory>
+    requires reads { 0 < reads (work ∷ []) }
+    requires fits { Fits node.now (work ∷ reverse stack.old.items) }
+    ensures steps { OnOk result (Steps (manner_of style.entry) (lookup_of style.entry.operators) node.now
+        (work ∷ reverse stack.old.items) page.old (reverse stack.new.items) page.new) }
+    ensures grows { Grows page.old.bytes.items page.new.bytes.items }
+{
+    match work {
+        Work::Term(max, position) => write_term(alloc, style, node, max, position, stack, page)?,
+        Work::Infix(f, max) => {
+            put_infix(style, page, &f)?;
+            write_term(alloc, style, node, max, Position::Operand, stack, page)?;
+        }
+        Work::Arguments(k) => write_argument(alloc, style, node, k, stack, page)?,
+        Work::Rest => write_rest(alloc, style, node, stack, page)?,
+        Work::Postfix(_) => unreachable!(),
+        Work::Parenthesis => unreachable!(),
+        Work::Bracket => unreachable!(),
+        Work::Brace => unreachable!(),
+    }
+    Ok(())
+}
+
+/// Writes what comes with the next node of a term.
+pub fn put_node(
+    alloc: Global,
+    style: Style,
+    node: &Node,
+    stack: &mut Vec<Work>,
+    page: &mut Page,
+) -> Result<(), Memory>
+    requires { Fits node.now (reverse stack.old.items) }
+    ensures steps { OnOk result (Steps (manner_of style.entry) (lookup_of style.entry.operators) node.now
+        (reverse stack.old.items) page.old (reverse stack.new.items) page.new) }
+    ensures grows { Grows page.old.bytes.items page.new.bytes.items }
+{
+    while let Some(work) = stack.pop() {
+        if !close(style, &work, page)? {
+            read(alloc, style, node, work, stack, page)?;
+            return Ok(());
+        }
+    }
+    unreachable!()
+}
+
+/// Writes what comes after the last node.
+pub fn put_end(style: Style, stack: &mut Vec<Work>, page: &mut Page) -> Result<(), Memory>
+    requires { reads (reverse stack.old.items) ≡ 0 }
+    ensures shows { OnOk result
+        (shown page.new.bytes.items (behind_page page.new) []
+        ≡ shown page.old.bytes.items (behind_page page.old)
+        (coming (manner_of style.entry) (lookup_of style.entry.operators) (reverse stack.old.items) none)) }
+    ensures grows { Grows page.old.bytes.items page.new.bytes.items }
+{
+    while let Some(work) = stack.pop() {
+        if !close(style, &work, page)? {
+            unreachable!();
+        }
+    }
+    Ok(())
+}
+
+fn write_nodes(
+    alloc: Global,
+    style: Style,
+    all: &[Node],
     max: u16,
-    page: &mut Page<'a>,
+    page: &mut Page,
 ) -> Result<(), Memory>
     requires { (t : Tree) × (all.now ≡ nodes t) }
     ensures shows { OnOk result
@@ -310,10 +338,10 @@ fn write_nodes<'a>(
     ensures grows { Grows page.old.bytes.items page.new.bytes.items }
 {
     let mut stack = vec![in alloc; Work::Term(max, Position::Alone)]?;
-    let mut at = 0;
-    while let Some(work) = stack.pop() {
-        at = turn(style, all, at, work, &mut stack, page)?;
+    for i in 0..all.len() {
+        put_node(alloc, style, &all[i], &mut stack, page)?;
     }
+    put_end(style, &mut stack, page)?;
     Ok(())
 }
 

@@ -3,3 +3,5 @@ mod Replies
 mod Single
 mod Sums
 mod Stilled
+pub mod Kept
+pub mod Followed

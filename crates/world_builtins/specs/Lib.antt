@@ -6,3 +6,4 @@ pub mod Characters
 pub mod Writing
 pub mod Operators
 pub mod Still
+pub mod Following

@@ -2,6 +2,7 @@
 #![tactic(auto)]
 
 mod characters;
+mod following;
 mod output;
 mod styles;
 mod terms;

@@ -1,8 +1,9 @@
 //! Terms that are written after what an engine has written.
-ghost use Rattle.std.specs.Prelude.{◌≡◌, ◌++◌, ◌∷◌, [], false, OnOk, encode_utf8_all};
+ghost use Rattle.std.specs.Prelude.{◌≡◌, ◌++◌, ◌∷◌, [], false, IfOk, OnOk, encode_utf8_all};
 ghost use Rattle.std.specs.Arc.{arc_value};
 ghost use Rattle.pl_model.specs.TermWriting.{write_canonical};
 ghost use Rattle.term_store.specs.Contents.{Holds};
+ghost use Rattle.term_writer.specs.Writings.{IsBegun};
 ghost use Rattle.world_api.specs.Told.{has_ended};
 ghost use Rattle.world_api.specs.Texts.{Holds as HoldsOn};
 ghost use Rattle.world_api.specs.Unserved.{OnRefusal, refusals_in};
@@ -12,14 +13,16 @@ ghost use Rattle.world_builtins.specs.Spelling.{reads};
 ghost use Rattle.world_builtins.specs.Styles.{text_by};
 ghost use Rattle.world_builtins.specs.Writing.{IsWritten};
 
+use crate::following::put_term_at;
 use crate::styles::Style;
-use crate::terms::flat_at;
 use atom_api::Atoms;
 use op_table::OpTable;
-use pl_term::{Flat, Memory};
+use pl_term::Memory;
 use std::alloc::Global;
+use std::mem;
 use std::sync::Arc;
 use term_store::{Place, Store};
+use term_writer::Writing;
 use world_api::{Answer, Reply, Unserved, Visit, World};
 
 /// The operators of a reply that has some.
@@ -33,20 +36,44 @@ fn operators_of<T: Drop>(reply: Reply<T>) -> Arc<OpTable>
     }
 }
 
-/// Puts the text of a term after what was written. The only error is out of memory.
-fn put_term(
+/// Begins the text of a term after these bytes. The only error is out of memory.
+fn begin<'a>(
     alloc: Global,
     style: Style,
-    term: &Flat,
-    operators: &OpTable,
-    out: &mut Vec<u8>,
-) -> Result<(), Memory>
-    ensures { OnOk result (out.new.items ≡ out.old.items ++ encode_utf8_all (text_by style term.now operators.now)) }
+    operators: &'a OpTable,
+    bytes: Vec<u8>,
+) -> Result<Writing<'a>, Memory>
+    ensures { IfOk result (IsBegun (λ t. text_by style t operators.now) bytes.items) }
 {
     match style {
-        Style::Bare => term_writer::write(alloc, term, operators, 1200, out),
-        Style::Quoted => term_writer::writeq(alloc, term, operators, 1200, out),
+        Style::Bare => Writing::bare(alloc, operators, 1200, bytes),
+        Style::Quoted => Writing::quoted(alloc, operators, 1200, bytes),
     }
+}
+
+/// Puts the text of the term at a place after what was written. The only error is out of memory.
+fn put_term<A: Atoms>(
+    alloc: Global,
+    style: Style,
+    store: &Store,
+    term: Place,
+    operators: &OpTable,
+    atoms: &mut A,
+    out: &mut Vec<u8>,
+) -> Result<(), Memory>
+    requires inside { Holds store.now term }
+    requires held { IsHeldAt (A.held atoms.old) store.now term }
+    ensures writes { OnOk result (out.new.items
+        ≡ out.old.items ++ encode_utf8_all (text_by style (reads (A.held atoms.old) store.now term) operators.now)) }
+    ensures same { A.held atoms.new ≡ A.held atoms.old }
+    ensures refusals { A.refusals atoms.new ≡ A.refusals atoms.old }
+    ensures asked { A.asked atoms.new ≡ A.asked atoms.old }
+{
+    let bytes = mem::replace(out, Vec::new(alloc));
+    let mut writing = begin(alloc, style, operators, bytes)?;
+    put_term_at(alloc, store, term, &mut writing, atoms)?;
+    *out = writing.end()?;
+    Ok(())
 }
 
 /// write/1, writeq/1 and print/1 (ISO 8.14.2; SWI-Prolog manual, section 'Term reading and writing'): puts the text of the
@@ -72,11 +99,11 @@ pub fn write<W: World>(
     ensures refusals { W.A.refusals atoms.new ≡ W.A.refusals atoms.old ++ refusals_in result }
     ensures asked { W.A.asked atoms.new ≡ W.A.asked atoms.old }
 {
-    let flat = flat_at(alloc, store, term, atoms)?;
+    store.find_room(term)?;
     match world.visit(Visit::ReadOperators, atoms) {
         Answer::Served { reply, .. } => {
             let operators = operators_of(reply);
-            put_term(alloc, style, &flat, &operators, out)?;
+            put_term(alloc, style, store, term, &operators, atoms, out)?;
             Ok(())
         }
         Answer::Waits { .. } => unreachable!(),
@@ -104,9 +131,12 @@ pub fn write_canonical<A: Atoms>(
     ensures refusals { A.refusals atoms.new ≡ A.refusals atoms.old }
     ensures asked { A.asked atoms.new ≡ A.asked atoms.old }
 {
-    let flat = flat_at(alloc, store, term, atoms)?;
-    let operators = OpTable::iso(alloc)?;
-    term_writer::write_canonical(alloc, &flat, &operators, 1200, out)
+    store.find_room(term)?;
+    let bytes = mem::replace(out, Vec::new(alloc));
+    let mut writing = Writing::canonical(alloc, bytes)?;
+    put_term_at(alloc, store, term, &mut writing, atoms)?;
+    *out = writing.end()?;
+    Ok(())
 }
 
 /// nl/0 (ISO 8.12.1): puts a new line after what was written. The only error is out of memory: then nothing has changed.

@@ -16,15 +16,15 @@ use std::alloc::Global;
 use term_store::{AtomNode, Place, Store};
 
 /// The text of an atom that is held. The only error is out of memory.
-fn text_at<A: Atoms>(alloc: Global, slot: u32, atoms: &mut A) -> Result<Text, Memory>
-    requires { IsSome (A.held atoms.old slot) }
-    ensures text { IfOk result (λ t. t ≡ text_of (A.held atoms.old) (atom_name slot)) }
+pub fn text_at<A: Atoms>(alloc: Global, atom: Atom, atoms: &mut A) -> Result<Text, Memory>
+    requires { IsSome (A.held atoms.old atom) }
+    ensures text { IfOk result (λ t. t ≡ text_of (A.held atoms.old) (atom_name atom)) }
     ensures same { A.held atoms.new ≡ A.held atoms.old }
     ensures refusals { A.refusals atoms.new ≡ A.refusals atoms.old }
     ensures asked { A.asked atoms.new ≡ A.asked atoms.old }
 {
     let mut text = TextBuf::new();
-    atoms.text(Atom::at(slot), &mut text);
+    atoms.text(atom, &mut text);
     text.to_text(alloc)
 }
 
@@ -40,11 +40,11 @@ fn spell<A: Atoms>(alloc: Global, node: &AtomNode, atoms: &mut A) -> Result<Node
         AtomNode::Var(x) => Ok(Node::Var(*x)),
         AtomNode::Int(i) => Ok(Node::Int(*i)),
         AtomNode::Atom(a) => {
-            let text = text_at(alloc, *a, atoms)?;
+            let text = text_at(alloc, Atom::at(*a), atoms)?;
             Ok(Node::Atom(text))
         }
         AtomNode::Comp(f, k) => {
-            let text = text_at(alloc, *f, atoms)?;
+            let text = text_at(alloc, Atom::at(*f), atoms)?;
             Ok(Node::Comp(text, *k as u64))
         }
     }
