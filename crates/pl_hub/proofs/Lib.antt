@@ -12,3 +12,4 @@ pub mod Added
 pub mod Opening
 pub mod AskedTexts
 pub mod SameVisits
+pub mod Ended

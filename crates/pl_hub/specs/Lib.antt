@@ -3,3 +3,4 @@ pub mod Settling
 pub mod State
 pub mod Visits
 pub mod Adding
+pub mod Ending

@@ -6,6 +6,7 @@
 #![tactic(auto)]
 
 mod clauses;
+mod ending;
 mod goals;
 mod naming;
 mod session;

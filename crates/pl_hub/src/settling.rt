@@ -1,12 +1,13 @@
 //! The step on the history after a part of the shared state has answered.
-ghost use Rattle.std.specs.Prelude.{◌≡◌, ◌∷◌, [], ◌++◌, ℕ, OnOk, true, length};
-ghost use Rattle.pl_model.specs.History.{is_end};
+ghost use Rattle.std.specs.Prelude.{◌^◌, ◌<◌, ◌≡◌, ◌∷◌, [], ◌++◌, ℕ, OnOk, true, length};
+ghost use Rattle.pl_model.specs.History.{finish, is_end};
 ghost use Rattle.pl_history.specs.Fronts.{begun_by, gains, own_engine, own_runs};
+ghost use Rattle.pl_hub.specs.Ending.{front_closed, hub_closed};
 ghost use Rattle.pl_hub.specs.Settling.{CanMake, CanSettle, IsBehind, Sees, answer_of, entry, front_after, hub_after, next_answer, next_front};
 
 use counted_terms::Row;
 use pl_history::{Front, History, HubFront};
-use pl_model::shows::Shows;
+use pl_model::shows::{Ends, Shows, ShowsHow, ShowsSteps};
 use pl_term::Memory;
 use std::marker::{Brand, PhantomData};
 use term_store::Stored;
@@ -135,4 +136,28 @@ pub(crate) fn settle_next(
         }
         Err(Memory) => Answer::Memory,
     }
+}
+
+/// The history gains the end of the front's own engine, which answers no request.
+pub(crate) fn close<W: ShowsHow, S: ShowsSteps>(
+    history: &History,
+    hub: &mut HubFront,
+    front: &mut Front,
+    engine: u64,
+    how: &W,
+    run: &S,
+)
+    requires hub_here { hub.old.table ≡ history.now }
+    requires front_here { front.old.table ≡ history.now }
+    requires own { own_engine front.old.lives ≡ engine }
+    requires runs { own_runs front.old.lives ≡ true }
+    requires room { length hub.old.seen < 2 ^ 49 }
+    ensures hub { hub.new ≡ hub_closed engine (finish (W.how how.now) (S.steps run.now)) hub.old }
+    ensures front { front.new ≡ front_closed engine (finish (W.how how.now) (S.steps run.now)) hub.old.seen front.old }
+    ensures sees { IsBehind hub.old.seen front.old }
+{
+    let ends = Ends { engine, how, run };
+    let Ok(_) = history.append(hub, front, &ends) else {
+        unreachable!()
+    };
 }
