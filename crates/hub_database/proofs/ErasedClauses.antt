@@ -170,7 +170,7 @@ static_mapped (Some Dynamic) = refl
 pub static_is : (r : Option Access) (d : model.Database Clause) (p : Proc) → option_map access_of r ≡ model.access_of d p → is_static_access r ≡ is_static d p
 static_is r d p e = static_mapped r ∙ (ap static_in e ∙ sym (is_static_in d p))
 
-known_mapped : (r : Option Access) → is_some r ≡ is_some (option_map access_of r)
+pub known_mapped : (r : Option Access) → is_some r ≡ is_some (option_map access_of r)
 known_mapped None = refl
 known_mapped (Some a) = refl
 

@@ -16,3 +16,4 @@ pub mod FlagRows
 pub mod ReclaimedClauses
 pub mod PutOperators
 pub mod ListedProcedures
+pub mod HintedCalls

@@ -14,7 +14,7 @@ use Rattle.pl_model.specs.Database.{Stored, Database, choices, erased_where, has
 use Rattle.pl_model.specs.Service.{clause_cells}
 use Rattle.clause_db.specs.Faults.{addition_fault}
 use Rattle.clause_db.specs.declared.fault.DbFault.TheVariants.{Static, CellsFull}
-use Rattle.hub_database.specs.Database.{AllOpen}
+use Rattle.hub_database.specs.Database.{AllOpen, IsOwn}
 use Rattle.hub_database.specs.Adding.{origin_by, with_adding}
 use Rattle.hub_database.specs.declared.storing.Adding.{Adding}
 use Rattle.hub_database.specs.declared.storing.Adding.TheVariants.{Text, First, Last}
@@ -62,7 +62,7 @@ none_seen p sys g (s ∷ ss) all = go (same_proc s.procedure p) refl (none_seen 
     go : (b : Bool) → same_proc s.procedure p ≡ b
         → filter (λ s. is_of p s && is_visible g s) ss ≡ []
         → cond (b && is_visible g s) (s ∷ filter (λ s. is_of p s && is_visible g s) ss) (filter (λ s. is_of p s && is_visible g s) ss) ≡ []
-    go true h rest = absurd (false≢true (sym all.0 ∙ ap is_system (is_same s.procedure p h) ∙ sys))
+    go true h rest = absurd (false≢true (sym all.0.open_ ∙ ap is_system (is_same s.procedure p h) ∙ sys))
     go false h rest = rest
 
 -- CHANGES leave it so
@@ -70,18 +70,18 @@ pub open_erased : (test : Stored Clause → Bool) (k : ℕ) (ss : List (Stored C
 open_erased test k [] all = tt
 open_erased test k (s ∷ ss) all = (go (test s && not (is_erased s)), open_erased test k ss all.1)
   where
-    go : (b : Bool) → is_system (cond b (record s { erased = Some k }) s).procedure ≡ false
-    go true = all.0
+    go : (b : Bool) → IsOwn (cond b (record s { erased = Some k }) s)
+    go true = record { open_ = all.0.open_; own = all.0.own }
     go false = all.0
 
-open_last : (s : Stored Clause) (ss : List (Stored Clause)) → is_system s.procedure ≡ false → AllOpen ss → AllOpen (ss ++ s ∷ [])
+open_last : (s : Stored Clause) (ss : List (Stored Clause)) → IsOwn s → AllOpen ss → AllOpen (ss ++ s ∷ [])
 open_last s [] one all = (one, tt)
 open_last s (x ∷ ss) one all = (all.0, open_last s ss one all.1)
 
-pub open_with : (by : Adding) (k : ℕ) (p : Proc) (c : Clause) (d : Database Clause) → is_system p ≡ false → AllOpen d.clauses → AllOpen (with_adding by k p c d).clauses
-open_with Text k p c d one all = open_last _ d.clauses one all
-open_with First k p c d one all = (one, all)
-open_with Last k p c d one all = open_last _ d.clauses one all
+pub open_with : (by : Adding) (k : ℕ) (p : Proc) (c : Clause) (d : Database Clause) → is_system p ≡ false → p ≡ proc_of c.head → AllOpen d.clauses → AllOpen (with_adding by k p c d).clauses
+open_with Text k p c d one own all = open_last _ d.clauses (record { open_ = one; own = own }) all
+open_with First k p c d one own all = (record { open_ = one; own = own }, all)
+open_with Last k p c d one own all = open_last _ d.clauses (record { open_ = one; own = own }) all
 
 -- a clause that is granted is none of a predicate of the system
 granted_open : (closed room : Bool) (used need : ℕ) → cond closed (Some Static) (cond room None (Some (CellsFull used need))) ≡ None → closed ≡ false
@@ -112,3 +112,21 @@ list_same goal g d all = go (is_system (proc_of goal)) refl
         let empty = none_seen (proc_of goal) e g d.clauses all in
         ap (filter (λ (s : Stored Clause). not (is_excluded (head_of goal) s.clause.head))) empty
         ∙ sym (ap (filter (λ (s : Stored Clause). not (is_excluded goal s.clause.head))) empty)
+
+-- THE FIRST OF A LIST is a clause of the procedure, and of its head's
+pub first_own : (p : Proc) (g : ℕ) (t : Clause → Bool) (ss : List (Stored Clause)) → AllOpen ss → (c : Stored Clause) (cs : List (Stored Clause))
+    → filter (λ (s : Stored Clause). not (t s.clause)) (filter (λ s. is_of p s && is_visible g s) ss) ≡ c ∷ cs → p ≡ proc_of c.clause.head
+first_own p g t [] all c cs e = absurd (cc)
+first_own p g t (s ∷ ss) all c cs e = go (same_proc s.procedure p) refl (is_visible g s) e (first_own p g t ss all.1 c cs)
+  where
+    go : (b : Bool) → same_proc s.procedure p ≡ b → (v : Bool)
+        → filter (λ (s : Stored Clause). not (t s.clause)) (cond (b && v) (s ∷ filter (λ s. is_of p s && is_visible g s) ss) (filter (λ s. is_of p s && is_visible g s) ss)) ≡ c ∷ cs
+        → (filter (λ (s : Stored Clause). not (t s.clause)) (filter (λ s. is_of p s && is_visible g s) ss) ≡ c ∷ cs → p ≡ proc_of c.clause.head)
+        → p ≡ proc_of c.clause.head
+    go true same true e rest = tried (t s.clause) e
+      where
+        tried : (x : Bool) → cond (not x) (s ∷ filter (λ (s : Stored Clause). not (t s.clause)) (filter (λ s. is_of p s && is_visible g s) ss)) (filter (λ (s : Stored Clause). not (t s.clause)) (filter (λ s. is_of p s && is_visible g s) ss)) ≡ c ∷ cs → p ≡ proc_of c.clause.head
+        tried true e = rest e
+        tried false e = let here : s ≡ c = cc in sym (is_same s.procedure p same) ∙ (all.0.own ∙ ap (λ (z : Stored Clause). proc_of z.clause.head) here)
+    go true same false e rest = rest e
+    go false same v e rest = rest e

@@ -6,6 +6,7 @@ use Rattle.std.specs.declared.result.Result.{Result}
 use Rattle.std.specs.declared.result.Result.TheVariants.{Ok, Err}
 use Rattle.pl_term.specs.Tree.{Tree}
 use Rattle.pl_model.specs.History.{Clause, History, Proc}
+use Rattle.pl_model.specs.Predicates.{proc_of}
 use Rattle.pl_model.specs.Service.{clause_cells, entry_by}
 use Rattle.pl_model.specs.SharedState.{SharedState, change}
 use Rattle.atom_api.specs.Names.{Names}
@@ -88,15 +89,15 @@ module _ (old : Held Tree) (k l o : View) (n : ℕ) (t : Tree) (counts : Counts 
   pub says_stored : (goals : ℕ) (h : History) → IsDatabase k old goals h → SaysFor (clause_by l) old (databases goals h)
   says_stored goals h was = says_carried k l old (databases goals h) own_same was.says
 
-  pub stored_database : (by : Adding) (p : Proc) (c : Clause) (goals e : ℕ) (h : History) (new : Held Tree)
+  pub stored_database : (by : Adding) (p : Proc) (c : Clause) (goals e : ℕ) (h : History) (new : Held Tree) → p ≡ proc_of c.head
       → length h ≡ n → IsDatabase k old goals h → new.flags ≡ old.flags → new.operators ≡ old.operators
       → addition_fault clause_cells (databases goals h n) p (origin_by by) c ≡ None
       → SaysFor (clause_by l) new (then_at n (with_adding by n p c) (databases goals h))
       → IsDatabase o new goals (h ++ entry_by e (Some (adding_kind by p c)))
-  stored_database by p c goals e h new at was flags operators none says =
+  stored_database by p c goals e h new own at was flags operators none says =
       database_then k o old new goals e h (adding_kind by p c) (with_adding by (length h) p c) was
       (does by (length h) e p c) (flags_stay by (length h) e p c) (operators_stay by (length h) e p c)
-      (open_with by (length h) p c (databases goals h (length h)) (open_by by p c (databases goals h (length h)) (ap (λ (i : ℕ). addition_fault clause_cells (databases goals h i) p (origin_by by) c) at ∙ none)))
+      (open_with by (length h) p c (databases goals h (length h)) (open_by by p c (databases goals h (length h)) (ap (λ (i : ℕ). addition_fault clause_cells (databases goals h i) p (origin_by by) c) at ∙ none)) own)
       flags operators
       (subst (λ (m : Names). SaysFor (λ u. clause_in (said m u)) new (then_at (length h) (with_adding by (length h) p c) (databases goals h))) (sym keeps)
       (subst (λ (i : ℕ). SaysFor (clause_by l) new (then_at i (with_adding by i p c) (databases goals h))) (sym at) says))
@@ -104,11 +105,11 @@ module _ (old : Held Tree) (k l o : View) (n : ℕ) (t : Tree) (counts : Counts 
   pub stored_says : (by : Adding) (p : Proc) (c : Clause) (goals e : ℕ) (h : History) (new : Held Tree) (P : DbFault → Type 0) → ((x : DbFault) → P x → ⊥) → clause_by l t ≡ c
       → length h ≡ n → IsDatabase k old goals h → new.flags ≡ old.flags → new.operators ≡ old.operators
       → MatchOption (addition_fault clause_cells (databases goals h n) p (origin_by by) (clause_by l t)) (SaysFor (clause_by l) new (then_at n (with_adding by n p (clause_by l t)) (databases goals h))) P
-      → (addition_fault clause_cells (databases goals h n) p (origin_by by) c ≡ None) × IsDatabase o new goals (h ++ entry_by e (Some (adding_kind by p c)))
+      → (addition_fault clause_cells (databases goals h n) p (origin_by by) c ≡ None) × (p ≡ proc_of c.head → IsDatabase o new goals (h ++ entry_by e (Some (adding_kind by p c))))
   stored_says by p c goals e h new P bad is at was flags operators m =
       let both = granted_says (addition_fault clause_cells (databases goals h n) p (origin_by by) c) bad
       (subst (λ (u : Clause). MatchOption (addition_fault clause_cells (databases goals h n) p (origin_by by) u) (SaysFor (clause_by l) new (then_at n (with_adding by n p u) (databases goals h))) P) is m) in
-      (both.0, stored_database by p c goals e h new at was flags operators both.0 both.1)
+      (both.0, λ own. stored_database by p c goals e h new own at was flags operators both.0 both.1)
 
   -- IT IS FORGOTTEN AGAIN, f: the keeper then
   module _ (f : View) (others_back : (u : Tree) → IsCounted u f → said (kept f) u ≡ said (kept o) u) (less : (a : ℕ) → naming a t + tally f a ≡ tally o a) where

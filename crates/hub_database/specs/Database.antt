@@ -3,6 +3,7 @@ use Rattle.std.specs.Prelude.{◌≡◌, ◌≤◌, ℕ, List, [], ◌∷◌, fa
 use Rattle.pl_term.specs.Tree.{Tree}
 use Rattle.pl_model.specs.History.{Clause, History, Kind, add_first, add_last, erase, abolish, set_dynamic, set_flag, set_op}
 use Rattle.pl_model.specs.Database as model
+use Rattle.pl_model.specs.Predicates.{proc_of}
 use Rattle.pl_model.specs.SharedState.{state_at}
 use Rattle.atom_words.specs.declared.view.View.{View}
 use Rattle.clause_db.specs.Parts.{Held}
@@ -19,10 +20,14 @@ databases goals h g = (state_at goals h g).database
 abbrev pub clause_counts : Held Tree → ℕ → ℕ
 clause_counts db a = weight (naming a) db
 
--- no clause is one of a predicate of the system
+-- the clause is of the predicate of its head, which is none of the system
+pub record IsOwn (s : model.Stored Clause) : Type 0 where
+  pub open_ : model.is_system s.procedure ≡ false
+  pub own : s.procedure ≡ proc_of s.clause.head
+
 abbrev pub AllOpen : List (model.Stored Clause) → Type 0
 AllOpen [] = Unit {0}
-AllOpen (s ∷ ss) = (model.is_system s.procedure ≡ false) × AllOpen ss
+AllOpen (s ∷ ss) = IsOwn s × AllOpen ss
 
 -- WHAT IS STORED IS THE DATABASE AFTER THE HISTORY, by the texts that the keeper with the view k keeps, at each generation from the floor on
 pub record IsDatabase (k : View) (db : Held Tree) (goals : ℕ) (h : History) : Type 0 where

@@ -1,6 +1,9 @@
 -- What the database answers to a visit, and what is stored then.
 use Rattle.std.specs.Prelude.{◌≡◌, ◌<◌, ◌≤◌, ◌^◌, ℕ, suc, ◌++◌, Option, Some, None, IsSome, Bool, true, false, codes}
 use Rattle.std.specs.List.{All}
+use Rattle.std.specs.declared.result.Result.{Result}
+use Rattle.std.specs.declared.result.Result.TheVariants.{Ok, Err}
+use Rattle.pl_term.specs.declared.memory.Memory.{Memory as NoRoom}
 use Rattle.pl_term.specs.Tree.{Chars, Tree}
 use Rattle.pl_model.specs.History.{History, Kind}
 use Rattle.pl_model.specs.Service.{entry_by}
@@ -128,3 +131,8 @@ IsReplyOrMade (Reads r) = Unit {0}
 IsReplyOrMade (Makes r) = Unit {0}
 IsReplyOrMade Memory = Unit {0}
 IsReplyOrMade _ = ⊥
+
+-- the row that hands out what was found
+abbrev pub handed_row : Result (Option (Found Tree)) NoRoom → Row
+handed_row (Ok f) = Reads (Clauses f)
+handed_row (Err e) = Memory

@@ -28,8 +28,8 @@ use pl_term::Memory;
 use term_store::{ArgumentKey, Stored};
 use world_api::Found;
 
-// Hands out a clause that was found. The only error is that so many hold the clause that they can no longer be counted.
-fn hand_out<K: NamesTable>(
+/// Hands out a clause that was found. The only error is that so many hold the clause that they can no longer be counted.
+pub(crate) fn hand_out<K: NamesTable>(
     atoms: &mut TableAtoms<K>,
     keeper: &mut Option<Keeper>,
     hit: Option<Hit<'_, CountedTerm>>,

@@ -6,6 +6,7 @@ ghost use Rattle.std.specs.Result.{MatchResult};
 ghost use Rattle.pl_term.specs.Tree.{Tree};
 ghost use Rattle.pl_model.specs.Database.{Database};
 ghost use Rattle.pl_model.specs.History as entries;
+ghost use Rattle.pl_model.specs.Predicates.{proc_of as predicate_of};
 ghost use Rattle.pl_model.specs.Service.{clause_cells, entry_by};
 ghost use Rattle.pl_model.specs.laws.Shown.{proc_of};
 ghost use Rattle.atom_words.specs.Seats.{seen};
@@ -107,7 +108,8 @@ pub fn store_clause<K: NamesTable>(
     ensures says { (goals e : ℕ) (h : entries.History) → length h ≡ place → IsDatabase (keeper_view keeper.old) db.old goals h
         → MatchResult result
         (λ _. (addition_fault clause_cells (databases goals h place) (proc_of p.now) (origin_by by) (clause_in (said (names (seen atoms.old.seat)) clause)) ≡ None)
-        × IsDatabase (keeper_view keeper.new) db.new goals (h ++ entry_by e (Some (adding_kind by (proc_of p.now) (clause_in (said (names (seen atoms.old.seat)) clause))))))
+        × (proc_of p.now ≡ predicate_of (clause_in (said (names (seen atoms.old.seat)) clause)).head
+        → IsDatabase (keeper_view keeper.new) db.new goals (h ++ entry_by e (Some (adding_kind by (proc_of p.now) (clause_in (said (names (seen atoms.old.seat)) clause)))))))
         (λ x. (x ≡ NoMemory) ⊎ (addition_fault clause_cells (databases goals h place) (proc_of p.now) (origin_by by) (clause_in (said (names (seen atoms.old.seat)) clause)) ≡ Some x)) }
 {
     store_from(atoms, keeper, &clause);

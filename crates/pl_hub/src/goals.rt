@@ -45,6 +45,7 @@ impl<K: Naming> Shared<K> {
         let row = hub_database::call_clauses(
             alloc,
             &self.db,
+            &mut self.hints,
             atoms,
             &mut self.keeper,
             &procedure,

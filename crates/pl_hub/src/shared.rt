@@ -10,6 +10,7 @@ use crate::naming::Naming;
 use atom_table::Keeper;
 use clause_db::Db;
 use counted_terms::CountedTerm;
+use hub_database::Hints;
 use hub_threads::Queues;
 use pl_history::{Front, History, HubFront};
 use pl_term::Memory;
@@ -24,6 +25,8 @@ pub struct Shared<K: Naming> {
     pub(crate) front: HubFront,
     pub(crate) keeper: Option<Keeper>,
     pub(crate) db: Db<CountedTerm>,
+    /// Where the procedures of calls stand.
+    pub(crate) hints: Hints,
     pub(crate) queues: Queues<CountedTerm>,
     /// The number that the next thread or queue gets.
     pub(crate) count: u64,
@@ -79,6 +82,7 @@ impl<K: Naming> Shared<K> {
             front: hub,
             keeper: Some(keeper),
             db,
+            hints: Hints::new(alloc),
             queues,
             count: first_number(goals),
             of: PhantomData,

@@ -93,10 +93,10 @@ returns-in-Ok-store_clause-clause-says g c = λ goals e h at is.
     let p = proc_of c.in-Ok.p in
     let own : p ≡ predicate_of (head_part (said old t)) = c.in-Ok.ensures.spelled ∙ c.in-Some.ensures.says old c.args.atoms.now.lawful ∙ ap (λ (u : Tree). predicate_of (head_part (said old u))) c.term.ensures in
     let both = subst (λ (n : Names). (addition_fault clause_cells (databases goals h c.args.generation) p (origin_by c.args.by) (clause_in (said n t)) ≡ None)
-    × IsDatabase (keeper_view c.store_clause.new.keeper) c.store_clause.new.db goals (h ++ entry_by e (Some (adding_kind c.args.by p (clause_in (said n t))))))
+    × (p ≡ predicate_of (head_part (said n t)) → IsDatabase (keeper_view c.store_clause.new.keeper) c.store_clause.new.db goals (h ++ entry_by e (Some (adding_kind c.args.by p (clause_in (said n t)))))))
     c.predicate_text.ensures.held (c.in-Ok-store_clause.ensures.says goals e h at is) in
     made_decides goals e h c.args.generation at c.args.by (clause_in (said old t)) p own (keeper_view c.store_clause.new.keeper) c.store_clause.new.db (text_of (names (seen c.store_clause.new.atoms.seat)))
-    (let below = c.if-generation-ge-MOST_UPDATES.false in omega (arith, below)) both.0 both.1
+    (let below = c.if-generation-ge-MOST_UPDATES.false in omega (arith, below)) both.0 (both.1 own)
 
 -- IT IS NOT
 pub returns-clause-restored : goal.returns-clause-restored

@@ -1,52 +1,39 @@
-use Rattle.pl_model.specs.Flags.{Flags}
-use Rattle.std.proofs.Common.{sym, ap, subst, ◌∙◌}
+use Rattle.std.proofs.Common.{◌≡◌, sym, subst}
 use Rattle.std.specs.Prelude.{IsSome}
 use Rattle.std.specs.List.{All}
-use Rattle.pl_model.specs.Database.{choices}
-use Rattle.pl_model.specs.FirstArguments.{head_of}
-use Rattle.pl_model.specs.History.{Clause}
-use Rattle.pl_model.specs.Predicates.{is_excluded}
-use Rattle.pl_model.specs.laws.Shown.{proc_of}
+use Rattle.pl_model.specs.Predicates.{proc_of as predicate_of}
+use Rattle.pl_model.specs.Requests as requests
 use Rattle.atom_api.specs.Names.{Names}
 use Rattle.atom_words.specs.Seats.{seen}
 use Rattle.atom_table.specs.Naming.{names}
 use Rattle.term_store.specs.ArgumentKeys.{key_atoms}
-use Rattle.term_store.specs.NumberedNames.{term_by}
-use Rattle.world_api.specs.Replies.{IsFront}
 use Rattle.world_api.specs.Texts.{text_of}
 use Rattle.world_api.specs.Visits.{proc_named}
 use Rattle.counted_terms.specs.CountedTerms.{said}
 use Rattle.counted_terms.specs.Keeping.{keeper_view}
-use Rattle.hub_database.specs.Clauses.{clause_by}
-use Rattle.hub_database.specs.Database.{databases}
-use Rattle.hub_database.specs.Rows.{HandsOut}
-use Rattle.hub_database.proofs.CalledClauses.{known_tells, unknown_named, unknown_tells}
-use Rattle.hub_database.proofs.Deciding.{quiet_then}
+use Rattle.hub_database.specs.Database.{clause_counts}
+use Rattle.hub_database.specs.Rows.{Tells}
+use Rattle.hub_database.proofs.Deciding.{quiet_then, steady_database}
+use Rattle.hub_database.proofs.HintedCalls.{counts_steady, steady_then}
 use Rattle.hub_database.proofs.calling.call_clauses.Goals as goal
 
-pub first_of-requires-clause-key : goal.first_of-requires-clause-key
-first_of-requires-clause-key g c = subst (λ (m : Names). All (λ a. IsSome (m a)) (key_atoms c.args.first.now)) (sym c.predicate_text.ensures.held) c.requires.key
+pub call_by_text-requires-clause-counts : goal.call_by_text-requires-clause-counts
+call_by_text-requires-clause-counts g c = counts_steady (clause_counts c.args.db.now) (keeper_view c.args.keeper.now) (keeper_view c.hinted.new.keeper) c.args.generation c.requires.counts c.hinted.ensures.steady
 
-pub returns-then-is_known-clause-quiet : goal.returns-then-is_known-clause-quiet
-returns-then-is_known-clause-quiet g c = quiet_then (seen c.args.atoms.now.seat) (seen c.predicate_text.new.atoms.seat) (seen c.first_of.new.atoms.seat) c.predicate_text.ensures.quiet c.first_of.ensures.quiet
+pub call_by_text-requires-clause-name : goal.call_by_text-requires-clause-name
+call_by_text-requires-clause-name g c = subst (λ (m : Names). IsSome (m c.args.procedure.now.name)) (sym c.in-None.ensures.missed) c.requires.name
 
-pub returns-then-is_known-clause-says : goal.returns-then-is_known-clause-says
-returns-then-is_known-clause-says g c = λ goals e h t at is own key.
-    let k = keeper_view c.args.keeper.now in
-    known_tells goals e h k c.args.db.now c.args.generation at is (said (names (seen c.args.atoms.now.seat)) t) (proc_of c.in-Ok.p) (own ∙ sym c.in-Ok.ensures.spelled) (text_of (names (seen c.first_of.new.atoms.seat)))
-    (sym (c.is_known.ensures (clause_by k) (databases goals h) is.says) ∙ c.if-is_known.true) c.first_of.result
-    (subst (λ (m : Names). HandsOut (λ f. IsFront term_by (text_of (names (seen c.first_of.new.atoms.seat))) f (choices (λ (x : Clause). is_excluded (head_of (said m t)) x.head) c.args.generation (proc_of c.in-Ok.p) (databases goals h c.args.generation))) c.first_of.result)
-    c.predicate_text.ensures.held (c.first_of.ensures.says (databases goals h) t is.says key))
+pub call_by_text-requires-clause-key : goal.call_by_text-requires-clause-key
+call_by_text-requires-clause-key g c = subst (λ (m : Names). All (λ a. IsSome (m a)) (key_atoms c.args.first.now)) (sym c.in-None.ensures.missed) c.requires.key
 
-pub returns-clause-named : goal.returns-clause-named
-returns-clause-named g c =
-    unknown_named (names (seen c.predicate_text.new.atoms.seat)) c.args.procedure.now c.predicate_text.new.atoms.lawful.stand
-    (subst (λ (m : Names). IsSome (m c.args.procedure.now.name)) (sym c.predicate_text.ensures.held) c.requires.name) c.flags.result.unknown c.unknown.result c.unknown.ensures.answers
+pub returns-in-None-clause-steady : goal.returns-in-None-clause-steady
+returns-in-None-clause-steady g c = steady_then (keeper_view c.args.keeper.now) (keeper_view c.hinted.new.keeper) (keeper_view c.call_by_text.new.keeper) c.hinted.ensures.steady c.call_by_text.ensures.steady
 
-pub returns-clause-says : goal.returns-clause-says
-returns-clause-says g c = λ goals e h t at is own key.
-    let k = keeper_view c.args.keeper.now in
-    unknown_tells goals e h k c.args.db.now c.args.generation at is (said (names (seen c.args.atoms.now.seat)) t) (proc_of c.in-Ok.p) (own ∙ sym c.in-Ok.ensures.spelled)
-    (names (seen c.predicate_text.new.atoms.seat)) c.args.procedure.now (c.in-Ok.ensures.spelled ∙ ap (λ (m : Names). proc_named (text_of m) c.args.procedure.now) (sym c.predicate_text.ensures.held)) c.predicate_text.new.atoms.lawful.stand
-    (subst (λ (m : Names). IsSome (m c.args.procedure.now.name)) (sym c.predicate_text.ensures.held) c.requires.name)
-    (sym (c.is_known.ensures (clause_by k) (databases goals h) is.says) ∙ c.if-is_known.false) c.flags.result.unknown (ap (λ (f : Flags). f.unknown) (c.flags.ensures ∙ is.flags)) c.unknown.result c.unknown.ensures.answers
+pub returns-in-None-clause-quiet : goal.returns-in-None-clause-quiet
+returns-in-None-clause-quiet g c = quiet_then (seen c.args.atoms.now.seat) (seen c.hinted.new.atoms.seat) (seen c.call_by_text.new.atoms.seat) c.hinted.ensures.quiet c.call_by_text.ensures.quiet
+
+pub returns-in-None-clause-says : goal.returns-in-None-clause-says
+returns-in-None-clause-says g c = λ goals e h t at is own key.
+    subst (λ (m : Names). Tells goals e (text_of (names (seen c.call_by_text.new.atoms.seat))) (requests.call_clauses (said m t)) h c.call_by_text.result) c.in-None.ensures.missed
+    (c.call_by_text.ensures.says goals e h t at (steady_database (keeper_view c.args.keeper.now) (keeper_view c.hinted.new.keeper) c.args.db.now goals h c.hinted.ensures.steady.keeps is)
+    (subst (λ (m : Names). predicate_of (said m t) ≡ proc_named (text_of m) c.args.procedure.now) (sym c.in-None.ensures.missed) own) key)
