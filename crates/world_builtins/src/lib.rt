@@ -8,6 +8,7 @@ mod styles;
 mod terms;
 
 pub use characters::{Character, put_char};
+pub use following::put_term_at;
 pub use output::{nl, write, write_canonical};
 pub use styles::Style;
 pub use terms::{flat_at, flat_of};
