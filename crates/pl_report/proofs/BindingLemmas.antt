@@ -1,7 +1,7 @@
 -- Bindings with commas between them.
-use Rattle.std.proofs.Common.{◌≡◌, ◌<◌, ◌+◌, ℕ, zero, suc, Bool, true, false, List, [], ◌∷◌, ◌++◌, map, length, get_or, take, refl, sym, ◌∙◌, ap, append_assoc, append-nil, arith, add-one, Option, Some, None, MatchOption}
+use Rattle.std.proofs.Common.{◌≡◌, ℕ, Bool, true, false, List, [], ◌∷◌, ◌++◌, map, length, get_or, refl, sym, ◌∙◌, ap, append_assoc, append-nil, arith, Option, Some, None, MatchOption}
 use Rattle.std.proofs.lemmas.Bool.{false≢true}
-use Rattle.std.proofs.lemmas.Str.{cons_from_encodes, length-le-encodes}
+use Rattle.std.proofs.lemmas.Str.{cons_from_encodes, encodes-append, length-le-encodes}
 use Rattle.std.specs.Prelude.{codes, filter, if◌then◌else◌}
 use Rattle.std.specs.Str.{encode_utf8_all}
 use Rattle.std.specs.Str.Iter.{chars_rest, chars_steps}
@@ -9,11 +9,12 @@ use Rattle.std.specs.declared.str.Chars.{Chars as CharsLeft}
 use Rattle.pl_term.specs.Tree.{Chars, Tree, atom}
 use Rattle.pl_model.specs.OperatorTable.{OperatorTable}
 use Rattle.pl_model.specs.TermWriting.{writeq}
-use Rattle.run_model.specs.Report.{is_shown, binding_text, with_commas, solution_text, stopped}
+use Rattle.run_model.specs.Report.{is_shown, binding_text, closed, with_commas, solution_text, stopped}
 use Rattle.pl_report.specs.Adds.{Adds}
-use Rattle.pl_report.specs.Pieces.{shown_texts, has_any, comma_if, binding_behind}
+use Rattle.pl_report.specs.Bindings.{HasBindings}
+use Rattle.pl_report.specs.Pieces.{shown_texts, has_any, comma_if}
 use Rattle.pl_report.proofs.AddsLemmas.{adds_then, adds_same}
-use Rattle.pl_report.proofs.Endings.{IsFull, adds_stop}
+use Rattle.pl_report.proofs.Endings.{IsFull, adds_stop, closed_bytes}
 
 -- The first character that the characters of a text give.
 pub first_given : (cs bs : List ℕ) (s t : CharsLeft) (r : Option ℕ)
@@ -57,56 +58,69 @@ shown-cons ops ts n ns = by (is_shown n)
     by true = refl
     by false = refl
 
-shown-push : (ops : OperatorTable) (ts : List Tree) (ns : List (Chars × ℕ)) (i : ℕ) (n : Chars × ℕ) → i < length ns → n ≡ get_or ns i n
-    → shown_texts ops ts (take (i + 1) ns) ≡ shown_texts ops ts (take i ns) ++ one ops ts n
-shown-push ops ts [] i n h e = absurd (omega (arith, h))
-shown-push ops ts (m ∷ ms) zero n h e =
-    shown-cons ops ts m [] ∙ append-nil (one ops ts m) ∙ ap (one ops ts) (sym e)
-shown-push ops ts (m ∷ ms) (suc i) n h e =
-    let k : i < length ms = omega (arith, h) in
-    rw (add-one (suc i))
-    (shown-cons ops ts m (take (suc i) ms)
-    ∙ ap (λ j. one ops ts m ++ shown_texts ops ts (take j ms)) (sym (add-one i))
-    ∙ ap (λ x. one ops ts m ++ x) (shown-push ops ts ms i n k e)
-    ∙ sym (append_assoc (one ops ts m) (shown_texts ops ts (take i ms)) (one ops ts n))
-    ∙ ap (λ x. x ++ one ops ts n) (sym (shown-cons ops ts m (take i ms))))
+shown-last : (ops : OperatorTable) (ts : List Tree) (ns : List (Chars × ℕ)) (n : Chars × ℕ) → shown_texts ops ts (ns ++ n ∷ []) ≡ shown_texts ops ts ns ++ one ops ts n
+shown-last ops ts [] n = shown-cons ops ts n [] ∙ append-nil (one ops ts n)
+shown-last ops ts (m ∷ ns) n =
+    shown-cons ops ts m (ns ++ n ∷ [])
+    ∙ ap (λ x. one ops ts m ++ x) (shown-last ops ts ns n)
+    ∙ sym (append_assoc (one ops ts m) (shown_texts ops ts ns) (one ops ts n))
+    ∙ ap (λ x. x ++ one ops ts n) (sym (shown-cons ops ts m ns))
 
--- One variable more: the bindings, and whether there are some.
-pub bindings_more : (ops : OperatorTable) (ts : List Tree) (ns : List (Chars × ℕ)) (i : ℕ) (n : Chars × ℕ) (some : Bool) → i < length ns → n ≡ get_or ns i n
-    → some ≡ has_any (shown_texts ops ts (take i ns))
-    → with_commas (shown_texts ops ts (take i ns)) ++ binding_behind some ops ts n ≡ with_commas (shown_texts ops ts (take (i + 1) ns))
-bindings_more ops ts ns i n some h e s =
-    ap (λ x. with_commas (shown_texts ops ts (take i ns)) ++ binding_behind x ops ts n) s
-    ∙ by (is_shown n)
-    ∙ ap with_commas (sym (shown-push ops ts ns i n h e))
-  where
-    by : (b : Bool)
-        → with_commas (shown_texts ops ts (take i ns))
-        ++ (if b then comma_if (has_any (shown_texts ops ts (take i ns))) ++ binding_text ops ts n else [])
-        ≡ with_commas (shown_texts ops ts (take i ns) ++ (if b then binding_text ops ts n ∷ [] else []))
-    by true = sym (commas-push (shown_texts ops ts (take i ns)) (binding_text ops ts n))
-    by false =
-        append-nil (with_commas (shown_texts ops ts (take i ns)))
-        ∙ ap with_commas (sym (append-nil (shown_texts ops ts (take i ns))))
+one_shown : (ops : OperatorTable) (ts : List Tree) (ns : List (Chars × ℕ)) (n : Chars × ℕ) → is_shown n ≡ true
+    → shown_texts ops ts (ns ++ n ∷ []) ≡ shown_texts ops ts ns ++ binding_text ops ts n ∷ []
+one_shown ops ts ns n shown =
+    shown-last ops ts ns n ∙ ap (λ b. shown_texts ops ts ns ++ (if b then binding_text ops ts n ∷ [] else [])) shown
 
-pub some_more : (ops : OperatorTable) (ts : List Tree) (ns : List (Chars × ℕ)) (i : ℕ) (n : Chars × ℕ) (some : Bool) → i < length ns → n ≡ get_or ns i n
-    → some ≡ has_any (shown_texts ops ts (take i ns))
-    → (if is_shown n then true else some) ≡ has_any (shown_texts ops ts (take (i + 1) ns))
-some_more ops ts ns i n some h e s =
-    ap (λ x. if is_shown n then true else x) s
-    ∙ by (is_shown n)
-    ∙ ap has_any (sym (shown-push ops ts ns i n h e))
-  where
-    by : (b : Bool)
-        → (if b then true else has_any (shown_texts ops ts (take i ns)))
-        ≡ has_any (shown_texts ops ts (take i ns) ++ (if b then binding_text ops ts n ∷ [] else []))
-    by true = sym (has-push (shown_texts ops ts (take i ns)) (binding_text ops ts n))
-    by false = ap has_any (sym (append-nil (shown_texts ops ts (take i ns))))
+one_hidden : (ops : OperatorTable) (ts : List Tree) (ns : List (Chars × ℕ)) (n : Chars × ℕ) → is_shown n ≡ false
+    → shown_texts ops ts (ns ++ n ∷ []) ≡ shown_texts ops ts ns
+one_hidden ops ts ns n hidden =
+    shown-last ops ts ns n
+    ∙ ap (λ b. shown_texts ops ts ns ++ (if b then binding_text ops ts n ∷ [] else [])) hidden
+    ∙ append-nil (shown_texts ops ts ns)
 
--- The text of a solution, without and with bindings.
-pub solution_none : {a b c : List ℕ} (bs : List Chars) (some : Bool) → some ≡ has_any bs → some ≡ false → Adds a b (with_commas bs) → Adds b c (codes "true.") → Adds a c (solution_text bs)
-solution_none [] some s f p q = adds_then p q
-solution_none (b ∷ bs) some s f p q = absurd (false≢true (sym f ∙ s))
+-- The line begins.
+pub none_bound : {a b : List ℕ} (t : Chars) (ops : OperatorTable) (ts : List Tree) → a ≡ encode_utf8_all t → b ≡ closed a → HasBindings t ops ts [] false b
+none_bound t ops ts spelled close =
+    record {
+      are = refl;
+      text = close ∙ ap closed spelled ∙ closed_bytes t ∙ ap encode_utf8_all (sym (append-nil (closed t)));
+    }
+
+-- A variable that is not shown.
+pub hidden_goes : {a : List ℕ} (t : Chars) (ops : OperatorTable) (ts : List Tree) (ns : List (Chars × ℕ)) (some : Bool) (n : Chars × ℕ) → is_shown n ≡ false
+    → HasBindings t ops ts ns some a → HasBindings t ops ts (ns ++ n ∷ []) some a
+hidden_goes t ops ts ns some n hidden h =
+    let same = sym (one_hidden ops ts ns n hidden) in
+    record { are = h.are ∙ ap has_any same; text = h.text ∙ ap (λ bs. encode_utf8_all (closed t ++ with_commas bs)) same }
+
+-- One that is shown, after its name and its value.
+pub shown_goes : {a b c : List ℕ} (t : Chars) (ops : OperatorTable) (ts : List Tree) (ns : List (Chars × ℕ)) (some : Bool) (n : Chars × ℕ) → is_shown n ≡ true
+    → HasBindings t ops ts ns some a → Adds a b (comma_if some) → Adds b c (n.0 ++ codes " = ")
+    → (after : List ℕ) → after ≡ c ++ encode_utf8_all (writeq ops 699 (get_or ts n.1 (atom []))) → HasBindings t ops ts (ns ++ n ∷ []) true after
+shown_goes {a = a} {c = c} t ops ts ns some n shown h comma name after value =
+    let bs = shown_texts ops ts ns in
+    let text = binding_text ops ts n in
+    let said = writeq ops 699 (get_or ts n.1 (atom [])) in
+    let all = one_shown ops ts ns n shown in
+    let before : Adds [] a (closed t ++ with_commas bs) = record { added = h.text } in
+    let behind : Adds c after said = record { added = value } in
+    let put : Adds [] after ((closed t ++ with_commas bs) ++ (comma_if some ++ ((n.0 ++ codes " = ") ++ said))) = adds_then before (adds_then comma (adds_then name behind)) in
+    record {
+      are = sym (ap has_any all ∙ has-push bs text);
+      text =
+          put.added
+          ∙ ap encode_utf8_all
+          (append_assoc (closed t) (with_commas bs) (comma_if some ++ ((n.0 ++ codes " = ") ++ said))
+          ∙ ap (λ x. closed t ++ (with_commas bs ++ (comma_if some ++ x))) (append_assoc n.0 (codes " = ") said)
+          ∙ ap (λ k. closed t ++ (with_commas bs ++ (comma_if k ++ text))) h.are
+          ∙ ap (λ x. closed t ++ x) (sym (commas-push bs text))
+          ∙ ap (λ xs. closed t ++ with_commas xs) (sym all));
+    }
+
+-- The bindings alone, after the text.
+bound : {a : List ℕ} (t : Chars) (ops : OperatorTable) (ts : List Tree) (ns : List (Chars × ℕ)) (some : Bool) → HasBindings t ops ts ns some a
+    → Adds (encode_utf8_all (closed t)) a (with_commas (shown_texts ops ts ns))
+bound t ops ts ns some h = record { added = h.text ∙ encodes-append (closed t) (with_commas (shown_texts ops ts ns)) }
 
 full-append : (a b : Chars) → IsFull a → IsFull (a ++ b)
 full-append [] b h = absurd h
@@ -129,17 +143,17 @@ text-some : (bs : List Chars) → has_any bs ≡ true → stopped (with_commas b
 text-some [] e = absurd (false≢true e)
 text-some (b ∷ bs) e = refl
 
-pub solution_some : {a b c : List ℕ} (ops : OperatorTable) (ts : List Tree) (ns : List (Chars × ℕ)) (some : Bool) → some ≡ has_any (shown_texts ops ts ns) → some ≡ true
-    → Adds a b (with_commas (shown_texts ops ts ns))
-    → c ≡ stopped b
-    → Adds a c (solution_text (shown_texts ops ts ns))
-solution_some ops ts ns some s t p e =
-    adds_same
-    (text-some (shown_texts ops ts ns) (sym s ∙ t))
-    (adds_stop (full-solution ops ts (filter is_shown ns) (sym s ∙ t)) p e)
+-- The end of what is said, where there are bindings and where there are none.
+pub some_ends : {a b : List ℕ} (t : Chars) (ops : OperatorTable) (ts : List Tree) (ns : List (Chars × ℕ)) (some : Bool) → some ≡ true → HasBindings t ops ts ns some a → b ≡ stopped a
+    → Adds (encode_utf8_all (closed t)) b (solution_text (shown_texts ops ts ns))
+some_ends t ops ts ns some is h stop =
+    let any = sym h.are ∙ is in
+    adds_same (text-some (shown_texts ops ts ns) any) (adds_stop (full-solution ops ts (filter is_shown ns) any) (bound t ops ts ns some h) stop)
 
--- The value of a variable with a number that has one.
-pub value_at : (ts : List Tree) (i : ℕ) (t d : Tree) → i < length ts → t ≡ get_or ts i t → t ≡ get_or ts i d
-value_at [] i t d h e = absurd (omega (arith, h))
-value_at (u ∷ us) zero t d h e = e
-value_at (u ∷ us) (suc i) t d h e = let k : i < length us = omega (arith, h) in value_at us i t d k e
+none_text : {a b c : List ℕ} (bs : List Chars) → has_any bs ≡ false → Adds a b (with_commas bs) → Adds b c (codes "true.") → Adds a c (solution_text bs)
+none_text [] e p q = adds_then p q
+none_text (b ∷ bs) e p q = absurd (false≢true (sym e))
+
+pub none_ends : {a b : List ℕ} (t : Chars) (ops : OperatorTable) (ts : List Tree) (ns : List (Chars × ℕ)) (some : Bool) → some ≡ false → HasBindings t ops ts ns some a → Adds a b (codes "true.")
+    → Adds (encode_utf8_all (closed t)) b (solution_text (shown_texts ops ts ns))
+none_ends t ops ts ns some is h words = none_text (shown_texts ops ts ns) (sym h.are ∙ is) (bound t ops ts ns some h) words

@@ -18,6 +18,10 @@ line_put {a = a} {b = b} {c = c} {d = d} {line = line} t spelled close p e =
     ∙ ap (λ x. x ++ encode_utf8_all (line ++ newline)) (close ∙ ap closed spelled ∙ closed_bytes t)
     ∙ sym (encodes-append (closed t) (line ++ newline))
 
+-- The end of a line after a text.
+pub line_ended : {c d : List ℕ} {line : Chars} (t : Chars) → Adds (encode_utf8_all (closed t)) c line → d ≡ c ++ newline → d ≡ encode_utf8_all (with_line t line)
+line_ended {line = line} t p e = (adds_then p (adds_newline e)).added ∙ sym (encodes-append (closed t) (line ++ newline))
+
 -- What is said of an item after its place.
 pub item_put : {a b c : List ℕ} {t : Chars} (name : Chars) (at : ℕ) → Adds a b (place_text name at) → Adds b c t → Adds a c (item_line name at t)
 item_put {a = a} {b = b} {c = c} {t = t} name at p q =

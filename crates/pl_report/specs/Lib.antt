@@ -1,4 +1,5 @@
 pub mod Adds
+pub mod Bindings
 pub mod Sections
 pub mod Pieces
 pub mod Reported

@@ -28,10 +28,6 @@ has_any (b ∷ bs) = true
 abbrev pub comma_if : Bool → Chars
 comma_if some = if some then codes ", " else []
 
--- What a variable adds to the bindings, where there are some before it or none.
-abbrev pub binding_behind : Bool → OperatorTable → List Tree → Chars × ℕ → Chars
-binding_behind some ops ts n = if is_shown n then comma_if some ++ binding_text ops ts n else []
-
 -- A last line with its end, where there is one.
 abbrev pub line_text : Option Chars → Chars
 line_text None = []

@@ -16,4 +16,4 @@ pub use file::{
 };
 pub use parts::{Section, SectionKind};
 pub use sections::transcript;
-pub use solutions::put_solution;
+pub use solutions::{begin_solution, end_solution, put_name, put_no_value};

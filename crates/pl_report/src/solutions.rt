@@ -1,10 +1,13 @@
-//! The line of a solution: the bindings of the goal's variables.
-ghost use Rattle.std.specs.Prelude.{◌≡◌, ◌∷◌, [], ℕ, List, OnOk, IfOk, MatchOption, true, encode_utf8_all, get_or, if◌then◌else◌};
-ghost use Rattle.pl_term.specs.Tree.{Chars, atom};
-ghost use Rattle.run_model.specs.Report.{is_shown, binding_text, with_commas, solution_line, with_line};
+//! The line of a solution: the bindings of the goal's variables, put one after the other, so that each value may be written from
+//! where it stands.
+ghost use Rattle.std.specs.Prelude.{◌≡◌, ◌++◌, ◌∷◌, [], ℕ, List, OnOk, IfOk, MatchOption, false, encode_utf8_all, codes};
+ghost use Rattle.pl_term.specs.Tree.{Chars, Tree, atom};
+ghost use Rattle.pl_model.specs.OperatorTable.{OperatorTable};
 ghost use Rattle.pl_model.specs.TermWriting.{writeq};
+ghost use Rattle.run_model.specs.Report.{closed, is_shown, solution_line, with_line};
 ghost use Rattle.pl_report.specs.Adds.{Adds};
-ghost use Rattle.pl_report.specs.Pieces.{shown_texts, has_any, comma_if, binding_behind};
+ghost use Rattle.pl_report.specs.Bindings.{GoesOn, HasBindings};
+ghost use Rattle.pl_report.specs.Pieces.{comma_if};
 
 use crate::lines::{close, end_line, put, put_stop, put_value, put_words};
 use op_table::OpTable;
@@ -12,83 +15,60 @@ use pl_term::{Flat, Memory, Text};
 use std::alloc::Global;
 use std::convert::AsStr;
 
-/// Puts the line of a solution at the end of a text: `Name = value` for each of the goal's named variables, given by name
-/// and number, whose name does not begin with an underscore, or `true` where there are none. `values` has the terms of
-/// the goal's variables by their numbers. They are written under the operators `ops` (ISO 7.10.5). The only error is out of memory: then the text
-/// may have a part of the line.
-pub fn put_solution(
-    alloc: Global,
-    out: &mut Vec<u8>,
-    names: &[(Text, u64)],
-    values: &[Flat],
-    ops: &OpTable,
-) -> Result<(), Memory>
-    ensures { (t : Chars) → out.old.items ≡ encode_utf8_all t
-        → OnOk result (out.new.items ≡ encode_utf8_all (with_line t (solution_line names.now ops.now values.now))) }
+/// Begins the line of a solution at the end of a text. The only error is out of memory.
+pub fn begin_solution(out: &mut Vec<u8>) -> Result<(), Memory>
+    ensures { (t : Chars) (ops : OperatorTable) (ts : List Tree) → out.old.items ≡ encode_utf8_all t
+        → OnOk result (HasBindings t ops ts [] false out.new.items) }
 {
-    close(out)?;
-    put_answer(alloc, out, names, values, ops)?;
+    close(out)
+}
+
+/// Puts what stands before the value of a variable with this name, `Name = ` after a comma where there are bindings before it,
+/// and says whether the line shows the variable: one whose name begins with an underscore it does not. The value is to be
+/// put by the caller, as `writeq` writes it at 699 (ISO 7.10.5). The only error is out of memory: then the text may have a part of it.
+pub fn put_name(out: &mut Vec<u8>, some: bool, name: &Text) -> Result<bool, Memory>
+    ensures { IfOk result (λ shown. (t : Chars) (ops : OperatorTable) (ts : List Tree) (ns : List (Chars × ℕ)) (number : ℕ)
+        → HasBindings t ops ts ns some out.old.items
+        → GoesOn shown t ops ts ns some (name.now, number) out.new.items) }
+{
+    if !is_shown(name) {
+        return Ok(false);
+    }
+    put_comma(out, some)?;
+    put_equals(out, name)?;
+    Ok(true)
+}
+
+/// Puts what stands for a value that there is not. The only error is out of memory: then the text may have a part of it.
+pub fn put_no_value(alloc: Global, out: &mut Vec<u8>, ops: &OpTable) -> Result<(), Memory>
+    ensures { OnOk result (Adds out.old.items out.new.items (writeq ops.now 699 (atom []))) }
+{
+    let text = Text::from_str(alloc, "")?;
+    let none = Flat::atom(alloc, &text)?;
+    put_value(alloc, out, &none, ops)?;
+    Ok(())
+}
+
+/// Ends the line of a solution: after bindings, or with `true` where there are none. The only error is out of memory: then the
+/// text may have a part of it.
+pub fn end_solution(out: &mut Vec<u8>, some: bool) -> Result<(), Memory>
+    ensures { (t : Chars) (ops : OperatorTable) (ts : List Tree) (ns : List (Chars × ℕ)) → HasBindings t ops ts ns some out.old.items
+        → OnOk result (out.new.items ≡ encode_utf8_all (with_line t (solution_line ns ops ts))) }
+{
+    put_end(out, some)?;
     end_line(out)?;
     Ok(())
 }
 
-/// Puts what is said of a solution.
-fn put_answer(
-    alloc: Global,
-    out: &mut Vec<u8>,
-    names: &[(Text, u64)],
-    values: &[Flat],
-    ops: &OpTable,
-) -> Result<(), Memory>
-    ensures { OnOk result
-        (Adds out.old.items out.new.items (solution_line names.now ops.now values.now)) }
+/// Puts what stands at the end of what is said of a solution.
+fn put_end(out: &mut Vec<u8>, some: bool) -> Result<(), Memory>
+    ensures { (t : Chars) (ops : OperatorTable) (ts : List Tree) (ns : List (Chars × ℕ)) → HasBindings t ops ts ns some out.old.items
+        → OnOk result (Adds (encode_utf8_all (closed t)) out.new.items (solution_line ns ops ts)) }
 {
-    let some = put_bindings(alloc, out, names, values, ops)?;
     if some {
         return put_stop(out);
     }
     put_words(out, "true.")
-}
-
-/// Puts the bindings that are shown, with commas between them, and says whether there are some.
-fn put_bindings(
-    alloc: Global,
-    out: &mut Vec<u8>,
-    names: &[(Text, u64)],
-    values: &[Flat],
-    ops: &OpTable,
-) -> Result<bool, Memory>
-    ensures some { IfOk result (λ some. some ≡ has_any (shown_texts ops.now values.now names.now)) }
-    ensures added { OnOk result
-        (Adds out.old.items out.new.items (with_commas (shown_texts ops.now values.now names.now))) }
-{
-    let mut some = false;
-    for named in names {
-        some = put_next(alloc, out, some, named, values, ops)?;
-    }
-    Ok(some)
-}
-
-/// Puts the binding of this variable if it is shown, after a comma where there are some before it, and says whether
-/// there are some now.
-fn put_next(
-    alloc: Global,
-    out: &mut Vec<u8>,
-    some: bool,
-    named: &(Text, u64),
-    values: &[Flat],
-    ops: &OpTable,
-) -> Result<bool, Memory>
-    ensures some { IfOk result (λ now. now ≡ (if is_shown named.now then true else some)) }
-    ensures added { OnOk result (Adds out.old.items out.new.items
-        (binding_behind some ops.now values.now named.now)) }
-{
-    if !is_shown(&named.0) {
-        return Ok(some);
-    }
-    put_comma(out, some)?;
-    put_binding(alloc, out, named, values, ops)?;
-    Ok(true)
 }
 
 /// Whether a variable with this name is shown.
@@ -117,45 +97,11 @@ fn put_comma(out: &mut Vec<u8>, some: bool) -> Result<(), Memory>
     Ok(())
 }
 
-/// Puts `Name = value`.
-fn put_binding(
-    alloc: Global,
-    out: &mut Vec<u8>,
-    named: &(Text, u64),
-    values: &[Flat],
-    ops: &OpTable,
-) -> Result<(), Memory>
-    ensures { OnOk result (Adds out.old.items out.new.items
-        (binding_text ops.now values.now named.now)) }
+/// Puts `Name = `.
+fn put_equals(out: &mut Vec<u8>, name: &Text) -> Result<(), Memory>
+    ensures { OnOk result (Adds out.old.items out.new.items (name.now ++ codes " = ")) }
 {
-    put(out, &named.0)?;
+    put(out, name)?;
     put_words(out, " = ")?;
-    put_number_value(alloc, out, named.1, values, ops)?;
-    Ok(())
-}
-
-/// Puts the value of the variable with this number.
-fn put_number_value(
-    alloc: Global,
-    out: &mut Vec<u8>,
-    number: u64,
-    values: &[Flat],
-    ops: &OpTable,
-) -> Result<(), Memory>
-    ensures { OnOk result (Adds out.old.items out.new.items (writeq ops.now 699 (get_or values.now number (atom [])))) }
-{
-    if number < values.len() as u64 {
-        return put_value(alloc, out, &values[number as usize], ops);
-    }
-    put_no_value(alloc, out, ops)
-}
-
-/// Puts what stands for a value that there is not.
-fn put_no_value(alloc: Global, out: &mut Vec<u8>, ops: &OpTable) -> Result<(), Memory>
-    ensures { OnOk result (Adds out.old.items out.new.items (writeq ops.now 699 (atom []))) }
-{
-    let text = Text::from_str(alloc, "")?;
-    let none = Flat::atom(alloc, &text)?;
-    put_value(alloc, out, &none, ops)?;
     Ok(())
 }

@@ -7,7 +7,6 @@ pub mod Outputs
 pub mod Readings
 pub mod Rounds
 pub mod Searching
-pub mod ShownLaws
 pub mod Stopping
 pub mod Taking
 pub mod Turning

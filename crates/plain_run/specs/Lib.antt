@@ -3,4 +3,3 @@ pub mod Endings
 pub mod Items
 pub mod Ran
 pub mod Searched
-pub mod Shown

@@ -1,25 +1,29 @@
-//! The values that the line of a solution shows.
-ghost use Rattle.std.specs.Prelude.{◌≡◌, ℕ, List, [], ◌∷◌, true, map, length, encode_utf8_all, IfOk, MatchOption, OnOk};
+//! The line of a solution, whose values are written from where they stand in the store.
+ghost use Rattle.std.specs.Prelude.{◌≡◌, ◌++◌, ◌∷◌, [], ℕ, List, map, get_or, encode_utf8_all, false, IfOk, OnOk};
 ghost use Rattle.std.specs.List.{All};
-ghost use Rattle.pl_model.specs.OperatorTable.{OperatorTable};
-ghost use Rattle.pl_term.specs.Tree.{Chars};
-ghost use Rattle.run_model.specs.Report.{is_shown, solution_line, with_line};
+ghost use Rattle.pl_term.specs.Tree.{Chars, atom};
+ghost use Rattle.pl_model.specs.TermWriting.{writeq};
+ghost use Rattle.run_model.specs.Report.{solution_line, with_line};
 ghost use Rattle.term_store.specs.Contents.{Holds};
+ghost use Rattle.pl_report.specs.Bindings.{HasBindings};
 ghost use Rattle.world_builtins.specs.Spelling.{reads};
 ghost use Rattle.world_builtins.specs.Naming.{IsHeldAt};
-ghost use Rattle.plain_run.specs.Shown.{IsMarked};
 
 use atom_api::Atoms;
 use op_table::OpTable;
-use pl_report::put_solution;
-use pl_term::{Flat, Memory, Text};
+use pl_report::{begin_solution, end_solution, put_name, put_no_value};
+use pl_term::{Memory, Text};
 use std::alloc::Global;
-use std::convert::AsStr;
+use std::mem;
 use term_store::{Place, Store};
-use world_builtins::flat_at;
+use term_writer::Writing;
+use world_builtins::put_term_at;
 
-/// Puts the line of a solution after `out`: the goal's variables with the terms at their places, under these operators. A term
-/// that the line does not show is not spelled out. The only error is out of memory.
+/// The largest priority of the value of a variable.
+const VALUE: u16 = 699;
+
+/// Puts the line of a solution after `out`: the goal's variables with the terms at their places, under these operators. The only
+/// error is out of memory.
 pub fn put_shown<A: Atoms>(
     alloc: Global,
     store: &Store,
@@ -36,95 +40,107 @@ pub fn put_shown<A: Atoms>(
     ensures same { A.held atoms.new ≡ A.held atoms.old }
     ensures refusals { A.refusals atoms.new ≡ A.refusals atoms.old }
 {
-    let values = shown_values(alloc, store, places, names, atoms)?;
-    put_solution(alloc, out, names, &values, operators)?;
+    begin_solution(out)?;
+    let some = put_bindings(alloc, store, places, names, operators, atoms, out)?;
+    end_solution(out, some)?;
     Ok(())
 }
 
-/// The terms at the places of a goal's variables, over the texts of their atoms, for the line of a solution. That of a variable
-/// which the line does not show is not spelled out, and 0 stands for it. The only error is out of memory.
-fn shown_values<A: Atoms>(
+/// Puts the bindings that are shown of these variables, and says whether there are some. The only error is out of memory.
+fn put_bindings<A: Atoms>(
     alloc: Global,
     store: &Store,
     places: &[Place],
     names: &[(Text, u64)],
+    operators: &OpTable,
     atoms: &mut A,
-) -> Result<Vec<Flat>, Memory>
+    out: &mut Vec<u8>,
+) -> Result<bool, Memory>
     requires inside { All (Holds store.now) places.now }
     requires held { All (IsHeldAt (A.held atoms.old) store.now) places.now }
-    ensures line { IfOk result (λ ts. (ops : OperatorTable)
-        → solution_line names.now ops ts.items ≡ solution_line names.now ops (map (reads (A.held atoms.old) store.now) places.now)) }
+    ensures bound { IfOk result (λ some. (t : Chars) → HasBindings t operators.now (map (reads (A.held atoms.old) store.now) places.now) [] false out.old.items
+        → HasBindings t operators.now (map (reads (A.held atoms.old) store.now) places.now) names.now some out.new.items) }
     ensures same { A.held atoms.new ≡ A.held atoms.old }
     ensures refusals { A.refusals atoms.new ≡ A.refusals atoms.old }
 {
-    let marks = shown_marks(alloc, names, places.len())?;
-    let mut all = Vec::new(alloc);
-    for i in 0..places.len() {
-        let value = value_at(alloc, store, places[i], marks[i], atoms)?;
-        all.push(value)?;
+    let mut some = false;
+    for named in names {
+        some = put_next(alloc, store, places, some, named, operators, atoms, out)?;
     }
-    Ok(all)
+    Ok(some)
 }
 
-/// The term at a place, or 0 where it is not shown. The only error is out of memory.
-fn value_at<A: Atoms>(
+/// Puts the binding of one variable more, if it is shown, and says whether there are some now. The only error is out of memory.
+fn put_next<A: Atoms>(
+    alloc: Global,
+    store: &Store,
+    places: &[Place],
+    some: bool,
+    named: &(Text, u64),
+    operators: &OpTable,
+    atoms: &mut A,
+    out: &mut Vec<u8>,
+) -> Result<bool, Memory>
+    requires inside { All (Holds store.now) places.now }
+    requires held { All (IsHeldAt (A.held atoms.old) store.now) places.now }
+    ensures bound { IfOk result (λ now. (t : Chars) (ns : List (Chars × ℕ))
+        → HasBindings t operators.now (map (reads (A.held atoms.old) store.now) places.now) ns some out.old.items
+        → HasBindings t operators.now (map (reads (A.held atoms.old) store.now) places.now) (ns ++ named.now ∷ []) now out.new.items) }
+    ensures same { A.held atoms.new ≡ A.held atoms.old }
+    ensures refusals { A.refusals atoms.new ≡ A.refusals atoms.old }
+{
+    let shown = put_name(out, some, &named.0)?;
+    if !shown {
+        return Ok(some);
+    }
+    put_value(alloc, store, places, named.1, operators, atoms, out)?;
+    Ok(true)
+}
+
+/// Puts the value of the variable with this number. The only error is out of memory.
+fn put_value<A: Atoms>(
+    alloc: Global,
+    store: &Store,
+    places: &[Place],
+    number: u64,
+    operators: &OpTable,
+    atoms: &mut A,
+    out: &mut Vec<u8>,
+) -> Result<(), Memory>
+    requires inside { All (Holds store.now) places.now }
+    requires held { All (IsHeldAt (A.held atoms.old) store.now) places.now }
+    ensures puts { OnOk result (out.new.items ≡ out.old.items
+        ++ encode_utf8_all (writeq operators.now 699 (get_or (map (reads (A.held atoms.old) store.now) places.now) number (atom [])))) }
+    ensures same { A.held atoms.new ≡ A.held atoms.old }
+    ensures refusals { A.refusals atoms.new ≡ A.refusals atoms.old }
+{
+    if number < places.len() as u64 {
+        return put_term(alloc, store, places[number as usize], operators, atoms, out);
+    }
+    put_no_value(alloc, out, operators)
+}
+
+/// Puts the text of the term at a place. The only error is out of memory, which is found out at once where shared parts make
+/// the term larger than any memory.
+fn put_term<A: Atoms>(
     alloc: Global,
     store: &Store,
     place: Place,
-    shown: bool,
+    operators: &OpTable,
     atoms: &mut A,
-) -> Result<Flat, Memory>
+    out: &mut Vec<u8>,
+) -> Result<(), Memory>
     requires inside { Holds store.now place }
     requires held { IsHeldAt (A.held atoms.old) store.now place }
-    ensures term { IfOk result (λ t. shown ≡ true → t ≡ reads (A.held atoms.old) store.now place) }
+    ensures puts { OnOk result (out.new.items
+        ≡ out.old.items ++ encode_utf8_all (writeq operators.now 699 (reads (A.held atoms.old) store.now place))) }
     ensures same { A.held atoms.new ≡ A.held atoms.old }
     ensures refusals { A.refusals atoms.new ≡ A.refusals atoms.old }
 {
-    if !shown {
-        return Flat::int(alloc, 0);
-    }
-    flat_at(alloc, store, place, atoms)
-}
-
-/// Which of so many variables a line shows, by their names. The only error is out of memory.
-fn shown_marks(alloc: Global, names: &[(Text, u64)], count: usize) -> Result<Vec<bool>, Memory>
-    ensures long { IfOk result (λ ms. length ms.items ≡ count) }
-    ensures marked { IfOk result (λ ms. All (IsMarked ms.items) names.now) }
-{
-    let mut marks = vec![in alloc; false; count]?;
-    for (name, number) in names {
-        mark(&mut marks, name, *number);
-    }
-    Ok(marks)
-}
-
-/// Marks the variable with this name and number, if a line shows it.
-fn mark(marks: &mut Vec<bool>, name: &Text, number: u64)
-    ensures long { length marks.new.items ≡ length marks.old.items }
-    ensures marked { IsMarked marks.new.items (name.now, number) }
-    ensures kept { (n : Chars × ℕ) → IsMarked marks.old.items n → IsMarked marks.new.items n }
-{
-    let Ok(at) = usize::try_from(number) else {
-        return;
-    };
-    if at < marks.len() && is_shown(name) {
-        marks[at] = true;
-    }
-}
-
-/// Whether a line shows a variable with this name.
-fn is_shown(name: &Text) -> bool
-    ensures { result ≡ is_shown (name.now, 0) }
-{
-    match first_character(name) {
-        Some(c) => c != '_',
-        None => false,
-    }
-}
-
-/// The first character of a name, if it has any.
-fn first_character(name: &Text) -> Option<char>
-    ensures { MatchOption result (name.now ≡ []) (λ c. (cs : List ℕ) × (name.now ≡ c ∷ cs)) }
-{
-    name.as_str().chars().next()
+    store.find_room(place)?;
+    let bytes = mem::replace(out, Vec::new(alloc));
+    let mut writing = Writing::quoted(alloc, operators, VALUE, bytes)?;
+    put_term_at(alloc, store, place, &mut writing, atoms)?;
+    *out = writing.end()?;
+    Ok(())
 }

@@ -6,19 +6,44 @@ use crate::written::term_of;
 use anyhow::{Context, Result, bail};
 use pl_model::syntax::SyntaxKind;
 use pl_report::{
-    put_failed_directive, put_halted_directive, put_no_atom_space, put_refused_item, put_solution,
-    put_syntax_fault, put_too_large, put_waiting_directive,
+    begin_solution, end_solution, put_failed_directive, put_halted_directive, put_name,
+    put_no_atom_space, put_no_value, put_refused_item, put_syntax_fault, put_too_large,
+    put_waiting_directive,
 };
 use pl_term::{Flat, Text};
 use std::alloc::Global;
+use term_writer::writeq;
 
 /// A text with the line of a solution after it.
 pub fn solution(alloc: Global, settings: &Settings, fields: &mut Fields) -> Result<Vec<u8>> {
     let names = names_of(alloc, fields.next_field()?)?;
     let values = values_of(alloc, fields.next_field()?)?;
     let mut out = fields.next_bytes(alloc)?;
-    put_solution(alloc, &mut out, &names, &values, &settings.ops)?;
+    begin_solution(&mut out)?;
+    let mut some = false;
+    for (name, number) in &names {
+        if put_name(&mut out, some, name)? {
+            put_value(alloc, settings, *number, &values, &mut out)?;
+            some = true;
+        }
+    }
+    end_solution(&mut out, some)?;
     Ok(out)
+}
+
+/// Puts the value of the variable with this number.
+fn put_value(
+    alloc: Global,
+    settings: &Settings,
+    number: u64,
+    values: &[Flat],
+    out: &mut Vec<u8>,
+) -> Result<()> {
+    match values.get(usize::try_from(number)?) {
+        Some(value) => writeq(alloc, value, &settings.ops, 699, out)?,
+        None => put_no_value(alloc, out, &settings.ops)?,
+    }
+    Ok(())
 }
 
 /// The named variables, each with its number of one digit, with a blank between.

@@ -1,5 +1,0 @@
-use Rattle.pl_report.proofs.AddsLemmas.{adds_then}
-use Rattle.pl_report.proofs.solutions.put_binding.Goals as goal
-
-pub returns : goal.returns
-returns c = adds_then c.in_ok-put.ensures (adds_then c.in_ok-put_words.ensures c.in_ok-put_number_value.ensures)
