@@ -1,0 +1,122 @@
+//! The shared state as the engine of a worker sees it.
+ghost use Rattle.std.specs.Prelude.{◌≡◌, ℕ};
+ghost use Rattle.pl_hub.specs.Fronts.{IsOwn, told_of};
+
+use atom_table::TableAtoms;
+use pl_history::{Front, History};
+use pl_hub::{Naming, Shared};
+use std::alloc::Global;
+use std::marker::Model;
+use std::sync::{Mutex, Wait};
+use term_store::{ArgumentKey, Stored};
+use world_api::{Answer, Visit, World};
+
+/// The shared state as an engine that a worker carries sees it: its front, and the lock before each visit. Contracts see it
+/// as what the front knows.
+#[derive(Drop)]
+pub struct HubWorld<'a, K: Naming, R: Wait> {
+    runtime: &'a R,
+    alloc: Global,
+    hub: &'a Mutex<Shared<K>>,
+    history: &'a History,
+    front: Front,
+    engine: u64,
+}
+
+impl<'a, K: Naming, R: Wait> Model for HubWorld<'a, K, R> {
+    ghost use Rattle.std.specs.Prelude.{◌≡◌};
+    ghost use Rattle.pl_history.specs.Fronts.{FrontState};
+    ghost use Rattle.pl_history.specs.Codes.{coded_front};
+    ghost use Rattle.pl_hub.specs.Fronts.{IsOwn};
+
+    ghost Value = { FrontState };
+
+    ghost coded = { coded_front };
+
+    ghost view = { λ w. w.front };
+
+    ghost invariant = { λ w. (w.history.now ≡ K.history) × IsOwn K.history w.engine w.front };
+}
+
+impl<'a, K: Naming, R: Wait> HubWorld<'a, K, R> {
+    /// The shared state as the engine with the number sees it, which runs and whose front this is.
+    pub fn new(
+        runtime: &'a R,
+        alloc: Global,
+        hub: &'a Mutex<Shared<K>>,
+        history: &'a History,
+        front: Front,
+        engine: u64,
+    ) -> HubWorld<'a, K, R>
+        requires history { history.now ≡ K.history }
+        requires front { IsOwn K.history engine front }
+        ensures { result ≡ front }
+    {
+        HubWorld {
+            runtime,
+            alloc,
+            hub,
+            history,
+            front,
+            engine,
+        }
+    }
+
+    /// The front by itself.
+    pub fn into_front(self) -> Front
+        ensures front { result ≡ self.entry }
+        ensures own { (e : ℕ) × IsOwn K.history e result }
+    {
+        self.front
+    }
+}
+
+impl<'a, K: Naming, R: Wait> World for HubWorld<'a, K, R> {
+    ghost use Rattle.std.specs.Prelude.{◌++◌, IsSome, Some, false};
+    ghost use Rattle.std.specs.List.{All};
+    ghost use Rattle.pl_model.specs.History.{History as Entries};
+    ghost use Rattle.atom_words.specs.Seats.{seen};
+    ghost use Rattle.atom_table.specs.Naming.{names, requests};
+    ghost use Rattle.term_store.specs.ArgumentKeys.{clause_key, key_atoms};
+    ghost use Rattle.term_store.specs.NumberedNames.{names_of, term_by};
+    ghost use Rattle.world_api.specs.Texts.{text_of, Holds};
+    ghost use Rattle.world_api.specs.Told.{has_ended};
+    ghost use Rattle.world_api.specs.Visits.{visit_names};
+    ghost use Rattle.world_api.specs.Answers.{CanVisit, Visited, answer_names, refusals_by};
+    ghost use Rattle.world_api.specs.Asked.{IsInAnswer};
+    ghost use Rattle.world_api.specs.Gains.{Gains};
+
+    type A = TableAtoms<'a, K>;
+
+    type Term = Stored;
+
+    ghost told = { told_of K.goals };
+
+    fn visit(
+        &mut self,
+        visit: Visit<Stored, ArgumentKey>,
+        atoms: &mut TableAtoms<'a, K>,
+    ) -> Answer<Stored>
+        requires runs { has_ended (told_of K.goals self.old).engine (told_of K.goals self.old).history ≡ false }
+        requires held { All (λ a. IsSome (names (seen atoms.old.seat) a)) (visit_names names_of key_atoms visit) }
+        requires next { CanVisit term_by clause_key (text_of (names (seen atoms.old.seat))) visit (told_of K.goals self.old) }
+        ensures visited { (before : Entries) × Visited term_by clause_key (text_of (names (seen atoms.old.seat))) (text_of (names (seen atoms.new.seat))) visit result
+            (told_of K.goals self.old) before (told_of K.goals self.new) }
+        ensures runs { has_ended (told_of K.goals self.new).engine (told_of K.goals self.new).history ≡ false }
+        ensures names { All (λ a. IsSome (names (seen atoms.new.seat) a)) (answer_names names_of result) }
+        ensures holds { Holds (names (seen atoms.old.seat)) (names (seen atoms.new.seat)) }
+        ensures refusals { (seen atoms.new.seat).refusals ≡ (seen atoms.old.seat).refusals ++ refusals_by result }
+        ensures asked { Gains (IsInAnswer term_by clause_key (text_of (names (seen atoms.old.seat))) visit (told_of K.goals self.old))
+            (Some (requests (seen atoms.old.seat))) (Some (requests (seen atoms.new.seat))) }
+    {
+        let mut hub = self.hub.lock(self.runtime);
+        hub.session(
+            self.alloc,
+            self.history,
+            atoms,
+            &mut self.front,
+            self.engine,
+            visit,
+        )
+    }
+}
