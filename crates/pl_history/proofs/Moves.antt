@@ -217,5 +217,9 @@ once_of me v w c p q e is ve we le =
     ap (λ (m : Me (Unit {0}) View). carried e m.0) is ∙ ap (λ y. carried e (beside y w)) ve ∙ ap (λ y. carried e (beside (front_alone p) y)) we
     in omega (arith, same, le)
 
+pub once_with_hub : (me : Me (Unit {0}) View) (h p : Part) (e : ℕ) → me ≡ (both h p, []) → carried e me.0 ≤ 1 → times e h.lives + times e p.lives ≤ 1
+once_with_hub me h p e is le =
+    let same : carried e me.0 ≡ carried e (both h p) = ap (λ (m : Me (Unit {0}) View). carried e m.0) is in omega (arith, same, le)
+
 pub two_more : (n : ℕ) → replicate {A = ℕ} (n + 2) 0 ≡ 0 ∷ 0 ∷ replicate n 0
 two_more n = let more : n + 2 ≡ suc (suc n) = omega arith in ap (λ m. replicate {A = ℕ} m 0) more

@@ -77,6 +77,16 @@ impl History {
         Ok((History { words }, hub, fronts))
     }
 
+    /// A new front, which has seen nothing and carries no engine.
+    pub fn front(&self) -> Front
+        ensures { result ≡ new_front self.now }
+    {
+        let seat = self.words.shared.load_new_seat::<NewSeat>(FLOOR).1;
+        Front {
+            badge: seat.into_badge(),
+        }
+    }
+
     /// The front sees the whole history, and the answer is its length. No generation is added to a list.
     pub fn look(&self, hub: &mut HubFront, front: &mut Front) -> u64
         requires hub_here { hub.old.table ≡ self.now }
@@ -220,5 +230,16 @@ impl History {
         ensures apart { (e : ℕ) → times e first.old.lives + times e second.old.lives ≤ 1 }
     {
         steps::compare(&self.words, &mut first.badge, &mut second.badge)
+    }
+
+    /// The hub's front and another never carry the same engine. Nothing changes.
+    pub fn apart_from_hub(&self, hub: &mut HubFront, front: &mut Front)
+        requires hub_here { hub.old.table ≡ self.now }
+        requires front_here { front.old.table ≡ self.now }
+        ensures hub { hub.new ≡ hub.old }
+        ensures front { front.new ≡ front.old }
+        ensures apart { (e : ℕ) → times e hub.old.lives + times e front.old.lives ≤ 1 }
+    {
+        steps::compare_with_hub(&self.words, &mut hub.badge, &mut front.badge)
     }
 }

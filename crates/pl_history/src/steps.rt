@@ -161,3 +161,17 @@ pub(crate) fn compare(words: &Words, first: &mut Badge<Known>, second: &mut Badg
     *first = seat.into_badge();
     *second = other.into_badge();
 }
+
+/// The hub's front and the other carry no engine both.
+pub(crate) fn compare_with_hub(words: &Words, hub: &mut Badge<Known>, front: &mut Badge<Known>)
+    requires tables { (hub.old.table_id ≡ words.now.shared.table_id) × (front.old.table_id ≡ words.now.shared.table_id) × (1 < words.now.shared.table_id.words) }
+    requires hub_is { hub.old.views ≡ hub_alone (hub_in_badge hub.old.views) ∷ [] }
+    requires front_is { front.old.views ≡ front_alone (front_in_badge front.old.views) ∷ [] }
+    ensures tables { (hub.new.table_id ≡ hub.old.table_id) × (front.new.table_id ≡ front.old.table_id) }
+    ensures same { (hub.new.views ≡ hub.old.views) × (front.new.views ≡ front.old.views) }
+    ensures once { (e : ℕ) → times e (hub_in_badge hub.old.views).lives + times e (front_in_badge front.old.views).lives ≤ 1 }
+{
+    let mut seat = meet(words, hub, front);
+    words.shared.load::<Compares>(&mut seat, GENERATION);
+    part(words, seat, hub, front);
+}

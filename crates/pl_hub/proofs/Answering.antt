@@ -1,5 +1,5 @@
 -- A row and the step after it are a visit.
-use Rattle.std.proofs.Common.{◌≡◌, ℕ, List, [], ◌++◌, length, Some, refl, sym, ap, subst, ◌∙◌, append-nil}
+use Rattle.std.proofs.Common.{◌≡◌, ℕ, List, [], ◌∷◌, ◌++◌, length, Some, refl, sym, ap, subst, ◌∙◌, append-nil}
 use Rattle.std.specs.Prelude.{IsSome}
 use Rattle.std.specs.List.{All}
 use Rattle.std.proofs.lemmas.List.Elements.{All-nil}
@@ -7,7 +7,7 @@ use Rattle.atomic_table.specs.Seated.{TableId}
 use Rattle.pl_term.specs.Tree.{Chars, Tree}
 use Rattle.pl_model.specs.History.{Kind}
 use Rattle.pl_model.specs.Requests.{Request}
-use Rattle.pl_history.specs.Fronts.{FrontState}
+use Rattle.pl_history.specs.Fronts.{FrontState, Life, begun_by}
 use Rattle.atom_words.specs.declared.view.View.{View}
 use Rattle.atom_words.specs.declared.view.Refusal.{Refusal}
 use Rattle.atom_table.specs.Naming.{names, requests}
@@ -24,8 +24,8 @@ use Rattle.world_api.specs.Visits.{Asks}
 use Rattle.counted_terms.specs.declared.row.Row.{Row}
 use Rattle.counted_terms.specs.declared.row.Row.TheVariants.{Reads, Makes, Waits, NeedsAtoms, Retry, Worn, Memory}
 use Rattle.counted_terms.specs.Rows.{row_names, row_refusals}
-use Rattle.pl_hub.specs.Fronts.{IsOwn, told_of}
-use Rattle.pl_hub.specs.Settling.{CanSettle, Meets, Sees, answer_of, front_after, hub_after}
+use Rattle.pl_hub.specs.Fronts.{Grows, IsOwn, told_of}
+use Rattle.pl_hub.specs.Settling.{CanSettle, Meets, Sees, answer_of, entry, front_after, hub_after}
 use Rattle.pl_hub.specs.Visits.{IsTold, IsVisit}
 use Rattle.pl_hub.proofs.Own.{own_after}
 use Rattle.pl_hub.proofs.Visiting.{IsAsked, IsPlainVisit, asked_one, meets_one, visited_by}
@@ -61,6 +61,22 @@ told_row e k (Retry c) f hub = refl
 told_row e k (Worn w) f hub = refl
 told_row e k Memory f hub = refl
 
+pub none_more : (hub : FrontState) → Grows hub hub
+none_more hub = record { later = []; grown = sym (append-nil hub.seen); carried = sym (append-nil hub.lives) }
+
+grows_row : (e : ℕ) (k : Kind) (row : Row) (hub : FrontState) → Grows hub (hub_after e k row hub)
+grows_row e k (Reads r) hub = none_more hub
+grows_row e k (Makes r) hub = record {
+  later = entry e k ∷ [];
+  grown = refl;
+  carried = ap (λ (ls : List Life). hub.lives ++ ls) (sym (append-nil (begun_by k)));
+}
+grows_row e k (Waits on) hub = none_more hub
+grows_row e k (NeedsAtoms p) hub = none_more hub
+grows_row e k (Retry c) hub = none_more hub
+grows_row e k (Worn w) hub = none_more hub
+grows_row e k Memory hub = none_more hub
+
 module _ (table : TableId) (goals e : ℕ) (v w : View) (visit : Visit Tree ArgumentKey) (plain : IsPlainVisit (text_of (names v)) (text_of (names w)) visit)
     (f : FrontState) (own : IsOwn table e f) (hub : FrontState) (k : Kind) (row : Row) where
   answered : CanSettle k hub.seen row → Sees hub.seen f row → IsAsked (text_of (names v)) visit row
@@ -73,6 +89,7 @@ module _ (table : TableId) (goals e : ℕ) (v w : View) (visit : Visit Tree Argu
   answered can sees asked meets named holds refusals texts = record {
     visited = visited_by table goals e (text_of (names v)) (text_of (names w)) visit plain f own hub.seen k row can sees asked meets;
     history = told_row e k row f hub;
+    carried = grows_row e k row hub;
     own = own_after table e f own hub.seen k row can sees;
     named = subst (λ (l : List ℕ). All (λ x. IsSome (names w x)) l) (sym (named_row row (length hub.seen))) named;
     holds = holds;

@@ -1,12 +1,12 @@
 -- What is shared, and what an engine is told, after the engine's end.
-use Rattle.std.proofs.Common.{◌≡◌, ◌≤◌, ◌==◌, ℕ, suc, ◌+◌, List, [], ◌∷◌, ◌++◌, Bool, true, false, not, length, Option, Some, None, refl, sym, ap, subst, ◌∙◌, arith, eq-eqb}
+use Rattle.std.proofs.Common.{◌≡◌, ◌≤◌, ◌==◌, ℕ, suc, ◌+◌, List, [], ◌∷◌, ◌++◌, Bool, true, false, length, Option, Some, None, refl, sym, ap, subst, ◌∙◌, arith, eq-eqb}
 use Rattle.std.specs.Prelude.{if◌then◌else◌, ◌||◌}
 use Rattle.std.proofs.lemmas.List.{length-append}
 use Rattle.atomic_table.specs.Seated.{TableId}
 use Rattle.pl_term.specs.Tree.{Tree}
 use Rattle.pl_model.specs.History.{Entry, History, Kind, is_end, mine}
 use Rattle.pl_history.specs.Fronts.{FrontState, Life, gains, has_end, own_engine, own_generations, own_runs, own_updates, with_generation}
-use Rattle.pl_history.proofs.Lives.{own_engine-gains}
+use Rattle.pl_history.proofs.Lives.{mine_own, own_engine-gains, own_updates-gains, told_own}
 use Rattle.atom_words.specs.declared.size.Size.{Size}
 use Rattle.atom_table.specs.declared.seats.Keeper.{Keeper}
 use Rattle.clause_db.specs.Parts.{Held as HeldClauses}
@@ -45,13 +45,13 @@ end_more (j ∷ ks) k e = ap (λ b. is_end j || b) (end_more ks k e) ∙ or_true
     or_true false = refl
 
 over_by : (b : Bool) (x : Entry) (g : ℕ) (l : Life) → (l.engine == x.engine) ≡ b → b ≡ true → is_end x.kind ≡ true
-    → not (has_end (if b then record { engine = l.engine; updates = l.updates ++ x.kind ∷ []; generations = with_generation x.kind g l.generations } else l).updates) ≡ false
-over_by true x g l is hit end = ap not (end_more l.updates x.kind end)
+    → has_end (if b then record { engine = l.engine; updates = l.updates ++ x.kind ∷ []; generations = with_generation x.kind g l.generations } else l).updates ≡ true
+over_by true x g l is hit end = end_more l.updates x.kind end
 over_by false x g l is hit end = absurd (cc)
 
-ends_runs : (x : Entry) (g : ℕ) (ls : List Life) → own_engine ls ≡ x.engine → is_end x.kind ≡ true → own_runs ls ≡ true → own_runs (gains x g ls) ≡ false
-ends_runs x g [] same end runs = absurd (cc)
-ends_runs x g (l ∷ ls) same end runs = over_by (l.engine == x.engine) x g l refl (eq-eqb l.engine x.engine same) end
+ends_updates : (x : Entry) (g : ℕ) (ls : List Life) → own_engine ls ≡ x.engine → is_end x.kind ≡ true → own_runs ls ≡ true → has_end (own_updates (gains x g ls)) ≡ true
+ends_updates x g [] same end runs = absurd (cc)
+ends_updates x g (l ∷ ls) same end runs = over_by (l.engine == x.engine) x g l refl (eq-eqb l.engine x.engine same) end
 
 told_same : (goals : ℕ) (d e : ℕ) (h : History) (gs ks : List ℕ) → d ≡ e → gs ≡ ks
     → ◌≡◌ {A = Told} (record { engine = d; goals = goals; history = h; gens = gs }) (record { engine = e; goals = goals; history = h; gens = ks })
@@ -67,24 +67,31 @@ ended t goals e k f g hub new own end behind g_is new_is =
       follows = subst (λ (n : ℕ). Follows n f.seen hub.seen) own.engine (follows f hub.seen own.runs (own.updates ∙ ap (mine f.seen) (sym own.engine)) behind);
       told = told_same goals _ _ (hub.seen ++ entry e k ∷ []) _ _ (own_engine-gains (entry e k) (length hub.seen) f.lives) (ends_generations (entry e k) (length hub.seen) f.lives own.engine end own.runs);
       history = refl;
-      table = refl;
-      over = ends_runs (entry e k) (length hub.seen) f.lives own.engine end own.runs;
+      carried = refl;
+      over = record {
+        table = refl;
+        engine = own_engine-gains (entry e k) (length hub.seen) f.lives ∙ own.engine;
+        ended = ends_updates (entry e k) (length hub.seen) f.lives own.engine end own.runs;
+        updates = own_updates-gains (entry e k) (length hub.seen) f.lives own.engine own.runs
+            ∙ ap (λ (ks : List Kind). ks ++ k ∷ []) (told_own hub.seen f.lives behind.told own.runs ∙ ap (mine hub.seen) own.engine)
+            ∙ sym (mine_own hub.seen (entry e k) e refl);
+      };
     }))
 
-module _ (atoms : TableId) (size : Size) (table : TableId) (goals : ℕ) (f : FrontState) (keeper new_keeper : Option Keeper) (db : HeldClauses Tree) (q r : HeldThreads Tree) (c : ℕ)
-    (was : IsShared atoms size table goals f keeper db q c) (at : KeeperAt atoms size new_keeper) where
+module _ (atoms : TableId) (size : Size) (table : TableId) (goals : ℕ) (f : FrontState) (keeper new_keeper : Option Keeper) (db : HeldClauses Tree) (q r : HeldThreads Tree) (c : ℕ) (ns : List ℕ)
+    (was : IsShared atoms size table goals f keeper db q c ns) (at : KeeperAt atoms size new_keeper) where
   -- WHAT IS SHARED after it
   pub ended_shared : (e : ℕ) (k : Kind) → IsElsewhere k → (n : ℕ) → n ≡ length f.seen
       → Restored (thread_counts q) (thread_counts r) (keeper_view keeper) (keeper_view new_keeper) n (n + 1)
       → IsBelow c (n + 1) r
       → IsThreads (keeper_view new_keeper) r c goals (f.seen ++ entry e k ∷ [])
       → (new : FrontState) → new ≡ hub_closed e k f
-      → IsShared atoms size table goals new new_keeper db r c
+      → IsShared atoms size table goals new new_keeper db r c ns
   ended_shared e k other n is restored below threads new new_is =
       let sums : Sums (thread_counts q) (clause_counts db) (keeper_view keeper) = swapped (clause_counts db) (thread_counts q) (keeper_view keeper) was.exact in
       let more : length (f.seen ++ entry e k ∷ []) ≡ length f.seen + 1 = length-append f.seen (entry e k ∷ []) in
       let g : n + 1 ≡ length (f.seen ++ entry e k ∷ []) = omega (arith, more, is) in
-      subst (λ (x : FrontState). IsShared atoms size table goals x new_keeper db r c) (sym new_is) (record {
+      subst (λ (x : FrontState). IsShared atoms size table goals x new_keeper db r c ns) (sym new_is) (record {
         table = was.table;
         keeper_is = at;
         exact = swapped (thread_counts r) (clause_counts db) (keeper_view new_keeper) (restored.exact (clause_counts db) sums);
@@ -94,13 +101,14 @@ module _ (atoms : TableId) (size : Size) (table : TableId) (goals : ℕ) (f : Fr
         floor = was.floor;
         threads = threads;
         below = subst (λ (m : ℕ). IsBelow c m r) g below;
+        waiting = was.waiting;
       })
 
   -- where memory ran out
   pub undone_shared : (n : ℕ) → n ≡ length f.seen → r ≡ q
       → Restored (thread_counts q) (thread_counts r) (keeper_view keeper) (keeper_view new_keeper) n n
       → IsThreads (keeper_view new_keeper) r c goals f.seen
-      → IsShared atoms size table goals f new_keeper db r c
+      → IsShared atoms size table goals f new_keeper db r c ns
   undone_shared n is same restored threads =
       let sums : Sums (thread_counts q) (clause_counts db) (keeper_view keeper) = swapped (clause_counts db) (thread_counts q) (keeper_view keeper) was.exact in
       record {
@@ -113,4 +121,5 @@ module _ (atoms : TableId) (size : Size) (table : TableId) (goals : ℕ) (f : Fr
         floor = was.floor;
         threads = threads;
         below = subst (λ (x : HeldThreads Tree). IsBelow c (length f.seen) x) (sym same) was.below;
+        waiting = was.waiting;
       }

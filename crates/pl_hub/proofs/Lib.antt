@@ -13,3 +13,5 @@ pub mod Opening
 pub mod AskedTexts
 pub mod SameVisits
 pub mod Ended
+pub mod Apart
+pub mod Handing

@@ -42,7 +42,7 @@ use Rattle.hub_database.proofs.Open.{list_same}
 use Rattle.pl_hub.specs.Fronts.{IsOwn, told_of}
 use Rattle.pl_hub.specs.Settling.{IsBehind, next_answer, next_front}
 use Rattle.pl_hub.specs.Visits.{IsVisit}
-use Rattle.pl_hub.proofs.Answering.{none_asked}
+use Rattle.pl_hub.proofs.Answering.{none_asked, none_more}
 use Rattle.pl_hub.proofs.Own.{follows, told_updates_of}
 use Rattle.pl_hub.proofs.Retrying.{behind_filter, is_seen, list_seen, once_seen}
 
@@ -136,6 +136,7 @@ module _ (table : TableId) (goals e : ℕ) (v w : View) (lawful : Lawful (names 
       },
     );
     history = refl;
+    carried = none_more hub;
     own = told_updates_of table e f own hub.seen behind;
     named = named;
     holds = holds;
@@ -145,6 +146,7 @@ module _ (table : TableId) (goals e : ℕ) (v w : View) (lawful : Lawful (names 
   next_by (Err m) says behind named holds refusals asked = record {
     visited = refl;
     history = refl;
+    carried = none_more hub;
     own = own;
     named = All-nil (λ a. IsSome (names w a));
     holds = holds;

@@ -25,12 +25,14 @@ use Rattle.world_api.specs.Told.{Told}
 use Rattle.counted_terms.specs.CountedTerms.{said}
 use Rattle.pl_hub.specs.Fronts.{IsOwn, told_of}
 use Rattle.pl_hub.specs.Visits.{IsVisit}
+use Rattle.pl_hub.proofs.Answering.{none_more}
 
 -- OUT OF MEMORY
 pub memory_visit : (table : TableId) (goals e : ℕ) (v : View) (visit : Visit Tree ArgumentKey) (f hub : FrontState) → IsOwn table e f → IsVisit table goals e v v visit Memory f f hub hub
 memory_visit table goals e v visit f hub own = record {
   visited = refl;
   history = refl;
+  carried = none_more hub;
   own = own;
   named = All-nil (λ x. IsSome (names v x));
   holds = λ a t e. e;
@@ -132,6 +134,7 @@ module _ (table : TableId) (goals e : ℕ) (v w : View) (t p : Tree) (is : said 
   own_get a g hub new x = record {
     visited = get_visited a hub.seen (told_of goals g) x.visited;
     history = x.history;
+    carried = x.carried;
     own = x.own;
     named = x.named;
     holds = x.holds;
@@ -156,6 +159,7 @@ module _ (table : TableId) (goals e : ℕ) (v w : View) (t p : Tree) (is : said 
   own_peek a g hub new x = record {
     visited = peek_visited a hub.seen (told_of goals g) x.visited;
     history = x.history;
+    carried = x.carried;
     own = x.own;
     named = x.named;
     holds = x.holds;

@@ -1,14 +1,14 @@
 -- What is shared stays the state after the history, as one part of it answers and changes.
-use Rattle.std.proofs.Common.{◌≡◌, ◌≢◌, ◌≤◌, ◌<◌, ℕ, ◌+◌, [], ◌∷◌, ◌++◌, Bool, true, false, length, Option, Some, refl, sym, ap, subst, ◌∙◌, arith}
+use Rattle.std.proofs.Common.{◌≡◌, ◌≢◌, ◌≤◌, ◌<◌, ℕ, ◌+◌, List, [], ◌∷◌, ◌++◌, map, Bool, true, false, length, Option, Some, refl, sym, ap, subst, ◌∙◌, arith, append-nil}
 use Rattle.std.specs.Prelude.{◌^◌, ◌||◌}
 use Rattle.std.proofs.lemmas.Bool.{false≢true}
-use Rattle.std.proofs.lemmas.List.{length-append}
+use Rattle.std.proofs.lemmas.List.{length-append, map-append}
 use Rattle.atomic_table.specs.Seated.{TableId}
 use Rattle.pl_term.specs.Tree.{Chars, Tree}
 use Rattle.pl_model.specs.History.{Entry, History, Kind, begins, has_begun, is_end, add_first, add_last, erase, abolish, set_dynamic, set_flag, set_op, make_queue, drop_queue, send, start, finish, join}
 use Rattle.pl_model.specs.History as entries
 use Rattle.pl_model.specs.Requests.{Request}
-use Rattle.pl_model.specs.SharedState.{SharedState, change}
+use Rattle.pl_model.specs.SharedState.{SharedState, change, state_at}
 use Rattle.atom_api.specs.Names.{Names}
 use Rattle.atom_words.specs.declared.size.Size.{Size}
 use Rattle.atom_words.specs.declared.view.View.{View}
@@ -16,7 +16,7 @@ use Rattle.atom_table.specs.declared.seats.Keeper.{Keeper}
 use Rattle.clause_db.specs.Parts.{Held as HeldClauses}
 use Rattle.hub_threads.specs.Held.{Held as HeldThreads, IsSound}
 use Rattle.hub_threads.specs.Weights.{IsBelow}
-use Rattle.pl_history.specs.Fronts.{FrontState}
+use Rattle.pl_history.specs.Fronts.{FrontState, Life, begun_by}
 use Rattle.world_api.specs.declared.reply.Reply.{Reply}
 use Rattle.world_api.specs.Texts.{text_of}
 use Rattle.counted_terms.specs.CountedTerms.{naming, said}
@@ -33,9 +33,10 @@ use Rattle.hub_database.proofs.Readings.{says_carried}
 use Rattle.hub_threads.specs.Rows.{Changed, Decides as ThreadsDecide, updates_in}
 use Rattle.hub_threads.specs.Threads.{IsThreads, thread_counts}
 use Rattle.hub_threads.proofs.Steps.{moves_on, goals_stay, stays}
-use Rattle.pl_hub.specs.Settling.{CanMake, CanSettle, Meets, entry, hub_after, kind_of}
+use Rattle.pl_hub.specs.Fronts.{idle}
+use Rattle.pl_hub.specs.Settling.{CanMake, CanSettle, Meets, begun_after, entry, hub_after, kind_of}
 use Rattle.pl_hub.specs.State.{IsShared}
-use Rattle.pl_hub.proofs.Serving.{IsOfThreads, kind_is, made_beside, made_plain}
+use Rattle.pl_hub.proofs.Serving.{IsOfThreads, kind_is, made_beside, made_plain, starts_in}
 
 -- WHAT THE HUB'S FRONT HAS SEEN after a row
 abbrev pub seen_after : ℕ → Kind → Row → History → History
@@ -104,7 +105,7 @@ module _ (l : View) (m : Names) (e : ℕ) (request : Request) (r : HeldThreads T
   update_is : changed.update ≡ picked
   update_is = kind_is e goals h request changed.answers.reply changed.update changed.answers.serves
 
-  beside : (length h < 2 ^ 47) × (is_end changed.update ≡ false) × IsElsewhere changed.update
+  beside : (length h < 2 ^ 47) × (is_end changed.update ≡ false) × IsElsewhere changed.update × (begun_by changed.update ≡ starts_in request (state_at goals h (length h)))
   beside = made_beside e goals h request of changed.answers.reply changed.update changed.answers.serves
 
   pub can_make : CanMake picked h
@@ -112,6 +113,9 @@ module _ (l : View) (m : Names) (e : ℕ) (request : Request) (r : HeldThreads T
 
   pub is_elsewhere : IsElsewhere picked
   is_elsewhere = subst IsElsewhere update_is beside.2
+
+  pub begins_then : begun_by picked ≡ starts_in request (state_at goals h (length h))
+  begins_then = subst (λ (k : Kind). begun_by k ≡ starts_in request (state_at goals h (length h))) update_is beside.3
 
   pub stands_then : IsThreads l r d goals (h ++ entry e picked ∷ [])
   stands_then = subst (λ (k : Kind). IsThreads l r d goals (h ++ entry e k ∷ [])) update_is changed.stands
@@ -156,15 +160,50 @@ module _ (l : View) (m : Names) (e : ℕ) (request : Request) (r : HeldThreads T
   database_then k db (Worn w) says was = was
   database_then k db Memory says was = was
 
+-- WHAT THE HUB'S FRONT CARRIES after a row that begins these engines where it makes an update
+abbrev pub lives_after : Row → List Life → List Life → List Life
+lives_after (Makes r) ls more = ls ++ more
+lives_after _ ls more = ls
+
+pub lives_quiet : (row : Row) (ls : List Life) → lives_after row ls [] ≡ ls
+lives_quiet (Reads r) ls = refl
+lives_quiet (Makes r) ls = append-nil ls
+lives_quiet (Waits on) ls = refl
+lives_quiet (NeedsAtoms p) ls = refl
+lives_quiet (Retry c) ls = refl
+lives_quiet (Worn w) ls = refl
+lives_quiet Memory ls = refl
+
+pub lives_begun : (row : Row) (ns : List ℕ) (n : ℕ) → lives_after row (map idle ns) (idle n ∷ []) ≡ map idle (begun_after row n ns)
+lives_begun (Reads r) ns n = refl
+lives_begun (Makes r) ns n = sym (map-append idle ns (n ∷ []))
+lives_begun (Waits on) ns n = refl
+lives_begun (NeedsAtoms p) ns n = refl
+lives_begun (Retry c) ns n = refl
+lives_begun (Worn w) ns n = refl
+lives_begun Memory ns n = refl
+
+module _ (l : View) (m : Names) (e : ℕ) (request : Request) (r : HeldThreads Tree) (d goals : ℕ) (f : FrontState) (of : IsOfThreads request) where
+  lives_then : (row : Row) → ThreadsDecide l m e request r d goals f.seen row
+      → (hub_after e (kind_of e goals f.seen request) row f).lives ≡ lives_after row f.lives (starts_in request (state_at goals f.seen (length f.seen)))
+  lives_then (Reads x) says = refl
+  lives_then (Makes x) says = ap (λ (ls : List Life). f.lives ++ ls) (begins_then l m e request r d goals f.seen of x says)
+  lives_then (Waits on) says = refl
+  lives_then (NeedsAtoms p) says = refl
+  lives_then (Retry c) says = refl
+  lives_then (Worn w) says = refl
+  lives_then Memory says = refl
+
 -- WHAT IS SHARED after a row of queues and threads
-module _ (atoms : TableId) (size : Size) (table : TableId) (goals : ℕ) (f : FrontState) (keeper new_keeper : Option Keeper) (db : HeldClauses Tree) (q r : HeldThreads Tree) (c d : ℕ)
-    (was : IsShared atoms size table goals f keeper db q c) (at : KeeperAt atoms size new_keeper) where
+module _ (atoms : TableId) (size : Size) (table : TableId) (goals : ℕ) (f : FrontState) (keeper new_keeper : Option Keeper) (db : HeldClauses Tree) (q r : HeldThreads Tree) (c d : ℕ) (ns ms : List ℕ)
+    (was : IsShared atoms size table goals f keeper db q c ns) (at : KeeperAt atoms size new_keeper) where
   pub threads_shared : (e : ℕ) (m : Names) (request : Request) → IsOfThreads request → (row : Row)
       → Restored (thread_counts q) (thread_counts r) (keeper_view keeper) (keeper_view new_keeper) (length f.seen) (length f.seen + updates_in row)
       → IsBelow d (length f.seen + updates_in row) r
       → ThreadsDecide (keeper_view new_keeper) m e request r d goals f.seen row
-      → IsShared atoms size table goals (hub_after e (kind_of e goals f.seen request) row f) new_keeper db r d
-  threads_shared e m request of row restored below says =
+      → lives_after row (map idle ns) (starts_in request (state_at goals f.seen (length f.seen))) ≡ map idle ms
+      → IsShared atoms size table goals (hub_after e (kind_of e goals f.seen request) row f) new_keeper db r d ms
+  threads_shared e m request of row restored below says begins =
       let k = kind_of e goals f.seen request in
       let old = keeper_view keeper in
       let new = keeper_view new_keeper in
@@ -181,6 +220,10 @@ module _ (atoms : TableId) (size : Size) (table : TableId) (goals : ℕ) (f : Fr
         floor = was.floor;
         threads = subst (λ (h : History). IsThreads new r d goals h) (sym (after_seen e k row f)) (threads_then new m e request r d goals f.seen of row says);
         below = subst (λ (n : ℕ). IsBelow d n r) g below;
+        waiting =
+            lives_then new m e request r d goals f of row says
+            ∙ ap (λ (ls : List Life). lives_after row ls (starts_in request (state_at goals f.seen (length f.seen)))) was.waiting
+            ∙ begins;
       }
 
 -- THE DATABASE'S UPDATES leave queues and threads
@@ -210,6 +253,31 @@ module _ (b : ℕ) where
   begins_none (start n t a) of = absurd of
   begins_none (finish how steps) of = absurd of
   begins_none (join n) of = absurd of
+
+pub begun_none : (k : Kind) → IsOfClauses k → begun_by k ≡ []
+begun_none (add_first p c o) of = refl
+begun_none (add_last p c o) of = refl
+begun_none (erase j) of = refl
+begun_none (abolish p) of = refl
+begun_none (set_dynamic ps) of = refl
+begun_none (set_flag f v) of = refl
+begun_none (set_op os) of = refl
+begun_none (make_queue n a) of = absurd of
+begun_none (drop_queue n) of = absurd of
+begun_none (send n t) of = absurd of
+begun_none (entries.take j) of = absurd of
+begun_none (start n t a) of = absurd of
+begun_none (finish how steps) of = absurd of
+begun_none (join n) of = absurd of
+
+lives_left : (e : ℕ) (k : Kind) → IsOfClauses k → (row : Row) (f : FrontState) → (hub_after e k row f).lives ≡ f.lives
+lives_left e k of (Reads r) f = refl
+lives_left e k of (Makes r) f = ap (λ (ls : List Life). f.lives ++ ls) (begun_none k of) ∙ append-nil f.lives
+lives_left e k of (Waits on) f = refl
+lives_left e k of (NeedsAtoms p) f = refl
+lives_left e k of (Retry c) f = refl
+lives_left e k of (Worn w) f = refl
+lives_left e k of Memory f = refl
 
 module _ (n e : ℕ) (s : SharedState) where
   threads_left : (k : Kind) → IsOfClauses k → (change n e k s).threads ≡ s.threads
@@ -301,14 +369,14 @@ queues_then k r c goals e h kind sound of (Worn w) was = was
 queues_then k r c goals e h kind sound of Memory was = was
 
 -- WHAT IS SHARED after a row of clauses
-module _ (atoms : TableId) (size : Size) (table : TableId) (goals : ℕ) (f : FrontState) (keeper new_keeper : Option Keeper) (db new_db : HeldClauses Tree) (q : HeldThreads Tree) (c : ℕ)
-    (was : IsShared atoms size table goals f keeper db q c) (sound : IsSound q) (at : KeeperAt atoms size new_keeper) where
+module _ (atoms : TableId) (size : Size) (table : TableId) (goals : ℕ) (f : FrontState) (keeper new_keeper : Option Keeper) (db new_db : HeldClauses Tree) (q : HeldThreads Tree) (c : ℕ) (ns : List ℕ)
+    (was : IsShared atoms size table goals f keeper db q c ns) (sound : IsSound q) (at : KeeperAt atoms size new_keeper) where
   pub database_shared : (e : ℕ) (kind : Kind) → IsOfClauses kind → (row : Row)
       → Restored (clause_counts db) (clause_counts new_db) (keeper_view keeper) (keeper_view new_keeper) (length f.seen) (generation_after row (length f.seen))
       → IsUpTo (generation_after row (length f.seen)) new_db
       → new_db.floor ≡ db.floor
       → IsDatabase (keeper_view new_keeper) new_db goals (seen_after e kind row f.seen)
-      → IsShared atoms size table goals (hub_after e kind row f) new_keeper new_db q c
+      → IsShared atoms size table goals (hub_after e kind row f) new_keeper new_db q c ns
   database_shared e kind of row restored upto floor after =
       let old = keeper_view keeper in
       let new = keeper_view new_keeper in
@@ -325,6 +393,7 @@ module _ (atoms : TableId) (size : Size) (table : TableId) (goals : ℕ) (f : Fr
         floor = floor ∙ was.floor;
         threads = subst (λ (h : History). IsThreads new q c goals h) (sym (after_seen e kind row f)) (queues_then new q c goals e f.seen kind sound of row carried);
         below = let le : length f.seen ≤ length (hub_after e kind row f).seen = omega (arith, more) in later_below c (length f.seen) (length (hub_after e kind row f).seen) q le was.below;
+        waiting = lives_left e kind of row f ∙ was.waiting;
       }
     where
       later_below : (n a b : ℕ) (x : HeldThreads Tree) → a ≤ b → IsBelow n a x → IsBelow n b x
@@ -335,7 +404,7 @@ module _ (atoms : TableId) (size : Size) (table : TableId) (goals : ℕ) (f : Fr
       → IsUpTo (generation_after row (length f.seen)) new_db
       → new_db.floor ≡ db.floor
       → DatabaseDecides goals e text request f.seen kind (keeper_view new_keeper) new_db row
-      → IsShared atoms size table goals (hub_after e kind row f) new_keeper new_db q c
+      → IsShared atoms size table goals (hub_after e kind row f) new_keeper new_db q c ns
   clauses_shared e text request kind plain of row restored upto floor says =
       database_shared e kind of row restored upto floor (clauses_then goals e text request f.seen kind plain of (keeper_view new_keeper) new_db row says)
 

@@ -1,12 +1,13 @@
 -- A row of queues and threads, with the update that was picked before it.
-use Rattle.std.proofs.Common.{◌≡◌, ℕ, suc, ◌+◌, ◌++◌, length, Option, Some, refl, sym, ap, subst, ◌∙◌, arith}
+use Rattle.std.proofs.Common.{◌≡◌, ℕ, suc, ◌+◌, List, [], ◌∷◌, ◌++◌, map, length, Option, Some, refl, sym, ap, subst, ◌∙◌, arith}
 use Rattle.std.specs.Prelude.{IsSome}
 use Rattle.std.specs.List.{All}
 use Rattle.atomic_table.specs.Seated.{TableId}
 use Rattle.pl_term.specs.Tree.{Tree}
 use Rattle.pl_model.specs.History.{History, Kind}
 use Rattle.pl_model.specs.Requests.{Request}
-use Rattle.pl_history.specs.Fronts.{FrontState}
+use Rattle.pl_model.specs.SharedState.{state_at}
+use Rattle.pl_history.specs.Fronts.{FrontState, Life}
 use Rattle.atom_api.specs.Names.{Names}
 use Rattle.atom_words.specs.declared.size.Size.{Size}
 use Rattle.atom_words.specs.declared.view.View.{View}
@@ -34,18 +35,18 @@ use Rattle.counted_terms.proofs.Sharing.{restored_as, restored_same, restored_wi
 use Rattle.hub_threads.specs.Rows.{Decides as ThreadsDecide, updates_in}
 use Rattle.hub_threads.specs.Threads.{thread_counts}
 use Rattle.hub_database.specs.Database.{clause_counts}
-use Rattle.pl_hub.specs.Fronts.{IsOwn, told_of}
-use Rattle.pl_hub.specs.Settling.{CanSettle, Meets, Sees, answer_of, front_after, hub_after, kind_of}
+use Rattle.pl_hub.specs.Fronts.{IsOwn, idle, told_of}
+use Rattle.pl_hub.specs.Settling.{CanSettle, Meets, Sees, answer_of, begun_after, front_after, hub_after, kind_of}
 use Rattle.pl_hub.specs.State.{IsShared}
 use Rattle.pl_hub.specs.Visits.{IsVisit}
 use Rattle.pl_hub.proofs.Answering.{is_visit_of, none_asked}
-use Rattle.pl_hub.proofs.Serving.{IsOfThreads}
-use Rattle.pl_hub.proofs.States.{threads_can, threads_meet, threads_shared}
+use Rattle.pl_hub.proofs.Serving.{IsOfThreads, starts_in}
+use Rattle.pl_hub.proofs.States.{lives_after, lives_begun, lives_quiet, threads_can, threads_meet, threads_shared}
 use Rattle.pl_hub.proofs.Visiting.{IsPlainVisit}
 
 -- THE COUNTS that a row is given
-pub thread_counts_of : {atoms : TableId} {size : Size} {table : TableId} {goals : ℕ} {f : FrontState} {keeper : Option Keeper} {db : HeldClauses Tree} {q : HeldThreads Tree} {c : ℕ}
-    → IsShared atoms size table goals f keeper db q c → (n : ℕ) → n ≡ length f.seen → Counts (thread_counts q) (keeper_view keeper) n
+pub thread_counts_of : {atoms : TableId} {size : Size} {table : TableId} {goals : ℕ} {f : FrontState} {keeper : Option Keeper} {db : HeldClauses Tree} {q : HeldThreads Tree} {c : ℕ} {ns : List ℕ}
+    → IsShared atoms size table goals f keeper db q c ns → (n : ℕ) → n ≡ length f.seen → Counts (thread_counts q) (keeper_view keeper) n
 thread_counts_of {keeper = keeper} {db = db} {q = q} was n is = record {
   rest = clause_counts db;
   exact = swapped (clause_counts db) (thread_counts q) (keeper_view keeper) was.exact;
@@ -105,20 +106,51 @@ module _ (goals e : ℕ) (j : Kind) (f now : FrontState) (is : f ≡ now) (q : R
       named holds refusals asked)
 
   -- AND WHAT IS SHARED is the state after the history
-  pub shared_then : {atoms : TableId} {size : Size} {table : TableId} {keeper new_keeper : Option Keeper} {db : HeldClauses Tree} {p : HeldThreads Tree} {c : ℕ}
-      → IsShared atoms size table goals f keeper db p c → KeeperAt atoms size new_keeper → l ≡ keeper_view new_keeper
+  shared_by : {atoms : TableId} {size : Size} {table : TableId} {keeper new_keeper : Option Keeper} {db : HeldClauses Tree} {p : HeldThreads Tree} {c : ℕ} {ns : List ℕ}
+      → IsShared atoms size table goals f keeper db p c ns → KeeperAt atoms size new_keeper → l ≡ keeper_view new_keeper
+      → (n : ℕ) → n ≡ length f.seen
+      → Restored (thread_counts p) (thread_counts r) (keeper_view keeper) (keeper_view new_keeper) n (n + updates_in row)
+      → IsBelow d (n + updates_in row) r
+      → (ms : List ℕ) → lives_after row (map idle ns) (starts_in q (state_at goals f.seen (length f.seen))) ≡ map idle ms
+      → (new : FrontState) → new ≡ hub_after e j row f
+      → IsShared atoms size table goals new new_keeper db r d ms
+  shared_by {atoms} {size} {table} {keeper} {new_keeper} {db} {p} {c} {ns} was at same n is_n restored below ms begins new new_is =
+      subst (λ (x : FrontState). IsShared atoms size table goals x new_keeper db r d ms) (sym new_is)
+      (subst (λ (k : Kind). IsShared atoms size table goals (hub_after e k row f) new_keeper db r d ms) kind_here
+      (threads_shared atoms size table goals f keeper new_keeper db p r c d ns ms was at e (names w) q of row
+      (subst (λ (x : ℕ). Restored (thread_counts p) (thread_counts r) (keeper_view keeper) (keeper_view new_keeper) x (x + updates_in row)) is_n restored)
+      (subst (λ (x : ℕ). IsBelow d (x + updates_in row) r) is_n below)
+      (subst (λ (k : View). ThreadsDecide k (names w) e q r d goals f.seen row) same says)
+      begins))
+
+  -- of a request that begins no engine
+  pub shared_then : starts_in q (state_at goals f.seen (length f.seen)) ≡ []
+      → {atoms : TableId} {size : Size} {table : TableId} {keeper new_keeper : Option Keeper} {db : HeldClauses Tree} {p : HeldThreads Tree} {c : ℕ} {ns : List ℕ}
+      → IsShared atoms size table goals f keeper db p c ns → KeeperAt atoms size new_keeper → l ≡ keeper_view new_keeper
       → (n : ℕ) → n ≡ length f.seen
       → Restored (thread_counts p) (thread_counts r) (keeper_view keeper) (keeper_view new_keeper) n (n + updates_in row)
       → IsBelow d (n + updates_in row) r
       → (new : FrontState) → new ≡ hub_after e j row f
-      → IsShared atoms size table goals new new_keeper db r d
-  shared_then {atoms} {size} {table} {keeper} {new_keeper} {db} {p} {c} was at same n is_n restored below new new_is =
-      subst (λ (x : FrontState). IsShared atoms size table goals x new_keeper db r d) (sym new_is)
-      (subst (λ (k : Kind). IsShared atoms size table goals (hub_after e k row f) new_keeper db r d) kind_here
-      (threads_shared atoms size table goals f keeper new_keeper db p r c d was at e (names w) q of row
-      (subst (λ (x : ℕ). Restored (thread_counts p) (thread_counts r) (keeper_view keeper) (keeper_view new_keeper) x (x + updates_in row)) is_n restored)
-      (subst (λ (x : ℕ). IsBelow d (x + updates_in row) r) is_n below)
-      (subst (λ (k : View). ThreadsDecide k (names w) e q r d goals f.seen row) same says)))
+      → IsShared atoms size table goals new new_keeper db r d ns
+  shared_then quiet {ns = ns} was at same n is_n restored below new new_is =
+      shared_by was at same n is_n restored below ns
+      (ap (lives_after row (map idle ns)) quiet ∙ lives_quiet row (map idle ns))
+      new new_is
+
+  -- of one that begins an engine with this number
+  pub shared_begun : (b : ℕ) → starts_in q (state_at goals f.seen (length f.seen)) ≡ idle b ∷ []
+      → {atoms : TableId} {size : Size} {table : TableId} {keeper new_keeper : Option Keeper} {db : HeldClauses Tree} {p : HeldThreads Tree} {c : ℕ} {ns : List ℕ}
+      → IsShared atoms size table goals f keeper db p c ns → KeeperAt atoms size new_keeper → l ≡ keeper_view new_keeper
+      → (n : ℕ) → n ≡ length f.seen
+      → Restored (thread_counts p) (thread_counts r) (keeper_view keeper) (keeper_view new_keeper) n (n + updates_in row)
+      → IsBelow d (n + updates_in row) r
+      → (new : FrontState) → new ≡ hub_after e j row f
+      → (ms : List ℕ) → ms ≡ begun_after row b ns
+      → IsShared atoms size table goals new new_keeper db r d ms
+  shared_begun b starts {ns = ns} was at same n is_n restored below new new_is ms ms_is =
+      shared_by was at same n is_n restored below ms
+      (ap (lives_after row (map idle ns)) starts ∙ lives_begun row ns b ∙ ap (map idle) (sym ms_is))
+      new new_is
 
 -- A ROW THAT MAKES NO UPDATE, whatever update was picked
 no_update : (n : ℕ) → suc n ≡ 0 → ⊥
@@ -141,6 +173,15 @@ reads_after e j (NeedsAtoms p) f reads = refl
 reads_after e j (Retry c) f reads = refl
 reads_after e j (Worn w) f reads = refl
 reads_after e j Memory f reads = refl
+
+reads_lives : (row : Row) (ls more : List Life) → updates_in row ≡ 0 → lives_after row ls more ≡ ls
+reads_lives (Reads r) ls more reads = refl
+reads_lives (Makes r) ls more reads = absurd (no_update 0 reads)
+reads_lives (Waits on) ls more reads = refl
+reads_lives (NeedsAtoms p) ls more reads = refl
+reads_lives (Retry c) ls more reads = refl
+reads_lives (Worn w) ls more reads = refl
+reads_lives Memory ls more reads = refl
 
 module _ (l : View) (m : Names) (e : ℕ) (q : Request) (r : HeldThreads Tree) (d goals : ℕ) (h : History) (j : Kind) where
   reads_meet : (row : Row) → updates_in row ≡ 0 → ThreadsDecide l m e q r d goals h row → Meets goals e (text_of m) q h j row
@@ -190,17 +231,18 @@ module _ (goals e : ℕ) (j : Kind) (f now : FrontState) (is : f ≡ now) (q : R
       (reads_meet l (names w) e q r d goals f.seen j row reads says)
       named holds refusals asked)
 
-  pub reads_shared : {atoms : TableId} {size : Size} {table : TableId} {keeper new_keeper : Option Keeper} {db : HeldClauses Tree} {p : HeldThreads Tree} {c : ℕ}
-      → IsShared atoms size table goals f keeper db p c → KeeperAt atoms size new_keeper → l ≡ keeper_view new_keeper
+  pub reads_shared : {atoms : TableId} {size : Size} {table : TableId} {keeper new_keeper : Option Keeper} {db : HeldClauses Tree} {p : HeldThreads Tree} {c : ℕ} {ns : List ℕ}
+      → IsShared atoms size table goals f keeper db p c ns → KeeperAt atoms size new_keeper → l ≡ keeper_view new_keeper
       → Restored (thread_counts p) (thread_counts r) (keeper_view keeper) (keeper_view new_keeper) (length f.seen) (length f.seen)
       → IsBelow d (length f.seen) r
       → (new : FrontState) → new ≡ hub_after e j row f
-      → IsShared atoms size table goals new new_keeper db r d
-  reads_shared {atoms} {size} {table} {keeper} {new_keeper} {db} {p} {c} was at same restored below new new_is =
+      → IsShared atoms size table goals new new_keeper db r d ns
+  reads_shared {atoms} {size} {table} {keeper} {new_keeper} {db} {p} {c} {ns} was at same restored below new new_is =
       let none_made : length f.seen ≡ length f.seen + updates_in row = omega (arith, reads) in
       let same_hub : hub_after e (kind_of e goals f.seen q) row f ≡ new = reads_after e (kind_of e goals f.seen q) row f reads ∙ sym (reads_after e j row f reads) ∙ sym new_is in
-      subst (λ (x : FrontState). IsShared atoms size table goals x new_keeper db r d) same_hub
-      (threads_shared atoms size table goals f keeper new_keeper db p r c d was at e (names w) q of row
+      subst (λ (x : FrontState). IsShared atoms size table goals x new_keeper db r d ns) same_hub
+      (threads_shared atoms size table goals f keeper new_keeper db p r c d ns ns was at e (names w) q of row
       (subst (λ (x : ℕ). Restored (thread_counts p) (thread_counts r) (keeper_view keeper) (keeper_view new_keeper) (length f.seen) x) none_made restored)
       (subst (λ (x : ℕ). IsBelow d x r) none_made below)
-      (subst (λ (k : View). ThreadsDecide k (names w) e q r d goals f.seen row) same says))
+      (subst (λ (k : View). ThreadsDecide k (names w) e q r d goals f.seen row) same says)
+      (reads_lives row (map idle ns) (starts_in q (state_at goals f.seen (length f.seen))) reads))

@@ -1,9 +1,9 @@
 -- The front of an engine that runs: what it is told of the shared state.
-use Rattle.std.specs.Prelude.{◌≡◌, ◌≤◌, ℕ, [], true, length}
+use Rattle.std.specs.Prelude.{◌≡◌, ◌≤◌, ℕ, List, [], ◌∷◌, ◌++◌, true, length}
 use Rattle.std.specs.List.{Contains}
 use Rattle.atomic_table.specs.Seated.{TableId}
-use Rattle.pl_model.specs.History.{mine}
-use Rattle.pl_history.specs.Fronts.{FrontState, own_engine, own_generations, own_runs, own_updates}
+use Rattle.pl_model.specs.History.{History, mine}
+use Rattle.pl_history.specs.Fronts.{FrontState, Life, begun_by, own_engine, own_generations, own_runs, own_updates}
 use Rattle.world_api.specs.Told.{Told}
 
 -- WHAT AN ENGINE IS TOLD by its front, in a run of a command with this number of goals
@@ -21,3 +21,18 @@ pub record IsOwn (t : TableId) (e : ℕ) (f : FrontState) : Type 0 where
 -- THE HUB'S FRONT at the start, when engine 1 has been handed over
 abbrev pub is_begun : TableId → FrontState
 is_begun t = record { table = t; seen = []; lives = [] }
+
+-- AN ENGINE THAT HAS DONE NOTHING YET
+abbrev pub idle : ℕ → Life
+idle n = record { engine = n; updates = []; generations = [] }
+
+-- the engines that the entries begin, in their order
+abbrev pub begun_in : History → List Life
+begun_in [] = []
+begun_in (x ∷ xs) = begun_by x.kind ++ begun_in xs
+
+-- THE HISTORY HAS GAINED ENTRIES, or none: the hub's front carries the engines that they begin besides those that it carried
+pub record Grows (old new : FrontState) : Type 0 where
+  pub later : History
+  pub grown : new.seen ≡ old.seen ++ later
+  pub carried : new.lives ≡ old.lives ++ begun_in later

@@ -4,3 +4,4 @@ pub mod State
 pub mod Visits
 pub mod Adding
 pub mod Ending
+pub mod Beginning

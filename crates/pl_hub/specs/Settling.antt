@@ -1,5 +1,5 @@
 -- The step on the history that follows the answer of a part of the shared state.
-use Rattle.std.specs.Prelude.{◌≡◌, ◌<◌, ◌^◌, ℕ, Result, Ok, Err, [], ◌∷◌, ◌++◌, true, false, Option, Some, None, length}
+use Rattle.std.specs.Prelude.{◌≡◌, ◌<◌, ◌^◌, ℕ, List, Result, Ok, Err, [], ◌∷◌, ◌++◌, true, false, Option, Some, None, length}
 use mathlib.Core.List.{IsPrefix}
 use Rattle.pl_term.specs.Tree.{Chars, Tree}
 use Rattle.pl_term.specs.declared.memory.Memory.{Memory as NoMemory}
@@ -37,9 +37,9 @@ answer_of (Retry c) g = given.Retry c
 answer_of (Worn w) g = given.Worn w
 answer_of Memory g = given.Memory
 
--- THE HUB'S FRONT AFTER A ROW: the history has gained the entry, where an update was made
+-- THE HUB'S FRONT AFTER A ROW: the history has gained the entry, where an update was made, and the engine that it begins is the hub's
 abbrev pub hub_after : ℕ → Kind → Row → FrontState → FrontState
-hub_after e k (Makes r) f = record f { seen = f.seen ++ entry e k ∷ []; lives = gains (entry e k) (length f.seen) f.lives ++ begun_by k }
+hub_after e k (Makes r) f = record f { seen = f.seen ++ entry e k ∷ []; lives = f.lives ++ begun_by k }
 hub_after e k _ f = f
 
 -- THE ENGINE'S FRONT AFTER A ROW on the history h: it has seen it, with the entry where there is one, and its engine has gained the generation where the row has a reply
@@ -48,6 +48,11 @@ front_after e k (Reads r) h f = record f { seen = h; lives = visited (length h) 
 front_after e k (Makes r) h f = record f { seen = h ++ entry e k ∷ []; lives = gains (entry e k) (length h) f.lives }
 front_after e k (Waits on) h f = record f { seen = h }
 front_after e k _ h f = f
+
+-- the engines that no front carries yet after a row that begins the engine n where it makes an update
+abbrev pub begun_after : Row → ℕ → List ℕ → List ℕ
+begun_after (Makes r) n ns = ns ++ n ∷ []
+begun_after _ n ns = ns
 
 -- an update can be made that is no engine's end
 pub record CanMake (k : Kind) (h : History) : Type 0 where

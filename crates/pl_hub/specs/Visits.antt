@@ -16,7 +16,7 @@ use Rattle.world_api.specs.Answers.{Visited, answer_names, refusals_by}
 use Rattle.world_api.specs.Asked.{IsInAnswer}
 use Rattle.world_api.specs.Gains.{Gains}
 use Rattle.world_api.specs.Texts.{Holds, text_of}
-use Rattle.pl_hub.specs.Fronts.{IsOwn, told_of}
+use Rattle.pl_hub.specs.Fronts.{Grows, IsOwn, told_of}
 
 -- the history has no further entry than the engine was told of, or is as it was
 abbrev pub IsTold : Answer Tree → FrontState → FrontState → FrontState → Type 0
@@ -31,6 +31,7 @@ IsTold Memory front hub new = new ≡ hub
 pub record IsVisit (table : TableId) (goals e : ℕ) (v w : View) (visit : Visit Tree ArgumentKey) (a : Answer Tree) (f g hub new : FrontState) : Type 0 where
   pub visited : Visited term_by clause_key (text_of (names v)) (text_of (names w)) visit a (told_of goals f) hub.seen (told_of goals g)
   pub history : IsTold a g hub new
+  pub carried : Grows hub new
   pub own : IsOwn table e g
   pub named : All (λ x. IsSome (names w x)) (answer_names names_of a)
   pub holds : Holds (names v) (names w)

@@ -5,7 +5,9 @@
 //! update where one is made; or it is refused with nothing changed.
 #![tactic(auto)]
 
+mod beginning;
 mod clauses;
+mod counting;
 mod ending;
 mod goals;
 mod naming;
@@ -14,5 +16,7 @@ mod settling;
 mod shared;
 mod threads;
 
+pub use beginning::Begun;
+pub use counting::counted;
 pub use naming::Naming;
 pub use shared::Shared;

@@ -1,5 +1,5 @@
 //! One call for all visits.
-ghost use Rattle.std.specs.Prelude.{◌≡◌, IsSome, None, Some};
+ghost use Rattle.std.specs.Prelude.{◌≡◌, IsSome, Some};
 ghost use Rattle.std.specs.List.{All};
 ghost use Rattle.atom_words.specs.Seats.{seen};
 ghost use Rattle.atom_table.specs.Naming.{names};
@@ -8,8 +8,7 @@ ghost use Rattle.term_store.specs.NumberedNames.{names_of, term_by};
 ghost use Rattle.world_api.specs.Answers.{CanVisit};
 ghost use Rattle.world_api.specs.Texts.{text_of};
 ghost use Rattle.world_api.specs.Visits.{visit_names};
-ghost use Rattle.world_api.specs.declared.visit.Visit.TheVariants.{CreateThread, GetMessage, PeekMessage, SendMessage, StartGoal};
-ghost use Rattle.pl_hub.specs.Adding.{adding_visit};
+ghost use Rattle.world_api.specs.declared.visit.Visit.TheVariants.{CreateThread, DestroyQueue, GetMessage, JoinThread, PeekMessage, SendMessage};
 ghost use Rattle.pl_hub.specs.Fronts.{IsOwn, told_of};
 ghost use Rattle.pl_hub.specs.Visits.{IsVisit};
 
@@ -20,14 +19,13 @@ use atom_table::TableAtoms;
 use counted_terms::CountedTerm;
 use hub_database::Adding;
 use pl_history::{Front, History};
-use pl_term::Memory;
 use std::alloc::Global;
 use term_store::{ArgumentKey, Stored};
 use world_api::{Answer, Visit};
 
 impl<K: Naming> Shared<K> {
     /// A visit of the front's own engine, which has this number and runs. Each is answered in one part of the state, with one
-    /// step on the history, or refused with nothing changed.
+    /// step on the history, or refused with nothing changed. The atoms that its terms count are listed already (`counted`).
     pub fn session(
         &mut self,
         alloc: Global,
@@ -35,7 +33,7 @@ impl<K: Naming> Shared<K> {
         atoms: &mut TableAtoms<K>,
         front: &mut Front,
         engine: u64,
-        visit: Visit<Stored, ArgumentKey>,
+        visit: Visit<CountedTerm, ArgumentKey>,
     ) -> Answer<Stored>
         requires history { history.now ≡ K.history }
         requires front { IsOwn K.history engine front.old }
@@ -71,7 +69,7 @@ impl<K: Naming> Shared<K> {
             Visit::Erase { place } => self.erase_clause(
                 alloc, history, atoms, front, engine, place,
             ),
-            Visit::AssertFirst { clause } => self.add(
+            Visit::AssertFirst { clause } => self.add_clause(
                 alloc,
                 history,
                 atoms,
@@ -80,7 +78,7 @@ impl<K: Naming> Shared<K> {
                 clause,
                 Adding::First,
             ),
-            Visit::AssertLast { clause } => self.add(
+            Visit::AssertLast { clause } => self.add_clause(
                 alloc,
                 history,
                 atoms,
@@ -89,7 +87,7 @@ impl<K: Naming> Shared<K> {
                 clause,
                 Adding::Last,
             ),
-            Visit::Consult { clause } => self.add(
+            Visit::Consult { clause } => self.add_clause(
                 alloc,
                 history,
                 atoms,
@@ -120,10 +118,10 @@ impl<K: Naming> Shared<K> {
                 aliases,
                 error,
             } => self.create(alloc, history, atoms, front, engine, goal, aliases, error),
-            Visit::StartGoal { number, goal } => self.start(
+            Visit::StartGoal { number, goal } => self.start_goal(
                 alloc, history, atoms, front, engine, number, goal,
             ),
-            Visit::JoinThread { thread } => self.join_thread(
+            Visit::JoinThread { thread } => self.join(
                 alloc, history, atoms, front, engine, &thread,
             ),
             Visit::SendMessage { queue, message } => self.send(
@@ -138,7 +136,7 @@ impl<K: Naming> Shared<K> {
             Visit::CreateQueue { alias } => self.create_queue(
                 alloc, history, atoms, front, engine, alias,
             ),
-            Visit::DestroyQueue { queue } => self.destroy_queue(
+            Visit::DestroyQueue { queue } => self.destroy(
                 alloc, history, atoms, front, engine, &queue,
             ),
             Visit::CollectAtoms => self.collection(history, atoms, front, engine),
@@ -146,29 +144,7 @@ impl<K: Naming> Shared<K> {
         }
     }
 
-    // A clause is added, with the atoms that it counts.
-    fn add(
-        &mut self,
-        alloc: Global,
-        history: &History,
-        atoms: &mut TableAtoms<K>,
-        front: &mut Front,
-        engine: u64,
-        clause: Stored,
-        by: Adding,
-    ) -> Answer<Stored>
-        requires history { history.now ≡ K.history }
-        requires front { IsOwn K.history engine front.old }
-        requires held { All (λ a. IsSome (names (seen atoms.old.seat) a)) (visit_names names_of key_atoms (adding_visit by clause)) }
-        ensures { IsVisit K.history K.goals engine (seen atoms.old.seat) (seen atoms.new.seat) (adding_visit by clause) result front.old front.new self.old self.new }
-    {
-        match CountedTerm::new(alloc, clause) {
-            Err(Memory) => Answer::Memory,
-            Ok(counted) => self.add_clause(alloc, history, atoms, front, engine, counted, by),
-        }
-    }
-
-    // A thread begins, with the atoms that its goal counts.
+    // A thread begins.
     fn create(
         &mut self,
         alloc: Global,
@@ -176,43 +152,35 @@ impl<K: Naming> Shared<K> {
         atoms: &mut TableAtoms<K>,
         front: &mut Front,
         engine: u64,
-        goal: Stored,
+        goal: CountedTerm,
         aliases: Vec<Atom>,
-        error: Option<Stored>,
+        error: Option<CountedTerm>,
     ) -> Answer<Stored>
         requires history { history.now ≡ K.history }
         requires front { IsOwn K.history engine front.old }
         requires held { All (λ a. IsSome (names (seen atoms.old.seat) a)) (visit_names names_of key_atoms (CreateThread goal aliases error)) }
         ensures { IsVisit K.history K.goals engine (seen atoms.old.seat) (seen atoms.new.seat) (CreateThread goal aliases error) result front.old front.new self.old self.new }
     {
-        match CountedTerm::new(alloc, goal) {
-            Err(Memory) => Answer::Memory,
-            Ok(counted) => self.create_thread(
-                alloc, history, atoms, front, engine, counted, aliases, error,
-            ),
-        }
+        let error = uncounted(error);
+        self.create_thread(alloc, history, atoms, front, engine, goal, aliases, error)
     }
 
-    // A goal of the command begins.
-    fn start(
+    // A thread is joined.
+    fn join(
         &mut self,
         alloc: Global,
         history: &History,
         atoms: &mut TableAtoms<K>,
         front: &mut Front,
         engine: u64,
-        number: u64,
-        goal: Stored,
+        thread: &CountedTerm,
     ) -> Answer<Stored>
         requires history { history.now ≡ K.history }
         requires front { IsOwn K.history engine front.old }
-        requires held { All (λ a. IsSome (names (seen atoms.old.seat) a)) (visit_names names_of key_atoms (StartGoal number goal)) }
-        ensures { IsVisit K.history K.goals engine (seen atoms.old.seat) (seen atoms.new.seat) (StartGoal number goal) result front.old front.new self.old self.new }
+        requires held { All (λ a. IsSome (names (seen atoms.old.seat) a)) (visit_names names_of key_atoms (JoinThread thread.now)) }
+        ensures { IsVisit K.history K.goals engine (seen atoms.old.seat) (seen atoms.new.seat) (JoinThread thread.now) result front.old front.new self.old self.new }
     {
-        match CountedTerm::new(alloc, goal) {
-            Err(Memory) => Answer::Memory,
-            Ok(counted) => self.start_goal(alloc, history, atoms, front, engine, number, counted),
-        }
+        self.join_thread(alloc, history, atoms, front, engine, thread.term())
     }
 
     // A message is sent.
@@ -223,18 +191,33 @@ impl<K: Naming> Shared<K> {
         atoms: &mut TableAtoms<K>,
         front: &mut Front,
         engine: u64,
-        queue: &Stored,
-        message: Stored,
+        queue: &CountedTerm,
+        message: CountedTerm,
     ) -> Answer<Stored>
         requires history { history.now ≡ K.history }
         requires front { IsOwn K.history engine front.old }
         requires held { All (λ a. IsSome (names (seen atoms.old.seat) a)) (visit_names names_of key_atoms (SendMessage queue.now message)) }
         ensures { IsVisit K.history K.goals engine (seen atoms.old.seat) (seen atoms.new.seat) (SendMessage queue.now message) result front.old front.new self.old self.new }
     {
-        match CountedTerm::new(alloc, message) {
-            Err(Memory) => Answer::Memory,
-            Ok(counted) => self.send_message(alloc, history, atoms, front, engine, queue, counted),
-        }
+        self.send_message(alloc, history, atoms, front, engine, queue.term(), message)
+    }
+
+    // A queue is destroyed.
+    fn destroy(
+        &mut self,
+        alloc: Global,
+        history: &History,
+        atoms: &mut TableAtoms<K>,
+        front: &mut Front,
+        engine: u64,
+        queue: &CountedTerm,
+    ) -> Answer<Stored>
+        requires history { history.now ≡ K.history }
+        requires front { IsOwn K.history engine front.old }
+        requires held { All (λ a. IsSome (names (seen atoms.old.seat) a)) (visit_names names_of key_atoms (DestroyQueue queue.now)) }
+        ensures { IsVisit K.history K.goals engine (seen atoms.old.seat) (seen atoms.new.seat) (DestroyQueue queue.now) result front.old front.new self.old self.new }
+    {
+        self.destroy_queue(alloc, history, atoms, front, engine, queue.term())
     }
 
     // A message is taken of the queue that is named.
@@ -245,39 +228,15 @@ impl<K: Naming> Shared<K> {
         atoms: &mut TableAtoms<K>,
         front: &mut Front,
         engine: u64,
-        queue: &Stored,
-        pattern: Stored,
+        queue: &CountedTerm,
+        pattern: &CountedTerm,
     ) -> Answer<Stored>
         requires history { history.now ≡ K.history }
         requires front { IsOwn K.history engine front.old }
-        requires held { All (λ a. IsSome (names (seen atoms.old.seat) a)) (visit_names names_of key_atoms (GetMessage (Some queue.now) pattern)) }
-        ensures { IsVisit K.history K.goals engine (seen atoms.old.seat) (seen atoms.new.seat) (GetMessage (Some queue.now) pattern) result front.old front.new self.old self.new }
+        requires held { All (λ a. IsSome (names (seen atoms.old.seat) a)) (visit_names names_of key_atoms (GetMessage (Some queue.now) pattern.now)) }
+        ensures { IsVisit K.history K.goals engine (seen atoms.old.seat) (seen atoms.new.seat) (GetMessage (Some queue.now) pattern.now) result front.old front.new self.old self.new }
     {
-        match CountedTerm::new(alloc, pattern) {
-            Err(Memory) => Answer::Memory,
-            Ok(counted) => self.get_message(alloc, history, atoms, front, engine, queue, &counted),
-        }
-    }
-
-    // A message is taken of the engine's own queue.
-    fn get_own(
-        &mut self,
-        alloc: Global,
-        history: &History,
-        atoms: &mut TableAtoms<K>,
-        front: &mut Front,
-        engine: u64,
-        pattern: Stored,
-    ) -> Answer<Stored>
-        requires history { history.now ≡ K.history }
-        requires front { IsOwn K.history engine front.old }
-        requires held { All (λ a. IsSome (names (seen atoms.old.seat) a)) (visit_names names_of key_atoms (GetMessage None pattern)) }
-        ensures { IsVisit K.history K.goals engine (seen atoms.old.seat) (seen atoms.new.seat) (GetMessage None pattern) result front.old front.new self.old self.new }
-    {
-        match CountedTerm::new(alloc, pattern) {
-            Err(Memory) => Answer::Memory,
-            Ok(counted) => self.get_own_message(alloc, history, atoms, front, engine, &counted),
-        }
+        self.get_message(alloc, history, atoms, front, engine, queue.term(), pattern)
     }
 
     // A message is taken.
@@ -288,8 +247,8 @@ impl<K: Naming> Shared<K> {
         atoms: &mut TableAtoms<K>,
         front: &mut Front,
         engine: u64,
-        queue: Option<Stored>,
-        pattern: Stored,
+        queue: Option<CountedTerm>,
+        pattern: CountedTerm,
     ) -> Answer<Stored>
         requires history { history.now ≡ K.history }
         requires front { IsOwn K.history engine front.old }
@@ -297,8 +256,8 @@ impl<K: Naming> Shared<K> {
         ensures { IsVisit K.history K.goals engine (seen atoms.old.seat) (seen atoms.new.seat) (GetMessage queue pattern) result front.old front.new self.old self.new }
     {
         match queue {
-            None => self.get_own(alloc, history, atoms, front, engine, pattern),
-            Some(queue) => self.get_from(alloc, history, atoms, front, engine, &queue, pattern),
+            None => self.get_own_message(alloc, history, atoms, front, engine, &pattern),
+            Some(queue) => self.get_from(alloc, history, atoms, front, engine, &queue, &pattern),
         }
     }
 
@@ -310,39 +269,15 @@ impl<K: Naming> Shared<K> {
         atoms: &mut TableAtoms<K>,
         front: &mut Front,
         engine: u64,
-        queue: &Stored,
-        pattern: Stored,
+        queue: &CountedTerm,
+        pattern: &CountedTerm,
     ) -> Answer<Stored>
         requires history { history.now ≡ K.history }
         requires front { IsOwn K.history engine front.old }
-        requires held { All (λ a. IsSome (names (seen atoms.old.seat) a)) (visit_names names_of key_atoms (PeekMessage (Some queue.now) pattern)) }
-        ensures { IsVisit K.history K.goals engine (seen atoms.old.seat) (seen atoms.new.seat) (PeekMessage (Some queue.now) pattern) result front.old front.new self.old self.new }
+        requires held { All (λ a. IsSome (names (seen atoms.old.seat) a)) (visit_names names_of key_atoms (PeekMessage (Some queue.now) pattern.now)) }
+        ensures { IsVisit K.history K.goals engine (seen atoms.old.seat) (seen atoms.new.seat) (PeekMessage (Some queue.now) pattern.now) result front.old front.new self.old self.new }
     {
-        match CountedTerm::new(alloc, pattern) {
-            Err(Memory) => Answer::Memory,
-            Ok(counted) => self.peek_message(alloc, history, atoms, front, engine, queue, &counted),
-        }
-    }
-
-    // A message is looked at of the engine's own queue.
-    fn peek_own(
-        &mut self,
-        alloc: Global,
-        history: &History,
-        atoms: &mut TableAtoms<K>,
-        front: &mut Front,
-        engine: u64,
-        pattern: Stored,
-    ) -> Answer<Stored>
-        requires history { history.now ≡ K.history }
-        requires front { IsOwn K.history engine front.old }
-        requires held { All (λ a. IsSome (names (seen atoms.old.seat) a)) (visit_names names_of key_atoms (PeekMessage None pattern)) }
-        ensures { IsVisit K.history K.goals engine (seen atoms.old.seat) (seen atoms.new.seat) (PeekMessage None pattern) result front.old front.new self.old self.new }
-    {
-        match CountedTerm::new(alloc, pattern) {
-            Err(Memory) => Answer::Memory,
-            Ok(counted) => self.peek_own_message(alloc, history, atoms, front, engine, &counted),
-        }
+        self.peek_message(alloc, history, atoms, front, engine, queue.term(), pattern)
     }
 
     // A message is looked at.
@@ -353,8 +288,8 @@ impl<K: Naming> Shared<K> {
         atoms: &mut TableAtoms<K>,
         front: &mut Front,
         engine: u64,
-        queue: Option<Stored>,
-        pattern: Stored,
+        queue: Option<CountedTerm>,
+        pattern: CountedTerm,
     ) -> Answer<Stored>
         requires history { history.now ≡ K.history }
         requires front { IsOwn K.history engine front.old }
@@ -362,8 +297,18 @@ impl<K: Naming> Shared<K> {
         ensures { IsVisit K.history K.goals engine (seen atoms.old.seat) (seen atoms.new.seat) (PeekMessage queue pattern) result front.old front.new self.old self.new }
     {
         match queue {
-            None => self.peek_own(alloc, history, atoms, front, engine, pattern),
-            Some(queue) => self.peek_from(alloc, history, atoms, front, engine, &queue, pattern),
+            None => self.peek_own_message(alloc, history, atoms, front, engine, &pattern),
+            Some(queue) => self.peek_from(alloc, history, atoms, front, engine, &queue, &pattern),
         }
+    }
+}
+
+// The term alone.
+fn uncounted(error: Option<CountedTerm>) -> Option<Stored>
+    ensures { result ≡ error }
+{
+    match error {
+        None => None,
+        Some(error) => Some(error.into_term()),
     }
 }

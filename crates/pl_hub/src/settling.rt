@@ -1,9 +1,9 @@
 //! The step on the history after a part of the shared state has answered.
-ghost use Rattle.std.specs.Prelude.{◌^◌, ◌<◌, ◌≡◌, ◌∷◌, [], ◌++◌, ℕ, OnOk, true, length};
+ghost use Rattle.std.specs.Prelude.{◌^◌, ◌<◌, ◌≡◌, ◌∷◌, [], ◌++◌, ℕ, OnOk, true, length, vec_len, vec_capacity};
 ghost use Rattle.pl_model.specs.History.{finish, is_end};
-ghost use Rattle.pl_history.specs.Fronts.{begun_by, gains, own_engine, own_runs};
+ghost use Rattle.pl_history.specs.Fronts.{begun_by, gains, own_engine, own_runs, times};
 ghost use Rattle.pl_hub.specs.Ending.{front_closed, hub_closed};
-ghost use Rattle.pl_hub.specs.Settling.{CanMake, CanSettle, IsBehind, Sees, answer_of, entry, front_after, hub_after, next_answer, next_front};
+ghost use Rattle.pl_hub.specs.Settling.{CanMake, CanSettle, IsBehind, Sees, answer_of, begun_after, entry, front_after, hub_after, next_answer, next_front};
 
 use counted_terms::Row;
 use pl_history::{Front, History, HubFront};
@@ -49,6 +49,19 @@ impl<N: Updates> Shows for Update<N> {
     }
 }
 
+// The engine that runs in the front is not the hub's. Nothing changes.
+fn hub_is_apart(history: &History, hub: &mut HubFront, front: &mut Front, engine: u64)
+    requires hub_here { hub.old.table ≡ history.now }
+    requires front_here { front.old.table ≡ history.now }
+    requires own { own_engine front.old.lives ≡ engine }
+    requires runs { own_runs front.old.lives ≡ true }
+    ensures hub { hub.new ≡ hub.old }
+    ensures front { front.new ≡ front.old }
+    ensures apart { times engine hub.old.lives ≡ 0 }
+{
+    history.apart_from_hub(hub, front)
+}
+
 // The history gains the update that is picked for `N`.
 fn make<N: Updates>(history: &History, hub: &mut HubFront, front: &mut Front, engine: u64) -> u64
     requires hub_here { hub.old.table ≡ history.now }
@@ -57,10 +70,11 @@ fn make<N: Updates>(history: &History, hub: &mut HubFront, front: &mut Front, en
     requires runs { own_runs front.old.lives ≡ true }
     requires can { CanMake N.kind hub.old.seen }
     ensures place { result ≡ length hub.old.seen }
-    ensures hub { hub.new ≡ record hub.old { seen = hub.old.seen ++ entry engine N.kind ∷ []; lives = gains (entry engine N.kind) (length hub.old.seen) hub.old.lives ++ begun_by N.kind } }
+    ensures hub { hub.new ≡ record hub.old { seen = hub.old.seen ++ entry engine N.kind ∷ []; lives = hub.old.lives ++ begun_by N.kind } }
     ensures front { front.new ≡ record front.old { seen = hub.old.seen ++ entry engine N.kind ∷ []; lives = gains (entry engine N.kind) (length hub.old.seen) front.old.lives } }
     ensures sees { IsBehind hub.old.seen front.old }
 {
+    hub_is_apart(history, hub, front, engine);
     let update = Update::<N> {
         engine,
         of: PhantomData,
@@ -110,6 +124,16 @@ pub(crate) fn settle<N: Updates>(
     }
 }
 
+/// An engine with this number has begun where the row makes an update, and no front carries it yet.
+pub(crate) fn note_begun(begun: &mut Vec<u64>, row: &Row, number: u64)
+    requires room { vec_len begun.old < vec_capacity begun.old }
+    ensures { begun.new.items ≡ begun_after row.now number begun.old.items }
+{
+    if let Row::Makes(_) = row {
+        begun.push_reserved(number);
+    }
+}
+
 /// The one step on the history after the next clause of a list was found, or memory ran out: the front looks, and no list
 /// gains.
 pub(crate) fn settle_next(
@@ -156,8 +180,9 @@ pub(crate) fn close<W: ShowsHow, S: ShowsSteps>(
     ensures front { front.new ≡ front_closed engine (finish (W.how how.now) (S.steps run.now)) hub.old.seen front.old }
     ensures sees { IsBehind hub.old.seen front.old }
 {
+    hub_is_apart(history, hub, front, engine);
     let ends = Ends { engine, how, run };
-    let Ok(_) = history.append(hub, front, &ends) else {
+    let Ok(_place) = history.append(hub, front, &ends) else {
         unreachable!()
     };
 }

@@ -30,6 +30,8 @@ pub struct Shared<K: Naming> {
     pub(crate) queues: Queues<CountedTerm>,
     /// The number that the next thread or queue gets.
     pub(crate) count: u64,
+    /// The engines that have begun and that no other front was given, in the order in which they began.
+    pub(crate) begun: Vec<u64>,
     pub(crate) of: PhantomData<K>,
 }
 
@@ -44,7 +46,7 @@ impl<K: Naming> Model for Shared<K> {
 
     ghost view = { λ s. s.front };
 
-    ghost invariant = { λ s. IsShared K.atoms K.size K.history K.goals s.front s.keeper s.db s.queues s.count };
+    ghost invariant = { λ s. IsShared K.atoms K.size K.history K.goals s.front s.keeper s.db s.queues s.count s.begun.items };
 }
 
 // The number that the first thread or queue gets.
@@ -85,6 +87,7 @@ impl<K: Naming> Shared<K> {
             hints: Hints::new(alloc),
             queues,
             count: first_number(goals),
+            begun: Vec::new(alloc),
             of: PhantomData,
         })
     }

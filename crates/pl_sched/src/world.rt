@@ -4,14 +4,16 @@ ghost use Rattle.pl_hub.specs.Fronts.{IsOwn, told_of};
 
 use atom_table::TableAtoms;
 use pl_history::{Front, History};
-use pl_hub::{Naming, Shared};
+use pl_hub::{Naming, Shared, counted};
+use pl_term::Memory;
 use std::alloc::Global;
 use std::marker::Model;
 use std::sync::{Mutex, Wait};
 use term_store::{ArgumentKey, Stored};
 use world_api::{Answer, Visit, World};
 
-/// The shared state as an engine that a worker carries sees it: its front, and the lock before each visit. Contracts see it
+/// The shared state as an engine that a worker carries sees it: its front, and the lock before each visit, which
+/// is made ready before the lock is taken. Contracts see it
 /// as what the front knows.
 #[derive(Drop)]
 pub struct HubWorld<'a, K: Naming, R: Wait> {
@@ -109,14 +111,19 @@ impl<'a, K: Naming, R: Wait> World for HubWorld<'a, K, R> {
         ensures asked { Gains (IsInAnswer term_by clause_key (text_of (names (seen atoms.old.seat))) visit (told_of K.goals self.old))
             (Some (requests (seen atoms.old.seat))) (Some (requests (seen atoms.new.seat))) }
     {
-        let mut hub = self.hub.lock(self.runtime);
-        hub.session(
-            self.alloc,
-            self.history,
-            atoms,
-            &mut self.front,
-            self.engine,
-            visit,
-        )
+        match counted(self.alloc, visit) {
+            Err(Memory) => Answer::Memory,
+            Ok(listed) => {
+                let mut hub = self.hub.lock(self.runtime);
+                hub.session(
+                    self.alloc,
+                    self.history,
+                    atoms,
+                    &mut self.front,
+                    self.engine,
+                    listed,
+                )
+            }
+        }
     }
 }

@@ -29,7 +29,7 @@ invariant_of-self g c =
     shared_then g.K.Naming.goals c.args.engine g.N.Updates.kind f c.args.self.now c.self.view_is q tt c.requires.kind
     (seen c.create_queue-row.new.atoms.seat) k c.create_queue-row.new.queues c.create_queue-row.new.count c.create_queue-row.result
     (c.create_queue-row.ensures.says k c.args.engine g.K.Naming.goals f.seen (sym c.generation-generation.ensures) c.self.invariant.threads)
-    c.self.invariant c.self.invariant.keeper_is refl c.generation-generation.result c.generation-generation.ensures
+    refl c.self.invariant c.self.invariant.keeper_is refl c.generation-generation.result c.generation-generation.ensures
     (nothing_stored k c.self.inside.queues c.create_queue-row.new.queues c.generation-generation.result (updates_in c.create_queue-row.result) c.create_queue-row.ensures.stored)
     c.create_queue-row.ensures.below c.settle.new.hub c.settle.ensures.hub
 

@@ -1,4 +1,4 @@
-use Rattle.std.proofs.Common.{ℕ, List, refl, sym, ap, subst, ◌∙◌, map, ◌++◌}
+use Rattle.std.proofs.Common.{ℕ, List, [], ◌∷◌, refl, sym, ap, subst, ◌∙◌, map, ◌++◌}
 use Rattle.std.specs.Prelude.{IsSome, option_map}
 use Rattle.std.specs.List.{All}
 use Rattle.pl_model.specs.Requests as requests
@@ -10,9 +10,11 @@ use Rattle.world_api.specs.Visits.{optional_names}
 use Rattle.world_api.specs.declared.visit.Visit.TheVariants.{CreateThread}
 use Rattle.counted_terms.specs.CountedTerms.{said}
 use Rattle.counted_terms.specs.Keeping.{keeper_view}
-use Rattle.pl_hub.specs.Settling.{kind_of}
+use Rattle.pl_hub.specs.Fronts.{idle}
+use Rattle.pl_hub.specs.Settling.{begun_after, kind_of}
+use Rattle.pl_hub.specs.State.{IsShared}
 use Rattle.pl_hub.proofs.Held.{all_left, all_right}
-use Rattle.pl_hub.proofs.ThreadRows.{can_settle, shared_then, thread_counts_of, threads_visit}
+use Rattle.pl_hub.proofs.ThreadRows.{can_settle, shared_begun, thread_counts_of, threads_visit}
 use Rattle.pl_hub.proofs.shared.Shared.create_thread_by.Goals as goal
 
 pub create_thread-row-requires-clause-counts : goal.create_thread-row-requires-clause-counts
@@ -44,15 +46,22 @@ settle-requires-clause-can g c =
 
 pub invariant_of-self : goal.invariant_of-self
 invariant_of-self g c =
+    subst (λ (ns : List ℕ). IsShared g.K.NamesTable.atoms g.K.NamesTable.size g.K.Naming.history g.K.Naming.goals c.self.inside.front c.self.inside.keeper c.self.inside.db c.self.inside.queues c.self.inside.count ns)
+    (sym c.reserve.ensures.items) c.self.invariant
+
+pub invariant_of-self-2 : goal.invariant_of-self-2
+invariant_of-self-2 g c =
     let f = c.self.inside.front in
     let n = names (seen c.args.atoms.now.seat) in
     let asks = λ (l : List ℕ). requests.create_thread (said n c.args.goal) (map (text_of n) l) (option_map (said n) c.args.error) in
     let q = asks c.as_slice.result.now in
-    shared_then g.K.Naming.goals c.args.engine g.N.Updates.kind f c.args.self.now c.self.view_is q tt (c.requires.kind ∙ ap (λ (l : List ℕ). kind_of c.args.engine g.K.Naming.goals c.args.self.now.seen (asks l)) (sym c.as_slice.ensures.value))
+    shared_begun g.K.Naming.goals c.args.engine g.N.Updates.kind f c.args.self.now c.self.view_is q tt (c.requires.kind ∙ ap (λ (l : List ℕ). kind_of c.args.engine g.K.Naming.goals c.args.self.now.seen (asks l)) (sym c.as_slice.ensures.value))
     (seen c.create_thread-row.new.atoms.seat) (keeper_view c.create_thread-row.new.keeper) c.create_thread-row.new.queues c.create_thread-row.new.count c.create_thread-row.result
     (c.create_thread-row.ensures.says c.args.engine g.K.Naming.goals f.seen (sym c.generation-generation.ensures) c.self.invariant.threads)
+    c.self.inside.count (ap (λ (k : ℕ). idle k ∷ []) c.self.invariant.threads.number)
     c.self.invariant c.create_thread-row.ensures.keeper refl c.generation-generation.result c.generation-generation.ensures
     c.create_thread-row.ensures.restored c.create_thread-row.ensures.below c.settle.new.hub c.settle.ensures.hub
+    c.note_begun.new.begun.items (c.note_begun.ensures ∙ ap (begun_after c.create_thread-row.result c.self.inside.count) c.reserve.ensures.items)
 
 pub returns : goal.returns
 returns g c =

@@ -10,8 +10,8 @@ use Rattle.world_api.specs.Visits.{visit_names}
 use Rattle.world_api.specs.declared.visit.Visit.TheVariants.{GetMessage}
 use Rattle.pl_hub.proofs.shared.Shared.get.Goals as goal
 
-pub get_own-requires-clause-held : goal.get_own-requires-clause-held
-get_own-requires-clause-held g c =
+pub get_own_message-requires-clause-held : goal.get_own_message-requires-clause-held
+get_own_message-requires-clause-held g c =
     subst (λ (o : Option Tree). All (λ a. IsSome (names (seen c.args.atoms.now.seat) a)) (visit_names names_of key_atoms (GetMessage o c.args.pattern))) c.in-None.is c.requires.held
 
 pub get_from-requires-clause-held : goal.get_from-requires-clause-held

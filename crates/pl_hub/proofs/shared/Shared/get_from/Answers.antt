@@ -1,4 +1,4 @@
-use Rattle.std.proofs.Common.{None, Some, sym, subst}
+use Rattle.std.proofs.Common.{Some, sym, subst}
 use Rattle.std.specs.Prelude.{IsSome}
 use Rattle.std.specs.List.{All}
 use Rattle.pl_term.specs.Tree.{Tree}
@@ -9,16 +9,12 @@ use Rattle.term_store.specs.NumberedNames.{names_of}
 use Rattle.world_api.specs.Visits.{visit_names}
 use Rattle.world_api.specs.declared.visit.Visit.TheVariants.{GetMessage}
 use Rattle.pl_hub.specs.Visits.{IsVisit}
-use Rattle.pl_hub.proofs.SameVisits.{memory_visit}
 use Rattle.pl_hub.proofs.shared.Shared.get_from.Goals as goal
 
 pub get_message-requires-clause-held : goal.get_message-requires-clause-held
-get_message-requires-clause-held g c = subst (λ (t : Tree). All (λ a. IsSome (names (seen c.args.atoms.now.seat) a)) (visit_names names_of key_atoms (GetMessage (Some c.args.queue.now) t))) (sym c.in-Ok.ensures) c.requires.held
+get_message-requires-clause-held g c = subst (λ (t : Tree). All (λ a. IsSome (names (seen c.args.atoms.now.seat) a)) (visit_names names_of key_atoms (GetMessage (Some t) c.args.pattern.now))) (sym c.term.ensures) c.requires.held
 
-pub returns-in-Err : goal.returns-in-Err
-returns-in-Err g c = memory_visit g.K.Naming.history g.K.Naming.goals c.args.engine (seen c.args.atoms.now.seat) (GetMessage (Some c.args.queue.now) c.args.pattern) c.args.front.now c.args.self.now c.requires.front
-
-pub returns-in-Ok : goal.returns-in-Ok
-returns-in-Ok g c =
-    subst (λ (t : Tree). IsVisit g.K.Naming.history g.K.Naming.goals c.args.engine (seen c.args.atoms.now.seat) (seen c.get_message.new.atoms.seat) (GetMessage (Some c.args.queue.now) t) c.get_message.result c.args.front.now c.get_message.new.front c.args.self.now c.get_message.new.self)
-    c.in-Ok.ensures c.get_message.ensures
+pub returns : goal.returns
+returns g c =
+    subst (λ (t : Tree). IsVisit g.K.Naming.history g.K.Naming.goals c.args.engine (seen c.args.atoms.now.seat) (seen c.get_message.new.atoms.seat) (GetMessage (Some t) c.args.pattern.now) c.get_message.result c.args.front.now c.get_message.new.front c.args.self.now c.get_message.new.self)
+    c.term.ensures c.get_message.ensures

@@ -10,8 +10,8 @@ use Rattle.world_api.specs.Visits.{visit_names}
 use Rattle.world_api.specs.declared.visit.Visit.TheVariants.{PeekMessage}
 use Rattle.pl_hub.proofs.shared.Shared.peek.Goals as goal
 
-pub peek_own-requires-clause-held : goal.peek_own-requires-clause-held
-peek_own-requires-clause-held g c =
+pub peek_own_message-requires-clause-held : goal.peek_own_message-requires-clause-held
+peek_own_message-requires-clause-held g c =
     subst (λ (o : Option Tree). All (λ a. IsSome (names (seen c.args.atoms.now.seat) a)) (visit_names names_of key_atoms (PeekMessage o c.args.pattern))) c.in-None.is c.requires.held
 
 pub peek_from-requires-clause-held : goal.peek_from-requires-clause-held

@@ -15,34 +15,34 @@ pub next_clause-requires-clause-held : goal.next_clause-requires-clause-held
 next_clause-requires-clause-held g c =
     subst (λ (x : Visit Tree ArgumentKey). All (λ a. IsSome (names (seen c.args.atoms.now.seat) a)) (visit_names names_of key_atoms x)) c.in-Next.is c.requires.held
 
-pub add-requires-clause-held : goal.add-requires-clause-held
-add-requires-clause-held g c =
+pub add_clause-requires-clause-held : goal.add_clause-requires-clause-held
+add_clause-requires-clause-held g c =
     subst (λ (x : Visit Tree ArgumentKey). All (λ a. IsSome (names (seen c.args.atoms.now.seat) a)) (visit_names names_of key_atoms x)) c.in-AssertFirst.is c.requires.held
 
-pub add-requires-in-AssertLast-clause-held : goal.add-requires-in-AssertLast-clause-held
-add-requires-in-AssertLast-clause-held g c =
+pub add_clause-requires-in-AssertLast-clause-held : goal.add_clause-requires-in-AssertLast-clause-held
+add_clause-requires-in-AssertLast-clause-held g c =
     subst (λ (x : Visit Tree ArgumentKey). All (λ a. IsSome (names (seen c.args.atoms.now.seat) a)) (visit_names names_of key_atoms x)) c.in-AssertLast.is c.requires.held
 
-pub add-requires-in-Consult-clause-held : goal.add-requires-in-Consult-clause-held
-add-requires-in-Consult-clause-held g c =
+pub add_clause-requires-in-Consult-clause-held : goal.add_clause-requires-in-Consult-clause-held
+add_clause-requires-in-Consult-clause-held g c =
     subst (λ (x : Visit Tree ArgumentKey). All (λ a. IsSome (names (seen c.args.atoms.now.seat) a)) (visit_names names_of key_atoms x)) c.in-Consult.is c.requires.held
 
 pub create-requires-clause-held : goal.create-requires-clause-held
 create-requires-clause-held g c =
     subst (λ (x : Visit Tree ArgumentKey). All (λ a. IsSome (names (seen c.args.atoms.now.seat) a)) (visit_names names_of key_atoms x)) c.in-CreateThread.is c.requires.held
 
-pub start-requires-clause-held : goal.start-requires-clause-held
-start-requires-clause-held g c =
+pub start_goal-requires-clause-held : goal.start_goal-requires-clause-held
+start_goal-requires-clause-held g c =
     subst (λ (x : Visit Tree ArgumentKey). All (λ a. IsSome (names (seen c.args.atoms.now.seat) a)) (visit_names names_of key_atoms x)) c.in-StartGoal.is c.requires.held
 
-pub join_thread-requires-clause-held : goal.join_thread-requires-clause-held
-join_thread-requires-clause-held g c =
+pub join-requires-clause-held : goal.join-requires-clause-held
+join-requires-clause-held g c =
     subst (λ (x : Visit Tree ArgumentKey). All (λ a. IsSome (names (seen c.args.atoms.now.seat) a)) (visit_names names_of key_atoms x)) c.in-JoinThread.is c.requires.held
 
 pub send-requires-clause-held : goal.send-requires-clause-held
 send-requires-clause-held g c =
     subst (λ (x : Visit Tree ArgumentKey). All (λ a. IsSome (names (seen c.args.atoms.now.seat) a)) (visit_names names_of key_atoms x)) c.in-SendMessage.is c.requires.held
 
-pub destroy_queue-requires-clause-held : goal.destroy_queue-requires-clause-held
-destroy_queue-requires-clause-held g c =
+pub destroy-requires-clause-held : goal.destroy-requires-clause-held
+destroy-requires-clause-held g c =
     subst (λ (x : Visit Tree ArgumentKey). All (λ a. IsSome (names (seen c.args.atoms.now.seat) a)) (visit_names names_of key_atoms x)) c.in-DestroyQueue.is c.requires.held

@@ -1,4 +1,4 @@
-use Rattle.std.proofs.Common.{◌≡◌, length, refl, sym, ap, subst, ◌∙◌}
+use Rattle.std.proofs.Common.{◌≡◌, ℕ, List, length, refl, sym, ap, subst, ◌∙◌}
 use Rattle.pl_history.specs.Fronts.{FrontState}
 use Rattle.pl_model.specs.Requests as requests
 use Rattle.atom_words.specs.Seats.{seen}
@@ -9,11 +9,11 @@ use Rattle.counted_terms.specs.CountedTerms.{said}
 use Rattle.counted_terms.specs.Keeping.{keeper_view}
 use Rattle.hub_threads.specs.Threads.{IsThreads}
 use Rattle.pl_hub.specs.Fronts.{IsOwn}
-use Rattle.pl_hub.specs.Settling.{IsBehind}
+use Rattle.pl_hub.specs.Settling.{IsBehind, begun_after}
 use Rattle.pl_hub.specs.State.{IsShared}
 use Rattle.pl_hub.specs.Visits.{IsVisit}
 use Rattle.pl_hub.proofs.AskedTexts.{start_asked}
-use Rattle.pl_hub.proofs.ThreadRows.{can_settle, shared_then, thread_counts_of, threads_visit_asking}
+use Rattle.pl_hub.proofs.ThreadRows.{can_settle, shared_begun, thread_counts_of, threads_visit_asking}
 use Rattle.pl_hub.proofs.shared.Shared.start_goal_by.Goals as goal
 
 pub start_goal-row-requires-clause-counts : goal.start_goal-row-requires-clause-counts
@@ -33,18 +33,25 @@ settle-requires-clause-can g c =
 
 pub invariant_of-self : goal.invariant_of-self
 invariant_of-self g c =
+    subst (λ (ns : List ℕ). IsShared g.K.NamesTable.atoms g.K.NamesTable.size g.K.Naming.history g.K.Naming.goals c.self.inside.front c.self.inside.keeper c.self.inside.db c.self.inside.queues c.self.inside.count ns)
+    (sym c.reserve.ensures.items) c.self.invariant
+
+pub invariant_of-self-2 : goal.invariant_of-self-2
+invariant_of-self-2 g c =
     let f = c.tell-generation.new.hub in
     let v = seen c.args.atoms.now.seat in
     let n = names v in
     let q = requests.start_goal c.args.number (said n c.args.goal) in
     let long : length f.seen ≡ c.tell-generation.result = ap (λ (x : FrontState). length x.seen) c.tell-generation.ensures.hub ∙ sym c.tell-generation.ensures.generation in
     let is_threads = subst (λ (x : FrontState). IsThreads (keeper_view c.self.inside.keeper) c.self.inside.queues c.self.inside.count g.K.Naming.goals x.seen) (sym c.tell-generation.ensures.hub) c.self.invariant.threads in
-    shared_then g.K.Naming.goals c.args.engine g.N.Updates.kind f c.args.self.now (c.tell-generation.ensures.hub ∙ c.self.view_is) q tt c.requires.kind
+    shared_begun g.K.Naming.goals c.args.engine g.N.Updates.kind f c.args.self.now (c.tell-generation.ensures.hub ∙ c.self.view_is) q tt c.requires.kind
     (seen c.start_goal-row.new.atoms.seat) (keeper_view c.start_goal-row.new.keeper) c.start_goal-row.new.queues c.start_goal-row.new.count c.start_goal-row.result
     (c.start_goal-row.ensures.says c.args.engine g.K.Naming.goals f.seen long is_threads)
-    (subst (λ (x : FrontState). IsShared g.K.NamesTable.atoms g.K.NamesTable.size g.K.Naming.history g.K.Naming.goals x c.self.inside.keeper c.self.inside.db c.self.inside.queues c.self.inside.count) (sym c.tell-generation.ensures.hub) c.self.invariant)
+    c.args.number refl
+    (subst (λ (x : FrontState). IsShared g.K.NamesTable.atoms g.K.NamesTable.size g.K.Naming.history g.K.Naming.goals x c.self.inside.keeper c.self.inside.db c.self.inside.queues c.self.inside.count c.self.inside.begun.items) (sym c.tell-generation.ensures.hub) c.self.invariant)
     c.start_goal-row.ensures.keeper refl c.tell-generation.result (sym long)
     c.start_goal-row.ensures.restored c.start_goal-row.ensures.below c.settle.new.hub c.settle.ensures.hub
+    c.note_begun.new.begun.items (c.note_begun.ensures ∙ ap (begun_after c.start_goal-row.result c.args.number) c.reserve.ensures.items)
 
 pub returns : goal.returns
 returns g c =
