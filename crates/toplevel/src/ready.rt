@@ -42,9 +42,9 @@ pub(crate) fn make_ready(
         faulty,
     } = outcome;
     let end = end_of(&front.end, word, faulty);
-    let ends = goal_ends(alloc, &front.end, &awaits, word)?;
     let last = goal_ended(alloc, &front.end, &awaits)?;
     let text = report_text(alloc, &command.goal, word, last, &operators, text, output)?;
+    let ends = goal_ends(alloc, &front.end, &awaits, word)?;
     Ok(Ready {
         end,
         front,
