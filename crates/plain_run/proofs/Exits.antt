@@ -17,7 +17,7 @@ pub exit_with : (E : Type 0) {F : Type 0} (r : Result F Unfinished) (w : Unfinis
 exit_with E {F = F} r w is P Q h f = subst (λ x. UnlessMemory x (Q x)) (sym is) (go w h f)
   where
     go : (x : Unfinished) → UnlessMemory {E = E} (Err x) P → (P → Q (Err x)) → UnlessMemory {E = F} (Err x) (Q (Err x))
-    go (Waits on) p k = k p
+    go (Waits on g) p k = k p
     go (NeedsAtoms q) p k = k p
     go (Worn q) p k = k p
     go (Missing q) p k = k p
@@ -29,8 +29,16 @@ exit_err r w is Q h = subst (λ x. IfErr x Q) (sym is) h
 -- What holds whether memory ran out or not.
 pub unless_memory : {E : Type 0} (r : Result E Unfinished) {P : Type 0} → P → UnlessMemory r P
 unless_memory (Ok x) h = h
-unless_memory (Err (Waits on)) h = h
+unless_memory (Err (Waits on g)) h = h
 unless_memory (Err (NeedsAtoms p)) h = h
 unless_memory (Err (Worn w)) h = h
 unless_memory (Err (Missing p)) h = h
 unless_memory (Err Memory) h = tt
+
+pub unless_on : {E : Type 0} (r : Result E Unfinished) {P Q : Type 0} → (P → Q) → UnlessMemory r P → UnlessMemory r Q
+unless_on (Ok x) f h = f h
+unless_on (Err (Waits on g)) f h = f h
+unless_on (Err (NeedsAtoms p)) f h = f h
+unless_on (Err (Worn w)) f h = f h
+unless_on (Err (Missing p)) f h = f h
+unless_on (Err Memory) f h = tt

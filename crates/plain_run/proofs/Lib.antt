@@ -1,12 +1,15 @@
 pub mod Answered
+pub mod Asking
+pub mod Carrying
 pub mod Closing
 pub mod Completions
+pub mod Ended
 pub mod Endings
 pub mod Exits
 pub mod Outputs
 pub mod Readings
-pub mod Rounds
+pub mod Refused
 pub mod Searching
+pub mod Sliced
 pub mod Stopping
-pub mod Taking
 pub mod Turning

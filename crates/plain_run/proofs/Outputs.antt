@@ -7,6 +7,9 @@ use Rattle.pl_model.specs.OperatorTable.{OperatorTable}
 use Rattle.pl_model.specs.Resolution.{Output, text, solution, solution_count}
 use Rattle.run_model.specs.Report.{solution_line, texts, with_line, with_output}
 use Rattle.iso_engine.specs.Slices.{written_text}
+use Rattle.plain_run.specs.declared.runner.Lines.{Lines}
+use Rattle.plain_run.specs.declared.runner.Lines.TheVariants.{Texts, Solutions}
+use Rattle.plain_run.specs.Runners.{put_by}
 
 pub encode-append : (xs ys : Chars) → encode_utf8_all (xs ++ ys) ≡ encode_utf8_all xs ++ encode_utf8_all ys
 encode-append [] ys = refl
@@ -32,9 +35,6 @@ bytes-texts old new xs grown before is =
     ∙ sym (encode-append before (written_text xs))
     ∙ ap encode_utf8_all (sym (texts-written before xs))
 
-pub texts-pieces : ((t : Chars) → texts t [] ≡ t) × ((t : Chars) (xs ys : List Output) → texts t (xs ++ ys) ≡ texts (texts t xs) ys)
-texts-pieces = (λ t. refl, texts-append)
-
 -- Lines of solutions
 
 pub output-append : (names : List (Chars × ℕ)) (t : Chars) (xs ys : List Output) → with_output names t (xs ++ ys) ≡ with_output names (with_output names t xs) ys
@@ -42,9 +42,14 @@ output-append names t [] ys = refl
 output-append names t (text u ∷ xs) ys = output-append names (t ++ u) xs ys
 output-append names t (solution ops ts ∷ xs) ys = output-append names (with_line t (solution_line names ops ts)) xs ys
 
-pub output-pieces : (names : List (Chars × ℕ))
-    → ((t : Chars) → with_output names t [] ≡ t) × ((t : Chars) (xs ys : List Output) → with_output names t (xs ++ ys) ≡ with_output names (with_output names t xs) ys)
-output-pieces names = (λ t. refl, output-append names)
+-- Piece after piece, as the lines are written.
+pub put-append : (l : Lines) (names : List (Chars × ℕ)) (t : Chars) (xs ys : List Output) → put_by l names t (xs ++ ys) ≡ put_by l names (put_by l names t xs) ys
+put-append Texts names t xs ys = texts-append t xs ys
+put-append Solutions names t xs ys = output-append names t xs ys
+
+pub put-none : (l : Lines) (names : List (Chars × ℕ)) (t : Chars) → put_by l names t [] ≡ t
+put-none Texts names t = refl
+put-none Solutions names t = refl
 
 -- Where there is no solution among them, the texts stand one after the other.
 output-texts : (names : List (Chars × ℕ)) (t : Chars) (xs : List Output) → solution_count xs ≡ 0 → with_output names t xs ≡ t ++ written_text xs

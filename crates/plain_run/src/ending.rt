@@ -43,7 +43,8 @@ pub fn how_at<A: Atoms>(alloc: Global, engine: &Engine, atoms: &mut A) -> Result
 
 /// How an engine ended that has run no goal: by the status with which a directive has halted, if one has, else solved.
 pub fn ends_over(halted: Option<u8>) -> How<Flat>
-    ensures { (ending : Ending) (os : List Output) → LeavesOff halted None None ending os → EndsSo ending result }
+    ensures ends { (ending : Ending) (os : List Output) → LeavesOff halted None None ending os → EndsSo ending result }
+    ensures told { IsEndOfSearch result }
 {
     match halted {
         Some(status) => How::Halted(status),

@@ -5,8 +5,8 @@ use world_api::{On, Pass, Procedure, WornWord};
 /// Why a run does not go on.
 #[derive(Drop)]
 pub enum Unfinished {
-    /// Its next request has no reply as the shared state stands: it waits on this.
-    Waits(On),
+    /// Its next request has no reply as the shared state stands at this generation: it waits on this.
+    Waits(On, u64),
     /// An atom has no place, as that pass over all slots shows.
     NeedsAtoms(Pass),
     /// An atom is one of a bucket that takes no new atom.

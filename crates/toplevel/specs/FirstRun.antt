@@ -17,9 +17,14 @@ use Rattle.script_api.specs.Comes.{ComesBy}
 use Rattle.script_api.specs.Scripts.{AreNames}
 use Rattle.pl_model.specs.Resolution.{State}
 use Rattle.pl_consult.specs.declared.file_script.FileScript.{FileScript}
-use Rattle.pl_consult.specs.FileScripts.{execution_of, part_in}
+use Rattle.pl_consult.specs.FileScripts.{Plays, execution_of, part_in}
+use Rattle.pl_consult.specs.GoalWords.{names_by}
 use Rattle.plain_run.specs.Items.{IsText}
 use Rattle.plain_run.specs.Ran.{WaitsOn}
+use Rattle.plain_run.specs.Runners.{StandsFor}
+use Rattle.plain_run.specs.declared.runner.Lines.TheVariants.{Solutions}
+use Rattle.plain_run.specs.declared.runner.Runner.{Runner}
+use Rattle.plain_run.specs.declared.runner.Stage.TheVariants.{Asks}
 use Rattle.plain_run.specs.declared.unfinished.Unfinished.{Unfinished}
 use Rattle.plain_run.specs.declared.unfinished.Unfinished.TheVariants as unfinished
 use Rattle.toplevel.specs.declared.command.Limits.{Limits}
@@ -86,8 +91,24 @@ IsWaiting n on stop = ⊥
 
 -- The stop tells why a run does not go on.
 abbrev pub IsStopOf : Names → Unfinished → Stop → Type 0
-IsStopOf n (unfinished.Waits on) stop = IsWaiting n on stop
+IsStopOf n (unfinished.Waits on g) stop = IsWaiting n on stop
 IsStopOf n (unfinished.NeedsAtoms p) stop = ⊥
 IsStopOf n (unfinished.Worn w) stop = ⊥
 IsStopOf n (unfinished.Missing p) stop = IsMissing n p stop
 IsStopOf n unfinished.Memory stop = ⊥
+
+-- The engine of the first script stands for this execution. The script does not depend on the texts of atoms.
+abbrev pub RunnerStands : Names → Told → Runner FileScript → Job → Execution → Type 0
+RunnerStands m t r job x =
+    StandsFor (λ text s j cs. execution_of s j cs) part_in (λ text s y. Plays s y) (λ s. s.faulty) (λ s. s.consult.name) (λ s. names_by s.read) m t r job x
+
+-- It has made no move, and so much was written of its file.
+pub record IsAtBeginning (l : Limits) (s : FileScript) (text : List ℕ) (r : Runner FileScript) : Type 0 where
+  pub script : r.script ≡ s
+  pub stage : r.stage ≡ Asks
+  pub budgets : r.budgets ≡ record { inferences = l.inferences; cells = l.cells; choices = l.choices }
+  pub wanted : r.wanted ≡ l.solutions
+  pub lines : r.lines ≡ Solutions
+  pub text_is : r.text.items ≡ text
+  pub output : r.output.items ≡ []
+  pub moves : r.moves ≡ 0

@@ -18,7 +18,7 @@ ghost use Rattle.toplevel.specs.FirstRun.{IsScriptRun};
 use crate::command::Command;
 use crate::first_engine::{FirstEngine, Front, Word};
 use crate::gated::Gated;
-use crate::script_run::{Stop, run_script};
+use crate::script_run::{Stop, run_script, runner_of};
 use atom_api::PlainAtoms;
 use pl_consult::{FileScript, GoalWord};
 use pl_io::Gate;
@@ -27,7 +27,7 @@ use pl_model::threads::On;
 use pl_report::put_waiting_directive;
 use pl_term::{Flat, Memory, Text};
 use plain_world::PlainWorld;
-use script_api::Script;
+use script_api::{Resident, Script};
 use std::alloc::Global;
 use term_store::Stored;
 
@@ -52,24 +52,16 @@ pub(crate) fn first_run<G: Gate>(
 {
     let mut text = Vec::new(alloc);
     let goal = copied(alloc, &command.goal)?;
-    let mut script = FileScript::new(alloc, bytes, &command.file, goal, &mut text)?;
+    let script = FileScript::new(alloc, bytes, &command.file, goal, &mut text)?;
     let mut world = Gated {
         world: PlainWorld::<Stored, PlainAtoms>::new(alloc, goals_of(command))?,
         gate,
     };
     let mut atoms = PlainAtoms::new(alloc)?;
-    let mut output = Vec::new(alloc);
-    let mut moves = 0;
-    let stop = run_script(
-        alloc,
-        &command.limits,
-        &mut script,
-        &mut world,
-        &mut atoms,
-        &mut text,
-        &mut output,
-        &mut moves,
-    )?;
+    let mut runner = runner_of(alloc, &command.limits, script, text);
+    let stop = run_script(alloc, &mut runner, &mut world, &mut atoms)?;
+    let moves = runner.move_count();
+    let (script, text, output) = runner.into_parts();
     close(
         stop,
         &script,

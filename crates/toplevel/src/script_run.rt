@@ -1,17 +1,15 @@
 //! The script of the first engine, run to where it does not go on.
-ghost use Rattle.std.specs.Prelude.{◌≡◌, ◌++◌, ℕ, List, [], false, Some, None, IfOk, IsSome, encode_utf8_all};
+ghost use Rattle.std.specs.Prelude.{◌≡◌, [], false, IfOk, IsSome};
 ghost use Rattle.std.specs.List.{All};
-ghost use Rattle.run_model.specs.Execution.{Consulted, Execution, Job};
-ghost use Rattle.term_store.specs.NumberedNames.{names_of};
-ghost use Rattle.script_api.specs.Parts.{of_goal};
+ghost use Rattle.run_model.specs.Execution.{Execution, Job};
 ghost use Rattle.world_api.specs.Answers.{on_names};
 ghost use Rattle.world_api.specs.Told.{has_ended};
-ghost use Rattle.pl_consult.specs.FileScripts.{Plays, execution_of, part_in};
-ghost use Rattle.plain_run.specs.Items.{IsText};
-ghost use Rattle.plain_run.specs.Ran.{IsNameHeld, at_start_of};
+ghost use Rattle.pl_consult.specs.FileScripts.{part_in};
+ghost use Rattle.plain_run.specs.declared.runner.Lines.TheVariants.{Solutions};
+ghost use Rattle.plain_run.specs.Ran.{IsNameHeld};
+ghost use Rattle.plain_run.specs.Runners.{IsBetween, is_over};
 ghost use Rattle.plain_run.specs.Searched.{unfinished_refusals};
-ghost use Rattle.toplevel.specs.Commands.{told_limits};
-ghost use Rattle.toplevel.specs.FirstRun.{HasLimits, IsMissing, IsScriptRun, IsStopOf, IsWaiting};
+ghost use Rattle.toplevel.specs.FirstRun.{IsAtBeginning, IsMissing, IsScriptRun, IsStopOf, IsWaiting, RunnerStands};
 
 use crate::command::Limits;
 use crate::names::{atom_text, text_on};
@@ -21,7 +19,7 @@ use pl_consult::FileScript;
 use pl_model::ends::How;
 use pl_model::threads::On;
 use pl_term::{Flat, Memory, Text};
-use plain_run::{Item, Unfinished, ends_over, run_goal, run_items};
+use plain_run::{Lines, Runner, Turn, Unfinished};
 use script_api::Script;
 use std::alloc::Global;
 use term_store::Stored;
@@ -49,88 +47,56 @@ fn budgets_of(limits: &Limits) -> Budgets
     }
 }
 
-/// Runs a script from its beginning: what is written of the file is put after `text`, what the goal gives after `output`,
-/// and the moves are counted by `moves`. The atoms refuse nothing. The only error is out of memory.
-pub(crate) fn run_script<W: World<Term = Stored>>(
+/// How many inferences a slice makes.
+const INFERENCES: u32 = 1000;
+
+/// The engine that runs a script from its beginning, where so much was written of the file.
+pub(crate) fn runner_of(
     alloc: Global,
     limits: &Limits,
-    script: &mut FileScript,
-    world: &mut W,
-    atoms: &mut W::A,
-    text: &mut Vec<u8>,
-    output: &mut Vec<u8>,
-    moves: &mut u64,
-) -> Result<Stop, Memory>
-    requires runs { has_ended (W.told world.old).engine (W.told world.old).history ≡ false }
-    requires none { part_in script.old ≡ None }
-    requires goes_on { ⟦<FileScript as Script>⟧.over script.old ≡ false }
-    requires held { All (λ a. IsSome (W.A.held atoms.old a)) (⟦<FileScript as Script>⟧.names script.old) }
-    requires empty { output.old.items ≡ [] }
-    requires plain { (a : W.A) → W.A.refusals a ≡ [] }
-    ensures { (job : Job) (cs : List Consulted) (x : Execution)
-        → HasLimits job limits.now
-        → Plays script.old job.script
-        → x ≡ execution_of script.old job cs
-        → IsText (⟦<FileScript as Script>⟧.name script.old) (⟦<FileScript as Script>⟧.kept script.old) x text.old.items
-        → IfOk result (λ stop. IsScriptRun job (⟦<FileScript as Script>⟧.name script.old) x (W.told world.old) moves.old stop
-        script.new ⟦<FileScript as Script>⟧.kept (W.told world.new) moves.new text.new.items output.new.items) }
+    script: FileScript,
+    text: Vec<u8>,
+) -> Runner<FileScript>
+    ensures { IsAtBeginning limits.now script text.items result }
 {
-    let budgets = budgets_of(limits);
-    match run_items(alloc, script, budgets, world, atoms, text, moves) {
-        Ok(item) => match item {
-            Item::Goal(goal) => run_script_goal(
-                alloc, &goal, limits, script, world, atoms, text, output, moves,
-            ),
-            Item::Over { halted } => Ok(Stop::Ended(ends_over(halted))),
-        },
-        Err(unfinished) => stop_of(alloc, unfinished, atoms),
-    }
+    Runner::new(
+        alloc,
+        script,
+        budgets_of(limits),
+        limits.solutions,
+        Lines::Solutions,
+        text,
+    )
 }
 
-/// Runs the goal that a script has at hand. The only error is out of memory.
-fn run_script_goal<W: World<Term = Stored>>(
+/// Runs an engine, a turn after the other, to where it does not go on. The atoms refuse nothing. The only error is out of
+/// memory.
+pub(crate) fn run_script<W: World<Term = Stored>>(
     alloc: Global,
-    goal: &Stored,
-    limits: &Limits,
-    script: &mut FileScript,
+    runner: &mut Runner<FileScript>,
     world: &mut W,
     atoms: &mut W::A,
-    text: &mut Vec<u8>,
-    output: &mut Vec<u8>,
-    moves: &mut u64,
 ) -> Result<Stop, Memory>
     requires runs { has_ended (W.told world.old).engine (W.told world.old).history ≡ false }
-    requires at_hand { part_in script.old ≡ Some of_goal }
-    requires goes_on { ⟦<FileScript as Script>⟧.over script.old ≡ false }
-    requires held { All (λ a. IsSome (W.A.held atoms.old a)) (⟦<FileScript as Script>⟧.names script.old ++ names_of goal.now) }
-    requires empty { output.old.items ≡ [] }
+    requires ready { IsBetween part_in ⟦<FileScript as Script>⟧.over ⟦<FileScript as Script>⟧.names (W.A.held atoms.old) (W.told world.old) runner.old }
+    requires going { is_over runner.old.stage ≡ false }
+    requires lines { runner.old.lines ≡ Solutions }
     requires plain { (a : W.A) → W.A.refusals a ≡ [] }
-    ensures { (job : Job) (cs : List Consulted) (x : Execution)
-        → HasLimits job limits.now
-        → Plays script.old job.script
-        → x ≡ at_start_of job of_goal (W.A.held atoms.old) goal.now (execution_of script.old job cs)
-        → IsText (⟦<FileScript as Script>⟧.name script.old) (⟦<FileScript as Script>⟧.kept script.old) x text.old.items
-        → IfOk result (λ stop. IsScriptRun job (⟦<FileScript as Script>⟧.name script.old) x (W.told world.old) moves.old stop
-        script.new ⟦<FileScript as Script>⟧.kept (W.told world.new) moves.new text.new.items output.new.items) }
+    ensures { (job : Job) (x : Execution)
+        → RunnerStands (W.A.held atoms.old) (W.told world.old) runner.old job x
+        → IfOk result (λ stop. IsScriptRun job (⟦<FileScript as Script>⟧.name runner.old.script) x (W.told world.old) runner.old.moves stop
+        runner.new.script ⟦<FileScript as Script>⟧.kept (W.told world.new) runner.new.moves runner.new.text.items runner.new.output.items) }
 {
-    let names = copy_names(alloc, script.variable_names())?;
-    let budgets = budgets_of(limits);
-    match run_goal(
-        alloc,
-        goal,
-        names.as_slice(),
-        budgets,
-        limits.solutions,
-        script,
-        world,
-        atoms,
-        text,
-        output,
-        moves,
-    ) {
-        Ok(how) => Ok(Stop::Ended(how)),
-        Err(unfinished) => stop_of(alloc, unfinished, atoms),
+    for _ in 0..u64::MAX {
+        match runner.turn(world, atoms, INFERENCES) {
+            Ok(turn) => match turn {
+                Turn::Goes => {}
+                Turn::Ended(how) => return Ok(Stop::Ended(how)),
+            },
+            Err(unfinished) => return stop_of(alloc, unfinished, atoms),
+        }
     }
+    Err(Memory)
 }
 
 /// Where a run does not go on that has not ended, if no atom was refused. The only error is out of memory.
@@ -140,7 +106,7 @@ fn stop_of<A: Atoms>(alloc: Global, unfinished: Unfinished, atoms: &mut A) -> Re
     ensures { IfOk result (IsStopOf (A.held atoms.old) unfinished) }
 {
     match unfinished {
-        Unfinished::Waits(on) => waits(alloc, on, atoms),
+        Unfinished::Waits(on, _generation) => waits(alloc, on, atoms),
         Unfinished::NeedsAtoms(_) => unreachable!(),
         Unfinished::Worn(_) => unreachable!(),
         Unfinished::Missing(procedure) => missing(alloc, procedure, atoms),
@@ -167,15 +133,4 @@ fn missing<A: Atoms>(alloc: Global, procedure: Procedure, atoms: &mut A) -> Resu
         name,
         arity: procedure.arity,
     })
-}
-
-/// The same names of variables. The only error is out of memory.
-fn copy_names(alloc: Global, names: &[(Text, u64)]) -> Result<Vec<(Text, u64)>, Memory>
-    ensures { IfOk result (λ v. v.items ≡ names.now) }
-{
-    let mut all = Vec::new(alloc);
-    for (name, number) in names {
-        all.push((name.copy(alloc)?, *number))?;
-    }
-    Ok(all)
 }
