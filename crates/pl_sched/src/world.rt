@@ -2,10 +2,13 @@
 ghost use Rattle.std.specs.Prelude.{◌≡◌, ℕ};
 ghost use Rattle.pl_hub.specs.Fronts.{IsOwn, told_of};
 
+use crate::hub::Hub;
+use crate::naming::Command;
 use atom_table::TableAtoms;
 use pl_history::{Front, History};
-use pl_hub::{Naming, Shared, counted};
+use pl_hub::counted;
 use pl_term::Memory;
+use script_api::Resident;
 use std::alloc::Global;
 use std::marker::Model;
 use std::sync::{Mutex, Wait};
@@ -16,16 +19,16 @@ use world_api::{Answer, Visit, World};
 /// is made ready before the lock is taken. Contracts see it
 /// as what the front knows.
 #[derive(Drop)]
-pub struct HubWorld<'a, K: Naming, R: Wait> {
+pub struct HubWorld<'a, 't, E: Resident + Drop, K: Command, R: Wait> {
     runtime: &'a R,
     alloc: Global,
-    hub: &'a Mutex<Shared<K>>,
+    hub: &'a Mutex<Hub<'t, E, K>>,
     history: &'a History,
     front: Front,
     engine: u64,
 }
 
-impl<'a, K: Naming, R: Wait> Model for HubWorld<'a, K, R> {
+impl<'a, 't, E: Resident + Drop, K: Command, R: Wait> Model for HubWorld<'a, 't, E, K, R> {
     ghost use Rattle.std.specs.Prelude.{◌≡◌};
     ghost use Rattle.pl_history.specs.Fronts.{FrontState};
     ghost use Rattle.pl_history.specs.Codes.{coded_front};
@@ -40,16 +43,16 @@ impl<'a, K: Naming, R: Wait> Model for HubWorld<'a, K, R> {
     ghost invariant = { λ w. (w.history.now ≡ K.history) × IsOwn K.history w.engine w.front };
 }
 
-impl<'a, K: Naming, R: Wait> HubWorld<'a, K, R> {
+impl<'a, 't, E: Resident + Drop, K: Command, R: Wait> HubWorld<'a, 't, E, K, R> {
     /// The shared state as the engine with the number sees it, which runs and whose front this is.
     pub fn new(
         runtime: &'a R,
         alloc: Global,
-        hub: &'a Mutex<Shared<K>>,
+        hub: &'a Mutex<Hub<'t, E, K>>,
         history: &'a History,
         front: Front,
         engine: u64,
-    ) -> HubWorld<'a, K, R>
+    ) -> HubWorld<'a, 't, E, K, R>
         requires history { history.now ≡ K.history }
         requires front { IsOwn K.history engine front }
         ensures { result ≡ front }
@@ -73,7 +76,7 @@ impl<'a, K: Naming, R: Wait> HubWorld<'a, K, R> {
     }
 }
 
-impl<'a, K: Naming, R: Wait> World for HubWorld<'a, K, R> {
+impl<'a, 't, E: Resident + Drop, K: Command, R: Wait> World for HubWorld<'a, 't, E, K, R> {
     ghost use Rattle.std.specs.Prelude.{◌++◌, IsSome, Some, false};
     ghost use Rattle.std.specs.List.{All};
     ghost use Rattle.pl_model.specs.History.{History as Entries};
@@ -88,7 +91,7 @@ impl<'a, K: Naming, R: Wait> World for HubWorld<'a, K, R> {
     ghost use Rattle.world_api.specs.Asked.{IsInAnswer};
     ghost use Rattle.world_api.specs.Gains.{Gains};
 
-    type A = TableAtoms<'a, K>;
+    type A = TableAtoms<'t, K>;
 
     type Term = Stored;
 
@@ -97,7 +100,7 @@ impl<'a, K: Naming, R: Wait> World for HubWorld<'a, K, R> {
     fn visit(
         &mut self,
         visit: Visit<Stored, ArgumentKey>,
-        atoms: &mut TableAtoms<'a, K>,
+        atoms: &mut TableAtoms<'t, K>,
     ) -> Answer<Stored>
         requires runs { has_ended (told_of K.goals self.old).engine (told_of K.goals self.old).history ≡ false }
         requires held { All (λ a. IsSome (names (seen atoms.old.seat) a)) (visit_names names_of key_atoms visit) }

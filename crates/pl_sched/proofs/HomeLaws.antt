@@ -1,0 +1,175 @@
+-- What is known of an engine at home, where others made entries since.
+use Rattle.std.proofs.Common.{◌≡◌, ◌⊎◌, inl, inr, ◌≤◌, ℕ, suc, ◌+◌, List, [], ◌∷◌, ◌++◌, Bool, true, false, length, Some, refl, sym, ap, subst, ◌∙◌, arith, append-nil}
+use Rattle.std.specs.Prelude.{Contains}
+use Rattle.std.specs.List.{All}
+use Rattle.std.proofs.lemmas.List.{length-append}
+use Rattle.std.proofs.lemmas.List.Elements.{All-append, All-cons, All-nil}
+use mathlib.Core.List.{IsPrefix}
+use Rattle.pl_term.specs.Tree.{Tree}
+use Rattle.atomic_table.specs.Seated.{TableId}
+use Rattle.pl_model.specs.declared.ends.AtomRecord.{AtomRecord}
+use Rattle.pl_model.specs.declared.ends.How.{How}
+use Rattle.pl_model.specs.declared.ends.How.TheVariants.{AtomSpace}
+use Rattle.pl_model.specs.History.{Entry, History, Kind, finish, mine}
+use Rattle.pl_model.specs.Resolution.{Ending}
+use Rattle.run_model.specs.AtomRecords.{IsTrue}
+use Rattle.run_model.specs.Execution.{Job, Execution, over}
+use Rattle.run_model.specs.Lawful.{Beginning, EndsSo, IsDone, IsRunning, Program, RanOutOfAtoms, RanToEnd, WaitsAtEnd, beginnings}
+use Rattle.run_model.specs.Progress.{Reached, Seen}
+use Rattle.run_model.proofs.BeginningsStay.{beginning_stays}
+use Rattle.run_model.proofs.EndsStay.{atoms_end_stays, end_stays}
+use Rattle.run_model.proofs.LawfulEntries.{mine-append}
+use Rattle.run_model.proofs.Progress.{reached_atoms, reached_end, reached_later, reached_wait}
+use Rattle.atom_api.specs.Names.{Names}
+use Rattle.world_api.specs.Told.{Follows, Told}
+use Rattle.script_api.specs.Parts.{seen_in}
+use Rattle.pl_history.specs.Fronts.{AllTold, FrontState, Life, has_end, own_engine, own_generations, own_updates}
+use Rattle.pl_hub.specs.Ending.{IsOver}
+use Rattle.pl_hub.specs.Fronts.{IsOwn, told_of}
+use Rattle.pl_sched.specs.declared.mark.Mark.{Mark}
+use Rattle.pl_sched.specs.declared.mark.Mark.TheVariants.{Ready, Waits, Ended}
+use Rattle.pl_sched.specs.Homes.{EndsAs, HasEnded, IsAtHome, IsFinal, IsGone, IsJob, IsUnderWay, IsWaiting}
+
+-- FRONTS THAT HAVE SEEN ONE HISTORY, and one more
+pub one_seen : (h : History) (fs : List FrontState) (f : FrontState) (gs : List FrontState) → gs ≡ fs ++ f ∷ [] → All (λ (x : FrontState). x.seen ≡ h) fs → f.seen ≡ h → All (λ (x : FrontState). x.seen ≡ h) gs
+one_seen h fs f gs is all seen =
+    subst (λ (l : List FrontState). All (λ (x : FrontState). x.seen ≡ h) l) (sym is)
+    (All-append (λ (x : FrontState). x.seen ≡ h) fs (f ∷ []) all (All-cons (λ (x : FrontState). x.seen ≡ h) f [] seen (All-nil (λ (x : FrontState). x.seen ≡ h))))
+
+-- ENTRIES OF OTHERS
+no_more : {A : Type 0} (xs ys : List A) → xs ++ ys ≡ xs → ys ≡ []
+no_more [] ys e = e
+no_more (x ∷ xs) ys e = no_more xs ys (tail_is e)
+  where
+    tail_is : x ∷ (xs ++ ys) ≡ x ∷ xs → xs ++ ys ≡ xs
+    tail_is h = cc
+
+told_ended : (h : History) (e : ℕ) (ls : List Life) → AllTold h ls → own_engine ls ≡ e → has_end (own_updates ls) ≡ true → own_updates ls ≡ mine h e
+told_ended h e [] told own ended = absurd (cc)
+told_ended h e (l ∷ ls) told own ended = told.0.updates ∙ ap (mine h) own
+
+-- what came since the front of an engine that has ended saw the history is no update of its engine
+pub others_since : (t : TableId) (e : ℕ) (f : FrontState) → IsOver t e f → (h : History) (behind : IsPrefix f.seen h) → AllTold h f.lives → mine behind.0 e ≡ []
+others_since t e f gone h behind told =
+    no_more (mine f.seen e) (mine behind.0 e)
+    (sym (mine-append f.seen behind.0 e) ∙ ap (λ (l : History). mine l e) behind.1 ∙ sym (told_ended h e f.lives told gone.engine gone.ended) ∙ gone.updates)
+
+-- THE JOB of an engine stays
+pub job_stays : (p : Program) (e : ℕ) (h later : History) (job : Job) (low : ℕ) → IsJob p e h job low → IsJob p e (h ++ later) job low
+job_stays p e h later job low (inl main) = inl main
+job_stays p e h later job low (inr started) = inr (started.0, beginning_stays h later started.0 started.1, started.2, started.3, started.4)
+
+-- THE END, once it is entered
+abbrev EndsBy : Program → ℕ → ℕ → Job → ℕ → History → List ℕ → Type 0
+EndsBy p e goals job low h gens = RanToEnd e goals job low h gens ⊎ RanOutOfAtoms e goals p.slots job low h gens
+
+entered : (p : Program) (e goals : ℕ) (job : Job) (low : ℕ) (s : Seen) (n : ℕ) (how : How Tree) → Reached e goals job low s n → EndsAs p s.execution how
+    → EndsBy p e goals job low (s.history ++ record { engine = e; kind = finish how n } ∷ []) s.gens
+entered p e goals job low s n how r (inl ends) = inl (reached_end e goals job low s n ends.0 how r ends.1 ends.2)
+entered p e goals job low s n how r (inr found) =
+    inr (subst (λ (k : How Tree). RanOutOfAtoms e goals p.slots job low (s.history ++ record { engine = e; kind = finish k n } ∷ []) s.gens) (sym found.1)
+    (reached_atoms e goals p.slots job low s n found.0 r found.2 found.3))
+
+ended_stays : (p : Program) (e goals : ℕ) (job : Job) (low : ℕ) (h later : History) (gens : List ℕ) → mine later e ≡ [] → EndsBy p e goals job low h gens → EndsBy p e goals job low (h ++ later) gens
+ended_stays p e goals job low h later gens others (inl r) = inl (end_stays e goals job low h later gens others r)
+ended_stays p e goals job low h later gens others (inr r) = inr (atoms_end_stays e goals p.slots job low h later gens others r)
+
+is_done : (p : Program) (e goals : ℕ) (job : Job) (low : ℕ) (h : History) (gens : List ℕ) → EndsBy p e goals job low h gens → IsDone e goals p.slots job low h gens
+is_done p e goals job low h gens (inl r) = inl r
+is_done p e goals job low h gens (inr r) = inr (inr r)
+
+module _ {E : Type 0} (stands : Names → Told → E → Job → Execution → Type 0) (ready : Names → Told → E → Type 0) (moves : E → ℕ) (p : Program) where
+  module _ (m : Names) (t : Told) (x : E) (d : HasEnded stands ready moves p m t x) where
+    abbrev last : Entry
+    last = record { engine = d.before.engine; kind = finish d.how (moves x) }
+
+    whole : (d.before.history ++ d.follows.later) ++ last ∷ [] ≡ t.history
+    whole = ap (λ (h : History). h ++ last ∷ []) (sym d.follows.grown) ∙ sym d.history
+
+    came_to : Reached d.before.engine d.before.goals d.way.job d.way.low (record { execution = d.way.execution; history = d.before.history ++ d.follows.later; gens = d.before.gens }) (moves x)
+    came_to = reached_later d.before.engine d.before.goals d.way.job d.way.low (seen_in d.before d.way.execution) (moves x) d.follows.later d.follows.others d.way.reached
+
+    ended_here : EndsBy p d.before.engine d.before.goals d.way.job d.way.low t.history d.before.gens
+    ended_here =
+        subst (λ (h : History). EndsBy p d.before.engine d.before.goals d.way.job d.way.low h d.before.gens) whole
+        (entered p d.before.engine d.before.goals d.way.job d.way.low (record { execution = d.way.execution; history = d.before.history ++ d.follows.later; gens = d.before.gens }) (moves x) d.how came_to d.ends)
+
+    pub ended_told : EndsBy p t.engine t.goals d.way.job d.way.low t.history t.gens
+    ended_told =
+        subst (λ (e : ℕ). EndsBy p e t.goals d.way.job d.way.low t.history t.gens) (sym d.engine)
+        (subst (λ (n : ℕ). EndsBy p d.before.engine n d.way.job d.way.low t.history t.gens) (sym d.goals)
+        (subst (λ (gs : List ℕ). EndsBy p d.before.engine d.before.goals d.way.job d.way.low t.history gs) (sym d.gens) ended_here))
+
+    pub job_told : IsJob p t.engine t.history d.way.job d.way.low
+    job_told =
+        subst (λ (e : ℕ). IsJob p e t.history d.way.job d.way.low) (sym d.engine)
+        (subst (λ (h : History). IsJob p d.before.engine h d.way.job d.way.low) whole
+        (job_stays p d.before.engine (d.before.history ++ d.follows.later) (last ∷ []) d.way.job d.way.low
+        (job_stays p d.before.engine d.before.history d.follows.later d.way.job d.way.low d.way.is_job)))
+
+  -- AN ENGINE THAT HAS ENDED IS DONE, whatever others entered since
+  pub gone_final : (table : TableId) (goals e : ℕ) (f : FrontState) (x : E) → IsGone stands ready moves p table goals e f x
+      → (h : History) → IsPrefix f.seen h → AllTold h f.lives
+      → IsFinal stands ready moves p table goals e (record f { seen = h }) x
+  gone_final table goals e f x gone h behind told =
+      let d = gone.ended in
+      let others = others_since table e f gone.front h behind told in
+      let own = gone.front.engine in
+      record {
+        carried = own;
+        held = gone.held;
+        before = d.before;
+        way = d.way;
+        is_job =
+            subst (λ (l : History). IsJob p e l d.way.job d.way.low) behind.1
+            (job_stays p e f.seen behind.0 d.way.job d.way.low
+            (subst (λ (n : ℕ). IsJob p n f.seen d.way.job d.way.low) own (job_told gone.held (told_of goals f) x d)));
+        done =
+            is_done p e goals d.way.job d.way.low h (own_generations f.lives)
+            (subst (λ (l : History). EndsBy p e goals d.way.job d.way.low l (own_generations f.lives)) behind.1
+            (ended_stays p e goals d.way.job d.way.low f.seen behind.0 (own_generations f.lives) others
+            (subst (λ (n : ℕ). EndsBy p n goals d.way.job d.way.low f.seen (own_generations f.lives)) own (ended_told gone.held (told_of goals f) x d))));
+      }
+
+  -- one that came home so
+  pub gone_home : (table : TableId) (goals e : ℕ) (mark : Mark) (m : Names) (f : FrontState) (x : E) → mark ≡ Ended → IsAtHome stands ready moves p table goals e mark m f x → IsGone stands ready moves p table goals e f x
+  gone_home table goals e mark m f x is home =
+      let there : IsAtHome stands ready moves p table goals e Ended m f x = subst (λ (k : Mark). IsAtHome stands ready moves p table goals e k m f x) is home in
+      record { front = there.front; held = m; ended = there.marked }
+
+  none_left : (f : FrontState) (h : History) (behind : IsPrefix f.seen h) (g : ℕ) → g ≡ length f.seen → length h ≤ g → f.seen ≡ h
+  none_left f h behind g at le =
+      go behind.0 behind.1 (let n = length-append f.seen behind.0 in let l = ap (λ (k : History). length k) behind.1 in omega (arith, n, l, at, le))
+    where
+      go : (later : History) → f.seen ++ later ≡ h → length later ≡ 0 → f.seen ≡ h
+      go [] grown none = sym (append-nil f.seen) ∙ grown
+      go (y ∷ ys) grown none = absurd (omega (arith, none))
+
+  -- AND SO IS ONE THAT WAITS in the state as the history stands
+  pub waiting_final : (table : TableId) (goals e : ℕ) (m : Names) (f : FrontState) (x : E) (g : ℕ) → IsOwn table e f
+      → IsWaiting stands ready moves p m (told_of goals f) x → g ≡ length f.seen
+      → (h : History) → IsPrefix f.seen h → length h ≤ g
+      → IsFinal stands ready moves p table goals e (record f { seen = h }) x
+  waiting_final table goals e m f x g own w at h behind le =
+      let same = none_left f h behind g at le in
+      record {
+        carried = own.engine;
+        held = m;
+        before = told_of goals f;
+        way = w.way;
+        is_job =
+            subst (λ (l : History). IsJob p e l w.way.job w.way.low) same
+            (subst (λ (n : ℕ). IsJob p n f.seen w.way.job w.way.low) own.engine w.way.is_job);
+        done =
+            subst (λ (l : History). IsDone e goals p.slots w.way.job w.way.low l (own_generations f.lives)) same
+            (inr (inl (subst (λ (n : ℕ). WaitsAtEnd n goals w.way.job w.way.low f.seen (own_generations f.lives)) own.engine
+            (reached_wait (own_engine f.lives) goals w.way.job w.way.low (seen_in (told_of goals f) w.way.execution) (moves x) w.way.reached w.waits))));
+      }
+
+  -- one that came home waiting
+  pub waiting_home : (table : TableId) (goals e : ℕ) (mark : Mark) (m : Names) (f : FrontState) (x : E) (g : ℕ) → mark ≡ Waits g → IsAtHome stands ready moves p table goals e mark m f x
+      → (h : History) → IsPrefix f.seen h → length h ≤ g
+      → IsFinal stands ready moves p table goals e (record f { seen = h }) x
+  waiting_home table goals e mark m f x g is home h behind le =
+      let there : IsAtHome stands ready moves p table goals e (Waits g) m f x = subst (λ (k : Mark). IsAtHome stands ready moves p table goals e k m f x) is home in
+      waiting_final table goals e m f x g there.front there.marked.0 there.marked.1 h behind le

@@ -1,0 +1,15 @@
+use Rattle.std.proofs.Common.{◌≤◌, length, sym, subst, arith}
+use Rattle.atom_words.specs.Seats.{seen}
+use Rattle.atom_table.specs.Naming.{names}
+use Rattle.pl_history.specs.Fronts.{FrontState}
+use Rattle.pl_sched.specs.Homes.{IsFinal}
+use Rattle.pl_sched.proofs.HomeLaws.{waiting_home}
+use Rattle.pl_sched.proofs.over.finish.Goals as goal
+
+pub invariant_of-result : goal.invariant_of-result
+invariant_of-result g c =
+    let parts = c.into_parts-engine.result in
+    let le : length c.args.shared.now.seen ≤ c.in-Waits.at = (let low = c.if-at-generation.false in let at = c.generation.ensures in omega (arith, low, at)) in
+    subst (λ (f : FrontState). IsFinal g.E.Resident.stands g.E.Resident.ready g.E.Resident.moves g.K.Command.program g.K.Naming.history g.K.Naming.goals parts.number f parts.engine) (sym c.show.ensures.front)
+    (waiting_home g.E.Resident.stands g.E.Resident.ready g.E.Resident.moves g.K.Command.program g.K.Naming.history g.K.Naming.goals parts.number parts.mark (names (seen parts.atoms.seat)) parts.front parts.engine c.in-Waits.at c.in-Waits.is
+    c.into_parts-engine.ensures.home c.args.shared.now.seen c.show.ensures.sees.seen le)

@@ -1,0 +1,141 @@
+//! Engines at home.
+ghost use Rattle.std.specs.Prelude.{◌≡◌, true};
+ghost use Rattle.atom_words.specs.Seats.{seen};
+ghost use Rattle.atom_table.specs.Naming.{names};
+ghost use Rattle.pl_sched.specs.Homes.{IsAtHome};
+ghost use Rattle.pl_sched.specs.declared.mark.Mark.TheVariants.{Ended};
+
+use crate::mark::Mark;
+use crate::naming::Command;
+use crate::over::Over;
+use atom_api::Atoms;
+use atom_table::TableAtoms;
+use pl_history::Front;
+use script_api::Resident;
+use std::marker::{Model, PhantomData};
+
+/// An engine that is at home, with its atoms and its front. Contracts see it as what its front knows.
+#[derive(Drop)]
+pub struct Home<'a, E: Resident + Drop, K: Command> {
+    engine: E,
+    atoms: TableAtoms<'a, K>,
+    front: Front,
+    number: u64,
+    mark: Mark,
+    of: PhantomData<K>,
+}
+
+impl<'a, E: Resident + Drop, K: Command> Model for Home<'a, E, K> {
+    ghost use Rattle.atom_words.specs.Seats.{seen};
+    ghost use Rattle.atom_table.specs.Naming.{names};
+    ghost use Rattle.pl_history.specs.Fronts.{FrontState};
+    ghost use Rattle.pl_history.specs.Codes.{coded_front};
+    ghost use Rattle.pl_sched.specs.Homes.{IsAtHome};
+
+    ghost Value = { FrontState };
+
+    ghost coded = { coded_front };
+
+    ghost view = { λ h. h.front };
+
+    ghost invariant = { λ h. IsAtHome E.stands E.ready E.moves K.program K.history K.goals h.number h.mark (names (seen h.atoms.seat)) h.front h.engine };
+}
+
+/// An engine that came home.
+#[derive(Drop)]
+pub enum Retired<'a, E: Resident + Drop, K: Command> {
+    /// It can go on or waits.
+    Stays(Home<'a, E, K>),
+    /// It has ended, and its atoms are free for another.
+    Over(Over<E, K>, TableAtoms<'a, K>),
+}
+
+/// What a home is made of.
+#[derive(Drop)]
+pub struct Parts<'a, E: Resident + Drop, K: Command> {
+    pub engine: E,
+    pub atoms: TableAtoms<'a, K>,
+    pub front: Front,
+    pub number: u64,
+    pub mark: Mark,
+}
+
+impl<'a, E: Resident + Drop, K: Command> Home<'a, E, K> {
+    /// The engine with this number comes home, and its mark says why.
+    pub fn new(parts: Parts<'a, E, K>) -> Home<'a, E, K>
+        requires { IsAtHome E.stands E.ready E.moves K.program K.history K.goals parts.number parts.mark (names (seen parts.atoms.seat)) parts.front parts.engine }
+        ensures { result ≡ parts.entry.front }
+    {
+        let Parts {
+            engine,
+            atoms,
+            front,
+            number,
+            mark,
+        } = parts;
+        Home {
+            engine,
+            atoms,
+            front,
+            number,
+            mark,
+            of: PhantomData,
+        }
+    }
+
+    /// The engine leaves, with what is known of it.
+    pub fn into_parts(self) -> Parts<'a, E, K>
+        ensures front { result.front ≡ self.entry }
+        ensures home { IsAtHome E.stands E.ready E.moves K.program K.history K.goals result.number result.mark (names (seen result.atoms.seat)) result.front result.engine }
+    {
+        let Home {
+            engine,
+            atoms,
+            front,
+            number,
+            mark,
+            of: _,
+        } = self;
+        Parts {
+            engine,
+            atoms,
+            front,
+            number,
+            mark,
+        }
+    }
+
+    /// Whether the engine can go on, where the history has this length.
+    pub fn is_ready(&self, generation: u64) -> bool {
+        match self.mark {
+            Mark::Ready => true,
+            Mark::Waits(at) => at < generation,
+            Mark::Ended => false,
+        }
+    }
+
+    /// An engine that has ended gives its atoms back, which hold nothing then.
+    pub fn retire(self) -> Retired<'a, E, K> {
+        if has_ended(self.mark) {
+            let Home {
+                engine,
+                atoms,
+                front,
+                number,
+                mark: _,
+                of: _,
+            } = self;
+            let mut atoms = atoms;
+            let over = Over::new(engine, front, number);
+            atoms.keep_only(&[]);
+            return Retired::Over(over, atoms);
+        }
+        Retired::Stays(self)
+    }
+}
+
+fn has_ended(mark: Mark) -> bool
+    ensures { result ≡ true → mark ≡ Ended }
+{
+    matches!(mark, Mark::Ended)
+}

@@ -1,0 +1,260 @@
+//! The shared state with the engines at home.
+ghost use Rattle.std.specs.Prelude.{◌≡◌, IfOk, IfSome, IsSome, OnErr, OnOk};
+ghost use Rattle.std.specs.List.{All};
+ghost use Rattle.pl_model.specs.History.{finish};
+ghost use Rattle.pl_model.specs.SharedState.{status_of};
+ghost use Rattle.atom_words.specs.Seats.{seen};
+ghost use Rattle.atom_table.specs.Naming.{names, requests as asked};
+ghost use Rattle.term_store.specs.ArgumentKeys.{clause_key, key_atoms};
+ghost use Rattle.term_store.specs.NumberedNames.{names_of, term_by};
+ghost use Rattle.world_api.specs.Answers.{CanVisit};
+ghost use Rattle.world_api.specs.Texts.{text_of};
+ghost use Rattle.world_api.specs.Visits.{visit_names};
+ghost use Rattle.counted_terms.specs.CountedTerms.{said};
+ghost use Rattle.hub_threads.specs.Rows.{status_names};
+ghost use Rattle.hub_threads.specs.Serving.{status_as};
+ghost use Rattle.pl_hub.specs.Ending.{IsEnded};
+ghost use Rattle.pl_hub.specs.Fronts.{IsOwn, told_of};
+ghost use Rattle.pl_hub.specs.Visits.{IsVisit};
+ghost use Rattle.pl_sched.specs.Newcomers.{IsNew};
+
+use crate::home::{Home, Retired};
+use crate::naming::Command;
+use crate::newcomers::NewEngine;
+use crate::over::{Done, Over, Unfinished, finish_all, settle_all};
+use atom_table::TableAtoms;
+use counted_terms::CountedTerm;
+use hub_threads::Status;
+use pl_history::{Front, History};
+use pl_hub::{Begun, Shared};
+use pl_model::shows::{ShowsHow, ShowsSteps};
+use pl_term::Memory;
+use script_api::Resident;
+use std::alloc::Global;
+use std::marker::Model;
+use term_store::{ArgumentKey, Stored};
+use world_api::{Answer, Visit};
+
+/// The shared state, with the engines that no worker carries: those that can go on or wait, those that have ended, and the
+/// atoms that no engine has. Contracts see it as the shared state: the whole history.
+#[derive(Drop)]
+pub struct Hub<'a, E: Resident + Drop, K: Command> {
+    pub(crate) shared: Shared<K>,
+    pub(crate) homes: Vec<Home<'a, E, K>>,
+    pub(crate) over: Vec<Over<E, K>>,
+    pub(crate) spare: Vec<TableAtoms<'a, K>>,
+    /// How many engines are with workers.
+    pub(crate) away: u64,
+}
+
+impl<'a, E: Resident + Drop, K: Command> Model for Hub<'a, E, K> {
+    ghost use Rattle.pl_history.specs.Fronts.{FrontState};
+    ghost use Rattle.pl_history.specs.Codes.{coded_front};
+
+    ghost Value = { FrontState };
+
+    ghost coded = { coded_front };
+
+    ghost view = { λ h. h.shared };
+}
+
+/// What a worker is given.
+#[derive(Drop)]
+pub enum Lend<'a, E: Resident + Drop, K: Command> {
+    /// An engine that can go on.
+    Out(Home<'a, E, K>),
+    /// An engine that begins.
+    Begin(NewEngine<'a, K>),
+    /// No engine at home can go on.
+    Nobody,
+    /// And none is with a worker.
+    Over,
+    /// The goal of an engine that begins is not kept.
+    Memory,
+}
+
+// The first engine that can go on, where the history has this length.
+fn take_ready<'a, E: Resident + Drop, K: Command>(
+    homes: &mut Vec<Home<'a, E, K>>,
+    generation: u64,
+) -> Option<Home<'a, E, K>> {
+    for i in 0..homes.len() {
+        if homes[i].is_ready(generation) {
+            return Some(homes.remove(i));
+        }
+    }
+    None
+}
+
+// The engine begins, where its goal is kept.
+fn first_turn<'a, E: Resident + Drop, K: Command>(
+    begun: Begun,
+    atoms: TableAtoms<'a, K>,
+    front: Front,
+) -> Lend<'a, E, K>
+    requires { IfSome begun.goal (λ t. IsNew K.history begun.number t (names (seen atoms.seat)) front) }
+{
+    let Begun { number, goal } = begun;
+    match goal {
+        None => Lend::Memory,
+        Some(goal) => Lend::Begin(NewEngine::new(number, goal, atoms, front)),
+    }
+}
+
+// An engine that has begun, in a new front.
+fn begin<'a, E: Resident + Drop, K: Command>(
+    shared: &mut Shared<K>,
+    history: &History,
+    atoms: TableAtoms<'a, K>,
+) -> Lend<'a, E, K>
+    requires history { history.now ≡ K.history }
+    ensures same { shared.new.seen ≡ shared.old.seen }
+{
+    let mut atoms = atoms;
+    let mut front = history.front();
+    match shared.begin(history, &mut atoms, &mut front) {
+        None => Lend::Memory,
+        Some(begun) => first_turn(begun, atoms, front),
+    }
+}
+
+impl<'a, E: Resident + Drop, K: Command> Hub<'a, E, K> {
+    /// The state at the start, with the atoms that engines may have.
+    pub fn new(alloc: Global, shared: Shared<K>, spare: Vec<TableAtoms<'a, K>>) -> Hub<'a, E, K>
+        ensures { result ≡ shared }
+    {
+        Hub {
+            shared,
+            homes: Vec::new(alloc),
+            over: Vec::new(alloc),
+            spare,
+            away: 0,
+        }
+    }
+
+    /// A visit of the front's own engine, which has this number and runs.
+    pub fn session(
+        &mut self,
+        alloc: Global,
+        history: &History,
+        atoms: &mut TableAtoms<'a, K>,
+        front: &mut Front,
+        engine: u64,
+        visit: Visit<CountedTerm, ArgumentKey>,
+    ) -> Answer<Stored>
+        requires history { history.now ≡ K.history }
+        requires front { IsOwn K.history engine front.old }
+        requires held { All (λ a. IsSome (names (seen atoms.old.seat) a)) (visit_names names_of key_atoms visit) }
+        requires next { CanVisit term_by clause_key (text_of (names (seen atoms.old.seat))) visit (told_of K.goals front.old) }
+        ensures { IsVisit K.history K.goals engine (seen atoms.old.seat) (seen atoms.new.seat) visit result front.old front.new self.old self.new }
+    {
+        self.shared
+            .session(alloc, history, atoms, front, engine, visit)
+    }
+
+    /// The front's own engine ends.
+    pub fn end<W: ShowsHow, S: ShowsSteps>(
+        &mut self,
+        history: &History,
+        atoms: &mut TableAtoms<'a, K>,
+        front: &mut Front,
+        engine: u64,
+        how: &W,
+        run: &S,
+        status: Status<CountedTerm>,
+    ) -> Result<(), Memory>
+        requires history { history.now ≡ K.history }
+        requires front { IsOwn K.history engine front.old }
+        requires held { All (λ a. IsSome (names (seen atoms.old.seat) a)) (status_names status) }
+        requires status { status_of (W.how how.now) ≡ status_as (said (names (seen atoms.old.seat))) status }
+        ensures ended { OnOk result (IsEnded K.goals engine (finish (W.how how.now) (S.steps run.now)) front.old front.new self.old self.new) }
+        ensures refused { OnErr result ((front.new ≡ front.old) × (self.new ≡ self.old)) }
+        ensures held { names (seen atoms.new.seat) ≡ names (seen atoms.old.seat) }
+        ensures refusals { (seen atoms.new.seat).refusals ≡ (seen atoms.old.seat).refusals }
+        ensures asked { asked (seen atoms.new.seat) ≡ asked (seen atoms.old.seat) }
+    {
+        self.shared
+            .end(history, atoms, front, engine, how, run, status)
+    }
+
+    /// An engine for one worker alone: one that can go on, or else the first that has begun.
+    pub fn lend(&mut self, history: &History) -> Lend<'a, E, K>
+        requires history { history.now ≡ K.history }
+        ensures same { self.new.seen ≡ self.old.seen }
+    {
+        let generation = self.shared.generation();
+        if let Some(home) = take_ready(&mut self.homes, generation) {
+            self.away = self.away.saturating_add(1);
+            return Lend::Out(home);
+        }
+        let lent = self.newcomer(history);
+        self.away = counted_out(self.away, &lent);
+        lent
+    }
+
+    // The first engine that has begun, where there are atoms for it.
+    fn newcomer(&mut self, history: &History) -> Lend<'a, E, K>
+        requires history { history.now ≡ K.history }
+        ensures same { self.new.seen ≡ self.old.seen }
+    {
+        if !self.shared.has_begun() {
+            return nobody(self.away);
+        }
+        match self.spare.pop() {
+            None => nobody(self.away),
+            Some(atoms) => begin(&mut self.shared, history, atoms),
+        }
+    }
+
+    /// An engine comes home. The only error is out of memory.
+    pub fn bring(&mut self, home: Home<'a, E, K>) -> Result<(), Memory>
+        ensures same { self.new ≡ self.old }
+    {
+        self.away = self.away.saturating_sub(1);
+        match home.retire() {
+            Retired::Stays(home) => kept(self.homes.push(home).is_ok()),
+            Retired::Over(over, atoms) => {
+                let spared = self.spare.push(atoms).is_ok();
+                let over = self.over.push(over).is_ok();
+                kept(spared && over)
+            }
+        }
+    }
+
+    /// All engines at home, each of which is done as the history stands: it has ended, or waits and nothing wakes it. The
+    /// error is that one can still go on, or that memory ran out.
+    pub fn fronts(self, alloc: Global, history: &History) -> Result<Vec<Done<E, K>>, Unfinished>
+        requires history { history.now ≡ K.history }
+        ensures { IfOk result (λ v. All (λ f. f.seen ≡ self.entry.seen) v.items) }
+    {
+        let Hub {
+            shared,
+            homes,
+            over,
+            spare: _,
+            away: _,
+        } = self;
+        let mut shared = shared;
+        let mut done = Vec::new(alloc);
+        finish_all(&mut shared, history, homes, &mut done)?;
+        settle_all(&mut shared, history, over, &mut done)?;
+        Ok(done)
+    }
+}
+
+// Nobody is lent, and nobody can be where none is with a worker.
+fn nobody<'a, E: Resident + Drop, K: Command>(away: u64) -> Lend<'a, E, K> {
+    if away == 0 { Lend::Over } else { Lend::Nobody }
+}
+
+// One more is with a worker, where one was lent.
+fn counted_out<'a, E: Resident + Drop, K: Command>(away: u64, lent: &Lend<'a, E, K>) -> u64 {
+    match lent {
+        Lend::Begin(_) => away.saturating_add(1),
+        _ => away,
+    }
+}
+
+fn kept(is: bool) -> Result<(), Memory> {
+    if is { Ok(()) } else { Err(Memory) }
+}
