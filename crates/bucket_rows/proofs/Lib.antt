@@ -16,3 +16,10 @@ pub mod Stages
 pub mod CalmSteps
 pub mod TwoCycles
 pub mod ToldSteps
+pub mod RowWords
+pub mod RowInside
+pub mod RowPicks
+pub mod RowGoes
+pub mod RowLaws
+pub mod RowMoves
+pub mod RowViews

@@ -6,3 +6,6 @@ pub mod SweepKinds
 pub mod Sweeps
 pub mod Treads
 pub mod TwoCycles
+pub mod RowPlays
+pub mod RowChanges
+pub mod RowLaws

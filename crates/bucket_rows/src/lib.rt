@@ -10,13 +10,18 @@
 //! all engines have acknowledged, the cycle goes over to the sweep, which frees each slot that nobody uses.
 #![tactic(auto)]
 
+mod closing;
 mod cycles;
 mod laws;
 mod links;
 mod marks;
 mod missed;
+mod moving;
+mod opening;
 mod plays;
 mod removal;
+mod row_laws;
+mod row_plays;
 mod rows;
 mod runs;
 mod slots;
@@ -28,12 +33,16 @@ mod treads;
 mod unlinks;
 mod walks;
 
+pub use closing::{WornHead, aim_at, close_row, row_start, sound_row};
 pub use cycles::{Checked, begin, check};
 pub use laws::two_cycles;
 pub use links::link;
 pub use marks::{ack, mark, scan};
 pub use missed::Missed;
+pub use moving::{Moved, move_chain, move_row};
+pub use opening::{open_row, publish_row};
 pub use removal::unlink;
+pub use row_laws::rows_keep_texts;
 pub use rows::{bucket, hash, row_heads, row_in_use, text_row};
 pub use runs::sweep_run;
 pub use slots::{Verdict, sweep_slot};

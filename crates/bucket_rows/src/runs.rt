@@ -6,11 +6,22 @@ ghost use Rattle.bucket_rows.specs.SweepKinds.{Untouched};
 ghost use Rattle.bucket_rows.specs.Sweeps.{Run};
 ghost use Rattle.bucket_rows.specs.declared.slots.Verdict.{Verdict};
 
-use crate::slots::sweep_slot;
+use crate::slots::{Verdict, sweep_slot};
 use atom_words::{AtomSeat, Words};
 
-/// Sweeps the slots from the one that the sweep has come to up to the one before `end`, one after the other.
-pub fn sweep_run(words: &Words, seat: &mut AtomSeat, from: u32, end: u32)
+// Whether a slot was valid as the sweep passed it, by what it was found to be; one of the first 256 is not looked at.
+fn lives(verdict: Verdict) -> bool {
+    match verdict {
+        Verdict::Low => false,
+        Verdict::Passed(word) => word % 4 == 3,
+        Verdict::Worn(_) => true,
+        Verdict::Freed => false,
+    }
+}
+
+/// Sweeps the slots from the one that the sweep has come to up to the one before `end`, one after the other. It answers how
+/// many of those from 256 on it found valid and left so.
+pub fn sweep_run(words: &Words, seat: &mut AtomSeat, from: u32, end: u32) -> u32
     requires fits { Fits words.now seat.old }
     requires slots { (from ≤ end) × (end ≤ words.now.size.slots) }
     requires at { AtSlot from (seen seat.old) }
@@ -19,8 +30,13 @@ pub fn sweep_run(words: &Words, seat: &mut AtomSeat, from: u32, end: u32)
     ensures steps { (rs : List Verdict) × (length rs ≡ end - from) × Run from rs (seen seat.old) (seen seat.new) }
     ensures untouched { Untouched (seen seat.old) (seen seat.new) }
     ensures at { AtSlot end (seen seat.new) }
+    ensures few { result ≤ end - from }
 {
+    let mut live = 0;
     for slot in from..end {
-        sweep_slot(words, seat, slot);
+        if lives(sweep_slot(words, seat, slot)) {
+            live += 1;
+        }
     }
+    live
 }

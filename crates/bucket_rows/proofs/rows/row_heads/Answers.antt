@@ -1,4 +1,3 @@
-use Rattle.std.proofs.Common.{◌≡◌, ◌<◌, ◌≤◌, ◌+◌, ◌*◌, ◌^◌, ℕ, arith}
 use Rattle.bucket_rows.proofs.RowBuckets.{few_heads}
 use Rattle.bucket_rows.proofs.rows.row_heads.Goals as goal
 

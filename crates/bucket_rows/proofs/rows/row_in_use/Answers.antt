@@ -1,4 +1,4 @@
-use Rattle.std.proofs.Common.{◌≡◌, ◌<◌, ◌≤◌, ◌+◌, ◌^◌, ℕ, sym, ap, ◌∙◌, subst, arith}
+use Rattle.std.proofs.Common.{◌≡◌, sym, ◌∙◌, subst, arith}
 use Rattle.atom_words.specs.Kinds.{RowOk}
 use Rattle.atom_words.specs.declared.size.Size.{Size}
 use Rattle.bucket_rows.proofs.CycleSteps.{reading_row}

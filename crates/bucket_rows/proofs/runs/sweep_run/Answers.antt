@@ -8,7 +8,7 @@ use Rattle.bucket_rows.proofs.SweepKinds.{untouched_run}
 use Rattle.bucket_rows.proofs.runs.sweep_run.Goals as goal
 
 pub loop-slot-init : goal.loop-slot-init
-loop-slot-init c = record { same = (refl, refl); fits = c.requires.fits; steps = ([], omega arith, refl); at = c.requires.at }
+loop-slot-init c = record { same = (refl, refl); fits = c.requires.fits; steps = ([], omega arith, refl); at = c.requires.at; few = omega arith }
 
 pub loop-slot-preserved : goal.loop-slot-preserved
 loop-slot-preserved c = let inv = c.loop-slot.invariant in let e = c.sweep_slot.ensures in let rs = inv.steps.0 in let r : Verdict = c.sweep_slot.result in let count : c.args.from + length rs ≡ c.loop-slot.slot = inv.steps.1 in let one = length-append rs (r ∷ []) in record {
@@ -20,6 +20,7 @@ loop-slot-preserved c = let inv = c.loop-slot.invariant in let e = c.sweep_slot.
     run_more c.args.from rs r (seen c.args.seat.now) (seen c.loop-slot.seat) (seen c.sweep_slot.new.seat) inv.steps.2 (subst (λ (n : ℕ). SweptBy n (seen c.loop-slot.seat) r (seen c.sweep_slot.new.seat)) (sym count) e.steps),
   );
   at = e.at;
+  few = (let few = inv.few in omega (arith, few));
 }
 
 pub returns-clause-steps : goal.returns-clause-steps

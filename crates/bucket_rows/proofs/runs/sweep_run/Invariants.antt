@@ -1,4 +1,4 @@
-use Rattle.std.proofs.Common.{◌≡◌, ◌+◌, List, length}
+use Rattle.std.proofs.Common.{◌≡◌, ◌≤◌, ◌+◌, List, length}
 use Rattle.atom_words.specs.Seats.{seen, Fits, Same}
 use Rattle.bucket_rows.specs.declared.slots.Verdict.{Verdict}
 use Rattle.bucket_rows.specs.Treads.{AtSlot}
@@ -11,4 +11,5 @@ invariant-loop-slot l = record {
   fits : Fits l.words l.seat;
   steps : (rs : List Verdict) × (l.from + length rs ≡ l.slot) × Run l.from rs (seen l.initial.seat) (seen l.seat);
   at : AtSlot l.slot (seen l.seat);
+  few : l.live + l.from ≤ l.slot;
 }

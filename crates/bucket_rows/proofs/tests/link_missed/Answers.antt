@@ -1,4 +1,4 @@
-use Rattle.std.proofs.Common.{ap, ◌∙◌}
+use Rattle.std.proofs.Common.{◌∙◌}
 use Rattle.atom_words.specs.Seats.{seen}
 use Rattle.atom_words.specs.declared.view.View.{View}
 use Rattle.bucket_rows.proofs.Making.{beside_links, unlinked_by}

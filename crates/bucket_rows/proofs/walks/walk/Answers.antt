@@ -1,12 +1,9 @@
-use Rattle.std.proofs.Common.{◌≡◌, ◌<◌, ℕ, List, [], ◌∷◌, sym, ap, ◌∙◌, subst, IfOk, MatchOption}
+use Rattle.std.proofs.Common.{◌<◌, ℕ, List, sym, ap, ◌∙◌, subst, IfOk, MatchOption}
 use Rattle.atom_words.specs.Texts.{bucket}
-use Rattle.atom_words.specs.Kinds.{RowOk, after}
 use Rattle.atom_words.specs.Plays.{Alone}
 use Rattle.atom_words.specs.Seats.{seen, Walking}
-use Rattle.atom_words.specs.declared.size.Size.{Size}
 use Rattle.atom_words.specs.declared.view.View.{View}
-use Rattle.atom_words.specs.declared.kind.Kind.TheVariants.{Load}
-use Rattle.bucket_rows.specs.Walks.{spelled, Walks, Missing, MissingIn, Aside, held_after, refused_after}
+use Rattle.bucket_rows.specs.Walks.{spelled, Walks, Missing, Aside, held_after, refused_after}
 use Rattle.bucket_rows.proofs.Reading.{aside_trans, aside_loaded, held_loaded, refused_loaded, last_loaded}
 use Rattle.bucket_rows.proofs.walks.walk.Goals as goal
 
