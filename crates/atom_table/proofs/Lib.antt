@@ -8,3 +8,5 @@ pub mod Loading
 pub mod Naming
 pub mod Scans
 pub mod Refusals
+pub mod Rowed
+pub mod RowAnswers

@@ -13,7 +13,6 @@ use Rattle.atom_words.specs.Seats.{seen, Same, Has}
 use Rattle.atom_words.specs.declared.size.Size.{Size}
 use Rattle.atom_words.specs.declared.view.Held.{Held}
 use Rattle.atom_words.specs.declared.view.Sweeping.{Sweeping}
-use Rattle.atom_words.specs.declared.view.Growing.{Growing}
 use Rattle.atom_words.specs.declared.view.View.{View}
 use Rattle.atom_words.specs.declared.words.Words.{Words}
 use Rattle.atom_words.specs.declared.words.AtomSeat.{AtomSeat}
@@ -128,13 +127,13 @@ collects_known v word checked cursor c = by v.sweep refl c.0 c.1 c.2 c.4 c.6 c.7
     by None e t w n k d u = cc
     by (Some y) e t w n k d u = (y, e, w, n, k, d, u)
 
-pub known_collects : (v : View) (word checked cursor : ℕ) (y : Sweeping) → Knows v y → y.word ≡ word → y.checked ≡ checked → checked ≤ v.size.engines → y.cursor ≡ cursor → cursor ≤ v.size.slots → y.dying ≡ 0 → y.unlinked ≡ false → v.growing.shut ≡ 0 → Collects v word checked cursor
-known_collects v word checked cursor y k w n few c low d u rows = (ap is_some k, ap (word_known word) k ∙ w, ap (count_known checked) k ∙ n, few, ap (cursor_known cursor) k ∙ c, low, ap dying_known k ∙ d, ap out_known k ∙ u, rows)
+pub known_collects : (v : View) (word checked cursor : ℕ) (y : Sweeping) → Knows v y → y.word ≡ word → y.checked ≡ checked → checked ≤ v.size.engines → y.cursor ≡ cursor → cursor ≤ v.size.slots → y.dying ≡ 0 → y.unlinked ≡ false → Collects v word checked cursor
+known_collects v word checked cursor y k w n few c low d u = (ap is_some k, ap (word_known word) k ∙ w, ap (count_known checked) k ∙ n, few, ap (cursor_known cursor) k ∙ c, low, ap dying_known k ∙ d, ap out_known k ∙ u)
 
 pub begun_collects : (v w : View) (e word checked cursor : ℕ) → Collects v word checked cursor → BeginsBy v (Ok e) w → Collects w (1 + 4 * e) 0 cursor
 begun_collects v w e word checked cursor c t = let y : Sweeping = t.0 in let k = collects_known v word checked cursor c in let one : k.0 ≡ y = some_same k.0 y v.sweep k.1 t.1 in let size = ap (λ (x : View). x.size.slots) t.5 in
     known_collects w (1 + 4 * e) 0 cursor (beginning y) (ap (λ (x : View). x.sweep) t.5 ∙ ap (option_map beginning) t.1) (let n = t.4 in omega arith) refl (omega arith)
-    (ap (λ (q : Sweeping). q.cursor) (sym one) ∙ k.4) (subst (λ (n : ℕ). cursor ≤ n) (sym size) c.5) (ap (λ (q : Sweeping). q.dying) (sym one) ∙ k.5) (ap (λ (q : Sweeping). q.unlinked) (sym one) ∙ k.6) (ap (λ (x : View). x.growing.shut) t.5 ∙ c.8)
+    (ap (λ (q : Sweeping). q.cursor) (sym one) ∙ k.4) (subst (λ (n : ℕ). cursor ≤ n) (sym size) c.5) (ap (λ (q : Sweeping). q.dying) (sym one) ∙ k.5) (ap (λ (q : Sweeping). q.unlinked) (sym one) ∙ k.6)
 
 -- what a check of the engines leaves
 pub checked_same : {A : Type 0} (f : View → A) → ((v : View) (e : ℕ) → f (view_after v (Check e)) ≡ f v) → ((v : View) → f (view_after v ToSweep) ≡ f v) → ((v : View) (i x : ℕ) → f (view_after v (Load i x)) ≡ f v)
@@ -160,14 +159,14 @@ all_collects epoch word from cursor n v w phase many c t = let k = collects_know
     known_collects w (word + 1) n 0 (turning r.0)
     (ap (λ (x : View). x.sweep) t ∙ (ap (λ (x : View). x.sweep) (after_append v (checks from m) (ToSweep ∷ [])) ∙ ap (option_map turning) r.1))
     (let a = r.2 in let b = k.2 in let same : r.0.word ≡ word = a ∙ b in ap (λ (x : ℕ). epoch_word 2 (epoch_of x)) same ∙ (let plain : epoch_word 2 (epoch_of word) ≡ word + 1 = omega arith in plain))
-    (let a = r.3 in let b = k.3 in omega arith) (omega arith) refl (omega arith) (r.5 ∙ k.5) (r.6 ∙ k.6) (checked_same (λ (y : View). y.growing.shut) (λ _ _. refl) (λ _. refl) (λ _ _ _. refl) epoch from v All w t ∙ c.8)
+    (let a = r.3 in let b = k.3 in omega arith) (omega arith) refl (omega arith) (r.5 ∙ k.5) (r.6 ∙ k.6)
 
 pub part_collects : (epoch word from cursor engine x : ℕ) (v w : View) → Collects v word from cursor → ChecksAll epoch from v (NotYet engine x) w → Collects w word (engine - 1) cursor
 part_collects epoch word from cursor engine x v w c t = let k = collects_known v word from cursor c in let e : ℕ = t.0 in let past = t.1 in let low = t.2 in let number = t.3 in let m : ℕ = t.0 - from in let r = checks_know v from m k.0 k.1 in
     let size : w.size ≡ v.size = checked_same (λ (y : View). y.size) (λ _ _. refl) (λ _. refl) (λ _ _ _. refl) epoch from v (NotYet engine x) w t in let engines : w.size.engines ≡ v.size.engines = ap (λ (z : Size). z.engines) size in
     known_collects w word (engine - 1) cursor r.0
     (ap (λ (y : View). y.sweep) t.5 ∙ (ap (λ (y : View). y.sweep) (after_append v (checks from m) (Load (ack_at v.size t.0) x ∷ [])) ∙ r.1))
-    (r.2 ∙ k.2) (let a = r.3 in let b = k.3 in omega arith) (omega arith) (r.4 ∙ k.4) (subst (λ (z : Size). cursor ≤ z.slots) (sym size) c.5) (r.5 ∙ k.5) (r.6 ∙ k.6) (checked_same (λ (y : View). y.growing.shut) (λ _ _. refl) (λ _. refl) (λ _ _ _. refl) epoch from v (NotYet engine x) w t ∙ c.8)
+    (r.2 ∙ k.2) (let a = r.3 in let b = k.3 in omega arith) (omega arith) (r.4 ∙ k.4) (subst (λ (z : Size). cursor ≤ z.slots) (sym size) c.5) (r.5 ∙ k.5) (r.6 ∙ k.6)
 
 -- THE SWEEP: the collector at a slot
 pub at_slot : (v : View) (word checked cursor : ℕ) → Collects v word checked cursor → phase_of word ≡ 2 → AtSlot cursor v
@@ -190,12 +189,12 @@ swept_known v w word checked cursor n c u a = let k = collects_known v word chec
 
 pub swept_collects : (v w : View) (word checked cursor n : ℕ) → Collects v word checked cursor → Untouched v w → AtSlot n w → n ≤ v.size.slots → Collects w word checked n
 swept_collects v w word checked cursor n c u a low = let y = swept_known v w word checked cursor n c u a in
-    known_collects w word checked n y.0 y.1.0 y.4 y.5 (subst (λ (z : Size). checked ≤ z.engines) (sym u.size) c.3) y.3 (subst (λ (z : Size). n ≤ z.slots) (sym u.size) low) y.2 y.6 (ap (λ (g : Growing). g.shut) u.growing ∙ c.8)
+    known_collects w word checked n y.0 y.1.0 y.4 y.5 (subst (λ (z : Size). checked ≤ z.engines) (sym u.size) c.3) y.3 (subst (λ (z : Size). n ≤ z.slots) (sym u.size) low) y.2 y.6
 
 pub ended_collects : (v u w : View) (word checked cursor n : ℕ) → Collects v word checked cursor → Untouched v u → AtSlot n u → n ≤ v.size.slots → phase_of word ≡ 2 → w ≡ after u (End ∷ []) → Collects w (word - 2) checked n
 ended_collects v u w word checked cursor n c t a low phase is = let y = swept_known v u word checked cursor n c t a in let size : w.size ≡ v.size = ap (λ (x : View). x.size) is ∙ t.size in
     known_collects w (word - 2) checked n (ending y.0) (ap (λ (x : View). x.sweep) is ∙ ap (option_map ending) y.1.0) (ap (λ (x : ℕ). epoch_word 0 (epoch_of x)) y.4 ∙ (let plain : epoch_word 0 (epoch_of word) ≡ word - 2 = omega arith in plain)) y.5 (subst (λ (z : Size). checked ≤ z.engines) (sym size) c.3) y.3
-    (subst (λ (z : Size). n ≤ z.slots) (sym size) low) y.2 y.6 (ap (λ (x : View). x.growing.shut) is ∙ (ap (λ (g : Growing). g.shut) t.growing ∙ c.8))
+    (subst (λ (z : Size). n ≤ z.slots) (sym size) low) y.2 y.6
 
 pub swept_sits : (words : Words) (s r : AtomSeat) → Same s r → Untouched (seen s) (seen r) → Sits words s → Sits words r
 swept_sits words s r same u = sits_same words s r same u.held u.fixed u.size u.gone u.own u.counts

@@ -35,7 +35,7 @@ abbrev pub AcksBy : List ℕ → View → Marked → View → Type 0
 AcksBy live v (Acked e) w = (x : ℕ) × Marks v x × (e ≡ epoch_of x) × (w ≡ after v (Mark x (those live v.held) ∷ (scans live ++ Ack ∷ [])))
 AcksBy live v (NoCycle x) w = Unmarked v x × (w ≡ after v (Load 0 x ∷ []))
 
--- what the collector keeps at run time of its view: the epoch word, how many engines it found to have acknowledged, and the slot that the sweep has come to. Between its calls no slot is dying, and all heads of the row in use are open
+-- what the collector keeps at run time of its view: the epoch word, how many engines it found to have acknowledged, and the slot that the sweep has come to. Between its calls no slot is dying
 abbrev pub word_known : ℕ → Option Sweeping → ℕ
 word_known d None = d
 word_known d (Some y) = y.word
@@ -58,7 +58,7 @@ out_known (Some y) = y.unlinked
 
 abbrev pub Collects : View → ℕ → ℕ → ℕ → Type 0
 Collects v word checked cursor = (is_some v.sweep ≡ true) × (word_known word v.sweep ≡ word) × (count_known checked v.sweep ≡ checked) × (checked ≤ v.size.engines)
-    × (cursor_known cursor v.sweep ≡ cursor) × (cursor ≤ v.size.slots) × (dying_known v.sweep ≡ 0) × (out_known v.sweep ≡ false) × (v.growing.shut ≡ 0)
+    × (cursor_known cursor v.sweep ≡ cursor) × (cursor ≤ v.size.slots) × (dying_known v.sweep ≡ 0) × (out_known v.sweep ≡ false)
 
 -- THE STEPS OF A CALL TO BEGIN, by the answer: a cycle begins, where none is at work and the epoch is not the last
 abbrev pub TurnsBy : View → Turn → View → Type 0

@@ -4,3 +4,4 @@ pub mod Opening
 pub mod Naming
 pub mod Collecting
 pub mod Tables
+pub mod Resizing

@@ -5,9 +5,11 @@ ghost use Rattle.atom_words.specs.Seats.{seen, Same};
 ghost use Rattle.bucket_rows.specs.Cycles.{ChecksAll};
 ghost use Rattle.atom_table.specs.Holding.{Sits};
 ghost use Rattle.atom_table.specs.Collecting.{TurnsBy};
+ghost use Rattle.atom_table.specs.declared.resizing.Stage.TheVariants.{Still};
 
 use crate::seats::Collector;
 use crate::table::AtomTable;
+use atom_api::fixed::COUNT;
 use bucket_rows::{Checked, begin, check};
 
 /// What a call to begin a cycle found.
@@ -23,11 +25,13 @@ pub enum Turn {
 
 impl AtomTable {
     /// Begins a cycle of collection, which marks, where none is at work and the epoch is not the last. Else nothing is
-    /// changed.
+    /// changed. No row of buckets is being put in the place of the one in use.
     pub fn begin(&self, collector: &mut Collector) -> Turn
         requires sits { Sits self.now.words collector.old.seat }
+        requires still { collector.old.rows.stage ≡ Still }
         ensures same { Same collector.old.seat collector.new.seat }
         ensures sits { Sits self.now.words collector.new.seat }
+        ensures rows { collector.new.rows ≡ collector.old.rows }
         ensures steps { TurnsBy (seen collector.old.seat) result (seen collector.new.seat) }
     {
         match begin(&self.words, &mut collector.seat) {
@@ -54,6 +58,7 @@ impl AtomTable {
         requires marking { phase_of collector.old.word ≡ 1 }
         ensures same { Same collector.old.seat collector.new.seat }
         ensures sits { Sits self.now.words collector.new.seat }
+        ensures rows { collector.new.rows ≡ collector.old.rows }
         ensures steps { ChecksAll (epoch_of collector.old.word) collector.old.checked (seen collector.old.seat) result (seen collector.new.seat) }
     {
         let checked = check(
@@ -67,6 +72,7 @@ impl AtomTable {
                 collector.checked = self.words.size.engines;
                 collector.word += 1;
                 collector.cursor = 0;
+                collector.live = COUNT as u32;
             }
             Checked::NotYet { engine, seen: _ } => {
                 collector.checked = engine as u64 - 1;

@@ -8,6 +8,7 @@ use crate::atoms::{NamesTable, TableAtoms};
 use crate::collecting::Turn;
 use crate::marking::Marked;
 use crate::opening::Opened;
+use crate::resizing::Stage;
 use crate::seats::Collector;
 use crate::table::AtomTable;
 use crate::tests::take_last;
@@ -37,6 +38,18 @@ pub fn mark_one(table: &AtomTable, seat: &mut AtomSeat, text: &Text) -> Option<M
     }
 }
 
+// What a call to begin a cycle comes to, where no change of rows is at work.
+pub fn begin(table: &AtomTable, collector: &mut Collector) -> Option<Turn>
+    requires sits { Sits table.now.words collector.old.seat }
+    ensures sits { Sits table.now.words collector.new.seat }
+{
+    if collector.rows.stage == Stage::Still {
+        Some(table.begin(collector))
+    } else {
+        None
+    }
+}
+
 // What a check finds, where the cycle marks.
 pub fn check(table: &AtomTable, collector: &mut Collector) -> Option<Checked>
     requires sits { Sits table.now.words collector.old.seat }
@@ -61,8 +74,8 @@ fn a_cycle_waits_for_each_engine(rt: HostRuntime) -> Result<(), Fail> {
     let mut one = take_last(&table, &mut seats).ok_or("a seat")?;
     let text = Text::from_str(rt.alloc(), "a")?;
     assert_eq!(rt; mark_one(&table, &mut one, &text), Some(Marked::NoCycle(0)));
-    assert_eq!(rt; table.begin(&mut collector), Turn::Began(1));
-    assert_eq!(rt; table.begin(&mut collector), Turn::Running(5));
+    assert_eq!(rt; begin(&table, &mut collector), Some(Turn::Began(1)));
+    assert_eq!(rt; begin(&table, &mut collector), Some(Turn::Running(5)));
     assert_eq!(rt; mark_one(&table, &mut one, &text), Some(Marked::Acked(1)));
     assert_eq!(rt; mark_one(&table, &mut one, &text), Some(Marked::NoCycle(5)));
     let not_yet = Checked::NotYet { engine: 2, seen: 0 };
@@ -70,7 +83,7 @@ fn a_cycle_waits_for_each_engine(rt: HostRuntime) -> Result<(), Fail> {
     assert_eq!(rt; mark_one(&table, &mut two, &text), Some(Marked::Acked(1)));
     assert_eq!(rt; check(&table, &mut collector), Some(Checked::All));
     assert_eq!(rt; check(&table, &mut collector), None);
-    assert_eq!(rt; table.begin(&mut collector), Turn::Running(6));
+    assert_eq!(rt; begin(&table, &mut collector), Some(Turn::Running(6)));
     assert_eq!(rt; mark_one(&table, &mut one, &text), Some(Marked::NoCycle(6)));
     Ok(())
 }
@@ -114,7 +127,7 @@ fn eight_engines_acknowledge_at_once(rt: HostRuntime) -> Result<(), Fail> {
         keeper: _,
         mut collector,
     } = AtomTable::new(alloc, 512, 8)?;
-    assert_eq!(rt; table.begin(&mut collector), Turn::Began(1));
+    assert_eq!(rt; begin(&table, &mut collector), Some(Turn::Began(1)));
     let found = mark_at_once::<Brand, _>(&rt, alloc, &table, &mut seats)?;
     assert_eq!(rt; found.len(), 8);
     for one in found {

@@ -16,6 +16,9 @@ mod opening;
 #[cfg(test)]
 mod pending;
 #[cfg(test)]
+mod resized;
+mod resizing;
+#[cfg(test)]
 mod reuse;
 mod seats;
 mod sweeping;
@@ -33,6 +36,7 @@ pub use bucket_rows::{Checked, two_cycles};
 pub use collecting::Turn;
 pub use marking::Marked;
 pub use opening::Opened;
+pub use resizing::{Due, Resized, Rows, Stage};
 pub use seats::{Collector, Keeper};
 pub use sweeping::Swept;
 pub use table::AtomTable;

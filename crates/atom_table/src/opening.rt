@@ -10,9 +10,11 @@ ghost use Rattle.atom_words.specs.declared.kind.Kind.TheVariants.{Fix};
 ghost use Rattle.atom_api.specs.Fixed.{fixed_count};
 ghost use Rattle.bucket_rows.specs.Walks.{spelled, MissingIn};
 ghost use Rattle.atom_table.specs.Holding.{Sits};
+ghost use Rattle.atom_table.specs.declared.resizing.Stage.TheVariants.{Still};
 ghost use Rattle.atom_table.specs.Opening.{fixed_slots, FreshFrom, Source, IsKeeper, Stays, Placed, Carries, Low};
 
 use crate::making::add_text;
+use crate::resizing::first_rows;
 use crate::seats::{Collector, Keeper};
 use crate::table::AtomTable;
 use atom_api::fixed::COUNT;
@@ -183,6 +185,7 @@ impl AtomTable {
         ensures seats { IfOk result (λ o. (length o.seats.items ≡ engines) × FreshFrom o.table.words 1 o.seats.items) }
         ensures keeper { IfOk result (λ o. Sits o.table.words o.keeper.seat × IsKeeper (seen o.keeper.seat)) }
         ensures collector { IfOk result (λ o. Sits o.table.words o.collector.seat) }
+        ensures rows { IfOk result (λ o. (o.collector.word ≡ 0) × (o.collector.rows.stage ≡ Still) × (o.collector.rows.row ≡ 8)) }
         ensures versions { IfOk result (λ o. (seen o.keeper.seat).risen ≡ 256) }
     {
         AtomTable::new_at(alloc, slots, engines, 0)
@@ -199,6 +202,7 @@ impl AtomTable {
         ensures seats { IfOk result (λ o. (length o.seats.items ≡ engines) × FreshFrom o.table.words 1 o.seats.items) }
         ensures keeper { IfOk result (λ o. Sits o.table.words o.keeper.seat × IsKeeper (seen o.keeper.seat)) }
         ensures collector { IfOk result (λ o. Sits o.table.words o.collector.seat) }
+        ensures rows { IfOk result (λ o. (o.collector.word ≡ 0) × (o.collector.rows.stage ≡ Still) × (o.collector.rows.row ≡ 8)) }
         ensures versions { IfOk result (λ o. (seen o.keeper.seat).risen ≡ 256) }
     {
         let size = table_size(slots, engines, version);
@@ -218,6 +222,8 @@ impl AtomTable {
                 word: 0,
                 checked: 0,
                 cursor: 0,
+                live: COUNT as u32,
+                rows: first_rows(),
             },
         })
     }

@@ -3,9 +3,10 @@ ghost use Rattle.atom_words.specs.Seats.{seen, Walking};
 ghost use Rattle.atom_table.specs.Holding.{Sits, IsEngine};
 
 use crate::collecting::Turn;
-use crate::cycling::{check, mark_one};
+use crate::cycling::{begin, check, mark_one};
 use crate::marking::Marked;
 use crate::opening::Opened;
+use crate::resizing::Due;
 use crate::seats::Collector;
 use crate::sweeping::Swept;
 use crate::table::AtomTable;
@@ -83,7 +84,7 @@ fn cycle(
     ensures walking { Walking (seen seat.new) }
     ensures engine { IsEngine (seen seat.new) }
 {
-    table.begin(collector);
+    begin(table, collector);
     mark_one(table, seat, text);
     check(table, collector);
     sweep(table, collector, 512)
@@ -104,26 +105,28 @@ fn freed_slots_take_other_texts(rt: HostRuntime) -> Result<(), Fail> {
     let a7 = make(alloc, &table, &mut one, 'a', 7)?;
     assert!(rt; matches!(make(alloc, &table, &mut one, 'b', 1)?, Interned::Full(_)));
     // Each new atom is marked, so that the first cycle frees none.
-    assert_eq!(rt; table.begin(&mut collector), Turn::Began(1));
+    assert_eq!(rt; begin(&table, &mut collector), Some(Turn::Began(1)));
     assert_eq!(rt; sweep(&table, &mut collector, 512), None);
     assert_eq!(rt; mark_one(&table, &mut one, &held), Some(Marked::Acked(1)));
     assert_eq!(rt; check(&table, &mut collector), Some(Checked::All));
     assert_eq!(rt; sweep(&table, &mut collector, 300), Some(Swept::At(300)));
-    assert_eq!(rt; table.begin(&mut collector), Turn::Running(6));
+    assert_eq!(rt; begin(&table, &mut collector), Some(Turn::Running(6)));
     assert_eq!(rt; sweep(&table, &mut collector, 300), Some(Swept::Done));
+    assert_eq!(rt; table.due(&collector), Due::Grow);
     assert!(rt; matches!(make(alloc, &table, &mut one, 'b', 1)?, Interned::Full(_)));
     // The second frees all but the one that the engine holds.
     assert_eq!(rt;
         cycle(&table, &mut collector, &mut one, &held),
         Some(Swept::Done)
     );
+    assert_eq!(rt; table.due(&collector), Due::Stay);
     assert_eq!(rt; fill(alloc, &table, &mut one, 'b')?, 255);
     assert_eq!(rt; make(alloc, &table, &mut one, 'a', 7)?, a7);
     assert!(rt; matches!(make(alloc, &table, &mut one, 'a', 1)?, Interned::Full(_)));
     let b9 = make(alloc, &table, &mut one, 'b', 9)?;
     assert!(rt; matches!(b9, Interned::Is(_)));
     assert_eq!(rt; make(alloc, &table, &mut one, 'b', 9)?, b9);
-    assert_eq!(rt; table.begin(&mut collector), Turn::Began(3));
+    assert_eq!(rt; begin(&table, &mut collector), Some(Turn::Began(3)));
     Ok(())
 }
 

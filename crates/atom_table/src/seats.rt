@@ -8,7 +8,9 @@ ghost use Rattle.atom_words.specs.declared.view.Counted.{Counted};
 ghost use Rattle.atom_words.specs.declared.kind.Kind.TheVariants.{Fetch, Register, Unregister};
 ghost use Rattle.atom_table.specs.Holding.{Sits};
 ghost use Rattle.atom_table.specs.Collecting.{Collects};
+ghost use Rattle.atom_table.specs.Resizing.{RowsTied};
 
+use crate::resizing::Rows;
 use crate::table::AtomTable;
 use atom_api::Atom;
 use atom_words::{AtomSeat, Fetching};
@@ -29,7 +31,12 @@ pub struct Collector {
     pub checked: u64,
     /// The slot that the sweep has come to.
     pub cursor: u32,
+    /// How many atoms the sweep has found and left so far, with the fixed atoms.
+    pub live: u32,
+    /// What it knows of the rows of buckets.
+    pub rows: Rows,
     pub ghost collects: { Collects (seen seat) word checked cursor },
+    pub ghost rowed: { RowsTied (seen seat) rows },
 }
 
 impl AtomTable {

@@ -41,12 +41,14 @@ impl AtomTable {
         requires sweeping { phase_of collector.old.word ≡ 2 }
         ensures same { Same collector.old.seat collector.new.seat }
         ensures sits { Sits self.now.words collector.new.seat }
+        ensures rows { collector.new.rows ≡ collector.old.rows }
         ensures steps { SweepsBy collector.old.cursor most (seen collector.old.seat) result (seen collector.new.seat) }
     {
         let slots = self.words.size.slots as u32;
         let from = collector.cursor;
         let end = up_to(from, most, slots);
-        sweep_run(&self.words, &mut collector.seat, from, end);
+        let live = sweep_run(&self.words, &mut collector.seat, from, end);
+        collector.live = collector.live.saturating_add(live);
         collector.cursor = end;
         if end < slots {
             return Swept::At(end);
