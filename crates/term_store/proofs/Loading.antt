@@ -33,7 +33,7 @@ upwards_below from (suc k) =
     All-push (λ n. n < from + suc k) (upwards from k) (from + k)
     (All-weaker (λ n. n < from + k) (λ n. n < from + suc k) (λ n lt. omega arith) (upwards from k) (upwards_below from k)) (omega arith)
 
-get_or-upwards : (from k i : ℕ) → i < k → get_or (upwards from k) i 0 ≡ from + i
+pub get_or-upwards : (from k i : ℕ) → i < k → get_or (upwards from k) i 0 ≡ from + i
 get_or-upwards from zero i lt = absurd (omega arith)
 get_or-upwards from (suc k) i lt = go (get_or-upwards from k i) (length-upwards from k) (i == k) refl
   where

@@ -1,9 +1,11 @@
 pub mod Apart
 pub mod ArgumentKeys
+pub mod Blocks
 pub mod Cells
 pub mod Codes
 pub mod Contents
 pub mod Counting
+pub mod Entering
 pub mod Fit
 pub mod Grounds
 pub mod Heap

@@ -4,14 +4,20 @@
 
 mod argument_key;
 mod bind;
+mod block;
 mod build;
 mod cells;
 mod chains;
+mod copies;
 mod count;
+mod enter;
 mod faults;
 mod ground;
+mod heads;
+mod holding;
 mod identity;
 mod kept;
+mod known;
 mod known_pairs;
 mod load;
 mod look;

@@ -76,6 +76,8 @@ pub fn finish_compound(
     ensures made { IfOk result (λ w. Made (with_args (heap_of cells.old) (take start cells.old.args.items)) name
         (drop start cells.old.args.items) (heap_of cells.new) w) }
     ensures kept { OnErr result (heap_of cells.new ≡ with_args (heap_of cells.old) (take start cells.old.args.items)) }
+    ensures number { IfOk result (λ w. w ≡ Word.Comp (length cells.old.heads.items)) }
+    ensures heads { OnOk result (length cells.new.heads.items ≡ length cells.old.heads.items + 1) }
 {
     let k = cells.heads.len();
     match cells.heads.push(Head { name, start, count }) {

@@ -5,6 +5,7 @@ ghost use Rattle.term_store.specs.Contents.{Adds, Bound, IsEarlier, IsMark, MayB
 
 use crate::bind::bind;
 use crate::cells::{Cells, deref};
+use crate::enter::Entry;
 use crate::faults::StoreFault;
 use crate::older::Older;
 use crate::undo::undo_to;
@@ -25,6 +26,7 @@ pub struct Store {
     pub(crate) cells: Cells,
     pub(crate) pending: Pending,
     pub(crate) walk: Walk,
+    pub(crate) entry: Entry,
     pub(crate) used: u64,
     pub(crate) budget: u64,
     pub(crate) alloc: Global,
@@ -54,6 +56,7 @@ impl Store {
             cells: Cells::new(alloc),
             pending: Pending::new(alloc),
             walk: Walk::new(alloc),
+            entry: Entry::new(alloc),
             used: 0,
             budget,
             alloc,

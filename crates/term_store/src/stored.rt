@@ -1,33 +1,46 @@
 //! Terms outside of a store.
-ghost use Rattle.std.specs.Prelude.{◌≡◌, ◌+◌, ◌<◌, ◌^◌, length, zero, IfOk, OnOk};
+ghost use Rattle.std.specs.Prelude.{◌≡◌, ◌+◌, ◌<◌, ◌^◌, length, zero, IfOk, IfSome, OnOk};
 ghost use Rattle.std.specs.List.{All};
 ghost use Rattle.pl_term.specs.Cells.{cells};
 ghost use Rattle.pl_term.specs.NodeLists.{met_with, node_cells, rename_node};
 ghost use Rattle.pl_term.specs.Nodes.{nodes, tree};
 ghost use Rattle.pl_term.specs.Variables.{place, rename, variables};
+ghost use Rattle.term_store.specs.Blocks.{IsBlockOf};
 ghost use Rattle.term_store.specs.Nodes.{IsNodeBelow, IsSpelled, node_view, node_views};
+ghost use Rattle.term_store.specs.StoredTerms.{IsStored};
 
+use crate::block::{Block, block_of};
 use crate::nodes::AtomNode;
 use crate::numbering::Numbering;
 use pl_term::Memory;
 use std::alloc::Global;
 use std::marker::Model;
-use std::sync::ArcSlice;
+use std::sync::Arc;
 
 /// A term outside of a store, seen by contracts as a term whose names stand for atoms. Its variables are numbered from 0
 /// on in the order in which they first occur. It is kept as its nodes in prefix order, with the number of its variables
-/// and of its cells. The nodes never change, and lie behind a counted pointer, so that many may hold the one term.
+/// and of its cells, and a clause also as a block. All this never changes, and lies behind a counted pointer, so that many
+/// may hold the one term.
 #[derive(Debug, Drop)]
 pub struct Stored {
-    nodes: ArcSlice<AtomNode>,
+    forms: Arc<Forms>,
     variables: u64,
     cells: u64,
+}
+
+/// A term as its nodes in prefix order, and maybe as a block.
+#[derive(Debug, Drop)]
+pub struct Forms {
+    pub nodes: Vec<AtomNode>,
+    pub block: Option<Block>,
 }
 
 impl Model for Stored {
     ghost use Rattle.pl_term.specs.Tree.{Tree};
     ghost use Rattle.pl_term.specs.Nodes.{tree, coded_tree};
-    ghost use Rattle.std.specs.Arc.{arc_slice_items};
+    ghost use Rattle.std.specs.Arc.{arc_value};
+    ghost use Rattle.std.specs.Prelude.{IfSome};
+    ghost use Rattle.term_store.specs.Blocks.{IsBlockOf};
     ghost use Rattle.term_store.specs.Nodes.{node_views};
     ghost use Rattle.term_store.specs.StoredTerms.{IsStored};
 
@@ -35,15 +48,32 @@ impl Model for Stored {
 
     ghost coded = { coded_tree };
 
-    ghost view = { λ s. tree (node_views (arc_slice_items s.nodes)) };
+    ghost view = { λ s. tree (node_views (arc_value s.forms).nodes.items) };
 
-    ghost invariant = { λ s. IsStored (arc_slice_items s.nodes) s.variables s.cells };
+    ghost invariant = { λ s. IsStored (arc_value s.forms).nodes.items s.variables s.cells
+        × IfSome (arc_value s.forms).block (IsBlockOf s.variables (tree (node_views (arc_value s.forms).nodes.items))) };
 }
 
 impl Stored {
     /// The term that these nodes spell in prefix order, its variables numbered from 0 on in the order in which they
     /// first occur. The only error is out of memory.
     pub fn from_nodes(alloc: Global, nodes: &[AtomNode]) -> Result<Stored, Memory>
+        requires { IsSpelled nodes.now }
+        ensures { IfOk result (λ s. s ≡ rename zero (tree (node_views nodes.now))) }
+    {
+        Stored::with_forms(alloc, nodes, false)
+    }
+
+    /// The same, kept in both forms, as a clause that is to be entered often.
+    pub fn clause_from_nodes(alloc: Global, nodes: &[AtomNode]) -> Result<Stored, Memory>
+        requires { IsSpelled nodes.now }
+        ensures { IfOk result (λ s. s ≡ rename zero (tree (node_views nodes.now))) }
+    {
+        Stored::with_forms(alloc, nodes, true)
+    }
+
+    /// The term that these nodes spell, as `from_nodes` has it, as a block too where it is wanted.
+    fn with_forms(alloc: Global, nodes: &[AtomNode], as_block: bool) -> Result<Stored, Memory>
         requires { IsSpelled nodes.now }
         ensures { IfOk result (λ s. s ≡ rename zero (tree (node_views nodes.now))) }
     {
@@ -59,9 +89,10 @@ impl Stored {
         let Some(cells) = sum.checked_add(variables) else {
             return Err(Memory);
         };
-        let nodes = ArcSlice::from_vec(all)?;
+        let forms = forms_of(alloc, all, variables, cells, as_block)?;
+        let forms = Arc::new(alloc, forms)?;
         Ok(Stored {
-            nodes,
+            forms,
             variables,
             cells,
         })
@@ -72,9 +103,9 @@ impl Stored {
     pub fn share(&self) -> Result<Stored, Memory>
         ensures { IfOk result (λ s. s ≡ self.now) }
     {
-        let nodes = self.nodes.clone()?;
+        let forms = Arc::try_clone(&self.forms)?;
         Ok(Stored {
-            nodes,
+            forms,
             variables: self.variables,
             cells: self.cells,
         })
@@ -86,7 +117,14 @@ impl Stored {
         ensures numbered { rename zero self.now ≡ self.now }
         ensures below { All (IsNodeBelow (length (variables self.now))) result.now }
     {
-        self.nodes.as_slice()
+        self.forms.nodes.as_slice()
+    }
+
+    /// The term as a block, if it is kept so.
+    pub(crate) fn block(&self) -> Option<&Block>
+        ensures { IfSome result (λ b. IsBlockOf (length (variables self.now)) self.now b.now) }
+    {
+        self.forms.block.as_ref()
     }
 
     /// How many variables the term has.
@@ -101,6 +139,29 @@ impl Stored {
         ensures { result ≡ cells self.now }
     {
         self.cells
+    }
+}
+
+/// The forms of a term of so many variables and cells, the second one where it is wanted. The only error is out of memory.
+fn forms_of(
+    alloc: Global,
+    nodes: Vec<AtomNode>,
+    variables: u64,
+    cells: u64,
+    as_block: bool,
+) -> Result<Forms, Memory>
+    requires { IsStored nodes.items variables cells }
+    ensures nodes { IfOk result (λ f. f.nodes.items ≡ nodes.items) }
+    ensures block { IfOk result (λ f. IfSome f.block (IsBlockOf variables (tree (node_views nodes.items)))) }
+{
+    if as_block {
+        let block = block_of(alloc, &nodes, variables)?;
+        Ok(Forms {
+            nodes,
+            block: Some(block),
+        })
+    } else {
+        Ok(Forms { nodes, block: None })
     }
 }
 

@@ -94,7 +94,7 @@ fn make_equal(
 }
 
 /// What is left to do for two words to become equal.
-fn compare_words(left: Word, right: Word) -> Plan
+pub fn compare_words(left: Word, right: Word) -> Plan
     ensures { result ≡ plan_of left right }
 {
     match left {

@@ -41,3 +41,15 @@ returns-in-Err-clause-adds c =
     adds_none c.args.self.now c.undo_to-in-Err.new.self
     (undone c.args.self.now before after c.undo_to-in-Err.new.self c.mark-mark.result c.self.view_is c.unify.ensures.grown refl c.undo_to-in-Err.ensures.back
     c.mark-mark.ensures.mark c.mark-mark.ensures.here)
+
+pub undo_to-requires : goal.undo_to-requires
+undo_to-requires c =
+    let before : Contents = record { heap = heap_of c.self.inside.cells; used = c.self.inside.used; budget = c.self.inside.budget } in
+    let after : Contents = record { heap = heap_of c.unify.new.cells; used = c.self.inside.used; budget = c.self.inside.budget } in
+    (subst (λ s. Adds s after) c.self.view_is (adds_grown before after c.unify.ensures.grown refl refl)).marks c.mark-mark.result c.mark-mark.ensures.mark
+
+pub undo_to-requires-in-Err : goal.undo_to-requires-in-Err
+undo_to-requires-in-Err c =
+    let before : Contents = record { heap = heap_of c.self.inside.cells; used = c.self.inside.used; budget = c.self.inside.budget } in
+    let after : Contents = record { heap = heap_of c.unify.new.cells; used = c.self.inside.used; budget = c.self.inside.budget } in
+    (subst (λ s. Adds s after) c.self.view_is (adds_grown before after c.unify.ensures.grown refl refl)).marks c.mark-mark.result c.mark-mark.ensures.mark

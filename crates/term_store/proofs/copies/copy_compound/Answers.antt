@@ -1,0 +1,26 @@
+use Rattle.std.proofs.Common.{◌≡◌, List, drop, length, map, sym, ap, subst, ◌∙◌}
+use Rattle.std.specs.List.{All}
+use Rattle.std.proofs.Math.Seq.{drop-append_seam}
+use Rattle.std.proofs.lemmas.List.Elements.{All-map}
+use Rattle.term_store.specs.declared.words.Word.{Word}
+use Rattle.term_store.specs.Blocks.{arguments_of, copied}
+use Rattle.term_store.specs.Cells.{heap_of}
+use Rattle.term_store.specs.Fit.{IsIn}
+use Rattle.term_store.proofs.copies.copy_compound.Goals as goal
+
+pub finish_compound-requires-clause-cache : goal.finish_compound-requires-clause-cache
+finish_compound-requires-clause-cache c =
+    record { long = c.requires.fit.cache.long; found = c.requires.fit.cache.found }
+
+pub finish_compound-requires-clause-inside : goal.finish_compound-requires-clause-inside
+finish_compound-requires-clause-inside c =
+    let h = heap_of c.args.cells.now in
+    let parts = arguments_of c.args.block.now c.args.j in
+    let words : List Word = map (copied c.args.known.now c.args.low c.args.above) parts in
+    let behind : drop c.len-start.result c.push_copies.new.args.items ≡ words =
+    ap (λ n. drop n c.push_copies.new.args.items) (c.len-start.ensures ∙ c.args.cells.now.args.ok.0)
+    ∙ ap (drop (length h.args)) c.in-Ok.ensures.ok
+    ∙ drop-append_seam h.args (map (copied c.args.known.now c.args.low c.args.above) c.block_words-words.result.now)
+    ∙ ap (map (copied c.args.known.now c.args.low c.args.above)) c.block_words-words.ensures in
+    subst (λ ws. All (IsIn h) ws) (sym behind)
+    (All-map (IsIn h) (copied c.args.known.now c.args.low c.args.above) parts c.requires.inside)

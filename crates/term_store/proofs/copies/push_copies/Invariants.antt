@@ -1,0 +1,6 @@
+use Rattle.std.proofs.Common.{◌≡◌, ◌++◌, map, take}
+use Rattle.term_store.specs.Blocks.{copied}
+use Rattle.term_store.proofs.copies.push_copies.Given as goal
+
+abbrev pub invariant-loop-word : goal.invariant-loop-word
+invariant-loop-word l = l.args.items ≡ l.initial.args.items ++ map (copied l.known l.low l.above) (take l.word-index l.words)
