@@ -25,6 +25,7 @@ pub mod Naming
 pub mod Others
 pub mod Over
 pub mod Recoveries
+pub mod Resolved
 pub mod Resting
 pub mod Resuming
 pub mod Spelt

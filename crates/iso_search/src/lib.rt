@@ -21,6 +21,7 @@ pub mod lists;
 pub mod outcome;
 pub mod parts;
 pub mod recovering;
+pub mod resolving;
 pub mod search;
 pub mod spelling;
 pub mod throwing;
