@@ -42,7 +42,7 @@ pub fn interned<A: Atoms>(alloc: Global, t: &Flat, atoms: &mut A) -> Result<Stor
     ensures asked { Gains (λ c. Contains (texts_in t.now) c) (A.asked atoms.old) (A.asked atoms.new) }
 {
     match interned_nodes(alloc, t.nodes(), atoms) {
-        Ok(all) => match Stored::from_nodes(alloc, all.as_slice()) {
+        Ok(all) => match Stored::clause_from_nodes(alloc, all.as_slice()) {
             Ok(term) => Ok(term),
             Err(_) => Err(NoTerm::Memory),
         },
