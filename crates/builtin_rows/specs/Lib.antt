@@ -1,5 +1,6 @@
 pub mod Dispatching
 pub mod Given
+pub mod Kinds
 pub mod Laws
 pub mod Lists
 pub mod Predicates

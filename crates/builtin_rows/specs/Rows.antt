@@ -14,7 +14,7 @@ use Rattle.world_builtins.specs.Naming.{IsHeldAt}
 use Rattle.world_builtins.specs.Spelling.{reads}
 use Rattle.builtin_rows.specs.Given.{Given, answered, lined, thrown, full}
 use Rattle.builtin_rows.specs.declared.row.Places.{Places}
-use Rattle.builtin_rows.specs.declared.row.Places.TheVariants.{Two, Three}
+use Rattle.builtin_rows.specs.declared.row.Places.TheVariants.{One, Two, Three}
 use Rattle.builtin_rows.specs.declared.row.Row.{Row}
 use Rattle.builtin_rows.specs.declared.row.Row.TheVariants.{Fails, Holds, Answer as RowAnswer, Line, Ball, CellsFull, NeedsAtoms, Retry, Worn}
 
@@ -28,6 +28,7 @@ pub record Makes (s : Contents) (next fresh made : ℕ) (t : Contents) : Type 0 
 
 -- The places, in the order of the arguments.
 abbrev pub listed : Places → List Place
+listed (One p) = p ∷ []
 listed (Two p q) = p ∷ q ∷ []
 listed (Three p q r) = p ∷ q ∷ r ∷ []
 

@@ -67,8 +67,8 @@ pub fn refused_for(
     Ok(Row::Ball(ball))
 }
 
-/// The ball error(E, Name/Arity). The only error is out of memory.
-fn ball_of(store: &mut Store, error: Place, name: Atom, arity: u32) -> Result<Place, Memory>
+/// The ball error(E, Name/Arity) of the error term E at a place. The only error is out of memory.
+pub fn ball_of(store: &mut Store, error: Place, name: Atom, arity: u32) -> Result<Place, Memory>
     requires { Holds store.old error }
     ensures { IfOk result (λ w. IsBall store.old error name arity store.new w) }
 {

@@ -3,13 +3,15 @@
 #![tactic(auto)]
 
 mod errors;
+mod kinds;
 mod lists;
 mod names;
 mod predicates;
 mod room;
 mod row;
 
-pub use errors::{raised, refused_for, refused_with};
+pub use errors::{ball_of, raised, refused_for, refused_with};
+pub use kinds::{Kinds, kinds_of, passes};
 pub use lists::{ListEnd, list_elements, make_list};
 pub use names::predicate_of;
 pub use predicates::{Comparison, Meaning, OfOne, OfThree, OfTwo, Pred};

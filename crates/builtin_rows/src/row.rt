@@ -2,9 +2,10 @@
 use atom_api::{Cause, Pass, WornWord};
 use term_store::Place;
 
-/// A place for each argument of a predicate of two or three.
+/// A place for each argument of a predicate of one, two or three.
 #[derive(Clone, Copy, Drop)]
 pub enum Places {
+    One(Place),
     Two(Place, Place),
     Three(Place, Place, Place),
 }

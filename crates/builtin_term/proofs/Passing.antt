@@ -11,9 +11,9 @@ use Rattle.atom_api.specs.Names.{Names}
 use Rattle.term_store.specs.declared.words.Place.{Place}
 use Rattle.term_store.specs.Contents.{Contents, term_at}
 use Rattle.world_builtins.specs.Spelling.{reads, spelled, text_of}
-use Rattle.builtin_term.specs.declared.kinds.Kinds.{Kinds}
+use Rattle.builtin_rows.specs.declared.kinds.Kinds.{Kinds}
 use Rattle.builtin_term.proofs.Reading.{is_ground-read}
-use Rattle.builtin_term.specs.Kinds.{kinds_of, passes}
+use Rattle.builtin_rows.specs.Kinds.{kinds_of, passes}
 
 -- The test of a kind does not look at names.
 pub passes-spelled : (k : Kinds) (g : Chars → Chars) (t : Tree) → passes k (spelled g t) ≡ passes k t

@@ -7,7 +7,6 @@ pub mod Giving
 pub mod Heads
 pub mod Items
 pub mod KeyedPairs
-pub mod Kinds
 pub mod Orders
 pub mod Pending
 pub mod Renaming

@@ -15,7 +15,6 @@ mod functors;
 mod heads;
 mod keyed_lists;
 mod keyed_pairs;
-mod kinds;
 mod lists;
 mod merge_sort;
 mod met_variables;

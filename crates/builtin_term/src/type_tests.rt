@@ -9,9 +9,8 @@ ghost use Rattle.term_store.specs.Contents.{Holds};
 ghost use Rattle.world_builtins.specs.Spelling.{reads};
 ghost use Rattle.builtin_term.specs.TestRows.{Answers};
 
-use crate::kinds::{kinds_of, passes};
 use crate::room::tested;
-use builtin_rows::{OfOne, Row};
+use builtin_rows::{OfOne, Row, kinds_of, passes};
 use pl_term::Memory;
 use std::alloc::Global;
 use term_store::{Place, Store};

@@ -5,7 +5,7 @@ use Rattle.term_store.specs.Contents.{Contents}
 use Rattle.iso_search.specs.declared.outcome.Fault.{Fault}
 use Rattle.iso_search.specs.declared.outcome.Fault.TheVariants.{Inferences, Cells, Choices, Instantiation, NotCallable, NotInteger, NotList, NotStatus}
 use Rattle.iso_search.specs.declared.outcome.Outcome.{Outcome}
-use Rattle.iso_search.specs.declared.outcome.Outcome.TheVariants.{Run, Fail, Raise, Throw, Halt}
+use Rattle.iso_search.specs.declared.outcome.Outcome.TheVariants.{Run, Fail, Raise, Throw, Erase, Halt}
 use Rattle.iso_search.specs.declared.search.Search.{Search}
 use Rattle.iso_search.specs.Conversions.{Stays}
 use Rattle.iso_search.specs.Errors.{IsFaultIn, IsOfBudget}
@@ -31,6 +31,7 @@ outcome_behind e d f (Run list) le keeps h = tt
 outcome_behind e d f Fail le keeps h = tt
 outcome_behind e d f (Raise x) le keeps h = (h.0, λ v j at. h.1 v j (omega (arith, at, le)) ∙ keeps v j at)
 outcome_behind e d f (Throw w) le keeps h = (h.0, λ v j at. h.1 v j (omega (arith, at, le)) ∙ keeps v j at)
+outcome_behind e d f (Erase place list) le keeps h = tt
 outcome_behind e d f (Halt k) le keeps h = tt
 
 pub after_behind : (e d f : Search) (o : Outcome) → length e.frames.items ≤ length d.frames.items → d.budgets ≡ e.budgets → KeepsTasks e d → IsAfter d f o

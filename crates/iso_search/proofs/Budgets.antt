@@ -4,7 +4,7 @@ use Rattle.std.proofs.lemmas.List.Elements.{All-weaker}
 use Rattle.term_store.specs.declared.words.Place.{Place}
 use Rattle.term_store.specs.Contents.{Contents, back_to}
 use Rattle.iso_search.specs.declared.choices.Alternative.{Alternative}
-use Rattle.iso_search.specs.declared.choices.Alternative.TheVariants.{Clauses, Answers, Branch, Barrier, Catch, Findall}
+use Rattle.iso_search.specs.declared.choices.Alternative.TheVariants.{Clauses, Answers, Told, Branch, Barrier, Catch, Findall}
 use Rattle.iso_search.specs.declared.choices.ChoicePoint.{ChoicePoint}
 use Rattle.iso_search.specs.declared.frames.Frame.{Frame}
 use Rattle.iso_search.specs.declared.frames.Task.{Task}
@@ -23,7 +23,8 @@ choices_budget v ws s fs (k ∷ ks) b =
     (choices_budget v ws (back_to k.mark s) (take k.frames fs) ks b)
 
 pub alternative_budget : (s : Contents) (b : ℕ) (a : Alternative) → IsAlternativeIn s a → IsAlternativeIn (with_budget s b) a
-alternative_budget s b (Clauses w g p) i = i
+alternative_budget s b (Clauses p w g k) i = i
+alternative_budget s b (Told w ls line) i = i
 alternative_budget s b (Answers w line) i = i
 alternative_budget s b Branch i = tt
 alternative_budget s b Barrier i = tt

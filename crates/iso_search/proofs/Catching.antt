@@ -6,7 +6,7 @@ use Rattle.pl_model.specs.Resolution.{Limits, Node, Pending, State, Choice, thro
 use Rattle.pl_model.specs.Control.{at_catch, caught, fitting, thrown}
 use Rattle.term_store.specs.declared.words.Place.{Place}
 use Rattle.iso_search.specs.declared.choices.Alternative.{Alternative}
-use Rattle.iso_search.specs.declared.choices.Alternative.TheVariants.{Clauses, Answers, Branch, Barrier, Catch, Findall}
+use Rattle.iso_search.specs.declared.choices.Alternative.TheVariants.{Clauses, Answers, Told, Branch, Barrier, Catch, Findall}
 use Rattle.iso_search.specs.declared.frames.Task.{Task}
 use Rattle.iso_search.specs.declared.frames.Task.TheVariants.{Goal, Commit, Refute, Leave, Collect}
 use Rattle.term_store.specs.Contents.{Contents}
@@ -57,7 +57,8 @@ pub caught_by_no_catch : (l : Limits) (s : State) (ball : Tree) (outer : List Pe
 caught_by_no_catch l s ball outer cs older v r n a e other = go a other ∙ sym (ap (caught l s ball outer) e)
   where
     go : (x : Alternative) → ((c w : Place) → x ≡ Catch c w → ⊥) → record s { doing = throwing ball outer } ≡ caught l s ball outer (choice_at v r n x ∷ older)
-    go (Clauses w g p) k = refl
+    go (Clauses p w g j) k = refl
+    go (Told w ls line) k = refl
     go (Answers w line) k = refl
     go Branch k = refl
     go Barrier k = refl

@@ -12,7 +12,7 @@ use Rattle.pl_model.specs.Control.{copied_into, with_copy}
 use Rattle.term_store.specs.declared.words.Place.{Place}
 use Rattle.term_store.specs.Contents.{Contents}
 use Rattle.iso_search.specs.declared.choices.Alternative.{Alternative}
-use Rattle.iso_search.specs.declared.choices.Alternative.TheVariants.{Clauses, Answers, Branch, Barrier, Catch, Findall}
+use Rattle.iso_search.specs.declared.choices.Alternative.TheVariants.{Clauses, Answers, Told, Branch, Barrier, Catch, Findall}
 use Rattle.iso_search.specs.declared.copies.Copied.{Copied}
 use Rattle.iso_search.specs.Choices.{IsAlternativeIn, choice_at}
 use Rattle.iso_search.specs.Collecting.{IsOlder, HoldsNone, IsNoFindall, IsPutAfter, Rise, cells_held, cells_of, copy_of, copy_over}
@@ -36,7 +36,8 @@ cells_of-push (x ∷ cs) c = let e = cells_of-push cs c in omega (arith, e)
 -- The cells that a choice point holds are those that the definition counts.
 pub held_counted : (v : View) (s : Contents) (r : Place → Tree) (n : Node) (a : Alternative) (cs : List Choice) → IsAlternativeIn s a
     → collected_cells (choice_at v r n a ∷ cs) ≡ cells_held a + collected_cells cs
-held_counted v s r n (Clauses w g p) cs i = sym (zero-add (collected_cells cs))
+held_counted v s r n (Clauses p w g k) cs i = sym (zero-add (collected_cells cs))
+held_counted v s r n (Told w ls line) cs i = sym (zero-add (collected_cells cs))
 held_counted v s r n (Answers w line) cs i = sym (zero-add (collected_cells cs))
 held_counted v s r n Branch cs i = sym (zero-add (collected_cells cs))
 held_counted v s r n Barrier cs i = sym (zero-add (collected_cells cs))
@@ -45,7 +46,8 @@ held_counted v s r n (Findall w f) cs i =
     ap (λ k. k + collected_cells cs) (sum_copies v f.copies.items ∙ sym i.1.counted)
 
 pub nothing_held : (s : Contents) (a : Alternative) → IsAlternativeIn s a → HoldsNone a → cells_held a ≡ 0
-nothing_held s (Clauses w g p) i h = refl
+nothing_held s (Clauses p w g k) i h = refl
+nothing_held s (Told w ls line) i h = refl
 nothing_held s (Answers w line) i h = refl
 nothing_held s Branch i h = refl
 nothing_held s Barrier i h = refl
@@ -59,7 +61,8 @@ rise_later low [] n m le r = omega (arith, le, r)
 rise_later low (c ∷ cs) n m le r = (r.0, rise_later (c.from + length (variables c.term)) cs n m le r.1)
 
 pub older_later : (n m : ℕ) → n ≤ m → (a : Alternative) → IsOlder n a → IsOlder m a
-older_later n m le (Clauses w g p) r = tt
+older_later n m le (Clauses p w g k) r = tt
+older_later n m le (Told w ls line) r = tt
 older_later n m le (Answers w line) r = tt
 older_later n m le Branch r = tt
 older_later n m le Barrier r = tt
@@ -67,7 +70,8 @@ older_later n m le (Catch c w) r = tt
 older_later n m le (Findall w f) r = rise_later zero f.copies.items n m le r
 
 pub older_empty : (n : ℕ) (a : Alternative) → HoldsNone a → IsOlder n a
-older_empty n (Clauses w g p) h = tt
+older_empty n (Clauses p w g k) h = tt
+older_empty n (Told w ls line) h = tt
 older_empty n (Answers w line) h = tt
 older_empty n Branch h = tt
 older_empty n Barrier h = tt
@@ -103,19 +107,22 @@ pub joined_into : (v : View) (r : Place → Tree) (n : Node) (c : Copied) (a b :
     → choice_at v r n b ≡ copied_into (copy_of v c) (choice_at v r n a)
 joined_into v r n c (Findall p f) (Findall q g) h =
     ap₂ (λ x ts. findall (r x) ts n) h.0 (ap (map (copy_of v)) h.1.0 ∙ map-append (copy_of v) f.copies.items (c ∷ []))
-joined_into v r n c (Findall p f) (Clauses w g q) h = absurd h
+joined_into v r n c (Findall p f) (Clauses u w g q) h = absurd h
+joined_into v r n c (Findall p f) (Told w ls line) h = absurd h
 joined_into v r n c (Findall p f) (Answers w line) h = absurd h
 joined_into v r n c (Findall p f) Branch h = absurd h
 joined_into v r n c (Findall p f) Barrier h = absurd h
 joined_into v r n c (Findall p f) (Catch k w) h = absurd h
-joined_into v r n c (Clauses w g q) b h = absurd h
+joined_into v r n c (Clauses u w g q) b h = absurd h
+joined_into v r n c (Told w ls line) b h = absurd h
 joined_into v r n c (Answers w line) b h = absurd h
 joined_into v r n c Branch b h = absurd h
 joined_into v r n c Barrier b h = absurd h
 joined_into v r n c (Catch k w) b h = absurd h
 
 pub not_joined : (v : View) (r : Place → Tree) (n : Node) (t : Tree) (a : Alternative) → IsNoFindall a → copied_into t (choice_at v r n a) ≡ choice_at v r n a
-not_joined v r n t (Clauses w g p) h = refl
+not_joined v r n t (Clauses p w g k) h = refl
+not_joined v r n t (Told w ls line) h = refl
 not_joined v r n t (Answers w line) h = refl
 not_joined v r n t Branch h = refl
 not_joined v r n t Barrier h = refl
@@ -131,12 +138,14 @@ past_height t h c cs ne = ap (λ b. cond b (copied_into t c ∷ cs) (c ∷ with_
 -- The cells of the copy are counted with the others.
 pub put_cells : (c : Copied) (a b : Alternative) → IsPutAfter c a b → cells_held b ≡ cells_held a + cells c.term
 put_cells c (Findall p f) (Findall q g) h = h.1.1
-put_cells c (Findall p f) (Clauses w g q) h = absurd h
+put_cells c (Findall p f) (Clauses u w g q) h = absurd h
+put_cells c (Findall p f) (Told w ls line) h = absurd h
 put_cells c (Findall p f) (Answers w line) h = absurd h
 put_cells c (Findall p f) Branch h = absurd h
 put_cells c (Findall p f) Barrier h = absurd h
 put_cells c (Findall p f) (Catch k w) h = absurd h
-put_cells c (Clauses w g q) b h = absurd h
+put_cells c (Clauses u w g q) b h = absurd h
+put_cells c (Told w ls line) b h = absurd h
 put_cells c (Answers w line) b h = absurd h
 put_cells c Branch b h = absurd h
 put_cells c Barrier b h = absurd h

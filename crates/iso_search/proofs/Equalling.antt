@@ -10,7 +10,7 @@ use Rattle.pl_model.specs.BuiltinRows.{one_answer, row}
 use Rattle.pl_model.specs.Control.{taking, unified, with_row}
 use Rattle.term_store.specs.declared.words.Place.{Place}
 use Rattle.iso_search.specs.declared.outcome.Outcome.{Outcome}
-use Rattle.iso_search.specs.declared.outcome.Outcome.TheVariants.{Run, Fail, Raise, Throw, Halt}
+use Rattle.iso_search.specs.declared.outcome.Outcome.TheVariants.{Run, Fail, Raise, Throw, Erase, Halt}
 use Rattle.iso_search.specs.declared.search.Search.{Search}
 use Rattle.iso_search.specs.Outcomes.{Setting, fault_term, limits_in, result_in, state_in}
 use Rattle.iso_search.specs.Reading.{reads}
@@ -61,6 +61,7 @@ result_goals t e n m p Fail g = refl
 result_goals t e n m p (Raise f) g =
     ap (λ gs. state_of t.view e (throwing (error_ball (fault_term (reads t.view e.store) f) p) gs) t.output) g
 result_goals t e n m p (Throw w) g = ap (λ gs. state_of t.view e (throwing (reads t.view e.store w) gs) t.output) g
+result_goals t e n m p (Erase place list) g = refl
 result_goals t e n m p (Halt k) g = refl
 
 -- Unification after nothing was taken.

@@ -7,14 +7,14 @@ use Rattle.std.proofs.lemmas.List.Elements.{All-nil, All-cons, All-head, All-tai
 use Rattle.std.proofs.lemmas.Bool.Decides.{leb_tells}
 use Rattle.pl_term.specs.Tree.{Tree}
 use Rattle.pl_model.specs.History.{Proc}
-use Rattle.pl_model.specs.Resolution.{Pending, goal, collect, Node, State, clauses, catch, findall, resolving, throwing}
+use Rattle.pl_model.specs.Resolution.{Pending, goal, collect, Node, State, clauses, catch, findall, throwing}
 use Rattle.pl_model.specs.Balls.{error_ball}
 use Rattle.pl_model.specs.Control.{checked}
 use Rattle.term_store.specs.declared.words.Place.{Place}
 use Rattle.term_store.specs.Contents.{Contents, Holds, IsAbove}
 use Rattle.iso_search.specs.declared.calls.Checked.TheVariants.{Refused}
 use Rattle.iso_search.specs.declared.choices.Alternative.{Alternative}
-use Rattle.iso_search.specs.declared.choices.Alternative.TheVariants.{Clauses, Answers, Branch, Barrier, Catch, Findall}
+use Rattle.iso_search.specs.declared.choices.Alternative.TheVariants.{Clauses, Answers, Told, Branch, Barrier, Catch, Findall}
 use Rattle.iso_search.specs.declared.frames.Task.{Task}
 use Rattle.iso_search.specs.declared.frames.Task.TheVariants.{Goal, Commit, Refute, Leave, Collect}
 use Rattle.iso_search.specs.declared.frames.Frame.{Frame}
@@ -22,7 +22,7 @@ use Rattle.iso_search.specs.declared.outcome.Fault.{Fault}
 use Rattle.iso_search.specs.declared.outcome.Outcome.TheVariants.{Raise}
 use Rattle.iso_search.specs.declared.search.Search.{Search}
 use Rattle.iso_search.specs.Calling.{goal_or_error}
-use Rattle.iso_search.specs.Choices.{answers_from, choice_at, IsAlternativeIn, IsTaskIn}
+use Rattle.iso_search.specs.Choices.{answers_from, choice_at, listed_goal, purpose_of, IsAlternativeIn, IsTaskIn}
 use Rattle.iso_search.specs.declared.copies.Copied.{Copied}
 use Rattle.iso_search.specs.Collecting.{copies_of}
 use Rattle.iso_search.specs.Conversions.{Grows, Stays}
@@ -31,6 +31,7 @@ use Rattle.iso_search.specs.Outcomes.{Setting, fault_term, result_in, state_in}
 use Rattle.iso_search.specs.Reading.{View, reads, pending}
 use Rattle.iso_search.specs.Searching.{IsWhole, node_of, choices_of}
 use Rattle.iso_search.specs.Spelling.{spelled, text_of}
+use Rattle.iso_search.specs.Told.{told_from}
 use Rattle.iso_search.proofs.Instances.{choices_kept}
 use Rattle.iso_search.proofs.Listing.{map-agree}
 use Rattle.iso_search.proofs.Over.{state_by}
@@ -106,7 +107,8 @@ module _ (e : Search) (s : Contents) (g : Stays e.store s) (w : IsWhole e) where
       refl (choices_grown t.view) refl refl
 
 pub alternative_grown : (s t : Contents) → Grows s t → (a : Alternative) → IsAlternativeIn s a → IsAlternativeIn t a
-alternative_grown s t g (Clauses w k p) i = g.stays.adds.places w i
+alternative_grown s t g (Clauses p w k j) i = g.stays.adds.places w i
+alternative_grown s t g (Told w ls line) i = g.stays.adds.places w i
 alternative_grown s t g (Answers w line) i = g.stays.adds.places w i
 alternative_grown s t g Branch i = tt
 alternative_grown s t g Barrier i = tt
@@ -123,7 +125,9 @@ alternative_grown s t g (Findall w f) i = (
 
 pub choice_grown : (v : View) (s t : Contents) → Stays s t → (n : Node) (a : Alternative) → IsAlternativeIn s a
     → choice_at v (reads v t) n a ≡ choice_at v (reads v s) n a
-choice_grown v s t g n (Clauses w k p) i = ap (λ x. clauses resolving x (v.left x k p) n) (read_kept v s t g w i)
+choice_grown v s t g n (Clauses p w k j) i =
+    ap (λ x. clauses (purpose_of p) x (v.left (listed_goal (purpose_of p) x) k j) n) (read_kept v s t g w i)
+choice_grown v s t g n (Told w ls line) i = ap (λ x. told_from v.names x ls.items line n) (read_kept v s t g w i)
 choice_grown v s t g n (Answers w line) i = ap (λ x. answers_from x line n) (read_kept v s t g w i)
 choice_grown v s t g n Branch i = refl
 choice_grown v s t g n Barrier i = refl

@@ -13,7 +13,7 @@ use Rattle.pl_model.specs.Control.{with_copy}
 use Rattle.term_store.specs.declared.words.Place.{Place}
 use Rattle.term_store.specs.Contents.{Contents, Holds, IsAbove, back_to}
 use Rattle.iso_search.specs.declared.choices.Alternative.{Alternative}
-use Rattle.iso_search.specs.declared.choices.Alternative.TheVariants.{Clauses, Answers, Branch, Barrier, Catch, Findall}
+use Rattle.iso_search.specs.declared.choices.Alternative.TheVariants.{Clauses, Answers, Told, Branch, Barrier, Catch, Findall}
 use Rattle.iso_search.specs.declared.choices.ChoicePoint.{ChoicePoint}
 use Rattle.iso_search.specs.declared.copies.Collection.{Collection}
 use Rattle.iso_search.specs.declared.copies.Copied.{Copied}
@@ -95,12 +95,14 @@ alternative_joined s c (Findall p f) (Findall q g) h above i = (
     above = subst (All (λ (x : Copied). IsAbove x.from s)) (sym h.1.0) (All-push (λ (x : Copied). IsAbove x.from s) f.copies.items c i.1.above above);
   },
 )
-alternative_joined s c (Findall p f) (Clauses w g q) h above i = absurd h
+alternative_joined s c (Findall p f) (Clauses u w g q) h above i = absurd h
+alternative_joined s c (Findall p f) (Told w ls line) h above i = absurd h
 alternative_joined s c (Findall p f) (Answers w line) h above i = absurd h
 alternative_joined s c (Findall p f) Branch h above i = absurd h
 alternative_joined s c (Findall p f) Barrier h above i = absurd h
 alternative_joined s c (Findall p f) (Catch k w) h above i = absurd h
-alternative_joined s c (Clauses w g q) b h above i = absurd h
+alternative_joined s c (Clauses u w g q) b h above i = absurd h
+alternative_joined s c (Told w ls line) b h above i = absurd h
 alternative_joined s c (Answers w line) b h above i = absurd h
 alternative_joined s c Branch b h above i = absurd h
 alternative_joined s c Barrier b h above i = absurd h
@@ -128,12 +130,14 @@ rests_joined ws s fs c was is older (k ∷ newer) put above r = (
 older_joined_one : (c : Copied) (n m : ℕ) (a b : Alternative) → c.from ≡ n → n + length (variables c.term) ≤ m → IsPutAfter c a b → IsOlder n a → IsOlder m b
 older_joined_one c n m (Findall p f) (Findall q g) from le h o =
     subst (λ cs. Rise zero cs m) (sym h.1.0) (rise_push zero f.copies.items c n m from le o)
-older_joined_one c n m (Findall p f) (Clauses w g q) from le h o = absurd h
+older_joined_one c n m (Findall p f) (Clauses u w g q) from le h o = absurd h
+older_joined_one c n m (Findall p f) (Told w ls line) from le h o = absurd h
 older_joined_one c n m (Findall p f) (Answers w line) from le h o = absurd h
 older_joined_one c n m (Findall p f) Branch from le h o = absurd h
 older_joined_one c n m (Findall p f) Barrier from le h o = absurd h
 older_joined_one c n m (Findall p f) (Catch k w) from le h o = absurd h
-older_joined_one c n m (Clauses w g q) b from le h o = absurd h
+older_joined_one c n m (Clauses u w g q) b from le h o = absurd h
+older_joined_one c n m (Told w ls line) b from le h o = absurd h
 older_joined_one c n m (Answers w line) b from le h o = absurd h
 older_joined_one c n m Branch b from le h o = absurd h
 older_joined_one c n m Barrier b from le h o = absurd h
@@ -183,7 +187,8 @@ held_within v ws s fs (k ∷ ks) r =
     (λ x le. omega (arith, le, here)) ks (held_within v ws old (take k.frames fs) ks r.1))
 
 no_findall : (a : Alternative) → ((p : Place) (f : Collection) → a ≡ Findall p f → ⊥) → IsNoFindall a
-no_findall (Clauses w g p) h = tt
+no_findall (Clauses p w g k) h = tt
+no_findall (Told w ls line) h = tt
 no_findall (Answers w line) h = tt
 no_findall Branch h = tt
 no_findall Barrier h = tt

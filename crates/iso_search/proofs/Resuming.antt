@@ -1,16 +1,19 @@
 -- Going back to the newest choice point, by the definition.
-use Rattle.std.proofs.Common.{◌≡◌, ℕ, [], ◌∷◌, drop, refl, sym, ap, ap₂, ◌∙◌}
-use Rattle.pl_model.specs.Resolution.{running, failing, ended, no_more, resolving}
+use Rattle.std.proofs.Common.{◌≡◌, ℕ, List, [], ◌∷◌, drop, Vec, refl, sym, ap, ap₂, ◌∙◌}
+use Rattle.std.specs.declared.alloc.Global.{Global}
+use Rattle.pl_model.specs.Resolution.{running, failing, ended, no_more}
 use Rattle.pl_model.specs.BuiltinRows.{unifying}
 use Rattle.pl_model.specs.Control.{gone_back, list_made, next_answer, next_clause}
 use Rattle.pl_model.specs.Predicates.{proc_of}
 use Rattle.pl_model.specs.Terms.{arguments}
 use Rattle.term_store.specs.declared.words.Place.{Place}
 use Rattle.iso_search.specs.declared.choices.Alternative.{Alternative}
-use Rattle.iso_search.specs.declared.choices.Alternative.TheVariants.{Clauses, Answers, Branch, Barrier, Catch, Findall}
-use Rattle.iso_search.specs.declared.failure.Back.TheVariants.{Exhausted, Run, Fail, Retry, Answers as Tried, Found}
+use Rattle.iso_search.specs.declared.choices.Alternative.TheVariants.{Clauses, Answers, Told, Branch, Barrier, Catch, Findall}
+use Rattle.iso_search.specs.declared.failure.Back.TheVariants.{Exhausted, Run, Fail, Retry, Answers as Tried, Told as ToldBack, Found}
+use Rattle.iso_search.specs.declared.choices.Purpose.{Purpose}
 use Rattle.iso_search.specs.declared.search.Search.{Search}
-use Rattle.iso_search.specs.Choices.{choice_at}
+use Rattle.iso_search.specs.declared.told.Line.{Line}
+use Rattle.iso_search.specs.Choices.{choice_at, listed_goal, purpose_of}
 use Rattle.iso_search.specs.declared.copies.Collection.{Collection}
 use Rattle.iso_search.specs.Collecting.{copies_of}
 use Rattle.iso_search.specs.Failures.{back_result}
@@ -18,6 +21,7 @@ use Rattle.iso_search.specs.Lines.{lines_of}
 use Rattle.iso_search.specs.Outcomes.{Setting, limits_in, state_in}
 use Rattle.iso_search.specs.Reading.{reads}
 use Rattle.iso_search.specs.Searching.{node_of, choices_of}
+use Rattle.iso_search.specs.Told.{told_answers}
 use Rattle.iso_search.proofs.Over.{state_by, same_limits}
 
 pub back_exhausted : (t : Setting) (e d : Search) → choices_of t.view e ≡ [] → choices_of t.view d ≡ [] → d.next_variable ≡ e.next_variable → d.inferences ≡ e.inferences
@@ -53,14 +57,16 @@ module _ (t : Setting) (e d : Search) (list : ℕ) (a : Alternative)
       state_by failing t.doing (choices_of t.view d) (choices_of t.view d) d.next_variable e.next_variable d.inferences e.inferences t.output (sym fails) refl next inferences
       ∙ sym (ap (gone_back (limits_in t e) (state_in t e)) (newest (Catch c r) is))
 
-  pub back_clauses : d.budgets ≡ e.budgets → (g : Place) (generation place : ℕ) → a ≡ Clauses g generation place
-      → back_result t d (Retry g generation place list) ≡ gone_back (limits_in t e) (state_in t e) (choices_of t.view e)
+  pub back_clauses : d.budgets ≡ e.budgets → (p : Purpose) (g : Place) (generation place : ℕ) → a ≡ Clauses p g generation place
+      → back_result t d (Retry p g generation place list) ≡ gone_back (limits_in t e) (state_in t e) (choices_of t.view e)
   unfolding gone_back
-  back_clauses budgets g generation place is =
-      ap₂ (λ l s. next_clause l resolving s (reads t.view d.store g) (node_of t.view d list) (t.view.left (reads t.view d.store g) generation place))
+  back_clauses budgets p g generation place is =
+      ap₂
+      (λ l s. next_clause l (purpose_of p) s (reads t.view d.store g) (node_of t.view d list)
+      (t.view.left (listed_goal (purpose_of p) (reads t.view d.store g)) generation place))
       (same_limits t d e budgets)
       (state_by t.doing t.doing (choices_of t.view d) (choices_of t.view d) d.next_variable e.next_variable d.inferences e.inferences t.output refl refl next inferences)
-      ∙ sym (ap (gone_back (limits_in t e) (state_in t e)) (newest (Clauses g generation place) is))
+      ∙ sym (ap (gone_back (limits_in t e) (state_in t e)) (newest (Clauses p g generation place) is))
 
   pub back_answers : d.budgets ≡ e.budgets → (g : Place) (line : ℕ) → a ≡ Answers g line
       → back_result t d (Tried g line list) ≡ gone_back (limits_in t e) (state_in t e) (choices_of t.view e)
@@ -71,6 +77,16 @@ module _ (t : Setting) (e d : Search) (list : ℕ) (a : Alternative)
       (same_limits t d e budgets)
       (state_by t.doing t.doing (choices_of t.view d) (choices_of t.view d) d.next_variable e.next_variable d.inferences e.inferences t.output refl refl next inferences)
       ∙ sym (ap (gone_back (limits_in t e) (state_in t e)) (newest (Answers g line) is))
+
+  pub back_told : d.budgets ≡ e.budgets → (g : Place) (ls : Vec Line Global) (line : ℕ) → a ≡ Told g ls line
+      → back_result t d (ToldBack g ls line list) ≡ gone_back (limits_in t e) (state_in t e) (choices_of t.view e)
+  unfolding gone_back
+  back_told budgets g ls line is =
+      let r = reads t.view d.store g in
+      ap₂ (λ l s. next_answer l s (node_of t.view d list) (proc_of r) (arguments r) (told_answers t.view.names r ls.items line))
+      (same_limits t d e budgets)
+      (state_by t.doing t.doing (choices_of t.view d) (choices_of t.view d) d.next_variable e.next_variable d.inferences e.inferences t.output refl refl next inferences)
+      ∙ sym (ap (gone_back (limits_in t e) (state_in t e)) (newest (Told g ls line) is))
 
   pub back_findall : d.budgets ≡ e.budgets → (l : Place) (f : Collection) → a ≡ Findall l f
       → back_result t d (Found l f list) ≡ gone_back (limits_in t e) (state_in t e) (choices_of t.view e)

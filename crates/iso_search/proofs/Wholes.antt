@@ -21,7 +21,7 @@ use Rattle.iso_search.proofs.Resting.{older_choices, older_rests}
 
 -- Some view: what holds under every view holds under this one.
 pub some_view : View
-some_view = record { names = λ a. None; left = λ t g p. [] }
+some_view = record { names = λ a. None; all = λ t g. []; left = λ t g p. [] }
 
 -- The store has gained terms, variables, bindings or cells.
 pub whole_added : (e : Search) (s : Contents) (next : ℕ) → Adds e.store s → s.budget ≡ e.store.budget → e.next_variable ≤ next → IsAbove next s → IsWhole e

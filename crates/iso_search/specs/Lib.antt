@@ -20,3 +20,4 @@ pub mod Searching
 pub mod Spelling
 pub mod Throwing
 pub mod Thrown
+pub mod Told

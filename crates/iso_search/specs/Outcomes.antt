@@ -4,7 +4,7 @@ use Rattle.pl_term.specs.Tree.{Chars, Tree}
 use Rattle.pl_model.specs.History.{Proc}
 use Rattle.pl_model.specs.Balls.{error_ball, instantiation_error, type_error, not_callable, no_inferences, no_cells, no_choices}
 use Rattle.pl_model.specs.ErrorTerms.{domain_error}
-use Rattle.pl_model.specs.Resolution.{Limits, Pending, commit, refute, leave, collect, Node, Doing, running, failing, throwing, ended, halted, Output, State}
+use Rattle.pl_model.specs.Resolution.{Limits, Pending, commit, refute, leave, collect, Node, Doing, running, failing, throwing, erasing, ended, halted, Output, State}
 use Rattle.term_store.specs.declared.words.Place.{Place}
 use Rattle.term_store.specs.Contents.{Contents, Holds}
 use Rattle.iso_search.specs.declared.choices.Alternative.{Alternative}
@@ -13,7 +13,7 @@ use Rattle.iso_search.specs.declared.control.Exit.TheVariants.{Commit, Refute, L
 use Rattle.iso_search.specs.declared.outcome.Fault.{Fault}
 use Rattle.iso_search.specs.declared.outcome.Fault.TheVariants.{Inferences, Cells, Choices, Instantiation, NotCallable, NotInteger, NotList, NotStatus}
 use Rattle.iso_search.specs.declared.outcome.Outcome.{Outcome}
-use Rattle.iso_search.specs.declared.outcome.Outcome.TheVariants.{Run, Fail, Raise, Throw, Halt}
+use Rattle.iso_search.specs.declared.outcome.Outcome.TheVariants.{Run, Fail, Raise, Throw, Erase, Halt}
 use Rattle.iso_search.specs.declared.search.Search.{Search}
 use Rattle.iso_search.specs.Errors.{IsFaultIn}
 use Rattle.iso_search.specs.Reading.{View, reads}
@@ -58,6 +58,7 @@ doing_by t e n p (Run list) = running (node_of t.view e list)
 doing_by t e n p Fail = failing
 doing_by t e n p (Raise f) = throwing (error_ball (fault_term (reads t.view e.store) f) p) n.goals
 doing_by t e n p (Throw w) = throwing (reads t.view e.store w) n.goals
+doing_by t e n p (Erase place list) = erasing place (node_of t.view e list)
 doing_by t e n p (Halt k) = ended (halted k)
 
 abbrev pub result_in : Setting → Search → Node → Proc → Outcome → State
@@ -99,6 +100,7 @@ IsOutcomeIn e d (Run list) = Unit {0}
 IsOutcomeIn e d Fail = Unit {0}
 IsOutcomeIn e d (Raise f) = IsFaultIn d.store f × KeepsTasks e d
 IsOutcomeIn e d (Throw w) = Holds d.store w × KeepsTasks e d
+IsOutcomeIn e d (Erase place list) = Unit {0}
 IsOutcomeIn e d (Halt k) = Unit {0}
 
 -- The budgets stay, and a ball can be made.

@@ -11,10 +11,11 @@ use Rattle.iso_search.specs.declared.frames.Task.{Task}
 use Rattle.iso_search.specs.declared.frames.Task.TheVariants.{Goal, Commit, Refute, Leave, Collect}
 use Rattle.iso_search.specs.Spelling.{spelled, text_of, TellsApart}
 
--- What an engine's numbers are read by: the texts of its atoms, and the clauses for a goal that were there at a
--- generation and stand after a place.
+-- What an engine's numbers are read by: the texts of its atoms, the clauses for a goal that were there at a generation, and
+-- those of them that stand after a place.
 pub record View : Type 0 where
   pub names : Names
+  pub all : Tree → ℕ → List (Stored Clause)
   pub left : Tree → ℕ → ℕ → List (Stored Clause)
 
 -- The fixed atoms have their texts, and atoms have different ones.

@@ -3,13 +3,27 @@ ghost use Rattle.std.specs.Prelude.{◌≡◌};
 ghost use Rattle.iso_search.specs.Collecting.{cells_held};
 
 use crate::copies::Collection;
+use crate::told::Line;
 use term_store::{Place, StoreMark};
+
+/// What clauses are tried for.
+#[derive(Clone, Copy, Debug, PartialEq, Eq, Drop)]
+pub enum Purpose {
+    /// A goal is resolved with them (ISO 7.7.10).
+    Resolving,
+    /// clause/2 looks at them (ISO 8.8.1).
+    Inspecting,
+    /// retract/1 erases those that unify (ISO 8.9.3).
+    Retracting,
+}
 
 /// What was not tried.
 #[derive(Drop)]
 pub enum Alternative {
-    /// The clauses for the goal that were not tried: those of a generation after the place of the last one.
+    /// The clauses for the goal, or for the rule of clause/2 or retract/1, that were not tried: those of a generation after the
+    /// place of the last one.
     Clauses {
+        purpose: Purpose,
         goal: Place,
         generation: u64,
         place: u64,
@@ -18,6 +32,13 @@ pub enum Alternative {
     /// arguments, of which there is one at least.
     Answers {
         goal: Place,
+        line: usize,
+    },
+    /// The lines of a table that the shared state told for the goal, from one on: those that unify with its arguments, of which
+    /// there is one at least.
+    Told {
+        goal: Place,
+        lines: Vec<Line>,
         line: usize,
     },
     /// A branch of `;`, of `->` or of `\+`.

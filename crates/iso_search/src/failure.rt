@@ -6,9 +6,10 @@ ghost use Rattle.iso_search.specs.Failures.{IsBackIn, IsTaken, back_result};
 ghost use Rattle.iso_search.specs.Outcomes.{Setting, limits_in, state_in};
 ghost use Rattle.iso_search.specs.Searching.{IsWhole, choices_of};
 
-use crate::choices::{Alternative, ChoicePoint};
+use crate::choices::{Alternative, ChoicePoint, Purpose};
 use crate::copies::Collection;
 use crate::search::Search;
+use crate::told::Line;
 use term_store::Place;
 
 /// What is left to do after a failure.
@@ -22,6 +23,7 @@ pub enum Back {
     Fail,
     /// The clauses for the goal after the place are to be tried, those of the generation, before the tasks of the list.
     Retry {
+        purpose: Purpose,
         goal: Place,
         generation: u64,
         place: u64,
@@ -31,6 +33,13 @@ pub enum Back {
     /// tasks of the list.
     Answers {
         goal: Place,
+        line: usize,
+        next: usize,
+    },
+    /// The lines that were told for the goal are to be tried, from one on, before the tasks of the list.
+    Told {
+        goal: Place,
+        lines: Vec<Line>,
         line: usize,
         next: usize,
     },
@@ -68,16 +77,24 @@ impl Search {
         } = k;
         match alternative {
             Alternative::Clauses {
+                purpose,
                 goal,
                 generation,
                 place,
             } => Back::Retry {
+                purpose,
                 goal,
                 generation,
                 place,
                 next,
             },
             Alternative::Answers { goal, line } => Back::Answers { goal, line, next },
+            Alternative::Told { goal, lines, line } => Back::Told {
+                goal,
+                lines,
+                line,
+                next,
+            },
             Alternative::Branch => Back::Run(next),
             Alternative::Barrier => Back::Fail,
             Alternative::Catch { .. } => Back::Fail,

@@ -26,5 +26,6 @@ pub mod search;
 pub mod spelling;
 pub mod throwing;
 pub mod thrown;
+pub mod told;
 pub mod transfers;
 pub mod walk;

@@ -33,6 +33,8 @@ pub enum Outcome {
     Raise(Fault),
     /// The term is thrown.
     Throw(Place),
+    /// The clause that was added at this place is to be erased, before these tasks (ISO 8.9.3).
+    Erase(u64, usize),
     /// The search ends with this exit status.
     Halt(u8),
 }

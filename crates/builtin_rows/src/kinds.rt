@@ -1,9 +1,9 @@
 //! Type tests by the kinds of terms that pass them (ISO 8.3, Cor.2 8.3.9).
 ghost use Rattle.std.specs.Prelude.{◌≡◌};
 ghost use Rattle.term_store.specs.Contents.{Holds, term_at};
-ghost use Rattle.builtin_term.specs.Kinds.{kinds_of, passes};
+ghost use Rattle.builtin_rows.specs.Kinds.{kinds_of, passes};
 
-use builtin_rows::OfOne;
+use crate::predicates::OfOne;
 use term_store::{Place, Store, View};
 
 /// Which kinds of terms pass a test.

@@ -3,7 +3,7 @@ use Rattle.std.specs.Prelude.{Bool, true, false, Option, Some, None}
 use Rattle.pl_term.specs.Tree.{Tree, var, int, atom, comp}
 use Rattle.builtin_rows.specs.declared.predicates.OfOne.{OfOne}
 use Rattle.builtin_rows.specs.declared.predicates.OfOne.TheVariants as one
-use Rattle.builtin_term.specs.declared.kinds.Kinds.{Kinds}
+use Rattle.builtin_rows.specs.declared.kinds.Kinds.{Kinds}
 
 abbrev pub kinds : Bool → Bool → Bool → Bool → Kinds
 kinds v i a c = record { variable = v; integer = i; atom = a; compound = c }
