@@ -11,10 +11,10 @@ use Rattle.world_api.specs.Answers.{seen_as}
 use Rattle.iso_search.specs.Reading.{View}
 use Rattle.iso_engine.proofs.LaterLists.{list_later}
 use Rattle.iso_engine.specs.Views.{IsLater, view_of}
-use Rattle.iso_engine.specs.Ready.{IsAlike, MayGoOn}
+use Rattle.iso_engine.specs.Ready.{IsAlike, MayBegin, MayGoOn}
 
 pub alike_itself : (m : Names) (t : Told) → IsAlike m t (view_of m t)
-alike_itself m t = record { holds = λ a x h. h; left = λ goal g place may. refl }
+alike_itself m t = record { holds = λ a x h. h; all = λ goal g may. refl; left = λ goal g place may. refl }
 
 -- The engine's visits are still its visits.
 abbrev pub KeepsVisits : Told → Told → Type 0
@@ -31,7 +31,7 @@ module _ (m n : Names) (t u : Told) (later : IsLater m t n u) where
       let same = ap (λ (h : History). length h) later.grown ∙ length-append t.history later.later in omega (arith, same)
 
   pub alike_view : IsAlike m t (view_of n u)
-  alike_view = record { holds = later.holds; left = λ goal g place may. ap (behind place) (list_same goal g may.listed.within) }
+  alike_view = record { holds = later.holds; all = λ goal g may. list_same goal g may.within; left = λ goal g place may. ap (behind place) (list_same goal g may.listed.within) }
 
   module _ (visits : KeepsVisits t u) where
     pub may_later : (goal : Tree) (g place : ℕ) → MayGoOn t goal g place → MayGoOn u goal g place
@@ -46,10 +46,15 @@ module _ (m n : Names) (t u : Told) (later : IsLater m t n u) where
               };
         }
 
+    begin_later : (goal : Tree) (g : ℕ) → MayBegin t goal g → MayBegin u goal g
+    begin_later goal g may =
+        record { own = visits g may.own; within = (let a = may.within in let b = longer in omega (arith, a, b)) }
+
     pub alike_later : (v : View) → IsAlike n u v → IsAlike m t v
     alike_later v alike =
         record {
           holds = λ a x h. alike.holds a x (later.holds a x h);
+          all = λ goal g may. alike.all goal g (begin_later goal g may) ∙ list_same goal g may.within;
           left = λ goal g place may.
               alike.left goal g place (may_later goal g place may) ∙ ap (behind place) (list_same goal g may.listed.within);
         }

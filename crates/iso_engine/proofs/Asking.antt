@@ -135,7 +135,7 @@ reply_for t before n g r reply update served says answer = go answer.reply_is
 
 -- The visit was served.
 pub record IsCallServed (t : Told) (before : History) (u : Told) (n : Names) (g : Tree) (r : Reply Tree) (gen : ℕ) : Type 0 where
-  pub asked : IsAsked t before u
+  pub asked : IsAsked t before None u
   pub generation : gen ≡ length before
   pub reply : IsReply t before n g r
 

@@ -14,7 +14,7 @@ use Rattle.term_store.specs.declared.words.Place.{Place}
 use Rattle.term_store.specs.Contents.{Contents, term_at, upwards}
 use Rattle.world_api.specs.declared.visit.Procedure.{Procedure}
 use Rattle.iso_search.specs.declared.outcome.Outcome.{Outcome}
-use Rattle.iso_search.specs.declared.outcome.Outcome.TheVariants.{Run, Fail, Raise, Throw, Halt}
+use Rattle.iso_search.specs.declared.outcome.Outcome.TheVariants.{Run, Fail, Raise, Throw, Erase, Halt}
 use Rattle.iso_search.specs.declared.search.Budgets.{Budgets}
 use Rattle.iso_search.specs.declared.search.Search.{Search}
 use Rattle.iso_search.specs.Choices.{choices_at}
@@ -40,6 +40,7 @@ doing_bare t f n m p (Run list) e = refl
 doing_bare t f n m p Fail e = refl
 doing_bare t f n m p (Raise x) e = ap (λ gs. Rattle.pl_model.specs.Resolution.throwing (Rattle.pl_model.specs.Balls.error_ball (fault_term (reads t.view f.store) x) p) gs) e
 doing_bare t f n m p (Throw w) e = ap (Rattle.pl_model.specs.Resolution.throwing (reads t.view f.store w)) e
+doing_bare t f n m p (Erase place list) e = refl
 doing_bare t f n m p (Halt k) e = refl
 
 no_goals : (v : View) (e f : Search) → (node_of v f 0).goals ≡ (node_of v e 0).goals

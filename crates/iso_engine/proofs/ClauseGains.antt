@@ -16,7 +16,9 @@ use Rattle.world_api.specs.Gains.{Gains}
 use Rattle.world_api.specs.Texts.{text_of}
 use Rattle.world_api.specs.Told.{Told, behind, clause_list}
 use Rattle.world_api.proofs.Gaining.{gains_nothing, gains_weaker}
+use Rattle.iso_search.specs.declared.choices.Purpose.{Purpose}
 use Rattle.iso_search.specs.declared.search.Search.{Search}
+use Rattle.iso_search.specs.Choices.{listed_goal, purpose_of}
 use Rattle.iso_search.specs.Reading.{reads}
 use Rattle.iso_engine.specs.ClausesAsked.{IsCallAsked, IsRetryAsked}
 use Rattle.iso_engine.specs.CalledGoals.{HasPredicate}
@@ -52,10 +54,13 @@ module _ (m : Names) (t : Told) (e : Search) (goal : Place) (p : Procedure) (k :
             (a.stands (call_clauses goal_now) (call_asked m (term_at e.store goal) p k fixed is key));
       })
 
-  pub retry_gains : (g place : ℕ) → IsOpen t (reads (view_of m t) e.store goal) g place → Gains (IsInAnswer term_by clause_key (text_of m) (Next p k g place) t) old new
-      → Gains (IsRetryAsked m t e goal g place) old new
-  retry_gains g place opens =
-      gains_weaker (IsInAnswer term_by clause_key (text_of m) (Next p k g place) t) (IsRetryAsked m t e goal g place) old new
+  -- The goal is the one for which the clauses are listed.
+  pub retry_gains : (q : Purpose) (tried_at : Place) → reads (view_of m t) e.store goal ≡ listed_goal (purpose_of q) (reads (view_of m t) e.store tried_at)
+      → (g place : ℕ) → IsOpen t (listed_goal (purpose_of q) (reads (view_of m t) e.store tried_at)) g place
+      → Gains (IsInAnswer term_by clause_key (text_of m) (Next p k g place) t) old new
+      → Gains (IsRetryAsked m t e q tried_at g place) old new
+  retry_gains q tried_at lists g place opens =
+      gains_weaker (IsInAnswer term_by clause_key (text_of m) (Next p k g place) t) (IsRetryAsked m t e q tried_at g place) old new
       (λ c a.
       let there : Contains (front_texts (behind place (clause_list t.goals a.before g goal_now))) c =
       a.stands goal_now (goal_asked m (term_at e.store goal) p k fixed is key)
@@ -63,4 +68,4 @@ module _ (m : Names) (t : Told) (e : Search) (goal : Place) (p : Procedure) (k :
       subst (λ l. Contains (front_texts (behind place l)) c)
       (ap (λ h. clause_list t.goals h g goal_now) a.follows.grown ∙ list_later t.goals t.history a.follows.later g goal_now opens.within)
       there
-      in subst (λ (x : Tree). Contains (front_texts (behind place (clause_list t.goals t.history g x))) c) same_now here)
+      in subst (λ (x : Tree). Contains (front_texts (behind place (clause_list t.goals t.history g x))) c) (same_now ∙ lists) here)

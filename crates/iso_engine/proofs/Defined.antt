@@ -1,5 +1,5 @@
 -- The rows that the definitions have for the predicates.
-use Rattle.std.proofs.Common.{◌≡◌, ◌+◌, ◌*◌, [], ◌∷◌, map, length, ℕ, zero, suc, ℤ, refl, Bool, List, Option, Some, None, Result, Ok, Err}
+use Rattle.std.proofs.Common.{◌+◌, ◌*◌, [], ◌∷◌, map, length, ℕ, zero, suc, ℤ, refl, Bool, List, Option, Some, None, Result, Ok, Err}
 use Rattle.std.specs.Prelude.{is_some, not, true, false, if◌then◌else◌, IfSome}
 use Rattle.pl_term.specs.Tree.{Chars, Tree, var, int, atom, comp}
 use Rattle.pl_model.specs.Builtins.{row}

@@ -10,7 +10,7 @@ use Rattle.world_api.specs.Told.{Told}
 use Rattle.iso_search.specs.Reading.{IsView, View}
 use Rattle.iso_search.specs.Searching.{IsWhole, choices_of}
 use Rattle.iso_search.specs.declared.failure.Back.{Back}
-use Rattle.iso_search.specs.declared.failure.Back.TheVariants.{Answers as AnswersBack, Exhausted, Fail, Found as FoundBack, Retry as RetryBack, Run}
+use Rattle.iso_search.specs.declared.failure.Back.TheVariants.{Answers as AnswersBack, Exhausted, Fail, Found as FoundBack, Retry as RetryBack, Run, Told as ToldBack}
 use Rattle.iso_search.specs.declared.search.Search.{Search}
 use Rattle.iso_search.specs.Failures.{IsTaken, back_result}
 use Rattle.iso_search.specs.Outcomes.{Setting, limits_in, state_in}
@@ -49,7 +49,8 @@ found_steps wanted given e x f now d b same fails stands =
 
 -- It has a choice point that can be put back.
 abbrev pub CanBePutBack : Back → Type 0
-CanBePutBack (RetryBack goal g place next) = Unit {0}
+CanBePutBack (RetryBack q goal g place next) = Unit {0}
+CanBePutBack (ToldBack goal lines line next) = Unit {0}
 CanBePutBack (AnswersBack goal line next) = Unit {0}
 CanBePutBack _ = ⊥
 
@@ -57,8 +58,9 @@ choices_again : (e x f : Search) (b : Back) → CanBePutBack b → IsTaken e x b
 choices_again e x f Exhausted can taken again v = absurd can
 choices_again e x f (Run list) can taken again v = absurd can
 choices_again e x f Fail can taken again v = absurd can
-choices_again e x f (RetryBack goal g place next) can taken again v = again v ∙ sym (taken v)
+choices_again e x f (RetryBack q goal g place next) can taken again v = again v ∙ sym (taken v)
 choices_again e x f (AnswersBack goal line next) can taken again v = again v ∙ sym (taken v)
+choices_again e x f (ToldBack goal lines line next) can taken again v = again v ∙ sym (taken v)
 choices_again e x f (FoundBack list found next) can taken again v = absurd can
 
 -- The newest choice point was one of clauses, or of lines of a table, which was taken off the engine's search.

@@ -8,7 +8,7 @@ use Rattle.pl_model.specs.Control.{Construct, construct, do_first, failed, step,
 use Rattle.term_store.specs.declared.words.Place.{Place}
 use Rattle.iso_search.specs.declared.frames.Task.TheVariants.{Goal, Commit, Refute, Leave}
 use Rattle.iso_search.specs.declared.outcome.Outcome.{Outcome}
-use Rattle.iso_search.specs.declared.outcome.Outcome.TheVariants.{Run, Fail, Raise, Throw, Halt}
+use Rattle.iso_search.specs.declared.outcome.Outcome.TheVariants.{Run, Fail, Raise, Throw, Erase, Halt}
 use Rattle.iso_search.specs.declared.search.Search.{Search}
 use Rattle.iso_search.specs.Frames.{tasks}
 use Rattle.iso_search.specs.Outcomes.{IsOutcomeIn, Setting, doing_by, limits_in, result_in, state_in}
@@ -28,6 +28,7 @@ placed e f (Run list) h = tt
 placed e f Fail h = tt
 placed e f (Raise x) h = h.0
 placed e f (Throw w) h = h.0
+placed e f (Erase place list) h = tt
 placed e f (Halt k) h = tt
 
 pub doing_same : (t : Setting) (e f : Search) (p q : Proc) (rest : ℕ) (o : Outcome) → rest ≤ length e.frames.items → IsOutcomeIn e f o → p ≡ q
@@ -36,6 +37,7 @@ doing_same t e f p q rest (Run list) le h same = refl
 doing_same t e f p q rest Fail le h same = refl
 doing_same t e f p q rest (Raise x) le h same = ap₂ (λ r gs. throwing (Rattle.pl_model.specs.Balls.error_ball (Rattle.iso_search.specs.Outcomes.fault_term (reads t.view f.store) x) r) gs) same (h.1 t.view rest le)
 doing_same t e f p q rest (Throw w) le h same = ap (throwing (reads t.view f.store w)) (h.1 t.view rest le)
+doing_same t e f p q rest (Erase place list) le h same = refl
 doing_same t e f p q rest (Halt k) le h same = refl
 
 -- A goal was taken up.

@@ -5,11 +5,10 @@ use Rattle.std.proofs.lemmas.List.Elements.{All-tail}
 use Rattle.pl_term.specs.Tree.{Tree}
 use Rattle.pl_model.specs.History.{Clause, History}
 use Rattle.pl_model.specs.Database.{Stored}
-use Rattle.pl_model.specs.Predicates.{proc_of}
 use Rattle.pl_model.specs.Requests.{call_clauses, listed, refused}
 use Rattle.pl_model.specs.Service.{answers, served_now}
 use Rattle.pl_model.specs.Resolution.{State, resolving}
-use Rattle.pl_model.specs.Control.{first_clause, next_clause}
+use Rattle.pl_model.specs.Control.{first_clause, next_clause, tried_by}
 use Rattle.atom_api.specs.Names.{Names, FixedStand}
 use Rattle.term_store.specs.declared.argument_key.ArgumentKey.{ArgumentKey}
 use Rattle.term_store.specs.declared.words.Place.{Place}
@@ -24,8 +23,11 @@ use Rattle.world_api.specs.Texts.{Holds, text_of}
 use Rattle.world_api.specs.Told.{Told, Follows, behind, clause_list, has_place}
 use Rattle.world_api.specs.Answers.{IsNext, IsPlace, seen_as}
 use Rattle.world_api.specs.Replies.{IsFront, found_names, reply_names}
+use Rattle.iso_search.specs.declared.choices.Purpose.{Purpose}
+use Rattle.iso_search.specs.declared.choices.Purpose.TheVariants.{Resolving}
 use Rattle.iso_search.specs.declared.outcome.Outcome.{Outcome}
 use Rattle.iso_search.specs.declared.search.Search.{Search}
+use Rattle.iso_search.specs.Choices.{listed_goal, purpose_of}
 use Rattle.iso_search.specs.Outcomes.{IsAfter, Setting, limits_in, result_in, state_in}
 use Rattle.iso_search.specs.Reading.{View, IsView, reads}
 use Rattle.iso_search.specs.Searching.{node_of}
@@ -58,7 +60,7 @@ module _ (m n : Names) (t u : Told) (before : History) (e d : Search) (goal : Pl
         → IsCallServed t before u n (term_by (text_of m) (term_at e.store goal)) r gen
         → IsListReply t before n (term_by (text_of m) (term_at e.store goal)) f
         → All (λ a. IsSome (n a)) (found_names names_of f)
-        → (let x : Search = record e { inferences = e.inferences + 1 } in IsTried x goal rest gen f d o × IsAfter x d o)
+        → (let x : Search = record e { inferences = e.inferences + 1 } in IsTried Resolving x goal rest gen f d o × IsAfter x d o)
         → IsRun m t e goal rest n u d o
     run_is f o r served list named followed =
         let x : Search = record e { inferences = e.inferences + 1 } in
@@ -113,7 +115,7 @@ module _ (m n : Names) (t u : Told) (before : History) (e d : Search) (goal : Pl
     pub called_is : (r : Reply Tree) (c : Called)
         → IsCallServed t before u n (term_by (text_of m) (term_at e.store goal)) r gen
         → All (λ a. IsSome (n a)) (reply_names names_of r)
-        → (let x : Search = record e { inferences = e.inferences + 1 } in IsFollowed x goal rest gen r d c)
+        → (let x : Search = record e { inferences = e.inferences + 1 } in IsFollowed Resolving x goal rest gen r d c)
         → IsCalled m t e goal rest n u d c
     called_is (replies.Clauses f) (calls.Ran o) served named followed = run_is f o (replies.Clauses f) served served.reply named followed
     called_is (replies.Clauses f) calls.Spent served named followed = absurd followed
@@ -153,19 +155,21 @@ module _ (m n : Names) (t u : Told) (before : History) (e d : Search) (goal : Pl
   next_found p k gen place served r is key next =
       next.front (term_by (text_of m) (term_at e.store goal)) (goal_asked m (term_at e.store goal) p k fixed_m is key)
 
-  pub next_run_is : (gen place next : ℕ) (f : Option (Found Tree)) (o : Outcome)
+  -- The next clause of the list for the goal was tried; it is what is tried with clauses for the purpose, or the head of that.
+  pub next_run_is : (q : Purpose) (tried_at : Place) → ((v : View) → IsView v → reads v e.store goal ≡ listed_goal (purpose_of q) (reads v e.store tried_at))
+      → (gen place next : ℕ) (f : Option (Found Tree)) (o : Outcome)
       → Follows t.engine t.history before
       → u ≡ seen_as t before t.gens
       → Contains t.gens gen
       → gen ≤ length t.history
       → IsFront term_by (text_of n) f (behind place (clause_list t.goals before gen (term_by (text_of m) (term_at e.store goal))))
       → All (λ a. IsSome (n a)) (found_names names_of f)
-      → ((s : Setting) (cs : List (Stored Clause)) → IsView s.view → IsListed s.view (reads s.view e.store goal) gen f cs
-      → result_in s d (node_of s.view e next) (proc_of (reads s.view e.store goal)) o
-      ≡ next_clause (limits_in s e) resolving (state_in s e) (reads s.view e.store goal) (node_of s.view e next) cs)
+      → ((s : Setting) (cs : List (Stored Clause)) → IsView s.view → IsListed s.view (listed_goal (purpose_of q) (reads s.view e.store tried_at)) gen f cs
+      → result_in s d (node_of s.view e next) (tried_by (purpose_of q) (reads s.view e.store tried_at)) o
+      ≡ next_clause (limits_in s e) (purpose_of q) (state_in s e) (reads s.view e.store tried_at) (node_of s.view e next) cs)
       → IsAfter e d o
-      → IsNextRun t e goal gen place next n u d o
-  next_run_is gen place next f o follows told own within front named runs after =
+      → IsNextRun t e q tried_at gen place next n u d o
+  next_run_is q tried_at lists gen place next f o follows told own within front named runs after =
       let g : Tree = term_by (text_of m) (term_at e.store goal) in
       let at : u.history ≡ before = ap (λ (w : Told). w.history) told in
       let far : gen ≤ length before = omega (arith, within, ap (length {A = Rattle.pl_model.specs.History.Entry}) follows.grown, length-append t.history follows.later) in
@@ -178,8 +182,9 @@ module _ (m n : Names) (t u : Told) (before : History) (e d : Search) (goal : Pl
         found = f;
         named = named;
         answered = λ v from. (
-          subst (λ y. IsListed v y gen f (v.left y gen place)) (sym (same_goal v from)) (next_listed n u before gen place g f fixed_n at far there named v from),
-          subst (λ y. IsOpenBehind u y gen f) (sym (same_goal v from))
+          subst (λ y. IsListed v y gen f (v.left y gen place)) (sym (same_goal v from) ∙ lists v from.view)
+              (next_listed n u before gen place g f fixed_n at far there named v from),
+          subst (λ y. IsOpenBehind u y gen f) (sym (same_goal v from) ∙ lists v from.view)
               (next_open u before gen place g (text_of n) f at far (subst (λ gs. Contains gs gen) (sym (ap (λ (w : Told). w.gens) told)) own) there),
         );
         runs = runs;

@@ -149,7 +149,7 @@ fails_led l here d p args q s next us n t (full need) h to = absurd h
 abbrev any_setting : Names → Setting
 any_setting names =
     record {
-      view = record { names = names; left = λ g k w. [] };
+      view = record { names = names; all = λ g k. []; left = λ g k w. [] };
       solutions = zero;
       stays = None;
       doing = failing;

@@ -5,7 +5,7 @@ use Rattle.pl_term.specs.Tree.{Chars}
 use Rattle.pl_model.specs.BuiltinRows.{unifying}
 use Rattle.pl_model.specs.Predicates.{proc_of}
 use Rattle.pl_model.specs.Requests.{call_clauses}
-use Rattle.pl_model.specs.Resolution.{Output, clauses, failing, resolving}
+use Rattle.pl_model.specs.Resolution.{Output, clauses, failing}
 use Rattle.pl_model.specs.Terms.{arguments}
 use Rattle.atom_api.specs.Names.{Names}
 use Rattle.term_store.specs.declared.words.Place.{Place}
@@ -14,8 +14,9 @@ use Rattle.world_api.specs.Told.{Told}
 use Rattle.world_api.specs.declared.visit.Procedure.{Procedure}
 use Rattle.world_api.proofs.Gaining.{gains_nothing, gains_then, gains_weaker}
 use Rattle.iso_search.specs.declared.frames.Task.TheVariants.{Goal}
+use Rattle.iso_search.specs.declared.choices.Purpose.{Purpose}
 use Rattle.iso_search.specs.declared.search.Search.{Search}
-use Rattle.iso_search.specs.Choices.{answers_from}
+use Rattle.iso_search.specs.Choices.{answers_from, listed_goal, purpose_of}
 use Rattle.iso_search.specs.Frames.{tasks}
 use Rattle.iso_search.specs.Lines.{lines_of}
 use Rattle.iso_search.specs.Reading.{IsView, View, reads}
@@ -74,18 +75,19 @@ call_asks_for m t e at p list cut rest running_is first le call view old new =
     }))
 
 -- Going back to clauses, whose choice point was taken off the engine's search.
-pub retry_asks_for : (m : Names) (t : Told) (e : Engine) (x : Search) (goal : Place) (g place next : ℕ) → e.doing ≡ Failing
-    → ((v : View) → choices_of v e.search ≡ clauses resolving (reads v x.store goal) (v.left (reads v x.store goal) g place) (node_of v x next) ∷ choices_of v x)
+pub retry_asks_for : (m : Names) (t : Told) (e : Engine) (x : Search) (q : Purpose) (goal : Place) (g place next : ℕ) → e.doing ≡ Failing
+    → ((v : View) → choices_of v e.search
+    ≡ clauses (purpose_of q) (reads v x.store goal) (v.left (listed_goal (purpose_of q) (reads v x.store goal)) g place) (node_of v x next) ∷ choices_of v x)
     → (old new : Option (List Chars))
-    → Gains (IsRetryAsked m t x goal g place) old new
+    → Gains (IsRetryAsked m t x q goal g place) old new
     → Gains (AsksFor m t e) old new
-retry_asks_for m t e x goal g place next fails taken old new =
-    gains_weaker (IsRetryAsked m t x goal g place) (AsksFor m t e) old new
+retry_asks_for m t e x q goal g place next fails taken old new =
+    gains_weaker (IsRetryAsked m t x q goal g place) (AsksFor m t e) old new
     (λ c a. inr (inl (record {
       fails = ap (doing_of (view_of m t) e.search) fails;
-      purpose = resolving;
+      purpose = purpose_of q;
       goal = reads (view_of m t) x.store goal;
-      left = (view_of m t).left (reads (view_of m t) x.store goal) g place;
+      left = (view_of m t).left (listed_goal (purpose_of q) (reads (view_of m t) x.store goal)) g place;
       node = node_of (view_of m t) x next;
       older = choices_of (view_of m t) x;
       newest = taken (view_of m t);

@@ -12,6 +12,7 @@ pub mod Defined
 pub mod Dispatched
 pub mod DispatchedPlaces
 pub mod Equals
+pub mod Erased
 pub mod Errors
 pub mod Failed
 pub mod Followed
@@ -44,6 +45,7 @@ pub mod Paired
 pub mod Places
 pub mod PlacesApart
 pub mod Procedures
+pub mod Purposes
 pub mod Putting
 pub mod Reading
 pub mod Readings
@@ -62,6 +64,7 @@ pub mod TableRows
 pub mod Tables
 pub mod TakenBack
 pub mod Tasking
+pub mod ToldLaws
 pub mod Turns
 pub mod Unbuilt
 pub mod Unified

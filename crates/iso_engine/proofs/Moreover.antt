@@ -1,7 +1,7 @@
 -- What an engine comes to by a step in which its goal writes.
 use Rattle.std.proofs.Common.{◌≡◌, ◌+◌, List, [], ◌++◌, Option, None, refl, sym, ap, subst, ◌∙◌, arith, append-nil}
 use Rattle.pl_term.specs.Tree.{Chars}
-use Rattle.pl_model.specs.History.{History}
+use Rattle.pl_model.specs.History.{History, Kind}
 use Rattle.pl_model.specs.Requests.{Request, Reply}
 use Rattle.pl_model.specs.Service.{answers, served_now}
 use Rattle.pl_model.specs.Resolution.{failing, Output, State, asks, goes, solution_count}
@@ -99,13 +99,13 @@ module _ (m n : Names) (t u : Told) (e f : Engine) (more : List Output) (none : 
       × (step (limits_in r e.search) (state_at r.view e.search e.doing r.output) ≡ asks q next)
       × (next reply ≡ state_at r.view f.search f.doing (r.output ++ more))
 
-  module _ (before : History) (asked : IsAsked t before u) (q : Request) (reply : Reply) (served : served_now t.engine t.goals before q ≡ answers reply None)
+  module _ (before : History) (update : Option Kind) (asked : IsAsked t before update u) (q : Request) (reply : Reply) (served : served_now t.engine t.goals before q ≡ answers reply update)
       (asks_by : AsksBy q reply) where
     later : IsLater m t n u
-    later = asked_later m n t u e f holds view ready before asked
+    later = asked_later m n t u e f holds view ready before update asked
 
     there : IsReady n u e
-    there = asked_ready m n t u e f holds view ready before asked
+    there = asked_ready m n t u e f holds view ready before update asked
 
     answered : IsAnswered m t e n u f more
     answered =
@@ -113,7 +113,7 @@ module _ (m n : Names) (t u : Told) (e f : Engine) (more : List Output) (none : 
           before = before;
           request = q;
           reply = reply;
-          update = None;
+          update = update;
           entries = asked.follows;
           served = served;
           told = asked.told;

@@ -30,7 +30,7 @@ use Rattle.iso_engine.specs.Standing.{doing_of}
 use Rattle.iso_engine.proofs.Calls.{now_listed, refused_asks, refused_now, refused_served, request, run_asks, run_served, spent_steps}
 use Rattle.iso_engine.proofs.Moving.{IsMoved, asked_moved, asked_ready, seen_moved}
 use Rattle.iso_engine.proofs.Stability.{steps_from}
-use Rattle.std.proofs.Common.{[], append-nil}
+use Rattle.std.proofs.Common.{[], None, append-nil}
 
 module _ (m n : Names) (t u : Told) (e f : Engine) (at : Place) (p : Procedure) (list cut rest : ℕ) (running_is : e.doing ≡ Running list)
     (first : tasks e.search.frames.items list ≡ Goal at cut ∷ tasks e.search.frames.items rest) (le : rest ≤ length e.search.frames.items)
@@ -44,9 +44,9 @@ module _ (m n : Names) (t u : Told) (e f : Engine) (at : Place) (p : Procedure) 
 
   pub ran_moved : (o : Outcome) → IsRun m t e.search at rest n u f.search o → IsFollowed o → IsMoved m n t u e f holds view ready
   ran_moved o run follows =
-      let there = asked_ready m n t u e f holds view ready run.before run.asked
+      let there = asked_ready m n t u e f holds view ready run.before None run.asked
       in let some : nat_lt e.search.inferences e.search.budgets.inferences ≡ true = lt-ltb e.search.inferences e.search.budgets.inferences run.count
-      in asked_moved m n t u e f holds view ready run.before run.asked
+      in asked_moved m n t u e f holds view ready run.before None run.asked
       (request m n t u e f at p list cut rest running_is first le call holds view ready there)
       (listed (now_listed m n t u e f at p list cut rest running_is first le call holds view ready there o run some follows))
       (run_served m n t u e f at p list cut rest running_is first le call holds view ready there o run some follows)
@@ -56,9 +56,9 @@ module _ (m n : Names) (t u : Told) (e f : Engine) (at : Place) (p : Procedure) 
   pub refused_moved : (error ball : Tree) → IsRefused m t e.search at n u f.search error → IsOverAtoms error → IsErrorBall error p ball → f.doing ≡ Throwing ball rest
       → IsMoved m n t u e f holds view ready
   refused_moved error ball x over is throws =
-      let there = asked_ready m n t u e f holds view ready x.before x.asked
+      let there = asked_ready m n t u e f holds view ready x.before None x.asked
       in let some : nat_lt e.search.inferences e.search.budgets.inferences ≡ true = lt-ltb e.search.inferences e.search.budgets.inferences x.count
-      in asked_moved m n t u e f holds view ready x.before x.asked
+      in asked_moved m n t u e f holds view ready x.before None x.asked
       (request m n t u e f at p list cut rest running_is first le call holds view ready there)
       (refused (refused_now m n t u e f at p list cut rest running_is first le call holds view ready there error ball x some over is throws))
       (refused_served m n t u e f at p list cut rest running_is first le call holds view ready there error ball x some over is throws)

@@ -1,7 +1,7 @@
 -- What an engine comes to by a step after entries of others, or by a request.
 use Rattle.std.proofs.Common.{◌≡◌, ◌+◌, List, [], ◌++◌, Option, None, refl, sym, ap, ap₂, subst, ◌∙◌, arith, append-nil, append_assoc}
 use Rattle.pl_term.specs.Tree.{Chars}
-use Rattle.pl_model.specs.History.{History}
+use Rattle.pl_model.specs.History.{History, Kind}
 use Rattle.pl_model.specs.Requests.{Request, Reply}
 use Rattle.pl_model.specs.Service.{answers, entry_by, served_now}
 use Rattle.pl_model.specs.Resolution.{failing, Limits, Output, State, asks, solution_count}
@@ -69,24 +69,24 @@ module _ (m n : Names) (t u : Told) (e f : Engine) (holds : Holds m n) (view : I
       × (step (limits_in r e.search) (state_at r.view e.search e.doing r.output) ≡ asks q next)
       × (next reply ≡ state_at r.view f.search f.doing r.output)
 
-  module _ (before : History) (asked : IsAsked t before u) where
+  module _ (before : History) (update : Option Kind) (asked : IsAsked t before update u) where
     pub asked_later : IsLater m t n u
     asked_later =
         record {
           holds = holds;
-          later = asked.follows.later ++ entry_by t.engine None;
+          later = asked.follows.later ++ entry_by t.engine update;
           grown =
               ap history_of asked.told
-              ∙ ap (λ h. h ++ entry_by t.engine None) asked.follows.grown
-              ∙ append_assoc t.history asked.follows.later (entry_by t.engine None);
+              ∙ ap (λ h. h ++ entry_by t.engine update) asked.follows.grown
+              ∙ append_assoc t.history asked.follows.later (entry_by t.engine update);
           engine = ap (λ (x : Told). x.engine) asked.told;
           goals = ap (λ (x : Told). x.goals) asked.told;
         }
 
     pub asked_ready : IsReady n u e
-    asked_ready = ready_later m n t u e view asked_later (visits_more t u before None asked.told) ready
+    asked_ready = ready_later m n t u e view asked_later (visits_more t u before update asked.told) ready
 
-    module _ (q : Request) (reply : Reply) (served : served_now t.engine t.goals before q ≡ answers reply None) (asks_from : AsksFrom q reply) where
+    module _ (q : Request) (reply : Reply) (served : served_now t.engine t.goals before q ≡ answers reply update) (asks_from : AsksFrom q reply) where
       abbrev set : View → Option Chars → List Output → Setting
       set v stays out = record { view = v; solutions = e.solution_limit; stays = stays; doing = failing; output = out }
 
@@ -96,7 +96,7 @@ module _ (m n : Names) (t u : Told) (e f : Engine) (holds : Holds m n) (view : I
             before = before;
             request = q;
             reply = reply;
-            update = None;
+            update = update;
             entries = asked.follows;
             served = served;
             told = asked.told;

@@ -11,21 +11,21 @@ use Rattle.pl_model.specs.History.{Clause, Proc}
 use Rattle.pl_model.specs.Predicates.{proc_of}
 use Rattle.pl_model.specs.Terms.{arguments}
 use Rattle.pl_model.specs.Database.{Stored}
-use Rattle.pl_model.specs.Resolution.{Choice, clauses, answers, branch, barrier, catch, findall, resolving}
+use Rattle.pl_model.specs.Resolution.{Choice, clauses, answers, branch, barrier, catch, findall}
 use Rattle.atom_api.specs.Names.{FixedStand, Names}
 use Rattle.term_store.specs.declared.words.Place.{Place}
 use Rattle.term_store.specs.Contents.{term_at}
 use Rattle.term_store.specs.NumberedNames.{atoms_in}
 use Rattle.world_api.specs.Told.{Told, clause_list, has_place}
 use Rattle.world_builtins.specs.Naming.{IsHeldAt}
+use Rattle.iso_search.specs.declared.choices.Purpose.{Purpose}
 use Rattle.iso_search.specs.declared.search.Search.{Search}
-use Rattle.iso_search.specs.Choices.{answers_from}
+use Rattle.iso_search.specs.Choices.{answers_from, listed_goal, purpose_of}
 use Rattle.iso_search.specs.Reading.{IsView, View, reads}
 use Rattle.iso_search.specs.Searching.{choices_of, node_of}
 use Rattle.iso_search.specs.Spelling.{spelled, text_of}
 use Rattle.iso_engine.proofs.Outputs.{atoms_same}
 use Rattle.iso_engine.specs.declared.doing.Doing.{Doing}
-use Rattle.iso_engine.specs.Following.{IsInteger}
 use Rattle.iso_engine.specs.Views.{view_of}
 use Rattle.iso_engine.specs.Missing.{is_integer}
 use Rattle.iso_engine.specs.Ready.{IsAlike, IsStable, MayGoOn}
@@ -119,31 +119,32 @@ first_tree d (catch c r n ∷ older) = d
 first_tree d (findall list ts n ∷ older) = d
 
 -- The choice point of clauses was taken off the search `e`, which left `x`.
-module _ (m : Names) (t : Told) (e x : Search) (d : Doing) (goal : Place) (g place next : ℕ) (stable : IsStable m t e d)
-    (taken : (v : View) → choices_of v e ≡ clauses resolving (reads v x.store goal) (v.left (reads v x.store goal) g place) (node_of v x next) ∷ choices_of v x)
+module _ (m : Names) (t : Told) (e x : Search) (d : Doing) (q : Purpose) (goal : Place) (g place next : ℕ) (stable : IsStable m t e d)
+    (taken : (v : View) → choices_of v e
+    ≡ clauses (purpose_of q) (reads v x.store goal) (v.left (listed_goal (purpose_of q) (reads v x.store goal)) g place) (node_of v x next) ∷ choices_of v x)
     (view : IsView (view_of m t)) where
   abbrev goal_now : Tree
   goal_now = reads (view_of m t) x.store goal
 
   longer_view : View
-  longer_view = record { names = m; left = λ h k p. longer_by (may_or t h k p) ((view_of m t).left h k p) }
+  longer_view = record { names = m; all = (view_of m t).all; left = λ h k p. longer_by (may_or t h k p) ((view_of m t).left h k p) }
 
   longer_alike : IsAlike m t longer_view
   unfolding longer_view
-  longer_alike = record { holds = λ a y h. h; left = λ h k p may. longer_same (may_or t h k p) ((view_of m t).left h k p) may }
+  longer_alike = record { holds = λ a y h. h; all = λ h k may. refl; left = λ h k p may. longer_same (may_or t h k p) ((view_of m t).left h k p) may }
 
   longer_is : IsView longer_view
   unfolding longer_view
   longer_is = record { fixed = view.fixed; apart = view.apart }
 
-  pub newest_open : MayGoOn t goal_now g place
+  abbrev listed_now : Tree
+  listed_now = listed_goal (purpose_of q) goal_now
+
+  pub newest_open : MayGoOn t listed_now g place
   unfolding longer_view
   newest_open =
-      same_longer (may_or t goal_now g place) ((view_of m t).left goal_now g place)
+      same_longer (may_or t listed_now g place) ((view_of m t).left listed_now g place)
       (ap (first_clauses []) (sym (taken longer_view) ∙ (stable longer_view longer_is longer_alike).0 ∙ taken (view_of m t)))
-
-  pub newest_callable : IsInteger x.store goal → ⊥
-  newest_callable i = true≢false (sym (ap (λ y. is_integer (spelled (text_of m) y)) i.1) ∙ newest_open.callable)
 
   pub newest_held : FixedStand m → ((a b : ℕ) (y : Chars) → m a ≡ Some y → m b ≡ Some y → a ≡ b)
       → ((a : ℕ) (y : Chars) → m a ≡ Some y → (a < 2 ^ 32) × (size y ≤ 248) × (all_scalars y ≡ true))

@@ -1,9 +1,10 @@
 -- The predicates of goals.
-use Rattle.std.proofs.Common.{◌≡◌, ℕ, ℤ, suc, ◌<◌, List, [], ◌∷◌, length, codes, sym, ap, ◌∙◌, arith}
+use Rattle.std.proofs.Common.{◌≡◌, ℕ, ℤ, suc, ◌<◌, List, [], ◌∷◌, length, codes, Some, refl, sym, ap, ◌∙◌, arith}
 use Rattle.pl_term.specs.Tree.{Tree, var, int, atom, compound, trees}
-use Rattle.pl_model.specs.History.{Proc}
+use Rattle.pl_model.specs.History.{Proc, proc}
 use Rattle.pl_model.specs.Predicates.{proc_of}
-use Rattle.atom_api.specs.FixedNames.{call_name}
+use Rattle.atom_api.specs.Fixed.{fixed, fixed_texts}
+use Rattle.atom_api.specs.FixedNames.{call_name, clause_name, retract_name}
 use Rattle.term_store.specs.declared.words.Place.{Place}
 use Rattle.term_store.specs.declared.views.Arguments.{Arguments}
 use Rattle.term_store.specs.Heap.{atom_name}
@@ -55,3 +56,17 @@ atom_no_integer s goal name is h = atom_integer (atom_name name) h.0 (sym is ∙
 pub compound_no_integer : (s : Contents) (goal : Place) (name : ℕ) (a : Arguments) → term_at s goal ≡ compound (atom_name name) (arguments_at s a) → IsArguments s a
     → 0 < a.count → IsInteger s goal → ⊥
 compound_no_integer s goal name a is args some h = compound_integer (atom_name name) (arguments_at s a) h.0 (sym is ∙ h.1)
+
+clause_is : fixed clause_name ≡ Some (codes "clause")
+unfolding fixed_texts
+clause_is = refl
+
+retract_is : fixed retract_name ≡ Some (codes "retract")
+unfolding fixed_texts
+retract_is = refl
+
+pub clause_proc : (v : View) → IsView v → proc (codes "clause") 2 ≡ proc_as v clause_name 2
+clause_proc v view = ap (λ f. let p : Proc = record { name = f; arity = 2 } in p) (sym (text_is v view clause_name (codes "clause") clause_is))
+
+pub retract_proc : (v : View) → IsView v → proc (codes "retract") 1 ≡ proc_as v retract_name 1
+retract_proc v view = ap (λ f. let p : Proc = record { name = f; arity = 1 } in p) (sym (text_is v view retract_name (codes "retract") retract_is))

@@ -174,7 +174,7 @@ module _ (e x : Search) (kept : (let y : Search = record e { inferences = x.infe
       × Contains (given_texts (given_by x.store x.next_variable r.pred (terms_of m x.store r.arguments) means)) c
       → IsGivenText (spelled (text_of m) (term_at e.store r.place)) e.next_variable e.store.used e.store.budget c
   asked_given m fixed apart at held c asked =
-      let v : View = record { names = m; left = λ goal g place. [] }
+      let v : View = record { names = m; all = λ goal g. []; left = λ goal g place. [] }
       in let view : IsView v = record { fixed = fixed; apart = apart }
       in let ts = terms_of m e.store r.arguments
       in let here = subst (λ (y : Search). (means : rows.Row) × (row (kinds.name_of r.pred) (terms_of m y.store r.arguments) y.next_variable ≡ Some means)

@@ -9,11 +9,11 @@ use Rattle.pl_model.specs.BuiltinRows as basic
 use Rattle.pl_model.specs.BuiltinRows.{Answer, Row, comparison, one_answer, test, test_row, type_test}
 use Rattle.pl_model.specs.AtomBuiltins.{all_errors, as_character, atom_row, character_error, character_in, code_error, codes_character, coded_row, concatenates, if_short, measures, number, number_in, number_row, one_of_character, one_of_code, spells, spells_number}
 use Rattle.pl_model.specs.Balls.{representation_error, syntax_error}
-use Rattle.pl_model.specs.Checks.{atom_error, bound_error, compound_error, elements, first_error, integer_error, natural_of, negative_error, text_of_atom}
+use Rattle.pl_model.specs.Checks.{atom_error, bound_error, elements, first_error, integer_error, natural_of, negative_error, text_of_atom}
 use Rattle.pl_model.specs.Evaluables.{Evaluated, evaluated, is_in_range}
 use Rattle.pl_model.specs.TermGrammar.{is_too_long}
-use Rattle.pl_model.specs.Terms.{arguments, is_variable, list_term, variable_count}
-use Rattle.pl_model.specs.TermBuiltins.{argument_at, argument_of, arithmetic, arithmetic_row, compares, compares_values, composed, composes, copies, each_once, evaluates, functor_of, gives_list, itself, key, list_error, lists_variables, makes, makes_functor, merges, on_list, pairs_error, renames_only, sign, sign_error, sorted, sorts, sorts_by_key, subsumes, term_row, three, two, univ, unless, with_argument, with_value}
+use Rattle.pl_model.specs.Terms.{is_variable, list_term, variable_count}
+use Rattle.pl_model.specs.TermBuiltins.{arithmetic, arithmetic_row, compares_values, composed, composes, copies, each_once, evaluates, functor_of, gives_list, itself, key, list_error, lists_variables, makes, makes_functor, merges, on_list, pairs_error, renames_only, sorted, sorts, sorts_by_key, subsumes, term_row, three, two, univ, unless, with_argument, with_value}
 use Rattle.pl_model.specs.Unify.{unify}
 use Rattle.iso_engine.specs.Dispatching.{lines_in}
 

@@ -71,7 +71,7 @@ module _ (m : Names) (v : View) (view : IsView v) (grown : Holds m v.names) (s :
 pub asked_line : (m : Names) → FixedStand m → TellsApart (text_of m) → (s : Contents) (r : RowGoal) → IsRowGoal s r → IsHeldAt m s r.place → (line : ℕ) (c : Chars)
     → Contains (given_texts (given_from r.pred (terms_of m s r.arguments) line)) c → IsLineAsked m s r.place line c
 asked_line m fixed apart s r at held line c h =
-    let v : View = record { names = m; left = λ goal g place. [] }
+    let v : View = record { names = m; all = λ goal g. []; left = λ goal g place. [] }
     in let view : IsView v = record { fixed = fixed; apart = apart }
     in same_given m v view (λ a y k. k) s r at held line (λ cs. Contains cs c) h
 

@@ -101,7 +101,7 @@ module _ (m n : Names) (t u : Told) (e f : Engine) (at : Place) (p : Procedure) 
       )
       in (
         added w,
-        moved_asking m n t u e f (added w) (added_none w) holds view ready budgets wanted given whole x.before (record { follows = x.follows; told = x.told })
+        moved_asking m n t u e f (added w) (added_none w) holds view ready budgets wanted given whole x.before None (record { follows = x.follows; told = x.told })
             read_operators
             (standing x.operators x.quotes)
             x.served

@@ -2,7 +2,7 @@
 use Rattle.std.specs.Prelude.{◌≡◌, ◌<◌, ℕ, suc, List, [], ◌∷◌, ◌++◌, length, Option, None, IsSome}
 use Rattle.std.specs.List.{All}
 use Rattle.pl_term.specs.Tree.{Tree}
-use Rattle.pl_model.specs.History.{Clause, History}
+use Rattle.pl_model.specs.History.{Clause, History, Kind}
 use Rattle.pl_model.specs.Database.{Stored}
 use Rattle.pl_model.specs.Predicates.{proc_of}
 use Rattle.pl_model.specs.Requests.{call_clauses, listed, refused}
@@ -33,15 +33,15 @@ use Rattle.iso_engine.specs.Lists.{IsListed, IsOpenBehind}
 abbrev pub counted : State → State
 counted s = record s { inferences = suc s.inferences }
 
--- The visit was answered after all entries `before`, and made no entry.
-pub record IsAsked (t : Told) (before : History) (u : Told) : Type 0 where
+-- The visit was answered after all entries `before`, and made this update.
+pub record IsAsked (t : Told) (before : History) (update : Option Kind) (u : Told) : Type 0 where
   pub follows : Follows t.engine t.history before
-  pub told : u ≡ seen_as t (before ++ entry_by t.engine None) (t.gens ++ length before ∷ [])
+  pub told : u ≡ seen_as t (before ++ entry_by t.engine update) (t.gens ++ length before ∷ [])
 
 -- The inference was made, the visit listed the clauses for the goal, and these were tried.
 pub record IsRun (m : Names) (t : Told) (e : Search) (goal : Place) (rest : ℕ) (n : Names) (u : Told) (d : Search) (o : Outcome) : Type 0 where
   pub before : History
-  pub asked : IsAsked t before u
+  pub asked : IsAsked t before None u
   pub count : e.inferences < e.budgets.inferences
   pub found : Option (Found Tree)
   pub named : All (λ a. IsSome (n a)) (found_names names_of found)
@@ -65,7 +65,7 @@ pub record IsRun (m : Names) (t : Told) (e : Search) (goal : Place) (rest : ℕ)
 -- The inference was made, and the visit refused the call with this error term.
 pub record IsRefused (m : Names) (t : Told) (e : Search) (goal : Place) (n : Names) (u : Told) (d : Search) (error : Tree) : Type 0 where
   pub before : History
-  pub asked : IsAsked t before u
+  pub asked : IsAsked t before None u
   pub count : e.inferences < e.budgets.inferences
   pub named : All (λ a. IsSome (n a)) (names_of error)
   pub answered :

@@ -10,7 +10,7 @@ use Rattle.term_store.specs.Contents.{Contents, Holds, term_at}
 use Rattle.term_store.specs.Heap.{atom_name}
 use Rattle.world_api.specs.declared.visit.Procedure.{Procedure}
 use Rattle.iso_search.specs.declared.outcome.Outcome.{Outcome}
-use Rattle.iso_search.specs.declared.outcome.Outcome.TheVariants.{Run, Fail, Raise, Throw, Halt}
+use Rattle.iso_search.specs.declared.outcome.Outcome.TheVariants.{Run, Fail, Raise, Throw, Erase, Halt}
 use Rattle.iso_search.specs.declared.search.Search.{Search}
 use Rattle.iso_search.specs.Errors.{IsFaultIn}
 use Rattle.iso_search.specs.Outcomes.{Setting, limits_in}
@@ -30,6 +30,7 @@ IsPlaced s (Run list) = Unit {0}
 IsPlaced s Fail = Unit {0}
 IsPlaced s (Raise f) = IsFaultIn s f
 IsPlaced s (Throw w) = Holds s w
+IsPlaced s (Erase place list) = Unit {0}
 IsPlaced s (Halt k) = Unit {0}
 
 -- The predicate, as it is read.

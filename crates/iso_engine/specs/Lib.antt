@@ -7,6 +7,7 @@ pub mod CalledGoals
 pub mod Calling
 pub mod ClausesAsked
 pub mod Dispatching
+pub mod Erasing
 pub mod Failing
 pub mod Finding
 pub mod Following
@@ -17,6 +18,7 @@ pub mod Looking
 pub mod Missing
 pub mod OutputGoals
 pub mod Parts
+pub mod Purposes
 pub mod Ready
 pub mod Replies
 pub mod Retried
@@ -28,6 +30,7 @@ pub mod Standing
 pub mod Starting
 pub mod TableLines
 pub mod Tasks
+pub mod ToldLines
 pub mod Unserved
 pub mod Views
 pub mod Walking

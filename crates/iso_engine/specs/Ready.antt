@@ -1,5 +1,6 @@
 -- What holds of an engine between two steps.
-use Rattle.std.specs.Prelude.{◌≡◌, ℕ, false}
+use Rattle.std.specs.Prelude.{◌≡◌, ◌≤◌, ℕ, false, length}
+use Rattle.std.specs.List.{Contains}
 use Rattle.pl_term.specs.Tree.{Tree}
 use Rattle.pl_model.specs.Resolution.{solution_count, goes}
 use Rattle.pl_model.specs.Control.{step}
@@ -23,10 +24,16 @@ pub record MayGoOn (t : Told) (goal : Tree) (g place : ℕ) : Type 0 where
   pub callable : is_integer goal ≡ false
   pub listed : IsOpen t goal g place
 
--- A view by which the engine may be read from then on: what is held has only grown, and of the lists that may be gone on with
--- the same clauses are left. Of all others any clauses are left.
+-- The list of the goal's clauses at the generation may be begun with: the generation is one of the engine's visits.
+pub record MayBegin (t : Told) (goal : Tree) (g : ℕ) : Type 0 where
+  pub own : Contains t.gens g
+  pub within : g ≤ length t.history
+
+-- A view by which the engine may be read from then on: what is held has only grown, the lists that may be begun with are the same,
+-- and of those that may be gone on with the same clauses are left. Of all others any clauses are left.
 pub record IsAlike (m : Names) (t : Told) (v : View) : Type 0 where
   pub holds : Holds m v.names
+  pub all : (goal : Tree) (g : ℕ) → MayBegin t goal g → v.all goal g ≡ (view_of m t).all goal g
   pub left : (goal : Tree) (g place : ℕ) → MayGoOn t goal g place → v.left goal g place ≡ (view_of m t).left goal g place
 
 -- By each such view it stands for the same state. So each atom that it names is held, and each of its choice points of clauses

@@ -1,7 +1,7 @@
 -- What an engine stands for.
 use Rattle.std.specs.Prelude.{List, Option}
 use Rattle.pl_term.specs.Tree.{Chars}
-use Rattle.pl_model.specs.Resolution.{Limits, Ending, solved, no_more, threw, halted, running, failing, throwing, answering, ended, Output, State}
+use Rattle.pl_model.specs.Resolution.{Limits, Ending, solved, no_more, threw, halted, running, failing, throwing, erasing, answering, ended, Output, State}
 use Rattle.pl_model.specs.Resolution as resolution
 use Rattle.iso_search.specs.declared.search.Search.{Search}
 use Rattle.iso_search.specs.Reading.{View}
@@ -10,7 +10,7 @@ use Rattle.iso_search.specs.Spelling.{spelled, text_of}
 use Rattle.iso_engine.specs.declared.doing.End.{End}
 use Rattle.iso_engine.specs.declared.doing.End.TheVariants.{Solved, NoMore, Threw, Halted}
 use Rattle.iso_engine.specs.declared.doing.Doing.{Doing}
-use Rattle.iso_engine.specs.declared.doing.Doing.TheVariants.{Running, Failing, Throwing, Answering, Ended}
+use Rattle.iso_engine.specs.declared.doing.Doing.TheVariants.{Running, Failing, Throwing, Erasing, Answering, Ended}
 use Rattle.iso_engine.specs.declared.engine.Engine.{Engine}
 
 abbrev pub ending_of : View → End → Ending
@@ -23,6 +23,7 @@ abbrev pub doing_of : View → Search → Doing → resolution.Doing
 doing_of v e (Running list) = running (node_of v e list)
 doing_of v e Failing = failing
 doing_of v e (Throwing b outer) = throwing (spelled (text_of v.names) b) (node_of v e outer).goals
+doing_of v e (Erasing place list) = erasing place (node_of v e list)
 doing_of v e Answering = answering
 doing_of v e (Ended x) = ended (ending_of v x)
 

@@ -6,9 +6,14 @@ use Rattle.world_api.specs.Texts.{Holds}
 use Rattle.world_api.specs.Told.{Told, clause_list, behind}
 use Rattle.iso_search.specs.Reading.{View, IsView}
 
--- Numbers of atoms are read by what the engine's atoms hold, and what clauses are left by what the engine was told.
+-- Numbers of atoms are read by what the engine's atoms hold, and what clauses there were and are left by what the engine was told.
 abbrev pub view_of : Names → Told → View
-view_of m t = record { names = m; left = λ goal g place. behind place (clause_list t.goals t.history g goal) }
+view_of m t =
+    record {
+      names = m;
+      all = λ goal g. clause_list t.goals t.history g goal;
+      left = λ goal g place. behind place (clause_list t.goals t.history g goal);
+    }
 
 -- What is held and what the engine was told have only grown.
 pub record IsLater (m : Names) (t : Told) (n : Names) (u : Told) : Type 0 where

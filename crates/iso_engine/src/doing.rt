@@ -23,6 +23,9 @@ pub enum Doing {
     Failing,
     /// A ball looks for an active catch, one whose exit stands among the tasks of a list (ISO 7.8.10).
     Throwing { ball: Ball, outer: usize },
+    /// retract/1 has unified with the clause that was added at this place, which is to be erased before the tasks of a list
+    /// (ISO 8.9.3).
+    Erasing { place: u64, list: usize },
     /// A solution was given.
     Answering,
     /// The search has ended.

@@ -52,12 +52,19 @@ impl Engine {
                 Ok(None)
             }
             Back::Retry {
+                purpose,
                 goal,
                 generation,
                 place,
                 next,
-            } => self.retry(goal, generation, place, next, world, atoms),
+            } => self.retry(purpose, goal, generation, place, next, world, atoms),
             Back::Answers { goal, line, next } => self.retry_line(goal, line, next, atoms),
+            Back::Told {
+                goal,
+                lines,
+                line,
+                next,
+            } => self.retry_told(goal, lines, line, next),
             Back::Found { list, found, next } => {
                 self.doing = give_list(self.alloc, &mut self.search, list, found, next)?;
                 Ok(None)

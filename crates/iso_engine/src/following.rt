@@ -41,6 +41,7 @@ pub fn follow(
             let ball = Ball::at(alloc, &search.store, place)?;
             Ok(Doing::Throwing { ball, outer: rest })
         }
+        Outcome::Erase(place, list) => Ok(Doing::Erasing { place, list }),
         Outcome::Halt(status) => Ok(Doing::Ended(End::Halted(status))),
     }
 }

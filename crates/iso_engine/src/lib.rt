@@ -8,6 +8,7 @@ pub mod dispatch;
 pub mod doing;
 pub mod engine;
 pub mod equal;
+pub mod erasing;
 pub mod fail;
 pub mod findall;
 pub mod following;

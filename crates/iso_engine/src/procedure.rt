@@ -1,10 +1,16 @@
 //! Predicates of goals.
 ghost use Rattle.std.specs.Prelude.{◌≡◌, MatchOption};
 ghost use Rattle.pl_term.specs.Tree.{int};
+ghost use Rattle.pl_model.specs.Control.{tried_by};
 ghost use Rattle.term_store.specs.Contents.{Holds, term_at};
-ghost use Rattle.iso_engine.specs.Following.{HasProcedure, IsInteger};
+ghost use Rattle.iso_search.specs.declared.choices.Purpose.TheVariants.{Resolving};
+ghost use Rattle.iso_search.specs.Choices.{purpose_of};
+ghost use Rattle.iso_search.specs.Outcomes.{Setting};
+ghost use Rattle.iso_search.specs.Reading.{IsView, reads};
+ghost use Rattle.iso_engine.specs.Following.{HasProcedure, IsInteger, proc_in};
 
 use atom_api::fixed;
+use iso_search::choices::Purpose;
 use term_store::{Place, Store, View as Kind};
 use world_api::Procedure;
 
@@ -24,5 +30,29 @@ pub fn procedure_at(store: &Store, goal: Place) -> Option<Procedure>
             name,
             arity: arguments.len() as u64,
         }),
+    }
+}
+
+/// The predicate for which clauses are tried: that of the goal at a place, or clause/2 or retract/1.
+pub fn trying_procedure(store: &Store, purpose: Purpose, goal: Place) -> Procedure
+    requires holds { Holds store.now goal }
+    requires callable { purpose ≡ Resolving → IsInteger store.now goal → ⊥ }
+    ensures { (t : Setting) → IsView t.view → tried_by (purpose_of purpose) (reads t.view store.now goal) ≡ proc_in t.view result }
+{
+    match purpose {
+        Purpose::Resolving => {
+            let Some(procedure) = procedure_at(store, goal) else {
+                unreachable!();
+            };
+            procedure
+        }
+        Purpose::Inspecting => Procedure {
+            name: fixed::CLAUSE,
+            arity: 2,
+        },
+        Purpose::Retracting => Procedure {
+            name: fixed::RETRACT,
+            arity: 1,
+        },
     }
 }

@@ -7,11 +7,11 @@ ghost use Rattle.world_api.specs.Gains.{Gains};
 ghost use Rattle.world_api.specs.Texts.{Holds};
 ghost use Rattle.world_api.specs.Told.{has_ended};
 ghost use Rattle.iso_search.specs.declared.failure.Back.TheVariants.{Retry};
+ghost use Rattle.iso_search.specs.Choices.{listed_goal, purpose_of};
 ghost use Rattle.iso_search.specs.Reading.{reads};
 ghost use Rattle.iso_search.specs.Searching.{IsWhole};
 ghost use Rattle.iso_engine.specs.ClausesAsked.{IsRetryAsked};
-ghost use Rattle.iso_engine.specs.Lists.{IsOpen};
-ghost use Rattle.iso_engine.specs.Following.{IsInteger};
+ghost use Rattle.iso_engine.specs.Ready.{MayGoOn};
 ghost use Rattle.iso_engine.specs.Views.{view_of};
 ghost use Rattle.iso_engine.specs.Retrying.{IsGoneOn};
 ghost use Rattle.iso_engine.specs.Unserved.{as_stopped, stopped_refusals};
@@ -19,15 +19,18 @@ ghost use Rattle.iso_engine.specs.Unserved.{as_stopped, stopped_refusals};
 use crate::call::retries::retry_clauses;
 use crate::engine::Engine;
 use crate::following::follow;
-use crate::procedure::procedure_at;
+use crate::procedure::trying_procedure;
 use crate::slices::Slice;
+use iso_search::choices::Purpose;
 use term_store::{Place, Stored};
 use world_api::{Unserved, World};
 
 impl Engine {
-    /// Goes on with the clauses for the goal at a place that were not tried, whose choice point was taken off (ISO 7.7.8).
+    /// Goes on with the clauses for the goal at a place, or for the rule of clause/2 or retract/1, that were not tried, whose
+    /// choice point was taken off (ISO 7.7.8).
     pub fn retry<W: World<Term = Stored>>(
         &mut self,
+        purpose: Purpose,
         goal: Place,
         generation: u64,
         place: u64,
@@ -37,25 +40,24 @@ impl Engine {
     ) -> Result<Option<Slice>, Unserved>
         requires whole { IsWhole self.old.search }
         requires goal { HoldsPlace self.old.search.store goal }
-        requires callable { IsInteger self.old.search.store goal → ⊥ }
         requires next { next ≤ length self.old.search.frames.items }
         requires held { All (λ a. IsSome (W.A.held atoms.old a)) (atoms_in (term_at self.old.search.store goal)) }
-        requires open { IsOpen (W.told world.old) (reads (view_of (W.A.held atoms.old) (W.told world.old)) self.old.search.store goal) generation place }
+        requires open { let g = reads (view_of (W.A.held atoms.old) (W.told world.old)) self.old.search.store goal in
+            MayGoOn (W.told world.old) (listed_goal (purpose_of purpose) g) generation place }
         requires runs { has_ended (W.told world.old).engine (W.told world.old).history ≡ false }
         ensures whole { OnOk (as_stopped result) (IsWhole self.new.search) }
         ensures runs { has_ended (W.told world.new).engine (W.told world.new).history ≡ false }
         ensures holds { Holds (W.A.held atoms.old) (W.A.held atoms.new) }
         ensures refusals { IfOk (as_stopped result) (λ o. W.A.refusals atoms.new ≡ W.A.refusals atoms.old ++ stopped_refusals o) }
-        ensures asked { Gains (IsRetryAsked (W.A.held atoms.old) (W.told world.old) self.old.search goal generation place) (W.A.asked atoms.old) (W.A.asked atoms.new) }
-        ensures gone { IfOk (as_stopped result) (IsGoneOn (W.told world.old) self.old (Retry goal generation place next) (W.A.held atoms.new) (W.told world.new) self.new) }
+        ensures asked { Gains (IsRetryAsked (W.A.held atoms.old) (W.told world.old) self.old.search purpose goal generation place) (W.A.asked atoms.old) (W.A.asked atoms.new) }
+        ensures gone { IfOk (as_stopped result) (IsGoneOn (W.told world.old) self.old (Retry purpose goal generation place next) (W.A.held atoms.new) (W.told world.new) self.new) }
     {
-        let Some(procedure) = procedure_at(&self.search.store, goal) else {
-            unreachable!();
-        };
+        let procedure = trying_procedure(&self.search.store, purpose, goal);
         let outcome = retry_clauses(
             &mut self.search,
             world,
             atoms,
+            purpose,
             goal,
             generation,
             place,

@@ -12,6 +12,7 @@ ghost use Rattle.iso_engine.specs.Unserved.{OnRefusal, UnlessMemory, refusals_in
 pub mod arguments;
 pub mod following;
 pub mod lines;
+pub mod told;
 
 use crate::builtin::RowGoal;
 use crate::dispatch::row_of;

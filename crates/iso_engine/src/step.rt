@@ -50,6 +50,10 @@ impl Engine {
                 self.doing = throw(self.alloc, &mut self.search, ball, outer)?;
                 Ok(None)
             }
+            Doing::Erasing { place, list } => {
+                self.doing = Doing::Erasing { place, list };
+                self.erase(place, list, world, atoms)
+            }
             Doing::Answering => {
                 self.doing = after_solution(self.solution_limit, self.solutions_found);
                 Ok(None)

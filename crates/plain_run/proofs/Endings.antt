@@ -97,7 +97,7 @@ ball_held m stands unlike finite t e end b ns doing thrown ready are =
     held_names m stands unlike finite b
     (λ q fixes apart later.
     let view : IsView (view_of q t) = record { fixed = fixes; apart = apart }
-    in let alike : IsAlike m t (view_of q t) = record { holds = later; left = λ goal g place may. refl }
+    in let alike : IsAlike m t (view_of q t) = record { holds = later; all = λ goal g may. refl; left = λ goal g place may. refl }
     in let same = (ready.stable (view_of q t) view alike).1
     in ap (ball_in b) (sym (ap (doing_of (view_of q t) e.search) is) ∙ same ∙ ap (doing_of (view_of m t) e.search) is))
     in All-from_recursion (λ n. IsNodeHeld m (node_view n)) ns

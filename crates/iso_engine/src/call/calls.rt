@@ -16,6 +16,7 @@ ghost use Rattle.iso_engine.specs.Unserved.{OnRefusal, refusals_in};
 use crate::call::called::Called;
 use crate::call::clauses::try_first_clause;
 use crate::call::goals::{key_at, predicate_at};
+use iso_search::choices::Purpose;
 use iso_search::search::Search;
 use pl_term::Memory;
 use term_store::{Place, Stored};
@@ -58,7 +59,7 @@ pub fn call_clauses<W: World<Term = Stored>>(
     match world.visit(visit, atoms) {
         Answer::Served { reply, generation } => {
             search.inferences += 1;
-            let called = follow_reply(search, goal, rest, reply, generation)?;
+            let called = follow_reply(search, Purpose::Resolving, goal, rest, reply, generation)?;
             Ok(called)
         }
         Answer::Waits { .. } => unreachable!(),
@@ -69,9 +70,10 @@ pub fn call_clauses<W: World<Term = Stored>>(
     }
 }
 
-/// Goes on by the reply to a call whose inference was made. The only error is out of memory.
-fn follow_reply(
+/// Goes on by the reply to a request for clauses, where the inference was made. The only error is out of memory.
+pub fn follow_reply(
     search: &mut Search,
+    purpose: Purpose,
     goal: Place,
     rest: usize,
     reply: Reply<Stored>,
@@ -82,12 +84,12 @@ fn follow_reply(
     requires rest { rest ≤ length search.old.frames.items }
     requires reply { IsListOrError reply }
     ensures whole { OnOk result (IsWhole search.new) }
-    ensures followed { IfOk result (IsFollowed search.old goal rest generation reply search.new) }
+    ensures followed { IfOk result (IsFollowed purpose search.old goal rest generation reply search.new) }
     ensures budgets { OnOk result (search.new.budgets ≡ search.old.budgets) }
 {
     match reply {
         Reply::Clauses(found) => {
-            let outcome = try_first_clause(search, goal, rest, generation, found)?;
+            let outcome = try_first_clause(search, purpose, goal, rest, generation, found)?;
             Ok(Called::Ran(outcome))
         }
         Reply::Refused(error) => Ok(Called::Refused(error)),

@@ -1,36 +1,38 @@
 //! Going back to clauses that were not tried.
-ghost use Rattle.std.specs.Prelude.{◌≡◌, ◌≤◌, ◌++◌, ℤ, List, length, false, IfOk, OnOk, IsSome};
+ghost use Rattle.std.specs.Prelude.{◌≡◌, ◌≤◌, ◌++◌, List, length, false, IfOk, OnOk, IsSome};
 ghost use Rattle.std.specs.List.{All};
-ghost use Rattle.pl_term.specs.Tree.{int};
 ghost use Rattle.term_store.specs.Contents.{Holds, term_at};
 ghost use Rattle.term_store.specs.NumberedNames.{atoms_in};
 ghost use Rattle.world_api.specs.Texts.{Holds as AreHeld};
 ghost use Rattle.world_api.specs.Gains.{Gains};
 ghost use Rattle.world_api.specs.Told.{has_ended};
+ghost use Rattle.iso_search.specs.Choices.{listed_goal, purpose_of};
 ghost use Rattle.iso_search.specs.Reading.{reads};
 ghost use Rattle.iso_search.specs.Searching.{IsWhole};
 ghost use Rattle.iso_engine.specs.ClausesAsked.{IsRetryAsked};
-ghost use Rattle.iso_engine.specs.Lists.{IsOpen};
+ghost use Rattle.iso_engine.specs.Purposes.{listed_in};
+ghost use Rattle.iso_engine.specs.Ready.{MayGoOn};
 ghost use Rattle.iso_engine.specs.Retried.{IsNextRun, IsPutBack};
 ghost use Rattle.iso_engine.specs.Unserved.{OnRefusal, UnlessMemory, refusals_in};
 ghost use Rattle.iso_engine.specs.Views.{view_of};
 
-use crate::call::clauses::try_next_clause;
+use crate::call::clauses::{parts_at, try_next_clause};
 use crate::call::goals::{key_at, predicate_at};
-use iso_search::choices::Alternative;
+use iso_search::choices::{Alternative, Purpose};
 use iso_search::outcome::Outcome;
 use iso_search::search::Search;
-use term_store::{Place, Stored};
+use term_store::{Place, Store, Stored};
 use world_api::{Answer, Reply, Unserved, Visit, World};
 
-/// Goes on with the clauses for the goal at a place that were not tried (ISO 7.7.8), whose choice point was taken off: those of the
-/// generation after the clause with the place, before the tasks of a list. Asks the shared state for the next of them, and
+/// Goes on with the clauses for the goal at a place, or for the rule of clause/2 or retract/1, that were not tried (ISO 7.7.8), whose
+/// choice point was taken off: those of the generation after the clause with the place, before the tasks of a list. Asks the shared state for the next of them, and
 /// tries it. Where the visit is not served, the choice point is there again. When memory runs out the search is not to be used
 /// any more.
 pub fn retry_clauses<W: World<Term = Stored>>(
     search: &mut Search,
     world: &mut W,
     atoms: &mut W::A,
+    purpose: Purpose,
     goal: Place,
     generation: u64,
     place: u64,
@@ -38,24 +40,25 @@ pub fn retry_clauses<W: World<Term = Stored>>(
 ) -> Result<Outcome, Unserved>
     requires whole { IsWhole search.old }
     requires goal { Holds search.old.store goal }
-    requires callable { (i : ℤ) → term_at search.old.store goal ≡ int i → ⊥ }
     requires next { next ≤ length search.old.frames.items }
     requires held { All (λ a. IsSome (W.A.held atoms.old a)) (atoms_in (term_at search.old.store goal)) }
-    requires open { IsOpen (W.told world.old) (reads (view_of (W.A.held atoms.old) (W.told world.old)) search.old.store goal) generation place }
+    requires open { let g = reads (view_of (W.A.held atoms.old) (W.told world.old)) search.old.store goal in
+        MayGoOn (W.told world.old) (listed_goal (purpose_of purpose) g) generation place }
     requires runs { has_ended (W.told world.old).engine (W.told world.old).history ≡ false }
     ensures whole { UnlessMemory result (IsWhole search.new) }
-    ensures retried { IfOk result (IsNextRun (W.told world.old) search.old goal generation place next
+    ensures retried { IfOk result (IsNextRun (W.told world.old) search.old purpose goal generation place next
         (W.A.held atoms.new) (W.told world.new) search.new) }
-    ensures put_back { OnRefusal result (IsPutBack (W.told world.old) search.old goal generation place next (W.told world.new) search.new) }
+    ensures put_back { OnRefusal result (IsPutBack (W.told world.old) search.old purpose goal generation place next (W.told world.new) search.new) }
     ensures budgets { UnlessMemory result (search.new.budgets ≡ search.old.budgets) }
     ensures runs { has_ended (W.told world.new).engine (W.told world.new).history ≡ false }
     ensures holds { AreHeld (W.A.held atoms.old) (W.A.held atoms.new) }
     ensures refusals { UnlessMemory result (W.A.refusals atoms.new ≡ W.A.refusals atoms.old ++ refusals_in result) }
-    ensures asked { Gains (IsRetryAsked (W.A.held atoms.old) (W.told world.old) search.old goal generation place) (W.A.asked atoms.old) (W.A.asked atoms.new) }
+    ensures asked { Gains (IsRetryAsked (W.A.held atoms.old) (W.told world.old) search.old purpose goal generation place) (W.A.asked atoms.old) (W.A.asked atoms.new) }
 {
     let _mark = search.store.mark();
-    let procedure = predicate_at(&search.store, goal);
-    let first = key_at(&search.store, goal);
+    let listed = listed_at(&search.store, purpose, goal);
+    let procedure = predicate_at(&search.store, listed);
+    let first = key_at(&search.store, listed);
     let visit = Visit::Next {
         procedure,
         first,
@@ -63,6 +66,7 @@ pub fn retry_clauses<W: World<Term = Stored>>(
         place,
     };
     let left = Alternative::Clauses {
+        purpose,
         goal,
         generation,
         place,
@@ -72,7 +76,7 @@ pub fn retry_clauses<W: World<Term = Stored>>(
             let Reply::Clauses(found) = reply else {
                 unreachable!();
             };
-            let outcome = try_next_clause(search, goal, next, generation, found)?;
+            let outcome = try_next_clause(search, purpose, goal, next, generation, found)?;
             Ok(outcome)
         }
         Answer::NeedsAtoms(pass) => {
@@ -89,5 +93,18 @@ pub fn retry_clauses<W: World<Term = Stored>>(
         }
         Answer::Waits { .. } => Err(Unserved::Memory),
         Answer::Memory => Err(Unserved::Memory),
+    }
+}
+
+/// The goal for which the clauses are listed: the goal at a place, or the head of the rule there.
+fn listed_at(store: &Store, purpose: Purpose, goal: Place) -> Place
+    requires { Holds store.now goal }
+    ensures holds { Holds store.now result }
+    ensures stands { term_at store.now result ≡ listed_in purpose (term_at store.now goal) }
+{
+    match purpose {
+        Purpose::Resolving => goal,
+        Purpose::Inspecting => parts_at(store, goal).0,
+        Purpose::Retracting => parts_at(store, goal).0,
     }
 }

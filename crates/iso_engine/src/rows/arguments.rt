@@ -42,6 +42,7 @@ pub fn unify_answer(store: &mut Store, term: Place, places: Places) -> Result<bo
     ensures size { SameSize store.old store.new }
 {
     match places {
+        Places::One(first) => unify_arguments(store, term, &[first]),
         Places::Two(first, second) => unify_arguments(store, term, &[first, second]),
         Places::Three(first, second, third) => unify_arguments(
             store,

@@ -1,4 +1,4 @@
-use Rattle.std.proofs.Common.{refl, sym, ap, ◌∙◌, arith}
+use Rattle.std.proofs.Common.{refl, ap, ◌∙◌, arith}
 use Rattle.pl_term.specs.Tree.{more, none}
 use Rattle.pl_model.specs.AtomBuiltins.{five}
 use Rattle.world_builtins.specs.Spelling.{reads}

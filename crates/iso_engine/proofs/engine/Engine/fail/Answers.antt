@@ -1,7 +1,8 @@
-use Rattle.std.proofs.Common.{◌≡◌, [], refl, sym, ap, subst, ◌∙◌}
+use Rattle.std.proofs.Common.{◌≡◌, [], ◌++◌, None, refl, sym, ap, subst, ◌∙◌, append-nil}
 use Rattle.std.proofs.lemmas.Result.{IfOk-weaker}
+use Rattle.atom_api.specs.Names.{Names}
 use Rattle.world_api.specs.Told.{Told}
-use Rattle.iso_search.specs.declared.failure.Back.TheVariants.{Answers, Exhausted, Fail, Found, Retry, Run}
+use Rattle.iso_search.specs.declared.failure.Back.TheVariants.{Answers, Exhausted, Fail, Found, Retry, Run, Told as ToldBack}
 use Rattle.iso_search.specs.declared.search.Search.{Search}
 use Rattle.iso_search.specs.Failures.{IsTaken, back_result}
 use Rattle.iso_engine.specs.declared.doing.Doing.TheVariants.{Ended, Failing, Running}
@@ -11,26 +12,14 @@ use Rattle.iso_engine.specs.Ready.{IsReady}
 use Rattle.iso_engine.specs.Retrying.{IsGoneOn}
 use Rattle.iso_engine.specs.Slices.{IsStepped}
 use Rattle.iso_engine.specs.Spending.{IsSpent}
-use Rattle.iso_engine.specs.Unserved.{as_stopped}
+use Rattle.iso_engine.specs.Unserved.{as_stopped, stopped_refusals}
 use Rattle.iso_engine.proofs.Failed.{IsStepAfter, failed_after, found_steps, retried_end}
 use Rattle.iso_engine.proofs.Followed.{fails_to}
 use Rattle.iso_engine.proofs.Interning.{line_asks_for, nothing_asked, retry_asks_for}
-use Rattle.iso_engine.proofs.Opening.{line_held, newest_callable, newest_held, newest_open}
+use Rattle.iso_engine.proofs.Opening.{line_held, newest_held, newest_open}
 use Rattle.iso_engine.proofs.Solutions.{view_is}
 use Rattle.iso_engine.proofs.Stability.{advance_step, spent_by, step_ready}
 use Rattle.iso_engine.proofs.engine.Engine.fail.Goals as goal
-
-pub retry-requires-clause-callable : goal.retry-requires-clause-callable
-retry-requires-clause-callable g c =
-    let e = c.args.self.now in
-    let a = c.args.atoms.now in
-    let m = g.W.A.Atoms.held a in
-    let t = g.W.World.told c.args.world.now in
-    let view = view_is m t (g.met.W.A.Atoms.fixed_held a) (g.met.W.A.Atoms.unlike a) (g.met.W.A.Atoms.finite a) in
-    let x = c.resume.new.self in
-    let r = c.in-Retry in
-    let taken = subst (IsTaken e.search x) r.is c.resume.ensures.taken in
-    newest_callable m t e.search x e.doing r.goal r.generation r.place r.next c.requires.ready.stable taken view
 
 pub retry-requires-clause-held : goal.retry-requires-clause-held
 retry-requires-clause-held g c =
@@ -42,7 +31,7 @@ retry-requires-clause-held g c =
     let x = c.resume.new.self in
     let r = c.in-Retry in
     let taken = subst (IsTaken e.search x) r.is c.resume.ensures.taken in
-    newest_held m t e.search x e.doing r.goal r.generation r.place r.next c.requires.ready.stable taken view (g.met.W.A.Atoms.fixed_held a) (g.met.W.A.Atoms.unlike a) (g.met.W.A.Atoms.finite a)
+    newest_held m t e.search x e.doing r.purpose r.goal r.generation r.place r.next c.requires.ready.stable taken view (g.met.W.A.Atoms.fixed_held a) (g.met.W.A.Atoms.unlike a) (g.met.W.A.Atoms.finite a)
 
 pub retry-requires-clause-open : goal.retry-requires-clause-open
 retry-requires-clause-open g c =
@@ -54,7 +43,7 @@ retry-requires-clause-open g c =
     let x = c.resume.new.self in
     let r = c.in-Retry in
     let taken = subst (IsTaken e.search x) r.is c.resume.ensures.taken in
-    (newest_open m t e.search x e.doing r.goal r.generation r.place r.next c.requires.ready.stable taken view).listed
+    newest_open m t e.search x e.doing r.purpose r.goal r.generation r.place r.next c.requires.ready.stable taken view
 
 pub retry_line-requires-clause-held : goal.retry_line-requires-clause-held
 retry_line-requires-clause-held g c =
@@ -136,7 +125,7 @@ returns-in-Retry-clause-given g c =
     let x = c.resume.new.self in
     let f = c.retry.new.self in
     let r = c.in-Retry in
-    let b = Retry r.goal r.generation r.place r.next in
+    let b = Retry r.purpose r.goal r.generation r.place r.next in
     let end = as_stopped c.retry.result in
     let taken = subst (IsTaken e.search x) r.is c.resume.ensures.taken in
     let step = retried_end m n t u e x f b tt c.retry.ensures.holds view c.requires.ready c.requires.fails c.resume.ensures.kept end
@@ -156,7 +145,7 @@ returns-in-Retry-clause-spent g c =
     let x = c.resume.new.self in
     let f = c.retry.new.self in
     let r = c.in-Retry in
-    let b = Retry r.goal r.generation r.place r.next in
+    let b = Retry r.purpose r.goal r.generation r.place r.next in
     let end = as_stopped c.retry.result in
     let taken = subst (IsTaken e.search x) r.is c.resume.ensures.taken in
     let step = retried_end m n t u e x f b tt c.retry.ensures.holds view c.requires.ready c.requires.fails c.resume.ensures.kept end
@@ -176,7 +165,7 @@ returns-in-Retry-clause-ready g c =
     let x = c.resume.new.self in
     let f = c.retry.new.self in
     let r = c.in-Retry in
-    let b = Retry r.goal r.generation r.place r.next in
+    let b = Retry r.purpose r.goal r.generation r.place r.next in
     let end = as_stopped c.retry.result in
     let taken = subst (IsTaken e.search x) r.is c.resume.ensures.taken in
     let step = retried_end m n t u e x f b tt c.retry.ensures.holds view c.requires.ready c.requires.fails c.resume.ensures.kept end
@@ -196,7 +185,7 @@ returns-in-Retry-clause-stepped g c =
     let x = c.resume.new.self in
     let f = c.retry.new.self in
     let r = c.in-Retry in
-    let b = Retry r.goal r.generation r.place r.next in
+    let b = Retry r.purpose r.goal r.generation r.place r.next in
     let end = as_stopped c.retry.result in
     let taken = subst (IsTaken e.search x) r.is c.resume.ensures.taken in
     let step = retried_end m n t u e x f b tt c.retry.ensures.holds view c.requires.ready c.requires.fails c.resume.ensures.kept end
@@ -210,7 +199,7 @@ returns-in-Retry-clause-asked g c =
     let a = c.args.atoms.now in
     let x = c.resume.new.self in
     let r = c.in-Retry in
-    retry_asks_for (g.W.A.Atoms.held a) (g.W.World.told c.args.world.now) e x r.goal r.generation r.place r.next c.requires.fails
+    retry_asks_for (g.W.A.Atoms.held a) (g.W.World.told c.args.world.now) e x r.purpose r.goal r.generation r.place r.next c.requires.fails
     (subst (IsTaken e.search x) r.is c.resume.ensures.taken) (g.W.A.Atoms.asked a) (g.W.A.Atoms.asked c.retry.new.atoms) c.retry.ensures.asked
 
 pub returns-in-Answers-clause-given : goal.returns-in-Answers-clause-given
@@ -306,6 +295,93 @@ returns-in-Answers-clause-asked g c =
     line_asks_for (g.W.A.Atoms.held a) (g.W.World.told c.args.world.now) e x r.goal r.line r.next c.requires.fails
     (subst (IsTaken e.search x) r.is c.resume.ensures.taken) (g.W.A.Atoms.asked a) (g.W.A.Atoms.asked c.retry_line.new.atoms) c.retry_line.ensures.asked
 
+pub returns-in-Told-clause-given : goal.returns-in-Told-clause-given
+returns-in-Told-clause-given g c =
+    let e = c.args.self.now in
+    let a = c.args.atoms.now in
+    let m = g.W.A.Atoms.held a in
+    let n = m in
+    let t = g.W.World.told c.args.world.now in
+    let u = t in
+    let view = view_is n u (g.met.W.A.Atoms.fixed_held a) (g.met.W.A.Atoms.unlike a) (g.met.W.A.Atoms.finite a) in
+    let x = c.resume.new.self in
+    let f = c.retry_told.new.self in
+    let r = c.in-Told in
+    let b = ToldBack r.goal r.lines r.line r.next in
+    let end = as_stopped c.retry_told.result in
+    let taken = subst (IsTaken e.search x) r.is c.resume.ensures.taken in
+    let y : Engine = record e { search = x } in
+    let step = retried_end m n t u e x f b tt (λ i y h. h) view c.requires.ready c.requires.fails c.resume.ensures.kept end
+    c.retry_told.ensures.whole (IfOk-weaker end (λ o. (w : Names) (k : Told) → IsGoneOn k y b w k f o) (IsGoneOn t y b n t f) (λ o h. h n t) c.retry_told.ensures.gone) taken
+    (λ q fails. sym (ap (back_result q x) r.is) ∙ c.resume.ensures.step q fails) in
+    IfOk-weaker end (IsStepAfter m t e n u f) (λ o. f.solutions_found ≡ e.solutions_found) (λ o h. h.3) step
+
+pub returns-in-Told-clause-spent : goal.returns-in-Told-clause-spent
+returns-in-Told-clause-spent g c =
+    let e = c.args.self.now in
+    let a = c.args.atoms.now in
+    let m = g.W.A.Atoms.held a in
+    let n = m in
+    let t = g.W.World.told c.args.world.now in
+    let u = t in
+    let view = view_is n u (g.met.W.A.Atoms.fixed_held a) (g.met.W.A.Atoms.unlike a) (g.met.W.A.Atoms.finite a) in
+    let x = c.resume.new.self in
+    let f = c.retry_told.new.self in
+    let r = c.in-Told in
+    let b = ToldBack r.goal r.lines r.line r.next in
+    let end = as_stopped c.retry_told.result in
+    let taken = subst (IsTaken e.search x) r.is c.resume.ensures.taken in
+    let y : Engine = record e { search = x } in
+    let step = retried_end m n t u e x f b tt (λ i y h. h) view c.requires.ready c.requires.fails c.resume.ensures.kept end
+    c.retry_told.ensures.whole (IfOk-weaker end (λ o. (w : Names) (k : Told) → IsGoneOn k y b w k f o) (IsGoneOn t y b n t f) (λ o h. h n t) c.retry_told.ensures.gone) taken
+    (λ q fails. sym (ap (back_result q x) r.is) ∙ c.resume.ensures.step q fails) in
+    IfOk-weaker end (IsStepAfter m t e n u f) (λ o. IsSpent e.search.inferences f.search.inferences) (λ o h. h.2) step
+
+pub returns-in-Told-clause-ready : goal.returns-in-Told-clause-ready
+returns-in-Told-clause-ready g c =
+    let e = c.args.self.now in
+    let a = c.args.atoms.now in
+    let m = g.W.A.Atoms.held a in
+    let n = m in
+    let t = g.W.World.told c.args.world.now in
+    let u = t in
+    let view = view_is n u (g.met.W.A.Atoms.fixed_held a) (g.met.W.A.Atoms.unlike a) (g.met.W.A.Atoms.finite a) in
+    let x = c.resume.new.self in
+    let f = c.retry_told.new.self in
+    let r = c.in-Told in
+    let b = ToldBack r.goal r.lines r.line r.next in
+    let end = as_stopped c.retry_told.result in
+    let taken = subst (IsTaken e.search x) r.is c.resume.ensures.taken in
+    let y : Engine = record e { search = x } in
+    let step = retried_end m n t u e x f b tt (λ i y h. h) view c.requires.ready c.requires.fails c.resume.ensures.kept end
+    c.retry_told.ensures.whole (IfOk-weaker end (λ o. (w : Names) (k : Told) → IsGoneOn k y b w k f o) (IsGoneOn t y b n t f) (λ o h. h n t) c.retry_told.ensures.gone) taken
+    (λ q fails. sym (ap (back_result q x) r.is) ∙ c.resume.ensures.step q fails) in
+    IfOk-weaker end (IsStepAfter m t e n u f) (λ o. IsReady n u f) (λ o h. h.1) step
+
+pub returns-in-Told-clause-stepped : goal.returns-in-Told-clause-stepped
+returns-in-Told-clause-stepped g c =
+    let e = c.args.self.now in
+    let a = c.args.atoms.now in
+    let m = g.W.A.Atoms.held a in
+    let n = m in
+    let t = g.W.World.told c.args.world.now in
+    let u = t in
+    let view = view_is n u (g.met.W.A.Atoms.fixed_held a) (g.met.W.A.Atoms.unlike a) (g.met.W.A.Atoms.finite a) in
+    let x = c.resume.new.self in
+    let f = c.retry_told.new.self in
+    let r = c.in-Told in
+    let b = ToldBack r.goal r.lines r.line r.next in
+    let end = as_stopped c.retry_told.result in
+    let taken = subst (IsTaken e.search x) r.is c.resume.ensures.taken in
+    let y : Engine = record e { search = x } in
+    let step = retried_end m n t u e x f b tt (λ i y h. h) view c.requires.ready c.requires.fails c.resume.ensures.kept end
+    c.retry_told.ensures.whole (IfOk-weaker end (λ o. (w : Names) (k : Told) → IsGoneOn k y b w k f o) (IsGoneOn t y b n t f) (λ o h. h n t) c.retry_told.ensures.gone) taken
+    (λ q fails. sym (ap (back_result q x) r.is) ∙ c.resume.ensures.step q fails) in
+    IfOk-weaker end (IsStepAfter m t e n u f) (λ o. IsStepped m t e o n u f []) (λ o h. h.0) step
+
+pub returns-in-Told-clause-asked : goal.returns-in-Told-clause-asked
+returns-in-Told-clause-asked g c = let asked = g.W.A.Atoms.asked c.args.atoms.now in nothing_asked _ asked asked refl
+
 pub returns-in-Exhausted-clause-ready : goal.returns-in-Exhausted-clause-ready
 returns-in-Exhausted-clause-ready g c =
     let a = c.args.atoms.now in
@@ -386,3 +462,9 @@ returns-in-Fail-clause-stepped g c =
 
 pub returns-in-Fail-clause-asked : goal.returns-in-Fail-clause-asked
 returns-in-Fail-clause-asked g c = let asked = g.W.A.Atoms.asked c.args.atoms.now in nothing_asked _ asked asked refl
+
+pub returns-in-Told-clause-refusals : goal.returns-in-Told-clause-refusals
+returns-in-Told-clause-refusals g c =
+    let a = g.W.A.Atoms.refusals c.args.atoms.now in
+    IfOk-weaker (as_stopped c.retry_told.result) (λ o. o ≡ None) (λ o. a ≡ a ++ stopped_refusals o)
+    (λ o is. sym (append-nil a) ∙ ap (λ x. a ++ stopped_refusals x) (sym is)) c.retry_told.ensures.goes_on

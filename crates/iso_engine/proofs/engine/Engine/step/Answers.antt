@@ -2,7 +2,7 @@ use Rattle.std.proofs.Common.{◌≡◌, [], ◌++◌, List, Some, refl, sym, su
 use Rattle.std.specs.Prelude.{encode_utf8_all}
 use Rattle.std.proofs.lemmas.Result.{IfOk-weaker}
 use Rattle.pl_model.specs.Resolution.{Output}
-use Rattle.iso_engine.specs.declared.doing.Doing.TheVariants.{Running, Throwing, Ended}
+use Rattle.iso_engine.specs.declared.doing.Doing.TheVariants.{Running, Throwing, Erasing, Ended}
 use Rattle.iso_engine.specs.declared.engine.Engine.{Engine}
 use Rattle.iso_engine.specs.declared.slices.Slice.TheVariants.{Ended as SliceEnded}
 use Rattle.iso_engine.specs.Ready.{Steps}
@@ -155,3 +155,33 @@ returns-in-Failing-clause-asked g c =
     let a = c.args.atoms.now in
     asked_again (g.W.A.Atoms.held a) (g.W.World.told c.args.world.now) c.args.self.now c.replace.new.dest (g.W.A.Atoms.asked a)
     (g.W.A.Atoms.asked c.fail.new.atoms) (sym c.replace.ensures.value ∙ c.in-Failing.is ∙ sym c.replace.ensures.after) c.fail.ensures.asked
+
+pub erase-requires-clause-ready : goal.erase-requires-clause-ready
+erase-requires-clause-ready g c =
+    ready_again (g.W.A.Atoms.held c.args.atoms.now) (g.W.World.told c.args.world.now) c.args.self.now (Erasing c.in-Erasing.place c.in-Erasing.list)
+    (sym c.replace.ensures.value ∙ c.in-Erasing.is) c.requires.ready
+
+pub returns-in-Erasing-clause-stepped : goal.returns-in-Erasing-clause-stepped
+returns-in-Erasing-clause-stepped g c =
+    let e = c.args.self.now in
+    let d = Erasing c.in-Erasing.place c.in-Erasing.list in
+    let y : Engine = record e { doing = d } in
+    let same = sym c.replace.ensures.value ∙ c.in-Erasing.is in
+    let m = g.W.A.Atoms.held c.args.atoms.now in
+    let n = g.W.A.Atoms.held c.erase.new.atoms in
+    let t = g.W.World.told c.args.world.now in
+    let u = g.W.World.told c.erase.new.world in
+    let f = c.erase.new.self in
+    let a = c.args.out.now.items in
+    IfOk-weaker (as_stopped c.erase.result) (λ o. IsStepped m t y o n u f [])
+    (λ o. (more : List Output) × IsStepped m t e o n u f more × (a ≡ a ++ encode_utf8_all (written_text more)))
+    (λ o h. ([], stepped_again m t e d o n u f [] same h, silent_out a [] refl)) c.erase.ensures.stepped
+
+pub returns-in-Erasing-clause-given : goal.returns-in-Erasing-clause-given
+returns-in-Erasing-clause-given g c = none_ok (as_stopped c.erase.result) (c.erase.new.self.solutions_found ≡ c.args.self.now.solutions_found) c.erase.ensures.given
+
+pub returns-in-Erasing-clause-asked : goal.returns-in-Erasing-clause-asked
+returns-in-Erasing-clause-asked g c =
+    let a = c.args.atoms.now in
+    asked_again (g.W.A.Atoms.held a) (g.W.World.told c.args.world.now) c.args.self.now (Erasing c.in-Erasing.place c.in-Erasing.list) (g.W.A.Atoms.asked a)
+    (g.W.A.Atoms.asked c.erase.new.atoms) (sym c.replace.ensures.value ∙ c.in-Erasing.is) c.erase.ensures.asked
