@@ -1,6 +1,6 @@
 -- The run of the first engine, a turn after the other.
-use Rattle.std.proofs.Common.{◌≡◌, ℕ, Bool, true, false, List, [], ◌∷◌, ◌++◌, map, Option, Some, None, refl, sym, ◌∙◌, ap, subst}
-use Rattle.std.specs.Prelude.{encode_utf8_all, IsSome, Result, Ok, Err}
+use Rattle.std.proofs.Common.{◌≡◌, ℕ, true, List, [], ◌∷◌, ◌++◌, map, Some, refl, sym, ◌∙◌, ap, subst}
+use Rattle.std.specs.Prelude.{encode_utf8_all, IsSome, Ok, Err}
 use Rattle.std.proofs.lemmas.Bool.{true≢false}
 use Rattle.std.proofs.lemmas.List.Elements.{All-nil}
 use Rattle.std.proofs.lemmas.Option.{same_Some}
@@ -47,7 +47,7 @@ use Rattle.toplevel.specs.Unbuilt.{IsAtUnbuilt, indicated}
 use Rattle.toplevel.specs.declared.command.Limits.{Limits}
 use Rattle.toplevel.specs.declared.script_run.Stop.{Stop}
 use Rattle.toplevel.specs.declared.script_run.Stop.TheVariants.{Ended, Waits, Missing}
-use Rattle.toplevel.specs.FirstRun.{HasLimits, HasMissed, HasRunScript, IsAtBeginning, IsAtSearch, IsEnded, IsMissing, IsScriptRun, IsStopOf, IsWaiting, RunnerStands}
+use Rattle.toplevel.specs.FirstRun.{HasLimits, IsAtBeginning, IsMissing, IsScriptRun, IsStopOf, IsWaiting, RunnerStands}
 
 -- Where nothing is refused before and after a search, no refusal has stopped it.
 last_none : (causes : List Cause) (last : List Refusal) → [] ≡ map RefusalAgain causes ++ last → last ≡ []

@@ -1,5 +1,4 @@
-use Rattle.std.proofs.Common.{ℕ, List, [], ◌∙◌, ap, refl, subst, sym}
-use Rattle.pl_term.specs.Tree.{Chars}
+use Rattle.std.proofs.Common.{ℕ, [], ◌∙◌, ap}
 use Rattle.run_model.specs.CommandLine.{program_of}
 use Rattle.pl_consult.specs.declared.file_script.FileScript.{FileScript}
 use Rattle.plain_run.specs.Runners.{is_over}
