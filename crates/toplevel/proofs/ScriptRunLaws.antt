@@ -31,18 +31,18 @@ use Rattle.pl_consult.specs.declared.file_script.FileScript.{FileScript}
 use Rattle.pl_consult.specs.FileScripts.{IsFresh, Plays, execution_of, is_over as is_done, part_in}
 use Rattle.pl_consult.specs.GoalWords.{names_by}
 use Rattle.pl_consult.specs.TextLaws.{names_told}
-use Rattle.plain_run.specs.declared.runner.Lines.{Lines}
-use Rattle.plain_run.specs.declared.runner.Lines.TheVariants.{Solutions}
-use Rattle.plain_run.specs.declared.runner.Runner.{Runner}
-use Rattle.plain_run.specs.declared.runner.Stage.{Stage}
-use Rattle.plain_run.specs.declared.runner.Stage.TheVariants as stages
-use Rattle.plain_run.specs.declared.runner.Turn.TheVariants as turns
-use Rattle.plain_run.specs.declared.unfinished.Unfinished.{Unfinished}
-use Rattle.plain_run.specs.declared.unfinished.Unfinished.TheVariants as unfinished
-use Rattle.plain_run.specs.Items.{IsText}
-use Rattle.plain_run.specs.Ran.{HasBudgets, IsAtMissing, WaitsOn}
-use Rattle.plain_run.specs.Runners.{AnswerStands, CameTo, IsBetween, IsStillSearching, OutIs, SearchStands, StageIs, StageStands, StandsFor, Turned, is_over, is_search, put_by}
-use Rattle.plain_run.specs.Searched.{IsRefusedOnce, UnlessMemory, last_refusals, unfinished_refusals}
+use Rattle.engine_run.specs.declared.runner.Lines.{Lines}
+use Rattle.engine_run.specs.declared.runner.Lines.TheVariants.{Solutions}
+use Rattle.engine_run.specs.declared.runner.Runner.{Runner}
+use Rattle.engine_run.specs.declared.runner.Stage.{Stage}
+use Rattle.engine_run.specs.declared.runner.Stage.TheVariants as stages
+use Rattle.engine_run.specs.declared.runner.Turn.TheVariants as turns
+use Rattle.engine_run.specs.declared.unfinished.Unfinished.{Unfinished}
+use Rattle.engine_run.specs.declared.unfinished.Unfinished.TheVariants as unfinished
+use Rattle.engine_run.specs.Items.{IsText}
+use Rattle.engine_run.specs.Ran.{HasBudgets, IsAtMissing, WaitsOn}
+use Rattle.engine_run.specs.Runners.{AnswerStands, CameTo, IsBetween, IsStillSearching, OutIs, SearchStands, StageIs, StageStands, StandsFor, Turned, is_over, is_search, put_by}
+use Rattle.engine_run.specs.Searched.{IsRefusedOnce, UnlessMemory, last_refusals, unfinished_refusals}
 use Rattle.toplevel.specs.Unbuilt.{IsAtUnbuilt, indicated}
 use Rattle.toplevel.specs.declared.command.Limits.{Limits}
 use Rattle.toplevel.specs.declared.script_run.Stop.{Stop}

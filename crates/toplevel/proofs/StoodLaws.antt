@@ -21,7 +21,7 @@ use Rattle.script_api.specs.Scripts as scripts
 use Rattle.pl_consult.specs.declared.file_script.FileScript.{FileScript}
 use Rattle.pl_consult.specs.FileScripts.{Begins, Plays, execution_of, part_in}
 use Rattle.pl_consult.specs.GoalWords.{given_words}
-use Rattle.plain_run.specs.Items.{IsText}
+use Rattle.engine_run.specs.Items.{IsText}
 use Rattle.run_model.specs.Ends.{awaited_by, is_fault, some_fault}
 use Rattle.run_model.specs.CommandLine.{program_of}
 use Rattle.toplevel.specs.declared.command.Command.{Command}

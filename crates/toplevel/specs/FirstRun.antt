@@ -19,14 +19,14 @@ use Rattle.pl_model.specs.Resolution.{State}
 use Rattle.pl_consult.specs.declared.file_script.FileScript.{FileScript}
 use Rattle.pl_consult.specs.FileScripts.{Plays, execution_of, part_in}
 use Rattle.pl_consult.specs.GoalWords.{names_by}
-use Rattle.plain_run.specs.Items.{IsText}
-use Rattle.plain_run.specs.Ran.{WaitsOn}
-use Rattle.plain_run.specs.Runners.{StandsFor}
-use Rattle.plain_run.specs.declared.runner.Lines.TheVariants.{Solutions}
-use Rattle.plain_run.specs.declared.runner.Runner.{Runner}
-use Rattle.plain_run.specs.declared.runner.Stage.TheVariants.{Asks}
-use Rattle.plain_run.specs.declared.unfinished.Unfinished.{Unfinished}
-use Rattle.plain_run.specs.declared.unfinished.Unfinished.TheVariants as unfinished
+use Rattle.engine_run.specs.Items.{IsText}
+use Rattle.engine_run.specs.Ran.{WaitsOn}
+use Rattle.engine_run.specs.Runners.{StandsFor}
+use Rattle.engine_run.specs.declared.runner.Lines.TheVariants.{Solutions}
+use Rattle.engine_run.specs.declared.runner.Runner.{Runner}
+use Rattle.engine_run.specs.declared.runner.Stage.TheVariants.{Asks}
+use Rattle.engine_run.specs.declared.unfinished.Unfinished.{Unfinished}
+use Rattle.engine_run.specs.declared.unfinished.Unfinished.TheVariants as unfinished
 use Rattle.toplevel.specs.declared.command.Limits.{Limits}
 use Rattle.toplevel.specs.Unbuilt.{IsAtUnbuilt, indicated}
 use Rattle.toplevel.specs.declared.script_run.Stop.{Stop}

@@ -1,7 +1,7 @@
 use Rattle.std.proofs.Common.{ℕ, [], ◌∙◌, ap}
 use Rattle.run_model.specs.CommandLine.{program_of}
 use Rattle.pl_consult.specs.declared.file_script.FileScript.{FileScript}
-use Rattle.plain_run.specs.Runners.{is_over}
+use Rattle.engine_run.specs.Runners.{is_over}
 use Rattle.toplevel.specs.Commands.{told_command}
 use Rattle.plain_world.specs.Entries.{told_of}
 use Rattle.world_api.specs.Told.{Told}

@@ -1,8 +1,8 @@
 use Rattle.std.proofs.Common.{refl, ◌∙◌, ap, subst, Ok, Err}
 use Rattle.std.proofs.lemmas.Result.{IfOk-weaker}
-use Rattle.plain_run.specs.declared.runner.Turn.{Turn}
-use Rattle.plain_run.specs.declared.runner.Turn.TheVariants.{Ended}
-use Rattle.plain_run.specs.Runners.{ends_by}
+use Rattle.engine_run.specs.declared.runner.Turn.{Turn}
+use Rattle.engine_run.specs.declared.runner.Turn.TheVariants.{Ended}
+use Rattle.engine_run.specs.Runners.{ends_by}
 use Rattle.toplevel.proofs.ScriptRunLaws.{TurnsTo, ended_so, goes_last, gone_nowhere, gone_on, none_unfinished, stopped_so, unless_stopped}
 use Rattle.toplevel.proofs.script_run.run_script.Goals as goal
 

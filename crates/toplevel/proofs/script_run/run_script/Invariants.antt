@@ -1,8 +1,8 @@
 use Rattle.std.proofs.Common.{◌≡◌, false, []}
 use Rattle.world_api.specs.Told.{has_ended}
 use Rattle.pl_consult.specs.FileScripts.{is_over as is_done, part_in}
-use Rattle.plain_run.specs.declared.runner.Lines.TheVariants.{Solutions}
-use Rattle.plain_run.specs.Runners.{IsBetween, is_over}
+use Rattle.engine_run.specs.declared.runner.Lines.TheVariants.{Solutions}
+use Rattle.engine_run.specs.Runners.{IsBetween, is_over}
 use Rattle.toplevel.proofs.ScriptRunLaws.{HasGone}
 use Rattle.toplevel.proofs.script_run.run_script.Given as goal
 

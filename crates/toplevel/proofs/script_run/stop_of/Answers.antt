@@ -1,9 +1,9 @@
 use Rattle.std.proofs.Common.{◌≡◌, [], sym, subst}
 use Rattle.std.proofs.lemmas.Result.{IfOk-weaker}
 use Rattle.atom_words.specs.declared.view.Refusal.TheVariants.{Full as RefusalFull}
-use Rattle.plain_run.specs.declared.unfinished.Unfinished.{Unfinished}
-use Rattle.plain_run.specs.Ran.{IsNameHeld}
-use Rattle.plain_run.specs.Searched.{unfinished_refusals}
+use Rattle.engine_run.specs.declared.unfinished.Unfinished.{Unfinished}
+use Rattle.engine_run.specs.Ran.{IsNameHeld}
+use Rattle.engine_run.specs.Searched.{unfinished_refusals}
 use Rattle.toplevel.specs.FirstRun.{IsStopOf}
 use Rattle.toplevel.proofs.ScriptRunLaws.{one_never}
 use Rattle.toplevel.proofs.script_run.stop_of.Goals as goal
