@@ -20,6 +20,7 @@ mod Marking
 mod Closing
 mod Reclaiming
 mod InOrder
+mod Sorting
 mod Hinted
 mod Indexing
 mod Housing

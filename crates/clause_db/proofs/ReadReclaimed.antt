@@ -3,7 +3,7 @@ use Rattle.std.proofs.Common.{◌≡◌, ℕ, zero, suc, List, [], ◌∷◌, ma
 use Rattle.gen_core.specs.declared.dated_clause.DatedClause.{DatedClause}
 use Rattle.clause_db.specs.Parts.{Held, Piece}
 use Rattle.clause_db.specs.Reading.{read_dated, read_piece, read_held}
-use Rattle.clause_db.specs.Reclaimed.{is_left, is_remembered, reclaimed, reclaimed_at, reclaimed_held}
+use Rattle.clause_db.specs.Reclaimed.{is_left, reclaimed, reclaimed_at, reclaimed_held}
 
 module _ {C B : Type 0} (f : C → B) (floor : ℕ) where
   left_read : (ds : List (DatedClause C)) → map (read_dated f) (filter (is_left floor) ds) ≡ filter (is_left floor) (map (read_dated f) ds)

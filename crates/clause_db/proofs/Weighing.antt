@@ -1,5 +1,5 @@
 -- What the clauses weigh that are held after a change.
-use Rattle.std.proofs.Common.{◌≡◌, ◌+◌, ℕ, zero, suc, List, [], ◌∷◌, ◌++◌, filter, find, map, Option, Some, None, Bool, true, false, cond, not, ◌&&◌, refl, ap, ap₂, sym, ◌∙◌, arith}
+use Rattle.std.proofs.Common.{◌≡◌, ◌+◌, ℕ, zero, suc, List, [], ◌∷◌, ◌++◌, filter, find, map, Option, Some, None, Bool, true, false, cond, not, ◌&&◌, refl, ap, ap₂, ◌∙◌, arith}
 use Rattle.std.specs.Prelude.{◌==◌, IfSome, IfNone, ◌<◌, length}
 use Rattle.std.specs.List.{slice_get, sum_by}
 use Rattle.std.specs.List.Sorted.{IsPermutation}

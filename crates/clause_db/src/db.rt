@@ -727,7 +727,7 @@ impl<C: Kept> Db<C> {
     }
 
     /// The procedures of which the generation `g` sees a clause, in the standard order of their indicators
-    /// (current_predicate/1, ISO 8.8.2). The only error is out of memory. Its time grows with the square of their number,
+    /// (current_predicate/1, ISO 8.8.2). The only error is out of memory. The time grows with `n log n` for `n` procedures,
     /// and with the number of clauses.
     pub fn current_procedures(&self, g: u64) -> Result<Vec<Proc>, Memory>
         requires { self.now.floor ≤ g }

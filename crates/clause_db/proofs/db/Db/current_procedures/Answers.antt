@@ -1,4 +1,4 @@
-use Rattle.std.proofs.Common.{[], map, ap, subst, ◌∙◌}
+use Rattle.std.proofs.Common.{[], map, ap, sym, subst, ◌∙◌}
 use Rattle.clause_db.specs.Listed.{listed_from}
 use Rattle.clause_db.specs.Parts.{piece}
 use Rattle.clause_db.specs.Sound.{Apart, names}
@@ -24,3 +24,6 @@ returns-clause-says g c = λ f d s.
     ∙ ap (λ h. listed_from c.args.g [] h.parts) c.self.view_is
     ∙ listed_says f c.args.self.now d s c.args.g c.requires (subst (λ h. Apart (names h.parts)) c.self.view_is c.self.invariant.sound.apart))
     c.listed.ensures
+
+pub listed-requires : goal.listed-requires
+listed-requires g c = subst (λ l. Apart (names (map piece l))) (sym c.as_slice.ensures.value) c.self.invariant.sound.apart
