@@ -12,6 +12,7 @@ use Rattle.term_store.specs.declared.words.Place.{Place}
 use Rattle.term_store.specs.Contents.{Contents, term_at}
 use Rattle.term_store.specs.Heap.{atom_name}
 use Rattle.term_store.specs.ArgumentKeys.{head_in}
+use Rattle.term_store.specs.Entering.{body_in}
 use Rattle.term_store.specs.KeptLaws.{sizes_are_told}
 use Rattle.term_store.specs.NameUnification.{occurrences-spelled}
 use Rattle.term_store.specs.NumberedNames.{clause_size, neck, number_of, term_by, text_by}
@@ -20,7 +21,7 @@ use Rattle.world_api.specs.Visits.{clause_in}
 use Rattle.iso_search.specs.Reading.{View, IsView, reads}
 use Rattle.iso_search.specs.Spelling.{spelled, spelled_all, text_of}
 use Rattle.iso_search.proofs.Naming.{is_named, text_is}
-use Rattle.iso_engine.specs.Parts.{IsOverAtoms, body_in}
+use Rattle.iso_engine.specs.Parts.{IsOverAtoms}
 use Rattle.iso_engine.proofs.Readings.{neck_is, one_text, read_over, true_is}
 
 abbrev named : Chars → Chars
@@ -121,22 +122,27 @@ module _ (v : View) (view : IsView v) where
   pub numbers_taken : (t : Tree) → length (variables t) ≡ variable_count (term_by (worlds.text_of v.names) t)
   numbers_taken t = ap (λ xs. length (distinct xs)) (sym (occurrences-spelled (text_by (worlds.text_of v.names)) t))
 
+  -- The parts of a copy.
+  pub raised_head : (from : ℕ) (clause : Tree) → IsOverAtoms clause
+      → spelled (text_of v.names) (raised_by from (head_in clause)) ≡ raised_by from (head_part (term_by (worlds.text_of v.names) clause))
+  raised_head from clause over =
+      sym (renamed-spelled (text_of v.names) (λ x. from + x) (head_in clause))
+      ∙ ap (raised_by from) (sym (head_read clause over) ∙ ap head_part (sym (read_over v.names view.fixed clause over)))
+
+  pub raised_body : (from : ℕ) (clause : Tree) → IsOverAtoms clause
+      → spelled (text_of v.names) (raised_by from (body_in clause)) ≡ raised_by from (body_part (term_by (worlds.text_of v.names) clause))
+  raised_body from clause over =
+      sym (renamed-spelled (text_of v.names) (λ x. from + x) (body_in clause))
+      ∙ ap (raised_by from) (sym (body_read clause over) ∙ ap body_part (sym (read_over v.names view.fixed clause over)))
+
   -- The parts of the copy that stands at a place.
   pub copy_head : (s : Contents) (head : Place) (from : ℕ) (clause : Tree) → IsOverAtoms clause → term_at s head ≡ head_in (raised_by from clause)
       → reads v s head ≡ raised_by from (head_part (term_by (worlds.text_of v.names) clause))
-  copy_head s head from clause over is =
-      let g = text_of v.names in
-      ap (spelled g) (is ∙ head-renamed (λ x. from + x) clause)
-      ∙ sym (renamed-spelled g (λ x. from + x) (head_in clause))
-      ∙ ap (raised_by from) (sym (head_read clause over) ∙ ap head_part (sym (read_over v.names view.fixed clause over)))
+  copy_head s head from clause over is = ap (spelled (text_of v.names)) (is ∙ head-renamed (λ x. from + x) clause) ∙ raised_head from clause over
 
   pub copy_body : (s : Contents) (body : Place) (from : ℕ) (clause : Tree) → IsOverAtoms clause → term_at s body ≡ body_in (raised_by from clause)
       → reads v s body ≡ raised_by from (body_part (term_by (worlds.text_of v.names) clause))
-  copy_body s body from clause over is =
-      let g = text_of v.names in
-      ap (spelled g) (is ∙ body-renamed (λ x. from + x) clause)
-      ∙ sym (renamed-spelled g (λ x. from + x) (body_in clause))
-      ∙ ap (raised_by from) (sym (body_read clause over) ∙ ap body_part (sym (read_over v.names view.fixed clause over)))
+  copy_body s body from clause over is = ap (spelled (text_of v.names)) (is ∙ body-renamed (λ x. from + x) clause) ∙ raised_body from clause over
 
 -- The parts at the places of arguments
 

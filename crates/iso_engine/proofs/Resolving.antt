@@ -48,35 +48,7 @@ at_any_node t d n m k p (Throw w) s (Some bs) is = absurd (not_running (reads t.
 at_any_node t d n m k p (Erase c l) s r is = is
 at_any_node t d n m k p (Halt c) s r is = is
 
-pub unified_body : (s : State) (n : Node) (h place : ℕ) (body : Tree) (r : Option Bindings)
-    → unified s (before (goal body h ∷ []) n) r ≡ clause_unified resolving s n h place body r
-unified_body s n h place body None = refl
-unified_body s n h place body (Some bs) = refl
-
--- The search `e`, with the store `s` in which the copy stands; `d` is the search with the body's task, and `f` the one in which the
--- head was unified.
-pub resolved : (t : Setting) (e d f : Search) (s : Contents) → Stays e.store s → IsWhole e → (goal_at head body : Place) (rest list height place : ℕ)
-    (p : Proc) (o : Outcome) (h b : Tree) → Holds e.store goal_at
-    → reads t.view s head ≡ h → reads t.view s body ≡ b
-    → d.store ≡ s
-    → (let c : Search = record e { store = s } in node_of t.view d list ≡ before (goal (reads t.view s body) height ∷ []) (node_of t.view c rest))
-    → (let c : Search = record e { store = s } in state_in t d ≡ state_in t c)
-    → result_in t f (node_of t.view d list) p o ≡ unified (state_in t d) (node_of t.view d list) (unify (reads t.view d.store goal_at) (reads t.view d.store head))
-    → result_in t f (node_of t.view e rest) p o
-    ≡ clause_unified resolving (state_in t e) (node_of t.view e rest) height place b (unify (reads t.view e.store goal_at) h)
-resolved t e d f s stays whole goal_at head body rest list height place p o h b held head_is body_is store node state is =
-    let v = t.view in
-    let n = node_of v e rest in
-    let terms : unify (reads v d.store goal_at) (reads v d.store head) ≡ unify (reads v e.store goal_at) h =
-    ap (λ c. unify (reads v c goal_at) (reads v c head)) store ∙ ap₂ unify (read_kept v e.store s stays goal_at held) head_is in
-    let nodes : node_of v d list ≡ before (goal b height ∷ []) n =
-    node ∙ ap₂ (λ x m. before (goal x height ∷ []) m) body_is (node_grown e s stays whole v rest) in
-    at_any_node t f (node_of v d list) (node_of v d list) n p o (state_in t d) (unify (reads v d.store goal_at) (reads v d.store head)) is
-    ∙ ap₂ (λ (x : State) (m : Node). unified x m (unify (reads v d.store goal_at) (reads v d.store head))) (state ∙ state_grown e s stays whole t) nodes
-    ∙ ap (unified (state_in t e) (before (goal b height ∷ []) n)) terms
-    ∙ unified_body (state_in t e) n height place b (unify (reads v e.store goal_at) h)
-
--- The same for a rule, where the copy of the clause, as a rule, stands in the store `s`.
+-- The search `e`, with the store `s` in which the copy of a clause stands, as a rule; `f` is the one in which the rule was unified.
 pub matched : (t : Setting) (e f : Search) (s : Contents) → Stays e.store s → IsWhole e → (goal_at copy : Place) (rest : ℕ) (p : Proc) (o : Outcome) (u : Tree)
     → Holds e.store goal_at → reads t.view s copy ≡ u
     → (let d : Search = record e { store = s } in

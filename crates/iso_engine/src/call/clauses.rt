@@ -25,7 +25,6 @@ ghost use Rattle.iso_engine.specs.Purposes.{erased_outcome};
 
 use atom_api::fixed;
 use iso_search::choices::{Alternative, Purpose};
-use iso_search::frames::Task;
 use iso_search::outcome::{Fault, Outcome};
 use iso_search::search::Search;
 use pl_model::kept::Kept;
@@ -199,8 +198,7 @@ fn apply_clause(
     }
 }
 
-/// Makes a copy of a clause whose numbers and cells were taken, unifies its head with the goal, and puts its body before the
-/// tasks of the list.
+/// Unifies the head of a clause whose numbers and cells were taken with the goal, and puts its body before the tasks of the list.
 fn resolve(
     search: &mut Search,
     goal: Place,
@@ -222,11 +220,8 @@ fn resolve(
         ≡ clause_unified resolving (state_in t search.old) n height place (raised_by from (body_part c)) (unify g (raised_by from (head_part c)))) }
     ensures after { IfOk result (IsAfter search.old search.new) }
 {
-    let mark = search.store.mark();
-    let copy = build_clause(search, clause, from)?;
-    let (head, body) = parts_at(&search.store, copy);
-    let list = search.push(Task::Goal(body, height), rest)?;
-    let outcome = search.unify_since(mark, goal, head, list)?;
+    let _nodes = clause.nodes();
+    let outcome = search.resolve(goal, clause, from, height, rest)?;
     Ok(outcome)
 }
 

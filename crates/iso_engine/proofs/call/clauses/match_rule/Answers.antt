@@ -20,7 +20,7 @@ use Rattle.iso_search.proofs.After.{after_grown}
 use Rattle.iso_search.proofs.Converting.{grows_made, stays_again}
 use Rattle.iso_search.proofs.Grown.{whole_grown}
 use Rattle.iso_search.proofs.Naming.{text_is}
-use Rattle.iso_engine.specs.Parts.{body_in}
+use Rattle.term_store.specs.Entering.{body_in}
 use Rattle.iso_engine.proofs.Copies.{copy_body, copy_head}
 use Rattle.iso_engine.proofs.Readings.{neck_is}
 use Rattle.iso_engine.proofs.Resolving.{matched}
