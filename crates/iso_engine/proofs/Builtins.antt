@@ -133,6 +133,11 @@ module _ (v : View) (view : IsView v) where
         subst (λ x. IsOther (spelled (text_of v.names) x) (builtin_alone o)) (sym is)
         (alone_is (atom (texts name)) name 0 refl refl (λ k. ap is_predicate k) (λ k. k) refl o told)
 
+    pub atom_is_none : (name : ℕ) → term_at s at ≡ atom (atom_name name) → TellsRows name 0 None → TellsShared name 0 None → IsNoBuiltin (reads v s at)
+    atom_is_none name is rows shares =
+        subst (λ x. IsNoBuiltin (spelled (text_of v.names) x)) (sym is)
+        (none_is (atom (texts name)) name 0 refl refl (λ k. ap is_predicate k) (λ k. k) rows shares)
+
     -- A goal with arguments reads as one.
     module _ (name : ℕ) (a : Arguments) (is : term_at s at ≡ compound (atom_name name) (arguments_at s a)) (args : IsArguments s a) (some : 0 < a.count) where
       abbrev IsOfGoals : (Tree → Type 0) → Type 0

@@ -18,6 +18,7 @@ pub mod Failed
 pub mod Followed
 pub mod FollowedReplies
 pub mod FollowedRows
+pub mod FreeNames
 pub mod Fresh
 pub mod Giving
 pub mod Grown

@@ -16,6 +16,7 @@ ghost use Rattle.iso_engine.specs.Unserved.{as_stopped, stopped_refusals};
 pub mod called;
 pub mod calls;
 pub mod clauses;
+pub mod direct;
 pub mod goals;
 pub mod retries;
 

@@ -14,6 +14,7 @@ ghost use Rattle.iso_engine.specs.Following.{HasProcedure, IsInteger, StepsTo};
 ghost use Rattle.iso_engine.specs.Tasks.{IsDone, IsForOthers, IsLeftOver};
 
 use crate::builtin::{Builtin, RowGoal, builtin_at};
+use crate::call::direct::direct_call;
 use crate::doing::Doing;
 use crate::equal::{equal, unification_at};
 use crate::findall::collect;
@@ -108,6 +109,9 @@ fn do_goal(
     ensures done { IfOk result (IsDone search.old (Goal goal cut) rest search.new) }
     ensures budgets { OnOk result (search.new.budgets ≡ search.old.budgets) }
 {
+    if let Some(procedure) = direct_call(&search.store, goal) {
+        return Ok(Did::Call(goal, procedure));
+    }
     if let Some(arguments) = unification_at(&search.store, goal) {
         let doing = equal(alloc, search, goal, arguments, rest)?;
         return Ok(Did::Next(doing));

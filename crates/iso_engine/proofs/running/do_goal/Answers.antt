@@ -1,5 +1,6 @@
 use Rattle.std.proofs.Common.{refl}
-use Rattle.iso_engine.proofs.Arms.{when_none}
+use Rattle.iso_engine.specs.Calling.{IsCallAt}
+use Rattle.iso_engine.proofs.Arms.{when_none, when_some}
 use Rattle.iso_engine.proofs.Unbuilt.{integer_missing, left_done}
 use Rattle.iso_engine.proofs.running.do_goal.Goals as goal
 
@@ -10,3 +11,7 @@ returns-in-None-clause-done c =
 
 pub returns-in_default-procedure_at-clause-done : goal.returns-in_default-procedure_at-clause-done
 returns-in_default-procedure_at-clause-done c = (refl, integer_missing c.args.search.now.store c.args.goal c.args.cut c.in_default-procedure_at.ensures)
+
+pub returns-in-Some-clause-done : goal.returns-in-Some-clause-done
+returns-in-Some-clause-done c =
+    (refl, (c.args.cut, refl), when_some (IsCallAt c.args.search.now.store c.args.goal) _ _ c.direct_call.ensures c.in-Some.is)
