@@ -13,8 +13,9 @@ use crate::ending::ends_over;
 use crate::runner::{Runner, Stage, Turn};
 use crate::unfinished::Unfinished;
 use iso_engine::engine::Engine;
+use named_terms::NamedTerm;
 use pl_model::ends::How;
-use pl_term::{Flat, Memory};
+use pl_term::Memory;
 use script_api::{Next, Script};
 use term_store::Stored;
 use world_api::World;
@@ -23,7 +24,7 @@ impl<S: Script<Term = Stored> + Drop> Runner<S> {
     /// Asks the script for its next item, where a directive has ended so, or none is at hand, and begins its search.
     pub(crate) fn ask<W: World<Term = Stored>>(
         &mut self,
-        ended: Option<How<Flat>>,
+        ended: Option<How<NamedTerm>>,
         world: &mut W,
         atoms: &mut W::A,
     ) -> Result<Turn, Unfinished>

@@ -11,8 +11,8 @@ ghost use Rattle.engine_run.specs.Searched.{IsRefusedOnce, UnlessMemory, last_re
 
 use crate::runner::{Runner, Stage, Turn};
 use crate::unfinished::Unfinished;
+use named_terms::NamedTerm;
 use pl_model::ends::How;
-use pl_term::Flat;
 use script_api::{Next, Script};
 use term_store::Stored;
 use world_api::World;
@@ -21,7 +21,7 @@ impl<S: Script<Term = Stored> + Drop> Runner<S> {
     /// Gives the end of the goal at hand to the script. The engine has ended then.
     pub(crate) fn close<W: World<Term = Stored>>(
         &mut self,
-        how: How<Flat>,
+        how: How<NamedTerm>,
         world: &mut W,
         atoms: &mut W::A,
     ) -> Result<Turn, Unfinished>

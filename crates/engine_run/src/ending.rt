@@ -11,14 +11,19 @@ ghost use Rattle.engine_run.specs.Endings.{HasEndedAs, IsEndOfSearch};
 use atom_api::Atoms;
 use iso_engine::doing::{Doing, End};
 use iso_engine::engine::Engine;
+use named_terms::NamedTerm;
 use pl_model::ends::How;
-use pl_term::{Flat, Memory};
+use pl_term::Memory;
 use std::alloc::Global;
-use world_builtins::flat_of;
+use world_builtins::named_of;
 
 /// How the search of an engine has ended: a ball as a term with its own texts, its variables with the numbers that they
 /// had (ISO 7.8.10). The only error is out of memory.
-pub fn how_at<A: Atoms>(alloc: Global, engine: &Engine, atoms: &mut A) -> Result<How<Flat>, Memory>
+pub fn how_at<A: Atoms>(
+    alloc: Global,
+    engine: &Engine,
+    atoms: &mut A,
+) -> Result<How<NamedTerm>, Memory>
     requires ended { IsEnd engine.now.doing }
     requires ready { (t : Told) × IsReady (A.held atoms.old) t engine.now }
     ensures how { IfOk result (HasEndedAs (A.held atoms.old) engine.now) }
@@ -34,7 +39,7 @@ pub fn how_at<A: Atoms>(alloc: Global, engine: &Engine, atoms: &mut A) -> Result
         End::NoMore => Ok(How::False),
         End::Threw(ball) => {
             let nodes = ball.nodes()?;
-            let term = flat_of(alloc, &nodes, atoms)?;
+            let term = named_of(alloc, &nodes, atoms)?;
             Ok(How::Threw(term))
         }
         End::Halted(status) => Ok(How::Halted(*status)),
@@ -42,7 +47,7 @@ pub fn how_at<A: Atoms>(alloc: Global, engine: &Engine, atoms: &mut A) -> Result
 }
 
 /// How an engine ended that has run no goal: by the status with which a directive has halted, if one has, else solved.
-pub fn ends_over(halted: Option<u8>) -> How<Flat>
+pub fn ends_over(halted: Option<u8>) -> How<NamedTerm>
     ensures ends { (ending : Ending) (os : List Output) → LeavesOff halted None None ending os → EndsSo ending result }
     ensures told { IsEndOfSearch result }
 {

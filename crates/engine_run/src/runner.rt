@@ -16,8 +16,9 @@ use atom_api::Atoms;
 use iso_engine::doing::Doing;
 use iso_engine::engine::Engine;
 use iso_search::search::Budgets;
+use named_terms::NamedTerm;
 use pl_model::ends::How;
-use pl_term::{Flat, Memory};
+use pl_term::Memory;
 use script_api::Script;
 use std::alloc::Global;
 use std::mem;
@@ -53,7 +54,7 @@ pub enum Turn {
     /// The engine goes on.
     Goes,
     /// It has ended so.
-    Ended(How<Flat>),
+    Ended(How<NamedTerm>),
 }
 
 /// An engine with its script: the budgets of each of its searches, how many solutions of its goal are wanted, what is
@@ -164,7 +165,7 @@ pub(crate) fn ended_at<A: Atoms>(
     alloc: Global,
     engine: &Engine,
     atoms: &mut A,
-) -> Result<Option<How<Flat>>, Memory>
+) -> Result<Option<How<NamedTerm>>, Memory>
     requires ready { (t : Told) × IsReady (A.held atoms.old) t engine.now }
     ensures how { IfOk result (EndedSo (A.held atoms.old) engine.now) }
     ensures same { A.held atoms.new ≡ A.held atoms.old }

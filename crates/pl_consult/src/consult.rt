@@ -16,13 +16,14 @@ ghost use Rattle.pl_consult.specs.Taking.{IsTakenOf, IsTakenAt, HasPutOff, MayPu
 use crate::bodies::{Checked, bounded_variables, checked_clause};
 use crate::items::{directive_of, initialization_of};
 use crate::words::consulting_ball;
+use named_terms::NamedTerm;
 use op_table::OpTable;
 use pl_model::ends::How;
 use pl_model::grammar::Quotes;
 use pl_model::syntax::SyntaxKind;
 use pl_report::{
     put_failed_directive, put_halted_directive, put_no_atom_space, put_refused_item,
-    put_syntax_fault, put_too_large,
+    put_syntax_fault, put_too_large, put_uncaught_item,
 };
 use pl_term::{Flat, Memory, Text};
 use prolog_reader::{Read, read_term, skip};
@@ -224,7 +225,7 @@ impl Consult {
         &self,
         alloc: Global,
         place: usize,
-        how: &How<Flat>,
+        how: &How<NamedTerm>,
         ops: &OpTable,
         out: &mut Vec<u8>,
     ) -> Result<(), Memory>
@@ -233,7 +234,7 @@ impl Consult {
     {
         match how {
             How::False => put_failed_directive(out, &self.name, place),
-            How::Threw(ball) => put_refused_item(alloc, out, &self.name, place, ball, ops),
+            How::Threw(ball) => put_uncaught_item(alloc, out, &self.name, place, ball, ops),
             How::Halted(status) => put_halted_directive(out, &self.name, place, *status),
             How::AtomSpace(_) => put_no_atom_space(out, &self.name, place),
             How::Solved => Ok(()),

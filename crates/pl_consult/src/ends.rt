@@ -6,16 +6,15 @@ ghost use Rattle.pl_consult.specs.FileScripts.{IsReport};
 
 use crate::counts::count;
 use crate::stage::Stage;
+use named_terms::NamedTerm;
 use pl_model::ends::How;
-use pl_term::{Flat, Memory};
-use std::alloc::Global;
+use pl_term::Memory;
 
 /// The stage at which it is to be reported how the directive at this byte has ended, to which a move leads. The only error
 /// is out of memory.
 pub(crate) fn to_report(
-    alloc: Global,
     place: usize,
-    ended: Option<&How<Flat>>,
+    ended: Option<&How<NamedTerm>>,
     moves: &mut u64,
 ) -> Result<Stage, Memory>
     requires { IsSome (option_map (λ b. b.now) ended) }
@@ -26,21 +25,21 @@ pub(crate) fn to_report(
     match ended {
         Some(how) => Ok(Stage::Report {
             place,
-            how: copied(alloc, how)?,
+            how: shared(how)?,
         }),
         None => unreachable!(),
     }
 }
 
-/// A second end that is the same. The only error is out of memory.
-fn copied(alloc: Global, how: &How<Flat>) -> Result<How<Flat>, Memory>
+/// The same end for another holder. The only error is out of memory.
+fn shared(how: &How<NamedTerm>) -> Result<How<NamedTerm>, Memory>
     ensures { IfOk result (λ h. h ≡ how.now) }
 {
     match how {
         How::Solved => Ok(How::Solved),
         How::False => Ok(How::False),
-        How::Threw(ball) => Ok(How::Threw(ball.copy(alloc)?)),
-        How::Exited(term) => Ok(How::Exited(term.copy(alloc)?)),
+        How::Threw(ball) => Ok(How::Threw(ball.share()?)),
+        How::Exited(term) => Ok(How::Exited(term.share()?)),
         How::Halted(status) => Ok(How::Halted(*status)),
         How::AtomSpace(record) => Ok(How::AtomSpace(*record)),
     }

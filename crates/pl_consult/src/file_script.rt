@@ -31,11 +31,12 @@ use crate::reports::report;
 use crate::stage::{Stage, Step, can_step, directive_at};
 use crate::stops::next_by;
 use crate::taking::take_item;
+use named_terms::NamedTerm;
 use op_table::OpTable;
 use pl_model::ends::How;
 use pl_model::grammar::Quotes;
 use pl_model::syntax::SyntaxFault;
-use pl_term::{Flat, Memory, Text};
+use pl_term::{Memory, Text};
 use script_api::{Next, Script};
 use std::alloc::Global;
 use std::mem;
@@ -381,7 +382,7 @@ impl Script for FileScript {
 
     fn next<W: World<Term = Stored>>(
         &mut self,
-        ended: Option<&How<Flat>>,
+        ended: Option<&How<NamedTerm>>,
         world: &mut W,
         atoms: &mut W::A,
         text: &mut Vec<u8>,
@@ -392,7 +393,7 @@ impl Script for FileScript {
             return self.go_on(stage, text.len(), world, atoms, text, moves);
         }
         match stage {
-            Stage::AtDirective { place } => match to_report(self.alloc, place, ended, moves) {
+            Stage::AtDirective { place } => match to_report(place, ended, moves) {
                 Ok(stage) => self.go_on(stage, text.len(), world, atoms, text, moves),
                 Err(_) => Next::Memory,
             },

@@ -15,9 +15,9 @@ use crate::consult::Consult;
 use crate::looks::look_at;
 use crate::stage::{Stage, Step};
 use crate::stops::next_by;
+use named_terms::NamedTerm;
 use op_table::OpTable;
 use pl_model::ends::How;
-use pl_term::Flat;
 use script_api::Next;
 use std::alloc::Global;
 use term_store::Stored;
@@ -28,7 +28,7 @@ pub fn report<W: World<Term = Stored>>(
     alloc: Global,
     consult: &Consult,
     place: usize,
-    how: How<Flat>,
+    how: How<NamedTerm>,
     world: &mut W,
     atoms: &mut W::A,
     text: &mut Vec<u8>,
@@ -55,7 +55,7 @@ fn report_under(
     alloc: Global,
     consult: &Consult,
     place: usize,
-    how: How<Flat>,
+    how: How<NamedTerm>,
     operators: &OpTable,
     text: &mut Vec<u8>,
 ) -> (Stage, Step)
@@ -81,7 +81,7 @@ fn report_under(
 }
 
 /// The status with which a directive has halted, if it has.
-fn status(how: &How<Flat>) -> Option<u8>
+fn status(how: &How<NamedTerm>) -> Option<u8>
     ensures { result ≡ status_of how.now }
 {
     match how {

@@ -3,6 +3,7 @@ ghost use Rattle.std.specs.Prelude.{◌≡◌};
 ghost use Rattle.pl_consult.specs.declared.consult.Place.{Place};
 ghost use Rattle.pl_consult.specs.Steps.{can_step, directive_place, part_of};
 
+use named_terms::NamedTerm;
 use op_table::OpTable;
 use pl_model::ends::How;
 use pl_term::Flat;
@@ -33,7 +34,7 @@ pub enum Stage {
     /// It has ended so, which is to be reported.
     Report {
         place: usize,
-        how: How<Flat>,
+        how: How<NamedTerm>,
     },
     /// The goal words are to be read.
     Words,

@@ -4,3 +4,4 @@ pub mod LineLemmas
 pub mod BindingLemmas
 pub mod SectionLemmas
 pub mod ReportLaws
+pub mod WrittenLaws

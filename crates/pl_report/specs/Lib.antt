@@ -3,3 +3,4 @@ pub mod Bindings
 pub mod Sections
 pub mod Pieces
 pub mod Reported
+pub mod WrittenNodes

@@ -7,7 +7,8 @@ ghost use Rattle.pl_report.specs.Adds.{Adds};
 ghost use Rattle.pl_report.specs.Pieces.{place_text};
 
 use crate::kinds::put_kind;
-use crate::lines::{close, end_line, put, put_number, put_term, put_words};
+use crate::lines::{close, end_line, put, put_named, put_number, put_term, put_words};
+use named_terms::NamedTerm;
 use op_table::OpTable;
 use pl_model::syntax::SyntaxKind;
 use pl_term::{Flat, Memory, Text};
@@ -45,8 +46,7 @@ pub fn put_syntax_fault(
     Ok(())
 }
 
-/// Puts the line for the ball of the item at the byte `at`: one for which a clause was refused, or with which a
-/// directive ended. It is written under the operators `ops`. The only error is out of memory: then the text may have a
+/// Puts the line for the ball of the item at the byte `at` for which its clause was refused. It is written under the operators `ops`. The only error is out of memory: then the text may have a
 /// part of the line.
 pub fn put_refused_item(
     alloc: Global,
@@ -62,6 +62,26 @@ pub fn put_refused_item(
     close(out)?;
     put_place(out, name, at)?;
     put_term(alloc, out, ball, ops)?;
+    end_line(out)?;
+    Ok(())
+}
+
+/// Puts the line for the ball with which the directive of the item at the byte `at` ended, under the operators `ops`. The only error
+/// is out of memory: then the text may have a part of the line.
+pub fn put_uncaught_item(
+    alloc: Global,
+    out: &mut Vec<u8>,
+    name: &Text,
+    at: usize,
+    ball: &NamedTerm,
+    ops: &OpTable,
+) -> Result<(), Memory>
+    ensures { (t : Chars) → out.old.items ≡ encode_utf8_all t
+        → OnOk result (out.new.items ≡ encode_utf8_all (with_consulted name.now t (ball_of_item ops.now at ball.now))) }
+{
+    close(out)?;
+    put_place(out, name, at)?;
+    put_named(alloc, out, ball, ops)?;
     end_line(out)?;
     Ok(())
 }

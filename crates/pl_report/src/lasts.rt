@@ -10,11 +10,12 @@ ghost use Rattle.pl_report.specs.Sections.{fault_line, thread_how_line, thread_l
 
 use crate::file::put_halted;
 use crate::kinds::put_kind;
-use crate::lines::{end_line, put_number, put_stop, put_term, put_words};
+use crate::lines::{end_line, put_named, put_number, put_stop, put_words};
+use named_terms::NamedTerm;
 use op_table::OpTable;
 use pl_model::ends::How;
 use pl_model::syntax::SyntaxKind;
-use pl_term::{Flat, Memory};
+use pl_term::Memory;
 use run_model::ends::GoalHow;
 use std::alloc::Global;
 
@@ -52,7 +53,12 @@ fn put_goal_how(
     }
 }
 
-fn put_how(alloc: Global, out: &mut Vec<u8>, how: &How<Flat>, ops: &OpTable) -> Result<(), Memory>
+fn put_how(
+    alloc: Global,
+    out: &mut Vec<u8>,
+    how: &How<NamedTerm>,
+    ops: &OpTable,
+) -> Result<(), Memory>
     ensures { OnOk result (Adds out.old.items out.new.items (line_text (how_last ops.now how.now))) }
 {
     match how {
@@ -77,7 +83,7 @@ pub fn put_thread_last(out: &mut Vec<u8>, how: &Option<GoalHow>) -> Result<(), M
     }
 }
 
-fn put_thread_how(out: &mut Vec<u8>, how: &How<Flat>) -> Result<(), Memory>
+fn put_thread_how(out: &mut Vec<u8>, how: &How<NamedTerm>) -> Result<(), Memory>
     ensures { OnOk result (Adds out.old.items out.new.items (line_text (thread_how_line how.now))) }
 {
     match how {
@@ -102,7 +108,7 @@ pub fn has_thread_last(how: &Option<GoalHow>) -> bool
     }
 }
 
-fn has_how_last(how: &How<Flat>) -> bool
+fn has_how_last(how: &How<NamedTerm>) -> bool
     ensures { result ≡ has_line (thread_how_line how.now) }
 {
     match how {
@@ -126,12 +132,12 @@ fn put_line(out: &mut Vec<u8>, words: &str) -> Result<(), Memory>
 }
 
 /// Puts the line for a ball that nobody caught.
-fn put_ball(alloc: Global, out: &mut Vec<u8>, ball: &Flat, ops: &OpTable) -> Result<(), Memory>
+fn put_ball(alloc: Global, out: &mut Vec<u8>, ball: &NamedTerm, ops: &OpTable) -> Result<(), Memory>
     ensures { OnOk result
         (Adds out.old.items out.new.items (stopped (codes "error: " ++ writeq ops.now 1200 ball.now) ++ newline)) }
 {
     put_words(out, "error: ")?;
-    put_term(alloc, out, ball, ops)?;
+    put_named(alloc, out, ball, ops)?;
     put_stop(out)?;
     end_line(out)?;
     Ok(())

@@ -12,7 +12,7 @@ mod solutions;
 
 pub use file::{
     put_failed_directive, put_halted_directive, put_no_atom_space, put_refused_item,
-    put_syntax_fault, put_too_large, put_waiting_directive,
+    put_syntax_fault, put_too_large, put_uncaught_item, put_waiting_directive,
 };
 pub use parts::{Section, SectionKind};
 pub use sections::transcript;

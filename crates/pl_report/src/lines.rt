@@ -1,18 +1,23 @@
 //! Texts put at the end of a transcript, in UTF-8.
-ghost use Rattle.std.specs.Prelude.{◌≡◌, ◌++◌, ◌-◌, List, ℕ, OnOk, IsTrue, decimal, length, slice_get};
+ghost use Rattle.std.specs.Prelude.{◌≡◌, ◌<◌, ◌++◌, ◌-◌, List, ℕ, ◌+◌, OnOk, IsTrue, decimal, length, slice_get};
 ghost use Rattle.std.specs.Char.{is_ascii};
 ghost use Rattle.std.specs.List.{list_all};
 ghost use Rattle.pl_model.specs.Characters.{is_symbol};
 ghost use Rattle.run_model.specs.Report.{newline, is_open, closed, stopped, ends_in_symbol};
 ghost use Rattle.pl_model.specs.TermWriting.{writeq};
+ghost use Rattle.pl_term.specs.Nodes.{nodes};
+ghost use Rattle.term_writer.specs.declared.writing.Writing.{Writing as Begun};
 ghost use Rattle.pl_report.specs.Adds.{Adds};
+ghost use Rattle.pl_report.specs.WrittenNodes.{IsWrittenTo};
 
 use itoa::Buffer;
+use named_terms::NamedTerm;
 use op_table::OpTable;
 use pl_term::{Flat, Memory, Text};
 use std::alloc::Global;
 use std::convert::AsStr;
-use term_writer::writeq;
+use std::mem;
+use term_writer::{Writing, writeq};
 
 /// The largest priority of a term that stands by itself.
 const WHOLE: u16 = 1200;
@@ -51,6 +56,35 @@ pub fn put_term(alloc: Global, out: &mut Vec<u8>, term: &Flat, ops: &OpTable) ->
     ensures { OnOk result (Adds out.old.items out.new.items (writeq ops.now 1200 term.now)) }
 {
     writeq(alloc, term, ops, WHOLE, out)?;
+    Ok(())
+}
+
+/// Puts a term that stands by itself, its nodes one after the other.
+pub fn put_named(
+    alloc: Global,
+    out: &mut Vec<u8>,
+    term: &NamedTerm,
+    ops: &OpTable,
+) -> Result<(), Memory>
+    ensures { OnOk result (Adds out.old.items out.new.items (writeq ops.now 1200 term.now)) }
+{
+    let bytes = mem::replace(out, Vec::new(alloc));
+    let mut writing = Writing::quoted(alloc, ops, WHOLE, bytes)?;
+    for i in 0..term.len() {
+        put_node(alloc, term, i, &mut writing)?;
+    }
+    *out = writing.end()?;
+    Ok(())
+}
+
+/// Puts what comes with a node of a term, those before which have come.
+fn put_node(alloc: Global, term: &NamedTerm, at: usize, writing: &mut Writing) -> Result<(), Memory>
+    requires inside { at < length (nodes term.now) }
+    requires begun { (w : Begun) × IsWrittenTo term.now w at writing.old }
+    ensures { OnOk result ((w : Begun) → IsWrittenTo term.now w at writing.old → IsWrittenTo term.now w (at + 1) writing.new) }
+{
+    let node = term.node(alloc, at)?;
+    writing.put(&node)?;
     Ok(())
 }
 

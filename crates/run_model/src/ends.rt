@@ -2,16 +2,17 @@
 ghost use Rattle.std.specs.Prelude.{◌≡◌};
 ghost use Rattle.run_model.specs.Ends.{status_of};
 
+use named_terms::NamedTerm;
 use pl_model::ends::How;
 use pl_model::syntax::SyntaxKind;
 use pl_model::threads::On;
-use pl_term::{Flat, Text};
+use pl_term::Text;
 
 /// How a goal of the command ended.
 #[derive(Debug, Drop)]
 pub enum GoalHow {
     /// Its engine ended so.
-    Ended(How<Flat>),
+    Ended(How<NamedTerm>),
     /// Its engine waits on this, and nothing wakes it.
     Waits(On),
     /// Its word is no term, by the fault of this kind at this byte.

@@ -8,8 +8,9 @@ ghost use Rattle.script_api.specs.declared.once.Stage.TheVariants.{Fresh};
 ghost use Rattle.script_api.specs.OnceGiven.{TakenUp, moves_by};
 
 use crate::script::{Next, Script};
+use named_terms::NamedTerm;
 use pl_model::ends::How;
-use pl_term::{Flat, Text};
+use pl_term::Text;
 use std::mem;
 use world_api::{Answer, Named, Visit, World};
 
@@ -82,7 +83,7 @@ impl<T: Named + Drop> Script for Once<T> {
 
     fn next<W: World<Term = T>>(
         &mut self,
-        _ended: Option<&How<Flat>>,
+        _ended: Option<&How<NamedTerm>>,
         world: &mut W,
         atoms: &mut W::A,
         _text: &mut Vec<u8>,

@@ -12,8 +12,9 @@ ghost use Rattle.script_api.specs.Parts.{Part, of_goal};
 ghost use Rattle.script_api.specs.Scripts.{AreNames, IsAsked, IsAtHand, IsLast, IsLater, IsReplied, Given, next_refusals, next_names, is_done, texts_at};
 
 use atom_api::{Atoms, Cause, Pass, WornWord};
+use named_terms::NamedTerm;
 use pl_model::ends::How;
-use pl_term::{Flat, Text};
+use pl_term::Text;
 use world_api::{Named, World};
 
 /// What a script has next.
@@ -80,7 +81,7 @@ pub trait Script {
     /// `Memory`.
     fn next<W: World<Term = Self::Term>>(
         &mut self,
-        ended: Option<&How<Flat>>,
+        ended: Option<&How<NamedTerm>>,
         world: &mut W,
         atoms: &mut W::A,
         text: &mut Vec<u8>,

@@ -3,6 +3,7 @@
 use crate::fields::{Fields, bytes_of};
 use crate::written::term_of;
 use anyhow::{Context, Result, bail};
+use named_terms::NamedTerm;
 use op_table::OpTable;
 use pl_model::ends::{AtomRecord, How, WornHead};
 use pl_model::syntax::SyntaxKind;
@@ -58,8 +59,8 @@ fn how_of(alloc: Global, end: &str) -> Result<Option<GoalHow>> {
         "solved" => Some(GoalHow::Ended(How::Solved)),
         "false" => Some(GoalHow::Ended(How::False)),
         "halted" => Some(GoalHow::Ended(How::Halted(rest.parse::<u8>()?))),
-        "threw" => Some(GoalHow::Ended(How::Threw(term_of(alloc, rest)?))),
-        "exited" => Some(GoalHow::Ended(How::Exited(term_of(alloc, "i1")?))),
+        "threw" => Some(GoalHow::Ended(How::Threw(named_of(alloc, rest)?))),
+        "exited" => Some(GoalHow::Ended(How::Exited(named_of(alloc, "i1")?))),
         "no_atom_space" => Some(GoalHow::Ended(How::AtomSpace(AtomRecord::WornBucket(WornHead {
             head: 0,
             word: 0,
@@ -73,4 +74,10 @@ fn how_of(alloc: Global, end: &str) -> Result<Option<GoalHow>> {
         "none" => None,
         _ => bail!("no such end"),
     })
+}
+
+/// The term of a text, over its texts.
+fn named_of(alloc: Global, text: &str) -> Result<NamedTerm> {
+    let term = term_of(alloc, text)?;
+    Ok(NamedTerm::from_flat(alloc, &term)?)
 }

@@ -5,9 +5,10 @@ ghost use Rattle.toplevel.specs.Parts.{end_told, ends_in, how_in, is_good};
 
 use crate::first_engine::Word;
 use crate::hows::goal_ended;
+use named_terms::NamedTerm;
 use pl_model::ends::How;
 use pl_model::threads::On;
-use pl_term::{Flat, Memory, Text};
+use pl_term::{Memory, Text};
 use run_model::ends::{End, GoalEnd, GoalHow};
 use std::alloc::Global;
 
@@ -15,7 +16,7 @@ use std::alloc::Global;
 /// of memory.
 pub(crate) fn goal_ends(
     alloc: Global,
-    end: &Option<How<Flat>>,
+    end: &Option<How<NamedTerm>>,
     awaits: &Option<On>,
     word: Option<Word>,
 ) -> Result<Vec<GoalEnd>, Memory>
@@ -33,7 +34,7 @@ pub(crate) fn goal_ends(
 /// How the goal ended whose word was read so. The only error is out of memory.
 fn word_how(
     alloc: Global,
-    end: &Option<How<Flat>>,
+    end: &Option<How<NamedTerm>>,
     awaits: &Option<On>,
     word: Word,
 ) -> Result<Option<GoalHow>, Memory>
@@ -65,7 +66,7 @@ fn main_end(alloc: Global, how: Option<GoalHow>) -> Result<Vec<GoalEnd>, Memory>
 }
 
 /// The end of the program: `faulty` says whether a fault of the file was kept.
-pub(crate) fn end_of(end: &Option<How<Flat>>, word: Option<Word>, faulty: bool) -> End
+pub(crate) fn end_of(end: &Option<How<NamedTerm>>, word: Option<Word>, faulty: bool) -> End
     ensures { result ≡ end_told end.now word faulty }
 {
     match end {
@@ -83,7 +84,7 @@ pub(crate) fn end_of(end: &Option<How<Flat>>, word: Option<Word>, faulty: bool) 
 }
 
 /// Whether there is no goal, or it has ended solved.
-fn is_good(how: &How<Flat>, word: Option<Word>) -> bool
+fn is_good(how: &How<NamedTerm>, word: Option<Word>) -> bool
     ensures { result ≡ is_good how.now word }
 {
     match word {
@@ -93,7 +94,7 @@ fn is_good(how: &How<Flat>, word: Option<Word>) -> bool
     }
 }
 
-fn is_solved(how: &How<Flat>) -> bool
+fn is_solved(how: &How<NamedTerm>) -> bool
     ensures { result ≡ is_solved_how how.now }
 {
     match how {

@@ -1,9 +1,9 @@
 //! Where the first engine stands at the end of its run.
+use named_terms::NamedTerm;
 use op_table::OpTable;
 use pl_model::ends::How;
 use pl_model::syntax::SyntaxKind;
 use pl_model::threads::On;
-use pl_term::Flat;
 use plain_world::Entry;
 use std::sync::Arc;
 
@@ -13,7 +13,7 @@ use std::sync::Arc;
 pub struct Front {
     pub entries: Vec<Entry>,
     pub generations: Vec<u64>,
-    pub end: Option<How<Flat>>,
+    pub end: Option<How<NamedTerm>>,
     pub moves: u64,
 }
 

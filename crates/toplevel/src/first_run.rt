@@ -20,12 +20,13 @@ use crate::first_engine::{FirstEngine, Front, Word};
 use crate::gated::Gated;
 use crate::script_run::{Stop, run_script, runner_of};
 use atom_api::PlainAtoms;
+use named_terms::NamedTerm;
 use pl_consult::{FileScript, GoalWord};
 use pl_io::Gate;
 use pl_model::ends::How;
 use pl_model::threads::On;
 use pl_report::put_waiting_directive;
-use pl_term::{Flat, Memory, Text};
+use pl_term::{Memory, Text};
 use plain_world::PlainWorld;
 use script_api::{Resident, Script};
 use std::alloc::Global;
@@ -143,7 +144,7 @@ fn with_waiting(script: &FileScript, name: &Text, text: Vec<u8>) -> Result<Vec<u
 
 /// Where the first engine stands, which has ended so or waits on this. The only error is out of memory.
 fn outcome(
-    end: Option<How<Flat>>,
+    end: Option<How<NamedTerm>>,
     awaits: Option<On>,
     script: &FileScript,
     world: PlainWorld<Stored, PlainAtoms>,

@@ -5,25 +5,26 @@ ghost use Rattle.pl_model.specs.declared.ends.How.{How as HowOf};
 ghost use Rattle.pl_report.specs.Reported.{IsEnough, Tells};
 ghost use Rattle.run_model.specs.Ends.{goal_how};
 
+use named_terms::NamedTerm;
 use pl_model::ends::How;
 use pl_model::threads::{Name, On};
-use pl_term::{Flat, Memory};
+use pl_term::Memory;
 use run_model::ends::GoalHow;
 use std::alloc::Global;
 
-/// A second end that is the same. The only error is out of memory.
-fn copy_how(alloc: Global, how: &How<Flat>) -> Result<How<Flat>, Memory>
+/// The same end for another holder. The only error is out of memory.
+fn share_how(how: &How<NamedTerm>) -> Result<How<NamedTerm>, Memory>
     ensures { IfOk result (λ h. h ≡ how.now) }
 {
     match how {
         How::Solved => Ok(How::Solved),
         How::False => Ok(How::False),
         How::Threw(ball) => {
-            let ball = ball.copy(alloc)?;
+            let ball = ball.share()?;
             Ok(How::Threw(ball))
         }
         How::Exited(term) => {
-            let term = term.copy(alloc)?;
+            let term = term.share()?;
             Ok(How::Exited(term))
         }
         How::Halted(status) => Ok(How::Halted(*status)),
@@ -76,7 +77,7 @@ fn goal_waits(alloc: Global, awaits: &Option<On>) -> Result<Option<GoalHow>, Mem
 /// How a goal ended that the first engine ran, which has ended so or waits on this. The only error is out of memory.
 pub(crate) fn goal_ended(
     alloc: Global,
-    end: &Option<How<Flat>>,
+    end: &Option<How<NamedTerm>>,
     awaits: &Option<On>,
 ) -> Result<Option<GoalHow>, Memory>
     ensures { IfOk result (λ h. h ≡ goal_how awaits.now end.now) }
@@ -84,7 +85,7 @@ pub(crate) fn goal_ended(
     match end {
         None => goal_waits(alloc, awaits),
         Some(how) => {
-            let how = copy_how(alloc, how)?;
+            let how = share_how(how)?;
             Ok(Some(GoalHow::Ended(how)))
         }
     }

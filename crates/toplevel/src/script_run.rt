@@ -16,10 +16,11 @@ use crate::names::{atom_text, text_on};
 use atom_api::Atoms;
 use engine_run::{Lines, Runner, Turn, Unfinished};
 use iso_search::search::Budgets;
+use named_terms::NamedTerm;
 use pl_consult::FileScript;
 use pl_model::ends::How;
 use pl_model::threads::On;
-use pl_term::{Flat, Memory, Text};
+use pl_term::{Memory, Text};
 use script_api::Script;
 use std::alloc::Global;
 use term_store::Stored;
@@ -29,7 +30,7 @@ use world_api::{On as SharedOn, Procedure, World};
 #[derive(Drop)]
 pub enum Stop {
     /// It has ended so.
-    Ended(How<Flat>),
+    Ended(How<NamedTerm>),
     /// Its next request has no reply as the shared state stands: it waits on this.
     Waits(On),
     /// Its next step is of the predicate of the system with this name and number of arguments, which is not built yet.

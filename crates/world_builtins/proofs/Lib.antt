@@ -5,3 +5,4 @@ mod Sums
 mod Stilled
 pub mod Kept
 pub mod Followed
+pub mod MetLaws

@@ -7,3 +7,4 @@ pub mod Writing
 pub mod Operators
 pub mod Still
 pub mod Following
+pub mod NamesMet

@@ -3,12 +3,13 @@
 
 mod characters;
 mod following;
+mod naming;
 mod output;
 mod styles;
 mod terms;
 
 pub use characters::{Character, put_char};
 pub use following::put_term_at;
+pub use naming::named_of;
 pub use output::{nl, write, write_canonical};
 pub use styles::Style;
-pub use terms::{flat_at, flat_of};

@@ -3,8 +3,8 @@ use Rattle.term_store.specs.Nodes.{node_views}
 use Rattle.engine_run.proofs.Endings.{ball_held, halts_so, throws_so}
 use Rattle.engine_run.proofs.ending.how_at.Goals as goal
 
-pub flat_of-requires-clause-held : goal.flat_of-requires-clause-held
-flat_of-requires-clause-held g c =
+pub named_of-requires-clause-held : goal.named_of-requires-clause-held
+named_of-requires-clause-held g c =
     let a = c.args.atoms.now
     in ball_held (g.A.Atoms.held a) (g.met.A.Atoms.fixed_held a) (g.met.A.Atoms.unlike a) (g.met.A.Atoms.finite a) c.requires.ready.0 c.args.engine.now c.in-Ended.end
     c.in-Threw.ball c.deref.result.now c.in-Ended.is c.in-Threw.is c.requires.ready.1 (ap node_views c.deref.ensures.value ∙ c.in_ok-nodes-in-Threw.ensures)

@@ -5,5 +5,5 @@ use Rattle.pl_report.proofs.lasts.put_ball.Goals as goal
 pub returns : goal.returns
 returns c =
     adds_then
-    (adds_stop tt (adds_then c.in_ok-put_words.ensures c.in_ok-put_term.ensures) c.in_ok-put_stop.ensures)
+    (adds_stop tt (adds_then c.in_ok-put_words.ensures c.in_ok-put_named.ensures) c.in_ok-put_stop.ensures)
     (adds_newline c.in_ok-end_line.ensures)

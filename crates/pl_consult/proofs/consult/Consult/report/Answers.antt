@@ -10,9 +10,9 @@ returns-in-False c job x e s ends =
 
 pub returns-in-Threw : goal.returns-in-Threw
 returns-in-Threw c job x e s ends =
-    on_ok c.put_refused_item.result
+    on_ok c.put_uncaught_item.result
     (threw_stands c.args.self.now job x c.args.self.now.place c.args.place c.args.how.now c.in-Threw.ball e c.args.ops.now c.args.out.now.items _ c.in-Threw.is ends s)
-    (c.put_refused_item.ensures _ s.lines)
+    (c.put_uncaught_item.ensures _ s.lines)
 
 pub returns-in-Halted : goal.returns-in-Halted
 returns-in-Halted c job x e s ends =
