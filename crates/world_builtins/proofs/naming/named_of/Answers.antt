@@ -13,7 +13,6 @@ use Rattle.world_builtins.proofs.MetLaws.{none_met}
 use Rattle.world_builtins.proofs.Spelled.{same_tree, spells}
 use Rattle.world_builtins.proofs.naming.named_of.Goals as goal
 
-
 pub loop-node-preserved : goal.loop-node-preserved
 loop-node-preserved g c =
     let m = g.A.Atoms.held c.args.atoms.now in
