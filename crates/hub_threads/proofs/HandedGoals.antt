@@ -1,7 +1,8 @@
 -- The goal of an engine that begins is handed over.
-use Rattle.std.proofs.Common.{◌≡◌, ℕ, ◌+◌, List, [], ◌∷◌, filter, find, Option, Some, None, Bool, true, false, refl, sym, ap, subst, ◌∙◌, arith, eqb-true, inl, inr}
-use Rattle.std.specs.Prelude.{◌==◌, cond, not, option_map}
-use Rattle.std.proofs.lemmas.Bool.{cases_eq, ne_eqb}
+use Rattle.std.proofs.Common.{◌≡◌, ℕ, ◌+◌, List, [], ◌∷◌, filter, find, Option, Some, None, Bool, true, false, refl, sym, ap, subst, ◌∙◌, arith, eq-eqb, eqb-true, inl, inr}
+use Rattle.std.specs.Prelude.{◌==◌, ◌||◌, ◌≢◌, cond, not, option_map}
+use Rattle.std.proofs.lemmas.Bool.{cases_eq, false≢true, ne_eqb}
+use Rattle.std.proofs.lemmas.Option.{same_Some}
 use Rattle.pl_term.specs.Tree.{Tree}
 use Rattle.pl_model.specs.History.{History}
 use Rattle.atom_words.specs.declared.view.View.{View}
@@ -9,22 +10,15 @@ use Rattle.counted_terms.specs.CountedTerms.{IsCounted, naming, said}
 use Rattle.counted_terms.specs.Keeping.{kept, tally}
 use Rattle.counted_terms.specs.Sharing.{Counts, Restored}
 use Rattle.counted_terms.proofs.Sharing.{forget_restores}
-use Rattle.hub_threads.specs.Held.{Held, IsSound, goal_of, is_goal_of, without_goal}
+use Rattle.hub_threads.specs.Distinct.{Distinct, has_number}
+use Rattle.hub_threads.specs.Goals.{first_begun}
+use Rattle.hub_threads.specs.Held.{Held, IsSound, goal_numbers, goal_of, is_goal_of, without_goal}
 use Rattle.hub_threads.specs.Threads.{IsThreads, thread_counts}
 use Rattle.hub_threads.specs.Weights.{IsBelow, weigh}
 use Rattle.hub_threads.proofs.Below.{stays_below}
 use Rattle.hub_threads.proofs.Forgotten.{less_counted}
-use Rattle.hub_threads.proofs.Searched.{none_out}
 use Rattle.hub_threads.proofs.Steps.{stays}
 use Rattle.hub_threads.proofs.Weighing.{keeps_all}
-
--- WHERE NO GOAL IS KEPT, nothing is taken away
-found_none : (o : Option (ℕ × Tree)) → option_map (λ (g : ℕ × Tree). g.1) o ≡ None → o ≡ None
-found_none None e = refl
-found_none (Some g) e = absurd (let f : Some g.1 ≡ None = e in cc)
-
-pub without_none : (n : ℕ) (q : Held Tree) → goal_of n q ≡ None → without_goal n q ≡ q
-without_none n q e = ap (λ (gs : List (ℕ × Tree)). record q { goals = gs }) (none_out (is_goal_of n) q.goals (found_none (find (is_goal_of n) q.goals) e))
 
 -- THE GOALS THAT ARE LEFT are goals that were kept
 gone_by : (n : ℕ) (b : Bool) (g : ℕ × Tree) (fs : List (ℕ × Tree)) → (g.0 == n) ≡ b → find (is_goal_of n) fs ≡ None → find (is_goal_of n) (cond (not b) (g ∷ fs) fs) ≡ None
@@ -77,3 +71,42 @@ module _ (q r : Held Tree) (n : ℕ) (t : Tree) (sound : IsSound q) (at : goal_o
           begun = stands.begun;
           waiting = λ m u is. stands.waiting m u (kept_before n m q u is);
         }))
+
+-- THE FIRST ONE
+found_first : (b : Bool) (g : ℕ × Tree) (o : Option (ℕ × Tree)) → b ≡ true → cond b (Some g) o ≡ Some g
+found_first true g o is = refl
+found_first false g o is = absurd (false≢true is)
+
+-- it is kept
+pub first_kept : (n : ℕ) (q : Held Tree) → first_begun (goal_numbers q.goals) ≡ Some n → goal_of n q ≢ None
+first_kept n q first none = by q.goals first none
+  where
+    by : (gs : List (ℕ × Tree)) → first_begun (goal_numbers gs) ≡ Some n → option_map (λ (g : ℕ × Tree). g.1) (find (is_goal_of n) gs) ≡ None → ⊥
+    by [] first none = absurd (let f : None ≡ Some n = first in cc)
+    by (g ∷ gs) first none =
+        let here : (g.0 == n) ≡ true = eq-eqb g.0 n (same_Some g.0 n first) in
+        absurd (let f : Some g.1 ≡ None = sym (ap (option_map (λ (x : ℕ × Tree). x.1)) (found_first (g.0 == n) g (find (is_goal_of n) gs) here)) ∙ none in cc)
+
+others_stay : (n : ℕ) (gs : List (ℕ × Tree)) → has_number n (goal_numbers gs) ≡ false → filter (λ g. not (is_goal_of n g)) gs ≡ gs
+others_stay n [] none = refl
+others_stay n (g ∷ gs) none = by (g.0 == n) none (others_stay n gs)
+  where
+    by : (b : Bool) → (b || has_number n (goal_numbers gs)) ≡ false → (has_number n (goal_numbers gs) ≡ false → filter (λ g. not (is_goal_of n g)) gs ≡ gs)
+        → cond (not b) (g ∷ filter (λ g. not (is_goal_of n g)) gs) (filter (λ g. not (is_goal_of n g)) gs) ≡ g ∷ gs
+    by true none rest = absurd (false≢true (sym none))
+    by false none rest = ap (λ (l : List (ℕ × Tree)). g ∷ l) (rest none)
+
+-- the others are left
+pub first_left : (n : ℕ) (q : Held Tree) → IsSound q → first_begun (goal_numbers q.goals) ≡ Some n → goal_numbers q.goals ≡ n ∷ goal_numbers (without_goal n q).goals
+first_left n q sound first = by q.goals sound.goals_once first
+  where
+    by : (gs : List (ℕ × Tree)) → Distinct (goal_numbers gs) → first_begun (goal_numbers gs) ≡ Some n → goal_numbers gs ≡ n ∷ goal_numbers (filter (λ g. not (is_goal_of n g)) gs)
+    by [] once first = absurd (let f : None ≡ Some n = first in cc)
+    by (g ∷ gs) once first =
+        let is : g.0 ≡ n = same_Some g.0 n first in
+        let rest : filter (λ x. not (is_goal_of n x)) gs ≡ gs = others_stay n gs (ap (λ k. has_number k (goal_numbers gs)) (sym is) ∙ once.0) in
+        ap (λ k. k ∷ goal_numbers gs) is ∙ ap (λ (l : List (ℕ × Tree)). n ∷ goal_numbers l) (sym rest) ∙ ap (λ (l : List (ℕ × Tree)). n ∷ goal_numbers l) (sym (here (g.0 == n) (eq-eqb g.0 n is)))
+      where
+        here : (b : Bool) → b ≡ true → cond (not b) (g ∷ filter (λ x. not (is_goal_of n x)) gs) (filter (λ x. not (is_goal_of n x)) gs) ≡ filter (λ x. not (is_goal_of n x)) gs
+        here true is = refl
+        here false is = absurd (false≢true is)

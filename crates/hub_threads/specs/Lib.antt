@@ -1,6 +1,7 @@
 pub mod Aliases
 pub mod Distinct
 pub mod Finding
+pub mod Goals
 pub mod Held
 pub mod Located
 pub mod Refusals

@@ -14,6 +14,8 @@ ghost use Rattle.counted_terms.specs.Keeping.{HoldsOn, KeeperAt, keeper_view};
 ghost use Rattle.counted_terms.specs.Rows.{row_names, row_refusals};
 ghost use Rattle.counted_terms.specs.Sharing.{Counts, Restored};
 ghost use Rattle.hub_threads.specs.Aliases.{ChecksAliases, IsLast, first_taken};
+ghost use Rattle.hub_threads.specs.Goals.{begun_after};
+ghost use Rattle.hub_threads.specs.Held.{goal_numbers};
 ghost use Rattle.hub_threads.specs.Rows.{Decides, updates_in};
 ghost use Rattle.hub_threads.specs.Threads.{IsThreads, thread_counts};
 ghost use Rattle.hub_threads.specs.Weights.{IsBelow};
@@ -51,6 +53,7 @@ pub fn create_thread<K: NamesTable>(
     ensures keeper { KeeperAt K.atoms K.size keeper.new }
     ensures restored { Restored (thread_counts queues.old) (thread_counts queues.new) (keeper_view keeper.old) (keeper_view keeper.new) generation (generation + updates_in result) }
     ensures below { IsBelow count.new (generation + updates_in result) queues.new }
+    ensures goals { goal_numbers queues.new.goals ≡ begun_after result count.old (goal_numbers queues.old.goals) }
     ensures says { (e goals : ℕ) (h : History) → length h ≡ generation → IsThreads (keeper_view keeper.old) queues.old count.old goals h
         → Decides (keeper_view keeper.new) (names (seen atoms.new.seat)) e (requests.create_thread (said (names (seen atoms.old.seat)) goal) (map (text_of (names (seen atoms.old.seat))) aliases.now) (option_map (said (names (seen atoms.old.seat))) error)) queues.new count.new goals h result }
     ensures named { All (λ a. IsSome (names (seen atoms.new.seat) a)) (row_names result) }
@@ -90,6 +93,7 @@ fn create_free<K: NamesTable>(
     ensures keeper { KeeperAt K.atoms K.size keeper.new }
     ensures restored { Restored (thread_counts queues.old) (thread_counts queues.new) (keeper_view keeper.old) (keeper_view keeper.new) generation (generation + updates_in result) }
     ensures below { IsBelow count.new (generation + updates_in result) queues.new }
+    ensures goals { goal_numbers queues.new.goals ≡ begun_after result count.old (goal_numbers queues.old.goals) }
     ensures says { (e goals : ℕ) (h : History) → length h ≡ generation → IsThreads (keeper_view keeper.old) queues.old count.old goals h
         → Decides (keeper_view keeper.new) (names (seen atoms.new.seat)) e (requests.create_thread (said (names (seen atoms.old.seat)) goal) (map (text_of (names (seen atoms.old.seat))) aliases.now) None) queues.new count.new goals h result }
     ensures named { All (λ a. IsSome (names (seen atoms.new.seat) a)) (row_names result) }

@@ -15,7 +15,8 @@ ghost use Rattle.counted_terms.specs.CountedTerms.{said};
 ghost use Rattle.counted_terms.specs.Keeping.{HoldsOn, KeeperAt, keeper_view};
 ghost use Rattle.counted_terms.specs.Rows.{row_names, row_refusals};
 ghost use Rattle.counted_terms.specs.Sharing.{Counts, Restored};
-ghost use Rattle.hub_threads.specs.Held.{IsNew};
+ghost use Rattle.hub_threads.specs.Goals.{begun_after};
+ghost use Rattle.hub_threads.specs.Held.{IsNew, goal_numbers};
 ghost use Rattle.hub_threads.specs.Rows.{Decides, updates_in};
 ghost use Rattle.hub_threads.specs.Threads.{IsThreads, thread_counts};
 ghost use Rattle.hub_threads.specs.Weights.{IsBelow};
@@ -50,6 +51,7 @@ pub fn start_goal<K: NamesTable>(
     ensures keeper { KeeperAt K.atoms K.size keeper.new }
     ensures restored { Restored (thread_counts queues.old) (thread_counts queues.new) (keeper_view keeper.old) (keeper_view keeper.new) generation (generation + updates_in result) }
     ensures below { IsBelow count.new (generation + updates_in result) queues.new }
+    ensures goals { goal_numbers queues.new.goals ≡ begun_after result number (goal_numbers queues.old.goals) }
     ensures says { (e goals : ℕ) (h : History) → length h ≡ generation → IsThreads (keeper_view keeper.old) queues.old count.old goals h
         → Decides (keeper_view keeper.new) (names (seen atoms.new.seat)) e (requests.start_goal number (said (names (seen atoms.old.seat)) goal)) queues.new count.new goals h result }
     ensures named { All (λ a. IsSome (names (seen atoms.new.seat) a)) (row_names result) }

@@ -45,6 +45,7 @@ pub fn destroy_queue<K: NamesTable>(
     ensures keeper { KeeperAt K.atoms K.size keeper.new }
     ensures restored { Restored (thread_counts queues.old) (thread_counts queues.new) (keeper_view keeper.old) (keeper_view keeper.new) generation (generation + updates_in result) }
     ensures below { (count : ℕ) → IsBelow count generation queues.old → IsBelow count (generation + updates_in result) queues.new }
+    ensures goals { queues.new.goals ≡ queues.old.goals }
     ensures says { (e count goals : ℕ) (h : History) → length h ≡ generation → IsThreads (keeper_view keeper.old) queues.old count goals h
         → Decides (keeper_view keeper.new) (names (seen atoms.new.seat)) e (requests.destroy_queue (said (names (seen atoms.old.seat)) queue.now)) queues.new count goals h result }
     ensures named { All (λ a. IsSome (names (seen atoms.new.seat) a)) (row_names result) }
@@ -79,6 +80,7 @@ fn destroy_found<K: NamesTable>(
     ensures keeper { KeeperAt K.atoms K.size keeper.new }
     ensures restored { Restored (thread_counts queues.old) (thread_counts queues.new) (keeper_view keeper.old) (keeper_view keeper.new) generation (generation + updates_in result) }
     ensures below { (count : ℕ) → IsBelow count generation queues.old → IsBelow count (generation + updates_in result) queues.new }
+    ensures goals { queues.new.goals ≡ queues.old.goals }
     ensures says { (e count goals : ℕ) (h : History) → length h ≡ generation → IsThreads (keeper_view keeper.old) queues.old count goals h
         → Decides (keeper_view keeper.new) (names (seen atoms.new.seat)) e (requests.destroy_queue (said (names (seen atoms.old.seat)) queue.now)) queues.new count goals h result }
     ensures named { All (λ a. IsSome (names (seen atoms.new.seat) a)) (row_names result) }
@@ -111,6 +113,7 @@ fn drop_found<K: NamesTable>(
     ensures keeper { KeeperAt K.atoms K.size keeper.new }
     ensures restored { Restored (thread_counts queues.old) (thread_counts queues.new) (keeper_view keeper.old) (keeper_view keeper.new) generation (generation + updates_in result) }
     ensures below { (count : ℕ) → IsBelow count generation queues.old → IsBelow count (generation + updates_in result) queues.new }
+    ensures goals { queues.new.goals ≡ queues.old.goals }
     ensures says { (n : Names) (e count goals : ℕ) (h : History) (x : Tree) → length h ≡ generation → IsThreads (keeper_view keeper.old) queues.old count goals h → name_of x ≡ Some name.now
         → Decides (keeper_view keeper.new) n e (requests.destroy_queue x) queues.new count goals h result }
     ensures named { All (λ a. IsSome (names (seen atoms.new.seat) a)) (row_names result) }

@@ -42,6 +42,7 @@ pub fn end_thread<K: NamesTable>(
     ensures undone { OnErr result (Restored (thread_counts queues.old) (thread_counts queues.new) (keeper_view keeper.old) (keeper_view keeper.new) generation generation) }
     ensures unchanged { OnErr result (queues.new ≡ queues.old) }
     ensures below { (count : ℕ) → IsBelow count generation queues.old → IsBelow count (generation + 1) queues.new }
+    ensures goals { queues.new.goals ≡ queues.old.goals }
     ensures ended { OnOk result ((how : How Tree) (steps count goals : ℕ) (h : History) → length h ≡ generation → IsThreads (keeper_view keeper.old) queues.old count goals h
         → status_of how ≡ status_as (said (names (seen atoms.old.seat))) status
         → IsThreads (keeper_view keeper.new) queues.new count goals (h ++ record { engine = engine; kind = finish how steps } ∷ [])) }

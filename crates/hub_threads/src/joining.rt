@@ -49,6 +49,7 @@ pub fn join_thread<K: NamesTable>(
     ensures keeper { KeeperAt K.atoms K.size keeper.new }
     ensures restored { Restored (thread_counts queues.old) (thread_counts queues.new) (keeper_view keeper.old) (keeper_view keeper.new) generation (generation + updates_in result) }
     ensures below { (count : ℕ) → IsBelow count generation queues.old → IsBelow count (generation + updates_in result) queues.new }
+    ensures goals { queues.new.goals ≡ queues.old.goals }
     ensures says { (count goals : ℕ) (h : History) → length h ≡ generation → IsThreads (keeper_view keeper.old) queues.old count goals h
         → Decides (keeper_view keeper.new) (names (seen atoms.new.seat)) engine (requests.join_thread (said (names (seen atoms.old.seat)) thread.now)) queues.new count goals h result }
     ensures named { All (λ a. IsSome (names (seen atoms.new.seat) a)) (row_names result) }
@@ -91,6 +92,7 @@ fn join_ended<K: NamesTable>(
     ensures keeper { KeeperAt K.atoms K.size keeper.new }
     ensures restored { Restored (thread_counts queues.old) (thread_counts queues.new) (keeper_view keeper.old) (keeper_view keeper.new) generation (generation + updates_in result) }
     ensures below { (count : ℕ) → IsBelow count generation queues.old → IsBelow count (generation + updates_in result) queues.new }
+    ensures goals { queues.new.goals ≡ queues.old.goals }
     ensures says { (count goals : ℕ) (h : History) → length h ≡ generation → IsThreads (keeper_view keeper.old) queues.old count goals h
         → Decides (keeper_view keeper.new) (names (seen atoms.new.seat)) engine (requests.join_thread (said (names (seen atoms.old.seat)) thread.now)) queues.new count goals h result }
     ensures named { All (λ a. IsSome (names (seen atoms.new.seat) a)) (row_names result) }
@@ -144,6 +146,7 @@ fn join_as<K: NamesTable>(
     ensures keeper { KeeperAt K.atoms K.size keeper.new }
     ensures restored { Restored (thread_counts queues.old) (thread_counts queues.new) (keeper_view keeper.old) (keeper_view keeper.new) generation (generation + updates_in result) }
     ensures below { (count : ℕ) → IsBelow count generation queues.old → IsBelow count (generation + updates_in result) queues.new }
+    ensures goals { queues.new.goals ≡ queues.old.goals }
     ensures says { (count goals : ℕ) (h : History) (x : Tree) → length h ≡ generation → IsThreads (keeper_view keeper.old) queues.old count goals h → name_of x ≡ Some name.now
         → Decides (keeper_view keeper.new) (names (seen atoms.new.seat)) engine (requests.join_thread x) queues.new count goals h result }
     ensures named { All (λ a. IsSome (names (seen atoms.new.seat) a)) (row_names result) }

@@ -45,6 +45,7 @@ pub fn send_message<K: NamesTable>(
     ensures keeper { KeeperAt K.atoms K.size keeper.new }
     ensures restored { Restored (thread_counts queues.old) (thread_counts queues.new) (keeper_view keeper.old) (keeper_view keeper.new) generation (generation + updates_in result) }
     ensures below { (count : ℕ) → IsBelow count generation queues.old → IsBelow count (generation + updates_in result) queues.new }
+    ensures goals { queues.new.goals ≡ queues.old.goals }
     ensures says { (e count goals : ℕ) (h : History) → length h ≡ generation → IsThreads (keeper_view keeper.old) queues.old count goals h
         → Decides (keeper_view keeper.new) (names (seen atoms.new.seat)) e (requests.send_message (said (names (seen atoms.old.seat)) queue.now) (said (names (seen atoms.old.seat)) message)) queues.new count goals h result }
     ensures named { All (λ a. IsSome (names (seen atoms.new.seat) a)) (row_names result) }
@@ -82,6 +83,7 @@ fn put_message<K: NamesTable>(
     ensures keeper { KeeperAt K.atoms K.size keeper.new }
     ensures restored { Restored (thread_counts queues.old) (thread_counts queues.new) (keeper_view keeper.old) (keeper_view keeper.new) generation (generation + updates_in result) }
     ensures below { (count : ℕ) → IsBelow count generation queues.old → IsBelow count (generation + updates_in result) queues.new }
+    ensures goals { queues.new.goals ≡ queues.old.goals }
     ensures says { (e count goals : ℕ) (h : History) (x : Tree) → length h ≡ generation → IsThreads (keeper_view keeper.old) queues.old count goals h → name_of x ≡ Some name.now
         → Decides (keeper_view keeper.new) (names (seen atoms.new.seat)) e (requests.send_message x (said (names (seen atoms.old.seat)) message)) queues.new count goals h result }
     ensures named { All (λ a. IsSome (names (seen atoms.new.seat) a)) (row_names result) }

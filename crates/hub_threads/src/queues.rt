@@ -37,6 +37,7 @@ pub fn create_queue<K: NamesTable>(
     requires below { IsBelow count.old generation queues.old }
     ensures stored { (w : Tree → ℕ) → weigh w queues.new ≡ weigh w queues.old }
     ensures below { IsBelow count.new (generation + updates_in result) queues.new }
+    ensures goals { queues.new.goals ≡ queues.old.goals }
     ensures says { (k : View) (e goals : ℕ) (h : History) → length h ≡ generation → IsThreads k queues.old count.old goals h
         → Decides k (names (seen atoms.new.seat)) e (requests.create_queue (option_map (text_of (names (seen atoms.old.seat))) alias)) queues.new count.new goals h result }
     ensures named { All (λ a. IsSome (names (seen atoms.new.seat) a)) (row_names result) }
@@ -65,6 +66,7 @@ fn create_aliased(
     requires below { IsBelow count.old generation queues.old }
     ensures stored { (w : Tree → ℕ) → weigh w queues.new ≡ weigh w queues.old }
     ensures below { IsBelow count.new (generation + updates_in result) queues.new }
+    ensures goals { queues.new.goals ≡ queues.old.goals }
     ensures says { (k : View) (m : Names) (e goals : ℕ) (h : History) → FixedStand m → m a ≡ Some text → length h ≡ generation → IsThreads k queues.old count.old goals h
         → Decides k m e (requests.create_queue (Some text)) queues.new count.new goals h result }
     ensures named { (m : Names) → FixedStand m → IsSome (m a) → All (λ a. IsSome (m a)) (row_names result) }
@@ -87,6 +89,7 @@ fn create_unnamed(
     requires below { IsBelow count.old generation queues.old }
     ensures stored { (w : Tree → ℕ) → weigh w queues.new ≡ weigh w queues.old }
     ensures below { IsBelow count.new (generation + updates_in result) queues.new }
+    ensures goals { queues.new.goals ≡ queues.old.goals }
     ensures says { (k : View) (m : Names) (e goals : ℕ) (h : History) → FixedStand m → length h ≡ generation → IsThreads k queues.old count.old goals h
         → Decides k m e (requests.create_queue None) queues.new count.new goals h result }
     ensures named { (m : Names) → FixedStand m → All (λ a. IsSome (m a)) (row_names result) }
@@ -122,6 +125,7 @@ fn create_named(
     requires free { is_alias queues.old.state text ≡ false }
     ensures stored { (w : Tree → ℕ) → weigh w queues.new ≡ weigh w queues.old }
     ensures below { IsBelow count.new (generation + updates_in result) queues.new }
+    ensures goals { queues.new.goals ≡ queues.old.goals }
     ensures says { (k : View) (m : Names) (e goals : ℕ) (h : History) → FixedStand m → m a ≡ Some text → length h ≡ generation → IsThreads k queues.old count.old goals h
         → Decides k m e (requests.create_queue (Some text)) queues.new count.new goals h result }
     ensures named { (m : Names) → FixedStand m → IsSome (m a) → All (λ a. IsSome (m a)) (row_names result) }

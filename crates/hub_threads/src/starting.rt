@@ -18,7 +18,8 @@ ghost use Rattle.counted_terms.specs.CountedTerms.{said};
 ghost use Rattle.counted_terms.specs.Keeping.{KeeperAt, keeper_view};
 ghost use Rattle.counted_terms.specs.Rows.{row_names, row_refusals};
 ghost use Rattle.counted_terms.specs.Sharing.{Counts, Restored};
-ghost use Rattle.hub_threads.specs.Held.{IsNew};
+ghost use Rattle.hub_threads.specs.Goals.{begun_after};
+ghost use Rattle.hub_threads.specs.Held.{IsNew, goal_numbers};
 ghost use Rattle.hub_threads.specs.Refusals.{is_taken};
 ghost use Rattle.hub_threads.specs.Rows.{Decides, updates_in};
 ghost use Rattle.hub_threads.specs.Threads.{IsThreads, thread_counts};
@@ -59,6 +60,7 @@ pub fn start_with<K: NamesTable>(
     ensures keeper { KeeperAt K.atoms K.size keeper.new }
     ensures restored { Restored (thread_counts queues.old) (thread_counts queues.new) (keeper_view keeper.old) (keeper_view keeper.new) generation (generation + updates_in result) }
     ensures below { IsBelow count.new (generation + updates_in result) queues.new }
+    ensures goals { goal_numbers queues.new.goals ≡ begun_after result number (goal_numbers queues.old.goals) }
     ensures says { (e goals : ℕ) (h : History) (v : Request) (r : requests.Reply) → length h ≡ generation → IsThreads (keeper_view keeper.old) queues.old count.old goals h
         → served_now e goals h v ≡ starts (state_at goals h (length h)) (length h) number (said (names (seen atoms.old.seat)) goal) alias r
         → Says term_by (text_of (names (seen atoms.old.seat))) reply r
@@ -109,6 +111,7 @@ fn begin<K: NamesTable>(
     ensures keeper { KeeperAt K.atoms K.size keeper.new }
     ensures restored { Restored (thread_counts queues.old) (thread_counts queues.new) (keeper_view keeper.old) (keeper_view keeper.new) generation (generation + updates_in result) }
     ensures below { IsBelow count.new (generation + updates_in result) queues.new }
+    ensures goals { goal_numbers queues.new.goals ≡ begun_after result number (goal_numbers queues.old.goals) }
     ensures says { (e goals : ℕ) (h : History) (v : Request) (r : requests.Reply) → length h ≡ generation → IsThreads (keeper_view keeper.old) queues.old count.old goals h
         → served_now e goals h v ≡ starts (state_at goals h (length h)) (length h) number (said (names (seen atoms.old.seat)) goal) alias r
         → Says term_by (text_of (names (seen atoms.old.seat))) reply r

@@ -46,6 +46,7 @@ pub fn get_message<K: NamesTable>(
     ensures keeper { KeeperAt K.atoms K.size keeper.new }
     ensures restored { Restored (thread_counts queues.old) (thread_counts queues.new) (keeper_view keeper.old) (keeper_view keeper.new) generation (generation + updates_in result) }
     ensures below { (count : ℕ) → IsBelow count generation queues.old → IsBelow count (generation + updates_in result) queues.new }
+    ensures goals { queues.new.goals ≡ queues.old.goals }
     ensures says { (e count goals : ℕ) (h : History) → length h ≡ generation → IsThreads (keeper_view keeper.old) queues.old count goals h
         → Decides (keeper_view keeper.new) (names (seen atoms.new.seat)) e (requests.get_message (Some (said (names (seen atoms.old.seat)) queue.now)) (said (names (seen atoms.old.seat)) pattern.now)) queues.new count goals h result }
     ensures named { All (λ a. IsSome (names (seen atoms.new.seat) a)) (row_names result) }
@@ -85,6 +86,7 @@ fn take_message<K: NamesTable>(
     ensures keeper { KeeperAt K.atoms K.size keeper.new }
     ensures restored { Restored (thread_counts queues.old) (thread_counts queues.new) (keeper_view keeper.old) (keeper_view keeper.new) generation (generation + updates_in result) }
     ensures below { (count : ℕ) → IsBelow count generation queues.old → IsBelow count (generation + updates_in result) queues.new }
+    ensures goals { queues.new.goals ≡ queues.old.goals }
     ensures says { (e count goals : ℕ) (h : History) → length h ≡ generation → IsThreads (keeper_view keeper.old) queues.old count goals h
         → Decides (keeper_view keeper.new) (names (seen atoms.new.seat)) e (requests.get_message (Some (said (names (seen atoms.old.seat)) queue.now)) (said (names (seen atoms.old.seat)) pattern.now)) queues.new count goals h result }
     ensures named { All (λ a. IsSome (names (seen atoms.new.seat) a)) (row_names result) }

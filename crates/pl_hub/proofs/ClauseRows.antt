@@ -44,24 +44,24 @@ use Rattle.pl_hub.proofs.States.{IsOfClauses, clauses_can, clauses_meet, clauses
 use Rattle.pl_hub.proofs.Visiting.{IsAsked, IsPlainVisit}
 
 -- THE COUNTS that a row is given
-pub clause_counts_of : {atoms : TableId} {size : Size} {table : TableId} {goals : ℕ} {f : FrontState} {keeper : Option Keeper} {db : HeldClauses Tree} {q : HeldThreads Tree} {c : ℕ} {ns : List ℕ}
-    → IsShared atoms size table goals f keeper db q c ns → (n : ℕ) → n ≡ length f.seen → Counts (clause_counts db) (keeper_view keeper) n
+pub clause_counts_of : {atoms : TableId} {size : Size} {table : TableId} {goals : ℕ} {f : FrontState} {keeper : Option Keeper} {db : HeldClauses Tree} {q : HeldThreads Tree} {c : ℕ}
+    → IsShared atoms size table goals f keeper db q c → (n : ℕ) → n ≡ length f.seen → Counts (clause_counts db) (keeper_view keeper) n
 clause_counts_of {q = q} was n is = record {
   rest = thread_counts q;
   exact = was.exact;
   few = λ a. let low = was.few a in omega (arith, low, is);
 }
 
-pub upto_of : {atoms : TableId} {size : Size} {table : TableId} {goals : ℕ} {f : FrontState} {keeper : Option Keeper} {db : HeldClauses Tree} {q : HeldThreads Tree} {c : ℕ} {ns : List ℕ}
-    → IsShared atoms size table goals f keeper db q c ns → (n : ℕ) → n ≡ length f.seen → IsUpTo n db
+pub upto_of : {atoms : TableId} {size : Size} {table : TableId} {goals : ℕ} {f : FrontState} {keeper : Option Keeper} {db : HeldClauses Tree} {q : HeldThreads Tree} {c : ℕ}
+    → IsShared atoms size table goals f keeper db q c → (n : ℕ) → n ≡ length f.seen → IsUpTo n db
 upto_of {db = db} was n is = subst (λ (x : ℕ). IsUpTo x db) (sym is) was.upto
 
 -- WHERE NOTHING BUT THE KEEPER'S SEAT HAS CHANGED
-pub shared_steady : (atoms : TableId) (size : Size) (table : TableId) (goals : ℕ) (f : FrontState) (keeper new_keeper : Option Keeper) (db : HeldClauses Tree) (q : HeldThreads Tree) (c : ℕ) (ns : List ℕ)
-    → IsShared atoms size table goals f keeper db q c ns → IsSound q → KeeperAt atoms size new_keeper → IsSteady (keeper_view keeper) (keeper_view new_keeper)
-    → IsShared atoms size table goals f new_keeper db q c ns
-shared_steady atoms size table goals f keeper new_keeper db q c ns was sound at steady =
-    clauses_shared atoms size table goals f keeper new_keeper db db q c ns was sound at 0 (text_of (λ a. None)) look (erase 0) refl tt Memory
+pub shared_steady : (atoms : TableId) (size : Size) (table : TableId) (goals : ℕ) (f : FrontState) (keeper new_keeper : Option Keeper) (db : HeldClauses Tree) (q : HeldThreads Tree) (c : ℕ)
+    → IsShared atoms size table goals f keeper db q c → IsSound q → KeeperAt atoms size new_keeper → IsSteady (keeper_view keeper) (keeper_view new_keeper)
+    → IsShared atoms size table goals f new_keeper db q c
+shared_steady atoms size table goals f keeper new_keeper db q c was sound at steady =
+    clauses_shared atoms size table goals f keeper new_keeper db db q c was sound at 0 (text_of (λ a. None)) look (erase 0) refl tt Memory
     (steady_restores (clause_counts db) (clause_counts db) (keeper_view keeper) (keeper_view new_keeper) (length f.seen) (length f.seen) steady (λ a. refl) (omega arith))
     was.upto refl (steady_database (keeper_view keeper) (keeper_view new_keeper) db goals f.seen steady.keeps was.database)
 
@@ -151,18 +151,18 @@ module _ (goals e : ℕ) (j kind : Kind) (picked : j ≡ kind) (plain_kind : is_
       (is_visit_of table goals e v w visit plain front own f j row q asks only a g new a_is g_is new_is changes_can sees changes_meet
       named quiet.holds (none_refused v w row quiet unrefused) (none_asked _ v w quiet.requests))
 
-  pub changes_shared : {atoms : TableId} {size : Size} {table : TableId} {keeper new_keeper : Option Keeper} {old : HeldClauses Tree} {p : HeldThreads Tree} {c : ℕ} {ns : List ℕ}
-      → IsShared atoms size table goals f keeper old p c ns → IsSound p → KeeperAt atoms size new_keeper → l ≡ keeper_view new_keeper
+  pub changes_shared : {atoms : TableId} {size : Size} {table : TableId} {keeper new_keeper : Option Keeper} {old : HeldClauses Tree} {p : HeldThreads Tree} {c : ℕ}
+      → IsShared atoms size table goals f keeper old p c → IsSound p → KeeperAt atoms size new_keeper → l ≡ keeper_view new_keeper
       → (n : ℕ) → n ≡ length f.seen
       → Restored (clause_counts old) (clause_counts db) (keeper_view keeper) (keeper_view new_keeper) n (generation_after row n)
       → IsUpTo (generation_after row n) db
       → db.floor ≡ old.floor
       → (new : FrontState) → new ≡ hub_after e j row f
-      → IsShared atoms size table goals new new_keeper db p c ns
-  changes_shared {atoms} {size} {table} {keeper} {new_keeper} {old} {p} {c} {ns} was sound at same n is_n restored upto floor new new_is =
-      subst (λ (x : FrontState). IsShared atoms size table goals x new_keeper db p c ns) (sym new_is)
-      (subst (λ (k : Kind). IsShared atoms size table goals (hub_after e k row f) new_keeper db p c ns) (sym picked)
-      (clauses_shared atoms size table goals f keeper new_keeper old db p c ns was sound at e (text_of (names w)) q kind plain_kind of row
+      → IsShared atoms size table goals new new_keeper db p c
+  changes_shared {atoms} {size} {table} {keeper} {new_keeper} {old} {p} {c} was sound at same n is_n restored upto floor new new_is =
+      subst (λ (x : FrontState). IsShared atoms size table goals x new_keeper db p c) (sym new_is)
+      (subst (λ (k : Kind). IsShared atoms size table goals (hub_after e k row f) new_keeper db p c) (sym picked)
+      (clauses_shared atoms size table goals f keeper new_keeper old db p c was sound at e (text_of (names w)) q kind plain_kind of row
       (subst (λ (x : ℕ). Restored (clause_counts old) (clause_counts db) (keeper_view keeper) (keeper_view new_keeper) x (generation_after row x)) is_n restored)
       (subst (λ (x : ℕ). IsUpTo (generation_after row x) db) is_n upto)
       floor
@@ -274,16 +274,16 @@ module _ (goals e : ℕ) (j kind : Kind) (picked : j ≡ kind) (plain_kind : is_
       (clauses_meet goals e (text_of (names w)) q f.seen kind plain_kind of l db row (goals_decide goals e f.seen v w l p k kind db row asks says q x.0 x.1 x.2)))
       named quiet.holds (none_refused v w row quiet unrefused) (none_asked _ v w quiet.requests))
 
-  pub made_shared : {atoms : TableId} {size : Size} {table : TableId} {keeper new_keeper : Option Keeper} {old new_db : HeldClauses Tree} {p : HeldThreads Tree} {c : ℕ} {ns : List ℕ}
-      → IsShared atoms size table goals f keeper old p c ns → IsSound p → KeeperAt atoms size new_keeper
+  pub made_shared : {atoms : TableId} {size : Size} {table : TableId} {keeper new_keeper : Option Keeper} {old new_db : HeldClauses Tree} {p : HeldThreads Tree} {c : ℕ}
+      → IsShared atoms size table goals f keeper old p c → IsSound p → KeeperAt atoms size new_keeper
       → Restored (clause_counts old) (clause_counts new_db) (keeper_view keeper) (keeper_view new_keeper) (length f.seen) (generation_after row (length f.seen))
       → IsUpTo (generation_after row (length f.seen)) new_db
       → new_db.floor ≡ old.floor
       → IsDatabase (keeper_view new_keeper) new_db goals (history_after e row kind f.seen)
       → (new : FrontState) → new ≡ hub_after e j row f
-      → IsShared atoms size table goals new new_keeper new_db p c ns
-  made_shared {atoms} {size} {table} {keeper} {new_keeper} {old} {new_db} {p} {c} {ns} was sound at restored upto floor after new new_is =
-      subst (λ (x : FrontState). IsShared atoms size table goals x new_keeper new_db p c ns) (sym new_is)
-      (subst (λ (k : Kind). IsShared atoms size table goals (hub_after e k row f) new_keeper new_db p c ns) (sym picked)
-      (database_shared atoms size table goals f keeper new_keeper old new_db p c ns was sound at e kind of row restored upto floor
+      → IsShared atoms size table goals new new_keeper new_db p c
+  made_shared {atoms} {size} {table} {keeper} {new_keeper} {old} {new_db} {p} {c} was sound at restored upto floor after new new_is =
+      subst (λ (x : FrontState). IsShared atoms size table goals x new_keeper new_db p c) (sym new_is)
+      (subst (λ (k : Kind). IsShared atoms size table goals (hub_after e k row f) new_keeper new_db p c) (sym picked)
+      (database_shared atoms size table goals f keeper new_keeper old new_db p c was sound at e kind of row restored upto floor
       (subst (λ (h : History). IsDatabase (keeper_view new_keeper) new_db goals h) (history_is e kind row f.seen) after)))

@@ -1,7 +1,7 @@
 -- An engine that has begun is handed to a front.
-use Rattle.std.proofs.Common.{◌≡◌, ◌≤◌, ◌<◌, ◌==◌, ℕ, ◌+◌, List, [], ◌∷◌, ◌++◌, map, length, Bool, true, false, Option, Some, None, refl, sym, ap, subst, ◌∙◌, arith, eq-eqb}
-use Rattle.std.specs.Prelude.{IfSome, IsSome, if◌then◌else◌, slice_index_or}
-use Rattle.std.specs.List.{All, remove}
+use Rattle.std.proofs.Common.{◌≡◌, ◌≤◌, ◌<◌, ◌==◌, ℕ, ◌+◌, List, [], ◌∷◌, ◌++◌, map, length, Bool, true, false, Option, Some, refl, sym, ap, subst, ◌∙◌, arith, eq-eqb}
+use Rattle.std.specs.Prelude.{IsSome, if◌then◌else◌}
+use Rattle.std.specs.List.{All}
 use Rattle.atomic_table.specs.Seated.{TableId}
 use Rattle.pl_term.specs.Tree.{Tree}
 use Rattle.pl_history.specs.Fronts.{AllTold, FrontState, Life, own_generations, picked, times, without}
@@ -10,7 +10,7 @@ use Rattle.atom_words.specs.declared.size.Size.{Size}
 use Rattle.atom_table.specs.declared.seats.Keeper.{Keeper}
 use Rattle.clause_db.specs.Parts.{Held as HeldClauses}
 use Rattle.term_store.specs.NumberedNames.{names_of}
-use Rattle.hub_threads.specs.Held.{Held as HeldThreads}
+use Rattle.hub_threads.specs.Held.{Held as HeldThreads, goal_numbers}
 use Rattle.hub_threads.specs.Weights.{IsBelow}
 use Rattle.hub_threads.specs.Threads.{IsThreads, started_goal, thread_counts}
 use Rattle.counted_terms.specs.CountedTerms.{said}
@@ -25,11 +25,7 @@ use Rattle.pl_hub.specs.State.{IsShared}
 use Rattle.pl_hub.proofs.Opening.{none_within}
 use Rattle.pl_hub.proofs.States.{database_carried}
 
--- THE FIRST of the numbers
-pub first_is : (ns : List ℕ) (n : ℕ) → 0 < length ns → n ≡ slice_index_or ns 0 n → ns ≡ n ∷ remove ns 0
-first_is [] n some is = absurd (omega (arith, some))
-first_is (m ∷ ms) n some is = ap (λ (k : ℕ). k ∷ ms) (sym is)
-
+-- THE FIRST of the engines
 same_number : (n : ℕ) → (n == n) ≡ true
 same_number n = eq-eqb n n refl
 
@@ -47,16 +43,16 @@ pub without_first : (n : ℕ) (hub ls : List Life) → hub ≡ idle n ∷ ls →
 without_first n hub ls is = ap (without n) is ∙ ap (λ (b : Bool). if b then ls else idle n ∷ without n ls) (same_number n)
 
 -- WHAT IS SHARED after it
-pub handed_shared : {atoms : TableId} {size : Size} {table : TableId} {goals : ℕ} {f : FrontState} {keeper new_keeper : Option Keeper} {db : HeldClauses Tree} {q r : HeldThreads Tree} {c : ℕ} {ns : List ℕ}
-    → IsShared atoms size table goals f keeper db q c ns → KeeperAt atoms size new_keeper
+pub handed_shared : {atoms : TableId} {size : Size} {table : TableId} {goals : ℕ} {f : FrontState} {keeper new_keeper : Option Keeper} {db : HeldClauses Tree} {q r : HeldThreads Tree} {c : ℕ}
+    → IsShared atoms size table goals f keeper db q c → KeeperAt atoms size new_keeper
     → Restored (thread_counts q) (thread_counts r) (keeper_view keeper) (keeper_view new_keeper) (length f.seen) (length f.seen)
     → IsBelow c (length f.seen) r
     → IsThreads (keeper_view new_keeper) r c goals f.seen
-    → (ms : List ℕ) (new : FrontState) → new ≡ record f { lives = map idle ms }
-    → IsShared atoms size table goals new new_keeper db r c ms
-handed_shared {atoms} {size} {table} {goals} {f} {keeper} {new_keeper} {db} {q} {r} {c} {ns} was at restored below threads ms new new_is =
+    → (new : FrontState) → new ≡ record f { lives = map idle (goal_numbers r.goals) }
+    → IsShared atoms size table goals new new_keeper db r c
+handed_shared {atoms} {size} {table} {goals} {f} {keeper} {new_keeper} {db} {q} {r} {c} was at restored below threads new new_is =
     let sums : Sums (thread_counts q) (clause_counts db) (keeper_view keeper) = swapped (clause_counts db) (thread_counts q) (keeper_view keeper) was.exact in
-    subst (λ (x : FrontState). IsShared atoms size table goals x new_keeper db r c ms) (sym new_is) (record {
+    subst (λ (x : FrontState). IsShared atoms size table goals x new_keeper db r c) (sym new_is) (record {
       table = was.table;
       keeper_is = at;
       exact = swapped (thread_counts r) (clause_counts db) (keeper_view new_keeper) (restored.exact (clause_counts db) sums);
@@ -69,14 +65,10 @@ handed_shared {atoms} {size} {table} {goals} {f} {keeper} {new_keeper} {db} {q} 
       waiting = refl;
     })
 
-pub if_more : (o : Option Tree) (P Q : Tree → Type 0) → ((t : Tree) → P t → Q t) → IfSome o P → IfSome o Q
-if_more None P Q more x = x
-if_more (Some t) P Q more x = more t x
-
 -- THE ENGINE HAS BEGUN in the front
 pub begins_in : (table : TableId) (b : Begun) (m : Names) (f hub : FrontState) (ls : List Life) → f.table ≡ table → hub.lives ≡ idle b.number ∷ ls → AllTold hub.seen (idle b.number ∷ f.lives)
-    → IfSome b.goal (λ t. started_goal b.number hub.seen ≡ Some (said m t))
-    → IfSome b.goal (λ t. All (λ a. IsSome (m a)) (names_of t))
+    → started_goal b.number hub.seen ≡ Some (said m b.goal)
+    → All (λ a. IsSome (m a)) (names_of b.goal)
     → (g new : FrontState) → g ≡ record f { seen = hub.seen; lives = idle b.number ∷ f.lives } → new ≡ record hub { lives = ls }
     → HasBegun table b m f g hub new
 begins_in table b m f hub ls here was told goal named g new g_is new_is =

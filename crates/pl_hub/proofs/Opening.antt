@@ -104,10 +104,10 @@ pub shared_opens : (atoms : TableId) (size : Size) (table : TableId) (goals : �
     → db.flags ≡ opening_flags → db.operators ≡ opening_table → db.next ≡ 0 → db.floor ≡ 0
     → ((w : Tree → ℕ) → weight w db ≡ 0)
     → q ≡ opening_held → count ≡ opening_count goals
-    → IsShared atoms size table goals (is_begun table) keeper db q count []
+    → IsShared atoms size table goals (is_begun table) keeper db q count
 shared_opens atoms size table goals keeper db q count at none says flags operators next floor weighs opened counted =
-    subst (λ (x : HeldThreads Tree). IsShared atoms size table goals (is_begun table) keeper db x count []) (sym opened)
-    (subst (λ (n : ℕ). IsShared atoms size table goals (is_begun table) keeper db opening_held n []) (sym counted) (record {
+    subst (λ (x : HeldThreads Tree). IsShared atoms size table goals (is_begun table) keeper db x count) (sym opened)
+    (subst (λ (n : ℕ). IsShared atoms size table goals (is_begun table) keeper db opening_held n) (sym counted) (record {
       table = refl;
       keeper_is = at;
       exact = λ a. none a ∙ sym (ap (λ n. n + weigh (naming a) opening_held) (weighs (naming a)) ∙ none_weigh (naming a));

@@ -14,7 +14,8 @@ use Rattle.atom_words.specs.declared.size.Size.{Size}
 use Rattle.atom_words.specs.declared.view.View.{View}
 use Rattle.atom_table.specs.declared.seats.Keeper.{Keeper}
 use Rattle.clause_db.specs.Parts.{Held as HeldClauses}
-use Rattle.hub_threads.specs.Held.{Held as HeldThreads, IsSound}
+use Rattle.hub_threads.specs.Goals.{begun_after}
+use Rattle.hub_threads.specs.Held.{Held as HeldThreads, IsSound, goal_numbers}
 use Rattle.hub_threads.specs.Weights.{IsBelow}
 use Rattle.pl_history.specs.Fronts.{FrontState, Life, begun_by}
 use Rattle.world_api.specs.declared.reply.Reply.{Reply}
@@ -34,7 +35,7 @@ use Rattle.hub_threads.specs.Rows.{Changed, Decides as ThreadsDecide, updates_in
 use Rattle.hub_threads.specs.Threads.{IsThreads, thread_counts}
 use Rattle.hub_threads.proofs.Steps.{moves_on, goals_stay, stays}
 use Rattle.pl_hub.specs.Fronts.{idle}
-use Rattle.pl_hub.specs.Settling.{CanMake, CanSettle, Meets, begun_after, entry, hub_after, kind_of}
+use Rattle.pl_hub.specs.Settling.{CanMake, CanSettle, Meets, entry, hub_after, kind_of}
 use Rattle.pl_hub.specs.State.{IsShared}
 use Rattle.pl_hub.proofs.Serving.{IsOfThreads, kind_is, made_beside, made_plain, starts_in}
 
@@ -195,14 +196,14 @@ module _ (l : View) (m : Names) (e : ℕ) (request : Request) (r : HeldThreads T
   lives_then Memory says = refl
 
 -- WHAT IS SHARED after a row of queues and threads
-module _ (atoms : TableId) (size : Size) (table : TableId) (goals : ℕ) (f : FrontState) (keeper new_keeper : Option Keeper) (db : HeldClauses Tree) (q r : HeldThreads Tree) (c d : ℕ) (ns ms : List ℕ)
-    (was : IsShared atoms size table goals f keeper db q c ns) (at : KeeperAt atoms size new_keeper) where
+module _ (atoms : TableId) (size : Size) (table : TableId) (goals : ℕ) (f : FrontState) (keeper new_keeper : Option Keeper) (db : HeldClauses Tree) (q r : HeldThreads Tree) (c d : ℕ)
+    (was : IsShared atoms size table goals f keeper db q c) (at : KeeperAt atoms size new_keeper) where
   pub threads_shared : (e : ℕ) (m : Names) (request : Request) → IsOfThreads request → (row : Row)
       → Restored (thread_counts q) (thread_counts r) (keeper_view keeper) (keeper_view new_keeper) (length f.seen) (length f.seen + updates_in row)
       → IsBelow d (length f.seen + updates_in row) r
       → ThreadsDecide (keeper_view new_keeper) m e request r d goals f.seen row
-      → lives_after row (map idle ns) (starts_in request (state_at goals f.seen (length f.seen))) ≡ map idle ms
-      → IsShared atoms size table goals (hub_after e (kind_of e goals f.seen request) row f) new_keeper db r d ms
+      → lives_after row (map idle (goal_numbers q.goals)) (starts_in request (state_at goals f.seen (length f.seen))) ≡ map idle (goal_numbers r.goals)
+      → IsShared atoms size table goals (hub_after e (kind_of e goals f.seen request) row f) new_keeper db r d
   threads_shared e m request of row restored below says begins =
       let k = kind_of e goals f.seen request in
       let old = keeper_view keeper in
@@ -369,14 +370,14 @@ queues_then k r c goals e h kind sound of (Worn w) was = was
 queues_then k r c goals e h kind sound of Memory was = was
 
 -- WHAT IS SHARED after a row of clauses
-module _ (atoms : TableId) (size : Size) (table : TableId) (goals : ℕ) (f : FrontState) (keeper new_keeper : Option Keeper) (db new_db : HeldClauses Tree) (q : HeldThreads Tree) (c : ℕ) (ns : List ℕ)
-    (was : IsShared atoms size table goals f keeper db q c ns) (sound : IsSound q) (at : KeeperAt atoms size new_keeper) where
+module _ (atoms : TableId) (size : Size) (table : TableId) (goals : ℕ) (f : FrontState) (keeper new_keeper : Option Keeper) (db new_db : HeldClauses Tree) (q : HeldThreads Tree) (c : ℕ)
+    (was : IsShared atoms size table goals f keeper db q c) (sound : IsSound q) (at : KeeperAt atoms size new_keeper) where
   pub database_shared : (e : ℕ) (kind : Kind) → IsOfClauses kind → (row : Row)
       → Restored (clause_counts db) (clause_counts new_db) (keeper_view keeper) (keeper_view new_keeper) (length f.seen) (generation_after row (length f.seen))
       → IsUpTo (generation_after row (length f.seen)) new_db
       → new_db.floor ≡ db.floor
       → IsDatabase (keeper_view new_keeper) new_db goals (seen_after e kind row f.seen)
-      → IsShared atoms size table goals (hub_after e kind row f) new_keeper new_db q c ns
+      → IsShared atoms size table goals (hub_after e kind row f) new_keeper new_db q c
   database_shared e kind of row restored upto floor after =
       let old = keeper_view keeper in
       let new = keeper_view new_keeper in
@@ -404,7 +405,7 @@ module _ (atoms : TableId) (size : Size) (table : TableId) (goals : ℕ) (f : Fr
       → IsUpTo (generation_after row (length f.seen)) new_db
       → new_db.floor ≡ db.floor
       → DatabaseDecides goals e text request f.seen kind (keeper_view new_keeper) new_db row
-      → IsShared atoms size table goals (hub_after e kind row f) new_keeper new_db q c ns
+      → IsShared atoms size table goals (hub_after e kind row f) new_keeper new_db q c
   clauses_shared e text request kind plain of row restored upto floor says =
       database_shared e kind of row restored upto floor (clauses_then goals e text request f.seen kind plain of (keeper_view new_keeper) new_db row says)
 

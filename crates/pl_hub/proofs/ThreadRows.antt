@@ -14,7 +14,8 @@ use Rattle.atom_words.specs.declared.view.View.{View}
 use Rattle.atom_table.specs.declared.seats.Keeper.{Keeper}
 use Rattle.atom_table.specs.Naming.{names, requests}
 use Rattle.clause_db.specs.Parts.{Held as HeldClauses}
-use Rattle.hub_threads.specs.Held.{Held as HeldThreads}
+use Rattle.hub_threads.specs.Goals.{begun_after}
+use Rattle.hub_threads.specs.Held.{Held as HeldThreads, goal_numbers}
 use Rattle.hub_threads.specs.Weights.{IsBelow, weigh}
 use Rattle.term_store.specs.ArgumentKeys.{clause_key}
 use Rattle.term_store.specs.NumberedNames.{term_by}
@@ -36,7 +37,7 @@ use Rattle.hub_threads.specs.Rows.{Decides as ThreadsDecide, updates_in}
 use Rattle.hub_threads.specs.Threads.{thread_counts}
 use Rattle.hub_database.specs.Database.{clause_counts}
 use Rattle.pl_hub.specs.Fronts.{IsOwn, idle, told_of}
-use Rattle.pl_hub.specs.Settling.{CanSettle, Meets, Sees, answer_of, begun_after, front_after, hub_after, kind_of}
+use Rattle.pl_hub.specs.Settling.{CanSettle, Meets, Sees, answer_of, front_after, hub_after, kind_of}
 use Rattle.pl_hub.specs.State.{IsShared}
 use Rattle.pl_hub.specs.Visits.{IsVisit}
 use Rattle.pl_hub.proofs.Answering.{is_visit_of, none_asked}
@@ -45,8 +46,8 @@ use Rattle.pl_hub.proofs.States.{lives_after, lives_begun, lives_quiet, threads_
 use Rattle.pl_hub.proofs.Visiting.{IsPlainVisit}
 
 -- THE COUNTS that a row is given
-pub thread_counts_of : {atoms : TableId} {size : Size} {table : TableId} {goals : ℕ} {f : FrontState} {keeper : Option Keeper} {db : HeldClauses Tree} {q : HeldThreads Tree} {c : ℕ} {ns : List ℕ}
-    → IsShared atoms size table goals f keeper db q c ns → (n : ℕ) → n ≡ length f.seen → Counts (thread_counts q) (keeper_view keeper) n
+pub thread_counts_of : {atoms : TableId} {size : Size} {table : TableId} {goals : ℕ} {f : FrontState} {keeper : Option Keeper} {db : HeldClauses Tree} {q : HeldThreads Tree} {c : ℕ}
+    → IsShared atoms size table goals f keeper db q c → (n : ℕ) → n ≡ length f.seen → Counts (thread_counts q) (keeper_view keeper) n
 thread_counts_of {keeper = keeper} {db = db} {q = q} was n is = record {
   rest = clause_counts db;
   exact = swapped (clause_counts db) (thread_counts q) (keeper_view keeper) was.exact;
@@ -106,18 +107,18 @@ module _ (goals e : ℕ) (j : Kind) (f now : FrontState) (is : f ≡ now) (q : R
       named holds refusals asked)
 
   -- AND WHAT IS SHARED is the state after the history
-  shared_by : {atoms : TableId} {size : Size} {table : TableId} {keeper new_keeper : Option Keeper} {db : HeldClauses Tree} {p : HeldThreads Tree} {c : ℕ} {ns : List ℕ}
-      → IsShared atoms size table goals f keeper db p c ns → KeeperAt atoms size new_keeper → l ≡ keeper_view new_keeper
+  shared_by : {atoms : TableId} {size : Size} {table : TableId} {keeper new_keeper : Option Keeper} {db : HeldClauses Tree} {p : HeldThreads Tree} {c : ℕ}
+      → IsShared atoms size table goals f keeper db p c → KeeperAt atoms size new_keeper → l ≡ keeper_view new_keeper
       → (n : ℕ) → n ≡ length f.seen
       → Restored (thread_counts p) (thread_counts r) (keeper_view keeper) (keeper_view new_keeper) n (n + updates_in row)
       → IsBelow d (n + updates_in row) r
-      → (ms : List ℕ) → lives_after row (map idle ns) (starts_in q (state_at goals f.seen (length f.seen))) ≡ map idle ms
+      → lives_after row (map idle (goal_numbers p.goals)) (starts_in q (state_at goals f.seen (length f.seen))) ≡ map idle (goal_numbers r.goals)
       → (new : FrontState) → new ≡ hub_after e j row f
-      → IsShared atoms size table goals new new_keeper db r d ms
-  shared_by {atoms} {size} {table} {keeper} {new_keeper} {db} {p} {c} {ns} was at same n is_n restored below ms begins new new_is =
-      subst (λ (x : FrontState). IsShared atoms size table goals x new_keeper db r d ms) (sym new_is)
-      (subst (λ (k : Kind). IsShared atoms size table goals (hub_after e k row f) new_keeper db r d ms) kind_here
-      (threads_shared atoms size table goals f keeper new_keeper db p r c d ns ms was at e (names w) q of row
+      → IsShared atoms size table goals new new_keeper db r d
+  shared_by {atoms} {size} {table} {keeper} {new_keeper} {db} {p} {c} was at same n is_n restored below begins new new_is =
+      subst (λ (x : FrontState). IsShared atoms size table goals x new_keeper db r d) (sym new_is)
+      (subst (λ (k : Kind). IsShared atoms size table goals (hub_after e k row f) new_keeper db r d) kind_here
+      (threads_shared atoms size table goals f keeper new_keeper db p r c d was at e (names w) q of row
       (subst (λ (x : ℕ). Restored (thread_counts p) (thread_counts r) (keeper_view keeper) (keeper_view new_keeper) x (x + updates_in row)) is_n restored)
       (subst (λ (x : ℕ). IsBelow d (x + updates_in row) r) is_n below)
       (subst (λ (k : View). ThreadsDecide k (names w) e q r d goals f.seen row) same says)
@@ -125,31 +126,32 @@ module _ (goals e : ℕ) (j : Kind) (f now : FrontState) (is : f ≡ now) (q : R
 
   -- of a request that begins no engine
   pub shared_then : starts_in q (state_at goals f.seen (length f.seen)) ≡ []
-      → {atoms : TableId} {size : Size} {table : TableId} {keeper new_keeper : Option Keeper} {db : HeldClauses Tree} {p : HeldThreads Tree} {c : ℕ} {ns : List ℕ}
-      → IsShared atoms size table goals f keeper db p c ns → KeeperAt atoms size new_keeper → l ≡ keeper_view new_keeper
+      → {atoms : TableId} {size : Size} {table : TableId} {keeper new_keeper : Option Keeper} {db : HeldClauses Tree} {p : HeldThreads Tree} {c : ℕ}
+      → IsShared atoms size table goals f keeper db p c → KeeperAt atoms size new_keeper → l ≡ keeper_view new_keeper
       → (n : ℕ) → n ≡ length f.seen
       → Restored (thread_counts p) (thread_counts r) (keeper_view keeper) (keeper_view new_keeper) n (n + updates_in row)
       → IsBelow d (n + updates_in row) r
+      → r.goals ≡ p.goals
       → (new : FrontState) → new ≡ hub_after e j row f
-      → IsShared atoms size table goals new new_keeper db r d ns
-  shared_then quiet {ns = ns} was at same n is_n restored below new new_is =
-      shared_by was at same n is_n restored below ns
-      (ap (lives_after row (map idle ns)) quiet ∙ lives_quiet row (map idle ns))
+      → IsShared atoms size table goals new new_keeper db r d
+  shared_then quiet {p = p} was at same n is_n restored below kept new new_is =
+      shared_by was at same n is_n restored below
+      (ap (lives_after row (map idle (goal_numbers p.goals))) quiet ∙ lives_quiet row (map idle (goal_numbers p.goals)) ∙ ap (λ (gs : List (ℕ × Tree)). map idle (goal_numbers gs)) (sym kept))
       new new_is
 
   -- of one that begins an engine with this number
   pub shared_begun : (b : ℕ) → starts_in q (state_at goals f.seen (length f.seen)) ≡ idle b ∷ []
-      → {atoms : TableId} {size : Size} {table : TableId} {keeper new_keeper : Option Keeper} {db : HeldClauses Tree} {p : HeldThreads Tree} {c : ℕ} {ns : List ℕ}
-      → IsShared atoms size table goals f keeper db p c ns → KeeperAt atoms size new_keeper → l ≡ keeper_view new_keeper
+      → {atoms : TableId} {size : Size} {table : TableId} {keeper new_keeper : Option Keeper} {db : HeldClauses Tree} {p : HeldThreads Tree} {c : ℕ}
+      → IsShared atoms size table goals f keeper db p c → KeeperAt atoms size new_keeper → l ≡ keeper_view new_keeper
       → (n : ℕ) → n ≡ length f.seen
       → Restored (thread_counts p) (thread_counts r) (keeper_view keeper) (keeper_view new_keeper) n (n + updates_in row)
       → IsBelow d (n + updates_in row) r
+      → goal_numbers r.goals ≡ begun_after row b (goal_numbers p.goals)
       → (new : FrontState) → new ≡ hub_after e j row f
-      → (ms : List ℕ) → ms ≡ begun_after row b ns
-      → IsShared atoms size table goals new new_keeper db r d ms
-  shared_begun b starts {ns = ns} was at same n is_n restored below new new_is ms ms_is =
-      shared_by was at same n is_n restored below ms
-      (ap (lives_after row (map idle ns)) starts ∙ lives_begun row ns b ∙ ap (map idle) (sym ms_is))
+      → IsShared atoms size table goals new new_keeper db r d
+  shared_begun b starts {p = p} was at same n is_n restored below kept new new_is =
+      shared_by was at same n is_n restored below
+      (ap (lives_after row (map idle (goal_numbers p.goals))) starts ∙ lives_begun row (goal_numbers p.goals) b ∙ ap (map idle) (sym kept))
       new new_is
 
 -- A ROW THAT MAKES NO UPDATE, whatever update was picked
@@ -231,18 +233,19 @@ module _ (goals e : ℕ) (j : Kind) (f now : FrontState) (is : f ≡ now) (q : R
       (reads_meet l (names w) e q r d goals f.seen j row reads says)
       named holds refusals asked)
 
-  pub reads_shared : {atoms : TableId} {size : Size} {table : TableId} {keeper new_keeper : Option Keeper} {db : HeldClauses Tree} {p : HeldThreads Tree} {c : ℕ} {ns : List ℕ}
-      → IsShared atoms size table goals f keeper db p c ns → KeeperAt atoms size new_keeper → l ≡ keeper_view new_keeper
+  pub reads_shared : {atoms : TableId} {size : Size} {table : TableId} {keeper new_keeper : Option Keeper} {db : HeldClauses Tree} {p : HeldThreads Tree} {c : ℕ}
+      → IsShared atoms size table goals f keeper db p c → KeeperAt atoms size new_keeper → l ≡ keeper_view new_keeper
       → Restored (thread_counts p) (thread_counts r) (keeper_view keeper) (keeper_view new_keeper) (length f.seen) (length f.seen)
       → IsBelow d (length f.seen) r
+      → r.goals ≡ p.goals
       → (new : FrontState) → new ≡ hub_after e j row f
-      → IsShared atoms size table goals new new_keeper db r d ns
-  reads_shared {atoms} {size} {table} {keeper} {new_keeper} {db} {p} {c} {ns} was at same restored below new new_is =
+      → IsShared atoms size table goals new new_keeper db r d
+  reads_shared {atoms} {size} {table} {keeper} {new_keeper} {db} {p} {c} was at same restored below kept new new_is =
       let none_made : length f.seen ≡ length f.seen + updates_in row = omega (arith, reads) in
       let same_hub : hub_after e (kind_of e goals f.seen q) row f ≡ new = reads_after e (kind_of e goals f.seen q) row f reads ∙ sym (reads_after e j row f reads) ∙ sym new_is in
-      subst (λ (x : FrontState). IsShared atoms size table goals x new_keeper db r d ns) same_hub
-      (threads_shared atoms size table goals f keeper new_keeper db p r c d ns ns was at e (names w) q of row
+      subst (λ (x : FrontState). IsShared atoms size table goals x new_keeper db r d) same_hub
+      (threads_shared atoms size table goals f keeper new_keeper db p r c d was at e (names w) q of row
       (subst (λ (x : ℕ). Restored (thread_counts p) (thread_counts r) (keeper_view keeper) (keeper_view new_keeper) (length f.seen) x) none_made restored)
       (subst (λ (x : ℕ). IsBelow d x r) none_made below)
       (subst (λ (k : View). ThreadsDecide k (names w) e q r d goals f.seen row) same says)
-      (reads_lives row (map idle ns) (starts_in q (state_at goals f.seen (length f.seen))) reads))
+      (reads_lives row (map idle (goal_numbers p.goals)) (starts_in q (state_at goals f.seen (length f.seen))) reads ∙ ap (λ (gs : List (ℕ × Tree)). map idle (goal_numbers gs)) (sym kept)))

@@ -1,5 +1,5 @@
 -- An engine that begins in a front of its own.
-use Rattle.std.specs.Prelude.{◌≡◌, ◌∷◌, ℕ, IfSome, IsSome, Some}
+use Rattle.std.specs.Prelude.{◌≡◌, ◌∷◌, ℕ, IsSome, Some}
 use Rattle.std.specs.List.{All}
 use Rattle.atomic_table.specs.Seated.{TableId}
 use Rattle.atom_api.specs.Names.{Names}
@@ -16,5 +16,5 @@ pub record HasBegun (table : TableId) (b : Begun) (m : Names) (f g hub new : Fro
   pub front : g ≡ record f { seen = hub.seen; lives = idle b.number ∷ f.lives }
   pub hub_was : hub.lives ≡ idle b.number ∷ new.lives
   pub same : new ≡ record hub { lives = new.lives }
-  pub goal : IfSome b.goal (λ t. started_goal b.number hub.seen ≡ Some (said m t))
-  pub named : IfSome b.goal (λ t. All (λ a. IsSome (m a)) (names_of t))
+  pub goal : started_goal b.number hub.seen ≡ Some (said m b.goal)
+  pub named : All (λ a. IsSome (m a)) (names_of b.goal)

@@ -49,11 +49,6 @@ front_after e k (Makes r) h f = record f { seen = h ++ entry e k ∷ []; lives =
 front_after e k (Waits on) h f = record f { seen = h }
 front_after e k _ h f = f
 
--- the engines that no front carries yet after a row that begins the engine n where it makes an update
-abbrev pub begun_after : Row → ℕ → List ℕ → List ℕ
-begun_after (Makes r) n ns = ns ++ n ∷ []
-begun_after _ n ns = ns
-
 -- an update can be made that is no engine's end
 pub record CanMake (k : Kind) (h : History) : Type 0 where
   pub plain : is_end k ≡ false

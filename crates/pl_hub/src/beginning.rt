@@ -1,5 +1,5 @@
 //! Engines that begin in a front of their own.
-ghost use Rattle.std.specs.Prelude.{◌≡◌, [], IfNone, IfSome, length, true};
+ghost use Rattle.std.specs.Prelude.{◌≡◌, ◌↔◌, [], IfNone, IfSome, IsFalse, length, true};
 ghost use Rattle.pl_history.specs.Fronts.{all_over};
 ghost use Rattle.atom_words.specs.Seats.{seen};
 ghost use Rattle.atom_table.specs.Naming.{names, requests as asked};
@@ -13,11 +13,11 @@ use atom_table::TableAtoms;
 use pl_history::{Front, History};
 use term_store::Stored;
 
-/// An engine that has begun, and the goal that it was started with, where it is kept.
+/// An engine that has begun, and the goal that it was started with.
 #[derive(Drop)]
 pub struct Begun {
     pub number: u64,
-    pub goal: Option<Stored>,
+    pub goal: Stored,
 }
 
 impl<K: Naming> Shared<K> {
@@ -38,19 +38,21 @@ impl<K: Naming> Shared<K> {
         ensures refusals { (seen atoms.new.seat).refusals ≡ (seen atoms.old.seat).refusals }
         ensures asked { asked (seen atoms.new.seat) ≡ asked (seen atoms.old.seat) }
     {
-        if self.begun.as_slice().is_empty() {
-            return None;
+        match hub_threads::take_goal(&mut self.queues, atoms, &mut self.keeper) {
+            None => None,
+            Some((number, goal)) => {
+                history.hand(&mut self.front, front, number);
+                history.look(&mut self.front, front);
+                Some(Begun { number, goal })
+            }
         }
-        let number = self.begun.remove(0);
-        history.hand(&mut self.front, front, number);
-        history.look(&mut self.front, front);
-        let goal = hub_threads::take_goal(&mut self.queues, atoms, &mut self.keeper, number);
-        Some(Begun { number, goal })
     }
 
     /// Whether an engine has begun that no front was given.
-    pub fn has_begun(&self) -> bool {
-        !self.begun.is_empty()
+    pub fn has_begun(&self) -> bool
+        ensures { IsFalse result ↔ (self.now.lives ≡ []) }
+    {
+        self.queues.first_goal().is_some()
     }
 
     /// The length of the history.

@@ -34,15 +34,15 @@ pub fn counted(
         }),
         Visit::Erase { place } => Ok(Visit::Erase { place }),
         Visit::AssertFirst { clause } => {
-            let clause = CountedTerm::new(alloc, clause)?;
+            let clause = counted_clause(alloc, &clause)?;
             Ok(Visit::AssertFirst { clause })
         }
         Visit::AssertLast { clause } => {
-            let clause = CountedTerm::new(alloc, clause)?;
+            let clause = counted_clause(alloc, &clause)?;
             Ok(Visit::AssertLast { clause })
         }
         Visit::Consult { clause } => {
-            let clause = CountedTerm::new(alloc, clause)?;
+            let clause = counted_clause(alloc, &clause)?;
             Ok(Visit::Consult { clause })
         }
         Visit::Abolish { procedure } => Ok(Visit::Abolish { procedure }),
@@ -104,6 +104,14 @@ pub fn counted(
         Visit::CollectAtoms => Ok(Visit::CollectAtoms),
         Visit::CollectClauses => Ok(Visit::CollectClauses),
     }
+}
+
+// The same clause, in the form in which it is entered at a call.
+fn counted_clause(alloc: Global, clause: &Stored) -> Result<CountedTerm, Memory>
+    ensures { IfOk result (λ c. c ≡ clause.now) }
+{
+    let clause = Stored::clause_from_nodes(alloc, clause.nodes())?;
+    CountedTerm::new(alloc, clause)
 }
 
 // The same term, where there is one.

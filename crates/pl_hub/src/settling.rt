@@ -1,9 +1,9 @@
 //! The step on the history after a part of the shared state has answered.
-ghost use Rattle.std.specs.Prelude.{◌^◌, ◌<◌, ◌≡◌, ◌∷◌, [], ◌++◌, ℕ, OnOk, true, length, vec_len, vec_capacity};
+ghost use Rattle.std.specs.Prelude.{◌^◌, ◌<◌, ◌≡◌, ◌∷◌, [], ◌++◌, ℕ, OnOk, true, length};
 ghost use Rattle.pl_model.specs.History.{finish, is_end};
 ghost use Rattle.pl_history.specs.Fronts.{begun_by, gains, own_engine, own_runs, times};
 ghost use Rattle.pl_hub.specs.Ending.{front_closed, hub_closed};
-ghost use Rattle.pl_hub.specs.Settling.{CanMake, CanSettle, IsBehind, Sees, answer_of, begun_after, entry, front_after, hub_after, next_answer, next_front};
+ghost use Rattle.pl_hub.specs.Settling.{CanMake, CanSettle, IsBehind, Sees, answer_of, entry, front_after, hub_after, next_answer, next_front};
 
 use counted_terms::Row;
 use pl_history::{Front, History, HubFront};
@@ -121,16 +121,6 @@ pub(crate) fn settle<N: Updates>(
         Row::Retry(cause) => Answer::Retry(cause),
         Row::Worn(word) => Answer::Worn(word),
         Row::Memory => Answer::Memory,
-    }
-}
-
-/// An engine with this number has begun where the row makes an update, and no front carries it yet.
-pub(crate) fn note_begun(begun: &mut Vec<u64>, row: &Row, number: u64)
-    requires room { vec_len begun.old < vec_capacity begun.old }
-    ensures { begun.new.items ≡ begun_after row.now number begun.old.items }
-{
-    if let Row::Makes(_) = row {
-        begun.push_reserved(number);
     }
 }
 

@@ -30,8 +30,6 @@ pub struct Shared<K: Naming> {
     pub(crate) queues: Queues<CountedTerm>,
     /// The number that the next thread or queue gets.
     pub(crate) count: u64,
-    /// The engines that have begun and that no other front was given, in the order in which they began.
-    pub(crate) begun: Vec<u64>,
     pub(crate) of: PhantomData<K>,
 }
 
@@ -46,7 +44,7 @@ impl<K: Naming> Model for Shared<K> {
 
     ghost view = { λ s. s.front };
 
-    ghost invariant = { λ s. IsShared K.atoms K.size K.history K.goals s.front s.keeper s.db s.queues s.count s.begun.items };
+    ghost invariant = { λ s. IsShared K.atoms K.size K.history K.goals s.front s.keeper s.db s.queues s.count };
 }
 
 // The number that the first thread or queue gets.
@@ -87,7 +85,6 @@ impl<K: Naming> Shared<K> {
             hints: Hints::new(alloc),
             queues,
             count: first_number(goals),
-            begun: Vec::new(alloc),
             of: PhantomData,
         })
     }

@@ -15,7 +15,7 @@ ghost use Rattle.pl_hub.specs.Settling.{kind_of};
 ghost use Rattle.pl_hub.specs.Visits.{IsVisit};
 
 use crate::naming::Naming;
-use crate::settling::{Updates, note_begun, settle};
+use crate::settling::{Updates, settle};
 use crate::shared::Shared;
 use atom_api::Atom;
 use atom_table::TableAtoms;
@@ -347,11 +347,7 @@ impl<K: Naming> Shared<K> {
         requires held { All (λ a. IsSome (names (seen atoms.old.seat) a)) (visit_names names_of key_atoms (CreateThread goal aliases error)) }
         ensures { IsVisit K.history K.goals engine (seen atoms.old.seat) (seen atoms.new.seat) (CreateThread goal aliases error) result front.old front.new self.old self.new }
     {
-        if self.begun.reserve(1).is_err() {
-            return Answer::Memory;
-        }
         let generation = self.front.generation();
-        let number = self.count;
         let row = hub_threads::create_thread(
             alloc,
             &mut self.queues,
@@ -363,7 +359,6 @@ impl<K: Naming> Shared<K> {
             aliases.as_slice(),
             error,
         );
-        note_begun(&mut self.begun, &row, number);
         settle::<N>(history, &mut self.front, front, engine, row)
     }
 
@@ -445,9 +440,6 @@ impl<K: Naming> Shared<K> {
         requires held { All (λ a. IsSome (names (seen atoms.old.seat) a)) (visit_names names_of key_atoms (StartGoal number goal)) }
         ensures { IsVisit K.history K.goals engine (seen atoms.old.seat) (seen atoms.new.seat) (StartGoal number goal) result front.old front.new self.old self.new }
     {
-        if self.begun.reserve(1).is_err() {
-            return Answer::Memory;
-        }
         let generation = history.tell(&mut self.front, front);
         let row = hub_threads::start_goal(
             alloc,
@@ -459,7 +451,6 @@ impl<K: Naming> Shared<K> {
             number,
             goal,
         );
-        note_begun(&mut self.begun, &row, number);
         settle::<N>(history, &mut self.front, front, engine, row)
     }
 }

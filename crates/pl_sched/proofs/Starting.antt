@@ -1,14 +1,12 @@
 -- The beginning of an engine, by the update that started it.
-use Rattle.std.proofs.Common.{◌≡◌, ◌<◌, ℕ, zero, suc, ◌==◌, List, [], ◌∷◌, Bool, true, false, length, Option, Some, None, refl, sym, ap, subst, ◌∙◌, arith, eqb-true}
-use Rattle.std.specs.Prelude.{Contains, IfSome, IsSome, if◌then◌else◌, slice_index_or}
-use Rattle.std.specs.List.{All}
+use Rattle.std.proofs.Common.{◌≡◌, ◌<◌, ℕ, zero, suc, ◌==◌, List, [], ◌∷◌, Bool, true, false, length, Option, Some, None, refl, sym, ap, ◌∙◌, arith, eqb-true}
+use Rattle.std.specs.Prelude.{Contains, if◌then◌else◌, slice_index_or}
 use Rattle.atomic_table.specs.Seated.{TableId}
 use Rattle.pl_term.specs.Tree.{Chars, Tree}
 use Rattle.pl_model.specs.History.{Entry, History, Kind, abolish, add_first, add_last, drop_queue, erase, finish, join, make_queue, send, set_dynamic, set_flag, set_op, start}
 use Rattle.pl_model.specs.History as entries
 use Rattle.run_model.specs.Lawful.{Beginning, beginnings, beginnings_from}
 use Rattle.atom_api.specs.Names.{Names}
-use Rattle.term_store.specs.NumberedNames.{names_of}
 use Rattle.pl_history.specs.Fronts.{FrontState, own_generations}
 use Rattle.counted_terms.specs.CountedTerms.{said}
 use Rattle.hub_threads.specs.Threads.{first_some, goal_in, started_goal}
@@ -60,12 +58,11 @@ started_from n t place (x ∷ xs) is = by_kind n t place x.engine x.kind xs is (
 pub begins_so : (n : ℕ) (t : Tree) (h : History) → started_goal n h ≡ Some t → BeginsIn n t (beginnings h)
 begins_so n t h is = started_from n t zero h is
 
--- AN ENGINE THAT HAS BEGUN so is a new one with the goal
-pub new_engine : (table : TableId) (b : Begun) (t : Tree) (m : Names) (f g hub new : FrontState) → HasBegun table b m f g hub new → b.goal ≡ Some t → IsNew table b.number t m g
-new_engine table b t m f g hub new begun is =
+-- AN ENGINE THAT HAS BEGUN so is a new one
+pub new_engine : (table : TableId) (b : Begun) (m : Names) (f g hub new : FrontState) → HasBegun table b m f g hub new → IsNew table b.number b.goal m g
+new_engine table b m f g hub new begun =
     let saw : g.seen ≡ hub.seen = ap (λ (x : FrontState). x.seen) begun.front in
-    let started : started_goal b.number hub.seen ≡ Some (said m t) = subst (λ (o : Option Tree). IfSome o (λ u. started_goal b.number hub.seen ≡ Some (said m u))) is begun.goal in
-    let c = begins_so b.number (said m t) g.seen (ap (started_goal b.number) saw ∙ started) in
+    let c = begins_so b.number (said m b.goal) g.seen (ap (started_goal b.number) saw ∙ begun.goal) in
     record {
       own = begun.own;
       nothing = ap (λ (x : FrontState). own_generations x.lives) begun.front;
@@ -73,12 +70,5 @@ new_engine table b t m f g hub new begun is =
       among = c.1;
       engine = c.2;
       goal_is = c.3;
-      named = subst (λ (o : Option Tree). IfSome o (λ u. All (λ a. IsSome (m a)) (names_of u))) is begun.named;
+      named = begun.named;
     }
-
-kept_by : (table : TableId) (b : Begun) (m : Names) (f g hub new : FrontState) → HasBegun table b m f g hub new → (o : Option Tree) → b.goal ≡ o → IfSome o (λ t. IsNew table b.number t m g)
-kept_by table b m f g hub new begun None is = tt
-kept_by table b m f g hub new begun (Some t) is = new_engine table b t m f g hub new begun is
-
-pub new_if_kept : (table : TableId) (b : Begun) (m : Names) (f g hub new : FrontState) → HasBegun table b m f g hub new → IfSome b.goal (λ t. IsNew table b.number t m g)
-new_if_kept table b m f g hub new begun = kept_by table b m f g hub new begun b.goal refl

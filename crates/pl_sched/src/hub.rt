@@ -1,5 +1,5 @@
 //! The shared state with the engines at home.
-ghost use Rattle.std.specs.Prelude.{◌≡◌, IfOk, IfSome, IsSome, OnErr, OnOk};
+ghost use Rattle.std.specs.Prelude.{◌≡◌, IfOk, IsSome, OnErr, OnOk};
 ghost use Rattle.std.specs.List.{All};
 ghost use Rattle.pl_model.specs.History.{finish};
 ghost use Rattle.pl_model.specs.SharedState.{status_of};
@@ -86,19 +86,16 @@ fn take_ready<'a, E: Resident + Drop, K: Command>(
     None
 }
 
-// The engine begins, where its goal is kept.
+// The engine begins.
 fn first_turn<'a, E: Resident + Drop, K: Command>(
     begun: Begun,
     atoms: TableAtoms<'a, K>,
     front: Front,
 ) -> Lend<'a, E, K>
-    requires { IfSome begun.goal (λ t. IsNew K.history begun.number t (names (seen atoms.seat)) front) }
+    requires { IsNew K.history begun.number begun.goal (names (seen atoms.seat)) front }
 {
     let Begun { number, goal } = begun;
-    match goal {
-        None => Lend::Memory,
-        Some(goal) => Lend::Begin(NewEngine::new(number, goal, atoms, front)),
-    }
+    Lend::Begin(NewEngine::new(number, goal, atoms, front))
 }
 
 // An engine that has begun, in a new front.

@@ -5,7 +5,8 @@ ghost use Rattle.std.specs.Option.{is_some, option_map};
 ghost use Rattle.pl_term.specs.Variables.{is_in};
 ghost use Rattle.pl_model.specs.Threads.{alias_of, is_alias, is_queue, number_of, queue_named, thread_named, first_message, has_engine, queue_made, queue_dropped, message_sent, thread_ended, is_joined};
 ghost use Rattle.hub_threads.specs.declared.held.fault.QueueFault.TheVariants.{NoQueue, Memory as NoMemory};
-ghost use Rattle.hub_threads.specs.Held.{opening_held, Removes, IsNew, IsNewPlace, IsSound, contents, named_message, goal_of, without_goal, Takes, left_by_join, own_contents, started};
+ghost use Rattle.hub_threads.specs.Goals.{first_begun};
+ghost use Rattle.hub_threads.specs.Held.{opening_held, Removes, IsNew, IsNewPlace, IsSound, contents, named_message, goal_numbers, goal_of, without_goal, Takes, left_by_join, own_contents, started};
 ghost use Rattle.hub_threads.specs.Located.{Locates};
 ghost use Rattle.hub_threads.specs.Refusals.{is_taken, make_refusal, start_refusal, drop_refusal, end_refusal, join_refusal, join_fault};
 
@@ -13,7 +14,7 @@ use crate::held::aliases::{put_alias, take_alias};
 use crate::held::fault::QueueFault;
 use crate::held::queue::Queue;
 use crate::held::searches::{
-    alias_at, goal_at, has, has_place, named_at, queue_at, running, thread_at,
+    alias_at, first_number, goal_at, has, has_place, named_at, queue_at, running, thread_at,
 };
 use pl_model::kept::Kept;
 use pl_model::threads::{Message, Name, Status, Thread};
@@ -274,6 +275,13 @@ impl<M: Drop> Queues<M> {
                 Ok(())
             }
         }
+    }
+
+    /// The number of the thread that began first of those whose goals are kept.
+    pub fn first_goal(&self) -> Option<u64>
+        ensures { result ≡ first_begun (goal_numbers self.now.goals) }
+    {
+        first_number(self.goals.as_slice())
     }
 
     /// Hands out the goal of the thread with the number, once. It takes no memory.

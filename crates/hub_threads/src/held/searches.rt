@@ -3,7 +3,8 @@ ghost use Rattle.std.specs.Prelude.{◌≡◌, bytes_eq, filter, find, length};
 ghost use Rattle.pl_term.specs.Variables.{is_in};
 ghost use Rattle.pl_model.specs.Threads.{is_queue, is_thread, is_running};
 ghost use Rattle.hub_threads.specs.Distinct.{has_number};
-ghost use Rattle.hub_threads.specs.Held.{is_goal_of, is_named, is_sent_at, is_spelled, places};
+ghost use Rattle.hub_threads.specs.Goals.{first_begun};
+ghost use Rattle.hub_threads.specs.Held.{goal_numbers, is_goal_of, is_named, is_sent_at, is_spelled, places};
 ghost use Rattle.hub_threads.specs.Located.{Locates};
 
 use crate::held::queue::Queue;
@@ -44,6 +45,16 @@ pub fn goal_at<M: Drop>(goals: &[(u64, M)], n: u64) -> Option<usize>
         }
     }
     None
+}
+
+/// The number of the thread whose goal stands first.
+pub fn first_number<M: Drop>(goals: &[(u64, M)]) -> Option<u64>
+    ensures { result ≡ first_begun (goal_numbers goals.now) }
+{
+    if goals.is_empty() {
+        return None;
+    }
+    Some(goals[0].0)
 }
 
 /// Whether the alias is the name.

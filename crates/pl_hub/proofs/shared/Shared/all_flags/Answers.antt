@@ -22,7 +22,7 @@ settle-requires-clause-can g c =
 
 pub invariant_of-self : goal.invariant_of-self
 invariant_of-self g c =
-    subst (λ (x : FrontState). IsShared g.K.NamesTable.atoms g.K.NamesTable.size g.K.Naming.history g.K.Naming.goals x c.self.inside.keeper c.self.inside.db c.self.inside.queues c.self.inside.count c.self.inside.begun.items)
+    subst (λ (x : FrontState). IsShared g.K.NamesTable.atoms g.K.NamesTable.size g.K.Naming.history g.K.Naming.goals x c.self.inside.keeper c.self.inside.db c.self.inside.queues c.self.inside.count)
     (sym (c.settle.ensures.hub ∙ told_after g.K.Naming.goals c.args.engine (text_of (names (seen c.args.atoms.now.seat))) requests.all_flags c.self.inside.front.seen (erase 0) c.all_flags-row.result c.self.inside.front
     (c.all_flags-row.ensures.says (keeper_view c.self.inside.keeper) g.K.Naming.goals c.args.engine c.self.inside.front.seen c.self.invariant.database)))
     c.self.invariant

@@ -25,7 +25,7 @@ settle-requires-clause-can g c = told_can g.K.Naming.goals c.args.engine (text_o
 
 pub invariant_of-self : goal.invariant_of-self
 invariant_of-self g c =
-    subst (λ (x : FrontState). IsShared g.K.NamesTable.atoms g.K.NamesTable.size g.K.Naming.history g.K.Naming.goals x c.self.inside.keeper c.self.inside.db c.self.inside.queues c.self.inside.count c.self.inside.begun.items)
+    subst (λ (x : FrontState). IsShared g.K.NamesTable.atoms g.K.NamesTable.size g.K.Naming.history g.K.Naming.goals x c.self.inside.keeper c.self.inside.db c.self.inside.queues c.self.inside.count)
     (sym (c.settle.ensures.hub ∙ told_after g.K.Naming.goals c.args.engine (text_of (names (seen c.all_procedures-row.new.atoms.seat))) requests.all_procedures c.tell-generation.new.hub.seen (erase 0) c.all_procedures-row.result c.tell-generation.new.hub (c.all_procedures-row.ensures.says (keeper_view c.self.inside.keeper) g.K.Naming.goals c.args.engine c.tell-generation.new.hub.seen (ap (λ (x : FrontState). length x.seen) c.tell-generation.ensures.hub ∙ sym c.tell-generation.ensures.generation) (subst (λ (x : FrontState). IsDatabase (keeper_view c.self.inside.keeper) c.self.inside.db g.K.Naming.goals x.seen) (sym c.tell-generation.ensures.hub) c.self.invariant.database)) ∙ c.tell-generation.ensures.hub))
     c.self.invariant
 

@@ -31,7 +31,7 @@ invariant_of-self g c =
     (c.create_queue-row.ensures.says k c.args.engine g.K.Naming.goals f.seen (sym c.generation-generation.ensures) c.self.invariant.threads)
     refl c.self.invariant c.self.invariant.keeper_is refl c.generation-generation.result c.generation-generation.ensures
     (nothing_stored k c.self.inside.queues c.create_queue-row.new.queues c.generation-generation.result (updates_in c.create_queue-row.result) c.create_queue-row.ensures.stored)
-    c.create_queue-row.ensures.below c.settle.new.hub c.settle.ensures.hub
+    c.create_queue-row.ensures.below c.create_queue-row.ensures.goals c.settle.new.hub c.settle.ensures.hub
 
 pub returns : goal.returns
 returns g c =

@@ -11,7 +11,7 @@ use Rattle.world_api.specs.declared.visit.Visit.TheVariants.{CreateThread}
 use Rattle.counted_terms.specs.CountedTerms.{said}
 use Rattle.counted_terms.specs.Keeping.{keeper_view}
 use Rattle.pl_hub.specs.Fronts.{idle}
-use Rattle.pl_hub.specs.Settling.{begun_after, kind_of}
+use Rattle.pl_hub.specs.Settling.{kind_of}
 use Rattle.pl_hub.specs.State.{IsShared}
 use Rattle.pl_hub.proofs.Held.{all_left, all_right}
 use Rattle.pl_hub.proofs.ThreadRows.{can_settle, shared_begun, thread_counts_of, threads_visit}
@@ -46,11 +46,6 @@ settle-requires-clause-can g c =
 
 pub invariant_of-self : goal.invariant_of-self
 invariant_of-self g c =
-    subst (λ (ns : List ℕ). IsShared g.K.NamesTable.atoms g.K.NamesTable.size g.K.Naming.history g.K.Naming.goals c.self.inside.front c.self.inside.keeper c.self.inside.db c.self.inside.queues c.self.inside.count ns)
-    (sym c.reserve.ensures.items) c.self.invariant
-
-pub invariant_of-self-2 : goal.invariant_of-self-2
-invariant_of-self-2 g c =
     let f = c.self.inside.front in
     let n = names (seen c.args.atoms.now.seat) in
     let asks = λ (l : List ℕ). requests.create_thread (said n c.args.goal) (map (text_of n) l) (option_map (said n) c.args.error) in
@@ -60,8 +55,7 @@ invariant_of-self-2 g c =
     (c.create_thread-row.ensures.says c.args.engine g.K.Naming.goals f.seen (sym c.generation-generation.ensures) c.self.invariant.threads)
     c.self.inside.count (ap (λ (k : ℕ). idle k ∷ []) c.self.invariant.threads.number)
     c.self.invariant c.create_thread-row.ensures.keeper refl c.generation-generation.result c.generation-generation.ensures
-    c.create_thread-row.ensures.restored c.create_thread-row.ensures.below c.settle.new.hub c.settle.ensures.hub
-    c.note_begun.new.begun.items (c.note_begun.ensures ∙ ap (begun_after c.create_thread-row.result c.self.inside.count) c.reserve.ensures.items)
+    c.create_thread-row.ensures.restored c.create_thread-row.ensures.below c.create_thread-row.ensures.goals c.settle.new.hub c.settle.ensures.hub
 
 pub returns : goal.returns
 returns g c =

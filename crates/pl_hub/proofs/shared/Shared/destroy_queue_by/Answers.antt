@@ -30,7 +30,7 @@ invariant_of-self g c =
     (seen c.destroy_queue-row.new.atoms.seat) (keeper_view c.destroy_queue-row.new.keeper) c.destroy_queue-row.new.queues c.self.inside.count c.destroy_queue-row.result
     (c.destroy_queue-row.ensures.says c.args.engine c.self.inside.count g.K.Naming.goals f.seen (sym c.generation-generation.ensures) c.self.invariant.threads)
     refl c.self.invariant c.destroy_queue-row.ensures.keeper refl c.generation-generation.result c.generation-generation.ensures
-    c.destroy_queue-row.ensures.restored (c.destroy_queue-row.ensures.below c.self.inside.count (subst (λ (x : ℕ). IsBelow c.self.inside.count x c.self.inside.queues) (sym c.generation-generation.ensures) c.self.invariant.below)) c.settle.new.hub c.settle.ensures.hub
+    c.destroy_queue-row.ensures.restored (c.destroy_queue-row.ensures.below c.self.inside.count (subst (λ (x : ℕ). IsBelow c.self.inside.count x c.self.inside.queues) (sym c.generation-generation.ensures) c.self.invariant.below)) c.destroy_queue-row.ensures.goals c.settle.new.hub c.settle.ensures.hub
 
 pub returns : goal.returns
 returns g c =

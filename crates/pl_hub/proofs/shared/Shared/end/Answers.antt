@@ -13,7 +13,7 @@ end_thread-ended-requires-clause-counts g c = thread_counts_of c.self.invariant 
 
 pub invariant_of-self : goal.invariant_of-self
 invariant_of-self g c =
-    undone_shared g.K.NamesTable.atoms g.K.NamesTable.size g.K.Naming.history g.K.Naming.goals c.self.inside.front c.self.inside.keeper c.end_thread-ended.new.keeper c.self.inside.db c.self.inside.queues c.end_thread-ended.new.queues c.self.inside.count c.self.inside.begun.items
+    undone_shared g.K.NamesTable.atoms g.K.NamesTable.size g.K.Naming.history g.K.Naming.goals c.self.inside.front c.self.inside.keeper c.end_thread-ended.new.keeper c.self.inside.db c.self.inside.queues c.end_thread-ended.new.queues c.self.inside.count
     c.self.invariant c.in-Err.ensures.keeper c.generation-generation.result c.generation-generation.ensures c.in-Err.ensures.unchanged c.in-Err.ensures.undone
     (c.in-Err.ensures.failed c.self.inside.count g.K.Naming.goals c.self.inside.front.seen c.self.invariant.threads)
 
@@ -21,11 +21,11 @@ pub invariant_of-self-in-Ok : goal.invariant_of-self-in-Ok
 invariant_of-self-in-Ok g c =
     let how = g.W.ShowsHow.how c.args.how.now in
     let steps = g.S.ShowsSteps.steps c.args.run.now in
-    ended_shared g.K.NamesTable.atoms g.K.NamesTable.size g.K.Naming.history g.K.Naming.goals c.self.inside.front c.self.inside.keeper c.end_thread-ended.new.keeper c.self.inside.db c.self.inside.queues c.end_thread-ended.new.queues c.self.inside.count c.self.inside.begun.items
+    ended_shared g.K.NamesTable.atoms g.K.NamesTable.size g.K.Naming.history g.K.Naming.goals c.self.inside.front c.self.inside.keeper c.end_thread-ended.new.keeper c.self.inside.db c.self.inside.queues c.end_thread-ended.new.queues c.self.inside.count
     c.self.invariant c.in-Ok.ensures.keeper c.args.engine (finish how steps) tt c.generation-generation.result c.generation-generation.ensures c.in-Ok.ensures.restored
     (c.in-Ok.ensures.below c.self.inside.count (subst (λ (x : ℕ). IsBelow c.self.inside.count x c.self.inside.queues) (sym c.generation-generation.ensures) c.self.invariant.below))
     (c.in-Ok.ensures.ended how steps c.self.inside.count g.K.Naming.goals c.self.inside.front.seen (sym c.generation-generation.ensures) c.self.invariant.threads c.requires.status)
-    c.close.new.hub c.close.ensures.hub
+    c.end_thread-ended.ensures.goals c.close.new.hub c.close.ensures.hub
 
 pub returns-in-Ok-clause-ended : goal.returns-in-Ok-clause-ended
 returns-in-Ok-clause-ended g c =

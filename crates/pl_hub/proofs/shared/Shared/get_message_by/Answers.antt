@@ -39,7 +39,7 @@ invariant_of-self g c =
     (seen c.get_message-row.new.atoms.seat) (keeper_view c.get_message-row.new.keeper) c.get_message-row.new.queues c.self.inside.count c.get_message-row.result
     (c.get_message-row.ensures.says c.args.engine c.self.inside.count g.K.Naming.goals f.seen (sym c.generation-generation.ensures) c.self.invariant.threads)
     refl c.self.invariant c.get_message-row.ensures.keeper refl c.generation-generation.result c.generation-generation.ensures
-    c.get_message-row.ensures.restored (c.get_message-row.ensures.below c.self.inside.count (subst (λ (x : ℕ). IsBelow c.self.inside.count x c.self.inside.queues) (sym c.generation-generation.ensures) c.self.invariant.below)) c.settle.new.hub c.settle.ensures.hub
+    c.get_message-row.ensures.restored (c.get_message-row.ensures.below c.self.inside.count (subst (λ (x : ℕ). IsBelow c.self.inside.count x c.self.inside.queues) (sym c.generation-generation.ensures) c.self.invariant.below)) c.get_message-row.ensures.goals c.settle.new.hub c.settle.ensures.hub
 
 pub returns : goal.returns
 returns g c =

@@ -26,9 +26,9 @@ settle-requires-clause-can g c = reply_can (erase 0) c.self.inside.front.seen c.
 
 pub invariant_of-self : goal.invariant_of-self
 invariant_of-self g c =
-    subst (λ (x : FrontState). IsShared g.K.NamesTable.atoms g.K.NamesTable.size g.K.Naming.history g.K.Naming.goals x c.inspect_clauses-row.new.keeper c.self.inside.db c.self.inside.queues c.self.inside.count c.self.inside.begun.items)
+    subst (λ (x : FrontState). IsShared g.K.NamesTable.atoms g.K.NamesTable.size g.K.Naming.history g.K.Naming.goals x c.inspect_clauses-row.new.keeper c.self.inside.db c.self.inside.queues c.self.inside.count)
     (sym (c.settle.ensures.hub ∙ reply_after c.args.engine (erase 0) c.inspect_clauses-row.result c.self.inside.front c.inspect_clauses-row.ensures.replies))
-    (shared_steady g.K.NamesTable.atoms g.K.NamesTable.size g.K.Naming.history g.K.Naming.goals c.self.inside.front c.self.inside.keeper c.inspect_clauses-row.new.keeper c.self.inside.db c.self.inside.queues c.self.inside.count c.self.inside.begun.items
+    (shared_steady g.K.NamesTable.atoms g.K.NamesTable.size g.K.Naming.history g.K.Naming.goals c.self.inside.front c.self.inside.keeper c.inspect_clauses-row.new.keeper c.self.inside.db c.self.inside.queues c.self.inside.count
     c.self.invariant c.is_sound.ensures c.inspect_clauses-row.ensures.keeper c.inspect_clauses-row.ensures.steady)
 
 pub returns : goal.returns

@@ -30,7 +30,7 @@ invariant_of-self g c =
     (seen c.join_thread-row.new.atoms.seat) (keeper_view c.join_thread-row.new.keeper) c.join_thread-row.new.queues c.self.inside.count c.join_thread-row.result
     (c.join_thread-row.ensures.says c.self.inside.count g.K.Naming.goals f.seen (sym c.generation-generation.ensures) c.self.invariant.threads)
     refl c.self.invariant c.join_thread-row.ensures.keeper refl c.generation-generation.result c.generation-generation.ensures
-    c.join_thread-row.ensures.restored (c.join_thread-row.ensures.below c.self.inside.count (subst (λ (x : ℕ). IsBelow c.self.inside.count x c.self.inside.queues) (sym c.generation-generation.ensures) c.self.invariant.below)) c.settle.new.hub c.settle.ensures.hub
+    c.join_thread-row.ensures.restored (c.join_thread-row.ensures.below c.self.inside.count (subst (λ (x : ℕ). IsBelow c.self.inside.count x c.self.inside.queues) (sym c.generation-generation.ensures) c.self.invariant.below)) c.join_thread-row.ensures.goals c.settle.new.hub c.settle.ensures.hub
 
 pub returns : goal.returns
 returns g c =

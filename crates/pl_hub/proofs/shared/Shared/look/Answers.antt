@@ -25,7 +25,7 @@ settle-requires-clause-can g c =
 
 pub invariant_of-self : goal.invariant_of-self
 invariant_of-self g c =
-    subst (λ (x : FrontState). IsShared g.K.NamesTable.atoms g.K.NamesTable.size g.K.Naming.history g.K.Naming.goals x c.self.inside.keeper c.self.inside.db c.self.inside.queues c.self.inside.count c.self.inside.begun.items)
+    subst (λ (x : FrontState). IsShared g.K.NamesTable.atoms g.K.NamesTable.size g.K.Naming.history g.K.Naming.goals x c.self.inside.keeper c.self.inside.db c.self.inside.queues c.self.inside.count)
     (sym (c.settle.ensures.hub ∙ told_after g.K.Naming.goals c.args.engine (text_of (names (seen c.args.atoms.now.seat))) requests.look c.self.inside.front.seen (erase 0) c.look-row.result c.self.inside.front
     (c.look-row.ensures.look g.K.Naming.goals c.args.engine c.self.inside.front.seen (keeper_view c.self.inside.keeper) (text_of (names (seen c.args.atoms.now.seat))) c.self.invariant.database)))
     c.self.invariant

@@ -9,10 +9,9 @@ use Rattle.pl_hub.proofs.shared.Shared.new.Goals as goal
 
 pub invariant_of-result : goal.invariant_of-result
 invariant_of-result g c =
-    subst (λ (ns : List ℕ). IsShared g.K.NamesTable.atoms g.K.NamesTable.size g.K.Naming.history g.K.Naming.goals c.hand.new.hub (Some c.args.keeper) c.in_ok-db.db c.in_ok-queues.queues c.first_number.result ns) (sym c.new-4.ensures.items)
-    (subst (λ (x : FrontState). IsShared g.K.NamesTable.atoms g.K.NamesTable.size g.K.Naming.history g.K.Naming.goals x (Some c.args.keeper) c.in_ok-db.db c.in_ok-queues.queues c.first_number.result [])
+    subst (λ (x : FrontState). IsShared g.K.NamesTable.atoms g.K.NamesTable.size g.K.Naming.history g.K.Naming.goals x (Some c.args.keeper) c.in_ok-db.db c.in_ok-queues.queues c.first_number.result)
     (sym (c.hand.ensures.hub ∙ ap (λ (x : FrontState). record x { lives = without 1 x.lives }) c.requires.hub))
     (shared_opens g.K.NamesTable.atoms g.K.NamesTable.size g.K.Naming.history g.K.Naming.goals (Some c.args.keeper) c.in_ok-db.db c.in_ok-queues.queues c.first_number.result
     c.requires.keeper c.requires.none (c.in_ok-db.ensures.says (clause_by (seen c.args.keeper.seat)))
     c.in_ok-db.ensures.settings.0 c.in_ok-db.ensures.settings.1 c.in_ok-db.ensures.start.0 c.in_ok-db.ensures.start.1
-    c.in_ok-db.ensures.weighs c.in_ok-queues.ensures (c.first_number.ensures ∙ ap opening_count (sym c.requires.goals))))
+    c.in_ok-db.ensures.weighs c.in_ok-queues.ensures (c.first_number.ensures ∙ ap opening_count (sym c.requires.goals)))

@@ -22,7 +22,7 @@ settle-requires-clause-can g c = reads_can (erase 0) c.tell.new.hub.seen c.own_n
 
 pub invariant_of-self : goal.invariant_of-self
 invariant_of-self g c =
-    subst (λ (x : FrontState). IsShared g.K.NamesTable.atoms g.K.NamesTable.size g.K.Naming.history g.K.Naming.goals x c.self.inside.keeper c.self.inside.db c.self.inside.queues c.self.inside.count c.self.inside.begun.items)
+    subst (λ (x : FrontState). IsShared g.K.NamesTable.atoms g.K.NamesTable.size g.K.Naming.history g.K.Naming.goals x c.self.inside.keeper c.self.inside.db c.self.inside.queues c.self.inside.count)
     (sym (c.settle.ensures.hub ∙ reads_after c.args.engine (erase 0) c.own_name-row.result c.tell.new.hub c.own_name-row.ensures.reads ∙ c.tell.ensures.hub))
     c.self.invariant
 

@@ -32,7 +32,7 @@ invariant_of-self g c =
     reads_shared g.K.Naming.goals c.args.engine (erase 0) f c.args.self.now c.self.view_is q tt
     (seen c.peek_message-row.new.atoms.seat) (keeper_view c.peek_message-row.new.keeper) c.self.inside.queues c.self.inside.count c.peek_message-row.result c.peek_message-row.ensures.reads
     (c.peek_message-row.ensures.says c.args.engine c.self.inside.count g.K.Naming.goals f.seen c.self.invariant.threads)
-    c.self.invariant c.peek_message-row.ensures.keeper refl (c.peek_message-row.ensures.restored (length f.seen)) c.self.invariant.below c.settle.new.hub c.settle.ensures.hub
+    c.self.invariant c.peek_message-row.ensures.keeper refl (c.peek_message-row.ensures.restored (length f.seen)) c.self.invariant.below refl c.settle.new.hub c.settle.ensures.hub
 
 pub returns : goal.returns
 returns g c =

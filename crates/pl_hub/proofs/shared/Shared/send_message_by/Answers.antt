@@ -39,7 +39,7 @@ invariant_of-self g c =
     (seen c.send_message-row.new.atoms.seat) (keeper_view c.send_message-row.new.keeper) c.send_message-row.new.queues c.self.inside.count c.send_message-row.result
     (c.send_message-row.ensures.says c.args.engine c.self.inside.count g.K.Naming.goals f.seen (sym c.generation-generation.ensures) c.self.invariant.threads)
     refl c.self.invariant c.send_message-row.ensures.keeper refl c.generation-generation.result c.generation-generation.ensures
-    c.send_message-row.ensures.restored (c.send_message-row.ensures.below c.self.inside.count (subst (λ (x : ℕ). IsBelow c.self.inside.count x c.self.inside.queues) (sym c.generation-generation.ensures) c.self.invariant.below)) c.settle.new.hub c.settle.ensures.hub
+    c.send_message-row.ensures.restored (c.send_message-row.ensures.below c.self.inside.count (subst (λ (x : ℕ). IsBelow c.self.inside.count x c.self.inside.queues) (sym c.generation-generation.ensures) c.self.invariant.below)) c.send_message-row.ensures.goals c.settle.new.hub c.settle.ensures.hub
 
 pub returns : goal.returns
 returns g c =

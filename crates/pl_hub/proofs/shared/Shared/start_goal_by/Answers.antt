@@ -9,7 +9,7 @@ use Rattle.counted_terms.specs.CountedTerms.{said}
 use Rattle.counted_terms.specs.Keeping.{keeper_view}
 use Rattle.hub_threads.specs.Threads.{IsThreads}
 use Rattle.pl_hub.specs.Fronts.{IsOwn}
-use Rattle.pl_hub.specs.Settling.{IsBehind, begun_after}
+use Rattle.pl_hub.specs.Settling.{IsBehind}
 use Rattle.pl_hub.specs.State.{IsShared}
 use Rattle.pl_hub.specs.Visits.{IsVisit}
 use Rattle.pl_hub.proofs.AskedTexts.{start_asked}
@@ -33,11 +33,6 @@ settle-requires-clause-can g c =
 
 pub invariant_of-self : goal.invariant_of-self
 invariant_of-self g c =
-    subst (λ (ns : List ℕ). IsShared g.K.NamesTable.atoms g.K.NamesTable.size g.K.Naming.history g.K.Naming.goals c.self.inside.front c.self.inside.keeper c.self.inside.db c.self.inside.queues c.self.inside.count ns)
-    (sym c.reserve.ensures.items) c.self.invariant
-
-pub invariant_of-self-2 : goal.invariant_of-self-2
-invariant_of-self-2 g c =
     let f = c.tell-generation.new.hub in
     let v = seen c.args.atoms.now.seat in
     let n = names v in
@@ -48,10 +43,9 @@ invariant_of-self-2 g c =
     (seen c.start_goal-row.new.atoms.seat) (keeper_view c.start_goal-row.new.keeper) c.start_goal-row.new.queues c.start_goal-row.new.count c.start_goal-row.result
     (c.start_goal-row.ensures.says c.args.engine g.K.Naming.goals f.seen long is_threads)
     c.args.number refl
-    (subst (λ (x : FrontState). IsShared g.K.NamesTable.atoms g.K.NamesTable.size g.K.Naming.history g.K.Naming.goals x c.self.inside.keeper c.self.inside.db c.self.inside.queues c.self.inside.count c.self.inside.begun.items) (sym c.tell-generation.ensures.hub) c.self.invariant)
+    (subst (λ (x : FrontState). IsShared g.K.NamesTable.atoms g.K.NamesTable.size g.K.Naming.history g.K.Naming.goals x c.self.inside.keeper c.self.inside.db c.self.inside.queues c.self.inside.count) (sym c.tell-generation.ensures.hub) c.self.invariant)
     c.start_goal-row.ensures.keeper refl c.tell-generation.result (sym long)
-    c.start_goal-row.ensures.restored c.start_goal-row.ensures.below c.settle.new.hub c.settle.ensures.hub
-    c.note_begun.new.begun.items (c.note_begun.ensures ∙ ap (begun_after c.start_goal-row.result c.args.number) c.reserve.ensures.items)
+    c.start_goal-row.ensures.restored c.start_goal-row.ensures.below c.start_goal-row.ensures.goals c.settle.new.hub c.settle.ensures.hub
 
 pub returns : goal.returns
 returns g c =
