@@ -1,0 +1,26 @@
+use Rattle.std.proofs.Common.{[], ◌∷◌}
+use Rattle.std.specs.List.{All}
+use Rattle.std.proofs.lemmas.List.Elements.{All-cons, All-nil}
+use Rattle.shared_builtins.specs.declared.checks.Check.TheVariants.{Bound}
+use Rattle.shared_builtins.specs.Checks.{IsCheckHeld}
+use Rattle.shared_builtins.specs.Faults.{fault_term}
+use Rattle.shared_builtins.proofs.SharingTwo.{send_refused, sent}
+use Rattle.shared_builtins.proofs.two.sends.Goals as goal
+
+pub returns-in-Some : goal.returns-in-Some
+returns-in-Some c m n hp hq =
+    let s = c.args.store.now in
+    let p = c.args.first in
+    let P = IsCheckHeld m s in
+    let all : All (IsCheckHeld m s) (Bound p ∷ []) = All-cons P (Bound p) [] hp (All-nil P) in (
+      send_refused m s p c.args.second (fault_term m s c.in-Some.fault) (c.in-Some.ensures.error m n all),
+      (c.in-Some.ensures.inside, c.in-Some.ensures.held m all),
+    )
+
+pub returns-in_ok-message-in-None : goal.returns-in_ok-message-in-None
+returns-in_ok-message-in-None c m n hp hq =
+    let s = c.args.store.now in
+    let p = c.args.first in
+    let P = IsCheckHeld m s in
+    let all : All (IsCheckHeld m s) (Bound p ∷ []) = All-cons P (Bound p) [] hp (All-nil P) in
+    sent m s p c.args.second c.in_ok-queue-in-None.queue c.in_ok-message-in-None.message (c.in_ok-queue-in-None.ensures m n hp) (c.in_ok-message-in-None.ensures m n hq) (c.in-None.ensures.error m n all)

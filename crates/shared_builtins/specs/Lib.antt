@@ -1,0 +1,16 @@
+pub mod Telling
+pub mod Kept
+pub mod Pairs
+pub mod Faults
+pub mod Checks
+pub mod Operators
+pub mod Flags
+pub mod Clauses
+pub mod Indicators
+pub mod Names
+pub mod Options
+pub mod Goals
+pub mod Shared
+pub mod Following
+pub mod Others
+pub mod Replies
