@@ -1,1 +1,4 @@
 pub mod NewSeats
+pub mod Open
+pub mod Players
+pub mod Ready
