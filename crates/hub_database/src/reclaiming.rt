@@ -3,6 +3,7 @@ ghost use Rattle.std.specs.Prelude.{◌≡◌, ◌≤◌, ◌<◌, ◌+◌, ℕ,
 ghost use Rattle.std.specs.List.{sum_by};
 ghost use Rattle.pl_term.specs.Tree.{Tree};
 ghost use Rattle.pl_model.specs.History as entries;
+ghost use Rattle.clause_db.specs.Reclaimed.{reclaimed_held};
 ghost use Rattle.atom_words.specs.Seats.{seen};
 ghost use Rattle.atom_table.specs.Naming.{names};
 ghost use Rattle.counted_terms.specs.CountedTerms.{IsCounted, naming, said};
@@ -37,6 +38,7 @@ pub fn reclaim_clauses<K: NamesTable, D: Drops>(
     ensures restored { Restored (clause_counts db.old) (clause_counts db.new) (keeper_view keeper.old) (keeper_view keeper.new) generation generation }
     ensures upto { IsUpTo generation db.new }
     ensures floor { OnOk result (db.new.floor ≡ max db.old.floor floor) }
+    ensures dropped { OnOk result (db.new ≡ reclaimed_held i floor db.old) }
     ensures unchanged { OnErr result (db.new ≡ db.old) }
     ensures quiet { IsQuiet (seen atoms.old.seat) (seen atoms.new.seat) }
     ensures held { names (seen atoms.new.seat) ≡ names (seen atoms.old.seat) }
