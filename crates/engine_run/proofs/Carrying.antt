@@ -14,7 +14,7 @@ use Rattle.world_api.specs.Texts.{Holds, text_of}
 use Rattle.world_api.specs.Told.{Told}
 use Rattle.script_api.specs.Parts.{Part, limits_of, with_search}
 use Rattle.script_api.specs.Comes.{ComesBy, ComesIn}
-use Rattle.script_api.specs.Scripts.{is_directive, written_at}
+use Rattle.script_api.specs.Scripts.{IsLater, is_directive, written_at}
 use Rattle.script_api.proofs.OnceLaws.{same_texts}
 use Rattle.script_api.proofs.SearchRuns.{steps_come}
 use Rattle.iso_engine.specs.declared.engine.Engine.{Engine}
@@ -22,6 +22,7 @@ use Rattle.iso_engine.specs.Slices.{IsWaitingNow}
 use Rattle.iso_engine.specs.Standing.{state_now}
 use Rattle.iso_engine.specs.Standing as engines
 use Rattle.iso_engine.specs.Views.{view_of}
+use Rattle.iso_engine.specs.Views as seen
 use Rattle.iso_engine.proofs.Stability.{count-append}
 use Rattle.engine_run.specs.declared.runner.Runner.{Runner}
 use Rattle.engine_run.specs.declared.runner.Stage.TheVariants.{Directs, Searches}
@@ -33,6 +34,10 @@ use Rattle.engine_run.specs.Runners.{AnswerStands, HasDirected, HasSearched, Has
 use Rattle.engine_run.specs.Searched.{HasCounted, Stands, StandsAt}
 use Rattle.engine_run.proofs.Searching.{asks_in}
 use Rattle.engine_run.proofs.Turning.{out_directive, out_on, same_part, text_on, text_same, written_goal}
+
+-- What the engine was told has only grown.
+pub told_later : (m n : Names) (t u : Told) → seen.IsLater m t n u → IsLater t u
+told_later m n t u h = record { engine = h.engine; goals = h.goals; later = h.later; grown = h.grown }
 
 -- What is said of a search that does not go on
 

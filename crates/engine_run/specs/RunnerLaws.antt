@@ -1,16 +1,17 @@
 -- A runner stands for the same execution when others have made entries.
 use Rattle.std.specs.Prelude.{◌≡◌, ℕ, List, Bool, true, false, Option, Some, None, IsSome, is_some}
-use Rattle.std.proofs.Common.{refl, sym, ap, ◌∙◌}
+use Rattle.std.proofs.Common.{refl, sym, ap, subst, ◌∙◌}
 use Rattle.std.specs.List.{All}
 use Rattle.std.proofs.lemmas.Bool.{true≢false}
 use Rattle.std.proofs.lemmas.List.Elements.{All-weaker}
 use Rattle.pl_term.specs.Tree.{Chars}
-use Rattle.pl_model.specs.Resolution.{Ending, Output}
-use Rattle.run_model.specs.Execution.{Script, Job, Consulted, Execution, over}
+use Rattle.pl_model.specs.Resolution.{Ending, Output, State}
+use Rattle.run_model.specs.Execution.{Script, Job, Consulted, Execution, directing, over, searching}
+use Rattle.run_model.specs.Lawful.{IsRunning}
 use Rattle.atom_api.specs.Names.{Names}
 use Rattle.world_api.specs.Texts.{Holds, text_of}
 use Rattle.world_api.specs.Told.{Told}
-use Rattle.script_api.specs.Parts.{Part, with_search}
+use Rattle.script_api.specs.Parts.{Part, of_directive, of_goal, with_search}
 use Rattle.script_api.specs.Residents.{CanHold, Waited}
 use Rattle.script_api.proofs.OnceLaws.{same_texts}
 use Rattle.iso_search.specs.Reading.{IsView}
@@ -25,7 +26,7 @@ use Rattle.engine_run.specs.declared.runner.Lines.{Lines}
 use Rattle.engine_run.specs.declared.runner.Runner.{Runner}
 use Rattle.engine_run.specs.declared.runner.Stage.{Stage}
 use Rattle.engine_run.specs.declared.runner.Stage.TheVariants.{Asks, Directs, Searches, Over}
-use Rattle.engine_run.specs.Runners.{IsAtItem, IsBetween, OverStands, SearchStands, StageIs, StageStands, StandsFor}
+use Rattle.engine_run.specs.Runners.{IsAtItem, IsBetween, OverStands, SearchStands, StageIs, StageStands, StandsFor, is_over}
 
 some_text : (o : Option Chars) → IsSome o → (x : Chars) × (o ≡ Some x)
 some_text (Some x) h = (x, refl)
@@ -125,3 +126,25 @@ module _ {S : Type 0} (execution : (ℕ → Chars) → S → Job → List Consul
               text = h.text;
             },
       )
+
+-- A runner that has not answered how its execution has ended stands for none that has.
+module _ {S : Type 0} (execution : (ℕ → Chars) → S → Job → List Consulted → Execution) (part : S → Option Part)
+    (running : (text : ℕ → Chars) (s : S) (job : Job) (cs : List Consulted) → IsRunning (execution text s job cs)) where
+  search_runs : (x y : Execution) (item : Part) (s : State) → x ≡ with_search y item s → IsRunning x
+  search_runs x y of_goal s is ending ends = let does : x.activity ≡ searching s = ap (λ (z : Execution). z.activity) is in absurd (cc)
+  search_runs x y (of_directive place rest) s is ending ends = let does : x.activity ≡ directing place rest s = ap (λ (z : Execution). z.activity) is in absurd (cc)
+
+  stage_runs : (m : Names) (t : Told) (s : S) (job : Job) (cs : List Consulted) (l : Lines) (names : List (Chars × ℕ)) (out : List ℕ) (g : Stage) (x : Execution) → is_over g ≡ false
+      → StageStands execution part m t s job cs l names out g x
+      → IsRunning x
+  stage_runs m t s job cs l names out Asks x going h = subst (λ (y : Execution). IsRunning y) (sym h.0) (running (text_of m) s job cs)
+  stage_runs m t s job cs l names out (Directs e) x going h = search_runs x (execution (text_of m) s job cs) h.item (state_now (view_of m t) e h.written) h.is
+  stage_runs m t s job cs l names out (Searches e) x going h = search_runs x (execution (text_of m) s job cs) h.item (state_now (view_of m t) e h.written) h.is
+  stage_runs m t s job cs l names out Over x going h = absurd (true≢false going)
+
+  pub not_over : (plays : (ℕ → Chars) → S → Script → Type 0) (kept : S → Bool) (name : S → Chars) (variables : S → List (Chars × ℕ)) (m : Names) (t : Told) (r : Runner S) (job : Job) (x : Execution)
+      → is_over r.stage ≡ false
+      → StandsFor execution part plays kept name variables m t r job x
+      → IsRunning x
+  not_over plays kept name variables m t r job x going h =
+      stage_runs m t r.script job h.consulted r.lines (variables r.script) r.output.items r.stage x going h.stands

@@ -1,6 +1,7 @@
 //! A turn in which a script is asked for its next item.
 ghost use Rattle.std.specs.Prelude.{◌≡◌, false, IfErr, IfOk, IsSome, OnOk};
 ghost use Rattle.std.specs.List.{All};
+ghost use Rattle.script_api.specs.Scripts.{IsLater};
 ghost use Rattle.world_api.specs.Texts.{Holds};
 ghost use Rattle.world_api.specs.Told.{has_ended};
 ghost use Rattle.engine_run.specs.Endings.{IsEndOfTurn};
@@ -41,6 +42,7 @@ impl<S: Script<Term = Stored> + Drop> Runner<S> {
         ensures lines { UnlessMemory result (self.new.lines ≡ self.old.lines) }
         ensures missing { IfErr result (IsNameHeld (W.A.held atoms.new)) }
         ensures told { IfOk result IsEndOfTurn }
+        ensures later { UnlessMemory result (IsLater (W.told world.old) (W.told world.new)) }
         ensures runs { has_ended (W.told world.new).engine (W.told world.new).history ≡ false }
         ensures holds { Holds (W.A.held atoms.old) (W.A.held atoms.new) }
         ensures refusals { UnlessMemory result (IsRefusedOnce (W.A.refusals atoms.old) (W.A.refusals atoms.new) (last_refusals result)) }

@@ -1,5 +1,6 @@
 //! Turns of the search of the item at hand: a slice of it, or its end is told to the script.
 ghost use Rattle.std.specs.Prelude.{◌≡◌, false, IfErr, IfOk};
+ghost use Rattle.script_api.specs.Scripts.{IsLater};
 ghost use Rattle.world_api.specs.Texts.{Holds};
 ghost use Rattle.world_api.specs.Told.{has_ended};
 ghost use Rattle.iso_engine.specs.Ready.{IsReady};
@@ -37,6 +38,7 @@ impl<S: Script<Term = Stored> + Drop> Runner<S> {
         ensures lines { UnlessMemory result (self.new.lines ≡ self.old.lines) }
         ensures missing { IfErr result (IsNameHeld (W.A.held atoms.new)) }
         ensures told { IfOk result IsEndOfTurn }
+        ensures later { UnlessMemory result (IsLater (W.told world.old) (W.told world.new)) }
         ensures runs { has_ended (W.told world.new).engine (W.told world.new).history ≡ false }
         ensures holds { Holds (W.A.held atoms.old) (W.A.held atoms.new) }
         ensures refusals { UnlessMemory result (IsRefusedOnce (W.A.refusals atoms.old) (W.A.refusals atoms.new) (last_refusals result)) }
@@ -66,6 +68,7 @@ impl<S: Script<Term = Stored> + Drop> Runner<S> {
         ensures lines { UnlessMemory result (self.new.lines ≡ self.old.lines) }
         ensures missing { IfErr result (IsNameHeld (W.A.held atoms.new)) }
         ensures told { IfOk result IsEndOfTurn }
+        ensures later { UnlessMemory result (IsLater (W.told world.old) (W.told world.new)) }
         ensures runs { has_ended (W.told world.new).engine (W.told world.new).history ≡ false }
         ensures holds { Holds (W.A.held atoms.old) (W.A.held atoms.new) }
         ensures refusals { UnlessMemory result (IsRefusedOnce (W.A.refusals atoms.old) (W.A.refusals atoms.new) (last_refusals result)) }

@@ -6,9 +6,9 @@ use Rattle.pl_model.specs.History.{Proc}
 use Rattle.pl_model.specs.Predicates.{proc_of}
 use Rattle.pl_model.specs.BodyChecks.{body_of}
 use Rattle.pl_term.specs.Cells.{cells}
-use Rattle.pl_model.specs.Resolution.{Limits, State, Node, goal}
+use Rattle.pl_model.specs.Resolution.{Ending, Limits, State, Node, goal}
 use Rattle.pl_model.specs.Control.{start, start_state, start_node, consult_proc, checked, taking, run_on, before}
-use Rattle.run_model.specs.Execution.{Job, directive_limits, texts_of}
+use Rattle.run_model.specs.Execution.{Job, directive_limits, over, texts_of}
 use Rattle.pl_consult.specs.declared.consult.Place.{Place}
 use Rattle.pl_consult.specs.declared.consult.Place.TheVariants.{Item, Initialization}
 use Rattle.script_api.specs.Scripts.{AreNames, texts_at}
@@ -59,6 +59,20 @@ texts_none job p (Goal g) = refl
 texts_none job p AtGoal = refl
 texts_none job p Over = refl
 texts_none job p Lost = refl
+
+-- A script stands at no end.
+pub running_told : (job : Job) (p : Place) (stage : Stage) (ending : Ending) → activity_in job p stage ≡ over ending → ⊥
+running_told job (Item next) Items ending is = absurd (cc)
+running_told job Initialization Items ending is = absurd (cc)
+running_told job p (Clause c place ops) ending is = absurd (cc)
+running_told job p (Directive g place) ending is = absurd (cc)
+running_told job p (AtDirective place) ending is = absurd (cc)
+running_told job p (Report place how) ending is = absurd (cc)
+running_told job p Words ending is = absurd (cc)
+running_told job p (Goal g) ending is = absurd (cc)
+running_told job p AtGoal ending is = absurd (cc)
+running_told job p Over ending is = absurd (cc)
+running_told job p Lost ending is = absurd (cc)
 
 -- The names that are told are those of the variables of the goal.
 pub names_told : (read : Option GoalWord) → AreNames (names_by read) (words_of read)

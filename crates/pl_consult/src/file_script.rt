@@ -340,7 +340,7 @@ impl Script for FileScript {
     ghost use Rattle.std.specs.Prelude.{[], refl};
     ghost use Rattle.pl_consult.specs.FileScripts.{execution_of, part_in, Plays, is_over};
     ghost use Rattle.pl_consult.specs.ItemTexts.{IsOwnText, IsOwnRequest};
-    ghost use Rattle.pl_consult.specs.TextLaws.{names_told, texts_none};
+    ghost use Rattle.pl_consult.specs.TextLaws.{names_told, running_told, texts_none};
     ghost use Rattle.pl_consult.specs.GoalWords.{names_by};
 
     type Term = Stored;
@@ -368,6 +368,8 @@ impl Script for FileScript {
     ghost names_tell = { λ s text other same. ((λ job cs. refl), (λ x p. p)) };
 
     ghost lines = { λ text s job cs. refl };
+
+    ghost running = { λ text s job cs. running_told job s.consult.place s.stage };
 
     ghost reported = { λ text s job cs. texts_none job s.consult.place s.stage };
 

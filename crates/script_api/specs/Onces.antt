@@ -4,6 +4,7 @@ use Rattle.std.specs.List.{All}
 use Rattle.std.proofs.Common.{ap, refl, ◌∙◌}
 use Rattle.pl_term.specs.Tree.{Chars, Tree}
 use Rattle.run_model.specs.Execution.{Script, Job, runs, Consulted, Execution, at_activity, beginning, initializing}
+use Rattle.run_model.specs.Lawful.{IsRunning}
 use Rattle.script_api.specs.declared.once.Stage.{Stage}
 use Rattle.script_api.specs.declared.once.Stage.TheVariants.{Fresh, AtHand, Over}
 use Rattle.script_api.specs.Parts.{Part, of_goal}
@@ -44,6 +45,11 @@ module _ {T : Type 0} (term : (ℕ → Chars) → T → Tree) where
   all_named text (Fresh t) job cs = refl
   all_named text AtHand job cs = refl
   all_named text Over job cs = refl
+
+  pub all_running : (text : ℕ → Chars) (s : Stage T) (job : Job) (cs : List Consulted) → IsRunning (execution_of text s job cs)
+  all_running text (Fresh t) job cs ending is = absurd (cc)
+  all_running text AtHand job cs ending is = absurd (cc)
+  all_running text Over job cs ending is = absurd (cc)
 
   pub all_reported : (text : ℕ → Chars) (s : Stage T) (job : Job) (cs : List Consulted) → texts_at (execution_of text s job cs).activity ≡ []
   all_reported text (Fresh t) job cs = refl

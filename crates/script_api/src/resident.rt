@@ -1,7 +1,8 @@
 //! The traits of what stands for an engine between two slices.
-ghost use Rattle.std.specs.Prelude.{◌≡◌, ◌≤◌, ℕ, IfOk, List};
+ghost use Rattle.std.specs.Prelude.{◌≡◌, ◌≤◌, ℕ, Bool, false, IfOk, List};
 ghost use Rattle.std.specs.List.{All, Contains};
 ghost use Rattle.run_model.specs.Execution.{Job, Execution};
+ghost use Rattle.run_model.specs.Lawful.{IsRunning};
 ghost use Rattle.atom_api.specs.Names.{Names};
 ghost use Rattle.world_api.specs.Told.{Told};
 ghost use Rattle.script_api.specs.Residents.{IsLeast, Waited};
@@ -21,6 +22,9 @@ pub trait Resident {
     // The moves that its execution has made.
     ghost moves: { Self → ℕ };
 
+    // Whether it has answered how its execution has ended.
+    ghost over: { Self → Bool };
+
     /// The number of moves that its execution has made.
     fn move_count(&self) -> u64
         ensures { result ≡ moves self.now };
@@ -28,6 +32,9 @@ pub trait Resident {
     // It stands for the same execution when others have made entries.
     ghost later: { (m n : Names) (t u : Told) (e : Self) → Waited m t n u → ready m t e
         → ready n u e × ((job : Job) (x : Execution) → stands m t e job x → stands n u e job x) };
+
+    // An execution for which it stands has not ended before it has answered so.
+    ghost running: { (m : Names) (t : Told) (e : Self) (job : Job) (x : Execution) → ready m t e → over e ≡ false → stands m t e job x → IsRunning x };
 }
 
 /// What an engine keeps in use of the atoms and of the clauses.

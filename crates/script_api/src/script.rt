@@ -4,6 +4,7 @@ ghost use Rattle.std.specs.Option.{option_map};
 ghost use Rattle.std.specs.List.{All};
 ghost use Rattle.pl_term.specs.Tree.{Chars};
 ghost use Rattle.run_model.specs.Execution.{Script as ScriptOf, Job, Consulted, Execution};
+ghost use Rattle.run_model.specs.Lawful.{IsRunning};
 ghost use Rattle.pl_model.specs.Requests.{Request};
 ghost use Rattle.world_api.specs.Texts.{text_of, Holds};
 ghost use Rattle.world_api.specs.Told.{Told, has_ended};
@@ -119,6 +120,9 @@ pub trait Script {
 
     // Its goal words have these variables. So these stay while the goal is at hand, as its words do.
     ghost named: { (text : ℕ → Chars) (s : Self) (job : Job) (cs : List Consulted) → AreNames (variables s) (execution text s job cs).words };
+
+    // It has not ended: an end is put into it when there is no further item.
+    ghost running: { (text : ℕ → Chars) (s : Self) (job : Job) (cs : List Consulted) → IsRunning (execution text s job cs) };
 
     // No text of a directive waits there for its report.
     ghost reported: { (text : ℕ → Chars) (s : Self) (job : Job) (cs : List Consulted) → texts_at (execution text s job cs).activity ≡ [] };

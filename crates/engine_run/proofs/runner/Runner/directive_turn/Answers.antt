@@ -10,7 +10,7 @@ use Rattle.pl_model.specs.declared.ends.How.{How}
 use Rattle.engine_run.specs.Endings.{EndedSo}
 use Rattle.engine_run.specs.Runners.{HasAsked, HasTurned, IsBetween, at_stage}
 use Rattle.engine_run.specs.Searched.{UnlessMemory}
-use Rattle.engine_run.proofs.Carrying.{directed_between, directed_on}
+use Rattle.engine_run.proofs.Carrying.{directed_between, directed_on, told_later}
 use Rattle.engine_run.proofs.Ended.{asked_next, directive_asked}
 use Rattle.engine_run.proofs.Exits.{unless_on}
 use Rattle.engine_run.proofs.Refused.{refused_from}
@@ -135,3 +135,10 @@ returns-in-None-clause-holds g c =
 pub returns-in-Some-clause-holds : goal.returns-in-Some-clause-holds
 returns-in-Some-clause-holds g c =
     subst (λ (k : Names). Holds k (g.W.A.Atoms.held c.ask.new.atoms)) c.ended_at.ensures.same c.ask.ensures.holds
+
+pub returns-in-None-clause-later : goal.returns-in-None-clause-later
+returns-in-None-clause-later g c =
+    let s = c.slice_directive in
+    let m = g.W.A.Atoms.held c.ended_at.new.atoms in
+    let n = g.W.A.Atoms.held s.new.atoms in
+    unless_on s.result (λ h. told_later m n (g.W.World.told c.args.world.now) (g.W.World.told s.new.world) h.searched.counted.ran.advances.later) s.ensures.directed
