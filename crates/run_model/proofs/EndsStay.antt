@@ -15,7 +15,7 @@ rises_zero : (low : ℕ) (gens : List ℕ) (high top : ℕ) → Rises low gens h
 rises_zero low [] high top r le = omega arith
 rises_zero low (g ∷ gens) high top r le = let first : zero ≤ g = omega arith in (first, rises_higher g gens high top r.1 le)
 
-run_stays : (e goals : ℕ) (job : Job) (low : ℕ) (h later : History) (gens : List ℕ) (n high : ℕ)
+pub run_stays : (e goals : ℕ) (job : Job) (low : ℕ) (h later : History) (gens : List ℕ) (n high : ℕ)
     → Rises low gens high
     → high ≤ length h
     → run e goals job (h ++ later) gens n ≡ run e goals job h gens n
@@ -46,7 +46,7 @@ lawful_stays e goals job low h later gens n high last others within l =
           ∙ ap (λ a. map (λ m. m.kind) a.made ++ last) (sym run_is);
     }
 
-pub end_stays : (e goals : ℕ) (job : Job) (low : ℕ) (h later : History) (gens : List ℕ)
+unfoldable pub end_stays : (e goals : ℕ) (job : Job) (low : ℕ) (h later : History) (gens : List ℕ)
     → mine later e ≡ []
     → RanToEnd e goals job low h gens
     → RanToEnd e goals job low (h ++ later) gens
@@ -67,7 +67,7 @@ end_stays e goals job low h later gens others r =
       first = λ k before x f. r.first k before x (ap (λ a. a.execution.activity) (sym (same k)) ∙ f);
     }
 
-pub atoms_end_stays : (e goals slots : ℕ) (job : Job) (low : ℕ) (h later : History) (gens : List ℕ)
+unfoldable pub atoms_end_stays : (e goals slots : ℕ) (job : Job) (low : ℕ) (h later : History) (gens : List ℕ)
     → mine later e ≡ []
     → RanOutOfAtoms e goals slots job low h gens
     → RanOutOfAtoms e goals slots job low (h ++ later) gens

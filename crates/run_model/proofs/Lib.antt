@@ -6,3 +6,5 @@ pub mod LawfulAlone
 pub mod LoneFinal
 pub mod EndsStay
 pub mod BeginningsStay
+pub mod WholeLaws
+pub mod StoodLaws

@@ -143,7 +143,7 @@ below_suc : (k n : ℕ) → k < suc n → (k ≡ n) ⊎ (k < n)
 below_suc k n below = let le : k ≤ n = omega (arith, below) in eq-or-lt_of_le le
 
 -- No step up to the present one had ended.
-runs_on : (e goals : ℕ) (job : Job) (h : History) (gens : List ℕ) (n : ℕ) (a : Standing)
+pub runs_on : (e goals : ℕ) (job : Job) (h : History) (gens : List ℕ) (n : ℕ) (a : Standing)
     → run e goals job h gens n ≡ a
     → ((x : Ending) → a.execution.activity ≡ over x → ⊥)
     → ((k : ℕ) → k < n → (x : Ending) → (run e goals job h gens k).execution.activity ≡ over x → ⊥)
@@ -376,7 +376,7 @@ reached_asks e goals job low old new n g r =
     reached_of e goals job low new (suc n) (as_asks e goals job low old new n g (parts_of e goals job low old n r))
 
 -- The run as it stands.
-reached_at : (e goals : ℕ) (job : Job) (low : ℕ) (seen : Seen) (n : ℕ) (later : History)
+pub reached_at : (e goals : ℕ) (job : Job) (low : ℕ) (seen : Seen) (n : ℕ) (later : History)
     → (r : Reached e goals job low seen n)
     → run e goals job (seen.history ++ later) seen.gens n ≡ standing_at e goals job seen n
 reached_at e goals job low seen n later r =
@@ -388,7 +388,7 @@ pub reached_state : (e goals : ℕ) (job : Job) (low : ℕ) (seen : Seen) (n : �
 reached_state e goals job low seen n later r = ap (λ a. a.execution) (reached_at e goals job low seen n later r) ∙ r.execution_is
 
 -- The updates of a run with what follows its history.
-lawful_before : (e goals : ℕ) (job : Job) (low : ℕ) (seen : Seen) (n : ℕ) (later : History)
+pub lawful_before : (e goals : ℕ) (job : Job) (low : ℕ) (seen : Seen) (n : ℕ) (later : History)
     → (r : Reached e goals job low seen n)
     → IsLawful e goals job low (seen.history ++ later) seen.gens n (length seen.history) (mine later e)
 lawful_before e goals job low seen n later r =
@@ -408,7 +408,7 @@ lawful_before e goals job low seen n later r =
     }
 
 -- The updates with the engine's end after them.
-lawful_at_end : (e goals : ℕ) (job : Job) (low : ℕ) (seen : Seen) (n : ℕ) (how : How Tree)
+pub lawful_at_end : (e goals : ℕ) (job : Job) (low : ℕ) (seen : Seen) (n : ℕ) (how : How Tree)
     → Reached e goals job low seen n
     → IsLawful e goals job low (seen.history ++ record { engine = e; kind = finish how n } ∷ []) seen.gens n (length seen.history) (finish how n ∷ [])
 lawful_at_end e goals job low seen n how r =
@@ -419,7 +419,7 @@ lawful_at_end e goals job low seen n how r =
     (lawful_before e goals job low seen n later r)
 
 -- The engine has ended, and its end is entered.
-pub reached_end : (e goals : ℕ) (job : Job) (low : ℕ) (seen : Seen) (n : ℕ) (ending : Ending) (how : How Tree)
+unfoldable pub reached_end : (e goals : ℕ) (job : Job) (low : ℕ) (seen : Seen) (n : ℕ) (ending : Ending) (how : How Tree)
     → Reached e goals job low seen n
     → seen.execution.activity ≡ over ending
     → EndsSo ending how
@@ -448,7 +448,7 @@ reached_end e goals job low seen n ending how r is_ended so =
     }
 
 -- The engine found no place for an atom, and its end is entered.
-pub reached_atoms : (e goals slots : ℕ) (job : Job) (low : ℕ) (seen : Seen) (n : ℕ) (found : AtomRecord)
+unfoldable pub reached_atoms : (e goals slots : ℕ) (job : Job) (low : ℕ) (seen : Seen) (n : ℕ) (found : AtomRecord)
     → Reached e goals job low seen n
     → IsRunning seen.execution
     → IsTrue slots found
@@ -488,7 +488,7 @@ reached_atoms e goals slots job low seen n found r runs true_of =
     }
 
 -- The engine waits, and the history is at its end.
-pub reached_wait : (e goals : ℕ) (job : Job) (low : ℕ) (seen : Seen) (n : ℕ)
+unfoldable pub reached_wait : (e goals : ℕ) (job : Job) (low : ℕ) (seen : Seen) (n : ℕ)
     → Reached e goals job low seen n
     → WaitsNow e goals job seen
     → WaitsAtEnd e goals job low seen.history seen.gens

@@ -5,3 +5,4 @@ pub mod Report
 pub mod Progress
 pub mod CommandLine
 pub mod Ends
+pub mod WholeRuns
