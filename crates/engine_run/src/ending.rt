@@ -15,7 +15,7 @@ use named_terms::NamedTerm;
 use pl_model::ends::How;
 use pl_term::Memory;
 use std::alloc::Global;
-use world_builtins::named_of;
+use world_builtins::named_at;
 
 /// How the search of an engine has ended: a ball as a term with its own texts, its variables with the numbers that they
 /// had (ISO 7.8.10). The only error is out of memory.
@@ -38,8 +38,8 @@ pub fn how_at<A: Atoms>(
         End::Solved => Ok(How::Solved),
         End::NoMore => Ok(How::False),
         End::Threw(ball) => {
-            let nodes = ball.nodes()?;
-            let term = named_of(alloc, &nodes, atoms)?;
+            let (store, place) = ball.lend();
+            let term = named_at(alloc, store, place, atoms)?;
             Ok(How::Threw(term))
         }
         End::Halted(status) => Ok(How::Halted(*status)),

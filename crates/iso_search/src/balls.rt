@@ -1,13 +1,11 @@
 //! Balls, which stay as they are when the store goes back (ISO 7.8.10).
 ghost use Rattle.std.specs.Prelude.{◌≡◌, ◌<◌, ◌≤◌, [], length, zero, IfOk, IsTrue};
 ghost use Rattle.pl_term.specs.Cells.{cells};
-ghost use Rattle.pl_term.specs.Nodes.{nodes};
 ghost use Rattle.pl_term.specs.Tree.{atom, comp, more, none};
 ghost use Rattle.pl_term.specs.Variables.{rename, variables};
 ghost use Rattle.pl_model.specs.Balls.{error_ball};
 ghost use Rattle.atom_api.specs.FixedNames.{resource_error_name};
 ghost use Rattle.term_store.specs.Heap.{atom_name};
-ghost use Rattle.term_store.specs.Nodes.{node_views};
 ghost use Rattle.term_store.specs.Contents.{Holds, numbers_of, term_at};
 ghost use Rattle.iso_search.specs.Parts.{StandsFor};
 ghost use Rattle.iso_search.specs.Errors.{IsFaultIn, error_tree, fault_tree};
@@ -21,7 +19,7 @@ use atom_api::{Atom, fixed};
 use pl_term::Memory;
 use std::alloc::Global;
 use std::marker::Model;
-use term_store::{AtomNode, Place, Store, Stored};
+use term_store::{Place, Store, Stored};
 
 /// A term that is thrown, seen by contracts as that term. Its variables have the numbers that they had in the store. It stands
 /// in a store of its own, in which each part that it shares stands once. Beside it stand the cells of its compound terms, if
@@ -78,14 +76,13 @@ impl Ball {
         }
     }
 
-    /// The term's nodes in prefix order. The only error is out of memory, which is found at once where shared parts make the
-    /// term larger than any memory.
-    pub fn nodes(&self) -> Result<Vec<AtomNode>, Memory>
-        ensures { IfOk result (λ v. node_views v.items ≡ nodes self.now) }
+    /// The store in which the term stands, and its place there.
+    pub fn lend(&self) -> (&Store, Place)
+        ensures inside { Holds result.0.now result.1 }
+        ensures term { term_at result.0.now result.1 ≡ self.now }
     {
         let own: &Store = &self.own;
-        own.find_room(self.place)?;
-        own.nodes(self.place)
+        (own, self.place)
     }
 
     /// The term as it is kept, its variables numbered from 0 on. The only error is out of memory.

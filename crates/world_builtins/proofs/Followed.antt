@@ -6,7 +6,7 @@ use Rattle.std.proofs.lemmas.List.Elements.{All-cons, All-get_or, All-head, All-
 use Rattle.pl_term.specs.declared.node.Node.{Node}
 use Rattle.pl_term.specs.declared.node.Node.TheVariants.{Var, Int, Atom, Comp}
 use Rattle.pl_term.specs.Nodes.{nodes, nodes_all}
-use Rattle.pl_term.specs.Tree.{Chars, Tree, Trees, atom, comp, compound, count, int, more, none, trees, var}
+use Rattle.pl_term.specs.Tree.{Chars, Tree, atom, comp, compound, count, int, more, none, trees, var}
 use Rattle.atom_api.specs.Names.{Names}
 use Rattle.term_store.specs.declared.words.Place.{Place}
 use Rattle.term_store.specs.declared.views.Arguments.{Arguments}

@@ -6,3 +6,4 @@ mod Stilled
 pub mod Kept
 pub mod Followed
 pub mod MetLaws
+pub mod TakenLaws

@@ -1,5 +1,5 @@
 -- The texts of atoms that were met one after the other.
-use Rattle.std.proofs.Common.{◌≡◌, inl, inr, ◌<◌, ℕ, List, [], ◌∷◌, ◌++◌, length, get_or, refl, sym, ap, ◌∙◌, arith}
+use Rattle.std.proofs.Common.{◌≡◌, inl, inr, ◌<◌, ℕ, List, [], ◌∷◌, ◌++◌, length, get_or, sym, ap, ◌∙◌, arith}
 use Rattle.std.proofs.Math.Seq.{get_or-append_seam}
 use Rattle.std.proofs.lemmas.Bool.{cases_lt}
 use Rattle.std.proofs.lemmas.List.{get_or_append_left, length_push}
@@ -10,8 +10,8 @@ use Rattle.term_store.specs.Heap.{atom_name}
 use Rattle.world_builtins.specs.NamesMet.{Tells}
 use Rattle.world_builtins.specs.Spelling.{text_of}
 
-pub none_met : (m : Names) → Tells m [] []
-none_met m = record { long = refl; text = λ k d lt. absurd (omega (arith, lt)) }
+pub none_met : (m : Names) (slots : List ℕ) (names : List Chars) → slots ≡ [] → names ≡ [] → Tells m slots names
+none_met m slots names none empty = record { long = ap length empty ∙ sym (ap length none); text = λ k d lt. absurd (omega (arith, lt, ap length none)) }
 
 -- An atom that was found.
 pub found_text : (m : Names) (slots : List ℕ) (names : List Chars) (slot p : ℕ) → Tells m slots names → p < length slots → get_or slots p p ≡ slot

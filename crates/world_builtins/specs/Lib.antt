@@ -8,3 +8,4 @@ pub mod Operators
 pub mod Still
 pub mod Following
 pub mod NamesMet
+pub mod TermsTaken

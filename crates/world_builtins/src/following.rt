@@ -16,7 +16,7 @@ use term_store::{Arguments, Place, Store, View};
 use term_writer::Writing;
 
 /// Puts the places of arguments on a stack, the first on top. The only error is out of memory.
-fn push_arguments(
+pub(crate) fn push_arguments(
     store: &Store,
     places: &mut Vec<Place>,
     arguments: Arguments,

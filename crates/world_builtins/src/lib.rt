@@ -10,6 +10,6 @@ mod terms;
 
 pub use characters::{Character, put_char};
 pub use following::put_term_at;
-pub use naming::named_of;
+pub use naming::named_at;
 pub use output::{nl, write, write_canonical};
 pub use styles::Style;

@@ -1,22 +1,23 @@
 //! Terms over atoms as terms over texts that are kept, each text once.
-ghost use Rattle.std.specs.Prelude.{◌≡◌, ◌<◌, [], length, get_or, IfOk, IfSome, IsSome, OnOk};
-ghost use Rattle.std.specs.List.{All};
+ghost use Rattle.std.specs.Prelude.{◌≡◌, ◌<◌, [], length, get_or, IfOk, IfSome, IsFalse, IsSome, OnOk};
 ghost use Rattle.named_terms.specs.NamedNodes.{Extends, IsNodeNamed, node_by, text_by};
-ghost use Rattle.pl_term.specs.Nodes.{nodes as nodes_of};
 ghost use Rattle.pl_term.specs.Tree.{Tree};
+ghost use Rattle.term_store.specs.Contents.{Holds};
 ghost use Rattle.term_store.specs.Heap.{atom_name};
-ghost use Rattle.term_store.specs.Nodes.{IsSpelled, node_view, node_views};
+ghost use Rattle.world_builtins.specs.Following.{AreReadable, IsFirst};
+ghost use Rattle.world_builtins.specs.Naming.{IsHeldAt};
 ghost use Rattle.world_builtins.specs.NamesMet.{Tells};
-ghost use Rattle.world_builtins.specs.Nodes.{IsNodeHeld, spelled_node};
-ghost use Rattle.world_builtins.specs.Spelling.{spelled, text_of};
+ghost use Rattle.world_builtins.specs.Spelling.{reads, text_of};
+ghost use Rattle.world_builtins.specs.TermsTaken.{IsTaken};
 
+use crate::following::push_arguments;
 use crate::terms::text_at;
 use atom_api::{Atom, Atoms};
 use named_terms::{NamedTerm, NumberedNode};
 use pl_term::{Memory, Text};
 use std::alloc::Global;
 use std::collections::BTreeMap;
-use term_store::AtomNode;
+use term_store::{Place, Store, View};
 
 /// The atoms met, by their numbers, and their texts, in the order in which they were met. Where one is looked for, the map tells a
 /// place, and the atom that stands there is looked at.
@@ -75,62 +76,113 @@ impl Met {
         Ok(place)
     }
 
-    /// The node whose name stands among the texts. The only error is out of memory.
-    fn numbered<A: Atoms>(
+    /// The first node of the term at a place, its name among the texts. The places of its arguments are put on the stack of places
+    /// that follow. The only error is out of memory.
+    fn first<A: Atoms>(
         &mut self,
         alloc: Global,
-        node: &AtomNode,
+        store: &Store,
+        place: Place,
+        places: &mut Vec<Place>,
         atoms: &mut A,
     ) -> Result<NumberedNode, Memory>
-        requires held { IsNodeHeld (A.held atoms.old) (node_view node.now) }
+        requires inside { Holds store.now place }
+        requires held { IsHeldAt (A.held atoms.old) store.now place }
+        requires others { AreReadable (A.held atoms.old) store.now places.old.items }
         requires tells { Tells (A.held atoms.old) self.old.slots.items self.old.names.items }
+        ensures first { IfOk result (λ n. IsFirst (A.held atoms.old) store.now place places.old.items (node_by self.new.names.items n) places.new.items) }
         ensures named { IfOk result (IsNodeNamed (length self.new.names.items)) }
-        ensures node { IfOk result (λ n. node_by self.new.names.items n ≡ spelled_node (text_of (A.held atoms.old)) (node_view node.now)) }
+        ensures others { OnOk result (AreReadable (A.held atoms.old) store.now places.new.items) }
         ensures tells { OnOk result (Tells (A.held atoms.old) self.new.slots.items self.new.names.items) }
         ensures more { OnOk result (Extends self.old.names.items self.new.names.items) }
         ensures same { A.held atoms.new ≡ A.held atoms.old }
         ensures refusals { A.refusals atoms.new ≡ A.refusals atoms.old }
         ensures asked { A.asked atoms.new ≡ A.asked atoms.old }
     {
-        match node {
-            AtomNode::Var(x) => Ok(NumberedNode::Var(*x)),
-            AtomNode::Int(i) => Ok(NumberedNode::Int(*i)),
-            AtomNode::Atom(a) => {
-                let place = self.place(alloc, *a, atoms)?;
-                Ok(NumberedNode::Atom(place))
+        match store.look(place) {
+            View::Variable(x) => Ok(NumberedNode::Var(x)),
+            View::Integer(i) => Ok(NumberedNode::Int(i)),
+            View::Atom(a) => {
+                let at = self.place(alloc, a.slot(), atoms)?;
+                Ok(NumberedNode::Atom(at))
             }
-            AtomNode::Comp(f, k) => {
-                let place = self.place(alloc, *f, atoms)?;
-                Ok(NumberedNode::Comp(place, *k as u64))
+            View::Compound(f, arguments) => {
+                let at = self.place(alloc, f.slot(), atoms)?;
+                push_arguments(store, places, arguments)?;
+                Ok(NumberedNode::Comp(at, arguments.len() as u64))
             }
         }
     }
 }
 
-/// The term that these nodes spell, over the texts of its atoms, its variables with their numbers. Each atom that a node
-/// names is held. The only error is out of memory.
-pub fn named_of<A: Atoms>(
+/// What was taken of a term: the nodes, the atoms met, and the places of what is still to come, the next on top.
+#[derive(Drop)]
+struct Taking {
+    met: Met,
+    nodes: Vec<NumberedNode>,
+    places: Vec<Place>,
+}
+
+impl Taking {
+    /// Takes the next node, where one is still to come, and says whether one was. The only error is out of memory.
+    fn take<A: Atoms>(
+        &mut self,
+        alloc: Global,
+        store: &Store,
+        atoms: &mut A,
+    ) -> Result<bool, Memory>
+        requires { (t : Tree) × IsTaken (A.held atoms.old) store.now t self.old }
+        ensures taken { OnOk result ((t : Tree) → IsTaken (A.held atoms.old) store.now t self.old → IsTaken (A.held atoms.old) store.now t self.new) }
+        ensures over { IfOk result (λ more. IsFalse more → self.new.places.items ≡ []) }
+        ensures same { A.held atoms.new ≡ A.held atoms.old }
+        ensures refusals { A.refusals atoms.new ≡ A.refusals atoms.old }
+        ensures asked { A.asked atoms.new ≡ A.asked atoms.old }
+    {
+        let Some(next) = self.places.pop() else {
+            return Ok(false);
+        };
+        let node = self.met.first(alloc, store, next, &mut self.places, atoms)?;
+        self.nodes.push(node)?;
+        Ok(true)
+    }
+}
+
+/// The term at a place of a store, over the texts of its atoms, each text once: variables keep their numbers. Each atom that
+/// it names is held. The only error is out of memory, which is found at once where shared parts make the term larger than any
+/// memory.
+pub fn named_at<A: Atoms>(
     alloc: Global,
-    nodes: &[AtomNode],
+    store: &Store,
+    place: Place,
     atoms: &mut A,
 ) -> Result<NamedTerm, Memory>
-    requires spelled { IsSpelled nodes.now }
-    requires held { All (λ n. IsNodeHeld (A.held atoms.old) (node_view n)) nodes.now }
-    ensures term { IfOk result (λ f. (t : Tree) → node_views nodes.now ≡ nodes_of t → f ≡ spelled (text_of (A.held atoms.old)) t) }
+    requires inside { Holds store.now place }
+    requires held { IsHeldAt (A.held atoms.old) store.now place }
+    ensures term { IfOk result (λ t. t ≡ reads (A.held atoms.old) store.now place) }
     ensures same { A.held atoms.new ≡ A.held atoms.old }
     ensures refusals { A.refusals atoms.new ≡ A.refusals atoms.old }
     ensures asked { A.asked atoms.new ≡ A.asked atoms.old }
 {
-    let mut met = Met::new(alloc);
-    let mut all = Vec::with_capacity(alloc, nodes.len())?;
-    for node in nodes {
-        let next = met.numbered(alloc, node, atoms)?;
-        all.push(next)?;
+    store.find_room(place)?;
+    let met = Met::new(alloc);
+    let nodes = Vec::new(alloc);
+    let places = vec![in alloc; place]?;
+    let mut taking = Taking { met, nodes, places };
+    for _ in 0..u64::MAX {
+        let more = taking.take(alloc, store, atoms)?;
+        if !more {
+            let Taking {
+                met,
+                nodes,
+                places: _,
+            } = taking;
+            let Met {
+                slots: _,
+                names,
+                places: _,
+            } = met;
+            return NamedTerm::from_parts(alloc, nodes, names);
+        }
     }
-    let Met {
-        slots: _,
-        names,
-        places: _,
-    } = met;
-    NamedTerm::from_parts(alloc, all, names)
+    Err(Memory)
 }

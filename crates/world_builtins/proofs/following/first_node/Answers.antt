@@ -1,4 +1,4 @@
-use Rattle.std.proofs.Common.{◌≡◌, length, of_z, to_z, w64, sym, subst, arith, rules}
+use Rattle.std.proofs.Common.{◌≡◌, of_z, to_z, w64, sym, subst, arith, rules}
 use Rattle.std.proofs.lemmas.Int.{to_z-of_z}
 use Rattle.pl_term.specs.declared.node.Node.TheVariants.{Int}
 use Rattle.world_builtins.specs.Following.{IsFirst}

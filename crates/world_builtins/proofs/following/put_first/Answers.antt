@@ -1,4 +1,3 @@
-use Rattle.std.proofs.Common.{sym, subst}
 use Rattle.term_store.specs.Contents.{Holds}
 use Rattle.world_builtins.specs.Naming.{IsHeldAt}
 use Rattle.world_builtins.proofs.Followed.{last_part, on_goes, on_wants}

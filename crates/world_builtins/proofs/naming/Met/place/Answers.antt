@@ -1,6 +1,4 @@
-use Rattle.std.proofs.Common.{◌∷◌, [], ◌∙◌}
-use Rattle.named_terms.proofs.NamedLaws.{put_last}
-use Rattle.world_builtins.proofs.MetLaws.{found_text, one_met}
+use Rattle.world_builtins.proofs.MetLaws.{found_text}
 use Rattle.world_builtins.proofs.naming.Met.place.Goals as goal
 
 -- The atom was found.
