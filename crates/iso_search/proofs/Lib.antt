@@ -13,6 +13,7 @@ pub mod Enlarging
 pub mod Equalling
 pub mod Erring
 pub mod Finding
+pub mod Forgetting
 pub mod Growing
 pub mod Grown
 pub mod Heights

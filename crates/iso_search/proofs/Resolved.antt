@@ -1,5 +1,5 @@
 -- A clause whose head was unified with a goal.
-use Rattle.std.proofs.Common.{◌≡◌, ℕ, ◌≤◌, List, [], ◌∷◌, length, map, reverse, Some, None, refl, sym, ap, ap₂, ◌∙◌}
+use Rattle.std.proofs.Common.{◌≡◌, ℕ, List, [], ◌∷◌, map, reverse, Some, None, refl, sym, ap, ap₂, ◌∙◌}
 use Rattle.std.specs.List.{All}
 use Rattle.std.specs.Option.{option_map}
 use Rattle.std.proofs.lemmas.List.Elements.{All-head, All-tail}
@@ -20,7 +20,7 @@ use Rattle.iso_search.specs.declared.outcome.Outcome.TheVariants.{Run, Fail}
 use Rattle.iso_search.specs.Choices.{IsTaskIn}
 use Rattle.iso_search.specs.Frames.{tasks}
 use Rattle.iso_search.specs.Outcomes.{Setting, state_in, result_in}
-use Rattle.iso_search.specs.Reading.{IsView, reads, pending, node_at}
+use Rattle.iso_search.specs.Reading.{IsView, reads, pending}
 use Rattle.iso_search.specs.Searching.{IsWhole, choices_of, node_of}
 use Rattle.iso_search.specs.Spelling.{spelled, spelled_bindings, text_of}
 use Rattle.iso_search.proofs.Grown.{tasks_inside}

@@ -1,5 +1,5 @@
 -- Going back to the newest choice point, by the definition.
-use Rattle.std.proofs.Common.{◌≡◌, ℕ, List, [], ◌∷◌, drop, Vec, refl, sym, ap, ap₂, ◌∙◌}
+use Rattle.std.proofs.Common.{◌≡◌, ℕ, [], ◌∷◌, drop, Vec, refl, sym, ap, ap₂, ◌∙◌}
 use Rattle.std.specs.declared.alloc.Global.{Global}
 use Rattle.pl_model.specs.Resolution.{running, failing, ended, no_more}
 use Rattle.pl_model.specs.BuiltinRows.{unifying}

@@ -10,6 +10,7 @@ pub mod Extending
 pub mod Failures
 pub mod Frames
 pub mod Goals
+pub mod Held
 pub mod Lines
 pub mod Lists
 pub mod Outcomes

@@ -47,6 +47,7 @@ impl Search {
         let _next = self.next_variable;
         match self.store.enter(goal, clause, from)? {
             Some(body) => {
+                self.forget_done(rest);
                 let list = self.push(Task::Goal(body, height), rest)?;
                 Ok(Outcome::Run(list))
             }

@@ -1,9 +1,10 @@
 //! The state of a search, and how its lists of tasks and its choice points change.
-ghost use Rattle.std.specs.Prelude.{◌≡◌, ◌≤◌, ◌<◌, ◌-◌, ℕ, [], ◌∷◌, ◌++◌, length, take, IfOk, OnOk, IfSome, MatchOption};
+ghost use Rattle.std.specs.Prelude.{◌≡◌, ◌≤◌, ◌<◌, ◌-◌, ℕ, [], ◌∷◌, ◌++◌, length, reverse, take, IfOk, OnOk, IfSome, MatchOption};
 ghost use Rattle.pl_model.specs.Control.{before};
 ghost use Rattle.pl_model.specs.Resolution.{up_to};
 ghost use Rattle.iso_search.specs.Choices.{IsTaskIn, IsAlternativeIn, choice_at};
 ghost use Rattle.iso_search.specs.Collecting.{HoldsNone, IsOlder};
+ghost use Rattle.iso_search.specs.Held.{frames_held};
 ghost use Rattle.iso_search.specs.Reading.{View, reads, pending};
 ghost use Rattle.iso_search.specs.Searching.{IsWhole, node_of, choices_of};
 
@@ -18,6 +19,22 @@ pub struct Budgets {
     pub inferences: u64,
     pub cells: u64,
     pub choices: u64,
+}
+
+/// How many frames the newest choice point goes back to, which is at least as many as an older one does.
+fn held_frames(choices: &[ChoicePoint]) -> usize
+    ensures { result ≡ frames_held (reverse choices.now) }
+{
+    let n = choices.len();
+    if n == 0 { 0 } else { choices[n - 1].frames }
+}
+
+/// The higher one of two numbers.
+fn higher(a: usize, b: usize) -> usize
+    ensures first { a ≤ result }
+    ensures second { b ≤ result }
+{
+    if a < b { b } else { a }
 }
 
 /// A search: the terms, what is still to be done, the choice points from the oldest on, the variables of the goal, the
@@ -50,6 +67,21 @@ impl Search {
     {
         let list = push_task(&mut self.frames, task, next)?;
         Ok(list)
+    }
+
+    /// Forgets the tasks that nothing goes on with where only the list and the choice points are left to be done: those of later
+    /// lists. The choice points and the list stay what they are.
+    pub fn forget_done(&mut self, list: usize)
+        requires whole { IsWhole self.old }
+        requires list { list ≤ length self.old.frames.items }
+        ensures whole { IsWhole self.new }
+        ensures list { list ≤ length self.new.frames.items }
+        ensures node { (v : View) → node_of v self.new list ≡ node_of v self.old list }
+        ensures choices { (v : View) → choices_of v self.new ≡ choices_of v self.old }
+        ensures kept { self.new ≡ record self.old { frames = self.new.frames } }
+    {
+        let keep = higher(held_frames(&self.choices), list);
+        self.frames.truncate(keep);
     }
 
     /// Cuts the choice points away that stand above the height (ISO 7.8.4).
