@@ -13,12 +13,12 @@ use Rattle.script_api.specs.declared.script.Next.TheVariants.{Done}
 use Rattle.world_api.specs.Texts.{text_of}
 use Rattle.world_api.specs.Told.{Told}
 use Rattle.script_api.specs.Parts.{Part, of_goal}
-use Rattle.script_api.specs.Scripts.{AreNames, Given, IsLast, LeavesOff, StandsBefore, written_at}
+use Rattle.script_api.specs.Scripts.{Given, IsLast, LeavesOff, StandsBefore, written_at}
 use Rattle.engine_run.specs.declared.runner.Runner.{Runner}
 use Rattle.engine_run.specs.declared.runner.Stage.TheVariants.{Over}
 use Rattle.engine_run.specs.declared.runner.Turn.TheVariants.{Ended}
 use Rattle.engine_run.specs.Runners.{HasClosed, StandsFor, put_by}
-use Rattle.engine_run.proofs.Turning.{bytes_of, names_same, text_of_lines}
+use Rattle.engine_run.proofs.Turning.{bytes_of, text_of_lines}
 
 pub one_ending : (e f : Ending) → ended e ≡ ended f → e ≡ f
 one_ending e f is = cc
@@ -30,17 +30,7 @@ none_last (Some n) is = absurd is
 module _ {S : Type 0} (execution : (ℕ → Chars) → S → Job → List Consulted → Execution) (part : S → Option Part) (plays : (ℕ → Chars) → S → Script → Type 0)
     (kept : S → Bool) (name : S → Chars) (variables : S → List (Chars × ℕ))
     (lines : (text : ℕ → Chars) (s : S) (job : Job) (cs : List Consulted) → (execution text s job cs).consulted ≡ cs)
-    (tells_names : (text : ℕ → Chars) (s : S) (job : Job) (cs : List Consulted) → AreNames (variables s) (execution text s job cs).words)
     (m n : Names) (t u : Told) (old new : Runner S) where
-  -- The names of the goal's variables are as they were.
-  variables_same : (job : Job) (cs : List Consulted)
-      → ((j : Job) (ds : List Consulted) → (execution (text_of n) new.script j ds).words ≡ (execution (text_of m) old.script j ds).words)
-      → variables new.script ≡ variables old.script
-  variables_same job cs words =
-      names_same (variables new.script) (variables old.script) (execution (text_of m) old.script job cs).words
-      (subst (AreNames (variables new.script)) (words job cs) (tells_names (text_of n) new.script job cs))
-      (tells_names (text_of m) old.script job cs)
-
   -- The script was told, and has no further item.
   pub is_closed : (how : How Tree) (given_how : Option (How Tree)) (h : Option ℕ)
       → new ≡ record old { script = new.script; text = new.text; moves = new.moves; stage = Over }
@@ -48,10 +38,10 @@ module _ {S : Type 0} (execution : (ℕ → Chars) → S → Job → List Consul
       → part old.script ≡ Some of_goal
       → given_how ≡ Some how
       → (let next : Next Tree = Done h in IsLast (part old.script) next)
-      → ((j : Job) (ds : List Consulted) → (execution (text_of n) new.script j ds).words ≡ (execution (text_of m) old.script j ds).words)
+      → variables new.script ≡ variables old.script
       → Given execution part term_by plays kept (name old.script) (text_of m) (text_of n) old.script given_how t old.moves old.text.items (Done h) new.script u new.moves new.text.items
       → HasClosed execution part plays kept name variables m t old how n u new (Ok (Ended how))
-  is_closed how given_how h is named at told last words given job cs s x ending has wants pl doing so there out w =
+  is_closed how given_how h is named at told last same_names given job cs s x ending has wants pl doing so there out w =
       let stood : StandsBefore execution part term_by (text_of m) old.script job (part old.script) given_how (Some s) cs x =
       subst (λ (o : Option Part). StandsBefore execution part term_by (text_of m) old.script job o given_how (Some s) cs x) (sym at)
       (subst (λ (k : Option (How Tree)). StandsBefore execution part term_by (text_of m) old.script job (Some of_goal) k (Some s) cs x) (sym told)
@@ -82,7 +72,7 @@ module _ {S : Type 0} (execution : (ℕ → Chars) → S → Job → List Consul
                     out_is =
                         out
                         ∙ ap (λ (xs : List Output). encode_utf8_all (put_by old.lines (variables old.script) [] xs)) (sym leaves.1)
-                        ∙ ap (λ (vs : List (Chars × ℕ)). encode_utf8_all (put_by old.lines vs [] os)) (sym (variables_same job cs words));
+                        ∙ ap (λ (vs : List (Chars × ℕ)). encode_utf8_all (put_by old.lines vs [] os)) (sym same_names);
                     is = g.3.3;
                   };
               text =

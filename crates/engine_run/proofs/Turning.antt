@@ -7,11 +7,11 @@ use Rattle.std.proofs.lemmas.Bool.{true≢false}
 use Rattle.pl_term.specs.Tree.{Chars, Tree}
 use Rattle.pl_model.specs.Resolution.{Ending, Output, solution, State}
 use Rattle.pl_model.specs.Resolution.{text as text_out}
-use Rattle.run_model.specs.Execution.{Job, Word, goal_word, faulty_word, Consulted, wrote, Execution, texts_of}
+use Rattle.run_model.specs.Execution.{Job, Consulted, wrote, Execution, texts_of}
 use Rattle.run_model.specs.Report.{all_consulted, texts, with_consulted}
 use Rattle.pl_model.specs.declared.ends.How.{How}
 use Rattle.script_api.specs.Parts.{Part, of_goal, of_directive, limits_of, with_search}
-use Rattle.script_api.specs.Scripts.{AreNames, LeavesOff, is_directive, is_fault, some_fault, written_at}
+use Rattle.script_api.specs.Scripts.{LeavesOff, is_directive, is_fault, some_fault, written_at}
 use Rattle.engine_run.specs.declared.runner.Lines.{Lines}
 use Rattle.engine_run.specs.Items.{IsDirectiveAsked, IsText}
 use Rattle.engine_run.specs.Runners.{OutIs, put_by}
@@ -160,12 +160,6 @@ left_by None (Some (of_directive place rest)) (Some how) searched ending os aske
 pub none_given : (h : Option ℕ) (ending : Ending) (os : List Output) → LeavesOff h None None ending os → os ≡ []
 none_given None ending os l = l.1
 none_given (Some n) ending os l = l.1
-
--- The words tell the names.
-pub names_same : (names more : List (Chars × ℕ)) (ws : List Word) → AreNames names ws → AreNames more ws → names ≡ more
-names_same names more [] a b = a ∙ sym b
-names_same names more (goal_word t own ∷ ws) a b = a ∙ sym b
-names_same names more (faulty_word kind at ∷ ws) a b = a ∙ sym b
 
 -- What holds of all in two lists holds of all in each.
 front_by : {X : Type 0} (P : X → Type 0) (xs ys : List X) → AllByRecursion P (xs ++ ys) → AllByRecursion P xs

@@ -6,7 +6,7 @@ use Rattle.run_model.specs.Execution.{Script, Job, Consulted, Execution}
 use Rattle.run_model.specs.Lawful.{IsRunning}
 use Rattle.script_api.specs.declared.either.Either.{Either}
 use Rattle.script_api.specs.declared.either.Either.TheVariants.{First, Second}
-use Rattle.script_api.specs.Scripts.{AreNames, texts_at}
+use Rattle.script_api.specs.Scripts.{texts_at}
 
 -- What is told of the script that it is.
 abbrev pub either : {A B : Type 0} {R : Type 0} → (A → R) → (B → R) → Either A B → R
@@ -42,14 +42,6 @@ module _ {A B : Type 0} (first : (ℕ → Chars) → A → Job → List Consulte
       → texts_at (execution_of text s job cs).activity ≡ []
   reported_told f g text (First a) job cs = f text a job cs
   reported_told f g text (Second b) job cs = g text b job cs
-
-  pub named_told : (variables : A → List (Chars × ℕ)) (others : B → List (Chars × ℕ))
-      → ((text : ℕ → Chars) (a : A) (job : Job) (cs : List Consulted) → AreNames (variables a) (first text a job cs).words)
-      → ((text : ℕ → Chars) (b : B) (job : Job) (cs : List Consulted) → AreNames (others b) (second text b job cs).words)
-      → (text : ℕ → Chars) (s : Either A B) (job : Job) (cs : List Consulted)
-      → AreNames (either variables others s) (execution_of text s job cs).words
-  named_told variables others f g text (First a) job cs = f text a job cs
-  named_told variables others f g text (Second b) job cs = g text b job cs
 
   module _ (plays : (ℕ → Chars) → A → Script → Type 0) (performs : (ℕ → Chars) → B → Script → Type 0) (names : A → List ℕ) (others : B → List ℕ) where
     pub names_same : ((a : A) (text other : ℕ → Chars) → All (λ k. text k ≡ other k) (names a)

@@ -8,7 +8,7 @@ use Rattle.run_model.specs.Lawful.{IsRunning}
 use Rattle.script_api.specs.declared.once.Stage.{Stage}
 use Rattle.script_api.specs.declared.once.Stage.TheVariants.{Fresh, AtHand, Over}
 use Rattle.script_api.specs.Parts.{Part, of_goal}
-use Rattle.script_api.specs.Scripts.{AreNames, texts_at}
+use Rattle.script_api.specs.Scripts.{texts_at}
 
 abbrev pub part_of : {T : Type 0} → Stage T → Option Part
 part_of (Fresh t) = None
@@ -40,11 +40,6 @@ module _ {T : Type 0} (term : (ℕ → Chars) → T → Tree) where
   same_lines text (Fresh t) job cs = refl
   same_lines text AtHand job cs = refl
   same_lines text Over job cs = refl
-
-  pub all_named : (text : ℕ → Chars) (s : Stage T) (job : Job) (cs : List Consulted) → AreNames [] (execution_of text s job cs).words
-  all_named text (Fresh t) job cs = refl
-  all_named text AtHand job cs = refl
-  all_named text Over job cs = refl
 
   pub all_running : (text : ℕ → Chars) (s : Stage T) (job : Job) (cs : List Consulted) → IsRunning (execution_of text s job cs)
   all_running text (Fresh t) job cs ending is = absurd (cc)

@@ -15,7 +15,7 @@ pub enum Either<A, B> {
 }
 
 impl<A: Script + Drop, B: Script<Term = A::Term> + Drop> Script for Either<A, B> {
-    ghost use Rattle.script_api.specs.Eithers.{EitherIs, either, lines_told, named_told, names_same, reported_told, running_told};
+    ghost use Rattle.script_api.specs.Eithers.{EitherIs, either, lines_told, names_same, reported_told, running_told};
 
     type Term = A::Term;
 
@@ -42,8 +42,6 @@ impl<A: Script + Drop, B: Script<Term = A::Term> + Drop> Script for Either<A, B>
     ghost names_tell = { λ s text other same. names_same A.execution B.execution A.plays B.plays A.names B.names A.names_tell B.names_tell s text other same };
 
     ghost lines = { λ text s job cs. lines_told A.execution B.execution A.lines B.lines text s job cs };
-
-    ghost named = { λ text s job cs. named_told A.execution B.execution A.variables B.variables A.named B.named text s job cs };
 
     ghost running = { λ text s job cs. running_told A.execution B.execution A.running B.running text s job cs };
 

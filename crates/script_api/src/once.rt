@@ -45,7 +45,7 @@ impl<T: Named + Drop> Once<T> {
 impl<T: Named + Drop> Script for Once<T> {
     ghost use Rattle.std.specs.Prelude.{[]};
     ghost use Rattle.pl_model.specs.Requests.{look};
-    ghost use Rattle.script_api.specs.Onces.{execution_of, part_of, plays_of, names_of, over_of, same_under, same_lines, all_named, all_reported, all_running};
+    ghost use Rattle.script_api.specs.Onces.{execution_of, part_of, plays_of, names_of, over_of, same_under, same_lines, all_reported, all_running};
 
     type Term = T;
 
@@ -72,8 +72,6 @@ impl<T: Named + Drop> Script for Once<T> {
     ghost names_tell = { λ s text other same. same_under T.term T.names T.names_tell s.stage text other same };
 
     ghost lines = { λ text s job cs. same_lines T.term text s.stage job cs };
-
-    ghost named = { λ text s job cs. all_named T.term text s.stage job cs };
 
     ghost running = { λ text s job cs. all_running T.term text s.stage job cs };
 

@@ -45,9 +45,10 @@ pub trait Roots {
     // The generations of calls that have clauses left.
     ghost open_at: { Self → List ℕ };
 
-    /// The atoms that it names. The only error is that memory is exhausted.
+    /// The atoms that it names, and no others. The only error is that memory is exhausted.
     fn live(&self, alloc: Global) -> Result<Vec<Atom>, Memory>
-        ensures { IfOk result (λ atoms. (a : ℕ) → Contains (names self.now) a → Contains atoms.items a) };
+        ensures all { IfOk result (λ atoms. (a : ℕ) → Contains (names self.now) a → Contains atoms.items a) }
+        ensures only { IfOk result (λ atoms. (a : ℕ) → Contains atoms.items a → Contains (names self.now) a) };
 
     /// The oldest of the generations that it has open, or none.
     fn oldest_open(&self) -> Option<u64>

@@ -10,7 +10,7 @@ ghost use Rattle.world_api.specs.Texts.{text_of, Holds};
 ghost use Rattle.world_api.specs.Told.{Told, has_ended};
 ghost use Rattle.world_api.specs.Gains.{Gains};
 ghost use Rattle.script_api.specs.Parts.{Part, of_goal};
-ghost use Rattle.script_api.specs.Scripts.{AreNames, IsAsked, IsAtHand, IsLast, IsLater, IsReplied, Given, next_refusals, next_names, is_done, texts_at};
+ghost use Rattle.script_api.specs.Scripts.{IsAsked, IsAtHand, IsLast, IsLater, IsReplied, Given, next_refusals, next_names, is_done, texts_at};
 
 use atom_api::{Atoms, Cause, Pass, WornWord};
 use named_terms::NamedTerm;
@@ -108,7 +108,8 @@ pub trait Script {
         ensures texts { (c : Chars) → texts self.new c → texts self.old c }
         ensures asks { (q : Request) → asks self.new q → asks self.old q }
         ensures words { part self.old ≡ Some of_goal → (job : Job) (cs : List Consulted)
-            → (execution (text_of (W.A.held atoms.new)) self.new job cs).words ≡ (execution (text_of (W.A.held atoms.old)) self.old job cs).words };
+            → (execution (text_of (W.A.held atoms.new)) self.new job cs).words ≡ (execution (text_of (W.A.held atoms.old)) self.old job cs).words }
+        ensures variables { part self.old ≡ Some of_goal → variables self.new ≡ variables self.old };
 
     // It stands for the same execution under texts that agree on the atoms that it names, and plays the same.
     ghost names_tell: { (s : Self) (text other : ℕ → Chars) → All (λ a. text a ≡ other a) (names s)
@@ -117,9 +118,6 @@ pub trait Script {
 
     // What that execution has consulted is what was given.
     ghost lines: { (text : ℕ → Chars) (s : Self) (job : Job) (cs : List Consulted) → (execution text s job cs).consulted ≡ cs };
-
-    // Its goal words have these variables. So these stay while the goal is at hand, as its words do.
-    ghost named: { (text : ℕ → Chars) (s : Self) (job : Job) (cs : List Consulted) → AreNames (variables s) (execution text s job cs).words };
 
     // It has not ended: an end is put into it when there is no further item.
     ghost running: { (text : ℕ → Chars) (s : Self) (job : Job) (cs : List Consulted) → IsRunning (execution text s job cs) };
