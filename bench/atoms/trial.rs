@@ -1,9 +1,9 @@
 //! The two programs in Rust that `atoms` times: the table of atoms over `AtomicU64`, by the same steps, and a hash map under
 //! a lock.
 //!
-//! `table fresh THREADS ROUNDS` and `lock fresh THREADS ROUNDS` intern 16,384 texts for each thread, all different, `found` the
-//! same 16,384 by each thread; both say how many texts a second that were. `table new` makes a table of 1,048,576 slots for
-//! 64 engines.
+//! `table fresh THREADS ROUNDS ROW` and `lock fresh THREADS ROUNDS ROW` intern 16,384 texts for each thread, all different, `found`
+//! the same 16,384 by each thread, and `hot` one text as often; all say how many texts a second that were. The table has 2 ^ ROW
+//! buckets. `table new` makes a table of 1,048,576 slots for 64 engines.
 use std::collections::HashMap;
 use std::sync::Mutex;
 use std::sync::atomic::{AtomicU64, Ordering::SeqCst};
@@ -18,6 +18,7 @@ struct Table {
     links: Vec<AtomicU64>,
     heads: Vec<AtomicU64>,
     texts: Vec<AtomicU64>,
+    buckets: u64,
 }
 
 fn words(count: usize, word: u64) -> Vec<AtomicU64> {
@@ -40,13 +41,14 @@ fn row_of(text: &[u8]) -> [u64; 32] {
 }
 
 impl Table {
-    fn new(slots: usize) -> Table {
+    fn new(slots: usize, row: u32) -> Table {
         let table = Table {
             epoch: AtomicU64::new(0),
             atoms: words(slots, 0),
             links: words(slots, 0),
             heads: words(2 * slots.next_power_of_two() - 256, 0),
             texts: words(32 * slots, 0),
+            buckets: 1 << row,
         };
         for slot in FIXED..256 {
             table.atoms[slot].store(1, SeqCst);
@@ -61,7 +63,7 @@ impl Table {
     fn intern(&self, text: &[u8]) -> Option<u32> {
         let row = row_of(text);
         let hash = hash(text);
-        let head = &self.heads[(hash % 256) as usize];
+        let head = &self.heads[(hash % self.buckets) as usize];
         let word = head.load(SeqCst);
         let mut place = word % 2_097_152;
         while place != 0 {
@@ -77,7 +79,7 @@ impl Table {
         }
         self.epoch.load(SeqCst);
         let slots = self.atoms.len();
-        let from = (hash / 256) as usize % slots;
+        let from = (hash / self.buckets) as usize % slots;
         let slot = (0..slots).map(|i| (from + i) % slots).find(|slot| {
             self.atoms[*slot].compare_exchange(0, 1, SeqCst, SeqCst).is_ok()
         })?;
@@ -127,9 +129,15 @@ fn intern_all(texts: &[String], rounds: usize, intern: &(dyn Fn(&str) -> Option<
     done
 }
 
-fn speed(fresh: bool, threads: usize, rounds: usize, intern: &(dyn Fn(&str) -> Option<u32> + Sync)) {
-    let sets: Vec<_> = (0..threads).map(|i| texts(if fresh { i } else { 0 })).collect();
-    if !fresh {
+fn speed(what: &str, threads: usize, rounds: usize, intern: &(dyn Fn(&str) -> Option<u32> + Sync)) {
+    let sets: Vec<_> = (0..threads)
+        .map(|i| match what {
+            "fresh" => texts(i),
+            "hot" => vec!["atom_0_77".to_string(); TEXTS],
+            _ => texts(0),
+        })
+        .collect();
+    if what != "fresh" {
         intern_all(&sets[0], 1, intern);
     }
     let start = Instant::now();
@@ -143,15 +151,16 @@ fn speed(fresh: bool, threads: usize, rounds: usize, intern: &(dyn Fn(&str) -> O
 fn main() {
     let words: Vec<String> = std::env::args().skip(1).collect();
     if words[1] == "new" {
-        println!("{}", Table::new(1_048_576).atoms.len());
+        println!("{}", Table::new(1_048_576, 20).atoms.len());
         return;
     }
     let (threads, rounds) = (words[2].parse().unwrap(), words[3].parse().unwrap());
+    let row = words[4].parse().unwrap();
     if words[0] == "table" {
-        let table = Table::new(131_072);
-        speed(words[1] == "fresh", threads, rounds, &|text| table.intern(text.as_bytes()));
+        let table = Table::new(131_072, row);
+        speed(&words[1], threads, rounds, &|text| table.intern(text.as_bytes()));
     } else {
         let lock = Lock::default();
-        speed(words[1] == "fresh", threads, rounds, &|text| lock.intern(text));
+        speed(&words[1], threads, rounds, &|text| lock.intern(text));
     }
 }
