@@ -51,7 +51,7 @@ use Rattle.pl_consult.proofs.GrowLaws.{grows_line}
 use Rattle.pl_consult.proofs.StepLaws.{same_file, same_goals, gone_goals}
 
 -- The clause was added, or refused with an error.
-abbrev Adds : ServedSo → Type 0
+abbrev pub Adds : ServedSo → Type 0
 Adds (answers r k) = (r ≡ done) ⊎ ((e : Tree) × (r ≡ refused e))
 Adds waits = ⊥
 
@@ -103,7 +103,7 @@ module _ {K : Type 0} (term : (ℕ → Chars) → Tree → Tree) (key : Tree →
   said_refused Gone b says = absurd (let no : ⊥ = cc in no)
   said_refused (Refused e) b says = tt
 
-  said : (r : Reply Tree) (reply : requests.Reply) → (reply ≡ done) ⊎ ((b : Tree) × (reply ≡ refused b)) → Says term other r reply → IsAddition r
+  pub said : (r : Reply Tree) (reply : requests.Reply) → (reply ≡ done) ⊎ ((b : Tree) × (reply ≡ refused b)) → Says term other r reply → IsAddition r
   said r reply (inl e) says = said_done r (subst (λ (q : requests.Reply). Says term other r q) e says)
   said r reply (inr p) says = said_refused r p.0 (subst (λ (q : requests.Reply). Says term other r q) p.1 says)
 
@@ -170,7 +170,7 @@ add_by : (term : Tree → Tree) (c : Consult) (clause kept : Tree) (place : ℕ)
     → kept ≡ rename zero clause
     → Asked t u (consult_clause (clause_in kept)) reply
     → ((x : Execution) → SameGoals x (clause_added x (arc_value ops) place (next_of c.place) reply))
-    → ((job : Job) (x y : Execution) → ComesIn job 1 x t y u → CameAt 1 step job x t y u)
+    → ((job : Job) (x y : Execution) → ComesIn job 1 x t y u → CameAt step job x t y u)
     → ((job : Job) (x : Execution) → Stands c job x out → IsItem c.place
     → Keeps term step c c × After term step job c stage (clause_added x (arc_value ops) place (next_of c.place) reply) more)
     → Moved term c (Clause clause place ops) t out step c stage u more

@@ -4,7 +4,7 @@ use Rattle.std.specs.Prelude.{encode_utf8_all, nat_lt, if◌then◌else◌}
 use Rattle.pl_term.specs.Tree.{Chars, Tree}
 use Rattle.pl_model.specs.Resolution.{Ending, solved, no_more, threw, exited, halted, ended, State}
 use Rattle.pl_model.specs.Control.{step, step_by}
-use Rattle.run_model.specs.Execution.{Script, consults, runs, first_execution, at_start, most_bytes, Job, Consulted, bytes_in, directive_limits, Rest, Activity, directing, reporting, searching, over, Execution, texts_of, directed, searched, Word, move, moves}
+use Rattle.run_model.specs.Execution.{Script, consults, runs, first_execution, at_start, most_bytes, Job, Consulted, bytes_in, directive_limits, Rest, Activity, directing, reporting, searching, over, Execution, texts_of, directed, searched, Word, Refusal, move, moves}
 use Rattle.run_model.specs.Lawful.{EndsSo}
 use Rattle.run_model.specs.Report.{all_consulted}
 use Rattle.pl_consult.specs.declared.consult.Place.{Place}
@@ -20,11 +20,11 @@ use Rattle.script_api.specs.Comes.{ComesBy}
 use Rattle.script_api.specs.Scripts.{CameBy, StandsBefore, StandsAfter, LeavesOff, IsWritten, IsKept, IsLast, Given, some_fault, texts_at, written_at}
 use Rattle.script_api.proofs.ComesLaws.{comes_same, comes_then, by_move, by_then}
 use Rattle.pl_consult.specs.declared.stage.Stage.{Stage}
-use Rattle.pl_consult.specs.declared.stage.Stage.TheVariants.{Items, Clause, Directive, AtDirective, Report, Words, Goal, AtGoal, Over, Lost}
+use Rattle.pl_consult.specs.declared.stage.Stage.TheVariants.{Items, Clause, Directive, AtDirective, Report, Words, Starts, Goal, AtGoal, Over, Lost}
 use Rattle.pl_consult.specs.declared.stage.Step.TheVariants.{Gives}
 use Rattle.pl_consult.specs.declared.file_script.FileScript.{FileScript}
 use Rattle.pl_consult.specs.Steps.{ending_of, IsTold, activity_in, part_of, can_step, at_hand, Fits, searching_in, Grows}
-use Rattle.pl_consult.specs.GoalWords.{words_of, given_words}
+use Rattle.pl_consult.specs.GoalWords.{words_of, refusals_of, read_of}
 use Rattle.pl_consult.specs.TextLaws.{texts_none}
 use Rattle.pl_consult.proofs.GrowLaws.{fault_grown, first_grows}
 use Rattle.pl_consult.specs.FileScripts.{Begins, is_lost, execution_of, part_in, IsOf, Plays, Whole, Runs, IsGiven, AfterFile, FileRan, is_memory}
@@ -37,6 +37,7 @@ part_none p (Directive g place) can = refl
 part_none p (AtDirective place) can = absurd (let no : ⊥ = cc in no)
 part_none p (Report place how) can = refl
 part_none p Words can = refl
+part_none p (Starts ops first goals at) can = refl
 part_none p (Goal g) can = refl
 part_none p AtGoal can = absurd (let no : ⊥ = cc in no)
 part_none p Over can = absurd (let no : ⊥ = cc in no)
@@ -49,22 +50,24 @@ not_lost (Directive g place) can = refl
 not_lost (AtDirective place) can = absurd (let no : ⊥ = cc in no)
 not_lost (Report place how) can = refl
 not_lost Words can = refl
+not_lost (Starts ops first goals at) can = refl
 not_lost (Goal g) can = refl
 not_lost AtGoal can = absurd (let no : ⊥ = cc in no)
 not_lost Over can = absurd (let no : ⊥ = cc in no)
 not_lost Lost can = absurd (let no : ⊥ = cc in no)
 
-fits_at_hand : (stage : Stage) (d : Bool) (p : Place) → at_hand stage ≡ Some d → Fits stage p
-fits_at_hand Items d p is = absurd (let no : ⊥ = cc in no)
-fits_at_hand (Clause c place ops) d p is = absurd (let no : ⊥ = cc in no)
-fits_at_hand (Directive g place) d p is = absurd (let no : ⊥ = cc in no)
-fits_at_hand (AtDirective place) d p is = tt
-fits_at_hand (Report place how) d p is = absurd (let no : ⊥ = cc in no)
-fits_at_hand Words d p is = absurd (let no : ⊥ = cc in no)
-fits_at_hand (Goal g) d p is = absurd (let no : ⊥ = cc in no)
-fits_at_hand AtGoal d p is = tt
-fits_at_hand Over d p is = absurd (let no : ⊥ = cc in no)
-fits_at_hand Lost d p is = absurd (let no : ⊥ = cc in no)
+fits_at_hand : (stage : Stage) (d : Bool) (p : Place) (ws : List Word) → at_hand stage ≡ Some d → Fits stage p ws
+fits_at_hand Items d p ws is = absurd (let no : ⊥ = cc in no)
+fits_at_hand (Clause c place ops) d p ws is = absurd (let no : ⊥ = cc in no)
+fits_at_hand (Directive g place) d p ws is = absurd (let no : ⊥ = cc in no)
+fits_at_hand (AtDirective place) d p ws is = tt
+fits_at_hand (Report place how) d p ws is = absurd (let no : ⊥ = cc in no)
+fits_at_hand Words d p ws is = absurd (let no : ⊥ = cc in no)
+fits_at_hand (Starts ops first goals at) d p ws is = absurd (let no : ⊥ = cc in no)
+fits_at_hand (Goal g) d p ws is = absurd (let no : ⊥ = cc in no)
+fits_at_hand AtGoal d p ws is = tt
+fits_at_hand Over d p ws is = absurd (let no : ⊥ = cc in no)
+fits_at_hand Lost d p ws is = absurd (let no : ⊥ = cc in no)
 
 -- The end of a search is the one that is told.
 ending_is : (h : How Tree) (ending : Ending) → EndsSo ending h → ending ≡ ending_of h
@@ -132,26 +135,27 @@ ending_told (AtomSpace r) (exited u) e = absurd e
 ending_told (AtomSpace r) (halted n) e = absurd e
 
 -- An execution by its parts.
-by_parts : (y : Execution) (a : Activity) (ls : List (ℕ × Tree)) (ws : List Word)
+by_parts : (y : Execution) (a : Activity) (ls : List (ℕ × Tree)) (ws : List Word) (rs : List Refusal)
     → y.activity ≡ a
     → y.later ≡ ls
     → y.words ≡ ws
-    → y.refusals ≡ []
+    → y.refusals ≡ rs
     → y.output ≡ []
-    → y ≡ record { activity = a; consulted = y.consulted; later = ls; words = ws; refusals = []; output = [] }
-by_parts y a ls ws is later words refusals output =
+    → y ≡ record { activity = a; consulted = y.consulted; later = ls; words = ws; refusals = rs; output = [] }
+by_parts y a ls ws rs is later words refusals output =
     ap (λ (b : Activity). let z : Execution = record y { activity = b } in z) is
     ∙ ap (λ (k : List (ℕ × Tree)). let z : Execution = record y { activity = a; later = k } in z) later
     ∙ ap (λ (k : List Word). let z : Execution = record y { activity = a; later = ls; words = k } in z) words
-    ∙ ap (λ k. let z : Execution = record y { activity = a; later = ls; words = ws; refusals = k } in z) refusals
-    ∙ ap (λ k. let z : Execution = record y { activity = a; later = ls; words = ws; refusals = []; output = k } in z) output
+    ∙ ap (λ (k : List Refusal). let z : Execution = record y { activity = a; later = ls; words = ws; refusals = k } in z) refusals
+    ∙ ap (λ k. let z : Execution = record y { activity = a; later = ls; words = ws; refusals = rs; output = k } in z) output
 
 stands_as : (job : Job) (name : Chars) (r : FileScript) (y : Execution) (more : List ℕ) (a : Activity)
     → Whole job name r y
     → Stands r.consult job y more
     → y.activity ≡ a
     → y ≡ record (execution_of r job y.consulted) { activity = a }
-stands_as job name r y more a w s is = by_parts y a r.consult.later.items (words_of r.read) is s.later w.words w.refusals w.output
+stands_as job name r y more a w s is =
+    by_parts y a r.consult.later.items (words_of (read_of r.read)) (refusals_of r.refused.items) is s.later w.words_are w.refusals w.output
 
 searches_as : (x : Execution) (p : Part) (s : State) → record x { activity = searching_in p s } ≡ with_search x p s
 searches_as x of_goal s = refl
@@ -188,19 +192,19 @@ handed_out text job name was searched (Item t d) r y more a given other =
         a.1.2,
         stands_as job name r y more _ a.0 a.1.4 a.1.3 ∙ searches_as (execution_of r job y.consulted) a.1.0 _,
       );
-      plays = λ runs. record { script = a.0.script; fits = fits_at_hand r.stage d r.consult.place given };
+      plays = λ runs. record { script = a.0.script; fits = fits_at_hand r.stage d r.consult.place (words_of (read_of r.read)) given };
       lines = lines_as job name r y more a.0 a.1.4;
     }
 handed_out text job name was searched (Done None) r y more a given other =
     record {
       stands = (solved, [], leaves was searched other, stands_as job name r y more (over solved) a.0 a.1.2 a.1.0);
-      plays = λ runs. record { script = a.0.script; fits = subst (λ (k : Stage). Fits k r.consult.place) (sym a.1.1) tt };
+      plays = λ runs. record { script = a.0.script; fits = subst (λ (k : Stage). Fits k r.consult.place (words_of (read_of r.read))) (sym a.1.1) tt };
       lines = lines_as job name r y more a.0 a.1.2;
     }
 handed_out text job name was searched (Done (Some n)) r y more a given other =
     record {
       stands = (halted n, [], (refl, refl), stands_as job name r y more (over (halted n)) a.0 a.1.2 a.1.0);
-      plays = λ runs. record { script = a.0.script; fits = subst (λ (k : Stage). Fits k r.consult.place) (sym a.1.1) tt };
+      plays = λ runs. record { script = a.0.script; fits = subst (λ (k : Stage). Fits k r.consult.place (words_of (read_of r.read))) (sym a.1.1) tt };
       lines = lines_as job name r y more a.0 a.1.2;
     }
 handed_out text job name was searched Memory r y more a given other =
@@ -212,19 +216,19 @@ handed_out text job name was searched Memory r y more a given other =
 handed_out text job name was searched (NeedsAtoms pass) r y more a given other =
     record {
       stands = (a.1.1, stands_as job name r y more _ a.0 a.1.0.stands a.1.0.does);
-      plays = λ runs. record { script = a.0.script; fits = a.1.0.fits };
+      plays = λ runs. record { script = a.0.script; fits = subst (λ (ws : List Word). Fits r.stage r.consult.place ws) a.0.words_are a.1.0.fits };
       lines = lines_as job name r y more a.0 a.1.0.stands;
     }
 handed_out text job name was searched (Retry cause) r y more a given other =
     record {
       stands = (a.1.1, stands_as job name r y more _ a.0 a.1.0.stands a.1.0.does);
-      plays = λ runs. record { script = a.0.script; fits = a.1.0.fits };
+      plays = λ runs. record { script = a.0.script; fits = subst (λ (ws : List Word). Fits r.stage r.consult.place ws) a.0.words_are a.1.0.fits };
       lines = lines_as job name r y more a.0 a.1.0.stands;
     }
 handed_out text job name was searched (Worn word) r y more a given other =
     record {
       stands = (a.1.1, stands_as job name r y more _ a.0 a.1.0.stands a.1.0.does);
-      plays = λ runs. record { script = a.0.script; fits = a.1.0.fits };
+      plays = λ runs. record { script = a.0.script; fits = subst (λ (ws : List Word). Fits r.stage r.consult.place ws) a.0.words_are a.1.0.fits };
       lines = lines_as job name r y more a.0 a.1.0.stands;
     }
 
@@ -271,7 +275,7 @@ runs_at s job cs x bytes can of is written =
           record {
             script = of.script;
             name_is = refl;
-            words = ap (λ (z : Execution). z.words) is;
+            words_are = ap (λ (z : Execution). z.words) is;
             refusals = ap (λ (z : Execution). z.refusals) is;
             output = ap (λ (z : Execution). z.output) is;
           };
@@ -284,7 +288,7 @@ runs_at s job cs x bytes can of is written =
                   lines = written ∙ ap (λ ds. encode_utf8_all (all_consulted s.consult.name [] ds)) (lines_are s job cs x is);
                 };
             does = ap (λ (z : Execution). z.activity) is;
-            fits = of.fits;
+            fits = subst (λ (ws : List Word). Fits s.stage s.consult.place ws) (sym (ap (λ (z : Execution). z.words) is)) of.fits;
           };
     }
 
@@ -355,7 +359,7 @@ reported_runs : (s : FileScript) (job : Job) (cs : List Consulted) (place : ℕ)
     → Runs job s.consult.name s (Report place h) (record (execution_of s job cs) { activity = reporting place (rest_of s.consult.place) ending; consulted = cs ++ texts_of st.output }) bytes
 reported_runs s job cs place h st ending bytes of ends written =
     record {
-      whole = record { script = of.script; name_is = refl; words = refl; refusals = refl; output = refl };
+      whole = record { script = of.script; name_is = refl; words_are = refl; refusals = refl; output = refl };
       at =
           record {
             stands = record { bytes = ap bytes_in of.script; later = refl; lines = written };
@@ -498,30 +502,30 @@ first_output : (script : Script) → (first_execution script).output ≡ []
 first_output (consults bytes words) = no_output (nat_lt most_bytes (length bytes)) _ _ refl refl
 first_output (runs t) = refl
 
-pub file_begins : (s : FileScript) (job : Job) (bytes : List ℕ) (word : Option Chars) (name : Chars) (out : List ℕ)
+pub file_begins : (s : FileScript) (job : Job) (bytes : List ℕ) (words : List Chars) (name : Chars) (out : List ℕ)
     → s.stage ≡ Items
-    → s.read ≡ None
-    → s.word ≡ word
+    → read_of s.read ≡ []
+    → s.refused.items ≡ []
+    → s.words.items ≡ words
     → s.faulty ≡ nat_lt 0 (length out)
-    → job.script ≡ consults bytes (given_words word)
+    → job.script ≡ consults bytes words
     → s.consult.name ≡ name
     → s.consult.text.items ≡ bytes
     → Stands s.consult job (at_start job) out
     → (at_start job).activity ≡ activity_of s.consult.place
     → Begins s job name out
-file_begins s job bytes word name out at unread same grew script named text stands starts =
+file_begins s job bytes words name out at unread none same grew script named text stands starts =
     record {
       execution =
           sym
-          (by_parts (at_start job) (activity_in job s.consult.place s.stage) s.consult.later.items (words_of s.read)
-          (starts ∙ sym (ap (activity_in job s.consult.place) at)) stands.later (first_words job.script ∙ sym (ap words_of unread)) (first_refusals job.script)
-          (first_output job.script));
+          (by_parts (at_start job) (activity_in job s.consult.place s.stage) s.consult.later.items (words_of (read_of s.read)) (refusals_of s.refused.items)
+          (starts ∙ sym (ap (activity_in job s.consult.place) at)) stands.later (first_words job.script ∙ sym (ap words_of unread))
+          (first_refusals job.script ∙ sym (ap refusals_of none)) (first_output job.script));
       plays =
           λ kept.
           record {
-            script =
-                script ∙ ap (λ bs. consults bs (given_words word)) (sym text) ∙ ap (λ w. consults s.consult.text.items (given_words w)) (sym same);
-            fits = subst (λ (k : Stage). Fits k s.consult.place) (sym at) tt;
+            script = script ∙ ap (λ bs. consults bs words) (sym text) ∙ ap (λ ws. consults s.consult.text.items ws) (sym same);
+            fits = subst (λ (k : Stage). Fits k s.consult.place (words_of (read_of s.read))) (sym at) tt;
           };
       lines = stands.lines ∙ ap (λ n. encode_utf8_all (all_consulted n [] (at_start job).consulted)) named;
       kept =

@@ -11,9 +11,12 @@ pub mod TakingLaws
 pub mod StepLaws
 pub mod LookLaws
 pub mod AddLaws
+pub mod StartLaws
+pub mod FirstWords
 pub mod FileLaws
 pub mod GivenLaws
 pub mod WordLaws
 pub mod GrowLaws
 pub mod ItemLaws
 pub mod NarrowLaws
+pub mod HandLaws

@@ -14,7 +14,7 @@ use Rattle.pl_model.specs.Grammar.{Item as ItemOf, clause, fault, end_of_text}
 use Rattle.pl_model.specs.TermGrammar.{item_of}
 use Rattle.pl_model.specs.BodyChecks.{clause_of_term}
 use Rattle.pl_model.specs.Requests.{look, standing}
-use Rattle.run_model.specs.Execution.{Job, bytes_in, Rest, items_from, initialization, Activity, taking, Execution, move, move_by, requests, item_taken, with_item, with_term, with_clause, with_goal, with_line, gone_on, directive_of, initialization_of, behind_fault, syntax_fault, directive_halted, directive_limits, directing, reporting, initializing, searching, over, moves, next_initialization, directive_ended, reported, directive_failed, ball_of_item}
+use Rattle.run_model.specs.Execution.{Job, Word, bytes_in, Rest, items_from, initialization, Activity, taking, Execution, move, move_by, requests, item_taken, with_item, with_term, with_clause, with_goal, with_line, gone_on, directive_of, initialization_of, behind_fault, syntax_fault, directive_halted, directive_limits, directing, reporting, initializing, searching, over, moves, next_initialization, directive_ended, reported, directive_failed, ball_of_item}
 use Rattle.pl_consult.specs.declared.consult.Place.{Place}
 use Rattle.pl_consult.specs.declared.consult.Place.TheVariants.{Item as AtItem, Initialization}
 use Rattle.pl_consult.specs.declared.consult.Consult.{Consult}
@@ -93,13 +93,13 @@ taking_move : (job : Job) (x : Execution) (at : ℕ) → x.activity ≡ taking a
 unfolding move
 taking_move job x at is = ap (move_by job x) is
 
-at_by : (taken : Taken) (job : Job) (d : Consult) (p : Place) (ops : Arc OperatorTable Global) (a : Activity)
+at_by : (taken : Taken) (job : Job) (d : Consult) (p : Place) (ops : Arc OperatorTable Global) (a : Activity) (ws : List Word)
     → Does taken p job (arc_value ops) a
-    → (a ≡ activity_in job p (stage_by taken ops)) × Fits (stage_by taken ops) p
-at_by (ClauseTaken t place) job d (AtItem next) ops a does = (does.0, (tt, does.1))
-at_by (ClauseTaken t place) job d Initialization ops a does = absurd does
-at_by (DirectiveTaken g place) job d p ops a does = (does, tt)
-at_by Passed job d p ops a does = (does, tt)
+    → (a ≡ activity_in job p (stage_by taken ops)) × Fits (stage_by taken ops) p ws
+at_by (ClauseTaken t place) job d (AtItem next) ops a ws does = (does.0, (tt, does.1))
+at_by (ClauseTaken t place) job d Initialization ops a ws does = absurd does
+at_by (DirectiveTaken g place) job d p ops a ws does = (does, tt)
+at_by Passed job d p ops a ws does = (does, tt)
 
 pub item_moved : (term : Tree → Tree) (c d : Consult) (at : ℕ) (ops : Arc OperatorTable Global) (quotes : Quotes) (taken : Taken) (t u : Told) (out more : List ℕ)
     → c.place ≡ AtItem at
@@ -109,7 +109,7 @@ pub item_moved : (term : Tree → Tree) (c d : Consult) (at : ℕ) (ops : Arc Op
 item_moved term c d at ops quotes taken t u out more place l took job x here =
     let y : Execution = item_taken job x at (standing (arc_value ops) quotes) in
     let k : Took taken c.name d job (arc_value ops) y more = took job x here.stands in
-    let b = at_by taken job d d.place ops y.activity k.1 in (
+    let b = at_by taken job d d.place ops y.activity y.words k.1 in (
       y,
       comes_by_request job x look (item_taken job x at) t u l.before (standing (arc_value ops) quotes) l.update
           (taking_move job x at (here.does ∙ ap activity_of place)) l.follows l.served l.told,
@@ -185,9 +185,10 @@ initial_move : (job : Job) (x : Execution) → x.activity ≡ initializing → m
 unfolding move
 initial_move job x is = ap (move_by job x) is
 
-initial_at : (g : Option (ℕ × Tree)) (job : Job) (p : Place) (a : Activity) → p ≡ Initialization → Initializes g job a → (a ≡ activity_in job p (stage_for g)) × Fits (stage_for g) p
-initial_at None job p a place is = (is, tt)
-initial_at (Some g) job p a place is =
+initial_at : (g : Option (ℕ × Tree)) (job : Job) (p : Place) (a : Activity) (ws : List Word) → p ≡ Initialization → Initializes g job a
+    → (a ≡ activity_in job p (stage_for g)) × Fits (stage_for g) p ws
+initial_at None job p a ws place is = (is, tt)
+initial_at (Some g) job p a ws place is =
     (is ∙ ap (λ q. directing g.0 (rest_of q) (start (directive_limits job) g.1)) (sym place), tt)
 
 pub initial_moved : (term : Tree → Tree) (c d : Consult) (g : Option (ℕ × Tree)) (t : Told) (out : List ℕ)
@@ -200,7 +201,7 @@ pub initial_moved : (term : Tree → Tree) (c d : Consult) (g : Option (ℕ × T
 initial_moved term c d g t out place next job x at =
     let y : Execution = next_initialization job x x.later in
     let n = next job x out at.stands in
-    let b = initial_at g job d.place y.activity (n.2 ∙ place) n.1 in (
+    let b = initial_at g job d.place y.activity y.words (n.2 ∙ place) n.1 in (
       y,
       comes_by_move job x y t (initial_move job x (at.does ∙ ap activity_of place)),
       initial_goals job x x.later,
@@ -228,7 +229,7 @@ reported_goals x place rest (halted n) ops = record { words = refl; refusals = r
 
 report_by : (term : Tree → Tree) (c : Consult) (place : ℕ) (how : How Tree) (ops : OperatorTable) (quotes : Quotes) (t u : Told) (out more : List ℕ) (stage : Stage) (step : Step)
     → Looked t u ops quotes
-    → ((job : Job) (x y : Execution) → ComesIn job 1 x t y u → CameAt 1 step job x t y u)
+    → ((job : Job) (x y : Execution) → ComesIn job 1 x t y u → CameAt step job x t y u)
     → ((job : Job) (x : Execution) → Stands c job x out → IsTold how
     → Keeps term step c c × After term step job c stage (reported x place (rest_of c.place) (ending_of how) ops) more)
     → Moved term c (Report place how) t out step c stage u more

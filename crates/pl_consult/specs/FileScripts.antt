@@ -1,4 +1,4 @@
--- The script of the first engine as a whole: a file that is consulted, and the goal of the command.
+-- The script of the first engine as a whole: a file that is consulted, and the goals of the command.
 use Rattle.std.specs.Prelude.{◌≡◌, ℕ, List, [], Bool, true, false, Option, Some, None, encode_utf8_all}
 use Rattle.pl_term.specs.Tree.{Chars, Tree}
 use Rattle.run_model.specs.Execution.{Script, consults, Job, Consulted, Execution, at_start}
@@ -16,9 +16,10 @@ use Rattle.pl_consult.specs.declared.stage.Stage.TheVariants.{Report, Over, Lost
 use Rattle.pl_consult.specs.declared.stage.Step.{Step}
 use Rattle.pl_consult.specs.declared.stage.Step.TheVariants.{Goes, Gives}
 use Rattle.pl_consult.specs.declared.file_script.FileScript.{FileScript}
-use Rattle.pl_consult.specs.Steps.{activity_in, part_of, moves_at, CameAt, Fits, At, After, IsAfter, Grows}
-use Rattle.pl_consult.specs.declared.goal_words.GoalWord.{GoalWord}
-use Rattle.pl_consult.specs.GoalWords.{words_of, given_words}
+use Rattle.pl_consult.specs.Steps.{activity_in, part_of, CameAt, Fits, At, After, IsAfter, Grows}
+use Rattle.word_board.specs.declared.word.GoalWord.{GoalWord}
+use Rattle.pl_consult.specs.declared.goal_words.RefusedGoal.{RefusedGoal}
+use Rattle.pl_consult.specs.GoalWords.{words_of, read_of, refusals_of}
 
 abbrev pub is_over : Stage → Bool
 is_over Over = true
@@ -43,19 +44,19 @@ execution_of s job cs =
       activity = activity_in job s.consult.place s.stage;
       consulted = cs;
       later = s.consult.later.items;
-      words = words_of s.read;
-      refusals = [];
+      words = words_of (read_of s.read);
+      refusals = refusals_of s.refused.items;
       output = [];
     }
 
 abbrev pub part_in : FileScript → Option Part
 part_in s = part_of s.consult.place s.stage
 
--- It consults this file and runs the goal of this word, and stands at a stage at which it can be. A script that is lost
+-- It consults this file and runs the goals of these words, and stands at a stage at which it can be. A script that is lost
 -- plays anything.
 pub record IsOf (s : FileScript) (x : Script) : Type 0 where
-  pub script : x ≡ consults s.consult.text.items (given_words s.word)
-  pub fits : Fits s.stage s.consult.place
+  pub script : x ≡ consults s.consult.text.items s.words.items
+  pub fits : Fits s.stage s.consult.place (words_of (read_of s.read))
 
 abbrev pub Plays : FileScript → Script → Type 0
 Plays s x = is_lost s.stage ≡ false → IsOf s x
@@ -73,23 +74,23 @@ pub record IsFresh (s : FileScript) (name : Chars) : Type 0 where
   pub name_is : s.consult.name ≡ name
 
 -- The execution is one of the script, whatever it does.
-pub record WholeBy (job : Job) (name : Chars) (c : Consult) (word : Option Chars) (read : Option GoalWord) (x : Execution) : Type 0 where
-  pub script : job.script ≡ consults c.text.items (given_words word)
+pub record WholeBy (job : Job) (name : Chars) (c : Consult) (words : List Chars) (read : List GoalWord) (refused : List RefusedGoal) (x : Execution) : Type 0 where
+  pub script : job.script ≡ consults c.text.items words
   pub name_is : c.name ≡ name
-  pub words : x.words ≡ words_of read
-  pub refusals : x.refusals ≡ []
+  pub words_are : x.words ≡ words_of read
+  pub refusals : x.refusals ≡ refusals_of refused
   pub output : x.output ≡ []
 
 abbrev pub Whole : Job → Chars → FileScript → Execution → Type 0
-Whole job name s x = WholeBy job name s.consult s.word s.read x
+Whole job name s x = WholeBy job name s.consult s.words.items (read_of s.read) s.refused.items x
 
 -- It stands at this stage.
-pub record RunsBy (job : Job) (name : Chars) (c : Consult) (word : Option Chars) (read : Option GoalWord) (stage : Stage) (x : Execution) (out : List ℕ) : Type 0 where
-  pub whole : WholeBy job name c word read x
+pub record RunsBy (job : Job) (name : Chars) (c : Consult) (words : List Chars) (read : List GoalWord) (refused : List RefusedGoal) (stage : Stage) (x : Execution) (out : List ℕ) : Type 0 where
+  pub whole : WholeBy job name c words read refused x
   pub at : At job c stage x out
 
 abbrev pub Runs : Job → Chars → FileScript → Stage → Execution → List ℕ → Type 0
-Runs job name s stage x out = RunsBy job name s.consult s.word s.read stage x out
+Runs job name s stage x out = RunsBy job name s.consult s.words.items (read_of s.read) s.refused.items stage x out
 
 -- The stage after what was given. The script is lost where memory runs out.
 abbrev pub IsGiven : Next Tree → Stage → Type 0
@@ -112,7 +113,7 @@ module _ (term : Tree → Tree) where
   FileMoved name s stage t out step r then u more =
       (job : Job) (x : Execution)
       → Runs job name s stage x out
-      → (y : Execution) × CameAt (moves_at stage) step job x t y u × Grows x.consulted y.consulted × AfterFile step job name r then y more
+      → (y : Execution) × CameAt step job x t y u × Grows x.consulted y.consulted × AfterFile step job name r then y more
 
   -- And by steps, the last of which gives this, while the count of moves rises from `before` to `after`.
   abbrev pub FileRan : Chars → FileScript → Stage → Told → ℕ → List ℕ → Step → FileScript → Stage → Told → ℕ → List ℕ → Type 0

@@ -1,50 +1,63 @@
--- Goal words as they were read.
-use Rattle.std.specs.Prelude.{◌≡◌, ◌⊎◌, ℕ, List, [], ◌∷◌, Option, Some, None}
-use Rattle.pl_term.specs.Tree.{Chars}
-use Rattle.run_model.specs.Execution.{Word, goal_word, faulty_word}
-use Rattle.pl_model.specs.declared.syntax.SyntaxFault.{SyntaxFault}
-use Rattle.script_api.specs.declared.script.Next.TheVariants.{Done, Memory}
-use Rattle.pl_consult.specs.declared.stage.Stage.{Stage}
-use Rattle.pl_consult.specs.declared.stage.Stage.TheVariants.{Goal as ToGive, Over}
-use Rattle.pl_consult.specs.declared.stage.Step.{Step}
-use Rattle.pl_consult.specs.declared.stage.Step.TheVariants.{Goes, Gives}
-use Rattle.pl_consult.specs.declared.goal_words.GoalWord.{GoalWord}
-use Rattle.pl_consult.specs.declared.goal_words.GoalWord.TheVariants.{Goal, Faulty}
+-- Goal words as they were read, and the goals whose engines could not be started.
+use Rattle.std.specs.Prelude.{◌≡◌, ℕ, suc, List, [], ◌∷◌, ◌++◌, map, drop, Option, Some, None}
+use Rattle.std.specs.Arc.{arc_value}
+use Rattle.pl_term.specs.Tree.{Chars, Tree}
+use Rattle.pl_model.specs.declared.grammar.Quotes.{Quotes}
+use Rattle.pl_model.specs.OperatorTable.{OperatorTable}
+use Rattle.run_model.specs.Execution.{Word, goal_word, faulty_word, word_read, further_goals, Refusal}
+use Rattle.word_board.specs.declared.word.GoalWord.{GoalWord}
+use Rattle.word_board.specs.declared.word.GoalWord.TheVariants.{Goal, Faulty}
+use Rattle.word_board.specs.Seen.{SeenWords}
+use Rattle.pl_consult.specs.declared.goal_words.WordsRead.{WordsRead}
+use Rattle.pl_consult.specs.declared.goal_words.RefusedGoal.{RefusedGoal}
+use Rattle.pl_consult.specs.Steps.{IsFirst}
 
 abbrev pub word_of : GoalWord → Word
 word_of (Goal t names) = goal_word t names.items
 word_of (Faulty f) = faulty_word f.kind f.at
 
--- The words that are given of a command with at most one goal.
-abbrev pub given_words : Option Chars → List Chars
-given_words None = []
-given_words (Some w) = w ∷ []
+-- The words that stand on the board, once they were read: none before.
+abbrev pub read_of : Option SeenWords → List GoalWord
+read_of None = []
+read_of (Some w) = w.words
 
--- The words as they were read: none before.
-abbrev pub words_of : Option GoalWord → List Word
-words_of None = []
-words_of (Some w) = word_of w ∷ []
+-- The words as they were read.
+abbrev pub words_of : List GoalWord → List Word
+words_of ws = map word_of ws
 
--- The names of the variables of the goal, once its word is read.
+-- The names of the variables of the first goal, once the words are read.
 abbrev pub names_in : GoalWord → List (Chars × ℕ)
 names_in (Goal t names) = names.items
 names_in (Faulty f) = []
 
-abbrev pub names_by : Option GoalWord → List (Chars × ℕ)
-names_by None = []
-names_by (Some w) = names_in w
+abbrev pub names_by : List GoalWord → List (Chars × ℕ)
+names_by [] = []
+names_by (w ∷ ws) = names_in w
 
--- This is the fault of the only word, or no word has one.
-abbrev pub IsFault : Option SyntaxFault → List Word → Type 0
-IsFault (Some f) ws = ws ≡ faulty_word f.kind f.at ∷ []
-IsFault None [] = Unit {0}
-IsFault None (goal_word t names ∷ []) = Unit {0}
-IsFault None ws = ⊥
+-- The goals that could not be started.
+abbrev pub refusal_of : RefusedGoal → Refusal
+refusal_of r = record { number = r.number; ball = r.ball; operators = arc_value r.operators }
 
--- After the reading of a word its goal is to be given, or the script is over; or there was no memory.
-abbrev pub Begun : GoalWord → Stage → Step → Type 0
-Begun (Goal t names) stage step = (stage ≡ ToGive t) × (step ≡ Goes)
-Begun (Faulty f) stage step = (stage ≡ Over) × (step ≡ Gives (Done None))
+abbrev pub refusals_of : List RefusedGoal → List Refusal
+refusals_of rs = map refusal_of rs
 
-abbrev pub HasBegun : GoalWord → Stage → Step → Type 0
-HasBegun w stage step = (step ≡ Gives Memory) ⊎ Begun w stage step
+-- One more is kept, with this number and this ball, under these operators.
+pub record HasKept (n : ℕ) (b : Tree) (ops : OperatorTable) (old new : List RefusedGoal) : Type 0 where
+  pub goal : RefusedGoal
+  pub is : refusal_of goal ≡ record { number = n; ball = b; operators = ops }
+  pub put : new ≡ old ++ goal ∷ []
+
+-- The words are read so, with the goal of the first one and the further goals, each with its number.
+pub record AreReadSo (ops : OperatorTable) (quotes : Quotes) (words : List Chars) (r : WordsRead) : Type 0 where
+  pub words_are : words_of r.read.items ≡ map (word_read ops quotes) words
+  pub first_is : IsFirst r.first (words_of r.read.items)
+  pub goals_are : r.goals.items ≡ further_goals (words_of r.read.items)
+
+-- At this place of the list stands the goal with this number.
+abbrev pub IsAt : ℕ → ℕ → Tree → List (ℕ × Tree) → Type 0
+IsAt at n g gs = drop at gs ≡ (n, g) ∷ drop (suc at) gs
+
+-- The goal that a word is, with its number.
+abbrev pub goal_of : ℕ → Word → List (ℕ × Tree)
+goal_of n (goal_word t names) = (n, t) ∷ []
+goal_of n (faulty_word kind at) = []

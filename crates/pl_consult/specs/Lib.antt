@@ -8,4 +8,5 @@ pub mod Steps
 pub mod ItemTexts
 pub mod GoalWords
 pub mod FileScripts
+pub mod Hands
 pub mod TextLaws

@@ -1,5 +1,5 @@
 -- What a step of the script is of an execution.
-use Rattle.std.specs.Prelude.{◌≡◌, ◌+◌, ℕ, zero, List, [], ◌∷◌, ◌++◌, length, Option, Some, None, Result, Ok, Err, Bool, true, false}
+use Rattle.std.specs.Prelude.{◌≡◌, ◌⊎◌, ◌+◌, ℕ, zero, List, [], ◌∷◌, ◌++◌, drop, length, Option, Some, None, Result, Ok, Err, Bool, true, false}
 use Rattle.std.specs.Arc.{arc_value}
 use Rattle.std.specs.declared.alloc.Global.{Global}
 use Rattle.std.specs.declared.sync.Arc.{Arc}
@@ -7,13 +7,14 @@ use Rattle.pl_term.specs.Tree.{Tree}
 use Rattle.pl_term.specs.Variables.{rename}
 use Rattle.pl_model.specs.declared.grammar.Quotes.{Quotes}
 use Rattle.pl_model.specs.OperatorTable.{OperatorTable}
-use Rattle.pl_model.specs.Requests.{Request, look, standing, consult_clause}
+use Rattle.pl_model.specs.Balls.{error_ball}
+use Rattle.pl_model.specs.Requests.{Request, look, standing, consult_clause, start_goal}
 use Rattle.pl_model.specs.Requests as requests
 use Rattle.pl_model.specs.Service.{answers, entry_by, served_now}
 use Rattle.pl_model.specs.History.{Kind, History}
 use Rattle.pl_model.specs.Resolution.{Ending, solved, no_more, threw, exited, halted, State}
-use Rattle.pl_model.specs.Control.{start}
-use Rattle.run_model.specs.Execution.{Job, Consulted, directive_limits, Activity, adding, directing, reporting, initializing, reading, searching, over, Execution}
+use Rattle.pl_model.specs.Control.{start, consult_proc}
+use Rattle.run_model.specs.Execution.{Job, Consulted, Word, goal_word, faulty_word, directive_limits, Activity, adding, directing, reporting, initializing, reading, starting, searching, over, Execution}
 use Rattle.pl_consult.specs.declared.consult.Place.{Place}
 use Rattle.pl_consult.specs.declared.consult.Place.TheVariants.{Item as AtItem, Initialization}
 use Rattle.pl_consult.specs.declared.consult.Consult.{Consult}
@@ -36,7 +37,7 @@ use Rattle.script_api.specs.Parts.{Part, of_goal, of_directive, limits_of}
 use Rattle.script_api.specs.Comes.{ComesIn}
 use Rattle.script_api.specs.Scripts.{next_refusals, next_names, is_directive, is_fault}
 use Rattle.pl_consult.specs.declared.stage.Stage.{Stage}
-use Rattle.pl_consult.specs.declared.stage.Stage.TheVariants.{Items, Clause, Directive, AtDirective, Report, Words, Goal, AtGoal, Over, Lost}
+use Rattle.pl_consult.specs.declared.stage.Stage.TheVariants.{Items, Clause, Directive, AtDirective, Report, Words, Starts, Goal, AtGoal, Over, Lost}
 use Rattle.pl_consult.specs.declared.stage.Step.{Step}
 use Rattle.pl_consult.specs.declared.stage.Step.TheVariants.{Goes, Gives}
 use Rattle.pl_consult.specs.declared.looks.Standing.{Standing}
@@ -99,6 +100,26 @@ added_names names (Ok None) = []
 added_names names (Ok (Some e)) = names e
 added_names names (Err w) = []
 
+-- The goal that is kept so was started as an engine of its own, or is refused with an error; where the call was not served,
+-- nothing has changed.
+abbrev pub StartsSo : ℕ → Tree → (Tree → Tree) → Result (Option Tree) Unserved → Told → Told → Type 0
+StartsSo n g term (Ok None) t u = Asked t u (start_goal n g) requests.done
+StartsSo n g term (Ok (Some e)) t u = Asked t u (start_goal n g) (requests.refused (term e))
+StartsSo n g term (Err w) t u = u ≡ t
+
+-- The goal with this number was started as an engine of its own, or is refused with a ball; where the call was not served,
+-- nothing has changed. After running out of memory it may have been served.
+abbrev pub StartedSo : ℕ → Tree → Result (Option Tree) (Next Tree) → Told → Told → Type 0
+StartedSo n g (Ok None) t u = Asked t u (start_goal n g) requests.done
+StartedSo n g (Ok (Some b)) t u = (e : Tree) × Asked t u (start_goal n g) (requests.refused e) × (b ≡ error_ball e consult_proc)
+StartedSo n g (Err Memory) t u = (u ≡ t) ⊎ ((reply : requests.Reply) × Asked t u (start_goal n g) reply)
+StartedSo n g (Err next) t u = IsStay next × (u ≡ t)
+
+-- What is refused of a call, if one was.
+abbrev pub start_refusals : Result (Option Tree) (Next Tree) → List Refusal
+start_refusals (Ok b) = []
+start_refusals (Err next) = next_refusals next
+
 abbrev pub step_refusals : Step → List Refusal
 step_refusals Goes = []
 step_refusals (Gives next) = next_refusals next
@@ -134,6 +155,7 @@ activity_in job p (Directive goal place) = directing place (rest_of p) (start (d
 activity_in job p (AtDirective place) = initializing
 activity_in job p (Report place how) = reporting place (rest_of p) (ending_of how)
 activity_in job p Words = reading
+activity_in job p (Starts ops first goals at) = starting (arc_value ops) (drop at goals.items)
 activity_in job p (Goal goal) = searching (start job.limits goal)
 activity_in job p AtGoal = initializing
 activity_in job p Over = initializing
@@ -147,17 +169,28 @@ abbrev pub IsTold : How Tree → Type 0
 IsTold (AtomSpace r) = ⊥
 IsTold how = Unit {0}
 
--- A clause is one of the file and is numbered from 0, and what ended did not end for want of atoms.
-abbrev pub Fits : Stage → Place → Type 0
-Fits (Clause t place ops) p = IsItem p × (rename zero t ≡ t)
-Fits (Report place how) p = IsTold how
-Fits stage p = Unit {0}
+-- This is the goal that the word is, if it is one; and that of the first word.
+abbrev pub IsGoalOf : Option Tree → Word → Type 0
+IsGoalOf o (goal_word t names) = o ≡ Some t
+IsGoalOf o (faulty_word kind at) = o ≡ None
+
+abbrev pub IsFirst : Option Tree → List Word → Type 0
+IsFirst o [] = o ≡ None
+IsFirst o (w ∷ ws) = IsGoalOf o w
+
+-- A clause is one of the file and is numbered from 0, what ended did not end for want of atoms, and the goal that comes after
+-- all starts is that of the first word.
+abbrev pub Fits : Stage → Place → List Word → Type 0
+Fits (Clause t place ops) p ws = IsItem p × (rename zero t ≡ t)
+Fits (Report place how) p ws = IsTold how
+Fits (Starts ops first goals at) p ws = IsFirst first ws
+Fits stage p ws = Unit {0}
 
 -- It is this execution, with the lines that are written of the file.
 pub record At (job : Job) (c : Consult) (stage : Stage) (x : Execution) (out : List ℕ) : Type 0 where
   pub stands : Stands c job x out
   pub does : x.activity ≡ activity_in job c.place stage
-  pub fits : Fits stage c.place
+  pub fits : Fits stage c.place x.words
 
 -- These lines are all of faults.
 abbrev pub AreFaults : List Consulted → Type 0
@@ -213,6 +246,7 @@ can_step (Directive goal place) = true
 can_step (AtDirective place) = false
 can_step (Report place how) = true
 can_step Words = true
+can_step (Starts ops first goals at) = true
 can_step (Goal goal) = true
 can_step AtGoal = false
 can_step Over = false
@@ -237,33 +271,33 @@ abbrev pub searching_in : Part → State → Activity
 searching_in of_goal s = searching s
 searching_in (of_directive place rest) s = directing place rest s
 
--- How many moves a step from this stage makes, where one makes any.
-abbrev pub moves_at : Stage → ℕ
-moves_at Words = 2
-moves_at stage = 1
+-- How many moves a step makes that gives this: one, or none where the script stays where it is or hands on its goal.
+abbrev pub moves_in : Step → ℕ
+moves_in Goes = 1
+moves_in (Gives (Done h)) = 1
+moves_in (Gives next) = 0
 
--- How many of these a step makes that gives this: all, or none where the script stays where it is or hands on its goal.
-abbrev pub moves_in : ℕ → Step → ℕ
-moves_in n Goes = n
-moves_in n (Gives (Done h)) = n
-moves_in n (Gives next) = 0
+-- The execution comes so far by a step. After running out of memory it is not told how many moves it made.
+abbrev pub CameAt : Step → Job → Execution → Told → Execution → Told → Type 0
+CameAt (Gives Memory) job x t y u = (k : ℕ) × ComesIn job k x t y u
+CameAt step job x t y u = ComesIn job (moves_in step) x t y u
 
--- The execution comes so far by the moves of a step. After running out of memory it is not told how many they are.
-abbrev pub CameAt : ℕ → Step → Job → Execution → Told → Execution → Told → Type 0
-CameAt n (Gives Memory) job x t y u = (k : ℕ) × ComesIn job k x t y u
-CameAt n step job x t y u = ComesIn job (moves_in n step) x t y u
-
--- The step makes moves, or there was no memory for it.
+-- The step makes a move, or there was no memory for it.
 abbrev pub MakesMoves : Step → Type 0
 MakesMoves Goes = Unit {0}
 MakesMoves (Gives (Done h)) = Unit {0}
 MakesMoves (Gives Memory) = Unit {0}
 MakesMoves (Gives next) = ⊥
 
--- The moves of the step are counted, or there are too many to count, which is out of memory.
-abbrev pub IsCounted : ℕ → Step → Step → ℕ → ℕ → Type 0
-IsCounted n step (Gives Memory) before after = MakesMoves step
-IsCounted n step counted before after = (counted ≡ step) × (moves_in n step + before ≡ after)
+-- The move of the step is counted, or there are too many to count, which is out of memory.
+abbrev pub IsCounted : Step → Step → ℕ → ℕ → Type 0
+IsCounted step (Gives Memory) before after = MakesMoves step
+IsCounted step counted before after = (counted ≡ step) × (moves_in step + before ≡ after)
+
+-- After all starts the first goal is to be given, or the script is over.
+abbrev pub IsBegun : Option Tree → Stage → Step → Type 0
+IsBegun None stage step = (stage ≡ Over) × (step ≡ Gives (Done None))
+IsBegun (Some t) stage step = (stage ≡ Goal t) × (step ≡ Goes)
 
 -- The file is the same.
 pub record SameFile (c d : Consult) : Type 0 where
@@ -292,4 +326,4 @@ module _ (term : Tree → Tree) where
   Moved c stage t out step d then u more =
       (job : Job) (x : Execution)
       → At job c stage x out
-      → (y : Execution) × CameAt (moves_at stage) step job x t y u × SameGoals x y × Keeps step c d × After step job d then y more
+      → (y : Execution) × CameAt step job x t y u × SameGoals x y × Keeps step c d × After step job d then y more

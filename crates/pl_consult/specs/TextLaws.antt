@@ -1,5 +1,5 @@
 -- No text of a directive waits for its report where a script stands, and the names that it tells are those of its goal.
-use Rattle.std.specs.Prelude.{◌≡◌, ℕ, ◌+◌, ◌^◌, [], ◌∷◌, Bool, true, false, Option, Some, None, Result, Ok, Err, nat_lt, if◌then◌else◌}
+use Rattle.std.specs.Prelude.{◌≡◌, ℕ, ◌+◌, ◌^◌, List, [], ◌∷◌, Bool, true, false, Result, Ok, Err, nat_lt, if◌then◌else◌}
 use Rattle.std.proofs.Common.{ap, refl}
 use Rattle.pl_term.specs.Tree.{Tree}
 use Rattle.pl_model.specs.History.{Proc}
@@ -13,9 +13,9 @@ use Rattle.pl_consult.specs.declared.consult.Place.{Place}
 use Rattle.pl_consult.specs.declared.consult.Place.TheVariants.{Item, Initialization}
 use Rattle.script_api.specs.Scripts.{AreNames, texts_at}
 use Rattle.pl_consult.specs.declared.stage.Stage.{Stage}
-use Rattle.pl_consult.specs.declared.stage.Stage.TheVariants.{Items, Clause, Directive, AtDirective, Report, Words, Goal, AtGoal, Over, Lost}
-use Rattle.pl_consult.specs.declared.goal_words.GoalWord.{GoalWord}
-use Rattle.pl_consult.specs.declared.goal_words.GoalWord.TheVariants.{Goal as Asks, Faulty}
+use Rattle.pl_consult.specs.declared.stage.Stage.TheVariants.{Items, Clause, Directive, AtDirective, Report, Words, Starts, Goal, AtGoal, Over, Lost}
+use Rattle.word_board.specs.declared.word.GoalWord.{GoalWord}
+use Rattle.word_board.specs.declared.word.GoalWord.TheVariants.{Goal as Asks, Faulty}
 use Rattle.pl_consult.specs.Steps.{activity_in}
 use Rattle.pl_consult.specs.GoalWords.{names_by, words_of}
 
@@ -55,6 +55,7 @@ texts_none job p (Directive g place) = ap texts_of (start_output (directive_limi
 texts_none job p (AtDirective place) = refl
 texts_none job p (Report place how) = refl
 texts_none job p Words = refl
+texts_none job p (Starts ops first goals at) = refl
 texts_none job p (Goal g) = refl
 texts_none job p AtGoal = refl
 texts_none job p Over = refl
@@ -69,13 +70,14 @@ running_told job p (Directive g place) ending is = absurd (cc)
 running_told job p (AtDirective place) ending is = absurd (cc)
 running_told job p (Report place how) ending is = absurd (cc)
 running_told job p Words ending is = absurd (cc)
+running_told job p (Starts ops first goals at) ending is = absurd (cc)
 running_told job p (Goal g) ending is = absurd (cc)
 running_told job p AtGoal ending is = absurd (cc)
 running_told job p Over ending is = absurd (cc)
 running_told job p Lost ending is = absurd (cc)
 
 -- The names that are told are those of the variables of the goal.
-pub names_told : (read : Option GoalWord) → AreNames (names_by read) (words_of read)
-names_told None = refl
-names_told (Some (Asks t names)) = refl
-names_told (Some (Faulty f)) = refl
+pub names_told : (read : List GoalWord) → AreNames (names_by read) (words_of read)
+names_told [] = refl
+names_told (Asks t names ∷ ws) = refl
+names_told (Faulty f ∷ ws) = refl

@@ -1,5 +1,5 @@
 //! The clauses of the file that are added.
-ghost use Rattle.std.specs.Prelude.{◌≡◌, ◌++◌, false, IsSome, Ok, Option, zero};
+ghost use Rattle.std.specs.Prelude.{◌≡◌, ◌++◌, false, IsSome, Ok, zero, List};
 ghost use Rattle.std.specs.List.{All};
 ghost use Rattle.pl_term.specs.Tree.{Chars, Tree};
 ghost use Rattle.pl_term.specs.Variables.{rename};
@@ -47,8 +47,8 @@ pub fn add_clause<W: World<Term = Stored>>(
     ensures holds { Holds (W.A.held atoms.old) (W.A.held atoms.new) }
     ensures refusals { W.A.refusals atoms.new ≡ W.A.refusals atoms.old ++ step_refusals result.1 }
     ensures told { IsLater (W.told world.old) (W.told world.new) }
-    ensures asked { (word : Option Chars) → Gains (MayIntern consult.now word (Clause clause place operators) (W.told world.old)) (W.A.asked atoms.old) (W.A.asked atoms.new) }
-    ensures narrows { (word : Option Chars) → Narrows word consult.now (Clause clause place operators) consult.now result.0 }
+    ensures asked { (words : List Chars) → Gains (MayIntern consult.now words (Clause clause place operators) (W.told world.old)) (W.A.asked atoms.old) (W.A.asked atoms.new) }
+    ensures narrows { (words : List Chars) → Narrows words consult.now (Clause clause place operators) consult.now result.0 }
 {
     match interned(alloc, &clause, atoms) {
         Ok(kept) => match add(kept, world, atoms) {
@@ -99,8 +99,8 @@ fn add<W: World<Term = Stored>>(
     }
 }
 
-/// The error term with which a clause that was to be added is refused, if it is, by the reply.
-fn refused_by(reply: Reply<Stored>) -> Option<Stored>
+/// The error term with which a call is refused, if it is, by the reply.
+pub(crate) fn refused_by(reply: Reply<Stored>) -> Option<Stored>
     requires { IsAddition reply }
     ensures { IsAdded reply result }
 {
@@ -131,7 +131,7 @@ fn go_on<A: Atoms>(
     ensures same { A.held atoms.new ≡ A.held atoms.old }
     ensures refusals { A.refusals atoms.new ≡ A.refusals atoms.old }
     ensures asked { A.asked atoms.new ≡ A.asked atoms.old }
-    ensures narrows { (word : Option Chars) (t : Tree) → Narrows word consult.now (Clause t place operators.now) consult.now result.0 }
+    ensures narrows { (words : List Chars) (t : Tree) → Narrows words consult.now (Clause t place operators.now) consult.now result.0 }
 {
     match refused {
         None => (Stage::Items, Step::Goes),
@@ -159,7 +159,7 @@ fn refuse<A: Atoms>(
     ensures same { A.held atoms.new ≡ A.held atoms.old }
     ensures refusals { A.refusals atoms.new ≡ A.refusals atoms.old }
     ensures asked { A.asked atoms.new ≡ A.asked atoms.old }
-    ensures narrows { (word : Option Chars) (t : Tree) → Narrows word consult.now (Clause t place operators.now) consult.now result.0 }
+    ensures narrows { (words : List Chars) (t : Tree) → Narrows words consult.now (Clause t place operators.now) consult.now result.0 }
 {
     match with_texts(alloc, error, atoms) {
         Ok(error) => match consult.refuse(alloc, place, error, operators, text) {

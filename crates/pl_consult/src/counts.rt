@@ -2,21 +2,11 @@
 ghost use Rattle.std.specs.Prelude.{◌≡◌, ◌+◌, OnOk};
 ghost use Rattle.term_store.specs.NumberedNames.{names_of};
 ghost use Rattle.pl_consult.specs.declared.stage.Stage.{Stage as StageOf};
-ghost use Rattle.pl_consult.specs.Steps.{IsAfter, IsCounted, moves_at, step_names, step_refusals};
+ghost use Rattle.pl_consult.specs.Steps.{IsAfter, IsCounted, step_names, step_refusals};
 
-use crate::stage::{Stage, Step};
+use crate::stage::Step;
 use pl_term::Memory;
 use script_api::Next;
-
-/// How many moves of the execution a step from this stage makes, where it makes any.
-pub(crate) fn moves_at(stage: &Stage) -> u64
-    ensures { result ≡ moves_at stage.now }
-{
-    match stage {
-        Stage::Words => 2,
-        _ => 1,
-    }
-}
 
 /// Counts so many more moves. A count of 64 bits that would pass its end is told as `Memory`.
 pub(crate) fn count(moves: &mut u64, more: u64) -> Result<(), Memory>
@@ -31,20 +21,19 @@ pub(crate) fn count(moves: &mut u64, more: u64) -> Result<(), Memory>
     }
 }
 
-/// Counts the moves of a step from a stage at which one makes so many. Where they cannot be counted, there is no memory
-/// for the step.
-pub(crate) fn counted(step: Step, made: u64, moves: &mut u64) -> Step
-    ensures counted { IsCounted made step result moves.old moves.new }
+/// Counts the move of a step, if it makes one. Where it cannot be counted, there is no memory for the step.
+pub(crate) fn counted(step: Step, moves: &mut u64) -> Step
+    ensures counted { IsCounted step result moves.old moves.new }
     ensures refusals { step_refusals result ≡ step_refusals step }
     ensures names { step_names names_of result ≡ step_names names_of step }
     ensures stage { (then : StageOf) → IsAfter step then → IsAfter result then }
 {
     match step {
-        Step::Goes => match count(moves, made) {
+        Step::Goes => match count(moves, 1) {
             Ok(()) => Step::Goes,
             Err(_) => Step::Gives(Next::Memory),
         },
-        Step::Gives(Next::Done { halted }) => match count(moves, made) {
+        Step::Gives(Next::Done { halted }) => match count(moves, 1) {
             Ok(()) => Step::Gives(Next::Done { halted }),
             Err(_) => Step::Gives(Next::Memory),
         },

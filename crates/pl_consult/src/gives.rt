@@ -1,5 +1,5 @@
 //! The goals of directives, of initialization/1 and of the command.
-ghost use Rattle.std.specs.Prelude.{◌≡◌, ◌++◌, ℕ, zero, List, Option, IsSome, IsTrue};
+ghost use Rattle.std.specs.Prelude.{◌≡◌, ◌++◌, ℕ, zero, List, IsSome, IsTrue};
 ghost use Rattle.std.specs.List.{All, Contains};
 ghost use Rattle.pl_term.specs.Tree.{Chars, Tree};
 ghost use Rattle.pl_term.specs.Variables.{rename};
@@ -37,7 +37,7 @@ pub fn give_directive<A: Atoms>(
     ensures holds { Holds (A.held atoms.old) (A.held atoms.new) }
     ensures refusals { A.refusals atoms.new ≡ A.refusals atoms.old ++ step_refusals result.1 }
     ensures asked { Gains (Contains (texts_in goal)) (A.asked atoms.old) (A.asked atoms.new) }
-    ensures narrows { (word : Option Chars) (c : File) → Narrows word c (Directive goal place) c result.0 }
+    ensures narrows { (words : List Chars) (c : File) → Narrows words c (Directive goal place) c result.0 }
 {
     if is_numbered(alloc, &goal) {
         return give(alloc, goal, place, atoms);
@@ -55,7 +55,7 @@ fn give<A: Atoms>(alloc: Global, goal: Flat, place: usize, atoms: &mut A) -> (St
     ensures holds { Holds (A.held atoms.old) (A.held atoms.new) }
     ensures refusals { A.refusals atoms.new ≡ A.refusals atoms.old ++ step_refusals result.1 }
     ensures asked { Gains (Contains (texts_in goal)) (A.asked atoms.old) (A.asked atoms.new) }
-    ensures narrows { (word : Option Chars) (c : File) → Narrows word c (Directive goal place) c result.0 }
+    ensures narrows { (words : List Chars) (c : File) → Narrows words c (Directive goal place) c result.0 }
 {
     match interned(alloc, &goal, atoms) {
         Ok(kept) => (
@@ -78,7 +78,7 @@ pub fn give_goal<A: Atoms>(alloc: Global, goal: Flat, atoms: &mut A) -> (Stage, 
     ensures holds { Holds (A.held atoms.old) (A.held atoms.new) }
     ensures refusals { A.refusals atoms.new ≡ A.refusals atoms.old ++ step_refusals result.1 }
     ensures asked { Gains (Contains (texts_in goal)) (A.asked atoms.old) (A.asked atoms.new) }
-    ensures narrows { (word : Option Chars) (c : File) → Narrows word c (Goal goal) c result.0 }
+    ensures narrows { (words : List Chars) (c : File) → Narrows words c (Goal goal) c result.0 }
 {
     if is_numbered(alloc, &goal) {
         return give_numbered_goal(alloc, goal, atoms);
@@ -96,7 +96,7 @@ fn give_numbered_goal<A: Atoms>(alloc: Global, goal: Flat, atoms: &mut A) -> (St
     ensures holds { Holds (A.held atoms.old) (A.held atoms.new) }
     ensures refusals { A.refusals atoms.new ≡ A.refusals atoms.old ++ step_refusals result.1 }
     ensures asked { Gains (Contains (texts_in goal)) (A.asked atoms.old) (A.asked atoms.new) }
-    ensures narrows { (word : Option Chars) (c : File) → Narrows word c (Goal goal) c result.0 }
+    ensures narrows { (words : List Chars) (c : File) → Narrows words c (Goal goal) c result.0 }
 {
     match interned(alloc, &goal, atoms) {
         Ok(kept) => (
@@ -112,7 +112,7 @@ fn give_numbered_goal<A: Atoms>(alloc: Global, goal: Flat, atoms: &mut A) -> (St
 
 /// Whether it is found that the variables of the term are numbered from 0 in the order in which they first occur. Those of
 /// each item are; where there is no memory to see it, it is not found.
-fn is_numbered(alloc: Global, t: &Flat) -> bool
+pub(crate) fn is_numbered(alloc: Global, t: &Flat) -> bool
     ensures { IsTrue result → rename zero t.now ≡ t.now }
 {
     let _count = t.variable_count();
@@ -129,7 +129,7 @@ pub fn next_initialization(alloc: Global, consult: &mut Consult) -> (Stage, Step
     ensures stage { IsAfter result.1 result.0 }
     ensures file { consult.new.name ≡ consult.old.name }
     ensures quiet { IsQuiet result.1 }
-    ensures narrows { (word : Option Chars) → Narrows word consult.old Items consult.new result.0 }
+    ensures narrows { (words : List Chars) → Narrows words consult.old Items consult.new result.0 }
 {
     match consult.next_goal(alloc) {
         Ok(next) => (stage_for(next), Step::Goes),

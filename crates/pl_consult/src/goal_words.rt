@@ -1,34 +1,20 @@
-//! The word of the command's goal, which is read with an end token added and has to be one term up to it.
-ghost use Rattle.std.specs.Prelude.{◌≡◌, ℕ, [], ◌∷◌, Some, IfOk};
-ghost use Rattle.pl_term.specs.Tree.{Chars};
-ghost use Rattle.pl_model.specs.declared.grammar.Quotes.{Quotes};
-ghost use Rattle.pl_model.specs.OperatorTable.{OperatorTable};
+//! The words of the command's goals, each of which is read with an end token added and has to be one term up to it.
+ghost use Rattle.std.specs.Prelude.{◌≡◌, ◌++◌, ℕ, map, IfOk, OnOk};
 ghost use Rattle.pl_model.specs.Grammar.{clause};
-ghost use Rattle.run_model.specs.Execution.{goal_text as text_of_goal, word_of_item, word_read};
+ghost use Rattle.run_model.specs.Execution.{further_goals as goals_behind, goal_text as text_of_goal, word_of_item, word_read};
 ghost use Rattle.prolog_reader.specs.Names.{pairs};
-ghost use Rattle.pl_consult.specs.declared.consult.Consult.{Consult};
-ghost use Rattle.pl_consult.specs.declared.stage.Stage.TheVariants.{Words as AtWords};
-ghost use Rattle.pl_consult.specs.ItemTexts.{Narrows};
-ghost use Rattle.pl_consult.specs.GoalWords.{HasBegun, IsFault, names_in, word_of};
+ghost use Rattle.pl_consult.specs.Steps.{IsFirst, IsGoalOf};
+ghost use Rattle.pl_consult.specs.GoalWords.{AreReadSo, goal_of, names_by, names_in, word_of, words_of};
 
-use crate::stage::{Stage, Step};
 use op_table::OpTable;
 use pl_model::grammar::Quotes;
 use pl_model::syntax::{SyntaxFault, SyntaxKind};
 use pl_term::{Flat, Memory, Text};
 use prolog_reader::{NamedVariable, Read, read_term};
-use script_api::Next;
 use std::alloc::Global;
 use std::convert::AsStr;
-
-/// A goal word as it was read.
-#[derive(Debug, Drop)]
-pub enum GoalWord {
-    /// A goal, its variables numbered from 0 in order of first occurrence, and its named variables with their numbers.
-    Goal { goal: Flat, names: Vec<(Text, u64)> },
-    /// The first fault.
-    Faulty(SyntaxFault),
-}
+use std::sync::Arc;
+use word_board::GoalWord;
 
 /// The word as it is read under these operators, and with texts in double quotes as `quotes` says. The only error is out of
 /// memory.
@@ -111,27 +97,112 @@ pub(crate) fn names_in(word: &GoalWord) -> &[(Text, u64)]
     }
 }
 
-/// The fault of the word.
-pub(crate) fn fault_in(word: &GoalWord) -> Option<SyntaxFault>
-    ensures { IsFault result (word_of word.now ∷ []) }
+/// The names of the variables of the first goal of the command.
+pub(crate) fn first_names(words: &[GoalWord]) -> &[(Text, u64)]
+    ensures { result.now ≡ names_by words.now }
 {
-    match word {
-        GoalWord::Goal { .. } => None,
-        GoalWord::Faulty(fault) => Some(*fault),
+    match words.first() {
+        None => &[],
+        Some(word) => names_in(word),
     }
 }
 
-/// What is done after the reading of this word: its goal is to be given, or the script is over.
-pub(crate) fn begun_by(alloc: Global, word: &GoalWord) -> (Stage, Step)
-    ensures begins { HasBegun word.now result.0 result.1 }
-    ensures narrows { (w : Chars) (c : Consult) (ops : OperatorTable) (quotes : Quotes) → word_of word.now ≡ word_read ops quotes w
-        → Narrows (Some w) c AtWords c result.0 }
+/// The words of the goals as they were read, with the goal of the first one, if it is one, and the further goals, each with
+/// its number.
+#[derive(Drop)]
+pub struct WordsRead {
+    pub read: Vec<GoalWord>,
+    pub first: Option<Flat>,
+    pub goals: Vec<(u64, Flat)>,
+}
+
+/// The words as they are read under these operators, and with texts in double quotes as `quotes` says. The only error is out
+/// of memory.
+pub(crate) fn words_under(
+    alloc: Global,
+    words: &[Text],
+    operators: &OpTable,
+    quotes: Quotes,
+) -> Result<WordsRead, Memory>
+    ensures { IfOk result (AreReadSo operators.now quotes words.now) }
+{
+    let read = read_words(alloc, words, operators, quotes)?;
+    let all = read.as_slice();
+    let first = first_goal(alloc, all)?;
+    let goals = further_goals(alloc, all)?;
+    Ok(WordsRead { read, first, goals })
+}
+
+/// All the words as they are read.
+fn read_words(
+    alloc: Global,
+    words: &[Text],
+    operators: &OpTable,
+    quotes: Quotes,
+) -> Result<Vec<GoalWord>, Memory>
+    ensures { IfOk result (λ v. words_of v.items ≡ map (word_read operators.now quotes) words.now) }
+{
+    let mut all = Vec::new(alloc);
+    for word in words {
+        all.push(read_word(alloc, word, operators, quotes)?)?;
+    }
+    Ok(all)
+}
+
+/// The goal that the first word is, if it is one.
+fn first_goal(alloc: Global, words: &[GoalWord]) -> Result<Option<Flat>, Memory>
+    ensures { IfOk result (λ o. IsFirst o (words_of words.now)) }
+{
+    match words.first() {
+        None => Ok(None),
+        Some(word) => goal_in(alloc, word),
+    }
+}
+
+/// The goal that a word is, if it is one.
+fn goal_in(alloc: Global, word: &GoalWord) -> Result<Option<Flat>, Memory>
+    ensures { IfOk result (λ o. IsGoalOf o (word_of word.now)) }
 {
     match word {
-        GoalWord::Goal { goal, .. } => match goal.copy(alloc) {
-            Ok(goal) => (Stage::Goal { goal }, Step::Goes),
-            Err(_) => (Stage::Words, Step::Gives(Next::Memory)),
-        },
-        GoalWord::Faulty(_) => (Stage::Over, Step::Gives(Next::Done { halted: None })),
+        GoalWord::Goal { goal, .. } => Ok(Some(goal.copy(alloc)?)),
+        GoalWord::Faulty(_) => Ok(None),
     }
+}
+
+/// The goals of the words after the first one, each with the number of its word.
+fn further_goals(alloc: Global, words: &[GoalWord]) -> Result<Vec<(u64, Flat)>, Memory>
+    ensures { IfOk result (λ v. v.items ≡ goals_behind (words_of words.now)) }
+{
+    let mut goals = Vec::new(alloc);
+    for i in 1..words.len() {
+        put_goal(alloc, &mut goals, i as u64 + 1, &words[i])?;
+    }
+    Ok(goals)
+}
+
+/// Puts the goal that the word with this number is, if it is one.
+fn put_goal(
+    alloc: Global,
+    goals: &mut Vec<(u64, Flat)>,
+    number: u64,
+    word: &GoalWord,
+) -> Result<(), Memory>
+    ensures { OnOk result (goals.new.items ≡ goals.old.items ++ goal_of number (word_of word.now)) }
+{
+    match word {
+        GoalWord::Goal { goal, .. } => {
+            goals.push((number, goal.copy(alloc)?))?;
+            Ok(())
+        }
+        GoalWord::Faulty(_) => Ok(()),
+    }
+}
+
+/// A goal of the command whose engine could not be started, with the ball for it, which is written under the operators of
+/// the words.
+#[derive(Drop)]
+pub struct RefusedGoal {
+    pub number: u64,
+    pub ball: Flat,
+    pub operators: Arc<OpTable>,
 }

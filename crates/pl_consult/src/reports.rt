@@ -1,5 +1,5 @@
 //! The ends of directives.
-ghost use Rattle.std.specs.Prelude.{◌≡◌, ◌++◌, false, IsSome, Option};
+ghost use Rattle.std.specs.Prelude.{◌≡◌, ◌++◌, false, IsSome, List};
 ghost use Rattle.std.specs.List.{All};
 ghost use Rattle.pl_term.specs.Tree.{Chars, Tree};
 ghost use Rattle.pl_model.specs.declared.grammar.Quotes.{Quotes};
@@ -42,7 +42,7 @@ pub fn report<W: World<Term = Stored>>(
     ensures refusals { W.A.refusals atoms.new ≡ W.A.refusals atoms.old ++ step_refusals result.1 }
     ensures told { IsLater (W.told world.old) (W.told world.new) }
     ensures asked { W.A.asked atoms.new ≡ W.A.asked atoms.old }
-    ensures narrows { (word : Option Chars) → Narrows word consult.now (Report place how) consult.now result.0 }
+    ensures narrows { (words : List Chars) → Narrows words consult.now (Report place how) consult.now result.0 }
 {
     match look_at(world, atoms) {
         Err(unserved) => (Stage::Report { place, how }, Step::Gives(next_by(unserved))),
@@ -63,7 +63,7 @@ fn report_under(
         → Moved term consult.now (Report place how) t text.old.items result.1 consult.now result.0 u text.new.items }
     ensures stage { IsAfter result.1 result.0 }
     ensures quiet { IsQuiet result.1 }
-    ensures narrows { (word : Option Chars) → Narrows word consult.now (Report place how) consult.now result.0 }
+    ensures narrows { (words : List Chars) → Narrows words consult.now (Report place how) consult.now result.0 }
 {
     let halted = status(&how);
     match consult.report(alloc, place, &how, operators, text) {

@@ -38,7 +38,15 @@ pub enum Stage {
     },
     /// The goal words are to be read.
     Words,
-    /// The goal of the command is to be given.
+    /// These goals are to be started as engines of their own, each with its number, from the place `at` on; the words were
+    /// read under these operators. Then the first goal is to be given, if there is one.
+    Starts {
+        operators: Arc<OpTable>,
+        first: Option<Flat>,
+        goals: Vec<(u64, Flat)>,
+        at: usize,
+    },
+    /// The first goal of the command is to be given.
     Goal {
         goal: Flat,
     },
@@ -61,6 +69,7 @@ pub(crate) fn can_step(stage: &Stage) -> bool
         Stage::AtDirective { .. } => false,
         Stage::Report { .. } => true,
         Stage::Words => true,
+        Stage::Starts { .. } => true,
         Stage::Goal { .. } => true,
         Stage::AtGoal => false,
         Stage::Over => false,
@@ -79,6 +88,7 @@ pub(crate) fn directive_at(stage: &Stage) -> Option<usize>
         Stage::AtDirective { place } => Some(*place),
         Stage::Report { .. } => None,
         Stage::Words => None,
+        Stage::Starts { .. } => None,
         Stage::Goal { .. } => None,
         Stage::AtGoal => None,
         Stage::Over => None,

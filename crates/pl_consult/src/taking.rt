@@ -1,5 +1,5 @@
 //! The steps by which the items of the file are taken up.
-ghost use Rattle.std.specs.Prelude.{◌≡◌, ◌++◌, false, IsSome, Option};
+ghost use Rattle.std.specs.Prelude.{◌≡◌, ◌++◌, false, IsSome, List};
 ghost use Rattle.std.specs.List.{All};
 ghost use Rattle.pl_term.specs.Tree.{Chars};
 ghost use Rattle.term_store.specs.NumberedNames.{names_of, term_by};
@@ -42,7 +42,7 @@ pub fn take_item<W: World<Term = Stored>>(
     ensures refusals { W.A.refusals atoms.new ≡ W.A.refusals atoms.old ++ step_refusals result.1 }
     ensures told { IsLater (W.told world.old) (W.told world.new) }
     ensures asked { W.A.asked atoms.new ≡ W.A.asked atoms.old }
-    ensures narrows { (word : Option Chars) → Narrows word consult.old Items consult.new result.0 }
+    ensures narrows { (words : List Chars) → Narrows words consult.old Items consult.new result.0 }
 {
     match look_at(world, atoms) {
         Err(unserved) => (Stage::Items, Step::Gives(next_by(unserved))),

@@ -4,3 +4,4 @@ pub mod RunLemmas
 pub mod OutcomeFacts
 pub mod ScriptRunLaws
 pub mod StoodLaws
+pub mod OnlyWord

@@ -29,7 +29,7 @@ use Rattle.iso_engine.specs.Standing.{state_now}
 use Rattle.iso_engine.specs.Views.{view_of}
 use Rattle.pl_consult.specs.declared.file_script.FileScript.{FileScript}
 use Rattle.pl_consult.specs.FileScripts.{IsFresh, Plays, execution_of, is_over as is_done, part_in}
-use Rattle.pl_consult.specs.GoalWords.{names_by}
+use Rattle.pl_consult.specs.GoalWords.{names_by, read_of}
 use Rattle.pl_consult.specs.TextLaws.{names_told}
 use Rattle.engine_run.specs.declared.runner.Lines.{Lines}
 use Rattle.engine_run.specs.declared.runner.Lines.TheVariants.{Solutions}
@@ -105,7 +105,7 @@ gone_nowhere m t r job x h = (x, by_same job x x t r.moves refl, h)
 abbrev pub TurnsTo : Names → Told → Runner FileScript → Names → Told → Runner FileScript → Turned → Type 0
 TurnsTo m t old n u new r =
     (job : Job) (x : Execution) → RunnerStands m t old job x
-    → CameTo executed part_in (λ text s y. Plays s y) (λ s. s.faulty) (λ s. s.consult.name) (λ s. names_by s.read) job x t old n u new r
+    → CameTo executed part_in (λ text s y. Plays s y) (λ s. s.faulty) (λ s. s.consult.name) (λ s. names_by (read_of s.read)) job x t old n u new r
 
 -- One more turn.
 pub gone_on : (m n k : Names) (t u v : Told) (old mid new : Runner FileScript) (r : Turned) → HasGone m t old n u mid → TurnsTo n u mid k v new r → HasGone m t old k v new
@@ -129,7 +129,7 @@ goes_last m n k t u v old mid new r gone turn job x h =
 -- Where it stops
 
 abbrev pub with_lines : Lines → FileScript → List Output → List ℕ
-with_lines l s os = encode_utf8_all (put_by l (names_by s.read) [] os)
+with_lines l s os = encode_utf8_all (put_by l (names_by (read_of s.read)) [] os)
 
 one_over : (e f : Ending) → over e ≡ over f → e ≡ f
 one_over e f is = cc
@@ -141,7 +141,7 @@ over_so : (n : Names) (u : Told) (job : Job) (name : Chars) (x : Execution) (t :
     → new.script.consult.name ≡ name
     → ComesBy job x t before y u new.moves
     → (h : RunnerStands n u new job y)
-    → StageStands executed part_in n u new.script job h.consulted new.lines (names_by new.script.read) new.output.items g y
+    → StageStands executed part_in n u new.script job h.consulted new.lines (names_by (read_of new.script.read)) new.output.items g y
     → (ending : Ending) × EndsSo ending how × (y.activity ≡ over ending)
     → IsScriptRun job name x t before (Ended how) new.script (λ s. s.faulty) u new.moves new.text.items new.output.items
 over_so n u job name x t before new how y stages.Asks yet lines named comes h st answer = absurd (true≢false (sym yet))
@@ -151,18 +151,18 @@ over_so n u job name x t before new how y stages.Over yet lines named comes h st
     record {
       execution = y;
       lines = h.consulted;
-      names = names_by new.script.read;
+      names = names_by (read_of new.script.read);
       comes = comes;
       stands = (
         record { ending = st.ending; output = st.written; is = st.is },
         subst (λ (e : Ending). EndsSo e how) (one_over answer.0 st.ending (sym answer.2 ∙ ap (λ (z : Execution). z.activity) st.is)) answer.1,
       );
-      named = names_told new.script.read;
+      named = names_told (read_of new.script.read);
       text_is = subst (λ (c : Chars). IsText c new.script.faulty y new.text.items) named h.text;
       output_is =
           st.out_is
           ∙ ap (λ (l : Lines). with_lines l new.script st.written) lines
-          ∙ ap (λ (z : Execution). encode_utf8_all (with_output (names_by new.script.read) [] (output_of z))) (sym st.is);
+          ∙ ap (λ (z : Execution). encode_utf8_all (with_output (names_by (read_of new.script.read)) [] (output_of z))) (sym st.is);
     }
 
 pub ended_so : (m n : Names) (t u : Told) (job : Job) (name : Chars) (x : Execution) (old new : Runner FileScript) (how : How Tree)
@@ -189,7 +189,7 @@ waits_at : (n : Names) (u : Told) (job : Job) (name : Chars) (x : Execution) (t 
     → IsWaiting n on stop
     → ComesBy job x t before y u new.moves
     → (h : RunnerStands n u new job y)
-    → SearchStands executed part_in n u new.script job h.consulted new.lines (names_by new.script.read) new.output.items e y
+    → SearchStands executed part_in n u new.script job h.consulted new.lines (names_by (read_of new.script.read)) new.output.items e y
     → WaitsOn u job (on_by (text_of n) on) y
     → IsScriptRun job name x t before stop new.script (λ s. s.faulty) u new.moves new.text.items new.output.items
 waits_at n u job name x t before new on e (Ended how) y lines named is comes h st waits = absurd is
@@ -199,14 +199,14 @@ waits_at n u job name x t before new on e (Waits z) y lines named is comes h st 
     in record {
       execution = y;
       lines = h.consulted;
-      names = names_by new.script.read;
+      names = names_by (read_of new.script.read);
       comes = comes;
       stands = (record { item = st.item; state = s; at_hand = st.at_hand; is = st.is }, subst (λ o. WaitsOn u job o y) (sym is) waits);
-      named = names_told new.script.read;
+      named = names_told (read_of new.script.read);
       text_is = subst (λ (c : Chars). IsText c new.script.faulty y new.text.items) named h.text;
       output_is =
-          out_there new.lines (names_by new.script.read) st.item st.written new.output.items (execution_of new.script job h.consulted) s lines refl refl st.out_is
-          ∙ ap (λ (v : Execution). encode_utf8_all (with_output (names_by new.script.read) [] (output_of v))) (sym st.is);
+          out_there new.lines (names_by (read_of new.script.read)) st.item st.written new.output.items (execution_of new.script job h.consulted) s lines refl refl st.out_is
+          ∙ ap (λ (v : Execution). encode_utf8_all (with_output (names_by (read_of new.script.read)) [] (output_of v))) (sym st.is);
     }
 
 waits_so : (n : Names) (u : Told) (job : Job) (name : Chars) (x : Execution) (t : Told) (before : ℕ) (new : Runner FileScript) (on : On) (stop : Stop) (y : Execution) (g : Stage)
@@ -216,7 +216,7 @@ waits_so : (n : Names) (u : Told) (job : Job) (name : Chars) (x : Execution) (t 
     → IsWaiting n on stop
     → ComesBy job x t before y u new.moves
     → (h : RunnerStands n u new job y)
-    → StageStands executed part_in n u new.script job h.consulted new.lines (names_by new.script.read) new.output.items g y
+    → StageStands executed part_in n u new.script job h.consulted new.lines (names_by (read_of new.script.read)) new.output.items g y
     → WaitsOn u job (on_by (text_of n) on) y
     → IsScriptRun job name x t before stop new.script (λ s. s.faulty) u new.moves new.text.items new.output.items
 waits_so n u job name x t before new on stop y stages.Asks search lines named is comes h st waits = absurd (true≢false (sym search))
@@ -283,7 +283,7 @@ begins_so l s bytes r m t job cs x b limits plays at text =
       consulted = cs;
       stands =
           subst
-          (λ (g : Stage). StageStands executed part_in m t r.script job cs r.lines (names_by r.script.read) r.output.items g x)
+          (λ (g : Stage). StageStands executed part_in m t r.script job cs r.lines (names_by (read_of r.script.read)) r.output.items g x)
           (sym b.stage)
           (at ∙ ap (λ (z : FileScript). execution_of z job cs) (sym b.script), b.output);
       text =

@@ -20,7 +20,6 @@ use Rattle.script_api.specs.Scripts.{AreNames, written_at}
 use Rattle.script_api.specs.Scripts as scripts
 use Rattle.pl_consult.specs.declared.file_script.FileScript.{FileScript}
 use Rattle.pl_consult.specs.FileScripts.{Begins, Plays, execution_of, part_in}
-use Rattle.pl_consult.specs.GoalWords.{given_words}
 use Rattle.engine_run.specs.Items.{IsText}
 use Rattle.run_model.specs.Ends.{awaited_by, is_fault, some_fault}
 use Rattle.run_model.specs.CommandLine.{program_of}
@@ -98,6 +97,7 @@ pub record Keeps (p : Program) (o : FirstEngine) (end : Option (How Tree)) (s : 
   pub plain : AllPlain 1 u.history
   pub operators : arc_value o.operators ≡ (state_at u.goals u.history (length u.history)).operators
   pub words : (job : Job) (cs : List Consulted) (names : List (Chars × ℕ)) → AreNames names (execution_of s job cs).words → AreRead o.word names (execution_of s job cs).words
+  pub refused : (job : Job) (cs : List Consulted) → (execution_of s job cs).refusals ≡ []
 
 told_of_it : (p : Program) (o : FirstEngine) (end : Option (How Tree)) (s : FileScript) (kept : FileScript → Bool) (u : Told) (moves : ℕ) (text output : List ℕ) (x y : Execution)
     → Keeps p o end s kept u moves text output
@@ -168,7 +168,7 @@ stood_ended p name o how stop s kept u moves bytes output is k played =
           (λ (ws : List WordOf). AreRead o.word h.names ws)
           (ap (λ (z : Execution). z.words) (sym e.is))
           (k.words job h.lines h.names h.named);
-      refusals = ap (λ (z : Execution). z.refusals) e.is;
+      refusals = ap (λ (z : Execution). z.refusals) e.is ∙ k.refused job h.lines;
       faulty =
           k.faulty
           ∙ sym h.text_is.1
@@ -224,7 +224,7 @@ stood_waiting p name o on stop s kept u moves bytes more output is k awaited lin
           (λ (ws : List WordOf). AreRead o.word h.names ws)
           (searched_words x e.item e.state ∙ ap (λ (z : Execution). z.words) (sym e.is))
           (k.words job h.lines h.names h.named);
-      refusals = ap (λ (z : Execution). z.refusals) e.is ∙ searched_refusals x e.item e.state;
+      refusals = ap (λ (z : Execution). z.refusals) e.is ∙ searched_refusals x e.item e.state ∙ k.refused job h.lines;
       faulty =
           k.faulty
           ∙ sym h.text_is.1
@@ -243,10 +243,6 @@ stood_waiting p name o on stop s kept u moves bytes more output is k awaited lin
     searched_refusals y (of_directive place rest) r = refl
 
 -- The beginning.
-same_words : (g : Option Chars) → words_in g ≡ given_words g
-same_words None = refl
-same_words (Some w) = refl
-
 by_start : (b : Bool) → (let x : Execution = (if b then record (at_activity initializing) { consulted = too_large ∷ [] } else at_activity (taking zero)) in written_at x ≡ x.consulted)
 by_start true = refl
 by_start false = refl
@@ -254,10 +250,10 @@ by_start false = refl
 start_written : (bytes : List ℕ) (words : List Chars) → written_at (first_execution (consults bytes words)) ≡ (first_execution (consults bytes words)).consulted
 start_written bytes words = by_start (nat_lt most_bytes (length bytes))
 
-pub first_played : (c : Command) (all : List ℕ) (s r : FileScript) (bytes : List ℕ) (goal : Option Chars) (t u : Told) (moves : ℕ) (stop : Stop) (opening lines output : List ℕ)
+pub first_played : (c : Command) (all : List ℕ) (s r : FileScript) (bytes : List ℕ) (words : List Chars) (t u : Told) (moves : ℕ) (stop : Stop) (opening lines output : List ℕ)
     → bytes ≡ take (suc most_bytes) all
-    → goal ≡ c.goal
-    → ((job : Job) → job.script ≡ consults bytes (given_words goal) → Begins s job c.file opening)
+    → words ≡ words_in c.goal
+    → ((job : Job) → job.script ≡ consults bytes words → Begins s job c.file opening)
     → s.consult.name ≡ c.file
     → t ≡ start_of (program_of (told_command c) all)
     → ((job : Job) (cs : List Consulted) (x : Execution)
@@ -279,12 +275,12 @@ pub first_played : (c : Command) (all : List ℕ) (s r : FileScript) (bytes : Li
     moves
     lines
     output
-first_played c all s r bytes goal t u moves stop opening lines output read same begins name-is told plays =
+first_played c all s r bytes words t u moves stop opening lines output read same begins name-is told plays =
     let p : Program = program_of (told_command c) all in
     let job : Job = main_job p in
-    let script : job.script ≡ consults bytes (given_words goal) =
+    let script : job.script ≡ consults bytes words =
     ap (λ (b : List ℕ). consults b p.words) (sym read)
-    ∙ ap (consults bytes) (same_words c.goal ∙ ap given_words (sym same)) in
+    ∙ ap (consults bytes) (sym same) in
     let b = begins job script in
     let written : written_at (at_start job) ≡ (at_start job).consulted = start_written p.bytes p.words in
     subst

@@ -18,7 +18,7 @@ use Rattle.script_api.specs.Scripts.{AreNames}
 use Rattle.pl_model.specs.Resolution.{State}
 use Rattle.pl_consult.specs.declared.file_script.FileScript.{FileScript}
 use Rattle.pl_consult.specs.FileScripts.{Plays, execution_of, part_in}
-use Rattle.pl_consult.specs.GoalWords.{names_by}
+use Rattle.pl_consult.specs.GoalWords.{names_by, read_of}
 use Rattle.engine_run.specs.Items.{IsText}
 use Rattle.engine_run.specs.Ran.{WaitsOn}
 use Rattle.engine_run.specs.Runners.{StandsFor}
@@ -100,7 +100,7 @@ IsStopOf n unfinished.Memory stop = ⊥
 -- The engine of the first script stands for this execution. The script does not depend on the texts of atoms.
 abbrev pub RunnerStands : Names → Told → Runner FileScript → Job → Execution → Type 0
 RunnerStands m t r job x =
-    StandsFor (λ text s j cs. execution_of s j cs) part_in (λ text s y. Plays s y) (λ s. s.faulty) (λ s. s.consult.name) (λ s. names_by s.read) m t r job x
+    StandsFor (λ text s j cs. execution_of s j cs) part_in (λ text s y. Plays s y) (λ s. s.faulty) (λ s. s.consult.name) (λ s. names_by (read_of s.read)) m t r job x
 
 -- It has made no move, and so much was written of its file.
 pub record IsAtBeginning (l : Limits) (s : FileScript) (text : List ℕ) (r : Runner FileScript) : Type 0 where

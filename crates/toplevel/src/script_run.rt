@@ -52,12 +52,12 @@ fn budgets_of(limits: &Limits) -> Budgets
 const INFERENCES: u32 = 1000;
 
 /// The engine that runs a script from its beginning, where so much was written of the file.
-pub(crate) fn runner_of(
+pub(crate) fn runner_of<'a>(
     alloc: Global,
     limits: &Limits,
-    script: FileScript,
+    script: FileScript<'a>,
     text: Vec<u8>,
-) -> Runner<FileScript>
+) -> Runner<FileScript<'a>>
     ensures { IsAtBeginning limits.now script text.items result }
 {
     Runner::new(
@@ -72,21 +72,21 @@ pub(crate) fn runner_of(
 
 /// Runs an engine, a turn after the other, to where it does not go on. The atoms refuse nothing. The only error is out of
 /// memory.
-pub(crate) fn run_script<W: World<Term = Stored>>(
+pub(crate) fn run_script<'a, W: World<Term = Stored>>(
     alloc: Global,
-    runner: &mut Runner<FileScript>,
+    runner: &mut Runner<FileScript<'a>>,
     world: &mut W,
     atoms: &mut W::A,
 ) -> Result<Stop, Memory>
     requires runs { has_ended (W.told world.old).engine (W.told world.old).history ≡ false }
-    requires ready { IsBetween part_in ⟦<FileScript as Script>⟧.over ⟦<FileScript as Script>⟧.names (W.A.held atoms.old) (W.told world.old) runner.old }
+    requires ready { IsBetween part_in ⟦<FileScript<'a> as Script>⟧.over ⟦<FileScript<'a> as Script>⟧.names (W.A.held atoms.old) (W.told world.old) runner.old }
     requires going { is_over runner.old.stage ≡ false }
     requires lines { runner.old.lines ≡ Solutions }
     requires plain { (a : W.A) → W.A.refusals a ≡ [] }
     ensures { (job : Job) (x : Execution)
         → RunnerStands (W.A.held atoms.old) (W.told world.old) runner.old job x
-        → IfOk result (λ stop. IsScriptRun job (⟦<FileScript as Script>⟧.name runner.old.script) x (W.told world.old) runner.old.moves stop
-        runner.new.script ⟦<FileScript as Script>⟧.kept (W.told world.new) runner.new.moves runner.new.text.items runner.new.output.items) }
+        → IfOk result (λ stop. IsScriptRun job (⟦<FileScript<'a> as Script>⟧.name runner.old.script) x (W.told world.old) runner.old.moves stop
+        runner.new.script ⟦<FileScript<'a> as Script>⟧.kept (W.told world.new) runner.new.moves runner.new.text.items runner.new.output.items) }
 {
     for _ in 0..u64::MAX {
         match runner.turn(world, atoms, INFERENCES) {

@@ -24,4 +24,4 @@ returns-in-Some-clause-moved g c term clause kept t u renamed added =
     (subst (λ (o : Option Tree). AddedSo kept (term_by (text_of (g.A.Atoms.held c.args.atoms.now))) (Ok o) t u) c.in-Some.is added)
 
 pub returns-in-None-clause-narrows : goal.returns-in-None-clause-narrows
-returns-in-None-clause-narrows g c word t = narrows_bare word c.args.consult.now (Clause t c.args.place c.args.operators.now) Items refl refl
+returns-in-None-clause-narrows g c word t = narrows_bare word c.args.consult.now (Clause t c.args.place c.args.operators.now) Items refl refl refl

@@ -25,12 +25,12 @@ returns-in-Err-clause-moved g c term clause kept t u renamed l =
 
 pub returns-in-Ok-refuse-clause-narrows : goal.returns-in-Ok-refuse-clause-narrows
 returns-in-Ok-refuse-clause-narrows g c word t =
-    narrows_bare word c.args.consult.now (Clause t c.args.place c.args.operators.now) Items refl refl
+    narrows_bare word c.args.consult.now (Clause t c.args.place c.args.operators.now) Items refl refl refl
 
 pub returns-in-Err-refuse-clause-narrows : goal.returns-in-Err-refuse-clause-narrows
 returns-in-Err-refuse-clause-narrows g c word t =
-    narrows_bare word c.args.consult.now (Clause t c.args.place c.args.operators.now) Items refl refl
+    narrows_bare word c.args.consult.now (Clause t c.args.place c.args.operators.now) Items refl refl refl
 
 pub returns-in-Err-clause-narrows : goal.returns-in-Err-clause-narrows
 returns-in-Err-clause-narrows g c word t =
-    narrows_bare word c.args.consult.now (Clause t c.args.place c.args.operators.now) Items refl refl
+    narrows_bare word c.args.consult.now (Clause t c.args.place c.args.operators.now) Items refl refl refl

@@ -19,7 +19,7 @@ pub returns-in-Err-clause-stage : goal.returns-in-Err-clause-stage
 returns-in-Err-clause-stage g c = stay_after c.stopped.result (Directive c.args.goal c.args.place) c.stopped.ensures.stays refl
 
 pub returns-in-Ok-clause-narrows : goal.returns-in-Ok-clause-narrows
-returns-in-Ok-clause-narrows g c word file = narrows_bare word file (Directive c.args.goal c.args.place) (AtDirective c.args.place) refl refl
+returns-in-Ok-clause-narrows g c word file = narrows_bare word file (Directive c.args.goal c.args.place) (AtDirective c.args.place) refl refl refl
 
 pub returns-in-Err-clause-narrows : goal.returns-in-Err-clause-narrows
 returns-in-Err-clause-narrows g c word file = narrows_same word file (Directive c.args.goal c.args.place)

@@ -19,7 +19,7 @@ pub returns-in-Err-clause-stage : goal.returns-in-Err-clause-stage
 returns-in-Err-clause-stage g c = stay_after c.stopped.result (Goal c.args.goal) c.stopped.ensures.stays refl
 
 pub returns-in-Ok-clause-narrows : goal.returns-in-Ok-clause-narrows
-returns-in-Ok-clause-narrows g c word file = narrows_bare word file (Goal c.args.goal) AtGoal refl refl
+returns-in-Ok-clause-narrows g c word file = narrows_bare word file (Goal c.args.goal) AtGoal refl refl refl
 
 pub returns-in-Err-clause-narrows : goal.returns-in-Err-clause-narrows
 returns-in-Err-clause-narrows g c word file = narrows_same word file (Goal c.args.goal)

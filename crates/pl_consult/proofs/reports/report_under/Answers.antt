@@ -23,10 +23,10 @@ returns-clause-moved c term t u quotes l =
     report_failed term c.args.consult.now c.args.place c.args.how c.args.operators.now quotes t u c.args.text.now.items c.report.new.out.items Items l
 
 pub returns-in-None-clause-narrows : goal.returns-in-None-clause-narrows
-returns-in-None-clause-narrows c word = narrows_bare word c.args.consult.now (Report c.args.place c.args.how) Items refl refl
+returns-in-None-clause-narrows c word = narrows_bare word c.args.consult.now (Report c.args.place c.args.how) Items refl refl refl
 
 pub returns-in-Ok-clause-narrows : goal.returns-in-Ok-clause-narrows
-returns-in-Ok-clause-narrows c word = narrows_bare word c.args.consult.now (Report c.args.place c.args.how) Over refl refl
+returns-in-Ok-clause-narrows c word = narrows_bare word c.args.consult.now (Report c.args.place c.args.how) Over refl refl refl
 
 pub returns-clause-narrows : goal.returns-clause-narrows
-returns-clause-narrows c word = narrows_bare word c.args.consult.now (Report c.args.place c.args.how) Items refl refl
+returns-clause-narrows c word = narrows_bare word c.args.consult.now (Report c.args.place c.args.how) Items refl refl refl

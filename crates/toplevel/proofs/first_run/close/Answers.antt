@@ -30,6 +30,7 @@ returns-in_ok-outcome-in-Ended c p played =
       plain = o.ensures.plain;
       operators = o.ensures.operators;
       words = o.ensures.words;
+      refused = o.ensures.refused;
     })
     played
 
@@ -61,6 +62,7 @@ returns-in_ok-outcome-in-Waits c p played =
       plain = o.ensures.plain;
       operators = o.ensures.operators;
       words = o.ensures.words;
+      refused = o.ensures.refused;
     })
     o.ensures.kept.5
     c.in_ok-text-in-Waits.ensures

@@ -34,7 +34,7 @@ returns g c all e =
     c.in_ok-script.script
     c.into_parts-script.result.0
     c.args.bytes.items
-    c.in_ok-goal.goal
+    c.in_ok-words.words.items
     (told_of c.in_ok-new.field-0.journal)
     (told_of c.run_script.new.world.world.journal)
     c.move_count-moves.result
@@ -43,7 +43,7 @@ returns g c all e =
     c.into_parts-script.result.1.items
     c.into_parts-script.result.2.items
     e
-    c.in_ok-goal.ensures
+    c.in_ok-words.ensures
     c.in_ok-script.ensures.begins
     c.in_ok-script.ensures.fresh.name_is
     (c.in_ok-new.ensures ∙ ap (λ (n : ℕ). let t : Told = record { engine = 1; goals = n; history = []; gens = [] } in t) c.goals_of.ensures)

@@ -27,10 +27,10 @@ loop-init g c =
       can = c.requires.can;
       lost = c.requires.lost;
       file = refl;
-      word = refl;
+      words = refl;
       told = later_same (g.W.World.told c.args.world.now) (g.W.World.told c.args.world.now) refl;
-      narrows = narrows_same c.args.self.now.word c.args.self.now.consult c.args.stage;
-      asked = gains_nothing (MayIntern c.args.self.now.consult c.args.self.now.word c.args.stage (g.W.World.told c.args.world.now)) (g.W.A.Atoms.asked c.args.atoms.now) (g.W.A.Atoms.asked c.args.atoms.now) refl;
+      narrows = narrows_same c.args.self.now.words.items c.args.self.now.consult c.args.stage;
+      asked = gains_nothing (MayIntern c.args.self.now.consult c.args.self.now.words.items c.args.stage (g.W.World.told c.args.world.now)) (g.W.A.Atoms.asked c.args.atoms.now) (g.W.A.Atoms.asked c.args.atoms.now) refl;
       faults = refl;
       moved = λ name. goes_none (λ (v : Tree). v) name c.args.self.now c.args.stage (g.W.World.told c.args.world.now) c.args.moves.now c.args.text.now.items;
     }
@@ -41,9 +41,9 @@ loop-preserved g c =
     let s = c.step-then in
     let k = c.counted in
     let more =
-    step_more c.args.self.now.word c.loop.self.word c.args.self.now.consult c.loop.self.consult s.new.self.consult c.args.stage c.loop.stage s.result.0
+    step_more c.args.self.now.words.items c.loop.self.words.items c.args.self.now.consult c.loop.self.consult s.new.self.consult c.args.stage c.loop.stage s.result.0
     (g.W.World.told c.args.world.now) (g.W.World.told c.loop.world) (g.W.A.Atoms.asked c.args.atoms.now) (g.W.A.Atoms.asked c.loop.atoms) (g.W.A.Atoms.asked s.new.atoms)
-    i.word i.narrows i.told i.asked s.ensures.narrows s.ensures.asked in
+    i.words i.narrows i.told i.asked s.ensures.narrows s.ensures.asked in
     record {
       runs = s.ensures.runs;
       holds = λ a t h. s.ensures.holds a t (i.holds a t h);
@@ -56,7 +56,7 @@ loop-preserved g c =
       can = subst (λ (p : Step). IsAfter p s.result.0) c.in-Goes.is (k.ensures.stage s.result.0 s.ensures.stage);
       lost = s.ensures.kept ∙ i.lost;
       file = s.ensures.file ∙ i.file;
-      word = s.ensures.word ∙ i.word;
+      words = s.ensures.words ∙ i.words;
       told = later_then (g.W.World.told c.args.world.now) (g.W.World.told c.loop.world) (g.W.World.told s.new.world) i.told s.ensures.told;
       narrows = more.0;
       asked = more.1;
@@ -70,7 +70,7 @@ loop-preserved g c =
           c.in-Goes.is
           (goes_by (λ (v : Tree). v) (term_by (text_of (g.W.A.Atoms.held s.new.atoms))) name c.args.self.now c.loop.self s.new.self c.args.stage c.loop.stage s.result.0
           (g.W.World.told c.args.world.now) (g.W.World.told c.loop.world) (g.W.World.told s.new.world) c.args.moves.now c.loop.moves k.new.moves
-          c.args.text.now.items c.loop.text.items s.new.text.items s.result.1 k.result c.moves_at-made.result c.moves_at-made.ensures (i.moved name)
+          c.args.text.now.items c.loop.text.items s.new.text.items s.result.1 k.result (i.moved name)
           (s.ensures.moved name) k.ensures.counted);
     }
 
@@ -96,7 +96,7 @@ returns-in-Gives-clause-moved g c name =
     c.in-Gives.is
     (goes_by (λ (v : Tree). v) (term_by (text_of (g.W.A.Atoms.held s.new.atoms))) name c.args.self.now c.loop.self s.new.self c.args.stage c.loop.stage s.result.0
     (g.W.World.told c.args.world.now) (g.W.World.told c.loop.world) (g.W.World.told s.new.world) c.args.moves.now c.loop.moves k.new.moves
-    c.args.text.now.items c.loop.text.items s.new.text.items s.result.1 k.result c.moves_at-made.result c.moves_at-made.ensures (i.moved name)
+    c.args.text.now.items c.loop.text.items s.new.text.items s.result.1 k.result (i.moved name)
     (s.ensures.moved name) k.ensures.counted)))
 
 pub returns-clause-moved : goal.returns-clause-moved
@@ -126,27 +126,27 @@ pub returns-in-Gives-clause-asked : goal.returns-in-Gives-clause-asked
 returns-in-Gives-clause-asked g c =
     let i = c.loop.invariant in
     let s = c.step-then in
-    (step_more c.args.self.now.word c.loop.self.word c.args.self.now.consult c.loop.self.consult s.new.self.consult c.args.stage c.loop.stage s.result.0
+    (step_more c.args.self.now.words.items c.loop.self.words.items c.args.self.now.consult c.loop.self.consult s.new.self.consult c.args.stage c.loop.stage s.result.0
     (g.W.World.told c.args.world.now) (g.W.World.told c.loop.world) (g.W.A.Atoms.asked c.args.atoms.now) (g.W.A.Atoms.asked c.loop.atoms) (g.W.A.Atoms.asked s.new.atoms)
-    i.word i.narrows i.told i.asked s.ensures.narrows s.ensures.asked).1
+    i.words i.narrows i.told i.asked s.ensures.narrows s.ensures.asked).1
 
 pub returns-in-Gives-clause-narrows : goal.returns-in-Gives-clause-narrows
 returns-in-Gives-clause-narrows g c =
     let i = c.loop.invariant in
     let s = c.step-then in
     let h = c.hand_out in
-    handed_narrows c.args.self.now.word c.args.self.now.consult s.new.self.consult h.new.self.consult c.args.stage s.result.0 s.new.self.stage h.new.self.stage
-    (step_more c.args.self.now.word c.loop.self.word c.args.self.now.consult c.loop.self.consult s.new.self.consult c.args.stage c.loop.stage s.result.0
+    handed_narrows c.args.self.now.words.items c.args.self.now.consult s.new.self.consult h.new.self.consult c.args.stage s.result.0 s.new.self.stage h.new.self.stage
+    (step_more c.args.self.now.words.items c.loop.self.words.items c.args.self.now.consult c.loop.self.consult s.new.self.consult c.args.stage c.loop.stage s.result.0
     (g.W.World.told c.args.world.now) (g.W.World.told c.loop.world) (g.W.A.Atoms.asked c.args.atoms.now) (g.W.A.Atoms.asked c.loop.atoms) (g.W.A.Atoms.asked s.new.atoms)
-    i.word i.narrows i.told i.asked s.ensures.narrows s.ensures.asked).0
+    i.words i.narrows i.told i.asked s.ensures.narrows s.ensures.asked).0
     h.ensures.consult h.ensures.stands (s.ensures.kept ∙ i.lost)
 
-pub returns-in-Gives-clause-word : goal.returns-in-Gives-clause-word
-returns-in-Gives-clause-word g c = c.hand_out.ensures.word ∙ (c.step-then.ensures.word ∙ c.loop.invariant.word)
+pub returns-in-Gives-clause-words : goal.returns-in-Gives-clause-words
+returns-in-Gives-clause-words g c = c.hand_out.ensures.words ∙ (c.step-then.ensures.words ∙ c.loop.invariant.words)
 
 pub returns-clause-narrows : goal.returns-clause-narrows
 returns-clause-narrows g c =
     let i = c.loop.invariant in
-    subst (λ (k : Stage). Narrows c.args.self.now.word c.args.self.now.consult c.args.stage c.loop.self.consult k) (sym i.lost)
-    (narrows_then c.args.self.now.word c.args.self.now.consult c.loop.self.consult c.loop.self.consult c.args.stage c.loop.stage Lost i.narrows
-    (narrows_bare c.args.self.now.word c.loop.self.consult c.loop.stage Lost refl refl))
+    subst (λ (k : Stage). Narrows c.args.self.now.words.items c.args.self.now.consult c.args.stage c.loop.self.consult k) (sym i.lost)
+    (narrows_then c.args.self.now.words.items c.args.self.now.consult c.loop.self.consult c.loop.self.consult c.args.stage c.loop.stage Lost i.narrows
+    (narrows_bare c.args.self.now.words.items c.loop.self.consult c.loop.stage Lost refl refl refl))

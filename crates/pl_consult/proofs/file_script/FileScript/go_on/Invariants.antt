@@ -20,11 +20,11 @@ invariant-loop g l =
       can : can_step l.stage ≡ true;
       lost : l.self.stage ≡ Lost;
       file : l.self.consult.name ≡ l.initial.self.consult.name;
-      word : l.self.word ≡ l.initial.self.word;
+      words : l.self.words.items ≡ l.initial.self.words.items;
       told : IsLater (g.W.World.told l.initial.world) (g.W.World.told l.world);
-      narrows : Narrows l.initial.self.word l.initial.self.consult l.initial.stage l.self.consult l.stage;
+      narrows : Narrows l.initial.self.words.items l.initial.self.consult l.initial.stage l.self.consult l.stage;
       asked :
-          Gains (MayIntern l.initial.self.consult l.initial.self.word l.initial.stage (g.W.World.told l.initial.world)) (g.W.A.Atoms.asked l.initial.atoms)
+          Gains (MayIntern l.initial.self.consult l.initial.self.words.items l.initial.stage (g.W.World.told l.initial.world)) (g.W.A.Atoms.asked l.initial.atoms)
           (g.W.A.Atoms.asked l.atoms);
       faults : l.self.faulty ≡ l.initial.self.faulty;
       moved :

@@ -11,7 +11,7 @@ use Rattle.world_api.specs.Gains.{Gains}
 use Rattle.world_api.proofs.Gaining.{gains_nothing}
 use Rattle.script_api.proofs.LaterLaws.{later_same}
 use Rattle.pl_consult.specs.declared.stage.Stage.TheVariants.{Lost, Over}
-use Rattle.pl_consult.specs.ItemTexts.{MayIntern, clause_at, stage_texts}
+use Rattle.pl_consult.specs.ItemTexts.{MayIntern, clause_at, goals_at, stage_texts}
 use Rattle.pl_consult.proofs.NarrowLaws.{from_bare, narrows_bare, narrows_then, no_goal_at, no_goal_in, own_requests, own_texts, left_requests, left_texts}
 use Rattle.pl_consult.proofs.GivenLaws.{given_open, given_behind, given_end, given_lost, lost_last}
 use Rattle.pl_consult.proofs.file_script.FileScriptScript.next.Goals as goal
@@ -88,10 +88,11 @@ returns g c =
       told = later_same (g.W.World.told c.args.world.now) (g.W.World.told c.args.world.now) refl;
       asked = gains_nothing _ (g.W.A.Atoms.asked c.args.atoms.now) (g.W.A.Atoms.asked c.args.atoms.now) refl;
       texts =
-          left_texts c.args.self.now.word c.args.self.now.consult c.args.self.now.stage c.replace-stage.new.dest Lost c.replace-stage.ensures.after refl refl;
+          left_texts c.args.self.now.words.items c.args.self.now.consult c.args.self.now.stage c.replace-stage.new.dest Lost c.replace-stage.ensures.after refl refl refl;
       asks =
-          left_requests c.args.self.now.word c.args.self.now.consult c.args.self.now.stage c.replace-stage.new.dest Lost c.replace-stage.ensures.after refl refl;
+          left_requests c.args.self.now.words.items c.args.self.now.consult c.args.self.now.stage c.replace-stage.new.dest Lost c.replace-stage.ensures.after refl refl refl;
       words = λ e job cs. refl;
+      variables = λ e. refl;
     }
 
 pub returns-then-can_step-clause-asked : goal.returns-then-can_step-clause-asked
@@ -99,16 +100,16 @@ returns-then-can_step-clause-asked g c =
     let s = c.args.self.now in
     subst
     (λ (k : Stage).
-    Gains (MayIntern s.consult s.word k (g.W.World.told c.args.world.now)) (g.W.A.Atoms.asked c.args.atoms.now) (g.W.A.Atoms.asked c.go_on.new.atoms))
+    Gains (MayIntern s.consult s.words.items k (g.W.World.told c.args.world.now)) (g.W.A.Atoms.asked c.args.atoms.now) (g.W.A.Atoms.asked c.go_on.new.atoms))
     c.replace-stage.ensures.value
     c.go_on.ensures.asked
 
 pub returns-then-can_step-clause-texts : goal.returns-then-can_step-clause-texts
 returns-then-can_step-clause-texts g c =
-    own_texts c.args.self.now c.go_on.new.self _ c.replace-stage.ensures.value c.go_on.ensures.word c.go_on.ensures.narrows
+    own_texts c.args.self.now c.go_on.new.self _ c.replace-stage.ensures.value c.go_on.ensures.words c.go_on.ensures.narrows
 
 pub returns-then-can_step-clause-asks : goal.returns-then-can_step-clause-asks
-returns-then-can_step-clause-asks g c = own_requests c.args.self.now c.go_on.new.self _ c.replace-stage.ensures.value c.go_on.ensures.narrows
+returns-then-can_step-clause-asks g c = own_requests c.args.self.now c.go_on.new.self _ c.replace-stage.ensures.value c.go_on.ensures.words c.go_on.ensures.narrows
 
 pub returns-then-can_step-clause-words : goal.returns-then-can_step-clause-words
 returns-then-can_step-clause-words g c is =
@@ -120,24 +121,24 @@ returns-then-can_step-clause-words g c is =
 pub returns-in-Ok-clause-asked : goal.returns-in-Ok-clause-asked
 returns-in-Ok-clause-asked g c =
     let s = c.args.self.now in
-    from_bare s.word s.consult s.stage c.in-Ok.stage (g.W.World.told c.args.world.now) (g.W.A.Atoms.asked c.args.atoms.now)
-    (g.W.A.Atoms.asked c.go_on-in-Ok.new.atoms) (ap stage_texts c.in-Ok.ensures.report.2) (ap clause_at c.in-Ok.ensures.report.2) c.go_on-in-Ok.ensures.asked
+    from_bare s.words.items s.consult s.stage c.in-Ok.stage (g.W.World.told c.args.world.now) (g.W.A.Atoms.asked c.args.atoms.now)
+    (g.W.A.Atoms.asked c.go_on-in-Ok.new.atoms) (ap stage_texts c.in-Ok.ensures.report.2) (ap clause_at c.in-Ok.ensures.report.2) (ap goals_at c.in-Ok.ensures.report.2) c.go_on-in-Ok.ensures.asked
 
 pub returns-in-Ok-clause-texts : goal.returns-in-Ok-clause-texts
 returns-in-Ok-clause-texts g c =
     let s = c.args.self.now in
     let d = c.go_on-in-Ok in
-    own_texts s d.new.self s.stage refl d.ensures.word
-    (narrows_then s.word s.consult s.consult d.new.self.consult s.stage c.in-Ok.stage d.new.self.stage
-    (narrows_bare s.word s.consult s.stage c.in-Ok.stage (ap stage_texts c.in-Ok.ensures.report.2) (ap clause_at c.in-Ok.ensures.report.2)) d.ensures.narrows)
+    own_texts s d.new.self s.stage refl d.ensures.words
+    (narrows_then s.words.items s.consult s.consult d.new.self.consult s.stage c.in-Ok.stage d.new.self.stage
+    (narrows_bare s.words.items s.consult s.stage c.in-Ok.stage (ap stage_texts c.in-Ok.ensures.report.2) (ap clause_at c.in-Ok.ensures.report.2) (ap goals_at c.in-Ok.ensures.report.2)) d.ensures.narrows)
 
 pub returns-in-Ok-clause-asks : goal.returns-in-Ok-clause-asks
 returns-in-Ok-clause-asks g c =
     let s = c.args.self.now in
     let d = c.go_on-in-Ok in
-    own_requests s d.new.self s.stage refl
-    (narrows_then s.word s.consult s.consult d.new.self.consult s.stage c.in-Ok.stage d.new.self.stage
-    (narrows_bare s.word s.consult s.stage c.in-Ok.stage (ap stage_texts c.in-Ok.ensures.report.2) (ap clause_at c.in-Ok.ensures.report.2)) d.ensures.narrows)
+    own_requests s d.new.self s.stage refl d.ensures.words
+    (narrows_then s.words.items s.consult s.consult d.new.self.consult s.stage c.in-Ok.stage d.new.self.stage
+    (narrows_bare s.words.items s.consult s.stage c.in-Ok.stage (ap stage_texts c.in-Ok.ensures.report.2) (ap clause_at c.in-Ok.ensures.report.2) (ap goals_at c.in-Ok.ensures.report.2)) d.ensures.narrows)
 
 pub returns-in-Ok-clause-words : goal.returns-in-Ok-clause-words
 returns-in-Ok-clause-words g c is =
@@ -146,22 +147,34 @@ returns-in-Ok-clause-words g c is =
 
 pub returns-in-AtDirective-clause-texts : goal.returns-in-AtDirective-clause-texts
 returns-in-AtDirective-clause-texts g c =
-    left_texts c.args.self.now.word c.args.self.now.consult c.args.self.now.stage c.replace-stage.new.dest Lost c.replace-stage.ensures.after refl refl
+    left_texts c.args.self.now.words.items c.args.self.now.consult c.args.self.now.stage c.replace-stage.new.dest Lost c.replace-stage.ensures.after refl refl refl
 
 pub returns-in-AtDirective-clause-asks : goal.returns-in-AtDirective-clause-asks
 returns-in-AtDirective-clause-asks g c =
-    left_requests c.args.self.now.word c.args.self.now.consult c.args.self.now.stage c.replace-stage.new.dest Lost c.replace-stage.ensures.after refl refl
+    left_requests c.args.self.now.words.items c.args.self.now.consult c.args.self.now.stage c.replace-stage.new.dest Lost c.replace-stage.ensures.after refl refl refl
 
 pub returns-in-Ok-count-clause-texts : goal.returns-in-Ok-count-clause-texts
-returns-in-Ok-count-clause-texts g c = left_texts c.args.self.now.word c.args.self.now.consult c.args.self.now.stage Over Over refl refl refl
+returns-in-Ok-count-clause-texts g c = left_texts c.args.self.now.words.items c.args.self.now.consult c.args.self.now.stage Over Over refl refl refl refl
 
 pub returns-in-Ok-count-clause-asks : goal.returns-in-Ok-count-clause-asks
-returns-in-Ok-count-clause-asks g c = left_requests c.args.self.now.word c.args.self.now.consult c.args.self.now.stage Over Over refl refl refl
+returns-in-Ok-count-clause-asks g c = left_requests c.args.self.now.words.items c.args.self.now.consult c.args.self.now.stage Over Over refl refl refl refl
 
 pub returns-in-AtGoal-clause-texts : goal.returns-in-AtGoal-clause-texts
 returns-in-AtGoal-clause-texts g c =
-    left_texts c.args.self.now.word c.args.self.now.consult c.args.self.now.stage c.replace-stage.new.dest Lost c.replace-stage.ensures.after refl refl
+    left_texts c.args.self.now.words.items c.args.self.now.consult c.args.self.now.stage c.replace-stage.new.dest Lost c.replace-stage.ensures.after refl refl refl
 
 pub returns-in-AtGoal-clause-asks : goal.returns-in-AtGoal-clause-asks
 returns-in-AtGoal-clause-asks g c =
-    left_requests c.args.self.now.word c.args.self.now.consult c.args.self.now.stage c.replace-stage.new.dest Lost c.replace-stage.ensures.after refl refl
+    left_requests c.args.self.now.words.items c.args.self.now.consult c.args.self.now.stage c.replace-stage.new.dest Lost c.replace-stage.ensures.after refl refl refl
+
+pub returns-then-can_step-clause-variables : goal.returns-then-can_step-clause-variables
+returns-then-can_step-clause-variables g c is =
+    absurd
+    (no_goal_at c.args.self.now.consult.place c.args.self.now.stage
+    (ap can_step (sym c.replace-stage.ensures.value) ∙ sym c.can_step.ensures ∙ c.if-can_step.true)
+    is)
+
+pub returns-in-Ok-clause-variables : goal.returns-in-Ok-clause-variables
+returns-in-Ok-clause-variables g c is =
+    absurd
+    (no_goal_in c.args.self.now.consult.place c.args.self.now.stage c.in-AtDirective.place (sym c.replace-stage.ensures.value ∙ c.in-AtDirective.is) is)
