@@ -1,18 +1,17 @@
 -- The rows that follow replies, by the predicate, and what is asked.
-use Rattle.std.proofs.Common.{◌≡◌, ◌⊎◌, inl, inr, ℕ, zero, Bool, true, false, cond, List, [], ◌∷◌, Option, Some, None, Ok, Err, codes, refl, sym, ap, ap₂, subst, ◌∙◌}
+use Rattle.std.proofs.Common.{◌≡◌, ◌⊎◌, inl, inr, ℕ, zero, Bool, true, false, cond, List, [], ◌∷◌, Option, Some, None, Ok, Err, codes, refl, sym, ap, ◌∙◌}
 use Rattle.std.specs.Prelude.{Result, map, bytes_eq}
 use Rattle.pl_term.specs.Tree.{Chars, Tree, Trees, var, int, atom, comp, none, more}
 use Rattle.pl_model.specs.declared.operators.Kind.{Kind as OperatorKind}
 use Rattle.pl_model.specs.Balls.{type_error}
 use Rattle.pl_model.specs.BodyChecks.{clause_of_term}
-use Rattle.pl_model.specs.BuiltinRows.{Row, gives, one_answer}
-use Rattle.pl_model.specs.Checks.{atom_error, atoms_error, bound_error, elements, first_error, natural_of, proc_indicated, text_of_atom}
+use Rattle.pl_model.specs.BuiltinRows.{Row, one_answer}
+use Rattle.pl_model.specs.Checks.{atom_error, atoms_error, bound_error, elements, natural_of, proc_indicated, text_of_atom}
 use Rattle.pl_model.specs.History.{Kind, Proc}
 use Rattle.pl_model.specs.Requests.{Request, Reply, abolish_procedure, all_flags, all_procedures, assert_first, assert_last, create_queue, create_thread, destroy_queue, get_message, join_thread, make_dynamic, own_name, peek_message, put_flag, put_operators, refused, send_message}
 use Rattle.pl_model.specs.SharedBuiltins as shared
 use Rattle.pl_model.specs.SharedBuiltins.{Options, asks_for, creates_with, gives_row, indicated, lists_procedures, message_row, named_row, names_in, on_ok, options_of, procedures_row, flags_row, puts_names, queue_alias, specifier_named, status_row, succeeds_with, unless}
-use Rattle.shared_builtins.specs.declared.preds.StatePred.{StatePred}
-use Rattle.shared_builtins.specs.declared.preds.StatePred.TheVariants.{One, Two, Three}
+use Rattle.shared_builtins.specs.declared.preds.StatePred.TheVariants.{Three}
 use Rattle.shared_builtins.specs.declared.preds.StateOne.{StateOne}
 use Rattle.shared_builtins.specs.declared.preds.StateOne.TheVariants as one
 use Rattle.shared_builtins.specs.declared.preds.StateTwo.{StateTwo}

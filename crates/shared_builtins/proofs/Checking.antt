@@ -1,18 +1,16 @@
 -- Checks of arguments, by the definition.
-use Rattle.std.proofs.Common.{◌≡◌, ℕ, ℤ, Bool, true, false, cond, not, ◌+◌, suc, ◌<◌, ◌||◌, ◌&&◌, ◌==◌, List, [], ◌∷◌, length, get_or, map, drop, drop-cons, arith, below_more, Option, Some, None, IsSome, is_some, pos, negsuc, nat_lt, codes, refl, sym, ap, ap₂, subst, ◌∙◌}
-use Rattle.std.specs.Prelude.{IfSome}
+use Rattle.std.proofs.Common.{◌≡◌, ℕ, Bool, true, false, cond, not, ◌+◌, suc, ◌<◌, ◌||◌, ◌==◌, List, [], ◌∷◌, length, get_or, map, drop, drop-cons, arith, below_more, Option, Some, None, IsSome, is_some, pos, negsuc, codes, refl, sym, ap, ap₂, ◌∙◌}
 use Rattle.std.specs.List.{All, list_any}
 use Rattle.std.specs.Option.{option_map}
 use Rattle.std.specs.Str.{bytes_eq}
 use Rattle.std.proofs.lemmas.List.{get_or_default}
 use Rattle.std.proofs.lemmas.List.Elements.{All-get_or, All-head}
-use Rattle.pl_term.specs.Tree.{Chars, Tree, Trees, var, int, atom, comp, none, more}
+use Rattle.pl_term.specs.Tree.{Chars, Tree, var, int, atom, comp, none, more}
 use Rattle.pl_model.specs.Balls.{instantiation_error, type_error, uninstantiation_error}
 use Rattle.pl_model.specs.Checks.{atom_error, bound_error, callable_error, error_if, first_error, integer_error, negative_error}
 use Rattle.pl_model.specs.ErrorTerms.{domain_error, permission_error}
 use Rattle.pl_model.specs.Flags as flags
-use Rattle.pl_model.specs.OperatorTable.{highest_priority}
-use Rattle.pl_model.specs.SharedBuiltins.{fixed_error, flag_error, is_changeable, priority_error, specifier_error, specifier_named, value_error}
+use Rattle.pl_model.specs.SharedBuiltins.{fixed_error, flag_error, is_changeable, priority_error, specifier_error, value_error}
 use Rattle.pl_model.specs.Terms.{is_variable}
 use Rattle.pl_model.specs.declared.operators.Kind.{Kind}
 use Rattle.atom_api.specs.Fixed.{fixed}
@@ -21,8 +19,7 @@ use Rattle.atom_api.specs.FixedNames as fixed_names
 use Rattle.atom_api.specs.Names.{Names}
 use Rattle.term_store.specs.declared.words.Place.{Place}
 use Rattle.term_store.specs.Contents.{Contents, term_at}
-use Rattle.term_store.specs.Heap.{atom_name}
-use Rattle.world_builtins.specs.Naming.{IsHeldAt, atoms_in}
+use Rattle.world_builtins.specs.Naming.{atoms_in}
 use Rattle.world_builtins.specs.Spelling.{reads, spelled, text_of}
 use Rattle.builtin_rows.specs.Kinds.{passes}
 use Rattle.builtin_rows.specs.Lists.{IsNaming}
@@ -32,10 +29,9 @@ use Rattle.shared_builtins.specs.declared.checks.Check.TheVariants.{Bound, Unbou
 use Rattle.shared_builtins.specs.declared.faults.Fault.{Fault}
 use Rattle.shared_builtins.specs.declared.faults.Fault.TheVariants as faults
 use Rattle.shared_builtins.specs.declared.kinds.TheConstants.{ATOM, BOUND, CALLABLE, INTEGER, VARIABLE}
-use Rattle.shared_builtins.specs.Checks.{IsCheckHeld, IsCheckIn, atom_in, check_error, check_fault, check_passes, flag_in, natural_in, priority_in, specifier_in, unfixed_in, value_among, value_in}
+use Rattle.shared_builtins.specs.Checks.{IsCheckHeld, IsCheckIn, check_error, check_fault, check_passes, flag_in, natural_in, priority_in, specifier_in, unfixed_in, value_in}
 use Rattle.shared_builtins.specs.Faults.{IsFaultHeld, IsFaultIn, fault_term, or_empty}
-use Rattle.shared_builtins.specs.Flags.{is_fixed, is_set, is_value}
-use Rattle.shared_builtins.specs.Operators.{kind_named}
+use Rattle.shared_builtins.specs.Flags.{is_value}
 use Rattle.shared_builtins.proofs.FixedNames.{atom_is, callable_is, chars_is, codes_is, domain_error_is, double_quotes_is, error_is, fail_is, flag_is, integer_is, modify_is, not_less_than_zero_is, operator_priority_is, operator_specifier_is, prolog_flag_is, type_error_is, uninstantiation_error_is, unknown_is}
 use Rattle.shared_builtins.proofs.Named.{fixed_told, set_told, specifier_told}
 

@@ -1,9 +1,9 @@
 -- Copies of terms of the shared state.
-use Rattle.std.proofs.Common.{◌≡◌, ℕ, zero, ◌+◌, ◌<◌, ◌≤◌, ◌^◌, [], ◌∷◌, ◌++◌, length, refl, sym, ap, ap₂, subst, ◌∙◌, IsSome, append_assoc, append-nil, arith}
+use Rattle.std.proofs.Common.{◌≡◌, ℕ, zero, ◌+◌, ◌<◌, ◌≤◌, ◌^◌, [], ◌∷◌, ◌++◌, length, refl, sym, ap, ap₂, subst, ◌∙◌, IsSome, append-nil, arith}
 use Rattle.std.specs.List.{All}
 use Rattle.std.proofs.lemmas.List.Elements.{All-tail}
 use Rattle.pl_term.specs.Cells.{cells}
-use Rattle.pl_term.specs.Tree.{Chars, Tree, Trees}
+use Rattle.pl_term.specs.Tree.{Tree}
 use Rattle.pl_term.specs.Variables.{distinct, rename, variables}
 use Rattle.pl_model.specs.BuiltinRows.{Answer, gives}
 use Rattle.pl_model.specs.Predicates.{proc_of}
@@ -17,7 +17,7 @@ use Rattle.builtin_rows.proofs.Giving.{gives_one}
 use Rattle.builtin_rows.proofs.Numbers.{has_room}
 use Rattle.pl_model.specs.History.{proc}
 use Rattle.term_store.specs.declared.words.Place.{Place}
-use Rattle.term_store.specs.Contents.{Adds, Builds, Contents, Holds, numbers_of, term_at, upwards}
+use Rattle.term_store.specs.Contents.{Adds, Builds, Contents, numbers_of, term_at, upwards}
 use Rattle.term_store.specs.KeptLaws.{cells-spelled}
 use Rattle.term_store.specs.NameUnification.{occurrences-spelled, rename-spelled}
 use Rattle.term_store.specs.NumberedNames.{names_of, neck, term_by, text_by}

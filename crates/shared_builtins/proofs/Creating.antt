@@ -1,5 +1,5 @@
 -- The error for which thread_create/3 is refused.
-use Rattle.std.proofs.Common.{◌≡◌, ◌⊎◌, inl, inr, zero, List, [], length, get_or, map, Option, Some, None, Ok, Err, sym, ap, subst, ◌∙◌}
+use Rattle.std.proofs.Common.{◌≡◌, inl, inr, zero, List, [], length, get_or, map, Option, Some, None, Ok, Err, sym, ap, subst, ◌∙◌}
 use Rattle.std.specs.Prelude.{Result}
 use Rattle.std.proofs.lemmas.Option.{same_Some}
 use Rattle.pl_term.specs.Tree.{Tree, Trees, atom}

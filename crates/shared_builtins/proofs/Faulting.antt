@@ -1,11 +1,10 @@
 -- Error terms, as they are made and read.
 use Rattle.std.proofs.Common.{◌≡◌, ℕ, [], ◌∷◌, ◌++◌, Option, Some, None, codes, refl, sym, ap, ap₂, subst, ◌∙◌}
-use Rattle.std.specs.Prelude.{IsSome, is_some}
+use Rattle.std.specs.Prelude.{IsSome}
 use Rattle.std.specs.List.{All}
 use Rattle.std.proofs.lemmas.Bool.{false≢true}
 use Rattle.std.proofs.lemmas.List.Elements.{All-append, All-cons, All-nil}
-use Rattle.pl_term.specs.Tree.{Chars, Tree, atom, comp, none, more}
-use Rattle.pl_model.specs.Balls.{instantiation_error}
+use Rattle.pl_term.specs.Tree.{Chars, atom, comp, none, more}
 use Rattle.pl_model.specs.ErrorTerms.{domain_error, permission_error}
 use Rattle.atom_api.specs.Fixed.{fixed}
 use Rattle.atom_api.specs.Names.{Names, FixedStand}
@@ -13,7 +12,7 @@ use Rattle.term_store.specs.declared.words.Place.{Place}
 use Rattle.term_store.specs.Contents.{Contents, Holds, term_at}
 use Rattle.term_store.specs.Heap.{atom_name}
 use Rattle.world_builtins.specs.Naming.{IsHeldAt, atoms_in}
-use Rattle.world_builtins.specs.Spelling.{or_no_text, reads, spelled, text_of}
+use Rattle.world_builtins.specs.Spelling.{reads, spelled, text_of}
 use Rattle.builtin_rows.proofs.Balls.{fixed_held}
 use Rattle.shared_builtins.specs.declared.faults.Fault.TheVariants.{For, NoValue, NotPermitted, Of, Unbound}
 use Rattle.shared_builtins.specs.Faults.{fault_term, fixed_text, or_empty}

@@ -1,15 +1,14 @@
 -- What a reply to a goal's request is, for its row.
-use Rattle.std.proofs.Common.{◌≡◌, ℕ, List, length, Option, Some, refl, sym, ap, subst, ◌∙◌}
+use Rattle.std.proofs.Common.{◌≡◌, ℕ, List, length, Option, refl, sym, ap, subst, ◌∙◌}
 use Rattle.std.specs.List.{All}
 use Rattle.std.proofs.lemmas.List.Elements.{All-from_recursion}
 use Rattle.std.proofs.lemmas.Option.{same_Some}
-use Rattle.pl_term.specs.Tree.{Chars, Tree, Trees, none, more}
+use Rattle.pl_term.specs.Tree.{Chars, Tree, Trees}
 use Rattle.pl_model.specs.BuiltinRows.{Row}
 use Rattle.pl_model.specs.Flags.{Flags, listed_flags}
 use Rattle.pl_model.specs.History.{Kind}
 use Rattle.pl_model.specs.Requests.{Request, Reply, all_flags, flags, refused}
-use Rattle.pl_model.specs.Service.{answers, serve, served_now}
-use Rattle.pl_model.specs.SharedBuiltins.{asks_for}
+use Rattle.pl_model.specs.Service.{answers, serve}
 use Rattle.pl_model.specs.SharedState.{SharedState, state_at}
 use Rattle.pl_model.specs.Terms.{arguments}
 use Rattle.atom_api.specs.Names.{Names}

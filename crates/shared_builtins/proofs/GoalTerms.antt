@@ -1,13 +1,11 @@
 -- Goals of predicates of the shared state, by their terms.
-use Rattle.std.proofs.Common.{◌≡◌, ◌⊎◌, inl, inr, ℕ, ◌<◌, List, [], ◌∷◌, length, get_or, Option, Some, IsSome, codes, refl, sym, ap, ap₂, subst, ◌∙◌, arith}
-use Rattle.std.specs.List.{All}
+use Rattle.std.proofs.Common.{◌≡◌, inl, inr, ℕ, ◌<◌, List, [], ◌∷◌, length, get_or, Some, refl, sym, ap, ap₂, subst, ◌∙◌, arith}
 use Rattle.pl_term.specs.Tree.{Chars, Tree, Trees, atom, comp, none, more, compound}
-use Rattle.pl_model.specs.BuiltinRows.{error, one_answer}
+use Rattle.pl_model.specs.BuiltinRows.{one_answer}
 use Rattle.pl_model.specs.Control.{name_of}
 use Rattle.pl_model.specs.SharedBuiltins as shared
 use Rattle.pl_model.specs.SharedBuiltins.{gives_row, shared_of_one, shared_of_three, shared_of_two}
 use Rattle.pl_model.specs.Terms.{arguments}
-use Rattle.atom_api.specs.Fixed.{fixed}
 use Rattle.atom_api.specs.Names.{Names, FixedStand}
 use Rattle.builtin_rows.proofs.Listing.{argument_held, arguments_long, compound_parts}
 use Rattle.term_store.specs.declared.words.Place.{Place}
@@ -26,7 +24,6 @@ use Rattle.shared_builtins.specs.declared.preds.StateThree.{StateThree}
 use Rattle.shared_builtins.specs.declared.preds.StateThree.TheVariants as three
 use Rattle.shared_builtins.specs.declared.shared.Shared.{Shared}
 use Rattle.shared_builtins.specs.declared.shared.Shared.TheVariants as comes
-use Rattle.shared_builtins.specs.Faults.{fault_term}
 use Rattle.shared_builtins.specs.Following.{with_answer}
 use Rattle.shared_builtins.specs.Goals.{IsNameOf, IsNameOfOne, IsStateGoal, arity_of, name_of_three, name_of_two}
 use Rattle.shared_builtins.specs.Shared.{ComesTo, IsShared, one_comes, three_comes, two_comes}

@@ -1,8 +1,7 @@
 -- Predicate indicators, and lists and conjunctions of them.
-use Rattle.std.proofs.Common.{◌≡◌, ℕ, ℤ, pos, negsuc, suc, ◌+◌, ◌<◌, Bool, true, false, cond, List, [], ◌∷◌, ◌++◌, length, get_or, map, drop, drop-cons, Option, Some, None, Ok, Err, IsSome, codes, refl, sym, ap, ap₂, subst, ◌∙◌, append-nil, append_assoc, arith}
+use Rattle.std.proofs.Common.{◌≡◌, ℕ, pos, negsuc, suc, ◌+◌, ◌<◌, Bool, true, false, cond, List, [], ◌∷◌, ◌++◌, length, get_or, map, drop, drop-cons, Some, Ok, Err, IsSome, codes, refl, sym, ap, ap₂, subst, ◌∙◌, append-nil, append_assoc, arith}
 use Rattle.std.specs.Prelude.{Result}
 use Rattle.std.specs.List.{All}
-use Rattle.std.specs.Str.{bytes_eq}
 use Rattle.std.proofs.lemmas.List.Elements.{All-head}
 use Rattle.pl_term.specs.Tree.{Chars, Tree, var, int, atom, comp, none, more}
 use Rattle.pl_model.specs.Balls.{instantiation_error}
@@ -11,7 +10,6 @@ use Rattle.pl_model.specs.History.{Proc}
 use Rattle.pl_model.specs.SharedBuiltins.{conjuncts}
 use Rattle.atom_api.specs.Names.{Names}
 use Rattle.builtin_rows.specs.Kinds.{passes}
-use Rattle.builtin_rows.specs.Lists.{IsNaming}
 use Rattle.term_store.specs.declared.words.Place.{Place}
 use Rattle.term_store.specs.Contents.{Contents, term_at}
 use Rattle.term_store.specs.Heap.{atom_name}
@@ -23,9 +21,9 @@ use Rattle.world_builtins.specs.Spelling.{reads, spelled, text_of}
 use Rattle.shared_builtins.specs.declared.faults.Fault.{Fault}
 use Rattle.shared_builtins.specs.declared.faults.Fault.TheVariants.{For, Unbound}
 use Rattle.shared_builtins.specs.declared.kinds.TheConstants.{ATOM, BOUND, INTEGER, VARIABLE}
-use Rattle.shared_builtins.specs.declared.indicators.Indicated.TheVariants.{Predicates, Refused}
+use Rattle.shared_builtins.specs.declared.indicators.Indicated.TheVariants.{Refused}
 use Rattle.shared_builtins.specs.Checks.{natural_in}
-use Rattle.shared_builtins.specs.Faults.{IsFaultHeld, IsFaultIn, fault_term}
+use Rattle.shared_builtins.specs.Faults.{fault_term}
 use Rattle.shared_builtins.specs.Indicators.{AreProcs, IsProc, joined, proc_of_parts, stacked, with_procs}
 use Rattle.shared_builtins.specs.Pairs.{is_pair}
 use Rattle.shared_builtins.proofs.Checking.{for_term}

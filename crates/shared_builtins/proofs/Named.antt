@@ -1,7 +1,6 @@
 -- Atoms that are held, told by the numbers of the fixed ones.
 use Rattle.std.proofs.Common.{◌≡◌, ℕ, Bool, true, false, cond, ◌==◌, ◌||◌, List, [], ◌∷◌, Option, Some, None, codes, refl, ap, ap₂, ◌∙◌}
 use Rattle.std.specs.Prelude.{IsSome}
-use Rattle.std.specs.List.{list_any}
 use Rattle.std.specs.Str.{bytes_eq}
 use Rattle.pl_term.specs.Tree.{Chars}
 use Rattle.pl_model.specs.declared.operators.Kind.{Kind}
@@ -9,15 +8,15 @@ use Rattle.pl_model.specs.declared.operators.Kind.TheVariants.{Xfx, Xfy, Yfx, Fy
 use Rattle.pl_model.specs.Flags as flags
 use Rattle.pl_model.specs.SharedBuiltins.{is_changeable, specifier_named}
 use Rattle.atom_api.specs.Fixed.{fixed}
-use Rattle.atom_api.specs.FixedNames.{atom_name as atom_atom, bounded_name, chars_name, codes_name, double_quotes_name, error_name, fail_name, fx_name, fy_name, integer_rounding_function_name, max_integer_name, min_integer_name, unknown_name, xf_name, xfx_name, xfy_name, yf_name, yfx_name}
+use Rattle.atom_api.specs.FixedNames.{bounded_name, double_quotes_name, fx_name, fy_name, integer_rounding_function_name, max_integer_name, min_integer_name, unknown_name, xf_name, xfx_name, xfy_name, yf_name, yfx_name}
 use Rattle.atom_api.specs.Names.{Names}
 use Rattle.term_store.specs.Heap.{atom_name}
 use Rattle.world_builtins.specs.Spelling.{text_of}
 use Rattle.builtin_rows.specs.Lists.{IsNaming}
 use Rattle.builtin_rows.proofs.Listing.{named_is}
-use Rattle.shared_builtins.specs.Flags.{is_fixed, is_set, is_value}
+use Rattle.shared_builtins.specs.Flags.{is_fixed, is_set}
 use Rattle.shared_builtins.specs.Operators.{kind_named}
-use Rattle.shared_builtins.proofs.FixedNames.{atom_is, bounded_is, chars_is, codes_is, double_quotes_is, error_is, fail_is, fx_is, fy_is, integer_rounding_function_is, max_integer_is, min_integer_is, unknown_is, xf_is, xfx_is, xfy_is, yf_is, yfx_is}
+use Rattle.shared_builtins.proofs.FixedNames.{bounded_is, double_quotes_is, fx_is, fy_is, integer_rounding_function_is, max_integer_is, min_integer_is, unknown_is, xf_is, xfx_is, xfy_is, yf_is, yfx_is}
 
 abbrev chosen : Bool → Bool → Bool → Bool → Bool → Bool → Bool → Option Kind
 chosen b c d e f g h =

@@ -1,29 +1,25 @@
 -- Names, and the elements of lists.
-use Rattle.std.proofs.Common.{◌≡◌, true, false, ℕ, ◌+◌, suc, ◌<◌, List, [], ◌∷◌, ◌++◌, length, get_or, map, drop, drop-cons, Option, Some, None, Ok, Err, IsSome, codes, refl, sym, ap, ap₂, subst, ◌∙◌, append_assoc, append-nil, arith}
+use Rattle.std.proofs.Common.{◌≡◌, true, false, ℕ, ◌+◌, suc, ◌<◌, List, [], ◌∷◌, ◌++◌, length, get_or, map, drop, drop-cons, Option, Some, None, Ok, Err, codes, refl, sym, ap, ap₂, subst, ◌∙◌, append_assoc, append-nil, arith}
 use Rattle.std.specs.Prelude.{Result}
-use Rattle.std.specs.List.{All}
 use Rattle.pl_term.specs.Tree.{Chars, Tree, var, int, atom, comp}
 use Rattle.pl_model.specs.Checks.{atom_error, atoms_error, bound_error, elements, first_error, text_of_atom}
 use Rattle.pl_model.specs.SharedBuiltins.{names_in}
 use Rattle.pl_model.specs.Balls.{instantiation_error, type_error}
 use Rattle.atom_api.specs.Names.{Names}
-use Rattle.builtin_rows.specs.Lists.{EndsAs}
 use Rattle.term_store.specs.declared.words.Place.{Place}
 use Rattle.term_store.specs.Contents.{Contents, term_at}
 use Rattle.term_store.specs.Heap.{atom_name}
 use Rattle.world_api.specs.Texts as worlds
-use Rattle.world_builtins.specs.Naming.{IsHeldAt}
 use Rattle.world_builtins.specs.Spelling.{reads, spelled, text_of}
 use Rattle.shared_builtins.specs.declared.faults.Fault.{Fault}
 use Rattle.shared_builtins.specs.declared.faults.Fault.TheVariants.{For, Unbound}
-use Rattle.shared_builtins.specs.declared.names.Listed.{Listed}
 use Rattle.shared_builtins.specs.declared.names.Listed.TheVariants as lists
 use Rattle.shared_builtins.specs.declared.names.Named.{Named}
-use Rattle.shared_builtins.specs.declared.names.Named.TheVariants.{Atoms, Refused}
+use Rattle.shared_builtins.specs.declared.names.Named.TheVariants.{Refused}
 use Rattle.shared_builtins.specs.declared.kinds.TheConstants.{NAME}
 use Rattle.builtin_rows.specs.Kinds.{passes}
 use Rattle.shared_builtins.specs.Faults.{IsFaultHeld, IsFaultIn, fault_term}
-use Rattle.shared_builtins.specs.Names.{AreAtoms, AreListed, AreNamedBy, IsName}
+use Rattle.shared_builtins.specs.Names.{AreAtoms, AreListed, AreNamedBy}
 use Rattle.shared_builtins.proofs.Checking.{for_term}
 use Rattle.shared_builtins.proofs.FixedNames.{list_is, type_error_is}
 use Rattle.shared_builtins.proofs.Reading.{one_text}

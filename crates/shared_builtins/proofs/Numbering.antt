@@ -1,9 +1,9 @@
 -- Terms whose variables are numbered from 0 on.
-use Rattle.std.proofs.Common.{◌≡◌, ◌==◌, ◌||◌, ℕ, suc, zero, ◌+◌, true, false, not, cond, List, [], ◌∷◌, map, get_or, length, refl, sym, ◌∙◌, ap, ⊎_elim, arith}
+use Rattle.std.proofs.Common.{◌≡◌, ◌==◌, ◌||◌, ℕ, zero, ◌+◌, true, false, not, cond, List, [], ◌∷◌, map, get_or, length, refl, sym, ◌∙◌, ap, ⊎_elim, arith}
 use Rattle.std.proofs.lemmas.Bool.{eq-eqb, ne_eqb, cases_eq, or_right}
 use Rattle.std.proofs.lemmas.List.{length-map}
 use Rattle.pl_term.specs.Tree.{Tree}
-use Rattle.pl_term.specs.Variables.{is_in, place, without, distinct, occurrences, variables, rename, rename_by}
+use Rattle.pl_term.specs.Variables.{is_in, place, without, distinct, occurrences, variables, rename}
 use Rattle.pl_term.specs.Variant.{IsVariant}
 use Rattle.pl_term.proofs.Distinct.{is_in-distinct, get_or-place}
 use Rattle.pl_term.proofs.Renaming.{rename_none, rename_same, occurrences-rename_by}

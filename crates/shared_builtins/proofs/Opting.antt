@@ -1,15 +1,11 @@
 -- Options of thread_create/3.
-use Rattle.std.proofs.Common.{◌≡◌, ℕ, ◌+◌, suc, ◌<◌, ◌==◌, Bool, true, false, cond, not, ◌&&◌, List, [], ◌∷◌, ◌++◌, length, get_or, map, drop, drop-cons, Option, Some, None, IsSome, codes, refl, sym, ap, ap₂, subst, ◌∙◌, append_assoc, append-nil, arith}
-use Rattle.std.specs.Prelude.{is_some}
-use Rattle.std.specs.List.{All}
-use Rattle.std.specs.Option.{option_map}
+use Rattle.std.proofs.Common.{◌≡◌, ℕ, ◌+◌, suc, ◌<◌, ◌==◌, Bool, true, false, cond, ◌&&◌, List, [], ◌∷◌, ◌++◌, length, get_or, map, drop, drop-cons, Option, Some, None, IsSome, codes, refl, sym, ap, ap₂, ◌∙◌, append_assoc, append-nil, arith}
 use Rattle.std.specs.Str.{bytes_eq}
-use Rattle.pl_term.specs.Tree.{Chars, Tree, Trees, var, int, atom, comp, none, more, compound}
+use Rattle.pl_term.specs.Tree.{Chars, Tree, var, int, atom, comp, none, more, compound}
 use Rattle.pl_model.specs.Balls.{instantiation_error, type_error}
 use Rattle.pl_model.specs.ErrorTerms.{domain_error}
 use Rattle.pl_model.specs.SharedBuiltins as shared
 use Rattle.pl_model.specs.SharedBuiltins.{is_false, no_options, options_of, with_alias, with_option, wrong_option}
-use Rattle.atom_api.specs.Fixed.{fixed}
 use Rattle.atom_api.specs.Names.{Names}
 use Rattle.builtin_rows.specs.Kinds.{passes}
 use Rattle.builtin_rows.specs.Lists.{IsNaming}
@@ -18,13 +14,11 @@ use Rattle.term_store.specs.declared.words.Place.{Place}
 use Rattle.term_store.specs.Contents.{Contents, term_at}
 use Rattle.term_store.specs.Heap.{atom_name}
 use Rattle.world_api.specs.Texts as worlds
-use Rattle.world_builtins.specs.Naming.{IsHeldAt}
-use Rattle.world_builtins.specs.Spelling.{reads, spelled, spelled_all, text_of}
+use Rattle.world_builtins.specs.Spelling.{reads, spelled, text_of}
 use Rattle.shared_builtins.specs.declared.faults.Fault.{Fault}
 use Rattle.shared_builtins.specs.declared.faults.Fault.TheVariants.{For, Unbound}
 use Rattle.shared_builtins.specs.declared.kinds.TheConstants.{VARIABLE}
-use Rattle.shared_builtins.specs.declared.options.ThreadOption.{ThreadOption}
-use Rattle.shared_builtins.specs.declared.options.ThreadOption.TheVariants.{Alias, Plain, Wrong}
+use Rattle.shared_builtins.specs.declared.options.ThreadOption.TheVariants.{Alias, Wrong}
 use Rattle.shared_builtins.specs.Faults.{fault_term}
 use Rattle.shared_builtins.specs.Options.{applied, is_single, taken, with_aliases}
 use Rattle.shared_builtins.proofs.Checking.{for_term}

@@ -1,6 +1,5 @@
 -- Terms of two arguments with a fixed name.
-use Rattle.std.proofs.Common.{◌≡◌, ℕ, ◌==◌, Bool, true, false, List, [], ◌∷◌, length, get_or, Some, IsSome, refl, sym, ap, ap₂, ◌∙◌, arith}
-use Rattle.std.specs.Str.{bytes_eq}
+use Rattle.std.proofs.Common.{◌≡◌, ℕ, ◌==◌, true, false, List, [], ◌∷◌, length, get_or, Some, IsSome, refl, sym, ap, ap₂, ◌∙◌, arith}
 use Rattle.std.proofs.lemmas.Bool.Decides.{Decides-eqb}
 use Rattle.pl_term.specs.Tree.{Chars, Tree, comp, more, none, compound}
 use Rattle.atom_api.specs.Fixed.{fixed}
@@ -52,3 +51,7 @@ other_count m f t (u ∷ (v ∷ (w ∷ ts))) e = refl
 pub counted_otherwise : (m : Names) (s : Contents) (p : Place) (f : ℕ) (t : Chars) (ts : List Tree) → (length ts ≡ 2 → ⊥)
     → term_at s p ≡ compound (atom_name f) ts → is_pair t (reads m s p) ≡ false
 counted_otherwise m s p f t ts e at = ap (λ u. is_pair t (spelled (text_of m) u)) at ∙ other_count m f t ts e
+
+-- A number that is that of a fixed atom.
+pub named_fixed : (a k : ℕ) (t : Chars) → fixed k ≡ Some t → (a == k) ≡ true → fixed a ≡ Some t
+named_fixed a k t is same = ap fixed ((Decides-eqb a k).0 same) ∙ is

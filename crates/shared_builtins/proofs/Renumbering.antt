@@ -6,8 +6,6 @@ use Rattle.pl_term.specs.Tree.{Chars, Tree, Trees, var, int, atom, comp, none, m
 use Rattle.pl_term.specs.Variables.{distinct, occurrences, place, rename, rename_all_by, rename_by, variables}
 use Rattle.pl_model.specs.declared.operators.Kind.{Kind as OperatorKind}
 use Rattle.pl_model.specs.declared.threads.Message.{Message}
-use Rattle.pl_model.specs.declared.threads.Name.{Name}
-use Rattle.pl_model.specs.declared.threads.On.{On}
 use Rattle.pl_model.specs.declared.threads.On.TheVariants.{Queue as OnQueue, Thread as OnThread}
 use Rattle.pl_model.specs.declared.threads.Status.{Status}
 use Rattle.pl_model.specs.declared.threads.Thread.{Thread}
@@ -17,7 +15,7 @@ use Rattle.pl_model.specs.Errors.{static_procedure}
 use Rattle.pl_model.specs.Flags.{Unknown, raises, fails}
 use Rattle.pl_model.specs.History.{Clause, History, Kind, Proc, drop_queue, send, set_dynamic, start}
 use Rattle.pl_model.specs.OperatorTable.{OperatorTable, Refusal, priority, specifier, comma, reserved, infix_postfix, refusal}
-use Rattle.pl_model.specs.Requests.{Request, Reply, look, call_clauses, inspected_clauses, retracted_clauses, cleared_clauses, erase_clause, assert_first, assert_last, consult_clause, abolish_procedure, make_dynamic, all_procedures, put_operators, read_operators, put_flag, all_flags, own_name, create_thread, start_goal, join_thread, send_message, get_message, peek_message, create_queue, destroy_queue, collect_atoms, collect_clauses, standing, listed, procedures, flags, named, message, no_message, status, done, gone, refused}
+use Rattle.pl_model.specs.Requests.{Request, Reply, look, call_clauses, inspected_clauses, retracted_clauses, cleared_clauses, erase_clause, assert_first, assert_last, consult_clause, abolish_procedure, make_dynamic, all_procedures, put_operators, read_operators, put_flag, all_flags, own_name, create_thread, start_goal, join_thread, send_message, get_message, peek_message, create_queue, destroy_queue, collect_atoms, collect_clauses, listed, named, message, no_message, status, done, refused}
 use Rattle.pl_model.specs.Service.{Served, answers, waits, updates, serve, served_now, refuses, alias_taken, unknown_called, cleared, added, modified, most_updates, name_of, operator_error, operators_error, operators_put, got, peeked, with_queue, ended, joined, started, created, destroyed, matches, on_of, queue_term, queue_asked, queue_for, thread_for}
 use Rattle.pl_model.specs.SharedState.{SharedState, state_at}
 use Rattle.pl_model.specs.Threads.{Queue, Threads, is_alias, first_message, has_engine, queue_named, thread_named}

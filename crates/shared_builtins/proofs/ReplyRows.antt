@@ -1,10 +1,10 @@
 -- Rows that follow replies, and errors of refusals.
-use Rattle.std.proofs.Common.{◌≡◌, ◌⊎◌, inl, inr, ℕ, zero, suc, ◌+◌, ◌<◌, ◌≤◌, ◌^◌, pos, negsuc, true, false, List, [], ◌∷◌, ◌++◌, length, get_or, map, Option, Some, None, IsSome, codes, refl, sym, ap, ap₂, subst, ◌∙◌, arith}
+use Rattle.std.proofs.Common.{◌≡◌, ℕ, zero, suc, ◌+◌, ◌<◌, ◌≤◌, ◌^◌, true, false, List, [], ◌∷◌, length, get_or, map, Option, Some, None, IsSome, codes, refl, sym, ap, ap₂, subst, ◌∙◌, arith}
 use Rattle.std.specs.List.{All}
 use Rattle.std.proofs.lemmas.List.Elements.{All-cons, All-head, All-nil, All-tail}
 use Rattle.pl_term.specs.Tree.{Chars, Tree, Trees, var, int, atom, comp, none, more, compound, trees, count}
 use Rattle.pl_term.specs.Variables.{rename}
-use Rattle.pl_model.specs.BuiltinRows.{Answer, Row, error, gives, one_answer, plain_answer}
+use Rattle.pl_model.specs.BuiltinRows.{Answer, Row, gives, one_answer, plain_answer}
 use Rattle.pl_model.specs.ErrorTerms.{existence_error}
 use Rattle.pl_model.specs.History.{Proc, proc}
 use Rattle.pl_model.specs.Predicates.{proc_of}
@@ -14,7 +14,6 @@ use Rattle.atom_api.specs.Names.{Names, FixedStand}
 use Rattle.builtin_rows.specs.Given.{answered, given, with_room}
 use Rattle.builtin_rows.specs.Rows.{ArePlaced, IsRow, listed, terms_at}
 use Rattle.builtin_rows.specs.declared.row.Places.{Places}
-use Rattle.builtin_rows.specs.declared.row.Row.{Row as Made}
 use Rattle.builtin_rows.specs.declared.row.Row.TheVariants.{Fails, Holds}
 use Rattle.builtin_rows.specs.declared.row.Row.TheVariants as rows
 use Rattle.builtin_rows.proofs.Balls.{makes_from, makes_nothing}
@@ -24,7 +23,7 @@ use Rattle.builtin_rows.proofs.Numbers.{has_room}
 use Rattle.term_store.specs.declared.words.Place.{Place}
 use Rattle.term_store.specs.Contents.{Contents, arguments_at, term_at}
 use Rattle.term_store.specs.Heap.{atom_name}
-use Rattle.term_store.specs.NumberedNames.{names_of, term_by}
+use Rattle.term_store.specs.NumberedNames.{names_of}
 use Rattle.world_api.specs.declared.reply.Name.{Name}
 use Rattle.world_api.specs.declared.reply.Name.TheVariants.{Number, Alias}
 use Rattle.world_api.specs.declared.reply.Reply.TheVariants as replies
@@ -39,7 +38,6 @@ use Rattle.shared_builtins.proofs.Reading.{one_text, text_is}
 use Rattle.world_api.specs.Texts as worlds
 use Rattle.world_builtins.specs.Naming.{IsHeldAt}
 use Rattle.world_builtins.specs.Spelling.{reads, spelled, spelled_all, text_of}
-use Rattle.shared_builtins.specs.declared.faults.Fault.{Fault}
 use Rattle.shared_builtins.specs.declared.faults.Fault.TheVariants.{For}
 use Rattle.shared_builtins.specs.declared.goal.StateGoal.{StateGoal}
 use Rattle.shared_builtins.specs.declared.following.Following.{Following}
@@ -47,10 +45,10 @@ use Rattle.shared_builtins.specs.declared.following.Following.TheVariants as by
 use Rattle.shared_builtins.specs.declared.preds.StatePred.{StatePred}
 use Rattle.shared_builtins.specs.declared.preds.StatePred.TheVariants.{One, Two, Three}
 use Rattle.shared_builtins.specs.declared.preds.StateThree.TheVariants as three
-use Rattle.shared_builtins.specs.Faults.{IsFaultHeld, IsFaultIn, fault_term, or_empty}
+use Rattle.shared_builtins.specs.Faults.{fault_term}
 use Rattle.shared_builtins.specs.Following.{IsErrorBy, IsErrorOf, IsKindNamed, IsNameHeld, IsPlain, first_of, following_of, has_options, kind_by, with_answer}
 use Rattle.shared_builtins.specs.Goals.{IsStateGoal, arity_of}
-use Rattle.shared_builtins.specs.Replies.{IsFaultNamed, IsLineHeld}
+use Rattle.shared_builtins.specs.Replies.{IsLineHeld}
 use Rattle.shared_builtins.proofs.GoalTerms.{arity_some}
 use Rattle.shared_builtins.proofs.Checking.{for_term}
 use Rattle.shared_builtins.proofs.FixedNames.{existence_error_is}

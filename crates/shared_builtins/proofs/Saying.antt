@@ -1,8 +1,8 @@
 -- What replies say, and the rows of those that a request cannot have.
-use Rattle.std.proofs.Common.{◌≡◌, ℕ, zero, [], Option, Some, None, refl, sym, ap, subst, ◌∙◌}
+use Rattle.std.proofs.Common.{◌≡◌, ℕ, zero, [], refl, ap}
 use Rattle.pl_term.specs.Tree.{Chars, Tree, Trees}
 use Rattle.pl_term.specs.Variables.{rename}
-use Rattle.pl_model.specs.BuiltinRows.{Row, gives}
+use Rattle.pl_model.specs.BuiltinRows.{gives}
 use Rattle.pl_model.specs.Requests as requests
 use Rattle.pl_model.specs.SharedBuiltins.{flags_row, message_row, named_row, procedures_row, status_row, succeeds_with}
 use Rattle.world_api.specs.declared.reply.Reply.{Reply}

@@ -1,15 +1,12 @@
 -- What predicates of one argument come to.
-use Rattle.std.proofs.Common.{◌≡◌, ℕ, zero, Bool, true, false, cond, ◌<◌, length, arith, List, [], ◌∷◌, map, Option, Some, None, Ok, Err, IsSome, codes, refl, sym, ap, ap₂, subst, ◌∙◌}
-use Rattle.std.specs.Prelude.{Result}
+use Rattle.std.proofs.Common.{◌≡◌, ℕ, true, false, cond, ◌<◌, length, arith, List, [], ◌∷◌, map, Option, Some, None, Ok, Err, IsSome, codes, refl, sym, ap, subst, ◌∙◌}
 use Rattle.std.specs.List.{All}
 use Rattle.std.proofs.lemmas.List.Elements.{All-cons, All-head, All-nil, All-tail}
-use Rattle.pl_term.specs.Tree.{Chars, Tree, Trees, var, int, atom, comp, compound, none, more}
-use Rattle.pl_term.specs.Variables.{rename}
+use Rattle.pl_term.specs.Tree.{Tree, Trees, var, int, atom, comp, compound, none, more}
 use Rattle.pl_model.specs.BuiltinRows.{error, one_answer}
 use Rattle.pl_model.specs.Checks.{bound_error, first_error}
-use Rattle.pl_model.specs.History.{Clause, Proc}
-use Rattle.pl_model.specs.Requests.{Request, abolish_procedure, all_procedures, assert_first, assert_last, create_queue, destroy_queue, get_message, make_dynamic, peek_message}
-use Rattle.pl_model.specs.SharedBuiltins.{abolishes, asks_for, asserts, checks_indicators, creates_queue, destroys, gives_row, lists_procedures, makes_dynamic, message_row, named_row, on_ok, procedures_row, queue_alias, succeeds_with, unless, wrong}
+use Rattle.pl_model.specs.Requests.{abolish_procedure, all_procedures, assert_first, assert_last, create_queue, destroy_queue, get_message, make_dynamic, peek_message}
+use Rattle.pl_model.specs.SharedBuiltins.{abolishes, asks_for, asserts, checks_indicators, creates_queue, destroys, gives_row, lists_procedures, makes_dynamic, named_row, on_ok, procedures_row, succeeds_with, unless, wrong}
 use Rattle.pl_model.specs.Balls.{type_error}
 use Rattle.atom_api.specs.Names.{Names}
 use Rattle.builtin_rows.specs.Kinds.{passes}
@@ -18,8 +15,6 @@ use Rattle.term_store.specs.Contents.{Contents, term_at}
 use Rattle.term_store.specs.Heap.{atom_name}
 use Rattle.world_api.specs.declared.visit.Procedure.{Procedure}
 use Rattle.world_api.specs.declared.visit.Visit.TheVariants as visits
-use Rattle.world_api.specs.Texts as worlds
-use Rattle.world_api.specs.Visits.{clause_in, proc_named}
 use Rattle.world_builtins.specs.Naming.{IsHeldAt, atoms_in}
 use Rattle.world_builtins.specs.Spelling.{reads, spelled, text_of}
 use Rattle.shared_builtins.specs.declared.clauses.Given.{Given}
@@ -37,7 +32,7 @@ use Rattle.shared_builtins.specs.Faults.{fault_term}
 use Rattle.shared_builtins.specs.Indicators.{AreIndicated, IsIndicated}
 use Rattle.shared_builtins.specs.Kept.{IsKept}
 use Rattle.shared_builtins.specs.Pairs.{is_pair}
-use Rattle.shared_builtins.specs.Shared.{ComesTo, IsVisit, clause_first, clause_last, declared_only, made_dynamic, one_comes}
+use Rattle.shared_builtins.specs.Shared.{ComesTo, clause_first, clause_last, declared_only, made_dynamic, one_comes}
 use Rattle.shared_builtins.proofs.Checking.{for_term}
 use Rattle.shared_builtins.proofs.FixedNames.{atom_is, predicate_indicator_is, type_error_is}
 use Rattle.shared_builtins.proofs.Reading.{one_text}

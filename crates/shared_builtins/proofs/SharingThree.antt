@@ -1,16 +1,14 @@
 -- What predicates of three arguments come to.
-use Rattle.std.proofs.Common.{◌≡◌, ℕ, ◌<◌, ◌≤◌, Bool, true, false, not, List, [], ◌∷◌, ◌++◌, length, map, Vec, Global, Option, Some, None, Result, Ok, Err, IsSome, IfSome, pos, negsuc, codes, refl, sym, ap, ap₂, subst, ◌∙◌, arith}
-use Rattle.std.specs.Prelude.{zero, is_some, nat_lt}
+use Rattle.std.proofs.Common.{◌≡◌, ℕ, ◌<◌, ◌≤◌, Bool, true, false, not, List, [], ◌∷◌, ◌++◌, length, map, Vec, Global, Option, Some, None, Result, Ok, Err, IsSome, pos, negsuc, refl, sym, ap, ap₂, subst, ◌∙◌, arith}
+use Rattle.std.specs.Prelude.{nat_lt}
 use Rattle.std.specs.List.{All}
 use Rattle.std.specs.Option.{option_map}
 use Rattle.std.proofs.lemmas.Bool.Decides.{nat_tests}
 use Rattle.std.proofs.lemmas.List.Elements.{All-append, All-nil}
 use Rattle.pl_term.specs.Tree.{Chars, Tree, Trees, var, int, atom, comp, none, more}
-use Rattle.pl_term.specs.Variables.{rename}
 use Rattle.pl_model.specs.declared.operators.Kind.{Kind}
-use Rattle.pl_model.specs.OperatorTable.{highest_priority}
 use Rattle.pl_model.specs.BuiltinRows.{error}
-use Rattle.pl_model.specs.Checks.{atom_error, atoms_error, bound_error, elements, first_error, integer_error, natural_of, text_of_atom}
+use Rattle.pl_model.specs.Checks.{atom_error, bound_error, elements, first_error, integer_error, natural_of, text_of_atom}
 use Rattle.pl_model.specs.Requests.{create_thread, put_operators}
 use Rattle.pl_model.specs.SharedBuiltins as shared
 use Rattle.pl_model.specs.SharedBuiltins.{asks_for, creates_with, creates_with_options, gives_row, named_row, names_in, on_ok, options_of, priority_error, puts_names, puts_operators, specifier_error, specifier_named, succeeds_with, thread_errors, unless}
@@ -23,18 +21,15 @@ use Rattle.term_store.specs.Heap.{atom_name}
 use Rattle.term_store.specs.NumberedNames.{names_of}
 use Rattle.world_api.specs.declared.visit.Visit.TheVariants as visits
 use Rattle.world_api.specs.Texts as worlds
-use Rattle.world_builtins.specs.Naming.{IsHeldAt}
 use Rattle.world_builtins.specs.Spelling.{reads, spelled, text_of}
 use Rattle.shared_builtins.specs.declared.faults.Fault.{Fault}
 use Rattle.shared_builtins.specs.declared.kinds.TheConstants.{BOUND, INTEGER}
-use Rattle.shared_builtins.specs.declared.names.Listed.{Listed}
-use Rattle.shared_builtins.specs.declared.names.Listed.TheVariants as lists
 use Rattle.shared_builtins.specs.declared.names.Named.{Named}
 use Rattle.shared_builtins.specs.declared.names.Named.TheVariants.{Atoms, Refused}
 use Rattle.shared_builtins.specs.declared.shared.Shared.{Shared}
 use Rattle.shared_builtins.specs.declared.shared.Shared.TheVariants as comes
 use Rattle.shared_builtins.specs.Checks.{priority_in, specifier_in}
-use Rattle.shared_builtins.specs.Faults.{IsFaultHeld, IsFaultIn, fault_term}
+use Rattle.shared_builtins.specs.Faults.{fault_term}
 use Rattle.shared_builtins.specs.Kept.{IsKept}
 use Rattle.shared_builtins.specs.Names.{AreNamedBy}
 use Rattle.shared_builtins.specs.Operators.{kind_named}

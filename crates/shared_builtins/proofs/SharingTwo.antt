@@ -1,16 +1,15 @@
 -- What predicates of two arguments come to.
-use Rattle.std.proofs.Common.{◌≡◌, ℕ, Bool, true, false, List, [], ◌∷◌, ◌++◌, map, Option, Some, None, IsSome, codes, refl, sym, ap, ap₂, subst, ◌∙◌}
+use Rattle.std.proofs.Common.{◌≡◌, ℕ, true, [], ◌∷◌, ◌++◌, map, Option, Some, None, IsSome, refl, sym, ap, ap₂, subst, ◌∙◌}
 use Rattle.std.specs.List.{All}
-use Rattle.std.proofs.lemmas.List.Elements.{All-append, All-cons, All-head, All-nil}
+use Rattle.std.proofs.lemmas.List.Elements.{All-append, All-cons, All-nil}
 use Rattle.pl_term.specs.Tree.{Chars, Tree, Trees, var, int, atom, comp, none, more}
-use Rattle.pl_term.specs.Variables.{rename}
 use Rattle.pl_model.specs.BuiltinRows.{error}
 use Rattle.pl_model.specs.Balls.{uninstantiation_error}
 use Rattle.pl_model.specs.Checks.{atom_error, bound_error, callable_error, error_if, first_error, text_of_atom}
-use Rattle.pl_model.specs.Requests.{Request, all_flags, create_thread, get_message, join_thread, peek_message, put_flag, send_message}
-use Rattle.pl_model.specs.SharedBuiltins.{asks_for, creates_thread, creates_with, fixed_error, flag_error, flags_row, gets_from, gives_row, joins, lists_flags, message_row, named_row, no_options, peeks_at, puts_flag, sends, status_row, succeeds_with, unless, value_error}
+use Rattle.pl_model.specs.Requests.{all_flags, create_thread, get_message, join_thread, peek_message, put_flag, send_message}
+use Rattle.pl_model.specs.SharedBuiltins.{asks_for, creates_thread, creates_with, fixed_error, flag_error, flags_row, gets_from, gives_row, joins, lists_flags, message_row, no_options, peeks_at, puts_flag, sends, status_row, succeeds_with, unless, value_error}
 use Rattle.pl_model.specs.Terms.{is_variable}
-use Rattle.std.specs.Prelude.{not, zero}
+use Rattle.std.specs.Prelude.{not}
 use Rattle.std.proofs.Common.{Vec, Global}
 use Rattle.atom_api.specs.Names.{Names}
 use Rattle.term_store.specs.declared.words.Place.{Place}
@@ -23,7 +22,7 @@ use Rattle.world_builtins.specs.Spelling.{reads}
 use Rattle.shared_builtins.specs.declared.shared.Shared.TheVariants as comes
 use Rattle.shared_builtins.specs.Checks.{atom_in, value_among, value_in}
 use Rattle.shared_builtins.specs.Kept.{IsKept}
-use Rattle.shared_builtins.specs.Shared.{ComesTo, IsVisit}
+use Rattle.shared_builtins.specs.Shared.{ComesTo}
 use Rattle.shared_builtins.proofs.Naming.{name_told}
 use Rattle.shared_builtins.proofs.Sharing.{one_error}
 

@@ -1,6 +1,6 @@
 -- Checks of arguments.
 use Rattle.std.specs.Prelude.{ℕ, Bool, true, false, not, ◌||◌, [], ◌∷◌, Option, Some, None, is_some, pos, negsuc, nat_lt}
-use Rattle.pl_term.specs.Tree.{Tree, var, int, atom, comp}
+use Rattle.pl_term.specs.Tree.{Tree, var, int, atom}
 use Rattle.pl_model.specs.OperatorTable.{highest_priority}
 use Rattle.pl_model.specs.Balls.{uninstantiation_error}
 use Rattle.pl_model.specs.Checks.{atom_error, bound_error, callable_error, error_if, integer_error, negative_error}

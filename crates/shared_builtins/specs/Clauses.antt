@@ -7,7 +7,6 @@ use Rattle.pl_model.specs.BodyChecks.{clause_of, clause_of_term, converted, numb
 use Rattle.pl_model.specs.History.{body_part, head_part}
 use Rattle.pl_model.specs.History as model
 use Rattle.atom_api.specs.Names.{Names}
-use Rattle.builtin_rows.specs.Lists.{IsNaming}
 use Rattle.term_store.specs.declared.words.Place.{Place}
 use Rattle.term_store.specs.Contents.{Contents, Holds}
 use Rattle.term_store.specs.NumberedNames.{names_of, term_by}

@@ -1,6 +1,6 @@
 -- By which replies the rows of predicates follow.
 use Rattle.std.specs.Prelude.{◌≡◌, ◌⊎◌, ℕ, zero, Bool, true, false, List, [], Option, Some, None, IsSome, Ok, codes}
-use Rattle.pl_term.specs.Tree.{Chars, Tree, Trees, var, int, atom, comp, none, more}
+use Rattle.pl_term.specs.Tree.{Chars, Tree, Trees, var, atom, comp, none, more}
 use Rattle.pl_term.specs.Variables.{rename, variables}
 use Rattle.pl_model.specs.BuiltinRows.{Row}
 use Rattle.pl_model.specs.Checks.{elements}

@@ -1,5 +1,5 @@
 -- Predicate indicators.
-use Rattle.std.specs.Prelude.{◌≡◌, ℕ, List, [], ◌∷◌, ◌++◌, map, Result, Ok, Err, IsSome}
+use Rattle.std.specs.Prelude.{◌≡◌, List, [], ◌∷◌, ◌++◌, map, Result, Ok, Err, IsSome}
 use Rattle.std.specs.List.{All}
 use Rattle.pl_term.specs.Tree.{Tree}
 use Rattle.pl_model.specs.Checks.{atom_error, bound_error, first_error, integer_error, negative_error, proc_indicated, proc_or_error, with_proc}
@@ -11,7 +11,6 @@ use Rattle.term_store.specs.Contents.{Contents}
 use Rattle.world_api.specs.declared.visit.Procedure.{Procedure}
 use Rattle.world_api.specs.Texts.{text_of}
 use Rattle.world_api.specs.Visits.{proc_named}
-use Rattle.world_builtins.specs.Naming.{IsHeldAt}
 use Rattle.world_builtins.specs.Spelling.{reads}
 use Rattle.shared_builtins.specs.declared.faults.Fault.{Fault}
 use Rattle.shared_builtins.specs.declared.indicators.Indicated.{Indicated}

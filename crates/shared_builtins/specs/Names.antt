@@ -1,5 +1,5 @@
 -- Names of operators, and the elements of lists.
-use Rattle.std.specs.Prelude.{◌≡◌, ℕ, List, map, Option, Some, None, Result, Ok, Err, IsSome, ◌∷◌, []}
+use Rattle.std.specs.Prelude.{◌≡◌, ℕ, List, map, Some, None, Result, Ok, Err, IsSome, ◌∷◌, []}
 use Rattle.std.specs.List.{All}
 use Rattle.pl_term.specs.Tree.{Tree, atom}
 use Rattle.pl_model.specs.Checks.{atom_error, atoms_error, bound_error, first_error, text_of_atom}

@@ -1,5 +1,5 @@
 -- What predicates of the shared state come to with their arguments.
-use Rattle.std.specs.Prelude.{◌≡◌, ℕ, zero, Bool, Option, Some, None, IsSome}
+use Rattle.std.specs.Prelude.{◌≡◌, ℕ, zero, Option, Some, None, IsSome}
 use Rattle.std.specs.Option.{option_map}
 use Rattle.std.specs.List.{All}
 use Rattle.pl_term.specs.Tree.{Tree, Trees, none, more}

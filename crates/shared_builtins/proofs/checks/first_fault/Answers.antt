@@ -1,8 +1,8 @@
-use Rattle.std.proofs.Common.{◌≡◌, ◌<◌, ℕ, get_or, length, map, sym, subst, true, ◌∙◌, arith, below_more}
+use Rattle.std.proofs.Common.{◌<◌, length, map, sym, subst, ◌∙◌, arith}
 use Rattle.std.proofs.lemmas.List.{at_drop_all}
 use Rattle.pl_model.specs.Checks.{first_error}
 use Rattle.world_builtins.specs.Spelling.{reads}
-use Rattle.shared_builtins.specs.Checks.{check_error, check_passes}
+use Rattle.shared_builtins.specs.Checks.{check_error}
 use Rattle.shared_builtins.specs.Faults.{IsFaultIn}
 use Rattle.shared_builtins.proofs.Checking.{check_failed, check_inside, check_passed, one_more_passed}
 use Rattle.shared_builtins.proofs.checks.first_fault.Goals as goal

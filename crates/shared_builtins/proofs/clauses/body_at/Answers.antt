@@ -2,7 +2,6 @@ use Rattle.std.proofs.Common.{[], ◌∷◌}
 use Rattle.std.specs.List.{All}
 use Rattle.std.proofs.lemmas.List.Elements.{All-cons, All-nil}
 use Rattle.world_builtins.specs.Spelling.{reads}
-use Rattle.shared_builtins.specs.declared.checks.Check.{Check}
 use Rattle.shared_builtins.specs.declared.checks.Check.TheVariants.{Bound, Callable}
 use Rattle.shared_builtins.specs.Checks.{IsCheckHeld}
 use Rattle.shared_builtins.specs.Faults.{fault_term}

@@ -1,4 +1,4 @@
-use Rattle.std.proofs.Common.{Some, None, codes, subst}
+use Rattle.std.proofs.Common.{codes, subst}
 use Rattle.iso_search.specs.Conversions.{IsConverted}
 use Rattle.shared_builtins.proofs.Checking.{for_term, is_fixed_name}
 use Rattle.shared_builtins.proofs.FixedNames.{callable_is, type_error_is}

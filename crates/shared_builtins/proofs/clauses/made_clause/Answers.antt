@@ -1,7 +1,6 @@
-use Rattle.std.proofs.Common.{sym, subst}
-use Rattle.world_builtins.specs.Naming.{IsHeldAt}
+use Rattle.std.proofs.Common.{subst}
 use Rattle.iso_search.proofs.Converting.{grows_again}
-use Rattle.shared_builtins.specs.Clauses.{IsBodyIn, IsBodyOf}
+use Rattle.shared_builtins.specs.Clauses.{IsBodyOf}
 use Rattle.shared_builtins.proofs.ClauseTerms.{head_held, kept_as, refused_clause, term_held}
 use Rattle.shared_builtins.proofs.clauses.made_clause.Goals as goal
 

@@ -1,6 +1,5 @@
 use Rattle.std.proofs.Common.{zero, ap₂, ◌∙◌}
 use Rattle.pl_term.specs.Tree.{comp, more, none}
-use Rattle.term_store.specs.Contents.{term_at}
 use Rattle.term_store.specs.Heap.{atom_name}
 use Rattle.builtin_rows.proofs.Balls.{makes_again, makes_one, two_places}
 use Rattle.shared_builtins.proofs.Faulting.{value_held, value_reads}

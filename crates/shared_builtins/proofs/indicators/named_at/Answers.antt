@@ -1,7 +1,6 @@
 use Rattle.std.proofs.Common.{[], ◌∷◌, arith}
 use Rattle.std.specs.List.{All}
 use Rattle.std.proofs.lemmas.List.Elements.{All-cons, All-nil}
-use Rattle.atom_api.specs.Names.{Names}
 use Rattle.world_builtins.specs.Spelling.{reads}
 use Rattle.world_api.specs.declared.visit.Procedure.{Procedure}
 use Rattle.shared_builtins.specs.declared.checks.Check.TheVariants.{Atom, Bound, Integer, Natural}

@@ -1,10 +1,6 @@
-use Rattle.std.proofs.Common.{[], ◌∷◌, ◌++◌, map, sym, ap, subst, ◌∙◌}
-use Rattle.std.specs.List.{All}
-use Rattle.std.proofs.lemmas.List.Elements.{All-cons, All-nil}
-use Rattle.world_builtins.specs.Naming.{IsHeldAt}
-use Rattle.world_builtins.specs.Spelling.{reads}
+use Rattle.std.proofs.Common.{sym, subst, ◌∙◌}
 use Rattle.shared_builtins.specs.Names.{AreListed}
-use Rattle.shared_builtins.proofs.Naming.{no_name, one_name}
+use Rattle.shared_builtins.proofs.Naming.{no_name}
 use Rattle.shared_builtins.proofs.names.names_listed.Goals as goal
 
 pub returns-in_ok-listed-clause-listed : goal.returns-in_ok-listed-clause-listed

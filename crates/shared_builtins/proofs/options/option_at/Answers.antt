@@ -1,4 +1,3 @@
-use Rattle.std.proofs.Common.{◌∙◌}
 use Rattle.shared_builtins.proofs.options.option_at.Goals as goal
 
 pub returns-in-Some-clause-option : goal.returns-in-Some-clause-option

@@ -1,4 +1,4 @@
-use Rattle.std.proofs.Common.{◌≡◌, ◌<◌, length, map, sym, ap, subst, Option, IsSome, IfSome, arith}
+use Rattle.std.proofs.Common.{◌<◌, length, map, sym, ap, subst, Option, IsSome, IfSome, arith}
 use Rattle.std.specs.List.{All}
 use Rattle.std.proofs.lemmas.List.{at_drop_all}
 use Rattle.std.proofs.lemmas.List.Elements.{All-get_or, All-nil}

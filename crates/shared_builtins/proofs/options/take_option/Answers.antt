@@ -1,4 +1,4 @@
-use Rattle.std.proofs.Common.{◌≡◌, [], ◌∷◌, map, IsSome, sym, ap, subst, ◌∙◌}
+use Rattle.std.proofs.Common.{map, IsSome, sym, ap, subst, ◌∙◌}
 use Rattle.std.specs.List.{All}
 use Rattle.std.proofs.lemmas.List.Elements.{All-push}
 use Rattle.world_api.specs.Texts.{text_of}

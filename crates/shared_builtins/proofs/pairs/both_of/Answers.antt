@@ -1,4 +1,4 @@
-use Rattle.std.proofs.Common.{◌≡◌, ◌==◌, [], true, false, length, sym, ap, ◌∙◌, arith}
+use Rattle.std.proofs.Common.{◌≡◌, ◌==◌, [], length, sym, ap, ◌∙◌, arith}
 use Rattle.pl_term.specs.Tree.{atom}
 use Rattle.term_store.specs.Contents.{arguments_at}
 use Rattle.world_builtins.specs.Spelling.{spelled, text_of}

@@ -1,8 +1,4 @@
-use Rattle.std.proofs.Common.{codes, false, sym, ap, subst, ◌∙◌}
-use Rattle.std.specs.List.{All}
-use Rattle.pl_model.specs.History.{body_part, head_part}
-use Rattle.world_builtins.specs.Naming.{IsHeldAt}
-use Rattle.shared_builtins.specs.Clauses.{is_rule}
+use Rattle.std.proofs.Common.{codes, sym}
 use Rattle.shared_builtins.proofs.ClauseTerms.{fact_read, rule_body_is, rule_head_is, rule_is}
 use Rattle.shared_builtins.proofs.FixedNames.{neck_is}
 use Rattle.shared_builtins.proofs.parts.parts_at.Goals as goal

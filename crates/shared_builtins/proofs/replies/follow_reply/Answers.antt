@@ -1,8 +1,7 @@
 use Rattle.std.proofs.Common.{sym, ap, subst, ◌∙◌}
-use Rattle.pl_model.specs.BuiltinRows.{Row}
 use Rattle.pl_model.specs.Terms.{arguments}
 use Rattle.world_builtins.specs.Spelling.{reads}
-use Rattle.shared_builtins.specs.Following.{following_of, row_by, with_answer}
+use Rattle.shared_builtins.specs.Following.{row_by, with_answer}
 use Rattle.shared_builtins.specs.Replies.{IsReplied}
 use Rattle.shared_builtins.proofs.Followed.{reply_for, row_for}
 use Rattle.shared_builtins.proofs.replies.follow_reply.Goals as goal

@@ -1,16 +1,14 @@
-use Rattle.std.proofs.Common.{refl, sym, ap, subst}
+use Rattle.std.proofs.Common.{refl, sym, subst}
 use Rattle.pl_model.specs.Predicates.{proc_of}
 use Rattle.pl_model.specs.Requests.{Reply}
 use Rattle.pl_model.specs.SharedBuiltins.{named_row}
 use Rattle.pl_model.specs.Terms.{arguments}
 use Rattle.builtin_rows.specs.Given.{given}
 use Rattle.builtin_rows.specs.Rows.{IsRow}
-use Rattle.term_store.specs.NumberedNames.{term_by}
-use Rattle.world_api.specs.Replies.{Says}
 use Rattle.world_api.specs.Texts.{text_of}
 use Rattle.world_builtins.specs.Spelling.{reads}
 use Rattle.shared_builtins.specs.Following.{with_answer}
-use Rattle.shared_builtins.specs.Replies.{IsReplied, IsReplyFor, renumbered_reply}
+use Rattle.shared_builtins.specs.Replies.{IsReplied, IsReplyFor}
 use Rattle.shared_builtins.proofs.ReplyRows.{fails_row}
 use Rattle.shared_builtins.proofs.Saying.{other_names, refusal_said, said_as_is}
 use Rattle.world_api.specs.declared.reply.Reply.TheVariants as replies

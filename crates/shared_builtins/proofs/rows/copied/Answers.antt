@@ -1,6 +1,6 @@
-use Rattle.std.proofs.Common.{◌+◌, ◌<◌, ◌≤◌, ◌^◌, length, refl, sym, ap, subst, ◌∙◌}
+use Rattle.std.proofs.Common.{◌+◌, ◌<◌, ◌≤◌, ◌^◌, sym, ap, subst, ◌∙◌}
 use Rattle.pl_term.specs.Cells.{cells}
-use Rattle.pl_term.specs.Variables.{rename, variables}
+use Rattle.pl_term.specs.Variables.{rename}
 use Rattle.pl_model.specs.BuiltinRows.{Answer}
 use Rattle.pl_model.specs.History.{proc}
 use Rattle.pl_model.specs.Terms.{arguments, variable_count}

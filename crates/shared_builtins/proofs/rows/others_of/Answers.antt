@@ -1,10 +1,8 @@
-use Rattle.std.proofs.Common.{◌<◌, ◌≡◌, [], ◌∷◌, sym, ap, ap₂, subst, ◌∙◌, IsSome, arith}
+use Rattle.std.proofs.Common.{◌<◌, [], ◌∷◌, sym, ap, ap₂, subst, ◌∙◌, IsSome, arith}
 use Rattle.std.specs.List.{All}
 use Rattle.std.proofs.lemmas.List.Elements.{All-cons, All-nil}
 use Rattle.pl_term.specs.Tree.{more, none}
 use Rattle.builtin_rows.proofs.Balls.{one_place, two_places}
-use Rattle.term_store.specs.Contents.{Contents, Holds, term_at}
-use Rattle.term_store.specs.declared.words.Place.{Place}
 use Rattle.world_builtins.specs.Naming.{IsHeldAt, atoms_in}
 use Rattle.world_builtins.specs.Spelling.{reads, spelled, text_of}
 use Rattle.shared_builtins.specs.Goals.{arity_of}

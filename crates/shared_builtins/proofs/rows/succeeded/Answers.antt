@@ -1,4 +1,4 @@
-use Rattle.std.proofs.Common.{refl, sym, subst, arith}
+use Rattle.std.proofs.Common.{refl, sym, subst}
 use Rattle.pl_model.specs.BuiltinRows.{plain_answer}
 use Rattle.pl_model.specs.History.{proc}
 use Rattle.pl_model.specs.Predicates.{proc_of}

@@ -1,0 +1,23 @@
+use Rattle.std.proofs.Common.{codes, inl, inr, refl, sym, ◌∙◌}
+use Rattle.shared_builtins.proofs.FixedNames.{assert_is, asserta_is, assertz_is, discontiguous_is, multifile_is}
+use Rattle.shared_builtins.proofs.PairTerms.{named_fixed}
+use Rattle.shared_builtins.proofs.built.built_pred.Goals as goal
+
+pub returns-then-eq : goal.returns-then-eq
+returns-then-eq c = ((codes "asserta", named_fixed c.args.name 43 (codes "asserta") asserta_is (sym c.eq.ensures ∙ c.if-eq.true), refl), c.if-arity-ne1.false)
+
+pub returns-then-eq-2 : goal.returns-then-eq-2
+returns-then-eq-2 c =
+    ((codes "assertz", named_fixed c.args.name 44 (codes "assertz") assertz_is (sym c.eq-else-eq.ensures ∙ c.if-eq-2.true), inl refl), c.if-arity-ne1.false)
+
+pub returns-then-eq-3 : goal.returns-then-eq-3
+returns-then-eq-3 c =
+    ((codes "assert", named_fixed c.args.name 42 (codes "assert") assert_is (sym c.eq-else-eq-2.ensures ∙ c.if-eq-3.true), inr refl), c.if-arity-ne1.false)
+
+pub returns-then-eq-4 : goal.returns-then-eq-4
+returns-then-eq-4 c =
+    ((codes "discontiguous", named_fixed c.args.name 75 (codes "discontiguous") discontiguous_is (sym c.eq-else-eq-3.ensures ∙ c.if-eq-4.true), inl refl), c.if-arity-ne1.false)
+
+pub returns-then-eq-5 : goal.returns-then-eq-5
+returns-then-eq-5 c =
+    ((codes "multifile", named_fixed c.args.name 127 (codes "multifile") multifile_is (sym c.eq-else-eq-4.ensures ∙ c.if-eq-5.true), inr refl), c.if-arity-ne1.false)
