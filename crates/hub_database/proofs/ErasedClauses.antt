@@ -154,6 +154,11 @@ pub granted_says : {F R : Type 0} {S : F → Type 0} (b : Bool) (x : F) → b �
 granted_says true x e no_ m = absurd (false≢true (sym e))
 granted_says false x e no_ m = m
 
+-- where nothing refuses the change, want of memory is the only cause
+pub only_cause : {F R : Type 0} (b : Bool) (x : F) (S : F → Type 0) → b ≡ false → MatchOption (cond b (Some x) None) R S → R
+only_cause true x S e m = absurd (false≢true (sym e))
+only_cause false x S e m = m
+
 pub no_static : (d : model.Database Clause) (p : Proc) → is_static d p ≡ false → list_any (is_static d) (p ∷ []) ≡ false
 no_static d p e = ap (λ b. b || false) e
 

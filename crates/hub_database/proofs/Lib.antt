@@ -17,3 +17,4 @@ pub mod ReclaimedClauses
 pub mod PutOperators
 pub mod ListedProcedures
 pub mod HintedCalls
+pub mod OperatorTurns

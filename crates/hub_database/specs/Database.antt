@@ -1,7 +1,8 @@
 -- When the stored clauses, with the flags and the operators, are the database after all updates of a history.
 use Rattle.std.specs.Prelude.{◌≡◌, ◌≤◌, ℕ, List, [], ◌∷◌, false, length}
+use Rattle.std.specs.List.{list_any}
 use Rattle.pl_term.specs.Tree.{Tree}
-use Rattle.pl_model.specs.History.{Clause, History, Kind, add_first, add_last, erase, abolish, set_dynamic, set_flag, set_op}
+use Rattle.pl_model.specs.History.{Clause, History, Kind, Proc, add_first, add_last, erase, abolish, set_dynamic, set_flag, set_op}
 use Rattle.pl_model.specs.Database as model
 use Rattle.pl_model.specs.Predicates.{proc_of}
 use Rattle.pl_model.specs.SharedState.{state_at}
@@ -51,3 +52,15 @@ IsElsewhere _ = Unit {0}
 pub record IsUpTo (g : ℕ) (db : Held Tree) : Type 0 where
   pub next : db.next ≤ g
   pub floor : db.floor ≤ g
+
+-- WHAT IS STORED IS THE DATABASE after some history of this length
+pub record HasHistory (k : View) (db : Held Tree) (g : ℕ) : Type 0 where
+  pub goals : ℕ
+  pub history : History
+  pub long : length history ≡ g
+  pub is : IsDatabase k db goals history
+
+-- and after it none of these predicates is static
+pub record CanOpen (ps : List Proc) (k : View) (db : Held Tree) (g : ℕ) : Type 0 where
+  pub has : HasHistory k db g
+  pub none : list_any (model.is_static (databases has.goals has.history g)) ps ≡ false

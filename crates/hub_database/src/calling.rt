@@ -27,7 +27,7 @@ ghost use Rattle.hub_database.specs.Rows.{IsQuiet, IsReply, IsSteady, Tells, Unk
 use crate::calls::hand_out;
 use crate::hints::Hints;
 use crate::looking::first_of;
-use crate::naming::{head_procedure, predicate_text};
+use crate::naming::{head_procedure, predicate_text, spelled_as};
 use crate::refusals::{private_error, refusal, static_error, unknown_error};
 use atom_table::{Keeper, NamesTable, TableAtoms};
 use clause_db::{Access, Db, UnknownCall};
@@ -170,20 +170,40 @@ fn call_by_text<K: NamesTable>(
         → predicate_of (said (names (seen atoms.old.seat)) t) ≡ proc_named (text_of (names (seen atoms.old.seat))) procedure.now → clause_key t ≡ first.now
         → Tells goals e (text_of (names (seen atoms.new.seat))) (requests.call_clauses (said (names (seen atoms.old.seat)) t)) h result }
 {
-    let Ok(p) = predicate_text(alloc, atoms, procedure) else {
+    let Ok(p) = noted_text(alloc, hints, atoms, procedure) else {
         return Row::Memory;
     };
     if is_known(db, &p, generation) {
-        note(db, hints, procedure, &p);
-        return first_of(db, atoms, keeper, &p, first, generation);
+        let row = first_of(db, atoms, keeper, &p, first, generation);
+        note(db, hints, procedure, p);
+        return row;
     }
     unknown(alloc, db.flags().unknown, procedure)
 }
 
+// The predicate in texts, by what the engine holds. It is taken from the hints, where these have it; else it is made. The only
+// error is out of memory.
+fn noted_text<K: NamesTable>(
+    alloc: Global,
+    hints: &mut Hints,
+    atoms: &mut TableAtoms<K>,
+    p: &Procedure,
+) -> Result<Proc, Memory>
+    requires { IsSome (names (seen atoms.old.seat) p.now.name) }
+    ensures spelled { IfOk result (λ q. proc_of q ≡ proc_named (text_of (names (seen atoms.old.seat))) p.now) }
+    ensures held { names (seen atoms.new.seat) ≡ names (seen atoms.old.seat) }
+    ensures quiet { IsQuiet (seen atoms.old.seat) (seen atoms.new.seat) }
+{
+    match hints.take(p) {
+        Some(noted) => spelled_as(alloc, atoms, p, noted),
+        None => predicate_text(alloc, atoms, p),
+    }
+}
+
 // Notes where the procedure stands, if it does.
-fn note(db: &Db<CountedTerm>, hints: &mut Hints, procedure: &Procedure, p: &Proc) {
-    match db.index_of(p) {
-        Some(i) => hints.note(procedure, i),
+fn note(db: &Db<CountedTerm>, hints: &mut Hints, procedure: &Procedure, p: Proc) {
+    match db.index_of(&p) {
+        Some(i) => hints.note(procedure, i, p),
         None => {}
     }
 }

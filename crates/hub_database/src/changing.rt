@@ -13,7 +13,7 @@ ghost use Rattle.hub_database.specs.Rows.{Decides, ErasesNone, IsQuiet, IsSteady
 
 use crate::refusals::{refusal, worn_error};
 use atom_table::{Keeper, NamesTable, TableAtoms};
-use clause_db::Db;
+use clause_db::{Db, DbFault};
 use counted_terms::{CountedTerm, MOST_UPDATES, Row, agree};
 use std::alloc::Global;
 use world_api::Reply;
@@ -47,7 +47,8 @@ pub fn erase_clause<K: NamesTable>(
     match db.erase(clause, generation) {
         Ok(true) => Row::Makes(Reply::Done),
         Ok(false) => Row::Reads(Reply::Gone),
-        Err(_) => Row::Memory,
+        Err(DbFault::Memory) => Row::Memory,
+        Err(_) => unreachable!(),
     }
 }
 

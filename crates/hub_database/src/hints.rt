@@ -1,4 +1,5 @@
 //! Where the procedures of calls stand, by the atoms of their names: a hint, which is looked at before it is used.
+use pl_model::shows::Proc;
 use std::alloc::Global;
 use std::collections::BTreeMap;
 use world_api::Procedure;
@@ -10,32 +11,52 @@ struct Called {
     arity: u64,
 }
 
-/// At which index the procedures that were called stood. An atom may have been given to another text since: who uses a hint sees
-/// by the clause that is found there whether it holds.
+/// At which index a procedure stood that was called, and its predicate in texts, unless a call has taken that.
+#[derive(Drop)]
+struct Noted {
+    place: u64,
+    predicate: Option<Proc>,
+}
+
+/// The procedures that were called. An atom may have been given to another text since: who uses a hint sees by the clause that
+/// is found there, or by the text, whether it holds.
 #[derive(Drop)]
 pub struct Hints {
-    places: BTreeMap<Called, u64>,
+    noted: BTreeMap<Called, Noted>,
 }
 
 impl Hints {
     /// No hints.
     pub fn new(alloc: Global) -> Hints {
         Hints {
-            places: BTreeMap::new(alloc),
+            noted: BTreeMap::new(alloc),
         }
     }
 
-    /// The hint for the procedure.
+    /// At which index the procedure stood.
     pub(crate) fn find(&self, p: &Procedure) -> Option<u64> {
-        match self.places.get(&numbered(p)) {
-            Some(i) => Some(*i),
+        match self.noted.get(&numbered(p)) {
+            Some(noted) => Some(noted.place),
             None => None,
         }
     }
 
-    /// Notes where the procedure stands. Where there is no memory nothing is noted.
-    pub(crate) fn note(&mut self, p: &Procedure, i: u64) {
-        match self.places.insert(numbered(p), i) {
+    /// Takes the predicate in texts, where it is noted.
+    pub(crate) fn take(&mut self, p: &Procedure) -> Option<Proc> {
+        match self.noted.get_mut(&numbered(p)) {
+            Some(noted) => noted.predicate.take(),
+            None => None,
+        }
+    }
+
+    /// Notes at which index the procedure stands, and its predicate in texts. Where there is no memory nothing is noted; a
+    /// procedure that was noted takes none.
+    pub(crate) fn note(&mut self, p: &Procedure, place: u64, predicate: Proc) {
+        let noted = Noted {
+            place,
+            predicate: Some(predicate),
+        };
+        match self.noted.insert(numbered(p), noted) {
             Ok(_) => {}
             Err(_) => {}
         }

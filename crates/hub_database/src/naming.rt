@@ -1,5 +1,5 @@
 //! Predicates over atoms, and what they are in texts.
-ghost use Rattle.std.specs.Prelude.{◌≡◌, ◌<◌, ℕ, IsSome, IfOk, IfSome, length, map};
+ghost use Rattle.std.specs.Prelude.{◌≡◌, ◌<◌, ℕ, IsSome, IfOk, IfSome, Some, length, map, true};
 ghost use Rattle.std.specs.List.{All};
 ghost use Rattle.pl_model.specs.History.{head_part};
 ghost use Rattle.pl_model.specs.Predicates.{proc_of as predicate_of};
@@ -17,12 +17,13 @@ ghost use Rattle.counted_terms.specs.CountedTerms.{said};
 ghost use Rattle.hub_database.specs.Heads.{node_procedure};
 ghost use Rattle.hub_database.specs.Rows.{IsQuiet};
 
-use atom_api::{Atom, Atoms, fixed};
+use atom_api::{Atom, Atoms, TextBuf, fixed};
 use atom_table::{NamesTable, TableAtoms};
 use counted_terms::text_of_atom;
 use pl_model::shows::Proc;
 use pl_term::{Memory, Text};
 use std::alloc::Global;
+use std::convert::AsStr;
 use term_store::{AtomNode, Stored};
 use world_api::Procedure;
 
@@ -53,6 +54,58 @@ pub(crate) fn predicate_text<K: NamesTable>(
     ensures quiet { IsQuiet (seen atoms.old.seat) (seen atoms.new.seat) }
 {
     spelled(alloc, atoms, p)
+}
+
+// Whether this is the text in the buffer.
+fn is_text(text: &Text, buf: &TextBuf) -> bool
+    ensures { result ≡ true → text.now ≡ buf.now }
+{
+    text.is(buf.as_str())
+}
+
+// Whether the atom, which is held, has the text. It takes no memory.
+fn reads<A: Atoms>(atoms: &mut A, a: Atom, text: &Text) -> bool
+    requires { IsSome (A.held atoms.old a) }
+    ensures reads { result ≡ true → A.held atoms.old a ≡ Some text.now }
+    ensures same { A.held atoms.new ≡ A.held atoms.old }
+    ensures refusals { A.refusals atoms.new ≡ A.refusals atoms.old }
+    ensures asked { A.asked atoms.new ≡ A.asked atoms.old }
+{
+    let mut buf = TextBuf::new();
+    atoms.text(a, &mut buf);
+    is_text(text, &buf)
+}
+
+// Whether this is the predicate in texts, by what the engine holds. It takes no memory.
+fn is_spelled<K: NamesTable>(atoms: &mut TableAtoms<K>, p: &Procedure, spelled: &Proc) -> bool
+    requires { IsSome (names (seen atoms.old.seat) p.now.name) }
+    ensures spelled { result ≡ true → proc_of spelled.now ≡ proc_named (text_of (names (seen atoms.old.seat))) p.now }
+    ensures held { names (seen atoms.new.seat) ≡ names (seen atoms.old.seat) }
+    ensures quiet { IsQuiet (seen atoms.old.seat) (seen atoms.new.seat) }
+{
+    if p.arity != spelled.arity {
+        return false;
+    }
+    reads(atoms, p.name, &spelled.name)
+}
+
+/// The predicate in texts, by what the engine holds, where it may be the one that is given: that is compared and takes no
+/// memory. The only error is out of memory.
+pub(crate) fn spelled_as<K: NamesTable>(
+    alloc: Global,
+    atoms: &mut TableAtoms<K>,
+    p: &Procedure,
+    given: Proc,
+) -> Result<Proc, Memory>
+    requires { IsSome (names (seen atoms.old.seat) p.now.name) }
+    ensures spelled { IfOk result (λ q. proc_of q ≡ proc_named (text_of (names (seen atoms.old.seat))) p.now) }
+    ensures held { names (seen atoms.new.seat) ≡ names (seen atoms.old.seat) }
+    ensures quiet { IsQuiet (seen atoms.old.seat) (seen atoms.new.seat) }
+{
+    if is_spelled(atoms, p, &given) {
+        return Ok(given);
+    }
+    predicate_text(alloc, atoms, p)
 }
 
 /// The predicates in texts, by what the engine holds. The only error is out of memory.

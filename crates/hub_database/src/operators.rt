@@ -14,7 +14,7 @@ ghost use Rattle.atom_words.specs.Seats.{seen};
 ghost use Rattle.atom_words.specs.declared.view.View.{View};
 ghost use Rattle.atom_table.specs.Naming.{names};
 ghost use Rattle.op_table.specs.Faults.{fault_of};
-ghost use Rattle.clause_db.specs.Operators.{shown};
+ghost use Rattle.clause_db.specs.Operators.{first_fault, shown};
 ghost use Rattle.world_api.specs.declared.reply.Reply.TheVariants.{Done};
 ghost use Rattle.world_api.specs.Texts.{text_of};
 ghost use Rattle.counted_terms.specs.Rows.{row_names, row_refusals};
@@ -70,6 +70,7 @@ pub fn put_operators<K: NamesTable>(
 // The operators, none of which is refused, are put into the table.
 fn set_operators(alloc: Global, db: &mut Db<CountedTerm>, rows: &[Operator], generation: u64) -> Row
     requires upto { IsUpTo generation db.old }
+    requires granted { first_fault rows.now db.old.operators ≡ None }
     ensures weighs { (a : ℕ) → clause_counts db.new a ≡ clause_counts db.old a }
     ensures upto { IsUpTo (generation_after result generation) db.new }
     ensures floor { db.new.floor ≡ db.old.floor }
@@ -83,7 +84,8 @@ fn set_operators(alloc: Global, db: &mut Db<CountedTerm>, rows: &[Operator], gen
     }
     match db.set_op(rows, generation) {
         Ok(()) => Row::Makes(Reply::Done),
-        Err(_) => Row::Memory,
+        Err(OpFault::Memory) => Row::Memory,
+        Err(_) => unreachable!(),
     }
 }
 

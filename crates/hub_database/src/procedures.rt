@@ -20,7 +20,7 @@ ghost use Rattle.counted_terms.specs.CountedTerms.{said};
 ghost use Rattle.counted_terms.specs.Keeping.{KeeperAt, keeper_view};
 ghost use Rattle.counted_terms.specs.Sharing.{Counts};
 ghost use Rattle.counted_terms.specs.Rows.{row_names, row_refusals};
-ghost use Rattle.hub_database.specs.Database.{IsDatabase, IsUpTo, clause_counts, databases};
+ghost use Rattle.hub_database.specs.Database.{CanOpen, HasHistory, IsDatabase, IsUpTo, clause_counts, databases};
 ghost use Rattle.hub_database.specs.Rows.{Decides, IsQuiet, IsReplyOrMade, IsSteady, Updates, generation_after, history_after};
 
 use crate::calling::{is_known, is_static};
@@ -28,7 +28,7 @@ use crate::looking::first_of;
 use crate::naming::{predicate_text, predicate_texts};
 use crate::refusals::{refusal, static_error, worn_error};
 use atom_table::{Keeper, NamesTable, TableAtoms};
-use clause_db::Db;
+use clause_db::{Db, DbFault};
 use counted_terms::{CountedTerm, MOST_UPDATES, Row, agree};
 use pl_model::shows::Proc;
 use std::alloc::Global;
@@ -46,6 +46,7 @@ pub fn abolish_procedure<K: NamesTable>(
 ) -> Row
     requires keeper { KeeperAt K.atoms K.size keeper.old }
     requires upto { IsUpTo generation db.old }
+    requires has { HasHistory (keeper_view keeper.old) db.old generation }
     requires name { IsSome (names (seen atoms.old.seat) procedure.now.name) }
     ensures keeper { KeeperAt K.atoms K.size keeper.new }
     ensures steady { IsSteady (keeper_view keeper.old) (keeper_view keeper.new) }
@@ -70,7 +71,8 @@ pub fn abolish_procedure<K: NamesTable>(
     agree(atoms, keeper);
     match db.abolish(&p, generation) {
         Ok(()) => Row::Makes(Reply::Done),
-        Err(_) => Row::Memory,
+        Err(DbFault::Memory) => Row::Memory,
+        Err(_) => unreachable!(),
     }
 }
 
@@ -88,6 +90,7 @@ pub fn clear_clauses<K: NamesTable>(
     requires keeper { KeeperAt K.atoms K.size keeper.old }
     requires counts { Counts (clause_counts db.old) (keeper_view keeper.old) generation }
     requires upto { IsUpTo generation db.old }
+    requires has { HasHistory (keeper_view keeper.old) db.old generation }
     requires name { IsSome (names (seen atoms.old.seat) procedure.now.name) }
     requires key { All (λ a. IsSome (names (seen atoms.old.seat) a)) (key_atoms first.now) }
     ensures keeper { KeeperAt K.atoms K.size keeper.new }
@@ -128,6 +131,7 @@ pub fn make_dynamic<K: NamesTable>(
     generation: u64,
 ) -> Row
     requires upto { IsUpTo generation db.old }
+    requires has { (k : View) × HasHistory k db.old generation }
     requires held { All (λ (p : Procedure). IsSome (names (seen atoms.old.seat) p.name)) procedures.now }
     ensures weighs { (a : ℕ) → clause_counts db.new a ≡ clause_counts db.old a }
     ensures upto { IsUpTo (generation_after result generation) db.new }
@@ -173,6 +177,7 @@ fn open_procedures(
     generation: u64,
 ) -> Row
     requires upto { IsUpTo generation db.old }
+    requires free { (k : View) × CanOpen (map proc_of ps.now) k db.old generation }
     ensures weighs { (a : ℕ) → clause_counts db.new a ≡ clause_counts db.old a }
     ensures upto { IsUpTo (generation_after result generation) db.new }
     ensures floor { db.new.floor ≡ db.old.floor }
@@ -188,6 +193,7 @@ fn open_procedures(
     }
     match db.set_dynamic(ps, generation) {
         Ok(()) => Row::Makes(made),
-        Err(_) => Row::Memory,
+        Err(DbFault::Memory) => Row::Memory,
+        Err(_) => unreachable!(),
     }
 }

@@ -24,29 +24,29 @@ use Rattle.hub_database.proofs.CalledClauses.{known_tells, unknown_named, unknow
 use Rattle.hub_database.proofs.Deciding.{quiet_then}
 use Rattle.hub_database.proofs.calling.call_by_text.Goals as goal
 
-pub first_of-requires-clause-key : goal.first_of-requires-clause-key
-first_of-requires-clause-key g c = subst (λ (m : Names). All (λ a. IsSome (m a)) (key_atoms c.args.first.now)) (sym c.predicate_text.ensures.held) c.requires.key
+pub first_of-row-requires-clause-key : goal.first_of-row-requires-clause-key
+first_of-row-requires-clause-key g c = subst (λ (m : Names). All (λ a. IsSome (m a)) (key_atoms c.args.first.now)) (sym c.noted_text.ensures.held) c.requires.key
 
 pub returns-then-is_known-clause-quiet : goal.returns-then-is_known-clause-quiet
-returns-then-is_known-clause-quiet g c = quiet_then (seen c.args.atoms.now.seat) (seen c.predicate_text.new.atoms.seat) (seen c.first_of.new.atoms.seat) c.predicate_text.ensures.quiet c.first_of.ensures.quiet
+returns-then-is_known-clause-quiet g c = quiet_then (seen c.args.atoms.now.seat) (seen c.noted_text.new.atoms.seat) (seen c.first_of-row.new.atoms.seat) c.noted_text.ensures.quiet c.first_of-row.ensures.quiet
 
 pub returns-then-is_known-clause-says : goal.returns-then-is_known-clause-says
 returns-then-is_known-clause-says g c = λ goals e h t at is own key.
     let k = keeper_view c.args.keeper.now in
-    known_tells goals e h k c.args.db.now c.args.generation at is (said (names (seen c.args.atoms.now.seat)) t) (proc_of c.in-Ok.p) (own ∙ sym c.in-Ok.ensures.spelled) (text_of (names (seen c.first_of.new.atoms.seat)))
-    (sym (c.is_known.ensures (clause_by k) (databases goals h) is.says) ∙ c.if-is_known.true) c.first_of.result
-    (subst (λ (m : Names). HandsOut (λ f. IsFront term_by (text_of (names (seen c.first_of.new.atoms.seat))) f (choices (λ (x : Clause). is_excluded (head_of (said m t)) x.head) c.args.generation (proc_of c.in-Ok.p) (databases goals h c.args.generation))) c.first_of.result)
-    c.predicate_text.ensures.held (c.first_of.ensures.says (databases goals h) t is.says key))
+    known_tells goals e h k c.args.db.now c.args.generation at is (said (names (seen c.args.atoms.now.seat)) t) (proc_of c.in-Ok.p) (own ∙ sym c.in-Ok.ensures.spelled) (text_of (names (seen c.first_of-row.new.atoms.seat)))
+    (sym (c.is_known.ensures (clause_by k) (databases goals h) is.says) ∙ c.if-is_known.true) c.first_of-row.result
+    (subst (λ (m : Names). HandsOut (λ f. IsFront term_by (text_of (names (seen c.first_of-row.new.atoms.seat))) f (choices (λ (x : Clause). is_excluded (head_of (said m t)) x.head) c.args.generation (proc_of c.in-Ok.p) (databases goals h c.args.generation))) c.first_of-row.result)
+    c.noted_text.ensures.held (c.first_of-row.ensures.says (databases goals h) t is.says key))
 
 pub returns-clause-named : goal.returns-clause-named
 returns-clause-named g c =
-    unknown_named (names (seen c.predicate_text.new.atoms.seat)) c.args.procedure.now c.predicate_text.new.atoms.lawful.stand
-    (subst (λ (m : Names). IsSome (m c.args.procedure.now.name)) (sym c.predicate_text.ensures.held) c.requires.name) c.flags.result.unknown c.unknown.result c.unknown.ensures.answers
+    unknown_named (names (seen c.noted_text.new.atoms.seat)) c.args.procedure.now c.noted_text.new.atoms.lawful.stand
+    (subst (λ (m : Names). IsSome (m c.args.procedure.now.name)) (sym c.noted_text.ensures.held) c.requires.name) c.flags.result.unknown c.unknown.result c.unknown.ensures.answers
 
 pub returns-clause-says : goal.returns-clause-says
 returns-clause-says g c = λ goals e h t at is own key.
     let k = keeper_view c.args.keeper.now in
     unknown_tells goals e h k c.args.db.now c.args.generation at is (said (names (seen c.args.atoms.now.seat)) t) (proc_of c.in-Ok.p) (own ∙ sym c.in-Ok.ensures.spelled)
-    (names (seen c.predicate_text.new.atoms.seat)) c.args.procedure.now (c.in-Ok.ensures.spelled ∙ ap (λ (m : Names). proc_named (text_of m) c.args.procedure.now) (sym c.predicate_text.ensures.held)) c.predicate_text.new.atoms.lawful.stand
-    (subst (λ (m : Names). IsSome (m c.args.procedure.now.name)) (sym c.predicate_text.ensures.held) c.requires.name)
+    (names (seen c.noted_text.new.atoms.seat)) c.args.procedure.now (c.in-Ok.ensures.spelled ∙ ap (λ (m : Names). proc_named (text_of m) c.args.procedure.now) (sym c.noted_text.ensures.held)) c.noted_text.new.atoms.lawful.stand
+    (subst (λ (m : Names). IsSome (m c.args.procedure.now.name)) (sym c.noted_text.ensures.held) c.requires.name)
     (sym (c.is_known.ensures (clause_by k) (databases goals h) is.says) ∙ c.if-is_known.false) c.flags.result.unknown (ap (λ (f : Flags). f.unknown) (c.flags.ensures ∙ is.flags)) c.unknown.result c.unknown.ensures.answers

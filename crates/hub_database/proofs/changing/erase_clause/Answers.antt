@@ -23,11 +23,11 @@ returns-in-Ok-false-clause-steady g c = steady_by (keeper_view c.args.keeper.now
 pub returns-in-Ok-false-clause-quiet : goal.returns-in-Ok-false-clause-quiet
 returns-in-Ok-false-clause-quiet g c = quiet_by (seen c.args.atoms.now.seat) (seen c.agree.new.atoms.seat) c.agree.ensures.held c.agree.ensures.refusals c.agree.ensures.requests
 
-pub returns-in-Err-clause-steady : goal.returns-in-Err-clause-steady
-returns-in-Err-clause-steady g c = steady_by (keeper_view c.args.keeper.now) (keeper_view c.agree.new.keeper) c.agree.ensures.keeps c.agree.ensures.counts
+pub returns-in-Err-Memory-clause-steady : goal.returns-in-Err-Memory-clause-steady
+returns-in-Err-Memory-clause-steady g c = steady_by (keeper_view c.args.keeper.now) (keeper_view c.agree.new.keeper) c.agree.ensures.keeps c.agree.ensures.counts
 
-pub returns-in-Err-clause-quiet : goal.returns-in-Err-clause-quiet
-returns-in-Err-clause-quiet g c = quiet_by (seen c.args.atoms.now.seat) (seen c.agree.new.atoms.seat) c.agree.ensures.held c.agree.ensures.refusals c.agree.ensures.requests
+pub returns-in-Err-Memory-clause-quiet : goal.returns-in-Err-Memory-clause-quiet
+returns-in-Err-Memory-clause-quiet g c = quiet_by (seen c.args.atoms.now.seat) (seen c.agree.new.atoms.seat) c.agree.ensures.held c.agree.ensures.refusals c.agree.ensures.requests
 
 pub returns-in-Ok-true-clause-says : goal.returns-in-Ok-true-clause-says
 returns-in-Ok-true-clause-says g c = λ goals e h at is.
@@ -44,9 +44,9 @@ returns-in-Ok-false-clause-says g c = λ goals e h at is.
     gone_decides goals e c.args.generation (text_of (names (seen c.agree.new.atoms.seat))) h (keeper_view c.args.keeper.now) (keeper_view c.agree.new.keeper) c.args.db.now c.erase.new.self at few is c.agree.ensures.keeps c.args.clause
     (sym says.0 ∙ c.in-Ok-false.field-0-test) (c.in-Ok-false.ensures.gone c.in-Ok-false.field-0-test)
 
-pub returns-in-Err-clause-says : goal.returns-in-Err-clause-says
-returns-in-Err-clause-says g c = λ goals e h at is.
-    subst (λ (d : Held Tree). IsDatabase (keeper_view c.agree.new.keeper) d goals h) (sym c.in-Err.ensures.err.1)
+pub returns-in-Err-Memory-clause-says : goal.returns-in-Err-Memory-clause-says
+returns-in-Err-Memory-clause-says g c = λ goals e h at is.
+    subst (λ (d : Held Tree). IsDatabase (keeper_view c.agree.new.keeper) d goals h) (sym c.in-Err-Memory.ensures.err.1)
     (steady_database (keeper_view c.args.keeper.now) (keeper_view c.agree.new.keeper) c.args.db.now goals h c.agree.ensures.keeps is)
 
 pub returns-then-generation-ge-MOST_UPDATES-clause-steady : goal.returns-then-generation-ge-MOST_UPDATES-clause-steady

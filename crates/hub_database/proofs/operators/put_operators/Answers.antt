@@ -9,7 +9,7 @@ use Rattle.pl_term.specs.Tree.{Chars}
 use Rattle.pl_model.specs.History.{set_op}
 use Rattle.pl_model.specs.OperatorTable.{OperatorTable}
 use Rattle.pl_model.specs.Operators as definitions
-use Rattle.clause_db.specs.Operators.{shown}
+use Rattle.clause_db.specs.Operators.{first_fault, shown}
 use Rattle.pl_model.specs.Requests.{done, refused}
 use Rattle.pl_model.specs.Requests as requests
 use Rattle.pl_model.specs.Service.{answers, operator_error, operators_error}
@@ -21,10 +21,11 @@ use Rattle.op_table.specs.declared.operator.Operator.{Operator}
 use Rattle.world_api.specs.Texts.{text_of}
 use Rattle.world_api.specs.declared.reply.Reply.TheVariants.{Done}
 use Rattle.hub_database.specs.Database.{IsDatabase}
-use Rattle.hub_database.specs.Operators.{fault_in, operators_put}
+use Rattle.hub_database.specs.Operators.{fault_in, operators_by, operators_put}
 use Rattle.hub_database.specs.Rows.{history_after}
 use Rattle.hub_database.proofs.ChangedRows.{got_at, updated_decides, updated_named}
 use Rattle.hub_database.proofs.Deciding.{refused_by, refused_named}
+use Rattle.hub_database.proofs.OperatorTurns.{none_at_turn}
 use Rattle.hub_database.proofs.PutOperators.{cause_at, first_error, no_error, shown_by}
 use Rattle.hub_database.proofs.Served.{operators_refused, operators_set, operators_worn}
 use Rattle.hub_database.proofs.operators.put_operators.Goals as goal
@@ -77,3 +78,12 @@ returns-clause-says g c = λ k goals e h at is.
     (operators_set e s (length h) c.args.priority c.args.kind fs none) (operators_worn e s (length h) c.args.priority c.args.kind fs none) c.set_operators.result c.set_operators.ensures.says
     (subst (λ (l : List definitions.Operator). IsDatabase k c.set_operators.new.db goals (history_after e c.set_operators.result (set_op l) h)) (shown_by c.args.priority c.args.kind fs)
     (subst (λ (l : List Operator). IsDatabase k c.set_operators.new.db goals (history_after e c.set_operators.result (set_op (map shown l)) h)) (c.as_slice-in-None.ensures.value ∙ c.in-Ok.ensures.spelled) (c.set_operators.ensures.database k goals e h at is)))
+
+pub set_operators-requires-clause-granted : goal.set_operators-requires-clause-granted
+set_operators-requires-clause-granted g c =
+    let fs = map (text_of (names (seen c.args.atoms.now.seat))) c.args.operators.now in
+    let rows = c.as_slice-in-None.ensures.value ∙ c.in-Ok.ensures.spelled in
+    subst (λ (l : List Operator). first_fault l c.args.db.now.operators ≡ None) (sym rows)
+    (none_at_turn c.args.priority c.args.kind c.args.db.now.operators fs
+    (subst (λ (t : OperatorTable). list_any (λ o. is_some (fault_in t o)) (operators_by c.args.priority c.args.kind fs) ≡ false) c.operators.ensures
+    (subst (λ (l : List Operator). list_any (λ o. is_some (fault_in c.operators.result.now o)) l ≡ false) (c.as_slice.ensures.value ∙ c.in-Ok.ensures.spelled) c.in-None.ensures.first)))

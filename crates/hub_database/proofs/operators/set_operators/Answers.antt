@@ -40,5 +40,5 @@ returns-in-Ok-clause-database c = λ k goals e h at is.
     (ap (λ (d : Held Tree). d.flags) c.in-Ok.ensures.set ∙ is.flags)
     (ap (λ (d : Held Tree). d.operators) c.in-Ok.ensures.set ∙ ap (λ (t : OperatorTable). with_operators (map shown c.args.rows.now) t) is.operators)
 
-pub returns-in-Err-clause-database : goal.returns-in-Err-clause-database
-returns-in-Err-clause-database c = λ k goals e h at is. subst (λ (d : Held Tree). IsDatabase k d goals h) (sym c.in-Err.ensures.unchanged) is
+pub returns-in-Err-Memory-clause-database : goal.returns-in-Err-Memory-clause-database
+returns-in-Err-Memory-clause-database c = λ k goals e h at is. subst (λ (d : Held Tree). IsDatabase k d goals h) (sym c.in-Err-Memory.ensures.unchanged) is

@@ -1,5 +1,7 @@
-use Rattle.std.proofs.Common.{◌<◌, ◌^◌, ℕ, None, Some, refl, sym, ap, subst, ◌∙◌, arith}
+use Rattle.std.proofs.Common.{◌≡◌, ◌<◌, ◌^◌, ◌∷◌, [], ℕ, None, Some, refl, sym, ap, subst, ◌∙◌, arith}
 use Rattle.std.specs.Prelude.{IsSome, codes}
+use Rattle.std.specs.List.{list_any}
+use Rattle.pl_model.specs.Database.{is_static}
 use Rattle.pl_term.specs.Tree.{Tree}
 use Rattle.pl_model.specs.Errors.{static_procedure}
 use Rattle.pl_model.specs.ErrorTerms.{resource_error}
@@ -19,7 +21,8 @@ use Rattle.hub_database.specs.Clauses.{clause_by}
 use Rattle.hub_database.specs.Database.{IsDatabase, IsUpTo, databases}
 use Rattle.hub_database.specs.Rows.{Decides}
 use Rattle.hub_database.proofs.Deciding.{quiet_by, quiet_then, refused_after, refused_named, steady_by, steady_database, steady_same}
-use Rattle.hub_database.proofs.ErasedClauses.{abolished_decides, abolished_says, static_kept, unabolished_decides}
+use Rattle.clause_db.specs.declared.fault.DbFault.TheVariants.{Static, Memory as NoMemory}
+use Rattle.hub_database.proofs.ErasedClauses.{abolished_decides, abolished_says, no_static, only_cause, static_kept, unabolished_decides}
 use Rattle.hub_database.proofs.procedures.abolish_procedure.Goals as goal
 
 pub returns-then-is_static-clause-steady : goal.returns-then-is_static-clause-steady
@@ -60,11 +63,11 @@ pub returns-in-Ok-abolish-clause-quiet : goal.returns-in-Ok-abolish-clause-quiet
 returns-in-Ok-abolish-clause-quiet g c = quiet_then (seen c.args.atoms.now.seat) (seen c.predicate_text.new.atoms.seat) (seen c.agree.new.atoms.seat) c.predicate_text.ensures.quiet
     (quiet_by (seen c.predicate_text.new.atoms.seat) (seen c.agree.new.atoms.seat) c.agree.ensures.held c.agree.ensures.refusals c.agree.ensures.requests)
 
-pub returns-clause-steady : goal.returns-clause-steady
-returns-clause-steady g c = steady_by (keeper_view c.args.keeper.now) (keeper_view c.agree.new.keeper) c.agree.ensures.keeps c.agree.ensures.counts
+pub returns-in-Err-Memory-clause-steady : goal.returns-in-Err-Memory-clause-steady
+returns-in-Err-Memory-clause-steady g c = steady_by (keeper_view c.args.keeper.now) (keeper_view c.agree.new.keeper) c.agree.ensures.keeps c.agree.ensures.counts
 
-pub returns-clause-quiet : goal.returns-clause-quiet
-returns-clause-quiet g c = quiet_then (seen c.args.atoms.now.seat) (seen c.predicate_text.new.atoms.seat) (seen c.agree.new.atoms.seat) c.predicate_text.ensures.quiet
+pub returns-in-Err-Memory-clause-quiet : goal.returns-in-Err-Memory-clause-quiet
+returns-in-Err-Memory-clause-quiet g c = quiet_then (seen c.args.atoms.now.seat) (seen c.predicate_text.new.atoms.seat) (seen c.agree.new.atoms.seat) c.predicate_text.ensures.quiet
     (quiet_by (seen c.predicate_text.new.atoms.seat) (seen c.agree.new.atoms.seat) c.agree.ensures.held c.agree.ensures.refusals c.agree.ensures.requests)
 
 pub returns-in-Ok-abolish-clause-says : goal.returns-in-Ok-abolish-clause-says
@@ -78,7 +81,17 @@ returns-in-Ok-abolish-clause-says g c = λ goals e h at is.
     (abolished_says (clause_by k) c.args.generation c.abolish.new.self (databases goals h) p open_ _ (λ x bad. cc) (c.in-Ok-abolish.ensures.says (clause_by k) (databases goals h) c.agree.ensures.agreed.costs is.says))
     c.in-Ok-abolish.ensures.settings.0 c.in-Ok-abolish.ensures.settings.1)
 
-pub returns-clause-says : goal.returns-clause-says
-returns-clause-says g c = λ goals e h at is.
-    subst (λ (d : Held Tree). IsDatabase (keeper_view c.agree.new.keeper) d goals h) (sym c.in-Err.ensures.unchanged)
+pub returns-in-Err-Memory-clause-says : goal.returns-in-Err-Memory-clause-says
+returns-in-Err-Memory-clause-says g c = λ goals e h at is.
+    subst (λ (d : Held Tree). IsDatabase (keeper_view c.agree.new.keeper) d goals h) (sym c.in-Err-Memory.ensures.unchanged)
     (steady_database (keeper_view c.args.keeper.now) (keeper_view c.agree.new.keeper) c.args.db.now goals h c.agree.ensures.keeps is)
+
+pub unreachable-requires : goal.unreachable-requires
+unreachable-requires g c =
+    let k = keeper_view c.args.keeper.now in
+    let has = c.requires.has in
+    let d = databases has.goals has.history in
+    let p = proc_of c.in-Ok.p in
+    let open_ = sym (c.is_static.ensures (clause_by k) d has.is.says) ∙ c.if-is_static.false in
+    let only : c.in-Err.field-0 ≡ NoMemory = only_cause (list_any (is_static (d c.args.generation)) (p ∷ [])) Static _ (no_static (d c.args.generation) p open_) (c.in-Err.ensures.says (clause_by k) d c.agree.ensures.agreed.costs has.is.says) in
+    c.in-Err.in-Err-own'.refused-1.1 (rw only refl)

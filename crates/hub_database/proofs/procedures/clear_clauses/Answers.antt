@@ -111,3 +111,10 @@ returns-clause-database g c = λ goals e h at is.
     let open_ = sym (c.is_static.ensures (clause_by (keeper_view c.args.keeper.now)) (databases goals h) is.says) ∙ c.if-is_static.false in
     subst (λ (q : Proc). IsDatabase (keeper_view c.args.keeper.now) c.open_procedures.new.db goals (history_after e c.open_procedures.result (set_dynamic (q ∷ [])) h)) c.in-Ok.ensures.spelled
     (c.open_procedures.ensures.database (keeper_view c.args.keeper.now) goals e h at is (no_static (databases goals h c.args.generation) p open_))
+
+pub open_procedures-requires-clause-free : goal.open_procedures-requires-clause-free
+open_procedures-requires-clause-free g c =
+    let k = keeper_view c.args.keeper.now in
+    let has = c.requires.has in
+    let d = databases has.goals has.history in
+    (k, record { has = has; none = no_static (d c.args.generation) (proc_of c.in-Ok.p) (sym (c.is_static.ensures (clause_by k) d has.is.says) ∙ c.if-is_static.false) })

@@ -73,3 +73,13 @@ returns-clause-says g c = λ k goals e h at is.
     (subst (λ (l : List Shown). IsDatabase k c.open_procedures.new.db goals (history_after e c.open_procedures.result (set_dynamic (map proc_of l)) h)) c.as_slice-in-None.ensures.value
     (c.open_procedures.ensures.database k goals e h at is
     (ap (λ (l : List Shown). list_any (is_static (databases goals h c.args.generation)) (map proc_of l)) c.as_slice-in-None.ensures.value ∙ (ap (list_any (is_static (databases goals h c.args.generation))) c.in-Ok.ensures.spelled ∙ none)))))
+
+pub open_procedures-requires-clause-free : goal.open_procedures-requires-clause-free
+open_procedures-requires-clause-free g c =
+    let k = c.requires.has.0 in
+    let has = c.requires.has.1 in
+    let qs = map (proc_named (text_of (names (seen c.args.atoms.now.seat)))) c.args.procedures.now in
+    let d = databases has.goals has.history in
+    let test = is_static (d c.args.generation) in
+    let none : list_any test qs ≡ false = none_static test proc_of c.in-Ok.ps.items qs c.in-Ok.ensures.spelled (subst (λ (l : List Shown). list_any (λ p. test (proc_of p)) l ≡ false) c.as_slice.ensures.value (c.in-None.ensures.first (clause_by k) d has.is.says)) in
+    (k, record { has = has; none = ap (λ (l : List Shown). list_any test (map proc_of l)) c.as_slice-in-None.ensures.value ∙ (ap (list_any test) c.in-Ok.ensures.spelled ∙ none) })

@@ -51,3 +51,6 @@ returns g c =
     g.K.Naming.history (seen c.args.atoms.now.seat) (Abolish c.args.procedure) (λ r m old before new x. x) refl (λ z e. e)
     c.args.front.now c.requires.front c.settle.result c.settle.new.front c.settle.new.hub c.settle.ensures.answer c.settle.ensures.front c.settle.ensures.hub
     c.settle.ensures.sees c.abolish_procedure-row.ensures.named c.abolish_procedure-row.ensures.quiet c.abolish_procedure-row.ensures.unrefused
+
+pub abolish_procedure-row-requires-clause-has : goal.abolish_procedure-row-requires-clause-has
+abolish_procedure-row-requires-clause-has g c = record { goals = g.K.Naming.goals; history = c.self.inside.front.seen; long = sym c.generation-generation.ensures; is = c.self.invariant.database }

@@ -63,3 +63,6 @@ returns g c =
     g.K.Naming.history (λ r n old before new x. x) (λ q asked. asked)
     c.args.front.now c.requires.front c.settle.result c.settle.new.front c.settle.new.hub c.settle.ensures.answer c.settle.ensures.front c.settle.ensures.hub
     c.settle.ensures.sees c.clear_clauses-row.ensures.named c.clear_clauses-row.ensures.quiet c.clear_clauses-row.ensures.unrefused
+
+pub clear_clauses-row-requires-clause-has : goal.clear_clauses-row-requires-clause-has
+clear_clauses-row-requires-clause-has g c = record { goals = g.K.Naming.goals; history = c.self.inside.front.seen; long = sym c.generation-generation.ensures; is = c.self.invariant.database }

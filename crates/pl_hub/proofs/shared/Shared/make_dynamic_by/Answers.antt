@@ -65,3 +65,6 @@ returns g c =
     (ap (λ (l : List Procedure). requests.make_dynamic (map (proc_named (text_of n)) l)) c.as_slice.ensures.value) (λ z e. e ∙ ap (λ (l : List Procedure). requests.make_dynamic (map (proc_named (text_of n)) l)) (sym c.as_slice.ensures.value))
     c.args.front.now c.requires.front c.settle.result c.settle.new.front c.settle.new.hub c.settle.ensures.answer c.settle.ensures.front c.settle.ensures.hub
     c.settle.ensures.sees c.make_dynamic-row.ensures.named c.make_dynamic-row.ensures.quiet c.make_dynamic-row.ensures.unrefused
+
+pub make_dynamic-row-requires-clause-has : goal.make_dynamic-row-requires-clause-has
+make_dynamic-row-requires-clause-has g c = (keeper_view c.self.inside.keeper, record { goals = g.K.Naming.goals; history = c.self.inside.front.seen; long = sym c.generation-generation.ensures; is = c.self.invariant.database })
