@@ -25,3 +25,4 @@ pub mod StartedThreads
 pub mod Steps
 pub mod TakenMessages
 pub mod Weighing
+pub mod Within

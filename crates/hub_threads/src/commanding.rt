@@ -15,7 +15,7 @@ ghost use Rattle.counted_terms.specs.CountedTerms.{said};
 ghost use Rattle.counted_terms.specs.Keeping.{HoldsOn, KeeperAt, keeper_view};
 ghost use Rattle.counted_terms.specs.Rows.{row_names, row_refusals};
 ghost use Rattle.counted_terms.specs.Sharing.{Counts, Restored};
-ghost use Rattle.hub_threads.specs.Goals.{begun_after};
+ghost use Rattle.hub_threads.specs.Goals.{IsNextGoal, begun_after};
 ghost use Rattle.hub_threads.specs.Held.{IsNew, goal_numbers};
 ghost use Rattle.hub_threads.specs.Rows.{Decides, updates_in};
 ghost use Rattle.hub_threads.specs.Threads.{IsThreads, thread_counts};
@@ -32,8 +32,9 @@ use std::alloc::Global;
 use world_api::Reply;
 
 /// The goal of the command with the number begins as an engine of its own, named `goal` with its number. Where the alias
-/// names something already, it is interned and the visit refused. Of a number that something has, or a thread had, the
-/// answer is out of memory: no script starts a goal twice.
+/// names something already, it is interned and the visit refused. The goals begin in the order of their numbers, from 2 to
+/// `last`, which is that of the command's last one: of any other number, and of one that something has, or a thread had, the
+/// answer is out of memory, since no script starts a goal so.
 pub fn start_goal<K: NamesTable>(
     alloc: Global,
     queues: &mut Queues<CountedTerm>,
@@ -42,6 +43,7 @@ pub fn start_goal<K: NamesTable>(
     keeper: &mut Option<Keeper>,
     generation: u64,
     number: u64,
+    last: u64,
     goal: CountedTerm,
 ) -> Row
     requires keeper { KeeperAt K.atoms K.size keeper.old }
@@ -52,6 +54,7 @@ pub fn start_goal<K: NamesTable>(
     ensures restored { Restored (thread_counts queues.old) (thread_counts queues.new) (keeper_view keeper.old) (keeper_view keeper.new) generation (generation + updates_in result) }
     ensures below { IsBelow count.new (generation + updates_in result) queues.new }
     ensures goals { goal_numbers queues.new.goals ≡ begun_after result number (goal_numbers queues.old.goals) }
+    ensures next { updates_in result ≡ 1 → IsNextGoal last number queues.old }
     ensures says { (e goals : ℕ) (h : History) → length h ≡ generation → IsThreads (keeper_view keeper.old) queues.old count.old goals h
         → Decides (keeper_view keeper.new) (names (seen atoms.new.seat)) e (requests.start_goal number (said (names (seen atoms.old.seat)) goal)) queues.new count.new goals h result }
     ensures named { All (λ a. IsSome (names (seen atoms.new.seat) a)) (row_names result) }
@@ -65,7 +68,7 @@ pub fn start_goal<K: NamesTable>(
             if queues.is_alias(&alias) {
                 return goal_taken(alloc, queues, atoms, number, &alias);
             }
-            if !is_unused(queues, number) {
+            if !can_begin(queues, number, last) {
                 return Row::Memory;
             }
             start_with(
@@ -118,6 +121,28 @@ fn goal_taken<K: NamesTable>(
         Interned::TooLong { .. } => Row::Memory,
         Interned::Memory => Row::Memory,
     }
+}
+
+// Whether nothing has the number, no thread had it, and it comes after those of the goals that have begun.
+fn can_begin(queues: &Queues<CountedTerm>, number: u64, last: u64) -> bool
+    ensures new { result ≡ true → IsNew number queues.now }
+    ensures unjoined { result ≡ true → is_in number queues.now.state.joined ≡ false }
+    ensures next { result ≡ true → IsNextGoal last number queues.now }
+{
+    is_unused(queues, number) && is_next(queues, number, last)
+}
+
+// Whether the number is one of a further goal, and neither it nor that of a later goal was given to a thread.
+fn is_next(queues: &Queues<CountedTerm>, number: u64, last: u64) -> bool
+    ensures { result ≡ true → IsNextGoal last number queues.now }
+{
+    if number < 2 {
+        return false;
+    }
+    if number > last {
+        return false;
+    }
+    !queues.has_within(number, last)
 }
 
 // Whether nothing has the number, and no thread had it.

@@ -20,7 +20,7 @@ ghost use Rattle.hub_threads.specs.Threads.{IsThreads, thread_counts};
 
 use crate::finding::{FoundQueue, find_queue};
 use crate::forgetting::forget_all;
-use crate::held::{Name, Queues};
+use crate::held::{Name, QueueFault, Queues};
 use crate::refusing::{no_queue, not_permitted, worn_out};
 use crate::taking::are_sound;
 use atom_api::fixed;
@@ -123,7 +123,8 @@ fn drop_found<K: NamesTable>(
 {
     queues.is_sound();
     match queues.drop_queue(name) {
-        Err(_) => Row::Memory,
+        Err(QueueFault::Memory) => Row::Memory,
+        Err(_) => unreachable!(),
         Ok(left) => {
             are_sound(queues);
             forget_all(atoms, keeper, left.as_slice());

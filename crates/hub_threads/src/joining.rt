@@ -21,7 +21,7 @@ ghost use Rattle.hub_threads.specs.Threads.{IsThreads, thread_counts};
 ghost use Rattle.hub_threads.specs.Weights.{IsBelow};
 
 use crate::finding::{FoundThread, find_thread};
-use crate::held::{Name, Queues};
+use crate::held::{Name, QueueFault, Queues};
 use crate::refusing::{not_permitted, not_there, wait_on_thread, worn_out};
 use crate::statuses::{hand_over_status, made_status};
 use crate::taking::are_sound;
@@ -156,7 +156,8 @@ fn join_as<K: NamesTable>(
 {
     queues.is_sound();
     match queues.join(name) {
-        Err(_) => Row::Memory,
+        Err(QueueFault::Memory) => Row::Memory,
+        Err(_) => unreachable!(),
         Ok(None) => unreachable!(),
         Ok(Some(how)) => {
             are_sound(queues);

@@ -15,7 +15,7 @@ ghost use Rattle.counted_terms.specs.Rows.{row_names, row_refusals};
 ghost use Rattle.hub_threads.specs.Rows.{Decides, updates_in};
 ghost use Rattle.hub_threads.specs.Threads.{IsThreads};
 
-use crate::held::Queues;
+use crate::held::{QueueFault, Queues};
 use crate::refusing::{alias_taken, worn_out};
 use atom_api::{Atom, fixed};
 use atom_table::{NamesTable, TableAtoms};
@@ -108,7 +108,8 @@ fn create_unnamed(
             *count = number + 1;
             Row::Makes(Reply::Named(Name::Number(number)))
         }
-        Err(_) => Row::Memory,
+        Err(QueueFault::Memory) => Row::Memory,
+        Err(_) => unreachable!(),
     }
 }
 
@@ -144,6 +145,7 @@ fn create_named(
             *count = number + 1;
             Row::Makes(Reply::Named(Name::Alias(a)))
         }
-        Err(_) => Row::Memory,
+        Err(QueueFault::Memory) => Row::Memory,
+        Err(_) => unreachable!(),
     }
 }

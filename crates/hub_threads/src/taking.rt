@@ -19,7 +19,7 @@ ghost use Rattle.hub_threads.specs.Rows.{Decides, row_of, row_with, updates_in};
 ghost use Rattle.hub_threads.specs.Threads.{IsThreads, thread_counts};
 
 use crate::finding::{FoundQueue, find_queue};
-use crate::held::{Name, Queues};
+use crate::held::{Name, QueueFault, Queues};
 use crate::refusing::{no_queue, wait_on_queue, worn_out};
 use atom_table::{Keeper, NamesTable, TableAtoms};
 use counted_terms::{CountedTerm, MOST_UPDATES, Row, agree, hand_over, lend_to};
@@ -97,7 +97,8 @@ fn take_message<K: NamesTable>(
     queues.is_sound();
     agree(atoms, keeper);
     match queues.take(name, pattern) {
-        Err(_) => Row::Memory,
+        Err(QueueFault::Memory) => Row::Memory,
+        Err(_) => unreachable!(),
         Ok(found) => {
             are_sound(queues);
             match found {
@@ -137,7 +138,8 @@ fn see_message<K: NamesTable>(
     queues.is_sound();
     agree(atoms, keeper);
     match queues.peek(name, pattern) {
-        Err(_) => Row::Memory,
+        Err(QueueFault::Memory) => Row::Memory,
+        Err(_) => unreachable!(),
         Ok(found) => match found {
             None => wait_on_queue(queue),
             Some(_) => worn_out(alloc),
@@ -204,7 +206,8 @@ fn lend_message<K: NamesTable>(
     let _named = queue;
     agree(atoms, keeper);
     match queues.peek(name, pattern) {
-        Err(_) => Row::Memory,
+        Err(QueueFault::Memory) => Row::Memory,
+        Err(_) => unreachable!(),
         Ok(found) => match found {
             None => Row::Reads(Reply::NoMessage),
             Some(stays) => lent(lend_to(atoms, keeper, stays.1)),

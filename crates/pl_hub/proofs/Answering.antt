@@ -2,10 +2,10 @@
 use Rattle.std.proofs.Common.{◌≡◌, ℕ, List, [], ◌∷◌, ◌++◌, length, Some, refl, sym, ap, subst, ◌∙◌, append-nil}
 use Rattle.std.specs.Prelude.{IsSome}
 use Rattle.std.specs.List.{All}
-use Rattle.std.proofs.lemmas.List.Elements.{All-nil}
+use Rattle.std.proofs.lemmas.List.Elements.{All-cons, All-nil}
 use Rattle.atomic_table.specs.Seated.{TableId}
 use Rattle.pl_term.specs.Tree.{Chars, Tree}
-use Rattle.pl_model.specs.History.{Kind}
+use Rattle.pl_model.specs.History.{Entry, Kind}
 use Rattle.pl_model.specs.Requests.{Request}
 use Rattle.pl_history.specs.Fronts.{FrontState, Life, begun_by}
 use Rattle.atom_words.specs.declared.view.View.{View}
@@ -61,21 +61,22 @@ told_row e k (Retry c) f hub = refl
 told_row e k (Worn w) f hub = refl
 told_row e k Memory f hub = refl
 
-pub none_more : (hub : FrontState) → Grows hub hub
-none_more hub = record { later = []; grown = sym (append-nil hub.seen); carried = sym (append-nil hub.lives) }
+pub none_more : (e : ℕ) (hub : FrontState) → Grows e hub hub
+none_more e hub = record { later = []; own = All-nil (λ (x : Entry). x.engine ≡ e); grown = sym (append-nil hub.seen); carried = sym (append-nil hub.lives) }
 
-grows_row : (e : ℕ) (k : Kind) (row : Row) (hub : FrontState) → Grows hub (hub_after e k row hub)
-grows_row e k (Reads r) hub = none_more hub
+grows_row : (e : ℕ) (k : Kind) (row : Row) (hub : FrontState) → Grows e hub (hub_after e k row hub)
+grows_row e k (Reads r) hub = none_more e hub
 grows_row e k (Makes r) hub = record {
   later = entry e k ∷ [];
+  own = All-cons (λ (x : Entry). x.engine ≡ e) (entry e k) [] refl (All-nil (λ (x : Entry). x.engine ≡ e));
   grown = refl;
   carried = ap (λ (ls : List Life). hub.lives ++ ls) (sym (append-nil (begun_by k)));
 }
-grows_row e k (Waits on) hub = none_more hub
-grows_row e k (NeedsAtoms p) hub = none_more hub
-grows_row e k (Retry c) hub = none_more hub
-grows_row e k (Worn w) hub = none_more hub
-grows_row e k Memory hub = none_more hub
+grows_row e k (Waits on) hub = none_more e hub
+grows_row e k (NeedsAtoms p) hub = none_more e hub
+grows_row e k (Retry c) hub = none_more e hub
+grows_row e k (Worn w) hub = none_more e hub
+grows_row e k Memory hub = none_more e hub
 
 module _ (table : TableId) (goals e : ℕ) (v w : View) (visit : Visit Tree ArgumentKey) (plain : IsPlainVisit (text_of (names v)) (text_of (names w)) visit)
     (f : FrontState) (own : IsOwn table e f) (hub : FrontState) (k : Kind) (row : Row) where

@@ -5,7 +5,7 @@ use Rattle.std.proofs.lemmas.List.{length-append}
 use Rattle.atomic_table.specs.Seated.{TableId}
 use Rattle.pl_term.specs.Tree.{Tree}
 use Rattle.pl_model.specs.History.{Entry, History, Kind, is_end, mine}
-use Rattle.pl_history.specs.Fronts.{FrontState, Life, gains, has_end, own_engine, own_generations, own_runs, own_updates, with_generation}
+use Rattle.pl_history.specs.Fronts.{FrontState, Life, begun_by, gains, has_end, own_engine, own_generations, own_runs, own_updates, with_generation}
 use Rattle.pl_history.proofs.Lives.{mine_own, own_engine-gains, own_updates-gains, told_own}
 use Rattle.atom_words.specs.declared.size.Size.{Size}
 use Rattle.atom_table.specs.declared.seats.Keeper.{Keeper}
@@ -23,6 +23,7 @@ use Rattle.pl_hub.specs.Ending.{IsEnded, front_closed, hub_closed}
 use Rattle.pl_hub.specs.Fronts.{IsOwn, idle, told_of}
 use Rattle.pl_hub.specs.Settling.{IsBehind, entry}
 use Rattle.pl_hub.specs.State.{IsShared}
+use Rattle.pl_hub.proofs.Order.{nobody_order}
 use Rattle.pl_hub.proofs.Own.{follows}
 use Rattle.pl_hub.proofs.States.{database_carried}
 
@@ -86,9 +87,10 @@ module _ (atoms : TableId) (size : Size) (table : TableId) (goals : ℕ) (f : Fr
       → IsBelow c (n + 1) r
       → IsThreads (keeper_view new_keeper) r c goals (f.seen ++ entry e k ∷ [])
       → r.goals ≡ q.goals
+      → begun_by k ≡ []
       → (new : FrontState) → new ≡ hub_closed e k f
       → IsShared atoms size table goals new new_keeper db r c
-  ended_shared e k other n is restored below threads kept new new_is =
+  ended_shared e k other n is restored below threads kept begins new new_is =
       let sums : Sums (thread_counts q) (clause_counts db) (keeper_view keeper) = swapped (clause_counts db) (thread_counts q) (keeper_view keeper) was.exact in
       let more : length (f.seen ++ entry e k ∷ []) ≡ length f.seen + 1 = length-append f.seen (entry e k ∷ []) in
       let g : n + 1 ≡ length (f.seen ++ entry e k ∷ []) = omega (arith, more, is) in
@@ -102,6 +104,7 @@ module _ (atoms : TableId) (size : Size) (table : TableId) (goals : ℕ) (f : Fr
         floor = was.floor;
         threads = threads;
         below = subst (λ (m : ℕ). IsBelow c m r) g below;
+        order = nobody_order goals e k f.seen was.order begins;
         waiting = was.waiting ∙ ap (λ (gs : List (ℕ × Tree)). map idle (goal_numbers gs)) (sym kept);
       })
 
@@ -122,5 +125,6 @@ module _ (atoms : TableId) (size : Size) (table : TableId) (goals : ℕ) (f : Fr
         floor = was.floor;
         threads = threads;
         below = subst (λ (x : HeldThreads Tree). IsBelow c (length f.seen) x) (sym same) was.below;
+        order = was.order;
         waiting = was.waiting ∙ ap (λ (x : HeldThreads Tree). map idle (goal_numbers x.goals)) (sym same);
       }

@@ -62,6 +62,7 @@ handed_shared {atoms} {size} {table} {goals} {f} {keeper} {new_keeper} {db} {q} 
       floor = was.floor;
       threads = threads;
       below = below;
+      order = was.order;
       waiting = refl;
     })
 

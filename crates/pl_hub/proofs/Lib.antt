@@ -2,6 +2,7 @@ pub mod Own
 pub mod Serving
 pub mod Visiting
 pub mod Answering
+pub mod Order
 pub mod States
 pub mod Retrying
 pub mod ThreadRows

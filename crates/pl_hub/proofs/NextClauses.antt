@@ -136,7 +136,7 @@ module _ (table : TableId) (goals e : ℕ) (v w : View) (lawful : Lawful (names 
       },
     );
     history = refl;
-    carried = none_more hub;
+    carried = none_more e hub;
     own = told_updates_of table e f own hub.seen behind;
     named = named;
     holds = holds;
@@ -146,7 +146,7 @@ module _ (table : TableId) (goals e : ℕ) (v w : View) (lawful : Lawful (names 
   next_by (Err m) says behind named holds refusals asked = record {
     visited = refl;
     history = refl;
-    carried = none_more hub;
+    carried = none_more e hub;
     own = own;
     named = All-nil (λ a. IsSome (names w a));
     holds = holds;

@@ -117,6 +117,7 @@ shared_opens atoms size table goals keeper db q count at none says flags operato
       floor = floor;
       threads = threads_open (keeper_view keeper) goals;
       below = below_open (opening_count goals) 0 (count_le goals);
+      order = record { goals_rise = tt; threads_rise = tt };
       waiting = refl;
     }))
 

@@ -32,7 +32,7 @@ pub memory_visit : (table : TableId) (goals e : ℕ) (v : View) (visit : Visit T
 memory_visit table goals e v visit f hub own = record {
   visited = refl;
   history = refl;
-  carried = none_more hub;
+  carried = none_more e hub;
   own = own;
   named = All-nil (λ x. IsSome (names v x));
   holds = λ a t e. e;

@@ -37,12 +37,9 @@ use Rattle.hub_threads.proofs.Steps.{moves_on, goals_stay, stays}
 use Rattle.pl_hub.specs.Fronts.{idle}
 use Rattle.pl_hub.specs.Settling.{CanMake, CanSettle, Meets, entry, hub_after, kind_of}
 use Rattle.pl_hub.specs.State.{IsShared}
+use Rattle.pl_hub.specs.Order.{IsInOrder}
+use Rattle.pl_hub.proofs.Order.{Begins, order_kept, order_then, seen_after}
 use Rattle.pl_hub.proofs.Serving.{IsOfThreads, kind_is, made_beside, made_plain, starts_in}
-
--- WHAT THE HUB'S FRONT HAS SEEN after a row
-abbrev pub seen_after : ℕ → Kind → Row → History → History
-seen_after e k (Makes r) h = h ++ entry e k ∷ []
-seen_after e k _ h = h
 
 pub after_seen : (e : ℕ) (k : Kind) (row : Row) (f : FrontState) → (hub_after e k row f).seen ≡ seen_after e k row f.seen
 after_seen e k (Reads r) f = refl
@@ -195,6 +192,16 @@ module _ (l : View) (m : Names) (e : ℕ) (request : Request) (r : HeldThreads T
   lives_then (Worn w) says = refl
   lives_then Memory says = refl
 
+  order_after : (row : Row) → ThreadsDecide l m e request r d goals f.seen row → Begins goals f.seen (starts_in request (state_at goals f.seen (length f.seen))) row → IsInOrder goals f.seen
+      → IsInOrder goals (seen_after e (kind_of e goals f.seen request) row f.seen)
+  order_after (Reads x) says begin was = was
+  order_after (Makes x) says begin was = order_then goals e (kind_of e goals f.seen request) f.seen was (starts_in request (state_at goals f.seen (length f.seen))) begin (begins_then l m e request r d goals f.seen of x says)
+  order_after (Waits on) says begin was = was
+  order_after (NeedsAtoms p) says begin was = was
+  order_after (Retry c) says begin was = was
+  order_after (Worn w) says begin was = was
+  order_after Memory says begin was = was
+
 -- WHAT IS SHARED after a row of queues and threads
 module _ (atoms : TableId) (size : Size) (table : TableId) (goals : ℕ) (f : FrontState) (keeper new_keeper : Option Keeper) (db : HeldClauses Tree) (q r : HeldThreads Tree) (c d : ℕ)
     (was : IsShared atoms size table goals f keeper db q c) (at : KeeperAt atoms size new_keeper) where
@@ -203,8 +210,9 @@ module _ (atoms : TableId) (size : Size) (table : TableId) (goals : ℕ) (f : Fr
       → IsBelow d (length f.seen + updates_in row) r
       → ThreadsDecide (keeper_view new_keeper) m e request r d goals f.seen row
       → lives_after row (map idle (goal_numbers q.goals)) (starts_in request (state_at goals f.seen (length f.seen))) ≡ map idle (goal_numbers r.goals)
+      → Begins goals f.seen (starts_in request (state_at goals f.seen (length f.seen))) row
       → IsShared atoms size table goals (hub_after e (kind_of e goals f.seen request) row f) new_keeper db r d
-  threads_shared e m request of row restored below says begins =
+  threads_shared e m request of row restored below says begins begin =
       let k = kind_of e goals f.seen request in
       let old = keeper_view keeper in
       let new = keeper_view new_keeper in
@@ -221,6 +229,7 @@ module _ (atoms : TableId) (size : Size) (table : TableId) (goals : ℕ) (f : Fr
         floor = was.floor;
         threads = subst (λ (h : History). IsThreads new r d goals h) (sym (after_seen e k row f)) (threads_then new m e request r d goals f.seen of row says);
         below = subst (λ (n : ℕ). IsBelow d n r) g below;
+        order = subst (IsInOrder goals) (sym (after_seen e k row f)) (order_after new m e request r d goals f of row says begin was.order);
         waiting =
             lives_then new m e request r d goals f of row says
             ∙ ap (λ (ls : List Life). lives_after row ls (starts_in request (state_at goals f.seen (length f.seen)))) was.waiting
@@ -394,6 +403,7 @@ module _ (atoms : TableId) (size : Size) (table : TableId) (goals : ℕ) (f : Fr
         floor = floor ∙ was.floor;
         threads = subst (λ (h : History). IsThreads new q c goals h) (sym (after_seen e kind row f)) (queues_then new q c goals e f.seen kind sound of row carried);
         below = let le : length f.seen ≤ length (hub_after e kind row f).seen = omega (arith, more) in later_below c (length f.seen) (length (hub_after e kind row f).seen) q le was.below;
+        order = subst (IsInOrder goals) (sym (after_seen e kind row f)) (order_kept goals e kind f.seen (begun_none kind of) was.order row);
         waiting = lives_left e kind of row f ∙ was.waiting;
       }
     where

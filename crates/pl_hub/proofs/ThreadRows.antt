@@ -41,6 +41,7 @@ use Rattle.pl_hub.specs.Settling.{CanSettle, Meets, Sees, answer_of, front_after
 use Rattle.pl_hub.specs.State.{IsShared}
 use Rattle.pl_hub.specs.Visits.{IsVisit}
 use Rattle.pl_hub.proofs.Answering.{is_visit_of, none_asked}
+use Rattle.pl_hub.proofs.Order.{Begins, quiet_begins, reads_begin}
 use Rattle.pl_hub.proofs.Serving.{IsOfThreads, starts_in}
 use Rattle.pl_hub.proofs.States.{lives_after, lives_begun, lives_quiet, threads_can, threads_meet, threads_shared}
 use Rattle.pl_hub.proofs.Visiting.{IsPlainVisit}
@@ -113,16 +114,17 @@ module _ (goals e : ℕ) (j : Kind) (f now : FrontState) (is : f ≡ now) (q : R
       → Restored (thread_counts p) (thread_counts r) (keeper_view keeper) (keeper_view new_keeper) n (n + updates_in row)
       → IsBelow d (n + updates_in row) r
       → lives_after row (map idle (goal_numbers p.goals)) (starts_in q (state_at goals f.seen (length f.seen))) ≡ map idle (goal_numbers r.goals)
+      → Begins goals f.seen (starts_in q (state_at goals f.seen (length f.seen))) row
       → (new : FrontState) → new ≡ hub_after e j row f
       → IsShared atoms size table goals new new_keeper db r d
-  shared_by {atoms} {size} {table} {keeper} {new_keeper} {db} {p} {c} was at same n is_n restored below begins new new_is =
+  shared_by {atoms} {size} {table} {keeper} {new_keeper} {db} {p} {c} was at same n is_n restored below begins begin new new_is =
       subst (λ (x : FrontState). IsShared atoms size table goals x new_keeper db r d) (sym new_is)
       (subst (λ (k : Kind). IsShared atoms size table goals (hub_after e k row f) new_keeper db r d) kind_here
       (threads_shared atoms size table goals f keeper new_keeper db p r c d was at e (names w) q of row
       (subst (λ (x : ℕ). Restored (thread_counts p) (thread_counts r) (keeper_view keeper) (keeper_view new_keeper) x (x + updates_in row)) is_n restored)
       (subst (λ (x : ℕ). IsBelow d (x + updates_in row) r) is_n below)
       (subst (λ (k : View). ThreadsDecide k (names w) e q r d goals f.seen row) same says)
-      begins))
+      begins begin))
 
   -- of a request that begins no engine
   pub shared_then : starts_in q (state_at goals f.seen (length f.seen)) ≡ []
@@ -137,7 +139,7 @@ module _ (goals e : ℕ) (j : Kind) (f now : FrontState) (is : f ≡ now) (q : R
   shared_then quiet {p = p} was at same n is_n restored below kept new new_is =
       shared_by was at same n is_n restored below
       (ap (lives_after row (map idle (goal_numbers p.goals))) quiet ∙ lives_quiet row (map idle (goal_numbers p.goals)) ∙ ap (λ (gs : List (ℕ × Tree)). map idle (goal_numbers gs)) (sym kept))
-      new new_is
+      (subst (λ (ls : List Life). Begins goals f.seen ls row) (sym quiet) (quiet_begins goals f.seen row)) new new_is
 
   -- of one that begins an engine with this number
   pub shared_begun : (b : ℕ) → starts_in q (state_at goals f.seen (length f.seen)) ≡ idle b ∷ []
@@ -147,12 +149,13 @@ module _ (goals e : ℕ) (j : Kind) (f now : FrontState) (is : f ≡ now) (q : R
       → Restored (thread_counts p) (thread_counts r) (keeper_view keeper) (keeper_view new_keeper) n (n + updates_in row)
       → IsBelow d (n + updates_in row) r
       → goal_numbers r.goals ≡ begun_after row b (goal_numbers p.goals)
+      → Begins goals f.seen (idle b ∷ []) row
       → (new : FrontState) → new ≡ hub_after e j row f
       → IsShared atoms size table goals new new_keeper db r d
-  shared_begun b starts {p = p} was at same n is_n restored below kept new new_is =
+  shared_begun b starts {p = p} was at same n is_n restored below kept begin new new_is =
       shared_by was at same n is_n restored below
       (ap (lives_after row (map idle (goal_numbers p.goals))) starts ∙ lives_begun row (goal_numbers p.goals) b ∙ ap (map idle) (sym kept))
-      new new_is
+      (subst (λ (ls : List Life). Begins goals f.seen ls row) (sym starts) begin) new new_is
 
 -- A ROW THAT MAKES NO UPDATE, whatever update was picked
 no_update : (n : ℕ) → suc n ≡ 0 → ⊥
@@ -248,4 +251,5 @@ module _ (goals e : ℕ) (j : Kind) (f now : FrontState) (is : f ≡ now) (q : R
       (subst (λ (x : ℕ). Restored (thread_counts p) (thread_counts r) (keeper_view keeper) (keeper_view new_keeper) (length f.seen) x) none_made restored)
       (subst (λ (x : ℕ). IsBelow d x r) none_made below)
       (subst (λ (k : View). ThreadsDecide k (names w) e q r d goals f.seen row) same says)
-      (reads_lives row (map idle (goal_numbers p.goals)) (starts_in q (state_at goals f.seen (length f.seen))) reads ∙ ap (λ (gs : List (ℕ × Tree)). map idle (goal_numbers gs)) (sym kept)))
+      (reads_lives row (map idle (goal_numbers p.goals)) (starts_in q (state_at goals f.seen (length f.seen))) reads ∙ ap (λ (gs : List (ℕ × Tree)). map idle (goal_numbers gs)) (sym kept))
+      (reads_begin goals f.seen (starts_in q (state_at goals f.seen (length f.seen))) row reads))

@@ -1,8 +1,8 @@
 -- The front of an engine that runs: what it is told of the shared state.
 use Rattle.std.specs.Prelude.{◌≡◌, ◌≤◌, ℕ, List, [], ◌∷◌, ◌++◌, true, length}
-use Rattle.std.specs.List.{Contains}
+use Rattle.std.specs.List.{All, Contains}
 use Rattle.atomic_table.specs.Seated.{TableId}
-use Rattle.pl_model.specs.History.{History, mine}
+use Rattle.pl_model.specs.History.{Entry, History, mine}
 use Rattle.pl_history.specs.Fronts.{FrontState, Life, begun_by, own_engine, own_generations, own_runs, own_updates}
 use Rattle.world_api.specs.Told.{Told}
 
@@ -31,8 +31,9 @@ abbrev pub begun_in : History → List Life
 begun_in [] = []
 begun_in (x ∷ xs) = begun_by x.kind ++ begun_in xs
 
--- THE HISTORY HAS GAINED ENTRIES, or none: the hub's front carries the engines that they begin besides those that it carried
-pub record Grows (old new : FrontState) : Type 0 where
+-- THE HISTORY HAS GAINED ENTRIES of this engine alone, or none: the hub's front carries the engines that they begin besides those that it carried
+pub record Grows (e : ℕ) (old new : FrontState) : Type 0 where
   pub later : History
+  pub own : All (λ (x : Entry). x.engine ≡ e) later
   pub grown : new.seen ≡ old.seen ++ later
   pub carried : new.lives ≡ old.lives ++ begun_in later

@@ -5,3 +5,4 @@ pub mod Visits
 pub mod Adding
 pub mod Ending
 pub mod Beginning
+pub mod Order

@@ -13,6 +13,7 @@ use Rattle.counted_terms.specs.Sharing.{IsFew, Sums}
 use Rattle.hub_database.specs.Database.{IsDatabase, IsUpTo, clause_counts}
 use Rattle.hub_threads.specs.Threads.{IsThreads, thread_counts}
 use Rattle.pl_hub.specs.Fronts.{idle}
+use Rattle.pl_hub.specs.Order.{IsInOrder}
 
 -- WHAT IS SHARED IS THE STATE AFTER ALL ENTRIES that the hub's front has seen. The keeper, which is in its place at the table of atoms, counts each atom exactly as often as stored clauses, messages, goals and statuses count it. The hub's front carries the engines that have begun and that no other front was given, which are those whose goals are kept, and have done nothing yet
 pub record IsShared (atoms : TableId) (size : Size) (history : TableId) (goals : ℕ) (f : FrontState) (keeper : Option Keeper) (db : HeldClauses Tree) (queues : HeldThreads Tree) (count : ℕ) : Type 0 where
@@ -25,4 +26,5 @@ pub record IsShared (atoms : TableId) (size : Size) (history : TableId) (goals :
   pub floor : db.floor ≡ 0
   pub threads : IsThreads (keeper_view keeper) queues count goals f.seen
   pub below : IsBelow count (length f.seen) queues
+  pub order : IsInOrder goals f.seen
   pub waiting : f.lives ≡ map idle (goal_numbers queues.goals)

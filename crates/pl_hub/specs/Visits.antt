@@ -31,7 +31,7 @@ IsTold Memory front hub new = new ≡ hub
 pub record IsVisit (table : TableId) (goals e : ℕ) (v w : View) (visit : Visit Tree ArgumentKey) (a : Answer Tree) (f g hub new : FrontState) : Type 0 where
   pub visited : Visited term_by clause_key (text_of (names v)) (text_of (names w)) visit a (told_of goals f) hub.seen (told_of goals g)
   pub history : IsTold a g hub new
-  pub carried : Grows hub new
+  pub carried : Grows e hub new
   pub own : IsOwn table e g
   pub named : All (λ x. IsSome (names w x)) (answer_names names_of a)
   pub holds : Holds (names v) (names w)

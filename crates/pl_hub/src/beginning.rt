@@ -5,6 +5,7 @@ ghost use Rattle.atom_words.specs.Seats.{seen};
 ghost use Rattle.atom_table.specs.Naming.{names, requests as asked};
 ghost use Rattle.counted_terms.specs.Keeping.{HoldsOn};
 ghost use Rattle.pl_hub.specs.Beginning.{HasBegun};
+ghost use Rattle.pl_hub.specs.Order.{IsInOrder};
 ghost use Rattle.pl_hub.specs.Settling.{IsBehind};
 
 use crate::naming::Naming;
@@ -53,6 +54,13 @@ impl<K: Naming> Shared<K> {
         ensures { IsFalse result ↔ (self.now.lives ≡ []) }
     {
         self.queues.first_goal().is_some()
+    }
+
+    /// Engines begin in the order of their numbers, and each number is given once. It does nothing.
+    pub fn in_order(&self)
+        ensures { IsInOrder K.goals self.now.seen }
+    {
+        let _generation = self.front.generation();
     }
 
     /// The length of the history.

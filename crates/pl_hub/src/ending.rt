@@ -1,8 +1,9 @@
 //! Ends of engines.
-ghost use Rattle.std.specs.Prelude.{◌≡◌, IsSome, OnErr, OnOk};
+ghost use Rattle.std.specs.Prelude.{◌≡◌, IfOk, IsSome, OnErr, OnOk, length};
+ghost use Rattle.std.specs.Arc.{arc_value};
 ghost use Rattle.std.specs.List.{All};
 ghost use Rattle.pl_model.specs.History.{finish};
-ghost use Rattle.pl_model.specs.SharedState.{status_of};
+ghost use Rattle.pl_model.specs.SharedState.{state_at, status_of};
 ghost use Rattle.atom_words.specs.Seats.{seen};
 ghost use Rattle.atom_table.specs.Naming.{names, requests as asked};
 ghost use Rattle.counted_terms.specs.CountedTerms.{said};
@@ -15,16 +16,29 @@ use crate::naming::Naming;
 use crate::settling::close;
 use crate::shared::Shared;
 use atom_table::TableAtoms;
+use clause_db::OpTable;
 use counted_terms::CountedTerm;
 use hub_threads::Status;
 use pl_history::{Front, History};
+use pl_model::grammar::Quotes;
 use pl_model::shows::{ShowsHow, ShowsSteps};
 use pl_term::Memory;
+use std::sync::Arc;
 
 /// From this length on the history gains no end of an engine either.
 const LAST: u64 = 1 << 49;
 
 impl<K: Naming> Shared<K> {
+    /// The operators and the flag `double_quotes` after all entries, as an engine leaves them that ends then. The only error is
+    /// out of memory.
+    pub fn standing(&self) -> Result<(Arc<OpTable>, Quotes), Memory>
+        ensures operators { IfOk result (λ s. arc_value s.0 ≡ (state_at K.goals self.now.seen (length self.now.seen)).operators) }
+        ensures quotes { IfOk result (λ s. s.1 ≡ (state_at K.goals self.now.seen (length self.now.seen)).flags.double_quotes) }
+    {
+        let operators = self.db.shared_operators()?;
+        Ok((operators, self.db.flags().double_quotes))
+    }
+
     /// The front's own engine, which has this number and runs, ends so after so many steps: the history gains its end, and
     /// its thread the status, of which the engine holds the atoms. Out of memory changes nothing; a history of 2^49 entries
     /// is taken as out of memory.

@@ -30,6 +30,9 @@ pub struct Shared<K: Naming> {
     pub(crate) queues: Queues<CountedTerm>,
     /// The number that the next thread or queue gets.
     pub(crate) count: u64,
+    /// How many goals the command has.
+    pub(crate) goals: u64,
+    pub(crate) ghost commanded: { goals ≡ K.goals },
     pub(crate) of: PhantomData<K>,
 }
 
@@ -85,6 +88,7 @@ impl<K: Naming> Shared<K> {
             hints: Hints::new(alloc),
             queues,
             count: first_number(goals),
+            goals: goals as u64,
             of: PhantomData,
         })
     }

@@ -441,6 +441,7 @@ impl<K: Naming> Shared<K> {
         ensures { IsVisit K.history K.goals engine (seen atoms.old.seat) (seen atoms.new.seat) (StartGoal number goal) result front.old front.new self.old self.new }
     {
         let generation = history.tell(&mut self.front, front);
+        let last = self.goals;
         let row = hub_threads::start_goal(
             alloc,
             &mut self.queues,
@@ -449,6 +450,7 @@ impl<K: Naming> Shared<K> {
             &mut self.keeper,
             generation,
             number,
+            last,
             goal,
         );
         settle::<N>(history, &mut self.front, front, engine, row)

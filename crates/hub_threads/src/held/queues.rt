@@ -1,12 +1,13 @@
 //! The threads and queues.
-ghost use Rattle.std.specs.Prelude.{◌≡◌, ◌↔◌, IsTrue, ◌≤◌, ◌+◌, Ok, Err, Some, None, IfOk, IfSome, IfNone, OnErr, OnOk, find, vec_len, vec_capacity};
+ghost use Rattle.std.specs.Prelude.{◌≡◌, ◌↔◌, IsTrue, ℕ, false, ◌≤◌, ◌+◌, Ok, Err, Some, None, IfOk, IfSome, IfNone, OnErr, OnOk, find, vec_len, vec_capacity};
 ghost use Rattle.std.specs.Result.{MatchResult};
 ghost use Rattle.std.specs.Option.{is_some, option_map};
 ghost use Rattle.pl_term.specs.Variables.{is_in};
 ghost use Rattle.pl_model.specs.Threads.{alias_of, is_alias, is_queue, number_of, queue_named, thread_named, first_message, has_engine, queue_made, queue_dropped, message_sent, thread_ended, is_joined};
 ghost use Rattle.hub_threads.specs.declared.held.fault.QueueFault.TheVariants.{NoQueue, Memory as NoMemory};
+ghost use Rattle.hub_threads.specs.Distinct.{has_number};
 ghost use Rattle.hub_threads.specs.Goals.{first_begun};
-ghost use Rattle.hub_threads.specs.Held.{opening_held, Removes, IsNew, IsNewPlace, IsSound, contents, named_message, goal_numbers, goal_of, without_goal, Takes, left_by_join, own_contents, started};
+ghost use Rattle.hub_threads.specs.Held.{opening_held, Removes, IsNew, IsNewPlace, IsSound, contents, named_message, goal_numbers, goal_of, without_goal, Takes, left_by_join, own_contents, started, thread_numbers};
 ghost use Rattle.hub_threads.specs.Located.{Locates};
 ghost use Rattle.hub_threads.specs.Refusals.{is_taken, make_refusal, start_refusal, drop_refusal, end_refusal, join_refusal, join_fault};
 
@@ -14,7 +15,8 @@ use crate::held::aliases::{put_alias, take_alias};
 use crate::held::fault::QueueFault;
 use crate::held::queue::Queue;
 use crate::held::searches::{
-    alias_at, first_number, goal_at, has, has_place, named_at, queue_at, running, thread_at,
+    alias_at, first_number, goal_at, has, has_place, named_at, number_within, queue_at, running,
+    thread_at, thread_within,
 };
 use pl_model::kept::Kept;
 use pl_model::threads::{Message, Name, Status, Thread};
@@ -172,6 +174,17 @@ impl<M: Drop> Queues<M> {
         ensures { result ≡ is_in n self.now.state.joined }
     {
         has(self.joined.as_slice(), n)
+    }
+
+    /// Whether a thread has or, before it was joined, had a number from the first one to the last one.
+    pub fn has_within(&self, first: u64, last: u64) -> bool
+        ensures begun { result ≡ false → (m : ℕ) → first ≤ m → m ≤ last → has_number m (thread_numbers self.now.state.threads) ≡ false }
+        ensures joined { result ≡ false → (m : ℕ) → first ≤ m → m ≤ last → is_in m self.now.state.joined ≡ false }
+    {
+        if thread_within(self.threads.as_slice(), first, last) {
+            return true;
+        }
+        number_within(self.joined.as_slice(), first, last)
     }
 
     /// A number is one queue's, one thread's, one alias's and one goal's, and a place is one message's. It does nothing.

@@ -1,10 +1,10 @@
 //! Where a number or a name stands, and how many threads run.
-ghost use Rattle.std.specs.Prelude.{◌≡◌, bytes_eq, filter, find, length};
+ghost use Rattle.std.specs.Prelude.{◌≡◌, ◌≤◌, ℕ, bytes_eq, false, filter, find, length};
 ghost use Rattle.pl_term.specs.Variables.{is_in};
 ghost use Rattle.pl_model.specs.Threads.{is_queue, is_thread, is_running};
 ghost use Rattle.hub_threads.specs.Distinct.{has_number};
-ghost use Rattle.hub_threads.specs.Goals.{first_begun};
-ghost use Rattle.hub_threads.specs.Held.{goal_numbers, is_goal_of, is_named, is_sent_at, is_spelled, places};
+ghost use Rattle.hub_threads.specs.Goals.{first_begun, is_within};
+ghost use Rattle.hub_threads.specs.Held.{goal_numbers, is_goal_of, is_named, is_sent_at, is_spelled, places, thread_numbers};
 ghost use Rattle.hub_threads.specs.Located.{Locates};
 
 use crate::held::queue::Queue;
@@ -93,6 +93,37 @@ pub fn has(numbers: &[u64], n: u64) -> bool
     ensures { result ≡ is_in n numbers.now }
 {
     numbers.contains(&n)
+}
+
+/// Whether the number lies from the first one to the last one.
+fn lies_within(n: u64, first: u64, last: u64) -> bool
+    ensures { result ≡ is_within first last n }
+{
+    first <= n && n <= last
+}
+
+/// Whether one of the threads has a number from the first one to the last one.
+pub fn thread_within<M: Drop>(threads: &[Thread<M>], first: u64, last: u64) -> bool
+    ensures { result ≡ false → (m : ℕ) → first ≤ m → m ≤ last → has_number m (thread_numbers threads.now) ≡ false }
+{
+    for i in 0..threads.len() {
+        if lies_within(threads[i].number, first, last) {
+            return true;
+        }
+    }
+    false
+}
+
+/// Whether one of the numbers lies from the first one to the last one.
+pub fn number_within(numbers: &[u64], first: u64, last: u64) -> bool
+    ensures { result ≡ false → (m : ℕ) → first ≤ m → m ≤ last → is_in m numbers.now ≡ false }
+{
+    for i in 0..numbers.len() {
+        if lies_within(numbers[i], first, last) {
+            return true;
+        }
+    }
+    false
 }
 
 /// Where the message stands that was sent at the place.

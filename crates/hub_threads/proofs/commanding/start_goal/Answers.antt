@@ -16,8 +16,8 @@ use Rattle.hub_threads.proofs.commanding.start_goal.Goals as goal
 pub returns-in-Err-clause-asked : goal.returns-in-Err-clause-asked
 returns-in-Err-clause-asked g c = asks_nothing (λ t. (t ≡ goal_alias c.args.number) × (is_alias c.args.queues.now.state t ≡ true)) (asked (seen c.args.atoms.now.seat))
 
-pub returns-then-not-is_unused-clause-asked : goal.returns-then-not-is_unused-clause-asked
-returns-then-not-is_unused-clause-asked g c = asks_nothing (λ t. (t ≡ goal_alias c.args.number) × (is_alias c.args.queues.now.state t ≡ true)) (asked (seen c.args.atoms.now.seat))
+pub returns-then-not-can_begin-clause-asked : goal.returns-then-not-can_begin-clause-asked
+returns-then-not-can_begin-clause-asked g c = asks_nothing (λ t. (t ≡ goal_alias c.args.number) × (is_alias c.args.queues.now.state t ≡ true)) (asked (seen c.args.atoms.now.seat))
 
 -- THE ALIAS NAMES SOMETHING
 pub returns-then-is_alias-clause-says : goal.returns-then-is_alias-clause-says
@@ -25,8 +25,8 @@ returns-then-is_alias-clause-says g c = λ e goals h long stands.
     c.goal_taken.ensures.says (keeper_view c.args.keeper.now) e c.args.count.now goals h (said (names (seen c.args.atoms.now.seat)) c.args.goal) stands
 
 -- IT BEGINS
-pub returns-else-not-is_unused-clause-says : goal.returns-else-not-is_unused-clause-says
-returns-else-not-is_unused-clause-says g c = λ e goals h long stands.
+pub returns-else-not-can_begin-clause-says : goal.returns-else-not-can_begin-clause-says
+returns-else-not-can_begin-clause-says g c = λ e goals h long stands.
     let k = keeper_view c.args.keeper.now in
     let q = c.args.queues.now in
     let t = said (names (seen c.args.atoms.now.seat)) c.args.goal in
@@ -37,5 +37,5 @@ returns-else-not-is_unused-clause-says g c = λ e goals h long stands.
     ∙ ap (λ (z : Chars). starts (state_at goals h (length h)) (length h) c.args.number t (Some z) requests.done) (sym alias))
     refl
 
-pub returns-else-not-is_unused-clause-holds : goal.returns-else-not-is_unused-clause-holds
-returns-else-not-is_unused-clause-holds g c = λ a t e. ap (λ (f : Names). f a) c.start_with.ensures.held ∙ e
+pub returns-else-not-can_begin-clause-holds : goal.returns-else-not-can_begin-clause-holds
+returns-else-not-can_begin-clause-holds g c = λ a t e. ap (λ (f : Names). f a) c.start_with.ensures.held ∙ e

@@ -14,21 +14,21 @@ use Rattle.hub_threads.proofs.Sending.{at_some, nothing_below, nothing_restores,
 use Rattle.hub_threads.proofs.destroying.drop_found.Goals as goal
 
 -- OUT OF MEMORY
-pub returns-in-Err-clause-restored : goal.returns-in-Err-clause-restored
-returns-in-Err-clause-restored g c =
-    subst (λ (q : Held Tree). Restored (thread_counts c.args.queues.now) (thread_counts q) (keeper_view c.args.keeper.now) (keeper_view c.args.keeper.now) c.args.generation (c.args.generation + 0)) (sym c.in-Err.ensures.unchanged)
+pub returns-in-Err-Memory-clause-restored : goal.returns-in-Err-Memory-clause-restored
+returns-in-Err-Memory-clause-restored g c =
+    subst (λ (q : Held Tree). Restored (thread_counts c.args.queues.now) (thread_counts q) (keeper_view c.args.keeper.now) (keeper_view c.args.keeper.now) c.args.generation (c.args.generation + 0)) (sym c.in-Err-Memory.ensures.unchanged)
     (nothing_restores (thread_counts c.args.queues.now) (keeper_view c.args.keeper.now) (keeper_view c.args.keeper.now) c.args.generation 0 refl (λ a. refl))
 
-pub returns-in-Err-clause-below : goal.returns-in-Err-clause-below
-returns-in-Err-clause-below g c = λ count below.
-    subst (λ (q : Held Tree). IsBelow count (c.args.generation + 0) q) (sym c.in-Err.ensures.unchanged) (nothing_below c.args.queues.now count c.args.generation 0 below)
+pub returns-in-Err-Memory-clause-below : goal.returns-in-Err-Memory-clause-below
+returns-in-Err-Memory-clause-below g c = λ count below.
+    subst (λ (q : Held Tree). IsBelow count (c.args.generation + 0) q) (sym c.in-Err-Memory.ensures.unchanged) (nothing_below c.args.queues.now count c.args.generation 0 below)
 
-pub returns-in-Err-clause-says : goal.returns-in-Err-clause-says
-returns-in-Err-clause-says g c = λ n e count goals h x long stands named.
-    subst (λ (q : Held Tree). IsThreads (keeper_view c.args.keeper.now) q count goals h) (sym c.in-Err.ensures.unchanged) stands
+pub returns-in-Err-Memory-clause-says : goal.returns-in-Err-Memory-clause-says
+returns-in-Err-Memory-clause-says g c = λ n e count goals h x long stands named.
+    subst (λ (q : Held Tree). IsThreads (keeper_view c.args.keeper.now) q count goals h) (sym c.in-Err-Memory.ensures.unchanged) stands
 
-pub returns-in-Err-clause-refusals : goal.returns-in-Err-clause-refusals
-returns-in-Err-clause-refusals g c = sym (append-nil (seen c.args.atoms.now.seat).refusals)
+pub returns-in-Err-Memory-clause-refusals : goal.returns-in-Err-Memory-clause-refusals
+returns-in-Err-Memory-clause-refusals g c = sym (append-nil (seen c.args.atoms.now.seat).refusals)
 
 -- IT IS DESTROYED
 pub forget_all-requires-clause-counted : goal.forget_all-requires-clause-counted

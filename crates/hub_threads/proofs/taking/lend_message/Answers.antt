@@ -24,18 +24,18 @@ use Rattle.hub_threads.proofs.TakenMessages.{first_alike, lent_decides, lent_nam
 use Rattle.hub_threads.proofs.taking.lend_message.Goals as goal
 
 -- OUT OF MEMORY
-pub returns-in-Err-clause-restored : goal.returns-in-Err-clause-restored
-returns-in-Err-clause-restored g c = λ n. restored_same (thread_counts c.args.queues.now) (keeper_view c.args.keeper.now) (keeper_view c.agree.new.keeper) n c.agree.ensures.keeps (λ a. ap (λ (f : ℕ → ℕ). f a) c.agree.ensures.counts)
+pub returns-in-Err-Memory-clause-restored : goal.returns-in-Err-Memory-clause-restored
+returns-in-Err-Memory-clause-restored g c = λ n. restored_same (thread_counts c.args.queues.now) (keeper_view c.args.keeper.now) (keeper_view c.agree.new.keeper) n c.agree.ensures.keeps (λ a. ap (λ (f : ℕ → ℕ). f a) c.agree.ensures.counts)
 
-pub returns-in-Err-clause-says : goal.returns-in-Err-clause-says
-returns-in-Err-clause-says g c = λ e count goals h stands.
+pub returns-in-Err-Memory-clause-says : goal.returns-in-Err-Memory-clause-says
+returns-in-Err-Memory-clause-says g c = λ e count goals h stands.
     same_stands (keeper_view c.args.keeper.now) (keeper_view c.agree.new.keeper) c.args.queues.now count goals h c.is_sound.ensures c.agree.ensures.keeps stands
 
-pub returns-in-Err-clause-holds : goal.returns-in-Err-clause-holds
-returns-in-Err-clause-holds g c = λ a t e. ap (λ (f : Names). f a) c.agree.ensures.held ∙ e
+pub returns-in-Err-Memory-clause-holds : goal.returns-in-Err-Memory-clause-holds
+returns-in-Err-Memory-clause-holds g c = λ a t e. ap (λ (f : Names). f a) c.agree.ensures.held ∙ e
 
-pub returns-in-Err-clause-refusals : goal.returns-in-Err-clause-refusals
-returns-in-Err-clause-refusals g c = c.agree.ensures.refusals ∙ sym (append-nil (seen c.args.atoms.now.seat).refusals)
+pub returns-in-Err-Memory-clause-refusals : goal.returns-in-Err-Memory-clause-refusals
+returns-in-Err-Memory-clause-refusals g c = c.agree.ensures.refusals ∙ sym (append-nil (seen c.args.atoms.now.seat).refusals)
 
 -- NO MESSAGE UNIFIES
 pub returns-in-None-clause-restored : goal.returns-in-None-clause-restored

@@ -23,18 +23,18 @@ use Rattle.hub_threads.proofs.TakenMessages.{first_alike, get_waits, left_counte
 use Rattle.hub_threads.proofs.taking.take_message.Goals as goal
 
 -- OUT OF MEMORY
-pub returns-in-Err-clause-restored : goal.returns-in-Err-clause-restored
-returns-in-Err-clause-restored g c =
-    subst (λ (q : Held Tree). Restored (thread_counts c.args.queues.now) (thread_counts q) (keeper_view c.args.keeper.now) (keeper_view c.agree.new.keeper) c.args.generation (c.args.generation + 0)) (sym c.in-Err.ensures.unchanged)
+pub returns-in-Err-Memory-clause-restored : goal.returns-in-Err-Memory-clause-restored
+returns-in-Err-Memory-clause-restored g c =
+    subst (λ (q : Held Tree). Restored (thread_counts c.args.queues.now) (thread_counts q) (keeper_view c.args.keeper.now) (keeper_view c.agree.new.keeper) c.args.generation (c.args.generation + 0)) (sym c.in-Err-Memory.ensures.unchanged)
     (nothing_restores (thread_counts c.args.queues.now) (keeper_view c.args.keeper.now) (keeper_view c.agree.new.keeper) c.args.generation 0 c.agree.ensures.keeps (λ a. ap (λ (f : ℕ → ℕ). f a) c.agree.ensures.counts))
 
-pub returns-in-Err-clause-below : goal.returns-in-Err-clause-below
-returns-in-Err-clause-below g c = λ count below.
-    subst (λ (q : Held Tree). IsBelow count (c.args.generation + 0) q) (sym c.in-Err.ensures.unchanged) (nothing_below c.args.queues.now count c.args.generation 0 below)
+pub returns-in-Err-Memory-clause-below : goal.returns-in-Err-Memory-clause-below
+returns-in-Err-Memory-clause-below g c = λ count below.
+    subst (λ (q : Held Tree). IsBelow count (c.args.generation + 0) q) (sym c.in-Err-Memory.ensures.unchanged) (nothing_below c.args.queues.now count c.args.generation 0 below)
 
-pub returns-in-Err-clause-says : goal.returns-in-Err-clause-says
-returns-in-Err-clause-says g c = λ e count goals h long stands.
-    subst (λ (q : Held Tree). IsThreads (keeper_view c.agree.new.keeper) q count goals h) (sym c.in-Err.ensures.unchanged)
+pub returns-in-Err-Memory-clause-says : goal.returns-in-Err-Memory-clause-says
+returns-in-Err-Memory-clause-says g c = λ e count goals h long stands.
+    subst (λ (q : Held Tree). IsThreads (keeper_view c.agree.new.keeper) q count goals h) (sym c.in-Err-Memory.ensures.unchanged)
     (same_stands (keeper_view c.args.keeper.now) (keeper_view c.agree.new.keeper) c.args.queues.now count goals h c.is_sound.ensures c.agree.ensures.keeps stands)
 
 -- NO MESSAGE UNIFIES
@@ -81,11 +81,11 @@ returns-in-None-clause-holds g c = λ a t e. ap (λ (f : Names). f a) c.agree.en
 pub returns-in-None-clause-refusals : goal.returns-in-None-clause-refusals
 returns-in-None-clause-refusals g c = c.agree.ensures.refusals ∙ sym (append-nil (seen c.args.atoms.now.seat).refusals) ∙ ap (λ (l : List Refusal). (seen c.args.atoms.now.seat).refusals ++ l) (sym c.wait_on_queue.ensures.refusals)
 
-pub returns-in-Err-clause-holds : goal.returns-in-Err-clause-holds
-returns-in-Err-clause-holds g c = λ a t e. ap (λ (f : Names). f a) c.agree.ensures.held ∙ e
+pub returns-in-Err-Memory-clause-holds : goal.returns-in-Err-Memory-clause-holds
+returns-in-Err-Memory-clause-holds g c = λ a t e. ap (λ (f : Names). f a) c.agree.ensures.held ∙ e
 
-pub returns-in-Err-clause-refusals : goal.returns-in-Err-clause-refusals
-returns-in-Err-clause-refusals g c = c.agree.ensures.refusals ∙ sym (append-nil (seen c.args.atoms.now.seat).refusals)
+pub returns-in-Err-Memory-clause-refusals : goal.returns-in-Err-Memory-clause-refusals
+returns-in-Err-Memory-clause-refusals g c = c.agree.ensures.refusals ∙ sym (append-nil (seen c.args.atoms.now.seat).refusals)
 
 -- THE FIRST ONE IS HANDED OVER
 pub hand_over-requires-clause-counted : goal.hand_over-requires-clause-counted

@@ -14,6 +14,7 @@ use Rattle.pl_hub.specs.Fronts.{idle}
 use Rattle.pl_hub.specs.Settling.{kind_of}
 use Rattle.pl_hub.specs.State.{IsShared}
 use Rattle.pl_hub.proofs.Held.{all_left, all_right}
+use Rattle.pl_hub.proofs.Order.{thread_begins}
 use Rattle.pl_hub.proofs.ThreadRows.{can_settle, shared_begun, thread_counts_of, threads_visit}
 use Rattle.pl_hub.proofs.shared.Shared.create_thread_by.Goals as goal
 
@@ -55,7 +56,8 @@ invariant_of-self g c =
     (c.create_thread-row.ensures.says c.args.engine g.K.Naming.goals f.seen (sym c.generation-generation.ensures) c.self.invariant.threads)
     c.self.inside.count (ap (λ (k : ℕ). idle k ∷ []) c.self.invariant.threads.number)
     c.self.invariant c.create_thread-row.ensures.keeper refl c.generation-generation.result c.generation-generation.ensures
-    c.create_thread-row.ensures.restored c.create_thread-row.ensures.below c.create_thread-row.ensures.goals c.settle.new.hub c.settle.ensures.hub
+    c.create_thread-row.ensures.restored c.create_thread-row.ensures.below c.create_thread-row.ensures.goals
+    (thread_begins g.K.Naming.goals f.seen c.self.inside.count (sym c.self.invariant.threads.number) c.create_thread-row.result) c.settle.new.hub c.settle.ensures.hub
 
 pub returns : goal.returns
 returns g c =

@@ -25,7 +25,7 @@ invariant_of-self-in-Ok g c =
     c.self.invariant c.in-Ok.ensures.keeper c.args.engine (finish how steps) tt c.generation-generation.result c.generation-generation.ensures c.in-Ok.ensures.restored
     (c.in-Ok.ensures.below c.self.inside.count (subst (λ (x : ℕ). IsBelow c.self.inside.count x c.self.inside.queues) (sym c.generation-generation.ensures) c.self.invariant.below))
     (c.in-Ok.ensures.ended how steps c.self.inside.count g.K.Naming.goals c.self.inside.front.seen (sym c.generation-generation.ensures) c.self.invariant.threads c.requires.status)
-    c.end_thread-ended.ensures.goals c.close.new.hub c.close.ensures.hub
+    c.end_thread-ended.ensures.goals refl c.close.new.hub c.close.ensures.hub
 
 pub returns-in-Ok-clause-ended : goal.returns-in-Ok-clause-ended
 returns-in-Ok-clause-ended g c =

@@ -7,8 +7,8 @@ use Rattle.pl_hub.specs.State.{IsShared}
 use Rattle.pl_hub.proofs.Opening.{shared_opens}
 use Rattle.pl_hub.proofs.shared.Shared.new.Goals as goal
 
-pub invariant_of-result : goal.invariant_of-result
-invariant_of-result g c =
+pub invariant_of-result-2 : goal.invariant_of-result-2
+invariant_of-result-2 g c =
     subst (λ (x : FrontState). IsShared g.K.NamesTable.atoms g.K.NamesTable.size g.K.Naming.history g.K.Naming.goals x (Some c.args.keeper) c.in_ok-db.db c.in_ok-queues.queues c.first_number.result)
     (sym (c.hand.ensures.hub ∙ ap (λ (x : FrontState). record x { lives = without 1 x.lives }) c.requires.hub))
     (shared_opens g.K.NamesTable.atoms g.K.NamesTable.size g.K.Naming.history g.K.Naming.goals (Some c.args.keeper) c.in_ok-db.db c.in_ok-queues.queues c.first_number.result

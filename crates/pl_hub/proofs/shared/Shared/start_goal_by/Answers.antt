@@ -7,12 +7,14 @@ use Rattle.world_api.specs.Texts.{text_of}
 use Rattle.world_api.specs.declared.visit.Visit.TheVariants.{StartGoal}
 use Rattle.counted_terms.specs.CountedTerms.{said}
 use Rattle.counted_terms.specs.Keeping.{keeper_view}
+use Rattle.hub_threads.specs.Goals.{IsNextGoal}
 use Rattle.hub_threads.specs.Threads.{IsThreads}
 use Rattle.pl_hub.specs.Fronts.{IsOwn}
 use Rattle.pl_hub.specs.Settling.{IsBehind}
 use Rattle.pl_hub.specs.State.{IsShared}
 use Rattle.pl_hub.specs.Visits.{IsVisit}
 use Rattle.pl_hub.proofs.AskedTexts.{start_asked}
+use Rattle.pl_hub.proofs.Order.{goal_begins, later_goal}
 use Rattle.pl_hub.proofs.ThreadRows.{can_settle, shared_begun, thread_counts_of, threads_visit_asking}
 use Rattle.pl_hub.proofs.shared.Shared.start_goal_by.Goals as goal
 
@@ -45,7 +47,10 @@ invariant_of-self g c =
     c.args.number refl
     (subst (λ (x : FrontState). IsShared g.K.NamesTable.atoms g.K.NamesTable.size g.K.Naming.history g.K.Naming.goals x c.self.inside.keeper c.self.inside.db c.self.inside.queues c.self.inside.count) (sym c.tell-generation.ensures.hub) c.self.invariant)
     c.start_goal-row.ensures.keeper refl c.tell-generation.result (sym long)
-    c.start_goal-row.ensures.restored c.start_goal-row.ensures.below c.start_goal-row.ensures.goals c.settle.new.hub c.settle.ensures.hub
+    c.start_goal-row.ensures.restored c.start_goal-row.ensures.below c.start_goal-row.ensures.goals
+    (goal_begins g.K.Naming.goals f.seen c.args.number c.start_goal-row.result
+    (λ made. later_goal (keeper_view c.self.inside.keeper) c.self.inside.queues c.self.inside.count g.K.Naming.goals c.args.number f.seen is_threads
+    (subst (λ (i : ℕ). IsNextGoal i c.args.number c.self.inside.queues) c.self.inside.commanded (c.start_goal-row.ensures.next made)))) c.settle.new.hub c.settle.ensures.hub
 
 pub returns : goal.returns
 returns g c =
