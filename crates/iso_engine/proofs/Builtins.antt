@@ -1,5 +1,5 @@
 -- Which goals are built-in predicates.
-use Rattle.std.proofs.Common.{◌≡◌, ℕ, suc, ◌<◌, true, false, List, [], ◌∷◌, length, Option, Some, None, is_some, inl, inr, codes, refl, sym, ap, subst, ◌∙◌, arith}
+use Rattle.std.proofs.Common.{◌≡◌, ℕ, suc, ◌<◌, true, false, List, [], ◌∷◌, length, Option, Some, None, is_some, inl, inr, codes, refl, sym, ap, ap₂, subst, ◌∙◌, arith}
 use Rattle.std.proofs.lemmas.Bool.{false≢true, true≢false}
 use Rattle.std.proofs.lemmas.Slice.Eq.{bytes_eq-Decides}
 use Rattle.pl_term.specs.Tree.{Chars, Tree, none as no_trees, var, atom, count, compound, trees}
@@ -16,7 +16,8 @@ use Rattle.atom_api.specs.FixedNames.{call_name}
 use Rattle.term_store.specs.declared.words.Place.{Place}
 use Rattle.term_store.specs.declared.views.Arguments.{Arguments}
 use Rattle.term_store.specs.Heap.{atom_name}
-use Rattle.term_store.specs.Contents.{Contents, IsArguments, arguments_at, term_at}
+use Rattle.term_store.specs.Contents.{Contents, Holds, IsArguments, arguments_at, term_at}
+use Rattle.shared_builtins.specs.Goals.{IsPredicate}
 use Rattle.builtin_rows.specs.declared.predicates.Meaning.{Meaning}
 use Rattle.builtin_rows.specs.declared.predicates.Meaning.TheVariants as meaning
 use Rattle.builtin_rows.specs.declared.predicates.Pred.TheVariants.{One, Two, Three, SubAtom}
@@ -29,7 +30,8 @@ use Rattle.iso_search.proofs.Constructing.{count-trees, how_many}
 use Rattle.iso_search.proofs.Naming.{call_is, text_is}
 use Rattle.iso_search.proofs.Spelt.{count-spelled}
 use Rattle.iso_engine.specs.declared.builtin.Builtin.{Builtin}
-use Rattle.iso_engine.specs.Builtins.{IsBuiltinAt, IsNoBuiltin, IsOther, IsSharedOrKept, builtin_alone}
+use Rattle.iso_engine.specs.declared.builtin.Builtin.TheVariants as builtin
+use Rattle.iso_engine.specs.Builtins.{IsAskedAt, IsBuiltinAt, IsNoBuiltin, IsOther, IsSharedOrKept, builtin_alone}
 
 one_name : (a b : ℕ) → atom_name a ≡ atom_name b → a ≡ b
 one_name a b e = first a b [] [] e
@@ -54,6 +56,10 @@ pub record IsTold (name arity : ℕ) (o : Option Meaning) : Type 0 where
   pub shares : TellsShared name arity o
   pub constructs : TellsConstructs name arity o
   pub reserves : TellsReserved name arity o
+
+none_of : (o : Option Row) → is_some o ≡ false → o ≡ None
+none_of None e = refl
+none_of (Some r) e = absurd (true≢false e)
 
 no_lines : (o : Option Row) → is_some o ≡ false → table_of o ≡ []
 no_lines None e = refl
@@ -164,6 +170,13 @@ module _ (v : View) (view : IsView v) where
       pub compound_is_none : TellsRows name a.count None → TellsShared name a.count None → IsNoBuiltin (reads v s at)
       compound_is_none rows shares = told_at IsNoBuiltin (λ g named many plain kept. none_is g name a.count named many plain kept rows shares)
 
+      pub compound_no_row : (o : Option Meaning) → has_row o ≡ false → TellsRows name a.count o → (next : ℕ) → row (name_of (reads v s at)) (arguments (reads v s at)) next ≡ None
+      compound_no_row o no_row rows next =
+          told_at (λ g. row (name_of g) (arguments g) next ≡ None)
+          (λ g named many plain kept.
+          none_of (row (name_of g) (arguments g) next)
+          (ap (λ f. is_some (row f (arguments g) next)) named ∙ rows texts are_texts (arguments g) many next ∙ no_row))
+
       pub compound_no_lines : (o : Option Meaning) → has_row o ≡ false → TellsRows name a.count o → lines_of (reads v s at) ≡ []
       compound_no_lines o no_row rows =
           told_at (λ g. lines_of g ≡ [])
@@ -186,3 +199,26 @@ alone_at s at o b is told = subst (IsBuiltinAt s at) (sym is) (go o told)
     go : (p : Option Meaning) → ((v : View) → IsView v → IsOther (reads v s at) (builtin_alone p)) → IsBuiltinAt s at (builtin_alone p)
     go None h = h
     go (Some p) h = h
+
+-- What a goal of a predicate of the shared state is.
+pub asked_is : (s : Contents) (goal : Place) (name : ℕ) (a : Arguments) → Holds s goal → term_at s goal ≡ compound (atom_name name) (arguments_at s a) → IsArguments s a
+    → 0 < a.count → IsTold name a.count (Some meaning.Asks) → (b : Builtin) → IsAskedAt goal name a b → IsBuiltinAt s goal b
+asked_is s goal name a holds is args some told (builtin.Row r) h = absurd h
+asked_is s goal name a holds is args some told builtin.No h = absurd h
+asked_is s goal name a holds is args some told builtin.Other h =
+    λ v view. compound_is_other v view s goal name a is args some meaning.Asks refl told
+asked_is s goal name a holds is args some told (builtin.State x) h = (
+  h.0,
+  record {
+    holds = subst (Holds s) (sym h.0) holds;
+    inside = subst (IsArguments s) (sym h.2) args;
+    means =
+        ap (term_at s) h.0
+        ∙ is
+        ∙ ap₂ (λ (k : ℕ) (b : Arguments). compound (atom_name k) (arguments_at s b)) (sym h.1) (sym h.2);
+    predicate =
+        subst (λ (k : ℕ). IsPredicate k x.arguments.count x.pred) (sym h.1)
+        (subst (λ (b : Arguments). IsPredicate name b.count x.pred) (sym h.2) h.3);
+  },
+  λ v view next. compound_no_row v view s goal name a is args some (Some meaning.Asks) refl told.rows next,
+)

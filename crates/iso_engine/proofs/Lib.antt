@@ -59,6 +59,9 @@ pub mod Serving
 pub mod Solutions
 pub mod Spending
 pub mod Stability
+pub mod StateAsked
+pub mod StateMoved
+pub mod StateRows
 pub mod Stepping
 pub mod Tableless
 pub mod TableRows

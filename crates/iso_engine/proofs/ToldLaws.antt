@@ -1,12 +1,13 @@
 -- Lines that the shared state told, as answers of the definition.
-use Rattle.std.proofs.Common.{◌≡◌, ◌<◌, ◌≤◌, ◌+◌, ℕ, Bool, true, false, cond, List, [], ◌∷◌, length, map, drop, get_or, Option, Some, None, is_some, codes, pos, Vec, refl, sym, ap, ap₂, subst, ◌∙◌, arith, append-nil}
+use Rattle.std.proofs.Common.{◌≡◌, ◌<◌, ◌≤◌, ◌+◌, ℕ, zero, suc, Bool, true, false, cond, ◌&&◌, nat_le, List, [], ◌∷◌, ◌++◌, length, map, drop, get_or, Option, Some, None, is_some, codes, pos, Vec, refl, sym, ap, ap₂, subst, ◌∙◌, arith, append-nil}
 use Rattle.std.specs.declared.alloc.Global.{Global}
 use Rattle.std.specs.List.{All}
 use Rattle.std.specs.Option.{option_map}
 use Rattle.std.proofs.lemmas.List.{drop-map, drop_all, drop_more, get_or_default}
 use Rattle.pl_term.specs.Tree.{Chars, Tree, Trees, atom, comp, int, more, none, trees, count}
+use Rattle.pl_model.specs.Balls.{no_choices}
 use Rattle.pl_model.specs.BuiltinRows.{Answer, unifying}
-use Rattle.pl_model.specs.Control.{answer_tried, next_answer, taking, unified}
+use Rattle.pl_model.specs.Control.{answer_tried, first_answer, next_answer, raised, several, taking, unified}
 use Rattle.pl_model.specs.History.{Proc}
 use Rattle.pl_model.specs.Predicates.{proc_of}
 use Rattle.pl_model.specs.Resolution.{Node, State, answers}
@@ -23,8 +24,9 @@ use Rattle.iso_engine.specs.Standing.{doing_of}
 use Rattle.term_store.specs.Contents.{Adds, Contents, Holds, IsMark, SameSize, back_to, term_at}
 use Rattle.world_api.specs.Told.{Told as SharedTold}
 use Rattle.iso_search.specs.declared.failure.Back.TheVariants.{Told as ToldBack}
+use Rattle.iso_search.specs.declared.outcome.Fault.TheVariants.{Choices}
 use Rattle.iso_search.specs.declared.outcome.Outcome.{Outcome}
-use Rattle.iso_search.specs.declared.outcome.Outcome.TheVariants.{Fail, Run}
+use Rattle.iso_search.specs.declared.outcome.Outcome.TheVariants.{Fail, Raise, Run}
 use Rattle.iso_search.specs.declared.search.Search.{Search}
 use Rattle.iso_search.specs.declared.told.Constant.{Constant}
 use Rattle.iso_search.specs.declared.told.Line.{Line}
@@ -39,7 +41,7 @@ use Rattle.iso_search.proofs.Cutting.{adds_nothing}
 use Rattle.iso_search.proofs.Equalling.{result_goals}
 use Rattle.iso_search.proofs.Grown.{node_grown, read_kept, state_grown, whole_grown}
 use Rattle.iso_search.proofs.Naming.{text_is}
-use Rattle.iso_search.proofs.Over.{state_by}
+use Rattle.iso_search.proofs.Over.{length_choices, state_by}
 use Rattle.iso_search.proofs.Spelt.{solve_all-spelled}
 use Rattle.iso_engine.specs.declared.doing.Doing.TheVariants.{Failing}
 use Rattle.iso_engine.specs.declared.engine.Engine.{Engine}
@@ -94,6 +96,32 @@ pub none_met : (f : Line → Answer) (ts : Trees) (ls : List Line) (from i : ℕ
     → unifying ts (drop from (map f ls)) ≡ unifying ts (drop i (map f ls))
     → unifying ts (drop from (map f ls)) ≡ []
 none_met f ts ls from i past rest = rest ∙ ap (unifying ts) (drop-map f i ls ∙ ap (map f) (drop_all i ls past))
+
+-- Whether several of them unify.
+module _ (f : Line → Answer) (ts : Trees) (ls : List Line) where
+  abbrev unified_ones : List Answer
+  unified_ones = unifying ts (drop 0 (map f ls))
+
+  pub several_none : IsNextTold f ts ls 0 None → several unified_ones ≡ false
+  several_none ends = ap several ends
+
+  some_line : (k : ℕ) → k < length ls → (line : Line) × (line ≡ get_or ls k line)
+  some_line k lt = go ls lt
+    where
+      go : (xs : List Line) → k < length xs → (line : Line) × (line ≡ get_or xs k line)
+      go [] less = absurd (omega (arith, less))
+      go (x ∷ xs) less = (get_or (x ∷ xs) k x, get_or_default (x ∷ xs) k x (get_or (x ∷ xs) k x) less)
+
+  begins : (from k : ℕ) → (first : IsNextTold f ts ls from (Some k)) → (line : Line) × (unifying ts (drop from (map f ls)) ≡ f line ∷ unifying ts (drop (k + 1) (map f ls)))
+  begins from k first = let one = some_line k first.0 in (one.0, first.1 ∙ first.2 one.0 one.1)
+
+  pub several_one : (k : ℕ) → IsNextTold f ts ls 0 (Some k) → IsNextTold f ts ls (k + 1) None → several unified_ones ≡ false
+  several_one k first ends =
+      let one = begins 0 k first in ap several (one.1 ∙ ap (λ xs. f one.0 ∷ xs) ends)
+
+  pub several_more : (k j : ℕ) → IsNextTold f ts ls 0 (Some k) → IsNextTold f ts ls (k + 1) (Some j) → several unified_ones ≡ true
+  several_more k j first later =
+      let one = begins 0 k first in let two = begins (k + 1) j later in ap several (one.1 ∙ ap (λ xs. f one.0 ∷ xs) two.1)
 
 -- A goal without arguments has no answer.
 nothing_unifies : (m : Names) (ts : Trees) (ls : List Line) → count ts ≡ 0 → unifying ts (map (line_answer m) ls) ≡ []
@@ -283,6 +311,24 @@ module _ (t : Setting) (e : Search) (goal : Place) (ls : List Line) (line rest :
         ∙ ap (λ (y : Search). answer_tried (limits_in t y) (state_in t y) (node_of v y rest) (proc_of (reads v y.store goal)) (arguments (reads v y.store goal)) a) kept
         ∙ ap (λ (s : State). answer_tried (limits_in t e) s n (proc_of g) (arguments g) a) state
         ∙ sym (ap (next_answer (limits_in t e) (state_in t e) n (proc_of g) (arguments g)) (list_is ∙ ap (λ xs. a ∷ xs) rest_is))
+
+pub and_true : (b : Bool) → (b && true) ≡ b
+and_true true = refl
+and_true false = refl
+
+-- Whether the first answer leaves one choice point too many.
+module _ (t : Setting) (e : Search) (n : Node) (p : Proc) (ts : Trees) (xs : List Answer) (b : Bool)
+    (is : b ≡ (several xs && nat_le e.budgets.choices (length e.choices.items))) where
+  too_many : (several xs && nat_le e.budgets.choices (length (choices_of t.view e))) ≡ b
+  too_many = ap (λ k. several xs && nat_le e.budgets.choices k) (length_choices t.view e) ∙ sym is
+
+  pub told_full : b ≡ true → result_in t e n p (Raise Choices) ≡ first_answer (limits_in t e) (state_in t e) n p ts xs
+  told_full full =
+      sym (ap (λ z. cond z (raised (state_in t e) n no_choices p) (next_answer (limits_in t e) (state_in t e) n p ts xs)) (too_many ∙ full))
+
+  pub told_room : b ≡ false → (r : State) → r ≡ next_answer (limits_in t e) (state_in t e) n p ts xs → r ≡ first_answer (limits_in t e) (state_in t e) n p ts xs
+  told_room room r ran =
+      ran ∙ sym (ap (λ z. cond z (raised (state_in t e) n no_choices p) (next_answer (limits_in t e) (state_in t e) n p ts xs)) (too_many ∙ room))
 
 -- A line was tried where the store was as it was before.
 pub tried_same : (t : Setting) (e x f : Search) (goal : Place) (line : Line) (rest : ℕ) (o : Outcome) → x ≡ e

@@ -20,14 +20,15 @@ use Rattle.iso_search.specs.Spelling.{spelled, text_of}
 use Rattle.iso_search.proofs.Naming.{call_is, text_is}
 use Rattle.iso_engine.specs.Following.{HasProcedure, IsInteger}
 use Rattle.iso_engine.specs.declared.builtin.Builtin.{Builtin}
-use Rattle.iso_engine.specs.declared.builtin.Builtin.TheVariants.{Row as RowBuiltin, Other as OtherBuiltin, No}
+use Rattle.iso_engine.specs.declared.builtin.Builtin.TheVariants.{Row as RowBuiltin, State as StateBuiltin, Other as OtherBuiltin, No}
 use Rattle.iso_engine.specs.declared.builtin.RowGoal.{RowGoal}
-use Rattle.iso_engine.specs.Builtins.{IsBuiltinAt, IsSharedOrKept}
+use Rattle.shared_builtins.specs.declared.goal.StateGoal.{StateGoal}
+use Rattle.iso_engine.specs.Builtins.{HasNoRow, IsBuiltinAt, IsSharedOrKept}
 use Rattle.iso_engine.specs.Calling.{IsCallAt, is_other_kind}
 use Rattle.iso_engine.specs.Missing.{IsUnbuilt, is_integer}
 use Rattle.iso_search.specs.declared.search.Search.{Search}
 use Rattle.iso_engine.specs.declared.running.Did.{Did}
-use Rattle.iso_engine.specs.declared.running.Did.TheVariants.{Next as NextDid, Call as CallDid, Row as RowDid, Write as WriteDid, Missing as MissingDid}
+use Rattle.iso_engine.specs.declared.running.Did.TheVariants.{Next as NextDid, Call as CallDid, Row as RowDid, Ask as AskDid, Write as WriteDid, Missing as MissingDid}
 use Rattle.iso_engine.specs.Writes.{IsWriteAt, is_write_kind}
 use Rattle.iso_engine.specs.OutputGoals.{is_output}
 use Rattle.iso_engine.specs.Tasks.{IsDone, IsLeftOver, IsMissingTask}
@@ -160,6 +161,18 @@ module _ (s : Contents) (w : Place) (p : Procedure) (k : Construct) (a : Bool) (
       let at = subst (IsBuiltinAt s w) row told
       in (at.0, record { goal_is = at.1; other_is = λ v view. ap (λ x. construct (reads v s x)) at.0 ∙ is_other_at kind v view })
 
+  pub left_state : (b : Builtin) (x : StateGoal) → a ≡ true → IsBuiltinAt s w b → b ≡ StateBuiltin x → IsLeftOver s w (AskDid x)
+  left_state b x kind told state =
+      let at = subst (IsBuiltinAt s w) state told
+      in (
+        at.0,
+        record {
+          goal_is = at.1;
+          other_is = λ v view. ap (λ y. construct (reads v s y)) at.0 ∙ is_other_at kind v view;
+          no_row = subst (HasNoRow s) (sym at.0) at.2;
+        },
+      )
+
   pub left_call : (b : Builtin) → Holds s w → (IsInteger s w → ⊥) → a ≡ true → IsBuiltinAt s w b → b ≡ No → IsLeftOver s w (CallDid w p)
   left_call b holds callable kind told none =
       let at = subst (IsBuiltinAt s w) none told
@@ -198,6 +211,8 @@ left_is e w cut rest (NextDid d) h = absurd h
 left_is e w cut rest (CallDid x p) h =
     (refl, (cut, ap (λ y. Goal y cut) (sym h.0)), subst (λ y. IsCallAt e.store y p) (sym h.0) h.1)
 left_is e w cut rest (RowDid r) h =
+    (refl, (cut, ap (λ y. Goal y cut) (sym h.0)), h.1)
+left_is e w cut rest (AskDid x) h =
     (refl, (cut, ap (λ y. Goal y cut) (sym h.0)), h.1)
 left_is e w cut rest (WriteDid x p) h =
     (refl, (cut, ap (λ y. Goal y cut) (sym h.0)), subst (λ y. IsWriteAt e.store y p) (sym h.0) h.1)

@@ -28,6 +28,7 @@ pub mod Slices
 pub mod Spending
 pub mod Standing
 pub mod Starting
+pub mod State
 pub mod TableLines
 pub mod Tasks
 pub mod ToldLines

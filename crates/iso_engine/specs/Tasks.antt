@@ -12,11 +12,12 @@ use Rattle.iso_search.specs.Frames.{tasks}
 use Rattle.iso_search.specs.Reading.{IsView, View, pending, reads}
 use Rattle.iso_engine.specs.declared.doing.Doing.TheVariants.{Running}
 use Rattle.iso_engine.specs.declared.running.Did.{Did}
-use Rattle.iso_engine.specs.declared.running.Did.TheVariants.{Next, Call as CallDid, Row as RowDid, Write as WriteDid, Missing as MissingDid}
+use Rattle.iso_engine.specs.declared.running.Did.TheVariants.{Next, Call as CallDid, Row as RowDid, Ask as AskDid, Write as WriteDid, Missing as MissingDid}
 use Rattle.iso_engine.specs.Calling.{IsCallAt}
 use Rattle.iso_engine.specs.Following.{HasProcedure, StepsTo, proc_in}
 use Rattle.iso_engine.specs.Missing.{IsUnbuiltTask}
 use Rattle.iso_engine.specs.Rows.{IsRowAt}
+use Rattle.iso_engine.specs.State.{IsStateAt}
 use Rattle.iso_engine.specs.Writes.{IsWriteAt}
 
 abbrev pub IsFixed : ℕ → Type 0
@@ -45,21 +46,23 @@ pub record IsMissingTask (s : Contents) (x : Task) (p : Procedure) : Type 0 wher
   pub named : IsNamedBy s x p
 
 -- A step was made from the lists that begin with the task and go on as another one; or the task is a call of the program's
--- clauses, or of a predicate that is a function of its arguments, or writes; or it is of a predicate that is not built. Then
--- nothing has changed.
+-- clauses, or of a predicate that is a function of its arguments, or of one of the shared state, or writes; or it is of a predicate
+-- that is not built. Then nothing has changed.
 abbrev pub IsDone : Search → Task → ℕ → Search → Did → Type 0
 IsDone e task rest f (Next d) =
     (list : ℕ) → tasks e.frames.items list ≡ task ∷ tasks e.frames.items rest → StepsTo e (Running list) f d
 IsDone e task rest f (CallDid goal p) = (f ≡ e) × IsGoalAt task goal × IsCallAt e.store goal p
 IsDone e task rest f (RowDid r) = (f ≡ e) × IsGoalAt task r.place × IsRowAt e.store r
+IsDone e task rest f (AskDid x) = (f ≡ e) × IsGoalAt task x.place × IsStateAt e.store x
 IsDone e task rest f (WriteDid goal p) = (f ≡ e) × IsGoalAt task goal × IsWriteAt e.store goal p
 IsDone e task rest f (MissingDid p) = (f ≡ e) × IsMissingTask e.store task p
 
--- What is left over of the goals at the place: a call, a function of its arguments, one that writes, or a predicate that is
--- not built.
+-- What is left over of the goals at the place: a call, a function of its arguments, one of the shared state, one that writes, or a
+-- predicate that is not built.
 abbrev pub IsLeftOver : Contents → Place → Did → Type 0
 IsLeftOver s goal (Next d) = ⊥
 IsLeftOver s goal (CallDid w p) = (w ≡ goal) × IsCallAt s goal p
 IsLeftOver s goal (RowDid r) = (r.place ≡ goal) × IsRowAt s r
+IsLeftOver s goal (AskDid x) = (x.place ≡ goal) × IsStateAt s x
 IsLeftOver s goal (WriteDid w p) = (w ≡ goal) × IsWriteAt s goal p
 IsLeftOver s goal (MissingDid p) = (cut : ℕ) → IsMissingTask s (Goal goal cut) p

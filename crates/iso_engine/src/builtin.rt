@@ -3,11 +3,12 @@ ghost use Rattle.std.specs.Prelude.{◌≡◌, [], MatchOption};
 ghost use Rattle.term_store.specs.Contents.{Holds};
 ghost use Rattle.iso_search.specs.Lines.{lines_of};
 ghost use Rattle.iso_search.specs.Reading.{IsView, View, reads};
-ghost use Rattle.iso_engine.specs.Builtins.{IsBuiltinAt, IsRowGoal, builtin_alone};
+ghost use Rattle.iso_engine.specs.Builtins.{IsAskedAt, IsBuiltinAt, IsRowGoal, builtin_alone};
 ghost use Rattle.iso_engine.specs.Following.{IsInteger};
 
 use atom_api::{Atom, fixed};
 use builtin_rows::{Meaning, Pred, predicate_of};
+use shared_builtins::{StateGoal, built_pred};
 use term_store::{Arguments, Place, Store, View as Kind};
 use world_api::Procedure;
 
@@ -38,7 +39,9 @@ impl RowGoal {
 pub enum Builtin {
     /// A built-in predicate that is a function of its arguments.
     Row(RowGoal),
-    /// A built-in predicate of the shared state, or a name that is kept for one that has no meaning yet.
+    /// A built-in predicate of the shared state.
+    State(StateGoal),
+    /// A built-in predicate that is not built, or a name that is kept for one that has no meaning yet.
     Other,
     /// No built-in predicate: it calls the program's clauses.
     No,
@@ -64,11 +67,26 @@ pub fn builtin_at(store: &Store, goal: Place) -> Builtin
                     name,
                     arguments,
                 }),
-                Meaning::Asks => Builtin::Other,
+                Meaning::Asks => asked_at(goal, name, arguments),
                 Meaning::Steps => Builtin::Other,
                 Meaning::Reserved => Builtin::Other,
             },
         },
+    }
+}
+
+/// What a goal of a predicate of the shared state is, with this name and these arguments.
+fn asked_at(place: Place, name: Atom, arguments: Arguments) -> Builtin
+    ensures { IsAskedAt place name arguments result }
+{
+    match built_pred(name, arguments.len()) {
+        None => Builtin::Other,
+        Some(pred) => Builtin::State(StateGoal {
+            place,
+            pred,
+            name,
+            arguments,
+        }),
     }
 }
 

@@ -26,6 +26,7 @@ pub mod slice;
 pub mod slices;
 pub mod solving;
 pub mod starting;
+pub mod state;
 pub mod step;
 pub mod throwing;
 pub mod unserved;

@@ -54,6 +54,7 @@ impl Engine {
                         self.call(goal, procedure, frame.continuation, world, atoms)
                     }
                     Did::Row(goal) => self.row(&goal, frame.continuation, atoms),
+                    Did::Ask(goal) => self.ask(&goal, frame.continuation, world, atoms),
                     Did::Write(goal, procedure) => {
                         self.write(goal, procedure, frame.continuation, world, atoms, out)
                     }

@@ -26,6 +26,7 @@ use iso_search::construct::{Construct, construct_at};
 use iso_search::frames::{Frame, Task};
 use iso_search::search::Search;
 use pl_term::Memory;
+use shared_builtins::StateGoal;
 use std::alloc::Global;
 use term_store::{Place, Store};
 use world_api::Procedure;
@@ -39,6 +40,8 @@ pub enum Did {
     Call(Place, Procedure),
     /// The task is this goal of a built-in predicate that is a function of its arguments. Nothing has changed.
     Row(RowGoal),
+    /// The task is this goal of a built-in predicate of the shared state. Nothing has changed.
+    Ask(StateGoal),
     /// The task is the goal at a place, which writes and has this predicate. Nothing has changed.
     Write(Place, Procedure),
     /// The task is for a predicate that is not built yet. Nothing has changed.
@@ -135,7 +138,7 @@ fn do_goal(
 }
 
 /// What a goal of this predicate is that is no control construct: a call of the program's clauses, a built-in predicate that is
-/// a function of its arguments, a goal that writes, or another built-in predicate.
+/// a function of its arguments, one of the shared state, a goal that writes, or another built-in predicate.
 fn left_over(store: &Store, goal: Place, kind: Construct, procedure: Procedure) -> Did
     requires holds { Holds store.now goal }
     requires callable { IsInteger store.now goal → ⊥ }
@@ -147,6 +150,7 @@ fn left_over(store: &Store, goal: Place, kind: Construct, procedure: Procedure) 
     if is_other(kind) {
         match builtin_at(store, goal) {
             Builtin::Row(row) => Did::Row(row),
+            Builtin::State(state) => Did::Ask(state),
             Builtin::Other => Did::Missing(procedure),
             Builtin::No => Did::Call(goal, procedure),
         }

@@ -1,7 +1,7 @@
 //! Lines of tables that the shared state told, of which each one that unifies with the arguments is an answer. They stay those
 //! that were told, whatever is entered later.
-ghost use Rattle.std.specs.Prelude.{◌≡◌, ◌≤◌, ◌<◌, None, [], ◌∷◌, length, map, is_some, IfOk, IfSome, OnOk};
-ghost use Rattle.pl_model.specs.Control.{answer_tried, next_answer, unified};
+ghost use Rattle.std.specs.Prelude.{◌≡◌, ◌≤◌, ◌<◌, None, [], ◌∷◌, ◌&&◌, length, map, is_some, nat_le, IfOk, IfSome, OnOk};
+ghost use Rattle.pl_model.specs.Control.{answer_tried, first_answer, next_answer, several, unified};
 ghost use Rattle.pl_model.specs.History.{Proc};
 ghost use Rattle.pl_model.specs.Predicates.{proc_of};
 ghost use Rattle.pl_model.specs.Terms.{arguments};
@@ -31,7 +31,7 @@ use crate::rows::arguments::unify_arguments;
 use crate::slices::Slice;
 use atom_api::{Atom, fixed};
 use iso_search::choices::Alternative;
-use iso_search::outcome::Outcome;
+use iso_search::outcome::{Fault, Outcome};
 use iso_search::search::Search;
 use iso_search::told::{Constant, Line};
 use pl_term::Memory;
@@ -61,6 +61,74 @@ impl Engine {
         let outcome = next_told(&mut self.search, goal, lines, line, next)?;
         self.doing = follow(self.alloc, &self.search, outcome, procedure, next)?;
         Ok(None)
+    }
+}
+
+/// Goes on with the lines that were told for the goal at a place: with the first of them that unifies with its arguments, unless
+/// that leaves one choice point too many; or the goal fails. The only error is out of memory.
+pub fn first_told(
+    search: &mut Search,
+    goal: Place,
+    lines: Vec<Line>,
+    rest: usize,
+) -> Result<Outcome, Memory>
+    requires whole { IsWhole search.old }
+    requires goal { Holds search.old.store goal }
+    requires rest { rest ≤ length search.old.frames.items }
+    ensures whole { OnOk result (IsWhole search.new) }
+    ensures after { IfOk result (IsAfter search.old search.new) }
+    ensures step { IfOk result (λ o. (t : Setting) → IsView t.view
+        → let e = search.old in let g = reads t.view e.store goal in let n = node_of t.view e rest in
+        result_in t search.new n (proc_of g) o
+        ≡ first_answer (limits_in t e) (state_in t e) n (proc_of g) (arguments g) (told_answers t.view.names g lines.items 0)) }
+{
+    let full = leaves_too_many(search, goal, &lines)?;
+    if full {
+        Ok(Outcome::Raise(Fault::Choices))
+    } else {
+        let outcome = next_told(search, goal, lines, 0, rest)?;
+        Ok(outcome)
+    }
+}
+
+/// Whether several of the lines unify with the arguments of the goal at a place, and no choice point can be made. The search is as
+/// it was. The only error is out of memory.
+fn leaves_too_many(search: &mut Search, goal: Place, lines: &Vec<Line>) -> Result<bool, Memory>
+    requires { Holds search.old.store goal }
+    ensures same { OnOk result (search.new ≡ search.old) }
+    ensures tells { IfOk result (λ b. (v : View) → IsView v
+        → b ≡ (several (told_answers v.names (reads v search.old.store goal) lines.now.items 0)
+        && nat_le search.old.budgets.choices (length search.old.choices.items))) }
+{
+    if has_no_room(search) {
+        let twice = unifies_twice(&mut search.store, goal, lines)?;
+        Ok(twice)
+    } else {
+        Ok(false)
+    }
+}
+
+/// Whether no choice point can be made.
+fn has_no_room(search: &Search) -> bool
+    ensures { result ≡ nat_le search.now.budgets.choices (length search.now.choices.items) }
+{
+    search.choices.len() as u64 >= search.budgets.choices
+}
+
+/// Whether several of the lines unify with the arguments of the goal at a place. The store is as it was. The only error is out of
+/// memory.
+fn unifies_twice(store: &mut Store, goal: Place, lines: &Vec<Line>) -> Result<bool, Memory>
+    requires { Holds store.old goal }
+    ensures same { OnOk result (store.new ≡ store.old) }
+    ensures tells { IfOk result (λ b. (v : View) → IsView v → several (told_answers v.names (reads v store.old goal) lines.now.items 0) ≡ b) }
+{
+    let Some(first) = next_unifying(store, goal, lines, 0)? else {
+        return Ok(false);
+    };
+    let later = next_unifying(store, goal, lines, first + 1)?;
+    match later {
+        None => Ok(false),
+        Some(_) => Ok(true),
     }
 }
 

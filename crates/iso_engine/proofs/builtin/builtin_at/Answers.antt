@@ -1,7 +1,7 @@
 use Rattle.std.proofs.Common.{Some, refl, sym, ap, subst, ◌∙◌}
 use Rattle.builtin_rows.specs.Laws.{IsNamed, TellsRows, TellsShared}
 use Rattle.builtin_rows.specs.Predicates.{has_row}
-use Rattle.iso_engine.proofs.Builtins.{IsTold, alone_at, atom_is, compound_is_none, compound_is_other, variable_is}
+use Rattle.iso_engine.proofs.Builtins.{IsTold, alone_at, asked_is, atom_is, compound_is_none, compound_is_other, variable_is}
 use Rattle.iso_engine.proofs.builtin.builtin_at.Goals as goal
 
 pub returns-in-Variable : goal.returns-in-Variable
@@ -26,14 +26,14 @@ returns-in-None c v view =
     (subst (TellsShared name a.count) c.in-None.is (subst (λ k. TellsShared name k p.result) c.len.ensures p.ensures.shares))
 
 pub returns-in-Asks : goal.returns-in-Asks
-returns-in-Asks c v view =
+returns-in-Asks c =
     let p = c.predicate_of-in-Compound in
     let name = c.in-Compound.name in
     let a = c.in-Compound.arguments in
     let told : IsTold name c.len.result p.result = record { named = p.ensures.named; rows = p.ensures.rows; shares = p.ensures.shares; constructs = p.ensures.constructs; reserves = p.ensures.reserved } in
-    compound_is_other v view c.args.store.now c.args.goal name a c.in-Compound.ensures.0 c.in-Compound.ensures.1.0 c.in-Compound.ensures.1.1
-    c.in-Some.meaning (ap (λ w. has_row (Some w)) c.in-Asks.is)
-    (subst (IsTold name a.count) c.in-Some.is (subst (λ k. IsTold name k p.result) c.len.ensures told))
+    asked_is c.args.store.now c.args.goal name a c.requires.holds c.in-Compound.ensures.0 c.in-Compound.ensures.1.0 c.in-Compound.ensures.1.1
+    (subst (λ w. IsTold name a.count (Some w)) c.in-Asks.is (subst (IsTold name a.count) c.in-Some.is (subst (λ k. IsTold name k p.result) c.len.ensures told)))
+    c.asked_at.result c.asked_at.ensures
 
 pub returns-in-Steps : goal.returns-in-Steps
 returns-in-Steps c v view =

@@ -1,4 +1,4 @@
-use Rattle.iso_engine.proofs.Unbuilt.{kind_missing, left_call, left_row, left_other}
+use Rattle.iso_engine.proofs.Unbuilt.{kind_missing, left_call, left_other, left_row, left_state}
 use Rattle.iso_engine.proofs.running.left_over.Goals as goal
 
 pub returns-in-Row : goal.returns-in-Row
@@ -6,6 +6,12 @@ returns-in-Row c =
     let b = c.builtin_at in
     left_row c.args.store.now c.args.goal c.args.procedure c.args.kind c.is_other.result c.requires.procedure c.requires.stands c.is_other.ensures b.result
     c.in-Row.row c.if-is_other.true b.ensures c.in-Row.is
+
+pub returns-in-State : goal.returns-in-State
+returns-in-State c =
+    let b = c.builtin_at in
+    left_state c.args.store.now c.args.goal c.args.procedure c.args.kind c.is_other.result c.requires.procedure c.requires.stands c.is_other.ensures b.result
+    c.in-State.state c.if-is_other.true b.ensures c.in-State.is
 
 pub returns-in-Other : goal.returns-in-Other
 returns-in-Other c =

@@ -96,6 +96,16 @@ call-requires-clause-ready g c =
     subst (λ (s : Search). let y : Engine = record e { search = s } in IsReady (g.W.A.Atoms.held c.args.atoms.now) (g.W.World.told c.args.world.now) y) (sym called.0)
     c.requires.ready
 
+pub ask-requires-clause-ready : goal.ask-requires-clause-ready
+ask-requires-clause-ready g c =
+    let e = c.args.self.now in
+    let x = c.in-Some.frame in
+    let f = c.do_task.new.search in
+    let did = c.in_ok-did-in-Some in
+    let called = subst (IsDone e.search x.task x.continuation f) c.in-Ask.is did.ensures.done in
+    subst (λ (s : Search). let y : Engine = record e { search = s } in IsReady (g.W.A.Atoms.held c.args.atoms.now) (g.W.World.told c.args.world.now) y) (sym called.0)
+    c.requires.ready
+
 pub write-requires-clause-ready : goal.write-requires-clause-ready
 write-requires-clause-ready g c =
     let e = c.args.self.now in
@@ -147,6 +157,24 @@ returns-in-Call-clause-stepped g c =
     IfOk-weaker end (λ o. IsStepped m t y o n u after [])
     (λ o. (more : List Output) × IsStepped m t e o n u after more × (a ≡ a ++ encode_utf8_all (written_text more)))
     (λ o h. ([], subst (λ (s : Search). let z : Engine = record e { search = s } in IsStepped m t z o n u after []) done.0 h, silent_out a [] refl)) c.call.ensures.stepped
+
+pub returns-in-Ask-clause-stepped : goal.returns-in-Ask-clause-stepped
+returns-in-Ask-clause-stepped g c =
+    let e = c.args.self.now in
+    let x = c.in-Some.frame in
+    let f = c.do_task.new.search in
+    let y : Engine = record e { search = f } in
+    let done = subst (IsDone e.search x.task x.continuation f) c.in-Ask.is c.in_ok-did-in-Some.ensures.done in
+    let m = g.W.A.Atoms.held c.args.atoms.now in
+    let n = g.W.A.Atoms.held c.ask.new.atoms in
+    let t = g.W.World.told c.args.world.now in
+    let u = g.W.World.told c.ask.new.world in
+    let after = c.ask.new.self in
+    let end = as_stopped c.ask.result in
+    let a = c.args.out.now.items in
+    IfOk-weaker end (λ o. IsStepped m t y o n u after [])
+    (λ o. (more : List Output) × IsStepped m t e o n u after more × (a ≡ a ++ encode_utf8_all (written_text more)))
+    (λ o h. ([], subst (λ (s : Search). let z : Engine = record e { search = s } in IsStepped m t z o n u after []) done.0 h, silent_out a [] refl)) c.ask.ensures.stepped
 
 pub returns-in-Write-clause-stepped : goal.returns-in-Write-clause-stepped
 returns-in-Write-clause-stepped g c =
@@ -211,6 +239,15 @@ returns-in-Call-clause-asked g c =
     let called = subst (IsDone e.search x.task x.continuation f) c.in-Call.is c.in_ok-did-in-Some.ensures.done in
     asked_same (g.W.A.Atoms.held a) (g.W.World.told c.args.world.now) e f (g.W.A.Atoms.asked a) (g.W.A.Atoms.asked c.call.new.atoms) called.0 c.call.ensures.asked
 
+pub returns-in-Ask-clause-asked : goal.returns-in-Ask-clause-asked
+returns-in-Ask-clause-asked g c =
+    let e = c.args.self.now in
+    let x = c.in-Some.frame in
+    let f = c.do_task.new.search in
+    let a = c.args.atoms.now in
+    let called = subst (IsDone e.search x.task x.continuation f) c.in-Ask.is c.in_ok-did-in-Some.ensures.done in
+    asked_same (g.W.A.Atoms.held a) (g.W.World.told c.args.world.now) e f (g.W.A.Atoms.asked a) (g.W.A.Atoms.asked c.ask.new.atoms) called.0 c.ask.ensures.asked
+
 pub returns-in-Row-clause-asked : goal.returns-in-Row-clause-asked
 returns-in-Row-clause-asked g c =
     let e = c.args.self.now in
@@ -225,6 +262,9 @@ returns-in-Row-clause-asked g c =
 
 pub returns-in-Call-clause-given : goal.returns-in-Call-clause-given
 returns-in-Call-clause-given g c = none_ok (as_stopped c.call.result) (c.call.new.self.solutions_found ≡ c.args.self.now.solutions_found) c.call.ensures.given
+
+pub returns-in-Ask-clause-given : goal.returns-in-Ask-clause-given
+returns-in-Ask-clause-given g c = none_ok (as_stopped c.ask.result) (c.ask.new.self.solutions_found ≡ c.args.self.now.solutions_found) c.ask.ensures.given
 
 pub returns-in-Write-clause-given : goal.returns-in-Write-clause-given
 returns-in-Write-clause-given g c = none_ok (as_stopped c.write.result) (c.write.new.self.solutions_found ≡ c.args.self.now.solutions_found) c.write.ensures.given
