@@ -1,3 +1,10 @@
+pub mod BeginLaws
+pub mod EndIn
+pub mod EndLaws
 pub mod HomeLaws
+pub mod LedgerLaws
+pub mod OnlyLaws
 pub mod Running
 pub mod Starting
+pub mod TurnLaws
+pub mod WritingLaws

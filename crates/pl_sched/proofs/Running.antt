@@ -17,7 +17,7 @@ ends_by : (b : Bool) (k : Kind) (ks : List Kind) (r : Bool) → has_end ks ≡ r
 ends_by true k ks r same = ap (λ (d : Bool). is_end k || d) same
 ends_by false k ks r same = same
 
-mine_ends : (h : History) (e : ℕ) → has_end (mine h e) ≡ has_ended e h
+pub mine_ends : (h : History) (e : ℕ) → has_end (mine h e) ≡ has_ended e h
 mine_ends [] e = refl
 mine_ends (x ∷ xs) e = ends_by (x.engine == e) x.kind (mine xs e) (has_ended e xs) (mine_ends xs e)
 

@@ -7,7 +7,7 @@ use Rattle.pl_model.specs.History.{Entry, History, Kind, abolish, add_first, add
 use Rattle.pl_model.specs.History as entries
 use Rattle.run_model.specs.Lawful.{Beginning, beginnings, beginnings_from}
 use Rattle.atom_api.specs.Names.{Names}
-use Rattle.pl_history.specs.Fronts.{FrontState, own_generations}
+use Rattle.pl_history.specs.Fronts.{FrontState, own_generations, own_updates}
 use Rattle.counted_terms.specs.CountedTerms.{said}
 use Rattle.hub_threads.specs.Threads.{first_some, goal_in, started_goal}
 use Rattle.pl_hub.specs.Beginning.{HasBegun}
@@ -59,13 +59,15 @@ pub begins_so : (n : ℕ) (t : Tree) (h : History) → started_goal n h ≡ Some
 begins_so n t h is = started_from n t zero h is
 
 -- AN ENGINE THAT HAS BEGUN so is a new one
-pub new_engine : (table : TableId) (b : Begun) (m : Names) (f g hub new : FrontState) → HasBegun table b m f g hub new → IsNew table b.number b.goal m g
-new_engine table b m f g hub new begun =
+pub new_engine : (table : TableId) (b : Begun) (m : Names) (f g hub new : FrontState) → HasBegun table b m f g hub new → 1 < b.number → IsNew table b.number b.goal m g
+new_engine table b m f g hub new begun above =
     let saw : g.seen ≡ hub.seen = ap (λ (x : FrontState). x.seen) begun.front in
     let c = begins_so b.number (said m b.goal) g.seen (ap (started_goal b.number) saw ∙ begun.goal) in
     record {
       own = begun.own;
+      above = above;
       nothing = ap (λ (x : FrontState). own_generations x.lives) begun.front;
+      silent = ap (λ (x : FrontState). own_updates x.lives) begun.front;
       begun = c.0;
       among = c.1;
       engine = c.2;

@@ -1,22 +1,22 @@
 //! Engines at home.
-ghost use Rattle.std.specs.Prelude.{◌≡◌, true};
+ghost use Rattle.std.specs.Prelude.{◌≡◌};
 ghost use Rattle.atom_words.specs.Seats.{seen};
 ghost use Rattle.atom_table.specs.Naming.{names};
-ghost use Rattle.pl_sched.specs.Homes.{IsAtHome};
-ghost use Rattle.pl_sched.specs.declared.mark.Mark.TheVariants.{Ended};
+ghost use Rattle.pl_sched.specs.Homes.{IsAtHome, is_ended};
+ghost use Rattle.pl_sched.specs.Written.{WritesSo};
 
 use crate::mark::Mark;
 use crate::naming::Command;
 use crate::over::Over;
+use crate::writing::Writes;
 use atom_api::Atoms;
 use atom_table::TableAtoms;
 use pl_history::Front;
-use script_api::Resident;
 use std::marker::{Model, PhantomData};
 
 /// An engine that is at home, with its atoms and its front. Contracts see it as what its front knows.
 #[derive(Drop)]
-pub struct Home<'a, E: Resident + Drop, K: Command> {
+pub struct Home<'a, E: Writes + Drop, K: Command> {
     engine: E,
     atoms: TableAtoms<'a, K>,
     front: Front,
@@ -25,12 +25,13 @@ pub struct Home<'a, E: Resident + Drop, K: Command> {
     of: PhantomData<K>,
 }
 
-impl<'a, E: Resident + Drop, K: Command> Model for Home<'a, E, K> {
+impl<'a, E: Writes + Drop, K: Command> Model for Home<'a, E, K> {
     ghost use Rattle.atom_words.specs.Seats.{seen};
     ghost use Rattle.atom_table.specs.Naming.{names};
     ghost use Rattle.pl_history.specs.Fronts.{FrontState};
     ghost use Rattle.pl_history.specs.Codes.{coded_front};
     ghost use Rattle.pl_sched.specs.Homes.{IsAtHome};
+    ghost use Rattle.pl_sched.specs.Written.{WritesSo};
 
     ghost Value = { FrontState };
 
@@ -38,12 +39,13 @@ impl<'a, E: Resident + Drop, K: Command> Model for Home<'a, E, K> {
 
     ghost view = { λ h. h.front };
 
-    ghost invariant = { λ h. IsAtHome E.stands E.ready E.moves K.program K.history K.goals h.number h.mark (names (seen h.atoms.seat)) h.front h.engine };
+    ghost invariant = { λ h. IsAtHome E.stands E.ready E.moves K.program E.over K.history K.goals h.number h.mark (names (seen h.atoms.seat)) h.front h.engine
+        × WritesSo K.program K.file h.number (E.writing h.engine) };
 }
 
 /// An engine that came home.
 #[derive(Drop)]
-pub enum Retired<'a, E: Resident + Drop, K: Command> {
+pub enum Retired<'a, E: Writes + Drop, K: Command> {
     /// It can go on or waits.
     Stays(Home<'a, E, K>),
     /// It has ended, and its atoms are free for another.
@@ -52,7 +54,7 @@ pub enum Retired<'a, E: Resident + Drop, K: Command> {
 
 /// What a home is made of.
 #[derive(Drop)]
-pub struct Parts<'a, E: Resident + Drop, K: Command> {
+pub struct Parts<'a, E: Writes + Drop, K: Command> {
     pub engine: E,
     pub atoms: TableAtoms<'a, K>,
     pub front: Front,
@@ -60,10 +62,11 @@ pub struct Parts<'a, E: Resident + Drop, K: Command> {
     pub mark: Mark,
 }
 
-impl<'a, E: Resident + Drop, K: Command> Home<'a, E, K> {
+impl<'a, E: Writes + Drop, K: Command> Home<'a, E, K> {
     /// The engine with this number comes home, and its mark says why.
     pub fn new(parts: Parts<'a, E, K>) -> Home<'a, E, K>
-        requires { IsAtHome E.stands E.ready E.moves K.program K.history K.goals parts.number parts.mark (names (seen parts.atoms.seat)) parts.front parts.engine }
+        requires home { IsAtHome E.stands E.ready E.moves K.program E.over K.history K.goals parts.number parts.mark (names (seen parts.atoms.seat)) parts.front parts.engine }
+        requires writes { WritesSo K.program K.file parts.number (E.writing parts.engine) }
         ensures { result ≡ parts.entry.front }
     {
         let Parts {
@@ -86,7 +89,8 @@ impl<'a, E: Resident + Drop, K: Command> Home<'a, E, K> {
     /// The engine leaves, with what is known of it.
     pub fn into_parts(self) -> Parts<'a, E, K>
         ensures front { result.front ≡ self.entry }
-        ensures home { IsAtHome E.stands E.ready E.moves K.program K.history K.goals result.number result.mark (names (seen result.atoms.seat)) result.front result.engine }
+        ensures home { IsAtHome E.stands E.ready E.moves K.program E.over K.history K.goals result.number result.mark (names (seen result.atoms.seat)) result.front result.engine }
+        ensures writes { WritesSo K.program K.file result.number (E.writing result.engine) }
     {
         let Home {
             engine,
@@ -105,37 +109,49 @@ impl<'a, E: Resident + Drop, K: Command> Home<'a, E, K> {
         }
     }
 
+    /// Whether the engine can go on at once.
+    pub fn goes_on(&self) -> bool {
+        matches!(self.mark, Mark::Ready)
+    }
+
     /// Whether the engine can go on, where the history has this length.
     pub fn is_ready(&self, generation: u64) -> bool {
-        match self.mark {
+        match &self.mark {
             Mark::Ready => true,
-            Mark::Waits(at) => at < generation,
-            Mark::Ended => false,
+            Mark::Waits(_, at) => *at < generation,
+            Mark::Ended(_) => false,
         }
     }
 
     /// An engine that has ended gives its atoms back, which hold nothing then.
     pub fn retire(self) -> Retired<'a, E, K> {
-        if has_ended(self.mark) {
-            let Home {
-                engine,
-                atoms,
-                front,
-                number,
-                mark: _,
-                of: _,
-            } = self;
-            let mut atoms = atoms;
-            let over = Over::new(engine, front, number);
-            atoms.keep_only(&[]);
-            return Retired::Over(over, atoms);
+        let parts = self.into_parts();
+        if !has_ended(&parts.mark) {
+            return Retired::Stays(Home::new(parts));
         }
-        Retired::Stays(self)
+        let Parts {
+            engine,
+            atoms,
+            front,
+            number,
+            mark,
+        } = parts;
+        match mark {
+            Mark::Ended(end) => {
+                let mut atoms = atoms;
+                let over = Over::new(engine, front, number, end);
+                atoms.keep_only(&[]);
+                Retired::Over(over, atoms)
+            }
+            Mark::Ready => unreachable!(),
+            Mark::Waits(_, _) => unreachable!(),
+        }
     }
 }
 
-fn has_ended(mark: Mark) -> bool
-    ensures { result ≡ true → mark ≡ Ended }
+/// Whether the mark says that the engine has ended.
+pub(crate) fn has_ended(mark: &Mark) -> bool
+    ensures { result ≡ is_ended mark.now }
 {
-    matches!(mark, Mark::Ended)
+    matches!(mark, Mark::Ended(_))
 }

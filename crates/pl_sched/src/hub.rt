@@ -1,8 +1,9 @@
 //! The shared state with the engines at home.
-ghost use Rattle.std.specs.Prelude.{◌≡◌, IfOk, IsSome, OnErr, OnOk};
+ghost use Rattle.std.specs.Prelude.{◌≡◌, ◌<◌, [], IfOk, IsSome, OnErr, OnOk, length};
+ghost use Rattle.std.specs.Arc.{arc_value};
 ghost use Rattle.std.specs.List.{All};
 ghost use Rattle.pl_model.specs.History.{finish};
-ghost use Rattle.pl_model.specs.SharedState.{status_of};
+ghost use Rattle.pl_model.specs.SharedState.{state_at, status_of};
 ghost use Rattle.atom_words.specs.Seats.{seen};
 ghost use Rattle.atom_table.specs.Naming.{names, requests as asked};
 ghost use Rattle.term_store.specs.ArgumentKeys.{clause_key, key_atoms};
@@ -15,52 +16,65 @@ ghost use Rattle.hub_threads.specs.Rows.{status_names};
 ghost use Rattle.hub_threads.specs.Serving.{status_as};
 ghost use Rattle.pl_hub.specs.Ending.{IsEnded};
 ghost use Rattle.pl_hub.specs.Fronts.{IsOwn, told_of};
+ghost use Rattle.pl_hub.specs.Order.{IsInOrder};
 ghost use Rattle.pl_hub.specs.Visits.{IsVisit};
+ghost use Rattle.pl_sched.specs.Ledger.{AreBegun, AreOnly, AreWhole, IsBegun};
 ghost use Rattle.pl_sched.specs.Newcomers.{IsNew};
 
 use crate::home::{Home, Retired};
+use crate::ledger::are_done;
 use crate::naming::Command;
 use crate::newcomers::NewEngine;
 use crate::over::{Done, Over, Unfinished, finish_all, settle_all};
+use crate::writing::Writes;
 use atom_table::TableAtoms;
 use counted_terms::CountedTerm;
 use hub_threads::Status;
+use op_table::OpTable;
 use pl_history::{Front, History};
 use pl_hub::{Begun, Shared};
+use pl_model::grammar::Quotes;
 use pl_model::shows::{ShowsHow, ShowsSteps};
 use pl_term::Memory;
-use script_api::Resident;
 use std::alloc::Global;
 use std::marker::Model;
+use std::sync::Arc;
 use term_store::{ArgumentKey, Stored};
 use world_api::{Answer, Visit};
 
 /// The shared state, with the engines that no worker carries: those that can go on or wait, those that have ended, and the
 /// atoms that no engine has. Contracts see it as the shared state: the whole history.
 #[derive(Drop)]
-pub struct Hub<'a, E: Resident + Drop, K: Command> {
+pub struct Hub<'a, E: Writes + Drop, K: Command> {
     pub(crate) shared: Shared<K>,
     pub(crate) homes: Vec<Home<'a, E, K>>,
     pub(crate) over: Vec<Over<E, K>>,
     pub(crate) spare: Vec<TableAtoms<'a, K>>,
+    /// The engines that were lent as they began, in their order.
+    pub(crate) started: Vec<u64>,
     /// How many engines are with workers.
     pub(crate) away: u64,
+    /// Whether memory ran out where a worker had an engine: none is lent then.
+    pub(crate) lost: bool,
 }
 
-impl<'a, E: Resident + Drop, K: Command> Model for Hub<'a, E, K> {
+impl<'a, E: Writes + Drop, K: Command> Model for Hub<'a, E, K> {
     ghost use Rattle.pl_history.specs.Fronts.{FrontState};
     ghost use Rattle.pl_history.specs.Codes.{coded_front};
+    ghost use Rattle.pl_sched.specs.Ledger.{AreBegun, AreOnly};
 
     ghost Value = { FrontState };
 
     ghost coded = { coded_front };
 
     ghost view = { λ h. h.shared };
+
+    ghost invariant = { λ h. AreBegun h.started.items h.shared × AreOnly h.shared.seen };
 }
 
 /// What a worker is given.
 #[derive(Drop)]
-pub enum Lend<'a, E: Resident + Drop, K: Command> {
+pub enum Lend<'a, E: Writes + Drop, K: Command> {
     /// An engine that can go on.
     Out(Home<'a, E, K>),
     /// An engine that begins.
@@ -74,7 +88,7 @@ pub enum Lend<'a, E: Resident + Drop, K: Command> {
 }
 
 // The first engine that can go on, where the history has this length.
-fn take_ready<'a, E: Resident + Drop, K: Command>(
+fn take_ready<'a, E: Writes + Drop, K: Command>(
     homes: &mut Vec<Home<'a, E, K>>,
     generation: u64,
 ) -> Option<Home<'a, E, K>> {
@@ -86,38 +100,54 @@ fn take_ready<'a, E: Resident + Drop, K: Command>(
     None
 }
 
-// The engine begins.
-fn first_turn<'a, E: Resident + Drop, K: Command>(
+// The engine begins: its number is above that of engine 1.
+fn first_turn<'a, E: Writes + Drop, K: Command>(
     begun: Begun,
     atoms: TableAtoms<'a, K>,
     front: Front,
 ) -> Lend<'a, E, K>
-    requires { IsNew K.history begun.number begun.goal (names (seen atoms.seat)) front }
+    requires new { 1 < begun.number → IsNew K.history begun.number begun.goal (names (seen atoms.seat)) front }
 {
     let Begun { number, goal } = begun;
+    if number <= 1 {
+        return Lend::Memory;
+    }
     Lend::Begin(NewEngine::new(number, goal, atoms, front))
 }
 
-// An engine that has begun, in a new front.
-fn begin<'a, E: Resident + Drop, K: Command>(
+// An engine that has begun, in a new front. It is listed.
+fn begin<'a, E: Writes + Drop, K: Command>(
     shared: &mut Shared<K>,
+    started: &mut Vec<u64>,
     history: &History,
     atoms: TableAtoms<'a, K>,
 ) -> Lend<'a, E, K>
     requires history { history.now ≡ K.history }
+    requires begun { AreBegun started.old.items shared.old }
+    requires only { AreOnly shared.old.seen }
     ensures same { shared.new.seen ≡ shared.old.seen }
+    ensures begun { AreBegun started.new.items shared.new }
+    ensures only { AreOnly shared.new.seen }
 {
+    if started.reserve(1).is_err() {
+        return Lend::Memory;
+    }
     let mut atoms = atoms;
     let mut front = history.front();
     match shared.begin(history, &mut atoms, &mut front) {
         None => Lend::Memory,
-        Some(begun) => first_turn(begun, atoms, front),
+        Some(begun) => {
+            started.push_reserved(begun.number);
+            first_turn(begun, atoms, front)
+        }
     }
 }
 
-impl<'a, E: Resident + Drop, K: Command> Hub<'a, E, K> {
-    /// The state at the start, with the atoms that engines may have.
+impl<'a, E: Writes + Drop, K: Command> Hub<'a, E, K> {
+    /// The state at the start, with the atoms that engines may have. Each engine that has begun is still to be given a front.
     pub fn new(alloc: Global, shared: Shared<K>, spare: Vec<TableAtoms<'a, K>>) -> Hub<'a, E, K>
+        requires begun { AreBegun [] shared }
+        requires only { AreOnly shared.seen }
         ensures { result ≡ shared }
     {
         Hub {
@@ -125,7 +155,9 @@ impl<'a, E: Resident + Drop, K: Command> Hub<'a, E, K> {
             homes: Vec::new(alloc),
             over: Vec::new(alloc),
             spare,
+            started: Vec::new(alloc),
             away: 0,
+            lost: false,
         }
     }
 
@@ -142,6 +174,7 @@ impl<'a, E: Resident + Drop, K: Command> Hub<'a, E, K> {
         requires history { history.now ≡ K.history }
         requires front { IsOwn K.history engine front.old }
         requires held { All (λ a. IsSome (names (seen atoms.old.seat) a)) (visit_names names_of key_atoms visit) }
+        requires begun { IsBegun front.old.seen engine }
         requires next { CanVisit term_by clause_key (text_of (names (seen atoms.old.seat))) visit (told_of K.goals front.old) }
         ensures { IsVisit K.history K.goals engine (seen atoms.old.seat) (seen atoms.new.seat) visit result front.old front.new self.old self.new }
     {
@@ -162,6 +195,7 @@ impl<'a, E: Resident + Drop, K: Command> Hub<'a, E, K> {
     ) -> Result<(), Memory>
         requires history { history.now ≡ K.history }
         requires front { IsOwn K.history engine front.old }
+        requires begun { IsBegun front.old.seen engine }
         requires held { All (λ a. IsSome (names (seen atoms.old.seat) a)) (status_names status) }
         requires status { status_of (W.how how.now) ≡ status_as (said (names (seen atoms.old.seat))) status }
         ensures ended { OnOk result (IsEnded K.goals engine (finish (W.how how.now) (S.steps run.now)) front.old front.new self.old self.new) }
@@ -174,11 +208,22 @@ impl<'a, E: Resident + Drop, K: Command> Hub<'a, E, K> {
             .end(history, atoms, front, engine, how, run, status)
     }
 
+    /// The operators and the flag `double_quotes` of the state. The only error is out of memory.
+    pub fn standing(&self) -> Result<(Arc<OpTable>, Quotes), Memory>
+        ensures operators { IfOk result (λ s. arc_value s.0 ≡ (state_at K.goals self.now.seen (length self.now.seen)).operators) }
+        ensures quotes { IfOk result (λ s. s.1 ≡ (state_at K.goals self.now.seen (length self.now.seen)).flags.double_quotes) }
+    {
+        self.shared.standing()
+    }
+
     /// An engine for one worker alone: one that can go on, or else the first that has begun.
     pub fn lend(&mut self, history: &History) -> Lend<'a, E, K>
         requires history { history.now ≡ K.history }
         ensures same { self.new.seen ≡ self.old.seen }
     {
+        if self.lost {
+            return Lend::Over;
+        }
         let generation = self.shared.generation();
         if let Some(home) = take_ready(&mut self.homes, generation) {
             self.away = self.away.saturating_add(1);
@@ -199,8 +244,15 @@ impl<'a, E: Resident + Drop, K: Command> Hub<'a, E, K> {
         }
         match self.spare.pop() {
             None => nobody(self.away),
-            Some(atoms) => begin(&mut self.shared, history, atoms),
+            Some(atoms) => begin(&mut self.shared, &mut self.started, history, atoms),
         }
+    }
+
+    /// Memory ran out where a worker had an engine, which does not come home: no engine is lent from now on.
+    pub fn lose(&mut self)
+        ensures same { self.new ≡ self.old }
+    {
+        self.lost = true;
     }
 
     /// An engine comes home. The only error is out of memory.
@@ -218,34 +270,47 @@ impl<'a, E: Resident + Drop, K: Command> Hub<'a, E, K> {
         }
     }
 
-    /// All engines at home, each of which is done as the history stands: it has ended, or waits and nothing wakes it. The
-    /// error is that one can still go on, or that memory ran out.
+    /// All engines, each of which is done as the history stands: it has ended, or waits and nothing wakes it. Engine 1 and
+    /// each that an update has begun is among them. The error says that one can still go on, or has not begun, or that memory
+    /// ran out, which is also said where an engine did not come home.
     pub fn fronts(self, alloc: Global, history: &History) -> Result<Vec<Done<E, K>>, Unfinished>
         requires history { history.now ≡ K.history }
-        ensures { IfOk result (λ v. All (λ f. f.seen ≡ self.entry.seen) v.items) }
+        ensures seen { IfOk result (λ v. All (λ f. f.seen ≡ self.entry.seen) v.items) }
+        ensures whole { IfOk result (λ v. AreWhole self.entry.seen v.items) }
+        ensures only { OnOk result (AreOnly self.entry.seen) }
+        ensures order { OnOk result (IsInOrder K.goals self.entry.seen) }
     {
         let Hub {
             shared,
             homes,
             over,
             spare: _,
+            started,
             away: _,
+            lost: _,
         } = self;
         let mut shared = shared;
+        if shared.has_begun() {
+            return Err(Unfinished::Begins);
+        }
+        shared.in_order();
         let mut done = Vec::new(alloc);
-        finish_all(&mut shared, history, homes, &mut done)?;
+        finish_all(alloc, &mut shared, history, homes, &mut done)?;
         settle_all(&mut shared, history, over, &mut done)?;
+        if !are_done(alloc, started.as_slice(), done.as_slice())? {
+            return Err(Unfinished::Memory);
+        }
         Ok(done)
     }
 }
 
 // Nobody is lent, and nobody can be where none is with a worker.
-fn nobody<'a, E: Resident + Drop, K: Command>(away: u64) -> Lend<'a, E, K> {
+fn nobody<'a, E: Writes + Drop, K: Command>(away: u64) -> Lend<'a, E, K> {
     if away == 0 { Lend::Over } else { Lend::Nobody }
 }
 
 // One more is with a worker, where one was lent.
-fn counted_out<'a, E: Resident + Drop, K: Command>(away: u64, lent: &Lend<'a, E, K>) -> u64 {
+fn counted_out<'a, E: Writes + Drop, K: Command>(away: u64, lent: &Lend<'a, E, K>) -> u64 {
     match lent {
         Lend::Begin(_) => away.saturating_add(1),
         _ => away,

@@ -2,18 +2,32 @@
 //! that is out sees it.
 #![tactic(auto)]
 
+mod beginning;
+mod ends;
+mod ground;
 mod home;
 mod hub;
+mod ledger;
 mod mark;
 mod naming;
 mod newcomers;
 mod over;
+mod records;
+mod run;
+mod statuses;
+mod texts;
+mod turns;
+mod work;
 mod world;
+mod writing;
 
+pub use ground::Terms;
 pub use home::{Home, Parts, Retired};
 pub use hub::{Hub, Lend};
-pub use mark::Mark;
+pub use mark::{End, Mark};
 pub use naming::Command;
 pub use newcomers::{NewEngine, NewParts};
-pub use over::{Done, Over, Unfinished};
+pub use over::{Done, DoneParts, Over, Unfinished};
+pub use run::run_all;
 pub use world::HubWorld;
+pub use writing::Writes;

@@ -1,10 +1,24 @@
 //! How an engine came home.
+use named_terms::NamedTerm;
+use op_table::OpTable;
+use pl_model::ends::How;
+use pl_model::grammar::Quotes;
+use std::sync::Arc;
+use world_api::On;
+
+/// How an engine has ended, with the operators and the flag `double_quotes` of the state in which it did.
+#[derive(Drop)]
+pub struct End {
+    pub how: How<NamedTerm>,
+    pub operators: Arc<OpTable>,
+    pub quotes: Quotes,
+}
 
 /// How an engine came home: it goes on at once, or when the history has grown, or it has ended.
-#[derive(Debug, Clone, Copy, PartialEq, Eq, Drop)]
+#[derive(Drop)]
 pub enum Mark {
     Ready,
-    /// Its next request waits in the state at this generation.
-    Waits(u64),
-    Ended,
+    /// Its next request waits on this in the state at this generation.
+    Waits(On, u64),
+    Ended(End),
 }

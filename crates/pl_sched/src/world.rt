@@ -1,14 +1,15 @@
 //! The shared state as the engine of a worker sees it.
 ghost use Rattle.std.specs.Prelude.{◌≡◌, ℕ};
 ghost use Rattle.pl_hub.specs.Fronts.{IsOwn, told_of};
+ghost use Rattle.pl_sched.specs.Ledger.{IsBegun};
 
 use crate::hub::Hub;
 use crate::naming::Command;
+use crate::writing::Writes;
 use atom_table::TableAtoms;
 use pl_history::{Front, History};
 use pl_hub::counted;
 use pl_term::Memory;
-use script_api::Resident;
 use std::alloc::Global;
 use std::marker::Model;
 use std::sync::{Mutex, Wait};
@@ -19,7 +20,7 @@ use world_api::{Answer, Visit, World};
 /// is made ready before the lock is taken. Contracts see it
 /// as what the front knows.
 #[derive(Drop)]
-pub struct HubWorld<'a, 't, E: Resident + Drop, K: Command, R: Wait> {
+pub struct HubWorld<'a, 't, E: Writes + Drop, K: Command, R: Wait> {
     runtime: &'a R,
     alloc: Global,
     hub: &'a Mutex<Hub<'t, E, K>>,
@@ -28,11 +29,12 @@ pub struct HubWorld<'a, 't, E: Resident + Drop, K: Command, R: Wait> {
     engine: u64,
 }
 
-impl<'a, 't, E: Resident + Drop, K: Command, R: Wait> Model for HubWorld<'a, 't, E, K, R> {
+impl<'a, 't, E: Writes + Drop, K: Command, R: Wait> Model for HubWorld<'a, 't, E, K, R> {
     ghost use Rattle.std.specs.Prelude.{◌≡◌};
     ghost use Rattle.pl_history.specs.Fronts.{FrontState};
     ghost use Rattle.pl_history.specs.Codes.{coded_front};
     ghost use Rattle.pl_hub.specs.Fronts.{IsOwn};
+    ghost use Rattle.pl_sched.specs.Ledger.{IsBegun};
 
     ghost Value = { FrontState };
 
@@ -40,10 +42,10 @@ impl<'a, 't, E: Resident + Drop, K: Command, R: Wait> Model for HubWorld<'a, 't,
 
     ghost view = { λ w. w.front };
 
-    ghost invariant = { λ w. (w.history.now ≡ K.history) × IsOwn K.history w.engine w.front };
+    ghost invariant = { λ w. (w.history.now ≡ K.history) × IsOwn K.history w.engine w.front × IsBegun w.front.seen w.engine };
 }
 
-impl<'a, 't, E: Resident + Drop, K: Command, R: Wait> HubWorld<'a, 't, E, K, R> {
+impl<'a, 't, E: Writes + Drop, K: Command, R: Wait> HubWorld<'a, 't, E, K, R> {
     /// The shared state as the engine with the number sees it, which runs and whose front this is.
     pub fn new(
         runtime: &'a R,
@@ -55,6 +57,7 @@ impl<'a, 't, E: Resident + Drop, K: Command, R: Wait> HubWorld<'a, 't, E, K, R> 
     ) -> HubWorld<'a, 't, E, K, R>
         requires history { history.now ≡ K.history }
         requires front { IsOwn K.history engine front }
+        requires begun { IsBegun front.seen engine }
         ensures { result ≡ front }
     {
         HubWorld {
@@ -76,7 +79,7 @@ impl<'a, 't, E: Resident + Drop, K: Command, R: Wait> HubWorld<'a, 't, E, K, R> 
     }
 }
 
-impl<'a, 't, E: Resident + Drop, K: Command, R: Wait> World for HubWorld<'a, 't, E, K, R> {
+impl<'a, 't, E: Writes + Drop, K: Command, R: Wait> World for HubWorld<'a, 't, E, K, R> {
     ghost use Rattle.std.specs.Prelude.{◌++◌, IsSome, Some, false};
     ghost use Rattle.std.specs.List.{All};
     ghost use Rattle.pl_model.specs.History.{History as Entries};

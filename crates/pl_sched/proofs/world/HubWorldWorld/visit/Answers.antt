@@ -13,6 +13,7 @@ use Rattle.world_api.specs.Texts.{text_of}
 use Rattle.world_api.specs.Visits.{visit_names}
 use Rattle.pl_history.specs.Fronts.{FrontState}
 use Rattle.pl_hub.specs.Fronts.{told_of}
+use Rattle.pl_sched.proofs.OnlyLaws.{begun_after}
 use Rattle.pl_sched.proofs.Running.{same_visit, still_runs}
 use Rattle.pl_sched.proofs.world.HubWorldWorld.visit.Goals as goal
 
@@ -32,3 +33,10 @@ returns-in-Ok-clause-runs g c = still_runs g.K.Naming.goals c.session.new.front 
 
 pub returns-in-Ok-clause-asked : goal.returns-in-Ok-clause-asked
 returns-in-Ok-clause-asked g c = (same_visit c.in-Ok.ensures c.self.view_is c.session.ensures).asked
+
+pub session-requires-clause-begun : goal.session-requires-clause-begun
+session-requires-clause-begun g c = c.self.invariant.2
+
+pub invariant_of-self : goal.invariant_of-self
+invariant_of-self g c =
+    (c.self.invariant.0, c.session.ensures.own, begun_after c.session.result c.self.inside.front c.session.new.front _ _ c.session.ensures c.self.invariant.2)

@@ -1,0 +1,16 @@
+//! What is written of an engine.
+use engine_run::Runner;
+use script_api::{Resident, Script};
+use term_store::Stored;
+
+/// An engine of which something is written.
+pub trait Writes: Resident {
+    ghost use Rattle.pl_sched.specs.Written.{Writing};
+
+    // What is written of its goal, and the name of the file that it consults.
+    ghost writing: { Self → Writing };
+}
+
+impl<S: Script<Term = Stored> + Drop> Writes for Runner<S> {
+    ghost writing = { λ r. record { lines = r.lines; file = S.name r.script } };
+}
