@@ -1,5 +1,5 @@
 -- A script of one word at most.
-use Rattle.std.proofs.Common.{◌≡◌, ◌≤◌, List, [], ◌∷◌, length, slice_get, Some, None, refl, ap, sym, arith}
+use Rattle.std.proofs.Common.{◌≡◌, ◌≤◌, List, [], ◌∷◌, length, slice_get, Some, None, refl, ap, arith}
 
 pub only_none : {X : Type 0} (xs : List X) → slice_get xs 0 ≡ None → xs ≡ []
 only_none [] is = refl

@@ -41,7 +41,7 @@ use Rattle.engine_run.specs.declared.unfinished.Unfinished.{Unfinished}
 use Rattle.engine_run.specs.declared.unfinished.Unfinished.TheVariants as unfinished
 use Rattle.engine_run.specs.Items.{IsText}
 use Rattle.engine_run.specs.Ran.{HasBudgets, IsAtMissing, WaitsOn}
-use Rattle.engine_run.specs.Runners.{AnswerStands, CameTo, IsBetween, IsStillSearching, OutIs, SearchStands, StageIs, StageStands, StandsFor, Turned, is_over, is_search, put_by}
+use Rattle.engine_run.specs.Runners.{AnswerStands, CameTo, IsBetween, IsStillSearching, OutIs, SearchStands, StageIs, StageStands, Turned, is_over, is_search, put_by}
 use Rattle.engine_run.specs.Searched.{IsRefusedOnce, UnlessMemory, last_refusals, unfinished_refusals}
 use Rattle.toplevel.specs.Unbuilt.{IsAtUnbuilt, indicated}
 use Rattle.toplevel.specs.declared.command.Limits.{Limits}

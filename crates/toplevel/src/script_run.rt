@@ -58,7 +58,7 @@ pub(crate) fn runner_of<'a>(
     script: FileScript<'a>,
     text: Vec<u8>,
 ) -> Runner<FileScript<'a>>
-    ensures { IsAtBeginning limits.now script text.items result }
+    ensures { IsAtBeginning limits.now script.entry text.items result }
 {
     Runner::new(
         alloc,
