@@ -1,2 +1,1 @@
 pub mod HeldNames
-pub mod OpenLists

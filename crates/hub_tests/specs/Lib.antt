@@ -1,4 +1,1 @@
 pub mod NewSeats
-pub mod Open
-pub mod Players
-pub mod Ready
