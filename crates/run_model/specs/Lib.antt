@@ -3,6 +3,5 @@ pub mod AtomRecords
 pub mod Lawful
 pub mod Report
 pub mod Progress
-pub mod CommandLine
 pub mod Ends
 pub mod WholeRuns

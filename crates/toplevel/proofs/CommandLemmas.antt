@@ -12,7 +12,7 @@ use Rattle.clap.specs.declared.parser.matches.Found.{Found}
 use Rattle.clap.proofs.ValueTestLemmas.{accepts-Accepts, Accepts-accepts}
 use Rattle.clap.proofs.WalkLemmas.{one_text-rows}
 use Rattle.pl_model.specs.Resolution.{Limits}
-use Rattle.run_model.specs.CommandLine.{Command, command_by, limits_in, number_of, run_command, unless_refused, words_by}
+use Rattle.command_line.specs.CommandLine.{Command, command_by, limits_in, number_of, run_command, unless_refused, words_by}
 
 -- A number of 64 bits is read exactly where the text is one.
 pub number_reads : (E : Type 0) (G : List ℕ → Result ℕ E → Type 0) (t : List ℕ) (r : Option ℕ) → ReadsOne G t r

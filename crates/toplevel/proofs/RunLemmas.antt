@@ -7,7 +7,7 @@ use Rattle.run_model.specs.declared.ends.End.{End}
 use Rattle.run_model.specs.declared.ends.End.TheVariants.{Done, GoalFailed, Usage, Waiting, Memory, ReadFault, WriteFault, Halted, Unbuilt}
 use Rattle.pl_model.specs.History.{Proc}
 use Rattle.run_model.specs.Lawful.{Program, Told}
-use Rattle.run_model.specs.CommandLine.{Command, program_of}
+use Rattle.command_line.specs.CommandLine.{Command, program_of}
 use Rattle.run_model.specs.Ends.{all_done, end_by, engines, first_halt, some_waits}
 use Rattle.toplevel.specs.Headline.{AreRead, GaveUp, IsNamed, IsPartlyWritten, IsReady, IsWritten, IsWrittenUnless, Missed, Promised, Ran, RanUnwritten}
 use Rattle.toplevel.specs.FirstEngines.{told_by}

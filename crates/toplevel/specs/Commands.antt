@@ -2,7 +2,7 @@
 use Rattle.std.specs.Prelude.{◌≡◌, List, [], ◌∷◌, Option, Some, None}
 use Rattle.pl_term.specs.Tree.{Chars}
 use Rattle.pl_model.specs.Resolution.{Limits as LimitsOf}
-use Rattle.run_model.specs.CommandLine.{Command as CommandOf}
+use Rattle.command_line.specs.CommandLine.{Command as CommandOf}
 use Rattle.toplevel.specs.declared.command.Command.{Command}
 use Rattle.toplevel.specs.declared.command.Limits.{Limits}
 

@@ -7,7 +7,7 @@ use Rattle.run_model.specs.Lawful.{IsComplete, Program}
 use Rattle.run_model.specs.Report.{AreFinal, Finals, transcript}
 use Rattle.run_model.specs.declared.ends.End.{End}
 use Rattle.run_model.specs.declared.ends.End.TheVariants.{Done, GoalFailed, Usage, Waiting, Memory, ReadFault, WriteFault, Halted, Unbuilt}
-use Rattle.run_model.specs.CommandLine.{Command, program_of, unread_line}
+use Rattle.command_line.specs.CommandLine.{Command, program_of, unread_line}
 use Rattle.run_model.specs.Ends.{end_of, goal_ends}
 use Rattle.toplevel.specs.FirstEngines.{told_by}
 use Rattle.toplevel.specs.Unbuilt.{IsStuck, unbuilt_line}

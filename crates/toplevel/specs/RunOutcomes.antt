@@ -1,6 +1,6 @@
 -- What is to be written of a run.
 use Rattle.std.specs.Prelude.{ℕ, List}
-use Rattle.run_model.specs.CommandLine.{Command, program_of}
+use Rattle.command_line.specs.CommandLine.{Command, program_of}
 use Rattle.toplevel.specs.Headline.{IsReady}
 use Rattle.toplevel.specs.Unbuilt.{IsStuck, indicated}
 use Rattle.toplevel.specs.declared.first_run.RunOutcome.{RunOutcome}

@@ -8,7 +8,7 @@ use Rattle.run_model.specs.Lawful.{Program, main_job}
 use Rattle.run_model.specs.Progress.{Alone, Seen}
 use Rattle.script_api.specs.Parts.{Part, with_search}
 use Rattle.iso_engine.specs.Missing.{IsUnbuiltDoing}
-use Rattle.run_model.specs.CommandLine.{newline}
+use Rattle.command_line.specs.CommandLine.{newline}
 
 abbrev pub unbuilt_line : Chars → ℕ → Chars
 unbuilt_line name arity =

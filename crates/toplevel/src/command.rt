@@ -3,7 +3,7 @@ ghost use Rattle.std.specs.Prelude.{◌≡◌, false, codes, IfOk};
 ghost use Rattle.std.specs.Option.{option_map};
 ghost use Rattle.clap.specs.declared.builder.command.Command.TheViews.{out-Command as fields_of};
 ghost use Rattle.clap.specs.Words.{app_of, found_of, first_of, one_of, rows_of, rule_of, subcommand_rows_of};
-ghost use Rattle.run_model.specs.CommandLine.{command, command_of, limits_in, number_of, number_option, optional_word, options_app, plt_app, required_word, run_app, run_command, words_by};
+ghost use Rattle.command_line.specs.CommandLine.{command, command_of, limits_in, number_of, number_option, optional_word, options_app, plt_app, required_word, run_app, run_command, words_by};
 ghost use Rattle.toplevel.specs.Commands.{AreLimits, IsCommand, words_in};
 
 use clap::error::ErrorKind;

@@ -7,7 +7,7 @@ ghost use Rattle.run_model.specs.Execution.{Consulted, Job, at_start, most_bytes
 ghost use Rattle.run_model.specs.Lawful.{Program, main_job};
 ghost use Rattle.pl_model.specs.History.{AllPlain};
 ghost use Rattle.toplevel.specs.Commands.{told_command, words_in};
-ghost use Rattle.run_model.specs.CommandLine.{program_of};
+ghost use Rattle.command_line.specs.CommandLine.{program_of};
 ghost use Rattle.pl_consult.specs.FileScripts.{execution_of, part_in};
 ghost use Rattle.pl_consult.specs.GoalWords.{words_of as words_read};
 ghost use Rattle.script_api.specs.Scripts.{AreNames};

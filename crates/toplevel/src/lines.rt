@@ -2,7 +2,7 @@
 ghost use Rattle.std.specs.Prelude.{◌≡◌, ◌++◌, List, ℕ, IfOk, OnOk, IsTrue, decimal, encode_utf8_all};
 ghost use Rattle.std.specs.Char.{is_ascii};
 ghost use Rattle.std.specs.List.{list_all};
-ghost use Rattle.run_model.specs.CommandLine.{unread_line};
+ghost use Rattle.command_line.specs.CommandLine.{unread_line};
 ghost use Rattle.pl_report.specs.Adds.{Adds};
 ghost use Rattle.toplevel.specs.Unbuilt.{unbuilt_line};
 

@@ -1,7 +1,7 @@
 //! What is ready to be written of a run.
 ghost use Rattle.std.specs.Prelude.{◌≡◌, List, ℕ, IfOk};
 ghost use Rattle.toplevel.specs.Commands.{told_command};
-ghost use Rattle.run_model.specs.CommandLine.{program_of};
+ghost use Rattle.command_line.specs.CommandLine.{program_of};
 ghost use Rattle.toplevel.specs.Headline.{IsReady};
 ghost use Rattle.toplevel.specs.FirstEngines.{Stood};
 

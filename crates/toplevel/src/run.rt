@@ -3,7 +3,7 @@ ghost use Rattle.std.specs.Prelude.{◌≡◌, ◌≢◌, ◌↔◌, suc, take, 
 ghost use Rattle.std.specs.Str.{encode_utf8_all};
 ghost use Rattle.pl_io.specs.Faults.{Rose};
 ghost use Rattle.run_model.specs.Execution.{most_bytes};
-ghost use Rattle.run_model.specs.CommandLine.{Command as CommandOf, command, unread_line, usage_line};
+ghost use Rattle.command_line.specs.CommandLine.{Command as CommandOf, command, unread_line, usage_line};
 ghost use Rattle.run_model.specs.Ends.{status_of};
 ghost use Rattle.toplevel.specs.Commands.{told_command};
 ghost use Rattle.toplevel.specs.Headline.{AreRead, GaveUp, HasRun, IsReady, IsUnbuilt, IsUnread, IsWrittenUnless, Missed, Promised, Ran, RanUnwritten, TellsNothing};

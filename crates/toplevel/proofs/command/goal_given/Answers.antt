@@ -1,7 +1,7 @@
 use Rattle.std.proofs.Common.{◌∙◌, ap, codes, List, ℕ, ◌∷◌, []}
 use Rattle.clap.specs.Words.{found_of}
 use Rattle.clap.proofs.WalkLemmas.{first_value-rows}
-use Rattle.run_model.specs.CommandLine.{words_by}
+use Rattle.command_line.specs.CommandLine.{words_by}
 use Rattle.toplevel.proofs.command.goal_given.Goals as goal
 
 pub returns-in-None : goal.returns-in-None

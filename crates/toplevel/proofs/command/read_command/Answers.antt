@@ -3,7 +3,7 @@ use Rattle.std.specs.Str.{encode_utf8_all}
 use Rattle.std.proofs.lemmas.Result.{IfOk-weaker}
 use Rattle.clap.specs.Words.{App, app_of, fault_of, is_simple, is_simple_and_free, subcommand_of, subcommand_rows_of}
 use Rattle.clap.specs.Kinds.{HasKind}
-use Rattle.run_model.specs.CommandLine.{command, command_of, plt_app}
+use Rattle.command_line.specs.CommandLine.{command, command_of, plt_app}
 use Rattle.toplevel.specs.Commands.{IsCommand}
 use Rattle.toplevel.proofs.CommandLemmas.{refused_words, taken_words}
 use Rattle.toplevel.proofs.command.read_command.Goals as goal

@@ -1,7 +1,7 @@
 use Rattle.std.proofs.Common.{refl, sym, ◌∙◌, ap, codes, List, ℕ, Option, Some}
 use Rattle.clap.specs.Words.{found_of, rows_of}
 use Rattle.clap.proofs.WalkLemmas.{first_value-rows}
-use Rattle.run_model.specs.CommandLine.{Command}
+use Rattle.command_line.specs.CommandLine.{Command}
 use Rattle.toplevel.specs.Commands.{told_limits, words_in}
 use Rattle.toplevel.proofs.CommandLemmas.{given_by}
 use Rattle.toplevel.proofs.command.run_given.Goals as goal

@@ -1,5 +1,5 @@
 use Rattle.std.proofs.Common.{ℕ, [], ◌∙◌, ap}
-use Rattle.run_model.specs.CommandLine.{program_of}
+use Rattle.command_line.specs.CommandLine.{program_of}
 use Rattle.pl_consult.specs.declared.file_script.FileScript.{FileScript}
 use Rattle.engine_run.specs.Runners.{is_over}
 use Rattle.toplevel.specs.Commands.{told_command}

@@ -1,5 +1,5 @@
 use Rattle.std.proofs.Common.{◌∙◌, subst}
-use Rattle.run_model.specs.CommandLine.{program_of}
+use Rattle.command_line.specs.CommandLine.{program_of}
 use Rattle.toplevel.specs.Commands.{told_command}
 use Rattle.toplevel.specs.FirstEngines.{HasCome}
 use Rattle.toplevel.specs.declared.first_run.RunOutcome.{RunOutcome}

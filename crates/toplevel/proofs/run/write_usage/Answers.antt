@@ -1,6 +1,6 @@
 use Rattle.std.proofs.Common.{sym, ◌∙◌, refl}
 use Rattle.std.specs.Str.{encode_utf8_all}
-use Rattle.run_model.specs.CommandLine.{usage_line}
+use Rattle.command_line.specs.CommandLine.{usage_line}
 use Rattle.pl_report.proofs.AddsLemmas.{ascii_bytes}
 use Rattle.toplevel.proofs.RunLemmas.{written_unless}
 use Rattle.toplevel.proofs.run.write_usage.Goals as goal

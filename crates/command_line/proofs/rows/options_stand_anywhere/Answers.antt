@@ -1,7 +1,7 @@
 use Rattle.std.proofs.Common.{refl}
 use Rattle.clap.proofs.OnLiterals.{clap_on_literals}
-use Rattle.model_rows.proofs.commands.two_minus_signs_end_the_options.Goals as goal
+use Rattle.command_line.proofs.rows.options_stand_anywhere.Goals as goal
 
 pub returns : goal.returns
 unfolding clap_on_literals
-returns c = record { option = refl; word = refl }
+returns c = record { before = refl; between = refl; behind = refl }

@@ -1,7 +1,7 @@
 use Rattle.std.proofs.Common.{refl}
 use Rattle.clap.proofs.OnLiterals.{clap_on_literals}
-use Rattle.model_rows.proofs.commands.options_stand_anywhere.Goals as goal
+use Rattle.command_line.proofs.rows.two_minus_signs_end_the_options.Goals as goal
 
 pub returns : goal.returns
 unfolding clap_on_literals
-returns c = record { before = refl; between = refl; behind = refl }
+returns c = record { option = refl; word = refl }

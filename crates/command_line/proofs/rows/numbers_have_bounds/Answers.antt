@@ -1,6 +1,6 @@
 use Rattle.std.proofs.Common.{refl}
 use Rattle.clap.proofs.OnLiterals.{clap_on_literals}
-use Rattle.model_rows.proofs.commands.numbers_have_bounds.Goals as goal
+use Rattle.command_line.proofs.rows.numbers_have_bounds.Goals as goal
 
 pub returns : goal.returns
 unfolding clap_on_literals

@@ -1,7 +1,7 @@
 use Rattle.std.proofs.Common.{refl}
 use Rattle.clap.proofs.OnLiterals.{clap_on_literals}
-use Rattle.model_rows.proofs.commands.numbers_reach_their_bounds.Goals as goal
+use Rattle.command_line.proofs.rows.two_words_are_enough.Goals as goal
 
 pub returns : goal.returns
 unfolding clap_on_literals
-returns c = refl
+returns c = record { goal = refl; none = refl }

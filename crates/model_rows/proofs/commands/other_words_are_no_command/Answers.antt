@@ -1,7 +1,0 @@
-use Rattle.std.proofs.Common.{refl}
-use Rattle.clap.proofs.OnLiterals.{clap_on_literals}
-use Rattle.model_rows.proofs.commands.other_words_are_no_command.Goals as goal
-
-pub returns : goal.returns
-unfolding clap_on_literals
-returns c = record { nothing = refl; file = refl; too_many = refl; another = refl; help = refl; help_of_run = refl }
