@@ -1,20 +1,14 @@
 -- The names of clauses that are kept as one term, and visits that hand out no name.
-use Rattle.std.proofs.Common.{◌≡◌, ℕ, List, [], ◌∷◌, ◌++◌, Bool, true, false, Option, None, refl, subst, arith, append-nil}
+use Rattle.std.proofs.Common.{◌≡◌, ℕ, List, [], ◌∷◌, ◌++◌, Bool, true, false, Option, refl, subst, append-nil}
 use Rattle.std.specs.Prelude.{bytes_eq, codes, if◌then◌else◌}
 use Rattle.std.specs.List.{Contains}
 use Rattle.std.proofs.lemmas.List.Elements.{Contains-append_left, Contains-append_right}
 use Rattle.std.proofs.lemmas.Slice.Eq.{bytes_eq-Decides}
 use Rattle.pl_term.specs.Tree.{Chars, Tree, var, int, atom, comp, none, more}
-use Rattle.pl_model.specs.OperatorTable.{OperatorTable}
-use Rattle.pl_model.specs.declared.grammar.Quotes.{Quotes}
-use Rattle.pl_model.specs.History.{History, Kind}
-use Rattle.pl_model.specs.Requests.{look, read_operators, standing}
-use Rattle.pl_model.specs.Requests as requests
-use Rattle.pl_model.specs.Service.{answers, serve}
 use Rattle.world_api.specs.declared.visit.Visit.TheVariants.{Look, ReadOperators}
 use Rattle.world_api.specs.Told.{Told}
 use Rattle.world_api.specs.Visits.{clause_in}
-use Rattle.world_api.specs.Asked.{texts_in, clause_texts, handed_texts, IsInReply, IsInAnswer}
+use Rattle.world_api.specs.Asked.{texts_in, clause_texts, IsInAnswer}
 use Rattle.world_api.specs.Gains.{Gains}
 use Rattle.world_api.proofs.Gaining.{gains_none}
 
@@ -41,27 +35,9 @@ clause_named (comp f t (more u none)) c p = go (bytes_eq f (codes ":-")) refl p
 clause_named (comp f t (more u (more v ts))) c p = in_head (comp f t (more u (more v ts))) (atom (codes "true")) c p
 
 -- The operators are handed out without a name.
-no_names : (ops : OperatorTable) (q : Quotes) (reply : requests.Reply) (update : Option Kind) (c : Chars)
-    → answers (standing ops q) None ≡ answers reply update
-    → Contains (handed_texts reply) c
-    → ⊥
-no_names ops q reply update c is handed =
-    let same : reply ≡ standing ops q = cc
-    in let none : Contains [] c = subst (λ (r : requests.Reply). Contains (handed_texts r) c) same handed
-    in let low = none.1
-    in omega (arith, low)
-
-not_in_look : (t : Told) (before : History) (c : Chars) → IsInReply t before look c → ⊥
-unfolding serve
-not_in_look t before c is = no_names _ _ is.reply is.update c is.served is.handed
-
-not_in_operators : (t : Told) (before : History) (c : Chars) → IsInReply t before read_operators c → ⊥
-unfolding serve
-not_in_operators t before c is = no_names _ _ is.reply is.update c is.served is.handed
-
 module _ {T K : Type 0} (term : (ℕ → Chars) → T → Tree) (key : T → K) (text : ℕ → Chars) (t : Told) (old new : Option (List Chars)) where
   pub look_asks_nothing : Gains (IsInAnswer term key text Look t) old new → new ≡ old
-  look_asks_nothing g = gains_none (IsInAnswer term key text Look t) (λ c a. not_in_look t a.before c (a.stands look refl)) old new g
+  look_asks_nothing g = gains_none (IsInAnswer term key text Look t) (λ c a. a.stands) old new g
 
   pub operators_ask_nothing : Gains (IsInAnswer term key text ReadOperators t) old new → new ≡ old
-  operators_ask_nothing g = gains_none (IsInAnswer term key text ReadOperators t) (λ c a. not_in_operators t a.before c (a.stands read_operators refl)) old new g
+  operators_ask_nothing g = gains_none (IsInAnswer term key text ReadOperators t) (λ c a. a.stands) old new g

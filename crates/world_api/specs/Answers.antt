@@ -26,7 +26,7 @@ use Rattle.world_api.specs.declared.answer.Answer.{Answer}
 use Rattle.world_api.specs.declared.answer.Answer.TheVariants.{Served, Waits, NeedsAtoms, Retry, Worn, Memory}
 use Rattle.world_api.specs.Told.{Told, Follows, clause_list, behind, has_place}
 use Rattle.world_api.specs.Visits.{IsGoal, Asks}
-use Rattle.world_api.specs.Replies.{IsFront, Says, reply_names}
+use Rattle.world_api.specs.Replies.{IsFront, Says, Suits, reply_names}
 
 -- The refusals of atoms that an answer hands on.
 abbrev pub refusals_by : {T : Type 0} → Answer T → List Refusal
@@ -77,7 +77,8 @@ module _ {T K : Type 0} (term : (ℕ → Chars) → T → Tree) (key : T → K) 
   CanVisit text (Next p k g place) t = IsPlace text p k g place t
   CanVisit text v t = Unit {0}
 
-  -- The visit stood after all entries `before`; what it asks for is answered so there, and the history gained the update.
+  -- The visit stood after all entries `before`; what it asks for is answered so there, by a reply of its kind, and the history
+  -- gained the update.
   pub record IsServed (old_text new_text : ℕ → Chars) (v : Visit T K) (r : Reply T) (g : ℕ) (old : Told) (before : History) (new : Told) : Type 0 where
     pub generation : g ≡ length before
     pub update : Option Kind
@@ -87,6 +88,7 @@ module _ {T K : Type 0} (term : (ℕ → Chars) → T → Tree) (key : T → K) 
         → (reply : requests.Reply)
         × (served_now old.engine old.goals before q ≡ answers reply update)
         × Says term new_text r reply
+    pub suits : Suits v r
     pub told : new ≡ seen_as old (before ++ entry_by old.engine update) (old.gens ++ length before ∷ [])
 
   -- The next clause of the list of a goal at a generation. The engine has seen all entries, and no more has changed.

@@ -8,7 +8,7 @@ use Rattle.pl_model.specs.Terms.{variable_count}
 use Rattle.pl_model.specs.Requests.{Request, look, read_operators, call_clauses, inspected_clauses, retracted_clauses, cleared_clauses, erase_clause, assert_first, assert_last, consult_clause, abolish_procedure, make_dynamic, all_procedures, put_operators, put_flag, all_flags, own_name, create_thread, start_goal, join_thread, send_message, get_message, peek_message, create_queue, destroy_queue, collect_atoms, collect_clauses}
 use Rattle.world_api.specs.declared.visit.Procedure.{Procedure}
 use Rattle.world_api.specs.declared.visit.Visit.{Visit}
-use Rattle.world_api.specs.declared.visit.Visit.TheVariants.{Look, ReadOperators, Call, Inspect, Retract, Clear, Next, Erase, AssertFirst, AssertLast, Consult, Abolish, MakeDynamic, AllProcedures, PutOperators, PutFlag, AllFlags, OwnName, CreateThread, StartGoal, JoinThread, SendMessage, GetMessage, PeekMessage, CreateQueue, DestroyQueue, CollectAtoms, CollectClauses}
+use Rattle.world_api.specs.declared.visit.Visit.TheVariants.{Look, ReadOperators, Call, Inspect, Retract, Clear, Next, Erase, AssertFirst, AssertLast, Consult, Abolish, MakeDynamic, AllProcedures, PutOperators, AllOperators, PutFlag, AllFlags, OwnName, CreateThread, StartGoal, JoinThread, SendMessage, GetMessage, PeekMessage, CreateQueue, DestroyQueue, CollectAtoms, CollectClauses}
 
 abbrev pub proc_named : (ℕ → Chars) → Procedure → Proc
 proc_named text p = record { name = text p.name; arity = p.arity }
@@ -42,6 +42,7 @@ module _ {T K : Type 0} (term : (ℕ → Chars) → T → Tree) (key : T → K) 
   Asks (MakeDynamic ps) q = q ≡ make_dynamic (map (proc_named text) ps.items)
   Asks AllProcedures q = q ≡ all_procedures
   Asks (PutOperators p k fs) q = q ≡ put_operators p k (map text fs.items)
+  Asks AllOperators q = q ≡ read_operators
   Asks (PutFlag f v) q = q ≡ put_flag (text f) (text v)
   Asks AllFlags q = q ≡ all_flags
   Asks OwnName q = q ≡ own_name

@@ -17,7 +17,7 @@ pub use atom_api::{Cause, Pass, WornWord};
 pub use interning::{NoTerm, interned};
 pub use named::Named;
 pub use readings::reads_as;
-pub use reply::{FlagValue, Found, Name, Reply};
+pub use reply::{FlagValue, Found, Name, Operator, Reply};
 pub use texts::with_texts;
 pub use unserved::Unserved;
 pub use visit::{Procedure, Visit};

@@ -3,6 +3,7 @@ use crate::visit::Procedure;
 use atom_api::Atom;
 use op_table::OpTable;
 use pl_model::grammar::Quotes;
+use pl_model::operators::Kind;
 use std::sync::Arc;
 
 /// A clause of a list, with the place of the update that added it, which names it, and whether others follow it.
@@ -27,6 +28,14 @@ pub struct FlagValue<T> {
     pub value: T,
 }
 
+/// An operator: its priority, from 1 to 1200, its kind and its name.
+#[derive(Clone, Copy, Debug, Drop)]
+pub struct Operator {
+    pub priority: u16,
+    pub kind: Kind,
+    pub name: Atom,
+}
+
 /// What the shared state answers.
 #[derive(Drop)]
 pub enum Reply<T> {
@@ -41,6 +50,8 @@ pub enum Reply<T> {
     Procedures(Vec<Procedure>),
     /// The flags with their values, in standard order.
     Flags(Vec<FlagValue<T>>),
+    /// The operators, in standard order of their names, and of one name first the prefix, then the infix, then the postfix one.
+    Operators(Vec<Operator>),
     /// The alias or the number of a thread or queue.
     Named(Name),
     /// A message, its variables numbered from 0 in order of first occurrence.

@@ -15,7 +15,7 @@ pub struct Procedure {
 pub enum Visit<T, K> {
     /// The operators and the flag `double_quotes`: at the taking up of an item, at a solution, at the end of a directive.
     Look,
-    /// The operators, for current_op/3 and for writing (ISO 8.14.2, 8.14.4).
+    /// The operators, for writing (ISO 8.14.2).
     ReadOperators,
     /// The first of the clauses for a goal (ISO 7.7.10).
     Call {
@@ -77,6 +77,8 @@ pub enum Visit<T, K> {
         kind: Kind,
         names: Vec<Atom>,
     },
+    /// The operators, with atoms as their names, for current_op/3 (ISO 8.14.4).
+    AllOperators,
     /// set_prolog_flag/2 (ISO 8.17.1).
     PutFlag {
         flag: Atom,
