@@ -22,7 +22,7 @@ use Rattle.plain_world.specs.declared.adding.Adding.{Adding}
 use Rattle.plain_world.specs.declared.adding.Adding.TheVariants.{Text, First, Last}
 use Rattle.plain_world.specs.Adding.{adding_request}
 use Rattle.plain_world.specs.Entries.{Log, history_of, told_of}
-use Rattle.plain_world.specs.TextReplies.{IsFrontOf, SaysText, Reads, said_texts}
+use Rattle.plain_world.specs.TextReplies.{IsFrontOf, SaysText, Reads, TellsTable, said_texts}
 use Rattle.plain_world.specs.Handed.{adding_visit}
 use Rattle.plain_world.proofs.Visiting.{follows_none}
 
@@ -52,6 +52,13 @@ listed_named f done s c p = absurd s
 listed_named f gone s c p = absurd s
 listed_named f (refused t) s c p = absurd s
 
+no_text : (t : TextReply) → TellsTable t → (c : Chars) → Contains (said_texts t) c → ⊥
+no_text (Standing ops quotes) tells c p = none_in c p
+no_text (Clauses f) tells c p = tells
+no_text Done tells c p = tells
+no_text Gone tells c p = tells
+no_text (Refused e) tells c p = tells
+
 said_named : (t : TextReply) (x : requests.Reply) → SaysText t x → (c : Chars) → Contains (said_texts t) c → Contains (handed_texts x) c
 said_named (Standing ops quotes) x s c p = absurd (none_in c p)
 said_named (Clauses f) x s c p = listed_named f x s c p
@@ -75,6 +82,15 @@ module _ {T K : Type 0} (term : (ℕ → Chars) → T → Tree) (key : T → K) 
         stands = stands c (λ q asks. let r : Reads l q t = reads q asks in record { reply = r.0; update = None; served = r.1; handed = said_named t r.0 r.2 c p });
       })
       asked
+
+  -- The table of the operators is handed out without a name.
+  pub asked_table :
+      (v : Visit T K) (l : Log) (t : TextReply) (a b : Option (List Chars))
+      → TellsTable t
+      → Gains (λ c. Contains (said_texts t) c) a b
+      → Gains (IsInAnswer term key text v (told_of l)) a b
+  asked_table v l t a b tells asked =
+      gains_weaker (λ c. Contains (said_texts t) c) (IsInAnswer term key text v (told_of l)) a b (λ c p. absurd (no_text t tells c p)) asked
 
   pub asked_refused :
       (by : Adding) (k : T) (l : Log) (e : Tree) (a b : Option (List Chars))

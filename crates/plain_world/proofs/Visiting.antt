@@ -1,11 +1,15 @@
 -- What is handed out meets the contract of a visit.
 use Rattle.std.proofs.Common.{◌≡◌, ℕ, List, [], ◌∷◌, ◌++◌, map, length, Option, Some, None, Result, Ok, Err, refl, sym, ap, ◌∙◌, subst, append-nil}
 use Rattle.std.specs.Prelude.{IfOk}
+use Rattle.std.specs.Arc.{arc_value}
 use Rattle.std.proofs.lemmas.List.{map-append, length-map}
 use Rattle.pl_term.specs.Tree.{Chars, Tree}
 use Rattle.pl_model.specs.History.{Clause}
+use Rattle.pl_model.specs.OperatorTable.{OperatorTable}
+use Rattle.pl_model.specs.declared.grammar.Quotes.{Quotes}
 use Rattle.pl_model.specs.Database.{Stored}
-use Rattle.pl_model.specs.Requests.{Request, listed, done, consult_clause, assert_first, assert_last}
+use Rattle.pl_model.specs.Requests as requests
+use Rattle.pl_model.specs.Requests.{Request, standing, listed, done, consult_clause, assert_first, assert_last}
 use Rattle.pl_model.specs.Service.{answers, entry_by, served_now}
 use Rattle.pl_model.specs.declared.first_argument.FirstArgument.{FirstArgument}
 use Rattle.pl_model.specs.FirstArguments.{head_key, head_of}
@@ -22,17 +26,17 @@ use Rattle.world_api.specs.declared.answer.Answer.TheVariants.{Served, Waits, Ne
 use Rattle.world_api.specs.declared.unserved.Unserved.{Unserved}
 use Rattle.world_api.specs.declared.unserved.Unserved.TheVariants as unserved
 use Rattle.world_api.specs.Visits.{IsGoal, Asks, clause_in, proc_named}
-use Rattle.world_api.specs.Replies.{Says, IsFront}
+use Rattle.world_api.specs.Replies.{HasTable, Says, Suits, IsFront}
 use Rattle.world_api.specs.Answers.{IsServed, Serves, Visited, seen_as}
 use Rattle.plain_world.specs.declared.entry.Entry.{Entry}
 use Rattle.plain_world.specs.declared.text_reply.TextReply.{TextReply}
-use Rattle.plain_world.specs.declared.text_reply.TextReply.TheVariants.{Clauses, Refused}
+use Rattle.plain_world.specs.declared.text_reply.TextReply.TheVariants.{Standing, Clauses, Done, Gone, Refused}
 use Rattle.plain_world.specs.declared.adding.Adding.{Adding}
 use Rattle.plain_world.specs.declared.adding.Adding.TheVariants.{Text, First, Last}
 use Rattle.plain_world.specs.Adding.{adding_request}
 use Rattle.plain_world.specs.Entries.{Log, history_of, told_of, entry_of, kind_of, noted, updated}
-use Rattle.plain_world.specs.TextReplies.{Reads, Makes, IsGoalOf, IsFrontOf}
-use Rattle.plain_world.specs.Handed.{Answered, Handed, SaysAs, VisitedNow, adding_visit, answer_by}
+use Rattle.plain_world.specs.TextReplies.{Reads, Makes, IsGoalOf, IsFrontOf, SaysText, TellsTable}
+use Rattle.plain_world.specs.Handed.{Answered, Handed, IsTable, SaysAs, VisitedNow, adding_visit, answer_by}
 
 pub follows_none : (l : Log) → Follows 1 (history_of l) (history_of l)
 follows_none l = record { later = []; grown = sym (append-nil (history_of l)); others = refl }
@@ -60,27 +64,73 @@ generation_same : (l : Log) (g : ℕ) → g ≡ length l.entries → g ≡ lengt
 generation_same l g e = e ∙ sym (length-map l.entries entry_of)
 
 module _ {T K : Type 0} (term : (ℕ → Chars) → T → Tree) (key : T → K) (old_text new_text : ℕ → Chars) where
+  table_said : (ops : OperatorTable) (quotes : Quotes) (r : Reply T) (x : requests.Reply) → IsTable ops quotes r → x ≡ standing ops quotes → Says term new_text r x
+  table_said ops quotes (replies.Standing o q) x is e = e ∙ ap (λ t. standing t quotes) (sym is.0) ∙ ap (standing (arc_value o)) (sym is.1)
+  table_said ops quotes (replies.Clauses f) x is e = absurd is
+  table_said ops quotes (replies.Procedures ps) x is e = absurd is
+  table_said ops quotes (replies.Flags fs) x is e = absurd is
+  table_said ops quotes (replies.Operators os) x is e = absurd is
+  table_said ops quotes (replies.Named n) x is e = absurd is
+  table_said ops quotes (replies.Message t) x is e = absurd is
+  table_said ops quotes replies.NoMessage x is e = absurd is
+  table_said ops quotes (replies.Status t) x is e = absurd is
+  table_said ops quotes replies.Done x is e = absurd is
+  table_said ops quotes replies.Gone x is e = absurd is
+  table_said ops quotes (replies.Refused t) x is e = absurd is
+
+  -- The reply says whatever the one in texts says.
+  says_as : (t : TextReply) (r : Reply T) → SaysAs term new_text t r → (x : requests.Reply) → SaysText t x → Says term new_text r x
+  says_as (Standing ops quotes) r is x s = table_said (arc_value ops) quotes r x is s
+  says_as (Clauses f) r is x s = is x s
+  says_as Done r is x s = is x s
+  says_as Gone r is x s = is x s
+  says_as (Refused e) r is x s = is x s
+
+  is_table : (ops : OperatorTable) (quotes : Quotes) (r : Reply T) → IsTable ops quotes r → HasTable r
+  is_table ops quotes (replies.Standing o q) is = tt
+  is_table ops quotes (replies.Clauses f) is = is
+  is_table ops quotes (replies.Procedures ps) is = is
+  is_table ops quotes (replies.Flags fs) is = is
+  is_table ops quotes (replies.Operators os) is = is
+  is_table ops quotes (replies.Named n) is = is
+  is_table ops quotes (replies.Message t) is = is
+  is_table ops quotes replies.NoMessage is = is
+  is_table ops quotes (replies.Status t) is = is
+  is_table ops quotes replies.Done is = is
+  is_table ops quotes replies.Gone is = is
+  is_table ops quotes (replies.Refused t) is = is
+
+  -- Of the operators it has their table.
+  pub table_handed : (t : TextReply) → TellsTable t → (r : Reply T) → SaysAs term new_text t r → HasTable r
+  table_handed (Standing ops quotes) tells r is = is_table (arc_value ops) quotes r is
+  table_handed (Clauses f) tells r is = absurd tells
+  table_handed Done tells r is = absurd tells
+  table_handed Gone tells r is = absurd tells
+  table_handed (Refused e) tells r is = absurd tells
+
   -- A visit that changes nothing. At every visit but `Next`, that it is served so is its contract.
   pub visited_read :
       (v : Visit T K) (l m : Log) (t : TextReply) (a : Answer T)
       → ((r : Reply T) (g : ℕ) → IsServed term key old_text new_text v r g (told_of l) (history_of l) (told_of m) → Serves term key old_text new_text v r g (told_of l) (history_of l) (told_of m))
+      → ((r : Reply T) → SaysAs term new_text t r → Suits v r)
       → ((q : Request) → Asks term key old_text v q → Reads l q t)
       → Handed term new_text t a l m
       → VisitedNow term key old_text new_text v a l m
-  visited_read v l m t (Served r g) serves reads h = (
+  visited_read v l m t (Served r g) serves suits reads h = (
     follows_none l,
     serves r g (record {
       generation = generation_same l g h.1;
       update = None;
-      serves = λ q asks. let x : Reads l q t = reads q asks in (x.0, x.1, h.0 x.0 x.2);
+      serves = λ q asks. let x : Reads l q t = reads q asks in (x.0, x.1, says_as t r h.0 x.0 x.2);
+      suits = suits r h.0;
       told = told_noted l m h.2;
     }),
   )
-  visited_read v l m t (Waits on g) serves reads h = absurd h
-  visited_read v l m t (NeedsAtoms p) serves reads h = ap told_of h
-  visited_read v l m t (Retry c) serves reads h = ap told_of h
-  visited_read v l m t (Worn w) serves reads h = ap told_of h
-  visited_read v l m t Memory serves reads h = ap told_of h
+  visited_read v l m t (Waits on g) serves suits reads h = absurd h
+  visited_read v l m t (NeedsAtoms p) serves suits reads h = ap told_of h
+  visited_read v l m t (Retry c) serves suits reads h = ap told_of h
+  visited_read v l m t (Worn w) serves suits reads h = ap told_of h
+  visited_read v l m t Memory serves suits reads h = ap told_of h
 
   -- What was made of a reply in texts is handed out.
   pub handed_made :
@@ -109,15 +159,17 @@ module _ {T K : Type 0} (term : (ℕ → Chars) → T → Tree) (key : T → K) 
   -- A visit that makes an update.
   pub is_made :
       (v : Visit T K) (l m : Log) (q : Request) (g : ℕ)
+      → Suits v (replies.Done {T = T})
       → ((r : Request) → Asks term key old_text v r → r ≡ q)
       → g ≡ length l.entries
       → Makes l q m
       → IsServed term key old_text new_text v replies.Done g (told_of l) (history_of l) (told_of m)
-  is_made v l m q g only at made =
+  is_made v l m q g suits only at made =
       record {
         generation = generation_same l g at;
         update = Some (kind_of made.entry);
         serves = λ r asks. (done, subst (λ (z : Request). served_now 1 l.goals (history_of l) z ≡ answers done (Some (kind_of made.entry))) (sym (only r asks)) made.served, refl);
+        suits = suits;
         told = told_updated l m made.entry made.made;
       }
 
@@ -127,9 +179,9 @@ module _ {T K : Type 0} (term : (ℕ → Chars) → T → Tree) (key : T → K) 
       → g ≡ length l.entries
       → Makes l (adding_request by (clause_in (term old_text c))) m
       → VisitedNow term key old_text new_text (adding_visit by c) (Served replies.Done g) l m
-  added_visited Text c l m g at made = (follows_none l, is_made (Consult c) l m (consult_clause (clause_in (term old_text c))) g (λ r e. e) at made)
-  added_visited First c l m g at made = (follows_none l, is_made (AssertFirst c) l m (assert_first (clause_in (term old_text c))) g (λ r e. e) at made)
-  added_visited Last c l m g at made = (follows_none l, is_made (AssertLast c) l m (assert_last (clause_in (term old_text c))) g (λ r e. e) at made)
+  added_visited Text c l m g at made = (follows_none l, is_made (Consult c) l m (consult_clause (clause_in (term old_text c))) g tt (λ r e. e) at made)
+  added_visited First c l m g at made = (follows_none l, is_made (AssertFirst c) l m (assert_first (clause_in (term old_text c))) g tt (λ r e. e) at made)
+  added_visited Last c l m g at made = (follows_none l, is_made (AssertLast c) l m (assert_last (clause_in (term old_text c))) g tt (λ r e. e) at made)
 
   pub refused_visited :
       (by : Adding) (c : T) (l m : Log) (e : Tree) (a : Answer T)
@@ -137,11 +189,11 @@ module _ {T K : Type 0} (term : (ℕ → Chars) → T → Tree) (key : T → K) 
       → Handed term new_text (Refused e) a l m
       → VisitedNow term key old_text new_text (adding_visit by c) a l m
   refused_visited Text c l m e a reads h =
-      visited_read (Consult c) l m (Refused e) a (λ r g s. s) (λ q asks. subst (λ (z : Request). Reads l z (Refused e)) (sym asks) reads) h
+      visited_read (Consult c) l m (Refused e) a (λ r g s. s) (λ r s. tt) (λ q asks. subst (λ (z : Request). Reads l z (Refused e)) (sym asks) reads) h
   refused_visited First c l m e a reads h =
-      visited_read (AssertFirst c) l m (Refused e) a (λ r g s. s) (λ q asks. subst (λ (z : Request). Reads l z (Refused e)) (sym asks) reads) h
+      visited_read (AssertFirst c) l m (Refused e) a (λ r g s. s) (λ r s. tt) (λ q asks. subst (λ (z : Request). Reads l z (Refused e)) (sym asks) reads) h
   refused_visited Last c l m e a reads h =
-      visited_read (AssertLast c) l m (Refused e) a (λ r g s. s) (λ q asks. subst (λ (z : Request). Reads l z (Refused e)) (sym asks) reads) h
+      visited_read (AssertLast c) l m (Refused e) a (λ r g s. s) (λ r s. tt) (λ q asks. subst (λ (z : Request). Reads l z (Refused e)) (sym asks) reads) h
 
   -- A goal that a call asks for is one of the predicate and the key in texts.
   pub goal_of :
@@ -161,6 +213,7 @@ module _ {T K : Type 0} (term : (ℕ → Chars) → T → Tree) (key : T → K) 
   says_listed (replies.Clauses f) cs e = (f, refl, e)
   says_listed (replies.Procedures ps) cs e = absurd (cc)
   says_listed (replies.Flags fs) cs e = absurd (cc)
+  says_listed (replies.Operators os) cs e = absurd e
   says_listed (replies.Named n) cs e = absurd (cc)
   says_listed (replies.Message t) cs e = absurd (cc)
   says_listed replies.NoMessage cs e = absurd (cc)

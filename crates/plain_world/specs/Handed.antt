@@ -1,10 +1,14 @@
 -- What an answer says that hands out a reply in texts.
 use Rattle.std.specs.Prelude.{◌≡◌, ℕ, length, Result, Ok, Err}
+use Rattle.std.specs.Arc.{arc_value}
 use Rattle.pl_term.specs.Tree.{Chars, Tree}
+use Rattle.pl_model.specs.OperatorTable.{OperatorTable}
+use Rattle.pl_model.specs.declared.grammar.Quotes.{Quotes}
 use Rattle.pl_model.specs.Requests as requests
 use Rattle.world_api.specs.declared.visit.Visit.{Visit}
 use Rattle.world_api.specs.declared.visit.Visit.TheVariants.{AssertFirst, AssertLast, Consult}
 use Rattle.world_api.specs.declared.reply.Reply.{Reply}
+use Rattle.world_api.specs.declared.reply.Reply.TheVariants as replies
 use Rattle.world_api.specs.declared.answer.Answer.{Answer}
 use Rattle.world_api.specs.declared.answer.Answer.TheVariants.{Served, Waits, NeedsAtoms, Retry, Worn, Memory}
 use Rattle.world_api.specs.declared.unserved.Unserved.{Unserved}
@@ -14,12 +18,19 @@ use Rattle.world_api.specs.Answers.{Visited}
 use Rattle.plain_world.specs.declared.adding.Adding.{Adding}
 use Rattle.plain_world.specs.declared.adding.Adding.TheVariants.{Text, First, Last}
 use Rattle.plain_world.specs.declared.text_reply.TextReply.{TextReply}
+use Rattle.plain_world.specs.declared.text_reply.TextReply.TheVariants.{Standing}
 use Rattle.plain_world.specs.Entries.{Log, history_of, told_of, noted}
 use Rattle.plain_world.specs.TextReplies.{SaysText}
 
+-- The reply has these operators, and this value of the flag.
+abbrev pub IsTable : {T : Type 0} → OperatorTable → Quotes → Reply T → Type 0
+IsTable ops quotes (replies.Standing o q) = (arc_value o ≡ ops) × (q ≡ quotes)
+IsTable ops quotes _ = ⊥
+
 module _ {T : Type 0} (term : (ℕ → Chars) → T → Tree) (text : ℕ → Chars) where
-  -- The reply says whatever the one in texts says.
+  -- The reply says whatever the one in texts says, and of the operators it has their table.
   abbrev pub SaysAs : TextReply → Reply T → Type 0
+  SaysAs (Standing ops quotes) r = IsTable (arc_value ops) quotes r
   SaysAs t r = (x : requests.Reply) → SaysText t x → Says term text r x
 
   -- The reply is handed out, and the visit is noted; or nothing has changed.

@@ -38,6 +38,11 @@ SaysText Gone r = r ≡ gone
 SaysText (Refused e) r = r ≡ refused e
 SaysText _ _ = ⊥
 
+-- The reply has the operators.
+abbrev pub TellsTable : TextReply → Type 0
+TellsTable (Standing ops quotes) = Unit {0}
+TellsTable _ = ⊥
+
 -- The names in the terms of the reply.
 abbrev pub said_texts : TextReply → List Chars
 said_texts (Clauses (Some f)) = texts_in f.clause.now

@@ -10,7 +10,7 @@ ghost use Rattle.world_api.specs.Told.{behind, clause_list, has_place};
 ghost use Rattle.world_api.specs.Visits.{clause_in};
 ghost use Rattle.plain_world.specs.Adding.{adding_request};
 ghost use Rattle.plain_world.specs.Entries.{history_of, noted, state_after};
-ghost use Rattle.plain_world.specs.TextReplies.{Reads, Changes, IsGoalOf, IsFrontOf};
+ghost use Rattle.plain_world.specs.TextReplies.{Reads, Changes, IsGoalOf, IsFrontOf, TellsTable};
 
 use crate::adding::{Adding, adding_entry, put, refusal};
 use crate::entry::Entry;
@@ -112,6 +112,7 @@ impl Journal {
     pub fn standing(&self) -> Result<TextReply<'static>, Memory>
         ensures look { IfOk result (Reads self.now look) }
         ensures read { IfOk result (Reads self.now read_operators) }
+        ensures table { IfOk result TellsTable }
     {
         let operators = self.db.shared_operators()?;
         let quotes = self.db.flags().double_quotes;

@@ -168,7 +168,7 @@ impl<T: Spelled, A: Atoms> PlainWorld<T, A> {
         }
     }
 
-    /// The same for the writing of terms and for current_op/3.
+    /// The same for the writing of terms.
     pub(crate) fn read_operators(&mut self, atoms: &mut A) -> Answer<T>
         ensures visited { VisitedNow T.term T.key_of (text_of (A.held atoms.old)) (text_of (A.held atoms.new)) ReadOperators result self.old.journal self.new.journal }
         ensures names { All (λ a. IsSome (A.held atoms.new a)) (answer_names T.names result) }

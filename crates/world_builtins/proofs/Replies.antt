@@ -1,55 +1,30 @@
 -- What comes of a visit that asks for the operators.
-use Rattle.std.proofs.Common.{◌≡◌, ℕ, List, ◌++◌, length, Option, refl, sym, ap, subst, ◌∙◌}
+use Rattle.std.proofs.Common.{◌≡◌, ℕ, List, ◌++◌, Option, refl, sym, ap, ◌∙◌}
 use Rattle.std.specs.Prelude.{encode_utf8_all}
 use Rattle.pl_term.specs.Tree.{Chars, Tree}
 use Rattle.pl_model.specs.OperatorTable.{OperatorTable}
 use Rattle.pl_model.specs.History.{Kind, History}
-use Rattle.pl_model.specs.SharedState.{state_at}
 use Rattle.pl_model.specs.Requests.{Request, read_operators, standing}
 use Rattle.pl_model.specs.Requests as requests
 use Rattle.pl_model.specs.Service.{answers, waits, serve, served_now}
 use Rattle.pl_model.specs.declared.grammar.Quotes.{Quotes}
 use Rattle.world_api.specs.declared.reply.Reply.{Reply}
-use Rattle.world_api.specs.declared.reply.Reply.TheVariants.{Standing, Clauses, Procedures, Flags, Named, Message, NoMessage, Status, Done, Gone, Refused}
+use Rattle.world_api.specs.declared.reply.Reply.TheVariants.{Standing, Clauses, Procedures, Flags, Operators, Named, Message, NoMessage, Status, Done, Gone, Refused}
 use Rattle.world_api.specs.declared.visit.Visit.TheVariants.{ReadOperators}
 use Rattle.world_api.specs.declared.answer.Answer.TheVariants.{Served}
 use Rattle.world_api.specs.Told.{Told}
-use Rattle.world_api.specs.Replies.{Says}
+use Rattle.world_api.specs.Replies.{HasTable, Says}
 use Rattle.world_api.specs.Answers.{Visited}
 use Rattle.world_api.specs.Asked.{IsInAnswer}
 use Rattle.world_api.specs.Gains.{Gains}
 use Rattle.world_api.proofs.AskedLaws.{operators_ask_nothing}
-use Rattle.world_builtins.specs.Operators.{Stands, HasOperators}
+use Rattle.world_builtins.specs.Operators.{Stands}
 use Rattle.world_builtins.specs.Writing.{IsWritten}
 
 -- The operators are read without waiting.
 pub operators_are_read : (e goals : ℕ) (h : History) → served_now e goals h read_operators ≡ waits → ⊥
 unfolding serve
 operators_are_read e goals h is = absurd (cc)
-
--- What the shared state answers.
-abbrev standing_at : ℕ → ℕ → History → requests.Reply
-standing_at e goals h = let s = state_at goals h (length h) in standing s.operators s.flags.double_quotes
-
-reads_standing : (e goals : ℕ) (h : History) (reply : requests.Reply) (update : Option Kind)
-    → served_now e goals h read_operators ≡ answers reply update → reply ≡ standing_at e goals h
-unfolding serve
-reads_standing e goals h reply update is = cc
-
--- Only a reply with operators says that they stand.
-pub says_standing : {T : Type 0} (term : (ℕ → Chars) → T → Tree) (text : ℕ → Chars) (r : Reply T) (ops : OperatorTable) (quotes : Quotes)
-    → Says term text r (standing ops quotes) → HasOperators r
-says_standing term text (Standing o q) ops quotes s = tt
-says_standing term text (Clauses f) ops quotes s = s
-says_standing term text (Procedures ps) ops quotes s = absurd (cc)
-says_standing term text (Flags fs) ops quotes s = absurd (cc)
-says_standing term text (Named n) ops quotes s = absurd (cc)
-says_standing term text (Message t) ops quotes s = absurd (cc)
-says_standing term text NoMessage ops quotes s = absurd (cc)
-says_standing term text (Status t) ops quotes s = absurd (cc)
-says_standing term text Done ops quotes s = absurd (cc)
-says_standing term text Gone ops quotes s = absurd (cc)
-says_standing term text (Refused e) ops quotes s = absurd (cc)
 
 -- A reply with these operators says just that.
 pub stands_said : {T : Type 0} (term : (ℕ → Chars) → T → Tree) (text : ℕ → Chars) (r : Reply T) (t : OperatorTable) (reply : requests.Reply)
@@ -58,6 +33,7 @@ stands_said term text (Standing o q) t reply s is = (q, is ∙ ap (λ x. standin
 stands_said term text (Clauses f) t reply s is = absurd s
 stands_said term text (Procedures ps) t reply s is = absurd s
 stands_said term text (Flags fs) t reply s is = absurd s
+stands_said term text (Operators os) t reply s is = absurd s
 stands_said term text (Named n) t reply s is = absurd s
 stands_said term text (Message m) t reply s is = absurd s
 stands_said term text NoMessage t reply s is = absurd s
@@ -69,12 +45,8 @@ stands_said term text (Refused e) t reply s is = absurd s
 -- A served visit has operators.
 pub served_stands : {T K : Type 0} (term : (ℕ → Chars) → T → Tree) (key : T → K) (old_text new_text : ℕ → Chars) (r : Reply T) (g : ℕ) (old : Told) (before : History) (new : Told)
     → Visited term key old_text new_text ReadOperators (Served r g) old before new
-    → HasOperators r
-served_stands term key old_text new_text r g old before new v =
-    let s = v.1.serves read_operators refl
-    in let at = state_at old.goals before (length before)
-    in says_standing term new_text r at.operators at.flags.double_quotes
-    (subst (Says term new_text r) (reads_standing old.engine old.goals before s.0 v.1.update s.1) s.2)
+    → HasTable r
+served_stands term key old_text new_text r g old before new v = v.1.suits
 
 -- The text of a term that was written under them.
 pub text_written : {T K : Type 0} (term : (ℕ → Chars) → T → Tree) (key : T → K) (old_text new_text : ℕ → Chars) (r : Reply T) (g : ℕ) (old : Told) (before : History) (new : Told)

@@ -36,6 +36,7 @@ read_still {T = T} {K = K} term key old_text new_text ops n e =
       update = None;
       serves =
           λ q is. (standing (arc_value ops) Codes, subst (λ (p : Request). served_now 1 0 [] p ≡ answers (standing (arc_value ops) Codes) None) (sym is) (operators_stand (arc_value ops) e), refl);
+      suits = tt;
       told = ap (λ l. let t : Told = record { engine = 1; goals = 0; history = []; gens = l } in t) (one_more n);
     }
 

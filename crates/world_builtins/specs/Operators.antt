@@ -9,8 +9,3 @@ use Rattle.world_api.specs.declared.reply.Reply.TheVariants.{Standing}
 abbrev pub Stands : {T : Type 0} → Reply T → OperatorTable → Type 0
 Stands (Standing ops quotes) t = t ≡ arc_value ops
 Stands _ t = ⊥
-
--- It has some.
-abbrev pub HasOperators : {T : Type 0} → Reply T → Type 0
-HasOperators (Standing ops quotes) = Unit {0}
-HasOperators _ = ⊥

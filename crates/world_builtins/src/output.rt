@@ -4,11 +4,12 @@ ghost use Rattle.std.specs.Arc.{arc_value};
 ghost use Rattle.pl_model.specs.TermWriting.{write_canonical};
 ghost use Rattle.term_store.specs.Contents.{Holds};
 ghost use Rattle.term_writer.specs.Writings.{IsBegun};
+ghost use Rattle.world_api.specs.Replies.{HasTable};
 ghost use Rattle.world_api.specs.Told.{has_ended};
 ghost use Rattle.world_api.specs.Texts.{Holds as HoldsOn};
 ghost use Rattle.world_api.specs.Unserved.{OnRefusal, refusals_in};
 ghost use Rattle.world_builtins.specs.Naming.{IsHeldAt};
-ghost use Rattle.world_builtins.specs.Operators.{HasOperators, Stands};
+ghost use Rattle.world_builtins.specs.Operators.{Stands};
 ghost use Rattle.world_builtins.specs.Spelling.{reads};
 ghost use Rattle.world_builtins.specs.Styles.{text_by};
 ghost use Rattle.world_builtins.specs.Writing.{IsWritten};
@@ -27,7 +28,7 @@ use world_api::{Answer, Reply, Unserved, Visit, World};
 
 /// The operators of a reply that has some.
 fn operators_of<T: Drop>(reply: Reply<T>) -> Arc<OpTable>
-    requires { HasOperators reply }
+    requires { HasTable reply }
     ensures { Stands reply (arc_value result) }
 {
     match reply {

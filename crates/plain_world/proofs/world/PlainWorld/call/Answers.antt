@@ -17,7 +17,7 @@ returns-in-Ok-call-clause-visited g c =
     let new = text_of (g.A.Atoms.held c.read_reply-made.new.atoms) in
     let key = c.in-Ok-known_key.key in
     visited_read g.T.Kept.term g.T.Kept.key_of old new (Call c.args.procedure.now c.args.first.now) l c.answered.new.self.journal c.in-Ok-call.reply c.answered.result
-    (λ r n s. s)
+    (λ r n s. s) (λ r s. tt)
     (λ q asks. subst (λ (z : Request). Reads l z c.in-Ok-call.reply) (sym asks.2)
     (c.in-Ok-call.ensures asks.0
     (subst (λ (p : Proc). IsGoalOf p key asks.0) (sym c.in-Ok.ensures.spelled)
