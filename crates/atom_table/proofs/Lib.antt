@@ -8,5 +8,6 @@ pub mod Loading
 pub mod Naming
 pub mod Scans
 pub mod Refusals
+pub mod Acking
 pub mod Rowed
 pub mod RowAnswers

@@ -13,6 +13,7 @@ use Rattle.atom_words.specs.declared.kind.Kind.TheVariants.{Load, Mark, Scan, Ac
 use Rattle.bucket_rows.specs.Cycles.{Marks, Unmarked, BeginsBy, last_epoch}
 use Rattle.bucket_rows.specs.declared.slots.Verdict.{Verdict}
 use Rattle.bucket_rows.specs.Sweeps.{Run}
+use Rattle.atom_api.specs.Names.{Names, cut}
 use Rattle.atom_table.specs.Naming.{those}
 use Rattle.atom_table.specs.declared.marking.Marked.{Marked}
 use Rattle.atom_table.specs.declared.marking.Marked.TheVariants.{Acked, NoCycle}
@@ -34,6 +35,11 @@ AllHeld live v = (k : ℕ) → In k live → (h : Held) × Has v h × (h.slot �
 abbrev pub AcksBy : List ℕ → View → Marked → View → Type 0
 AcksBy live v (Acked e) w = (x : ℕ) × Marks v x × (e ≡ epoch_of x) × (w ≡ after v (Mark x (those live v.held) ∷ (scans live ++ Ack ∷ [])))
 AcksBy live v (NoCycle x) w = Unmarked v x × (w ≡ after v (Load 0 x ∷ []))
+
+-- what is held after that: just the atoms of the list and the fixed ones, where the epoch was acknowledged, or what was held before
+abbrev pub HoldsAfter : List ℕ → Names → Marked → Names → Type 0
+HoldsAfter live m (Acked e) n = n ≡ cut live m
+HoldsAfter live m (NoCycle x) n = n ≡ m
 
 -- what the collector keeps at run time of its view: the epoch word, how many engines it found to have acknowledged, and the slot that the sweep has come to. Between its calls no slot is dying
 abbrev pub word_known : ℕ → Option Sweeping → ℕ

@@ -1,5 +1,6 @@
 //! Atoms over the table and one seat.
-ghost use Rattle.std.specs.Prelude.{◌≡◌, ◌<◌, ℕ, true, false, List, [], ◌∷◌, Some};
+ghost use Rattle.std.specs.Prelude.{◌≡◌, ◌<◌, ℕ, true, false, List, [], ◌∷◌, Some, IsSome};
+ghost use Rattle.std.specs.List.{All};
 ghost use Rattle.pl_term.specs.Tree.{Chars};
 ghost use Rattle.atom_words.specs.Kinds.{view_after, after};
 ghost use Rattle.atom_words.specs.Chains.{In};
@@ -9,8 +10,10 @@ ghost use Rattle.atom_words.specs.declared.kind.Kind.TheVariants.{Keep};
 ghost use Rattle.atom_table.specs.Holding.{Sits, IsEngine};
 ghost use Rattle.atom_table.specs.Opening.{fixed_slots};
 ghost use Rattle.atom_table.specs.Naming.{names, requests, those, Lawful};
+ghost use Rattle.atom_table.specs.Collecting.{AcksBy, HoldsAfter};
 ghost use Rattle.atom_table.specs.Tables.{SitsAt, are_so, size_is, table_is};
 
+use crate::marking::Marked;
 use crate::table::AtomTable;
 use atom_api::{Atom, Atoms, Interned, TextBuf};
 use atom_words::{AtomSeat, Keeping, Keeps, View, Words};
@@ -77,6 +80,20 @@ impl<'a, K: NamesTable> TableAtoms<'a, K> {
         ensures refused { are_so (seen result) ≡ true }
     {
         self.seat
+    }
+
+    /// The engine takes part in a cycle of collection with the atoms of the list, each of which it holds. Where a cycle marks
+    /// that it has not acknowledged, it marks each of them and acknowledges, after which it holds just those and the fixed
+    /// atoms. Else nothing is changed. It takes no memory, and makes at most two steps more than the list is long.
+    pub fn acknowledge(&mut self, live: &[Atom]) -> Marked
+        requires held { All (λ a. IsSome (names (seen self.old.seat) a)) live.now }
+        ensures same { Same self.old.seat self.new.seat }
+        ensures names { HoldsAfter live.now (names (seen self.old.seat)) result (names (seen self.new.seat)) }
+        ensures refusals { (seen self.new.seat).refusals ≡ (seen self.old.seat).refusals }
+        ensures asked { requests (seen self.new.seat) ≡ requests (seen self.old.seat) }
+        ensures steps { AcksBy live.now (seen self.old.seat) result (seen self.new.seat) }
+    {
+        self.table.mark_and_ack(&mut self.seat, live)
     }
 }
 
