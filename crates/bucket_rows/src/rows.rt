@@ -15,7 +15,7 @@ pub fn text_row(text: &[u8]) -> [u64; 32]
     ensures { result ≡ row_of text.now }
 {
     let mut row = [0u64; 32];
-    for i in 0..32 {
+    for i in 0..1 + (text.len() + 7) / 8 {
         row[i] = row_word(text, i);
     }
     row
