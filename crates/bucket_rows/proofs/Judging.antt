@@ -1,14 +1,20 @@
 -- The sweep of a slot: the view from step to step.
-use Rattle.std.proofs.Common.{◌≡◌, ℕ, ◌+◌, ◌<◌, List, [], ◌∷◌, ◌++◌, length, refl, sym, ap, ◌∙◌, subst, arith, Some, option_map}
+use Rattle.std.proofs.Common.{◌≡◌, ◌≢◌, ◌⊎◌, ℕ, ◌+◌, ◌<◌, List, [], ◌∷◌, ◌++◌, length, refl, sym, ap, ◌∙◌, subst, inr, ⊎_elim, append_assoc, arith, Some, option_map}
 use Rattle.atom_words.specs.Layout.{version_of, last}
+use Rattle.atom_words.specs.Board.{atom_at}
 use Rattle.atom_words.specs.Kinds.{looking, passing, freeing, after}
+use Rattle.atom_words.specs.declared.size.Size.{Size}
 use Rattle.atom_words.specs.declared.view.Sweeping.{Sweeping}
 use Rattle.atom_words.specs.declared.view.View.{View}
+use Rattle.atom_words.specs.declared.kind.Kind.{Kind}
 use Rattle.atom_words.specs.declared.kind.Kind.TheVariants.{Load, Start, Look, Condemn, PassOver, Free}
 use Rattle.atom_words.proofs.Slices.{some_same}
 use Rattle.bucket_rows.specs.declared.slots.Verdict.{Verdict}
+use Rattle.bucket_rows.specs.declared.slots.Verdict.TheVariants.{Passed}
 use Rattle.bucket_rows.specs.Treads.{spells, AtSlot, Found, Treads, Reached, Caught, OutOf}
-use Rattle.bucket_rows.specs.Sweeps.{At, SweptBy, Run}
+use Rattle.bucket_rows.specs.Sweeps.{At, JudgedBy, SweptBy, Run}
+use Rattle.bucket_rows.proofs.Removing.{then_steps}
+use Rattle.bucket_rows.proofs.SweepKinds.{kinds_append}
 use Rattle.bucket_rows.proofs.Treading.{spells_know, treads_condemn}
 
 pub at_of : (k : ℕ) (v : View) → AtSlot k v → At k v
@@ -45,6 +51,23 @@ freed_at k v u o is = (freeing o.0, (ap (λ (y : View). y.sweep) is ∙ ap (opti
 -- the sweep goes on
 pub passed_at : (k x : ℕ) (v u : View) → AtSlot k v → u ≡ after v (PassOver x ∷ []) → AtSlot (k + 1) u
 passed_at k x v u a is = (passing a.0, (ap (λ (y : View). y.sweep) is ∙ ap (option_map passing) a.1.0, a.1.1), a.2, a.3, ap (λ (n : ℕ). n + 1) a.4)
+
+-- a load leaves the sweep where it is
+pub loaded_at : (k i x : ℕ) (v u : View) → AtSlot k v → u ≡ after v (Load i x ∷ []) → AtSlot k u
+loaded_at k i x v u a is = subst (AtSlot k) (sym is) (a.0, a.1, a.2, a.3, a.4)
+
+-- a slot that was passed without an exchange, or by one after a load that found its mark
+pub swept_kept : (k word r x : ℕ) (z : Size) (v u w : View) → v.size ≡ z → JudgedBy k v (Passed word) u
+    → ((r ≡ word) × (w ≡ after u (PassOver x ∷ []))) ⊎ ((r ≢ 3) × (w ≡ after u (Load (atom_at z k) r ∷ PassOver x ∷ []))) → SweptBy k v (Passed r) w
+swept_kept k word r x z v u w size e told = ⊎_elim
+    (λ (t : (r ≡ word) × (w ≡ after u (PassOver x ∷ []))). subst (λ (n : ℕ). SweptBy k v (Passed n) w) (sym t.0) (e.0, x, then_steps v u w e.0 (PassOver x ∷ []) e.1 t.1, e.2, e.3))
+    (λ (t : (r ≢ 3) × (w ≡ after u (Load (atom_at z k) r ∷ PassOver x ∷ []))). let here : List Kind = Load (atom_at v.size k) r ∷ [] in (
+      e.0 ++ here,
+      x,
+      then_steps v u w e.0 (Load (atom_at v.size k) r ∷ PassOver x ∷ []) e.1 (t.1 ∙ ap (λ (y : Size). after u (Load (atom_at y k) r ∷ PassOver x ∷ [])) (sym size)) ∙ ap (after v) (sym (append_assoc e.0 here (PassOver x ∷ []))),
+      (t.0, (e.0, inr refl)),
+      kinds_append e.0 here e.3 (tt, tt),
+    )) told
 
 -- one run after another
 pub run_more : (k : ℕ) (rs : List Verdict) (r : Verdict) (v u w : View) → Run k rs v u → SweptBy (k + length rs) u r w → Run k (rs ++ r ∷ []) v w

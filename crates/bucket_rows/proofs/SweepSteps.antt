@@ -6,8 +6,9 @@ use mathlib.Core.Option.{none, some}
 use native.Mathlib.Decide.{ℕ_discrete}
 use prog.Atomic.{either}
 use lib.ListN.{get_elem?}
+use lib.Seq.{set-get_or}
 use Rattle.atomic_table.specs.Table.{step, Allows}
-use Rattle.atom_words.specs.Layout.{first_of, closed_of, version_of, head_word, last, epoch_word, epoch_of}
+use Rattle.atom_words.specs.Layout.{mark_of, first_of, closed_of, version_of, head_word, last, epoch_word, epoch_of}
 use Rattle.atom_words.specs.Board.{Board, atom, link, head, atom_at, link_at, head_at, text_at, text_of, with_atom, with_head}
 use Rattle.atom_words.specs.Chains.{In, Chain}
 use Rattle.atom_words.specs.Kinds.{unmarked, Sweeps, Dying, Unlinked, view_after, Does}
@@ -26,7 +27,7 @@ use Rattle.atom_words.proofs.Rowing.{early_sweep, chains_at_work}
 use Rattle.atom_words.proofs.Sweeps.{swept_by}
 use Rattle.atom_words.proofs.WalkSteps.{text_word}
 use Rattle.atom_words.proofs.Adapters.{Sat, atom_goes, atom_load, atom_exchange, link_load, link_goes, head_load, head_exchange, text_load}
-use Rattle.bucket_rows.specs.Plays.{looked, text_read, condemned, passed, traced, trod, behind_read, unlinked_at, unlinked_head, head_noted, bumped, freed, ended}
+use Rattle.bucket_rows.specs.Plays.{looked, text_read, condemned, passed, unmarked_passed, traced, trod, behind_read, unlinked_at, unlinked_head, head_noted, bumped, freed, ended}
 use Rattle.bucket_rows.proofs.Words.{epoch_goes}
 use Rattle.bucket_rows.proofs.Aheads.{ahead_after}
 
@@ -34,6 +35,10 @@ pub and_unmark : (n : ℕ) → n < 18446744073709551616 → bit_and n 1844674407
 and_unmark n small = let e : bit_and (n / 8 * 8 + n % 8) (2305843009213693951 * 8 + 3) ≡ bit_and (n / 8) 2305843009213693951 * 8 + bit_and (n % 8) 3 = and_block 3 (n / 8) 2305843009213693951 (n % 8) 3 (omega arith) (omega arith) in
     let high : bit_and (n / 8) 2305843009213693951 ≡ n / 8 % 2305843009213693952 = and_mask (n / 8) 61 in let low : bit_and (n % 8) 3 ≡ n % 8 % 4 = and_mask (n % 8) 2 in
     let whole : n ≡ n / 8 * 8 + n % 8 = omega arith in ap (λ (m : ℕ). bit_and m 18446744073709551611) whole ∙ (e ∙ (let sum : bit_and (n / 8) 2305843009213693951 * 8 + bit_and (n % 8) 3 ≡ unmarked n = omega arith in sum))
+
+-- a word without a mark stays as it is where its mark is cleared
+unmarked_same : (b : Board) (k : ℕ) → mark_of (atom b k) ≡ 0 → b ≡ with_atom b k (unmarked (atom b k))
+unmarked_same b k bare = let plain : unmarked (atom b k) ≡ atom b k = omega arith in sym (ap (with_atom b k) plain ∙ ap (λ (l : List ℕ). let y : Board = record b { atoms = l } in y) (set-get_or b.atoms k 0))
 
 -- the link word of a slot of a chain is 0 or a slot's number plus one
 chain_link : (links : List ℕ) (p k : ℕ) (ks : List ℕ) → Chain links p ks → In k ks → get_or links k 0 ≤ length links
@@ -77,6 +82,18 @@ module _ (key : Size) (slots id : ℕ) (me : Sat) (is : key ≡ me.0.size) (here
         (y, q, idle, subst (λ (n : ℕ). n < me.0.size.slots) (sym cursor) inside, ap (atom b) cursor, λ j. with_atom b (sym cursor j) (and_unmark (atom b k) small j)),
         (refl, refl),
       )))
+
+  -- by a load, where the slot has no mark
+  pub passing_unmarked : (i k : ℕ) (y : Sweeping) → Sweeps me.0 y → y.dying ≡ 0 → y.cursor ≡ k → k < me.0.size.slots → i ≡ atom_at me.0.size k → Allows (Rule key) slots id me i (λ n. n) (unmarked_passed (step slots i 0 0 none) me)
+  passing_unmarked i k y q idle cursor inside at = subst (λ (w : ℕ). Allows (Rule key) slots id me w (λ n. n) (unmarked_passed (step slots w 0 0 none) me)) (sym at)
+      (atom_load key me.0.size slots id me k (unmarked_passed (step slots (atom_at me.0.size k) 0 0 none) me) is here inside
+      (λ b vs r seen small. dite (ℕ_discrete (mark_of (atom b k)) 0)
+      (λ (bare : mark_of (atom b k) ≡ 0). (
+        PassOver (atom b k),
+        (y, q, idle, subst (λ (n : ℕ). n < me.0.size.slots) (sym cursor) inside, ap (atom b) cursor, unmarked_same b k bare ∙ ap (λ (n : ℕ). with_atom b n (unmarked (atom b k))) (sym cursor)),
+        (refl, (λ _. refl), λ ne. absurd (ne bare)),
+      ))
+      (λ (set_ : ¬ (mark_of (atom b k) ≡ 0)). (Load (atom_at me.0.size k) (atom b k), (atom_read me.0.size b r.sized k inside, refl), (refl, (λ e. absurd (set_ e)), λ _. refl)))))
 
   -- in a sweep no slot is moved to another row
   not_moving : (b : Board) (vs : List View) (r : Kept me.0.size b vs) → get_elem? vs id ≡ some me.0 → (y : Sweeping) → Sweeps me.0 y → me.0.growing.moving ≡ 0

@@ -1,7 +1,7 @@
 -- What each step tells its caller: of the step, the seat before, the number found (at a store, the number stored) and the seat after.
 use Rattle.std.specs.Prelude.{◌≡◌, ◌≢◌, ◌<◌, ◌≤◌, ℕ, false, List, Some}
 use Rattle.atomic_table.specs.Table.{Me, Step}
-use Rattle.atom_words.specs.Layout.{version_of, last, epoch_of}
+use Rattle.atom_words.specs.Layout.{mark_of, version_of, last, epoch_of}
 use Rattle.atom_words.specs.Board.{atom_at, link_at, head_at}
 use Rattle.atom_words.specs.Kinds.{RowOk, view_after}
 use Rattle.atom_words.specs.Plays.{Is}
@@ -60,6 +60,10 @@ condemned st m r m' = (m'.1 ≡ m.1) × (r ≡ 3 → m'.0 ≡ view_after m.0 Con
 
 abbrev pub passed : At → Sat → ℕ → Sat → Type 0
 passed st m r m' = Is (PassOver r) m m'
+
+-- it is passed by a load, where it has no mark
+abbrev pub unmarked_passed : At → Sat → ℕ → Sat → Type 0
+unmarked_passed st m r m' = (m'.1 ≡ m.1) × (mark_of r ≡ 0 → m'.0 ≡ view_after m.0 (PassOver r)) × (mark_of r ≢ 0 → m'.0 ≡ view_after m.0 (Load st.word r))
 
 -- the collector's walk begins; it goes on
 abbrev pub traced : At → Sat → ℕ → Sat → Type 0

@@ -47,7 +47,7 @@ pub use rows::{bucket, hash, row_heads, row_in_use, text_row};
 pub use runs::sweep_run;
 pub use slots::{Verdict, sweep_slot};
 pub use spells::{row_bucket, spell_row};
-pub use sweeps::{condemn, finish, look, pass, trace};
+pub use sweeps::{condemn, finish, look, pass, pass_unmarked, trace};
 pub use treads::tread;
 pub use unlinks::{bump, free, note, read_behind, unlink_at, unlink_head};
 pub use walks::walk;

@@ -1,5 +1,5 @@
 //! What each step tells its caller.
-ghost use Rattle.bucket_rows.specs.Plays.{row_read, word_known, begun, mark_read, scanned, acknowledged, engine_checked, turned, looked, text_read, condemned, passed, traced, trod, behind_read, unlinked_at, unlinked_head, head_noted, bumped, freed, ended};
+ghost use Rattle.bucket_rows.specs.Plays.{row_read, word_known, begun, mark_read, scanned, acknowledged, engine_checked, turned, looked, text_read, condemned, passed, unmarked_passed, traced, trod, behind_read, unlinked_at, unlinked_head, head_noted, bumped, freed, ended};
 
 use atom_words::{Keeps, View};
 use atomic_table::Play;
@@ -89,6 +89,13 @@ pub struct Passing;
 
 impl Play<(), View> for Passing {
     ghost then = { passed };
+}
+
+/// The load of that slot's word, with which the sweep goes on where it has no mark.
+pub struct PassingUnmarked;
+
+impl Play<(), View> for PassingUnmarked {
+    ghost then = { unmarked_passed };
 }
 
 /// The load of the head that the collector's walk begins with.

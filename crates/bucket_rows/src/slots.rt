@@ -1,12 +1,12 @@
 //! The sweep of one slot.
-ghost use Rattle.std.specs.Prelude.{◌≡◌, ◌≢◌, ℕ, ◌+◌, ◌<◌, ◌≤◌, List, [], ◌∷◌, ◌++◌, MatchResult};
+ghost use Rattle.std.specs.Prelude.{◌≡◌, ◌≢◌, ◌⊎◌, ℕ, ◌+◌, ◌<◌, ◌≤◌, List, [], ◌∷◌, ◌++◌, MatchResult};
 ghost use Rattle.atom_words.specs.Layout.{version_of, last};
 ghost use Rattle.atom_words.specs.Texts.{bucket};
 ghost use Rattle.atom_words.specs.Board.{atom_at};
 ghost use Rattle.atom_words.specs.Kinds.{after};
 ghost use Rattle.atom_words.specs.Seats.{seen, Fits, Same};
 ghost use Rattle.atom_words.specs.declared.kind.Kind.{Kind};
-ghost use Rattle.atom_words.specs.declared.kind.Kind.TheVariants.{Load, Start, Condemn, Free};
+ghost use Rattle.atom_words.specs.declared.kind.Kind.TheVariants.{Load, Start, Condemn, PassOver, Free};
 ghost use Rattle.bucket_rows.specs.Treads.{spells, AtSlot, Found, Reached};
 ghost use Rattle.bucket_rows.specs.SweepKinds.{SweepKinds};
 ghost use Rattle.bucket_rows.specs.Sweeps.{JudgedBy, SweptBy};
@@ -14,7 +14,7 @@ ghost use Rattle.bucket_rows.specs.Sweeps.{JudgedBy, SweptBy};
 use crate::removal::unlink;
 use crate::rows::row_in_use;
 use crate::spells::{row_bucket, spell_row};
-use crate::sweeps::{condemn, look, pass, trace};
+use crate::sweeps::{condemn, look, pass, pass_unmarked, trace};
 use crate::treads::tread;
 use crate::unlinks::free;
 use atom_words::{AtomSeat, Words};
@@ -100,6 +100,26 @@ fn judge(words: &Words, seat: &mut AtomSeat, slot: u32) -> Verdict
     }
 }
 
+// Goes on from a slot whose word was just found to be another than 3, by a load where it has no mark. The answer is its word, as
+// it was read last before that.
+fn pass_kept(words: &Words, seat: &mut AtomSeat, slot: u32, word: u64) -> u64
+    requires fits { Fits words.now seat.old }
+    requires slot { slot < words.now.size.slots }
+    requires at { AtSlot slot (seen seat.old) }
+    ensures same { Same seat.old seat.new }
+    ensures fits { Fits words.now seat.new }
+    ensures steps { (x : ℕ) × (((result ≡ word) × (seen seat.new ≡ after (seen seat.old) (PassOver x ∷ []))) ⊎ ((result ≢ 3) × (seen seat.new ≡ after (seen seat.old) (Load (atom_at words.now.size slot) result ∷ PassOver x ∷ [])))) }
+    ensures at { AtSlot (slot + 1) (seen seat.new) }
+{
+    match pass_unmarked(words, seat, slot) {
+        Ok(()) => word,
+        Err(marked) => {
+            pass(words, seat, slot);
+            marked
+        }
+    }
+}
+
 /// Sweeps the slot that the sweep has come to, and goes on to the next: the slot is freed where it is one from 256 on whose
 /// word, as it was read last, is valid, without mark and count, in a bucket whose version is not the last. Else its mark is
 /// cleared.
@@ -113,6 +133,9 @@ pub fn sweep_slot(words: &Words, seat: &mut AtomSeat, slot: u32) -> Verdict
     ensures at { AtSlot (slot + 1) (seen seat.new) }
 {
     let verdict = judge(words, seat, slot);
+    if let Verdict::Passed(word) = verdict {
+        return Verdict::Passed(pass_kept(words, seat, slot, word));
+    }
     pass(words, seat, slot);
     verdict
 }

@@ -1,6 +1,6 @@
 //! The steps of a sweep at the slot that it has come to.
 ghost use Rattle.std.specs.Prelude.{◌≡◌, ◌≢◌, ℕ, ◌+◌, ◌<◌, ◌≤◌, [], ◌∷◌, Some, MatchResult};
-ghost use Rattle.atom_words.specs.Layout.{version_of, last};
+ghost use Rattle.atom_words.specs.Layout.{mark_of, version_of, last};
 ghost use Rattle.atom_words.specs.Board.{atom_at};
 ghost use Rattle.atom_words.specs.Kinds.{Sweeps, after};
 ghost use Rattle.atom_words.specs.Seats.{seen, Fits, Same};
@@ -10,7 +10,7 @@ ghost use Rattle.atom_words.specs.declared.kind.Kind.TheVariants.{Load, Start, L
 ghost use Rattle.bucket_rows.specs.Sweeps.{At};
 ghost use Rattle.bucket_rows.specs.Treads.{Ahead};
 
-use crate::plays::{Condemning, Ending, Looking, Passing, Tracing};
+use crate::plays::{Condemning, Ending, Looking, Passing, PassingUnmarked, Tracing};
 use atom_words::{AtomSeat, Words};
 
 /// Loads the word of the slot that the sweep has come to, and answers it.
@@ -39,6 +39,29 @@ pub fn pass(words: &Words, seat: &mut AtomSeat, slot: u32) -> u64
         .table
         .shared
         .fetch_and::<Passing>(&mut seat.seat, place, 18_446_744_073_709_551_611)
+}
+
+/// Goes on to the next slot by a load of the word of the slot that the sweep has come to, where it has no mark.
+///
+/// # Errors
+/// The word that was found, which has its mark set. The sweep does not go on.
+pub fn pass_unmarked(words: &Words, seat: &mut AtomSeat, slot: u32) -> Result<(), u64>
+    requires fits { Fits words.now seat.old }
+    requires slot { slot < words.now.size.slots }
+    requires at { At slot (seen seat.old) }
+    ensures same { Same seat.old seat.new }
+    ensures steps { MatchResult result (λ _. (x : ℕ) × (mark_of x ≡ 0) × (seen seat.new ≡ after (seen seat.old) (PassOver x ∷ []))) (λ x. (mark_of x ≢ 0) × (seen seat.new ≡ after (seen seat.old) (Load (atom_at words.now.size slot) x ∷ []))) }
+{
+    let place = words.atom_place(slot);
+    let found = words
+        .table
+        .shared
+        .load::<PassingUnmarked>(&mut seat.seat, place);
+    if found / 4 % 2 == 0 {
+        Ok(())
+    } else {
+        Err(found)
+    }
 }
 
 /// Begins a walk of the collector's over the chain of a head, while the cycle sweeps, and answers the head's word.

@@ -1,9 +1,16 @@
-use Rattle.std.proofs.Common.{ℕ, [], ◌∷◌}
+use Rattle.std.proofs.Common.{ℕ, [], ◌∷◌, subst}
 use Rattle.atom_words.specs.Seats.{seen}
 use Rattle.atom_words.specs.declared.kind.Kind.TheVariants.{PassOver}
+use Rattle.bucket_rows.specs.declared.slots.Verdict.{Verdict}
+use Rattle.bucket_rows.specs.Sweeps.{JudgedBy}
 use Rattle.bucket_rows.proofs.Removing.{then_steps}
-use Rattle.bucket_rows.proofs.Judging.{passed_at}
+use Rattle.bucket_rows.proofs.Judging.{passed_at, swept_kept}
 use Rattle.bucket_rows.proofs.slots.sweep_slot.Goals as goal
+
+pub returns-in-Passed-clause-steps : goal.returns-in-Passed-clause-steps
+returns-in-Passed-clause-steps c = let e = c.pass_kept.ensures.steps in
+    swept_kept c.args.slot c.in-Passed.word c.pass_kept.result e.0 c.args.words.now.size (seen c.args.seat.now) (seen c.judge-verdict.new.seat) (seen c.pass_kept.new.seat) c.requires.fits.1
+    (subst (λ (r : Verdict). JudgedBy c.args.slot (seen c.args.seat.now) r (seen c.judge-verdict.new.seat)) c.in-Passed.is c.judge-verdict.ensures.steps) e.1
 
 pub returns-clause-steps : goal.returns-clause-steps
 returns-clause-steps c = let e = c.judge-verdict.ensures.steps in let x : ℕ = c.pass.result in
