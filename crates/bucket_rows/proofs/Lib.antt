@@ -23,3 +23,4 @@ pub mod RowGoes
 pub mod RowLaws
 pub mod RowMoves
 pub mod RowViews
+pub mod Seeing

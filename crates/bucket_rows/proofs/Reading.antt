@@ -20,7 +20,7 @@ use Rattle.atom_words.proofs.Putting.{after_more, puts_keep, puts_own}
 use Rattle.atom_words.proofs.Slices.{at_snoc}
 use Rattle.bucket_rows.specs.declared.missed.Missed.{Missed}
 use Rattle.bucket_rows.specs.declared.missed.Missed.TheVariants.{Moved, Pending, Closed, Worn}
-use Rattle.bucket_rows.specs.Walks.{Dying, Passed, reads, goes_on, passes, meets, Another, Others, WalksBy, Goes, Missing, MissingIn, Ready, Aside, held_after, refused_after}
+use Rattle.bucket_rows.specs.Walks.{Dying, Passed, reads, guards, goes_on, passes, meets, Another, Others, WalksBy, Goes, Missing, MissingIn, Ready, Aside, held_after, refused_after}
 use Rattle.bucket_rows.specs.Standing.{Standing, Ends, Meets}
 
 -- STEPS ONE AFTER THE OTHER
@@ -55,9 +55,30 @@ aside_reads v [] = aside_refl v
 aside_reads v (x ∷ ws) = let one : View = view_after v (Read x) in
     aside_trans v one (after one (reads ws)) (record { gone = refl; size = refl; own = refl; fixed = refl; counts = refl; pass = refl; asked = refl; undealt = refl; cycle = refl; sweep = refl; risen = refl }) (aside_reads one ws)
 
+-- a slot's mark is set
+pub aside_guards : (v : View) (l : Option (ℕ × ℕ)) (k x : ℕ) → Aside v (after v (guards l k x))
+aside_guards v None k x = record { gone = refl; size = refl; own = refl; fixed = refl; counts = refl; pass = refl; asked = refl; undealt = refl; cycle = refl; sweep = refl; risen = refl }
+aside_guards v (Some l) k x = record { gone = refl; size = refl; own = refl; fixed = refl; counts = refl; pass = refl; asked = refl; undealt = refl; cycle = refl; sweep = refl; risen = refl }
+
+-- what that leaves of the view, and what the walk learns
+pub record Guarded (k x : ℕ) (v u : View) : Type 0 where
+  pub aside : Aside v u
+  pub held : u.held ≡ v.held
+  pub refusals : u.refusals ≡ v.refusals
+  pub walk : u.walk ≡ option_map (guarding k x) v.walk
+  pub made : (before : List Kind) × (u.made ≡ before ++ Protect k x ∷ [])
+
+guards_leave : (v : View) (l : Option (ℕ × ℕ)) (k x : ℕ) → Guarded k x v (after v (guards l k x))
+guards_leave v None k x = record { aside = aside_guards v None k x; held = refl; refusals = refl; walk = refl; made = (v.made, refl) }
+guards_leave v (Some l) k x = record { aside = aside_guards v (Some l) k x; held = refl; refusals = refl; walk = refl; made = (v.made ++ Load l.0 l.1 ∷ [], refl) }
+
+pub guarded_as : (v u : View) (l : Option (ℕ × ℕ)) (k x : ℕ) → u ≡ after v (guards l k x) → Guarded k x v u
+guarded_as v u l k x is = subst (Guarded k x v) (sym is) (guards_leave v l k x)
+
 aside_on : (v : View) (d : Option Dying) (x : ℕ) → Aside v (after v (goes_on d x))
 aside_on v None x = record { gone = refl; size = refl; own = refl; fixed = refl; counts = refl; pass = refl; asked = refl; undealt = refl; cycle = refl; sweep = refl; risen = refl }
-aside_on v (Some d) x = record { gone = refl; size = refl; own = refl; fixed = refl; counts = refl; pass = refl; asked = refl; undealt = refl; cycle = refl; sweep = refl; risen = refl }
+aside_on v (Some d) x = let u : View = after v (guards d.loaded d.slot d.word) in subst (Aside v) (sym (after_both v (guards d.loaded d.slot d.word) (Skip x ∷ [])))
+    (aside_trans v u (view_after u (Skip x)) (aside_guards v d.loaded d.slot d.word) (record { gone = refl; size = refl; own = refl; fixed = refl; counts = refl; pass = refl; asked = refl; undealt = refl; cycle = refl; sweep = refl; risen = refl }))
 
 pub aside_passes : (v : View) (ps : List Passed) → Aside v (after v (passes ps))
 aside_passes v [] = aside_refl v
@@ -75,11 +96,16 @@ pub record Keeps {A : Type 0} (f : View → A) : Type 0 where
   pub read : (v : View) (x : ℕ) → f (view_after v (Read x)) ≡ f v
   pub next : (v : View) (x : ℕ) → f (view_after v (Next x)) ≡ f v
   pub guard : (v : View) (k x : ℕ) → f (view_after v (Protect k x)) ≡ f v
+  pub load : (v : View) (i x : ℕ) → f (view_after v (Load i x)) ≡ f v
   pub skip : (v : View) (x : ℕ) → f (view_after v (Skip x)) ≡ f v
+
+guards_keep : {A : Type 0} (f : View → A) → Keeps f → (v : View) (l : Option (ℕ × ℕ)) (k x : ℕ) → f (after v (guards l k x)) ≡ f v
+guards_keep f same v None k x = same.guard v k x
+guards_keep f same v (Some l) k x = same.guard (view_after v (Load l.0 l.1)) k x ∙ same.load v l.0 l.1
 
 on_keep : {A : Type 0} (f : View → A) → Keeps f → (v : View) (d : Option Dying) (x : ℕ) → f (after v (goes_on d x)) ≡ f v
 on_keep f same v None x = same.next v x
-on_keep f same v (Some d) x = same.skip (view_after v (Protect d.slot d.word)) x ∙ same.guard v d.slot d.word
+on_keep f same v (Some d) x = ap f (after_both v (guards d.loaded d.slot d.word) (Skip x ∷ [])) ∙ (same.skip (after v (guards d.loaded d.slot d.word)) x ∙ guards_keep f same v d.loaded d.slot d.word)
 
 pub passes_keep : {A : Type 0} (f : View → A) → Keeps f → (v : View) (ps : List Passed) → f (after v (passes ps)) ≡ f v
 passes_keep f same v [] = refl
@@ -87,10 +113,10 @@ passes_keep f same v (p ∷ ps) = let one : View = after v (reads p.part) in ap 
     ∙ (passes_keep f same (after one (goes_on p.dying p.link)) ps ∙ (on_keep f same one p.dying p.link ∙ reads_keep f same.read v p.part))
 
 pub keeps_held : Keeps (λ (y : View). y.held)
-keeps_held = record { read = λ _ _. refl; next = λ _ _. refl; guard = λ _ _ _. refl; skip = λ _ _. refl }
+keeps_held = record { read = λ _ _. refl; next = λ _ _. refl; guard = λ _ _ _. refl; load = λ _ _ _. refl; skip = λ _ _. refl }
 
 pub keeps_refusals : Keeps (λ (y : View). y.refusals)
-keeps_refusals = record { read = λ _ _. refl; next = λ _ _. refl; guard = λ _ _ _. refl; skip = λ _ _. refl }
+keeps_refusals = record { read = λ _ _. refl; next = λ _ _. refl; guard = λ _ _ _. refl; load = λ _ _ _. refl; skip = λ _ _. refl }
 
 -- WHERE THE WALK STANDS
 module _ (row : List ℕ) (h x : ℕ) where
@@ -130,21 +156,30 @@ module _ (row : List ℕ) (h x : ℕ) where
     others = s.others;
   }
 
+  -- the same, with the load before the exchange where there is one
+  standing_dead : (n p : ℕ) (ws : List ℕ) (o : Option (ℕ × ℕ)) (k y l : ℕ) (v : View) → Standing row h x n p ws v → Standing row h x (n + 1) l [] (after v ((guards o k y ++ Skip l ∷ []) ++ []))
+  standing_dead n p ws None k y l v s = standing_skip n p ws k y l v s
+  standing_dead n p ws (Some q) k y l v s = standing_skip n p ws k y l (view_after v (Load q.0 q.1)) (record { walk = s.walk; at = s.at; head = s.head; word = s.word; count = s.count; place = s.place; part = s.part; others = s.others })
+
   standing_on : (n p : ℕ) (ws : List ℕ) (d : Option Dying) (l : ℕ) (v : View) → Standing row h x n p [] v → Another row ws d → Standing row h x (n + 1) l [] (after v (reads ws ++ (goes_on d l ++ [])))
   standing_on n p ws None l v s another = subst (Standing row h x (n + 1) l []) (sym (after_both v (reads ws) (Next l ∷ []))) (standing_next n p ws l (after v (reads ws)) (standing_reads n p [] ws v s) another)
-  standing_on n p ws (Some d) l v s another = subst (Standing row h x (n + 1) l []) (sym (after_both v (reads ws) (Protect d.slot d.word ∷ Skip l ∷ [])))
-      (standing_skip n p ws d.slot d.word l (after v (reads ws)) (standing_reads n p [] ws v s))
+  standing_on n p ws (Some d) l v s another = subst (Standing row h x (n + 1) l []) (sym (after_both v (reads ws) ((guards d.loaded d.slot d.word ++ Skip l ∷ []) ++ [])))
+      (standing_dead n p ws d.loaded d.slot d.word l (after v (reads ws)) (standing_reads n p [] ws v s))
 
   -- one slot more is passed
   pub standing_pass : (n p : ℕ) (q : Passed) (v : View) → Standing row h x n p [] v → Another row q.part q.dying → Standing row h x (n + 1) q.link [] (after v (passes (q ∷ [])))
   standing_pass n p q v s another = standing_on n p q.part q.dying q.link v s another
 
   -- the slot k is held, whose text was read
-  pub standing_hold : (n k y : ℕ) (u w : View) → Standing row h x n (k + 1) [] u → w ≡ after u (meets row k y (Hold ∷ [])) → w.held ≡ u.held ++ record { slot = k; text = row } ∷ []
-  standing_hold n k y u w st is = let s = standing_reads n (k + 1) [] row u st in let t : View = after u (reads row) in let place = s.place in
+  held_after_hold : (o : Option (ℕ × ℕ)) (k y : ℕ) (t : View) → (after t (guards o k y ++ Hold ∷ [])).held ≡ t.held ++ held_at_hand (option_map (guarding k y) t.walk)
+  held_after_hold None k y t = refl
+  held_after_hold (Some q) k y t = refl
+
+  pub standing_hold : (n k y : ℕ) (o : Option (ℕ × ℕ)) (u w : View) → Standing row h x n (k + 1) [] u → w ≡ after u (meets row o k y (Hold ∷ [])) → w.held ≡ u.held ++ record { slot = k; text = row } ∷ []
+  standing_hold n k y o u w st is = let s = standing_reads n (k + 1) [] row u st in let t : View = after u (reads row) in let place = s.place in
       let slot : s.walk.place - 1 ≡ k = omega arith in
-      ap (λ (v : View). v.held) (is ∙ after_both u (reads row) (Protect k y ∷ Hold ∷ []))
-      ∙ ((λ i. reads_keep (λ (v : View). v.held) (λ _ _. refl) u row i ++ held_at_hand (option_map (guarding k y) (s.at i))) ∙ (λ i. u.held ++ record { slot = slot i; text = s.part i } ∷ []))
+      ap (λ (v : View). v.held) (is ∙ after_both u (reads row) (guards o k y ++ Hold ∷ []))
+      ∙ (held_after_hold o k y t ∙ ((λ i. reads_keep (λ (v : View). v.held) (λ _ _. refl) u row i ++ held_at_hand (option_map (guarding k y) (s.at i))) ∙ (λ i. u.held ++ record { slot = slot i; text = s.part i } ∷ [])))
 
   pub missing : (n : ℕ) (ws : List ℕ) (v : View) → closed_of x ≡ 0 → Standing row h x n 0 ws v → Missing row h v
   missing n ws v unclosed s = record { walk = s.walk; at = s.at; head = s.head; unclosed = ap closed_of s.word ∙ unclosed; ended = s.place; others = s.others }
@@ -187,10 +222,11 @@ meets_steps row u t w ks now last = last ∙ (ap (λ (y : View). after y ks) now
 
 -- a slot whose text was read whole
 pub met_by : (row : List ℕ) (k word : ℕ) (u t w : View) (r : Result (Option ℕ) Missed) → t ≡ after u (reads row) → Ends k word t r w → Meets row k word u r w
-met_by row k word u t w (Ok None) now e = (e.0, e.1, meets_steps row u t w (Protect k e.0 ∷ Hold ∷ []) now e.2)
-met_by row k word u t w (Ok (Some l)) now e = (record { part = row; dying = Some (record { slot = k; word = e.0 }); link = l }, refl, (refl, e.1), meets_steps row u t w (Protect k e.0 ∷ Skip l ∷ []) now e.2)
-met_by row k word u t w (Err (Moved old new)) now e = (e.0, e.1, (e.2.0, meets_steps row u t w (Protect k e.2.0 ∷ Refuse (Again (CauseMoved old new)) ∷ []) now e.2.1))
-met_by row k word u t w (Err (Pending j x)) now e = (e.0, e.1, meets_steps row u t w (Protect k x ∷ Refuse (Again (CausePending k x)) ∷ []) now e.2)
+met_by row k word u t w (Ok None) now e = (e.0, e.1, e.2, meets_steps row u t w (guards e.1 k e.0 ++ Hold ∷ []) now e.3)
+met_by row k word u t w (Ok (Some l)) now e = let ks : List Kind = guards e.1 k e.0 ++ Skip l ∷ [] in
+    (record { part = row; dying = Some (record { slot = k; loaded = e.1; word = e.0 }); link = l }, refl, (refl, e.2), meets_steps row u t w ks now e.3 ∙ ap (λ (js : List Kind). after u (reads row ++ js)) (sym (append-nil ks)))
+met_by row k word u t w (Err (Moved old new)) now e = (e.0, e.1, (e.2.0, e.2.1, meets_steps row u t w (guards e.2.1 k e.2.0 ++ Refuse (Again (CauseMoved old new)) ∷ []) now e.2.2))
+met_by row k word u t w (Err (Pending j x)) now e = (e.0, e.1, (e.2.0, meets_steps row u t w (guards e.2.0 k x ++ Refuse (Again (CausePending k x)) ∷ []) now e.2.1))
 met_by row k word u t w (Err (Closed x)) now e = absurd e
 met_by row k word u t w (Err (Worn x)) now e = absurd e
 
@@ -205,14 +241,17 @@ module _ (row : List ℕ) (v u : View) (ps : List Passed) (few : length ps ≤ v
   on_from ks w e = e ∙ (ap (λ (y : View). after y ks) is ∙ sym (after_both v (passes ps) ks))
 
   pub goes_ok : (k word : ℕ) (w : View) → Meets row k word u (Ok None) w → Goes row v (Ok (Some k)) w
-  goes_ok k word w e = (e.0, e.1, walks_by (meets row k e.0 (Hold ∷ [])) w (on_from (meets row k e.0 (Hold ∷ [])) w e.2))
+  goes_ok k word w e = (e.0, e.1, e.2, walks_by (meets row e.1 k e.0 (Hold ∷ [])) w (on_from (meets row e.1 k e.0 (Hold ∷ [])) w e.3))
 
   pub goes_err : (k word : ℕ) (w : View) (m : Missed) → Meets row k word u (Err m) w → Goes row v (Err m) w
-  goes_err k word w (Moved old new) e = (e.1, inr (k, e.2.0, walks_by (meets row k e.2.0 (Refuse (Again (CauseMoved old new)) ∷ [])) w (on_from (meets row k e.2.0 (Refuse (Again (CauseMoved old new)) ∷ [])) w e.2.1)))
+  goes_err k word w (Moved old new) e = let q = e.2 in (e.1, inr (k, q.0, q.1, walks_by (meets row q.1 k q.0 (Refuse (Again (CauseMoved old new)) ∷ [])) w (on_from (meets row q.1 k q.0 (Refuse (Again (CauseMoved old new)) ∷ [])) w q.2)))
   goes_err k word w (Pending j x) e = (
     e.1,
-    walks_by (meets row j x (Refuse (Again (CausePending j x)) ∷ [])) w (subst (λ (i : ℕ). w ≡ after v (passes ps ++ meets row i x (Refuse (Again (CausePending i x)) ∷ []))) (sym e.0)
-        (on_from (meets row k x (Refuse (Again (CausePending k x)) ∷ [])) w e.2)),
+    (let o = e.2.0 in (
+      o,
+      walks_by (meets row o j x (Refuse (Again (CausePending j x)) ∷ [])) w (subst (λ (i : ℕ). w ≡ after v (passes ps ++ meets row o i x (Refuse (Again (CausePending i x)) ∷ []))) (sym e.0)
+          (on_from (meets row o k x (Refuse (Again (CausePending k x)) ∷ [])) w e.2.1)),
+    )),
   )
   goes_err k word w (Closed x) e = absurd e
   goes_err k word w (Worn x) e = absurd e

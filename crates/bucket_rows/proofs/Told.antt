@@ -10,12 +10,12 @@ use Rattle.atom_words.specs.declared.view.Refusal.{Refusal}
 use Rattle.atom_words.specs.declared.view.Refusal.TheVariants.{Again}
 use Rattle.atom_words.specs.declared.view.View.{View}
 use Rattle.atom_words.specs.declared.kind.Kind.{Kind}
-use Rattle.atom_words.specs.declared.kind.Kind.TheVariants.{Start, Protect, Hold, Refuse}
+use Rattle.atom_words.specs.declared.kind.Kind.TheVariants.{Start, Hold, Refuse}
 use Rattle.bucket_rows.specs.declared.missed.Missed.{Missed}
 use Rattle.bucket_rows.specs.declared.missed.Missed.TheVariants.{Moved, Pending, Closed, Worn}
-use Rattle.bucket_rows.specs.Walks.{Passed, reads, passes, meets, WalksBy, Goes, Walks, Missing, Aside, held_after, refused_after}
+use Rattle.bucket_rows.specs.Walks.{Passed, reads, guards, passes, meets, WalksBy, Goes, Walks, Missing, Aside, held_after, refused_after}
 use Rattle.bucket_rows.specs.Standing.{Standing}
-use Rattle.bucket_rows.proofs.Reading.{after_both, aside_trans, aside_passes, aside_reads, reads_keep, passes_keep, keeps_held, keeps_refusals, missing}
+use Rattle.bucket_rows.proofs.Reading.{after_both, guarded_as, aside_trans, aside_passes, aside_reads, reads_keep, passes_keep, keeps_held, keeps_refusals, missing}
 
 -- a function of the walk that reading, going on, going past and protecting leave
 pub record Steady (f : Option Walk → ℕ) : Type 0 where
@@ -51,7 +51,7 @@ module _ (f : Option Walk → ℕ) (steady : Steady f) (row : List ℕ) (v : Vie
     aside = aside_passes v ps;
     held = passes_keep (λ (y : View). y.held) keeps_held v ps;
     refusals = passes_keep (λ (y : View). y.refusals) keeps_refusals v ps;
-    walk = passes_keep (λ (y : View). f y.walk) (record { read = λ y x. steady.read x y.walk; next = λ y x. steady.next x y.walk; guard = λ y k x. steady.guard k x y.walk; skip = λ y x. steady.skip x y.walk }) v ps;
+    walk = passes_keep (λ (y : View). f y.walk) (record { read = λ y x. steady.read x y.walk; next = λ y x. steady.next x y.walk; guard = λ y k x. steady.guard k x y.walk; load = λ y i x. refl; skip = λ y x. steady.skip x y.walk }) v ps;
   }
 
   met : (ps : List Passed) → Brought f v (after (after v (passes ps)) (reads row))
@@ -74,9 +74,6 @@ module _ (f : Option Walk → ℕ) (steady : Steady f) (row : List ℕ) (v : Vie
   refusing : (t : View) (r : Refusal) → Aside t (view_after t (Refuse r))
   refusing t r = record { gone = refl; size = refl; own = refl; fixed = refl; counts = refl; pass = refl; asked = refl; undealt = refl; cycle = refl; sweep = refl; risen = refl }
 
-  protecting : (t : View) (k x : ℕ) → Aside t (view_after t (Protect k x))
-  protecting t k x = record { gone = refl; size = refl; own = refl; fixed = refl; counts = refl; pass = refl; asked = refl; undealt = refl; cycle = refl; sweep = refl; risen = refl }
-
   ending : (t : View) → Aside t (view_after t Hold)
   ending t = record { gone = refl; size = refl; own = refl; fixed = refl; counts = refl; pass = refl; asked = refl; undealt = refl; cycle = refl; sweep = refl; risen = refl }
 
@@ -91,18 +88,30 @@ module _ (f : Option Walk → ℕ) (steady : Steady f) (row : List ℕ) (v : Vie
   met_is : (w : View) (ps : List Passed) (ks : List Kind) → w ≡ after v (passes ps ++ (reads row ++ ks)) → after (after (after v (passes ps)) (reads row)) ks ≡ w
   met_is w ps ks e = sym (e ∙ (after_both v (passes ps) (reads row ++ ks) ∙ after_both (after v (passes ps)) (reads row) ks))
 
-  met_refusal : (k x : ℕ) (r : Refusal) (w : View) → WalksBy row v (meets row k x (Refuse r ∷ [])) w → Tells (r ∷ []) w
-  met_refusal k x r w b = let t : View = after (after v (passes b.passed)) (reads row) in let p = met b.passed in let u : View = view_after t (Protect k x) in
-      subst (Tells (r ∷ [])) (met_is w b.passed (Protect k x ∷ Refuse r ∷ []) b.steps) (record {
-        aside = aside_trans v t (view_after u (Refuse r)) p.aside (aside_trans t u (view_after u (Refuse r)) (protecting t k x) (refusing u r));
+  -- at a slot of the text, once it is protected
+  met_guarded : (ps : List Passed) (o : Option (ℕ × ℕ)) (k x : ℕ) → Brought f v (after (after (after v (passes ps)) (reads row)) (guards o k x))
+  met_guarded ps o k x = let t : View = after (after v (passes ps)) (reads row) in let u : View = after t (guards o k x) in let p = met ps in let g = guarded_as t u o k x refl in record {
+    aside = aside_trans v t u p.aside g.aside;
+    held = g.held ∙ p.held;
+    refusals = g.refusals ∙ p.refusals;
+    walk = ap f g.walk ∙ (steady.guard k x t.walk ∙ p.walk);
+  }
+
+  guarded_is : (w : View) (ps : List Passed) (o : Option (ℕ × ℕ)) (k x : ℕ) (ks : List Kind) → w ≡ after v (passes ps ++ (reads row ++ (guards o k x ++ ks))) → after (after (after (after v (passes ps)) (reads row)) (guards o k x)) ks ≡ w
+  guarded_is w ps o k x ks e = sym (after_both (after (after v (passes ps)) (reads row)) (guards o k x) ks) ∙ met_is w ps (guards o k x ++ ks) e
+
+  met_refusal : (o : Option (ℕ × ℕ)) (k x : ℕ) (r : Refusal) (w : View) → WalksBy row v (meets row o k x (Refuse r ∷ [])) w → Tells (r ∷ []) w
+  met_refusal o k x r w b = let u : View = after (after (after v (passes b.passed)) (reads row)) (guards o k x) in let p = met_guarded b.passed o k x in
+      subst (Tells (r ∷ [])) (guarded_is w b.passed o k x (Refuse r ∷ []) b.steps) (record {
+        aside = aside_trans v u (view_after u (Refuse r)) p.aside (refusing u r);
         refusals = ap (λ l. l ++ r ∷ []) p.refusals;
-        walk = inl (steady.guard k x t.walk ∙ p.walk);
+        walk = inl p.walk;
       })
 
-  met_hold : (k x : ℕ) (w : View) → WalksBy row v (meets row k x (Hold ∷ [])) w → Tells [] w
-  met_hold k x w b = let t : View = after (after v (passes b.passed)) (reads row) in let p = met b.passed in let u : View = view_after t (Protect k x) in
-      subst (Tells []) (met_is w b.passed (Protect k x ∷ Hold ∷ []) b.steps) (record {
-        aside = aside_trans v t (view_after u Hold) p.aside (aside_trans t u (view_after u Hold) (protecting t k x) (ending u));
+  met_hold : (o : Option (ℕ × ℕ)) (k x : ℕ) (w : View) → WalksBy row v (meets row o k x (Hold ∷ [])) w → Tells [] w
+  met_hold o k x w b = let u : View = after (after (after v (passes b.passed)) (reads row)) (guards o k x) in let p = met_guarded b.passed o k x in
+      subst (Tells []) (guarded_is w b.passed o k x (Hold ∷ []) b.steps) (record {
+        aside = aside_trans v u (view_after u Hold) p.aside (ending u);
         refusals = p.refusals ∙ sym (append-nil v.refusals);
         walk = inr refl;
       })
@@ -117,24 +126,25 @@ module _ (f : Option Walk → ℕ) (steady : Steady f) (row : List ℕ) (v : Vie
 
   pub goes_tells : (r : Result (Option ℕ) Missed) (w : View) → Goes row v r w → Tells (adds r) w
   goes_tells (Ok None) w g = at_none w g
-  goes_tells (Ok (Some k)) w g = met_hold k g.0 w g.2
+  goes_tells (Ok (Some k)) w g = met_hold g.1 k g.0 w g.3
   goes_tells (Err (Moved old new)) w g = ⊎_elim (λ (b : WalksBy row v (Refuse (Again (CauseMoved old new)) ∷ []) w). at_refusal (Again (CauseMoved old new)) w b)
-      (λ (b : (k : ℕ) × (x : ℕ) × WalksBy row v (meets row k x (Refuse (Again (CauseMoved old new)) ∷ [])) w). met_refusal b.0 b.1 (Again (CauseMoved old new)) w b.2) g.1
-  goes_tells (Err (Pending k x)) w g = met_refusal k x (Again (CausePending k x)) w g.1
+      (λ (b : (k : ℕ) × (x : ℕ) × (o : Option (ℕ × ℕ)) × WalksBy row v (meets row o k x (Refuse (Again (CauseMoved old new)) ∷ [])) w). met_refusal b.2 b.0 b.1 (Again (CauseMoved old new)) w b.3) g.1
+  goes_tells (Err (Pending k x)) w g = met_refusal g.1.0 k x (Again (CausePending k x)) w g.1.1
   goes_tells (Err (Closed x)) w g = absurd g
   goes_tells (Err (Worn x)) w g = absurd g
+
+-- a refusal at a slot of the text leaves what is held
+refused_held : (row : List ℕ) (v w : View) (o : Option (ℕ × ℕ)) (k x : ℕ) (r : Refusal) → WalksBy row v (meets row o k x (Refuse r ∷ [])) w → w.held ≡ v.held
+refused_held row v w o k x r b = let u : View = after v (passes b.passed) in let t : View = after u (reads row) in let ks : List Kind = guards o k x ++ Refuse r ∷ [] in
+    ap (λ (y : View). y.held) (b.steps ∙ (after_both v (passes b.passed) (reads row ++ ks) ∙ (after_both u (reads row) ks ∙ after_both t (guards o k x) (Refuse r ∷ []))))
+    ∙ ((guarded_as t (after t (guards o k x)) o k x refl).held ∙ (reads_keep (λ (y : View). y.held) (λ _ _. refl) u row ∙ passes_keep (λ (y : View). y.held) keeps_held v b.passed))
 
 -- what an answer other than a slot leaves held
 pub goes_held : (row : List ℕ) (v w : View) (m : Missed) → Goes row v (Err m) w → w.held ≡ v.held
 goes_held row v w (Moved old new) g = ⊎_elim
     (λ (b : WalksBy row v (Refuse (Again (CauseMoved old new)) ∷ []) w). ap (λ (y : View). y.held) (b.steps ∙ after_both v (passes b.passed) (Refuse (Again (CauseMoved old new)) ∷ [])) ∙ passes_keep (λ (y : View). y.held) keeps_held v b.passed)
-    (λ (b : (k : ℕ) × (x : ℕ) × WalksBy row v (meets row k x (Refuse (Again (CauseMoved old new)) ∷ [])) w). read_refused b.0 b.1 (Again (CauseMoved old new)) b.2) g.1
-  where
-    read_refused : (k x : ℕ) (r : Refusal) → WalksBy row v (meets row k x (Refuse r ∷ [])) w → w.held ≡ v.held
-    read_refused k x r b = let u : View = after v (passes b.passed) in ap (λ (y : View). y.held) (b.steps ∙ (after_both v (passes b.passed) (reads row ++ (Protect k x ∷ Refuse r ∷ [])) ∙ after_both u (reads row) (Protect k x ∷ Refuse r ∷ [])))
-        ∙ (reads_keep (λ (y : View). y.held) (λ _ _. refl) u row ∙ passes_keep (λ (y : View). y.held) keeps_held v b.passed)
-goes_held row v w (Pending k x) g = let b = g.1 in let u : View = after v (passes b.passed) in let r : Refusal = Again (CausePending k x) in ap (λ (y : View). y.held) (b.steps ∙ (after_both v (passes b.passed) (reads row ++ (Protect k x ∷ Refuse r ∷ [])) ∙ after_both u (reads row) (Protect k x ∷ Refuse r ∷ [])))
-    ∙ (reads_keep (λ (y : View). y.held) (λ _ _. refl) u row ∙ passes_keep (λ (y : View). y.held) keeps_held v b.passed)
+    (λ (b : (k : ℕ) × (x : ℕ) × (o : Option (ℕ × ℕ)) × WalksBy row v (meets row o k x (Refuse (Again (CauseMoved old new)) ∷ [])) w). refused_held row v w b.2 b.0 b.1 (Again (CauseMoved old new)) b.3) g.1
+goes_held row v w (Pending k x) g = refused_held row v w g.1.0 k x (Again (CausePending k x)) g.1.1
 goes_held row v w (Closed x) g = absurd g
 goes_held row v w (Worn x) g = absurd g
 

@@ -1,5 +1,5 @@
 -- What each step tells its caller: of the step, the seat before, the number found (at a store, the number stored) and the seat after.
-use Rattle.std.specs.Prelude.{◌≡◌, ◌≢◌, ◌<◌, ◌≤◌, ℕ, false, List, Some}
+use Rattle.std.specs.Prelude.{◌≡◌, ◌≢◌, ◌%◌, ◌<◌, ◌≤◌, ℕ, false, List, Some}
 use Rattle.atomic_table.specs.Table.{Me, Step}
 use Rattle.atom_words.specs.Layout.{mark_of, version_of, last, epoch_of}
 use Rattle.atom_words.specs.Board.{atom_at, link_at, head_at}
@@ -8,7 +8,7 @@ use Rattle.atom_words.specs.Plays.{Is}
 use Rattle.atom_words.specs.declared.view.Held.{Held}
 use Rattle.atom_words.specs.declared.view.Sweeping.{Sweeping}
 use Rattle.atom_words.specs.declared.view.View.{View}
-use Rattle.atom_words.specs.declared.kind.Kind.TheVariants.{Load, Begin, Mark, Scan, Ack, Check, ToSweep, Start, Next, Look, Spell, Condemn, PassOver, Behind, UnlinkAt, UnlinkHead, Note, Bump, Past, Free, End}
+use Rattle.atom_words.specs.declared.kind.Kind.TheVariants.{Load, Protect, Begin, Mark, Scan, Ack, Check, ToSweep, Start, Next, Look, Spell, Condemn, PassOver, Behind, UnlinkAt, UnlinkHead, Note, Bump, Past, Free, End}
 use Rattle.bucket_rows.specs.Cycles.{Marks, Unmarked}
 use Rattle.bucket_rows.specs.Treads.{Ahead}
 
@@ -42,6 +42,10 @@ engine_checked st m r m' = (m'.1 ≡ m.1) × ((y : Sweeping) → m.0.sweep ≡ S
 
 abbrev pub turned : At → Sat → ℕ → Sat → Type 0
 turned st m r m' = Is ToSweep m m'
+
+-- the mark of a slot, which a walk is to set, is set already, and the slot is valid; or it is not so
+abbrev pub mark_seen : At → Sat → ℕ → Sat → Type 0
+mark_seen st m r m' = (m'.1 ≡ m.1) × ((k : ℕ) → st.word ≡ atom_at m.0.size k → (r % 8 ≡ 7 → m'.0 ≡ view_after m.0 (Protect k r)) × (r % 8 ≢ 7 → m'.0 ≡ view_after m.0 (Load st.word r)))
 
 -- the row word names a row of the table, and is what the collector knows
 abbrev pub row_read : At → Sat → ℕ → Sat → Type 0

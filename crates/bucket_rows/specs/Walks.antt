@@ -21,9 +21,10 @@ use Rattle.bucket_rows.specs.declared.missed.Missed.TheVariants.{Moved, Pending,
 abbrev pub spelled : Chars → List ℕ
 spelled t = row_of (encode_utf8_all t)
 
--- a slot that was found dying as its mark was set: its number, and the word that was found
+-- a slot that was found dying as its mark was set: its number, the load before that, if there was one, and the word that was found
 pub record Dying : Type 0 where
   pub slot : ℕ
+  pub loaded : Option (ℕ × ℕ)
   pub word : ℕ
 
 -- What a walk reads of a slot that it passes: the beginning of its text, and its link word. A slot that has the text looked for is passed where it was found dying
@@ -35,9 +36,14 @@ pub record Passed : Type 0 where
 abbrev pub reads : List ℕ → List Kind
 reads ws = map (λ x. Read x) ws
 
+-- the mark of the slot k is set, which was found with the word x: by the load that finds that it is set, or by an exchange after a load that found another word
+abbrev pub guards : Option (ℕ × ℕ) → ℕ → ℕ → List Kind
+guards None k x = Protect k x ∷ []
+guards (Some l) k x = Load l.0 l.1 ∷ Protect k x ∷ []
+
 abbrev pub goes_on : Option Dying → ℕ → List Kind
 goes_on None x = Next x ∷ []
-goes_on (Some d) x = Protect d.slot d.word ∷ Skip x ∷ []
+goes_on (Some d) x = guards d.loaded d.slot d.word ++ Skip x ∷ []
 
 abbrev pub passes : List Passed → List Kind
 passes [] = []
@@ -60,16 +66,16 @@ pub record WalksBy (row : List ℕ) (v : View) (ks : List Kind) (w : View) : Typ
   pub steps : w ≡ after v (passes passed ++ ks)
 
 -- at a slot of the text: its text is read, and it is protected, found with the word x
-abbrev pub meets : List ℕ → ℕ → ℕ → List Kind → List Kind
-meets row k x ks = reads row ++ (Protect k x ∷ ks)
+abbrev pub meets : List ℕ → Option (ℕ × ℕ) → ℕ → ℕ → List Kind → List Kind
+meets row l k x ks = reads row ++ (guards l k x ++ ks)
 
 -- THE STEPS OF A WALK for a text after its start, by its answer
 abbrev pub Goes : List ℕ → View → Result (Option ℕ) Missed → View → Type 0
 Goes row v (Ok None) w = WalksBy row v [] w
-Goes row v (Ok (Some k)) w = (x : ℕ) × (state_of x ≡ 3) × WalksBy row v (meets row k x (Hold ∷ [])) w
+Goes row v (Ok (Some k)) w = (x : ℕ) × (l : Option (ℕ × ℕ)) × (state_of x ≡ 3) × WalksBy row v (meets row l k x (Hold ∷ [])) w
 Goes row v (Err (Moved old new)) w = (version_of new ≢ version_of old) × (WalksBy row v (Refuse (Again (CauseMoved old new)) ∷ []) w
-    ⊎ ((k : ℕ) × (x : ℕ) × WalksBy row v (meets row k x (Refuse (Again (CauseMoved old new)) ∷ [])) w))
-Goes row v (Err (Pending k x)) w = (state_of x ≡ 1) × WalksBy row v (meets row k x (Refuse (Again (CausePending k x)) ∷ [])) w
+    ⊎ ((k : ℕ) × (x : ℕ) × (l : Option (ℕ × ℕ)) × WalksBy row v (meets row l k x (Refuse (Again (CauseMoved old new)) ∷ [])) w))
+Goes row v (Err (Pending k x)) w = (state_of x ≡ 1) × ((l : Option (ℕ × ℕ)) × WalksBy row v (meets row l k x (Refuse (Again (CausePending k x)) ∷ [])) w)
 Goes row v (Err (Closed x)) w = ⊥
 Goes row v (Err (Worn x)) w = ⊥
 

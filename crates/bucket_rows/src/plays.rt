@@ -1,9 +1,16 @@
 //! What each step tells its caller.
-ghost use Rattle.bucket_rows.specs.Plays.{row_read, word_known, begun, mark_read, scanned, acknowledged, engine_checked, turned, looked, text_read, condemned, passed, unmarked_passed, traced, trod, behind_read, unlinked_at, unlinked_head, head_noted, bumped, freed, ended};
+ghost use Rattle.bucket_rows.specs.Plays.{mark_seen, row_read, word_known, begun, mark_read, scanned, acknowledged, engine_checked, turned, looked, text_read, condemned, passed, unmarked_passed, traced, trod, behind_read, unlinked_at, unlinked_head, head_noted, bumped, freed, ended};
 
 use atom_words::{Keeps, View};
 use atomic_table::Play;
 use std::marker::PhantomData;
+
+/// The load of a slot's word, which shows whether its mark is set already, where it is valid.
+pub struct SeeingMark;
+
+impl Play<(), View> for SeeingMark {
+    ghost then = { mark_seen };
+}
 
 /// The load of the row word.
 pub struct ReadingRow;

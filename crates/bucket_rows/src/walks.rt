@@ -1,5 +1,5 @@
 //! A walk over the chain of a text's bucket.
-ghost use Rattle.std.specs.Prelude.{◌≡◌, ◌≢◌, ◌⊎◌, ℕ, ◌+◌, ◌<◌, ◌≤◌, true, false, List, [], ◌∷◌, length, take, Some, None, IfOk, MatchOption};
+ghost use Rattle.std.specs.Prelude.{◌≡◌, ◌≢◌, ◌⊎◌, ℕ, ◌+◌, ◌<◌, ◌≤◌, true, false, List, [], ◌∷◌, length, take, Option, Some, None, IfOk, MatchOption};
 ghost use Rattle.pl_term.specs.Texts.{size};
 ghost use Rattle.atom_words.specs.Layout.{first_of, closed_of, version_of};
 ghost use Rattle.atom_words.specs.Texts.{bucket};
@@ -10,10 +10,11 @@ ghost use Rattle.atom_words.specs.declared.view.Walk.{Walk};
 ghost use Rattle.atom_words.specs.declared.view.Cause.TheVariants.{Moved as CauseMoved};
 ghost use Rattle.atom_words.specs.declared.view.Refusal.TheVariants.{Again};
 ghost use Rattle.atom_words.specs.declared.kind.Kind.TheVariants.{Refuse};
-ghost use Rattle.bucket_rows.specs.Walks.{spelled, reads, Goes, Walks, WalksIn, Missing, MissingIn, Aside, held_after, refused_after};
+ghost use Rattle.bucket_rows.specs.Walks.{spelled, reads, guards, Goes, Walks, WalksIn, Missing, MissingIn, Aside, held_after, refused_after};
 ghost use Rattle.bucket_rows.specs.Standing.{Standing, Ends, Meets};
 
 use crate::missed::Missed;
+use crate::plays::SeeingMark;
 use crate::rows::{bucket, row_in_use, text_row};
 use atom_api::Atom;
 use atom_words::{
@@ -57,6 +58,22 @@ fn moved(words: &Words, seat: &mut Seat<(), View>, head: u32, word: u64) -> Miss
     Missed::Moved { old: word, new }
 }
 
+// Sets the mark of a slot, by a load where it is valid and has it, and answers the word that was found. Only where it has not is
+// there an exchange, so that threads that look for one text read its words, and write none.
+fn guard(words: &Words, seat: &mut Seat<(), View>, slot: u32) -> u64
+    requires fits { (seat.old.table_id ≡ words.now.table.shared.table_id) × (seat.old.me.0.size ≡ words.now.size) × (seat.old.me.0.gone ≡ false) }
+    requires slot { slot < words.now.size.slots }
+    ensures same { (seat.new.table_id ≡ seat.old.table_id) × (seat.new.id ≡ seat.old.id) × (seat.new.me.1 ≡ seat.old.me.1) }
+    ensures steps { (o : Option (ℕ × ℕ)) × (seat.new.me.0 ≡ after seat.old.me.0 (guards o slot result)) }
+{
+    let place = words.atom_place(slot);
+    let found = words.table.shared.load::<SeeingMark>(seat, place);
+    if found % 8 == 7 {
+        return found;
+    }
+    words.table.shared.fetch_or::<Protecting>(seat, place, 4)
+}
+
 // Sets the mark of the slot at hand, whose text was read whole. A valid slot is held, which ends the walk; the walk goes
 // past a dying one, and its link word is answered. Where the slot is free, the head has another version.
 fn hold(
@@ -76,8 +93,7 @@ fn hold(
     ensures steps { Ends slot word seat.old.me.0 result seat.new.me.0 }
     ensures alone { IfOk result (λ o. MatchOption o ((w : Walk) → seat.old.me.0.walk ≡ Some w → Alone seat.old.me.0 slot w.part) (λ _. Unit {0})) }
 {
-    let place = words.atom_place(slot);
-    let found = words.table.shared.fetch_or::<Protecting>(seat, place, 4);
+    let found = guard(words, seat, slot);
     if found % 4 == 1 {
         words.table.shared.load::<ShowingPending>(seat, 0);
         return Err(Missed::Pending {
