@@ -12,7 +12,7 @@ use Rattle.atom_words.specs.declared.kind.Kind.{Kind}
 use Rattle.atom_words.specs.declared.kind.Kind.TheVariants.{Load, Mark, Scan, Ack, End}
 use Rattle.bucket_rows.specs.Cycles.{Marks, Unmarked, BeginsBy, last_epoch}
 use Rattle.bucket_rows.specs.declared.slots.Verdict.{Verdict}
-use Rattle.bucket_rows.specs.Sweeps.{Run}
+use Rattle.bucket_rows.specs.Sweeps.{all_left_valid, Run}
 use Rattle.atom_api.specs.Names.{Names, cut}
 use Rattle.atom_table.specs.Naming.{those}
 use Rattle.atom_table.specs.declared.marking.Marked.{Marked}
@@ -72,7 +72,7 @@ TurnsBy v (Began e) w = BeginsBy v (Ok e) w
 TurnsBy v (Running x) w = (phase_of x ≢ 0) × (w ≡ after v (Load 0 x ∷ []))
 TurnsBy v (Worn x) w = (phase_of x ≡ 0) × (last_epoch ≤ epoch_of x) × (w ≡ after v (Load 0 x ∷ []))
 
--- THE STEPS OF A SWEEP OF m SLOTS from the slot k on, by the answer: the next m are swept, and the sweep has come to the slot n; or the slots that are left, which are m at most, and the cycle is idle
-abbrev pub SweepsBy : ℕ → ℕ → View → Swept → View → Type 0
-SweepsBy k m v (At n) w = (n < v.size.slots) × (n ≡ k + m) × ((rs : List Verdict) × (length rs ≡ m) × Run k rs v w)
-SweepsBy k m v Done w = (v.size.slots ≤ k + m) × ((rs : List Verdict) × (u : View) × (length rs ≡ v.size.slots - k) × Run k rs v u × (w ≡ after u (End ∷ [])))
+-- THE STEPS OF A SWEEP OF m SLOTS from the slot k on, by the answer: the next m are swept, and the sweep has come to the slot n; or the slots that are left, which are m at most, and the cycle is idle. So many of them are valid, as they were passed
+abbrev pub SweepsBy : ℕ → ℕ → ℕ → View → Swept → View → Type 0
+SweepsBy k m live v (At n) w = (n < v.size.slots) × (n ≡ k + m) × ((rs : List Verdict) × (length rs ≡ m) × Run k rs v w × (live ≡ all_left_valid rs))
+SweepsBy k m live v Done w = (v.size.slots ≤ k + m) × ((rs : List Verdict) × (u : View) × (length rs ≡ v.size.slots - k) × Run k rs v u × (w ≡ after u (End ∷ [])) × (live ≡ all_left_valid rs))

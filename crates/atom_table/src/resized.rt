@@ -103,7 +103,8 @@ fn a_text_is_asked_again_while_heads_are_closed(rt: HostRuntime) -> Result<(), F
         mut collector,
     } = AtomTable::new(rt.alloc(), 512, 1)?;
     let mut seat = take_last(&table, &mut seats).ok_or("a seat")?;
-    let text = Text::from_str(rt.alloc(), "zz")?;
+    // its bucket is the last one, in both rows
+    let text = Text::from_str(rt.alloc(), "uu")?;
     let a = atom_of(&table, &mut seat, &text);
     assert!(rt; a != None);
     // 512 heads are looked at, and 255 are closed after the first
@@ -115,11 +116,11 @@ fn a_text_is_asked_again_while_heads_are_closed(rt: HostRuntime) -> Result<(), F
     assert!(rt; grow(&table, &mut collector, ALL) == None);
     let mut pieces = 0u32;
     for _i in 0..10_000u32 {
-        if go_on(&table, &mut collector, 7) == Some(Resized::Going) {
+        if go_on(&table, &mut collector, 1) == Some(Resized::Going) {
             pieces += 1;
         }
     }
-    assert!(rt; pieces > 100);
+    assert!(rt; pieces > 700);
     assert!(rt; collector.rows.stage == Stage::Still);
     assert!(rt; collector.rows.row == 9);
     assert!(rt; atom_of(&table, &mut seat, &text) == a);

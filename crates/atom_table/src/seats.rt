@@ -1,11 +1,12 @@
 //! The keeper's and the collector's seats, and what the keeper's seat does.
-ghost use Rattle.std.specs.Prelude.{◌≡◌, ℕ, ◌<◌, List, [], ◌∷◌, Some};
+ghost use Rattle.std.specs.Prelude.{◌≡◌, ℕ, ◌+◌, ◌<◌, ◌≤◌, List, [], ◌∷◌, Some};
 ghost use Rattle.atom_words.specs.Kinds.{Sitting, after, counted};
 ghost use Rattle.atom_words.specs.Views.{with_keeper, without_keeper, keeper_of};
 ghost use Rattle.atom_words.specs.Seats.{seen, Same, Has};
 ghost use Rattle.atom_words.specs.declared.view.Held.{Held};
 ghost use Rattle.atom_words.specs.declared.view.Counted.{Counted};
 ghost use Rattle.atom_words.specs.declared.kind.Kind.TheVariants.{Fetch, Register, Unregister};
+ghost use Rattle.atom_api.specs.Fixed.{fixed_count};
 ghost use Rattle.atom_table.specs.Holding.{Sits};
 ghost use Rattle.atom_table.specs.Collecting.{Collects};
 ghost use Rattle.atom_table.specs.Resizing.{RowsTied};
@@ -31,12 +32,13 @@ pub struct Collector {
     pub checked: u64,
     /// The slot that the sweep has come to.
     pub cursor: u32,
-    /// How many atoms the sweep has found and left so far, with the fixed atoms.
+    /// How many atoms the sweep has found and left so far, and the fixed atoms.
     pub live: u32,
     /// What it knows of the rows of buckets.
     pub rows: Rows,
     pub ghost collects: { Collects (seen seat) word checked cursor },
     pub ghost rowed: { RowsTied (seen seat) rows },
+    pub ghost few: { live ≤ fixed_count + cursor },
 }
 
 impl AtomTable {

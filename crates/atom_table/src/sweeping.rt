@@ -1,5 +1,5 @@
 //! The collector sweeps.
-ghost use Rattle.std.specs.Prelude.{◌≡◌, ◌+◌, ◌<◌, ◌≤◌};
+ghost use Rattle.std.specs.Prelude.{◌≡◌, ◌+◌, ◌-◌, ◌<◌, ◌≤◌};
 ghost use Rattle.atom_words.specs.Layout.{phase_of};
 ghost use Rattle.atom_words.specs.Seats.{seen, Same};
 ghost use Rattle.atom_table.specs.Holding.{Sits};
@@ -35,20 +35,21 @@ fn up_to(from: u32, most: u32, slots: u32) -> u32
 impl AtomTable {
     /// Sweeps the next slots, as many as `most`, or those that are left; then the cycle is idle. A slot from 256 on whose word,
     /// as it is read last, is valid, without mark and count, becomes free, unless its bucket has the last version; of all
-    /// others the mark is cleared. The cycle sweeps.
+    /// others the mark is cleared. Those that were found valid and left so are counted. The cycle sweeps.
     pub fn sweep_some(&self, collector: &mut Collector, most: u32) -> Swept
         requires sits { Sits self.now.words collector.old.seat }
         requires sweeping { phase_of collector.old.word ≡ 2 }
         ensures same { Same collector.old.seat collector.new.seat }
         ensures sits { Sits self.now.words collector.new.seat }
         ensures rows { collector.new.rows ≡ collector.old.rows }
-        ensures steps { SweepsBy collector.old.cursor most (seen collector.old.seat) result (seen collector.new.seat) }
+        ensures live { collector.old.live ≤ collector.new.live }
+        ensures steps { SweepsBy collector.old.cursor most (collector.new.live - collector.old.live) (seen collector.old.seat) result (seen collector.new.seat) }
     {
         let slots = self.words.size.slots as u32;
         let from = collector.cursor;
         let end = up_to(from, most, slots);
         let live = sweep_run(&self.words, &mut collector.seat, from, end);
-        collector.live = collector.live.saturating_add(live);
+        collector.live += live;
         collector.cursor = end;
         if end < slots {
             return Swept::At(end);

@@ -1,6 +1,6 @@
 -- What the calls of a sweep ask of the collector's view, and their steps.
-use Rattle.std.specs.Prelude.{◌≡◌, ◌≢◌, ◌⊎◌, ℕ, ◌+◌, ◌<◌, ◌≤◌, List, [], ◌∷◌, ◌++◌}
-use Rattle.atom_words.specs.Layout.{version_of, last}
+use Rattle.std.specs.Prelude.{◌≡◌, ◌≢◌, ◌⊎◌, ◌==◌, if◌then◌else◌, ℕ, ◌+◌, ◌<◌, ◌≤◌, List, [], ◌∷◌, ◌++◌}
+use Rattle.atom_words.specs.Layout.{state_of, version_of, last}
 use Rattle.atom_words.specs.Texts.{bucket}
 use Rattle.atom_words.specs.Board.{atom_at}
 use Rattle.atom_words.specs.Kinds.{Sweeps, after}
@@ -30,6 +30,17 @@ JudgedBy k v r w = (ks : List Kind) × (w ≡ after v ks) × Judges v k r ks × 
 -- THE STEPS OF THE SWEEP OF A SLOT, which are of the sweep's kinds: those, and the pass that clears its mark. The sweep has come to the next slot
 abbrev pub SweptBy : ℕ → View → Verdict → View → Type 0
 SweptBy k v r w = (ks : List Kind) × (x : ℕ) × (w ≡ after v (ks ++ PassOver x ∷ [])) × Judges v k r ks × SweepKinds ks
+
+-- how many slots, 0 or 1, the sweep found valid and left so; one of the first 256 is not looked at
+abbrev pub left_valid : Verdict → ℕ
+left_valid Low = 0
+left_valid (Passed x) = if state_of x == 3 then 1 else 0
+left_valid (Worn x) = 1
+left_valid Freed = 0
+
+abbrev pub all_left_valid : List Verdict → ℕ
+all_left_valid [] = 0
+all_left_valid (r ∷ rs) = left_valid r + all_left_valid rs
 
 -- THE STEPS OF A RUN OF SLOTS from the slot k on
 abbrev pub Run : ℕ → List Verdict → View → View → Type 0

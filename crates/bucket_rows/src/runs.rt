@@ -3,19 +3,22 @@ ghost use Rattle.std.specs.Prelude.{◌≡◌, ◌+◌, ◌-◌, ◌<◌, ◌≤
 ghost use Rattle.atom_words.specs.Seats.{seen, Fits, Same};
 ghost use Rattle.bucket_rows.specs.Treads.{AtSlot};
 ghost use Rattle.bucket_rows.specs.SweepKinds.{Untouched};
-ghost use Rattle.bucket_rows.specs.Sweeps.{Run};
+ghost use Rattle.bucket_rows.specs.Sweeps.{left_valid, all_left_valid, Run};
 ghost use Rattle.bucket_rows.specs.declared.slots.Verdict.{Verdict};
 
 use crate::slots::{Verdict, sweep_slot};
 use atom_words::{AtomSeat, Words};
 
-// Whether a slot was valid as the sweep passed it, by what it was found to be; one of the first 256 is not looked at.
-fn lives(verdict: Verdict) -> bool {
+// How many slots, 0 or 1, the sweep found valid and left so, by what it was found to be; one of the first 256 is not looked at.
+fn left_valid(verdict: Verdict) -> u32
+    ensures valid { result ≡ left_valid verdict }
+    ensures few { result ≤ 1 }
+{
     match verdict {
-        Verdict::Low => false,
-        Verdict::Passed(word) => word % 4 == 3,
-        Verdict::Worn(_) => true,
-        Verdict::Freed => false,
+        Verdict::Low => 0,
+        Verdict::Passed(word) => { if word % 4 == 3 { 1 } else { 0 } }
+        Verdict::Worn(_) => 1,
+        Verdict::Freed => 0,
     }
 }
 
@@ -27,16 +30,14 @@ pub fn sweep_run(words: &Words, seat: &mut AtomSeat, from: u32, end: u32) -> u32
     requires at { AtSlot from (seen seat.old) }
     ensures same { Same seat.old seat.new }
     ensures fits { Fits words.now seat.new }
-    ensures steps { (rs : List Verdict) × (length rs ≡ end - from) × Run from rs (seen seat.old) (seen seat.new) }
+    ensures steps { (rs : List Verdict) × (length rs ≡ end - from) × Run from rs (seen seat.old) (seen seat.new) × (result ≡ all_left_valid rs) }
     ensures untouched { Untouched (seen seat.old) (seen seat.new) }
     ensures at { AtSlot end (seen seat.new) }
     ensures few { result ≤ end - from }
 {
     let mut live = 0;
     for slot in from..end {
-        if lives(sweep_slot(words, seat, slot)) {
-            live += 1;
-        }
+        live += left_valid(sweep_slot(words, seat, slot));
     }
     live
 }

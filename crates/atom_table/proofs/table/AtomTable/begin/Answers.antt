@@ -9,6 +9,7 @@ pub invariant_of-collector : goal.invariant_of-collector
 invariant_of-collector c = let o = c.args.collector.now in record {
   collects = begun_collects (seen o.seat) (seen c.begin.new.seat) c.in-Ok.epoch o.word o.checked o.cursor o.collects c.in-Ok.ensures.steps;
   rowed = rowed_still (seen o.seat) (seen c.begin.new.seat) o.rows c.requires.still (ap (λ (y : View). y.growing) c.in-Ok.ensures.steps.5) (ap (λ (y : View). y.size) c.in-Ok.ensures.steps.5) o.rowed;
+  few = o.few;
 }
 
 pub returns-in-Ok-clause-sits : goal.returns-in-Ok-clause-sits

@@ -1,4 +1,4 @@
-use Rattle.std.proofs.Common.{refl, ap}
+use Rattle.std.proofs.Common.{refl, ap, arith}
 use Rattle.atom_words.specs.Layout.{epoch_of}
 use Rattle.atom_words.specs.Seats.{seen}
 use Rattle.atom_words.specs.declared.size.Size.{Size}
@@ -12,12 +12,14 @@ pub invariant_of-collector : goal.invariant_of-collector
 invariant_of-collector c = let o = c.args.collector.now in record {
   collects = all_collects (epoch_of o.word) o.word o.checked o.cursor c.args.self.now.words.size.engines (seen o.seat) (seen c.check-checked.new.seat) c.requires.marking (ap (λ (z : Size). z.engines) c.requires.sits.0.1) o.collects c.in-All.ensures.steps;
   rowed = rowed_still (seen o.seat) (seen c.check-checked.new.seat) o.rows (marks_still (seen o.seat) o.word o.checked o.cursor o.rows c.requires.marking o.collects o.rowed) (checked_same (λ (y : View). y.growing) (λ _ _. refl) (λ _. refl) (λ _ _ _. refl) (epoch_of o.word) o.checked (seen o.seat) All (seen c.check-checked.new.seat) c.in-All.ensures.steps) (checked_same (λ (y : View). y.size) (λ _ _. refl) (λ _. refl) (λ _ _ _. refl) (epoch_of o.word) o.checked (seen o.seat) All (seen c.check-checked.new.seat) c.in-All.ensures.steps) o.rowed;
+  few = omega arith;
 }
 
 pub invariant_of-collector-in-NotYet : goal.invariant_of-collector-in-NotYet
 invariant_of-collector-in-NotYet c = let o = c.args.collector.now in record {
   collects = part_collects (epoch_of o.word) o.word o.checked o.cursor c.in-NotYet.engine c.in-NotYet.seen (seen o.seat) (seen c.check-checked.new.seat) o.collects c.in-NotYet.ensures.steps;
   rowed = rowed_still (seen o.seat) (seen c.check-checked.new.seat) o.rows (marks_still (seen o.seat) o.word o.checked o.cursor o.rows c.requires.marking o.collects o.rowed) (checked_same (λ (y : View). y.growing) (λ _ _. refl) (λ _. refl) (λ _ _ _. refl) (epoch_of o.word) o.checked (seen o.seat) (NotYet c.in-NotYet.engine c.in-NotYet.seen) (seen c.check-checked.new.seat) c.in-NotYet.ensures.steps) (checked_same (λ (y : View). y.size) (λ _ _. refl) (λ _. refl) (λ _ _ _. refl) (epoch_of o.word) o.checked (seen o.seat) (NotYet c.in-NotYet.engine c.in-NotYet.seen) (seen c.check-checked.new.seat) c.in-NotYet.ensures.steps) o.rowed;
+  few = o.few;
 }
 
 pub returns-in-All-clause-sits : goal.returns-in-All-clause-sits

@@ -18,12 +18,14 @@ pub invariant_of-collector : goal.invariant_of-collector
 invariant_of-collector c = let o = c.args.collector.now in let v : View = seen o.seat in let w : View = seen c.close_row.new.seat in let s : o.rows.stage ≡ Closing = search rules in let steps = c.in-Ok.ensures.steps in let heads = c.row_heads-heads.ensures in let end = c.if-end-heads.true in record {
   collects = rows_collect v w o.word o.checked o.cursor steps o.collects;
   rowed = closed_all v w o.rows c.at_most-end.result s o.rowed steps c.in-Ok.ensures.rows (omega (arith, end, heads));
+  few = o.few;
 }
 
 pub invariant_of-collector-else-end-heads : goal.invariant_of-collector-else-end-heads
 invariant_of-collector-else-end-heads c = let o = c.args.collector.now in let v : View = seen o.seat in let w : View = seen c.close_row.new.seat in let s : o.rows.stage ≡ Closing = search rules in let steps = c.in-Ok.ensures.steps in let heads = c.row_heads-heads.ensures in let in_ = c.at_most-end.ensures.inside in record {
   collects = rows_collect v w o.word o.checked o.cursor steps o.collects;
   rowed = closed_some v w o.rows c.at_most-end.result s o.rowed steps c.in-Ok.ensures.rows in_.0 (omega (arith, in_.1, heads));
+  few = o.few;
 }
 
 pub invariant_of-collector-in-Err : goal.invariant_of-collector-in-Err
@@ -31,6 +33,7 @@ invariant_of-collector-in-Err c = let o = c.args.collector.now in let v : View =
     let h : ℕ = row_first o.rows.row + q.before in let ok = o.rowed.1 in let inside : h < v.size.heads = omega (arith, ok.0, ok.1, e.1, in_.1, heads) in record {
       collects = rows_collect v w o.word o.checked o.cursor (worn_steps h q.word v w e.2) o.collects;
       rowed = closed_worn v w o.rows h q.word q.before s o.rowed inside e.2 c.in-Err.ensures.rows (omega (arith, e.1, in_.1, heads));
+      few = o.few;
     }
 
 -- the seat sits on

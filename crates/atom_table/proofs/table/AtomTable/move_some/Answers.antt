@@ -19,12 +19,14 @@ invariant_of-collector c = let o = c.args.collector.now in let v : View = seen o
     let steps : RowSteps v w = rows_both v u w c.move_row-moved.ensures.steps (rows_one u w (PublishRow o.rows.aim) tt c.publish_row.ensures.steps) in record {
       collects = rows_collect v w o.word o.checked o.cursor steps o.collects;
       rowed = moved_all v w o.rows c.move_row-moved.result.chains c.row_heads-then-moved-row_heads.result s o.rowed steps c.publish_row.ensures.rows c.row_heads-then-moved-row_heads.ensures;
+      few = o.few;
     }
 
 pub invariant_of-collector-else-moved-row_heads : goal.invariant_of-collector-else-moved-row_heads
 invariant_of-collector-else-moved-row_heads c = let o = c.args.collector.now in let v : View = seen o.seat in let u : View = seen c.move_row-moved.new.seat in let s : o.rows.stage ≡ Moving = search rules in let e = c.move_row-moved.ensures in record {
   collects = rows_collect v u o.word o.checked o.cursor e.steps o.collects;
   rowed = moved_some v u o.rows c.move_row-moved.result.chains s o.rowed e.steps e.rows.3 e.rows.1;
+  few = o.few;
 }
 
 pub returns-then-moved-row_heads-clause-sits : goal.returns-then-moved-row_heads-clause-sits

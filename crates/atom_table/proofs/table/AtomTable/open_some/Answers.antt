@@ -16,12 +16,14 @@ pub invariant_of-collector : goal.invariant_of-collector
 invariant_of-collector c = let o = c.args.collector.now in let v : View = seen o.seat in let w : View = seen c.open_row.new.seat in let s : o.rows.stage ≡ Opening = search rules in let e = c.open_row.ensures in record {
   collects = rows_collect v w o.word o.checked o.cursor e.steps o.collects;
   rowed = opened_some v w o.rows (o.rows.shut - c.at_most.result) s o.rowed e.steps e.rows (omega arith);
+  few = o.few;
 }
 
 pub invariant_of-collector-2 : goal.invariant_of-collector-2
 invariant_of-collector-2 c = let o = c.args.collector.now in let v : View = seen o.seat in let w : View = seen c.open_row.new.seat in let s : o.rows.stage ≡ Opening = search rules in let e = c.open_row.ensures in record {
   collects = rows_collect v w o.word o.checked o.cursor e.steps o.collects;
   rowed = opened_all v w o.rows (o.rows.shut - c.at_most.result) s o.rowed e.steps e.rows c.if-end-ne0.false;
+  few = o.few;
 }
 
 pub returns-then-end-ne0-clause-sits : goal.returns-then-end-ne0-clause-sits

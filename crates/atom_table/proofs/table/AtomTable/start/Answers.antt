@@ -36,6 +36,7 @@ invariant_of-collector c = let o = c.args.collector.now in let v : View = seen o
     let steps : RowSteps v w = rows_both v u w (rows_one v u (Aim c.args.aim) tt c.aim_at.ensures.steps) c.in-Ok.ensures.steps in record {
       collects = rows_collect v w o.word o.checked o.cursor steps o.collects;
       rowed = started v w o.rows c.args.aim o.rowed steps (subst (λ (z : Size). RowOk z c.args.aim) (sym c.requires.sits.0.1) c.requires.aim.0) c.requires.aim.1 (c.in-Ok.ensures.rows c.args.aim 0 0 (c.aim_at.ensures.rows o.rows.row o.rowed.0));
+      few = o.few;
     }
 
 pub returns-in-Ok-clause-sits : goal.returns-in-Ok-clause-sits
@@ -51,6 +52,7 @@ invariant_of-collector-in-Err-1 c = let o = c.args.collector.now in let v : View
     let steps : RowSteps v w = worn_all v u w o.rows.row c.args.aim q.before q.word c.aim_at.ensures.steps e.2 in let none_ : q.before ≡ 0 = omega (arith, e.1) in record {
       collects = rows_collect v w o.word o.checked o.cursor steps o.collects;
       rowed = not_started v w o.rows c.args.aim c.requires.still o.rowed steps (subst (λ (n : ℕ). Rowing o.rows.row c.args.aim n 0 0 w) none_ (c.in-Err.ensures.rows c.args.aim 0 0 (c.aim_at.ensures.rows o.rows.row o.rowed.0)));
+      few = o.few;
     }
 
 pub returns-in-Err-clause-sits : goal.returns-in-Err-clause-sits
