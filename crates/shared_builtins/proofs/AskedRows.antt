@@ -8,9 +8,9 @@ use Rattle.pl_model.specs.BodyChecks.{clause_of_term}
 use Rattle.pl_model.specs.BuiltinRows.{Row, one_answer}
 use Rattle.pl_model.specs.Checks.{atom_error, atoms_error, bound_error, elements, natural_of, proc_indicated, text_of_atom}
 use Rattle.pl_model.specs.History.{Kind, Proc}
-use Rattle.pl_model.specs.Requests.{Request, Reply, abolish_procedure, all_flags, all_procedures, assert_first, assert_last, create_queue, create_thread, destroy_queue, get_message, join_thread, make_dynamic, own_name, peek_message, put_flag, put_operators, refused, send_message}
+use Rattle.pl_model.specs.Requests.{Request, Reply, abolish_procedure, all_flags, all_procedures, assert_first, assert_last, create_queue, create_thread, destroy_queue, get_message, join_thread, make_dynamic, own_name, peek_message, put_flag, put_operators, read_operators, refused, send_message}
 use Rattle.pl_model.specs.SharedBuiltins as shared
-use Rattle.pl_model.specs.SharedBuiltins.{Options, asks_for, creates_with, gives_row, indicated, lists_procedures, message_row, named_row, names_in, on_ok, options_of, procedures_row, flags_row, puts_names, queue_alias, specifier_named, status_row, succeeds_with, unless}
+use Rattle.pl_model.specs.SharedBuiltins.{Options, asks_for, creates_with, gives_row, indicated, lists_procedures, message_row, named_row, names_in, on_ok, operators_row, options_of, procedures_row, flags_row, puts_names, queue_alias, specifier_named, status_row, succeeds_with, unless}
 use Rattle.shared_builtins.specs.declared.preds.StatePred.TheVariants.{Three}
 use Rattle.shared_builtins.specs.declared.preds.StateOne.{StateOne}
 use Rattle.shared_builtins.specs.declared.preds.StateOne.TheVariants as one
@@ -142,6 +142,7 @@ two_error two.Peek t u q e s g y k r h = peek_error e s g y k t u (ap (λ q. ser
 
 abbrev pub IsRequestThree : StateThree → Tree → Tree → Tree → Request → Type 0
 IsRequestThree three.Op t u v q = (n : ℕ) × (k : OperatorKind) × (fs : List Chars) × (q ≡ put_operators n k fs)
+IsRequestThree three.CurrentOp t u v q = q ≡ read_operators
 IsRequestThree three.CreateThread t u v q =
     (os : List Tree) × (elements v ≡ Ok os) × ((q ≡ create_thread t [] None) ⊎ ((ks : List Chars) × (q ≡ create_thread t ks (options_of os).error)))
 
@@ -174,11 +175,13 @@ pub three_asked : (p : StateThree) (t u v : Tree) (q : Request) (n : Reply → �
     → IsRequestThree p t u v q × (n ≡ row_by (following_three p) (more t (more u (more v none))) (λ x. more t (more x (more v none))))
 three_asked three.Op t u v q n e =
     operators_asked (more t (more u (more v none))) t (specifier_named (text_of_atom u)) (names_in v) q n (unless_asked _ _ q n e)
+three_asked three.CurrentOp t u v q n e = unless_same _ read_operators q operators_row n e
 three_asked three.CreateThread t u v q n e = with_options_asked t (λ x. more t (more x (more v none))) (elements v) q n (unless_asked _ _ q n e)
 
 pub three_error : (p : StateThree) (t u v : Tree) (q : Request) (e : ℕ) (s : SharedState) (g : ℕ) (y : Tree) (k : Option Kind) → IsRequestThree p t u v q
     → serve e q s g ≡ answers (refused y) k → IsErrorOf (Three p) (more t (more u (more v none))) y
 three_error three.Op t u v q e s g y k r h = plainly e q (put_operators r.0 r.1 r.2) s g y k r.3 refl h
+three_error three.CurrentOp t u v q e s g y k r h = plainly e q read_operators s g y k r refl h
 three_error three.CreateThread t u v q e s g y k (os, is, inl r) h = inl (ground_create_error e s g y k t (ap (λ q. serve e q s g) (sym r) ∙ h))
 three_error three.CreateThread t u v q e s g y k (os, is, inr (ks, r)) h =
     elim (thread_error e s g y k t ks (options_of os).error (ap (λ q. serve e q s g) (sym r) ∙ h)) [ inl p ↦ inl p | inr o ↦ inr (os, is, o) ]

@@ -205,3 +205,63 @@ detached_is = refl
 pub false_is : fixed 89 ≡ Some (codes "false")
 unfolding fixed_texts
 false_is = refl
+
+pub abolish_is : fixed 37 ≡ Some (codes "abolish")
+unfolding fixed_texts
+abolish_is = refl
+
+pub dynamic_is : fixed 79 ≡ Some (codes "dynamic")
+unfolding fixed_texts
+dynamic_is = refl
+
+pub current_predicate_is : fixed 70 ≡ Some (codes "current_predicate")
+unfolding fixed_texts
+current_predicate_is = refl
+
+pub thread_self_is : fixed 171 ≡ Some (codes "thread_self")
+unfolding fixed_texts
+thread_self_is = refl
+
+pub thread_get_message_is : fixed 166 ≡ Some (codes "thread_get_message")
+unfolding fixed_texts
+thread_get_message_is = refl
+
+pub thread_peek_message_is : fixed 170 ≡ Some (codes "thread_peek_message")
+unfolding fixed_texts
+thread_peek_message_is = refl
+
+pub message_queue_create_is : fixed 120 ≡ Some (codes "message_queue_create")
+unfolding fixed_texts
+message_queue_create_is = refl
+
+pub message_queue_destroy_is : fixed 121 ≡ Some (codes "message_queue_destroy")
+unfolding fixed_texts
+message_queue_destroy_is = refl
+
+pub set_prolog_flag_is : fixed 155 ≡ Some (codes "set_prolog_flag")
+unfolding fixed_texts
+set_prolog_flag_is = refl
+
+pub current_prolog_flag_is : fixed 71 ≡ Some (codes "current_prolog_flag")
+unfolding fixed_texts
+current_prolog_flag_is = refl
+
+pub thread_create_is : fixed 164 ≡ Some (codes "thread_create")
+unfolding fixed_texts
+thread_create_is = refl
+
+pub thread_join_is : fixed 167 ≡ Some (codes "thread_join")
+unfolding fixed_texts
+thread_join_is = refl
+
+pub thread_send_message_is : fixed 172 ≡ Some (codes "thread_send_message")
+unfolding fixed_texts
+thread_send_message_is = refl
+
+pub op_is : fixed 136 ≡ Some (codes "op")
+unfolding fixed_texts
+op_is = refl
+
+pub current_op_is : fixed 69 ≡ Some (codes "current_op")
+unfolding fixed_texts
+current_op_is = refl

@@ -60,6 +60,7 @@ two_named p f t u e = ap (λ g. shared_of_two g t u) e ∙ two_is p t u
 
 three_is : (p : StateThree) (t u v : Tree) → shared_of_three (name_of_three p) t u v ≡ Some (three_comes p t u v)
 three_is three.Op t u v = refl
+three_is three.CurrentOp t u v = refl
 three_is three.CreateThread t u v = refl
 
 pub three_named : (p : StateThree) (f : Chars) (t u v : Tree) → f ≡ name_of_three p → shared_of_three f t u v ≡ Some (three_comes p t u v)
@@ -173,7 +174,7 @@ module _ (m : Names) (stands : FixedStand m) (s : Contents) (x : StateGoal) (is 
   pub shared_by : (us : Trees) (d : shared.Shared) → shared.shared (name_of g) (arguments g) ≡ Some d → arguments g ≡ us → (r : Shared) → ComesTo m s us d r → IsShared m s x r
   shared_by us d e a (comes.Refused f) h = (e ∙ ap Some h.0, h.1)
   shared_by us d e a comes.Holds h = e ∙ ap Some h ∙ ap (λ us. Some (gives_row (one_answer us))) (sym a)
-  shared_by us d e a (comes.Asks v) h = (h.0, h.1, e ∙ ap Some h.2.means, h.2.asks, h.2.held)
+  shared_by us d e a (comes.Asks v) h = (h.0, h.1, e ∙ ap Some h.2.means, h.2.asks, h.2.held, h.2.by_names)
 
   -- By the arguments as terms
 

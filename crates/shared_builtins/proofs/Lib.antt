@@ -20,6 +20,7 @@ pub mod Saying
 pub mod Choosing
 pub mod ReplyRows
 pub mod FlagLines
+pub mod OperatorLines
 pub mod CopiedRows
 pub mod Creating
 pub mod AskedRows

@@ -191,22 +191,26 @@ pub plain_error : (p : StatePred) (ts : Trees) (e : Tree) → IsPlain p → IsEr
 plain_error (One p) ts e is h = h
 plain_error (Two p) ts e is h = h
 plain_error (Three three.Op) ts e is h = h
+plain_error (Three three.CurrentOp) ts e is h = h
 plain_error (Three three.CreateThread) ts e is h = absurd is
 
 pub plain_by : (p : StatePred) (f : Following) → f ≡ following_of p → (f ≡ by.Names → ⊥) → IsPlain p
 plain_by (One p) f e other = tt
 plain_by (Two p) f e other = tt
 plain_by (Three three.Op) f e other = tt
+plain_by (Three three.CurrentOp) f e other = tt
 plain_by (Three three.CreateThread) f e other = absurd (other e)
 
 pub plain_without : (p : StatePred) → has_options p ≡ false → IsPlain p
 plain_without (One p) e = tt
 plain_without (Two p) e = tt
 plain_without (Three three.Op) e = tt
+plain_without (Three three.CurrentOp) e = tt
 plain_without (Three three.CreateThread) e = absurd cc
 
 pub creation_with : (p : StatePred) → has_options p ≡ true → p ≡ Three three.CreateThread
 creation_with (One p) e = absurd cc
 creation_with (Two p) e = absurd cc
 creation_with (Three three.Op) e = absurd cc
+creation_with (Three three.CurrentOp) e = absurd cc
 creation_with (Three three.CreateThread) e = refl

@@ -64,7 +64,7 @@ module _ (m : Names) (s : Contents) (term : Place) where
       go (clauses.Clause c) h = (
         _,
         _,
-        record { means = ap (λ k. on_ok k (λ c. asks_for (assert_first c) (succeeds_with ts))) h.0; asks = refl; held = h.1 },
+        record { means = ap (λ k. on_ok k (λ c. asks_for (assert_first c) (succeeds_with ts))) h.0; asks = refl; held = h.1; by_names = tt },
       )
       go (clauses.Refused f) h = (ap (λ k. on_ok k (λ c. asks_for (assert_first c) (succeeds_with ts))) h.0, h.1)
 
@@ -75,7 +75,7 @@ module _ (m : Names) (s : Contents) (term : Place) where
       go (clauses.Clause c) h = (
         _,
         _,
-        record { means = ap (λ k. on_ok k (λ c. asks_for (assert_last c) (succeeds_with ts))) h.0; asks = refl; held = h.1 },
+        record { means = ap (λ k. on_ok k (λ c. asks_for (assert_last c) (succeeds_with ts))) h.0; asks = refl; held = h.1; by_names = tt },
       )
       go (clauses.Refused f) h = (ap (λ k. on_ok k (λ c. asks_for (assert_last c) (succeeds_with ts))) h.0, h.1)
 
@@ -89,6 +89,7 @@ module _ (m : Names) (s : Contents) (term : Place) where
       means = ap (λ k. on_ok k (λ p. asks_for (abolish_procedure p) (succeeds_with ts))) h.0;
       asks = refl;
       held = All-cons (λ a. IsSome (m a)) p.name [] h.1 (All-nil (λ a. IsSome (m a)));
+      by_names = tt;
     },
   )
 
@@ -102,7 +103,7 @@ module _ (m : Names) (s : Contents) (term : Place) where
       go (indicators.Predicates ps) h = (
         _,
         _,
-        record { means = ap (λ k. on_ok k (λ ps. asks_for (make_dynamic ps) (succeeds_with ts))) h.0; asks = refl; held = named_all m ps.items h.1 },
+        record { means = ap (λ k. on_ok k (λ ps. asks_for (make_dynamic ps) (succeeds_with ts))) h.0; asks = refl; held = named_all m ps.items h.1; by_names = tt },
       )
       go (indicators.Refused f) h = (ap (λ k. on_ok k (λ ps. asks_for (make_dynamic ps) (succeeds_with ts))) h.0, h.1)
 
@@ -116,13 +117,13 @@ module _ (m : Names) (s : Contents) (term : Place) where
   -- Queues
 
   pub own_got : (k : Tree) → IsKept m T k → ComesTo m s ts (one_comes one.GetOwn T) (comes.Asks (visits.GetMessage None k))
-  own_got k h = (_, _, record { means = refl; asks = ap (get_message None) (sym h.stands); held = h.held })
+  own_got k h = (_, _, record { means = refl; asks = ap (get_message None) (sym h.stands); held = h.held; by_names = tt })
 
   pub own_peeked : (k : Tree) → IsKept m T k → ComesTo m s ts (one_comes one.PeekOwn T) (comes.Asks (visits.PeekMessage None k))
-  own_peeked k h = (_, _, record { means = refl; asks = ap (peek_message None) (sym h.stands); held = h.held })
+  own_peeked k h = (_, _, record { means = refl; asks = ap (peek_message None) (sym h.stands); held = h.held; by_names = tt })
 
   pub unnamed_queue : (x : ℕ) → term_at s term ≡ var x → ComesTo m s ts (creates_queue T) (comes.Asks (visits.CreateQueue None))
-  unnamed_queue x e = (_, _, record { means = ap (λ t. creates_queue (spelled (text_of m) t)) e; asks = refl; held = All-nil (λ a. IsSome (m a)) })
+  unnamed_queue x e = (_, _, record { means = ap (λ t. creates_queue (spelled (text_of m) t)) e; asks = refl; held = All-nil (λ a. IsSome (m a)); by_names = tt })
 
   pub named_queue : (a : ℕ) → term_at s term ≡ atom (atom_name a) → IsHeldAt m s term → ComesTo m s ts (creates_queue T) (comes.Asks (visits.CreateQueue (Some a)))
   named_queue a e held =
@@ -133,6 +134,7 @@ module _ (m : Names) (s : Contents) (term : Place) where
           means = ap (λ t. creates_queue (spelled (text_of m) t)) e ∙ ap (λ x. asks_for (create_queue (Some x)) (named_row (λ t. more t none))) (sym (one_text m a));
           asks = refl;
           held = All-cons P a [] (All-head P a [] (subst (λ t. All P (atoms_in t)) e held)) (All-nil P);
+          by_names = tt;
         },
       )
 
@@ -156,6 +158,7 @@ module _ (m : Names) (s : Contents) (term : Place) where
       means = ap (λ o. unless o (asks_for (destroy_queue T) (succeeds_with ts))) (sym (one_error (bound_error T)) ∙ e);
       asks = ap destroy_queue (sym h.stands);
       held = h.held;
+      by_names = tt;
     },
   )
 
@@ -181,10 +184,10 @@ module _ (m : Names) (s : Contents) (term : Place) where
   no_procedures (comp f u (more x (more y us))) v e = refl
 
   pub all_listed : passes VARIABLE (term_at s term) ≡ true → ComesTo m s ts (lists_procedures T) (comes.Asks visits.AllProcedures)
-  all_listed v = (_, _, record { means = procedures_of (term_at s term) v; asks = refl; held = All-nil (λ a. IsSome (m a)) })
+  all_listed v = (_, _, record { means = procedures_of (term_at s term) v; asks = refl; held = All-nil (λ a. IsSome (m a)); by_names = tt })
 
   pub pair_listed : (x y : Place) → T ≡ comp (codes "/") (reads m s x) (more (reads m s y) none) → ComesTo m s ts (lists_procedures T) (comes.Asks visits.AllProcedures)
-  pair_listed x y e = (_, _, record { means = ap lists_procedures e; asks = refl; held = All-nil (λ a. IsSome (m a)) })
+  pair_listed x y e = (_, _, record { means = ap lists_procedures e; asks = refl; held = All-nil (λ a. IsSome (m a)); by_names = tt })
 
   pub not_listed : passes VARIABLE (term_at s term) ≡ false → is_pair (codes "/") T ≡ false → lists_procedures T ≡ gives_row (error (fault_term m s (For 177 143 term)))
   not_listed v e =

@@ -9,9 +9,9 @@ use Rattle.pl_term.specs.Tree.{Chars, Tree, Trees, var, int, atom, comp, none, m
 use Rattle.pl_model.specs.declared.operators.Kind.{Kind}
 use Rattle.pl_model.specs.BuiltinRows.{error}
 use Rattle.pl_model.specs.Checks.{atom_error, bound_error, elements, first_error, integer_error, natural_of, text_of_atom}
-use Rattle.pl_model.specs.Requests.{create_thread, put_operators}
+use Rattle.pl_model.specs.Requests.{create_thread, put_operators, read_operators}
 use Rattle.pl_model.specs.SharedBuiltins as shared
-use Rattle.pl_model.specs.SharedBuiltins.{asks_for, creates_with, creates_with_options, gives_row, named_row, names_in, on_ok, options_of, priority_error, puts_names, puts_operators, specifier_error, specifier_named, succeeds_with, thread_errors, unless}
+use Rattle.pl_model.specs.SharedBuiltins.{asks_for, creates_with, creates_with_options, gives_row, lists_operators, named_row, names_in, on_ok, operators_row, options_of, priority_error, puts_names, puts_operators, specifier_error, specifier_named, succeeds_with, thread_errors, unless}
 use Rattle.atom_api.specs.Names.{Names}
 use Rattle.builtin_rows.specs.Kinds.{passes}
 use Rattle.builtin_rows.specs.Lists.{IsNaming}
@@ -83,6 +83,7 @@ module _ (m : Names) (naming : IsNaming m) (s : Contents) (first second third : 
           ∙ ap₂ (λ n xs. asks_for (put_operators n k xs) (succeeds_with ts)) e h.1.0;
       asks = refl;
       held = h.1.1;
+      by_names = tt;
     },
   )
   named_put p k (Ok fs) (Refused f) h e =
@@ -102,6 +103,14 @@ module _ (m : Names) (naming : IsNaming m) (s : Contents) (first second third : 
       go : (o : Option Kind) → IsSome o → ComesTo m s ts (on_ok (names_in F) (puts_names ts P o)) (operators_by p o n)
       go None some = absurd cc
       go (Some k) some = named_put p k (names_in F) n h (ap (λ t. natural_of (spelled (text_of m) t)) pe)
+
+  -- current_op/3
+
+  pub operators_listed : first_error (priority_error P ∷ (specifier_error K ∷ (atom_error F ∷ []))) ≡ None → ComesTo m s ts (lists_operators P K F) (comes.Asks visits.AllOperators)
+  operators_listed e = (_, _, record { means = ap (λ o. unless o (asks_for read_operators operators_row)) e; asks = refl; held = All-nil (λ a. IsSome (m a)); by_names = tt })
+
+  pub operators_unlisted : (x : Tree) → first_error (priority_error P ∷ (specifier_error K ∷ (atom_error F ∷ []))) ≡ Some x → lists_operators P K F ≡ gives_row (error x)
+  operators_unlisted x e = ap (λ o. unless o (asks_for read_operators operators_row)) e
 
   -- thread_create/3
 
@@ -144,6 +153,7 @@ module _ (m : Names) (s : Contents) (goal : Place) (ts : Trees) (terms : Tree �
       means = plain_created G terms (map (worlds.text_of m) v.items);
       asks = ap (λ x. create_thread x (map (worlds.text_of m) v.items) None) (sym h.stands);
       held = All-append (λ a. IsSome (m a)) (names_of k) (v.items ++ []) h.held (All-append (λ a. IsSome (m a)) v.items [] held (All-nil (λ a. IsSome (m a))));
+      by_names = tt;
     },
   )
 
@@ -157,6 +167,7 @@ module _ (m : Names) (s : Contents) (goal : Place) (ts : Trees) (terms : Tree �
       asks = ap₂ (λ x y. create_thread x (map (worlds.text_of m) v.items) (Some y)) (sym h.stands) (sym i.stands);
       held =
           All-append (λ a. IsSome (m a)) (names_of k) (v.items ++ names_of j) h.held (All-append (λ a. IsSome (m a)) v.items (names_of j) held i.held);
+      by_names = tt;
     },
   )
 

@@ -63,6 +63,7 @@ module _ (m : Names) (s : Contents) (first second : Place) where
           ∙ ap₂ (λ x y. asks_for (put_flag (text_of_atom x) (text_of_atom y)) (succeeds_with ts)) (name_told m s first a fa) (name_told m s second b fb);
       asks = refl;
       held = All-cons (λ k. IsSome (m k)) a (b ∷ []) ha (All-cons (λ k. IsSome (m k)) b [] hb (All-nil (λ k. IsSome (m k))));
+      by_names = tt;
     },
   )
 
@@ -71,7 +72,7 @@ module _ (m : Names) (s : Contents) (first second : Place) where
   flag_refused x e = ap (λ o. unless o (asks_for (put_flag (text_of_atom T) (text_of_atom U)) (succeeds_with ts))) e
 
   pub flags_listed : first_error (atom_error T ∷ (flag_error T ∷ [])) ≡ None → ComesTo m s ts (lists_flags T U) (comes.Asks visits.AllFlags)
-  flags_listed e = (_, _, record { means = ap (λ o. unless o (asks_for all_flags flags_row)) e; asks = refl; held = All-nil (λ a. IsSome (m a)) })
+  flags_listed e = (_, _, record { means = ap (λ o. unless o (asks_for all_flags flags_row)) e; asks = refl; held = All-nil (λ a. IsSome (m a)); by_names = tt })
 
   pub flags_refused : (x : Tree) → first_error (atom_error T ∷ (flag_error T ∷ [])) ≡ Some x → lists_flags T U ≡ gives_row (error x)
   flags_refused x e = ap (λ o. unless o (asks_for all_flags flags_row)) e
@@ -91,6 +92,7 @@ module _ (m : Names) (s : Contents) (first second : Place) where
       held =
           All-append (λ a. IsSome (m a)) (names_of k) (v.items ++ []) h.held
           (subst (λ xs. All (λ a. IsSome (m a)) (xs ++ [])) (sym empty) (All-nil (λ a. IsSome (m a))));
+      by_names = tt;
     },
   )
 
@@ -110,6 +112,7 @@ module _ (m : Names) (s : Contents) (first second : Place) where
       means = ap (λ o. unless o (asks_for (join_thread T) (status_row (λ t. more T (more t none))))) (sym (one_error (bound_error T)) ∙ e);
       asks = ap join_thread (sym h.stands);
       held = h.held;
+      by_names = tt;
     },
   )
 
@@ -124,6 +127,7 @@ module _ (m : Names) (s : Contents) (first second : Place) where
       means = ap (λ o. unless o (asks_for (send_message T U) (succeeds_with ts))) (sym (one_error (bound_error T)) ∙ e);
       asks = ap₂ send_message (sym h.stands) (sym i.stands);
       held = All-append (λ a. IsSome (m a)) (names_of j) (names_of k) h.held i.held;
+      by_names = tt;
     },
   )
 
@@ -138,6 +142,7 @@ module _ (m : Names) (s : Contents) (first second : Place) where
       means = ap (λ o. unless o (asks_for (get_message (Some T) U) (message_row (λ t. more T (more t none))))) (sym (one_error (bound_error T)) ∙ e);
       asks = ap₂ (λ x y. get_message (Some x) y) (sym h.stands) (sym i.stands);
       held = All-append (λ a. IsSome (m a)) (names_of j) (names_of k) h.held i.held;
+      by_names = tt;
     },
   )
 
@@ -152,6 +157,7 @@ module _ (m : Names) (s : Contents) (first second : Place) where
       means = ap (λ o. unless o (asks_for (peek_message (Some T) U) (message_row (λ t. more T (more t none))))) (sym (one_error (bound_error T)) ∙ e);
       asks = ap₂ (λ x y. peek_message (Some x) y) (sym h.stands) (sym i.stands);
       held = All-append (λ a. IsSome (m a)) (names_of j) (names_of k) h.held i.held;
+      by_names = tt;
     },
   )
 

@@ -6,7 +6,7 @@ use Rattle.pl_model.specs.BuiltinRows.{Row}
 use Rattle.pl_model.specs.Checks.{elements}
 use Rattle.pl_model.specs.ErrorTerms.{existence_error}
 use Rattle.pl_model.specs.Requests.{Reply}
-use Rattle.pl_model.specs.SharedBuiltins.{flags_row, message_row, options_of, named_row, procedures_row, status_row, succeeds_with}
+use Rattle.pl_model.specs.SharedBuiltins.{flags_row, message_row, options_of, named_row, operators_row, procedures_row, status_row, succeeds_with}
 use Rattle.atom_api.specs.Fixed.{fixed}
 use Rattle.atom_api.specs.Names.{Names}
 use Rattle.world_api.specs.declared.reply.Name.{Name}
@@ -41,6 +41,7 @@ following_two two.Peek = by.Messages
 
 abbrev pub following_three : StateThree → Following
 following_three three.Op = by.Succeeds
+following_three three.CurrentOp = by.Operators
 following_three three.CreateThread = by.Names
 
 abbrev pub following_of : StatePred → Following
@@ -63,6 +64,7 @@ row_by by.Messages ts terms = message_row terms
 row_by by.Statuses ts terms = status_row terms
 row_by by.Procedures ts terms = procedures_row
 row_by by.Flags ts terms = flags_row
+row_by by.Operators ts terms = operators_row
 
 -- What the first argument names, if it names something.
 abbrev pub kind_one : StateOne → Option Chars

@@ -42,6 +42,7 @@ name_of_two two.Peek = codes "thread_peek_message"
 
 abbrev pub name_of_three : StateThree → Chars
 name_of_three three.Op = codes "op"
+name_of_three three.CurrentOp = codes "current_op"
 name_of_three three.CreateThread = codes "thread_create"
 
 abbrev pub IsNameOf : StatePred → Chars → Type 0

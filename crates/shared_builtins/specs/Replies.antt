@@ -19,11 +19,15 @@ use Rattle.builtin_rows.specs.Given.{given}
 use Rattle.builtin_rows.specs.Rows.{IsRow, IsSingle, row_refusals}
 use Rattle.term_store.specs.declared.nodes.AtomNode.{AtomNode}
 use Rattle.term_store.specs.declared.nodes.AtomNode.TheVariants as nodes
+use Rattle.term_store.specs.ArgumentKeys.{clause_key}
+use Rattle.term_store.specs.declared.argument_key.ArgumentKey.{ArgumentKey}
 use Rattle.term_store.specs.Contents.{Contents}
 use Rattle.term_store.specs.NumberedNames.{names_of, number_of, term_by}
 use Rattle.world_api.specs.declared.reply.FlagValue.{FlagValue}
 use Rattle.world_api.specs.declared.reply.Reply.{Reply as WorldReply}
-use Rattle.world_api.specs.Replies.{Says, reply_names}
+use Rattle.world_api.specs.Replies.{HasNames, Says, Suits, reply_names}
+use Rattle.world_api.specs.Visits.{Asks}
+use Rattle.world_api.specs.declared.visit.Visit.{Visit}
 use Rattle.world_api.specs.Texts.{text_of}
 use Rattle.world_builtins.specs.Naming.{IsHeldAt}
 use Rattle.world_builtins.specs.Spelling.{reads}
@@ -39,6 +43,7 @@ use Rattle.shared_builtins.specs.Faults.{IsFaultHeld, IsFaultIn, fault_term}
 use Rattle.shared_builtins.specs.declared.faults.Fault.{Fault}
 use Rattle.shared_builtins.specs.declared.following.Following.TheVariants as by
 use Rattle.shared_builtins.specs.Following.{IsErrorBy, IsErrorOf, following_of}
+use Rattle.shared_builtins.specs.Shared.{AsksByNames, renumbered}
 use Rattle.shared_builtins.specs.Telling.{TellsAtoms}
 
 -- A refusal of a request whose variables are numbered from 0 has its error so.
@@ -50,7 +55,8 @@ abbrev pub renumbered_served : Served → Served
 renumbered_served (answers r k) = answers (renumbered_reply r) k
 renumbered_served waits = waits
 
--- The definition asks `q` for the goal, the request is answered `r`, and the reply says this, its error numbered from 0.
+-- The definition asks `q` for the goal, and the visit for the same; the request is answered `r`, and the reply, which suits
+-- the visit, says this, its error numbered from 0.
 pub record IsReplyTo (m : Names) (s : Contents) (x : StateGoal) (reply : WorldReply Tree) (q : Request) (next_row : Reply → ℕ → Row) (r : Reply) : Type 0 where
   pub tells : TellsAtoms m
   pub held : IsHeldAt m s x.place
@@ -62,6 +68,11 @@ pub record IsReplyTo (m : Names) (s : Contents) (x : StateGoal) (reply : WorldRe
   pub update : Option Kind
   pub served : served_now engine goals before q ≡ answers r update
   pub says : Says term_by (text_of m) reply (renumbered_reply r)
+  pub text : ℕ → Chars
+  pub visit : Visit Tree ArgumentKey
+  pub asks : Asks term_by clause_key text visit (renumbered q)
+  pub by_names : AsksByNames visit
+  pub suits : Suits visit reply
 
 -- An integer or an atom.
 abbrev pub IsConstantTerm : Tree → Type 0
@@ -69,7 +80,8 @@ IsConstantTerm (var x) = ⊥
 IsConstantTerm (comp f t ts) = ⊥
 IsConstantTerm t = Unit {0}
 
--- The same, for a goal of which the row follows by the reply alone. Values of flags are constants.
+-- The same, for a goal of which the row follows by the reply alone. Values of flags are constants, and operators are told by
+-- their names.
 pub record IsReplyFor (m : Names) (s : Contents) (x : StateGoal) (reply : WorldReply Tree) (r : Reply) : Type 0 where
   pub tells : TellsAtoms m
   pub held : IsHeldAt m s x.place
@@ -77,6 +89,7 @@ pub record IsReplyFor (m : Names) (s : Contents) (x : StateGoal) (reply : WorldR
   pub says : Says term_by (text_of m) reply (renumbered_reply r)
   pub refuses : (e : Tree) → r ≡ refused e → IsErrorOf x.pred (arguments (reads m s x.place)) e
   pub values : following_of x.pred ≡ by.Flags → (fs : List (Chars × Tree)) → r ≡ flags fs → All (λ f. IsConstantTerm f.1) fs
+  pub named : following_of x.pred ≡ by.Operators → HasNames reply
 
 abbrev pub IsConstantHeld : Names → Constant → Type 0
 IsConstantHeld m (constants.Int i) = Unit {0}

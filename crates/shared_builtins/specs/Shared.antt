@@ -8,7 +8,7 @@ use Rattle.pl_model.specs.BuiltinRows.{Row, error, one_answer}
 use Rattle.pl_model.specs.Control.{name_of}
 use Rattle.pl_model.specs.Requests.{Request, Reply, assert_first, assert_last, create_thread, join_thread, own_name, send_message, get_message, peek_message, destroy_queue}
 use Rattle.pl_model.specs.SharedBuiltins as shared
-use Rattle.pl_model.specs.SharedBuiltins.{abolishes, asks_for, asserts, checks_indicators, creates_queue, creates_thread, creates_with_options, destroys, gets_from, gives_row, joins, lists_flags, lists_procedures, makes_dynamic, message_row, named_row, peeks_at, puts_flag, puts_operators, sends}
+use Rattle.pl_model.specs.SharedBuiltins.{abolishes, asks_for, asserts, checks_indicators, creates_queue, creates_thread, creates_with_options, destroys, gets_from, gives_row, joins, lists_flags, lists_operators, lists_procedures, makes_dynamic, message_row, named_row, peeks_at, puts_flag, puts_operators, sends}
 use Rattle.pl_model.specs.Terms.{arguments}
 use Rattle.atom_api.specs.Names.{Names}
 use Rattle.term_store.specs.ArgumentKeys.{clause_key, key_atoms}
@@ -48,11 +48,18 @@ renumbered (peek_message x t) = peek_message (option_map (rename zero) x) (renam
 renumbered (destroy_queue x) = destroy_queue (rename zero x)
 renumbered q = q
 
+-- The visit is not for the table of the operators, which no predicate of the shared state is told.
+abbrev pub AsksByNames : Visit Tree ArgumentKey → Type 0
+AsksByNames visits.Look = ⊥
+AsksByNames visits.ReadOperators = ⊥
+AsksByNames _ = Unit {0}
+
 -- The definition asks for this, and the visit asks for the same with its variables numbered from 0.
 pub record IsVisit (m : Names) (d : shared.Shared) (v : Visit Tree ArgumentKey) (q : Request) (next : Reply → ℕ → Row) : Type 0 where
   pub means : d ≡ asks_for q next
   pub asks : Asks term_by clause_key (text_of m) v (renumbered q)
   pub held : All (λ a. IsSome (m a)) (visit_names names_of key_atoms v)
+  pub by_names : AsksByNames v
 
 -- For the arguments `ts` the definition has `d`.
 abbrev pub ComesTo : Names → Contents → Trees → shared.Shared → Shared → Type 0
@@ -85,6 +92,7 @@ two_comes two.Peek t u = peeks_at t u
 
 abbrev pub three_comes : StateThree → Tree → Tree → Tree → shared.Shared
 three_comes three.Op t u v = puts_operators t u v
+three_comes three.CurrentOp t u v = lists_operators t u v
 three_comes three.CreateThread t u v = creates_with_options t u v
 
 -- What is asked with a clause, or with indicators.
@@ -118,6 +126,7 @@ IsShared m s x (comes.Asks v) =
     × (shared.shared (name_of g) (arguments g) ≡ Some (asks_for q next))
     × Asks term_by clause_key (text_of m) v (renumbered q)
     × All (λ a. IsSome (m a)) (visit_names names_of key_atoms v)
+    × AsksByNames v
 
 -- What op/3 comes to with its names.
 abbrev pub operators_of : ℕ → OperatorKind → Named → Shared

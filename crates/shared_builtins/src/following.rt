@@ -19,6 +19,8 @@ pub enum Following {
     Procedures,
     /// It gives the flags, one after the other.
     Flags,
+    /// It gives the operators, one after the other.
+    Operators,
 }
 
 /// How the row of this predicate follows.
@@ -69,6 +71,7 @@ fn following_three(pred: StateThree) -> Following
 {
     match pred {
         StateThree::Op => Following::Succeeds,
+        StateThree::CurrentOp => Following::Operators,
         StateThree::CreateThread => Following::Names,
     }
 }

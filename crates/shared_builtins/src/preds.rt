@@ -59,6 +59,8 @@ pub enum StateTwo {
 pub enum StateThree {
     /// `op/3`, ISO 8.14.3.
     Op,
+    /// `current_op/3`, ISO 8.14.4.
+    CurrentOp,
     /// `thread_create/3`.
     CreateThread,
 }

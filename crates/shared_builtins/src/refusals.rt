@@ -54,6 +54,7 @@ fn has_options(pred: StatePred) -> bool
         StatePred::One(_) => false,
         StatePred::Two(_) => false,
         StatePred::Three(StateThree::Op) => false,
+        StatePred::Three(StateThree::CurrentOp) => false,
         StatePred::Three(StateThree::CreateThread) => true,
     }
 }

@@ -4,7 +4,7 @@ ghost use Rattle.std.specs.List.{All};
 ghost use Rattle.pl_term.specs.Tree.{Tree};
 ghost use Rattle.pl_model.specs.BuiltinRows.{Row as DefinedRow};
 ghost use Rattle.pl_model.specs.Requests.{Reply as Asked, Request};
-ghost use Rattle.pl_model.specs.SharedBuiltins.{flags_row, message_row, named_row, procedures_row, status_row, succeeds_with};
+ghost use Rattle.pl_model.specs.SharedBuiltins.{flags_row, message_row, named_row, operators_row, procedures_row, status_row, succeeds_with};
 ghost use Rattle.pl_model.specs.Terms.{arguments};
 ghost use Rattle.atom_api.specs.Names.{Names};
 ghost use Rattle.term_store.specs.Contents.{IsAbove};
@@ -18,7 +18,7 @@ use crate::following::{Following, following_of};
 use crate::goal::StateGoal;
 use crate::refusals::{refused, refused_by};
 use crate::rows::{copied, named, succeeded};
-use crate::tables::{flag_lines, indicator_lines};
+use crate::tables::{flag_lines, indicator_lines, operator_lines};
 use builtin_rows::Row;
 use iso_search::told::{Constant, Line};
 use pl_term::Memory;
@@ -79,6 +79,7 @@ fn follow_as(
         Following::Statuses => gives_status(store, goal, reply, next),
         Following::Procedures => gives_procedures(alloc, store, goal, reply, next),
         Following::Flags => gives_flags(alloc, store, goal, reply, next),
+        Following::Operators => gives_operators(alloc, store, goal, reply, next),
     }
 }
 
@@ -216,6 +217,29 @@ fn gives_flags(
     match reply {
         Reply::Flags(all) => {
             let lines = flag_lines(alloc, all.as_slice())?;
+            Ok(Replied::Table(lines))
+        }
+        _ => Ok(Replied::Row(Row::Fails)),
+    }
+}
+
+/// It gives the operators, one after the other.
+fn gives_operators(
+    alloc: Global,
+    store: &mut Store,
+    goal: &StateGoal,
+    reply: Reply<Stored>,
+    next: u64,
+) -> Result<Replied, Memory>
+    requires goal { IsStateGoal store.old goal.now }
+    requires follows { following_of goal.now.pred ≡ Following.Operators }
+    requires above { IsAbove next store.old }
+    ensures { IfOk result (λ t. (m : Names) (r : Asked) → IsReplyFor m store.old goal.now reply r
+        → IsReplied m store.old next goal.now (operators_row r next) store.new t) }
+{
+    match reply {
+        Reply::Operators(all) => {
+            let lines = operator_lines(alloc, all.as_slice())?;
             Ok(Replied::Table(lines))
         }
         _ => Ok(Replied::Row(Row::Fails)),

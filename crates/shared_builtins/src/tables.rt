@@ -1,14 +1,16 @@
 //! Tables that the shared state told.
 ghost use Rattle.std.specs.Prelude.{◌≡◌, IfOk, map};
 ghost use Rattle.std.specs.List.{filter_map};
+ghost use Rattle.shared_builtins.specs.Operators.{name_of};
 ghost use Rattle.shared_builtins.specs.Replies.{constant_in, flag_line, node_constant};
 
+use crate::operators::specifier_of;
 use atom_api::Atom;
 use iso_search::told::{Constant, Line};
 use pl_term::Memory;
 use std::alloc::Global;
 use term_store::{AtomNode, Stored};
-use world_api::{FlagValue, Procedure};
+use world_api::{FlagValue, Operator, Procedure};
 
 /// The lines of current_predicate/1. The only error is out of memory. So below.
 pub fn indicator_lines(alloc: Global, all: &[Procedure]) -> Result<Vec<Line>, Memory>
@@ -28,6 +30,17 @@ pub fn flag_lines(alloc: Global, all: &[FlagValue<Stored>]) -> Result<Vec<Line>,
     let lines = all
         .iter()
         .filter_map(|flag| flag_line(flag))
+        .collect(alloc)?;
+    Ok(lines)
+}
+
+/// The lines of current_op/3.
+pub fn operator_lines(alloc: Global, all: &[Operator]) -> Result<Vec<Line>, Memory>
+    ensures { IfOk result (λ ls. ls.items ≡ map (λ o. Line.Operator o.priority (name_of o.kind) o.name) all.now) }
+{
+    let lines = all
+        .iter()
+        .map(|o| Line::Operator(o.priority, specifier_of(o.kind), o.name))
         .collect(alloc)?;
     Ok(lines)
 }

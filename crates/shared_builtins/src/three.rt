@@ -1,7 +1,7 @@
 //! The predicates of three arguments.
 ghost use Rattle.std.specs.Prelude.{◌≡◌, IfOk, IfSome, List, OnOk, Result};
 ghost use Rattle.pl_term.specs.Tree.{Tree, Trees, none, more};
-ghost use Rattle.pl_model.specs.SharedBuiltins.{creates_with, creates_with_options, on_ok, options_of, puts_operators};
+ghost use Rattle.pl_model.specs.SharedBuiltins.{creates_with, creates_with_options, lists_operators, on_ok, options_of, puts_operators};
 ghost use Rattle.atom_api.specs.Names.{Names};
 ghost use Rattle.builtin_rows.specs.Lists.{IsNaming};
 ghost use Rattle.term_store.specs.Contents.{Holds};
@@ -48,6 +48,7 @@ pub fn of_three(
 {
     match pred {
         StateThree::Op => puts_operators(alloc, store, first, second, third),
+        StateThree::CurrentOp => Ok(lists_operators(store, first, second, third)),
         StateThree::CreateThread => creates_with_options(alloc, store, first, second, third),
     }
 }
@@ -112,6 +113,26 @@ fn puts_kind(priority: u16, kind: Kind, names: Named) -> Shared
             names,
         }),
         Named::Refused(fault) => Shared::Refused(fault),
+    }
+}
+
+/// current_op/3 (ISO 8.14.4): a priority, a specifier and a name, or variables in their places.
+fn lists_operators(store: &Store, first: Place, second: Place, third: Place) -> Shared
+    requires first { Holds store.now first }
+    requires second { Holds store.now second }
+    requires third { Holds store.now third }
+    ensures { (m : Names) → IsNaming m → IsHeldAt m store.now first → IsHeldAt m store.now second → IsHeldAt m store.now third
+        → ComesTo m store.now (more (reads m store.now first) (more (reads m store.now second) (more (reads m store.now third) none)))
+        (lists_operators (reads m store.now first) (reads m store.now second) (reads m store.now third)) result }
+{
+    let checks = [
+        Check::Priority(first),
+        Check::Specifier(second),
+        Check::Atom(third),
+    ];
+    match first_fault(store, &checks) {
+        Some(fault) => Shared::Refused(fault),
+        None => Shared::Asks(Visit::AllOperators),
     }
 }
 

@@ -8,5 +8,5 @@ pub returns-in-ThreadSelf-clause-comes : goal.returns-in-ThreadSelf-clause-comes
 returns-in-ThreadSelf-clause-comes c m tells held = (
   _,
   _,
-  record { means = ap (λ p. one_comes p (reads m c.args.store.now c.args.term)) c.in-ThreadSelf.is; asks = refl; held = All-nil (λ a. IsSome (m a)) },
+  record { means = ap (λ p. one_comes p (reads m c.args.store.now c.args.term)) c.in-ThreadSelf.is; asks = refl; held = All-nil (λ a. IsSome (m a)); by_names = tt },
 )
