@@ -82,12 +82,6 @@ none_fits o s e h = subst (λ x. IfNone x (s.used ≤ s.budget)) e h
 pub some_full : (o : Option Row) (r : Row) (s : Contents) → o ≡ Some r → IfSome o (IsFull s) → IsFull s r
 some_full o r s e h = subst (λ x. IfSome x (IsFull s)) e h
 
-pub ok_rows : {E : Type 0} (b : Bool) (s t : Contents) (result : Result Row E) → b ≡ true
-    → IfOk result (λ r. (m : Names) (ts : Trees) → Stands s ts (one_answer ts) m t r)
-    → IfOk result (λ r. (m : Names) (ts : Trees) → Stands s ts (test b ts) m t r)
-ok_rows b s t (Ok r) e h = λ m ts. tests_stand b s t ts m r e (h m ts)
-ok_rows b s t (Err x) e h = tt
-
 pub differs_stand : {E : Type 0} (s d t : Contents) (same : Bool) (a b : Place) (result : Result Row E) → d ≡ s
     → ((m : Names) → AreNames m → same ≡ is_some (unify (reads m s a) (reads m s b)))
     → IfOk result (λ r. (m : Names) (ts : Trees) → Stands d ts (test (not same) ts) m t r)

@@ -49,8 +49,8 @@ fn rank(view: &View) -> u8
     }
 }
 
-/// The order of two atoms by the codes of the characters of their texts, which are looked at only where the atoms differ. It
-/// takes no memory.
+/// The order of two atoms by the codes of the characters of their texts, which are looked at only where the atoms differ: a
+/// text comes before those that it begins. It takes no memory.
 fn compare_atoms<A: Atoms>(left: Atom, right: Atom, atoms: &mut A) -> Ordering
     requires left { IsSome (A.held atoms.old left) }
     requires right { IsSome (A.held atoms.old right) }
@@ -66,12 +66,5 @@ fn compare_atoms<A: Atoms>(left: Atom, right: Atom, atoms: &mut A) -> Ordering
     let mut there = TextBuf::new();
     atoms.text(left, &mut here);
     atoms.text(right, &mut there);
-    compare_texts(&here, &there)
-}
-
-/// The order of two texts by the codes of their characters; a text comes before those that it begins.
-fn compare_texts(left: &TextBuf, right: &TextBuf) -> Ordering
-    ensures { result ≡ text_order left.now right.now }
-{
-    left.as_str().cmp(right.as_str())
+    here.as_str().cmp(there.as_str())
 }

@@ -33,20 +33,9 @@ pub fn tested(store: &mut Store, holds: bool) -> Result<Row, Memory>
     ensures refuses { IfOk result (λ r. row_refusals r ≡ []) }
     ensures single { IfOk result IsSingle }
 {
-    if holds {
-        succeeded(store)
-    } else {
-        Ok(Row::Fails)
+    if !holds {
+        return Ok(Row::Fails);
     }
-}
-
-/// The row of a predicate that binds nothing, where it is true. The only error is out of memory.
-fn succeeded(store: &mut Store) -> Result<Row, Memory>
-    ensures same { OnOk result (store.new ≡ store.old) }
-    ensures row { IfOk result (λ r. (m : Names) (ts : Trees) → Stands store.old ts (one_answer ts) m store.new r) }
-    ensures refuses { IfOk result (λ r. row_refusals r ≡ []) }
-    ensures single { IfOk result IsSingle }
-{
     let full = overdrawn(store)?;
     match full {
         None => Ok(Row::Holds),
