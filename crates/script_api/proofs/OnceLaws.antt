@@ -1,5 +1,5 @@
 -- How an engine that was started with a goal comes to it and to its end.
-use Rattle.std.proofs.Common.{◌≡◌, ℕ, ◌+◌, arith, List, [], ◌++◌, Option, Some, None, IsSome, slice_index_or, Bool, false, refl, ap, sym, ◌∙◌, subst, append-nil}
+use Rattle.std.proofs.Common.{◌≡◌, ℕ, ◌+◌, List, [], ◌++◌, Option, Some, None, IsSome, slice_index_or, Bool, false, refl, ap, sym, ◌∙◌, subst, append-nil}
 use Rattle.std.specs.Prelude.{encode_utf8_all}
 use Rattle.std.specs.List.{All}
 use Rattle.atom_api.specs.Names.{Names}

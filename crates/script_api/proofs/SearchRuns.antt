@@ -1,8 +1,8 @@
 -- The steps of a search are a way of each execution that they are a part of.
-use Rattle.std.proofs.Common.{◌≡◌, ℕ, suc, ◌+◌, [], ◌∷◌, ◌++◌, length, Option, refl, ap, sym, ◌∙◌, arith, subst}
-use Rattle.pl_model.specs.History.{Kind, History}
+use Rattle.std.proofs.Common.{◌≡◌, ℕ, suc, ◌+◌, [], ◌∷◌, ◌++◌, length, refl, ap, sym, ◌∙◌, arith, subst}
+use Rattle.pl_model.specs.History.{History}
 use Rattle.pl_model.specs.Requests.{Request, Reply}
-use Rattle.pl_model.specs.Service.{answers, entry_by, served_now}
+use Rattle.pl_model.specs.Service.{entry_by}
 use Rattle.pl_model.specs.Resolution.{Limits, State, Next, goes, asks}
 use Rattle.pl_model.specs.Control.{step}
 use Rattle.run_model.specs.Execution.{Job, Execution, Move, moves, requests, move, directed, searched}

@@ -5,7 +5,7 @@ use Rattle.run_model.specs.Execution.{Script, Job, runs, Consulted, Execution}
 use Rattle.term_store.specs.NumberedNames.{names_of, term_by}
 use Rattle.script_api.specs.declared.either.Either.{Either}
 use Rattle.script_api.specs.declared.either.Either.TheVariants.{Second}
-use Rattle.script_api.specs.declared.once.Once.{Once}
+use Rattle.script_api.specs.declared.named_once.NamedOnce.{NamedOnce}
 use Rattle.script_api.specs.declared.once.Stage.{Stage}
 use Rattle.script_api.specs.declared.once.Stage.TheVariants.{Fresh}
 use Rattle.script_api.specs.Eithers.{EitherIs, either}
@@ -14,10 +14,10 @@ use Rattle.script_api.specs.Onces as onces
 use Rattle.script_api.specs.Parts.{Part}
 use Rattle.script_api.specs.Starts.{StartsWith}
 
-pub once_starts : (goal : Tree) (s : Once Tree) → s.stage ≡ Fresh goal
-    → StartsWith (λ text (r : Once Tree) job cs. execution_of term_by text r.stage job cs) (λ (r : Once Tree). part_of r.stage) (λ text (r : Once Tree) x. plays_of term_by text r.stage x)
-    (λ (r : Once Tree). over_of r.stage) (λ (r : Once Tree). false) (λ (r : Once Tree). onces.names_of names_of r.stage) goal s
-once_starts goal s is =
+pub named_starts : (goal : Tree) (s : NamedOnce Tree) → s.once.stage ≡ Fresh goal
+    → StartsWith (λ text (r : NamedOnce Tree) job cs. execution_of term_by text r.once.stage job cs) (λ (r : NamedOnce Tree). part_of r.once.stage) (λ text (r : NamedOnce Tree) x. plays_of term_by text r.once.stage x)
+    (λ (r : NamedOnce Tree). over_of r.once.stage) (λ (r : NamedOnce Tree). false) (λ (r : NamedOnce Tree). onces.names_of names_of r.once.stage) goal s
+named_starts goal s is =
     record {
       nothing = ap (λ (g : Stage Tree). part_of g) is;
       goes_on = ap (λ (g : Stage Tree). over_of g) is;

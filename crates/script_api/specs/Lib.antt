@@ -6,3 +6,4 @@ pub mod Residents
 pub mod Onces
 pub mod Starts
 pub mod OnceGiven
+pub mod WordNames

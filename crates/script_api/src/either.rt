@@ -39,6 +39,8 @@ impl<A: Script + Drop, B: Script<Term = A::Term> + Drop> Script for Either<A, B>
 
     ghost variables = { λ s. either A.variables B.variables s };
 
+    ghost word = { λ s. either A.word B.word s };
+
     ghost names_tell = { λ s text other same. names_same A.execution B.execution A.plays B.plays A.names B.names A.names_tell B.names_tell s text other same };
 
     ghost lines = { λ text s job cs. lines_told A.execution B.execution A.lines B.lines text s job cs };

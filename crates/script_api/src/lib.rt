@@ -3,6 +3,7 @@
 
 mod either;
 mod from_goal;
+mod named_once;
 mod once;
 mod resident;
 mod script;
@@ -10,6 +11,7 @@ pub mod ways;
 
 pub use either::Either;
 pub use from_goal::FromGoal;
+pub use named_once::NamedOnce;
 pub use once::Once;
 pub use resident::{Resident, Roots};
 pub use script::{Next, Script};

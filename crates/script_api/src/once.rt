@@ -43,7 +43,7 @@ impl<T: Named + Drop> Once<T> {
 }
 
 impl<T: Named + Drop> Script for Once<T> {
-    ghost use Rattle.std.specs.Prelude.{[]};
+    ghost use Rattle.std.specs.Prelude.{[], None};
     ghost use Rattle.pl_model.specs.Requests.{look};
     ghost use Rattle.script_api.specs.Onces.{execution_of, part_of, plays_of, names_of, over_of, same_under, same_lines, all_reported, all_running};
 
@@ -68,6 +68,8 @@ impl<T: Named + Drop> Script for Once<T> {
     ghost asks = { λ _ q. q ≡ look };
 
     ghost variables = { λ _. [] };
+
+    ghost word = { λ _. None };
 
     ghost names_tell = { λ s text other same. same_under T.term T.names T.names_tell s.stage text other same };
 

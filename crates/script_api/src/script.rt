@@ -72,6 +72,10 @@ pub trait Script {
     // The names of the variables of its goal with their numbers, once it is known.
     ghost variables: { Self → List (Chars × ℕ) };
 
+    // The board on which the words of the command's goals are written, and the number of its own goal's word there, if its
+    // goal is one of the command's.
+    ghost word: { Self → Option (ℕ × ℕ) };
+
     /// The names of the variables of its goal with their numbers: none before the goal is known.
     fn variable_names(&self) -> &[(Text, u64)]
         ensures { result.now ≡ variables self.now };
@@ -109,7 +113,8 @@ pub trait Script {
         ensures asks { (q : Request) → asks self.new q → asks self.old q }
         ensures words { part self.old ≡ Some of_goal → (job : Job) (cs : List Consulted)
             → (execution (text_of (W.A.held atoms.new)) self.new job cs).words ≡ (execution (text_of (W.A.held atoms.old)) self.old job cs).words }
-        ensures variables { part self.old ≡ Some of_goal → variables self.new ≡ variables self.old };
+        ensures variables { part self.old ≡ Some of_goal → variables self.new ≡ variables self.old }
+        ensures word { word self.new ≡ word self.old };
 
     // It stands for the same execution under texts that agree on the atoms that it names, and plays the same.
     ghost names_tell: { (s : Self) (text other : ℕ → Chars) → All (λ a. text a ≡ other a) (names s)

@@ -1,10 +1,9 @@
-use Rattle.std.proofs.Common.{arith, refl, sym, ◌∙◌, subst, IsSome}
+use Rattle.std.proofs.Common.{arith, sym, ◌∙◌, subst, IsSome}
 use Rattle.std.specs.List.{All}
 use Rattle.world_api.specs.Texts.{text_of}
 use Rattle.script_api.specs.declared.once.Stage.{Stage}
 use Rattle.script_api.specs.Onces.{names_of}
 use Rattle.world_api.proofs.Gaining.{gains_nothing}
-use Rattle.script_api.proofs.LaterLaws.{later_same}
 use Rattle.script_api.proofs.OnceLaws.{given_from, end_from, stays_from, same_texts, same_words}
 use Rattle.script_api.proofs.once.OnceScript.next.Goals as goal
 
