@@ -1,4 +1,5 @@
-//! Which words are a command, and which command they are.
+//! The command line: which words are a command, and the reading of them.
 #![tactic(auto)]
 
+pub mod command;
 pub mod rows;

@@ -1,4 +1,3 @@
-pub mod CommandLemmas
 pub mod SectionLaws
 pub mod RunLemmas
 pub mod OutcomeFacts

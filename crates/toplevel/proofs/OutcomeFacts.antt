@@ -19,7 +19,7 @@ use Rattle.pl_model.proofs.StateLater.{state_later}
 use Rattle.run_model.proofs.LoneFinal.{lone_final_end, lone_final_wait}
 use Rattle.run_model.specs.declared.ends.GoalEnd.{GoalEnd}
 use Rattle.run_model.specs.Ends.{all_solved, awaited_by, end_by, end_of, ends_from, engines, first_halt, goal_ends, goal_how, goal_numbers, halt_by, has_no_end, job_of, lacks_atoms, or_else, some_fault, some_lacks_atoms, some_waits, thread_numbers, with_end}
-use Rattle.toplevel.specs.Commands.{words_in}
+use Rattle.command_line.specs.Commands.{words_in}
 use Rattle.run_model.specs.declared.ends.GoalHow.{GoalHow}
 use Rattle.pl_report.specs.Reported.{Tells}
 use Rattle.toplevel.specs.FirstEngines.{AreRead, Awaits, HasStopped, history_of, history_with, seen_of, told_with}

@@ -44,7 +44,7 @@ use Rattle.engine_run.specs.Ran.{HasBudgets, IsAtMissing, WaitsOn}
 use Rattle.engine_run.specs.Runners.{AnswerStands, CameTo, IsBetween, IsStillSearching, OutIs, SearchStands, StageIs, StageStands, Turned, is_over, is_search, put_by}
 use Rattle.engine_run.specs.Searched.{IsRefusedOnce, UnlessMemory, last_refusals, unfinished_refusals}
 use Rattle.toplevel.specs.Unbuilt.{IsAtUnbuilt, indicated}
-use Rattle.toplevel.specs.declared.command.Limits.{Limits}
+use Rattle.command_line.specs.declared.command.Limits.{Limits}
 use Rattle.toplevel.specs.declared.script_run.Stop.{Stop}
 use Rattle.toplevel.specs.declared.script_run.Stop.TheVariants.{Ended, Waits, Missing}
 use Rattle.toplevel.specs.FirstRun.{HasLimits, IsAtBeginning, IsMissing, IsScriptRun, IsStopOf, IsWaiting, RunnerStands}

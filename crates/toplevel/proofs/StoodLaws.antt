@@ -23,8 +23,8 @@ use Rattle.pl_consult.specs.FileScripts.{Begins, Plays, execution_of, part_in}
 use Rattle.engine_run.specs.Items.{IsText}
 use Rattle.run_model.specs.Ends.{awaited_by, is_fault, some_fault}
 use Rattle.command_line.specs.CommandLine.{program_of}
-use Rattle.toplevel.specs.declared.command.Command.{Command}
-use Rattle.toplevel.specs.Commands.{told_command, words_in}
+use Rattle.command_line.specs.declared.command.Command.{Command}
+use Rattle.command_line.specs.Commands.{told_command, words_in}
 use Rattle.toplevel.specs.declared.first_engine.FirstEngine.{FirstEngine}
 use Rattle.toplevel.specs.declared.script_run.Stop.{Stop}
 use Rattle.toplevel.specs.declared.script_run.Stop.TheVariants.{Ended, Missing, Waits}

@@ -27,7 +27,7 @@ use Rattle.engine_run.specs.declared.runner.Runner.{Runner}
 use Rattle.engine_run.specs.declared.runner.Stage.TheVariants.{Asks}
 use Rattle.engine_run.specs.declared.unfinished.Unfinished.{Unfinished}
 use Rattle.engine_run.specs.declared.unfinished.Unfinished.TheVariants as unfinished
-use Rattle.toplevel.specs.declared.command.Limits.{Limits}
+use Rattle.command_line.specs.declared.command.Limits.{Limits}
 use Rattle.toplevel.specs.Unbuilt.{IsAtUnbuilt, indicated}
 use Rattle.toplevel.specs.declared.script_run.Stop.{Stop}
 use Rattle.toplevel.specs.declared.script_run.Stop.TheVariants.{Ended, Waits, Missing}

@@ -1,4 +1,3 @@
-pub mod Commands
 pub mod FirstRun
 pub mod Headline
 pub mod FirstEngines

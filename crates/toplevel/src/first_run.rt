@@ -6,7 +6,7 @@ ghost use Rattle.pl_model.specs.SharedState.{state_at};
 ghost use Rattle.run_model.specs.Execution.{Consulted, Job, at_start, most_bytes};
 ghost use Rattle.run_model.specs.Lawful.{Program, main_job};
 ghost use Rattle.pl_model.specs.History.{AllPlain};
-ghost use Rattle.toplevel.specs.Commands.{told_command, words_in};
+ghost use Rattle.command_line.specs.Commands.{told_command, words_in};
 ghost use Rattle.command_line.specs.CommandLine.{program_of};
 ghost use Rattle.pl_consult.specs.FileScripts.{execution_of, part_in};
 ghost use Rattle.pl_consult.specs.GoalWords.{words_of as words_read};
@@ -15,7 +15,7 @@ ghost use Rattle.plain_world.specs.Entries.{told_of};
 ghost use Rattle.toplevel.specs.FirstEngines.{AreRead, HasCome, IsLine, history_of, start_of};
 ghost use Rattle.toplevel.specs.FirstRun.{IsScriptRun};
 
-use crate::command::Command;
+use command_line::command::Command;
 use crate::first_engine::{FirstEngine, Front, Word};
 use crate::gated::Gated;
 use crate::script_run::{Stop, run_script, runner_of};

@@ -1,7 +1,6 @@
 //! The Prolog system: from words and files to a transcript.
 #![tactic(auto)]
 
-mod command;
 mod ends;
 mod first_engine;
 mod first_run;

@@ -1,11 +1,11 @@
 //! What is ready to be written of a run.
 ghost use Rattle.std.specs.Prelude.{◌≡◌, List, ℕ, IfOk};
-ghost use Rattle.toplevel.specs.Commands.{told_command};
+ghost use Rattle.command_line.specs.Commands.{told_command};
 ghost use Rattle.command_line.specs.CommandLine.{program_of};
 ghost use Rattle.toplevel.specs.Headline.{IsReady};
 ghost use Rattle.toplevel.specs.FirstEngines.{Stood};
 
-use crate::command::Command;
+use command_line::command::Command;
 use crate::ends::{end_of, goal_ends};
 use crate::first_engine::{FirstEngine, Front};
 use crate::hows::goal_ended;

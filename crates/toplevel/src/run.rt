@@ -5,12 +5,12 @@ ghost use Rattle.pl_io.specs.Faults.{Rose};
 ghost use Rattle.run_model.specs.Execution.{most_bytes};
 ghost use Rattle.command_line.specs.CommandLine.{Command as CommandOf, command, unread_line, usage_line};
 ghost use Rattle.run_model.specs.Ends.{status_of};
-ghost use Rattle.toplevel.specs.Commands.{told_command};
+ghost use Rattle.command_line.specs.Commands.{told_command};
 ghost use Rattle.toplevel.specs.Headline.{AreRead, GaveUp, HasRun, IsReady, IsUnbuilt, IsUnread, IsWrittenUnless, Missed, Promised, Ran, RanUnwritten, TellsNothing};
 ghost use Rattle.toplevel.specs.RunOutcomes.{IsRunOutcome};
 ghost use Rattle.toplevel.specs.Unbuilt.{indicated};
 
-use crate::command::{Command, read_command};
+use command_line::command::{Command, read_command};
 use crate::first_engine::Front;
 use crate::first_run::{RunOutcome, first_run};
 use crate::lines::{unbuilt_text, unread_text};

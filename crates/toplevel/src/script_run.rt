@@ -11,7 +11,7 @@ ghost use Rattle.engine_run.specs.Runners.{IsBetween, is_over};
 ghost use Rattle.engine_run.specs.Searched.{unfinished_refusals};
 ghost use Rattle.toplevel.specs.FirstRun.{IsAtBeginning, IsMissing, IsScriptRun, IsStopOf, IsWaiting, RunnerStands};
 
-use crate::command::Limits;
+use command_line::command::Limits;
 use crate::names::{atom_text, text_on};
 use atom_api::Atoms;
 use engine_run::{Lines, Runner, Turn, Unfinished};

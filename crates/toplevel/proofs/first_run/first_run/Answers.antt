@@ -2,7 +2,7 @@ use Rattle.std.proofs.Common.{ℕ, [], ◌∙◌, ap}
 use Rattle.command_line.specs.CommandLine.{program_of}
 use Rattle.pl_consult.specs.declared.file_script.FileScript.{FileScript}
 use Rattle.engine_run.specs.Runners.{is_over}
-use Rattle.toplevel.specs.Commands.{told_command}
+use Rattle.command_line.specs.Commands.{told_command}
 use Rattle.plain_world.specs.Entries.{told_of}
 use Rattle.world_api.specs.Told.{Told}
 use Rattle.toplevel.proofs.ScriptRunLaws.{begins_between, begins_so, by_parts}

@@ -2,7 +2,7 @@ use Rattle.std.proofs.Common.{refl, ◌∙◌, ap, []}
 use Rattle.std.specs.Str.{encode_utf8_all}
 use Rattle.run_model.specs.Report.{all_consulted, output_of, with_directive, with_output}
 use Rattle.command_line.specs.CommandLine.{program_of}
-use Rattle.toplevel.specs.Commands.{told_command}
+use Rattle.command_line.specs.Commands.{told_command}
 use Rattle.toplevel.proofs.OutcomeFacts.{alone_at, complete_with, end_reported, ends_reported, final_with, last_tells, text_reported}
 use Rattle.toplevel.proofs.ready.make_ready.Goals as goal
 

@@ -1,4 +1,4 @@
-use Rattle.toplevel.specs.Commands.{told_command}
+use Rattle.command_line.specs.Commands.{told_command}
 use Rattle.toplevel.proofs.RunLemmas.{promised_more, unread}
 use Rattle.toplevel.proofs.run.run_command.Goals as goal
 

@@ -1,6 +1,6 @@
 use Rattle.std.proofs.Common.{◌∙◌, subst}
 use Rattle.command_line.specs.CommandLine.{program_of}
-use Rattle.toplevel.specs.Commands.{told_command}
+use Rattle.command_line.specs.Commands.{told_command}
 use Rattle.toplevel.specs.FirstEngines.{HasCome}
 use Rattle.toplevel.specs.declared.first_run.RunOutcome.{RunOutcome}
 use Rattle.toplevel.specs.declared.first_engine.FirstEngine.{FirstEngine}

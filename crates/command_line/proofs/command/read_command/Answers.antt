@@ -4,9 +4,9 @@ use Rattle.std.proofs.lemmas.Result.{IfOk-weaker}
 use Rattle.clap.specs.Words.{App, app_of, fault_of, is_simple, is_simple_and_free, subcommand_of, subcommand_rows_of}
 use Rattle.clap.specs.Kinds.{HasKind}
 use Rattle.command_line.specs.CommandLine.{command, command_of, plt_app}
-use Rattle.toplevel.specs.Commands.{IsCommand}
-use Rattle.toplevel.proofs.CommandLemmas.{refused_words, taken_words}
-use Rattle.toplevel.proofs.command.read_command.Goals as goal
+use Rattle.command_line.specs.Commands.{IsCommand}
+use Rattle.command_line.proofs.CommandLemmas.{refused_words, taken_words}
+use Rattle.command_line.proofs.command.read_command.Goals as goal
 
 is_plain : is_simple plt_app ≡ true
 is_plain = refl
@@ -14,8 +14,8 @@ is_plain = refl
 is_free : is_simple_and_free plt_app ≡ true
 is_free = refl
 
-pub returns-in-Ok : goal.returns-in-Ok
-returns-in-Ok c =
+pub returns-in-Ok-clause-command : goal.returns-in-Ok-clause-command
+returns-in-Ok-clause-command c =
     let texts : List (List ℕ) = map encode_utf8_all c.args.words.now in
     let app : app_of c.in_ok-syntax.syntax ≡ plt_app = c.in_ok-syntax.ensures in
     let taken : fault_of plt_app texts ≡ [] =
@@ -24,10 +24,13 @@ returns-in-Ok c =
     (c.in-Ok.ensures.matches (ap is_simple app ∙ is_plain)).1 ∙ ap (λ a. subcommand_of a texts) app in
     let is : command_of (subcommand_rows_of c.in-Ok.matches) ≡ command c.args.words.now =
     ap command_of rows ∙ sym (taken_words (fault_of plt_app texts) (command_of (subcommand_of plt_app texts)) taken) in
-    IfOk-weaker c.subcommand_given.result _ _ (λ r h. subst (IsCommand r) is h) c.subcommand_given.ensures
+    IfOk-weaker c.subcommand_given.result _ _ (λ r h. subst (IsCommand r) is h) c.subcommand_given.ensures.command
 
-pub returns : goal.returns
-returns c =
+pub returns-in-Ok-clause-bounds : goal.returns-in-Ok-clause-bounds
+returns-in-Ok-clause-bounds c = c.subcommand_given.ensures.bounds
+
+pub returns-clause-command : goal.returns-clause-command
+returns-clause-command c =
     let texts : List (List ℕ) = map encode_utf8_all c.args.words.now in
     let app : app_of c.in_ok-syntax.syntax ≡ plt_app = c.in_ok-syntax.ensures in
     refused_words

@@ -1,7 +1,7 @@
 use Rattle.std.specs.Str.Parse.{ParsesUnsigned, ExplainsUnsignedError, HasUnsignedDigitsIfOk}
 use Rattle.clap.specs.Words.{found_of}
-use Rattle.toplevel.proofs.CommandLemmas.{number_by}
-use Rattle.toplevel.proofs.command.number_given.Goals as goal
+use Rattle.command_line.proofs.CommandLemmas.{number_by}
+use Rattle.command_line.proofs.command.number_given.Goals as goal
 
 pub returns : goal.returns
 returns c =

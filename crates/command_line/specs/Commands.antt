@@ -1,22 +1,18 @@
 -- The command that was read, against the one that the words stand for.
-use Rattle.std.specs.Prelude.{◌≡◌, List, [], ◌∷◌, Option, Some, None}
-use Rattle.pl_term.specs.Tree.{Chars}
+use Rattle.std.specs.Prelude.{◌≡◌, ◌≤◌, length, Option, Some, None}
 use Rattle.pl_model.specs.Resolution.{Limits as LimitsOf}
 use Rattle.command_line.specs.CommandLine.{Command as CommandOf}
-use Rattle.toplevel.specs.declared.command.Command.{Command}
-use Rattle.toplevel.specs.declared.command.Limits.{Limits}
+use Rattle.command_line.specs.declared.command.Command.{Command}
+use Rattle.command_line.specs.declared.command.Limits.{Limits}
 
 -- The same limits, and the same command, in the definitions' terms.
 abbrev pub told_limits : Limits → LimitsOf
 told_limits l =
     record { inferences = l.inferences; cells = l.cells; choices = l.choices; solutions = l.solutions; stays = None }
 
-abbrev pub words_in : Option Chars → List Chars
-words_in None = []
-words_in (Some w) = w ∷ []
-
 abbrev pub told_command : Command → CommandOf
-told_command c = record { file = c.file; words = words_in c.goal; limits = told_limits c.limits }
+told_command c =
+    record { file = c.file; words = c.goals.items; limits = told_limits c.limits; workers = c.workers; slots = c.slots }
 
 abbrev pub AreLimits : Option Limits → Option LimitsOf → Type 0
 AreLimits None wanted = wanted ≡ None
@@ -25,3 +21,11 @@ AreLimits (Some l) wanted = wanted ≡ Some (told_limits l)
 abbrev pub IsCommand : Option Command → Option CommandOf → Type 0
 IsCommand None wanted = wanted ≡ None
 IsCommand (Some c) wanted = wanted ≡ Some (told_command c)
+
+-- The numbers of a command are within their bounds.
+pub record IsWithin (c : Command) : Type 0 where
+  pub goals : length c.goals.items ≤ 64
+  pub least_workers : 1 ≤ c.workers
+  pub most_workers : c.workers ≤ 16
+  pub least_slots : 512 ≤ c.slots
+  pub most_slots : c.slots ≤ 1048576

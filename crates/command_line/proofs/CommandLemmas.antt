@@ -1,8 +1,11 @@
 -- What the matches of a command line give.
-use Rattle.std.proofs.Common.{inl, inr, ◌≡◌, ◌^◌, ◌-◌, ℕ, Bool, true, false, List, [], ◌∷◌, Option, Some, None, refl, sym, ◌∙◌, ap, arith, codes}
+use Rattle.std.proofs.Common.{inl, inr, ◌≡◌, ◌≤◌, ◌<◌, ◌^◌, ◌-◌, ℕ, Bool, true, false, List, [], ◌∷◌, Option, Some, None, refl, sym, ◌∙◌, ap, arith, codes, map, length, Bor}
+use Rattle.std.proofs.lemmas.Bool.{le-leb, lt-leb}
 use Rattle.std.specs.Prelude.{Result, Ok, Err}
 use Rattle.std.specs.Str.Parse.{ParsesUnsigned}
-use Rattle.clap.specs.Words.{Row, first_of, one_of, one_text, rows_of, ReadsOne}
+use Rattle.std.specs.Str.{chars}
+use Rattle.pl_term.specs.Tree.{Chars}
+use Rattle.clap.specs.Words.{Row, all_of, first_of, one_of, one_text, rows_of, ReadsOne}
 use Rattle.clap.specs.ValueTests.{is_unsigned_in}
 use Rattle.clap.specs.Kinds.{Kinds, HasKind}
 use Rattle.clap.specs.declared.error.Error.{Error}
@@ -12,7 +15,7 @@ use Rattle.clap.specs.declared.parser.matches.Found.{Found}
 use Rattle.clap.proofs.ValueTestLemmas.{accepts-Accepts, Accepts-accepts}
 use Rattle.clap.proofs.WalkLemmas.{one_text-rows}
 use Rattle.pl_model.specs.Resolution.{Limits}
-use Rattle.command_line.specs.CommandLine.{Command, command_by, limits_in, number_of, run_command, unless_refused, words_by}
+use Rattle.command_line.specs.CommandLine.{Command, command_by, limits_in, number_of, run_command, unless_refused, most_goals, slots_in, unless_too_many, words_by, workers_in}
 
 -- A number of 64 bits is read exactly where the text is one.
 pub number_reads : (E : Type 0) (G : List ℕ → Result ℕ E → Type 0) (t : List ℕ) (r : Option ℕ) → ReadsOne G t r
@@ -54,11 +57,21 @@ pub taken_words : (kinds : Kinds) (c : Option Command) → kinds ≡ [] → unle
 taken_words [] c e = refl
 taken_words (k ∷ ks) c e = cc
 
+-- The texts of the words that were given.
+pub texts_given : (ws : List (Bor (List ℕ))) → map chars (map (λ w. w.now) ws) ≡ map (λ w. chars w.now) ws
+texts_given [] = refl
+texts_given (w ∷ ws) = ap (λ rest. chars w.now ∷ rest) (texts_given ws)
+
+-- A command with so many words of goals.
+pub too_many : (c : Command) → most_goals < length c.words → unless_too_many c ≡ None
+too_many c more = rw (lt-leb (length c.words) most_goals more) refl
+
+pub few_goals : (c : Command) → length c.words ≤ most_goals → unless_too_many c ≡ Some c
+few_goals c few = rw (le-leb (length c.words) most_goals few) refl
+
 -- The command by its parts.
-pub given_by : (rows : List Row) (f : Option (List ℕ)) (w : List (List ℕ)) (l : Option Limits)
-    → f ≡ first_of (codes "FILE") rows → w ≡ words_by (first_of (codes "GOAL") rows) → limits_in rows ≡ l
-    → run_command rows ≡ command_by f w l
-given_by rows f w l a b c =
-    ap (λ x. command_by x (words_by (first_of (codes "GOAL") rows)) (limits_in rows)) (sym a)
-    ∙ ap (λ x. command_by f x (limits_in rows)) (sym b)
-    ∙ ap (command_by f w) c
+pub given_by : (rows : List Row) (f : Option (List ℕ)) (g : List Chars) (l : Option Limits) (w s : Option ℕ)
+    → f ≡ first_of (codes "FILE") rows → g ≡ words_by (all_of (codes "GOAL") rows) → limits_in rows ≡ l → w ≡ workers_in rows → s ≡ slots_in rows
+    → run_command rows ≡ command_by f g l w s
+given_by rows f g l w s file goals limits workers slots =
+    rw (file, goals, ← limits, workers, slots) refl

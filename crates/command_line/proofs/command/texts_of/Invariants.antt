@@ -1,0 +1,6 @@
+use Rattle.std.proofs.Common.{◌≡◌, map, take}
+use Rattle.std.specs.Str.{chars}
+use Rattle.command_line.proofs.command.texts_of.Given as goal
+
+abbrev pub invariant-loop-word : goal.invariant-loop-word
+invariant-loop-word l = l.texts.items ≡ map (λ w. chars w.now) (take l.word-index l.words)
