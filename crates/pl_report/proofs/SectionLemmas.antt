@@ -56,10 +56,10 @@ pieces_are head bytes t last e =
     ∙ ap (λ x. encode_utf8_all head ++ x) (sym (encodes-append (closed t) (line_text last)))
     ∙ sym (encodes-append head (closed t ++ line_text last))
 
-goal_is : (word : Chars) (enough : Bool) (s : Section) (t : Chars) → s.text.items ≡ encode_utf8_all t → bytes_by (Goal word enough) s ≡ encode_utf8_all (section_text (Goal word enough) t s.how s.ops)
+goal_is : (word : Chars) (enough : Bool) (s : Section) (t : Chars) → s.text.now ≡ encode_utf8_all t → bytes_by (Goal word enough) s ≡ encode_utf8_all (section_text (Goal word enough) t s.how s.ops.now)
 goal_is word enough s t e =
-    pieces_are (goal_line word) s.text.items t (goal_last enough s.ops s.how) e
-    ∙ ap (λ x. encode_utf8_all (goal_line word ++ x)) (sym (closed_last t (goal_last enough s.ops s.how)) ∙ ap closed (sym (goal_how_is enough s.ops t s.how)))
+    pieces_are (goal_line word) s.text.now t (goal_last enough s.ops.now s.how) e
+    ∙ ap (λ x. encode_utf8_all (goal_line word ++ x)) (sym (closed_last t (goal_last enough s.ops.now s.how)) ∙ ap closed (sym (goal_how_is enough s.ops.now t s.how)))
 
 -- Bytes of a text are none exactly where the text is empty.
 length-text : (c : ℕ) (cs : Chars) → (length (encode_utf8_all (c ∷ cs)) == 0) ≡ false
@@ -83,10 +83,10 @@ thread_by name bytes t (Some line) e = loud (length bytes == 0) ∙ pieces_are (
     loud true = refl
     loud false = refl
 
-by_kind : (kind : SectionKind) (s : Section) (t : Chars) → s.text.items ≡ encode_utf8_all t → bytes_by kind s ≡ encode_utf8_all (section_text kind t s.how s.ops)
+by_kind : (kind : SectionKind) (s : Section) (t : Chars) → s.text.now ≡ encode_utf8_all t → bytes_by kind s ≡ encode_utf8_all (section_text kind t s.how s.ops.now)
 by_kind Consult s t e = ap closed e ∙ closed_bytes t
 by_kind (Goal word enough) s t e = goal_is word enough s t e
-by_kind (Thread name) s t e = thread_by name s.text.items t (thread_last s.how) e
+by_kind (Thread name) s t e = thread_by name s.text.now t (thread_last s.how) e
 
 -- All sections.
 pub all_sections : (ss : List Section) (ts : List Chars) → AreWritten ss ts → flat_map section_bytes ss ≡ encode_utf8_all (transcript_text ss ts)
@@ -95,8 +95,8 @@ all_sections [] (t ∷ ts) w = absurd w
 all_sections (s ∷ ss) [] w = absurd w
 all_sections (s ∷ ss) (t ∷ ts) w =
     ap (λ x. x ++ flat_map section_bytes ss) (by_kind s.kind s t w.0)
-    ∙ ap (λ x. encode_utf8_all (section_text s.kind t s.how s.ops) ++ x) (all_sections ss ts w.1)
-    ∙ sym (encodes-append (section_text s.kind t s.how s.ops) (transcript_text ss ts))
+    ∙ ap (λ x. encode_utf8_all (section_text s.kind t s.how s.ops.now) ++ x) (all_sections ss ts w.1)
+    ∙ sym (encodes-append (section_text s.kind t s.how s.ops.now) (transcript_text ss ts))
 
 -- One section more.
 pub section_more : (ss : List Section) (i : ℕ) (s : Section) → i < length ss → s ≡ get_or ss i s → flat_map section_bytes (take i ss) ++ section_bytes s ≡ flat_map section_bytes (take (i + 1) ss)
@@ -109,10 +109,10 @@ section_more (x ∷ xs) (suc i) s h e =
     ∙ ap (λ y. section_bytes x ++ y) (section_more xs i s k e)
     ∙ ap (λ j. section_bytes x ++ flat_map section_bytes (take j xs)) (add-one i))
 
-pub silent_put : (name : Chars) (s : Section) (a : List ℕ) → is_silent s.text.items s.how ≡ true → a ≡ a ++ thread_bytes name s
+pub silent_put : (name : Chars) (s : Section) (a : List ℕ) → is_silent s.text.now s.how ≡ true → a ≡ a ++ thread_bytes name s
 silent_put name s a e =
     sym (append-nil a)
-    ∙ ap (λ b. a ++ (if b then [] else encode_utf8_all (thread_head name) ++ (closed s.text.items ++ encode_utf8_all (line_text (thread_last s.how))))) (sym e)
+    ∙ ap (λ b. a ++ (if b then [] else encode_utf8_all (thread_head name) ++ (closed s.text.now ++ encode_utf8_all (line_text (thread_last s.how))))) (sym e)
 
 -- Three pieces one after the other.
 three_put : {a b c d : List ℕ} {head last : Chars} (xs : List ℕ) → Adds a b head → c ≡ b ++ xs → Adds c d last → d ≡ a ++ (encode_utf8_all head ++ (xs ++ encode_utf8_all last))
@@ -122,10 +122,10 @@ three_put {a = a} {head = head} {last = last} xs p e q =
     ∙ append_assoc (a ++ encode_utf8_all head) xs (encode_utf8_all last)
     ∙ append_assoc a (encode_utf8_all head) (xs ++ encode_utf8_all last)
 
-pub goal_put : {a b c d : List ℕ} (word : Chars) (enough : Bool) (s : Section) → Adds a b (goal_line word) → c ≡ b ++ closed s.text.items → Adds c d (line_text (goal_last enough s.ops s.how)) → d ≡ a ++ goal_bytes word enough s
-goal_put word enough s p e q = three_put (closed s.text.items) p e q
+pub goal_put : {a b c d : List ℕ} (word : Chars) (enough : Bool) (s : Section) → Adds a b (goal_line word) → c ≡ b ++ closed s.text.now → Adds c d (line_text (goal_last enough s.ops.now s.how)) → d ≡ a ++ goal_bytes word enough s
+goal_put word enough s p e q = three_put (closed s.text.now) p e q
 
-pub thread_put : {a b c d : List ℕ} (name : Chars) (s : Section) → is_silent s.text.items s.how ≡ false → Adds a b (thread_head name) → c ≡ b ++ closed s.text.items → Adds c d (line_text (thread_last s.how)) → d ≡ a ++ thread_bytes name s
+pub thread_put : {a b c d : List ℕ} (name : Chars) (s : Section) → is_silent s.text.now s.how ≡ false → Adds a b (thread_head name) → c ≡ b ++ closed s.text.now → Adds c d (line_text (thread_last s.how)) → d ≡ a ++ thread_bytes name s
 thread_put {a = a} name s loud p e q =
-    three_put (closed s.text.items) p e q
-    ∙ ap (λ b. a ++ (if b then [] else encode_utf8_all (thread_head name) ++ (closed s.text.items ++ encode_utf8_all (line_text (thread_last s.how))))) (sym loud)
+    three_put (closed s.text.now) p e q
+    ∙ ap (λ b. a ++ (if b then [] else encode_utf8_all (thread_head name) ++ (closed s.text.now ++ encode_utf8_all (line_text (thread_last s.how))))) (sym loud)

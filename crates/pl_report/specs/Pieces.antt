@@ -53,7 +53,7 @@ goal_last false ops (Some how) = goal_how_last ops how
 
 abbrev pub goal_bytes : Chars → Bool → Section → List ℕ
 goal_bytes word enough s =
-    encode_utf8_all (goal_line word) ++ (closed s.text.items ++ encode_utf8_all (line_text (goal_last enough s.ops s.how)))
+    encode_utf8_all (goal_line word) ++ (closed s.text.now ++ encode_utf8_all (line_text (goal_last enough s.ops.now s.how)))
 
 abbrev pub has_line : Option Chars → Bool
 has_line None = false
@@ -65,11 +65,11 @@ is_silent text how = (length text == 0) && not (has_line (thread_last how))
 
 abbrev pub thread_bytes : Chars → Section → List ℕ
 thread_bytes name s =
-    if is_silent s.text.items s.how then []
-    else encode_utf8_all (thread_head name) ++ (closed s.text.items ++ encode_utf8_all (line_text (thread_last s.how)))
+    if is_silent s.text.now s.how then []
+    else encode_utf8_all (thread_head name) ++ (closed s.text.now ++ encode_utf8_all (line_text (thread_last s.how)))
 
 abbrev pub bytes_by : SectionKind → Section → List ℕ
-bytes_by Consult s = closed s.text.items
+bytes_by Consult s = closed s.text.now
 bytes_by (Goal word enough) s = goal_bytes word enough s
 bytes_by (Thread name) s = thread_bytes name s
 

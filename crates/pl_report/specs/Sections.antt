@@ -57,11 +57,11 @@ section_text (Thread name) t how ops = thread_text name t (thread_last how)
 -- What was written in the sections is these texts.
 abbrev pub AreWritten : List Section → List Chars → Type 0
 AreWritten [] [] = Unit {0}
-AreWritten (s ∷ ss) (t ∷ ts) = (s.text.items ≡ encode_utf8_all t) × AreWritten ss ts
+AreWritten (s ∷ ss) (t ∷ ts) = (s.text.now ≡ encode_utf8_all t) × AreWritten ss ts
 AreWritten _ _ = ⊥
 
 -- The text of sections in which these texts were written.
 abbrev pub transcript_text : List Section → List Chars → Chars
 transcript_text [] ts = []
 transcript_text (s ∷ ss) [] = []
-transcript_text (s ∷ ss) (t ∷ ts) = section_text s.kind t s.how s.ops ++ transcript_text ss ts
+transcript_text (s ∷ ss) (t ∷ ts) = section_text s.kind t s.how s.ops.now ++ transcript_text ss ts

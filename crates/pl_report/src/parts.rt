@@ -17,9 +17,9 @@ pub enum SectionKind {
 /// A section: what was written in it, without its first and its last line, in UTF-8; how its goal or thread ended, if
 /// that is to be said; and the operators at the engine's end, under which a ball is written.
 #[derive(Debug, Drop)]
-pub struct Section {
+pub struct Section<'a> {
     pub kind: SectionKind,
-    pub text: Vec<u8>,
+    pub text: &'a [u8],
     pub how: Option<GoalHow>,
-    pub ops: OpTable,
+    pub ops: &'a OpTable,
 }

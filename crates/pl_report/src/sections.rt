@@ -15,7 +15,7 @@ use std::alloc::Global;
 
 /// The text of a run from its sections, in UTF-8. The sections stand in the order of the list. The only error is out of
 /// memory.
-pub fn transcript(alloc: Global, sections: &[Section]) -> Result<Vec<u8>, Memory>
+pub fn transcript(alloc: Global, sections: &[Section<'_>]) -> Result<Vec<u8>, Memory>
     ensures { (texts : List Chars) → AreWritten sections.now texts
         → IfOk result (λ v. v.items ≡ encode_utf8_all (transcript_text sections.now texts)) }
 {
@@ -26,11 +26,11 @@ pub fn transcript(alloc: Global, sections: &[Section]) -> Result<Vec<u8>, Memory
     Ok(out)
 }
 
-fn put_section(alloc: Global, out: &mut Vec<u8>, section: &Section) -> Result<(), Memory>
+fn put_section(alloc: Global, out: &mut Vec<u8>, section: &Section<'_>) -> Result<(), Memory>
     ensures { OnOk result (out.new.items ≡ out.old.items ++ section_bytes section.now) }
 {
     match &section.kind {
-        SectionKind::Consult => put_closed(out, section.text.as_slice()),
+        SectionKind::Consult => put_closed(out, section.text),
         SectionKind::Goal { word, enough } => put_goal(alloc, out, word, *enough, section),
         SectionKind::Thread { name } => put_thread(out, name, section),
     }
@@ -41,13 +41,13 @@ fn put_goal(
     out: &mut Vec<u8>,
     word: &Text,
     enough: bool,
-    section: &Section,
+    section: &Section<'_>,
 ) -> Result<(), Memory>
     ensures { OnOk result (out.new.items ≡ out.old.items ++ goal_bytes word.now enough section.now) }
 {
     put_query(out, word)?;
-    put_closed(out, section.text.as_slice())?;
-    put_goal_last(alloc, out, enough, &section.how, &section.ops)?;
+    put_closed(out, section.text)?;
+    put_goal_last(alloc, out, enough, &section.how, section.ops)?;
     Ok(())
 }
 
@@ -62,14 +62,14 @@ fn put_query(out: &mut Vec<u8>, word: &Text) -> Result<(), Memory>
     Ok(())
 }
 
-fn put_thread(out: &mut Vec<u8>, name: &Text, section: &Section) -> Result<(), Memory>
+fn put_thread(out: &mut Vec<u8>, name: &Text, section: &Section<'_>) -> Result<(), Memory>
     ensures { OnOk result (out.new.items ≡ out.old.items ++ thread_bytes name.now section.now) }
 {
-    if is_silent(section.text.as_slice(), &section.how) {
+    if is_silent(section.text, &section.how) {
         return Ok(());
     }
     put_thread_head(out, name)?;
-    put_closed(out, section.text.as_slice())?;
+    put_closed(out, section.text)?;
     put_thread_last(out, &section.how)?;
     Ok(())
 }

@@ -13,27 +13,46 @@ use pl_term::Text;
 use run_model::ends::GoalHow;
 use std::alloc::Global;
 
+/// What a row says of a section.
+struct Told {
+    kind: SectionKind,
+    how: Option<GoalHow>,
+    text: Vec<u8>,
+}
+
 /// The text of a run with these sections, which stand with `¤` between.
 pub fn run(alloc: Global, fields: &mut Fields) -> Result<Vec<u8>> {
-    let mut sections = Vec::new(alloc);
+    let mut texts = Vec::new(alloc);
+    let mut kinds = Vec::new(alloc);
     for part in fields.next_field()?.split('¤') {
         if !part.is_empty() {
-            sections.push(section_of(alloc, part)?)?;
+            let Told { kind, how, text } = told_by(alloc, part)?;
+            texts.push(text)?;
+            kinds.push((kind, how))?;
         }
+    }
+    let ops = OpTable::iso(alloc)?;
+    let mut sections = Vec::new(alloc);
+    for ((kind, how), text) in kinds.into_iter().zip(texts.iter()) {
+        sections.push(Section {
+            kind,
+            text: text.as_slice(),
+            how,
+            ops: &ops,
+        })?;
     }
     Ok(transcript(alloc, &sections)?)
 }
 
 /// A section: its kind, the goal's word or the thread's name, what was written and how it ended, with `¬` between.
-fn section_of(alloc: Global, text: &str) -> Result<Section> {
+fn told_by(alloc: Global, text: &str) -> Result<Told> {
     let (kind, rest) = text.split_once('¬').context("a kind")?;
     let (name, rest) = rest.split_once('¬').context("a name")?;
     let (written, end) = rest.split_once('¬').context("a text")?;
-    Ok(Section {
+    Ok(Told {
         kind: kind_of(alloc, kind, name, end)?,
-        text: bytes_of(alloc, written)?,
         how: how_of(alloc, end)?,
-        ops: OpTable::iso(alloc)?,
+        text: bytes_of(alloc, written)?,
     })
 }
 

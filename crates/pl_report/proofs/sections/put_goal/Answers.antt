@@ -4,5 +4,5 @@ use Rattle.pl_report.proofs.sections.put_goal.Goals as goal
 pub returns : goal.returns
 returns c =
     goal_put c.args.word.now c.args.enough c.args.section.now c.in_ok-put_query.ensures
-    (rw c.as_slice.ensures.value at c.in_ok-put_closed.ensures)
+    c.in_ok-put_closed.ensures
     c.in_ok-put_goal_last.ensures
