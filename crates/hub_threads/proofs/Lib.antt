@@ -1,5 +1,6 @@
 pub mod Answered
 pub mod Below
+pub mod Calling
 pub mod Changes
 pub mod CommandedGoals
 pub mod CreatedThreads

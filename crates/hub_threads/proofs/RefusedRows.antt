@@ -20,7 +20,7 @@ use Rattle.atom_words.specs.declared.view.View.{View}
 use Rattle.hub_threads.specs.Held.{Held}
 use Rattle.hub_threads.specs.Serving.{queue_as, threads_as}
 use Rattle.hub_threads.proofs.Served.{queue_by}
-use Rattle.world_api.specs.declared.reply.Reply.TheVariants.{Standing, Clauses, Procedures, Flags, Named, Message, NoMessage, Status, Done, Gone, Refused}
+use Rattle.world_api.specs.declared.reply.Reply.TheVariants.{Standing, Clauses, Procedures, Flags, Operators, Named, Message, NoMessage, Status, Done, Gone, Refused}
 use Rattle.counted_terms.specs.CountedTerms.{said}
 use Rattle.counted_terms.specs.Rows.{row_names, row_refusals}
 use Rattle.counted_terms.specs.declared.row.Row.{Row}
@@ -106,6 +106,7 @@ module _ (l : View) (n : Names) (e : ℕ) (r : Request) (q : Held Tree) (count g
   refuses_decides (Reads (Clauses f)) says = absurd says
   refuses_decides (Reads (Procedures ps)) says = absurd says
   refuses_decides (Reads (Flags fs)) says = absurd says
+  refuses_decides (Reads (Operators os)) says = absurd says
   refuses_decides (Reads (Named x)) says = absurd says
   refuses_decides (Reads (Message t)) says = absurd says
   refuses_decides (Reads NoMessage) says = absurd says

@@ -1,5 +1,6 @@
 -- The goals of engines that have begun, in the order in which they began, until they are handed over.
 use Rattle.std.specs.Prelude.{◌≡◌, ◌≤◌, ℕ, List, [], ◌∷◌, ◌++◌, Option, Some, None, Bool, false, ◌&&◌, nat_le}
+use Rattle.pl_term.specs.Tree.{Chars}
 use Rattle.pl_term.specs.Variables.{is_in}
 use Rattle.counted_terms.specs.declared.row.Row.{Row}
 use Rattle.counted_terms.specs.declared.row.Row.TheVariants.{Makes}
@@ -15,6 +16,11 @@ begun_after _ n ns = ns
 abbrev pub first_begun : List ℕ → Option ℕ
 first_begun [] = None
 first_begun (n ∷ ns) = Some n
+
+-- which engines have begun, each with its alias, after a row that begins the engine n with this one where it makes an update
+abbrev pub called_after : Row → ℕ → Option Chars → List (ℕ × Option Chars) → List (ℕ × Option Chars)
+called_after (Makes r) n a xs = xs ++ (n, a) ∷ []
+called_after _ n a xs = xs
 
 -- whether a number lies from the first one to the last one
 abbrev pub is_within : ℕ → ℕ → ℕ → Bool

@@ -13,8 +13,8 @@ ghost use Rattle.counted_terms.specs.CountedTerms.{said};
 ghost use Rattle.counted_terms.specs.Keeping.{HoldsOn, KeeperAt, keeper_view};
 ghost use Rattle.counted_terms.specs.Rows.{row_names, row_refusals};
 ghost use Rattle.counted_terms.specs.Sharing.{Counts, Restored};
-ghost use Rattle.hub_threads.specs.Aliases.{ChecksAliases, IsLast, first_taken};
-ghost use Rattle.hub_threads.specs.Goals.{begun_after};
+ghost use Rattle.hub_threads.specs.Aliases.{ChecksAliases, IsLast, first_taken, last_of};
+ghost use Rattle.hub_threads.specs.Goals.{begun_after, called_after};
 ghost use Rattle.hub_threads.specs.Held.{goal_numbers};
 ghost use Rattle.hub_threads.specs.Rows.{Decides, updates_in};
 ghost use Rattle.hub_threads.specs.Threads.{IsThreads, thread_counts};
@@ -37,6 +37,7 @@ pub fn create_thread<K: NamesTable>(
     alloc: Global,
     queues: &mut Queues<CountedTerm>,
     count: &mut u64,
+    begun: &mut Vec<(u64, Option<Text>)>,
     atoms: &mut TableAtoms<K>,
     keeper: &mut Option<Keeper>,
     generation: u64,
@@ -54,6 +55,7 @@ pub fn create_thread<K: NamesTable>(
     ensures restored { Restored (thread_counts queues.old) (thread_counts queues.new) (keeper_view keeper.old) (keeper_view keeper.new) generation (generation + updates_in result) }
     ensures below { IsBelow count.new (generation + updates_in result) queues.new }
     ensures goals { goal_numbers queues.new.goals ≡ begun_after result count.old (goal_numbers queues.old.goals) }
+    ensures begun { begun.new.items ≡ called_after result count.old (last_of None (map (text_of (names (seen atoms.old.seat))) aliases.now)) begun.old.items }
     ensures says { (e goals : ℕ) (h : History) → length h ≡ generation → IsThreads (keeper_view keeper.old) queues.old count.old goals h
         → Decides (keeper_view keeper.new) (names (seen atoms.new.seat)) e (requests.create_thread (said (names (seen atoms.old.seat)) goal) (map (text_of (names (seen atoms.old.seat))) aliases.now) (option_map (said (names (seen atoms.old.seat))) error)) queues.new count.new goals h result }
     ensures named { All (λ a. IsSome (names (seen atoms.new.seat) a)) (row_names result) }
@@ -67,7 +69,7 @@ pub fn create_thread<K: NamesTable>(
         Checked::Free => match error {
             Some(error) => Row::Reads(Reply::Refused(error)),
             None => create_free(
-                alloc, queues, count, atoms, keeper, generation, goal, aliases,
+                alloc, queues, count, begun, atoms, keeper, generation, goal, aliases,
             ),
         },
     }
@@ -78,6 +80,7 @@ fn create_free<K: NamesTable>(
     alloc: Global,
     queues: &mut Queues<CountedTerm>,
     count: &mut u64,
+    begun: &mut Vec<(u64, Option<Text>)>,
     atoms: &mut TableAtoms<K>,
     keeper: &mut Option<Keeper>,
     generation: u64,
@@ -94,6 +97,7 @@ fn create_free<K: NamesTable>(
     ensures restored { Restored (thread_counts queues.old) (thread_counts queues.new) (keeper_view keeper.old) (keeper_view keeper.new) generation (generation + updates_in result) }
     ensures below { IsBelow count.new (generation + updates_in result) queues.new }
     ensures goals { goal_numbers queues.new.goals ≡ begun_after result count.old (goal_numbers queues.old.goals) }
+    ensures begun { begun.new.items ≡ called_after result count.old (last_of None (map (text_of (names (seen atoms.old.seat))) aliases.now)) begun.old.items }
     ensures says { (e goals : ℕ) (h : History) → length h ≡ generation → IsThreads (keeper_view keeper.old) queues.old count.old goals h
         → Decides (keeper_view keeper.new) (names (seen atoms.new.seat)) e (requests.create_thread (said (names (seen atoms.old.seat)) goal) (map (text_of (names (seen atoms.old.seat))) aliases.now) None) queues.new count.new goals h result }
     ensures named { All (λ a. IsSome (names (seen atoms.new.seat) a)) (row_names result) }
@@ -108,6 +112,7 @@ fn create_free<K: NamesTable>(
             alloc,
             queues,
             count,
+            begun,
             atoms,
             keeper,
             generation,
@@ -122,6 +127,7 @@ fn create_free<K: NamesTable>(
                 alloc,
                 queues,
                 count,
+                begun,
                 atoms,
                 keeper,
                 generation,

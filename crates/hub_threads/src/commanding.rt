@@ -15,7 +15,7 @@ ghost use Rattle.counted_terms.specs.CountedTerms.{said};
 ghost use Rattle.counted_terms.specs.Keeping.{HoldsOn, KeeperAt, keeper_view};
 ghost use Rattle.counted_terms.specs.Rows.{row_names, row_refusals};
 ghost use Rattle.counted_terms.specs.Sharing.{Counts, Restored};
-ghost use Rattle.hub_threads.specs.Goals.{IsNextGoal, begun_after};
+ghost use Rattle.hub_threads.specs.Goals.{IsNextGoal, begun_after, called_after};
 ghost use Rattle.hub_threads.specs.Held.{IsNew, goal_numbers};
 ghost use Rattle.hub_threads.specs.Rows.{Decides, updates_in};
 ghost use Rattle.hub_threads.specs.Threads.{IsThreads, thread_counts};
@@ -39,6 +39,7 @@ pub fn start_goal<K: NamesTable>(
     alloc: Global,
     queues: &mut Queues<CountedTerm>,
     count: &mut u64,
+    begun: &mut Vec<(u64, Option<Text>)>,
     atoms: &mut TableAtoms<K>,
     keeper: &mut Option<Keeper>,
     generation: u64,
@@ -54,6 +55,7 @@ pub fn start_goal<K: NamesTable>(
     ensures restored { Restored (thread_counts queues.old) (thread_counts queues.new) (keeper_view keeper.old) (keeper_view keeper.new) generation (generation + updates_in result) }
     ensures below { IsBelow count.new (generation + updates_in result) queues.new }
     ensures goals { goal_numbers queues.new.goals ≡ begun_after result number (goal_numbers queues.old.goals) }
+    ensures begun { begun.new.items ≡ called_after result number (Some (goal_alias number)) begun.old.items }
     ensures next { updates_in result ≡ 1 → IsNextGoal last number queues.old }
     ensures says { (e goals : ℕ) (h : History) → length h ≡ generation → IsThreads (keeper_view keeper.old) queues.old count.old goals h
         → Decides (keeper_view keeper.new) (names (seen atoms.new.seat)) e (requests.start_goal number (said (names (seen atoms.old.seat)) goal)) queues.new count.new goals h result }
@@ -75,6 +77,7 @@ pub fn start_goal<K: NamesTable>(
                 alloc,
                 queues,
                 count,
+                begun,
                 atoms,
                 keeper,
                 generation,

@@ -1,5 +1,5 @@
 //! A thread begins.
-ghost use Rattle.std.specs.Prelude.{◌≡◌, ◌<◌, ◌+◌, ◌++◌, ◌^◌, [], ℕ, IsSome, false, true, length};
+ghost use Rattle.std.specs.Prelude.{◌≡◌, ◌<◌, ◌+◌, ◌++◌, ◌^◌, [], ℕ, IfOk, IsSome, OnOk, false, true, length, vec_capacity, vec_len};
 ghost use Rattle.std.specs.List.{All};
 ghost use Rattle.pl_term.specs.Tree.{Tree};
 ghost use Rattle.pl_term.specs.Variables.{is_in};
@@ -18,7 +18,7 @@ ghost use Rattle.counted_terms.specs.CountedTerms.{said};
 ghost use Rattle.counted_terms.specs.Keeping.{KeeperAt, keeper_view};
 ghost use Rattle.counted_terms.specs.Rows.{row_names, row_refusals};
 ghost use Rattle.counted_terms.specs.Sharing.{Counts, Restored};
-ghost use Rattle.hub_threads.specs.Goals.{begun_after};
+ghost use Rattle.hub_threads.specs.Goals.{begun_after, called_after};
 ghost use Rattle.hub_threads.specs.Held.{IsNew, goal_numbers};
 ghost use Rattle.hub_threads.specs.Refusals.{is_taken};
 ghost use Rattle.hub_threads.specs.Rows.{Decides, updates_in};
@@ -30,7 +30,7 @@ use crate::refusing::{used_up, worn_out};
 use atom_api::fixed;
 use atom_table::{Keeper, NamesTable, TableAtoms};
 use counted_terms::{CountedTerm, MOST_UPDATES, Row, forget_by, store_from};
-use pl_term::Text;
+use pl_term::{Memory, Text};
 use std::alloc::Global;
 use term_store::Stored;
 use world_api::Reply;
@@ -41,6 +41,7 @@ pub fn start_with<K: NamesTable>(
     alloc: Global,
     queues: &mut Queues<CountedTerm>,
     count: &mut u64,
+    begun: &mut Vec<(u64, Option<Text>)>,
     atoms: &mut TableAtoms<K>,
     keeper: &mut Option<Keeper>,
     generation: u64,
@@ -61,6 +62,7 @@ pub fn start_with<K: NamesTable>(
     ensures restored { Restored (thread_counts queues.old) (thread_counts queues.new) (keeper_view keeper.old) (keeper_view keeper.new) generation (generation + updates_in result) }
     ensures below { IsBelow count.new (generation + updates_in result) queues.new }
     ensures goals { goal_numbers queues.new.goals ≡ begun_after result number (goal_numbers queues.old.goals) }
+    ensures begun { begun.new.items ≡ called_after result number alias begun.old.items }
     ensures says { (e goals : ℕ) (h : History) (v : Request) (r : requests.Reply) → length h ≡ generation → IsThreads (keeper_view keeper.old) queues.old count.old goals h
         → served_now e goals h v ≡ starts (state_at goals h (length h)) (length h) number (said (names (seen atoms.old.seat)) goal) alias r
         → Says term_by (text_of (names (seen atoms.old.seat))) reply r
@@ -80,9 +82,42 @@ pub fn start_with<K: NamesTable>(
     if number == u64::MAX {
         return Row::Memory;
     }
-    begin(
+    let Ok(called) = room_for(alloc, begun, &alias) else {
+        return Row::Memory;
+    };
+    let row = begin(
         queues, count, atoms, keeper, generation, number, goal, alias, reply,
-    )
+    );
+    note(begun, &row, number, called);
+    row
+}
+
+// Room for one engine more, and a copy of its alias, where it has one. The only error is out of memory.
+fn room_for(
+    alloc: Global,
+    begun: &mut Vec<(u64, Option<Text>)>,
+    alias: &Option<Text>,
+) -> Result<Option<Text>, Memory>
+    ensures copy { IfOk result (λ a. a ≡ alias.now) }
+    ensures room { OnOk result (vec_len begun.new < vec_capacity begun.new) }
+    ensures same { begun.new.items ≡ begun.old.items }
+{
+    begun.reserve(1)?;
+    match alias {
+        None => Ok(None),
+        Some(text) => Ok(Some(text.copy(alloc)?)),
+    }
+}
+
+// The engine is noted after the others, where the row begins it.
+fn note(begun: &mut Vec<(u64, Option<Text>)>, row: &Row, number: u64, alias: Option<Text>)
+    requires room { vec_len begun.old < vec_capacity begun.old }
+    ensures { begun.new.items ≡ called_after row.now number alias begun.old.items }
+{
+    match row {
+        Row::Makes(_) => begun.push_reserved((number, alias)),
+        _ => {}
+    }
 }
 
 // A thread begins, where one engine more can run.

@@ -1,4 +1,4 @@
-use Rattle.std.proofs.Common.{◌≡◌, [], Some, None, false, length, map, refl, sym, ap, subst, ◌∙◌}
+use Rattle.std.proofs.Common.{◌≡◌, [], Option, Some, None, false, length, map, refl, sym, ap, subst, ◌∙◌}
 use Rattle.std.specs.Prelude.{pos}
 use Rattle.std.specs.List.{All}
 use Rattle.std.specs.Option.{IsSome}
@@ -16,6 +16,7 @@ use Rattle.world_api.specs.Texts.{or_no_text, text_of}
 use Rattle.counted_terms.specs.CountedTerms.{said}
 use Rattle.counted_terms.specs.Keeping.{keeper_view}
 use Rattle.counted_terms.proofs.MadeTerms.{held_some}
+use Rattle.hub_threads.specs.Goals.{called_after}
 use Rattle.hub_threads.proofs.CreatedThreads.{create_starts, last_free, last_text, no_last}
 use Rattle.hub_threads.proofs.beginning.create_free.Goals as goal
 
@@ -58,3 +59,13 @@ returns-in-Ok-clause-says g c = λ e goals h long stands.
     (create_starts k q c.args.count.now goals h stands e t texts c.requires.free (Some c.in-Ok.text) (last_text (text_of m) c.args.aliases.now c.in-Some.a c.in-Some.ensures ∙ ap (λ o. Some (or_no_text c.in-Some.a o)) c.in-Ok.ensures.text)
     ∙ ap (λ (w : Names). starts (state_at goals h (length h)) (length h) c.args.count.now (said w c.args.goal) (Some c.in-Ok.text) r) (sym same))
     (ap (λ o. requests.named (atom (or_no_text c.in-Some.a o))) (sym (ap (λ (f : Names). f c.in-Some.a) same ∙ c.in-Ok.ensures.text)))
+
+pub returns-in-None-clause-begun : goal.returns-in-None-clause-begun
+returns-in-None-clause-begun g c =
+    let m = names (seen c.args.atoms.now.seat) in
+    c.start_with.ensures.begun ∙ ap (λ (o : Option Chars). called_after c.start_with.result c.args.count.now o c.args.begun.now.items) (sym (no_last (text_of m) c.args.aliases.now c.in-None.ensures))
+
+pub returns-in-Ok-clause-begun : goal.returns-in-Ok-clause-begun
+returns-in-Ok-clause-begun g c =
+    let m = names (seen c.args.atoms.now.seat) in
+    c.start_with-in-Ok.ensures.begun ∙ ap (λ (o : Option Chars). called_after c.start_with-in-Ok.result c.args.count.now o c.args.begun.now.items) (sym (last_text (text_of m) c.args.aliases.now c.in-Some.a c.in-Some.ensures ∙ ap (λ o. Some (or_no_text c.in-Some.a o)) c.in-Ok.ensures.text))

@@ -17,6 +17,9 @@ use Rattle.counted_terms.specs.Rows.{Answers, row_names}
 use Rattle.counted_terms.proofs.MadeTerms.{held_some}
 use Rattle.world_api.specs.declared.reply.Reply.TheVariants.{Refused}
 use Rattle.hub_threads.specs.Rows.{Decides}
+use Rattle.hub_threads.specs.Aliases.{last_of}
+use Rattle.hub_threads.specs.Goals.{called_after}
+use Rattle.hub_threads.proofs.Calling.{called_quiet}
 use Rattle.hub_threads.proofs.CreatedThreads.{create_taken, create_wrong}
 use Rattle.hub_threads.proofs.RefusedRows.{refuses_decides, thread_is}
 use Rattle.hub_threads.proofs.Sending.{some_of}
@@ -92,3 +95,12 @@ returns-in-None-clause-says g c = λ e goals h long stands.
 
 pub returns-in-None-clause-holds : goal.returns-in-None-clause-holds
 returns-in-None-clause-holds g c = λ a t e. ap (λ (f : Names). f a) (c.create_free.ensures.held ∙ c.check_aliases.ensures.held) ∙ e
+
+pub returns-in-Taken-clause-begun : goal.returns-in-Taken-clause-begun
+returns-in-Taken-clause-begun g c =
+    sym (called_quiet c.alias_taken.result c.args.count.now (last_of None (map (text_of (names (seen c.args.atoms.now.seat))) c.args.aliases.now)) c.args.begun.now.items c.alias_taken.ensures.reads)
+
+pub returns-in-None-clause-begun : goal.returns-in-None-clause-begun
+returns-in-None-clause-begun g c =
+    c.create_free.ensures.begun
+    ∙ ap (λ (z : Names). called_after c.create_free.result c.args.count.now (last_of None (map (text_of z) c.args.aliases.now)) c.args.begun.now.items) c.check_aliases.ensures.held

@@ -9,6 +9,8 @@ use Rattle.atom_words.specs.Seats.{seen}
 use Rattle.atom_table.specs.Naming.{names, requests as asked}
 use Rattle.counted_terms.specs.CountedTerms.{said}
 use Rattle.counted_terms.specs.Keeping.{keeper_view}
+use Rattle.hub_threads.specs.Goals.{called_after}
+use Rattle.hub_threads.proofs.Calling.{called_quiet}
 use Rattle.hub_threads.proofs.CommandedGoals.{goal_starts}
 use Rattle.hub_threads.proofs.Creating.{asks_nothing}
 use Rattle.hub_threads.proofs.commanding.start_goal.Goals as goal
@@ -39,3 +41,10 @@ returns-else-not-can_begin-clause-says g c = λ e goals h long stands.
 
 pub returns-else-not-can_begin-clause-holds : goal.returns-else-not-can_begin-clause-holds
 returns-else-not-can_begin-clause-holds g c = λ a t e. ap (λ (f : Names). f a) c.start_with.ensures.held ∙ e
+
+pub returns-then-is_alias-clause-begun : goal.returns-then-is_alias-clause-begun
+returns-then-is_alias-clause-begun g c = sym (called_quiet c.goal_taken.result c.args.number (Some (goal_alias c.args.number)) c.args.begun.now.items c.goal_taken.ensures.reads)
+
+pub returns-else-not-can_begin-clause-begun : goal.returns-else-not-can_begin-clause-begun
+returns-else-not-can_begin-clause-begun g c =
+    c.start_with.ensures.begun ∙ ap (λ (z : Chars). called_after c.start_with.result c.args.number (Some z) c.args.begun.now.items) c.in-Ok.ensures

@@ -1,4 +1,5 @@
-use Rattle.std.proofs.Common.{sym, ◌∙◌, arith, codes}
+use Rattle.std.proofs.Common.{ℕ, List, Option, ap₂, sym, ◌∙◌, arith, codes}
+use Rattle.pl_term.specs.Tree.{Chars}
 use Rattle.pl_model.specs.ErrorTerms.{resource_error}
 use Rattle.atom_words.specs.Seats.{seen}
 use Rattle.atom_table.specs.Naming.{names}
@@ -6,6 +7,8 @@ use Rattle.counted_terms.specs.CountedTerms.{said}
 use Rattle.counted_terms.specs.Keeping.{keeper_view}
 use Rattle.counted_terms.proofs.MadeTerms.{held_some}
 use Rattle.hub_threads.specs.Rows.{updates_in}
+use Rattle.hub_threads.specs.Goals.{called_after}
+use Rattle.hub_threads.proofs.Calling.{called_quiet}
 use Rattle.hub_threads.proofs.RefusedRows.{refuses_decides, threads_is}
 use Rattle.hub_threads.proofs.Sending.{nothing_below}
 use Rattle.hub_threads.proofs.StartedThreads.{starts_full, starts_worn}
@@ -46,3 +49,13 @@ returns-then-generation-ge-MOST_UPDATES-clause-named g c = c.worn_out.ensures.na
 
 pub returns-then-generation-ge-MOST_UPDATES-clause-below : goal.returns-then-generation-ge-MOST_UPDATES-clause-below
 returns-then-generation-ge-MOST_UPDATES-clause-below g c = nothing_below c.args.queues.now c.args.count.now c.args.generation (updates_in c.worn_out.result) c.requires.below
+
+pub returns-then-not-has_engine-clause-begun : goal.returns-then-not-has_engine-clause-begun
+returns-then-not-has_engine-clause-begun g c = sym (called_quiet c.used_up.result c.args.number c.args.alias c.args.begun.now.items c.used_up.ensures.reads)
+
+pub returns-then-generation-ge-MOST_UPDATES-clause-begun : goal.returns-then-generation-ge-MOST_UPDATES-clause-begun
+returns-then-generation-ge-MOST_UPDATES-clause-begun g c = sym (called_quiet c.worn_out.result c.args.number c.args.alias c.args.begun.now.items c.worn_out.ensures.reads)
+
+pub returns-clause-begun : goal.returns-clause-begun
+returns-clause-begun g c =
+    c.note.ensures ∙ ap₂ (λ (a : Option Chars) (xs : List (ℕ × Option Chars)). called_after c.begin-row.result c.args.number a xs) c.in-Ok.ensures.copy c.room_for.ensures.same
