@@ -13,7 +13,7 @@ use Rattle.atom_api.specs.Names.{FixedStand, Names}
 use Rattle.atom_words.specs.declared.view.View.{View}
 use Rattle.atom_table.specs.Naming.{names, requests as requests_of}
 use Rattle.term_store.specs.NumberedNames.{term_by}
-use Rattle.world_api.specs.declared.reply.Reply.TheVariants.{Standing, Clauses, Procedures, Flags, Named, Message, NoMessage, Status, Done, Gone, Refused}
+use Rattle.world_api.specs.declared.reply.Reply.TheVariants.{Standing, Clauses, Procedures, Flags, Operators, Named, Message, NoMessage, Status, Done, Gone, Refused}
 use Rattle.world_api.specs.Replies.{IsFront}
 use Rattle.world_api.specs.Texts.{text_of}
 use Rattle.clause_db.specs.Parts.{Held}
@@ -83,6 +83,7 @@ module _ (goals e : ℕ) (m : Names) (q : Request) (h : History) (ok : Option �
   refused_tells (Reads (Clauses f)) r = absurd r
   refused_tells (Reads (Procedures ps)) r = absurd r
   refused_tells (Reads (Flags fs)) r = absurd r
+  refused_tells (Reads (Operators os)) r = absurd r
   refused_tells (Reads (Named n)) r = absurd r
   refused_tells (Reads (Message t)) r = absurd r
   refused_tells (Reads NoMessage) r = absurd r
@@ -106,6 +107,7 @@ module _ (goals e : ℕ) (text : ℕ → Chars) (q : Request) (h : History) (cs 
   handed_tells (Reads (Standing ops quotes)) r = absurd r
   handed_tells (Reads (Procedures ps)) r = absurd r
   handed_tells (Reads (Flags fs)) r = absurd r
+  handed_tells (Reads (Operators os)) r = absurd r
   handed_tells (Reads (Named n)) r = absurd r
   handed_tells (Reads (Message t)) r = absurd r
   handed_tells (Reads NoMessage) r = absurd r
@@ -126,6 +128,7 @@ refused_named m ok error stand fine (Reads (Standing ops quotes)) r = absurd r
 refused_named m ok error stand fine (Reads (Clauses f)) r = absurd r
 refused_named m ok error stand fine (Reads (Procedures ps)) r = absurd r
 refused_named m ok error stand fine (Reads (Flags fs)) r = absurd r
+refused_named m ok error stand fine (Reads (Operators os)) r = absurd r
 refused_named m ok error stand fine (Reads (Named n)) r = absurd r
 refused_named m ok error stand fine (Reads (Message t)) r = absurd r
 refused_named m ok error stand fine (Reads NoMessage) r = absurd r

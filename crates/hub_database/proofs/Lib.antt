@@ -16,5 +16,6 @@ pub mod FlagRows
 pub mod ReclaimedClauses
 pub mod PutOperators
 pub mod ListedProcedures
+pub mod ListedOperators
 pub mod HintedCalls
 pub mod OperatorTurns

@@ -118,6 +118,7 @@ lists_tell goals e h g text at ps are (Reads (replies.Procedures v)) l = record 
 lists_tell goals e h g text at ps are (Reads (replies.Standing ops quotes)) l = absurd l
 lists_tell goals e h g text at ps are (Reads (replies.Clauses f)) l = absurd l
 lists_tell goals e h g text at ps are (Reads (replies.Flags fs)) l = absurd l
+lists_tell goals e h g text at ps are (Reads (replies.Operators os)) l = absurd l
 lists_tell goals e h g text at ps are (Reads (replies.Named n)) l = absurd l
 lists_tell goals e h g text at ps are (Reads (replies.Message t)) l = absurd l
 lists_tell goals e h g text at ps are (Reads replies.NoMessage) l = absurd l

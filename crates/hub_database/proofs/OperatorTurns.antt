@@ -1,23 +1,22 @@
 -- Operators that are put into the table at their turns: none is refused where the table, as it was, refuses none.
-use Rattle.std.proofs.Common.{◌≡◌, ℕ, zero, suc, List, [], ◌∷◌, Option, Some, None, Bool, false, cond, refl, sym, ap, ap₂, ◌∙◌, arith}
+use Rattle.std.proofs.Common.{◌≡◌, ℕ, zero, suc, List, [], ◌∷◌, Option, Some, None, Bool, false, cond, refl, ap, ap₂, ◌∙◌, arith}
 use Rattle.std.proofs.lemmas.Bool.{ne_eqb}
 use Rattle.std.specs.Prelude.{codes, is_some, nat_lt, ◌||◌, ◌&&◌, bytes_eq, if◌then◌else◌}
 use Rattle.std.specs.List.{list_any}
 use Rattle.std.specs.Option.{option_map}
-use Rattle.std.specs.Ordering.{eq_by_cmp, is_eq, nat_cmp, ordering_then}
+use Rattle.std.specs.Ordering.{is_eq, nat_cmp, ordering_then}
 use Rattle.std.specs.declared.cmp.Ordering.{Ordering}
 use Rattle.std.specs.declared.cmp.Ordering.TheVariants.{Less, Equal, Greater}
 use Rattle.std.specs.FinMap as finite
 use Rattle.std.specs.FinMap.{get-insert}
 use Rattle.pl_term.specs.Order.{text_order}
 use Rattle.pl_term.specs.Tree.{Chars}
-use Rattle.pl_model.specs.OperatorTable.{Entry, OperatorTable, Refusal, changed, comma, highest_priority, infix_postfix, is_reserved, key_order, place_of, priority, refusal, reserved, stands_beside}
+use Rattle.pl_model.specs.OperatorTable.{Entry, OperatorTable, Refusal, changed, comma, highest_priority, infix_postfix, is_reserved, place_of, priority, refusal, reserved, stands_beside}
 use Rattle.pl_model.specs.declared.operators.Kind.{Kind}
 use Rattle.pl_model.specs.declared.operators.Place.{Place}
 use Rattle.pl_model.specs.declared.operators.Place.TheVariants.{Prefix, Infix, Postfix}
 use Rattle.pl_model.proofs.KeyOrder.{key_order_total}
 use Rattle.op_table.specs.Faults.{fault_of}
-use Rattle.op_table.specs.declared.fault.OpFault.{OpFault}
 use Rattle.op_table.specs.declared.operator.Operator.{Operator}
 use Rattle.clause_db.specs.Operators.{first_fault}
 use Rattle.hub_database.specs.Operators.{fault_in, operators_by}

@@ -1,13 +1,15 @@
--- What the list of all procedures says, and which texts become atoms for it.
+-- What the lists of all procedures and of all operators say, and which texts become atoms for them.
 use Rattle.std.specs.Prelude.{◌≡◌, ◌⊎◌, ℕ, List, [], ◌∷◌, ◌++◌, map}
 use Rattle.std.specs.List.{All, Contains}
 use Rattle.std.specs.declared.result.Result.{Result}
 use Rattle.std.specs.declared.result.Result.TheVariants.{Ok, Err}
 use Rattle.pl_term.specs.Tree.{Chars}
 use Rattle.pl_model.specs.History.{Proc}
+use Rattle.pl_model.specs.OperatorTable.{Entry, Key}
 use Rattle.atom_words.specs.declared.view.Refusal.{Refusal}
+use Rattle.world_api.specs.Replies.{operator_in}
 use Rattle.world_api.specs.Visits.{proc_named}
-use Rattle.world_api.specs.declared.reply.Reply.TheVariants.{Procedures}
+use Rattle.world_api.specs.declared.reply.Reply.TheVariants.{Operators, Procedures}
 use Rattle.counted_terms.specs.Rows.{row_refusals}
 use Rattle.counted_terms.specs.declared.row.Row.{Row}
 use Rattle.counted_terms.specs.declared.row.Row.TheVariants.{Reads, Makes, Waits, NeedsAtoms, Retry, Worn, Memory}
@@ -17,6 +19,12 @@ pub record AsksSome (ps : List Proc) (old new : List Chars) : Type 0 where
   pub more : List Chars
   pub asked : new ≡ old ++ more
   pub each : All (λ t. Contains (map (λ (p : Proc). p.name) ps) t) more
+
+-- texts were asked since, each of them one of these
+pub record AsksAmong (ts old new : List Chars) : Type 0 where
+  pub more : List Chars
+  pub asked : new ≡ old ++ more
+  pub each : All (λ t. Contains ts t) more
 
 -- at most this text
 abbrev pub AsksOne : Chars → List Chars → List Chars → Type 0
@@ -32,6 +40,21 @@ Lists text ps (NeedsAtoms p) = Unit {0}
 Lists text ps (Retry c) = Unit {0}
 Lists text ps (Worn w) = Unit {0}
 Lists text ps Memory = Unit {0}
+
+-- the names of the operators
+abbrev pub operator_names : List (Key × Entry) → List Chars
+operator_names os = map (λ (o : Key × Entry). o.0.0) os
+
+-- the row lists these operators, or no text could become an atom
+abbrev pub ListsOperators : (ℕ → Chars) → List (Key × Entry) → Row → Type 0
+ListsOperators text os (Reads (Operators v)) = map (operator_in text) v.items ≡ os
+ListsOperators text os (Reads r) = ⊥
+ListsOperators text os (Makes r) = ⊥
+ListsOperators text os (Waits on) = ⊥
+ListsOperators text os (NeedsAtoms p) = Unit {0}
+ListsOperators text os (Retry c) = Unit {0}
+ListsOperators text os (Worn w) = Unit {0}
+ListsOperators text os Memory = Unit {0}
 
 -- the text did not become an atom
 abbrev pub IsWithout : Row → Type 0

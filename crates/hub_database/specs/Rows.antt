@@ -119,6 +119,12 @@ abbrev pub history_after : ℕ → Row → Kind → History → History
 history_after e (Makes r) kind h = h ++ entry_by e (Some kind)
 history_after e _ kind h = h
 
+-- this holds of the reply of the row, where it has one
+abbrev pub RepliesBy : (Reply Tree → Type 0) → Row → Type 0
+RepliesBy P (Reads r) = P r
+RepliesBy P (Makes r) = P r
+RepliesBy P _ = Unit {0}
+
 -- a reply with nothing changed, or out of memory
 abbrev pub IsReply : Row → Type 0
 IsReply (Reads r) = Unit {0}

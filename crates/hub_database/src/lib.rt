@@ -28,7 +28,7 @@ pub use changing::erase_clause;
 pub use flags::{all_flags, put_flag};
 pub use hints::Hints;
 pub use laws::other_updates_leave_it;
-pub use listing::all_procedures;
+pub use listing::{all_operators, all_procedures};
 pub use looking::{collection, first_of, look};
 pub use operators::put_operators;
 pub use procedures::{abolish_procedure, clear_clauses, make_dynamic};

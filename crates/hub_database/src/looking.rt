@@ -15,7 +15,7 @@ ghost use Rattle.atom_table.specs.Naming.{names};
 ghost use Rattle.clause_db.specs.Reading.{SaysFor};
 ghost use Rattle.term_store.specs.ArgumentKeys.{clause_key, key_atoms};
 ghost use Rattle.term_store.specs.NumberedNames.{term_by};
-ghost use Rattle.world_api.specs.Replies.{IsFront};
+ghost use Rattle.world_api.specs.Replies.{HasTable, IsFront};
 ghost use Rattle.world_api.specs.Texts.{text_of};
 ghost use Rattle.counted_terms.specs.CountedTerms.{said};
 ghost use Rattle.counted_terms.specs.Keeping.{KeeperAt, keeper_view};
@@ -23,7 +23,7 @@ ghost use Rattle.counted_terms.specs.Sharing.{Counts};
 ghost use Rattle.counted_terms.specs.Rows.{row_names, row_refusals};
 ghost use Rattle.hub_database.specs.Clauses.{clause_by};
 ghost use Rattle.hub_database.specs.Database.{IsDatabase, clause_counts};
-ghost use Rattle.hub_database.specs.Rows.{HandsOut, IsQuiet, IsReply, IsSteady, Tells, generation_after};
+ghost use Rattle.hub_database.specs.Rows.{HandsOut, IsQuiet, IsReply, IsSteady, RepliesBy, Tells, generation_after};
 
 use crate::calls::first_clause;
 use atom_table::{Keeper, NamesTable, TableAtoms};
@@ -38,6 +38,7 @@ use world_api::Reply;
 pub fn look(db: &Db<CountedTerm>) -> Row
     ensures named { row_names result ≡ [] }
     ensures unrefused { row_refusals result ≡ [] }
+    ensures table { RepliesBy (λ r. HasTable r) result }
     ensures look { (goals e : ℕ) (h : entries.History) (k : View) (text : ℕ → Chars) → IsDatabase k db.now goals h → Tells goals e text requests.look h result }
     ensures operators { (goals e : ℕ) (h : entries.History) (k : View) (text : ℕ → Chars) → IsDatabase k db.now goals h → Tells goals e text requests.read_operators h result }
 {

@@ -1,7 +1,6 @@
 use Rattle.std.proofs.Common.{ℕ, ap, ap₂, sym}
 use Rattle.std.proofs.lemmas.Option.{same_Some}
 use Rattle.pl_term.specs.Tree.{Chars}
-use Rattle.pl_model.specs.History.{Proc}
 use Rattle.atom_words.specs.Seats.{seen}
 use Rattle.atom_table.specs.Naming.{requests}
 use Rattle.world_api.specs.Texts.{or_no_text}
