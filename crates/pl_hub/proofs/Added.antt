@@ -29,9 +29,9 @@ adding_clauses First p c = tt
 adding_clauses Last p c = tt
 
 pub adding_serves : (by : Adding) (t : Tree) (old_text new_text : ℕ → Chars) → IsPlainVisit old_text new_text (adding_visit by t)
-adding_serves Text t old_text new_text = λ r n old before new x. x
-adding_serves First t old_text new_text = λ r n old before new x. x
-adding_serves Last t old_text new_text = λ r n old before new x. x
+adding_serves Text t old_text new_text = (λ r n old before new x. x, λ r. tt)
+adding_serves First t old_text new_text = (λ r n old before new x. x, λ r. tt)
+adding_serves Last t old_text new_text = (λ r n old before new x. x, λ r. tt)
 
 pub adding_asks : (by : Adding) (t : Tree) (m : Names) → Asks term_by clause_key (text_of m) (adding_visit by t) (adding_request by (clause_in (said m t)))
 adding_asks Text t m = refl

@@ -19,16 +19,19 @@ use Rattle.world_api.specs.declared.visit.Visit.{Visit}
 use Rattle.world_api.specs.Answers.{answer_names, refusals_by}
 use Rattle.world_api.specs.Asked.{IsInAnswer}
 use Rattle.world_api.specs.Gains.{Gains}
+use Rattle.world_api.specs.Replies.{Suits}
 use Rattle.world_api.specs.Texts.{Holds, text_of}
+use Rattle.world_api.specs.declared.reply.Reply.{Reply}
 use Rattle.world_api.specs.Visits.{Asks}
 use Rattle.counted_terms.specs.declared.row.Row.{Row}
 use Rattle.counted_terms.specs.declared.row.Row.TheVariants.{Reads, Makes, Waits, NeedsAtoms, Retry, Worn, Memory}
 use Rattle.counted_terms.specs.Rows.{row_names, row_refusals}
+use Rattle.hub_database.specs.Rows.{RepliesBy}
 use Rattle.pl_hub.specs.Fronts.{Grows, IsOwn, told_of}
 use Rattle.pl_hub.specs.Settling.{CanSettle, Meets, Sees, answer_of, entry, front_after, hub_after}
 use Rattle.pl_hub.specs.Visits.{IsTold, IsVisit}
 use Rattle.pl_hub.proofs.Own.{own_after}
-use Rattle.pl_hub.proofs.Visiting.{IsAsked, IsPlainVisit, asked_one, meets_one, visited_by}
+use Rattle.pl_hub.proofs.Visiting.{IsAsked, IsFreshVisit, IsPlainVisit, any_reply, asked_one, meets_one, visited_by}
 
 -- no text was asked for
 pub none_asked : (P : Chars → Type 0) (v w : View) → requests w ≡ requests v → Gains P (Some (requests v)) (Some (requests w))
@@ -78,8 +81,8 @@ grows_row e k (Retry c) hub = none_more e hub
 grows_row e k (Worn w) hub = none_more e hub
 grows_row e k Memory hub = none_more e hub
 
-module _ (table : TableId) (goals e : ℕ) (v w : View) (visit : Visit Tree ArgumentKey) (plain : IsPlainVisit (text_of (names v)) (text_of (names w)) visit)
-    (f : FrontState) (own : IsOwn table e f) (hub : FrontState) (k : Kind) (row : Row) where
+module _ (table : TableId) (goals e : ℕ) (v w : View) (visit : Visit Tree ArgumentKey) (fresh : IsFreshVisit (text_of (names v)) (text_of (names w)) visit)
+    (f : FrontState) (own : IsOwn table e f) (hub : FrontState) (k : Kind) (row : Row) (suits : RepliesBy (λ (r : Reply Tree). Suits visit r) row) where
   answered : CanSettle k hub.seen row → Sees hub.seen f row → IsAsked (text_of (names v)) visit row
       → ((q : Request) → Asks term_by clause_key (text_of (names v)) visit q → Meets goals e (text_of (names w)) q hub.seen k row)
       → All (λ x. IsSome (names w x)) (row_names row)
@@ -88,7 +91,7 @@ module _ (table : TableId) (goals e : ℕ) (v w : View) (visit : Visit Tree Argu
       → Gains (IsInAnswer term_by clause_key (text_of (names v)) visit (told_of goals f)) (Some (requests v)) (Some (requests w))
       → IsVisit table goals e v w visit (answer_of row (length hub.seen)) f (front_after e k row hub.seen f) hub (hub_after e k row hub)
   answered can sees asked meets named holds refusals texts = record {
-    visited = visited_by table goals e (text_of (names v)) (text_of (names w)) visit plain f own hub.seen k row can sees asked meets;
+    visited = visited_by table goals e (text_of (names v)) (text_of (names w)) visit fresh f own hub.seen k row suits can sees asked meets;
     history = told_row e k row f hub;
     carried = grows_row e k row hub;
     own = own_after table e f own hub.seen k row can sees;
@@ -99,6 +102,23 @@ module _ (table : TableId) (goals e : ℕ) (v w : View) (visit : Visit Tree Argu
   }
 
   -- IT IS A VISIT that any request stands for which it can stand for
+  pub suited_visit : (a : Answer Tree) (g new : FrontState) → a ≡ answer_of row (length hub.seen) → g ≡ front_after e k row hub.seen f → new ≡ hub_after e k row hub
+      → CanSettle k hub.seen row → Sees hub.seen f row → IsAsked (text_of (names v)) visit row
+      → ((q : Request) → Asks term_by clause_key (text_of (names v)) visit q → Meets goals e (text_of (names w)) q hub.seen k row)
+      → All (λ x. IsSome (names w x)) (row_names row)
+      → Holds (names v) (names w)
+      → w.refusals ≡ v.refusals ++ row_refusals row
+      → Gains (IsInAnswer term_by clause_key (text_of (names v)) visit (told_of goals f)) (Some (requests v)) (Some (requests w))
+      → IsVisit table goals e v w visit a f g hub new
+  suited_visit a g new a_is g_is new_is can sees asked meets named holds refusals texts =
+      subst (λ (x : Answer Tree). IsVisit table goals e v w visit x f g hub new) (sym a_is)
+      (subst (λ (x : FrontState). IsVisit table goals e v w visit (answer_of row (length hub.seen)) f x hub new) (sym g_is)
+      (subst (λ (x : FrontState). IsVisit table goals e v w visit (answer_of row (length hub.seen)) f (front_after e k row hub.seen f) hub x) (sym new_is)
+      (answered can sees asked meets named holds refusals texts)))
+
+module _ (table : TableId) (goals e : ℕ) (v w : View) (visit : Visit Tree ArgumentKey) (plain : IsPlainVisit (text_of (names v)) (text_of (names w)) visit)
+    (f : FrontState) (own : IsOwn table e f) (hub : FrontState) (k : Kind) (row : Row) where
+  -- one that any reply suits
   pub is_visit : (a : Answer Tree) (g new : FrontState) → a ≡ answer_of row (length hub.seen) → g ≡ front_after e k row hub.seen f → new ≡ hub_after e k row hub
       → CanSettle k hub.seen row → Sees hub.seen f row → IsAsked (text_of (names v)) visit row
       → ((q : Request) → Asks term_by clause_key (text_of (names v)) visit q → Meets goals e (text_of (names w)) q hub.seen k row)
@@ -108,10 +128,7 @@ module _ (table : TableId) (goals e : ℕ) (v w : View) (visit : Visit Tree Argu
       → Gains (IsInAnswer term_by clause_key (text_of (names v)) visit (told_of goals f)) (Some (requests v)) (Some (requests w))
       → IsVisit table goals e v w visit a f g hub new
   is_visit a g new a_is g_is new_is can sees asked meets named holds refusals texts =
-      subst (λ (x : Answer Tree). IsVisit table goals e v w visit x f g hub new) (sym a_is)
-      (subst (λ (x : FrontState). IsVisit table goals e v w visit (answer_of row (length hub.seen)) f x hub new) (sym g_is)
-      (subst (λ (x : FrontState). IsVisit table goals e v w visit (answer_of row (length hub.seen)) f (front_after e k row hub.seen f) hub x) (sym new_is)
-      (answered can sees asked meets named holds refusals texts)))
+      suited_visit table goals e v w visit plain.0 f own hub k row (any_reply visit plain.1 row) a g new a_is g_is new_is can sees asked meets named holds refusals texts
 
   -- that one request stands for
   pub is_visit_of : (q : Request) → Asks term_by clause_key (text_of (names v)) visit q → ((r : Request) → Asks term_by clause_key (text_of (names v)) visit r → r ≡ q)

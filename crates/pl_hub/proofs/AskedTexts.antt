@@ -8,7 +8,8 @@ use Rattle.pl_term.specs.Tree.{Chars, Tree, atom}
 use Rattle.pl_model.specs.Database.{current_procedures}
 use Rattle.pl_model.specs.ErrorTerms.{permission_error}
 use Rattle.pl_model.specs.History.{History, Proc, mine}
-use Rattle.pl_model.specs.Requests.{Request, all_procedures, done, named, own_name, procedures, refused, start_goal}
+use Rattle.pl_model.specs.OperatorTable.{OperatorTable, operators}
+use Rattle.pl_model.specs.Requests.{Request, all_procedures, done, named, own_name, procedures, read_operators, refused, standing, start_goal}
 use Rattle.pl_model.specs.Service.{alias_taken, answers, name_term, serve, served_now, started}
 use Rattle.pl_model.specs.SharedState.{state_at}
 use Rattle.pl_model.specs.Threads.{Threads, alias_of, goal_alias, is_alias}
@@ -18,9 +19,10 @@ use Rattle.term_store.specs.ArgumentKeys.{clause_key}
 use Rattle.term_store.specs.NumberedNames.{term_by}
 use Rattle.world_api.specs.Asked.{IsInAnswer, IsInReply, texts_in}
 use Rattle.world_api.specs.Gains.{Gains}
-use Rattle.world_api.specs.declared.visit.Visit.TheVariants.{AllProcedures, OwnName, StartGoal}
-use Rattle.hub_database.specs.Database.{databases}
-use Rattle.hub_database.specs.Listing.{AsksSome}
+use Rattle.world_api.specs.declared.visit.Visit.TheVariants.{AllOperators, AllProcedures, OwnName, StartGoal}
+use Rattle.clause_db.specs.Parts.{Held as HeldClauses}
+use Rattle.hub_database.specs.Database.{IsDatabase, databases}
+use Rattle.hub_database.specs.Listing.{AsksAmong, AsksSome, operator_names}
 use Rattle.hub_threads.specs.Held.{Held as HeldThreads}
 use Rattle.hub_threads.specs.Threads.{IsThreads}
 use Rattle.pl_hub.specs.Fronts.{IsOwn, told_of}
@@ -34,6 +36,11 @@ named_by_alias e goals h = refl
 listed_now : (e goals : ℕ) (h : History) → served_now e goals h all_procedures ≡ answers (procedures (current_procedures (length h) (databases goals h (length h)))) None
 unfolding serve
 listed_now e goals h = refl
+
+operators_now : (e goals : ℕ) (h : History)
+    → served_now e goals h read_operators ≡ answers (standing (state_at goals h (length h)).operators (state_at goals h (length h)).flags.double_quotes) None
+unfolding serve
+operators_now e goals h = refl
 
 started_now : (e goals : ℕ) (h : History) (n : ℕ) (goal : Tree) → is_alias (state_at goals h (length h)).threads (goal_alias n) ≡ true
     → served_now e goals h (start_goal n goal) ≡ answers (refused (permission_error (codes "create") (codes "thread") (atom (goal_alias n)))) None
@@ -79,6 +86,25 @@ module _ (table : TableId) (goals e : ℕ) (f : FrontState) (own : IsOwn table e
         update = None;
         served = listed_now (own_engine f.lives) goals h;
         handed = subst (λ (n : ℕ). Contains (map (λ (p : Proc). p.name) (current_procedures n (databases goals h n))) t) (sym at) among;
+      });
+    }) asks.more asks.each;
+  }
+
+  -- THE NAMES of operators
+  pub operators_asked : (k : View) (db : HeldClauses Tree) → IsDatabase k db goals h → (old new : List Chars)
+      → AsksAmong (operator_names (operators db.operators)) old new
+      → Gains (IsInAnswer term_by clause_key text AllOperators (told_of goals f)) (Some old) (Some new)
+  operators_asked k db is old new asks = record {
+    more = asks.more;
+    asked = ap Some asks.asked;
+    each = All-weaker (λ t. Contains (operator_names (operators db.operators)) t) (IsInAnswer term_by clause_key text AllOperators (told_of goals f)) (λ t among. record {
+      before = h;
+      follows = follows f h own.runs (own.updates ∙ ap (mine f.seen) (sym own.engine)) behind;
+      stands = λ r same. subst (λ (z : Request). IsInReply (told_of goals f) h z t) (sym same) (record {
+        reply = standing (state_at goals h (length h)).operators (state_at goals h (length h)).flags.double_quotes;
+        update = None;
+        served = operators_now (own_engine f.lives) goals h;
+        handed = subst (λ (o : OperatorTable). Contains (operator_names (operators o)) t) is.operators among;
       });
     }) asks.more asks.each;
   }

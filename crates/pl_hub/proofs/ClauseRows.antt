@@ -32,36 +32,39 @@ use Rattle.counted_terms.specs.declared.row.Row.{Row}
 use Rattle.counted_terms.specs.declared.row.Row.TheVariants.{Reads, Makes, Waits, NeedsAtoms, Retry, Worn, Memory}
 use Rattle.counted_terms.specs.Rows.{row_names, row_refusals}
 use Rattle.hub_database.specs.Database.{IsDatabase, IsUpTo, clause_counts}
-use Rattle.hub_database.specs.Rows.{Decides as DatabaseDecides, IsQuiet, IsReply, IsReplyOrMade, IsSteady, Tells, generation_after, history_after}
+use Rattle.hub_database.specs.Rows.{Decides as DatabaseDecides, IsQuiet, IsReply, IsReplyOrMade, IsSteady, RepliesBy, Tells, generation_after, history_after}
 use Rattle.hub_database.proofs.Deciding.{steady_database}
 use Rattle.hub_threads.specs.Threads.{thread_counts}
+use Rattle.world_api.specs.Replies.{Suits}
+use Rattle.world_api.specs.declared.reply.Reply.{Reply}
+use Rattle.pl_hub.specs.Called.{Called}
 use Rattle.pl_hub.specs.Fronts.{IsOwn, told_of}
 use Rattle.pl_hub.specs.Settling.{CanSettle, Meets, Sees, answer_of, front_after, hub_after}
 use Rattle.pl_hub.specs.State.{IsShared}
 use Rattle.pl_hub.specs.Visits.{IsVisit}
-use Rattle.pl_hub.proofs.Answering.{is_visit, is_visit_of, none_asked}
+use Rattle.pl_hub.proofs.Answering.{is_visit, is_visit_of, none_asked, suited_visit}
 use Rattle.pl_hub.proofs.States.{IsOfClauses, clauses_can, clauses_meet, clauses_shared, database_shared, early_can, history_is, steady_restores, told_can, told_meets}
-use Rattle.pl_hub.proofs.Visiting.{IsAsked, IsPlainVisit}
+use Rattle.pl_hub.proofs.Visiting.{IsAsked, IsFreshVisit, IsPlainVisit}
 
 -- THE COUNTS that a row is given
-pub clause_counts_of : {atoms : TableId} {size : Size} {table : TableId} {goals : ℕ} {f : FrontState} {keeper : Option Keeper} {db : HeldClauses Tree} {q : HeldThreads Tree} {c : ℕ}
-    → IsShared atoms size table goals f keeper db q c → (n : ℕ) → n ≡ length f.seen → Counts (clause_counts db) (keeper_view keeper) n
+pub clause_counts_of : {atoms : TableId} {size : Size} {table : TableId} {goals : ℕ} {f : FrontState} {keeper : Option Keeper} {db : HeldClauses Tree} {q : HeldThreads Tree} {c : ℕ} {b : List Called}
+    → IsShared atoms size table goals f keeper db q c b → (n : ℕ) → n ≡ length f.seen → Counts (clause_counts db) (keeper_view keeper) n
 clause_counts_of {q = q} was n is = record {
   rest = thread_counts q;
   exact = was.exact;
   few = λ a. let low = was.few a in omega (arith, low, is);
 }
 
-pub upto_of : {atoms : TableId} {size : Size} {table : TableId} {goals : ℕ} {f : FrontState} {keeper : Option Keeper} {db : HeldClauses Tree} {q : HeldThreads Tree} {c : ℕ}
-    → IsShared atoms size table goals f keeper db q c → (n : ℕ) → n ≡ length f.seen → IsUpTo n db
+pub upto_of : {atoms : TableId} {size : Size} {table : TableId} {goals : ℕ} {f : FrontState} {keeper : Option Keeper} {db : HeldClauses Tree} {q : HeldThreads Tree} {c : ℕ} {b : List Called}
+    → IsShared atoms size table goals f keeper db q c b → (n : ℕ) → n ≡ length f.seen → IsUpTo n db
 upto_of {db = db} was n is = subst (λ (x : ℕ). IsUpTo x db) (sym is) was.upto
 
 -- WHERE NOTHING BUT THE KEEPER'S SEAT HAS CHANGED
-pub shared_steady : (atoms : TableId) (size : Size) (table : TableId) (goals : ℕ) (f : FrontState) (keeper new_keeper : Option Keeper) (db : HeldClauses Tree) (q : HeldThreads Tree) (c : ℕ)
-    → IsShared atoms size table goals f keeper db q c → IsSound q → KeeperAt atoms size new_keeper → IsSteady (keeper_view keeper) (keeper_view new_keeper)
-    → IsShared atoms size table goals f new_keeper db q c
-shared_steady atoms size table goals f keeper new_keeper db q c was sound at steady =
-    clauses_shared atoms size table goals f keeper new_keeper db db q c was sound at 0 (text_of (λ a. None)) look (erase 0) refl tt Memory
+pub shared_steady : (atoms : TableId) (size : Size) (table : TableId) (goals : ℕ) (f : FrontState) (keeper new_keeper : Option Keeper) (db : HeldClauses Tree) (q : HeldThreads Tree) (c : ℕ) (b : List Called)
+    → IsShared atoms size table goals f keeper db q c b → IsSound q → KeeperAt atoms size new_keeper → IsSteady (keeper_view keeper) (keeper_view new_keeper)
+    → IsShared atoms size table goals f new_keeper db q c b
+shared_steady atoms size table goals f keeper new_keeper db q c b was sound at steady =
+    clauses_shared atoms size table goals f keeper new_keeper db db q c b was sound at 0 (text_of (λ a. None)) look (erase 0) refl tt Memory
     (steady_restores (clause_counts db) (clause_counts db) (keeper_view keeper) (keeper_view new_keeper) (length f.seen) (length f.seen) steady (λ a. refl) (omega arith))
     was.upto refl (steady_database (keeper_view keeper) (keeper_view new_keeper) db goals f.seen steady.keeps was.database)
 
@@ -90,7 +93,7 @@ none_refused v w row quiet unrefused = quiet.refusals ∙ sym (append-nil v.refu
 
 -- A ROW THAT TELLS is a visit, for the requests that the visit stands for
 module _ (goals e : ℕ) (j : Kind) (f now : FrontState) (is : f ≡ now) (v w : View) (visit : Visit Tree ArgumentKey) (row : Row) where
-  pub told_visit : (table : TableId) → IsPlainVisit (text_of (names v)) (text_of (names w)) visit
+  pub told_visit : (table : TableId) → IsFreshVisit (text_of (names v)) (text_of (names w)) visit → RepliesBy (λ (r : Reply Tree). Suits visit r) row
       → (any : Request) → Tells goals e (text_of (names w)) any f.seen row
       → ((q : Request) → Asks term_by clause_key (text_of (names v)) visit q → Tells goals e (text_of (names w)) q f.seen row)
       → (front : FrontState) → IsOwn table e front
@@ -101,14 +104,14 @@ module _ (goals e : ℕ) (j : Kind) (f now : FrontState) (is : f ≡ now) (v w :
       → w.refusals ≡ v.refusals ++ row_refusals row
       → requests w ≡ requests v
       → IsVisit table goals e v w visit a front g now new
-  told_visit table plain any one says front own a g new a_is g_is new_is sees named holds refusals asked =
+  told_visit table fresh suits any one says front own a g new a_is g_is new_is sees named holds refusals asked =
       subst (λ (x : FrontState). IsVisit table goals e v w visit a front g x new) is
-      (is_visit table goals e v w visit plain front own f j row a g new a_is g_is new_is (told_can goals e (text_of (names w)) any f.seen j row one) sees
+      (suited_visit table goals e v w visit fresh front own f j row suits a g new a_is g_is new_is (told_can goals e (text_of (names w)) any f.seen j row one) sees
       (told_asked goals e (text_of (names w)) (text_of (names v)) any f.seen visit row one)
       (λ q asks. told_meets goals e (text_of (names w)) q f.seen j row (says q asks))
       named holds refusals (none_asked _ v w asked))
 
-  pub told_visit_asking : (table : TableId) → IsPlainVisit (text_of (names v)) (text_of (names w)) visit
+  pub told_visit_asking : (table : TableId) → IsFreshVisit (text_of (names v)) (text_of (names w)) visit → RepliesBy (λ (r : Reply Tree). Suits visit r) row
       → (any : Request) → Tells goals e (text_of (names w)) any f.seen row
       → ((q : Request) → Asks term_by clause_key (text_of (names v)) visit q → Tells goals e (text_of (names w)) q f.seen row)
       → (front : FrontState) → IsOwn table e front
@@ -119,9 +122,9 @@ module _ (goals e : ℕ) (j : Kind) (f now : FrontState) (is : f ≡ now) (v w :
       → w.refusals ≡ v.refusals ++ row_refusals row
       → Gains (IsInAnswer term_by clause_key (text_of (names v)) visit (told_of goals front)) (Some (requests v)) (Some (requests w))
       → IsVisit table goals e v w visit a front g now new
-  told_visit_asking table plain any one says front own a g new a_is g_is new_is sees named holds refusals asked =
+  told_visit_asking table fresh suits any one says front own a g new a_is g_is new_is sees named holds refusals asked =
       subst (λ (x : FrontState). IsVisit table goals e v w visit a front g x new) is
-      (is_visit table goals e v w visit plain front own f j row a g new a_is g_is new_is (told_can goals e (text_of (names w)) any f.seen j row one) sees
+      (suited_visit table goals e v w visit fresh front own f j row suits a g new a_is g_is new_is (told_can goals e (text_of (names w)) any f.seen j row one) sees
       (told_asked goals e (text_of (names w)) (text_of (names v)) any f.seen visit row one)
       (λ q asks. told_meets goals e (text_of (names w)) q f.seen j row (says q asks))
       named holds refusals asked)
@@ -151,18 +154,18 @@ module _ (goals e : ℕ) (j kind : Kind) (picked : j ≡ kind) (plain_kind : is_
       (is_visit_of table goals e v w visit plain front own f j row q asks only a g new a_is g_is new_is changes_can sees changes_meet
       named quiet.holds (none_refused v w row quiet unrefused) (none_asked _ v w quiet.requests))
 
-  pub changes_shared : {atoms : TableId} {size : Size} {table : TableId} {keeper new_keeper : Option Keeper} {old : HeldClauses Tree} {p : HeldThreads Tree} {c : ℕ}
-      → IsShared atoms size table goals f keeper old p c → IsSound p → KeeperAt atoms size new_keeper → l ≡ keeper_view new_keeper
+  pub changes_shared : {atoms : TableId} {size : Size} {table : TableId} {keeper new_keeper : Option Keeper} {old : HeldClauses Tree} {p : HeldThreads Tree} {c : ℕ} {b : List Called}
+      → IsShared atoms size table goals f keeper old p c b → IsSound p → KeeperAt atoms size new_keeper → l ≡ keeper_view new_keeper
       → (n : ℕ) → n ≡ length f.seen
       → Restored (clause_counts old) (clause_counts db) (keeper_view keeper) (keeper_view new_keeper) n (generation_after row n)
       → IsUpTo (generation_after row n) db
       → db.floor ≡ old.floor
       → (new : FrontState) → new ≡ hub_after e j row f
-      → IsShared atoms size table goals new new_keeper db p c
-  changes_shared {atoms} {size} {table} {keeper} {new_keeper} {old} {p} {c} was sound at same n is_n restored upto floor new new_is =
-      subst (λ (x : FrontState). IsShared atoms size table goals x new_keeper db p c) (sym new_is)
-      (subst (λ (k : Kind). IsShared atoms size table goals (hub_after e k row f) new_keeper db p c) (sym picked)
-      (clauses_shared atoms size table goals f keeper new_keeper old db p c was sound at e (text_of (names w)) q kind plain_kind of row
+      → IsShared atoms size table goals new new_keeper db p c b
+  changes_shared {atoms} {size} {table} {keeper} {new_keeper} {old} {p} {c} {b} was sound at same n is_n restored upto floor new new_is =
+      subst (λ (x : FrontState). IsShared atoms size table goals x new_keeper db p c b) (sym new_is)
+      (subst (λ (k : Kind). IsShared atoms size table goals (hub_after e k row f) new_keeper db p c b) (sym picked)
+      (clauses_shared atoms size table goals f keeper new_keeper old db p c b was sound at e (text_of (names w)) q kind plain_kind of row
       (subst (λ (x : ℕ). Restored (clause_counts old) (clause_counts db) (keeper_view keeper) (keeper_view new_keeper) x (generation_after row x)) is_n restored)
       (subst (λ (x : ℕ). IsUpTo (generation_after row x) db) is_n upto)
       floor
@@ -274,16 +277,16 @@ module _ (goals e : ℕ) (j kind : Kind) (picked : j ≡ kind) (plain_kind : is_
       (clauses_meet goals e (text_of (names w)) q f.seen kind plain_kind of l db row (goals_decide goals e f.seen v w l p k kind db row asks says q x.0 x.1 x.2)))
       named quiet.holds (none_refused v w row quiet unrefused) (none_asked _ v w quiet.requests))
 
-  pub made_shared : {atoms : TableId} {size : Size} {table : TableId} {keeper new_keeper : Option Keeper} {old new_db : HeldClauses Tree} {p : HeldThreads Tree} {c : ℕ}
-      → IsShared atoms size table goals f keeper old p c → IsSound p → KeeperAt atoms size new_keeper
+  pub made_shared : {atoms : TableId} {size : Size} {table : TableId} {keeper new_keeper : Option Keeper} {old new_db : HeldClauses Tree} {p : HeldThreads Tree} {c : ℕ} {b : List Called}
+      → IsShared atoms size table goals f keeper old p c b → IsSound p → KeeperAt atoms size new_keeper
       → Restored (clause_counts old) (clause_counts new_db) (keeper_view keeper) (keeper_view new_keeper) (length f.seen) (generation_after row (length f.seen))
       → IsUpTo (generation_after row (length f.seen)) new_db
       → new_db.floor ≡ old.floor
       → IsDatabase (keeper_view new_keeper) new_db goals (history_after e row kind f.seen)
       → (new : FrontState) → new ≡ hub_after e j row f
-      → IsShared atoms size table goals new new_keeper new_db p c
-  made_shared {atoms} {size} {table} {keeper} {new_keeper} {old} {new_db} {p} {c} was sound at restored upto floor after new new_is =
-      subst (λ (x : FrontState). IsShared atoms size table goals x new_keeper new_db p c) (sym new_is)
-      (subst (λ (k : Kind). IsShared atoms size table goals (hub_after e k row f) new_keeper new_db p c) (sym picked)
-      (database_shared atoms size table goals f keeper new_keeper old new_db p c was sound at e kind of row restored upto floor
+      → IsShared atoms size table goals new new_keeper new_db p c b
+  made_shared {atoms} {size} {table} {keeper} {new_keeper} {old} {new_db} {p} {c} {b} was sound at restored upto floor after new new_is =
+      subst (λ (x : FrontState). IsShared atoms size table goals x new_keeper new_db p c b) (sym new_is)
+      (subst (λ (k : Kind). IsShared atoms size table goals (hub_after e k row f) new_keeper new_db p c b) (sym picked)
+      (database_shared atoms size table goals f keeper new_keeper old new_db p c b was sound at e kind of row restored upto floor
       (subst (λ (h : History). IsDatabase (keeper_view new_keeper) new_db goals h) (history_is e kind row f.seen) after)))

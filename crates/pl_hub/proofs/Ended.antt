@@ -1,5 +1,5 @@
 -- What is shared, and what an engine is told, after the engine's end.
-use Rattle.std.proofs.Common.{◌≡◌, ◌≤◌, ◌==◌, ℕ, suc, ◌+◌, List, [], ◌∷◌, ◌++◌, Bool, true, false, length, map, Option, Some, None, refl, sym, ap, subst, ◌∙◌, arith, eq-eqb}
+use Rattle.std.proofs.Common.{◌≡◌, ◌==◌, ℕ, ◌+◌, List, [], ◌∷◌, ◌++◌, Bool, true, false, length, map, Option, refl, sym, ap, subst, ◌∙◌, arith, eq-eqb}
 use Rattle.std.specs.Prelude.{if◌then◌else◌, ◌||◌}
 use Rattle.std.proofs.lemmas.List.{length-append}
 use Rattle.atomic_table.specs.Seated.{TableId}
@@ -17,12 +17,14 @@ use Rattle.world_api.specs.Told.{Follows, Told}
 use Rattle.counted_terms.specs.Keeping.{KeeperAt, keeper_view}
 use Rattle.counted_terms.specs.Sharing.{IsFew, Restored, Sums}
 use Rattle.counted_terms.proofs.Sharing.{swapped}
-use Rattle.hub_database.specs.Database.{IsDatabase, IsElsewhere, clause_counts}
+use Rattle.hub_database.specs.Database.{IsElsewhere, clause_counts}
 use Rattle.hub_database.proofs.Elsewhere.{database_elsewhere}
+use Rattle.pl_hub.specs.Called.{Called}
 use Rattle.pl_hub.specs.Ending.{IsEnded, front_closed, hub_closed}
-use Rattle.pl_hub.specs.Fronts.{IsOwn, idle, told_of}
+use Rattle.pl_hub.specs.Fronts.{IsOwn, idle}
 use Rattle.pl_hub.specs.Settling.{IsBehind, entry}
 use Rattle.pl_hub.specs.State.{IsShared}
+use Rattle.pl_hub.proofs.Calling.{nobody_then}
 use Rattle.pl_hub.proofs.Order.{nobody_order}
 use Rattle.pl_hub.proofs.Own.{follows}
 use Rattle.pl_hub.proofs.States.{database_carried}
@@ -79,8 +81,8 @@ ended t goals e k f g hub new own end behind g_is new_is =
       };
     }))
 
-module _ (atoms : TableId) (size : Size) (table : TableId) (goals : ℕ) (f : FrontState) (keeper new_keeper : Option Keeper) (db : HeldClauses Tree) (q r : HeldThreads Tree) (c : ℕ)
-    (was : IsShared atoms size table goals f keeper db q c) (at : KeeperAt atoms size new_keeper) where
+module _ (atoms : TableId) (size : Size) (table : TableId) (goals : ℕ) (f : FrontState) (keeper new_keeper : Option Keeper) (db : HeldClauses Tree) (q r : HeldThreads Tree) (c : ℕ) (b : List Called)
+    (was : IsShared atoms size table goals f keeper db q c b) (at : KeeperAt atoms size new_keeper) where
   -- WHAT IS SHARED after it
   pub ended_shared : (e : ℕ) (k : Kind) → IsElsewhere k → (n : ℕ) → n ≡ length f.seen
       → Restored (thread_counts q) (thread_counts r) (keeper_view keeper) (keeper_view new_keeper) n (n + 1)
@@ -89,12 +91,12 @@ module _ (atoms : TableId) (size : Size) (table : TableId) (goals : ℕ) (f : Fr
       → r.goals ≡ q.goals
       → begun_by k ≡ []
       → (new : FrontState) → new ≡ hub_closed e k f
-      → IsShared atoms size table goals new new_keeper db r c
+      → IsShared atoms size table goals new new_keeper db r c b
   ended_shared e k other n is restored below threads kept begins new new_is =
       let sums : Sums (thread_counts q) (clause_counts db) (keeper_view keeper) = swapped (clause_counts db) (thread_counts q) (keeper_view keeper) was.exact in
       let more : length (f.seen ++ entry e k ∷ []) ≡ length f.seen + 1 = length-append f.seen (entry e k ∷ []) in
       let g : n + 1 ≡ length (f.seen ++ entry e k ∷ []) = omega (arith, more, is) in
-      subst (λ (x : FrontState). IsShared atoms size table goals x new_keeper db r c) (sym new_is) (record {
+      subst (λ (x : FrontState). IsShared atoms size table goals x new_keeper db r c b) (sym new_is) (record {
         table = was.table;
         keeper_is = at;
         exact = swapped (thread_counts r) (clause_counts db) (keeper_view new_keeper) (restored.exact (clause_counts db) sums);
@@ -105,6 +107,7 @@ module _ (atoms : TableId) (size : Size) (table : TableId) (goals : ℕ) (f : Fr
         threads = threads;
         below = subst (λ (m : ℕ). IsBelow c m r) g below;
         order = nobody_order goals e k f.seen was.order begins;
+        called = was.called ∙ sym (nobody_then e k f.seen begins);
         waiting = was.waiting ∙ ap (λ (gs : List (ℕ × Tree)). map idle (goal_numbers gs)) (sym kept);
       })
 
@@ -112,7 +115,7 @@ module _ (atoms : TableId) (size : Size) (table : TableId) (goals : ℕ) (f : Fr
   pub undone_shared : (n : ℕ) → n ≡ length f.seen → r ≡ q
       → Restored (thread_counts q) (thread_counts r) (keeper_view keeper) (keeper_view new_keeper) n n
       → IsThreads (keeper_view new_keeper) r c goals f.seen
-      → IsShared atoms size table goals f new_keeper db r c
+      → IsShared atoms size table goals f new_keeper db r c b
   undone_shared n is same restored threads =
       let sums : Sums (thread_counts q) (clause_counts db) (keeper_view keeper) = swapped (clause_counts db) (thread_counts q) (keeper_view keeper) was.exact in
       record {
@@ -126,5 +129,6 @@ module _ (atoms : TableId) (size : Size) (table : TableId) (goals : ℕ) (f : Fr
         threads = threads;
         below = subst (λ (x : HeldThreads Tree). IsBelow c (length f.seen) x) (sym same) was.below;
         order = was.order;
+        called = was.called;
         waiting = was.waiting ∙ ap (λ (x : HeldThreads Tree). map idle (goal_numbers x.goals)) (sym same);
       }

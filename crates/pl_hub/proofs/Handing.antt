@@ -1,10 +1,10 @@
 -- An engine that has begun is handed to a front.
-use Rattle.std.proofs.Common.{◌≡◌, ◌≤◌, ◌<◌, ◌==◌, ℕ, ◌+◌, List, [], ◌∷◌, ◌++◌, map, length, Bool, true, false, Option, Some, refl, sym, ap, subst, ◌∙◌, arith, eq-eqb}
+use Rattle.std.proofs.Common.{◌≡◌, ◌<◌, ◌==◌, ℕ, ◌+◌, List, [], ◌∷◌, map, length, Bool, true, false, Option, Some, refl, sym, ap, subst, ◌∙◌, arith, eq-eqb}
 use Rattle.std.specs.Prelude.{IsSome, if◌then◌else◌}
 use Rattle.std.specs.List.{All}
 use Rattle.atomic_table.specs.Seated.{TableId}
 use Rattle.pl_term.specs.Tree.{Tree}
-use Rattle.pl_history.specs.Fronts.{AllTold, FrontState, Life, own_generations, picked, times, without}
+use Rattle.pl_history.specs.Fronts.{AllTold, FrontState, Life, picked, times, without}
 use Rattle.atom_api.specs.Names.{Names}
 use Rattle.atom_words.specs.declared.size.Size.{Size}
 use Rattle.atom_table.specs.declared.seats.Keeper.{Keeper}
@@ -15,12 +15,13 @@ use Rattle.hub_threads.specs.Weights.{IsBelow}
 use Rattle.hub_threads.specs.Threads.{IsThreads, started_goal, thread_counts}
 use Rattle.counted_terms.specs.CountedTerms.{said}
 use Rattle.counted_terms.specs.Keeping.{KeeperAt, keeper_view}
-use Rattle.counted_terms.specs.Sharing.{IsFew, Restored, Sums}
+use Rattle.counted_terms.specs.Sharing.{Restored, Sums}
 use Rattle.counted_terms.proofs.Sharing.{swapped}
 use Rattle.hub_database.specs.Database.{clause_counts}
 use Rattle.pl_hub.specs.Beginning.{HasBegun}
 use Rattle.pl_hub.specs.declared.beginning.Begun.{Begun}
-use Rattle.pl_hub.specs.Fronts.{IsOwn, idle}
+use Rattle.pl_hub.specs.Called.{Called}
+use Rattle.pl_hub.specs.Fronts.{idle}
 use Rattle.pl_hub.specs.State.{IsShared}
 use Rattle.pl_hub.proofs.Opening.{none_within}
 use Rattle.pl_hub.proofs.States.{database_carried}
@@ -43,16 +44,16 @@ pub without_first : (n : ℕ) (hub ls : List Life) → hub ≡ idle n ∷ ls →
 without_first n hub ls is = ap (without n) is ∙ ap (λ (b : Bool). if b then ls else idle n ∷ without n ls) (same_number n)
 
 -- WHAT IS SHARED after it
-pub handed_shared : {atoms : TableId} {size : Size} {table : TableId} {goals : ℕ} {f : FrontState} {keeper new_keeper : Option Keeper} {db : HeldClauses Tree} {q r : HeldThreads Tree} {c : ℕ}
-    → IsShared atoms size table goals f keeper db q c → KeeperAt atoms size new_keeper
+pub handed_shared : {atoms : TableId} {size : Size} {table : TableId} {goals : ℕ} {f : FrontState} {keeper new_keeper : Option Keeper} {db : HeldClauses Tree} {q r : HeldThreads Tree} {c : ℕ} {b : List Called}
+    → IsShared atoms size table goals f keeper db q c b → KeeperAt atoms size new_keeper
     → Restored (thread_counts q) (thread_counts r) (keeper_view keeper) (keeper_view new_keeper) (length f.seen) (length f.seen)
     → IsBelow c (length f.seen) r
     → IsThreads (keeper_view new_keeper) r c goals f.seen
     → (new : FrontState) → new ≡ record f { lives = map idle (goal_numbers r.goals) }
-    → IsShared atoms size table goals new new_keeper db r c
-handed_shared {atoms} {size} {table} {goals} {f} {keeper} {new_keeper} {db} {q} {r} {c} was at restored below threads new new_is =
+    → IsShared atoms size table goals new new_keeper db r c b
+handed_shared {atoms} {size} {table} {goals} {f} {keeper} {new_keeper} {db} {q} {r} {c} {b} was at restored below threads new new_is =
     let sums : Sums (thread_counts q) (clause_counts db) (keeper_view keeper) = swapped (clause_counts db) (thread_counts q) (keeper_view keeper) was.exact in
-    subst (λ (x : FrontState). IsShared atoms size table goals x new_keeper db r c) (sym new_is) (record {
+    subst (λ (x : FrontState). IsShared atoms size table goals x new_keeper db r c b) (sym new_is) (record {
       table = was.table;
       keeper_is = at;
       exact = swapped (thread_counts r) (clause_counts db) (keeper_view new_keeper) (restored.exact (clause_counts db) sums);
@@ -63,6 +64,7 @@ handed_shared {atoms} {size} {table} {goals} {f} {keeper} {new_keeper} {db} {q} 
       threads = threads;
       below = below;
       order = was.order;
+      called = was.called;
       waiting = refl;
     })
 

@@ -3,6 +3,7 @@ pub mod Serving
 pub mod Visiting
 pub mod Answering
 pub mod Order
+pub mod Calling
 pub mod States
 pub mod Retrying
 pub mod ThreadRows

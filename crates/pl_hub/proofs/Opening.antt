@@ -26,6 +26,7 @@ use Rattle.counted_terms.specs.Keeping.{KeeperAt, keeper_view, tally}
 use Rattle.hub_database.specs.Clauses.{clause_by}
 use Rattle.hub_database.specs.Database.{AllOpen, IsDatabase, databases}
 use Rattle.hub_threads.specs.Threads.{IsThreads}
+use Rattle.pl_hub.specs.Called.{Called}
 use Rattle.pl_hub.specs.Fronts.{is_begun}
 use Rattle.pl_hub.specs.State.{IsShared}
 
@@ -98,16 +99,16 @@ none_weigh : (w : Tree → ℕ) → weigh w opening_held ≡ 0
 none_weigh w = refl
 
 -- WHAT IS SHARED
-pub shared_opens : (atoms : TableId) (size : Size) (table : TableId) (goals : ℕ) (keeper : Option Keeper) (db : HeldClauses Tree) (q : HeldThreads Tree) (count : ℕ)
+pub shared_opens : (atoms : TableId) (size : Size) (table : TableId) (goals : ℕ) (keeper : Option Keeper) (db : HeldClauses Tree) (q : HeldThreads Tree) (count : ℕ) (begun : List Called)
     → KeeperAt atoms size keeper → ((a : ℕ) → tally (keeper_view keeper) a ≡ 0)
     → SaysFor (clause_by (keeper_view keeper)) db (λ g. opening_database)
     → db.flags ≡ opening_flags → db.operators ≡ opening_table → db.next ≡ 0 → db.floor ≡ 0
     → ((w : Tree → ℕ) → weight w db ≡ 0)
-    → q ≡ opening_held → count ≡ opening_count goals
-    → IsShared atoms size table goals (is_begun table) keeper db q count
-shared_opens atoms size table goals keeper db q count at none says flags operators next floor weighs opened counted =
-    subst (λ (x : HeldThreads Tree). IsShared atoms size table goals (is_begun table) keeper db x count) (sym opened)
-    (subst (λ (n : ℕ). IsShared atoms size table goals (is_begun table) keeper db opening_held n) (sym counted) (record {
+    → q ≡ opening_held → count ≡ opening_count goals → begun ≡ []
+    → IsShared atoms size table goals (is_begun table) keeper db q count begun
+shared_opens atoms size table goals keeper db q count begun at none says flags operators next floor weighs opened counted empty =
+    subst (λ (x : HeldThreads Tree). IsShared atoms size table goals (is_begun table) keeper db x count begun) (sym opened)
+    (subst (λ (n : ℕ). IsShared atoms size table goals (is_begun table) keeper db opening_held n begun) (sym counted) (record {
       table = refl;
       keeper_is = at;
       exact = λ a. none a ∙ sym (ap (λ n. n + weigh (naming a) opening_held) (weighs (naming a)) ∙ none_weigh (naming a));
@@ -118,6 +119,7 @@ shared_opens atoms size table goals keeper db q count at none says flags operato
       threads = threads_open (keeper_view keeper) goals;
       below = below_open (opening_count goals) 0 (count_le goals);
       order = record { goals_rise = tt; threads_rise = tt };
+      called = empty;
       waiting = refl;
     }))
 

@@ -72,6 +72,7 @@ module _ (table : TableId) (goals e : ℕ) (v w : View) (t p : Tree) (is : said 
     x.0,
     record {
       generation = x.1.generation;
+      suits = tt;
       update = x.1.update;
       serves = λ q asks. let y = x.1.serves (get_message (Some (said (names v) t)) (said (names v) p)) refl in (
         y.0,
@@ -104,6 +105,7 @@ module _ (table : TableId) (goals e : ℕ) (v w : View) (t p : Tree) (is : said 
     x.0,
     record {
       generation = x.1.generation;
+      suits = tt;
       update = x.1.update;
       serves = λ q asks. let y = x.1.serves (peek_message (Some (said (names v) t)) (said (names v) p)) refl in (
         y.0,

@@ -20,8 +20,9 @@ use Rattle.pl_model.specs.Service.{Served, answers, waits, added, asserted, clau
 use Rattle.pl_model.specs.SharedState.{SharedState, state_at}
 use Rattle.pl_model.specs.Threads.{Queue, first_message, goal_alias, has_engine, is_alias}
 use Rattle.hub_database.specs.Database.{IsElsewhere}
-use Rattle.pl_history.specs.Fronts.{Life, begun_by}
-use Rattle.pl_hub.specs.Fronts.{idle}
+use Rattle.hub_threads.specs.Aliases.{last_of}
+use Rattle.pl_history.specs.Fronts.{Life}
+use Rattle.pl_hub.specs.Called.{Called, called_by, lives_of}
 use Rattle.pl_hub.specs.Settling.{kind_of, kind_or_any}
 
 -- where the answer makes an update, this holds of it
@@ -39,8 +40,8 @@ abbrev pub Plain : ℕ → Kind → Type 0
 Plain g k = (g < 2 ^ 47) × (is_end k ≡ false)
 
 -- one of queues or threads besides, which begins these engines
-abbrev pub Beside : ℕ → List Life → Kind → Type 0
-Beside g ls k = (g < 2 ^ 47) × (is_end k ≡ false) × IsElsewhere k × (begun_by k ≡ ls)
+abbrev pub Beside : ℕ → List Called → Kind → Type 0
+Beside g cs k = (g < 2 ^ 47) × (is_end k ≡ false) × IsElsewhere k × (called_by k ≡ cs)
 
 module _ (g : ℕ) (P : Kind → Type 0) where
   updates_make : (r : Reply) (k : Kind) → (g < 2 ^ 47 → P k) → MakesOnly P (updates g r k)
@@ -79,8 +80,8 @@ module _ (g e : ℕ) (s : SharedState) where
 
 -- QUEUES and threads
 module _ (g e : ℕ) (s : SharedState) where
-  make_beside : (r : Reply) (k : Kind) (ls : List Life) → is_end k ≡ false → IsElsewhere k → begun_by k ≡ ls → MakesOnly (Beside g ls) (updates g r k)
-  make_beside r k ls plain other begins = updates_make g (Beside g ls) r k (λ early. (early, plain, other, begins))
+  make_beside : (r : Reply) (k : Kind) (cs : List Called) → is_end k ≡ false → IsElsewhere k → called_by k ≡ cs → MakesOnly (Beside g cs) (updates g r k)
+  make_beside r k cs plain other begins = updates_make g (Beside g cs) r k (λ early. (early, plain, other, begins))
 
   with_queue_makes : (x : Tree) (next : Queue Tree → Served) (o : Option (Queue Tree)) → ((q : Queue Tree) → MakesOnly (Beside g []) (next q)) → MakesOnly (Beside g []) (with_queue x next o)
   with_queue_makes x next None p = tt
@@ -105,11 +106,11 @@ module _ (g e : ℕ) (s : SharedState) where
   joined_makes x None = tt
   joined_makes x (Some t) = either (MakesOnly (Beside g [])) (t.number == e) _ (ended g t.number t.status) tt (ended_makes t.number t.status)
 
-  started_makes : (n : ℕ) (goal : Tree) (a : Option Chars) (r : Reply) → MakesOnly (Beside g (idle n ∷ [])) (started s g n goal a r)
-  started_makes n goal a r = either (MakesOnly (Beside g (idle n ∷ []))) (has_engine s.threads) (updates g r (start n (rename zero goal) a)) _ (make_beside r (start n (rename zero goal) a) (idle n ∷ []) refl tt refl) tt
+  started_makes : (n : ℕ) (goal : Tree) (a : Option Chars) (r : Reply) → MakesOnly (Beside g ((n, a) ∷ [])) (started s g n goal a r)
+  started_makes n goal a r = either (MakesOnly (Beside g ((n, a) ∷ []))) (has_engine s.threads) (updates g r (start n (rename zero goal) a)) _ (make_beside r (start n (rename zero goal) a) ((n, a) ∷ []) refl tt refl) tt
 
-  created_makes : (goal : Tree) (last : Option Chars) (aliases : List Chars) (error : Option Tree) → MakesOnly (Beside g (idle s.count ∷ [])) (created s g goal last aliases error)
-  created_makes goal last (a ∷ aliases) error = either (MakesOnly (Beside g (idle s.count ∷ []))) (is_alias s.threads a) _ (created s g goal (Some a) aliases error) tt (created_makes goal (Some a) aliases error)
+  created_makes : (goal : Tree) (last : Option Chars) (aliases : List Chars) (error : Option Tree) → MakesOnly (Beside g ((s.count, last_of last aliases) ∷ [])) (created s g goal last aliases error)
+  created_makes goal last (a ∷ aliases) error = either (MakesOnly (Beside g ((s.count, last_of (Some a) aliases) ∷ []))) (is_alias s.threads a) _ (created s g goal (Some a) aliases error) tt (created_makes goal (Some a) aliases error)
   created_makes goal last [] (Some x) = tt
   created_makes goal last [] None = started_makes s.count goal last (named (name_term s.count last))
 
@@ -127,17 +128,20 @@ IsOfThreads (destroy_queue x) = Unit {0}
 IsOfThreads _ = ⊥
 
 -- the engine that such a request begins, where it makes an update
+abbrev pub calls_in : Request → SharedState → List Called
+calls_in (create_thread t as₁ x) s = (s.count, last_of None as₁) ∷ []
+calls_in (start_goal n t) s = (n, Some (goal_alias n)) ∷ []
+calls_in _ s = []
+
 abbrev pub starts_in : Request → SharedState → List Life
-starts_in (create_thread t as₁ x) s = idle s.count ∷ []
-starts_in (start_goal n t) s = idle n ∷ []
-starts_in _ s = []
+starts_in r s = lives_of (calls_in r s)
 
 module _ (g e : ℕ) (s : SharedState) where
-  pub threads_make : (r : Request) → IsOfThreads r → MakesOnly (Beside g (starts_in r s)) (serve e r s g)
+  pub threads_make : (r : Request) → IsOfThreads r → MakesOnly (Beside g (calls_in r s)) (serve e r s g)
   unfolding serve
   threads_make own_name is = tt
   threads_make (create_thread t as₁ x) is = created_makes g e s t None as₁ x
-  threads_make (start_goal n t) is = either (MakesOnly (Beside g (idle n ∷ []))) (is_alias s.threads (goal_alias n)) _ (started s g n t (Some (goal_alias n)) done) tt (started_makes g e s n t (Some (goal_alias n)) done)
+  threads_make (start_goal n t) is = either (MakesOnly (Beside g ((n, Some (goal_alias n)) ∷ []))) (is_alias s.threads (goal_alias n)) _ (started s g n t (Some (goal_alias n)) done) tt (started_makes g e s n t (Some (goal_alias n)) done)
   threads_make (join_thread x) is = joined_makes g e s x (thread_for s.threads x)
   threads_make (send_message x t) is = with_queue_makes g e s x _ (queue_for s.threads x) (λ q. make_beside g e s done (send q.number (rename zero t)) [] refl tt refl)
   threads_make (get_message x t) is = with_queue_makes g e s (queue_term e x) _ (queue_asked s.threads e x) (λ q. got_makes g e s (first_message (matches t) q))
@@ -164,10 +168,10 @@ module _ (g e : ℕ) (s : SharedState) where
   threads_make collect_atoms is = absurd is
   threads_make collect_clauses is = absurd is
 
-  less : (ls : List Life) (x : Served) → MakesOnly (Beside g ls) x → MakesOnly (Plain g) x
-  less ls (answers r None) m = tt
-  less ls (answers r (Some k)) m = (m.0, m.1)
-  less ls waits m = tt
+  less : (cs : List Called) (x : Served) → MakesOnly (Beside g cs) x → MakesOnly (Plain g) x
+  less cs (answers r None) m = tt
+  less cs (answers r (Some k)) m = (m.0, m.1)
+  less cs waits m = tt
 
   -- WHAT EACH UPDATE IS with which a request is answered
   pub all_make : (r : Request) → MakesOnly (Plain g) (serve e r s g)
@@ -190,15 +194,15 @@ module _ (g e : ℕ) (s : SharedState) where
   all_make all_flags = tt
   all_make collect_atoms = tt
   all_make collect_clauses = tt
-  all_make own_name = less (starts_in own_name s) (serve e own_name s g) (threads_make own_name tt)
-  all_make (create_thread t as₁ x) = less (starts_in (create_thread t as₁ x) s) (serve e (create_thread t as₁ x) s g) (threads_make (create_thread t as₁ x) tt)
-  all_make (start_goal n t) = less (starts_in (start_goal n t) s) (serve e (start_goal n t) s g) (threads_make (start_goal n t) tt)
-  all_make (join_thread x) = less (starts_in (join_thread x) s) (serve e (join_thread x) s g) (threads_make (join_thread x) tt)
-  all_make (send_message x t) = less (starts_in (send_message x t) s) (serve e (send_message x t) s g) (threads_make (send_message x t) tt)
-  all_make (get_message x t) = less (starts_in (get_message x t) s) (serve e (get_message x t) s g) (threads_make (get_message x t) tt)
-  all_make (peek_message x t) = less (starts_in (peek_message x t) s) (serve e (peek_message x t) s g) (threads_make (peek_message x t) tt)
-  all_make (create_queue a) = less (starts_in (create_queue a) s) (serve e (create_queue a) s g) (threads_make (create_queue a) tt)
-  all_make (destroy_queue x) = less (starts_in (destroy_queue x) s) (serve e (destroy_queue x) s g) (threads_make (destroy_queue x) tt)
+  all_make own_name = less (calls_in own_name s) (serve e own_name s g) (threads_make own_name tt)
+  all_make (create_thread t as₁ x) = less (calls_in (create_thread t as₁ x) s) (serve e (create_thread t as₁ x) s g) (threads_make (create_thread t as₁ x) tt)
+  all_make (start_goal n t) = less (calls_in (start_goal n t) s) (serve e (start_goal n t) s g) (threads_make (start_goal n t) tt)
+  all_make (join_thread x) = less (calls_in (join_thread x) s) (serve e (join_thread x) s g) (threads_make (join_thread x) tt)
+  all_make (send_message x t) = less (calls_in (send_message x t) s) (serve e (send_message x t) s g) (threads_make (send_message x t) tt)
+  all_make (get_message x t) = less (calls_in (get_message x t) s) (serve e (get_message x t) s g) (threads_make (get_message x t) tt)
+  all_make (peek_message x t) = less (calls_in (peek_message x t) s) (serve e (peek_message x t) s g) (threads_make (peek_message x t) tt)
+  all_make (create_queue a) = less (calls_in (create_queue a) s) (serve e (create_queue a) s g) (threads_make (create_queue a) tt)
+  all_make (destroy_queue x) = less (calls_in (destroy_queue x) s) (serve e (destroy_queue x) s g) (threads_make (destroy_queue x) tt)
 
 -- THE UPDATE THAT IS PICKED is no engine's end
 plain_by : (g : ℕ) (x : Served) → MakesOnly (Plain g) x → is_end (kind_or_any (update_of x)) ≡ false
@@ -217,5 +221,5 @@ module _ (e goals : ℕ) (h : History) (q : Request) where
   pub made_plain : (r : Reply) (k : Kind) → served_now e goals h q ≡ answers r (Some k) → (length h < 2 ^ 47) × (is_end k ≡ false)
   made_plain r k served = subst (MakesOnly (Plain (length h))) served (all_make (length h) e (state_at goals h (length h)) q)
 
-  pub made_beside : IsOfThreads q → (r : Reply) (k : Kind) → served_now e goals h q ≡ answers r (Some k) → (length h < 2 ^ 47) × (is_end k ≡ false) × IsElsewhere k × (begun_by k ≡ starts_in q (state_at goals h (length h)))
-  made_beside is r k served = subst (MakesOnly (Beside (length h) (starts_in q (state_at goals h (length h))))) served (threads_make (length h) e (state_at goals h (length h)) q is)
+  pub made_beside : IsOfThreads q → (r : Reply) (k : Kind) → served_now e goals h q ≡ answers r (Some k) → (length h < 2 ^ 47) × (is_end k ≡ false) × IsElsewhere k × (called_by k ≡ calls_in q (state_at goals h (length h)))
+  made_beside is r k served = subst (MakesOnly (Beside (length h) (calls_in q (state_at goals h (length h))))) served (threads_make (length h) e (state_at goals h (length h)) q is)

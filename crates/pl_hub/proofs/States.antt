@@ -34,12 +34,14 @@ use Rattle.hub_database.proofs.Readings.{says_carried}
 use Rattle.hub_threads.specs.Rows.{Changed, Decides as ThreadsDecide, updates_in}
 use Rattle.hub_threads.specs.Threads.{IsThreads, thread_counts}
 use Rattle.hub_threads.proofs.Steps.{moves_on, goals_stay, stays}
+use Rattle.pl_hub.specs.Called.{Called, called_by, called_in, lives_of}
 use Rattle.pl_hub.specs.Fronts.{idle}
 use Rattle.pl_hub.specs.Settling.{CanMake, CanSettle, Meets, entry, hub_after, kind_of}
 use Rattle.pl_hub.specs.State.{IsShared}
 use Rattle.pl_hub.specs.Order.{IsInOrder}
+use Rattle.pl_hub.proofs.Calling.{begun_called, called_then, calls_after, calls_kept}
 use Rattle.pl_hub.proofs.Order.{Begins, order_kept, order_then, seen_after}
-use Rattle.pl_hub.proofs.Serving.{IsOfThreads, kind_is, made_beside, made_plain, starts_in}
+use Rattle.pl_hub.proofs.Serving.{IsOfThreads, calls_in, kind_is, made_beside, made_plain, starts_in}
 
 pub after_seen : (e : ℕ) (k : Kind) (row : Row) (f : FrontState) → (hub_after e k row f).seen ≡ seen_after e k row f.seen
 after_seen e k (Reads r) f = refl
@@ -103,7 +105,7 @@ module _ (l : View) (m : Names) (e : ℕ) (request : Request) (r : HeldThreads T
   update_is : changed.update ≡ picked
   update_is = kind_is e goals h request changed.answers.reply changed.update changed.answers.serves
 
-  beside : (length h < 2 ^ 47) × (is_end changed.update ≡ false) × IsElsewhere changed.update × (begun_by changed.update ≡ starts_in request (state_at goals h (length h)))
+  beside : (length h < 2 ^ 47) × (is_end changed.update ≡ false) × IsElsewhere changed.update × (called_by changed.update ≡ calls_in request (state_at goals h (length h)))
   beside = made_beside e goals h request of changed.answers.reply changed.update changed.answers.serves
 
   pub can_make : CanMake picked h
@@ -112,8 +114,11 @@ module _ (l : View) (m : Names) (e : ℕ) (request : Request) (r : HeldThreads T
   pub is_elsewhere : IsElsewhere picked
   is_elsewhere = subst IsElsewhere update_is beside.2
 
+  pub calls_then : called_by picked ≡ calls_in request (state_at goals h (length h))
+  calls_then = subst (λ (k : Kind). called_by k ≡ calls_in request (state_at goals h (length h))) update_is beside.3
+
   pub begins_then : begun_by picked ≡ starts_in request (state_at goals h (length h))
-  begins_then = subst (λ (k : Kind). begun_by k ≡ starts_in request (state_at goals h (length h))) update_is beside.3
+  begins_then = begun_called picked ∙ ap lives_of calls_then
 
   pub stands_then : IsThreads l r d goals (h ++ entry e picked ∷ [])
   stands_then = subst (λ (k : Kind). IsThreads l r d goals (h ++ entry e k ∷ [])) update_is changed.stands
@@ -202,17 +207,29 @@ module _ (l : View) (m : Names) (e : ℕ) (request : Request) (r : HeldThreads T
   order_after (Worn w) says begin was = was
   order_after Memory says begin was = was
 
+  called_next : (row : Row) → ThreadsDecide l m e request r d goals f.seen row
+      → called_in (seen_after e (kind_of e goals f.seen request) row f.seen) ≡ calls_after row (called_in f.seen) (calls_in request (state_at goals f.seen (length f.seen)))
+  called_next (Reads x) says = refl
+  called_next (Makes x) says =
+      called_then e (kind_of e goals f.seen request) f.seen ∙ ap (λ (cs : List Called). called_in f.seen ++ cs) (calls_then l m e request r d goals f.seen of x says)
+  called_next (Waits on) says = refl
+  called_next (NeedsAtoms p) says = refl
+  called_next (Retry c) says = refl
+  called_next (Worn w) says = refl
+  called_next Memory says = refl
+
 -- WHAT IS SHARED after a row of queues and threads
-module _ (atoms : TableId) (size : Size) (table : TableId) (goals : ℕ) (f : FrontState) (keeper new_keeper : Option Keeper) (db : HeldClauses Tree) (q r : HeldThreads Tree) (c d : ℕ)
-    (was : IsShared atoms size table goals f keeper db q c) (at : KeeperAt atoms size new_keeper) where
+module _ (atoms : TableId) (size : Size) (table : TableId) (goals : ℕ) (f : FrontState) (keeper new_keeper : Option Keeper) (db : HeldClauses Tree) (q r : HeldThreads Tree) (c d : ℕ) (b now : List Called)
+    (was : IsShared atoms size table goals f keeper db q c b) (at : KeeperAt atoms size new_keeper) where
   pub threads_shared : (e : ℕ) (m : Names) (request : Request) → IsOfThreads request → (row : Row)
       → Restored (thread_counts q) (thread_counts r) (keeper_view keeper) (keeper_view new_keeper) (length f.seen) (length f.seen + updates_in row)
       → IsBelow d (length f.seen + updates_in row) r
       → ThreadsDecide (keeper_view new_keeper) m e request r d goals f.seen row
       → lives_after row (map idle (goal_numbers q.goals)) (starts_in request (state_at goals f.seen (length f.seen))) ≡ map idle (goal_numbers r.goals)
       → Begins goals f.seen (starts_in request (state_at goals f.seen (length f.seen))) row
-      → IsShared atoms size table goals (hub_after e (kind_of e goals f.seen request) row f) new_keeper db r d
-  threads_shared e m request of row restored below says begins begin =
+      → now ≡ calls_after row b (calls_in request (state_at goals f.seen (length f.seen)))
+      → IsShared atoms size table goals (hub_after e (kind_of e goals f.seen request) row f) new_keeper db r d now
+  threads_shared e m request of row restored below says begins begin noted =
       let k = kind_of e goals f.seen request in
       let old = keeper_view keeper in
       let new = keeper_view new_keeper in
@@ -230,6 +247,11 @@ module _ (atoms : TableId) (size : Size) (table : TableId) (goals : ℕ) (f : Fr
         threads = subst (λ (h : History). IsThreads new r d goals h) (sym (after_seen e k row f)) (threads_then new m e request r d goals f.seen of row says);
         below = subst (λ (n : ℕ). IsBelow d n r) g below;
         order = subst (IsInOrder goals) (sym (after_seen e k row f)) (order_after new m e request r d goals f of row says begin was.order);
+        called =
+            noted
+            ∙ ap (λ (cs : List Called). calls_after row cs (calls_in request (state_at goals f.seen (length f.seen)))) was.called
+            ∙ sym (called_next new m e request r d goals f of row says)
+            ∙ ap called_in (sym (after_seen e k row f));
         waiting =
             lives_then new m e request r d goals f of row says
             ∙ ap (λ (ls : List Life). lives_after row ls (starts_in request (state_at goals f.seen (length f.seen)))) was.waiting
@@ -379,14 +401,14 @@ queues_then k r c goals e h kind sound of (Worn w) was = was
 queues_then k r c goals e h kind sound of Memory was = was
 
 -- WHAT IS SHARED after a row of clauses
-module _ (atoms : TableId) (size : Size) (table : TableId) (goals : ℕ) (f : FrontState) (keeper new_keeper : Option Keeper) (db new_db : HeldClauses Tree) (q : HeldThreads Tree) (c : ℕ)
-    (was : IsShared atoms size table goals f keeper db q c) (sound : IsSound q) (at : KeeperAt atoms size new_keeper) where
+module _ (atoms : TableId) (size : Size) (table : TableId) (goals : ℕ) (f : FrontState) (keeper new_keeper : Option Keeper) (db new_db : HeldClauses Tree) (q : HeldThreads Tree) (c : ℕ) (b : List Called)
+    (was : IsShared atoms size table goals f keeper db q c b) (sound : IsSound q) (at : KeeperAt atoms size new_keeper) where
   pub database_shared : (e : ℕ) (kind : Kind) → IsOfClauses kind → (row : Row)
       → Restored (clause_counts db) (clause_counts new_db) (keeper_view keeper) (keeper_view new_keeper) (length f.seen) (generation_after row (length f.seen))
       → IsUpTo (generation_after row (length f.seen)) new_db
       → new_db.floor ≡ db.floor
       → IsDatabase (keeper_view new_keeper) new_db goals (seen_after e kind row f.seen)
-      → IsShared atoms size table goals (hub_after e kind row f) new_keeper new_db q c
+      → IsShared atoms size table goals (hub_after e kind row f) new_keeper new_db q c b
   database_shared e kind of row restored upto floor after =
       let old = keeper_view keeper in
       let new = keeper_view new_keeper in
@@ -404,6 +426,7 @@ module _ (atoms : TableId) (size : Size) (table : TableId) (goals : ℕ) (f : Fr
         threads = subst (λ (h : History). IsThreads new q c goals h) (sym (after_seen e kind row f)) (queues_then new q c goals e f.seen kind sound of row carried);
         below = let le : length f.seen ≤ length (hub_after e kind row f).seen = omega (arith, more) in later_below c (length f.seen) (length (hub_after e kind row f).seen) q le was.below;
         order = subst (IsInOrder goals) (sym (after_seen e kind row f)) (order_kept goals e kind f.seen (begun_none kind of) was.order row);
+        called = was.called ∙ sym (calls_kept e kind f.seen (begun_none kind of) row) ∙ ap called_in (sym (after_seen e kind row f));
         waiting = lives_left e kind of row f ∙ was.waiting;
       }
     where
@@ -415,7 +438,7 @@ module _ (atoms : TableId) (size : Size) (table : TableId) (goals : ℕ) (f : Fr
       → IsUpTo (generation_after row (length f.seen)) new_db
       → new_db.floor ≡ db.floor
       → DatabaseDecides goals e text request f.seen kind (keeper_view new_keeper) new_db row
-      → IsShared atoms size table goals (hub_after e kind row f) new_keeper new_db q c
+      → IsShared atoms size table goals (hub_after e kind row f) new_keeper new_db q c b
   clauses_shared e text request kind plain of row restored upto floor says =
       database_shared e kind of row restored upto floor (clauses_then goals e text request f.seen kind plain of (keeper_view new_keeper) new_db row says)
 

@@ -3,7 +3,7 @@ use Rattle.std.proofs.Common.{◌≡◌, ℕ, suc, ◌+◌, List, [], ◌∷◌,
 use Rattle.std.specs.Prelude.{IsSome}
 use Rattle.std.specs.List.{All}
 use Rattle.atomic_table.specs.Seated.{TableId}
-use Rattle.pl_term.specs.Tree.{Tree}
+use Rattle.pl_term.specs.Tree.{Chars, Tree}
 use Rattle.pl_model.specs.History.{History, Kind}
 use Rattle.pl_model.specs.Requests.{Request}
 use Rattle.pl_model.specs.SharedState.{state_at}
@@ -14,7 +14,7 @@ use Rattle.atom_words.specs.declared.view.View.{View}
 use Rattle.atom_table.specs.declared.seats.Keeper.{Keeper}
 use Rattle.atom_table.specs.Naming.{names, requests}
 use Rattle.clause_db.specs.Parts.{Held as HeldClauses}
-use Rattle.hub_threads.specs.Goals.{begun_after}
+use Rattle.hub_threads.specs.Goals.{begun_after, called_after}
 use Rattle.hub_threads.specs.Held.{Held as HeldThreads, goal_numbers}
 use Rattle.hub_threads.specs.Weights.{IsBelow, weigh}
 use Rattle.term_store.specs.ArgumentKeys.{clause_key}
@@ -36,19 +36,21 @@ use Rattle.counted_terms.proofs.Sharing.{restored_as, restored_same, restored_wi
 use Rattle.hub_threads.specs.Rows.{Decides as ThreadsDecide, updates_in}
 use Rattle.hub_threads.specs.Threads.{thread_counts}
 use Rattle.hub_database.specs.Database.{clause_counts}
+use Rattle.pl_hub.specs.Called.{Called, lives_of}
 use Rattle.pl_hub.specs.Fronts.{IsOwn, idle, told_of}
 use Rattle.pl_hub.specs.Settling.{CanSettle, Meets, Sees, answer_of, front_after, hub_after, kind_of}
 use Rattle.pl_hub.specs.State.{IsShared}
 use Rattle.pl_hub.specs.Visits.{IsVisit}
 use Rattle.pl_hub.proofs.Answering.{is_visit_of, none_asked}
+use Rattle.pl_hub.proofs.Calling.{calls_after, calls_noted, calls_quiet, calls_read, no_lives}
 use Rattle.pl_hub.proofs.Order.{Begins, quiet_begins, reads_begin}
-use Rattle.pl_hub.proofs.Serving.{IsOfThreads, starts_in}
+use Rattle.pl_hub.proofs.Serving.{IsOfThreads, calls_in, starts_in}
 use Rattle.pl_hub.proofs.States.{lives_after, lives_begun, lives_quiet, threads_can, threads_meet, threads_shared}
 use Rattle.pl_hub.proofs.Visiting.{IsPlainVisit}
 
 -- THE COUNTS that a row is given
-pub thread_counts_of : {atoms : TableId} {size : Size} {table : TableId} {goals : ℕ} {f : FrontState} {keeper : Option Keeper} {db : HeldClauses Tree} {q : HeldThreads Tree} {c : ℕ}
-    → IsShared atoms size table goals f keeper db q c → (n : ℕ) → n ≡ length f.seen → Counts (thread_counts q) (keeper_view keeper) n
+pub thread_counts_of : {atoms : TableId} {size : Size} {table : TableId} {goals : ℕ} {f : FrontState} {keeper : Option Keeper} {db : HeldClauses Tree} {q : HeldThreads Tree} {c : ℕ} {b : List Called}
+    → IsShared atoms size table goals f keeper db q c b → (n : ℕ) → n ≡ length f.seen → Counts (thread_counts q) (keeper_view keeper) n
 thread_counts_of {keeper = keeper} {db = db} {q = q} was n is = record {
   rest = clause_counts db;
   exact = swapped (clause_counts db) (thread_counts q) (keeper_view keeper) was.exact;
@@ -108,54 +110,59 @@ module _ (goals e : ℕ) (j : Kind) (f now : FrontState) (is : f ≡ now) (q : R
       named holds refusals asked)
 
   -- AND WHAT IS SHARED is the state after the history
-  shared_by : {atoms : TableId} {size : Size} {table : TableId} {keeper new_keeper : Option Keeper} {db : HeldClauses Tree} {p : HeldThreads Tree} {c : ℕ}
-      → IsShared atoms size table goals f keeper db p c → KeeperAt atoms size new_keeper → l ≡ keeper_view new_keeper
+  shared_by : {atoms : TableId} {size : Size} {table : TableId} {keeper new_keeper : Option Keeper} {db : HeldClauses Tree} {p : HeldThreads Tree} {c : ℕ} {b : List Called} (b₁ : List Called)
+      → IsShared atoms size table goals f keeper db p c b → KeeperAt atoms size new_keeper → l ≡ keeper_view new_keeper
       → (n : ℕ) → n ≡ length f.seen
       → Restored (thread_counts p) (thread_counts r) (keeper_view keeper) (keeper_view new_keeper) n (n + updates_in row)
       → IsBelow d (n + updates_in row) r
       → lives_after row (map idle (goal_numbers p.goals)) (starts_in q (state_at goals f.seen (length f.seen))) ≡ map idle (goal_numbers r.goals)
       → Begins goals f.seen (starts_in q (state_at goals f.seen (length f.seen))) row
+      → b₁ ≡ calls_after row b (calls_in q (state_at goals f.seen (length f.seen)))
       → (new : FrontState) → new ≡ hub_after e j row f
-      → IsShared atoms size table goals new new_keeper db r d
-  shared_by {atoms} {size} {table} {keeper} {new_keeper} {db} {p} {c} was at same n is_n restored below begins begin new new_is =
-      subst (λ (x : FrontState). IsShared atoms size table goals x new_keeper db r d) (sym new_is)
-      (subst (λ (k : Kind). IsShared atoms size table goals (hub_after e k row f) new_keeper db r d) kind_here
-      (threads_shared atoms size table goals f keeper new_keeper db p r c d was at e (names w) q of row
+      → IsShared atoms size table goals new new_keeper db r d b₁
+  shared_by {atoms} {size} {table} {keeper} {new_keeper} {db} {p} {c} {b} b₁ was at same n is_n restored below begins begin noted new new_is =
+      subst (λ (x : FrontState). IsShared atoms size table goals x new_keeper db r d b₁) (sym new_is)
+      (subst (λ (k : Kind). IsShared atoms size table goals (hub_after e k row f) new_keeper db r d b₁) kind_here
+      (threads_shared atoms size table goals f keeper new_keeper db p r c d b b₁ was at e (names w) q of row
       (subst (λ (x : ℕ). Restored (thread_counts p) (thread_counts r) (keeper_view keeper) (keeper_view new_keeper) x (x + updates_in row)) is_n restored)
       (subst (λ (x : ℕ). IsBelow d (x + updates_in row) r) is_n below)
       (subst (λ (k : View). ThreadsDecide k (names w) e q r d goals f.seen row) same says)
-      begins begin))
+      begins begin noted))
 
   -- of a request that begins no engine
   pub shared_then : starts_in q (state_at goals f.seen (length f.seen)) ≡ []
-      → {atoms : TableId} {size : Size} {table : TableId} {keeper new_keeper : Option Keeper} {db : HeldClauses Tree} {p : HeldThreads Tree} {c : ℕ}
-      → IsShared atoms size table goals f keeper db p c → KeeperAt atoms size new_keeper → l ≡ keeper_view new_keeper
+      → {atoms : TableId} {size : Size} {table : TableId} {keeper new_keeper : Option Keeper} {db : HeldClauses Tree} {p : HeldThreads Tree} {c : ℕ} {b : List Called}
+      → IsShared atoms size table goals f keeper db p c b → KeeperAt atoms size new_keeper → l ≡ keeper_view new_keeper
       → (n : ℕ) → n ≡ length f.seen
       → Restored (thread_counts p) (thread_counts r) (keeper_view keeper) (keeper_view new_keeper) n (n + updates_in row)
       → IsBelow d (n + updates_in row) r
       → r.goals ≡ p.goals
       → (new : FrontState) → new ≡ hub_after e j row f
-      → IsShared atoms size table goals new new_keeper db r d
-  shared_then quiet {p = p} was at same n is_n restored below kept new new_is =
-      shared_by was at same n is_n restored below
+      → IsShared atoms size table goals new new_keeper db r d b
+  shared_then quiet {p = p} {b = b} was at same n is_n restored below kept new new_is =
+      shared_by b was at same n is_n restored below
       (ap (lives_after row (map idle (goal_numbers p.goals))) quiet ∙ lives_quiet row (map idle (goal_numbers p.goals)) ∙ ap (λ (gs : List (ℕ × Tree)). map idle (goal_numbers gs)) (sym kept))
-      (subst (λ (ls : List Life). Begins goals f.seen ls row) (sym quiet) (quiet_begins goals f.seen row)) new new_is
+      (subst (λ (ls : List Life). Begins goals f.seen ls row) (sym quiet) (quiet_begins goals f.seen row))
+      (sym (ap (calls_after row b) (no_lives (calls_in q (state_at goals f.seen (length f.seen))) quiet) ∙ calls_quiet row b)) new new_is
 
-  -- of one that begins an engine with this number
-  pub shared_begun : (b : ℕ) → starts_in q (state_at goals f.seen (length f.seen)) ≡ idle b ∷ []
-      → {atoms : TableId} {size : Size} {table : TableId} {keeper new_keeper : Option Keeper} {db : HeldClauses Tree} {p : HeldThreads Tree} {c : ℕ}
-      → IsShared atoms size table goals f keeper db p c → KeeperAt atoms size new_keeper → l ≡ keeper_view new_keeper
+  -- of one that begins an engine with this number and alias
+  pub shared_begun : (i : ℕ) (a : Option Chars) → calls_in q (state_at goals f.seen (length f.seen)) ≡ (i, a) ∷ []
+      → {atoms : TableId} {size : Size} {table : TableId} {keeper new_keeper : Option Keeper} {db : HeldClauses Tree} {p : HeldThreads Tree} {c : ℕ} {b : List Called} (b₁ : List Called)
+      → IsShared atoms size table goals f keeper db p c b → KeeperAt atoms size new_keeper → l ≡ keeper_view new_keeper
       → (n : ℕ) → n ≡ length f.seen
       → Restored (thread_counts p) (thread_counts r) (keeper_view keeper) (keeper_view new_keeper) n (n + updates_in row)
       → IsBelow d (n + updates_in row) r
-      → goal_numbers r.goals ≡ begun_after row b (goal_numbers p.goals)
-      → Begins goals f.seen (idle b ∷ []) row
+      → goal_numbers r.goals ≡ begun_after row i (goal_numbers p.goals)
+      → b₁ ≡ called_after row i a b
+      → Begins goals f.seen (idle i ∷ []) row
       → (new : FrontState) → new ≡ hub_after e j row f
-      → IsShared atoms size table goals new new_keeper db r d
-  shared_begun b starts {p = p} was at same n is_n restored below kept begin new new_is =
-      shared_by was at same n is_n restored below
-      (ap (lives_after row (map idle (goal_numbers p.goals))) starts ∙ lives_begun row (goal_numbers p.goals) b ∙ ap (map idle) (sym kept))
-      (subst (λ (ls : List Life). Begins goals f.seen ls row) (sym starts) begin) new new_is
+      → IsShared atoms size table goals new new_keeper db r d b₁
+  shared_begun i a calls {p = p} {b = b} b₁ was at same n is_n restored below kept noted begin new new_is =
+      let starts : starts_in q (state_at goals f.seen (length f.seen)) ≡ idle i ∷ [] = ap lives_of calls in
+      shared_by b₁ was at same n is_n restored below
+      (ap (lives_after row (map idle (goal_numbers p.goals))) starts ∙ lives_begun row (goal_numbers p.goals) i ∙ ap (map idle) (sym kept))
+      (subst (λ (ls : List Life). Begins goals f.seen ls row) (sym starts) begin)
+      (noted ∙ calls_noted row i a b ∙ ap (calls_after row b) (sym calls)) new new_is
 
 -- A ROW THAT MAKES NO UPDATE, whatever update was picked
 no_update : (n : ℕ) → suc n ≡ 0 → ⊥
@@ -236,20 +243,21 @@ module _ (goals e : ℕ) (j : Kind) (f now : FrontState) (is : f ≡ now) (q : R
       (reads_meet l (names w) e q r d goals f.seen j row reads says)
       named holds refusals asked)
 
-  pub reads_shared : {atoms : TableId} {size : Size} {table : TableId} {keeper new_keeper : Option Keeper} {db : HeldClauses Tree} {p : HeldThreads Tree} {c : ℕ}
-      → IsShared atoms size table goals f keeper db p c → KeeperAt atoms size new_keeper → l ≡ keeper_view new_keeper
+  pub reads_shared : {atoms : TableId} {size : Size} {table : TableId} {keeper new_keeper : Option Keeper} {db : HeldClauses Tree} {p : HeldThreads Tree} {c : ℕ} {b : List Called}
+      → IsShared atoms size table goals f keeper db p c b → KeeperAt atoms size new_keeper → l ≡ keeper_view new_keeper
       → Restored (thread_counts p) (thread_counts r) (keeper_view keeper) (keeper_view new_keeper) (length f.seen) (length f.seen)
       → IsBelow d (length f.seen) r
       → r.goals ≡ p.goals
       → (new : FrontState) → new ≡ hub_after e j row f
-      → IsShared atoms size table goals new new_keeper db r d
-  reads_shared {atoms} {size} {table} {keeper} {new_keeper} {db} {p} {c} was at same restored below kept new new_is =
+      → IsShared atoms size table goals new new_keeper db r d b
+  reads_shared {atoms} {size} {table} {keeper} {new_keeper} {db} {p} {c} {b} was at same restored below kept new new_is =
       let none_made : length f.seen ≡ length f.seen + updates_in row = omega (arith, reads) in
       let same_hub : hub_after e (kind_of e goals f.seen q) row f ≡ new = reads_after e (kind_of e goals f.seen q) row f reads ∙ sym (reads_after e j row f reads) ∙ sym new_is in
-      subst (λ (x : FrontState). IsShared atoms size table goals x new_keeper db r d) same_hub
-      (threads_shared atoms size table goals f keeper new_keeper db p r c d was at e (names w) q of row
+      subst (λ (x : FrontState). IsShared atoms size table goals x new_keeper db r d b) same_hub
+      (threads_shared atoms size table goals f keeper new_keeper db p r c d b b was at e (names w) q of row
       (subst (λ (x : ℕ). Restored (thread_counts p) (thread_counts r) (keeper_view keeper) (keeper_view new_keeper) (length f.seen) x) none_made restored)
       (subst (λ (x : ℕ). IsBelow d x r) none_made below)
       (subst (λ (k : View). ThreadsDecide k (names w) e q r d goals f.seen row) same says)
       (reads_lives row (map idle (goal_numbers p.goals)) (starts_in q (state_at goals f.seen (length f.seen))) reads ∙ ap (λ (gs : List (ℕ × Tree)). map idle (goal_numbers gs)) (sym kept))
-      (reads_begin goals f.seen (starts_in q (state_at goals f.seen (length f.seen))) row reads))
+      (reads_begin goals f.seen (starts_in q (state_at goals f.seen (length f.seen))) row reads)
+      (sym (calls_read row b (calls_in q (state_at goals f.seen (length f.seen))) reads)))

@@ -1,5 +1,5 @@
 -- An engine that begins in a front of its own.
-use Rattle.std.specs.Prelude.{◌≡◌, ◌∷◌, ℕ, IsSome, Some}
+use Rattle.std.specs.Prelude.{◌≡◌, ◌∷◌, IsSome, Some}
 use Rattle.std.specs.List.{All}
 use Rattle.atomic_table.specs.Seated.{TableId}
 use Rattle.atom_api.specs.Names.{Names}

@@ -1,5 +1,5 @@
 -- The end of an engine.
-use Rattle.std.specs.Prelude.{◌≡◌, ℕ, List, [], ◌∷◌, ◌++◌, true, length}
+use Rattle.std.specs.Prelude.{◌≡◌, ℕ, [], ◌∷◌, ◌++◌, true, length}
 use Rattle.atomic_table.specs.Seated.{TableId}
 use Rattle.pl_model.specs.History.{History, Kind, mine}
 use Rattle.pl_history.specs.Fronts.{FrontState, gains, has_end, own_engine, own_updates}

@@ -1,4 +1,5 @@
 pub mod Fronts
+pub mod Called
 pub mod Settling
 pub mod State
 pub mod Visits

@@ -1,5 +1,5 @@
 -- The step on the history that follows the answer of a part of the shared state.
-use Rattle.std.specs.Prelude.{◌≡◌, ◌<◌, ◌^◌, ℕ, List, Result, Ok, Err, [], ◌∷◌, ◌++◌, true, false, Option, Some, None, length}
+use Rattle.std.specs.Prelude.{◌≡◌, ◌<◌, ◌^◌, ℕ, Result, Ok, Err, [], ◌∷◌, ◌++◌, true, false, Option, Some, None, length}
 use mathlib.Core.List.{IsPrefix}
 use Rattle.pl_term.specs.Tree.{Chars, Tree}
 use Rattle.pl_term.specs.declared.memory.Memory.{Memory as NoMemory}

@@ -5,6 +5,7 @@ ghost use Rattle.atom_words.specs.Seats.{seen};
 ghost use Rattle.atom_table.specs.Naming.{names, requests as asked};
 ghost use Rattle.counted_terms.specs.Keeping.{HoldsOn};
 ghost use Rattle.pl_hub.specs.Beginning.{HasBegun};
+ghost use Rattle.pl_hub.specs.Called.{called_in};
 ghost use Rattle.pl_hub.specs.Order.{IsInOrder};
 ghost use Rattle.pl_hub.specs.Settling.{IsBehind};
 
@@ -12,6 +13,7 @@ use crate::naming::Naming;
 use crate::shared::Shared;
 use atom_table::TableAtoms;
 use pl_history::{Front, History};
+use pl_term::Text;
 use term_store::Stored;
 
 /// An engine that has begun, and the goal that it was started with.
@@ -54,6 +56,21 @@ impl<K: Naming> Shared<K> {
         ensures { IsFalse result ↔ (self.now.lives ≡ []) }
     {
         self.queues.first_goal().is_some()
+    }
+
+    /// All engines that have begun but engine 1, in the order in which they began, each with the alias of its thread, where it
+    /// has one.
+    pub fn begun(&self) -> &[(u64, Option<Text>)]
+        ensures { result.now ≡ called_in self.now.seen }
+    {
+        self.begun.as_slice()
+    }
+
+    /// The same list, when no engine runs any more.
+    pub fn into_begun(self) -> Vec<(u64, Option<Text>)>
+        ensures { result.items ≡ called_in self.seen }
+    {
+        self.begun
     }
 
     /// Engines begin in the order of their numbers, and each number is given once. It does nothing.

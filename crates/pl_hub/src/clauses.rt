@@ -9,7 +9,7 @@ ghost use Rattle.term_store.specs.ArgumentKeys.{key_atoms};
 ghost use Rattle.term_store.specs.NumberedNames.{names_of};
 ghost use Rattle.world_api.specs.Texts.{text_of};
 ghost use Rattle.world_api.specs.Visits.{clause_in, proc_named, visit_names};
-ghost use Rattle.world_api.specs.declared.visit.Visit.TheVariants.{Abolish, AllFlags, AllProcedures, CollectAtoms, CollectClauses, Erase, Look, MakeDynamic, PutFlag, PutOperators, ReadOperators};
+ghost use Rattle.world_api.specs.declared.visit.Visit.TheVariants.{Abolish, AllFlags, AllOperators, AllProcedures, CollectAtoms, CollectClauses, Erase, Look, MakeDynamic, PutFlag, PutOperators, ReadOperators};
 ghost use Rattle.counted_terms.specs.CountedTerms.{said};
 ghost use Rattle.hub_database.specs.Adding.{adding_kind};
 ghost use Rattle.hub_database.specs.Operators.{operators_put};
@@ -386,6 +386,24 @@ impl<K: Naming> Shared<K> {
     {
         let generation = history.tell(&mut self.front, front);
         let row = hub_database::all_procedures(alloc, &self.db, atoms, generation);
+        settle::<Brand>(history, &mut self.front, front, engine, row)
+    }
+
+    /// current_op/3: the operators (ISO 8.14.4). Their names become atoms of the engine.
+    pub fn all_operators(
+        &mut self,
+        alloc: Global,
+        history: &History,
+        atoms: &mut TableAtoms<K>,
+        front: &mut Front,
+        engine: u64,
+    ) -> Answer<Stored>
+        requires history { history.now ≡ K.history }
+        requires front { IsOwn K.history engine front.old }
+        ensures { IsVisit K.history K.goals engine (seen atoms.old.seat) (seen atoms.new.seat) AllOperators result front.old front.new self.old self.new }
+    {
+        history.tell(&mut self.front, front);
+        let row = hub_database::all_operators(alloc, &self.db, atoms);
         settle::<Brand>(history, &mut self.front, front, engine, row)
     }
 }

@@ -59,6 +59,7 @@ pub fn counted(
         }),
         Visit::PutFlag { flag, value } => Ok(Visit::PutFlag { flag, value }),
         Visit::AllFlags => Ok(Visit::AllFlags),
+        Visit::AllOperators => Ok(Visit::AllOperators),
         Visit::OwnName => Ok(Visit::OwnName),
         Visit::CreateThread {
             goal,

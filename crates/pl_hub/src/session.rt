@@ -112,6 +112,7 @@ impl<K: Naming> Shared<K> {
                 alloc, history, atoms, front, engine, flag, value,
             ),
             Visit::AllFlags => self.all_flags(alloc, history, atoms, front, engine),
+            Visit::AllOperators => self.all_operators(alloc, history, atoms, front, engine),
             Visit::OwnName => self.own_name(history, atoms, front, engine),
             Visit::CreateThread {
                 goal,

@@ -1,10 +1,10 @@
 //! The shared state.
-ghost use Rattle.std.specs.Prelude.{◌≡◌, ℕ, IfOk, OnOk};
+ghost use Rattle.std.specs.Prelude.{◌≡◌, ◌∷◌, [], ℕ, IfOk, OnOk};
 ghost use Rattle.pl_model.specs.Threads.{opening_count};
 ghost use Rattle.pl_history.specs.Fronts.{new_front, new_hub};
 ghost use Rattle.atom_words.specs.Seats.{seen};
 ghost use Rattle.counted_terms.specs.Keeping.{KeepsAt, tally};
-ghost use Rattle.pl_hub.specs.Fronts.{IsOwn, is_begun};
+ghost use Rattle.pl_hub.specs.Fronts.{IsOwn, idle, is_begun};
 
 use crate::naming::Naming;
 use atom_table::Keeper;
@@ -13,7 +13,7 @@ use counted_terms::CountedTerm;
 use hub_database::Hints;
 use hub_threads::Queues;
 use pl_history::{Front, History, HubFront};
-use pl_term::Memory;
+use pl_term::{Memory, Text};
 use std::alloc::Global;
 use std::marker::{Model, PhantomData};
 
@@ -30,6 +30,8 @@ pub struct Shared<K: Naming> {
     pub(crate) queues: Queues<CountedTerm>,
     /// The number that the next thread or queue gets.
     pub(crate) count: u64,
+    /// All engines that have begun but engine 1, in the order in which they began, each with the alias of its thread.
+    pub(crate) begun: Vec<(u64, Option<Text>)>,
     /// How many goals the command has.
     pub(crate) goals: u64,
     pub(crate) ghost commanded: { goals ≡ K.goals },
@@ -47,7 +49,7 @@ impl<K: Naming> Model for Shared<K> {
 
     ghost view = { λ s. s.front };
 
-    ghost invariant = { λ s. IsShared K.atoms K.size K.history K.goals s.front s.keeper s.db s.queues s.count };
+    ghost invariant = { λ s. IsShared K.atoms K.size K.history K.goals s.front s.keeper s.db s.queues s.count s.begun.items };
 }
 
 // The number that the first thread or queue gets.
@@ -76,9 +78,11 @@ impl<K: Naming> Shared<K> {
         requires goals { K.goals ≡ goals }
         ensures shared { IfOk result (λ s. s ≡ is_begun K.history) }
         ensures front { OnOk result (IsOwn K.history 1 front.new) }
+        ensures begins { OnOk result (front.new ≡ record { table = K.history; seen = []; lives = idle 1 ∷ [] }) }
     {
         let db = Db::new(alloc)?;
         let queues = Queues::new(alloc)?;
+        let begun = Vec::new(alloc);
         let mut hub = hub;
         history.hand(&mut hub, front, 1);
         Ok(Shared {
@@ -88,6 +92,7 @@ impl<K: Naming> Shared<K> {
             hints: Hints::new(alloc),
             queues,
             count: first_number(goals),
+            begun,
             goals: goals as u64,
             of: PhantomData,
         })

@@ -48,7 +48,7 @@ returns g c =
     changes_visit g.K.Naming.goals c.args.engine g.N.Updates.kind k c.requires.kind refl tt f c.args.self.now c.self.view_is q
     (seen c.abolish_procedure-row.new.atoms.seat) (keeper_view c.abolish_procedure-row.new.keeper) c.abolish_procedure-row.new.db c.abolish_procedure-row.result
     (c.abolish_procedure-row.ensures.says g.K.Naming.goals c.args.engine f.seen (sym c.generation-generation.ensures) c.self.invariant.database)
-    g.K.Naming.history (seen c.args.atoms.now.seat) (Abolish c.args.procedure) (λ r m old before new x. x) refl (λ z e. e)
+    g.K.Naming.history (seen c.args.atoms.now.seat) (Abolish c.args.procedure) (λ r m old before new x. x, λ r. tt) refl (λ z e. e)
     c.args.front.now c.requires.front c.settle.result c.settle.new.front c.settle.new.hub c.settle.ensures.answer c.settle.ensures.front c.settle.ensures.hub
     c.settle.ensures.sees c.abolish_procedure-row.ensures.named c.abolish_procedure-row.ensures.quiet c.abolish_procedure-row.ensures.unrefused
 

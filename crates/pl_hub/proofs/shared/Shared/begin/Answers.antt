@@ -1,6 +1,6 @@
-use Rattle.std.proofs.Common.{◌≡◌, ℕ, List, [], ◌∷◌, ◌++◌, map, length, refl, sym, ap, subst, ◌∙◌}
+use Rattle.std.proofs.Common.{◌≡◌, List, ◌∷◌, ◌++◌, map, length, refl, sym, ap, subst, ◌∙◌}
 use Rattle.pl_model.specs.History.{History}
-use Rattle.pl_history.specs.Fronts.{AllTold, FrontState, Life, picked, without}
+use Rattle.pl_history.specs.Fronts.{AllTold, FrontState, Life, picked}
 use Rattle.atom_words.specs.Seats.{seen}
 use Rattle.atom_table.specs.Naming.{names}
 use Rattle.hub_threads.specs.Held.{goal_numbers}

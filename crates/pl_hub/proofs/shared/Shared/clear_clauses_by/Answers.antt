@@ -60,7 +60,7 @@ returns g c =
     (subst (λ (x : ℕ). generation_after c.clear_clauses-row.result x ≢ x → x < 2 ^ 47) gen c.clear_clauses-row.ensures.early)
     v (seen c.clear_clauses-row.new.atoms.seat) (keeper_view c.clear_clauses-row.new.keeper) c.clear_clauses-row.new.db (Clear c.args.procedure c.args.first) c.args.procedure c.args.first requests.cleared_clauses
     (λ t. c.clear_clauses-row.ensures.says g.K.Naming.goals c.args.engine f.seen t (sym gen) c.self.invariant.database)
-    g.K.Naming.history (λ r n old before new x. x) (λ q asked. asked)
+    g.K.Naming.history (λ r n old before new x. x, λ r. tt) (λ q asked. asked)
     c.args.front.now c.requires.front c.settle.result c.settle.new.front c.settle.new.hub c.settle.ensures.answer c.settle.ensures.front c.settle.ensures.hub
     c.settle.ensures.sees c.clear_clauses-row.ensures.named c.clear_clauses-row.ensures.quiet c.clear_clauses-row.ensures.unrefused
 

@@ -15,6 +15,7 @@ use Rattle.hub_database.specs.Rows.{Tells}
 use Rattle.pl_hub.specs.State.{IsShared}
 use Rattle.pl_hub.proofs.ClauseRows.{told_after, told_visit}
 use Rattle.pl_hub.proofs.States.{told_can}
+use Rattle.pl_hub.proofs.Visiting.{any_reply}
 use Rattle.pl_hub.proofs.shared.Shared.collection.Goals as goal
 
 pub settle-requires-clause-can : goal.settle-requires-clause-can
@@ -24,7 +25,7 @@ settle-requires-clause-can g c =
 
 pub invariant_of-self : goal.invariant_of-self
 invariant_of-self g c =
-    subst (λ (x : FrontState). IsShared g.K.NamesTable.atoms g.K.NamesTable.size g.K.Naming.history g.K.Naming.goals x c.self.inside.keeper c.self.inside.db c.self.inside.queues c.self.inside.count)
+    subst (λ (x : FrontState). IsShared g.K.NamesTable.atoms g.K.NamesTable.size g.K.Naming.history g.K.Naming.goals x c.self.inside.keeper c.self.inside.db c.self.inside.queues c.self.inside.count c.self.inside.begun.items)
     (sym (c.settle.ensures.hub ∙ told_after g.K.Naming.goals c.args.engine (text_of (names (seen c.args.atoms.now.seat))) requests.collect_atoms c.self.inside.front.seen (erase 0) c.collection-row.result c.self.inside.front
     (c.collection-row.ensures.atoms g.K.Naming.goals c.args.engine c.self.inside.front.seen (text_of (names (seen c.args.atoms.now.seat))))))
     c.self.invariant
@@ -35,7 +36,7 @@ returns-clause-atoms g c =
     let f = c.self.inside.front in
     let says = (c.collection-row.ensures.atoms g.K.Naming.goals c.args.engine c.self.inside.front.seen (text_of (names (seen c.args.atoms.now.seat)))) in
     told_visit g.K.Naming.goals c.args.engine (erase 0) f c.args.self.now c.self.view_is v v CollectAtoms c.collection-row.result
-    g.K.Naming.history (λ r n old before new x. x) requests.collect_atoms says (λ q asks. subst (λ (z : Request). Tells g.K.Naming.goals c.args.engine (text_of (names v)) z f.seen c.collection-row.result) (sym asks) says)
+    g.K.Naming.history (λ r n old before new x. x) (any_reply CollectAtoms (λ r. tt) c.collection-row.result) requests.collect_atoms says (λ q asks. subst (λ (z : Request). Tells g.K.Naming.goals c.args.engine (text_of (names v)) z f.seen c.collection-row.result) (sym asks) says)
     c.args.front.now c.requires.front c.settle.result c.settle.new.front c.settle.new.hub c.settle.ensures.answer c.settle.ensures.front c.settle.ensures.hub
     c.settle.ensures.sees (subst (λ (l : List ℕ). All (λ x. IsSome (names v x)) l) (sym c.collection-row.ensures.named) (All-nil (λ x. IsSome (names v x))))
     (λ a t e. e) (sym (append-nil v.refusals) ∙ ap (λ (l : List Refusal). v.refusals ++ l) (sym c.collection-row.ensures.unrefused)) refl
@@ -46,7 +47,7 @@ returns-clause-clauses g c =
     let f = c.self.inside.front in
     let says = (c.collection-row.ensures.clauses g.K.Naming.goals c.args.engine c.self.inside.front.seen (text_of (names (seen c.args.atoms.now.seat)))) in
     told_visit g.K.Naming.goals c.args.engine (erase 0) f c.args.self.now c.self.view_is v v CollectClauses c.collection-row.result
-    g.K.Naming.history (λ r n old before new x. x) requests.collect_clauses says (λ q asks. subst (λ (z : Request). Tells g.K.Naming.goals c.args.engine (text_of (names v)) z f.seen c.collection-row.result) (sym asks) says)
+    g.K.Naming.history (λ r n old before new x. x) (any_reply CollectClauses (λ r. tt) c.collection-row.result) requests.collect_clauses says (λ q asks. subst (λ (z : Request). Tells g.K.Naming.goals c.args.engine (text_of (names v)) z f.seen c.collection-row.result) (sym asks) says)
     c.args.front.now c.requires.front c.settle.result c.settle.new.front c.settle.new.hub c.settle.ensures.answer c.settle.ensures.front c.settle.ensures.hub
     c.settle.ensures.sees (subst (λ (l : List ℕ). All (λ x. IsSome (names v x)) l) (sym c.collection-row.ensures.named) (All-nil (λ x. IsSome (names v x))))
     (λ a t e. e) (sym (append-nil v.refusals) ∙ ap (λ (l : List Refusal). v.refusals ++ l) (sym c.collection-row.ensures.unrefused)) refl

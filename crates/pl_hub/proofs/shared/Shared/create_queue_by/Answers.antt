@@ -41,6 +41,6 @@ returns g c =
     threads_visit g.K.Naming.goals c.args.engine g.N.Updates.kind f c.args.self.now c.self.view_is q tt c.requires.kind
     (seen c.create_queue-row.new.atoms.seat) k c.create_queue-row.new.queues c.create_queue-row.new.count c.create_queue-row.result
     (c.create_queue-row.ensures.says k c.args.engine g.K.Naming.goals f.seen (sym c.generation-generation.ensures) c.self.invariant.threads)
-    g.K.Naming.history (seen c.args.atoms.now.seat) (CreateQueue c.args.alias) (λ r n old before new x. x) refl (λ z e. e)
+    g.K.Naming.history (seen c.args.atoms.now.seat) (CreateQueue c.args.alias) (λ r n old before new x. x, λ r. tt) refl (λ z e. e)
     c.args.front.now c.requires.front c.settle.result c.settle.new.front c.settle.new.hub c.settle.ensures.answer c.settle.ensures.front c.settle.ensures.hub
     c.settle.ensures.sees c.create_queue-row.ensures.named (λ a t e. ap (λ (m : Names). m a) c.create_queue-row.ensures.held ∙ e) c.create_queue-row.ensures.refusals c.create_queue-row.ensures.asked

@@ -40,6 +40,6 @@ returns g c =
     threads_visit g.K.Naming.goals c.args.engine g.N.Updates.kind f c.args.self.now c.self.view_is q tt c.requires.kind
     (seen c.destroy_queue-row.new.atoms.seat) (keeper_view c.destroy_queue-row.new.keeper) c.destroy_queue-row.new.queues c.self.inside.count c.destroy_queue-row.result
     (c.destroy_queue-row.ensures.says c.args.engine c.self.inside.count g.K.Naming.goals f.seen (sym c.generation-generation.ensures) c.self.invariant.threads)
-    g.K.Naming.history (seen c.args.atoms.now.seat) (DestroyQueue c.args.queue.now) (λ r m old before new x. x) refl (λ z e. e)
+    g.K.Naming.history (seen c.args.atoms.now.seat) (DestroyQueue c.args.queue.now) (λ r m old before new x. x, λ r. tt) refl (λ z e. e)
     c.args.front.now c.requires.front c.settle.result c.settle.new.front c.settle.new.hub c.settle.ensures.answer c.settle.ensures.front c.settle.ensures.hub
     c.settle.ensures.sees c.destroy_queue-row.ensures.named c.destroy_queue-row.ensures.holds c.destroy_queue-row.ensures.refusals c.destroy_queue-row.ensures.asked

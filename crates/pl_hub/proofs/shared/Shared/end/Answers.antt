@@ -1,7 +1,6 @@
 use Rattle.std.proofs.Common.{ℕ, refl, sym, subst}
 use Rattle.pl_history.specs.Fronts.{FrontState}
 use Rattle.pl_model.specs.History.{finish}
-use Rattle.counted_terms.specs.Keeping.{keeper_view}
 use Rattle.hub_threads.specs.Weights.{IsBelow}
 use Rattle.pl_hub.specs.Ending.{IsEnded}
 use Rattle.pl_hub.proofs.Ended.{ended, ended_shared, undone_shared}
@@ -13,7 +12,7 @@ end_thread-ended-requires-clause-counts g c = thread_counts_of c.self.invariant 
 
 pub invariant_of-self : goal.invariant_of-self
 invariant_of-self g c =
-    undone_shared g.K.NamesTable.atoms g.K.NamesTable.size g.K.Naming.history g.K.Naming.goals c.self.inside.front c.self.inside.keeper c.end_thread-ended.new.keeper c.self.inside.db c.self.inside.queues c.end_thread-ended.new.queues c.self.inside.count
+    undone_shared g.K.NamesTable.atoms g.K.NamesTable.size g.K.Naming.history g.K.Naming.goals c.self.inside.front c.self.inside.keeper c.end_thread-ended.new.keeper c.self.inside.db c.self.inside.queues c.end_thread-ended.new.queues c.self.inside.count c.self.inside.begun.items
     c.self.invariant c.in-Err.ensures.keeper c.generation-generation.result c.generation-generation.ensures c.in-Err.ensures.unchanged c.in-Err.ensures.undone
     (c.in-Err.ensures.failed c.self.inside.count g.K.Naming.goals c.self.inside.front.seen c.self.invariant.threads)
 
@@ -21,7 +20,7 @@ pub invariant_of-self-in-Ok : goal.invariant_of-self-in-Ok
 invariant_of-self-in-Ok g c =
     let how = g.W.ShowsHow.how c.args.how.now in
     let steps = g.S.ShowsSteps.steps c.args.run.now in
-    ended_shared g.K.NamesTable.atoms g.K.NamesTable.size g.K.Naming.history g.K.Naming.goals c.self.inside.front c.self.inside.keeper c.end_thread-ended.new.keeper c.self.inside.db c.self.inside.queues c.end_thread-ended.new.queues c.self.inside.count
+    ended_shared g.K.NamesTable.atoms g.K.NamesTable.size g.K.Naming.history g.K.Naming.goals c.self.inside.front c.self.inside.keeper c.end_thread-ended.new.keeper c.self.inside.db c.self.inside.queues c.end_thread-ended.new.queues c.self.inside.count c.self.inside.begun.items
     c.self.invariant c.in-Ok.ensures.keeper c.args.engine (finish how steps) tt c.generation-generation.result c.generation-generation.ensures c.in-Ok.ensures.restored
     (c.in-Ok.ensures.below c.self.inside.count (subst (λ (x : ℕ). IsBelow c.self.inside.count x c.self.inside.queues) (sym c.generation-generation.ensures) c.self.invariant.below))
     (c.in-Ok.ensures.ended how steps c.self.inside.count g.K.Naming.goals c.self.inside.front.seen (sym c.generation-generation.ensures) c.self.invariant.threads c.requires.status)

@@ -46,6 +46,6 @@ returns g c =
     changes_visit g.K.Naming.goals c.args.engine g.N.Updates.kind k c.requires.kind refl tt f c.args.self.now c.self.view_is q
     (seen c.erase_clause-row.new.atoms.seat) (keeper_view c.erase_clause-row.new.keeper) c.erase_clause-row.new.db c.erase_clause-row.result
     (c.erase_clause-row.ensures.says g.K.Naming.goals c.args.engine f.seen (sym c.generation-generation.ensures) c.self.invariant.database)
-    g.K.Naming.history (seen c.args.atoms.now.seat) (Erase c.args.place) (λ r m old before new x. x) refl (λ z e. e)
+    g.K.Naming.history (seen c.args.atoms.now.seat) (Erase c.args.place) (λ r m old before new x. x, λ r. tt) refl (λ z e. e)
     c.args.front.now c.requires.front c.settle.result c.settle.new.front c.settle.new.hub c.settle.ensures.answer c.settle.ensures.front c.settle.ensures.hub
     c.settle.ensures.sees c.erase_clause-row.ensures.named c.erase_clause-row.ensures.quiet c.erase_clause-row.ensures.unrefused

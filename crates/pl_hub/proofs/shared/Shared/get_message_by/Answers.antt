@@ -49,6 +49,6 @@ returns g c =
     threads_visit g.K.Naming.goals c.args.engine g.N.Updates.kind f c.args.self.now c.self.view_is q tt c.requires.kind
     (seen c.get_message-row.new.atoms.seat) (keeper_view c.get_message-row.new.keeper) c.get_message-row.new.queues c.self.inside.count c.get_message-row.result
     (c.get_message-row.ensures.says c.args.engine c.self.inside.count g.K.Naming.goals f.seen (sym c.generation-generation.ensures) c.self.invariant.threads)
-    g.K.Naming.history (seen c.args.atoms.now.seat) (GetMessage (Some c.args.queue.now) c.args.pattern.now) (λ r n old before new x. x) refl (λ z e. e)
+    g.K.Naming.history (seen c.args.atoms.now.seat) (GetMessage (Some c.args.queue.now) c.args.pattern.now) (λ r n old before new x. x, λ r. tt) refl (λ z e. e)
     c.args.front.now c.requires.front c.settle.result c.settle.new.front c.settle.new.hub c.settle.ensures.answer c.settle.ensures.front c.settle.ensures.hub
     c.settle.ensures.sees c.get_message-row.ensures.named c.get_message-row.ensures.holds c.get_message-row.ensures.refusals c.get_message-row.ensures.asked

@@ -26,9 +26,9 @@ settle-requires-clause-can g c = reply_can (erase 0) c.self.inside.front.seen c.
 
 pub invariant_of-self : goal.invariant_of-self
 invariant_of-self g c =
-    subst (λ (x : FrontState). IsShared g.K.NamesTable.atoms g.K.NamesTable.size g.K.Naming.history g.K.Naming.goals x c.inspect_clauses-row.new.keeper c.self.inside.db c.self.inside.queues c.self.inside.count)
+    subst (λ (x : FrontState). IsShared g.K.NamesTable.atoms g.K.NamesTable.size g.K.Naming.history g.K.Naming.goals x c.inspect_clauses-row.new.keeper c.self.inside.db c.self.inside.queues c.self.inside.count c.self.inside.begun.items)
     (sym (c.settle.ensures.hub ∙ reply_after c.args.engine (erase 0) c.inspect_clauses-row.result c.self.inside.front c.inspect_clauses-row.ensures.replies))
-    (shared_steady g.K.NamesTable.atoms g.K.NamesTable.size g.K.Naming.history g.K.Naming.goals c.self.inside.front c.self.inside.keeper c.inspect_clauses-row.new.keeper c.self.inside.db c.self.inside.queues c.self.inside.count
+    (shared_steady g.K.NamesTable.atoms g.K.NamesTable.size g.K.Naming.history g.K.Naming.goals c.self.inside.front c.self.inside.keeper c.inspect_clauses-row.new.keeper c.self.inside.db c.self.inside.queues c.self.inside.count c.self.inside.begun.items
     c.self.invariant c.is_sound.ensures c.inspect_clauses-row.ensures.keeper c.inspect_clauses-row.ensures.steady)
 
 pub returns : goal.returns
@@ -38,6 +38,6 @@ returns g c =
     let w = seen c.inspect_clauses-row.new.atoms.seat in
     goal_visit g.K.Naming.goals c.args.engine (erase 0) f c.args.self.now c.self.view_is v w (Inspect c.args.procedure c.args.first) c.args.procedure c.args.first requests.inspected_clauses c.inspect_clauses-row.result c.inspect_clauses-row.ensures.replies
     (λ t. c.inspect_clauses-row.ensures.says g.K.Naming.goals c.args.engine f.seen t (sym c.generation-generation.ensures) c.self.invariant.database)
-    g.K.Naming.history (λ r n old before new x. x) (λ q asked. asked)
+    g.K.Naming.history (λ r n old before new x. x, λ r. tt) (λ q asked. asked)
     c.args.front.now c.requires.front c.settle.result c.settle.new.front c.settle.new.hub c.settle.ensures.answer c.settle.ensures.front c.settle.ensures.hub
     c.settle.ensures.sees c.inspect_clauses-row.ensures.named c.inspect_clauses-row.ensures.quiet c.inspect_clauses-row.ensures.unrefused

@@ -40,6 +40,6 @@ returns g c =
     threads_visit g.K.Naming.goals c.args.engine g.N.Updates.kind f c.args.self.now c.self.view_is q tt c.requires.kind
     (seen c.join_thread-row.new.atoms.seat) (keeper_view c.join_thread-row.new.keeper) c.join_thread-row.new.queues c.self.inside.count c.join_thread-row.result
     (c.join_thread-row.ensures.says c.self.inside.count g.K.Naming.goals f.seen (sym c.generation-generation.ensures) c.self.invariant.threads)
-    g.K.Naming.history (seen c.args.atoms.now.seat) (JoinThread c.args.thread.now) (λ r m old before new x. x) refl (λ z e. e)
+    g.K.Naming.history (seen c.args.atoms.now.seat) (JoinThread c.args.thread.now) (λ r m old before new x. x, λ r. tt) refl (λ z e. e)
     c.args.front.now c.requires.front c.settle.result c.settle.new.front c.settle.new.hub c.settle.ensures.answer c.settle.ensures.front c.settle.ensures.hub
     c.settle.ensures.sees c.join_thread-row.ensures.named c.join_thread-row.ensures.holds c.join_thread-row.ensures.refusals c.join_thread-row.ensures.asked

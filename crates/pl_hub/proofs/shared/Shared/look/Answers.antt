@@ -25,7 +25,7 @@ settle-requires-clause-can g c =
 
 pub invariant_of-self : goal.invariant_of-self
 invariant_of-self g c =
-    subst (λ (x : FrontState). IsShared g.K.NamesTable.atoms g.K.NamesTable.size g.K.Naming.history g.K.Naming.goals x c.self.inside.keeper c.self.inside.db c.self.inside.queues c.self.inside.count)
+    subst (λ (x : FrontState). IsShared g.K.NamesTable.atoms g.K.NamesTable.size g.K.Naming.history g.K.Naming.goals x c.self.inside.keeper c.self.inside.db c.self.inside.queues c.self.inside.count c.self.inside.begun.items)
     (sym (c.settle.ensures.hub ∙ told_after g.K.Naming.goals c.args.engine (text_of (names (seen c.args.atoms.now.seat))) requests.look c.self.inside.front.seen (erase 0) c.look-row.result c.self.inside.front
     (c.look-row.ensures.look g.K.Naming.goals c.args.engine c.self.inside.front.seen (keeper_view c.self.inside.keeper) (text_of (names (seen c.args.atoms.now.seat))) c.self.invariant.database)))
     c.self.invariant
@@ -36,7 +36,7 @@ returns-clause-look g c =
     let f = c.self.inside.front in
     let says = (c.look-row.ensures.look g.K.Naming.goals c.args.engine c.self.inside.front.seen (keeper_view c.self.inside.keeper) (text_of (names (seen c.args.atoms.now.seat))) c.self.invariant.database) in
     told_visit g.K.Naming.goals c.args.engine (erase 0) f c.args.self.now c.self.view_is v v Look c.look-row.result
-    g.K.Naming.history (λ r n old before new x. x) requests.look says (λ q asks. subst (λ (z : Request). Tells g.K.Naming.goals c.args.engine (text_of (names v)) z f.seen c.look-row.result) (sym asks) says)
+    g.K.Naming.history (λ r n old before new x. x) c.look-row.ensures.table requests.look says (λ q asks. subst (λ (z : Request). Tells g.K.Naming.goals c.args.engine (text_of (names v)) z f.seen c.look-row.result) (sym asks) says)
     c.args.front.now c.requires.front c.settle.result c.settle.new.front c.settle.new.hub c.settle.ensures.answer c.settle.ensures.front c.settle.ensures.hub
     c.settle.ensures.sees (subst (λ (l : List ℕ). All (λ x. IsSome (names v x)) l) (sym c.look-row.ensures.named) (All-nil (λ x. IsSome (names v x))))
     (λ a t e. e) (sym (append-nil v.refusals) ∙ ap (λ (l : List Refusal). v.refusals ++ l) (sym c.look-row.ensures.unrefused)) refl
@@ -47,7 +47,7 @@ returns-clause-operators g c =
     let f = c.self.inside.front in
     let says = (c.look-row.ensures.operators g.K.Naming.goals c.args.engine c.self.inside.front.seen (keeper_view c.self.inside.keeper) (text_of (names (seen c.args.atoms.now.seat))) c.self.invariant.database) in
     told_visit g.K.Naming.goals c.args.engine (erase 0) f c.args.self.now c.self.view_is v v ReadOperators c.look-row.result
-    g.K.Naming.history (λ r n old before new x. x) requests.read_operators says (λ q asks. subst (λ (z : Request). Tells g.K.Naming.goals c.args.engine (text_of (names v)) z f.seen c.look-row.result) (sym asks) says)
+    g.K.Naming.history (λ r n old before new x. x) c.look-row.ensures.table requests.read_operators says (λ q asks. subst (λ (z : Request). Tells g.K.Naming.goals c.args.engine (text_of (names v)) z f.seen c.look-row.result) (sym asks) says)
     c.args.front.now c.requires.front c.settle.result c.settle.new.front c.settle.new.hub c.settle.ensures.answer c.settle.ensures.front c.settle.ensures.hub
     c.settle.ensures.sees (subst (λ (l : List ℕ). All (λ x. IsSome (names v x)) l) (sym c.look-row.ensures.named) (All-nil (λ x. IsSome (names v x))))
     (λ a t e. e) (sym (append-nil v.refusals) ∙ ap (λ (l : List Refusal). v.refusals ++ l) (sym c.look-row.ensures.unrefused)) refl

@@ -61,7 +61,7 @@ returns g c =
     changes_visit g.K.Naming.goals c.args.engine g.N.Updates.kind k (c.requires.kind ∙ ap (λ (l : List Procedure). entries.set_dynamic (map (proc_named (text_of n)) l)) (sym c.as_slice.ensures.value)) refl tt f c.args.self.now c.self.view_is q
     (seen c.make_dynamic-row.new.atoms.seat) l c.make_dynamic-row.new.db c.make_dynamic-row.result
     (c.make_dynamic-row.ensures.says l g.K.Naming.goals c.args.engine f.seen (sym c.generation-generation.ensures) c.self.invariant.database)
-    g.K.Naming.history (seen c.args.atoms.now.seat) (MakeDynamic c.args.procedures) (λ r m old before new x. x)
+    g.K.Naming.history (seen c.args.atoms.now.seat) (MakeDynamic c.args.procedures) (λ r m old before new x. x, λ r. tt)
     (ap (λ (l : List Procedure). requests.make_dynamic (map (proc_named (text_of n)) l)) c.as_slice.ensures.value) (λ z e. e ∙ ap (λ (l : List Procedure). requests.make_dynamic (map (proc_named (text_of n)) l)) (sym c.as_slice.ensures.value))
     c.args.front.now c.requires.front c.settle.result c.settle.new.front c.settle.new.hub c.settle.ensures.answer c.settle.ensures.front c.settle.ensures.hub
     c.settle.ensures.sees c.make_dynamic-row.ensures.named c.make_dynamic-row.ensures.quiet c.make_dynamic-row.ensures.unrefused

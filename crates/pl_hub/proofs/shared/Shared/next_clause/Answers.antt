@@ -19,9 +19,9 @@ next_clause-found-requires-clause-counted g c =
 
 pub invariant_of-self : goal.invariant_of-self
 invariant_of-self g c =
-    subst (λ (x : FrontState). IsShared g.K.NamesTable.atoms g.K.NamesTable.size g.K.Naming.history g.K.Naming.goals x c.next_clause-found.new.keeper c.self.inside.db c.self.inside.queues c.self.inside.count)
+    subst (λ (x : FrontState). IsShared g.K.NamesTable.atoms g.K.NamesTable.size g.K.Naming.history g.K.Naming.goals x c.next_clause-found.new.keeper c.self.inside.db c.self.inside.queues c.self.inside.count c.self.inside.begun.items)
     (sym c.settle_next.ensures.hub)
-    (shared_steady g.K.NamesTable.atoms g.K.NamesTable.size g.K.Naming.history g.K.Naming.goals c.self.inside.front c.self.inside.keeper c.next_clause-found.new.keeper c.self.inside.db c.self.inside.queues c.self.inside.count
+    (shared_steady g.K.NamesTable.atoms g.K.NamesTable.size g.K.Naming.history g.K.Naming.goals c.self.inside.front c.self.inside.keeper c.next_clause-found.new.keeper c.self.inside.db c.self.inside.queues c.self.inside.count c.self.inside.begun.items
     c.self.invariant c.is_sound.ensures c.next_clause-found.ensures.keeper (record { keeps = c.next_clause-found.ensures.keeps; counts = c.next_clause-found.ensures.counts }))
 
 pub returns : goal.returns

@@ -22,7 +22,7 @@ settle-requires-clause-can g c = reads_can (erase 0) c.tell.new.hub.seen c.own_n
 
 pub invariant_of-self : goal.invariant_of-self
 invariant_of-self g c =
-    subst (λ (x : FrontState). IsShared g.K.NamesTable.atoms g.K.NamesTable.size g.K.Naming.history g.K.Naming.goals x c.self.inside.keeper c.self.inside.db c.self.inside.queues c.self.inside.count)
+    subst (λ (x : FrontState). IsShared g.K.NamesTable.atoms g.K.NamesTable.size g.K.Naming.history g.K.Naming.goals x c.self.inside.keeper c.self.inside.db c.self.inside.queues c.self.inside.count c.self.inside.begun.items)
     (sym (c.settle.ensures.hub ∙ reads_after c.args.engine (erase 0) c.own_name-row.result c.tell.new.hub c.own_name-row.ensures.reads ∙ c.tell.ensures.hub))
     c.self.invariant
 
@@ -41,6 +41,6 @@ returns g c =
     subst (λ (x : FrontState). IsVisit g.K.Naming.history g.K.Naming.goals c.args.engine v w OwnName c.settle.result x c.settle.new.front c.args.self.now c.settle.new.hub) c.tell.ensures.front
     (reads_visit_asking g.K.Naming.goals c.args.engine (erase 0) f c.args.self.now (c.tell.ensures.hub ∙ c.self.view_is) requests.own_name tt w k c.self.inside.queues c.self.inside.count c.own_name-row.result c.own_name-row.ensures.reads
     (c.own_name-row.ensures.says k g.K.Naming.goals f.seen c.self.inside.count is_threads)
-    g.K.Naming.history v OwnName (λ r n old before new x. x) refl (λ z e. e) m own c.settle.result c.settle.new.front c.settle.new.hub c.settle.ensures.answer c.settle.ensures.front c.settle.ensures.hub
+    g.K.Naming.history v OwnName (λ r n old before new x. x, λ r. tt) refl (λ z e. e) m own c.settle.result c.settle.new.front c.settle.new.hub c.settle.ensures.answer c.settle.ensures.front c.settle.ensures.hub
     c.settle.ensures.sees c.own_name-row.ensures.named c.own_name-row.ensures.holds c.own_name-row.ensures.refusals
     (own_asked g.K.Naming.history g.K.Naming.goals c.args.engine m own f.seen behind (text_of (names v)) k c.self.inside.queues c.self.inside.count is_threads (texts v) (texts w) c.own_name-row.ensures.asked))

@@ -42,6 +42,6 @@ returns g c =
     reads_visit g.K.Naming.goals c.args.engine (erase 0) f c.args.self.now c.self.view_is q tt
     (seen c.peek_message-row.new.atoms.seat) (keeper_view c.peek_message-row.new.keeper) c.self.inside.queues c.self.inside.count c.peek_message-row.result c.peek_message-row.ensures.reads
     (c.peek_message-row.ensures.says c.args.engine c.self.inside.count g.K.Naming.goals f.seen c.self.invariant.threads)
-    g.K.Naming.history (seen c.args.atoms.now.seat) (PeekMessage (Some c.args.queue.now) c.args.pattern.now) (λ r n old before new x. x) refl (λ z e. e)
+    g.K.Naming.history (seen c.args.atoms.now.seat) (PeekMessage (Some c.args.queue.now) c.args.pattern.now) (λ r n old before new x. x, λ r. tt) refl (λ z e. e)
     c.args.front.now c.requires.front c.settle.result c.settle.new.front c.settle.new.hub c.settle.ensures.answer c.settle.ensures.front c.settle.ensures.hub
     c.settle.ensures.sees c.peek_message-row.ensures.named c.peek_message-row.ensures.holds c.peek_message-row.ensures.refusals c.peek_message-row.ensures.asked

@@ -51,6 +51,6 @@ returns g c =
     changes_visit g.K.Naming.goals c.args.engine g.N.Updates.kind k c.requires.kind refl tt f c.args.self.now c.self.view_is q
     (seen c.args.atoms.now.seat) l c.put_flag-row.new.db c.put_flag-row.result
     (c.put_flag-row.ensures.says l g.K.Naming.goals c.args.engine f.seen (sym c.generation-generation.ensures) c.self.invariant.database)
-    g.K.Naming.history (seen c.args.atoms.now.seat) (PutFlag c.args.flag c.args.value) (λ r m old before new x. x) refl (λ z e. e)
+    g.K.Naming.history (seen c.args.atoms.now.seat) (PutFlag c.args.flag c.args.value) (λ r m old before new x. x, λ r. tt) refl (λ z e. e)
     c.args.front.now c.requires.front c.settle.result c.settle.new.front c.settle.new.hub c.settle.ensures.answer c.settle.ensures.front c.settle.ensures.hub
     c.settle.ensures.sees c.put_flag-row.ensures.named (quiet_same (seen c.args.atoms.now.seat)) c.put_flag-row.ensures.unrefused

@@ -57,7 +57,7 @@ returns g c =
     changes_visit g.K.Naming.goals c.args.engine g.N.Updates.kind k (c.requires.kind ∙ ap (λ (l : List ℕ). operators_put c.args.priority c.args.kind (map (text_of n) l)) (sym c.as_slice.ensures.value)) refl tt f c.args.self.now c.self.view_is q
     (seen c.put_operators-row.new.atoms.seat) l c.put_operators-row.new.db c.put_operators-row.result
     (c.put_operators-row.ensures.says l g.K.Naming.goals c.args.engine f.seen (sym c.generation-generation.ensures) c.self.invariant.database)
-    g.K.Naming.history (seen c.args.atoms.now.seat) (PutOperators c.args.priority c.args.kind c.args.operators) (λ r m old before new x. x)
+    g.K.Naming.history (seen c.args.atoms.now.seat) (PutOperators c.args.priority c.args.kind c.args.operators) (λ r m old before new x. x, λ r. tt)
     (ap (λ (l : List ℕ). requests.put_operators c.args.priority c.args.kind (map (text_of n) l)) c.as_slice.ensures.value) (λ z e. e ∙ ap (λ (l : List ℕ). requests.put_operators c.args.priority c.args.kind (map (text_of n) l)) (sym c.as_slice.ensures.value))
     c.args.front.now c.requires.front c.settle.result c.settle.new.front c.settle.new.hub c.settle.ensures.answer c.settle.ensures.front c.settle.ensures.hub
     c.settle.ensures.sees c.put_operators-row.ensures.named c.put_operators-row.ensures.quiet c.put_operators-row.ensures.unrefused

@@ -49,6 +49,6 @@ returns g c =
     threads_visit g.K.Naming.goals c.args.engine g.N.Updates.kind f c.args.self.now c.self.view_is q tt c.requires.kind
     (seen c.send_message-row.new.atoms.seat) (keeper_view c.send_message-row.new.keeper) c.send_message-row.new.queues c.self.inside.count c.send_message-row.result
     (c.send_message-row.ensures.says c.args.engine c.self.inside.count g.K.Naming.goals f.seen (sym c.generation-generation.ensures) c.self.invariant.threads)
-    g.K.Naming.history (seen c.args.atoms.now.seat) (SendMessage c.args.queue.now c.args.message) (λ r n old before new x. x) refl (λ z e. e)
+    g.K.Naming.history (seen c.args.atoms.now.seat) (SendMessage c.args.queue.now c.args.message) (λ r n old before new x. x, λ r. tt) refl (λ z e. e)
     c.args.front.now c.requires.front c.settle.result c.settle.new.front c.settle.new.hub c.settle.ensures.answer c.settle.ensures.front c.settle.ensures.hub
     c.settle.ensures.sees c.send_message-row.ensures.named c.send_message-row.ensures.holds c.send_message-row.ensures.refusals c.send_message-row.ensures.asked

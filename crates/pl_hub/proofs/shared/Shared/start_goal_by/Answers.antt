@@ -1,6 +1,7 @@
-use Rattle.std.proofs.Common.{◌≡◌, ℕ, List, length, refl, sym, ap, subst, ◌∙◌}
+use Rattle.std.proofs.Common.{◌≡◌, ℕ, Some, length, refl, sym, ap, subst, ◌∙◌}
 use Rattle.pl_history.specs.Fronts.{FrontState}
 use Rattle.pl_model.specs.Requests as requests
+use Rattle.pl_model.specs.Threads.{goal_alias}
 use Rattle.atom_words.specs.Seats.{seen}
 use Rattle.atom_table.specs.Naming.{names, requests as texts}
 use Rattle.world_api.specs.Texts.{text_of}
@@ -44,10 +45,10 @@ invariant_of-self g c =
     shared_begun g.K.Naming.goals c.args.engine g.N.Updates.kind f c.args.self.now (c.tell-generation.ensures.hub ∙ c.self.view_is) q tt c.requires.kind
     (seen c.start_goal-row.new.atoms.seat) (keeper_view c.start_goal-row.new.keeper) c.start_goal-row.new.queues c.start_goal-row.new.count c.start_goal-row.result
     (c.start_goal-row.ensures.says c.args.engine g.K.Naming.goals f.seen long is_threads)
-    c.args.number refl
-    (subst (λ (x : FrontState). IsShared g.K.NamesTable.atoms g.K.NamesTable.size g.K.Naming.history g.K.Naming.goals x c.self.inside.keeper c.self.inside.db c.self.inside.queues c.self.inside.count) (sym c.tell-generation.ensures.hub) c.self.invariant)
+    c.args.number (Some (goal_alias c.args.number)) refl c.start_goal-row.new.begun.items
+    (subst (λ (x : FrontState). IsShared g.K.NamesTable.atoms g.K.NamesTable.size g.K.Naming.history g.K.Naming.goals x c.self.inside.keeper c.self.inside.db c.self.inside.queues c.self.inside.count c.self.inside.begun.items) (sym c.tell-generation.ensures.hub) c.self.invariant)
     c.start_goal-row.ensures.keeper refl c.tell-generation.result (sym long)
-    c.start_goal-row.ensures.restored c.start_goal-row.ensures.below c.start_goal-row.ensures.goals
+    c.start_goal-row.ensures.restored c.start_goal-row.ensures.below c.start_goal-row.ensures.goals c.start_goal-row.ensures.begun
     (goal_begins g.K.Naming.goals f.seen c.args.number c.start_goal-row.result
     (λ made. later_goal (keeper_view c.self.inside.keeper) c.self.inside.queues c.self.inside.count g.K.Naming.goals c.args.number f.seen is_threads
     (subst (λ (i : ℕ). IsNextGoal i c.args.number c.self.inside.queues) c.self.inside.commanded (c.start_goal-row.ensures.next made)))) c.settle.new.hub c.settle.ensures.hub
@@ -70,7 +71,7 @@ returns g c =
     (threads_visit_asking g.K.Naming.goals c.args.engine g.N.Updates.kind f c.args.self.now (c.tell-generation.ensures.hub ∙ c.self.view_is) q tt c.requires.kind
     (seen c.start_goal-row.new.atoms.seat) (keeper_view c.start_goal-row.new.keeper) c.start_goal-row.new.queues c.start_goal-row.new.count c.start_goal-row.result
     (c.start_goal-row.ensures.says c.args.engine g.K.Naming.goals f.seen long is_threads)
-    g.K.Naming.history v (StartGoal c.args.number c.args.goal) (λ r o old before new x. x) refl (λ z e. e)
+    g.K.Naming.history v (StartGoal c.args.number c.args.goal) (λ r o old before new x. x, λ r. tt) refl (λ z e. e)
     m own c.settle.result c.settle.new.front c.settle.new.hub c.settle.ensures.answer c.settle.ensures.front c.settle.ensures.hub
     c.settle.ensures.sees c.start_goal-row.ensures.named c.start_goal-row.ensures.holds c.start_goal-row.ensures.refusals
     (start_asked g.K.Naming.history g.K.Naming.goals c.args.engine m own f.seen behind (text_of n) (keeper_view c.self.inside.keeper) c.self.inside.queues c.self.inside.count is_threads c.args.number c.args.goal (texts v) (texts w) c.start_goal-row.ensures.asked))
