@@ -1,4 +1,4 @@
--- What a visit says of a call.
+-- What a visit says of a call, or of a look at clauses.
 use Rattle.std.proofs.Common.{◌≡◌, ◌⊎◌, inl, inr, ℕ, suc, List, [], ◌∷◌, ◌++◌, length, Option, None, IsSome, codes, refl, sym, ap, ap₂, subst, ◌∙◌}
 use Rattle.std.specs.List.{All, Contains}
 use Rattle.std.proofs.lemmas.List.Elements.{All-cons, All-head, All-weaker, All-contains, All-contains_itself}
@@ -6,7 +6,7 @@ use Rattle.pl_term.specs.Tree.{Chars, Tree, var, int, atom, comp}
 use Rattle.pl_model.specs.History.{Clause, History, Kind}
 use Rattle.pl_model.specs.Database.{Stored}
 use Rattle.pl_model.specs.Predicates.{proc_of}
-use Rattle.pl_model.specs.Requests.{call_clauses, listed, refused}
+use Rattle.pl_model.specs.Requests.{listed, refused}
 use Rattle.pl_model.specs.Requests as requests
 use Rattle.pl_model.specs.Service.{answers, entry_by, served_now}
 use Rattle.atom_api.specs.Names.{Names, FixedStand}
@@ -24,20 +24,23 @@ use Rattle.world_api.specs.declared.reply.Found.{Found}
 use Rattle.world_api.specs.declared.reply.Reply.{Reply}
 use Rattle.world_api.specs.declared.reply.Reply.TheVariants as replies
 use Rattle.world_api.specs.declared.visit.Procedure.{Procedure}
-use Rattle.world_api.specs.declared.visit.Visit.TheVariants.{Call}
+use Rattle.world_api.specs.declared.visit.Visit.{Visit}
 use Rattle.world_api.specs.Texts as worlds
 use Rattle.world_api.specs.Told.{Told, Follows, clause_list}
 use Rattle.world_api.specs.declared.answer.On.{On}
-use Rattle.world_api.specs.Answers.{IsServed, IsWaiting, seen_as}
+use Rattle.world_api.specs.Answers.{CanVisit, IsServed, IsWaiting, seen_as, Serves}
 use Rattle.world_api.specs.Replies.{IsFront, Says}
-use Rattle.world_api.specs.Visits.{Asks, IsGoal, proc_named}
+use Rattle.world_api.specs.Visits.{Asks, IsGoal, proc_named, visit_names}
+use Rattle.iso_search.specs.declared.choices.Purpose.{Purpose}
+use Rattle.iso_search.specs.declared.choices.Purpose.TheVariants.{Resolving, Inspecting, Retracting}
 use Rattle.iso_engine.specs.Called.{IsAsked}
 use Rattle.iso_engine.specs.CalledGoals.{HasPredicate}
+use Rattle.iso_engine.specs.ClausesAsked.{listing, visit_of}
 use Rattle.iso_engine.specs.Parts.{IsOverAtoms}
 use Rattle.iso_engine.specs.Replies.{IsListOrError}
 use Rattle.iso_engine.proofs.OverAtoms.{place_over}
 use Rattle.iso_engine.proofs.Readings.{call_is, fixed_text, neck_is, necked}
-use Rattle.iso_engine.proofs.Serving.{IsAnswer, call_answered, call_never_waits, says_list, says_error}
+use Rattle.iso_engine.proofs.Serving.{IsAnswer, list_answered, list_never_waits, says_list, says_error}
 
 -- A mark of the whole store shows that the heap is a fit one.
 pub goal_over : (s : Contents) (k : StoreMark) (p : Place) → IsMark k s → back_to k s ≡ s → Holds s p → IsOverAtoms (term_at s p)
@@ -87,37 +90,61 @@ pub goal_asked : (m : Names) (t : Tree) (p : Procedure) (k : ArgumentKey) → Fi
     → IsGoal term_by clause_key (worlds.text_of m) p k (term_by (worlds.text_of m) t)
 goal_asked m t p k stand is key = record { predicate = predicate_is m t p stand is; kept = t; stands = refl; key_is = sym key }
 
-pub call_asked : (m : Names) (t : Tree) (p : Procedure) (k : ArgumentKey) → FixedStand m → HasPredicate t p → k ≡ clause_key t
-    → Asks term_by clause_key (worlds.text_of m) (Call p k) (call_clauses (term_by (worlds.text_of m) t))
-call_asked m t p k stand is key = (term_by (worlds.text_of m) t, goal_asked m t p k stand is key, refl)
+pub list_asked : (q : Purpose) (m : Names) (t : Tree) (p : Procedure) (k : ArgumentKey) (w : Visit Tree ArgumentKey) → w ≡ visit_of q p k
+    → FixedStand m → HasPredicate t p → k ≡ clause_key t → Asks term_by clause_key (worlds.text_of m) w (listing q (term_by (worlds.text_of m) t))
+list_asked q m t p k w asks stand is key =
+    subst (λ (v : Visit Tree ArgumentKey). Asks term_by clause_key (worlds.text_of m) v (listing q (term_by (worlds.text_of m) t))) (sym asks) (go q)
+  where
+    go : (r : Purpose) → Asks term_by clause_key (worlds.text_of m) (visit_of r p k) (listing r (term_by (worlds.text_of m) t))
+    go Resolving = (term_by (worlds.text_of m) t, goal_asked m t p k stand is key, refl)
+    go Inspecting = (term_by (worlds.text_of m) t, goal_asked m t p k stand is key, refl)
+    go Retracting = (term_by (worlds.text_of m) t, goal_asked m t p k stand is key, refl)
+
+pub list_named : (q : Purpose) (m : Names) (p : Procedure) (k : ArgumentKey) (w : Visit Tree ArgumentKey) → w ≡ visit_of q p k
+    → All (λ a. IsSome (m a)) (p.name ∷ key_atoms k) → All (λ a. IsSome (m a)) (visit_names names_of key_atoms w)
+list_named q m p k w asks held = subst (λ (v : Visit Tree ArgumentKey). All (λ a. IsSome (m a)) (visit_names names_of key_atoms v)) (sym asks) (go q)
+  where
+    go : (r : Purpose) → All (λ a. IsSome (m a)) (visit_names names_of key_atoms (visit_of r p k))
+    go Resolving = held
+    go Inspecting = held
+    go Retracting = held
+
+pub list_allowed : (text : ℕ → Chars) (t : Told) (q : Purpose) (p : Procedure) (k : ArgumentKey) (w : Visit Tree ArgumentKey) → w ≡ visit_of q p k
+    → CanVisit term_by clause_key text w t
+list_allowed text t q p k w asks = subst (λ (v : Visit Tree ArgumentKey). CanVisit term_by clause_key text v t) (sym asks) (go q)
+  where
+    go : (r : Purpose) → CanVisit term_by clause_key text (visit_of r p k) t
+    go Resolving = tt
+    go Inspecting = tt
+    go Retracting = tt
 
 -- The reply
 
-pub record IsListReply (t : Told) (before : History) (n : Names) (g : Tree) (f : Option (Found Tree)) : Type 0 where
+pub record IsListReply (q : Purpose) (t : Told) (before : History) (n : Names) (g : Tree) (f : Option (Found Tree)) : Type 0 where
   pub list : List (Stored Clause)
-  pub served : served_now t.engine t.goals before (call_clauses g) ≡ answers (listed list) None
+  pub served : served_now t.engine t.goals before (listing q g) ≡ answers (listed list) None
   pub which : (list ≡ clause_list t.goals before (length before) g) ⊎ (list ≡ [])
   pub front : IsFront term_by (worlds.text_of n) f list
 
-pub record IsErrorReply (t : Told) (before : History) (n : Names) (g : Tree) (e : Tree) : Type 0 where
-  pub served : served_now t.engine t.goals before (call_clauses g) ≡ answers (refused (term_by (worlds.text_of n) e)) None
+pub record IsErrorReply (q : Purpose) (t : Told) (before : History) (n : Names) (g : Tree) (e : Tree) : Type 0 where
+  pub served : served_now t.engine t.goals before (listing q g) ≡ answers (refused (term_by (worlds.text_of n) e)) None
 
-abbrev pub IsReply : Told → History → Names → Tree → Reply Tree → Type 0
-IsReply t before n g (replies.Clauses f) = IsListReply t before n g f
-IsReply t before n g (replies.Refused e) = IsErrorReply t before n g e
-IsReply t before n g _ = ⊥
+abbrev pub IsReply : Purpose → Told → History → Names → Tree → Reply Tree → Type 0
+IsReply q t before n g (replies.Clauses f) = IsListReply q t before n g f
+IsReply q t before n g (replies.Refused e) = IsErrorReply q t before n g e
+IsReply q t before n g _ = ⊥
 
-reply_for : (t : Told) (before : History) (n : Names) (g : Tree) (r : Reply Tree) (reply : requests.Reply) (update : Option Kind)
-    → served_now t.engine t.goals before (call_clauses g) ≡ answers reply update
+reply_for : (q : Purpose) (t : Told) (before : History) (n : Names) (g : Tree) (r : Reply Tree) (reply : requests.Reply) (update : Option Kind)
+    → served_now t.engine t.goals before (listing q g) ≡ answers reply update
     → Says term_by (worlds.text_of n) r reply
     → IsAnswer t.goals before g reply update
-    → IsReply t before n g r
-reply_for t before n g r reply update served says answer = go answer.reply_is
+    → IsReply q t before n g r
+reply_for q t before n g r reply update served says answer = go answer.reply_is
   where
-    list : (cs : List (Stored Clause)) → (cs ≡ clause_list t.goals before (length before) g) ⊎ (cs ≡ []) → reply ≡ listed cs → IsReply t before n g r
+    list : (cs : List (Stored Clause)) → (cs ≡ clause_list t.goals before (length before) g) ⊎ (cs ≡ []) → reply ≡ listed cs → IsReply q t before n g r
     list cs which is =
         let shape = says_list (worlds.text_of n) r cs (subst (λ (x : requests.Reply). Says term_by (worlds.text_of n) r x) is says) in
-        subst (IsReply t before n g) (sym shape.1)
+        subst (IsReply q t before n g) (sym shape.1)
         (record {
           list = cs;
           served = served ∙ ap₂ answers is answer.update_is;
@@ -125,50 +152,63 @@ reply_for t before n g r reply update served says answer = go answer.reply_is
           front = shape.2;
         })
 
-    go : (reply ≡ listed (clause_list t.goals before (length before) g)) ⊎ ((reply ≡ listed []) ⊎ ((x : Tree) × (reply ≡ refused x))) → IsReply t before n g r
+    go : (reply ≡ listed (clause_list t.goals before (length before) g)) ⊎ ((reply ≡ listed []) ⊎ ((x : Tree) × (reply ≡ refused x))) → IsReply q t before n g r
     go (inl is) = list (clause_list t.goals before (length before) g) (inl refl) is
     go (inr (inl is)) = list [] (inr refl) is
     go (inr (inr error)) =
         let shape = says_error (worlds.text_of n) r error.0 (subst (λ (x : requests.Reply). Says term_by (worlds.text_of n) r x) error.1 says) in
-        subst (IsReply t before n g) (sym shape.1)
+        subst (IsReply q t before n g) (sym shape.1)
         (record { served = served ∙ ap₂ answers (error.1 ∙ ap refused shape.2) answer.update_is })
 
 -- The visit was served.
-pub record IsCallServed (t : Told) (before : History) (u : Told) (n : Names) (g : Tree) (r : Reply Tree) (gen : ℕ) : Type 0 where
+pub record IsCallServed (q : Purpose) (t : Told) (before : History) (u : Told) (n : Names) (g : Tree) (r : Reply Tree) (gen : ℕ) : Type 0 where
   pub asked : IsAsked t before None u
   pub generation : gen ≡ length before
-  pub reply : IsReply t before n g r
+  pub reply : IsReply q t before n g r
 
-pub call_served : (m n : Names) (t u : Told) (before : History) (x : Tree) (p : Procedure) (k : ArgumentKey) (r : Reply Tree) (gen : ℕ)
-    → FixedStand m → HasPredicate x p → k ≡ clause_key x → Follows t.engine t.history before
-    → IsServed term_by clause_key (worlds.text_of m) (worlds.text_of n) (Call p k) r gen t before u
-    → IsCallServed t before u n (term_by (worlds.text_of m) x) r gen
-call_served m n t u before x p k r gen stand is key follows served =
+-- It is none that goes on with a list.
+served_list : (text new_text : ℕ → Chars) (q : Purpose) (p : Procedure) (k : ArgumentKey) (w : Visit Tree ArgumentKey) (r : Reply Tree) (gen : ℕ) (t u : Told) (before : History)
+    → w ≡ visit_of q p k → Serves term_by clause_key text new_text w r gen t before u → IsServed term_by clause_key text new_text w r gen t before u
+served_list text new_text q p k w r gen t u before is =
+    subst (λ (v : Visit Tree ArgumentKey). Serves term_by clause_key text new_text v r gen t before u → IsServed term_by clause_key text new_text v r gen t before u) (sym is) (go q)
+  where
+    go : (x : Purpose) → Serves term_by clause_key text new_text (visit_of x p k) r gen t before u → IsServed term_by clause_key text new_text (visit_of x p k) r gen t before u
+    go Resolving s = s
+    go Inspecting s = s
+    go Retracting s = s
+
+pub list_served : (q : Purpose) (m n : Names) (t u : Told) (before : History) (x : Tree) (p : Procedure) (k : ArgumentKey) (w : Visit Tree ArgumentKey)
+    (r : Reply Tree) (gen : ℕ) → w ≡ visit_of q p k → FixedStand m → HasPredicate x p → k ≡ clause_key x → Follows t.engine t.history before
+    → Serves term_by clause_key (worlds.text_of m) (worlds.text_of n) w r gen t before u
+    → IsCallServed q t before u n (term_by (worlds.text_of m) x) r gen
+list_served q m n t u before x p k w r gen asks stand is key follows serves =
     let g = term_by (worlds.text_of m) x in
-    let one = served.serves (call_clauses g) (call_asked m x p k stand is key) in
-    let answer = call_answered t.engine t.goals before g one.0 served.update one.1 in
+    let served = served_list (worlds.text_of m) (worlds.text_of n) q p k w r gen t u before asks serves in
+    let one = served.serves (listing q g) (list_asked q m x p k w asks stand is key) in
+    let answer = list_answered q t.engine t.goals before g one.0 served.update one.1 in
     record {
       asked = record { follows = follows; told = served.told ∙ ap (λ (o : Option Kind). seen_as t (before ++ entry_by t.engine o) (t.gens ++ length before ∷ [])) answer.update_is };
       generation = served.generation;
-      reply = reply_for t before n g r one.0 served.update one.1 one.2 answer;
+      reply = reply_for q t before n g r one.0 served.update one.1 one.2 answer;
     }
 
-pub list_or_error : (t : Told) (before : History) (n : Names) (g : Tree) (r : Reply Tree) → IsReply t before n g r → IsListOrError r
-list_or_error t before n g (replies.Standing ops quotes) is = is
-list_or_error t before n g (replies.Clauses f) is = tt
-list_or_error t before n g (replies.Procedures ps) is = is
-list_or_error t before n g (replies.Flags fs) is = is
-list_or_error t before n g (replies.Named k) is = is
-list_or_error t before n g (replies.Message x) is = is
-list_or_error t before n g replies.NoMessage is = is
-list_or_error t before n g (replies.Status x) is = is
-list_or_error t before n g replies.Done is = is
-list_or_error t before n g replies.Gone is = is
-list_or_error t before n g (replies.Refused e) is = tt
+pub list_or_error : (q : Purpose) (t : Told) (before : History) (n : Names) (g : Tree) (r : Reply Tree) → IsReply q t before n g r → IsListOrError r
+list_or_error q t before n g (replies.Standing ops quotes) is = is
+list_or_error q t before n g (replies.Clauses f) is = tt
+list_or_error q t before n g (replies.Procedures ps) is = is
+list_or_error q t before n g (replies.Flags fs) is = is
+list_or_error q t before n g (replies.Named k) is = is
+list_or_error q t before n g (replies.Message x) is = is
+list_or_error q t before n g (replies.Operators os) is = is
+list_or_error q t before n g replies.NoMessage is = is
+list_or_error q t before n g (replies.Status x) is = is
+list_or_error q t before n g replies.Done is = is
+list_or_error q t before n g replies.Gone is = is
+list_or_error q t before n g (replies.Refused e) is = tt
 
-pub call_waits : (m n : Names) (t u : Told) (before : History) (x : Tree) (p : Procedure) (k : ArgumentKey) (on : On) (gen : ℕ)
-    → FixedStand m → HasPredicate x p → k ≡ clause_key x
-    → IsWaiting term_by clause_key (worlds.text_of m) (worlds.text_of n) (Call p k) on gen t before u → ⊥
-call_waits m n t u before x p k on gen stand is key waiting =
+pub list_waits : (q : Purpose) (m n : Names) (t u : Told) (before : History) (x : Tree) (p : Procedure) (k : ArgumentKey) (w : Visit Tree ArgumentKey)
+    (on : On) (gen : ℕ) → w ≡ visit_of q p k → FixedStand m → HasPredicate x p → k ≡ clause_key x
+    → IsWaiting term_by clause_key (worlds.text_of m) (worlds.text_of n) w on gen t before u → ⊥
+list_waits q m n t u before x p k w on gen asks stand is key waiting =
     let g = term_by (worlds.text_of m) x in
-    call_never_waits t.engine t.goals before g (waiting.waiting (call_clauses g) (call_asked m x p k stand is key))
+    list_never_waits q t.engine t.goals before g (waiting.waiting (listing q g) (list_asked q m x p k w asks stand is key))

@@ -24,6 +24,7 @@ use Rattle.world_api.specs.declared.visit.Procedure.{Procedure}
 use Rattle.world_api.specs.Texts as worlds
 use Rattle.world_api.specs.Told.{Told}
 use Rattle.iso_search.specs.declared.frames.Task.TheVariants.{Goal}
+use Rattle.iso_search.specs.declared.choices.Purpose.TheVariants.{Resolving}
 use Rattle.iso_search.specs.declared.outcome.Fault.TheVariants.{Inferences}
 use Rattle.iso_search.specs.declared.outcome.Outcome.{Outcome}
 use Rattle.iso_search.specs.declared.outcome.Outcome.TheVariants.{Raise}
@@ -94,7 +95,7 @@ taken_costs l s n g h is = ap (take_up l s n g h) (sym is)
 
 -- Lists by another view
 
-lists_same : (a b : List (Stored Clause)) → answers (listed a) None ≡ answers (listed b) None → a ≡ b
+pub lists_same : (a b : List (Stored Clause)) → answers (listed a) None ≡ answers (listed b) None → a ≡ b
 lists_same a b e = cc
 
 errors_same : (a b : Tree) → answers (refused a) None ≡ answers (refused b) None → a ≡ b
@@ -160,7 +161,7 @@ module _ (m n : Names) (t u : Told) (e f : Engine) (at : Place) (p : Procedure) 
     one_request r viewed alike = goal_read e list cut at rest running_is first r.view (view_of n u) (there.stable r.view viewed alike).1
 
     -- The clauses were tried.
-    module _ (o : Outcome) (run : IsRun m t e.search at rest n u f.search o) (some : nat_lt e.search.inferences e.search.budgets.inferences ≡ true)
+    module _ (o : Outcome) (run : IsRun Resolving m t e.search at rest n u f.search o) (some : nat_lt e.search.inferences e.search.budgets.inferences ≡ true)
         (follows : (r : Setting) → IsView r.view → doing_of r.view f.search f.doing
         ≡ doing_by r f.search (node_of r.view f.search rest) (record { name = text_of r.view.names (atom_name p.name); arity = p.arity }) o) where
       abbrev now : View
@@ -191,7 +192,7 @@ module _ (m n : Names) (t u : Told) (e f : Engine) (at : Place) (p : Procedure) 
           )
 
     -- The call was refused.
-    module _ (error ball : Tree) (x : IsRefused m t e.search at n u f.search error) (some : nat_lt e.search.inferences e.search.budgets.inferences ≡ true)
+    module _ (error ball : Tree) (x : IsRefused Resolving m t e.search at n u f.search error) (some : nat_lt e.search.inferences e.search.budgets.inferences ≡ true)
         (over : IsOverAtoms error) (is : IsErrorBall error p ball) (throws : f.doing ≡ Throwing ball rest) where
       abbrev pub refused_now : Tree
       refused_now = term_by (worlds.text_of n) error

@@ -19,7 +19,7 @@ use Rattle.atom_api.specs.Names.{FixedStand, Names}
 use Rattle.term_store.specs.ArgumentKeys.{clause_key}
 use Rattle.term_store.specs.NumberedNames.{atoms_in, names_of, neck, term_by}
 use Rattle.world_api.specs.declared.reply.Reply.{Reply}
-use Rattle.world_api.specs.declared.reply.Reply.TheVariants.{Standing, Clauses, Procedures, Flags, Named, Message, NoMessage, Status, Done, Gone, Refused}
+use Rattle.world_api.specs.declared.reply.Reply.TheVariants.{Standing, Clauses, Procedures, Flags, Operators, Named, Message, NoMessage, Status, Done, Gone, Refused}
 use Rattle.world_api.specs.declared.visit.Visit.TheVariants.{Erase}
 use Rattle.world_api.specs.declared.answer.On.{On}
 use Rattle.world_api.specs.Answers.{IsServed, IsWaiting}
@@ -41,7 +41,7 @@ use Rattle.iso_engine.specs.declared.engine.Engine.{Engine}
 use Rattle.iso_engine.specs.Asked.{AsksFor}
 use Rattle.iso_engine.specs.Erasing.{IsErased, IsErasedReply, IsErasedTo, IsRaised}
 use Rattle.iso_engine.specs.Ready.{IsAlike, IsReady}
-use Rattle.iso_engine.specs.Standing.{limits_of, state_at as standing_at}
+use Rattle.iso_engine.specs.Standing.{limits_of, state_at as standing_at, staying, aims_of}
 use Rattle.iso_engine.specs.Views.{view_of}
 use Rattle.iso_engine.proofs.LaterLists.{same_term}
 use Rattle.iso_engine.proofs.Moving.{IsMoved, asked_moved}
@@ -83,6 +83,7 @@ module _ (text : ℕ → Chars) where
   says_done (Clauses f) s = absurd s
   says_done (Procedures ps) s = absurd (cc)
   says_done (Flags fs) s = absurd (cc)
+  says_done (Operators os) s = absurd s
   says_done (Named n) s = absurd (cc)
   says_done (Message t) s = absurd (cc)
   says_done NoMessage s = absurd (cc)
@@ -96,6 +97,7 @@ module _ (text : ℕ → Chars) where
   says_gone (Clauses f) s = absurd s
   says_gone (Procedures ps) s = absurd (cc)
   says_gone (Flags fs) s = absurd (cc)
+  says_gone (Operators os) s = absurd s
   says_gone (Named n) s = absurd (cc)
   says_gone (Message t) s = absurd (cc)
   says_gone NoMessage s = absurd (cc)
@@ -151,11 +153,11 @@ erase_asks_for m t e place list erases old new =
     (λ c a. inl (record {
       request = erase_clause place;
       asking = record {
-        follows = λ stays written count. erased (standing_at (view_of m t) e.search (Erasing place list) written) (node_of (view_of m t) e.search list);
+        follows = λ written count. erased (standing_at (view_of m t) e.search (Erasing place list) written) (node_of (view_of m t) e.search list);
         asks_is =
-            λ stays written count.
-            ap (λ (d : Doing). step (limits_of stays e) (standing_at (view_of m t) e.search d written)) erases
-            ∙ erasing_step (record { view = view_of m t; solutions = e.solution_limit; stays = stays; doing = failing; output = written }) e.search place list;
+            λ written count.
+            ap (λ (d : Doing). step (limits_of e) (standing_at (view_of m t) e.search d written)) erases
+            ∙ erasing_step (record { view = view_of m t; solutions = e.solution_limit; stays = staying e.stays; doing = failing; output = written }) e.search place list;
       };
       before = a.before;
       follows = a.follows;
@@ -164,7 +166,7 @@ erase_asks_for m t e place list erases old new =
 
 -- The engine after it.
 module _ (m n : Names) (t u : Told) (e f : Engine) (place list : ℕ) (erases : e.doing ≡ Erasing place list) (holds : worlds.Holds m n) (view : IsView (view_of n u))
-    (fixes : FixedStand n) (ready : IsReady m t e) (same : f.search ≡ e.search) (wanted : f.solution_limit ≡ e.solution_limit) (given : f.solutions_found ≡ e.solutions_found) where
+    (fixes : FixedStand n) (ready : IsReady m t e) (same : f.search ≡ e.search) (wanted : aims_of f ≡ aims_of e) (given : f.solutions_found ≡ e.solutions_found) where
   -- By each view by which it may be read from then on, the reply leads to what it does next.
   abbrev Leads : requests.Reply → Type 0
   Leads reply =
@@ -204,6 +206,7 @@ module _ (m n : Names) (t u : Told) (e f : Engine) (place list : ℕ) (erases : 
   erased_moved (Clauses g) x named to = absurd to
   erased_moved (Procedures ps) x named to = absurd to
   erased_moved (Flags fs) x named to = absurd to
+  erased_moved (Operators os) x named to = absurd to
   erased_moved (Named k) x named to = absurd to
   erased_moved (Message k) x named to = absurd to
   erased_moved NoMessage x named to = absurd to

@@ -25,7 +25,7 @@ use Rattle.iso_engine.specs.Slices.{IsStepped}
 use Rattle.iso_engine.specs.Spending.{IsSpent}
 use Rattle.iso_engine.specs.Failing.{FailsTo, StandsForBack}
 use Rattle.iso_engine.specs.Ready.{IsReady, Steps, StepsFrom}
-use Rattle.iso_engine.specs.Standing.{state_at}
+use Rattle.iso_engine.specs.Standing.{state_at, aims_of}
 use Rattle.iso_engine.specs.Retrying.{IsGoneOn, IsPutBack, IsTried}
 use Rattle.iso_engine.proofs.Alike.{visits_same}
 use Rattle.iso_engine.proofs.Followed.{fails_to}
@@ -88,7 +88,7 @@ module _ (m n : Names) (t u : Told) (e : Engine) (x : Search) (f : Engine) (b : 
       let s : Setting = record r { doing = failing }
       in fails_to s e.search (back_result s x b) refl (step s refl) ∙ ap goes (tried.stands s other alike))
       in let moved = seen_moved m n t u e f holds view ready tried.before tried.follows tried.told steps (tried.budgets ∙ budgets_same)
-      (ap (λ (y : Engine). y.solution_limit) tried.rest) given whole
+      (ap aims_of tried.rest) given whole
       in (moved.0, moved.1, moved.2, given)
 
   -- The choice point is there again.
@@ -104,7 +104,7 @@ module _ (m n : Names) (t u : Told) (e : Engine) (x : Search) (f : Engine) (b : 
       in let here : IsReady n t e = ready_later m n t t e same (held_later m n t holds) (visits_same t t refl) ready
       in let walk : Advances 0 m t e n t f [] =
       advance_then 0 0 m n n t t t e e f [] [] (advance_same m n t t e ready.stable same refl holds)
-      (restored_advances e f choices after count fails doing n t budgets (ap (λ (y : Engine). y.solution_limit) put.rest) given)
+      (restored_advances e f choices after count fails doing n t budgets (ap aims_of put.rest) given)
       in let ready_now : IsReady n t f = restored_ready e f choices after count fails doing n t whole here
       in (
         subst (λ (w : Told). Advances 0 m t e n w f []) (sym put.told) walk,

@@ -1,13 +1,13 @@
 -- What calls and retries lead to.
-use Rattle.std.proofs.Common.{◌≡◌, ◌⊎◌, ℕ, suc, ◌+◌, ◌<◌, ◌≤◌, true, List, [], length, Option, None, IsSome, refl, sym, ap, subst, ◌∙◌, arith, append-nil, length-append}
+use Rattle.std.proofs.Common.{◌≡◌, ◌⊎◌, ℕ, suc, ◌+◌, ◌<◌, ◌≤◌, true, List, [], length, Option, None, IsSome, IfOk, Result, Ok, Err, refl, sym, ap, subst, ◌∙◌, arith, append-nil, length-append}
 use Rattle.std.specs.List.{All, Contains}
 use Rattle.std.proofs.lemmas.List.Elements.{All-tail}
 use Rattle.pl_term.specs.Tree.{Tree}
 use Rattle.pl_model.specs.History.{Clause, History}
 use Rattle.pl_model.specs.Database.{Stored}
-use Rattle.pl_model.specs.Requests.{call_clauses, listed, refused}
+use Rattle.pl_model.specs.Requests.{listed, refused}
 use Rattle.pl_model.specs.Service.{answers, served_now}
-use Rattle.pl_model.specs.Resolution.{State, resolving}
+use Rattle.pl_model.specs.Resolution.{State}
 use Rattle.pl_model.specs.Control.{first_clause, next_clause, tried_by}
 use Rattle.atom_api.specs.Names.{Names, FixedStand}
 use Rattle.term_store.specs.declared.argument_key.ArgumentKey.{ArgumentKey}
@@ -19,6 +19,7 @@ use Rattle.world_api.specs.declared.reply.Found.{Found}
 use Rattle.world_api.specs.declared.reply.Reply.{Reply}
 use Rattle.world_api.specs.declared.reply.Reply.TheVariants as replies
 use Rattle.world_api.specs.declared.visit.Procedure.{Procedure}
+use Rattle.world_api.specs.declared.unserved.Unserved.{Unserved}
 use Rattle.world_api.specs.Texts.{Holds, text_of}
 use Rattle.world_api.specs.Told.{Told, Follows, behind, clause_list, has_place}
 use Rattle.world_api.specs.Answers.{IsNext, IsPlace, seen_as}
@@ -34,7 +35,8 @@ use Rattle.iso_search.specs.Searching.{node_of}
 use Rattle.iso_search.proofs.After.{after_behind}
 use Rattle.iso_engine.specs.declared.call.called.Called.{Called}
 use Rattle.iso_engine.specs.declared.call.called.Called.TheVariants as calls
-use Rattle.iso_engine.specs.Called.{IsCalled, IsRefused, IsRun}
+use Rattle.iso_engine.specs.Called.{AreLooked, IsCalled, IsRefused, IsRun}
+use Rattle.iso_engine.specs.ClausesAsked.{listing}
 use Rattle.iso_engine.specs.CalledGoals.{HasPredicate}
 use Rattle.iso_engine.specs.Lists.{IsListed, IsOpen, IsOpenBehind}
 use Rattle.iso_engine.specs.Parts.{IsOverAtoms}
@@ -55,13 +57,18 @@ module _ (m n : Names) (t u : Told) (before : History) (e d : Search) (goal : Pl
   same_goal : (v : View) → IsViewFrom n u v → reads v e.store goal ≡ term_by (text_of m) (term_at e.store goal)
   same_goal v from = goal_read m n u fixed_m grown e.store goal over held v from
 
-  module _ (rest gen : ℕ) (count : e.inferences < e.budgets.inferences) where
+  -- The goal is the one for which the clauses are listed.
+  module _ (q : Purpose) (tried_at : Place) (lists : (v : View) → IsView v → reads v e.store goal ≡ listed_goal (purpose_of q) (reads v e.store tried_at))
+      (rest gen : ℕ) (count : e.inferences < e.budgets.inferences) where
+    lists_for : (v : View) → IsViewFrom n u v → term_by (text_of m) (term_at e.store goal) ≡ listed_goal (purpose_of q) (reads v e.store tried_at)
+    lists_for v from = sym (same_goal v from) ∙ lists v from.view
+
     run_is : (f : Option (Found Tree)) (o : Outcome) (r : Reply Tree)
-        → IsCallServed t before u n (term_by (text_of m) (term_at e.store goal)) r gen
-        → IsListReply t before n (term_by (text_of m) (term_at e.store goal)) f
+        → IsCallServed q t before u n (term_by (text_of m) (term_at e.store goal)) r gen
+        → IsListReply q t before n (term_by (text_of m) (term_at e.store goal)) f
         → All (λ a. IsSome (n a)) (found_names names_of f)
-        → (let x : Search = record e { inferences = e.inferences + 1 } in IsTried Resolving x goal rest gen f d o × IsAfter x d o)
-        → IsRun m t e goal rest n u d o
+        → (let x : Search = record e { inferences = e.inferences + 1 } in IsTried q x tried_at rest gen f d o × IsAfter x d o)
+        → IsRun q m t e tried_at rest n u d o
     run_is f o r served list named followed =
         let x : Search = record e { inferences = e.inferences + 1 } in
         let g : Tree = term_by (text_of m) (term_at e.store goal) in
@@ -77,34 +84,34 @@ module _ (m n : Names) (t u : Told) (before : History) (e d : Search) (goal : Pl
           named = named;
           answered = λ v from. (
             list.list,
-            subst (λ y. served_now t.engine t.goals before (call_clauses y) ≡ answers (listed list.list) None) (sym (same_goal v from)) list.served,
-            subst (λ y. IsListed v y (length before) f list.list) (sym (same_goal v from)) (call_listed n u before g f list.list fixed_n at which list.front named v from),
-            subst (λ y. IsOpenBehind u y (length before) f) (sym (same_goal v from))
+            subst (λ y. served_now t.engine t.goals before (listing q y) ≡ answers (listed list.list) None) (lists_for v from) list.served,
+            subst (λ y. IsListed v y (length before) f list.list) (lists_for v from) (call_listed n u before g f list.list fixed_n at which list.front named v from),
+            subst (λ y. IsOpenBehind u y (length before) f) (lists_for v from)
                 (call_open t u before g (text_of n) f list.list at (ap (λ (w : Told). w.gens) told) which list.front),
           );
-          runs = λ s cs view lists.
-              followed.0 s cs view (subst (λ k. IsListed s.view (reads s.view e.store goal) k f cs) (sym served.generation) lists)
-              ∙ ap (λ k. let y : State = record (state_in s e) { inferences = k } in first_clause (limits_in s e) resolving y (reads s.view e.store goal) (node_of s.view e rest) cs)
+          runs = λ s cs view is.
+              followed.0 s cs view (subst (λ k. IsListed s.view (listed_goal (purpose_of q) (reads s.view e.store tried_at)) k f cs) (sym served.generation) is)
+              ∙ ap (λ k. let y : State = record (state_in s e) { inferences = k } in first_clause (limits_in s e) (purpose_of q) y (reads s.view e.store tried_at) (node_of s.view e rest) cs)
               (one_more e.inferences);
           after = after_behind e x d o (omega arith) refl (λ v j le. refl) followed.1;
         }
 
     refused_is : (error y : Tree) (r : Reply Tree)
-        → IsCallServed t before u n (term_by (text_of m) (term_at e.store goal)) r gen
-        → IsErrorReply t before n (term_by (text_of m) (term_at e.store goal)) error
+        → IsCallServed q t before u n (term_by (text_of m) (term_at e.store goal)) r gen
+        → IsErrorReply q t before n (term_by (text_of m) (term_at e.store goal)) error
         → All (λ a. IsSome (n a)) (names_of error)
         → y ≡ error
         → (let x : Search = record e { inferences = e.inferences + 1 } in d ≡ x)
-        → IsRefused m t e goal n u d y
+        → IsRefused q m t e tried_at n u d y
     refused_is error y r served reply named is same =
-        subst (IsRefused m t e goal n u d) (sym is)
+        subst (IsRefused q m t e tried_at n u d) (sym is)
         (record {
           before = before;
           asked = served.asked;
           count = count;
           named = named;
           answered = λ v from.
-              subst (λ z. served_now t.engine t.goals before (call_clauses z) ≡ answers (refused (term_by (text_of v.names) error)) None) (sym (same_goal v from))
+              subst (λ z. served_now t.engine t.goals before (listing q z) ≡ answers (refused (term_by (text_of v.names) error)) None) (lists_for v from)
               (reply.served
               ∙ ap (λ w. answers (refused w) None)
               (sym (ap (λ (w : View). term_by (text_of w.names) error) from.is
@@ -112,27 +119,28 @@ module _ (m n : Names) (t u : Told) (before : History) (e d : Search) (goal : Pl
           search = same ∙ ap (λ k. let z : Search = record e { inferences = k } in z) (one_more e.inferences);
         })
 
-    pub called_is : (r : Reply Tree) (c : Called)
-        → IsCallServed t before u n (term_by (text_of m) (term_at e.store goal)) r gen
+    pub looked_is : (r : Reply Tree) (c : Called)
+        → IsCallServed q t before u n (term_by (text_of m) (term_at e.store goal)) r gen
         → All (λ a. IsSome (n a)) (reply_names names_of r)
-        → (let x : Search = record e { inferences = e.inferences + 1 } in IsFollowed Resolving x goal rest gen r d c)
-        → IsCalled m t e goal rest n u d c
-    called_is (replies.Clauses f) (calls.Ran o) served named followed = run_is f o (replies.Clauses f) served served.reply named followed
-    called_is (replies.Clauses f) calls.Spent served named followed = absurd followed
-    called_is (replies.Clauses f) (calls.Refused x) served named followed = absurd followed
-    called_is (replies.Refused x) (calls.Refused y) served named followed =
+        → (let x : Search = record e { inferences = e.inferences + 1 } in IsFollowed q x tried_at rest gen r d c)
+        → AreLooked q m t e tried_at rest n u d c
+    looked_is (replies.Clauses f) (calls.Ran o) served named followed = run_is f o (replies.Clauses f) served served.reply named followed
+    looked_is (replies.Clauses f) calls.Spent served named followed = absurd followed
+    looked_is (replies.Clauses f) (calls.Refused x) served named followed = absurd followed
+    looked_is (replies.Refused x) (calls.Refused y) served named followed =
         refused_is x y (replies.Refused x) served served.reply named followed.0 followed.1
-    called_is (replies.Refused x) calls.Spent served named followed = absurd followed
-    called_is (replies.Refused x) (calls.Ran o) served named followed = absurd followed
-    called_is (replies.Standing ops quotes) c served named followed = absurd served.reply
-    called_is (replies.Procedures ps) c served named followed = absurd served.reply
-    called_is (replies.Flags fs) c served named followed = absurd served.reply
-    called_is (replies.Named k) c served named followed = absurd served.reply
-    called_is (replies.Message x) c served named followed = absurd served.reply
-    called_is replies.NoMessage c served named followed = absurd served.reply
-    called_is (replies.Status x) c served named followed = absurd served.reply
-    called_is replies.Done c served named followed = absurd served.reply
-    called_is replies.Gone c served named followed = absurd served.reply
+    looked_is (replies.Refused x) calls.Spent served named followed = absurd followed
+    looked_is (replies.Refused x) (calls.Ran o) served named followed = absurd followed
+    looked_is (replies.Standing ops quotes) c served named followed = absurd served.reply
+    looked_is (replies.Procedures ps) c served named followed = absurd served.reply
+    looked_is (replies.Flags fs) c served named followed = absurd served.reply
+    looked_is (replies.Named k) c served named followed = absurd served.reply
+    looked_is (replies.Message x) c served named followed = absurd served.reply
+    looked_is (replies.Operators os) c served named followed = absurd served.reply
+    looked_is replies.NoMessage c served named followed = absurd served.reply
+    looked_is (replies.Status x) c served named followed = absurd served.reply
+    looked_is replies.Done c served named followed = absurd served.reply
+    looked_is replies.Gone c served named followed = absurd served.reply
 
   -- The clause with the place is one of the list.
   pub place_is : (p : Procedure) (k : ArgumentKey) (gen place : ℕ) → HasPredicate (term_at e.store goal) p → k ≡ clause_key (term_at e.store goal)
@@ -190,3 +198,11 @@ module _ (m n : Names) (t u : Told) (before : History) (e d : Search) (goal : Pl
         runs = runs;
         after = after;
       }
+
+-- A call is a look that resolves.
+pub looked_called : (m : Names) (t : Told) (e : Search) (goal : Place) (rest : ℕ) (n : Names) (u : Told) (d : Search) (r : Result Called Unserved)
+    → IfOk r (AreLooked Resolving m t e goal rest n u d) → IfOk r (IsCalled m t e goal rest n u d)
+looked_called m t e goal rest n u d (Ok calls.Spent) h = absurd h
+looked_called m t e goal rest n u d (Ok (calls.Ran o)) h = h
+looked_called m t e goal rest n u d (Ok (calls.Refused x)) h = h
+looked_called m t e goal rest n u d (Err w) h = tt

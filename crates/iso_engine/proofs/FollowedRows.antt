@@ -66,10 +66,10 @@ pendings_none : (ps : List Pending) → map (pending_instance []) ps ≡ ps
 pendings_none [] = refl
 pendings_none (p ∷ ps) = ap₂ (λ q qs. q ∷ qs) (pending_none p) (pendings_none ps)
 
-instance_none : (n : Node) → node_instance [] n ≡ n
+pub instance_none : (n : Node) → node_instance [] n ≡ n
 instance_none n = ap₂ (λ ps ts. record { goals = ps; answer = ts; used = n.used }) (pendings_none n.goals) (bound_none n.answer)
 
-themselves : (ts : Trees) → solve_all [] ts ts ≡ Some []
+pub themselves : (ts : Trees) → solve_all [] ts ts ≡ Some []
 unfolding solve_all
 themselves ts = solve-same _ [] ts
 

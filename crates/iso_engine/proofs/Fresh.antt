@@ -18,11 +18,11 @@ use Rattle.iso_engine.specs.Views.{view_of}
 use Rattle.iso_engine.specs.Ready.{IsReady}
 use Rattle.iso_engine.specs.Standing.{limits_of, state_now}
 
-all_left : {X : Type 0} (P : X → Type 0) (xs ys : List X) → All P (xs ++ ys) → All P xs
+pub all_left : {X : Type 0} (P : X → Type 0) (xs ys : List X) → All P (xs ++ ys) → All P xs
 all_left P [] ys h = All-nil P
 all_left P (x ∷ xs) ys h = All-cons P x xs (All-head P x (xs ++ ys) h) (all_left P xs ys (All-tail P x (xs ++ ys) h))
 
-all_right : {X : Type 0} (P : X → Type 0) (xs ys : List X) → All P (xs ++ ys) → All P ys
+pub all_right : {X : Type 0} (P : X → Type 0) (xs ys : List X) → All P (xs ++ ys) → All P ys
 all_right P [] ys h = h
 all_right P (x ∷ xs) ys h = all_right P xs ys (All-tail P x (xs ++ ys) h)
 
@@ -56,7 +56,7 @@ module _ (m n : Names) (holds : Holds m n) where
         ap₂ more (spelled_later t (all_left IsHeld (atoms_in t) (atoms_in_all ts) h)) (spelled_all_later ts (all_right IsHeld (atoms_in t) (atoms_in_all ts) h))
 
 pub started_ready : (e : Engine) (goal : Tree) → IsWhole e.search
-    → ((v : View) (stays : Option Chars) → IsView v → state_now v e [] ≡ start (limits_of stays e) (spelled (text_of v.names) goal))
+    → ((v : View) → IsView v → state_now v e [] ≡ start (limits_of e) (spelled (text_of v.names) goal))
     → (m : Names) (t : Told) → IsView (view_of m t) → All (λ a. IsSome (m a)) (atoms_in goal) → IsReady m t e
 started_ready e goal whole starts m t view held =
     record {
@@ -64,6 +64,6 @@ started_ready e goal whole starts m t view held =
       stable =
           λ v other alike.
           let same : state_now v e [] ≡ state_now (view_of m t) e [] =
-          starts v None other ∙ ap (start (limits_of None e)) (spelled_later m v.names alike.holds goal held) ∙ sym (starts (view_of m t) None view)
+          starts v other ∙ ap (start (limits_of e)) (spelled_later m v.names alike.holds goal held) ∙ sym (starts (view_of m t) view)
           in (ap (λ (s : State). s.choices) same, ap (λ (s : State). s.doing) same);
     }

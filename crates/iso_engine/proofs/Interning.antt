@@ -15,13 +15,14 @@ use Rattle.world_api.specs.declared.visit.Procedure.{Procedure}
 use Rattle.world_api.proofs.Gaining.{gains_nothing, gains_then, gains_weaker}
 use Rattle.iso_search.specs.declared.frames.Task.TheVariants.{Goal}
 use Rattle.iso_search.specs.declared.choices.Purpose.{Purpose}
+use Rattle.iso_search.specs.declared.choices.Purpose.TheVariants.{Resolving}
 use Rattle.iso_search.specs.declared.search.Search.{Search}
 use Rattle.iso_search.specs.Choices.{answers_from, listed_goal, purpose_of}
 use Rattle.iso_search.specs.Frames.{tasks}
 use Rattle.iso_search.specs.Lines.{lines_of}
 use Rattle.iso_search.specs.Reading.{IsView, View, reads}
 use Rattle.iso_search.specs.Searching.{choices_of, node_of}
-use Rattle.iso_engine.specs.ClausesAsked.{IsCallAsked, IsRetryAsked}
+use Rattle.iso_engine.specs.ClausesAsked.{IsListAsked, IsRetryAsked}
 use Rattle.iso_engine.specs.declared.doing.Doing.{Doing}
 use Rattle.iso_engine.specs.declared.doing.Doing.TheVariants.{Failing, Running}
 use Rattle.iso_engine.specs.declared.engine.Engine.{Engine}
@@ -31,10 +32,11 @@ use Rattle.iso_engine.specs.Advancing.{Advances}
 use Rattle.iso_engine.specs.Asked.{AsksFor, AsksInSlice, AsksOnWay, ComesToAsk}
 use Rattle.iso_engine.specs.Calling.{IsCallAt}
 use Rattle.iso_engine.specs.Views.{view_of}
+use Rattle.iso_engine.specs.Leaving.{IsExitText}
 use Rattle.iso_engine.specs.Lines.{IsLineAsked}
 use Rattle.iso_engine.specs.Rows.{IsRowText}
 use Rattle.iso_engine.specs.Slices.{IsStepped}
-use Rattle.iso_engine.specs.Standing.{doing_of}
+use Rattle.iso_engine.specs.Standing.{doing_of, staying}
 use Rattle.iso_engine.proofs.Calls.{answer_to, step_asks}
 use Rattle.iso_engine.proofs.Stability.{advance_then}
 
@@ -51,21 +53,21 @@ pub call_asks_for : (m : Names) (t : Told) (e : Engine) (at : Place) (p : Proced
     → IsCallAt e.search.store at p
     → IsView (view_of m t)
     → (old new : Option (List Chars))
-    → Gains (IsCallAsked m t e.search at) old new
+    → Gains (IsListAsked Resolving m t e.search at) old new
     → Gains (AsksFor m t e) old new
 call_asks_for m t e at p list cut rest running_is first le call view old new =
-    gains_weaker (IsCallAsked m t e.search at) (AsksFor m t e) old new
+    gains_weaker (IsListAsked Resolving m t e.search at) (AsksFor m t e) old new
     (λ c a. inl (record {
       request = call_clauses (reads (view_of m t) e.search.store at);
       asking = record {
         follows =
-            λ stays written count.
+            λ written count.
             answer_to m m t t e e at p list cut rest running_is first le call
-            (record { view = view_of m t; solutions = e.solution_limit; stays = stays; doing = failing; output = written });
+            (record { view = view_of m t; solutions = e.solution_limit; stays = staying e.stays; doing = failing; output = written });
         asks_is =
-            λ stays written count.
+            λ written count.
             step_asks m m t t e e at p list cut rest running_is first le call
-            (record { view = view_of m t; solutions = e.solution_limit; stays = stays; doing = failing; output = written })
+            (record { view = view_of m t; solutions = e.solution_limit; stays = staying e.stays; doing = failing; output = written })
             view
             (lt-ltb e.search.inferences e.search.budgets.inferences a.count);
       };
@@ -116,7 +118,12 @@ line_asks_for m t e x goal line next fails taken old new =
 -- A built-in predicate that is a function of its arguments.
 pub row_asks_for : (m : Names) (t : Told) (e : Engine) (old new : Option (List Chars)) → Gains (λ c. (u : Told) → IsRowText m u e c) old new
     → Gains (AsksFor m t e) old new
-row_asks_for m t e old new = gains_weaker (λ c. (u : Told) → IsRowText m u e c) (AsksFor m t e) old new (λ c text. inr (inr (inr (text t))))
+row_asks_for m t e old new = gains_weaker (λ c. (u : Told) → IsRowText m u e c) (AsksFor m t e) old new (λ c text. inr (inr (inr (inl (text t)))))
+
+-- thread_exit/1, which does not leave what is run.
+pub exit_asks_for : (m : Names) (t : Told) (e : Engine) (old new : Option (List Chars)) → Gains (λ c. (u : Told) → IsExitText m u e c) old new
+    → Gains (AsksFor m t e) old new
+exit_asks_for m t e old new = gains_weaker (λ c. (u : Told) → IsExitText m u e c) (AsksFor m t e) old new (λ c text. inr (inr (inr (inr (text t)))))
 
 -- The engine's work was taken out and put back.
 pub asked_again : (m : Names) (t : Told) (e : Engine) (d : Doing) (old new : Option (List Chars)) → e.doing ≡ d

@@ -6,7 +6,9 @@ pub mod Beginning
 pub mod Builtins
 pub mod Calls
 pub mod ClauseGains
+pub mod ClauseLooks
 pub mod Collected
+pub mod CollectGoals
 pub mod Copies
 pub mod Defined
 pub mod Dispatched
@@ -14,6 +16,8 @@ pub mod DispatchedPlaces
 pub mod Equals
 pub mod Erased
 pub mod Errors
+pub mod ExitGoals
+pub mod ExitsMoved
 pub mod Failed
 pub mod Followed
 pub mod FollowedReplies
@@ -21,6 +25,8 @@ pub mod FollowedRows
 pub mod FreeNames
 pub mod Fresh
 pub mod Giving
+pub mod GoalNames
+pub mod GoalsMoved
 pub mod Grown
 pub mod Held
 pub mod Heldness
@@ -32,7 +38,13 @@ pub mod Lined
 pub mod Listed
 pub mod Listing
 pub mod Looked
+pub mod LookFaults
+pub mod LookGoals
+pub mod LookPredicates
+pub mod LookRows
 pub mod Looks
+pub mod LooksAsked
+pub mod MadeRules
 pub mod Moreover
 pub mod Moved
 pub mod Moving
@@ -48,6 +60,7 @@ pub mod PlacesApart
 pub mod Procedures
 pub mod Purposes
 pub mod Putting
+pub mod RaisedRows
 pub mod Reading
 pub mod Readings
 pub mod Refusals

@@ -1,37 +1,23 @@
 -- What a look tells.
-use Rattle.std.proofs.Common.{◌≡◌, ℕ, length, Option, refl, sym, ap, subst, ◌∙◌}
+use Rattle.std.proofs.Common.{◌≡◌, ℕ, refl, ap, subst, ◌∙◌}
 use Rattle.std.specs.Arc.{arc_value}
 use Rattle.std.specs.declared.alloc.Global.{Global}
 use Rattle.std.specs.declared.sync.Arc.{Arc}
 use Rattle.pl_term.specs.Tree.{Chars, Tree}
 use Rattle.pl_model.specs.OperatorTable.{OperatorTable}
 use Rattle.pl_model.specs.declared.grammar.Quotes.{Quotes}
-use Rattle.pl_model.specs.History.{History, Kind}
-use Rattle.pl_model.specs.SharedState.{state_at}
+use Rattle.pl_model.specs.History.{History}
 use Rattle.pl_model.specs.Requests.{look, standing}
-use Rattle.pl_model.specs.Requests as requests
-use Rattle.pl_model.specs.Service.{Served, answers, waits, serve, served_now}
+use Rattle.pl_model.specs.Service.{answers, waits, serve, served_now}
 use Rattle.world_api.specs.declared.answer.Answer.TheVariants.{Served as ServedAnswer, Waits as WaitsAnswer}
 use Rattle.world_api.specs.declared.answer.On.{On}
 use Rattle.world_api.specs.declared.reply.Reply.{Reply}
-use Rattle.world_api.specs.declared.reply.Reply.TheVariants.{Standing, Clauses, Procedures, Flags, Named, Message, NoMessage, Status, Done, Gone, Refused}
+use Rattle.world_api.specs.declared.reply.Reply.TheVariants.{Standing, Clauses, Procedures, Flags, Operators, Named, Message, NoMessage, Status, Done, Gone, Refused}
 use Rattle.world_api.specs.declared.visit.Visit.TheVariants.{Look}
 use Rattle.world_api.specs.Told.{Told}
 use Rattle.world_api.specs.Answers.{Visited}
-use Rattle.world_api.specs.Replies.{Says}
+use Rattle.world_api.specs.Replies.{HasTable, Says}
 use Rattle.iso_engine.specs.Looking.{Looks}
-
-reply_of : requests.Reply → Served → requests.Reply
-reply_of r (answers q k) = q
-reply_of r waits = r
-
--- A look is answered by what stands.
-look_stands : (e goals : ℕ) (h : History) (r : requests.Reply) (k : Option Kind) → served_now e goals h look ≡ answers r k
-    → (ops : OperatorTable) × (quotes : Quotes) × (r ≡ standing ops quotes)
-unfolding serve reply_of
-look_stands e goals h r k is =
-    let s = state_at goals h (length h)
-    in (s.operators, s.flags.double_quotes, sym (ap (reply_of r) is))
 
 -- A look never waits.
 look_serves : (e goals : ℕ) (h : History) → served_now e goals h look ≡ waits → ⊥
@@ -39,25 +25,23 @@ unfolding serve
 look_serves e goals h is = absurd (cc)
 
 module _ {T K : Type 0} (term : (ℕ → Chars) → T → Tree) (key : T → K) (old_text new_text : ℕ → Chars) where
-  stands_only : (r : Reply T) (ops : OperatorTable) (quotes : Quotes) → ((x : Arc OperatorTable Global) (y : Quotes) → r ≡ Standing x y → ⊥) → Says term new_text r (standing ops quotes) → ⊥
-  stands_only (Standing x y) ops quotes other h = other x y refl
-  stands_only (Clauses f) ops quotes other h = h
-  stands_only (Procedures ps) ops quotes other h = cc
-  stands_only (Flags fs) ops quotes other h = cc
-  stands_only (Named n) ops quotes other h = cc
-  stands_only (Message t) ops quotes other h = cc
-  stands_only NoMessage ops quotes other h = cc
-  stands_only (Status t) ops quotes other h = cc
-  stands_only Done ops quotes other h = cc
-  stands_only Gone ops quotes other h = cc
-  stands_only (Refused e) ops quotes other h = cc
+  stands_only : (r : Reply T) → ((x : Arc OperatorTable Global) (y : Quotes) → r ≡ Standing x y → ⊥) → HasTable r → ⊥
+  stands_only (Standing x y) other table = other x y refl
+  stands_only (Clauses f) other table = table
+  stands_only (Procedures ps) other table = table
+  stands_only (Flags fs) other table = table
+  stands_only (Operators os) other table = table
+  stands_only (Named n) other table = table
+  stands_only (Message t) other table = table
+  stands_only NoMessage other table = table
+  stands_only (Status t) other table = table
+  stands_only Done other table = table
+  stands_only Gone other table = table
+  stands_only (Refused e) other table = table
 
   pub never_else : (r : Reply T) (g : ℕ) (t : Told) (before : History) (u : Told) → Visited term key old_text new_text Look (ServedAnswer r g) t before u
       → ((x : Arc OperatorTable Global) (y : Quotes) → r ≡ Standing x y → ⊥) → ⊥
-  never_else r g t before u v other =
-      let s = v.1.serves look refl
-      in let there = look_stands t.engine t.goals before s.0 v.1.update s.1
-      in stands_only r there.0 there.1 other (subst (Says term new_text r) there.2 s.2)
+  never_else r g t before u v other = stands_only r other v.1.suits
 
   pub never_waits : (on : On) (g : ℕ) (t : Told) (before : History) (u : Told) → Visited term key old_text new_text Look (WaitsAnswer on g) t before u → ⊥
   never_waits on g t before u v = look_serves t.engine t.goals before (v.1.waiting look refl)

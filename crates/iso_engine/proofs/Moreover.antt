@@ -20,19 +20,19 @@ use Rattle.iso_engine.specs.Asking.{IsAnswered}
 use Rattle.iso_engine.specs.Views.{IsLater, view_of}
 use Rattle.iso_engine.specs.Ready.{IsAlike, IsReady, IsStable}
 use Rattle.iso_engine.specs.Spending.{IsSpent}
-use Rattle.iso_engine.specs.Standing.{limits_of, state_at, state_now}
+use Rattle.iso_engine.specs.Standing.{aims_of, limits_of, staying, state_at, state_now}
 use Rattle.iso_engine.proofs.Alike.{alike_itself, alike_view}
 use Rattle.iso_engine.proofs.Later.{later_stays}
-use Rattle.iso_engine.proofs.Moving.{asked_later, asked_ready, asks_same, limits_same, seen_ready}
+use Rattle.iso_engine.proofs.Moving.{asked_later, asked_ready, asks_same, seen_ready}
 use Rattle.iso_engine.proofs.Spending.{Spends, step_spends}
-use Rattle.iso_engine.proofs.Stability.{advance_asks, advance_seen, advance_then, or_same, same_state, some_output}
+use Rattle.iso_engine.proofs.Stability.{advance_asks, advance_seen, advance_then, limits_same, or_same, same_state, some_output}
 
 -- The engine has come a step further, in which the goal wrote this.
 abbrev pub IsMovedBy : Names → Told → Engine → Names → Told → Engine → List Output → Type 0
 IsMovedBy m t e n u f more = Advances 1 m t e n u f more × IsReady n u f × IsSpent e.search.inferences f.search.inferences
 
 module _ (m n : Names) (t u : Told) (e f : Engine) (more : List Output) (none : solution_count more ≡ 0) (holds : Holds m n) (view : IsView (view_of n u))
-    (ready : IsReady m t e) (budgets : f.search.budgets ≡ e.search.budgets) (wanted : f.solution_limit ≡ e.solution_limit) (given : f.solutions_found ≡ e.solutions_found) (whole : IsWhole f.search) where
+    (ready : IsReady m t e) (budgets : f.search.budgets ≡ e.search.budgets) (wanted : aims_of f ≡ aims_of e) (given : f.solutions_found ≡ e.solutions_found) (whole : IsWhole f.search) where
   abbrev set : View → Option Chars → List Output → Setting
   set v stays out = record { view = v; solutions = e.solution_limit; stays = stays; doing = failing; output = out }
 
@@ -57,11 +57,11 @@ module _ (m n : Names) (t u : Told) (e f : Engine) (more : List Output) (none : 
     advanced =
         record {
           by_steps =
-              λ stays written count.
-              let l = limits_of stays e
+              λ written count.
+              let l = limits_of e
               in let s = state_now (view_of n u) e written
               in steps_go l s s (state_now (view_of n u) f (written ++ more)) u u 0 (steps_stay l s u)
-              (steps (set (view_of n u) stays written) view (alike_itself n u) refl count);
+              (steps (set (view_of n u) (staying e.stays) written) view (alike_itself n u) refl count);
           limits = limits_same e f budgets wanted;
           given = gave_is;
           later = later_stays n u;
@@ -119,14 +119,14 @@ module _ (m n : Names) (t u : Told) (e f : Engine) (more : List Output) (none : 
           told = asked.told;
           asking =
               record {
-                follows = λ stays written count. (asks_by (set (view_of n u) stays written) view (alike_itself n u) refl count).0;
+                follows = λ written count. (asks_by (set (view_of n u) (staying e.stays) written) view (alike_itself n u) refl count).0;
                 asks_is =
-                    λ stays written count.
-                    ap (step (limits_of stays e))
+                    λ written count.
+                    ap (step (limits_of e))
                     (sym (same_state (view_of n u) (view_of m t) e.search e.doing written (ready.stable (view_of n u) view (alike_view m n t u later))))
-                    ∙ (asks_by (set (view_of n u) stays written) view (alike_itself n u) refl count).1;
+                    ∙ (asks_by (set (view_of n u) (staying e.stays) written) view (alike_itself n u) refl count).1;
               };
-          stands = λ stays written count. (asks_by (set (view_of n u) stays written) view (alike_itself n u) refl count).2;
+          stands = λ written count. (asks_by (set (view_of n u) (staying e.stays) written) view (alike_itself n u) refl count).2;
         }
 
     led_alike : (o : List Output) → solution_count o ≡ e.solutions_found → (v : View) → IsView v → IsAlike n u v

@@ -1,10 +1,10 @@
 -- What an engine comes to by a step after entries of others, or by a request.
-use Rattle.std.proofs.Common.{◌≡◌, ◌+◌, List, [], ◌++◌, Option, None, refl, sym, ap, ap₂, subst, ◌∙◌, arith, append-nil, append_assoc}
+use Rattle.std.proofs.Common.{◌≡◌, ◌+◌, List, [], ◌++◌, Option, None, refl, sym, ap, subst, ◌∙◌, arith, append-nil, append_assoc}
 use Rattle.pl_term.specs.Tree.{Chars}
 use Rattle.pl_model.specs.History.{History, Kind}
 use Rattle.pl_model.specs.Requests.{Request, Reply}
 use Rattle.pl_model.specs.Service.{answers, entry_by, served_now}
-use Rattle.pl_model.specs.Resolution.{failing, Limits, Output, State, asks, solution_count}
+use Rattle.pl_model.specs.Resolution.{failing, Output, State, asks, solution_count}
 use Rattle.pl_model.specs.Control.{step}
 use Rattle.atom_api.specs.Names.{Names}
 use Rattle.world_api.specs.Texts.{Holds}
@@ -13,25 +13,20 @@ use Rattle.world_api.specs.Answers.{seen_as}
 use Rattle.iso_search.specs.Outcomes.{Setting, limits_in}
 use Rattle.iso_search.specs.Reading.{IsView, View}
 use Rattle.iso_search.specs.Searching.{IsWhole}
-use Rattle.iso_search.specs.declared.search.Budgets.{Budgets}
 use Rattle.iso_engine.specs.Called.{IsAsked}
 use Rattle.iso_engine.specs.declared.engine.Engine.{Engine}
 use Rattle.iso_engine.specs.Advancing.{Advances}
 use Rattle.iso_engine.specs.Asking.{IsAnswered}
 use Rattle.iso_engine.specs.Views.{IsLater, view_of}
-use Rattle.iso_engine.specs.Ready.{IsAlike, IsReady, IsStable, StepsFrom}
+use Rattle.iso_engine.specs.Ready.{IsAlike, IsReady, IsStable, StepsAs, StepsFrom}
 use Rattle.iso_engine.specs.Spending.{IsSpent}
-use Rattle.iso_engine.specs.Standing.{limits_of, state_at, state_now}
+use Rattle.iso_engine.specs.Standing.{aims_of, limits_of, staying, state_at, state_now}
 use Rattle.iso_engine.proofs.Alike.{alike_itself, alike_view, visits_more, visits_same}
 use Rattle.iso_engine.proofs.Spending.{Spends, step_spends}
-use Rattle.iso_engine.proofs.Stability.{advance_asks, advance_from, advance_seen, advance_then, history_of, ready_from, ready_later, same_state, some_output, spent_from}
+use Rattle.iso_engine.proofs.Stability.{advance_as, advance_asks, advance_seen, advance_then, history_of, limits_same, ready_later, same_state, some_output, spent_as, stable_as, steps_as}
 
 pub asks_same : (q r : Request) (f g : Reply → State) → asks q f ≡ asks r g → f ≡ g
 asks_same q r f g e = cc
-
-pub limits_same : (e f : Engine) → f.search.budgets ≡ e.search.budgets → f.solution_limit ≡ e.solution_limit → (stays : Option Chars) → limits_of stays f ≡ limits_of stays e
-limits_same e f budgets wanted stays =
-    ap₂ (λ (b : Budgets) w. let l : Limits = record { inferences = b.inferences; cells = b.cells; choices = b.choices; solutions = w; stays = stays } in l) budgets wanted
 
 module _ (m n : Names) (t u : Told) (e f : Engine) (holds : Holds m n) (view : IsView (view_of n u)) (ready : IsReady m t e) where
   abbrev pub IsMoved : Type 0
@@ -52,14 +47,23 @@ module _ (m n : Names) (t u : Told) (e f : Engine) (holds : Holds m n) (view : I
     pub seen_ready : IsReady n u e
     seen_ready = ready_later m n t u e view seen_later (visits_same t u (ap (λ (x : Told). x.gens) told)) ready
 
-    -- A step was made after them.
-    pub seen_moved : StepsFrom n u e.solution_limit e.solutions_found e.search e.doing f.search f.doing → f.search.budgets ≡ e.search.budgets → f.solution_limit ≡ e.solution_limit
-        → f.solutions_found ≡ e.solutions_found → IsWhole f.search → IsMoved
-    seen_moved steps budgets wanted given whole = (
-      advance_then 0 1 m n n t u u e e f [] [] (advance_seen m n t u e before ready.stable view follows told holds) (advance_from n u e f steps budgets wanted given view),
-      ready_from n u e f steps whole view seen_ready,
-      spent_from n u e.solution_limit e.solutions_found e.search e.doing f.search f.doing steps view,
+    -- A step was made after them, of an engine that stays so.
+    pub seen_as_moved : StepsAs (staying e.stays) n u e.solution_limit e.solutions_found e.search e.doing f.search f.doing → f.search.budgets ≡ e.search.budgets
+        → aims_of f ≡ aims_of e → f.solutions_found ≡ e.solutions_found → IsWhole f.search → IsMoved
+    seen_as_moved steps budgets wanted given whole = (
+      advance_then 0 1 m n n t u u e e f [] [] (advance_seen m n t u e before ready.stable view follows told holds) (advance_as n u e f steps budgets wanted given view),
+      record {
+        whole = whole;
+        stable = stable_as (staying e.stays) n u e.solution_limit e.solutions_found e.search e.doing f.search f.doing steps view seen_ready.stable;
+      },
+      spent_as (staying e.stays) n u e.solution_limit e.solutions_found e.search e.doing f.search f.doing steps view,
     )
+
+    -- A step was made after them.
+    pub seen_moved : StepsFrom n u e.solution_limit e.solutions_found e.search e.doing f.search f.doing → f.search.budgets ≡ e.search.budgets → aims_of f ≡ aims_of e
+        → f.solutions_found ≡ e.solutions_found → IsWhole f.search → IsMoved
+    seen_moved steps =
+        seen_as_moved (steps_as (staying e.stays) n u e.solution_limit e.solutions_found e.search e.doing f.search f.doing steps)
 
   -- The engine asks, and stands where the reply leads to, by each view by which it may be read from then on.
   abbrev pub AsksFrom : Request → Reply → Type 0
@@ -102,16 +106,16 @@ module _ (m n : Names) (t u : Told) (e f : Engine) (holds : Holds m n) (view : I
             told = asked.told;
             asking =
                 record {
-                  follows = λ stays written count. (asks_from (set (view_of n u) stays written) view (alike_itself n u) refl count).0;
+                  follows = λ written count. (asks_from (set (view_of n u) (staying e.stays) written) view (alike_itself n u) refl count).0;
                   asks_is =
-                      λ stays written count.
-                      ap (step (limits_of stays e))
+                      λ written count.
+                      ap (step (limits_of e))
                       (sym (same_state (view_of n u) (view_of m t) e.search e.doing written (ready.stable (view_of n u) view (alike_view m n t u asked_later))))
-                      ∙ (asks_from (set (view_of n u) stays written) view (alike_itself n u) refl count).1;
+                      ∙ (asks_from (set (view_of n u) (staying e.stays) written) view (alike_itself n u) refl count).1;
                 };
             stands =
-                λ stays written count.
-                (asks_from (set (view_of n u) stays written) view (alike_itself n u) refl count).2 ∙ ap (state_now (view_of n u) f) (sym (append-nil written));
+                λ written count.
+                (asks_from (set (view_of n u) (staying e.stays) written) view (alike_itself n u) refl count).2 ∙ ap (state_now (view_of n u) f) (sym (append-nil written));
           }
 
       led_alike : (o : List Output) → solution_count o ≡ e.solutions_found → (v : View) → IsView v → IsAlike n u v
@@ -141,7 +145,7 @@ module _ (m n : Names) (t u : Told) (e f : Engine) (holds : Holds m n) (view : I
           in subst (λ (s : State). IsSpent e.search.inferences s.inferences) there.2 (most reply)
 
       -- The request was answered.
-      pub asked_moved : f.search.budgets ≡ e.search.budgets → f.solution_limit ≡ e.solution_limit → f.solutions_found ≡ e.solutions_found → IsWhole f.search → IsMoved
+      pub asked_moved : f.search.budgets ≡ e.search.budgets → aims_of f ≡ aims_of e → f.solutions_found ≡ e.solutions_found → IsWhole f.search → IsMoved
       asked_moved budgets wanted given whole = (
         advance_asks m n t u e f [] answered holds (limits_same e f budgets wanted) (given ∙ (let k : e.solutions_found ≡ e.solutions_found + 0 = omega arith in k)),
         record { whole = whole; stable = stable },

@@ -32,7 +32,7 @@ listed_read v view Retracting t over = head_read v view t over
 left_of : (P : ℕ → Type 0) (xs ys : List ℕ) → All P (xs ++ ys) → All P xs
 left_of P xs ys h = subst (All P) (take-append_seam xs ys) (All-take P (length xs) (xs ++ ys) h)
 
-head_held : (m : Names) (t : Tree) → All (λ a. IsSome (m a)) (atoms_in t) → All (λ a. IsSome (m a)) (atoms_in (head_in t))
+pub head_held : (m : Names) (t : Tree) → All (λ a. IsSome (m a)) (atoms_in t) → All (λ a. IsSome (m a)) (atoms_in (head_in t))
 head_held m (var x) h = h
 head_held m (int i) h = h
 head_held m (atom a) h = h

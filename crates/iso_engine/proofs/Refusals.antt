@@ -55,6 +55,10 @@ refused_on T r w is P h = subst (λ x. OnOk (as_stopped x) P) (sym is) (go w h)
     go (Worn word) k = k
     go Memory k = tt
 
+-- What holds of the refusal holds of it by its name.
+pub refusal_is : (T : Type 0) (w v : Unserved) (P : Type 0) → w ≡ v → OnRefusal {T = T} (Err w) P → OnRefusal {T = T} (Err v) P
+refusal_is T w v P is h = subst (λ (x : Unserved). OnRefusal {T = T} (Err x) P) is h
+
 pub on_refusal : (T : Type 0) (w : Unserved) {P : Type 0} → P → OnRefusal {T = T} (Err w) P
 on_refusal T (NeedsAtoms p) h = h
 on_refusal T (Retry c) h = h

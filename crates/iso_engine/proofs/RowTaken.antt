@@ -32,7 +32,7 @@ use Rattle.iso_engine.specs.Ready.{IsReady, StepsFrom}
 use Rattle.iso_engine.specs.Rows.{IsGivenText, IsRowAt, IsRowText, LeadsTo}
 use Rattle.iso_engine.specs.Retrying.{IsTakenBack}
 use Rattle.iso_engine.specs.Slices.{IsStepped}
-use Rattle.iso_engine.specs.Standing.{doing_of, state_at}
+use Rattle.iso_engine.specs.Standing.{doing_of, state_at, aims_of}
 use Rattle.iso_engine.proofs.Followed.{goal_done, run_setting}
 use Rattle.iso_engine.proofs.Moving.{IsMoved, seen_moved}
 use Rattle.iso_engine.proofs.Opening.{goal_held}
@@ -84,7 +84,7 @@ module _ (m n : Names) (t : Told) (e f : Engine) (r : RowGoal) (list cut rest : 
   procedure = record { name = r.name; arity = r.arguments.count }
 
   -- The goal was run.
-  pub led_moved : (o : Outcome) → LeadsTo n e.search r rest f.search o → f.solution_limit ≡ e.solution_limit → f.solutions_found ≡ e.solutions_found
+  pub led_moved : (o : Outcome) → LeadsTo n e.search r rest f.search o → aims_of f ≡ aims_of e → f.solutions_found ≡ e.solutions_found
       → IsFollowedAs f rest procedure o → IsMoved m n t t e f holds view ready
   led_moved o leads wanted given follows =
       let steps : StepsFrom n t e.solution_limit e.solutions_found e.search e.doing f.search f.doing =

@@ -20,7 +20,7 @@ use Rattle.iso_search.proofs.Texts.{texts_apart}
 use Rattle.iso_engine.specs.declared.doing.Doing.TheVariants.{Running, Answering}
 use Rattle.iso_engine.specs.declared.engine.Engine.{Engine}
 use Rattle.iso_engine.specs.Views.{IsLater, view_of}
-use Rattle.iso_engine.specs.Standing.{doing_of, limits_of, state_at, state_now}
+use Rattle.iso_engine.specs.Standing.{doing_of, limits_of, state_at, state_now, staying}
 use Rattle.iso_engine.specs.Ready.{IsReady, IsStable}
 use Rattle.iso_engine.specs.Advancing.{Advances}
 use Rattle.iso_engine.specs.Asking.{IsAnswered, IsAsking}
@@ -71,11 +71,11 @@ module _ (m n : Names) (t u : Told) (e f : Engine) (list : ℕ) (ops : OperatorT
   abbrev asking : e.doing ≡ Running list → tasks e.search.frames.items list ≡ [] → IsAsking m t e look
   asking doing none =
       record {
-        follows = λ stays written count. with_solution (state_at (view_of m t) e.search (Running list) written) (node m t);
+        follows = λ written count. with_solution (state_at (view_of m t) e.search (Running list) written) (node m t);
         asks_is =
-            λ stays written count.
-            ap (λ d. step (limits_of stays e) (state_at (view_of m t) e.search d written)) doing
-            ∙ step_done (record { view = view_of m t; solutions = e.solution_limit; stays = stays; doing = answering; output = written }) e.search list none;
+            λ written count.
+            ap (λ d. step (limits_of e) (state_at (view_of m t) e.search d written)) doing
+            ∙ step_done (record { view = view_of m t; solutions = e.solution_limit; stays = staying e.stays; doing = answering; output = written }) e.search list none;
       }
 
   answered : e.doing ≡ Running list → tasks e.search.frames.items list ≡ [] → IsGiven → IsStable m t e.search e.doing → IsView (view_of n u) → Holds m n → Looks t ops u
@@ -94,7 +94,7 @@ module _ (m n : Names) (t u : Told) (e f : Engine) (list : ℕ) (ops : OperatorT
         served = looks.served;
         told = looks.told;
         asking = asking doing none;
-        stands = λ stays written count. stands written is same.0 (ap (λ (x : Node). x.answer) node_same);
+        stands = λ written count. stands written is same.0 (ap (λ (x : Node). x.answer) node_same);
       }
 
   looked_later : Holds m n → Looks t ops u → IsLater m t n u
@@ -114,7 +114,7 @@ module _ (m n : Names) (t u : Told) (e f : Engine) (list : ℕ) (ops : OperatorT
       → Advances 1 m t e n u f (solution ops (answer_of n u f) ∷ [])
   solved doing none is stable view holds looks =
       advance_asks m n t u e f (solution ops (answer_of n u f) ∷ []) (answered doing none is stable view holds looks (looked_later holds looks)) holds
-      (λ stays. ap (limits_of stays) is)
+      (ap limits_of is)
       (ap (λ (x : Engine). x.solutions_found) is)
 
   -- What was given stands so from then on.

@@ -13,6 +13,7 @@ use Rattle.world_api.specs.Told.{Told, Follows}
 use Rattle.world_api.specs.Answers.{seen_as}
 use Rattle.world_api.specs.SearchSteps.{SearchSteps}
 use Rattle.world_api.proofs.SearchStepLaws.{steps_ask, steps_follow, steps_go, steps_stay, steps_join}
+use Rattle.iso_search.specs.declared.search.Budgets.{Budgets}
 use Rattle.iso_search.specs.declared.search.Search.{Search}
 use Rattle.iso_search.specs.Outcomes.{Setting, limits_in}
 use Rattle.iso_search.specs.Reading.{IsView, View}
@@ -21,8 +22,8 @@ use Rattle.iso_engine.specs.declared.doing.Doing.{Doing}
 use Rattle.iso_engine.specs.declared.doing.Doing.TheVariants.{Failing}
 use Rattle.iso_engine.specs.declared.engine.Engine.{Engine}
 use Rattle.iso_engine.specs.Views.{IsLater, view_of}
-use Rattle.iso_engine.specs.Standing.{doing_of, limits_of, state_at, state_now}
-use Rattle.iso_engine.specs.Ready.{IsAlike, IsReady, IsStable, Steps, StepsFrom}
+use Rattle.iso_engine.specs.Standing.{Aims, aims_of, doing_of, limits_of, staying, state_at, state_now}
+use Rattle.iso_engine.specs.Ready.{IsAlike, IsReady, IsStable, Steps, StepsAs, StepsFrom}
 use Rattle.iso_engine.specs.Advancing.{Advances}
 use Rattle.iso_engine.specs.Asking.{IsAnswered}
 use Rattle.iso_engine.specs.Spending.{IsSpent}
@@ -53,17 +54,29 @@ same_state v w e d out h = ap₂ (λ x cs. with_doing x cs e out) h.1 h.0
 pub steps_from : (m : Names) (t : Told) (wanted given : ℕ) (e : Search) (d : Doing) (f : Search) (x : Doing) → Steps wanted given e d f x → StepsFrom m t wanted given e d f x
 steps_from m t wanted given e d f x steps r view alike wants gave = steps r view wants gave
 
-module _ (m : Names) (t : Told) (wanted given : ℕ) (e : Search) (d : Doing) (f : Search) (x : Doing) (steps : StepsFrom m t wanted given e d f x) where
+-- The same whatever thread_exit/1 leaves.
+pub steps_as : (keep : Option Chars) (m : Names) (t : Told) (wanted given : ℕ) (e : Search) (d : Doing) (f : Search) (x : Doing) → StepsFrom m t wanted given e d f x
+    → StepsAs keep m t wanted given e d f x
+steps_as keep m t wanted given e d f x steps r view alike keeps wants gave = steps r view alike wants gave
+
+pub limits_same : (e f : Engine) → f.search.budgets ≡ e.search.budgets → aims_of f ≡ aims_of e → limits_of f ≡ limits_of e
+limits_same e f budgets wanted =
+    ap₂
+    (λ (b : Budgets) (w : Aims). let l : Limits = record { inferences = b.inferences; cells = b.cells; choices = b.choices; solutions = w.wanted; stays = staying w.stays } in l)
+    budgets wanted
+
+module _ (keep : Option Chars) (m : Names) (t : Told) (wanted given : ℕ) (e : Search) (d : Doing) (f : Search) (x : Doing)
+    (steps : StepsAs keep m t wanted given e d f x) where
   abbrev setting : View → List Output → Setting
-  setting v out = record { view = v; solutions = wanted; stays = None; doing = failing; output = out }
+  setting v out = record { view = v; solutions = wanted; stays = keep; doing = failing; output = out }
 
   led : (v : View) → IsView v → IsAlike m t v → (out : List Output) → solution_count out ≡ given
       → step (limits_in (setting v out) e) (state_at v e d out) ≡ goes (state_at v f x out)
-  led v view alike out count = steps (setting v out) view alike refl count
+  led v view alike out count = steps (setting v out) view alike refl refl count
 
   -- What a stable state leads to is stable.
-  pub stable_then : IsView (view_of m t) → IsStable m t e d → IsStable m t f x
-  stable_then view stable v other alike =
+  pub stable_as : IsView (view_of m t) → IsStable m t e d → IsStable m t f x
+  stable_as view stable v other alike =
       let o = some_output given
       in let l = limits_in (setting v o.0) e
       in let same : state_at v f x o.0 ≡ state_at (view_of m t) f x o.0 =
@@ -74,44 +87,62 @@ module _ (m : Names) (t : Told) (wanted given : ℕ) (e : Search) (d : Doing) (f
       in (ap (λ (s : State). s.choices) same, ap (λ (s : State). s.doing) same)
 
   -- A step makes at most one inference.
-  pub spent_from : IsView (view_of m t) → IsSpent e.inferences f.inferences
-  spent_from view =
+  pub spent_as : IsView (view_of m t) → IsSpent e.inferences f.inferences
+  spent_as view =
       let o = some_output given
       in let r = setting (view_of m t) o.0
-      in subst (Spends e.inferences) (steps r view (alike_itself m t) refl o.1) (step_spends (limits_in r e) (state_at (view_of m t) e d o.0))
+      in subst (Spends e.inferences) (steps r view (alike_itself m t) refl refl o.1) (step_spends (limits_in r e) (state_at (view_of m t) e d o.0))
+
+pub stable_then : (m : Names) (t : Told) (wanted given : ℕ) (e : Search) (d : Doing) (f : Search) (x : Doing) → StepsFrom m t wanted given e d f x
+    → IsView (view_of m t) → IsStable m t e d → IsStable m t f x
+stable_then m t wanted given e d f x steps = stable_as None m t wanted given e d f x (steps_as None m t wanted given e d f x steps)
+
+pub spent_from : (m : Names) (t : Told) (wanted given : ℕ) (e : Search) (d : Doing) (f : Search) (x : Doing) → StepsFrom m t wanted given e d f x
+    → IsView (view_of m t) → IsSpent e.inferences f.inferences
+spent_from m t wanted given e d f x steps = spent_as None m t wanted given e d f x (steps_as None m t wanted given e d f x steps)
 
 -- One step more.
-pub advance_from : (m : Names) (t : Told) (e f : Engine)
-    → StepsFrom m t e.solution_limit e.solutions_found e.search e.doing f.search f.doing
+pub advance_as : (m : Names) (t : Told) (e f : Engine)
+    → StepsAs (staying e.stays) m t e.solution_limit e.solutions_found e.search e.doing f.search f.doing
     → f.search.budgets ≡ e.search.budgets
-    → f.solution_limit ≡ e.solution_limit
+    → aims_of f ≡ aims_of e
     → f.solutions_found ≡ e.solutions_found
     → IsView (view_of m t)
     → Advances 1 m t e m t f []
-advance_from m t e f steps budgets wanted given view =
+advance_as m t e f steps budgets wanted given view =
     record {
       by_steps =
-          λ stays written count.
+          λ written count.
           steps_go
-          (limits_of stays e)
+          (limits_of e)
           (state_now (view_of m t) e written)
           (state_now (view_of m t) e written)
           (state_now (view_of m t) f (written ++ []))
           t
           t
           0
-          (steps_stay (limits_of stays e) (state_now (view_of m t) e written) t)
-          (steps (record { view = view_of m t; solutions = e.solution_limit; stays = stays; doing = failing; output = written }) view (alike_itself m t) refl count
+          (steps_stay (limits_of e) (state_now (view_of m t) e written) t)
+          (steps (record { view = view_of m t; solutions = e.solution_limit; stays = staying e.stays; doing = failing; output = written }) view (alike_itself m t) refl refl count
           ∙ ap (λ out. goes (state_now (view_of m t) f out)) (sym (append-nil written)));
-      limits = λ stays. ap₂ (λ b w. let l : Limits = record { inferences = b.inferences; cells = b.cells; choices = b.choices; solutions = w; stays = stays } in l) budgets wanted;
+      limits = limits_same e f budgets wanted;
       given = given ∙ (let n : e.solutions_found ≡ e.solutions_found + 0 = omega arith in n);
       later = later_stays m t;
     }
 
+pub advance_from : (m : Names) (t : Told) (e f : Engine)
+    → StepsFrom m t e.solution_limit e.solutions_found e.search e.doing f.search f.doing
+    → f.search.budgets ≡ e.search.budgets
+    → aims_of f ≡ aims_of e
+    → f.solutions_found ≡ e.solutions_found
+    → IsView (view_of m t)
+    → Advances 1 m t e m t f []
+advance_from m t e f steps budgets wanted given view =
+    advance_as m t e f (steps_as (staying e.stays) m t e.solution_limit e.solutions_found e.search e.doing f.search f.doing steps) budgets wanted given view
+
 pub advance_step : (m : Names) (t : Told) (e f : Engine)
     → Steps e.solution_limit e.solutions_found e.search e.doing f.search f.doing
     → f.search.budgets ≡ e.search.budgets
-    → f.solution_limit ≡ e.solution_limit
+    → aims_of f ≡ aims_of e
     → f.solutions_found ≡ e.solutions_found
     → IsView (view_of m t)
     → Advances 1 m t e m t f []
@@ -123,10 +154,10 @@ pub advance_none : (m : Names) (t : Told) (e : Engine) → Advances 0 m t e m t 
 advance_none m t e =
     record {
       by_steps =
-          λ stays written count.
-          subst (λ out. SearchSteps (limits_of stays e) (state_now (view_of m t) e written) t 0 (state_now (view_of m t) e out) t) (sym (append-nil written))
-          (steps_stay (limits_of stays e) (state_now (view_of m t) e written) t);
-      limits = λ stays. refl;
+          λ written count.
+          subst (λ out. SearchSteps (limits_of e) (state_now (view_of m t) e written) t 0 (state_now (view_of m t) e out) t) (sym (append-nil written))
+          (steps_stay (limits_of e) (state_now (view_of m t) e written) t);
+      limits = refl;
       given = (let n : e.solutions_found ≡ e.solutions_found + 0 = omega arith in n);
       later = later_stays m t;
     }
@@ -144,11 +175,11 @@ pub advance_then : (k j : ℕ) (m n r : Names) (t u w : Told) (e f g : Engine) (
 advance_then k j m n r t u w e f g xs ys a b =
     record {
       by_steps =
-          λ stays written count.
+          λ written count.
           let here : solution_count (written ++ xs) ≡ f.solutions_found =
           count-append written xs ∙ ap (λ c. c + solution_count xs) count ∙ sym a.given
           in steps_join
-          (limits_of stays e)
+          (limits_of e)
           (state_now (view_of m t) e written)
           (state_now (view_of n u) f (written ++ xs))
           (state_now (view_of r w) g (written ++ (xs ++ ys)))
@@ -157,13 +188,13 @@ advance_then k j m n r t u w e f g xs ys a b =
           w
           k
           j
-          (a.by_steps stays written count)
-          (subst (λ out. SearchSteps (limits_of stays e) (state_now (view_of n u) f (written ++ xs)) u j (state_now (view_of r w) g out) w)
+          (a.by_steps written count)
+          (subst (λ out. SearchSteps (limits_of e) (state_now (view_of n u) f (written ++ xs)) u j (state_now (view_of r w) g out) w)
           (append_assoc written xs ys)
           (subst (λ l. SearchSteps l (state_now (view_of n u) f (written ++ xs)) u j (state_now (view_of r w) g ((written ++ xs) ++ ys)) w)
-          (a.limits stays)
-          (b.by_steps stays (written ++ xs) here)));
-      limits = λ stays. b.limits stays ∙ a.limits stays;
+          a.limits
+          (b.by_steps (written ++ xs) here)));
+      limits = b.limits ∙ a.limits;
       given = b.given ∙ ap (λ c. c + solution_count ys) a.given ∙ (let q : (e.solutions_found + solution_count xs) + solution_count ys ≡ e.solutions_found + (solution_count xs + solution_count ys) = omega arith in q) ∙ ap (λ c. e.solutions_found + c) (sym (count-append xs ys));
       later = later_then m n r t u w a.later b.later;
     }
@@ -185,16 +216,16 @@ answered_later m n t u e f more a holds =
 pub advance_asks : (m n : Names) (t u : Told) (e f : Engine) (more : List Output)
     → IsAnswered m t e n u f more
     → Holds m n
-    → ((stays : Option Chars) → limits_of stays f ≡ limits_of stays e)
+    → limits_of f ≡ limits_of e
     → f.solutions_found ≡ e.solutions_found + solution_count more
     → Advances 1 m t e n u f more
 advance_asks m n t u e f more a holds limits given =
     record {
       by_steps =
-          λ stays written count.
-          let here : SearchSteps (limits_of stays e) (state_now (view_of m t) e written) t 1 (a.asking.follows stays written count a.reply) (seen_as t (a.before ++ entry_by t.engine a.update) (t.gens ++ length a.before ∷ [])) =
+          λ written count.
+          let here : SearchSteps (limits_of e) (state_now (view_of m t) e written) t 1 (a.asking.follows written count a.reply) (seen_as t (a.before ++ entry_by t.engine a.update) (t.gens ++ length a.before ∷ [])) =
           steps_ask
-          (limits_of stays e)
+          (limits_of e)
           (state_now (view_of m t) e written)
           (state_now (view_of m t) e written)
           t
@@ -202,15 +233,15 @@ advance_asks m n t u e f more a holds limits given =
           0
           a.before
           a.request
-          (a.asking.follows stays written count)
+          (a.asking.follows written count)
           a.reply
           a.update
-          (steps_stay (limits_of stays e) (state_now (view_of m t) e written) t)
+          (steps_stay (limits_of e) (state_now (view_of m t) e written) t)
           a.entries
-          (a.asking.asks_is stays written count)
+          (a.asking.asks_is written count)
           a.served
-          in subst (λ s. SearchSteps (limits_of stays e) (state_now (view_of m t) e written) t 1 s u) (a.stands stays written count)
-          (subst (λ w. SearchSteps (limits_of stays e) (state_now (view_of m t) e written) t 1 (a.asking.follows stays written count a.reply) w) (sym a.told) here);
+          in subst (λ s. SearchSteps (limits_of e) (state_now (view_of m t) e written) t 1 s u) (a.stands written count)
+          (subst (λ w. SearchSteps (limits_of e) (state_now (view_of m t) e written) t 1 (a.asking.follows written count a.reply) w) (sym a.told) here);
       limits = limits;
       given = given;
       later = answered_later m n t u e f more a holds;
@@ -234,14 +265,14 @@ advance_seen m n t u e before stable view entries told holds =
     }
     in record {
       by_steps =
-          λ stays written count.
-          let l = limits_of stays e
+          λ written count.
+          let l = limits_of e
           in let s = state_now (view_of m t) e written
           in let there : SearchSteps l s t 0 s (seen_as t before t.gens) = steps_follow l s s t t 0 before (steps_stay l s t) entries
           in subst (λ out. SearchSteps l s t 0 (state_now (view_of n u) e out) u) (sym (append-nil written))
           (subst (λ r. SearchSteps l s t 0 r u) (sym (same_state (view_of n u) (view_of m t) e.search e.doing written (stable (view_of n u) view (alike_view m n t u later))))
           (subst (λ w. SearchSteps l s t 0 s w) (sym told) there));
-      limits = λ stays. refl;
+      limits = refl;
       given = (let q : e.solutions_found ≡ e.solutions_found + 0 = omega arith in q);
       later = later;
     }
@@ -317,15 +348,15 @@ module _ (e f : Engine) (choices : (v : View) → choices_of v f.search ≡ choi
             );
       }
 
-  pub restored_advances : (m : Names) (t : Told) → f.search.budgets ≡ e.search.budgets → f.solution_limit ≡ e.solution_limit → f.solutions_found ≡ e.solutions_found → Advances 0 m t e m t f []
+  pub restored_advances : (m : Names) (t : Told) → f.search.budgets ≡ e.search.budgets → aims_of f ≡ aims_of e → f.solutions_found ≡ e.solutions_found → Advances 0 m t e m t f []
   restored_advances m t budgets wanted given =
       record {
         by_steps =
-            λ stays written count.
-            subst (λ s. SearchSteps (limits_of stays e) (state_now (view_of m t) e written) t 0 s t)
+            λ written count.
+            subst (λ s. SearchSteps (limits_of e) (state_now (view_of m t) e written) t 0 s t)
             (sym (restored (view_of m t) written) ∙ ap (state_now (view_of m t) f) (sym (append-nil written)))
-            (steps_stay (limits_of stays e) (state_now (view_of m t) e written) t);
-        limits = λ stays. ap₂ (λ b w. let l : Limits = record { inferences = b.inferences; cells = b.cells; choices = b.choices; solutions = w; stays = stays } in l) budgets wanted;
+            (steps_stay (limits_of e) (state_now (view_of m t) e written) t);
+        limits = limits_same e f budgets wanted;
         given = given ∙ (let q : e.solutions_found ≡ e.solutions_found + 0 = omega arith in q);
         later = later_stays m t;
       }

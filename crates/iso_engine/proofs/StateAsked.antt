@@ -1,27 +1,27 @@
 -- Goals of the shared state that ask.
-use Rattle.std.proofs.Common.{◌≡◌, ◌⊎◌, ℕ, suc, ◌<◌, ◌≤◌, ◌^◌, true, List, [], ◌∷◌, ◌++◌, length, Option, Some, IsSome, inl, inr, refl, sym, ap, ap₂, subst, ◌∙◌, arith}
+use Rattle.std.proofs.Common.{◌≡◌, ℕ, ◌<◌, ◌≤◌, ◌^◌, true, List, Option, Some, IsSome, inr, refl, sym, ap, subst, ◌∙◌, arith}
 use Rattle.std.specs.List.{All, Contains}
 use Rattle.std.specs.Str.{all_scalars}
 use Rattle.pl_term.specs.Texts.{size}
 use Rattle.pl_term.specs.Tree.{Chars, Tree}
 use Rattle.pl_model.specs.Balls.{error_ball}
 use Rattle.pl_model.specs.BuiltinRows as rows
-use Rattle.pl_model.specs.Control.{name_of, raised, with_row}
+use Rattle.pl_model.specs.Control.{name_of, with_row}
 use Rattle.pl_model.specs.History.{History, Kind}
 use Rattle.pl_model.specs.Predicates.{proc_of}
 use Rattle.pl_model.specs.Requests.{Reply, Request}
-use Rattle.pl_model.specs.Resolution.{State, throwing}
-use Rattle.pl_model.specs.Service.{Served, answers, on_of, served_now, waits}
+use Rattle.pl_model.specs.Resolution.{throwing}
+use Rattle.pl_model.specs.Service.{Served, answers, served_now, waits}
 use Rattle.pl_model.specs.SharedBuiltins.{asks_for, shared}
 use Rattle.pl_model.specs.Terms.{arguments}
 use Rattle.atom_api.specs.Names.{FixedStand, Names}
-use Rattle.term_store.specs.ArgumentKeys.{clause_key, key_atoms}
+use Rattle.term_store.specs.ArgumentKeys.{clause_key}
 use Rattle.term_store.specs.declared.argument_key.ArgumentKey.{ArgumentKey}
 use Rattle.term_store.specs.NumberedNames.{names_of, term_by}
 use Rattle.world_api.specs.declared.answer.On.{On}
 use Rattle.world_api.specs.declared.reply.Reply.{Reply as SharedReply}
 use Rattle.world_api.specs.declared.visit.Visit.{Visit}
-use Rattle.world_api.specs.declared.visit.Visit.TheVariants.{Look, ReadOperators, Call, Inspect, Retract, Clear, Next, Erase, AssertFirst, AssertLast, Consult, Abolish, MakeDynamic, AllProcedures, PutOperators, PutFlag, AllFlags, OwnName, CreateThread, StartGoal, JoinThread, SendMessage, GetMessage, PeekMessage, CreateQueue, DestroyQueue, CollectAtoms, CollectClauses}
+use Rattle.world_api.specs.declared.visit.Visit.TheVariants.{Look, ReadOperators, Call, Inspect, Retract, Clear, Next, Erase, AssertFirst, AssertLast, Consult, Abolish, MakeDynamic, AllProcedures, PutOperators, AllOperators, PutFlag, AllFlags, OwnName, CreateThread, StartGoal, JoinThread, SendMessage, GetMessage, PeekMessage, CreateQueue, DestroyQueue, CollectAtoms, CollectClauses}
 use Rattle.world_api.specs.Answers.{CanVisit, IsServed, IsWaiting, Serves, on_names}
 use Rattle.world_api.specs.Asked.{IsInAnswer, IsInReply, StandsIn}
 use Rattle.world_api.specs.Gains.{Gains}
@@ -34,8 +34,8 @@ use Rattle.world_builtins.specs.Naming.{IsHeldAt}
 use Rattle.world_builtins.specs.Spelling as written
 use Rattle.iso_search.specs.declared.outcome.Outcome.{Outcome}
 use Rattle.iso_search.specs.declared.search.Search.{Search}
-use Rattle.iso_search.specs.Outcomes.{IsAfter, Setting, limits_in, state_in}
-use Rattle.iso_search.specs.Reading.{IsView, reads}
+use Rattle.iso_search.specs.Outcomes.{IsAfter, limits_in, state_in}
+use Rattle.iso_search.specs.Reading.{reads}
 use Rattle.iso_search.specs.Searching.{node_of, state_of}
 use Rattle.shared_builtins.specs.declared.goal.StateGoal.{StateGoal}
 use Rattle.shared_builtins.specs.Replies.{IsReplyTo, renumbered_reply, renumbered_served}
@@ -45,8 +45,7 @@ use Rattle.shared_builtins.proofs.Renumbering.{handed_renumbered, on_renumbered,
 use Rattle.iso_engine.specs.declared.state.asked.Asked.{Asked}
 use Rattle.iso_engine.specs.declared.state.asked.Asked.TheVariants.{Ran, Refused, Waits}
 use Rattle.iso_engine.specs.Called as called
-use Rattle.iso_engine.specs.State.{IsAnswered, IsGoalAsked, IsHeldUp, IsReplyLed, IsStateAsked, IsStateAt, IsVisitFor, refused_led}
-use Rattle.iso_engine.specs.Wrote.{led, taken}
+use Rattle.iso_engine.specs.State.{IsGoalAsked, IsHeldUp, IsReplyLed, IsStateAsked, IsStateAt, IsVisitFor}
 use Rattle.iso_search.proofs.After.{after_behind}
 use Rattle.iso_search.proofs.Texts.{texts_apart}
 use Rattle.iso_engine.proofs.Equals.{keeps_counted}
@@ -71,6 +70,7 @@ module _ (text new_text : ℕ → Chars) (q : Request) where
   as_served (MakeDynamic ps) a r g old before new s = s
   as_served AllProcedures a r g old before new s = s
   as_served (PutOperators p k fs) a r g old before new s = s
+  as_served AllOperators a r g old before new s = s
   as_served (PutFlag f v) a r g old before new s = s
   as_served AllFlags a r g old before new s = s
   as_served OwnName a r g old before new s = s
@@ -101,6 +101,7 @@ module _ (text new_text : ℕ → Chars) (q : Request) where
   can_visit (MakeDynamic ps) asks t = tt
   can_visit AllProcedures asks t = tt
   can_visit (PutOperators p k fs) asks t = tt
+  can_visit AllOperators asks t = tt
   can_visit (PutFlag f v) asks t = tt
   can_visit AllFlags asks t = tt
   can_visit OwnName asks t = tt
@@ -117,8 +118,8 @@ module _ (text new_text : ℕ → Chars) (q : Request) where
 
   pub stands_in : (v : Visit Tree ArgumentKey) → Asks term_by clause_key text v q → (t : Told) (before : History) (c : Chars) → StandsIn term_by clause_key text v t before c
       → IsInReply t before q c
-  stands_in Look asks t before c s = s q asks
-  stands_in ReadOperators asks t before c s = s q asks
+  stands_in Look asks t before c s = absurd s
+  stands_in ReadOperators asks t before c s = absurd s
   stands_in (Call p k) asks t before c s = s q asks
   stands_in (Inspect p k) asks t before c s = s q asks
   stands_in (Retract p k) asks t before c s = s q asks
@@ -132,6 +133,7 @@ module _ (text new_text : ℕ → Chars) (q : Request) where
   stands_in (MakeDynamic ps) asks t before c s = s q asks
   stands_in AllProcedures asks t before c s = s q asks
   stands_in (PutOperators p k fs) asks t before c s = s q asks
+  stands_in AllOperators asks t before c s = s q asks
   stands_in (PutFlag f v) asks t before c s = s q asks
   stands_in AllFlags asks t before c s = s q asks
   stands_in OwnName asks t before c s = s q asks
@@ -213,6 +215,11 @@ module _ (m n : Names) (holds : Holds m n) (tells : TellsAtoms n) (t : Told) (e 
           update = served_so.update;
           served = defined.1;
           says = subst (λ (y : Reply). Says term_by (text_of n) r y) defined.2 reply_so.2;
+          text = text_of m;
+          visit = v;
+          asks = asks.asks;
+          by_names = asks.by_names;
+          suits = served_so.suits;
         }
 
     seen : called.IsAsked t before served_so.update u

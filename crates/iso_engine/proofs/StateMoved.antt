@@ -1,5 +1,5 @@
 -- What an engine comes to by a goal of a predicate of the shared state.
-use Rattle.std.proofs.Common.{◌≡◌, ◌⊎◌, ℕ, ◌<◌, ◌≤◌, ◌^◌, true, List, [], ◌∷◌, ◌++◌, length, Option, Some, IsSome, inl, inr, refl, sym, ap, ap₂, subst, ◌∙◌, append-nil}
+use Rattle.std.proofs.Common.{◌≡◌, ◌⊎◌, ℕ, ◌<◌, ◌≤◌, ◌^◌, true, List, [], ◌∷◌, length, Option, Some, IsSome, inl, inr, refl, sym, ap, ap₂, subst, ◌∙◌, append-nil}
 use Rattle.std.specs.List.{All}
 use Rattle.std.proofs.lemmas.List.Elements.{All-tail}
 use Rattle.std.specs.Str.{all_scalars}
@@ -7,9 +7,7 @@ use Rattle.pl_term.specs.Texts.{size}
 use Rattle.pl_term.specs.Tree.{Chars, Tree}
 use Rattle.pl_model.specs.Balls.{error_ball}
 use Rattle.pl_model.specs.Control.{step}
-use Rattle.pl_model.specs.History.{History, Proc}
 use Rattle.pl_model.specs.Predicates.{proc_of}
-use Rattle.pl_model.specs.Requests.{Reply}
 use Rattle.pl_model.specs.Resolution.{Pending, State, running, throwing}
 use Rattle.pl_model.specs.Service.{served_now, waits}
 use Rattle.atom_api.specs.Names.{FixedStand, Names}
@@ -33,7 +31,6 @@ use Rattle.iso_search.specs.Reading.{IsView, View, reads}
 use Rattle.iso_search.specs.Searching.{IsWhole, node_of, state_of}
 use Rattle.iso_search.specs.Spelling.{spelled, text_of}
 use Rattle.shared_builtins.specs.declared.goal.StateGoal.{StateGoal}
-use Rattle.iso_engine.specs.declared.doing.Doing.{Doing}
 use Rattle.iso_engine.specs.declared.doing.Doing.TheVariants.{Running, Throwing}
 use Rattle.iso_engine.specs.declared.engine.Engine.{Engine}
 use Rattle.iso_engine.specs.declared.slices.Slice.TheVariants.{Waits}
@@ -44,7 +41,7 @@ use Rattle.iso_engine.specs.Parts.{IsOverAtoms}
 use Rattle.iso_engine.specs.Ready.{IsAlike, IsReady, StepsFrom}
 use Rattle.iso_engine.specs.Spending.{IsSpent}
 use Rattle.iso_engine.specs.Slices.{IsStepped, IsWaitingNow}
-use Rattle.iso_engine.specs.Standing.{doing_of, state_at}
+use Rattle.iso_engine.specs.Standing.{state_at, staying, aims_of}
 use Rattle.iso_engine.specs.State.{IsAlone, IsAnswered, IsHeldUp, IsStateAsked, IsStateAt, refused_led}
 use Rattle.iso_engine.specs.Views.{view_of}
 use Rattle.iso_engine.specs.Wrote.{led, taken}
@@ -101,18 +98,18 @@ state_asks_for m t e x list cut rest running_is first view old new =
     asking a =
         record {
           follows =
-              λ stays written count.
-              (a.asking (set e x list cut rest running_is first (record { view = view_of m t; solutions = e.solution_limit; stays = stays; doing = Rattle.pl_model.specs.Resolution.failing; output = written })) rest cut view (λ k y h. h)).0;
+              λ written count.
+              (a.asking (set e x list cut rest running_is first (record { view = view_of m t; solutions = e.solution_limit; stays = staying e.stays; doing = Rattle.pl_model.specs.Resolution.failing; output = written })) rest cut view (λ k y h. h)).0;
           asks_is =
-              λ stays written count.
-              let r : Setting = record { view = view_of m t; solutions = e.solution_limit; stays = stays; doing = Rattle.pl_model.specs.Resolution.failing; output = written }
+              λ written count.
+              let r : Setting = record { view = view_of m t; solutions = e.solution_limit; stays = staying e.stays; doing = Rattle.pl_model.specs.Resolution.failing; output = written }
               in step_is e x list cut rest running_is first r ∙ (a.asking (set e x list cut rest running_is first r) rest cut view (λ k y h. h)).1;
         }
 
 module _ (m n : Names) (t u : Told) (e f : Engine) (x : StateGoal) (list cut rest : ℕ) (running_is : e.doing ≡ Running list)
     (first : tasks e.search.frames.items list ≡ Goal x.place cut ∷ tasks e.search.frames.items rest) (le : rest ≤ length e.search.frames.items)
     (at : IsStateAt e.search.store x) (holds : Holds m n) (view : IsView (view_of n u)) (ready : IsReady m t e)
-    (wanted : f.solution_limit ≡ e.solution_limit) (given : f.solutions_found ≡ e.solutions_found) (whole : IsWhole f.search) where
+    (wanted : aims_of f ≡ aims_of e) (given : f.solutions_found ≡ e.solutions_found) (whole : IsWhole f.search) where
   abbrev there : Setting → Setting
   there r = set e x list cut rest running_is first r
 
@@ -185,11 +182,11 @@ module _ (m n : Names) (t u : Told) (e f : Engine) (x : StateGoal) (list cut res
     asking_here =
         record {
           follows =
-              λ stays written count.
-              (h.asking (there (record { view = view_of n u; solutions = e.solution_limit; stays = stays; doing = Rattle.pl_model.specs.Resolution.failing; output = written })) cut view (λ k y s. s)).0;
+              λ written count.
+              (h.asking (there (record { view = view_of n u; solutions = e.solution_limit; stays = staying e.stays; doing = Rattle.pl_model.specs.Resolution.failing; output = written })) cut view (λ k y s. s)).0;
           asks_is =
-              λ stays written count.
-              let r : Setting = record { view = view_of n u; solutions = e.solution_limit; stays = stays; doing = Rattle.pl_model.specs.Resolution.failing; output = written }
+              λ written count.
+              let r : Setting = record { view = view_of n u; solutions = e.solution_limit; stays = staying e.stays; doing = Rattle.pl_model.specs.Resolution.failing; output = written }
               in step_is e x list cut rest running_is first r ∙ (h.asking (there r) cut view (λ k y s. s)).1;
         }
 

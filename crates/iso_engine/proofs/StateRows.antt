@@ -1,5 +1,5 @@
 -- Rows of goals of the shared state, as steps of a search.
-use Rattle.std.proofs.Common.{◌≡◌, ℕ, suc, ◌<◌, ◌≤◌, Bool, true, false, cond, List, [], ◌∷◌, length, map, nat_lt, Option, Some, None, IsSome, is_some, inl, inr, refl, sym, ap, ap₂, subst, ◌∙◌, arith, pos, zero}
+use Rattle.std.proofs.Common.{◌≡◌, ℕ, suc, ◌<◌, ◌≤◌, true, false, cond, List, [], ◌∷◌, map, nat_lt, Option, Some, None, IsSome, is_some, refl, sym, ap, ap₂, subst, ◌∙◌, arith, pos, zero}
 use Rattle.std.proofs.lemmas.Bool.{le-ltb, lt-ltb, true≢false}
 use Rattle.std.specs.List.{All}
 use Rattle.std.proofs.lemmas.List.Elements.{All-head, All-tail}
@@ -8,7 +8,7 @@ use Rattle.pl_model.specs.Balls.{error_ball, indicator, no_inferences}
 use Rattle.pl_model.specs.BuiltinRows as rows
 use Rattle.pl_model.specs.BuiltinRows.{plain_answer, unifying}
 use Rattle.pl_model.specs.Builtins.{row}
-use Rattle.pl_model.specs.Control.{construct, costing, first_answer, name_of, other, raised, take_up, with_other, with_row, with_shared}
+use Rattle.pl_model.specs.Control.{costing, first_answer, name_of, raised, take_up, with_other, with_row, with_shared}
 use Rattle.pl_model.specs.History.{Proc, proc}
 use Rattle.pl_model.specs.Predicates.{proc_of}
 use Rattle.pl_model.specs.Requests.{Reply, Request}
@@ -48,9 +48,9 @@ use Rattle.shared_builtins.specs.Faults.{IsFaultHeld, fault_term}
 use Rattle.shared_builtins.specs.Goals.{IsStateGoal, arity_of}
 use Rattle.shared_builtins.specs.Replies.{IsConstantHeld, IsLineHeld}
 use Rattle.shared_builtins.specs.Telling.{TellsAtoms}
-use Rattle.iso_engine.specs.Leading.{IsOfTable, IsRowMade, Origin, as_before}
+use Rattle.iso_engine.specs.Leading.{IsOfTable, IsRowMade, Origin}
 use Rattle.iso_engine.specs.State.{IsAlone, IsRowLed, IsStateAt}
-use Rattle.iso_engine.specs.Wrote.{led, taken}
+use Rattle.iso_engine.specs.Wrote.{taken}
 use Rattle.iso_engine.proofs.OutputSteps.{read_held}
 use Rattle.iso_engine.proofs.Procedures.{compound_proc}
 
@@ -66,10 +66,10 @@ pub state_proc : (v : View) (s : Contents) (x : StateGoal) → IsStateGoal s x
 state_proc v s x at =
     compound_proc v s x.place x.name x.arguments.count x.arguments at.means at.inside (some_arguments x.pred x.arguments.count at.predicate.1) refl
 
-abbrev by_names : Names → View
+abbrev pub by_names : Names → View
 by_names n = record { names = n; all = λ goal g. []; left = λ goal g place. [] }
 
-by_names_view : (n : Names) → TellsAtoms n → IsView (by_names n)
+pub by_names_view : (n : Names) → TellsAtoms n → IsView (by_names n)
 by_names_view n tells = record { fixed = tells.naming.stands; apart = tells.apart }
 
 -- The goal as the atoms that are held spell it.
@@ -195,11 +195,11 @@ table_led n e y same x ls held d is f rest o step s view known =
 
 -- The step
 
-no_inference : (l : Limits) (q : State) (k : Node) (h : Tree) (next : State → Next) → nat_lt q.inferences l.inferences ≡ false
+pub no_inference : (l : Limits) (q : State) (k : Node) (h : Tree) (next : State → Next) → nat_lt q.inferences l.inferences ≡ false
     → costing l q k h next ≡ goes (raised q k no_inferences (proc_of h))
 no_inference l q k h next spent = ap (λ b. cond b (next (record q { inferences = suc q.inferences })) (goes (raised q k no_inferences (proc_of h)))) spent
 
-one_inference : (l : Limits) (q : State) (k : Node) (h : Tree) (next : State → Next) → nat_lt q.inferences l.inferences ≡ true
+pub one_inference : (l : Limits) (q : State) (k : Node) (h : Tree) (next : State → Next) → nat_lt q.inferences l.inferences ≡ true
     → costing l q k h next ≡ next (record q { inferences = suc q.inferences })
 one_inference l q k h next some = ap (λ b. cond b (next (record q { inferences = suc q.inferences })) (goes (raised q k no_inferences (proc_of h)))) some
 

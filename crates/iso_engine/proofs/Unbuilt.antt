@@ -25,10 +25,12 @@ use Rattle.iso_engine.specs.declared.builtin.RowGoal.{RowGoal}
 use Rattle.shared_builtins.specs.declared.goal.StateGoal.{StateGoal}
 use Rattle.iso_engine.specs.Builtins.{HasNoRow, IsBuiltinAt, IsSharedOrKept}
 use Rattle.iso_engine.specs.Calling.{IsCallAt, is_other_kind}
+use Rattle.iso_engine.specs.Collecting.{IsCollectAt}
+use Rattle.iso_engine.specs.Leaving.{IsExitAt}
 use Rattle.iso_engine.specs.Missing.{IsUnbuilt, is_integer}
 use Rattle.iso_search.specs.declared.search.Search.{Search}
 use Rattle.iso_engine.specs.declared.running.Did.{Did}
-use Rattle.iso_engine.specs.declared.running.Did.TheVariants.{Next as NextDid, Call as CallDid, Row as RowDid, Ask as AskDid, Write as WriteDid, Missing as MissingDid}
+use Rattle.iso_engine.specs.declared.running.Did.TheVariants.{Next as NextDid, Call as CallDid, Row as RowDid, Ask as AskDid, Write as WriteDid, Look as LookDid, Exit as ExitDid, Collect as CollectDid, Missing as MissingDid}
 use Rattle.iso_engine.specs.Writes.{IsWriteAt, is_write_kind}
 use Rattle.iso_engine.specs.OutputGoals.{is_output}
 use Rattle.iso_engine.specs.Tasks.{IsDone, IsLeftOver, IsMissingTask}
@@ -216,6 +218,11 @@ left_is e w cut rest (AskDid x) h =
     (refl, (cut, ap (λ y. Goal y cut) (sym h.0)), h.1)
 left_is e w cut rest (WriteDid x p) h =
     (refl, (cut, ap (λ y. Goal y cut) (sym h.0)), subst (λ y. IsWriteAt e.store y p) (sym h.0) h.1)
+left_is e w cut rest (LookDid x) h = (refl, (cut, ap (λ y. Goal y cut) (sym h.0)), h.1)
+left_is e w cut rest (ExitDid x t) h =
+    (refl, (cut, ap (λ y. Goal y cut) (sym h.0)), subst (λ y. IsExitAt e.store y t) (sym h.0) h.1)
+left_is e w cut rest (CollectDid x k) h =
+    (refl, (cut, ap (λ y. Goal y cut) (sym h.0)), subst (λ y. IsCollectAt e.store y k) (sym h.0) h.1)
 left_is e w cut rest (MissingDid p) h = (refl, h cut)
 
 pub left_done : (e f : Search) (w : Place) (cut rest : ℕ) (d : Did) → f ≡ e → IsLeftOver f.store w d → IsDone e (Goal w cut) rest f d

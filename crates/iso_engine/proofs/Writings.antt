@@ -32,7 +32,7 @@ use Rattle.iso_engine.specs.declared.engine.Engine.{Engine}
 use Rattle.iso_engine.specs.Views.{view_of}
 use Rattle.iso_engine.specs.Ready.{IsAlike, IsReady}
 use Rattle.iso_engine.specs.Slices.{written_text}
-use Rattle.iso_engine.specs.Standing.{doing_of, state_at}
+use Rattle.iso_engine.specs.Standing.{doing_of, state_at, aims_of}
 use Rattle.iso_engine.specs.Writes.{IsWriteAt}
 use Rattle.iso_engine.proofs.Followed.{doing_same}
 use Rattle.iso_engine.proofs.Moreover.{AsksBy, IsMovedBy, StepsBy, moved_alone, moved_asking}
@@ -50,7 +50,7 @@ added_none (Some w) = refl
 module _ (m n : Names) (t u : Told) (e f : Engine) (at : Place) (p : Procedure) (list cut rest : ℕ) (running_is : e.doing ≡ Running list)
     (first : tasks e.search.frames.items list ≡ Goal at cut ∷ tasks e.search.frames.items rest) (le : rest ≤ length e.search.frames.items)
     (write : IsWriteAt e.search.store at p) (holds : Holds m n) (view : IsView (view_of n u)) (ready : IsReady m t e)
-    (wanted : f.solution_limit ≡ e.solution_limit) (given : f.solutions_found ≡ e.solutions_found) (whole : IsWhole f.search) (o : Outcome)
+    (wanted : aims_of f ≡ aims_of e) (given : f.solutions_found ≡ e.solutions_found) (whole : IsWhole f.search) (o : Outcome)
     (follows : (r : Setting) → IsView r.view → doing_of r.view f.search f.doing
     ≡ doing_by r f.search (node_of r.view f.search rest) (record { name = text_of r.view.names (atom_name p.name); arity = p.arity }) o) where
   -- What a step of the engine takes up.

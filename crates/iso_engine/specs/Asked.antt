@@ -18,6 +18,7 @@ use Rattle.iso_engine.specs.declared.slices.Slice.TheVariants.{Memory}
 use Rattle.iso_engine.specs.Advancing.{Advances}
 use Rattle.iso_engine.specs.Asking.{IsAsking}
 use Rattle.iso_engine.specs.Views.{view_of}
+use Rattle.iso_engine.specs.Leaving.{IsExitText}
 use Rattle.iso_engine.specs.Rows.{IsRowText}
 use Rattle.iso_engine.specs.Standing.{doing_of}
 
@@ -53,7 +54,7 @@ pub record IsLineText (m : Names) (t : Told) (e : Engine) (c : Chars) : Type 0 w
 
 -- The engine's next step asks for the text.
 abbrev pub AsksFor : Names → Told → Engine → Chars → Type 0
-AsksFor m t e c = IsAnswerText m t e c ⊎ (IsClauseText m t e c ⊎ (IsLineText m t e c ⊎ IsRowText m t e c))
+AsksFor m t e c = IsAnswerText m t e c ⊎ (IsClauseText m t e c ⊎ (IsLineText m t e c ⊎ (IsRowText m t e c ⊎ IsExitText m t e c)))
 
 -- The engine comes to where its next step asks for the text.
 pub record ComesToAsk (m : Names) (t : Told) (e : Engine) (c : Chars) : Type 0 where

@@ -1,6 +1,5 @@
 -- Requests.
 use Rattle.std.specs.Prelude.{◌≡◌, List, [], ◌∷◌, ◌++◌, length, Option}
-use Rattle.pl_term.specs.Tree.{Chars}
 use Rattle.pl_model.specs.History.{Kind, History}
 use Rattle.pl_model.specs.Requests.{Request, Reply}
 use Rattle.pl_model.specs.Service.{answers, entry_by, served_now}
@@ -15,9 +14,9 @@ use Rattle.iso_engine.specs.Standing.{limits_of, state_now}
 
 -- The engine's next step asks this of the shared state.
 pub record IsAsking (m : Names) (t : Told) (e : Engine) (q : Request) : Type 0 where
-  pub follows : (stays : Option Chars) (written : List Output) → solution_count written ≡ e.solutions_found → Reply → State
-  pub asks_is : (stays : Option Chars) (written : List Output) (count : solution_count written ≡ e.solutions_found)
-      → step (limits_of stays e) (state_now (view_of m t) e written) ≡ asks q (follows stays written count)
+  pub follows : (written : List Output) → solution_count written ≡ e.solutions_found → Reply → State
+  pub asks_is : (written : List Output) (count : solution_count written ≡ e.solutions_found)
+      → step (limits_of e) (state_now (view_of m t) e written) ≡ asks q (follows written count)
 
 -- Its request was answered after all entries, and it is now in the state that the reply leads to.
 pub record IsAnswered (m : Names) (t : Told) (e : Engine) (n : Names) (u : Told) (f : Engine) (more : List Output) : Type 0 where
@@ -30,5 +29,5 @@ pub record IsAnswered (m : Names) (t : Told) (e : Engine) (n : Names) (u : Told)
   pub told : u ≡ seen_as t (before ++ entry_by t.engine update) (t.gens ++ length before ∷ [])
   pub asking : IsAsking m t e request
   pub stands :
-      (stays : Option Chars) (written : List Output) (count : solution_count written ≡ e.solutions_found)
-      → asking.follows stays written count reply ≡ state_now (view_of n u) f (written ++ more)
+      (written : List Output) (count : solution_count written ≡ e.solutions_found)
+      → asking.follows written count reply ≡ state_now (view_of n u) f (written ++ more)

@@ -5,13 +5,17 @@ pub mod Builtins
 pub mod Called
 pub mod CalledGoals
 pub mod Calling
+pub mod ClauseLooks
 pub mod ClausesAsked
+pub mod Collecting
 pub mod Dispatching
 pub mod Erasing
 pub mod Failing
 pub mod Finding
 pub mod Following
+pub mod GoalSteps
 pub mod Leading
+pub mod Leaving
 pub mod Lines
 pub mod Lists
 pub mod Looking

@@ -1,7 +1,7 @@
 -- What holds of an engine between two steps.
-use Rattle.std.specs.Prelude.{◌≡◌, ◌≤◌, ℕ, false, length}
+use Rattle.std.specs.Prelude.{◌≡◌, ◌≤◌, ℕ, false, length, Option}
 use Rattle.std.specs.List.{Contains}
-use Rattle.pl_term.specs.Tree.{Tree}
+use Rattle.pl_term.specs.Tree.{Chars, Tree}
 use Rattle.pl_model.specs.Resolution.{solution_count, goes}
 use Rattle.pl_model.specs.Control.{step}
 use Rattle.atom_api.specs.Names.{Names}
@@ -57,4 +57,10 @@ Steps wanted given e d f x =
 abbrev pub StepsFrom : Names → Told → ℕ → ℕ → Search → Doing → Search → Doing → Type 0
 StepsFrom m t wanted given e d f x =
     (r : Setting) → IsView r.view → IsAlike m t r.view → r.solutions ≡ wanted → solution_count r.output ≡ given
+    → step (limits_in r e) (state_at r.view e d r.output) ≡ goes (state_at r.view f x r.output)
+
+-- The same where what is run has this name, or thread_exit/1 leaves it.
+abbrev pub StepsAs : Option Chars → Names → Told → ℕ → ℕ → Search → Doing → Search → Doing → Type 0
+StepsAs keep m t wanted given e d f x =
+    (r : Setting) → IsView r.view → IsAlike m t r.view → r.stays ≡ keep → r.solutions ≡ wanted → solution_count r.output ≡ given
     → step (limits_in r e) (state_at r.view e d r.output) ≡ goes (state_at r.view f x r.output)

@@ -16,13 +16,15 @@ use Rattle.iso_search.specs.declared.search.Search.{Search}
 use Rattle.iso_search.specs.Outcomes.{Setting, limits_in, state_in}
 use Rattle.iso_search.specs.Searching.{node_of}
 use Rattle.iso_engine.specs.declared.engine.Engine.{Engine}
+use Rattle.iso_engine.specs.declared.engine.Stays.{Stays}
 use Rattle.iso_engine.specs.declared.starting.Begun.{Begun}
 use Rattle.iso_engine.specs.declared.starting.Begun.TheVariants.{Refused, Taken}
 
--- It has these budgets, so many solutions are wanted of it, and it gave none.
-pub record IsFresh (budgets : Budgets) (solutions : ℕ) (e : Engine) : Type 0 where
+-- It has these budgets, so many solutions are wanted of it, it stays so, and it gave none.
+pub record IsFresh (budgets : Budgets) (solutions : ℕ) (stays : Stays) (e : Engine) : Type 0 where
   pub budgets_are : e.search.budgets ≡ budgets
   pub wants : e.solution_limit ≡ solutions
+  pub stays_so : e.stays ≡ stays
   pub gave : e.solutions_found ≡ 0
   pub works : e.out_of_memory ≡ false
 

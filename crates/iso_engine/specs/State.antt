@@ -1,5 +1,5 @@
 -- Goals of predicates of the shared state, and what they lead to.
-use Rattle.std.specs.Prelude.{◌≡◌, ◌<◌, ◌⊎◌, ℕ, length, Option, Some, IsSome}
+use Rattle.std.specs.Prelude.{◌≡◌, ◌⊎◌, ℕ, length, Option, Some, IsSome}
 use Rattle.std.specs.List.{All}
 use Rattle.pl_term.specs.Tree.{Chars, Tree}
 use Rattle.pl_model.specs.Balls.{error_ball}
@@ -31,7 +31,7 @@ use Rattle.iso_search.specs.Reading.{IsView, View, reads}
 use Rattle.iso_search.specs.Searching.{node_of, state_of}
 use Rattle.shared_builtins.specs.declared.goal.StateGoal.{StateGoal}
 use Rattle.shared_builtins.specs.Goals.{IsStateGoal}
-use Rattle.shared_builtins.specs.Shared.{renumbered}
+use Rattle.shared_builtins.specs.Shared.{AsksByNames, renumbered}
 use Rattle.iso_engine.specs.declared.state.asked.Asked.{Asked}
 use Rattle.iso_engine.specs.declared.state.asked.Asked.TheVariants.{Ran, Refused, Waits}
 use Rattle.iso_engine.specs.Builtins.{HasNoRow}
@@ -50,6 +50,7 @@ pub record IsVisitFor (m : Names) (g : Tree) (v : Visit Tree ArgumentKey) (q : R
   pub shares : shared (name_of g) (arguments g) ≡ Some (asks_for q next)
   pub asks : Asks term_by clause_key (text_of m) v (renumbered q)
   pub held : All (λ a. IsSome (m a)) (visit_names names_of key_atoms v)
+  pub by_names : AsksByNames v
 
 -- Where the inference was made, the search `e` comes by the row of the goal to the outcome.
 abbrev pub IsRowLed : Names → Search → StateGoal → ℕ → rows.Row → Search → Outcome → Type 0

@@ -12,8 +12,11 @@ use Rattle.iso_search.specs.Frames.{tasks}
 use Rattle.iso_search.specs.Reading.{IsView, View, pending, reads}
 use Rattle.iso_engine.specs.declared.doing.Doing.TheVariants.{Running}
 use Rattle.iso_engine.specs.declared.running.Did.{Did}
-use Rattle.iso_engine.specs.declared.running.Did.TheVariants.{Next, Call as CallDid, Row as RowDid, Ask as AskDid, Write as WriteDid, Missing as MissingDid}
+use Rattle.iso_engine.specs.declared.running.Did.TheVariants.{Next, Call as CallDid, Row as RowDid, Ask as AskDid, Write as WriteDid, Look as LookDid, Exit as ExitDid, Collect as CollectDid, Missing as MissingDid}
 use Rattle.iso_engine.specs.Calling.{IsCallAt}
+use Rattle.iso_engine.specs.ClauseLooks.{IsLookAt}
+use Rattle.iso_engine.specs.Collecting.{IsCollectAt}
+use Rattle.iso_engine.specs.Leaving.{IsExitAt}
 use Rattle.iso_engine.specs.Following.{HasProcedure, StepsTo, proc_in}
 use Rattle.iso_engine.specs.Missing.{IsUnbuiltTask}
 use Rattle.iso_engine.specs.Rows.{IsRowAt}
@@ -46,8 +49,8 @@ pub record IsMissingTask (s : Contents) (x : Task) (p : Procedure) : Type 0 wher
   pub named : IsNamedBy s x p
 
 -- A step was made from the lists that begin with the task and go on as another one; or the task is a call of the program's
--- clauses, or of a predicate that is a function of its arguments, or of one of the shared state, or writes; or it is of a predicate
--- that is not built. Then nothing has changed.
+-- clauses, or of a predicate that is a function of its arguments, or of one of the shared state, or writes, or looks through the
+-- clauses, or leaves a thread, or asks for a collection; or it is of a predicate that is not built. Then nothing has changed.
 abbrev pub IsDone : Search → Task → ℕ → Search → Did → Type 0
 IsDone e task rest f (Next d) =
     (list : ℕ) → tasks e.frames.items list ≡ task ∷ tasks e.frames.items rest → StepsTo e (Running list) f d
@@ -55,14 +58,20 @@ IsDone e task rest f (CallDid goal p) = (f ≡ e) × IsGoalAt task goal × IsCal
 IsDone e task rest f (RowDid r) = (f ≡ e) × IsGoalAt task r.place × IsRowAt e.store r
 IsDone e task rest f (AskDid x) = (f ≡ e) × IsGoalAt task x.place × IsStateAt e.store x
 IsDone e task rest f (WriteDid goal p) = (f ≡ e) × IsGoalAt task goal × IsWriteAt e.store goal p
+IsDone e task rest f (LookDid x) = (f ≡ e) × IsGoalAt task x.place × IsLookAt e.store x
+IsDone e task rest f (ExitDid goal t) = (f ≡ e) × IsGoalAt task goal × IsExitAt e.store goal t
+IsDone e task rest f (CollectDid goal x) = (f ≡ e) × IsGoalAt task goal × IsCollectAt e.store goal x
 IsDone e task rest f (MissingDid p) = (f ≡ e) × IsMissingTask e.store task p
 
--- What is left over of the goals at the place: a call, a function of its arguments, one of the shared state, one that writes, or a
--- predicate that is not built.
+-- What is left over of the goals at the place: a call, a function of its arguments, one of the shared state, one that writes, one that
+-- looks through the clauses, leaves a thread or asks for a collection, or a predicate that is not built.
 abbrev pub IsLeftOver : Contents → Place → Did → Type 0
 IsLeftOver s goal (Next d) = ⊥
 IsLeftOver s goal (CallDid w p) = (w ≡ goal) × IsCallAt s goal p
 IsLeftOver s goal (RowDid r) = (r.place ≡ goal) × IsRowAt s r
 IsLeftOver s goal (AskDid x) = (x.place ≡ goal) × IsStateAt s x
 IsLeftOver s goal (WriteDid w p) = (w ≡ goal) × IsWriteAt s goal p
+IsLeftOver s goal (LookDid x) = (x.place ≡ goal) × IsLookAt s x
+IsLeftOver s goal (ExitDid w t) = (w ≡ goal) × IsExitAt s goal t
+IsLeftOver s goal (CollectDid w x) = (w ≡ goal) × IsCollectAt s goal x
 IsLeftOver s goal (MissingDid p) = (cut : ℕ) → IsMissingTask s (Goal goal cut) p

@@ -12,6 +12,8 @@ pub enum End {
     Threw(Ball),
     /// halt/1 with a status.
     Halted(u8),
+    /// thread_exit/1 with a term.
+    Exited(Ball),
 }
 
 /// What is done next.

@@ -58,6 +58,11 @@ impl Engine {
                     Did::Write(goal, procedure) => {
                         self.write(goal, procedure, frame.continuation, world, atoms, out)
                     }
+                    Did::Look(goal) => self.look(&goal, frame.continuation, world, atoms),
+                    Did::Exit(goal, term) => self.exit(goal, term, frame.continuation, atoms),
+                    Did::Collect(goal, collection) => {
+                        self.collect(goal, collection, frame.continuation, world, atoms)
+                    }
                     Did::Missing(procedure) => Ok(Some(Slice::Missing(procedure))),
                 }
             }

@@ -11,7 +11,7 @@ ghost use Rattle.iso_search.specs.Reading.{IsView, View, reads};
 ghost use Rattle.iso_search.specs.Searching.{IsWhole};
 ghost use Rattle.iso_engine.specs.declared.doing.Doing.TheVariants.{Running};
 ghost use Rattle.iso_engine.specs.Following.{HasProcedure, IsInteger, StepsTo};
-ghost use Rattle.iso_engine.specs.Tasks.{IsDone, IsForOthers, IsLeftOver};
+ghost use Rattle.iso_engine.specs.Tasks.{IsDone, IsForOthers, IsLeftOver, IsMissingTask};
 
 use crate::builtin::{Builtin, RowGoal, builtin_at};
 use crate::call::direct::direct_call;
@@ -21,6 +21,8 @@ use crate::findall::collect;
 use crate::following::follow;
 use crate::kinds::{is_other, is_write};
 use crate::procedure::procedure_at;
+use crate::state::collecting::{Collection, collection_at};
+use crate::state::looks::{LookGoal, argument_of, look_at};
 use atom_api::fixed;
 use iso_search::construct::{Construct, construct_at};
 use iso_search::frames::{Frame, Task};
@@ -44,6 +46,12 @@ pub enum Did {
     Ask(StateGoal),
     /// The task is the goal at a place, which writes and has this predicate. Nothing has changed.
     Write(Place, Procedure),
+    /// The task is this goal of clause/2 or retract/1. Nothing has changed.
+    Look(LookGoal),
+    /// The task is the goal at a place of thread_exit/1, with this term. Nothing has changed.
+    Exit(Place, Place),
+    /// The task is the goal at a place that asks for a cycle of this collection. Nothing has changed.
+    Collect(Place, Collection),
     /// The task is for a predicate that is not built yet. Nothing has changed.
     Missing(Procedure),
 }
@@ -151,13 +159,40 @@ fn left_over(store: &Store, goal: Place, kind: Construct, procedure: Procedure) 
         match builtin_at(store, goal) {
             Builtin::Row(row) => Did::Row(row),
             Builtin::State(state) => Did::Ask(state),
-            Builtin::Other => Did::Missing(procedure),
+            Builtin::Other => left_alone(store, goal, procedure),
             Builtin::No => Did::Call(goal, procedure),
         }
     } else if is_write(kind) {
         Did::Write(goal, procedure)
     } else {
-        Did::Missing(procedure)
+        left_step(store, goal, procedure)
+    }
+}
+
+/// What a goal of another built-in predicate is: one that asks for a cycle of collection, or of a predicate that is not built.
+fn left_alone(store: &Store, goal: Place, procedure: Procedure) -> Did
+    requires holds { Holds store.now goal }
+    requires missing { (cut : ℕ) → IsMissingTask store.now (Goal goal cut) procedure }
+    ensures { IsLeftOver store.now goal result }
+{
+    match collection_at(store, goal) {
+        Some(collection) => Did::Collect(goal, collection),
+        None => Did::Missing(procedure),
+    }
+}
+
+/// What a goal is that looks through the clauses or leaves a thread, or one that is not built.
+fn left_step(store: &Store, goal: Place, procedure: Procedure) -> Did
+    requires holds { Holds store.now goal }
+    requires missing { (cut : ℕ) → IsMissingTask store.now (Goal goal cut) procedure }
+    ensures { IsLeftOver store.now goal result }
+{
+    if let Some(look) = look_at(store, goal) {
+        return Did::Look(look);
+    }
+    match argument_of(store, goal, fixed::THREAD_EXIT) {
+        Some(term) => Did::Exit(goal, term),
+        None => Did::Missing(procedure),
     }
 }
 

@@ -1,12 +1,11 @@
 //! The start of a search.
-ghost use Rattle.std.specs.Prelude.{◌≡◌, [], length, zero, Option, IfOk, IsSome, OnOk};
+ghost use Rattle.std.specs.Prelude.{◌≡◌, [], length, zero, IfOk, IsSome, OnOk};
 ghost use Rattle.std.specs.List.{All};
 ghost use Rattle.atom_api.specs.Names.{Names};
 ghost use Rattle.term_store.specs.NumberedNames.{atoms_in};
 ghost use Rattle.world_api.specs.Told.{Told};
 ghost use Rattle.iso_engine.specs.Views.{view_of};
 ghost use Rattle.iso_engine.specs.Ready.{IsReady};
-ghost use Rattle.pl_term.specs.Tree.{Chars};
 ghost use Rattle.pl_model.specs.History.{Proc};
 ghost use Rattle.pl_model.specs.BodyChecks.{body_of};
 ghost use Rattle.pl_model.specs.Control.{start};
@@ -20,7 +19,7 @@ ghost use Rattle.iso_engine.specs.Standing.{doing_of, limits_of, state_now};
 ghost use Rattle.iso_engine.specs.Starting.{IsFresh, IsKind, IsNamed, begun, outcome_of, proc_begun};
 
 use crate::doing::Doing;
-use crate::engine::Engine;
+use crate::engine::{Engine, Stays};
 use crate::following::follow;
 use crate::procedure::procedure_at;
 use crate::variables::variables_at;
@@ -101,18 +100,20 @@ fn started(
 
 impl Engine {
     /// An engine that searches for so many solutions of a goal, whose variables are numbered from 0 on in the order in which they
-    /// first occur. The goal is checked whole, and takes its own cells. The only error is out of memory.
+    /// first occur. The goal is checked whole, and takes its own cells. Whether thread_exit/1 leaves what is run is `stays`. The
+    /// only error is out of memory.
     pub fn new(
         alloc: Global,
         goal: &Stored,
         budgets: Budgets,
         solutions: u64,
+        stays: Stays,
     ) -> Result<Engine, Memory>
         ensures whole { IfOk result (λ e. IsWhole e.search) }
-        ensures fresh { IfOk result (IsFresh budgets solutions) }
+        ensures fresh { IfOk result (IsFresh budgets solutions stays) }
         ensures ready { IfOk result (λ e. (m : Names) (t : Told) → IsView (view_of m t) → All (λ a. IsSome (m a)) (atoms_in goal.now) → IsReady m t e) }
-        ensures starts { IfOk result (λ e. (v : View) (stays : Option Chars) → IsView v
-            → state_now v e [] ≡ start (limits_of stays e) (spelled (text_of v.names) goal.now)) }
+        ensures starts { IfOk result (λ e. (v : View) → IsView v → state_now v e []
+            ≡ start (limits_of e) (spelled (text_of v.names) goal.now)) }
     {
         let _numbered = goal.nodes();
         let count = goal.variables();
@@ -137,6 +138,7 @@ impl Engine {
             doing,
             solution_limit: solutions,
             solutions_found: 0,
+            stays,
             out_of_memory: false,
             alloc,
         })

@@ -1,26 +1,29 @@
-//! Calls of the clauses of the program.
-ghost use Rattle.std.specs.Prelude.{◌≡◌, ◌≤◌, ◌++◌, ℤ, List, length, false, IfOk, OnOk, IsSome};
+//! Calls of the clauses of the program, and looks at them.
+ghost use Rattle.std.specs.Prelude.{◌≡◌, ◌<◌, ◌≤◌, ◌++◌, ℤ, List, length, false, IfOk, OnOk, IsSome};
 ghost use Rattle.std.specs.List.{All};
 ghost use Rattle.pl_term.specs.Tree.{int};
 ghost use Rattle.term_store.specs.Contents.{Holds, term_at};
 ghost use Rattle.term_store.specs.NumberedNames.{atoms_in};
 ghost use Rattle.world_api.specs.Texts.{Holds as AreHeld};
 ghost use Rattle.world_api.specs.Told.{has_ended};
+ghost use Rattle.iso_search.specs.declared.choices.Purpose.TheVariants.{Resolving};
 ghost use Rattle.iso_search.specs.Searching.{IsWhole};
 ghost use Rattle.world_api.specs.Gains.{Gains};
-ghost use Rattle.iso_engine.specs.ClausesAsked.{IsCallAsked};
-ghost use Rattle.iso_engine.specs.Called.{IsCalled, IsTakenBack};
+ghost use Rattle.iso_engine.specs.ClausesAsked.{IsListAsked, visit_of};
+ghost use Rattle.iso_engine.specs.Called.{AreLooked, IsCalled, IsTakenBack};
+ghost use Rattle.iso_engine.specs.Purposes.{listed_in};
 ghost use Rattle.iso_engine.specs.Replies.{IsFollowed, IsListOrError};
 ghost use Rattle.iso_engine.specs.Unserved.{OnRefusal, refusals_in};
 
 use crate::call::called::Called;
 use crate::call::clauses::try_first_clause;
 use crate::call::goals::{key_at, predicate_at};
+use crate::call::retries::listed_at;
 use iso_search::choices::Purpose;
 use iso_search::search::Search;
 use pl_term::Memory;
-use term_store::{Place, Stored};
-use world_api::{Answer, Reply, Unserved, Visit, World};
+use term_store::{ArgumentKey, Place, Stored};
+use world_api::{Answer, Procedure, Reply, Unserved, Visit, World};
 
 /// Calls the program's clauses for the goal at a place, before the tasks of a list (ISO 7.7.10): makes an inference, asks the
 /// shared state for the first of the clauses, and tries it. Where the visit is not served, nothing has changed, and the call is
@@ -46,20 +49,52 @@ pub fn call_clauses<W: World<Term = Stored>>(
     ensures runs { has_ended (W.told world.new).engine (W.told world.new).history ≡ false }
     ensures holds { AreHeld (W.A.held atoms.old) (W.A.held atoms.new) }
     ensures refusals { W.A.refusals atoms.new ≡ W.A.refusals atoms.old ++ refusals_in result }
-    ensures asked { Gains (IsCallAsked (W.A.held atoms.old) (W.told world.old) search.old goal) (W.A.asked atoms.old) (W.A.asked atoms.new) }
+    ensures asked { Gains (IsListAsked Resolving (W.A.held atoms.old) (W.told world.old) search.old goal) (W.A.asked atoms.old) (W.A.asked atoms.new) }
 {
     let most = search.budgets.inferences;
     if search.inferences >= most {
         return Ok(Called::Spent);
     }
+    look_through(search, Purpose::Resolving, world, atoms, goal, rest)
+}
+
+/// The same for a purpose, where an inference can be made: the clauses for the goal at a place, or for the head of the rule
+/// there, are tried with it.
+pub fn look_through<W: World<Term = Stored>>(
+    search: &mut Search,
+    purpose: Purpose,
+    world: &mut W,
+    atoms: &mut W::A,
+    goal: Place,
+    rest: usize,
+) -> Result<Called, Unserved>
+    requires whole { IsWhole search.old }
+    requires goal { Holds search.old.store goal }
+    requires callable { (i : ℤ) → listed_in purpose (term_at search.old.store goal) ≡ int i → ⊥ }
+    requires rest { rest ≤ length search.old.frames.items }
+    requires held { All (λ a. IsSome (W.A.held atoms.old a)) (atoms_in (term_at search.old.store goal)) }
+    requires runs { has_ended (W.told world.old).engine (W.told world.old).history ≡ false }
+    requires count { search.old.inferences < search.old.budgets.inferences }
+    ensures whole { OnOk result (IsWhole search.new) }
+    ensures called { IfOk result (AreLooked purpose (W.A.held atoms.old) (W.told world.old) search.old goal rest
+        (W.A.held atoms.new) (W.told world.new) search.new) }
+    ensures taken_back { OnRefusal result (IsTakenBack (W.told world.old) search.old (W.told world.new) search.new) }
+    ensures budgets { OnOk result (search.new.budgets ≡ search.old.budgets) }
+    ensures runs { has_ended (W.told world.new).engine (W.told world.new).history ≡ false }
+    ensures holds { AreHeld (W.A.held atoms.old) (W.A.held atoms.new) }
+    ensures refusals { W.A.refusals atoms.new ≡ W.A.refusals atoms.old ++ refusals_in result }
+    ensures asked { Gains (IsListAsked purpose (W.A.held atoms.old) (W.told world.old) search.old goal) (W.A.asked atoms.old) (W.A.asked atoms.new) }
+{
+    let _most = search.budgets.inferences;
     let _mark = search.store.mark();
-    let procedure = predicate_at(&search.store, goal);
-    let first = key_at(&search.store, goal);
-    let visit = Visit::Call { procedure, first };
+    let listed = listed_at(&search.store, purpose, goal);
+    let procedure = predicate_at(&search.store, listed);
+    let first = key_at(&search.store, listed);
+    let visit = visit_for(purpose, procedure, first);
     match world.visit(visit, atoms) {
         Answer::Served { reply, generation } => {
             search.inferences += 1;
-            let called = follow_reply(search, Purpose::Resolving, goal, rest, reply, generation)?;
+            let called = follow_reply(search, purpose, goal, rest, reply, generation)?;
             Ok(called)
         }
         Answer::Waits { .. } => unreachable!(),
@@ -67,6 +102,21 @@ pub fn call_clauses<W: World<Term = Stored>>(
         Answer::Retry(cause) => Err(Unserved::Retry(cause)),
         Answer::Worn(word) => Err(Unserved::Worn(word)),
         Answer::Memory => Err(Unserved::Memory),
+    }
+}
+
+/// The visit by which the clauses for a goal are asked for.
+fn visit_for(
+    purpose: Purpose,
+    procedure: Procedure,
+    first: ArgumentKey,
+) -> Visit<Stored, ArgumentKey>
+    ensures { result ≡ visit_of purpose procedure first }
+{
+    match purpose {
+        Purpose::Resolving => Visit::Call { procedure, first },
+        Purpose::Inspecting => Visit::Inspect { procedure, first },
+        Purpose::Retracting => Visit::Retract { procedure, first },
     }
 }
 

@@ -97,7 +97,7 @@ pub fn retry_clauses<W: World<Term = Stored>>(
 }
 
 /// The goal for which the clauses are listed: the goal at a place, or the head of the rule there.
-fn listed_at(store: &Store, purpose: Purpose, goal: Place) -> Place
+pub fn listed_at(store: &Store, purpose: Purpose, goal: Place) -> Place
     requires { Holds store.now goal }
     ensures holds { Holds store.now result }
     ensures stands { term_at store.now result ≡ listed_in purpose (term_at store.now goal) }

@@ -13,8 +13,8 @@ returns-in-State c =
     left_state c.args.store.now c.args.goal c.args.procedure c.args.kind c.is_other.result c.requires.procedure c.requires.stands c.is_other.ensures b.result
     c.in-State.state c.if-is_other.true b.ensures c.in-State.is
 
-pub returns-in-Other : goal.returns-in-Other
-returns-in-Other c =
+pub left_alone-requires-clause-missing : goal.left_alone-requires-clause-missing
+left_alone-requires-clause-missing c =
     let b = c.builtin_at in
     left_other c.args.store.now c.args.goal c.args.procedure c.args.kind c.is_other.result c.requires.procedure c.requires.stands c.is_other.ensures b.result
     c.if-is_other.true b.ensures c.in-Other.is
@@ -25,7 +25,7 @@ returns-in-No c =
     left_call c.args.store.now c.args.goal c.args.procedure c.args.kind c.is_other.result c.requires.procedure c.requires.stands c.is_other.ensures b.result
     c.requires.holds c.requires.callable c.if-is_other.true b.ensures c.in-No.is
 
-pub returns-else-is_write : goal.returns-else-is_write
-returns-else-is_write c =
+pub left_step-requires-clause-missing : goal.left_step-requires-clause-missing
+left_step-requires-clause-missing c =
     kind_missing c.args.store.now c.args.goal c.args.procedure c.args.kind c.is_other.result c.requires.procedure c.requires.stands c.is_other.ensures
     c.is_write.result c.requires.left c.if-is_other.false c.is_write.ensures c.if-is_write.false

@@ -6,12 +6,13 @@ use Rattle.iso_search.specs.Outcomes.{Setting}
 use Rattle.pl_model.specs.Resolution.{failing}
 use Rattle.std.specs.Prelude.{[], None, false}
 use Rattle.iso_engine.specs.declared.engine.Engine.{Engine}
+use Rattle.iso_engine.specs.Standing.{staying}
 use Rattle.iso_engine.proofs.Fresh.{started_ready}
 use Rattle.iso_engine.proofs.Beginning.{starts_as, when_match}
 use Rattle.iso_engine.proofs.engine.Engine.new.Goals as goal
 
 pub returns-clause-starts : goal.returns-clause-starts
-returns-clause-starts c v stays view =
+returns-clause-starts c v view =
     let s = c.build.new.self in
     let e : Search = record {
       store = s;
@@ -26,7 +27,7 @@ returns-clause-starts c v stays view =
     let built = c.in_ok-place.ensures.built in
     let t : Setting = record { view = v; solutions = 0; stays = None; doing = failing; output = [] } in
     starts_as v view e c.begin.new.search c.in_ok-doing.doing c.in_ok-begun.begun c.procedure_at-procedure.result c.in_ok-place.place c.cells-need.result
-    c.args.solutions stays c.args.goal.now
+    c.args.solutions (staying c.args.stays) c.args.goal.now
     c.new-3.ensures.items
     c.variables-count.ensures
     refl
@@ -49,7 +50,8 @@ returns-clause-ready c m t view held =
       doing = c.in_ok-doing.doing;
       solution_limit = c.args.solutions;
       solutions_found = 0;
+      stays = c.args.stays;
       out_of_memory = false;
       alloc = c.args.alloc;
     } in
-    started_ready e c.args.goal.now c.in_ok-begun.ensures.whole (λ v stays there. returns-clause-starts c v stays there) m t view held
+    started_ready e c.args.goal.now c.in_ok-begun.ensures.whole (λ v there. returns-clause-starts c v there) m t view held

@@ -10,7 +10,7 @@ use Rattle.iso_engine.specs.Ready.{IsReady}
 use Rattle.iso_engine.specs.Slices.{IsStepped, written_text}
 use Rattle.iso_engine.specs.Tasks.{IsDone}
 use Rattle.iso_engine.specs.Unserved.{as_stopped}
-use Rattle.iso_engine.proofs.Interning.{asked_same, row_asks_for}
+use Rattle.iso_engine.proofs.Interning.{asked_same, exit_asks_for, row_asks_for}
 use Rattle.iso_engine.proofs.Refusals.{none_ok}
 use Rattle.iso_engine.proofs.Solutions.{view_is}
 use Rattle.iso_engine.proofs.Stability.{advance_step, spent_by, step_ready}
@@ -271,3 +271,144 @@ returns-in-Write-clause-given g c = none_ok (as_stopped c.write.result) (c.write
 
 pub returns-in-Row-clause-given : goal.returns-in-Row-clause-given
 returns-in-Row-clause-given g c = none_ok (as_stopped c.row.result) (c.row.new.self.solutions_found ≡ c.args.self.now.solutions_found) c.row.ensures.given
+
+pub look-requires-clause-ready : goal.look-requires-clause-ready
+look-requires-clause-ready g c =
+    let e = c.args.self.now in
+    let x = c.in-Some.frame in
+    let f = c.do_task.new.search in
+    let did = c.in_ok-did-in-Some in
+    let called = subst (IsDone e.search x.task x.continuation f) c.in-Look.is did.ensures.done in
+    subst (λ (s : Search). let y : Engine = record e { search = s } in IsReady (g.W.A.Atoms.held c.args.atoms.now) (g.W.World.told c.args.world.now) y) (sym called.0)
+    c.requires.ready
+
+pub collect-requires-clause-ready : goal.collect-requires-clause-ready
+collect-requires-clause-ready g c =
+    let e = c.args.self.now in
+    let x = c.in-Some.frame in
+    let f = c.do_task.new.search in
+    let did = c.in_ok-did-in-Some in
+    let called = subst (IsDone e.search x.task x.continuation f) c.in-Collect.is did.ensures.done in
+    subst (λ (s : Search). let y : Engine = record e { search = s } in IsReady (g.W.A.Atoms.held c.args.atoms.now) (g.W.World.told c.args.world.now) y) (sym called.0)
+    c.requires.ready
+
+pub returns-in-Look-clause-stepped : goal.returns-in-Look-clause-stepped
+returns-in-Look-clause-stepped g c =
+    let e = c.args.self.now in
+    let x = c.in-Some.frame in
+    let f = c.do_task.new.search in
+    let y : Engine = record e { search = f } in
+    let done = subst (IsDone e.search x.task x.continuation f) c.in-Look.is c.in_ok-did-in-Some.ensures.done in
+    let m = g.W.A.Atoms.held c.args.atoms.now in
+    let n = g.W.A.Atoms.held c.look.new.atoms in
+    let t = g.W.World.told c.args.world.now in
+    let u = g.W.World.told c.look.new.world in
+    let after = c.look.new.self in
+    let end = as_stopped c.look.result in
+    let a = c.args.out.now.items in
+    IfOk-weaker end (λ o. IsStepped m t y o n u after [])
+    (λ o. (more : List Output) × IsStepped m t e o n u after more × (a ≡ a ++ encode_utf8_all (written_text more)))
+    (λ o h. ([], subst (λ (s : Search). let z : Engine = record e { search = s } in IsStepped m t z o n u after []) done.0 h, silent_out a [] refl)) c.look.ensures.stepped
+
+pub returns-in-Collect-clause-stepped : goal.returns-in-Collect-clause-stepped
+returns-in-Collect-clause-stepped g c =
+    let e = c.args.self.now in
+    let x = c.in-Some.frame in
+    let f = c.do_task.new.search in
+    let y : Engine = record e { search = f } in
+    let done = subst (IsDone e.search x.task x.continuation f) c.in-Collect.is c.in_ok-did-in-Some.ensures.done in
+    let m = g.W.A.Atoms.held c.args.atoms.now in
+    let n = g.W.A.Atoms.held c.collect.new.atoms in
+    let t = g.W.World.told c.args.world.now in
+    let u = g.W.World.told c.collect.new.world in
+    let after = c.collect.new.self in
+    let end = as_stopped c.collect.result in
+    let a = c.args.out.now.items in
+    IfOk-weaker end (λ o. IsStepped m t y o n u after [])
+    (λ o. (more : List Output) × IsStepped m t e o n u after more × (a ≡ a ++ encode_utf8_all (written_text more)))
+    (λ o h. ([], subst (λ (s : Search). let z : Engine = record e { search = s } in IsStepped m t z o n u after []) done.0 h, silent_out a [] refl)) c.collect.ensures.stepped
+
+pub returns-in-Look-clause-asked : goal.returns-in-Look-clause-asked
+returns-in-Look-clause-asked g c =
+    let e = c.args.self.now in
+    let x = c.in-Some.frame in
+    let f = c.do_task.new.search in
+    let a = c.args.atoms.now in
+    let called = subst (IsDone e.search x.task x.continuation f) c.in-Look.is c.in_ok-did-in-Some.ensures.done in
+    asked_same (g.W.A.Atoms.held a) (g.W.World.told c.args.world.now) e f (g.W.A.Atoms.asked a) (g.W.A.Atoms.asked c.look.new.atoms) called.0 c.look.ensures.asked
+
+pub returns-in-Collect-clause-asked : goal.returns-in-Collect-clause-asked
+returns-in-Collect-clause-asked g c =
+    let e = c.args.self.now in
+    let x = c.in-Some.frame in
+    let f = c.do_task.new.search in
+    let a = c.args.atoms.now in
+    let called = subst (IsDone e.search x.task x.continuation f) c.in-Collect.is c.in_ok-did-in-Some.ensures.done in
+    asked_same (g.W.A.Atoms.held a) (g.W.World.told c.args.world.now) e f (g.W.A.Atoms.asked a) (g.W.A.Atoms.asked c.collect.new.atoms) called.0 c.collect.ensures.asked
+
+pub returns-in-Look-clause-given : goal.returns-in-Look-clause-given
+returns-in-Look-clause-given g c = none_ok (as_stopped c.look.result) (c.look.new.self.solutions_found ≡ c.args.self.now.solutions_found) c.look.ensures.given
+
+pub returns-in-Collect-clause-given : goal.returns-in-Collect-clause-given
+returns-in-Collect-clause-given g c = none_ok (as_stopped c.collect.result) (c.collect.new.self.solutions_found ≡ c.args.self.now.solutions_found) c.collect.ensures.given
+
+pub exit-requires-clause-ready : goal.exit-requires-clause-ready
+exit-requires-clause-ready g c =
+    let e = c.args.self.now in
+    let x = c.in-Some.frame in
+    let f = c.do_task.new.search in
+    let done = subst (IsDone e.search x.task x.continuation f) c.in-Exit.is c.in_ok-did-in-Some.ensures.done in
+    let m = g.W.A.Atoms.held c.args.atoms.now in
+    let t = g.W.World.told c.args.world.now in
+    let ready = subst (λ (s : Search). let y : Engine = record e { search = s } in IsReady m t y) (sym done.0) c.requires.ready in
+    (t, ready)
+
+pub returns-in-Exit-clause-ready : goal.returns-in-Exit-clause-ready
+returns-in-Exit-clause-ready g c =
+    let e = c.args.self.now in
+    let x = c.in-Some.frame in
+    let f = c.do_task.new.search in
+    let y : Engine = record e { search = f } in
+    let done = subst (IsDone e.search x.task x.continuation f) c.in-Exit.is c.in_ok-did-in-Some.ensures.done in
+    let m = g.W.A.Atoms.held c.args.atoms.now in
+    let n = g.W.A.Atoms.held c.exit.new.atoms in
+    let t = g.W.World.told c.args.world.now in
+    let u = g.W.World.told c.args.world.now in
+    let after = c.exit.new.self in
+    let end = as_stopped c.exit.result in
+    let ready = subst (λ (s : Search). let z : Engine = record e { search = s } in IsReady m t z) (sym done.0) c.requires.ready in
+    IfOk-weaker end (λ o. (k : Told) → IsReady m k y → IsReady n k after) (λ o. IsReady n t after) (λ o h. h t ready) c.exit.ensures.ready
+
+pub returns-in-Exit-clause-stepped : goal.returns-in-Exit-clause-stepped
+returns-in-Exit-clause-stepped g c =
+    let e = c.args.self.now in
+    let x = c.in-Some.frame in
+    let f = c.do_task.new.search in
+    let y : Engine = record e { search = f } in
+    let done = subst (IsDone e.search x.task x.continuation f) c.in-Exit.is c.in_ok-did-in-Some.ensures.done in
+    let m = g.W.A.Atoms.held c.args.atoms.now in
+    let n = g.W.A.Atoms.held c.exit.new.atoms in
+    let t = g.W.World.told c.args.world.now in
+    let u = g.W.World.told c.args.world.now in
+    let after = c.exit.new.self in
+    let end = as_stopped c.exit.result in
+    let ready = subst (λ (s : Search). let z : Engine = record e { search = s } in IsReady m t z) (sym done.0) c.requires.ready in
+    let a = c.args.out.now.items in
+    IfOk-weaker end (λ o. (k : Told) → IsReady m k y → IsStepped m k y o n k after [])
+    (λ o. (more : List Output) × IsStepped m t e o n u after more × (a ≡ a ++ encode_utf8_all (written_text more)))
+    (λ o h. ([], subst (λ (s : Search). let z : Engine = record e { search = s } in IsStepped m t z o n u after []) done.0 (h t ready), silent_out a [] refl)) c.exit.ensures.stepped
+
+pub returns-in-Exit-clause-asked : goal.returns-in-Exit-clause-asked
+returns-in-Exit-clause-asked g c =
+    let e = c.args.self.now in
+    let x = c.in-Some.frame in
+    let f = c.do_task.new.search in
+    let a = c.args.atoms.now in
+    let m = g.W.A.Atoms.held a in
+    let t = g.W.World.told c.args.world.now in
+    let done = subst (IsDone e.search x.task x.continuation f) c.in-Exit.is c.in_ok-did-in-Some.ensures.done in
+    asked_same m t e f (g.W.A.Atoms.asked a) (g.W.A.Atoms.asked c.exit.new.atoms) done.0
+    (exit_asks_for m t (record e { search = f }) (g.W.A.Atoms.asked a) (g.W.A.Atoms.asked c.exit.new.atoms) c.exit.ensures.asked)
+
+pub returns-in-Exit-clause-given : goal.returns-in-Exit-clause-given
+returns-in-Exit-clause-given g c = none_ok (as_stopped c.exit.result) (c.exit.new.self.solutions_found ≡ c.args.self.now.solutions_found) c.exit.ensures.given

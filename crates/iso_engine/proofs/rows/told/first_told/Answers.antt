@@ -1,5 +1,5 @@
-use Rattle.std.proofs.Common.{◌≡◌, ◌≤◌, ◌&&◌, List, length, nat_le, refl, subst, sym}
-use Rattle.pl_model.specs.Control.{first_answer, next_answer, several}
+use Rattle.std.proofs.Common.{◌≡◌, ◌≤◌, length, refl, subst, sym}
+use Rattle.pl_model.specs.Control.{first_answer, next_answer}
 use Rattle.pl_model.specs.Predicates.{proc_of}
 use Rattle.pl_model.specs.Terms.{arguments}
 use Rattle.term_store.specs.Contents.{Holds}

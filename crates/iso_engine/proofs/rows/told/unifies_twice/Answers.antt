@@ -1,4 +1,4 @@
-use Rattle.std.proofs.Common.{◌≡◌, ℕ, ◌<◌, ◌+◌, List, Option, length, subst, arith}
+use Rattle.std.proofs.Common.{ℕ, ◌<◌, ◌+◌, List, Option, length, subst, arith}
 use Rattle.pl_model.specs.Terms.{arguments}
 use Rattle.term_store.specs.Contents.{Contents}
 use Rattle.iso_search.specs.declared.told.Line.{Line}

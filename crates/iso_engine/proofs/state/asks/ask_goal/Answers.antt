@@ -1,4 +1,4 @@
-use Rattle.std.proofs.Common.{◌≡◌, ℕ, suc, ◌+◌, ◌<◌, ◌≤◌, inl, refl, sym, ap, subst, ◌∙◌, arith}
+use Rattle.std.proofs.Common.{◌≡◌, ◌+◌, ◌<◌, inl, refl, sym, ap, subst, arith}
 use Rattle.pl_model.specs.BuiltinRows.{error, one_answer}
 use Rattle.pl_model.specs.Terms.{arguments}
 use Rattle.term_store.specs.Contents.{Contents}
@@ -13,7 +13,6 @@ use Rattle.shared_builtins.specs.Shared.{IsShared}
 use Rattle.shared_builtins.specs.Telling.{TellsAtoms}
 use Rattle.iso_engine.specs.State.{IsRowLed, IsStateAt, IsVisitFor}
 use Rattle.iso_engine.proofs.Equals.{keeps_counted}
-use Rattle.iso_engine.proofs.Interning.{nothing_asked}
 use Rattle.iso_engine.proofs.StateAsked.{after_counted, names_tell}
 use Rattle.iso_engine.proofs.StateRows.{counted_again, counted_in, counted_whole, row_alone, spent_alone}
 use Rattle.iso_engine.proofs.state.asks.ask_goal.Goals as goal
@@ -219,4 +218,4 @@ ask-requires-clause-asks g c =
     let k = c.in_ok-shared in
     let s = c.shared_of.new.store in
     let is = subst (IsShared m e.store x) c.in-Asks.is (k.ensures.shares m tells c.requires.held) in
-    (is.0, is.1, subst (λ (y : Contents). IsVisitFor m (reads m y x.place) c.in-Asks.visit is.0 is.1) (sym k.ensures.kept) (record { shares = is.2; asks = is.3; held = is.4 }))
+    (is.0, is.1, subst (λ (y : Contents). IsVisitFor m (reads m y x.place) c.in-Asks.visit is.0 is.1) (sym k.ensures.kept) (record { shares = is.2; asks = is.3; held = is.4; by_names = is.5 }))

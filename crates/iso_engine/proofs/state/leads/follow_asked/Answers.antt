@@ -1,4 +1,4 @@
-use Rattle.std.proofs.Common.{◌≡◌, sym, ap, subst, ◌∙◌}
+use Rattle.std.proofs.Common.{sym, subst}
 use Rattle.pl_model.specs.BuiltinRows.{error}
 use Rattle.pl_model.specs.BuiltinRows as rows
 use Rattle.term_store.specs.Contents.{Contents, Holds}
