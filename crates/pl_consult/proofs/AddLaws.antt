@@ -24,7 +24,7 @@ use Rattle.pl_consult.specs.Checks.{kept_clause}
 use Rattle.pl_consult.specs.Consults.{activity_of, Stands}
 use Rattle.pl_consult.proofs.ConsultLemmas.{gone_stands}
 use Rattle.world_api.specs.declared.reply.Reply.{Reply}
-use Rattle.world_api.specs.declared.reply.Reply.TheVariants.{Standing, Clauses, Procedures, Flags, Named, Message, NoMessage, Status, Done, Gone, Refused}
+use Rattle.world_api.specs.declared.reply.Reply.TheVariants.{Standing, Clauses, Procedures, Flags, Operators, Named, Message, NoMessage, Status, Done, Gone, Refused}
 use Rattle.world_api.specs.declared.visit.Visit.TheVariants.{Consult as ConsultVisit}
 use Rattle.world_api.specs.declared.answer.Answer.TheVariants.{Served}
 use Rattle.world_api.specs.Visits.{clause_in}
@@ -82,6 +82,7 @@ module _ {K : Type 0} (term : (ℕ → Chars) → Tree → Tree) (key : Tree →
   said_done (Clauses f) says = absurd says
   said_done (Procedures ps) says = absurd (let no : ⊥ = cc in no)
   said_done (Flags fs) says = absurd (let no : ⊥ = cc in no)
+  said_done (Operators os) says = absurd says
   said_done (Named n) says = absurd (let no : ⊥ = cc in no)
   said_done (Message t) says = absurd (let no : ⊥ = cc in no)
   said_done NoMessage says = absurd (let no : ⊥ = cc in no)
@@ -95,6 +96,7 @@ module _ {K : Type 0} (term : (ℕ → Chars) → Tree → Tree) (key : Tree →
   said_refused (Clauses f) b says = absurd says
   said_refused (Procedures ps) b says = absurd (let no : ⊥ = cc in no)
   said_refused (Flags fs) b says = absurd (let no : ⊥ = cc in no)
+  said_refused (Operators os) b says = absurd says
   said_refused (Named n) b says = absurd (let no : ⊥ = cc in no)
   said_refused (Message t) b says = absurd (let no : ⊥ = cc in no)
   said_refused NoMessage b says = absurd (let no : ⊥ = cc in no)
@@ -130,6 +132,7 @@ module _ {K : Type 0} (term : (ℕ → Chars) → Tree → Tree) (key : Tree →
   add_added kept (Clauses f) g t before u a v is = absurd is
   add_added kept (Procedures ps) g t before u a v is = absurd is
   add_added kept (Flags fs) g t before u a v is = absurd is
+  add_added kept (Operators os) g t before u a v is = absurd is
   add_added kept (Named n) g t before u a v is = absurd is
   add_added kept (Message m) g t before u a v is = absurd is
   add_added kept NoMessage g t before u a v is = absurd is
@@ -242,6 +245,7 @@ added_named P names (Standing o q) a is all = absurd is
 added_named P names (Clauses f) a is all = absurd is
 added_named P names (Procedures ps) a is all = absurd is
 added_named P names (Flags fs) a is all = absurd is
+added_named P names (Operators os) a is all = absurd is
 added_named P names (Named n) a is all = absurd is
 added_named P names (Message m) a is all = absurd is
 added_named P names NoMessage a is all = absurd is

@@ -20,7 +20,7 @@ use Rattle.std.proofs.Math.Seq.{drop-cons}
 use Rattle.std.proofs.lemmas.List.{map-append}
 use Rattle.run_model.specs.Execution.{Job, consults, Execution, Word, goal_word, faulty_word, Refusal, refusal, starting, searching, over, first_activity, further_goals, goal_started, numbered_goals, move, move_by, moves, requests as asking}
 use Rattle.world_api.specs.declared.reply.Reply.{Reply}
-use Rattle.world_api.specs.declared.reply.Reply.TheVariants.{Standing, Clauses, Procedures, Flags, Named, Message, NoMessage, Status, Done, Gone, Refused}
+use Rattle.world_api.specs.declared.reply.Reply.TheVariants.{Standing, Clauses, Procedures, Flags, Operators, Named, Message, NoMessage, Status, Done, Gone, Refused}
 use Rattle.world_api.specs.declared.visit.Visit.TheVariants.{StartGoal}
 use Rattle.world_api.specs.declared.answer.Answer.TheVariants.{Served}
 use Rattle.world_api.specs.Told.{Told}
@@ -100,6 +100,7 @@ module _ {K : Type 0} (term : (ℕ → Chars) → Tree → Tree) (key : Tree →
   start_started n kept (Clauses f) g t before u a v is = absurd is
   start_started n kept (Procedures ps) g t before u a v is = absurd is
   start_started n kept (Flags fs) g t before u a v is = absurd is
+  start_started n kept (Operators os) g t before u a v is = absurd is
   start_started n kept (Named m) g t before u a v is = absurd is
   start_started n kept (Message m) g t before u a v is = absurd is
   start_started n kept NoMessage g t before u a v is = absurd is

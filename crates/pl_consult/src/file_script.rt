@@ -1,10 +1,10 @@
 //! The script of the first engine: its steps, one after the other, until one of them gives something.
-ghost use Rattle.std.specs.Prelude.{◌≡◌, ◌<◌, ◌∷◌, ◌++◌, ◌⊎◌, ℕ, List, [], ◌||◌, length, nat_lt, true, false, IsSome, IfOk, Ok, OnOk, Some};
+ghost use Rattle.std.specs.Prelude.{◌≡◌, ◌<◌, ◌∷◌, ◌++◌, ◌⊎◌, ℕ, List, [], ◌||◌, length, map, nat_lt, true, false, IsSome, IfOk, Ok, OnOk, Some};
 ghost use Rattle.std.specs.Arc.{arc_value};
 ghost use Rattle.std.specs.Option.{option_map};
 ghost use Rattle.std.specs.List.{All};
 ghost use Rattle.pl_term.specs.Tree.{Chars, Tree};
-ghost use Rattle.run_model.specs.Execution.{Job, consults, Consulted, Execution};
+ghost use Rattle.run_model.specs.Execution.{Job, consults, Consulted, Execution, word_read};
 ghost use Rattle.run_model.specs.Report.{place_at_hand};
 ghost use Rattle.pl_model.specs.SharedState.{SharedState};
 ghost use Rattle.pl_model.specs.Requests.{Request};
@@ -19,18 +19,18 @@ ghost use Rattle.pl_consult.specs.Steps.{IsAfter, IsQuiet, Looked, StartedSo, ca
 ghost use Rattle.pl_consult.specs.ItemTexts.{IsFileRequest, IsItemText, IsOwnRequest, IsOwnText, IsStartRequest, IsWordText, MayIntern, Narrows};
 ghost use Rattle.pl_consult.specs.GoalWords.{HasKept, IsAt, read_of, refusals_of, words_of};
 ghost use Rattle.pl_consult.specs.Hands.{StandsThere};
-ghost use Rattle.pl_consult.specs.FileScripts.{Begins, FileMoved, FileRan, IsFresh, IsGiven, execution_of, is_memory, part_in};
+ghost use Rattle.pl_consult.specs.FileScripts.{Begins, FileMoved, FileRan, IsFresh, IsGiven, execution_of, is_lost, is_memory, part_in};
 
 use crate::adds::add_clause;
 use crate::consult::{Consult, Place};
 use crate::counts::{count, counted};
 use crate::ends::to_report;
 use crate::gives::{give_directive, give_goal, next_initialization};
-use crate::goal_words::{RefusedGoal, WordsRead, first_names, words_under};
+use crate::goal_words::{RefusedGoal, WordsRead, first_names, read_words, words_under};
 use crate::hands::place_at;
 use crate::looks::{Standing, look_at};
 use crate::reports::report;
-use crate::stage::{Stage, Step, can_step, directive_at};
+use crate::stage::{Stage, Step, can_step, directive_at, is_lost};
 use crate::starts::{begun, start_goal, started};
 use crate::stops::next_by;
 use crate::taking::take_item;
@@ -81,6 +81,7 @@ impl<'a> FileScript<'a> {
         ensures begins { (job : Job) → job.script ≡ consults bytes.items words.items
             → IfOk result (λ s. Begins s job name.now out.new.items) }
         ensures fresh { IfOk result (λ s. IsFresh s name.now) }
+        ensures board { IfOk result (λ s. s.board.now ≡ board.now) }
         ensures texts { IfOk result (λ s. (c : Chars) → IsOwnText s.consult s.words.items s.stage c → IsItemText bytes.items c ⊎ IsWordText words.items c) }
         ensures asks { IfOk result (λ s. (q : Request) → IsOwnRequest s.consult s.words.items s.stage q
             → IsFileRequest bytes.items q ⊎ IsStartRequest words.items q) }
@@ -103,6 +104,14 @@ impl<'a> FileScript<'a> {
         ensures { (job : Job) (cs : List Consulted) → (execution_of self.now job cs).words ≡ words_of result.now }
     {
         words_in(&self.read)
+    }
+
+    /// The words of the goals as they are read under these operators, and with texts in double quotes as `quotes` says. The only
+    /// error is out of memory.
+    pub fn words_under(&self, operators: &OpTable, quotes: Quotes) -> Result<Vec<GoalWord>, Memory>
+        ensures { IfOk result (λ v. words_of v.items ≡ map (word_read operators.now quotes) self.now.words.items) }
+    {
+        read_words(self.alloc, self.words.as_slice(), operators, quotes)
     }
 
     /// The further goals whose engines could not be started, each with its error, in the order of their numbers.
@@ -134,6 +143,13 @@ impl<'a> FileScript<'a> {
             → IfOk result (λ o. o ≡ place_at_hand self.now.consult.text.items state x x.activity) }
     {
         place_at(self.alloc, &self.stage, &self.consult, operators, quotes)
+    }
+
+    /// Whether memory has run out in a step of the script.
+    pub fn is_lost(&self) -> bool
+        ensures { result ≡ is_lost self.now.stage }
+    {
+        is_lost(&self.stage)
     }
 
     /// Whether a line of the file is that of a fault, and not what a directive has written.
@@ -171,6 +187,7 @@ impl<'a> FileScript<'a> {
         ensures asked { Gains (MayIntern self.old.consult self.old.words.items stage (W.told world.old)) (W.A.asked atoms.old) (W.A.asked atoms.new) }
         ensures narrows { Narrows self.old.words.items self.old.consult stage self.new.consult self.new.stage }
         ensures words { self.new.words.items ≡ self.old.words.items }
+        ensures board { self.new.board.now ≡ self.old.board.now }
     {
         let mut stage = stage;
         for _ in 0..u64::MAX {
@@ -194,6 +211,7 @@ impl<'a> FileScript<'a> {
         ensures file { self.new.consult.name ≡ self.old.consult.name }
         ensures consult { self.new.consult ≡ self.old.consult }
         ensures words { self.new.words.items ≡ self.old.words.items }
+        ensures board { self.new.board.now ≡ self.old.board.now }
         ensures stands { (self.new.stage ≡ self.old.stage) ⊎ (self.new.stage ≡ stage) }
     {
         if is_memory(&next) {
@@ -228,6 +246,7 @@ impl<'a> FileScript<'a> {
         ensures asked { Gains (MayIntern self.old.consult self.old.words.items stage (W.told world.old)) (W.A.asked atoms.old) (W.A.asked atoms.new) }
         ensures narrows { Narrows self.old.words.items self.old.consult stage self.new.consult result.0 }
         ensures words { self.new.words.items ≡ self.old.words.items }
+        ensures board { self.new.board.now ≡ self.old.board.now }
     {
         let alloc = self.alloc;
         match stage {
@@ -284,6 +303,7 @@ impl<'a> FileScript<'a> {
         ensures asked { W.A.asked atoms.new ≡ W.A.asked atoms.old }
         ensures narrows { Narrows self.old.words.items self.old.consult Items self.new.consult result.0 }
         ensures words { self.new.words.items ≡ self.old.words.items }
+        ensures board { self.new.board.now ≡ self.old.board.now }
     {
         let alloc = self.alloc;
         match self.consult.place {
@@ -313,6 +333,7 @@ impl<'a> FileScript<'a> {
         ensures asked { W.A.asked atoms.new ≡ W.A.asked atoms.old }
         ensures narrows { Narrows self.old.words.items self.old.consult AtWords self.new.consult result.0 }
         ensures words { self.new.words.items ≡ self.old.words.items }
+        ensures board { self.new.board.now ≡ self.old.board.now }
     {
         match look_at(world, atoms) {
             Err(unserved) => (Stage::Words, Step::Gives(next_by(unserved))),
@@ -331,6 +352,7 @@ impl<'a> FileScript<'a> {
         ensures quiet { IsQuiet result.1 }
         ensures narrows { Narrows self.old.words.items self.old.consult AtWords self.new.consult result.0 }
         ensures words { self.new.words.items ≡ self.old.words.items }
+        ensures board { self.new.board.now ≡ self.old.board.now }
     {
         match words_under(self.alloc, self.words.as_slice(), &operators, quotes) {
             Ok(WordsRead { read, first, goals }) => match self.board.put(read) {
@@ -380,6 +402,7 @@ impl<'a> FileScript<'a> {
             (W.A.asked atoms.old) (W.A.asked atoms.new) }
         ensures narrows { Narrows self.old.words.items self.old.consult (Starts operators first goals at) self.new.consult result.0 }
         ensures words { self.new.words.items ≡ self.old.words.items }
+        ensures board { self.new.board.now ≡ self.old.board.now }
     {
         if at >= goals.len() {
             return begun(first);
@@ -423,6 +446,7 @@ impl<'a> FileScript<'a> {
         ensures quiet { IsQuiet result.1 }
         ensures narrows { Narrows self.old.words.items self.old.consult (Starts operators first goals at) self.new.consult result.0 }
         ensures words { self.new.words.items ≡ self.old.words.items }
+        ensures board { self.new.board.now ≡ self.old.board.now }
     {
         match self.keep(number, ball, &operators) {
             Ok(()) => started(operators, first, goals, at),
@@ -445,6 +469,7 @@ impl<'a> FileScript<'a> {
         ensures faults { self.new.faulty ≡ self.old.faulty }
         ensures file { self.new.consult ≡ self.old.consult }
         ensures words { self.new.words.items ≡ self.old.words.items }
+        ensures board { self.new.board.now ≡ self.old.board.now }
         ensures read { self.new.read ≡ self.old.read }
     {
         self.refused.push(RefusedGoal {
@@ -457,7 +482,7 @@ impl<'a> FileScript<'a> {
 }
 
 impl<'a> Script for FileScript<'a> {
-    ghost use Rattle.std.specs.Prelude.{[], refl};
+    ghost use Rattle.std.specs.Prelude.{[], Some, refl};
     ghost use Rattle.pl_consult.specs.FileScripts.{execution_of, part_in, Plays, is_over};
     ghost use Rattle.pl_consult.specs.ItemTexts.{IsOwnText, IsOwnRequest};
     ghost use Rattle.pl_consult.specs.TextLaws.{running_told, texts_none};
@@ -484,6 +509,8 @@ impl<'a> Script for FileScript<'a> {
     ghost asks = { λ s q. IsOwnRequest s.consult s.words.items s.stage q };
 
     ghost variables = { λ s. names_by (read_of s.read) };
+
+    ghost word = { λ s. Some (s.board.now, 1) };
 
     ghost names_tell = { λ s text other same. ((λ job cs. refl), (λ x p. p)) };
 

@@ -133,8 +133,8 @@ pub(crate) fn words_under(
     Ok(WordsRead { read, first, goals })
 }
 
-/// All the words as they are read.
-fn read_words(
+/// All the words as they are read. The only error is out of memory.
+pub(crate) fn read_words(
     alloc: Global,
     words: &[Text],
     operators: &OpTable,

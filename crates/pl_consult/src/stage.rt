@@ -1,6 +1,7 @@
 //! How far the script has come.
 ghost use Rattle.std.specs.Prelude.{◌≡◌};
 ghost use Rattle.pl_consult.specs.declared.consult.Place.{Place};
+ghost use Rattle.pl_consult.specs.FileScripts.{is_lost};
 ghost use Rattle.pl_consult.specs.Steps.{can_step, directive_place, part_of};
 
 use named_terms::NamedTerm;
@@ -74,6 +75,16 @@ pub(crate) fn can_step(stage: &Stage) -> bool
         Stage::AtGoal => false,
         Stage::Over => false,
         Stage::Lost => false,
+    }
+}
+
+/// Whether the script is lost.
+pub(crate) fn is_lost(stage: &Stage) -> bool
+    ensures { result ≡ is_lost stage.now }
+{
+    match stage {
+        Stage::Lost => true,
+        _ => false,
     }
 }
 

@@ -21,6 +21,7 @@ invariant-loop g l =
       lost : l.self.stage ≡ Lost;
       file : l.self.consult.name ≡ l.initial.self.consult.name;
       words : l.self.words.items ≡ l.initial.self.words.items;
+      board : l.self.board.now ≡ l.initial.self.board.now;
       told : IsLater (g.W.World.told l.initial.world) (g.W.World.told l.world);
       narrows : Narrows l.initial.self.words.items l.initial.self.consult l.initial.stage l.self.consult l.stage;
       asked :

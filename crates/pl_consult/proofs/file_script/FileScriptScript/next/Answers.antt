@@ -93,6 +93,7 @@ returns g c =
           left_requests c.args.self.now.words.items c.args.self.now.consult c.args.self.now.stage c.replace-stage.new.dest Lost c.replace-stage.ensures.after refl refl refl;
       words = λ e job cs. refl;
       variables = λ e. refl;
+      word = refl;
     }
 
 pub returns-then-can_step-clause-asked : goal.returns-then-can_step-clause-asked
