@@ -30,7 +30,7 @@ use Rattle.engine_run.specs.declared.runner.Stage.TheVariants.{Asks, Over}
 use Rattle.engine_run.specs.declared.runner.Turn.TheVariants.{Goes, Ended}
 use Rattle.engine_run.specs.declared.unfinished.Unfinished.TheVariants.{NeedsAtoms, Worn}
 use Rattle.engine_run.specs.Items.{IsDirectiveAsked}
-use Rattle.engine_run.specs.Ran.{HasBudgets}
+use Rattle.engine_run.specs.Ran.{HasAims, HasBudgets}
 use Rattle.engine_run.specs.Runners.{AnswerStands, CameTo, HasAsked, HasBegun, IsBetween, OutIs, StageIs, StageStands, StandsFor, Turned, is_over, put_by, stage_at, wanted_in}
 use Rattle.engine_run.proofs.Outputs.{put-none}
 use Rattle.engine_run.proofs.Searching.{limits_same, start_same}
@@ -80,7 +80,7 @@ module _ {S : Type 0} (execution : (ℕ → Chars) → S → Job → List Consul
     module _ (is : new ≡ record old { script = new.script; text = new.text; moves = new.moves; stage = Asks }) where
       stays_so : (job : Job) (ds : List Consulted) (x y : Execution) (r : Turned)
           → HasBudgets old.budgets job.limits
-          → job.limits.solutions ≡ old.wanted
+          → HasAims old.wanted old.stays job.limits
           → old.output.items ≡ []
           → ComesBy job x t old.moves y u new.moves
           → y ≡ execution (text_of n) new.script job ds
@@ -169,7 +169,7 @@ module _ {S : Type 0} (execution : (ℕ → Chars) → S → Job → List Consul
 
     stands_here : (e : Bool) (job : Job) (ds : List Consulted) (p : Part) (y : Execution)
         → part mid.script ≡ Some p
-        → limits_of job p ≡ engines.limits_of job.limits.stays begun.engine
+        → limits_of job p ≡ engines.limits_of begun.engine
         → mid.output.items ≡ []
         → y ≡ with_search (execution (text_of n) mid.script job ds) p (state_now (view_of n u) begun.engine [])
         → StageStands execution part n u mid.script job ds mid.lines (variables mid.script) mid.output.items (stage_at begun.engine e) y
@@ -202,14 +202,14 @@ module _ {S : Type 0} (execution : (ℕ → Chars) → S → Job → List Consul
         in let ds : List Consulted = g.0
         in let p : Part = g.3.0
         in let has_mid : HasBudgets mid.budgets job.limits = subst (λ (r : Runner S). HasBudgets r.budgets job.limits) (sym is) has
-        in let wants_mid : job.limits.solutions ≡ mid.wanted = subst (λ (r : Runner S). job.limits.solutions ≡ r.wanted) (sym is) wants
+        in let wants_mid : HasAims mid.wanted mid.stays job.limits = subst (λ (r : Runner S). HasAims r.wanted r.stays job.limits) (sym is) wants
         in let none_mid : mid.output.items ≡ [] = subst (λ (r : Runner S). r.output.items ≡ []) (sym is) none
-        in let limits : limits_of job p ≡ engines.limits_of job.limits.stays begun.engine =
-        limits_same mid.budgets (wanted_in mid d) begun.engine begun.fresh job p has_mid (wants_here d job p wants_mid g.3.2)
+        in let limits : limits_of job p ≡ engines.limits_of begun.engine =
+        limits_same mid.budgets (wanted_in mid d) mid.stays begun.engine begun.fresh job p has_mid (wants_here d job p wants_mid.solutions g.3.2) wants_mid.stays_so
         in let there : g.1 ≡ with_search (execution (text_of n) mid.script job ds) p (state_now (view_of n u) begun.engine []) =
         g.3.3
         ∙ ap (with_search (execution (text_of n) mid.script job ds) p)
-        (sym (start_same mid.budgets (wanted_in mid d) begun.engine begun.fresh n u goal stand begun.numbered view begun.starts job p limits))
+        (sym (start_same mid.budgets (wanted_in mid d) mid.stays begun.engine begun.fresh n u goal stand begun.numbered view begun.starts job p limits))
         in let written : written_at g.1 ≡ ds =
         ap written_at there
         ∙ written_begin (execution (text_of n) mid.script job ds) p (state_now (view_of n u) begun.engine []) ds refl (lines (text_of n) mid.script job ds)

@@ -43,20 +43,20 @@ told_later m n t u h = record { engine = h.engine; goals = h.goals; later = h.la
 
 module _ (n : Names) (u : Told) (f : Engine) where
   waits_there : (on : On) (g : ℕ) → IsWaitingNow n u f on g → (job : Job) (x : Execution) (item : Part) (os : List Output)
-      → limits_of job item ≡ engines.limits_of job.limits.stays f
+      → limits_of job item ≡ engines.limits_of f
       → solution_count os ≡ f.solutions_found
       → WaitsOn u job (on_by (text_of n) on) (with_search x item (state_now (view_of n u) f os))
   waits_there on g w job x item os limits given =
       let s : State = state_now (view_of n u) f os
-      in let k = asks_in job item x s w.request (w.asking.follows job.limits.stays os given)
-      (ap (λ (l : Limits). step l s) limits ∙ w.asking.asks_is job.limits.stays os given)
+      in let k = asks_in job item x s w.request (w.asking.follows os given)
+      (ap (λ (l : Limits). step l s) limits ∙ w.asking.asks_is os given)
       in record {
         waits = record { request = w.request; next = k.0; asks_is = k.1; served = w.waiting };
         awaits = ap (awaited_by u.engine) k.1 ∙ w.awaits;
       }
 
   pub answers_so : {E : Type 0} (r : Result E Unfinished) → Stands n u f r → (job : Job) (x : Execution) (item : Part) (os : List Output)
-      → limits_of job item ≡ engines.limits_of job.limits.stays f
+      → limits_of job item ≡ engines.limits_of f
       → solution_count os ≡ f.solutions_found
       → AnswerStands n u job (goes_by r) (with_search x item (state_now (view_of n u) f os))
   answers_so (Ok y) h job x item os limits given = tt
@@ -101,12 +101,12 @@ module _ {S : Type 0} (execution : (ℕ → Chars) → S → Job → List Consul
     there job cs item os = with_search (execution (text_of n) s job cs) item (state_there os)
 
     comes_there : (job : Job) (cs : List Consulted) (x : Execution) (item : Part) (os : List Output)
-        → limits_of job item ≡ engines.limits_of job.limits.stays e
+        → limits_of job item ≡ engines.limits_of e
         → solution_count os ≡ e.solutions_found
         → x ≡ with_search (execution (text_of m) s job cs) item (state_now (view_of m t) e os)
         → ComesBy job x t before (there job cs item os) u after
     comes_there job cs x item os limits given is =
-        let l : Limits = engines.limits_of job.limits.stays e
+        let l : Limits = engines.limits_of e
         in let here : State = state_now (view_of m t) e os
         in record {
           moves = ran.steps;
@@ -114,7 +114,7 @@ module _ {S : Type 0} (execution : (ℕ → Chars) → S → Job → List Consul
               subst (λ (z : Execution). ComesIn job ran.steps z t (there job cs item os) u)
               (sym (is ∙ ap (λ (y : Execution). with_search y item here) (tell.0 job cs)))
               (steps_come l here (state_there os) t u ran.steps job (execution (text_of n) s job cs) item limits
-              (ran.ran.advances.by_steps job.limits.stays os given));
+              (ran.ran.advances.by_steps os given));
           counted = ran.counted;
         }
 
@@ -122,8 +122,8 @@ module _ {S : Type 0} (execution : (ℕ → Chars) → S → Job → List Consul
     given_there os given =
         count-append os ran.ran.written ∙ ap (λ k. k + solution_count ran.ran.written) given ∙ sym ran.ran.advances.given
 
-    limits_there : (job : Job) (item : Part) → limits_of job item ≡ engines.limits_of job.limits.stays e → limits_of job item ≡ engines.limits_of job.limits.stays f
-    limits_there job item limits = limits ∙ sym (ran.ran.advances.limits job.limits.stays)
+    limits_there : (job : Job) (item : Part) → limits_of job item ≡ engines.limits_of e → limits_of job item ≡ engines.limits_of f
+    limits_there job item limits = limits ∙ sym ran.ran.advances.limits
 
   -- The item at hand is the one for which the engine searches.
   item_is : (s : S) (d : Bool) (e : Engine) (item : Part) → IsAtItem part m t s d e → part s ≡ Some item → is_directive item ≡ d
@@ -143,7 +143,7 @@ module _ {S : Type 0} (execution : (ℕ → Chars) → S → Job → List Consul
       in let directive : is_directive c.item ≡ true = item_is s true e c.item ready.stage c.at_hand
       in let y : Execution = there s ready.held e f texts old.moves new.moves old.text.items new.text.items ran job cs c.item c.written
       in let os : List Output = c.written ++ ran.ran.written
-      in let limits : limits_of job c.item ≡ engines.limits_of job.limits.stays f =
+      in let limits : limits_of job c.item ≡ engines.limits_of f =
       limits_there s ready.held e f texts old.moves new.moves old.text.items new.text.items ran job c.item c.limits
       in let given : solution_count os ≡ f.solutions_found =
       given_there s ready.held e f texts old.moves new.moves old.text.items new.text.items ran c.written c.given
@@ -192,7 +192,7 @@ module _ {S : Type 0} (execution : (ℕ → Chars) → S → Job → List Consul
       in let goal : is_directive c.item ≡ false = item_is s false e c.item ready.stage c.at_hand
       in let y : Execution = there s ready.held e f put old.moves new.moves old.output.items new.output.items ran job cs c.item c.written
       in let os : List Output = c.written ++ ran.ran.written
-      in let limits : limits_of job c.item ≡ engines.limits_of job.limits.stays f =
+      in let limits : limits_of job c.item ≡ engines.limits_of f =
       limits_there s ready.held e f put old.moves new.moves old.output.items new.output.items ran job c.item c.limits
       in let given : solution_count os ≡ f.solutions_found =
       given_there s ready.held e f put old.moves new.moves old.output.items new.output.items ran c.written c.given

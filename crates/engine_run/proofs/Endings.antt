@@ -16,9 +16,10 @@ use Rattle.run_model.specs.Lawful.{EndsSo}
 use Rattle.world_api.specs.Told.{Told}
 use Rattle.world_builtins.specs.Naming.{IsHeldAt, atoms_in, atoms_in_all, number_of}
 use Rattle.world_builtins.specs.Spelling.{spelled as spells, text_of as texts_by}
-use Rattle.iso_search.specs.Reading.{IsView}
+use Rattle.iso_search.specs.Reading.{IsView, View}
+use Rattle.iso_search.specs.Spelling as spelling
 use Rattle.iso_engine.specs.declared.doing.End.{End}
-use Rattle.iso_engine.specs.declared.doing.End.TheVariants.{Threw, Halted}
+use Rattle.iso_engine.specs.declared.doing.End.TheVariants.{Threw, Halted, Exited}
 use Rattle.iso_engine.specs.declared.doing.Doing.TheVariants.{Ended}
 use Rattle.iso_engine.specs.declared.engine.Engine.{Engine}
 use Rattle.iso_engine.specs.Views.{view_of}
@@ -67,6 +68,25 @@ ball_in b (ended how) = of how
     of (exited c) = c
     of (halted n) = b
 
+-- Each atom of a term with which a search has ended is held.
+end_held : (m : Names) → FixedStand m → ((a b : ℕ) (x : Chars) → m a ≡ Some x → m b ≡ Some x → a ≡ b)
+    → ((a : ℕ) (x : Chars) → m a ≡ Some x → (a < 2 ^ 32) × (size x ≤ 248) × (all_scalars x ≡ true))
+    → (t : Told) (e : Engine) (end : End) (s : Contents) (p : Place)
+    → e.doing ≡ Ended end
+    → ((v : View) → ball_in (term_at s p) (ended (ending_of v end)) ≡ spelling.spelled (spelling.text_of v.names) (term_at s p))
+    → IsReady m t e
+    → IsHeldAt m s p
+end_held m stands unlike finite t e end s p doing ball ready =
+    let b = term_at s p
+    in let names : AllNames (IsHeldName m) b =
+    held_names m stands unlike finite b
+    (λ q fixes apart later.
+    let view : IsView (view_of q t) = record { fixed = fixes; apart = apart }
+    in let alike : IsAlike m t (view_of q t) = record { holds = later; all = λ goal g may. refl; left = λ goal g place may. refl }
+    in let same = (ready.stable (view_of q t) view alike).1
+    in sym (ball (view_of q t)) ∙ ap (ball_in b) (sym (ap (doing_of (view_of q t) e.search) doing) ∙ same ∙ ap (doing_of (view_of m t) e.search) doing) ∙ ball (view_of m t))
+    in all_held m (ap is_some (stands 0 (codes "!") zero_text)) b (names_short s p) names
+
 -- Each atom of a ball that nobody caught is held.
 pub ball_held : (m : Names) → FixedStand m → ((a b : ℕ) (x : Chars) → m a ≡ Some x → m b ≡ Some x → a ≡ b)
     → ((a : ℕ) (x : Chars) → m a ≡ Some x → (a < 2 ^ 32) × (size x ≤ 248) × (all_scalars x ≡ true))
@@ -76,16 +96,18 @@ pub ball_held : (m : Names) → FixedStand m → ((a b : ℕ) (x : Chars) → m 
     → IsReady m t e
     → IsHeldAt m s p
 ball_held m stands unlike finite t e end s p doing thrown ready =
-    let b = term_at s p
-    in let is : e.doing ≡ Ended (Threw b) = doing ∙ ap Ended thrown
-    in let names : AllNames (IsHeldName m) b =
-    held_names m stands unlike finite b
-    (λ q fixes apart later.
-    let view : IsView (view_of q t) = record { fixed = fixes; apart = apart }
-    in let alike : IsAlike m t (view_of q t) = record { holds = later; all = λ goal g may. refl; left = λ goal g place may. refl }
-    in let same = (ready.stable (view_of q t) view alike).1
-    in ap (ball_in b) (sym (ap (doing_of (view_of q t) e.search) is) ∙ same ∙ ap (doing_of (view_of m t) e.search) is))
-    in all_held m (ap is_some (stands 0 (codes "!") zero_text)) b (names_short s p) names
+    end_held m stands unlike finite t e end s p doing (λ v. ap (λ (x : End). ball_in (term_at s p) (ended (ending_of v x))) thrown) ready
+
+-- And each atom of what a thread left with.
+pub left_held : (m : Names) → FixedStand m → ((a b : ℕ) (x : Chars) → m a ≡ Some x → m b ≡ Some x → a ≡ b)
+    → ((a : ℕ) (x : Chars) → m a ≡ Some x → (a < 2 ^ 32) × (size x ≤ 248) × (all_scalars x ≡ true))
+    → (t : Told) (e : Engine) (end : End) (s : Contents) (p : Place)
+    → e.doing ≡ Ended end
+    → end ≡ Exited (term_at s p)
+    → IsReady m t e
+    → IsHeldAt m s p
+left_held m stands unlike finite t e end s p doing left ready =
+    end_held m stands unlike finite t e end s p doing (λ v. ap (λ (x : End). ball_in (term_at s p) (ended (ending_of v x))) left) ready
 
 -- The state has ended as the engine says.
 pub ends_as : (m : Names) (e : Engine) (end : End) (how : How Tree) → e.doing ≡ Ended end
@@ -99,3 +121,8 @@ throws_so m e end b f is thrown same =
 
 pub halts_so : (m : Names) (e : Engine) (end : End) (k : ℕ) → e.doing ≡ Ended end → end ≡ Halted k → HasEndedAs m e (how.Halted k)
 halts_so m e end k is halts = ends_as m e (Halted k) (how.Halted k) (is ∙ ap Ended halts) (λ t. refl)
+
+pub exits_so : (m : Names) (e : Engine) (end : End) (b f : Tree) → e.doing ≡ Ended end → end ≡ Exited b
+    → f ≡ spells (texts_by m) b → HasEndedAs m e (how.Exited f)
+exits_so m e end b f is left same =
+    ends_as m e (Exited b) (how.Exited f) (is ∙ ap Ended left) (λ t. spelled_same m b ∙ sym same)

@@ -14,8 +14,9 @@ use Rattle.iso_search.specs.declared.search.Budgets.{Budgets}
 use Rattle.iso_search.specs.Reading.{IsView, View}
 use Rattle.iso_search.specs.Spelling.{spelled, text_of}
 use Rattle.iso_engine.specs.declared.engine.Engine.{Engine}
+use Rattle.iso_engine.specs.declared.engine.Stays.{Stays}
 use Rattle.iso_engine.specs.Views.{view_of}
-use Rattle.iso_engine.specs.Standing.{state_now}
+use Rattle.iso_engine.specs.Standing.{state_now, staying}
 use Rattle.iso_engine.specs.Standing as engines
 use Rattle.iso_engine.specs.Starting.{IsFresh}
 use Rattle.engine_run.specs.Ran.{HasBudgets}
@@ -29,35 +30,38 @@ asks_in job of_goal x s q next is = (λ r. with_search x of_goal (next r), ap (s
 asks_in job (of_directive place rest) x s q next is =
     (λ r. with_search x (of_directive place rest) (next r), ap (directed (with_search x (of_directive place rest) s) place rest s) is)
 
-module _ (budgets : Budgets) (wanted : ℕ) (e : Engine) (fresh : IsFresh budgets wanted e) where
+module _ (budgets : Budgets) (wanted : ℕ) (stays : Stays) (e : Engine) (fresh : IsFresh budgets wanted stays e) where
   abbrev with_limits : ℕ → ℕ → ℕ → ℕ → Option Chars → Limits
   with_limits i c h s y = let l : Limits = record { inferences = i; cells = c; choices = h; solutions = s; stays = y } in l
 
-  by_parts : (i c h s j d k w : ℕ) (y : Option Chars) → i ≡ j → c ≡ d → h ≡ k → s ≡ w → with_limits i c h s y ≡ with_limits j d k w y
-  by_parts i c h s j d k w y p q r z =
-      ap (λ a. with_limits a c h s y) p ∙ ap (λ a. with_limits j a h s y) q ∙ ap (λ a. with_limits j d a s y) r ∙ ap (λ a. with_limits j d k a y) z
+  by_parts : (i c h s j d k w : ℕ) (y z : Option Chars) → i ≡ j → c ≡ d → h ≡ k → s ≡ w → y ≡ z → with_limits i c h s y ≡ with_limits j d k w z
+  by_parts i c h s j d k w y z p q r o x =
+      ap (λ a. with_limits a c h s y) p ∙ ap (λ a. with_limits j a h s y) q ∙ ap (λ a. with_limits j d a s y) r ∙ ap (λ a. with_limits j d k a y) o
+      ∙ ap (λ a. with_limits j d k w a) x
 
   -- The limits of the engine are those of the part.
-  pub limits_same : (job : Job) (part : Part) → HasBudgets budgets job.limits → (limits_of job part).solutions ≡ wanted
-      → limits_of job part ≡ engines.limits_of job.limits.stays e
-  limits_same job of_goal has wants =
-      by_parts _ _ _ _ _ _ _ _ job.limits.stays
+  pub limits_same : (job : Job) (part : Part) → HasBudgets budgets job.limits → (limits_of job part).solutions ≡ wanted → job.limits.stays ≡ staying stays
+      → limits_of job part ≡ engines.limits_of e
+  limits_same job of_goal has wants stay =
+      by_parts _ _ _ _ _ _ _ _ _ _
       (has.inferences ∙ ap (λ (b : Budgets). b.inferences) (sym fresh.budgets_are))
       (has.cells ∙ ap (λ (b : Budgets). b.cells) (sym fresh.budgets_are))
       (has.choices ∙ ap (λ (b : Budgets). b.choices) (sym fresh.budgets_are))
       (wants ∙ sym fresh.wants)
-  limits_same job (of_directive place rest) has wants =
-      by_parts _ _ _ _ _ _ _ _ job.limits.stays
+      (stay ∙ ap staying (sym fresh.stays_so))
+  limits_same job (of_directive place rest) has wants stay =
+      by_parts _ _ _ _ _ _ _ _ _ _
       (has.inferences ∙ ap (λ (b : Budgets). b.inferences) (sym fresh.budgets_are))
       (has.cells ∙ ap (λ (b : Budgets). b.cells) (sym fresh.budgets_are))
       (has.choices ∙ ap (λ (b : Budgets). b.choices) (sym fresh.budgets_are))
       (wants ∙ sym fresh.wants)
+      (stay ∙ ap staying (sym fresh.stays_so))
 
   -- The search begins as the engine does.
   pub start_same : (m : Names) (t : Told) (goal : Tree) → FixedStand m → by_number goal ≡ goal → IsView (view_of m t)
-      → ((v : View) (stays : Option Chars) → IsView v → state_now v e [] ≡ start (engines.limits_of stays e) (spelled (text_of v.names) goal))
-      → (job : Job) (part : Part) → limits_of job part ≡ engines.limits_of job.limits.stays e
+      → ((v : View) → IsView v → state_now v e [] ≡ start (engines.limits_of e) (spelled (text_of v.names) goal))
+      → (job : Job) (part : Part) → limits_of job part ≡ engines.limits_of e
       → state_now (view_of m t) e [] ≡ start (limits_of job part) (term_by (worlds.text_of m) goal)
   start_same m t goal stand over view starts job part same =
-      starts (view_of m t) job.limits.stays view
+      starts (view_of m t) view
       ∙ ap₂ start (sym same) (sym (read_over m stand goal over))

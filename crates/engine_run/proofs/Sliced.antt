@@ -1,5 +1,5 @@
 -- What the small clauses say of a turn in which a slice was run.
-use Rattle.std.proofs.Common.{◌≡◌, ℕ, List, true, false, Result, Ok, Err, refl, sym, ap, subst, ◌∙◌}
+use Rattle.std.proofs.Common.{◌≡◌, ℕ, List, Option, true, false, Result, Ok, Err, refl, sym, ap, subst, ◌∙◌}
 use Rattle.std.specs.Prelude.{IfErr, IfOk}
 use Rattle.pl_term.specs.Tree.{Chars}
 use Rattle.run_model.specs.Report.{texts}
@@ -140,6 +140,9 @@ module _ {S : Type 0} (m n : Names) (t u : Told) (old new : Runner S) (e : Engin
   pub directed_lines : UnlessMemory r (HasDirected m t old e n u new r) → UnlessMemory r (new.lines ≡ old.lines)
   directed_lines h = unless_on r (λ (d : HasDirected m t old e n u new r). ap (λ (z : Runner S). z.lines) d.is) h
 
+  pub directed_word : (word : S → Option (ℕ × ℕ)) → UnlessMemory r (HasDirected m t old e n u new r) → UnlessMemory r (word new.script ≡ word old.script)
+  directed_word word h = unless_on r (λ (d : HasDirected m t old e n u new r). ap (λ (z : Runner S). word z.script) d.is) h
+
   pub directed_named : (name : S → Chars) → UnlessMemory r (HasDirected m t old e n u new r) → UnlessMemory r (name new.script ≡ name old.script)
   directed_named name h = unless_on r (λ (d : HasDirected m t old e n u new r). ap (λ (z : Runner S). name z.script) d.is) h
 
@@ -156,6 +159,9 @@ module _ {S : Type 0} (m n : Names) (t u : Told) (old new : Runner S) (e : Engin
 
     pub searched_lines : UnlessMemory r (HasSearched variables m t old e n u new r) → UnlessMemory r (new.lines ≡ old.lines)
     searched_lines h = unless_on r (λ (d : HasSearched variables m t old e n u new r). ap (λ (z : Runner S). z.lines) d.is) h
+
+    pub searched_word : (word : S → Option (ℕ × ℕ)) → UnlessMemory r (HasSearched variables m t old e n u new r) → UnlessMemory r (word new.script ≡ word old.script)
+    searched_word word h = unless_on r (λ (d : HasSearched variables m t old e n u new r). ap (λ (z : Runner S). word z.script) d.is) h
 
     pub searched_named : (name : S → Chars) → UnlessMemory r (HasSearched variables m t old e n u new r) → UnlessMemory r (name new.script ≡ name old.script)
     searched_named name h = unless_on r (λ (d : HasSearched variables m t old e n u new r). ap (λ (z : Runner S). name z.script) d.is) h

@@ -1,5 +1,5 @@
 -- Why a search does not go on, as a part of whatever execution.
-use Rattle.std.specs.Prelude.{◌≡◌, Some, IsSome}
+use Rattle.std.specs.Prelude.{◌≡◌, ℕ, Some, IsSome}
 use Rattle.std.specs.List.{All}
 use Rattle.pl_term.specs.Tree.{Chars}
 use Rattle.pl_model.specs.Resolution.{Limits, Doing, State}
@@ -13,6 +13,8 @@ use Rattle.world_api.specs.Answers.{on_names}
 use Rattle.world_api.specs.Told.{Told}
 use Rattle.script_api.specs.Parts.{Part, seen_in, with_search}
 use Rattle.iso_search.specs.declared.search.Budgets.{Budgets}
+use Rattle.iso_engine.specs.declared.engine.Stays.{Stays}
+use Rattle.iso_engine.specs.Standing.{staying}
 use Rattle.iso_engine.specs.Missing.{IsUnbuiltDoing}
 use Rattle.engine_run.specs.declared.unfinished.Unfinished.{Unfinished}
 use Rattle.engine_run.specs.declared.unfinished.Unfinished.TheVariants.{Waits, Missing}
@@ -22,6 +24,11 @@ pub record HasBudgets (b : Budgets) (l : Limits) : Type 0 where
   pub inferences : l.inferences ≡ b.inferences
   pub cells : l.cells ≡ b.cells
   pub choices : l.choices ≡ b.choices
+
+-- So many solutions are wanted under the limits, and what is run stays so.
+pub record HasAims (wanted : ℕ) (stays : Stays) (l : Limits) : Type 0 where
+  pub solutions : l.solutions ≡ wanted
+  pub stays_so : l.stays ≡ staying stays
 
 -- The next step of a search that does this is of this predicate, which is not built.
 pub record IsUnbuiltBy (n : Names) (p : Procedure) (d : Doing) : Type 0 where

@@ -34,7 +34,7 @@ use Rattle.engine_run.specs.declared.runner.Turn.TheVariants.{Goes, Ended}
 use Rattle.engine_run.specs.declared.unfinished.Unfinished.{Unfinished}
 use Rattle.engine_run.specs.declared.unfinished.Unfinished.TheVariants.{Waits, NeedsAtoms, Worn, Missing, Memory}
 use Rattle.engine_run.specs.Items.{IsText}
-use Rattle.engine_run.specs.Ran.{HasBudgets, IsAtMissing, WaitsOn}
+use Rattle.engine_run.specs.Ran.{HasAims, HasBudgets, IsAtMissing, WaitsOn}
 use Rattle.engine_run.specs.Searched.{IsSearched}
 
 -- What a turn answers.
@@ -94,10 +94,10 @@ wanted_in r d = if d then 1 else r.wanted
 -- The search of a goal has begun, of a directive or of the engine.
 pub record HasBegun {S : Type 0} (goal : Tree) (d : Bool) (old new : Runner S) : Type 0 where
   pub engine : Engine
-  pub fresh : IsFresh old.budgets (wanted_in old d) engine
+  pub fresh : IsFresh old.budgets (wanted_in old d) old.stays engine
   pub ready : (m : Names) (t : Told) → IsView (view_of m t) → All (λ a. IsSome (m a)) (atoms_in goal) → IsReady m t engine
-  pub starts : (v : View) (stays : Option Chars) → IsView v
-      → state_now v engine [] ≡ start (engines.limits_of stays engine) (spelling.spelled (spelling.text_of v.names) goal)
+  pub starts : (v : View) → IsView v
+      → state_now v engine [] ≡ start (engines.limits_of engine) (spelling.spelled (spelling.text_of v.names) goal)
   pub numbered : by_number goal ≡ goal
   pub is : new ≡ at_stage old (stage_at engine d)
 
@@ -160,7 +160,7 @@ module _ {S : Type 0} (execution : (ℕ → Chars) → S → Job → List Consul
     pub written : List Output
     pub at_hand : part s ≡ Some item
     pub given : solution_count written ≡ e.solutions_found
-    pub limits : limits_of job item ≡ engines.limits_of job.limits.stays e
+    pub limits : limits_of job item ≡ engines.limits_of e
     pub out_is : OutIs l names item written out
     pub is : x ≡ with_search (execution (text_of m) s job cs) item (state_now (view_of m t) e written)
 
@@ -182,7 +182,7 @@ module _ {S : Type 0} (execution : (ℕ → Chars) → S → Job → List Consul
     -- the file and what the goal has given are those of the execution.
     pub record StandsFor (m : Names) (t : Told) (r : Runner S) (job : Job) (x : Execution) : Type 0 where
       pub budgets : HasBudgets r.budgets job.limits
-      pub wants : job.limits.solutions ≡ r.wanted
+      pub wants : HasAims r.wanted r.stays job.limits
       pub playing : plays (text_of m) r.script job.script
       pub consulted : List Consulted
       pub stands : StageStands m t r.script job consulted r.lines (variables r.script) r.output.items r.stage x
@@ -204,7 +204,7 @@ module _ {S : Type 0} (execution : (ℕ → Chars) → S → Job → List Consul
     HasAsked m t old how n u new r =
         (job : Job) (cs : List Consulted) (searched : Option State) (x : Execution)
         → HasBudgets old.budgets job.limits
-        → job.limits.solutions ≡ old.wanted
+        → HasAims old.wanted old.stays job.limits
         → plays (text_of m) old.script job.script
         → StandsBefore execution part term_by (text_of m) old.script job (part old.script) how searched cs x
         → old.output.items ≡ []
@@ -216,7 +216,7 @@ module _ {S : Type 0} (execution : (ℕ → Chars) → S → Job → List Consul
     HasClosed m t old how n u new r =
         (job : Job) (cs : List Consulted) (s : State) (x : Execution) (ending : Ending)
         → HasBudgets old.budgets job.limits
-        → job.limits.solutions ≡ old.wanted
+        → HasAims old.wanted old.stays job.limits
         → plays (text_of m) old.script job.script
         → s.doing ≡ ended ending
         → EndsSo ending how

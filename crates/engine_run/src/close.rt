@@ -37,6 +37,7 @@ impl<S: Script<Term = Stored> + Drop> Runner<S> {
         ensures over { UnlessMemory result (is_over self.new.stage ≡ ends_by result) }
         ensures searching { IfErr result (IsStillSearching self.new.stage) }
         ensures named { UnlessMemory result (S.name self.new.script ≡ S.name self.old.script) }
+        ensures word { UnlessMemory result (S.word self.new.script ≡ S.word self.old.script) }
         ensures lines { UnlessMemory result (self.new.lines ≡ self.old.lines) }
         ensures missing { IfErr result (IsNameHeld (W.A.held atoms.new)) }
         ensures told { IfOk result IsEndOfTurn }

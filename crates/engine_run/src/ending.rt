@@ -17,8 +17,8 @@ use pl_term::Memory;
 use std::alloc::Global;
 use world_builtins::named_at;
 
-/// How the search of an engine has ended: a ball as a term with its own texts, its variables with the numbers that they
-/// had (ISO 7.8.10). The only error is out of memory.
+/// How the search of an engine has ended: a ball, or what a thread left with, as a term with its own texts, its variables with
+/// the numbers that they had (ISO 7.8.10). The only error is out of memory.
 pub fn how_at<A: Atoms>(
     alloc: Global,
     engine: &Engine,
@@ -43,6 +43,11 @@ pub fn how_at<A: Atoms>(
             Ok(How::Threw(term))
         }
         End::Halted(status) => Ok(How::Halted(*status)),
+        End::Exited(status) => {
+            let (store, place) = status.lend();
+            let term = named_at(alloc, store, place, atoms)?;
+            Ok(How::Exited(term))
+        }
     }
 }
 

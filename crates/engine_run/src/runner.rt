@@ -15,7 +15,7 @@ use crate::ending::how_at;
 use crate::unfinished::Unfinished;
 use atom_api::Atoms;
 use iso_engine::doing::Doing;
-use iso_engine::engine::Engine;
+use iso_engine::engine::{Engine, Stays};
 use iso_search::search::Budgets;
 use named_terms::NamedTerm;
 use pl_model::ends::How;
@@ -59,7 +59,8 @@ pub enum Turn {
 }
 
 /// An engine with its script: the budgets of each of its searches, how many solutions of its goal are wanted, what is
-/// written of them, what was written of the file and of the goal so far, and how many moves it has made.
+/// written of them, whether thread_exit/1 leaves it, what was written of the file and of the goal so far, and how many moves
+/// it has made.
 #[derive(Drop)]
 pub struct Runner<S> {
     pub(crate) alloc: Global,
@@ -68,6 +69,7 @@ pub struct Runner<S> {
     pub(crate) budgets: Budgets,
     pub(crate) wanted: u64,
     pub(crate) lines: Lines,
+    pub(crate) stays: Stays,
     pub(crate) text: Vec<u8>,
     pub(crate) output: Vec<u8>,
     pub(crate) moves: u64,
@@ -82,12 +84,14 @@ impl<S: Script<Term = Stored> + Drop> Runner<S> {
         wanted: u64,
         lines: Lines,
         text: Vec<u8>,
+        stays: Stays,
     ) -> Runner<S>
         ensures script { result.script ≡ script }
         ensures stage { result.stage ≡ Asks }
         ensures budgets { result.budgets ≡ budgets }
         ensures wanted { result.wanted ≡ wanted }
         ensures lines { result.lines ≡ lines }
+        ensures stays { result.stays ≡ stays }
         ensures text { result.text ≡ text }
         ensures output { result.output.items ≡ [] }
         ensures moves { result.moves ≡ 0 }
@@ -99,6 +103,7 @@ impl<S: Script<Term = Stored> + Drop> Runner<S> {
             budgets,
             wanted,
             lines,
+            stays,
             text,
             output: Vec::new(alloc),
             moves: 0,
@@ -145,6 +150,7 @@ impl<S: Script<Term = Stored> + Drop> Runner<S> {
         ensures over { UnlessMemory result (is_over self.new.stage ≡ ends_by result) }
         ensures searching { IfErr result (IsStillSearching self.new.stage) }
         ensures named { UnlessMemory result (S.name self.new.script ≡ S.name self.old.script) }
+        ensures word { UnlessMemory result (S.word self.new.script ≡ S.word self.old.script) }
         ensures lines { UnlessMemory result (self.new.lines ≡ self.old.lines) }
         ensures missing { IfErr result (IsNameHeld (W.A.held atoms.new)) }
         ensures told { IfOk result IsEndOfTurn }

@@ -14,7 +14,7 @@ returns g c =
           subst (λ (s : Stage). HasBegun c.args.goal.now c.args.directive c.args.self.now (record c.args.self.now { stage = s })) (sym c.stage_at.ensures)
           (record {
             engine = e;
-            fresh = subst (λ (w : ℕ). IsFresh c.args.self.now.budgets w e) c.wanted_in-wanted.ensures c.in_ok-engine.ensures.fresh;
+            fresh = subst (λ (w : ℕ). IsFresh c.args.self.now.budgets w c.args.self.now.stays e) c.wanted_in-wanted.ensures c.in_ok-engine.ensures.fresh;
             ready = c.in_ok-engine.ensures.ready;
             starts = c.in_ok-engine.ensures.starts;
             numbered = stored_names c.args.goal.now c.nodes-nodes.result.now c.nodes-nodes.ensures.spelled;

@@ -14,7 +14,7 @@ use Rattle.engine_run.proofs.Carrying.{searched_between, searched_on, told_later
 use Rattle.engine_run.proofs.Ended.{closed_then, goal_at_hand}
 use Rattle.engine_run.proofs.Exits.{unless_on}
 use Rattle.engine_run.proofs.Refused.{refused_from}
-use Rattle.engine_run.proofs.Sliced.{searched_lines, searched_named, searched_names, searched_over, searched_still}
+use Rattle.engine_run.proofs.Sliced.{searched_lines, searched_named, searched_names, searched_over, searched_still, searched_word}
 use Rattle.engine_run.proofs.runner.Runner.goal_turn.Goals as goal
 
 -- `ended_at` leaves what is held as it was: `same`.
@@ -80,6 +80,12 @@ returns-in-None-clause-lines g c =
     let s = c.slice_goal in
     searched_lines (g.W.A.Atoms.held c.ended_at.new.atoms) (g.W.A.Atoms.held s.new.atoms) (g.W.World.told c.args.world.now) (g.W.World.told s.new.world) c.args.self.now s.new.self
     c.args.engine s.result g.S.Script.variables s.ensures.searched
+
+pub returns-in-None-clause-word : goal.returns-in-None-clause-word
+returns-in-None-clause-word g c =
+    let s = c.slice_goal in
+    searched_word (g.W.A.Atoms.held c.ended_at.new.atoms) (g.W.A.Atoms.held s.new.atoms) (g.W.World.told c.args.world.now) (g.W.World.told s.new.world) c.args.self.now s.new.self
+    c.args.engine s.result g.S.Script.variables g.S.Script.word s.ensures.searched
 
 pub returns-in-None-clause-named : goal.returns-in-None-clause-named
 returns-in-None-clause-named g c =
