@@ -25,9 +25,10 @@ use Rattle.engine_run.specs.declared.runner.Runner.{Runner}
 use Rattle.engine_run.specs.declared.runner.Stage.{Stage}
 use Rattle.engine_run.specs.declared.runner.Stage.TheVariants.{Asks}
 use Rattle.engine_run.specs.Items.{IsText}
-use Rattle.engine_run.specs.Ran.{HasBudgets}
+use Rattle.engine_run.specs.Ran.{HasAims, HasBudgets}
 use Rattle.engine_run.specs.Runners.{IsBetween, StageIs, StageStands, StandsFor, is_over}
 use Rattle.iso_search.specs.declared.search.Budgets.{Budgets}
+use Rattle.iso_engine.specs.Standing.{staying}
 use Rattle.pl_sched.specs.declared.ground.Terms.{Terms}
 use Rattle.pl_sched.specs.declared.mark.Mark.TheVariants.{Ready}
 use Rattle.pl_sched.specs.Homes.{IsAtHome, IsUnderWay}
@@ -80,6 +81,10 @@ wanted_by : (l : Limits) (own : Option Chars) (n : ℕ) (c : Bool) → l.solutio
 wanted_by l own n true is = is
 wanted_by l own n false is = refl
 
+stays_by : (l : Limits) (own : Option Chars) (c : Bool) → (if c then record l { stays = own } else record l { solutions = 1; stays = None }).stays ≡ (if c then own else None)
+stays_by l own true = refl
+stays_by l own false = refl
+
 module _ {S : Type 0} (execution : (ℕ → Chars) → S → Job → List Consulted → Execution) (part : S → Option Part) (plays : (ℕ → Chars) → S → Script → Type 0) (kept : S → Bool)
     (name : S → Chars) (variables : S → List (Chars × ℕ)) (done : S → Bool) (names : S → List ℕ) (p : Program) where
   -- A RUNNER THAT HAS MADE NO MOVE, with the script of the goal, under the terms of the command
@@ -88,6 +93,7 @@ module _ {S : Type 0} (execution : (ℕ → Chars) → S → Job → List Consul
     pub stage : r.stage ≡ Asks
     pub budgets : r.budgets ≡ terms.budgets
     pub wanted : r.wanted ≡ (if (nat_le 2 e && nat_le e terms.goals) then terms.solutions else 1)
+    pub stays : staying r.stays ≡ (if (nat_le 2 e && nat_le e terms.goals) then Some (goal_alias e) else None)
     pub text : r.text.items ≡ []
     pub output : r.output.items ≡ []
     pub moves : r.moves ≡ 0
@@ -121,8 +127,15 @@ module _ {S : Type 0} (execution : (ℕ → Chars) → S → Job → List Consul
         record {
           budgets = subst (λ (b : Budgets). HasBudgets b job.limits) (sym fresh.budgets) (budgets_by terms.budgets p.limits (Some (goal_alias new.begun.engine)) (is_goal_number p new.begun.engine) are.budgets);
           wants =
-              wanted_by p.limits (Some (goal_alias new.begun.engine)) terms.solutions (is_goal_number p new.begun.engine) are.solutions
-              ∙ (ap (λ (c : Bool). if c then terms.solutions else 1) of_command ∙ sym fresh.wanted);
+              record {
+                solutions =
+                    wanted_by p.limits (Some (goal_alias new.begun.engine)) terms.solutions (is_goal_number p new.begun.engine) are.solutions
+                    ∙ (ap (λ (c : Bool). if c then terms.solutions else 1) of_command ∙ sym fresh.wanted);
+                stays_so =
+                    stays_by p.limits (Some (goal_alias new.begun.engine)) (is_goal_number p new.begun.engine)
+                    ∙ (ap (λ (c : Bool). if c then Some (goal_alias new.begun.engine) else None) of_command
+                    ∙ (ap (λ (n : ℕ). if (nat_le 2 e && nat_le e terms.goals) then Some (goal_alias n) else None) new.engine ∙ sym fresh.stays));
+              };
           playing = subst (λ (t : Tree). plays text r.script (runs t)) (sym new.goal_is) (fresh.starts.playing text);
           consulted = [];
           stands = subst (λ (g : Stage). StageStands execution part m (told_of goals f) r.script job [] r.lines (variables r.script) r.output.items g there) (sym fresh.stage) (starts_there, fresh.output);

@@ -1,5 +1,5 @@
 -- Which engines the history begins.
-use Rattle.std.proofs.Common.{◌≡◌, ◌≢◌, ◌⊎◌, inl, inr, ◌<◌, ◌+◌, ℕ, zero, suc, List, [], ◌∷◌, ◌++◌, length, get_or, take, Bool, true, false, ◌&&◌, not, Result, Ok, Err, refl, sym, ap, subst, ◌∙◌, arith, append-nil, append_assoc}
+use Rattle.std.proofs.Common.{◌≡◌, ◌≢◌, ◌⊎◌, inl, inr, ◌<◌, ◌+◌, ℕ, zero, suc, List, [], ◌∷◌, ◌++◌, length, get_or, take, Bool, true, false, ◌&&◌, not, Option, Result, Ok, Err, refl, sym, ap, subst, ◌∙◌, arith, append-nil, append_assoc}
 use Rattle.std.proofs.lemmas.Bool.{cases_eq, cases_lt}
 use Rattle.std.proofs.lemmas.List.{map-append, take_more}
 use Rattle.std.proofs.lemmas.List.Elements.{All-cons, All-nil, Contains-append_cases, Contains-append_left, Contains-append_right}
@@ -13,13 +13,14 @@ use Rattle.pl_model.specs.History.{Entry, History, Kind, abolish, add_first, add
 use Rattle.pl_model.specs.History as entries
 use Rattle.run_model.specs.Lawful.{Beginning, beginnings, beginnings_from, engine_numbers}
 use Rattle.pl_history.specs.Fronts.{FrontState, Life, begun_by, own_engine}
+use Rattle.pl_hub.specs.Called.{called_in}
 use Rattle.pl_hub.specs.Ending.{IsEnded}
 use Rattle.pl_hub.specs.Fronts.{Grows, begun_in, idle}
 use Rattle.pl_hub.specs.Order.{IsInOrder}
 use Rattle.pl_hub.specs.Settling.{entry}
-use Rattle.pl_term.specs.Tree.{Tree}
+use Rattle.pl_term.specs.Tree.{Chars, Tree}
 use Rattle.pl_model.specs.declared.ends.How.{How}
-use Rattle.pl_sched.specs.Ledger.{AreBegun, AreOnly, AreWhole, carried_by}
+use Rattle.pl_sched.specs.Ledger.{AreBegun, AreOnly, AreWhole, carried_by, named_in}
 
 -- LATER ENTRIES begin theirs after those before
 pub begun_append : (h k : History) → begun_in (h ++ k) ≡ begun_in h ++ begun_in k
@@ -80,6 +81,31 @@ by_kind place e (join i) xs same = same
 same_from : (place : ℕ) (h : History) → map (λ (b : Beginning). b.engine) (beginnings_from place h) ≡ map (λ (l : Life). l.engine) (begun_in h)
 same_from place [] = refl
 same_from place (x ∷ xs) = by_kind place x.engine x.kind xs (same_from (suc place) xs)
+
+-- and each has the alias with which its entry begins it
+named_by : (place e : ℕ) (k : Kind) (xs : History) → called_in xs ≡ map (λ (b : Beginning). (b.engine, b.alias)) (beginnings_from (suc place) xs)
+    → called_in (record { engine = e; kind = k } ∷ xs) ≡ map (λ (b : Beginning). (b.engine, b.alias)) (beginnings_from place (record { engine = e; kind = k } ∷ xs))
+named_by place e (start b u a) xs same = ap (λ (ns : List (ℕ × Option Chars)). (b, a) ∷ ns) same
+named_by place e (add_first p c o) xs same = same
+named_by place e (add_last p c o) xs same = same
+named_by place e (erase j) xs same = same
+named_by place e (abolish p) xs same = same
+named_by place e (set_dynamic ps) xs same = same
+named_by place e (set_flag f v) xs same = same
+named_by place e (set_op os) xs same = same
+named_by place e (make_queue i a) xs same = same
+named_by place e (drop_queue i) xs same = same
+named_by place e (send i u) xs same = same
+named_by place e (entries.take j) xs same = same
+named_by place e (finish how steps) xs same = same
+named_by place e (join i) xs same = same
+
+named_from : (place : ℕ) (h : History) → called_in h ≡ map (λ (b : Beginning). (b.engine, b.alias)) (beginnings_from place h)
+named_from place [] = refl
+named_from place (x ∷ xs) = named_by place x.engine x.kind xs (named_from (suc place) xs)
+
+pub all_named : (h : History) → called_in h ≡ named_in h
+all_named h = named_from zero h
 
 map_idle : (xs : List ℕ) → map (λ (l : Life). l.engine) (map idle xs) ≡ xs
 map_idle [] = refl
@@ -165,7 +191,8 @@ begun_or (Ok x) goals e how n f g hub new started ended same are = begun_ended g
 begun_or (Err x) goals e how n f g hub new started ended same are = subst (λ (z : FrontState). AreBegun started z) (sym same.1) are
 
 -- WHAT A RUN GIVES BACK, as one history
-pub given_back : {V X : Type 0} (goals : ℕ) (items : V → List FrontState) (r : Result V X) (h : History) → IfOk r (λ v. All (λ (f : FrontState). f.seen ≡ h) (items v)) → IfOk r (λ v. AreWhole h (items v)) → OnOk r (AreOnly h) → OnOk r (IsInOrder goals h)
-    → IfOk r (λ v. (g : History) × All (λ (f : FrontState). f.seen ≡ g) (items v) × AreWhole g (items v) × AreOnly g × IsInOrder goals g)
-given_back goals items (Ok v) h seen whole only order = (h, seen, whole, only, order)
-given_back goals items (Err e) h seen whole only order = tt
+pub given_back : {V X : Type 0} (goals : ℕ) (items : V → List FrontState) (begun : V → List (ℕ × Option Chars)) (r : Result V X) (h : History)
+    → IfOk r (λ v. All (λ (f : FrontState). f.seen ≡ h) (items v)) → IfOk r (λ v. AreWhole h (items v)) → OnOk r (AreOnly h) → OnOk r (IsInOrder goals h) → IfOk r (λ v. begun v ≡ named_in h)
+    → IfOk r (λ v. (g : History) × All (λ (f : FrontState). f.seen ≡ g) (items v) × AreWhole g (items v) × AreOnly g × IsInOrder goals g × (begun v ≡ named_in g))
+given_back goals items begun (Ok v) h seen whole only order named = (h, seen, whole, only, order, named)
+given_back goals items begun (Err e) h seen whole only order named = tt

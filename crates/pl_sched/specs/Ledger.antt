@@ -1,14 +1,19 @@
 -- Which engines a run has.
-use Rattle.std.specs.Prelude.{◌≡◌, ◌∷◌, ◌++◌, ℕ, List, map}
+use Rattle.std.specs.Prelude.{◌≡◌, ◌∷◌, ◌++◌, ℕ, List, Option, map}
 use Rattle.std.specs.List.{Contains}
+use Rattle.pl_term.specs.Tree.{Chars}
 use Rattle.pl_model.specs.History.{Entry, History}
-use Rattle.run_model.specs.Lawful.{beginnings, engine_numbers}
+use Rattle.run_model.specs.Lawful.{Beginning, beginnings, engine_numbers}
 use Rattle.pl_history.specs.Fronts.{FrontState, own_engine}
 use Rattle.pl_hub.specs.Fronts.{begun_in, idle}
 
 -- THE ENGINES THAT THE HISTORY BEGINS are those of the list, which were given fronts, and those that the hub's front carries still
 abbrev pub AreBegun : List ℕ → FrontState → Type 0
 AreBegun started hub = begun_in hub.seen ≡ map idle started ++ hub.lives
+
+-- THE NUMBER AND THE ALIAS of each engine that the history begins, in its order
+abbrev pub named_in : History → List (ℕ × Option Chars)
+named_in h = map (λ (b : Beginning). (b.engine, b.alias)) (beginnings h)
 
 -- THE ENGINE HAS BEGUN: it is engine 1, or an update of the history began it
 abbrev pub IsBegun : History → ℕ → Type 0

@@ -1,21 +1,39 @@
 //! Engines that take up their goal.
-ghost use Rattle.std.specs.Prelude.{◌≡◌, ◌&&◌, nat_le, if◌then◌else◌};
+ghost use Rattle.std.specs.Prelude.{◌≡◌, ◌&&◌, nat_le, if◌then◌else◌, None, Some};
+ghost use Rattle.pl_model.specs.Threads.{goal_alias};
+ghost use Rattle.iso_engine.specs.Standing.{staying};
 ghost use Rattle.engine_run.specs.declared.runner.Lines.TheVariants.{Solutions, Texts};
 
 use crate::ground::{Ground, Terms};
 use crate::home::{Home, Parts};
+use crate::loss::Loss;
 use crate::mark::Mark;
 use crate::naming::Command;
 use crate::newcomers::{NewEngine, NewParts};
+use crate::starts::Starts;
 use engine_run::{Lines, Runner};
-use script_api::FromGoal;
+use iso_engine::engine::Stays;
+use pl_io::Gate;
+use script_api::Script;
 use std::sync::Wait;
+use term_store::Stored;
 
-/// The engine that begins, with its goal to be taken up.
-pub(crate) fn begun<'a, 't, S: FromGoal + Drop, K: Command, R: Wait>(
-    ground: &Ground<'a, 't, Runner<S>, K, R>,
+/// The engine that begins, with its goal to be taken up. The only error is that the words of the command's goals are not
+/// there.
+pub(crate) fn begun<
+    'a,
+    't,
+    S: Script<Term = Stored> + Drop,
+    K: Command,
+    R: Wait,
+    G: Gate,
+    P: Starts<S>,
+>(
+    ground: &Ground<'a, 't, Runner<S>, K, R, G, P>,
     new: NewEngine<'t, K>,
-) -> Home<'t, Runner<S>, K> {
+) -> Result<Home<'t, Runner<S>, K>, Loss<K>>
+    requires board { P.board ground.now.goals.now ≡ K.board }
+{
     let NewParts {
         number,
         goal,
@@ -23,7 +41,9 @@ pub(crate) fn begun<'a, 't, S: FromGoal + Drop, K: Command, R: Wait>(
         front,
     } = new.into_parts();
     let of_command = is_of_command(ground.terms, number);
-    let script = S::from_goal(goal);
+    let Some(script) = ground.goals.start(goal, goal_number(number, of_command)) else {
+        return Err(Loss::Memory);
+    };
     let text = Vec::new(ground.alloc);
     let engine = Runner::new(
         ground.alloc,
@@ -32,14 +52,33 @@ pub(crate) fn begun<'a, 't, S: FromGoal + Drop, K: Command, R: Wait>(
         wanted_by(ground.terms, of_command),
         lines_of(of_command),
         text,
+        stays_as(number, of_command),
     );
-    Home::new(Parts {
+    Ok(Home::new(Parts {
         engine,
         atoms,
         front,
         number,
         mark: Mark::Ready,
-    })
+    }))
+}
+
+/// The number of the command's goal that the engine runs, if it runs one.
+fn goal_number(number: u64, of_command: bool) -> Option<u64>
+    ensures { result ≡ (if of_command then Some number else None) }
+{
+    if of_command { Some(number) } else { None }
+}
+
+/// Whether thread_exit/1 leaves the engine: it does where it is a thread's.
+fn stays_as(number: u64, of_command: bool) -> Stays
+    ensures { staying result ≡ (if of_command then Some (goal_alias number) else None) }
+{
+    if of_command {
+        Stays::AsGoal(number)
+    } else {
+        Stays::No
+    }
 }
 
 /// Whether the engine with the number runs one of the command's further goals.

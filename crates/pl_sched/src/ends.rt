@@ -16,6 +16,7 @@ use crate::writing::Writes;
 use atom_table::TableAtoms;
 use named_terms::NamedTerm;
 use pl_history::Front;
+use pl_io::Gate;
 use pl_model::ends::{AtomRecord, How};
 use pl_model::shows::{ShowsHow, ShowsSteps};
 use pl_term::Memory;
@@ -42,8 +43,8 @@ impl ShowsHow for Shown<'_> {
 }
 
 /// The engine has ended so: its end is entered, and it comes home. The only error is out of memory.
-pub(crate) fn end<'a, 't, E: Writes + Drop, K: Command, R: Wait>(
-    ground: &Ground<'a, 't, E, K, R>,
+pub(crate) fn end<'a, 't, E: Writes + Drop, K: Command, R: Wait, G: Gate, P>(
+    ground: &Ground<'a, 't, E, K, R, G, P>,
     engine: E,
     atoms: TableAtoms<'t, K>,
     front: Front,
@@ -52,7 +53,7 @@ pub(crate) fn end<'a, 't, E: Writes + Drop, K: Command, R: Wait>(
 ) -> Result<Home<'t, E, K>, Memory>
     requires own { IsOwn K.history number front }
     requires ended { (way : IsUnderWay E.stands E.ready E.moves K.program (names (seen atoms.seat)) (told_of K.goals front) engine) × EndsAs K.program way.execution how }
-    requires writes { WritesSo K.program K.file number (E.writing engine) }
+    requires writes { WritesSo K.program K.file K.board number (E.writing engine) }
 {
     let mut atoms = atoms;
     let mut front = front;
@@ -89,8 +90,8 @@ pub(crate) fn end<'a, 't, E: Writes + Drop, K: Command, R: Wait>(
 }
 
 /// The engine ends, since an atom has no place, as this shows. Where nothing shows it the engine is lost.
-pub(crate) fn end_without_atoms<'a, 't, E: Writes + Drop, K: Command, R: Wait>(
-    ground: &Ground<'a, 't, E, K, R>,
+pub(crate) fn end_without_atoms<'a, 't, E: Writes + Drop, K: Command, R: Wait, G: Gate, P>(
+    ground: &Ground<'a, 't, E, K, R, G, P>,
     engine: E,
     atoms: TableAtoms<'t, K>,
     front: Front,
@@ -101,7 +102,7 @@ pub(crate) fn end_without_atoms<'a, 't, E: Writes + Drop, K: Command, R: Wait>(
     requires way { IsUnderWay E.stands E.ready E.moves K.program (names (seen atoms.seat)) (told_of K.goals front) engine }
     requires going { E.over engine ≡ false }
     requires found { IfSome found (IsTrue K.program.slots) }
-    requires writes { WritesSo K.program K.file number (E.writing engine) }
+    requires writes { WritesSo K.program K.file K.board number (E.writing engine) }
 {
     match found {
         None => Err(Memory),

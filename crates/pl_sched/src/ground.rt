@@ -7,6 +7,7 @@ use crate::naming::Command;
 use crate::writing::Writes;
 use iso_search::search::Budgets;
 use pl_history::History;
+use pl_io::Gate;
 use std::alloc::Global;
 use std::sync::{Mutex, Wait};
 
@@ -23,11 +24,13 @@ pub struct Terms {
     pub slots: u64,
 }
 
-/// What the workers share: the state behind its lock, and the one history.
+/// What the workers share: the state behind its lock, the one history, and what each visit waits for.
 #[derive(Drop)]
-pub(crate) struct Ground<'a, 't, E: Writes + Drop, K: Command, R: Wait> {
+pub(crate) struct Ground<'a, 't, E: Writes + Drop, K: Command, R: Wait, G: Gate, P> {
     pub(crate) runtime: &'a R,
     pub(crate) alloc: Global,
+    pub(crate) gate: &'a G,
+    pub(crate) goals: &'a P,
     pub(crate) hub: &'a Mutex<Hub<'t, E, K>>,
     pub(crate) history: &'a History,
     pub(crate) terms: Terms,

@@ -40,7 +40,7 @@ impl<'a, E: Writes + Drop, K: Command> Model for Home<'a, E, K> {
     ghost view = { λ h. h.front };
 
     ghost invariant = { λ h. IsAtHome E.stands E.ready E.moves K.program E.over K.history K.goals h.number h.mark (names (seen h.atoms.seat)) h.front h.engine
-        × WritesSo K.program K.file h.number (E.writing h.engine) };
+        × WritesSo K.program K.file K.board h.number (E.writing h.engine) };
 }
 
 /// An engine that came home.
@@ -66,7 +66,7 @@ impl<'a, E: Writes + Drop, K: Command> Home<'a, E, K> {
     /// The engine with this number comes home, and its mark says why.
     pub fn new(parts: Parts<'a, E, K>) -> Home<'a, E, K>
         requires home { IsAtHome E.stands E.ready E.moves K.program E.over K.history K.goals parts.number parts.mark (names (seen parts.atoms.seat)) parts.front parts.engine }
-        requires writes { WritesSo K.program K.file parts.number (E.writing parts.engine) }
+        requires writes { WritesSo K.program K.file K.board parts.number (E.writing parts.engine) }
         ensures { result ≡ parts.entry.front }
     {
         let Parts {
@@ -90,7 +90,7 @@ impl<'a, E: Writes + Drop, K: Command> Home<'a, E, K> {
     pub fn into_parts(self) -> Parts<'a, E, K>
         ensures front { result.front ≡ self.entry }
         ensures home { IsAtHome E.stands E.ready E.moves K.program E.over K.history K.goals result.number result.mark (names (seen result.atoms.seat)) result.front result.engine }
-        ensures writes { WritesSo K.program K.file result.number (E.writing result.engine) }
+        ensures writes { WritesSo K.program K.file K.board result.number (E.writing result.engine) }
     {
         let Home {
             engine,

@@ -18,14 +18,15 @@ ghost use Rattle.pl_hub.specs.Ending.{IsEnded};
 ghost use Rattle.pl_hub.specs.Fronts.{IsOwn, told_of};
 ghost use Rattle.pl_hub.specs.Order.{IsInOrder};
 ghost use Rattle.pl_hub.specs.Visits.{IsVisit};
-ghost use Rattle.pl_sched.specs.Ledger.{AreBegun, AreOnly, AreWhole, IsBegun};
+ghost use Rattle.pl_sched.specs.Ledger.{AreBegun, AreOnly, AreWhole, IsBegun, named_in};
 ghost use Rattle.pl_sched.specs.Newcomers.{IsNew};
 
 use crate::home::{Home, Retired};
 use crate::ledger::are_done;
+use crate::loss::Loss;
 use crate::naming::Command;
 use crate::newcomers::NewEngine;
-use crate::over::{Done, Over, Unfinished, finish_all, settle_all};
+use crate::over::{Over, Ran, Unfinished, finish_all, settle_all};
 use crate::writing::Writes;
 use atom_table::TableAtoms;
 use counted_terms::CountedTerm;
@@ -54,8 +55,8 @@ pub struct Hub<'a, E: Writes + Drop, K: Command> {
     pub(crate) started: Vec<u64>,
     /// How many engines are with workers.
     pub(crate) away: u64,
-    /// Whether memory ran out where a worker had an engine: none is lent then.
-    pub(crate) lost: bool,
+    /// Why an engine that a worker had was lost, if one was: none is lent then.
+    pub(crate) lost: Option<Loss<K>>,
 }
 
 impl<'a, E: Writes + Drop, K: Command> Model for Hub<'a, E, K> {
@@ -157,7 +158,7 @@ impl<'a, E: Writes + Drop, K: Command> Hub<'a, E, K> {
             spare,
             started: Vec::new(alloc),
             away: 0,
-            lost: false,
+            lost: None,
         }
     }
 
@@ -216,22 +217,28 @@ impl<'a, E: Writes + Drop, K: Command> Hub<'a, E, K> {
         self.shared.standing()
     }
 
-    /// An engine for one worker alone: one that can go on, or else the first that has begun.
+    /// An engine for one worker alone: the first that has begun, where there are atoms for it, or else one that can go on.
     pub fn lend(&mut self, history: &History) -> Lend<'a, E, K>
         requires history { history.now ≡ K.history }
         ensures same { self.new.seen ≡ self.old.seen }
     {
-        if self.lost {
+        if self.lost.is_some() {
             return Lend::Over;
         }
-        let generation = self.shared.generation();
-        if let Some(home) = take_ready(&mut self.homes, generation) {
-            self.away = self.away.saturating_add(1);
-            return Lend::Out(home);
-        }
-        let lent = self.newcomer(history);
+        let lent = self.choose(history);
         self.away = counted_out(self.away, &lent);
         lent
+    }
+
+    // The first that has begun, or else one that can go on.
+    fn choose(&mut self, history: &History) -> Lend<'a, E, K>
+        requires history { history.now ≡ K.history }
+        ensures same { self.new.seen ≡ self.old.seen }
+    {
+        match self.newcomer(history) {
+            Lend::Nobody => self.one_at_home(),
+            lent => lent,
+        }
     }
 
     // The first engine that has begun, where there are atoms for it.
@@ -240,19 +247,32 @@ impl<'a, E: Writes + Drop, K: Command> Hub<'a, E, K> {
         ensures same { self.new.seen ≡ self.old.seen }
     {
         if !self.shared.has_begun() {
-            return nobody(self.away);
+            return Lend::Nobody;
         }
         match self.spare.pop() {
-            None => nobody(self.away),
+            None => Lend::Nobody,
             Some(atoms) => begin(&mut self.shared, &mut self.started, history, atoms),
         }
     }
 
-    /// Memory ran out where a worker had an engine, which does not come home: no engine is lent from now on.
-    pub fn lose(&mut self)
+    // One at home that can go on.
+    fn one_at_home(&mut self) -> Lend<'a, E, K>
         ensures same { self.new ≡ self.old }
     {
-        self.lost = true;
+        let generation = self.shared.generation();
+        match take_ready(&mut self.homes, generation) {
+            Some(home) => Lend::Out(home),
+            None => nobody(self.away),
+        }
+    }
+
+    /// An engine that a worker had does not come home: no engine is lent from now on.
+    pub fn lose(&mut self, loss: Loss<K>)
+        ensures same { self.new ≡ self.old }
+    {
+        if self.lost.is_none() {
+            self.lost = Some(loss);
+        }
     }
 
     /// An engine comes home. The only error is out of memory.
@@ -271,12 +291,13 @@ impl<'a, E: Writes + Drop, K: Command> Hub<'a, E, K> {
     }
 
     /// All engines, each of which is done as the history stands: it has ended, or waits and nothing wakes it. Engine 1 and
-    /// each that an update has begun is among them. The error says that one can still go on, or has not begun, or that memory
-    /// ran out, which is also said where an engine did not come home.
-    pub fn fronts(self, alloc: Global, history: &History) -> Result<Vec<Done<E, K>>, Unfinished>
+    /// each that an update has begun is among them. The error says that one can still go on, or has not begun, that an engine
+    /// did not come home, and why, or that memory ran out.
+    pub fn fronts(self, alloc: Global, history: &History) -> Result<Ran<E, K>, Unfinished<K>>
         requires history { history.now ≡ K.history }
-        ensures seen { IfOk result (λ v. All (λ f. f.seen ≡ self.entry.seen) v.items) }
-        ensures whole { IfOk result (λ v. AreWhole self.entry.seen v.items) }
+        ensures seen { IfOk result (λ v. All (λ f. f.seen ≡ self.entry.seen) v.dones.items) }
+        ensures whole { IfOk result (λ v. AreWhole self.entry.seen v.dones.items) }
+        ensures begun { IfOk result (λ v. v.begun.items ≡ named_in self.entry.seen) }
         ensures only { OnOk result (AreOnly self.entry.seen) }
         ensures order { OnOk result (IsInOrder K.goals self.entry.seen) }
     {
@@ -287,8 +308,11 @@ impl<'a, E: Writes + Drop, K: Command> Hub<'a, E, K> {
             spare: _,
             started,
             away: _,
-            lost: _,
+            lost,
         } = self;
+        if let Some(loss) = lost {
+            return Err(Unfinished::Lost(loss));
+        }
         let mut shared = shared;
         if shared.has_begun() {
             return Err(Unfinished::Begins);
@@ -300,7 +324,10 @@ impl<'a, E: Writes + Drop, K: Command> Hub<'a, E, K> {
         if !are_done(alloc, started.as_slice(), done.as_slice())? {
             return Err(Unfinished::Memory);
         }
-        Ok(done)
+        Ok(Ran {
+            dones: done,
+            begun: shared.into_begun(),
+        })
     }
 }
 
@@ -312,6 +339,7 @@ fn nobody<'a, E: Writes + Drop, K: Command>(away: u64) -> Lend<'a, E, K> {
 // One more is with a worker, where one was lent.
 fn counted_out<'a, E: Writes + Drop, K: Command>(away: u64, lent: &Lend<'a, E, K>) -> u64 {
     match lent {
+        Lend::Out(_) => away.saturating_add(1),
         Lend::Begin(_) => away.saturating_add(1),
         _ => away,
     }

@@ -4,6 +4,7 @@ use std::marker::Brand;
 
 /// Which command a run is of, beside its history and its table of atoms. The call picks it.
 pub trait Command: Naming {
+    ghost use Rattle.std.specs.Prelude.{ℕ};
     ghost use Rattle.pl_term.specs.Tree.{Chars};
     ghost use Rattle.run_model.specs.Lawful.{Program};
 
@@ -11,6 +12,9 @@ pub trait Command: Naming {
 
     // The name of the file, which what is written of it names.
     ghost file: { Chars };
+
+    // The board on which the words of its goals are written.
+    ghost board: { ℕ };
 }
 
 impl Command for Brand {
@@ -20,4 +24,6 @@ impl Command for Brand {
     ghost program = { no_program };
 
     ghost file = { [] };
+
+    ghost board = { 0 };
 }

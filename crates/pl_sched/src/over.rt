@@ -7,6 +7,7 @@ ghost use Rattle.pl_sched.specs.Homes.{IsFinal, IsGone};
 ghost use Rattle.pl_sched.specs.Written.{WritesSo};
 
 use crate::home::{Home, Parts};
+use crate::loss::Loss;
 use crate::mark::{End, Mark};
 use crate::naming::Command;
 use crate::texts::text_on;
@@ -18,7 +19,7 @@ use pl_hub::Shared;
 use pl_model::ends::How;
 use pl_model::grammar::Quotes;
 use pl_model::threads::On;
-use pl_term::Memory;
+use pl_term::{Memory, Text};
 use std::alloc::Global;
 use std::marker::{Model, PhantomData};
 use std::sync::Arc;
@@ -46,7 +47,7 @@ impl<E: Writes + Drop, K: Command> Model for Over<E, K> {
     ghost view = { λ o. o.front };
 
     ghost invariant = { λ o. IsGone E.stands E.ready E.moves K.program K.history K.goals o.number o.end o.front o.engine
-        × WritesSo K.program K.file o.number (E.writing o.engine) };
+        × WritesSo K.program K.file K.board o.number (E.writing o.engine) };
 }
 
 /// An engine that is done, with its front, which has seen the whole history. Contracts see it as what its front knows.
@@ -75,28 +76,38 @@ impl<E: Writes + Drop, K: Command> Model for Done<E, K> {
     ghost view = { λ d. d.front };
 
     ghost invariant = { λ d. IsFinal E.stands E.ready E.moves K.program K.history K.goals d.number d.end d.awaits d.operators d.quotes d.front d.engine
-        × WritesSo K.program K.file d.number (E.writing d.engine) };
+        × WritesSo K.program K.file K.board d.number (E.writing d.engine) };
 }
 
 /// Why not all engines are done.
-#[derive(Debug, Clone, Copy, PartialEq, Eq, Drop)]
-pub enum Unfinished {
+#[derive(Drop)]
+pub enum Unfinished<K: Command> {
     /// The engine with the number can go on.
     Runs(u64),
     /// An engine has begun, and no atoms are free for it.
     Begins,
+    /// An engine was lost.
+    Lost(Loss<K>),
+    /// Out of memory.
     Memory,
 }
 
-impl From<Memory> for Unfinished {
+impl<K: Command> From<Memory> for Unfinished<K> {
     ghost use Rattle.std.specs.Prelude.{◌≡◌};
     ghost use Rattle.pl_sched.specs.declared.over.Unfinished.TheVariants.{Memory as OutOfMemory};
 
     ghost from_gives = { λ _ u. u ≡ OutOfMemory };
 
-    fn from(_e: Memory) -> Unfinished {
+    fn from(_e: Memory) -> Unfinished<K> {
         Unfinished::Memory
     }
+}
+
+/// All engines at the end of a run, and the number and the alias of each that the history begins, in its order.
+#[derive(Drop)]
+pub struct Ran<E: Writes + Drop, K: Command> {
+    pub dones: Vec<Done<E, K>>,
+    pub begun: Vec<(u64, Option<Text>)>,
 }
 
 /// What an engine that is done is made of.
@@ -127,7 +138,7 @@ impl<E: Writes + Drop, K: Command> Done<E, K> {
     pub fn into_parts(self) -> DoneParts<E>
         ensures front { result.front ≡ self }
         ensures done { IsFinal E.stands E.ready E.moves K.program K.history K.goals result.number result.end result.awaits result.operators result.quotes result.front result.engine }
-        ensures writes { WritesSo K.program K.file result.number (E.writing result.engine) }
+        ensures writes { WritesSo K.program K.file K.board result.number (E.writing result.engine) }
     {
         let Done {
             engine,
@@ -155,7 +166,7 @@ impl<E: Writes + Drop, K: Command> Over<E, K> {
     /// The engine with this number has ended so.
     pub fn new(engine: E, front: Front, number: u64, end: End) -> Over<E, K>
         requires gone { IsGone E.stands E.ready E.moves K.program K.history K.goals number end front engine }
-        requires writes { WritesSo K.program K.file number (E.writing engine) }
+        requires writes { WritesSo K.program K.file K.board number (E.writing engine) }
         ensures { result ≡ front }
     {
         Over {
@@ -206,7 +217,7 @@ fn finish<'a, E: Writes + Drop, K: Command>(
     shared: &mut Shared<K>,
     history: &History,
     home: Home<'a, E, K>,
-) -> Result<Done<E, K>, Unfinished>
+) -> Result<Done<E, K>, Unfinished<K>>
     requires history { history.now ≡ K.history }
     ensures same { shared.new ≡ shared.old }
     ensures seen { IfOk result (λ d. d.seen ≡ shared.old.seen) }
@@ -246,7 +257,7 @@ fn finish<'a, E: Writes + Drop, K: Command>(
 fn put<E: Writes + Drop, K: Command>(
     done: &mut Vec<Done<E, K>>,
     next: Done<E, K>,
-) -> Result<(), Unfinished>
+) -> Result<(), Unfinished<K>>
     ensures { OnOk result ((h : Entries) → All (λ f. f.seen ≡ h) done.old.items → next.seen ≡ h → All (λ f. f.seen ≡ h) done.new.items) }
 {
     if done.reserve(1).is_err() {
@@ -263,7 +274,7 @@ pub(crate) fn finish_all<'a, E: Writes + Drop, K: Command>(
     history: &History,
     homes: Vec<Home<'a, E, K>>,
     done: &mut Vec<Done<E, K>>,
-) -> Result<(), Unfinished>
+) -> Result<(), Unfinished<K>>
     requires history { history.now ≡ K.history }
     requires before { All (λ f. f.seen ≡ shared.old.seen) done.old.items }
     ensures same { shared.new ≡ shared.old }
@@ -282,7 +293,7 @@ pub(crate) fn settle_all<E: Writes + Drop, K: Command>(
     history: &History,
     over: Vec<Over<E, K>>,
     done: &mut Vec<Done<E, K>>,
-) -> Result<(), Unfinished>
+) -> Result<(), Unfinished<K>>
     requires history { history.now ≡ K.history }
     requires before { All (λ f. f.seen ≡ shared.old.seen) done.old.items }
     ensures same { shared.new ≡ shared.old }

@@ -11,7 +11,7 @@ use std::alloc::Global;
 use world_api::{Name, On};
 
 /// The text of an atom that is held. The only error is out of memory.
-fn atom_text<A: Atoms>(alloc: Global, atom: Atom, atoms: &mut A) -> Result<Text, Memory>
+pub(crate) fn atom_text<A: Atoms>(alloc: Global, atom: Atom, atoms: &mut A) -> Result<Text, Memory>
     requires { IsSome (A.held atoms.old atom) }
     ensures text { IfOk result (λ t. A.held atoms.old atom ≡ Some t) }
     ensures same { A.held atoms.new ≡ A.held atoms.old }

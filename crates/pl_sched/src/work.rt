@@ -1,14 +1,20 @@
 //! Workers: each takes up an engine, lets it run, and brings it home.
+ghost use Rattle.std.specs.Prelude.{◌≡◌};
+
 use crate::beginning::begun;
 use crate::ground::Ground;
 use crate::home::Home;
 use crate::hub::Lend;
+use crate::loss::Loss;
 use crate::naming::Command;
+use crate::newcomers::NewEngine;
+use crate::starts::Starts;
 use crate::turns::turn;
 use engine_run::Runner;
-use pl_term::Memory;
-use script_api::FromGoal;
+use pl_io::Gate;
+use script_api::Script;
 use std::sync::{Condvar, Wait};
+use term_store::Stored;
 
 /// How many inferences an engine makes in one turn.
 const INFERENCES: u32 = 1000;
@@ -16,21 +22,30 @@ const INFERENCES: u32 = 1000;
 /// How many turns an engine makes before it comes home, where it can go on.
 const TURNS: u32 = 16;
 
-/// Runs engines, one after the other, until no engine can go on and none is with another worker, or one was lost.
-pub(crate) fn work<'a, 't, S: FromGoal + Drop, K: Command, R: Wait>(
-    ground: &Ground<'a, 't, Runner<S>, K, R>,
-    changed: &Condvar,
-) {
+/// Lets this worker run engines, one after the other, until no engine can go on and none is with another worker, or one was lost.
+pub(crate) fn work<
+    'a,
+    't,
+    S: Script<Term = Stored> + Drop,
+    K: Command,
+    R: Wait,
+    G: Gate,
+    P: Starts<S>,
+>(ground: &Ground<'a, 't, Runner<S>, K, R, G, P>, changed: &Condvar, worker: u32)
+    requires board { P.board ground.now.goals.now ≡ K.board }
+{
     for _ in ground.runtime.forever() {
         let mut hub = ground.hub.lock(ground.runtime);
         match hub.lend(ground.history) {
             Lend::Out(home) => {
                 drop(hub);
-                bring(ground, changed, carry(ground, home));
+                let home = carry(ground, worker, home);
+                bring(ground, changed, home);
             }
             Lend::Begin(new) => {
                 drop(hub);
-                bring(ground, changed, carry(ground, begun(ground, new)));
+                let home = begin(ground, worker, new);
+                bring(ground, changed, home);
             }
             Lend::Nobody => {
                 let hub = changed.wait(ground.runtime, hub);
@@ -42,7 +57,7 @@ pub(crate) fn work<'a, 't, S: FromGoal + Drop, K: Command, R: Wait>(
                 return;
             }
             Lend::Memory => {
-                hub.lose();
+                hub.lose(Loss::Memory);
                 drop(hub);
                 changed.notify_all();
                 return;
@@ -52,14 +67,27 @@ pub(crate) fn work<'a, 't, S: FromGoal + Drop, K: Command, R: Wait>(
     unreachable!()
 }
 
-/// Lets an engine run for some turns, as long as it can go on. The only error is out of memory.
-fn carry<'a, 't, S: FromGoal + Drop, K: Command, R: Wait>(
-    ground: &Ground<'a, 't, Runner<S>, K, R>,
+/// Lets an engine that begins take up its goal, and run for some turns.
+fn begin<'a, 't, S: Script<Term = Stored> + Drop, K: Command, R: Wait, G: Gate, P: Starts<S>>(
+    ground: &Ground<'a, 't, Runner<S>, K, R, G, P>,
+    worker: u32,
+    new: NewEngine<'t, K>,
+) -> Result<Home<'t, Runner<S>, K>, Loss<K>>
+    requires board { P.board ground.now.goals.now ≡ K.board }
+{
+    let home = begun(ground, new)?;
+    carry(ground, worker, home)
+}
+
+/// Lets an engine run for some turns, as long as it can go on.
+fn carry<'a, 't, S: Script<Term = Stored> + Drop, K: Command, R: Wait, G: Gate, P: Starts<S>>(
+    ground: &Ground<'a, 't, Runner<S>, K, R, G, P>,
+    worker: u32,
     home: Home<'t, Runner<S>, K>,
-) -> Result<Home<'t, Runner<S>, K>, Memory> {
+) -> Result<Home<'t, Runner<S>, K>, Loss<K>> {
     let mut home = home;
     for _ in 0..TURNS {
-        home = turn(ground, home, INFERENCES)?;
+        home = turn(ground, worker, home, INFERENCES)?;
         if !home.goes_on() {
             return Ok(home);
         }
@@ -68,18 +96,19 @@ fn carry<'a, 't, S: FromGoal + Drop, K: Command, R: Wait>(
 }
 
 /// The engine comes home, or is lost, and the other workers look again.
-fn bring<'a, 't, S: FromGoal + Drop, K: Command, R: Wait>(
-    ground: &Ground<'a, 't, Runner<S>, K, R>,
+fn bring<'a, 't, S: Script<Term = Stored> + Drop, K: Command, R: Wait, G: Gate, P: Starts<S>>(
+    ground: &Ground<'a, 't, Runner<S>, K, R, G, P>,
     changed: &Condvar,
-    home: Result<Home<'t, Runner<S>, K>, Memory>,
+    home: Result<Home<'t, Runner<S>, K>, Loss<K>>,
 ) {
     let mut hub = ground.hub.lock(ground.runtime);
-    let kept = match home {
-        Ok(home) => hub.bring(home).is_ok(),
-        Err(_) => false,
-    };
-    if !kept {
-        hub.lose();
+    match home {
+        Ok(home) => {
+            if hub.bring(home).is_err() {
+                hub.lose(Loss::Memory);
+            }
+        }
+        Err(loss) => hub.lose(loss),
     }
     drop(hub);
     changed.notify_all();

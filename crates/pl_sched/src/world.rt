@@ -9,6 +9,7 @@ use crate::writing::Writes;
 use atom_table::TableAtoms;
 use pl_history::{Front, History};
 use pl_hub::counted;
+use pl_io::Gate;
 use pl_term::Memory;
 use std::alloc::Global;
 use std::marker::Model;
@@ -16,20 +17,22 @@ use std::sync::{Mutex, Wait};
 use term_store::{ArgumentKey, Stored};
 use world_api::{Answer, Visit, World};
 
-/// The shared state as an engine that a worker carries sees it: its front, and the lock before each visit, which
-/// is made ready before the lock is taken. Contracts see it
-/// as what the front knows.
+/// The shared state as an engine that this worker carries sees it: its front, and before each visit the gate, and the lock,
+/// before which the visit is made ready. Contracts see it as what the front knows.
 #[derive(Drop)]
-pub struct HubWorld<'a, 't, E: Writes + Drop, K: Command, R: Wait> {
+pub struct HubWorld<'a, 't, E: Writes + Drop, K: Command, R: Wait, G: Gate> {
     runtime: &'a R,
     alloc: Global,
+    gate: &'a G,
     hub: &'a Mutex<Hub<'t, E, K>>,
     history: &'a History,
     front: Front,
+    worker: u32,
     engine: u64,
 }
 
-impl<'a, 't, E: Writes + Drop, K: Command, R: Wait> Model for HubWorld<'a, 't, E, K, R> {
+impl<'a, 't, E: Writes + Drop, K: Command, R: Wait, G: Gate> Model
+    for HubWorld<'a, 't, E, K, R, G> {
     ghost use Rattle.std.specs.Prelude.{◌≡◌};
     ghost use Rattle.pl_history.specs.Fronts.{FrontState};
     ghost use Rattle.pl_history.specs.Codes.{coded_front};
@@ -45,16 +48,19 @@ impl<'a, 't, E: Writes + Drop, K: Command, R: Wait> Model for HubWorld<'a, 't, E
     ghost invariant = { λ w. (w.history.now ≡ K.history) × IsOwn K.history w.engine w.front × IsBegun w.front.seen w.engine };
 }
 
-impl<'a, 't, E: Writes + Drop, K: Command, R: Wait> HubWorld<'a, 't, E, K, R> {
-    /// The shared state as the engine with the number sees it, which runs and whose front this is.
+impl<'a, 't, E: Writes + Drop, K: Command, R: Wait, G: Gate> HubWorld<'a, 't, E, K, R, G> {
+    /// The shared state as the engine with the number sees it, which runs, whose front this is, and which this worker
+    /// carries.
     pub fn new(
         runtime: &'a R,
         alloc: Global,
+        gate: &'a G,
         hub: &'a Mutex<Hub<'t, E, K>>,
         history: &'a History,
         front: Front,
+        worker: u32,
         engine: u64,
-    ) -> HubWorld<'a, 't, E, K, R>
+    ) -> HubWorld<'a, 't, E, K, R, G>
         requires history { history.now ≡ K.history }
         requires front { IsOwn K.history engine front }
         requires begun { IsBegun front.seen engine }
@@ -63,9 +69,11 @@ impl<'a, 't, E: Writes + Drop, K: Command, R: Wait> HubWorld<'a, 't, E, K, R> {
         HubWorld {
             runtime,
             alloc,
+            gate,
             hub,
             history,
             front,
+            worker,
             engine,
         }
     }
@@ -79,7 +87,8 @@ impl<'a, 't, E: Writes + Drop, K: Command, R: Wait> HubWorld<'a, 't, E, K, R> {
     }
 }
 
-impl<'a, 't, E: Writes + Drop, K: Command, R: Wait> World for HubWorld<'a, 't, E, K, R> {
+impl<'a, 't, E: Writes + Drop, K: Command, R: Wait, G: Gate> World
+    for HubWorld<'a, 't, E, K, R, G> {
     ghost use Rattle.std.specs.Prelude.{◌++◌, IsSome, Some, false};
     ghost use Rattle.std.specs.List.{All};
     ghost use Rattle.pl_model.specs.History.{History as Entries};
@@ -117,6 +126,7 @@ impl<'a, 't, E: Writes + Drop, K: Command, R: Wait> World for HubWorld<'a, 't, E
         ensures asked { Gains (IsInAnswer term_by clause_key (text_of (names (seen atoms.old.seat))) visit (told_of K.goals self.old))
             (Some (requests (seen atoms.old.seat))) (Some (requests (seen atoms.new.seat))) }
     {
+        self.gate.before_visit(self.worker, self.engine);
         match counted(self.alloc, visit) {
             Err(Memory) => Answer::Memory,
             Ok(listed) => {

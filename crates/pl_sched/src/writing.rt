@@ -7,10 +7,10 @@ use term_store::Stored;
 pub trait Writes: Resident {
     ghost use Rattle.pl_sched.specs.Written.{Writing};
 
-    // What is written of its goal, and the name of the file that it consults.
+    // What is written of its goal, the name of the file that it consults, and the word that its goal is.
     ghost writing: { Self → Writing };
 }
 
 impl<S: Script<Term = Stored> + Drop> Writes for Runner<S> {
-    ghost writing = { λ r. record { lines = r.lines; file = S.name r.script } };
+    ghost writing = { λ r. record { lines = r.lines; file = S.name r.script; word = S.word r.script } };
 }

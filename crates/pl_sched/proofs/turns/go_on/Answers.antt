@@ -35,4 +35,5 @@ settle-requires-clause-gone g c =
 pub settle-requires-clause-writes : goal.settle-requires-clause-writes
 settle-requires-clause-writes g c =
     let t = c.turn-turned in
-    still g.K.Command.program g.K.Command.file c.args.number c.args.engine.lines t.new.self.lines (g.S.Script.name c.args.engine.script) (g.S.Script.name t.new.self.script) c.requires.writes t.result t.ensures.lines t.ensures.named
+    still g.K.Command.program g.K.Command.file g.K.Command.board c.args.number c.args.engine.lines t.new.self.lines (g.S.Script.name c.args.engine.script) (g.S.Script.name t.new.self.script)
+    (g.S.Script.word c.args.engine.script) (g.S.Script.word t.new.self.script) c.requires.writes t.result t.ensures.lines t.ensures.named t.ensures.word

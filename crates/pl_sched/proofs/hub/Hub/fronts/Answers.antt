@@ -2,9 +2,10 @@ use Rattle.std.proofs.Common.{◌≡◌, ℕ, List, ◌∷◌, sym, ap, subst, �
 use Rattle.std.specs.List.{All, Contains}
 use Rattle.pl_model.specs.History.{History}
 use Rattle.pl_history.specs.Fronts.{FrontState}
+use Rattle.pl_hub.specs.Called.{called_in}
 use Rattle.pl_hub.specs.Order.{IsInOrder}
-use Rattle.pl_sched.specs.Ledger.{AreOnly, carried_by}
-use Rattle.pl_sched.proofs.LedgerLaws.{are_whole}
+use Rattle.pl_sched.specs.Ledger.{AreOnly, carried_by, named_in}
+use Rattle.pl_sched.proofs.LedgerLaws.{all_named, are_whole}
 use Rattle.pl_sched.proofs.hub.Hub.fronts.Goals as goal
 
 abbrev AreThere : List ℕ → List FrontState → Type 0
@@ -23,6 +24,13 @@ returns-clause-only g c = subst (λ (f : FrontState). AreOnly f.seen) c.self.vie
 
 pub returns-clause-order : goal.returns-clause-order
 returns-clause-order g c = subst (λ (f : FrontState). IsInOrder g.K.Naming.goals f.seen) c.self.view_is c.in_order.ensures
+
+pub returns-clause-begun : goal.returns-clause-begun
+returns-clause-begun g c =
+    subst (λ (f : FrontState). c.into_begun.result.items ≡ named_in f.seen) c.self.view_is
+    (c.into_begun.ensures
+    ∙ (ap (λ (f : FrontState). called_in f.seen) (c.settle_all.ensures.same ∙ c.finish_all.ensures.same)
+    ∙ all_named c.self.inside.shared.seen))
 
 pub returns-clause-whole : goal.returns-clause-whole
 returns-clause-whole g c =
