@@ -10,7 +10,7 @@ use Rattle.run_model.specs.Lawful.{Program, Told}
 use Rattle.command_line.specs.CommandLine.{Command, program_of}
 use Rattle.run_model.specs.Ends.{all_done, end_by, engines, first_halt, some_waits}
 use Rattle.toplevel.specs.Headline.{AreRead, GaveUp, IsNamed, IsPartlyWritten, IsReady, IsWritten, IsWrittenUnless, Missed, Promised, Ran, RanUnwritten}
-use Rattle.toplevel.specs.FirstEngines.{told_by}
+use Rattle.toplevel.specs.Fronts.{told_by}
 use Rattle.toplevel.specs.Unbuilt.{IsStuck}
 use Rattle.toplevel.specs.declared.ready.Ready.{Ready}
 use Rattle.toplevel.specs.declared.run.Report.{Report}

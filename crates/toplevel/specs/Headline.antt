@@ -9,9 +9,9 @@ use Rattle.run_model.specs.declared.ends.End.{End}
 use Rattle.run_model.specs.declared.ends.End.TheVariants.{Done, GoalFailed, Usage, Waiting, Memory, ReadFault, WriteFault, Halted, Unbuilt}
 use Rattle.command_line.specs.CommandLine.{Command, program_of, unread_line}
 use Rattle.run_model.specs.Ends.{end_of, goal_ends}
-use Rattle.toplevel.specs.FirstEngines.{told_by}
+use Rattle.toplevel.specs.Fronts.{told_by}
 use Rattle.toplevel.specs.Unbuilt.{IsStuck, unbuilt_line}
-use Rattle.toplevel.specs.declared.first_engine.Front.{Front}
+use Rattle.toplevel.specs.declared.front.Front.{Front}
 use Rattle.toplevel.specs.declared.ready.Ready.{Ready}
 use Rattle.toplevel.specs.declared.run.Report.{Report}
 

@@ -1,6 +1,11 @@
-pub mod FirstRun
+pub mod Beginnings
+pub mod Fronts
 pub mod Headline
-pub mod FirstEngines
-pub mod Parts
+pub mod Kept
+pub mod Mains
+pub mod Opened
+pub mod Others
+pub mod Pairs
 pub mod RunOutcomes
+pub mod Scripts
 pub mod Unbuilt

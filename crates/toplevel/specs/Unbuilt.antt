@@ -3,9 +3,10 @@ use Rattle.std.specs.Prelude.{◌≡◌, ℕ, ◌++◌, length, codes, decimal}
 use Rattle.pl_term.specs.Tree.{Chars}
 use Rattle.pl_model.specs.History.{Proc}
 use Rattle.pl_model.specs.Resolution.{State}
-use Rattle.run_model.specs.Execution.{Execution}
-use Rattle.run_model.specs.Lawful.{Program, main_job}
-use Rattle.run_model.specs.Progress.{Alone, Seen}
+use Rattle.run_model.specs.Execution.{Execution, Job}
+use Rattle.run_model.specs.Lawful.{Program}
+use Rattle.run_model.specs.Progress.{Reached, Seen}
+use Rattle.run_model.specs.WholeRuns.{IsJob}
 use Rattle.script_api.specs.Parts.{Part, with_search}
 use Rattle.iso_engine.specs.Missing.{IsUnbuiltDoing}
 use Rattle.command_line.specs.CommandLine.{newline}
@@ -25,9 +26,13 @@ pub record IsAtUnbuilt (q : Proc) (y : Execution) : Type 0 where
   pub is : y ≡ with_search around item state
   pub next : IsUnbuiltDoing q state.doing
 
--- The first engine of the program has come there.
+-- An engine of the program has come there, in a run of which so much was told.
 pub record IsStuck (p : Program) (q : Proc) : Type 0 where
+  pub engine : ℕ
+  pub job : Job
+  pub low : ℕ
   pub seen : Seen
   pub moves : ℕ
-  pub alone : Alone (length p.words) (main_job p) seen moves
+  pub is_job : IsJob p engine seen.history job low
+  pub reached : Reached engine (length p.words) job low seen moves
   pub at : IsAtUnbuilt q seen.execution

@@ -1,16 +1,16 @@
 //! The Prolog system: from words and files to a transcript.
 #![tactic(auto)]
 
-mod ends;
-mod first_engine;
-mod first_run;
-mod gated;
-mod hows;
+mod beginning;
+mod engines;
+mod front;
+mod kept;
 mod lines;
-mod names;
+mod main_engine;
+mod opened;
+mod others;
+mod pairs;
 mod ready;
 pub mod run;
-mod script_run;
-mod sections;
 
-pub use first_engine::Front;
+pub use front::{EngineFront, Front};

@@ -5,17 +5,17 @@ ghost use Rattle.pl_io.specs.Faults.{Rose};
 ghost use Rattle.run_model.specs.Execution.{most_bytes};
 ghost use Rattle.command_line.specs.CommandLine.{Command as CommandOf, command, unread_line, usage_line};
 ghost use Rattle.run_model.specs.Ends.{status_of};
-ghost use Rattle.command_line.specs.Commands.{told_command};
+ghost use Rattle.command_line.specs.Commands.{IsWithin, told_command};
 ghost use Rattle.toplevel.specs.Headline.{AreRead, GaveUp, HasRun, IsReady, IsUnbuilt, IsUnread, IsWrittenUnless, Missed, Promised, Ran, RanUnwritten, TellsNothing};
 ghost use Rattle.toplevel.specs.RunOutcomes.{IsRunOutcome};
 ghost use Rattle.toplevel.specs.Unbuilt.{indicated};
 
-use command_line::command::{Command, read_command};
-use crate::first_engine::Front;
-use crate::first_run::{RunOutcome, first_run};
+use crate::engines::{RunOutcome, run_engines};
+use crate::front::Front;
 use crate::lines::{unbuilt_text, unread_text};
-use crate::ready::{Ready, make_ready};
-use pl_io::{Bytes, Files, Gate, ReadAllError, Sink, read_all, write_all};
+use crate::ready::Ready;
+use command_line::command::{Command, read_command};
+use pl_io::{Files, Gate, ReadAllError, Sink, read_all, write_all};
 use pl_term::{Memory, Text};
 use run_model::ends::{End, GoalEnd, status_of};
 use std::alloc::Global;
@@ -56,36 +56,17 @@ fn bare_report(alloc: Global, end: End) -> Report
     }
 }
 
-/// Runs the command on a file with these bytes, and makes the text that is to be written. The only error is out of
-/// memory.
-fn run_file<G: Gate>(
-    alloc: Global,
-    command: &Command,
-    bytes: Bytes,
-    gate: &G,
-) -> Result<RunOutcome<Ready>, Memory>
-    ensures { (all : List ℕ) → bytes ≡ take (suc most_bytes) all
-        → IfOk result (IsRunOutcome (told_command command.now) all) }
-{
-    let course = first_run(alloc, command, bytes.into_vec(), gate)?;
-    match course {
-        RunOutcome::Stood(outcome) => {
-            let ready = make_ready(alloc, command, outcome)?;
-            Ok(RunOutcome::Stood(ready))
-        }
-        RunOutcome::Unbuilt { name, arity } => Ok(RunOutcome::Unbuilt { name, arity }),
-    }
-}
-
 /// Reads the file and runs the command.
 /// `Failed`: a read failed, as it does where there is no such file; the count of faults of the file's name rose.
 /// `Memory`: there is no memory.
-fn prepare<F: Files, G: Gate>(
+fn prepare<R: Threads + Wait + Sync, F: Files, G: Gate + Sync>(
+    rt: &R,
     alloc: Global,
     command: &Command,
     files: &mut F,
     gate: &G,
 ) -> Result<RunOutcome<Ready>, ReadAllError>
+    requires within { IsWithin command.now }
     ensures failed { IfErr result (λ e. e ≡ ReadAllError.Failed
         → Rose (F.faults files.old command.now.file) (F.faults files.new command.now.file)) }
     ensures absent { IsTrue (F.absent files.old command.now.file) → IsErr result }
@@ -93,7 +74,7 @@ fn prepare<F: Files, G: Gate>(
         × IsRunOutcome (told_command command.now) bytes run_outcome)) }
 {
     let bytes = read_all(alloc, files, &command.file, MOST_BYTES)?;
-    let run_outcome = run_file(alloc, command, bytes, gate)?;
+    let run_outcome = run_engines(rt, alloc, command, bytes.into_vec(), gate)?;
     Ok(run_outcome)
 }
 
@@ -177,28 +158,32 @@ fn finish<S: Sink>(alloc: Global, run_outcome: RunOutcome<Ready>, out: &mut S) -
 }
 
 /// Runs a command.
-fn run_command<F: Files, S: Sink, G: Gate>(
+fn run_command<R: Threads + Wait + Sync, F: Files, S: Sink, G: Gate + Sync>(
+    rt: &R,
     alloc: Global,
     command: &Command,
     files: &mut F,
     out: &mut S,
     gate: &G,
 ) -> Report
+    requires within { IsWithin command.now }
     ensures status { result.status ≡ status_of result.end }
     ensures promised { Promised (Rose (F.faults files.old command.now.file) (F.faults files.new command.now.file))
         (Rose (S.faults out.old) (S.faults out.new)) (told_command command.now)
         (F.told files.old command.now.file) (S.written out.old) (S.written out.new) result result.end }
     ensures absent { IsTrue (F.absent files.old command.now.file) → IsUnread result.end }
 {
-    match prepare(alloc, command, files, gate) {
+    match prepare(rt, alloc, command, files, gate) {
         Ok(run_outcome) => finish(alloc, run_outcome, out),
         Err(ReadAllError::Failed) => write_unread(alloc, &command.file, out),
         Err(ReadAllError::Memory) => bare_report(alloc, End::Memory),
     }
 }
 
-/// Runs the command that the words, without the program's name, stand for: consults the file, runs the goal, and writes
-/// the transcript to `out`. Before each visit to the shared state the gate is called, with worker 0.
+/// Runs the command that the words, without the program's name, stand for: consults the file, runs the goals and the threads
+/// that they start by the workers that it asks for, and writes
+/// the transcript to `out`. Before each visit to the shared state the gate is called with the numbers of the worker and of the
+/// engine.
 ///
 /// The report says how the program ended. `Usage`: the words are no command; the usage line is written. `ReadFault`: a
 /// read of the file failed, as it does where there is no such file; a line that says so is written. `Memory`: there was no memory; nothing is written.
@@ -237,10 +222,9 @@ pub fn run<R: Threads + Wait + Sync, F: Files, S: Sink, G: Gate + Sync>(
     ensures unbuilt { result.end ≡ End.Unbuilt → (c : CommandOf) × ((command words.now ≡ Some c)
         × IsUnbuilt (Rose (S.faults out.old) (S.faults out.new)) c (F.told files.old c.file) (S.written out.old) (S.written out.new) result) }
 {
-    let _ = rt;
     match read_command(alloc, words) {
         Ok(None) => write_usage(alloc, out),
-        Ok(Some(command)) => run_command(alloc, &command, files, out, gate),
+        Ok(Some(command)) => run_command(rt, alloc, &command, files, out, gate),
         Err(_) => bare_report(alloc, End::Memory),
     }
 }

@@ -1,7 +1,7 @@
 use Rattle.std.proofs.Common.{subst}
 use Rattle.toplevel.specs.RunOutcomes.{IsRunOutcome}
 use Rattle.toplevel.specs.Unbuilt.{indicated}
-use Rattle.toplevel.specs.declared.first_run.RunOutcome.{RunOutcome}
+use Rattle.toplevel.specs.declared.engines.RunOutcome.{RunOutcome}
 use Rattle.toplevel.specs.declared.ready.Ready.{Ready}
 use Rattle.toplevel.proofs.RunLemmas.{missed_more}
 use Rattle.toplevel.proofs.run.finish.Goals as goal
