@@ -45,13 +45,21 @@ fn gives(outcome: &Outcome, wanted: &[u8], status: u8) -> bool {
 
 /// Whether a run made the visits and the report that a row says, where it says so.
 fn reports(outcome: &Outcome, row: &Row) -> bool {
-    is_as_said(row.visits, Some(outcome.visits)) && is_as_said(row.front, outcome.front)
+    is_as_said(row.visits, outcome.visits) && has_engines(row.engines, outcome.engines)
 }
 
 /// Whether two numbers are those that a row says, where it says so.
-fn is_as_said(said: Option<(u64, u64)>, came: Option<(u64, u64)>) -> bool {
+fn is_as_said(said: Option<(u64, u64)>, came: (u64, u64)) -> bool {
+    match said {
+        Some(wanted) => wanted.0 == came.0 && wanted.1 == came.1,
+        None => true,
+    }
+}
+
+/// Whether there are as many engines as a row says, where it says so.
+fn has_engines(said: Option<u64>, came: Option<u64>) -> bool {
     match (said, came) {
-        (Some(wanted), Some(got)) => wanted.0 == got.0 && wanted.1 == got.1,
+        (Some(wanted), Some(got)) => wanted == got,
         (Some(_), None) => false,
         (None, _) => true,
     }
@@ -76,8 +84,8 @@ fn show<R: Print>(
 fn show_outcome<R: Print>(rt: &R, outcome: &Outcome) -> io::Result<()> {
     put_number(rt, "came status ", u64::from(outcome.status))?;
     put_pair(rt, ", visits", outcome.visits)?;
-    if let Some(front) = outcome.front {
-        put_pair(rt, ", front", front)?;
+    if let Some(engines) = outcome.engines {
+        put_number(rt, ", engines ", engines)?;
     }
     put(rt, " and\n")?;
     io::writer(rt).write_all(outcome.out.bytes())?;

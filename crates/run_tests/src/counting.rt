@@ -4,7 +4,7 @@ use pl_io::Gate;
 use std::sync::atomic::AtomicU64;
 use std::sync::atomic::Ordering::SeqCst;
 
-/// A gate that counts its calls, and apart from them those that are not for worker 0 and engine 1.
+/// A gate that counts its calls, and apart from them those that are not for engine 1.
 #[derive(Drop)]
 pub struct Counting {
     visits: AtomicU64,
@@ -27,9 +27,9 @@ impl Counting {
 }
 
 impl Gate for Counting {
-    fn before_visit(&self, worker: u32, engine: u64) {
+    fn before_visit(&self, _worker: u32, engine: u64) {
         self.visits.fetch_add(1, SeqCst);
-        if worker != 0 || engine != 1 {
+        if engine != 1 {
             self.others.fetch_add(1, SeqCst);
         }
     }

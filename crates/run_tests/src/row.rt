@@ -4,7 +4,7 @@ use pl_term::Memory;
 use std::alloc::Global;
 
 /// The words of a command without options, before the goal.
-const PLAIN: &str = "run f.pl";
+const PLAIN: &str = "run --atoms 2048 f.pl";
 
 /// A run with what is to come of it.
 #[derive(Drop)]
@@ -15,17 +15,17 @@ pub struct Row<'a> {
     pub bytes: Vec<u8>,
     /// The text of the file of the row before.
     last_file: Option<String>,
-    /// The words of the command with a blank between, and the goal, which is one more word.
+    /// The words of the command with a blank between, and the goals, each of which is one more word.
     pub words: &'a str,
-    pub goal: Option<String>,
+    pub goals: Vec<String>,
     /// The call of `read` that fails, if one does.
     pub failing_read: Option<u64>,
     /// How many bytes a call of `write` takes at most where the row is run with each write failing in turn too.
     pub failing_writes: Option<usize>,
-    /// The calls of the gate, and those that are not for worker 0 and engine 1, as two numbers.
+    /// The calls of the gate, and those that are not for engine 1, as two numbers.
     pub visits: Option<(u64, u64)>,
-    /// The updates and the generations that the report has, as two numbers.
-    pub front: Option<(u64, u64)>,
+    /// The engines that the report has.
+    pub engines: Option<u64>,
     /// What is written.
     pub wanted: String,
     /// The exit status, which the last line of a row has.
@@ -43,11 +43,11 @@ impl<'a> Row<'a> {
             bytes: Vec::new(alloc),
             last_file: None,
             words: PLAIN,
-            goal: None,
+            goals: Vec::new(alloc),
             failing_read: None,
             failing_writes: None,
             visits: None,
-            front: None,
+            engines: None,
             wanted: String::new(alloc),
             status: None,
             has_begun: false,
@@ -82,7 +82,8 @@ impl<'a> Row<'a> {
             "file:" => put_line(self.alloc, &mut self.file, rest)?,
             "file*" => return put_repeated(self.file.get_or_insert(String::new(self.alloc)), rest),
             "bytes:" => return put_bytes(&mut self.bytes, rest),
-            "goal:" => put_line(self.alloc, &mut self.goal, rest)?,
+            "goal:" => self.put_goal(rest)?,
+            "and-goal:" => self.begin_goal(rest)?,
             ">" => {
                 put_text(&mut self.wanted, rest)?;
                 self.wanted.push('\n')?;
@@ -91,6 +92,25 @@ impl<'a> Row<'a> {
             _ => return Ok(self.take_setting(key, rest)),
         }
         Ok(true)
+    }
+
+    /// Adds a line to the last goal, or begins the first one with it. The only error is out of memory.
+    fn put_goal(&mut self, line: &str) -> Result<(), Memory> {
+        match self.goals.last_mut() {
+            Some(goal) => {
+                goal.push('\n')?;
+                put_text(goal, line)
+            }
+            None => self.begin_goal(line),
+        }
+    }
+
+    /// Begins one more goal with a line. The only error is out of memory.
+    fn begin_goal(&mut self, line: &str) -> Result<(), Memory> {
+        let mut goal = String::new(self.alloc);
+        put_text(&mut goal, line)?;
+        self.goals.push(goal)?;
+        Ok(())
     }
 
     /// Takes a line that sets something, and answers whether it is one.
@@ -116,9 +136,9 @@ impl<'a> Row<'a> {
                 self.visits = pair_of(rest);
                 self.visits.is_some()
             }
-            "front:" => {
-                self.front = pair_of(rest);
-                self.front.is_some()
+            "engines:" => {
+                self.engines = rest.parse::<u64>().ok();
+                self.engines.is_some()
             }
             "status:" => {
                 self.status = rest.parse::<u8>().ok();

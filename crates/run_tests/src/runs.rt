@@ -19,13 +19,13 @@ pub struct Outcome {
     pub out: MemorySink,
     /// The exit status.
     pub status: u8,
-    /// The calls of the gate, and those that are not for worker 0 and engine 1.
+    /// The calls of the gate, and those that are not for engine 1.
     pub visits: (u64, u64),
-    /// The updates and the generations that the report has, where it has any.
-    pub front: Option<(u64, u64)>,
+    /// The engines that the report has, where it has any.
+    pub engines: Option<u64>,
 }
 
-/// The words of a row's command: those between blanks, where `""` stands for an empty one, and the goal.
+/// The words of a row's command: those between blanks, where `""` stands for an empty one, and the goals.
 fn words_of(alloc: Global, row: &Row) -> Result<Vec<Text>, Memory> {
     let mut words = Vec::new(alloc);
     for word in row.words.split(' ') {
@@ -35,7 +35,7 @@ fn words_of(alloc: Global, row: &Row) -> Result<Vec<Text>, Memory> {
             _ => words.push(Text::from_str(alloc, word)?)?,
         }
     }
-    if let Some(goal) = &row.goal {
+    for goal in &row.goals {
         words.push(Text::from_str(alloc, goal.as_str())?)?;
     }
     Ok(words)
@@ -70,10 +70,10 @@ fn sink_of(alloc: Global, most: usize, failing: Vec<u64>) -> Result<MemorySink, 
     Ok(out)
 }
 
-/// The numbers of a report's updates and generations.
-fn front_of(report: &Report) -> Option<(u64, u64)> {
+/// The number of a report's engines.
+fn engines_of(report: &Report) -> Option<u64> {
     match &report.front {
-        Some(front) => Some((front.entries.len() as u64, front.generations.len() as u64)),
+        Some(front) => Some(front.engines.len() as u64),
         None => None,
     }
 }
@@ -105,7 +105,7 @@ fn outcome_over<R: Threads + Wait + Sync>(
     Outcome {
         status: report.status,
         visits: gate.counts(),
-        front: front_of(&report),
+        engines: engines_of(&report),
         out,
     }
 }
