@@ -5,21 +5,17 @@ use Rattle.pl_term.specs.Tree.{Chars}
 use Rattle.pl_model.specs.History.{proc}
 use Rattle.pl_model.specs.SystemPredicates.{system_predicates, system_kind, is_of_arguments, is_of_state, is_search}
 use Rattle.pl_model.specs.declared.system.PredicateKind.{PredicateKind}
-use Rattle.pl_model.specs.declared.system.PredicateKind.TheVariants.{Control, Search, Arguments, State, Item, Reserved}
+use Rattle.pl_model.specs.declared.system.PredicateKind.TheVariants.{Control, Search, Arguments, State, Item}
 use Rattle.pl_model.proofs.SystemLaws.{rows_told, shared_told}
 use Rattle.pl_model.proofs.SearchNames.{steps_told}
 use Rattle.atom_api.specs.Fixed.{fixed_texts}
 use Rattle.builtin_rows.specs.declared.predicates.Meaning.{Meaning}
 use Rattle.builtin_rows.specs.declared.predicates.Meaning.TheVariants as meaning
-use Rattle.builtin_rows.specs.Predicates.{kind_of, has_row, asks_something, is_step, has_no_meaning}
+use Rattle.builtin_rows.specs.Predicates.{kind_of, has_row, asks_something, is_step}
 use Rattle.builtin_rows.specs.Tables.{table, with_count, predicate_at}
-use Rattle.builtin_rows.specs.Laws.{AreTexts, IsNamed, TellsRows, TellsShared, TellsConstructs, TellsReserved}
+use Rattle.builtin_rows.specs.Laws.{AreTexts, IsNamed, TellsRows, TellsShared, TellsConstructs}
 use Rattle.builtin_rows.proofs.Numbered.{agree, kind_at, system_numbers, system_kind_at}
 use Rattle.builtin_rows.proofs.Finding.{table_numbers, table_kind, table_named}
-
--- Whether the kind is the one that is asked for.
-abbrev kept : Option PredicateKind → Bool
-kept o = elim o [ None ↦ false | Some k ↦ elim k [ Reserved ↦ true | _ ↦ false ] ]
 
 rows_same : (a n : ℕ) → is_of_arguments (kind_at a n system_numbers) ≡ is_of_arguments (kind_at a n table_numbers)
 unfolding system_predicates table fixed_texts
@@ -33,10 +29,6 @@ steps_same : (a n : ℕ) → is_search (kind_at a n system_numbers) ≡ is_searc
 unfolding system_predicates table fixed_texts
 steps_same = agree is_search is_search system_numbers table_numbers refl refl
 
-kept_same : (a n : ℕ) → kept (kind_at a n system_numbers) ≡ kept (kind_at a n table_numbers)
-unfolding system_predicates table fixed_texts
-kept_same = agree kept kept system_numbers table_numbers refl refl
-
 -- What the table says of kinds it says of meanings.
 abbrev Tells : (Option PredicateKind → Bool) → (Option Meaning → Bool) → Type 0
 Tells h g = (o : Option Meaning) → h (option_map kind_of o) ≡ g o
@@ -46,28 +38,18 @@ rows_of_kinds None = refl
 rows_of_kinds (Some (meaning.Row p)) = refl
 rows_of_kinds (Some meaning.Asks) = refl
 rows_of_kinds (Some meaning.Steps) = refl
-rows_of_kinds (Some meaning.Reserved) = refl
 
 shared_of_kinds : Tells is_of_state asks_something
 shared_of_kinds None = refl
 shared_of_kinds (Some (meaning.Row p)) = refl
 shared_of_kinds (Some meaning.Asks) = refl
 shared_of_kinds (Some meaning.Steps) = refl
-shared_of_kinds (Some meaning.Reserved) = refl
 
 steps_of_kinds : Tells is_search is_step
 steps_of_kinds None = refl
 steps_of_kinds (Some (meaning.Row p)) = refl
 steps_of_kinds (Some meaning.Asks) = refl
 steps_of_kinds (Some meaning.Steps) = refl
-steps_of_kinds (Some meaning.Reserved) = refl
-
-kept_of_kinds : Tells kept has_no_meaning
-kept_of_kinds None = refl
-kept_of_kinds (Some (meaning.Row p)) = refl
-kept_of_kinds (Some meaning.Asks) = refl
-kept_of_kinds (Some meaning.Steps) = refl
-kept_of_kinds (Some meaning.Reserved) = refl
 
 module _ (a n : ℕ) (text : ℕ → Chars) (is : AreTexts text) where
   kinds : (h : Option PredicateKind → Bool) (g : Option Meaning → Bool) → ((b m : ℕ) → h (kind_at b m system_numbers) ≡ h (kind_at b m table_numbers)) → Tells h g
@@ -97,10 +79,6 @@ constructs a n o e text is ts many =
     ∙ ap (λ k. is_search (system_kind (proc (text a) k))) many
     ∙ kinds a n text is is_search is_step steps_same steps_of_kinds
     ∙ ap is_step (sym e)
-
-pub kept_names : (a n : ℕ) (o : Option Meaning) → o ≡ predicate_at a n → TellsReserved a n o
-kept_names a n o e text is =
-    kinds a n text is kept has_no_meaning kept_same kept_of_kinds ∙ ap has_no_meaning (sym e)
 
 -- A row of the table, or none.
 pub at_row : (a n : ℕ) (o : Option Meaning) (row : List (ℕ × Meaning)) → o ≡ with_count n row → row ≡ get_or table a [] → o ≡ predicate_at a n

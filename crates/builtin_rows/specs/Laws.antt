@@ -4,13 +4,11 @@ use Rattle.pl_term.specs.Tree.{Chars, Trees, count}
 use Rattle.pl_model.specs.Builtins.{row}
 use Rattle.pl_model.specs.SharedBuiltins.{shared}
 use Rattle.pl_model.specs.Control.{construct}
-use Rattle.pl_model.specs.History.{proc}
-use Rattle.pl_model.specs.SystemPredicates.{is_reserved}
 pub use Rattle.pl_model.specs.laws.Dispatch.{goal_of, is_search_step as is_predicate}
 use Rattle.atom_api.specs.Fixed.{fixed}
 use Rattle.builtin_rows.specs.declared.predicates.Meaning.{Meaning}
 use Rattle.builtin_rows.specs.declared.predicates.Meaning.TheVariants.{Row}
-use Rattle.builtin_rows.specs.Predicates.{name_of, arity_of, has_row, asks_something, is_step, has_no_meaning}
+use Rattle.builtin_rows.specs.Predicates.{name_of, arity_of, has_row, asks_something, is_step}
 
 -- Texts of atoms: the fixed atoms have their own ones, and different atoms have different ones.
 pub record AreTexts (text : ℕ → Chars) : Type 0 where
@@ -35,7 +33,3 @@ TellsShared name arity o =
 abbrev pub TellsConstructs : ℕ → ℕ → Option Meaning → Type 0
 TellsConstructs name arity o =
     (text : ℕ → Chars) → AreTexts text → (ts : Trees) → count ts ≡ arity → is_predicate (construct (goal_of (text name) ts)) ≡ is_step o
-
--- It is a predicate without a meaning exactly where its name is kept for one.
-abbrev pub TellsReserved : ℕ → ℕ → Option Meaning → Type 0
-TellsReserved name arity o = (text : ℕ → Chars) → AreTexts text → is_reserved (proc (text name) arity) ≡ has_no_meaning o

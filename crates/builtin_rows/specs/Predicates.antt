@@ -4,7 +4,7 @@ use Rattle.pl_term.specs.Tree.{Chars}
 use Rattle.pl_model.specs.declared.system.PredicateKind.{PredicateKind}
 use Rattle.pl_model.specs.declared.system.PredicateKind.TheVariants as kind
 use Rattle.builtin_rows.specs.declared.predicates.Meaning.{Meaning}
-use Rattle.builtin_rows.specs.declared.predicates.Meaning.TheVariants.{Row, Asks, Steps, Reserved}
+use Rattle.builtin_rows.specs.declared.predicates.Meaning.TheVariants.{Row, Asks, Steps}
 use Rattle.builtin_rows.specs.declared.predicates.Pred.{Pred}
 use Rattle.builtin_rows.specs.declared.predicates.Pred.TheVariants.{One, Two, Three, SubAtom}
 use Rattle.builtin_rows.specs.declared.predicates.OfOne.{OfOne}
@@ -90,7 +90,6 @@ abbrev pub kind_of : Meaning → PredicateKind
 kind_of (Row p) = kind.Arguments
 kind_of Asks = kind.State
 kind_of Steps = kind.Search
-kind_of Reserved = kind.Reserved
 
 -- Whether there is a predicate with a meaning of this kind.
 abbrev pub has_row : Option Meaning → Bool
@@ -104,7 +103,3 @@ asks_something _ = false
 abbrev pub is_step : Option Meaning → Bool
 is_step (Some Steps) = true
 is_step _ = false
-
-abbrev pub has_no_meaning : Option Meaning → Bool
-has_no_meaning (Some Reserved) = true
-has_no_meaning _ = false

@@ -1,7 +1,7 @@
 //! Built-in predicates by their names and the number of their arguments.
 ghost use Rattle.std.specs.Prelude.{◌≡◌, [], get_or};
 ghost use Rattle.builtin_rows.specs.Tables.{rows_of, with_count};
-ghost use Rattle.builtin_rows.specs.Laws.{IsNamed, TellsRows, TellsShared, TellsConstructs, TellsReserved};
+ghost use Rattle.builtin_rows.specs.Laws.{IsNamed, TellsRows, TellsShared, TellsConstructs};
 
 use crate::predicates::{Meaning, PREDICATES};
 use atom_api::Atom;
@@ -36,7 +36,6 @@ pub fn predicate_of(name: Atom, arity: usize) -> Option<Meaning>
     ensures rows { TellsRows name arity result }
     ensures shares { TellsShared name arity result }
     ensures constructs { TellsConstructs name arity result }
-    ensures reserved { TellsReserved name arity result }
 {
     with_count(row_at(&PREDICATES, name.slot() as usize), arity)
 }

@@ -1,7 +1,7 @@
 //! The built-in predicates.
 
 use Comparison::{Different, Greater, GreaterOrEqual, Less, LessOrEqual};
-use Meaning::{Asks, Reserved, Row, Steps};
+use Meaning::{Asks, Row, Steps};
 use OfTwo::{Terms, Values};
 use Pred::{One, Three, Two};
 
@@ -14,8 +14,6 @@ pub enum Meaning {
     Asks,
     /// It is a step of the search.
     Steps,
-    /// It has none yet: its name is kept for a predicate to come.
-    Reserved,
 }
 
 /// A built-in predicate that is a function of its arguments alone, by how many they are.
@@ -482,7 +480,7 @@ pub(crate) static PREDICATES: [&[(usize, Meaning)]; 203] = [
     // `thread_join`
     &[(2, Asks)],
     // `thread_local`
-    &[(1, Reserved)],
+    &[],
     // `thread_option`
     &[],
     // `thread_peek_message`
@@ -532,23 +530,23 @@ pub(crate) static PREDICATES: [&[(usize, Meaning)]; 203] = [
     // `{}`
     &[],
     // `mutex_create`
-    &[(1, Reserved)],
+    &[],
     // `with_mutex`
-    &[(2, Reserved)],
+    &[],
     // `transaction`
-    &[(1, Reserved)],
+    &[],
     // `snapshot`
-    &[(1, Reserved)],
+    &[],
     // `engine_create`
-    &[(3, Reserved)],
+    &[],
     // `engine_next`
-    &[(2, Reserved)],
+    &[],
     // `engine_destroy`
-    &[(1, Reserved)],
+    &[],
     // `phrase`
-    &[(2, Reserved), (3, Reserved)],
+    &[],
     // `bagof`
-    &[(3, Reserved)],
+    &[],
     // `setof`
-    &[(3, Reserved)],
+    &[],
 ];

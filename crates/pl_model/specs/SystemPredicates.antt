@@ -2,7 +2,7 @@
 use Rattle.std.specs.Prelude.{ℕ, List, map, Bool, true, false, Option, Some, None, find, is_some, option_map}
 use Rattle.pl_term.specs.Tree.{Chars}
 pub use Rattle.pl_model.specs.declared.system.PredicateKind.{PredicateKind}
-pub use Rattle.pl_model.specs.declared.system.PredicateKind.TheVariants.{Control, Search, Arguments, State, Item, Reserved}
+pub use Rattle.pl_model.specs.declared.system.PredicateKind.TheVariants.{Control, Search, Arguments, State, Item}
 use Rattle.pl_model.specs.declared.system.TheConstants.{SYSTEM}
 use Rattle.pl_model.specs.History.{Proc, proc}
 use Rattle.pl_model.specs.Predicates.{same_proc}
@@ -46,7 +46,3 @@ is_of_arguments o = elim o [ None ↦ false | Some k ↦ elim k [ Arguments ↦ 
 
 abbrev pub is_of_state : Option PredicateKind → Bool
 is_of_state o = elim o [ None ↦ false | Some k ↦ elim k [ State ↦ true | _ ↦ false ] ]
-
--- A call of a predicate whose name is kept has no meaning yet, and a text cannot define it.
-abbrev pub is_reserved : Proc → Bool
-is_reserved p = elim (system_kind p) [ None ↦ false | Some k ↦ elim k [ Reserved ↦ true | _ ↦ false ] ]

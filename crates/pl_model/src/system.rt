@@ -10,7 +10,7 @@ ghost use Rattle.pl_model.specs.Control.{construct};
 ghost use Rattle.pl_model.specs.SystemPredicates.{is_system, system_kind, is_of_arguments, is_of_state, is_search};
 ghost use Rattle.pl_model.specs.laws.Dispatch.{goal_of, is_search_step};
 
-use PredicateKind::{Arguments, Control, Item, Reserved, Search, State};
+use PredicateKind::{Arguments, Control, Item, Search, State};
 use pl_term::Text;
 
 /// Where the meaning of a predicate stands.
@@ -27,15 +27,13 @@ pub enum PredicateKind {
     State,
     /// An item of a text, which has no clauses.
     Item,
-    /// A name that is kept for a built-in predicate to come, which has no meaning yet.
-    Reserved,
 }
 
 /// The predicates of the system by name, number of arguments and kind: the control constructs (ISO 7.8), the built-in
 /// predicates (ISO 8, and of ISO Cor.2 false/0, callable/1, ground/1, subsumes_term/2, term_variables/2, sort/2, msort/2,
 /// keysort/2 and retractall/1), those of SWI-Prolog for threads, message queues and the collection of atoms and clauses,
 /// and the items of a text that are no facts (ISO 7.4.2). All of them are static.
-static SYSTEM: [(&str, u64, PredicateKind); 118] = [
+static SYSTEM: [(&str, u64, PredicateKind); 106] = [
     // control constructs (ISO 7.8, 8.15, 8.17.3)
     ("true", 0, Control),
     ("fail", 0, Control),
@@ -123,8 +121,6 @@ static SYSTEM: [(&str, u64, PredicateKind); 118] = [
     ("garbage_collect_clauses", 0, State),
     // all solutions (ISO 8.10)
     ("findall", 3, Search),
-    ("bagof", 3, Reserved),
-    ("setof", 3, Reserved),
     // output (ISO 8.12, 8.14.2)
     ("nl", 0, Search),
     ("put_char", 1, Search),
@@ -140,7 +136,7 @@ static SYSTEM: [(&str, u64, PredicateKind); 118] = [
     ("current_prolog_flag", 2, State),
     // the atoms that are not used any more (SWI-Prolog manual)
     ("garbage_collect_atoms", 0, State),
-    // threads, queues and mutexes (SWI-Prolog manual, section 'Multithreaded applications')
+    // threads and queues (SWI-Prolog manual, section 'Multithreaded applications')
     ("thread_self", 1, State),
     ("thread_create", 2, State),
     ("thread_create", 3, State),
@@ -153,19 +149,6 @@ static SYSTEM: [(&str, u64, PredicateKind); 118] = [
     ("thread_peek_message", 2, State),
     ("message_queue_create", 1, State),
     ("message_queue_destroy", 1, State),
-    ("thread_local", 1, Reserved),
-    ("mutex_create", 1, Reserved),
-    ("with_mutex", 2, Reserved),
-    // transactions (SWI-Prolog manual, section 'Transactions')
-    ("transaction", 1, Reserved),
-    ("snapshot", 1, Reserved),
-    // engines (SWI-Prolog manual, section 'Coroutining using Prolog engines')
-    ("engine_create", 3, Reserved),
-    ("engine_next", 2, Reserved),
-    ("engine_destroy", 1, Reserved),
-    // grammar rules (SWI-Prolog manual, section 'DCG Grammar rules')
-    ("phrase", 2, Reserved),
-    ("phrase", 3, Reserved),
     // items of a text (ISO 7.4.2)
     (":-", 1, Item),
     (":-", 2, Item),

@@ -1,6 +1,6 @@
 use Rattle.std.proofs.Common.{◌≡◌, [], get_or, ap, ◌∙◌}
 use Rattle.builtin_rows.specs.Tables.{table, with_count, predicate_at}
-use Rattle.builtin_rows.proofs.Telling.{named, rows, shares, constructs, kept_names}
+use Rattle.builtin_rows.proofs.Telling.{named, rows, shares, constructs}
 use Rattle.builtin_rows.proofs.names.predicate_of.Goals as goal
 
 found : (c : goal.After-with_count) → c.with_count.result ≡ predicate_at c.args.name c.args.arity
@@ -13,4 +13,4 @@ returns c =
     let n = c.args.arity in
     let o = c.with_count.result in
     let e = found c in
-    record { named = named a n o e; rows = rows a n o e; shares = shares a n o e; constructs = constructs a n o e; reserved = kept_names a n o e }
+    record { named = named a n o e; rows = rows a n o e; shares = shares a n o e; constructs = constructs a n o e }
