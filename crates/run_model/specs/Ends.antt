@@ -11,7 +11,7 @@ use Rattle.run_model.specs.Execution.{Job, Move, requests, move, Word, goal_word
 use Rattle.run_model.specs.Lawful.{Program, Told, Beginning, beginnings, is_goal_number, main_job, started_job}
 use Rattle.run_model.specs.Report.{Finals, final_of, refusal_of, end_in, words_of}
 use Rattle.run_model.specs.declared.ends.End.{End}
-use Rattle.run_model.specs.declared.ends.End.TheVariants.{Done, GoalFailed, Usage, Waiting, Memory, ReadFault, WriteFault, Halted as EndHalted, Unbuilt}
+use Rattle.run_model.specs.declared.ends.End.TheVariants.{Done, GoalFailed, Usage, Waiting, Memory, ReadFault, WriteFault, Halted as EndHalted}
 use Rattle.run_model.specs.declared.ends.GoalEnd.{GoalEnd}
 use Rattle.run_model.specs.declared.ends.GoalHow.{GoalHow}
 use Rattle.run_model.specs.declared.ends.GoalHow.TheVariants.{Ended, Waits, Syntax}
@@ -169,4 +169,3 @@ status_of Memory = 255
 status_of ReadFault = 5
 status_of WriteFault = 6
 status_of (EndHalted n) = n
-status_of Unbuilt = 254

@@ -46,8 +46,6 @@ pub enum End {
     WriteFault,
     /// An engine ended by halt/1 with this status.
     Halted(u8),
-    /// A goal came to a predicate of the system that is not built yet.
-    Unbuilt,
 }
 
 /// The exit status of an end.
@@ -63,6 +61,5 @@ pub fn status_of(end: End) -> u8
         End::ReadFault => 5,
         End::WriteFault => 6,
         End::Halted(status) => status,
-        End::Unbuilt => 254,
     }
 }
