@@ -7,7 +7,7 @@ use Rattle.std.proofs.lemmas.Bool.Decides.{Decides-eqb}
 use Rattle.pl_model.specs.declared.system.PredicateKind.{PredicateKind}
 use Rattle.atom_api.specs.Fixed.{fixed, fixed_texts}
 use Rattle.builtin_rows.specs.declared.predicates.Meaning.{Meaning}
-use Rattle.builtin_rows.specs.declared.predicates.Meaning.TheVariants.{Row, Asks, Steps, Reserved}
+use Rattle.builtin_rows.specs.declared.predicates.Meaning.TheVariants.{Row, Asks, Steps}
 use Rattle.builtin_rows.specs.Predicates.{name_of, arity_of, kind_of}
 use Rattle.builtin_rows.specs.Tables.{with_count, rows_of, table, predicate_at}
 use Rattle.builtin_rows.specs.Laws.{IsNamed}
@@ -114,7 +114,6 @@ abbrev is_right_of : ℕ → ℕ → Meaning → Bool
 is_right_of a n (Row p) = is_text (fixed a) (name_of p) && (n == arity_of p)
 is_right_of a n Asks = true
 is_right_of a n Steps = true
-is_right_of a n Reserved = true
 
 abbrev is_right : Found → Bool
 is_right e = is_right_of e.name e.arity e.meaning
@@ -125,7 +124,6 @@ right_named a n (Row p) e =
     (text_is (fixed a) (name_of p) at.0, (Decides-eqb n (arity_of p)).0 at.1)
 right_named a n Asks e = tt
 right_named a n Steps e = tt
-right_named a n Reserved e = tt
 
 named_in : (a n : ℕ) (es : List Found) → list_all is_right es ≡ true → IsNamed a n (found_at a n es)
 named_in a n [] all = tt
