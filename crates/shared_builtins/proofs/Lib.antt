@@ -25,3 +25,4 @@ pub mod CopiedRows
 pub mod Creating
 pub mod AskedRows
 pub mod Followed
+pub mod BuiltNone

@@ -1,7 +1,8 @@
 -- Goals of predicates of the shared state.
-use Rattle.std.specs.Prelude.{◌≡◌, ◌⊎◌, ℕ, Some, codes}
+use Rattle.std.specs.Prelude.{◌≡◌, ◌==◌, ◌⊎◌, ℕ, List, [], ◌∷◌, false, Some, codes}
 use Rattle.pl_term.specs.Tree.{Chars, compound}
 use Rattle.atom_api.specs.Fixed.{fixed}
+use Rattle.atom_api.specs.FixedNames.{message_queue_create_name, message_queue_destroy_name, thread_get_message_name, thread_peek_message_name, thread_self_name}
 use Rattle.term_store.specs.Heap.{atom_name}
 use Rattle.term_store.specs.Contents.{Contents, Holds, IsArguments, arguments_at, term_at}
 use Rattle.shared_builtins.specs.declared.preds.StatePred.{StatePred}
@@ -55,6 +56,12 @@ arity_of (One p) = 1
 arity_of (Two p) = 2
 arity_of (Three p) = 3
 
+-- The names of the predicates of one argument on threads and queues: thread_self/1, thread_get_message/1, thread_peek_message/1,
+-- message_queue_create/1, message_queue_destroy/1.
+abbrev pub thread_names : List ℕ
+thread_names =
+    thread_self_name ∷ thread_get_message_name ∷ thread_peek_message_name ∷ message_queue_create_name ∷ message_queue_destroy_name ∷ []
+
 -- The name is that of the predicate, which takes so many arguments.
 abbrev pub IsPredicate : ℕ → ℕ → StatePred → Type 0
 IsPredicate name arity p = ((f : Chars) × (fixed name ≡ Some f) × IsNameOf p f) × (arity ≡ arity_of p)
@@ -64,3 +71,8 @@ pub record IsStateGoal (s : Contents) (g : StateGoal) : Type 0 where
   pub inside : IsArguments s g.arguments
   pub means : term_at s g.place ≡ compound (atom_name g.name) (arguments_at s g.arguments)
   pub predicate : IsPredicate g.name g.arguments.count g.pred
+
+-- The name is none of these.
+abbrev pub IsOff : ℕ → List ℕ → Type 0
+IsOff name [] = Unit {0}
+IsOff name (k ∷ ks) = ((name == k) ≡ false) × IsOff name ks

@@ -1,13 +1,16 @@
 //! The predicates of the shared state by their names.
-ghost use Rattle.std.specs.Prelude.{IfSome};
-ghost use Rattle.shared_builtins.specs.Goals.{IsPredicate};
+ghost use Rattle.std.specs.Prelude.{◌<◌, None, IfNone, IfSome};
+ghost use Rattle.builtin_rows.specs.Laws.{TellsShared};
+ghost use Rattle.shared_builtins.specs.Goals.{IsOff, IsPredicate, thread_names};
 
 use crate::preds::{StateOne, StatePred, StateThree, StateTwo};
 use atom_api::{Atom, fixed};
 
-/// The predicate of the shared state with this name and so many arguments, if there is one.
+/// The predicate of the shared state with this name and so many arguments, if there is one. Those without arguments are not among
+/// them.
 pub fn built_pred(name: Atom, arity: usize) -> Option<StatePred>
-    ensures { IfSome result (IsPredicate name arity) }
+    ensures some { IfSome result (IsPredicate name arity) }
+    ensures none { IfNone result (0 < arity → TellsShared name arity None) }
 {
     match arity {
         1 => one_pred(name),
@@ -19,7 +22,8 @@ pub fn built_pred(name: Atom, arity: usize) -> Option<StatePred>
 
 /// That of one argument.
 fn one_pred(name: Atom) -> Option<StatePred>
-    ensures { IfSome result (IsPredicate name 1) }
+    ensures some { IfSome result (IsPredicate name 1) }
+    ensures none { IfNone result (TellsShared name 1 None) }
 {
     if name == fixed::ASSERTA {
         Some(StatePred::One(StateOne::Asserta))
@@ -44,7 +48,8 @@ fn one_pred(name: Atom) -> Option<StatePred>
 
 /// That of one argument on threads and queues.
 fn thread_pred(name: Atom) -> Option<StatePred>
-    ensures { IfSome result (IsPredicate name 1) }
+    ensures some { IfSome result (IsPredicate name 1) }
+    ensures none { IfNone result (IsOff name thread_names) }
 {
     if name == fixed::THREAD_SELF {
         Some(StatePred::One(StateOne::ThreadSelf))
@@ -63,7 +68,8 @@ fn thread_pred(name: Atom) -> Option<StatePred>
 
 /// That of two arguments.
 fn two_pred(name: Atom) -> Option<StatePred>
-    ensures { IfSome result (IsPredicate name 2) }
+    ensures some { IfSome result (IsPredicate name 2) }
+    ensures none { IfNone result (TellsShared name 2 None) }
 {
     if name == fixed::SET_PROLOG_FLAG {
         Some(StatePred::Two(StateTwo::SetFlag))
@@ -86,7 +92,8 @@ fn two_pred(name: Atom) -> Option<StatePred>
 
 /// That of three arguments.
 fn three_pred(name: Atom) -> Option<StatePred>
-    ensures { IfSome result (IsPredicate name 3) }
+    ensures some { IfSome result (IsPredicate name 3) }
+    ensures none { IfNone result (TellsShared name 3 None) }
 {
     if name == fixed::OP {
         Some(StatePred::Three(StateThree::Op))
