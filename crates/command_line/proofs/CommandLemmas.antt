@@ -1,5 +1,6 @@
 -- What the matches of a command line give.
 use Rattle.std.proofs.Common.{inl, inr, ◌≡◌, ◌≤◌, ◌<◌, ◌^◌, ◌-◌, ℕ, Bool, true, false, List, [], ◌∷◌, Option, Some, None, refl, sym, ◌∙◌, ap, arith, codes, map, length, Bor}
+use Rattle.std.specs.Prelude.{option_map}
 use Rattle.std.proofs.lemmas.Bool.{le-leb, lt-leb}
 use Rattle.std.specs.Prelude.{Result, Ok, Err}
 use Rattle.std.specs.Str.Parse.{ParsesUnsigned}
@@ -15,7 +16,7 @@ use Rattle.clap.specs.declared.parser.matches.Found.{Found}
 use Rattle.clap.proofs.ValueTestLemmas.{accepts-Accepts, Accepts-accepts}
 use Rattle.clap.proofs.WalkLemmas.{one_text-rows}
 use Rattle.pl_model.specs.Resolution.{Limits}
-use Rattle.command_line.specs.CommandLine.{Command, command_by, limits_in, number_of, run_command, unless_refused, most_goals, slots_in, unless_too_many, words_by, workers_in}
+use Rattle.command_line.specs.CommandLine.{Command, Order, between, check_order, checks, command_by, load_order, loads_by, most_seed, most_size, run_order, runs, limits_in, number_of, run_command, unless_refused, most_goals, slots_in, unless_too_many, words_by, workers_in}
 
 -- A number of 64 bits is read exactly where the text is one.
 pub number_reads : (E : Type 0) (G : List ℕ → Result ℕ E → Type 0) (t : List ℕ) (r : Option ℕ) → ReadsOne G t r
@@ -45,15 +46,15 @@ number_by E G f id r none value only = go (one_text f id) refl ∙ ap number_of 
     go None e = none e ∙ ap number_of (sym e)
     go (Some t) e = number_reads E G t r (value t e) only ∙ ap number_of (sym e)
 
--- Words that are refused for another reason than out of memory are no command.
-pub refused_words : (kinds : Kinds) (e : Error) (c : Option Command) → HasKind kinds e → (e.kind ≡ OutOfMemory → ⊥) → unless_refused kinds c ≡ None
+-- Words that are refused for another reason than out of memory order nothing.
+pub refused_words : (kinds : Kinds) (e : Error) (c : Option Order) → HasKind kinds e → (e.kind ≡ OutOfMemory → ⊥) → unless_refused kinds c ≡ None
 refused_words [] e c h other = elim h [
   | inl m ↦ absurd (other m)
   | inr a ↦ absurd a
 ]
 refused_words (k ∷ ks) e c h other = refl
 
-pub taken_words : (kinds : Kinds) (c : Option Command) → kinds ≡ [] → unless_refused kinds c ≡ c
+pub taken_words : (kinds : Kinds) (c : Option Order) → kinds ≡ [] → unless_refused kinds c ≡ c
 taken_words [] c e = refl
 taken_words (k ∷ ks) c e = cc
 
@@ -75,3 +76,25 @@ pub given_by : (rows : List Row) (f : Option (List ℕ)) (g : List Chars) (l : O
     → run_command rows ≡ command_by f g l w s
 given_by rows f g l w s file goals limits workers slots =
     rw (file, goals, ← limits, workers, slots) refl
+
+-- The order by what its matches give.
+pub no_run : (rows : List Row) → run_command rows ≡ None → run_order rows ≡ None
+no_run rows e = ap (option_map runs) e
+
+pub a_run : (rows : List Row) (c : Command) → run_command rows ≡ Some c → run_order rows ≡ Some (runs c)
+a_run rows c e = ap (option_map runs) e
+
+pub checks_it : (rows : List Row) (f : Option (List ℕ)) → f ≡ first_of (codes "FILE") rows
+    → check_order rows ≡ option_map (λ t. checks (chars t)) f
+checks_it rows f e = ap (option_map (λ t. checks (chars t))) (sym e)
+
+pub loads_it : (rows : List Row) (seed size : Option ℕ)
+    → seed ≡ between 0 most_seed (number_of (one_of (codes "SEED") rows))
+    → size ≡ between 1 most_size (number_of (one_of (codes "SIZE") rows))
+    → load_order rows ≡ loads_by seed size
+loads_it rows seed size s n = rw (s, n) refl
+
+-- The name of what `load` runs, as its text is read.
+pub load_text : chars (codes "load") ≡ codes "load"
+unfolding chars
+load_text = refl

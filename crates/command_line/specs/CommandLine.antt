@@ -1,6 +1,7 @@
--- The command line: `run [--workers N] [--solutions N] [--atoms N] [--inferences N] [--cells N] [--choices N] FILE [GOAL]...`. The
--- words are read with clap, whose stated matches say which words it takes and what their parts are.
-use Rattle.std.specs.Prelude.{ℕ, ◌-◌, ◌^◌, ◌++◌, suc, take, List, [], ◌∷◌, length, map, Option, Some, None, codes, bytes_eq, nat_le, true, ◌&&◌, if◌then◌else◌, encode_utf8_all}
+-- The command line: `run [--workers N] [--solutions N] [--atoms N] [--inferences N] [--cells N] [--choices N] FILE [GOAL]...`,
+-- `check FILE` or `load SEED SIZE`. The words are read with clap, whose stated matches say which words it takes and what their
+-- parts are.
+use Rattle.std.specs.Prelude.{ℕ, ◌-◌, ◌^◌, ◌++◌, suc, take, List, [], ◌∷◌, length, map, option_map, Option, Some, None, codes, bytes_eq, nat_le, true, ◌&&◌, if◌then◌else◌, encode_utf8_all}
 use Rattle.std.specs.Str.{chars}
 use Rattle.std.specs.Str.Parse.{digits_value, without_leading_plus}
 use Rattle.clap.specs.Words.{App, Rule, Row, all_of, first_of, one_of, fault_of, new_app, new_rule, subcommand_of, with_rule, with_subcommand}
@@ -13,14 +14,21 @@ use Rattle.pl_model.specs.Resolution.{Limits}
 use Rattle.run_model.specs.Execution.{most_bytes}
 use Rattle.run_model.specs.Lawful.{Program}
 
--- A command: the name of the file, the words of the goals, the limits of the goals, of the directives and of the threads, how
--- many workers run the engines, and the number of slots of the table of atoms.
+-- A command to run a file: the name of the file, the words of the goals, the limits of the goals, of the directives and of the
+-- threads, how many workers run the engines, and the number of slots of the table of atoms.
 pub record Command : Type 0 where
   pub file : Chars
   pub words : List Chars
   pub limits : Limits
   pub workers : ℕ
   pub slots : ℕ
+
+-- What words order: to run a file by a command, to check the file with this name, or to run the source that this seed and this
+-- size give.
+pub data Order : Type 0 where
+  runs : Command → Order
+  checks : Chars → Order
+  loads : ℕ → ℕ → Order
 
 -- How many words of goals there may be.
 abbrev pub most_goals : ℕ
@@ -36,9 +44,27 @@ least_slots = 512
 abbrev pub most_slots : ℕ
 most_slots = 1048576
 
+-- The largest seed, and the largest size.
+abbrev pub most_seed : ℕ
+most_seed = 2147483647
+
+abbrev pub most_size : ℕ
+most_size = 10000
+
 -- What a command runs on a file with these bytes. Of a file that is too large, only the first bytes are read that show it.
 abbrev pub program_of : Command → List ℕ → Program
 program_of c bytes = record { bytes = take (suc most_bytes) bytes; words = c.words; limits = c.limits; slots = c.slots }
+
+-- By which command `load` runs its source: named `load`, with the goal `load`, by the numbers that stand where no option is given.
+abbrev pub load_command : Command
+load_command =
+    record {
+      file = codes "load";
+      words = codes "load" ∷ [];
+      limits = record { inferences = 10000000; cells = 4000000; choices = 1000000; solutions = 1; stays = None };
+      workers = 4;
+      slots = 65536;
+    }
 
 -- The words
 
@@ -47,10 +73,15 @@ abbrev pub number_option : Chars → ℕ → ℕ → Chars → Rule
 number_option name least most default =
     record (new_rule name) { long = Some name; parser = Some (Unsigned least most); defaults = default ∷ [] }
 
--- A word that has to be there, and words of which there may be any number.
+-- A word that has to be there.
 abbrev pub required_word : Chars → Rule
 required_word name = record (new_rule name) { required = true }
 
+-- A number from `least` to `most` that has to be there.
+abbrev pub number_word : Chars → ℕ → ℕ → Rule
+number_word name least most = record (required_word name) { parser = Some (Unsigned least most) }
+
+-- Words of which there may be any number.
 abbrev pub further_words : Chars → Rule
 further_words name = record (new_rule name) { action = Some Append }
 
@@ -73,13 +104,26 @@ options_app =
 abbrev pub run_app : App
 run_app = with_rule (with_rule options_app (required_word (codes "FILE"))) (further_words (codes "GOAL"))
 
--- The command is run on words without the program's own name, and needs a subcommand.
+abbrev pub check_app : App
+check_app = with_rule (new_app (codes "check")) (required_word (codes "FILE"))
+
+abbrev pub load_app : App
+load_app =
+    with_rule
+    (with_rule (new_app (codes "load")) (number_word (codes "SEED") 0 most_seed))
+    (number_word (codes "SIZE") 1 most_size)
+
+-- The program with its subcommands.
+abbrev pub commands_app : App
+commands_app =
+    with_subcommand (with_subcommand (with_subcommand (new_app (codes "plt")) run_app.top) check_app.top) load_app.top
+
+-- It is run on words without the program's own name, and needs a subcommand.
 abbrev pub nameless : App → App
 nameless a = record a { top = record a.top { no_binary_name = true; subcommand_required = true } }
 
--- The program.
 abbrev pub plt_app : App
-plt_app = nameless (with_subcommand (new_app (codes "plt")) run_app.top)
+plt_app = nameless commands_app
 
 -- The number that a value is, where it is one of 64 bits.
 abbrev pub number_of : Option (List ℕ) → Option ℕ
@@ -134,27 +178,52 @@ run_command rows =
     (workers_in rows)
     (slots_in rows)
 
-abbrev pub command_of : Option (List ℕ × List Row) → Option Command
-command_of None = None
-command_of (Some p) = if bytes_eq p.0 (codes "run") then run_command p.1 else None
+-- What `run` orders with these matches.
+abbrev pub run_order : List Row → Option Order
+run_order rows = option_map runs (run_command rows)
 
-abbrev pub unless_refused : Kinds → Option Command → Option Command
-unless_refused [] c = c
-unless_refused (k ∷ ks) c = None
+-- What `check` orders with these matches.
+abbrev pub check_order : List Row → Option Order
+check_order rows = option_map (λ f. checks (chars f)) (first_of (codes "FILE") rows)
 
--- What these words stand for: the command that their matches give, where clap does not refuse them. Help is refused,
--- as any other request that is no run.
-abbrev pub command : List Chars → Option Command
-command words =
+-- What `load` orders with these matches.
+abbrev pub loads_by : Option ℕ → Option ℕ → Option Order
+loads_by (Some seed) (Some size) = Some (loads seed size)
+loads_by _ _ = None
+
+abbrev pub load_order : List Row → Option Order
+load_order rows =
+    loads_by
+    (between 0 most_seed (number_of (one_of (codes "SEED") rows)))
+    (between 1 most_size (number_of (one_of (codes "SIZE") rows)))
+
+abbrev pub order_of : Option (List ℕ × List Row) → Option Order
+order_of None = None
+order_of (Some p) =
+    if bytes_eq p.0 (codes "run")
+    then run_order p.1
+    else
+    (if bytes_eq p.0 (codes "check")
+    then check_order p.1
+    else (if bytes_eq p.0 (codes "load") then load_order p.1 else None))
+
+abbrev pub unless_refused : Kinds → Option Order → Option Order
+unless_refused [] o = o
+unless_refused (k ∷ ks) o = None
+
+-- What these words order: what their matches give, where clap does not refuse them. Help is refused, as any other request that
+-- is none of the three.
+abbrev pub order : List Chars → Option Order
+order words =
     let texts = map encode_utf8_all words in
-    unless_refused (fault_of plt_app texts) (command_of (subcommand_of plt_app texts))
+    unless_refused (fault_of plt_app texts) (order_of (subcommand_of plt_app texts))
 
 -- Lines
 
 abbrev pub newline : Chars
 newline = 10 ∷ []
 
--- Where the words are no command.
+-- Where the words order nothing.
 abbrev pub usage_line : Chars
 usage_line = codes "usage: plt run [OPTIONS] FILE [GOAL]... | plt check FILE | plt load SEED SIZE" ++ newline
 

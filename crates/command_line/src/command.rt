@@ -1,10 +1,10 @@
 //! The command line, read with clap.
-ghost use Rattle.std.specs.Prelude.{◌≡◌, ◌≤◌, false, codes, length, map, IfOk, IfSome};
+ghost use Rattle.std.specs.Prelude.{◌≡◌, ◌<◌, ◌≤◌, false, codes, length, map, IfOk, IfSome};
 ghost use Rattle.std.specs.Str.{chars};
 ghost use Rattle.clap.specs.declared.builder.command.Command.TheViews.{out-Command as fields_of};
 ghost use Rattle.clap.specs.Words.{all_of, app_of, found_of, one_of, rows_of, rule_of, subcommand_rows_of};
-ghost use Rattle.command_line.specs.CommandLine.{between, command, command_of, further_words, limits_app, limits_in, number_of, number_option, options_app, plt_app, required_word, run_app, run_command, words_by};
-ghost use Rattle.command_line.specs.Commands.{AreLimits, IsCommand, IsWithin};
+ghost use Rattle.command_line.specs.CommandLine.{between, check_app, check_order, commands_app, further_words, limits_app, limits_in, load_app, load_command, load_order, number_of, number_option, number_word, options_app, order, order_of, plt_app, required_word, run_app, run_command, run_order, words_by};
+ghost use Rattle.command_line.specs.Commands.{AreLimits, IsCommand, IsOrder, IsOrderWithin, IsWithin, told_command};
 
 use clap::error::ErrorKind;
 use clap::{Arg, ArgAction, ArgMatches, Command as Syntax, value_parser};
@@ -14,7 +14,7 @@ use std::alloc::{AllocError, Global};
 /// How many words of goals there may be.
 const MOST_GOALS: usize = 64;
 
-/// A command: the name of the file, the words of the goals (64 at most), the limits of goals, directives and threads, how many
+/// A command to run a file: the name of the file, the words of the goals (64 at most), the limits of goals, directives and threads, how many
 /// workers run the engines (1 to 16), and how many slots the table of atoms has (512 to 1,048,576).
 #[derive(Debug, Drop)]
 pub struct Command {
@@ -35,12 +35,23 @@ pub struct Limits {
     pub choices: u64,
 }
 
-/// The command that these words are, without the program's name: `run [--workers N] [--solutions N] [--atoms N]
-/// [--inferences N] [--cells N] [--choices N] FILE [GOAL]...`, as clap reads it. No other words are one, help among them. The
-/// only error is out of memory.
-pub fn read_command(alloc: Global, words: &[Text]) -> Result<Option<Command>, Memory>
-    ensures command { IfOk result (λ r. IsCommand r (command words.now)) }
-    ensures bounds { IfOk result (λ r. IfSome r IsWithin) }
+/// What words order.
+#[derive(Debug, Drop)]
+pub enum Order {
+    /// To run a file.
+    Run(Command),
+    /// To check the file with this name.
+    Check(Text),
+    /// To run the source that a seed (0 to 2,147,483,647) and a size (1 to 10,000) give.
+    Load { seed: u64, size: u64 },
+}
+
+/// What these words order, without the program's name, as clap reads them: `run [--workers N] [--solutions N] [--atoms N]
+/// [--inferences N] [--cells N] [--choices N] FILE [GOAL]...`, `check FILE` or `load SEED SIZE`. No other words order anything,
+/// help among them. The only error is out of memory.
+pub fn read_order(alloc: Global, words: &[Text]) -> Result<Option<Order>, Memory>
+    ensures order { IfOk result (λ r. IsOrder r (order words.now)) }
+    ensures bounds { IfOk result (λ r. IfSome r IsOrderWithin) }
 {
     let syntax = plt_syntax(alloc)?;
     match syntax.try_get_matches_from(words) {
@@ -50,6 +61,29 @@ pub fn read_command(alloc: Global, words: &[Text]) -> Result<Option<Command>, Me
             _ => Ok(None),
         },
     }
+}
+
+/// The command by which `load` runs its source: named `load`, with the goal `load`, by the numbers that stand where no option
+/// is given. The only error is out of memory.
+pub fn load_command(alloc: Global) -> Result<Command, Memory>
+    ensures command { IfOk result (λ c. told_command c ≡ load_command) }
+    ensures bounds { IfOk result IsWithin }
+{
+    let file = Text::from_str(alloc, "load")?;
+    let mut goals = Vec::new(alloc);
+    goals.push(Text::from_str(alloc, "load")?)?;
+    Ok(Command {
+        file,
+        goals,
+        limits: Limits {
+            solutions: 1,
+            inferences: 10_000_000,
+            cells: 4_000_000,
+            choices: 1_000_000,
+        },
+        workers: 4,
+        slots: 65_536,
+    })
 }
 
 /// The option `--solutions`: from 1 to 1,000,000, and 1 where it is not given.
@@ -126,6 +160,26 @@ fn file_word<'a>(alloc: Global) -> Arg<'a>
     Arg::new(alloc, "FILE").required(true)
 }
 
+/// The seed: from 0 to 2,147,483,647.
+fn seed_word<'a>(alloc: Global) -> Arg<'a>
+    ensures rule { rule_of result ≡ number_word (codes "SEED") 0 2147483647 }
+    ensures local { result.global ≡ false }
+{
+    Arg::new(alloc, "SEED")
+        .value_parser(value_parser!(u64).range(0..=2_147_483_647))
+        .required(true)
+}
+
+/// The size: from 1 to 10,000.
+fn size_word<'a>(alloc: Global) -> Arg<'a>
+    ensures rule { rule_of result ≡ number_word (codes "SIZE") 1 10000 }
+    ensures local { result.global ≡ false }
+{
+    Arg::new(alloc, "SIZE")
+        .value_parser(value_parser!(u64).range(1..=10_000))
+        .required(true)
+}
+
 /// The words of the goals, each a use of its own.
 fn goal_words<'a>(alloc: Global) -> Arg<'a>
     ensures rule { rule_of result ≡ further_words (codes "GOAL") }
@@ -170,24 +224,91 @@ fn run_syntax<'a>(alloc: Global) -> Result<Syntax<'a>, AllocError>
     options_syntax(alloc)?.arg(file)?.arg(goals)
 }
 
+/// The subcommand `check`. The only error is out of memory.
+fn check_syntax<'a>(alloc: Global) -> Result<Syntax<'a>, AllocError>
+    ensures app { IfOk result (λ c. app_of c ≡ check_app) }
+    ensures local { IfOk result (λ c. (fields_of c).has_globals ≡ false) }
+{
+    let file = file_word(alloc);
+    Syntax::new(alloc, "check").arg(file)
+}
+
+/// The subcommand `load`. The only error is out of memory.
+fn load_syntax<'a>(alloc: Global) -> Result<Syntax<'a>, AllocError>
+    ensures app { IfOk result (λ c. app_of c ≡ load_app) }
+    ensures local { IfOk result (λ c. (fields_of c).has_globals ≡ false) }
+{
+    let seed = seed_word(alloc);
+    let size = size_word(alloc);
+    Syntax::new(alloc, "load").arg(seed)?.arg(size)
+}
+
+/// The program with its subcommands. The only error is out of memory.
+fn commands_syntax<'a>(alloc: Global) -> Result<Syntax<'a>, AllocError>
+    ensures { IfOk result (λ c. app_of c ≡ commands_app) }
+{
+    let run = run_syntax(alloc)?;
+    let check = check_syntax(alloc)?;
+    let load = load_syntax(alloc)?;
+    let with_run = Syntax::new(alloc, "plt").subcommand(run)?;
+    let with_check = with_run.subcommand(check)?;
+    with_check.subcommand(load)
+}
+
 /// The program's command line. The only error is out of memory.
 fn plt_syntax<'a>(alloc: Global) -> Result<Syntax<'a>, Memory>
     ensures { IfOk result (λ c. app_of c ≡ plt_app) }
 {
-    let run = run_syntax(alloc)?;
-    let plt = Syntax::new(alloc, "plt").subcommand(run)?;
+    let plt = commands_syntax(alloc)?;
     Ok(plt.no_binary_name(true).subcommand_required(true))
 }
 
-/// The command that the matches give.
-fn subcommand_given(alloc: Global, matches: &ArgMatches<'_>) -> Result<Option<Command>, Memory>
-    ensures command { IfOk result (λ r. IsCommand r (command_of (subcommand_rows_of matches.now))) }
-    ensures bounds { IfOk result (λ r. IfSome r IsWithin) }
+/// What the matches order.
+fn subcommand_given(alloc: Global, matches: &ArgMatches<'_>) -> Result<Option<Order>, Memory>
+    ensures order { IfOk result (λ r. IsOrder r (order_of (subcommand_rows_of matches.now))) }
+    ensures bounds { IfOk result (λ r. IfSome r IsOrderWithin) }
 {
     match matches.subcommand() {
-        Some(("run", given)) => run_given(alloc, given),
+        Some(("run", given)) => run_ordered(alloc, given),
+        Some(("check", given)) => check_ordered(alloc, given),
+        Some(("load", given)) => Ok(load_ordered(given)),
         _ => Ok(None),
     }
+}
+
+/// What the matches of `run` order. The only error is out of memory.
+fn run_ordered(alloc: Global, given: &ArgMatches<'_>) -> Result<Option<Order>, Memory>
+    ensures order { IfOk result (λ r. IsOrder r (run_order (rows_of (found_of given.now)))) }
+    ensures bounds { IfOk result (λ r. IfSome r IsOrderWithin) }
+{
+    match run_given(alloc, given)? {
+        None => Ok(None),
+        Some(command) => Ok(Some(Order::Run(command))),
+    }
+}
+
+/// What the matches of `check` order. The only error is out of memory.
+fn check_ordered(alloc: Global, given: &ArgMatches<'_>) -> Result<Option<Order>, Memory>
+    ensures order { IfOk result (λ r. IsOrder r (check_order (rows_of (found_of given.now)))) }
+    ensures bounds { IfOk result (λ r. IfSome r IsOrderWithin) }
+{
+    match given.get_str("FILE") {
+        None => Ok(None),
+        Some(file) => Ok(Some(Order::Check(Text::from_str(alloc, file)?))),
+    }
+}
+
+/// What the matches of `load` order.
+fn load_ordered(given: &ArgMatches<'_>) -> Option<Order>
+    ensures order { IsOrder result (load_order (rows_of (found_of given.now))) }
+    ensures bounds { IfSome result IsOrderWithin }
+{
+    let seed = number_between(given, "SEED", 0, 2_147_483_647)?;
+    let size = number_between(given, "SIZE", 1, 10_000)?;
+    Some(Order::Load {
+        seed: u64::from(seed),
+        size: u64::from(size),
+    })
 }
 
 /// The command `run` that its matches give.

@@ -1,6 +1,6 @@
 use Rattle.std.proofs.Common.{refl}
 use Rattle.clap.proofs.OnLiterals.{clap_on_literals}
-use Rattle.command_line.proofs.rows.other_words_are_no_command.Goals as goal
+use Rattle.command_line.proofs.rows.other_words_order_nothing.Goals as goal
 
 pub returns : goal.returns
 unfolding clap_on_literals
