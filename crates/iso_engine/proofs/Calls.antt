@@ -46,7 +46,8 @@ use Rattle.iso_engine.specs.declared.engine.Engine.{Engine}
 use Rattle.iso_engine.specs.Calling.{IsCallAt, IsErrorBall}
 use Rattle.iso_engine.specs.Following.{IsInteger}
 use Rattle.iso_engine.specs.Views.{view_of}
-use Rattle.iso_engine.specs.Missing.{IsCall, is_integer}
+use Rattle.iso_engine.specs.Calling.{IsCall}
+use Rattle.iso_engine.specs.Following.{is_integer}
 use Rattle.iso_engine.specs.Ready.{IsAlike, IsReady, Steps}
 use Rattle.iso_engine.specs.Standing.{doing_of, state_at}
 use Rattle.iso_engine.proofs.Followed.{doing_same, goal_done}

@@ -46,7 +46,8 @@ use Rattle.iso_search.specs.Spelling.{spelled, text_of}
 use Rattle.iso_search.proofs.Naming.{text_is}
 use Rattle.iso_engine.specs.declared.state.collecting.Collection.{Collection}
 use Rattle.iso_engine.specs.declared.state.collecting.Collection.TheVariants.{Atoms, Clauses}
-use Rattle.iso_engine.specs.Collecting.{IsCollectAt, IsCollected, IsGoalDone, collection_name, collection_procedure, collection_request, collection_visit}
+use Rattle.iso_engine.specs.Collections.{IsCollectAt, collection_name}
+use Rattle.iso_engine.specs.Collecting.{IsCollected, IsGoalDone, collection_procedure, collection_request, collection_visit}
 use Rattle.iso_engine.specs.Following.{HasProcedure}
 use Rattle.iso_engine.specs.GoalSteps.{IsStepAlone, IsStepAsked}
 use Rattle.iso_engine.specs.Wrote.{led, taken}
@@ -56,11 +57,11 @@ use Rattle.iso_engine.proofs.StateRows.{counted_in, no_inference, one_inference}
 
 -- The predicates
 
-abbrev collection_text : Collection → Chars
+abbrev pub collection_text : Collection → Chars
 collection_text Atoms = codes "garbage_collect_atoms"
 collection_text Clauses = codes "garbage_collect_clauses"
 
-collection_is : (x : Collection) → fixed (collection_name x) ≡ Some (collection_text x)
+pub collection_is : (x : Collection) → fixed (collection_name x) ≡ Some (collection_text x)
 unfolding fixed_texts
 collection_is Atoms = refl
 collection_is Clauses = refl

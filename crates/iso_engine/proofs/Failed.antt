@@ -18,7 +18,7 @@ use Rattle.iso_engine.specs.declared.doing.Doing.{Doing}
 use Rattle.iso_engine.specs.declared.doing.Doing.TheVariants.{Failing}
 use Rattle.iso_engine.specs.declared.engine.Engine.{Engine}
 use Rattle.iso_engine.specs.declared.slices.Slice.{Slice}
-use Rattle.iso_engine.specs.declared.slices.Slice.TheVariants.{Yield, Solution, NeedsAtoms, Retry, Worn, Waits, Ended, Missing, Memory}
+use Rattle.iso_engine.specs.declared.slices.Slice.TheVariants.{Yield, Solution, NeedsAtoms, Retry, Worn, Waits, Ended, Memory}
 use Rattle.iso_engine.specs.Advancing.{Advances}
 use Rattle.iso_engine.specs.Views.{view_of}
 use Rattle.iso_engine.specs.Slices.{IsStepped}
@@ -122,7 +122,6 @@ module _ (m n : Names) (t u : Told) (e : Engine) (x : Search) (f : Engine) (b : 
   retried_step (Some (Solution ops)) gone taken step = absurd gone.0
   retried_step (Some (Waits on k)) gone taken step = absurd gone.0
   retried_step (Some Ended) gone taken step = absurd gone.0
-  retried_step (Some (Missing p)) gone taken step = absurd gone.0
   retried_step (Some Memory) gone taken step = absurd gone.0
 
 -- A step was made, or none.

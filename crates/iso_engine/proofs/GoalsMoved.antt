@@ -109,7 +109,7 @@ module _ (m n : Names) (t u : Told) (e f : Engine) (place : Place) (p : Procedur
       alone.after.inside (has q viewed) (sym (alone.leads s cut viewed alike.holds keeps)) (follows s viewed)
       in seen_as_moved m n t u e f holds view ready t.history (record { later = []; grown = sym (append-nil t.history); others = refl }) told steps alone.after.budgets wanted given whole
 
-  alone_moved : (o : Outcome) → u ≡ t → IsStepAlone n e.search place rest f.search o → IsFollowedAs f rest p o → IsMoved m n t u e f holds view ready
+  pub alone_moved : (o : Outcome) → u ≡ t → IsStepAlone n e.search place rest f.search o → IsFollowedAs f rest p o → IsMoved m n t u e f holds view ready
   alone_moved o told alone follows =
       alone_as_moved o told (record { leads = λ s h viewed known keeps. alone.leads s h viewed known; after = alone.after }) follows
 

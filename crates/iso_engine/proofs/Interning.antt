@@ -27,7 +27,7 @@ use Rattle.iso_engine.specs.declared.doing.Doing.{Doing}
 use Rattle.iso_engine.specs.declared.doing.Doing.TheVariants.{Failing, Running}
 use Rattle.iso_engine.specs.declared.engine.Engine.{Engine}
 use Rattle.iso_engine.specs.declared.slices.Slice.{Slice}
-use Rattle.iso_engine.specs.declared.slices.Slice.TheVariants.{Yield, Solution, NeedsAtoms, Retry, Worn, Waits, Ended, Missing, Memory}
+use Rattle.iso_engine.specs.declared.slices.Slice.TheVariants.{Yield, Solution, NeedsAtoms, Retry, Worn, Waits, Ended, Memory}
 use Rattle.iso_engine.specs.Advancing.{Advances}
 use Rattle.iso_engine.specs.Asked.{AsksFor, AsksInSlice, AsksOnWay, ComesToAsk}
 use Rattle.iso_engine.specs.Calling.{IsCallAt}
@@ -123,7 +123,7 @@ row_asks_for m t e old new = gains_weaker (λ c. (u : Told) → IsRowText m u e 
 -- thread_exit/1, which does not leave what is run.
 pub exit_asks_for : (m : Names) (t : Told) (e : Engine) (old new : Option (List Chars)) → Gains (λ c. (u : Told) → IsExitText m u e c) old new
     → Gains (AsksFor m t e) old new
-exit_asks_for m t e old new = gains_weaker (λ c. (u : Told) → IsExitText m u e c) (AsksFor m t e) old new (λ c text. inr (inr (inr (inr (text t)))))
+exit_asks_for m t e old new = gains_weaker (λ c. (u : Told) → IsExitText m u e c) (AsksFor m t e) old new (λ c text. inr (inr (inr (inr (inl (text t))))))
 
 -- The engine's work was taken out and put back.
 pub asked_again : (m : Names) (t : Told) (e : Engine) (d : Doing) (old new : Option (List Chars)) → e.doing ≡ d
@@ -185,7 +185,6 @@ step_advances n r u w f g (Some (Retry q)) more h = (0, h.2)
 step_advances n r u w f g (Some (Worn q)) more h = (0, h.2)
 step_advances n r u w f g (Some (Waits on q)) more h = (0, h.2)
 step_advances n r u w f g (Some Ended) more h = (0, h.2)
-step_advances n r u w f g (Some (Missing p)) more h = (0, h.2)
 step_advances n r u w f g (Some Memory) more h = absurd h.1
 
 -- The slice that ends so.
@@ -198,5 +197,4 @@ in_slice (Retry q) m t e n u f a b h = h
 in_slice (Worn q) m t e n u f a b h = h
 in_slice (Waits on q) m t e n u f a b h = h
 in_slice Ended m t e n u f a b h = h
-in_slice (Missing p) m t e n u f a b h = h
 in_slice Memory m t e n u f a b h = gains_weaker (AsksOnWay m t e n u f) (ComesToAsk m t e) a b (λ c way. way.there) h

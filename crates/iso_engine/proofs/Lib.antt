@@ -7,6 +7,12 @@ pub mod Builtins
 pub mod Calls
 pub mod ClauseGains
 pub mod ClauseLooks
+pub mod ClearAsked
+pub mod ClearGoals
+pub mod ClearMoved
+pub mod ClearFound
+pub mod ClearNext
+pub mod ClearOpen
 pub mod Collected
 pub mod CollectGoals
 pub mod Copies
@@ -45,6 +51,7 @@ pub mod LookRows
 pub mod Looks
 pub mod LooksAsked
 pub mod MadeRules
+pub mod Meetings
 pub mod Moreover
 pub mod Moved
 pub mod Moving
@@ -83,7 +90,8 @@ pub mod TakenBack
 pub mod Tasking
 pub mod ToldLaws
 pub mod Turns
-pub mod Unbuilt
+pub mod LeftOver
+pub mod OwnSteps
 pub mod Unified
 pub mod Walks
 pub mod Writings

@@ -17,13 +17,13 @@ use Rattle.iso_search.proofs.Naming.{text_is}
 use Rattle.iso_engine.specs.declared.state.looks.Look.{Look}
 use Rattle.iso_engine.specs.declared.state.looks.Look.TheVariants.{Inspects, Retracts}
 use Rattle.iso_engine.specs.ClauseLooks.{look_error, looked_rule, purpose_for}
-use Rattle.iso_engine.specs.Missing.{is_integer}
+use Rattle.iso_engine.specs.Following.{is_integer}
 use Rattle.iso_engine.specs.Purposes.{listed_in}
 use Rattle.iso_engine.proofs.Readings.{neck_is}
 
 -- Heads
 
-head_callable : (h : Tree) → bound_error h ≡ None → callable_error h ≡ None → is_integer h ≡ false
+pub head_callable : (h : Tree) → bound_error h ≡ None → callable_error h ≡ None → is_integer h ≡ false
 head_callable (var x) b c = absurd cc
 head_callable (int i) b c = absurd cc
 head_callable (atom a) b c = refl

@@ -40,7 +40,7 @@ use Rattle.iso_engine.specs.ClauseLooks.{IsLookAt, IsLookDone, look_error, looke
 use Rattle.iso_engine.specs.GoalSteps.{IsStepAnswered, IsStepAsked, step_refused}
 use Rattle.iso_engine.specs.ClausesAsked.{IsListAsked, listing}
 use Rattle.iso_engine.specs.Following.{proc_in}
-use Rattle.iso_engine.specs.Missing.{is_integer}
+use Rattle.iso_engine.specs.Following.{is_integer}
 use Rattle.iso_engine.specs.Ready.{IsAlike}
 use Rattle.iso_engine.specs.Views.{view_of}
 use Rattle.iso_engine.specs.Wrote.{led, taken}

@@ -27,7 +27,7 @@ use Rattle.iso_search.specs.Spelling.{spelled, text_of}
 use Rattle.iso_engine.proofs.Outputs.{atoms_same}
 use Rattle.iso_engine.specs.declared.doing.Doing.{Doing}
 use Rattle.iso_engine.specs.Views.{view_of}
-use Rattle.iso_engine.specs.Missing.{is_integer}
+use Rattle.iso_engine.specs.Following.{is_integer}
 use Rattle.iso_engine.specs.Ready.{IsAlike, IsStable, MayGoOn}
 use Rattle.iso_search.specs.declared.frames.Task.TheVariants.{Goal}
 use Rattle.iso_search.specs.Frames.{tasks}
@@ -60,7 +60,7 @@ is_or false false = inl refl
 is_or true false = inr true≢false
 is_or false true = inr false≢true
 
-may_or : (t : Told) (goal : Tree) (g place : ℕ) → MayGoOn t goal g place ⊎ (MayGoOn t goal g place → ⊥)
+pub may_or : (t : Told) (goal : Tree) (g place : ℕ) → MayGoOn t goal g place ⊎ (MayGoOn t goal g place → ⊥)
 may_or t goal g place = go (own_or t.gens g) (leb_tells g (length t.history)) (is_or (has_place place (clause_list t.goals t.history g goal)) true) (is_or (is_integer goal) false)
   where
     go : {A B : Type 0} → Contains t.gens g ⊎ (Contains t.gens g → ⊥) → (A × (g ≤ length t.history)) ⊎ (B × (length t.history < g))
@@ -75,7 +75,7 @@ may_or t goal g place = go (own_or t.gens g) (leb_tells g (length t.history)) (i
     go a b c (inr none) = inr (λ may. none may.callable)
 
 -- A view in which all other lists have one clause more.
-abbrev extra : Stored Clause
+abbrev pub extra : Stored Clause
 extra =
     record {
       place = 0;
@@ -84,11 +84,11 @@ extra =
       erased = None;
     }
 
-abbrev longer_by : {A B : Type 0} → A ⊎ B → List (Stored Clause) → List (Stored Clause)
+abbrev pub longer_by : {A B : Type 0} → A ⊎ B → List (Stored Clause) → List (Stored Clause)
 longer_by (inl a) cs = cs
 longer_by (inr b) cs = extra ∷ cs
 
-longer_same : {A : Type 0} (d : A ⊎ (A → ⊥)) (cs : List (Stored Clause)) → A → longer_by d cs ≡ cs
+pub longer_same : {A : Type 0} (d : A ⊎ (A → ⊥)) (cs : List (Stored Clause)) → A → longer_by d cs ≡ cs
 longer_same (inl a) cs h = refl
 longer_same (inr none) cs h = absurd (none h)
 
@@ -96,7 +96,7 @@ never_longer : (x : Stored Clause) (cs : List (Stored Clause)) → x ∷ cs ≡ 
 never_longer x cs e =
     let same : suc (length cs) ≡ length cs = ap (λ (l : List (Stored Clause)). length l) e in omega (arith, same)
 
-same_longer : {A : Type 0} (d : A ⊎ (A → ⊥)) (cs : List (Stored Clause)) → longer_by d cs ≡ cs → A
+pub same_longer : {A : Type 0} (d : A ⊎ (A → ⊥)) (cs : List (Stored Clause)) → longer_by d cs ≡ cs → A
 same_longer (inl a) cs e = a
 same_longer (inr none) cs e = absurd (never_longer extra cs e)
 

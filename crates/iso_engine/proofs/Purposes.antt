@@ -17,7 +17,7 @@ use Rattle.iso_search.specs.Reading.{IsView, View, reads}
 use Rattle.iso_search.specs.Spelling.{spelled, text_of}
 use Rattle.world_api.specs.Told.{Told}
 use Rattle.iso_engine.specs.Lists.{IsOpen}
-use Rattle.iso_engine.specs.Missing.{is_integer}
+use Rattle.iso_engine.specs.Following.{is_integer}
 use Rattle.iso_engine.specs.Parts.{IsOverAtoms}
 use Rattle.iso_engine.specs.Purposes.{listed_in}
 use Rattle.iso_engine.specs.Ready.{MayGoOn}

@@ -81,7 +81,6 @@ refused_step m t e n u f slices.Yield again h = absurd again
 refused_step m t e n u f (slices.Solution ops) again h = absurd again
 refused_step m t e n u f (slices.Waits on g) again h = absurd again
 refused_step m t e n u f slices.Ended again h = absurd again
-refused_step m t e n u f (slices.Missing p) again h = absurd again
 refused_step m t e n u f slices.Memory again h = absurd again
 
 -- Both hold of an answer.

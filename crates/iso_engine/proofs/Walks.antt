@@ -12,7 +12,7 @@ use Rattle.iso_engine.specs.declared.engine.Engine.{Engine}
 use Rattle.iso_engine.specs.Advancing.{Advances}
 use Rattle.iso_engine.specs.Ready.{IsReady}
 use Rattle.iso_engine.specs.declared.slices.Slice.{Slice}
-use Rattle.iso_engine.specs.declared.slices.Slice.TheVariants.{Yield, Solution, NeedsAtoms, Retry, Worn, Waits, Ended, Missing, Memory}
+use Rattle.iso_engine.specs.declared.slices.Slice.TheVariants.{Yield, Solution, NeedsAtoms, Retry, Worn, Waits, Ended, Memory}
 use Rattle.iso_engine.specs.Slices.{EndsWith, IsSlice, IsSliced, IsStepped, steps_of, written_text}
 use Rattle.iso_engine.specs.Unserved.{IsRefusedBy, refusals_of, stopped_refusals}
 use Rattle.iso_engine.specs.Spending.{IsSpent}
@@ -130,7 +130,6 @@ module _ (limit i : ℕ) (m n r : Names) (t u w : Told) (e f g : Engine) (a b c 
   slice_ends (Worn q) (more, h, out) = ended 0 more (Worn q) h.2 out (h.1, nothing more h.0)
   slice_ends (Waits on q) (more, h, out) = ended 0 more (Waits on q) h.2 out (h.1, nothing more h.0)
   slice_ends Ended (more, h, out) = ended 0 more Ended h.2 out (h.1, nothing more h.0)
-  slice_ends (Missing p) (more, h, out) = ended 0 more (Missing p) h.2 out (h.1, nothing more h.0)
   slice_ends Memory (more, h, out) = absurd h.1
 
 -- So many inferences were made.
@@ -158,7 +157,6 @@ sliced_by limit m n t u e f a b before after (Retry c) h = h
 sliced_by limit m n t u e f a b before after (Worn w) h = h
 sliced_by limit m n t u e f a b before after (Waits on g) h = h
 sliced_by limit m n t u e f a b before after Ended h = h
-sliced_by limit m n t u e f a b before after (Missing p) h = h
 sliced_by limit m n t u e f a b before after Memory h = absurd h.2.ends.0
 
 pub refused_by : (xs ys : List Refusal) (s : Slice) → ys ≡ xs ++ refusals_of s → IsRefusedBy s xs ys
@@ -169,7 +167,6 @@ refused_by xs ys (Retry c) h = h
 refused_by xs ys (Worn w) h = h
 refused_by xs ys (Waits on g) h = h
 refused_by xs ys Ended h = h
-refused_by xs ys (Missing p) h = h
 refused_by xs ys Memory h = tt
 
 pub none_refused : (xs ys zs : List Refusal) (o : Option Slice) → ys ≡ xs → zs ≡ ys ++ stopped_refusals o → o ≡ None → zs ≡ xs

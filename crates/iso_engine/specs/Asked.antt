@@ -6,7 +6,7 @@ use Rattle.pl_model.specs.BuiltinRows.{Answer}
 use Rattle.pl_model.specs.History.{Clause, History, Proc}
 use Rattle.pl_model.specs.Database.{Stored}
 use Rattle.pl_model.specs.Requests.{Request}
-use Rattle.pl_model.specs.Resolution.{Choice, Node, Output, Purpose, answers, clauses, failing}
+use Rattle.pl_model.specs.Resolution.{Choice, Node, Output, Purpose, answers, clauses, clearing, failing}
 use Rattle.atom_api.specs.Names.{Names}
 use Rattle.builtin_rows.specs.Given.{terms_of, texts_of_all}
 use Rattle.world_api.specs.Asked.{front_texts, IsInReply}
@@ -52,9 +52,17 @@ pub record IsLineText (m : Names) (t : Told) (e : Engine) (c : Chars) : Type 0 w
   pub newest : choices_of (view_of m t) e.search ≡ answers predicate terms left node ∷ older
   pub given : Contains (texts_of_all (terms_of left)) c
 
+-- The engine's next step looks at the next of the clauses for retractall/1, and the text is one of the first of them.
+pub record IsClearText (m : Names) (t : Told) (e : Engine) (c : Chars) : Type 0 where
+  pub head : Tree
+  pub left : List (Stored Clause)
+  pub node : Node
+  pub clears : doing_of (view_of m t) e.search e.doing ≡ clearing head left node
+  pub first : Contains (front_texts left) c
+
 -- The engine's next step asks for the text.
 abbrev pub AsksFor : Names → Told → Engine → Chars → Type 0
-AsksFor m t e c = IsAnswerText m t e c ⊎ (IsClauseText m t e c ⊎ (IsLineText m t e c ⊎ (IsRowText m t e c ⊎ IsExitText m t e c)))
+AsksFor m t e c = IsAnswerText m t e c ⊎ (IsClauseText m t e c ⊎ (IsLineText m t e c ⊎ (IsRowText m t e c ⊎ (IsExitText m t e c ⊎ IsClearText m t e c))))
 
 -- The engine comes to where its next step asks for the text.
 pub record ComesToAsk (m : Names) (t : Told) (e : Engine) (c : Chars) : Type 0 where

@@ -2,6 +2,7 @@
 use Rattle.std.specs.Prelude.{◌≡◌, Bool, true, false}
 use Rattle.pl_term.specs.Tree.{Tree}
 use Rattle.pl_model.specs.Balls.{error_ball}
+use Rattle.pl_model.specs.Control.{construct, other}
 use Rattle.term_store.specs.declared.words.Place.{Place}
 use Rattle.term_store.specs.Contents.{Contents, Holds}
 use Rattle.term_store.specs.Heap.{atom_name}
@@ -11,12 +12,17 @@ use Rattle.iso_search.specs.declared.construct.Construct.TheVariants.{Other}
 use Rattle.iso_search.specs.Reading.{IsView, View, reads}
 use Rattle.iso_search.specs.Spelling.{spelled, text_of}
 use Rattle.iso_engine.specs.Following.{HasProcedure, IsInteger}
-use Rattle.iso_engine.specs.Missing.{IsCall}
+use Rattle.iso_engine.specs.Builtins.{IsNoBuiltin}
 
 -- A goal that is no control construct, and no step of the search of its own.
 abbrev pub is_other_kind : Construct → Bool
 is_other_kind Other = true
 is_other_kind _ = false
+
+-- The goal calls the program's clauses: it is no control construct, and no built-in predicate.
+pub record IsCall (g : Tree) : Type 0 where
+  pub construct_is : construct g ≡ other
+  pub no_builtin : IsNoBuiltin g
 
 -- The goal at the place has this predicate, and calls the program's clauses.
 pub record IsCallAt (s : Contents) (goal : Place) (p : Procedure) : Type 0 where

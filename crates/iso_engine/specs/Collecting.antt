@@ -1,15 +1,12 @@
 -- Goals of garbage_collect_atoms/0 and garbage_collect_clauses/0.
 use Rattle.std.specs.Prelude.{◌≡◌, ◌⊎◌, ℕ, None}
-use Rattle.pl_term.specs.Tree.{Tree, atom}
+use Rattle.pl_term.specs.Tree.{Tree}
 use Rattle.pl_model.specs.History.{History}
 use Rattle.pl_model.specs.Requests.{Request, collect_atoms, collect_clauses, done}
 use Rattle.pl_model.specs.Service.{answers, served_now}
-use Rattle.atom_api.specs.FixedNames.{garbage_collect_atoms_name, garbage_collect_clauses_name}
 use Rattle.atom_api.specs.Names.{Names}
 use Rattle.term_store.specs.declared.argument_key.ArgumentKey.{ArgumentKey}
 use Rattle.term_store.specs.declared.words.Place.{Place}
-use Rattle.term_store.specs.Contents.{Contents, Holds, term_at}
-use Rattle.term_store.specs.Heap.{atom_name}
 use Rattle.world_api.specs.Told.{Told}
 use Rattle.world_api.specs.declared.visit.Procedure.{Procedure}
 use Rattle.world_api.specs.declared.visit.Visit.{Visit}
@@ -20,14 +17,11 @@ use Rattle.iso_search.specs.Outcomes.{IsAfter}
 use Rattle.iso_engine.specs.declared.state.collecting.Collection.{Collection}
 use Rattle.iso_engine.specs.declared.state.collecting.Collection.TheVariants.{Atoms, Clauses}
 use Rattle.iso_engine.specs.Called.{IsAsked}
+use Rattle.iso_engine.specs.Collections.{collection_name}
 use Rattle.iso_engine.specs.GoalSteps.{IsStepAlone, IsStepAnswered}
 use Rattle.iso_engine.specs.Wrote.{led}
 
--- The name of the predicate, what it asks, and the visit for that.
-abbrev pub collection_name : Collection → ℕ
-collection_name Atoms = garbage_collect_atoms_name
-collection_name Clauses = garbage_collect_clauses_name
-
+-- The predicate, what it asks, and the visit for that.
 abbrev pub collection_procedure : Collection → Procedure
 collection_procedure x = record { name = collection_name x; arity = 0 }
 
@@ -38,11 +32,6 @@ collection_request Clauses = collect_clauses
 abbrev pub collection_visit : Collection → Visit Tree ArgumentKey
 collection_visit Atoms = visits.CollectAtoms
 collection_visit Clauses = visits.CollectClauses
-
--- The goal at the place is one of the predicate.
-pub record IsCollectAt (s : Contents) (goal : Place) (x : Collection) : Type 0 where
-  pub holds : Holds s goal
-  pub means : term_at s goal ≡ atom (atom_name (collection_name x))
 
 -- The search has come to the outcome of the goal, which asked nothing, or was answered.
 abbrev pub IsGoalDone : Told → Search → Place → ℕ → Names → Told → Search → Outcome → Type 0

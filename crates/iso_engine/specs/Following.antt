@@ -1,6 +1,6 @@
 -- How the states of a search follow each other.
-use Rattle.std.specs.Prelude.{◌≡◌, ℤ}
-use Rattle.pl_term.specs.Tree.{int}
+use Rattle.std.specs.Prelude.{◌≡◌, ℤ, Bool, true, false}
+use Rattle.pl_term.specs.Tree.{Tree, int}
 use Rattle.pl_model.specs.History.{Proc}
 use Rattle.pl_model.specs.Predicates.{proc_of}
 use Rattle.pl_model.specs.Resolution.{goes}
@@ -40,6 +40,10 @@ proc_in v p = record { name = text_of v.names (atom_name p.name); arity = p.arit
 -- The goal has this predicate.
 abbrev pub HasProcedure : Contents → Place → Procedure → Type 0
 HasProcedure s goal p = (t : Setting) → IsView t.view → proc_of (reads t.view s goal) ≡ proc_in t.view p
+
+abbrev pub is_integer : Tree → Bool
+is_integer (int i) = true
+is_integer _ = false
 
 abbrev pub IsInteger : Contents → Place → Type 0
 IsInteger s goal = (i : ℤ) × (term_at s goal ≡ int i)

@@ -7,7 +7,9 @@ pub mod CalledGoals
 pub mod Calling
 pub mod ClauseLooks
 pub mod ClausesAsked
+pub mod Clearing
 pub mod Collecting
+pub mod Collections
 pub mod Dispatching
 pub mod Erasing
 pub mod Failing
@@ -19,7 +21,6 @@ pub mod Leaving
 pub mod Lines
 pub mod Lists
 pub mod Looking
-pub mod Missing
 pub mod OutputGoals
 pub mod Parts
 pub mod Purposes

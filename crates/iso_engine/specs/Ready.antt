@@ -15,7 +15,7 @@ use Rattle.iso_engine.specs.Lists.{IsOpen}
 use Rattle.iso_engine.specs.declared.doing.Doing.{Doing}
 use Rattle.iso_engine.specs.declared.engine.Engine.{Engine}
 use Rattle.iso_engine.specs.Views.{view_of}
-use Rattle.iso_engine.specs.Missing.{is_integer}
+use Rattle.iso_engine.specs.Following.{is_integer}
 use Rattle.iso_engine.specs.Standing.{doing_of, state_at}
 
 -- The list of the goal's clauses at the generation may be gone on with after the place: the generation is one of the engine's

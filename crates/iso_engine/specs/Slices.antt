@@ -17,11 +17,10 @@ use Rattle.iso_engine.specs.declared.doing.Doing.{Doing}
 use Rattle.iso_engine.specs.declared.doing.Doing.TheVariants.{Answering, Ended as EndedDoing}
 use Rattle.iso_engine.specs.declared.engine.Engine.{Engine}
 use Rattle.iso_engine.specs.declared.slices.Slice.{Slice}
-use Rattle.iso_engine.specs.declared.slices.Slice.TheVariants.{Yield, Solution, NeedsAtoms, Retry, Worn, Waits, Ended, Missing, Memory}
+use Rattle.iso_engine.specs.declared.slices.Slice.TheVariants.{Yield, Solution, NeedsAtoms, Retry, Worn, Waits, Ended, Memory}
 use Rattle.iso_engine.specs.Advancing.{Advances}
 use Rattle.iso_engine.specs.Asking.{IsAsking}
 use Rattle.iso_engine.specs.Views.{view_of}
-use Rattle.iso_engine.specs.Missing.{IsMissing}
 
 -- The text of what a goal has written, its solutions aside.
 abbrev pub written_text : List Output → Chars
@@ -58,7 +57,6 @@ Stops m t e (Retry c) = Unit {0}
 Stops m t e (Worn w) = Unit {0}
 Stops m t e (Waits on g) = IsWaitingNow m t e on g
 Stops m t e Ended = IsEnd e.doing
-Stops m t e (Missing p) = IsMissing m t e p
 Stops m t e Memory = ⊥
 
 -- A step was made, or none.

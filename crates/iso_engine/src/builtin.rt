@@ -1,12 +1,13 @@
 //! Which goals are built-in predicates.
-ghost use Rattle.std.specs.Prelude.{◌≡◌, [], MatchOption};
+ghost use Rattle.std.specs.Prelude.{◌≡◌, ◌<◌, [], MatchOption};
 ghost use Rattle.term_store.specs.Contents.{Holds};
 ghost use Rattle.iso_search.specs.Lines.{lines_of};
 ghost use Rattle.iso_search.specs.Reading.{IsView, View, reads};
-ghost use Rattle.iso_engine.specs.Builtins.{IsAskedAt, IsBuiltinAt, IsRowGoal, builtin_alone};
+ghost use Rattle.iso_engine.specs.Builtins.{AsksOnce, IsAskedAt, IsBuiltinAt, IsOtherOnce, IsRowGoal};
 ghost use Rattle.iso_engine.specs.Following.{IsInteger};
 
-use atom_api::{Atom, fixed};
+use crate::state::collecting::{Collection, collection_named};
+use atom_api::Atom;
 use builtin_rows::{Meaning, Pred, predicate_of};
 use shared_builtins::{StateGoal, built_pred};
 use term_store::{Arguments, Place, Store, View as Kind};
@@ -39,25 +40,29 @@ impl RowGoal {
 pub enum Builtin {
     /// A built-in predicate that is a function of its arguments.
     Row(RowGoal),
-    /// A built-in predicate of the shared state.
+    /// A built-in predicate of the shared state with arguments.
     State(StateGoal),
-    /// A built-in predicate that is not built, or a name that is kept for one that has no meaning yet.
-    Other,
+    /// One that asks for this collection.
+    Collect(Collection),
     /// No built-in predicate: it calls the program's clauses.
     No,
 }
 
-/// What the goal at a place is, where it is no control construct. A variable stands for `call/1`, whose argument is no
-/// argument of the goal.
+/// What the goal at a place is, where it is no control construct and no step of the search of its own. A variable stands for
+/// `call/1`, whose argument is no argument of the goal.
 pub fn builtin_at(store: &Store, goal: Place) -> Builtin
     requires holds { Holds store.now goal }
     requires callable { IsInteger store.now goal → ⊥ }
+    requires other { IsOtherOnce store.now goal }
     ensures { IsBuiltinAt store.now goal result }
 {
     match store.look(goal) {
-        Kind::Variable(_) => alone(predicate_of(fixed::CALL, 0)),
+        Kind::Variable(_) => Builtin::No,
         Kind::Integer(_) => unreachable!(),
-        Kind::Atom(name) => alone(predicate_of(name, 0)),
+        Kind::Atom(name) => match collection_named(name) {
+            Some(collection) => Builtin::Collect(collection),
+            None => Builtin::No,
+        },
         Kind::Compound(name, arguments) => match predicate_of(name, arguments.len()) {
             None => Builtin::No,
             Some(meaning) => match meaning {
@@ -67,26 +72,27 @@ pub fn builtin_at(store: &Store, goal: Place) -> Builtin
                     name,
                     arguments,
                 }),
-                Meaning::Asks => asked_at(goal, name, arguments),
-                Meaning::Steps => Builtin::Other,
-                Meaning::Reserved => Builtin::Other,
+                Meaning::Asks => Builtin::State(asked_at(goal, name, arguments)),
+                Meaning::Steps => unreachable!(),
             },
         },
     }
 }
 
-/// What a goal of a predicate of the shared state is, with this name and these arguments.
-fn asked_at(place: Place, name: Atom, arguments: Arguments) -> Builtin
+/// The goal of a predicate of the shared state with this name and these arguments.
+fn asked_at(place: Place, name: Atom, arguments: Arguments) -> StateGoal
+    requires some { 0 < arguments.count }
+    requires asks { AsksOnce name arguments.count }
     ensures { IsAskedAt place name arguments result }
 {
-    match built_pred(name, arguments.len()) {
-        None => Builtin::Other,
-        Some(pred) => Builtin::State(StateGoal {
-            place,
-            pred,
-            name,
-            arguments,
-        }),
+    let Some(pred) = built_pred(name, arguments.len()) else {
+        unreachable!();
+    };
+    StateGoal {
+        place,
+        pred,
+        name,
+        arguments,
     }
 }
 
@@ -113,19 +119,7 @@ pub fn row_goal_at(store: &Store, goal: Place) -> Option<RowGoal>
                 }),
                 Meaning::Asks => None,
                 Meaning::Steps => None,
-                Meaning::Reserved => None,
             }
         }
-    }
-}
-
-/// What a goal without arguments is, by the predicate with its name. All predicates that are functions of their arguments have
-/// some.
-fn alone(found: Option<Meaning>) -> Builtin
-    ensures { result ≡ builtin_alone found }
-{
-    match found {
-        None => Builtin::No,
-        Some(_) => Builtin::Other,
     }
 }

@@ -57,7 +57,7 @@ impl Engine {
 }
 
 /// Erases the clause that was added at a place.
-fn visit_erase<W: World<Term = Stored>>(
+pub fn visit_erase<W: World<Term = Stored>>(
     world: &mut W,
     atoms: &mut W::A,
     place: u64,

@@ -63,7 +63,9 @@ impl Engine {
                     Did::Collect(goal, collection) => {
                         self.collect(goal, collection, frame.continuation, world, atoms)
                     }
-                    Did::Missing(procedure) => Ok(Some(Slice::Missing(procedure))),
+                    Did::Clear(goal, head) => {
+                        self.clear(goal, head, list, frame.continuation, world, atoms)
+                    }
                 }
             }
         }

@@ -11,7 +11,7 @@ ghost use Rattle.iso_search.specs.Reading.{IsView, View, reads};
 ghost use Rattle.iso_search.specs.Searching.{IsWhole};
 ghost use Rattle.iso_engine.specs.declared.doing.Doing.TheVariants.{Running};
 ghost use Rattle.iso_engine.specs.Following.{HasProcedure, IsInteger, StepsTo};
-ghost use Rattle.iso_engine.specs.Tasks.{IsDone, IsForOthers, IsLeftOver, IsMissingTask};
+ghost use Rattle.iso_engine.specs.Tasks.{IsDone, IsForOthers, IsLeftOver, IsOwnDid, IsOwnKind, IsViewed};
 
 use crate::builtin::{Builtin, RowGoal, builtin_at};
 use crate::call::direct::direct_call;
@@ -21,9 +21,8 @@ use crate::findall::collect;
 use crate::following::follow;
 use crate::kinds::{is_other, is_write};
 use crate::procedure::procedure_at;
-use crate::state::collecting::{Collection, collection_at};
-use crate::state::looks::{LookGoal, argument_of, look_at};
-use atom_api::fixed;
+use crate::state::collecting::Collection;
+use crate::state::looks::{Look, LookGoal};
 use iso_search::construct::{Construct, construct_at};
 use iso_search::frames::{Frame, Task};
 use iso_search::search::Search;
@@ -52,8 +51,8 @@ pub enum Did {
     Exit(Place, Place),
     /// The task is the goal at a place that asks for a cycle of this collection. Nothing has changed.
     Collect(Place, Collection),
-    /// The task is for a predicate that is not built yet. Nothing has changed.
-    Missing(Procedure),
+    /// The task is the goal at a place of retractall/1, with this head. Nothing has changed.
+    Clear(Place, Place),
 }
 
 /// Does a task, before those of a list. The only error is out of memory.
@@ -61,6 +60,7 @@ pub fn do_task(alloc: Global, search: &mut Search, frame: Frame) -> Result<Did, 
     requires whole { IsWhole search.old }
     requires task { IsTaskIn search.old.store frame.task }
     requires rest { frame.continuation ≤ length search.old.frames.items }
+    requires viewed { IsViewed }
     ensures whole { OnOk result (IsWhole search.new) }
     ensures done { IfOk result (IsDone search.old frame.task frame.continuation search.new) }
     ensures budgets { OnOk result (search.new.budgets ≡ search.old.budgets) }
@@ -105,7 +105,8 @@ fn leave(search: &mut Search, frame: Frame) -> Option<Doing>
     }
 }
 
-/// Takes up a goal, before the tasks of a list. The only error is out of memory.
+/// Takes up a goal, before the tasks of a list. The only error is out of memory. An integer is no goal: no conversion of a term
+/// to a body leaves one in its place (ISO 7.6.2).
 fn do_goal(
     alloc: Global,
     search: &mut Search,
@@ -116,6 +117,7 @@ fn do_goal(
     requires whole { IsWhole search.old }
     requires goal { Holds search.old.store goal }
     requires rest { rest ≤ length search.old.frames.items }
+    requires viewed { IsViewed }
     ensures whole { OnOk result (IsWhole search.new) }
     ensures done { IfOk result (IsDone search.old (Goal goal cut) rest search.new) }
     ensures budgets { OnOk result (search.new.budgets ≡ search.old.budgets) }
@@ -128,10 +130,7 @@ fn do_goal(
         return Ok(Did::Next(doing));
     }
     let Some(procedure) = procedure_at(&search.store, goal) else {
-        return Ok(Did::Missing(Procedure {
-            name: fixed::CALL,
-            arity: 1,
-        }));
+        return Err(Memory);
     };
     let known = Procedure {
         name: procedure.name,
@@ -146,53 +145,48 @@ fn do_goal(
 }
 
 /// What a goal of this predicate is that is no control construct: a call of the program's clauses, a built-in predicate that is
-/// a function of its arguments, one of the shared state, a goal that writes, or another built-in predicate.
+/// a function of its arguments, one of the shared state, a goal that writes, or one that is a step of the search of its own.
 fn left_over(store: &Store, goal: Place, kind: Construct, procedure: Procedure) -> Did
     requires holds { Holds store.now goal }
     requires callable { IsInteger store.now goal → ⊥ }
     requires procedure { HasProcedure store.now goal procedure }
+    requires inside { IsConstructIn store.now kind }
     requires stands { (v : View) → IsView v → construction v store.now kind ≡ construct (reads v store.now goal) }
     requires left { IsLeft kind }
+    requires viewed { IsViewed }
     ensures { IsLeftOver store.now goal result }
 {
     if is_other(kind) {
         match builtin_at(store, goal) {
             Builtin::Row(row) => Did::Row(row),
             Builtin::State(state) => Did::Ask(state),
-            Builtin::Other => left_alone(store, goal, procedure),
+            Builtin::Collect(collection) => Did::Collect(goal, collection),
             Builtin::No => Did::Call(goal, procedure),
         }
     } else if is_write(kind) {
         Did::Write(goal, procedure)
     } else {
-        left_step(store, goal, procedure)
+        own_step(goal, kind)
     }
 }
 
-/// What a goal of another built-in predicate is: one that asks for a cycle of collection, or of a predicate that is not built.
-fn left_alone(store: &Store, goal: Place, procedure: Procedure) -> Did
-    requires holds { Holds store.now goal }
-    requires missing { (cut : ℕ) → IsMissingTask store.now (Goal goal cut) procedure }
-    ensures { IsLeftOver store.now goal result }
+/// What a goal of this kind is that looks through the clauses, leaves a thread or erases clauses.
+fn own_step(goal: Place, kind: Construct) -> Did
+    requires { IsOwnKind kind }
+    ensures { IsOwnDid goal kind result }
 {
-    match collection_at(store, goal) {
-        Some(collection) => Did::Collect(goal, collection),
-        None => Did::Missing(procedure),
-    }
-}
-
-/// What a goal is that looks through the clauses or leaves a thread, or one that is not built.
-fn left_step(store: &Store, goal: Place, procedure: Procedure) -> Did
-    requires holds { Holds store.now goal }
-    requires missing { (cut : ℕ) → IsMissingTask store.now (Goal goal cut) procedure }
-    ensures { IsLeftOver store.now goal result }
-{
-    if let Some(look) = look_at(store, goal) {
-        return Did::Look(look);
-    }
-    match argument_of(store, goal, fixed::THREAD_EXIT) {
-        Some(term) => Did::Exit(goal, term),
-        None => Did::Missing(procedure),
+    match kind {
+        Construct::Exits(term) => Did::Exit(goal, term),
+        Construct::Clears(head) => Did::Clear(goal, head),
+        Construct::Retracts(term) => Did::Look(LookGoal {
+            place: goal,
+            look: Look::Retracts(term),
+        }),
+        Construct::Inspects(head, body) => Did::Look(LookGoal {
+            place: goal,
+            look: Look::Inspects(head, body),
+        }),
+        _ => unreachable!(),
     }
 }
 

@@ -3,7 +3,7 @@ use crate::doing::Doing;
 use atom_api::{Cause, Pass, WornWord};
 use op_table::OpTable;
 use std::sync::Arc;
-use world_api::{On, Procedure};
+use world_api::On;
 
 /// Why a slice ended.
 #[derive(Drop)]
@@ -22,8 +22,6 @@ pub enum Slice {
     Waits(On, u64),
     /// The search has ended.
     Ended,
-    /// The next goal is a built-in predicate that is not built yet. The step was taken back.
-    Missing(Procedure),
     /// Out of memory: the engine answers so from then on.
     Memory,
 }

@@ -11,18 +11,21 @@ ghost use Rattle.iso_engine.specs.Ready.{IsReady};
 ghost use Rattle.iso_engine.specs.Spending.{IsSpent};
 ghost use Rattle.iso_engine.specs.Slices.{IsStepped};
 ghost use Rattle.iso_engine.specs.ClauseLooks.{IsLookAt};
-ghost use Rattle.iso_engine.specs.Collecting.{IsCollectAt};
+ghost use Rattle.iso_engine.specs.Collections.{IsCollectAt};
 ghost use Rattle.iso_engine.specs.Leaving.{IsExitAt, IsExitText};
 ghost use Rattle.iso_engine.specs.State.{IsStateAt};
 ghost use Rattle.iso_engine.specs.Unserved.{as_stopped, stopped_refusals};
 
 pub mod asked;
 pub mod asks;
+pub mod clearing;
+pub mod clears;
 pub mod collecting;
 pub mod leads;
 pub mod leaving;
 pub mod looking;
 pub mod looks;
+pub mod meeting;
 pub mod refusing;
 
 use crate::call::called::Called;

@@ -54,6 +54,11 @@ impl Engine {
                 self.doing = Doing::Erasing { place, list };
                 self.erase(place, list, world, atoms)
             }
+            Doing::Clearing {
+                list,
+                generation,
+                left,
+            } => self.clear_next(list, generation, left, world, atoms),
             Doing::Answering => {
                 self.doing = after_solution(self.solution_limit, self.solutions_found);
                 Ok(None)

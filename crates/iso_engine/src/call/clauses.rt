@@ -266,7 +266,7 @@ fn erased_by(outcome: Outcome, place: u64) -> Outcome
 }
 
 /// Makes a copy of a clause whose numbers and cells were taken.
-fn build_clause(search: &mut Search, clause: &Stored, from: u64) -> Result<Place, Memory>
+pub fn build_clause(search: &mut Search, clause: &Stored, from: u64) -> Result<Place, Memory>
     requires whole { IsWhole search.old }
     requires above { IsAbove from search.old.store }
     requires taken { from + length (variables clause.now) ≤ search.old.next_variable }

@@ -1,22 +1,23 @@
 //! garbage_collect_atoms/0 and garbage_collect_clauses/0 (SWI-Prolog manual, section 'Memory'): each asks for a cycle of collection
 //! and does not wait for it.
-ghost use Rattle.std.specs.Prelude.{◌≡◌, ◌≤◌, ◌++◌, false, length, IfOk, IfSome, OnErr, OnOk};
+ghost use Rattle.std.specs.Prelude.{◌≡◌, ◌≤◌, ◌++◌, false, length, IfOk, MatchOption, OnErr, OnOk};
 ghost use Rattle.term_store.specs.ArgumentKeys.{clause_key};
-ghost use Rattle.term_store.specs.Contents.{Holds as IsIn};
 ghost use Rattle.term_store.specs.NumberedNames.{term_by};
 ghost use Rattle.world_api.specs.Asked.{IsInAnswer};
 ghost use Rattle.world_api.specs.Gains.{Gains};
 ghost use Rattle.world_api.specs.Texts.{Holds, text_of};
 ghost use Rattle.world_api.specs.Told.{has_ended};
 ghost use Rattle.iso_search.specs.Searching.{IsWhole};
-ghost use Rattle.iso_engine.specs.Collecting.{IsCollectAt, IsCollected, IsGoalDone, collection_name, collection_procedure, collection_visit};
+ghost use Rattle.iso_engine.specs.declared.state.collecting.Collection.{Collection};
+ghost use Rattle.iso_engine.specs.Collections.{IsCollectAt, collection_name};
+ghost use Rattle.iso_engine.specs.Collecting.{IsCollected, IsGoalDone, collection_procedure, collection_visit};
 ghost use Rattle.iso_engine.specs.GoalSteps.{IsStepAsked};
 ghost use Rattle.iso_engine.specs.Unserved.{OnRefusal, refusals_in};
 
 use atom_api::{Atom, fixed};
 use iso_search::outcome::{Fault, Outcome};
 use iso_search::search::Search;
-use term_store::{ArgumentKey, Place, Store, Stored, View as Kind};
+use term_store::{ArgumentKey, Place, Stored};
 use world_api::{Answer, Procedure, Reply, Unserved, Visit, World};
 
 /// What is collected.
@@ -60,23 +61,17 @@ impl Collection {
     }
 }
 
-/// What the goal at a place asks to be collected, if it is one of these predicates.
-pub fn collection_at(store: &Store, goal: Place) -> Option<Collection>
-    requires { IsIn store.now goal }
-    ensures { IfSome result (IsCollectAt store.now goal) }
+/// What the predicate with this name and no argument asks to be collected, if it is one of these.
+pub fn collection_named(name: Atom) -> Option<Collection>
+    ensures { MatchOption result ((x : Collection) → name ≡ collection_name x → ⊥) (λ x. name ≡ collection_name x) }
 {
-    match store.look(goal) {
-        Kind::Atom(name) => {
-            if name == fixed::GARBAGE_COLLECT_ATOMS {
-                return Some(Collection::Atoms);
-            }
-            if name == fixed::GARBAGE_COLLECT_CLAUSES {
-                return Some(Collection::Clauses);
-            }
-            None
-        }
-        _ => None,
+    if name == fixed::GARBAGE_COLLECT_ATOMS {
+        return Some(Collection::Atoms);
     }
+    if name == fixed::GARBAGE_COLLECT_CLAUSES {
+        return Some(Collection::Clauses);
+    }
+    None
 }
 
 /// Takes up the goal at a place, before the tasks of a list: makes an inference, and asks for a cycle. Where the visit is not served

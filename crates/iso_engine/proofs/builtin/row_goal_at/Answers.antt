@@ -41,13 +41,6 @@ returns-in-Steps c v view =
     compound_no_lines v view c.args.store.now c.args.goal c.in-Compound.name a c.in-Compound.ensures.0 c.in-Compound.ensures.1.0 c.in-Compound.ensures.1.1
     p.result (ap has_row c.in-Some.is ∙ ap (λ w. has_row (Some w)) c.in-Steps.is) (subst (λ k. TellsRows c.in-Compound.name k p.result) c.len.ensures p.ensures.rows)
 
-pub returns-in-Reserved : goal.returns-in-Reserved
-returns-in-Reserved c v view =
-    let p = c.predicate_of-found in
-    let a = c.in-Compound.arguments in
-    compound_no_lines v view c.args.store.now c.args.goal c.in-Compound.name a c.in-Compound.ensures.0 c.in-Compound.ensures.1.0 c.in-Compound.ensures.1.1
-    p.result (ap has_row c.in-Some.is ∙ ap (λ w. has_row (Some w)) c.in-Reserved.is) (subst (λ k. TellsRows c.in-Compound.name k p.result) c.len.ensures p.ensures.rows)
-
 pub returns-in-Row : goal.returns-in-Row
 returns-in-Row c =
     let p = c.predicate_of-found in

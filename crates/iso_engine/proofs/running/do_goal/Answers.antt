@@ -1,16 +1,13 @@
 use Rattle.std.proofs.Common.{refl}
 use Rattle.iso_engine.specs.Calling.{IsCallAt}
 use Rattle.iso_engine.proofs.Arms.{when_none, when_some}
-use Rattle.iso_engine.proofs.Unbuilt.{integer_missing, left_done}
+use Rattle.iso_engine.proofs.LeftOver.{left_done}
 use Rattle.iso_engine.proofs.running.do_goal.Goals as goal
 
 pub returns-in-None-clause-done : goal.returns-in-None-clause-done
 returns-in-None-clause-done c =
     let same = (when_none _ _ c.in_ok-taken.ensures.others c.in-None.is).0 in
     left_done c.args.search.now c.take_up.new.search c.args.goal c.args.cut c.args.rest c.left_over.result same c.left_over.ensures
-
-pub returns-in_default-procedure_at-clause-done : goal.returns-in_default-procedure_at-clause-done
-returns-in_default-procedure_at-clause-done c = (refl, integer_missing c.args.search.now.store c.args.goal c.args.cut c.in_default-procedure_at.ensures)
 
 pub returns-in-Some-clause-done : goal.returns-in-Some-clause-done
 returns-in-Some-clause-done c =

@@ -4,7 +4,7 @@ use Rattle.iso_search.specs.declared.choices.Purpose.{Purpose}
 use Rattle.iso_search.specs.Choices.{listed_goal, purpose_of}
 use Rattle.iso_search.specs.Reading.{reads}
 use Rattle.iso_search.specs.Spelling.{spelled, text_of}
-use Rattle.iso_engine.specs.Missing.{is_integer}
+use Rattle.iso_engine.specs.Following.{is_integer}
 use Rattle.iso_engine.specs.Views.{view_of}
 use Rattle.iso_search.specs.declared.failure.Back.TheVariants.{Retry}
 use Rattle.iso_search.specs.Searching.{IsWhole}

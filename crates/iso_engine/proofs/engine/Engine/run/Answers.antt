@@ -10,12 +10,13 @@ use Rattle.iso_engine.specs.Ready.{IsReady}
 use Rattle.iso_engine.specs.Slices.{IsStepped, written_text}
 use Rattle.iso_engine.specs.Tasks.{IsDone}
 use Rattle.iso_engine.specs.Unserved.{as_stopped}
+use Rattle.iso_engine.specs.Views.{view_of}
 use Rattle.iso_engine.proofs.Interning.{asked_same, exit_asks_for, row_asks_for}
 use Rattle.iso_engine.proofs.Refusals.{none_ok}
 use Rattle.iso_engine.proofs.Solutions.{view_is}
 use Rattle.iso_engine.proofs.Stability.{advance_step, spent_by, step_ready}
 use Rattle.iso_engine.proofs.Stepping.{silent_out}
-use Rattle.iso_engine.proofs.Tasking.{task_inside, task_missing, task_steps}
+use Rattle.iso_engine.proofs.Tasking.{task_inside, task_steps}
 use Rattle.iso_engine.proofs.engine.Engine.run.Goals as goal
 
 pub do_task-requires-clause-task : goal.do_task-requires-clause-task
@@ -72,19 +73,12 @@ returns-in-Next-clause-stepped g c =
     let new : Engine = record e { search = f; doing = d } in
     ([], advance_step m t e new steps did.ensures.budgets refl refl view, silent_out c.args.out.now.items [] refl)
 
-pub returns-in-Missing-clause-stepped : goal.returns-in-Missing-clause-stepped
-returns-in-Missing-clause-stepped g c =
-    let e = c.args.self.now in
-    let x = c.in-Some.frame in
+pub do_task-requires-clause-viewed : goal.do_task-requires-clause-viewed
+do_task-requires-clause-viewed g c =
     let a = c.args.atoms.now in
     let m = g.W.A.Atoms.held a in
     let t = g.W.World.told c.args.world.now in
-    let view = view_is m t (g.met.W.A.Atoms.fixed_held a) (g.met.W.A.Atoms.unlike a) (g.met.W.A.Atoms.finite a) in
-    let first = subst (λ l. tasks l c.args.list ≡ x.task ∷ tasks l x.continuation) c.deref.ensures.value c.in-Some.ensures.0 in
-    let did = c.in_ok-did-in-Some in
-    let left = task_missing m t e c.args.list x.continuation c.requires.list c.requires.ready.stable (g.met.W.A.Atoms.fixed_held a) (g.met.W.A.Atoms.unlike a)
-    (g.met.W.A.Atoms.finite a) view c.do_task.new.search x.task did.did c.in-Missing.procedure first did.ensures.done c.in-Missing.is in
-    (left.0, left.1, silent_out c.args.out.now.items left.0 left.2)
+    (view_of m t, view_is m t (g.met.W.A.Atoms.fixed_held a) (g.met.W.A.Atoms.unlike a) (g.met.W.A.Atoms.finite a))
 
 pub call-requires-clause-ready : goal.call-requires-clause-ready
 call-requires-clause-ready g c =
@@ -412,3 +406,43 @@ returns-in-Exit-clause-asked g c =
 
 pub returns-in-Exit-clause-given : goal.returns-in-Exit-clause-given
 returns-in-Exit-clause-given g c = none_ok (as_stopped c.exit.result) (c.exit.new.self.solutions_found ≡ c.args.self.now.solutions_found) c.exit.ensures.given
+
+pub clear-requires-clause-ready : goal.clear-requires-clause-ready
+clear-requires-clause-ready g c =
+    let e = c.args.self.now in
+    let x = c.in-Some.frame in
+    let f = c.do_task.new.search in
+    let did = c.in_ok-did-in-Some in
+    let called = subst (IsDone e.search x.task x.continuation f) c.in-Clear.is did.ensures.done in
+    subst (λ (s : Search). let y : Engine = record e { search = s } in IsReady (g.W.A.Atoms.held c.args.atoms.now) (g.W.World.told c.args.world.now) y) (sym called.0)
+    c.requires.ready
+
+pub returns-in-Clear-clause-stepped : goal.returns-in-Clear-clause-stepped
+returns-in-Clear-clause-stepped g c =
+    let e = c.args.self.now in
+    let x = c.in-Some.frame in
+    let f = c.do_task.new.search in
+    let y : Engine = record e { search = f } in
+    let done = subst (IsDone e.search x.task x.continuation f) c.in-Clear.is c.in_ok-did-in-Some.ensures.done in
+    let m = g.W.A.Atoms.held c.args.atoms.now in
+    let n = g.W.A.Atoms.held c.clear.new.atoms in
+    let t = g.W.World.told c.args.world.now in
+    let u = g.W.World.told c.clear.new.world in
+    let after = c.clear.new.self in
+    let end = as_stopped c.clear.result in
+    let a = c.args.out.now.items in
+    IfOk-weaker end (λ o. IsStepped m t y o n u after [])
+    (λ o. (more : List Output) × IsStepped m t e o n u after more × (a ≡ a ++ encode_utf8_all (written_text more)))
+    (λ o h. ([], subst (λ (s : Search). let z : Engine = record e { search = s } in IsStepped m t z o n u after []) done.0 h, silent_out a [] refl)) c.clear.ensures.stepped
+
+pub returns-in-Clear-clause-asked : goal.returns-in-Clear-clause-asked
+returns-in-Clear-clause-asked g c =
+    let e = c.args.self.now in
+    let x = c.in-Some.frame in
+    let f = c.do_task.new.search in
+    let a = c.args.atoms.now in
+    let called = subst (IsDone e.search x.task x.continuation f) c.in-Clear.is c.in_ok-did-in-Some.ensures.done in
+    asked_same (g.W.A.Atoms.held a) (g.W.World.told c.args.world.now) e f (g.W.A.Atoms.asked a) (g.W.A.Atoms.asked c.clear.new.atoms) called.0 c.clear.ensures.asked
+
+pub returns-in-Clear-clause-given : goal.returns-in-Clear-clause-given
+returns-in-Clear-clause-given g c = none_ok (as_stopped c.clear.result) (c.clear.new.self.solutions_found ≡ c.args.self.now.solutions_found) c.clear.ensures.given

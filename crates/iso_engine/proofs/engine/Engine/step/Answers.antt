@@ -2,7 +2,7 @@ use Rattle.std.proofs.Common.{◌≡◌, [], ◌++◌, List, Some, refl, sym, su
 use Rattle.std.specs.Prelude.{encode_utf8_all}
 use Rattle.std.proofs.lemmas.Result.{IfOk-weaker}
 use Rattle.pl_model.specs.Resolution.{Output}
-use Rattle.iso_engine.specs.declared.doing.Doing.TheVariants.{Running, Throwing, Erasing, Ended}
+use Rattle.iso_engine.specs.declared.doing.Doing.TheVariants.{Running, Throwing, Erasing, Clearing, Ended}
 use Rattle.iso_engine.specs.declared.engine.Engine.{Engine}
 use Rattle.iso_engine.specs.declared.slices.Slice.TheVariants.{Ended as SliceEnded}
 use Rattle.iso_engine.specs.Ready.{Steps}
@@ -185,3 +185,33 @@ returns-in-Erasing-clause-asked g c =
     let a = c.args.atoms.now in
     asked_again (g.W.A.Atoms.held a) (g.W.World.told c.args.world.now) c.args.self.now (Erasing c.in-Erasing.place c.in-Erasing.list) (g.W.A.Atoms.asked a)
     (g.W.A.Atoms.asked c.erase.new.atoms) (sym c.replace.ensures.value ∙ c.in-Erasing.is) c.erase.ensures.asked
+
+pub clear_next-requires-clause-ready : goal.clear_next-requires-clause-ready
+clear_next-requires-clause-ready g c =
+    ready_again (g.W.A.Atoms.held c.args.atoms.now) (g.W.World.told c.args.world.now) c.args.self.now (Clearing c.in-Clearing.list c.in-Clearing.generation c.in-Clearing.left)
+    (sym c.replace.ensures.value ∙ c.in-Clearing.is) c.requires.ready
+
+pub returns-in-Clearing-clause-stepped : goal.returns-in-Clearing-clause-stepped
+returns-in-Clearing-clause-stepped g c =
+    let e = c.args.self.now in
+    let d = Clearing c.in-Clearing.list c.in-Clearing.generation c.in-Clearing.left in
+    let y : Engine = record e { doing = d } in
+    let same = sym c.replace.ensures.value ∙ c.in-Clearing.is in
+    let m = g.W.A.Atoms.held c.args.atoms.now in
+    let n = g.W.A.Atoms.held c.clear_next.new.atoms in
+    let t = g.W.World.told c.args.world.now in
+    let u = g.W.World.told c.clear_next.new.world in
+    let f = c.clear_next.new.self in
+    let a = c.args.out.now.items in
+    IfOk-weaker (as_stopped c.clear_next.result) (λ o. IsStepped m t y o n u f [])
+    (λ o. (more : List Output) × IsStepped m t e o n u f more × (a ≡ a ++ encode_utf8_all (written_text more)))
+    (λ o h. ([], stepped_again m t e d o n u f [] same h, silent_out a [] refl)) c.clear_next.ensures.stepped
+
+pub returns-in-Clearing-clause-given : goal.returns-in-Clearing-clause-given
+returns-in-Clearing-clause-given g c = none_ok (as_stopped c.clear_next.result) (c.clear_next.new.self.solutions_found ≡ c.args.self.now.solutions_found) c.clear_next.ensures.given
+
+pub returns-in-Clearing-clause-asked : goal.returns-in-Clearing-clause-asked
+returns-in-Clearing-clause-asked g c =
+    let a = c.args.atoms.now in
+    asked_again (g.W.A.Atoms.held a) (g.W.World.told c.args.world.now) c.args.self.now (Clearing c.in-Clearing.list c.in-Clearing.generation c.in-Clearing.left) (g.W.A.Atoms.asked a)
+    (g.W.A.Atoms.asked c.clear_next.new.atoms) (sym c.replace.ensures.value ∙ c.in-Clearing.is) c.clear_next.ensures.asked

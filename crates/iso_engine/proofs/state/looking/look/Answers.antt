@@ -9,7 +9,7 @@ use Rattle.shared_builtins.specs.Telling.{TellsAtoms}
 use Rattle.iso_engine.specs.Called.{AreLooked}
 use Rattle.iso_engine.specs.ClauseLooks.{purpose_for}
 use Rattle.iso_engine.specs.ClausesAsked.{IsListAsked}
-use Rattle.iso_engine.specs.Missing.{is_integer}
+use Rattle.iso_engine.specs.Following.{is_integer}
 use Rattle.iso_engine.specs.Purposes.{listed_in}
 use Rattle.iso_engine.specs.Views.{view_of}
 use Rattle.iso_engine.proofs.LookGoals.{back_again, held_numbered, look_held, look_over, marked_again}
