@@ -11,10 +11,7 @@
 
 text([the, dog, saw, the, cat, and, the, cat, saw, the, mouse, that, saw, the, dog, and, the, cat]).
 
-tally :- cleared, text(Words), met_all(Words), report.
-
-cleared :- retract(count(_, _)), fail.
-cleared.
+tally :- retractall(count(_, _)), text(Words), met_all(Words), report.
 
 met_all([]).
 met_all([W|Ws]) :- met(W), met_all(Ws).
