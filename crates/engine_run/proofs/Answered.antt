@@ -13,7 +13,7 @@ use Rattle.iso_search.specs.Reading.{reads as reads_of}
 use Rattle.iso_search.specs.Spelling.{or_no_text as or_none, spelled as spells, spelled_all as spells_all, text_of as texts_by}
 use Rattle.iso_engine.specs.declared.engine.Engine.{Engine}
 use Rattle.iso_engine.specs.declared.slices.Slice.{Slice}
-use Rattle.iso_engine.specs.declared.slices.Slice.TheVariants.{Yield, Solution, Retry, Memory, NeedsAtoms, Worn, Waits, Ended, Missing}
+use Rattle.iso_engine.specs.declared.slices.Slice.TheVariants.{Yield, Solution, Retry, Memory, NeedsAtoms, Worn, Waits, Ended}
 use Rattle.iso_engine.specs.Views.{view_of}
 use Rattle.iso_engine.specs.Slices.{IsSlice}
 use Rattle.engine_run.specs.Answered.{IsPut}
@@ -72,5 +72,4 @@ module _ (names : List (Chars × ℕ)) (limit steps : ℕ) (m n : Names) (t u : 
   ran_goal (Waits on g) h put = silent (Waits on g) h h.ends.1 put
   ran_goal (NeedsAtoms p) h put = silent (NeedsAtoms p) h h.ends.1 put
   ran_goal (Worn w) h put = silent (Worn w) h h.ends.1 put
-  ran_goal (Missing p) h put = silent (Missing p) h h.ends.1 put
   ran_goal Memory h put = absurd h.ends.0

@@ -1,5 +1,5 @@
 -- A turn in which a slice of the search at hand was run.
-use Rattle.std.proofs.Common.{◌≡◌, ℕ, ◌+◌, List, ◌++◌, Bool, true, false, Option, Some, Result, Ok, Err, IsSome, is_some, refl, sym, ap, subst, ◌∙◌}
+use Rattle.std.proofs.Common.{◌≡◌, ℕ, ◌+◌, List, ◌++◌, Bool, true, false, Option, Some, Result, Ok, Err, IsSome, refl, sym, ap, subst, ◌∙◌}
 use Rattle.std.specs.List.{All}
 use Rattle.pl_term.specs.Tree.{Chars}
 use Rattle.pl_model.specs.Resolution.{Limits, Output, State, solution_count}
@@ -27,7 +27,7 @@ use Rattle.iso_engine.proofs.Stability.{count-append}
 use Rattle.engine_run.specs.declared.runner.Runner.{Runner}
 use Rattle.engine_run.specs.declared.runner.Stage.TheVariants.{Directs, Searches}
 use Rattle.engine_run.specs.declared.unfinished.Unfinished.{Unfinished}
-use Rattle.engine_run.specs.declared.unfinished.Unfinished.TheVariants.{Waits, NeedsAtoms, Worn, Missing, Memory}
+use Rattle.engine_run.specs.declared.unfinished.Unfinished.TheVariants.{Waits, NeedsAtoms, Worn, Memory}
 use Rattle.engine_run.specs.Ran.{IsNameHeld, WaitsOn}
 use Rattle.engine_run.specs.RunnerLaws.{all_still}
 use Rattle.engine_run.specs.Runners.{AnswerStands, HasDirected, HasSearched, HasTurned, IsAtItem, IsBetween, StandsFor, Turned, at_stage, goes_by, put_by}
@@ -63,22 +63,13 @@ module _ (n : Names) (u : Told) (f : Engine) where
   answers_so (Err (Waits on g)) h job x item os limits given = (h.generation, waits_there on g h job x item os limits given)
   answers_so (Err (NeedsAtoms p)) h job x item os limits given = tt
   answers_so (Err (Worn w)) h job x item os limits given = tt
-  answers_so (Err (Missing p)) h job x item os limits given =
-      record {
-        around = x;
-        item = item;
-        state = state_now (view_of n u) f os;
-        is = refl;
-        unbuilt = record { name = h.name; held = h.held; next = h.next };
-      }
   answers_so (Err Memory) h job x item os limits given = tt
 
-  -- The name of a predicate that is not built is held, and the alias of what is waited on.
+  -- The alias of what is waited on is held.
   pub name_held : (w : Unfinished) → StandsAt n u f w → IsNameHeld n w
   name_held (Waits on g) h = h.held
   name_held (NeedsAtoms p) h = tt
   name_held (Worn w) h = tt
-  name_held (Missing p) h = ap is_some h.held
   name_held Memory h = tt
 
 module _ {S : Type 0} (execution : (ℕ → Chars) → S → Job → List Consulted → Execution) (part : S → Option Part) (plays : (ℕ → Chars) → S → Script → Type 0) (kept : S → Bool)

@@ -4,7 +4,7 @@ use Rattle.std.specs.Prelude.{IfErr}
 use Rattle.std.specs.Result.{IsErrAnd}
 use Rattle.std.proofs.lemmas.Result.{err_from_is_err_and}
 use Rattle.engine_run.specs.declared.unfinished.Unfinished.{Unfinished}
-use Rattle.engine_run.specs.declared.unfinished.Unfinished.TheVariants.{Waits, NeedsAtoms, Worn, Missing, Memory}
+use Rattle.engine_run.specs.declared.unfinished.Unfinished.TheVariants.{Waits, NeedsAtoms, Worn, Memory}
 use Rattle.engine_run.specs.Searched.{UnlessMemory}
 
 -- At the exit of a `?` the answer is the error.
@@ -20,7 +20,6 @@ exit_with E {F = F} r w is P Q h f = subst (λ x. UnlessMemory x (Q x)) (sym is)
     go (Waits on g) p k = k p
     go (NeedsAtoms q) p k = k p
     go (Worn q) p k = k p
-    go (Missing q) p k = k p
     go Memory p k = tt
 
 pub exit_err : {F : Type 0} (r : Result F Unfinished) (w : Unfinished) → r ≡ Err w → (Q : Unfinished → Type 0) → Q w → IfErr r Q
@@ -32,7 +31,6 @@ unless_memory (Ok x) h = h
 unless_memory (Err (Waits on g)) h = h
 unless_memory (Err (NeedsAtoms p)) h = h
 unless_memory (Err (Worn w)) h = h
-unless_memory (Err (Missing p)) h = h
 unless_memory (Err Memory) h = tt
 
 pub unless_on : {E : Type 0} (r : Result E Unfinished) {P Q : Type 0} → (P → Q) → UnlessMemory r P → UnlessMemory r Q
@@ -40,5 +38,4 @@ unless_on (Ok x) f h = f h
 unless_on (Err (Waits on g)) f h = f h
 unless_on (Err (NeedsAtoms p)) f h = f h
 unless_on (Err (Worn w)) f h = f h
-unless_on (Err (Missing p)) f h = f h
 unless_on (Err Memory) f h = tt

@@ -13,7 +13,7 @@ use Rattle.engine_run.specs.declared.runner.Stage.{Stage}
 use Rattle.engine_run.specs.declared.runner.Stage.TheVariants.{Directs, Searches}
 use Rattle.engine_run.specs.declared.runner.Turn.TheVariants.{Goes, Ended}
 use Rattle.engine_run.specs.declared.unfinished.Unfinished.{Unfinished}
-use Rattle.engine_run.specs.declared.unfinished.Unfinished.TheVariants.{Waits, NeedsAtoms, Worn, Missing, Memory}
+use Rattle.engine_run.specs.declared.unfinished.Unfinished.TheVariants.{Waits, NeedsAtoms, Worn, Memory}
 use Rattle.engine_run.specs.Endings.{IsEndOfTurn}
 use Rattle.engine_run.specs.Ran.{IsNameHeld}
 use Rattle.engine_run.specs.Runners.{HasDirected, HasSearched, IsStillSearching, Turned, ends_by, goes_by, is_over, is_search, put_by}
@@ -30,7 +30,6 @@ goes_unless (Ok x) P h = h
 goes_unless (Err (Waits on g)) P h = h
 goes_unless (Err (NeedsAtoms p)) P h = h
 goes_unless (Err (Worn w)) P h = h
-goes_unless (Err (Missing p)) P h = h
 goes_unless (Err Memory) P h = tt
 
 goes_stands : (n : Names) (u : Told) (f : Engine) (s : Sliced) → Stands n u f s → Stands n u f (goes_by s)
@@ -59,7 +58,6 @@ both (Ok x) P Q h k = (h, k)
 both (Err (Waits on g)) P Q h k = (h, k)
 both (Err (NeedsAtoms p)) P Q h k = (h, k)
 both (Err (Worn w)) P Q h k = (h, k)
-both (Err (Missing p)) P Q h k = (h, k)
 both (Err Memory) P Q h k = tt
 
 module _ {S : Type 0} (m n : Names) (t u : Told) (old new : Runner S) (e f : Engine) (s : Sliced) (r : Turned) (goes : r ≡ goes_by s)
@@ -115,7 +113,6 @@ still_by (Ok x) g f h = tt
 still_by (Err (Waits on k)) g f h = f h
 still_by (Err (NeedsAtoms p)) g f h = tt
 still_by (Err (Worn w)) g f h = tt
-still_by (Err (Missing p)) g f h = f h
 still_by (Err Memory) g f h = tt
 
 names_by : (n : Names) (u : Told) (r : Turned) {P : Type 0} → (P → (f : Engine) × Stands n u f r) → UnlessMemory r P → IfErr r (IsNameHeld n)
@@ -123,7 +120,6 @@ names_by n u (Ok x) f h = tt
 names_by n u (Err (Waits on k)) f h = let p = f h in name_held n u p.0 (Waits on k) p.1
 names_by n u (Err (NeedsAtoms p)) f h = tt
 names_by n u (Err (Worn w)) f h = tt
-names_by n u (Err (Missing q)) f h = let p = f h in name_held n u p.0 (Missing q) p.1
 names_by n u (Err Memory) f h = tt
 
 module _ {S : Type 0} (m n : Names) (t u : Told) (old new : Runner S) (e : Engine) (r : Turned) where

@@ -33,7 +33,6 @@ module _ (put : Chars → List Output → Chars) (limit before after : ℕ) (m n
   by_slice (slices.Waits on g) h ran = record { counted = came (slices.Waits on g) ran h.0 h.1 h.2; stands = h.2.ends.0 }
   by_slice (slices.NeedsAtoms p) h ran = record { counted = came (slices.NeedsAtoms p) ran h.0 h.1 h.2; stands = tt }
   by_slice (slices.Worn w) h ran = record { counted = came (slices.Worn w) ran h.0 h.1 h.2; stands = tt }
-  by_slice (slices.Missing p) h ran = record { counted = came (slices.Missing p) ran h.0 h.1 h.2; stands = h.2.ends.0 }
   by_slice slices.Memory h ran = tt
 
   -- After a slice and what is put after its texts.
@@ -66,7 +65,6 @@ module _ (xs ys : List Refusal) where
   once_by (slices.Waits on g) h = once [] [] h
   once_by (slices.NeedsAtoms p) h = once [] (last_refusals (stopped_by (slices.NeedsAtoms p))) h
   once_by (slices.Worn w) h = once [] (last_refusals (stopped_by (slices.Worn w))) h
-  once_by (slices.Missing p) h = once [] [] h
   once_by slices.Memory h = tt
 
   pub refused_once : (s : Slice) (r : Result (Unit {0}) Unfinished) → r ≡ stopped_by s → IsRefusedBy s xs ys → UnlessMemory r (IsRefusedOnce xs ys (last_refusals r))

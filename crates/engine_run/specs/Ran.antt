@@ -1,23 +1,20 @@
 -- Why a search does not go on, as a part of whatever execution.
 use Rattle.std.specs.Prelude.{◌≡◌, ℕ, Some, IsSome}
 use Rattle.std.specs.List.{All}
-use Rattle.pl_term.specs.Tree.{Chars}
-use Rattle.pl_model.specs.Resolution.{Limits, Doing, State}
+use Rattle.pl_model.specs.Resolution.{Limits}
 use Rattle.pl_model.specs.declared.threads.On.{On}
 use Rattle.run_model.specs.Execution.{Job, Execution, move}
 use Rattle.run_model.specs.Ends.{awaited_by}
 use Rattle.run_model.specs.Progress.{WaitsNow}
 use Rattle.atom_api.specs.Names.{Names}
-use Rattle.world_api.specs.declared.visit.Procedure.{Procedure}
 use Rattle.world_api.specs.Answers.{on_names}
 use Rattle.world_api.specs.Told.{Told}
-use Rattle.script_api.specs.Parts.{Part, seen_in, with_search}
+use Rattle.script_api.specs.Parts.{seen_in}
 use Rattle.iso_search.specs.declared.search.Budgets.{Budgets}
 use Rattle.iso_engine.specs.declared.engine.Stays.{Stays}
 use Rattle.iso_engine.specs.Standing.{staying}
-use Rattle.iso_engine.specs.Missing.{IsUnbuiltDoing}
 use Rattle.engine_run.specs.declared.unfinished.Unfinished.{Unfinished}
-use Rattle.engine_run.specs.declared.unfinished.Unfinished.TheVariants.{Waits, Missing}
+use Rattle.engine_run.specs.declared.unfinished.Unfinished.TheVariants.{Waits}
 
 -- The limits have these budgets.
 pub record HasBudgets (b : Budgets) (l : Limits) : Type 0 where
@@ -30,27 +27,12 @@ pub record HasAims (wanted : ℕ) (stays : Stays) (l : Limits) : Type 0 where
   pub solutions : l.solutions ≡ wanted
   pub stays_so : l.stays ≡ staying stays
 
--- The next step of a search that does this is of this predicate, which is not built.
-pub record IsUnbuiltBy (n : Names) (p : Procedure) (d : Doing) : Type 0 where
-  pub name : Chars
-  pub held : n p.name ≡ Some name
-  pub next : IsUnbuiltDoing (record { name = name; arity = p.arity }) d
-
 -- The next request of the execution waits, on this.
 pub record WaitsOn (u : Told) (job : Job) (on : On) (y : Execution) : Type 0 where
   pub waits : WaitsNow u.engine u.goals job (seen_in u y)
   pub awaits : awaited_by u.engine (move job y) ≡ Some on
 
--- The name of a predicate that is not built is held, and so is the alias of what is waited on.
+-- The alias of what is waited on is held.
 abbrev pub IsNameHeld : Names → Unfinished → Type 0
 IsNameHeld n (Waits on g) = All (λ a. IsSome (n a)) (on_names on)
-IsNameHeld n (Missing p) = IsSome (n p.name)
 IsNameHeld n w = Unit {0}
-
--- The next step of the search in this execution is of this predicate, which is not built, and whose name is held.
-pub record IsAtMissing (n : Names) (p : Procedure) (y : Execution) : Type 0 where
-  pub around : Execution
-  pub item : Part
-  pub state : State
-  pub is : y ≡ with_search around item state
-  pub unbuilt : IsUnbuiltBy n p state.doing

@@ -32,9 +32,9 @@ use Rattle.engine_run.specs.declared.runner.Stage.TheVariants.{Asks, Directs, Se
 use Rattle.engine_run.specs.declared.runner.Turn.{Turn}
 use Rattle.engine_run.specs.declared.runner.Turn.TheVariants.{Goes, Ended}
 use Rattle.engine_run.specs.declared.unfinished.Unfinished.{Unfinished}
-use Rattle.engine_run.specs.declared.unfinished.Unfinished.TheVariants.{Waits, NeedsAtoms, Worn, Missing, Memory}
+use Rattle.engine_run.specs.declared.unfinished.Unfinished.TheVariants.{Waits, NeedsAtoms, Worn, Memory}
 use Rattle.engine_run.specs.Items.{IsText}
-use Rattle.engine_run.specs.Ran.{HasAims, HasBudgets, IsAtMissing, WaitsOn}
+use Rattle.engine_run.specs.Ran.{HasAims, HasBudgets, WaitsOn}
 use Rattle.engine_run.specs.Searched.{IsSearched}
 
 -- What a turn answers.
@@ -62,12 +62,11 @@ is_search (Directs e) = true
 is_search (Searches e) = true
 is_search Over = false
 
--- Where a request waits, or the next step is not built, the item at hand is searched for.
+-- Where a request waits, the item at hand is searched for.
 abbrev pub IsStillSearching : Stage → Unfinished → Type 0
 IsStillSearching s (Waits on g) = is_search s ≡ true
 IsStillSearching s (NeedsAtoms p) = Unit {0}
 IsStillSearching s (Worn w) = Unit {0}
-IsStillSearching s (Missing p) = is_search s ≡ true
 IsStillSearching s Memory = Unit {0}
 
 abbrev pub stage_at : Engine → Bool → Stage
@@ -125,7 +124,6 @@ AnswerStands n u job (Ok (Ended how)) y = (ending : Ending) × EndsSo ending how
 AnswerStands n u job (Err (Waits on g)) y = (g ≡ length u.history) × WaitsOn u job (on_by (text_of n) on) y
 AnswerStands n u job (Err (NeedsAtoms p)) y = Unit {0}
 AnswerStands n u job (Err (Worn w)) y = Unit {0}
-AnswerStands n u job (Err (Missing p)) y = IsAtMissing n p y
 AnswerStands n u job (Err Memory) y = Unit {0}
 
 -- What holds of a runner between two turns

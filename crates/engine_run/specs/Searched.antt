@@ -11,10 +11,9 @@ use Rattle.iso_engine.specs.declared.engine.Engine.{Engine}
 use Rattle.iso_engine.specs.declared.slices.Slice.{Slice}
 use Rattle.iso_engine.specs.declared.slices.Slice.TheVariants as slices
 use Rattle.iso_engine.specs.Advancing.{Advances}
-use Rattle.iso_engine.specs.Missing.{IsMissing}
 use Rattle.iso_engine.specs.Slices.{IsWaitingNow}
 use Rattle.engine_run.specs.declared.unfinished.Unfinished.{Unfinished}
-use Rattle.engine_run.specs.declared.unfinished.Unfinished.TheVariants.{Waits, NeedsAtoms, Worn, Missing, Memory}
+use Rattle.engine_run.specs.declared.unfinished.Unfinished.TheVariants.{Waits, NeedsAtoms, Worn, Memory}
 
 -- Where memory did not run out.
 abbrev pub UnlessMemory : {E : Type 0} → Result E Unfinished → Type 0 → Type 0
@@ -22,7 +21,6 @@ UnlessMemory (Ok x) P = P
 UnlessMemory (Err (Waits on g)) P = P
 UnlessMemory (Err (NeedsAtoms p)) P = P
 UnlessMemory (Err (Worn w)) P = P
-UnlessMemory (Err (Missing p)) P = P
 UnlessMemory (Err Memory) P = Unit {0}
 
 -- Why a search does not go on after a slice. Whether it has ended the engine says.
@@ -34,7 +32,6 @@ stopped_by slices.Ended = Ok tt
 stopped_by (slices.Waits on g) = Err (Waits on g)
 stopped_by (slices.NeedsAtoms p) = Err (NeedsAtoms p)
 stopped_by (slices.Worn w) = Err (Worn w)
-stopped_by (slices.Missing p) = Err (Missing p)
 stopped_by slices.Memory = Err Memory
 
 -- The state at which the search does not go on, though it has not ended.
@@ -42,7 +39,6 @@ abbrev pub StandsAt : Names → Told → Engine → Unfinished → Type 0
 StandsAt m t e (Waits on g) = IsWaitingNow m t e on g
 StandsAt m t e (NeedsAtoms p) = Unit {0}
 StandsAt m t e (Worn w) = Unit {0}
-StandsAt m t e (Missing p) = IsMissing m t e p
 StandsAt m t e Memory = Unit {0}
 
 abbrev pub Stands : {E : Type 0} → Names → Told → Engine → Result E Unfinished → Type 0

@@ -152,7 +152,7 @@ impl<S: Script<Term = Stored> + Drop> Runner<S> {
         ensures named { UnlessMemory result (S.name self.new.script ≡ S.name self.old.script) }
         ensures word { UnlessMemory result (S.word self.new.script ≡ S.word self.old.script) }
         ensures lines { UnlessMemory result (self.new.lines ≡ self.old.lines) }
-        ensures missing { IfErr result (IsNameHeld (W.A.held atoms.new)) }
+        ensures alias { IfErr result (IsNameHeld (W.A.held atoms.new)) }
         ensures told { IfOk result IsEndOfTurn }
         ensures later { UnlessMemory result (IsLater (W.told world.old) (W.told world.new)) }
         ensures runs { has_ended (W.told world.new).engine (W.told world.new).history ≡ false }

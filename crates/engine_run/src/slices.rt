@@ -116,7 +116,6 @@ fn stopped_by(slice: Slice) -> Result<(), Unfinished>
         Slice::Waits(on, generation) => Err(Unfinished::Waits(on, generation)),
         Slice::NeedsAtoms(pass) => Err(Unfinished::NeedsAtoms(pass)),
         Slice::Worn(word) => Err(Unfinished::Worn(word)),
-        Slice::Missing(procedure) => Err(Unfinished::Missing(procedure)),
         Slice::Memory => Err(Unfinished::Memory),
     }
 }

@@ -1,6 +1,6 @@
 //! Runs that do not come to their end.
 use pl_term::Memory;
-use world_api::{On, Pass, Procedure, WornWord};
+use world_api::{On, Pass, WornWord};
 
 /// Why a run does not go on.
 #[derive(Drop)]
@@ -11,8 +11,6 @@ pub enum Unfinished {
     NeedsAtoms(Pass),
     /// An atom is one of a bucket that takes no new atom.
     Worn(WornWord),
-    /// The next goal is of a predicate that is not built yet.
-    Missing(Procedure),
     /// Out of memory.
     Memory,
 }

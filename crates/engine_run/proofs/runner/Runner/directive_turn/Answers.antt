@@ -69,8 +69,8 @@ returns-in-None-clause-searching g c =
     directed_still (g.W.A.Atoms.held c.ended_at.new.atoms) (g.W.A.Atoms.held s.new.atoms) (g.W.World.told c.args.world.now) (g.W.World.told s.new.world) c.args.self.now s.new.self
     c.args.engine s.result s.ensures.directed
 
-pub returns-in-None-clause-missing : goal.returns-in-None-clause-missing
-returns-in-None-clause-missing g c =
+pub returns-in-None-clause-alias : goal.returns-in-None-clause-alias
+returns-in-None-clause-alias g c =
     let s = c.slice_directive in
     directed_names (g.W.A.Atoms.held c.ended_at.new.atoms) (g.W.A.Atoms.held s.new.atoms) (g.W.World.told c.args.world.now) (g.W.World.told s.new.world) c.args.self.now s.new.self
     c.args.engine s.result s.ensures.directed
