@@ -3,7 +3,6 @@ pub mod EndIn
 pub mod EndLaws
 pub mod HomeLaws
 pub mod LedgerLaws
-pub mod MissedLaws
 pub mod OnlyLaws
 pub mod Running
 pub mod Starting

@@ -19,7 +19,7 @@ use Rattle.engine_run.specs.declared.runner.Runner.{Runner}
 use Rattle.engine_run.specs.declared.runner.Turn.{Turn}
 use Rattle.engine_run.specs.declared.runner.Turn.TheVariants.{Ended, Goes}
 use Rattle.engine_run.specs.declared.unfinished.Unfinished.{Unfinished}
-use Rattle.engine_run.specs.declared.unfinished.Unfinished.TheVariants.{Memory, Missing, NeedsAtoms, Waits, Worn}
+use Rattle.engine_run.specs.declared.unfinished.Unfinished.TheVariants.{Memory, NeedsAtoms, Waits, Worn}
 use Rattle.engine_run.specs.Ran.{IsNameHeld}
 use Rattle.engine_run.specs.Runners.{AnswerStands, CameTo, HasTurned, IsBetween, StandsFor, Turned, ends_by, is_over}
 use Rattle.engine_run.specs.Searched.{UnlessMemory}
@@ -105,7 +105,6 @@ module _ {S : Type 0} (execution : (ℕ → Chars) → S → Job → List Consul
     has_gone (Err (Waits on at)) a b c d h = gone_by (Err (Waits on at)) a b c d h
     has_gone (Err (NeedsAtoms q)) a b c d h = gone_by (Err (NeedsAtoms q)) a b c d h
     has_gone (Err (Worn w)) a b c d h = gone_by (Err (Worn w)) a b c d h
-    has_gone (Err (Missing q)) a b c d h = gone_by (Err (Missing q)) a b c d h
     has_gone (Err Memory) a b c d h = tt
 
   -- whatever the front is called before and after

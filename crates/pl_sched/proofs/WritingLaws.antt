@@ -7,7 +7,7 @@ use Rattle.engine_run.specs.declared.runner.Lines.{Lines}
 use Rattle.engine_run.specs.declared.runner.Lines.TheVariants.{Solutions, Texts}
 use Rattle.engine_run.specs.declared.runner.Turn.{Turn}
 use Rattle.engine_run.specs.declared.unfinished.Unfinished.{Unfinished}
-use Rattle.engine_run.specs.declared.unfinished.Unfinished.TheVariants.{Memory, Missing, NeedsAtoms, Waits, Worn}
+use Rattle.engine_run.specs.declared.unfinished.Unfinished.TheVariants.{Memory, NeedsAtoms, Waits, Worn}
 use Rattle.engine_run.specs.Runners.{Turned}
 use Rattle.engine_run.specs.Searched.{UnlessMemory}
 use Rattle.pl_sched.specs.Written.{Writing, WritesSo, word_on}
@@ -23,7 +23,6 @@ still p file board e l k f g v w h (Ok x) lines same word = so_still p file boar
 still p file board e l k f g v w h (Err (Waits on at)) lines same word = so_still p file board e l k f g v w lines same word h
 still p file board e l k f g v w h (Err (NeedsAtoms q)) lines same word = so_still p file board e l k f g v w lines same word h
 still p file board e l k f g v w h (Err (Worn x)) lines same word = so_still p file board e l k f g v w lines same word h
-still p file board e l k f g v w h (Err (Missing q)) lines same word = so_still p file board e l k f g v w lines same word h
 still p file board e l k f g v w h (Err Memory) lines same word = tt
 
 -- what is said of an answer that is this one

@@ -1,6 +1,5 @@
 pub mod Homes
 pub mod Ledger
-pub mod Missed
 pub mod Newcomers
 pub mod Programs
 pub mod Runs

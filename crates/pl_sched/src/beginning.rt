@@ -6,7 +6,6 @@ ghost use Rattle.engine_run.specs.declared.runner.Lines.TheVariants.{Solutions, 
 
 use crate::ground::{Ground, Terms};
 use crate::home::{Home, Parts};
-use crate::loss::Loss;
 use crate::mark::Mark;
 use crate::naming::Command;
 use crate::newcomers::{NewEngine, NewParts};
@@ -14,6 +13,7 @@ use crate::starts::Starts;
 use engine_run::{Lines, Runner};
 use iso_engine::engine::Stays;
 use pl_io::Gate;
+use pl_term::Memory;
 use script_api::Script;
 use std::sync::Wait;
 use term_store::Stored;
@@ -31,7 +31,7 @@ pub(crate) fn begun<
 >(
     ground: &Ground<'a, 't, Runner<S>, K, R, G, P>,
     new: NewEngine<'t, K>,
-) -> Result<Home<'t, Runner<S>, K>, Loss<K>>
+) -> Result<Home<'t, Runner<S>, K>, Memory>
     requires board { P.board ground.now.goals.now ≡ K.board }
 {
     let NewParts {
@@ -42,7 +42,7 @@ pub(crate) fn begun<
     } = new.into_parts();
     let of_command = is_of_command(ground.terms, number);
     let Some(script) = ground.goals.start(goal, goal_number(number, of_command)) else {
-        return Err(Loss::Memory);
+        return Err(Memory);
     };
     let text = Vec::new(ground.alloc);
     let engine = Runner::new(

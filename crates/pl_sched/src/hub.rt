@@ -23,7 +23,6 @@ ghost use Rattle.pl_sched.specs.Newcomers.{IsNew};
 
 use crate::home::{Home, Retired};
 use crate::ledger::are_done;
-use crate::loss::Loss;
 use crate::naming::Command;
 use crate::newcomers::NewEngine;
 use crate::over::{Over, Ran, Unfinished, finish_all, settle_all};
@@ -55,8 +54,8 @@ pub struct Hub<'a, E: Writes + Drop, K: Command> {
     pub(crate) started: Vec<u64>,
     /// How many engines are with workers.
     pub(crate) away: u64,
-    /// Why an engine that a worker had was lost, if one was: none is lent then.
-    pub(crate) lost: Option<Loss<K>>,
+    /// Memory ran out while a worker had an engine: none is lent then.
+    pub(crate) lost: bool,
 }
 
 impl<'a, E: Writes + Drop, K: Command> Model for Hub<'a, E, K> {
@@ -158,7 +157,7 @@ impl<'a, E: Writes + Drop, K: Command> Hub<'a, E, K> {
             spare,
             started: Vec::new(alloc),
             away: 0,
-            lost: None,
+            lost: false,
         }
     }
 
@@ -222,7 +221,7 @@ impl<'a, E: Writes + Drop, K: Command> Hub<'a, E, K> {
         requires history { history.now ≡ K.history }
         ensures same { self.new.seen ≡ self.old.seen }
     {
-        if self.lost.is_some() {
+        if self.lost {
             return Lend::Over;
         }
         let lent = self.choose(history);
@@ -266,13 +265,11 @@ impl<'a, E: Writes + Drop, K: Command> Hub<'a, E, K> {
         }
     }
 
-    /// An engine that a worker had does not come home: no engine is lent from now on.
-    pub fn lose(&mut self, loss: Loss<K>)
+    /// An engine that a worker had does not come home, since memory ran out: no engine is lent from now on.
+    pub fn lose(&mut self)
         ensures same { self.new ≡ self.old }
     {
-        if self.lost.is_none() {
-            self.lost = Some(loss);
-        }
+        self.lost = true;
     }
 
     /// An engine comes home. The only error is out of memory.
@@ -291,9 +288,9 @@ impl<'a, E: Writes + Drop, K: Command> Hub<'a, E, K> {
     }
 
     /// All engines, each of which is done as the history stands: it has ended, or waits and nothing wakes it. Engine 1 and
-    /// each that an update has begun is among them. The error says that one can still go on, or has not begun, that an engine
-    /// did not come home, and why, or that memory ran out.
-    pub fn fronts(self, alloc: Global, history: &History) -> Result<Ran<E, K>, Unfinished<K>>
+    /// each that an update has begun is among them. The error says that one can still go on, or has not begun, or that memory
+    /// ran out.
+    pub fn fronts(self, alloc: Global, history: &History) -> Result<Ran<E, K>, Unfinished>
         requires history { history.now ≡ K.history }
         ensures seen { IfOk result (λ v. All (λ f. f.seen ≡ self.entry.seen) v.dones.items) }
         ensures whole { IfOk result (λ v. AreWhole self.entry.seen v.dones.items) }
@@ -310,8 +307,8 @@ impl<'a, E: Writes + Drop, K: Command> Hub<'a, E, K> {
             away: _,
             lost,
         } = self;
-        if let Some(loss) = lost {
-            return Err(Unfinished::Lost(loss));
+        if lost {
+            return Err(Unfinished::Memory);
         }
         let mut shared = shared;
         if shared.has_begun() {

@@ -7,7 +7,6 @@ ghost use Rattle.pl_sched.specs.Homes.{IsFinal, IsGone};
 ghost use Rattle.pl_sched.specs.Written.{WritesSo};
 
 use crate::home::{Home, Parts};
-use crate::loss::Loss;
 use crate::mark::{End, Mark};
 use crate::naming::Command;
 use crate::texts::text_on;
@@ -81,24 +80,22 @@ impl<E: Writes + Drop, K: Command> Model for Done<E, K> {
 
 /// Why not all engines are done.
 #[derive(Drop)]
-pub enum Unfinished<K: Command> {
+pub enum Unfinished {
     /// The engine with the number can go on.
     Runs(u64),
     /// An engine has begun, and no atoms are free for it.
     Begins,
-    /// An engine was lost.
-    Lost(Loss<K>),
     /// Out of memory.
     Memory,
 }
 
-impl<K: Command> From<Memory> for Unfinished<K> {
+impl From<Memory> for Unfinished {
     ghost use Rattle.std.specs.Prelude.{◌≡◌};
     ghost use Rattle.pl_sched.specs.declared.over.Unfinished.TheVariants.{Memory as OutOfMemory};
 
     ghost from_gives = { λ _ u. u ≡ OutOfMemory };
 
-    fn from(_e: Memory) -> Unfinished<K> {
+    fn from(_e: Memory) -> Unfinished {
         Unfinished::Memory
     }
 }
@@ -217,7 +214,7 @@ fn finish<'a, E: Writes + Drop, K: Command>(
     shared: &mut Shared<K>,
     history: &History,
     home: Home<'a, E, K>,
-) -> Result<Done<E, K>, Unfinished<K>>
+) -> Result<Done<E, K>, Unfinished>
     requires history { history.now ≡ K.history }
     ensures same { shared.new ≡ shared.old }
     ensures seen { IfOk result (λ d. d.seen ≡ shared.old.seen) }
@@ -257,7 +254,7 @@ fn finish<'a, E: Writes + Drop, K: Command>(
 fn put<E: Writes + Drop, K: Command>(
     done: &mut Vec<Done<E, K>>,
     next: Done<E, K>,
-) -> Result<(), Unfinished<K>>
+) -> Result<(), Unfinished>
     ensures { OnOk result ((h : Entries) → All (λ f. f.seen ≡ h) done.old.items → next.seen ≡ h → All (λ f. f.seen ≡ h) done.new.items) }
 {
     if done.reserve(1).is_err() {
@@ -274,7 +271,7 @@ pub(crate) fn finish_all<'a, E: Writes + Drop, K: Command>(
     history: &History,
     homes: Vec<Home<'a, E, K>>,
     done: &mut Vec<Done<E, K>>,
-) -> Result<(), Unfinished<K>>
+) -> Result<(), Unfinished>
     requires history { history.now ≡ K.history }
     requires before { All (λ f. f.seen ≡ shared.old.seen) done.old.items }
     ensures same { shared.new ≡ shared.old }
@@ -293,7 +290,7 @@ pub(crate) fn settle_all<E: Writes + Drop, K: Command>(
     history: &History,
     over: Vec<Over<E, K>>,
     done: &mut Vec<Done<E, K>>,
-) -> Result<(), Unfinished<K>>
+) -> Result<(), Unfinished>
     requires history { history.now ≡ K.history }
     requires before { All (λ f. f.seen ≡ shared.old.seen) done.old.items }
     ensures same { shared.new ≡ shared.old }

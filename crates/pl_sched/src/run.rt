@@ -79,7 +79,7 @@ fn number_of(worker: usize) -> u32 {
 /// waits and nothing wakes it. Before each visit to the shared state the gate is called. `goals` makes the
 /// scripts of the engines that begin. The engines are given back with the one history that all of them have seen: engine
 /// 1, and each that an update of the history began, in the order of their numbers; nobody else made an entry. The error says
-/// that one can still go on, or has not begun, or was lost, or that memory ran out.
+/// that one can still go on, or has not begun, or that memory ran out.
 pub fn run_all<
     't,
     S: Script<Term = Stored> + Drop + Send,
@@ -96,7 +96,7 @@ pub fn run_all<
     hub: Hub<'t, Runner<S>, K>,
     terms: Terms,
     workers: usize,
-) -> Result<Ran<Runner<S>, K>, Unfinished<K>>
+) -> Result<Ran<Runner<S>, K>, Unfinished>
     requires history { history.now ≡ K.history }
     requires board { P.board goals.now ≡ K.board }
     requires terms { AreTerms K.program terms }

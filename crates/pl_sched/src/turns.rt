@@ -11,28 +11,27 @@ ghost use Rattle.pl_sched.specs.Written.{WritesSo};
 use crate::ends::{end, end_without_atoms};
 use crate::ground::Ground;
 use crate::home::{Home, Parts, has_ended};
-use crate::loss::{Loss, Missed};
 use crate::mark::Mark;
 use crate::naming::Command;
 use crate::records::{taken, worn};
-use crate::texts::atom_text;
 use crate::world::HubWorld;
 use atom_table::TableAtoms;
 use engine_run::{Runner, Turn, Unfinished};
 use pl_history::Front;
 use pl_io::Gate;
+use pl_term::Memory;
 use script_api::Script;
 use std::sync::Wait;
 use term_store::Stored;
 
 /// Lets this worker run an engine that has left its home for one turn, and brings it back with the mark that says why it
-/// stopped. The error says why the engine is lost, and the run with it.
+/// stopped. The only error is out of memory.
 pub(crate) fn turn<'a, 't, S: Script<Term = Stored> + Drop, K: Command, R: Wait, G: Gate, P>(
     ground: &Ground<'a, 't, Runner<S>, K, R, G, P>,
     worker: u32,
     home: Home<'t, Runner<S>, K>,
     inferences: u32,
-) -> Result<Home<'t, Runner<S>, K>, Loss<K>> {
+) -> Result<Home<'t, Runner<S>, K>, Memory> {
     let parts = home.into_parts();
     if has_ended(&parts.mark) {
         return Ok(Home::new(parts));
@@ -56,7 +55,7 @@ fn go_on<'a, 't, S: Script<Term = Stored> + Drop, K: Command, R: Wait, G: Gate, 
     front: Front,
     number: u64,
     inferences: u32,
-) -> Result<Home<'t, Runner<S>, K>, Loss<K>>
+) -> Result<Home<'t, Runner<S>, K>, Memory>
     requires own { IsOwn K.history number front }
     requires way { RunsOn S.execution S.part S.plays S.kept S.name S.variables S.over S.names K.program (names (seen atoms.seat)) (told_of K.goals front) engine }
     requires going { is_over engine.stage ≡ false }
@@ -86,7 +85,7 @@ fn settle<'a, 't, S: Script<Term = Stored> + Drop, K: Command, R: Wait, G: Gate,
     front: Front,
     number: u64,
     turned: Result<Turn, Unfinished>,
-) -> Result<Home<'t, Runner<S>, K>, Loss<K>>
+) -> Result<Home<'t, Runner<S>, K>, Memory>
     requires gone { UnlessMemory turned (HasGone S.execution S.part S.plays S.kept S.name S.variables S.over S.names K.program K.history K.goals number (names (seen atoms.seat)) front engine turned) }
     requires writes { UnlessMemory turned (WritesSo K.program K.file K.board number (record { lines = engine.lines; file = S.name engine.script; word = S.word engine.script })) }
 {
@@ -104,7 +103,7 @@ fn settle_turn<'a, 't, S: Script<Term = Stored> + Drop, K: Command, R: Wait, G: 
     front: Front,
     number: u64,
     turn: Turn,
-) -> Result<Home<'t, Runner<S>, K>, Loss<K>>
+) -> Result<Home<'t, Runner<S>, K>, Memory>
     requires gone { HasGone S.execution S.part S.plays S.kept S.name S.variables S.over S.names K.program K.history K.goals number (names (seen atoms.seat)) front engine (Ok turn) }
     requires writes { WritesSo K.program K.file K.board number (record { lines = engine.lines; file = S.name engine.script; word = S.word engine.script }) }
 {
@@ -119,10 +118,7 @@ fn settle_turn<'a, 't, S: Script<Term = Stored> + Drop, K: Command, R: Wait, G: 
                 mark,
             }))
         }
-        Turn::Ended(how) => {
-            let home = end(ground, engine, atoms, front, number, how)?;
-            Ok(home)
-        }
+        Turn::Ended(how) => end(ground, engine, atoms, front, number, how),
     }
 }
 
@@ -134,7 +130,7 @@ fn settle_stop<'a, 't, S: Script<Term = Stored> + Drop, K: Command, R: Wait, G: 
     front: Front,
     number: u64,
     stop: Unfinished,
-) -> Result<Home<'t, Runner<S>, K>, Loss<K>>
+) -> Result<Home<'t, Runner<S>, K>, Memory>
     requires gone { UnlessMemory (stopping stop) (HasGone S.execution S.part S.plays S.kept S.name S.variables S.over S.names K.program K.history K.goals number (names (seen atoms.seat)) front engine (stopping stop)) }
     requires writes { UnlessMemory (stopping stop) (WritesSo K.program K.file K.board number (record { lines = engine.lines; file = S.name engine.script; word = S.word engine.script })) }
 {
@@ -151,19 +147,12 @@ fn settle_stop<'a, 't, S: Script<Term = Stored> + Drop, K: Command, R: Wait, G: 
         }
         Unfinished::NeedsAtoms(pass) => {
             let found = taken(pass, ground.terms.slots);
-            let home = end_without_atoms(ground, engine, atoms, front, number, found)?;
-            Ok(home)
+            end_without_atoms(ground, engine, atoms, front, number, found)
         }
         Unfinished::Worn(word) => {
             let found = worn(word);
-            let home = end_without_atoms(ground, engine, atoms, front, number, found)?;
-            Ok(home)
+            end_without_atoms(ground, engine, atoms, front, number, found)
         }
-        Unfinished::Missing(procedure) => {
-            let mut atoms = atoms;
-            let name = atom_text(ground.alloc, procedure.name, &mut atoms)?;
-            Err(Loss::Missing(Missed::new(name, procedure.arity)))
-        }
-        Unfinished::Memory => Err(Loss::Memory),
+        Unfinished::Memory => Err(Memory),
     }
 }

@@ -5,13 +5,13 @@ use crate::beginning::begun;
 use crate::ground::Ground;
 use crate::home::Home;
 use crate::hub::Lend;
-use crate::loss::Loss;
 use crate::naming::Command;
 use crate::newcomers::NewEngine;
 use crate::starts::Starts;
 use crate::turns::turn;
 use engine_run::Runner;
 use pl_io::Gate;
+use pl_term::Memory;
 use script_api::Script;
 use std::sync::{Condvar, Wait};
 use term_store::Stored;
@@ -57,7 +57,7 @@ pub(crate) fn work<
                 return;
             }
             Lend::Memory => {
-                hub.lose(Loss::Memory);
+                hub.lose();
                 drop(hub);
                 changed.notify_all();
                 return;
@@ -72,7 +72,7 @@ fn begin<'a, 't, S: Script<Term = Stored> + Drop, K: Command, R: Wait, G: Gate, 
     ground: &Ground<'a, 't, Runner<S>, K, R, G, P>,
     worker: u32,
     new: NewEngine<'t, K>,
-) -> Result<Home<'t, Runner<S>, K>, Loss<K>>
+) -> Result<Home<'t, Runner<S>, K>, Memory>
     requires board { P.board ground.now.goals.now ≡ K.board }
 {
     let home = begun(ground, new)?;
@@ -84,7 +84,7 @@ fn carry<'a, 't, S: Script<Term = Stored> + Drop, K: Command, R: Wait, G: Gate, 
     ground: &Ground<'a, 't, Runner<S>, K, R, G, P>,
     worker: u32,
     home: Home<'t, Runner<S>, K>,
-) -> Result<Home<'t, Runner<S>, K>, Loss<K>> {
+) -> Result<Home<'t, Runner<S>, K>, Memory> {
     let mut home = home;
     for _ in 0..TURNS {
         home = turn(ground, worker, home, INFERENCES)?;
@@ -99,16 +99,16 @@ fn carry<'a, 't, S: Script<Term = Stored> + Drop, K: Command, R: Wait, G: Gate, 
 fn bring<'a, 't, S: Script<Term = Stored> + Drop, K: Command, R: Wait, G: Gate, P: Starts<S>>(
     ground: &Ground<'a, 't, Runner<S>, K, R, G, P>,
     changed: &Condvar,
-    home: Result<Home<'t, Runner<S>, K>, Loss<K>>,
+    home: Result<Home<'t, Runner<S>, K>, Memory>,
 ) {
     let mut hub = ground.hub.lock(ground.runtime);
     match home {
         Ok(home) => {
             if hub.bring(home).is_err() {
-                hub.lose(Loss::Memory);
+                hub.lose();
             }
         }
-        Err(loss) => hub.lose(loss),
+        Err(Memory) => hub.lose(),
     }
     drop(hub);
     changed.notify_all();

@@ -30,7 +30,7 @@ settle-requires-clause-gone g c =
     let t = c.turn-turned in
     has_gone_so g.S.Script.execution g.S.Script.part g.S.Script.plays g.S.Script.kept g.S.Script.name g.S.Script.variables g.S.Script.over g.S.Script.names g.K.Command.program g.K.Naming.history g.K.Naming.goals c.args.number
     c.into_front.ensures.own.0 (names (seen c.args.atoms.seat)) (names (seen t.new.atoms.seat)) c.args.front c.new-world.result t.new.world c.into_front.result c.args.engine t.new.self c.new-world.ensures c.into_front.ensures.front
-    c.requires.own c.into_front.ensures.own.1 c.requires.way t.result t.ensures.turned t.ensures.ready t.ensures.over t.ensures.later t.ensures.missing
+    c.requires.own c.into_front.ensures.own.1 c.requires.way t.result t.ensures.turned t.ensures.ready t.ensures.over t.ensures.later t.ensures.alias
 
 pub settle-requires-clause-writes : goal.settle-requires-clause-writes
 settle-requires-clause-writes g c =

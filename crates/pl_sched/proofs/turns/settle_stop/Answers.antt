@@ -3,9 +3,8 @@ use Rattle.std.specs.Prelude.{ℕ, IfSome}
 use Rattle.atom_words.specs.Seats.{seen}
 use Rattle.atom_table.specs.Naming.{names}
 use Rattle.run_model.specs.AtomRecords.{IsTrue}
-use Rattle.engine_run.specs.declared.unfinished.Unfinished.TheVariants.{Missing, NeedsAtoms, Waits, Worn}
+use Rattle.engine_run.specs.declared.unfinished.Unfinished.TheVariants.{NeedsAtoms, Waits, Worn}
 use Rattle.pl_hub.specs.Fronts.{told_of}
-use Rattle.pl_sched.proofs.MissedLaws.{missed}
 use Rattle.pl_sched.proofs.TurnLaws.{home_waiting, stop_at}
 use Rattle.pl_sched.proofs.WritingLaws.{at_stop}
 use Rattle.pl_sched.proofs.turns.settle_stop.Goals as goal
@@ -66,15 +65,3 @@ end_without_atoms-requires-in-Worn-clause-found g c =
 pub end_without_atoms-requires-in-Worn-clause-writes : goal.end_without_atoms-requires-in-Worn-clause-writes
 end_without_atoms-requires-in-Worn-clause-writes g c =
     at_stop _ c.args.stop (Worn c.in-Worn.word) c.in-Worn.is c.requires.writes
-
-pub atom_text-requires : goal.atom_text-requires
-atom_text-requires g c =
-    (stop_at g.S.Script.execution g.S.Script.part g.S.Script.plays g.S.Script.kept g.S.Script.name g.S.Script.variables g.S.Script.over g.S.Script.names g.K.Command.program g.K.Naming.history g.K.Naming.goals c.args.number
-    (names (seen c.args.atoms.seat)) c.args.front c.args.engine c.args.stop (Missing c.in-Missing.procedure) c.in-Missing.is c.requires.gone).named
-
-pub new-requires-in-Missing : goal.new-requires-in-Missing
-new-requires-in-Missing g c =
-    let gone = stop_at g.S.Script.execution g.S.Script.part g.S.Script.plays g.S.Script.kept g.S.Script.name g.S.Script.variables g.S.Script.over g.S.Script.names g.K.Command.program g.K.Naming.history g.K.Naming.goals c.args.number
-    (names (seen c.args.atoms.seat)) c.args.front c.args.engine c.args.stop (Missing c.in-Missing.procedure) c.in-Missing.is c.requires.gone in
-    missed g.K.Command.program g.K.Naming.goals (names (seen c.args.atoms.seat)) (told_of g.K.Naming.goals c.args.front) gone.way.job gone.way.low gone.way.execution c.args.engine.moves c.in-Missing.procedure c.in_ok-name-in-Missing.name
-    gone.way.is_job refl gone.way.reached gone.answer_stands c.in_ok-name-in-Missing.ensures.text
