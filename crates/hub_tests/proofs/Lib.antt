@@ -1,1 +1,3 @@
 pub mod HeldNames
+pub mod OpenLists
+pub mod Stands

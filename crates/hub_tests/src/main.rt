@@ -9,11 +9,27 @@ ghost use Rattle.hub_tests.specs.NewSeats.{IsNewSeat};
 ghost use Rattle.counted_terms.specs.CountedTerms.{naming, said};
 
 #[cfg(test)]
+mod asked;
+#[cfg(test)]
 mod plain_queues;
+#[cfg(test)]
+mod plain_state;
+#[cfg(test)]
+mod players;
 #[cfg(test)]
 mod queue_rows;
 #[cfg(test)]
+mod reclaimed;
+#[cfg(test)]
 mod shared_visits;
+#[cfg(test)]
+mod soak;
+#[cfg(test)]
+mod told;
+#[cfg(test)]
+mod two_engines;
+#[cfg(test)]
+mod worn_names;
 
 use anyhow::{Context, Result, bail};
 use atom_api::Atoms;

@@ -1,300 +1,394 @@
-//! Visits of one engine to the shared state, with ample memory: clauses, procedures, flags and looks, over fixed atoms
-//! (ISO 7.5.2, 7.7.7, 7.7.10, 7.11.2, 8.8.1, 8.9, 8.17).
-ghost use Rattle.std.specs.Prelude.{◌≡◌, [], ℕ, IsSome, IfOk, IfSome, replicate};
-ghost use Rattle.std.specs.List.{All};
-ghost use Rattle.pl_term.specs.Tree.{Tree};
-ghost use Rattle.pl_history.specs.Fronts.{new_front, new_hub};
-ghost use Rattle.atom_api.specs.Fixed as texts;
-ghost use Rattle.atom_api.specs.Names.{FixedStand, Names};
+//! Visits of engine 1 to the shared state, with ample memory: every kind of visit, through `Shared::session`. The answers are
+//! those of the standard (ISO 7.5.2, 7.7.7, 7.7.10, 7.11.2, 8.8.1, 8.9, 8.14.3, 8.17) and of SWI-Prolog's manual, section
+//! 'Multithreaded applications'.
+ghost use Rattle.std.specs.Prelude.{◌≡◌, ℕ};
 ghost use Rattle.atom_words.specs.Seats.{seen};
 ghost use Rattle.counted_terms.specs.Keeping.{KeepsAt, tally};
 ghost use Rattle.hub_tests.specs.NewSeats.{IsNewSeat};
-ghost use Rattle.pl_hub.specs.Fronts.{IsOwn};
-ghost use Rattle.term_store.specs.ArgumentKeys.{key_atoms};
-ghost use Rattle.term_store.specs.NumberedNames.{names_of};
+ghost use Rattle.pl_history.specs.Fronts.{new_front, new_hub};
 
+use crate::asked::{Ask, Called, Word};
+use crate::players::{Player, take_front};
 use crate::take_last;
-use atom_api::{Atom, fixed};
 use atom_table::{AtomSeat, AtomTable, Keeper, Opened, TableAtoms};
-use counted_terms::{CountedTerm, int_term, wrapped};
-use hub_database::Adding;
 use pl_history::{Front, History, HubFront};
 use pl_hub::{Naming, Shared};
-use pl_model::grammar::Quotes;
+use pl_model::operators::Kind;
 use pl_term::Memory;
 use std::alloc::Global;
 use std::marker::Brand;
 use std::process::Abort;
 use std::test::Fail;
-use term_store::{ArgumentKey, AtomNode, Stored};
-use world_api::{Answer, Procedure, Reply};
 
-/// What came of a visit.
-#[derive(Debug, Clone, Copy, PartialEq, Eq)]
-enum Came {
-    Done,
-    Gone,
-    /// The first clause has this number as its argument, and others may follow.
-    First(i64, bool),
-    /// There is no clause.
-    Nothing,
-    /// An error with this name.
-    Refused(u32),
-    /// What double-quoted text is read as.
-    Looked(Quotes),
-    /// So many flags.
-    Flags(usize),
-    Other,
-}
+const OWN: Word = Word::Own;
 
-/// The facts name(1), name(2) .. have these names.
-#[derive(Clone, Copy)]
-enum Named {
-    Codes,
-    Chars,
-    Unknown,
-}
+const CODES: Called = Called::Alias(Word::Codes);
 
-fn atom(name: Named) -> Atom
-    ensures { IsSome (texts.fixed result) }
-{
-    match name {
-        Named::Codes => fixed::CODES,
-        Named::Chars => fixed::CHARS,
-        Named::Unknown => fixed::DATABASE,
-    }
-}
+const MAIN: Called = Called::Alias(Word::Main);
 
-fn predicate(name: Named) -> Procedure
-    ensures { IsSome (texts.fixed result.name) }
-{
-    Procedure {
-        name: atom(name),
-        arity: 1,
-    }
-}
-
-fn key(i: Option<i64>) -> ArgumentKey
-    ensures { key_atoms result ≡ [] }
-{
-    match i {
-        Some(i) => ArgumentKey::Int(i),
-        None => ArgumentKey::Any,
-    }
-}
-
-/// The fact name(i).
-fn fact(alloc: Global, name: Named, i: u64) -> Result<CountedTerm, Memory>
-    ensures { IfOk result (λ t. (m : Names) → FixedStand m → All (λ a. IsSome (m a)) (names_of t)) }
-{
-    let argument = int_term(alloc, i)?;
-    let term = wrapped(alloc, atom(name), &argument)?;
-    CountedTerm::new(alloc, term)
-}
-
-/// The number in the fact.
-fn number(clause: &Stored) -> i64 {
-    match clause.nodes() {
-        [_, AtomNode::Int(i)] => *i,
-        _ => -1,
-    }
-}
-
-/// The name of the error.
-fn error(term: &Stored) -> u32 {
-    match term.nodes() {
-        [AtomNode::Comp(name, _), ..] => *name,
-        _ => 0,
-    }
-}
-
-fn told(answer: Answer<Stored>) -> Came {
-    match answer {
-        Answer::Served { reply, .. } => said(reply),
-        _ => Came::Other,
-    }
-}
-
-fn said(reply: Reply<Stored>) -> Came {
-    match reply {
-        Reply::Done => Came::Done,
-        Reply::Gone => Came::Gone,
-        Reply::Clauses(Some(found)) => Came::First(number(&found.clause), found.more),
-        Reply::Clauses(None) => Came::Nothing,
-        Reply::Refused(term) => Came::Refused(error(&term)),
-        Reply::Standing { quotes, .. } => Came::Looked(quotes),
-        Reply::Flags(flags) => Came::Flags(flags.len()),
-        _ => Came::Other,
-    }
-}
-
-/// A visit.
-#[derive(Clone, Copy)]
-enum Asked {
-    Add(Adding, Named, u64),
-    Call(Named, Option<i64>),
-    Inspect(Named, Option<i64>),
-    Retract(Named, Option<i64>),
-    Clear(Named, Option<i64>),
-    Erase(u64),
-    Abolish(Named),
-    /// The flag `double_quotes` is `chars`.
-    PutQuotes,
-    AllFlags,
-    Look,
-    Collect,
-}
-
-/// The answer to a visit of engine 1.
-fn visit<K: Naming>(
-    alloc: Global,
-    history: &History,
-    shared: &mut Shared<K>,
-    atoms: &mut TableAtoms<K>,
-    front: &mut Front,
-    asked: Asked,
-) -> Result<Came, Memory>
-    requires history { history.now ≡ K.history }
-    requires front { IsOwn K.history 1 front.old }
-    ensures front { IsOwn K.history 1 front.new }
-{
-    match asked {
-        Asked::Add(by, name, i) => {
-            let clause = fact(alloc, name, i)?;
-            Ok(told(shared.add_clause(alloc, history, atoms, front, 1, clause, by)))
-        }
-        Asked::Call(name, i) => {
-            let procedure = predicate(name);
-            Ok(told(shared.call_clauses(alloc, history, atoms, front, 1, procedure, key(i))))
-        }
-        Asked::Inspect(name, i) => {
-            let procedure = predicate(name);
-            Ok(told(shared.inspect_clauses(alloc, history, atoms, front, 1, procedure, key(i))))
-        }
-        Asked::Retract(name, i) => {
-            let procedure = predicate(name);
-            Ok(told(shared.retract_clauses(alloc, history, atoms, front, 1, procedure, key(i))))
-        }
-        Asked::Clear(name, i) => {
-            let procedure = predicate(name);
-            Ok(told(shared.clear_clauses(alloc, history, atoms, front, 1, procedure, key(i))))
-        }
-        Asked::Erase(place) => Ok(told(shared.erase_clause(
-            alloc, history, atoms, front, 1, place,
-        ))),
-        Asked::Abolish(name) => {
-            let procedure = predicate(name);
-            Ok(told(shared.abolish_procedure(alloc, history, atoms, front, 1, procedure)))
-        }
-        Asked::PutQuotes => {
-            let flag = fixed::DOUBLE_QUOTES;
-            Ok(told(shared.put_flag(alloc, history, atoms, front, 1, flag, fixed::CHARS)))
-        }
-        Asked::AllFlags => Ok(told(shared.all_flags(alloc, history, atoms, front, 1))),
-        Asked::Look => Ok(told(shared.look(history, atoms, front, 1))),
-        Asked::Collect => Ok(told(shared.collection(history, atoms, front, 1))),
-    }
-}
-
-/// Visits one after the other, with their answers.
-const VISITS: [(Asked, Came); 32] = [
+/// Visits to clauses, flags and operators, one after the other.
+const DATABASE: [(Ask, &str); 55] = [
     // ISO 7.7.7: a procedure that is not there.
-    (Asked::Call(Named::Codes, None), Came::Refused(84)),
-    // ISO 8.9.1, 8.9.2: the last, and the first clause.
-    (Asked::Add(Adding::Last, Named::Codes, 1), Came::Done),
-    (Asked::Add(Adding::Last, Named::Codes, 2), Came::Done),
-    (Asked::Add(Adding::First, Named::Codes, 3), Came::Done),
-    (Asked::Call(Named::Codes, None), Came::First(3, true)),
-    (Asked::Call(Named::Codes, Some(2)), Came::First(2, false)),
-    (Asked::Call(Named::Codes, Some(7)), Came::Nothing),
-    (Asked::Inspect(Named::Codes, Some(1)), Came::First(1, false)),
-    (Asked::Retract(Named::Codes, Some(1)), Came::First(1, false)),
-    // ISO 8.9.3: the clause that was added first is erased, once.
-    (Asked::Erase(0), Came::Done),
-    (Asked::Erase(0), Came::Gone),
-    (Asked::Call(Named::Codes, Some(1)), Came::Nothing),
-    (Asked::Clear(Named::Codes, None), Came::First(3, true)),
-    // ISO 7.5.2: a procedure of a text is static.
-    (Asked::Add(Adding::Text, Named::Chars, 5), Came::Done),
-    (Asked::Call(Named::Chars, None), Came::First(5, false)),
     (
-        Asked::Add(Adding::Last, Named::Chars, 6),
-        Came::Refused(142),
+        Ask::Call(OWN, None),
+        "0: error existence_error/2 procedure //2 zz 1",
     ),
-    (Asked::Inspect(Named::Chars, None), Came::Refused(142)),
-    (Asked::Retract(Named::Chars, None), Came::Refused(142)),
-    (Asked::Clear(Named::Chars, None), Came::Refused(142)),
-    (Asked::Abolish(Named::Chars), Came::Refused(142)),
+    (Ask::Procedures, "0: 0 procedures"),
+    // ISO 8.9.1, 8.9.2: the last, and the first clause.
+    (Ask::Last(OWN, 1), "0: done"),
+    (Ask::Last(OWN, 2), "1: done"),
+    (Ask::First(OWN, 3), "2: done"),
+    (Ask::Call(OWN, None), "3: clause zz/1 3 at 2, more"),
+    (Ask::Call(OWN, Some(2)), "3: clause zz/1 2 at 1"),
+    (Ask::Call(OWN, Some(7)), "3: no clause"),
+    (Ask::Inspect(OWN, Some(1)), "3: clause zz/1 1 at 0"),
+    (Ask::Retract(OWN, Some(1)), "3: clause zz/1 1 at 0"),
+    // ISO 8.9.3: the clause that was added first is erased, once.
+    (Ask::Erase(0), "3: done"),
+    (Ask::Erase(0), "4: gone"),
+    (Ask::Call(OWN, Some(1)), "4: no clause"),
+    (Ask::Clear(OWN, None), "4: clause zz/1 3 at 2, more"),
+    // ISO 7.5.2: a procedure of a text is static.
+    (Ask::Consult(Word::Chars, 5), "4: done"),
+    (Ask::Call(Word::Chars, None), "5: clause chars/1 5 at 4"),
+    (
+        Ask::Last(Word::Chars, 6),
+        "5: error permission_error/3 modify static_procedure //2 chars 1",
+    ),
+    (
+        Ask::First(Word::Chars, 6),
+        "5: error permission_error/3 modify static_procedure //2 chars 1",
+    ),
+    (
+        Ask::Inspect(Word::Chars, None),
+        "5: error permission_error/3 access private_procedure //2 chars 1",
+    ),
+    (
+        Ask::Retract(Word::Chars, None),
+        "5: error permission_error/3 modify static_procedure //2 chars 1",
+    ),
+    (
+        Ask::Clear(Word::Chars, None),
+        "5: error permission_error/3 modify static_procedure //2 chars 1",
+    ),
+    (
+        Ask::Abolish(Word::Chars),
+        "5: error permission_error/3 modify static_procedure //2 chars 1",
+    ),
+    (
+        Ask::Dynamic(Word::Chars),
+        "5: error permission_error/3 modify static_procedure //2 chars 1",
+    ),
+    // ISO 7.4.2.1: a procedure without clauses, which is there.
+    (Ask::Dynamic(Word::Codes), "5: done"),
+    (Ask::Call(Word::Codes, None), "6: no clause"),
+    // ISO 8.8.2: the procedures with clauses.
+    (Ask::Procedures, "6: 2 procedures"),
     // ISO 8.9.4: all clauses are gone, and the procedure.
-    (Asked::Abolish(Named::Codes), Came::Done),
-    (Asked::Call(Named::Codes, None), Came::Refused(84)),
+    (Ask::Abolish(OWN), "6: done"),
+    (
+        Ask::Call(OWN, None),
+        "7: error existence_error/2 procedure //2 zz 1",
+    ),
+    (Ask::Procedures, "7: 1 procedures"),
     // Cor.2 8.9.5: a procedure that is not there becomes dynamic.
-    (Asked::Clear(Named::Unknown, None), Came::Nothing),
-    (Asked::Call(Named::Unknown, None), Came::Nothing),
-    (Asked::Inspect(Named::Unknown, None), Came::Nothing),
+    (Ask::Clear(OWN, None), "7: no clause"),
+    (Ask::Call(OWN, None), "8: no clause"),
+    (Ask::Inspect(OWN, None), "8: no clause"),
     // ISO 7.11.2.5, 8.17.
-    (Asked::Look, Came::Looked(Quotes::Codes)),
-    (Asked::PutQuotes, Came::Done),
-    (Asked::Look, Came::Looked(Quotes::Chars)),
-    (Asked::AllFlags, Came::Flags(6)),
-    (Asked::Collect, Came::Done),
-    (Asked::Erase(99), Came::Gone),
-    (Asked::Call(Named::Chars, Some(5)), Came::First(5, false)),
+    (Ask::Look, "8: Codes, zz 0"),
+    (Ask::PutFlag(Word::Quotes, Word::Chars), "8: done"),
+    (Ask::Look, "9: Chars, zz 0"),
+    (
+        Ask::Call(Word::Fail, None),
+        "9: error existence_error/2 procedure //2 fail 1",
+    ),
+    (Ask::PutFlag(Word::Unknown, Word::Fail), "9: done"),
+    (Ask::Call(Word::Fail, None), "10: no clause"),
+    (Ask::Flags, "10: 6 flags"),
+    (
+        Ask::AllOperators,
+        "10: 45 operators, last 1150 Fx thread_local",
+    ),
+    // ISO 8.14.3.
+    (Ask::PutOperator(700, Kind::Xfx, OWN), "10: done"),
+    (Ask::Operators, "11: Chars, zz 700"),
+    // ISO 8.14.4.
+    (Ask::AllOperators, "11: 46 operators, last 700 Xfx zz"),
+    (Ask::PutOperator(0, Kind::Xfx, OWN), "11: done"),
+    (Ask::Operators, "12: Chars, zz 0"),
+    (
+        Ask::AllOperators,
+        "12: 45 operators, last 1150 Fx thread_local",
+    ),
+    (
+        Ask::PutOperator(1201, Kind::Xfx, OWN),
+        "12: error domain_error/2 operator_priority 1201",
+    ),
+    (Ask::Atoms, "12: done"),
+    (Ask::Clauses, "12: done"),
+    (Ask::Erase(99), "12: gone"),
+    (Ask::Last(OWN, 8), "12: done"),
+    (Ask::Call(OWN, Some(8)), "13: clause zz/1 8 at 12"),
+    (Ask::Erase(12), "13: done"),
+    (Ask::Call(OWN, None), "14: no clause"),
+    (Ask::Call(Word::Chars, Some(5)), "14: clause chars/1 5 at 4"),
 ];
 
-/// The one front that there is besides the hub's.
-fn take_front(history: &History, fronts: &mut Vec<Front>) -> Option<Front>
-    requires { fronts.old.items ≡ replicate 1 (new_front history.now) }
-    ensures { IfSome result (λ f. f ≡ new_front history.now) }
-{
-    let _ = history;
-    fronts.pop()
+/// Visits to queues and threads, of a command with three goals.
+const THREADS: [(Ask, &str); 46] = [
+    (Ask::Name, "0: named main"),
+    (Ask::Queue(None), "0: named 4"),
+    (Ask::Send(Called::Number(4), 1), "1: done"),
+    (
+        Ask::Get(Some(Called::Number(4)), Some(2)),
+        "2: waits for queue 4",
+    ),
+    (Ask::Peek(Some(Called::Number(4)), Some(2)), "2: no message"),
+    (
+        Ask::Peek(Some(Called::Number(4)), None),
+        "2: message zz/1 1",
+    ),
+    (Ask::Get(Some(Called::Number(4)), None), "2: message zz/1 1"),
+    (Ask::Peek(Some(Called::Number(4)), None), "3: no message"),
+    (Ask::Queue(Some(Word::Codes)), "3: named codes"),
+    (
+        Ask::Queue(Some(Word::Codes)),
+        "4: error permission_error/3 create message_queue codes",
+    ),
+    (
+        Ask::Queue(Some(Word::Main)),
+        "4: error permission_error/3 create message_queue main",
+    ),
+    (Ask::Send(CODES, 5), "4: done"),
+    (Ask::Send(CODES, 6), "5: done"),
+    (Ask::Send(CODES, 5), "6: done"),
+    (
+        Ask::Get(Some(Called::Number(5)), Some(6)),
+        "7: message zz/1 6",
+    ),
+    (Ask::Get(Some(CODES), None), "8: message zz/1 5"),
+    (Ask::Get(Some(CODES), Some(6)), "9: waits for queue codes"),
+    (Ask::Destroy(CODES), "9: done"),
+    (
+        Ask::Send(CODES, 1),
+        "10: error existence_error/2 message_queue codes",
+    ),
+    (
+        Ask::Get(Some(Called::Number(5)), None),
+        "10: error existence_error/2 message_queue 5",
+    ),
+    (
+        Ask::Destroy(MAIN),
+        "10: error permission_error/3 destroy message_queue main",
+    ),
+    (
+        Ask::Destroy(Called::Number(9)),
+        "10: error existence_error/2 message_queue 9",
+    ),
+    // The engine's own queue.
+    (Ask::Get(None, None), "10: waits for queue 1"),
+    (Ask::Peek(None, None), "10: no message"),
+    (Ask::Send(MAIN, 7), "10: done"),
+    (Ask::Peek(None, None), "11: message zz/1 7"),
+    (Ask::Get(None, Some(7)), "11: message zz/1 7"),
+    (Ask::Get(None, Some(7)), "12: waits for queue 1"),
+    (
+        Ask::Join(MAIN),
+        "12: error permission_error/3 join thread main",
+    ),
+    (
+        Ask::Join(Called::Number(5)),
+        "12: error existence_error/2 thread 5",
+    ),
+    // Threads begin.
+    (Ask::Create(3, None), "12: named 6"),
+    (Ask::Create(3, Some(Word::Chars)), "13: named chars"),
+    (
+        Ask::Create(3, Some(Word::Main)),
+        "14: error permission_error/3 create thread main",
+    ),
+    (Ask::CreateWrong(8), "14: error zz/1 8"),
+    (Ask::Join(Called::Number(6)), "14: waits for thread 6"),
+    (
+        Ask::Join(Called::Alias(Word::Chars)),
+        "14: waits for thread chars",
+    ),
+    (Ask::Send(Called::Number(6), 6), "14: done"),
+    (
+        Ask::Peek(Some(Called::Number(6)), None),
+        "15: message zz/1 6",
+    ),
+    (
+        Ask::Destroy(Called::Number(6)),
+        "15: error permission_error/3 destroy message_queue 6",
+    ),
+    (Ask::Goal(2), "15: done"),
+    (Ask::Goal(3), "16: done"),
+    (
+        Ask::Goal(3),
+        "17: error permission_error/3 create thread goal3",
+    ),
+    (Ask::Join(Called::Number(3)), "17: waits for thread 3"),
+    (Ask::Atoms, "17: done"),
+    (Ask::Procedures, "17: 0 procedures"),
+    (Ask::Name, "17: named main"),
+];
+
+/// Calls of zz(i), or zz(X), that go through all their clauses, with a visit before each further one, and the numbers of the
+/// clauses that they find. The clauses that are found are those of the call's generation (ISO 7.5.4).
+const LISTS: [(Option<i64>, [Ask; 3], [i64; 3]); 7] = [
+    (
+        None,
+        [Ask::Last(OWN, 1), Ask::Last(OWN, 2), Ask::Last(OWN, 3)],
+        [0, 0, 0],
+    ),
+    (None, [Ask::Look, Ask::Look, Ask::Look], [1, 2, 3]),
+    (Some(2), [Ask::Look, Ask::Look, Ask::Look], [2, 0, 0]),
+    // A clause that is erased meanwhile is found still, and one that is added is not.
+    (
+        None,
+        [Ask::Erase(1), Ask::Last(OWN, 4), Ask::Look],
+        [1, 2, 3],
+    ),
+    (None, [Ask::Look, Ask::Look, Ask::Look], [1, 3, 4]),
+    (
+        None,
+        [Ask::First(OWN, 9), Ask::Abolish(OWN), Ask::Look],
+        [1, 3, 4],
+    ),
+    (None, [Ask::Look, Ask::Look, Ask::Look], [0, 0, 0]),
+];
+
+/// What the call finds. All visits are made.
+fn list_of<K: Naming>(
+    alloc: Global,
+    shared: &mut Shared<K>,
+    player: &mut Player<K>,
+    i: Option<i64>,
+    visits: [Ask; 3],
+) -> Result<[i64; 3], Memory> {
+    let mut found = [0; 3];
+    let mut clause = player.call(alloc, shared, i);
+    for k in 0..3 {
+        if let Some(c) = clause {
+            found[k] = c.number;
+        }
+        player.say(alloc, shared, visits[k])?;
+        clause = player.retry(shared);
+    }
+    Ok(found)
 }
 
-/// At which index the first visit stands whose answer is another.
-fn first_wrong<K: Naming>(
+/// What a test does with engine 1 of a new state.
+#[derive(Clone, Copy)]
+enum Part<'a> {
+    /// Visits with their answers.
+    Rows(&'a [(Ask, &'a str)]),
+    /// The lists of clauses.
+    Lists,
+    /// Threads until 64 engines run.
+    Engines,
+}
+
+/// What went otherwise, where something did.
+fn wrong_row<K: Naming>(
+    alloc: Global,
+    shared: &mut Shared<K>,
+    player: &mut Player<K>,
+    rows: &[(Ask, &str)],
+) -> Result<Option<String>, Memory> {
+    for (visit, wanted) in rows {
+        let came = player.say(alloc, shared, *visit)?;
+        if came.as_str() != *wanted {
+            return Ok(Some(came));
+        }
+    }
+    Ok(None)
+}
+
+fn wrong_list<K: Naming>(
+    alloc: Global,
+    shared: &mut Shared<K>,
+    player: &mut Player<K>,
+) -> Result<Option<String>, Memory> {
+    for i in 0..LISTS.len() {
+        let (key, visits, wanted) = LISTS[i];
+        let found = list_of(alloc, shared, player, key, visits)?;
+        if found != wanted {
+            return Ok(Some(format!(in alloc; "{i}: {found:?}")?));
+        }
+    }
+    Ok(None)
+}
+
+fn wrong_engine<K: Naming>(
+    alloc: Global,
+    shared: &mut Shared<K>,
+    player: &mut Player<K>,
+) -> Result<Option<String>, Memory> {
+    for i in 0..64u64 {
+        let came = player.say(alloc, shared, Ask::Create(i, None))?;
+        let wanted = if i < 63 {
+            format!(in alloc; "{i}: named {}", i + 4)?
+        } else {
+            String::from_str(alloc, "63: error resource_error/1 threads")?
+        };
+        if came.as_str() != wanted.as_str() {
+            return Ok(Some(came));
+        }
+    }
+    Ok(None)
+}
+
+fn wrong_in<K: Naming>(
     alloc: Global,
     table: &AtomTable,
     seat: AtomSeat,
     keeper: Keeper,
     history: &History,
     hub: HubFront,
-    first: Front,
-) -> Result<Option<usize>, Memory>
+    front: Front,
+    part: Part,
+) -> Result<Option<String>, Memory>
     requires named { (table.now.words.table.shared.table_id ≡ K.atoms) × (table.now.words.size ≡ K.size) }
     requires seat { IsNewSeat table.now.words seat }
     requires keeper { KeepsAt K.atoms K.size keeper.seat }
     requires none { (k : ℕ) → tally (seen keeper.seat) k ≡ 0 }
     requires history { history.now ≡ K.history }
     requires hub { hub ≡ new_hub K.history }
-    requires front { first ≡ new_front K.history }
-    requires goals { K.goals ≡ 1 }
+    requires front { front ≡ new_front K.history }
+    requires goals { K.goals ≡ 3 }
 {
-    let mut front = first;
-    let mut atoms = TableAtoms::<K>::new(table, seat);
-    let mut shared = Shared::<K>::new(alloc, history, hub, keeper, &mut front, 1)?;
-    for i in 0..VISITS.len() {
-        let (asked, wanted) = VISITS[i];
-        let came = visit(alloc, history, &mut shared, &mut atoms, &mut front, asked)?;
-        if came != wanted {
-            return Ok(Some(i));
-        }
+    let atoms = TableAtoms::<K>::new(table, seat);
+    let (mut shared, mut player) = Player::first(alloc, atoms, keeper, history, hub, front, 3)?;
+    match part {
+        Part::Rows(rows) => wrong_row(alloc, &mut shared, &mut player, rows),
+        Part::Lists => wrong_list(alloc, &mut shared, &mut player),
+        Part::Engines => wrong_engine(alloc, &mut shared, &mut player),
     }
-    Ok(None)
 }
 
-#[test]
-fn answers_visits(rt: HostRuntime) -> Result<(), Fail> {
+/// The same over a new state.
+fn wrong(alloc: Global, part: Part) -> Result<Option<String>, Fail> {
     let Opened {
         table,
         mut seats,
         keeper,
         collector: _,
-    } = AtomTable::new(rt.alloc(), 512, 1)?;
+    } = AtomTable::new(alloc, 512, 1)?;
     let seat = take_last(&table, &mut seats).ok_or("a seat")?;
-    let (history, hub, mut fronts) = History::new(rt.alloc(), 1)?;
+    let (history, hub, mut fronts) = History::new(alloc, 1)?;
     let front = take_front(&history, &mut fronts).ok_or("a front")?;
-    let wrong = first_wrong::<Brand>(rt.alloc(), &table, seat, keeper, &history, hub, front)?;
-    assert_eq!(rt; wrong, None);
+    let wrong = wrong_in::<Brand>(alloc, &table, seat, keeper, &history, hub, front, part)?;
+    Ok(wrong)
+}
+
+#[test]
+fn visits_are_answered(rt: HostRuntime) -> Result<(), Fail> {
+    assert_eq!(rt; wrong(rt.alloc(), Part::Rows(&DATABASE))?, None);
+    assert_eq!(rt; wrong(rt.alloc(), Part::Rows(&THREADS))?, None);
+    assert_eq!(rt; wrong(rt.alloc(), Part::Lists)?, None);
+    assert_eq!(rt; wrong(rt.alloc(), Part::Engines)?, None);
     Ok(())
 }

@@ -1,4 +1,4 @@
-use Rattle.std.proofs.Common.{◌≡◌, ◌∙◌, ap, refl, true, subst, sym}
+use Rattle.std.proofs.Common.{ap}
 use Rattle.std.specs.List.{list_all}
 use Rattle.atom_words.specs.Seats.{seen}
 use Rattle.atom_table.specs.Tables.{is_so}

@@ -1,4 +1,4 @@
-use Rattle.std.proofs.Common.{◌≡◌, ◌<◌, arith, ℕ, ◌+◌, List, [], ◌∷◌, ◌++◌, subst, Option, Some, None, option_to_list, IfSome}
+use Rattle.std.proofs.Common.{◌<◌, arith, ℕ, ◌+◌, List, [], ◌∷◌, ◌++◌, subst, Option, Some, None, option_to_list, IfSome}
 use Rattle.atom_words.specs.declared.words.Words.{Words}
 use Rattle.atom_words.specs.declared.words.AtomSeat.{AtomSeat}
 use Rattle.atom_table.specs.Opening.{FreshFrom}

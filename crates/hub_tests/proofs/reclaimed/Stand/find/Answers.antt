@@ -1,0 +1,12 @@
+use Rattle.std.proofs.Common.{refl, arith}
+use Rattle.atom_words.specs.Seats.{seen}
+use Rattle.atom_table.specs.Naming.{names}
+use Rattle.hub_tests.proofs.Stands.{steady_changed}
+use Rattle.hub_tests.proofs.reclaimed.Stand.find.Goals as goal
+
+pub invariant_of-self : goal.invariant_of-self
+invariant_of-self g c =
+    let s = c.self.inside in
+    let r = c.call_clauses-row in
+    steady_changed g.K.NamesTable.atoms g.K.NamesTable.size s.db s.db s.keeper r.new.keeper s.own (names (seen s.atoms.seat)) (names (seen r.new.atoms.seat)) s.generation s.generation c.self.invariant r.ensures.keeper
+    r.ensures.steady (λ a. refl) (omega arith) c.self.invariant.upto r.ensures.quiet.holds
