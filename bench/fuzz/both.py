@@ -116,8 +116,6 @@ def compare(job):
         return number, None, None, 'passed: too long'
     with tempfile.TemporaryDirectory() as folder:
         got = by_plt(plt, folder, text, words)
-    if got[1] == 254 and got[0].endswith(b' is not built yet\n'):
-        return number, None, None, 'passed: not built'
     return number, wanted, got, end_of(wanted)
 
 

@@ -5,6 +5,7 @@ pub mod KeptMade
 pub mod MainLaws
 pub mod Members
 pub mod NamesLaws
+pub mod ObeyedLaws
 pub mod OpenedAll
 pub mod OpenedLaws
 pub mod OrderLaws

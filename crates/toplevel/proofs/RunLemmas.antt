@@ -1,19 +1,20 @@
 -- What a run's outcome gives the report.
-use Rattle.std.proofs.Common.{◌≡◌, ◌≤◌, ℕ, suc, Bool, true, false, List, length, ◌∙◌, take, Option, Some, None, refl, sym, subst, inl, inr}
+use Rattle.std.proofs.Common.{◌≡◌, ◌≤◌, ℕ, zero, suc, Bool, true, false, List, length, ◌∙◌, take, Option, Some, None, refl, sym, ap, subst, inl, inr}
 use Rattle.std.proofs.lemmas.List.{take_all}
 use Rattle.std.specs.Prelude.{Result, Ok, Err, OnOk, OnErr}
 use Rattle.run_model.specs.Execution.{most_bytes}
 use Rattle.run_model.specs.declared.ends.End.{End}
-use Rattle.run_model.specs.declared.ends.End.TheVariants.{Done, GoalFailed, Usage, Waiting, Memory, ReadFault, WriteFault, Halted, Unbuilt}
-use Rattle.pl_model.specs.History.{Proc}
+use Rattle.run_model.specs.declared.ends.End.TheVariants.{Done, GoalFailed, Usage, Waiting, Memory, ReadFault, WriteFault, Halted}
 use Rattle.run_model.specs.Lawful.{Program, Told}
 use Rattle.command_line.specs.CommandLine.{Command, program_of}
 use Rattle.run_model.specs.Ends.{all_done, end_by, engines, first_halt, some_waits}
-use Rattle.toplevel.specs.Headline.{AreRead, GaveUp, IsNamed, IsPartlyWritten, IsReady, IsWritten, IsWrittenUnless, Missed, Promised, Ran, RanUnwritten}
+use Rattle.toplevel.specs.Headline.{AreRead, GaveUp, IsListed, IsPartlyWritten, IsReady, IsWritten, IsWrittenUnless, Listed, ListedUnwritten, Promised, PromisedListing, Ran, RanUnwritten, TellsNothing, bytes_read, end_by_faults, text_listed}
 use Rattle.toplevel.specs.Fronts.{told_by}
-use Rattle.toplevel.specs.Unbuilt.{IsStuck}
 use Rattle.toplevel.specs.declared.ready.Ready.{Ready}
 use Rattle.toplevel.specs.declared.run.Report.{Report}
+use Rattle.source_check.specs.Listings.{faults_in}
+use Rattle.source_check.specs.declared.listing.Listing.{Listing}
+use Rattle.pl_term.specs.Tree.{Chars}
 
 -- The file's bytes, where they are told, or those that were read.
 pub record FileBytes (file : Option (List ℕ)) (read : List ℕ) : Type 0 where
@@ -44,11 +45,6 @@ unread rr wr c file old new report Memory rose h = h
 unread rr wr c file old new report ReadFault rose h = (h.0, rose, h.1)
 unread rr wr c file old new report WriteFault rose h = absurd h
 unread rr wr c file old new report (Halted n) rose h = absurd h
-unread rr wr c file old new report Unbuilt rose h = absurd h
-
--- A predicate that is not built yet.
-pub missed_as : (q : Proc) (wr : Type 0) (old new : Option (List ℕ)) (report : Report) (end : End) → end ≡ Unbuilt → IsNamed q wr old new report → Missed q wr old new report end
-missed_as q wr old new report end is u = subst (λ (e : End). Missed q wr old new report e) (sym is) u
 
 -- The end of a run is promised so.
 promised_by : (rr wr : Type 0) (c : Command) (file old new : Option (List ℕ)) (report : Report) (halt : Option ℕ) (waits done : Bool)
@@ -130,20 +126,79 @@ promised_more rr wr c file old new report Memory h = h
 promised_more rr wr c file old new report ReadFault h = absurd h.1
 promised_more rr wr c file old new report WriteFault h = h
 promised_more rr wr c file old new report (Halted n) h = h
-promised_more rr wr c file old new report Unbuilt h = h
 
-pub missed_more : (q : Proc) (rr wr : Type 0) (c : Command) (file old new : Option (List ℕ)) (report : Report) (bytes : List ℕ) (end : End)
+-- A file that was to be listed, and was given up.
+pub unlisted : (read_rose write_rose : Type 0) (name : Chars) (file old new : Option (List ℕ)) (report : Report) (end : End)
+    → read_rose
+    → GaveUp write_rose name old new report end
+    → PromisedListing read_rose write_rose name file old new report end
+unlisted rr wr name file old new report Done rose h = absurd h
+unlisted rr wr name file old new report GoalFailed rose h = absurd h
+unlisted rr wr name file old new report Usage rose h = absurd h
+unlisted rr wr name file old new report Waiting rose h = absurd h
+unlisted rr wr name file old new report Memory rose h = h
+unlisted rr wr name file old new report ReadFault rose h = (h.0, rose, h.1)
+unlisted rr wr name file old new report WriteFault rose h = absurd h
+unlisted rr wr name file old new report (Halted n) rose h = absurd h
+
+listed_by : (rr wr : Type 0) (name : Chars) (file old new : Option (List ℕ)) (report : Report) (faults : ℕ)
+    → Listed name file old new report
+    → PromisedListing rr wr name file old new report (end_by_faults faults)
+listed_by rr wr name file old new report zero l = l
+listed_by rr wr name file old new report (suc n) l = l
+
+-- A listing was written.
+pub listed : (wr : Type 0) (name : Chars) (file old new : Option (List ℕ)) (report : Report) (l : Listing) (bytes text : List ℕ)
     → AreRead file bytes
-    → IsStuck (program_of c bytes) q
-    → Missed q wr old new report end
-    → Promised rr wr c file old new report end
-missed_more q rr wr c file old new report bytes Done read stuck h = absurd h
-missed_more q rr wr c file old new report bytes GoalFailed read stuck h = absurd h
-missed_more q rr wr c file old new report bytes Usage read stuck h = absurd h
-missed_more q rr wr c file old new report bytes Waiting read stuck h = absurd h
-missed_more q rr wr c file old new report bytes Memory read stuck h = h
-missed_more q rr wr c file old new report bytes ReadFault read stuck h = absurd h
-missed_more q rr wr c file old new report bytes WriteFault read stuck h = absurd h
-missed_more q rr wr c file old new report bytes (Halted n) read stuck h = absurd h
-missed_more q rr wr c file old new report bytes Unbuilt read stuck h =
-    record { predicate = q; named = h; bytes = bytes; read = read; stuck = stuck }
+    → (r : IsListed name bytes l)
+    → text ≡ l.text.items
+    → IsWritten old new text
+    → TellsNothing report
+    → report.end ≡ end_by_faults l.faults
+    → PromisedListing ⊥ wr name file old new report report.end
+listed wr name file old new report l bytes text read r same written none end =
+    let is : report.end ≡ end_by_faults (faults_in (bytes_read bytes)) = end ∙ ap end_by_faults r.faults_are in
+    let all : Listed name file old new report =
+    record {
+      bytes = bytes;
+      read = read;
+      none = none;
+      end_is = is;
+      written = subst (λ (t : List ℕ). IsWritten old new t) (same ∙ r.text_is) written;
+    } in
+    subst
+    (λ (e : End). PromisedListing ⊥ wr name file old new report e)
+    (sym is)
+    (listed_by ⊥ wr name file old new report (faults_in (bytes_read bytes)) all)
+
+pub listed_unwritten : (wr : Type 0) (name : Chars) (file old new : Option (List ℕ)) (report : Report) (l : Listing) (bytes text : List ℕ)
+    → AreRead file bytes
+    → (r : IsListed name bytes l)
+    → text ≡ l.text.items
+    → wr
+    → IsPartlyWritten old new text
+    → TellsNothing report
+    → report.end ≡ WriteFault
+    → PromisedListing ⊥ wr name file old new report report.end
+listed_unwritten wr name file old new report l bytes text read r same rose written none end =
+    let part : ListedUnwritten name file old new report =
+    record {
+      bytes = bytes;
+      read = read;
+      none = none;
+      written = subst (λ (t : List ℕ). IsPartlyWritten old new t) (same ∙ r.text_is) written;
+    } in
+    subst (λ (e : End). PromisedListing ⊥ wr name file old new report e) (sym end) (rose, part)
+
+-- No read failed.
+pub listed_more : (rr wr : Type 0) (name : Chars) (file old new : Option (List ℕ)) (report : Report) (end : End)
+    → PromisedListing ⊥ wr name file old new report end
+    → PromisedListing rr wr name file old new report end
+listed_more rr wr name file old new report Done h = h
+listed_more rr wr name file old new report GoalFailed h = h
+listed_more rr wr name file old new report Usage h = absurd h
+listed_more rr wr name file old new report Waiting h = absurd h
+listed_more rr wr name file old new report Memory h = h
+listed_more rr wr name file old new report ReadFault h = absurd h.1
+listed_more rr wr name file old new report WriteFault h = h
+listed_more rr wr name file old new report (Halted n) h = absurd h

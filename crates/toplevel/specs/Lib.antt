@@ -8,4 +8,3 @@ pub mod Others
 pub mod Pairs
 pub mod RunOutcomes
 pub mod Scripts
-pub mod Unbuilt

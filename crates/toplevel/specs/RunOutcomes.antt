@@ -5,21 +5,13 @@ use Rattle.pl_term.specs.Tree.{Chars}
 use Rattle.pl_model.specs.History.{History}
 use Rattle.run_model.specs.Lawful.{Program}
 use Rattle.run_model.specs.Ends.{end_of, goal_ends}
-use Rattle.command_line.specs.CommandLine.{Command, program_of}
+use Rattle.command_line.specs.CommandLine.{Command}
 use Rattle.pl_history.specs.Fronts.{FrontState}
 use Rattle.pl_hub.specs.Order.{IsInOrder}
 use Rattle.pl_sched.specs.Ledger.{AreOnly, AreWhole, named_in}
 use Rattle.toplevel.specs.Fronts.{told_by}
-use Rattle.toplevel.specs.Headline.{IsReady, IsRun, text_of}
-use Rattle.toplevel.specs.Unbuilt.{IsStuck, indicated}
-use Rattle.toplevel.specs.declared.engines.RunOutcome.{RunOutcome}
-use Rattle.toplevel.specs.declared.engines.RunOutcome.TheVariants.{Stood, Unbuilt}
+use Rattle.toplevel.specs.Headline.{IsRun, text_of}
 use Rattle.toplevel.specs.declared.ready.Ready.{Ready}
-
--- It is that of this command on a file with these bytes.
-abbrev pub IsRunOutcome : Command → List ℕ → RunOutcome Ready → Type 0
-IsRunOutcome c bytes (Stood ready) = IsReady c bytes ready
-IsRunOutcome c bytes (Unbuilt name arity) = IsStuck (program_of c bytes) (indicated name arity)
 
 -- What a command runs whose file was read so.
 abbrev pub program_read : Command → List ℕ → Program
@@ -31,10 +23,6 @@ pub record IsReadyOf (file : Chars) (p : Program) (ready : Ready) : Type 0 where
   pub ends_are : ready.ends.items ≡ goal_ends p (told_by ready.front) run.finals
   pub end_is : ready.end ≡ end_of p (told_by ready.front) run.finals
   pub text_is : ready.text.items ≡ text_of file p ready.front run
-
-abbrev pub IsOutcomeOf : Chars → Program → RunOutcome Ready → Type 0
-IsOutcomeOf file p (Stood ready) = IsReadyOf file p ready
-IsOutcomeOf file p (Unbuilt name arity) = IsStuck p (indicated name arity)
 
 -- All engines have seen one history, each that it begins is one of them, nobody else made an entry, they began in the order of
 -- their numbers, and these are the numbers and the aliases of those that it begins.

@@ -6,7 +6,8 @@ ghost use Rattle.atom_words.specs.Seats.{seen};
 ghost use Rattle.atom_table.specs.Opening.{FreshFrom};
 ghost use Rattle.counted_terms.specs.Keeping.{KeepsAt, tally};
 ghost use Rattle.pl_history.specs.Fronts.{new_hub};
-ghost use Rattle.toplevel.specs.RunOutcomes.{HasRunAll, IsOutcomeOf, IsRunOutcome, program_read};
+ghost use Rattle.toplevel.specs.Headline.{IsReady};
+ghost use Rattle.toplevel.specs.RunOutcomes.{HasRunAll, IsReadyOf, program_read};
 
 use crate::beginning::{Scripts, atoms_of, first_home, terms_for};
 use crate::opened::open;
@@ -17,8 +18,8 @@ use engine_run::Runner;
 use pl_history::{History, HubFront};
 use pl_hub::Shared;
 use pl_io::Gate;
-use pl_sched::{Command as Naming, Goals, Hub, Loss, Ran, Unfinished, run_all};
-use pl_term::{Memory, Text};
+use pl_sched::{Command as Naming, Goals, Hub, Ran, Unfinished, run_all};
+use pl_term::Memory;
 use std::alloc::Global;
 use std::marker::Brand;
 use std::sync::Wait;
@@ -28,16 +29,6 @@ use word_board::Board;
 /// How many engines there may be at one time.
 const ENGINES: u32 = 64;
 
-/// What comes of a run: this, where all engines have come to their ends, or wait.
-#[derive(Drop)]
-pub enum RunOutcome<T> {
-    /// They have.
-    Stood(T),
-    /// The next step of an engine is of the predicate of the system with this name and number of arguments, which is not built
-    /// yet.
-    Unbuilt { name: Text, arity: u64 },
-}
-
 /// Runs the command on a file with these bytes, and makes what is to be written. The only error is out of memory.
 pub(crate) fn run_engines<R: Threads + Wait + Sync, G: Gate + Sync>(
     rt: &R,
@@ -45,10 +36,10 @@ pub(crate) fn run_engines<R: Threads + Wait + Sync, G: Gate + Sync>(
     command: &Command,
     bytes: Vec<u8>,
     gate: &G,
-) -> Result<RunOutcome<Ready>, Memory>
+) -> Result<Ready, Memory>
     requires within { IsWithin command.now }
     ensures { (all : List ℕ) → bytes.items ≡ take (suc most_bytes) all
-        → IfOk result (IsRunOutcome (told_command command.now) all) }
+        → IfOk result (IsReady (told_command command.now) all) }
 {
     let goals = command.goals.len() as u32;
     let Opened {
@@ -78,7 +69,7 @@ fn run_over<'t, K: Naming + Send + Sync, R: Threads + Wait + Sync, G: Gate + Syn
     seats: Vec<AtomSeat>,
     keeper: Keeper,
     hub: HubFront,
-) -> Result<RunOutcome<Ready>, Memory>
+) -> Result<Ready, Memory>
     requires named { (table.now.words.table.shared.table_id ≡ K.atoms) × (table.now.words.size ≡ K.size) }
     requires seats { FreshFrom table.now.words 1 seats.items }
     requires keeper { KeepsAt K.atoms K.size keeper.seat }
@@ -90,7 +81,7 @@ fn run_over<'t, K: Naming + Send + Sync, R: Threads + Wait + Sync, G: Gate + Syn
     requires file { K.file ≡ command.now.file }
     requires goals { goals ≡ length command.now.goals.items }
     requires counted { K.goals ≡ goals }
-    ensures { IfOk result (IsOutcomeOf K.file K.program) }
+    ensures { IfOk result (IsReadyOf K.file K.program) }
 {
     let mut spare = atoms_of::<K>(alloc, table, seats)?;
     let Some(atoms) = spare.pop() else {
@@ -112,13 +103,13 @@ fn run_over<'t, K: Naming + Send + Sync, R: Threads + Wait + Sync, G: Gate + Syn
 fn outcome_of<'t, K: Naming>(
     alloc: Global,
     command: &Command,
-    ran: Result<Ran<Runner<Scripts<'t>>, K>, Unfinished<K>>,
-) -> Result<RunOutcome<Ready>, Memory>
+    ran: Result<Ran<Runner<Scripts<'t>>, K>, Unfinished>,
+) -> Result<Ready, Memory>
     requires words { K.program.words ≡ command.now.goals.items }
     requires file { K.file ≡ command.now.file }
     requires goals { K.goals ≡ length K.program.words }
     requires ran { IfOk ran (λ v. HasRunAll K.goals v.dones.items v.begun.items) }
-    ensures { IfOk result (IsOutcomeOf K.file K.program) }
+    ensures { IfOk result (IsReadyOf K.file K.program) }
 {
     match ran {
         Ok(ran) => {
@@ -128,34 +119,8 @@ fn outcome_of<'t, K: Naming>(
             while let Some(done) = dones.pop() {
                 opened.push(open(done))?;
             }
-            let ready = make_ready(alloc, command, opened, begun.as_slice())?;
-            Ok(RunOutcome::Stood(ready))
+            make_ready(alloc, command, opened, begun.as_slice())
         }
-        Err(unfinished) => unfinished_outcome(unfinished),
-    }
-}
-
-/// What comes of a run in which not all engines came to their ends. The only error is out of memory.
-fn unfinished_outcome<K: Naming>(unfinished: Unfinished<K>) -> Result<RunOutcome<Ready>, Memory>
-    requires { K.goals ≡ length K.program.words }
-    ensures { IfOk result (IsOutcomeOf K.file K.program) }
-{
-    match unfinished {
-        Unfinished::Lost(loss) => lost_outcome(loss),
-        _ => Err(Memory),
-    }
-}
-
-/// What comes of a run in which an engine was lost. The only error is out of memory.
-fn lost_outcome<K: Naming>(loss: Loss<K>) -> Result<RunOutcome<Ready>, Memory>
-    requires { K.goals ≡ length K.program.words }
-    ensures { IfOk result (IsOutcomeOf K.file K.program) }
-{
-    match loss {
-        Loss::Missing(missed) => {
-            let (name, arity) = missed.into_parts();
-            Ok(RunOutcome::Unbuilt { name, arity })
-        }
-        Loss::Memory => Err(Memory),
+        Err(_) => Err(Memory),
     }
 }

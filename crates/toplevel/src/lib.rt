@@ -6,6 +6,8 @@ mod engines;
 mod front;
 mod kept;
 mod lines;
+mod listed;
+mod load;
 mod main_engine;
 mod opened;
 mod others;

@@ -1,29 +1,29 @@
 //! The top call: a command, from its words to its transcript.
 ghost use Rattle.std.specs.Prelude.{◌≡◌, ◌≢◌, ◌↔◌, suc, take, List, ℕ, Option, None, Some, IfOk, IfErr, IsErr, IsTrue};
 ghost use Rattle.std.specs.Str.{encode_utf8_all};
+ghost use Rattle.pl_term.specs.Tree.{Chars};
 ghost use Rattle.pl_io.specs.Faults.{Rose};
-ghost use Rattle.run_model.specs.Execution.{most_bytes};
-ghost use Rattle.command_line.specs.CommandLine.{Command as CommandOf, command, unread_line, usage_line};
+ghost use Rattle.command_line.specs.CommandLine.{Command as CommandOf, Order as OrderOf, order, unread_line, usage_line};
+ghost use Rattle.command_line.specs.Commands.{IsOrderWithin, IsWithin, told_command, told_order};
 ghost use Rattle.run_model.specs.Ends.{status_of};
-ghost use Rattle.command_line.specs.Commands.{IsWithin, told_command};
-ghost use Rattle.toplevel.specs.Headline.{AreRead, GaveUp, HasRun, IsReady, IsUnbuilt, IsUnread, IsWrittenUnless, Missed, Promised, Ran, RanUnwritten, TellsNothing};
-ghost use Rattle.toplevel.specs.RunOutcomes.{IsRunOutcome};
-ghost use Rattle.toplevel.specs.Unbuilt.{indicated};
+ghost use Rattle.toplevel.specs.Headline.{AreRead, Did, DidUnwritten, GaveUp, HasRun, IsReady, IsUnread, IsWrittenUnless, Promised, PromisedOf, TellsNothing, file_of};
 
-use crate::engines::{RunOutcome, run_engines};
+use crate::engines::run_engines;
 use crate::front::Front;
-use crate::lines::{unbuilt_text, unread_text};
+use crate::lines::unread_text;
+use crate::listed::list_file;
+use crate::load::run_load;
 use crate::ready::Ready;
-use command_line::command::{Command, read_command};
+use command_line::command::{Command, Order, read_order};
 use pl_io::{Files, Gate, ReadAllError, Sink, read_all, write_all};
-use pl_term::{Memory, Text};
+use pl_term::Text;
 use run_model::ends::{End, GoalEnd, status_of};
 use std::alloc::Global;
 use std::sync::Wait;
 use std::thread::Threads;
 
 /// A file has at most 16 MiB; one byte more is read, which shows that it is too large.
-const MOST_BYTES: u64 = 16_777_216;
+pub(crate) const MOST_BYTES: u64 = 16_777_216;
 
 /// What is written where the words are no command.
 const USAGE: &str =
@@ -43,7 +43,7 @@ pub struct Report {
 }
 
 /// A report with nothing but an end.
-fn bare_report(alloc: Global, end: End) -> Report
+pub(crate) fn bare_report(alloc: Global, end: End) -> Report
     ensures end { result.end ≡ end }
     ensures status { result.status ≡ status_of end }
     ensures nothing { TellsNothing result }
@@ -65,17 +65,17 @@ fn prepare<R: Threads + Wait + Sync, F: Files, G: Gate + Sync>(
     command: &Command,
     files: &mut F,
     gate: &G,
-) -> Result<RunOutcome<Ready>, ReadAllError>
+) -> Result<Ready, ReadAllError>
     requires within { IsWithin command.now }
     ensures failed { IfErr result (λ e. e ≡ ReadAllError.Failed
         → Rose (F.faults files.old command.now.file) (F.faults files.new command.now.file)) }
     ensures absent { IsTrue (F.absent files.old command.now.file) → IsErr result }
-    ensures run_outcome { IfOk result (λ run_outcome. (bytes : List ℕ) × (AreRead (F.told files.old command.now.file) bytes
-        × IsRunOutcome (told_command command.now) bytes run_outcome)) }
+    ensures ready { IfOk result (λ ready. (bytes : List ℕ) × (AreRead (F.told files.old command.now.file) bytes
+        × IsReady (told_command command.now) bytes ready)) }
 {
     let bytes = read_all(alloc, files, &command.file, MOST_BYTES)?;
-    let run_outcome = run_engines(rt, alloc, command, bytes.into_vec(), gate)?;
-    Ok(run_outcome)
+    let ready = run_engines(rt, alloc, command, bytes.into_vec(), gate)?;
+    Ok(ready)
 }
 
 /// Writes the text of a run.
@@ -114,7 +114,7 @@ fn write_usage<S: Sink>(alloc: Global, out: &mut S) -> Report
 }
 
 /// Writes the line for a file that cannot be read.
-fn write_unread<S: Sink>(alloc: Global, file: &Text, out: &mut S) -> Report
+pub(crate) fn write_unread<S: Sink>(alloc: Global, file: &Text, out: &mut S) -> Report
     ensures end { IsUnread result.end }
     ensures status { result.status ≡ status_of result.end }
     ensures given_up { GaveUp (Rose (S.faults out.old) (S.faults out.new)) file.now (S.written out.old) (S.written out.new)
@@ -129,36 +129,8 @@ fn write_unread<S: Sink>(alloc: Global, file: &Text, out: &mut S) -> Report
     }
 }
 
-/// Writes the line for a predicate that is not built yet.
-fn write_unbuilt<S: Sink>(alloc: Global, name: &Text, arity: u64, out: &mut S) -> Report
-    ensures status { result.status ≡ status_of result.end }
-    ensures missed { Missed (indicated name.now arity) (Rose (S.faults out.old) (S.faults out.new)) (S.written out.old) (S.written out.new)
-        result result.end }
-{
-    match unbuilt_text(alloc, name, arity) {
-        Ok(line) => {
-            let _ = write_all(out, &line);
-            bare_report(alloc, End::Unbuilt)
-        }
-        Err(_) => bare_report(alloc, End::Memory),
-    }
-}
-
-/// Writes what is to be written of a run.
-fn finish<S: Sink>(alloc: Global, run_outcome: RunOutcome<Ready>, out: &mut S) -> Report
-    ensures status { result.status ≡ status_of result.end }
-    ensures promised { (c : CommandOf) (file : Option (List ℕ)) (bytes : List ℕ)
-        → AreRead file bytes → IsRunOutcome c bytes run_outcome
-        → Promised ⊥ (Rose (S.faults out.old) (S.faults out.new)) c file (S.written out.old) (S.written out.new) result result.end }
-{
-    match run_outcome {
-        RunOutcome::Stood(ready) => write_transcript(ready, out),
-        RunOutcome::Unbuilt { name, arity } => write_unbuilt(alloc, &name, arity, out),
-    }
-}
-
 /// Runs a command.
-fn run_command<R: Threads + Wait + Sync, F: Files, S: Sink, G: Gate + Sync>(
+pub(crate) fn run_command<R: Threads + Wait + Sync, F: Files, S: Sink, G: Gate + Sync>(
     rt: &R,
     alloc: Global,
     command: &Command,
@@ -174,23 +146,48 @@ fn run_command<R: Threads + Wait + Sync, F: Files, S: Sink, G: Gate + Sync>(
     ensures absent { IsTrue (F.absent files.old command.now.file) → IsUnread result.end }
 {
     match prepare(rt, alloc, command, files, gate) {
-        Ok(run_outcome) => finish(alloc, run_outcome, out),
+        Ok(ready) => write_transcript(ready, out),
         Err(ReadAllError::Failed) => write_unread(alloc, &command.file, out),
         Err(ReadAllError::Memory) => bare_report(alloc, End::Memory),
     }
 }
 
-/// Runs the command that the words, without the program's name, stand for: consults the file, runs the goals and the threads
-/// that they start by the workers that it asks for, and writes
-/// the transcript to `out`. Before each visit to the shared state the gate is called with the numbers of the worker and of the
-/// engine.
+/// Does what an order asks for.
+fn obey<R: Threads + Wait + Sync, F: Files, S: Sink, G: Gate + Sync>(
+    rt: &R,
+    alloc: Global,
+    order: &Order,
+    files: &mut F,
+    out: &mut S,
+    gate: &G,
+) -> Report
+    requires within { IsOrderWithin order.now }
+    ensures status { result.status ≡ status_of result.end }
+    ensures promised { PromisedOf (λ name. Rose (F.faults files.old name) (F.faults files.new name))
+        (Rose (S.faults out.old) (S.faults out.new)) (F.told files.old) (told_order order.now)
+        (S.written out.old) (S.written out.new) result result.end }
+    ensures absent { (name : Chars) → file_of (Some (told_order order.now)) ≡ Some name → IsTrue (F.absent files.old name)
+        → IsUnread result.end }
+{
+    match order {
+        Order::Run(command) => run_command(rt, alloc, command, files, out, gate),
+        Order::Check(file) => list_file(alloc, file, files, out),
+        Order::Load { seed, size } => run_load(rt, alloc, *seed, *size, out, gate),
+    }
+}
+
+/// Does what the words, without the program's name, ask for, and writes its text to `out`.
 ///
-/// The report says how the program ended. `Usage`: the words are no command; the usage line is written. `ReadFault`: a
-/// read of the file failed, as it does where there is no such file; a line that says so is written. `Memory`: there was no memory; nothing is written.
-/// `WriteFault`: a write failed; a front of the transcript was written. `Unbuilt`: a goal came to a predicate of the
-/// system that is not built yet; a line names it. `Halted`: the goal or a directive ended by halt/1. `Waiting`: the
-/// engine waits, and nothing wakes it. `GoalFailed`: the goal did not end solved, or a fault of the file was kept.
-/// `Done`: nothing of that.
+/// `run` consults a file and runs the goals and the threads that they start by the workers that it asks for; its text is the
+/// transcript. `load` runs the source that a seed and a size give so. `check` reads a file without running a goal; its text lists
+/// the syntax faults and counts what the file has. Before each visit to the shared state the gate is called with the numbers of
+/// the worker and of the engine.
+///
+/// The report says how the program ended. `Usage`: the words ask for nothing that there is; the usage line is written.
+/// `ReadFault`: a read of the file failed, as it does where there is no such file; a line that says so is written. `Memory`:
+/// there was no memory; nothing is written. `WriteFault`: a write failed; a front of the text was written. `Halted`: a goal, a
+/// thread or a directive ended by halt/1. `Waiting`: an engine waits, and nothing wakes it. `GoalFailed`: a goal did not end
+/// solved, or a fault of the file was kept or listed. `Done`: nothing of that.
 pub fn run<R: Threads + Wait + Sync, F: Files, S: Sink, G: Gate + Sync>(
     rt: &R,
     alloc: Global,
@@ -200,31 +197,29 @@ pub fn run<R: Threads + Wait + Sync, F: Files, S: Sink, G: Gate + Sync>(
     gate: &G,
 ) -> Report
     ensures status { result.status ≡ status_of result.end }
-    ensures headline { HasRun result.end → (c : CommandOf) × ((command words.now ≡ Some c)
-        × Ran c (F.told files.old c.file) (S.written out.old) (S.written out.new) result) }
-    ensures complete { (c : CommandOf) → command words.now ≡ Some c
-        → (Rose (F.faults files.old c.file) (F.faults files.new c.file) → ⊥)
+    ensures headline { HasRun result.end → (o : OrderOf) × ((order words.now ≡ Some o)
+        × Did (F.told files.old) o (S.written out.old) (S.written out.new) result) }
+    ensures complete { (o : OrderOf) → order words.now ≡ Some o
+        → ((name : Chars) → file_of (Some o) ≡ Some name → Rose (F.faults files.old name) (F.faults files.new name) → ⊥)
         → (Rose (S.faults out.old) (S.faults out.new) → ⊥)
-        → result.end ≢ End.Memory → result.end ≢ End.Unbuilt → HasRun result.end }
-    ensures usage { result.end ≢ End.Memory → (result.end ≡ End.Usage ↔ command words.now ≡ None) }
-    ensures absent { (c : CommandOf) → command words.now ≡ Some c → IsTrue (F.absent files.old c.file) → IsUnread result.end }
+        → result.end ≢ End.Memory → HasRun result.end }
+    ensures usage { result.end ≢ End.Memory → (result.end ≡ End.Usage ↔ order words.now ≡ None) }
+    ensures absent { (name : Chars) → file_of (order words.now) ≡ Some name → IsTrue (F.absent files.old name) → IsUnread result.end }
     ensures usage_line { result.end ≡ End.Usage → TellsNothing result
         × IsWrittenUnless (Rose (S.faults out.old) (S.faults out.new)) (S.written out.old) (S.written out.new)
         (encode_utf8_all usage_line) }
-    ensures read_fault { result.end ≡ End.ReadFault → TellsNothing result × ((c : CommandOf)
-        × ((command words.now ≡ Some c) × (Rose (F.faults files.old c.file) (F.faults files.new c.file)
+    ensures read_fault { result.end ≡ End.ReadFault → TellsNothing result × ((name : Chars)
+        × ((file_of (order words.now) ≡ Some name) × (Rose (F.faults files.old name) (F.faults files.new name)
         × IsWrittenUnless (Rose (S.faults out.old) (S.faults out.new)) (S.written out.old) (S.written out.new)
-        (encode_utf8_all (unread_line c.file))))) }
+        (encode_utf8_all (unread_line name))))) }
     ensures write_fault { result.end ≡ End.WriteFault → Rose (S.faults out.old) (S.faults out.new)
-        × ((c : CommandOf) × ((command words.now ≡ Some c)
-        × RanUnwritten c (F.told files.old c.file) (S.written out.old) (S.written out.new) result)) }
+        × ((o : OrderOf) × ((order words.now ≡ Some o)
+        × DidUnwritten (F.told files.old) o (S.written out.old) (S.written out.new) result)) }
     ensures memory { result.end ≡ End.Memory → TellsNothing result × (S.written out.new ≡ S.written out.old) }
-    ensures unbuilt { result.end ≡ End.Unbuilt → (c : CommandOf) × ((command words.now ≡ Some c)
-        × IsUnbuilt (Rose (S.faults out.old) (S.faults out.new)) c (F.told files.old c.file) (S.written out.old) (S.written out.new) result) }
 {
-    match read_command(alloc, words) {
+    match read_order(alloc, words) {
         Ok(None) => write_usage(alloc, out),
-        Ok(Some(command)) => run_command(rt, alloc, &command, files, out, gate),
+        Ok(Some(order)) => obey(rt, alloc, &order, files, out, gate),
         Err(_) => bare_report(alloc, End::Memory),
     }
 }

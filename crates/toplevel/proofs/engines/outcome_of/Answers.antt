@@ -2,6 +2,7 @@ use Rattle.std.proofs.Common.{◌≡◌, ◌⊎◌, inl, ◌∷◌, ◌++◌, []
 use Rattle.std.specs.Prelude.{IfSome}
 use Rattle.std.specs.List.{All, Contains}
 use Rattle.std.specs.Option.{option_to_list}
+use Rattle.std.proofs.lemmas.Result.{IfOk-weaker}
 use Rattle.std.proofs.lemmas.List.Elements.{All-nil, All-pop}
 use Rattle.pl_term.specs.Tree.{Chars}
 use Rattle.pl_history.specs.Fronts.{FrontState, own_engine}
@@ -45,19 +46,19 @@ loop-done-preserved g c h seen =
       λ e q. subst (λ (os : List OpenedEngine). Contains (carried_by rest) e ⊎ Contains (opened_numbers os) e) (sym c.in_ok-push-in-Ok.ensures.items) (more.1 e q),
     )
 
-pub returns-in_ok-ready-in-Ok : goal.returns-in_ok-ready-in-Ok
-returns-in_ok-ready-in-Ok g c =
+pub returns-in_default : goal.returns-in_default
+returns-in_default g c =
     let p = g.K.Command.program in
     let board = g.K.Command.board in
     let ran : HasRunAll g.K.Naming.goals c.in-Ok.ran.dones.items c.in-Ok.ran.begun.items = rw c.in-Ok.is at c.requires.ran in
     let h = ran.0 in
     let inv = c.loop-done.invariant h ran.1 in
     let none = length_none _ _ c.loop-done.dones.ok.0 c.in_default.ensures.cases.0 in
-    let ready =
-    c.in_ok-ready-in-Ok.ensures p board h c.requires.words
+    IfOk-weaker c.make_ready.result _ _
+    (λ r is. subst (λ (f : Chars). IsReadyOf f p r) (sym c.requires.file) is)
+    (c.make_ready.ensures p board h c.requires.words
     (subst (λ (f : Chars). All (IsOpened p f board h) c.loop-done.opened.items) c.requires.file inv.1)
     (all_begun h c.loop-done.dones.items c.in-Ok.ran.dones.items c.loop-done.opened.items none inv.2 ran.2)
     ran.3
     (once_in g.K.Naming.goals h ran.4)
-    (c.as_slice.ensures.value ∙ ran.5) in
-    subst (λ (f : Chars). IsReadyOf f p c.in_ok-ready-in-Ok.ready) (sym c.requires.file) ready
+    (c.as_slice.ensures.value ∙ ran.5))

@@ -6,7 +6,7 @@ use Rattle.atom_table.proofs.Settling.{counted_none}
 use Rattle.command_line.specs.Commands.{told_command}
 use Rattle.counted_terms.specs.Keeping.{times_in}
 use Rattle.toplevel.specs.RunOutcomes.{program_read}
-use Rattle.toplevel.proofs.OutcomeLaws.{outcome_so}
+use Rattle.toplevel.proofs.OutcomeLaws.{ready_for}
 use Rattle.toplevel.proofs.engines.run_engines.Goals as goal
 
 pub run_over-requires-clause-none : goal.run_over-requires-clause-none
@@ -19,5 +19,5 @@ pub returns : goal.returns
 returns g c all read =
     let command = c.args.command.now in
     IfOk-weaker c.run_over.result _ _
-    (λ o is. outcome_so (told_command command) all c.args.bytes.items command.file (program_read (told_command command) c.args.bytes.items) o read refl refl is)
+    (λ r is. ready_for (told_command command) all c.args.bytes.items command.file (program_read (told_command command) c.args.bytes.items) r read refl refl is)
     c.run_over.ensures

@@ -25,11 +25,11 @@ returns-in-Ok-clause-promised g c =
     _
     _
     _
-    c.finish.result
-    c.finish.result.end
-    (c.finish.ensures.promised
+    c.write_transcript.result
+    c.write_transcript.result.end
+    (c.write_transcript.ensures.promised
     (told_command c.args.command.now)
     _
-    c.in-Ok.ensures.run_outcome.0
-    c.in-Ok.ensures.run_outcome.1.0
-    c.in-Ok.ensures.run_outcome.1.1)
+    c.in-Ok.ensures.ready.0
+    c.in-Ok.ensures.ready.1.0
+    c.in-Ok.ensures.ready.1.1)
