@@ -9,6 +9,7 @@ pub mod Equations
 pub mod Extending
 pub mod Following
 pub mod Grounding
+pub mod Gathering
 pub mod Growing
 pub mod Harmless
 pub mod Heading
@@ -18,13 +19,16 @@ pub mod Knowing
 pub mod KeptTerms
 pub mod Loading
 pub mod Looking
+pub mod Marked
 pub mod Marking
 pub mod Occurring
+pub mod Naming
 pub mod Opening
 pub mod Pairing
 pub mod Parting
 pub mod Planning
 pub mod Ranging
+pub mod Reaching
 pub mod Renumbering
 pub mod Sizing
 pub mod Spelling

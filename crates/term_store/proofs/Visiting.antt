@@ -33,6 +33,10 @@ or_right false b e = e
 both_true : (a b : Bool) → a ≡ true → b ≡ true → (a && b) ≡ true
 both_true a b d e = ap (λ q. q && b) d ∙ e
 
+and-false : (a : Bool) → (a && false) ≡ false
+and-false true = refl
+and-false false = refl
+
 module _ (x : ℕ) (h : Heap) where
   less_has-append : (n : ℕ) (vs ws : List Word) → less_has x n h (vs ++ ws) ≡ (less_has x n h vs || less_has x n h ws)
   less_has-append n [] ws = refl
@@ -42,6 +46,12 @@ module _ (x : ℕ) (h : Heap) where
 
   less_has-left : (n : ℕ) (vs ws : List Word) → less_has x n h vs ≡ true → less_has x n h (vs ++ ws) ≡ true
   less_has-left n vs ws e = less_has-append n vs ws ∙ or_left (less_has x n h vs) (less_has x n h ws) e
+
+  pub less_has-left_out : (n : ℕ) (vs : List Word) (w : Word) → has x (meaning h w) ≡ false → less_has x n h (vs ++ w ∷ []) ≡ true → less_has x n h vs ≡ true
+  less_has-left_out n vs w absent e =
+      sym (less_has-append n vs (w ∷ [])
+      ∙ ap (λ b. less_has x n h vs || ((nat_lt (compound_cells (meaning h w)) n && b) || false)) absent
+      ∙ ap (λ b. less_has x n h vs || (b || false)) (and-false (nat_lt (compound_cells (meaning h w)) n)) ∙ or-false_right (less_has x n h vs)) ∙ e
 
   less_has-right : (n : ℕ) (vs ws : List Word) → less_has x n h ws ≡ true → less_has x n h (vs ++ ws) ≡ true
   less_has-right n vs ws e = less_has-append n vs ws ∙ or_right (less_has x n h vs) (less_has x n h ws) e

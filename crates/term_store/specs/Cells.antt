@@ -5,6 +5,7 @@ use Rattle.term_store.specs.declared.words.Word.TheVariants.{Var, Int, Atom, Com
 use Rattle.term_store.specs.declared.cells.Cells.{Cells}
 use Rattle.term_store.specs.Heap.{Heap, find}
 use Rattle.term_store.specs.Fit.{Fit, IsCache}
+use Rattle.term_store.specs.GroundMarks.{AreMarks}
 
 abbrev pub heap_of : Cells → Heap
 heap_of c = record { heads = c.heads.items; args = c.args.items; numbers = c.numbers.items; trail = c.trail.items }
@@ -12,6 +13,7 @@ heap_of c = record { heads = c.heads.items; args = c.args.items; numbers = c.num
 pub record IsFit (c : Cells) : Type 0 where
   pub fit : Fit (heap_of c)
   pub cache : IsCache c.values.items (heap_of c)
+  pub marks : AreMarks c.grounds.items (heap_of c)
 
 -- A word that is not a bound variable.
 abbrev pub IsFree : Heap → Word → Type 0

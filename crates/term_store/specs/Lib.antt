@@ -7,9 +7,11 @@ pub mod Contents
 pub mod Counting
 pub mod Entering
 pub mod Fit
+pub mod GroundMarks
 pub mod Grounds
 pub mod Heap
 pub mod KeptLaws
+pub mod Live
 pub mod Making
 pub mod Marks
 pub mod Meeting
@@ -17,6 +19,7 @@ pub mod NameLaws
 pub mod NameUnification
 pub mod Nodes
 pub mod NumberedNames
+pub mod Reaches
 pub mod Sizes
 pub mod StoredTerms
 pub mod Unifying

@@ -50,6 +50,7 @@ pub fn block_of(alloc: Global, nodes: &[AtomNode], variables: u64) -> Result<Blo
         numbers: _,
         values: _,
         trail: _,
+        grounds: _,
     } = cells;
     Ok(Block {
         variables,

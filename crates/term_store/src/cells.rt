@@ -8,7 +8,8 @@ use crate::words::{Bond, Head, Word};
 use std::alloc::Global;
 
 /// The compound terms by their heads and arguments, the variables' numbers, which rise with the slots, and the
-/// bindings in the order in which they were made. `values` has each slot's binding once more, for reading.
+/// bindings in the order in which they were made. `values` has each slot's binding once more, for reading, and `grounds` has for
+/// the compound terms up to the last marked one whether they were made of constants and such terms alone.
 #[derive(Drop)]
 pub struct Cells {
     pub heads: Vec<Head>,
@@ -16,6 +17,7 @@ pub struct Cells {
     pub numbers: Vec<u64>,
     pub values: Vec<Option<Word>>,
     pub trail: Vec<Bond>,
+    pub grounds: Vec<bool>,
 }
 
 impl Cells {
@@ -30,6 +32,7 @@ impl Cells {
             numbers: Vec::new(alloc),
             values: Vec::new(alloc),
             trail: Vec::new(alloc),
+            grounds: Vec::new(alloc),
         }
     }
 }

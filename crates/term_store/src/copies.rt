@@ -117,8 +117,9 @@ fn push_copies(
     ensures ok { OnOk result (args.new.items ≡ args.old.items ++ map (copied known.now low above) words.now) }
     ensures kept { take (length args.old.items) args.new.items ≡ args.old.items }
 {
+    args.reserve(words.len())?;
     for word in words {
-        args.push(copied_word(*word, known, low, above, slots, heads))?;
+        args.push_reserved(copied_word(*word, known, low, above, slots, heads));
     }
     Ok(())
 }

@@ -211,13 +211,14 @@ fn push_facing(
     ensures { OnOk result (pairs.new.items ≡ pairs.old.items
         ++ reverse (zip_words (take count (drop left cells.now.args.items)) (take count (drop right block.now.args.items)))) }
 {
+    pairs.reserve(count)?;
     let mut i = count;
     while i > 0 {
         i -= 1;
-        pairs.push(Pair {
+        pairs.push_reserved(Pair {
             left: word_at(cells, left + i),
             right: block_word(block, right + i),
-        })?;
+        });
     }
     Ok(())
 }

@@ -3,6 +3,7 @@
 #![tactic(auto)]
 
 mod argument_key;
+mod atom_set;
 mod bind;
 mod block;
 mod build;
@@ -19,8 +20,10 @@ mod identity;
 mod kept;
 mod known;
 mod known_pairs;
+mod live;
 mod load;
 mod look;
+mod made_ground;
 mod make;
 mod meetings;
 mod nodes;
@@ -28,6 +31,7 @@ mod numbering;
 mod occurs;
 mod older;
 mod pace;
+mod reach;
 mod room;
 mod save;
 mod seen;
@@ -42,6 +46,7 @@ mod walk;
 mod words;
 
 pub use argument_key::ArgumentKey;
+pub use atom_set::AtomSet;
 pub use faults::StoreFault;
 pub use known_pairs::{KnownPair, KnownPairs};
 pub use nodes::AtomNode;

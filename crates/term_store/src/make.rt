@@ -1,11 +1,13 @@
 //! Making variables and compound terms.
-ghost use Rattle.std.specs.Prelude.{◌≡◌, ◌+◌, ◌<◌, ◌++◌, length, map, take, drop, IfOk, OnOk, OnErr};
+ghost use Rattle.std.specs.Prelude.{◌≡◌, ◌+◌, ◌<◌, ◌≤◌, false, [], ◌∷◌, ◌++◌, length, map, take, drop, IfOk, OnOk, OnErr};
 ghost use Rattle.std.specs.List.{All};
 ghost use Rattle.term_store.specs.Cells.{IsFit, heap_of};
 ghost use Rattle.term_store.specs.Fit.{IsIn, Fit, IsCache};
+ghost use Rattle.term_store.specs.GroundMarks.{AreMarks, IsMarkedToo};
 ghost use Rattle.term_store.specs.Making.{Made, with_args, with_number};
 
 use crate::cells::Cells;
+use crate::made_ground::{are_ground, mark_at};
 use crate::words::{Head, Place, Word};
 use pl_term::Memory;
 
@@ -72,6 +74,7 @@ pub fn finish_compound(
     requires within { start + count ≡ length cells.old.args.items }
     requires inside { All (IsIn (heap_of cells.old)) (drop start cells.old.args.items) }
     requires unused { Fit (with_args (heap_of cells.old) (take start cells.old.args.items)) }
+    requires marks { AreMarks cells.old.grounds.items (with_args (heap_of cells.old) (take start cells.old.args.items)) }
     ensures fit { IsFit cells.new }
     ensures made { IfOk result (λ w. Made (with_args (heap_of cells.old) (take start cells.old.args.items)) name
         (drop start cells.old.args.items) (heap_of cells.new) w) }
@@ -80,10 +83,39 @@ pub fn finish_compound(
     ensures heads { OnOk result (length cells.new.heads.items ≡ length cells.old.heads.items + 1) }
 {
     let k = cells.heads.len();
-    match cells.heads.push(Head { name, start, count }) {
+    let marked = are_ground(&cells.grounds, &cells.args[start..]);
+    let head = Head { name, start, count };
+    match push_head(&mut cells.heads, &mut cells.grounds, head, marked) {
         Ok(()) => Ok(Word::Comp(k)),
         Err(_) => {
             cells.args.truncate(start);
+            Err(Memory)
+        }
+    }
+}
+
+/// Puts a head after the others, and marks it where it is to be marked. After running out of memory, which is the only error,
+/// the heads and the marks are what they were.
+fn push_head(
+    heads: &mut Vec<Head>,
+    grounds: &mut Vec<bool>,
+    head: Head,
+    marked: bool,
+) -> Result<(), Memory>
+    requires { length grounds.old.items ≤ length heads.old.items }
+    ensures heads { OnOk result (heads.new.items ≡ heads.old.items ++ head ∷ []) }
+    ensures marks { OnOk result (IsMarkedToo marked (length heads.old.items) grounds.old.items grounds.new.items) }
+    ensures kept { OnErr result (heads.new.items ≡ heads.old.items) }
+    ensures unmarked { OnErr result (IsMarkedToo false (length heads.old.items) grounds.old.items grounds.new.items) }
+{
+    let k = heads.len();
+    if marked {
+        mark_at(grounds, k)?;
+    }
+    match heads.push(head) {
+        Ok(()) => Ok(()),
+        Err(_) => {
+            grounds.truncate(k);
             Err(Memory)
         }
     }

@@ -10,6 +10,7 @@ ghost use Rattle.term_store.specs.Unifying.{any_has};
 ghost use Rattle.term_store.specs.Visits.{IsClear, SeenClear};
 
 use crate::cells::{Cells, deref, head_at};
+use crate::made_ground::marked_at;
 use crate::older::{Older, is_apart};
 use crate::pace::Pace;
 use crate::walk::Walk;
@@ -112,8 +113,8 @@ fn is_here(
     }
 }
 
-/// Puts the arguments of a compound term on the stack, unless the walk is known to have come by it before, which is kept
-/// where the walk is long.
+/// Puts the arguments of a compound term on the stack, unless it is marked as ground, or the walk is known to have come by it
+/// before, which is kept where the walk is long.
 pub fn come_by(cells: &Cells, walk: &mut Walk, k: usize) -> Result<(), Memory>
     requires fit { IsFit cells.now }
     requires inside { k < length cells.now.heads.items }
@@ -125,6 +126,9 @@ pub fn come_by(cells: &Cells, walk: &mut Walk, k: usize) -> Result<(), Memory>
     ensures seen { OnOk result ((x : ℕ) → All (IsClear x (heap_of cells.now) (walk.old.words.items ++ Word.Comp k ∷ [])) walk.old.seen.list.items
         → All (IsClear x (heap_of cells.now) walk.new.words.items) walk.new.seen.list.items) }
 {
+    if marked_at(&cells.grounds, k) {
+        return Ok(());
+    }
     let long = walk.pace.is_long(k);
     if long && walk.seen.holds(k) {
         return Ok(());

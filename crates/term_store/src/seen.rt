@@ -52,7 +52,7 @@ impl Seen {
 }
 
 /// Sets the place of a number, before which there are places of all lower ones. The only error is out of memory.
-fn set_place(places: &mut Vec<usize>, k: usize, at: usize) -> Result<(), Memory> {
+pub fn set_place(places: &mut Vec<usize>, k: usize, at: usize) -> Result<(), Memory> {
     if k < places.len() {
         places[k] = at;
         return Ok(());

@@ -3,6 +3,7 @@ ghost use Rattle.std.specs.Prelude.{◌≡◌, ◌<◌, ◌≤◌, [], length, t
 ghost use Rattle.std.specs.List.{All};
 ghost use Rattle.term_store.specs.Cells.{IsFit, heap_of};
 ghost use Rattle.term_store.specs.Fit.{Cached, IsCache, OnceFrom};
+ghost use Rattle.term_store.specs.GroundMarks.{AreMarks};
 ghost use Rattle.term_store.specs.Marks.{IsWithin, cut};
 
 use crate::cells::Cells;
@@ -14,12 +15,14 @@ pub fn undo_to(cells: &mut Cells, mark: StoreMark)
     requires within { IsWithin mark (heap_of cells.old) }
     ensures cut { heap_of cells.new ≡ cut mark (heap_of cells.old) }
     ensures cache { IsCache cells.new.values.items (heap_of cells.new) }
+    ensures marks { AreMarks cells.new.grounds.items (heap_of cells.new) }
 {
     unbind(&mut cells.values, &mut cells.trail, mark.trail);
     cells.heads.truncate(mark.heads);
     cells.args.truncate(mark.args);
     cells.numbers.truncate(mark.numbers);
     cells.values.truncate(mark.numbers);
+    cells.grounds.truncate(mark.heads);
 }
 
 /// Undoes the bindings made since there were `keep` of them.

@@ -14,4 +14,5 @@ returns-clause-fit c =
       fit = subst (λ t. Fit (record h { trail = t })) (sym e) (fit_pushed h c.args.slot c.args.word r.fit.fit r.slot r.free r.below r.inside r.absent);
       cache =
           subst (λ t. IsCache (set c.args.cells.now.values.items c.args.slot (Some c.args.word)) (record h { trail = t })) (sym e) (cache_pushed c.args.cells.now.values.items h c.args.slot c.args.word r.fit.cache r.slot r.free);
+      marks = record { long = r.fit.marks.long; parts = r.fit.marks.parts };
     }

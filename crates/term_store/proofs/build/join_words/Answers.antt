@@ -1,8 +1,10 @@
-use Rattle.std.proofs.Common.{◌≡◌, drop, length, sym, ap, subst, ◌∙◌}
+use Rattle.std.proofs.Common.{◌≡◌, drop, take, length, sym, ap, subst, ◌∙◌}
 use Rattle.std.specs.List.{All}
 use Rattle.std.proofs.Math.Seq.{drop-append_seam}
 use Rattle.term_store.specs.Cells.{heap_of}
 use Rattle.term_store.specs.Fit.{IsIn}
+use Rattle.term_store.specs.GroundMarks.{AreMarks}
+use Rattle.term_store.specs.Making.{with_args}
 use Rattle.term_store.proofs.Stacking.{taken_inside}
 use Rattle.term_store.proofs.build.join_words.Goals as goal
 
@@ -15,3 +17,11 @@ finish_compound-requires-clause-inside c =
     ∙ ap (drop (length h.args)) t.moved ∙ drop-append_seam h.args t.taken in
     subst (λ ws. All (IsIn h) ws) (sym behind)
     (taken_inside (IsIn h) c.args.stack.now.items c.move_words.new.stack.items t.taken t.split c.requires.words)
+
+pub finish_compound-requires-clause-marks : goal.finish_compound-requires-clause-marks
+finish_compound-requires-clause-marks c =
+    let h = heap_of c.args.cells.now in
+    let args = c.move_words.new.args.items in
+    let before : take c.len-start.result args ≡ h.args =
+    ap (λ n. take n args) (c.len-start.ensures ∙ c.args.cells.now.args.ok.0) ∙ c.move_words.ensures.kept in
+    subst (λ ws. AreMarks c.args.cells.now.grounds.items (with_args h ws)) (sym before) c.requires.fit.marks

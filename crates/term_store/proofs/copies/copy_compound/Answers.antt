@@ -1,4 +1,4 @@
-use Rattle.std.proofs.Common.{◌≡◌, List, drop, length, map, sym, ap, subst, ◌∙◌}
+use Rattle.std.proofs.Common.{◌≡◌, List, drop, take, length, map, sym, ap, subst, ◌∙◌}
 use Rattle.std.specs.List.{All}
 use Rattle.std.proofs.Math.Seq.{drop-append_seam}
 use Rattle.std.proofs.lemmas.List.Elements.{All-map}
@@ -6,6 +6,8 @@ use Rattle.term_store.specs.declared.words.Word.{Word}
 use Rattle.term_store.specs.Blocks.{arguments_of, copied}
 use Rattle.term_store.specs.Cells.{heap_of}
 use Rattle.term_store.specs.Fit.{IsIn}
+use Rattle.term_store.specs.GroundMarks.{AreMarks}
+use Rattle.term_store.specs.Making.{with_args}
 use Rattle.term_store.proofs.copies.copy_compound.Goals as goal
 
 pub finish_compound-requires-clause-cache : goal.finish_compound-requires-clause-cache
@@ -24,3 +26,11 @@ finish_compound-requires-clause-inside c =
     ∙ ap (map (copied c.args.known.now c.args.low c.args.above)) c.block_words-words.ensures in
     subst (λ ws. All (IsIn h) ws) (sym behind)
     (All-map (IsIn h) (copied c.args.known.now c.args.low c.args.above) parts c.requires.inside)
+
+pub finish_compound-requires-clause-marks : goal.finish_compound-requires-clause-marks
+finish_compound-requires-clause-marks c =
+    let h = heap_of c.args.cells.now in
+    let args = c.push_copies.new.args.items in
+    let before : take c.len-start.result args ≡ h.args =
+    ap (λ n. take n args) (c.len-start.ensures ∙ c.args.cells.now.args.ok.0) ∙ c.push_copies.ensures.kept in
+    subst (λ ws. AreMarks c.args.cells.now.grounds.items (with_args h ws)) (sym before) c.requires.fit.marks

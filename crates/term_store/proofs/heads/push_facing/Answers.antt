@@ -11,8 +11,10 @@ loop-i-init c =
     record {
       within = omega arith;
       pushed =
-          sym (ap (λ ps. c.args.pairs.now.items ++ reverse ps)
+          c.in_ok-reserve.ensures.items
+          ∙ sym (ap (λ ps. c.args.pairs.now.items ++ reverse ps)
           (drop-zip_all vs ws c.args.count (omega (arith, length-take c.args.count (drop c.args.left c.args.cells.now.args.items)))) ∙ append-nil c.args.pairs.now.items);
+      room = c.in_ok-reserve.ensures.ok;
     }
 
 pub loop-i-preserved : goal.loop-i-preserved
@@ -29,10 +31,11 @@ loop-i-preserved c =
     record {
       within = omega arith;
       pushed =
-          pair_pushed c.args.pairs.now.items c.loop-i.pairs.items c.push.new.self.items vs ws c.loop-i.i
+          pair_pushed c.args.pairs.now.items c.loop-i.pairs.items c.push_reserved.new.self.items vs ws c.loop-i.i
           (record { left = c.word_at.result; right = c.block_word.result }) (Int (pos 0)) (omega arith) (omega arith) (len_left ∙ sym len_right)
-          c.loop-i.invariant.pushed c.in_ok-push.ensures.items
+          c.loop-i.invariant.pushed c.push_reserved.ensures.items
           (ap₂ (λ v w. record { left = v; right = w })
           (c.word_at.ensures ∙ sym (get_or-take count (drop c.args.left lefts) j (Int (pos 0)) (omega arith) ∙ get_or-drop c.args.left lefts j (Int (pos 0))))
           (c.block_word.ensures ∙ sym (get_or-take count (drop c.args.right rights) j (Int (pos 0)) (omega arith) ∙ get_or-drop c.args.right rights j (Int (pos 0)))));
+      room = omega (arith, c.loop-i.invariant.room, c.push_reserved.ensures.len, c.push_reserved.ensures.capacity);
     }

@@ -1,21 +1,36 @@
-use Rattle.std.proofs.Common.{length, refl, ◌∙◌}
+use Rattle.std.proofs.Common.{◌≡◌, ◌-◌, true, length, take, drop, refl, sym, ap, subst, ◌∙◌, length-drop}
+use Rattle.std.specs.List.{All}
+use Rattle.std.proofs.Math.Seq.{take-length}
 use Rattle.term_store.specs.Cells.{heap_of}
+use Rattle.term_store.specs.GroundMarks.{AreMarks, IsMarked}
 use Rattle.term_store.proofs.Growing.{finished}
+use Rattle.term_store.proofs.Marked.{marks_made}
 use Rattle.term_store.proofs.make.finish_compound.Goals as goal
 
 pub returns-in-Ok-clause-fit : goal.returns-in-Ok-clause-fit
 returns-in-Ok-clause-fit c =
     let h = heap_of c.args.cells.now in
     let r = c.requires in
+    let ws = c.deref-2.result.now in
+    let slice = take (length ws - c.args.start) (drop c.args.start ws) in
+    let rest : slice ≡ drop c.args.start h.args =
+    ap (λ n. take n (drop c.args.start ws)) (sym (length-drop c.args.start ws)) ∙ take-length (drop c.args.start ws)
+    ∙ ap (drop c.args.start) c.deref-2.ensures.value in
+    let marked : c.are_ground-marked.result ≡ true → All (IsMarked c.args.cells.now.grounds.items) (drop c.args.start h.args) =
+    λ e. subst (All (IsMarked c.args.cells.now.grounds.items)) rest
+    (subst (λ gs. All (IsMarked gs) slice) c.deref.ensures.value (c.are_ground-marked.ensures e)) in
     record {
       fit =
-          (finished h c.args.name c.args.start c.args.count (length h.heads) c.push.new.self.items r.unused r.full r.within r.inside c.in-Ok.ensures.items refl).0;
+          (finished h c.args.name c.args.start c.args.count (length h.heads) c.push_head.new.heads.items r.unused r.full r.within r.inside c.in-Ok.ensures.heads refl).0;
       cache = record { long = r.cache.long; found = r.cache.found };
+      marks =
+          marks_made c.args.cells.now.grounds.items c.push_head.new.grounds.items h c.args.name c.args.start c.args.count c.are_ground-marked.result
+          c.push_head.new.heads.items r.unused r.within r.marks marked c.in-Ok.ensures.marks c.in-Ok.ensures.heads;
     }
 
 pub returns-in-Ok-clause-made : goal.returns-in-Ok-clause-made
 returns-in-Ok-clause-made c =
     let h = heap_of c.args.cells.now in
     let r = c.requires in
-    (finished h c.args.name c.args.start c.args.count c.len-k.result c.push.new.self.items r.unused r.full r.within r.inside c.in-Ok.ensures.items
+    (finished h c.args.name c.args.start c.args.count c.len-k.result c.push_head.new.heads.items r.unused r.full r.within r.inside c.in-Ok.ensures.heads
     (c.len-k.ensures ∙ c.args.cells.now.heads.ok.0)).1

@@ -14,4 +14,5 @@ returns-in-Ok-clause-fit c =
           subst (λ ns. IsCache c.push.new.self.items (record h { numbers = ns })) (sym c.in-Ok.ensures.items)
           (subst (λ vs. IsCache vs (record h { numbers = h.numbers ++ c.args.number ∷ [] })) (sym c.in_ok-push.ensures.items)
           (cache_number c.args.cells.now.values.items h c.args.number r.fit.cache r.fit.fit));
+      marks = record { long = r.fit.marks.long; parts = r.fit.marks.parts };
     }

@@ -1,4 +1,4 @@
-use Rattle.std.proofs.Common.{get_or, ◌++◌, sym, subst}
+use Rattle.std.proofs.Common.{◌≡◌, ℕ, Bool, true, false, List, get_or, ◌++◌, refl, sym, ap, subst, ◌∙◌}
 use Rattle.std.specs.List.{All}
 use Rattle.term_store.specs.declared.words.Word.TheVariants.{Comp}
 use Rattle.term_store.specs.Cells.{heap_of}
@@ -7,7 +7,7 @@ use Rattle.term_store.specs.Heap.{words_of}
 use Rattle.term_store.specs.Visits.{IsClear}
 use Rattle.term_store.proofs.Occurring.{comp_inside, comp_found}
 use Rattle.term_store.proofs.Visiting.{again_found, again_clear, opened_clear, added_clear}
-use Rattle.std.proofs.Common.{refl}
+use Rattle.term_store.proofs.Marked.{marked_clear, marked_found}
 use Rattle.term_store.proofs.occurs.come_by.Goals as goal
 
 pub returns-then-holds-clause-found : goal.returns-then-holds-clause-found
@@ -54,3 +54,18 @@ returns-else-long-2-clause-seen c x all =
     let ks = c.args.walk.now.seen.list.items in
     subst (λ vs. All (IsClear x h vs) ks) (sym c.in_ok-push_words.ensures)
     (opened_clear x h c.args.walk.now.words.items c.args.k ks c.requires.fit.fit c.requires.inside all)
+
+is_marked : (gs hs : List Bool) (k : ℕ) → hs ≡ gs → get_or hs k false ≡ true → get_or gs k false ≡ true
+is_marked gs hs k e t = ap (λ l. get_or l k false) (sym e) ∙ t
+
+pub returns-then-marked_at-clause-found : goal.returns-then-marked_at-clause-found
+returns-then-marked_at-clause-found c x _ =
+    let fit = c.requires.fit in
+    marked_found c.args.cells.now.grounds.items (heap_of c.args.cells.now) fit.fit fit.marks c.args.k (is_marked c.args.cells.now.grounds.items c.deref.result.now c.args.k c.deref.ensures.value (sym c.marked_at.ensures ∙ c.if-marked_at.true)) x
+    c.args.walk.now.words.items
+
+pub returns-then-marked_at-clause-seen : goal.returns-then-marked_at-clause-seen
+returns-then-marked_at-clause-seen c x all =
+    let fit = c.requires.fit in
+    marked_clear c.args.cells.now.grounds.items (heap_of c.args.cells.now) fit.fit fit.marks c.args.k (is_marked c.args.cells.now.grounds.items c.deref.result.now c.args.k c.deref.ensures.value (sym c.marked_at.ensures ∙ c.if-marked_at.true)) x
+    c.args.walk.now.words.items c.args.walk.now.seen.list.items all

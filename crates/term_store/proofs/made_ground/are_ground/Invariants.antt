@@ -1,0 +1,14 @@
+use Rattle.std.proofs.Common.{◌≤◌, length, drop}
+use Rattle.std.specs.List.{All}
+use Rattle.term_store.specs.GroundMarks.{IsMarked}
+use Rattle.term_store.proofs.made_ground.are_ground.Given as goal
+
+abbrev pub invariant-loop-i : goal.invariant-loop-i
+invariant-loop-i l =
+    record {
+      within : l.i ≤ length l.words;
+      behind : All (IsMarked l.grounds) (drop l.i l.words);
+    }
+
+abbrev pub decreases-loop-i : goal.decreases-loop-i
+decreases-loop-i l = l.i
