@@ -22,7 +22,9 @@ pub mod Joining
 pub mod ListCells
 pub mod ListTerms
 pub mod Listing
+pub mod Living
 pub mod Naming
+pub mod Oldest
 pub mod Others
 pub mod Over
 pub mod Recoveries

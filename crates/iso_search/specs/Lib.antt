@@ -13,6 +13,7 @@ pub mod Goals
 pub mod Held
 pub mod Lines
 pub mod Lists
+pub mod Live
 pub mod Outcomes
 pub mod Parts
 pub mod Reading

@@ -1,5 +1,5 @@
 //! Balls, which stay as they are when the store goes back (ISO 7.8.10).
-ghost use Rattle.std.specs.Prelude.{◌≡◌, ◌<◌, ◌≤◌, [], length, zero, IfOk, IsTrue};
+ghost use Rattle.std.specs.Prelude.{◌≡◌, ◌<◌, ◌≤◌, [], length, zero, IfOk, IsTrue, OnOk};
 ghost use Rattle.pl_term.specs.Cells.{cells};
 ghost use Rattle.pl_term.specs.Tree.{atom, comp, more, none};
 ghost use Rattle.pl_term.specs.Variables.{rename, variables};
@@ -7,6 +7,8 @@ ghost use Rattle.pl_model.specs.Balls.{error_ball};
 ghost use Rattle.atom_api.specs.FixedNames.{resource_error_name};
 ghost use Rattle.term_store.specs.Heap.{atom_name};
 ghost use Rattle.term_store.specs.Contents.{Holds, numbers_of, term_at};
+ghost use Rattle.term_store.specs.Live.{Gathers};
+ghost use Rattle.term_store.specs.NumberedNames.{atoms_in};
 ghost use Rattle.iso_search.specs.Parts.{StandsFor};
 ghost use Rattle.iso_search.specs.Errors.{IsFaultIn, error_tree, fault_tree};
 ghost use Rattle.iso_search.specs.Outcomes.{fault_term};
@@ -19,7 +21,7 @@ use atom_api::{Atom, fixed};
 use pl_term::Memory;
 use std::alloc::Global;
 use std::marker::Model;
-use term_store::{Place, Store, Stored};
+use term_store::{AtomSet, Place, Store, Stored};
 
 /// A term that is thrown, seen by contracts as that term. Its variables have the numbers that they had in the store. It stands
 /// in a store of its own, in which each part that it shares stands once. Beside it stand the cells of its compound terms, if
@@ -74,6 +76,14 @@ impl Ball {
             Some(count) => limit < count,
             None => true,
         }
+    }
+
+    /// Puts the atoms that the term names to those of a set. The only error is out of memory.
+    pub fn live_in(&self, live: &mut AtomSet) -> Result<(), Memory>
+        ensures { OnOk result (Gathers (atoms_in self.now) live.old live.new) }
+    {
+        let own: &Store = &self.own;
+        own.live_at(self.place, live)
     }
 
     /// The store in which the term stands, and its place there.

@@ -18,6 +18,7 @@ pub mod goals;
 pub mod heads;
 pub mod leaving;
 pub mod lists;
+pub mod live;
 pub mod outcome;
 pub mod parts;
 pub mod recovering;
