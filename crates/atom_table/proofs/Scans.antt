@@ -1,6 +1,6 @@
 -- The view over the steps of a cycle.
 use Rattle.std.proofs.Common.{◌≡◌, ℕ, ◌+◌, ◌<◌, Bool, true, false, List, [], ◌∷◌, ◌++◌, length, get_or, refl, sym, ap, ◌∙◌, subst, inl, inr, ⊎_elim, Option, Some, None, Ok, ◌≤◌, ◌-◌, ◌*◌, option_map, arith}
-use Rattle.std.specs.Prelude.{◌==◌, ◌||◌, if◌then◌else◌}
+use Rattle.std.specs.Prelude.{◌==◌, ◌||◌, if◌then◌else◌, nat_lt}
 use Rattle.std.specs.List.{list_any}
 use Rattle.std.specs.Option.{is_some}
 use Rattle.std.proofs.lemmas.Bool.{cases_Bool, eq-eqb, eqb-true}
@@ -9,17 +9,19 @@ use Rattle.atom_words.specs.Layout.{epoch_word, phase_of, epoch_of}
 use Rattle.atom_words.specs.Board.{ack_at}
 use Rattle.atom_words.specs.Chains.{In}
 use Rattle.atom_words.specs.Kinds.{beginning, turning, ending, Sweeps, view_after, after}
-use Rattle.atom_words.specs.Seats.{seen, Same, Has}
+use Rattle.atom_words.specs.Seats.{seen, Same}
 use Rattle.atom_words.specs.declared.size.Size.{Size}
 use Rattle.atom_words.specs.declared.view.Held.{Held}
 use Rattle.atom_words.specs.declared.view.Sweeping.{Sweeping}
 use Rattle.atom_words.specs.declared.view.View.{View}
 use Rattle.atom_words.specs.declared.words.Words.{Words}
 use Rattle.atom_words.specs.declared.words.AtomSeat.{AtomSeat}
-use Rattle.atom_words.specs.declared.kind.Kind.TheVariants.{Load, Mark, Scan, Check, ToSweep, End}
+use Rattle.atom_words.specs.declared.kind.Kind.{Kind}
+use Rattle.atom_words.specs.declared.kind.Kind.TheVariants.{Load, Scan, Protect, Check, ToSweep, End}
 use Rattle.atom_words.proofs.Slices.{some_same, in_none, in_later, in_cases, or_at, or_true}
 use Rattle.atom_table.specs.Holding.{Sits}
 use Rattle.atom_table.specs.Naming.{those}
+use Rattle.bucket_rows.specs.Touches.{has_slot, touch}
 use Rattle.bucket_rows.specs.Cycles.{Knows, BeginsBy, checks, ChecksAll}
 use Rattle.bucket_rows.specs.Treads.{AtSlot}
 use Rattle.bucket_rows.specs.SweepKinds.{Untouched}
@@ -34,13 +36,53 @@ use Rattle.atom_table.proofs.Settling.{sound_from}
 pub item_in : (l : List ℕ) (i x : ℕ) → i < length l → x ≡ get_or l i x → In x l
 item_in l i x low is = (i, or_at l i x low ∙ ap some (sym is))
 
-pub scans_keep : {A : Type 0} (f : View → A) → ((v : View) (k : ℕ) → f (view_after v (Scan k)) ≡ f v) → (v : View) (ks : List ℕ) → f (after v (scans ks)) ≡ f v
-scans_keep f same v [] = refl
-scans_keep f same v (k ∷ ks) = scans_keep f same (view_after v (Scan k)) ks ∙ same v k
+-- what each step leaves holds after all of them
+one_more : (Q : View → Type 0) (b : Bool) (m : Kind) (ms : List Kind) (u : View) → (Q u → Q (view_after u m)) → ((y : View) → Q y → Q (after y ms)) → Q u → Q (after u (if b then m ∷ ms else ms))
+one_more Q true m ms u step rest q = rest (view_after u m) (step q)
+one_more Q false m ms u step rest q = rest u q
 
-pub scans_more : (v : View) (ks : List ℕ) (k : ℕ) → after v (scans (ks ++ k ∷ [])) ≡ view_after (after v (scans ks)) (Scan k)
-scans_more v [] k = refl
-scans_more v (q ∷ ks) k = scans_more (view_after v (Scan q)) ks k
+touch_leaves : (Q : View → Type 0) → ((y : View) (k : ℕ) → Q y → Q (view_after y (Scan k))) → ((y : View) (k x : ℕ) → Q y → Q (view_after y (Protect k x))) → (u v : View) (k x : ℕ) → Q u → Q (view_after u (touch v k x))
+touch_leaves Q scan protect u v k x q = go (has_slot k v.held || has_slot k v.fixed)
+  where
+    go : (b : Bool) → Q (view_after u (if b then Scan k else Protect k x))
+    go true = scan u k q
+    go false = protect u k x q
+
+pub scans_leave : (Q : View → Type 0) → ((y : View) (k : ℕ) → Q y → Q (view_after y (Scan k))) → ((y : View) (k x : ℕ) → Q y → Q (view_after y (Protect k x))) → (u v : View) (ks xs : List ℕ) → Q u → Q (after u (scans v ks xs))
+scans_leave Q scan protect u v [] xs q = q
+scans_leave Q scan protect u v (k ∷ ks) [] q = q
+scans_leave Q scan protect u v (k ∷ ks) (x ∷ xs) q = one_more Q (nat_lt k v.size.slots) (touch v k x) (scans v ks xs) u (touch_leaves Q scan protect u v k x) (λ y r. scans_leave Q scan protect y v ks xs r) q
+
+pub scans_keep : {A : Type 0} (f : View → A) → ((v : View) (k : ℕ) → f (view_after v (Scan k)) ≡ f v) → ((v : View) (k x : ℕ) → f (view_after v (Protect k x)) ≡ f v) → (u v : View) (ks xs : List ℕ) → f (after u (scans v ks xs)) ≡ f u
+scans_keep f scan protect u v ks xs = scans_leave (λ y. f y ≡ f u) (λ y k e. scan y k ∙ e) (λ y k x e. protect y k x ∙ e) u v ks xs refl
+
+both_front : (b : Bool) (m : Kind) (ls bs cs : List Kind) → ls ≡ bs ++ cs → (if b then m ∷ ls else ls) ≡ (if b then m ∷ bs else bs) ++ cs
+both_front true m ls bs cs e = ap (λ l. m ∷ l) e
+both_front false m ls bs cs e = e
+
+pub scans_more : (v : View) (ks xs : List ℕ) (k x : ℕ) → length xs ≡ length ks → scans v (ks ++ k ∷ []) (xs ++ x ∷ []) ≡ scans v ks xs ++ scans v (k ∷ []) (x ∷ [])
+scans_more v [] [] k x e = refl
+scans_more v [] (y ∷ xs) k x e = absurd (omega (arith, e))
+scans_more v (q ∷ ks) [] k x e = absurd (omega (arith, e))
+scans_more v (q ∷ ks) (y ∷ xs) k x e = both_front (nat_lt q v.size.slots) (touch v q y) (scans v (ks ++ k ∷ []) (xs ++ x ∷ [])) (scans v ks xs) (scans v (k ∷ []) (x ∷ [])) (scans_more v ks xs k x (omega (arith, e)))
+
+-- the steps depend on what is held and fixed, and on how many slots there are
+pub scans_same : (u v : View) (k x : ℕ) → u.held ≡ v.held → u.fixed ≡ v.fixed → u.size ≡ v.size → scans u (k ∷ []) (x ∷ []) ≡ scans v (k ∷ []) (x ∷ [])
+scans_same u v k x held fixed size =
+    ap (λ (hs : List Held). if nat_lt k u.size.slots then (if has_slot k hs || has_slot k u.fixed then Scan k else Protect k x) ∷ [] else []) held
+    ∙ (ap (λ (hs : List Held). if nat_lt k u.size.slots then (if has_slot k v.held || has_slot k hs then Scan k else Protect k x) ∷ [] else []) fixed
+    ∙ ap (λ (z : Size). if nat_lt k z.slots then touch v k x ∷ [] else []) size)
+
+-- one more step after the others
+pub scanned_more : (v u w : View) (ks xs : List ℕ) (k x : ℕ) → length xs ≡ length ks → u ≡ after v (scans v ks xs) → w ≡ after u (scans u (k ∷ []) (x ∷ []))
+    → w ≡ after v (scans v (ks ++ k ∷ []) (xs ++ x ∷ []))
+scanned_more v u w ks xs k x long to next =
+    let one = scans v (k ∷ []) (x ∷ []) in
+    let same : scans u (k ∷ []) (x ∷ []) ≡ one =
+    scans_same u v k x (ap (λ (y : View). y.held) to ∙ scans_keep (λ (y : View). y.held) (λ _ _. refl) (λ _ _ _. refl) v v ks xs)
+    (ap (λ (y : View). y.fixed) to ∙ scans_keep (λ (y : View). y.fixed) (λ _ _. refl) (λ _ _ _. refl) v v ks xs)
+    (ap (λ (y : View). y.size) to ∙ scans_keep (λ (y : View). y.size) (λ _ _. refl) (λ _ _ _. refl) v v ks xs) in
+    next ∙ (ap (after u) same ∙ (ap (λ (y : View). after y one) to ∙ (sym (after_append v (scans v ks xs) one) ∙ ap (after v) (sym (scans_more v ks xs k x long)))))
 
 pub in_front : {A : Type 0} (x : A) (xs ys : List A) → In x xs → In x (xs ++ ys)
 in_front x [] ys i = absurd (in_none x i)
@@ -50,16 +92,37 @@ pub in_back : {A : Type 0} (x : A) (xs ys : List A) → In x ys → In x (xs ++ 
 in_back x [] ys i = i
 in_back x (y ∷ xs) ys i = in_later x y (xs ++ ys) (in_back x xs ys i)
 
--- what is scanned stays scanned, and each slot of the list is
-scans_stay : (v : View) (ks : List ℕ) (k : ℕ) → In k v.cycle.scanned → In k (after v (scans ks)).cycle.scanned
-scans_stay v [] k i = i
-scans_stay v (q ∷ ks) k i = scans_stay (view_after v (Scan q)) ks k (in_front k v.cycle.scanned (q ∷ []) i)
+-- what is scanned stays scanned, and each slot of the list that is held is
+scans_stay : (u v : View) (ks xs : List ℕ) (k : ℕ) → In k u.cycle.scanned → In k (after u (scans v ks xs)).cycle.scanned
+scans_stay u v ks xs k = scans_leave (λ y. In k y.cycle.scanned) (λ y q i. in_front k y.cycle.scanned (q ∷ []) i) (λ y q x i. i) u v ks xs
 
-pub scans_all : (v : View) (ks : List ℕ) (k : ℕ) → In k ks → In k (after v (scans ks)).cycle.scanned
-scans_all v [] k i = absurd (in_none k i)
-scans_all v (q ∷ ks) k i = ⊎_elim
-    (λ (e : q ≡ k). scans_stay (view_after v (Scan q)) ks k (subst (λ (j : ℕ). In j (v.cycle.scanned ++ q ∷ [])) e (in_back q v.cycle.scanned (q ∷ []) (0, refl))))
-    (λ (j : In k ks). scans_all (view_after v (Scan q)) ks k j) (in_cases k q ks i)
+scan_first : (u v : View) (ks xs : List ℕ) (k x : ℕ) → (nat_lt k v.size.slots) ≡ true → (has_slot k v.held || has_slot k v.fixed) ≡ true → In k (after u (scans v (k ∷ ks) (x ∷ xs))).cycle.scanned
+scan_first u v ks xs k x low held =
+    subst (λ (b : Bool). In k (after u (if b then touch v k x ∷ scans v ks xs else scans v ks xs)).cycle.scanned) (sym low)
+    (subst (λ (b : Bool). In k (after (view_after u (if b then Scan k else Protect k x)) (scans v ks xs)).cycle.scanned) (sym held)
+    (scans_stay (view_after u (Scan k)) v ks xs k (in_back k u.cycle.scanned (k ∷ []) (0, refl))))
+
+scan_later : (b : Bool) (m : Kind) (ms : List Kind) (u : View) (k : ℕ) → ((y : View) → In k (after y ms).cycle.scanned) → In k (after u (if b then m ∷ ms else ms)).cycle.scanned
+scan_later true m ms u k rest = rest (view_after u m)
+scan_later false m ms u k rest = rest u
+
+pub scans_all : (u v : View) (ks xs : List ℕ) (k : ℕ) → length xs ≡ length ks → In k ks → nat_lt k v.size.slots ≡ true → (has_slot k v.held || has_slot k v.fixed) ≡ true → In k (after u (scans v ks xs)).cycle.scanned
+scans_all u v [] xs k long i low held = absurd (in_none k i)
+scans_all u v (q ∷ ks) [] k long i low held = absurd (omega (arith, long))
+scans_all u v (q ∷ ks) (x ∷ xs) k long i low held = ⊎_elim
+    (λ (e : q ≡ k). subst (λ (j : ℕ). In k (after u (scans v (j ∷ ks) (x ∷ xs))).cycle.scanned) (sym e) (scan_first u v ks xs k x low held))
+    (λ (j : In k ks). scan_later (nat_lt q v.size.slots) (touch v q x) (scans v ks xs) u k (λ y. scans_all y v ks xs k (omega (arith, long)) j low held)) (in_cases k q ks i)
+
+-- a slot that is held is found among those held
+pub slot_found : (h : Held) (hs : List Held) → In h hs → has_slot h.slot hs ≡ true
+slot_found h [] i = absurd (in_none h i)
+slot_found h (g ∷ hs) i = ⊎_elim
+    (λ (e : g ≡ h). ap (λ (b : Bool). b || has_slot h.slot hs) (eq-eqb g.slot h.slot (ap (λ (x : Held). x.slot) e)))
+    (λ (j : In h hs). ap (λ (b : Bool). (g.slot == h.slot) || b) (slot_found h hs j) ∙ or_right_true (g.slot == h.slot)) (in_cases h g hs i)
+  where
+    or_right_true : (b : Bool) → (b || true) ≡ true
+    or_right_true true = refl
+    or_right_true false = refl
 
 -- THE SLOTS THAT ARE HELD ON
 any_in : (live : List ℕ) (n : ℕ) → list_any (λ k. k == n) live ≡ true → In n live
@@ -91,14 +154,6 @@ live_those live (b ∷ hs) a i l = elim (cases_Bool (list_any (λ k. k == b.slot
   | inr e ↦ subst (In a) (sym (ap (λ (t : Bool). if t then b ∷ those live hs else those live hs) e))
       (⊎_elim (λ (is : b ≡ a). absurd (let t : list_any (λ k. k == b.slot) live ≡ true = in_any live b.slot (subst (λ (x : Held). In x.slot live) (sym is) l) in let no : true ≡ false = sym t ∙ e in cc)) (λ (j : In a hs). live_those live hs a j l) (in_cases a b hs i))
 ]
-
--- a slot of the list that the seat held, or that is fixed, is so still
-pub has_marked : (live : List ℕ) (v u : View) (x k : ℕ) → u ≡ after v (Mark x (those live v.held) ∷ []) → In k live → (h : Held) × Has v h × (h.slot ≡ k) → (h : Held) × Has u h × (h.slot ≡ k)
-has_marked live v u x k is l q = (
-  q.0,
-  ⊎_elim (λ (i : In q.0 v.held). inl (subst (In q.0) (sym (ap (λ (y : View). y.held) is)) (live_those live v.held q.0 i (subst (λ (j : ℕ). In j live) (sym q.2) l)))) (λ (i : In q.0 v.fixed). inr (subst (In q.0) (sym (ap (λ (y : View). y.fixed) is)) i)) q.1,
-  q.2,
-)
 
 -- A SEAT THAT HOLDS ON TO SOME SLOTS
 pub sits_cut : (words : Words) (live : List ℕ) (s r : AtomSeat) → Same s r → (seen r).held ≡ those live (seen s).held → (seen r).fixed ≡ (seen s).fixed → (seen r).size ≡ (seen s).size → (seen r).gone ≡ (seen s).gone → (seen r).own ≡ (seen s).own

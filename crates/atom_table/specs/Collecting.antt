@@ -1,15 +1,16 @@
 -- What the calls of a cycle of collection say.
-use Rattle.std.specs.Prelude.{◌≡◌, ◌≢◌, ℕ, ◌+◌, ◌-◌, ◌<◌, ◌≤◌, Bool, true, false, List, [], ◌∷◌, ◌++◌, length, Option, Some, None, Ok}
+use Rattle.std.specs.Prelude.{◌≡◌, ◌≢◌, ℕ, ◌+◌, ◌-◌, ◌<◌, ◌≤◌, Bool, true, false, List, [], ◌∷◌, ◌++◌, length, Option, Some, None, Ok, nat_lt, if◌then◌else◌}
 use Rattle.std.specs.Option.{is_some}
 use Rattle.atom_words.specs.Layout.{phase_of, epoch_of}
 use Rattle.atom_words.specs.Chains.{In}
-use Rattle.atom_words.specs.Kinds.{after}
+use Rattle.atom_words.specs.Kinds.{after, view_after}
 use Rattle.atom_words.specs.Seats.{Has}
 use Rattle.atom_words.specs.declared.view.Held.{Held}
 use Rattle.atom_words.specs.declared.view.Sweeping.{Sweeping}
 use Rattle.atom_words.specs.declared.view.View.{View}
 use Rattle.atom_words.specs.declared.kind.Kind.{Kind}
-use Rattle.atom_words.specs.declared.kind.Kind.TheVariants.{Load, Mark, Scan, Ack, End}
+use Rattle.atom_words.specs.declared.kind.Kind.TheVariants.{Load, Mark, Ack, End}
+use Rattle.bucket_rows.specs.Touches.{touch}
 use Rattle.bucket_rows.specs.Cycles.{Marks, Unmarked, BeginsBy, last_epoch}
 use Rattle.bucket_rows.specs.declared.slots.Verdict.{Verdict}
 use Rattle.bucket_rows.specs.Sweeps.{all_left_valid, Run}
@@ -22,18 +23,18 @@ use Rattle.atom_table.specs.declared.collecting.Turn.TheVariants.{Began, Running
 use Rattle.atom_table.specs.declared.sweeping.Swept.{Swept}
 use Rattle.atom_table.specs.declared.sweeping.Swept.TheVariants.{At, Done}
 
--- one scan for each slot of the list
-abbrev pub scans : List ℕ → List Kind
-scans [] = []
-scans (k ∷ ks) = Scan k ∷ scans ks
+-- one step for each slot of the list that the table has: a slot that is held, or a fixed one, is scanned, and another is protected; the words that were found come with it
+abbrev pub scans : View → List ℕ → List ℕ → List Kind
+scans v [] xs = []
+scans v (k ∷ ks) [] = []
+scans v (k ∷ ks) (x ∷ xs) = if nat_lt k v.size.slots then touch v k x ∷ scans v ks xs else scans v ks xs
 
--- the seat holds each atom of the list, or it is fixed
-abbrev pub AllHeld : List ℕ → View → Type 0
-AllHeld live v = (k : ℕ) → In k live → (h : Held) × Has v h × (h.slot ≡ k)
+-- THE STEPS OF TAKING PART IN A CYCLE: the epoch word is read. Where the cycle marks, and the engine has not acknowledged it, only the atoms of the list are held on, of those held, each of the list is marked, and the epoch is acknowledged
+abbrev pub marking : ℕ → List ℕ → View → View
+marking x live v = view_after v (Mark x (those live v.held))
 
--- THE STEPS OF TAKING PART IN A CYCLE: the epoch word is read. Where the cycle marks, and the engine has not acknowledged it, only the atoms of the list are held on, each of the list is scanned, and the epoch is acknowledged
 abbrev pub AcksBy : List ℕ → View → Marked → View → Type 0
-AcksBy live v (Acked e) w = (x : ℕ) × Marks v x × (e ≡ epoch_of x) × (w ≡ after v (Mark x (those live v.held) ∷ (scans live ++ Ack ∷ [])))
+AcksBy live v (Acked e) w = (x : ℕ) × (xs : List ℕ) × Marks v x × (e ≡ epoch_of x) × (length xs ≡ length live) × (w ≡ after (marking x live v) (scans (marking x live v) live xs ++ Ack ∷ []))
 AcksBy live v (NoCycle x) w = Unmarked v x × (w ≡ after v (Load 0 x ∷ []))
 
 -- what is held after that: just the atoms of the list and the fixed ones, where the epoch was acknowledged, or what was held before

@@ -1,6 +1,5 @@
 //! Atoms over the table and one seat.
-ghost use Rattle.std.specs.Prelude.{◌≡◌, ◌<◌, ℕ, true, false, List, [], ◌∷◌, Some, IsSome};
-ghost use Rattle.std.specs.List.{All};
+ghost use Rattle.std.specs.Prelude.{◌≡◌, ◌<◌, ℕ, true, false, List, [], ◌∷◌, Some};
 ghost use Rattle.pl_term.specs.Tree.{Chars};
 ghost use Rattle.atom_words.specs.Kinds.{view_after, after};
 ghost use Rattle.atom_words.specs.Chains.{In};
@@ -82,11 +81,11 @@ impl<'a, K: NamesTable> TableAtoms<'a, K> {
         self.seat
     }
 
-    /// The engine takes part in a cycle of collection with the atoms of the list, each of which it holds. Where a cycle marks
-    /// that it has not acknowledged, it marks each of them and acknowledges, after which it holds just those and the fixed
-    /// atoms. Else nothing is changed. It takes no memory, and makes at most two steps more than the list is long.
+    /// The engine takes part in a cycle of collection with the atoms of the list. Where a cycle marks that it has not
+    /// acknowledged, it marks each of them and acknowledges, after which it holds just those that it held and the fixed atoms:
+    /// an atom of the list that it does not hold keeps its slot through this cycle. Else nothing is changed. It takes no
+    /// memory, and makes at most two steps more than the list is long.
     pub fn acknowledge(&mut self, live: &[Atom]) -> Marked
-        requires held { All (λ a. IsSome (names (seen self.old.seat) a)) live.now }
         ensures same { Same self.old.seat self.new.seat }
         ensures names { HoldsAfter live.now (names (seen self.old.seat)) result (names (seen self.new.seat)) }
         ensures refusals { (seen self.new.seat).refusals ≡ (seen self.old.seat).refusals }

@@ -1,5 +1,7 @@
 -- Each raw step of a cycle is of its kind.
-use Rattle.std.proofs.Common.{◌≡◌, ◌≢◌, ◌⊎◌, ℕ, ◌+◌, ◌-◌, ◌<◌, false, List, get_or, bit_or, refl, sym, ap, ◌∙◌, subst, inl, inr, arith, Some}
+use Rattle.std.proofs.Common.{◌≡◌, ◌≢◌, ◌⊎◌, ℕ, ◌+◌, ◌-◌, ◌<◌, Bool, true, false, List, [], ◌∷◌, get_or, bit_or, refl, sym, ap, ◌∙◌, subst, inl, inr, ⊎_elim, arith, Some}
+use Rattle.std.specs.Prelude.{◌==◌, ◌||◌, if◌then◌else◌}
+use Rattle.std.proofs.lemmas.Bool.{cases_Bool, eqb-true}
 use mathlib.Core.Logic.{dite}
 use mathlib.Core.Option.{none, some}
 use native.Mathlib.Decide.{ℕ_discrete, dec_lt}
@@ -8,7 +10,7 @@ use Rattle.atomic_table.specs.Table.{step, Allows}
 use Rattle.atom_words.specs.Layout.{epoch_word, phase_of, epoch_of}
 use Rattle.atom_words.specs.Board.{Board, atom, atom_at, ack_at, with_atom}
 use Rattle.atom_words.specs.Chains.{In}
-use Rattle.atom_words.specs.Kinds.{Scanning, view_after}
+use Rattle.atom_words.specs.Kinds.{Does, Scanning, marked, view_after}
 use Rattle.atom_words.specs.Rule.{Rule}
 use Rattle.atom_words.specs.Kept.{Kept}
 use Rattle.atom_words.specs.declared.size.Size.{Size}
@@ -16,12 +18,26 @@ use Rattle.atom_words.specs.declared.view.Held.{Held}
 use Rattle.atom_words.specs.declared.view.Sweeping.{Sweeping}
 use Rattle.atom_words.specs.declared.view.Growing.{Growing}
 use Rattle.atom_words.specs.declared.view.View.{View}
-use Rattle.atom_words.specs.declared.kind.Kind.TheVariants.{Load, Begin, Mark, Scan, Ack, Check, ToSweep}
-use Rattle.atom_words.proofs.Slices.{some_same}
+use Rattle.atom_words.specs.declared.kind.Kind.TheVariants.{Load, Protect, Begin, Mark, Scan, Ack, Check, ToSweep}
+use Rattle.atom_words.proofs.Slices.{some_same, in_later, or_true}
 use Rattle.atom_words.proofs.Steps.{or_mark}
 use Rattle.atom_words.proofs.Adapters.{Sat, atom_goes, epoch_load, row_load}
+use Rattle.bucket_rows.specs.Touches.{has_slot, touch}
 use Rattle.bucket_rows.specs.Plays.{row_read, word_known, begun, mark_read, scanned, acknowledged, engine_checked, turned}
 use Rattle.bucket_rows.proofs.Words.{epoch_goes, ack_goes, ack_load, ack_read}
+
+-- The kind of step with which a slot is marked is one that the rule allows.
+in_slots : (k : ℕ) (hs : List Held) → has_slot k hs ≡ true → (a : Held) × In a hs × (a.slot ≡ k)
+in_slots k [] e = absurd cc
+in_slots k (h ∷ hs) e = ⊎_elim (λ (t : (h.slot == k) ≡ true). (h, (0, refl), eqb-true h.slot k t)) (λ (t : has_slot k hs ≡ true). let a = in_slots k hs t in (a.0, in_later a.0 h hs a.1, a.2)) (or_true (h.slot == k) (has_slot k hs) e)
+
+touched : (z : Size) (b : Board) (v : View) (k : ℕ) (b' : Board) → k < z.slots → Scanning v → b' ≡ with_atom b k (marked (atom b k)) → Does z b v (touch v k (atom b k)) b'
+touched z b v k b' low scans is = elim (cases_Bool (has_slot k v.held || has_slot k v.fixed)) [
+  | inl t ↦ subst (λ (o : Bool). Does z b v (if o then Scan k else Protect k (atom b k)) b') (sym t) (⊎_elim
+      (λ (e : has_slot k v.held ≡ true). let a = in_slots k v.held e in (scans, a.0, inl a.1, a.2, is))
+      (λ (e : has_slot k v.fixed ≡ true). let a = in_slots k v.fixed e in (scans, a.0, inr a.1, a.2, is)) (or_true (has_slot k v.held) (has_slot k v.fixed) t))
+  | inr f ↦ subst (λ (o : Bool). Does z b v (if o then Scan k else Protect k (atom b k)) b') (sym f) (low, refl, is)
+]
 
 module _ (key : Size) (slots id : ℕ) (me : Sat) (is : key ≡ me.0.size) (here : me.0.gone ≡ false) where
   -- the epoch word is the one that the collector knows
@@ -52,11 +68,10 @@ module _ (key : Size) (slots id : ℕ) (me : Sat) (is : key ≡ me.0.size) (here
       (λ early. (Load 0 b.epoch, (refl, refl), (refl, room, (λ marks. absurd (early marks.1)), λ _. (inr (omega arith), refl)))))
       (λ other. (Load 0 b.epoch, (refl, refl), (refl, room, (λ marks. absurd (other marks.0)), λ _. (inl other, refl)))))
 
-  pub scanning : (i k : ℕ) (a : Held) → i ≡ atom_at me.0.size k → k < me.0.size.slots → Scanning me.0 → In a me.0.held ⊎ In a me.0.fixed → a.slot ≡ k
-      → Allows (Rule key) slots id me i (λ n. bit_or n 4) (scanned (step slots i 4 0 none) me)
-  scanning i k a at inside scans ours slot = subst (λ (w : ℕ). Allows (Rule key) slots id me w (λ n. bit_or n 4) (scanned (step slots w 4 0 none) me)) (sym at)
+  pub scanning : (i k : ℕ) → i ≡ atom_at me.0.size k → k < me.0.size.slots → Scanning me.0 → Allows (Rule key) slots id me i (λ n. bit_or n 4) (scanned (step slots i 4 0 none) me)
+  scanning i k at inside scans = subst (λ (w : ℕ). Allows (Rule key) slots id me w (λ n. bit_or n 4) (scanned (step slots w 4 0 none) me)) (sym at)
       (atom_goes key me.0.size slots id me k (λ n. bit_or n 4) (scanned (step slots (atom_at me.0.size k) 4 0 none) me) is here inside
-      (λ b vs r seen small. (Scan k, (scans, a, ours, slot, ap (with_atom b k) (or_mark (atom b k))), (refl, λ j e. let same : k ≡ j = omega arith in ap (λ (x : ℕ). view_after me.0 (Scan x)) same))))
+      (λ b vs r seen small. (touch me.0 k (atom b k), touched me.0.size b me.0 k (with_atom b k (bit_or (atom b k) 4)) inside scans (ap (with_atom b k) (or_mark (atom b k))), (refl, λ j e. let same : k ≡ j = omega arith in ap (λ (x : ℕ). view_after me.0 (touch me.0 x (atom b k))) same))))
 
   pub acking : (i x : ℕ) → Scanning me.0 → ((a : Held) → In a me.0.held → In a.slot me.0.cycle.scanned) → me.0.cycle.engine - 1 < me.0.size.engines → i ≡ ack_at me.0.size (me.0.cycle.engine - 1) → x ≡ me.0.cycle.scanned_at
       → Allows (Rule key) slots id me i (λ _. x) (λ _. acknowledged (step slots i x 0 none) me x)

@@ -9,3 +9,4 @@ pub mod TwoCycles
 pub mod RowPlays
 pub mod RowChanges
 pub mod RowLaws
+pub mod Touches

@@ -11,6 +11,7 @@ use Rattle.atom_words.specs.declared.view.View.{View}
 use Rattle.atom_words.specs.declared.kind.Kind.TheVariants.{Load, Protect, Begin, Mark, Scan, Ack, Check, ToSweep, Start, Next, Look, Spell, Condemn, PassOver, Behind, UnlinkAt, UnlinkHead, Note, Bump, Past, Free, End}
 use Rattle.bucket_rows.specs.Cycles.{Marks, Unmarked}
 use Rattle.bucket_rows.specs.Treads.{Ahead}
+use Rattle.bucket_rows.specs.Touches.{touch}
 
 abbrev Sat : Type 0
 Sat = Me (Unit {0}) View
@@ -29,9 +30,9 @@ begun st m r m' = Is Begin m m'
 abbrev pub mark_read : List Held → At → Sat → ℕ → Sat → Type 0
 mark_read those st m r m' = (m'.1 ≡ m.1) × (m.0.cycle.engine ≤ m.0.size.engines) × (Marks m.0 r → m'.0 ≡ view_after m.0 (Mark r those)) × ((Marks m.0 r → ⊥) → Unmarked m.0 r × (m'.0 ≡ view_after m.0 (Load st.word r)))
 
--- a slot that is held, or a fixed atom, is marked
+-- a slot is marked: as one that is held, or a fixed one, or as any other
 abbrev pub scanned : At → Sat → ℕ → Sat → Type 0
-scanned st m r m' = (m'.1 ≡ m.1) × ((k : ℕ) → st.word ≡ atom_at m.0.size k → m'.0 ≡ view_after m.0 (Scan k))
+scanned st m r m' = (m'.1 ≡ m.1) × ((k : ℕ) → st.word ≡ atom_at m.0.size k → m'.0 ≡ view_after m.0 (touch m.0 k r))
 
 abbrev pub acknowledged : At → Sat → ℕ → Sat → Type 0
 acknowledged st m r m' = Is Ack m m'

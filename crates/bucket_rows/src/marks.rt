@@ -5,6 +5,7 @@ ghost use Rattle.atom_words.specs.Kinds.{Scanning as IsScanning, after};
 ghost use Rattle.atom_words.specs.Seats.{seen, Fits, Same, Has};
 ghost use Rattle.atom_words.specs.declared.view.Held.{Held};
 ghost use Rattle.atom_words.specs.declared.kind.Kind.TheVariants.{Scan, Ack};
+ghost use Rattle.bucket_rows.specs.Touches.{touch};
 ghost use Rattle.bucket_rows.specs.Cycles.{MarksBy};
 
 use crate::plays::{Acknowledging, Marking, Scanning};
@@ -32,20 +33,20 @@ pub fn mark<K: Keeps>(words: &Words, seat: &mut AtomSeat, _live: &[Atom]) -> Res
     }
 }
 
-/// Sets the mark of an atom that the seat holds, or of a fixed atom, by one exchange. The seat's engine is to scan.
-pub fn scan(words: &Words, seat: &mut AtomSeat, a: Atom)
+/// Sets the mark of an atom by one exchange, and answers the word that was found. It scans an atom that the seat holds, or a
+/// fixed one, and protects any other. The seat's engine is to scan.
+pub fn scan(words: &Words, seat: &mut AtomSeat, a: Atom) -> u64
     requires fits { Fits words.now seat.old }
     requires scanning { IsScanning (seen seat.old) }
     requires slot { a < words.now.size.slots }
-    requires held { (h : Held) × Has (seen seat.old) h × (h.slot ≡ a) }
     ensures same { Same seat.old seat.new }
-    ensures steps { seen seat.new ≡ after (seen seat.old) (Scan a ∷ []) }
+    ensures steps { seen seat.new ≡ after (seen seat.old) (touch (seen seat.old) a result ∷ []) }
 {
     let place = words.atom_place(a.slot());
     words
         .table
         .shared
-        .fetch_or::<Scanning>(&mut seat.seat, place, 4);
+        .fetch_or::<Scanning>(&mut seat.seat, place, 4)
 }
 
 /// Acknowledges the epoch in which the seat's engine scans. It has scanned every slot that it holds.

@@ -42,7 +42,7 @@ impl<K: Keeps> Play<(), View> for Marking<K> {
     ghost then = { mark_read K.those };
 }
 
-/// The exchange that sets the mark of a slot that is held, or of a fixed atom.
+/// The exchange with which an engine that scans sets the mark of a slot.
 pub struct Scanning;
 
 impl Play<(), View> for Scanning {

@@ -11,12 +11,5 @@ use Rattle.atom_table.proofs.cycling.mark_one.Goals as goal
 pub mark_and_ack-requires-clause-engine : goal.mark_and_ack-requires-clause-engine
 mark_and_ack-requires-clause-engine c = let rest = c.intern.ensures.rest in ((λ none. c.requires.engine.0 (sym (ap (λ (y : Cycling). y.engine) rest.cycle) ∙ none)), rest.sweep ∙ c.requires.engine.1)
 
-pub mark_and_ack-requires-clause-held : goal.mark_and_ack-requires-clause-held
-mark_and_ack-requires-clause-held c = λ k i. let h : Held = record { slot = c.in-Is.a; text = spelled c.args.text.now } in (
-  h,
-  inl (subst (In h) (sym c.in-Is.ensures.answer.2.1) (in_back h (seen c.args.seat.now).held (h ∷ []) (0, refl))),
-  ⊎_elim (λ (e : c.in-Is.a ≡ k). e) (λ (none : In k []). absurd (in_none k none)) (in_cases k c.in-Is.a [] i),
-)
-
 pub returns-in-Is-clause-walking : goal.returns-in-Is-clause-walking
 returns-in-Is-clause-walking c = (inl c.mark_and_ack.ensures.engine.0, c.mark_and_ack.ensures.engine.1)

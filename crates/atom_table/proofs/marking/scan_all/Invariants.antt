@@ -1,4 +1,4 @@
-use Rattle.std.proofs.Common.{◌≡◌, take}
+use Rattle.std.proofs.Common.{◌≡◌, ℕ, List, length, take}
 use Rattle.atom_words.specs.Kinds.{after}
 use Rattle.atom_words.specs.Seats.{seen, Same}
 use Rattle.atom_table.specs.Collecting.{scans}
@@ -7,5 +7,5 @@ use Rattle.atom_table.proofs.marking.scan_all.Given as goal
 abbrev pub invariant-loop-a : goal.invariant-loop-a
 invariant-loop-a l = record {
   same : Same l.initial.seat l.seat;
-  view : seen l.seat ≡ after (seen l.initial.seat) (scans (take l.a-index l.live));
+  view : (xs : List ℕ) × (length xs ≡ l.a-index) × (seen l.seat ≡ after (seen l.initial.seat) (scans (seen l.initial.seat) (take l.a-index l.live) xs));
 }
