@@ -39,11 +39,11 @@ use op_table::OpTable;
 use pl_model::ends::How;
 use pl_model::grammar::Quotes;
 use pl_term::{Flat, Memory, Text};
-use script_api::{Next, Script};
+use script_api::{Living, Next, Script};
 use std::alloc::Global;
 use std::mem;
 use std::sync::Arc;
-use term_store::Stored;
+use term_store::{AtomSet, Stored};
 use word_board::{Board, GoalWord, Words};
 use world_api::World;
 
@@ -550,6 +550,13 @@ impl<'a> Script for FileScript<'a> {
             },
             _ => Next::Memory,
         }
+    }
+}
+
+impl<'a> Living for FileScript<'a> {
+    /// What it has of the file and of the words has texts of its own, and names no atom.
+    fn live_in(&self, _live: &mut AtomSet) -> Result<(), Memory> {
+        Ok(())
     }
 }
 

@@ -27,3 +27,10 @@ pub record Waited (m : Names) (t : Told) (n : Names) (u : Told) : Type 0 where
   pub goals : u.goals ≡ t.goals
   pub gens : u.gens ≡ t.gens
   pub follows : Follows t.engine t.history u.history
+
+-- The texts of these atoms are held on, and no others are held that were not.
+pub record IsKept (m n : Names) (xs : List ℕ) : Type 0 where
+  pub can : CanHold m
+  pub still : CanHold n
+  pub fewer : Holds n m
+  pub same : (a : ℕ) → Contains xs a → n a ≡ m a

@@ -1,8 +1,10 @@
 //! One of two scripts.
+use crate::living::Living;
 use crate::script::{Next, Script};
 use named_terms::NamedTerm;
 use pl_model::ends::How;
-use pl_term::Text;
+use pl_term::{Memory, Text};
+use term_store::AtomSet;
 use world_api::World;
 
 /// One of two scripts over the same terms: engines of one type run the file, or a goal that they were started with.
@@ -67,6 +69,15 @@ impl<A: Script + Drop, B: Script<Term = A::Term> + Drop> Script for Either<A, B>
         match self {
             Either::First(script) => script.next(ended, world, atoms, text, moves),
             Either::Second(script) => script.next(ended, world, atoms, text, moves),
+        }
+    }
+}
+
+impl<A: Living + Drop, B: Living + Script<Term = A::Term> + Drop> Living for Either<A, B> {
+    fn live_in(&self, live: &mut AtomSet) -> Result<(), Memory> {
+        match self {
+            Either::First(script) => script.live_in(live),
+            Either::Second(script) => script.live_in(live),
         }
     }
 }

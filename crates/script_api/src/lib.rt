@@ -3,6 +3,7 @@
 
 mod either;
 mod from_goal;
+mod living;
 mod named_once;
 mod once;
 mod resident;
@@ -11,6 +12,7 @@ pub mod ways;
 
 pub use either::Either;
 pub use from_goal::FromGoal;
+pub use living::Living;
 pub use named_once::NamedOnce;
 pub use once::Once;
 pub use resident::{Resident, Roots};

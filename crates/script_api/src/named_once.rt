@@ -3,11 +3,13 @@ ghost use Rattle.std.specs.Prelude.{◌≡◌};
 ghost use Rattle.script_api.specs.declared.once.Stage.TheVariants.{Fresh};
 ghost use Rattle.script_api.specs.WordNames.{names_at};
 
+use crate::living::Living;
 use crate::once::Once;
 use crate::script::{Next, Script};
 use named_terms::NamedTerm;
 use pl_model::ends::How;
-use pl_term::Text;
+use pl_term::{Memory, Text};
+use term_store::{AtomSet, Stored};
 use word_board::{GoalWord, Words};
 use world_api::{Named, World};
 
@@ -106,5 +108,11 @@ impl<'w, T: Named + Drop> Script for NamedOnce<'w, T> {
         moves: &mut u64,
     ) -> Next<T> {
         self.once.next(ended, world, atoms, text, moves)
+    }
+}
+
+impl<'w> Living for NamedOnce<'w, Stored> {
+    fn live_in(&self, live: &mut AtomSet) -> Result<(), Memory> {
+        self.once.live_in(live)
     }
 }

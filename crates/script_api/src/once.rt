@@ -7,11 +7,13 @@ ghost use Rattle.script_api.specs.Scripts.{IsLater, next_refusals};
 ghost use Rattle.script_api.specs.declared.once.Stage.TheVariants.{Fresh};
 ghost use Rattle.script_api.specs.OnceGiven.{TakenUp, moves_by};
 
+use crate::living::{Living, name_term};
 use crate::script::{Next, Script};
 use named_terms::NamedTerm;
 use pl_model::ends::How;
-use pl_term::Text;
+use pl_term::{Memory, Text};
 use std::mem;
+use term_store::{AtomSet, Stored};
 use world_api::{Answer, Named, Visit, World};
 
 /// How far a script of one goal has come.
@@ -106,6 +108,16 @@ impl<T: Named + Drop> Script for Once<T> {
                 Next::Done { halted: None }
             }
             Stage::Over => unreachable!(),
+        }
+    }
+}
+
+impl Living for Once<Stored> {
+    fn live_in(&self, live: &mut AtomSet) -> Result<(), Memory> {
+        match &self.stage {
+            Stage::Fresh(goal) => name_term(goal, live),
+            Stage::AtHand => Ok(()),
+            Stage::Over => Ok(()),
         }
     }
 }

@@ -1,15 +1,14 @@
 //! The traits of what stands for an engine between two slices.
-ghost use Rattle.std.specs.Prelude.{◌≡◌, ◌≤◌, ℕ, Bool, false, IfOk, List};
-ghost use Rattle.std.specs.List.{All, Contains};
+ghost use Rattle.std.specs.Prelude.{◌≡◌, ℕ, Bool, false, OnOk, List};
 ghost use Rattle.run_model.specs.Execution.{Job, Execution};
 ghost use Rattle.run_model.specs.Lawful.{IsRunning};
 ghost use Rattle.atom_api.specs.Names.{Names};
+ghost use Rattle.term_store.specs.Live.{Gathers};
 ghost use Rattle.world_api.specs.Told.{Told};
-ghost use Rattle.script_api.specs.Residents.{IsLeast, Waited};
+ghost use Rattle.script_api.specs.Residents.{IsKept, IsLeast, Waited};
 
-use atom_api::Atom;
 use pl_term::Memory;
-use std::alloc::Global;
+use term_store::AtomSet;
 
 /// An engine between two slices.
 pub trait Resident {
@@ -38,19 +37,22 @@ pub trait Resident {
 }
 
 /// What an engine keeps in use of the atoms and of the clauses.
-pub trait Roots {
+pub trait Roots: Resident {
     // The atoms that it names.
     ghost names: { Self → List ℕ };
 
     // The generations of calls that have clauses left.
     ghost open_at: { Self → List ℕ };
 
-    /// The atoms that it names, and no others. The only error is that memory is exhausted.
-    fn live(&self, alloc: Global) -> Result<Vec<Atom>, Memory>
-        ensures all { IfOk result (λ atoms. (a : ℕ) → Contains (names self.now) a → Contains atoms.items a) }
-        ensures only { IfOk result (λ atoms. (a : ℕ) → Contains atoms.items a → Contains (names self.now) a) };
+    /// Puts the atoms that it names to those of a set. The only error is out of memory.
+    fn live_in(&self, live: &mut AtomSet) -> Result<(), Memory>
+        ensures { OnOk result (Gathers (names self.now) live.old live.new) };
 
     /// The oldest of the generations that it has open, or none.
     fn oldest_open(&self) -> Option<u64>
         ensures { IsLeast result (open_at self.now) };
+
+    // It stands for the same execution where just the texts of the atoms that it names are held on.
+    ghost kept: { (m n : Names) (t : Told) (e : Self) → IsKept m n (names e) → Self.ready m t e
+        → Self.ready n t e × ((job : Job) (x : Execution) → Self.stands m t e job x → Self.stands n t e job x) };
 }
