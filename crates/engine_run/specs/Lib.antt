@@ -2,6 +2,8 @@ pub mod Answered
 pub mod Endings
 pub mod Items
 pub mod Ran
+pub mod RootLaws
+pub mod Roots
 pub mod RunnerLaws
 pub mod Runners
 pub mod Searched

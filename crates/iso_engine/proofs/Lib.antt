@@ -95,3 +95,8 @@ pub mod OwnSteps
 pub mod Unified
 pub mod Walks
 pub mod Writings
+pub mod LiveNames
+pub mod LiveSeen
+pub mod LiveSearch
+pub mod LiveDoing
+pub mod LiveKept

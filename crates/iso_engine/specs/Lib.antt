@@ -16,10 +16,12 @@ pub mod Failing
 pub mod Finding
 pub mod Following
 pub mod GoalSteps
+pub mod Kept
 pub mod Leading
 pub mod Leaving
 pub mod Lines
 pub mod Lists
+pub mod Live
 pub mod Looking
 pub mod OutputGoals
 pub mod Parts

@@ -14,6 +14,7 @@ pub mod findall;
 pub mod following;
 pub mod kinds;
 pub mod lines;
+pub mod live;
 pub mod looking;
 pub mod procedure;
 pub mod refused;
