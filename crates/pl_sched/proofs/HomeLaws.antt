@@ -38,7 +38,7 @@ use Rattle.pl_hub.specs.Ending.{IsOver}
 use Rattle.pl_hub.specs.Fronts.{IsOwn, told_of}
 use Rattle.pl_sched.specs.declared.mark.End.{End}
 use Rattle.pl_sched.specs.declared.mark.Mark.{Mark}
-use Rattle.pl_sched.specs.declared.mark.Mark.TheVariants.{Ready, Waits, Ended}
+use Rattle.pl_sched.specs.declared.mark.Mark.TheVariants.{Ready, Waits, ForCycles, Ended}
 use Rattle.pl_sched.proofs.EndIn.{ended_standing, first_in, none_in, still_none, waiting_standing}
 use Rattle.pl_sched.proofs.Running.{still_runs}
 use Rattle.run_model.specs.WholeRuns.{IsJob}
@@ -224,15 +224,18 @@ module _ {E : Type 0} (stands : Names → Told → E → Job → Execution → T
 pub own_home : (table : TableId) (e : ℕ) (k : Mark) (f : FrontState) → is_ended k ≡ false → IsFront table e k f → IsOwn table e f
 own_home table e Ready f is own = own
 own_home table e (Waits on g) f is own = own
+own_home table e (ForCycles s) f is own = own
 own_home table e (Ended end) f is own = absurd (cc)
 
 module _ {E : Type 0} (stands : Names → Told → E → Job → Execution → Type 0) (ready : Names → Told → E → Type 0) (moves : E → ℕ) (p : Program) (over : E → Bool) where
   pub way_home : (k : Mark) (m : Names) (t : Told) (x : E) → is_ended k ≡ false → IsMarked stands ready moves p over k m t x → IsUnderWay stands ready moves p m t x
   way_home Ready m t x is h = h.0
   way_home (Waits on g) m t x is h = h.0.way
+  way_home (ForCycles s) m t x is h = h.0
   way_home (Ended end) m t x is h = absurd (cc)
 
   pub goes_home : (k : Mark) (m : Names) (t : Told) (x : E) → is_ended k ≡ false → IsMarked stands ready moves p over k m t x → over x ≡ false
   goes_home Ready m t x is h = h.1
   goes_home (Waits on g) m t x is h = h.2
+  goes_home (ForCycles s) m t x is h = h.1
   goes_home (Ended end) m t x is h = absurd (cc)

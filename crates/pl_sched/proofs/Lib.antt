@@ -2,6 +2,7 @@ pub mod BeginLaws
 pub mod EndIn
 pub mod EndLaws
 pub mod HomeLaws
+pub mod KeptLaws
 pub mod LedgerLaws
 pub mod OnlyLaws
 pub mod Running

@@ -1,9 +1,10 @@
 -- A turn of an engine that a worker carries: what is known of it afterwards.
-use Rattle.std.proofs.Common.{◌≡◌, ℕ, List, length, Bool, true, false, Option, Result, Ok, Err, sym, subst, inl, ◌∙◌}
+use Rattle.std.proofs.Common.{◌≡◌, ℕ, List, length, Bool, true, false, Option, Result, Ok, Err, sym, subst, ◌⊎◌, inl, inr, ◌∙◌}
 use Rattle.std.specs.Prelude.{IfErr}
 use Rattle.pl_term.specs.Tree.{Chars, Tree}
 use Rattle.atomic_table.specs.Seated.{TableId}
 use Rattle.pl_model.specs.declared.ends.How.{How}
+use Rattle.pl_model.specs.declared.ends.SlotPass.{SlotPass}
 use Rattle.pl_model.specs.History.{History}
 use Rattle.run_model.specs.Execution.{Script, Job, Consulted, Execution}
 use Rattle.run_model.specs.Lawful.{Program}
@@ -147,6 +148,14 @@ module _ {S : Type 0} (execution : (ℕ → Chars) → S → Job → List Consul
     -- AN ENGINE THAT GOES ON is at home
     pub home_ready : HomeAfter (Ok Goes) → IsAtHome Stands Ready moves p over table goals e marks.Ready m f x
     home_ready h = record { front = h.own; marked = (h.way, h.over_is) }
+
+    -- so is one that has no place for an atom, or found none before and has made no step since
+    pub home_again : (s : SlotPass) → HomeAfter (Ok Goes) → IsAtHome Stands Ready moves p over table goals e (marks.ForCycles s) m f x
+    home_again s h = record { front = h.own; marked = (h.way, h.over_is) }
+
+    pub home_going : (k : Mark) → (k ≡ marks.Ready) ⊎ ((s : SlotPass) × (k ≡ marks.ForCycles s)) → HomeAfter (Ok Goes) → IsAtHome Stands Ready moves p over table goals e k m f x
+    home_going k (inl is) h = subst (λ (y : Mark). IsAtHome Stands Ready moves p over table goals e y m f x) (sym is) (home_ready h)
+    home_going k (inr is) h = subst (λ (y : Mark). IsAtHome Stands Ready moves p over table goals e y m f x) (sym is.1) (home_again is.0 h)
 
     -- so is one that waits
     pub home_waiting : (on : On) (at : ℕ) → HomeAfter (Err (Waits on at)) → IsAtHome Stands Ready moves p over table goals e (marks.Waits on at) m f x

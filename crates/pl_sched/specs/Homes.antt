@@ -1,5 +1,5 @@
 -- What is known of an engine at home.
-use Rattle.std.specs.Prelude.{◌≡◌, ◌⊎◌, ℕ, [], ◌∷◌, ◌++◌, Bool, true, false, Option, Some, None, IsSome, Contains, length}
+use Rattle.std.specs.Prelude.{◌≡◌, ◌⊎◌, ℕ, List, [], ◌∷◌, ◌++◌, Bool, true, false, Option, Some, None, IsSome, Contains, length}
 use Rattle.std.specs.Arc.{arc_value}
 use Rattle.std.specs.List.{All}
 use Rattle.std.specs.declared.alloc.Global.{Global}
@@ -33,7 +33,7 @@ use Rattle.pl_hub.specs.Fronts.{IsOwn, told_of}
 use Rattle.pl_hub.specs.Ending.{IsOver}
 use Rattle.pl_sched.specs.declared.mark.End.{End}
 use Rattle.pl_sched.specs.declared.mark.Mark.{Mark}
-use Rattle.pl_sched.specs.declared.mark.Mark.TheVariants.{Ready, Waits, Ended}
+use Rattle.pl_sched.specs.declared.mark.Mark.TheVariants.{Ready, Waits, ForCycles, Ended}
 
 -- the execution ends so, by itself or for want of atoms
 abbrev pub EndsAs : Program → Execution → How Tree → Type 0
@@ -45,13 +45,22 @@ EndsAs p x how =
 abbrev pub IsFront : TableId → ℕ → Mark → FrontState → Type 0
 IsFront table e Ready f = IsOwn table e f
 IsFront table e (Waits on g) f = IsOwn table e f
+IsFront table e (ForCycles s) f = IsOwn table e f
 IsFront table e (Ended end) f = IsOver table e f
 
 -- whether the mark says that it has ended
 abbrev pub is_ended : Mark → Bool
 is_ended Ready = false
 is_ended (Waits on g) = false
+is_ended (ForCycles s) = false
 is_ended (Ended end) = true
+
+-- the alias of what the mark says is waited on
+abbrev pub mark_names : Mark → List ℕ
+mark_names Ready = []
+mark_names (Waits on g) = on_names on
+mark_names (ForCycles s) = []
+mark_names (Ended end) = []
 
 -- THESE ARE THE OPERATORS and the flag double_quotes of the state after so many entries
 pub record IsStandingAt (goals : ℕ) (h : History) (g : ℕ) (ops : Arc OperatorTable Global) (quotes : Quotes) : Type 0 where
@@ -93,10 +102,11 @@ module _ {E : Type 0} (stands : Names → Told → E → Job → Execution → T
 
   -- `over` is whether the engine has answered how its execution has ended
   module _ (over : E → Bool) where
-    -- what its mark says of it: one that goes on or waits has not answered so
+    -- what its mark says of it: one that goes on, waits, or has no place for an atom has not answered so
     abbrev pub IsMarked : Mark → Names → Told → E → Type 0
     IsMarked Ready m t x = IsUnderWay m t x × (over x ≡ false)
     IsMarked (Waits on g) m t x = IsWaiting on m t x × (g ≡ length t.history) × (over x ≡ false)
+    IsMarked (ForCycles s) m t x = IsUnderWay m t x × (over x ≡ false)
     IsMarked (Ended end) m t x = HasEnded end m t x
 
     -- AN ENGINE AT HOME, with what its atoms hold and its front

@@ -14,7 +14,7 @@ use engine_run::{Lines, Runner};
 use iso_engine::engine::Stays;
 use pl_io::Gate;
 use pl_term::Memory;
-use script_api::Script;
+use script_api::{Living, Script};
 use std::sync::Wait;
 use term_store::Stored;
 
@@ -23,7 +23,7 @@ use term_store::Stored;
 pub(crate) fn begun<
     'a,
     't,
-    S: Script<Term = Stored> + Drop,
+    S: Living + Script<Term = Stored> + Drop,
     K: Command,
     R: Wait,
     G: Gate,

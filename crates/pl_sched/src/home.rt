@@ -1,18 +1,25 @@
 //! Engines at home.
-ghost use Rattle.std.specs.Prelude.{◌≡◌};
+ghost use Rattle.std.specs.Prelude.{◌≡◌, OnOk};
 ghost use Rattle.atom_words.specs.Seats.{seen};
 ghost use Rattle.atom_table.specs.Naming.{names};
-ghost use Rattle.pl_sched.specs.Homes.{IsAtHome, is_ended};
+ghost use Rattle.term_store.specs.Live.{Gathers};
+ghost use Rattle.world_api.specs.Answers.{alias_names, on_names};
+ghost use Rattle.pl_sched.specs.Homes.{IsAtHome, is_ended, mark_names};
 ghost use Rattle.pl_sched.specs.Written.{WritesSo};
 
 use crate::mark::Mark;
 use crate::naming::Command;
 use crate::over::Over;
+use crate::records::may_try_again;
 use crate::writing::Writes;
 use atom_api::Atoms;
 use atom_table::TableAtoms;
 use pl_history::Front;
+use pl_term::Memory;
+use std::alloc::Global;
 use std::marker::{Model, PhantomData};
+use term_store::AtomSet;
+use world_api::{Name, On};
 
 /// An engine that is at home, with its atoms and its front. Contracts see it as what its front knows.
 #[derive(Drop)]
@@ -114,11 +121,17 @@ impl<'a, E: Writes + Drop, K: Command> Home<'a, E, K> {
         matches!(self.mark, Mark::Ready)
     }
 
-    /// Whether the engine can go on, where the history has this length.
-    pub fn is_ready(&self, generation: u64) -> bool {
+    /// Whether the engine waits for cycles of collection to end.
+    pub fn waits_for_cycles(&self) -> bool {
+        matches!(self.mark, Mark::ForCycles(_))
+    }
+
+    /// Whether the engine can go on, where the history has this length and the table of atoms this epoch word.
+    pub fn is_ready(&self, generation: u64, word: u64) -> bool {
         match &self.mark {
             Mark::Ready => true,
             Mark::Waits(_, at) => *at < generation,
+            Mark::ForCycles(pass) => may_try_again(*pass, word),
             Mark::Ended(_) => false,
         }
     }
@@ -145,7 +158,53 @@ impl<'a, E: Writes + Drop, K: Command> Home<'a, E, K> {
             }
             Mark::Ready => unreachable!(),
             Mark::Waits(_, _) => unreachable!(),
+            Mark::ForCycles(_) => unreachable!(),
         }
+    }
+
+    /// The engine takes part in a cycle of collection: where one marks, it holds on just the atoms that it names and what it
+    /// waits on. The only error is out of memory.
+    pub fn acknowledge(&mut self, alloc: Global) -> Result<(), Memory>
+        ensures same { self.new ≡ self.old }
+    {
+        let mut live = AtomSet::new(alloc);
+        self.engine.live_in(&mut live)?;
+        name_awaited(&self.mark, &mut live)?;
+        let live = live.into_atoms();
+        self.atoms.acknowledge(live.as_slice());
+        Ok(())
+    }
+}
+
+/// Puts the alias of what the mark says is waited on to those of a set. The only error is out of memory.
+fn name_awaited(mark: &Mark, live: &mut AtomSet) -> Result<(), Memory>
+    ensures { OnOk result (Gathers (mark_names mark.now) live.old live.new) }
+{
+    match mark {
+        Mark::Ready => Ok(()),
+        Mark::Waits(on, _) => name_on(on, live),
+        Mark::ForCycles(_) => Ok(()),
+        Mark::Ended(_) => Ok(()),
+    }
+}
+
+/// Puts the alias of what is waited on to those of a set. The only error is out of memory.
+fn name_on(on: &On, live: &mut AtomSet) -> Result<(), Memory>
+    ensures { OnOk result (Gathers (on_names on.now) live.old live.new) }
+{
+    match on {
+        On::Queue(name) => name_alias(name, live),
+        On::Thread(name) => name_alias(name, live),
+    }
+}
+
+/// Puts an alias to those of a set. The only error is out of memory.
+fn name_alias(name: &Name, live: &mut AtomSet) -> Result<(), Memory>
+    ensures { OnOk result (Gathers (alias_names name.now) live.old live.new) }
+{
+    match name {
+        Name::Number(_) => Ok(()),
+        Name::Alias(atom) => live.insert(*atom),
     }
 }
 

@@ -27,7 +27,8 @@ use crate::naming::Command;
 use crate::newcomers::NewEngine;
 use crate::over::{Over, Ran, Unfinished, finish_all, settle_all};
 use crate::writing::Writes;
-use atom_table::TableAtoms;
+use atom_collector::{Piece, TableCollector};
+use atom_table::{TableAtoms, Turn};
 use counted_terms::CountedTerm;
 use hub_threads::Status;
 use op_table::OpTable;
@@ -42,8 +43,11 @@ use std::sync::Arc;
 use term_store::{ArgumentKey, Stored};
 use world_api::{Answer, Visit};
 
-/// The shared state, with the engines that no worker carries: those that can go on or wait, those that have ended, and the
-/// atoms that no engine has. Contracts see it as the shared state: the whole history.
+/// How many slots are swept when an engine is to be lent.
+const SLOTS: u32 = 1024;
+
+/// The shared state, with the engines that no worker carries: those that can go on or wait, those that have ended, the
+/// atoms that no engine has, and the collector of the table. Contracts see it as the shared state: the whole history.
 #[derive(Drop)]
 pub struct Hub<'a, E: Writes + Drop, K: Command> {
     pub(crate) shared: Shared<K>,
@@ -56,6 +60,11 @@ pub struct Hub<'a, E: Writes + Drop, K: Command> {
     pub(crate) away: u64,
     /// Memory ran out while a worker had an engine: none is lent then.
     pub(crate) lost: bool,
+    /// The collector of the table of atoms.
+    pub(crate) collector: TableCollector<'a, K>,
+    /// A cycle of collection is to begin.
+    pub(crate) due: bool,
+    pub(crate) alloc: Global,
 }
 
 impl<'a, E: Writes + Drop, K: Command> Model for Hub<'a, E, K> {
@@ -79,7 +88,9 @@ pub enum Lend<'a, E: Writes + Drop, K: Command> {
     Out(Home<'a, E, K>),
     /// An engine that begins.
     Begin(NewEngine<'a, K>),
-    /// No engine at home can go on.
+    /// No engine at home can go on, but one waits for a cycle of collection, which goes on when somebody is to be lent.
+    Collects,
+    /// No engine at home can go on before another comes home.
     Nobody,
     /// And none is with a worker.
     Over,
@@ -91,9 +102,24 @@ pub enum Lend<'a, E: Writes + Drop, K: Command> {
 fn take_ready<'a, E: Writes + Drop, K: Command>(
     homes: &mut Vec<Home<'a, E, K>>,
     generation: u64,
+    word: u64,
 ) -> Option<Home<'a, E, K>> {
     for i in 0..homes.len() {
-        if homes[i].is_ready(generation) {
+        if homes[i].is_ready(generation, word) {
+            return Some(homes.remove(i));
+        }
+    }
+    None
+}
+
+// The first engine that waited for cycles of collection and can go on.
+fn take_returning<'a, E: Writes + Drop, K: Command>(
+    homes: &mut Vec<Home<'a, E, K>>,
+    generation: u64,
+    word: u64,
+) -> Option<Home<'a, E, K>> {
+    for i in 0..homes.len() {
+        if homes[i].waits_for_cycles() && homes[i].is_ready(generation, word) {
             return Some(homes.remove(i));
         }
     }
@@ -144,8 +170,14 @@ fn begin<'a, E: Writes + Drop, K: Command>(
 }
 
 impl<'a, E: Writes + Drop, K: Command> Hub<'a, E, K> {
-    /// The state at the start, with the atoms that engines may have. Each engine that has begun is still to be given a front.
-    pub fn new(alloc: Global, shared: Shared<K>, spare: Vec<TableAtoms<'a, K>>) -> Hub<'a, E, K>
+    /// The state at the start, with the atoms that engines may have, and the collector of their table. Each engine that has
+    /// begun is still to be given a front.
+    pub fn new(
+        alloc: Global,
+        shared: Shared<K>,
+        spare: Vec<TableAtoms<'a, K>>,
+        collector: TableCollector<'a, K>,
+    ) -> Hub<'a, E, K>
         requires begun { AreBegun [] shared }
         requires only { AreOnly shared.seen }
         ensures { result ≡ shared }
@@ -158,6 +190,9 @@ impl<'a, E: Writes + Drop, K: Command> Hub<'a, E, K> {
             started: Vec::new(alloc),
             away: 0,
             lost: false,
+            collector,
+            due: false,
+            alloc,
         }
     }
 
@@ -178,6 +213,7 @@ impl<'a, E: Writes + Drop, K: Command> Hub<'a, E, K> {
         requires next { CanVisit term_by clause_key (text_of (names (seen atoms.old.seat))) visit (told_of K.goals front.old) }
         ensures { IsVisit K.history K.goals engine (seen atoms.old.seat) (seen atoms.new.seat) visit result front.old front.new self.old self.new }
     {
+        self.due = due_after(self.due, &visit);
         self.shared
             .session(alloc, history, atoms, front, engine, visit)
     }
@@ -224,6 +260,9 @@ impl<'a, E: Writes + Drop, K: Command> Hub<'a, E, K> {
         if self.lost {
             return Lend::Over;
         }
+        if self.collect().is_err() {
+            return Lend::Memory;
+        }
         let lent = self.choose(history);
         self.away = counted_out(self.away, &lent);
         lent
@@ -254,14 +293,18 @@ impl<'a, E: Writes + Drop, K: Command> Hub<'a, E, K> {
         }
     }
 
-    // One at home that can go on.
+    // One at home that can go on: those that waited for cycles of collection come first.
     fn one_at_home(&mut self) -> Lend<'a, E, K>
         ensures same { self.new ≡ self.old }
     {
         let generation = self.shared.generation();
-        match take_ready(&mut self.homes, generation) {
+        let word = self.collector.collector.word;
+        if let Some(home) = take_returning(&mut self.homes, generation, word) {
+            return Lend::Out(home);
+        }
+        match take_ready(&mut self.homes, generation, word) {
             Some(home) => Lend::Out(home),
-            None => nobody(self.away),
+            None => nobody(self.away, some_wait(self.homes.as_slice())),
         }
     }
 
@@ -272,11 +315,72 @@ impl<'a, E: Writes + Drop, K: Command> Hub<'a, E, K> {
         self.lost = true;
     }
 
+    // What is next of a cycle of collection: one begins where it is due, or the next piece of its work is done. The only
+    // error is out of memory.
+    fn collect(&mut self) -> Result<(), Memory>
+        ensures same { self.new ≡ self.old }
+    {
+        match self.collector.go_on(SLOTS) {
+            Piece::Rests => self.turn(),
+            Piece::SweptAll => {
+                self.due = self.due || some_wait(self.homes.as_slice());
+                Ok(())
+            }
+            _ => Ok(()),
+        }
+    }
+
+    // A cycle begins where one is due, and all that are at home take part in it. The only error is out of memory.
+    fn turn(&mut self) -> Result<(), Memory>
+        ensures same { self.new ≡ self.old }
+    {
+        if !self.due || !self.collector.is_still() {
+            return Ok(());
+        }
+        let turn = self.collector.begin();
+        if matches!(turn, Turn::Began(_)) {
+            self.acknowledge_home()?;
+            self.acknowledge_spare();
+        }
+        self.due = false;
+        Ok(())
+    }
+
+    // Each engine at home takes part in the cycle. The only error is out of memory.
+    fn acknowledge_home(&mut self) -> Result<(), Memory>
+        ensures same { self.new ≡ self.old }
+    {
+        let alloc = self.alloc;
+        for home in self.homes.iter_mut() {
+            home.acknowledge(alloc)?;
+        }
+        Ok(())
+    }
+
+    // So does each seat without an engine, which holds nothing.
+    fn acknowledge_spare(&mut self)
+        ensures same { self.new ≡ self.old }
+    {
+        for atoms in self.spare.iter_mut() {
+            atoms.acknowledge(&[]);
+        }
+    }
+
+    // Whether a cycle marks.
+    fn marks(&self) -> bool {
+        self.collector.collector.word % 4 == 1
+    }
+
     /// An engine comes home. The only error is out of memory.
     pub fn bring(&mut self, home: Home<'a, E, K>) -> Result<(), Memory>
         ensures same { self.new ≡ self.old }
     {
         self.away = self.away.saturating_sub(1);
+        self.due = due_by(self.due, &home);
+        let mut home = home;
+        if self.marks() {
+            home.acknowledge(self.alloc)?;
+        }
         match home.retire() {
             Retired::Stays(home) => kept(self.homes.push(home).is_ok()),
             Retired::Over(over, atoms) => {
@@ -306,6 +410,9 @@ impl<'a, E: Writes + Drop, K: Command> Hub<'a, E, K> {
             started,
             away: _,
             lost,
+            collector: _,
+            due: _,
+            alloc: _,
         } = self;
         if lost {
             return Err(Unfinished::Memory);
@@ -328,9 +435,32 @@ impl<'a, E: Writes + Drop, K: Command> Hub<'a, E, K> {
     }
 }
 
-// Nobody is lent, and nobody can be where none is with a worker.
-fn nobody<'a, E: Writes + Drop, K: Command>(away: u64) -> Lend<'a, E, K> {
-    if away == 0 { Lend::Over } else { Lend::Nobody }
+// Whether one of these waits for cycles of collection.
+fn some_wait<'a, E: Writes + Drop, K: Command>(homes: &[Home<'a, E, K>]) -> bool {
+    for home in homes {
+        if home.waits_for_cycles() {
+            return true;
+        }
+    }
+    false
+}
+
+// Nobody is lent. Nobody can be where none is with a worker, and none waits for cycles of collection.
+fn nobody<'a, E: Writes + Drop, K: Command>(away: u64, waits: bool) -> Lend<'a, E, K> {
+    if away != 0 {
+        return Lend::Nobody;
+    }
+    if waits { Lend::Collects } else { Lend::Over }
+}
+
+// Whether a cycle of collection is to begin, where one was or this engine waits for one.
+fn due_by<'a, E: Writes + Drop, K: Command>(due: bool, home: &Home<'a, E, K>) -> bool {
+    due || home.waits_for_cycles()
+}
+
+// Whether a cycle of collection is to begin, where one was or this visit asks for one.
+fn due_after(due: bool, visit: &Visit<CountedTerm, ArgumentKey>) -> bool {
+    due || matches!(visit, Visit::CollectAtoms | Visit::CollectClauses)
 }
 
 // One more is with a worker, where one was lent.

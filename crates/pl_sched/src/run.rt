@@ -15,7 +15,7 @@ use crate::work::work;
 use engine_run::Runner;
 use pl_history::History;
 use pl_io::Gate;
-use script_api::Script;
+use script_api::{Living, Script};
 use std::alloc::Global;
 use std::sync::{Condvar, Mutex, Wait};
 use std::thread;
@@ -27,7 +27,7 @@ use term_store::Stored;
 fn run_workers<
     'a,
     't,
-    S: Script<Term = Stored> + Drop + Send,
+    S: Living + Script<Term = Stored> + Drop + Send,
     K: Command + Send + Sync,
     R: Threads + Wait + Sync,
     G: Gate + Sync,
@@ -82,7 +82,7 @@ fn number_of(worker: usize) -> u32 {
 /// that one can still go on, or has not begun, or that memory ran out.
 pub fn run_all<
     't,
-    S: Script<Term = Stored> + Drop + Send,
+    S: Living + Script<Term = Stored> + Drop + Send,
     K: Command + Send + Sync,
     R: Threads + Wait + Sync,
     G: Gate + Sync,

@@ -12,12 +12,15 @@ use crate::turns::turn;
 use engine_run::Runner;
 use pl_io::Gate;
 use pl_term::Memory;
-use script_api::Script;
+use script_api::{Living, Script};
 use std::sync::{Condvar, Wait};
 use term_store::Stored;
 
 /// How many inferences an engine makes in one turn.
 const INFERENCES: u32 = 1000;
+
+/// How many inferences an engine makes that waited for cycles of collection.
+const STEP: u32 = 1;
 
 /// How many turns an engine makes before it comes home, where it can go on.
 const TURNS: u32 = 16;
@@ -26,7 +29,7 @@ const TURNS: u32 = 16;
 pub(crate) fn work<
     'a,
     't,
-    S: Script<Term = Stored> + Drop,
+    S: Living + Script<Term = Stored> + Drop,
     K: Command,
     R: Wait,
     G: Gate,
@@ -47,6 +50,7 @@ pub(crate) fn work<
                 let home = begin(ground, worker, new);
                 bring(ground, changed, home);
             }
+            Lend::Collects => drop(hub),
             Lend::Nobody => {
                 let hub = changed.wait(ground.runtime, hub);
                 drop(hub);
@@ -68,7 +72,15 @@ pub(crate) fn work<
 }
 
 /// Lets an engine that begins take up its goal, and run for some turns.
-fn begin<'a, 't, S: Script<Term = Stored> + Drop, K: Command, R: Wait, G: Gate, P: Starts<S>>(
+fn begin<
+    'a,
+    't,
+    S: Living + Script<Term = Stored> + Drop,
+    K: Command,
+    R: Wait,
+    G: Gate,
+    P: Starts<S>,
+>(
     ground: &Ground<'a, 't, Runner<S>, K, R, G, P>,
     worker: u32,
     new: NewEngine<'t, K>,
@@ -79,12 +91,24 @@ fn begin<'a, 't, S: Script<Term = Stored> + Drop, K: Command, R: Wait, G: Gate, 
     carry(ground, worker, home)
 }
 
-/// Lets an engine run for some turns, as long as it can go on.
-fn carry<'a, 't, S: Script<Term = Stored> + Drop, K: Command, R: Wait, G: Gate, P: Starts<S>>(
+/// Lets an engine run for some turns, as long as it can go on. One that waited for cycles of collection makes the step for
+/// which it waited, and comes home: others that waited are to find a place too before it goes on.
+fn carry<
+    'a,
+    't,
+    S: Living + Script<Term = Stored> + Drop,
+    K: Command,
+    R: Wait,
+    G: Gate,
+    P: Starts<S>,
+>(
     ground: &Ground<'a, 't, Runner<S>, K, R, G, P>,
     worker: u32,
     home: Home<'t, Runner<S>, K>,
 ) -> Result<Home<'t, Runner<S>, K>, Memory> {
+    if home.waits_for_cycles() {
+        return turn(ground, worker, home, STEP);
+    }
     let mut home = home;
     for _ in 0..TURNS {
         home = turn(ground, worker, home, INFERENCES)?;
@@ -96,7 +120,15 @@ fn carry<'a, 't, S: Script<Term = Stored> + Drop, K: Command, R: Wait, G: Gate, 
 }
 
 /// The engine comes home, or is lost, and the other workers look again.
-fn bring<'a, 't, S: Script<Term = Stored> + Drop, K: Command, R: Wait, G: Gate, P: Starts<S>>(
+fn bring<
+    'a,
+    't,
+    S: Living + Script<Term = Stored> + Drop,
+    K: Command,
+    R: Wait,
+    G: Gate,
+    P: Starts<S>,
+>(
     ground: &Ground<'a, 't, Runner<S>, K, R, G, P>,
     changed: &Condvar,
     home: Result<Home<'t, Runner<S>, K>, Memory>,

@@ -2,13 +2,15 @@
 ghost use Rattle.std.specs.Prelude.{◌≡◌, ◌<◌, ◌∷◌, [], IfOk, IfSome, length};
 ghost use Rattle.command_line.specs.Commands.{told_command};
 ghost use Rattle.run_model.specs.Lawful.{Program};
+ghost use Rattle.atom_table.specs.Holding.{Sits};
 ghost use Rattle.atom_table.specs.Opening.{FreshFrom};
 ghost use Rattle.pl_hub.specs.Fronts.{idle};
 ghost use Rattle.pl_sched.specs.Terms.{AreTerms};
 ghost use Rattle.toplevel.specs.Beginnings.{IsAtBeginning, IsNewSeat, budgets_in};
 ghost use Rattle.toplevel.specs.RunOutcomes.{program_read};
 
-use atom_table::{AtomSeat, AtomTable, NamesTable, TableAtoms};
+use atom_collector::TableCollector;
+use atom_table::{AtomSeat, AtomTable, Collector, NamesTable, TableAtoms};
 use command_line::command::{Command, Limits};
 use engine_run::{Lines, Runner};
 use iso_engine::engine::Stays;
@@ -40,6 +42,21 @@ pub(crate) fn atoms_of<'t, K: NamesTable>(
         all.push(TableAtoms::new(table, seat))?;
     }
     Ok(all)
+}
+
+/// The collector of a new table for so many slots, whose row of buckets has grown for them before an engine gets its seat.
+pub(crate) fn collector_of<'t, K: NamesTable>(
+    table: &'t AtomTable,
+    collector: Collector,
+    slots: u32,
+) -> TableCollector<'t, K>
+    requires named { (table.now.words.table.shared.table_id ≡ K.atoms) × (table.now.words.size ≡ K.size) }
+    requires sits { Sits table.now.words collector.seat }
+    requires slots { 0 < slots }
+{
+    let mut collector = TableCollector::new(table, collector);
+    collector.grow_first(slots);
+    collector
 }
 
 /// The seat of the engine with the highest number that is still there.

@@ -1,18 +1,19 @@
 //! The run of all engines of a command.
-ghost use Rattle.std.specs.Prelude.{◌≡◌, ℕ, List, IfOk, length, suc, take};
+ghost use Rattle.std.specs.Prelude.{◌≡◌, ◌<◌, ℕ, List, IfOk, length, suc, take};
 ghost use Rattle.run_model.specs.Execution.{most_bytes};
 ghost use Rattle.command_line.specs.Commands.{IsWithin, told_command};
 ghost use Rattle.atom_words.specs.Seats.{seen};
+ghost use Rattle.atom_table.specs.Holding.{Sits};
 ghost use Rattle.atom_table.specs.Opening.{FreshFrom};
 ghost use Rattle.counted_terms.specs.Keeping.{KeepsAt, tally};
 ghost use Rattle.pl_history.specs.Fronts.{new_hub};
 ghost use Rattle.toplevel.specs.Headline.{IsReady};
 ghost use Rattle.toplevel.specs.RunOutcomes.{HasRunAll, IsReadyOf, program_read};
 
-use crate::beginning::{Scripts, atoms_of, first_home, terms_for};
+use crate::beginning::{Scripts, atoms_of, collector_of, first_home, terms_for};
 use crate::opened::open;
 use crate::ready::{Ready, make_ready};
-use atom_table::{AtomSeat, AtomTable, Keeper, Opened};
+use atom_table::{AtomSeat, AtomTable, Collector, Keeper, Opened};
 use command_line::command::Command;
 use engine_run::Runner;
 use pl_history::{History, HubFront};
@@ -46,12 +47,13 @@ pub(crate) fn run_engines<R: Threads + Wait + Sync, G: Gate + Sync>(
         table,
         seats,
         keeper,
-        collector: _,
+        collector,
     } = AtomTable::new(alloc, command.slots, ENGINES)?;
     let (history, hub, _fronts) = History::new(alloc, ENGINES)?;
     let board = Board::new();
     run_over::<Brand, R, G>(
-        rt, alloc, command, bytes, gate, goals, &table, &history, &board, seats, keeper, hub,
+        rt, alloc, command, bytes, gate, goals, &table, &history, &board, seats, keeper, collector,
+        hub,
     )
 }
 
@@ -68,12 +70,15 @@ fn run_over<'t, K: Naming + Send + Sync, R: Threads + Wait + Sync, G: Gate + Syn
     board: &'t Board,
     seats: Vec<AtomSeat>,
     keeper: Keeper,
+    collector: Collector,
     hub: HubFront,
 ) -> Result<Ready, Memory>
     requires named { (table.now.words.table.shared.table_id ≡ K.atoms) × (table.now.words.size ≡ K.size) }
     requires seats { FreshFrom table.now.words 1 seats.items }
     requires keeper { KeepsAt K.atoms K.size keeper.seat }
     requires none { (k : ℕ) → tally (seen keeper.seat) k ≡ 0 }
+    requires collector { Sits table.now.words collector.seat }
+    requires slots { 0 < command.now.slots }
     requires history { history.now ≡ K.history }
     requires hub { hub ≡ new_hub K.history }
     requires board { board.now ≡ K.board }
@@ -83,6 +88,7 @@ fn run_over<'t, K: Naming + Send + Sync, R: Threads + Wait + Sync, G: Gate + Syn
     requires counted { K.goals ≡ goals }
     ensures { IfOk result (IsReadyOf K.file K.program) }
 {
+    let collector = collector_of::<K>(table, collector, command.slots);
     let mut spare = atoms_of::<K>(alloc, table, seats)?;
     let Some(atoms) = spare.pop() else {
         return Err(Memory);
@@ -90,7 +96,7 @@ fn run_over<'t, K: Naming + Send + Sync, R: Threads + Wait + Sync, G: Gate + Syn
     let mut front = history.front();
     let shared = Shared::<K>::new(alloc, history, hub, keeper, &mut front, goals)?;
     let first = first_home(alloc, command, bytes, board, atoms, front)?;
-    let mut hub = Hub::new(alloc, shared, spare);
+    let mut hub = Hub::new(alloc, shared, spare, collector);
     hub.bring(first)?;
     let workers = command.workers as usize;
     let starts = Goals::new(board);
