@@ -20,8 +20,23 @@ fn byte_at(text: &[u8], i: usize) -> u64
     if i < text.len() { text[i] as u64 } else { 0 }
 }
 
-// Eight bytes from `from` on, lowest first.
-fn packed(text: &[u8], from: usize) -> u64
+// Eight bytes of the text from `from` on, lowest first.
+fn eight(text: &[u8], from: usize) -> u64
+    requires { from + 8 ≤ length text.now }
+    ensures { result ≡ packed (drop from text.now) }
+{
+    text[from] as u64
+        + 256 * text[from + 1] as u64
+        + 65_536 * text[from + 2] as u64
+        + 16_777_216 * text[from + 3] as u64
+        + 4_294_967_296 * text[from + 4] as u64
+        + 1_099_511_627_776 * text[from + 5] as u64
+        + 281_474_976_710_656 * text[from + 6] as u64
+        + 72_057_594_037_927_936 * text[from + 7] as u64
+}
+
+// The same near the end of the text, behind which zeros follow.
+fn eight_at_most(text: &[u8], from: usize) -> u64
     requires { from < 1000 }
     ensures { result ≡ packed (drop from text.now) }
 {
@@ -33,6 +48,18 @@ fn packed(text: &[u8], from: usize) -> u64
         + 1_099_511_627_776 * byte_at(text, from + 5)
         + 281_474_976_710_656 * byte_at(text, from + 6)
         + 72_057_594_037_927_936 * byte_at(text, from + 7)
+}
+
+// Eight bytes from `from` on, lowest first.
+fn packed(text: &[u8], from: usize) -> u64
+    requires { from < 1000 }
+    ensures { result ≡ packed (drop from text.now) }
+{
+    if from + 8 <= text.len() {
+        eight(text, from)
+    } else {
+        eight_at_most(text, from)
+    }
 }
 
 /// One of the 32 words of a text of at most 248 bytes: its length, or eight of its bytes.
