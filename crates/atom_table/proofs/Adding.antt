@@ -5,19 +5,18 @@ use Rattle.pl_term.specs.Texts.{size}
 use Rattle.atom_words.specs.Layout.{first_of}
 use Rattle.atom_words.specs.Plays.{Alone}
 use Rattle.atom_words.specs.Kinds.{fresh, linking, linked_own, held_own, after}
-use Rattle.atom_words.specs.Seats.{puts}
+use Rattle.atom_words.specs.Seats.{Puts}
 use Rattle.atom_words.specs.declared.view.Walk.{Walk}
 use Rattle.atom_words.specs.declared.view.Cause.TheVariants.{Moved as CauseMoved}
 use Rattle.atom_words.specs.declared.view.Refusal.{Refusal}
 use Rattle.atom_words.specs.declared.view.Refusal.TheVariants.{Again as RefusalAgain, Worn as RefusalWorn}
 use Rattle.atom_words.specs.declared.view.View.{View}
-use Rattle.atom_words.specs.declared.kind.Kind.{Kind}
 use Rattle.atom_words.specs.declared.kind.Kind.TheVariants.{PutLink, Link, Validate, Release, Refuse}
 use Rattle.atom_words.proofs.Putting.{puts_keep, puts_own}
 use Rattle.bucket_rows.specs.declared.missed.Missed.{Missed}
 use Rattle.bucket_rows.specs.declared.missed.Missed.TheVariants.{Moved, Pending, Closed, Worn}
 use Rattle.bucket_rows.specs.Walks.{spelled, Links}
-use Rattle.bucket_rows.proofs.Reading.{after_both, alone_as}
+use Rattle.bucket_rows.proofs.Reading.{alone_as}
 use Rattle.bucket_rows.proofs.Making.{Beside, beside_puts}
 use Rattle.atom_api.specs.Interns.{refused}
 use Rattle.atom_table.specs.Interning.{Adds, Makes, MakesBy, made_by}
@@ -50,59 +49,53 @@ missed_refusal r = refused (made_by r)
 
 -- THE RESERVED SLOT
 module _ (row : List ℕ) (t : Walk) (v : View) (k : ℕ) (own : v.own ≡ Some (fresh k)) where
-  put_own : (after v (puts row)).own ≡ Some (record { slot = k; text = row; link = None; linked = false })
-  put_own = puts_own v (fresh k) row own
-
-  put_refusals : (after v (puts row)).refusals ≡ v.refusals
-  put_refusals = puts_keep (λ (y : View). y.refusals) (λ _ _. refl) v row
-
   pub record Added (r : Result ℕ Missed) (w : View) : Type 0 where
     pub carried : Carried v w
     pub none : w.own ≡ None
     pub refusals : w.refusals ≡ v.refusals ++ refused (made_by r)
 
-  ends_with : (ks : List Kind) (w : View) → w ≡ after v (puts row ++ ks) → after (after v (puts row)) ks ≡ w
-  ends_with ks w e = sym (e ∙ after_both v (puts row) ks)
+  put_refusals : (u : View) → Puts row v u → u.refusals ≡ v.refusals
+  put_refusals u p = puts_keep (λ (y : View). y.refusals) (λ _ _. refl) (λ _ _ _. refl) row v u p
 
   pub added : (r : Result ℕ Missed) (w : View) → Adds row t v r w → Added r w
-  added (Ok a) w e = subst (Added (Ok a)) (ends_with (PutLink (first_of t.word) ∷ Link ∷ Validate ∷ []) w e) (let b = carried_beside v (after v (puts row)) (beside_puts v row) in record {
+  added (Ok a) w e = subst (Added (Ok a)) (sym e.2) (let b = carried_beside v e.0 (beside_puts row v e.0 e.1) in record {
     carried = record { gone = b.gone; size = b.size; fixed = b.fixed; counts = b.counts; asked = b.asked; undealt = b.undealt; cycle = b.cycle; sweep = b.sweep; risen = b.risen };
     none = refl;
-    refusals = put_refusals ∙ sym (append-nil v.refusals);
+    refusals = put_refusals e.0 e.1 ∙ sym (append-nil v.refusals);
   })
-  added (Err (Moved old new)) w e = subst (Added (Err (Moved old new))) (ends_with (PutLink (first_of t.word) ∷ Refuse (RefusalAgain (CauseMoved old new)) ∷ Release ∷ []) w e.2) (let b = carried_beside v (after v (puts row)) (beside_puts v row) in record {
+  added (Err (Moved old new)) w e = let q = e.2 in subst (Added (Err (Moved old new))) (sym q.2) (let b = carried_beside v q.0 (beside_puts row v q.0 q.1) in record {
     carried = record { gone = b.gone; size = b.size; fixed = b.fixed; counts = b.counts; asked = b.asked; undealt = b.undealt; cycle = b.cycle; sweep = b.sweep; risen = b.risen };
     none = refl;
-    refusals = ap (λ l. l ++ RefusalAgain (CauseMoved old new) ∷ []) put_refusals;
+    refusals = ap (λ l. l ++ RefusalAgain (CauseMoved old new) ∷ []) (put_refusals q.0 q.1);
   })
   added (Err (Pending j x)) w e = absurd e
   added (Err (Closed x)) w e = absurd e
-  added (Err (Worn x)) w e = subst (Added (Err (Worn x))) (ends_with (Refuse (RefusalWorn x) ∷ Release ∷ []) w e.2) (let b = carried_beside v (after v (puts row)) (beside_puts v row) in record {
+  added (Err (Worn x)) w e = let q = e.2 in subst (Added (Err (Worn x))) (sym q.2) (let b = carried_beside v q.0 (beside_puts row v q.0 q.1) in record {
     carried = record { gone = b.gone; size = b.size; fixed = b.fixed; counts = b.counts; asked = b.asked; undealt = b.undealt; cycle = b.cycle; sweep = b.sweep; risen = b.risen };
     none = refl;
-    refusals = ap (λ l. l ++ RefusalWorn x ∷ []) put_refusals;
+    refusals = ap (λ l. l ++ RefusalWorn x ∷ []) (put_refusals q.0 q.1);
   })
 
-  put_held : (after v (puts row)).held ≡ v.held
-  put_held = puts_keep (λ (y : View). y.held) (λ _ _. refl) v row
+  put_held : (u : View) → Puts row v u → u.held ≡ v.held
+  put_held u p = puts_keep (λ (y : View). y.held) (λ _ _. refl) (λ _ _ _. refl) row v u p
 
   -- what is held then
   pub added_held : (a : ℕ) (w : View) → Adds row t v (Ok a) w → w.held ≡ v.held ++ record { slot = k; text = row } ∷ []
-  added_held a w e = ap (λ (y : View). y.held) (sym (ends_with (PutLink (first_of t.word) ∷ Link ∷ Validate ∷ []) w e))
-      ∙ (λ i. put_held i ++ held_own (option_map linked_own (option_map (linking (first_of t.word)) (put_own i))))
+  added_held a w e = let own_is : e.0.own ≡ Some (record { slot = k; text = row; link = None; linked = false }) = puts_own (fresh k) row v e.0 own e.1 in ap (λ (y : View). y.held) e.2
+      ∙ (λ i. put_held e.0 e.1 i ++ held_own (option_map linked_own (option_map (linking (first_of t.word)) (own_is i))))
 
   pub unadded_held : (m : Missed) (w : View) → Adds row t v (Err m) w → w.held ≡ v.held
-  unadded_held (Moved old new) w e = ap (λ (y : View). y.held) (sym (ends_with (PutLink (first_of t.word) ∷ Refuse (RefusalAgain (CauseMoved old new)) ∷ Release ∷ []) w e.2)) ∙ put_held
+  unadded_held (Moved old new) w e = ap (λ (y : View). y.held) e.2.2 ∙ put_held e.2.0 e.2.1
   unadded_held (Pending j x) w e = absurd e
   unadded_held (Closed x) w e = absurd e
-  unadded_held (Worn x) w e = ap (λ (y : View). y.held) (sym (ends_with (Refuse (RefusalWorn x) ∷ Release ∷ []) w e.2)) ∙ put_held
+  unadded_held (Worn x) w e = ap (λ (y : View). y.held) e.2.2 ∙ put_held e.2.0 e.2.1
 
 -- a slot that was not linked is given back
-pub adds_err : (row : List ℕ) (t : Walk) (v u w x : View) → u ≡ after v (puts row) → (m : Missed) → Links u t (Err m) w → x ≡ after w (Release ∷ []) → Adds row t v (Err m) x
-adds_err row t v u w x put (Moved old new) e last = (e.0, e.1, last ∙ (ap (λ (y : View). after y (Release ∷ [])) (e.2 ∙ ap (λ (y : View). after y (PutLink (first_of t.word) ∷ Refuse (RefusalAgain (CauseMoved old new)) ∷ [])) put) ∙ sym (after_both v (puts row) (PutLink (first_of t.word) ∷ Refuse (RefusalAgain (CauseMoved old new)) ∷ Release ∷ []))))
+pub adds_err : (row : List ℕ) (t : Walk) (v u w x : View) → Puts row v u → (m : Missed) → Links u t (Err m) w → x ≡ after w (Release ∷ []) → Adds row t v (Err m) x
+adds_err row t v u w x put (Moved old new) e last = (e.0, e.1, (u, put, last ∙ ap (λ (y : View). after y (Release ∷ [])) e.2))
 adds_err row t v u w x put (Pending k y) e last = absurd e
 adds_err row t v u w x put (Closed y) e last = absurd e
-adds_err row t v u w x put (Worn y) e last = (e.0, e.1, last ∙ (ap (λ (z : View). after z (Release ∷ [])) (e.2 ∙ ap (λ (z : View). after z (Refuse (RefusalWorn y) ∷ [])) put) ∙ sym (after_both v (puts row) (Refuse (RefusalWorn y) ∷ Release ∷ []))))
+adds_err row t v u w x put (Worn y) e last = (e.0, e.1, (u, put, last ∙ ap (λ (z : View). after z (Release ∷ [])) e.2))
 
 -- WHAT IS TOLD
 module _ (t : Chars) (h : ℕ) (short : size t ≤ 248) where

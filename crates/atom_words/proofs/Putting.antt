@@ -1,14 +1,12 @@
 -- The words of a text, and the view as they are put one after the other.
-use Rattle.std.proofs.Common.{◌≡◌, ◌≢◌, ℕ, zero, suc, ◌+◌, ◌-◌, ◌*◌, ◌<◌, List, [], ◌∷◌, ◌++◌, length, get_or, take, drop, refl, sym, ap, ◌∙◌, arith, Some, option_map, append_assoc, append-nil, drop-drop}
-use Rattle.std.proofs.lemmas.List.{take_more}
-use mathlib.Core.List.{map-append}
+use Rattle.std.proofs.Common.{◌≡◌, ◌≢◌, ℕ, zero, suc, ◌+◌, ◌-◌, ◌*◌, ◌<◌, List, [], ◌∷◌, ◌++◌, length, get_or, take, drop, refl, sym, ap, ◌∙◌, subst, ◌⊎◌, ⊎_elim, arith, Some, option_map, append_assoc, append-nil, drop-drop}
 use Rattle.atom_words.specs.Texts.{packed, packs, row_of}
 use Rattle.atom_words.specs.Kinds.{putting, view_after, after}
-use Rattle.atom_words.specs.Seats.{puts}
+use Rattle.atom_words.specs.Seats.{PutBy, Puts}
 use Rattle.atom_words.specs.declared.view.Own.{Own}
 use Rattle.atom_words.specs.declared.view.View.{View}
 use Rattle.atom_words.specs.declared.kind.Kind.{Kind}
-use Rattle.atom_words.specs.declared.kind.Kind.TheVariants.{PutWord}
+use Rattle.atom_words.specs.declared.kind.Kind.TheVariants.{PutWord, Load}
 
 packs_length : (n : ℕ) (bs : List ℕ) → length (packs n bs) ≡ n
 packs_length zero bs = refl
@@ -37,14 +35,26 @@ pub after_more : (v : View) (ks : List Kind) (k : Kind) → after v (ks ++ k ∷
 after_more v [] k = refl
 after_more v (x ∷ ks) k = after_more (view_after v x) ks k
 
-pub puts_more : (v : View) (ws : List ℕ) (i : ℕ) → i < length ws → after v (puts (take (i + 1) ws)) ≡ view_after (after v (puts (take i ws))) (PutWord (get_or ws i 0))
-puts_more v ws i h = ap (λ l. after v (puts l)) (take_more ws i 0 h) ∙ (ap (after v) (map-append (λ x. PutWord x) (take i ws) (get_or ws i 0 ∷ [])) ∙ after_more v (puts (take i ws)) (PutWord (get_or ws i 0)))
+-- one word more
+pub puts_more : (ws : List ℕ) (x : ℕ) (v u w : View) → Puts ws v u → PutBy x u w → Puts (ws ++ x ∷ []) v w
+puts_more [] x v u w p b = (w, subst (λ (y : View). PutBy x y w) p b, refl)
+puts_more (q ∷ ws) x v u w p b = (p.0, p.1, puts_more ws x p.0 u w p.2 b)
 
 -- what stays as words are put
-pub puts_keep : {A : Type 0} (f : View → A) → ((v : View) (x : ℕ) → f (view_after v (PutWord x)) ≡ f v) → (v : View) (ws : List ℕ) → f (after v (puts ws)) ≡ f v
-puts_keep f same v [] = refl
-puts_keep f same v (x ∷ ws) = puts_keep f same (view_after v (PutWord x)) ws ∙ same v x
+put_keeps : {A : Type 0} (f : View → A) → ((v : View) (x : ℕ) → f (view_after v (PutWord x)) ≡ f v) → ((v : View) (i x : ℕ) → f (view_after v (Load i x)) ≡ f v) → (x : ℕ) (v w : View) → PutBy x v w → f w ≡ f v
+put_keeps f put load x v w b = ⊎_elim
+    (λ (e : w ≡ after v (PutWord x ∷ [])). ap f e ∙ put v x)
+    (λ (e : (i y : ℕ) × (y ≢ x) × (w ≡ after v (Load i y ∷ PutWord x ∷ []))). ap f e.3 ∙ (put (view_after v (Load e.0 e.1)) x ∙ load v e.0 e.1)) b
 
-pub puts_own : (v : View) (o : Own) (ws : List ℕ) → v.own ≡ Some o → (after v (puts ws)).own ≡ Some (record o { text = o.text ++ ws })
-puts_own v o [] e = e ∙ ap (λ (t : List ℕ). let x : Own = record o { text = t } in Some x) (sym (append-nil o.text))
-puts_own v o (x ∷ ws) e = puts_own (view_after v (PutWord x)) (putting x o) ws (ap (option_map (putting x)) e) ∙ ap (λ (t : List ℕ). let y : Own = record o { text = t } in Some y) (append_assoc o.text (x ∷ []) ws)
+pub puts_keep : {A : Type 0} (f : View → A) → ((v : View) (x : ℕ) → f (view_after v (PutWord x)) ≡ f v) → ((v : View) (i x : ℕ) → f (view_after v (Load i x)) ≡ f v) → (ws : List ℕ) (v w : View) → Puts ws v w → f w ≡ f v
+puts_keep f put load [] v w p = ap f p
+puts_keep f put load (x ∷ ws) v w p = puts_keep f put load ws p.0 w p.2 ∙ put_keeps f put load x v p.0 p.1
+
+put_own : (o : Own) (x : ℕ) (v w : View) → v.own ≡ Some o → PutBy x v w → w.own ≡ Some (putting x o)
+put_own o x v w own b = ⊎_elim
+    (λ (e : w ≡ after v (PutWord x ∷ [])). ap (λ (y : View). y.own) e ∙ ap (option_map (putting x)) own)
+    (λ (e : (i y : ℕ) × (y ≢ x) × (w ≡ after v (Load i y ∷ PutWord x ∷ []))). ap (λ (y : View). y.own) e.3 ∙ ap (option_map (putting x)) own) b
+
+pub puts_own : (o : Own) (ws : List ℕ) (v w : View) → v.own ≡ Some o → Puts ws v w → w.own ≡ Some (record o { text = o.text ++ ws })
+puts_own o [] v w e p = ap (λ (y : View). y.own) p ∙ (e ∙ ap (λ (t : List ℕ). let x : Own = record o { text = t } in Some x) (sym (append-nil o.text)))
+puts_own o (x ∷ ws) v w e p = puts_own (putting x o) ws p.0 w (put_own o x v p.0 e p.1) p.2 ∙ ap (λ (t : List ℕ). let y : Own = record o { text = t } in Some y) (append_assoc o.text (x ∷ []) ws)

@@ -1,19 +1,20 @@
 -- Each raw step of the calls is of its kind.
-use Rattle.std.proofs.Common.{◌≡◌, ◌≢◌, ◌⊎◌, ℕ, ◌+◌, ◌-◌, ◌*◌, ◌/◌, ◌%◌, ◌^◌, ◌<◌, eqb, true, false, List, [], length, bit_and, bit_or, refl, sym, ap, ◌∙◌, subst, inl, inr, arith, Some, None, ◌∷◌, ◌++◌, take_all}
+use Rattle.std.proofs.Common.{◌≡◌, ◌≢◌, ◌⊎◌, ℕ, ◌+◌, ◌-◌, ◌*◌, ◌/◌, ◌%◌, ◌^◌, ◌<◌, eqb, true, false, List, [], length, get_or, bit_and, bit_or, refl, sym, ap, ◌∙◌, subst, inl, inr, arith, Some, None, ◌∷◌, ◌++◌, take_all}
 use Rattle.std.proofs.lemmas.Nat.Bits.{and_pow}
 use Rattle.std.specs.Int.Bits.{or_add_and}
 use mathlib.Core.Logic.{dite}
 use mathlib.Core.Option.{none}
 use native.Mathlib.Decide.{ℕ_discrete, dec_le}
+use lib.Seq.{set-get_or}
 use prog.Atomic.{either}
 use Rattle.atomic_table.specs.Table.{step, Allows}
 use Rattle.atom_words.specs.Layout.{state_of, count_of, closed_of, version_of}
-use Rattle.atom_words.specs.Board.{Board, atom, head, atom_at, head_at, text_at, text_of, with_atom, with_head}
+use Rattle.atom_words.specs.Board.{Board, atom, head, atom_at, head_at, text_at, text_of, with_atom, with_head, with_text}
 use Rattle.atom_words.specs.Chains.{In}
 use Rattle.atom_words.specs.Views.{uncounted}
 use Rattle.atom_words.specs.Kinds.{Sitting, marked, counted, raised, view_after}
 use Rattle.atom_words.specs.Rule.{Rule}
-use Rattle.atom_words.specs.Plays.{Alone, head_raised, head_risen, reserved, reserved_marked, word_put, validated, released, protected, registered, unregistered, pass_started, pass_ended}
+use Rattle.atom_words.specs.Plays.{Alone, head_raised, head_risen, reserved, reserved_marked, word_put, word_found, validated, released, protected, registered, unregistered, pass_started, pass_ended}
 use Rattle.atom_words.specs.declared.size.Size.{Size}
 use Rattle.atom_words.specs.declared.view.Held.{Held}
 use Rattle.atom_words.specs.declared.view.Counted.{Counted}
@@ -21,13 +22,17 @@ use Rattle.atom_words.specs.declared.view.Own.{Own}
 use Rattle.atom_words.specs.declared.view.Passing.{Passing}
 use Rattle.atom_words.specs.declared.kind.Kind.{Kind}
 use Rattle.atom_words.specs.declared.kind.Kind.TheVariants.{Raise, Risen, Reserve, PutWord, Validate, Release, Load, Refused, StartPass, EndPass, Protect, Register, Unregister}
-use Rattle.atom_words.proofs.Regions.{atom_read, head_read}
+use Rattle.atom_words.proofs.Regions.{atom_read, head_read, text_read}
 use Rattle.atom_words.proofs.Slices.{some_same, or_at, text_short}
 use Rattle.atom_words.proofs.AtomSteps.{has, alone_at}
-use Rattle.atom_words.proofs.Adapters.{Sat, atom_goes, atom_exchange, head_exchange, head_load, text_goes, epoch_load}
+use Rattle.atom_words.proofs.Adapters.{Sat, atom_goes, atom_exchange, head_exchange, head_load, text_goes, text_load, epoch_load}
 
 pub or_mark : (n : ℕ) → bit_or n 4 ≡ marked n
 or_mark n = let a : bit_or n 4 + bit_and n 4 ≡ n + 4 = or_add_and n 4 in let m : bit_and n 4 ≡ n / 4 % 2 * 4 = and_pow n 2 in omega arith
+
+-- a text word stays as it is where it is put again
+word_same : (b : Board) (p x : ℕ) → get_or b.texts p 0 ≡ x → b ≡ with_text b p x
+word_same b p x same = sym (ap (with_text b p) (sym same) ∙ ap (λ (l : List ℕ). let y : Board = record b { texts = l } in y) (set-get_or b.texts p 0))
 
 -- a free slot's word has no count, so it is 0 or 4
 free_word : (n : ℕ) → n ≢ 0 → n ≢ 4 → state_of n ≡ 0 → count_of n ≡ 0 → ⊥
@@ -101,6 +106,14 @@ module _ (key : Size) (slots id : ℕ) (me : Sat) (is : key ≡ me.0.size) (here
   putting_word i x o own un short at = subst (λ (w : ℕ). Allows (Rule key) slots id me w (λ _. x) (λ _. word_put (step slots w x 0 none) me x)) (sym at)
       (text_goes key me.0.size slots id me (32 * o.slot + length o.text) (λ _. x) (λ _. word_put (step slots (text_at me.0.size (32 * o.slot + length o.text)) x 0 none) me x) is here
       (λ b vs r seen small. (PutWord x, (o, own, un, short, refl), (refl, refl))))
+
+  -- by a load, where it stands there
+  pub finding_word : (i x : ℕ) (o : Own) → me.0.own ≡ Some o → o.linked ≡ false → length o.text < 32 → i ≡ text_at me.0.size (32 * o.slot + length o.text) → Allows (Rule key) slots id me i (λ n. n) (word_found x (step slots i 0 0 none) me)
+  finding_word i x o own un short at = subst (λ (w : ℕ). Allows (Rule key) slots id me w (λ n. n) (word_found x (step slots w 0 0 none) me)) (sym at)
+      (let p : ℕ = 32 * o.slot + length o.text in text_load key me.0.size slots id me p (word_found x (step slots (text_at me.0.size p) 0 0 none) me) is here
+      (λ b vs r seen small. dite (ℕ_discrete (get_or b.texts p 0) x)
+        (λ (same : get_or b.texts p 0 ≡ x). (PutWord x, (o, own, un, short, word_same b p x same), (refl, (λ _. refl), λ ne. absurd (ne same))))
+        (λ (other : ¬ (get_or b.texts p 0 ≡ x)). (Load (text_at me.0.size p) (get_or b.texts p 0), (text_read me.0.size b r.sized p, refl), (refl, (λ e. absurd (other e)), λ _. refl)))))
 
   pub validating : (i : ℕ) (o : Own) → me.0.own ≡ Some o → o.linked ≡ true → Sitting me.0 → o.slot < me.0.size.slots → i ≡ atom_at me.0.size o.slot
       → Allows (Rule key) slots id me i (λ _. 7) (λ _. validated (step slots i 7 0 none) me 7)

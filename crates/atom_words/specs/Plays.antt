@@ -47,6 +47,10 @@ reserved_marked st m r m' = (m'.1 ≡ m.1) × ((k : ℕ) → st.word ≡ atom_at
 abbrev pub word_put : At → Sat → ℕ → Sat → Type 0
 word_put st m r m' = Is (PutWord r) m m'
 
+-- the load of the next word of the own slot's text, which puts it where it is x
+abbrev pub word_found : ℕ → At → Sat → ℕ → Sat → Type 0
+word_found x st m r m' = (m'.1 ≡ m.1) × (r ≡ x → m'.0 ≡ view_after m.0 (PutWord x)) × (r ≢ x → m'.0 ≡ view_after m.0 (Load st.word r))
+
 abbrev pub validated : At → Sat → ℕ → Sat → Type 0
 validated st m r m' = Is Validate m m' × ((o : Own) → m.0.own ≡ Some o → Alone m.0 o.slot o.text)
 

@@ -1,5 +1,5 @@
 -- What the calls say of a table and a seat.
-use Rattle.std.specs.Prelude.{◌≡◌, ◌≢◌, ◌⊎◌, ℕ, ◌<◌, ◌≤◌, false, List, [], ◌∷◌, map, Option, Some, None, Result, Ok, Err}
+use Rattle.std.specs.Prelude.{◌≡◌, ◌≢◌, ◌⊎◌, ℕ, ◌<◌, ◌≤◌, false, List, [], ◌∷◌, Option, Some, None, Result, Ok, Err}
 use Rattle.atom_words.specs.Layout.{state_of, closed_of, version_of}
 use Rattle.atom_words.specs.Board.{atom_at, head_at}
 use Rattle.atom_words.specs.Chains.{In}
@@ -43,8 +43,14 @@ abbrev pub answered : Option Pass → List Refusal
 answered None = []
 answered (Some p) = Full p ∷ []
 
-abbrev pub puts : List ℕ → List Kind
-puts ws = map (λ x. PutWord x) ws
+-- the next word of the own slot's text is put: by a load that finds it there, or by a store after a load that found another
+abbrev pub PutBy : ℕ → View → View → Type 0
+PutBy x v w = (w ≡ after v (PutWord x ∷ [])) ⊎ ((i y : ℕ) × (y ≢ x) × (w ≡ after v (Load i y ∷ PutWord x ∷ [])))
+
+-- THE STEPS THAT PUT WORDS, one after the other
+abbrev pub Puts : List ℕ → View → View → Type 0
+Puts [] v w = w ≡ v
+Puts (x ∷ ws) v w = (u : View) × PutBy x v u × Puts ws u w
 
 -- a seat of this table
 abbrev pub AtTable : Words → AtomSeat → Type 0

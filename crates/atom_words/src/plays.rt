@@ -1,5 +1,5 @@
 //! What each step tells its caller.
-ghost use Rattle.atom_words.specs.Plays.{head_raised, head_risen, reserved, reserved_marked, word_put, validated, released, protected, registered, unregistered, pass_started, pass_ended, seated, loaded, walk_started, word_read, gone_on, gone_past, slot_held, pending_shown, moved_found, held_word_read, worn_found, link_put, slot_linked, fetched, fixed, kept, asked};
+ghost use Rattle.atom_words.specs.Plays.{head_raised, head_risen, reserved, reserved_marked, word_put, word_found, validated, released, protected, registered, unregistered, pass_started, pass_ended, seated, loaded, walk_started, word_read, gone_on, gone_past, slot_held, pending_shown, moved_found, held_word_read, worn_found, link_put, slot_linked, fetched, fixed, kept, asked};
 ghost use Rattle.atom_words.specs.Views.{spent, with_keeper, without_keeper, keeper_of, without_collector, collector_of, with_one_dealt, engine_of};
 
 use crate::view::View;
@@ -39,6 +39,26 @@ pub struct PuttingWord;
 
 impl Play<(), View> for PuttingWord {
     ghost then = { word_put };
+}
+
+/// Which word is wanted. A call picks it.
+pub trait Wants {
+    ghost use Rattle.std.specs.Prelude.{ℕ};
+
+    ghost word: { ℕ };
+}
+
+impl Wants for Brand {
+    ghost word = { 0 };
+}
+
+/// The load of a text word, which puts it where it is the one wanted.
+pub struct FindingWord<W> {
+    word: PhantomData<W>,
+}
+
+impl<W: Wants> Play<(), View> for FindingWord<W> {
+    ghost then = { word_found W.word };
 }
 
 /// The store that makes a slot valid.

@@ -1,14 +1,17 @@
 //! The text of a reserved slot is put.
-ghost use Rattle.std.specs.Prelude.{◌≡◌, ℕ, ◌+◌, ◌*◌, ◌<◌, ◌≤◌, false, [], length, get_or, drop, Some};
+ghost use Rattle.std.specs.Prelude.{◌≡◌, ◌≢◌, ℕ, ◌+◌, ◌*◌, ◌<◌, ◌≤◌, false, [], ◌∷◌, length, get_or, drop, Some};
 ghost use Rattle.atom_words.specs.Texts.{packed, row_of};
+ghost use Rattle.atom_words.specs.Board.{text_at};
 ghost use Rattle.atom_words.specs.Kinds.{after};
-ghost use Rattle.atom_words.specs.Seats.{seen, Fits, Same, puts};
+ghost use Rattle.atom_words.specs.Seats.{seen, Fits, Same, PutBy, Puts};
+ghost use Rattle.atom_words.specs.declared.kind.Kind.TheVariants.{Load, PutWord};
 ghost use Rattle.atom_words.specs.declared.view.Own.{Own};
 
-use crate::plays::PuttingWord;
+use crate::plays::{FindingWord, PuttingWord, Wants};
 use crate::view::View;
 use crate::words::{AtomSeat, Words};
 use atomic_table::Seat;
+use std::marker::Brand;
 
 /// The most bytes that a text may have.
 pub const MOST_BYTES: usize = 248;
@@ -78,6 +81,36 @@ pub fn row_word(text: &[u8], i: usize) -> u64
 }
 
 impl Words {
+    // The load of the next word of the own slot's text, which puts it where it is the one that is picked.
+    fn find_word<W: Wants>(&self, seat: &mut Seat<(), View>, place: usize, _word: u64) -> u64
+        requires fits { (seat.old.table_id ≡ self.now.table.shared.table_id) × (seat.old.me.0.size ≡ self.now.size) × (seat.old.me.0.gone ≡ false) }
+        requires inside { place < self.now.table.shared.table_id.words }
+        requires own { (o : Own) × (seat.old.me.0.own ≡ Some o) × (o.linked ≡ false) × (length o.text < 32) × (place ≡ text_at seat.old.me.0.size (32 * o.slot + length o.text)) }
+        ensures same { (seat.new.table_id ≡ seat.old.table_id) × (seat.new.id ≡ seat.old.id) × (seat.new.me.1 ≡ seat.old.me.1) }
+        ensures found { result ≡ W.word → seat.new.me.0 ≡ after seat.old.me.0 (PutWord W.word ∷ []) }
+        ensures other { result ≢ W.word → seat.new.me.0 ≡ after seat.old.me.0 (Load place result ∷ []) }
+    {
+        self.table.shared.load::<FindingWord<W>>(seat, place)
+    }
+
+    // Puts the next word of the own slot's text. A new slot's words are mostly the zeros that a short text ends with, so it
+    // stores only a word that does not stand there.
+    fn put_word(&self, seat: &mut Seat<(), View>, place: usize, word: u64)
+        requires fits { (seat.old.table_id ≡ self.now.table.shared.table_id) × (seat.old.me.0.size ≡ self.now.size) × (seat.old.me.0.gone ≡ false) }
+        requires inside { place < self.now.table.shared.table_id.words }
+        requires own { (o : Own) × (seat.old.me.0.own ≡ Some o) × (o.linked ≡ false) × (length o.text < 32) × (place ≡ text_at seat.old.me.0.size (32 * o.slot + length o.text)) }
+        ensures same { (seat.new.table_id ≡ seat.old.table_id) × (seat.new.id ≡ seat.old.id) × (seat.new.me.1 ≡ seat.old.me.1) }
+        ensures steps { PutBy word seat.old.me.0 seat.new.me.0 }
+    {
+        let found = self.find_word::<Brand>(seat, place, word);
+        if found == word {
+            return;
+        }
+        self.table
+            .shared
+            .store::<PuttingWord>(seat, place, word);
+    }
+
     // Puts the words of the text, one after the other.
     fn put_words(&self, seat: &mut Seat<(), View>, own: u32, text: &[u8])
         requires fits { (seat.old.table_id ≡ self.now.table.shared.table_id) × (seat.old.me.0.size ≡ self.now.size) × (seat.old.me.0.gone ≡ false) }
@@ -85,24 +118,22 @@ impl Words {
         requires short { length text.now ≤ 248 }
         requires own { (o : Own) × (seat.old.me.0.own ≡ Some o) × (o.linked ≡ false) × (o.text ≡ []) × (o.slot ≡ own) }
         ensures same { (seat.new.table_id ≡ seat.old.table_id) × (seat.new.id ≡ seat.old.id) × (seat.new.me.1 ≡ seat.old.me.1) }
-        ensures steps { seat.new.me.0 ≡ after seat.old.me.0 (puts (row_of text.now)) }
+        ensures steps { Puts (row_of text.now) seat.old.me.0 seat.new.me.0 }
     {
         let place = self.text_place(own);
         for i in 0..32 {
-            let word = row_word(text, i);
-            self.table
-                .shared
-                .store::<PuttingWord>(seat, place + i, word);
+            self.put_word(seat, place + i, row_word(text, i));
         }
     }
 
     /// Puts all words of the text of the seat's own slot, which is not linked and has no text yet. A text has at most 248 bytes.
+    /// A word that stands there already is put by a load.
     pub fn put_text(&self, seat: &mut AtomSeat, text: &[u8])
         requires fits { Fits self.now seat.old }
         requires short { length text.now ≤ 248 }
         requires own { (o : Own) × ((seen seat.old).own ≡ Some o) × (o.linked ≡ false) × (o.text ≡ []) }
         ensures same { Same seat.old seat.new }
-        ensures steps { seen seat.new ≡ after (seen seat.old) (puts (row_of text.now)) }
+        ensures steps { Puts (row_of text.now) (seen seat.old) (seen seat.new) }
     {
         let own = seat.own;
         self.put_words(&mut seat.seat, own, text);

@@ -2,8 +2,8 @@
 use Rattle.std.proofs.Common.{◌≡◌, ◌≢◌, ◌<◌, ℕ, inl, inr, false, List, [], ◌∷◌, refl, sym, ap, ◌∙◌, subst, ⊎_elim, Some, Ok, Err, Result, option_map}
 use Rattle.atom_words.specs.Layout.{first_of}
 use Rattle.atom_words.specs.Board.{atom_at}
-use Rattle.atom_words.specs.Kinds.{linking, linked_own, view_after, after}
-use Rattle.atom_words.specs.Seats.{puts, Reserves, Walking}
+use Rattle.atom_words.specs.Kinds.{linking, linked_own, after}
+use Rattle.atom_words.specs.Seats.{PutBy, Puts, Reserves, Walking}
 use Rattle.atom_words.specs.declared.view.Own.{Own}
 use Rattle.atom_words.specs.declared.view.Walk.{Walk}
 use Rattle.atom_words.specs.declared.view.Cycling.{Cycling}
@@ -37,9 +37,14 @@ beside_reserve v k w r = ⊎_elim
     (λ (e : w ≡ after v (Reserve k ∷ [])). subst (Beside v) (sym e) (record { gone = refl; size = refl; held = refl; fixed = refl; counts = refl; asked = refl; undealt = refl; cycle = refl; sweep = refl; risen = refl }))
     (λ (e : w ≡ after v (Load (atom_at v.size k) 4 ∷ Reserve k ∷ [])). subst (Beside v) (sym e) (record { gone = refl; size = refl; held = refl; fixed = refl; counts = refl; asked = refl; undealt = refl; cycle = refl; sweep = refl; risen = refl })) r
 
-pub beside_puts : (v : View) (ws : List ℕ) → Beside v (after v (puts ws))
-beside_puts v [] = beside_refl v
-beside_puts v (x ∷ ws) = beside_trans v (view_after v (PutWord x)) (after (view_after v (PutWord x)) (puts ws)) (record { gone = refl; size = refl; held = refl; fixed = refl; counts = refl; asked = refl; undealt = refl; cycle = refl; sweep = refl; risen = refl }) (beside_puts (view_after v (PutWord x)) ws)
+beside_put : (x : ℕ) (v w : View) → PutBy x v w → Beside v w
+beside_put x v w b = ⊎_elim
+    (λ (e : w ≡ after v (PutWord x ∷ [])). subst (Beside v) (sym e) (record { gone = refl; size = refl; held = refl; fixed = refl; counts = refl; asked = refl; undealt = refl; cycle = refl; sweep = refl; risen = refl }))
+    (λ (e : (i y : ℕ) × (y ≢ x) × (w ≡ after v (Load i y ∷ PutWord x ∷ []))). subst (Beside v) (sym e.3) (record { gone = refl; size = refl; held = refl; fixed = refl; counts = refl; asked = refl; undealt = refl; cycle = refl; sweep = refl; risen = refl })) b
+
+pub beside_puts : (ws : List ℕ) (v w : View) → Puts ws v w → Beside v w
+beside_puts [] v w p = subst (Beside v) (sym p) (beside_refl v)
+beside_puts (x ∷ ws) v w p = beside_trans v p.0 w (beside_put x v p.0 p.1) (beside_puts ws p.0 w p.2)
 
 -- a seat that walks does so still
 pub walking_beside : (v w : View) → Beside v w → Walking v → Walking w

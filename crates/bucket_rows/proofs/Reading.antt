@@ -6,7 +6,7 @@ use Rattle.atom_words.specs.Chains.{In}
 use Rattle.atom_words.specs.Plays.{Alone}
 use Rattle.atom_words.specs.Texts.{bucket}
 use Rattle.atom_words.specs.Board.{atom_at}
-use Rattle.atom_words.specs.Seats.{puts, Reserves, Walking}
+use Rattle.atom_words.specs.Seats.{Puts, Reserves, Walking}
 use Rattle.atom_words.specs.Kinds.{starting, reading, going_on, skipping, guarding, at_hand, held_at_hand, fresh, view_after, after}
 use Rattle.atom_words.specs.declared.view.Held.{Held}
 use Rattle.atom_words.specs.declared.view.Walk.{Walk}
@@ -282,13 +282,13 @@ reserved_as v k w r = ⊎_elim
     (λ (e : w ≡ after v (Load (atom_at v.size k) 4 ∷ Reserve k ∷ [])). subst (Reserved k v) (sym e) (record { own = refl; walk = refl; held = refl; fixed = refl; size = refl; gone = refl })) r
 
 -- a reserved slot is ready once its text is put
-pub ready_put : (row : List ℕ) (k : ℕ) (v w : View) → length row ≡ 32 → v.own ≡ Some (fresh k) → MissingIn row v → w ≡ after v (puts row) → Ready w
+pub ready_put : (row : List ℕ) (k : ℕ) (v w : View) → length row ≡ 32 → v.own ≡ Some (fresh k) → MissingIn row v → Puts row v w → Ready w
 ready_put row k v w long own m is = (
   record { slot = k; text = row; link = None; linked = false },
-  ap (λ (y : View). y.own) is ∙ puts_own v (fresh k) row own,
+  puts_own (fresh k) row v w own is,
   refl,
   long,
-  (m.0, m.1, missing_as row (bucket m.0 row) v w (ap (λ (y : View). y.walk) is ∙ puts_keep (λ (y : View). y.walk) (λ _ _. refl) v row) m.2),
+  (m.0, m.1, missing_as row (bucket m.0 row) v w (puts_keep (λ (y : View). y.walk) (λ _ _. refl) (λ _ _ _. refl) row v w is) m.2),
 )
 
 -- a walk whose row word was loaded first
