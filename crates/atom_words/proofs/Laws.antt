@@ -1,14 +1,14 @@
 -- The laws of the slots, from what every reached state keeps.
-use Rattle.std.proofs.Common.{◌≡◌, ◌≢◌, ◌⊎◌, ℕ, ◌+◌, ◌<◌, false, List, length, get_or, refl, sym, ap, ◌∙◌, subst, ⊎_elim, arith, Some}
+use Rattle.std.proofs.Common.{◌≡◌, ◌≢◌, ◌⊎◌, ℕ, ◌+◌, ◌<◌, false, List, length, get_or, refl, sym, ap, ◌∙◌, subst, inl, inr, ⊎_elim, arith, Some}
 use mathlib.Core.Option.{some}
 use lib.ListN.{get_elem?}
-use Rattle.atom_words.specs.Layout.{state_of, mark_of, count_of}
+use Rattle.atom_words.specs.Layout.{state_of, mark_of, count_of, phase_of, epoch_of}
 use Rattle.atom_words.specs.Board.{Board, atom, text_of}
 use Rattle.atom_words.specs.Chains.{In}
 use Rattle.atom_words.specs.Kinds.{Does}
 use Rattle.atom_words.specs.Rule.{Moves, goes, makes, joins, splits, Reached}
 use Rattle.atom_words.specs.Kept.{HeldOk, SeatOk, Kept}
-use Rattle.atom_words.specs.Laws.{Uses}
+use Rattle.atom_words.specs.Laws.{Uses, CountsAre, Marked, OneDying}
 use Rattle.atom_words.specs.declared.size.Size.{Size}
 use Rattle.atom_words.specs.declared.view.Held.{Held}
 use Rattle.atom_words.specs.declared.view.Counted.{Counted}
@@ -123,3 +123,18 @@ unused z n b vs h id v y b' at here sweep step j w a at_w here_w u e = let r = r
     (λ (d : Does z b v Free b'). let one : d.0 ≡ y = some_same d.0 y v.sweep d.1.0.0 sweep in let is = known z b vs r id v s d.0 d.1.0.0 in
     let slot : r.plan.fate.slot ≡ a.slot + 1 = sym r.fate.slot ∙ (ap (λ (t : Sweeping). t.dying) is ∙ (d.1.1 ∙ ap (λ (i : ℕ). i + 1) (ap (λ (t : Sweeping). t.cursor) one ∙ sym e))) in let dying = r.slots.dies a.slot slot in omega arith)
     step
+
+-- counts
+pub counts_are : (z : Size) → CountsAre z
+counts_are z n b vs h k = let r = reached_kept n z b vs h in (r.slots.zero k, λ j v cs c at here e q. ((r.seats j v at here).counts cs e).counts k c q)
+
+-- marks
+pub marked : (z : Size) → Marked z
+marked z n b vs h i j u v y a at_u here_u sweep at here phase acked held = let r = reached_kept n z b vs h in let m = (r.seats j v at here).marks.held (phase, acked) a held in
+    let cursor : r.plan.sweep.cursor ≡ y.cursor = ap (λ (t : Sweeping). t.cursor) (known z b vs r i u (r.seats i u at_u here_u) y sweep) in
+    (m.0, ⊎_elim (λ (t : mark_of (get_or b.atoms a.slot 0) ≡ 1). inl t) (λ (t : (phase_of b.epoch ≡ 2) × (a.slot < r.plan.sweep.cursor)). inr (t.0, subst (λ (c : ℕ). a.slot < c) cursor t.1)) m.1)
+
+-- the dying slot
+pub one_dying : (z : Size) → OneDying z
+one_dying z n b vs h i k u y at here sweep dying = let r = reached_kept n z b vs h in let slot : r.plan.fate.slot ≡ k + 1 = r.slots.only k dying in let d = r.fate.dies (λ none. omega arith) in let come = d.at in
+    let cursor : r.plan.sweep.cursor ≡ y.cursor = ap (λ (t : Sweeping). t.cursor) (known z b vs r i u (r.seats i u at here) y sweep) in (d.sweeping, omega arith, r.cycle.swept d.sweeping)
