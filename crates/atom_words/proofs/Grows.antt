@@ -161,6 +161,7 @@ module _ (z : Size) (b : Board) (vs : List View) (r : Kept z b vs) (id : ℕ) (v
             leaves = λ ne. absurd (ne still_too);
             once = r.rows.once;
             stands = λ g k g_in j. inl (stands g k g_in j);
+            formed = r.rows.formed;
             unlike = r.rows.unlike;
           };
           grow = grow;
@@ -179,6 +180,7 @@ module _ (z : Size) (b : Board) (vs : List View) (r : Kept z b vs) (id : ℕ) (v
         leaves = r.rows.leaves;
         once = r.rows.once;
         stands = λ h k inside i. inl (stands_early z b.row r.plan.grow b.links b.heads b.texts r.plan.chain r.plan.place r.plan.fate r.rows early h k inside i);
+        formed = r.rows.formed;
         unlike = r.rows.unlike;
       }
       record {
@@ -205,7 +207,7 @@ module _ (z : Size) (b : Board) (vs : List View) (r : Kept z b vs) (id : ℕ) (v
   keep_sound x b' d = let is = grown_is z b vs r id v s d.0 in let some_ : 0 < r.plan.grow.shut = subst (λ (t : Growing). 0 < t.shut) (sym is) d.1 in let more : r.plan.grow.sound < 2 ^ r.plan.grow.aim = subst (λ (t : Growing). t.sound < 2 ^ t.aim) (sym is) d.3 in
       let word : get_or b.heads (row_first r.plan.grow.aim + r.plan.grow.sound) 0 ≡ x = subst (λ (t : Growing). get_or b.heads (row_first t.aim + t.sound) 0 ≡ x) (sym is) d.4 in
       subst (λ t. Kept z t (set vs id (view_after v (Sound x)))) (sym d.6) (told z b vs r id v s d.0 sounding
-      record { chains = r.rows.chains; leaves = r.rows.leaves; once = r.rows.once; stands = r.rows.stands; unlike = r.rows.unlike }
+      record { chains = r.rows.chains; leaves = r.rows.leaves; once = r.rows.once; stands = r.rows.stands; formed = r.rows.formed; unlike = r.rows.unlike }
       record {
         known = r.grow.known;
         size = r.grow.size;
@@ -331,7 +333,7 @@ module _ (z : Size) (b : Board) (vs : List View) (r : Kept z b vs) (id : ℕ) (v
     emptied_at : r.plan.grow.moving ≡ 0 → r.plan.grow.moved < 2 ^ b.row → first_of (get_or b.heads (row_first b.row + r.plan.grow.moved) 0) ≡ 0 → Kept z b (set vs id (view_after v Emptied))
     emptied_at still more none = let size = r.grow.size in let inside : row_first b.row + r.plan.grow.moved < z.heads = omega (arith, more, size.0, size.1) in
         let whole = chains_still z b.row r.plan.grow b.links b.heads b.texts r.plan.chain r.plan.place r.plan.fate r.rows still in told z b vs r id v s m.0 emptying
-        record { chains = λ h h_in _. whole h h_in; leaves = λ ne. absurd (ne still); once = r.rows.once; stands = r.rows.stands; unlike = r.rows.unlike }
+        record { chains = λ h h_in _. whole h h_in; leaves = λ ne. absurd (ne still); once = r.rows.once; stands = r.rows.stands; formed = r.rows.formed; unlike = r.rows.unlike }
         record {
           known = r.grow.known;
           size = r.grow.size;
@@ -376,6 +378,7 @@ module _ (z : Size) (b : Board) (vs : List View) (r : Kept z b vs) (id : ℕ) (v
             stands = λ h k h_in j. ⊎_elim
                 (λ (e : bucket b.row (text_of b.texts k) ≡ h). absurd (let t = bucket_in b.row (text_of b.texts k) r.grow.size.0 in in_none k (subst (In k) (r.grow.emptied h (subst (λ (n : ℕ). row_first b.row ≤ n) e t.0) (let below : h < row_first b.row + 2 ^ b.row = subst (λ (n : ℕ). n < row_first b.row + 2 ^ b.row) e t.1 in omega (arith, below, all))) j)))
                 (λ (t : (r.plan.grow.shut ≡ 2 ^ b.row) × (bucket r.plan.grow.aim (text_of b.texts k) ≡ h)). inl (ap (λ (n : ℕ). bucket n (text_of b.texts k)) at ∙ t.1)) (r.rows.stands h k h_in j);
+            formed = r.rows.formed;
             unlike = r.rows.unlike;
           };
           grow = record {

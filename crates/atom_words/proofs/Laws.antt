@@ -42,7 +42,7 @@ module _ (z : Size) (b : Board) (vs : List View) (r : Kept z b vs) (b' : Board) 
   text_kind id v s (PutWord x) d = ap (λ (y : Board). text_of y.texts k) d.4 ∙ text_else b.texts d.0.slot (length d.0.text) x k d.3
       (λ e. let state = (s.own d.0 d.1).state in let here : state_of (get_or b.atoms d.0.slot 0) ≡ 3 = ap (λ (i : ℕ). state_of (get_or b.atoms i 0)) (sym e) ∙ valid in omega arith)
   text_kind id v s (PutLink l) d = same_text (ap (λ (x : Board). x.texts) d.3)
-  text_kind id v s Link d = same_text (ap (λ (x : Board). x.texts) d.11)
+  text_kind id v s Link d = same_text (ap (λ (x : Board). x.texts) d.12)
   text_kind id v s Validate d = same_text (ap (λ (x : Board). x.texts) d.4)
   text_kind id v s Release d = same_text (ap (λ (x : Board). x.texts) d.3)
   text_kind id v s (Load i x) d = same_text (ap (λ (y : Board). y.texts) d.1)

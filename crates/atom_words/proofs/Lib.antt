@@ -9,6 +9,7 @@ pub mod Loads
 pub mod Puts
 pub mod AtomSteps
 pub mod TextSteps
+pub mod Padding
 pub mod LinkStep
 pub mod RaiseStep
 pub mod SeatSteps

@@ -2,7 +2,7 @@
 use Rattle.std.proofs.Common.{◌≡◌, ◌≢◌, ◌⊎◌, ℕ, ◌+◌, ◌<◌, ◌≤◌, false, List, [], ◌∷◌, length, get_or, set, take, refl, sym, ap, ◌∙◌, subst, inl, inr, ⊎_elim, arith, Some, None, length-set, take_all, get_or-set_same, get_or-set_other, ◌^◌}
 use native.Mathlib.Decide.{ℕ_discrete}
 use Rattle.atom_words.specs.Layout.{state_of, first_of, version_of, head_word, worn, last, phase_of, closed_of}
-use Rattle.atom_words.specs.Texts.{bucket}
+use Rattle.atom_words.specs.Texts.{bucket, Formed}
 use Rattle.atom_words.specs.Board.{Board, text_of, with_head}
 use Rattle.atom_words.specs.Chains.{In, Chain, Linked}
 use Rattle.atom_words.specs.Kinds.{linked_own, view_after, Ended, Does}
@@ -114,7 +114,7 @@ module _ (z : Size) (chain : ℕ → List ℕ) (h k : ℕ) (inside : h < z.heads
   }
 
 module _ (z : Size) (b : Board) (vs : List View) (r : Kept z b vs) (id : ℕ) (v : View) (s : SeatOk z b r.plan id v) (o : Own) (w : Walk) (own : v.own ≡ Some o) (walk : v.walk ≡ Some w)
-    (unlinked : o.linked ≡ false) (whole : length o.text ≡ 32) (link : o.link ≡ Some (first_of w.word)) (ended : Ended b.row o w) (found : get_or b.heads w.head 0 ≡ w.word) (open_ : closed_of w.word ≡ 0) (fresh : version_of w.word < worn) where
+    (unlinked : o.linked ≡ false) (whole : length o.text ≡ 32) (formed_text : Formed o.text) (link : o.link ≡ Some (first_of w.word)) (ended : Ended b.row o w) (found : get_or b.heads w.head 0 ≡ w.word) (open_ : closed_of w.word ≡ 0) (fresh : version_of w.word < worn) where
   ok : OwnOk z b.atoms b.links b.texts r.plan.chain r.plan.owner id o
   ok = s.own o own
 
@@ -205,6 +205,7 @@ module _ (z : Size) (b : Board) (vs : List View) (r : Kept z b vs) (id : ℕ) (v
     once = on_chain (λ g q. put r.plan.place o.slot w.head q ≡ g) (put_here r.plan.place o.slot w.head)
         (λ g q inside i. put_else r.plan.place o.slot w.head q (apart q (g, inside, i)) ∙ r.rows.once g q inside i);
     stands = λ g q inside i. inl (on_chain (λ h k. bucket b.row (text_of b.texts k) ≡ h) (ap (bucket b.row) text_is ∙ ended.0) stood g q inside i);
+    formed = on_chain (λ h k. Formed (text_of b.texts k)) (subst Formed (sym text_is) formed_text) r.rows.formed;
     unlike = λ g h k q inside inside_too i j alive too e. ⊎_elim
         (λ (a : o.slot ≡ k). ⊎_elim (λ (c : o.slot ≡ q). sym a ∙ c) (λ (c : In q (r.plan.chain h)). absurd (new_anywhere h q inside_too c too (sym e ∙ (ap (text_of b.texts) (sym a) ∙ text_is)))) (was_on h q inside_too j))
         (λ (a : In k (r.plan.chain g)). ⊎_elim (λ (c : o.slot ≡ q). absurd (new_anywhere g k inside a alive (e ∙ (ap (text_of b.texts) (sym c) ∙ text_is)))) (λ (c : In q (r.plan.chain h)). r.rows.unlike g h k q inside inside_too a c alive too e) (was_on h q inside_too j))
@@ -306,4 +307,4 @@ module _ (z : Size) (b : Board) (vs : List View) (r : Kept z b vs) (id : ℕ) (v
   }
 
 pub keep_link : (z : Size) (b : Board) (vs : List View) (r : Kept z b vs) (id : ℕ) (v : View) → SeatOk z b r.plan id v → (b' : Board) → Does z b v Link b' → Kept z b' (set vs id (view_after v Link))
-keep_link z b vs r id v s b' d = subst (λ y. Kept z y (set vs id (view_after v Link))) (sym d.11) (link_at z b vs r id v s d.0 d.1 d.2 d.3 d.4 d.5 d.6 d.7 d.8 d.9 d.10)
+keep_link z b vs r id v s b' d = subst (λ y. Kept z y (set vs id (view_after v Link))) (sym d.12) (link_at z b vs r id v s d.0 d.1 d.2 d.3 d.4 d.5 d.6 d.7 d.8 d.9 d.10 d.11)

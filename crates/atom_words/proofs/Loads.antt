@@ -4,11 +4,12 @@ use mathlib.Core.Option.{some}
 use lib.ListN.{get_elem?}
 use Rattle.atomic_table.proofs.Lists.{at_longer, at_last}
 use Rattle.atom_words.specs.Layout.{state_of, first_of, closed_of, version_of, phase_of}
+use Rattle.atom_words.proofs.Padding.{padded_is}
 use Rattle.atom_words.specs.Board.{Board, text_of}
 use mathlib.Core.List.{map-append}
-use Rattle.atom_words.specs.Texts.{bucket}
+use Rattle.atom_words.specs.Texts.{bucket, padded}
 use Rattle.atom_words.specs.Chains.{In, Chain, Linked}
-use Rattle.atom_words.specs.Kinds.{starting, reading, going_on, skipping, at_hand, held_at_hand, Sitting, view_after, Does}
+use Rattle.atom_words.specs.Kinds.{starting, reading, going_on, skipping, at_hand, whole_at_hand, held_at_hand, IsWhole, Sitting, view_after, Does}
 use Rattle.atom_words.specs.Kept.{Plan, Left, Safe, Acked, HeldOk, Seen, WalkOk, SeatOk, slots, Trail, Kept}
 use Rattle.atom_words.specs.declared.size.Size.{Size}
 use Rattle.atom_words.specs.declared.view.Held.{Held}
@@ -183,15 +184,15 @@ module _ (z : Size) (b : Board) (vs : List View) (r : Kept z b vs) (id : ℕ) (v
       ⊎_elim (λ (t : In k (r.plan.chain w.head)). t) (λ (t : Left r.plan.fate w k). absurd (let dying = r.slots.dies k t.0 in omega arith)) (u.inside k (subst (In k) (sym c.1) (0, refl)))
 
   -- what a walk ends with at its version
-  hold_ok : (w : Walk) (k : ℕ) → WalkOk z b.links b.heads b.texts r.plan.chain r.plan.fate w → w.place ≡ k + 1 → state_of (get_or b.atoms k 0) ≡ 3 → length w.part ≡ 32 → version_of (get_or b.heads w.head 0) ≡ version_of w.word
-      → HeldOk z b.atoms b.texts r.plan.chain (at_hand w)
+  hold_ok : (w : Walk) (k : ℕ) → WalkOk z b.links b.heads b.texts r.plan.chain r.plan.fate w → w.place ≡ k + 1 → state_of (get_or b.atoms k 0) ≡ 3 → IsWhole w.part → version_of (get_or b.heads w.head 0) ≡ version_of w.word
+      → HeldOk z b.atoms b.texts r.plan.chain (whole_at_hand w)
   hold_ok w k ok place valid whole same_ = let u = ok.claim same_ in let c = chain_at b.links k u.path (subst (λ (n : ℕ). Chain b.links n u.path) place u.reached) in let slot : k ≡ w.place - 1 = omega arith in
-      let short = text_short b.texts k in let all : take (length w.part) (text_of b.texts k) ≡ text_of b.texts k = take_all (length w.part) (text_of b.texts k) (omega arith) in
-      subst (λ (n : ℕ). HeldOk z b.atoms b.texts r.plan.chain (record { slot = n; text = w.part })) slot record {
+      let on = in_chain w k ok place same_ valid in let long = text_length b.texts k z.slots r.sized.texts (omega (arith, c.2, r.sized.links)) in
+      subst (λ (n : ℕ). HeldOk z b.atoms b.texts r.plan.chain (record { slot = n; text = padded w.part })) slot record {
         inside = omega (arith, c.2, r.sized.links);
         valid = valid;
-        linked = (w.head, ok.inside, in_chain w k ok place same_ valid);
-        text = sym all ∙ u.part k place;
+        linked = (w.head, ok.inside, on);
+        text = padded_is (text_of b.texts k) w.part long (u.part k place) whole.0 whole.1 (r.rows.formed w.head k ok.inside on);
       }
 
   -- the slot at the cursor, whose text was spelled, stands in the chain of its text's bucket
@@ -275,7 +276,7 @@ module _ (z : Size) (b : Board) (vs : List View) (r : Kept z b vs) (id : ℕ) (v
 
   pub keep_hold : (b' : Board) → Does z b v Hold b' → Kept z b' (set vs id (view_after v Hold))
   keep_hold b' d = let g = s.marks.guard d.0 d.1 d.2 d.4 d.3 d.7 in
-      let ok : SeatOk z b r.plan id (record v { held = v.held ++ at_hand d.0 ∷ []; walk = None; made = v.made ++ Hold ∷ [] }) = holding z b r.plan id v s (at_hand d.0) (v.made ++ Hold ∷ []) (hold_ok d.0 d.1 (s.walk d.0 d.2) d.3 g.0 d.5 d.6)
+      let ok : SeatOk z b r.plan id (record v { held = v.held ++ whole_at_hand d.0 ∷ []; walk = None; made = v.made ++ Hold ∷ [] }) = holding z b r.plan id v s (whole_at_hand d.0) (v.made ++ Hold ∷ []) (hold_ok d.0 d.1 (s.walk d.0 d.2) d.3 g.0 d.5 d.6)
       (λ acked. let slot : d.1 ≡ d.0.place - 1 = omega (arith, d.3) in subst (Safe b.epoch b.atoms r.plan.sweep.cursor) slot (g.1 acked)) d.7 in
       keep_same b' (view_after v Hold) d.8 (subst (λ (y : Option Walk). SeatOk z b r.plan id (record v { held = v.held ++ held_at_hand y; walk = None; made = v.made ++ Hold ∷ [] })) (sym d.2) ok)
 

@@ -139,7 +139,7 @@ module _ (z : Size) (b : Board) (vs : List View) (r : Kept z b vs) (id : ℕ) (v
 
     pick_at : Kept z b (set vs id (view_after v (Pick a before)))
     pick_at = told z b vs r id v s m.0 (picking a before)
-        record { chains = r.rows.chains; leaves = r.rows.leaves; once = r.rows.once; stands = r.rows.stands; unlike = r.rows.unlike }
+        record { chains = r.rows.chains; leaves = r.rows.leaves; once = r.rows.once; stands = r.rows.stands; formed = r.rows.formed; unlike = r.rows.unlike }
         record {
           known = r.grow.known;
           size = r.grow.size;
@@ -310,6 +310,7 @@ module _ (z : Size) (b : Board) (vs : List View) (r : Kept z b vs) (id : ℕ) (v
         leaves = λ _. subst (λ (l : List ℕ). Chain links' (first_of (get_or heads' (row_first b.row + r.plan.grow.moved) 0)) l) (known_.2.1 ∙ (λ i. sym at_from i ++ (sym less i) ∷ [])) (elsewhere (row_first b.row + r.plan.grow.moved) from_in from_to);
         once = moved_cases (λ h q. put r.plan.place a.slot (bucket r.plan.grow.aim a.text) q ≡ h) (put_here r.plan.place a.slot (bucket r.plan.grow.aim a.text)) (λ h q inside ne i. put_else r.plan.place a.slot (bucket r.plan.grow.aim a.text) q ne ∙ r.rows.once h q inside i);
         stands = moved_cases (λ h q. (bucket b.row (text_of b.texts q) ≡ h) ⊎ ((r.plan.grow.shut ≡ 2 ^ b.row) × (bucket r.plan.grow.aim (text_of b.texts q) ≡ h))) (inr (all_shut z b vs r id v s m, ap (bucket r.plan.grow.aim) known_.1)) (λ h q inside _ i. r.rows.stands h q inside i);
+        formed = λ h q inside i. let one = was_on q (h, inside, i) in r.rows.formed one.0 q one.1 one.2;
         unlike = λ h g q n inside inside_too i j alive too e. let one = was_on q (h, inside, i) in let two = was_on n (g, inside_too, j) in r.rows.unlike one.0 two.0 q n one.1 two.1 one.2 two.2 alive too e;
       }
         where
@@ -394,6 +395,7 @@ module _ (z : Size) (b : Board) (vs : List View) (r : Kept z b vs) (id : ℕ) (v
               leaves = λ ne. absurd (ne refl);
               once = r.rows.once;
               stands = r.rows.stands;
+              formed = r.rows.formed;
               unlike = r.rows.unlike;
             };
             grow = heads_grow links' heads' r.plan.chain same (leaving r.plan.grow) r.grow.known refl refl refl refl none r.grow.emptied r.grow.picked (λ ne. absurd (ne refl));

@@ -135,6 +135,7 @@ module _ (z : Size) (b : Board) (vs : List View) (r : Kept z b vs) (id : ℕ) (v
           (λ _. r.rows.chains g i whole);
       once = r.rows.once;
       stands = r.rows.stands;
+      formed = r.rows.formed;
       unlike = r.rows.unlike;
     };
     slots = r.slots;

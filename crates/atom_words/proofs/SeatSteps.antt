@@ -346,6 +346,7 @@ keep_open z b vs o = let none : Plan = record { chain = λ _. []; place = λ _. 
             (λ (gt : ¬ (256 ≤ h)). ap first_of (o.buckets h inside (omega arith)));
         once = λ h k inside i. absurd (in_none k i);
         stands = λ h k inside i. absurd (in_none k i);
+        formed = λ h k inside i. absurd (in_none k i);
         unlike = λ h g k q inside too i j e. absurd (in_none k i);
       };
       slots = record {

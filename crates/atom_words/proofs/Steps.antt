@@ -112,8 +112,8 @@ module _ (key : Size) (slots id : ℕ) (me : Sat) (is : key ≡ me.0.size) (here
   finding_word i x o own un short at = subst (λ (w : ℕ). Allows (Rule key) slots id me w (λ n. n) (word_found x (step slots w 0 0 none) me)) (sym at)
       (let p : ℕ = 32 * o.slot + length o.text in text_load key me.0.size slots id me p (word_found x (step slots (text_at me.0.size p) 0 0 none) me) is here
       (λ b vs r seen small. dite (ℕ_discrete (get_or b.texts p 0) x)
-        (λ (same : get_or b.texts p 0 ≡ x). (PutWord x, (o, own, un, short, word_same b p x same), (refl, (λ _. refl), λ ne. absurd (ne same))))
-        (λ (other : ¬ (get_or b.texts p 0 ≡ x)). (Load (text_at me.0.size p) (get_or b.texts p 0), (text_read me.0.size b r.sized p, refl), (refl, (λ e. absurd (other e)), λ _. refl)))))
+      (λ (same : get_or b.texts p 0 ≡ x). (PutWord x, (o, own, un, short, word_same b p x same), (refl, (λ _. refl), λ ne. absurd (ne same))))
+      (λ (other : ¬ (get_or b.texts p 0 ≡ x)). (Load (text_at me.0.size p) (get_or b.texts p 0), (text_read me.0.size b r.sized p, refl), (refl, (λ e. absurd (other e)), λ _. refl)))))
 
   pub validating : (i : ℕ) (o : Own) → me.0.own ≡ Some o → o.linked ≡ true → Sitting me.0 → o.slot < me.0.size.slots → i ≡ atom_at me.0.size o.slot
       → Allows (Rule key) slots id me i (λ _. 7) (λ _. validated (step slots i 7 0 none) me 7)

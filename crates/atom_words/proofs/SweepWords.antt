@@ -256,7 +256,7 @@ module _ (z : Size) (b : Board) (vs : List View) (r : Kept z b vs) (id : ℕ) (v
 
   condemn_at : Kept z (with_atom b r.plan.sweep.cursor 2) (set vs id (view_after v Condemn))
   condemn_at = let c : ℕ = r.plan.sweep.cursor in collector_atom z b vs r r.plan.sweep.cursor 2 (condemning (head_of v.walk)) (record { slot = r.plan.sweep.cursor + 1; out = false; head = w.head; left = 0 }) id v s y at (v.made ++ Condemn ∷ [])
-      record { chains = r.rows.chains; leaves = r.rows.leaves; once = r.rows.once; stands = r.rows.stands; unlike = λ h g k q inside too i j _ _ e. r.rows.unlike h g k q inside too i j (living k) (living q) e }
+      record { chains = r.rows.chains; leaves = r.rows.leaves; once = r.rows.once; stands = r.rows.stands; formed = r.rows.formed; unlike = λ h g k q inside too i j _ _ e. r.rows.unlike h g k q inside too i j (living k) (living q) e }
       record {
         live = λ q l. word_after (λ n. ((state_of n ≡ 1) ⊎ (state_of n ≡ 3)) ⊎ (c + 1 ≡ q + 1)) b.atoms c 2 q within (λ e. inr (ap (λ (i : ℕ). i + 1) (sym e)))
             (λ _. ⊎_elim (λ (t : (state_of (get_or b.atoms q 0) ≡ 1) ⊎ (state_of (get_or b.atoms q 0) ≡ 3)). inl t) (λ (t : r.plan.fate.slot ≡ q + 1). absurd (living q (sym t))) (r.slots.live q l));
@@ -368,7 +368,7 @@ module _ (z : Size) (b : Board) (vs : List View) (r : Kept z b vs) (id : ℕ) (v
 
   free_at : Kept z (with_atom b r.plan.sweep.cursor 0) (set vs id (view_after v Free))
   free_at = let c : ℕ = r.plan.sweep.cursor in let slot = d.at in let high = d.high in collector_atom z b vs r r.plan.sweep.cursor 0 freeing (record { slot = 0; out = false; head = r.plan.fate.head; left = 0 }) id v s y at (v.made ++ Free ∷ [])
-      record { chains = r.rows.chains; leaves = r.rows.leaves; once = r.rows.once; stands = r.rows.stands; unlike = λ h g k q inside too i j _ _ e. r.rows.unlike h g k q inside too i j (alive k (h, inside, i)) (alive q (g, too, j)) e }
+      record { chains = r.rows.chains; leaves = r.rows.leaves; once = r.rows.once; stands = r.rows.stands; formed = r.rows.formed; unlike = λ h g k q inside too i j _ _ e. r.rows.unlike h g k q inside too i j (alive k (h, inside, i)) (alive q (g, too, j)) e }
       record {
         live = λ q l. word_after (λ n. ((state_of n ≡ 1) ⊎ (state_of n ≡ 3)) ⊎ (0 ≡ q + 1)) b.atoms c 0 q room (λ e. absurd (apart q l e))
             (λ _. ⊎_elim (λ (t : (state_of (get_or b.atoms q 0) ≡ 1) ⊎ (state_of (get_or b.atoms q 0) ≡ 3)). inl t) (λ (t : r.plan.fate.slot ≡ q + 1). absurd (alive q l (sym t))) (r.slots.live q l));

@@ -1,7 +1,7 @@
 -- A step on a text word or on a link word of the seat's own slot keeps the rule.
 use Rattle.std.proofs.Common.{◌≡◌, ◌≢◌, ◌⊎◌, ℕ, ◌+◌, ◌*◌, ◌<◌, true, false, List, [], ◌∷◌, ◌++◌, length, get_or, set, take, refl, sym, ap, ◌∙◌, subst, inl, inr, ⊎_elim, arith, Some, length-set, length-append, get_or-set_same, get_or-set_other, ◌^◌, ◌-◌}
 use Rattle.atom_words.specs.Layout.{state_of, first_of, row_first}
-use Rattle.atom_words.specs.Texts.{bucket}
+use Rattle.atom_words.specs.Texts.{bucket, Formed}
 use Rattle.atom_words.specs.Board.{Board, text_of, with_text, with_link}
 use Rattle.atom_words.specs.Chains.{In, Chain, Linked}
 use Rattle.atom_words.specs.Kinds.{putting, linking, view_after, Does}
@@ -54,6 +54,7 @@ module _ (z : Size) (texts texts' : List ℕ) (chain : ℕ → List ℕ) (f : Fa
     once = r.once;
     stands = λ h k inside i. ⊎_elim (λ (e : bucket row (text_of texts k) ≡ h). inl (ap (bucket row) (same k (inl (h, inside, i))) ∙ e))
         (λ (t : (g.shut ≡ 2 ^ row) × (bucket g.aim (text_of texts k) ≡ h)). inr (t.0, ap (bucket g.aim) (same k (inl (h, inside, i))) ∙ t.1)) (r.stands h k inside i);
+    formed = λ h k inside i. subst Formed (sym (same k (inl (h, inside, i)))) (r.formed h k inside i);
     unlike = λ h g_ k q inside inside_too i j alive too e. r.unlike h g_ k q inside inside_too i j alive too (sym (same k (inl (h, inside, i))) ∙ (e ∙ same q (inl (g_, inside_too, j))));
   }
 
@@ -255,6 +256,7 @@ module _ (z : Size) (b : Board) (vs : List View) (r : Kept z b vs) (id : ℕ) (v
             (in_either o.slot (r.plan.chain h) ((r.plan.grow.moving - 1) ∷ []) i));
         once = r.rows.once;
         stands = r.rows.stands;
+        formed = r.rows.formed;
         unlike = r.rows.unlike;
       };
       slots = r.slots;

@@ -189,6 +189,7 @@ module _ (z : Size) (b : Board) (vs : List View) (r : Kept z b vs) (id : ℕ) (v
           leaves = λ ne. absurd (ne (r.grow.rest (inl (early_sweep z b vs r d.sweeping))).1);
           once = λ h k inside i. r.rows.once h k inside (o.subset h k i);
           stands = λ h k inside i. r.rows.stands h k inside (o.subset h k i);
+          formed = λ h k inside i. r.rows.formed h k inside (o.subset h k i);
           unlike = λ h g k q inside inside_too i j alive too e. r.rows.unlike h g k q inside inside_too (o.subset h k i) (o.subset g q j) alive too e;
         };
         slots = record {
@@ -487,6 +488,7 @@ module _ (z : Size) (b : Board) (vs : List View) (r : Kept z b vs) (id : ℕ) (v
           (λ e. subst (λ (p : ℕ). Chain b.links p (r.plan.chain g)) (ap (λ (q : ℕ). first_of (get_or b.heads q 0)) e ∙ sym first_bumped) (chains_at_work z b vs r d.sweeping g i)) (λ _. chains_at_work z b vs r d.sweeping g i);
       once = r.rows.once;
       stands = r.rows.stands;
+      formed = r.rows.formed;
       unlike = r.rows.unlike;
     };
     slots = r.slots;

@@ -8,9 +8,10 @@ use prog.Atomic.{either}
 use Rattle.atomic_table.specs.Table.{step, Allows}
 use Rattle.atom_words.specs.Layout.{state_of, first_of, closed_of, version_of, head_word, worn, row_first}
 use Rattle.atom_words.specs.Board.{Board, laid, atom, link, head, atom_at, link_at, head_at, text_at, text_of, with_atom}
+use Rattle.atom_words.specs.Texts.{Formed, padded}
 use Rattle.atom_words.specs.Chains.{In, Chain}
 use Rattle.atom_words.specs.Views.{uncounted}
-use Rattle.atom_words.specs.Kinds.{Sitting, counted, view_after, Ended}
+use Rattle.atom_words.specs.Kinds.{IsWhole, Sitting, counted, view_after, Ended}
 use Rattle.atom_words.specs.Rule.{Rule}
 use Rattle.atom_words.specs.Kept.{Kept}
 use Rattle.atom_words.specs.Plays.{loaded, walk_started, word_read, gone_on, gone_past, slot_held, pending_shown, moved_found, held_word_read, worn_found, link_put, slot_linked, fetched, fixed, kept, asked, Alone, Stale}
@@ -26,7 +27,8 @@ use Rattle.atom_words.specs.declared.view.View.{View}
 use Rattle.atom_words.specs.declared.kind.Kind.{Kind}
 use Rattle.atom_words.specs.declared.kind.Kind.TheVariants.{Load, Protect, Start, Read, Next, Skip, Hold, PutLink, Link, Fetch, Refuse, Keep, Fix, Ask}
 use Rattle.atom_words.proofs.Regions.{head_read, text_read}
-use Rattle.atom_words.proofs.Slices.{some_same, or_at, last_same, text_short}
+use Rattle.atom_words.proofs.Slices.{some_same, or_at, last_same, text_length, chain_at}
+use Rattle.atom_words.proofs.Padding.{padded_is}
 use Rattle.atom_words.proofs.AtomSteps.{has, alone_at}
 use Rattle.atom_words.proofs.Loads.{in_chain}
 use Rattle.atom_words.proofs.Rowing.{bucket_in, rows_apart}
@@ -65,12 +67,13 @@ module _ (key : Size) (slots id : ℕ) (me : Sat) (is : key ≡ me.0.size) (here
       (λ b vs r seen small. (Skip (link b k), (w, k, walk, no_sweep, place, dead, refl, refl), (refl, refl))))
 
   -- what the walk ends with is alone
-  alone_held : (k : ℕ) (w : Walk) → me.0.walk ≡ Some w → w.place ≡ k + 1 → w.guarded ≡ true → Sitting me.0 → length w.part ≡ 32 → (b : Board) (vs : List View) (r : Kept me.0.size b vs) → version_of (head b w.head) ≡ version_of w.word → get_elem? vs id ≡ some me.0 → Alone me.0 (w.place - 1) w.part
+  alone_held : (k : ℕ) (w : Walk) → me.0.walk ≡ Some w → w.place ≡ k + 1 → w.guarded ≡ true → Sitting me.0 → IsWhole w.part → (b : Board) (vs : List View) (r : Kept me.0.size b vs) → version_of (head b w.head) ≡ version_of w.word → get_elem? vs id ≡ some me.0 → Alone me.0 (w.place - 1) (padded w.part)
   alone_held k w walk place guarded sits whole b vs r same seen = let s = r.seats id me.0 seen here in let ok = s.walk w walk in let u = ok.claim same in let valid = (s.marks.guard w k walk guarded place sits).0 in
-      let short = text_short b.texts k in let all : take (length w.part) (text_of b.texts k) ≡ text_of b.texts k = take_all (length w.part) (text_of b.texts k) (omega arith) in let slot : k ≡ w.place - 1 = omega arith in
-      subst (λ (n : ℕ). Alone me.0 n w.part) slot (alone_at me.0.size b vs r id me.0 s k w.part (w.head, ok.inside, in_chain me.0.size b vs r id me.0 s w k ok place same valid) (λ two. omega arith) (sym all ∙ u.part k place))
+      let slot : k ≡ w.place - 1 = omega arith in let on = in_chain me.0.size b vs r id me.0 s w k ok place same valid in let c = chain_at b.links k u.path (subst (λ (n : ℕ). Chain b.links n u.path) place u.reached) in
+      let long = text_length b.texts k me.0.size.slots r.sized.texts (omega (arith, c.2, r.sized.links)) in
+      subst (λ (n : ℕ). Alone me.0 n (padded w.part)) slot (alone_at me.0.size b vs r id me.0 s k (padded w.part) (w.head, ok.inside, on) (λ two. omega arith) (padded_is (text_of b.texts k) w.part long (u.part k place) whole.0 whole.1 (r.rows.formed w.head k ok.inside on)))
 
-  pub holding : (i k : ℕ) (w : Walk) → me.0.walk ≡ Some w → w.place ≡ k + 1 → w.guarded ≡ true → Sitting me.0 → length w.part ≡ 32 → w.head < me.0.size.heads → i ≡ head_at me.0.size w.head
+  pub holding : (i k : ℕ) (w : Walk) → me.0.walk ≡ Some w → w.place ≡ k + 1 → w.guarded ≡ true → Sitting me.0 → IsWhole w.part → w.head < me.0.size.heads → i ≡ head_at me.0.size w.head
       → Allows (Rule key) slots id me i (λ n. n) (slot_held (step slots i 0 0 none) me)
   holding i k w walk place guarded sits whole inside at = subst (λ (x : ℕ). Allows (Rule key) slots id me x (λ n. n) (slot_held (step slots x 0 0 none) me)) (sym at)
       (head_load key me.0.size slots id me w.head (slot_held (step slots (head_at me.0.size w.head) 0 0 none) me) is here inside
@@ -81,7 +84,7 @@ module _ (key : Size) (slots id : ℕ) (me : Sat) (is : key ≡ me.0.size) (here
         (
           refl,
           λ y e. let one : w ≡ y = some_same w y me.0.walk walk e in
-              ((λ _. (refl, subst (λ (t : Walk). Alone me.0 (t.place - 1) t.part) one (alone_held k w walk place guarded sits whole b vs r same seen))), λ ne. absurd (ne (same ∙ ap (λ (t : Walk). version_of t.word) one))),
+              ((λ _. (refl, subst (λ (t : Walk). Alone me.0 (t.place - 1) (padded t.part)) one (alone_held k w walk place guarded sits whole b vs r same seen))), λ ne. absurd (ne (same ∙ ap (λ (t : Walk). version_of t.word) one))),
         ),
       ))
       (λ moved. (
@@ -182,13 +185,13 @@ module _ (key : Size) (slots id : ℕ) (me : Sat) (is : key ≡ me.0.size) (here
       dite (ℕ_discrete row b.row) (λ (e : row ≡ b.row). e)
       (λ (ne : row ≢ b.row). absurd (rows_apart row b.row w.head wide r.grow.size.0 ne (subst (λ (n : ℕ). row_first row ≤ n) ended.0 at.0) (subst (λ (n : ℕ). n < row_first row + 2 ^ row) ended.0 at.1) (omega (arith, c.0)) c.1))
 
-  pub linking : (i row : ℕ) (o : Own) (w : Walk) → 256 ≤ 2 ^ row → me.0.own ≡ Some o → me.0.walk ≡ Some w → o.linked ≡ false → length o.text ≡ 32 → o.link ≡ Some (first_of w.word) → Ended row o w → closed_of w.word ≡ 0 → version_of w.word < worn
+  pub linking : (i row : ℕ) (o : Own) (w : Walk) → 256 ≤ 2 ^ row → me.0.own ≡ Some o → me.0.walk ≡ Some w → o.linked ≡ false → length o.text ≡ 32 → Formed o.text → o.link ≡ Some (first_of w.word) → Ended row o w → closed_of w.word ≡ 0 → version_of w.word < worn
       → w.head < me.0.size.heads → i ≡ head_at me.0.size w.head
       → Allows (Rule key) slots id me i (λ n. either (eqb n w.word) (head_word (o.slot + 1) 0 (version_of w.word + 1)) n) (slot_linked (step slots i w.word (head_word (o.slot + 1) 0 (version_of w.word + 1)) none) me)
-  linking i row o w wide own walk un whole link_is ended open_ fresh inside at = let new : ℕ = head_word (o.slot + 1) 0 (version_of w.word + 1) in
+  linking i row o w wide own walk un whole formed link_is ended open_ fresh inside at = let new : ℕ = head_word (o.slot + 1) 0 (version_of w.word + 1) in
       subst (λ (x : ℕ). Allows (Rule key) slots id me x (λ n. either (eqb n w.word) new n) (slot_linked (step slots x w.word new none) me)) (sym at)
       (head_exchange key me.0.size slots id me w.head w.word new (slot_linked (step slots (head_at me.0.size w.head) w.word new none) me) is here inside
-      (λ b vs r seen hit. (Link, (o, w, own, walk, un, whole, link_is, subst (λ (n : ℕ). Ended n o w) (row_in_use row o w wide ended inside open_ b vs r hit) ended, hit, open_, fresh, refl), (refl, (λ _. refl), λ ne. absurd (ne hit))))
+      (λ b vs r seen hit. (Link, (o, w, own, walk, un, whole, formed, link_is, subst (λ (n : ℕ). Ended n o w) (row_in_use row o w wide ended inside open_ b vs r hit) ended, hit, open_, fresh, refl), (refl, (λ _. refl), λ ne. absurd (ne hit))))
       (λ b vs r seen miss. let moved : version_of (head b w.head) ≢ version_of w.word = (λ same. miss (((r.seats id me.0 seen here).walk w walk).word same)) in
       (Refuse (Again (Moved w.word (head b w.head))), ((w, walk, refl, inside, refl, moved), refl), (refl, (λ e. absurd (miss e)), λ _. (moved, refl)))))
 

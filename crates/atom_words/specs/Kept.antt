@@ -3,7 +3,7 @@ use Rattle.std.specs.Prelude.{◌≡◌, ◌≢◌, ◌⊎◌, ℕ, ◌+◌, ◌
 use mathlib.Core.Option.{some}
 use lib.ListN.{get_elem?}
 use Rattle.atom_words.specs.Layout.{state_of, mark_of, count_of, first_of, closed_of, version_of, worn, last, phase_of, epoch_of, row_first}
-use Rattle.atom_words.specs.Texts.{bucket}
+use Rattle.atom_words.specs.Texts.{bucket, Formed}
 use Rattle.atom_words.specs.Board.{Board, Sized, text_of}
 use Rattle.atom_words.specs.Chains.{In, Chain, Linked}
 use Rattle.atom_words.specs.Kinds.{RowOk}
@@ -145,12 +145,13 @@ pub record SeatOk (z : Size) (b : Board) (p : Plan) (j : ℕ) (v : View) : Type 
 abbrev pub Leaving : ℕ → Growing → ℕ → Type 0
 Leaving row g h = (g.moving ≢ 0) × (h ≡ row_first row + g.moved)
 
--- the chains: each linked slot is reached from one head, that of its text's bucket in the row in use or, while all its heads are closed, in the one that is to take its place; the slot that is moved is reached from its old head too. No two have equal texts, the dying one aside
+-- the chains: each linked slot is reached from one head, that of its text's bucket in the row in use or, while all its heads are closed, in the one that is to take its place; the slot that is moved is reached from its old head too. Each text has zeros behind the words that it fills. No two have equal texts, the dying one aside
 pub record Rows (z : Size) (row : ℕ) (g : Growing) (links heads texts : List ℕ) (chain : ℕ → List ℕ) (place : ℕ → ℕ) (f : Fate) : Type 0 where
   pub chains : (h : ℕ) → h < z.heads → (Leaving row g h → ⊥) → Chain links (first_of (slice_index heads h)) (chain h)
   pub leaves : g.moving ≢ 0 → Chain links (first_of (slice_index heads (row_first row + g.moved))) (chain (row_first row + g.moved) ++ (g.moving - 1) ∷ [])
   pub once : (h k : ℕ) → h < z.heads → In k (chain h) → place k ≡ h
   pub stands : (h k : ℕ) → h < z.heads → In k (chain h) → (bucket row (text_of texts k) ≡ h) ⊎ ((g.shut ≡ 2 ^ row) × (bucket g.aim (text_of texts k) ≡ h))
+  pub formed : (h k : ℕ) → h < z.heads → In k (chain h) → Formed (text_of texts k)
   pub unlike : (h i k q : ℕ) → h < z.heads → i < z.heads → In k (chain h) → In q (chain i) → k + 1 ≢ f.slot → q + 1 ≢ f.slot → text_of texts k ≡ text_of texts q → k ≡ q
 
 -- what stands before the last slot of a chain: nothing, or a slot that is named

@@ -3,7 +3,7 @@ use Rattle.std.specs.Prelude.{◌≡◌, ◌≢◌, ◌⊎◌, ℕ, ◌+◌, ◌
 use mathlib.Core.Option.{some}
 use lib.ListN.{get_elem?}
 use Rattle.atom_words.specs.Layout.{state_of, mark_of, first_of, closed_of, version_of, head_word, worn, last, epoch_word, phase_of, epoch_of, row_first}
-use Rattle.atom_words.specs.Texts.{bucket}
+use Rattle.atom_words.specs.Texts.{bucket, filled, Formed, padded}
 use Rattle.atom_words.specs.Board.{Board, laid, atom_at, atom, link, head, text_of, with_epoch, with_row, with_ack, with_atom, with_link, with_head, with_text}
 use Rattle.atom_words.specs.Chains.{In}
 use Rattle.atom_words.specs.Views.{uncounted}
@@ -53,9 +53,17 @@ held_own (Some o) = record { slot = o.slot; text = o.text } ∷ []
 abbrev pub at_hand : Walk → Held
 at_hand w = record { slot = w.place - 1; text = w.part }
 
+-- the same, where what was read is all that the text fills
+abbrev pub whole_at_hand : Walk → Held
+whole_at_hand w = record { slot = w.place - 1; text = padded w.part }
+
 abbrev pub held_at_hand : Option Walk → List Held
 held_at_hand None = []
-held_at_hand (Some w) = at_hand w ∷ []
+held_at_hand (Some w) = whole_at_hand w ∷ []
+
+-- the words are those that the text fills, or more
+abbrev pub IsWhole : List ℕ → Type 0
+IsWhole part = (0 < length part) × (filled (get_or part 0 0) ≤ length part)
 
 abbrev pub starting : ℕ → ℕ → Walk
 starting h x = record { head = h; word = x; place = first_of x; part = []; guarded = false; dead = false; lost = false; skipped = 0; seen = [] }
@@ -330,7 +338,7 @@ abbrev pub Does : Size → Board → View → Kind → Board → Type 0
 Does z b v (Reserve k) b' = (k < z.slots) × (v.own ≡ None) × (state_of (atom b k) ≡ 0) × (b' ≡ with_atom b k 1)
 Does z b v (PutWord x) b' = (o : Own) × (v.own ≡ Some o) × (o.linked ≡ false) × (length o.text < 32) × (b' ≡ with_text b (32 * o.slot + length o.text) x)
 Does z b v (PutLink l) b' = (o : Own) × (v.own ≡ Some o) × (o.linked ≡ false) × (b' ≡ with_link b o.slot l)
-Does z b v Link b' = (o : Own) × (w : Walk) × (v.own ≡ Some o) × (v.walk ≡ Some w) × (o.linked ≡ false) × (length o.text ≡ 32) × (o.link ≡ Some (first_of w.word)) × Ended b.row o w
+Does z b v Link b' = (o : Own) × (w : Walk) × (v.own ≡ Some o) × (v.walk ≡ Some w) × (o.linked ≡ false) × (length o.text ≡ 32) × Formed o.text × (o.link ≡ Some (first_of w.word)) × Ended b.row o w
     × (head b w.head ≡ w.word) × (closed_of w.word ≡ 0) × (version_of w.word < worn) × (b' ≡ with_head b w.head (head_word (o.slot + 1) 0 (version_of w.word + 1)))
 Does z b v Validate b' = (o : Own) × (v.own ≡ Some o) × (o.linked ≡ true) × Sitting v × (b' ≡ with_atom b o.slot 7)
 Does z b v Release b' = (o : Own) × (v.own ≡ Some o) × (o.linked ≡ false) × (b' ≡ with_atom b o.slot 0)
@@ -340,7 +348,7 @@ Does z b v (Start h x) b' = (h < z.heads) × (head b h ≡ x) × ((closed_of x �
 Does z b v (Read x) b' = (w : Walk) × (k : ℕ) × (v.walk ≡ Some w) × (w.place ≡ k + 1) × (length w.part < 32) × (slice_index (text_of b.texts k) (length w.part) ≡ x) × (b' ≡ b)
 Does z b v (Next x) b' = (w : Walk) × (k : ℕ) × (v.walk ≡ Some w) × (w.place ≡ k + 1) × (link b k ≡ x) × (b' ≡ b)
 Does z b v (Skip x) b' = (w : Walk) × (k : ℕ) × (v.walk ≡ Some w) × (v.sweep ≡ None) × (w.place ≡ k + 1) × (w.dead ≡ true) × (link b k ≡ x) × (b' ≡ b)
-Does z b v Hold b' = (w : Walk) × (k : ℕ) × (v.walk ≡ Some w) × (w.place ≡ k + 1) × (w.guarded ≡ true) × (length w.part ≡ 32) × (version_of (head b w.head) ≡ version_of w.word) × Sitting v × (b' ≡ b)
+Does z b v Hold b' = (w : Walk) × (k : ℕ) × (v.walk ≡ Some w) × (w.place ≡ k + 1) × (w.guarded ≡ true) × IsWhole w.part × (version_of (head b w.head) ≡ version_of w.word) × Sitting v × (b' ≡ b)
 Does z b v (Keep those) b' = ((a : Held) → In a those → In a v.held) × (b' ≡ b)
 Does z b v Fix b' = ((a : Held) → In a v.held → a.slot < 256) × (b' ≡ b)
 Does z b v (StartPass x) b' = (b.epoch ≡ x) × (b' ≡ b)

@@ -4,6 +4,7 @@ use Rattle.atomic_table.specs.Table.{Me, Step}
 use Rattle.atom_words.specs.Layout.{state_of, closed_of, version_of, worn}
 use Rattle.atom_words.specs.Board.{atom_at, head_at, text_at}
 use Rattle.atom_words.specs.Chains.{In}
+use Rattle.atom_words.specs.Texts.{padded}
 use Rattle.atom_words.specs.Views.{newcomer}
 use Rattle.atom_words.specs.Kinds.{counted, view_after}
 use Rattle.atom_words.specs.declared.size.Size.{Size}
@@ -105,7 +106,7 @@ gone_past st m r m' = Is (Skip r) m m'
 -- the walk ends with the slot at hand held, where the head has its version; otherwise that refuses
 abbrev pub slot_held : At → Sat → ℕ → Sat → Type 0
 slot_held st m r m' = (m'.1 ≡ m.1) × ((w : Walk) → m.0.walk ≡ Some w
-    → (version_of r ≡ version_of w.word → (m'.0 ≡ view_after m.0 Hold) × Alone m.0 (w.place - 1) w.part) × (version_of r ≢ version_of w.word → m'.0 ≡ view_after m.0 (Refuse (Again (Moved w.word r)))))
+    → (version_of r ≡ version_of w.word → (m'.0 ≡ view_after m.0 Hold) × Alone m.0 (w.place - 1) (padded w.part)) × (version_of r ≢ version_of w.word → m'.0 ≡ view_after m.0 (Refuse (Again (Moved w.word r)))))
 
 -- the slot at hand, which the step just before protected, was found reserved by another seat, which refuses
 abbrev pub pending_shown : At → Sat → ℕ → Sat → Type 0

@@ -1,5 +1,5 @@
 -- The 32 words of a text, and the bucket of a text.
-use Rattle.std.specs.Prelude.{ℕ, zero, suc, ◌+◌, ◌-◌, ◌*◌, ◌/◌, ◌%◌, ◌^◌, List, [], ◌∷◌, ◌++◌, length, get_or, take, drop, bit_xor}
+use Rattle.std.specs.Prelude.{◌≡◌, ◌≤◌, replicate, ℕ, zero, suc, ◌+◌, ◌-◌, ◌*◌, ◌/◌, ◌%◌, ◌^◌, List, [], ◌∷◌, ◌++◌, length, get_or, take, drop, bit_xor}
 
 -- eight bytes, lowest first, where 0 stands for those that are not there
 abbrev pub packed : List ℕ → ℕ
@@ -12,6 +12,17 @@ packs (suc n) bs = packed bs ∷ packs n (drop 8 bs)
 -- The words of a text row: the length in bytes, then eight bytes a word
 unfoldable pub row_of : List ℕ → List ℕ
 row_of bs = length bs ∷ packs 31 bs
+
+-- how many of its words a text of so many bytes fills, with the one of its length; the words behind those are 0
+abbrev pub filled : ℕ → ℕ
+filled n = 1 + (n + 7) / 8
+
+abbrev pub Formed : List ℕ → Type 0
+Formed row = (i : ℕ) → filled (get_or row 0 0) ≤ i → get_or row i 0 ≡ 0
+
+-- the 32 words of which these are the first ones, where the others are 0
+abbrev pub padded : List ℕ → List ℕ
+padded ws = ws ++ replicate (32 - length ws) 0
 
 abbrev pub bytes_of_word : ℕ → ℕ → List ℕ
 bytes_of_word zero w = []

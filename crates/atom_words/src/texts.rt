@@ -106,9 +106,7 @@ impl Words {
         if found == word {
             return;
         }
-        self.table
-            .shared
-            .store::<PuttingWord>(seat, place, word);
+        self.table.shared.store::<PuttingWord>(seat, place, word);
     }
 
     // Puts the words of the text, one after the other.

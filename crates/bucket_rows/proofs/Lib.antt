@@ -1,4 +1,5 @@
 pub mod Hashing
+pub mod Filling
 pub mod Reading
 pub mod Told
 pub mod Making

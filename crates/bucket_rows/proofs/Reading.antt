@@ -4,7 +4,7 @@ use mathlib.Core.List.{map-append}
 use Rattle.atom_words.specs.Layout.{first_of, closed_of, version_of}
 use Rattle.atom_words.specs.Chains.{In}
 use Rattle.atom_words.specs.Plays.{Alone}
-use Rattle.atom_words.specs.Texts.{bucket}
+use Rattle.atom_words.specs.Texts.{bucket, padded}
 use Rattle.atom_words.specs.Board.{atom_at}
 use Rattle.atom_words.specs.Seats.{Puts, Reserves, Walking}
 use Rattle.atom_words.specs.Kinds.{starting, reading, going_on, skipping, guarding, at_hand, held_at_hand, fresh, view_after, after}
@@ -20,8 +20,9 @@ use Rattle.atom_words.proofs.Putting.{after_more, puts_keep, puts_own}
 use Rattle.atom_words.proofs.Slices.{at_snoc}
 use Rattle.bucket_rows.specs.declared.missed.Missed.{Missed}
 use Rattle.bucket_rows.specs.declared.missed.Missed.TheVariants.{Moved, Pending, Closed, Worn}
-use Rattle.bucket_rows.specs.Walks.{Dying, Passed, reads, guards, goes_on, passes, meets, Another, Others, WalksBy, Goes, Missing, MissingIn, Ready, Aside, held_after, refused_after}
-use Rattle.bucket_rows.specs.Standing.{Standing, Ends, Meets}
+use Rattle.bucket_rows.specs.Walks.{Dying, Passed, filling, reads, guards, goes_on, passes, meets, Another, Others, WalksBy, Goes, Missing, MissingIn, Ready, Aside, held_after, refused_after}
+use Rattle.bucket_rows.specs.Standing.{Standing, Ends, Meets, IsTextRow}
+use Rattle.bucket_rows.proofs.Filling.{filling_padded}
 
 -- STEPS ONE AFTER THE OTHER
 pub after_both : (v : View) (ks ls : List Kind) → after v (ks ++ ls) ≡ after (after v ks) ls
@@ -175,11 +176,12 @@ module _ (row : List ℕ) (h x : ℕ) where
   held_after_hold None k y t = refl
   held_after_hold (Some q) k y t = refl
 
-  pub standing_hold : (n k y : ℕ) (o : Option (ℕ × ℕ)) (u w : View) → Standing row h x n (k + 1) [] u → w ≡ after u (meets row o k y (Hold ∷ [])) → w.held ≡ u.held ++ record { slot = k; text = row } ∷ []
-  standing_hold n k y o u w st is = let s = standing_reads n (k + 1) [] row u st in let t : View = after u (reads row) in let place = s.place in
+  pub standing_hold : (n k y : ℕ) (o : Option (ℕ × ℕ)) (u w : View) → IsTextRow row → Standing row h x n (k + 1) [] u → w ≡ after u (meets row o k y (Hold ∷ [])) → w.held ≡ u.held ++ record { slot = k; text = row } ∷ []
+  standing_hold n k y o u w text st is = let s = standing_reads n (k + 1) [] (filling row) u st in let t : View = after u (reads (filling row)) in let place = s.place in
       let slot : s.walk.place - 1 ≡ k = omega arith in
-      ap (λ (v : View). v.held) (is ∙ after_both u (reads row) (guards o k y ++ Hold ∷ []))
-      ∙ (held_after_hold o k y t ∙ ((λ i. reads_keep (λ (v : View). v.held) (λ _ _. refl) u row i ++ held_at_hand (option_map (guarding k y) (s.at i))) ∙ (λ i. u.held ++ record { slot = slot i; text = s.part i } ∷ [])))
+      let words : padded s.walk.part ≡ row = ap padded s.part ∙ filling_padded row text in
+      ap (λ (v : View). v.held) (is ∙ after_both u (reads (filling row)) (guards o k y ++ Hold ∷ []))
+      ∙ (held_after_hold o k y t ∙ ((λ i. reads_keep (λ (v : View). v.held) (λ _ _. refl) u (filling row) i ++ held_at_hand (option_map (guarding k y) (s.at i))) ∙ (λ i. u.held ++ record { slot = slot i; text = words i } ∷ [])))
 
   pub missing : (n : ℕ) (ws : List ℕ) (v : View) → closed_of x ≡ 0 → Standing row h x n 0 ws v → Missing row h v
   missing n ws v unclosed s = record { walk = s.walk; at = s.at; head = s.head; unclosed = ap closed_of s.word ∙ unclosed; ended = s.place; others = s.others }
@@ -217,16 +219,16 @@ alone_by (Ok (Some x)) A B f h = tt
 alone_by (Err m) A B f h = tt
 
 -- THE END OF A WALK
-meets_steps : (row : List ℕ) (u t w : View) (ks : List Kind) → t ≡ after u (reads row) → w ≡ after t ks → w ≡ after u (reads row ++ ks)
-meets_steps row u t w ks now last = last ∙ (ap (λ (y : View). after y ks) now ∙ sym (after_both u (reads row) ks))
+meets_steps : (ws : List ℕ) (u t w : View) (ks : List Kind) → t ≡ after u (reads ws) → w ≡ after t ks → w ≡ after u (reads ws ++ ks)
+meets_steps ws u t w ks now last = last ∙ (ap (λ (y : View). after y ks) now ∙ sym (after_both u (reads ws) ks))
 
 -- a slot whose text was read whole
-pub met_by : (row : List ℕ) (k word : ℕ) (u t w : View) (r : Result (Option ℕ) Missed) → t ≡ after u (reads row) → Ends k word t r w → Meets row k word u r w
-met_by row k word u t w (Ok None) now e = (e.0, e.1, e.2, meets_steps row u t w (guards e.1 k e.0 ++ Hold ∷ []) now e.3)
+pub met_by : (row : List ℕ) (k word : ℕ) (u t w : View) (r : Result (Option ℕ) Missed) → t ≡ after u (reads (filling row)) → Ends k word t r w → Meets row k word u r w
+met_by row k word u t w (Ok None) now e = (e.0, e.1, e.2, meets_steps (filling row) u t w (guards e.1 k e.0 ++ Hold ∷ []) now e.3)
 met_by row k word u t w (Ok (Some l)) now e = let ks : List Kind = guards e.1 k e.0 ++ Skip l ∷ [] in
-    (record { part = row; dying = Some (record { slot = k; loaded = e.1; word = e.0 }); link = l }, refl, (refl, e.2), meets_steps row u t w ks now e.3 ∙ ap (λ (js : List Kind). after u (reads row ++ js)) (sym (append-nil ks)))
-met_by row k word u t w (Err (Moved old new)) now e = (e.0, e.1, (e.2.0, e.2.1, meets_steps row u t w (guards e.2.1 k e.2.0 ++ Refuse (Again (CauseMoved old new)) ∷ []) now e.2.2))
-met_by row k word u t w (Err (Pending j x)) now e = (e.0, e.1, (e.2.0, meets_steps row u t w (guards e.2.0 k x ++ Refuse (Again (CausePending k x)) ∷ []) now e.2.1))
+    (record { part = filling row; dying = Some (record { slot = k; loaded = e.1; word = e.0 }); link = l }, refl, (refl, e.2), meets_steps (filling row) u t w ks now e.3 ∙ ap (λ (js : List Kind). after u (reads (filling row) ++ js)) (sym (append-nil ks)))
+met_by row k word u t w (Err (Moved old new)) now e = (e.0, e.1, (e.2.0, e.2.1, meets_steps (filling row) u t w (guards e.2.1 k e.2.0 ++ Refuse (Again (CauseMoved old new)) ∷ []) now e.2.2))
+met_by row k word u t w (Err (Pending j x)) now e = (e.0, e.1, (e.2.0, meets_steps (filling row) u t w (guards e.2.0 k x ++ Refuse (Again (CausePending k x)) ∷ []) now e.2.1))
 met_by row k word u t w (Err (Closed x)) now e = absurd e
 met_by row k word u t w (Err (Worn x)) now e = absurd e
 
@@ -282,13 +284,14 @@ reserved_as v k w r = ⊎_elim
     (λ (e : w ≡ after v (Load (atom_at v.size k) 4 ∷ Reserve k ∷ [])). subst (Reserved k v) (sym e) (record { own = refl; walk = refl; held = refl; fixed = refl; size = refl; gone = refl })) r
 
 -- a reserved slot is ready once its text is put
-pub ready_put : (row : List ℕ) (k : ℕ) (v w : View) → length row ≡ 32 → v.own ≡ Some (fresh k) → MissingIn row v → Puts row v w → Ready w
-ready_put row k v w long own m is = (
+pub ready_put : (row : List ℕ) (k : ℕ) (v w : View) → IsTextRow row → v.own ≡ Some (fresh k) → MissingIn row v → Puts row v w → Ready w
+ready_put row k v w text own m is = (
   record { slot = k; text = row; link = None; linked = false },
   puts_own (fresh k) row v w own is,
   refl,
-  long,
+  text.0,
   (m.0, m.1, missing_as row (bucket m.0 row) v w (puts_keep (λ (y : View). y.walk) (λ _ _. refl) (λ _ _ _. refl) row v w is) m.2),
+  text.2,
 )
 
 -- a walk whose row word was loaded first

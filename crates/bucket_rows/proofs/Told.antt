@@ -13,7 +13,7 @@ use Rattle.atom_words.specs.declared.kind.Kind.{Kind}
 use Rattle.atom_words.specs.declared.kind.Kind.TheVariants.{Start, Hold, Refuse}
 use Rattle.bucket_rows.specs.declared.missed.Missed.{Missed}
 use Rattle.bucket_rows.specs.declared.missed.Missed.TheVariants.{Moved, Pending, Closed, Worn}
-use Rattle.bucket_rows.specs.Walks.{Passed, reads, guards, passes, meets, WalksBy, Goes, Walks, Missing, Aside, held_after, refused_after}
+use Rattle.bucket_rows.specs.Walks.{Passed, filling, reads, guards, passes, meets, WalksBy, Goes, Walks, Missing, Aside, held_after, refused_after}
 use Rattle.bucket_rows.specs.Standing.{Standing}
 use Rattle.bucket_rows.proofs.Reading.{after_both, guarded_as, aside_trans, aside_passes, aside_reads, reads_keep, passes_keep, keeps_held, keeps_refusals, missing}
 
@@ -54,12 +54,12 @@ module _ (f : Option Walk → ℕ) (steady : Steady f) (row : List ℕ) (v : Vie
     walk = passes_keep (λ (y : View). f y.walk) (record { read = λ y x. steady.read x y.walk; next = λ y x. steady.next x y.walk; guard = λ y k x. steady.guard k x y.walk; load = λ y i x. refl; skip = λ y x. steady.skip x y.walk }) v ps;
   }
 
-  met : (ps : List Passed) → Brought f v (after (after v (passes ps)) (reads row))
+  met : (ps : List Passed) → Brought f v (after (after v (passes ps)) (reads (filling row)))
   met ps = let u : View = after v (passes ps) in let p = passed ps in record {
-    aside = aside_trans v u (after u (reads row)) p.aside (aside_reads u row);
-    held = reads_keep (λ (y : View). y.held) (λ _ _. refl) u row ∙ p.held;
-    refusals = reads_keep (λ (y : View). y.refusals) (λ _ _. refl) u row ∙ p.refusals;
-    walk = reads_keep (λ (y : View). f y.walk) (λ y x. steady.read x y.walk) u row ∙ p.walk;
+    aside = aside_trans v u (after u (reads (filling row))) p.aside (aside_reads u (filling row));
+    held = reads_keep (λ (y : View). y.held) (λ _ _. refl) u (filling row) ∙ p.held;
+    refusals = reads_keep (λ (y : View). y.refusals) (λ _ _. refl) u (filling row) ∙ p.refusals;
+    walk = reads_keep (λ (y : View). f y.walk) (λ y x. steady.read x y.walk) u (filling row) ∙ p.walk;
   }
 
   -- what is told of the view w, where r are the refusals that the end adds
@@ -85,23 +85,23 @@ module _ (f : Option Walk → ℕ) (steady : Steady f) (row : List ℕ) (v : Vie
   at_refusal r w b = let t : View = after v (passes b.passed) in let p = passed b.passed in let is : view_after t (Refuse r) ≡ w = sym (b.steps ∙ after_both v (passes b.passed) (Refuse r ∷ [])) in
       subst (Tells (r ∷ [])) is (record { aside = aside_trans v t (view_after t (Refuse r)) p.aside (refusing t r); refusals = ap (λ l. l ++ r ∷ []) p.refusals; walk = inl p.walk })
 
-  met_is : (w : View) (ps : List Passed) (ks : List Kind) → w ≡ after v (passes ps ++ (reads row ++ ks)) → after (after (after v (passes ps)) (reads row)) ks ≡ w
-  met_is w ps ks e = sym (e ∙ (after_both v (passes ps) (reads row ++ ks) ∙ after_both (after v (passes ps)) (reads row) ks))
+  met_is : (w : View) (ps : List Passed) (ks : List Kind) → w ≡ after v (passes ps ++ (reads (filling row) ++ ks)) → after (after (after v (passes ps)) (reads (filling row))) ks ≡ w
+  met_is w ps ks e = sym (e ∙ (after_both v (passes ps) (reads (filling row) ++ ks) ∙ after_both (after v (passes ps)) (reads (filling row)) ks))
 
   -- at a slot of the text, once it is protected
-  met_guarded : (ps : List Passed) (o : Option (ℕ × ℕ)) (k x : ℕ) → Brought f v (after (after (after v (passes ps)) (reads row)) (guards o k x))
-  met_guarded ps o k x = let t : View = after (after v (passes ps)) (reads row) in let u : View = after t (guards o k x) in let p = met ps in let g = guarded_as t u o k x refl in record {
+  met_guarded : (ps : List Passed) (o : Option (ℕ × ℕ)) (k x : ℕ) → Brought f v (after (after (after v (passes ps)) (reads (filling row))) (guards o k x))
+  met_guarded ps o k x = let t : View = after (after v (passes ps)) (reads (filling row)) in let u : View = after t (guards o k x) in let p = met ps in let g = guarded_as t u o k x refl in record {
     aside = aside_trans v t u p.aside g.aside;
     held = g.held ∙ p.held;
     refusals = g.refusals ∙ p.refusals;
     walk = ap f g.walk ∙ (steady.guard k x t.walk ∙ p.walk);
   }
 
-  guarded_is : (w : View) (ps : List Passed) (o : Option (ℕ × ℕ)) (k x : ℕ) (ks : List Kind) → w ≡ after v (passes ps ++ (reads row ++ (guards o k x ++ ks))) → after (after (after (after v (passes ps)) (reads row)) (guards o k x)) ks ≡ w
-  guarded_is w ps o k x ks e = sym (after_both (after (after v (passes ps)) (reads row)) (guards o k x) ks) ∙ met_is w ps (guards o k x ++ ks) e
+  guarded_is : (w : View) (ps : List Passed) (o : Option (ℕ × ℕ)) (k x : ℕ) (ks : List Kind) → w ≡ after v (passes ps ++ (reads (filling row) ++ (guards o k x ++ ks))) → after (after (after (after v (passes ps)) (reads (filling row))) (guards o k x)) ks ≡ w
+  guarded_is w ps o k x ks e = sym (after_both (after (after v (passes ps)) (reads (filling row))) (guards o k x) ks) ∙ met_is w ps (guards o k x ++ ks) e
 
   met_refusal : (o : Option (ℕ × ℕ)) (k x : ℕ) (r : Refusal) (w : View) → WalksBy row v (meets row o k x (Refuse r ∷ [])) w → Tells (r ∷ []) w
-  met_refusal o k x r w b = let u : View = after (after (after v (passes b.passed)) (reads row)) (guards o k x) in let p = met_guarded b.passed o k x in
+  met_refusal o k x r w b = let u : View = after (after (after v (passes b.passed)) (reads (filling row))) (guards o k x) in let p = met_guarded b.passed o k x in
       subst (Tells (r ∷ [])) (guarded_is w b.passed o k x (Refuse r ∷ []) b.steps) (record {
         aside = aside_trans v u (view_after u (Refuse r)) p.aside (refusing u r);
         refusals = ap (λ l. l ++ r ∷ []) p.refusals;
@@ -109,7 +109,7 @@ module _ (f : Option Walk → ℕ) (steady : Steady f) (row : List ℕ) (v : Vie
       })
 
   met_hold : (o : Option (ℕ × ℕ)) (k x : ℕ) (w : View) → WalksBy row v (meets row o k x (Hold ∷ [])) w → Tells [] w
-  met_hold o k x w b = let u : View = after (after (after v (passes b.passed)) (reads row)) (guards o k x) in let p = met_guarded b.passed o k x in
+  met_hold o k x w b = let u : View = after (after (after v (passes b.passed)) (reads (filling row))) (guards o k x) in let p = met_guarded b.passed o k x in
       subst (Tells []) (guarded_is w b.passed o k x (Hold ∷ []) b.steps) (record {
         aside = aside_trans v u (view_after u Hold) p.aside (ending u);
         refusals = p.refusals ∙ sym (append-nil v.refusals);
@@ -135,9 +135,9 @@ module _ (f : Option Walk → ℕ) (steady : Steady f) (row : List ℕ) (v : Vie
 
 -- a refusal at a slot of the text leaves what is held
 refused_held : (row : List ℕ) (v w : View) (o : Option (ℕ × ℕ)) (k x : ℕ) (r : Refusal) → WalksBy row v (meets row o k x (Refuse r ∷ [])) w → w.held ≡ v.held
-refused_held row v w o k x r b = let u : View = after v (passes b.passed) in let t : View = after u (reads row) in let ks : List Kind = guards o k x ++ Refuse r ∷ [] in
-    ap (λ (y : View). y.held) (b.steps ∙ (after_both v (passes b.passed) (reads row ++ ks) ∙ (after_both u (reads row) ks ∙ after_both t (guards o k x) (Refuse r ∷ []))))
-    ∙ ((guarded_as t (after t (guards o k x)) o k x refl).held ∙ (reads_keep (λ (y : View). y.held) (λ _ _. refl) u row ∙ passes_keep (λ (y : View). y.held) keeps_held v b.passed))
+refused_held row v w o k x r b = let u : View = after v (passes b.passed) in let t : View = after u (reads (filling row)) in let ks : List Kind = guards o k x ++ Refuse r ∷ [] in
+    ap (λ (y : View). y.held) (b.steps ∙ (after_both v (passes b.passed) (reads (filling row) ++ ks) ∙ (after_both u (reads (filling row)) ks ∙ after_both t (guards o k x) (Refuse r ∷ []))))
+    ∙ ((guarded_as t (after t (guards o k x)) o k x refl).held ∙ (reads_keep (λ (y : View). y.held) (λ _ _. refl) u (filling row) ∙ passes_keep (λ (y : View). y.held) keeps_held v b.passed))
 
 -- what an answer other than a slot leaves held
 pub goes_held : (row : List ℕ) (v w : View) (m : Missed) → Goes row v (Err m) w → w.held ≡ v.held

@@ -51,7 +51,7 @@ effect z b b' v none Validate calm d = absurd (let some_ : None ≡ Some d.0 = s
 effect z b b' v none Release calm d = absurd (let some_ : None ≡ Some d.0 = sym none ∙ d.1 in cc)
 effect z b b' v none (PutWord x) calm d = inl (ap (λ (x : Board). x.atoms) d.4, ap (λ (x : Board). x.epoch) d.4)
 effect z b b' v none (PutLink l) calm d = inl (ap (λ (x : Board). x.atoms) d.3, ap (λ (x : Board). x.epoch) d.3)
-effect z b b' v none Link calm d = inl (ap (λ (x : Board). x.atoms) d.11, ap (λ (x : Board). x.epoch) d.11)
+effect z b b' v none Link calm d = inl (ap (λ (x : Board). x.atoms) d.12, ap (λ (x : Board). x.epoch) d.12)
 effect z b b' v none (Raise h) calm d = inl (ap (λ (x : Board). x.atoms) d.4, ap (λ (x : Board). x.epoch) d.4)
 effect z b b' v none (Risen h x) calm d = leaves b b' v d.3
 effect z b b' v none (Load i x) calm d = leaves b b' v d.1

@@ -1,8 +1,9 @@
 -- Where a walk stands, and the steps of its parts.
-use Rattle.std.specs.Prelude.{◌≡◌, ◌≢◌, ℕ, ◌+◌, List, [], ◌∷◌, ◌++◌, length, take, Option, Some, None, Result, Ok, Err}
+use Rattle.std.specs.Prelude.{◌≡◌, ◌≢◌, ℕ, ◌+◌, List, [], ◌∷◌, ◌++◌, ◌≤◌, length, take, get_or, Option, Some, None, Result, Ok, Err}
 use mathlib.Core.Option.{some}
 use lib.ListN.{get_elem?}
 use Rattle.atom_words.specs.Layout.{state_of, version_of}
+use Rattle.atom_words.specs.Texts.{Formed}
 use Rattle.atom_words.specs.Kinds.{after}
 use Rattle.atom_words.specs.declared.view.Held.{Held}
 use Rattle.atom_words.specs.declared.view.Walk.{Walk}
@@ -24,6 +25,10 @@ pub record Standing (row : List ℕ) (h x n p : ℕ) (ws : List ℕ) (v : View) 
   pub place : walk.place ≡ p
   pub part : walk.part ≡ ws
   pub others : (i : ℕ) (a : Held) → get_elem? walk.seen i ≡ some a → a.text ≢ take (length a.text) row
+
+-- the words of a text of at most 248 bytes
+abbrev pub IsTextRow : List ℕ → Type 0
+IsTextRow row = (length row ≡ 32) × (get_or row 0 0 ≤ 248) × Formed row
 
 -- the steps at the slot k, whose text was read whole: it is held, or is dying and passed, and the link word is answered; or it is missed
 abbrev pub Ends : ℕ → ℕ → View → Result (Option ℕ) Missed → View → Type 0

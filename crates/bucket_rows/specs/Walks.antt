@@ -1,10 +1,10 @@
 -- What walks over a bucket's chain, and links of a slot, make of the seat's view.
-use Rattle.std.specs.Prelude.{◌≡◌, ◌≢◌, ◌⊎◌, ℕ, ◌^◌, ◌≤◌, false, List, [], ◌∷◌, ◌++◌, length, take, map, Option, Some, None, Result, Ok, Err, encode_utf8_all}
+use Rattle.std.specs.Prelude.{◌≡◌, ◌≢◌, ◌⊎◌, ℕ, ◌^◌, ◌≤◌, false, List, [], ◌∷◌, ◌++◌, length, take, get_or, map, Option, Some, None, Result, Ok, Err, encode_utf8_all}
 use mathlib.Core.Option.{some}
 use lib.ListN.{get_elem?}
 use Rattle.pl_term.specs.Tree.{Chars}
 use Rattle.atom_words.specs.Layout.{state_of, first_of, closed_of, version_of, worn}
-use Rattle.atom_words.specs.Texts.{row_of, bucket}
+use Rattle.atom_words.specs.Texts.{row_of, bucket, filled, Formed}
 use Rattle.atom_words.specs.Kinds.{after}
 use Rattle.atom_words.specs.declared.view.Held.{Held}
 use Rattle.atom_words.specs.declared.view.Own.{Own}
@@ -20,6 +20,10 @@ use Rattle.bucket_rows.specs.declared.missed.Missed.TheVariants.{Moved, Pending,
 -- the 32 words of a text
 abbrev pub spelled : Chars → List ℕ
 spelled t = row_of (encode_utf8_all t)
+
+-- those of its 32 words that a text fills
+abbrev pub filling : List ℕ → List ℕ
+filling row = take (filled (get_or row 0 0)) row
 
 -- a slot that was found dying as its mark was set: its number, the load before that, if there was one, and the word that was found
 pub record Dying : Type 0 where
@@ -52,7 +56,7 @@ passes (p ∷ ps) = reads p.part ++ (goes_on p.dying p.link ++ passes ps)
 -- what was read shows another text; or the slot has the text, and was found dying
 abbrev pub Another : List ℕ → List ℕ → Option Dying → Type 0
 Another row part None = part ≢ take (length part) row
-Another row part (Some d) = (part ≡ row) × (state_of d.word ≡ 2)
+Another row part (Some d) = (part ≡ filling row) × (state_of d.word ≡ 2)
 
 -- each slot that was passed has another text or is dying
 abbrev pub Others : List ℕ → List Passed → Type 0
@@ -65,9 +69,9 @@ pub record WalksBy (row : List ℕ) (v : View) (ks : List Kind) (w : View) : Typ
   pub others : Others row passed
   pub steps : w ≡ after v (passes passed ++ ks)
 
--- at a slot of the text: its text is read, and it is protected, found with the word x
+-- at a slot of the text: the words that the text fills are read, and it is protected, found with the word x
 abbrev pub meets : List ℕ → Option (ℕ × ℕ) → ℕ → ℕ → List Kind → List Kind
-meets row l k x ks = reads row ++ (guards l k x ++ ks)
+meets row l k x ks = reads (filling row) ++ (guards l k x ++ ks)
 
 -- THE STEPS OF A WALK for a text after its start, by its answer
 abbrev pub Goes : List ℕ → View → Result (Option ℕ) Missed → View → Type 0
@@ -109,7 +113,7 @@ MissingIn row v = (s : ℕ) × (256 ≤ 2 ^ s) × Missing row (bucket s row) v
 
 -- The seat has reserved a slot and put the text in it, and its walk shows that no slot of the bucket's chain has the text
 abbrev pub Ready : View → Type 0
-Ready v = (o : Own) × (v.own ≡ Some o) × (o.linked ≡ false) × (length o.text ≡ 32) × MissingIn o.text v
+Ready v = (o : Own) × (v.own ≡ Some o) × (o.linked ≡ false) × (length o.text ≡ 32) × MissingIn o.text v × Formed o.text
 
 -- the walk, the slots held, the refusals and the steps made aside, the view w is v
 pub record Aside (v w : View) : Type 0 where

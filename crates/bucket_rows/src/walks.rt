@@ -1,17 +1,17 @@
 //! A walk over the chain of a text's bucket.
-ghost use Rattle.std.specs.Prelude.{◌≡◌, ◌≢◌, ◌⊎◌, ℕ, ◌+◌, ◌<◌, ◌≤◌, true, false, List, [], ◌∷◌, length, take, Option, Some, None, IfOk, MatchOption};
+ghost use Rattle.std.specs.Prelude.{◌≡◌, ◌≢◌, ◌⊎◌, ℕ, ◌+◌, ◌<◌, ◌≤◌, true, false, List, [], ◌∷◌, length, take, get_or, Option, Some, None, IfOk, MatchOption};
 ghost use Rattle.pl_term.specs.Texts.{size};
 ghost use Rattle.atom_words.specs.Layout.{first_of, closed_of, version_of};
-ghost use Rattle.atom_words.specs.Texts.{bucket};
-ghost use Rattle.atom_words.specs.Kinds.{RowOk, after};
+ghost use Rattle.atom_words.specs.Texts.{bucket, padded};
+ghost use Rattle.atom_words.specs.Kinds.{RowOk, IsWhole, after};
 ghost use Rattle.atom_words.specs.Seats.{seen, Fits, Same, Walking};
 ghost use Rattle.atom_words.specs.Plays.{Alone, Stale};
 ghost use Rattle.atom_words.specs.declared.view.Walk.{Walk};
 ghost use Rattle.atom_words.specs.declared.view.Cause.TheVariants.{Moved as CauseMoved};
 ghost use Rattle.atom_words.specs.declared.view.Refusal.TheVariants.{Again};
 ghost use Rattle.atom_words.specs.declared.kind.Kind.TheVariants.{Refuse};
-ghost use Rattle.bucket_rows.specs.Walks.{spelled, reads, guards, Goes, Walks, WalksIn, Missing, MissingIn, Aside, held_after, refused_after};
-ghost use Rattle.bucket_rows.specs.Standing.{Standing, Ends, Meets};
+ghost use Rattle.bucket_rows.specs.Walks.{spelled, filling, reads, guards, Goes, Walks, WalksIn, Missing, MissingIn, Aside, held_after, refused_after};
+ghost use Rattle.bucket_rows.specs.Standing.{Standing, Ends, Meets, IsTextRow};
 
 use crate::missed::Missed;
 use crate::plays::SeeingMark;
@@ -25,17 +25,19 @@ use atomic_table::Seat;
 use pl_term::Text;
 use std::convert::AsStr;
 
-// Whether the slot at hand has another text than the one with the words `row`. It reads as far as the two agree.
+// Whether the slot at hand has another text than the one with the words `row`. It reads as far as the two agree, and no word
+// behind those that the text fills.
 fn differs(words: &Words, seat: &mut Seat<(), View>, slot: u32, row: &[u64; 32]) -> bool
     requires fits { (seat.old.table_id ≡ words.now.table.shared.table_id) × (seat.old.me.0.size ≡ words.now.size) × (seat.old.me.0.gone ≡ false) }
     requires slot { slot < words.now.size.slots }
     requires walk { (w : Walk) × (seat.old.me.0.walk ≡ Some w) × (w.place ≡ slot + 1) × (w.part ≡ []) }
+    requires bytes { get_or row.now 0 0 ≤ 248 }
     ensures same { (seat.new.table_id ≡ seat.old.table_id) × (seat.new.id ≡ seat.old.id) × (seat.new.me.1 ≡ seat.old.me.1) }
     ensures other { result ≡ true → (ws : List ℕ) × (ws ≢ take (length ws) row.now) × (seat.new.me.0 ≡ after seat.old.me.0 (reads ws)) }
-    ensures whole { result ≡ false → seat.new.me.0 ≡ after seat.old.me.0 (reads row.now) }
+    ensures whole { result ≡ false → seat.new.me.0 ≡ after seat.old.me.0 (reads (filling row.now)) }
 {
     let place = words.text_place(slot);
-    for i in 0..32 {
+    for i in 0..1 + (row[0] as usize + 7) / 8 {
         let word = words.table.shared.load::<ReadingWord>(seat, place + i);
         if word != row[i] {
             return true;
@@ -88,10 +90,10 @@ fn hold(
     requires head { head < words.now.size.heads }
     requires none { seat.old.me.0.own ≡ None }
     requires walking { Walking seat.old.me.0 }
-    requires walk { (w : Walk) × (seat.old.me.0.walk ≡ Some w) × (w.place ≡ slot + 1) × (length w.part ≡ 32) × (w.head ≡ head) × (w.word ≡ word) }
+    requires walk { (w : Walk) × (seat.old.me.0.walk ≡ Some w) × (w.place ≡ slot + 1) × IsWhole w.part × (w.head ≡ head) × (w.word ≡ word) }
     ensures same { (seat.new.table_id ≡ seat.old.table_id) × (seat.new.id ≡ seat.old.id) × (seat.new.me.1 ≡ seat.old.me.1) }
     ensures steps { Ends slot word seat.old.me.0 result seat.new.me.0 }
-    ensures alone { IfOk result (λ o. MatchOption o ((w : Walk) → seat.old.me.0.walk ≡ Some w → Alone seat.old.me.0 slot w.part) (λ _. Unit {0})) }
+    ensures alone { IfOk result (λ o. MatchOption o ((w : Walk) → seat.old.me.0.walk ≡ Some w → Alone seat.old.me.0 slot (padded w.part)) (λ _. Unit {0})) }
 {
     let found = guard(words, seat, slot);
     if found % 4 == 1 {
@@ -133,6 +135,7 @@ fn meet(
     requires none { seat.old.me.0.own ≡ None }
     requires walking { Walking seat.old.me.0 }
     requires walk { (n : ℕ) × Standing row.now head word n (slot + 1) [] seat.old.me.0 }
+    requires row { IsTextRow row.now }
     ensures same { (seat.new.table_id ≡ seat.old.table_id) × (seat.new.id ≡ seat.old.id) × (seat.new.me.1 ≡ seat.old.me.1) }
     ensures steps { Meets row.now slot word seat.old.me.0 result seat.new.me.0 }
     ensures alone { IfOk result (λ o. MatchOption o (Alone seat.old.me.0 slot row.now) (λ _. Unit {0})) }
@@ -158,6 +161,7 @@ fn walk_chain(
     requires none { seat.old.me.0.own ≡ None }
     requires walking { Walking seat.old.me.0 }
     requires walk { Standing row.now head word 0 (first_of word) [] seat.old.me.0 }
+    requires row { IsTextRow row.now }
     ensures same { (seat.new.table_id ≡ seat.old.table_id) × (seat.new.id ≡ seat.old.id) × (seat.new.me.1 ≡ seat.old.me.1) }
     ensures steps { Goes row.now seat.old.me.0 result seat.new.me.0 }
     ensures word { (old new : ℕ) → result ≡ Err (Missed.Moved old new) → old ≡ word }

@@ -9,8 +9,9 @@ use Rattle.atom_words.specs.declared.size.Size.{Size}
 use Rattle.atom_words.specs.declared.view.Own.{Own}
 use Rattle.atom_words.specs.declared.view.View.{View}
 use Rattle.atom_words.specs.declared.kind.Kind.TheVariants.{PutLink, Link, Validate}
-use Rattle.atom_words.proofs.Putting.{row_length, puts_own, puts_keep}
+use Rattle.atom_words.proofs.Putting.{puts_own, puts_keep}
 use Rattle.bucket_rows.specs.Walks.{spelled, Ready}
+use Rattle.bucket_rows.proofs.Filling.{text_row_is}
 use Rattle.bucket_rows.proofs.Reading.{ready_put, alone_as}
 use Rattle.bucket_rows.proofs.Making.{Beside, beside_trans, beside_puts, beside_links, linked_by, unlinked_by}
 use Rattle.atom_table.specs.Interning.{Adds}
@@ -24,34 +25,34 @@ link-requires-clause-fits c = let v : View = seen c.args.seat.now in let u : Vie
 
 pub link-requires-clause-ready : goal.link-requires-clause-ready
 link-requires-clause-ready c = let v : View = seen c.args.seat.now in let row : List ℕ = spelled c.args.text.now in let is : row_of c.as_bytes.result.now ≡ row = ap row_of (c.as_bytes.ensures.value ∙ c.as_str.ensures) in
-    ready_put row c.requires.own.0 v (seen c.put_text.new.seat) (row_length (encode_utf8_all c.args.text.now)) c.requires.own.1 c.requires.missing (subst (λ (l : List ℕ). Puts l v (seen c.put_text.new.seat)) is c.put_text.ensures.steps)
+    ready_put row c.requires.own.0 v (seen c.put_text.new.seat) (text_row_is (encode_utf8_all c.args.text.now) c.requires.short) c.requires.own.1 c.requires.missing (subst (λ (l : List ℕ). Puts l v (seen c.put_text.new.seat)) is c.put_text.ensures.steps)
 
 pub validate-requires-clause-fits : goal.validate-requires-clause-fits
 validate-requires-clause-fits c = let v : View = seen c.args.seat.now in let u : View = seen c.put_text.new.seat in let w : View = seen c.link.new.seat in let row : List ℕ = spelled c.args.text.now in let is : row_of c.as_bytes.result.now ≡ row = ap row_of (c.as_bytes.ensures.value ∙ c.as_str.ensures) in
-    let r : Ready u = ready_put row c.requires.own.0 v u (row_length (encode_utf8_all c.args.text.now)) c.requires.own.1 c.requires.missing (subst (λ (l : List ℕ). Puts l v u) is c.put_text.ensures.steps) in
+    let r : Ready u = ready_put row c.requires.own.0 v u (text_row_is (encode_utf8_all c.args.text.now) c.requires.short) c.requires.own.1 c.requires.missing (subst (λ (l : List ℕ). Puts l v u) is c.put_text.ensures.steps) in
     let b = beside_trans v u w (beside_puts (row_of c.as_bytes.result.now) v u c.put_text.ensures.steps) (beside_links u r.4.2.walk c.link.result w (c.link.ensures.steps r.4.2.walk r.4.2.at)) in
     (c.link.ensures.same.0 ∙ (c.put_text.ensures.same.0 ∙ c.requires.fits.0), b.size ∙ c.requires.fits.1, b.gone ∙ c.requires.fits.2)
 
 pub validate-requires-clause-sitting : goal.validate-requires-clause-sitting
 validate-requires-clause-sitting c = let v : View = seen c.args.seat.now in let u : View = seen c.put_text.new.seat in let w : View = seen c.link.new.seat in let row : List ℕ = spelled c.args.text.now in let is : row_of c.as_bytes.result.now ≡ row = ap row_of (c.as_bytes.ensures.value ∙ c.as_str.ensures) in
-    let r : Ready u = ready_put row c.requires.own.0 v u (row_length (encode_utf8_all c.args.text.now)) c.requires.own.1 c.requires.missing (subst (λ (l : List ℕ). Puts l v u) is c.put_text.ensures.steps) in
+    let r : Ready u = ready_put row c.requires.own.0 v u (text_row_is (encode_utf8_all c.args.text.now) c.requires.short) c.requires.own.1 c.requires.missing (subst (λ (l : List ℕ). Puts l v u) is c.put_text.ensures.steps) in
     let b = beside_trans v u w (beside_puts (row_of c.as_bytes.result.now) v u c.put_text.ensures.steps) (beside_links u r.4.2.walk c.link.result w (c.link.ensures.steps r.4.2.walk r.4.2.at)) in
     sitting_by v w b.cycle b.undealt c.requires.sitting
 
 pub release-requires-clause-fits : goal.release-requires-clause-fits
 release-requires-clause-fits c = let v : View = seen c.args.seat.now in let u : View = seen c.put_text.new.seat in let w : View = seen c.link.new.seat in let row : List ℕ = spelled c.args.text.now in let is : row_of c.as_bytes.result.now ≡ row = ap row_of (c.as_bytes.ensures.value ∙ c.as_str.ensures) in
-    let r : Ready u = ready_put row c.requires.own.0 v u (row_length (encode_utf8_all c.args.text.now)) c.requires.own.1 c.requires.missing (subst (λ (l : List ℕ). Puts l v u) is c.put_text.ensures.steps) in
+    let r : Ready u = ready_put row c.requires.own.0 v u (text_row_is (encode_utf8_all c.args.text.now) c.requires.short) c.requires.own.1 c.requires.missing (subst (λ (l : List ℕ). Puts l v u) is c.put_text.ensures.steps) in
     let b = beside_trans v u w (beside_puts (row_of c.as_bytes.result.now) v u c.put_text.ensures.steps) (beside_links u r.4.2.walk c.link.result w (c.link.ensures.steps r.4.2.walk r.4.2.at)) in
     (c.link.ensures.same.0 ∙ (c.put_text.ensures.same.0 ∙ c.requires.fits.0), b.size ∙ c.requires.fits.1, b.gone ∙ c.requires.fits.2)
 
 pub validate-requires-clause-linked : goal.validate-requires-clause-linked
 validate-requires-clause-linked c = let v : View = seen c.args.seat.now in let u : View = seen c.put_text.new.seat in let w : View = seen c.link.new.seat in let row : List ℕ = spelled c.args.text.now in let is : row_of c.as_bytes.result.now ≡ row = ap row_of (c.as_bytes.ensures.value ∙ c.as_str.ensures) in
-    let r : Ready u = ready_put row c.requires.own.0 v u (row_length (encode_utf8_all c.args.text.now)) c.requires.own.1 c.requires.missing (subst (λ (l : List ℕ). Puts l v u) is c.put_text.ensures.steps) in
+    let r : Ready u = ready_put row c.requires.own.0 v u (text_row_is (encode_utf8_all c.args.text.now) c.requires.short) c.requires.own.1 c.requires.missing (subst (λ (l : List ℕ). Puts l v u) is c.put_text.ensures.steps) in
     (linked_own (linking (first_of r.4.2.walk.word) r.0), linked_by u r.4.2.walk tt w r.0 (c.in-Ok.ensures.steps r.4.2.walk r.4.2.at) r.1, refl)
 
 pub release-requires-clause-unlinked : goal.release-requires-clause-unlinked
 release-requires-clause-unlinked c = let v : View = seen c.args.seat.now in let u : View = seen c.put_text.new.seat in let w : View = seen c.link.new.seat in let row : List ℕ = spelled c.args.text.now in let is : row_of c.as_bytes.result.now ≡ row = ap row_of (c.as_bytes.ensures.value ∙ c.as_str.ensures) in
-    let r : Ready u = ready_put row c.requires.own.0 v u (row_length (encode_utf8_all c.args.text.now)) c.requires.own.1 c.requires.missing (subst (λ (l : List ℕ). Puts l v u) is c.put_text.ensures.steps) in
+    let r : Ready u = ready_put row c.requires.own.0 v u (text_row_is (encode_utf8_all c.args.text.now) c.requires.short) c.requires.own.1 c.requires.missing (subst (λ (l : List ℕ). Puts l v u) is c.put_text.ensures.steps) in
     unlinked_by u r.4.2.walk c.in-Err.missed w r.0 (c.in-Err.ensures.steps r.4.2.walk r.4.2.at) r.1 r.2
 
 pub returns-in-Ok-clause-steps : goal.returns-in-Ok-clause-steps

@@ -36,7 +36,7 @@ compare_exchange-found-requires c = let s = c.args.seat.now in let v : View = s.
       c.store.ensures.0 ∙ c.requires.fits.0,
       c.head_place-top.ensures.inside,
       subst P (λ j. (word j, new j)) (linking_step key slots id me (c.args.words.now.keyed ∙ size) (ap (λ (y : View). y.gone) is ∙ c.requires.fits.2) i c.requires.ready.4.0 (linking first o) w c.requires.ready.4.1
-          (ap (λ (y : View). y.own) is ∙ ap (option_map (linking first)) c.requires.ready.1) (ap (λ (y : View). y.walk) is ∙ m.at) c.requires.ready.2 c.requires.ready.3 (ap (λ (n : ℕ). Some (n % 2097152)) (sym word))
+          (ap (λ (y : View). y.own) is ∙ ap (option_map (linking first)) c.requires.ready.1) (ap (λ (y : View). y.walk) is ∙ m.at) c.requires.ready.2 c.requires.ready.3 c.requires.ready.5 (ap (λ (n : ℕ). Some (n % 2097152)) (sym word))
           (sym m.head, m.ended, m.others) m.unclosed (subst (λ (n : ℕ). version_of n < 4398046511102) (sym word) (let low = c.if-seat-ge-WORN.false in omega arith))
           (subst (λ (h : ℕ). h < u.size.heads) head (subst (λ (y : Size). s.head < y.heads) (sym (ap (λ (y : View). y.size) is)) s.walks.2)) (c.head_place-top.ensures.place ∙ (λ j. head_at (size j) (head j)))),
     )

@@ -1,5 +1,6 @@
 use Rattle.std.proofs.Common.{◌≡◌, ◌<◌, ℕ, ◌+◌, ◌*◌, ◌++◌, [], ◌∷◌, false, List, length, get_or, take, refl, sym, ap, ◌∙◌, arith, Some, length-append, length-take, take_all}
 use Rattle.std.proofs.lemmas.List.{take_more}
+use Rattle.atom_words.specs.Texts.{filled}
 use Rattle.atom_words.specs.Board.{text_at}
 use Rattle.atom_words.specs.Kinds.{view_after, after}
 use Rattle.atom_words.specs.declared.size.Size.{Size}
@@ -13,7 +14,7 @@ use Rattle.bucket_rows.proofs.Reading.{reads_more, reads_keep, reads_walk}
 use Rattle.bucket_rows.proofs.walks.differs.Goals as goal
 
 pub load-word-requires : goal.load-word-requires
-load-word-requires c = let v : View = c.args.seat.now.me.0 in let u : View = c.loop-i.seat.me.0 in let i : ℕ = c.loop-i.i in let ws : List ℕ = take i c.args.row.now in let w : Walk = c.requires.walk.0 in let below : i < 32 = c.loop-i-test.true in
+load-word-requires c = let v : View = c.args.seat.now.me.0 in let u : View = c.loop-i.seat.me.0 in let i : ℕ = c.loop-i.i in let ws : List ℕ = take i c.args.row.now in let w : Walk = c.requires.walk.0 in let bytes = c.requires.bytes in let below : i < 32 = omega (arith, c.loop-i-test.true) in
     let is : u ≡ after v (reads ws) = c.loop-i.invariant.view in
     let size : u.size ≡ v.size = ap (λ (y : View). y.size) is ∙ reads_keep (λ (y : View). y.size) (λ _ _. refl) v ws in
     let gone : u.gone ≡ false = ap (λ (y : View). y.gone) is ∙ (reads_keep (λ (y : View). y.gone) (λ _ _. refl) v ws ∙ c.requires.fits.2) in
@@ -30,7 +31,7 @@ load-word-requires c = let v : View = c.args.seat.now.me.0 in let u : View = c.l
     )
 
 pub loop-i-preserved : goal.loop-i-preserved
-loop-i-preserved c = let v : View = c.args.seat.now.me.0 in let row : List ℕ = c.args.row.now in let all : length c.args.row.now ≡ 32 = c.told-row in let below : c.loop-i.i < 32 = c.loop-i-test.true in record {
+loop-i-preserved c = let v : View = c.args.seat.now.me.0 in let row : List ℕ = c.args.row.now in let all : length c.args.row.now ≡ 32 = c.told-row in let bytes = c.requires.bytes in let below : c.loop-i.i < 32 = omega (arith, c.loop-i-test.true) in record {
   same = (c.load-word.ensures.0 ∙ c.loop-i.invariant.same.0, c.load-word.ensures.1 ∙ c.loop-i.invariant.same.1, c.load-word.ensures.2.0 ∙ c.loop-i.invariant.same.2);
   view = let is : c.load-word.new.seat.me.0 ≡ view_after c.loop-i.seat.me.0 (Read c.load-word.result) = c.load-word.ensures.2.1 in
       is ∙ ((λ i. view_after (c.loop-i.invariant.view i) (Read (c.if-word-row.false i)))
@@ -38,7 +39,7 @@ loop-i-preserved c = let v : View = c.args.seat.now.me.0 in let row : List ℕ =
 }
 
 pub returns-then-word-row-clause-other : goal.returns-then-word-row-clause-other
-returns-then-word-row-clause-other c = λ _. let v : View = c.args.seat.now.me.0 in let row : List ℕ = c.args.row.now in let i : ℕ = c.loop-i.i in let x : ℕ = c.load-word.result in let all : length c.args.row.now ≡ 32 = c.told-row in let below : i < 32 = c.loop-i-test.true in
+returns-then-word-row-clause-other c = λ _. let v : View = c.args.seat.now.me.0 in let row : List ℕ = c.args.row.now in let i : ℕ = c.loop-i.i in let x : ℕ = c.load-word.result in let all : length c.args.row.now ≡ 32 = c.told-row in let bytes = c.requires.bytes in let below : i < 32 = omega (arith, c.loop-i-test.true) in
     let ws : List ℕ = take i row ++ x ∷ [] in let long : length (take i row) ≡ i = length-take i row ∙ omega arith in let longer : length ws ≡ i + 1 = length-append (take i row) (x ∷ []) ∙ ap (λ (n : ℕ). n + 1) long in (
       ws,
       (λ e. c.if-word-row.true (last_same (take i row) (take i row) x (get_or row i 0) (e ∙ (ap (λ (n : ℕ). take n row) longer ∙ take_more row i 0 (omega arith))))),
@@ -46,4 +47,4 @@ returns-then-word-row-clause-other c = λ _. let v : View = c.args.seat.now.me.0
     )
 
 pub returns-clause-whole : goal.returns-clause-whole
-returns-clause-whole c = λ _. let all : length c.args.row.now ≡ 32 = c.told-row in c.loop-i.invariant.view ∙ ap (λ l. after c.args.seat.now.me.0 (reads l)) (take_all c.loop-i.i c.args.row.now (omega (arith, c.loop-i-test.false)))
+returns-clause-whole c = λ _. let all : length c.args.row.now ≡ 32 = c.told-row in let end : c.loop-i.i ≡ filled (get_or c.args.row.now 0 0) = (let a = c.loop-i-test.false in let b = c.loop-i.auto.i-end in omega arith) in c.loop-i.invariant.view ∙ ap (λ (n : ℕ). after c.args.seat.now.me.0 (reads (take n c.args.row.now))) end

@@ -1,6 +1,7 @@
-use Rattle.std.proofs.Common.{◌≡◌, ◌≢◌, ◌<◌, ◌-◌, ◌+◌, ℕ, [], ◌∷◌, refl, sym, ap, ◌∙◌, subst, inl, arith, Option, Some, None, Err, option_map}
+use Rattle.std.proofs.Common.{◌≡◌, ◌≢◌, ◌<◌, ◌-◌, ◌+◌, ◌++◌, ℕ, [], ◌∷◌, refl, sym, ap, ◌∙◌, subst, inl, arith, Option, Some, None, Err, option_map}
 use Rattle.atom_words.specs.Layout.{state_of, version_of}
 use Rattle.atom_words.specs.Board.{link_at, head_at}
+use Rattle.atom_words.specs.Texts.{padded}
 use Rattle.atom_words.specs.Plays.{Alone}
 use Rattle.atom_words.specs.Kinds.{guarding, view_after, after}
 use Rattle.atom_words.specs.declared.size.Size.{Size}
@@ -108,7 +109,7 @@ returns-then-new-word-clause-alone c = λ w walk. let v : View = c.args.seat.now
     let first : Walk = c.requires.walk.0 in let one : Some first ≡ Some w = sym c.requires.walk.1 ∙ walk in let w_is : first ≡ w = cc in let place : w.place ≡ k + 1 = ap (λ (y : Walk). y.place) (sym w_is) ∙ c.requires.walk.2 in let word : w.word ≡ c.args.word = ap (λ (y : Walk). y.word) (sym w_is) ∙ c.requires.walk.5 in
     let slot : w.place - 1 ≡ k = omega arith in
     let is = (c.load-new.ensures.2.1 (guarding k x w) (told v u o k x w c.guard-found.ensures.steps.1 walk)).0 (c.if-new-word.true ∙ ap version_of (sym word)) in
-    alone_as v u k w.part g.held g.aside.fixed (subst (λ (n : ℕ). Alone u n w.part) slot is.1)
+    alone_as v u k (padded w.part) g.held g.aside.fixed (subst (λ (n : ℕ). Alone u n (padded w.part)) slot is.1)
 
 pub returns-else-new-word-clause-steps : goal.returns-else-new-word-clause-steps
 returns-else-new-word-clause-steps c = let v : View = c.args.seat.now.me.0 in let u : View = c.guard-found.new.seat.me.0 in let x : ℕ = c.guard-found.result in let o = c.guard-found.ensures.steps.0 in let k : ℕ = c.args.slot in let w : Walk = c.requires.walk.0 in let new : ℕ = c.load-new.result in let old : ℕ = c.args.word in

@@ -50,7 +50,7 @@ returns-in-None-clause-last c = let row : List ℕ = c.args.row.now in let v : V
     subst (λ (k : ℕ). (k < c.args.words.now.size.slots) × Alone v k row × (w.held ≡ v.held ++ record { slot = k; text = row } ∷ [])) (sym c.at.ensures) (
       omega arith,
       alone_as v u (c.loop-i.place - 1) row held (passed_aside v u p.0 p.3).fixed (subst (λ (o : Option ℕ). MatchOption o (Alone u (c.loop-i.place - 1) row) (λ _. Unit {0})) c.in-None.is c.in-Ok.ensures.alone),
-      standing_hold row c.args.head c.args.word c.loop-i._i (c.loop-i.place - 1) m.0 m.1 u w stands m.3 ∙ ap (λ (l : List Held). l ++ record { slot = c.loop-i.place - 1; text = row } ∷ []) held,
+      standing_hold row c.args.head c.args.word c.loop-i._i (c.loop-i.place - 1) m.0 m.1 u w c.requires.row stands m.3 ∙ ap (λ (l : List Held). l ++ record { slot = c.loop-i.place - 1; text = row } ∷ []) held,
     )
 
 pub loop-i-preserved : goal.loop-i-preserved

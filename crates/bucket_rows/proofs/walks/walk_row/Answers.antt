@@ -1,4 +1,4 @@
-use Rattle.std.proofs.Common.{◌≡◌, ◌≢◌, ◌<◌, ◌++◌, ℕ, List, [], ◌∷◌, refl, sym, ap, ◌∙◌, subst, arith, None}
+use Rattle.std.proofs.Common.{◌≡◌, ◌≢◌, ◌<◌, ◌++◌, ℕ, List, [], ◌∷◌, ◌≤◌, length, refl, sym, ap, ◌∙◌, subst, arith, None}
 use Rattle.atom_words.specs.Layout.{closed_of}
 use Rattle.atom_words.specs.Board.{head_at}
 use Rattle.atom_words.specs.Texts.{row_of, bucket}
@@ -13,7 +13,8 @@ use Rattle.atom_words.specs.declared.kind.Kind.TheVariants.{Start, Refuse}
 use Rattle.atom_words.proofs.WalkSteps.{starting_walk}
 use Rattle.atom_words.proofs.Tied.{own_tied, walk_tied, pass_tied, same_passes}
 use Rattle.bucket_rows.specs.Walks.{spelled, Walks, Missing, Aside}
-use Rattle.bucket_rows.specs.Standing.{Standing}
+use Rattle.bucket_rows.specs.Standing.{Standing, IsTextRow}
+use Rattle.bucket_rows.proofs.Filling.{text_row_is}
 use Rattle.bucket_rows.proofs.Reading.{standing_start}
 use Rattle.bucket_rows.proofs.Told.{walks_steps, walks_aside, walks_refused, walks_held, walks_last, walks_tied}
 use Rattle.bucket_rows.proofs.walks.walk_row.Goals as goal
@@ -121,3 +122,6 @@ returns-clause-last c = let same : c.args.words.now.size ≡ c.args.seat.now.sea
     let head : h ≡ bucket c.args.row_size (spelled c.args.text.now) = c.bucket-head.ensures.bucket ∙ ap (λ (l : List ℕ). bucket c.args.row_size (row_of l)) (c.as_bytes-2.ensures.value ∙ c.as_str-2.ensures) in
     let P : List ℕ × ℕ → Type 0 = λ p. Rattle.std.proofs.Common.IfOk c.walk_chain.result (λ o. Rattle.std.proofs.Common.MatchOption o (Missing p.0 p.1 w) (λ a. (a < c.args.words.now.size.slots) × Rattle.atom_words.specs.Plays.Alone v a p.0)) in
     subst P (λ i. (row i, head i)) (walks_last c.text_row-row.result h x v u w (told.0 unclosed) unclosed c.args.words.now.size.slots c.walk_chain.result c.walk_chain.ensures.last)
+
+pub walk_chain-requires-clause-row : goal.walk_chain-requires-clause-row
+walk_chain-requires-clause-row c = let bs : List ℕ = c.as_bytes.result.now in let short : length bs ≤ 248 = subst (λ (l : List ℕ). length l ≤ 248) (sym (c.as_bytes.ensures.value ∙ c.as_str.ensures)) c.requires.short in subst IsTextRow (sym c.text_row-row.ensures) (text_row_is bs short)
