@@ -17,9 +17,10 @@ use std::alloc::{AllocError, Global};
 fn extend(words: &mut Vec<u64>, many: u64, word: u64) -> Result<(), AllocError>
     ensures { IfOk result (λ _. words.new.items ≡ words.old.items ++ replicate many word) }
 {
-    for _i in 0..many {
-        words.push(word).map_err(|_| AllocError)?;
-    }
+    let Some(n) = words.len().checked_add(many as usize) else {
+        return Err(AllocError);
+    };
+    words.resize(n, word)?;
     Ok(())
 }
 

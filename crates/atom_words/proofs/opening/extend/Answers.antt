@@ -1,8 +1,7 @@
-use Rattle.std.proofs.Common.{◌≡◌, ℕ, [], ◌∷◌, ◌++◌, replicate, ap, ◌∙◌, append_assoc, arith}
-use Rattle.std.proofs.lemmas.Grind.{common_steps}
-use Rattle.std.proofs.lemmas.List.{replicate-append-replicate}
+use Rattle.std.proofs.Common.{◌≡◌, ◌+◌, ◌-◌, ◌≤◌, ◌++◌, length, replicate, take_all, vec_len, ap, ap₂, ◌∙◌, arith}
 use Rattle.atom_words.proofs.opening.extend.Goals as goal
 
-pub loop-i-preserved : goal.loop-i-preserved
-loop-i-preserved c = let i : ℕ = c.loop-i._i in let x : ℕ = c.args.word in let pushed : c.push.new.self.items ≡ c.loop-i.words.items ++ x ∷ [] = grind (arith, common_steps) in
-    pushed ∙ (ap (λ l. l ++ x ∷ []) c.loop-i.invariant ∙ (append_assoc c.args.words.now.items (replicate i x) (x ∷ []) ∙ ap (λ l. c.args.words.now.items ++ l) (replicate-append-replicate i 1 x)))
+pub returns : goal.returns
+returns c = let ws = c.args.words.now in let n = c.in-Some.n in let sum : n ≡ length ws.items + c.args.many = omega (arith, c.in-Some.ensures, c.len.ensures, ws.ok.0) in
+    let rest : n - vec_len ws ≡ c.args.many = omega (arith, sum, ws.ok.0) in
+    c.in_ok-resize.ensures.items ∙ ap₂ ◌++◌ (take_all n ws.items (omega (arith, sum))) (ap (λ k. replicate k c.args.word) rest)
