@@ -15,6 +15,7 @@ use Rattle.bucket_rows.specs.Treads.{spells, AtSlot, Found, Treads, Reached, Cau
 use Rattle.bucket_rows.specs.Sweeps.{At, JudgedBy, SweptBy, Run}
 use Rattle.bucket_rows.proofs.Removing.{then_steps}
 use Rattle.bucket_rows.proofs.SweepKinds.{kinds_append}
+use Rattle.bucket_rows.proofs.Fewness.{few_flat, few_append, few_most}
 use Rattle.bucket_rows.proofs.Treading.{spells_know, treads_condemn}
 
 pub at_of : (k : ℕ) (v : View) → AtSlot k v → At k v
@@ -60,13 +61,14 @@ loaded_at k i x v u a is = subst (AtSlot k) (sym is) (a.0, a.1, a.2, a.3, a.4)
 pub swept_kept : (k word r x : ℕ) (z : Size) (v u w : View) → v.size ≡ z → JudgedBy k v (Passed word) u
     → ((r ≡ word) × (w ≡ after u (PassOver x ∷ []))) ⊎ ((r ≢ 3) × (w ≡ after u (Load (atom_at z k) r ∷ PassOver x ∷ []))) → SweptBy k v (Passed r) w
 swept_kept k word r x z v u w size e told = ⊎_elim
-    (λ (t : (r ≡ word) × (w ≡ after u (PassOver x ∷ []))). subst (λ (n : ℕ). SweptBy k v (Passed n) w) (sym t.0) (e.0, x, then_steps v u w e.0 (PassOver x ∷ []) e.1 t.1, e.2, e.3))
+    (λ (t : (r ≡ word) × (w ≡ after u (PassOver x ∷ []))). subst (λ (n : ℕ). SweptBy k v (Passed n) w) (sym t.0) (e.0, x, then_steps v u w e.0 (PassOver x ∷ []) e.1 t.1, e.2, e.3, few_most v.size.slots 40 (last + 1) 41 (last + 1) e.0 e.4 (omega arith) (omega arith)))
     (λ (t : (r ≢ 3) × (w ≡ after u (Load (atom_at z k) r ∷ PassOver x ∷ []))). let here : List Kind = Load (atom_at v.size k) r ∷ [] in (
       e.0 ++ here,
       x,
       then_steps v u w e.0 (Load (atom_at v.size k) r ∷ PassOver x ∷ []) e.1 (t.1 ∙ ap (λ (y : Size). after u (Load (atom_at y k) r ∷ PassOver x ∷ [])) (sym size)) ∙ ap (after v) (sym (append_assoc e.0 here (PassOver x ∷ []))),
       (t.0, (e.0, inr refl)),
       kinds_append e.0 here e.3 (tt, tt),
+      few_most v.size.slots 41 (last + 1 + 0) 41 (last + 1) (e.0 ++ here) (few_append v.size.slots 40 (last + 1) 1 0 e.0 here e.4 (few_flat v.size.slots 1 here refl (omega arith))) (omega arith) (omega arith),
     )) told
 
 -- one run after another

@@ -25,3 +25,4 @@ pub mod RowLaws
 pub mod RowMoves
 pub mod RowViews
 pub mod Seeing
+pub mod Fewness

@@ -12,7 +12,7 @@ use Rattle.atom_words.specs.declared.words.AtomSeat.{AtomSeat}
 use Rattle.atom_words.specs.declared.kind.Kind.{Kind}
 use Rattle.atom_words.specs.declared.kind.Kind.TheVariants.{Behind, UnlinkAt, UnlinkHead, Note, Bump, Past}
 use Rattle.atom_words.proofs.Slices.{some_same}
-use Rattle.bucket_rows.specs.SweepKinds.{SweepKind}
+use Rattle.bucket_rows.specs.SweepKinds.{SweepKind, starts}
 use Rattle.bucket_rows.specs.Treads.{Treads, Caught, Behinds, OutOf}
 use Rattle.bucket_rows.proofs.Checks.{after_append}
 use Rattle.bucket_rows.proofs.Treading.{treads_behind, at_first}
@@ -76,6 +76,6 @@ pub unlinked_noted : (n : ℕ) (y : Sweeping) (u w : View) → Unlinked u y → 
 unlinked_noted n y u w q is = ((ap (λ (z : View). z.sweep) is ∙ ap (option_map (noting n)) q.0.0, q.0.1), q.1, q.2)
 
 -- the head's version moves
-pub bumped_by : (u w : View) (r : Result (Unit {0}) ℕ) → MatchResult r (λ _. w ≡ after u (Bump ∷ [])) (λ x. w ≡ after u (Past x ∷ [])) → (k : Kind) × (w ≡ after u (k ∷ [])) × SweepKind k × ((y : Sweeping) → Unlinked u y → Unlinked w (moving_past y))
-bumped_by u w (Ok _) e = (Bump, e, tt, λ y q. ((ap (λ (z : View). z.sweep) e ∙ ap (option_map moving_past) q.0.0, q.0.1), q.1, q.2))
-bumped_by u w (Err x) e = (Past x, e, tt, λ y q. ((ap (λ (z : View). z.sweep) e ∙ ap (option_map moving_past) q.0.0, q.0.1), q.1, q.2))
+pub bumped_by : (u w : View) (r : Result (Unit {0}) ℕ) → MatchResult r (λ _. w ≡ after u (Bump ∷ [])) (λ x. w ≡ after u (Past x ∷ [])) → (k : Kind) × (w ≡ after u (k ∷ [])) × SweepKind k × ((y : Sweeping) → Unlinked u y → Unlinked w (moving_past y)) × (starts (k ∷ []) ≡ 0)
+bumped_by u w (Ok _) e = (Bump, e, tt, (λ y q. ((ap (λ (z : View). z.sweep) e ∙ ap (option_map moving_past) q.0.0, q.0.1), q.1, q.2)), refl)
+bumped_by u w (Err x) e = (Past x, e, tt, (λ y q. ((ap (λ (z : View). z.sweep) e ∙ ap (option_map moving_past) q.0.0, q.0.1), q.1, q.2)), refl)

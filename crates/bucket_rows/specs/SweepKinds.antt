@@ -1,5 +1,5 @@
 -- The kinds of steps that the sweep of slots makes.
-use Rattle.std.specs.Prelude.{◌≡◌, List, [], ◌∷◌, option_map}
+use Rattle.std.specs.Prelude.{◌≡◌, ℕ, ◌+◌, ◌*◌, ◌≤◌, List, [], ◌∷◌, length, option_map}
 use Rattle.atom_words.specs.declared.view.Sweeping.{Sweeping}
 use Rattle.atom_words.specs.declared.view.View.{View}
 use Rattle.atom_words.specs.declared.kind.Kind.{Kind}
@@ -25,6 +25,19 @@ SweepKind kind = ⊥
 abbrev pub SweepKinds : List Kind → Type 0
 SweepKinds [] = Unit {0}
 SweepKinds (k ∷ ks) = SweepKind k × SweepKinds ks
+
+-- how many walks begin
+abbrev pub is_start : Kind → ℕ
+is_start (Start h x) = 1
+is_start kind = 0
+
+abbrev pub starts : List Kind → ℕ
+starts [] = 0
+starts (k ∷ ks) = is_start k + starts ks
+
+-- THE BOUND: so many steps at most, beside a walk over no more slots than there are for each walk that begins; and so many walks at most
+abbrev pub Few : ℕ → ℕ → ℕ → List Kind → Type 0
+Few slots most walks ks = (length ks ≤ most + starts ks * (slots + 1)) × (starts ks ≤ walks)
 
 -- what such steps leave of the view; and of what the collector knows the rows, the epoch word, and how many engines are checked
 pub record Untouched (v w : View) : Type 0 where

@@ -11,7 +11,7 @@ use Rattle.atom_words.specs.declared.kind.Kind.TheVariants.{Load, Start, Look, C
 use Rattle.bucket_rows.specs.declared.slots.Verdict.{Verdict}
 use Rattle.bucket_rows.specs.declared.slots.Verdict.TheVariants.{Low, Passed, Worn, Freed}
 use Rattle.bucket_rows.specs.Treads.{spells}
-use Rattle.bucket_rows.specs.SweepKinds.{SweepKinds}
+use Rattle.bucket_rows.specs.SweepKinds.{SweepKinds, Few}
 
 -- the sweep has come to that slot, and no slot is dying
 abbrev pub At : ℕ → View → Type 0
@@ -25,11 +25,11 @@ Judges v k (Worn x) ks = (last ≤ version_of x) × ((row : List ℕ) × (s : �
 Judges v k Freed ks = (before : List Kind) × (between : List Kind) × (ks ≡ before ++ Condemn ∷ (between ++ Free ∷ []))
 
 abbrev pub JudgedBy : ℕ → View → Verdict → View → Type 0
-JudgedBy k v r w = (ks : List Kind) × (w ≡ after v ks) × Judges v k r ks × SweepKinds ks
+JudgedBy k v r w = (ks : List Kind) × (w ≡ after v ks) × Judges v k r ks × SweepKinds ks × Few v.size.slots 40 (last + 1) ks
 
--- THE STEPS OF THE SWEEP OF A SLOT, which are of the sweep's kinds: those, and the pass that clears its mark. The sweep has come to the next slot
+-- THE STEPS OF THE SWEEP OF A SLOT, which are of the sweep's kinds: those, and the pass that clears its mark. The sweep has come to the next slot. There are at most 42, beside the walks over the chain of the slot's bucket, each but the first of which another seat's step on the chain's head has made needed
 abbrev pub SweptBy : ℕ → View → Verdict → View → Type 0
-SweptBy k v r w = (ks : List Kind) × (x : ℕ) × (w ≡ after v (ks ++ PassOver x ∷ [])) × Judges v k r ks × SweepKinds ks
+SweptBy k v r w = (ks : List Kind) × (x : ℕ) × (w ≡ after v (ks ++ PassOver x ∷ [])) × Judges v k r ks × SweepKinds ks × Few v.size.slots 41 (last + 1) ks
 
 -- how many slots, 0 or 1, the sweep found valid and left so; one of the first 256 is not looked at
 abbrev pub left_valid : Verdict → ℕ

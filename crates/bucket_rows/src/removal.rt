@@ -1,9 +1,10 @@
 //! The dying slot leaves its chain, after as many tries as that takes.
 ghost use Rattle.std.specs.Prelude.{◌≡◌, ℕ, ◌+◌, ◌<◌, ◌≤◌, List};
+ghost use Rattle.atom_words.specs.Layout.{last};
 ghost use Rattle.atom_words.specs.Kinds.{after};
 ghost use Rattle.atom_words.specs.Seats.{seen, Fits, Same};
 ghost use Rattle.atom_words.specs.declared.kind.Kind.{Kind};
-ghost use Rattle.bucket_rows.specs.SweepKinds.{SweepKinds};
+ghost use Rattle.bucket_rows.specs.SweepKinds.{SweepKinds, Few};
 ghost use Rattle.bucket_rows.specs.Treads.{Caught, Behinds, OutOf};
 
 use crate::treads::tread;
@@ -18,7 +19,7 @@ fn unlink_after(words: &Words, seat: &mut AtomSeat, slot: u32, before: u32, link
     requires caught { Behinds slot seat.old.word (before + 1) link (seen seat.old) }
     ensures same { Same seat.old seat.new }
     ensures fits { Fits words.now seat.new }
-    ensures steps { (ks : List Kind) × (seen seat.new ≡ after (seen seat.old) ks) × SweepKinds ks }
+    ensures steps { (ks : List Kind) × (seen seat.new ≡ after (seen seat.old) ks) × SweepKinds ks × Few words.now.size.slots 3 0 ks }
     ensures out { OutOf slot (seen seat.new) }
 {
     let head = seat.head;
@@ -37,7 +38,7 @@ pub fn unlink(words: &Words, seat: &mut AtomSeat, slot: u32, before: u64)
     requires caught { Caught slot seat.old.word before (seen seat.old) }
     ensures same { Same seat.old seat.new }
     ensures fits { Fits words.now seat.new }
-    ensures steps { (ks : List Kind) × (seen seat.new ≡ after (seen seat.old) ks) × SweepKinds ks }
+    ensures steps { (ks : List Kind) × (seen seat.new ≡ after (seen seat.old) ks) × SweepKinds ks × Few words.now.size.slots 4 last ks }
     ensures out { OutOf slot (seen seat.new) }
 {
     let link = read_behind(words, seat, slot);

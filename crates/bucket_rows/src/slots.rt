@@ -1,5 +1,5 @@
 //! The sweep of one slot.
-ghost use Rattle.std.specs.Prelude.{◌≡◌, ◌≢◌, ◌⊎◌, ℕ, ◌+◌, ◌<◌, ◌≤◌, List, [], ◌∷◌, ◌++◌, MatchResult};
+ghost use Rattle.std.specs.Prelude.{◌≡◌, ◌≢◌, ◌⊎◌, ℕ, ◌+◌, ◌<◌, ◌≤◌, List, [], ◌∷◌, ◌++◌, length, MatchResult};
 ghost use Rattle.atom_words.specs.Layout.{version_of, last};
 ghost use Rattle.atom_words.specs.Texts.{bucket};
 ghost use Rattle.atom_words.specs.Board.{atom_at};
@@ -8,7 +8,7 @@ ghost use Rattle.atom_words.specs.Seats.{seen, Fits, Same};
 ghost use Rattle.atom_words.specs.declared.kind.Kind.{Kind};
 ghost use Rattle.atom_words.specs.declared.kind.Kind.TheVariants.{Load, Start, Condemn, PassOver, Free};
 ghost use Rattle.bucket_rows.specs.Treads.{spells, AtSlot, Found, Reached};
-ghost use Rattle.bucket_rows.specs.SweepKinds.{SweepKinds};
+ghost use Rattle.bucket_rows.specs.SweepKinds.{SweepKinds, Few};
 ghost use Rattle.bucket_rows.specs.Sweeps.{JudgedBy, SweptBy};
 
 use crate::removal::unlink;
@@ -44,7 +44,7 @@ fn reach(words: &Words, seat: &mut AtomSeat, slot: u32) -> Result<u64, u64>
     requires found { Found slot (seen seat.old) }
     ensures same { Same seat.old seat.new }
     ensures fits { Fits words.now seat.new }
-    ensures steps { MatchResult result (λ before. (ks : List Kind) × (seen seat.new ≡ after (seen seat.old) ks) × SweepKinds ks) (λ x. (last ≤ version_of x) × ((row : List ℕ) × (s : ℕ) × (seen seat.new ≡ after (seen seat.old) (spells row ++ (Load 1 s ∷ Start (bucket s row) x ∷ []))))) }
+    ensures steps { MatchResult result (λ before. (ks : List Kind) × (seen seat.new ≡ after (seen seat.old) ks) × SweepKinds ks × Few words.now.size.slots 33 1 ks) (λ x. (last ≤ version_of x) × ((row : List ℕ) × (s : ℕ) × (seen seat.new ≡ after (seen seat.old) (spells row ++ (Load 1 s ∷ Start (bucket s row) x ∷ []))) × (length row ≡ 32))) }
     ensures reached { MatchResult result (λ before. Reached slot seat.new.word before (seen seat.new) × (before ≤ words.now.size.slots)) (λ x. AtSlot slot (seen seat.new)) }
 {
     let row = spell_row(words, seat, slot);
@@ -65,7 +65,7 @@ fn take_out(words: &Words, seat: &mut AtomSeat, slot: u32, before: u64) -> Resul
     requires reached { Reached slot seat.old.word before (seen seat.old) }
     ensures same { Same seat.old seat.new }
     ensures fits { Fits words.now seat.new }
-    ensures steps { MatchResult result (λ _. (ks : List Kind) × (seen seat.new ≡ after (seen seat.old) (Condemn ∷ (ks ++ Free ∷ []))) × SweepKinds ks) (λ x. (x ≢ 3) × (seen seat.new ≡ after (seen seat.old) (Load (atom_at words.now.size slot) x ∷ []))) }
+    ensures steps { MatchResult result (λ _. (ks : List Kind) × (seen seat.new ≡ after (seen seat.old) (Condemn ∷ (ks ++ Free ∷ []))) × SweepKinds ks × Few words.now.size.slots 4 last ks) (λ x. (x ≢ 3) × (seen seat.new ≡ after (seen seat.old) (Load (atom_at words.now.size slot) x ∷ []))) }
     ensures at { AtSlot slot (seen seat.new) }
 {
     condemn(words, seat, slot)?;
@@ -122,7 +122,8 @@ fn pass_kept(words: &Words, seat: &mut AtomSeat, slot: u32, word: u64) -> u64
 
 /// Sweeps the slot that the sweep has come to, and goes on to the next: the slot is freed where it is one from 256 on whose
 /// word, as it was read last, is valid, without mark and count, in a bucket whose version is not the last. Else its mark is
-/// cleared.
+/// cleared. It makes at most 42 steps, beside the walks over the chain of the slot's bucket, each of which loads no more link
+/// words than there are slots: one, and one more each time that another seat has moved the chain's head meanwhile.
 pub fn sweep_slot(words: &Words, seat: &mut AtomSeat, slot: u32) -> Verdict
     requires fits { Fits words.now seat.old }
     requires slot { slot < words.now.size.slots }

@@ -1,5 +1,5 @@
 //! The collector's walk to the slot that the sweep has come to.
-ghost use Rattle.std.specs.Prelude.{◌≡◌, ℕ, ◌+◌, ◌<◌, ◌≤◌, false, List, [], ◌∷◌};
+ghost use Rattle.std.specs.Prelude.{◌≡◌, ℕ, ◌+◌, ◌<◌, ◌≤◌, false, List, [], ◌∷◌, length};
 ghost use Rattle.atom_words.specs.Layout.{first_of};
 ghost use Rattle.atom_words.specs.Kinds.{after};
 ghost use Rattle.atom_words.specs.Seats.{seen, Fits, Same};
@@ -16,7 +16,7 @@ fn tread_chain(words: &Words, seat: &mut Seat<(), View>, slot: u32, word: u64) -
     requires start { Treads slot word 0 0 (first_of word) seat.old.me.0 }
     requires ahead { Ahead seat.old.me.0 }
     ensures same { (seat.new.table_id ≡ seat.old.table_id) × (seat.new.id ≡ seat.old.id) × (seat.new.me.1 ≡ seat.old.me.1) }
-    ensures steps { (links : List ℕ) × (seat.new.me.0 ≡ after seat.old.me.0 (nexts links)) }
+    ensures steps { (links : List ℕ) × (seat.new.me.0 ≡ after seat.old.me.0 (nexts links)) × (length links ≤ words.now.size.slots) }
     ensures stands { (n : ℕ) × Treads slot word n result (slot + 1) seat.new.me.0 }
     ensures low { result ≤ words.now.size.slots }
 {
@@ -35,7 +35,8 @@ fn tread_chain(words: &Words, seat: &mut Seat<(), View>, slot: u32, word: u64) -
 
 /// Walks over the chain of the bucket of the slot that the sweep has come to, whose text is spelled, up to that slot. The
 /// walk has just begun. The answer is 0 where the slot is the first, or 1 more than the slot before it. The walk never
-/// misses the slot, since the collector alone takes slots out of chains.
+/// misses the slot, since the collector alone takes slots out of chains, and loads at most as many link words as there are
+/// slots.
 pub fn tread(words: &Words, seat: &mut AtomSeat, slot: u32) -> u64
     requires fits { Fits words.now seat.old }
     requires slot { slot < words.now.size.slots }
@@ -43,7 +44,7 @@ pub fn tread(words: &Words, seat: &mut AtomSeat, slot: u32) -> u64
     requires ahead { Ahead (seen seat.old) }
     ensures same { Same seat.old seat.new }
     ensures walk { (seat.new.head ≡ seat.old.head) × (seat.new.word ≡ seat.old.word) }
-    ensures steps { (links : List ℕ) × (seen seat.new ≡ after (seen seat.old) (nexts links)) }
+    ensures steps { (links : List ℕ) × (seen seat.new ≡ after (seen seat.old) (nexts links)) × (length links ≤ words.now.size.slots) }
     ensures stands { (n : ℕ) × Treads slot seat.old.word n result (slot + 1) (seen seat.new) }
     ensures low { result ≤ words.now.size.slots }
 {

@@ -7,13 +7,14 @@ use Rattle.bucket_rows.specs.Treads.{nexts, Treads, Behinds}
 use Rattle.bucket_rows.proofs.Treading.{nexts_keep, treads_again}
 use Rattle.bucket_rows.proofs.Removing.{then_steps, behinds_of, behinds_word, behinds_again, first_dying, out_first}
 use Rattle.bucket_rows.proofs.SweepKinds.{kinds_append, kinds_nexts}
+use Rattle.bucket_rows.proofs.Fewness.{few_flat, few_append, few_most, few_again}
 use Rattle.bucket_rows.proofs.removal.unlink.Goals as goal
 
 pub loop-i-init : goal.loop-i-init
 loop-i-init c = let s = c.args.seat.now in let t = c.read_behind-link.new.seat in let link : ℕ = c.read_behind-link.result in let is = c.read_behind-link.ensures.steps in let same = c.read_behind-link.ensures.same in let fits = c.requires.fits in record {
   same = same;
   fits = (same.0 ∙ fits.0, ap (λ (y : View). y.size) is ∙ fits.1, ap (λ (y : View). y.gone) is ∙ fits.2);
-  steps = (Behind link ∷ [], is, (tt, tt));
+  steps = (Behind link ∷ [], is, (tt, tt), few_flat c.args.words.now.size.slots 1 (Behind link ∷ []) refl (omega arith));
   low = c.requires.low;
   caught = behinds_word t c.args.slot s.word c.args.before link (behinds_of c.args.slot s.word c.args.before link (seen s) (seen t) c.requires.caught is);
   count = omega arith;
@@ -36,7 +37,7 @@ pub returns-then-before-ne0-clause-same : goal.returns-then-before-ne0-clause-sa
 returns-then-before-ne0-clause-same c = let inv = c.loop-i.invariant in let e = c.unlink_after.ensures.same in (e.0 ∙ inv.same.0, e.1 ∙ inv.same.1)
 
 pub returns-then-before-ne0-clause-steps : goal.returns-then-before-ne0-clause-steps
-returns-then-before-ne0-clause-steps c = let inv = c.loop-i.invariant in let e = c.unlink_after.ensures.steps in (inv.steps.0 ++ e.0, then_steps (seen c.args.seat.now) (seen c.loop-i.seat) (seen c.unlink_after.new.seat) inv.steps.0 e.0 inv.steps.1 e.1, kinds_append inv.steps.0 e.0 inv.steps.2 e.2)
+returns-then-before-ne0-clause-steps c = let inv = c.loop-i.invariant in let e = c.unlink_after.ensures.steps in (inv.steps.0 ++ e.0, then_steps (seen c.args.seat.now) (seen c.loop-i.seat) (seen c.unlink_after.new.seat) inv.steps.0 e.0 inv.steps.1 e.1, kinds_append inv.steps.0 e.0 inv.steps.2 e.2, few_most c.args.words.now.size.slots 4 (c.loop-i._i + 0) 4 last (inv.steps.0 ++ e.0) (few_append c.args.words.now.size.slots 1 c.loop-i._i 3 0 inv.steps.0 e.0 inv.steps.3 e.3) (omega arith) (let below = c.loop-i-test.true in omega arith))
 
 pub unlink_head-requires-clause-fits : goal.unlink_head-requires-clause-fits
 unlink_head-requires-clause-fits c = c.loop-i.invariant.fits
@@ -49,7 +50,7 @@ pub returns-in-Ok-clause-same : goal.returns-in-Ok-clause-same
 returns-in-Ok-clause-same c = let inv = c.loop-i.invariant in let e = c.unlink_head.ensures.same in (e.0 ∙ inv.same.0, e.1 ∙ inv.same.1)
 
 pub returns-in-Ok-clause-steps : goal.returns-in-Ok-clause-steps
-returns-in-Ok-clause-steps c = let inv = c.loop-i.invariant in (inv.steps.0 ++ UnlinkHead ∷ [], then_steps (seen c.args.seat.now) (seen c.loop-i.seat) (seen c.unlink_head.new.seat) inv.steps.0 (UnlinkHead ∷ []) inv.steps.1 c.in-Ok.ensures.steps, kinds_append inv.steps.0 (UnlinkHead ∷ []) inv.steps.2 (tt, tt))
+returns-in-Ok-clause-steps c = let inv = c.loop-i.invariant in (inv.steps.0 ++ UnlinkHead ∷ [], then_steps (seen c.args.seat.now) (seen c.loop-i.seat) (seen c.unlink_head.new.seat) inv.steps.0 (UnlinkHead ∷ []) inv.steps.1 c.in-Ok.ensures.steps, kinds_append inv.steps.0 (UnlinkHead ∷ []) inv.steps.2 (tt, tt), few_most c.args.words.now.size.slots 2 (c.loop-i._i + 0) 4 last (inv.steps.0 ++ UnlinkHead ∷ []) (few_append c.args.words.now.size.slots 1 c.loop-i._i 1 0 inv.steps.0 (UnlinkHead ∷ []) inv.steps.3 (few_flat c.args.words.now.size.slots 1 (UnlinkHead ∷ []) refl (omega arith))) (omega arith) (let below = c.loop-i-test.true in omega arith))
 
 pub returns-in-Ok-clause-out : goal.returns-in-Ok-clause-out
 returns-in-Ok-clause-out c = out_first c.args.slot c.loop-i.seat.word c.loop-i.before c.read_behind-link.result (seen c.loop-i.seat) (seen c.unlink_head.new.seat) c.loop-i.invariant.caught c.in-Ok.ensures.steps
@@ -73,7 +74,7 @@ loop-i-preserved c = let inv = c.loop-i.invariant in let s = c.loop-i.seat in le
         ap (λ (y : View). y.size) e.steps.1 ∙ (nexts_keep (λ (y : View). y.size) (λ _ _. refl) (seen mid) xs ∙ (ap (λ (y : View). y.size) is ∙ inv.fits.1)),
         ap (λ (y : View). y.gone) e.steps.1 ∙ (nexts_keep (λ (y : View). y.gone) (λ _ _. refl) (seen mid) xs ∙ (ap (λ (y : View). y.gone) is ∙ inv.fits.2)),
       );
-      steps = ((inv.steps.0 ++ Start t.walk.head x ∷ []) ++ nexts xs, then_steps v (seen mid) (seen new) (inv.steps.0 ++ Start t.walk.head x ∷ []) (nexts xs) (then_steps v u (seen mid) inv.steps.0 (Start t.walk.head x ∷ []) inv.steps.1 is) e.steps.1, kinds_append (inv.steps.0 ++ Start t.walk.head x ∷ []) (nexts xs) (kinds_append inv.steps.0 (Start t.walk.head x ∷ []) inv.steps.2 (tt, tt)) (kinds_nexts xs));
+      steps = ((inv.steps.0 ++ Start t.walk.head x ∷ []) ++ nexts xs, then_steps v (seen mid) (seen new) (inv.steps.0 ++ Start t.walk.head x ∷ []) (nexts xs) (then_steps v u (seen mid) inv.steps.0 (Start t.walk.head x ∷ []) inv.steps.1 is) e.steps.1, kinds_append (inv.steps.0 ++ Start t.walk.head x ∷ []) (nexts xs) (kinds_append inv.steps.0 (Start t.walk.head x ∷ []) inv.steps.2 (tt, tt)) (kinds_nexts xs), few_again c.args.words.now.size.slots 1 c.loop-i._i inv.steps.0 t.walk.head x xs inv.steps.3 e.steps.2);
       low = e.low;
       caught = behinds_word new c.args.slot mid.word c.tread-before.result c.read_behind-link.result
           (behinds_again c.args.slot s.word mid.word c.loop-i.before e.stands.0 c.tread-before.result c.read_behind-link.result u (seen new) inv.caught e.stands.1

@@ -11,6 +11,7 @@ use Rattle.bucket_rows.proofs.Treading.{spells_keep, spells_know, nexts_keep, tr
 use Rattle.bucket_rows.proofs.Removing.{then_steps, word_of}
 use Rattle.bucket_rows.proofs.Judging.{spelled_at, reached_by}
 use Rattle.bucket_rows.proofs.SweepKinds.{kinds_append, kinds_spells, kinds_nexts}
+use Rattle.bucket_rows.proofs.Fewness.{few_reached}
 use Rattle.bucket_rows.proofs.slots.reach.Goals as goal
 
 pub row_in_use-size-requires : goal.row_in_use-size-requires
@@ -37,7 +38,7 @@ trace-word-requires-clause-collector c = let v : View = seen c.args.seat.now in 
 pub returns-then-word-ge-LAST-clause-steps : goal.returns-then-word-ge-LAST-clause-steps
 returns-then-word-ge-LAST-clause-steps c = let v : View = seen c.args.seat.now in let u : View = seen c.spell_row-row.new.seat in let t : View = seen c.row_in_use-size.new.seat in let row : List ℕ = c.spell_row-row.result in let x : ℕ = c.trace-word.result in let n : ℕ = c.row_in_use-size.result in
     let now : seen c.trace-word.new.seat ≡ view_after t (Start (bucket n row) x) = c.trace-word.ensures.steps ∙ ap (λ (h : ℕ). view_after t (Start h x)) c.row_bucket.ensures.bucket in
-    (c.if-word-ge-LAST.true, (row, n, then_steps v u (seen c.trace-word.new.seat) (spells row) (Load 1 n ∷ Start (bucket n row) x ∷ []) c.spell_row-row.ensures.steps (now ∙ ap (λ (y : View). view_after y (Start (bucket n row) x)) c.row_in_use-size.ensures.steps)))
+    (c.if-word-ge-LAST.true, (row, n, then_steps v u (seen c.trace-word.new.seat) (spells row) (Load 1 n ∷ Start (bucket n row) x ∷ []) c.spell_row-row.ensures.steps (now ∙ ap (λ (y : View). view_after y (Start (bucket n row) x)) c.row_in_use-size.ensures.steps), c.spell_row-row.ensures.whole))
 
 pub returns-then-word-ge-LAST-clause-reached : goal.returns-then-word-ge-LAST-clause-reached
 returns-then-word-ge-LAST-clause-reached c =
@@ -62,7 +63,7 @@ pub returns-clause-steps : goal.returns-clause-steps
 returns-clause-steps c = let v : View = seen c.args.seat.now in let u : View = seen c.spell_row-row.new.seat in let r : View = seen c.row_in_use-size.new.seat in let t : View = seen c.trace-word.new.seat in let w : View = seen c.tread.new.seat in let row : List ℕ = c.spell_row-row.result in
     let ks = Load 1 c.row_in_use-size.result ∷ Start c.row_bucket.result c.trace-word.result ∷ [] in let e = c.tread.ensures.steps in
     let begun = c.trace-word.ensures.steps ∙ ap (λ (y : View). view_after y (Start c.row_bucket.result c.trace-word.result)) c.row_in_use-size.ensures.steps in
-    ((spells row ++ ks) ++ nexts e.0, then_steps v t w (spells row ++ ks) (nexts e.0) (then_steps v u t (spells row) ks c.spell_row-row.ensures.steps begun) e.1, kinds_append (spells row ++ ks) (nexts e.0) (kinds_append (spells row) ks (kinds_spells row) (tt, (tt, tt))) (kinds_nexts e.0))
+    ((spells row ++ ks) ++ nexts e.0, then_steps v t w (spells row ++ ks) (nexts e.0) (then_steps v u t (spells row) ks c.spell_row-row.ensures.steps begun) e.1, kinds_append (spells row ++ ks) (nexts e.0) (kinds_append (spells row) ks (kinds_spells row) (tt, (tt, tt))) (kinds_nexts e.0), few_reached c.args.words.now.size.slots c.row_in_use-size.result c.row_bucket.result c.trace-word.result row e.0 c.spell_row-row.ensures.whole e.2)
 
 pub returns-clause-reached : goal.returns-clause-reached
 returns-clause-reached c = let v : View = seen c.args.seat.now in let u : View = seen c.spell_row-row.new.seat in let r : View = seen c.row_in_use-size.new.seat in let t : View = seen c.trace-word.new.seat in let row : List ℕ = c.spell_row-row.result in let x : ℕ = c.trace-word.result in let n : ℕ = c.row_in_use-size.result in let f = c.requires.found in

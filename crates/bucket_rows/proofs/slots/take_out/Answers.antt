@@ -14,7 +14,7 @@ unlink-requires-clause-caught c = let k : ℕ = c.args.slot in let old : ℕ = c
 
 pub returns-clause-steps : goal.returns-clause-steps
 returns-clause-steps c = let v : View = seen c.args.seat.now in let u : View = view_after v Condemn in let t : View = seen c.unlink.new.seat in let w : View = seen c.free.new.seat in let e = c.unlink.ensures.steps in
-    (e.0, then_steps u t w e.0 (Free ∷ []) (e.1 ∙ ap (λ (y : View). after y e.0) c.in_ok-condemn.ensures.steps) c.free.ensures.steps, e.2)
+    (e.0, then_steps u t w e.0 (Free ∷ []) (e.1 ∙ ap (λ (y : View). after y e.0) c.in_ok-condemn.ensures.steps) c.free.ensures.steps, e.2, e.3)
 
 pub returns-clause-at : goal.returns-clause-at
 returns-clause-at c = freed_at c.args.slot (seen c.unlink.new.seat) (seen c.free.new.seat) c.unlink.ensures.out c.free.ensures.steps

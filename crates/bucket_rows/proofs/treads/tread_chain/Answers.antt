@@ -1,4 +1,4 @@
-use Rattle.std.proofs.Common.{◌≡◌, ◌≢◌, ◌<◌, ◌≤◌, ◌-◌, ◌+◌, ◌++◌, ℕ, false, [], ◌∷◌, length, refl, sym, ap, ◌∙◌, subst, ⊎_elim, arith}
+use Rattle.std.proofs.Common.{◌≡◌, ◌≢◌, ◌<◌, ◌≤◌, ◌-◌, ◌+◌, ◌++◌, ℕ, false, [], ◌∷◌, length, refl, sym, ap, ◌∙◌, subst, ⊎_elim, arith, length-append}
 use Rattle.atom_words.specs.Board.{link_at}
 use Rattle.atom_words.specs.Chains.{In}
 use Rattle.atom_words.specs.Kept.{slots}
@@ -19,7 +19,7 @@ not_missed k x n before p m v t ahead size = let at = t.place in let many = t.co
     (ahead t.sweep t.walk t.sweeps.0 t.at t.sweeps.1 t.sure t.whole t.linked t.head)
 
 pub loop-i-init : goal.loop-i-init
-loop-i-init c = record { same = (refl, refl, refl); steps = ([], refl); stands = c.requires.start; ahead = c.requires.ahead; low = omega arith }
+loop-i-init c = record { same = (refl, refl, refl); steps = ([], refl, refl); stands = c.requires.start; ahead = c.requires.ahead; low = omega arith }
 
 pub overflow_sub-place : goal.overflow_sub-place
 overflow_sub-place c = let inv = c.loop-i.invariant in let v : View = c.args.seat.now.me.0 in let u : View = c.loop-i.seat.me.0 in
@@ -54,11 +54,17 @@ loop-i-preserved c = let inv = c.loop-i.invariant in let v : View = c.args.seat.
     let on = not_missed c.args.slot c.args.word c.loop-i._i c.loop-i.before c.loop-i.place c.args.words.now.size.slots u inv.stands inv.ahead (ap (λ (z : Size). z.slots) size) in
     let is : w ≡ view_after u (Next x) = c.load-place.ensures.2.1 in record {
       same = (c.load-place.ensures.0 ∙ inv.same.0, c.load-place.ensures.1 ∙ inv.same.1, c.load-place.ensures.2.0 ∙ inv.same.2);
-      steps = (inv.steps.0 ++ x ∷ [], is ∙ (ap (λ (y : View). view_after y (Next x)) inv.steps.1 ∙ sym (nexts_more v inv.steps.0 x)));
+      steps = (inv.steps.0 ++ x ∷ [], is ∙ (ap (λ (y : View). view_after y (Next x)) inv.steps.1 ∙ sym (nexts_more v inv.steps.0 x)), length-append inv.steps.0 (x ∷ []) ∙ ap (λ (n : ℕ). n + 1) inv.steps.2);
       stands = subst (Treads c.args.slot c.args.word (c.loop-i._i + 1) c.loop-i.place x) (sym is) (treads_next c.args.slot c.args.word c.loop-i._i c.loop-i.before c.loop-i.place x u inv.stands on.0 c.if-place-slot.false);
       ahead = c.load-place.ensures.2.2;
       low = on.1;
     }
+
+pub returns-then-place-slot-clause-steps : goal.returns-then-place-slot-clause-steps
+returns-then-place-slot-clause-steps c = let inv = c.loop-i.invariant in (inv.steps.0, inv.steps.1, (let many = inv.steps.2 in let below = c.loop-i-test.true in omega arith))
+
+pub returns-clause-steps : goal.returns-clause-steps
+returns-clause-steps c = let inv = c.loop-i.invariant in (inv.steps.0, inv.steps.1, (let many = inv.steps.2 in let all = c.loop-i.auto._i-end in omega arith))
 
 pub returns-then-place-slot-clause-stands : goal.returns-then-place-slot-clause-stands
 returns-then-place-slot-clause-stands c = (c.loop-i._i, subst (λ (p : ℕ). Treads c.args.slot c.args.word c.loop-i._i c.loop-i.before p c.loop-i.seat.me.0) c.if-place-slot.true c.loop-i.invariant.stands)
