@@ -11,3 +11,4 @@ pub mod Refusals
 pub mod Acking
 pub mod Rowed
 pub mod RowAnswers
+pub mod Using

@@ -5,3 +5,4 @@ pub mod Naming
 pub mod Collecting
 pub mod Tables
 pub mod Resizing
+pub mod Laws

@@ -10,6 +10,7 @@ mod collecting;
 #[cfg(test)]
 mod cycling;
 mod interning;
+mod laws;
 mod making;
 mod marking;
 mod opening;
@@ -34,6 +35,7 @@ pub use atom_words::AtomSeat;
 pub use atoms::{NamesTable, TableAtoms};
 pub use bucket_rows::{Checked, two_cycles};
 pub use collecting::Turn;
+pub use laws::atoms_are_one;
 pub use marking::Marked;
 pub use opening::Opened;
 pub use resizing::{Due, Resized, Rows, Stage};
