@@ -8,3 +8,4 @@ pub mod Places
 pub mod Cells
 pub mod Calls
 pub mod Dropping
+pub mod RunLaws

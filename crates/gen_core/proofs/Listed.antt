@@ -37,10 +37,6 @@ pub if_ok : {T E : Type 0} (r : Result T E) (P Q : T → Type 0) → ((x : T) �
 if_ok (Ok x) P Q f h = f x h
 if_ok (Err e) P Q f h = tt
 
-pub on_if_ok : {T E : Type 0} (r : Result T E) (P : T → Type 0) (Q : Type 0) → ((x : T) → P x → Q) → IfOk r P → OnOk r Q
-on_if_ok (Ok x) P Q f h = f x h
-on_if_ok (Err e) P Q f h = tt
-
 pub visible_any : {C K : Type 0} (g : ℕ) (es : List (ℕ × Entry C K)) → list_any (λ e. is_visible g e.dated) (values_of es) ≡ list_any (is_visible g) (map (λ e. e.1.dated) es)
 visible_any g [] = refl
 visible_any g (e ∷ es) = ap (λ b. is_visible g e.1.dated || b) (visible_any g es)

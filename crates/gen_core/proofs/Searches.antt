@@ -1,5 +1,5 @@
 -- Searching for the next number.
-use Rattle.std.proofs.Common.{◌≡◌, ℕ, ◌+◌, ◌<◌, ◌≤◌, Bool, true, false, not, ◌&&◌, ◌||◌, Option, Some, None, refl, sym, ap, ap₂, ◌∙◌, subst, arith, inl, inr}
+use Rattle.std.proofs.Common.{◌≡◌, ℕ, ◌<◌, ◌≤◌, Bool, true, false, not, ◌&&◌, ◌||◌, Option, Some, None, refl, sym, ap, ap₂, ◌∙◌, arith, inl, inr}
 use Rattle.std.proofs.lemmas.Bool.{cases_lt}
 use Rattle.std.specs.Option.{option_map_or}
 use Rattle.std.specs.Ordering.{is_eq}
@@ -64,10 +64,10 @@ module _ (P V R : ℕ → Bool) (both : (q : ℕ) → R q ≡ (V q && P q)) (sta
   pub passed_some : (n : ℕ) → start ≤ from → IsNext P from (Some n) → V n ≡ true → IsNext R start (Some n)
   passed_some n l h v = (omega (arith, h.0), both n ∙ ap₂ ◌&&◌ v h.1, λ q k m. before n q h.2 k m)
 
-  -- A search that found one that does not.
-  pub passed_more : (n : ℕ) → IsNext P from (Some n) → V n ≡ false → (q : ℕ) → start ≤ q → q < n + 1 → R q ≡ false
-  passed_more n h v q k m =
+  -- A search that found one that does not, nor those behind it as far as another number.
+  pub passed_run : (n to : ℕ) → IsNext P from (Some n) → ((q : ℕ) → n ≤ q → q < to → V q ≡ false) → (q : ℕ) → start ≤ q → q < to → R q ≡ false
+  passed_run n to h v q k m =
       elim (cases_lt q n) [
         | inl l ↦ before n q h.2 k l
-        | inr l ↦ let e : n ≡ q = omega arith in subst (λ p. R p ≡ false) e (both n ∙ ap (λ b. b && P n) v)
+        | inr l ↦ both q ∙ ap (λ b. b && P q) (v q l m)
       ]

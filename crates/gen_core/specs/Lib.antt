@@ -3,3 +3,4 @@ pub mod Visible
 pub mod Hits
 pub mod Numbers
 pub mod ClauseIndex
+pub mod Runs

@@ -11,11 +11,13 @@ ghost use Rattle.gen_core.specs.Visible.{is_visible, is_droppable, is_live, fres
 ghost use Rattle.gen_core.specs.Hits.{hit_of};
 ghost use Rattle.gen_core.specs.ClauseIndex.{IsSound, IsNumberOf, Added, Lists, ListsSame, Unlists, ErasesAt, Drops, IsFirstErased, Marks, MarksAt, TakesOut, IsAfter, is_erased_at, erased_from, marked_all, pair_order, clauses_of, clauses_from, holds, dated_at};
 ghost use Rattle.gen_core.specs.Numbers.{IsNumbered};
+ghost use Rattle.gen_core.specs.Runs.{AreRuns, OthersStay, StayGone};
 
 use crate::dated_clause::DatedClause;
 use crate::hit::Hit;
 use crate::index::{Index, Numbers, earlier, next_in, next_under};
 use crate::numbers::{PLACES, first_number, last_number, place_of};
+use crate::runs::Runs;
 use pl_model::kept::Kept;
 use pl_term::Memory;
 use std::alloc::Global;
@@ -59,12 +61,14 @@ impl<C: Kept> ClauseIndex<C> {
     /// its number.
     fn next_visible(
         &self,
+        runs: &Runs,
         first: &C::Key,
         under: Option<&Numbers>,
         g: u64,
         from: u64,
     ) -> Option<(u64, &DatedClause<C>)>
         requires sound { IsSound C.Key.Ord.cmp C.any C.key_of self.now }
+        requires runs { AreRuns runs.now self.now.clauses }
         requires keyed { C.any first.now ≡ false }
         requires under { option_copied under ≡ tree.get C.Key.Ord.cmp self.now.index.by_key first.now }
         ensures next { IsNext (holds self.now.clauses (is_choice C.Key.Ord.cmp C.any C.key_of g first.now)) from (option_map (λ p. p.0) result) }
@@ -75,9 +79,53 @@ impl<C: Kept> ClauseIndex<C> {
             if let Some(dated) = self.seen(number, g) {
                 return Some((number, dated));
             }
-            from = number + 1;
+            from = self.past(runs, number, g);
         }
         None
+    }
+
+    /// The first number of a clause from `from` on.
+    fn next_number(&self, from: u64) -> Option<u64>
+        ensures { IsNext (holds self.now.clauses (λ d. true)) from result }
+    {
+        match self.clauses.range(from..).next() {
+            Some((number, _)) => Some(*number),
+            None => None,
+        }
+    }
+
+    /// The first clause from `from` on that the generation `g` sees, with its number.
+    fn next_seen(&self, runs: &Runs, g: u64, from: u64) -> Option<(u64, &DatedClause<C>)>
+        requires sound { IsSound C.Key.Ord.cmp C.any C.key_of self.now }
+        requires runs { AreRuns runs.now self.now.clauses }
+        ensures next { IsNext (holds self.now.clauses (is_visible g)) from (option_map (λ p. p.0) result) }
+        ensures at { IfSome result (λ p. dated_at self.now.clauses p.0 ≡ Some p.1.now) }
+    {
+        let mut from = from;
+        while let Some(number) = self.next_number(from) {
+            if let Some(dated) = self.seen(number, g) {
+                return Some((number, dated));
+            }
+            from = self.past(runs, number, g);
+        }
+        None
+    }
+
+    /// The number after the one of a clause that the generation `g` does not see, or after the run of such clauses that it
+    /// stands in.
+    fn past(&self, runs: &Runs, number: u64, g: u64) -> u64
+        requires bound { number < 2 ^ 50 }
+        requires runs { AreRuns runs.now self.now.clauses }
+        requires unseen { holds self.now.clauses (is_visible g) number ≡ false }
+        ensures later { number < result }
+        ensures unseen { (q : ℕ) → number ≤ q → q < result → holds self.now.clauses (is_visible g) q ≡ false }
+    {
+        if let Some((_, run)) = runs.up_to(number) {
+            if run.newest < g && number < run.until {
+                return run.until;
+            }
+        }
+        number + 1
     }
 
     /// The clause on the number, if there is one and the generation `g` sees it.
@@ -125,6 +173,7 @@ impl<C: Kept> ClauseIndex<C> {
         requires free { (p : ℕ) → IsNumbered p place → dated_at self.old.clauses p ≡ None }
         ensures sound { IsSound C.Key.Ord.cmp C.any C.key_of self.new }
         ensures ok { OnOk result (Added self.old.clauses self.new.clauses number (fresh place clause)) }
+        ensures others { OnOk result (OthersStay self.old.clauses self.new.clauses number) }
         ensures err { IfErr result (λ e. (e.0 ≡ clause) × (self.new.clauses.entries ≡ self.old.clauses.entries)) }
     {
         let Ok(key) = clause.key(self.alloc) else {
@@ -209,6 +258,7 @@ impl<C: Kept> ClauseIndex<C> {
         requires sound { IsSound C.Key.Ord.cmp C.any C.key_of self.old }
         ensures sound { IsSound C.Key.Ord.cmp C.any C.key_of self.new }
         ensures ok { IfOk result (ErasesAt self.old.clauses self.new.clauses clause place) }
+        ensures stay { OnOk result (StayGone self.old.clauses self.new.clauses) }
         ensures err { OnErr result (self.new.clauses.entries ≡ self.old.clauses.entries) }
     {
         match self.number_of(clause) {
@@ -223,6 +273,7 @@ impl<C: Kept> ClauseIndex<C> {
         requires { IsSound C.Key.Ord.cmp C.any C.key_of self.old }
         ensures sound { IsSound C.Key.Ord.cmp C.any C.key_of self.new }
         ensures ok { IfOk result (MarksAt self.old.clauses self.new.clauses number place) }
+        ensures stay { OnOk result (StayGone self.old.clauses self.new.clauses) }
         ensures err { OnErr result (self.new.clauses.entries ≡ self.old.clauses.entries) }
     {
         if self.is_live(number) {
@@ -250,6 +301,7 @@ impl<C: Kept> ClauseIndex<C> {
         requires { IsSound C.Key.Ord.cmp C.any C.key_of self.old }
         ensures sound { IsSound C.Key.Ord.cmp C.any C.key_of self.new }
         ensures ok { OnOk result (clauses_of self.new.clauses ≡ map (erased_all place) (clauses_of self.old.clauses)) }
+        ensures stay { OnOk result (StayGone self.old.clauses self.new.clauses) }
         ensures err { OnErr result (self.new.clauses.entries ≡ self.old.clauses.entries) }
     {
         self.erased = erasures(self.alloc, &self.clauses, place)?;
@@ -286,6 +338,7 @@ impl<C: Kept> ClauseIndex<C> {
         requires { IsSound C.Key.Ord.cmp C.any C.key_of self.old }
         ensures sound { IsSound C.Key.Ord.cmp C.any C.key_of self.new }
         ensures dropped { Drops self.old.clauses self.new.clauses floor result }
+        ensures stay { StayGone self.old.clauses self.new.clauses }
     {
         match self.first_erased() {
             Some((place, number)) => {
@@ -305,6 +358,7 @@ impl<C: Kept> ClauseIndex<C> {
         requires erased { holds self.old.clauses (is_erased_at place) number ≡ true }
         ensures sound { IsSound C.Key.Ord.cmp C.any C.key_of self.new }
         ensures out { TakesOut self.old.clauses self.new.clauses place result }
+        ensures stay { StayGone self.old.clauses self.new.clauses }
     {
         self.erased.remove(&(place, number));
         match self.clauses.remove(&number) {
@@ -382,16 +436,33 @@ impl<C: Kept> ClauseIndex<C> {
     }
 
     /// The first clause from `from` on that a call with this key tries.
-    fn next_of_key(&self, first: &C::Key, g: u64, from: u64) -> Option<Hit<'_, C>>
+    fn next_of_key(&self, runs: &Runs, first: &C::Key, g: u64, from: u64) -> Option<Hit<'_, C>>
         requires sound { IsSound C.Key.Ord.cmp C.any C.key_of self.now }
+        requires runs { AreRuns runs.now self.now.clauses }
         requires keyed { C.any first.now ≡ false }
         ensures { hit_of result ≡ first_choice (filter (is_choice C.Key.Ord.cmp C.any C.key_of g first.now) (clauses_from from self.now.clauses)) }
     {
         let under = self.index.numbers(first);
-        let Some((number, dated)) = self.next_visible(first, under, g, from) else {
+        let Some((number, dated)) = self.next_visible(runs, first, under, g, from) else {
             return None;
         };
-        let more = self.next_visible(first, under, g, number + 1).is_some();
+        let more = self
+            .next_visible(runs, first, under, g, number + 1)
+            .is_some();
+        Some(hit(dated, more))
+    }
+
+    /// The first clause from `from` on that a call tries whose first argument may be equal to any.
+    fn next_of_all(&self, runs: &Runs, first: &C::Key, g: u64, from: u64) -> Option<Hit<'_, C>>
+        requires sound { IsSound C.Key.Ord.cmp C.any C.key_of self.now }
+        requires runs { AreRuns runs.now self.now.clauses }
+        requires any { C.any first.now ≡ true }
+        ensures { hit_of result ≡ first_choice (filter (is_choice C.Key.Ord.cmp C.any C.key_of g first.now) (clauses_from from self.now.clauses)) }
+    {
+        let Some((number, dated)) = self.next_seen(runs, g, from) else {
+            return None;
+        };
+        let more = self.next_seen(runs, g, number + 1).is_some();
         Some(hit(dated, more))
     }
 
@@ -416,17 +487,27 @@ impl<C: Kept> ClauseIndex<C> {
     }
 
     /// The next clause after that which was added at a place, or the first one, of those that a call tries.
-    pub fn next_after(&self, place: Option<u64>, g: u64, first: &C::Key) -> Option<Hit<'_, C>>
-        requires { IsSound C.Key.Ord.cmp C.any C.key_of self.now }
+    pub fn next_after(
+        &self,
+        runs: &Runs,
+        place: Option<u64>,
+        g: u64,
+        first: &C::Key,
+    ) -> Option<Hit<'_, C>>
+        requires sound { IsSound C.Key.Ord.cmp C.any C.key_of self.now }
+        requires runs { AreRuns runs.now self.now.clauses }
         ensures { hit_of result ≡ first_choice (filter (is_choice C.Key.Ord.cmp C.any C.key_of g first.now) (behind place (clauses_of self.now.clauses))) }
     {
         let Some(from) = self.number_after(place) else {
             return None;
         };
-        if C::is_any(first) || self.clauses.len() <= FEW {
+        if self.clauses.len() <= FEW {
             return self.next_in_order(first, g, from);
         }
-        self.next_of_key(first, g, from)
+        if C::is_any(first) {
+            return self.next_of_all(runs, first, g, from);
+        }
+        self.next_of_key(runs, first, g, from)
     }
 }
 

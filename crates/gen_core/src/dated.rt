@@ -2,12 +2,15 @@
 ghost use Rattle.std.specs.Prelude.{◌≡◌, ℕ, ◌<◌, ◌≤◌, ◌-◌, ◌^◌, ◌++◌, ◌∷◌, [], ◌&&◌, ◌==◌, false, length, min, All, IfErr, IfOk, IfSome, IfNone, MatchOption, OnErr, OnOk, filter, map, sum_by};
 ghost use Rattle.std.specs.List.{list_any};
 ghost use Rattle.gen_core.specs.Visible.{is_visible, is_droppable, is_live, fresh, erased_by, erased_all, live_size, is_droppable_at, counted, behind, is_choice, first_choice, DropsOne};
+ghost use Rattle.gen_core.specs.ClauseIndex.{IsSound};
 ghost use Rattle.gen_core.specs.Hits.{hit_of};
+ghost use Rattle.gen_core.specs.Runs.{AreRuns};
 
 use crate::clause_index::ClauseIndex;
 use crate::dated_clause::DatedClause;
 use crate::hit::Hit;
 use crate::numbers::{first_number, last_number};
+use crate::runs::Runs;
 use pl_model::kept::Kept;
 use pl_term::Memory;
 use std::alloc::Global;
@@ -19,18 +22,20 @@ use std::marker::Model;
 #[derive(Drop)]
 pub struct Dated<C: Kept> {
     index: ClauseIndex<C>,
+    runs: Runs,
 }
 
 impl<C: Kept> Model for Dated<C> {
     ghost use Rattle.std.specs.Prelude.{List};
     ghost use Rattle.gen_core.specs.declared.dated_clause.DatedClause.{DatedClause};
     ghost use Rattle.gen_core.specs.ClauseIndex.{IsSound, clauses_of};
+    ghost use Rattle.gen_core.specs.Runs.{AreRuns};
 
     ghost Value = { List (DatedClause C) };
 
     ghost view = { λ d. clauses_of d.index.clauses };
 
-    ghost invariant = { λ d. IsSound C.Key.Ord.cmp C.any C.key_of d.index };
+    ghost invariant = { λ d. IsSound C.Key.Ord.cmp C.any C.key_of d.index × AreRuns d.runs d.index.clauses };
 }
 
 impl<C: Kept> Dated<C> {
@@ -40,6 +45,7 @@ impl<C: Kept> Dated<C> {
     {
         Dated {
             index: ClauseIndex::new(alloc),
+            runs: Runs::new(alloc),
         }
     }
 
@@ -55,7 +61,7 @@ impl<C: Kept> Dated<C> {
     pub fn next_after(&self, place: Option<u64>, g: u64, first: &C::Key) -> Option<Hit<'_, C>>
         ensures { hit_of result ≡ first_choice (filter (is_choice C.Key.Ord.cmp C.any C.key_of g first.now) (behind place self.now)) }
     {
-        self.index.next_after(place, g, first)
+        self.index.next_after(&self.runs, place, g, first)
     }
 
     /// Whether one of the first `floor` updates erased a clause. It takes no memory.
@@ -80,7 +86,9 @@ impl<C: Kept> Dated<C> {
         ensures ok { OnOk result (self.new ≡ fresh place clause ∷ self.old) }
         ensures err { IfErr result (λ e. (e.0 ≡ clause) × (self.new ≡ self.old)) }
     {
-        self.index.add(clause, place, first_number(place))
+        let number = first_number(place);
+        self.runs.leave(number);
+        self.index.add(clause, place, number)
     }
 
     /// Adds a clause as the last one (ISO 8.9.2), by the update at `place`, which is above the places of all earlier
@@ -91,7 +99,9 @@ impl<C: Kept> Dated<C> {
         ensures ok { OnOk result (self.new ≡ self.old ++ fresh place clause ∷ []) }
         ensures err { IfErr result (λ e. (e.0 ≡ clause) × (self.new ≡ self.old)) }
     {
-        self.index.add(clause, place, last_number(place))
+        let number = last_number(place);
+        self.runs.leave(number);
+        self.index.add(clause, place, number)
     }
 
     /// Whether the clause that was added at the place is there and not erased. It takes no memory.
@@ -108,7 +118,9 @@ impl<C: Kept> Dated<C> {
         ensures ok { OnOk result (self.new ≡ map (erased_by clause place) self.old) }
         ensures err { OnErr result (self.new ≡ self.old) }
     {
-        self.index.erase(clause, place)
+        let erased = self.index.erase(clause, place)?;
+        note(&mut self.runs, &self.index, clause);
+        Ok(erased)
     }
 
     /// Erases all clauses that are not erased (ISO 8.9.4), by the update at `place`. The only error is out of memory;
@@ -144,5 +156,16 @@ impl<C: Kept> Dated<C> {
         ensures none { IfNone result ((list_any (is_droppable floor) self.old ≡ false) × (self.new ≡ self.old)) }
     {
         self.index.drop_erased(floor)
+    }
+}
+
+/// Notes the erasure of the clause that the update at the place added.
+fn note<C: Kept>(runs: &mut Runs, index: &ClauseIndex<C>, clause: u64)
+    requires sound { IsSound C.Key.Ord.cmp C.any C.key_of index.now }
+    requires runs { AreRuns runs.old index.now.clauses }
+    ensures runs { AreRuns runs.new index.now.clauses }
+{
+    if let Some(number) = index.number_of(clause) {
+        runs.note(&index.clauses, number);
     }
 }

@@ -9,6 +9,7 @@ mod hit;
 mod index;
 mod numbers;
 mod reclaiming;
+mod runs;
 
 pub use dated::Dated;
 pub use dated_clause::DatedClause;

@@ -1,3 +1,4 @@
+use Rattle.gen_core.proofs.RunLaws.{stay_all}
 use Rattle.std.proofs.Common.{ap, map, refl, ◌∙◌}
 use Rattle.gen_core.proofs.AllErased.{sound_all, clauses_all}
 use Rattle.gen_core.proofs.clause_index.ClauseIndex.erase_all.Goals as goal
@@ -8,3 +9,6 @@ returns-clause-sound g c =
 
 pub returns-clause-ok : goal.returns-clause-ok
 returns-clause-ok g c = ap (map (λ e. e.1.dated)) c.mark_all.ensures.entries ∙ clauses_all c.args.place c.args.self.now.clauses.entries
+
+pub returns-clause-stay : goal.returns-clause-stay
+returns-clause-stay g c = stay_all c.args.self.now.clauses c.mark_all.new.clauses c.args.place c.mark_all.ensures.entries

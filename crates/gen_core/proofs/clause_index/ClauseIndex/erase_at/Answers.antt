@@ -1,3 +1,4 @@
+use Rattle.gen_core.proofs.RunLaws.{stay_marked}
 use Rattle.std.proofs.Common.{sym, ap, subst, ◌∙◌, ◌≡◌, ◌+◌, cond, not, refl}
 use Rattle.std.specs.Option.{IfSome}
 use Rattle.std.specs.Ordering.{nat_cmp}
@@ -34,3 +35,7 @@ returns-then-is_live-clause-ok g c =
       live = live.2;
       entries = subst (λ o. IfSome o (λ e. c.mark.new.clauses.entries ≡ set_value (is_at (nat_cmp c.args.number)) c.args.self.now.clauses.entries (marked c.args.place e))) live.1 c.mark.ensures.entries;
     }
+
+pub returns-then-is_live-clause-stay : goal.returns-then-is_live-clause-stay
+returns-then-is_live-clause-stay g c =
+    stay_marked c.args.self.now.clauses c.mark.new.clauses c.args.number c.args.place (sym c.if-is_live.ensures) c.mark.ensures.updates

@@ -1,3 +1,4 @@
+use Rattle.gen_core.proofs.RunLaws.{stay_out}
 use Rattle.std.proofs.Common.{sym, ap, subst, ◌∙◌, ◌≡◌, Some}
 use Rattle.std.specs.Ordering.{nat_cmp}
 use Rattle.std.specs.BTreeMap as tree
@@ -31,3 +32,8 @@ returns-clause-out g c =
       dated_is = c.dated_of.ensures;
       entries = ap (λ m. m.entries) c.unlist.ensures.others.0 ∙ c.in-Some.ensures.entries;
     }
+
+pub returns-clause-stay : goal.returns-clause-stay
+returns-clause-stay g c =
+    stay_out c.args.self.now.clauses c.unlist.new.self.clauses c.args.number
+    (λ q. ap (λ m. tree.get nat_cmp m q) c.unlist.ensures.others.0 ∙ c.in-Some.ensures.updates.0 q)

@@ -7,12 +7,12 @@ use Rattle.gen_core.proofs.dated.Dated.add_last.Goals as goal
 
 pub add-requires-clause-free : goal.add-requires-clause-free
 add-requires-clause-free g c =
-    free_on g.C.Key.Ord.cmp g.C.Kept.any g.C.Kept.key_of c.self.inside.index c.self.invariant c.args.place (subst (All (λ d. d.place < c.args.place)) (sym c.self.view_is) c.requires.later)
+    free_on g.C.Key.Ord.cmp g.C.Kept.any g.C.Kept.key_of c.self.inside.index c.self.invariant.0 c.args.place (subst (All (λ d. d.place < c.args.place)) (sym c.self.view_is) c.requires.later)
 
 pub returns-clause-ok : goal.returns-clause-ok
 returns-clause-ok g c =
     on_ok c.add.result
-    (Added c.self.inside.index.clauses c.add.new.self.clauses c.last_number.result (fresh c.args.place c.args.clause))
+    (Added c.self.inside.index.clauses c.add.new.self.clauses c.last_number-number.result (fresh c.args.place c.args.clause))
     (clauses_of c.add.new.self.clauses ≡ c.args.self.now ++ fresh c.args.place c.args.clause ∷ [])
-    (λ a. adds_last g.C.Key.Ord.cmp g.C.Kept.any g.C.Kept.key_of c.self.inside.index c.self.invariant c.add.new.self.clauses c.args.place c.last_number.result c.args.clause c.last_number.ensures.number (subst (All (λ d. d.place < c.args.place)) (sym c.self.view_is) c.requires.later) a ∙ ap (λ ds. ds ++ fresh c.args.place c.args.clause ∷ []) c.self.view_is)
+    (λ a. adds_last g.C.Key.Ord.cmp g.C.Kept.any g.C.Kept.key_of c.self.inside.index c.self.invariant.0 c.add.new.self.clauses c.args.place c.last_number-number.result c.args.clause c.last_number-number.ensures.number (subst (All (λ d. d.place < c.args.place)) (sym c.self.view_is) c.requires.later) a ∙ ap (λ ds. ds ++ fresh c.args.place c.args.clause ∷ []) c.self.view_is)
     c.add.ensures.ok

@@ -9,9 +9,9 @@ use Rattle.gen_core.proofs.dated.Dated.drop_erased.Goals as goal
 pub returns-clause-some : goal.returns-clause-some
 returns-clause-some g c =
     subst (λ ds. IfSome c.drop_erased.result (λ x. DropsOne c.args.floor x ds (clauses_of c.drop_erased.new.self.clauses))) c.self.view_is
-    (drops_some g.C.Key.Ord.cmp g.C.Kept.any g.C.Kept.key_of c.self.inside.index c.self.invariant c.drop_erased.new.self.clauses c.args.floor c.drop_erased.result c.drop_erased.ensures.dropped)
+    (drops_some g.C.Key.Ord.cmp g.C.Kept.any g.C.Kept.key_of c.self.inside.index c.self.invariant.0 c.drop_erased.new.self.clauses c.args.floor c.drop_erased.result c.drop_erased.ensures.dropped)
 
 pub returns-clause-none : goal.returns-clause-none
 returns-clause-none g c =
     subst (λ ds. IfNone c.drop_erased.result ((list_any (is_droppable c.args.floor) ds ≡ false) × (clauses_of c.drop_erased.new.self.clauses ≡ ds))) c.self.view_is
-    (drops_none g.C.Key.Ord.cmp g.C.Kept.any g.C.Kept.key_of c.self.inside.index c.self.invariant c.drop_erased.new.self.clauses c.args.floor c.drop_erased.result c.drop_erased.ensures.dropped)
+    (drops_none g.C.Key.Ord.cmp g.C.Kept.any g.C.Kept.key_of c.self.inside.index c.self.invariant.0 c.drop_erased.new.self.clauses c.args.floor c.drop_erased.result c.drop_erased.ensures.dropped)
