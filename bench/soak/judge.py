@@ -156,12 +156,15 @@ def goal_section(word, names, search, how):
 
 
 def with_how(how):
+    if how[0] == "atom_space":
+        return "error: resource_error(atom_space)."
     return "error: %s." % written(how[1]) if how[0] == "threw" else "halt(%d)." % how[1]
 
 
 def thread_section(engine, how):
     output = texts(engine.search.output) if engine.search is not None else ""
-    line = {"waits": "waiting.", "halted": "halt(%d)." % how[1] if how[0] == "halted" else ""}.get(how[0])
+    line = {"waits": lambda: "waiting.", "halted": lambda: with_how(how), "atom_space": lambda: with_how(how)}.get(how[0])
+    line = line and line()
     if output == "" and line is None:
         return ""
     text = "%% thread %s\n" % (engine.number if engine.alias is None else engine.alias) + output
@@ -178,7 +181,9 @@ def transcript(command, engines):
     ends = {number: ("waits",) if engine.how is None else engine.how for number, engine in engines.items()}
     ends.update(main.refused)
     text, names = closed(main.text), [1] + [n for n in sorted(engines) if n > 1]
-    if main.how is None and main.directing is not None:
+    if main.directing is not None:
+        if main.how is not None:
+            raise Wrong("the first engine has ended in a directive, which the judge does not know")
         text = with_line(main.text + texts(main.directing[1].output), "%s:%d: waiting" % (command.name, main.directing[0]))
     else:
         for number, (word, (_, _, variables)) in enumerate(zip(command.words, command.goals), 1):
@@ -195,16 +200,18 @@ def status_of(command, main, in_order, ends):
     if ("waits",) in in_order:
         return 3
     unsolved = any(ends[number] != ("solved",) for number in range(1, len(command.words) + 1))
-    return 1 if unsolved or main.faults else 0
+    return 1 if unsolved or main.faults or ("atom_space",) in in_order else 0
 
 
 # The history
 
 class Replay:
-    """The engines, and the history as far as it is made anew. `told` has of each engine the generations and kinds that are left."""
+    """The engines, and the history as far as it is made anew. `told` has of each engine the generations and kinds that are left.
+    Where engines may end for want of atoms, one that ends before its time has to be told of as such a one in the text."""
 
-    def __init__(self, command, told):
+    def __init__(self, command, told, without_atoms):
         self.command = command
+        self.without_atoms = without_atoms
         self.state = State(len(command.words))
         self.told = told
         self.engines = {1: Main(command)}
@@ -254,10 +261,12 @@ class Replay:
         """The entry of this place."""
         place, kind = self.told[engine.number].pop(0)
         if kind == END:
-            if engine.how is None:
-                raise Wrong("engine %d ends at %d, and has still to do: %s" % (engine.number, place, engine.request[0]))
             if engine.has_ended:
                 raise Wrong("engine %d ends at %d for the second time" % (engine.number, place))
+            if engine.how is None:
+                if not self.without_atoms:
+                    raise Wrong("engine %d ends at %d, and has still to do: %s" % (engine.number, place, engine.request[0]))
+                engine.request, engine.how = None, ("atom_space",)
             engine.has_ended = True
             self.state.change(engine.number, ("end", status_term(engine.how)))
             return
@@ -277,6 +286,8 @@ def status_term(how):
         return "true"
     if how[0] == "no_more":
         return "false"
+    if how[0] == "atom_space":
+        return ("exception", ("resource_error", "atom_space"))
     return ({"threw": "exception", "exited": "exited", "halted": "halted"}[how[0]], renamed(how[1]))
 
 
@@ -289,7 +300,7 @@ def judge(command, text, status):
     for line in lines.split("\n")[:-1]:
         number, code = line.split()
         told.setdefault(int(number), []).append((int(code) // 4, int(code) % 4))
-    replay = Replay(command, told)
+    replay = Replay(command, told, "resource_error(atom_space)" in shown)
     replay.run()
     for number in told:
         if number not in replay.engines:

@@ -43,6 +43,11 @@ answers(N, Q) :-
     M is N - 1, answers(M, Q).
 started([], []).
 started([G|Gs], [T|Ts]) :- thread_create(G, T), started(Gs, Ts).
+grows(0, A) :- !, write(A), nl.
+grows(N, A) :-
+    atom_concat(A, k, B), thread_send_message(q1, B), thread_get_message(q1, C), write(C), write(s), ( keeps(N) -> assertz(fact(N, C)) ; true ),
+    M is N - 1, grows(M, B).
+keeps(N) :- 0 =:= N mod 7.
 joined([]).
 joined([T|Ts]) :- thread_join(T, S), write(T-S), nl, joined(Ts).
 """
@@ -109,6 +114,14 @@ def pairs(r, count):
     return works
 
 
+def names(r, count):
+    """Threads that make atoms and send them to each other: more than a small table has slots, and most are forgotten again."""
+    works = ["grows(%d, w%d)" % (r.randint(10, 60), n) for n in range(count)]
+    if r.random() < .5:
+        works[0] += ", garbage_collect_atoms, grows(20, v), calls(1)"
+    return works
+
+
 def ending(r):
     return r.choice(["true"] * 6 + ["fail", "throw(end(X))", "thread_exit(left(X))"])
 
@@ -118,9 +131,12 @@ def program(seed):
     r = random.Random(seed)
     count = r.choice([2, 2, 3, 4, 5, 8, 12, 16, 24, 32]) if r.random() < .5 else r.randint(2, 6)
     queues = ["q%d" % (i + 1) for i in range(r.randint(1, 3))]
-    if r.random() < .3:
+    kind = r.random()
+    if kind < .3:
         queues = ["q1", "q2"]
         works = pairs(r, count)
+    elif kind < .5:
+        works = names(r, count)
     else:
         room = {q: 0 for q in queues}
         works = [", ".join([action(r, queues, room) for _ in range(r.randint(1, 5))] + [ending(r)]) for _ in range(count)]

@@ -15,7 +15,7 @@ COMPARISONS = {
 }
 # Built-in predicates that no program of the soak calls: a call of them is no call of the program's clauses.
 OTHERS = {"functor", "arg", "=..", "copy_term", "op", "current_op", "abolish", "atom_length", "atom_chars", "number_codes", "sort", "msort",
-          "keysort", "current_predicate", "current_prolog_flag", "sub_atom", "atom_concat", "compare", "bagof", "setof", "forall"}
+          "keysort", "current_predicate", "current_prolog_flag", "sub_atom", "compare", "bagof", "setof", "forall"}
 
 
 class Ball(Exception):
@@ -440,6 +440,14 @@ def compares(search, goal):
     return ()
 
 
+def joins(search, goal):
+    left, right = search.resolved(goal[1]), search.resolved(goal[2])
+    if not isinstance(left, str) or not isinstance(right, str) or len(left) + len(right) > 248:
+        raise Unsupported("arguments of atom_concat")
+    search.unify_all((goal[3], left + right))
+    return ()
+
+
 def writes(search, goal):
     yield ("look",)
     search.output.append(("text", written(search.resolved(goal[1]))))
@@ -572,9 +580,10 @@ def makes_queue(search, goal):
 PREDICATES = {
     ("fail", 0): fails, ("false", 0): fails, ("\\+", 1): negation, ("once", 1): once, ("catch", 3): catches, ("throw", 1): throws,
     ("findall", 3): finds_all, ("thread_exit", 1): exits, ("halt", 0): halts, ("halt", 1): halts, ("=", 2): unifies, ("==", 2): is_same,
-    ("is", 2): evaluates, ("write", 1): writes, ("writeq", 1): writes, ("nl", 0): new_line,
+    ("is", 2): evaluates, ("atom_concat", 3): joins, ("write", 1): writes, ("writeq", 1): writes, ("nl", 0): new_line,
     ("asserta", 1): asserts("first"), ("assertz", 1): asserts("last"), ("assert", 1): asserts("last"), ("retract", 1): retracts,
     ("retractall", 1): clears, ("clause", 2): inspects, ("dynamic", 1): makes_dynamic, ("set_prolog_flag", 2): sets_flag,
+    ("garbage_collect_atoms", 0): lambda search, goal: answered(search, goal, ("collect",)),
     ("thread_self", 1): lambda search, goal: answered(search, goal, ("name",), 1),
     ("thread_create", 2): creates, ("thread_create", 3): creates,
     ("thread_join", 2): lambda search, goal: answered(search, goal, ("join", bound(search, goal, 1)), 2),

@@ -85,6 +85,9 @@ class State:
     def serve_set_unknown(self, engine, value):
         return ("done",), ("set_unknown", value)
 
+    def serve_collect(self, engine):
+        return ("done",), None
+
     def serve_name(self, engine):
         return ("named", self.name_of(engine)), None
 
