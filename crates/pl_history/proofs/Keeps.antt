@@ -7,7 +7,7 @@ use lib.ListN.{get_elem?}
 use Rattle.atomic_table.proofs.Lists.{at_set, set_else}
 use Rattle.pl_model.specs.History.{Entry, History, begins, has_begun, mine}
 use Rattle.pl_history.specs.Fronts.{Life, times, gains, begun_by, visited, picked, AllTold}
-use Rattle.pl_history.specs.Steps.{Board, Part, View, Step, append, visit, look, make, join, merge, split, hand, MayAppend, Takes, Reached, hub_alone, front_alone, both, nobody, at_start, newcomer, hub_appended, front_appended, merged, beside, kept, cut_off, kept_by_hub, handed}
+use Rattle.pl_history.specs.Steps.{Board, Part, View, Step, append, visit, look, revisit, inform, make, join, merge, split, hand, MayAppend, Takes, Reached, hub_alone, front_alone, both, two_fronts, nobody, at_start, newcomer, hub_appended, front_appended, merged, beside, kept, cut_off, kept_by_hub, handed}
 use Rattle.pl_history.specs.Laws.{total, in_hub, carried, one_if, hubs_in, hubs, HubSees, AllSee, Sees, Kept}
 use Rattle.pl_history.proofs.Totals.{total-append, total-set, total-at, total-two, total-cut, each-set, each-snoc}
 use Rattle.pl_history.proofs.Lives.{times-append, times-gains, times-visited, times-begun_by, times-picked, mine_else, told-append, told_else, told_gains, told_visited, told_begun, told_picked, told_without, one_begun, runs_one, begun_before, prefix_more, prefix_all}
@@ -284,6 +284,20 @@ keeps (look i) b vs b' vs' k (h, p, at, words, views) =
     (one_changes b vs i (both h p) (both h (record { seen = h.seen; lives = p.lives })) k at refl
     (λ e. refl)
     (record { hub = s.hub; fronts = (prefix_all h.seen b.history s.hub.0, s.fronts.1, tt) })))
+keeps (revisit i) b vs b' vs' k (p, at, runs, all, words, views) =
+    let s = k.seats i (front_alone p) at in
+    subst (λ c. Kept c vs') (sym words)
+    (subst (Kept b) (sym views)
+    (one_changes b vs i (front_alone p) (front_alone (record { seen = p.seen; lives = visited (length p.seen) p.lives })) k at refl
+    (λ e. omega (arith, times-visited e (length p.seen) p.lives))
+    (record { hub = tt; fronts = (s.fronts.0, told_visited b.history (length p.seen) p.lives (sym all ∙ k.generation) s.fronts.1, tt) })))
+keeps (inform i) b vs b' vs' k (p, q, at, words, views) =
+    let s = k.seats i (two_fronts p q) at in
+    subst (λ c. Kept c vs') (sym words)
+    (subst (Kept b) (sym views)
+    (one_changes b vs i (two_fronts p q) (two_fronts p (record { seen = p.seen; lives = q.lives })) k at refl
+    (λ e. refl)
+    (record { hub = tt; fronts = (s.fronts.0, s.fronts.1, (s.fronts.0, s.fronts.2.1, tt)) })))
 keeps make b vs b' vs' k (words, views) =
     subst (λ c. Kept c vs') (sym words)
     (subst (Kept b) (sym views)

@@ -1,16 +1,16 @@
 -- What the table's calls ask: that each is a step, in a state that steps have reached.
-use Rattle.std.proofs.Common.{◌≡◌, ℕ, suc, ◌+◌, ◌%◌, ◌^◌, ◌≤◌, ◌<◌, List, [], ◌∷◌, ◌++◌, Bool, true, false, None, length, replicate, refl, ap, sym, ◌∙◌, subst, arith}
+use Rattle.std.proofs.Common.{◌≡◌, ℕ, suc, ◌+◌, ◌==◌, ◌%◌, ◌^◌, ◌≤◌, ◌<◌, List, [], ◌∷◌, ◌++◌, Bool, true, false, None, length, replicate, refl, ap, sym, ◌∙◌, subst, arith, eq-eqb, eqb-true}
 use Rattle.std.specs.Prelude.{slice_index, slice_set}
 use mathlib.Core.List.{IsPrefix}
 use mathlib.Core.Option.{some}
 use lib.ListN.{get_elem?}
-use Rattle.atomic_table.specs.Table.{Me, keeps, Allows, Joins, Splits, Enters, opening}
+use Rattle.atomic_table.specs.Table.{Me, State, Act, Valid, stepped, carried_after, keeps, Allows, Joins, Splits, Enters, opening}
 use Rattle.atomic_table.proofs.Lists.{set_else, set_again}
 use Rattle.pl_model.specs.History.{Entry, History, has_begun}
 use Rattle.pl_history.specs.Fronts.{times, all_over, own_runs, AllTold}
-use Rattle.pl_history.specs.Steps.{Board, Part, View, Step, append, visit, look, make, join, merge, split, hand, MayAppend, Takes, Reached, Ruled, laid, hub_alone, front_alone, both, nobody, at_start, newcomer, merged, beside, as_one, kept, cut_off, kept_by_hub, handed}
-use Rattle.pl_history.specs.Laws.{carried, one_if, Kept}
-use Rattle.pl_history.specs.Seats.{Fits, Tells, Compared, after_append, after_visit, after_look, after_nothing, hub_of, front_of}
+use Rattle.pl_history.specs.Steps.{Board, Part, View, Step, append, visit, look, revisit, inform, make, join, merge, split, hand, MayAppend, Takes, Reached, Ruled, laid, hub_alone, front_alone, both, two_fronts, nobody, at_start, newcomer, merged, beside, as_one, kept, cut_off, kept_by_hub, handed}
+use Rattle.pl_history.specs.Laws.{AllSee, carried, one_if, Kept}
+use Rattle.pl_history.specs.Seats.{Fits, Tells, Compared, Informed, Revisited, after_append, after_visit, after_look, after_nothing, after_revisit, hub_of, front_of, told_by}
 use Rattle.pl_history.proofs.Totals.{total-at}
 use Rattle.pl_history.proofs.Keeps.{reached_kept}
 
@@ -115,6 +115,53 @@ module _ (engines : ℕ) where
         record { found_is = found_length b vs id h p k at; view = refl; fits = fits b vs id h p k at },
       )))
 
+  -- A visit of a front alone, where it has seen all
+
+  revisits : (c : Bool) (slots id : ℕ) (p : Part) (s : State (Unit {0}) View) (r : Ruled engines s)
+      → (r.board.generation == length p.seen) ≡ c
+      → own_runs p.lives ≡ true
+      → get_elem? s.views id ≡ some (front_alone p)
+      → (w : View) × (a : Act (Unit {0})) × Valid s.homes [] a × Ruled engines (stepped s 1 (slice_index s.words 1) id [] w a)
+      × Revisited (front_alone p, []) (slice_index s.words 1) (w, carried_after [] a)
+  revisits true slots id p s r is runs at =
+      let found : slice_index s.words 1 ≡ r.board.generation = ap (λ ws. slice_index ws 1) r.words in
+      let all : r.board.generation ≡ length p.seen = eqb-true r.board.generation (length p.seen) is in (
+        after_revisit (front_alone p),
+        keeps,
+        tt,
+        record {
+          board = r.board;
+          words = ap (λ ws. slice_set ws 1 (slice_index ws 1)) r.words;
+          steps = revisit id ∷ r.steps;
+          reached = (r.board, s.views, r.reached, (p, at, runs, all, refl, refl));
+        },
+        record { visits = λ _. refl; stays = λ other. absurd (other (found ∙ all)) },
+      )
+  revisits false slots id p s r is runs at =
+      let found : slice_index s.words 1 ≡ r.board.generation = ap (λ ws. slice_index ws 1) r.words in (
+        front_alone p,
+        keeps,
+        tt,
+        record {
+          board = r.board;
+          words = ap (λ ws. slice_set ws 1 (slice_index ws 1)) r.words;
+          steps = r.steps;
+          reached = subst (Reached engines r.steps r.board) (sym (set_again s.views id (front_alone p) at)) r.reached;
+        },
+        record {
+          visits =
+              λ all.
+              let here : r.board.generation ≡ length p.seen = sym found ∙ all in
+              let t : true ≡ false = sym (eq-eqb r.board.generation (length p.seen) here) ∙ is in absurd (cc);
+          stays = λ _. refl;
+        },
+      )
+
+  pub allows_revisit : (slots id : ℕ) (p : Part) (me : Me (Unit {0}) View) → me ≡ (front_alone p, []) → own_runs p.lives ≡ true → Allows (Ruled engines) slots id me 1 (λ n. n) (Revisited me)
+  allows_revisit slots id p me e runs =
+      subst (λ m. Allows (Ruled engines) slots id m 1 (λ n. n) (Revisited m)) (sym e)
+      (λ s r homes at small. revisits (r.board.generation == length p.seen) slots id p s r refl runs at)
+
   may_here : (x : Entry) (h p : Part) (b : Board) → h.seen ≡ b.history → MayAppend x h.seen h.lives p.lives → MayAppend x b.history h.lives p.lives
   may_here x h p b same may = subst (λ y. MayAppend x y h.lives p.lives) same may
 
@@ -180,6 +227,26 @@ module _ (engines : ℕ) where
             record { found_is = found ∙ found_length r.board s.views id h p k at; view = refl; fits = fits r.board s.views id h p k at },
           )
 
+  -- Two fronts
+
+  informs : (slots id : ℕ) (p q : Part) → Allows (Ruled engines) slots id (two_fronts p q, []) 1 (λ n. n) (λ _ new. Informed (two_fronts p q, []) new)
+  informs slots id p q s r homes at small =
+      let k = reached_kept engines r.steps r.board s.views r.reached in (
+        two_fronts p (told_by p q),
+        keeps,
+        tt,
+        record {
+          board = r.board;
+          words = ap (λ ws. slice_set ws 1 (slice_index ws 1)) r.words;
+          steps = inform id ∷ r.steps;
+          reached = (r.board, s.views, r.reached, (p, q, at, refl, refl));
+        },
+        record { view = refl; history = r.board.history; seen = (k.seats id (two_fronts p q) at).fronts },
+      )
+
+  pub allows_inform : (slots id : ℕ) (p q : Part) (me : Me (Unit {0}) View) → me ≡ (two_fronts p q, []) → Allows (Ruled engines) slots id me 1 (λ n. n) (λ _ new. Informed me new)
+  allows_inform slots id p q me e = subst (λ (m : Me (Unit {0}) View). Allows (Ruled engines) slots id m 1 (λ n. n) (λ _ new. Informed m new)) (sym e) (informs slots id p q)
+
   -- A new front, and the table as it is made
 
   pub enters : (slots : ℕ) → Enters (Ruled engines) slots 0 (λ n w. ◌≡◌ {A = Me (Unit {0}) View} (w, []) (front_alone newcomer, []))
@@ -203,6 +270,11 @@ module _ (engines : ℕ) where
 pub one_view : (vs : List View) (v w : View) → vs ≡ v ∷ [] → vs ≡ w ∷ [] → v ≡ w
 one_view vs v w a b = let e : v ∷ [] ≡ w ∷ [] = sym a ∙ b in cc
 
+pub me_alone : (me : Me (Unit {0}) View) (vs : List View) (p : Part) → vs ≡ me.0 ∷ [] → me.1 ≡ [] → vs ≡ front_alone p ∷ [] → me ≡ (front_alone p, [])
+me_alone me vs p views none is =
+    let alone : me ≡ (front_alone p, me.1) = ap (λ (v : View). (v, me.1)) (one_view vs me.0 (front_alone p) views is) in
+    alone ∙ ap (λ (cs : List (ℕ × Unit {0})). (front_alone p, cs)) none
+
 pub view_again : (me : Me (Unit {0}) View) (h p : Part) → me ≡ (both h p, []) → me ≡ (both (hub_of me.0) (front_of me.0), [])
 view_again me h p e = subst (λ (m : Me (Unit {0}) View). m ≡ (both (hub_of m.0) (front_of m.0), [])) (sym e) refl
 
@@ -223,3 +295,30 @@ once_with_hub me h p e is le =
 
 pub two_more : (n : ℕ) → replicate {A = ℕ} (n + 2) 0 ≡ 0 ∷ 0 ∷ replicate n 0
 two_more n = let more : n + 2 ≡ suc (suc n) = omega arith in ap (λ m. replicate {A = ℕ} m 0) more
+
+-- Two fronts in one view
+
+pub two_of : (me : Me (Unit {0}) View) (v w : View) (c : List (ℕ × Unit {0})) (p q : Part) → me ≡ (beside v w, c) → c ≡ [] → v ≡ front_alone p → w ≡ front_alone q → me ≡ (two_fronts p q, [])
+two_of me v w c p q is none ve we =
+    is
+    ∙ (ap (λ (y : View). (beside y w, c)) ve
+    ∙ (ap (λ (y : View). (beside (front_alone p) y, c)) we ∙ ap (λ (d : List (ℕ × Unit {0})). (two_fronts p q, d)) none))
+
+-- Of two beginnings of one history the shorter begins the longer
+
+pub shorter : (xs ys h : History) → IsPrefix xs h → IsPrefix ys h → length xs ≤ length ys → IsPrefix xs ys
+shorter [] ys h p q le = (ys, refl)
+shorter (x ∷ xs) [] h p q le = absurd (omega (arith, le))
+shorter (x ∷ xs) (y ∷ ys) [] p q le = absurd (let e : x ∷ (xs ++ p.0) ≡ [] = p.1 in cc)
+shorter (x ∷ xs) (y ∷ ys) (z ∷ h) p q le =
+    let d : x ∷ (xs ++ p.0) ≡ z ∷ h = p.1 in
+    let e : y ∷ (ys ++ q.0) ≡ z ∷ h = q.1 in
+    let same : x ≡ y = cc in
+    let left : xs ++ p.0 ≡ h = cc in
+    let right : ys ++ q.0 ≡ h = cc in
+    let rest = shorter xs ys h (p.0, left) (q.0, right) (omega (arith, le)) in
+    (rest.0, ap (λ (w : Entry). w ∷ (xs ++ rest.0)) same ∙ ap (λ (ws : History). y ∷ ws) rest.1)
+
+pub seen_in : (v : View) (p q : Part) (h : History) → v ≡ two_fronts p q → AllSee h v.fronts → length q.seen ≤ length p.seen → IsPrefix q.seen p.seen
+seen_in v p q h is all le =
+    let both : AllSee h (p ∷ q ∷ []) = subst (λ (y : View). AllSee h y.fronts) is all in shorter q.seen p.seen h both.2.0 both.0 le

@@ -1,13 +1,13 @@
 -- What contracts see of a front, from the view of its seat, and what each step at the table tells.
-use Rattle.std.specs.Prelude.{◌≡◌, ℕ, ◌≤◌, List, [], ◌∷◌, Option, Some, None, length}
+use Rattle.std.specs.Prelude.{◌≡◌, ◌≢◌, ℕ, ◌≤◌, List, [], ◌∷◌, Option, Some, None, length}
 use mathlib.Core.List.{IsPrefix}
 use Rattle.atomic_table.specs.Table.{Me}
 use Rattle.std.specs.Coded.{Coded-set}
 use Rattle.atomic_table.specs.Seated.{TableId, table_id_coded}
-use Rattle.pl_model.specs.History.{Entry}
+use Rattle.pl_model.specs.History.{Entry, History}
 use Rattle.pl_history.specs.Fronts.{FrontState, AllTold, visited}
-use Rattle.pl_history.specs.Steps.{Part, View, both, hub_alone, front_alone, newcomer, hub_appended, front_appended}
-use Rattle.pl_history.specs.Laws.{carried}
+use Rattle.pl_history.specs.Steps.{Part, View, both, hub_alone, front_alone, two_fronts, newcomer, hub_appended, front_appended}
+use Rattle.pl_history.specs.Laws.{AllSee, carried}
 
 abbrev pub part_or_newcomer : Option Part → Part
 part_or_newcomer None = newcomer
@@ -53,6 +53,25 @@ after_nothing v = both (hub_of v) (front_of v)
 abbrev pub after_look : View → View
 after_look v = both (hub_of v) (record { seen = (hub_of v).seen; lives = (front_of v).lives })
 
+-- A view of one front alone after a visit, where it has seen as many entries as there are.
+abbrev pub after_revisit : View → View
+after_revisit v =
+    front_alone (record { seen = (front_of v).seen; lives = visited (length (front_of v).seen) (front_of v).lives })
+
+-- The first and the second of the fronts in a view after the one has told the other what it has seen.
+abbrev pub second_of_all : List Part → Part
+second_of_all [] = newcomer
+second_of_all (p ∷ ps) = first_or_newcomer ps
+
+abbrev pub second_of : View → Part
+second_of v = second_of_all v.fronts
+
+abbrev pub told_by : Part → Part → Part
+told_by p q = record { seen = p.seen; lives = q.lives }
+
+abbrev pub after_inform : View → View
+after_inform v = two_fronts (front_of v) (told_by (front_of v) (second_of v))
+
 -- What the front had seen is a beginning of what the hub's front has seen, and each list of an engine's updates is
 -- that history, filtered by the engine.
 pub record Fits (hub front : Part) : Type 0 where
@@ -72,6 +91,18 @@ pub record IsStep (after : View → View) (old : View) (found : ℕ) (hub front 
   pub hub_is : hub ≡ hub_alone (hub_of (after old)) ∷ []
   pub front_is : front ≡ front_alone (front_of (after old)) ∷ []
   pub fits : Fits (hub_of old) (front_of old)
+
+-- What a load tells a front alone. Where the number found, which is the length of the history, is the number of the entries
+-- that the front has seen, the load is a visit. Else nothing has changed.
+pub record Revisited (old : Me (Unit {0}) View) (found : ℕ) (new : Me (Unit {0}) View) : Type 0 where
+  pub visits : found ≡ length (front_of old.0).seen → new ≡ (after_revisit old.0, old.1)
+  pub stays : found ≢ length (front_of old.0).seen → new ≡ old
+
+-- What a load tells two fronts: the second has seen what the first has, and both had seen beginnings of one history.
+pub record Informed (old new : Me (Unit {0}) View) : Type 0 where
+  pub view : new ≡ (after_inform old.0, old.1)
+  pub history : History
+  pub seen : AllSee history old.0.fronts
 
 -- What a load tells that changes nothing: no engine is carried twice by what the seat has.
 pub record Compared (old new : Me (Unit {0}) View) : Type 0 where

@@ -102,6 +102,10 @@ pub data Step : Type 0 where
   -- a visit, and one that adds no generation to a list
   visit : ℕ → Step
   look : ℕ → Step
+  -- a visit of a front alone, which has seen as many entries as there are
+  revisit : ℕ → Step
+  -- of two fronts the first tells the second what it has seen
+  inform : ℕ → Step
   -- a new seat
   make : Step
   -- two views in one, side by side or as one front
@@ -136,6 +140,18 @@ Takes (look i) b vs b' vs' =
     × (get_elem? vs i ≡ some (both h p))
     × (b' ≡ b)
     × (vs' ≡ slice_set vs i (both h (record { seen = h.seen; lives = p.lives })))
+Takes (revisit i) b vs b' vs' =
+    (p : Part)
+    × (get_elem? vs i ≡ some (front_alone p))
+    × (own_runs p.lives ≡ true)
+    × (b.generation ≡ length p.seen)
+    × (b' ≡ b)
+    × (vs' ≡ slice_set vs i (front_alone (record { seen = p.seen; lives = visited (length p.seen) p.lives })))
+Takes (inform i) b vs b' vs' =
+    (p : Part) × (q : Part)
+    × (get_elem? vs i ≡ some (two_fronts p q))
+    × (b' ≡ b)
+    × (vs' ≡ slice_set vs i (two_fronts p (record { seen = p.seen; lives = q.lives })))
 Takes make b vs b' vs' = (b' ≡ b) × (vs' ≡ vs ++ front_alone newcomer ∷ [])
 Takes (join i j) b vs b' vs' =
     (v : View) × (w : View)

@@ -102,6 +102,24 @@ impl Play<(), Known> for Looks {
     ghost then = { λ _. Tells after_look };
 }
 
+/// A load that is a visit of a front alone, where it has seen all.
+pub struct Revisits;
+
+impl Play<(), Known> for Revisits {
+    ghost use Rattle.pl_history.specs.Seats.{Revisited};
+
+    ghost then = { λ _. Revisited };
+}
+
+/// A load at which the first of two fronts tells the second what it has seen.
+pub struct Informs;
+
+impl Play<(), Known> for Informs {
+    ghost use Rattle.pl_history.specs.Seats.{Informed};
+
+    ghost then = { λ _ old _ new. Informed old new };
+}
+
 /// A load that changes nothing.
 pub struct Compares;
 

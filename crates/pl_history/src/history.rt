@@ -1,5 +1,5 @@
 //! The history and its calls.
-ghost use Rattle.std.specs.Prelude.{◌≡◌, ◌<◌, ◌≤◌, ◌^◌, ◌+◌, ◌++◌, ℕ, List, [], ◌∷◌, true, false, IfOk, IfErr, IsErr, ◌↔◌, length, replicate};
+ghost use Rattle.std.specs.Prelude.{◌≡◌, ◌<◌, ◌≤◌, ◌^◌, ◌+◌, ◌++◌, ℕ, List, [], ◌∷◌, true, false, IfOk, IfErr, IsErr, ◌↔◌, length, replicate, nat_lt, if◌then◌else◌};
 ghost use mathlib.Core.List.{IsPrefix};
 ghost use Rattle.pl_model.specs.History.{is_end};
 ghost use Rattle.pl_history.specs.Fronts.{Life, new_hub, new_front, AllTold, own_runs, times, all_over, gains, begun_by, visited, picked, without, longer};
@@ -54,9 +54,17 @@ fn take_seats(alloc: Global, words: &Words, count: usize) -> Result<Vec<Front>, 
         let seat = words.shared.load_new_seat::<NewSeat>(FLOOR).1;
         fronts.push_reserved(Front {
             badge: seat.into_badge(),
+            generation: 0,
         });
     }
     Ok(fronts)
+}
+
+// The larger of two numbers.
+fn larger(first: u64, second: u64) -> u64
+    ensures { result ≡ (if nat_lt first second then second else first) }
+{
+    if first < second { second } else { first }
 }
 
 impl History {
@@ -84,6 +92,7 @@ impl History {
         let seat = self.words.shared.load_new_seat::<NewSeat>(FLOOR).1;
         Front {
             badge: seat.into_badge(),
+            generation: 0,
         }
     }
 
@@ -98,7 +107,9 @@ impl History {
         ensures told { AllTold hub.old.seen front.old.lives }
         ensures hub_told { AllTold hub.old.seen hub.old.lives }
     {
-        steps::look(&self.words, &mut hub.badge, &mut front.badge)
+        let generation = steps::look(&self.words, &mut hub.badge, &mut front.badge);
+        front.generation = generation;
+        generation
     }
 
     /// What the front has seen is a beginning of the history, which tells of the engines that it carries; the answer is the
@@ -129,7 +140,20 @@ impl History {
         ensures told { AllTold hub.old.seen front.old.lives }
         ensures hub_told { AllTold hub.old.seen hub.old.lives }
     {
-        steps::visit(&self.words, &mut hub.badge, &mut front.badge)
+        let generation = steps::visit(&self.words, &mut hub.badge, &mut front.badge);
+        front.generation = generation;
+        generation
+    }
+
+    /// Whether the history has no further entry than the front has seen. Where so, this is a visit: the history's length is
+    /// added to the generations of the front's engine. Else nothing has changed. It is one load, without the hub's front.
+    pub fn revisit(&self, front: &mut Front) -> bool
+        requires front_here { front.old.table ≡ self.now }
+        requires runs { own_runs front.old.lives ≡ true }
+        ensures visits { result ≡ true → front.new ≡ record front.old { lives = visited (length front.old.seen) front.old.lives } }
+        ensures stays { result ≡ false → front.new ≡ front.old }
+    {
+        steps::revisit(&self.words, &mut front.badge, front.generation)
     }
 
     /// The history gains the entry that the value stands for, and both fronts see it. The answer is the entry's
@@ -181,6 +205,7 @@ impl History {
     {
         let place = steps::append::<N>(&self.words, &mut hub.badge, &mut front.badge);
         hub.generation = place + 1;
+        front.generation = place + 1;
         place
     }
 
@@ -217,7 +242,8 @@ impl History {
         requires other_here { other.table ≡ self.now }
         ensures { front.new ≡ record front.old { seen = longer front.old.seen other.seen; lives = front.old.lives ++ other.lives } }
     {
-        let Front { badge } = other;
+        let Front { badge, generation } = other;
+        front.generation = larger(front.generation, generation);
         steps::merge(&self.words, &mut front.badge, badge)
     }
 
@@ -230,6 +256,19 @@ impl History {
         ensures apart { (e : ℕ) → times e first.old.lives + times e second.old.lives ≤ 1 }
     {
         steps::compare(&self.words, &mut first.badge, &mut second.badge)
+    }
+
+    /// A front tells another what it has seen: that has then seen just the same. What it had seen before is a beginning of
+    /// that, where it is no longer. It is one load, without the hub's front.
+    pub fn inform(&self, front: &mut Front, other: &mut Front)
+        requires front_here { front.old.table ≡ self.now }
+        requires other_here { other.old.table ≡ self.now }
+        ensures front { front.new ≡ front.old }
+        ensures other { other.new ≡ record other.old { seen = front.old.seen } }
+        ensures seen { length other.old.seen ≤ length front.old.seen → IsPrefix other.old.seen front.old.seen }
+    {
+        steps::inform(&self.words, &mut front.badge, &mut other.badge);
+        other.generation = front.generation;
     }
 
     /// The hub's front and another never carry the same engine. Nothing changes.

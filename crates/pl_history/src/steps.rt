@@ -1,12 +1,13 @@
 //! The steps of a history, on badges.
-ghost use Rattle.std.specs.Prelude.{◌≡◌, ◌<◌, ◌≤◌, ◌^◌, ◌+◌, ℕ, [], ◌∷◌, true, length};
+ghost use Rattle.std.specs.Prelude.{◌≡◌, ◌<◌, ◌≤◌, ◌^◌, ◌+◌, ℕ, [], ◌∷◌, true, false, length};
+ghost use mathlib.Core.List.{IsPrefix};
 ghost use Rattle.pl_history.specs.Fronts.{own_runs, times, all_over};
 ghost use Rattle.pl_history.specs.Steps.{MayAppend, hub_alone, front_alone, both, merged, kept_by_hub, handed};
-ghost use Rattle.pl_history.specs.Seats.{hub_in_badge, front_in_badge, hub_of, front_of, after_look, after_nothing, after_visit, after_append, IsStep};
+ghost use Rattle.pl_history.specs.Seats.{hub_in_badge, front_in_badge, hub_of, front_of, told_by, after_look, after_nothing, after_revisit, after_visit, after_append, IsStep};
 
 use crate::board::{
-    Adds, Appends, AsOne, Behind, Beside, Compares, FromFirst, FromHub, GENERATION, Hands, Known,
-    Looks, Names, Place, Visits, Words,
+    Adds, Appends, AsOne, Behind, Beside, Compares, FromFirst, FromHub, GENERATION, Hands, Informs,
+    Known, Looks, Names, Place, Revisits, Visits, Words,
 };
 use atomic_table::Badge;
 use std::mem;
@@ -91,6 +92,23 @@ pub(crate) fn visit(words: &Words, hub: &mut Badge<Known>, front: &mut Badge<Kno
     found
 }
 
+/// Whether the history has as many entries as the front has seen, whose number is given: then its engine gains the
+/// generation. Else nothing has changed.
+pub(crate) fn revisit(words: &Words, front: &mut Badge<Known>, generation: u64) -> bool
+    requires tables { (front.old.table_id ≡ words.now.shared.table_id) × (1 < words.now.shared.table_id.words) }
+    requires front_is { front.old.views ≡ front_alone (front_in_badge front.old.views) ∷ [] }
+    requires runs { own_runs (front_in_badge front.old.views).lives ≡ true }
+    requires seen { generation ≡ length (front_in_badge front.old.views).seen }
+    ensures table { front.new.table_id ≡ front.old.table_id }
+    ensures visits { result ≡ true → front.new.views ≡ after_revisit (front_alone (front_in_badge front.old.views)) ∷ [] }
+    ensures stays { result ≡ false → front.new.views ≡ front.old.views }
+{
+    let mut seat = lift(front);
+    let found = words.shared.load::<Revisits>(&mut seat, GENERATION);
+    *front = seat.into_badge();
+    found == generation
+}
+
 /// The history gains the entry that is picked for `N`.
 pub(crate) fn append<N: Adds>(
     words: &Words,
@@ -157,6 +175,25 @@ pub(crate) fn compare(words: &Words, first: &mut Badge<Known>, second: &mut Badg
     let other = lift(second);
     words.shared.join_seat::<Beside>(&mut seat, other);
     words.shared.load::<Compares>(&mut seat, GENERATION);
+    let other = words.shared.split_seat::<FromFirst>(&mut seat);
+    *first = seat.into_badge();
+    *second = other.into_badge();
+}
+
+/// The second front has seen what the first has. Both had seen beginnings of one history.
+pub(crate) fn inform(words: &Words, first: &mut Badge<Known>, second: &mut Badge<Known>)
+    requires tables { (first.old.table_id ≡ words.now.shared.table_id) × (second.old.table_id ≡ words.now.shared.table_id) × (1 < words.now.shared.table_id.words) }
+    requires first_is { first.old.views ≡ front_alone (front_in_badge first.old.views) ∷ [] }
+    requires second_is { second.old.views ≡ front_alone (front_in_badge second.old.views) ∷ [] }
+    ensures tables { (first.new.table_id ≡ first.old.table_id) × (second.new.table_id ≡ second.old.table_id) }
+    ensures first_stays { first.new.views ≡ first.old.views }
+    ensures second_told { second.new.views ≡ front_alone (told_by (front_in_badge first.old.views) (front_in_badge second.old.views)) ∷ [] }
+    ensures seen { length (front_in_badge second.old.views).seen ≤ length (front_in_badge first.old.views).seen → IsPrefix (front_in_badge second.old.views).seen (front_in_badge first.old.views).seen }
+{
+    let mut seat = lift(first);
+    let other = lift(second);
+    words.shared.join_seat::<Beside>(&mut seat, other);
+    words.shared.load::<Informs>(&mut seat, GENERATION);
     let other = words.shared.split_seat::<FromFirst>(&mut seat);
     *first = seat.into_badge();
     *second = other.into_badge();

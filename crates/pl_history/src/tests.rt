@@ -15,6 +15,8 @@ fn answers_places_and_generations(rt: HostRuntime) -> Result<(), Fail> {
     let second = history.append(&mut hub, &mut front, &erases);
     assert_eq!(rt; (first, second), (Ok(0), Ok(1)));
     assert_eq!(rt; history.visit(&mut hub, &mut front), 2);
+    assert_eq!(rt; history.revisit(&mut front), true);
+    assert_eq!(rt; front.generation(), 2);
     assert_eq!(rt; hub.generation(), 2);
     Ok(())
 }
@@ -26,6 +28,7 @@ fn merges_two_fronts(rt: HostRuntime) -> Result<(), Fail> {
     let mut second = fronts.pop().ok_or("another front")?;
     history.hand(&mut hub, &mut first, 1);
     history.apart(&mut first, &mut second);
+    history.inform(&mut first, &mut second);
     history.merge(&mut second, first);
     let erases = Erases {
         engine: 1,

@@ -1,4 +1,4 @@
-use Rattle.std.proofs.Common.{arith, rules}
+use Rattle.std.proofs.Common.{arith}
 use Rattle.pl_history.proofs.Moves.{enters}
 use Rattle.pl_history.proofs.history.History.front.Goals as goal
 
