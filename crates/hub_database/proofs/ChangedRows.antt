@@ -179,3 +179,13 @@ reply_or_made (NeedsAtoms p) is = absurd is
 reply_or_made (Retry c) is = absurd is
 reply_or_made (Worn w) is = absurd is
 reply_or_made Memory is = tt
+
+-- a reply makes no update
+pub reply_after : (row : Row) → IsReply row → (g : ℕ) → generation_after row g ≡ g
+reply_after (Reads r) is g = refl
+reply_after (Makes r) is g = absurd is
+reply_after (Waits on) is g = absurd is
+reply_after (NeedsAtoms p) is g = absurd is
+reply_after (Retry c) is g = absurd is
+reply_after (Worn w) is g = absurd is
+reply_after Memory is g = refl

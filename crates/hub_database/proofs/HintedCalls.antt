@@ -1,22 +1,21 @@
--- Calls of a procedure that a hint finds: the clause that is found there shows that it is the one that is called.
-use Rattle.std.proofs.Common.{◌≡◌, ◌<◌, ◌≤◌, arith, cond, ℕ, zero, suc, List, [], ◌∷◌, Option, Some, None, Bool, true, false, length, refl, sym, ap, subst, ◌∙◌}
-use Rattle.std.specs.Prelude.{IfSome, IsSome, is_some}
+-- Goals of a procedure that a hint finds: the clause that is found there shows that it is the goal's.
+use Rattle.std.proofs.Common.{◌≡◌, ◌<◌, ◌≤◌, arith, cond, ap₂, ℕ, zero, suc, List, [], ◌∷◌, Option, Some, None, Bool, true, false, length, refl, sym, ap, subst, ◌∙◌}
+use Rattle.std.specs.Prelude.{IfNone, IfSome, IsSome, is_some}
 use Rattle.std.specs.List.{slice_get}
 use Rattle.std.proofs.lemmas.Bool.{false≢true}
 use Rattle.std.proofs.lemmas.Option.{same_Some}
 use Rattle.pl_term.specs.Tree.{Chars, Tree}
 use Rattle.pl_model.specs.History.{Clause, History, Proc}
 use Rattle.pl_model.specs.Database as model
-use Rattle.pl_model.specs.Database.{choices, is_known, is_system}
-use Rattle.pl_model.specs.FirstArguments.{head_of}
+use Rattle.pl_model.specs.Database.{choices, is_known, is_static, is_system}
 use Rattle.pl_model.specs.Predicates.{is_excluded, proc_of}
-use Rattle.pl_model.specs.Requests.{call_clauses}
+use Rattle.pl_model.specs.laws.Shown.{proc_of as name_of}
 use Rattle.atom_api.specs.Fixed.{fixed}
 use Rattle.atom_api.specs.Names.{Names}
 use Rattle.atom_words.specs.declared.view.View.{View}
 use Rattle.atom_table.specs.Naming.{named}
 use Rattle.atom_table.specs.Opening.{fixed_slots}
-use Rattle.clause_db.specs.Parts.{Held}
+use Rattle.clause_db.specs.Parts.{Held, Piece}
 use Rattle.clause_db.specs.Stands.{first_named, program_access}
 use Rattle.term_store.specs.NumberedNames.{term_by}
 use Rattle.world_api.specs.Replies.{IsFront}
@@ -30,7 +29,8 @@ use Rattle.counted_terms.specs.declared.row.Row.{Row}
 use Rattle.counted_terms.proofs.Saying.{kept_fixed, kept_some, said_same}
 use Rattle.hub_database.specs.Clauses.{clause_by}
 use Rattle.hub_database.specs.Database.{AllOpen, IsDatabase, databases}
-use Rattle.hub_database.specs.Rows.{HandsOut, IsSteady, Tells, handed_row}
+use Rattle.hub_database.specs.Found.{HandsFirst, IsFound}
+use Rattle.hub_database.specs.Rows.{HandsOut, IsSteady, handed_row}
 use Rattle.std.specs.Result.{IfOk}
 use Rattle.std.specs.List.{All}
 use Rattle.std.proofs.lemmas.List.Elements.{All-nil}
@@ -42,8 +42,9 @@ use Rattle.world_api.specs.Replies.{found_names}
 use Rattle.world_api.specs.declared.reply.Found.{Found}
 use Rattle.counted_terms.specs.Rows.{row_names}
 use Rattle.counted_terms.specs.Sharing.{Counts}
-use Rattle.hub_database.proofs.CalledClauses.{known_tells}
-use Rattle.hub_database.proofs.Open.{first_own}
+use Rattle.hub_database.proofs.ErasedClauses.{is_static_in, static_in}
+use Rattle.hub_database.proofs.Fronts.{some_weaker}
+use Rattle.hub_database.proofs.Open.{first_open, first_own}
 
 -- what a map has, another one has that holds on it
 same_on : (m n : Names) → HoldsOn m n → (a : ℕ) → IsSome (m a) → n a ≡ m a
@@ -74,6 +75,11 @@ module _ (f : Tree → Clause) (d : model.Database Clause) (all : AllOpen d.clau
       let first = found_first f (choices t g q d) place u more found in
       first_own q g t d.clauses all first.0 first.1 first.2 ∙ (ap (λ (c : Clause). proc_of c.head) first.3 ∙ own)
 
+  pub found_open : is_system p ≡ false
+  found_open =
+      let first = found_first f (choices t g q d) place u more found in
+      subst (λ (r : Proc). is_system r ≡ false) found_own (first_open q g t d.clauses all first.0 first.1 first.2)
+
 -- a procedure of the program is known
 pub known_there : (d : model.Database Clause) (p : Proc) → is_some (program_access d p) ≡ true → is_known d p ≡ true
 known_there d p is = go (is_system p)
@@ -90,6 +96,11 @@ handed_out (Err e) P h = tt
 pub handed_named : (m : Names) (r : Result (Option (Found Tree)) NoRoom) → IfOk r (λ f. All (λ a. IsSome (m a)) (found_names names_of f)) → All (λ a. IsSome (m a)) (row_names (handed_row r))
 handed_named m (Ok f) h = h
 handed_named m (Err e) h = All-nil (λ a. IsSome (m a))
+
+-- what holds where there is none
+pub none_weaker : {X P Q : Type 0} (o : Option X) → (P → Q) → IfNone o P → IfNone o Q
+none_weaker None f h = f h
+none_weaker (Some x) f h = tt
 
 -- a keeper that keeps and counts the same
 pub steady_then : (k l o : View) → IsSteady k l → IsSteady l o → IsSteady k o
@@ -112,16 +123,32 @@ at_part (x ∷ xs) (suc i) within A B P a b f = at_part xs i (omega arith) A B P
 pub named_same : (m n : Names) (p : Procedure) → HoldsOn m n → IsSome (m p.name) → proc_named (text_of n) p ≡ proc_named (text_of m) p
 named_same m n p on held = ap (λ (cs : Chars). proc_named (λ a. cs) p) (ap (or_no_text p.name) (same_on m n on p.name held))
 
--- THE CALL IS ANSWERED BY THE CLAUSE THAT WAS FOUND, where its head is of the goal's predicate p; q: the name of the procedure where it was found
-module _ (goals e : ℕ) (h : History) (k : View) (db : Held Tree) (g : ℕ) (at : length h ≡ g) (is : IsDatabase k db goals h) (goal : Tree) (p : Proc) (own : proc_of goal ≡ p) where
+-- WHAT IS FOUND AT AN INDEX, where the first clause there for the goal with this head is of the goal's predicate p
+module _ (goals : ℕ) (h : History) (k : View) (db : Held Tree) (g : ℕ) (is : IsDatabase k db goals h) (head : Tree) (p : Proc) (text : ℕ → Chars) (row : Row)
+    (place : ℕ) (u : Tree) (more : Bool) (own : proc_of (clause_by k u).head ≡ p)
+    (front : (cs : List (model.Stored Clause)) → Some (place, clause_by k u, more) ≡ first_named cs → HandsOut (λ f. IsFront term_by text f cs) row) where
   abbrev tried : Proc → List (model.Stored Clause)
-  tried q = choices (λ (c : Clause). is_excluded (head_of goal) c.head) g q (databases goals h g)
+  tried q = choices (λ (c : Clause). is_excluded head c.head) g q (databases goals h g)
 
-  module _ (text : ℕ → Chars) (row : Row) (place : ℕ) (u : Tree) (more : Bool) (head_own : proc_of (clause_by k u).head ≡ p)
-      (front : (cs : List (model.Stored Clause)) → Some (place, clause_by k u, more) ≡ first_named cs → HandsOut (λ f. IsFront term_by text f cs) row) where
-    pub hinted_tells : (q : Proc) → is_some (program_access (databases goals h g) q) ≡ true → Some (place, clause_by k u, more) ≡ first_named (tried q) → Tells goals e text (call_clauses goal) h row
-    hinted_tells q there found =
-        let same : q ≡ p = found_own (clause_by k) (databases goals h g) (is.open_only g) g q p (λ (c : Clause). is_excluded (head_of goal) c.head) place u more found head_own in
-        known_tells goals e h k db g at is goal p own text
-        (subst (λ (r : Proc). is_known (databases goals h g) r ≡ true) same (known_there (databases goals h g) q there)) row
-        (subst (λ (r : Proc). HandsOut (λ f. IsFront term_by text f (tried r)) row) same (front (tried q) found))
+  abbrev Finds : Piece Tree → Type 0
+  Finds x = Some (place, clause_by k u, more) ≡ first_named (tried (name_of x.name))
+
+  is_called : (x : Piece Tree) → Finds x → name_of x.name ≡ p
+  is_called x found = found_own (clause_by k) (databases goals h g) (is.open_only g) g (name_of x.name) p (λ (c : Clause). is_excluded head c.head) place u more found own
+
+  pub found_is : (i : ℕ) → i < length db.parts → IfSome (slice_get db.parts i) Finds → IsFound goals h db i g p text head row
+  found_is i within found = record {
+    there = some_weaker (slice_get db.parts i) is_called found;
+    open_ = at_part db.parts i within Finds Finds (is_system p ≡ false) found found
+        (λ x a b. found_open (clause_by k) (databases goals h g) (is.open_only g) g (name_of x.name) p (λ (c : Clause). is_excluded head c.head) place u more a own);
+    hands = at_part db.parts i within Finds Finds (HandsFirst goals h g p text head row) found found
+        (λ x a b. subst (λ (q : Proc). HandsOut (λ f. IsFront term_by text f (tried q)) row) (is_called x a) (front (tried (name_of x.name)) a));
+  }
+
+-- A DYNAMIC PROCEDURE that is none of the system is not static
+pub open_static : (d : model.Database Clause) (p : Proc) → is_system p ≡ false → program_access d p ≡ Some model.dynamic → is_static d p ≡ false
+open_static d p sys access = is_static_in d p ∙ ap₂ (λ b o. static_in (cond b (Some model.static) o)) sys access
+
+-- what the database says of the procedure where it stands
+pub said_at : (db : Held Tree) (i : ℕ) (p : Proc) → i < length db.parts → IfSome (slice_get db.parts i) (λ x. name_of x.name ≡ p) → (Q : Proc → Type 0) → IfSome (slice_get db.parts i) (λ x. Q (name_of x.name)) → Q p
+said_at db i p within there Q says = at_part db.parts i within (λ (x : Piece Tree). name_of x.name ≡ p) (λ (x : Piece Tree). Q (name_of x.name)) (Q p) there says (λ x a b. subst Q a b)

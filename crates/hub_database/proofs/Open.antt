@@ -130,3 +130,12 @@ first_own p g t (s ∷ ss) all c cs e = go (same_proc s.procedure p) refl (is_vi
         tried false e = let here : s ≡ c = cc in sym (is_same s.procedure p same) ∙ (all.0.own ∙ ap (λ (z : Stored Clause). proc_of z.clause.head) here)
     go true same false e rest = rest e
     go false same v e rest = rest e
+
+-- and the procedure is none of the system
+pub first_open : (p : Proc) (g : ℕ) (t : Clause → Bool) (ss : List (Stored Clause)) → AllOpen ss → (c : Stored Clause) (cs : List (Stored Clause))
+    → filter (λ (s : Stored Clause). not (t s.clause)) (filter (λ s. is_of p s && is_visible g s) ss) ≡ c ∷ cs → is_system p ≡ false
+first_open p g t ss all c cs e = go (is_system p) refl
+  where
+    go : (b : Bool) → is_system p ≡ b → b ≡ false
+    go true sys = let empty : [] ≡ c ∷ cs = sym (ap (filter (λ (s : Stored Clause). not (t s.clause))) (none_seen p sys g ss all)) ∙ e in absurd (cc)
+    go false sys = refl

@@ -4,5 +4,6 @@ pub mod Rows
 pub mod Adding
 pub mod Heads
 pub mod Flags
+pub mod Found
 pub mod Operators
 pub mod Listing

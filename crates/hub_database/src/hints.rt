@@ -1,4 +1,5 @@
-//! Where the procedures of calls stand, by the atoms of their names: a hint, which is looked at before it is used.
+//! Where the procedures of goals stand, by the atoms of their names: a hint, which is looked at before it is used.
+use crate::predicates::OpenPredicate;
 use pl_model::shows::Proc;
 use std::alloc::Global;
 use std::collections::BTreeMap;
@@ -11,14 +12,14 @@ struct Called {
     arity: u64,
 }
 
-/// At which index a procedure stood that was called, and its predicate in texts, unless a call has taken that.
+/// At which index a procedure stood that was looked for, and its predicate in texts, unless a visit has taken that.
 #[derive(Drop)]
 struct Noted {
     place: u64,
-    predicate: Option<Proc>,
+    predicate: Option<OpenPredicate>,
 }
 
-/// The procedures that were called. An atom may have been given to another text since: who uses a hint sees by the clause that
+/// The procedures that were looked for. An atom may have been given to another text since: who uses a hint sees by the clause that
 /// is found there, or by the text, whether it holds.
 #[derive(Drop)]
 pub struct Hints {
@@ -41,17 +42,28 @@ impl Hints {
         }
     }
 
-    /// Takes the predicate in texts, where it is noted.
-    pub(crate) fn take(&mut self, p: &Procedure) -> Option<Proc> {
-        match self.noted.get_mut(&numbered(p)) {
-            Some(noted) => noted.predicate.take(),
+    /// The predicate in texts, where it is noted.
+    pub(crate) fn noted(&self, p: &Procedure) -> Option<&OpenPredicate> {
+        match self.noted.get(&numbered(p)) {
+            Some(noted) => noted.predicate.as_ref(),
             None => None,
         }
     }
 
-    /// Notes at which index the procedure stands, and its predicate in texts. Where there is no memory nothing is noted; a
-    /// procedure that was noted takes none.
+    /// Takes the predicate in texts, where it is noted.
+    pub(crate) fn take(&mut self, p: &Procedure) -> Option<Proc> {
+        match self.noted.get_mut(&numbered(p)) {
+            Some(noted) => by_itself(noted.predicate.take()),
+            None => None,
+        }
+    }
+
+    /// Notes at which index the procedure stands, and its predicate in texts, unless it is one of the system. Where there is no
+    /// memory nothing is noted; a procedure that was noted takes none.
     pub(crate) fn note(&mut self, p: &Procedure, place: u64, predicate: Proc) {
+        let Some(predicate) = OpenPredicate::of(predicate) else {
+            return;
+        };
         let noted = Noted {
             place,
             predicate: Some(predicate),
@@ -68,5 +80,13 @@ fn numbered(p: &Procedure) -> Called {
     Called {
         slot: p.name.slot(),
         arity: p.arity,
+    }
+}
+
+// The predicate by itself.
+fn by_itself(noted: Option<OpenPredicate>) -> Option<Proc> {
+    match noted {
+        Some(noted) => Some(noted.into_predicate()),
+        None => None,
     }
 }

@@ -76,8 +76,12 @@ fn reads<A: Atoms>(atoms: &mut A, a: Atom, text: &Text) -> bool
     is_text(text, &buf)
 }
 
-// Whether this is the predicate in texts, by what the engine holds. It takes no memory.
-fn is_spelled<K: NamesTable>(atoms: &mut TableAtoms<K>, p: &Procedure, spelled: &Proc) -> bool
+/// Whether this is the predicate in texts, by what the engine holds. It takes no memory.
+pub(crate) fn is_spelled<K: NamesTable>(
+    atoms: &mut TableAtoms<K>,
+    p: &Procedure,
+    spelled: &Proc,
+) -> bool
     requires { IsSome (names (seen atoms.old.seat) p.now.name) }
     ensures spelled { result ≡ true → proc_of spelled.now ≡ proc_named (text_of (names (seen atoms.old.seat))) p.now }
     ensures held { names (seen atoms.new.seat) ≡ names (seen atoms.old.seat) }

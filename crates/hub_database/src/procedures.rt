@@ -2,7 +2,7 @@
 ghost use Rattle.std.specs.Prelude.{◌≡◌, ◌≢◌, ◌≤◌, ◌<◌, ◌^◌, ◌∷◌, [], ℕ, IsSome, IfSome, length, map, take, false, true};
 ghost use Rattle.std.specs.Option.{MatchOption, option_map_or};
 ghost use Rattle.std.specs.List.{All, list_any, slice_get};
-ghost use Rattle.pl_term.specs.Tree.{Chars, Tree};
+ghost use Rattle.pl_term.specs.Tree.{Tree};
 ghost use Rattle.pl_model.specs.Database as database;
 ghost use Rattle.pl_model.specs.History as entries;
 ghost use Rattle.pl_model.specs.Predicates.{proc_of as predicate_of};
@@ -24,6 +24,8 @@ ghost use Rattle.hub_database.specs.Database.{CanOpen, HasHistory, IsDatabase, I
 ghost use Rattle.hub_database.specs.Rows.{Decides, IsQuiet, IsReplyOrMade, IsSteady, Updates, generation_after, history_after};
 
 use crate::calling::{is_known, is_static};
+use crate::finding::{note, noted_text, opened};
+use crate::hints::Hints;
 use crate::looking::first_of;
 use crate::naming::{predicate_text, predicate_texts};
 use crate::refusals::{refusal, static_error, worn_error};
@@ -81,6 +83,7 @@ pub fn abolish_procedure<K: NamesTable>(
 pub fn clear_clauses<K: NamesTable>(
     alloc: Global,
     db: &mut Db<CountedTerm>,
+    hints: &mut Hints,
     atoms: &mut TableAtoms<K>,
     keeper: &mut Option<Keeper>,
     procedure: &Procedure,
@@ -109,14 +112,57 @@ pub fn clear_clauses<K: NamesTable>(
         → predicate_of (said (names (seen atoms.old.seat)) t) ≡ proc_named (text_of (names (seen atoms.old.seat))) procedure.now → clause_key t ≡ first.now
         → Decides goals e (text_of (names (seen atoms.new.seat))) (requests.cleared_clauses (said (names (seen atoms.old.seat)) t)) h (entries.set_dynamic (proc_named (text_of (names (seen atoms.old.seat))) procedure.now ∷ [])) (keeper_view keeper.new) db.new result }
 {
-    let Ok(p) = predicate_text(alloc, atoms, procedure) else {
+    match opened(db, hints, atoms, keeper, procedure, first, generation) {
+        Some(row) => row,
+        None => clear_by_text(
+            alloc, db, hints, atoms, keeper, procedure, first, generation,
+        ),
+    }
+}
+
+// The same, where the procedure is found by its text. It is noted where it stands.
+fn clear_by_text<K: NamesTable>(
+    alloc: Global,
+    db: &mut Db<CountedTerm>,
+    hints: &mut Hints,
+    atoms: &mut TableAtoms<K>,
+    keeper: &mut Option<Keeper>,
+    procedure: &Procedure,
+    first: &ArgumentKey,
+    generation: u64,
+) -> Row
+    requires keeper { KeeperAt K.atoms K.size keeper.old }
+    requires counts { Counts (clause_counts db.old) (keeper_view keeper.old) generation }
+    requires upto { IsUpTo generation db.old }
+    requires has { HasHistory (keeper_view keeper.old) db.old generation }
+    requires name { IsSome (names (seen atoms.old.seat) procedure.now.name) }
+    requires key { All (λ a. IsSome (names (seen atoms.old.seat) a)) (key_atoms first.now) }
+    ensures keeper { KeeperAt K.atoms K.size keeper.new }
+    ensures steady { IsSteady (keeper_view keeper.old) (keeper_view keeper.new) }
+    ensures weighs { (a : ℕ) → clause_counts db.new a ≡ clause_counts db.old a }
+    ensures upto { IsUpTo (generation_after result generation) db.new }
+    ensures floor { db.new.floor ≡ db.old.floor }
+    ensures quiet { IsQuiet (seen atoms.old.seat) (seen atoms.new.seat) }
+    ensures named { All (λ a. IsSome (names (seen atoms.new.seat) a)) (row_names result) }
+    ensures unrefused { row_refusals result ≡ [] }
+    ensures replies { IsReplyOrMade result }
+    ensures early { generation_after result generation ≢ generation → generation < 2 ^ 47 }
+    ensures database { (goals e : ℕ) (h : entries.History) → length h ≡ generation → IsDatabase (keeper_view keeper.old) db.old goals h
+        → IsDatabase (keeper_view keeper.new) db.new goals (history_after e result (entries.set_dynamic (proc_named (text_of (names (seen atoms.old.seat))) procedure.now ∷ [])) h) }
+    ensures says { (goals e : ℕ) (h : entries.History) (t : Tree) → length h ≡ generation → IsDatabase (keeper_view keeper.old) db.old goals h
+        → predicate_of (said (names (seen atoms.old.seat)) t) ≡ proc_named (text_of (names (seen atoms.old.seat))) procedure.now → clause_key t ≡ first.now
+        → Decides goals e (text_of (names (seen atoms.new.seat))) (requests.cleared_clauses (said (names (seen atoms.old.seat)) t)) h (entries.set_dynamic (proc_named (text_of (names (seen atoms.old.seat))) procedure.now ∷ [])) (keeper_view keeper.new) db.new result }
+{
+    let Ok(p) = noted_text(alloc, hints, atoms, procedure) else {
         return Row::Memory;
     };
     if is_static(db, &p, generation) {
         return refusal(static_error(alloc, procedure));
     }
     if is_known(db, &p, generation) {
-        return first_of(db, atoms, keeper, &p, first, generation);
+        let row = first_of(db, atoms, keeper, &p, first, generation);
+        note(db, hints, procedure, p);
+        return row;
     }
     open_procedures(alloc, db, &[p], Reply::Clauses(None), generation)
 }

@@ -76,6 +76,7 @@ impl<K: Naming> Shared<K> {
         let row = hub_database::inspect_clauses(
             alloc,
             &self.db,
+            &mut self.hints,
             atoms,
             &mut self.keeper,
             &procedure,
@@ -106,6 +107,7 @@ impl<K: Naming> Shared<K> {
         let row = hub_database::retract_clauses(
             alloc,
             &self.db,
+            &mut self.hints,
             atoms,
             &mut self.keeper,
             &procedure,
@@ -156,6 +158,7 @@ impl<K: Naming> Shared<K> {
         let row = hub_database::clear_clauses(
             alloc,
             &mut self.db,
+            &mut self.hints,
             atoms,
             &mut self.keeper,
             &procedure,

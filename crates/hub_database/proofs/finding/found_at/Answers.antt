@@ -1,15 +1,9 @@
 use Rattle.std.proofs.Common.{◌≡◌, ℕ, Option, Some, refl, sym, ap, subst, ◌∙◌}
-use Rattle.std.specs.Prelude.{is_some, true}
 use Rattle.std.proofs.lemmas.Result.{IfOk-weaker}
 use Rattle.pl_term.specs.Tree.{Chars, Tree}
 use Rattle.pl_model.specs.History.{Clause, head_part}
-use Rattle.pl_model.specs.Database.{choices}
 use Rattle.pl_model.specs.FirstArguments.{are_apart, head_of}
 use Rattle.pl_model.specs.Predicates.{is_excluded, proc_of as predicate_of}
-use Rattle.pl_model.specs.Requests.{call_clauses}
-use Rattle.pl_model.specs.laws.Shown.{proc_of}
-use Rattle.clause_db.specs.Parts.{Piece}
-use Rattle.clause_db.specs.Stands.{first_named, program_access}
 use Rattle.term_store.specs.ArgumentKeys.{clause_key, is_any, key_order}
 use Rattle.term_store.specs.NumberedNames.{term_by}
 use Rattle.atom_api.specs.Names.{Names}
@@ -24,12 +18,12 @@ use Rattle.counted_terms.specs.Keeping.{keeper_view, kept}
 use Rattle.counted_terms.proofs.Saying.{fixed_named, keeper_fixed}
 use Rattle.hub_database.specs.Clauses.{clause_by}
 use Rattle.hub_database.specs.Database.{databases}
-use Rattle.hub_database.specs.Rows.{HandsOut, Tells}
+use Rattle.hub_database.specs.Rows.{HandsOut}
 use Rattle.hub_database.proofs.Deciding.{quiet_by, quiet_then, steady_by}
 use Rattle.hub_database.proofs.Fronts.{each_weaker, found_counted, head_same}
-use Rattle.hub_database.proofs.HintedCalls.{agreed_said, at_part, handed_out, hinted_tells, named_same, steady_then}
+use Rattle.hub_database.proofs.HintedCalls.{agreed_said, found_is, handed_out, named_same, steady_then}
 use Rattle.hub_database.proofs.Readings.{all_counted}
-use Rattle.hub_database.proofs.calling.called_at.Goals as goal
+use Rattle.hub_database.proofs.finding.found_at.Goals as goal
 
 pub returns-in_default-clause-steady : goal.returns-in_default-clause-steady
 returns-in_default-clause-steady g c = steady_by (keeper_view c.args.keeper.now) (keeper_view c.agree.new.keeper) c.agree.ensures.keeps c.agree.ensures.counts
@@ -61,7 +55,7 @@ returns-clause-quiet g c =
     (record { holds = c.hand_out.ensures.holds; refusals = c.hand_out.ensures.refusals; requests = c.hand_out.ensures.requests })
 
 pub returns-clause-says : goal.returns-clause-says
-returns-clause-says g c = λ goals e h t at is own key.
+returns-clause-says g c = λ goals h t at is own key.
     let s = c.args.atoms.now in
     let v : Names = names (seen s.seat) in
     let k = keeper_view c.args.keeper.now in
@@ -80,14 +74,9 @@ returns-clause-says g c = λ goals e h t at is own key.
     ∙ named_same v agreed.map c.args.procedure.now agreed.held c.requires.name in
     let each = each_weaker (λ u. IsCounted u k) (λ u. are_apart key_order is_any c.args.first.now (clause_key u) ≡ is_excluded goal_head (clause_by k u).head)
     (λ u counted. agreed.excluded c.args.first.now t key c.requires.key u counted ∙ ap (is_excluded goal_head) (sym (head_same (said (kept k) u)))) c.args.db.now all in
-    at_part c.args.db.now.parts c.args.i (c.stands_at.ensures.within c.if-not-stands_at.false)
-    (λ (x : Piece Tree). is_some (program_access (databases goals h c.args.generation) (proc_of x.name)) ≡ true)
-    (λ (x : Piece Tree). Some (place, clause_by k u, more) ≡ first_named (choices (λ (x : Clause). is_excluded goal_head x.head) c.args.generation (proc_of x.name) (databases goals h c.args.generation)))
-    (Tells goals e text (call_clauses (said v t)) h c.handed.result)
-    (c.stands_at.ensures.there c.if-not-stands_at.false (clause_by k) (databases goals h) is.says)
-    (c.in-Some.ensures.says (clause_by k) (databases goals h) (λ (x : Clause). is_excluded goal_head x.head) is.says each)
-    (λ (x : Piece Tree). hinted_tells goals e h k c.args.db.now c.args.generation at is (said v t) (proc_named (text_of v) c.args.procedure.now) own text c.handed.result place u more head_own
+    found_is goals h k c.args.db.now c.args.generation is goal_head (proc_named (text_of v) c.args.procedure.now) text c.handed.result place u more head_own
     (λ cs found. subst (HandsOut (λ f. IsFront term_by text f cs)) (sym c.handed.ensures.row)
     (handed_out c.hand_out.result (λ f. IsFront term_by text f cs)
     (IfOk-weaker c.hand_out.result _ (λ (f : Option (Found Tree)). IsFront term_by text f cs) (λ r front. front cs (ap (λ (m : Names). Some (place, clause_in (said m u), more)) c.agree.ensures.keeps ∙ found)) c.hand_out.ensures.front)))
-    (proc_of x.name))
+    c.args.i c.requires.there
+    (c.in-Some.ensures.says (clause_by k) (databases goals h) (λ (x : Clause). is_excluded goal_head x.head) is.says each)

@@ -3,7 +3,7 @@ use Rattle.std.specs.Prelude.{is_some}
 use Rattle.std.specs.List.{slice_get}
 use Rattle.hub_database.proofs.ErasedClauses.{known_mapped}
 use Rattle.hub_database.proofs.Fronts.{some_weaker}
-use Rattle.hub_database.proofs.calling.stands_at.Goals as goal
+use Rattle.hub_database.proofs.finding.stands_at.Goals as goal
 
 pub returns-clause-there : goal.returns-clause-there
 returns-clause-there c = λ yes f d s.

@@ -6,7 +6,7 @@ use Rattle.world_api.specs.Texts.{text_of}
 use Rattle.world_api.specs.Visits.{proc_named}
 use Rattle.world_api.specs.declared.visit.Procedure.{Procedure}
 use Rattle.counted_terms.specs.CountedTerms.{said}
-use Rattle.hub_database.proofs.calling.is_of.Goals as goal
+use Rattle.hub_database.proofs.finding.is_of.Goals as goal
 
 pub returns-in-Some : goal.returns-in-Some
 returns-in-Some c = λ same m lawful.
