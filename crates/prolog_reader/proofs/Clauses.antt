@@ -51,12 +51,12 @@ module _ (text : List ℕ) (ops : Lookup) (quotes : Quotes) (at start : ℕ) whe
 
   pub clause-read : (r : Reader) (next : ℕ) (t : Tree) → IsRead text ops quotes at r → Some next ≡ clause_end r.ahead
       → nodes t ≡ spelled r.pieces.items
-      → item (clause_whole text ops quotes at start) ≡ clause t (pairs r.names.list.items) start next
+      → item (clause_whole text ops quotes at start) ≡ clause t (pairs r.names.list) start next
   clause-read r next t read is_end spells =
       let token = end-token r.ahead next is_end in
       let term : tree (spelled r.pieces.items) ≡ t = ap tree (sym spells) ∙ tree-nodes t in
       ap item (read-end r read (Ok (Token EndToken token.0 next)) token.1)
-      ∙ ap (λ (u : Tree). clause u (pairs r.names.list.items) start next) term
+      ∙ ap (λ (u : Tree). clause u (pairs r.names.list) start next) term
 
   -- A stop before the end of a clause's term.
   pub clause-stop : (e : ReadError) → Stops (whole text ops quotes 1200 (start_at at)) e → Stops (clause_whole text ops quotes at start) e

@@ -10,3 +10,4 @@ pub mod Joins
 pub mod Ends
 pub mod ListElements
 pub mod Clauses
+pub mod ByHash

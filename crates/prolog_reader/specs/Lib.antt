@@ -4,3 +4,4 @@ pub mod Pieces
 pub mod Operations
 pub mod Stack
 pub mod Items
+pub mod ByHash

@@ -1,16 +1,13 @@
 -- The variables that the reader has numbered, as the grammar has them.
-use Rattle.std.specs.Prelude.{◌≡◌, ℕ, List, map}
+use Rattle.std.specs.Prelude.{◌≡◌, ℕ}
 use Rattle.pl_term.specs.Tree.{Chars, var}
 use Rattle.pl_model.specs.Grammar.{Reading, variable, variable_named}
-use Rattle.prolog_reader.specs.declared.names.NamedVariable.{NamedVariable}
+pub use Rattle.prolog_reader.specs.ByHash.{pairs}
 use Rattle.prolog_reader.specs.declared.names.Numbered.{Numbered}
-
-abbrev pub pairs : List NamedVariable → List (Chars × ℕ)
-pairs ns = map (λ n. (n.name, n.variable)) ns
 
 -- How far reading has come, at a place.
 abbrev pub reading_at : Numbered → ℕ → Reading
-reading_at names at = record { at = at; names = pairs names.list.items; next = names.next }
+reading_at names at = record { at = at; names = pairs names.list; next = names.next }
 
 -- The variable with this name has this number, and the names change by it as the grammar says.
 abbrev pub Numbers : Numbered → Numbered → Chars → ℕ → Type 0

@@ -4,6 +4,7 @@
 mod ahead;
 mod lists;
 mod marks;
+mod named;
 mod names;
 mod operations;
 mod pieces;

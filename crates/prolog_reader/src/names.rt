@@ -1,8 +1,8 @@
 //! The variables of a clause: their names and numbers.
 ghost use Rattle.std.specs.Prelude.{◌≡◌, [], ◌+◌, ◌<◌, ◌≤◌, ◌^◌, IfOk};
-ghost use Rattle.pl_model.specs.Grammar.{number_of};
 ghost use Rattle.prolog_reader.specs.Names.{pairs, Numbers};
 
+use crate::named::NamedVariables;
 use pl_term::{Memory, Text};
 use std::alloc::Global;
 
@@ -16,18 +16,18 @@ pub struct NamedVariable {
 /// The variables of a clause so far: the named ones in order of first occurrence, and the next new number.
 #[derive(Debug, Drop)]
 pub struct Numbered {
-    pub list: Vec<NamedVariable>,
+    pub list: NamedVariables,
     pub next: u64,
 }
 
 impl Numbered {
     /// No variables.
     pub fn new(alloc: Global) -> Numbered
-        ensures list { result.list.items ≡ [] }
+        ensures list { result.list ≡ [] }
         ensures next { result.next ≡ 0 }
     {
         Numbered {
-            list: Vec::new(alloc),
+            list: NamedVariables::new(alloc),
             next: 0,
         }
     }
@@ -44,7 +44,7 @@ impl Numbered {
             self.next = next + 1;
             return Ok(next);
         }
-        if let Some(number) = number_of(&self.list, &name) {
+        if let Some(number) = self.list.number_of(&name) {
             return Ok(number);
         }
         self.list.push(NamedVariable {
@@ -54,16 +54,4 @@ impl Numbered {
         self.next = next + 1;
         Ok(next)
     }
-}
-
-/// The number of the variable with this name.
-fn number_of(names: &[NamedVariable], name: &Text) -> Option<u64>
-    ensures { result ≡ number_of (pairs names.now) name.now }
-{
-    for named in names {
-        if named.name.same(name) {
-            return Some(named.variable);
-        }
-    }
-    None
 }

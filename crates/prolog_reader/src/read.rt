@@ -102,7 +102,7 @@ fn read_clause(
     let term = Flat::from_nodes(into_nodes(alloc, pieces)?);
     Ok(Read::Clause {
         term,
-        names: list,
+        names: list.into_list(),
         start,
         next,
     })

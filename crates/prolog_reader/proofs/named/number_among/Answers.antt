@@ -1,6 +1,6 @@
 use Rattle.std.proofs.Common.{◌∙◌, sym, refl}
 use Rattle.prolog_reader.proofs.NameTexts.{number_of-found, number_of-other}
-use Rattle.prolog_reader.proofs.names.number_of.Goals as goal
+use Rattle.prolog_reader.proofs.named.number_among.Goals as goal
 
 pub returns-then-same : goal.returns-then-same
 returns-then-same c =
