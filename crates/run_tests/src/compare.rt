@@ -45,7 +45,9 @@ fn gives(outcome: &Outcome, wanted: &[u8], status: u8) -> bool {
 
 /// Whether a run made the visits and the report that a row says, where it says so.
 fn reports(outcome: &Outcome, row: &Row) -> bool {
-    is_as_said(row.visits, outcome.visits) && has_engines(row.engines, outcome.engines)
+    is_as_said(row.visits, outcome.visits)
+        && has_engines(row.engines, outcome.engines)
+        && outcome.have_met
 }
 
 /// Whether two numbers are those that a row says, where it says so.
@@ -86,6 +88,9 @@ fn show_outcome<R: Print>(rt: &R, outcome: &Outcome) -> io::Result<()> {
     put_pair(rt, ", visits", outcome.visits)?;
     if let Some(engines) = outcome.engines {
         put_number(rt, ", engines ", engines)?;
+    }
+    if !outcome.have_met {
+        put(rt, ", no meeting")?;
     }
     put(rt, " and\n")?;
     io::writer(rt).write_all(outcome.out.bytes())?;

@@ -4,6 +4,7 @@
 
 mod compare;
 mod counting;
+mod meeting;
 mod output;
 mod row;
 mod runs;

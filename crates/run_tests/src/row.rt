@@ -26,6 +26,8 @@ pub struct Row<'a> {
     pub visits: Option<(u64, u64)>,
     /// The engines that the report has.
     pub engines: Option<u64>,
+    /// Whether engines 2 and 3 are to meet at the gate.
+    pub meets: bool,
     /// What is written.
     pub wanted: String,
     /// The exit status, which the last line of a row has.
@@ -48,6 +50,7 @@ impl<'a> Row<'a> {
             failing_writes: None,
             visits: None,
             engines: None,
+            meets: false,
             wanted: String::new(alloc),
             status: None,
             has_begun: false,
@@ -119,6 +122,10 @@ impl<'a> Row<'a> {
             "file-as-before" => {
                 self.file = self.last_file.take();
                 self.file.is_some()
+            }
+            "engines-meet" => {
+                self.meets = true;
+                true
             }
             "words:" => {
                 self.words = rest;

@@ -23,6 +23,8 @@ pub struct Outcome {
     pub visits: (u64, u64),
     /// The engines that the report has, where it has any.
     pub engines: Option<u64>,
+    /// Whether the engines that are to meet at the gate have done so.
+    pub have_met: bool,
 }
 
 /// The words of a row's command: those between blanks, where `""` stands for an empty one, and the goals.
@@ -89,23 +91,25 @@ pub fn outcome_of<R: Threads + Wait + Sync>(
     let out = sink_of(alloc, most, failing)?;
     let words = words_of(alloc, row)?;
     let files = files_of(alloc, row)?;
-    Ok(outcome_over(rt, alloc, words.as_slice(), files, out))
+    let gate = Counting::new(row.meets);
+    Ok(outcome_over(rt, alloc, words.as_slice(), files, out, &gate))
 }
 
-/// Runs the command with these words over these files and this sink.
+/// Runs the command with these words over these files, this sink and this gate.
 fn outcome_over<R: Threads + Wait + Sync>(
     rt: &R,
     alloc: Global,
     words: &[Text],
     mut files: MemoryFiles,
     mut out: MemorySink,
+    gate: &Counting,
 ) -> Outcome {
-    let gate = Counting::new();
-    let report = run(rt, alloc, words, &mut files, &mut out, &gate);
+    let report = run(rt, alloc, words, &mut files, &mut out, gate);
     Outcome {
         status: report.status,
         visits: gate.counts(),
         engines: engines_of(&report),
+        have_met: gate.have_met(),
         out,
     }
 }
