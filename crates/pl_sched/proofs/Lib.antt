@@ -9,3 +9,4 @@ pub mod Running
 pub mod Starting
 pub mod TurnLaws
 pub mod WritingLaws
+pub mod Again

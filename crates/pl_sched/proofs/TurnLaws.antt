@@ -123,6 +123,20 @@ module _ {S : Type 0} (execution : (ℕ → Chars) → S → Job → List Consul
       (has_gone table goals e k m n w v old new (subst (λ (z : FrontState). IsOwn table e z) (sym was) own) (subst (λ (z : FrontState). IsOwn table k z) is back)
       (subst (λ (z : FrontState). UnderWay m (told_of goals z) old) (sym was) way) r a b c d h)
 
+  -- the same by other names of what is held before and after
+  pub has_gone_from : (table : TableId) (goals e k : ℕ) (l m n o : Names) (f w v g : FrontState) (old new : Runner S) → m ≡ l → o ≡ n → w ≡ f → g ≡ v → IsOwn table e f → IsOwn table k g
+      → UnderWay l (told_of goals f) old
+      → (r : Turned)
+      → UnlessMemory r (Gone m (told_of goals w) old n (told_of goals v) new r)
+      → UnlessMemory r (Ready n (told_of goals v) new)
+      → UnlessMemory r (is_over new.stage ≡ ends_by r)
+      → UnlessMemory r (IsLater (told_of goals w) (told_of goals v))
+      → IfErr r (IsNameHeld n)
+      → UnlessMemory r (HasGone execution part plays kept name variables done names p table goals e o g new r)
+  has_gone_from table goals e k l m n o f w v g old new first last was is own back way r a b c d h =
+      subst (λ (z : Names). UnlessMemory r (HasGone execution part plays kept name variables done names p table goals e z g new r)) (sym last)
+      (has_gone_so table goals e k m n f w v g old new was is own back (subst (λ (z : Names). UnderWay z (told_of goals f) old) (sym first) way) r a b c d h)
+
   -- AN ENGINE THAT HAS NOT ENDED leaves its home so
   pub leaves : (table : TableId) (goals e : ℕ) (k : Mark) (m : Names) (f : FrontState) (x : Runner S) → is_ended k ≡ false → IsAtHome Stands Ready moves p over table goals e k m f x
       → IsOwn table e f × UnderWay m (told_of goals f) x × (is_over x.stage ≡ false)

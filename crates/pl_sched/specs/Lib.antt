@@ -5,3 +5,4 @@ pub mod Programs
 pub mod Runs
 pub mod Terms
 pub mod Written
+pub mod Answering

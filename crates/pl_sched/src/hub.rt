@@ -273,6 +273,9 @@ impl<'a, E: Writes + Drop, K: Command> Hub<'a, E, K> {
         requires history { history.now ≡ K.history }
         ensures same { self.new.seen ≡ self.old.seen }
     {
+        if some_wait(self.homes.as_slice()) {
+            return self.one_at_home();
+        }
         match self.newcomer(history) {
             Lend::Nobody => self.one_at_home(),
             lent => lent,
@@ -302,9 +305,12 @@ impl<'a, E: Writes + Drop, K: Command> Hub<'a, E, K> {
         if let Some(home) = take_returning(&mut self.homes, generation, word) {
             return Lend::Out(home);
         }
+        if some_wait(self.homes.as_slice()) {
+            return nobody(self.away, true);
+        }
         match take_ready(&mut self.homes, generation, word) {
             Some(home) => Lend::Out(home),
-            None => nobody(self.away, some_wait(self.homes.as_slice())),
+            None => nobody(self.away, false),
         }
     }
 

@@ -13,6 +13,7 @@ ghost use Rattle.pl_sched.specs.Written.{WritesSo};
 use crate::ends::{end, end_or_wait, end_without_atoms};
 use crate::ground::Ground;
 use crate::home::{Home, Parts, has_ended};
+use crate::known::KnownAtoms;
 use crate::mark::Mark;
 use crate::naming::Command;
 use crate::records::{told_pass, worn};
@@ -96,7 +97,7 @@ fn go_on<'a, 't, S: Living + Script<Term = Stored> + Drop, K: Command, R: Wait, 
     requires writes { WritesSo K.program K.file K.board number (record { lines = engine.lines; file = S.name engine.script; word = S.word engine.script }) }
 {
     let mut engine = engine;
-    let mut atoms = atoms;
+    let mut known = KnownAtoms::new(ground.alloc, ground.history, atoms);
     let mut world = HubWorld::new(
         ground.runtime,
         ground.alloc,
@@ -108,7 +109,7 @@ fn go_on<'a, 't, S: Living + Script<Term = Stored> + Drop, K: Command, R: Wait, 
         number,
     );
     let moves = engine.move_count();
-    let turned = engine.turn(&mut world, &mut atoms, inferences);
+    let turned = engine.turn(&mut world, &mut known, inferences);
     let earlier = if engine.move_count() == moves {
         earlier
     } else {
@@ -117,7 +118,7 @@ fn go_on<'a, 't, S: Living + Script<Term = Stored> + Drop, K: Command, R: Wait, 
     settle(
         ground,
         engine,
-        atoms,
+        known.into_atoms(),
         world.into_front(),
         number,
         turned,

@@ -1,12 +1,26 @@
 //! The shared state as the engine of a worker sees it.
-ghost use Rattle.std.specs.Prelude.{◌≡◌, ℕ};
+ghost use Rattle.std.specs.Prelude.{◌≡◌, ℕ, IfNone, IfSome, IsSome, None};
+ghost use Rattle.std.specs.List.{All};
+ghost use Rattle.atom_words.specs.Seats.{seen};
+ghost use Rattle.atom_table.specs.Naming.{names};
+ghost use Rattle.term_store.specs.ArgumentKeys.{clause_key, key_atoms};
+ghost use Rattle.term_store.specs.NumberedNames.{names_of, term_by};
+ghost use Rattle.world_api.specs.Answers.{CanVisit};
+ghost use Rattle.world_api.specs.Texts.{text_of};
+ghost use Rattle.world_api.specs.Visits.{visit_names};
+ghost use Rattle.world_api.specs.declared.answer.Answer.TheVariants.{Served};
+ghost use Rattle.world_api.specs.declared.reply.Reply.TheVariants.{Clauses};
+ghost use Rattle.kept_answers.specs.Answered.{IsKept, visit_for};
+ghost use Rattle.pl_sched.specs.Answering.{IsAnswered};
 ghost use Rattle.pl_hub.specs.Fronts.{IsOwn, told_of};
 ghost use Rattle.pl_sched.specs.Ledger.{IsBegun};
 
 use crate::hub::Hub;
+use crate::known::KnownAtoms;
 use crate::naming::Command;
 use crate::writing::Writes;
 use atom_table::TableAtoms;
+use kept_answers::{After, Asked};
 use pl_history::{Front, History};
 use pl_hub::counted;
 use pl_io::Gate;
@@ -15,7 +29,7 @@ use std::alloc::Global;
 use std::marker::Model;
 use std::sync::{Mutex, Wait};
 use term_store::{ArgumentKey, Stored};
-use world_api::{Answer, Visit, World};
+use world_api::{Answer, Found, Reply, Visit, World};
 
 /// The shared state as an engine that this worker carries sees it: its front, and before each visit the gate, and the lock,
 /// before which the visit is made ready. Contracts see it as what the front knows.
@@ -103,7 +117,7 @@ impl<'a, 't, E: Writes + Drop, K: Command, R: Wait, G: Gate> World
     ghost use Rattle.world_api.specs.Asked.{IsInAnswer};
     ghost use Rattle.world_api.specs.Gains.{Gains};
 
-    type A = TableAtoms<'t, K>;
+    type A = KnownAtoms<'t, K>;
 
     type Term = Stored;
 
@@ -112,21 +126,68 @@ impl<'a, 't, E: Writes + Drop, K: Command, R: Wait, G: Gate> World
     fn visit(
         &mut self,
         visit: Visit<Stored, ArgumentKey>,
-        atoms: &mut TableAtoms<'t, K>,
+        atoms: &mut KnownAtoms<'t, K>,
     ) -> Answer<Stored>
         requires runs { has_ended (told_of K.goals self.old).engine (told_of K.goals self.old).history ≡ false }
-        requires held { All (λ a. IsSome (names (seen atoms.old.seat) a)) (visit_names names_of key_atoms visit) }
-        requires next { CanVisit term_by clause_key (text_of (names (seen atoms.old.seat))) visit (told_of K.goals self.old) }
-        ensures visited { (before : Entries) × Visited term_by clause_key (text_of (names (seen atoms.old.seat))) (text_of (names (seen atoms.new.seat))) visit result
+        requires held { All (λ a. IsSome (names (seen atoms.old.atoms.seat) a)) (visit_names names_of key_atoms visit) }
+        requires next { CanVisit term_by clause_key (text_of (names (seen atoms.old.atoms.seat))) visit (told_of K.goals self.old) }
+        ensures visited { (before : Entries) × Visited term_by clause_key (text_of (names (seen atoms.old.atoms.seat))) (text_of (names (seen atoms.new.atoms.seat))) visit result
             (told_of K.goals self.old) before (told_of K.goals self.new) }
         ensures runs { has_ended (told_of K.goals self.new).engine (told_of K.goals self.new).history ≡ false }
-        ensures names { All (λ a. IsSome (names (seen atoms.new.seat) a)) (answer_names names_of result) }
-        ensures holds { Holds (names (seen atoms.old.seat)) (names (seen atoms.new.seat)) }
-        ensures refusals { (seen atoms.new.seat).refusals ≡ (seen atoms.old.seat).refusals ++ refusals_by result }
-        ensures asked { Gains (IsInAnswer term_by clause_key (text_of (names (seen atoms.old.seat))) visit (told_of K.goals self.old))
-            (Some (requests (seen atoms.old.seat))) (Some (requests (seen atoms.new.seat))) }
+        ensures names { All (λ a. IsSome (names (seen atoms.new.atoms.seat) a)) (answer_names names_of result) }
+        ensures holds { Holds (names (seen atoms.old.atoms.seat)) (names (seen atoms.new.atoms.seat)) }
+        ensures refusals { (seen atoms.new.atoms.seat).refusals ≡ (seen atoms.old.atoms.seat).refusals ++ refusals_by result }
+        ensures asked { Gains (IsInAnswer term_by clause_key (text_of (names (seen atoms.old.atoms.seat))) visit (told_of K.goals self.old))
+            (Some (requests (seen atoms.old.atoms.seat))) (Some (requests (seen atoms.new.atoms.seat))) }
     {
         self.gate.before_visit(self.worker, self.engine);
+        match asked_by(&visit) {
+            Some(asked) => self.listed(&asked, visit, atoms),
+            None => self.locked(visit, &mut atoms.atoms),
+        }
+    }
+}
+
+// What a visit asks of a procedure, if it asks for a clause of a call or the next one of a list.
+fn asked_by(visit: &Visit<Stored, ArgumentKey>) -> Option<Asked>
+    ensures { IfSome result (λ a. visit_for a ≡ visit.now) }
+{
+    match visit {
+        Visit::Call { procedure, first } => Some(Asked {
+            procedure: *procedure,
+            first: *first,
+            after: None,
+        }),
+        Visit::Next {
+            procedure,
+            first,
+            generation,
+            place,
+        } => Some(Asked {
+            procedure: *procedure,
+            first: *first,
+            after: Some(After {
+                generation: *generation,
+                place: *place,
+            }),
+        }),
+        _ => None,
+    }
+}
+
+impl<'a, 't, E: Writes + Drop, K: Command, R: Wait, G: Gate> HubWorld<'a, 't, E, K, R, G> {
+    // The visit is answered under the lock.
+    #[cold]
+    #[inline(never)]
+    fn locked(
+        &mut self,
+        visit: Visit<Stored, ArgumentKey>,
+        atoms: &mut TableAtoms<'t, K>,
+    ) -> Answer<Stored>
+        requires held { All (λ a. IsSome (names (seen atoms.old.seat) a)) (visit_names names_of key_atoms visit) }
+        requires next { CanVisit term_by clause_key (text_of (names (seen atoms.old.seat))) visit (told_of K.goals self.old) }
+        ensures { IsAnswered K.goals (seen atoms.old.seat) (seen atoms.new.seat) visit result self.old self.new }
+    {
         match counted(self.alloc, visit) {
             Err(Memory) => Answer::Memory,
             Ok(listed) => {
@@ -141,5 +202,99 @@ impl<'a, 't, E: Writes + Drop, K: Command, R: Wait, G: Gate> World
                 )
             }
         }
+    }
+
+    // The clause is one that is kept, or is found under the lock.
+    fn listed(
+        &mut self,
+        asked: &Asked,
+        visit: Visit<Stored, ArgumentKey>,
+        atoms: &mut KnownAtoms<'t, K>,
+    ) -> Answer<Stored>
+        requires asked { visit_for asked.now ≡ visit }
+        requires held { All (λ a. IsSome (names (seen atoms.old.atoms.seat) a)) (visit_names names_of key_atoms visit) }
+        requires next { CanVisit term_by clause_key (text_of (names (seen atoms.old.atoms.seat))) visit (told_of K.goals self.old) }
+        ensures { IsAnswered K.goals (seen atoms.old.atoms.seat) (seen atoms.new.atoms.seat) visit result self.old self.new }
+    {
+        match self.again(asked, atoms) {
+            Some(answer) => answer,
+            None => self.anew(asked, visit, atoms),
+        }
+    }
+
+    // The clause is found under the lock, and kept.
+    #[cold]
+    #[inline(never)]
+    fn anew(
+        &mut self,
+        asked: &Asked,
+        visit: Visit<Stored, ArgumentKey>,
+        atoms: &mut KnownAtoms<'t, K>,
+    ) -> Answer<Stored>
+        requires asked { visit_for asked.now ≡ visit }
+        requires held { All (λ a. IsSome (names (seen atoms.old.atoms.seat) a)) (visit_names names_of key_atoms visit) }
+        requires next { CanVisit term_by clause_key (text_of (names (seen atoms.old.atoms.seat))) visit (told_of K.goals self.old) }
+        ensures { IsAnswered K.goals (seen atoms.old.atoms.seat) (seen atoms.new.atoms.seat) visit result self.old self.new }
+    {
+        let answer = self.locked(visit, &mut atoms.atoms);
+        if let Some(found) = found_in(&answer) {
+            atoms.keep(self.alloc, self.history, &mut self.front, asked, found);
+        }
+        answer
+    }
+
+    // The answer that is kept, where the history has no further entry.
+    fn again(&mut self, asked: &Asked, atoms: &mut KnownAtoms<'t, K>) -> Option<Answer<Stored>>
+        ensures some { IfSome result (λ a. IsAnswered K.goals (seen atoms.old.atoms.seat) (seen atoms.new.atoms.seat) (visit_for asked.now) a self.old self.new) }
+        ensures none { IfNone result (self.new ≡ self.old) }
+        ensures atoms { atoms.new.atoms ≡ atoms.old.atoms }
+    {
+        let found = atoms.again(self.history, &mut self.front, asked)?;
+        match &asked.after {
+            None => self.revisit(asked, found, atoms),
+            Some(after) => Some(served(found, after.generation)),
+        }
+    }
+
+    // The answer to a call that is kept, where the history has no further entry.
+    fn revisit(
+        &mut self,
+        asked: &Asked,
+        found: Option<Found<Stored>>,
+        atoms: &KnownAtoms<'t, K>,
+    ) -> Option<Answer<Stored>>
+        requires call { asked.now.after ≡ None }
+        requires kept { IsKept K.goals self.old.seen asked.now found (names (seen atoms.now.atoms.seat)) }
+        ensures some { IfSome result (λ a. IsAnswered K.goals (seen atoms.now.atoms.seat) (seen atoms.now.atoms.seat) (visit_for asked.now) a self.old self.new) }
+        ensures none { IfNone result (self.new ≡ self.old) }
+    {
+        let _atoms = atoms;
+        if !self.history.revisit(&mut self.front) {
+            return None;
+        }
+        Some(served(found, self.front.generation()))
+    }
+}
+
+// What was found, where the answer is a clause of a list or that there is none.
+fn found_in(answer: &Answer<Stored>) -> Option<&Option<Found<Stored>>>
+    ensures { IfSome result (λ f. (n : ℕ) × (answer.now ≡ Served (Clauses f.now) n)) }
+{
+    match answer {
+        Answer::Served {
+            reply: Reply::Clauses(found),
+            ..
+        } => Some(found),
+        _ => None,
+    }
+}
+
+// The answer with what was found.
+fn served(found: Option<Found<Stored>>, generation: u64) -> Answer<Stored>
+    ensures { result ≡ Served (Clauses found) generation }
+{
+    Answer::Served {
+        reply: Reply::Clauses(found),
+        generation,
     }
 }

@@ -1,5 +1,6 @@
-use Rattle.std.proofs.Common.{◌≡◌, ℕ, false, sym, subst}
+use Rattle.std.proofs.Common.{◌≡◌, ℕ, false, ap, sym, subst}
 use Rattle.atom_words.specs.Seats.{seen}
+use Rattle.atom_api.specs.Names.{Names}
 use Rattle.atom_table.specs.Naming.{names}
 use Rattle.world_api.specs.Told.{has_ended}
 use Rattle.pl_history.specs.Fronts.{FrontState}
@@ -8,7 +9,7 @@ use Rattle.engine_run.specs.Runners.{IsBetween}
 use Rattle.pl_sched.specs.Ledger.{IsBegun}
 use Rattle.pl_sched.proofs.OnlyLaws.{job_begun}
 use Rattle.pl_sched.proofs.Running.{still_runs}
-use Rattle.pl_sched.proofs.TurnLaws.{has_gone_so}
+use Rattle.pl_sched.proofs.TurnLaws.{has_gone_from}
 use Rattle.pl_sched.proofs.WritingLaws.{still}
 use Rattle.pl_sched.proofs.turns.go_on.Goals as goal
 
@@ -23,13 +24,17 @@ turn-turned-requires-clause-runs g c =
 
 pub turn-turned-requires-clause-ready : goal.turn-turned-requires-clause-ready
 turn-turned-requires-clause-ready g c =
-    subst (λ (w : FrontState). IsBetween g.S.Script.part g.S.Script.over g.S.Script.names (names (seen c.args.atoms.seat)) (told_of g.K.Naming.goals w) c.args.engine) (sym c.new-world.ensures) c.requires.way.is_ready
+    subst (λ (w : FrontState). IsBetween g.S.Script.part g.S.Script.over g.S.Script.names (names (seen c.new-known.result.atoms.seat)) (told_of g.K.Naming.goals w) c.args.engine) (sym c.new-world.ensures)
+    (subst (λ (m : Names). IsBetween g.S.Script.part g.S.Script.over g.S.Script.names m (told_of g.K.Naming.goals c.args.front) c.args.engine)
+    (sym (ap (λ a. names (seen a.seat)) c.new-known.ensures)) c.requires.way.is_ready)
 
 pub settle-requires-clause-gone : goal.settle-requires-clause-gone
 settle-requires-clause-gone g c =
     let t = c.turn-turned in
-    has_gone_so g.S.Script.execution g.S.Script.part g.S.Script.plays g.S.Script.kept g.S.Script.name g.S.Script.variables g.S.Script.over g.S.Script.names g.K.Command.program g.K.Naming.history g.K.Naming.goals c.args.number
-    c.into_front.ensures.own.0 (names (seen c.args.atoms.seat)) (names (seen t.new.atoms.seat)) c.args.front c.new-world.result t.new.world c.into_front.result c.args.engine t.new.self c.new-world.ensures c.into_front.ensures.front
+    has_gone_from g.S.Script.execution g.S.Script.part g.S.Script.plays g.S.Script.kept g.S.Script.name g.S.Script.variables g.S.Script.over g.S.Script.names g.K.Command.program g.K.Naming.history g.K.Naming.goals c.args.number
+    c.into_front.ensures.own.0 (names (seen c.args.atoms.seat)) (names (seen c.new-known.result.atoms.seat)) (names (seen t.new.atoms.atoms.seat)) (names (seen c.into_atoms.result.seat))
+    c.args.front c.new-world.result t.new.world c.into_front.result c.args.engine t.new.self
+    (ap (λ a. names (seen a.seat)) c.new-known.ensures) (ap (λ a. names (seen a.seat)) c.into_atoms.ensures) c.new-world.ensures c.into_front.ensures.front
     c.requires.own c.into_front.ensures.own.1 c.requires.way t.result t.ensures.turned t.ensures.ready t.ensures.over t.ensures.later t.ensures.alias
 
 pub settle-requires-clause-writes : goal.settle-requires-clause-writes
