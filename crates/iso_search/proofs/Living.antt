@@ -163,9 +163,9 @@ module _ (v w : View) (left : (t : Tree) (g p : ℕ) → v.left t g p ≡ w.left
 
   node_alike : (s : Contents) (ps : List Place) (ts : List Task) (used : ℕ) → CellsAlike v.names w.names s → All (λ p. All Agrees (place_atoms p)) ps
       → All (λ t. All Agrees (task_atoms t)) ts → node_at (reads v s) ts ps used ≡ node_at (reads w s) ts ps used
-  node_alike s ps ts used c places todo =
+  node_alike s ps ts used c places task_names =
       ap₂ (λ gs ts. record { goals = gs; answer = ts; used = used })
-      (map-agree (λ t. All Agrees (task_atoms t)) (pending (reads v s)) (pending (reads w s)) (λ t same. pending_alike s c t same) ts todo)
+      (map-agree (λ t. All Agrees (task_atoms t)) (pending (reads v s)) (pending (reads w s)) (λ t same. pending_alike s c t same) ts task_names)
       (map-agree (λ p. All Agrees (place_atoms p)) (reads v s) (reads w s) (λ p same. read_alike s c p same) ps places)
 
   copy_alike : (c : Copied) → All Agrees (atoms_in c.term) → copy_of v c ≡ copy_of w c
@@ -225,13 +225,13 @@ read_by v w e agree =
     let last : All A (frames ++ choices) = naming.right_all A answer (frames ++ choices) behind in
     let c = cells_alike v.names w.names e.store (naming.left_all A cells (answer ++ (frames ++ choices)) agree.names) in
     let places = naming.each_all A place_atoms e.answer.items (naming.left_all A answer (frames ++ choices) behind) in
-    let todo = naming.each_all A (λ (f : Frame). task_atoms f.task) e.frames.items (naming.left_all A frames choices last) in
+    let task_names = naming.each_all A (λ (f : Frame). task_atoms f.task) e.frames.items (naming.left_all A frames choices last) in
     let all = naming.each_all A (λ (k : ChoicePoint). alternative_atoms k.alternative) e.choices.items (naming.right_all A frames choices last) in
     record {
       choices =
-          choices_alike v w agree.left e.answer.items e.store e.frames.items (reverse e.choices.items) c places todo
+          choices_alike v w agree.left e.answer.items e.store e.frames.items (reverse e.choices.items) c places task_names
           (All-reverse (λ (k : ChoicePoint). All A (alternative_atoms k.alternative)) e.choices.items all);
       nodes = λ list.
           node_alike v w agree.left e.store e.answer.items (tasks e.frames.items list) e.store.used c places
-          (tasks_inside (λ t. All A (task_atoms t)) e.frames.items list todo);
+          (tasks_inside (λ t. All A (task_atoms t)) e.frames.items list task_names);
     }

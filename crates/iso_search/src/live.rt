@@ -42,7 +42,7 @@ impl Search {
 }
 
 /// The older one of the oldest generations of two lists.
-fn older(first: Option<u64>, second: Option<u64>) -> Option<u64>
+pub fn older(first: Option<u64>, second: Option<u64>) -> Option<u64>
     ensures { (gs hs : List ℕ) → IsLeast first gs → IsLeast second hs → IsLeast result (gs ++ hs) }
 {
     let Some(g) = first else {
