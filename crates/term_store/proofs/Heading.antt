@@ -196,6 +196,9 @@ module _ (b : Block) (block : IsBlock b) (c : Heap) (fit : Fit c) (from : ℕ) (
   right_words : left.count ≡ right.count → take left.count (drop right.start b.args.items) ≡ ws
   right_words e = ap (λ n. take n (drop right.start b.args.items)) e ∙ ap (words_of b.args.items) at_right ∙ right_open.words
 
+  pub left_some : 0 < left.count
+  left_some = subst (λ g. 0 < g.count) (sym at_left) (fit.heads l inside).some
+
   pub left_within : left.start + left.count ≤ length c.args
   left_within = subst (λ g. g.start + g.count ≤ length c.args) (sym at_left) (fit.heads l inside).within
 

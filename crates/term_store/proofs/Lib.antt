@@ -30,6 +30,7 @@ pub mod Planning
 pub mod Ranging
 pub mod Reaching
 pub mod Renumbering
+pub mod Resting
 pub mod Sizing
 pub mod Spelling
 pub mod Stacking

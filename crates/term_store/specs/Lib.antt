@@ -20,6 +20,7 @@ pub mod NameUnification
 pub mod Nodes
 pub mod NumberedNames
 pub mod Reaches
+pub mod Rests
 pub mod Sizes
 pub mod StoredTerms
 pub mod Unifying

@@ -11,22 +11,22 @@ ghost use Rattle.term_store.specs.Fit.{IsIn};
 use crate::block::{Block, block_head, block_of, block_word};
 use crate::cells::Cells;
 use crate::copies::copy_part;
-use crate::heads::meet_part;
+use crate::heads::{meet_part, next_pair};
 use crate::known::make_known;
 use crate::store::Store;
 use crate::stored::Stored;
 use crate::walk::{Pending, Walk};
-use crate::words::{Pair, Place, Word};
+use crate::words::{Pair, Place, Rest, Word};
 use atom_api::fixed;
 use pl_term::Memory;
 use std::alloc::Global;
 
-/// Room for entering a clause: what stands for each of the clause's variables that were met, and the pairs of a word of the
-/// store and one of the clause's block that are still to be made the same.
+/// Room for entering a clause: what stands for each of the clause's variables that were met, and the arguments of compound terms of
+/// the store and of the clause's block that are still to be made the same.
 #[derive(Drop)]
 pub struct Entry {
     pub known: Vec<Word>,
-    pub pairs: Vec<Pair>,
+    pub rests: Vec<Rest>,
 }
 
 impl Entry {
@@ -34,7 +34,7 @@ impl Entry {
     pub fn new(alloc: Global) -> Entry {
         Entry {
             known: Vec::new(alloc),
-            pairs: Vec::new(alloc),
+            rests: Vec::new(alloc),
         }
     }
 }
@@ -167,16 +167,13 @@ fn meet_head(
     ensures enters { IfOk result (λ r. Enters r block.now (heap_of cells.old) from pair.left pair.right (heap_of cells.new) entry.new.known.items) }
 {
     entry.known.clear();
-    entry.pairs.clear();
-    entry.pairs.push(pair)?;
+    entry.rests.clear();
+    let mut next = pair;
     for _ in 0..u64::MAX {
-        let Some(next) = entry.pairs.pop() else {
-            return Ok(true);
-        };
         if !meet_part(
             cells,
             &mut entry.known,
-            &mut entry.pairs,
+            &mut entry.rests,
             pending,
             walk,
             block,
@@ -185,6 +182,10 @@ fn meet_head(
         )? {
             return Ok(false);
         }
+        let Some(after) = next_pair(cells, &mut entry.rests, block) else {
+            return Ok(true);
+        };
+        next = after;
     }
     Err(Memory)
 }

@@ -1,11 +1,12 @@
 //! Words of a store and words of a clause's block, made the same.
-ghost use Rattle.std.specs.Prelude.{◌≡◌, ℕ, ◌+◌, ◌<◌, ◌≤◌, ◌^◌, ◌++◌, List, length, take, drop, reverse, None, IfOk, OnOk};
+ghost use Rattle.std.specs.Prelude.{◌≡◌, ℕ, ◌+◌, ◌<◌, ◌≤◌, ◌^◌, ◌++◌, ◌∷◌, [], List, length, None, IfOk, MatchOption, OnOk};
+ghost use Rattle.std.specs.List.{All};
 ghost use Rattle.term_store.specs.Blocks.{IsBlock};
 ghost use Rattle.term_store.specs.Cells.{IsFit, heap_of};
-ghost use Rattle.term_store.specs.Entering.{Extends, IsConstant, IsFacing, IsKnown, Joined, Joins, Turns, entered, value};
+ghost use Rattle.term_store.specs.Entering.{Extends, IsConstant, IsFacing, IsKnown, Joined, Joins, entered, value};
 ghost use Rattle.term_store.specs.Fit.{IsIn};
 ghost use Rattle.term_store.specs.Heap.{find, meaning};
-ghost use Rattle.term_store.specs.Unifying.{zip_words};
+ghost use Rattle.term_store.specs.Rests.{IsRest, Steps, pairs_of};
 
 use crate::bind::bind;
 use crate::block::{Block, block_head, block_word};
@@ -16,16 +17,16 @@ use crate::known::make_known;
 use crate::older::Older;
 use crate::unify::{compare_words, unify};
 use crate::walk::{Pending, Walk};
-use crate::words::{Pair, Plan, Word};
+use crate::words::{Pair, Plan, Rest, Word};
 use pl_term::Memory;
 
-/// Makes a word of the store and one of the block the same. Of two compound terms the pairs of the arguments are put on the
-/// stack, the first on top, and are still to be made the same. It answers false where nothing makes them the same. The only
+/// Makes a word of the store and one of the block the same. Of two compound terms the arguments are put on the stack, and are still
+/// to be made the same. It answers false where nothing makes them the same. The only
 /// error is out of memory, after which, as after false, some bindings may have been made.
 pub fn meet_part(
     cells: &mut Cells,
     known: &mut Vec<Word>,
-    pairs: &mut Vec<Pair>,
+    rests: &mut Vec<Rest>,
     pending: &mut Pending,
     walk: &mut Walk,
     block: &Block,
@@ -40,8 +41,8 @@ pub fn meet_part(
     requires facing { IsFacing (heap_of cells.old) block.now pair }
     ensures fit { IsFit cells.new }
     ensures extends { Extends (heap_of cells.old) (heap_of cells.new) }
-    ensures turns { IfOk result (λ r. Turns r block.now (heap_of cells.old) from known.old.items pair.left pair.right pairs.old.items
-        (heap_of cells.new) known.new.items pairs.new.items) }
+    ensures steps { IfOk result (λ r. Steps r block.now (heap_of cells.old) from known.old.items pair.left pair.right rests.old.items
+        (heap_of cells.new) known.new.items rests.new.items) }
 {
     match pair.right {
         Word::Var(x) => meet_variable(cells, known, pending, walk, from, x, pair.left),
@@ -51,7 +52,7 @@ pub fn meet_part(
             let at = deref(cells, pair.left);
             match at {
                 Word::Var(slot) => write_part(cells, known, walk, block, from, slot, k),
-                Word::Comp(l) => open_part(cells, pairs, block, l, k),
+                Word::Comp(l) => open_part(cells, rests, block, l, k),
                 _ => Ok(false),
             }
         }
@@ -169,11 +170,11 @@ fn write_part(
     Ok(true)
 }
 
-/// Puts the pairs of the arguments of a compound term of the store and of one of the block on the stack, the first on top. It
-/// answers false, and puts none, where they differ in their name or their number of arguments.
+/// Puts the arguments of a compound term of the store and of one of the block on the stack. It answers false, and puts none, where
+/// they differ in their name or their number of arguments.
 fn open_part(
     cells: &Cells,
-    pairs: &mut Vec<Pair>,
+    rests: &mut Vec<Rest>,
     block: &Block,
     l: usize,
     k: usize,
@@ -183,7 +184,7 @@ fn open_part(
     requires left { l < length cells.now.heads.items }
     requires right { k < length block.now.heads.items }
     ensures { IfOk result (λ r. (from : ℕ) (known : List Word) → IsKnown (heap_of cells.now) from known → length known ≤ block.now.variables
-        → Turns r block.now (heap_of cells.now) from known (Word.Comp l) (Word.Comp k) pairs.old.items (heap_of cells.now) known pairs.new.items) }
+        → Steps r block.now (heap_of cells.now) from known (Word.Comp l) (Word.Comp k) rests.old.items (heap_of cells.now) known rests.new.items) }
 {
     let left = head_at(cells, l);
     let right = block_head(block, k);
@@ -193,32 +194,34 @@ fn open_part(
     if left.count != right.count {
         return Ok(false);
     }
-    push_facing(cells, pairs, block, left.start, right.start, left.count)?;
+    rests.push(Rest {
+        left: left.start,
+        right: right.start,
+        count: left.count,
+    })?;
     Ok(true)
 }
 
-/// Puts the pairs of the words of the store and of the block from two places on the stack, the last ones first.
-fn push_facing(
-    cells: &Cells,
-    pairs: &mut Vec<Pair>,
-    block: &Block,
-    left: usize,
-    right: usize,
-    count: usize,
-) -> Result<(), Memory>
-    requires left { left + count ≤ length cells.now.args.items }
-    requires right { right + count ≤ length block.now.args.items }
-    ensures { OnOk result (pairs.new.items ≡ pairs.old.items
-        ++ reverse (zip_words (take count (drop left cells.now.args.items)) (take count (drop right block.now.args.items)))) }
+/// Takes the next pair of words off the stack.
+pub fn next_pair(cells: &Cells, rests: &mut Vec<Rest>, block: &Block) -> Option<Pair>
+    requires { All (IsRest (heap_of cells.now) block.now) rests.old.items }
+    ensures rests { All (IsRest (heap_of cells.now) block.now) rests.new.items }
+    ensures split { MatchOption result (pairs_of cells.now.args.items block.now.args.items rests.old.items ≡ [])
+        (λ p. pairs_of cells.now.args.items block.now.args.items rests.old.items
+        ≡ pairs_of cells.now.args.items block.now.args.items rests.new.items ++ p ∷ []) }
 {
-    pairs.reserve(count)?;
-    let mut i = count;
-    while i > 0 {
-        i -= 1;
-        pairs.push_reserved(Pair {
-            left: word_at(cells, left + i),
-            right: block_word(block, right + i),
+    let Some(rest) = rests.pop() else {
+        return None;
+    };
+    if rest.count > 1 {
+        rests.push_reserved(Rest {
+            left: rest.left + 1,
+            right: rest.right + 1,
+            count: rest.count - 1,
         });
     }
-    Ok(())
+    Some(Pair {
+        left: word_at(cells, rest.left),
+        right: block_word(block, rest.right),
+    })
 }

@@ -28,6 +28,30 @@ pub fn make_known(
     ensures more { OnOk result (length known.old.items ≤ length known.new.items) }
     ensures few { OnOk result ((n : ℕ) → count ≤ n → length known.old.items ≤ n → length known.new.items ≤ n) }
 {
+    if known.len() < count {
+        make_rest(cells, known, count, from)?;
+    }
+    Ok(())
+}
+
+/// Does what `make_known` does, where there are some to be made.
+fn make_rest(
+    cells: &mut Cells,
+    known: &mut Vec<Word>,
+    count: usize,
+    from: u64,
+) -> Result<(), Memory>
+    requires fit { IsFit cells.old }
+    requires known { IsKnown (heap_of cells.old) from known.old.items }
+    requires room { from + count < 2 ^ 64 }
+    ensures fit { IsFit cells.new }
+    ensures longer { Longer (heap_of cells.old) (heap_of cells.new) }
+    ensures known { OnOk result (IsKnown (heap_of cells.new) from known.new.items) }
+    ensures meets { OnOk result (Meets (heap_of cells.old) from known.old.items [] (heap_of cells.new) known.new.items) }
+    ensures enough { OnOk result (count ≤ length known.new.items) }
+    ensures more { OnOk result (length known.old.items ≤ length known.new.items) }
+    ensures few { OnOk result ((n : ℕ) → count ≤ n → length known.old.items ≤ n → length known.new.items ≤ n) }
+{
     while known.len() < count {
         make_next(cells, known, from)?;
     }

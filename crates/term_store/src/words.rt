@@ -31,6 +31,15 @@ pub struct Pair {
     pub right: Word,
 }
 
+/// The arguments of a compound term of a store, and of one of a clause's block, that are still to become equal: so many from a place
+/// on of either.
+#[derive(Clone, Copy, Debug, Drop)]
+pub struct Rest {
+    pub left: usize,
+    pub right: usize,
+    pub count: usize,
+}
+
 /// Two compound terms that are to become equal, by the numbers of their heads.
 #[derive(Clone, Copy, Debug, Drop)]
 pub struct Meeting {

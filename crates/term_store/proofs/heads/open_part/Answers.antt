@@ -1,5 +1,6 @@
 use Rattle.term_store.specs.Cells.{heap_of}
-use Rattle.term_store.proofs.Heading.{names_never, counts_never, part_opens}
+use Rattle.term_store.proofs.Heading.{names_never, counts_never}
+use Rattle.term_store.proofs.Resting.{part_steps}
 use Rattle.term_store.proofs.heads.open_part.Goals as goal
 
 pub returns-then-left-right : goal.returns-then-left-right
@@ -14,6 +15,6 @@ returns-then-left-right-2 c from known known_is few =
 
 pub returns : goal.returns
 returns c from known known_is few =
-    part_opens c.args.block.now c.requires.block (heap_of c.args.cells.now) c.requires.fit.fit from known c.args.l c.args.k c.requires.left c.requires.right
-    c.head_at-left.result c.block_head-right.result c.head_at-left.ensures c.block_head-right.ensures c.args.pairs.now.items c.push_facing.new.pairs.items
-    known_is few c.if-left-right.false c.if-left-right-2.false c.in_ok-push_facing.ensures
+    part_steps c.args.block.now c.requires.block (heap_of c.args.cells.now) c.requires.fit.fit from known c.args.l c.args.k c.requires.left c.requires.right
+    c.head_at-left.result c.block_head-right.result c.head_at-left.ensures c.block_head-right.ensures c.args.rests.now.items c.push.new.self.items
+    known_is few c.if-left-right.false c.if-left-right-2.false c.in_ok-push.ensures.items

@@ -2,7 +2,7 @@ use Rattle.std.proofs.Common.{◌≤◌, ◌-◌, ℕ, [], length}
 use Rattle.term_store.specs.Cells.{IsFit, heap_of}
 use Rattle.term_store.specs.Entering.{IsKnown, Meets}
 use Rattle.term_store.specs.Making.{Longer}
-use Rattle.term_store.proofs.known.make_known.Given as goal
+use Rattle.term_store.proofs.known.make_rest.Given as goal
 
 abbrev pub invariant-loop-cells : goal.invariant-loop-cells
 invariant-loop-cells l =
