@@ -40,7 +40,7 @@ use crate::fault::DbFault;
 use crate::flags::{Flag, FlagValue, Flags, first_flags, flags_with};
 use crate::index::Index;
 use crate::listing::listed;
-use crate::operators::table_with;
+use crate::operators::put_operators;
 use crate::parts::{Addition, End, ProcedureClauses, access_in, add_to, erase_in, has_live_in};
 use crate::reclaim::reclaim_at;
 use crate::search::locate;
@@ -710,11 +710,7 @@ impl<C: Kept> Db<C> {
         ensures unchanged { OnErr result (self.new ≡ self.old) }
         ensures weighs { OnOk result ((w : C → ℕ) → weight w self.new ≡ weight w self.old) }
     {
-        let changed = table_with(self.alloc, &self.operators, operators)?;
-        let Ok(shared) = Arc::new(self.alloc, changed) else {
-            return Err(OpFault::Memory);
-        };
-        self.operators = shared;
+        put_operators(self.alloc, &mut self.operators, operators)?;
         self.next = place + 1;
         Ok(())
     }

@@ -9,24 +9,15 @@ use Rattle.clause_db.proofs.Settings.{sound_set, stands_set}
 use Rattle.clause_db.specs.Weights.{weight}
 use Rattle.clause_db.proofs.db.Db.set_op.Goals as goal
 
-pub invariant_of-self : goal.invariant_of-self
-invariant_of-self g c = record {
-  sound =
-      sound_set g.C.Kept.size c.self.inside.homes c.self.inside.next c.self.inside.floor c.args.place (map piece c.self.inside.parts.items) c.self.invariant.sound
-      (subst (λ h. h.next ≤ c.args.place) (sym c.self.view_is) c.requires.later);
-  indexed = c.self.invariant.indexed;
-  housed = c.self.invariant.housed;
-}
-
 pub returns-clause-stands : goal.returns-clause-stands
 returns-clause-stands g c = λ d s.
-    subst (λ (h : Held g.row.C.Denot). StandsFor g.C.Kept.size (record h { flags = flags_as c.self.inside.flags; operators = (arc_value c.in-Ok.shared); next = c.args.place + 1 }) d) (sym c.self.view_is)
-    (stands_set g.C.Kept.size c.args.self.now d (flags_as c.self.inside.flags) (arc_value c.in-Ok.shared) c.args.place c.requires.later s)
+    subst (λ (h : Held g.row.C.Denot). StandsFor g.C.Kept.size (record h { flags = flags_as c.self.inside.flags; operators = (arc_value c.put_operators.new.table); next = c.args.place + 1 }) d) (sym c.self.view_is)
+    (stands_set g.C.Kept.size c.args.self.now d (flags_as c.self.inside.flags) (arc_value c.put_operators.new.table) c.args.place c.requires.later s)
 
 pub returns-clause-says : goal.returns-clause-says
 returns-clause-says g c = λ f d s.
-    subst (λ (h : Held g.row.C.Denot). SaysFor f (record h { flags = flags_as c.self.inside.flags; operators = (arc_value c.in-Ok.shared); next = c.args.place + 1 }) d) (sym c.self.view_is)
-    (stands_set clause_cells (read_held f c.args.self.now) d (flags_as c.self.inside.flags) (arc_value c.in-Ok.shared) c.args.place c.requires.later s)
+    subst (λ (h : Held g.row.C.Denot). SaysFor f (record h { flags = flags_as c.self.inside.flags; operators = (arc_value c.put_operators.new.table); next = c.args.place + 1 }) d) (sym c.self.view_is)
+    (stands_set clause_cells (read_held f c.args.self.now) d (flags_as c.self.inside.flags) (arc_value c.put_operators.new.table) c.args.place c.requires.later s)
 
 pub returns-clause-weighs : goal.returns-clause-weighs
 returns-clause-weighs g c = λ w. ap (λ (h : Held g.row.C.Denot). weight w h) c.self.view_is
