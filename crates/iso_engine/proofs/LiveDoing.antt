@@ -1,8 +1,7 @@
 -- What an engine does, which two views tell alike, and a third one reads as these do.
-use Rattle.std.proofs.Common.{◌≡◌, ◌==◌, ◌&&◌, ℕ, Bool, true, false, cond, List, [], ◌∷◌, ◌++◌, map, Option, Some, None, bytes_eq, codes, length, if◌then◌else◌, refl, sym, ap, ap₂, subst, ◌∙◌}
+use Rattle.std.proofs.Common.{◌≡◌, ◌==◌, ℕ, Bool, true, false, cond, List, [], ◌∷◌, map, Option, Some, None, length, if◌then◌else◌, refl, sym, ap, ap₂, ◌∙◌}
 use Rattle.std.specs.List.{All}
-use Rattle.std.proofs.lemmas.Bool.Decides.{eqb_tells}
-use Rattle.std.proofs.lemmas.List.Elements.{All-nil, All-cons, All-head, All-tail}
+use Rattle.std.proofs.lemmas.List.Elements.{All-head, All-tail}
 use Rattle.pl_term.specs.Tree.{Chars, Tree, Trees, var, int, atom, comp, none, more}
 use Rattle.pl_model.specs.Database.{Stored}
 use Rattle.pl_model.specs.History.{Clause, body_part, head_part}
@@ -11,7 +10,7 @@ use Rattle.pl_model.specs.Resolution.{Ending, Node, Pending, running, failing, t
 use Rattle.pl_model.specs.Terms.{variable_count}
 use Rattle.term_store.specs.declared.words.Place.{Place}
 use Rattle.term_store.specs.ArgumentKeys.{head_in}
-use Rattle.term_store.specs.Contents.{Contents, term_at}
+use Rattle.term_store.specs.Contents.{term_at}
 use Rattle.term_store.specs.Entering.{body_in}
 use Rattle.term_store.specs.Heap.{atom_name}
 use Rattle.term_store.specs.NumberedNames.{atoms_in, atoms_in_all, by_number, neck, number_of, term_by, text_by}
@@ -22,15 +21,13 @@ use Rattle.iso_engine.proofs.Readings.{read_over}
 use Rattle.iso_engine.proofs.Copies.{head_read, body_read}
 use Rattle.world_api.specs.Texts as worlds
 use Rattle.world_api.specs.Visits.{clause_in}
-use Rattle.world_api.specs.declared.reply.Found.{Found}
-use Rattle.iso_search.specs.declared.frames.Frame.{Frame}
 use Rattle.iso_search.specs.declared.frames.Task.{Task}
 use Rattle.iso_search.specs.declared.frames.Task.TheVariants.{Goal, Commit, Refute, Leave, Collect}
 use Rattle.iso_search.specs.declared.search.Search.{Search}
 use Rattle.iso_search.specs.Frames.{tasks}
-use Rattle.iso_search.specs.Reading.{IsView, View, node_at, pending, reads}
+use Rattle.iso_search.specs.Reading.{IsView, View, pending, reads}
 use Rattle.iso_search.specs.Searching.{node_of}
-use Rattle.iso_search.specs.Spelling.{spelled, spelled_all, text_of}
+use Rattle.iso_search.specs.Spelling.{spelled, text_of}
 use Rattle.iso_engine.specs.declared.doing.Doing.{Doing}
 use Rattle.iso_engine.specs.declared.doing.Doing.TheVariants.{Running, Failing, Throwing, Erasing, Clearing, Answering, Ended}
 use Rattle.iso_engine.specs.declared.doing.End.{End}
@@ -38,10 +35,10 @@ use Rattle.iso_engine.specs.declared.doing.End.TheVariants.{Solved, NoMore, Thre
 use Rattle.iso_engine.specs.declared.doing.Left.{Left}
 use Rattle.iso_engine.specs.declared.doing.Left.TheVariants as left
 use Rattle.iso_engine.specs.Standing.{base_of, clearing_by, clearing_task, doing_of, ending_of, first_of, found_in, head_of, left_clauses}
-use Rattle.iso_engine.proofs.Naming.{AllNames, AllNamesIn}
-use Rattle.iso_engine.proofs.LiveNames.{HeapNamed, WordNamed, meaning_named}
-use Rattle.iso_engine.proofs.LiveSearch.{PlaceNamed, TaskNamed, node_seen, place_seen, tasks_named, tasks_seen, term_seen}
-use Rattle.iso_engine.proofs.LiveSeen.{cons_first, cons_rest}
+use Rattle.iso_engine.proofs.Naming.{AllNames}
+use Rattle.iso_engine.proofs.LiveNames.{HeapNamed, meaning_named}
+use Rattle.iso_engine.proofs.LiveSearch.{PlaceNamed, TaskNamed, node_seen, tasks_named, tasks_seen, term_seen}
+use Rattle.iso_engine.proofs.LiveSeen.{cons_first}
 
 abbrev all_by_number : Trees → Trees
 all_by_number ts = numbered.spelled_all (λ f. atom_name (number_of f)) ts

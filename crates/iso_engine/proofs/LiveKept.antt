@@ -1,10 +1,10 @@
 -- An engine stands for the same where the names alone are held that it has in use. What is held by no name is not shown: two
 -- views that give such an atom different texts tell the same state.
-use Rattle.std.proofs.Common.{◌≡◌, ◌+◌, ◌≤◌, ◌<◌, ◌^◌, ℕ, zero, suc, true, false, List, [], ◌∷◌, ◌++◌, map, flat_map, reverse, Option, Some, None, codes, refl, sym, ap, ap₂, subst, ◌∙◌, arith}
+use Rattle.std.proofs.Common.{◌≡◌, ◌+◌, ◌≤◌, ◌<◌, ◌^◌, ℕ, zero, suc, true, List, [], ◌∷◌, ◌++◌, flat_map, reverse, Option, Some, None, codes, refl, sym, ap, ap₂, ◌∙◌, arith}
 use Rattle.std.specs.List.{All}
 use Rattle.std.specs.Str.{all_scalars}
 use Rattle.std.proofs.lemmas.Bool.{true≢false}
-use Rattle.std.proofs.lemmas.List.Elements.{All-nil, All-cons, All-head, All-tail, All-append}
+use Rattle.std.proofs.lemmas.List.Elements.{All-nil, All-cons, All-head, All-tail}
 use Rattle.pl_term.specs.Tree.{Chars, Tree, Trees, var, int, atom, comp, none, more}
 use Rattle.pl_term.specs.Texts.{size}
 use Rattle.pl_model.specs.Resolution as resolution
@@ -14,7 +14,6 @@ use Rattle.atom_api.specs.FixedNames.{true_name}
 use Rattle.atom_api.specs.Names.{FixedStand, Names}
 use Rattle.term_store.specs.declared.words.Word.{Word}
 use Rattle.term_store.specs.declared.words.Word.TheVariants.{Var, Int, Atom, Comp}
-use Rattle.term_store.specs.declared.words.Head.{Head}
 use Rattle.term_store.specs.declared.words.Bond.{Bond}
 use Rattle.term_store.specs.declared.words.Place.{Place}
 use Rattle.term_store.specs.Heap.{Heap, atom_name}
@@ -29,7 +28,6 @@ use Rattle.iso_search.specs.declared.copies.Copied.{Copied}
 use Rattle.iso_search.specs.declared.frames.Frame.{Frame}
 use Rattle.iso_search.specs.declared.frames.Task.{Task}
 use Rattle.iso_search.specs.declared.frames.Task.TheVariants.{Goal, Commit, Refute, Leave, Collect}
-use Rattle.iso_search.specs.declared.search.Search.{Search}
 use Rattle.iso_search.specs.declared.told.Constant.{Constant}
 use Rattle.iso_search.specs.declared.told.Constant.TheVariants as constants
 use Rattle.iso_search.specs.declared.told.Line.{Line}
@@ -46,8 +44,8 @@ use Rattle.iso_engine.specs.declared.doing.End.TheVariants.{Solved, NoMore, Thre
 use Rattle.iso_engine.specs.declared.doing.Left.{Left}
 use Rattle.iso_engine.specs.declared.doing.Left.TheVariants as left
 use Rattle.iso_engine.specs.declared.engine.Engine.{Engine}
-use Rattle.iso_engine.specs.Ready.{IsAlike, IsReady, IsStable}
-use Rattle.iso_engine.specs.Standing.{doing_of, state_now}
+use Rattle.iso_engine.specs.Ready.{IsAlike, IsReady}
+use Rattle.iso_engine.specs.Standing.{doing_of}
 use Rattle.iso_engine.specs.Views.{view_of}
 use Rattle.iso_engine.proofs.Fresh.{all_left, all_right}
 use Rattle.iso_engine.proofs.Solutions.{view_is}

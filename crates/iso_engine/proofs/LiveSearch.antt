@@ -1,11 +1,11 @@
 -- The choice points and nodes of a search that two views tell alike, and that a third one reads as these do.
-use Rattle.std.proofs.Common.{◌≡◌, ◌==◌, ◌+◌, ℕ, Bool, true, false, cond, List, [], ◌∷◌, ◌++◌, map, take, drop, slice_index_or, reverse, Option, Some, None, is_some, pos, codes, refl, sym, ap, ap₂, subst, ◌∙◌}
+use Rattle.std.proofs.Common.{◌≡◌, ◌+◌, ℕ, Bool, true, false, cond, List, [], ◌∷◌, ◌++◌, map, take, drop, slice_index_or, Option, Some, None, is_some, pos, codes, refl, sym, ap, ap₂, ◌∙◌}
 use Rattle.std.specs.List.{All}
 use Rattle.std.specs.Option.{option_map}
 use Rattle.std.proofs.lemmas.List.{drop-map}
-use Rattle.std.proofs.lemmas.List.Elements.{All-nil, All-cons, All-head, All-tail, All-append, All-push, All-take, All-drop, All-map}
+use Rattle.std.proofs.lemmas.List.Elements.{All-nil, All-cons, All-head, All-tail, All-push, All-take, All-drop}
 use Rattle.pl_term.specs.Tree.{Chars, Tree, Trees, var, int, atom, comp, none, more}
-use Rattle.pl_term.specs.Variables.{place, rename, rename_all_by, rename_by, variables}
+use Rattle.pl_term.specs.Variables.{place, rename_all_by, rename_by, variables}
 use Rattle.pl_model.specs.Balls.{indicator}
 use Rattle.pl_model.specs.BuiltinRows.{Answer, plain_answer, unifying}
 use Rattle.pl_model.specs.Database.{Stored}
@@ -33,18 +33,17 @@ use Rattle.iso_search.specs.declared.told.Constant.{Constant}
 use Rattle.iso_search.specs.declared.told.Constant.TheVariants as constants
 use Rattle.iso_search.specs.declared.told.Line.{Line}
 use Rattle.iso_search.specs.declared.told.Line.TheVariants.{Indicator, Flag, Operator}
-use Rattle.iso_search.specs.Choices.{answers_from, choice_at, choices_at, listed_goal, node_behind, purpose_of}
-use Rattle.iso_search.specs.Collecting.{copies_of, copy_of, copy_over}
+use Rattle.iso_search.specs.Choices.{answers_from, choice_at, choices_at, listed_goal, purpose_of}
+use Rattle.iso_search.specs.Collecting.{copy_of, copy_over}
 use Rattle.iso_search.specs.Frames.{stacked, tasks}
-use Rattle.iso_search.specs.Lines.{lines_of}
 use Rattle.iso_search.specs.Reading.{IsView, View, node_at, pending, reads}
 use Rattle.iso_search.specs.Spelling.{spelled, spelled_all, text_of}
-use Rattle.iso_search.specs.Told.{constant_term, line_answer, told_answers, told_from}
+use Rattle.iso_search.specs.Told.{constant_term, line_answer, told_answers}
 use Rattle.iso_search.proofs.Naming.{text_is}
 use Rattle.iso_search.proofs.Spelt.{solve_all-spelled}
 use Rattle.iso_engine.proofs.Naming.{AllNames, AllNamesIn}
 use Rattle.iso_engine.proofs.LiveNames.{HeapNamed, WordNamed, all_or, meaning_named}
-use Rattle.iso_engine.proofs.LiveSeen.{all_seen, cons_first, cons_rest, seen, told_goal}
+use Rattle.iso_engine.proofs.LiveSeen.{cons_first, cons_rest, seen, told_goal}
 
 slash_is : fixed slash_name ≡ Some (codes "/")
 unfolding fixed_texts
