@@ -13,6 +13,7 @@ use Rattle.iso_search.specs.Reading.{IsView, View}
 use Rattle.iso_search.specs.Searching.{IsWhole, choices_of}
 use Rattle.iso_engine.specs.Lists.{IsOpen}
 use Rattle.iso_engine.specs.declared.doing.Doing.{Doing}
+use Rattle.iso_engine.specs.declared.doing.Doing.TheVariants.{Running, Failing}
 use Rattle.iso_engine.specs.declared.engine.Engine.{Engine}
 use Rattle.iso_engine.specs.Views.{view_of}
 use Rattle.iso_engine.specs.Following.{is_integer}
@@ -64,3 +65,9 @@ abbrev pub StepsAs : Option Chars → Names → Told → ℕ → ℕ → Search 
 StepsAs keep m t wanted given e d f x =
     (r : Setting) → IsView r.view → IsAlike m t r.view → r.stays ≡ keep → r.solutions ≡ wanted → solution_count r.output ≡ given
     → step (limits_in r e) (state_at r.view e d r.output) ≡ goes (state_at r.view f x r.output)
+
+-- Neither tasks are done nor a failure is followed.
+abbrev pub IsApart : Doing → Type 0
+IsApart (Running list) = ⊥
+IsApart Failing = ⊥
+IsApart _ = Unit {0}

@@ -65,7 +65,7 @@ impl Engine {
                 Ok(None)
             }
             Called::Ran(outcome) => {
-                self.doing = follow(self.alloc, &self.search, outcome, procedure, rest)?;
+                self.go_on(outcome, procedure, rest)?;
                 Ok(None)
             }
             Called::Refused(error) => {

@@ -1,5 +1,5 @@
 //! What follows an outcome.
-ghost use Rattle.std.specs.Prelude.{◌≡◌, ℕ, IfOk};
+ghost use Rattle.std.specs.Prelude.{◌≡◌, ℕ, IfOk, OnOk};
 ghost use Rattle.pl_model.specs.Resolution.{Node};
 ghost use Rattle.term_store.specs.Heap.{atom_name};
 ghost use Rattle.iso_search.specs.Outcomes.{Setting, doing_by};
@@ -10,6 +10,7 @@ ghost use Rattle.iso_engine.specs.Following.{IsPlaced};
 ghost use Rattle.iso_engine.specs.Standing.{doing_of};
 
 use crate::doing::{Doing, End};
+use crate::engine::Engine;
 use iso_search::balls::Ball;
 use iso_search::outcome::Outcome;
 use iso_search::search::Search;
@@ -43,5 +44,36 @@ pub fn follow(
         }
         Outcome::Erase(place, list) => Ok(Doing::Erasing { place, list }),
         Outcome::Halt(status) => Ok(Doing::Ended(End::Halted(status))),
+    }
+}
+
+impl Engine {
+    /// Goes on after an outcome of this predicate, where the exits of the active catches stand among the tasks of a list. The only
+    /// error is out of memory.
+    pub fn go_on(
+        &mut self,
+        outcome: Outcome,
+        procedure: Procedure,
+        rest: usize,
+    ) -> Result<(), Memory>
+        requires { IsPlaced self.old.search.store outcome }
+        ensures follows { OnOk result ((t : Setting) → IsView t.view → doing_of t.view self.old.search self.new.doing
+            ≡ doing_by t self.old.search (node_of t.view self.old.search rest) (record { name = text_of t.view.names (atom_name procedure.name); arity = procedure.arity }) outcome) }
+        ensures kept { OnOk result (self.new ≡ record self.old { doing = self.new.doing }) }
+    {
+        match outcome {
+            Outcome::Run(list) => {
+                self.doing = Doing::Running(list);
+                Ok(())
+            }
+            Outcome::Fail => {
+                self.doing = Doing::Failing;
+                Ok(())
+            }
+            _ => {
+                self.doing = follow(self.alloc, &self.search, outcome, procedure, rest)?;
+                Ok(())
+            }
+        }
     }
 }

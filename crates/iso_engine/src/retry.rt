@@ -18,7 +18,6 @@ ghost use Rattle.iso_engine.specs.Unserved.{as_stopped, stopped_refusals};
 
 use crate::call::retries::retry_clauses;
 use crate::engine::Engine;
-use crate::following::follow;
 use crate::procedure::trying_procedure;
 use crate::slices::Slice;
 use iso_search::choices::Purpose;
@@ -63,7 +62,7 @@ impl Engine {
             place,
             next,
         )?;
-        self.doing = follow(self.alloc, &self.search, outcome, procedure, next)?;
+        self.go_on(outcome, procedure, next)?;
         Ok(None)
     }
 }

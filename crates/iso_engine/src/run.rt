@@ -1,9 +1,10 @@
 //! The tasks of a list.
-ghost use Rattle.std.specs.Prelude.{◌≡◌, ◌++◌, false, List, IfNone, IfOk, OnOk, encode_utf8_all};
+ghost use Rattle.std.specs.Prelude.{◌≡◌, ◌≤◌, ◌∷◌, ◌++◌, length, false, List, IfNone, IfOk, OnOk, encode_utf8_all};
 ghost use Rattle.pl_model.specs.Resolution.{Output};
 ghost use Rattle.world_api.specs.Gains.{Gains};
 ghost use Rattle.world_api.specs.Texts.{Holds};
 ghost use Rattle.world_api.specs.Told.{has_ended};
+ghost use Rattle.iso_search.specs.Frames.{tasks};
 ghost use Rattle.iso_engine.specs.declared.doing.Doing.TheVariants.{Running};
 ghost use Rattle.iso_engine.specs.Asked.{AsksFor};
 ghost use Rattle.iso_engine.specs.Ready.{IsReady};
@@ -11,10 +12,11 @@ ghost use Rattle.iso_engine.specs.Spending.{IsSpent};
 ghost use Rattle.iso_engine.specs.Slices.{IsStepped, written_text};
 ghost use Rattle.iso_engine.specs.Unserved.{as_stopped, stopped_refusals};
 
+use crate::call::direct::direct_call;
 use crate::engine::Engine;
 use crate::running::{Did, do_task};
 use crate::slices::Slice;
-use iso_search::frames::first_task;
+use iso_search::frames::{Frame, Task, first_task};
 use term_store::Stored;
 use world_api::{Unserved, World};
 
@@ -44,29 +46,62 @@ impl Engine {
         match first_task(&self.search.frames, list) {
             None => self.solve(world, atoms),
             Some(frame) => {
-                let did = do_task(self.alloc, &mut self.search, frame)?;
-                match did {
-                    Did::Next(doing) => {
-                        self.doing = doing;
-                        Ok(None)
-                    }
-                    Did::Call(goal, procedure) => {
-                        self.call(goal, procedure, frame.continuation, world, atoms)
-                    }
-                    Did::Row(goal) => self.row(&goal, frame.continuation, atoms),
-                    Did::Ask(goal) => self.ask(&goal, frame.continuation, world, atoms),
-                    Did::Write(goal, procedure) => {
-                        self.write(goal, procedure, frame.continuation, world, atoms, out)
-                    }
-                    Did::Look(goal) => self.look(&goal, frame.continuation, world, atoms),
-                    Did::Exit(goal, term) => self.exit(goal, term, frame.continuation, atoms),
-                    Did::Collect(goal, collection) => {
-                        self.collect(goal, collection, frame.continuation, world, atoms)
-                    }
-                    Did::Clear(goal, head) => {
-                        self.clear(goal, head, list, frame.continuation, world, atoms)
+                if let Task::Goal(goal, _) = frame.task {
+                    if let Some(procedure) = direct_call(&self.search.store, goal) {
+                        return self.call(goal, procedure, frame.continuation, world, atoms);
                     }
                 }
+                self.run_task(frame, list, world, atoms, out)
+            }
+        }
+    }
+
+    /// Does this first task of a list. What the goal writes is put after `out`.
+    fn run_task<W: World<Term = Stored>>(
+        &mut self,
+        frame: Frame,
+        list: usize,
+        world: &mut W,
+        atoms: &mut W::A,
+        out: &mut Vec<u8>,
+    ) -> Result<Option<Slice>, Unserved>
+        requires runs { has_ended (W.told world.old).engine (W.told world.old).history ≡ false }
+        requires ready { IsReady (W.A.held atoms.old) (W.told world.old) self.old }
+        requires list { self.old.doing ≡ Running list }
+        requires first { tasks self.old.search.frames.items list ≡ frame.task ∷ tasks self.old.search.frames.items frame.continuation }
+        requires rest { frame.continuation ≤ length self.old.search.frames.items }
+        ensures runs { has_ended (W.told world.new).engine (W.told world.new).history ≡ false }
+        ensures holds { Holds (W.A.held atoms.old) (W.A.held atoms.new) }
+        ensures refusals { IfOk (as_stopped result) (λ o. W.A.refusals atoms.new ≡ W.A.refusals atoms.old ++ stopped_refusals o) }
+        ensures asked { Gains (AsksFor (W.A.held atoms.old) (W.told world.old) self.old) (W.A.asked atoms.old) (W.A.asked atoms.new) }
+        ensures given { IfOk (as_stopped result) (λ o. IfNone o (self.new.solutions_found ≡ self.old.solutions_found)) }
+        ensures spent { OnOk (as_stopped result) (IsSpent self.old.search.inferences self.new.search.inferences) }
+        ensures ready { OnOk (as_stopped result) (IsReady (W.A.held atoms.new) (W.told world.new) self.new) }
+        ensures stepped { IfOk (as_stopped result) (λ o. (more : List Output)
+            × IsStepped (W.A.held atoms.old) (W.told world.old) self.old o (W.A.held atoms.new) (W.told world.new) self.new more
+            × (out.new.items ≡ out.old.items ++ encode_utf8_all (written_text more))) }
+    {
+        let did = do_task(self.alloc, &mut self.search, frame)?;
+        match did {
+            Did::Next(doing) => {
+                self.doing = doing;
+                Ok(None)
+            }
+            Did::Call(goal, procedure) => {
+                self.call(goal, procedure, frame.continuation, world, atoms)
+            }
+            Did::Row(goal) => self.row(&goal, frame.continuation, atoms),
+            Did::Ask(goal) => self.ask(&goal, frame.continuation, world, atoms),
+            Did::Write(goal, procedure) => {
+                self.write(goal, procedure, frame.continuation, world, atoms, out)
+            }
+            Did::Look(goal) => self.look(&goal, frame.continuation, world, atoms),
+            Did::Exit(goal, term) => self.exit(goal, term, frame.continuation, atoms),
+            Did::Collect(goal, collection) => {
+                self.collect(goal, collection, frame.continuation, world, atoms)
+            }
+            Did::Clear(goal, head) => {
+                self.clear(goal, head, list, frame.continuation, world, atoms)
             }
         }
     }

@@ -14,7 +14,6 @@ ghost use Rattle.iso_engine.specs.Following.{HasProcedure, IsInteger, StepsTo};
 ghost use Rattle.iso_engine.specs.Tasks.{IsDone, IsForOthers, IsLeftOver, IsOwnDid, IsOwnKind, IsViewed};
 
 use crate::builtin::{Builtin, RowGoal, builtin_at};
-use crate::call::direct::direct_call;
 use crate::doing::Doing;
 use crate::equal::{equal, unification_at};
 use crate::findall::collect;
@@ -105,8 +104,8 @@ fn leave(search: &mut Search, frame: Frame) -> Option<Doing>
     }
 }
 
-/// Takes up a goal, before the tasks of a list. The only error is out of memory. An integer is no goal: no conversion of a term
-/// to a body leaves one in its place (ISO 7.6.2).
+/// Takes up a goal, before the tasks of a list. First come the goals that only have further tasks done, which are the most of a
+/// body beside its calls: `true`, a cut, and a conjunction (ISO 7.8.1, 7.8.4, 7.8.5). The only error is out of memory.
 fn do_goal(
     alloc: Global,
     search: &mut Search,
@@ -122,9 +121,45 @@ fn do_goal(
     ensures done { IfOk result (IsDone search.old (Goal goal cut) rest search.new) }
     ensures budgets { OnOk result (search.new.budgets ≡ search.old.budgets) }
 {
-    if let Some(procedure) = direct_call(&search.store, goal) {
-        return Ok(Did::Call(goal, procedure));
+    let kind = construct_at(&search.store, goal);
+    match kind {
+        Construct::Succeeds => Ok(Did::Next(Doing::Running(rest))),
+        Construct::Cuts => {
+            search.cut_to(cut);
+            Ok(Did::Next(Doing::Running(rest)))
+        }
+        Construct::Conjunction(left, right) => {
+            let second = search.push(Task::Goal(right, cut), rest)?;
+            let list = search.push(Task::Goal(left, cut), second)?;
+            Ok(Did::Next(Doing::Running(list)))
+        }
+        _ => {
+            let did = do_other(alloc, search, goal, kind, cut, rest)?;
+            Ok(did)
+        }
     }
+}
+
+/// Takes up a goal of this kind, before the tasks of a list. The only error is out of memory. An integer is no goal: no conversion
+/// of a term to a body leaves one in its place (ISO 7.6.2).
+fn do_other(
+    alloc: Global,
+    search: &mut Search,
+    goal: Place,
+    kind: Construct,
+    cut: usize,
+    rest: usize,
+) -> Result<Did, Memory>
+    requires whole { IsWhole search.old }
+    requires goal { Holds search.old.store goal }
+    requires inside { IsConstructIn search.old.store kind }
+    requires stands { (v : View) → IsView v → construction v search.old.store kind ≡ construct (reads v search.old.store goal) }
+    requires rest { rest ≤ length search.old.frames.items }
+    requires viewed { IsViewed }
+    ensures whole { OnOk result (IsWhole search.new) }
+    ensures done { IfOk result (IsDone search.old (Goal goal cut) rest search.new) }
+    ensures budgets { OnOk result (search.new.budgets ≡ search.old.budgets) }
+{
     if let Some(arguments) = unification_at(&search.store, goal) {
         let doing = equal(alloc, search, goal, arguments, rest)?;
         return Ok(Did::Next(doing));
@@ -136,7 +171,6 @@ fn do_goal(
         name: procedure.name,
         arity: procedure.arity,
     };
-    let kind = construct_at(&search.store, goal);
     let taken = take_up(alloc, search, goal, kind, procedure, cut, rest)?;
     match taken {
         Some(doing) => Ok(Did::Next(doing)),

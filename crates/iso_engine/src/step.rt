@@ -5,7 +5,7 @@ ghost use Rattle.world_api.specs.Gains.{Gains};
 ghost use Rattle.world_api.specs.Texts.{Holds};
 ghost use Rattle.world_api.specs.Told.{has_ended};
 ghost use Rattle.iso_engine.specs.Asked.{AsksFor};
-ghost use Rattle.iso_engine.specs.Ready.{IsReady};
+ghost use Rattle.iso_engine.specs.Ready.{IsApart, IsReady};
 ghost use Rattle.iso_engine.specs.Spending.{IsSpent};
 ghost use Rattle.iso_engine.specs.Slices.{IsStepped, written_text};
 ghost use Rattle.iso_engine.specs.Unserved.{as_stopped, stopped_refusals};
@@ -40,12 +40,40 @@ impl Engine {
             × IsStepped (W.A.held atoms.old) (W.told world.old) self.old o (W.A.held atoms.new) (W.told world.new) self.new more
             × (out.new.items ≡ out.old.items ++ encode_utf8_all (written_text more))) }
     {
-        match mem::replace(&mut self.doing, Doing::Failing) {
+        match &self.doing {
             Doing::Running(list) => {
-                self.doing = Doing::Running(list);
+                let list = *list;
                 self.run(list, world, atoms, out)
             }
             Doing::Failing => self.fail(world, atoms),
+            _ => self.step_apart(world, atoms, out),
+        }
+    }
+
+    /// Does the same where neither tasks are done nor a failure is followed. What is done is taken out of the engine for it.
+    fn step_apart<W: World<Term = Stored>>(
+        &mut self,
+        world: &mut W,
+        atoms: &mut W::A,
+        out: &mut Vec<u8>,
+    ) -> Result<Option<Slice>, Unserved>
+        requires runs { has_ended (W.told world.old).engine (W.told world.old).history ≡ false }
+        requires ready { IsReady (W.A.held atoms.old) (W.told world.old) self.old }
+        requires apart { IsApart self.old.doing }
+        ensures runs { has_ended (W.told world.new).engine (W.told world.new).history ≡ false }
+        ensures holds { Holds (W.A.held atoms.old) (W.A.held atoms.new) }
+        ensures refusals { IfOk (as_stopped result) (λ o. W.A.refusals atoms.new ≡ W.A.refusals atoms.old ++ stopped_refusals o) }
+        ensures asked { Gains (AsksFor (W.A.held atoms.old) (W.told world.old) self.old) (W.A.asked atoms.old) (W.A.asked atoms.new) }
+        ensures given { IfOk (as_stopped result) (λ o. IfNone o (self.new.solutions_found ≡ self.old.solutions_found)) }
+        ensures spent { OnOk (as_stopped result) (IsSpent self.old.search.inferences self.new.search.inferences) }
+        ensures ready { OnOk (as_stopped result) (IsReady (W.A.held atoms.new) (W.told world.new) self.new) }
+        ensures stepped { IfOk (as_stopped result) (λ o. (more : List Output)
+            × IsStepped (W.A.held atoms.old) (W.told world.old) self.old o (W.A.held atoms.new) (W.told world.new) self.new more
+            × (out.new.items ≡ out.old.items ++ encode_utf8_all (written_text more))) }
+    {
+        match mem::replace(&mut self.doing, Doing::Failing) {
+            Doing::Running(_) => unreachable!(),
+            Doing::Failing => unreachable!(),
             Doing::Throwing { ball, outer } => {
                 self.doing = throw(self.alloc, &mut self.search, ball, outer)?;
                 Ok(None)

@@ -1,4 +1,5 @@
-use Rattle.std.proofs.Common.{[], inl, refl, ap, subst}
+use Rattle.std.proofs.Common.{[], inl, refl, sym, ap, subst}
+use Rattle.iso_engine.specs.Advancing.{Advances}
 use Rattle.iso_engine.specs.Called.{IsCalled, IsTakenBack}
 use Rattle.iso_engine.specs.Ready.{IsReady}
 use Rattle.iso_engine.specs.Slices.{IsStepped}
@@ -59,8 +60,8 @@ returns-in_ok-self-in-Spent-clause-stepped g c =
     refl refl k.whole spent.0.1 spent.0.2 spent.1 c.in_ok-self-in-Spent.ensures in
     moved.0
 
-pub returns-in_ok-self-in-Ran-clause-spent : goal.returns-in_ok-self-in-Ran-clause-spent
-returns-in_ok-self-in-Ran-clause-spent g c =
+pub returns-in_ok-go_on-in-Ran-clause-spent : goal.returns-in_ok-go_on-in-Ran-clause-spent
+returns-in_ok-go_on-in-Ran-clause-spent g c =
     let e = c.args.self.now in
     let a = c.call_clauses.new.atoms in
     let m = g.W.A.Atoms.held c.args.atoms.now in
@@ -71,15 +72,16 @@ returns-in_ok-self-in-Ran-clause-spent g c =
     let view = view_is n u (g.met.W.A.Atoms.fixed_held a) (g.met.W.A.Atoms.unlike a) (g.met.W.A.Atoms.finite a) in
     let l = c.requires.list in
     let k = c.in_ok-called.ensures in
-    let f : Engine = record e { search = x; doing = c.in_ok-self-in-Ran.field-0 } in
+    let went = c.in_ok-go_on-in-Ran.ensures in
+    let f : Engine = record e { search = x; doing = c.go_on.new.self.doing } in
     let o = c.in-Ran.outcome in
     let run = subst (IsCalled m t e.search c.args.goal c.args.rest n u x) c.in-Ran.is k.called in
     let moved = ran_moved m n t u e f c.args.goal c.args.procedure l.0 l.1 c.args.rest l.2 l.3 c.requires.rest c.requires.calls c.call_clauses.ensures.holds view c.requires.ready
-    refl refl k.whole o run c.in_ok-self-in-Ran.ensures in
-    moved.2
+    refl refl k.whole o run went.follows in
+    subst (λ (z : Engine). IsSpent e.search.inferences z.search.inferences) (sym went.kept) moved.2
 
-pub returns-in_ok-self-in-Ran-clause-ready : goal.returns-in_ok-self-in-Ran-clause-ready
-returns-in_ok-self-in-Ran-clause-ready g c =
+pub returns-in_ok-go_on-in-Ran-clause-ready : goal.returns-in_ok-go_on-in-Ran-clause-ready
+returns-in_ok-go_on-in-Ran-clause-ready g c =
     let e = c.args.self.now in
     let a = c.call_clauses.new.atoms in
     let m = g.W.A.Atoms.held c.args.atoms.now in
@@ -90,15 +92,16 @@ returns-in_ok-self-in-Ran-clause-ready g c =
     let view = view_is n u (g.met.W.A.Atoms.fixed_held a) (g.met.W.A.Atoms.unlike a) (g.met.W.A.Atoms.finite a) in
     let l = c.requires.list in
     let k = c.in_ok-called.ensures in
-    let f : Engine = record e { search = x; doing = c.in_ok-self-in-Ran.field-0 } in
+    let went = c.in_ok-go_on-in-Ran.ensures in
+    let f : Engine = record e { search = x; doing = c.go_on.new.self.doing } in
     let o = c.in-Ran.outcome in
     let run = subst (IsCalled m t e.search c.args.goal c.args.rest n u x) c.in-Ran.is k.called in
     let moved = ran_moved m n t u e f c.args.goal c.args.procedure l.0 l.1 c.args.rest l.2 l.3 c.requires.rest c.requires.calls c.call_clauses.ensures.holds view c.requires.ready
-    refl refl k.whole o run c.in_ok-self-in-Ran.ensures in
-    moved.1
+    refl refl k.whole o run went.follows in
+    subst (λ (z : Engine). IsReady n u z) (sym went.kept) moved.1
 
-pub returns-in_ok-self-in-Ran-clause-stepped : goal.returns-in_ok-self-in-Ran-clause-stepped
-returns-in_ok-self-in-Ran-clause-stepped g c =
+pub returns-in_ok-go_on-in-Ran-clause-stepped : goal.returns-in_ok-go_on-in-Ran-clause-stepped
+returns-in_ok-go_on-in-Ran-clause-stepped g c =
     let e = c.args.self.now in
     let a = c.call_clauses.new.atoms in
     let m = g.W.A.Atoms.held c.args.atoms.now in
@@ -109,12 +112,13 @@ returns-in_ok-self-in-Ran-clause-stepped g c =
     let view = view_is n u (g.met.W.A.Atoms.fixed_held a) (g.met.W.A.Atoms.unlike a) (g.met.W.A.Atoms.finite a) in
     let l = c.requires.list in
     let k = c.in_ok-called.ensures in
-    let f : Engine = record e { search = x; doing = c.in_ok-self-in-Ran.field-0 } in
+    let went = c.in_ok-go_on-in-Ran.ensures in
+    let f : Engine = record e { search = x; doing = c.go_on.new.self.doing } in
     let o = c.in-Ran.outcome in
     let run = subst (IsCalled m t e.search c.args.goal c.args.rest n u x) c.in-Ran.is k.called in
     let moved = ran_moved m n t u e f c.args.goal c.args.procedure l.0 l.1 c.args.rest l.2 l.3 c.requires.rest c.requires.calls c.call_clauses.ensures.holds view c.requires.ready
-    refl refl k.whole o run c.in_ok-self-in-Ran.ensures in
-    moved.0
+    refl refl k.whole o run went.follows in
+    subst (λ (z : Engine). Advances 1 m t e n u z []) (sym went.kept) moved.0
 
 pub returns-in_ok-ball-in-Refused-clause-ready : goal.returns-in_ok-ball-in-Refused-clause-ready
 returns-in_ok-ball-in-Refused-clause-ready g c =
@@ -237,8 +241,8 @@ returns-in_ok-self-in-Spent-clause-asked g c =
     call_asks_for m t c.args.self.now c.args.goal c.args.procedure l.0 l.1 c.args.rest l.2 l.3 c.requires.rest c.requires.calls view (g.W.A.Atoms.asked a)
     (g.W.A.Atoms.asked c.call_clauses.new.atoms) c.call_clauses.ensures.asked
 
-pub returns-in_err-self-in-Ran-clause-asked : goal.returns-in_err-self-in-Ran-clause-asked
-returns-in_err-self-in-Ran-clause-asked g c =
+pub returns-in_err-go_on-in-Ran-clause-asked : goal.returns-in_err-go_on-in-Ran-clause-asked
+returns-in_err-go_on-in-Ran-clause-asked g c =
     let a = c.args.atoms.now in
     let m = g.W.A.Atoms.held a in
     let t = g.W.World.told c.args.world.now in
@@ -247,8 +251,8 @@ returns-in_err-self-in-Ran-clause-asked g c =
     call_asks_for m t c.args.self.now c.args.goal c.args.procedure l.0 l.1 c.args.rest l.2 l.3 c.requires.rest c.requires.calls view (g.W.A.Atoms.asked a)
     (g.W.A.Atoms.asked c.call_clauses.new.atoms) c.call_clauses.ensures.asked
 
-pub returns-in_ok-self-in-Ran-clause-asked : goal.returns-in_ok-self-in-Ran-clause-asked
-returns-in_ok-self-in-Ran-clause-asked g c =
+pub returns-in_ok-go_on-in-Ran-clause-asked : goal.returns-in_ok-go_on-in-Ran-clause-asked
+returns-in_ok-go_on-in-Ran-clause-asked g c =
     let a = c.args.atoms.now in
     let m = g.W.A.Atoms.held a in
     let t = g.W.World.told c.args.world.now in

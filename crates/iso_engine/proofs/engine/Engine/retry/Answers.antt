@@ -10,7 +10,7 @@ use Rattle.iso_search.specs.declared.failure.Back.TheVariants.{Retry}
 use Rattle.iso_search.specs.Searching.{IsWhole}
 use Rattle.iso_engine.specs.Retried.{IsPutBack}
 use Rattle.iso_engine.specs.declared.engine.Engine.{Engine}
-use Rattle.iso_engine.specs.Retrying.{IsGoneOn}
+use Rattle.iso_engine.specs.Retrying.{IsGoneOn, IsTried}
 use Rattle.iso_search.specs.declared.outcome.Outcome.{Outcome}
 use Rattle.iso_engine.proofs.Refusals.{at_exit, refused_end, refused_list, refused_on}
 use Rattle.iso_engine.proofs.Retries.{put_back, tried}
@@ -19,10 +19,15 @@ use Rattle.iso_engine.proofs.engine.Engine.retry.Goals as goal
 pub returns-clause-gone : goal.returns-clause-gone
 returns-clause-gone g c =
     let e = c.args.self.now in
-    let f : Engine = record e { search = c.retry_clauses.new.search; doing = c.in_ok-self.field-0 } in
-    tried (g.W.A.Atoms.held c.args.atoms.now) (g.W.A.Atoms.held c.retry_clauses.new.atoms) (g.W.World.told c.args.world.now) (g.W.World.told c.retry_clauses.new.world)
-    e f c.args.purpose c.args.goal c.args.generation c.args.place c.args.next c.in_ok-outcome.outcome c.trying_procedure-procedure.result c.retry_clauses.ensures.holds c.requires.held c.requires.open
-    c.requires.next c.trying_procedure-procedure.ensures c.in_ok-outcome.ensures.retried c.in_ok-self.ensures refl
+    let m = g.W.A.Atoms.held c.args.atoms.now in
+    let n = g.W.A.Atoms.held c.retry_clauses.new.atoms in
+    let t = g.W.World.told c.args.world.now in
+    let u = g.W.World.told c.retry_clauses.new.world in
+    let went = c.in_ok-go_on.ensures in
+    let f : Engine = record e { search = c.retry_clauses.new.search; doing = c.go_on.new.self.doing } in
+    subst (λ (z : Engine). IsTried t e (Retry c.args.purpose c.args.goal c.args.generation c.args.place c.args.next) n u z) (sym went.kept)
+    (tried m n t u e f c.args.purpose c.args.goal c.args.generation c.args.place c.args.next c.in_ok-outcome.outcome c.trying_procedure-procedure.result
+    c.retry_clauses.ensures.holds c.requires.held c.requires.open c.requires.next c.trying_procedure-procedure.ensures c.in_ok-outcome.ensures.retried went.follows refl)
 
 pub returns-in_err-outcome-clause-gone : goal.returns-in_err-outcome-clause-gone
 returns-in_err-outcome-clause-gone g c =
