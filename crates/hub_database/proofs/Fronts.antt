@@ -3,7 +3,7 @@ use Rattle.std.proofs.Common.{◌≡◌, ◌<◌, ℕ, zero, suc, List, [], ◌�
 use Rattle.std.specs.List.{slice_get}
 use Rattle.std.specs.Option.{option_map}
 use Rattle.std.specs.Prelude.{All, IfSome}
-use Rattle.std.proofs.lemmas.List.Elements.{All-weaker}
+use Rattle.std.proofs.lemmas.List.Elements.{All-cons, All-nil, All-weaker}
 use Rattle.std.proofs.lemmas.Option.{same_Some}
 use Rattle.pl_term.specs.Tree.{Chars, Tree, var, int, atom, comp, none, more}
 use Rattle.pl_model.specs.History.{Clause, head_part}
@@ -57,6 +57,16 @@ pub each_weaker : (P Q : Tree → Type 0) → ((t : Tree) → P t → Q t) → (
 each_weaker P Q f h a =
     All-weaker (λ (x : Piece Tree). All (λ d. P d.clause) x.clauses) (λ (x : Piece Tree). All (λ d. Q d.clause) x.clauses)
     (λ x b. All-weaker (λ (d : DatedClause Tree). P d.clause) (λ (d : DatedClause Tree). Q d.clause) (λ d p. f d.clause p) x.clauses b) h.parts a
+
+-- what holds of each term
+all_always : {X : Type 0} (P : X → Type 0) → ((x : X) → P x) → (xs : List X) → All P xs
+all_always P f [] = All-nil P
+all_always P f (x ∷ xs) = All-cons P x xs (f x) (all_always P f xs)
+
+pub each_always : (Q : Tree → Type 0) → ((t : Tree) → Q t) → (h : Held Tree) → EachHeld Q h
+each_always Q f h =
+    all_always (λ (x : Piece Tree). All (λ d. Q d.clause) x.clauses)
+    (λ x. all_always (λ (d : DatedClause Tree). Q d.clause) (λ d. f d.clause) x.clauses) h.parts
 
 pub some_weaker : {X : Type 0} {P Q : X → Type 0} (o : Option X) → ((x : X) → P x → Q x) → IfSome o P → IfSome o Q
 some_weaker None f h = tt

@@ -21,11 +21,13 @@ use Rattle.term_store.specs.NumberedNames.{term_by}
 use Rattle.world_api.specs.Replies.{IsFront}
 use Rattle.world_api.specs.Texts.{or_no_text, text_of}
 use Rattle.world_api.specs.Visits.{proc_named}
+use Rattle.world_api.specs.declared.reply.Reply.TheVariants.{Clauses}
 use Rattle.world_api.specs.declared.visit.Procedure.{Procedure}
 use Rattle.counted_terms.specs.Agreements.{Agreed}
 use Rattle.counted_terms.specs.CountedTerms.{IsCounted, said}
 use Rattle.counted_terms.specs.Keeping.{HoldsOn, kept}
 use Rattle.counted_terms.specs.declared.row.Row.{Row}
+use Rattle.counted_terms.specs.declared.row.Row.TheVariants.{Reads}
 use Rattle.counted_terms.proofs.Saying.{kept_fixed, kept_some, said_same}
 use Rattle.hub_database.specs.Clauses.{clause_by}
 use Rattle.hub_database.specs.Database.{AllOpen, IsDatabase, databases}
@@ -43,7 +45,7 @@ use Rattle.world_api.specs.declared.reply.Found.{Found}
 use Rattle.counted_terms.specs.Rows.{row_names}
 use Rattle.counted_terms.specs.Sharing.{Counts}
 use Rattle.hub_database.proofs.ErasedClauses.{is_static_in, static_in}
-use Rattle.hub_database.proofs.Fronts.{some_weaker}
+use Rattle.hub_database.proofs.Fronts.{front_none, some_weaker}
 use Rattle.hub_database.proofs.Open.{first_open, first_own}
 
 -- what a map has, another one has that holds on it
@@ -97,6 +99,11 @@ pub handed_named : (m : Names) (r : Result (Option (Found Tree)) NoRoom) → IfO
 handed_named m (Ok f) h = h
 handed_named m (Err e) h = All-nil (λ a. IsSome (m a))
 
+-- what holds in any case
+pub none_all : {X P : Type 0} (o : Option X) → P → IfNone o P
+none_all None h = h
+none_all (Some x) h = tt
+
 -- what holds where there is none
 pub none_weaker : {X P Q : Type 0} (o : Option X) → (P → Q) → IfNone o P → IfNone o Q
 none_weaker None f h = f h
@@ -143,6 +150,28 @@ module _ (goals : ℕ) (h : History) (k : View) (db : Held Tree) (g : ℕ) (is :
         (λ x a b. found_open (clause_by k) (databases goals h g) (is.open_only g) g (name_of x.name) p (λ (c : Clause). is_excluded head c.head) place u more a own);
     hands = at_part db.parts i within Finds Finds (HandsFirst goals h g p text head row) found found
         (λ x a b. subst (λ (q : Proc). HandsOut (λ f. IsFront term_by text f (tried q)) row) (is_called x a) (front (tried (name_of x.name)) a));
+  }
+
+-- THAT THERE IS NONE at an index, where the first clause that is seen there is of the goal's predicate p
+module _ (goals : ℕ) (h : History) (k : View) (db : Held Tree) (g : ℕ) (is : IsDatabase k db goals h) (head : Tree) (p : Proc) (text : ℕ → Chars) (row : Row)
+    (place : ℕ) (u : Tree) (more : Bool) (own : proc_of (clause_by k u).head ≡ p) (none_ : row ≡ Reads (Clauses None)) where
+  abbrev FirstSeen : Piece Tree → Type 0
+  FirstSeen x = Some (place, clause_by k u, more) ≡ first_named (choices (λ (c : Clause). false) g (name_of x.name) (databases goals h g))
+
+  abbrev NoneFor : Proc → Type 0
+  NoneFor q = None ≡ first_named (choices (λ (c : Clause). is_excluded head c.head) g q (databases goals h g))
+
+  is_seen : (x : Piece Tree) → FirstSeen x → name_of x.name ≡ p
+  is_seen x found = found_own (clause_by k) (databases goals h g) (is.open_only g) g (name_of x.name) p (λ (c : Clause). false) place u more found own
+
+  pub none_is : (i : ℕ) → i < length db.parts → IfSome (slice_get db.parts i) FirstSeen → IfSome (slice_get db.parts i) (λ x. NoneFor (name_of x.name)) → IsFound goals h db i g p text head row
+  none_is i within seen empty = record {
+    there = some_weaker (slice_get db.parts i) is_seen seen;
+    open_ = at_part db.parts i within FirstSeen FirstSeen (is_system p ≡ false) seen seen
+        (λ x a b. found_open (clause_by k) (databases goals h g) (is.open_only g) g (name_of x.name) p (λ (c : Clause). false) place u more a own);
+    hands = subst (HandsFirst goals h g p text head) (sym none_)
+        (front_none text (choices (λ (c : Clause). is_excluded head c.head) g p (databases goals h g))
+        (at_part db.parts i within FirstSeen (λ (x : Piece Tree). NoneFor (name_of x.name)) (NoneFor p) seen empty (λ x a b. subst NoneFor (is_seen x a) b)));
   }
 
 -- A DYNAMIC PROCEDURE that is none of the system is not static

@@ -25,7 +25,7 @@ ghost use Rattle.counted_terms.specs.Keeping.{KeeperAt, keeper_view};
 ghost use Rattle.counted_terms.specs.Sharing.{Counts};
 ghost use Rattle.counted_terms.specs.Rows.{row_names, row_refusals};
 ghost use Rattle.hub_database.specs.Database.{IsDatabase, clause_counts};
-ghost use Rattle.hub_database.specs.Found.{IsFound, IsOpenFound};
+ghost use Rattle.hub_database.specs.Found.{IsFound, IsHeaded, IsNoneAt, IsOpenFound};
 ghost use Rattle.hub_database.specs.Rows.{IsQuiet, IsReply, IsSteady, Tells, handed_row};
 
 use crate::calls::{first_clause, hand_out};
@@ -234,8 +234,8 @@ fn opened_at<K: NamesTable>(
     found_at(db, atoms, keeper, procedure, i, first, generation)
 }
 
-// The first of the clauses in the procedure at the index, where it has one for the goal and that is a clause of the goal's
-// procedure; else nothing is done.
+// The first of the clauses in the procedure at the index, or that there is none, where that procedure is the goal's, as a
+// clause shows that the generation sees there; else nothing is done.
 fn found_at<K: NamesTable>(
     db: &Db<CountedTerm>,
     atoms: &mut TableAtoms<K>,
@@ -264,7 +264,7 @@ fn found_at<K: NamesTable>(
 {
     agree(atoms, keeper);
     let Some(hit) = db.first_at(i, first, generation) else {
-        return None;
+        return none_at(db, procedure, i, generation);
     };
     if !is_of(hit.clause, procedure) {
         return None;
@@ -364,6 +364,32 @@ fn noted_place<K: NamesTable>(
         return None;
     }
     db.index_of(spelled)
+}
+
+// That there is no clause for a goal, where the procedure at the index is that of the predicate.
+fn none_at(db: &Db<CountedTerm>, procedure: &Procedure, i: u64, g: u64) -> Option<Row>
+    requires there { i < length db.now.parts }
+    requires floor { db.now.floor ≤ g }
+    ensures none { IfSome result (IsNoneAt db.now procedure.now i g) }
+    ensures replies { IfSome result IsReply }
+    ensures unrefused { IfSome result (λ r. row_refusals r ≡ []) }
+{
+    if !is_headed_so(db, procedure, i, g) {
+        return None;
+    }
+    Some(Row::Reads(Reply::Clauses(None)))
+}
+
+// Whether the first clause that the generation sees at the index is one of the predicate.
+fn is_headed_so(db: &Db<CountedTerm>, procedure: &Procedure, i: u64, g: u64) -> bool
+    requires there { i < length db.now.parts }
+    requires floor { db.now.floor ≤ g }
+    ensures { result ≡ true → IsHeaded db.now procedure.now i g }
+{
+    match db.first_at(i, &ArgumentKey::Any, g) {
+        Some(hit) => is_of(hit.clause, procedure),
+        None => false,
+    }
 }
 
 // The row that hands out the first of the clauses.

@@ -1,4 +1,10 @@
+use Rattle.counted_terms.specs.Rows.{row_names}
+use Rattle.counted_terms.specs.declared.row.Row.{Row}
+use Rattle.clause_db.proofs.Says.{held_passes}
+use Rattle.std.specs.Prelude.{IsSome}
 use Rattle.std.proofs.Common.{◌≡◌, ℕ, Option, Some, refl, sym, ap, subst, ◌∙◌}
+use Rattle.std.specs.List.{All}
+use Rattle.std.proofs.lemmas.List.Elements.{All-nil}
 use Rattle.std.proofs.lemmas.Result.{IfOk-weaker}
 use Rattle.pl_term.specs.Tree.{Chars, Tree}
 use Rattle.pl_model.specs.History.{Clause, head_part}
@@ -20,8 +26,8 @@ use Rattle.hub_database.specs.Clauses.{clause_by}
 use Rattle.hub_database.specs.Database.{databases}
 use Rattle.hub_database.specs.Rows.{HandsOut}
 use Rattle.hub_database.proofs.Deciding.{quiet_by, quiet_then, steady_by}
-use Rattle.hub_database.proofs.Fronts.{each_weaker, found_counted, head_same}
-use Rattle.hub_database.proofs.HintedCalls.{agreed_said, found_is, handed_out, named_same, steady_then}
+use Rattle.hub_database.proofs.Fronts.{each_weaker, found_counted, head_same, some_weaker}
+use Rattle.hub_database.proofs.HintedCalls.{agreed_said, found_is, handed_out, named_same, none_all, none_is, steady_then}
 use Rattle.hub_database.proofs.Readings.{all_counted}
 use Rattle.hub_database.proofs.finding.found_at.Goals as goal
 
@@ -80,3 +86,35 @@ returns-clause-says g c = λ goals h t at is own key.
     (IfOk-weaker c.hand_out.result _ (λ (f : Option (Found Tree)). IsFront term_by text f cs) (λ r front. front cs (ap (λ (m : Names). Some (place, clause_in (said m u), more)) c.agree.ensures.keeps ∙ found)) c.hand_out.ensures.front)))
     c.args.i c.requires.there
     (c.in-Some.ensures.says (clause_by k) (databases goals h) (λ (x : Clause). is_excluded goal_head x.head) is.says each)
+
+pub returns-in_default-clause-missed : goal.returns-in_default-clause-missed
+returns-in_default-clause-missed g c = none_all c.none_at.result c.agree.ensures.held
+
+pub returns-in_default-clause-named : goal.returns-in_default-clause-named
+returns-in_default-clause-named g c =
+    let m : Names = names (seen c.agree.new.atoms.seat) in
+    some_weaker c.none_at.result (λ r none_. subst (λ (row : Row). All (λ a. IsSome (m a)) (row_names row)) (sym none_.0) (All-nil (λ a. IsSome (m a)))) c.none_at.ensures.none
+
+pub returns-in_default-clause-says : goal.returns-in_default-clause-says
+returns-in_default-clause-says g c = λ goals h t at is own key.
+    let s = c.args.atoms.now in
+    let v : Names = names (seen s.seat) in
+    let k = keeper_view c.args.keeper.now in
+    let agreed = c.agree.ensures.agreed in
+    let goal_head = head_of (said v t) in
+    let all = all_counted k c.args.db.now c.args.generation c.requires.counts in
+    let each = each_weaker (λ u. IsCounted u k) (λ u. are_apart key_order is_any c.args.first.now (clause_key u) ≡ is_excluded goal_head (clause_by k u).head)
+    (λ u counted. agreed.excluded c.args.first.now t key c.requires.key u counted ∙ ap (is_excluded goal_head) (sym (head_same (said (kept k) u)))) c.args.db.now all in
+    some_weaker c.none_at.result
+    (λ r none_.
+    let w = none_.1 in
+    let counted : IsCounted w.clause k = held_passes (λ t. IsCounted t k) c.args.db.now w.clause all w.held in
+    let same_said : said agreed.map w.clause ≡ said (kept k) w.clause = agreed_said (seen s.seat) k agreed (keeper_fixed g.K.NamesTable.atoms g.K.NamesTable.size c.args.keeper.now c.requires.keeper) (fixed_named s.table.now.words s.seat s.sits s.fixed) w.clause counted in
+    let head_own =
+    ap (λ (x : Tree). predicate_of (head_part x)) (sym same_said)
+    ∙ w.own agreed.map agreed.lawful
+    ∙ named_same v agreed.map c.args.procedure.now agreed.held c.requires.name in
+    none_is goals h k c.args.db.now c.args.generation is goal_head (proc_named (text_of v) c.args.procedure.now) (text_of (names (seen c.agree.new.atoms.seat))) r w.place w.clause w.more head_own none_.0
+    c.args.i c.requires.there (w.first (clause_by k) (databases goals h) is.says)
+    (c.in_default.ensures.says (clause_by k) (databases goals h) (λ (x : Clause). is_excluded goal_head x.head) is.says each))
+    c.none_at.ensures.none
