@@ -137,6 +137,7 @@ fn meet_constant(cells: &mut Cells, word: Word, part: Word) -> Result<bool, Memo
 }
 
 /// Binds the unbound variable of a slot to a compound term of the block, which is made, unless the variable occurs in it.
+#[inline(never)]
 fn write_part(
     cells: &mut Cells,
     known: &mut Vec<Word>,

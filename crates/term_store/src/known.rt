@@ -11,6 +11,7 @@ use pl_term::Memory;
 
 /// Makes new variables for those of the clause that were not met, up to so many. They are numbered from `from` on by their
 /// place. After running out of memory, which is the only error, some may be made.
+#[inline(always)]
 pub fn make_known(
     cells: &mut Cells,
     known: &mut Vec<Word>,
@@ -35,6 +36,7 @@ pub fn make_known(
 }
 
 /// Does what `make_known` does, where there are some to be made.
+#[inline(never)]
 fn make_rest(
     cells: &mut Cells,
     known: &mut Vec<Word>,
