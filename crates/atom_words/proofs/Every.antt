@@ -7,8 +7,8 @@ use Rattle.atom_words.specs.Kept.{SeatOk, Kept}
 use Rattle.atom_words.specs.declared.size.Size.{Size}
 use Rattle.atom_words.specs.declared.view.View.{View}
 use Rattle.atom_words.specs.declared.kind.Kind.{Kind}
-use Rattle.atom_words.specs.declared.kind.Kind.TheVariants.{Raise, Risen, Reserve, PutWord, PutLink, Link, Validate, Release, Load, Refused, Start, Read, Next, Skip, Hold, Keep, Fix, StartPass, EndPass, Refuse, Ask, Protect, Fetch, Register, Unregister, Begin, Mark, Scan, Ack, Check, ToSweep, Look, Spell, Condemn, PassOver, Behind, UnlinkAt, UnlinkHead, Note, Bump, Past, Free, End, Make, Split, Join, Aim, Sound, Close, Emptied, Pick, MoveHead, MoveLink, LeaveHead, LeaveLink, PublishRow, Publish}
-use Rattle.atom_words.proofs.Loads.{keep_load, keep_refused, keep_start, keep_read, keep_next, keep_skip, keep_hold, keep_keep, keep_fix, keep_start_pass, keep_end_pass, keep_refuse, keep_ask}
+use Rattle.atom_words.specs.declared.kind.Kind.TheVariants.{Raise, Risen, Reserve, PutWord, PutLink, Link, Validate, Release, Load, Refused, Start, Read, Next, Skip, Hold, Keep, Fix, StartPass, EndPass, Refuse, Barred, Ask, Protect, Fetch, Register, Unregister, Begin, Mark, Scan, Ack, Check, ToSweep, Look, Spell, Condemn, PassOver, Behind, UnlinkAt, UnlinkHead, Note, Bump, Past, Free, End, Make, Split, Join, Aim, Sound, Close, Emptied, Pick, MoveHead, MoveLink, LeaveHead, LeaveLink, PublishRow, Publish}
+use Rattle.atom_words.proofs.Loads.{keep_load, keep_refused, keep_start, keep_read, keep_next, keep_skip, keep_hold, keep_keep, keep_fix, keep_start_pass, keep_end_pass, keep_refuse, keep_barred, keep_ask}
 use Rattle.atom_words.proofs.AtomSteps.{keep_reserve, keep_validate, keep_release, keep_protect, keep_fetch, keep_register, keep_unregister}
 use Rattle.atom_words.proofs.TextSteps.{keep_put_word, keep_put_link}
 use Rattle.atom_words.proofs.LinkStep.{keep_link}
@@ -41,6 +41,7 @@ module _ (z : Size) (b : Board) (vs : List View) (r : Kept z b vs) (id : ℕ) (v
   keep_kind (StartPass x) d = keep_start_pass z b vs r id v s x b' d
   keep_kind (EndPass x) d = keep_end_pass z b vs r id v s x b' d
   keep_kind (Refuse c) d = keep_refuse z b vs r id v s c b' d
+  keep_kind (Barred h x) d = keep_barred z b vs r id v s h x b' d
   keep_kind (Ask t) d = keep_ask z b vs r id v s t b' d
   keep_kind (Protect k x) d = keep_protect z b vs r id v s k x b' d
   keep_kind (Fetch k) d = keep_fetch z b vs r id v s k b' d

@@ -15,7 +15,7 @@ use Rattle.atom_words.specs.declared.view.Counted.{Counted}
 use Rattle.atom_words.specs.declared.view.Sweeping.{Sweeping}
 use Rattle.atom_words.specs.declared.view.View.{View}
 use Rattle.atom_words.specs.declared.kind.Kind.{Kind}
-use Rattle.atom_words.specs.declared.kind.Kind.TheVariants.{Raise, Risen, Reserve, PutWord, PutLink, Link, Validate, Release, Load, Refused, Start, Read, Next, Skip, Hold, Keep, Fix, StartPass, EndPass, Refuse, Ask, Protect, Fetch, Register, Unregister, Begin, Mark, Scan, Ack, Check, ToSweep, Look, Spell, Condemn, PassOver, Behind, UnlinkAt, UnlinkHead, Note, Bump, Past, Free, End, Aim, Sound, Close, Emptied, Pick, MoveHead, MoveLink, LeaveHead, LeaveLink, PublishRow, Publish}
+use Rattle.atom_words.specs.declared.kind.Kind.TheVariants.{Raise, Risen, Reserve, PutWord, PutLink, Link, Validate, Release, Load, Refused, Start, Read, Next, Skip, Hold, Keep, Fix, StartPass, EndPass, Refuse, Barred, Ask, Protect, Fetch, Register, Unregister, Begin, Mark, Scan, Ack, Check, ToSweep, Look, Spell, Condemn, PassOver, Behind, UnlinkAt, UnlinkHead, Note, Bump, Past, Free, End, Aim, Sound, Close, Emptied, Pick, MoveHead, MoveLink, LeaveHead, LeaveLink, PublishRow, Publish}
 use Rattle.atom_words.proofs.Slices.{some_same, text_else}
 use Rattle.atom_words.proofs.Every.{keep_move, reached_kept}
 use Rattle.atom_words.proofs.Sweeps.{known, swept_by}
@@ -57,6 +57,7 @@ module _ (z : Size) (b : Board) (vs : List View) (r : Kept z b vs) (b' : Board) 
   text_kind id v s (StartPass x) d = same_text (ap (λ (y : Board). y.texts) d.1)
   text_kind id v s (EndPass x) d = same_text (ap (λ (y : Board). y.texts) d.3)
   text_kind id v s (Refuse c) d = same_text (ap (λ (x : Board). x.texts) d.1)
+  text_kind id v s (Barred h x) d = same_text (ap (λ (y : Board). y.texts) d.3)
   text_kind id v s (Ask t) d = same_text (ap (λ (x : Board). x.texts) d)
   text_kind id v s (Protect i x) d = same_text (ap (λ (y : Board). y.texts) d.2)
   text_kind id v s (Fetch i) d = same_text (ap (λ (x : Board). x.texts) d.5)

@@ -4,12 +4,12 @@ use mathlib.Core.Option.{some}
 use lib.ListN.{get_elem?}
 use Rattle.atomic_table.proofs.Lists.{at_longer, at_last}
 use Rattle.atom_words.specs.Layout.{state_of, first_of, closed_of, version_of, phase_of}
-use Rattle.atom_words.proofs.Padding.{padded_is}
+use Rattle.atom_words.proofs.Padding.{padded_is, all_is}
 use Rattle.atom_words.specs.Board.{Board, text_of}
 use mathlib.Core.List.{map-append}
 use Rattle.atom_words.specs.Texts.{bucket, padded}
 use Rattle.atom_words.specs.Chains.{In, Chain, Linked}
-use Rattle.atom_words.specs.Kinds.{starting, reading, going_on, skipping, at_hand, whole_at_hand, held_at_hand, IsWhole, Sitting, view_after, Does}
+use Rattle.atom_words.specs.Kinds.{starting, reading, going_on, skipping, at_hand, whole_at_hand, held_at_hand, IsWhole, IsAll, Sitting, view_after, Does}
 use Rattle.atom_words.specs.Kept.{Plan, Left, Safe, Acked, HeldOk, Seen, WalkOk, SeatOk, slots, Trail, Kept}
 use Rattle.atom_words.specs.declared.size.Size.{Size}
 use Rattle.atom_words.specs.declared.view.Held.{Held}
@@ -18,9 +18,11 @@ use Rattle.atom_words.specs.declared.view.Passing.{Passing}
 use Rattle.atom_words.specs.declared.view.Sweeping.{Sweeping}
 use Rattle.atom_words.specs.declared.view.Growing.{Growing}
 use Rattle.atom_words.specs.declared.view.Refusal.{Refusal}
+use Rattle.atom_words.specs.declared.view.Cause.TheVariants.{Closed}
+use Rattle.atom_words.specs.declared.view.Refusal.TheVariants.{Again}
 use Rattle.atom_words.specs.declared.view.View.{View}
 use Rattle.atom_words.specs.declared.kind.Kind.{Kind}
-use Rattle.atom_words.specs.declared.kind.Kind.TheVariants.{Load, Refused, Start, Read, Next, Skip, Hold, Keep, Fix, StartPass, EndPass, Refuse, Ask}
+use Rattle.atom_words.specs.declared.kind.Kind.TheVariants.{Load, Refused, Start, Read, Next, Skip, Hold, Keep, Fix, StartPass, EndPass, Refuse, Barred, Ask}
 use Rattle.atom_words.proofs.Slices.{mapped, some_is, in_none, in_append, in_later, in_cases, at_snoc, none_in, text_length, text_short, read_more, chain_at, chain_few}
 use Rattle.atom_words.proofs.Rowing.{early_open, early_sweep, stands_early}
 use Rattle.atom_words.proofs.Frames.{keep_view, marks_now, marks_walk}
@@ -196,14 +198,14 @@ module _ (z : Size) (b : Board) (vs : List View) (r : Kept z b vs) (id : ℕ) (v
       }
 
   -- the slot at the cursor, whose text was spelled, stands in the chain of its text's bucket
-  sure_on : (h : ℕ) (y : Sweeping) → phase_of b.epoch ≡ 2 → v.sweep ≡ Some y → y.sure ≡ true → length y.text ≡ 32 → y.unlinked ≡ false → bucket b.row y.text ≡ h → In y.cursor (r.plan.chain h)
+  sure_on : (h : ℕ) (y : Sweeping) → phase_of b.epoch ≡ 2 → v.sweep ≡ Some y → y.sure ≡ true → IsAll y.text → y.unlinked ≡ false → bucket b.row (padded y.text) ≡ h → In y.cursor (r.plan.chain h)
   sure_on h y two sweep on whole in_ at = let same_ : r.plan.sweep ≡ y = (s.sweeps y sweep).1 in let k : ℕ = r.plan.sweep.cursor in
-      let on' : r.plan.sweep.sure ≡ true = ap (λ (q : Sweeping). q.sure) same_ ∙ on in let text : r.plan.sweep.text ≡ y.text = ap (λ (q : Sweeping). q.text) same_ in let long : length r.plan.sweep.text ≡ 32 = ap length text ∙ whole in
-      let short = text_short b.texts k in let all : text_of b.texts k ≡ r.plan.sweep.text = sym (take_all (length r.plan.sweep.text) (text_of b.texts k) (omega arith)) ∙ r.sure.text on' in
+      let on' : r.plan.sweep.sure ≡ true = ap (λ (q : Sweeping). q.sure) same_ ∙ on in let text : r.plan.sweep.text ≡ y.text = ap (λ (q : Sweeping). q.text) same_ in
       let find : Linked z.heads r.plan.chain k = ⊎_elim (λ (valid : state_of (get_or b.atoms k 0) ≡ 3). r.slots.valid k valid)
       (λ (dying : state_of (get_or b.atoms k 0) ≡ 2). let slot : r.plan.fate.slot ≡ k + 1 = r.slots.only k dying in let f = r.fate.dies (λ none. omega arith) in
       (r.plan.fate.head, f.inside, (f.there (sym r.fate.out ∙ (ap (λ (q : Sweeping). q.unlinked) same_ ∙ in_))).0)) (r.sure.state on') in
-      let head : find.0 ≡ h = sym (stands_early z b.row r.plan.grow b.links b.heads b.texts r.plan.chain r.plan.place r.plan.fate r.rows (early_sweep z b vs r two) find.0 k find.1 find.2) ∙ (ap (bucket b.row) (all ∙ text) ∙ at) in
+      let all : text_of b.texts k ≡ padded r.plan.sweep.text = all_is (text_of b.texts k) r.plan.sweep.text (text_length b.texts k z.slots r.sized.texts (r.sure.inside on')) (r.sure.text on') (subst IsAll (sym text) whole) (r.rows.formed find.0 k find.1 find.2) in
+      let head : find.0 ≡ h = sym (stands_early z b.row r.plan.grow b.links b.heads b.texts r.plan.chain r.plan.place r.plan.fate r.rows (early_sweep z b vs r two) find.0 k find.1 find.2) ∙ (ap (bucket b.row) (all ∙ ap padded text) ∙ at) in
       subst (λ (g : ℕ). In y.cursor (r.plan.chain g)) head (subst (λ (q : ℕ). In q (r.plan.chain find.0)) (ap (λ (q : Sweeping). q.cursor) same_) find.2)
 
   -- the collector's walk, at its start and as it goes on
@@ -323,6 +325,9 @@ module _ (z : Size) (b : Board) (vs : List View) (r : Kept z b vs) (id : ℕ) (v
 
   pub keep_refuse : (c : Refusal) (b' : Board) → Does z b v (Refuse c) b' → Kept z b' (set vs id (view_after v (Refuse c)))
   keep_refuse c b' d = keep_same b' (view_after v (Refuse c)) d.1 (same z b r.plan id v s v.pass (v.refusals ++ c ∷ []) v.asked (v.made ++ Refuse c ∷ []))
+
+  pub keep_barred : (h x : ℕ) (b' : Board) → Does z b v (Barred h x) b' → Kept z b' (set vs id (view_after v (Barred h x)))
+  keep_barred h x b' d = keep_same b' (view_after v (Barred h x)) d.3 (same z b r.plan id v s v.pass (v.refusals ++ Again (Closed x) ∷ []) v.asked (v.made ++ Barred h x ∷ []))
 
   pub keep_ask : (t : List ℕ) (b' : Board) → Does z b v (Ask t) b' → Kept z b' (set vs id (view_after v (Ask t)))
   keep_ask t b' d = keep_same b' (view_after v (Ask t)) d (same z b r.plan id v s v.pass v.refusals (v.asked ++ t ∷ []) (v.made ++ Ask t ∷ []))

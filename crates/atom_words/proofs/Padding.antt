@@ -1,11 +1,12 @@
 -- A text of which only the words that it fills were read.
-use Rattle.std.proofs.Common.{◌≡◌, ℕ, zero, suc, ◌+◌, ◌-◌, ◌*◌, ◌/◌, ◌<◌, ◌≤◌, List, length, get_or, take, drop, replicate, ◌++◌, sym, ap, ◌∙◌, subst, arith, length-append, length-take}
+use Rattle.std.proofs.Common.{◌≡◌, ℕ, zero, suc, ◌+◌, ◌-◌, ◌*◌, ◌/◌, ◌<◌, ◌≤◌, List, [], length, get_or, take, drop, replicate, ◌++◌, sym, ap, ◌∙◌, subst, ⊎_elim, arith, length-append, append-nil, length-take, take_all}
 use Rattle.std.proofs.lemmas.Grind.{same_number_lists}
 use Rattle.std.proofs.lemmas.List.{at_drop_all, get_or-take, get_or-append_right, get_or-replicate}
 use mathlib.Core.Logic.{dite}
 use native.Mathlib.Decide.{dec_le}
 use lib.ListN.{get_or-append, length-replicate}
 use Rattle.atom_words.specs.Texts.{packed, row_of, filled, Formed, padded}
+use Rattle.atom_words.specs.Kinds.{IsWhole, IsAll}
 use Rattle.atom_words.proofs.Putting.{row_first, row_word_is}
 use Rattle.atom_words.proofs.Slices.{or_beyond}
 
@@ -30,6 +31,17 @@ padded_is t ws long begins some_ all formed = let l = length-take (length ws) t 
   where
     word : (i : ℕ) → i < length ws → get_or t i 0 ≡ get_or ws i 0
     word i below = sym (get_or-take (length ws) t i 0 below) ∙ ap (λ (l : List ℕ). get_or l i 0) begins
+
+-- or that are all its words
+pub all_is : (t ws : List ℕ) → length t ≡ 32 → take (length ws) t ≡ ws → IsAll ws → Formed t → t ≡ padded ws
+all_is t ws long begins all formed = ⊎_elim
+    (λ (w : IsWhole ws). padded_is t ws long begins w.0 w.1 formed)
+    (λ (full : length ws ≡ 32). sym (take_all (length ws) t (omega arith)) ∙ (begins ∙ (sym (append-nil ws) ∙ ap (λ (n : ℕ). ws ++ replicate n 0) (let e : 0 ≡ 32 - length ws = omega arith in e))))
+    all
+
+-- no words are not
+pub not_all : IsAll [] → ⊥
+not_all all = ⊎_elim (λ (w : IsWhole []). let some_ = w.0 in omega arith) (λ (full : length {A = ℕ} [] ≡ 32). omega (arith, full)) all
 
 -- the words of a text are so
 pub formed_row : (bs : List ℕ) → length bs ≤ 248 → Formed (row_of bs)

@@ -12,6 +12,7 @@ use Rattle.atom_words.specs.declared.kind.Kind.{Kind}
 use Rattle.atom_words.specs.declared.kind.Kind.TheVariants.{Look, Spell, Behind, Note, Past, End}
 use Rattle.atom_words.proofs.Layouts.{phase-epoch_word, epoch-epoch_word}
 use Rattle.atom_words.proofs.Slices.{text_length, read_more}
+use Rattle.atom_words.proofs.Padding.{not_all}
 use Rattle.atom_words.proofs.Puts.{unmapped}
 use Rattle.atom_words.proofs.Frames.{marks_walk}
 use Rattle.atom_words.proofs.Cycles.{collector_step, own_trail, sure_same}
@@ -80,7 +81,7 @@ module _ (z : Size) (b : Board) (vs : List View) (r : Kept z b vs) (id : ℕ) (v
         text = λ _. refl;
       }
       (fate_idle b.epoch (looking x) refl refl refl (idle_by y at d.2))
-      (own_trail z b vs r id v s b.epoch (looking x) v.walk (λ q w _ t. record { news = t.news; path = t.path; whole = t.whole; reached = t.reached; fresh = t.fresh; ahead = λ two on whole. absurd (omega (arith, whole)); still = t.still })))
+      (own_trail z b vs r id v s b.epoch (looking x) v.walk (λ q w _ t. record { news = t.news; path = t.path; whole = t.whole; reached = t.reached; fresh = t.fresh; ahead = λ two on whole. absurd (not_all whole); still = t.still })))
 
   pub keep_spell : (x : ℕ) (b' : Board) → Does z b v (Spell x) b' → Kept z b' (set vs id (view_after v (Spell x)))
   keep_spell x b' d = let y : Sweeping = d.0 in let at = d.1.0 in let is = known y at in let c : Sweeping = r.plan.sweep in let on : c.sure ≡ true = ap (λ (t : Sweeping). t.sure) is ∙ d.3 in

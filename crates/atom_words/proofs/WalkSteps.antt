@@ -21,11 +21,11 @@ use Rattle.atom_words.specs.declared.view.Held.{Held}
 use Rattle.atom_words.specs.declared.view.Counted.{Counted}
 use Rattle.atom_words.specs.declared.view.Own.{Own}
 use Rattle.atom_words.specs.declared.view.Walk.{Walk}
-use Rattle.atom_words.specs.declared.view.Cause.TheVariants.{Moved, Pending, Closed}
+use Rattle.atom_words.specs.declared.view.Cause.TheVariants.{Moved, Pending}
 use Rattle.atom_words.specs.declared.view.Refusal.TheVariants.{Again, Worn}
 use Rattle.atom_words.specs.declared.view.View.{View}
 use Rattle.atom_words.specs.declared.kind.Kind.{Kind}
-use Rattle.atom_words.specs.declared.kind.Kind.TheVariants.{Load, Protect, Start, Read, Next, Skip, Hold, PutLink, Link, Fetch, Refuse, Keep, Fix, Ask}
+use Rattle.atom_words.specs.declared.kind.Kind.TheVariants.{Load, Protect, Start, Read, Next, Skip, Hold, PutLink, Link, Fetch, Refuse, Barred, Keep, Fix, Ask}
 use Rattle.atom_words.proofs.Regions.{head_read, text_read}
 use Rattle.atom_words.proofs.Slices.{some_same, or_at, last_same, text_length, chain_at}
 use Rattle.atom_words.proofs.Padding.{padded_is}
@@ -49,7 +49,7 @@ module _ (key : Size) (slots id : ℕ) (me : Sat) (is : key ≡ me.0.size) (here
       (head_load key me.0.size slots id me h (walk_started (step slots (head_at me.0.size h) 0 0 none) me) is here inside
       (λ b vs r seen small. dite (ℕ_discrete (closed_of (head b h)) 0)
       (λ open_. (Start h (head b h), (inside, refl, inl open_, refl), (refl, λ j e. let same : h ≡ j = omega arith in ((λ _. ap (λ (x : ℕ). view_after me.0 (Start x (head b h))) same), λ ne. absurd (ne open_)))))
-      (λ closed. (Refuse (Again (Closed (head b h))), ((h, inside, refl, omega arith), refl), (refl, λ j e. ((λ o. absurd (closed o)), λ _. refl))))))
+      (λ closed. (Barred h (head b h), (inside, refl, closed, refl), (refl, λ j e. let same : h ≡ j = omega arith in ((λ o. absurd (closed o)), λ _. ap (λ (x : ℕ). view_after me.0 (Barred x (head b h))) same))))))
 
   pub reading_word : (i k : ℕ) (w : Walk) → me.0.walk ≡ Some w → w.place ≡ k + 1 → length w.part < 32 → i ≡ text_at me.0.size (32 * k + length w.part) → Allows (Rule key) slots id me i (λ n. n) (word_read (step slots i 0 0 none) me)
   reading_word i k w walk place more at = subst (λ (x : ℕ). Allows (Rule key) slots id me x (λ n. n) (word_read (step slots x 0 0 none) me)) (sym at)

@@ -3,10 +3,10 @@ use Rattle.std.specs.Prelude.{◌≡◌, ◌≢◌, ◌⊎◌, ℕ, ◌+◌, ◌
 use mathlib.Core.Option.{some}
 use lib.ListN.{get_elem?}
 use Rattle.atom_words.specs.Layout.{state_of, mark_of, count_of, first_of, closed_of, version_of, worn, last, phase_of, epoch_of, row_first}
-use Rattle.atom_words.specs.Texts.{bucket, Formed}
+use Rattle.atom_words.specs.Texts.{bucket, Formed, padded}
 use Rattle.atom_words.specs.Board.{Board, Sized, text_of}
 use Rattle.atom_words.specs.Chains.{In, Chain, Linked}
-use Rattle.atom_words.specs.Kinds.{RowOk}
+use Rattle.atom_words.specs.Kinds.{RowOk, IsAll}
 use Rattle.atom_words.specs.declared.size.Size.{Size}
 use Rattle.atom_words.specs.declared.view.Held.{Held}
 use Rattle.atom_words.specs.declared.view.Counted.{Counted}
@@ -122,7 +122,7 @@ pub record Trail (epoch row : ℕ) (links heads : List ℕ) (chain : ℕ → Lis
   pub whole : chain w.head ≡ news ++ (slots w.seen ++ path)
   pub reached : Chain links w.place path
   pub fresh : phase_of epoch ≡ 2 → version_of w.word < last → version_of (slice_index heads w.head) < last
-  pub ahead : phase_of epoch ≡ 2 → y.sure ≡ true → length y.text ≡ 32 → y.unlinked ≡ false → bucket row y.text ≡ w.head → In y.cursor (slots w.seen ++ path)
+  pub ahead : phase_of epoch ≡ 2 → y.sure ≡ true → IsAll y.text → y.unlinked ≡ false → bucket row (padded y.text) ≡ w.head → In y.cursor (slots w.seen ++ path)
   pub still : closed_of (slice_index heads w.head) ≢ 0 → slice_index heads w.head ≡ w.word
 
 -- what the seat j knows is so

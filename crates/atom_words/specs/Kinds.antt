@@ -22,7 +22,7 @@ use Rattle.atom_words.specs.declared.view.Refusal.{Refusal}
 use Rattle.atom_words.specs.declared.view.Refusal.TheVariants.{Full, Again, Worn}
 use Rattle.atom_words.specs.declared.view.View.{View}
 use Rattle.atom_words.specs.declared.kind.Kind.{Kind}
-use Rattle.atom_words.specs.declared.kind.Kind.TheVariants.{Raise, Risen, Reserve, PutWord, PutLink, Link, Validate, Release, Load, Refused, Start, Read, Next, Skip, Hold, Keep, Fix, StartPass, EndPass, Refuse, Ask, Protect, Fetch, Register, Unregister, Begin, Mark, Scan, Ack, Check, ToSweep, Look, Spell, Condemn, PassOver, Behind, UnlinkAt, UnlinkHead, Note, Bump, Past, Free, End, Aim, Sound, Close, Emptied, Pick, MoveHead, MoveLink, LeaveHead, LeaveLink, PublishRow, Publish}
+use Rattle.atom_words.specs.declared.kind.Kind.TheVariants.{Raise, Risen, Reserve, PutWord, PutLink, Link, Validate, Release, Load, Refused, Start, Read, Next, Skip, Hold, Keep, Fix, StartPass, EndPass, Refuse, Barred, Ask, Protect, Fetch, Register, Unregister, Begin, Mark, Scan, Ack, Check, ToSweep, Look, Spell, Condemn, PassOver, Behind, UnlinkAt, UnlinkHead, Note, Bump, Past, Free, End, Aim, Sound, Close, Emptied, Pick, MoveHead, MoveLink, LeaveHead, LeaveLink, PublishRow, Publish}
 
 -- the word with its mark set
 abbrev pub marked : ℕ → ℕ
@@ -64,6 +64,10 @@ held_at_hand (Some w) = whole_at_hand w ∷ []
 -- the words are those that the text fills, or more
 abbrev pub IsWhole : List ℕ → Type 0
 IsWhole part = (0 < length part) × (filled (get_or part 0 0) ≤ length part)
+
+-- they are so, or all 32 words of a text
+abbrev pub IsAll : List ℕ → Type 0
+IsAll part = IsWhole part ⊎ (length part ≡ 32)
 
 abbrev pub starting : ℕ → ℕ → Walk
 starting h x = record { head = h; word = x; place = first_of x; part = []; guarded = false; dead = false; lost = false; skipped = 0; seen = [] }
@@ -276,6 +280,7 @@ view_after v Fix = record v { held = []; fixed = v.fixed ++ v.held; made = v.mad
 view_after v (StartPass x) = record v { pass = Some (record { began = x; first = 0; counted = 0 }); made = v.made ++ StartPass x ∷ [] }
 view_after v (EndPass x) = record v { pass = None; refusals = v.refusals ++ full v x v.pass; made = v.made ++ EndPass x ∷ [] }
 view_after v (Refuse r) = record v { refusals = v.refusals ++ r ∷ []; made = v.made ++ Refuse r ∷ [] }
+view_after v (Barred h x) = record v { refusals = v.refusals ++ Again (Closed x) ∷ []; made = v.made ++ Barred h x ∷ [] }
 view_after v (Ask t) = record v { asked = v.asked ++ t ∷ []; made = v.made ++ Ask t ∷ [] }
 view_after v (Protect k x) = record v { walk = option_map (guarding k x) v.walk; made = v.made ++ Protect k x ∷ [] }
 view_after v (Fetch k) = record v { held = v.held ++ held_counted k v.counts; made = v.made ++ Fetch k ∷ [] }
@@ -321,12 +326,12 @@ after v (kind ∷ kinds) = after (view_after v kind) kinds
 abbrev pub Ended : ℕ → Own → Walk → Type 0
 Ended row o w = (bucket row o.text ≡ w.head) × (w.place ≡ 0) × ((i : ℕ) (a : Held) → get_elem? w.seen i ≡ some a → a.text ≢ take (length a.text) o.text)
 
--- A refusal's cause, as a step finds it; of a slot that is reserved, as the step just before found it
+-- A refusal's cause, as a step finds it; of a slot that is reserved, as the step just before found it. A closed head is a kind of its own, which names the head
 abbrev pub Shows : Size → Board → View → Refusal → Type 0
 Shows z b v (Full p) = ⊥
 Shows z b v (Again (Moved old new)) = (w : Walk) × (v.walk ≡ Some w) × (w.word ≡ old) × (w.head < z.heads) × (head b w.head ≡ new) × (version_of new ≢ version_of old)
 Shows z b v (Again (Pending k x)) = (w : Walk) × (v.walk ≡ Some w) × (w.place ≡ k + 1) × (k < z.slots) × (state_of x ≡ 1) × ((o : Own) → v.own ≡ Some o → o.slot ≢ k) × ((before : List Kind) × (v.made ≡ before ++ Protect k x ∷ []))
-Shows z b v (Again (Closed x)) = (h : ℕ) × (h < z.heads) × (head b h ≡ x) × (closed_of x ≡ 1)
+Shows z b v (Again (Closed x)) = ⊥
 Shows z b v (Worn w) = (w.head < z.heads) × (head b w.head ≡ w.word) × (worn ≤ version_of w.word) × (w.start ≡ z.start)
 
 -- The seat loaded the slot's word just before, found it free, and the exchange of that word finds another
@@ -354,6 +359,7 @@ Does z b v Fix b' = ((a : Held) → In a v.held → a.slot < 256) × (b' ≡ b)
 Does z b v (StartPass x) b' = (b.epoch ≡ x) × (b' ≡ b)
 Does z b v (EndPass x) b' = (p : Passing) × (v.pass ≡ Some p) × (b.epoch ≡ x) × (b' ≡ b)
 Does z b v (Refuse r) b' = Shows z b v r × (b' ≡ b)
+Does z b v (Barred h x) b' = (h < z.heads) × (head b h ≡ x) × (closed_of x ≢ 0) × (b' ≡ b)
 Does z b v (Ask t) b' = b' ≡ b
 Does z b v (Protect k x) b' = (k < z.slots) × (atom b k ≡ x) × (b' ≡ with_atom b k (marked x))
 Does z b v (Fetch k) b' = (cs : List Counted) × (v.counts ≡ Some cs) × (k < z.slots) × (0 < (counted cs k).count) × Sitting v × (b' ≡ with_atom b k (marked (atom b k)))

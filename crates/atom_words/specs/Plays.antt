@@ -12,11 +12,11 @@ use Rattle.atom_words.specs.declared.view.Held.{Held}
 use Rattle.atom_words.specs.declared.view.Counted.{Counted}
 use Rattle.atom_words.specs.declared.view.Own.{Own}
 use Rattle.atom_words.specs.declared.view.Walk.{Walk}
-use Rattle.atom_words.specs.declared.view.Cause.TheVariants.{Moved, Pending, Closed}
+use Rattle.atom_words.specs.declared.view.Cause.TheVariants.{Moved, Pending}
 use Rattle.atom_words.specs.declared.view.Refusal.TheVariants.{Again, Worn}
 use Rattle.atom_words.specs.declared.view.View.{View}
 use Rattle.atom_words.specs.declared.kind.Kind.{Kind}
-use Rattle.atom_words.specs.declared.kind.Kind.TheVariants.{Raise, Risen, Reserve, PutWord, PutLink, Link, Validate, Release, Load, Refused, Start, Read, Next, Skip, Hold, StartPass, EndPass, Protect, Fetch, Register, Unregister, Refuse, Keep, Fix, Ask}
+use Rattle.atom_words.specs.declared.kind.Kind.TheVariants.{Raise, Risen, Reserve, PutWord, PutLink, Link, Validate, Release, Load, Refused, Start, Read, Next, Skip, Hold, StartPass, EndPass, Protect, Fetch, Register, Unregister, Refuse, Barred, Keep, Fix, Ask}
 
 abbrev Sat : Type 0
 Sat = Me (Unit {0}) View
@@ -89,7 +89,7 @@ loaded st m r m' = Is (Load st.word r) m m'
 -- a walk begins at an open head; a closed one refuses
 abbrev pub walk_started : At → Sat → ℕ → Sat → Type 0
 walk_started st m r m' = (m'.1 ≡ m.1) × ((h : ℕ) → st.word ≡ head_at m.0.size h
-    → (closed_of r ≡ 0 → m'.0 ≡ view_after m.0 (Start h r)) × (closed_of r ≢ 0 → m'.0 ≡ view_after m.0 (Refuse (Again (Closed r)))))
+    → (closed_of r ≡ 0 → m'.0 ≡ view_after m.0 (Start h r)) × (closed_of r ≢ 0 → m'.0 ≡ view_after m.0 (Barred h r)))
 
 -- the walk reads the next word of the text at hand
 abbrev pub word_read : At → Sat → ℕ → Sat → Type 0

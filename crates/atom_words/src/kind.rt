@@ -50,6 +50,8 @@ pub enum Kind {
     EndPass(u64),
     /// A try is refused with that cause.
     Refuse(Refusal),
+    /// A try is refused since that head is closed, whose word is that number.
+    Barred(u64, u64),
     /// A text is asked of the seat.
     Ask(LinkedList<u64>),
     // Use: the others

@@ -5,7 +5,7 @@ use lib.ListN.{get_elem?}
 use Rattle.std.proofs.lemmas.List.{length-map}
 use Rattle.atomic_table.proofs.Lists.{set_here}
 use Rattle.atom_words.specs.Layout.{first_of, phase_of}
-use Rattle.atom_words.specs.Texts.{bucket}
+use Rattle.atom_words.specs.Texts.{bucket, padded}
 use Rattle.atom_words.specs.Board.{Board}
 use Rattle.atom_words.specs.Chains.{In, Chain}
 use Rattle.atom_words.specs.Kinds.{view_after, Does}
@@ -39,7 +39,7 @@ ahead_of z b vs r id v at here y w sweep walk phase sure whole linked head = let
     (λ (i : In y.cursor (slots w.seen)). inl i)
     (λ (i : In y.cursor t.path). let at = stands b.links w.place y.cursor (length w.seen) t.path t.reached i (omega arith) in
     inr (at.0, subst (λ (n : ℕ). w.place ≤ n) many at.1, subst (λ (n : ℕ). length w.seen < n) many at.2))
-    (in_either y.cursor (slots w.seen) t.path (t.ahead swept sure whole linked (ap (λ (n : ℕ). bucket n y.text) row ∙ head)))
+    (in_either y.cursor (slots w.seen) t.path (t.ahead swept sure whole linked (ap (λ (n : ℕ). bucket n (padded y.text)) row ∙ head)))
 
 -- so after each step
 pub ahead_after : (z : Size) (b : Board) (vs : List View) → Kept z b vs → (id : ℕ) (v : View) → get_elem? vs id ≡ some v → v.gone ≡ false → (kind : Kind) (b' : Board) → Does z b v kind b' → (view_after v kind).gone ≡ false → Ahead (view_after v kind)

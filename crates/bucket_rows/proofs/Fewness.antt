@@ -56,7 +56,7 @@ few_again s a n ks h x xs f le = let begun : List Kind = Start h x ∷ [] in let
     few_by s a (n + 1) ((ks ++ begun) ++ nexts xs) (starts ks + 1) walks (omega arith) (omega arith)
 
 -- the slot's text is read, and the walk comes to it
-pub few_reached : (s n h x : ℕ) (row xs : List ℕ) → length row ≡ 32 → length xs ≤ s → Few s 33 1 ((spells row ++ (Load 1 n ∷ Start h x ∷ [])) ++ nexts xs)
+pub few_reached : (s n h x : ℕ) (row xs : List ℕ) → length row ≤ 32 → length xs ≤ s → Few s 33 1 ((spells row ++ (Load 1 n ∷ Start h x ∷ [])) ++ nexts xs)
 few_reached s n h x row xs long le = few_again_from
   where
     loaded : List Kind
@@ -81,6 +81,6 @@ few_kept s i x ks f = few_most s (1 + 33 + 1) (0 + 1 + 0) 40 (last + 1) ((Look 3
     (few_append s (1 + 33) (0 + 1) 1 0 (Look 3 ∷ ks) (Load i x ∷ []) (few_append s 1 0 33 1 (Look 3 ∷ []) ks (few_flat s 1 (Look 3 ∷ []) refl (omega arith)) f) (few_flat s 1 (Load i x ∷ []) refl (omega arith)))
     (omega arith) (omega arith)
 
-pub few_worn : (s n h x : ℕ) (row : List ℕ) → length row ≡ 32 → Few s 40 (last + 1) (Look 3 ∷ (spells row ++ (Load 1 n ∷ Start h x ∷ [])))
+pub few_worn : (s n h x : ℕ) (row : List ℕ) → length row ≤ 32 → Few s 40 (last + 1) (Look 3 ∷ (spells row ++ (Load 1 n ∷ Start h x ∷ [])))
 few_worn s n h x row long = let ends : List Kind = Load 1 n ∷ Start h x ∷ [] in let all = length-append (spells row) ends in let words = many_spells row in
     few_by s 40 (last + 1) (Look 3 ∷ (spells row ++ ends)) 1 (ap (λ (m : ℕ). 0 + m) (starts_append (spells row) ends ∙ ap (λ (m : ℕ). m + 1) (starts_spells row))) (omega arith) (omega arith)

@@ -1,7 +1,7 @@
 -- The dying slot leaves its chain: the view from step to step.
 use Rattle.std.proofs.Common.{◌≡◌, ℕ, ◌+◌, ◌<◌, false, true, List, [], ◌∷◌, ◌++◌, refl, sym, ap, ◌∙◌, subst, Some, Result, Ok, Err, MatchResult, option_map}
 use Rattle.atom_words.specs.Layout.{first_of, version_of, last}
-use Rattle.atom_words.specs.Texts.{bucket}
+use Rattle.atom_words.specs.Texts.{bucket, padded}
 use Rattle.atom_words.specs.Kinds.{unlinking, noting, moving_past, Dying, Unlinked, after}
 use Rattle.atom_words.specs.Ties.{walk_word, walk_head}
 use Rattle.atom_words.specs.Seats.{seen}
@@ -48,7 +48,7 @@ behinds_again k x y before n after_ link v u b t same rows early = let is : t.sw
   n,
   t,
   ap (λ (s : Sweeping). s.dying) is ∙ b.2,
-  ap (λ (s : Sweeping). s.head) is ∙ (b.3 ∙ (sym b.1.head ∙ ((λ i. bucket (sym rows i).row (sym is i).text) ∙ t.head))),
+  ap (λ (s : Sweeping). s.head) is ∙ (b.3 ∙ (sym b.1.head ∙ ((λ i. bucket (sym rows i).row (padded (sym is i).text)) ∙ t.head))),
   ap (λ (s : Sweeping). s.behind) is ∙ b.4,
   early,
 )

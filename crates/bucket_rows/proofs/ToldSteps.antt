@@ -13,7 +13,7 @@ use Rattle.atom_words.specs.declared.size.Size.{Size}
 use Rattle.atom_words.specs.declared.view.Sweeping.{Sweeping}
 use Rattle.atom_words.specs.declared.view.View.{View}
 use Rattle.atom_words.specs.declared.kind.Kind.{Kind}
-use Rattle.atom_words.specs.declared.kind.Kind.TheVariants.{Raise, Risen, Reserve, PutWord, PutLink, Link, Validate, Release, Load, Refused, Start, Read, Next, Skip, Hold, Keep, Fix, StartPass, EndPass, Refuse, Ask, Protect, Fetch, Register, Unregister, Split, Join, Begin, Mark, Scan, Ack, Check, ToSweep, Look, Spell, Condemn, PassOver, Behind, UnlinkAt, UnlinkHead, Note, Bump, Past, Free, End, Aim, Sound, Close, Emptied, Pick, MoveHead, MoveLink, LeaveHead, LeaveLink, PublishRow, Publish}
+use Rattle.atom_words.specs.declared.kind.Kind.TheVariants.{Raise, Risen, Reserve, PutWord, PutLink, Link, Validate, Release, Load, Refused, Start, Read, Next, Skip, Hold, Keep, Fix, StartPass, EndPass, Refuse, Barred, Ask, Protect, Fetch, Register, Unregister, Split, Join, Begin, Mark, Scan, Ack, Check, ToSweep, Look, Spell, Condemn, PassOver, Behind, UnlinkAt, UnlinkHead, Note, Bump, Past, Free, End, Aim, Sound, Close, Emptied, Pick, MoveHead, MoveLink, LeaveHead, LeaveLink, PublishRow, Publish}
 use Rattle.atom_words.proofs.Regions.{atom_read}
 use Rattle.atom_words.proofs.Slices.{some_same, last_same}
 use Rattle.atom_words.proofs.Puts.{unmapped}
@@ -66,6 +66,7 @@ effect z b b' v none Fix calm d = leaves b b' v d.1
 effect z b b' v none (StartPass x) calm d = leaves b b' v d.1
 effect z b b' v none (EndPass x) calm d = leaves b b' v d.3
 effect z b b' v none (Refuse c) calm d = leaves b b' v d.1
+effect z b b' v none (Barred h x) calm d = leaves b b' v d.3
 effect z b b' v none (Ask t) calm d = leaves b b' v d
 effect z b b' v none (Mark x those) calm d = leaves b b' v d.5
 effect z b b' v none Ack calm d = inl (ap (λ (x : Board). x.atoms) d.2, ap (λ (x : Board). x.epoch) d.2)

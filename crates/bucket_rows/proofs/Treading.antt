@@ -2,10 +2,10 @@
 use Rattle.std.proofs.Common.{◌≡◌, ◌≢◌, ℕ, ◌+◌, ◌-◌, List, [], ◌∷◌, ◌++◌, length, refl, sym, ap, ◌∙◌, subst, inl, inr, ⊎_elim, arith, Some, option_map, length-append, append_assoc, append-nil}
 use mathlib.Core.List.{map-append}
 use Rattle.atom_words.specs.Layout.{first_of}
-use Rattle.atom_words.specs.Texts.{bucket}
+use Rattle.atom_words.specs.Texts.{bucket, padded}
 use Rattle.atom_words.specs.Chains.{In}
 use Rattle.atom_words.specs.Kept.{slots}
-use Rattle.atom_words.specs.Kinds.{at_hand, starting, going_on, spelling, condemning, with_behind, head_of, view_after, after}
+use Rattle.atom_words.specs.Kinds.{IsAll, at_hand, starting, going_on, spelling, condemning, with_behind, head_of, view_after, after}
 use Rattle.atom_words.specs.Ties.{WalkTied}
 use Rattle.atom_words.specs.declared.view.Held.{Held}
 use Rattle.atom_words.specs.declared.view.Walk.{Walk}
@@ -90,18 +90,18 @@ treads_again k x n before p y v t = record {
 }
 
 -- the first walk begins at the head of the bucket of the text that was spelled
-pub treads_start : (k x n : ℕ) (row : List ℕ) (u v t : View) → Found k u → length row ≡ 32 → v ≡ after u (spells row) → t ≡ after v (Load 1 n ∷ []) → u.growing.row ≡ n → Treads k x 0 0 (first_of x) (view_after t (Start (bucket n row) x))
+pub treads_start : (k x n : ℕ) (row : List ℕ) (u v t : View) → Found k u → IsAll row → v ≡ after u (spells row) → t ≡ after v (Load 1 n ∷ []) → u.growing.row ≡ n → Treads k x 0 0 (first_of x) (view_after t (Start (bucket n (padded row)) x))
 treads_start k x n row u v t f long is loaded known = let y : Sweeping = record f.0 { text = f.0.text ++ row } in let text : f.0.text ++ row ≡ row = ap (λ (l : List ℕ). l ++ row) f.6 in
     let rows : t.growing.row ≡ n = ap (λ (q : View). q.growing.row) loaded ∙ (ap (λ (q : View). q.growing.row) is ∙ (spells_keep (λ (q : View). q.growing.row) (λ _ _. refl) u row ∙ known)) in record {
       sweep = y;
       sweeps = (ap (λ (q : View). q.sweep) loaded ∙ (ap (λ (q : View). q.sweep) is ∙ spells_know u f.0 row f.1.0), f.1.1);
       cursor = f.4;
       sure = f.5;
-      whole = ap length text ∙ long;
+      whole = subst IsAll (sym text) long;
       linked = f.3;
-      walk = starting (bucket n row) x;
+      walk = starting (bucket n (padded row)) x;
       at = refl;
-      head = (λ i. bucket (rows i) (text i));
+      head = (λ i. bucket (rows i) (padded (text i)));
       word = refl;
       count = refl;
       place = refl;

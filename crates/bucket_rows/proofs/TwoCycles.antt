@@ -13,7 +13,7 @@ use Rattle.atom_words.specs.declared.size.Size.{Size}
 use Rattle.atom_words.specs.declared.view.Sweeping.{Sweeping}
 use Rattle.atom_words.specs.declared.view.View.{View}
 use Rattle.atom_words.specs.declared.kind.Kind.{Kind}
-use Rattle.atom_words.specs.declared.kind.Kind.TheVariants.{Raise, Risen, Reserve, PutWord, PutLink, Link, Validate, Release, Load, Refused, Start, Read, Next, Skip, Hold, Keep, Fix, StartPass, EndPass, Refuse, Ask, Protect, Fetch, Register, Unregister, Begin, Mark, Scan, Ack, Check, ToSweep, Look, Spell, Condemn, PassOver, Behind, UnlinkAt, UnlinkHead, Note, Bump, Past, Free, End, Aim, Sound, Close, Emptied, Pick, MoveHead, MoveLink, LeaveHead, LeaveLink, PublishRow, Publish}
+use Rattle.atom_words.specs.declared.kind.Kind.TheVariants.{Raise, Risen, Reserve, PutWord, PutLink, Link, Validate, Release, Load, Refused, Start, Read, Next, Skip, Hold, Keep, Fix, StartPass, EndPass, Refuse, Barred, Ask, Protect, Fetch, Register, Unregister, Begin, Mark, Scan, Ack, Check, ToSweep, Look, Spell, Condemn, PassOver, Behind, UnlinkAt, UnlinkHead, Note, Bump, Past, Free, End, Aim, Sound, Close, Emptied, Pick, MoveHead, MoveLink, LeaveHead, LeaveLink, PublishRow, Publish}
 use Rattle.atom_words.proofs.Puts.{unmapped}
 use Rattle.atom_words.proofs.Every.{keep_move, reached_kept}
 use Rattle.bucket_rows.specs.TwoCycles.{Calm, CalmMove, Leads, ScanMove, Scanned, NoneReserved}
@@ -61,6 +61,7 @@ module _ (z : Size) (e : ℕ) (old : List ℕ) (b : Board) (vs : List View) (r :
     calm_kind (StartPass x) back here_ calm d = quiet z e old b vs r D E s on id v at here (StartPass x) b' (flat (StartPass x) (λ k e. cc) back) (ap (λ (x : Board). x.atoms) d.1) (ap (λ (x : Board). x.epoch) d.1) (λ n. n) (λ q h. (q, h, refl))
     calm_kind (EndPass x) back here_ calm d = quiet z e old b vs r D E s on id v at here (EndPass x) b' (flat (EndPass x) (λ k e. cc) back) (ap (λ (x : Board). x.atoms) d.3) (ap (λ (x : Board). x.epoch) d.3) (λ n. n) (λ q h. (q, h, refl))
     calm_kind (Refuse c) back here_ calm d = quiet z e old b vs r D E s on id v at here (Refuse c) b' (flat (Refuse c) (λ k e. cc) back) (ap (λ (x : Board). x.atoms) d.1) (ap (λ (x : Board). x.epoch) d.1) (λ n. n) (λ q h. (q, h, refl))
+    calm_kind (Barred h x) back here_ calm d = quiet z e old b vs r D E s on id v at here (Barred h x) b' (flat (Barred h x) (λ k e. cc) back) (ap (λ (y : Board). y.atoms) d.3) (ap (λ (y : Board). y.epoch) d.3) (λ n. n) (λ q h. (q, h, refl))
     calm_kind (Ask t) back here_ calm d = quiet z e old b vs r D E s on id v at here (Ask t) b' (flat (Ask t) (λ k e. cc) back) (ap (λ (x : Board). x.atoms) d) (ap (λ (x : Board). x.epoch) d) (λ n. n) (λ q h. (q, h, refl))
     calm_kind (Mark x those) back here_ calm d = quiet z e old b vs r D E s on id v at here (Mark x those) b' (flat (Mark x those) (λ k e. cc) back) (ap (λ (x : Board). x.atoms) d.5) (ap (λ (x : Board). x.epoch) d.5) (λ n. n) (λ q h. (q, h, refl))
     calm_kind Ack back here_ calm d = quiet z e old b vs r D E s on id v at here Ack b' (flat Ack (λ k e. cc) back) (ap (λ (x : Board). x.atoms) d.2) (ap (λ (x : Board). x.epoch) d.2) (λ n. n) (λ q h. (q, h, refl))

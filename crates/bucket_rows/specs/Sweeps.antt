@@ -1,9 +1,9 @@
 -- What the calls of a sweep ask of the collector's view, and their steps.
 use Rattle.std.specs.Prelude.{◌≡◌, ◌≢◌, ◌⊎◌, ◌==◌, if◌then◌else◌, ℕ, ◌+◌, ◌<◌, ◌≤◌, List, [], ◌∷◌, ◌++◌}
 use Rattle.atom_words.specs.Layout.{state_of, version_of, last}
-use Rattle.atom_words.specs.Texts.{bucket}
+use Rattle.atom_words.specs.Texts.{bucket, padded}
 use Rattle.atom_words.specs.Board.{atom_at}
-use Rattle.atom_words.specs.Kinds.{Sweeps, after}
+use Rattle.atom_words.specs.Kinds.{IsAll, Sweeps, after}
 use Rattle.atom_words.specs.declared.view.Sweeping.{Sweeping}
 use Rattle.atom_words.specs.declared.view.View.{View}
 use Rattle.atom_words.specs.declared.kind.Kind.{Kind}
@@ -21,7 +21,7 @@ At slot v = (y : Sweeping) × Sweeps v y × (y.dying ≡ 0) × (y.cursor ≡ slo
 abbrev pub Judges : View → ℕ → Verdict → List Kind → Type 0
 Judges v k Low ks = (k < 256) × (ks ≡ [])
 Judges v k (Passed x) ks = (x ≢ 3) × ((before : List Kind) × ((ks ≡ before ++ Look x ∷ []) ⊎ (ks ≡ before ++ Load (atom_at v.size k) x ∷ [])))
-Judges v k (Worn x) ks = (last ≤ version_of x) × ((row : List ℕ) × (s : ℕ) × (ks ≡ Look 3 ∷ (spells row ++ (Load 1 s ∷ Start (bucket s row) x ∷ []))))
+Judges v k (Worn x) ks = (last ≤ version_of x) × ((words : List ℕ) × (s : ℕ) × IsAll words × (ks ≡ Look 3 ∷ (spells words ++ (Load 1 s ∷ Start (bucket s (padded words)) x ∷ []))))
 Judges v k Freed ks = (before : List Kind) × (between : List Kind) × (ks ≡ before ++ Condemn ∷ (between ++ Free ∷ []))
 
 abbrev pub JudgedBy : ℕ → View → Verdict → View → Type 0

@@ -1,10 +1,10 @@
 -- Where the collector's walk stands.
 use Rattle.std.specs.Prelude.{◌≡◌, ◌≢◌, ◌⊎◌, ℕ, ◌+◌, ◌<◌, ◌≤◌, true, false, List, [], ◌∷◌, ◌++◌, length, map, Some}
 use Rattle.atom_words.specs.Layout.{first_of, version_of, last, phase_of}
-use Rattle.atom_words.specs.Texts.{bucket}
+use Rattle.atom_words.specs.Texts.{bucket, padded}
 use Rattle.atom_words.specs.Chains.{In}
 use Rattle.atom_words.specs.Kept.{slots}
-use Rattle.atom_words.specs.Kinds.{Sweeps, Unlinked}
+use Rattle.atom_words.specs.Kinds.{IsAll, Sweeps, Unlinked}
 use Rattle.atom_words.specs.declared.view.Held.{Held}
 use Rattle.atom_words.specs.declared.view.Walk.{Walk}
 use Rattle.atom_words.specs.declared.view.Sweeping.{Sweeping}
@@ -21,7 +21,7 @@ nexts xs = map (λ x. Next x) xs
 
 -- THE COLLECTOR'S WALK DOES NOT MISS THE SLOT that the sweep has come to, whose text is spelled, in the chain of its text's bucket: it has passed the slot, or it stands at a slot of the table and has passed fewer than there are
 abbrev pub Ahead : View → Type 0
-Ahead v = (y : Sweeping) (w : Walk) → v.sweep ≡ Some y → v.walk ≡ Some w → phase_of y.word ≡ 2 → y.sure ≡ true → length y.text ≡ 32 → y.unlinked ≡ false → bucket v.growing.row y.text ≡ w.head
+Ahead v = (y : Sweeping) (w : Walk) → v.sweep ≡ Some y → v.walk ≡ Some w → phase_of y.word ≡ 2 → y.sure ≡ true → IsAll y.text → y.unlinked ≡ false → bucket v.growing.row (padded y.text) ≡ w.head
     → In y.cursor (slots w.seen) ⊎ ((w.place ≢ 0) × (w.place ≤ v.size.slots) × (length w.seen < v.size.slots))
 
 -- the sweep has come to the slot k, and no slot is dying
@@ -42,11 +42,11 @@ pub record Treads (k x n before p : ℕ) (v : View) : Type 0 where
   pub sweeps : Sweeps v sweep
   pub cursor : sweep.cursor ≡ k
   pub sure : sweep.sure ≡ true
-  pub whole : length sweep.text ≡ 32
+  pub whole : IsAll sweep.text
   pub linked : sweep.unlinked ≡ false
   pub walk : Walk
   pub at : v.walk ≡ Some walk
-  pub head : bucket v.growing.row sweep.text ≡ walk.head
+  pub head : bucket v.growing.row (padded sweep.text) ≡ walk.head
   pub word : walk.word ≡ x
   pub count : length walk.seen ≡ n
   pub place : walk.place ≡ p

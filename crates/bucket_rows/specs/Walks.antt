@@ -13,7 +13,7 @@ use Rattle.atom_words.specs.declared.view.Cause.TheVariants.{Moved as CauseMoved
 use Rattle.atom_words.specs.declared.view.Refusal.TheVariants.{Again, Worn as RefusalWorn}
 use Rattle.atom_words.specs.declared.view.View.{View}
 use Rattle.atom_words.specs.declared.kind.Kind.{Kind}
-use Rattle.atom_words.specs.declared.kind.Kind.TheVariants.{Load, Start, Read, Next, Skip, Protect, Hold, Refuse, PutLink, Link}
+use Rattle.atom_words.specs.declared.kind.Kind.TheVariants.{Load, Start, Read, Next, Skip, Protect, Hold, Refuse, Barred, PutLink, Link}
 use Rattle.bucket_rows.specs.declared.missed.Missed.{Missed}
 use Rattle.bucket_rows.specs.declared.missed.Missed.TheVariants.{Moved, Pending, Closed, Worn}
 
@@ -91,7 +91,7 @@ abbrev pub Walks : List ℕ → ℕ → View → Result (Option ℕ) Missed → 
 Walks row h v (Ok o) w = Begins row h v (Ok o) w
 Walks row h v (Err (Moved old new)) w = (closed_of old ≡ 0) × Goes row (after v (Start h old ∷ [])) (Err (Moved old new)) w
 Walks row h v (Err (Pending k x)) w = Begins row h v (Err (Pending k x)) w
-Walks row h v (Err (Closed x)) w = (closed_of x ≢ 0) × (w ≡ after v (Refuse (Again (CauseClosed x)) ∷ []))
+Walks row h v (Err (Closed x)) w = (closed_of x ≢ 0) × (w ≡ after v (Barred h x ∷ []))
 Walks row h v (Err (Worn x)) w = ⊥
 
 -- The walk at hand went over an open head to the end of the chain, and saw the text in no slot

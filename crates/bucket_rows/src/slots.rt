@@ -1,9 +1,9 @@
 //! The sweep of one slot.
 ghost use Rattle.std.specs.Prelude.{◌≡◌, ◌≢◌, ◌⊎◌, ℕ, ◌+◌, ◌<◌, ◌≤◌, List, [], ◌∷◌, ◌++◌, length, MatchResult};
 ghost use Rattle.atom_words.specs.Layout.{version_of, last};
-ghost use Rattle.atom_words.specs.Texts.{bucket};
+ghost use Rattle.atom_words.specs.Texts.{bucket, padded};
 ghost use Rattle.atom_words.specs.Board.{atom_at};
-ghost use Rattle.atom_words.specs.Kinds.{after};
+ghost use Rattle.atom_words.specs.Kinds.{IsAll, after};
 ghost use Rattle.atom_words.specs.Seats.{seen, Fits, Same};
 ghost use Rattle.atom_words.specs.declared.kind.Kind.{Kind};
 ghost use Rattle.atom_words.specs.declared.kind.Kind.TheVariants.{Load, Start, Condemn, PassOver, Free};
@@ -44,7 +44,7 @@ fn reach(words: &Words, seat: &mut AtomSeat, slot: u32) -> Result<u64, u64>
     requires found { Found slot (seen seat.old) }
     ensures same { Same seat.old seat.new }
     ensures fits { Fits words.now seat.new }
-    ensures steps { MatchResult result (λ before. (ks : List Kind) × (seen seat.new ≡ after (seen seat.old) ks) × SweepKinds ks × Few words.now.size.slots 33 1 ks) (λ x. (last ≤ version_of x) × ((row : List ℕ) × (s : ℕ) × (seen seat.new ≡ after (seen seat.old) (spells row ++ (Load 1 s ∷ Start (bucket s row) x ∷ []))) × (length row ≡ 32))) }
+    ensures steps { MatchResult result (λ before. (ks : List Kind) × (seen seat.new ≡ after (seen seat.old) ks) × SweepKinds ks × Few words.now.size.slots 33 1 ks) (λ x. (last ≤ version_of x) × ((row : List ℕ) × (s : ℕ) × (seen seat.new ≡ after (seen seat.old) (spells row ++ (Load 1 s ∷ Start (bucket s (padded row)) x ∷ []))) × (length row ≤ 32) × IsAll row)) }
     ensures reached { MatchResult result (λ before. Reached slot seat.new.word before (seen seat.new) × (before ≤ words.now.size.slots)) (λ x. AtSlot slot (seen seat.new)) }
 {
     let row = spell_row(words, seat, slot);

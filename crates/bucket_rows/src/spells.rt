@@ -1,7 +1,7 @@
 //! The text of the slot that the sweep has come to, and its bucket.
-ghost use Rattle.std.specs.Prelude.{◌≡◌, ℕ, ◌+◌, ◌^◌, ◌<◌, ◌≤◌, false, length};
-ghost use Rattle.atom_words.specs.Texts.{bucket};
-ghost use Rattle.atom_words.specs.Kinds.{after};
+ghost use Rattle.std.specs.Prelude.{◌≡◌, ℕ, ◌+◌, ◌^◌, ◌<◌, ◌≤◌, false, List, length};
+ghost use Rattle.atom_words.specs.Texts.{bucket, padded};
+ghost use Rattle.atom_words.specs.Kinds.{IsAll, after};
 ghost use Rattle.atom_words.specs.Seats.{seen, Fits, Same};
 ghost use Rattle.bucket_rows.specs.Treads.{spells, Found};
 
@@ -10,33 +10,34 @@ use crate::rows::row_heads;
 use atom_words::{AtomSeat, View, Words};
 use atomic_table::Seat;
 
-// Loads the words of that text, one after the other.
+// Loads the words that the text fills, one after the other, which begin with its length. Where that is more than a text may
+// have, those are all 32.
 fn read_row(words: &Words, seat: &mut Seat<(), View>, slot: u32) -> [u64; 32]
     requires fits { (seat.old.table_id ≡ words.now.table.shared.table_id) × (seat.old.me.0.size ≡ words.now.size) × (seat.old.me.0.gone ≡ false) }
     requires slot { slot < words.now.size.slots }
     requires found { Found slot seat.old.me.0 }
     ensures same { (seat.new.table_id ≡ seat.old.table_id) × (seat.new.id ≡ seat.old.id) × (seat.new.me.1 ≡ seat.old.me.1) }
-    ensures steps { seat.new.me.0 ≡ after seat.old.me.0 (spells result) }
-    ensures whole { length result ≡ 32 }
+    ensures steps { (ws : List ℕ) × (seat.new.me.0 ≡ after seat.old.me.0 (spells ws)) × IsAll ws × (length ws ≤ 32) × (result ≡ padded ws) }
 {
     let place = words.text_place(slot);
+    let first = words.table.shared.load::<Spelling>(seat, place);
     let mut row = [0u64; 32];
-    for i in 0..32 {
+    row[0] = first;
+    for i in 1..1 + (at_most_248(first) + 7) / 8 {
         let word = words.table.shared.load::<Spelling>(seat, place + i);
         row[i] = word;
     }
     row
 }
 
-/// Loads the 32 words of the text of the slot that the sweep has come to, which was found valid just before. A walk at hand
-/// ends.
+/// Loads the words that the text of the slot fills to which the sweep has come, and answers all 32, of which the others are 0.
+/// The slot was found valid just before. A walk at hand ends.
 pub fn spell_row(words: &Words, seat: &mut AtomSeat, slot: u32) -> [u64; 32]
     requires fits { Fits words.now seat.old }
     requires slot { slot < words.now.size.slots }
     requires found { Found slot (seen seat.old) }
     ensures same { Same seat.old seat.new }
-    ensures steps { seen seat.new ≡ after (seen seat.old) (spells result) }
-    ensures whole { length result ≡ 32 }
+    ensures steps { (ws : List ℕ) × (seen seat.new ≡ after (seen seat.old) (spells ws)) × IsAll ws × (length ws ≤ 32) × (result ≡ padded ws) }
 {
     read_row(words, &mut seat.seat, slot)
 }

@@ -1,6 +1,6 @@
 use Rattle.std.proofs.Common.{◌≡◌, ℕ, ◌+◌, ◌*◌, ◌≤◌, List, [], ◌∷◌, ◌++◌, refl, sym, ap, ◌∙◌, subst, inl, inr, arith}
 use Rattle.atom_words.specs.Layout.{last}
-use Rattle.atom_words.specs.Texts.{bucket}
+use Rattle.atom_words.specs.Texts.{bucket, padded}
 use Rattle.atom_words.specs.Board.{atom_at}
 use Rattle.atom_words.specs.Kinds.{view_after, after}
 use Rattle.atom_words.specs.Seats.{seen}
@@ -41,5 +41,5 @@ returns-in-Err-take_out-clause-steps c = let v : View = seen c.args.seat.now in 
 
 pub returns-in-Err-clause-steps : goal.returns-in-Err-clause-steps
 returns-in-Err-clause-steps c = let v : View = seen c.args.seat.now in let u : View = seen c.look-found.new.seat in let t : View = seen c.reach.new.seat in let m = c.in-Err.ensures.steps in let x : ℕ = c.in-Err.word in
-    let is : u ≡ after v (Look 3 ∷ []) = c.look-found.ensures.steps ∙ ap (λ (x : ℕ). view_after v (Look x)) c.if-found-ne3.false in let ends : List Kind = Load 1 m.1.1 ∷ Start (bucket m.1.1 m.1.0) x ∷ [] in let js : List Kind = spells m.1.0 ++ ends in
-    (Look 3 ∷ js, then_steps v u t (Look 3 ∷ []) js is m.1.2, (m.0, (m.1.0, m.1.1, refl)), (tt, kinds_append (spells m.1.0) ends (kinds_spells m.1.0) (tt, (tt, tt))), few_worn v.size.slots m.1.1 (bucket m.1.1 m.1.0) x m.1.0 m.1.3)
+    let is : u ≡ after v (Look 3 ∷ []) = c.look-found.ensures.steps ∙ ap (λ (x : ℕ). view_after v (Look x)) c.if-found-ne3.false in let ends : List Kind = Load 1 m.1.1 ∷ Start (bucket m.1.1 (padded m.1.0)) x ∷ [] in let js : List Kind = spells m.1.0 ++ ends in
+    (Look 3 ∷ js, then_steps v u t (Look 3 ∷ []) js is m.1.2, (m.0, (m.1.0, m.1.1, m.1.4, refl)), (tt, kinds_append (spells m.1.0) ends (kinds_spells m.1.0) (tt, (tt, tt))), few_worn v.size.slots m.1.1 (bucket m.1.1 (padded m.1.0)) x m.1.0 m.1.3)

@@ -8,7 +8,7 @@ use Rattle.bucket_rows.proofs.Treading.{spells_keep, spells_tied}
 use Rattle.bucket_rows.proofs.spells.spell_row.Goals as goal
 
 pub invariant_of-seat : goal.invariant_of-seat
-invariant_of-seat c = let s = c.args.seat.now in let v : View = s.seat.me.0 in let w : View = c.read_row.new.seat.me.0 in let ws : List ℕ = c.read_row.result in let is : w ≡ after v (spells ws) = c.read_row.ensures.steps in record {
+invariant_of-seat c = let s = c.args.seat.now in let v : View = s.seat.me.0 in let w : View = c.read_row.new.seat.me.0 in let ws : List ℕ = c.read_row.ensures.steps.0 in let is : w ≡ after v (spells ws) = c.read_row.ensures.steps.1 in record {
   slotless = c.read_row.ensures.same.2 ∙ s.slotless;
   numbered = ap (λ (y : View). y.cycle.engine) is ∙ (spells_keep (λ (y : View). y.cycle.engine) (λ _ _. refl) v ws ∙ s.numbered);
   acknowledged = ap (λ (y : View). y.cycle.acked) is ∙ (spells_keep (λ (y : View). y.cycle.acked) (λ _ _. refl) v ws ∙ s.acknowledged);

@@ -6,10 +6,8 @@ use Rattle.atom_words.specs.Kinds.{view_after}
 use Rattle.atom_words.specs.Ties.{own_slot}
 use Rattle.atom_words.specs.Seats.{Walking}
 use Rattle.atom_words.specs.declared.size.Size.{Size}
-use Rattle.atom_words.specs.declared.view.Cause.TheVariants.{Closed}
-use Rattle.atom_words.specs.declared.view.Refusal.TheVariants.{Again}
 use Rattle.atom_words.specs.declared.view.View.{View}
-use Rattle.atom_words.specs.declared.kind.Kind.TheVariants.{Start, Refuse}
+use Rattle.atom_words.specs.declared.kind.Kind.TheVariants.{Start, Barred}
 use Rattle.atom_words.proofs.WalkSteps.{starting_walk}
 use Rattle.atom_words.proofs.Tied.{own_tied, walk_tied, pass_tied, same_passes}
 use Rattle.bucket_rows.specs.Walks.{spelled, Walks, Missing, Aside}
@@ -34,7 +32,7 @@ load-word-requires c = let same : c.args.words.now.size ≡ c.args.seat.now.seat
 pub invariant_of-seat : goal.invariant_of-seat
 invariant_of-seat c = let same : c.args.words.now.size ≡ c.args.seat.now.seat.me.0.size = sym c.requires.fits.1 in let v : View = c.args.seat.now.seat.me.0 in let w : View = c.load-word.new.seat.me.0 in let x : ℕ = c.load-word.result in let s = c.args.seat.now in
     let told = c.load-word.ensures.2.1 c.bucket-head.result (c.head_place-top.ensures.place ∙ ap (λ (y : Size). head_at y c.bucket-head.result) same) in
-    let is : w ≡ view_after v (Refuse (Again (Closed x))) = told.1 (λ e. let one = c.if-word-eq1.true in omega arith) in let a : View = view_after v (Refuse (Again (Closed x))) in record {
+    let is : w ≡ view_after v (Barred c.bucket-head.result x) = told.1 (λ e. let one = c.if-word-eq1.true in omega arith) in let a : View = view_after v (Barred c.bucket-head.result x) in record {
       slotless = c.load-word.ensures.2.0 ∙ s.slotless;
       numbered = ap (λ (y : View). y.cycle.engine) is ∙ s.numbered;
       acknowledged = ap (λ (y : View). y.cycle.acked) is ∙ s.acknowledged;
@@ -45,7 +43,7 @@ invariant_of-seat c = let same : c.args.words.now.size ≡ c.args.seat.now.seat.
 
 pub returns-then-word-eq1-clause-steps : goal.returns-then-word-eq1-clause-steps
 returns-then-word-eq1-clause-steps c = let same : c.args.words.now.size ≡ c.args.seat.now.seat.me.0.size = sym c.requires.fits.1 in let told = c.load-word.ensures.2.1 c.bucket-head.result (c.head_place-top.ensures.place ∙ ap (λ (y : Size). head_at y c.bucket-head.result) same) in
-    let closed : closed_of c.load-word.result ≢ 0 = (λ e. let one = c.if-word-eq1.true in omega arith) in (closed, told.1 closed)
+    let closed : closed_of c.load-word.result ≢ 0 = (λ e. let one = c.if-word-eq1.true in omega arith) in (closed, told.1 closed ∙ ap (λ (h : ℕ). view_after c.args.seat.now.seat.me.0 (Barred h c.load-word.result)) (c.bucket-head.ensures.bucket ∙ ap (λ (l : List ℕ). bucket c.args.row_size (row_of l)) (c.as_bytes-2.ensures.value ∙ c.as_str-2.ensures)))
 
 pub returns-then-word-eq1-clause-aside : goal.returns-then-word-eq1-clause-aside
 returns-then-word-eq1-clause-aside c = let same : c.args.words.now.size ≡ c.args.seat.now.seat.me.0.size = sym c.requires.fits.1 in let told = c.load-word.ensures.2.1 c.bucket-head.result (c.head_place-top.ensures.place ∙ ap (λ (y : Size). head_at y c.bucket-head.result) same) in
