@@ -31,6 +31,7 @@ impl Search {
 
     /// Takes numbers for so many new variables, and so many cells. Where the numbers or the budget of cells are spent it
     /// answers which of them is, and takes none of either.
+    #[inline(always)]
     pub fn take(&mut self, variables: u64, cells: u64) -> Option<Fault>
         requires { IsWhole self.old }
         ensures whole { IsWhole self.new }

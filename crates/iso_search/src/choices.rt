@@ -67,6 +67,7 @@ pub struct ChoicePoint {
 }
 
 /// The cells of the copies that a choice point holds.
+#[inline(always)]
 pub fn held_cells(alternative: &Alternative) -> u64
     ensures { result ≡ cells_held alternative.now }
 {

@@ -29,6 +29,7 @@ pub struct Frame {
 }
 
 /// The list with this task in front. The only error is out of memory.
+#[inline(always)]
 pub fn push_task(frames: &mut Vec<Frame>, task: Task, next: usize) -> Result<usize, Memory>
     requires linked { AreLinked frames.old.items }
     requires next { next ≤ length frames.old.items }
@@ -46,6 +47,7 @@ pub fn push_task(frames: &mut Vec<Frame>, task: Task, next: usize) -> Result<usi
 }
 
 /// The first task of the list, with the list of the others.
+#[inline(always)]
 pub fn first_task(frames: &[Frame], list: usize) -> Option<Frame>
     requires { AreLinked frames.now }
     ensures { MatchOption result (tasks frames.now list ≡ []) (λ f. (tasks frames.now list ≡ f.task ∷ tasks frames.now f.continuation) × ((f.continuation ≤ length frames.now) × (f.continuation < list))) }

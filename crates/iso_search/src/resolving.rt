@@ -23,6 +23,7 @@ use term_store::{Place, Stored};
 impl Search {
     /// Unifies the head of a clause, whose numbers from `from` on were taken, with the goal at a place, and puts the clause's body
     /// before the tasks of the list; a cut in it goes back to the height. The only error is out of memory.
+    #[inline(always)]
     pub fn resolve(
         &mut self,
         goal: Place,

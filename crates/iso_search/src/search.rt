@@ -22,6 +22,7 @@ pub struct Budgets {
 }
 
 /// How many frames the newest choice point goes back to, which is at least as many as an older one does.
+#[inline(always)]
 fn held_frames(choices: &[ChoicePoint]) -> usize
     ensures { result ≡ frames_held (reverse choices.now) }
 {
@@ -30,6 +31,7 @@ fn held_frames(choices: &[ChoicePoint]) -> usize
 }
 
 /// The higher one of two numbers.
+#[inline(always)]
 fn higher(a: usize, b: usize) -> usize
     ensures first { a ≤ result }
     ensures second { b ≤ result }
@@ -52,6 +54,7 @@ pub struct Search {
 
 impl Search {
     /// The list with this task in front. The only error is out of memory.
+    #[inline(always)]
     pub fn push(&mut self, task: Task, next: usize) -> Result<usize, Memory>
         requires whole { IsWhole self.old }
         requires task { IsTaskIn self.old.store task }
@@ -71,6 +74,7 @@ impl Search {
 
     /// Forgets the tasks that nothing goes on with where only the list and the choice points are left to be done: those of later
     /// lists. The choice points and the list stay what they are.
+    #[inline(always)]
     pub fn forget_done(&mut self, list: usize)
         requires whole { IsWhole self.old }
         requires list { list ≤ length self.old.frames.items }
@@ -118,6 +122,7 @@ impl Search {
     }
 
     /// Goes back to the newest choice point, which is taken off (ISO 7.7.8): bindings and terms made since are gone.
+    #[inline(always)]
     pub fn backtrack(&mut self) -> Option<ChoicePoint>
         requires { IsWhole self.old }
         ensures whole { IsWhole self.new }
@@ -141,6 +146,7 @@ impl Search {
     }
 
     /// Makes a choice point: what was not tried, and the list of tasks after it. The only error is out of memory.
+    #[inline(always)]
     pub fn push_choice(&mut self, alternative: Alternative, next: usize) -> Result<(), Memory>
         requires whole { IsWhole self.old }
         requires words { IsAlternativeIn self.old.store alternative }
