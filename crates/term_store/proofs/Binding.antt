@@ -3,7 +3,6 @@ use Rattle.std.proofs.Common.{◌≡◌, ◌≢◌, ℕ, ◌<◌, Bool, true, fa
 use Rattle.std.proofs.Math.ListN.{length-set}
 use Rattle.std.proofs.lemmas.Bool.{false≢true}
 use Rattle.std.proofs.lemmas.Bool.Decides.{Decides-eqb}
-use Rattle.std.proofs.lemmas.List.{get_or_read}
 use Rattle.std.proofs.lemmas.List.Elements.{All-push}
 use Rattle.pl_term.specs.Tree.{Tree}
 use Rattle.pl_term.specs.Variables.{has, replace}
@@ -87,7 +86,5 @@ cache_pushed values h i w cache slot free =
 
 -- What is read of the values is what the bindings say.
 pub read_value : (values : List (Option Word)) (h : Heap) (i : ℕ) (r : Option Word) → IsCache values h → i < length h.numbers
-    → r ≡ get_or values i r → r ≡ find i h.trail
-read_value values h i r cache inside e =
-    let lt : i < length values = subst (λ n. i < n) (sym cache.long) inside in
-    get_or_read values i r lt e None ∙ cache.found i lt
+    → r ≡ get_or values i None → r ≡ find i h.trail
+read_value values h i r cache inside e = e ∙ cache.found i (subst (λ n. i < n) (sym cache.long) inside)

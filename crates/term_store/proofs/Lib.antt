@@ -1,6 +1,7 @@
 pub mod Answering
 pub mod Apartness
 pub mod Binding
+pub mod Bonding
 pub mod Building
 pub mod Constructing
 pub mod Copying
@@ -31,6 +32,7 @@ pub mod Ranging
 pub mod Reaching
 pub mod Renumbering
 pub mod Resting
+pub mod Shorting
 pub mod Sizing
 pub mod Spelling
 pub mod Stacking

@@ -8,11 +8,11 @@ use Rattle.term_store.specs.Fit.{Fit, IsCache}
 use Rattle.term_store.specs.GroundMarks.{AreMarks}
 
 abbrev pub heap_of : Cells → Heap
-heap_of c = record { heads = c.heads.items; args = c.args.items; numbers = c.numbers.items; trail = c.trail.items }
+heap_of c = record { heads = c.heads.items; args = c.args.items; numbers = c.numbers.items; trail = c.bonds.items }
 
 pub record IsFit (c : Cells) : Type 0 where
   pub fit : Fit (heap_of c)
-  pub cache : IsCache c.values.items (heap_of c)
+  pub cache : IsCache c.bonds.values (heap_of c)
   pub marks : AreMarks c.grounds.items (heap_of c)
 
 -- A word that is not a bound variable.

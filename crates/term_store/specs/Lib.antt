@@ -21,6 +21,7 @@ pub mod Nodes
 pub mod NumberedNames
 pub mod Reaches
 pub mod Rests
+pub mod Shorts
 pub mod Sizes
 pub mod StoredTerms
 pub mod Unifying

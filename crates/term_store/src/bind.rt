@@ -6,14 +6,14 @@ ghost use Rattle.term_store.specs.Fit.{Below, IsIn};
 ghost use Rattle.term_store.specs.Cells.{IsFit, heap_of};
 
 use crate::cells::Cells;
-use crate::words::{Bond, Word};
+use crate::words::Word;
 use pl_term::Memory;
 
 /// Binds the variable of a slot to a word.
 pub fn bind(cells: &mut Cells, slot: usize, word: Word) -> Result<(), Memory>
     requires fit { IsFit cells.old }
     requires slot { slot < length cells.old.numbers.items }
-    requires free { find slot cells.old.trail.items ≡ None }
+    requires free { find slot cells.old.bonds.items ≡ None }
     requires below { Below slot word }
     requires inside { IsIn (heap_of cells.old) word }
     requires absent { has (numbered (heap_of cells.old) slot) (meaning (heap_of cells.old) word) ≡ false }
@@ -21,7 +21,6 @@ pub fn bind(cells: &mut Cells, slot: usize, word: Word) -> Result<(), Memory>
     ensures bound { IfOk result (λ _. heap_of cells.new ≡ pushed (heap_of cells.old) slot word) }
     ensures kept { OnErr result (heap_of cells.new ≡ heap_of cells.old) }
 {
-    cells.trail.push(Bond { slot, word })?;
-    cells.values[slot] = Some(word);
+    cells.bonds.bind(slot, word)?;
     Ok(())
 }

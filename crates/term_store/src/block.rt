@@ -11,6 +11,7 @@ ghost use Rattle.term_store.specs.Nodes.{IsNodeBelow, IsSpelled, node_views};
 use crate::cells::Cells;
 use crate::load::load;
 use crate::nodes::AtomNode;
+use crate::shorts::Words;
 use crate::words::{Head, Word};
 use pl_term::Memory;
 use std::alloc::Global;
@@ -43,13 +44,13 @@ pub fn block_of(alloc: Global, nodes: &[AtomNode], variables: u64) -> Result<Blo
     let mut cells = Cells::new(alloc);
     let mut stack = Vec::new(alloc);
     let root = load(&mut cells, &mut stack, nodes, variables, 0)?;
-    let ranges = ranges_of(alloc, &cells.heads, &cells.args, variables)?;
+    let args = all_words(alloc, &cells.args)?;
+    let ranges = ranges_of(alloc, &cells.heads, &args, variables)?;
     let Cells {
         heads,
-        args,
+        args: _,
         numbers: _,
-        values: _,
-        trail: _,
+        bonds: _,
         grounds: _,
     } = cells;
     Ok(Block {
@@ -59,6 +60,17 @@ pub fn block_of(alloc: Global, nodes: &[AtomNode], variables: u64) -> Result<Blo
         root,
         ranges,
     })
+}
+
+/// The words of a list. The only error is out of memory.
+fn all_words(alloc: Global, words: &Words) -> Result<Vec<Word>, Memory>
+    ensures { IfOk result (λ v. v.items ≡ words.now.items) }
+{
+    let mut all = Vec::new(alloc);
+    for i in 0..words.len() {
+        all.push(words.get(i))?;
+    }
+    Ok(all)
 }
 
 /// What stands below each compound term of a block with so many variables. The only error is out of memory.
@@ -106,7 +118,7 @@ fn words_at(args: &[Word], head: Head) -> &[Word]
     requires { head.start + head.count ≤ length args.now }
     ensures { result.now ≡ words_of args.now head }
 {
-    &args[head.start..head.start + head.count]
+    &args[head.start as usize..head.start as usize + head.count as usize]
 }
 
 /// The head of a compound term of the block.

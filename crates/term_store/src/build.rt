@@ -12,6 +12,7 @@ ghost use Rattle.term_store.specs.Nodes.{Gains, IsNodeBelow, IsNodeReady, IsSpel
 use crate::cells::Cells;
 use crate::make::finish_compound;
 use crate::nodes::AtomNode;
+use crate::shorts::Words;
 use crate::words::Word;
 use pl_term::Memory;
 
@@ -26,7 +27,7 @@ pub fn build(
     requires fit { IsFit cells.old }
     requires spelled { IsSpelled nodes.now }
     requires below { All (IsNodeBelow (length cells.old.numbers.items - base)) nodes.now }
-    requires fresh { All (λ b. b.slot < base) cells.old.trail.items }
+    requires fresh { All (λ b. b.slot < base) cells.old.bonds.items }
     ensures fit { IsFit cells.new }
     ensures gains { Gains (heap_of cells.old) (heap_of cells.new) }
     ensures built { IfOk result (StandsFor (heap_of cells.new)
@@ -55,7 +56,7 @@ fn build_node(
     requires words { All (IsIn (heap_of cells.old)) stack.old.items }
     requires below { IsNodeBelow (length cells.old.numbers.items - base) node.now }
     requires ready { IsNodeReady (length stack.old.items) node.now }
-    requires fresh { All (λ b. b.slot < base) cells.old.trail.items }
+    requires fresh { All (λ b. b.slot < base) cells.old.bonds.items }
     ensures fit { IsFit cells.new }
     ensures gains { Gains (heap_of cells.old) (heap_of cells.new) }
     ensures words { OnOk result (All (IsIn (heap_of cells.new)) stack.new.items) }
@@ -78,7 +79,7 @@ fn node_word(
     requires words { All (IsIn (heap_of cells.old)) stack.old.items }
     requires below { IsNodeBelow (length cells.old.numbers.items - base) node.now }
     requires ready { IsNodeReady (length stack.old.items) node.now }
-    requires fresh { All (λ b. b.slot < base) cells.old.trail.items }
+    requires fresh { All (λ b. b.slot < base) cells.old.bonds.items }
     ensures fit { IsFit cells.new }
     ensures gains { Gains (heap_of cells.old) (heap_of cells.new) }
     ensures words { OnOk result (All (IsIn (heap_of cells.new)) stack.new.items) }
@@ -120,7 +121,7 @@ fn join_words(
 }
 
 /// Moves words from the top of the stack after the others. After running out of memory some of them are there.
-fn move_words(args: &mut Vec<Word>, stack: &mut Vec<Word>, count: usize) -> Result<(), Memory>
+fn move_words(args: &mut Words, stack: &mut Vec<Word>, count: usize) -> Result<(), Memory>
     requires { count ≤ length stack.old.items }
     ensures ok { OnOk result (Taken args.old.items args.new.items stack.old.items stack.new.items count) }
     ensures kept { take (length args.old.items) args.new.items ≡ args.old.items }

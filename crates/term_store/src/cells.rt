@@ -4,19 +4,19 @@ ghost use Rattle.term_store.specs.Cells.{IsFit, IsFree, heap_of};
 ghost use Rattle.term_store.specs.Heap.{blank_heap, meaning};
 ghost use Rattle.term_store.specs.Fit.{IsIn, no_head};
 
-use crate::words::{Bond, Head, Word};
+use crate::bonds::Bonds;
+use crate::shorts::Words;
+use crate::words::{Head, Word};
 use std::alloc::Global;
 
-/// The compound terms by their heads and arguments, the variables' numbers, which rise with the slots, and the
-/// bindings in the order in which they were made. `values` has each slot's binding once more, for reading, and `grounds` has for
-/// the compound terms up to the last marked one whether they were made of constants and such terms alone.
+/// The compound terms by their heads and arguments, the variables' numbers, which rise with the slots, and what they are bound
+/// to, by slot and in the order in which the bindings were made. `grounds` has for the compound terms up to the last marked one whether they were made of constants and such terms alone.
 #[derive(Drop)]
 pub struct Cells {
     pub heads: Vec<Head>,
-    pub args: Vec<Word>,
+    pub args: Words,
     pub numbers: Vec<u64>,
-    pub values: Vec<Option<Word>>,
-    pub trail: Vec<Bond>,
+    pub bonds: Bonds,
     pub grounds: Vec<bool>,
 }
 
@@ -28,10 +28,9 @@ impl Cells {
     {
         Cells {
             heads: Vec::new(alloc),
-            args: Vec::new(alloc),
+            args: Words::new(alloc),
             numbers: Vec::new(alloc),
-            values: Vec::new(alloc),
-            trail: Vec::new(alloc),
+            bonds: Bonds::new(alloc),
             grounds: Vec::new(alloc),
         }
     }
@@ -47,7 +46,7 @@ pub fn deref(cells: &Cells, word: Word) -> Word
 {
     let mut at = word;
     while let Word::Var(slot) = at {
-        match cells.values[slot] {
+        match cells.bonds.value(slot) {
             None => return at,
             Some(next) => at = next,
         }
@@ -68,5 +67,5 @@ pub fn word_at(cells: &Cells, at: usize) -> Word
     requires { at < length cells.now.args.items }
     ensures { result ≡ slice_index_or cells.now.args.items at (Word.Int (pos 0)) }
 {
-    cells.args[at]
+    cells.args.get(at)
 }

@@ -11,6 +11,7 @@ ghost use Rattle.term_store.specs.Nodes.{Gains, StandsFor};
 use crate::block::{Block, Range, block_head, block_words};
 use crate::cells::Cells;
 use crate::make::finish_compound;
+use crate::shorts::Words;
 use crate::words::Word;
 use pl_term::Memory;
 
@@ -93,7 +94,7 @@ fn copy_compound(
     let slots = cells.numbers.len();
     let heads = cells.heads.len();
     match push_copies(&mut cells.args, words, known, low, above, slots, heads) {
-        Ok(()) => finish_compound(cells, head.name, start, head.count),
+        Ok(()) => finish_compound(cells, head.name, start, head.count as usize),
         Err(_) => {
             cells.args.truncate(start);
             Err(Memory)
@@ -104,7 +105,7 @@ fn copy_compound(
 /// Puts the words of a block, as they stand in a store with so many slots and compound terms, after the others. After running
 /// out of memory some of the words are there.
 fn push_copies(
-    args: &mut Vec<Word>,
+    args: &mut Words,
     words: &[Word],
     known: &[Word],
     low: usize,
@@ -119,7 +120,7 @@ fn push_copies(
 {
     args.reserve(words.len())?;
     for word in words {
-        args.push_reserved(copied_word(*word, known, low, above, slots, heads));
+        args.push_reserved(copied_word(*word, known, low, above, slots, heads))?;
     }
     Ok(())
 }

@@ -70,7 +70,7 @@ fn open(cells: &Cells, walk: &mut Vec<Word>, at: Word) -> Result<Option<usize>, 
         Word::Atom(_) => Ok(None),
         Word::Comp(k) => {
             push_words(cells, walk, k)?;
-            Ok(Some(head_at(cells, k).count))
+            Ok(Some(head_at(cells, k).count as usize))
         }
     }
 }

@@ -202,8 +202,8 @@ fn parts_of(block: &Block) -> (Word, Word)
     let head = block_head(block, k);
     if head.name == fixed::NECK.slot() && head.count == 2 {
         (
-            block_word(block, head.start),
-            block_word(block, head.start + 1),
+            block_word(block, head.start as usize),
+            block_word(block, head.start as usize + 1),
         )
     } else {
         fact

@@ -152,7 +152,7 @@ fn write_part(
     requires known { IsKnown (heap_of cells.old) from known.old.items }
     requires room { from + block.now.variables < 2 ^ 64 }
     requires slot { slot < length cells.old.numbers.items }
-    requires free { find slot cells.old.trail.items ≡ None }
+    requires free { find slot cells.old.bonds.items ≡ None }
     requires inside { k < length block.now.heads.items }
     ensures fit { IsFit cells.new }
     ensures extends { Extends (heap_of cells.old) (heap_of cells.new) }
@@ -196,9 +196,9 @@ fn open_part(
         return Ok(false);
     }
     rests.push(Rest {
-        left: left.start,
-        right: right.start,
-        count: left.count,
+        left: left.start as usize,
+        right: right.start as usize,
+        count: left.count as usize,
     })?;
     Ok(true)
 }
@@ -214,6 +214,7 @@ pub fn next_pair(cells: &Cells, rests: &mut Vec<Rest>, block: &Block) -> Option<
     let Some(rest) = rests.pop() else {
         return None;
     };
+    let _words = cells.args.len();
     if rest.count > 1 {
         rests.push_reserved(Rest {
             left: rest.left + 1,

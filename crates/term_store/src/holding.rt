@@ -33,7 +33,7 @@ pub fn is_held(
     requires fit { IsFit cells.now }
     requires block { IsBlock block.now }
     requires slot { slot < length cells.now.numbers.items }
-    requires free { find slot cells.now.trail.items ≡ None }
+    requires free { find slot cells.now.bonds.items ≡ None }
     requires inside { IsIn (heap_of cells.now) word }
     requires known { All (IsIn (heap_of cells.now)) known.now }
     requires before { before ≤ length known.now }

@@ -1,15 +1,18 @@
 //! The atoms that a store, its places and kept terms name.
-ghost use Rattle.std.specs.Prelude.{◌≡◌, ◌++◌, OnOk, flat_map};
+ghost use Rattle.std.specs.Prelude.{◌≡◌, ◌<◌, ◌++◌, OnOk, flat_map, length};
+ghost use Rattle.std.specs.List.{All};
 ghost use Rattle.pl_term.specs.Tree.{Chars};
 ghost use Rattle.term_store.specs.Contents.{term_at};
 ghost use Rattle.term_store.specs.Live.{Gathers, SpellsAlike, cell_atoms, head_atoms, node_atoms, place_atoms, word_atoms};
 ghost use Rattle.term_store.specs.NumberedNames.{atoms_in, spelled};
 
 use crate::atom_set::AtomSet;
+use crate::bonds::Bonds;
 use crate::nodes::AtomNode;
+use crate::shorts::Words;
 use crate::store::Store;
 use crate::stored::Stored;
-use crate::words::{Bond, Head, Place, Word};
+use crate::words::{Head, Place, Word};
 use atom_api::Atom;
 use pl_term::Memory;
 
@@ -23,7 +26,7 @@ impl Store {
     {
         list_heads(&self.cells.heads, live)?;
         list_words(&self.cells.args, live)?;
-        list_bonds(&self.cells.trail, live)?;
+        list_bonds(&self.cells.bonds, live)?;
         Ok(())
     }
 }
@@ -58,21 +61,22 @@ fn list_heads(heads: &[Head], live: &mut AtomSet) -> Result<(), Memory>
 }
 
 /// Puts the atoms among words to those of a set. The only error is out of memory.
-fn list_words(words: &[Word], live: &mut AtomSet) -> Result<(), Memory>
-    ensures { OnOk result (Gathers (flat_map word_atoms words.now) live.old live.new) }
+fn list_words(words: &Words, live: &mut AtomSet) -> Result<(), Memory>
+    ensures { OnOk result (Gathers (flat_map word_atoms words.now.items) live.old live.new) }
 {
-    for word in words {
-        list_word(*word, live)?;
+    for i in 0..words.len() {
+        list_word(words.get(i), live)?;
     }
     Ok(())
 }
 
 /// Puts the atoms that variables are bound to to those of a set. The only error is out of memory.
-fn list_bonds(bonds: &[Bond], live: &mut AtomSet) -> Result<(), Memory>
-    ensures { OnOk result (Gathers (flat_map (λ b. word_atoms b.word) bonds.now) live.old live.new) }
+fn list_bonds(bonds: &Bonds, live: &mut AtomSet) -> Result<(), Memory>
+    requires { All (λ b. b.slot < length bonds.now.values) bonds.now.items }
+    ensures { OnOk result (Gathers (flat_map (λ b. word_atoms b.word) bonds.now.items) live.old live.new) }
 {
-    for bond in bonds {
-        list_word(bond.word, live)?;
+    for i in 0..bonds.len() {
+        list_word(bonds.word(i), live)?;
     }
     Ok(())
 }

@@ -64,8 +64,8 @@ impl Store {
                 View::Compound(
                     Atom::at(head.name),
                     Arguments {
-                        start: head.start,
-                        count: head.count,
+                        start: head.start as usize,
+                        count: head.count as usize,
                     },
                 )
             }
@@ -79,6 +79,7 @@ impl Store {
         ensures holds { Holds self.now result }
         ensures stands { term_at self.now result ≡ slice_index_or (arguments_at self.now arguments) i (atom []) }
     {
+        let _words = self.cells.args.len();
         Place {
             word: word_at(&self.cells, arguments.start + i),
         }

@@ -1,8 +1,9 @@
 //! Compound terms that were made of constants and of such terms alone, and are marked.
-ghost use Rattle.std.specs.Prelude.{◌≡◌, ◌≤◌, true, false, length, slice_index_or, OnErr, OnOk};
+ghost use Rattle.std.specs.Prelude.{◌≡◌, ◌≤◌, drop, true, false, length, slice_index_or, OnErr, OnOk};
 ghost use Rattle.std.specs.List.{All};
 ghost use Rattle.term_store.specs.GroundMarks.{IsMarked, IsMarkedToo};
 
+use crate::shorts::Words;
 use crate::words::Word;
 use pl_term::Memory;
 
@@ -39,15 +40,16 @@ fn is_ground_word(grounds: &[bool], word: Word) -> bool
     }
 }
 
-/// Whether the words are constants and compound terms that are marked. The last one is looked at first, since a variable
+/// Whether the words from a place on are constants and compound terms that are marked. The last one is looked at first, since a variable
 /// stands there more often than in front.
-pub fn are_ground(grounds: &[bool], words: &[Word]) -> bool
-    ensures { result ≡ true → All (IsMarked grounds.now) words.now }
+pub fn are_ground(grounds: &[bool], words: &Words, start: usize) -> bool
+    requires { start ≤ length words.now.items }
+    ensures { result ≡ true → All (IsMarked grounds.now) (drop start words.now.items) }
 {
     let mut i = words.len();
-    while i > 0 {
+    while i > start {
         i -= 1;
-        if !is_ground_word(grounds, words[i]) {
+        if !is_ground_word(grounds, words.get(i)) {
             return false;
         }
     }

@@ -8,6 +8,7 @@ ghost use Rattle.term_store.specs.Making.{Made, with_args, with_number};
 
 use crate::cells::Cells;
 use crate::made_ground::{are_ground, mark_at};
+use crate::shorts::{Words, short_index};
 use crate::words::{Head, Place, Word};
 use pl_term::Memory;
 
@@ -21,11 +22,11 @@ pub fn make_variable(cells: &mut Cells, number: u64) -> Result<Word, Memory>
     ensures kept { OnErr result (heap_of cells.new ≡ heap_of cells.old) }
 {
     let slot = cells.numbers.len();
-    cells.values.push(None)?;
+    cells.bonds.add()?;
     match cells.numbers.push(number) {
         Ok(()) => Ok(Word::Var(slot)),
         Err(_) => {
-            cells.values.truncate(slot);
+            cells.bonds.keep_first(slot);
             Err(Memory)
         }
     }
@@ -52,7 +53,7 @@ pub fn make_compound(cells: &mut Cells, name: u32, places: &[Place]) -> Result<W
 }
 
 /// Puts the words of the places after the others. After running out of memory some of them are there.
-fn push_places(args: &mut Vec<Word>, places: &[Place]) -> Result<(), Memory>
+fn push_places(args: &mut Words, places: &[Place]) -> Result<(), Memory>
     ensures ok { OnOk result (args.new.items ≡ args.old.items ++ map (λ p. p.word) places.now) }
     ensures kept { take (length args.old.items) args.new.items ≡ args.old.items }
 {
@@ -69,7 +70,7 @@ pub fn finish_compound(
     start: usize,
     count: usize,
 ) -> Result<Word, Memory>
-    requires cache { IsCache cells.old.values.items (heap_of cells.old) }
+    requires cache { IsCache cells.old.bonds.values (heap_of cells.old) }
     requires full { 0 < count }
     requires within { start + count ≡ length cells.old.args.items }
     requires inside { All (IsIn (heap_of cells.old)) (drop start cells.old.args.items) }
@@ -83,9 +84,15 @@ pub fn finish_compound(
     ensures heads { OnOk result (length cells.new.heads.items ≡ length cells.old.heads.items + 1) }
 {
     let k = cells.heads.len();
-    let marked = are_ground(&cells.grounds, &cells.args[start..]);
-    let head = Head { name, start, count };
-    match push_head(&mut cells.heads, &mut cells.grounds, head, marked) {
+    let marked = are_ground(&cells.grounds, &cells.args, start);
+    match push_head(
+        &mut cells.heads,
+        &mut cells.grounds,
+        name,
+        start,
+        count,
+        marked,
+    ) {
         Ok(()) => Ok(Word::Comp(k)),
         Err(_) => {
             cells.args.truncate(start);
@@ -99,16 +106,23 @@ pub fn finish_compound(
 fn push_head(
     heads: &mut Vec<Head>,
     grounds: &mut Vec<bool>,
-    head: Head,
+    name: u32,
+    start: usize,
+    count: usize,
     marked: bool,
 ) -> Result<(), Memory>
     requires { length grounds.old.items ≤ length heads.old.items }
-    ensures heads { OnOk result (heads.new.items ≡ heads.old.items ++ head ∷ []) }
+    ensures heads { OnOk result (heads.new.items ≡ heads.old.items ++ record { name = name; start = start; count = count } ∷ []) }
     ensures marks { OnOk result (IsMarkedToo marked (length heads.old.items) grounds.old.items grounds.new.items) }
     ensures kept { OnErr result (heads.new.items ≡ heads.old.items) }
     ensures unmarked { OnErr result (IsMarkedToo false (length heads.old.items) grounds.old.items grounds.new.items) }
 {
     let k = heads.len();
+    let head = Head {
+        name,
+        start: short_index(start)?,
+        count: short_index(count)?,
+    };
     if marked {
         mark_at(grounds, k)?;
     }

@@ -1,5 +1,5 @@
 //! The occurs check.
-ghost use Rattle.std.specs.Prelude.{◌≡◌, ℕ, ◌<◌, ◌≤◌, ◌||◌, ◌++◌, ◌∷◌, [], length, slice_index_or, Option, None, false, IfOk, OnOk};
+ghost use Rattle.std.specs.Prelude.{◌≡◌, ℕ, ◌<◌, ◌≤◌, ◌||◌, ◌++◌, ◌+◌, ◌∷◌, [], length, take, drop, slice_index_or, Option, None, false, IfOk, OnOk};
 ghost use Rattle.std.specs.List.{All};
 ghost use Rattle.pl_term.specs.Variables.{has};
 ghost use Rattle.term_store.specs.Apart.{IsApart, NoneFrom, SameFrom};
@@ -9,7 +9,7 @@ ghost use Rattle.term_store.specs.Heap.{meaning, find, numbered, pushed, words_o
 ghost use Rattle.term_store.specs.Unifying.{any_has};
 ghost use Rattle.term_store.specs.Visits.{IsClear, SeenClear};
 
-use crate::cells::{Cells, deref, head_at};
+use crate::cells::{Cells, deref, head_at, word_at};
 use crate::made_ground::marked_at;
 use crate::older::{Older, is_apart};
 use crate::pace::Pace;
@@ -28,7 +28,7 @@ pub fn occurs(
 ) -> Result<bool, Memory>
     requires fit { IsFit cells.now }
     requires slot { slot < length cells.now.numbers.items }
-    requires free { find slot cells.now.trail.items ≡ None }
+    requires free { find slot cells.now.bonds.items ≡ None }
     requires inside { IsIn (heap_of cells.now) word }
     requires apart { IsApart (heap_of cells.now) older.old }
     ensures has { IfOk result (λ b. b ≡ has (numbered (heap_of cells.now) slot) (meaning (heap_of cells.now) word)) }
@@ -53,7 +53,7 @@ fn is_found(
 ) -> Result<bool, Memory>
     requires fit { IsFit cells.now }
     requires slot { slot < length cells.now.numbers.items }
-    requires free { find slot cells.now.trail.items ≡ None }
+    requires free { find slot cells.now.bonds.items ≡ None }
     requires inside { IsIn (heap_of cells.now) word }
     ensures has { IfOk result (λ b. b ≡ has (numbered (heap_of cells.now) slot) (meaning (heap_of cells.now) word)) }
     ensures raised { OnOk result (top.old ≤ top.new) }
@@ -158,6 +158,18 @@ pub fn push_words(cells: &Cells, walk: &mut Vec<Word>, k: usize) -> Result<(), M
         ++ words_of cells.now.args.items (slice_index_or cells.now.heads.items k no_head)) }
 {
     let head = head_at(cells, k);
-    walk.extend_from_slice(&cells.args[head.start..head.start + head.count])?;
+    push_all(cells, walk, head.start as usize, head.count as usize)
+}
+
+/// Puts so many arguments from a place on on the stack, the last on top.
+fn push_all(cells: &Cells, walk: &mut Vec<Word>, start: usize, count: usize) -> Result<(), Memory>
+    requires { start + count ≤ length cells.now.args.items }
+    ensures { OnOk result (walk.new.items ≡ walk.old.items ++ take count (drop start cells.now.args.items)) }
+{
+    let _words = cells.args.len();
+    walk.reserve(count)?;
+    for i in 0..count {
+        walk.push_reserved(word_at(cells, start + i));
+    }
     Ok(())
 }

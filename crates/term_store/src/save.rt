@@ -77,8 +77,8 @@ fn push_node(
         Word::Atom(a) => push_leaf(all, AtomNode::Atom(a)),
         Word::Comp(k) => {
             let head = head_at(cells, k);
-            push_leaf(all, AtomNode::Comp(head.name, head.count))?;
-            push_reversed(cells, walk, head.start, head.count)
+            push_leaf(all, AtomNode::Comp(head.name, head.count as usize))?;
+            push_reversed(cells, walk, head.start as usize, head.count as usize)
         }
     }
 }
@@ -101,6 +101,7 @@ fn push_reversed(
     requires { start + count ≤ length cells.now.args.items }
     ensures { OnOk result (walk.new.items ≡ walk.old.items ++ reverse (take count (drop start cells.now.args.items))) }
 {
+    let _words = cells.args.len();
     let mut i = count;
     while i > 0 {
         i -= 1;

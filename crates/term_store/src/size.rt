@@ -135,8 +135,8 @@ fn sum_of(cells: &Cells, seen: &Seen, sizes: &[u64], k: usize) -> Size
 {
     let head = head_at(cells, k);
     let mut sum = plus(Size::Cells(1), Size::Cells(head.count as u64));
-    for i in 0..head.count {
-        let at = deref(cells, word_at(cells, head.start + i));
+    for i in 0..head.count as usize {
+        let at = deref(cells, word_at(cells, head.start as usize + i));
         sum = plus(sum, size_of(seen, sizes, at, cells));
     }
     sum

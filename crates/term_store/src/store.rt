@@ -74,7 +74,7 @@ impl Store {
     pub fn trail_len(&self) -> usize
         ensures { result ≡ bindings_made self.now }
     {
-        self.cells.trail.len()
+        self.cells.bonds.len()
     }
 
     /// Counts so many cells as used. Where those used and these are together more than the budget it refuses with both
@@ -133,7 +133,7 @@ impl Store {
             heads: self.cells.heads.len(),
             args: self.cells.args.len(),
             numbers: self.cells.numbers.len(),
-            trail: self.cells.trail.len(),
+            trail: self.cells.bonds.len(),
             used: self.used,
         }
     }
@@ -185,7 +185,7 @@ impl Store {
         requires { IsMark mark self.now }
         ensures { IsApart self.now.heap result }
     {
-        if mark.trail == self.cells.trail.len() {
+        if mark.trail == self.cells.bonds.len() {
             Older::at(mark)
         } else {
             Older::none()

@@ -178,7 +178,13 @@ fn open_pair(cells: &Cells, pending: &mut Vec<Pair>, k: usize, l: usize) -> Resu
     if left.count != right.count {
         return Ok(false);
     }
-    push_pairs(cells, pending, left.start, right.start, left.count)?;
+    push_pairs(
+        cells,
+        pending,
+        left.start as usize,
+        right.start as usize,
+        left.count as usize,
+    )?;
     Ok(true)
 }
 
@@ -195,6 +201,7 @@ fn push_pairs(
     ensures { OnOk result (pending.new.items ≡ pending.old.items
         ++ reverse (zip_words (take count (drop left cells.now.args.items)) (take count (drop right cells.now.args.items)))) }
 {
+    let _words = cells.args.len();
     let mut i = count;
     while i > 0 {
         i -= 1;

@@ -13,8 +13,8 @@ pub enum Word {
 #[derive(Clone, Copy, Debug, Drop)]
 pub struct Head {
     pub name: u32,
-    pub start: usize,
-    pub count: usize,
+    pub start: u32,
+    pub count: u32,
 }
 
 /// A binding: the slot of a variable, and the word that it is bound to.

@@ -11,4 +11,4 @@ ranges_of-requires c =
     let n = c.args.variables in
     let long : length h.numbers ≡ n =
     ap length (c.in_ok-root.ensures.numbers ∙ ap (λ g. g.numbers ++ upwards zero n) c.new-cells.ensures.blank) ∙ length-upwards zero n in
-    heads_given h n c.deref.result.now c.deref-2.result.now c.load.ensures.fit.fit long c.deref.ensures.value c.deref-2.ensures.value
+    heads_given h n c.deref.result.now c.deref-2.result.now c.load.ensures.fit.fit long c.deref.ensures.value (c.deref-2.ensures.value ∙ c.in_ok-args.ensures)

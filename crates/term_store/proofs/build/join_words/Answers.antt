@@ -13,7 +13,7 @@ finish_compound-requires-clause-inside c =
     let h = heap_of c.args.cells.now in
     let t = c.in-Ok.ensures.ok in
     let behind : drop c.len-start.result c.move_words.new.args.items ≡ t.taken =
-    ap (λ n. drop n c.move_words.new.args.items) (c.len-start.ensures ∙ c.args.cells.now.args.ok.0)
+    ap (λ n. drop n c.move_words.new.args.items) c.len-start.ensures
     ∙ ap (drop (length h.args)) t.moved ∙ drop-append_seam h.args t.taken in
     subst (λ ws. All (IsIn h) ws) (sym behind)
     (taken_inside (IsIn h) c.args.stack.now.items c.move_words.new.stack.items t.taken t.split c.requires.words)
@@ -23,5 +23,5 @@ finish_compound-requires-clause-marks c =
     let h = heap_of c.args.cells.now in
     let args = c.move_words.new.args.items in
     let before : take c.len-start.result args ≡ h.args =
-    ap (λ n. take n args) (c.len-start.ensures ∙ c.args.cells.now.args.ok.0) ∙ c.move_words.ensures.kept in
+    ap (λ n. take n args) c.len-start.ensures ∙ c.move_words.ensures.kept in
     subst (λ ws. AreMarks c.args.cells.now.grounds.items (with_args h ws)) (sym before) c.requires.fit.marks

@@ -19,7 +19,7 @@ loop-at-smaller c =
     let h = heap_of c.args.cells.now in
     let inside : c.in-Var.slot < length h.numbers = subst (IsIn h) c.in-Var.is c.loop-at.invariant.inside in
     (next_found h c.loop-at.at c.in-Some.next c.in-Var.slot c.requires.fit.fit c.loop-at.invariant.inside c.in-Var.is
-    (sym (read_value c.args.cells.now.values.items h c.in-Var.slot c.index.result.now c.requires.fit.cache inside c.index.ensures) ∙ c.in-Some.is)).2
+    (sym (read_value c.args.cells.now.bonds.values h c.in-Var.slot c.value.result c.requires.fit.cache inside c.value.ensures) ∙ c.in-Some.is)).2
 
 pub loop-at-preserved : goal.loop-at-preserved
 loop-at-preserved c =
@@ -27,5 +27,5 @@ loop-at-preserved c =
     let inside : c.in-Var.slot < length h.numbers = subst (IsIn h) c.in-Var.is c.loop-at.invariant.inside in
     let n =
     next_found h c.loop-at.at c.in-Some.next c.in-Var.slot c.requires.fit.fit c.loop-at.invariant.inside c.in-Var.is
-    (sym (read_value c.args.cells.now.values.items h c.in-Var.slot c.index.result.now c.requires.fit.cache inside c.index.ensures) ∙ c.in-Some.is) in
+    (sym (read_value c.args.cells.now.bonds.values h c.in-Var.slot c.value.result c.requires.fit.cache inside c.value.ensures) ∙ c.in-Some.is) in
     record { means = n.0 ∙ c.loop-at.invariant.means; inside = n.1 }

@@ -20,7 +20,7 @@ finish_compound-requires-clause-inside c =
     let parts = arguments_of c.args.block.now c.args.j in
     let words : List Word = map (copied c.args.known.now c.args.low c.args.above) parts in
     let behind : drop c.len-start.result c.push_copies.new.args.items ≡ words =
-    ap (λ n. drop n c.push_copies.new.args.items) (c.len-start.ensures ∙ c.args.cells.now.args.ok.0)
+    ap (λ n. drop n c.push_copies.new.args.items) c.len-start.ensures
     ∙ ap (drop (length h.args)) c.in-Ok.ensures.ok
     ∙ drop-append_seam h.args (map (copied c.args.known.now c.args.low c.args.above) c.block_words-words.result.now)
     ∙ ap (map (copied c.args.known.now c.args.low c.args.above)) c.block_words-words.ensures in
@@ -32,5 +32,5 @@ finish_compound-requires-clause-marks c =
     let h = heap_of c.args.cells.now in
     let args = c.push_copies.new.args.items in
     let before : take c.len-start.result args ≡ h.args =
-    ap (λ n. take n args) (c.len-start.ensures ∙ c.args.cells.now.args.ok.0) ∙ c.push_copies.ensures.kept in
+    ap (λ n. take n args) c.len-start.ensures ∙ c.push_copies.ensures.kept in
     subst (λ ws. AreMarks c.args.cells.now.grounds.items (with_args h ws)) (sym before) c.requires.fit.marks

@@ -6,8 +6,9 @@ use Rattle.term_store.proofs.made_ground.are_ground.Given as goal
 abbrev pub invariant-loop-i : goal.invariant-loop-i
 invariant-loop-i l =
     record {
-      within : l.i ≤ length l.words;
-      behind : All (IsMarked l.grounds) (drop l.i l.words);
+      within : l.i ≤ length l.words.items;
+      from : l.start ≤ l.i;
+      behind : All (IsMarked l.grounds) (drop l.i l.words.items);
     }
 
 abbrev pub decreases-loop-i : goal.decreases-loop-i

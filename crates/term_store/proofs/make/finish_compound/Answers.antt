@@ -1,6 +1,5 @@
-use Rattle.std.proofs.Common.{◌≡◌, ◌-◌, true, length, take, drop, refl, sym, ap, subst, ◌∙◌, length-drop}
+use Rattle.std.proofs.Common.{◌≡◌, true, length, drop, refl, sym, subst, ◌∙◌}
 use Rattle.std.specs.List.{All}
-use Rattle.std.proofs.Math.Seq.{take-length}
 use Rattle.term_store.specs.Cells.{heap_of}
 use Rattle.term_store.specs.GroundMarks.{AreMarks, IsMarked}
 use Rattle.term_store.proofs.Growing.{finished}
@@ -11,14 +10,8 @@ pub returns-in-Ok-clause-fit : goal.returns-in-Ok-clause-fit
 returns-in-Ok-clause-fit c =
     let h = heap_of c.args.cells.now in
     let r = c.requires in
-    let ws = c.deref-2.result.now in
-    let slice = take (length ws - c.args.start) (drop c.args.start ws) in
-    let rest : slice ≡ drop c.args.start h.args =
-    ap (λ n. take n (drop c.args.start ws)) (sym (length-drop c.args.start ws)) ∙ take-length (drop c.args.start ws)
-    ∙ ap (drop c.args.start) c.deref-2.ensures.value in
     let marked : c.are_ground-marked.result ≡ true → All (IsMarked c.args.cells.now.grounds.items) (drop c.args.start h.args) =
-    λ e. subst (All (IsMarked c.args.cells.now.grounds.items)) rest
-    (subst (λ gs. All (IsMarked gs) slice) c.deref.ensures.value (c.are_ground-marked.ensures e)) in
+    λ e. subst (λ gs. All (IsMarked gs) (drop c.args.start h.args)) c.deref.ensures.value (c.are_ground-marked.ensures e) in
     record {
       fit =
           (finished h c.args.name c.args.start c.args.count (length h.heads) c.push_head.new.heads.items r.unused r.full r.within r.inside c.in-Ok.ensures.heads refl).0;

@@ -18,7 +18,7 @@ finish_compound-requires-clause-inside c =
     let h = heap_of c.args.cells.now in
     let words : List Word = map (λ p. p.word) c.args.places.now in
     let behind : drop c.len-start.result c.push_places.new.args.items ≡ words =
-    ap (λ n. drop n c.push_places.new.args.items) (c.len-start.ensures ∙ c.args.cells.now.args.ok.0)
+    ap (λ n. drop n c.push_places.new.args.items) c.len-start.ensures
     ∙ ap (drop (length h.args)) c.in-Ok.ensures.ok ∙ drop-append_seam h.args words in
     subst (λ ws. All (IsIn h) ws) (sym behind) (All-map (IsIn h) (λ p. p.word) c.args.places.now c.requires.inside)
 
@@ -27,5 +27,5 @@ finish_compound-requires-clause-marks c =
     let h = heap_of c.args.cells.now in
     let args = c.push_places.new.args.items in
     let before : take c.len-start.result args ≡ h.args =
-    ap (λ n. take n args) (c.len-start.ensures ∙ c.args.cells.now.args.ok.0) ∙ c.push_places.ensures.kept in
+    ap (λ n. take n args) c.len-start.ensures ∙ c.push_places.ensures.kept in
     subst (λ ws. AreMarks c.args.cells.now.grounds.items (with_args h ws)) (sym before) c.requires.fit.marks

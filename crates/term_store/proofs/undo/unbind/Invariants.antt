@@ -3,17 +3,17 @@ use Rattle.std.specs.List.{All}
 use Rattle.term_store.specs.Fit.{Cached, OnceFrom}
 use Rattle.term_store.proofs.undo.unbind.Given as goal
 
-abbrev pub invariant-loop-trail : goal.invariant-loop-trail
-invariant-loop-trail l =
+abbrev pub invariant-loop-bonds : goal.invariant-loop-bonds
+invariant-loop-bonds l =
     record {
-      keeps : l.fn.keep ≤ length l.trail.items;
-      within : length l.trail.items ≤ length l.initial.trail.items;
-      taken : l.trail.items ≡ take (length l.trail.items) l.initial.trail.items;
-      long : length l.values.items ≡ length l.initial.values.items;
-      slots : All (λ b. b.slot < length l.values.items) l.trail.items;
-      once : OnceFrom [] l.trail.items;
-      cached : Cached l.values.items l.trail.items;
+      keeps : l.fn.keep ≤ length l.bonds.items;
+      within : length l.bonds.items ≤ length l.initial.bonds.items;
+      taken : l.bonds.items ≡ take (length l.bonds.items) l.initial.bonds.items;
+      long : length l.bonds.values ≡ length l.initial.bonds.values;
+      slots : All (λ b. b.slot < length l.bonds.values) l.bonds.items;
+      once : OnceFrom [] l.bonds.items;
+      cached : Cached l.bonds.values l.bonds.items;
     }
 
-abbrev pub decreases-loop-trail : goal.decreases-loop-trail
-decreases-loop-trail l = length l.trail.items
+abbrev pub decreases-loop-bonds : goal.decreases-loop-bonds
+decreases-loop-bonds l = length l.bonds.items

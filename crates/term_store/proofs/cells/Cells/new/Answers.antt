@@ -12,11 +12,11 @@ heap hs ws ns bs = record { heads = hs; args = ws; numbers = ns; trail = bs }
 
 pub returns : goal.returns
 returns c =
-    let h : Heap = heap c.new.result.items c.new-2.result.items c.new-3.result.items c.new-5.result.items in
-    let f = fit_blank c.new-4.result.items h c.new.ensures.items c.new-3.ensures.items c.new-5.ensures.items c.new-4.ensures.items in
+    let h : Heap = heap c.new.result.items c.new-2.result.items c.new-3.result.items c.new-4.result.items in
+    let f = fit_blank c.new-4.result.values h c.new.ensures.items c.new-3.ensures.items c.new-4.ensures.items c.new-4.ensures.values in
     record {
-      fit = record { fit = f.0; cache = f.1; marks = marks_blank c.new-6.result.items h c.new-6.ensures.items c.new.ensures.items };
+      fit = record { fit = f.0; cache = f.1; marks = marks_blank c.new-5.result.items h c.new-5.ensures.items c.new.ensures.items };
       blank =
-          ap₂ (λ hs ws. heap hs ws c.new-3.result.items c.new-5.result.items) c.new.ensures.items c.new-2.ensures.items
-          ∙ ap₂ (heap [] []) c.new-3.ensures.items c.new-5.ensures.items;
+          ap₂ (λ hs ws. heap hs ws c.new-3.result.items c.new-4.result.items) c.new.ensures.items c.new-2.ensures.items
+          ∙ ap₂ (heap [] []) c.new-3.ensures.items c.new-4.ensures.items;
     }

@@ -26,9 +26,9 @@ returns-clause-gathers c =
     let named : Gathers heads c.args.live.now c.list_heads.new.live =
     subst (λ gs. Gathers (flat_map head_atoms gs) c.args.live.now c.list_heads.new.live) c.deref.ensures.value c.in_ok-list_heads.ensures in
     let argued : Gathers words c.list_heads.new.live c.list_words.new.live =
-    subst (λ ws. Gathers (flat_map word_atoms ws) c.list_heads.new.live c.list_words.new.live) c.deref-2.ensures.value c.in_ok-list_words.ensures in
+    c.in_ok-list_words.ensures in
     let bound : Gathers bonds c.list_words.new.live c.list_bonds.new.live =
-    subst (λ bs. Gathers (flat_map (λ b. word_atoms b.word) bs) c.list_words.new.live c.list_bonds.new.live) c.deref-3.ensures.value c.in_ok-list_bonds.ensures in
+    c.in_ok-list_bonds.ensures in
     subst (λ s. Gathers (cell_atoms s) c.args.live.now c.list_bonds.new.live) c.self.view_is
     (gathers_both heads (words ++ bonds) c.args.live.now c.list_heads.new.live c.list_bonds.new.live named
     (gathers_both words bonds c.list_heads.new.live c.list_words.new.live c.list_bonds.new.live argued bound))
