@@ -6,12 +6,22 @@ use Rattle.pl_model.specs.History.{Proc, Clause, head_part, body_part}
 use Rattle.pl_model.specs.Predicates.{proc_of}
 use Rattle.pl_model.specs.Terms.{variable_count}
 use Rattle.pl_model.specs.Requests.{Request, look, read_operators, call_clauses, inspected_clauses, retracted_clauses, cleared_clauses, erase_clause, assert_first, assert_last, consult_clause, abolish_procedure, make_dynamic, all_procedures, put_operators, put_flag, all_flags, own_name, create_thread, start_goal, join_thread, send_message, get_message, peek_message, create_queue, destroy_queue, collect_atoms, collect_clauses}
+use Rattle.world_api.specs.declared.asking.After.{After}
+use Rattle.world_api.specs.declared.asking.Asked.{Asked}
 use Rattle.world_api.specs.declared.visit.Procedure.{Procedure}
 use Rattle.world_api.specs.declared.visit.Visit.{Visit}
 use Rattle.world_api.specs.declared.visit.Visit.TheVariants.{Look, ReadOperators, Call, Inspect, Retract, Clear, Next, Erase, AssertFirst, AssertLast, Consult, Abolish, MakeDynamic, AllProcedures, PutOperators, AllOperators, PutFlag, AllFlags, OwnName, CreateThread, StartGoal, JoinThread, SendMessage, GetMessage, PeekMessage, CreateQueue, DestroyQueue, CollectAtoms, CollectClauses}
 
 abbrev pub proc_named : (ℕ → Chars) → Procedure → Proc
 proc_named text p = record { name = text p.name; arity = p.arity }
+
+-- The visit that asks for this.
+abbrev pub visit_by : {T K : Type 0} → Procedure → K → Option After → Visit T K
+visit_by p k None = Call p k
+visit_by p k (Some x) = Next p k x.generation x.place
+
+abbrev pub visit_for : {T K : Type 0} → Asked K → Visit T K
+visit_for a = visit_by a.procedure a.first a.after
 
 -- A clause that is kept as one term: a rule, or a head alone.
 abbrev pub clause_in : Tree → Clause

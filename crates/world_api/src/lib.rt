@@ -2,6 +2,7 @@
 #![tactic(auto)]
 
 mod answer;
+mod asking;
 mod interning;
 mod named;
 mod readings;
@@ -13,6 +14,7 @@ mod visit;
 mod world;
 
 pub use answer::{Answer, On};
+pub use asking::{After, Asked};
 pub use atom_api::{Cause, Pass, WornWord};
 pub use interning::{NoTerm, interned};
 pub use named::Named;
