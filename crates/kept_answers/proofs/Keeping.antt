@@ -17,6 +17,8 @@ use Rattle.term_store.specs.ArgumentKeys.{clause_key, key_atoms}
 use Rattle.term_store.specs.NameLaws.{names_are_told}
 use Rattle.term_store.specs.NumberedNames.{names_of, neck, term_by}
 use Rattle.term_store.specs.declared.argument_key.ArgumentKey.{ArgumentKey}
+use Rattle.world_api.specs.declared.asking.After.{After}
+use Rattle.world_api.specs.declared.asking.Asked.{Asked}
 use Rattle.world_api.specs.declared.reply.Found.{Found}
 use Rattle.world_api.specs.declared.reply.Reply.{Reply}
 use Rattle.world_api.specs.declared.reply.Reply.TheVariants.{Clauses}
@@ -26,11 +28,8 @@ use Rattle.world_api.specs.Answers.{IsNext, IsServed, Serves}
 use Rattle.world_api.specs.Replies.{IsFirst, IsFront, Says, follows_some, found_names}
 use Rattle.world_api.specs.Texts.{Holds, or_no_text, text_of}
 use Rattle.world_api.specs.Told.{Told, behind, clause_list}
-use Rattle.world_api.specs.Visits.{Asks, IsGoal, clause_in}
-use Rattle.kept_answers.specs.declared.answers.Space.TheVariants.{Holding}
-use Rattle.kept_answers.specs.declared.asked.After.{After}
-use Rattle.kept_answers.specs.declared.asked.Asked.{Asked}
-use Rattle.kept_answers.specs.Answered.{Again, IsGiven, IsKept, IsNaming, IsSound, Row, first_row, found_row, listed_in, rows_for, told, visit_by}
+use Rattle.world_api.specs.Visits.{Asks, IsGoal, clause_in, visit_by}
+use Rattle.kept_answers.specs.Answered.{Again, IsAnswer, IsGiven, IsKept, IsNaming, Row, first_row, found_row, listed_in, rows_for, told}
 use Rattle.kept_answers.proofs.Goals.{any_engine, asked_there, lists_same, no_update, same_excluded, same_proc, served_same}
 
 -- Parts of a list
@@ -269,8 +268,8 @@ keeps p k None f v0 w0 nv0 holds0 held0 plain old new before g served held =
 keeps p k (Some x) f v0 w0 nv0 holds0 held0 plain old new before g served held =
     record { held = held; again = λ m nm same. next_row p k f v0 w0 nv0 holds0 held0 plain m nm same old new before x.generation x.place g served }
 
-pub kept_sound : (goals : ℕ) (h : History) (w : Names) (a : Asked) (f : Option (Found Tree)) (n : ℕ) → a.procedure.name ≢ neck → IsGiven goals h w a f → length h ≡ n
-    → IsSound goals h w (Holding (record { asked = a; generation = n; found = f }))
+pub kept_sound : (goals : ℕ) (h : History) (w : Names) (a : Asked ArgumentKey) (f : Option (Found Tree)) (n : ℕ) → a.procedure.name ≢ neck → IsGiven goals h w a f → length h ≡ n
+    → IsAnswer goals h w (record { asked = a; generation = n; found = f })
 kept_sound goals h w a f n plain is long = (
   omega (arith, long),
   λ same.

@@ -1,23 +1,22 @@
 -- What is kept stays as the history grows, and as more is held.
-use Rattle.std.proofs.Common.{◌≡◌, ℕ, List, [], ◌∷◌, ◌++◌, length, IsSome, refl, sym, ap, subst, ◌∙◌, arith, append-nil, length-append}
+use Rattle.std.proofs.Common.{◌≡◌, ℕ, List, [], ◌∷◌, ◌++◌, length, Option, Some, None, IsSome, refl, sym, ap, subst, ◌∙◌, arith, append-nil, length-append}
 use Rattle.std.specs.List.{All}
 use Rattle.std.proofs.lemmas.List.Elements.{All-weaker}
 use Rattle.pl_model.specs.History.{History}
 use Rattle.atom_api.specs.Names.{Names}
 use Rattle.world_api.specs.Texts.{Holds}
+use Rattle.kept_answers.specs.declared.answers.Kept.{Kept}
 use Rattle.kept_answers.specs.declared.answers.Space.{Space}
-use Rattle.kept_answers.specs.declared.answers.Space.TheVariants.{Free, Once, Holding}
-use Rattle.kept_answers.specs.Answered.{AreSound, IsKept, IsSound, answer_atoms}
+use Rattle.kept_answers.specs.Answered.{AreSound, IsKept, IsSound, IsSoundIn, answer_atoms}
 use Rattle.kept_answers.proofs.Keeping.{all_both, held_same}
 
 no_more : (later : History) → length later ≡ 0 → later ≡ []
 no_more [] is = refl
 no_more (x ∷ later) is = absurd (omega (arith, is))
 
-stays : (goals : ℕ) (h later : History) (n : Names) (s : Space) → IsSound goals h n s → IsSound goals (h ++ later) n s
-stays goals h later n Free is = is
-stays goals h later n (Once a g) is = is
-stays goals h later n (Holding k) is =
+stays : (goals : ℕ) (h later : History) (n : Names) (k : Option Kept) → IsSoundIn goals h n k → IsSoundIn goals (h ++ later) n k
+stays goals h later n None is = is
+stays goals h later n (Some k) is =
     let longer = length-append h later in (
       omega (arith, is.0, longer),
       λ same.
@@ -27,12 +26,11 @@ stays goals h later n (Holding k) is =
     )
 
 pub all_stay : (goals : ℕ) (h later : History) (n : Names) (ss : List Space) → AreSound goals h n ss → AreSound goals (h ++ later) n ss
-all_stay goals h later n ss all = All-weaker (IsSound goals h n) (IsSound goals (h ++ later) n) (stays goals h later n) ss all
+all_stay goals h later n ss all = All-weaker (IsSound goals h n) (IsSound goals (h ++ later) n) (λ s. stays goals h later n s.kept) ss all
 
-kept_on : (goals : ℕ) (h : History) (n o : Names) → Holds n o → (s : Space) → IsSound goals h n s → IsSound goals h o s
-kept_on goals h n o holds Free is = is
-kept_on goals h n o holds (Once a g) is = is
-kept_on goals h n o holds (Holding k) is = (is.0, λ same. more (is.1 same))
+kept_on : (goals : ℕ) (h : History) (n o : Names) → Holds n o → (k : Option Kept) → IsSoundIn goals h n k → IsSoundIn goals h o k
+kept_on goals h n o holds None is = is
+kept_on goals h n o holds (Some k) is = (is.0, λ same. more (is.1 same))
   where
     more : IsKept goals h k.asked k.found n → IsKept goals h k.asked k.found o
     more kept =
@@ -44,4 +42,4 @@ kept_on goals h n o holds (Holding k) is = (is.0, λ same. more (is.1 same))
         }
 
 pub all_kept_on : (goals : ℕ) (h : History) (n o : Names) → Holds n o → (ss : List Space) → AreSound goals h n ss → AreSound goals h o ss
-all_kept_on goals h n o holds ss all = All-weaker (IsSound goals h n) (IsSound goals h o) (kept_on goals h n o holds) ss all
+all_kept_on goals h n o holds ss all = All-weaker (IsSound goals h n) (IsSound goals h o) (λ s. kept_on goals h n o holds s.kept) ss all

@@ -1,34 +1,32 @@
 //! The places of answers.
-ghost use Rattle.std.specs.Prelude.{◌≡◌, ℕ, length, IfOk, IfSome};
+ghost use Rattle.std.specs.Prelude.{◌≡◌, ℕ, length, true, IfOk, IfSome, Option};
 ghost use Rattle.pl_model.specs.History.{History};
 ghost use Rattle.atom_api.specs.Names.{Names};
-ghost use Rattle.kept_answers.specs.Answered.{AreSound, IsGiven, IsKept, IsSound};
-ghost use Rattle.kept_answers.specs.declared.answers.Space.TheVariants.{Holding};
+ghost use Rattle.pl_term.specs.Tree.{Tree};
+ghost use Rattle.world_api.specs.declared.reply.Found.{Found as FoundValue};
+ghost use Rattle.kept_answers.specs.Answered.{AreSound, IsAnswer, IsGiven, IsKept, IsSound, found_at, found_or};
 
-use crate::asked::{Asked, PLACES, is_same, place_of};
+use crate::asked::{PLACES, is_same, place_of};
 use atom_api::fixed;
 use pl_term::Memory;
 use std::alloc::Global;
-use term_store::Stored;
-use world_api::Found;
+use term_store::{ArgumentKey, Stored};
+use world_api::{Asked, Found};
 
 /// An answer that is kept: what was asked, the length of the history at which it was answered, and the clause that was found,
 /// as a copy that nobody else holds.
 #[derive(Drop)]
 pub struct Kept {
-    pub asked: Asked,
+    pub asked: Asked<ArgumentKey>,
     pub generation: u64,
     pub found: Option<Found<Stored>>,
 }
 
-/// A place of an answer.
+/// A place of an answer: the one that is kept, if any, and a mark of the last request that was not answered by it.
 #[derive(Drop)]
-pub enum Space {
-    /// Nothing was asked.
-    Free,
-    /// This was asked last, once at this length of the history, and its answer is not kept.
-    Once(Asked, u64),
-    Holding(Kept),
+pub struct Space {
+    pub mark: u64,
+    pub kept: Option<Kept>,
 }
 
 /// Answers of the shared state that an engine keeps, each at the place of what was asked.
@@ -67,7 +65,7 @@ fn copied_found(
 // The answer, to be kept. The only error is out of memory.
 fn answer_of(
     alloc: Global,
-    asked: &Asked,
+    asked: &Asked<ArgumentKey>,
     found: &Option<Found<Stored>>,
     generation: u64,
 ) -> Result<Kept, Memory>
@@ -75,67 +73,62 @@ fn answer_of(
 {
     let found = copied_found(alloc, found)?;
     Ok(Kept {
-        asked: *asked,
+        asked: Asked {
+            procedure: asked.procedure,
+            first: asked.first,
+            after: asked.after,
+        },
         generation,
         found,
     })
 }
 
-impl Kept {
-    /// The clause that was found, for another holder. The only error is that so many hold it that they can no longer be
-    /// counted.
-    pub fn share(&self) -> Result<Option<Found<Stored>>, Memory>
-        ensures { IfOk result (λ f. f ≡ self.now.found) }
-    {
-        match &self.found {
-            None => Ok(None),
-            Some(f) => {
-                let clause = f.clause.share()?;
-                Ok(Some(Found {
-                    clause,
-                    place: f.place,
-                    more: f.more,
-                }))
-            }
-        }
-    }
-}
-
-// The answer at the place, where it is one to this, at that length of the history.
-fn answer_in<'a>(space: &'a Space, asked: &Asked, generation: u64) -> Option<&'a Kept>
-    ensures kept { (goals : ℕ) (h : History) (n : Names) → IsSound goals h n space.now → length h ≡ generation → IfSome result (λ k. IsKept goals h asked.now k.now.found n) }
+// Whether the answer at the place is one to this, at that length of the history.
+#[inline]
+fn is_answer_in(space: &Space, asked: &Asked<ArgumentKey>, generation: u64) -> bool
+    ensures kept { (goals : ℕ) (h : History) (n : Names) (f : Option (FoundValue Tree)) → IsSound goals h n space.now → length h ≡ generation → result ≡ true → IsKept goals h asked.now (found_or f space.now.kept) n }
 {
-    match space {
-        Space::Free => None,
-        Space::Once(_, _) => None,
-        Space::Holding(kept) => {
-            if kept.generation == generation && is_same(&kept.asked, asked) {
-                Some(kept)
-            } else {
-                None
-            }
-        }
+    match &space.kept {
+        None => false,
+        Some(kept) => kept.generation == generation && is_same(&kept.asked, asked),
     }
 }
 
-// Whether this was asked last at the place, once at that length of the history.
-fn was_asked(space: &Space, asked: &Asked, generation: u64) -> bool {
-    match space {
-        Space::Free => false,
-        Space::Once(other, at) => *at == generation && is_same(other, asked),
-        Space::Holding(_) => false,
+// What is kept at the place, or else the other.
+#[inline]
+fn found_in<'a>(space: &'a Space, other: &'a Option<Found<Stored>>) -> &'a Option<Found<Stored>>
+    ensures { result.now ≡ found_or other.now space.now.kept }
+{
+    match &space.kept {
+        None => other,
+        Some(kept) => &kept.found,
     }
 }
 
-// One more place, at which nothing was asked. The only error is out of memory.
+// The mark of a request with this number at that length of the history.
+fn mark_of(number: u64, generation: u64) -> u64 {
+    number.wrapping_add(generation)
+}
+
+// One more place, at which nothing is kept. The only error is out of memory.
 fn push_free(spaces: &mut Vec<Space>) -> Result<(), Memory>
     ensures sound { (goals : ℕ) (h : History) (n : Names) → AreSound goals h n spaces.old.items → AreSound goals h n spaces.new.items }
 {
-    spaces.push(Space::Free)?;
+    spaces.push(Space {
+        mark: 0,
+        kept: None,
+    })?;
     Ok(())
 }
 
-// Places at which nothing was asked. The only error is out of memory.
+// Whether there is memory for all places.
+fn has_memory(spaces: &mut Vec<Space>) -> bool
+    ensures { spaces.new.items ≡ spaces.old.items }
+{
+    spaces.reserve(PLACES).is_ok()
+}
+
+// Places at which nothing is kept. The only error is out of memory.
 fn free_spaces(spaces: &mut Vec<Space>) -> Result<(), Memory>
     ensures sound { (goals : ℕ) (h : History) (n : Names) → AreSound goals h n spaces.old.items → AreSound goals h n spaces.new.items }
 {
@@ -162,16 +155,49 @@ impl Answers {
         self.spaces.clear();
     }
 
-    /// The answer that is kept to this, at that length of the history.
-    pub fn find(&self, asked: &Asked, generation: u64) -> Option<&Kept>
+    /// The place at which the answer is kept to this request, which has this number, at that length of the history.
+    #[inline]
+    pub fn find(&self, asked: &Asked<ArgumentKey>, number: u64, generation: u64) -> Option<usize>
         ensures kept { (goals : ℕ) (h : History) (n : Names) → AreSound goals h n self.now.spaces.items → length h ≡ generation
-            → IfSome result (λ k. IsKept goals h asked.now k.now.found n) }
+            → IfSome result (λ i. (f : Option (FoundValue Tree)) → IsKept goals h asked.now (found_at self.now.spaces.items i f) n) }
     {
-        let place = place_of(asked);
+        let place = place_of(number);
         if place >= self.spaces.len() {
             return None;
         }
-        answer_in(&self.spaces[place], asked, generation)
+        if is_answer_in(&self.spaces[place], asked, generation) {
+            Some(place)
+        } else {
+            None
+        }
+    }
+
+    /// What is kept at a place, or else the other.
+    #[inline]
+    pub fn found_at<'a>(
+        &'a self,
+        place: usize,
+        other: &'a Option<Found<Stored>>,
+    ) -> &'a Option<Found<Stored>>
+        ensures { result.now ≡ found_at self.now.spaces.items place other.now }
+    {
+        if place < self.spaces.len() {
+            found_in(&self.spaces[place], other)
+        } else {
+            other
+        }
+    }
+
+    /// Whether the request with this number is the last one at its place that was not answered by what is kept, at that length of
+    /// the history. If not, it is the last one from now on. So the answer to a request is to be kept the second time that it is asked for.
+    pub fn is_again(&mut self, number: u64, generation: u64) -> bool
+        ensures sound { (goals : ℕ) (h : History) (n : Names) → AreSound goals h n self.old.spaces.items → AreSound goals h n self.new.spaces.items }
+    {
+        if !self.has_room() {
+            return false;
+        }
+        let mark = mark_of(number, generation);
+        self.is_marked(place_of(number), mark)
     }
 
     // Whether there are places. The first time they are made.
@@ -181,52 +207,40 @@ impl Answers {
         if !self.spaces.is_empty() {
             return true;
         }
+        if !has_memory(&mut self.spaces) {
+            return false;
+        }
         free_spaces(&mut self.spaces).is_ok()
     }
 
-    // Notes what was asked.
-    fn note(&mut self, place: usize, asked: &Asked, generation: u64)
+    // Whether the place has this mark. From now on it has.
+    fn is_marked(&mut self, place: usize, mark: u64) -> bool
         ensures sound { (goals : ℕ) (h : History) (n : Names) → AreSound goals h n self.old.spaces.items → AreSound goals h n self.new.spaces.items }
     {
-        if place < self.spaces.len() {
-            self.spaces[place] = Space::Once(*asked, generation);
+        if place >= self.spaces.len() {
+            return false;
         }
+        let before = self.spaces[place].mark;
+        self.spaces[place].mark = mark;
+        before == mark
     }
 
-    // Whether this was asked last at its place, once at that length of the history.
-    fn was_asked(&self, place: usize, asked: &Asked, generation: u64) -> bool {
-        place < self.spaces.len() && was_asked(&self.spaces[place], asked, generation)
-    }
-
-    // Whether this is asked a second time at that length of the history, so that its answer is to be kept. It is noted.
-    fn is_again(&mut self, asked: &Asked, generation: u64) -> bool
-        ensures sound { (goals : ℕ) (h : History) (n : Names) → AreSound goals h n self.old.spaces.items → AreSound goals h n self.new.spaces.items }
+    // Keeps an answer at a place.
+    fn put(&mut self, place: usize, kept: Kept)
+        ensures sound { (goals : ℕ) (h : History) (n : Names) → AreSound goals h n self.old.spaces.items → IsAnswer goals h n kept → AreSound goals h n self.new.spaces.items }
     {
-        let room = self.has_room();
-        let place = place_of(asked);
-        if room && self.was_asked(place, asked, generation) {
-            return true;
-        }
-        self.note(place, asked, generation);
-        false
-    }
-
-    // Keeps an answer.
-    fn put(&mut self, kept: Kept)
-        ensures sound { (goals : ℕ) (h : History) (n : Names) → AreSound goals h n self.old.spaces.items → IsSound goals h n (Holding kept) → AreSound goals h n self.new.spaces.items }
-    {
-        let place = place_of(&kept.asked);
         if place < self.spaces.len() {
-            self.spaces[place] = Space::Holding(kept);
+            self.spaces[place].kept = Some(kept);
         }
     }
 
-    /// Keeps an answer that was given at that length of the history, where the same was asked before at that length. Where
-    /// memory runs out it is not kept.
+    /// Keeps an answer to a request with this number that was given at that length of the history. Where memory runs out it is
+    /// not kept.
     pub fn keep(
         &mut self,
         alloc: Global,
-        asked: &Asked,
+        asked: &Asked<ArgumentKey>,
+        number: u64,
         found: &Option<Found<Stored>>,
         generation: u64,
     )
@@ -236,11 +250,8 @@ impl Answers {
         if asked.procedure.name == fixed::NECK {
             return;
         }
-        if !self.is_again(asked, generation) {
-            return;
-        }
         if let Ok(answer) = answer_of(alloc, asked, found, generation) {
-            self.put(answer);
+            self.put(place_of(number), answer);
         }
     }
 }

@@ -1,30 +1,21 @@
-//! What is asked of a procedure: the first of the clauses for a goal, or the next one of such a list.
-ghost use Rattle.std.specs.Prelude.{◌≡◌, ◌<◌, true};
+//! What is asked of a procedure, compared and spread.
+ghost use Rattle.std.specs.Prelude.{◌≡◌, true};
 
 use term_store::ArgumentKey;
-use world_api::Procedure;
+use world_api::{After, Asked, Procedure};
 
 /// How many places there are for answers.
 pub(crate) const PLACES: usize = 128;
 
-/// After which clause of a list the next one is asked for: the generation of the list, and the place of the update that added
-/// the clause.
-#[derive(Clone, Copy, Debug, Drop)]
-pub struct After {
-    pub generation: u64,
-    pub place: u64,
-}
+// Odd numbers by which a request's parts are multiplied, so that their lowest bits reach the highest ones.
+const SPREAD: u64 = 0x9E37_79B9_7F4A_7C15;
 
-/// What is asked of a procedure, by the key of a goal's first argument: the first of the clauses for the goal, or the next one
-/// of such a list.
-#[derive(Clone, Copy, Debug, Drop)]
-pub struct Asked {
-    pub procedure: Procedure,
-    pub first: ArgumentKey,
-    pub after: Option<After>,
-}
+const SPREAD_KEYS: u64 = 0xC2B2_AE3D_27D4_EB4F;
+
+const SPREAD_PLACES: u64 = 0x1656_67B1_9E37_79F9;
 
 // Whether the keys are the same.
+#[inline]
 fn same_key(key: &ArgumentKey, other: &ArgumentKey) -> bool
     ensures { result ≡ true → key.now ≡ other.now }
 {
@@ -38,6 +29,7 @@ fn same_key(key: &ArgumentKey, other: &ArgumentKey) -> bool
 }
 
 // Whether it is after the same clause.
+#[inline]
 fn same_after(after: &Option<After>, other: &Option<After>) -> bool
     ensures { result ≡ true → after.now ≡ other.now }
 {
@@ -49,6 +41,7 @@ fn same_after(after: &Option<After>, other: &Option<After>) -> bool
 }
 
 // Whether it is the same predicate.
+#[inline]
 fn same_procedure(procedure: &Procedure, other: &Procedure) -> bool
     ensures { result ≡ true → procedure.now ≡ other.now }
 {
@@ -56,7 +49,8 @@ fn same_procedure(procedure: &Procedure, other: &Procedure) -> bool
 }
 
 /// Whether the same is asked.
-pub(crate) fn is_same(asked: &Asked, other: &Asked) -> bool
+#[inline]
+pub(crate) fn is_same(asked: &Asked<ArgumentKey>, other: &Asked<ArgumentKey>) -> bool
     ensures { result ≡ true → asked.now ≡ other.now }
 {
     same_procedure(&asked.procedure, &other.procedure)
@@ -65,32 +59,40 @@ pub(crate) fn is_same(asked: &Asked, other: &Asked) -> bool
 }
 
 // A number by which keys are spread.
-fn key_number(key: &ArgumentKey) -> u64
-    ensures { result < 8000000000 }
-{
+#[inline]
+fn key_number(key: &ArgumentKey) -> u64 {
     match key {
         ArgumentKey::Any => 0,
-        ArgumentKey::Int(i) => 1 + (*i).unsigned_abs() % 1000,
-        ArgumentKey::Atom(a) => 5 + *a as u64,
-        ArgumentKey::Compound(f, k) => 11 + *f as u64 + (*k % 16) as u64,
+        ArgumentKey::Int(i) => (*i).unsigned_abs().wrapping_mul(4).wrapping_add(1),
+        ArgumentKey::Atom(a) => (*a as u64).wrapping_mul(4).wrapping_add(2),
+        ArgumentKey::Compound(f, k) => (*f as u64)
+            .wrapping_add((*k as u64).wrapping_mul(SPREAD))
+            .wrapping_mul(4)
+            .wrapping_add(3),
     }
 }
 
 // A number by which the requests for next clauses are spread.
-fn after_number(after: &Option<After>) -> u64
-    ensures { result < 8000000000 }
-{
+#[inline]
+fn after_number(after: &Option<After>) -> u64 {
     match after {
         None => 0,
-        Some(x) => 1 + x.place % 1_000_000,
+        Some(x) => x.place.wrapping_mul(2).wrapping_add(1),
     }
 }
 
-/// The place of the answer to this.
-pub(crate) fn place_of(asked: &Asked) -> usize
-    ensures { result < 128 }
-{
-    let procedure = asked.procedure.name.slot() as u64 * 31 + asked.procedure.arity % 16;
-    let number = procedure + key_number(&asked.first) * 5 + after_number(&asked.after) * 7;
-    (number % 127) as usize
+/// A number by which requests are told apart in haste: the same one for the same request, and mostly another one for another.
+#[inline]
+pub fn number_of(asked: &Asked<ArgumentKey>) -> u64 {
+    let procedure = (asked.procedure.name.slot() as u64).wrapping_add(asked.procedure.arity << 32);
+    procedure
+        .wrapping_mul(SPREAD)
+        .wrapping_add(key_number(&asked.first).wrapping_mul(SPREAD_KEYS))
+        .wrapping_add(after_number(&asked.after).wrapping_mul(SPREAD_PLACES))
+}
+
+/// The place of the answer to a request with this number.
+#[inline]
+pub(crate) fn place_of(number: u64) -> usize {
+    ((number >> 40) % 128) as usize
 }

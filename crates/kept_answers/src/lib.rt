@@ -6,5 +6,5 @@ mod asked;
 mod laws;
 
 pub use answers::{Answers, Kept, Space};
-pub use asked::{After, Asked};
+pub use asked::number_of;
 pub use laws::{answers_again, answers_stay};

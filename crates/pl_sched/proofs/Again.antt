@@ -1,11 +1,11 @@
 -- A visit that is answered by what is kept.
 use Rattle.std.proofs.Common.{◌≡◌, ◌⊎◌, inl, inr, ◌≤◌, ◌<◌, ℕ, zero, suc, List, [], ◌∷◌, ◌++◌, Option, Some, None, IsSome, Bool, true, false, length, refl, sym, ap, subst, ◌∙◌, ◌==◌, arith, append-nil, eqb-true}
-use Rattle.std.specs.Prelude.{slice_index_or, if◌then◌else◌}
+use Rattle.std.specs.Prelude.{IfSome, slice_index_or, if◌then◌else◌}
 use Rattle.std.specs.List.{All, Contains}
-use Rattle.std.proofs.lemmas.List.Elements.{All-append, All-cons, All-head, All-nil, All-tail, All-weaker, Contains-append_cases}
+use Rattle.std.proofs.lemmas.List.Elements.{All-append, All-nil, All-tail, All-weaker, Contains-append_cases}
 use Rattle.atomic_table.specs.Seated.{TableId}
 use Rattle.pl_term.specs.Tree.{Chars, Tree}
-use Rattle.pl_model.specs.History.{History, mine}
+use Rattle.pl_model.specs.History.{History}
 use Rattle.atom_api.specs.Interns.{Interns}
 use Rattle.atom_api.specs.Names.{Names}
 use Rattle.atom_api.specs.declared.interned.Interned.{Interned}
@@ -28,10 +28,10 @@ use Rattle.world_api.specs.Gains.{Gains}
 use Rattle.world_api.specs.Replies.{found_names}
 use Rattle.world_api.specs.Texts.{Holds, text_of}
 use Rattle.world_api.specs.Told.{Follows, Told}
-use Rattle.world_api.specs.Visits.{visit_names}
-use Rattle.kept_answers.specs.declared.asked.After.{After}
-use Rattle.kept_answers.specs.declared.asked.Asked.{Asked}
-use Rattle.kept_answers.specs.Answered.{IsGiven, IsKept, IsNaming, answer_atoms, asked_atoms, told, visit_for}
+use Rattle.world_api.specs.Visits.{visit_for, visit_names}
+use Rattle.world_api.specs.declared.asking.After.{After}
+use Rattle.world_api.specs.declared.asking.Asked.{Asked}
+use Rattle.kept_answers.specs.Answered.{IsGiven, IsKept, IsNaming, asked_atoms, told}
 use Rattle.kept_answers.proofs.Keeping.{gives}
 use Rattle.pl_hub.specs.Fronts.{IsOwn, told_of}
 use Rattle.pl_hub.specs.Visits.{IsVisit}
@@ -159,7 +159,7 @@ called_by : (table : TableId) (goals e : ℕ) (v : View) (f : FrontState) (p : P
 called_by table goals e v f p k None found naming own is kept = called table goals e v naming f own p k found kept
 called_by table goals e v f p k (Some x) found naming own is kept = absurd (cc)
 
-pub call_again : (table : TableId) (goals e : ℕ) (v : View) (f : FrontState) (a : Asked) (found : Option (Found Tree)) → IsNaming (names v) → IsOwn table e f → a.after ≡ None
+pub call_again : (table : TableId) (goals e : ℕ) (v : View) (f : FrontState) (a : Asked ArgumentKey) (found : Option (Found Tree)) → IsNaming (names v) → IsOwn table e f → a.after ≡ None
     → IsKept goals f.seen a found (names v)
     → IsAnswered goals v v (visit_for a) (Served (Clauses found) (length f.seen)) f (revisited f)
 call_again table goals e v f a found naming own is kept = called_by table goals e v f a.procedure a.first a.after found naming own is kept
@@ -171,7 +171,7 @@ next_by table goals e v f p k None x found naming own is kept = absurd (cc)
 next_by table goals e v f p k (Some y) x found naming own is kept =
     let same : y ≡ x = cc in subst (λ (z : After). IsAnswered goals v v (visit_for (record { procedure = p; first = k; after = Some y })) (Served (Clauses found) z.generation) f f) same (next table goals e v naming f own p k found y kept)
 
-pub next_again : (table : TableId) (goals e : ℕ) (v : View) (f : FrontState) (a : Asked) (x : After) (found : Option (Found Tree)) → IsNaming (names v) → IsOwn table e f → a.after ≡ Some x
+pub next_again : (table : TableId) (goals e : ℕ) (v : View) (f : FrontState) (a : Asked ArgumentKey) (x : After) (found : Option (Found Tree)) → IsNaming (names v) → IsOwn table e f → a.after ≡ Some x
     → IsKept goals f.seen a found (names v)
     → IsAnswered goals v v (visit_for a) (Served (Clauses found) x.generation) f f
 next_again table goals e v f a x found naming own is kept = next_by table goals e v f a.procedure a.first a.after x found naming own is kept
@@ -185,7 +185,7 @@ some_still : (o q : Option Chars) → ((t : Chars) → o ≡ Some t → q ≡ So
 some_still None q keeps some = absurd (cc)
 some_still (Some t) q keeps some = subst IsSome (sym (keeps t refl)) refl
 
-pub given : (goals : ℕ) (v w : View) (f g : FrontState) (a : Asked) (found : Option (Found Tree)) (n : ℕ) → Lawful (names v)
+pub given : (goals : ℕ) (v w : View) (f g : FrontState) (a : Asked ArgumentKey) (found : Option (Found Tree)) (n : ℕ) → Lawful (names v)
     → All (λ x. IsSome (names v x)) (visit_names names_of key_atoms (visit_for a))
     → IsAnswered goals v w (visit_for a) (Served (Clauses found) n) f g
     → IsGiven goals g.seen (names w) a found
@@ -209,7 +209,7 @@ given goals v w f g a found n lawful held is =
     }
 
 -- THE ANSWERS of the world
-pub call_answered : (table : TableId) (goals e : ℕ) (v : View) (f was new : FrontState) (a : Asked) (found : Option (Found Tree)) (r : Answer Tree) (n : ℕ) → Lawful (names v) → IsOwn table e f
+pub call_answered : (table : TableId) (goals e : ℕ) (v : View) (f was new : FrontState) (a : Asked ArgumentKey) (found : Option (Found Tree)) (r : Answer Tree) (n : ℕ) → Lawful (names v) → IsOwn table e f
     → a.after ≡ None → IsKept goals was.seen a found (names v) → f ≡ was → new ≡ revisited f → r ≡ Served (Clauses found) n → n ≡ length new.seen
     → IsAnswered goals v v (visit_for a) r was new
 call_answered table goals e v f was new a found r n lawful own call kept same is answer long =
@@ -220,7 +220,7 @@ call_answered table goals e v f was new a found r n lawful own call kept same is
     (subst (λ (x : FrontState). IsAnswered goals v v (visit_for a) (Served (Clauses found) (length f.seen)) x new) same
     (subst (λ (x : FrontState). IsAnswered goals v v (visit_for a) (Served (Clauses found) (length f.seen)) f x) (sym is) told))
 
-pub next_answered : (table : TableId) (goals e : ℕ) (v w : View) (f was new : FrontState) (a : Asked) (x : After) (found : Option (Found Tree)) (r : Answer Tree) → Lawful (names v) → IsOwn table e f
+pub next_answered : (table : TableId) (goals e : ℕ) (v w : View) (f was new : FrontState) (a : Asked ArgumentKey) (x : After) (found : Option (Found Tree)) (r : Answer Tree) → Lawful (names v) → IsOwn table e f
     → a.after ≡ Some x → IsKept goals f.seen a found (names v) → f ≡ was → new ≡ f → w ≡ v → r ≡ Served (Clauses found) x.generation
     → IsAnswered goals v w (visit_for a) r was new
 next_answered table goals e v w f was new a x found r lawful own next kept same is view answer =
@@ -255,7 +255,7 @@ memory_answered table goals e v visit f own =
       asked = none_gained v;
     }
 
-pub given_when : (goals : ℕ) (v w : View) (f g here : FrontState) (a : Asked) (visit : Visit Tree ArgumentKey) (x : Answer Tree) (found : Option (Found Tree)) (n : ℕ) → Lawful (names v)
+pub given_when : (goals : ℕ) (v w : View) (f g here : FrontState) (a : Asked ArgumentKey) (visit : Visit Tree ArgumentKey) (x : Answer Tree) (found : Option (Found Tree)) (n : ℕ) → Lawful (names v)
     → All (λ y. IsSome (names v y)) (visit_names names_of key_atoms visit)
     → visit_for a ≡ visit
     → IsAnswered goals v w visit x f g
@@ -267,3 +267,8 @@ given_when goals v w f g here a visit x found n lawful held asked is answer fron
     subst (λ (y : Answer Tree). IsAnswered goals v w (visit_for a) y f g) answer (subst (λ (y : Visit Tree ArgumentKey). IsAnswered goals v w y x f g) (sym asked) is) in
     subst (λ (y : FrontState). IsGiven goals y.seen (names w) a found) (sym front)
     (given goals v w f g a found n lawful (subst (λ (y : Visit Tree ArgumentKey). All (λ z. IsSome (names v z)) (visit_names names_of key_atoms y)) (sym asked) held) same)
+
+-- WHAT IS KNOWN of an answer
+pub if_known : (P Q : ℕ → Type 0) → ((n : ℕ) → P n → Q n) → (r : Option ℕ) → IfSome r P → IfSome r Q
+if_known P Q give None is = tt
+if_known P Q give (Some n) is = give n is

@@ -121,6 +121,11 @@ impl<'a, E: Writes + Drop, K: Command> Home<'a, E, K> {
         matches!(self.mark, Mark::Ready)
     }
 
+    /// How many moves the engine has made.
+    pub fn moves(&self) -> u64 {
+        self.engine.move_count()
+    }
+
     /// Whether the engine waits for cycles of collection to end.
     pub fn waits_for_cycles(&self) -> bool {
         matches!(self.mark, Mark::ForCycles(_))

@@ -1,27 +1,29 @@
 //! The atoms of an engine that a worker carries, with the answers that it keeps.
-ghost use Rattle.std.specs.Prelude.{◌≡◌, true, IfSome};
+ghost use Rattle.std.specs.Prelude.{◌≡◌, true};
 ghost use Rattle.atom_words.specs.Seats.{seen};
 ghost use Rattle.atom_table.specs.Naming.{names, requests};
 ghost use Rattle.pl_history.specs.Seats.{table_is};
-ghost use Rattle.kept_answers.specs.Answered.{AreSound, IsGiven, IsKept, are_sound_is};
+ghost use Rattle.kept_answers.specs.Answered.{AreSound, IsGiven, IsKept, are_sound_is, found_at};
 
 use crate::naming::Command;
 use atom_api::{Atom, Atoms, Interned, TextBuf};
 use atom_table::TableAtoms;
-use kept_answers::{Answers, Asked};
+use kept_answers::{Answers, number_of};
 use pl_history::{Front, History};
-use pl_term::{Memory, Text};
+use pl_term::Text;
 use std::alloc::Global;
-use term_store::Stored;
-use world_api::Found;
+use term_store::{ArgumentKey, Stored};
+use world_api::{Asked, Found};
 
 /// The atoms of an engine, and answers of the shared state that it keeps: each is the answer to its request after all entries
-/// that the front has seen, by the texts of the atoms. The front carries no engine.
+/// that the front has seen, by the texts of the atoms. The front carries no engine. What was found last is kept at the place `at`.
 #[derive(Drop)]
 pub struct KnownAtoms<'t, K: Command> {
     pub(crate) atoms: TableAtoms<'t, K>,
     pub(crate) answers: Answers,
     pub(crate) front: Front,
+    pub(crate) at: usize,
+    pub(crate) nothing: Option<Found<Stored>>,
     pub(crate) ghost here: { front.table ≡ K.history } by { table_is front.table K.history },
     pub(crate) ghost sound: { AreSound K.goals front.seen (names (seen atoms.seat)) answers.spaces.items } by { are_sound_is K.goals front.seen (names (seen atoms.seat)) answers.spaces.items },
 }
@@ -42,6 +44,8 @@ impl<'t, K: Command> KnownAtoms<'t, K> {
             atoms,
             answers,
             front,
+            at: 0,
+            nothing: None,
         }
     }
 
@@ -53,6 +57,7 @@ impl<'t, K: Command> KnownAtoms<'t, K> {
     }
 
     // The engine's front tells what it has seen. False: it has seen less than was told before.
+    #[inline]
     fn hear(&mut self, history: &History, front: &mut Front) -> bool
         requires history { history.now ≡ K.history }
         requires front { front.old.table ≡ K.history }
@@ -67,36 +72,58 @@ impl<'t, K: Command> KnownAtoms<'t, K> {
         true
     }
 
-    /// What is kept to this, where the history is no longer than the engine's front has seen.
-    pub(crate) fn again(
+    /// Whether what is kept answers this, where the history is no longer than the engine's front has seen. Then `lent` lends it.
+    #[inline]
+    pub(crate) fn find(
         &mut self,
         history: &History,
         front: &mut Front,
-        asked: &Asked,
-    ) -> Option<Option<Found<Stored>>>
+        asked: &Asked<ArgumentKey>,
+    ) -> bool
         requires history { history.now ≡ K.history }
         requires front { front.old.table ≡ K.history }
         ensures atoms { self.new.atoms ≡ self.old.atoms }
         ensures front { front.new ≡ front.old }
-        ensures kept { IfSome result (λ f. IsKept K.goals front.old.seen asked.now f (names (seen self.old.atoms.seat))) }
+        ensures kept { result ≡ true → IsKept K.goals front.old.seen asked.now (found_at self.new.answers.spaces.items self.new.at self.new.nothing) (names (seen self.old.atoms.seat)) }
     {
         if !self.hear(history, front) {
-            return None;
+            return false;
         }
-        let kept = self.answers.find(asked, front.generation())?;
-        match kept.share() {
-            Ok(found) => Some(found),
-            Err(Memory) => None,
+        match self
+            .answers
+            .find(asked, number_of(asked), front.generation())
+        {
+            None => false,
+            Some(place) => {
+                self.at = place;
+                true
+            }
         }
     }
 
-    /// Keeps what was found after all entries that the engine's front has seen.
+    /// What was found last.
+    #[inline]
+    pub(crate) fn lent(&self) -> &Option<Found<Stored>>
+        ensures { result.now ≡ found_at self.now.answers.spaces.items self.now.at self.now.nothing }
+    {
+        self.answers.found_at(self.at, &self.nothing)
+    }
+
+    /// Whether the answer to the request with this number is to be kept, which is not, at that length of the history.
+    pub(crate) fn is_again(&mut self, number: u64, generation: u64) -> bool
+        ensures atoms { self.new.atoms ≡ self.old.atoms }
+    {
+        self.answers.is_again(number, generation)
+    }
+
+    /// Keeps what was found after all entries that the engine's front has seen, to the request with this number.
     pub(crate) fn keep(
         &mut self,
         alloc: Global,
         history: &History,
         front: &mut Front,
-        asked: &Asked,
+        asked: &Asked<ArgumentKey>,
+        number: u64,
         found: &Option<Found<Stored>>,
     )
         requires history { history.now ≡ K.history }
@@ -106,7 +133,8 @@ impl<'t, K: Command> KnownAtoms<'t, K> {
         ensures front { front.new ≡ front.old }
     {
         if self.hear(history, front) {
-            self.answers.keep(alloc, asked, found, front.generation());
+            self.answers
+                .keep(alloc, asked, number, found, front.generation());
         }
     }
 }

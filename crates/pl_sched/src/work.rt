@@ -17,12 +17,15 @@ use std::sync::{Condvar, Wait};
 use term_store::Stored;
 
 /// How many inferences an engine makes in one turn.
-const INFERENCES: u32 = 1000;
+const INFERENCES: u32 = 16_000;
+
+/// After how many moves an engine comes home, where it can go on.
+const MOVES: u64 = 16_000;
 
 /// How many inferences an engine makes that waited for cycles of collection.
 const STEP: u32 = 1;
 
-/// How many turns an engine makes before it comes home, where it can go on.
+/// How many turns an engine makes at most before it comes home.
 const TURNS: u32 = 16;
 
 /// Lets this worker run engines, one after the other, until no engine can go on and none is with another worker, or one was lost.
@@ -110,9 +113,10 @@ fn carry<
         return turn(ground, worker, home, STEP);
     }
     let mut home = home;
+    let until = home.moves().saturating_add(MOVES);
     for _ in 0..TURNS {
         home = turn(ground, worker, home, INFERENCES)?;
-        if !home.goes_on() {
+        if !home.goes_on() || home.moves() >= until {
             return Ok(home);
         }
     }

@@ -7,10 +7,10 @@ ghost use Rattle.term_store.specs.ArgumentKeys.{clause_key, key_atoms};
 ghost use Rattle.term_store.specs.NumberedNames.{names_of, term_by};
 ghost use Rattle.world_api.specs.Answers.{CanVisit};
 ghost use Rattle.world_api.specs.Texts.{text_of};
-ghost use Rattle.world_api.specs.Visits.{visit_names};
+ghost use Rattle.world_api.specs.Visits.{visit_for, visit_names};
 ghost use Rattle.world_api.specs.declared.answer.Answer.TheVariants.{Served};
 ghost use Rattle.world_api.specs.declared.reply.Reply.TheVariants.{Clauses};
-ghost use Rattle.kept_answers.specs.Answered.{IsKept, visit_for};
+ghost use Rattle.kept_answers.specs.Answered.{IsKept, found_at};
 ghost use Rattle.pl_sched.specs.Answering.{IsAnswered};
 ghost use Rattle.pl_hub.specs.Fronts.{IsOwn, told_of};
 ghost use Rattle.pl_sched.specs.Ledger.{IsBegun};
@@ -20,7 +20,8 @@ use crate::known::KnownAtoms;
 use crate::naming::Command;
 use crate::writing::Writes;
 use atom_table::TableAtoms;
-use kept_answers::{After, Asked};
+use counted_terms::CountedTerm;
+use kept_answers::number_of;
 use pl_history::{Front, History};
 use pl_hub::counted;
 use pl_io::Gate;
@@ -29,7 +30,7 @@ use std::alloc::Global;
 use std::marker::Model;
 use std::sync::{Mutex, Wait};
 use term_store::{ArgumentKey, Stored};
-use world_api::{Answer, Found, Reply, Visit, World};
+use world_api::{After, Answer, Asked, Found, Reply, Visit, World};
 
 /// The shared state as an engine that this worker carries sees it: its front, and before each visit the gate, and the lock,
 /// before which the visit is made ready. Contracts see it as what the front knows.
@@ -103,7 +104,7 @@ impl<'a, 't, E: Writes + Drop, K: Command, R: Wait, G: Gate> HubWorld<'a, 't, E,
 
 impl<'a, 't, E: Writes + Drop, K: Command, R: Wait, G: Gate> World
     for HubWorld<'a, 't, E, K, R, G> {
-    ghost use Rattle.std.specs.Prelude.{◌++◌, IsSome, Some, false};
+    ghost use Rattle.std.specs.Prelude.{◌++◌, IfNone, IfSome, IsSome, Some, false};
     ghost use Rattle.std.specs.List.{All};
     ghost use Rattle.pl_model.specs.History.{History as Entries};
     ghost use Rattle.atom_words.specs.Seats.{seen};
@@ -112,7 +113,11 @@ impl<'a, 't, E: Writes + Drop, K: Command, R: Wait, G: Gate> World
     ghost use Rattle.term_store.specs.NumberedNames.{names_of, term_by};
     ghost use Rattle.world_api.specs.Texts.{text_of, Holds};
     ghost use Rattle.world_api.specs.Told.{has_ended};
-    ghost use Rattle.world_api.specs.Visits.{visit_names};
+    ghost use Rattle.world_api.specs.Visits.{visit_for, visit_names};
+    ghost use Rattle.world_api.specs.Replies.{found_names};
+    ghost use Rattle.world_api.specs.declared.answer.Answer.TheVariants.{Served};
+    ghost use Rattle.world_api.specs.declared.reply.Reply.TheVariants.{Clauses};
+    ghost use Rattle.kept_answers.specs.Answered.{found_at};
     ghost use Rattle.world_api.specs.Answers.{CanVisit, Visited, answer_names, refusals_by};
     ghost use Rattle.world_api.specs.Asked.{IsInAnswer};
     ghost use Rattle.world_api.specs.Gains.{Gains};
@@ -122,6 +127,8 @@ impl<'a, 't, E: Writes + Drop, K: Command, R: Wait, G: Gate> World
     type Term = Stored;
 
     ghost told = { told_of K.goals };
+
+    ghost at_hand = { λ a. found_at a.answers.spaces.items a.at a.nothing };
 
     fn visit(
         &mut self,
@@ -141,45 +148,99 @@ impl<'a, 't, E: Writes + Drop, K: Command, R: Wait, G: Gate> World
             (Some (requests (seen atoms.old.atoms.seat))) (Some (requests (seen atoms.new.atoms.seat))) }
     {
         self.gate.before_visit(self.worker, self.engine);
-        match asked_by(&visit) {
-            Some(asked) => self.listed(&asked, visit, atoms),
-            None => self.locked(visit, &mut atoms.atoms),
+        match visit {
+            Visit::Call { procedure, first } => {
+                let asked = Asked {
+                    procedure,
+                    first,
+                    after: None,
+                };
+                self.anew(&asked, atoms)
+            }
+            Visit::Next {
+                procedure,
+                first,
+                generation,
+                place,
+            } => {
+                let after = Some(After { generation, place });
+                let asked = Asked {
+                    procedure,
+                    first,
+                    after,
+                };
+                self.anew(&asked, atoms)
+            }
+            visit => self.other(visit, &mut atoms.atoms),
         }
+    }
+
+    #[inline]
+    fn again(&mut self, asked: &Asked<ArgumentKey>, atoms: &mut KnownAtoms<'t, K>) -> Option<u64>
+        ensures visited { IfSome result (λ n. (before : Entries) × Visited term_by clause_key
+            (text_of (names (seen atoms.old.atoms.seat))) (text_of (names (seen atoms.new.atoms.seat))) (visit_for asked.now) (Served (Clauses (found_at atoms.new.answers.spaces.items atoms.new.at atoms.new.nothing)) n) (told_of K.goals self.old) before (told_of K.goals self.new)) }
+        ensures none { IfNone result (told_of K.goals self.new ≡ told_of K.goals self.old) }
+        ensures runs { IfSome result (λ _. has_ended (told_of K.goals self.new).engine (told_of K.goals self.new).history ≡ false) }
+        ensures names { IfSome result (λ _. All (λ a. IsSome (names (seen atoms.new.atoms.seat) a)) (found_names names_of (found_at atoms.new.answers.spaces.items atoms.new.at atoms.new.nothing))) }
+        ensures held { names (seen atoms.new.atoms.seat) ≡ names (seen atoms.old.atoms.seat) }
+        ensures refusals { (seen atoms.new.atoms.seat).refusals ≡ (seen atoms.old.atoms.seat).refusals }
+        ensures asked { Some (requests (seen atoms.new.atoms.seat)) ≡ Some (requests (seen atoms.old.atoms.seat)) }
+    {
+        self.gate.before_visit(self.worker, self.engine);
+        self.known(asked, atoms)
+    }
+
+    #[inline]
+    fn lent<'l>(atoms: &'l KnownAtoms<'t, K>) -> &'l Option<Found<Stored>>
+        ensures { result.now ≡ found_at atoms.now.answers.spaces.items atoms.now.at atoms.now.nothing }
+    {
+        atoms.lent()
     }
 }
 
-// What a visit asks of a procedure, if it asks for a clause of a call or the next one of a list.
-fn asked_by(visit: &Visit<Stored, ArgumentKey>) -> Option<Asked>
-    ensures { IfSome result (λ a. visit_for a ≡ visit.now) }
+// The visit by which this is asked for.
+fn visit_of(asked: &Asked<ArgumentKey>) -> Visit<CountedTerm, ArgumentKey>
+    ensures { result ≡ visit_for asked.now }
 {
-    match visit {
-        Visit::Call { procedure, first } => Some(Asked {
-            procedure: *procedure,
-            first: *first,
-            after: None,
-        }),
-        Visit::Next {
+    let procedure = asked.procedure;
+    let first = asked.first;
+    match &asked.after {
+        None => Visit::Call { procedure, first },
+        Some(after) => Visit::Next {
             procedure,
             first,
-            generation,
-            place,
-        } => Some(Asked {
-            procedure: *procedure,
-            first: *first,
-            after: Some(After {
-                generation: *generation,
-                place: *place,
-            }),
-        }),
-        _ => None,
+            generation: after.generation,
+            place: after.place,
+        },
     }
 }
 
 impl<'a, 't, E: Writes + Drop, K: Command, R: Wait, G: Gate> HubWorld<'a, 't, E, K, R, G> {
     // The visit is answered under the lock.
-    #[cold]
     #[inline(never)]
     fn locked(
+        &mut self,
+        visit: Visit<CountedTerm, ArgumentKey>,
+        atoms: &mut TableAtoms<'t, K>,
+    ) -> Answer<Stored>
+        requires held { All (λ a. IsSome (names (seen atoms.old.seat) a)) (visit_names names_of key_atoms visit) }
+        requires next { CanVisit term_by clause_key (text_of (names (seen atoms.old.seat))) visit (told_of K.goals self.old) }
+        ensures { IsAnswered K.goals (seen atoms.old.seat) (seen atoms.new.seat) visit result self.old self.new }
+    {
+        let mut hub = self.hub.lock(self.runtime);
+        hub.session(
+            self.alloc,
+            self.history,
+            atoms,
+            &mut self.front,
+            self.engine,
+            visit,
+        )
+    }
+
+    // A visit that asks for no clause of a call is made ready, and answered under the lock.
+    #[inline(never)]
+    fn other(
         &mut self,
         visit: Visit<Stored, ArgumentKey>,
         atoms: &mut TableAtoms<'t, K>,
@@ -190,89 +251,84 @@ impl<'a, 't, E: Writes + Drop, K: Command, R: Wait, G: Gate> HubWorld<'a, 't, E,
     {
         match counted(self.alloc, visit) {
             Err(Memory) => Answer::Memory,
-            Ok(listed) => {
-                let mut hub = self.hub.lock(self.runtime);
-                hub.session(
-                    self.alloc,
-                    self.history,
-                    atoms,
-                    &mut self.front,
-                    self.engine,
-                    listed,
-                )
-            }
+            Ok(listed) => self.locked(listed, atoms),
         }
     }
 
-    // The clause is one that is kept, or is found under the lock.
-    fn listed(
-        &mut self,
-        asked: &Asked,
-        visit: Visit<Stored, ArgumentKey>,
-        atoms: &mut KnownAtoms<'t, K>,
-    ) -> Answer<Stored>
-        requires asked { visit_for asked.now ≡ visit }
-        requires held { All (λ a. IsSome (names (seen atoms.old.atoms.seat) a)) (visit_names names_of key_atoms visit) }
-        requires next { CanVisit term_by clause_key (text_of (names (seen atoms.old.atoms.seat))) visit (told_of K.goals self.old) }
-        ensures { IsAnswered K.goals (seen atoms.old.atoms.seat) (seen atoms.new.atoms.seat) visit result self.old self.new }
+    // The clause is found under the lock. Where the same was asked before, it is kept.
+    #[inline(never)]
+    fn anew(&mut self, asked: &Asked<ArgumentKey>, atoms: &mut KnownAtoms<'t, K>) -> Answer<Stored>
+        requires held { All (λ a. IsSome (names (seen atoms.old.atoms.seat) a)) (visit_names names_of key_atoms (visit_for asked.now)) }
+        requires next { CanVisit term_by clause_key (text_of (names (seen atoms.old.atoms.seat))) (visit_for asked.now) (told_of K.goals self.old) }
+        ensures { IsAnswered K.goals (seen atoms.old.atoms.seat) (seen atoms.new.atoms.seat) (visit_for asked.now) result self.old self.new }
     {
-        match self.again(asked, atoms) {
-            Some(answer) => answer,
-            None => self.anew(asked, visit, atoms),
+        let number = number_of(asked);
+        if atoms.is_again(number, self.front.generation()) {
+            self.kept(asked, number, atoms)
+        } else {
+            self.locked(visit_of(asked), &mut atoms.atoms)
         }
     }
 
     // The clause is found under the lock, and kept.
     #[cold]
     #[inline(never)]
-    fn anew(
+    fn kept(
         &mut self,
-        asked: &Asked,
-        visit: Visit<Stored, ArgumentKey>,
+        asked: &Asked<ArgumentKey>,
+        number: u64,
         atoms: &mut KnownAtoms<'t, K>,
     ) -> Answer<Stored>
-        requires asked { visit_for asked.now ≡ visit }
-        requires held { All (λ a. IsSome (names (seen atoms.old.atoms.seat) a)) (visit_names names_of key_atoms visit) }
-        requires next { CanVisit term_by clause_key (text_of (names (seen atoms.old.atoms.seat))) visit (told_of K.goals self.old) }
-        ensures { IsAnswered K.goals (seen atoms.old.atoms.seat) (seen atoms.new.atoms.seat) visit result self.old self.new }
+        requires held { All (λ a. IsSome (names (seen atoms.old.atoms.seat) a)) (visit_names names_of key_atoms (visit_for asked.now)) }
+        requires next { CanVisit term_by clause_key (text_of (names (seen atoms.old.atoms.seat))) (visit_for asked.now) (told_of K.goals self.old) }
+        ensures { IsAnswered K.goals (seen atoms.old.atoms.seat) (seen atoms.new.atoms.seat) (visit_for asked.now) result self.old self.new }
     {
-        let answer = self.locked(visit, &mut atoms.atoms);
+        let answer = self.locked(visit_of(asked), &mut atoms.atoms);
         if let Some(found) = found_in(&answer) {
-            atoms.keep(self.alloc, self.history, &mut self.front, asked, found);
+            atoms.keep(
+                self.alloc,
+                self.history,
+                &mut self.front,
+                asked,
+                number,
+                found,
+            );
         }
         answer
     }
 
-    // The answer that is kept, where the history has no further entry.
-    fn again(&mut self, asked: &Asked, atoms: &mut KnownAtoms<'t, K>) -> Option<Answer<Stored>>
-        ensures some { IfSome result (λ a. IsAnswered K.goals (seen atoms.old.atoms.seat) (seen atoms.new.atoms.seat) (visit_for asked.now) a self.old self.new) }
+    // The generation of the answer that is kept, where the history has no further entry.
+    #[inline]
+    fn known(&mut self, asked: &Asked<ArgumentKey>, atoms: &mut KnownAtoms<'t, K>) -> Option<u64>
+        ensures some { IfSome result (λ n. IsAnswered K.goals (seen atoms.old.atoms.seat) (seen atoms.new.atoms.seat) (visit_for asked.now)
+            (Served (Clauses (found_at atoms.new.answers.spaces.items atoms.new.at atoms.new.nothing)) n) self.old self.new) }
         ensures none { IfNone result (self.new ≡ self.old) }
         ensures atoms { atoms.new.atoms ≡ atoms.old.atoms }
     {
-        let found = atoms.again(self.history, &mut self.front, asked)?;
+        if !atoms.find(self.history, &mut self.front, asked) {
+            return None;
+        }
         match &asked.after {
-            None => self.revisit(asked, found, atoms),
-            Some(after) => Some(served(found, after.generation)),
+            None => self.revisit(asked, atoms),
+            Some(after) => Some(after.generation),
         }
     }
 
-    // The answer to a call that is kept, where the history has no further entry.
-    fn revisit(
-        &mut self,
-        asked: &Asked,
-        found: Option<Found<Stored>>,
-        atoms: &KnownAtoms<'t, K>,
-    ) -> Option<Answer<Stored>>
+    // The generation of the answer to a call that is kept, where the history has no further entry.
+    #[inline]
+    fn revisit(&mut self, asked: &Asked<ArgumentKey>, atoms: &KnownAtoms<'t, K>) -> Option<u64>
         requires call { asked.now.after ≡ None }
-        requires kept { IsKept K.goals self.old.seen asked.now found (names (seen atoms.now.atoms.seat)) }
-        ensures some { IfSome result (λ a. IsAnswered K.goals (seen atoms.now.atoms.seat) (seen atoms.now.atoms.seat) (visit_for asked.now) a self.old self.new) }
+        requires kept { IsKept K.goals self.old.seen asked.now (found_at atoms.now.answers.spaces.items atoms.now.at atoms.now.nothing) (names (seen atoms.now.atoms.seat)) }
+        ensures some { IfSome result (λ n. IsAnswered K.goals (seen atoms.now.atoms.seat) (seen atoms.now.atoms.seat) (visit_for asked.now)
+            (Served (Clauses (found_at atoms.now.answers.spaces.items atoms.now.at atoms.now.nothing)) n) self.old self.new) }
         ensures none { IfNone result (self.new ≡ self.old) }
     {
+        let _asked = asked;
         let _atoms = atoms;
         if !self.history.revisit(&mut self.front) {
             return None;
         }
-        Some(served(found, self.front.generation()))
+        Some(self.front.generation())
     }
 }
 
@@ -286,15 +342,5 @@ fn found_in(answer: &Answer<Stored>) -> Option<&Option<Found<Stored>>>
             ..
         } => Some(found),
         _ => None,
-    }
-}
-
-// The answer with what was found.
-fn served(found: Option<Found<Stored>>, generation: u64) -> Answer<Stored>
-    ensures { result ≡ Served (Clauses found) generation }
-{
-    Answer::Served {
-        reply: Reply::Clauses(found),
-        generation,
     }
 }

@@ -1,42 +1,26 @@
-use Rattle.std.proofs.Common.{sym, subst}
-use Rattle.std.specs.Prelude.{IsSome}
-use Rattle.std.specs.List.{All}
-use Rattle.pl_term.specs.Tree.{Tree}
+use Rattle.std.proofs.Common.{refl, sym, subst}
 use Rattle.atom_words.specs.Seats.{seen}
 use Rattle.atom_table.specs.Naming.{names}
-use Rattle.term_store.specs.ArgumentKeys.{clause_key, key_atoms}
-use Rattle.term_store.specs.NumberedNames.{names_of, term_by}
-use Rattle.term_store.specs.declared.argument_key.ArgumentKey.{ArgumentKey}
-use Rattle.world_api.specs.declared.visit.Visit.{Visit}
-use Rattle.world_api.specs.declared.answer.Answer.TheVariants.{Memory}
+use Rattle.term_store.specs.ArgumentKeys.{clause_key}
+use Rattle.term_store.specs.NumberedNames.{term_by}
 use Rattle.world_api.specs.Answers.{CanVisit}
 use Rattle.world_api.specs.Texts.{text_of}
-use Rattle.world_api.specs.Visits.{visit_names}
 use Rattle.pl_history.specs.Fronts.{FrontState}
 use Rattle.pl_hub.specs.Fronts.{told_of}
-use Rattle.pl_sched.specs.Answering.{IsAnswered}
-use Rattle.pl_sched.proofs.Again.{memory_answered, visit_answered}
+use Rattle.pl_sched.proofs.Again.{visit_answered}
 use Rattle.pl_sched.proofs.OnlyLaws.{begun_after}
 use Rattle.pl_sched.proofs.Running.{same_visit}
 use Rattle.pl_sched.proofs.world.HubWorld.locked.Goals as goal
 
-pub session-requires-clause-held : goal.session-requires-clause-held
-session-requires-clause-held g c = subst (λ (x : Visit Tree ArgumentKey). All (λ a. IsSome (names (seen c.args.atoms.now.seat) a)) (visit_names names_of key_atoms x)) (sym c.in-Ok.ensures) c.requires.held
-
 pub session-requires-clause-next : goal.session-requires-clause-next
 session-requires-clause-next g c =
-    subst (λ (x : Visit Tree ArgumentKey). CanVisit term_by clause_key (text_of (names (seen c.args.atoms.now.seat))) x (told_of g.K.Naming.goals c.self.inside.front)) (sym c.in-Ok.ensures)
-    (subst (λ (f : FrontState). CanVisit term_by clause_key (text_of (names (seen c.args.atoms.now.seat))) c.args.visit (told_of g.K.Naming.goals f)) (sym c.self.view_is) c.requires.next)
+    subst (λ (f : FrontState). CanVisit term_by clause_key (text_of (names (seen c.args.atoms.now.seat))) c.args.visit (told_of g.K.Naming.goals f)) (sym c.self.view_is) c.requires.next
 
 pub session-requires-clause-begun : goal.session-requires-clause-begun
 session-requires-clause-begun g c = c.self.invariant.2
 
-pub returns-in-Ok : goal.returns-in-Ok
-returns-in-Ok g c = visit_answered (same_visit c.in-Ok.ensures c.self.view_is c.session.ensures)
-
-pub returns-in-Err : goal.returns-in-Err
-returns-in-Err g c =
-    subst (λ (f : FrontState). IsAnswered g.K.Naming.goals (seen c.args.atoms.now.seat) (seen c.args.atoms.now.seat) c.args.visit Memory f f) c.self.view_is (memory_answered g.K.Naming.history g.K.Naming.goals c.self.inside.engine (seen c.args.atoms.now.seat) c.args.visit c.self.inside.front c.self.invariant.1)
+pub returns : goal.returns
+returns g c = visit_answered (same_visit refl c.self.view_is c.session.ensures)
 
 pub invariant_of-self : goal.invariant_of-self
 invariant_of-self g c =

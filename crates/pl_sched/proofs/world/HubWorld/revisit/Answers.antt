@@ -1,4 +1,10 @@
-use Rattle.std.proofs.Common.{sym, subst}
+use Rattle.std.proofs.Common.{refl, sym, subst}
+use Rattle.std.specs.Prelude.{Option}
+use Rattle.pl_term.specs.Tree.{Tree}
+use Rattle.world_api.specs.declared.reply.Found.{Found}
+use Rattle.world_api.specs.declared.answer.Answer.TheVariants.{Served}
+use Rattle.world_api.specs.declared.reply.Reply.TheVariants.{Clauses}
+use Rattle.kept_answers.specs.Answered.{found_at}
 use Rattle.atom_words.specs.Seats.{seen}
 use Rattle.pl_history.specs.Fronts.{FrontState}
 use Rattle.pl_hub.specs.Fronts.{IsOwn}
@@ -16,6 +22,7 @@ invariant_of-self-2 g c =
 
 pub returns-clause-some : goal.returns-clause-some
 returns-clause-some g c =
+    let f : Option (Found Tree) = found_at c.args.atoms.now.answers.spaces.items c.args.atoms.now.at c.args.atoms.now.nothing in
     call_answered
     g.K.Naming.history
     g.K.Naming.goals
@@ -25,8 +32,8 @@ returns-clause-some g c =
     c.args.self.now
     c.revisit.new.front
     c.args.asked.now
-    c.args.found
-    c.served.result
+    f
+    (Served (Clauses f) c.generation.result)
     c.generation.result
     c.args.atoms.now.atoms.lawful
     c.self.invariant.1
@@ -34,5 +41,5 @@ returns-clause-some g c =
     c.requires.kept
     c.self.view_is
     (c.revisit.ensures.visits c.if-not-revisit.false)
-    c.served.ensures
+    refl
     c.generation.ensures
