@@ -15,6 +15,11 @@ use std::marker::PhantomData;
 /// The binary logarithm of how many buckets the largest row has.
 const LARGEST_ROW: u32 = 21;
 
+/// How many cycles in a row are to leave too few atoms for the row of buckets in use before one of half as many takes its place.
+/// Where atoms are made as fast as cycles free them, one cycle may leave almost none and the next one many; a change of rows
+/// costs a step for each slot that has a text, and those who intern wait for it.
+const SPARSE_CYCLES: u32 = 4;
+
 /// What a piece of the collector's work came to.
 #[derive(Clone, Copy, Debug, PartialEq, Eq, Drop)]
 pub enum Piece {
@@ -39,6 +44,8 @@ pub struct TableCollector<'a, K: NamesTable> {
     pub collector: Collector,
     /// Whether a cycle has ended since the row of buckets was last compared with the number of atoms.
     pub has_swept: bool,
+    /// How many cycles in a row, of those after which the row was compared, have left too few atoms for it.
+    pub sparse: u32,
     pub of: PhantomData<K>,
     pub ghost named: { table.now.words.table.shared.table_id ≡ K.atoms } by { table_is table.now.words.table.shared.table_id K.atoms },
     pub ghost sized: { table.now.words.size ≡ K.size } by { size_is table.now.words.size K.size },
@@ -56,6 +63,7 @@ impl<'a, K: NamesTable> TableCollector<'a, K> {
             table,
             collector,
             has_swept: false,
+            sparse: 0,
             of: PhantomData,
         }
     }
@@ -99,8 +107,8 @@ impl<'a, K: NamesTable> TableCollector<'a, K> {
     }
 
     /// The next piece of what is at work: a check whether all engines have acknowledged the cycle, a sweep of at most `most`
-    /// slots, or as much of a change of rows, which begins after a sweep where there are too many atoms for the row of buckets
-    /// in use, or too few.
+    /// slots, or as much of a change of rows, which begins after a sweep that leaves too many atoms for the row of buckets in
+    /// use, or after several in a row that leave too few.
     pub fn go_on(&mut self, most: u32) -> Piece
         ensures steps { GoesOn self.old.collector most result self.new.collector }
         ensures rests { result ≡ Rests → IsAtRest self.old.collector }
@@ -158,9 +166,30 @@ impl<'a, K: NamesTable> TableCollector<'a, K> {
         }
         self.has_swept = false;
         match self.table.due(&self.collector) {
-            Due::Grow => Piece::Resized(self.table.grow(&mut self.collector, most)),
-            Due::Shrink => Piece::Resized(self.table.shrink(&mut self.collector, most)),
-            Due::Stay => Piece::Rests,
+            Due::Grow => {
+                self.sparse = 0;
+                Piece::Resized(self.table.grow(&mut self.collector, most))
+            }
+            Due::Shrink => self.shrink(most),
+            Due::Stay => {
+                self.sparse = 0;
+                Piece::Rests
+            }
         }
+    }
+
+    // The row of buckets is replaced by a smaller one, where enough cycles in a row have left too few atoms for it.
+    fn shrink(&mut self, most: u32) -> Piece
+        requires idle { phase_of self.old.collector.word ≡ 0 }
+        requires still { self.old.collector.rows.stage ≡ Still }
+        ensures steps { GoesOn self.old.collector most result self.new.collector }
+        ensures table { self.new.table.now ≡ self.old.table.now }
+    {
+        if self.sparse < SPARSE_CYCLES - 1 {
+            self.sparse += 1;
+            return Piece::Rests;
+        }
+        self.sparse = 0;
+        Piece::Resized(self.table.shrink(&mut self.collector, most))
     }
 }
