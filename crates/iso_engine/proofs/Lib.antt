@@ -56,6 +56,7 @@ pub mod Moreover
 pub mod Moved
 pub mod Moving
 pub mod Naming
+pub mod NewestLaws
 pub mod Numbered
 pub mod Opening
 pub mod OutputSteps

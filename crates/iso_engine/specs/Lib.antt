@@ -23,6 +23,7 @@ pub mod Lines
 pub mod Lists
 pub mod Live
 pub mod Looking
+pub mod Newest
 pub mod OutputGoals
 pub mod Parts
 pub mod Purposes
@@ -38,6 +39,7 @@ pub mod Starting
 pub mod State
 pub mod TableLines
 pub mod Tasks
+pub mod Throws
 pub mod ToldLines
 pub mod Unserved
 pub mod Views

@@ -22,10 +22,7 @@ pub mod retries;
 
 use crate::call::called::Called;
 use crate::call::calls::call_clauses;
-use crate::doing::Doing;
 use crate::engine::Engine;
-use crate::following::follow;
-use crate::refused::error_of;
 use crate::slices::Slice;
 use iso_search::outcome::{Fault, Outcome};
 use term_store::{Place, Stored};
@@ -33,6 +30,7 @@ use world_api::{Procedure, Unserved, World};
 
 impl Engine {
     /// Calls the program's clauses for the goal at a place, which has this predicate, before the tasks of a list (ISO 7.7.10).
+    #[inline(always)]
     pub fn call<W: World<Term = Stored>>(
         &mut self,
         goal: Place,
@@ -59,18 +57,17 @@ impl Engine {
     {
         let called = call_clauses(&mut self.search, world, atoms, goal, rest)?;
         match called {
-            Called::Spent => {
-                let spent = Outcome::Raise(Fault::Inferences);
-                self.doing = follow(self.alloc, &self.search, spent, procedure, rest)?;
-                Ok(None)
-            }
             Called::Ran(outcome) => {
                 self.go_on(outcome, procedure, rest)?;
                 Ok(None)
             }
+            Called::Spent => {
+                let spent = Outcome::Raise(Fault::Inferences);
+                self.go_on_apart(spent, procedure, rest)?;
+                Ok(None)
+            }
             Called::Refused(error) => {
-                let ball = error_of(self.alloc, &error, procedure)?;
-                self.doing = Doing::Throwing { ball, outer: rest };
+                self.raise(&error, procedure, rest)?;
                 Ok(None)
             }
         }

@@ -14,13 +14,49 @@ use crate::doing::{Doing, End};
 use crate::engine::Engine;
 use crate::findall::give_list;
 use crate::slices::Slice;
+use crate::untried::resume_clauses;
 use iso_search::failure::Back;
 use term_store::Stored;
 use world_api::{Unserved, World};
 
 impl Engine {
     /// Goes back to the newest choice point (ISO 7.7.8).
+    #[inline(never)]
     pub fn fail<W: World<Term = Stored>>(
+        &mut self,
+        world: &mut W,
+        atoms: &mut W::A,
+    ) -> Result<Option<Slice>, Unserved>
+        requires runs { has_ended (W.told world.old).engine (W.told world.old).history ≡ false }
+        requires ready { IsReady (W.A.held atoms.old) (W.told world.old) self.old }
+        requires fails { self.old.doing ≡ Failing }
+        ensures runs { has_ended (W.told world.new).engine (W.told world.new).history ≡ false }
+        ensures holds { Holds (W.A.held atoms.old) (W.A.held atoms.new) }
+        ensures refusals { IfOk (as_stopped result) (λ o. W.A.refusals atoms.new ≡ W.A.refusals atoms.old ++ stopped_refusals o) }
+        ensures asked { Gains (AsksFor (W.A.held atoms.old) (W.told world.old) self.old) (W.A.asked atoms.old) (W.A.asked atoms.new) }
+        ensures given { OnOk (as_stopped result) (self.new.solutions_found ≡ self.old.solutions_found) }
+        ensures spent { OnOk (as_stopped result) (IsSpent self.old.search.inferences self.new.search.inferences) }
+        ensures ready { OnOk (as_stopped result) (IsReady (W.A.held atoms.new) (W.told world.new) self.new) }
+        ensures stepped { IfOk (as_stopped result) (λ o.
+            IsStepped (W.A.held atoms.old) (W.told world.old) self.old o (W.A.held atoms.new) (W.told world.new) self.new []) }
+    {
+        if let Some(left) = resume_clauses(&mut self.search) {
+            return self.retry(
+                left.purpose,
+                left.goal,
+                left.generation,
+                left.place,
+                left.next,
+                world,
+                atoms,
+            );
+        }
+        self.fail_apart(world, atoms)
+    }
+
+    /// Does the same, whatever was not tried there.
+    #[inline(never)]
+    fn fail_apart<W: World<Term = Stored>>(
         &mut self,
         world: &mut W,
         atoms: &mut W::A,

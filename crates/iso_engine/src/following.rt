@@ -8,18 +8,22 @@ ghost use Rattle.iso_search.specs.Searching.{IsWhole, node_of};
 ghost use Rattle.iso_search.specs.Spelling.{text_of};
 ghost use Rattle.iso_engine.specs.Following.{IsPlaced};
 ghost use Rattle.iso_engine.specs.Standing.{doing_of};
+ghost use Rattle.iso_engine.specs.Throws.{Throws};
 
 use crate::doing::{Doing, End};
 use crate::engine::Engine;
+use crate::refused::error_of;
 use iso_search::balls::Ball;
 use iso_search::outcome::Outcome;
 use iso_search::search::Search;
 use pl_term::Memory;
 use std::alloc::Global;
+use term_store::Stored;
 use world_api::Procedure;
 
 /// What is done after an outcome of this predicate, where the exits of the active catches stand among the tasks of a list.
 /// The only error is out of memory.
+#[inline(never)]
 pub fn follow(
     alloc: Global,
     search: &Search,
@@ -50,6 +54,7 @@ pub fn follow(
 impl Engine {
     /// Goes on after an outcome of this predicate, where the exits of the active catches stand among the tasks of a list. The only
     /// error is out of memory.
+    #[inline(always)]
     pub fn go_on(
         &mut self,
         outcome: Outcome,
@@ -70,10 +75,35 @@ impl Engine {
                 self.doing = Doing::Failing;
                 Ok(())
             }
-            _ => {
-                self.doing = follow(self.alloc, &self.search, outcome, procedure, rest)?;
-                Ok(())
-            }
+            _ => self.go_on_apart(outcome, procedure, rest),
         }
+    }
+
+    /// Does the same. It is for the outcomes that are seldom.
+    #[inline(never)]
+    pub fn go_on_apart(
+        &mut self,
+        outcome: Outcome,
+        procedure: Procedure,
+        rest: usize,
+    ) -> Result<(), Memory>
+        requires { IsPlaced self.old.search.store outcome }
+        ensures follows { OnOk result ((t : Setting) → IsView t.view → doing_of t.view self.old.search self.new.doing
+            ≡ doing_by t self.old.search (node_of t.view self.old.search rest) (record { name = text_of t.view.names (atom_name procedure.name); arity = procedure.arity }) outcome) }
+        ensures kept { OnOk result (self.new ≡ record self.old { doing = self.new.doing }) }
+    {
+        self.doing = follow(self.alloc, &self.search, outcome, procedure, rest)?;
+        Ok(())
+    }
+
+    /// Throws the error term of this predicate, where the exits of the active catches stand among the tasks of a list. The only
+    /// error is out of memory.
+    #[inline(never)]
+    pub fn raise(&mut self, error: &Stored, procedure: Procedure, rest: usize) -> Result<(), Memory>
+        ensures thrown { OnOk result (Throws error.now procedure rest self.old self.new) }
+    {
+        let ball = error_of(self.alloc, error, procedure)?;
+        self.doing = Doing::Throwing { ball, outer: rest };
+        Ok(())
     }
 }

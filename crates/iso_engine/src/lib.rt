@@ -31,5 +31,6 @@ pub mod state;
 pub mod step;
 pub mod throwing;
 pub mod unserved;
+pub mod untried;
 pub mod variables;
 pub mod write;

@@ -15,6 +15,7 @@ use term_store::{Place, Store, View as Kind};
 use world_api::Procedure;
 
 /// The predicate of the goal at a place (ISO 7.1.6.6): a variable stands for `call/1` of it. An integer is no goal.
+#[inline(always)]
 pub fn procedure_at(store: &Store, goal: Place) -> Option<Procedure>
     requires { Holds store.now goal }
     ensures { MatchOption result (IsInteger store.now goal) (λ p. HasProcedure store.now goal p × (IsInteger store.now goal → ⊥)) }
@@ -34,6 +35,7 @@ pub fn procedure_at(store: &Store, goal: Place) -> Option<Procedure>
 }
 
 /// The predicate for which clauses are tried: that of the goal at a place, or clause/2 or retract/1.
+#[inline(always)]
 pub fn trying_procedure(store: &Store, purpose: Purpose, goal: Place) -> Procedure
     requires holds { Holds store.now goal }
     requires callable { purpose ≡ Resolving → IsInteger store.now goal → ⊥ }

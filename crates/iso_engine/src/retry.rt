@@ -27,6 +27,7 @@ use world_api::{Unserved, World};
 impl Engine {
     /// Goes on with the clauses for the goal at a place, or for the rule of clause/2 or retract/1, that were not tried, whose
     /// choice point was taken off (ISO 7.7.8).
+    #[inline(always)]
     pub fn retry<W: World<Term = Stored>>(
         &mut self,
         purpose: Purpose,

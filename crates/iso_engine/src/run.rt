@@ -22,6 +22,7 @@ use world_api::{Unserved, World};
 
 impl Engine {
     /// Does the first task of a list, or gives a solution where there is none. What the goal writes is put after `out`.
+    #[inline(always)]
     pub fn run<W: World<Term = Stored>>(
         &mut self,
         list: usize,
@@ -57,6 +58,7 @@ impl Engine {
     }
 
     /// Does this first task of a list. What the goal writes is put after `out`.
+    #[inline(never)]
     fn run_task<W: World<Term = Stored>>(
         &mut self,
         frame: Frame,

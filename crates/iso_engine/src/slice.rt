@@ -92,6 +92,7 @@ impl Engine {
 }
 
 /// How many steps were made: none where a step was taken back or the search has ended.
+#[inline(always)]
 fn steps_made(stopped: &Option<Slice>) -> u64
     ensures { result ≡ steps_of stopped.now }
 {

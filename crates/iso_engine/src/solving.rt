@@ -20,6 +20,7 @@ use world_api::{Unserved, World};
 
 impl Engine {
     /// Gives the solution where nothing is left to be done, with the operators that stand now.
+    #[inline(never)]
     pub fn solve<W: World>(
         &mut self,
         world: &mut W,

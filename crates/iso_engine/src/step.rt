@@ -21,6 +21,7 @@ use world_api::{Unserved, World};
 
 impl Engine {
     /// Makes a step, or says why none can be made. What the goal writes is put after `out`.
+    #[inline(always)]
     pub fn step<W: World<Term = Stored>>(
         &mut self,
         world: &mut W,
@@ -51,6 +52,7 @@ impl Engine {
     }
 
     /// Does the same where neither tasks are done nor a failure is followed. What is done is taken out of the engine for it.
+    #[inline(never)]
     fn step_apart<W: World<Term = Stored>>(
         &mut self,
         world: &mut W,

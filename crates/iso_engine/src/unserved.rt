@@ -7,6 +7,7 @@ use pl_term::Memory;
 use world_api::Unserved;
 
 /// How a slice ends at a step, if it does: also where the step was not made. The only error is out of memory.
+#[inline(always)]
 pub fn stop_of(step: Result<Option<Slice>, Unserved>) -> Result<Option<Slice>, Memory>
     ensures { result ≡ as_stopped step }
 {

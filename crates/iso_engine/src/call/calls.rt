@@ -28,6 +28,7 @@ use world_api::{Answer, Procedure, Reply, Unserved, Visit, World};
 /// Calls the program's clauses for the goal at a place, before the tasks of a list (ISO 7.7.10): makes an inference, asks the
 /// shared state for the first of the clauses, and tries it. Where the visit is not served, nothing has changed, and the call is
 /// to be made again. When memory runs out the search is not to be used any more.
+#[inline(always)]
 pub fn call_clauses<W: World<Term = Stored>>(
     search: &mut Search,
     world: &mut W,
@@ -60,6 +61,7 @@ pub fn call_clauses<W: World<Term = Stored>>(
 
 /// The same for a purpose, where an inference can be made: the clauses for the goal at a place, or for the head of the rule
 /// there, are tried with it.
+#[inline(always)]
 pub fn look_through<W: World<Term = Stored>>(
     search: &mut Search,
     purpose: Purpose,
@@ -106,6 +108,7 @@ pub fn look_through<W: World<Term = Stored>>(
 }
 
 /// The visit by which the clauses for a goal are asked for.
+#[inline(always)]
 fn visit_for(
     purpose: Purpose,
     procedure: Procedure,
@@ -121,6 +124,7 @@ fn visit_for(
 }
 
 /// Goes on by the reply to a request for clauses, where the inference was made. The only error is out of memory.
+#[inline(always)]
 pub fn follow_reply(
     search: &mut Search,
     purpose: Purpose,

@@ -14,6 +14,7 @@ ghost use Rattle.term_store.specs.Contents.{Holds, IsAbove, term_at};
 ghost use Rattle.term_store.specs.NumberedNames.{term_by};
 ghost use Rattle.world_api.specs.Texts.{text_of};
 ghost use Rattle.world_api.specs.Visits.{clause_in};
+ghost use Rattle.iso_search.specs.declared.choices.Purpose.TheVariants.{Resolving};
 ghost use Rattle.iso_search.specs.Choices.{listed_goal, purpose_of};
 ghost use Rattle.iso_search.specs.Conversions.{Stays};
 ghost use Rattle.iso_search.specs.Outcomes.{IsAfter, Setting, limits_in, result_in, state_in};
@@ -35,6 +36,7 @@ use world_api::Found;
 /// Tries the clauses of a list for a goal, or for the rule of clause/2 or retract/1, before the tasks of another list, of which the
 /// first was found at the generation. Where others follow it, a choice point is made, unless there are too many. The only error is
 /// out of memory.
+#[inline(always)]
 pub fn try_first_clause(
     search: &mut Search,
     purpose: Purpose,
@@ -63,6 +65,7 @@ pub fn try_first_clause(
 }
 
 /// Whether a clause was found that others follow, and no choice point can be made.
+#[inline(always)]
 fn is_full(search: &Search, found: &Option<Found<Stored>>) -> bool
     ensures { result ≡ (has_more found.now && nat_le search.now.budgets.choices (length search.now.choices.items)) }
 {
@@ -71,6 +74,7 @@ fn is_full(search: &Search, found: &Option<Found<Stored>>) -> bool
 }
 
 /// Whether a clause was found that others follow.
+#[inline(always)]
 fn follows(found: &Option<Found<Stored>>) -> bool
     ensures { result ≡ has_more found.now }
 {
@@ -82,6 +86,7 @@ fn follows(found: &Option<Found<Stored>>) -> bool
 
 /// Tries the clauses of a list in their order. Where others follow the first one, a choice point is made. The only error is
 /// out of memory.
+#[inline(always)]
 pub fn try_next_clause(
     search: &mut Search,
     purpose: Purpose,
@@ -126,6 +131,7 @@ pub fn try_next_clause(
 /// Tries a clause for a goal, or for the rule of clause/2 or retract/1: takes numbers and cells for a copy of it, makes the copy, and
 /// unifies. The clause was added at the place; a cut in the body that is to be done goes back to the height. The only error is out
 /// of memory.
+#[inline(always)]
 fn try_clause(
     search: &mut Search,
     purpose: Purpose,
@@ -159,6 +165,7 @@ fn try_clause(
 
 /// Unifies with a clause whose numbers and cells were taken, as its purpose wants: then the body of the clause is to be done, or
 /// the tasks of the list, or the clause that was added at the place is to be erased.
+#[inline(always)]
 fn apply_clause(
     search: &mut Search,
     purpose: Purpose,
@@ -187,6 +194,40 @@ fn apply_clause(
             let outcome = resolve(search, goal, rest, height, clause, from)?;
             Ok(outcome)
         }
+        _ => {
+            let outcome = apply_rule(search, purpose, goal, rest, place, clause, from)?;
+            Ok(outcome)
+        }
+    }
+}
+
+/// Does the same for clause/2 and retract/1.
+#[inline(never)]
+fn apply_rule(
+    search: &mut Search,
+    purpose: Purpose,
+    goal: Place,
+    rest: usize,
+    place: u64,
+    clause: &Stored,
+    from: u64,
+) -> Result<Outcome, Memory>
+    requires whole { IsWhole search.old }
+    requires goal { Holds search.old.store goal }
+    requires rest { rest ≤ length search.old.frames.items }
+    requires above { IsAbove from search.old.store }
+    requires taken { from + length (variables clause.now) ≤ search.old.next_variable }
+    requires looks { purpose ≡ Resolving → ⊥ }
+    ensures whole { OnOk result (IsWhole search.new) }
+    ensures step { IfOk result (λ o. (t : Setting) (height : ℕ) → IsView t.view
+        → let g = reads t.view search.old.store goal in let n = node_of t.view search.old rest in
+        let c = term_by (text_of t.view.names) clause.now in let p = purpose_of purpose in
+        result_in t search.new n (tried_by p g) o
+        ≡ clause_unified p (state_in t search.old) n height place (raised_by from (body_part c)) (unify g (raised_by from (pattern p (clause_in c))))) }
+    ensures after { IfOk result (IsAfter search.old search.new) }
+{
+    match purpose {
+        Purpose::Resolving => unreachable!(),
         Purpose::Inspecting => {
             let outcome = match_rule(search, goal, rest, clause, from)?;
             Ok(outcome)
@@ -199,6 +240,7 @@ fn apply_clause(
 }
 
 /// Unifies the head of a clause whose numbers and cells were taken with the goal, and puts its body before the tasks of the list.
+#[inline(always)]
 fn resolve(
     search: &mut Search,
     goal: Place,

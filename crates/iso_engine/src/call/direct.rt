@@ -10,6 +10,7 @@ use term_store::{Place, Store, View as Kind};
 use world_api::Procedure;
 
 /// The predicate of the goal at a place, if its name is no fixed atom: then the goal calls the program's clauses.
+#[inline(always)]
 pub fn direct_call(store: &Store, goal: Place) -> Option<Procedure>
     requires { Holds store.now goal }
     ensures { IfSome result (IsCallAt store.now goal) }
@@ -23,6 +24,7 @@ pub fn direct_call(store: &Store, goal: Place) -> Option<Procedure>
 }
 
 /// The predicate with this name and so many arguments, if the name is no fixed atom: there are 203 of these.
+#[inline(always)]
 fn own_predicate(name: Atom, arity: usize) -> Option<Procedure>
     ensures named { IfSome result (λ p. p ≡ record { name = name; arity = arity }) }
     ensures own { IfSome result (λ p. 203 ≤ name) }

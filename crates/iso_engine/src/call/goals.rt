@@ -11,6 +11,7 @@ use term_store::{ArgumentKey, Place, Store, View as Kind};
 use world_api::Procedure;
 
 /// The predicate of the goal at a place (ISO 7.1.6.6). A variable stands for `call/1` of it. An integer is no goal.
+#[inline(always)]
 pub fn predicate_at(store: &Store, goal: Place) -> Procedure
     requires holds { Holds store.now goal }
     requires callable { (i : ℤ) → term_at store.now goal ≡ int i → ⊥ }
@@ -31,6 +32,7 @@ pub fn predicate_at(store: &Store, goal: Place) -> Procedure
 }
 
 /// The key by which the clauses for the goal at a place are found. A rule is found by its head.
+#[inline(always)]
 pub fn key_at(store: &Store, goal: Place) -> ArgumentKey
     requires { Holds store.now goal }
     ensures { result ≡ clause_key (term_at store.now goal) }
@@ -49,6 +51,7 @@ pub fn key_at(store: &Store, goal: Place) -> ArgumentKey
 }
 
 /// The key of the first argument of the head at a place.
+#[inline(never)]
 fn head_key_at(store: &Store, head: Place) -> ArgumentKey
     requires { Holds store.now head }
     ensures { result ≡ head_key (term_at store.now head) }
@@ -60,6 +63,7 @@ fn head_key_at(store: &Store, head: Place) -> ArgumentKey
 }
 
 /// The key of the argument at a place.
+#[inline(always)]
 fn argument_key_at(store: &Store, argument: Place) -> ArgumentKey
     requires { Holds store.now argument }
     ensures { result ≡ argument_key (term_at store.now argument) }

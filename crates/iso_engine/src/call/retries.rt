@@ -1,14 +1,15 @@
 //! Going back to clauses that were not tried.
-ghost use Rattle.std.specs.Prelude.{◌≡◌, ◌≤◌, ◌++◌, List, length, false, IfOk, OnOk, IsSome};
+ghost use Rattle.std.specs.Prelude.{◌≡◌, ◌≤◌, ◌++◌, ◌∷◌, List, length, false, IfOk, OnOk, IsSome};
 ghost use Rattle.std.specs.List.{All};
 ghost use Rattle.term_store.specs.Contents.{Holds, term_at};
 ghost use Rattle.term_store.specs.NumberedNames.{atoms_in};
 ghost use Rattle.world_api.specs.Texts.{Holds as AreHeld};
 ghost use Rattle.world_api.specs.Gains.{Gains};
 ghost use Rattle.world_api.specs.Told.{has_ended};
-ghost use Rattle.iso_search.specs.Choices.{listed_goal, purpose_of};
-ghost use Rattle.iso_search.specs.Reading.{reads};
-ghost use Rattle.iso_search.specs.Searching.{IsWhole};
+ghost use Rattle.iso_search.specs.declared.choices.Alternative.TheVariants.{Clauses};
+ghost use Rattle.iso_search.specs.Choices.{choice_at, listed_goal, purpose_of};
+ghost use Rattle.iso_search.specs.Reading.{View, reads};
+ghost use Rattle.iso_search.specs.Searching.{IsWhole, choices_of, node_of};
 ghost use Rattle.iso_engine.specs.ClausesAsked.{IsRetryAsked};
 ghost use Rattle.iso_engine.specs.Purposes.{listed_in};
 ghost use Rattle.iso_engine.specs.Ready.{MayGoOn};
@@ -21,6 +22,7 @@ use crate::call::goals::{key_at, predicate_at};
 use iso_search::choices::{Alternative, Purpose};
 use iso_search::outcome::Outcome;
 use iso_search::search::Search;
+use pl_term::Memory;
 use term_store::{Place, Store, Stored};
 use world_api::{Answer, Reply, Unserved, Visit, World};
 
@@ -28,6 +30,7 @@ use world_api::{Answer, Reply, Unserved, Visit, World};
 /// choice point was taken off: those of the generation after the clause with the place, before the tasks of a list. Asks the shared state for the next of them, and
 /// tries it. Where the visit is not served, the choice point is there again. When memory runs out the search is not to be used
 /// any more.
+#[inline(always)]
 pub fn retry_clauses<W: World<Term = Stored>>(
     search: &mut Search,
     world: &mut W,
@@ -65,12 +68,6 @@ pub fn retry_clauses<W: World<Term = Stored>>(
         generation,
         place,
     };
-    let left = Alternative::Clauses {
-        purpose,
-        goal,
-        generation,
-        place,
-    };
     match world.visit(visit, atoms) {
         Answer::Served { reply, .. } => {
             let Reply::Clauses(found) = reply else {
@@ -80,15 +77,15 @@ pub fn retry_clauses<W: World<Term = Stored>>(
             Ok(outcome)
         }
         Answer::NeedsAtoms(pass) => {
-            search.push_choice(left, next)?;
+            put_back(search, purpose, goal, generation, place, next)?;
             Err(Unserved::NeedsAtoms(pass))
         }
         Answer::Retry(cause) => {
-            search.push_choice(left, next)?;
+            put_back(search, purpose, goal, generation, place, next)?;
             Err(Unserved::Retry(cause))
         }
         Answer::Worn(word) => {
-            search.push_choice(left, next)?;
+            put_back(search, purpose, goal, generation, place, next)?;
             Err(Unserved::Worn(word))
         }
         Answer::Waits { .. } => Err(Unserved::Memory),
@@ -96,7 +93,36 @@ pub fn retry_clauses<W: World<Term = Stored>>(
     }
 }
 
+/// Makes a choice point of the clauses that were not tried, before the tasks of a list. The only error is out of memory.
+#[inline(never)]
+fn put_back(
+    search: &mut Search,
+    purpose: Purpose,
+    goal: Place,
+    generation: u64,
+    place: u64,
+    next: usize,
+) -> Result<(), Memory>
+    requires whole { IsWhole search.old }
+    requires goal { Holds search.old.store goal }
+    requires next { next ≤ length search.old.frames.items }
+    ensures whole { OnOk result (IsWhole search.new) }
+    ensures choices { OnOk result ((v : View) → choices_of v search.new
+        ≡ choice_at v (reads v search.old.store) (node_of v search.old next) (Clauses purpose goal generation place) ∷ choices_of v search.old) }
+    ensures kept { search.new ≡ record search.old { choices = search.new.choices } }
+{
+    let left = Alternative::Clauses {
+        purpose,
+        goal,
+        generation,
+        place,
+    };
+    search.push_choice(left, next)?;
+    Ok(())
+}
+
 /// The goal for which the clauses are listed: the goal at a place, or the head of the rule there.
+#[inline(always)]
 pub fn listed_at(store: &Store, purpose: Purpose, goal: Place) -> Place
     requires { Holds store.now goal }
     ensures holds { Holds store.now result }

@@ -122,8 +122,8 @@ returns-in_err-outcome-in-Served-clause-asked g c =
     c.args.purpose c.args.goal (listed_reads c.args.purpose e.store c.args.goal at over is (view_of m t) view)
     c.args.generation c.args.place c.requires.open.listed c.visit.ensures.asked
 
-pub returns-in_err-push_choice-in-NeedsAtoms-clause-asked : goal.returns-in_err-push_choice-in-NeedsAtoms-clause-asked
-returns-in_err-push_choice-in-NeedsAtoms-clause-asked g c =
+pub returns-in_err-put_back-in-NeedsAtoms-clause-asked : goal.returns-in_err-put_back-in-NeedsAtoms-clause-asked
+returns-in_err-put_back-in-NeedsAtoms-clause-asked g c =
     let a = c.args.atoms.now in
     let m = g.W.A.Atoms.held a in
     let t = g.W.World.told c.args.world.now in
@@ -138,8 +138,8 @@ returns-in_err-push_choice-in-NeedsAtoms-clause-asked g c =
     c.args.purpose c.args.goal (listed_reads c.args.purpose e.store c.args.goal at over is (view_of m t) view)
     c.args.generation c.args.place c.requires.open.listed c.visit.ensures.asked
 
-pub returns-in_err-push_choice-in-Retry-clause-asked : goal.returns-in_err-push_choice-in-Retry-clause-asked
-returns-in_err-push_choice-in-Retry-clause-asked g c =
+pub returns-in_err-put_back-in-Retry-clause-asked : goal.returns-in_err-put_back-in-Retry-clause-asked
+returns-in_err-put_back-in-Retry-clause-asked g c =
     let a = c.args.atoms.now in
     let m = g.W.A.Atoms.held a in
     let t = g.W.World.told c.args.world.now in
@@ -154,8 +154,8 @@ returns-in_err-push_choice-in-Retry-clause-asked g c =
     c.args.purpose c.args.goal (listed_reads c.args.purpose e.store c.args.goal at over is (view_of m t) view)
     c.args.generation c.args.place c.requires.open.listed c.visit.ensures.asked
 
-pub returns-in_err-push_choice-in-Worn-clause-asked : goal.returns-in_err-push_choice-in-Worn-clause-asked
-returns-in_err-push_choice-in-Worn-clause-asked g c =
+pub returns-in_err-put_back-in-Worn-clause-asked : goal.returns-in_err-put_back-in-Worn-clause-asked
+returns-in_err-put_back-in-Worn-clause-asked g c =
     let a = c.args.atoms.now in
     let m = g.W.A.Atoms.held a in
     let t = g.W.World.told c.args.world.now in
@@ -186,8 +186,8 @@ returns-in_ok-outcome-in-Served-clause-asked g c =
     c.args.purpose c.args.goal (listed_reads c.args.purpose e.store c.args.goal at over is (view_of m t) view)
     c.args.generation c.args.place c.requires.open.listed c.visit.ensures.asked
 
-pub returns-in_ok-push_choice-in-NeedsAtoms-clause-asked : goal.returns-in_ok-push_choice-in-NeedsAtoms-clause-asked
-returns-in_ok-push_choice-in-NeedsAtoms-clause-asked g c =
+pub returns-in_ok-put_back-in-NeedsAtoms-clause-asked : goal.returns-in_ok-put_back-in-NeedsAtoms-clause-asked
+returns-in_ok-put_back-in-NeedsAtoms-clause-asked g c =
     let a = c.args.atoms.now in
     let m = g.W.A.Atoms.held a in
     let t = g.W.World.told c.args.world.now in
@@ -202,8 +202,8 @@ returns-in_ok-push_choice-in-NeedsAtoms-clause-asked g c =
     c.args.purpose c.args.goal (listed_reads c.args.purpose e.store c.args.goal at over is (view_of m t) view)
     c.args.generation c.args.place c.requires.open.listed c.visit.ensures.asked
 
-pub returns-in_ok-push_choice-in-Retry-clause-asked : goal.returns-in_ok-push_choice-in-Retry-clause-asked
-returns-in_ok-push_choice-in-Retry-clause-asked g c =
+pub returns-in_ok-put_back-in-Retry-clause-asked : goal.returns-in_ok-put_back-in-Retry-clause-asked
+returns-in_ok-put_back-in-Retry-clause-asked g c =
     let a = c.args.atoms.now in
     let m = g.W.A.Atoms.held a in
     let t = g.W.World.told c.args.world.now in
@@ -218,8 +218,8 @@ returns-in_ok-push_choice-in-Retry-clause-asked g c =
     c.args.purpose c.args.goal (listed_reads c.args.purpose e.store c.args.goal at over is (view_of m t) view)
     c.args.generation c.args.place c.requires.open.listed c.visit.ensures.asked
 
-pub returns-in_ok-push_choice-in-Worn-clause-asked : goal.returns-in_ok-push_choice-in-Worn-clause-asked
-returns-in_ok-push_choice-in-Worn-clause-asked g c =
+pub returns-in_ok-put_back-in-Worn-clause-asked : goal.returns-in_ok-put_back-in-Worn-clause-asked
+returns-in_ok-put_back-in-Worn-clause-asked g c =
     let a = c.args.atoms.now in
     let m = g.W.A.Atoms.held a in
     let t = g.W.World.told c.args.world.now in

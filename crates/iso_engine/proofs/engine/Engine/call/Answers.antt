@@ -24,8 +24,8 @@ call_clauses-requires-clause-held g c =
     goal_held (g.W.A.Atoms.held a) (g.W.World.told c.args.world.now) e l.0 l.1 c.args.goal c.args.rest l.2 l.3 c.requires.ready.stable (g.met.W.A.Atoms.fixed_held a)
     (g.met.W.A.Atoms.unlike a) (g.met.W.A.Atoms.finite a)
 
-pub returns-in_ok-self-in-Spent-clause-ready : goal.returns-in_ok-self-in-Spent-clause-ready
-returns-in_ok-self-in-Spent-clause-ready g c =
+pub returns-in_ok-go_on_apart-in-Spent-clause-ready : goal.returns-in_ok-go_on_apart-in-Spent-clause-ready
+returns-in_ok-go_on_apart-in-Spent-clause-ready g c =
     let e = c.args.self.now in
     let a = c.call_clauses.new.atoms in
     let m = g.W.A.Atoms.held c.args.atoms.now in
@@ -36,14 +36,15 @@ returns-in_ok-self-in-Spent-clause-ready g c =
     let view = view_is n u (g.met.W.A.Atoms.fixed_held a) (g.met.W.A.Atoms.unlike a) (g.met.W.A.Atoms.finite a) in
     let l = c.requires.list in
     let k = c.in_ok-called.ensures in
-    let f : Engine = record e { search = x; doing = c.in_ok-self-in-Spent.field-0 } in
+    let went = c.in_ok-go_on_apart-in-Spent.ensures in
+    let f : Engine = record e { search = x; doing = c.go_on_apart.new.self.doing } in
     let spent = subst (IsCalled m t e.search c.args.goal c.args.rest n u x) c.in-Spent.is k.called in
     let moved = spent_moved m n t u e f c.args.goal c.args.procedure l.0 l.1 c.args.rest l.2 l.3 c.requires.rest c.requires.calls c.call_clauses.ensures.holds view c.requires.ready
-    refl refl k.whole spent.0.1 spent.0.2 spent.1 c.in_ok-self-in-Spent.ensures in
-    moved.1
+    refl refl k.whole spent.0.1 spent.0.2 spent.1 went.follows in
+    subst (λ (z : Engine). IsReady n u z) (sym went.kept) moved.1
 
-pub returns-in_ok-self-in-Spent-clause-stepped : goal.returns-in_ok-self-in-Spent-clause-stepped
-returns-in_ok-self-in-Spent-clause-stepped g c =
+pub returns-in_ok-go_on_apart-in-Spent-clause-stepped : goal.returns-in_ok-go_on_apart-in-Spent-clause-stepped
+returns-in_ok-go_on_apart-in-Spent-clause-stepped g c =
     let e = c.args.self.now in
     let a = c.call_clauses.new.atoms in
     let m = g.W.A.Atoms.held c.args.atoms.now in
@@ -54,11 +55,31 @@ returns-in_ok-self-in-Spent-clause-stepped g c =
     let view = view_is n u (g.met.W.A.Atoms.fixed_held a) (g.met.W.A.Atoms.unlike a) (g.met.W.A.Atoms.finite a) in
     let l = c.requires.list in
     let k = c.in_ok-called.ensures in
-    let f : Engine = record e { search = x; doing = c.in_ok-self-in-Spent.field-0 } in
+    let went = c.in_ok-go_on_apart-in-Spent.ensures in
+    let f : Engine = record e { search = x; doing = c.go_on_apart.new.self.doing } in
     let spent = subst (IsCalled m t e.search c.args.goal c.args.rest n u x) c.in-Spent.is k.called in
     let moved = spent_moved m n t u e f c.args.goal c.args.procedure l.0 l.1 c.args.rest l.2 l.3 c.requires.rest c.requires.calls c.call_clauses.ensures.holds view c.requires.ready
-    refl refl k.whole spent.0.1 spent.0.2 spent.1 c.in_ok-self-in-Spent.ensures in
-    moved.0
+    refl refl k.whole spent.0.1 spent.0.2 spent.1 went.follows in
+    subst (λ (z : Engine). Advances 1 m t e n u z []) (sym went.kept) moved.0
+
+pub returns-in_ok-go_on_apart-in-Spent-clause-spent : goal.returns-in_ok-go_on_apart-in-Spent-clause-spent
+returns-in_ok-go_on_apart-in-Spent-clause-spent g c =
+    let e = c.args.self.now in
+    let a = c.call_clauses.new.atoms in
+    let m = g.W.A.Atoms.held c.args.atoms.now in
+    let n = g.W.A.Atoms.held a in
+    let t = g.W.World.told c.args.world.now in
+    let u = g.W.World.told c.call_clauses.new.world in
+    let x = c.call_clauses.new.search in
+    let view = view_is n u (g.met.W.A.Atoms.fixed_held a) (g.met.W.A.Atoms.unlike a) (g.met.W.A.Atoms.finite a) in
+    let l = c.requires.list in
+    let k = c.in_ok-called.ensures in
+    let went = c.in_ok-go_on_apart-in-Spent.ensures in
+    let f : Engine = record e { search = x; doing = c.go_on_apart.new.self.doing } in
+    let spent = subst (IsCalled m t e.search c.args.goal c.args.rest n u x) c.in-Spent.is k.called in
+    let moved = spent_moved m n t u e f c.args.goal c.args.procedure l.0 l.1 c.args.rest l.2 l.3 c.requires.rest c.requires.calls c.call_clauses.ensures.holds view c.requires.ready
+    refl refl k.whole spent.0.1 spent.0.2 spent.1 went.follows in
+    subst (λ (z : Engine). IsSpent e.search.inferences z.search.inferences) (sym went.kept) moved.2
 
 pub returns-in_ok-go_on-in-Ran-clause-spent : goal.returns-in_ok-go_on-in-Ran-clause-spent
 returns-in_ok-go_on-in-Ran-clause-spent g c =
@@ -120,8 +141,8 @@ returns-in_ok-go_on-in-Ran-clause-stepped g c =
     refl refl k.whole o run went.follows in
     subst (λ (z : Engine). Advances 1 m t e n u z []) (sym went.kept) moved.0
 
-pub returns-in_ok-ball-in-Refused-clause-ready : goal.returns-in_ok-ball-in-Refused-clause-ready
-returns-in_ok-ball-in-Refused-clause-ready g c =
+pub returns-in_ok-raise-in-Refused-clause-ready : goal.returns-in_ok-raise-in-Refused-clause-ready
+returns-in_ok-raise-in-Refused-clause-ready g c =
     let e = c.args.self.now in
     let a = c.call_clauses.new.atoms in
     let m = g.W.A.Atoms.held c.args.atoms.now in
@@ -132,15 +153,15 @@ returns-in_ok-ball-in-Refused-clause-ready g c =
     let view = view_is n u (g.met.W.A.Atoms.fixed_held a) (g.met.W.A.Atoms.unlike a) (g.met.W.A.Atoms.finite a) in
     let l = c.requires.list in
     let k = c.in_ok-called.ensures in
-    let b = c.in_ok-ball-in-Refused in
+    let b = c.in_ok-raise-in-Refused.ensures.thrown in
     let f : Engine = record e { search = x; doing = Throwing b.ball c.args.rest } in
     let r = subst (IsCalled m t e.search c.args.goal c.args.rest n u x) c.in-Refused.is k.called in
     let moved = refused_moved m n t u e f c.args.goal c.args.procedure l.0 l.1 c.args.rest l.2 l.3 c.requires.rest c.requires.calls c.call_clauses.ensures.holds view c.requires.ready
-    refl refl k.whole c.in-Refused.error b.ball r b.ensures.over b.ensures.ball refl in
-    moved.1
+    refl refl k.whole c.in-Refused.error b.ball r b.over b.is refl in
+    subst (λ (z : Engine). IsReady n u z) (sym b.doing) moved.1
 
-pub returns-in_ok-ball-in-Refused-clause-stepped : goal.returns-in_ok-ball-in-Refused-clause-stepped
-returns-in_ok-ball-in-Refused-clause-stepped g c =
+pub returns-in_ok-raise-in-Refused-clause-stepped : goal.returns-in_ok-raise-in-Refused-clause-stepped
+returns-in_ok-raise-in-Refused-clause-stepped g c =
     let e = c.args.self.now in
     let a = c.call_clauses.new.atoms in
     let m = g.W.A.Atoms.held c.args.atoms.now in
@@ -151,12 +172,12 @@ returns-in_ok-ball-in-Refused-clause-stepped g c =
     let view = view_is n u (g.met.W.A.Atoms.fixed_held a) (g.met.W.A.Atoms.unlike a) (g.met.W.A.Atoms.finite a) in
     let l = c.requires.list in
     let k = c.in_ok-called.ensures in
-    let b = c.in_ok-ball-in-Refused in
+    let b = c.in_ok-raise-in-Refused.ensures.thrown in
     let f : Engine = record e { search = x; doing = Throwing b.ball c.args.rest } in
     let r = subst (IsCalled m t e.search c.args.goal c.args.rest n u x) c.in-Refused.is k.called in
     let moved = refused_moved m n t u e f c.args.goal c.args.procedure l.0 l.1 c.args.rest l.2 l.3 c.requires.rest c.requires.calls c.call_clauses.ensures.holds view c.requires.ready
-    refl refl k.whole c.in-Refused.error b.ball r b.ensures.over b.ensures.ball refl in
-    moved.0
+    refl refl k.whole c.in-Refused.error b.ball r b.over b.is refl in
+    subst (λ (z : Engine). Advances 1 m t e n u z []) (sym b.doing) moved.0
 
 pub returns-in_err-called-clause-ready : goal.returns-in_err-called-clause-ready
 returns-in_err-called-clause-ready g c =
@@ -221,8 +242,8 @@ returns-in_err-called-clause-asked g c =
     call_asks_for m t c.args.self.now c.args.goal c.args.procedure l.0 l.1 c.args.rest l.2 l.3 c.requires.rest c.requires.calls view (g.W.A.Atoms.asked a)
     (g.W.A.Atoms.asked c.call_clauses.new.atoms) c.call_clauses.ensures.asked
 
-pub returns-in_err-self-in-Spent-clause-asked : goal.returns-in_err-self-in-Spent-clause-asked
-returns-in_err-self-in-Spent-clause-asked g c =
+pub returns-in_err-go_on_apart-in-Spent-clause-asked : goal.returns-in_err-go_on_apart-in-Spent-clause-asked
+returns-in_err-go_on_apart-in-Spent-clause-asked g c =
     let a = c.args.atoms.now in
     let m = g.W.A.Atoms.held a in
     let t = g.W.World.told c.args.world.now in
@@ -231,8 +252,8 @@ returns-in_err-self-in-Spent-clause-asked g c =
     call_asks_for m t c.args.self.now c.args.goal c.args.procedure l.0 l.1 c.args.rest l.2 l.3 c.requires.rest c.requires.calls view (g.W.A.Atoms.asked a)
     (g.W.A.Atoms.asked c.call_clauses.new.atoms) c.call_clauses.ensures.asked
 
-pub returns-in_ok-self-in-Spent-clause-asked : goal.returns-in_ok-self-in-Spent-clause-asked
-returns-in_ok-self-in-Spent-clause-asked g c =
+pub returns-in_ok-go_on_apart-in-Spent-clause-asked : goal.returns-in_ok-go_on_apart-in-Spent-clause-asked
+returns-in_ok-go_on_apart-in-Spent-clause-asked g c =
     let a = c.args.atoms.now in
     let m = g.W.A.Atoms.held a in
     let t = g.W.World.told c.args.world.now in
@@ -261,8 +282,8 @@ returns-in_ok-go_on-in-Ran-clause-asked g c =
     call_asks_for m t c.args.self.now c.args.goal c.args.procedure l.0 l.1 c.args.rest l.2 l.3 c.requires.rest c.requires.calls view (g.W.A.Atoms.asked a)
     (g.W.A.Atoms.asked c.call_clauses.new.atoms) c.call_clauses.ensures.asked
 
-pub returns-in_err-ball-in-Refused-clause-asked : goal.returns-in_err-ball-in-Refused-clause-asked
-returns-in_err-ball-in-Refused-clause-asked g c =
+pub returns-in_err-raise-in-Refused-clause-asked : goal.returns-in_err-raise-in-Refused-clause-asked
+returns-in_err-raise-in-Refused-clause-asked g c =
     let a = c.args.atoms.now in
     let m = g.W.A.Atoms.held a in
     let t = g.W.World.told c.args.world.now in
@@ -271,8 +292,8 @@ returns-in_err-ball-in-Refused-clause-asked g c =
     call_asks_for m t c.args.self.now c.args.goal c.args.procedure l.0 l.1 c.args.rest l.2 l.3 c.requires.rest c.requires.calls view (g.W.A.Atoms.asked a)
     (g.W.A.Atoms.asked c.call_clauses.new.atoms) c.call_clauses.ensures.asked
 
-pub returns-in_ok-ball-in-Refused-clause-asked : goal.returns-in_ok-ball-in-Refused-clause-asked
-returns-in_ok-ball-in-Refused-clause-asked g c =
+pub returns-in_ok-raise-in-Refused-clause-asked : goal.returns-in_ok-raise-in-Refused-clause-asked
+returns-in_ok-raise-in-Refused-clause-asked g c =
     let a = c.args.atoms.now in
     let m = g.W.A.Atoms.held a in
     let t = g.W.World.told c.args.world.now in
