@@ -63,6 +63,7 @@ pub mod OutputSteps
 pub mod Outputs
 pub mod OverAtoms
 pub mod Paired
+pub mod Passing
 pub mod Places
 pub mod PlacesApart
 pub mod Procedures

@@ -8,7 +8,7 @@ use Rattle.term_store.specs.Contents.{Contents, Holds}
 use Rattle.term_store.specs.Heap.{atom_name}
 use Rattle.world_api.specs.declared.visit.Procedure.{Procedure}
 use Rattle.iso_search.specs.declared.construct.Construct.{Construct}
-use Rattle.iso_search.specs.declared.construct.Construct.TheVariants.{Other}
+use Rattle.iso_search.specs.declared.construct.Construct.TheVariants.{Conjunction, Cuts, Other, Succeeds}
 use Rattle.iso_search.specs.Reading.{IsView, View, reads}
 use Rattle.iso_search.specs.Spelling.{spelled, text_of}
 use Rattle.iso_engine.specs.Following.{HasProcedure, IsInteger}
@@ -18,6 +18,13 @@ use Rattle.iso_engine.specs.Builtins.{IsNoBuiltin}
 abbrev pub is_other_kind : Construct → Bool
 is_other_kind Other = true
 is_other_kind _ = false
+
+-- A goal that only has further tasks done, or drops choice points.
+abbrev pub is_passing_kind : Construct → Bool
+is_passing_kind Succeeds = true
+is_passing_kind Cuts = true
+is_passing_kind (Conjunction g h) = true
+is_passing_kind _ = false
 
 -- The goal calls the program's clauses: it is no control construct, and no built-in predicate.
 pub record IsCall (g : Tree) : Type 0 where

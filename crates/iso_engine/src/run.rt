@@ -4,6 +4,7 @@ ghost use Rattle.pl_model.specs.Resolution.{Output};
 ghost use Rattle.world_api.specs.Gains.{Gains};
 ghost use Rattle.world_api.specs.Texts.{Holds};
 ghost use Rattle.world_api.specs.Told.{has_ended};
+ghost use Rattle.iso_search.specs.declared.frames.Task.TheVariants.{Goal};
 ghost use Rattle.iso_search.specs.Frames.{tasks};
 ghost use Rattle.iso_engine.specs.declared.doing.Doing.TheVariants.{Running};
 ghost use Rattle.iso_engine.specs.Asked.{AsksFor};
@@ -13,11 +14,14 @@ ghost use Rattle.iso_engine.specs.Slices.{IsStepped, written_text};
 ghost use Rattle.iso_engine.specs.Unserved.{as_stopped, stopped_refusals};
 
 use crate::call::direct::direct_call;
+use crate::doing::Doing;
 use crate::engine::Engine;
-use crate::running::{Did, do_task};
+use crate::kinds::passes;
+use crate::running::{Did, do_task, pass};
 use crate::slices::Slice;
+use iso_search::construct::construct_at;
 use iso_search::frames::{Frame, Task, first_task};
-use term_store::Stored;
+use term_store::{Place, Stored};
 use world_api::{Unserved, World};
 
 impl Engine {
@@ -46,15 +50,57 @@ impl Engine {
     {
         match first_task(&self.search.frames, list) {
             None => self.solve(world, atoms),
-            Some(frame) => {
-                if let Task::Goal(goal, _) = frame.task {
-                    if let Some(procedure) = direct_call(&self.search.store, goal) {
-                        return self.call(goal, procedure, frame.continuation, world, atoms);
-                    }
+            Some(frame) => match frame.task {
+                Task::Goal(goal, cut) => {
+                    self.run_goal(goal, cut, frame.continuation, list, world, atoms, out)
                 }
-                self.run_task(frame, list, world, atoms, out)
-            }
+                _ => self.run_task(frame, list, world, atoms, out),
+            },
         }
+    }
+
+    /// Does this goal, the first task of a list, before the tasks of another one. What it writes is put after `out`.
+    #[inline(always)]
+    fn run_goal<W: World<Term = Stored>>(
+        &mut self,
+        goal: Place,
+        cut: usize,
+        rest: usize,
+        list: usize,
+        world: &mut W,
+        atoms: &mut W::A,
+        out: &mut Vec<u8>,
+    ) -> Result<Option<Slice>, Unserved>
+        requires runs { has_ended (W.told world.old).engine (W.told world.old).history ≡ false }
+        requires ready { IsReady (W.A.held atoms.old) (W.told world.old) self.old }
+        requires list { self.old.doing ≡ Running list }
+        requires first { tasks self.old.search.frames.items list ≡ Goal goal cut ∷ tasks self.old.search.frames.items rest }
+        requires rest { rest ≤ length self.old.search.frames.items }
+        ensures runs { has_ended (W.told world.new).engine (W.told world.new).history ≡ false }
+        ensures holds { Holds (W.A.held atoms.old) (W.A.held atoms.new) }
+        ensures refusals { IfOk (as_stopped result) (λ o. W.A.refusals atoms.new ≡ W.A.refusals atoms.old ++ stopped_refusals o) }
+        ensures asked { Gains (AsksFor (W.A.held atoms.old) (W.told world.old) self.old) (W.A.asked atoms.old) (W.A.asked atoms.new) }
+        ensures given { IfOk (as_stopped result) (λ o. IfNone o (self.new.solutions_found ≡ self.old.solutions_found)) }
+        ensures spent { OnOk (as_stopped result) (IsSpent self.old.search.inferences self.new.search.inferences) }
+        ensures ready { OnOk (as_stopped result) (IsReady (W.A.held atoms.new) (W.told world.new) self.new) }
+        ensures stepped { IfOk (as_stopped result) (λ o. (more : List Output)
+            × IsStepped (W.A.held atoms.old) (W.told world.old) self.old o (W.A.held atoms.new) (W.told world.new) self.new more
+            × (out.new.items ≡ out.old.items ++ encode_utf8_all (written_text more))) }
+    {
+        if let Some(procedure) = direct_call(&self.search.store, goal) {
+            return self.call(goal, procedure, rest, world, atoms);
+        }
+        let kind = construct_at(&self.search.store, goal);
+        if passes(kind) {
+            let next = pass(&mut self.search, goal, kind, cut, rest)?;
+            self.doing = Doing::Running(next);
+            return Ok(None);
+        }
+        let frame = Frame {
+            task: Task::Goal(goal, cut),
+            continuation: rest,
+        };
+        self.run_task(frame, list, world, atoms, out)
     }
 
     /// Does this first task of a list. What the goal writes is put after `out`.

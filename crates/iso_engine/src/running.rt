@@ -1,5 +1,5 @@
 //! Tasks that are done without the shared state.
-ghost use Rattle.std.specs.Prelude.{◌≡◌, ◌≤◌, ℕ, ◌∷◌, false, length, IfNone, IfOk, IfSome, OnOk};
+ghost use Rattle.std.specs.Prelude.{◌≡◌, ◌≤◌, ℕ, ◌∷◌, false, true, length, IfNone, IfOk, IfSome, OnOk};
 ghost use Rattle.pl_model.specs.Control.{construct};
 ghost use Rattle.term_store.specs.Contents.{Holds};
 ghost use Rattle.iso_search.specs.declared.frames.Task.TheVariants.{Goal};
@@ -10,6 +10,8 @@ ghost use Rattle.iso_search.specs.Goals.{IsLeft};
 ghost use Rattle.iso_search.specs.Reading.{IsView, View, reads};
 ghost use Rattle.iso_search.specs.Searching.{IsWhole};
 ghost use Rattle.iso_engine.specs.declared.doing.Doing.TheVariants.{Running};
+ghost use Rattle.iso_engine.specs.declared.running.Did.TheVariants.{Next};
+ghost use Rattle.iso_engine.specs.Calling.{is_passing_kind};
 ghost use Rattle.iso_engine.specs.Following.{HasProcedure, IsInteger, StepsTo};
 ghost use Rattle.iso_engine.specs.Tasks.{IsDone, IsForOthers, IsLeftOver, IsOwnDid, IsOwnKind, IsViewed};
 
@@ -104,8 +106,43 @@ fn leave(search: &mut Search, frame: Frame) -> Option<Doing>
     }
 }
 
-/// Takes up a goal, before the tasks of a list. First come the goals that only have further tasks done, which are the most of a
-/// body beside its calls: `true`, a cut, and a conjunction (ISO 7.8.1, 7.8.4, 7.8.5). The only error is out of memory.
+/// Takes up a goal that only has further tasks done, or drops choice points (ISO 7.8.1, 7.8.4, 7.8.5), before the tasks of a list.
+/// These are the most of a body beside its calls. The answer is the list that is next. The only error is out of memory.
+#[inline(always)]
+pub fn pass(
+    search: &mut Search,
+    goal: Place,
+    kind: Construct,
+    cut: usize,
+    rest: usize,
+) -> Result<usize, Memory>
+    requires whole { IsWhole search.old }
+    requires goal { Holds search.old.store goal }
+    requires inside { IsConstructIn search.old.store kind }
+    requires stands { (v : View) → IsView v → construction v search.old.store kind ≡ construct (reads v search.old.store goal) }
+    requires passes { is_passing_kind kind ≡ true }
+    requires rest { rest ≤ length search.old.frames.items }
+    ensures whole { OnOk result (IsWhole search.new) }
+    ensures done { IfOk result (λ k. IsDone search.old (Goal goal cut) rest search.new (Next (Running k))) }
+    ensures budgets { OnOk result (search.new.budgets ≡ search.old.budgets) }
+{
+    match kind {
+        Construct::Succeeds => Ok(rest),
+        Construct::Cuts => {
+            search.cut_to(cut);
+            Ok(rest)
+        }
+        Construct::Conjunction(left, right) => {
+            let second = search.push(Task::Goal(right, cut), rest)?;
+            let list = search.push(Task::Goal(left, cut), second)?;
+            Ok(list)
+        }
+        _ => unreachable!(),
+    }
+}
+
+/// Takes up a goal, before the tasks of a list. The only error is out of memory. An integer is no goal: no conversion of a term
+/// to a body leaves one in its place (ISO 7.6.2).
 fn do_goal(
     alloc: Global,
     search: &mut Search,
@@ -115,45 +152,6 @@ fn do_goal(
 ) -> Result<Did, Memory>
     requires whole { IsWhole search.old }
     requires goal { Holds search.old.store goal }
-    requires rest { rest ≤ length search.old.frames.items }
-    requires viewed { IsViewed }
-    ensures whole { OnOk result (IsWhole search.new) }
-    ensures done { IfOk result (IsDone search.old (Goal goal cut) rest search.new) }
-    ensures budgets { OnOk result (search.new.budgets ≡ search.old.budgets) }
-{
-    let kind = construct_at(&search.store, goal);
-    match kind {
-        Construct::Succeeds => Ok(Did::Next(Doing::Running(rest))),
-        Construct::Cuts => {
-            search.cut_to(cut);
-            Ok(Did::Next(Doing::Running(rest)))
-        }
-        Construct::Conjunction(left, right) => {
-            let second = search.push(Task::Goal(right, cut), rest)?;
-            let list = search.push(Task::Goal(left, cut), second)?;
-            Ok(Did::Next(Doing::Running(list)))
-        }
-        _ => {
-            let did = do_other(alloc, search, goal, kind, cut, rest)?;
-            Ok(did)
-        }
-    }
-}
-
-/// Takes up a goal of this kind, before the tasks of a list. The only error is out of memory. An integer is no goal: no conversion
-/// of a term to a body leaves one in its place (ISO 7.6.2).
-fn do_other(
-    alloc: Global,
-    search: &mut Search,
-    goal: Place,
-    kind: Construct,
-    cut: usize,
-    rest: usize,
-) -> Result<Did, Memory>
-    requires whole { IsWhole search.old }
-    requires goal { Holds search.old.store goal }
-    requires inside { IsConstructIn search.old.store kind }
-    requires stands { (v : View) → IsView v → construction v search.old.store kind ≡ construct (reads v search.old.store goal) }
     requires rest { rest ≤ length search.old.frames.items }
     requires viewed { IsViewed }
     ensures whole { OnOk result (IsWhole search.new) }
@@ -171,6 +169,7 @@ fn do_other(
         name: procedure.name,
         arity: procedure.arity,
     };
+    let kind = construct_at(&search.store, goal);
     let taken = take_up(alloc, search, goal, kind, procedure, cut, rest)?;
     match taken {
         Some(doing) => Ok(Did::Next(doing)),
