@@ -38,6 +38,7 @@ pub mod Held
 pub mod Heldness
 pub mod Interning
 pub mod Later
+pub mod KnownAnswers
 pub mod LaterLists
 pub mod Led
 pub mod Lined

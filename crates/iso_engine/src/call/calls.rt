@@ -1,5 +1,5 @@
 //! Calls of the clauses of the program, and looks at them.
-ghost use Rattle.std.specs.Prelude.{◌≡◌, ◌<◌, ◌≤◌, ◌++◌, ℤ, List, length, false, IfOk, OnOk, IsSome};
+ghost use Rattle.std.specs.Prelude.{◌≡◌, ◌<◌, ◌≤◌, ◌++◌, ℤ, List, length, false, IfNone, IfOk, IfSome, OnOk, IsSome};
 ghost use Rattle.std.specs.List.{All};
 ghost use Rattle.pl_term.specs.Tree.{int};
 ghost use Rattle.term_store.specs.Contents.{Holds, term_at};
@@ -9,6 +9,7 @@ ghost use Rattle.world_api.specs.Told.{has_ended};
 ghost use Rattle.iso_search.specs.declared.choices.Purpose.TheVariants.{Resolving};
 ghost use Rattle.iso_search.specs.Searching.{IsWhole};
 ghost use Rattle.world_api.specs.Gains.{Gains};
+ghost use Rattle.world_api.specs.declared.reply.Reply.TheVariants.{Clauses};
 ghost use Rattle.iso_engine.specs.ClausesAsked.{IsListAsked, visit_of};
 ghost use Rattle.iso_engine.specs.Called.{AreLooked, IsCalled, IsTakenBack};
 ghost use Rattle.iso_engine.specs.Purposes.{listed_in};
@@ -23,7 +24,7 @@ use iso_search::choices::Purpose;
 use iso_search::search::Search;
 use pl_term::Memory;
 use term_store::{ArgumentKey, Place, Stored};
-use world_api::{Answer, Procedure, Reply, Unserved, Visit, World};
+use world_api::{Answer, Asked, Found, Procedure, Reply, Unserved, Visit, World};
 
 /// Calls the program's clauses for the goal at a place, before the tasks of a list (ISO 7.7.10): makes an inference, asks the
 /// shared state for the first of the clauses, and tries it. Where the visit is not served, nothing has changed, and the call is
@@ -56,7 +57,58 @@ pub fn call_clauses<W: World<Term = Stored>>(
     if search.inferences >= most {
         return Ok(Called::Spent);
     }
-    look_through(search, Purpose::Resolving, world, atoms, goal, rest)
+    let known = call_known(search, world, atoms, goal, rest)?;
+    match known {
+        Some(called) => Ok(called),
+        None => look_through(search, Purpose::Resolving, world, atoms, goal, rest),
+    }
+}
+
+/// Calls the program's clauses for the goal at a place, where an inference can be made and the world knows the first of them:
+/// tries it. None: nothing has changed. The only error is out of memory.
+#[inline(always)]
+fn call_known<W: World<Term = Stored>>(
+    search: &mut Search,
+    world: &mut W,
+    atoms: &mut W::A,
+    goal: Place,
+    rest: usize,
+) -> Result<Option<Called>, Memory>
+    requires whole { IsWhole search.old }
+    requires goal { Holds search.old.store goal }
+    requires callable { (i : ℤ) → term_at search.old.store goal ≡ int i → ⊥ }
+    requires rest { rest ≤ length search.old.frames.items }
+    requires held { All (λ a. IsSome (W.A.held atoms.old a)) (atoms_in (term_at search.old.store goal)) }
+    requires runs { has_ended (W.told world.old).engine (W.told world.old).history ≡ false }
+    requires count { search.old.inferences < search.old.budgets.inferences }
+    ensures whole { OnOk result (IsWhole search.new) }
+    ensures called { IfOk result (λ r. IfSome r (AreLooked Resolving (W.A.held atoms.old) (W.told world.old) search.old goal rest
+        (W.A.held atoms.new) (W.told world.new) search.new)) }
+    ensures none { IfOk result (λ r. IfNone r ((W.told world.new ≡ W.told world.old) × (search.new ≡ search.old))) }
+    ensures budgets { OnOk result (search.new.budgets ≡ search.old.budgets) }
+    ensures runs { has_ended (W.told world.new).engine (W.told world.new).history ≡ false }
+    ensures held { W.A.held atoms.new ≡ W.A.held atoms.old }
+    ensures refusals { W.A.refusals atoms.new ≡ W.A.refusals atoms.old }
+    ensures asked { W.A.asked atoms.new ≡ W.A.asked atoms.old }
+{
+    let _most = search.budgets.inferences;
+    let _mark = search.store.mark();
+    let procedure = predicate_at(&search.store, goal);
+    let first = key_at(&search.store, goal);
+    let asked = Asked {
+        procedure,
+        first,
+        after: None,
+    };
+    match world.again(&asked, atoms) {
+        None => Ok(None),
+        Some(generation) => {
+            search.inferences += 1;
+            let found = W::lent(atoms);
+            let called = follow_found(search, Purpose::Resolving, goal, rest, found, generation)?;
+            Ok(Some(called))
+        }
+    }
 }
 
 /// The same for a purpose, where an inference can be made: the clauses for the goal at a place, or for the head of the rule
@@ -143,10 +195,31 @@ pub fn follow_reply(
 {
     match reply {
         Reply::Clauses(found) => {
-            let outcome = try_first_clause(search, purpose, goal, rest, generation, found)?;
-            Ok(Called::Ran(outcome))
+            let called = follow_found(search, purpose, goal, rest, &found, generation)?;
+            Ok(called)
         }
         Reply::Refused(error) => Ok(Called::Refused(error)),
         _ => unreachable!(),
     }
+}
+
+/// Goes on by the first of the clauses, or where there is none, where the inference was made. The only error is out of memory.
+#[inline(always)]
+fn follow_found(
+    search: &mut Search,
+    purpose: Purpose,
+    goal: Place,
+    rest: usize,
+    found: &Option<Found<Stored>>,
+    generation: u64,
+) -> Result<Called, Memory>
+    requires whole { IsWhole search.old }
+    requires goal { Holds search.old.store goal }
+    requires rest { rest ≤ length search.old.frames.items }
+    ensures whole { OnOk result (IsWhole search.new) }
+    ensures followed { IfOk result (IsFollowed purpose search.old goal rest generation (Clauses found.now) search.new) }
+    ensures budgets { OnOk result (search.new.budgets ≡ search.old.budgets) }
+{
+    let outcome = try_first_clause(search, purpose, goal, rest, generation, found)?;
+    Ok(Called::Ran(outcome))
 }

@@ -43,7 +43,7 @@ pub fn try_first_clause(
     goal: Place,
     rest: usize,
     generation: u64,
-    found: Option<Found<Stored>>,
+    found: &Option<Found<Stored>>,
 ) -> Result<Outcome, Memory>
     requires whole { IsWhole search.old }
     requires goal { Holds search.old.store goal }
@@ -52,11 +52,11 @@ pub fn try_first_clause(
     ensures step { IfOk result (λ o. (t : Setting) (cs : List (StoredClause Clause)) → IsView t.view
         → let g = reads t.view search.old.store goal in let n = node_of t.view search.old rest in
         let p = purpose_of purpose in
-        IsListed t.view (listed_goal p g) generation found cs
+        IsListed t.view (listed_goal p g) generation found.now cs
         → result_in t search.new n (tried_by p g) o ≡ first_clause (limits_in t search.old) p (state_in t search.old) g n cs) }
     ensures after { IfOk result (IsAfter search.old search.new) }
 {
-    if is_full(search, &found) {
+    if is_full(search, found) {
         Ok(Outcome::Raise(Fault::Choices))
     } else {
         let outcome = try_next_clause(search, purpose, goal, rest, generation, found)?;
@@ -93,7 +93,7 @@ pub fn try_next_clause(
     goal: Place,
     rest: usize,
     generation: u64,
-    found: Option<Found<Stored>>,
+    found: &Option<Found<Stored>>,
 ) -> Result<Outcome, Memory>
     requires whole { IsWhole search.old }
     requires goal { Holds search.old.store goal }
@@ -102,7 +102,7 @@ pub fn try_next_clause(
     ensures step { IfOk result (λ o. (t : Setting) (cs : List (StoredClause Clause)) → IsView t.view
         → let g = reads t.view search.old.store goal in let n = node_of t.view search.old rest in
         let p = purpose_of purpose in
-        IsListed t.view (listed_goal p g) generation found cs
+        IsListed t.view (listed_goal p g) generation found.now cs
         → result_in t search.new n (tried_by p g) o ≡ next_clause (limits_in t search.old) p (state_in t search.old) g n cs) }
     ensures after { IfOk result (IsAfter search.old search.new) }
 {

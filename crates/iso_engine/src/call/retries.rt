@@ -1,5 +1,5 @@
 //! Going back to clauses that were not tried.
-ghost use Rattle.std.specs.Prelude.{◌≡◌, ◌≤◌, ◌++◌, ◌∷◌, List, length, false, IfOk, OnOk, IsSome};
+ghost use Rattle.std.specs.Prelude.{◌≡◌, ◌≤◌, ◌++◌, ◌∷◌, List, length, false, IfNone, IfOk, IfSome, OnOk, IsSome};
 ghost use Rattle.std.specs.List.{All};
 ghost use Rattle.term_store.specs.Contents.{Holds, term_at};
 ghost use Rattle.term_store.specs.NumberedNames.{atoms_in};
@@ -24,7 +24,7 @@ use iso_search::outcome::Outcome;
 use iso_search::search::Search;
 use pl_term::Memory;
 use term_store::{Place, Store, Stored};
-use world_api::{Answer, Reply, Unserved, Visit, World};
+use world_api::{After, Answer, Asked, Reply, Unserved, Visit, World};
 
 /// Goes on with the clauses for the goal at a place, or for the rule of clause/2 or retract/1, that were not tried (ISO 7.7.8), whose
 /// choice point was taken off: those of the generation after the clause with the place, before the tasks of a list. Asks the shared state for the next of them, and
@@ -32,6 +32,90 @@ use world_api::{Answer, Reply, Unserved, Visit, World};
 /// any more.
 #[inline(always)]
 pub fn retry_clauses<W: World<Term = Stored>>(
+    search: &mut Search,
+    world: &mut W,
+    atoms: &mut W::A,
+    purpose: Purpose,
+    goal: Place,
+    generation: u64,
+    place: u64,
+    next: usize,
+) -> Result<Outcome, Unserved>
+    requires whole { IsWhole search.old }
+    requires goal { Holds search.old.store goal }
+    requires next { next ≤ length search.old.frames.items }
+    requires held { All (λ a. IsSome (W.A.held atoms.old a)) (atoms_in (term_at search.old.store goal)) }
+    requires open { let g = reads (view_of (W.A.held atoms.old) (W.told world.old)) search.old.store goal in
+        MayGoOn (W.told world.old) (listed_goal (purpose_of purpose) g) generation place }
+    requires runs { has_ended (W.told world.old).engine (W.told world.old).history ≡ false }
+    ensures whole { UnlessMemory result (IsWhole search.new) }
+    ensures retried { IfOk result (IsNextRun (W.told world.old) search.old purpose goal generation place next
+        (W.A.held atoms.new) (W.told world.new) search.new) }
+    ensures put_back { OnRefusal result (IsPutBack (W.told world.old) search.old purpose goal generation place next (W.told world.new) search.new) }
+    ensures budgets { UnlessMemory result (search.new.budgets ≡ search.old.budgets) }
+    ensures runs { has_ended (W.told world.new).engine (W.told world.new).history ≡ false }
+    ensures holds { AreHeld (W.A.held atoms.old) (W.A.held atoms.new) }
+    ensures refusals { UnlessMemory result (W.A.refusals atoms.new ≡ W.A.refusals atoms.old ++ refusals_in result) }
+    ensures asked { Gains (IsRetryAsked (W.A.held atoms.old) (W.told world.old) search.old purpose goal generation place) (W.A.asked atoms.old) (W.A.asked atoms.new) }
+{
+    let known = retry_known(search, world, atoms, purpose, goal, generation, place, next)?;
+    match known {
+        Some(outcome) => Ok(outcome),
+        None => retry_anew(search, world, atoms, purpose, goal, generation, place, next),
+    }
+}
+
+/// The same, where the world knows the next of the clauses: tries it. None: nothing has changed. The only error is out of memory.
+#[inline(always)]
+fn retry_known<W: World<Term = Stored>>(
+    search: &mut Search,
+    world: &mut W,
+    atoms: &mut W::A,
+    purpose: Purpose,
+    goal: Place,
+    generation: u64,
+    place: u64,
+    next: usize,
+) -> Result<Option<Outcome>, Memory>
+    requires whole { IsWhole search.old }
+    requires goal { Holds search.old.store goal }
+    requires next { next ≤ length search.old.frames.items }
+    requires held { All (λ a. IsSome (W.A.held atoms.old a)) (atoms_in (term_at search.old.store goal)) }
+    requires open { let g = reads (view_of (W.A.held atoms.old) (W.told world.old)) search.old.store goal in
+        MayGoOn (W.told world.old) (listed_goal (purpose_of purpose) g) generation place }
+    requires runs { has_ended (W.told world.old).engine (W.told world.old).history ≡ false }
+    ensures whole { OnOk result (IsWhole search.new) }
+    ensures retried { IfOk result (λ r. IfSome r (IsNextRun (W.told world.old) search.old purpose goal generation place next
+        (W.A.held atoms.new) (W.told world.new) search.new)) }
+    ensures none { IfOk result (λ r. IfNone r ((W.told world.new ≡ W.told world.old) × (search.new ≡ search.old))) }
+    ensures budgets { OnOk result (search.new.budgets ≡ search.old.budgets) }
+    ensures runs { has_ended (W.told world.new).engine (W.told world.new).history ≡ false }
+    ensures held { W.A.held atoms.new ≡ W.A.held atoms.old }
+    ensures refusals { W.A.refusals atoms.new ≡ W.A.refusals atoms.old }
+    ensures asked { W.A.asked atoms.new ≡ W.A.asked atoms.old }
+{
+    let _mark = search.store.mark();
+    let listed = listed_at(&search.store, purpose, goal);
+    let procedure = predicate_at(&search.store, listed);
+    let first = key_at(&search.store, listed);
+    let asked = Asked {
+        procedure,
+        first,
+        after: Some(After { generation, place }),
+    };
+    match world.again(&asked, atoms) {
+        None => Ok(None),
+        Some(_) => {
+            let found = W::lent(atoms);
+            let outcome = try_next_clause(search, purpose, goal, next, generation, found)?;
+            Ok(Some(outcome))
+        }
+    }
+}
+
+/// The same by a visit.
+#[inline(never)]
+fn retry_anew<W: World<Term = Stored>>(
     search: &mut Search,
     world: &mut W,
     atoms: &mut W::A,
@@ -73,7 +157,7 @@ pub fn retry_clauses<W: World<Term = Stored>>(
             let Reply::Clauses(found) = reply else {
                 unreachable!();
             };
-            let outcome = try_next_clause(search, purpose, goal, next, generation, found)?;
+            let outcome = try_next_clause(search, purpose, goal, next, generation, &found)?;
             Ok(outcome)
         }
         Answer::NeedsAtoms(pass) => {

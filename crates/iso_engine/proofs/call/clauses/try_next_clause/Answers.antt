@@ -19,8 +19,8 @@ returns-in-None-clause-step c t cs view listed =
     nothing_next t e (purpose_of c.args.purpose) (node_of t.view e c.args.rest) g c.args.generation cs
     (subst (λ (x : Option (Found Tree)). IsListed t.view (listed_goal (purpose_of c.args.purpose) g) c.args.generation x cs) c.in-None.is listed)
 
-pub returns-then-f-clause-step : goal.returns-then-f-clause-step
-returns-then-f-clause-step c t cs view listed =
+pub returns-in_ok-outcome-in-Some-clause-step : goal.returns-in_ok-outcome-in-Some-clause-step
+returns-in_ok-outcome-in-Some-clause-step c t cs view listed =
     let e = c.args.search.now in
     let g = reads t.view e.store c.args.goal in
     let pushed = c.in_ok-push_choice-in-Some.ensures in
@@ -30,8 +30,8 @@ returns-then-f-clause-step c t cs view listed =
     pushed.kept (pushed.choices t.view) (omega (arith, c.len-height.ensures, e.choices.ok.0, length_choices t.view e))
     (λ k is at. c.in_ok-outcome-in-Some.ensures.step t k view is at)
 
-pub returns-then-f-clause-after : goal.returns-then-f-clause-after
-returns-then-f-clause-after c =
+pub returns-in_ok-outcome-in-Some-clause-after : goal.returns-in_ok-outcome-in-Some-clause-after
+returns-in_ok-outcome-in-Some-clause-after c =
     let e = c.args.search.now in
     let d = c.push_choice.new.self in
     let pushed = c.in_ok-push_choice-in-Some.ensures in
@@ -39,8 +39,8 @@ returns-then-f-clause-after c =
     after_behind e d c.try_clause.new.search c.in_ok-outcome-in-Some.outcome (omega (arith, frames)) (ap (λ (x : Search). x.budgets) pushed.kept)
     (keeps_choices e d pushed.kept) c.in_ok-outcome-in-Some.ensures.after
 
-pub returns-clause-step : goal.returns-clause-step
-returns-clause-step c t cs view listed =
+pub returns-in_ok-outcome-in-Some-2-clause-step : goal.returns-in_ok-outcome-in-Some-2-clause-step
+returns-in_ok-outcome-in-Some-2-clause-step c t cs view listed =
     let e = c.args.search.now in
     let g = reads t.view e.store c.args.goal in
     one_alone t (purpose_of c.args.purpose) e c.try_clause-else-f.new.search c.args.goal c.args.rest c.args.generation c.len-height.result c.in-Some.f cs

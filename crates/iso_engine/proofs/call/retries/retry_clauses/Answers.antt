@@ -1,251 +1,161 @@
-use Rattle.std.proofs.Common.{◌≡◌, subst, Option}
-use Rattle.pl_term.specs.Tree.{Tree}
-use Rattle.term_store.specs.Contents.{term_at}
-use Rattle.term_store.specs.NumberedNames.{names_of, term_by}
-use Rattle.world_api.specs.declared.reply.Found.{Found}
-use Rattle.world_api.specs.declared.reply.Reply.{Reply}
-use Rattle.world_api.specs.declared.reply.Reply.TheVariants.{Clauses}
-use Rattle.world_api.specs.Replies.{IsFront, reply_names}
-use Rattle.world_api.specs.Texts.{text_of}
-use Rattle.world_api.specs.Told.{behind, clause_list}
+use Rattle.std.proofs.Common.{◌≡◌, ◌≤◌, ◌++◌, length, sym, subst, ◌∙◌, append-nil}
+use Rattle.std.specs.Prelude.{IfOk, IsSome, false}
 use Rattle.std.specs.List.{All}
-use Rattle.std.specs.Prelude.{IsSome}
+use Rattle.atom_api.specs.Names.{Names}
+use Rattle.term_store.specs.Contents.{Holds, term_at}
+use Rattle.term_store.specs.NumberedNames.{atoms_in}
+use Rattle.iso_search.specs.declared.search.Search.{Search}
+use Rattle.iso_search.specs.Searching.{IsWhole}
+use Rattle.world_api.specs.Gains.{Gains}
+use Rattle.world_api.specs.Texts.{Holds as AreHeld}
+use Rattle.world_api.specs.Told.{Told, has_ended}
+use Rattle.world_api.proofs.Gaining.{gains_nothing}
+use Rattle.iso_engine.specs.Unserved.{OnRefusal, UnlessMemory, refusals_in}
+use Rattle.iso_engine.proofs.KnownAnswers.{from_there, same_held, where_none}
+use Rattle.iso_search.specs.Choices.{listed_goal, purpose_of}
+use Rattle.iso_search.specs.Reading.{reads}
+use Rattle.iso_engine.specs.ClausesAsked.{IsRetryAsked}
+use Rattle.iso_engine.specs.Ready.{MayGoOn}
+use Rattle.iso_engine.specs.Retried.{IsNextRun, IsPutBack}
 use Rattle.iso_engine.specs.Views.{view_of}
-use Rattle.iso_engine.proofs.Asking.{goal_over, visit_held}
-use Rattle.iso_engine.proofs.FollowedReplies.{next_found, next_run_is, place_is}
-use Rattle.iso_engine.proofs.ClauseGains.{retry_gains}
-use Rattle.iso_engine.proofs.Purposes.{listed_callable, listed_held, listed_open, listed_reads}
-use Rattle.iso_engine.proofs.Solutions.{view_is}
 use Rattle.iso_engine.proofs.call.retries.retry_clauses.Goals as goal
 
-pub predicate_at-procedure-requires-clause-callable : goal.predicate_at-procedure-requires-clause-callable
-predicate_at-procedure-requires-clause-callable g c =
-    let a = c.args.atoms.now in
-    let m = g.W.A.Atoms.held a in
-    let t = g.W.World.told c.args.world.now in
-    let e = c.args.search.now in
-    let over = goal_over e.store c.mark-mark.result c.args.goal c.mark-mark.ensures.mark c.mark-mark.ensures.here c.requires.goal in
-    let at = c.listed_at-listed.result in
-    let is = c.listed_at-listed.ensures.stands in
-    listed_callable c.args.purpose e.store c.args.goal at over is (view_of m t) (view_is m t (g.met.W.A.Atoms.fixed_held a) (g.met.W.A.Atoms.unlike a) (g.met.W.A.Atoms.finite a))
-    c.requires.open.callable
+pub retry_anew-requires-clause-whole : goal.retry_anew-requires-clause-whole
+retry_anew-requires-clause-whole g c =
+    let m : Names = g.W.A.Atoms.held c.args.atoms.now in
+    let k : Names = g.W.A.Atoms.held c.retry_known.new.atoms in
+    let t : Told = g.W.World.told c.args.world.now in
+    let u : Told = g.W.World.told c.retry_known.new.world in
+    let e : Search = c.args.search.now in
+    let d : Search = c.retry_known.new.search in
+    let none = where_none ((u ≡ t) × (d ≡ e)) c.in_ok-known.known c.in-None.is c.in_ok-known.ensures.none in
+    from_there (λ (m : Names) (t : Told) (e : Search). IsWhole e) k m u t d e (sym c.retry_known.ensures.held) (sym none.0) (sym none.1) c.requires.whole
 
-pub visit-requires-clause-held : goal.visit-requires-clause-held
-visit-requires-clause-held g c =
-    let m = g.W.A.Atoms.held c.args.atoms.now in
-    let e = c.args.search.now in
-    let over = goal_over e.store c.mark-mark.result c.args.goal c.mark-mark.ensures.mark c.mark-mark.ensures.here c.requires.goal in
-    let at = c.listed_at-listed.result in
-    let is = c.listed_at-listed.ensures.stands in
-    visit_held m (term_at e.store at) c.predicate_at-procedure.result c.key_at-first.result
-    (g.met.W.A.Atoms.fixed_held c.args.atoms.now) c.predicate_at-procedure.ensures c.key_at-first.ensures
-    (listed_held c.args.purpose e.store c.args.goal at over is m c.requires.held)
+pub retry_anew-requires-clause-goal : goal.retry_anew-requires-clause-goal
+retry_anew-requires-clause-goal g c =
+    let m : Names = g.W.A.Atoms.held c.args.atoms.now in
+    let k : Names = g.W.A.Atoms.held c.retry_known.new.atoms in
+    let t : Told = g.W.World.told c.args.world.now in
+    let u : Told = g.W.World.told c.retry_known.new.world in
+    let e : Search = c.args.search.now in
+    let d : Search = c.retry_known.new.search in
+    let none = where_none ((u ≡ t) × (d ≡ e)) c.in_ok-known.known c.in-None.is c.in_ok-known.ensures.none in
+    from_there (λ (m : Names) (t : Told) (e : Search). Holds e.store c.args.goal) k m u t d e (sym c.retry_known.ensures.held) (sym none.0) (sym none.1) c.requires.goal
 
-pub visit-requires-clause-next : goal.visit-requires-clause-next
-visit-requires-clause-next g c =
-    let a = c.args.atoms.now in
-    let m = g.W.A.Atoms.held a in
-    let e = c.args.search.now in
-    let t = g.W.World.told c.args.world.now in
-    let over = goal_over e.store c.mark-mark.result c.args.goal c.mark-mark.ensures.mark c.mark-mark.ensures.here c.requires.goal in
-    let at = c.listed_at-listed.result in
-    let is = c.listed_at-listed.ensures.stands in
-    let view = view_is m t (g.met.W.A.Atoms.fixed_held a) (g.met.W.A.Atoms.unlike a) (g.met.W.A.Atoms.finite a) in
-    place_is m m t t t.history e e at (g.met.W.A.Atoms.fixed_held a) (g.met.W.A.Atoms.fixed_held a)
-    (λ a x is. is) (goal_over e.store c.mark-mark.result at c.mark-mark.ensures.mark c.mark-mark.ensures.here c.listed_at-listed.ensures.holds)
-    (listed_held c.args.purpose e.store c.args.goal at over is m c.requires.held)
-    c.predicate_at-procedure.result c.key_at-first.result c.args.generation c.args.place c.predicate_at-procedure.ensures c.key_at-first.ensures
-    (listed_open c.args.purpose e.store c.args.goal at over is (view_of m t) view t c.args.generation c.args.place c.requires.open)
+pub retry_anew-requires-clause-next : goal.retry_anew-requires-clause-next
+retry_anew-requires-clause-next g c =
+    let m : Names = g.W.A.Atoms.held c.args.atoms.now in
+    let k : Names = g.W.A.Atoms.held c.retry_known.new.atoms in
+    let t : Told = g.W.World.told c.args.world.now in
+    let u : Told = g.W.World.told c.retry_known.new.world in
+    let e : Search = c.args.search.now in
+    let d : Search = c.retry_known.new.search in
+    let none = where_none ((u ≡ t) × (d ≡ e)) c.in_ok-known.known c.in-None.is c.in_ok-known.ensures.none in
+    from_there (λ (m : Names) (t : Told) (e : Search). c.args.next ≤ length e.frames.items) k m u t d e (sym c.retry_known.ensures.held) (sym none.0) (sym none.1) c.requires.next
 
-pub unreachable-requires : goal.unreachable-requires
-unreachable-requires g c =
-    let m = g.W.A.Atoms.held c.args.atoms.now in
-    let n = g.W.A.Atoms.held c.visit.new.atoms in
-    let e = c.args.search.now in
-    let t = g.W.World.told c.args.world.now in
-    let over = goal_over e.store c.mark-mark.result c.args.goal c.mark-mark.ensures.mark c.mark-mark.ensures.here c.requires.goal in
-    let at = c.listed_at-listed.result in
-    let is = c.listed_at-listed.ensures.stands in
-    let v = c.in-Served.ensures.visited in
-    let found = next_found m n t (g.W.World.told c.visit.new.self) v.0 e e at (g.met.W.A.Atoms.fixed_held c.args.atoms.now)
-    (g.met.W.A.Atoms.fixed_held c.visit.new.atoms) c.in-Served.ensures.holds
-    (goal_over e.store c.mark-mark.result at c.mark-mark.ensures.mark c.mark-mark.ensures.here c.listed_at-listed.ensures.holds)
-    (listed_held c.args.purpose e.store c.args.goal at over is m c.requires.held)
-    c.predicate_at-procedure.result c.key_at-first.result c.args.generation c.args.place c.in-Served.generation c.in-Served.reply
-    c.predicate_at-procedure.ensures c.key_at-first.ensures v.1.1 in
-    c.in_default.not-Clauses found.0 found.1
+pub retry_anew-requires-clause-held : goal.retry_anew-requires-clause-held
+retry_anew-requires-clause-held g c =
+    let m : Names = g.W.A.Atoms.held c.args.atoms.now in
+    let k : Names = g.W.A.Atoms.held c.retry_known.new.atoms in
+    let t : Told = g.W.World.told c.args.world.now in
+    let u : Told = g.W.World.told c.retry_known.new.world in
+    let e : Search = c.args.search.now in
+    let d : Search = c.retry_known.new.search in
+    let none = where_none ((u ≡ t) × (d ≡ e)) c.in_ok-known.known c.in-None.is c.in_ok-known.ensures.none in
+    from_there (λ (m : Names) (t : Told) (e : Search). All (λ a. IsSome (m a)) (atoms_in (term_at e.store c.args.goal))) k m u t d e (sym c.retry_known.ensures.held) (sym none.0) (sym none.1) c.requires.held
 
-one_list : (f h : Option (Found Tree)) (r : Reply Tree) → r ≡ Clauses f → r ≡ Clauses h → f ≡ h
-one_list f h r a b = cc
+pub retry_anew-requires-clause-open : goal.retry_anew-requires-clause-open
+retry_anew-requires-clause-open g c =
+    let m : Names = g.W.A.Atoms.held c.args.atoms.now in
+    let k : Names = g.W.A.Atoms.held c.retry_known.new.atoms in
+    let t : Told = g.W.World.told c.args.world.now in
+    let u : Told = g.W.World.told c.retry_known.new.world in
+    let e : Search = c.args.search.now in
+    let d : Search = c.retry_known.new.search in
+    let none = where_none ((u ≡ t) × (d ≡ e)) c.in_ok-known.known c.in-None.is c.in_ok-known.ensures.none in
+    from_there (λ (m : Names) (t : Told) (e : Search). MayGoOn t (listed_goal (purpose_of c.args.purpose) (reads (view_of m t) e.store c.args.goal)) c.args.generation c.args.place) k m u t d e (sym c.retry_known.ensures.held) (sym none.0) (sym none.1) c.requires.open
 
-pub returns-in_ok-outcome-in-Served-clause-retried : goal.returns-in_ok-outcome-in-Served-clause-retried
-returns-in_ok-outcome-in-Served-clause-retried g c =
-    let m = g.W.A.Atoms.held c.args.atoms.now in
-    let n = g.W.A.Atoms.held c.visit.new.atoms in
-    let e = c.args.search.now in
-    let t = g.W.World.told c.args.world.now in
-    let u = g.W.World.told c.visit.new.self in
-    let fixed = g.met.W.A.Atoms.fixed_held c.args.atoms.now in
-    let later = g.met.W.A.Atoms.fixed_held c.visit.new.atoms in
-    let over = goal_over e.store c.mark-mark.result c.args.goal c.mark-mark.ensures.mark c.mark-mark.ensures.here c.requires.goal in
-    let at = c.listed_at-listed.result in
-    let is = c.listed_at-listed.ensures.stands in
-    let there = goal_over e.store c.mark-mark.result at c.mark-mark.ensures.mark c.mark-mark.ensures.here c.listed_at-listed.ensures.holds in
-    let held = listed_held c.args.purpose e.store c.args.goal at over is m c.requires.held in
-    let v = c.in-Served.ensures.visited in
-    let found = next_found m n t u v.0 e e at fixed later c.in-Served.ensures.holds there held
-    c.predicate_at-procedure.result c.key_at-first.result c.args.generation c.args.place c.in-Served.generation c.in-Served.reply
-    c.predicate_at-procedure.ensures c.key_at-first.ensures v.1.1 in
-    let same : found.0 ≡ c.in-Clauses.found = one_list found.0 c.in-Clauses.found c.in-Served.reply found.1 c.in-Clauses.is in
-    next_run_is m n t u v.0 e c.try_next_clause.new.search at fixed later c.in-Served.ensures.holds there held
-    c.args.purpose c.args.goal (listed_reads c.args.purpose e.store c.args.goal at over is)
-    c.args.generation c.args.place c.args.next c.in-Clauses.found c.in_ok-outcome-in-Served.outcome
-    v.1.0 v.1.1.told c.requires.open.listed.own c.requires.open.listed.within
-    (subst (λ (f : Option (Found Tree)). IsFront term_by (text_of n) f
-    (behind c.args.place (clause_list t.goals v.0 c.args.generation (term_by (text_of m) (term_at e.store at))))) same found.2)
-    (subst (λ (r : Reply Tree). All (λ a. IsSome (n a)) (reply_names names_of r)) c.in-Clauses.is c.in-Served.ensures.names)
-    (λ s cs view lists. c.in_ok-outcome-in-Served.ensures.step s cs view lists) c.in_ok-outcome-in-Served.ensures.after
+pub retry_anew-requires-clause-runs : goal.retry_anew-requires-clause-runs
+retry_anew-requires-clause-runs g c =
+    let m : Names = g.W.A.Atoms.held c.args.atoms.now in
+    let k : Names = g.W.A.Atoms.held c.retry_known.new.atoms in
+    let t : Told = g.W.World.told c.args.world.now in
+    let u : Told = g.W.World.told c.retry_known.new.world in
+    let e : Search = c.args.search.now in
+    let d : Search = c.retry_known.new.search in
+    let none = where_none ((u ≡ t) × (d ≡ e)) c.in_ok-known.known c.in-None.is c.in_ok-known.ensures.none in
+    from_there (λ (m : Names) (t : Told) (e : Search). has_ended t.engine t.history ≡ false) k m u t d e (sym c.retry_known.ensures.held) (sym none.0) (sym none.1) c.requires.runs
 
-pub returns-in_err-outcome-in-Served-clause-asked : goal.returns-in_err-outcome-in-Served-clause-asked
-returns-in_err-outcome-in-Served-clause-asked g c =
-    let a = c.args.atoms.now in
-    let m = g.W.A.Atoms.held a in
-    let t = g.W.World.told c.args.world.now in
-    let e = c.args.search.now in
-    let over = goal_over e.store c.mark-mark.result c.args.goal c.mark-mark.ensures.mark c.mark-mark.ensures.here c.requires.goal in
-    let at = c.listed_at-listed.result in
-    let is = c.listed_at-listed.ensures.stands in
-    let view = view_is m t (g.met.W.A.Atoms.fixed_held a) (g.met.W.A.Atoms.unlike a) (g.met.W.A.Atoms.finite a) in
-    retry_gains m t e at c.predicate_at-procedure.result c.key_at-first.result (g.met.W.A.Atoms.fixed_held a)
-    (goal_over e.store c.mark-mark.result at c.mark-mark.ensures.mark c.mark-mark.ensures.here c.listed_at-listed.ensures.holds)
-    c.predicate_at-procedure.ensures c.key_at-first.ensures (g.W.A.Atoms.asked a) (g.W.A.Atoms.asked c.visit.new.atoms)
-    c.args.purpose c.args.goal (listed_reads c.args.purpose e.store c.args.goal at over is (view_of m t) view)
-    c.args.generation c.args.place c.requires.open.listed c.visit.ensures.asked
+pub returns-in-None-clause-retried : goal.returns-in-None-clause-retried
+returns-in-None-clause-retried g c =
+    let m : Names = g.W.A.Atoms.held c.args.atoms.now in
+    let k : Names = g.W.A.Atoms.held c.retry_known.new.atoms in
+    let t : Told = g.W.World.told c.args.world.now in
+    let u : Told = g.W.World.told c.retry_known.new.world in
+    let e : Search = c.args.search.now in
+    let d : Search = c.retry_known.new.search in
+    let none = where_none ((u ≡ t) × (d ≡ e)) c.in_ok-known.known c.in-None.is c.in_ok-known.ensures.none in
+    from_there (λ (m : Names) (t : Told) (e : Search). IfOk c.retry_anew.result (IsNextRun t e c.args.purpose c.args.goal c.args.generation c.args.place c.args.next (g.W.A.Atoms.held c.retry_anew.new.atoms) (g.W.World.told c.retry_anew.new.world) c.retry_anew.new.search)) m k t u e d c.retry_known.ensures.held none.0 none.1 c.retry_anew.ensures.retried
 
-pub returns-in_err-put_back-in-NeedsAtoms-clause-asked : goal.returns-in_err-put_back-in-NeedsAtoms-clause-asked
-returns-in_err-put_back-in-NeedsAtoms-clause-asked g c =
-    let a = c.args.atoms.now in
-    let m = g.W.A.Atoms.held a in
-    let t = g.W.World.told c.args.world.now in
-    let e = c.args.search.now in
-    let over = goal_over e.store c.mark-mark.result c.args.goal c.mark-mark.ensures.mark c.mark-mark.ensures.here c.requires.goal in
-    let at = c.listed_at-listed.result in
-    let is = c.listed_at-listed.ensures.stands in
-    let view = view_is m t (g.met.W.A.Atoms.fixed_held a) (g.met.W.A.Atoms.unlike a) (g.met.W.A.Atoms.finite a) in
-    retry_gains m t e at c.predicate_at-procedure.result c.key_at-first.result (g.met.W.A.Atoms.fixed_held a)
-    (goal_over e.store c.mark-mark.result at c.mark-mark.ensures.mark c.mark-mark.ensures.here c.listed_at-listed.ensures.holds)
-    c.predicate_at-procedure.ensures c.key_at-first.ensures (g.W.A.Atoms.asked a) (g.W.A.Atoms.asked c.visit.new.atoms)
-    c.args.purpose c.args.goal (listed_reads c.args.purpose e.store c.args.goal at over is (view_of m t) view)
-    c.args.generation c.args.place c.requires.open.listed c.visit.ensures.asked
+pub returns-in-None-clause-put_back : goal.returns-in-None-clause-put_back
+returns-in-None-clause-put_back g c =
+    let m : Names = g.W.A.Atoms.held c.args.atoms.now in
+    let k : Names = g.W.A.Atoms.held c.retry_known.new.atoms in
+    let t : Told = g.W.World.told c.args.world.now in
+    let u : Told = g.W.World.told c.retry_known.new.world in
+    let e : Search = c.args.search.now in
+    let d : Search = c.retry_known.new.search in
+    let none = where_none ((u ≡ t) × (d ≡ e)) c.in_ok-known.known c.in-None.is c.in_ok-known.ensures.none in
+    from_there (λ (m : Names) (t : Told) (e : Search). OnRefusal c.retry_anew.result (IsPutBack t e c.args.purpose c.args.goal c.args.generation c.args.place c.args.next (g.W.World.told c.retry_anew.new.world) c.retry_anew.new.search)) m k t u e d c.retry_known.ensures.held none.0 none.1 c.retry_anew.ensures.put_back
 
-pub returns-in_err-put_back-in-Retry-clause-asked : goal.returns-in_err-put_back-in-Retry-clause-asked
-returns-in_err-put_back-in-Retry-clause-asked g c =
-    let a = c.args.atoms.now in
-    let m = g.W.A.Atoms.held a in
-    let t = g.W.World.told c.args.world.now in
-    let e = c.args.search.now in
-    let over = goal_over e.store c.mark-mark.result c.args.goal c.mark-mark.ensures.mark c.mark-mark.ensures.here c.requires.goal in
-    let at = c.listed_at-listed.result in
-    let is = c.listed_at-listed.ensures.stands in
-    let view = view_is m t (g.met.W.A.Atoms.fixed_held a) (g.met.W.A.Atoms.unlike a) (g.met.W.A.Atoms.finite a) in
-    retry_gains m t e at c.predicate_at-procedure.result c.key_at-first.result (g.met.W.A.Atoms.fixed_held a)
-    (goal_over e.store c.mark-mark.result at c.mark-mark.ensures.mark c.mark-mark.ensures.here c.listed_at-listed.ensures.holds)
-    c.predicate_at-procedure.ensures c.key_at-first.ensures (g.W.A.Atoms.asked a) (g.W.A.Atoms.asked c.visit.new.atoms)
-    c.args.purpose c.args.goal (listed_reads c.args.purpose e.store c.args.goal at over is (view_of m t) view)
-    c.args.generation c.args.place c.requires.open.listed c.visit.ensures.asked
+pub returns-in-None-clause-budgets : goal.returns-in-None-clause-budgets
+returns-in-None-clause-budgets g c =
+    let m : Names = g.W.A.Atoms.held c.args.atoms.now in
+    let k : Names = g.W.A.Atoms.held c.retry_known.new.atoms in
+    let t : Told = g.W.World.told c.args.world.now in
+    let u : Told = g.W.World.told c.retry_known.new.world in
+    let e : Search = c.args.search.now in
+    let d : Search = c.retry_known.new.search in
+    let none = where_none ((u ≡ t) × (d ≡ e)) c.in_ok-known.known c.in-None.is c.in_ok-known.ensures.none in
+    from_there (λ (m : Names) (t : Told) (e : Search). UnlessMemory c.retry_anew.result (c.retry_anew.new.search.budgets ≡ e.budgets)) m k t u e d c.retry_known.ensures.held none.0 none.1 c.retry_anew.ensures.budgets
 
-pub returns-in_err-put_back-in-Worn-clause-asked : goal.returns-in_err-put_back-in-Worn-clause-asked
-returns-in_err-put_back-in-Worn-clause-asked g c =
-    let a = c.args.atoms.now in
-    let m = g.W.A.Atoms.held a in
-    let t = g.W.World.told c.args.world.now in
-    let e = c.args.search.now in
-    let over = goal_over e.store c.mark-mark.result c.args.goal c.mark-mark.ensures.mark c.mark-mark.ensures.here c.requires.goal in
-    let at = c.listed_at-listed.result in
-    let is = c.listed_at-listed.ensures.stands in
-    let view = view_is m t (g.met.W.A.Atoms.fixed_held a) (g.met.W.A.Atoms.unlike a) (g.met.W.A.Atoms.finite a) in
-    retry_gains m t e at c.predicate_at-procedure.result c.key_at-first.result (g.met.W.A.Atoms.fixed_held a)
-    (goal_over e.store c.mark-mark.result at c.mark-mark.ensures.mark c.mark-mark.ensures.here c.listed_at-listed.ensures.holds)
-    c.predicate_at-procedure.ensures c.key_at-first.ensures (g.W.A.Atoms.asked a) (g.W.A.Atoms.asked c.visit.new.atoms)
-    c.args.purpose c.args.goal (listed_reads c.args.purpose e.store c.args.goal at over is (view_of m t) view)
-    c.args.generation c.args.place c.requires.open.listed c.visit.ensures.asked
+pub returns-in-None-clause-holds : goal.returns-in-None-clause-holds
+returns-in-None-clause-holds g c =
+    let m : Names = g.W.A.Atoms.held c.args.atoms.now in
+    let k : Names = g.W.A.Atoms.held c.retry_known.new.atoms in
+    let t : Told = g.W.World.told c.args.world.now in
+    let u : Told = g.W.World.told c.retry_known.new.world in
+    let e : Search = c.args.search.now in
+    let d : Search = c.retry_known.new.search in
+    let none = where_none ((u ≡ t) × (d ≡ e)) c.in_ok-known.known c.in-None.is c.in_ok-known.ensures.none in
+    from_there (λ (m : Names) (t : Told) (e : Search). AreHeld m (g.W.A.Atoms.held c.retry_anew.new.atoms)) m k t u e d c.retry_known.ensures.held none.0 none.1 c.retry_anew.ensures.holds
 
-pub returns-in_ok-outcome-in-Served-clause-asked : goal.returns-in_ok-outcome-in-Served-clause-asked
-returns-in_ok-outcome-in-Served-clause-asked g c =
-    let a = c.args.atoms.now in
-    let m = g.W.A.Atoms.held a in
-    let t = g.W.World.told c.args.world.now in
-    let e = c.args.search.now in
-    let over = goal_over e.store c.mark-mark.result c.args.goal c.mark-mark.ensures.mark c.mark-mark.ensures.here c.requires.goal in
-    let at = c.listed_at-listed.result in
-    let is = c.listed_at-listed.ensures.stands in
-    let view = view_is m t (g.met.W.A.Atoms.fixed_held a) (g.met.W.A.Atoms.unlike a) (g.met.W.A.Atoms.finite a) in
-    retry_gains m t e at c.predicate_at-procedure.result c.key_at-first.result (g.met.W.A.Atoms.fixed_held a)
-    (goal_over e.store c.mark-mark.result at c.mark-mark.ensures.mark c.mark-mark.ensures.here c.listed_at-listed.ensures.holds)
-    c.predicate_at-procedure.ensures c.key_at-first.ensures (g.W.A.Atoms.asked a) (g.W.A.Atoms.asked c.visit.new.atoms)
-    c.args.purpose c.args.goal (listed_reads c.args.purpose e.store c.args.goal at over is (view_of m t) view)
-    c.args.generation c.args.place c.requires.open.listed c.visit.ensures.asked
+pub returns-in-None-clause-refusals : goal.returns-in-None-clause-refusals
+returns-in-None-clause-refusals g c =
+    subst (λ l. UnlessMemory c.retry_anew.result (g.W.A.Atoms.refusals c.retry_anew.new.atoms ≡ l ++ refusals_in c.retry_anew.result)) c.retry_known.ensures.refusals c.retry_anew.ensures.refusals
 
-pub returns-in_ok-put_back-in-NeedsAtoms-clause-asked : goal.returns-in_ok-put_back-in-NeedsAtoms-clause-asked
-returns-in_ok-put_back-in-NeedsAtoms-clause-asked g c =
-    let a = c.args.atoms.now in
-    let m = g.W.A.Atoms.held a in
-    let t = g.W.World.told c.args.world.now in
-    let e = c.args.search.now in
-    let over = goal_over e.store c.mark-mark.result c.args.goal c.mark-mark.ensures.mark c.mark-mark.ensures.here c.requires.goal in
-    let at = c.listed_at-listed.result in
-    let is = c.listed_at-listed.ensures.stands in
-    let view = view_is m t (g.met.W.A.Atoms.fixed_held a) (g.met.W.A.Atoms.unlike a) (g.met.W.A.Atoms.finite a) in
-    retry_gains m t e at c.predicate_at-procedure.result c.key_at-first.result (g.met.W.A.Atoms.fixed_held a)
-    (goal_over e.store c.mark-mark.result at c.mark-mark.ensures.mark c.mark-mark.ensures.here c.listed_at-listed.ensures.holds)
-    c.predicate_at-procedure.ensures c.key_at-first.ensures (g.W.A.Atoms.asked a) (g.W.A.Atoms.asked c.visit.new.atoms)
-    c.args.purpose c.args.goal (listed_reads c.args.purpose e.store c.args.goal at over is (view_of m t) view)
-    c.args.generation c.args.place c.requires.open.listed c.visit.ensures.asked
+pub returns-in-None-clause-asked : goal.returns-in-None-clause-asked
+returns-in-None-clause-asked g c =
+    let m : Names = g.W.A.Atoms.held c.args.atoms.now in
+    let k : Names = g.W.A.Atoms.held c.retry_known.new.atoms in
+    let t : Told = g.W.World.told c.args.world.now in
+    let u : Told = g.W.World.told c.retry_known.new.world in
+    let e : Search = c.args.search.now in
+    let d : Search = c.retry_known.new.search in
+    let none = where_none ((u ≡ t) × (d ≡ e)) c.in_ok-known.known c.in-None.is c.in_ok-known.ensures.none in
+    from_there (λ (m : Names) (t : Told) (e : Search). Gains (IsRetryAsked m t e c.args.purpose c.args.goal c.args.generation c.args.place) (g.W.A.Atoms.asked c.args.atoms.now) (g.W.A.Atoms.asked c.retry_anew.new.atoms)) m k t u e d c.retry_known.ensures.held none.0 none.1 (subst (λ a. Gains (IsRetryAsked k u d c.args.purpose c.args.goal c.args.generation c.args.place) a (g.W.A.Atoms.asked c.retry_anew.new.atoms)) c.retry_known.ensures.asked c.retry_anew.ensures.asked)
 
-pub returns-in_ok-put_back-in-Retry-clause-asked : goal.returns-in_ok-put_back-in-Retry-clause-asked
-returns-in_ok-put_back-in-Retry-clause-asked g c =
-    let a = c.args.atoms.now in
-    let m = g.W.A.Atoms.held a in
-    let t = g.W.World.told c.args.world.now in
-    let e = c.args.search.now in
-    let over = goal_over e.store c.mark-mark.result c.args.goal c.mark-mark.ensures.mark c.mark-mark.ensures.here c.requires.goal in
-    let at = c.listed_at-listed.result in
-    let is = c.listed_at-listed.ensures.stands in
-    let view = view_is m t (g.met.W.A.Atoms.fixed_held a) (g.met.W.A.Atoms.unlike a) (g.met.W.A.Atoms.finite a) in
-    retry_gains m t e at c.predicate_at-procedure.result c.key_at-first.result (g.met.W.A.Atoms.fixed_held a)
-    (goal_over e.store c.mark-mark.result at c.mark-mark.ensures.mark c.mark-mark.ensures.here c.listed_at-listed.ensures.holds)
-    c.predicate_at-procedure.ensures c.key_at-first.ensures (g.W.A.Atoms.asked a) (g.W.A.Atoms.asked c.visit.new.atoms)
-    c.args.purpose c.args.goal (listed_reads c.args.purpose e.store c.args.goal at over is (view_of m t) view)
-    c.args.generation c.args.place c.requires.open.listed c.visit.ensures.asked
+pub returns-in-Some-clause-holds : goal.returns-in-Some-clause-holds
+returns-in-Some-clause-holds g c = same_held (g.W.A.Atoms.held c.args.atoms.now) (g.W.A.Atoms.held c.retry_known.new.atoms) c.retry_known.ensures.held
 
-pub returns-in_ok-put_back-in-Worn-clause-asked : goal.returns-in_ok-put_back-in-Worn-clause-asked
-returns-in_ok-put_back-in-Worn-clause-asked g c =
-    let a = c.args.atoms.now in
-    let m = g.W.A.Atoms.held a in
-    let t = g.W.World.told c.args.world.now in
-    let e = c.args.search.now in
-    let over = goal_over e.store c.mark-mark.result c.args.goal c.mark-mark.ensures.mark c.mark-mark.ensures.here c.requires.goal in
-    let at = c.listed_at-listed.result in
-    let is = c.listed_at-listed.ensures.stands in
-    let view = view_is m t (g.met.W.A.Atoms.fixed_held a) (g.met.W.A.Atoms.unlike a) (g.met.W.A.Atoms.finite a) in
-    retry_gains m t e at c.predicate_at-procedure.result c.key_at-first.result (g.met.W.A.Atoms.fixed_held a)
-    (goal_over e.store c.mark-mark.result at c.mark-mark.ensures.mark c.mark-mark.ensures.here c.listed_at-listed.ensures.holds)
-    c.predicate_at-procedure.ensures c.key_at-first.ensures (g.W.A.Atoms.asked a) (g.W.A.Atoms.asked c.visit.new.atoms)
-    c.args.purpose c.args.goal (listed_reads c.args.purpose e.store c.args.goal at over is (view_of m t) view)
-    c.args.generation c.args.place c.requires.open.listed c.visit.ensures.asked
+pub returns-in-Some-clause-refusals : goal.returns-in-Some-clause-refusals
+returns-in-Some-clause-refusals g c = c.retry_known.ensures.refusals ∙ sym (append-nil (g.W.A.Atoms.refusals c.args.atoms.now))
 
-pub returns-in-Memory-clause-asked : goal.returns-in-Memory-clause-asked
-returns-in-Memory-clause-asked g c =
-    let a = c.args.atoms.now in
-    let m = g.W.A.Atoms.held a in
-    let t = g.W.World.told c.args.world.now in
-    let e = c.args.search.now in
-    let over = goal_over e.store c.mark-mark.result c.args.goal c.mark-mark.ensures.mark c.mark-mark.ensures.here c.requires.goal in
-    let at = c.listed_at-listed.result in
-    let is = c.listed_at-listed.ensures.stands in
-    let view = view_is m t (g.met.W.A.Atoms.fixed_held a) (g.met.W.A.Atoms.unlike a) (g.met.W.A.Atoms.finite a) in
-    retry_gains m t e at c.predicate_at-procedure.result c.key_at-first.result (g.met.W.A.Atoms.fixed_held a)
-    (goal_over e.store c.mark-mark.result at c.mark-mark.ensures.mark c.mark-mark.ensures.here c.listed_at-listed.ensures.holds)
-    c.predicate_at-procedure.ensures c.key_at-first.ensures (g.W.A.Atoms.asked a) (g.W.A.Atoms.asked c.visit.new.atoms)
-    c.args.purpose c.args.goal (listed_reads c.args.purpose e.store c.args.goal at over is (view_of m t) view)
-    c.args.generation c.args.place c.requires.open.listed c.visit.ensures.asked
+pub returns-in-Some-clause-asked : goal.returns-in-Some-clause-asked
+returns-in-Some-clause-asked g c = gains_nothing (IsRetryAsked (g.W.A.Atoms.held c.args.atoms.now) (g.W.World.told c.args.world.now) c.args.search.now c.args.purpose c.args.goal c.args.generation c.args.place) (g.W.A.Atoms.asked c.args.atoms.now) (g.W.A.Atoms.asked c.retry_known.new.atoms) c.retry_known.ensures.asked
+
+pub returns-in_err-known-clause-holds : goal.returns-in_err-known-clause-holds
+returns-in_err-known-clause-holds g c = same_held (g.W.A.Atoms.held c.args.atoms.now) (g.W.A.Atoms.held c.retry_known.new.atoms) c.retry_known.ensures.held
+
+pub returns-in_err-known-clause-asked : goal.returns-in_err-known-clause-asked
+returns-in_err-known-clause-asked g c = gains_nothing (IsRetryAsked (g.W.A.Atoms.held c.args.atoms.now) (g.W.World.told c.args.world.now) c.args.search.now c.args.purpose c.args.goal c.args.generation c.args.place) (g.W.A.Atoms.asked c.args.atoms.now) (g.W.A.Atoms.asked c.retry_known.new.atoms) c.retry_known.ensures.asked
