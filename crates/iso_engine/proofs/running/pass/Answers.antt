@@ -70,5 +70,5 @@ returns-in_ok-list-in-Conjunction-clause-done c list is t view =
     (ap (λ (x : Search). x.next_variable) two.kept ∙ ap (λ (x : Search). x.next_variable) one.kept)
     (ap (λ (x : Search). x.inferences) two.kept ∙ ap (λ (x : Search). x.inferences) one.kept))
     ∙ conjoined (limits_in r e) (state_in r e) n g (reads v e.store left) (reads v e.store right) c.args.cut
-    ∙ ap (take_up (limits_in r e) (state_in r e) n g c.args.cut) (sym (ap (construction v e.store) c.in-Conjunction.is) ∙ c.construct_at.ensures.stands v view))
+    ∙ ap (take_up (limits_in r e) (state_in r e) n g c.args.cut) (sym (ap (construction v e.store) c.in-Conjunction.is) ∙ c.requires.stands v view))
     refl

@@ -1,6 +1,10 @@
-use Rattle.std.proofs.Common.{◌≡◌, []}
+use Rattle.std.proofs.Common.{◌≡◌, [], subst}
 use Rattle.std.proofs.lemmas.Result.{IfOk-weaker}
+use Rattle.world_api.specs.Gains.{Gains}
 use Rattle.iso_search.specs.declared.failure.Back.TheVariants.{Retry}
+use Rattle.iso_search.specs.declared.search.Search.{Search}
+use Rattle.iso_engine.specs.Asked.{AsksFor}
+use Rattle.iso_engine.specs.declared.engine.Engine.{Engine}
 use Rattle.iso_engine.specs.Ready.{IsReady}
 use Rattle.iso_engine.specs.Slices.{IsStepped}
 use Rattle.iso_engine.specs.Spending.{IsSpent}
@@ -123,3 +127,12 @@ returns-in-Some-clause-asked g c =
     let r = c.in-Some.left in
     retry_asks_for (g.W.A.Atoms.held a) (g.W.World.told c.args.world.now) e x r.purpose r.goal r.generation r.place r.next c.requires.fails
     c.in-Some.ensures.taken (g.W.A.Atoms.asked a) (g.W.A.Atoms.asked c.retry.new.atoms) c.retry.ensures.asked
+
+pub returns-clause-asked : goal.returns-clause-asked
+returns-clause-asked g c =
+    let e = c.args.self.now in
+    let a = c.args.atoms.now in
+    subst
+    (λ (s : Search). let y : Engine = record e { search = s } in
+    Gains (AsksFor (g.W.A.Atoms.held a) (g.W.World.told c.args.world.now) y) (g.W.A.Atoms.asked a) (g.W.A.Atoms.asked c.fail_apart.new.atoms))
+    c.in_default.ensures.none c.fail_apart.ensures.asked
