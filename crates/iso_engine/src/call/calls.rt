@@ -113,7 +113,7 @@ fn call_known<W: World<Term = Stored>>(
 
 /// The same for a purpose, where an inference can be made: the clauses for the goal at a place, or for the head of the rule
 /// there, are tried with it.
-#[inline(always)]
+#[inline(never)]
 pub fn look_through<W: World<Term = Stored>>(
     search: &mut Search,
     purpose: Purpose,

@@ -2,7 +2,7 @@ use Rattle.std.proofs.Common.{◌≡◌, [], ◌++◌, List, Some, refl, sym, su
 use Rattle.std.specs.Prelude.{encode_utf8_all}
 use Rattle.std.proofs.lemmas.Result.{IfOk-weaker}
 use Rattle.pl_model.specs.Resolution.{Output}
-use Rattle.iso_engine.specs.declared.doing.Doing.TheVariants.{Running, Throwing, Erasing, Clearing, Ended}
+use Rattle.iso_engine.specs.declared.doing.Doing.TheVariants.{Throwing, Erasing, Clearing, Ended}
 use Rattle.iso_engine.specs.declared.engine.Engine.{Engine}
 use Rattle.iso_engine.specs.declared.slices.Slice.TheVariants.{Ended as SliceEnded}
 use Rattle.iso_engine.specs.Ready.{Steps}
