@@ -1,4 +1,4 @@
-use Rattle.std.proofs.Common.{◌≡◌, ◌∷◌, [], ◌++◌, List, refl, sym, subst}
+use Rattle.std.proofs.Common.{◌≡◌, [], ◌++◌, List, refl, sym, subst}
 use Rattle.std.specs.Prelude.{encode_utf8_all}
 use Rattle.std.proofs.lemmas.Result.{IfOk-weaker}
 use Rattle.pl_model.specs.Resolution.{Output}
