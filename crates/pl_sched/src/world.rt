@@ -33,7 +33,8 @@ use term_store::{ArgumentKey, Stored};
 use world_api::{After, Answer, Asked, Found, Reply, Visit, World};
 
 /// The shared state as an engine that this worker carries sees it: its front, and before each visit the gate, and the lock,
-/// before which the visit is made ready. Contracts see it as what the front knows.
+/// before which the visit is made ready. Before a call `again` calls the gate, and the visit does not call it once more. Contracts
+/// see it as what the front knows.
 #[derive(Drop)]
 pub struct HubWorld<'a, 't, E: Writes + Drop, K: Command, R: Wait, G: Gate> {
     runtime: &'a R,
@@ -147,7 +148,6 @@ impl<'a, 't, E: Writes + Drop, K: Command, R: Wait, G: Gate> World
         ensures asked { Gains (IsInAnswer term_by clause_key (text_of (names (seen atoms.old.atoms.seat))) visit (told_of K.goals self.old))
             (Some (requests (seen atoms.old.atoms.seat))) (Some (requests (seen atoms.new.atoms.seat))) }
     {
-        self.gate.before_visit(self.worker, self.engine);
         match visit {
             Visit::Call { procedure, first } => {
                 let asked = Asked {
@@ -169,9 +169,13 @@ impl<'a, 't, E: Writes + Drop, K: Command, R: Wait, G: Gate> World
                     first,
                     after,
                 };
+                self.gate.before_visit(self.worker, self.engine);
                 self.anew(&asked, atoms)
             }
-            visit => self.other(visit, &mut atoms.atoms),
+            visit => {
+                self.gate.before_visit(self.worker, self.engine);
+                self.other(visit, &mut atoms.atoms)
+            }
         }
     }
 
@@ -186,7 +190,7 @@ impl<'a, 't, E: Writes + Drop, K: Command, R: Wait, G: Gate> World
         ensures refusals { (seen atoms.new.atoms.seat).refusals ≡ (seen atoms.old.atoms.seat).refusals }
         ensures asked { Some (requests (seen atoms.new.atoms.seat)) ≡ Some (requests (seen atoms.old.atoms.seat)) }
     {
-        self.gate.before_visit(self.worker, self.engine);
+        self.call_gate(asked);
         self.known(asked, atoms)
     }
 
@@ -297,6 +301,14 @@ impl<'a, 't, E: Writes + Drop, K: Command, R: Wait, G: Gate> HubWorld<'a, 't, E,
         answer
     }
 
+    // Calls the gate before a call. Before a next clause it is called where the clause is kept, and else before the visit.
+    #[inline]
+    fn call_gate(&self, asked: &Asked<ArgumentKey>) {
+        if asked.after.is_none() {
+            self.gate.before_visit(self.worker, self.engine);
+        }
+    }
+
     // The generation of the answer that is kept, where the history has no further entry.
     #[inline]
     fn known(&mut self, asked: &Asked<ArgumentKey>, atoms: &mut KnownAtoms<'t, K>) -> Option<u64>
@@ -310,7 +322,10 @@ impl<'a, 't, E: Writes + Drop, K: Command, R: Wait, G: Gate> HubWorld<'a, 't, E,
         }
         match &asked.after {
             None => self.revisit(asked, atoms),
-            Some(after) => Some(after.generation),
+            Some(after) => {
+                self.gate.before_visit(self.worker, self.engine);
+                Some(after.generation)
+            }
         }
     }
 
