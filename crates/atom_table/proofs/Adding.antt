@@ -5,14 +5,14 @@ use Rattle.pl_term.specs.Texts.{size}
 use Rattle.atom_words.specs.Layout.{first_of}
 use Rattle.atom_words.specs.Plays.{Alone}
 use Rattle.atom_words.specs.Kinds.{fresh, linking, linked_own, held_own, after}
-use Rattle.atom_words.specs.Seats.{Puts}
+use Rattle.atom_words.specs.Seats.{PutsRow}
 use Rattle.atom_words.specs.declared.view.Walk.{Walk}
 use Rattle.atom_words.specs.declared.view.Cause.TheVariants.{Moved as CauseMoved}
 use Rattle.atom_words.specs.declared.view.Refusal.{Refusal}
 use Rattle.atom_words.specs.declared.view.Refusal.TheVariants.{Again as RefusalAgain, Worn as RefusalWorn}
 use Rattle.atom_words.specs.declared.view.View.{View}
 use Rattle.atom_words.specs.declared.kind.Kind.TheVariants.{PutLink, Link, Validate, Release, Refuse}
-use Rattle.atom_words.proofs.Putting.{puts_keep, puts_own}
+use Rattle.atom_words.proofs.Putting.{row_keeps, row_own}
 use Rattle.bucket_rows.specs.declared.missed.Missed.{Missed}
 use Rattle.bucket_rows.specs.declared.missed.Missed.TheVariants.{Moved, Pending, Closed, Worn}
 use Rattle.bucket_rows.specs.Walks.{spelled, Links}
@@ -54,8 +54,8 @@ module _ (row : List ℕ) (t : Walk) (v : View) (k : ℕ) (own : v.own ≡ Some 
     pub none : w.own ≡ None
     pub refusals : w.refusals ≡ v.refusals ++ refused (made_by r)
 
-  put_refusals : (u : View) → Puts row v u → u.refusals ≡ v.refusals
-  put_refusals u p = puts_keep (λ (y : View). y.refusals) (λ _ _. refl) (λ _ _ _. refl) row v u p
+  put_refusals : (u : View) → PutsRow row v u → u.refusals ≡ v.refusals
+  put_refusals u p = row_keeps (λ (y : View). y.refusals) (λ _ _. refl) (λ _ _. refl) (λ _ _ _. refl) (λ _. refl) row v u p
 
   pub added : (r : Result ℕ Missed) (w : View) → Adds row t v r w → Added r w
   added (Ok a) w e = subst (Added (Ok a)) (sym e.2) (let b = carried_beside v e.0 (beside_puts row v e.0 e.1) in record {
@@ -76,12 +76,12 @@ module _ (row : List ℕ) (t : Walk) (v : View) (k : ℕ) (own : v.own ≡ Some 
     refusals = ap (λ l. l ++ RefusalWorn x ∷ []) (put_refusals q.0 q.1);
   })
 
-  put_held : (u : View) → Puts row v u → u.held ≡ v.held
-  put_held u p = puts_keep (λ (y : View). y.held) (λ _ _. refl) (λ _ _ _. refl) row v u p
+  put_held : (u : View) → PutsRow row v u → u.held ≡ v.held
+  put_held u p = row_keeps (λ (y : View). y.held) (λ _ _. refl) (λ _ _. refl) (λ _ _ _. refl) (λ _. refl) row v u p
 
   -- what is held then
   pub added_held : (a : ℕ) (w : View) → Adds row t v (Ok a) w → w.held ≡ v.held ++ record { slot = k; text = row } ∷ []
-  added_held a w e = let own_is : e.0.own ≡ Some (record { slot = k; text = row; link = None; linked = false }) = puts_own (fresh k) row v e.0 own e.1 in ap (λ (y : View). y.held) e.2
+  added_held a w e = let own_is = (row_own (fresh k) row v e.0 refl own e.1).1 in ap (λ (y : View). y.held) e.2
       ∙ (λ i. put_held e.0 e.1 i ++ held_own (option_map linked_own (option_map (linking (first_of t.word)) (own_is i))))
 
   pub unadded_held : (m : Missed) (w : View) → Adds row t v (Err m) w → w.held ≡ v.held
@@ -91,7 +91,7 @@ module _ (row : List ℕ) (t : Walk) (v : View) (k : ℕ) (own : v.own ≡ Some 
   unadded_held (Worn x) w e = ap (λ (y : View). y.held) e.2.2 ∙ put_held e.2.0 e.2.1
 
 -- a slot that was not linked is given back
-pub adds_err : (row : List ℕ) (t : Walk) (v u w x : View) → Puts row v u → (m : Missed) → Links u t (Err m) w → x ≡ after w (Release ∷ []) → Adds row t v (Err m) x
+pub adds_err : (row : List ℕ) (t : Walk) (v u w x : View) → PutsRow row v u → (m : Missed) → Links u t (Err m) w → x ≡ after w (Release ∷ []) → Adds row t v (Err m) x
 adds_err row t v u w x put (Moved old new) e last = (e.0, e.1, (u, put, last ∙ ap (λ (y : View). after y (Release ∷ [])) e.2))
 adds_err row t v u w x put (Pending k y) e last = absurd e
 adds_err row t v u w x put (Closed y) e last = absurd e

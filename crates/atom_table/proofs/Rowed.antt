@@ -7,7 +7,7 @@ use Rattle.std.proofs.lemmas.Bool.{eq-eqb, lt-ltb}
 use Rattle.std.proofs.lemmas.List.Folds.{list_any-append}
 use Rattle.std.proofs.Math.Bool.{or-true}
 use Rattle.atom_words.specs.Layout.{phase_of}
-use Rattle.atom_words.specs.Board.{head_at, text_at}
+use Rattle.atom_words.specs.Board.{head_at}
 use Rattle.atom_words.specs.Kinds.{Idle, RowOk, view_after, after}
 use Rattle.atom_words.specs.Seats.{seen, Same}
 use Rattle.atom_words.specs.declared.size.Size.{Size}
@@ -97,7 +97,7 @@ found_start : (z : Size) (h x : ℕ) → is_found z x (Start h x) ≡ true
 found_start z h x = eq-eqb x x refl
 
 found_load : (z : Size) (h x : ℕ) → h < z.heads → is_found z x (Load (head_at z h) x) ≡ true
-found_load z h x inside = let same : (x == x) ≡ true = eq-eqb x x refl in let low : nat_lt (head_at z 0) (head_at z h + 1) ≡ true = lt-ltb (head_at z 0) (head_at z h + 1) (omega arith) in let high : nat_lt (head_at z h) (text_at z 0) ≡ true = lt-ltb (head_at z h) (text_at z 0) (omega (arith, inside)) in
+found_load z h x inside = let same : (x == x) ≡ true = eq-eqb x x refl in let low : nat_lt (head_at z 0) (head_at z h + 1) ≡ true = lt-ltb (head_at z 0) (head_at z h + 1) (omega arith) in let high : nat_lt (head_at z h) (head_at z z.heads) ≡ true = lt-ltb (head_at z h) (head_at z z.heads) (omega (arith, inside)) in
     λ i. same i && (low i && high i)
 
 pub has_found : (h x : ℕ) (v w : View) → h < v.size.heads → FoundWorn h x v w → HasFound x w

@@ -15,6 +15,8 @@ use Rattle.atom_words.specs.Texts.{packed, row_of}
 use Rattle.atom_words.proofs.Putting.{row_word_is, row_first}
 use Rattle.atom_words.proofs.RowBytes.{Bytes, bytes_of-row_of}
 use Rattle.bucket_rows.specs.Walks.{spelled}
+use Rattle.bucket_rows.specs.Standing.{IsTextRow}
+use Rattle.bucket_rows.proofs.Filling.{text_row_is}
 use Rattle.atom_table.specs.Holding.{unspelled, Spelled}
 
 -- BYTES OF UTF-8
@@ -94,3 +96,7 @@ unspelled_spelled t short scalars = ap chars (bytes_of-row_of (encode_utf8_all t
 
 pub spelled_is : (t : Chars) → size t ≤ 248 → all_scalars t ≡ true → Spelled (spelled t)
 spelled_is t short scalars = let back = sym (unspelled_spelled t short scalars) in (subst (λ (x : Chars). size x ≤ 248) back short, subst (λ (x : Chars). all_scalars x ≡ true) back scalars, ap spelled back)
+
+-- the words of a text
+pub spelled_row : (row : List ℕ) → Spelled row → IsTextRow row
+spelled_row row t = subst IsTextRow (sym t.2) (text_row_is (Rattle.std.proofs.Common.encode_utf8_all (unspelled row)) t.0)

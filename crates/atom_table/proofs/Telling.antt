@@ -51,7 +51,7 @@ pub record Took (v u : View) : Type 0 where
   pub refusals : u.refusals ≡ v.refusals
 
 reserve_refusals : (v : View) (k : ℕ) (w : View) → Reserves v k w → w.refusals ≡ v.refusals
-reserve_refusals v k w r = ⊎_elim (λ (e : w ≡ after v (Reserve k ∷ [])). ap (λ (y : View). y.refusals) e) (λ (e : w ≡ after v (Load (atom_at v.size k) 4 ∷ Reserve k ∷ [])). ap (λ (y : View). y.refusals) e) r
+reserve_refusals v k w r = ap (λ (y : View). y.refusals) r.1
 
 pub took : (from : ℕ) (v u : View) (a : Unit {0}) → Takes from v (Ok a) u → Took v u
 took from v u a t = let st : View = after v (StartPass t.0 ∷ []) in let mid : View = t.3.0 in let slot : ℕ = (from + t.1) % v.size.slots in

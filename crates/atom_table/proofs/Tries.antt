@@ -34,7 +34,7 @@ tried_start v x w e = subst (Tried v) (sym e) (record { beside = record { gone =
 pub tried_taken : (v : View) (k x : ℕ) (w : View) → FindsTaken v k x w → Tried v w
 tried_taken v k x w f = ⊎_elim
     (λ (t : (state_of x ≢ 0) × (w ≡ after v (Refused k 0 x ∷ []))). subst (Tried v) (sym t.1) (record { beside = record { gone = refl; size = refl; held = refl; fixed = refl; counts = refl; asked = refl; undealt = refl; cycle = refl; sweep = refl; risen = refl }; own = refl; walk = refl; refusals = refl }))
-    (λ (t : (x ≢ 4) × (w ≡ after v (Load (atom_at v.size k) 4 ∷ Refused k 4 x ∷ []))). subst (Tried v) (sym t.1) (record { beside = record { gone = refl; size = refl; held = refl; fixed = refl; counts = refl; asked = refl; undealt = refl; cycle = refl; sweep = refl; risen = refl }; own = refl; walk = refl; refusals = refl })) f
+    (λ (t : (free : ℕ) × (x ≢ free) × (w ≡ after v (Load (atom_at v.size k) free ∷ Refused k free x ∷ []))). subst (Tried v) (sym t.2) (record { beside = record { gone = refl; size = refl; held = refl; fixed = refl; counts = refl; asked = refl; undealt = refl; cycle = refl; sweep = refl; risen = refl }; own = refl; walk = refl; refusals = refl })) f
 
 -- The pass at hand began at the epoch word x, and has counted n slots from `from` on
 pub record Passed (x from n : ℕ) (v : View) : Type 0 where
@@ -50,7 +50,7 @@ passed_start v x from w e = subst (Passed x from 0) (sym e) (record { passing = 
 pass_after : (v : View) (k x : ℕ) (w : View) → FindsTaken v k x w → w.pass ≡ option_map (counting v.size.slots k) v.pass
 pass_after v k x w f = ⊎_elim
     (λ (t : (state_of x ≢ 0) × (w ≡ after v (Refused k 0 x ∷ []))). ap (λ (y : View). y.pass) t.1)
-    (λ (t : (x ≢ 4) × (w ≡ after v (Load (atom_at v.size k) 4 ∷ Refused k 4 x ∷ []))). ap (λ (y : View). y.pass) t.1) f
+    (λ (t : (free : ℕ) × (x ≢ free) × (w ≡ after v (Load (atom_at v.size k) free ∷ Refused k free x ∷ []))). ap (λ (y : View). y.pass) t.2) f
 
 counts_on : (slots k first n : ℕ) → n < slots → (0 < n → k ≡ (first + n) % slots) → next_counted slots k first n ≡ n + 1
 counts_on slots k first n low same = dite (ℕ_discrete n 0)

@@ -5,6 +5,8 @@ use Rattle.pl_term.specs.Tree.{Chars}
 use Rattle.pl_term.specs.Texts.{size}
 use Rattle.atom_words.specs.Texts.{bytes_of, bucket}
 use Rattle.atom_words.specs.Layout.{version_of, worn}
+use Rattle.atom_words.specs.Board.{text_at}
+use Rattle.atom_words.specs.declared.size.Size.{Size}
 use Rattle.atom_words.specs.Seats.{seen, Fits, Has}
 use Rattle.atom_words.specs.Plays.{Alone}
 use Rattle.atom_words.specs.Kinds.{counted}
@@ -86,7 +88,7 @@ asked_after row (TooLong b) asked = asked
 asked_after row (Worn x) asked = asked ++ row ∷ []
 asked_after row Memory asked = asked
 
--- loads of words that follow each other, from the place p on
-abbrev pub loads : ℕ → List ℕ → List Kind
-loads p [] = []
-loads p (x ∷ xs) = Load p x ∷ loads (p + 1) xs
+-- loads of the words of the text of the slot k, from the word n on
+abbrev pub loads : Size → ℕ → ℕ → List ℕ → List Kind
+loads z k n [] = []
+loads z k n (x ∷ xs) = Load (text_at z k n) x ∷ loads z k (n + 1) xs

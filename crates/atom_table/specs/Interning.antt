@@ -2,7 +2,7 @@
 use Rattle.std.specs.Prelude.{◌≡◌, ◌≢◌, ◌⊎◌, ℕ, zero, suc, ◌+◌, ◌%◌, ◌<◌, ◌≤◌, List, [], ◌∷◌, Some, None, Result, Ok, Err}
 use Rattle.atom_words.specs.Layout.{first_of, version_of, worn}
 use Rattle.atom_words.specs.Kinds.{after}
-use Rattle.atom_words.specs.Seats.{Puts, Reserves, FindsTaken}
+use Rattle.atom_words.specs.Seats.{PutsRow, Reserves, FindsTaken}
 use Rattle.atom_words.specs.declared.view.Walk.{Walk}
 use Rattle.atom_words.specs.declared.view.Pass.{Pass}
 use Rattle.atom_words.specs.declared.view.Cause.{Cause}
@@ -28,11 +28,11 @@ Takes from v (Err p) w = (x : ℕ) × (y : ℕ) × ((u : View) × Tries v.size.s
 
 -- The text is put in the reserved slot, which is linked after the walk t and made valid, or given back
 abbrev pub Adds : List ℕ → Walk → View → Result ℕ Missed → View → Type 0
-Adds row t v (Ok a) w = (u : View) × Puts row v u × (w ≡ after u (PutLink (first_of t.word) ∷ Link ∷ Validate ∷ []))
-Adds row t v (Err (Moved old new)) w = (old ≡ t.word) × (version_of new ≢ version_of old) × ((u : View) × Puts row v u × (w ≡ after u (PutLink (first_of t.word) ∷ Refuse (RefusalAgain (CauseMoved old new)) ∷ Release ∷ [])))
+Adds row t v (Ok a) w = (u : View) × PutsRow row v u × (w ≡ after u (PutLink (first_of t.word) ∷ Link ∷ Validate ∷ []))
+Adds row t v (Err (Moved old new)) w = (old ≡ t.word) × (version_of new ≢ version_of old) × ((u : View) × PutsRow row v u × (w ≡ after u (PutLink (first_of t.word) ∷ Refuse (RefusalAgain (CauseMoved old new)) ∷ Release ∷ [])))
 Adds row t v (Err (Pending k x)) w = ⊥
 Adds row t v (Err (Closed x)) w = ⊥
-Adds row t v (Err (Worn x)) w = (x.head ≡ t.head) × (worn ≤ version_of x.word) × ((u : View) × Puts row v u × (w ≡ after u (Refuse (RefusalWorn x) ∷ Release ∷ [])))
+Adds row t v (Err (Worn x)) w = (x.head ≡ t.head) × (worn ≤ version_of x.word) × ((u : View) × PutsRow row v u × (w ≡ after u (Refuse (RefusalWorn x) ∷ Release ∷ [])))
 
 -- after a walk that did not find the text
 abbrev pub Makes : List ℕ → View → Result ℕ Missed → View → Type 0

@@ -3,7 +3,7 @@ use Rattle.std.specs.Prelude.{◌≡◌, ◌≢◌, ℕ, ◌+◌, ◌^◌, ◌<�
 use Rattle.std.specs.List.{list_any}
 use Rattle.std.specs.Option.{is_some}
 use Rattle.atom_words.specs.Layout.{version_of, worn, phase_of}
-use Rattle.atom_words.specs.Board.{head_at, text_at}
+use Rattle.atom_words.specs.Board.{head_at}
 use Rattle.atom_words.specs.Kinds.{RowOk}
 use Rattle.atom_words.specs.declared.size.Size.{Size}
 use Rattle.atom_words.specs.declared.view.Sweeping.{Sweeping}
@@ -20,7 +20,7 @@ use Rattle.atom_table.specs.declared.resizing.Resized.TheVariants.{Changed, AtLi
 -- a load of a head that found the word x
 abbrev pub is_found : Size → ℕ → Kind → Bool
 is_found z x (Start h y) = y == x
-is_found z x (Load i y) = (y == x) && (nat_lt (head_at z 0) (i + 1) && nat_lt i (text_at z 0))
+is_found z x (Load i y) = (y == x) && (nat_lt (head_at z 0) (i + 1) && nat_lt i (head_at z z.heads))
 is_found z x kind = false
 
 -- the seat has made a load of a head that found the word x, which is worn

@@ -131,7 +131,7 @@ impl<'a, K: NamesTable> Atoms for TableAtoms<'a, K> {
         self.table.text(&mut self.seat, a, buf);
     }
 
-    /// It answers false always, since a text stands in the table alone, where it takes 32 loads to read.
+    /// It answers false always, since a text stands in the table alone, where it takes a load of each of its words to read.
     fn reads(&self, _a: Atom, _text: &Text) -> bool {
         false
     }

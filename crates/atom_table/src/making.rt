@@ -9,7 +9,7 @@ ghost use Rattle.bucket_rows.specs.Walks.{spelled, MissingIn};
 ghost use Rattle.atom_table.specs.Interning.{Takes, Adds};
 
 use atom_api::Atom;
-use atom_words::{AtomSeat, Pass, Words};
+use atom_words::{AtomSeat, Pass, Words, in_circle};
 use bucket_rows::{Missed, link};
 use pl_term::Text;
 use std::convert::AsStr;
@@ -28,7 +28,7 @@ pub fn take_slot(words: &Words, seat: &mut AtomSeat, from: u32) -> Result<(), Pa
     words.start_pass(seat);
     let slots = words.size.slots;
     for i in 0..slots {
-        let slot = ((from as u64 + i) % slots) as u32;
+        let slot = in_circle(from as u64 + i, slots) as u32;
         match words.reserve(seat, slot) {
             Ok(()) => return Ok(()),
             Err(_) => {}

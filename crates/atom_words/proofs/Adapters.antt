@@ -1,5 +1,5 @@
 -- What a kind of step gives to a step of the table. The first four serve every call; an upper crate uses them for the kinds that it makes.
-use Rattle.std.proofs.Common.{◌≡◌, ◌≢◌, ℕ, suc, ◌<◌, eqb, false, List, get_or, set, refl, sym, ap, ◌∙◌, subst}
+use Rattle.std.proofs.Common.{◌≡◌, ◌≢◌, ℕ, suc, ◌+◌, ◌*◌, ◌<◌, eqb, false, List, get_or, set, refl, sym, ap, ◌∙◌, subst}
 use mathlib.Core.Option.{some}
 use lib.ListN.{get_elem?}
 use lib.Seq.{set-get_or}
@@ -26,7 +26,7 @@ module _ (z : Size) (id : ℕ) (me : Sat) (at : ℕ) (then : ℕ → Sat → Typ
 
 -- A step on the word at `at`, which `get` reads and `put` writes
 pub goes_at : (key z : Size) (slots id : ℕ) (me : Sat) (at : ℕ) (f : ℕ → ℕ) (then : ℕ → Sat → Type 0) (get : Board → ℕ) (put : Board → ℕ → Board)
-    → ((b : Board) → Sized z b → get_or (laid b) at 0 ≡ get b) → ((b : Board) (x : ℕ) → Sized z b → set (laid b) at x ≡ laid (put b x))
+    → ((b : Board) → Sized z b → get_or (laid z b) at 0 ≡ get b) → ((b : Board) (x : ℕ) → Sized z b → set (laid z b) at x ≡ laid z (put b x))
     → key ≡ z → me.0.gone ≡ false
     → ((b : Board) (vs : List View) → Kept z b vs → get_elem? vs id ≡ some me.0 → get b < 18446744073709551616 → Picks z id me at then get b (put b (f (get b))))
     → Allows (Rule key) slots id me at f then
@@ -49,7 +49,7 @@ goes_at key z slots id me at f then get put reads writes is here picks s r _ see
 
 -- The same for a load, whose kind leaves the words
 pub load_at : (key z : Size) (slots id : ℕ) (me : Sat) (at : ℕ) (then : ℕ → Sat → Type 0) (get : Board → ℕ)
-    → ((b : Board) → Sized z b → get_or (laid b) at 0 ≡ get b) → key ≡ z → me.0.gone ≡ false
+    → ((b : Board) → Sized z b → get_or (laid z b) at 0 ≡ get b) → key ≡ z → me.0.gone ≡ false
     → ((b : Board) (vs : List View) → Kept z b vs → get_elem? vs id ≡ some me.0 → get b < 18446744073709551616 → Picks z id me at then get b b)
     → Allows (Rule key) slots id me at (λ n. n) then
 load_at key z slots id me at then get reads is here picks s r _ seen small = let r' : Rule z s = subst (λ y. Rule y s) is r in let b : Board = r'.board in
@@ -71,7 +71,7 @@ load_at key z slots id me at then get reads is here picks s r _ seen small = let
 
 -- The same for an exchange of `old` for `new`: a kind where it is made, and a kind of load where it is lost
 pub exchange_at : (key z : Size) (slots id : ℕ) (me : Sat) (at old new : ℕ) (then : ℕ → Sat → Type 0) (get : Board → ℕ) (put : Board → ℕ → Board)
-    → ((b : Board) → Sized z b → get_or (laid b) at 0 ≡ get b) → ((b : Board) (x : ℕ) → Sized z b → set (laid b) at x ≡ laid (put b x))
+    → ((b : Board) → Sized z b → get_or (laid z b) at 0 ≡ get b) → ((b : Board) (x : ℕ) → Sized z b → set (laid z b) at x ≡ laid z (put b x))
     → key ≡ z → me.0.gone ≡ false
     → ((b : Board) (vs : List View) → Kept z b vs → get_elem? vs id ≡ some me.0 → get b ≡ old → Picks z id me at then get b (put b new))
     → ((b : Board) (vs : List View) → Kept z b vs → get_elem? vs id ≡ some me.0 → get b ≢ old → Picks z id me at then get b b)
@@ -129,10 +129,10 @@ pub head_exchange : (key z : Size) (slots id : ℕ) (me : Sat) (h old new : ℕ)
     → Allows (Rule key) slots id me (head_at z h) (λ n. either (eqb n old) new n) then
 head_exchange key z slots id me h old new then is here inside hit miss = exchange_at key z slots id me (head_at z h) old new then (λ y. head y h) (λ y x. with_head y h x) (λ b sz. head_read z b sz h inside) (λ b x sz. head_write z b sz h x inside) is here hit miss
 
-pub text_goes : (key z : Size) (slots id : ℕ) (me : Sat) (i : ℕ) (f : ℕ → ℕ) (then : ℕ → Sat → Type 0) → key ≡ z → me.0.gone ≡ false
-    → ((b : Board) (vs : List View) → Kept z b vs → get_elem? vs id ≡ some me.0 → get_or b.texts i 0 < 18446744073709551616 → Picks z id me (text_at z i) then (λ y. get_or y.texts i 0) b (with_text b i (f (get_or b.texts i 0))))
-    → Allows (Rule key) slots id me (text_at z i) f then
-text_goes key z slots id me i f then is here picks = goes_at key z slots id me (text_at z i) f then (λ y. get_or y.texts i 0) (λ y x. with_text y i x) (λ b sz. text_read z b sz i) (λ b x sz. text_write z b sz i x) is here picks
+pub text_goes : (key z : Size) (slots id : ℕ) (me : Sat) (k n : ℕ) (f : ℕ → ℕ) (then : ℕ → Sat → Type 0) → key ≡ z → me.0.gone ≡ false → k < z.slots → n < 32
+    → ((b : Board) (vs : List View) → Kept z b vs → get_elem? vs id ≡ some me.0 → get_or b.texts (32 * k + n) 0 < 18446744073709551616 → Picks z id me (text_at z k n) then (λ y. get_or y.texts (32 * k + n) 0) b (with_text b (32 * k + n) (f (get_or b.texts (32 * k + n) 0))))
+    → Allows (Rule key) slots id me (text_at z k n) f then
+text_goes key z slots id me k n f then is here inside low picks = goes_at key z slots id me (text_at z k n) f then (λ y. get_or y.texts (32 * k + n) 0) (λ y x. with_text y (32 * k + n) x) (λ b sz. text_read z b sz k n inside low) (λ b x sz. text_write z b sz k n x inside low) is here picks
 
 pub atom_load : (key z : Size) (slots id : ℕ) (me : Sat) (k : ℕ) (then : ℕ → Sat → Type 0) → key ≡ z → me.0.gone ≡ false → k < z.slots
     → ((b : Board) (vs : List View) → Kept z b vs → get_elem? vs id ≡ some me.0 → atom b k < 18446744073709551616 → Picks z id me (atom_at z k) then (λ y. atom y k) b b)
@@ -149,10 +149,10 @@ pub head_load : (key z : Size) (slots id : ℕ) (me : Sat) (h : ℕ) (then : ℕ
     → Allows (Rule key) slots id me (head_at z h) (λ n. n) then
 head_load key z slots id me h then is here inside picks = load_at key z slots id me (head_at z h) then (λ y. head y h) (λ b sz. head_read z b sz h inside) is here picks
 
-pub text_load : (key z : Size) (slots id : ℕ) (me : Sat) (i : ℕ) (then : ℕ → Sat → Type 0) → key ≡ z → me.0.gone ≡ false
-    → ((b : Board) (vs : List View) → Kept z b vs → get_elem? vs id ≡ some me.0 → get_or b.texts i 0 < 18446744073709551616 → Picks z id me (text_at z i) then (λ y. get_or y.texts i 0) b b)
-    → Allows (Rule key) slots id me (text_at z i) (λ n. n) then
-text_load key z slots id me i then is here picks = load_at key z slots id me (text_at z i) then (λ y. get_or y.texts i 0) (λ b sz. text_read z b sz i) is here picks
+pub text_load : (key z : Size) (slots id : ℕ) (me : Sat) (k n : ℕ) (then : ℕ → Sat → Type 0) → key ≡ z → me.0.gone ≡ false → k < z.slots → n < 32
+    → ((b : Board) (vs : List View) → Kept z b vs → get_elem? vs id ≡ some me.0 → get_or b.texts (32 * k + n) 0 < 18446744073709551616 → Picks z id me (text_at z k n) then (λ y. get_or y.texts (32 * k + n) 0) b b)
+    → Allows (Rule key) slots id me (text_at z k n) (λ n. n) then
+text_load key z slots id me k n then is here inside low picks = load_at key z slots id me (text_at z k n) then (λ y. get_or y.texts (32 * k + n) 0) (λ b sz. text_read z b sz k n inside low) is here picks
 
 pub epoch_load : (key z : Size) (slots id : ℕ) (me : Sat) (then : ℕ → Sat → Type 0) → key ≡ z → me.0.gone ≡ false
     → ((b : Board) (vs : List View) → Kept z b vs → get_elem? vs id ≡ some me.0 → b.epoch < 18446744073709551616 → Picks z id me 0 then (λ y. y.epoch) b b)

@@ -6,11 +6,11 @@ use native.Mathlib.Decide.{dec_le, ℕ_discrete}
 use lib.ListN.{get_elem?}
 use Rattle.atomic_table.proofs.Lists.{at_set}
 use Rattle.atom_words.specs.Layout.{state_of, mark_of, count_of, version_of, closed_of}
-use Rattle.atom_words.specs.Texts.{bucket}
+use Rattle.atom_words.specs.Texts.{bucket, Formed}
 use Rattle.atom_words.specs.Board.{Board, text_of, with_atom}
 use Rattle.atom_words.specs.Chains.{In, Chain, Linked}
 use Rattle.atom_words.specs.Views.{uncounted}
-use Rattle.atom_words.specs.Kinds.{marked, fresh, held_own, held_counted, counted, once_more, once_less, guarding, Sitting, view_after, Does}
+use Rattle.atom_words.specs.Kinds.{marked, fresh, IsLeft, held_own, held_counted, counted, once_more, once_less, guarding, Sitting, view_after, Does}
 use Rattle.atom_words.specs.Plays.{Alone}
 use Rattle.atom_words.specs.Kept.{Left, Safe, OwnOk, HeldOk, CountsOk, WalkOk, MarksOk, SeatOk, Trail, Kept}
 use Rattle.atom_words.specs.declared.size.Size.{Size}
@@ -22,7 +22,7 @@ use Rattle.atom_words.specs.declared.view.Sweeping.{Sweeping}
 use Rattle.atom_words.specs.declared.view.View.{View}
 use Rattle.atom_words.specs.declared.kind.Kind.TheVariants.{Reserve, Validate, Release, Protect, Fetch, Register, Unregister}
 use Rattle.atom_words.proofs.Layouts.{state-marked, mark-marked, count-marked}
-use Rattle.atom_words.proofs.Slices.{some_same, or_true, and_true, chain_at, at_snoc, or_at, word_after, text_short}
+use Rattle.atom_words.proofs.Slices.{some_same, or_true, and_true, chain_at, at_snoc, or_at, word_after, text_short, or_beyond}
 use Rattle.atom_words.proofs.Puts.{put, put_here, put_else, unmapped}
 use Rattle.atom_words.proofs.Frames.{held_stays, own_stays, counts_stay, marks_stay, marks_now, Soft, soft_valid, soft_marked, soft_count, keep_atom}
 
@@ -41,7 +41,7 @@ module _ (z : Size) (b : Board) (vs : List View) (r : Kept z b vs) (id : ℕ) (v
   not_dying k ne e = ne (r.slots.dies k (sym e))
 
   -- what the seat knows, after the atom word k became x, beside its own slot, its counts and its walk
-  pub knows : (k x : ℕ) (owner' : ℕ → ℕ) (w : View) → Soft z b.atoms r.plan owner' id k x → w.size ≡ v.size
+  pub knows : (k x : ℕ) (owner' : ℕ → ℕ) (w : View) → Soft z b.atoms r.plan owner' id k x → (state_of x ≢ 1 → Formed (text_of b.texts k)) → w.size ≡ v.size
       → ((o : Own) → w.own ≡ Some o → OwnOk z (set b.atoms k x) b.links b.texts r.plan.chain owner' id o)
       → ((i : ℕ) (a : Held) → get_elem? w.held i ≡ some a → HeldOk z (set b.atoms k x) b.texts r.plan.chain a)
       → w.fixed ≡ v.fixed
@@ -52,7 +52,7 @@ module _ (z : Size) (b : Board) (vs : List View) (r : Kept z b vs) (id : ℕ) (v
       → ((y : Sweeping) (t : Walk) → v.sweep ≡ Some y → w.walk ≡ Some t → Trail b.epoch b.row b.links b.heads r.plan.chain y t)
       → ((t : Walk) → w.walk ≡ Some t → (r.plan.collector ≡ id → ⊥) → closed_of t.word ≡ 0) → w.growing ≡ v.growing
       → Kept z (with_atom b k x) (set vs id w)
-  knows k x owner' w soft size own held fixed counts walk marks sweep risen trail unclosed growing = keep_atom z b vs r owner' id k x w soft record {
+  knows k x owner' w soft formed size own held fixed counts walk marks sweep risen trail unclosed growing = keep_atom z b vs r owner' id k x w soft formed record {
     size = size ∙ s.size;
     own = own;
     held = held;
@@ -114,7 +114,7 @@ module _ (z : Size) (b : Board) (vs : List View) (r : Kept z b vs) (id : ℕ) (v
         zero = λ _. refl;
         shut = λ _ _ e. absurd (omega arith);
       } in
-      subst (λ y. Kept z y (set vs id (view_after v (Reserve k)))) (sym d.3) (knows k 1 (put r.plan.owner k id) (view_after v (Reserve k)) soft refl
+      subst (λ y. Kept z y (set vs id (view_after v (Reserve k)))) (sym d.3) (knows k 1 (put r.plan.owner k id) (view_after v (Reserve k)) soft (λ ne. absurd (ne refl)) refl
       (λ o e. let is : fresh k ≡ o = cc in subst (λ y. OwnOk z (set b.atoms k 1) b.links b.texts r.plan.chain (put r.plan.owner k id) id y) is record {
         inside = d.0;
         mine = put_here r.plan.owner k id;
@@ -122,6 +122,7 @@ module _ (z : Size) (b : Board) (vs : List View) (r : Kept z b vs) (id : ℕ) (v
         state = ap state_of (get_or-set_same b.atoms k 1 0 (in_atoms k d.0));
         short = omega arith;
         text = refl;
+        rest = λ _. ((λ i past _. let short = text_short b.texts k in or_beyond (text_of b.texts k) i 0 (omega arith)), λ _. r.blank k (λ one. omega arith));
         link = λ l no. cc;
         apart = λ _ l. not_free k l free;
         linked = λ no. cc;
@@ -152,7 +153,7 @@ module _ (z : Size) (b : Board) (vs : List View) (r : Kept z b vs) (id : ℕ) (v
         linked = on.0;
         text = sym (take_all (length o.text) (text_of b.texts o.slot) (omega arith)) ∙ ok.text;
       } in
-      knows o.slot 7 r.plan.owner (view_after v Validate) soft refl
+      knows o.slot 7 r.plan.owner (view_after v Validate) soft (λ _. let t = on.0 in r.rows.formed t.0 o.slot t.1 t.2) refl
       (λ q e. cc)
       (λ i a e. ⊎_elim (held_as o.slot 7 r.plan.owner soft i a) (λ (t : (i ≡ length v.held) × (record { slot = o.slot; text = o.text } ≡ a)). subst (HeldOk z (set b.atoms o.slot 7) b.texts r.plan.chain) t.1 held)
       (at_snoc v.held (record { slot = o.slot; text = o.text }) a i (sym (ap (λ y. get_elem? (v.held ++ held_own y) i) own) ∙ e)))
@@ -163,8 +164,8 @@ module _ (z : Size) (b : Board) (vs : List View) (r : Kept z b vs) (id : ℕ) (v
   pub keep_validate : (b' : Board) → Does z b v Validate b' → Kept z b' (set vs id (view_after v Validate))
   keep_validate b' d = subst (λ y. Kept z y (set vs id (view_after v Validate))) (sym d.4) (keep_validate_at d.0 d.1 d.2 d.3)
 
-  keep_release_at : (o : Own) → v.own ≡ Some o → o.linked ≡ false → Kept z (with_atom b o.slot 0) (set vs id (view_after v Release))
-  keep_release_at o own unlinked = let ok = s.own o own in let state = ok.state in let none_counted : count_of (get_or b.atoms o.slot 0) ≡ 0 = r.slots.zero o.slot (λ e. omega arith) in
+  keep_release_at : (o : Own) → v.own ≡ Some o → o.linked ≡ false → IsLeft o.text → Kept z (with_atom b o.slot 0) (set vs id (view_after v Release))
+  keep_release_at o own unlinked left = let ok = s.own o own in let state = ok.state in let none_counted : count_of (get_or b.atoms o.slot 0) ≡ 0 = r.slots.zero o.slot (λ e. omega arith) in
       let soft : Soft z b.atoms r.plan r.plan.owner id o.slot 0 = record {
         inside = in_atoms o.slot ok.inside;
         valid = λ e. absurd (omega arith);
@@ -179,10 +180,11 @@ module _ (z : Size) (b : Board) (vs : List View) (r : Kept z b vs) (id : ℕ) (v
         zero = λ _. refl;
         shut = λ f l _. ⊎_elim (λ (t : o.slot < z.fixed). absurd (omega arith)) (λ (t : 256 ≤ o.slot). absurd (omega arith)) ok.usable;
       } in
-      knows o.slot 0 r.plan.owner (view_after v Release) soft refl (λ q e. cc) (held_as o.slot 0 r.plan.owner soft) refl (counts_as o.slot 0 r.plan.owner soft (sym none_counted)) s.walk (marks_as o.slot 0 r.plan.owner soft) refl refl s.trail s.unclosed refl
+      knows o.slot 0 r.plan.owner (view_after v Release) soft
+      (λ _. ⊎_elim (λ (none : o.text ≡ []). (ok.rest unlinked).1 none) (λ (all : (length o.text ≡ 32) × Formed o.text). let short = text_short b.texts o.slot in subst Formed (sym (sym (take_all (length o.text) (text_of b.texts o.slot) (omega (arith, all.0, short))) ∙ ok.text)) all.1) left) refl (λ q e. cc) (held_as o.slot 0 r.plan.owner soft) refl (counts_as o.slot 0 r.plan.owner soft (sym none_counted)) s.walk (marks_as o.slot 0 r.plan.owner soft) refl refl s.trail s.unclosed refl
 
   pub keep_release : (b' : Board) → Does z b v Release b' → Kept z b' (set vs id (view_after v Release))
-  keep_release b' d = subst (λ y. Kept z y (set vs id (view_after v Release))) (sym d.3) (keep_release_at d.0 d.1 d.2)
+  keep_release b' d = subst (λ y. Kept z y (set vs id (view_after v Release))) (sym d.4) (keep_release_at d.0 d.1 d.2 d.3)
 
   -- A MARK IS SET
   pub mark_soft : (k : ℕ) → k < z.slots → Soft z b.atoms r.plan r.plan.owner id k (marked (get_or b.atoms k 0))
@@ -260,7 +262,7 @@ module _ (z : Size) (b : Board) (vs : List View) (r : Kept z b vs) (id : ℕ) (v
 
   pub keep_protect : (k x : ℕ) (b' : Board) → Does z b v (Protect k x) b' → Kept z b' (set vs id (view_after v (Protect k x)))
   keep_protect k x b' d = let n : ℕ = get_or b.atoms k 0 in let soft = mark_soft k d.0 in subst (λ y. Kept z y (set vs id (view_after v (Protect k x)))) (sym (d.2 ∙ ap (λ (i : ℕ). with_atom b k (marked i)) (sym d.1)))
-      (knows k (marked n) r.plan.owner (view_after v (Protect k x)) soft refl (own_marked k d.0) (held_as k (marked n) r.plan.owner soft) refl (counts_as k (marked n) r.plan.owner soft (count-marked n))
+      (knows k (marked n) r.plan.owner (view_after v (Protect k x)) soft (λ ne. r.blank k (λ e. ne (state-marked n ∙ e))) refl (own_marked k d.0) (held_as k (marked n) r.plan.owner soft) refl (counts_as k (marked n) r.plan.owner soft (count-marked n))
       (λ t e. let was = unmapped (guarding k x) v.walk t e in subst (λ y. WalkOk z b.links b.heads b.texts r.plan.chain r.plan.fate y) was.2 (guard_ok k x d.1 was.0 was.1))
       (guard_marks k x d.0 d.1) refl refl (guard_trail k x)
       (λ t e else. let was = unmapped (guarding k x) v.walk t e in ap (λ (q : Walk). closed_of q.word) (sym was.2) ∙ s.unclosed was.0 was.1 else) refl)
@@ -268,7 +270,7 @@ module _ (z : Size) (b : Board) (vs : List View) (r : Kept z b vs) (id : ℕ) (v
   pub keep_fetch : (k : ℕ) (b' : Board) → Does z b v (Fetch k) b' → Kept z b' (set vs id (view_after v (Fetch k)))
   keep_fetch k b' d = let n : ℕ = get_or b.atoms k 0 in let soft = mark_soft k d.2 in let ok = s.counts d.0 d.1 in let c : Counted = counted d.0 k in let a : Held = record { slot = k; text = c.text } in
       let ours : HeldOk z b.atoms b.texts r.plan.chain a = ok.live k c (or_at d.0 k uncounted (omega (arith, ok.each_slot, d.2))) d.3 in
-      subst (λ y. Kept z y (set vs id (view_after v (Fetch k)))) (sym d.5) (knows k (marked n) r.plan.owner (view_after v (Fetch k)) soft refl (own_marked k d.2)
+      subst (λ y. Kept z y (set vs id (view_after v (Fetch k)))) (sym d.5) (knows k (marked n) r.plan.owner (view_after v (Fetch k)) soft (λ ne. r.blank k (λ e. ne (state-marked n ∙ e))) refl (own_marked k d.2)
       (λ i q e. ⊎_elim (held_as k (marked n) r.plan.owner soft i q)
       (λ (t : (i ≡ length v.held) × (a ≡ q)). subst (HeldOk z (set b.atoms k (marked n)) b.texts r.plan.chain) t.1 (held_stays z b.atoms (set b.atoms k (marked n)) b.texts r.plan.chain a (soft_valid z b.atoms r.plan r.plan.owner id k (marked n) soft) ours))
       (at_snoc v.held a q i (sym (ap (λ y. get_elem? (v.held ++ held_counted k y) i) d.1) ∙ e)))
@@ -333,7 +335,7 @@ module _ (z : Size) (b : Board) (vs : List View) (r : Kept z b vs) (id : ℕ) (v
   keep_register a b' d = let cs : List Counted = d.0 in let ok = s.counts cs d.1 in let h = has a d.2 in let k : ℕ = a.slot in let n : ℕ = get_or b.atoms k 0 in let x : ℕ = n + 8 in let valid = h.valid in
       let c : Counted = record { count = (counted cs k).count + 1; text = a.text } in let was : count_of n ≡ (counted cs k).count = ok.counts k (counted cs k) (or_at cs k uncounted (omega (arith, ok.each_slot, h.inside))) in
       let soft = count_soft k x h.inside valid (omega arith) (omega arith) ok.mine in
-      subst (λ y. Kept z y (set vs id (view_after v (Register a)))) (sym d.4) (knows k x r.plan.owner (view_after v (Register a)) soft refl (own_counted k x soft valid) (held_as k x r.plan.owner soft) refl
+      subst (λ y. Kept z y (set vs id (view_after v (Register a)))) (sym d.4) (knows k x r.plan.owner (view_after v (Register a)) soft (λ _. r.blank k (λ one. omega arith)) refl (own_counted k x soft valid) (held_as k x r.plan.owner soft) refl
       (λ y e. let is = unmapped (once_more a) v.counts y e in let same : cs ≡ is.0 = some_same cs is.0 v.counts d.1 is.1 in
       subst (λ i. CountsOk z (set b.atoms k x) b.texts r.plan.chain r.plan.keeper id i) (ap (once_more a) same ∙ is.2) (counts_set k x cs c soft ok (omega arith) h))
       s.walk (marks_as k x r.plan.owner soft) refl refl s.trail s.unclosed refl)
@@ -343,7 +345,7 @@ module _ (z : Size) (b : Board) (vs : List View) (r : Kept z b vs) (id : ℕ) (v
       let h = ok.live k (counted cs k) at d.3 in let valid = h.valid in let some_ = d.3 in
       let c : Counted = record { count = (counted cs k).count - 1; text = (counted cs k).text } in let was : count_of n ≡ (counted cs k).count = ok.counts k (counted cs k) at in
       let soft = count_soft k x d.2 valid (omega arith) (omega arith) ok.mine in
-      subst (λ y. Kept z y (set vs id (view_after v (Unregister k)))) (sym d.4) (knows k x r.plan.owner (view_after v (Unregister k)) soft refl (own_counted k x soft valid) (held_as k x r.plan.owner soft) refl
+      subst (λ y. Kept z y (set vs id (view_after v (Unregister k)))) (sym d.4) (knows k x r.plan.owner (view_after v (Unregister k)) soft (λ _. r.blank k (λ one. omega arith)) refl (own_counted k x soft valid) (held_as k x r.plan.owner soft) refl
       (λ y e. let is = unmapped (once_less k) v.counts y e in let same : cs ≡ is.0 = some_same cs is.0 v.counts d.1 is.1 in
       subst (λ i. CountsOk z (set b.atoms k x) b.texts r.plan.chain r.plan.keeper id i) (ap (once_less k) same ∙ is.2) (counts_set k x cs c soft ok (omega arith) h))
       s.walk (marks_as k x r.plan.owner soft) refl refl s.trail s.unclosed refl)

@@ -66,6 +66,7 @@ module _ (z : Size) (b : Board) (vs : List View) (r : Kept z b vs) (id : ℕ) (v
       slots = r.slots;
       cycle = cycle;
       sure = sure;
+      blank = r.blank;
       fate = fate;
       seats = seats_stay (SeatOk z (with_epoch b epoch') (record r.plan { sweep = f r.plan.sweep })) vs id w (λ _. mine) (λ j x other at here. let k = r.seats j x at here in other_turned j x other (marks j x k) k);
     }
@@ -278,7 +279,7 @@ module _ (z : Size) (b : Board) (vs : List View) (r : Kept z b vs) (id : ℕ) (v
   keep_scan k b' d = let a : Held = d.1 in let live = has z b vs r id v s a d.2 in let at : a.slot ≡ k = d.3 in let n : ℕ = get_or b.atoms k 0 in
       let inside : k < z.slots = subst (λ (i : ℕ). i < z.slots) at live.inside in let valid : state_of n ≡ 3 = subst (λ (i : ℕ). state_of (get_or b.atoms i 0) ≡ 3) at live.valid in
       let soft = mark_soft z b vs r id v s k inside in let m = marks_as z b vs r id v s k (marked n) r.plan.owner soft in
-      subst (λ y. Kept z y (set vs id (view_after v (Scan k)))) (sym d.4) (knows z b vs r id v s k (marked n) r.plan.owner (view_after v (Scan k)) soft refl (own_marked z b vs r id v s k inside) (held_as z b vs r id v s k (marked n) r.plan.owner soft) refl
+      subst (λ y. Kept z y (set vs id (view_after v (Scan k)))) (sym d.4) (knows z b vs r id v s k (marked n) r.plan.owner (view_after v (Scan k)) soft (λ ne. r.blank k (λ e. ne (state-marked n ∙ e))) refl (own_marked z b vs r id v s k inside) (held_as z b vs r id v s k (marked n) r.plan.owner soft) refl
       (counts_as z b vs r id v s k (marked n) r.plan.owner soft (count-marked n)) s.walk
       record {
         mine = m.mine;
@@ -395,6 +396,7 @@ module _ (z : Size) (b : Board) (vs : List View) (r : Kept z b vs) (id : ℕ) (v
         cursor = r.cycle.cursor;
       };
       sure = r.sure;
+      blank = r.blank;
       fate = r.fate;
       seats = seats_stay (SeatOk z (with_ack b (v.cycle.engine - 1) v.cycle.scanned_at) r.plan) vs id (view_after v Ack) (λ _. mine_acked) (λ j x other at here. others_acked j x other (r.seats j x at here));
     }

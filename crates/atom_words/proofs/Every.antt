@@ -7,10 +7,10 @@ use Rattle.atom_words.specs.Kept.{SeatOk, Kept}
 use Rattle.atom_words.specs.declared.size.Size.{Size}
 use Rattle.atom_words.specs.declared.view.View.{View}
 use Rattle.atom_words.specs.declared.kind.Kind.{Kind}
-use Rattle.atom_words.specs.declared.kind.Kind.TheVariants.{Raise, Risen, Reserve, PutWord, PutLink, Link, Validate, Release, Load, Refused, Start, Read, Next, Skip, Hold, Keep, Fix, StartPass, EndPass, Refuse, Barred, Ask, Protect, Fetch, Register, Unregister, Begin, Mark, Scan, Ack, Check, ToSweep, Look, Spell, Condemn, PassOver, Behind, UnlinkAt, UnlinkHead, Note, Bump, Past, Free, End, Make, Split, Join, Aim, Sound, Close, Emptied, Pick, MoveHead, MoveLink, LeaveHead, LeaveLink, PublishRow, Publish}
+use Rattle.atom_words.specs.declared.kind.Kind.TheVariants.{Raise, Risen, Reserve, Measure, PutWord, Fill, PutLink, Link, Validate, Release, Load, Refused, Start, Read, Next, Skip, Hold, Keep, Fix, StartPass, EndPass, Refuse, Barred, Ask, Protect, Fetch, Register, Unregister, Begin, Mark, Scan, Ack, Check, ToSweep, Look, Spell, Condemn, PassOver, Behind, UnlinkAt, UnlinkHead, Note, Bump, Past, Free, End, Make, Split, Join, Aim, Sound, Close, Emptied, Pick, MoveHead, MoveLink, LeaveHead, LeaveLink, PublishRow, Publish}
 use Rattle.atom_words.proofs.Loads.{keep_load, keep_refused, keep_start, keep_read, keep_next, keep_skip, keep_hold, keep_keep, keep_fix, keep_start_pass, keep_end_pass, keep_refuse, keep_barred, keep_ask}
 use Rattle.atom_words.proofs.AtomSteps.{keep_reserve, keep_validate, keep_release, keep_protect, keep_fetch, keep_register, keep_unregister}
-use Rattle.atom_words.proofs.TextSteps.{keep_put_word, keep_put_link}
+use Rattle.atom_words.proofs.TextSteps.{keep_measure, keep_fill, keep_put_word, keep_put_link}
 use Rattle.atom_words.proofs.LinkStep.{keep_link}
 use Rattle.atom_words.proofs.RaiseStep.{keep_raise, keep_risen}
 use Rattle.atom_words.proofs.Cycles.{keep_begin, keep_mark, keep_scan, keep_ack, keep_check, keep_to_sweep}
@@ -24,6 +24,8 @@ use Rattle.atom_words.proofs.SeatSteps.{keep_make, keep_join, keep_split, keep_o
 module _ (z : Size) (b : Board) (vs : List View) (r : Kept z b vs) (id : ℕ) (v : View) (s : SeatOk z b r.plan id v) (b' : Board) where
   pub keep_kind : (kind : Kind) → Does z b v kind b' → Kept z b' (set vs id (view_after v kind))
   keep_kind (Reserve k) d = keep_reserve z b vs r id v s k b' d
+  keep_kind (Measure x) d = keep_measure z b vs r id v s x b' d
+  keep_kind Fill d = keep_fill z b vs r id v s b' d
   keep_kind (PutWord x) d = keep_put_word z b vs r id v s x b' d
   keep_kind (PutLink l) d = keep_put_link z b vs r id v s l b' d
   keep_kind Link d = keep_link z b vs r id v s b' d

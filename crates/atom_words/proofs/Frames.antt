@@ -5,7 +5,8 @@ use native.Mathlib.Decide.{ℕ_discrete}
 use lib.ListN.{get_elem?}
 use Rattle.atomic_table.proofs.Lists.{at_set}
 use Rattle.atom_words.specs.Layout.{state_of, mark_of, count_of, phase_of}
-use Rattle.atom_words.specs.Board.{Board, with_atom}
+use Rattle.atom_words.specs.Texts.{Formed}
+use Rattle.atom_words.specs.Board.{Board, text_of, with_atom}
 use Rattle.atom_words.specs.Chains.{In, Linked}
 use Rattle.atom_words.specs.Kept.{Plan, Safe, Acked, OwnOk, HeldOk, CountsOk, MarksOk, SeatOk, Slots, SureOk, Kept}
 use Rattle.atom_words.specs.declared.size.Size.{Size}
@@ -35,6 +36,7 @@ keep_view z b vs r id w mine = record {
   slots = r.slots;
   cycle = r.cycle;
   sure = r.sure;
+  blank = r.blank;
   fate = r.fate;
   seats = seats_stay (SeatOk z b r.plan) vs id w (λ _. mine) (λ j v _ at here. r.seats j v at here);
 }
@@ -50,7 +52,7 @@ module _ (z : Size) (atoms atoms' : List ℕ) where
   pub own_stays : (links texts : List ℕ) (chain : ℕ → List ℕ) (owner owner' : ℕ → ℕ) (j : ℕ) (o : Own)
       → (owner o.slot ≡ j → state_of (get_or atoms o.slot 0) ≡ 1 → (owner' o.slot ≡ j) × (state_of (get_or atoms' o.slot 0) ≡ 1)) → OwnOk z atoms links texts chain owner j o → OwnOk z atoms' links texts chain owner' j o
   own_stays links texts chain owner owner' j o stays h = let now = stays h.mine h.state in
-      record { inside = h.inside; mine = now.0; usable = h.usable; state = now.1; short = h.short; text = h.text; link = h.link; apart = h.apart; linked = h.linked }
+      record { inside = h.inside; mine = now.0; usable = h.usable; state = now.1; short = h.short; text = h.text; rest = h.rest; link = h.link; apart = h.apart; linked = h.linked }
 
   pub counts_stay : (texts : List ℕ) (chain : ℕ → List ℕ) (keeper j : ℕ) (cs : List Counted) → StaysValid → ((q : ℕ) → count_of (get_or atoms' q 0) ≡ count_of (get_or atoms q 0))
       → CountsOk z atoms texts chain keeper j cs → CountsOk z atoms' texts chain keeper j cs
@@ -190,9 +192,9 @@ module _ (z : Size) (atoms : List ℕ) (p : Plan) (owner' : ℕ → ℕ) (id k x
   }
 
 -- a step on an atom word keeps the rule where it keeps it of that slot and of the seat's own view
-pub keep_atom : (z : Size) (b : Board) (vs : List View) (r : Kept z b vs) (owner' : ℕ → ℕ) (id k x : ℕ) (w : View) → Soft z b.atoms r.plan owner' id k x
+pub keep_atom : (z : Size) (b : Board) (vs : List View) (r : Kept z b vs) (owner' : ℕ → ℕ) (id k x : ℕ) (w : View) → Soft z b.atoms r.plan owner' id k x → (state_of x ≢ 1 → Formed (text_of b.texts k))
     → SeatOk z (with_atom b k x) (record r.plan { owner = owner' }) id w → Kept z (with_atom b k x) (set vs id w)
-keep_atom z b vs r owner' id k x w soft mine = record {
+keep_atom z b vs r owner' id k x w soft formed mine = record {
   plan = record r.plan { owner = owner' };
   sized = record { small = r.sized.small; acks = r.sized.acks; atoms = length-set b.atoms k x ∙ r.sized.atoms; links = r.sized.links; heads = r.sized.heads; texts = r.sized.texts };
   grow = r.grow;
@@ -200,6 +202,7 @@ keep_atom z b vs r owner' id k x w soft mine = record {
   slots = soft_slots z b.atoms r.plan owner' id k x soft r.slots;
   cycle = r.cycle;
   sure = soft_sure z b.atoms r.plan owner' id k x soft b.texts r.plan.sweep r.slots r.sure;
+  blank = λ q. word_after (λ n. state_of n ≢ 1 → Formed (text_of b.texts q)) b.atoms k x q soft.inside (λ e ne. subst (λ (i : ℕ). Formed (text_of b.texts i)) (sym e) (formed ne)) (λ _. r.blank q);
   fate = r.fate;
   seats = seats_stay (SeatOk z (with_atom b k x) (record r.plan { owner = owner' })) vs id w (λ _. mine)
       (λ j v other at here. soft_seat z b.atoms r.plan owner' id k x soft b refl j v other (r.seats j v at here));

@@ -67,6 +67,7 @@ module _ (z : Size) (b : Board) (vs : List View) (r : Kept z b vs) (id : ℕ) (v
           state = h.state;
           short = h.short;
           text = h.text;
+          rest = h.rest;
           link = λ l is un. o.own_link n.slot (h.apart un) ∙ h.link l is un;
           apart = λ un l. h.apart un (o.was n.slot l);
           linked = λ on. let t = h.linked on in (o.on n.slot t.0, t.1);
@@ -100,6 +101,7 @@ module _ (z : Size) (b : Board) (vs : List View) (r : Kept z b vs) (id : ℕ) (v
         };
         cycle = r.cycle;
         sure = r.sure;
+        blank = r.blank;
         fate = record { slot = r.fate.slot; out = r.fate.out; head = r.fate.head; idle = r.fate.idle; dies = λ ne. absurd (ne none_dies) };
         seats = seats_stay (SeatOk z (record b { row = row'; links = links'; heads = heads' }) (record r.plan { chain = chain'; place = place'; grow = f r.plan.grow })) vs id (record v { walk = None; growing = f v.growing; made = made })
             (λ _. seat_on id v s None (f v.growing) made (λ t none. cc) (λ q _. ap f grown_is) (λ q t _ none. cc))

@@ -15,7 +15,7 @@ use Rattle.atom_words.specs.declared.view.Counted.{Counted}
 use Rattle.atom_words.specs.declared.view.Sweeping.{Sweeping}
 use Rattle.atom_words.specs.declared.view.View.{View}
 use Rattle.atom_words.specs.declared.kind.Kind.{Kind}
-use Rattle.atom_words.specs.declared.kind.Kind.TheVariants.{Raise, Risen, Reserve, PutWord, PutLink, Link, Validate, Release, Load, Refused, Start, Read, Next, Skip, Hold, Keep, Fix, StartPass, EndPass, Refuse, Barred, Ask, Protect, Fetch, Register, Unregister, Begin, Mark, Scan, Ack, Check, ToSweep, Look, Spell, Condemn, PassOver, Behind, UnlinkAt, UnlinkHead, Note, Bump, Past, Free, End, Aim, Sound, Close, Emptied, Pick, MoveHead, MoveLink, LeaveHead, LeaveLink, PublishRow, Publish}
+use Rattle.atom_words.specs.declared.kind.Kind.TheVariants.{Raise, Risen, Reserve, Measure, PutWord, Fill, PutLink, Link, Validate, Release, Load, Refused, Start, Read, Next, Skip, Hold, Keep, Fix, StartPass, EndPass, Refuse, Barred, Ask, Protect, Fetch, Register, Unregister, Begin, Mark, Scan, Ack, Check, ToSweep, Look, Spell, Condemn, PassOver, Behind, UnlinkAt, UnlinkHead, Note, Bump, Past, Free, End, Aim, Sound, Close, Emptied, Pick, MoveHead, MoveLink, LeaveHead, LeaveLink, PublishRow, Publish}
 use Rattle.atom_words.proofs.Slices.{some_same, text_else}
 use Rattle.atom_words.proofs.Every.{keep_move, reached_kept}
 use Rattle.atom_words.proofs.Sweeps.{known, swept_by}
@@ -39,12 +39,14 @@ module _ (z : Size) (b : Board) (vs : List View) (r : Kept z b vs) (b' : Board) 
 
   text_kind : (id : ℕ) (v : View) → SeatOk z b r.plan id v → (kind : Kind) → Does z b v kind b' → text_of b'.texts k ≡ text_of b.texts k
   text_kind id v s (Reserve i) d = same_text (ap (λ (x : Board). x.texts) d.3)
+  text_kind id v s (Measure x) d = same_text (ap (λ (y : Board). y.texts) d.5)
+  text_kind id v s Fill d = same_text (ap (λ (y : Board). y.texts) d.4)
   text_kind id v s (PutWord x) d = ap (λ (y : Board). text_of y.texts k) d.4 ∙ text_else b.texts d.0.slot (length d.0.text) x k d.3
       (λ e. let state = (s.own d.0 d.1).state in let here : state_of (get_or b.atoms d.0.slot 0) ≡ 3 = ap (λ (i : ℕ). state_of (get_or b.atoms i 0)) (sym e) ∙ valid in omega arith)
   text_kind id v s (PutLink l) d = same_text (ap (λ (x : Board). x.texts) d.3)
   text_kind id v s Link d = same_text (ap (λ (x : Board). x.texts) d.12)
   text_kind id v s Validate d = same_text (ap (λ (x : Board). x.texts) d.4)
-  text_kind id v s Release d = same_text (ap (λ (x : Board). x.texts) d.3)
+  text_kind id v s Release d = same_text (ap (λ (x : Board). x.texts) d.4)
   text_kind id v s (Load i x) d = same_text (ap (λ (y : Board). y.texts) d.1)
   text_kind id v s (Refused i old found) d = same_text (ap (λ (x : Board). x.texts) d.3)
   text_kind id v s (Start h x) d = same_text (ap (λ (y : Board). y.texts) d.3)

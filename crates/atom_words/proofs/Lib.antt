@@ -19,6 +19,7 @@ pub mod Steps
 pub mod Tied
 pub mod Putting
 pub mod Openings
+pub mod OpenWords
 pub mod WalkSteps
 pub mod RowBytes
 pub mod Cycles

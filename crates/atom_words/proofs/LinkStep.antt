@@ -240,6 +240,7 @@ module _ (z : Size) (b : Board) (vs : List View) (r : Kept z b vs) (id : ℕ) (v
       state = k.state;
       short = k.short;
       text = k.text;
+      rest = k.rest;
       link = k.link;
       apart = λ un l. ⊎_elim (λ (t : o.slot ≡ m.slot). other (sym k.mine ∙ (ap r.plan.owner (sym t) ∙ ok.mine))) (k.apart un) (was_linked z r.plan.chain w.head o.slot walked.inside m.slot l);
       linked = λ on. let t = k.linked on in (still_linked z r.plan.chain w.head o.slot walked.inside m.slot t.0, t.1);
@@ -268,6 +269,7 @@ module _ (z : Size) (b : Board) (vs : List View) (r : Kept z b vs) (id : ℕ) (v
           state = ok.state;
           short = ok.short;
           text = ok.text;
+          rest = λ no. cc;
           link = λ l is no. cc;
           apart = λ no. cc;
           linked = λ _. (now_linked z r.plan.chain w.head o.slot walked.inside, whole);
@@ -296,6 +298,7 @@ module _ (z : Size) (b : Board) (vs : List View) (r : Kept z b vs) (id : ℕ) (v
     slots = slots_linked;
     cycle = r.cycle;
     sure = r.sure;
+    blank = r.blank;
     fate = record {
       slot = r.fate.slot;
       out = r.fate.out;

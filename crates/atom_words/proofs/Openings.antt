@@ -38,6 +38,7 @@ opens z ok = record {
   wide = omega (arith, ok);
   idle = refl;
   row = refl;
+  untold = λ i. zeros (32 * z.slots) i;
   unseen = λ e. zeros z.engines e;
   closed_off = λ k inside fixed low. past_run 0 z.fixed k (replicate (256 - z.fixed) 1 ++ replicate (z.slots - 256) 0) fixed ∙ first_run 1 0 (256 - z.fixed) (z.slots - 256) (k - z.fixed) (omega arith);
   free = λ k inside which. ⊎_elim
@@ -50,7 +51,7 @@ opens z ok = record {
   views = refl;
 }
 
-pub opens_rule : (z : Size) (ws : List ℕ) → Allowed z → ws ≡ laid (opening_board z) → Rule z (opening ws [] (first_view z))
+pub opens_rule : (z : Size) (ws : List ℕ) → Allowed z → ws ≡ laid z (opening_board z) → Rule z (opening ws [] (first_view z))
 opens_rule z ws ok is = record { board = opening_board z; words = is; steps = 0; reached = opens z ok }
 
 -- MAKE, JOIN AND SPLIT

@@ -39,6 +39,13 @@ all_is t ws long begins all formed = ⊎_elim
     (λ (full : length ws ≡ 32). sym (take_all (length ws) t (omega arith)) ∙ (begins ∙ (sym (append-nil ws) ∙ ap (λ (n : ℕ). ws ++ replicate n 0) (let e : 0 ≡ 32 - length ws = omega arith in e))))
     all
 
+-- the words are the first of those 32, and the others are 0
+pub padded_take : (row : List ℕ) (n : ℕ) → length row ≡ 32 → n ≤ 32 → ((k : ℕ) → n ≤ k → get_or row k 0 ≡ 0) → padded (take n row) ≡ row
+padded_take row n long few rest = let l : length (take n row) ≡ n = length-take n row ∙ omega arith in
+    same_number_lists (padded (take n row)) row (padded_length (take n row) (omega arith) ∙ sym long) (λ k low. dite (dec_le n k)
+    (λ (late : n ≤ k). padded_behind (take n row) k (omega arith) ∙ sym (rest k late))
+    (λ (early : ¬ (n ≤ k)). padded_here (take n row) k (omega arith) ∙ get_or-take n row k 0 (omega arith)))
+
 -- no words are not
 pub not_all : IsAll [] → ⊥
 not_all all = ⊎_elim (λ (w : IsWhole []). let some_ = w.0 in omega arith) (λ (full : length {A = ℕ} [] ≡ 32). omega (arith, full)) all

@@ -1,12 +1,12 @@
 -- The words of a text, and the view as they are put one after the other.
 use Rattle.std.proofs.Common.{◌≡◌, ◌≢◌, ℕ, zero, suc, ◌+◌, ◌-◌, ◌*◌, ◌<◌, List, [], ◌∷◌, ◌++◌, length, get_or, take, drop, refl, sym, ap, ◌∙◌, subst, ◌⊎◌, ⊎_elim, arith, Some, option_map, append_assoc, append-nil, drop-drop}
-use Rattle.atom_words.specs.Texts.{packed, packs, row_of}
-use Rattle.atom_words.specs.Kinds.{putting, view_after, after}
-use Rattle.atom_words.specs.Seats.{PutBy, Puts}
+use Rattle.atom_words.specs.Texts.{packed, packs, row_of, padded}
+use Rattle.atom_words.specs.Kinds.{measuring, putting, filling_up, view_after, after}
+use Rattle.atom_words.specs.Seats.{PutBy, Puts, PutsRow}
 use Rattle.atom_words.specs.declared.view.Own.{Own}
 use Rattle.atom_words.specs.declared.view.View.{View}
 use Rattle.atom_words.specs.declared.kind.Kind.{Kind}
-use Rattle.atom_words.specs.declared.kind.Kind.TheVariants.{PutWord, Load}
+use Rattle.atom_words.specs.declared.kind.Kind.TheVariants.{Measure, PutWord, Fill, Load}
 
 packs_length : (n : ℕ) (bs : List ℕ) → length (packs n bs) ≡ n
 packs_length zero bs = refl
@@ -58,3 +58,15 @@ put_own o x v w own b = ⊎_elim
 pub puts_own : (o : Own) (ws : List ℕ) (v w : View) → v.own ≡ Some o → Puts ws v w → w.own ≡ Some (record o { text = o.text ++ ws })
 puts_own o [] v w e p = ap (λ (y : View). y.own) p ∙ (e ∙ ap (λ (t : List ℕ). let x : Own = record o { text = t } in Some x) (sym (append-nil o.text)))
 puts_own o (x ∷ ws) v w e p = puts_own (putting x o) ws p.0 w (put_own o x v p.0 e p.1) p.2 ∙ ap (λ (t : List ℕ). let y : Own = record o { text = t } in Some y) (append_assoc o.text (x ∷ []) ws)
+
+-- what stays as a text is put
+pub row_keeps : {A : Type 0} (f : View → A) → ((v : View) (x : ℕ) → f (view_after v (Measure x)) ≡ f v) → ((v : View) (x : ℕ) → f (view_after v (PutWord x)) ≡ f v) → ((v : View) (i x : ℕ) → f (view_after v (Load i x)) ≡ f v) → ((v : View) → f (view_after v Fill) ≡ f v)
+    → (row : List ℕ) (v w : View) → PutsRow row v w → f w ≡ f v
+row_keeps f measure put load fill row v w p = ap f p.4 ∙ (fill p.2 ∙ (puts_keep f put load (take p.1 row) (view_after v (Measure p.0)) p.2 p.3 ∙ measure v p.0))
+
+-- the own slot has the text
+pub row_own : (o : Own) (row : List ℕ) (v w : View) → o.text ≡ [] → v.own ≡ Some o → PutsRow row v w → (n : ℕ) × (w.own ≡ Some (record o { text = row; bound = n }))
+row_own o row v w empty own p = let m : Own = measuring p.0 o in let u = puts_own m (take p.1 row) (view_after v (Measure p.0)) p.2 (ap (option_map (measuring p.0)) own) p.3 in (
+  m.bound,
+  ap (λ (y : View). y.own) p.4 ∙ (ap (option_map filling_up) u ∙ ap (λ (t : List ℕ). let y : Own = record m { text = t } in Some y) (ap (λ (t : List ℕ). padded (t ++ take p.1 row)) empty ∙ p.5)),
+)

@@ -141,6 +141,7 @@ module _ (z : Size) (b : Board) (vs : List View) (r : Kept z b vs) (id : ℕ) (v
     slots = r.slots;
     cycle = r.cycle;
     sure = r.sure;
+    blank = r.blank;
     fate = record { slot = r.fate.slot; out = r.fate.out; head = r.fate.head; idle = r.fate.idle; dies = λ ne. absurd (not_sweeping (r.fate.dies ne).sweeping) };
     seats = seats_stay (SeatOk z (with_head b h n) r.plan) vs id (view_after v (Raise h)) (λ _. mine) (λ j y _ at here. seat_risen j y (r.seats j y at here));
   }

@@ -18,7 +18,7 @@ use Rattle.atom_words.specs.declared.view.Growing.{Growing}
 use Rattle.atom_words.specs.declared.view.View.{View}
 use Rattle.atom_words.specs.declared.kind.Kind.TheVariants.{Split}
 use Rattle.atom_words.proofs.Layouts.{first-head_word, closed-head_word}
-use Rattle.atom_words.proofs.Slices.{in_none, at_snoc, at_replicate, or_beyond}
+use Rattle.atom_words.proofs.Slices.{in_none, at_snoc, at_replicate, or_beyond, untold_text}
 use Rattle.atom_words.proofs.Puts.{put, put_here, put_else}
 use Rattle.atom_words.proofs.Frames.{seats_stay, marks_walk}
 
@@ -69,6 +69,7 @@ module _ (z : Size) (b : Board) (vs : List View) (r : Kept z b vs) where
     slots = r.slots;
     cycle = r.cycle;
     sure = r.sure;
+    blank = r.blank;
     fate = r.fate;
     seats = λ j v at here. ⊎_elim (λ (e : get_elem? vs j ≡ some v). r.seats j v e here)
         (λ (t : (j ≡ length vs) × (newcomer z ≡ v)). subst (SeatOk z b r.plan j) t.1 record {
@@ -136,6 +137,7 @@ module _ (z : Size) (b : Board) (vs : List View) (r : Kept z b vs) where
       slots = r.slots;
       cycle = r.cycle;
       sure = r.sure;
+      blank = r.blank;
       fate = r.fate;
       seats = seats_stay K (set vs id (with_keeper v w)) other spent (λ gone. cc)
           (λ j y ne e alive. ⊎_elim
@@ -162,6 +164,7 @@ module _ (z : Size) (b : Board) (vs : List View) (r : Kept z b vs) where
       slots = r.slots;
       cycle = r.cycle;
       sure = r.sure;
+      blank = r.blank;
       fate = r.fate;
       seats = λ j y e alive. ⊎_elim
           (λ (x : get_elem? (set vs id left) j ≡ some y). seats_stay (SeatOk z b p) vs id left (λ _. l) others j y x alive)
@@ -367,6 +370,7 @@ keep_open z b vs o = let none : Plan = record { chain = λ _. []; place = λ _. 
         cursor = omega arith;
       };
       sure = record { inside = λ on. cc; state = λ on. cc; short = omega arith; text = λ on. cc };
+      blank = λ k _. λ i _. untold_text b.texts o.untold k i;
       fate = record { slot = refl; out = refl; head = refl; idle = λ _. refl; dies = λ ne. absurd (ne refl) };
       seats = λ j v at alive. ⊎_elim (λ (t : (j ≡ 0) × (first_view z ≡ v)). subst (SeatOk z b none j) t.1 record {
         size = refl;

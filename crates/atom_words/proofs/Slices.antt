@@ -1,6 +1,6 @@
 -- Lists that are read by `get_elem?`, text rows, and chains.
-use Rattle.std.proofs.Common.{◌≡◌, ◌≢◌, ◌⊎◌, ℕ, zero, suc, ◌+◌, ◌-◌, ◌*◌, ◌<◌, ◌≤◌, Bool, true, false, ◌==◌, ◌&&◌, ◌||◌, not, eqb, eq-eqb, eqb-true, Decides, List, [], ◌∷◌, ◌++◌, length, get_or, set, take, drop, replicate, refl, sym, ap, ◌∙◌, subst, inl, inr, ⊎_elim, arith, Option, Some, None, option_map, get_or-set_same, get_or-set_other, length-drop, length-take, length-set, take_all, drop-set-lt}
-use Rattle.std.proofs.lemmas.List.{take-take, take-set-le, drop-set-add, take_more, take_more_set, get_or-replicate}
+use Rattle.std.proofs.Common.{◌≡◌, ◌≢◌, ◌⊎◌, ℕ, zero, suc, ◌+◌, ◌-◌, ◌*◌, ◌<◌, ◌≤◌, Bool, true, false, ◌==◌, ◌&&◌, ◌||◌, not, eqb, eq-eqb, eqb-true, Decides, List, [], ◌∷◌, ◌++◌, length, get_or, set, take, drop, replicate, refl, sym, ap, ◌∙◌, subst, inl, inr, ⊎_elim, arith, Option, Some, None, option_map, get_or-drop, get_or-set_same, get_or-set_other, length-drop, length-take, length-set, take_all, drop-set-lt}
+use Rattle.std.proofs.lemmas.List.{get_or-take, take-take, take-set-le, drop-set-add, take_more, take_more_set, get_or-replicate}
 use Rattle.std.proofs.lemmas.List.Folds.{Any-from_list_any}
 use Rattle.std.proofs.lemmas.Map.Made.{IsDistinct-from_AllPairs}
 use Rattle.std.proofs.lemmas.Map.Steps.{length-le_from_distinct_below}
@@ -126,6 +126,20 @@ text_length texts k n e h = simp (length-take, length-drop) (omega arith)
 
 pub text_short : (texts : List ℕ) (k : ℕ) → length (text_of texts k) ≤ 32
 text_short texts k = simp length-take (omega arith)
+
+-- a word of it
+pub text_word : (texts : List ℕ) (k n : ℕ) → n < 32 → get_or (text_of texts k) n 0 ≡ get_or texts (32 * k + n) 0
+text_word texts k n h = get_or-take 32 (drop (32 * k) texts) n 0 h ∙ get_or-drop (32 * k) texts n 0
+
+-- where all words are 0
+pub untold_text : (texts : List ℕ) → ((i : ℕ) → get_or texts i 0 ≡ 0) → (k i : ℕ) → get_or (text_of texts k) i 0 ≡ 0
+untold_text texts none k i = let short = text_short texts k in dite (dec_le 32 i) (λ (out : 32 ≤ i). or_beyond (text_of texts k) i 0 (omega arith)) (λ (inside : ¬ (32 ≤ i)). text_word texts k i (omega arith) ∙ none (32 * k + i))
+
+-- the other words stay
+pub word_else : (texts : List ℕ) (k n x i : ℕ) → i ≢ n → get_or (text_of (set texts (32 * k + n) x) k) i 0 ≡ get_or (text_of texts k) i 0
+word_else texts k n x i ne = let now : List ℕ = set texts (32 * k + n) x in let short = text_short texts k in let long = text_short now k in dite (dec_le 32 i)
+    (λ (out : 32 ≤ i). or_beyond (text_of now k) i 0 (omega arith) ∙ sym (or_beyond (text_of texts k) i 0 (omega arith)))
+    (λ (inside : ¬ (32 ≤ i)). text_word now k i (omega arith) ∙ (get_or-set_other texts (32 * k + n) (32 * k + i) x 0 (λ e. ne (omega arith)) ∙ sym (text_word texts k i (omega arith))))
 
 -- another slot's text stays
 pub text_else : (texts : List ℕ) (k n x q : ℕ) → n < 32 → q ≢ k → text_of (set texts (32 * k + n) x) q ≡ text_of texts q

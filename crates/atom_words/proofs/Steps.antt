@@ -12,20 +12,20 @@ use Rattle.atom_words.specs.Layout.{state_of, count_of, closed_of, version_of}
 use Rattle.atom_words.specs.Board.{Board, atom, head, atom_at, head_at, text_at, text_of, with_atom, with_head, with_text}
 use Rattle.atom_words.specs.Chains.{In}
 use Rattle.atom_words.specs.Views.{uncounted}
-use Rattle.atom_words.specs.Kinds.{Sitting, marked, counted, raised, view_after}
+use Rattle.atom_words.specs.Kinds.{IsCovered, IsLeft, Sitting, marked, counted, raised, view_after}
 use Rattle.atom_words.specs.Rule.{Rule}
-use Rattle.atom_words.specs.Plays.{Alone, head_raised, head_risen, reserved, reserved_marked, word_put, word_found, validated, released, protected, registered, unregistered, pass_started, pass_ended}
+use Rattle.atom_words.specs.Plays.{Alone, head_raised, head_risen, seen_free, reserved, text_measured, text_filled, word_put, word_found, validated, released, protected, registered, unregistered, pass_started, pass_ended}
 use Rattle.atom_words.specs.declared.size.Size.{Size}
 use Rattle.atom_words.specs.declared.view.Held.{Held}
 use Rattle.atom_words.specs.declared.view.Counted.{Counted}
 use Rattle.atom_words.specs.declared.view.Own.{Own}
 use Rattle.atom_words.specs.declared.view.Passing.{Passing}
 use Rattle.atom_words.specs.declared.kind.Kind.{Kind}
-use Rattle.atom_words.specs.declared.kind.Kind.TheVariants.{Raise, Risen, Reserve, PutWord, Validate, Release, Load, Refused, StartPass, EndPass, Protect, Register, Unregister}
+use Rattle.atom_words.specs.declared.kind.Kind.TheVariants.{Raise, Risen, Reserve, Measure, PutWord, Fill, Validate, Release, Load, Refused, StartPass, EndPass, Protect, Register, Unregister}
 use Rattle.atom_words.proofs.Regions.{atom_read, head_read, text_read}
-use Rattle.atom_words.proofs.Slices.{some_same, or_at, text_short}
+use Rattle.atom_words.proofs.Slices.{some_same, or_at, text_short, text_word}
 use Rattle.atom_words.proofs.AtomSteps.{has, alone_at}
-use Rattle.atom_words.proofs.Adapters.{Sat, atom_goes, atom_exchange, head_exchange, head_load, text_goes, text_load, epoch_load}
+use Rattle.atom_words.proofs.Adapters.{Sat, load_at, atom_goes, atom_exchange, head_exchange, head_load, text_goes, text_load, epoch_load}
 
 pub or_mark : (n : ℕ) → bit_or n 4 ≡ marked n
 or_mark n = let a : bit_or n 4 + bit_and n 4 ≡ n + 4 = or_add_and n 4 in let m : bit_and n 4 ≡ n / 4 % 2 * 4 = and_pow n 2 in omega arith
@@ -34,57 +34,40 @@ or_mark n = let a : bit_or n 4 + bit_and n 4 ≡ n + 4 = or_add_and n 4 in let m
 word_same : (b : Board) (p x : ℕ) → get_or b.texts p 0 ≡ x → b ≡ with_text b p x
 word_same b p x same = sym (ap (with_text b p) (sym same) ∙ ap (λ (l : List ℕ). let y : Board = record b { texts = l } in y) (set-get_or b.texts p 0))
 
--- a free slot's word has no count, so it is 0 or 4
-free_word : (n : ℕ) → n ≢ 0 → n ≢ 4 → state_of n ≡ 0 → count_of n ≡ 0 → ⊥
-free_word n zero four state count = omega arith
-
 module _ (key : Size) (slots id : ℕ) (me : Sat) (is : key ≡ me.0.size) (here : me.0.gone ≡ false) where
   abbrev z : Size
   z = me.0.size
 
-  pub reserving : (i k : ℕ) → i ≡ atom_at me.0.size k → k < me.0.size.slots → me.0.own ≡ None
-      → Allows (Rule key) slots id me i (λ n. either (eqb n 0) 1 n) (reserved (step slots i 0 1 none) me)
-  reserving i k at inside unowned = subst (λ (w : ℕ). Allows (Rule key) slots id me w (λ n. either (eqb n 0) 1 n) (reserved (step slots w 0 1 none) me)) (sym at)
-      (atom_exchange key me.0.size slots id me k 0 1 (reserved (step slots (atom_at me.0.size k) 0 1 none) me) is here inside
-      (λ b vs r seen hit. (
-        Reserve k,
-        (inside, unowned, ap state_of hit, refl),
+  pub seeing_free : (i k : ℕ) → i ≡ atom_at me.0.size k → k < me.0.size.slots → Allows (Rule key) slots id me i (λ n. n) (seen_free (step slots i 0 0 none) me)
+  seeing_free i k at inside = subst (λ (w : ℕ). Allows (Rule key) slots id me w (λ n. n) (seen_free (step slots w 0 0 none) me)) (sym at)
+      (load_at key me.0.size slots id me (atom_at me.0.size k) (seen_free (step slots (atom_at me.0.size k) 0 0 none) me) (λ b. atom b k) (λ b sz. atom_read me.0.size b sz k inside) is here
+      (λ b vs r seen small. dite (ℕ_discrete (state_of (atom b k)) 0)
+      (λ free. (
+        Load (atom_at me.0.size k) (atom b k),
+        (atom_read me.0.size b r.sized k inside, refl),
         (
           refl,
           λ j e. let same : k ≡ j = omega arith in
-              ((λ _. ap (λ (x : ℕ). view_after me.0 (Reserve x)) same), (λ four. absurd (omega arith)), (λ ne. absurd (ne hit))),
+              ((λ _. ap (λ (x : ℕ). view_after me.0 (Load (atom_at me.0.size x) (atom b k))) same), λ ne. absurd (ne free)),
         ),
       ))
-      (λ b vs r seen miss. dite (ℕ_discrete (atom b k) 4)
-      (λ four. (
-        Load (atom_at me.0.size k) 4,
-        (atom_read me.0.size b r.sized k inside ∙ four, refl),
-        (
-          refl,
-          λ j e. let same : k ≡ j = omega arith in
-              ((λ zero. absurd (miss zero)), (λ _. ap (λ (x : ℕ). view_after me.0 (Load (atom_at me.0.size x) 4)) same), (λ _ ne. absurd (ne four))),
-        ),
-      ))
-      (λ other. (
+      (λ taken. (
         Refused k 0 (atom b k),
-        (inside, refl, inl (λ free. free_word (atom b k) miss other free (r.slots.zero k (λ three. omega arith))), refl),
+        (inside, refl, inl taken, refl),
         (
           refl,
-          λ j e. let same : k ≡ j = omega arith in (
-            (λ zero. absurd (miss zero)),
-            (λ four. absurd (other four)),
-            λ _ _. ((λ free. free_word (atom b k) miss other free (r.slots.zero k (λ three. omega arith))), ap (λ (x : ℕ). view_after me.0 (Refused x 0 (atom b k))) same),
-          ),
+          λ j e. let same : k ≡ j = omega arith in
+              ((λ z_. absurd (taken z_)), λ _. ap (λ (x : ℕ). view_after me.0 (Refused x 0 (atom b k))) same),
         ),
       ))))
 
-  pub reserving_marked : (i k : ℕ) → i ≡ atom_at me.0.size k → k < me.0.size.slots → me.0.own ≡ None → (before : List Kind) → me.0.made ≡ before ++ Load (atom_at me.0.size k) 4 ∷ []
-      → Allows (Rule key) slots id me i (λ n. either (eqb n 4) 1 n) (reserved_marked (step slots i 4 1 none) me)
-  reserving_marked i k at inside unowned before last = subst (λ (w : ℕ). Allows (Rule key) slots id me w (λ n. either (eqb n 4) 1 n) (reserved_marked (step slots w 4 1 none) me)) (sym at)
-      (atom_exchange key me.0.size slots id me k 4 1 (reserved_marked (step slots (atom_at me.0.size k) 4 1 none) me) is here inside
+  pub reserving : (i k old : ℕ) → i ≡ atom_at me.0.size k → k < me.0.size.slots → me.0.own ≡ None → state_of old ≡ 0 → (before : List Kind) → me.0.made ≡ before ++ Load (atom_at me.0.size k) old ∷ []
+      → Allows (Rule key) slots id me i (λ n. either (eqb n old) 1 n) (reserved (step slots i old 1 none) me)
+  reserving i k old at inside unowned free before last = subst (λ (w : ℕ). Allows (Rule key) slots id me w (λ n. either (eqb n old) 1 n) (reserved (step slots w old 1 none) me)) (sym at)
+      (atom_exchange key me.0.size slots id me k old 1 (reserved (step slots (atom_at me.0.size k) old 1 none) me) is here inside
       (λ b vs r seen hit. (
         Reserve k,
-        (inside, unowned, ap state_of hit, refl),
+        (inside, unowned, ap state_of hit ∙ free, refl),
         (
           refl,
           λ j e. let same : k ≡ j = omega arith in
@@ -92,28 +75,37 @@ module _ (key : Size) (slots id : ℕ) (me : Sat) (is : key ≡ me.0.size) (here
         ),
       ))
       (λ b vs r seen miss. (
-        Refused k 4 (atom b k),
-        (inside, refl, inr (refl, miss, (before, last)), refl),
+        Refused k old (atom b k),
+        (inside, refl, inr (free, miss, (before, last)), refl),
         (
           refl,
           λ j e. let same : k ≡ j = omega arith in
-              ((λ four. absurd (miss four)), λ _. ap (λ (x : ℕ). view_after me.0 (Refused x 4 (atom b k))) same),
+              ((λ hit. absurd (miss hit)), λ _. ap (λ (x : ℕ). view_after me.0 (Refused x old (atom b k))) same),
         ),
       )))
 
-  pub putting_word : (i x : ℕ) (o : Own) → me.0.own ≡ Some o → o.linked ≡ false → length o.text < 32 → i ≡ text_at me.0.size (32 * o.slot + length o.text)
+  -- THE TEXT OF THE OWN SLOT
+  pub measuring_text : (i : ℕ) (o : Own) → me.0.own ≡ Some o → o.linked ≡ false → o.text ≡ [] → o.slot < me.0.size.slots → i ≡ text_at me.0.size o.slot 0 → Allows (Rule key) slots id me i (λ n. n) (text_measured (step slots i 0 0 none) me)
+  measuring_text i o own un empty inside at = subst (λ (w : ℕ). Allows (Rule key) slots id me w (λ n. n) (text_measured (step slots w 0 0 none) me)) (sym at)
+      (text_load key me.0.size slots id me o.slot 0 (text_measured (step slots (text_at me.0.size o.slot 0) 0 0 none) me) is here inside (omega arith)
+      (λ b vs r seen small. (Measure (get_or b.texts (32 * o.slot + 0) 0), (o, own, un, empty, text_word b.texts o.slot 0 (omega arith), refl), (refl, refl))))
+
+  pub filling_text : (o : Own) → me.0.own ≡ Some o → o.linked ≡ false → IsCovered o → Allows (Rule key) slots id me 0 (λ n. n) (text_filled (step slots 0 0 0 none) me)
+  filling_text o own un covered = epoch_load key me.0.size slots id me (text_filled (step slots 0 0 0 none) me) is here (λ b vs r seen small. (Fill, (o, own, un, covered, refl), (refl, refl)))
+
+  pub putting_word : (i x : ℕ) (o : Own) → me.0.own ≡ Some o → o.linked ≡ false → length o.text < 32 → o.slot < me.0.size.slots → i ≡ text_at me.0.size o.slot (length o.text)
       → Allows (Rule key) slots id me i (λ _. x) (λ _. word_put (step slots i x 0 none) me x)
-  putting_word i x o own un short at = subst (λ (w : ℕ). Allows (Rule key) slots id me w (λ _. x) (λ _. word_put (step slots w x 0 none) me x)) (sym at)
-      (text_goes key me.0.size slots id me (32 * o.slot + length o.text) (λ _. x) (λ _. word_put (step slots (text_at me.0.size (32 * o.slot + length o.text)) x 0 none) me x) is here
+  putting_word i x o own un short inside at = subst (λ (w : ℕ). Allows (Rule key) slots id me w (λ _. x) (λ _. word_put (step slots w x 0 none) me x)) (sym at)
+      (text_goes key me.0.size slots id me o.slot (length o.text) (λ _. x) (λ _. word_put (step slots (text_at me.0.size o.slot (length o.text)) x 0 none) me x) is here inside short
       (λ b vs r seen small. (PutWord x, (o, own, un, short, refl), (refl, refl))))
 
   -- by a load, where it stands there
-  pub finding_word : (i x : ℕ) (o : Own) → me.0.own ≡ Some o → o.linked ≡ false → length o.text < 32 → i ≡ text_at me.0.size (32 * o.slot + length o.text) → Allows (Rule key) slots id me i (λ n. n) (word_found x (step slots i 0 0 none) me)
-  finding_word i x o own un short at = subst (λ (w : ℕ). Allows (Rule key) slots id me w (λ n. n) (word_found x (step slots w 0 0 none) me)) (sym at)
-      (let p : ℕ = 32 * o.slot + length o.text in text_load key me.0.size slots id me p (word_found x (step slots (text_at me.0.size p) 0 0 none) me) is here
+  pub finding_word : (i x : ℕ) (o : Own) → me.0.own ≡ Some o → o.linked ≡ false → length o.text < 32 → o.slot < me.0.size.slots → i ≡ text_at me.0.size o.slot (length o.text) → Allows (Rule key) slots id me i (λ n. n) (word_found x (step slots i 0 0 none) me)
+  finding_word i x o own un short inside at = subst (λ (w : ℕ). Allows (Rule key) slots id me w (λ n. n) (word_found x (step slots w 0 0 none) me)) (sym at)
+      (let p : ℕ = 32 * o.slot + length o.text in let place : ℕ = text_at me.0.size o.slot (length o.text) in text_load key me.0.size slots id me o.slot (length o.text) (word_found x (step slots place 0 0 none) me) is here inside short
       (λ b vs r seen small. dite (ℕ_discrete (get_or b.texts p 0) x)
       (λ (same : get_or b.texts p 0 ≡ x). (PutWord x, (o, own, un, short, word_same b p x same), (refl, (λ _. refl), λ ne. absurd (ne same))))
-      (λ (other : ¬ (get_or b.texts p 0 ≡ x)). (Load (text_at me.0.size p) (get_or b.texts p 0), (text_read me.0.size b r.sized p, refl), (refl, (λ e. absurd (other e)), λ _. refl)))))
+      (λ (other : ¬ (get_or b.texts p 0 ≡ x)). (Load place (get_or b.texts p 0), (text_read me.0.size b r.sized o.slot (length o.text) inside short, refl), (refl, (λ e. absurd (other e)), λ _. refl)))))
 
   pub validating : (i : ℕ) (o : Own) → me.0.own ≡ Some o → o.linked ≡ true → Sitting me.0 → o.slot < me.0.size.slots → i ≡ atom_at me.0.size o.slot
       → Allows (Rule key) slots id me i (λ _. 7) (λ _. validated (step slots i 7 0 none) me 7)
@@ -126,11 +118,11 @@ module _ (key : Size) (slots id : ℕ) (me : Sat) (is : key ≡ me.0.size) (here
         ((refl, refl), λ p too. let one : o ≡ p = some_same o p me.0.own own too in subst (λ (y : Own). Alone me.0 y.slot y.text) one (alone_at me.0.size b vs r id me.0 s o.slot o.text live.0 (let state = ok.state in (λ two. omega arith)) text)),
       )))
 
-  pub releasing : (i : ℕ) (o : Own) → me.0.own ≡ Some o → o.linked ≡ false → o.slot < me.0.size.slots → i ≡ atom_at me.0.size o.slot
+  pub releasing : (i : ℕ) (o : Own) → me.0.own ≡ Some o → o.linked ≡ false → IsLeft o.text → o.slot < me.0.size.slots → i ≡ atom_at me.0.size o.slot
       → Allows (Rule key) slots id me i (λ _. 0) (λ _. released (step slots i 0 0 none) me 0)
-  releasing i o own un inside at = subst (λ (w : ℕ). Allows (Rule key) slots id me w (λ _. 0) (λ _. released (step slots w 0 0 none) me 0)) (sym at)
+  releasing i o own un left inside at = subst (λ (w : ℕ). Allows (Rule key) slots id me w (λ _. 0) (λ _. released (step slots w 0 0 none) me 0)) (sym at)
       (atom_goes key me.0.size slots id me o.slot (λ _. 0) (λ _. released (step slots (atom_at me.0.size o.slot) 0 0 none) me 0) is here inside
-      (λ b vs r seen small. (Release, (o, own, un, refl), (refl, refl))))
+      (λ b vs r seen small. (Release, (o, own, un, left, refl), (refl, refl))))
 
   pub protecting : (i k : ℕ) → i ≡ atom_at me.0.size k → k < me.0.size.slots → Allows (Rule key) slots id me i (λ n. bit_or n 4) (protected (step slots i 4 0 none) me)
   protecting i k at inside = subst (λ (w : ℕ). Allows (Rule key) slots id me w (λ n. bit_or n 4) (protected (step slots w 4 0 none) me)) (sym at)

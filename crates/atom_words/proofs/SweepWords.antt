@@ -5,7 +5,8 @@ use mathlib.Core.Logic.{dite}
 use native.Mathlib.Decide.{ℕ_discrete, dec_le}
 use lib.ListN.{get_elem?}
 use Rattle.atom_words.specs.Layout.{state_of, mark_of, count_of, first_of, version_of, last, phase_of, epoch_of}
-use Rattle.atom_words.specs.Board.{Board, with_atom}
+use Rattle.atom_words.specs.Texts.{Formed}
+use Rattle.atom_words.specs.Board.{Board, text_of, with_atom}
 use Rattle.atom_words.specs.Chains.{In, Chain, Linked}
 use Rattle.atom_words.specs.Kinds.{unmarked, head_of, condemning, passing, freeing, view_after, Does}
 use Rattle.atom_words.specs.Kept.{Fate, HeldOk, Left, WalkOk, Safe, Acked, MarksOk, SeatOk, Rows, Slots, CycleOk, SureOk, DyingOk, FateOk, slots, Trail, Kept}
@@ -47,7 +48,7 @@ module _ (z : Size) (b : Board) (vs : List View) (r : Kept z b vs) (k n : ℕ) (
       → SeatOk z (with_atom b k n) (record r.plan { sweep = f r.plan.sweep; fate = fate' }) j (record x { sweep = sweep; made = made })
   seat_left j x s l sweep made sweeps trail grows = record {
     size = s.size;
-    own = λ o e. let h = s.own o e in record { inside = h.inside; mine = h.mine; usable = h.usable; state = l.own o e; short = h.short; text = h.text; link = h.link; apart = h.apart; linked = h.linked };
+    own = λ o e. let h = s.own o e in record { inside = h.inside; mine = h.mine; usable = h.usable; state = l.own o e; short = h.short; text = h.text; rest = h.rest; link = h.link; apart = h.apart; linked = h.linked };
     held = λ i a e. held_now a (s.held i a e) (l.held a (i, e));
     fixed = λ i a e. held_now a (s.fixed i a e) (l.fixed a (i, e));
     low = s.low;
@@ -70,9 +71,10 @@ module _ (z : Size) (b : Board) (vs : List View) (r : Kept z b vs) (k n : ℕ) (
   collector_atom : (id : ℕ) (v : View) → SeatOk z b r.plan id v → (y : Sweeping) → v.sweep ≡ Some y → (made : List Kind)
       → Rows z b.row r.plan.grow b.links b.heads b.texts r.plan.chain r.plan.place fate' → Slots z (set b.atoms k n) r.plan.chain fate' → CycleOk z b.epoch b.acks (f r.plan.sweep) → SureOk z (set b.atoms k n) b.texts (f r.plan.sweep)
       → FateOk z b.epoch b.links b.heads r.plan.chain (f r.plan.sweep) fate' → ((j : ℕ) (x : View) → SeatOk z b r.plan j x → Leaves j x)
+      → ((q : ℕ) → state_of (get_or (set b.atoms k n) q 0) ≢ 1 → Formed (text_of b.texts q))
       → ((q : Sweeping) (w : Walk) → option_map f v.sweep ≡ Some q → v.walk ≡ Some w → Trail b.epoch b.row b.links b.heads r.plan.chain q w)
       → Kept z (with_atom b k n) (set vs id (record v { sweep = option_map f v.sweep; made = made }))
-  collector_atom id v s y at made rows slots_ cycle sure fate leaves trail = record {
+  collector_atom id v s y at made rows slots_ cycle sure fate leaves blank trail = record {
     plan = record r.plan { sweep = f r.plan.sweep; fate = fate' };
     sized = record { small = r.sized.small; acks = r.sized.acks; atoms = length-set b.atoms k n ∙ r.sized.atoms; links = r.sized.links; heads = r.sized.heads; texts = r.sized.texts };
     grow = r.grow;
@@ -80,6 +82,7 @@ module _ (z : Size) (b : Board) (vs : List View) (r : Kept z b vs) (k n : ℕ) (
     slots = slots_;
     cycle = cycle;
     sure = sure;
+    blank = blank;
     fate = fate;
     seats = seats_stay (SeatOk z (with_atom b k n) (record r.plan { sweep = f r.plan.sweep; fate = fate' })) vs id (record v { sweep = option_map f v.sweep; made = made })
         (λ _. seat_left id v s (leaves id v s) (option_map f v.sweep) made (λ q has_. let was = unmapped f v.sweep q has_ in ((s.sweeps y at).0, ap f (s.sweeps was.0 was.1).1 ∙ was.2)) trail (λ q has_. let was = unmapped f v.sweep q has_ in s.grows was.0 was.1))
@@ -173,6 +176,7 @@ module _ (z : Size) (b : Board) (vs : List View) (r : Kept z b vs) (id : ℕ) (v
       record { inside = λ on. cc; state = λ on. cc; short = omega arith; text = λ on. cc }
       record { slot = r.fate.slot; out = r.fate.out; head = r.fate.head; idle = r.fate.idle; dies = λ ne. absurd (ne none) }
       leaves_passed
+      (λ q ne. r.blank q (λ e. ne (state_as q ∙ e)))
       (own_trail z b vs r id v s b.epoch passing v.walk (λ q w _ t. record { news = t.news; path = t.path; whole = t.whole; reached = t.reached; fresh = t.fresh; ahead = λ two_ on. cc; still = t.still }))
 
 pub keep_pass_over : (z : Size) (b : Board) (vs : List View) (r : Kept z b vs) (id : ℕ) (v : View) → SeatOk z b r.plan id v → (x : ℕ) (b' : Board) → Does z b v (PassOver x) b' → Kept z b' (set vs id (view_after v (PassOver x)))
@@ -286,6 +290,8 @@ module _ (z : Size) (b : Board) (vs : List View) (r : Kept z b vs) (id : ℕ) (v
         };
       }
       leaves_condemned
+      (λ q. word_after (λ m. state_of m ≢ 1 → Formed (text_of b.texts q)) b.atoms r.plan.sweep.cursor 2 q within
+      (λ e _. r.blank q (λ one. let three : state_of (get_or b.atoms q 0) ≡ 3 = ap (λ (i : ℕ). state_of (get_or b.atoms i 0)) e ∙ ap state_of clean in omega arith)) (λ _. r.blank q))
       (own_trail z b vs r id v s b.epoch (condemning (head_of v.walk)) v.walk (λ q t e o. record {
         news = o.news;
         path = o.path;
@@ -382,6 +388,8 @@ module _ (z : Size) (b : Board) (vs : List View) (r : Kept z b vs) (id : ℕ) (v
       record { inside = λ on_. cc; state = λ on_. cc; short = omega arith; text = λ on_. cc }
       record { slot = refl; out = refl; head = r.fate.head; idle = λ _. refl; dies = λ ne. absurd (ne refl) }
       leaves_freed
+      (λ q. word_after (λ m. state_of m ≢ 1 → Formed (text_of b.texts q)) b.atoms r.plan.sweep.cursor 0 q room
+      (λ e _. r.blank q (λ one. let two_ : state_of (get_or b.atoms q 0) ≡ 2 = ap (λ (i : ℕ). state_of (get_or b.atoms i 0)) e ∙ r.slots.dies r.plan.sweep.cursor d.at in omega arith)) (λ _. r.blank q))
       (own_trail z b vs r id v s b.epoch freeing v.walk (λ q t _ o. record { news = o.news; path = o.path; whole = o.whole; reached = o.reached; fresh = o.fresh; ahead = λ two_ on_. cc; still = o.still }))
 
 pub keep_free : (z : Size) (b : Board) (vs : List View) (r : Kept z b vs) (id : ℕ) (v : View) → SeatOk z b r.plan id v → (b' : Board) → Does z b v Free b' → Kept z b' (set vs id (view_after v Free))

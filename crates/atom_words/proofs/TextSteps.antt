@@ -1,11 +1,11 @@
 -- A step on a text word or on a link word of the seat's own slot keeps the rule.
-use Rattle.std.proofs.Common.{◌≡◌, ◌≢◌, ◌⊎◌, ℕ, ◌+◌, ◌*◌, ◌<◌, true, false, List, [], ◌∷◌, ◌++◌, length, get_or, set, take, refl, sym, ap, ◌∙◌, subst, inl, inr, ⊎_elim, arith, Some, length-set, length-append, get_or-set_same, get_or-set_other, ◌^◌, ◌-◌}
+use Rattle.std.proofs.Common.{◌≡◌, ◌≢◌, ◌⊎◌, ℕ, ◌+◌, ◌*◌, ◌<◌, true, false, List, [], ◌∷◌, ◌++◌, length, get_or, set, take, refl, sym, ap, ◌∙◌, subst, inl, inr, ⊎_elim, arith, Some, option_map, take_all, ◌≤◌, length-set, length-append, get_or-set_same, get_or-set_other, ◌^◌, ◌-◌}
 use Rattle.atom_words.specs.Layout.{state_of, first_of, row_first}
-use Rattle.atom_words.specs.Texts.{bucket, Formed}
+use Rattle.atom_words.specs.Texts.{bucket, filled, Formed, padded}
 use Rattle.atom_words.specs.Board.{Board, text_of, with_text, with_link}
 use Rattle.atom_words.specs.Chains.{In, Chain, Linked}
-use Rattle.atom_words.specs.Kinds.{putting, linking, view_after, Does}
-use Rattle.atom_words.specs.Kept.{Fate, Left, OwnOk, HeldOk, CountsOk, Seen, WalkOk, SeatOk, Rows, slots, Trail, Kept}
+use Rattle.atom_words.specs.Kinds.{measuring, putting, filling_up, linking, view_after, Does}
+use Rattle.atom_words.specs.Kept.{Fate, Left, Rest, OwnOk, HeldOk, CountsOk, Seen, WalkOk, SeatOk, Rows, slots, Trail, Kept}
 use Rattle.atom_words.specs.declared.size.Size.{Size}
 use Rattle.atom_words.specs.declared.view.Held.{Held}
 use Rattle.atom_words.specs.declared.view.Counted.{Counted}
@@ -14,11 +14,17 @@ use Rattle.atom_words.specs.declared.view.Walk.{Walk}
 use Rattle.atom_words.specs.declared.view.Sweeping.{Sweeping}
 use Rattle.atom_words.specs.declared.view.Growing.{Growing}
 use Rattle.atom_words.specs.declared.view.View.{View}
-use Rattle.atom_words.specs.declared.kind.Kind.TheVariants.{PutWord, PutLink}
-use Rattle.atom_words.proofs.Slices.{some_same, text_else, text_put, in_none, in_cases, in_back, in_either, chain_at, chain_else}
+use Rattle.atom_words.specs.declared.kind.Kind.{Kind}
+use Rattle.atom_words.specs.declared.kind.Kind.TheVariants.{Measure, PutWord, Fill, PutLink}
+use Rattle.atom_words.proofs.Slices.{some_same, or_beyond, text_length, text_else, text_put, word_else, in_none, in_cases, in_back, in_either, chain_at, chain_else}
 use Rattle.atom_words.proofs.Puts.{unmapped}
 use Rattle.atom_words.proofs.Rowing.{grow_text, picked_linked, old_inside}
-use Rattle.atom_words.proofs.Frames.{seats_stay}
+use Rattle.atom_words.proofs.Frames.{seats_stay, keep_view}
+use Rattle.atom_words.proofs.Padding.{padded_length, padded_here, padded_behind}
+use Rattle.std.proofs.lemmas.Grind.{same_number_lists}
+use Rattle.std.proofs.lemmas.List.{get_or-take}
+use mathlib.Core.Logic.{dite}
+use native.Mathlib.Decide.{dec_le}
 
 -- the texts of linked slots and of the dying one stay
 module _ (z : Size) (texts texts' : List ℕ) (chain : ℕ → List ℕ) (f : Fate) (same : (q : ℕ) → Linked z.heads chain q ⊎ (f.slot ≡ q + 1) → text_of texts' q ≡ text_of texts q) where
@@ -90,6 +96,7 @@ module _ (z : Size) (b : Board) (vs : List View) (r : Kept z b vs) (id : ℕ) (v
         state = h.state;
         short = h.short;
         text = ap (take (length n.text)) (text_else b.texts o.slot (length o.text) x n.slot more (other_slot j w o n own other sj e)) ∙ h.text;
+        rest = λ un. subst (Rest n) (sym (text_else b.texts o.slot (length o.text) x n.slot more (other_slot j w o n own other sj e))) (h.rest un);
         link = h.link;
         apart = h.apart;
         linked = h.linked;
@@ -119,6 +126,10 @@ module _ (z : Size) (b : Board) (vs : List View) (r : Kept z b vs) (id : ℕ) (v
             short = simp (length-append {A = ℕ}) (omega arith);
             text = let n : length (o.text ++ x ∷ []) ≡ length o.text + 1 = simp (length-append {A = ℕ}) refl in ap (λ (i : ℕ). take i (text_of t o.slot)) n
                 ∙ (text_put b.texts o.slot (length o.text) x z.slots r.sized.texts h.inside more ∙ ap (λ y. y ++ x ∷ []) h.text);
+            rest = λ un. let many : length (o.text ++ x ∷ []) ≡ length o.text + 1 = simp (length-append {A = ℕ}) refl in (
+              (λ i past later. word_else b.texts o.slot (length o.text) x i (λ e. omega arith) ∙ (h.rest un).0 i past (omega arith)),
+              (λ none. absurd (let empty : length (o.text ++ x ∷ []) ≡ 0 = ap length none in omega arith)),
+            );
             link = h.link;
             apart = h.apart;
             linked = λ l. let no : true ≡ false = sym l ∙ unlinked in cc;
@@ -151,12 +162,64 @@ module _ (z : Size) (b : Board) (vs : List View) (r : Kept z b vs) (id : ℕ) (v
         text = λ on. ap (take (length r.plan.sweep.text)) (text_else b.texts o.slot (length o.text) x r.plan.sweep.cursor more (λ e. let state = (s.own o own).state in let here : state_of (get_or b.atoms r.plan.sweep.cursor 0) ≡ 1 = ap (λ (i : ℕ). state_of (get_or b.atoms i 0)) e ∙ state in
             ⊎_elim (λ (t : state_of (get_or b.atoms r.plan.sweep.cursor 0) ≡ 3). omega arith) (λ (t : state_of (get_or b.atoms r.plan.sweep.cursor 0) ≡ 2). omega arith) (r.sure.state on))) ∙ r.sure.text on;
       };
+      blank = λ q ne. subst Formed (sym (text_else b.texts o.slot (length o.text) x q more (λ e. ne (ap (λ (i : ℕ). state_of (get_or b.atoms i 0)) e ∙ (s.own o own).state)))) (r.blank q ne);
       fate = r.fate;
       seats = seats_stay (SeatOk z (with_text b (32 * o.slot + length o.text) x) r.plan) vs id (view_after v (PutWord x)) (λ _. mine_text) (λ j w other at here. others_text j w other (r.seats j w at here));
     }
 
   pub keep_put_word : (x : ℕ) (b' : Board) → Does z b v (PutWord x) b' → Kept z b' (set vs id (view_after v (PutWord x)))
   keep_put_word x b' d = subst (λ y. Kept z y (set vs id (view_after v (PutWord x)))) (sym d.4) (put_word_at d.0 x d.1 d.2 d.3)
+
+  -- THE FIRST WORD IS LOADED, and tells how many words another text has left; and THE OTHER WORDS ARE 0: steps on the view alone
+  own_told : (f : Own → Own) (o : Own) (made : List Kind) → v.own ≡ Some o → OwnOk z b.atoms b.links b.texts r.plan.chain r.plan.owner id (f o) → Kept z b (set vs id (record v { own = option_map f v.own; made = made }))
+  own_told f o made own ok = keep_view z b vs r id (record v { own = option_map f v.own; made = made }) record {
+    size = s.size;
+    own = λ n e. let was = unmapped f v.own n e in let same : o ≡ was.0 = some_same o was.0 v.own own was.1 in subst (OwnOk z b.atoms b.links b.texts r.plan.chain r.plan.owner id) (ap f same ∙ was.2) ok;
+    held = s.held;
+    fixed = s.fixed;
+    low = s.low;
+    counts = s.counts;
+    walk = s.walk;
+    marks = s.marks;
+    sweeps = s.sweeps;
+    trail = s.trail;
+    risen = s.risen;
+    unclosed = s.unclosed;
+    grows = s.grows;
+  }
+
+  pub keep_measure : (x : ℕ) (b' : Board) → Does z b v (Measure x) b' → Kept z b' (set vs id (view_after v (Measure x)))
+  keep_measure x b' d = let o : Own = d.0 in let h = s.own o d.1 in subst (λ y. Kept z y (set vs id (view_after v (Measure x)))) (sym d.5) (own_told (measuring x) o (v.made ++ Measure x ∷ []) d.1 record {
+    inside = h.inside;
+    mine = h.mine;
+    usable = h.usable;
+    state = h.state;
+    short = h.short;
+    text = h.text;
+    rest = λ un. let formed = (h.rest un).1 d.3 in ((λ i past _. formed i (subst (λ (n : ℕ). filled n ≤ i) (sym d.4) past)), λ _. formed);
+    link = h.link;
+    apart = h.apart;
+    linked = h.linked;
+  })
+
+  pub keep_fill : (b' : Board) → Does z b v Fill b' → Kept z b' (set vs id (view_after v Fill))
+  keep_fill b' d = let o : Own = d.0 in let h = s.own o d.1 in let short = h.short in let full : length (padded o.text) ≡ 32 = padded_length o.text short in
+      let long : length (text_of b.texts o.slot) ≡ 32 = text_length b.texts o.slot z.slots r.sized.texts h.inside in
+      let row : text_of b.texts o.slot ≡ padded o.text = same_number_lists (text_of b.texts o.slot) (padded o.text) (long ∙ sym full) (λ i low. dite (dec_le (length o.text) i)
+      (λ (past : length o.text ≤ i). ⊎_elim (λ (covered : o.bound ≤ length o.text). (h.rest d.2).0 i (omega arith) past) (λ (all : length o.text ≡ 32). absurd (omega arith)) d.3 ∙ sym (padded_behind o.text i past))
+      (λ (here : ¬ (length o.text ≤ i)). sym (get_or-take (length o.text) (text_of b.texts o.slot) i 0 (omega arith)) ∙ (ap (λ (l : List ℕ). get_or l i 0) h.text ∙ sym (padded_here o.text i (omega arith))))) in
+      subst (λ y. Kept z y (set vs id (view_after v Fill))) (sym d.4) (own_told filling_up o (v.made ++ Fill ∷ []) d.1 record {
+        inside = h.inside;
+        mine = h.mine;
+        usable = h.usable;
+        state = h.state;
+        short = omega (arith, full);
+        text = ap (λ (n : ℕ). take n (text_of b.texts o.slot)) full ∙ (take_all 32 (text_of b.texts o.slot) (omega (arith, long)) ∙ row);
+        rest = λ un. ((λ i _ later. or_beyond (text_of b.texts o.slot) i 0 (omega (arith, long, full))), λ none. absurd (let many = ap length none in omega (arith, full, many)));
+        link = h.link;
+        apart = h.apart;
+        linked = λ on. ((h.linked on).0, full);
+      })
 
   -- PUT THE LINK WORD
   module _ (o : Own) (l : ℕ) (own : v.own ≡ Some o) (unlinked : o.linked ≡ false) where
@@ -197,6 +260,7 @@ module _ (z : Size) (b : Board) (vs : List View) (r : Kept z b vs) (id : ℕ) (v
         state = h.state;
         short = h.short;
         text = h.text;
+        rest = h.rest;
         link = λ m is un. get_or-set_other b.links o.slot n.slot l 0 (other_slot j w o n own other sj e) ∙ h.link m is un;
         apart = h.apart;
         linked = h.linked;
@@ -225,6 +289,7 @@ module _ (z : Size) (b : Board) (vs : List View) (r : Kept z b vs) (id : ℕ) (v
             state = h.state;
             short = h.short;
             text = h.text;
+            rest = h.rest;
             link = λ m is un. let now : l ≡ m = cc in get_or-set_same b.links o.slot l 0 (omega (arith, h.inside, r.sized.links)) ∙ now;
             apart = h.apart;
             linked = h.linked;
@@ -262,6 +327,7 @@ module _ (z : Size) (b : Board) (vs : List View) (r : Kept z b vs) (id : ℕ) (v
       slots = r.slots;
       cycle = r.cycle;
       sure = r.sure;
+      blank = r.blank;
       fate = record {
         slot = r.fate.slot;
         out = r.fate.out;

@@ -162,6 +162,7 @@ module _ (z : Size) (b : Board) (vs : List View) (r : Kept z b vs) (id : ℕ) (v
           state = h.state;
           short = h.short;
           text = h.text;
+          rest = h.rest;
           link = λ l is un. o.own_link n.slot (h.apart un) ∙ h.link l is un;
           apart = λ un l. h.apart un (was_on n.slot l);
           linked = λ on. let t = h.linked on in (still_on n.slot (λ two. omega arith) t.0, t.1);
@@ -202,6 +203,7 @@ module _ (z : Size) (b : Board) (vs : List View) (r : Kept z b vs) (id : ℕ) (v
         };
         cycle = record { word = r.cycle.word; phase = r.cycle.phase; begun = r.cycle.begun; few = r.cycle.few; checked = r.cycle.checked; swept = r.cycle.swept; cursor = r.cycle.cursor };
         sure = record { inside = r.sure.inside; state = r.sure.state; short = r.sure.short; text = r.sure.text };
+        blank = r.blank;
         fate = record {
           slot = r.fate.slot;
           out = refl;
@@ -494,6 +496,7 @@ module _ (z : Size) (b : Board) (vs : List View) (r : Kept z b vs) (id : ℕ) (v
     slots = r.slots;
     cycle = record { word = r.cycle.word; phase = r.cycle.phase; begun = r.cycle.begun; few = r.cycle.few; checked = r.cycle.checked; swept = r.cycle.swept; cursor = r.cycle.cursor };
     sure = sure_same z b vs r id v s moving_past refl refl refl;
+    blank = r.blank;
     fate = record {
       slot = r.fate.slot;
       out = r.fate.out;

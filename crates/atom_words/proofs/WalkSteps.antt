@@ -26,8 +26,8 @@ use Rattle.atom_words.specs.declared.view.Refusal.TheVariants.{Again, Worn}
 use Rattle.atom_words.specs.declared.view.View.{View}
 use Rattle.atom_words.specs.declared.kind.Kind.{Kind}
 use Rattle.atom_words.specs.declared.kind.Kind.TheVariants.{Load, Protect, Start, Read, Next, Skip, Hold, PutLink, Link, Fetch, Refuse, Barred, Keep, Fix, Ask}
-use Rattle.atom_words.proofs.Regions.{head_read, text_read}
-use Rattle.atom_words.proofs.Slices.{some_same, or_at, last_same, text_length, chain_at}
+use Rattle.atom_words.proofs.Regions.{text_once, head_read, text_read}
+use Rattle.atom_words.proofs.Slices.{some_same, or_at, last_same, text_length, text_word, chain_at}
 use Rattle.atom_words.proofs.Padding.{padded_is}
 use Rattle.atom_words.proofs.AtomSteps.{has, alone_at}
 use Rattle.atom_words.proofs.Loads.{in_chain}
@@ -35,14 +35,10 @@ use Rattle.atom_words.proofs.Rowing.{bucket_in, rows_apart}
 use Rattle.atom_words.proofs.Steps.{or_mark}
 use Rattle.atom_words.proofs.Adapters.{Sat, load_at, link_load, head_load, text_load, epoch_load, atom_goes, link_goes, head_exchange}
 
--- a word of a slot's text stands among the texts
-pub text_word : (texts : List ℕ) (k n : ℕ) → n < 32 → get_or (text_of texts k) n 0 ≡ get_or texts (32 * k + n) 0
-text_word texts k n h = get_or-take 32 (drop (32 * k) texts) n 0 h ∙ get_or-drop (32 * k) texts n 0
-
 module _ (key : Size) (slots id : ℕ) (me : Sat) (is : key ≡ me.0.size) (here : me.0.gone ≡ false) where
   pub loading : (i : ℕ) → Allows (Rule key) slots id me i (λ n. n) (loaded (step slots i 0 0 none) me)
-  loading i = load_at key me.0.size slots id me i (loaded (step slots i 0 0 none) me) (λ b. get_or (laid b) i 0) (λ b sz. refl) is here
-      (λ b vs r seen small. (Load i (get_or (laid b) i 0), (refl, refl), (refl, refl)))
+  loading i = load_at key me.0.size slots id me i (loaded (step slots i 0 0 none) me) (λ b. get_or (laid me.0.size b) i 0) (λ b sz. refl) is here
+      (λ b vs r seen small. (Load i (get_or (laid me.0.size b) i 0), (refl, refl), (refl, refl)))
 
   pub starting_walk : (i h : ℕ) → i ≡ head_at me.0.size h → h < me.0.size.heads → Allows (Rule key) slots id me i (λ n. n) (walk_started (step slots i 0 0 none) me)
   starting_walk i h at inside = subst (λ (w : ℕ). Allows (Rule key) slots id me w (λ n. n) (walk_started (step slots w 0 0 none) me)) (sym at)
@@ -51,9 +47,9 @@ module _ (key : Size) (slots id : ℕ) (me : Sat) (is : key ≡ me.0.size) (here
       (λ open_. (Start h (head b h), (inside, refl, inl open_, refl), (refl, λ j e. let same : h ≡ j = omega arith in ((λ _. ap (λ (x : ℕ). view_after me.0 (Start x (head b h))) same), λ ne. absurd (ne open_)))))
       (λ closed. (Barred h (head b h), (inside, refl, closed, refl), (refl, λ j e. let same : h ≡ j = omega arith in ((λ o. absurd (closed o)), λ _. ap (λ (x : ℕ). view_after me.0 (Barred x (head b h))) same))))))
 
-  pub reading_word : (i k : ℕ) (w : Walk) → me.0.walk ≡ Some w → w.place ≡ k + 1 → length w.part < 32 → i ≡ text_at me.0.size (32 * k + length w.part) → Allows (Rule key) slots id me i (λ n. n) (word_read (step slots i 0 0 none) me)
-  reading_word i k w walk place more at = subst (λ (x : ℕ). Allows (Rule key) slots id me x (λ n. n) (word_read (step slots x 0 0 none) me)) (sym at)
-      (text_load key me.0.size slots id me (32 * k + length w.part) (word_read (step slots (text_at me.0.size (32 * k + length w.part)) 0 0 none) me) is here
+  pub reading_word : (i k : ℕ) (w : Walk) → me.0.walk ≡ Some w → w.place ≡ k + 1 → length w.part < 32 → k < me.0.size.slots → i ≡ text_at me.0.size k (length w.part) → Allows (Rule key) slots id me i (λ n. n) (word_read (step slots i 0 0 none) me)
+  reading_word i k w walk place more inside at = subst (λ (x : ℕ). Allows (Rule key) slots id me x (λ n. n) (word_read (step slots x 0 0 none) me)) (sym at)
+      (text_load key me.0.size slots id me k (length w.part) (word_read (step slots (text_at me.0.size k (length w.part)) 0 0 none) me) is here inside more
       (λ b vs r seen small. let x : ℕ = get_or b.texts (32 * k + length w.part) 0 in (Read x, (w, k, walk, place, more, text_word b.texts k (length w.part) more, refl), (refl, refl))))
 
   pub going : (i k : ℕ) (w : Walk) → me.0.walk ≡ Some w → w.place ≡ k + 1 → k < me.0.size.slots → i ≡ link_at me.0.size k → Allows (Rule key) slots id me i (λ n. n) (gone_on (step slots i 0 0 none) me)
@@ -134,15 +130,15 @@ module _ (key : Size) (slots id : ℕ) (me : Sat) (is : key ≡ me.0.size) (here
         ),
       )))
 
-  pub reading_held : (i n : ℕ) (a : Held) → In a me.0.held ⊎ In a me.0.fixed → n < 32 → i ≡ text_at me.0.size (32 * a.slot + n) → Allows (Rule key) slots id me i (λ n. n) (held_word_read (step slots i 0 0 none) me)
-  reading_held i n a ours more at = subst (λ (x : ℕ). Allows (Rule key) slots id me x (λ n. n) (held_word_read (step slots x 0 0 none) me)) (sym at)
-      (text_load key me.0.size slots id me (32 * a.slot + n) (held_word_read (step slots (text_at me.0.size (32 * a.slot + n)) 0 0 none) me) is here
+  pub reading_held : (i n : ℕ) (a : Held) → In a me.0.held ⊎ In a me.0.fixed → n < 32 → a.slot < me.0.size.slots → i ≡ text_at me.0.size a.slot n → Allows (Rule key) slots id me i (λ n. n) (held_word_read (step slots i 0 0 none) me)
+  reading_held i n a ours more inside at = subst (λ (x : ℕ). Allows (Rule key) slots id me x (λ n. n) (held_word_read (step slots x 0 0 none) me)) (sym at)
+      (text_load key me.0.size slots id me a.slot n (held_word_read (step slots (text_at me.0.size a.slot n) 0 0 none) me) is here inside more
       (λ b vs r seen small. let x : ℕ = get_or b.texts (32 * a.slot + n) 0 in (
-        Load (text_at me.0.size (32 * a.slot + n)) x,
-        (text_read me.0.size b r.sized (32 * a.slot + n), refl),
+        Load (text_at me.0.size a.slot n) x,
+        (text_read me.0.size b r.sized a.slot n inside more, refl),
         (
           (refl, refl),
-          λ q j too below e. let ok = has me.0.size b vs r id me.0 (r.seats id me.0 seen here) q too in let same : 32 * a.slot + n ≡ 32 * q.slot + j = omega arith in
+          λ q j too below e. let ok = has me.0.size b vs r id me.0 (r.seats id me.0 seen here) q too in let same : 32 * a.slot + n ≡ 32 * q.slot + j = text_once me.0.size a.slot n q.slot j inside ok.inside more below e in
               ap (λ (y : ℕ). get_or b.texts y 0) same ∙ (sym (text_word b.texts q.slot j below) ∙ ap (λ (l : List ℕ). get_or l j 0) ok.text),
         ),
       )))

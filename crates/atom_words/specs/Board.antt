@@ -1,5 +1,5 @@
 -- The words of a table, by region.
-use Rattle.std.specs.Prelude.{◌≡◌, ℕ, ◌+◌, ◌*◌, ◌<◌, List, ◌∷◌, ◌++◌, length, take, drop, set, slice_index}
+use Rattle.std.specs.Prelude.{◌≡◌, ◌==◌, nat_lt, if◌then◌else◌, ℕ, zero, suc, ◌+◌, ◌-◌, ◌*◌, ◌/◌, ◌%◌, ◌<◌, List, [], ◌∷◌, ◌++◌, length, take, drop, replicate, set, slice_index}
 use Rattle.atom_words.specs.declared.size.Size.{Size}
 
 pub record Board : Type 0 where
@@ -17,9 +17,26 @@ pub record Board : Type 0 where
   -- for each slot the 32 words of its text
   pub texts : List ℕ
 
--- the order in which they lie
-abbrev pub laid : Board → List ℕ
-laid b = (b.epoch ∷ b.row ∷ b.acks) ++ (b.atoms ++ (b.links ++ (b.heads ++ b.texts)))
+-- the words f n, f (n + 1) and so on, m of them
+abbrev pub spread : (ℕ → ℕ) → ℕ → ℕ → List ℕ
+spread f n zero = []
+spread f n (suc m) = f n ∷ spread f (n + 1) m
+
+-- Eight words of each slot stand together, since they are read most: its atom word, its link word, and the first six words of its text, which a text of at most 40 bytes does not pass
+abbrev pub near_word : Board → ℕ → ℕ
+near_word b i = if i % 8 == 0 then slice_index b.atoms (i / 8) else (if i % 8 == 1 then slice_index b.links (i / 8) else slice_index b.texts (32 * (i / 8) + (i % 8 - 2)))
+
+-- the other 26 words of its text stand apart
+abbrev pub far_word : Board → ℕ → ℕ
+far_word b i = slice_index b.texts (32 * (i / 26) + (i % 26 + 6))
+
+-- how many words are left out, so that the number of words before those of the first slot leaves 6 by 8: where the memory of the table begins 16 bytes behind the start of a line of 64 bytes, the eight words of a slot are one line
+abbrev pub gap : Size → ℕ
+gap z = (4 + 7 * (z.engines + z.heads)) % 8
+
+-- THE ORDER IN WHICH THEY LIE
+abbrev pub laid : Size → Board → List ℕ
+laid z b = (b.epoch ∷ b.row ∷ b.acks) ++ (b.heads ++ (replicate (gap z) 0 ++ (spread (near_word b) 0 (8 * z.slots) ++ spread (far_word b) 0 (26 * z.slots))))
 
 pub record Sized (z : Size) (b : Board) : Type 0 where
   -- a slot's number plus one fits the 21 bits of a head
@@ -31,23 +48,28 @@ pub record Sized (z : Size) (b : Board) : Type 0 where
   pub texts : length b.texts ≡ 32 * z.slots
 
 abbrev pub word_count : Size → ℕ
-word_count z = 2 + z.engines + z.slots + z.slots + z.heads + 32 * z.slots
+word_count z = 2 + z.engines + z.heads + gap z + 8 * z.slots + 26 * z.slots
 
 -- where each word stands
 abbrev pub ack_at : Size → ℕ → ℕ
 ack_at z e = 2 + e
 
+abbrev pub head_at : Size → ℕ → ℕ
+head_at z h = 2 + z.engines + h
+
+-- the first word of the first slot
+abbrev pub near_at : Size → ℕ
+near_at z = 2 + z.engines + z.heads + gap z
+
 abbrev pub atom_at : Size → ℕ → ℕ
-atom_at z k = 2 + z.engines + k
+atom_at z k = near_at z + 8 * k
 
 abbrev pub link_at : Size → ℕ → ℕ
-link_at z k = 2 + z.engines + z.slots + k
+link_at z k = near_at z + 8 * k + 1
 
-abbrev pub head_at : Size → ℕ → ℕ
-head_at z h = 2 + z.engines + z.slots + z.slots + h
-
-abbrev pub text_at : Size → ℕ → ℕ
-text_at z i = 2 + z.engines + z.slots + z.slots + z.heads + i
+-- the word n of the text of the slot k
+abbrev pub text_at : Size → ℕ → ℕ → ℕ
+text_at z k n = if nat_lt n 6 then near_at z + 8 * k + n + 2 else near_at z + 8 * z.slots + 26 * k + (n - 6)
 
 abbrev pub atom : Board → ℕ → ℕ
 atom b k = slice_index b.atoms k

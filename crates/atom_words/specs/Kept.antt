@@ -1,5 +1,5 @@
 -- What every reached state keeps.
-use Rattle.std.specs.Prelude.{◌≡◌, ◌≢◌, ◌⊎◌, ℕ, ◌+◌, ◌-◌, ◌^◌, ◌<◌, ◌≤◌, Bool, true, false, List, [], ◌∷◌, ◌++◌, length, take, map, slice_index, Option, Some, None}
+use Rattle.std.specs.Prelude.{◌≡◌, ◌≢◌, ◌⊎◌, ℕ, ◌+◌, ◌-◌, ◌^◌, ◌<◌, ◌≤◌, Bool, true, false, List, [], ◌∷◌, ◌++◌, length, take, map, get_or, slice_index, Option, Some, None}
 use mathlib.Core.Option.{some}
 use lib.ListN.{get_elem?}
 use Rattle.atom_words.specs.Layout.{state_of, mark_of, count_of, first_of, closed_of, version_of, worn, last, phase_of, epoch_of, row_first}
@@ -36,6 +36,10 @@ pub record Plan : Type 0 where
   pub grow : Growing
   pub fate : Fate
 
+-- what a reserved slot has behind the words that are put: zeros from the bound on; and where none is put, zeros behind those that its first word tells of
+abbrev pub Rest : Own → List ℕ → Type 0
+Rest o row = ((i : ℕ) → o.bound ≤ i → length o.text ≤ i → get_or row i 0 ≡ 0) × (o.text ≡ [] → Formed row)
+
 -- the slot that the seat j has reserved
 pub record OwnOk (z : Size) (atoms links texts : List ℕ) (chain : ℕ → List ℕ) (owner : ℕ → ℕ) (j : ℕ) (o : Own) : Type 0 where
   pub inside : o.slot < z.slots
@@ -44,6 +48,7 @@ pub record OwnOk (z : Size) (atoms links texts : List ℕ) (chain : ℕ → List
   pub state : state_of (slice_index atoms o.slot) ≡ 1
   pub short : length o.text ≤ 32
   pub text : take (length o.text) (text_of texts o.slot) ≡ o.text
+  pub rest : o.linked ≡ false → Rest o (text_of texts o.slot)
   pub link : (l : ℕ) → o.link ≡ Some l → o.linked ≡ false → slice_index links o.slot ≡ l
   pub apart : o.linked ≡ false → ¬ Linked z.heads chain o.slot
   pub linked : o.linked ≡ true → Linked z.heads chain o.slot × (length o.text ≡ 32)
@@ -231,5 +236,7 @@ pub record Kept (z : Size) (b : Board) (vs : List View) : Type 0 where
   pub slots : Slots z b.atoms plan.chain plan.fate
   pub cycle : CycleOk z b.epoch b.acks plan.sweep
   pub sure : SureOk z b.atoms b.texts plan.sweep
+  -- each slot that is not reserved has zeros behind the words that its text fills
+  pub blank : (k : ℕ) → state_of (slice_index b.atoms k) ≢ 1 → Formed (text_of b.texts k)
   pub fate : FateOk z b.epoch b.links b.heads plan.chain plan.sweep plan.fate
   pub seats : (j : ℕ) (v : View) → get_elem? vs j ≡ some v → v.gone ≡ false → SeatOk z b plan j v

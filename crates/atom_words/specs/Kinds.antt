@@ -22,7 +22,7 @@ use Rattle.atom_words.specs.declared.view.Refusal.{Refusal}
 use Rattle.atom_words.specs.declared.view.Refusal.TheVariants.{Full, Again, Worn}
 use Rattle.atom_words.specs.declared.view.View.{View}
 use Rattle.atom_words.specs.declared.kind.Kind.{Kind}
-use Rattle.atom_words.specs.declared.kind.Kind.TheVariants.{Raise, Risen, Reserve, PutWord, PutLink, Link, Validate, Release, Load, Refused, Start, Read, Next, Skip, Hold, Keep, Fix, StartPass, EndPass, Refuse, Barred, Ask, Protect, Fetch, Register, Unregister, Begin, Mark, Scan, Ack, Check, ToSweep, Look, Spell, Condemn, PassOver, Behind, UnlinkAt, UnlinkHead, Note, Bump, Past, Free, End, Aim, Sound, Close, Emptied, Pick, MoveHead, MoveLink, LeaveHead, LeaveLink, PublishRow, Publish}
+use Rattle.atom_words.specs.declared.kind.Kind.TheVariants.{Raise, Risen, Reserve, Measure, PutWord, Fill, PutLink, Link, Validate, Release, Load, Refused, Start, Read, Next, Skip, Hold, Keep, Fix, StartPass, EndPass, Refuse, Barred, Ask, Protect, Fetch, Register, Unregister, Begin, Mark, Scan, Ack, Check, ToSweep, Look, Spell, Condemn, PassOver, Behind, UnlinkAt, UnlinkHead, Note, Bump, Past, Free, End, Aim, Sound, Close, Emptied, Pick, MoveHead, MoveLink, LeaveHead, LeaveLink, PublishRow, Publish}
 
 -- the word with its mark set
 abbrev pub marked : ℕ → ℕ
@@ -34,13 +34,28 @@ unmarked w = w - 4 * mark_of w
 
 -- a slot that was just reserved
 abbrev pub fresh : ℕ → Own
-fresh k = record { slot = k; text = []; link = None; linked = false }
+fresh k = record { slot = k; text = []; bound = 32; link = None; linked = false }
+
+abbrev pub measuring : ℕ → Own → Own
+measuring x o = record o { bound = filled x }
 
 abbrev pub putting : ℕ → Own → Own
 putting x o = record o { text = o.text ++ x ∷ [] }
 
+-- its other words are 0
+abbrev pub filling_up : Own → Own
+filling_up o = record o { text = padded o.text }
+
+-- as many words are put as another text has left, or all
+abbrev pub IsCovered : Own → Type 0
+IsCovered o = (o.bound ≤ length o.text) ⊎ (length o.text ≡ 32)
+
 abbrev pub linking : ℕ → Own → Own
 linking l o = record o { link = Some l }
+
+-- no word of the text is put, or all are, with zeros behind those that it fills
+abbrev pub IsLeft : List ℕ → Type 0
+IsLeft text = (text ≡ []) ⊎ ((length text ≡ 32) × Formed text)
 
 abbrev pub linked_own : Own → Own
 linked_own o = record o { linked = true }
@@ -264,6 +279,8 @@ abbrev pub view_after : View → Kind → View
 view_after v (Raise h) = record v { risen = rising h v.risen; made = v.made ++ Raise h ∷ [] }
 view_after v (Risen h x) = record v { risen = rising h v.risen; made = v.made ++ Risen h x ∷ [] }
 view_after v (Reserve k) = record v { own = Some (fresh k); made = v.made ++ Reserve k ∷ [] }
+view_after v (Measure x) = record v { own = option_map (measuring x) v.own; made = v.made ++ Measure x ∷ [] }
+view_after v Fill = record v { own = option_map filling_up v.own; made = v.made ++ Fill ∷ [] }
 view_after v (PutWord x) = record v { own = option_map (putting x) v.own; made = v.made ++ PutWord x ∷ [] }
 view_after v (PutLink l) = record v { own = option_map (linking l) v.own; made = v.made ++ PutLink l ∷ [] }
 view_after v Link = record v { own = option_map linked_own v.own; walk = None; made = v.made ++ Link ∷ [] }
@@ -341,13 +358,15 @@ Lost z v k old found = (state_of old ≡ 0) × (found ≢ old) × ((before : Lis
 -- WHAT A STEP ASKS AND DOES: the seat's step of this kind makes b' of the words b
 abbrev pub Does : Size → Board → View → Kind → Board → Type 0
 Does z b v (Reserve k) b' = (k < z.slots) × (v.own ≡ None) × (state_of (atom b k) ≡ 0) × (b' ≡ with_atom b k 1)
+Does z b v (Measure x) b' = (o : Own) × (v.own ≡ Some o) × (o.linked ≡ false) × (o.text ≡ []) × (slice_index (text_of b.texts o.slot) 0 ≡ x) × (b' ≡ b)
+Does z b v Fill b' = (o : Own) × (v.own ≡ Some o) × (o.linked ≡ false) × IsCovered o × (b' ≡ b)
 Does z b v (PutWord x) b' = (o : Own) × (v.own ≡ Some o) × (o.linked ≡ false) × (length o.text < 32) × (b' ≡ with_text b (32 * o.slot + length o.text) x)
 Does z b v (PutLink l) b' = (o : Own) × (v.own ≡ Some o) × (o.linked ≡ false) × (b' ≡ with_link b o.slot l)
 Does z b v Link b' = (o : Own) × (w : Walk) × (v.own ≡ Some o) × (v.walk ≡ Some w) × (o.linked ≡ false) × (length o.text ≡ 32) × Formed o.text × (o.link ≡ Some (first_of w.word)) × Ended b.row o w
     × (head b w.head ≡ w.word) × (closed_of w.word ≡ 0) × (version_of w.word < worn) × (b' ≡ with_head b w.head (head_word (o.slot + 1) 0 (version_of w.word + 1)))
 Does z b v Validate b' = (o : Own) × (v.own ≡ Some o) × (o.linked ≡ true) × Sitting v × (b' ≡ with_atom b o.slot 7)
-Does z b v Release b' = (o : Own) × (v.own ≡ Some o) × (o.linked ≡ false) × (b' ≡ with_atom b o.slot 0)
-Does z b v (Load i x) b' = (slice_index (laid b) i ≡ x) × (b' ≡ b)
+Does z b v Release b' = (o : Own) × (v.own ≡ Some o) × (o.linked ≡ false) × IsLeft o.text × (b' ≡ with_atom b o.slot 0)
+Does z b v (Load i x) b' = (slice_index (laid z b) i ≡ x) × (b' ≡ b)
 Does z b v (Refused k old found) b' = (k < z.slots) × (atom b k ≡ found) × ((state_of found ≢ 0) ⊎ Lost z v k old found) × (b' ≡ b)
 Does z b v (Start h x) b' = (h < z.heads) × (head b h ≡ x) × ((closed_of x ≡ 0) ⊎ ((v.sweep ≢ None) × (v.growing.moving ≡ 0))) × (b' ≡ b)
 Does z b v (Read x) b' = (w : Walk) × (k : ℕ) × (v.walk ≡ Some w) × (w.place ≡ k + 1) × (length w.part < 32) × (slice_index (text_of b.texts k) (length w.part) ≡ x) × (b' ≡ b)

@@ -16,7 +16,7 @@ use Rattle.atom_words.specs.declared.view.Cause.TheVariants.{Moved, Pending}
 use Rattle.atom_words.specs.declared.view.Refusal.TheVariants.{Again, Worn}
 use Rattle.atom_words.specs.declared.view.View.{View}
 use Rattle.atom_words.specs.declared.kind.Kind.{Kind}
-use Rattle.atom_words.specs.declared.kind.Kind.TheVariants.{Raise, Risen, Reserve, PutWord, PutLink, Link, Validate, Release, Load, Refused, Start, Read, Next, Skip, Hold, StartPass, EndPass, Protect, Fetch, Register, Unregister, Refuse, Barred, Keep, Fix, Ask}
+use Rattle.atom_words.specs.declared.kind.Kind.TheVariants.{Raise, Risen, Reserve, Measure, PutWord, Fill, PutLink, Link, Validate, Release, Load, Refused, Start, Read, Next, Skip, Hold, StartPass, EndPass, Protect, Fetch, Register, Unregister, Refuse, Barred, Keep, Fix, Ask}
 
 abbrev Sat : Type 0
 Sat = Me (Unit {0}) View
@@ -36,14 +36,21 @@ Stale z w = (w.lost ≡ true) ⊎ ((w.place ≢ 0) × ((z.slots < w.place) ⊎ (
 abbrev pub Is : Kind → Sat → Sat → Type 0
 Is kind m m' = (m'.1 ≡ m.1) × (m'.0 ≡ view_after m.0 kind)
 
--- the exchange of a free slot's word without a mark
-abbrev pub reserved : At → Sat → ℕ → Sat → Type 0
-reserved st m r m' = (m'.1 ≡ m.1) × ((k : ℕ) → st.word ≡ atom_at m.0.size k
-    → (r ≡ 0 → m'.0 ≡ view_after m.0 (Reserve k)) × (r ≡ 4 → m'.0 ≡ view_after m.0 (Load (atom_at m.0.size k) 4)) × (r ≢ 0 → r ≢ 4 → (state_of r ≢ 0) × (m'.0 ≡ view_after m.0 (Refused k 0 r))))
+-- the load of a slot's word, which is free or not
+abbrev pub seen_free : At → Sat → ℕ → Sat → Type 0
+seen_free st m r m' = (m'.1 ≡ m.1) × ((k : ℕ) → st.word ≡ atom_at m.0.size k → (state_of r ≡ 0 → m'.0 ≡ view_after m.0 (Load (atom_at m.0.size k) r)) × (state_of r ≢ 0 → m'.0 ≡ view_after m.0 (Refused k 0 r)))
 
--- the exchange of a free slot's word with its mark set
-abbrev pub reserved_marked : At → Sat → ℕ → Sat → Type 0
-reserved_marked st m r m' = (m'.1 ≡ m.1) × ((k : ℕ) → st.word ≡ atom_at m.0.size k → (r ≡ 4 → m'.0 ≡ view_after m.0 (Reserve k)) × (r ≢ 4 → m'.0 ≡ view_after m.0 (Refused k 4 r)))
+-- the exchange of the word of a slot that was found free
+abbrev pub reserved : At → Sat → ℕ → Sat → Type 0
+reserved st m r m' = (m'.1 ≡ m.1) × ((k : ℕ) → st.word ≡ atom_at m.0.size k → (r ≡ st.first → m'.0 ≡ view_after m.0 (Reserve k)) × (r ≢ st.first → m'.0 ≡ view_after m.0 (Refused k st.first r)))
+
+-- the first word of the own slot's text, of which none is put
+abbrev pub text_measured : At → Sat → ℕ → Sat → Type 0
+text_measured st m r m' = Is (Measure r) m m'
+
+-- its other words are 0
+abbrev pub text_filled : At → Sat → ℕ → Sat → Type 0
+text_filled st m r m' = Is Fill m m'
 
 abbrev pub word_put : At → Sat → ℕ → Sat → Type 0
 word_put st m r m' = Is (PutWord r) m m'
@@ -118,7 +125,7 @@ moved_found st m r m' = (m'.1 ≡ m.1) × ((w : Walk) → m.0.walk ≡ Some w �
 
 -- a word of the text of a slot that the seat holds, or of a fixed atom
 abbrev pub held_word_read : At → Sat → ℕ → Sat → Type 0
-held_word_read st m r m' = Is (Load st.word r) m m' × ((a : Held) (i : ℕ) → In a m.0.held ⊎ In a m.0.fixed → i < 32 → st.word ≡ text_at m.0.size (32 * a.slot + i) → r ≡ get_or a.text i 0)
+held_word_read st m r m' = Is (Load st.word r) m m' × ((a : Held) (i : ℕ) → In a m.0.held ⊎ In a m.0.fixed → i < 32 → st.word ≡ text_at m.0.size a.slot i → r ≡ get_or a.text i 0)
 
 -- the head is worn, which refuses; or it is not. Its version is that of the walk over it at least
 abbrev pub worn_found : At → Sat → ℕ → Sat → Type 0

@@ -64,6 +64,7 @@ pub record Opens (z : Size) (b : Board) (vs : List View) : Type 0 where
   pub wide : 256 ≤ z.heads
   pub idle : b.epoch ≡ 0
   pub row : b.row ≡ 8
+  pub untold : (i : ℕ) → slice_index b.texts i ≡ 0
   pub unseen : (e : ℕ) → slice_index b.acks e ≡ 0
   pub closed_off : (k : ℕ) → k < z.slots → z.fixed ≤ k → k < 256 → atom b k ≡ 1
   pub free : (k : ℕ) → k < z.slots → (k < z.fixed) ⊎ (256 ≤ k) → atom b k ≡ 0
@@ -79,6 +80,6 @@ Reached (suc n) z b vs = (b0 : Board) × (vs0 : List View) × Reached n z b0 vs0
 -- THE RULE OF THE TABLE
 pub record Rule (z : Size) (s : State (Unit {0}) View) : Type 0 where
   pub board : Board
-  pub words : s.words ≡ laid board
+  pub words : s.words ≡ laid z board
   pub steps : ℕ
   pub reached : Reached steps z board s.views

@@ -1,6 +1,7 @@
 -- What the calls say of a table and a seat.
-use Rattle.std.specs.Prelude.{◌≡◌, ◌≢◌, ◌⊎◌, ℕ, ◌<◌, ◌≤◌, false, List, [], ◌∷◌, Option, Some, None, Result, Ok, Err}
+use Rattle.std.specs.Prelude.{◌≡◌, ◌≢◌, ◌⊎◌, ℕ, ◌<◌, ◌≤◌, false, List, [], ◌∷◌, take, Option, Some, None, Result, Ok, Err}
 use Rattle.atom_words.specs.Layout.{state_of, closed_of, version_of}
+use Rattle.atom_words.specs.Texts.{padded}
 use Rattle.atom_words.specs.Board.{atom_at, head_at}
 use Rattle.atom_words.specs.Chains.{In}
 use Rattle.atom_words.specs.Kinds.{Sitting, after}
@@ -10,7 +11,7 @@ use Rattle.atom_words.specs.declared.view.Refusal.{Refusal}
 use Rattle.atom_words.specs.declared.view.Refusal.TheVariants.{Full}
 use Rattle.atom_words.specs.declared.view.View.{View}
 use Rattle.atom_words.specs.declared.kind.Kind.{Kind}
-use Rattle.atom_words.specs.declared.kind.Kind.TheVariants.{Raise, Risen, Reserve, Load, Refused, PutWord}
+use Rattle.atom_words.specs.declared.kind.Kind.TheVariants.{Raise, Risen, Reserve, Load, Refused, Measure, PutWord, Fill}
 use Rattle.atom_words.specs.declared.words.Words.{Words}
 use Rattle.atom_words.specs.declared.words.AtomSeat.{AtomSeat}
 
@@ -26,13 +27,13 @@ Fits w s = (s.seat.table_id ≡ w.table.shared.table_id) × ((seen s).size ≡ w
 abbrev pub Same : AtomSeat → AtomSeat → Type 0
 Same s t = (t.seat.table_id ≡ s.seat.table_id) × (t.seat.id ≡ s.seat.id)
 
--- The steps of a reserve that takes the slot: the exchange; or it finds the slot free with its mark set, and then the exchange
+-- The steps of a reserve that takes the slot: a load finds it free, and then the exchange
 abbrev pub Reserves : View → ℕ → View → Type 0
-Reserves v k w = (w ≡ after v (Reserve k ∷ [])) ⊎ (w ≡ after v (Load (atom_at v.size k) 4 ∷ Reserve k ∷ []))
+Reserves v k w = (x : ℕ) × (w ≡ after v (Load (atom_at v.size k) x ∷ Reserve k ∷ []))
 
--- The steps of a reserve that is refused with the word x: the slot is not free; or it was free with its mark set, and the exchange is lost
+-- The steps of a reserve that is refused with the word x: a load finds that the slot is not free; or it finds it free, and the exchange is lost
 abbrev pub FindsTaken : View → ℕ → ℕ → View → Type 0
-FindsTaken v k x w = ((state_of x ≢ 0) × (w ≡ after v (Refused k 0 x ∷ []))) ⊎ ((x ≢ 4) × (w ≡ after v (Load (atom_at v.size k) 4 ∷ Refused k 4 x ∷ [])))
+FindsTaken v k x w = ((state_of x ≢ 0) × (w ≡ after v (Refused k 0 x ∷ []))) ⊎ ((free : ℕ) × (x ≢ free) × (w ≡ after v (Load (atom_at v.size k) free ∷ Refused k free x ∷ [])))
 
 -- the seat holds the slot with its text, or it is one of the fixed atoms
 abbrev pub Has : View → Held → Type 0
@@ -51,6 +52,10 @@ PutBy x v w = (w ≡ after v (PutWord x ∷ [])) ⊎ ((i y : ℕ) × (y ≢ x) �
 abbrev pub Puts : List ℕ → View → View → Type 0
 Puts [] v w = w ≡ v
 Puts (x ∷ ws) v w = (u : View) × PutBy x v u × Puts ws u w
+
+-- THE STEPS THAT PUT A TEXT with these 32 words: the first word that stands there is loaded, which tells how many words another text has left; so many words are put as either fills, or more; and the others are 0
+abbrev pub PutsRow : List ℕ → View → View → Type 0
+PutsRow row v w = (x n : ℕ) × (u : View) × Puts (take n row) (after v (Measure x ∷ [])) u × (w ≡ after u (Fill ∷ [])) × (padded (take n row) ≡ row)
 
 -- a seat of this table
 abbrev pub AtTable : Words → AtomSeat → Type 0

@@ -14,8 +14,13 @@ pub enum Kind {
     // Birth
     /// Takes a free slot.
     Reserve(u64),
+    /// The first text word of the seat's own slot was that number, before any was put: no word is other than 0 behind those
+    /// that a text of so many bytes fills.
+    Measure(u64),
     /// Puts the next word of the text of the seat's own slot.
     PutWord(u64),
+    /// The other words of the text of the seat's own slot are 0, so that its text is whole.
+    Fill,
     /// Puts the link word of the seat's own slot.
     PutLink(u64),
     /// Links the seat's own slot in front of its bucket's chain.

@@ -31,12 +31,13 @@ pub use kind::Kind;
 pub use plays::{
     Asking, Dealing, EndingPass, Fetching, FindingMoved, FindingWorn, Fixing, GoingOn, Holding,
     Keeping, Keeps, Linking, Loading, PartingCollector, PartingKeeper, Protecting, PuttingLink,
-    PuttingWord, Raising, ReadingHeld, ReadingWord, Registering, Releasing, Reserving,
-    ReservingMarked, Rising, Seating, ShowingPending, Skipping, Spells, StartingPass, StartingWalk,
+    PuttingWord, Raising, ReadingHeld, ReadingWord, Registering, Releasing, Reserving, Rising,
+    Seating, SeeingFree, ShowingPending, Skipping, Spells, StartingPass, StartingWalk,
     Unregistering, Validating, WithKeeper,
 };
 pub use rule::{AtomRule, every_state, slots_are_safe};
 pub use size::Size;
+pub use slots::in_circle;
 pub use texts::{MOST_BYTES, row_word};
 pub use view::{
     Cause, Counted, Cycling, Growing, Held, Own, Pass, Passing, Refusal, Sweeping, View, Walk,

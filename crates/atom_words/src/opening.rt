@@ -2,7 +2,7 @@
 ghost use Rattle.std.specs.Prelude.{◌≡◌, ◌++◌, ◌<◌, ℕ, false, IfOk, List, [], replicate};
 ghost use Rattle.atom_words.specs.Board.{laid};
 ghost use Rattle.atom_words.specs.Views.{first_view};
-ghost use Rattle.atom_words.specs.Opening.{Allowed, opening_board};
+ghost use Rattle.atom_words.specs.Opening.{Allowed, opening_board, shut};
 ghost use Rattle.atom_words.specs.Kinds.{rising};
 ghost use Rattle.atom_words.specs.Seats.{seen, AtTable, Fits, Same, Raises, Unchanged};
 
@@ -24,26 +24,36 @@ fn extend(words: &mut Vec<u64>, many: u64, word: u64) -> Result<(), AllocError>
     Ok(())
 }
 
+// Puts the eight words of each of a number of reserved slots after the others.
+fn extend_shut(words: &mut Vec<u64>, many: u64) -> Result<(), AllocError>
+    ensures { IfOk result (λ _. words.new.items ≡ words.old.items ++ shut many) }
+{
+    for _i in 0..many {
+        extend(words, 1, 1)?;
+        extend(words, 7, 0)?;
+    }
+    Ok(())
+}
+
 // The words of a new table.
 fn opening_words(alloc: Global, size: Size) -> Result<Vec<u64>, AllocError>
     requires { Allowed size }
-    ensures { IfOk result (λ v. v.items ≡ laid (opening_board size)) }
+    ensures { IfOk result (λ v. v.items ≡ laid size (opening_board size)) }
 {
     let mut words = Vec::new(alloc);
     words.push(0).map_err(|_| AllocError)?;
     words.push(8).map_err(|_| AllocError)?;
     extend(&mut words, size.engines, 0)?;
-    extend(&mut words, size.fixed, 0)?;
-    extend(&mut words, 256 - size.fixed, 1)?;
-    extend(&mut words, size.slots - 256, 0)?;
-    extend(&mut words, size.slots, 0)?;
     extend(&mut words, 256, 0)?;
     extend(
         &mut words,
         size.heads - 256,
         2_097_152 + 4_194_304 * size.start,
     )?;
-    extend(&mut words, 32 * size.slots, 0)?;
+    extend(&mut words, (4 + 7 * (size.engines + size.heads)) % 8, 0)?;
+    extend(&mut words, 8 * size.fixed, 0)?;
+    extend_shut(&mut words, 256 - size.fixed)?;
+    extend(&mut words, 8 * (size.slots - 256) + 26 * size.slots, 0)?;
     Ok(words)
 }
 

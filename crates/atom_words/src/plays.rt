@@ -1,5 +1,5 @@
 //! What each step tells its caller.
-ghost use Rattle.atom_words.specs.Plays.{head_raised, head_risen, reserved, reserved_marked, word_put, word_found, validated, released, protected, registered, unregistered, pass_started, pass_ended, seated, loaded, walk_started, word_read, gone_on, gone_past, slot_held, pending_shown, moved_found, held_word_read, worn_found, link_put, slot_linked, fetched, fixed, kept, asked};
+ghost use Rattle.atom_words.specs.Plays.{head_raised, head_risen, seen_free, reserved, text_measured, text_filled, word_put, word_found, validated, released, protected, registered, unregistered, pass_started, pass_ended, seated, loaded, walk_started, word_read, gone_on, gone_past, slot_held, pending_shown, moved_found, held_word_read, worn_found, link_put, slot_linked, fetched, fixed, kept, asked};
 ghost use Rattle.atom_words.specs.Views.{spent, with_keeper, without_keeper, keeper_of, without_collector, collector_of, with_one_dealt, engine_of};
 
 use crate::view::View;
@@ -20,18 +20,32 @@ impl Play<(), View> for Rising {
     ghost then = { head_risen };
 }
 
-/// The exchange that takes a free slot without a mark.
+/// The load that shows whether a slot is free.
+pub struct SeeingFree;
+
+impl Play<(), View> for SeeingFree {
+    ghost then = { seen_free };
+}
+
+/// The exchange that takes a slot that was found free.
 pub struct Reserving;
 
 impl Play<(), View> for Reserving {
     ghost then = { reserved };
 }
 
-/// The exchange that takes a free slot with its mark set.
-pub struct ReservingMarked;
+/// The load of the first text word of the seat's own slot, before any is put.
+pub struct Measuring;
 
-impl Play<(), View> for ReservingMarked {
-    ghost then = { reserved_marked };
+impl Play<(), View> for Measuring {
+    ghost then = { text_measured };
+}
+
+/// The load with which the seat's own slot, whose other text words are 0, has its whole text.
+pub struct Filling;
+
+impl Play<(), View> for Filling {
+    ghost then = { text_filled };
 }
 
 /// The store of a text word.

@@ -1,8 +1,8 @@
 //! Slots are taken, made valid, given back and marked.
-ghost use Rattle.std.specs.Prelude.{◌≡◌, ◌≢◌, ◌⊎◌, ℕ, ◌+◌, ◌^◌, ◌<◌, ◌≤◌, true, false, None, Some, List, [], ◌∷◌, ◌++◌, MatchResult};
+ghost use Rattle.std.specs.Prelude.{◌≡◌, ◌≢◌, ◌⊎◌, ℕ, ◌%◌, ◌+◌, ◌^◌, ◌<◌, ◌≤◌, true, false, None, Some, List, [], ◌∷◌, ◌++◌, MatchResult};
 ghost use Rattle.atom_words.specs.Layout.{state_of};
 ghost use Rattle.atom_words.specs.Board.{atom_at};
-ghost use Rattle.atom_words.specs.Kinds.{Sitting, view_after, after, next_first, next_counted};
+ghost use Rattle.atom_words.specs.Kinds.{IsLeft, Sitting, view_after, after, next_first, next_counted};
 ghost use Rattle.atom_words.specs.Plays.{Alone};
 ghost use Rattle.atom_words.specs.Seats.{seen, Fits, Same, Reserves, FindsTaken};
 ghost use Rattle.atom_words.specs.declared.kind.Kind.{Kind};
@@ -10,7 +10,7 @@ ghost use Rattle.atom_words.specs.declared.kind.Kind.TheVariants.{Reserve, Load,
 ghost use Rattle.atom_words.specs.declared.view.Own.{Own};
 ghost use Rattle.atom_words.specs.declared.view.View.{View};
 
-use crate::plays::{Protecting, Releasing, Reserving, ReservingMarked, Validating};
+use crate::plays::{Protecting, Releasing, Reserving, SeeingFree, Validating};
 use crate::view::View;
 use crate::words::{AtomSeat, Words};
 use atomic_table::Seat;
@@ -22,6 +22,20 @@ fn next_first(slot: u32, first: u32, counted: u32) -> u32
     if counted == 0 { slot } else { first }
 }
 
+/// A place in a circle of so many: what is left of it, without a division where that is less than once round.
+pub fn in_circle(place: u64, slots: u64) -> u64
+    requires { 0 < slots }
+    ensures { result ≡ place % slots }
+{
+    if place < slots {
+        place
+    } else if place - slots < slots {
+        place - slots
+    } else {
+        place % slots
+    }
+}
+
 // How many slots a pass has counted, after one more was found taken.
 fn next_counted(slots: u64, slot: u32, first: u32, counted: u32) -> u32
     requires { (0 < slots) × (slots < 2 ^ 32) }
@@ -29,7 +43,7 @@ fn next_counted(slots: u64, slot: u32, first: u32, counted: u32) -> u32
 {
     if counted == 0 {
         1
-    } else if (counted as u64) < slots && slot as u64 == (first as u64 + counted as u64) % slots {
+    } else if (counted as u64) < slots && slot as u64 == in_circle(first as u64 + counted as u64, slots) {
         counted + 1
     } else {
         counted
@@ -37,43 +51,41 @@ fn next_counted(slots: u64, slot: u32, first: u32, counted: u32) -> u32
 }
 
 impl Words {
-    // The exchange of a free slot's word without a mark.
-    fn exchange_free(&self, seat: &mut Seat<(), View>, slot: u32) -> u64
+    // The load of a slot's word. One that is not free is counted by the pass at hand, where there is one.
+    fn see_free(&self, seat: &mut Seat<(), View>, slot: u32) -> u64
+        requires fits { (seat.old.table_id ≡ self.now.table.shared.table_id) × (seat.old.me.0.size ≡ self.now.size) × (seat.old.me.0.gone ≡ false) }
+        requires slot { slot < self.now.size.slots }
+        ensures same { (seat.new.table_id ≡ seat.old.table_id) × (seat.new.id ≡ seat.old.id) × (seat.new.me.1 ≡ seat.old.me.1) }
+        ensures free { state_of result ≡ 0 → seat.new.me.0 ≡ view_after seat.old.me.0 (Load (atom_at seat.old.me.0.size slot) result) }
+        ensures taken { state_of result ≢ 0 → seat.new.me.0 ≡ view_after seat.old.me.0 (Refused slot 0 result) }
+    {
+        let place = self.atom_place(slot);
+        self.table.shared.load::<SeeingFree>(seat, place)
+    }
+
+    // The exchange of a free slot's word, which was loaded just before.
+    fn exchange_free(&self, seat: &mut Seat<(), View>, slot: u32, free: u64) -> u64
         requires fits { (seat.old.table_id ≡ self.now.table.shared.table_id) × (seat.old.me.0.size ≡ self.now.size) × (seat.old.me.0.gone ≡ false) }
         requires slot { slot < self.now.size.slots }
         requires none { seat.old.me.0.own ≡ None }
+        requires free { state_of free ≡ 0 }
+        requires loaded { (before : List Kind) × (seat.old.me.0.made ≡ before ++ Load (atom_at seat.old.me.0.size slot) free ∷ []) }
         ensures same { (seat.new.table_id ≡ seat.old.table_id) × (seat.new.id ≡ seat.old.id) × (seat.new.me.1 ≡ seat.old.me.1) }
-        ensures took { result ≡ 0 → seat.new.me.0 ≡ view_after seat.old.me.0 (Reserve slot) }
-        ensures marked { result ≡ 4 → seat.new.me.0 ≡ view_after seat.old.me.0 (Load (atom_at seat.old.me.0.size slot) 4) }
-        ensures taken { result ≢ 0 → result ≢ 4 → (state_of result ≢ 0) × (seat.new.me.0 ≡ view_after seat.old.me.0 (Refused slot 0 result)) }
+        ensures took { result ≡ free → seat.new.me.0 ≡ view_after seat.old.me.0 (Reserve slot) }
+        ensures lost { result ≢ free → seat.new.me.0 ≡ view_after seat.old.me.0 (Refused slot free result) }
     {
         let place = self.atom_place(slot);
         self.table
             .shared
-            .compare_exchange::<Reserving>(seat, place, 0, 1)
+            .compare_exchange::<Reserving>(seat, place, free, 1)
     }
 
-    // The exchange of a free slot's word with its mark set.
-    fn exchange_marked(&self, seat: &mut Seat<(), View>, slot: u32) -> u64
-        requires fits { (seat.old.table_id ≡ self.now.table.shared.table_id) × (seat.old.me.0.size ≡ self.now.size) × (seat.old.me.0.gone ≡ false) }
-        requires slot { slot < self.now.size.slots }
-        requires none { seat.old.me.0.own ≡ None }
-        requires loaded { (before : List Kind) × (seat.old.me.0.made ≡ before ++ Load (atom_at seat.old.me.0.size slot) 4 ∷ []) }
-        ensures same { (seat.new.table_id ≡ seat.old.table_id) × (seat.new.id ≡ seat.old.id) × (seat.new.me.1 ≡ seat.old.me.1) }
-        ensures took { result ≡ 4 → seat.new.me.0 ≡ view_after seat.old.me.0 (Reserve slot) }
-        ensures lost { result ≢ 4 → seat.new.me.0 ≡ view_after seat.old.me.0 (Refused slot 4 result) }
-    {
-        let place = self.atom_place(slot);
-        self.table
-            .shared
-            .compare_exchange::<ReservingMarked>(seat, place, 4, 1)
-    }
-
-    /// Takes a free slot for the seat. A free slot may have its mark set, which is found by a second exchange.
+    /// Takes a free slot for the seat, by an exchange of its word, which a load finds free: so a slot that is not free is only
+    /// read.
     ///
     /// # Errors
-    /// The word that was found, where the slot is not free, or where it was free with its mark set and another seat took
-    /// it meanwhile. Where a pass is at hand, the slot is counted.
+    /// The word that was found, where the slot is not free, or where it was free and another seat took it meanwhile. Where a
+    /// pass is at hand, the slot is counted.
     pub fn reserve(&self, seat: &mut AtomSeat, slot: u32) -> Result<(), u64>
         requires fits { Fits self.now seat.old }
         requires slot { slot < self.now.size.slots }
@@ -81,14 +93,11 @@ impl Words {
         ensures same { Same seat.old seat.new }
         ensures steps { MatchResult result (λ _. Reserves (seen seat.old) slot (seen seat.new)) (λ x. FindsTaken (seen seat.old) slot x (seen seat.new)) }
     {
-        let mut found = self.exchange_free(&mut seat.seat, slot);
-        if found == 0 {
-            seat.own = slot;
-            return Ok(());
-        }
-        if found == 4 {
-            found = self.exchange_marked(&mut seat.seat, slot);
-            if found == 4 {
+        let mut found = self.see_free(&mut seat.seat, slot);
+        if found % 4 == 0 {
+            let free = found;
+            found = self.exchange_free(&mut seat.seat, slot, free);
+            if found == free {
                 seat.own = slot;
                 return Ok(());
             }
@@ -117,10 +126,10 @@ impl Words {
         seat.own
     }
 
-    /// Gives the seat's own slot back, which is not linked.
+    /// Gives the seat's own slot back, which is not linked, and has no text yet or a whole one.
     pub fn release(&self, seat: &mut AtomSeat)
         requires fits { Fits self.now seat.old }
-        requires unlinked { (o : Own) × ((seen seat.old).own ≡ Some o) × (o.linked ≡ false) }
+        requires unlinked { (o : Own) × ((seen seat.old).own ≡ Some o) × (o.linked ≡ false) × IsLeft o.text }
         ensures same { Same seat.old seat.new }
         ensures steps { seen seat.new ≡ after (seen seat.old) (Release ∷ []) }
     {

@@ -1,13 +1,13 @@
 //! The text of a reserved slot is put.
-ghost use Rattle.std.specs.Prelude.{◌≡◌, ◌≢◌, ℕ, ◌+◌, ◌*◌, ◌<◌, ◌≤◌, false, [], ◌∷◌, length, get_or, drop, Some};
-ghost use Rattle.atom_words.specs.Texts.{packed, row_of};
+ghost use Rattle.std.specs.Prelude.{◌≡◌, ◌≢◌, ℕ, ◌+◌, ◌*◌, ◌<◌, ◌≤◌, false, [], ◌∷◌, length, get_or, take, drop, ◌⊎◌, ◌/◌, Some};
+ghost use Rattle.atom_words.specs.Texts.{packed, row_of, filled};
 ghost use Rattle.atom_words.specs.Board.{text_at};
-ghost use Rattle.atom_words.specs.Kinds.{after};
-ghost use Rattle.atom_words.specs.Seats.{seen, Fits, Same, PutBy, Puts};
-ghost use Rattle.atom_words.specs.declared.kind.Kind.TheVariants.{Load, PutWord};
+ghost use Rattle.atom_words.specs.Kinds.{IsCovered, after};
+ghost use Rattle.atom_words.specs.Seats.{seen, Fits, Same, PutBy, Puts, PutsRow};
+ghost use Rattle.atom_words.specs.declared.kind.Kind.TheVariants.{Load, Measure, PutWord, Fill};
 ghost use Rattle.atom_words.specs.declared.view.Own.{Own};
 
-use crate::plays::{FindingWord, PuttingWord, Wants};
+use crate::plays::{Filling, FindingWord, Measuring, PuttingWord, Wants};
 use crate::view::View;
 use crate::words::{AtomSeat, Words};
 use atomic_table::Seat;
@@ -80,12 +80,28 @@ pub fn row_word(text: &[u8], i: usize) -> u64
     }
 }
 
+// How many words are put of a text with so many bytes, where the first word was `old`: those that the text fills, and those that
+// a text of `old` bytes fills; or all.
+fn words_to_put(bytes: usize, old: u64) -> usize
+    requires { bytes ≤ 248 }
+    ensures fills { filled bytes ≤ result }
+    ensures covers { (filled old ≤ result) ⊎ (result ≡ 32) }
+    ensures most { result ≤ 32 }
+{
+    if old > 248 {
+        return 32;
+    }
+    let fills = 1 + (bytes + 7) / 8;
+    let left = 1 + (old as usize + 7) / 8;
+    if fills < left { left } else { fills }
+}
+
 impl Words {
     // The load of the next word of the own slot's text, which puts it where it is the one that is picked.
     fn find_word<W: Wants>(&self, seat: &mut Seat<(), View>, place: usize, _word: u64) -> u64
         requires fits { (seat.old.table_id ≡ self.now.table.shared.table_id) × (seat.old.me.0.size ≡ self.now.size) × (seat.old.me.0.gone ≡ false) }
         requires inside { place < self.now.table.shared.table_id.words }
-        requires own { (o : Own) × (seat.old.me.0.own ≡ Some o) × (o.linked ≡ false) × (length o.text < 32) × (place ≡ text_at seat.old.me.0.size (32 * o.slot + length o.text)) }
+        requires own { (o : Own) × (seat.old.me.0.own ≡ Some o) × (o.linked ≡ false) × (length o.text < 32) × (o.slot < seat.old.me.0.size.slots) × (place ≡ text_at seat.old.me.0.size o.slot (length o.text)) }
         ensures same { (seat.new.table_id ≡ seat.old.table_id) × (seat.new.id ≡ seat.old.id) × (seat.new.me.1 ≡ seat.old.me.1) }
         ensures found { result ≡ W.word → seat.new.me.0 ≡ after seat.old.me.0 (PutWord W.word ∷ []) }
         ensures other { result ≢ W.word → seat.new.me.0 ≡ after seat.old.me.0 (Load place result ∷ []) }
@@ -98,7 +114,7 @@ impl Words {
     fn put_word(&self, seat: &mut Seat<(), View>, place: usize, word: u64)
         requires fits { (seat.old.table_id ≡ self.now.table.shared.table_id) × (seat.old.me.0.size ≡ self.now.size) × (seat.old.me.0.gone ≡ false) }
         requires inside { place < self.now.table.shared.table_id.words }
-        requires own { (o : Own) × (seat.old.me.0.own ≡ Some o) × (o.linked ≡ false) × (length o.text < 32) × (place ≡ text_at seat.old.me.0.size (32 * o.slot + length o.text)) }
+        requires own { (o : Own) × (seat.old.me.0.own ≡ Some o) × (o.linked ≡ false) × (length o.text < 32) × (o.slot < seat.old.me.0.size.slots) × (place ≡ text_at seat.old.me.0.size o.slot (length o.text)) }
         ensures same { (seat.new.table_id ≡ seat.old.table_id) × (seat.new.id ≡ seat.old.id) × (seat.new.me.1 ≡ seat.old.me.1) }
         ensures steps { PutBy word seat.old.me.0 seat.new.me.0 }
     {
@@ -109,31 +125,70 @@ impl Words {
         self.table.shared.store::<PuttingWord>(seat, place, word);
     }
 
-    // Puts the words of the text, one after the other.
-    fn put_words(&self, seat: &mut Seat<(), View>, own: u32, text: &[u8])
+    // The load of the first text word that stands in the own slot, of whose text no word is put.
+    fn measure(&self, seat: &mut Seat<(), View>, own: u32) -> u64
+        requires fits { (seat.old.table_id ≡ self.now.table.shared.table_id) × (seat.old.me.0.size ≡ self.now.size) × (seat.old.me.0.gone ≡ false) }
+        requires slot { own < self.now.size.slots }
+        requires own { (o : Own) × (seat.old.me.0.own ≡ Some o) × (o.linked ≡ false) × (o.text ≡ []) × (o.slot ≡ own) }
+        ensures same { (seat.new.table_id ≡ seat.old.table_id) × (seat.new.id ≡ seat.old.id) × (seat.new.me.1 ≡ seat.old.me.1) }
+        ensures steps { seat.new.me.0 ≡ after seat.old.me.0 (Measure result ∷ []) }
+    {
+        let place = self.text_place(own, 0);
+        self.table.shared.load::<Measuring>(seat, place)
+    }
+
+    // Puts the first words of the text, one after the other.
+    fn put_words(&self, seat: &mut Seat<(), View>, own: u32, text: &[u8], many: usize)
+        requires fits { (seat.old.table_id ≡ self.now.table.shared.table_id) × (seat.old.me.0.size ≡ self.now.size) × (seat.old.me.0.gone ≡ false) }
+        requires slot { own < self.now.size.slots }
+        requires short { length text.now ≤ 248 }
+        requires many { many ≤ 32 }
+        requires own { (o : Own) × (seat.old.me.0.own ≡ Some o) × (o.linked ≡ false) × (o.text ≡ []) × (o.slot ≡ own) }
+        ensures same { (seat.new.table_id ≡ seat.old.table_id) × (seat.new.id ≡ seat.old.id) × (seat.new.me.1 ≡ seat.old.me.1) }
+        ensures steps { Puts (take many (row_of text.now)) seat.old.me.0 seat.new.me.0 }
+    {
+        for i in 0..many {
+            let place = self.text_place(own, i);
+            self.put_word(seat, place, row_word(text, i));
+        }
+    }
+
+    // The load with which the own slot has its whole text.
+    fn fill(&self, seat: &mut Seat<(), View>)
+        requires fits { (seat.old.table_id ≡ self.now.table.shared.table_id) × (seat.old.me.0.size ≡ self.now.size) × (seat.old.me.0.gone ≡ false) }
+        requires own { (o : Own) × (seat.old.me.0.own ≡ Some o) × (o.linked ≡ false) × IsCovered o }
+        ensures same { (seat.new.table_id ≡ seat.old.table_id) × (seat.new.id ≡ seat.old.id) × (seat.new.me.1 ≡ seat.old.me.1) }
+        ensures steps { seat.new.me.0 ≡ after seat.old.me.0 (Fill ∷ []) }
+    {
+        self.table.shared.load::<Filling>(seat, 0);
+    }
+
+    // Puts the text in the own slot.
+    fn put_row(&self, seat: &mut Seat<(), View>, own: u32, text: &[u8])
         requires fits { (seat.old.table_id ≡ self.now.table.shared.table_id) × (seat.old.me.0.size ≡ self.now.size) × (seat.old.me.0.gone ≡ false) }
         requires slot { own < self.now.size.slots }
         requires short { length text.now ≤ 248 }
         requires own { (o : Own) × (seat.old.me.0.own ≡ Some o) × (o.linked ≡ false) × (o.text ≡ []) × (o.slot ≡ own) }
         ensures same { (seat.new.table_id ≡ seat.old.table_id) × (seat.new.id ≡ seat.old.id) × (seat.new.me.1 ≡ seat.old.me.1) }
-        ensures steps { Puts (row_of text.now) seat.old.me.0 seat.new.me.0 }
+        ensures steps { PutsRow (row_of text.now) seat.old.me.0 seat.new.me.0 }
     {
-        let place = self.text_place(own);
-        for i in 0..32 {
-            self.put_word(seat, place + i, row_word(text, i));
-        }
+        let old = self.measure(seat, own);
+        let many = words_to_put(text.len(), old);
+        self.put_words(seat, own, text, many);
+        self.fill(seat);
     }
 
-    /// Puts all words of the text of the seat's own slot, which is not linked and has no text yet. A text has at most 248 bytes.
-    /// A word that stands there already is put by a load.
+    /// Puts the text of the seat's own slot, which is not linked and has no text yet. A text has at most 248 bytes. Only words
+    /// that the text fills, or that the slot's last text has filled, are read or written; one that stands there already is put
+    /// by a load.
     pub fn put_text(&self, seat: &mut AtomSeat, text: &[u8])
         requires fits { Fits self.now seat.old }
         requires short { length text.now ≤ 248 }
         requires own { (o : Own) × ((seen seat.old).own ≡ Some o) × (o.linked ≡ false) × (o.text ≡ []) }
         ensures same { Same seat.old seat.new }
-        ensures steps { Puts (row_of text.now) (seen seat.old) (seen seat.new) }
+        ensures steps { PutsRow (row_of text.now) (seen seat.old) (seen seat.new) }
     {
         let own = seat.own;
-        self.put_words(&mut seat.seat, own, text);
+        self.put_row(&mut seat.seat, own, text);
     }
 }

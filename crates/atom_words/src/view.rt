@@ -25,6 +25,8 @@ pub struct Own {
     pub slot: u64,
     /// The words of its text that are put.
     pub text: LinkedList<u64>,
+    /// Behind the words that are put, those from this number on are 0.
+    pub bound: u64,
     /// What its link word holds, once the seat has put it.
     pub link: Option<u64>,
     pub linked: bool,

@@ -1,12 +1,9 @@
 -- The words that a text fills.
 use Rattle.std.proofs.Common.{◌≡◌, ℕ, ◌+◌, ◌/◌, ◌<◌, ◌≤◌, List, length, get_or, take, sym, ap, ◌∙◌, subst, arith, length-take}
 use Rattle.std.proofs.lemmas.List.{get_or-take}
-use Rattle.std.proofs.lemmas.Grind.{same_number_lists}
-use mathlib.Core.Logic.{dite}
-use native.Mathlib.Decide.{dec_le}
 use Rattle.atom_words.specs.Texts.{row_of, filled, Formed, padded}
 use Rattle.atom_words.specs.Kinds.{IsWhole}
-use Rattle.atom_words.proofs.Padding.{padded_length, padded_here, padded_behind, padded_is, formed_row}
+use Rattle.atom_words.proofs.Padding.{padded_is, formed_row}
 use Rattle.atom_words.proofs.Putting.{row_length, row_first}
 use Rattle.bucket_rows.specs.Walks.{filling}
 use Rattle.bucket_rows.specs.Standing.{IsTextRow}
@@ -19,13 +16,6 @@ filling_whole row t = let l = filling_length row t in let first : get_or (fillin
 
 pub filling_padded : (row : List ℕ) → IsTextRow row → padded (filling row) ≡ row
 filling_padded row t = let w = filling_whole row t in sym (padded_is row (filling row) t.0 (ap (λ (n : ℕ). take n row) (filling_length row t)) w.0 w.1 t.2)
-
--- the words are the first of those 32, and the others are 0
-pub padded_take : (row : List ℕ) (n : ℕ) → length row ≡ 32 → n ≤ 32 → ((k : ℕ) → n ≤ k → get_or row k 0 ≡ 0) → padded (take n row) ≡ row
-padded_take row n long few rest = let l : length (take n row) ≡ n = length-take n row ∙ omega arith in
-    same_number_lists (padded (take n row)) row (padded_length (take n row) (omega arith) ∙ sym long) (λ k low. dite (dec_le n k)
-    (λ (late : n ≤ k). padded_behind (take n row) k (omega arith) ∙ sym (rest k late))
-    (λ (early : ¬ (n ≤ k)). padded_here (take n row) k (omega arith) ∙ get_or-take n row k 0 (omega arith)))
 
 pub text_row_is : (bs : List ℕ) → length bs ≤ 248 → IsTextRow (row_of bs)
 text_row_is bs short = (row_length bs, subst (λ (n : ℕ). n ≤ 248) (sym (row_first bs)) short, formed_row bs short)

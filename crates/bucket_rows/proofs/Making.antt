@@ -1,14 +1,14 @@
 -- What the steps that make a new slot leave of the view.
-use Rattle.std.proofs.Common.{◌≡◌, ◌≢◌, ◌<◌, ℕ, inl, inr, false, List, [], ◌∷◌, refl, sym, ap, ◌∙◌, subst, ⊎_elim, Some, Ok, Err, Result, option_map}
+use Rattle.std.proofs.Common.{◌≡◌, ◌≢◌, ◌<◌, ℕ, inl, inr, false, List, take, [], ◌∷◌, refl, sym, ap, ◌∙◌, subst, ⊎_elim, Some, Ok, Err, Result, option_map}
 use Rattle.atom_words.specs.Layout.{first_of}
 use Rattle.atom_words.specs.Board.{atom_at}
-use Rattle.atom_words.specs.Kinds.{linking, linked_own, after}
-use Rattle.atom_words.specs.Seats.{PutBy, Puts, Reserves, Walking}
+use Rattle.atom_words.specs.Kinds.{view_after, linking, linked_own, after}
+use Rattle.atom_words.specs.Seats.{PutBy, Puts, PutsRow, Reserves, Walking}
 use Rattle.atom_words.specs.declared.view.Own.{Own}
 use Rattle.atom_words.specs.declared.view.Walk.{Walk}
 use Rattle.atom_words.specs.declared.view.Cycling.{Cycling}
 use Rattle.atom_words.specs.declared.view.View.{View}
-use Rattle.atom_words.specs.declared.kind.Kind.TheVariants.{Reserve, Load, PutWord}
+use Rattle.atom_words.specs.declared.kind.Kind.TheVariants.{Reserve, Load, Measure, PutWord, Fill}
 use Rattle.bucket_rows.specs.declared.missed.Missed.{Missed}
 use Rattle.bucket_rows.specs.declared.missed.Missed.TheVariants.{Moved, Pending, Closed, Worn}
 use Rattle.bucket_rows.specs.Walks.{Links}
@@ -33,18 +33,19 @@ pub beside_trans : (u v w : View) → Beside u v → Beside v w → Beside u w
 beside_trans u v w a b = record { gone = b.gone ∙ a.gone; size = b.size ∙ a.size; held = b.held ∙ a.held; fixed = b.fixed ∙ a.fixed; counts = b.counts ∙ a.counts; asked = b.asked ∙ a.asked; undealt = b.undealt ∙ a.undealt; cycle = b.cycle ∙ a.cycle; sweep = b.sweep ∙ a.sweep; risen = b.risen ∙ a.risen }
 
 pub beside_reserve : (v : View) (k : ℕ) (w : View) → Reserves v k w → Beside v w
-beside_reserve v k w r = ⊎_elim
-    (λ (e : w ≡ after v (Reserve k ∷ [])). subst (Beside v) (sym e) (record { gone = refl; size = refl; held = refl; fixed = refl; counts = refl; asked = refl; undealt = refl; cycle = refl; sweep = refl; risen = refl }))
-    (λ (e : w ≡ after v (Load (atom_at v.size k) 4 ∷ Reserve k ∷ [])). subst (Beside v) (sym e) (record { gone = refl; size = refl; held = refl; fixed = refl; counts = refl; asked = refl; undealt = refl; cycle = refl; sweep = refl; risen = refl })) r
+beside_reserve v k w r = subst (Beside v) (sym r.1) (record { gone = refl; size = refl; held = refl; fixed = refl; counts = refl; asked = refl; undealt = refl; cycle = refl; sweep = refl; risen = refl })
 
 beside_put : (x : ℕ) (v w : View) → PutBy x v w → Beside v w
 beside_put x v w b = ⊎_elim
     (λ (e : w ≡ after v (PutWord x ∷ [])). subst (Beside v) (sym e) (record { gone = refl; size = refl; held = refl; fixed = refl; counts = refl; asked = refl; undealt = refl; cycle = refl; sweep = refl; risen = refl }))
     (λ (e : (i y : ℕ) × (y ≢ x) × (w ≡ after v (Load i y ∷ PutWord x ∷ []))). subst (Beside v) (sym e.3) (record { gone = refl; size = refl; held = refl; fixed = refl; counts = refl; asked = refl; undealt = refl; cycle = refl; sweep = refl; risen = refl })) b
 
-pub beside_puts : (ws : List ℕ) (v w : View) → Puts ws v w → Beside v w
-beside_puts [] v w p = subst (Beside v) (sym p) (beside_refl v)
-beside_puts (x ∷ ws) v w p = beside_trans v p.0 w (beside_put x v p.0 p.1) (beside_puts ws p.0 w p.2)
+beside_words : (ws : List ℕ) (v w : View) → Puts ws v w → Beside v w
+beside_words [] v w p = subst (Beside v) (sym p) (beside_refl v)
+beside_words (x ∷ ws) v w p = beside_trans v p.0 w (beside_put x v p.0 p.1) (beside_words ws p.0 w p.2)
+
+pub beside_puts : (row : List ℕ) (v w : View) → PutsRow row v w → Beside v w
+beside_puts row v w p = let m : View = view_after v (Measure p.0) in beside_trans v m w (record { gone = refl; size = refl; held = refl; fixed = refl; counts = refl; asked = refl; undealt = refl; cycle = refl; sweep = refl; risen = refl }) (beside_trans m p.2 w (beside_words (take p.1 row) m p.2 p.3) (subst (Beside p.2) (sym p.4) (record { gone = refl; size = refl; held = refl; fixed = refl; counts = refl; asked = refl; undealt = refl; cycle = refl; sweep = refl; risen = refl })))
 
 -- a seat that walks does so still
 pub walking_beside : (v w : View) → Beside v w → Walking v → Walking w
@@ -61,8 +62,8 @@ beside_links v t (Err (Worn x)) w e = subst (Beside v) (sym e.2) (record { gone 
 pub linked_by : (v : View) (t : Walk) (a : Unit {0}) (w : View) (o : Own) → Links v t (Ok a) w → v.own ≡ Some o → w.own ≡ Some (linked_own (linking (first_of t.word) o))
 linked_by v t a w o e own = ap (λ (y : View). y.own) e ∙ ap (λ x. option_map linked_own (option_map (linking (first_of t.word)) x)) own
 
-pub unlinked_by : (v : View) (t : Walk) (m : Missed) (w : View) (o : Own) → Links v t (Err m) w → v.own ≡ Some o → o.linked ≡ false → (p : Own) × (w.own ≡ Some p) × (p.linked ≡ false)
-unlinked_by v t (Moved old new) w o e own un = (linking (first_of t.word) o, ap (λ (y : View). y.own) e.2 ∙ ap (option_map (linking (first_of t.word))) own, un)
+pub unlinked_by : (v : View) (t : Walk) (m : Missed) (w : View) (o : Own) → Links v t (Err m) w → v.own ≡ Some o → o.linked ≡ false → (p : Own) × (w.own ≡ Some p) × (p.linked ≡ false) × (p.text ≡ o.text)
+unlinked_by v t (Moved old new) w o e own un = (linking (first_of t.word) o, ap (λ (y : View). y.own) e.2 ∙ ap (option_map (linking (first_of t.word))) own, un, refl)
 unlinked_by v t (Pending k x) w o e own un = absurd e
 unlinked_by v t (Closed x) w o e own un = absurd e
-unlinked_by v t (Worn x) w o e own un = (o, ap (λ (y : View). y.own) e.2 ∙ own, un)
+unlinked_by v t (Worn x) w o e own un = (o, ap (λ (y : View). y.own) e.2 ∙ own, un, refl)

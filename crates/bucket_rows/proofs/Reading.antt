@@ -6,7 +6,7 @@ use Rattle.atom_words.specs.Chains.{In}
 use Rattle.atom_words.specs.Plays.{Alone}
 use Rattle.atom_words.specs.Texts.{bucket, padded}
 use Rattle.atom_words.specs.Board.{atom_at}
-use Rattle.atom_words.specs.Seats.{Puts, Reserves, Walking}
+use Rattle.atom_words.specs.Seats.{PutsRow, Reserves, Walking}
 use Rattle.atom_words.specs.Kinds.{starting, reading, going_on, skipping, guarding, at_hand, held_at_hand, fresh, view_after, after}
 use Rattle.atom_words.specs.declared.view.Held.{Held}
 use Rattle.atom_words.specs.declared.view.Walk.{Walk}
@@ -16,7 +16,7 @@ use Rattle.atom_words.specs.declared.view.Refusal.TheVariants.{Again}
 use Rattle.atom_words.specs.declared.view.View.{View}
 use Rattle.atom_words.specs.declared.kind.Kind.{Kind}
 use Rattle.atom_words.specs.declared.kind.Kind.TheVariants.{Reserve, Load, Start, Read, Next, Skip, Protect, Hold, Refuse}
-use Rattle.atom_words.proofs.Putting.{after_more, puts_keep, puts_own}
+use Rattle.atom_words.proofs.Putting.{after_more, row_keeps, row_own}
 use Rattle.atom_words.proofs.Slices.{at_snoc}
 use Rattle.bucket_rows.specs.declared.missed.Missed.{Missed}
 use Rattle.bucket_rows.specs.declared.missed.Missed.TheVariants.{Moved, Pending, Closed, Worn}
@@ -279,18 +279,16 @@ pub record Reserved (k : ℕ) (v w : View) : Type 0 where
   pub gone : w.gone ≡ v.gone
 
 pub reserved_as : (v : View) (k : ℕ) (w : View) → Reserves v k w → Reserved k v w
-reserved_as v k w r = ⊎_elim
-    (λ (e : w ≡ after v (Reserve k ∷ [])). subst (Reserved k v) (sym e) (record { own = refl; walk = refl; held = refl; fixed = refl; size = refl; gone = refl }))
-    (λ (e : w ≡ after v (Load (atom_at v.size k) 4 ∷ Reserve k ∷ [])). subst (Reserved k v) (sym e) (record { own = refl; walk = refl; held = refl; fixed = refl; size = refl; gone = refl })) r
+reserved_as v k w r = subst (Reserved k v) (sym r.1) (record { own = refl; walk = refl; held = refl; fixed = refl; size = refl; gone = refl })
 
 -- a reserved slot is ready once its text is put
-pub ready_put : (row : List ℕ) (k : ℕ) (v w : View) → IsTextRow row → v.own ≡ Some (fresh k) → MissingIn row v → Puts row v w → Ready w
-ready_put row k v w text own m is = (
-  record { slot = k; text = row; link = None; linked = false },
-  puts_own (fresh k) row v w own is,
+pub ready_put : (row : List ℕ) (k : ℕ) (v w : View) → IsTextRow row → v.own ≡ Some (fresh k) → MissingIn row v → PutsRow row v w → Ready w
+ready_put row k v w text own m is = let o = row_own (fresh k) row v w refl own is in (
+  record { slot = k; text = row; bound = o.0; link = None; linked = false },
+  o.1,
   refl,
   text.0,
-  (m.0, m.1, missing_as row (bucket m.0 row) v w (puts_keep (λ (y : View). y.walk) (λ _ _. refl) (λ _ _ _. refl) row v w is) m.2),
+  (m.0, m.1, missing_as row (bucket m.0 row) v w (row_keeps (λ (y : View). y.walk) (λ _ _. refl) (λ _ _. refl) (λ _ _ _. refl) (λ _. refl) row v w is) m.2),
   text.2,
 )
 

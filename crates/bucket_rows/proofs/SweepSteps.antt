@@ -25,7 +25,7 @@ use Rattle.atom_words.proofs.Regions.{atom_read}
 use Rattle.atom_words.proofs.Slices.{in_none, in_cases}
 use Rattle.atom_words.proofs.Rowing.{early_sweep, chains_at_work}
 use Rattle.atom_words.proofs.Sweeps.{swept_by}
-use Rattle.atom_words.proofs.WalkSteps.{text_word}
+use Rattle.atom_words.proofs.Slices.{text_word}
 use Rattle.atom_words.proofs.Adapters.{Sat, atom_goes, atom_load, atom_exchange, link_load, link_goes, head_load, head_exchange, text_load}
 use Rattle.bucket_rows.specs.Plays.{looked, text_read, condemned, passed, unmarked_passed, traced, trod, behind_read, unlinked_at, unlinked_head, head_noted, bumped, freed, ended}
 use Rattle.bucket_rows.proofs.Words.{epoch_goes}
@@ -56,9 +56,9 @@ module _ (key : Size) (slots id : ℕ) (me : Sat) (is : key ≡ me.0.size) (here
       (atom_load key me.0.size slots id me k (looked (step slots (atom_at me.0.size k) 0 0 none) me) is here inside
       (λ b vs r seen small. (Look (atom b k), (y, q, idle, subst (λ (n : ℕ). n < me.0.size.slots) (sym cursor) inside, ap (atom b) cursor, refl), (refl, refl))))
 
-  pub spelling : (i k n : ℕ) (y : Sweeping) → Sweeps me.0 y → y.dying ≡ 0 → y.sure ≡ true → y.cursor ≡ k → length y.text ≡ n → n < 32 → i ≡ text_at me.0.size (32 * k + n) → Allows (Rule key) slots id me i (λ m. m) (text_read (step slots i 0 0 none) me)
-  spelling i k n y q idle sure cursor long more at = subst (λ (w : ℕ). Allows (Rule key) slots id me w (λ m. m) (text_read (step slots w 0 0 none) me)) (sym at)
-      (text_load key me.0.size slots id me (32 * k + n) (text_read (step slots (text_at me.0.size (32 * k + n)) 0 0 none) me) is here
+  pub spelling : (i k n : ℕ) (y : Sweeping) → Sweeps me.0 y → y.dying ≡ 0 → y.sure ≡ true → y.cursor ≡ k → length y.text ≡ n → n < 32 → k < me.0.size.slots → i ≡ text_at me.0.size k n → Allows (Rule key) slots id me i (λ m. m) (text_read (step slots i 0 0 none) me)
+  spelling i k n y q idle sure cursor long more inside at = subst (λ (w : ℕ). Allows (Rule key) slots id me w (λ m. m) (text_read (step slots w 0 0 none) me)) (sym at)
+      (text_load key me.0.size slots id me k n (text_read (step slots (text_at me.0.size k n) 0 0 none) me) is here inside more
       (λ b vs r seen small. let x : ℕ = get_or b.texts (32 * k + n) 0 in
       (Spell x, (y, q, idle, sure, subst (λ (m : ℕ). m < 32) (sym long) more, (λ j. get_or (text_of b.texts (cursor j)) (long j) 0) ∙ text_word b.texts k n more, refl), (refl, refl))))
 

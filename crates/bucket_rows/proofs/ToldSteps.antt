@@ -13,7 +13,7 @@ use Rattle.atom_words.specs.declared.size.Size.{Size}
 use Rattle.atom_words.specs.declared.view.Sweeping.{Sweeping}
 use Rattle.atom_words.specs.declared.view.View.{View}
 use Rattle.atom_words.specs.declared.kind.Kind.{Kind}
-use Rattle.atom_words.specs.declared.kind.Kind.TheVariants.{Raise, Risen, Reserve, PutWord, PutLink, Link, Validate, Release, Load, Refused, Start, Read, Next, Skip, Hold, Keep, Fix, StartPass, EndPass, Refuse, Barred, Ask, Protect, Fetch, Register, Unregister, Split, Join, Begin, Mark, Scan, Ack, Check, ToSweep, Look, Spell, Condemn, PassOver, Behind, UnlinkAt, UnlinkHead, Note, Bump, Past, Free, End, Aim, Sound, Close, Emptied, Pick, MoveHead, MoveLink, LeaveHead, LeaveLink, PublishRow, Publish}
+use Rattle.atom_words.specs.declared.kind.Kind.TheVariants.{Raise, Risen, Reserve, Measure, PutWord, Fill, PutLink, Link, Validate, Release, Load, Refused, Start, Read, Next, Skip, Hold, Keep, Fix, StartPass, EndPass, Refuse, Barred, Ask, Protect, Fetch, Register, Unregister, Split, Join, Begin, Mark, Scan, Ack, Check, ToSweep, Look, Spell, Condemn, PassOver, Behind, UnlinkAt, UnlinkHead, Note, Bump, Past, Free, End, Aim, Sound, Close, Emptied, Pick, MoveHead, MoveLink, LeaveHead, LeaveLink, PublishRow, Publish}
 use Rattle.atom_words.proofs.Regions.{atom_read}
 use Rattle.atom_words.proofs.Slices.{some_same, last_same}
 use Rattle.atom_words.proofs.Puts.{unmapped}
@@ -49,6 +49,8 @@ effect z b b' v none (Register a) calm d = absurd calm
 effect z b b' v none (Unregister k) calm d = absurd calm
 effect z b b' v none Validate calm d = absurd (let some_ : None ≡ Some d.0 = sym none ∙ d.1 in cc)
 effect z b b' v none Release calm d = absurd (let some_ : None ≡ Some d.0 = sym none ∙ d.1 in cc)
+effect z b b' v none (Measure x) calm d = leaves b b' v d.5
+effect z b b' v none Fill calm d = leaves b b' v d.4
 effect z b b' v none (PutWord x) calm d = inl (ap (λ (x : Board). x.atoms) d.4, ap (λ (x : Board). x.epoch) d.4)
 effect z b b' v none (PutLink l) calm d = inl (ap (λ (x : Board). x.atoms) d.3, ap (λ (x : Board). x.epoch) d.3)
 effect z b b' v none Link calm d = inl (ap (λ (x : Board). x.atoms) d.12, ap (λ (x : Board). x.epoch) d.12)
@@ -117,7 +119,7 @@ module _ (z : Size) (b : Board) (vs : List View) (r : Kept z b vs) (knows : Know
   mine : (id : ℕ) (v : View) (b' : Board) → get_elem? vs id ≡ some v → v.gone ≡ false → (kind : Kind) → Does z b v kind b' → (q : Sweeping) → (view_after v kind).sweep ≡ Some q → Tells z q.cursor kind → get_or b'.atoms q.cursor 0 ≢ 3
   mine id v b' at here (Look x) d q sweep tells = let was = unmapped (looking x) v.sweep q sweep in let one : d.0 ≡ was.0 = some_same d.0 was.0 v.sweep d.1.0 was.1 in let cursor : d.0.cursor ≡ q.cursor = ap (λ (t : Sweeping). t.cursor) one ∙ ap (λ (t : Sweeping). t.cursor) was.2 in
       λ is. tells (sym d.4 ∙ ((λ i. get_or b.atoms (cursor i) 0) ∙ ((λ i. get_or (sym d.5 i).atoms q.cursor 0) ∙ is)))
-  mine id v b' at here (Load i x) d q sweep tells = λ is. tells.2 (sym d.0 ∙ ((λ j. get_or (Rattle.atom_words.specs.Board.laid b) (tells.1 j) 0) ∙ (atom_read z b r.sized q.cursor tells.0 ∙ ((λ j. get_or (sym d.1 j).atoms q.cursor 0) ∙ is))))
+  mine id v b' at here (Load i x) d q sweep tells = λ is. tells.2 (sym d.0 ∙ ((λ j. get_or (Rattle.atom_words.specs.Board.laid z b) (tells.1 j) 0) ∙ (atom_read z b r.sized q.cursor tells.0 ∙ ((λ j. get_or (sym d.1 j).atoms q.cursor 0) ∙ is))))
   mine id v b' at here Free d q sweep tells = let was = unmapped freeing v.sweep q sweep in let one : d.0 ≡ was.0 = some_same d.0 was.0 v.sweep d.1.0.0 was.1 in let cursor : d.0.cursor ≡ q.cursor = ap (λ (t : Sweeping). t.cursor) one ∙ ap (λ (t : Sweeping). t.cursor) was.2 in
       λ is. zero_there b.atoms q.cursor ((λ j. get_or (set b.atoms (sym cursor j) 0) q.cursor 0) ∙ ((λ j. get_or (sym d.3 j).atoms q.cursor 0) ∙ is))
   mine id v b' at here _ d q sweep tells = absurd tells

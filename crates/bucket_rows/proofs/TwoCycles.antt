@@ -13,7 +13,7 @@ use Rattle.atom_words.specs.declared.size.Size.{Size}
 use Rattle.atom_words.specs.declared.view.Sweeping.{Sweeping}
 use Rattle.atom_words.specs.declared.view.View.{View}
 use Rattle.atom_words.specs.declared.kind.Kind.{Kind}
-use Rattle.atom_words.specs.declared.kind.Kind.TheVariants.{Raise, Risen, Reserve, PutWord, PutLink, Link, Validate, Release, Load, Refused, Start, Read, Next, Skip, Hold, Keep, Fix, StartPass, EndPass, Refuse, Barred, Ask, Protect, Fetch, Register, Unregister, Begin, Mark, Scan, Ack, Check, ToSweep, Look, Spell, Condemn, PassOver, Behind, UnlinkAt, UnlinkHead, Note, Bump, Past, Free, End, Aim, Sound, Close, Emptied, Pick, MoveHead, MoveLink, LeaveHead, LeaveLink, PublishRow, Publish}
+use Rattle.atom_words.specs.declared.kind.Kind.TheVariants.{Raise, Risen, Reserve, Measure, PutWord, Fill, PutLink, Link, Validate, Release, Load, Refused, Start, Read, Next, Skip, Hold, Keep, Fix, StartPass, EndPass, Refuse, Barred, Ask, Protect, Fetch, Register, Unregister, Begin, Mark, Scan, Ack, Check, ToSweep, Look, Spell, Condemn, PassOver, Behind, UnlinkAt, UnlinkHead, Note, Bump, Past, Free, End, Aim, Sound, Close, Emptied, Pick, MoveHead, MoveLink, LeaveHead, LeaveLink, PublishRow, Publish}
 use Rattle.atom_words.proofs.Puts.{unmapped}
 use Rattle.atom_words.proofs.Every.{keep_move, reached_kept}
 use Rattle.bucket_rows.specs.TwoCycles.{Calm, CalmMove, Leads, ScanMove, Scanned, NoneReserved}
@@ -37,6 +37,8 @@ module _ (z : Size) (e : ℕ) (old : List ℕ) (b : Board) (vs : List View) (r :
     calm_kind (Unregister k) back here_ calm d = absurd calm
     calm_kind Validate back here_ calm d = absurd (let no : None ≡ Some d.0 = sym (own_none z e old b vs r D E s on id v at here) ∙ d.1 in cc)
     calm_kind Release back here_ calm d = absurd (let no : None ≡ Some d.0 = sym (own_none z e old b vs r D E s on id v at here) ∙ d.1 in cc)
+    calm_kind (Measure x) back here_ calm d = absurd (let no : None ≡ Some d.0 = sym (own_none z e old b vs r D E s on id v at here) ∙ d.1 in cc)
+    calm_kind Fill back here_ calm d = absurd (let no : None ≡ Some d.0 = sym (own_none z e old b vs r D E s on id v at here) ∙ d.1 in cc)
     calm_kind (PutWord x) back here_ calm d = absurd (let no : None ≡ Some d.0 = sym (own_none z e old b vs r D E s on id v at here) ∙ d.1 in cc)
     calm_kind (PutLink l) back here_ calm d = absurd (let no : None ≡ Some d.0 = sym (own_none z e old b vs r D E s on id v at here) ∙ d.1 in cc)
     calm_kind Link back here_ calm d = absurd (let no : None ≡ Some d.0 = sym (own_none z e old b vs r D E s on id v at here) ∙ d.2 in cc)

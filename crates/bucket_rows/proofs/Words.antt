@@ -1,11 +1,11 @@
 -- The epoch word and the acknowledgement words: reads, writes, and what a kind of step on them gives to a step of the table.
-use Rattle.std.proofs.Common.{◌≡◌, ℕ, ◌+◌, ◌-◌, ◌<◌, List, [], ◌∷◌, ◌++◌, get_or, set, refl, ap, ◌∙◌, arith, get_or-append-add, false}
+use Rattle.std.proofs.Common.{◌≡◌, ℕ, ◌+◌, ◌-◌, ◌*◌, replicate, ◌<◌, List, [], ◌∷◌, ◌++◌, get_or, set, refl, ap, ◌∙◌, arith, get_or-append-add, false}
 use mathlib.Core.Option.{some}
 use lib.ListN.{get_elem?, get_or-append}
 use lib.Seq.{set-append_left}
 use Rattle.std.proofs.lemmas.List.{set-append_right}
 use Rattle.atomic_table.specs.Table.{Allows}
-use Rattle.atom_words.specs.Board.{Board, Sized, laid, ack_at, with_epoch, with_ack}
+use Rattle.atom_words.specs.Board.{Board, Sized, laid, spread, near_word, far_word, gap, ack_at, with_epoch, with_ack}
 use Rattle.atom_words.specs.Rule.{Rule}
 use Rattle.atom_words.specs.Kept.{Kept}
 use Rattle.atom_words.specs.declared.size.Size.{Size}
@@ -14,12 +14,12 @@ use Rattle.atom_words.proofs.Adapters.{Sat, Picks, goes_at, load_at}
 
 module _ (z : Size) (b : Board) (s : Sized z b) where
   abbrev after_acks : List ℕ
-  after_acks = b.atoms ++ (b.links ++ (b.heads ++ b.texts))
+  after_acks = b.heads ++ (replicate (gap z) 0 ++ (spread (near_word b) 0 (8 * z.slots) ++ spread (far_word b) 0 (26 * z.slots)))
 
-  pub ack_read : (e : ℕ) → e < z.engines → get_or (laid b) (ack_at z e) 0 ≡ get_or b.acks e 0
+  pub ack_read : (e : ℕ) → e < z.engines → get_or (laid z b) (ack_at z e) 0 ≡ get_or b.acks e 0
   ack_read e h = get_or-append (b.epoch ∷ b.row ∷ b.acks) after_acks 0 (2 + e) (omega (arith, s.acks)) ∙ get_or-append-add (b.epoch ∷ b.row ∷ []) b.acks e 0
 
-  pub ack_write : (e x : ℕ) → e < z.engines → set (laid b) (ack_at z e) x ≡ laid (with_ack b e x)
+  pub ack_write : (e x : ℕ) → e < z.engines → set (laid z b) (ack_at z e) x ≡ laid z (with_ack b e x)
   ack_write e x h = let back : 2 + e - 2 ≡ e = omega arith in set-append_left (b.epoch ∷ b.row ∷ b.acks) after_acks (2 + e) x (omega (arith, s.acks))
       ∙ ap (λ (l : List ℕ). l ++ after_acks) (set-append_right (b.epoch ∷ b.row ∷ []) b.acks 2 (2 + e) x refl (omega arith) ∙ ap (λ (j : ℕ). b.epoch ∷ b.row ∷ set b.acks j x) back)
 

@@ -72,10 +72,10 @@ fn read_text(words: &Words, seat: &mut Seat<(), View>, slot: u32) -> [u64; 32]
     ensures steps { seat.new.me.0 ≡ after seat.old.me.0 (reads result) }
     ensures whole { length result ≡ 32 }
 {
-    let place = words.text_place(slot);
     let mut row = [0u64; 32];
     for i in 0..32 {
-        let word = words.table.shared.load::<ReadingWord>(seat, place + i);
+        let place = words.text_place(slot, i);
+        let word = words.table.shared.load::<ReadingWord>(seat, place);
         row[i] = word;
     }
     row

@@ -19,12 +19,13 @@ fn read_row(words: &Words, seat: &mut Seat<(), View>, slot: u32) -> [u64; 32]
     ensures same { (seat.new.table_id ≡ seat.old.table_id) × (seat.new.id ≡ seat.old.id) × (seat.new.me.1 ≡ seat.old.me.1) }
     ensures steps { (ws : List ℕ) × (seat.new.me.0 ≡ after seat.old.me.0 (spells ws)) × IsAll ws × (length ws ≤ 32) × (result ≡ padded ws) }
 {
-    let place = words.text_place(slot);
-    let first = words.table.shared.load::<Spelling>(seat, place);
+    let start = words.text_place(slot, 0);
+    let first = words.table.shared.load::<Spelling>(seat, start);
     let mut row = [0u64; 32];
     row[0] = first;
     for i in 1..1 + (at_most_248(first) + 7) / 8 {
-        let word = words.table.shared.load::<Spelling>(seat, place + i);
+        let place = words.text_place(slot, i);
+        let word = words.table.shared.load::<Spelling>(seat, place);
         row[i] = word;
     }
     row

@@ -36,9 +36,9 @@ fn differs(words: &Words, seat: &mut Seat<(), View>, slot: u32, row: &[u64; 32])
     ensures other { result ≡ true → (ws : List ℕ) × (ws ≢ take (length ws) row.now) × (seat.new.me.0 ≡ after seat.old.me.0 (reads ws)) }
     ensures whole { result ≡ false → seat.new.me.0 ≡ after seat.old.me.0 (reads (filling row.now)) }
 {
-    let place = words.text_place(slot);
     for i in 0..1 + (row[0] as usize + 7) / 8 {
-        let word = words.table.shared.load::<ReadingWord>(seat, place + i);
+        let place = words.text_place(slot, i);
+        let word = words.table.shared.load::<ReadingWord>(seat, place);
         if word != row[i] {
             return true;
         }

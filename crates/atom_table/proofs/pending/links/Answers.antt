@@ -10,7 +10,7 @@ returns-in-Err-clause-fits c = let v : View = seen c.args.seat.now in let m = c.
 
 pub returns-in-Err-clause-linked : goal.returns-in-Err-clause-linked
 returns-in-Err-clause-linked c = let v : View = seen c.args.seat.now in let m = c.requires.ready.0.4.2 in
-    unlinked_by v m.walk c.in-Err.field-0 (seen c.link.new.seat) c.requires.ready.0.0 (c.in-Err.ensures.steps m.walk m.at) c.requires.ready.0.1 c.requires.ready.0.2
+    let q = unlinked_by v m.walk c.in-Err.field-0 (seen c.link.new.seat) c.requires.ready.0.0 (c.in-Err.ensures.steps m.walk m.at) c.requires.ready.0.1 c.requires.ready.0.2 in (q.0, q.1, q.2)
 
 pub returns-in-Ok-clause-sitting : goal.returns-in-Ok-clause-sitting
 returns-in-Ok-clause-sitting c = let v : View = seen c.args.seat.now in let m = c.requires.ready.0.4.2 in (walking_beside v (seen c.link.new.seat) (beside_links v m.walk c.link.result (seen c.link.new.seat) (c.link.ensures.steps m.walk m.at)) c.requires.ready.1).0

@@ -1,4 +1,4 @@
-use Rattle.std.proofs.Common.{◌≡◌, ℕ, ◌+◌, ◌*◌, ◌<◌, ◌≤◌, ◌++◌, false, List, length, take, refl, sym, ap, ◌∙◌, arith, Some, length-take, length-set, length-append, take_all}
+use Rattle.std.proofs.Common.{◌≡◌, ℕ, ◌+◌, ◌*◌, ◌<◌, ◌≤◌, ◌++◌, false, List, length, take, refl, sym, ap, ◌∙◌, subst, arith, Some, length-take, length-set, length-append, take_all}
 use Rattle.std.proofs.lemmas.List.{take_more_set}
 use Rattle.atom_words.specs.Board.{text_at}
 use Rattle.atom_words.specs.Kinds.{view_after, after}
@@ -19,10 +19,10 @@ load-word-requires c = let v : View = c.args.seat.now.me.0 in let u : View = c.l
     let t : Walk = record w { part = w.part ++ ws } in let walk : u.walk ≡ Some t = ap (λ (x : View). x.walk) is ∙ reads_walk v w ws c.requires.walk.1 in
     let empty : length w.part ≡ 0 = ap length c.requires.walk.3 in let long : length ws ≡ i = length-take i row ∙ omega arith in let many : length (w.part ++ ws) ≡ i = length-append w.part ws ∙ omega arith in
     let same : c.args.words.now.size ≡ u.size = sym c.requires.fits.1 ∙ sym size in
-    let place : c.text_place-place.result ≡ text_at u.size (32 * c.args.slot) = c.text_place-place.ensures.place ∙ ap (λ (z : Size). text_at z (32 * c.args.slot)) same in (
+    let place : c.text_place-place.result ≡ text_at u.size c.args.slot (length (w.part ++ ws)) = c.text_place-place.ensures.place ∙ (λ j. text_at (same j) c.args.slot (sym many j)) in (
       c.loop-i.invariant.same.0 ∙ c.requires.fits.0,
-      omega (arith, c.text_place-place.ensures.inside),
-      reading_word c.args.words.now.table.shared.key c.args.words.now.table.shared.table_id.slots c.loop-i.seat.id c.loop-i.seat.me (c.args.words.now.keyed ∙ same) gone (c.text_place-place.result + i) c.args.slot t walk c.requires.walk.2 (omega arith) (omega arith),
+      c.text_place-place.ensures.inside,
+      reading_word c.args.words.now.table.shared.key c.args.words.now.table.shared.table_id.slots c.loop-i.seat.id c.loop-i.seat.me (c.args.words.now.keyed ∙ same) gone c.text_place-place.result c.args.slot t walk c.requires.walk.2 (omega arith) (subst (λ (z : Size). c.args.slot < z.slots) same c.requires.slot) place,
     )
 
 pub loop-i-preserved : goal.loop-i-preserved

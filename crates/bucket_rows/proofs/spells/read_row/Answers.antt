@@ -10,18 +10,17 @@ use Rattle.atom_words.specs.declared.view.Sweeping.{Sweeping}
 use Rattle.atom_words.specs.declared.view.View.{View}
 use Rattle.atom_words.specs.declared.kind.Kind.TheVariants.{Spell}
 use Rattle.bucket_rows.specs.Treads.{spells}
-use Rattle.atom_words.proofs.Padding.{zeros}
+use Rattle.atom_words.proofs.Padding.{zeros, padded_take}
 use Rattle.bucket_rows.proofs.SweepSteps.{spelling}
-use Rattle.bucket_rows.proofs.Filling.{padded_take}
 use Rattle.bucket_rows.proofs.Treading.{spells_keep, spells_more, spells_know}
 use Rattle.bucket_rows.proofs.spells.read_row.Goals as goal
 
 pub load-first-requires : goal.load-first-requires
 load-first-requires c = let v : View = c.args.seat.now.me.0 in let f = c.requires.found in let y : Sweeping = f.0 in let same : c.args.words.now.size ≡ v.size = sym c.requires.fits.1 in
-    let place : c.text_place-place.result ≡ text_at v.size (32 * c.args.slot) = c.text_place-place.ensures.place ∙ ap (λ (z : Size). text_at z (32 * c.args.slot)) same in (
+    let place : c.text_place-start.result ≡ text_at v.size c.args.slot 0 = c.text_place-start.ensures.place ∙ ap (λ (z : Size). text_at z c.args.slot 0) same in (
       c.requires.fits.0,
-      omega (arith, c.text_place-place.ensures.inside),
-      spelling c.args.words.now.table.shared.key c.args.words.now.table.shared.table_id.slots c.args.seat.now.id c.args.seat.now.me (c.args.words.now.keyed ∙ same) c.requires.fits.2 c.text_place-place.result c.args.slot 0 y f.1 f.2 f.5 f.4 (ap length f.6) (omega arith) (omega arith),
+      c.text_place-start.ensures.inside,
+      spelling c.args.words.now.table.shared.key c.args.words.now.table.shared.table_id.slots c.args.seat.now.id c.args.seat.now.me (c.args.words.now.keyed ∙ same) c.requires.fits.2 c.text_place-start.result c.args.slot 0 y f.1 f.2 f.5 f.4 (ap length f.6) (omega arith) (subst (λ (z : Size). c.args.slot < z.slots) same c.requires.slot) place,
     )
 
 pub loop-i-init : goal.loop-i-init
@@ -42,10 +41,10 @@ load-word-requires c = let v : View = c.args.seat.now.me.0 in let u : View = c.l
     let t : Sweeping = record y { text = y.text ++ ws } in let sweep : u.sweep ≡ Some t = ap (λ (x : View). x.sweep) is ∙ spells_know v y ws f.1.0 in
     let empty : length y.text ≡ 0 = ap length f.6 in let long : length ws ≡ i = length-take i row ∙ omega arith in let many : length (y.text ++ ws) ≡ i = length-append y.text ws ∙ omega arith in
     let same : c.args.words.now.size ≡ u.size = sym c.requires.fits.1 ∙ sym size in
-    let place : c.text_place-place.result ≡ text_at u.size (32 * c.args.slot) = c.text_place-place.ensures.place ∙ ap (λ (z : Size). text_at z (32 * c.args.slot)) same in (
+    let place : c.text_place-place.result ≡ text_at u.size c.args.slot i = c.text_place-place.ensures.place ∙ ap (λ (z : Size). text_at z c.args.slot i) same in (
       c.loop-i.invariant.same.0 ∙ c.requires.fits.0,
-      omega (arith, c.text_place-place.ensures.inside),
-      spelling c.args.words.now.table.shared.key c.args.words.now.table.shared.table_id.slots c.loop-i.seat.id c.loop-i.seat.me (c.args.words.now.keyed ∙ same) gone (c.text_place-place.result + i) c.args.slot i t (sweep, f.1.1) f.2 f.5 f.4 many low (omega arith),
+      c.text_place-place.ensures.inside,
+      spelling c.args.words.now.table.shared.key c.args.words.now.table.shared.table_id.slots c.loop-i.seat.id c.loop-i.seat.me (c.args.words.now.keyed ∙ same) gone c.text_place-place.result c.args.slot i t (sweep, f.1.1) f.2 f.5 f.4 many low (subst (λ (z : Size). c.args.slot < z.slots) same c.requires.slot) place,
     )
 
 pub loop-i-preserved : goal.loop-i-preserved

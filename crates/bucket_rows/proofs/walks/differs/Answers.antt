@@ -1,4 +1,4 @@
-use Rattle.std.proofs.Common.{◌≡◌, ◌<◌, ℕ, ◌+◌, ◌*◌, ◌++◌, [], ◌∷◌, false, List, length, get_or, take, refl, sym, ap, ◌∙◌, arith, Some, length-append, length-take, take_all}
+use Rattle.std.proofs.Common.{◌≡◌, ◌<◌, ℕ, ◌+◌, ◌*◌, ◌++◌, [], ◌∷◌, false, List, length, get_or, take, refl, sym, ap, ◌∙◌, subst, arith, Some, length-append, length-take, take_all}
 use Rattle.std.proofs.lemmas.List.{take_more}
 use Rattle.atom_words.specs.Texts.{filled}
 use Rattle.atom_words.specs.Board.{text_at}
@@ -24,10 +24,10 @@ load-word-requires c = let v : View = c.args.seat.now.me.0 in let u : View = c.l
     let long : length ws ≡ i = length-take i c.args.row.now ∙ omega arith in
     let many : length (w.part ++ ws) ≡ i = length-append w.part ws ∙ omega arith in
     let same : c.args.words.now.size ≡ u.size = sym c.requires.fits.1 ∙ sym size in
-    let place : c.text_place-place.result ≡ text_at u.size (32 * c.args.slot) = c.text_place-place.ensures.place ∙ ap (λ (y : Size). text_at y (32 * c.args.slot)) same in (
+    let place : c.text_place-place.result ≡ text_at u.size c.args.slot (length (w.part ++ ws)) = c.text_place-place.ensures.place ∙ (λ j. text_at (same j) c.args.slot (sym many j)) in (
       c.loop-i.invariant.same.0 ∙ c.requires.fits.0,
-      omega (arith, c.text_place-place.ensures.inside),
-      reading_word c.args.words.now.table.shared.key c.args.words.now.table.shared.table_id.slots c.loop-i.seat.id c.loop-i.seat.me (c.args.words.now.keyed ∙ same) gone (c.text_place-place.result + i) c.args.slot t walk c.requires.walk.2 (omega arith) (omega arith),
+      c.text_place-place.ensures.inside,
+      reading_word c.args.words.now.table.shared.key c.args.words.now.table.shared.table_id.slots c.loop-i.seat.id c.loop-i.seat.me (c.args.words.now.keyed ∙ same) gone c.text_place-place.result c.args.slot t walk c.requires.walk.2 (omega arith) (subst (λ (y : Size). c.args.slot < y.slots) same c.requires.slot) place,
     )
 
 pub loop-i-preserved : goal.loop-i-preserved

@@ -8,10 +8,6 @@ pub compare_exchange-requires : goal.compare_exchange-requires
 compare_exchange-requires c = let same : c.args.self.now.size ≡ c.args.seat.now.me.0.size = sym c.requires.fits.1 in (
   c.requires.fits.0,
   c.atom_place-place.ensures.inside,
-  reserving c.args.self.now.table.shared.key c.args.self.now.table.shared.table_id.slots c.args.seat.now.id c.args.seat.now.me (c.args.self.now.keyed ∙ same) c.requires.fits.2 c.atom_place-place.result c.args.slot
-      (c.atom_place-place.ensures.place ∙ ap (λ (y : Size). atom_at y c.args.slot) same) (subst (λ (y : Size). c.args.slot < y.slots) same c.requires.slot) c.requires.none,
+  reserving c.args.self.now.table.shared.key c.args.self.now.table.shared.table_id.slots c.args.seat.now.id c.args.seat.now.me (c.args.self.now.keyed ∙ same) c.requires.fits.2 c.atom_place-place.result c.args.slot c.args.free
+      (c.atom_place-place.ensures.place ∙ ap (λ (y : Size). atom_at y c.args.slot) same) (subst (λ (y : Size). c.args.slot < y.slots) same c.requires.slot) c.requires.none c.requires.free c.requires.loaded.0 c.requires.loaded.1,
 )
-
-pub returns-clause-taken : goal.returns-clause-taken
-returns-clause-taken c = let same : c.args.self.now.size ≡ c.args.seat.now.me.0.size = sym c.requires.fits.1 in
-    (c.compare_exchange.ensures.2.1 c.args.slot (c.atom_place-place.ensures.place ∙ ap (λ (y : Size). atom_at y c.args.slot) same)).2

@@ -17,7 +17,7 @@ store-requires c = let v : View = c.args.seat.now.me.0 in let u : View = c.find_
       c.find_word-found.ensures.same.0 ∙ c.requires.fits.0,
       c.requires.inside,
       putting_word c.args.self.now.table.shared.key c.args.self.now.table.shared.table_id.slots c.find_word-found.new.seat.id c.find_word-found.new.seat.me (c.args.self.now.keyed ∙ same) (ap (λ (y : View). y.gone) is ∙ c.requires.fits.2)
-          c.args.place c.args.word o.0 (ap (λ (y : View). y.own) is ∙ o.1) o.2 o.3 (o.4 ∙ ap (λ (z : Size). text_at z (32 * o.0.slot + length o.0.text)) (sym size)),
+          c.args.place c.args.word o.0 (ap (λ (y : View). y.own) is ∙ o.1) o.2 o.3 (subst (λ (z : Size). o.0.slot < z.slots) (sym size) o.4) (o.5 ∙ ap (λ (z : Size). text_at z o.0.slot (length o.0.text)) (sym size)),
     )
 
 pub returns-clause-steps : goal.returns-clause-steps
