@@ -16,10 +16,10 @@ pub shut_length : (n : ℕ) → length (shut n) ≡ 8 * n
 shut_length zero = refl
 shut_length (suc n) = let l = shut_length n in omega arith
 
-eight_first : get_or (1 ∷ replicate 7 0) 0 0 ≡ 1
+eight_first : ◌≡◌ {A = ℕ} (get_or (1 ∷ replicate 7 0) 0 0) 1
 eight_first = refl
 
-eight_other : (i : ℕ) → i ≢ 0 → get_or (1 ∷ replicate 7 0) i 0 ≡ 0
+eight_other : (i : ℕ) → i ≢ 0 → ◌≡◌ {A = ℕ} (get_or (1 ∷ replicate 7 0) i 0) 0
 eight_other zero ne = absurd (ne refl)
 eight_other (suc i) ne = zeros 7 i
 
@@ -39,15 +39,15 @@ shut_other (suc n) i h e = dite (dec_le 8 i)
 -- one slot more stands behind the others
 pub shut_more : (n : ℕ) → shut n ++ (1 ∷ replicate 7 0) ≡ shut (n + 1)
 shut_more zero = refl
-shut_more (suc n) = append_assoc (1 ∷ replicate 7 0) (shut n) (1 ∷ replicate 7 0) ∙ ap (λ (l : List ℕ). (1 ∷ replicate 7 0) ++ l) (shut_more n)
+shut_more (suc n) = append_assoc (1 ∷ replicate 7 0) (shut n) (1 ∷ replicate 7 0) ∙ (ap (λ (l : List ℕ). (1 ∷ replicate 7 0) ++ l) (shut_more n) ∙ ap shut (let e : suc (n + 1) ≡ suc n + 1 = omega arith in e))
 
-pub blanks : (n m : ℕ) → replicate (n + m) 0 ≡ replicate n 0 ++ replicate m 0
-blanks n m = let a = length-replicate {A = ℕ} (n + m) 0 in let b = length-replicate {A = ℕ} n 0 in let c = length-replicate {A = ℕ} m 0 in same_number_lists (replicate (n + m) 0) (replicate n 0 ++ replicate m 0) (simp (length-append {A = ℕ}) (omega arith))
+pub blanks : (n m : ℕ) → replicate {A = ℕ} (n + m) 0 ≡ replicate n 0 ++ replicate m 0
+blanks n m = let a = length-replicate {A = ℕ} (n + m) 0 in let b = length-replicate {A = ℕ} n 0 in let c = length-replicate {A = ℕ} m 0 in same_number_lists (replicate {A = ℕ} (n + m) 0) (replicate {A = ℕ} n 0 ++ replicate m 0) (simp (length-append {A = ℕ}) (omega arith))
     (λ k low. zeros (n + m) k ∙ sym (dite (dec_le n k)
-    (λ (past : n ≤ k). get_or-append_right (replicate n 0) (replicate m 0) n k 0 b past ∙ zeros m (k - n))
-    (λ (here : ¬ (n ≤ k)). get_or-append (replicate n 0) (replicate m 0) 0 k (omega arith) ∙ zeros n k)))
+    (λ (past : n ≤ k). get_or-append_right (replicate {A = ℕ} n 0) (replicate {A = ℕ} m 0) n k 0 b past ∙ zeros m (k - n))
+    (λ (here : ¬ (n ≤ k)). get_or-append (replicate {A = ℕ} n 0) (replicate {A = ℕ} m 0) 0 k (omega arith) ∙ zeros n k)))
 
-none : (t : Bool) → (if t then 0 else 0) ≡ 0
+none : (t : Bool) → ◌≡◌ {A = ℕ} (if t then 0 else 0) 0
 none true = refl
 none false = refl
 

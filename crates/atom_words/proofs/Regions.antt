@@ -40,8 +40,8 @@ spread_set f g m k x inside here others = same_number_lists (set (spread f 0 m) 
     (λ (ne : ¬ (i ≡ k)). get_or-set_other (spread f 0 m) k i x 0 ne ∙ (spread_at f m i (omega arith) ∙ (sym (others i ne) ∙ sym (spread_at g m i (omega arith))))))
 
 pub if_same : (t : Bool) (a a' c c' : ℕ) → (t ≡ true → a ≡ a') → (t ≡ false → c ≡ c') → (if t then a else c) ≡ (if t then a' else c')
-if_same true a a' c c' yes no_ = yes refl
-if_same false a a' c c' yes no_ = no_ refl
+if_same true a a' c c' p q = p refl
+if_same false a a' c c' p q = q refl
 
 pub if_yes : (t : Bool) (a c : ℕ) → t ≡ true → (if t then a else c) ≡ a
 if_yes t a c e = ap (λ (y : Bool). if y then a else c) e

@@ -43,7 +43,9 @@ fn next_counted(slots: u64, slot: u32, first: u32, counted: u32) -> u32
 {
     if counted == 0 {
         1
-    } else if (counted as u64) < slots && slot as u64 == in_circle(first as u64 + counted as u64, slots) {
+    } else if (counted as u64) < slots
+        && slot as u64 == in_circle(first as u64 + counted as u64, slots)
+    {
         counted + 1
     } else {
         counted
