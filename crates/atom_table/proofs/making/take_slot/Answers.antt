@@ -19,7 +19,7 @@ pub loop-i-preserved : goal.loop-i-preserved
 loop-i-preserved c = let st : View = seen c.start_pass.new.seat in let u : View = seen c.loop-i.seat in let w : View = seen c.reserve.new.seat in let i : ℕ = c.loop-i.i in let from : ℕ = c.args.from in let x : ℕ = c.in-Err.field-0 in
     let s = tried_start (seen c.args.seat.now) c.start_pass.ensures.steps.0 st c.start_pass.ensures.steps.1 in let t = c.loop-i.invariant.tried in
     let m : c.args.words.now.size.slots ≡ st.size.slots = sym (ap (λ (y : Size). y.slots) (s.beside.size ∙ c.requires.fits.1)) in let n : c.args.words.now.size.slots ≡ u.size.slots = m ∙ sym (ap (λ (y : Size). y.slots) t.beside.size) in
-    let found : FindsTaken u ((from + i) % c.args.words.now.size.slots) x w = c.in-Err.ensures.steps in record {
+    let found : FindsTaken u ((from + i) % c.args.words.now.size.slots) x w = subst (λ (j : ℕ). FindsTaken u j x w) c.in_circle-slot.ensures c.in-Err.ensures.steps in record {
       same = (c.reserve.ensures.same.0 ∙ c.loop-i.invariant.same.0, c.reserve.ensures.same.1 ∙ c.loop-i.invariant.same.1);
       tries = subst (λ (j : ℕ). Tries j from st w) (sym (add-one i)) (u, c.loop-i.invariant.tries, (x, subst (λ (j : ℕ). FindsTaken u ((from + i) % j) x w) m found));
       tried = tried_trans st u w t (tried_taken u ((from + i) % c.args.words.now.size.slots) x w found);

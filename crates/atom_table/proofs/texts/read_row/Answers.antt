@@ -19,6 +19,10 @@ use Rattle.atom_table.proofs.Spelling.{spelled_row}
 use Rattle.atom_table.proofs.Telling.{has_as}
 use Rattle.atom_table.proofs.texts.read_row.Goals as goal
 
+-- the text that the seat holds there
+fits_row : (x : ℕ) (text : List ℕ) → IsTextRow text → x ≡ get_or text 0 0 → x ≤ 248
+fits_row x text t e = subst (λ (n : ℕ). n ≤ 248) (sym e) t.1
+
 pub load-first-requires : goal.load-first-requires
 load-first-requires c = let v : View = c.args.seat.now.me.0 in let h = c.requires.held in let same : c.args.words.now.size ≡ v.size = sym c.requires.fits.1 in
     let place : c.text_place-start.result ≡ text_at v.size h.0.slot 0 = c.text_place-start.ensures.place ∙ (λ j. text_at (same j) (sym h.2 j) 0) in
@@ -27,6 +31,11 @@ load-first-requires c = let v : View = c.args.seat.now.me.0 in let h = c.require
       c.text_place-start.ensures.inside,
       reading_held c.args.words.now.table.shared.key c.args.words.now.table.shared.table_id.slots c.args.seat.now.id c.args.seat.now.me (c.args.words.now.keyed ∙ same) c.requires.fits.2 c.text_place-start.result 0 h.0 h.1 (omega arith) inside place,
     )
+
+pub overflow_add-i-end : goal.overflow_add-i-end
+overflow_add-i-end c = let v : View = c.args.seat.now.me.0 in let h = c.requires.held in let same : c.args.words.now.size ≡ v.size = sym c.requires.fits.1 in
+    let place : c.text_place-start.result ≡ text_at v.size h.0.slot 0 = c.text_place-start.ensures.place ∙ (λ j. text_at (same j) (sym h.2 j) 0) in
+    let few : c.load-first.result ≤ 248 = fits_row c.load-first.result h.0.text (spelled_row h.0.text h.3) (c.load-first.ensures.2.1 h.0 0 h.1 (omega arith) place) in omega arith
 
 pub loop-i-init : goal.loop-i-init
 loop-i-init c = let x : ℕ = c.load-first.result in let v : View = c.args.seat.now.me.0 in let same : c.args.words.now.size ≡ v.size = sym c.requires.fits.1 in record {
@@ -40,9 +49,13 @@ loop-i-init c = let x : ℕ = c.load-first.result in let v : View = c.args.seat.
   rest = λ k late. get_or-set_other (replicate 32 0) 0 k x 0 (λ e. omega arith) ∙ zeros 32 k;
 }
 
--- the text that the seat holds there
-fits_row : (x : ℕ) (text : List ℕ) → IsTextRow text → x ≡ get_or text 0 0 → x ≤ 248
-fits_row x text t e = subst (λ (n : ℕ). n ≤ 248) (sym e) t.1
+pub text_place-place-requires : goal.text_place-place-requires
+text_place-place-requires c = let h = c.requires.held in let inv = c.loop-i.invariant in let past : 1 ≤ c.loop-i.i = inv.some_ in
+    let few : c.load-first.result ≤ 248 = fits_row c.load-first.result h.0.text (spelled_row h.0.text h.3) (sym inv.first ∙ inv.read h.0 h.1 h.2 0 (omega arith)) in (c.requires.slot, omega (arith, c.loop-i-test.true))
+
+pub bounds-row-i : goal.bounds-row-i
+bounds-row-i c = let h = c.requires.held in let inv = c.loop-i.invariant in let past : 1 ≤ c.loop-i.i = inv.some_ in
+    let few : c.load-first.result ≤ 248 = fits_row c.load-first.result h.0.text (spelled_row h.0.text h.3) (sym inv.first ∙ inv.read h.0 h.1 h.2 0 (omega arith)) in omega (arith, c.loop-i-test.true)
 
 pub load-word-requires : goal.load-word-requires
 load-word-requires c = let v : View = c.args.seat.now.me.0 in let u : View = c.loop-i.seat.me.0 in let i : ℕ = c.loop-i.i in let z : Size = c.args.words.now.size in let k : ℕ = c.args.slot in let ws : List ℕ = take i c.loop-i.row in let h = c.requires.held in let inv = c.loop-i.invariant in let past : 1 ≤ i = inv.some_ in
@@ -87,7 +100,7 @@ returns-clause-steps c = (take c.loop-i.i c.loop-i.row, c.loop-i.invariant.view)
 pub returns-clause-words : goal.returns-clause-words
 returns-clause-words c = λ h ours at spelled_. let inv = c.loop-i.invariant in let i : ℕ = c.loop-i.i in let row : List ℕ = c.loop-i.row in let wide : length row ≡ 32 = inv.long in let past : 1 ≤ i = inv.some_ in
     let t : IsTextRow h.text = spelled_row h.text spelled_ in let head : c.load-first.result ≡ get_or h.text 0 0 = sym inv.first ∙ inv.read h ours at 0 (omega arith) in let few = t.1 in
-    let end : i ≡ filled (get_or h.text 0 0) = (let a = c.loop-i-test.false in let b = c.loop-i.auto.i-end in omega arith) in
+    let end : filled (get_or h.text 0 0) ≤ i = (let a = c.loop-i-test.false in omega arith) in
     same_number_lists row h.text (wide ∙ sym t.0) (λ k low. dite (dec_le i k)
     (λ (late : i ≤ k). inv.rest k late ∙ sym (t.2 k (omega arith)))
     (λ (early : ¬ (i ≤ k)). inv.read h ours at k (omega arith)))
