@@ -95,14 +95,45 @@ fn a_text_has_32_words(rt: HostRuntime) -> Result<(), Fail> {
     let (words, mut first) = Words::new(rt.alloc(), SMALL)?;
     assert!(rt; words.reserve(&mut first, 511) == Ok(()));
     put_and_release(&words, &mut first, b"ab");
-    let text = words.text_place(511);
     let found = [
-        words.table.shared.peek(text),
-        words.table.shared.peek(text + 1),
-        words.table.shared.peek(text + 2),
-        words.table.shared.peek(text + 31),
+        words.table.shared.peek(words.text_place(511, 0)),
+        words.table.shared.peek(words.text_place(511, 1)),
+        words.table.shared.peek(words.text_place(511, 2)),
+        words.table.shared.peek(words.text_place(511, 31)),
     ];
     assert!(rt; found == [2, 25_185, 0, 0]);
+    Ok(())
+}
+
+#[test]
+fn a_short_text_covers_a_long_one(rt: HostRuntime) -> Result<(), Fail> {
+    let (words, mut first) = Words::new(rt.alloc(), SMALL)?;
+    assert!(rt; words.reserve(&mut first, 300) == Ok(()));
+    put_and_release(
+        &words,
+        &mut first,
+        b"a text of forty-eight bytes, with the last one z",
+    );
+    assert!(rt; words.table.shared.peek(words.text_place(300, 6)) / 72_057_594_037_927_936 == 122);
+    assert!(rt; words.reserve(&mut first, 300) == Ok(()));
+    put_and_release(&words, &mut first, b"ab");
+    let found = [
+        words.table.shared.peek(words.text_place(300, 0)),
+        words.table.shared.peek(words.text_place(300, 1)),
+        words.table.shared.peek(words.text_place(300, 2)),
+        words.table.shared.peek(words.text_place(300, 6)),
+    ];
+    assert!(rt; found == [2, 25_185, 0, 0]);
+    Ok(())
+}
+
+#[test]
+fn eight_words_of_a_slot_stand_together(rt: HostRuntime) -> Result<(), Fail> {
+    let (words, _first) = Words::new(rt.alloc(), SMALL)?;
+    let place = words.atom_place(300);
+    assert!(rt; place % 8 == 6 && words.link_place(300) == place + 1);
+    assert!(rt; words.text_place(300, 0) == place + 2 && words.text_place(300, 5) == place + 7);
+    assert!(rt; words.atom_place(301) == place + 8);
     Ok(())
 }
 
