@@ -32,6 +32,7 @@ pub mod Ranging
 pub mod Reaching
 pub mod Renumbering
 pub mod Resting
+pub mod Settling
 pub mod Shorting
 pub mod Sizing
 pub mod Spelling

@@ -6,6 +6,7 @@ use Rattle.term_store.specs.declared.cells.Cells.{Cells}
 use Rattle.term_store.specs.Heap.{Heap, find}
 use Rattle.term_store.specs.Fit.{Fit, IsCache}
 use Rattle.term_store.specs.GroundMarks.{AreMarks}
+use Rattle.term_store.specs.GroundTerms.{AreGroundTerms}
 
 abbrev pub heap_of : Cells → Heap
 heap_of c = record { heads = c.heads.items; args = c.args.items; numbers = c.numbers.items; trail = c.bonds.items }
@@ -14,6 +15,7 @@ pub record IsFit (c : Cells) : Type 0 where
   pub fit : Fit (heap_of c)
   pub cache : IsCache c.bonds.values (heap_of c)
   pub marks : AreMarks c.grounds.items (heap_of c)
+  pub settled : AreGroundTerms c.settled.list.items (heap_of c)
 
 -- A word that is not a bound variable.
 abbrev pub IsFree : Heap → Word → Type 0

@@ -3,7 +3,7 @@ use Rattle.std.specs.Prelude.{◌≡◌, ℕ, ◌+◌, ◌-◌, ◌<◌, ◌≤�
 use Rattle.std.specs.List.{All}
 use Rattle.atom_api.specs.FixedNames.{true_name}
 use Rattle.pl_term.specs.Tree.{Tree, Trees, var, atom, comp, none, more}
-use Rattle.pl_term.specs.Variables.{rename_by}
+use Rattle.pl_term.specs.Variables.{has, rename_by}
 use Rattle.pl_model.specs.Unify.{Bindings, bound, bound_all, solve, unify, instance}
 use Rattle.term_store.specs.declared.words.Word.{Word}
 use Rattle.term_store.specs.declared.words.Word.TheVariants.{Var, Int, Atom, Comp}
@@ -16,7 +16,7 @@ use Rattle.term_store.specs.ArgumentKeys.{head_in}
 use Rattle.term_store.specs.Blocks.{block_heap, no_range, part_of}
 use Rattle.term_store.specs.Contents.{Contents, Holds, term_at}
 use Rattle.term_store.specs.Fit.{IsIn}
-use Rattle.term_store.specs.Heap.{Heap, atom_name, meaning}
+use Rattle.term_store.specs.Heap.{Heap, atom_name, meaning, numbered}
 use Rattle.term_store.specs.NumberedNames.{neck, number_of}
 use Rattle.term_store.specs.Unifying.{lefts}
 
@@ -80,12 +80,13 @@ IsConstant (Int i) = Unit {0}
 IsConstant (Atom a) = Unit {0}
 IsConstant (Comp k) = ⊥
 
--- A word of the block that is no variable of those met first, up to a number of them, but for one that stands for a constant.
-abbrev pub IsHarmless : List Word → ℕ → Word → Type 0
-IsHarmless known before (Var x) = x < before → IsConstant (slice_index_or known x (Int (pos 0)))
-IsHarmless known before (Int i) = Unit {0}
-IsHarmless known before (Atom a) = Unit {0}
-IsHarmless known before (Comp k) = Unit {0}
+-- A word of the block that is no variable of those met first, up to a number of them, but for one that stands for a term in which the
+-- variable of a slot does not occur.
+abbrev pub IsHarmless : Heap → ℕ → List Word → ℕ → Word → Type 0
+IsHarmless h slot known before (Var x) = x < before → has (numbered h slot) (meaning h (slice_index_or known x (Int (pos 0)))) ≡ false
+IsHarmless h slot known before (Int i) = Unit {0}
+IsHarmless h slot known before (Atom a) = Unit {0}
+IsHarmless h slot known before (Comp k) = Unit {0}
 
 -- A word of the heap and one of the clause's block.
 abbrev pub IsFacing : Heap → Block → Pair → Type 0

@@ -8,6 +8,7 @@ pub mod Counting
 pub mod Entering
 pub mod Fit
 pub mod GroundMarks
+pub mod GroundTerms
 pub mod Grounds
 pub mod Heap
 pub mod KeptLaws

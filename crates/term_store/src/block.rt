@@ -52,6 +52,7 @@ pub fn block_of(alloc: Global, nodes: &[AtomNode], variables: u64) -> Result<Blo
         numbers: _,
         bonds: _,
         grounds: _,
+        settled: _,
     } = cells;
     Ok(Block {
         variables,

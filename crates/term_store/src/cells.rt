@@ -5,12 +5,14 @@ ghost use Rattle.term_store.specs.Heap.{blank_heap, meaning};
 ghost use Rattle.term_store.specs.Fit.{IsIn, no_head};
 
 use crate::bonds::Bonds;
+use crate::ground_terms::GroundTerms;
 use crate::shorts::Words;
 use crate::words::{Head, Word};
 use std::alloc::Global;
 
 /// The compound terms by their heads and arguments, the variables' numbers, which rise with the slots, and what they are bound
-/// to, by slot and in the order in which the bindings were made. `grounds` has for the compound terms up to the last marked one whether they were made of constants and such terms alone.
+/// to, by slot and in the order in which the bindings were made. `grounds` has for the compound terms up to the last marked one whether they were made of constants and such terms alone, and `settled` those in which a walk found no
+/// variable, under the bindings that there are.
 #[derive(Drop)]
 pub struct Cells {
     pub heads: Vec<Head>,
@@ -18,6 +20,7 @@ pub struct Cells {
     pub numbers: Vec<u64>,
     pub bonds: Bonds,
     pub grounds: Vec<bool>,
+    pub settled: GroundTerms,
 }
 
 impl Cells {
@@ -32,6 +35,7 @@ impl Cells {
             numbers: Vec::new(alloc),
             bonds: Bonds::new(alloc),
             grounds: Vec::new(alloc),
+            settled: GroundTerms::new(alloc),
         }
     }
 }

@@ -1,5 +1,5 @@
 //! Whether a variable of a store occurs in a part of a clause that was made there.
-ghost use Rattle.std.specs.Prelude.{◌≡◌, ℕ, ◌<◌, ◌≤◌, length, pos, slice_index_or, false, true, None, IfOk};
+ghost use Rattle.std.specs.Prelude.{◌≡◌, ℕ, ◌<◌, ◌≤◌, length, pos, slice_index_or, false, true, None, IfOk, OnOk};
 ghost use Rattle.std.specs.List.{All};
 ghost use Rattle.pl_term.specs.Variables.{has};
 ghost use Rattle.term_store.specs.Blocks.{IsBlock, arguments_of, no_range};
@@ -9,19 +9,21 @@ ghost use Rattle.term_store.specs.Fit.{IsIn};
 ghost use Rattle.term_store.specs.Heap.{find, meaning, numbered};
 
 use crate::block::{Block, block_words};
-use crate::cells::Cells;
+use crate::cells::{Cells, deref};
 use crate::copies::{known_at, range_of};
-use crate::occurs::occurs;
+use crate::ground_terms::is_known_ground;
+use crate::made_ground::marked_at;
+use crate::occurs::{is_found, occurs};
 use crate::older::Older;
 use crate::walk::Walk;
 use crate::words::Word;
 use pl_term::Memory;
 
 /// Whether the unbound variable of a slot occurs in a compound term of a block that was made at a word. Of the variables of the
-/// block so many were met before, and the others are new, so it occurs in none of these. Nothing is walked where those met before
-/// that are in the term stand for constants. The only error is out of memory.
+/// block so many were met before, and the others are new, so it occurs in none of these. What those met before stand for is
+/// walked; the term that was made is walked only where the variable was found there. The only error is out of memory.
 pub fn is_held(
-    cells: &Cells,
+    cells: &mut Cells,
     walk: &mut Walk,
     block: &Block,
     known: &[Word],
@@ -30,21 +32,24 @@ pub fn is_held(
     k: usize,
     word: Word,
 ) -> Result<bool, Memory>
-    requires fit { IsFit cells.now }
+    requires fit { IsFit cells.old }
     requires block { IsBlock block.now }
-    requires slot { slot < length cells.now.numbers.items }
-    requires free { find slot cells.now.bonds.items ≡ None }
-    requires inside { IsIn (heap_of cells.now) word }
-    requires known { All (IsIn (heap_of cells.now)) known.now }
+    requires slot { slot < length cells.old.numbers.items }
+    requires free { find slot cells.old.bonds.items ≡ None }
+    requires inside { IsIn (heap_of cells.old) word }
+    requires known { All (IsIn (heap_of cells.old)) known.now }
     requires before { before ≤ length known.now }
     requires part { k < length block.now.heads.items }
     requires ready { IsReady block.now known.now (Word.Comp k) }
     requires new { (x : ℕ) → before ≤ x → x < length known.now
-        → has (numbered (heap_of cells.now) slot) (meaning (heap_of cells.now) (slice_index_or known.now x (Word.Int (pos 0)))) ≡ false }
-    requires means { (from : ℕ) × (meaning (heap_of cells.now) word ≡ entered block.now (heap_of cells.now) from known.now (Word.Comp k)) }
-    ensures { IfOk result (λ b. b ≡ has (numbered (heap_of cells.now) slot) (meaning (heap_of cells.now) word)) }
+        → has (numbered (heap_of cells.old) slot) (meaning (heap_of cells.old) (slice_index_or known.now x (Word.Int (pos 0)))) ≡ false }
+    requires means { (from : ℕ) × (meaning (heap_of cells.old) word ≡ entered block.now (heap_of cells.old) from known.now (Word.Comp k)) }
+    ensures fit { IsFit cells.new }
+    ensures kept { heap_of cells.new ≡ heap_of cells.old }
+    ensures held { IfOk result (λ b. b ≡ has (numbered (heap_of cells.old) slot) (meaning (heap_of cells.old) word)) }
 {
-    if !may_hold(block, known, before, k) {
+    let may = may_hold(cells, walk, block, known, before, slot, k)?;
+    if !may {
         return Ok(false);
     }
     let mut older = Older::none();
@@ -52,47 +57,147 @@ pub fn is_held(
     Ok(held)
 }
 
-/// Whether a compound term of the block has a variable that was met before and stands for no constant.
-fn may_hold(block: &Block, known: &[Word], before: usize, k: usize) -> bool
+/// Whether the unbound variable of a slot occurs in what a variable of the block stands for that was met before, and that is in a
+/// compound term of the block. The only error is out of memory.
+fn may_hold(
+    cells: &mut Cells,
+    walk: &mut Walk,
+    block: &Block,
+    known: &[Word],
+    before: usize,
+    slot: usize,
+    k: usize,
+) -> Result<bool, Memory>
+    requires fit { IsFit cells.old }
     requires block { IsBlock block.now }
+    requires slot { slot < length cells.old.numbers.items }
+    requires free { find slot cells.old.bonds.items ≡ None }
+    requires known { All (IsIn (heap_of cells.old)) known.now }
     requires before { before ≤ length known.now }
     requires part { k < length block.now.heads.items }
-    ensures { result ≡ false → (j : ℕ) → (slice_index_or block.now.ranges.items k no_range).low ≤ j → j ≤ k
-        → All (IsHarmless known.now before) (arguments_of block.now j) }
+    ensures fit { IsFit cells.new }
+    ensures kept { heap_of cells.new ≡ heap_of cells.old }
+    ensures none { IfOk result (λ b. b ≡ false → (j : ℕ) → (slice_index_or block.now.ranges.items k no_range).low ≤ j → j ≤ k
+        → All (IsHarmless (heap_of cells.old) slot known.now before) (arguments_of block.now j)) }
 {
     let range = range_of(block, k);
     for j in range.low..k + 1 {
-        if has_met(block_words(block, j), known, before) {
-            return true;
+        let words = block_words(block, j);
+        let met = has_met(cells, walk, words, known, before, slot)?;
+        if met {
+            return Ok(true);
         }
     }
-    false
+    Ok(false)
 }
 
-/// Whether one of the words is a variable that was met before and stands for no constant.
-fn has_met(words: &[Word], known: &[Word], before: usize) -> bool
-    requires { before ≤ length known.now }
-    ensures { result ≡ false → All (IsHarmless known.now before) words.now }
+/// Whether the unbound variable of a slot occurs in what one of the words, a variable that was met before, stands for. The only
+/// error is out of memory.
+fn has_met(
+    cells: &mut Cells,
+    walk: &mut Walk,
+    words: &[Word],
+    known: &[Word],
+    before: usize,
+    slot: usize,
+) -> Result<bool, Memory>
+    requires fit { IsFit cells.old }
+    requires slot { slot < length cells.old.numbers.items }
+    requires free { find slot cells.old.bonds.items ≡ None }
+    requires known { All (IsIn (heap_of cells.old)) known.now }
+    requires before { before ≤ length known.now }
+    ensures fit { IsFit cells.new }
+    ensures kept { heap_of cells.new ≡ heap_of cells.old }
+    ensures none { IfOk result (λ b. b ≡ false → All (IsHarmless (heap_of cells.old) slot known.now before) words.now) }
 {
     for word in words {
-        if is_met(*word, known, before) {
-            return true;
+        let met = is_met(cells, walk, *word, known, before, slot)?;
+        if met {
+            return Ok(true);
         }
     }
-    false
+    Ok(false)
 }
 
-/// Whether the word is a variable that was met before and stands for no constant.
-fn is_met(word: Word, known: &[Word], before: usize) -> bool
-    requires { before ≤ length known.now }
-    ensures { result ≡ false → IsHarmless known.now before word }
+/// Whether the word is a variable that was met before, and the unbound variable of a slot occurs in what it stands for. The only
+/// error is out of memory.
+fn is_met(
+    cells: &mut Cells,
+    walk: &mut Walk,
+    word: Word,
+    known: &[Word],
+    before: usize,
+    slot: usize,
+) -> Result<bool, Memory>
+    requires fit { IsFit cells.old }
+    requires slot { slot < length cells.old.numbers.items }
+    requires free { find slot cells.old.bonds.items ≡ None }
+    requires known { All (IsIn (heap_of cells.old)) known.now }
+    requires before { before ≤ length known.now }
+    ensures fit { IsFit cells.new }
+    ensures kept { heap_of cells.new ≡ heap_of cells.old }
+    ensures none { IfOk result (λ b. b ≡ false → IsHarmless (heap_of cells.old) slot known.now before word) }
 {
     match word {
-        Word::Var(x) => x < before && !is_constant(known_at(known, x)),
-        Word::Int(_) => false,
-        Word::Atom(_) => false,
-        Word::Comp(_) => false,
+        Word::Var(x) => {
+            if x >= before {
+                return Ok(false);
+            }
+            let met = known_at(known, x);
+            let held = stands_in(cells, walk, slot, met)?;
+            Ok(held)
+        }
+        Word::Int(_) => Ok(false),
+        Word::Atom(_) => Ok(false),
+        Word::Comp(_) => Ok(false),
     }
+}
+
+/// Whether the unbound variable of a slot occurs in what a word stands for. A compound term in which no variable occurs is kept as
+/// one. The only error is out of memory.
+fn stands_in(cells: &mut Cells, walk: &mut Walk, slot: usize, word: Word) -> Result<bool, Memory>
+    requires fit { IsFit cells.old }
+    requires slot { slot < length cells.old.numbers.items }
+    requires free { find slot cells.old.bonds.items ≡ None }
+    requires inside { IsIn (heap_of cells.old) word }
+    ensures fit { IsFit cells.new }
+    ensures kept { heap_of cells.new ≡ heap_of cells.old }
+    ensures has { IfOk result (λ b. b ≡ has (numbered (heap_of cells.old) slot) (meaning (heap_of cells.old) word)) }
+{
+    if is_constant(word) {
+        return Ok(false);
+    }
+    let mut top = 0;
+    let found = is_found(cells, walk, &mut top, slot, word)?;
+    if found {
+        return Ok(true);
+    }
+    if top > 0 {
+        return Ok(false);
+    }
+    keep_ground(cells, word)?;
+    Ok(false)
+}
+
+/// Keeps the compound term that a word stands for as one in which no variable occurs, unless it is known to be one. The only error
+/// is out of memory.
+fn keep_ground(cells: &mut Cells, word: Word) -> Result<(), Memory>
+    requires fit { IsFit cells.old }
+    requires inside { IsIn (heap_of cells.old) word }
+    requires ground { (x : ℕ) → has x (meaning (heap_of cells.old) word) ≡ false }
+    ensures fit { IsFit cells.new }
+    ensures kept { heap_of cells.new ≡ heap_of cells.old }
+{
+    let Word::Comp(k) = deref(cells, word) else {
+        return Ok(());
+    };
+    if marked_at(&cells.grounds, k) || is_known_ground(&cells.settled, k) {
+        return Ok(());
+    }
+    let heads = cells.heads.len();
+    let bindings = cells.bonds.len();
+    cells.settled.add(k, heads, bindings)?;
+    Ok(())
 }
 
 /// Whether the word is a constant.

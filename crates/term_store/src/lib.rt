@@ -15,6 +15,7 @@ mod count;
 mod enter;
 mod faults;
 mod ground;
+mod ground_terms;
 mod heads;
 mod holding;
 mod identity;

@@ -4,6 +4,7 @@ ghost use Rattle.std.specs.List.{All};
 ghost use Rattle.term_store.specs.Cells.{IsFit, heap_of};
 ghost use Rattle.term_store.specs.Fit.{IsIn, Fit, IsCache};
 ghost use Rattle.term_store.specs.GroundMarks.{AreMarks, IsMarkedToo};
+ghost use Rattle.term_store.specs.GroundTerms.{AreGroundTerms};
 ghost use Rattle.term_store.specs.Making.{Made, with_args, with_number};
 
 use crate::cells::Cells;
@@ -76,6 +77,7 @@ pub fn finish_compound(
     requires inside { All (IsIn (heap_of cells.old)) (drop start cells.old.args.items) }
     requires unused { Fit (with_args (heap_of cells.old) (take start cells.old.args.items)) }
     requires marks { AreMarks cells.old.grounds.items (with_args (heap_of cells.old) (take start cells.old.args.items)) }
+    requires settled { AreGroundTerms cells.old.settled.list.items (with_args (heap_of cells.old) (take start cells.old.args.items)) }
     ensures fit { IsFit cells.new }
     ensures made { IfOk result (λ w. Made (with_args (heap_of cells.old) (take start cells.old.args.items)) name
         (drop start cells.old.args.items) (heap_of cells.new) w) }

@@ -10,6 +10,7 @@ ghost use Rattle.term_store.specs.Unifying.{any_has};
 ghost use Rattle.term_store.specs.Visits.{IsClear, SeenClear};
 
 use crate::cells::{Cells, deref, head_at, word_at};
+use crate::ground_terms::is_known_ground;
 use crate::made_ground::marked_at;
 use crate::older::{Older, is_apart};
 use crate::pace::Pace;
@@ -44,7 +45,7 @@ pub fn occurs(
 /// Whether the unbound variable of a slot is found in what a word stands for. The bound is raised above the slots of the
 /// unbound variables that were met. A walk that is not short comes to each compound term once. The only error is out of
 /// memory.
-fn is_found(
+pub fn is_found(
     cells: &Cells,
     walk: &mut Walk,
     top: &mut usize,
@@ -113,8 +114,8 @@ fn is_here(
     }
 }
 
-/// Puts the arguments of a compound term on the stack, unless it is marked as ground, or the walk is known to have come by it
-/// before, which is kept where the walk is long.
+/// Puts the arguments of a compound term on the stack, unless it is known to have no variables, or the walk is known to have come
+/// by it before, which is kept where the walk is long.
 pub fn come_by(cells: &Cells, walk: &mut Walk, k: usize) -> Result<(), Memory>
     requires fit { IsFit cells.now }
     requires inside { k < length cells.now.heads.items }
@@ -127,6 +128,9 @@ pub fn come_by(cells: &Cells, walk: &mut Walk, k: usize) -> Result<(), Memory>
         → All (IsClear x (heap_of cells.now) walk.new.words.items) walk.new.seen.list.items) }
 {
     if marked_at(&cells.grounds, k) {
+        return Ok(());
+    }
+    if is_known_ground(&cells.settled, k) {
         return Ok(());
     }
     let long = walk.pace.is_long(k);

@@ -4,10 +4,12 @@ ghost use Rattle.std.specs.List.{All};
 ghost use Rattle.term_store.specs.Cells.{IsFit, heap_of};
 ghost use Rattle.term_store.specs.Fit.{Cached, Fit, IsCache, OnceFrom};
 ghost use Rattle.term_store.specs.GroundMarks.{AreMarks};
+ghost use Rattle.term_store.specs.GroundTerms.{AreGroundTerms};
 ghost use Rattle.term_store.specs.Marks.{IsWithin, cut};
 
 use crate::bonds::Bonds;
 use crate::cells::Cells;
+use crate::ground_terms::forget_later;
 use crate::words::StoreMark;
 
 /// Gives back what was made and bound since the mark. It takes no memory.
@@ -18,6 +20,7 @@ pub fn undo_to(cells: &mut Cells, mark: StoreMark)
     ensures cut { heap_of cells.new ≡ cut mark (heap_of cells.old) }
     ensures cache { IsCache cells.new.bonds.values (heap_of cells.new) }
     ensures marks { AreMarks cells.new.grounds.items (heap_of cells.new) }
+    ensures settled { AreGroundTerms cells.new.settled.list.items (heap_of cells.new) }
 {
     unbind(&mut cells.bonds, mark.trail);
     cells.heads.truncate(mark.heads);
@@ -25,6 +28,7 @@ pub fn undo_to(cells: &mut Cells, mark: StoreMark)
     cells.numbers.truncate(mark.numbers);
     cells.bonds.keep_first(mark.numbers);
     cells.grounds.truncate(mark.heads);
+    forget_later(&mut cells.settled.list, mark.heads, mark.trail);
 }
 
 /// Undoes the bindings made since there were `keep` of them.

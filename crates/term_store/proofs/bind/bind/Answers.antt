@@ -2,8 +2,10 @@ use Rattle.std.proofs.Common.{◌≡◌, ◌<◌, length, set, Some, sym, ap, su
 use Rattle.term_store.specs.Heap.{pushed}
 use Rattle.term_store.specs.Fit.{Fit, IsCache}
 use Rattle.term_store.specs.Cells.{heap_of}
+use Rattle.term_store.specs.GroundTerms.{AreGroundTerms}
 use Rattle.term_store.specs.Shorts.{BondList}
 use Rattle.term_store.proofs.Binding.{fit_pushed, cache_pushed}
+use Rattle.term_store.proofs.Settling.{settled_pushed}
 use Rattle.term_store.proofs.bind.bind.Goals as goal
 
 pub bind-requires-clause-slot : goal.bind-requires-clause-slot
@@ -18,6 +20,7 @@ returns-in_err-bind-clause-fit c =
       fit = subst (λ (b : BondList). Fit (record h { trail = b.items })) (sym e) r.fit.fit;
       cache = subst (λ (b : BondList). IsCache b.values (record h { trail = b.items })) (sym e) r.fit.cache;
       marks = record { long = r.fit.marks.long; parts = r.fit.marks.parts };
+      settled = subst (λ (b : BondList). AreGroundTerms c.args.cells.now.settled.list.items (record h { trail = b.items })) (sym e) r.fit.settled;
     }
 
 pub returns-clause-fit : goal.returns-clause-fit
@@ -34,4 +37,7 @@ returns-clause-fit c =
           (subst (λ t. IsCache (set old.values c.args.slot (Some c.args.word)) (record h { trail = t })) (sym e)
           (cache_pushed old.values h c.args.slot c.args.word r.fit.cache r.slot r.free));
       marks = record { long = r.fit.marks.long; parts = r.fit.marks.parts };
+      settled =
+          subst (λ t. AreGroundTerms c.args.cells.now.settled.list.items (record h { trail = t })) (sym e)
+          (settled_pushed c.args.cells.now.settled.list.items h c.args.slot c.args.word r.fit.settled);
     }

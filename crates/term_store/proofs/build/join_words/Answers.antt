@@ -4,6 +4,7 @@ use Rattle.std.proofs.Math.Seq.{drop-append_seam}
 use Rattle.term_store.specs.Cells.{heap_of}
 use Rattle.term_store.specs.Fit.{IsIn}
 use Rattle.term_store.specs.GroundMarks.{AreMarks}
+use Rattle.term_store.specs.GroundTerms.{AreGroundTerms}
 use Rattle.term_store.specs.Making.{with_args}
 use Rattle.term_store.proofs.Stacking.{taken_inside}
 use Rattle.term_store.proofs.build.join_words.Goals as goal
@@ -25,3 +26,11 @@ finish_compound-requires-clause-marks c =
     let before : take c.len-start.result args ≡ h.args =
     ap (λ n. take n args) c.len-start.ensures ∙ c.move_words.ensures.kept in
     subst (λ ws. AreMarks c.args.cells.now.grounds.items (with_args h ws)) (sym before) c.requires.fit.marks
+
+pub finish_compound-requires-clause-settled : goal.finish_compound-requires-clause-settled
+finish_compound-requires-clause-settled c =
+    let h = heap_of c.args.cells.now in
+    let args = c.move_words.new.args.items in
+    let before : take c.len-start.result args ≡ h.args =
+    ap (λ n. take n args) c.len-start.ensures ∙ c.move_words.ensures.kept in
+    subst (λ ws. AreGroundTerms c.args.cells.now.settled.list.items (with_args h ws)) (sym before) c.requires.fit.settled

@@ -7,6 +7,7 @@ use Rattle.term_store.specs.Blocks.{arguments_of, copied}
 use Rattle.term_store.specs.Cells.{heap_of}
 use Rattle.term_store.specs.Fit.{IsIn}
 use Rattle.term_store.specs.GroundMarks.{AreMarks}
+use Rattle.term_store.specs.GroundTerms.{AreGroundTerms}
 use Rattle.term_store.specs.Making.{with_args}
 use Rattle.term_store.proofs.copies.copy_compound.Goals as goal
 
@@ -34,3 +35,11 @@ finish_compound-requires-clause-marks c =
     let before : take c.len-start.result args ≡ h.args =
     ap (λ n. take n args) c.len-start.ensures ∙ c.push_copies.ensures.kept in
     subst (λ ws. AreMarks c.args.cells.now.grounds.items (with_args h ws)) (sym before) c.requires.fit.marks
+
+pub finish_compound-requires-clause-settled : goal.finish_compound-requires-clause-settled
+finish_compound-requires-clause-settled c =
+    let h = heap_of c.args.cells.now in
+    let args = c.push_copies.new.args.items in
+    let before : take c.len-start.result args ≡ h.args =
+    ap (λ n. take n args) c.len-start.ensures ∙ c.push_copies.ensures.kept in
+    subst (λ ws. AreGroundTerms c.args.cells.now.settled.list.items (with_args h ws)) (sym before) c.requires.fit.settled

@@ -1,12 +1,12 @@
-use Rattle.std.proofs.Common.{◌≡◌, ◌<◌, ◌≤◌, ℕ, [], length, get_or, pos, sym, ap, subst, ◌∙◌}
+use Rattle.std.proofs.Common.{◌≡◌, ◌<◌, ◌≤◌, ℕ, false, [], length, get_or, pos, None, sym, ap, subst, ◌∙◌}
 use Rattle.std.specs.List.{All}
 use Rattle.std.proofs.lemmas.List.Elements.{All-weaker}
 use Rattle.pl_term.specs.Variables.{has}
 use Rattle.term_store.specs.declared.words.Word.TheVariants.{Var, Int, Comp}
 use Rattle.term_store.specs.Cells.{heap_of}
-use Rattle.term_store.specs.Entering.{Joined, entered}
+use Rattle.term_store.specs.Entering.{Extends, Joined, entered}
 use Rattle.term_store.specs.Fit.{IsIn}
-use Rattle.term_store.specs.Heap.{meaning, numbered, pushed}
+use Rattle.term_store.specs.Heap.{Heap, find, meaning, numbered, pushed}
 use Rattle.term_store.specs.Making.{Longer}
 use Rattle.term_store.specs.Nodes.{StandsFor}
 use Rattle.term_store.proofs.Copying.{range_fits}
@@ -30,7 +30,7 @@ returns-in_err-is_held-clause-extends c =
     let d = heap_of c.make_known.new.cells in
     let e = heap_of c.copy_compounds.new.cells in
     let longer : Longer h e = longer_twice h d e c.make_known.ensures.longer c.copy_compounds.ensures.gains.longer in
-    extends_longer h e longer
+    subst (Extends h) (sym c.is_held.ensures.kept) (extends_longer h e longer)
 
 pub returns-then-branch-clause-extends : goal.returns-then-branch-clause-extends
 returns-then-branch-clause-extends c =
@@ -38,7 +38,7 @@ returns-then-branch-clause-extends c =
     let d = heap_of c.make_known.new.cells in
     let e = heap_of c.copy_compounds.new.cells in
     let longer : Longer h e = longer_twice h d e c.make_known.ensures.longer c.copy_compounds.ensures.gains.longer in
-    extends_longer h e longer
+    subst (Extends h) (sym c.is_held.ensures.kept) (extends_longer h e longer)
 
 pub is_held-requires-clause-inside : goal.is_held-requires-clause-inside
 is_held-requires-clause-inside c = (c.in_ok-word.ensures.copied 0).inside
@@ -79,7 +79,28 @@ is_held-requires-clause-means c =
     )
 
 pub bind-requires-clause-inside : goal.bind-requires-clause-inside
-bind-requires-clause-inside c = (c.in_ok-word.ensures.copied 0).inside
+bind-requires-clause-inside c = subst (λ (g : Heap). IsIn g c.in_ok-word.word) (sym c.is_held.ensures.kept) (c.in_ok-word.ensures.copied 0).inside
+
+pub bind-requires-clause-slot : goal.bind-requires-clause-slot
+bind-requires-clause-slot c =
+    let h = heap_of c.args.cells.now in
+    let d = heap_of c.make_known.new.cells in
+    let e = heap_of c.copy_compounds.new.cells in
+    let longer : Longer h e = longer_twice h d e c.make_known.ensures.longer c.copy_compounds.ensures.gains.longer in
+    subst (λ (g : Heap). c.args.slot < length g.numbers) (sym c.is_held.ensures.kept) (longer_slot h e c.args.slot longer c.requires.slot)
+
+pub bind-requires-clause-free : goal.bind-requires-clause-free
+bind-requires-clause-free c =
+    let h = heap_of c.args.cells.now in
+    let d = heap_of c.make_known.new.cells in
+    let e = heap_of c.copy_compounds.new.cells in
+    let longer : Longer h e = longer_twice h d e c.make_known.ensures.longer c.copy_compounds.ensures.gains.longer in
+    subst (λ (g : Heap). find c.args.slot g.trail ≡ None) (sym c.is_held.ensures.kept) (longer_free h e c.args.slot longer c.requires.free)
+
+pub bind-requires-clause-absent : goal.bind-requires-clause-absent
+bind-requires-clause-absent c =
+    subst (λ (g : Heap). has (numbered g c.args.slot) (meaning g c.in_ok-word.word) ≡ false) (sym c.is_held.ensures.kept)
+    (sym c.in_ok-is_held.ensures.held ∙ c.if-branch.false)
 
 pub returns-in_err-bind-clause-extends : goal.returns-in_err-bind-clause-extends
 returns-in_err-bind-clause-extends c =
@@ -88,7 +109,7 @@ returns-in_err-bind-clause-extends c =
     let e = heap_of c.copy_compounds.new.cells in
     let longer : Longer h e = longer_twice h d e c.make_known.ensures.longer c.copy_compounds.ensures.gains.longer in
     extends_then h e (heap_of c.bind.new.cells) (extends_longer h e longer)
-    (extends_longer e (heap_of c.bind.new.cells) (longer_same e (heap_of c.bind.new.cells) c.in_err-bind.ensures.kept))
+    (extends_longer e (heap_of c.bind.new.cells) (longer_same e (heap_of c.bind.new.cells) (c.in_err-bind.ensures.kept ∙ c.is_held.ensures.kept)))
 
 pub returns-clause-extends : goal.returns-clause-extends
 returns-clause-extends c =
@@ -97,7 +118,7 @@ returns-clause-extends c =
     let e = heap_of c.copy_compounds.new.cells in
     let longer : Longer h e = longer_twice h d e c.make_known.ensures.longer c.copy_compounds.ensures.gains.longer in
     extends_then h e (heap_of c.bind.new.cells) (extends_longer h e longer)
-    (extends_grown e (heap_of c.bind.new.cells) (record { bonds = _; grown = c.in_ok-bind.ensures.bound }))
+    (extends_grown e (heap_of c.bind.new.cells) (record { bonds = _; grown = c.in_ok-bind.ensures.bound ∙ ap (λ (g : Heap). pushed g c.args.slot c.in_ok-word.word) c.is_held.ensures.kept }))
 
 pub returns-then-branch-clause-joins : goal.returns-then-branch-clause-joins
 returns-then-branch-clause-joins c =
@@ -118,7 +139,7 @@ returns-then-branch-clause-joins c =
     not_written h from c.args.known.now.items b d more e slot k i c.in_ok-make_known.ensures.meets c.make_known.ensures.fit.fit c.in_ok-make_known.ensures.known
     c.copy_compounds.ensures.gains c.copy_compounds.ensures.fit.fit (longer_slot h e slot longer c.requires.slot) (longer_free h e slot longer c.requires.free)
     ((keeps_of h e c.requires.fit.fit longer).means (Var slot) c.requires.slot) made
-    (ap (λ w. has (numbered e slot) (meaning e w)) (sym compound.1) ∙ sym c.in_ok-is_held.ensures ∙ c.if-branch.true)
+    (ap (λ w. has (numbered e slot) (meaning e w)) (sym compound.1) ∙ sym c.in_ok-is_held.ensures.held ∙ c.if-branch.true)
 
 pub returns-clause-joins : goal.returns-clause-joins
 returns-clause-joins c =
@@ -137,11 +158,11 @@ returns-clause-joins c =
     subst (StandsFor e (entered b d from more (Comp k))) compound.1
     (subst (λ ws. StandsFor e (entered b d from ws (Comp k)) c.in_ok-word.word) c.deref.ensures.value (c.in_ok-word.ensures.copied from)) in
     subst (λ x. Joined h from c.args.known.now.items (Var slot) (entered b h from c.args.known.now.items (Comp k)) x more)
-    (sym (c.in_ok-bind.ensures.bound ∙ ap (pushed e slot) compound.1))
+    (sym (c.in_ok-bind.ensures.bound ∙ ap (λ (g : Heap). pushed g slot c.in_ok-word.word) c.is_held.ensures.kept ∙ ap (pushed e slot) compound.1))
     (written h from c.args.known.now.items b d more e slot k i c.in_ok-make_known.ensures.meets c.make_known.ensures.fit.fit c.in_ok-make_known.ensures.known
     c.copy_compounds.ensures.gains c.copy_compounds.ensures.fit.fit (longer_slot h e slot longer c.requires.slot) (longer_free h e slot longer c.requires.free)
     ((keeps_of h e c.requires.fit.fit longer).means (Var slot) c.requires.slot) made
-    (ap (λ w. has (numbered e slot) (meaning e w)) (sym compound.1) ∙ sym c.in_ok-is_held.ensures ∙ c.if-branch.false))
+    (ap (λ w. has (numbered e slot) (meaning e w)) (sym compound.1) ∙ sym c.in_ok-is_held.ensures.held ∙ c.if-branch.false))
 
 pub returns-then-branch-clause-few : goal.returns-then-branch-clause-few
 returns-then-branch-clause-few c less =

@@ -1,9 +1,11 @@
-use Rattle.std.proofs.Common.{◌≡◌, true, length, drop, refl, sym, subst, ◌∙◌}
+use Rattle.std.proofs.Common.{◌≡◌, true, length, drop, take, refl, sym, subst, ◌∙◌}
 use Rattle.std.specs.List.{All}
 use Rattle.term_store.specs.Cells.{heap_of}
 use Rattle.term_store.specs.GroundMarks.{AreMarks, IsMarked}
+use Rattle.term_store.specs.Making.{with_args}
 use Rattle.term_store.proofs.Growing.{finished}
 use Rattle.term_store.proofs.Marked.{marks_made}
+use Rattle.term_store.proofs.Settling.{settled_longer}
 use Rattle.term_store.proofs.make.finish_compound.Goals as goal
 
 pub returns-in-Ok-clause-fit : goal.returns-in-Ok-clause-fit
@@ -19,6 +21,10 @@ returns-in-Ok-clause-fit c =
       marks =
           marks_made c.args.cells.now.grounds.items c.push_head.new.grounds.items h c.args.name c.args.start c.args.count c.are_ground-marked.result
           c.push_head.new.heads.items r.unused r.within r.marks marked c.in-Ok.ensures.marks c.in-Ok.ensures.heads;
+      settled =
+          settled_longer c.args.cells.now.settled.list.items (with_args h (take c.args.start h.args)) (record h { heads = c.push_head.new.heads.items }) r.unused
+          (finished h c.args.name c.args.start c.args.count (length h.heads) c.push_head.new.heads.items r.unused r.full r.within r.inside c.in-Ok.ensures.heads refl).1.longer
+          r.settled;
     }
 
 pub returns-in-Ok-clause-made : goal.returns-in-Ok-clause-made

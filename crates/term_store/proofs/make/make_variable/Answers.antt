@@ -1,10 +1,14 @@
-use Rattle.std.proofs.Common.{◌≡◌, ◌<◌, ◌++◌, ◌∷◌, [], length, take, None, sym, ap, subst, ◌∙◌}
+use Rattle.std.proofs.Common.{◌≡◌, ◌<◌, ◌++◌, ◌∷◌, [], length, take, None, refl, sym, ap, subst, ◌∙◌}
 use Rattle.std.specs.List.{All}
 use Rattle.std.proofs.Math.Seq.{take-append_seam}
 use Rattle.std.proofs.lemmas.List.Elements.{All-weaker}
 use Rattle.term_store.specs.Cells.{heap_of}
 use Rattle.term_store.specs.Fit.{Fit, IsBond, IsCache}
+use Rattle.term_store.specs.GroundTerms.{AreGroundTerms}
+use Rattle.term_store.specs.Making.{with_number}
 use Rattle.term_store.proofs.Growing.{fit_number, cache_number}
+use Rattle.term_store.proofs.Loading.{longer_numbers}
+use Rattle.term_store.proofs.Settling.{settled_longer}
 use Rattle.term_store.proofs.make.make_variable.Goals as goal
 
 pub returns-in_err-add-clause-fit : goal.returns-in_err-add-clause-fit
@@ -17,6 +21,7 @@ returns-in_err-add-clause-fit c =
           subst (λ bs. IsCache c.add.new.self.values (record h { trail = bs })) (sym c.add.ensures.items)
           (subst (λ vs. IsCache vs h) (sym c.in_err-add.ensures.kept) r.fit.cache);
       marks = record { long = r.fit.marks.long; parts = r.fit.marks.parts };
+      settled = subst (λ bs. AreGroundTerms c.args.cells.now.settled.list.items (record h { trail = bs })) (sym c.add.ensures.items) r.fit.settled;
     }
 
 pub keep_first-requires : goal.keep_first-requires
@@ -40,4 +45,9 @@ returns-in-Ok-clause-fit c =
           (subst (λ vs. IsCache vs (record h { numbers = h.numbers ++ c.args.number ∷ [] })) (sym c.in_ok-add.ensures.values)
           (cache_number c.args.cells.now.bonds.values h c.args.number r.fit.cache r.fit.fit)));
       marks = record { long = r.fit.marks.long; parts = r.fit.marks.parts };
+      settled =
+          subst (λ bs. AreGroundTerms c.args.cells.now.settled.list.items (record h { numbers = c.push.new.self.items; trail = bs })) (sym c.add.ensures.items)
+          (subst (λ ns. AreGroundTerms c.args.cells.now.settled.list.items (record h { numbers = ns })) (sym c.in-Ok.ensures.items)
+          (settled_longer c.args.cells.now.settled.list.items h (with_number h c.args.number) r.fit.fit
+          (longer_numbers h (with_number h c.args.number) (c.args.number ∷ []) refl) r.fit.settled));
     }

@@ -8,6 +8,7 @@ use Rattle.term_store.specs.Visits.{IsClear}
 use Rattle.term_store.proofs.Occurring.{comp_inside, comp_found}
 use Rattle.term_store.proofs.Visiting.{again_found, again_clear, opened_clear, added_clear}
 use Rattle.term_store.proofs.Marked.{marked_clear, marked_found}
+use Rattle.term_store.proofs.Settling.{absent_clear, absent_found, settled_absent}
 use Rattle.term_store.proofs.occurs.come_by.Goals as goal
 
 pub returns-then-holds-clause-found : goal.returns-then-holds-clause-found
@@ -68,4 +69,18 @@ pub returns-then-marked_at-clause-seen : goal.returns-then-marked_at-clause-seen
 returns-then-marked_at-clause-seen c x all =
     let fit = c.requires.fit in
     marked_clear c.args.cells.now.grounds.items (heap_of c.args.cells.now) fit.fit fit.marks c.args.k (is_marked c.args.cells.now.grounds.items c.deref.result.now c.args.k c.deref.ensures.value (sym c.marked_at.ensures ∙ c.if-marked_at.true)) x
+    c.args.walk.now.words.items c.args.walk.now.seen.list.items all
+
+pub returns-then-is_known_ground-clause-found : goal.returns-then-is_known_ground-clause-found
+returns-then-is_known_ground-clause-found c x _ =
+    let fit = c.requires.fit in
+    let h = heap_of c.args.cells.now in
+    absent_found h c.args.k (settled_absent c.args.cells.now.settled.list.items h c.args.k fit.settled (c.is_known_ground.ensures c.if-is_known_ground.true)) x
+    c.args.walk.now.words.items
+
+pub returns-then-is_known_ground-clause-seen : goal.returns-then-is_known_ground-clause-seen
+returns-then-is_known_ground-clause-seen c x all =
+    let fit = c.requires.fit in
+    let h = heap_of c.args.cells.now in
+    absent_clear h c.args.k (settled_absent c.args.cells.now.settled.list.items h c.args.k fit.settled (c.is_known_ground.ensures c.if-is_known_ground.true)) x
     c.args.walk.now.words.items c.args.walk.now.seen.list.items all

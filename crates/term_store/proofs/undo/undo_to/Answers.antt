@@ -7,9 +7,11 @@ use Rattle.term_store.specs.declared.words.Bond.{Bond}
 use Rattle.term_store.specs.Cells.{heap_of}
 use Rattle.term_store.specs.Fit.{IsBond}
 use Rattle.term_store.specs.GroundMarks.{AreMarks}
+use Rattle.term_store.specs.GroundTerms.{AreGroundTerms}
 use Rattle.term_store.specs.Heap.{Heap}
 use Rattle.term_store.specs.Marks.{cut}
 use Rattle.term_store.proofs.Marked.{marks_cut}
+use Rattle.term_store.proofs.Settling.{settled_cut, settled_taken}
 use Rattle.term_store.proofs.undo.undo_to.Goals as goal
 
 abbrev heap : List Head → List Word → List ℕ → List Bond → Heap
@@ -22,6 +24,23 @@ keep_first-requires c =
     subst (All (λ b. b.slot < m.numbers)) (sym c.unbind.ensures.trail)
     (All-weaker (IsBond (length (take m.numbers h.numbers)) (length (take m.heads h.heads))) (λ b. b.slot < m.numbers)
     (λ b fits. omega (arith, fits.slot, length-take m.numbers h.numbers)) (take m.trail h.trail) c.requires.before.bonds)
+
+pub forget_later-requires : goal.forget_later-requires
+forget_later-requires c = c.requires.fit.settled.rise
+
+pub returns-clause-settled : goal.returns-clause-settled
+returns-clause-settled c =
+    let h = heap_of c.args.cells.now in
+    let m = c.args.mark in
+    let ns = c.truncate-3.new.self.items in
+    let bs = c.keep_first.new.self.items in
+    let gs = c.forget_later.new.list.items in
+    let same : heap c.truncate.new.self.items c.truncate-2.new.self.items ns bs ≡ cut m h =
+    ap₂ (λ hs ws. heap hs ws ns bs) c.truncate.ensures.items c.truncate-2.ensures.items
+    ∙ ap₂ (heap (take m.heads h.heads) (take m.args h.args)) c.truncate-3.ensures.items (c.keep_first.ensures.items ∙ c.unbind.ensures.trail) in
+    subst (AreGroundTerms gs) (sym same)
+    (settled_cut m gs h c.requires.before (settled_taken c.args.cells.now.settled.list.items gs h c.forget_later.ensures.taken c.requires.fit.settled)
+    c.forget_later.ensures.early)
 
 pub returns-clause-marks : goal.returns-clause-marks
 returns-clause-marks c =
