@@ -70,6 +70,7 @@ impl Bonds {
     }
 
     /// Adds an unbound variable. The only error is out of memory.
+    #[inline(always)]
     pub fn add(&mut self) -> Result<(), Memory>
         ensures values { OnOk result (self.new.values ≡ self.old.values ++ None ∷ []) }
         ensures kept { OnErr result (self.new.values ≡ self.old.values) }

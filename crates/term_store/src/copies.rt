@@ -68,6 +68,7 @@ pub fn copy_compounds(
 
 /// Makes a compound term of a block once more, where the words stand for the block's variables, and its earlier compound
 /// terms from `low` on are those from `above` on. The only error is out of memory.
+#[inline(always)]
 fn copy_compound(
     cells: &mut Cells,
     block: &Block,
@@ -104,6 +105,7 @@ fn copy_compound(
 
 /// Puts the words of a block, as they stand in a store with so many slots and compound terms, after the others. After running
 /// out of memory some of the words are there.
+#[inline(always)]
 fn push_copies(
     args: &mut Words,
     words: &[Word],

@@ -45,6 +45,7 @@ impl Store {
     /// the number of the clause's variables below 2^64. The answer is the place of its body, or none where they do not unify.
     /// Only those variables are made that something is made of. No cells are counted. After none and after running out of
     /// memory, which is the only error, nothing has changed.
+    #[inline(always)]
     pub fn enter(
         &mut self,
         goal: Place,
@@ -63,11 +64,30 @@ impl Store {
     {
         match clause.block() {
             Some(block) => self.enter_kept(goal, block, from),
-            None => {
-                let block = block_of(self.alloc, clause.nodes(), clause.variables())?;
-                self.enter_kept(goal, &block, from)
-            }
+            None => self.enter_anew(goal, clause, from),
         }
+    }
+
+    /// Does what `enter` does, of a term that is not kept as a block.
+    #[inline(never)]
+    fn enter_anew(
+        &mut self,
+        goal: Place,
+        clause: &Stored,
+        from: u64,
+    ) -> Result<Option<Place>, Memory>
+        requires goal { Holds self.old goal }
+        requires above { IsAbove from self.old }
+        requires room { from + length (variables clause.now) < 2 ^ 64 }
+        ensures entered { IfOk result (λ r. ClauseEntered self.old goal from clause.now r self.new) }
+        ensures adds { Adds self.old self.new }
+        ensures used { self.new.used ≡ self.old.used }
+        ensures budget { self.new.budget ≡ self.old.budget }
+        ensures above { OnOk result (IsAbove (from + length (variables clause.now)) self.new) }
+        ensures kept { OnErr result (self.new ≡ self.old) }
+    {
+        let block = block_of(self.alloc, clause.nodes(), clause.variables())?;
+        self.enter_kept(goal, &block, from)
     }
 
     /// Does what `enter` does, of the block of a clause.

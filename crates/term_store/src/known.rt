@@ -62,6 +62,7 @@ fn make_rest(
 
 /// Makes a new variable for the first one of the clause that was not met. The only error is out of memory, after which it may
 /// be made.
+#[inline(always)]
 fn make_next(cells: &mut Cells, known: &mut Vec<Word>, from: u64) -> Result<(), Memory>
     requires fit { IsFit cells.old }
     requires known { IsKnown (heap_of cells.old) from known.old.items }

@@ -14,6 +14,7 @@ use crate::words::{Head, Place, Word};
 use pl_term::Memory;
 
 /// A new variable with this number, which is above the numbers of all variables. The only error is out of memory.
+#[inline(always)]
 pub fn make_variable(cells: &mut Cells, number: u64) -> Result<Word, Memory>
     requires fit { IsFit cells.old }
     requires above { All (λ n. n < number) cells.old.numbers.items }
@@ -65,6 +66,7 @@ fn push_places(args: &mut Words, places: &[Place]) -> Result<(), Memory>
 }
 
 /// The compound term whose arguments are the words from a place on. After running out of memory these are taken off.
+#[inline(always)]
 pub fn finish_compound(
     cells: &mut Cells,
     name: u32,
@@ -105,6 +107,7 @@ pub fn finish_compound(
 
 /// Puts a head after the others, and marks it where it is to be marked. After running out of memory, which is the only error,
 /// the heads and the marks are what they were.
+#[inline(always)]
 fn push_head(
     heads: &mut Vec<Head>,
     grounds: &mut Vec<bool>,
