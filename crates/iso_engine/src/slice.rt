@@ -115,9 +115,9 @@ fn counted(moves: &mut u64, step: Result<Option<Slice>, Unserved>) -> Result<Opt
         return Ok(None);
     }
     let stopped = stop_of(step)?;
-    let Some(count) = moves.checked_add(steps_made(&stopped)) else {
+    let Some(sum) = moves.checked_add(steps_made(&stopped)) else {
         return Err(Memory);
     };
-    *moves = count;
+    *moves = sum;
     Ok(stopped)
 }
