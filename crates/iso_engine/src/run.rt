@@ -87,8 +87,8 @@ impl Engine {
             × IsStepped (W.A.held atoms.old) (W.told world.old) self.old o (W.A.held atoms.new) (W.told world.new) self.new more
             × (out.new.items ≡ out.old.items ++ encode_utf8_all (written_text more))) }
     {
-        if let Some(procedure) = direct_call(&self.search.store, goal) {
-            return self.call(goal, procedure, rest, world, atoms);
+        if let Some(request) = direct_call(&self.search.store, goal) {
+            return self.call(goal, request.procedure, request, rest, world, atoms);
         }
         self.run_own(goal, cut, rest, list, world, atoms, out)
     }
@@ -167,7 +167,7 @@ impl Engine {
                 Ok(None)
             }
             Did::Call(goal, procedure) => {
-                self.call(goal, procedure, frame.continuation, world, atoms)
+                self.call_apart(goal, procedure, frame.continuation, world, atoms)
             }
             Did::Row(goal) => self.row(&goal, frame.continuation, atoms),
             Did::Ask(goal) => self.ask(&goal, frame.continuation, world, atoms),
