@@ -36,12 +36,12 @@ pub fn call_clauses<W: World<Term = Stored>>(
     world: &mut W,
     atoms: &mut W::A,
     goal: Place,
-    asked: Request,
+    request: Request,
     rest: usize,
 ) -> Result<Called, Unserved>
     requires whole { IsWhole search.old }
     requires goal { Holds search.old.store goal }
-    requires asked { IsRequest (term_at search.old.store goal) asked }
+    requires request { IsRequest (term_at search.old.store goal) request }
     requires rest { rest ≤ length search.old.frames.items }
     requires held { All (λ a. IsSome (W.A.held atoms.old a)) (atoms_in (term_at search.old.store goal)) }
     requires runs { has_ended (W.told world.old).engine (W.told world.old).history ≡ false }
@@ -59,18 +59,18 @@ pub fn call_clauses<W: World<Term = Stored>>(
     if search.inferences >= most {
         return Ok(Called::Spent);
     }
-    let known = call_known(search, world, atoms, goal, asked, rest)?;
+    let known = call_known(search, world, atoms, goal, request, rest)?;
     match known {
         Some(called) => Ok(called),
-        None => visit_anew(
+        None => visit_first(
             search,
             Purpose::Resolving,
             world,
             atoms,
             goal,
-            goal,
-            asked,
             rest,
+            goal,
+            request,
         ),
     }
 }
@@ -83,12 +83,12 @@ fn call_known<W: World<Term = Stored>>(
     world: &mut W,
     atoms: &mut W::A,
     goal: Place,
-    asked: Request,
+    request: Request,
     rest: usize,
 ) -> Result<Option<Called>, Memory>
     requires whole { IsWhole search.old }
     requires goal { Holds search.old.store goal }
-    requires asked { IsRequest (term_at search.old.store goal) asked }
+    requires request { IsRequest (term_at search.old.store goal) request }
     requires rest { rest ≤ length search.old.frames.items }
     requires held { All (λ a. IsSome (W.A.held atoms.old a)) (atoms_in (term_at search.old.store goal)) }
     requires runs { has_ended (W.told world.old).engine (W.told world.old).history ≡ false }
@@ -105,12 +105,12 @@ fn call_known<W: World<Term = Stored>>(
 {
     let _most = search.budgets.inferences;
     let _mark = search.store.mark();
-    let first_asked = Asked {
-        procedure: asked.procedure,
-        first: asked.first,
+    let asked = Asked {
+        procedure: request.procedure,
+        first: request.first,
         after: None,
     };
-    match world.again(&first_asked, atoms) {
+    match world.again(&asked, atoms) {
         None => Ok(None),
         Some(generation) => {
             search.inferences += 1;
