@@ -16,6 +16,7 @@ use Rattle.iso_search.specs.Reading.{IsView, View, reads}
 use Rattle.iso_search.specs.Spelling.{spelled, spelled_all, text_of}
 use Rattle.iso_search.proofs.Constructing.{how_many}
 use Rattle.iso_search.proofs.Naming.{call_is, catch_is, clause_is, comma_is, cut_is, fail_is, false_is, findall_is, halt_is, is_named, nl_is, not_provable_is, once_is, print_is, put_char_is, repeat_is, retract_is, retractall_is, semicolon_is, then_is, thread_exit_is, throw_is, true_is, write_canonical_is, write_is, writeq_is}
+use Rattle.iso_engine.specs.declared.call.goals.Request.{Request}
 use Rattle.iso_engine.specs.Builtins.{IsNoBuiltin}
 use Rattle.iso_engine.specs.Calling.{IsCallAt}
 use Rattle.iso_engine.specs.Following.{HasProcedure, IsInteger}
@@ -25,7 +26,7 @@ not_true : (b : Bool) → (b ≡ true → ⊥) → b ≡ false
 not_true true never = absurd (never refl)
 not_true false never = refl
 
-apart : (a k : ℕ) → k < a → (a == k) ≡ false
+pub apart : (a k : ℕ) → k < a → (a == k) ≡ false
 apart a k lt = not_true (a == k) (λ e. let same : a ≡ k = (Decides-eqb a k).0 e in absurd (omega (arith, lt, same)))
 
 -- The name is the text of no fixed atom that names a control construct.
@@ -115,13 +116,13 @@ abbrev pub named_as : ℕ → ℕ → Procedure
 named_as a arity = record { name = a; arity = arity }
 
 -- Such a goal calls the program's clauses.
-pub direct : (s : Contents) (goal : Place) (a arity : ℕ) (o : Option Procedure) → Holds s goal → (IsInteger s goal → ⊥) → HasProcedure s goal (named_as a arity)
+pub direct : (s : Contents) (goal : Place) (a arity : ℕ) (o : Option Request) → Holds s goal → (IsInteger s goal → ⊥) → HasProcedure s goal (named_as a arity)
     → (203 ≤ a → (v : View) → IsView v → construct (reads v s goal) ≡ other)
     → (TellsRows a arity None → TellsShared a arity None → (v : View) → IsView v → IsNoBuiltin (reads v s goal))
-    → IfSome o (λ p. p ≡ named_as a arity) → IfSome o (λ p. 203 ≤ a) → IfSome o (λ p. TellsRows a arity None) → IfSome o (λ p. TellsShared a arity None)
-    → IfSome o (IsCallAt s goal)
+    → IfSome o (λ r. r.procedure ≡ named_as a arity) → IfSome o (λ r. 203 ≤ a) → IfSome o (λ r. TellsRows a arity None) → IfSome o (λ r. TellsShared a arity None)
+    → IfSome o (λ r. IsCallAt s goal r.procedure)
 direct s goal a arity None holds callable is other_is none_is named own rows shares = tt
-direct s goal a arity (Some p) holds callable is other_is none_is named own rows shares =
+direct s goal a arity (Some r) holds callable is other_is none_is named own rows shares =
     subst (IsCallAt s goal) (sym named)
     (record {
       holds = holds;

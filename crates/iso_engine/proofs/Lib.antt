@@ -74,6 +74,7 @@ pub mod RaisedRows
 pub mod Reading
 pub mod Readings
 pub mod Refusals
+pub mod Requests
 pub mod Resolving
 pub mod Retries
 pub mod RowSteps

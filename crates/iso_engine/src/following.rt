@@ -68,6 +68,10 @@ impl Engine {
     {
         match outcome {
             Outcome::Run(list) => {
+                if let Doing::Running(at) = &mut self.doing {
+                    *at = list;
+                    return Ok(());
+                }
                 self.doing = Doing::Running(list);
                 Ok(())
             }

@@ -7,6 +7,7 @@ ghost use Rattle.iso_engine.specs.Live.{doing_atoms, doing_generations, end_atom
 
 use crate::doing::{Doing, End, Left};
 use crate::engine::Engine;
+use iso_search::live::older;
 use pl_term::Memory;
 use term_store::AtomSet;
 
@@ -27,15 +28,7 @@ impl Engine {
     pub fn oldest_open(&self) -> Option<u64>
         ensures { IsLeast result (engine_generations self.now) }
     {
-        let open = self.search.oldest_open();
-        let left = generation_of(&self.doing);
-        let Some(g) = open else {
-            return left;
-        };
-        let Some(h) = left else {
-            return open;
-        };
-        Some(g.min(h))
+        older(self.search.oldest_open(), generation_of(&self.doing))
     }
 }
 

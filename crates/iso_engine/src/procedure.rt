@@ -1,12 +1,13 @@
 //! Predicates of goals.
 ghost use Rattle.std.specs.Prelude.{◌≡◌, MatchOption};
-ghost use Rattle.pl_term.specs.Tree.{int};
 ghost use Rattle.pl_model.specs.Control.{tried_by};
-ghost use Rattle.term_store.specs.Contents.{Holds, term_at};
+ghost use Rattle.term_store.specs.declared.words.Place.{Place};
+ghost use Rattle.term_store.specs.Contents.{Contents, Holds, term_at};
 ghost use Rattle.iso_search.specs.declared.choices.Purpose.TheVariants.{Resolving};
 ghost use Rattle.iso_search.specs.Choices.{purpose_of};
 ghost use Rattle.iso_search.specs.Outcomes.{Setting};
 ghost use Rattle.iso_search.specs.Reading.{IsView, reads};
+ghost use Rattle.iso_engine.specs.CalledGoals.{HasPredicate};
 ghost use Rattle.iso_engine.specs.Following.{HasProcedure, IsInteger, proc_in};
 
 use atom_api::fixed;
@@ -34,20 +35,14 @@ pub fn procedure_at(store: &Store, goal: Place) -> Option<Procedure>
     }
 }
 
-/// The predicate for which clauses are tried: that of the goal at a place, or clause/2 or retract/1.
+/// The predicate for which clauses are tried: that of the goal, or clause/2 or retract/1.
 #[inline(always)]
-pub fn trying_procedure(store: &Store, purpose: Purpose, goal: Place) -> Procedure
-    requires holds { Holds store.now goal }
-    requires callable { purpose ≡ Resolving → IsInteger store.now goal → ⊥ }
-    ensures { (t : Setting) → IsView t.view → tried_by (purpose_of purpose) (reads t.view store.now goal) ≡ proc_in t.view result }
+pub fn trying_procedure(purpose: Purpose, procedure: Procedure) -> Procedure
+    ensures { (s : Contents) (goal : Place) → (purpose ≡ Resolving → HasPredicate (term_at s goal) procedure)
+        → (t : Setting) → IsView t.view → tried_by (purpose_of purpose) (reads t.view s goal) ≡ proc_in t.view result }
 {
     match purpose {
-        Purpose::Resolving => {
-            let Some(procedure) = procedure_at(store, goal) else {
-                unreachable!();
-            };
-            procedure
-        }
+        Purpose::Resolving => procedure,
         Purpose::Inspecting => Procedure {
             name: fixed::CLAUSE,
             arity: 2,

@@ -16,7 +16,8 @@ ghost use Rattle.iso_engine.specs.Views.{view_of};
 ghost use Rattle.iso_engine.specs.Retrying.{IsGoneOn};
 ghost use Rattle.iso_engine.specs.Unserved.{as_stopped, stopped_refusals};
 
-use crate::call::retries::retry_clauses;
+use crate::call::goals::request_at;
+use crate::call::retries::{listed_at, retry_clauses};
 use crate::engine::Engine;
 use crate::procedure::trying_procedure;
 use crate::slices::Slice;
@@ -52,7 +53,10 @@ impl Engine {
         ensures asked { Gains (IsRetryAsked (W.A.held atoms.old) (W.told world.old) self.old.search purpose goal generation place) (W.A.asked atoms.old) (W.A.asked atoms.new) }
         ensures gone { IfOk (as_stopped result) (IsGoneOn (W.told world.old) self.old (Retry purpose goal generation place next) (W.A.held atoms.new) (W.told world.new) self.new) }
     {
-        let procedure = trying_procedure(&self.search.store, purpose, goal);
+        let _mark = self.search.store.mark();
+        let listed = listed_at(&self.search.store, purpose, goal);
+        let request = request_at(&self.search.store, listed);
+        let procedure = trying_procedure(purpose, request.procedure);
         let outcome = retry_clauses(
             &mut self.search,
             world,
@@ -62,6 +66,8 @@ impl Engine {
             generation,
             place,
             next,
+            listed,
+            request,
         )?;
         self.go_on(outcome, procedure, next)?;
         Ok(None)

@@ -87,9 +87,40 @@ impl Engine {
             × IsStepped (W.A.held atoms.old) (W.told world.old) self.old o (W.A.held atoms.new) (W.told world.new) self.new more
             × (out.new.items ≡ out.old.items ++ encode_utf8_all (written_text more))) }
     {
-        if let Some(procedure) = direct_call(&self.search.store, goal) {
-            return self.call(goal, procedure, rest, world, atoms);
+        if let Some(request) = direct_call(&self.search.store, goal) {
+            return self.call(goal, request.procedure, request, rest, world, atoms);
         }
+        self.run_own(goal, cut, rest, list, world, atoms, out)
+    }
+
+    /// Does the same. It is for the goals that are no calls by their names alone.
+    #[inline(never)]
+    fn run_own<W: World<Term = Stored>>(
+        &mut self,
+        goal: Place,
+        cut: usize,
+        rest: usize,
+        list: usize,
+        world: &mut W,
+        atoms: &mut W::A,
+        out: &mut Vec<u8>,
+    ) -> Result<Option<Slice>, Unserved>
+        requires runs { has_ended (W.told world.old).engine (W.told world.old).history ≡ false }
+        requires ready { IsReady (W.A.held atoms.old) (W.told world.old) self.old }
+        requires list { self.old.doing ≡ Running list }
+        requires first { tasks self.old.search.frames.items list ≡ Goal goal cut ∷ tasks self.old.search.frames.items rest }
+        requires rest { rest ≤ length self.old.search.frames.items }
+        ensures runs { has_ended (W.told world.new).engine (W.told world.new).history ≡ false }
+        ensures holds { Holds (W.A.held atoms.old) (W.A.held atoms.new) }
+        ensures refusals { IfOk (as_stopped result) (λ o. W.A.refusals atoms.new ≡ W.A.refusals atoms.old ++ stopped_refusals o) }
+        ensures asked { Gains (AsksFor (W.A.held atoms.old) (W.told world.old) self.old) (W.A.asked atoms.old) (W.A.asked atoms.new) }
+        ensures given { IfOk (as_stopped result) (λ o. IfNone o (self.new.solutions_found ≡ self.old.solutions_found)) }
+        ensures spent { OnOk (as_stopped result) (IsSpent self.old.search.inferences self.new.search.inferences) }
+        ensures ready { OnOk (as_stopped result) (IsReady (W.A.held atoms.new) (W.told world.new) self.new) }
+        ensures stepped { IfOk (as_stopped result) (λ o. (more : List Output)
+            × IsStepped (W.A.held atoms.old) (W.told world.old) self.old o (W.A.held atoms.new) (W.told world.new) self.new more
+            × (out.new.items ≡ out.old.items ++ encode_utf8_all (written_text more))) }
+    {
         let kind = construct_at(&self.search.store, goal);
         if passes(kind) {
             let next = pass(&mut self.search, goal, kind, cut, rest)?;
@@ -136,7 +167,7 @@ impl Engine {
                 Ok(None)
             }
             Did::Call(goal, procedure) => {
-                self.call(goal, procedure, frame.continuation, world, atoms)
+                self.call_apart(goal, procedure, frame.continuation, world, atoms)
             }
             Did::Row(goal) => self.row(&goal, frame.continuation, atoms),
             Did::Ask(goal) => self.ask(&goal, frame.continuation, world, atoms),

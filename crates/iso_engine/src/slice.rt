@@ -1,19 +1,19 @@
 //! A slice: some steps of resolution, one after the other.
-ghost use Rattle.std.specs.Prelude.{◌≡◌, ℕ, ◌+◌, ◌++◌, false, true, IfOk, OnOk};
+ghost use Rattle.std.specs.Prelude.{◌≡◌, ℕ, ◌+◌, ◌++◌, false, true, IfOk, Ok, OnOk};
 ghost use Rattle.world_api.specs.Gains.{Gains};
 ghost use Rattle.world_api.specs.Texts.{Holds};
 ghost use Rattle.world_api.specs.Told.{has_ended};
 ghost use Rattle.iso_engine.specs.Asked.{AsksInSlice, AsksOnWay, ComesToAsk};
 ghost use Rattle.iso_engine.specs.Ready.{IsReady};
 ghost use Rattle.iso_engine.specs.Slices.{IsSlice, IsSliced, steps_of};
-ghost use Rattle.iso_engine.specs.Unserved.{IsRefusedBy, refusals_of};
+ghost use Rattle.iso_engine.specs.Unserved.{IsRefusedBy, as_stopped, refusals_of};
 
 use crate::engine::Engine;
 use crate::slices::Slice;
 use crate::unserved::stop_of;
 use pl_term::Memory;
 use term_store::Stored;
-use world_api::World;
+use world_api::{Unserved, World};
 
 impl Engine {
     /// Runs the search until so many inferences were made, a solution was found, the search has ended, or a step cannot be
@@ -78,11 +78,8 @@ impl Engine {
             if self.search.inferences - start >= n {
                 return Ok(Slice::Yield);
             }
-            let stopped = stop_of(self.step(world, atoms, out))?;
-            let Some(count) = moves.checked_add(steps_made(&stopped)) else {
-                return Err(Memory);
-            };
-            *moves = count;
+            let stepped = self.step(world, atoms, out);
+            let stopped = counted(moves, stepped)?;
             if let Some(slice) = stopped {
                 return Ok(slice);
             }
@@ -101,4 +98,26 @@ fn steps_made(stopped: &Option<Slice>) -> u64
         Some(Slice::Solution(_)) => 1,
         Some(_) => 0,
     }
+}
+
+/// How a slice ends at a step, if it does (`stop_of`). The step is added to `moves`, if it was made. The only error is out of memory,
+/// also where their number would pass 64 bits. Most steps do not end a slice: nothing of the answer is moved for them.
+#[inline(always)]
+fn counted(moves: &mut u64, step: Result<Option<Slice>, Unserved>) -> Result<Option<Slice>, Memory>
+    ensures stop { IfOk result (λ o. as_stopped step ≡ Ok o) }
+    ensures count { IfOk result (λ o. moves.new ≡ steps_of o + moves.old) }
+{
+    if let Ok(None) = &step {
+        let Some(count) = moves.checked_add(1) else {
+            return Err(Memory);
+        };
+        *moves = count;
+        return Ok(None);
+    }
+    let stopped = stop_of(step)?;
+    let Some(sum) = moves.checked_add(steps_made(&stopped)) else {
+        return Err(Memory);
+    };
+    *moves = sum;
+    Ok(stopped)
 }

@@ -3,17 +3,14 @@ use Rattle.std.proofs.Common.{◌≡◌, ℕ, suc, ◌+◌, ◌<◌, ◌≤◌, 
 use Rattle.std.proofs.Math.Seq.{split_at}
 use Rattle.std.proofs.lemmas.List.{get_or-take, take-append-drop, take-take}
 use Rattle.std.proofs.lemmas.List.Elements.{All-take}
-use Rattle.pl_model.specs.Resolution.{collected_cells}
 use Rattle.term_store.specs.declared.words.Place.{Place}
 use Rattle.term_store.specs.Contents.{Contents, back_to}
 use Rattle.iso_search.specs.declared.choices.ChoicePoint.{ChoicePoint}
 use Rattle.iso_search.specs.declared.frames.Frame.{Frame}
-use Rattle.iso_search.specs.declared.search.Search.{Search}
 use Rattle.iso_search.specs.Choices.{AreRests, IsBase, IsTaskIn, choice_at, choices_at}
 use Rattle.iso_search.specs.Frames.{AreLinked, no_frame, tasks}
 use Rattle.iso_search.specs.Held.{frames_held}
 use Rattle.iso_search.specs.Reading.{View, node_at, reads}
-use Rattle.iso_search.specs.Searching.{IsWhole, choices_of, node_of}
 use Rattle.iso_search.proofs.Heights.{newest_first}
 use Rattle.iso_search.proofs.Stacked.{tasks-append}
 
@@ -37,7 +34,7 @@ none_held ks none = sym (ap (λ l. frames_held (reverse l)) (empty ks none))
 pub tasks_kept : (fs : List Frame) (n list : ℕ) → list ≤ length (take n fs) → tasks (take n fs) list ≡ tasks fs list
 tasks_kept fs n list le = sym (tasks-append (take n fs) (drop n fs) list le) ∙ ap (λ l. tasks l list) (take-append-drop n fs)
 
-base_kept : (ws : List Place) (s : Contents) (fs : List Frame) (n : ℕ) → IsBase ws s fs → IsBase ws s (take n fs)
+pub base_kept : (ws : List Place) (s : Contents) (fs : List Frame) (n : ℕ) → IsBase ws s fs → IsBase ws s (take n fs)
 base_kept ws s fs n base =
     record { answer = base.answer; words = All-take (λ (f : Frame). IsTaskIn s f.task) n fs base.words; linked = linked }
   where
@@ -47,7 +44,7 @@ base_kept ws s fs n base =
         let inside : k < length fs = omega (arith, lt, length-take n fs) in
         subst (λ (f : Frame). f.continuation ≤ k) (sym (get_or-take n fs k no_frame below)) (base.linked k inside)
 
-rests_kept : (ws : List Place) (s : Contents) (fs : List Frame) (n : ℕ) (ks : List ChoicePoint) → frames_held ks ≤ n → AreRests ws s fs ks → AreRests ws s (take n fs) ks
+pub rests_kept : (ws : List Place) (s : Contents) (fs : List Frame) (n : ℕ) (ks : List ChoicePoint) → frames_held ks ≤ n → AreRests ws s fs ks → AreRests ws s (take n fs) ks
 rests_kept ws s fs n [] le r = tt
 rests_kept ws s fs n (k ∷ ks) le r =
     let few : k.frames ≤ n = le in
@@ -62,39 +59,9 @@ rests_kept ws s fs n (k ∷ ks) le r =
       subst (λ l. AreRests ws (back_to k.mark s) l ks) (sym same) r.1,
     )
 
-choices_same : (v : View) (ws : List Place) (s : Contents) (fs : List Frame) (n : ℕ) (ks : List ChoicePoint) → frames_held ks ≤ n
+pub choices_same : (v : View) (ws : List Place) (s : Contents) (fs : List Frame) (n : ℕ) (ks : List ChoicePoint) → frames_held ks ≤ n
     → choices_at v ws s (take n fs) ks ≡ choices_at v ws s fs ks
 choices_same v ws s fs n [] le = refl
 choices_same v ws s fs n (k ∷ ks) le =
     let c = back_to k.mark s in
     ap (λ l. choice_at v (reads v c) (node_at (reads v c) (tasks l k.next) ws k.mark.used) k.alternative ∷ choices_at v ws c l ks) (take-take k.frames n fs le)
-
--- The frames from a number on are taken off, none of which a choice point or the list has.
-module _ (e d : Search) (n list : ℕ) (kept : (let x : Search = record e { frames = d.frames } in d ≡ x)) (left : d.frames.items ≡ take n e.frames.items)
-    (held : frames_held (reverse e.choices.items) ≤ n) where
-  abbrev fs : List Frame
-  fs = e.frames.items
-
-  pub choices_forgot : (v : View) → choices_of v d ≡ choices_of v e
-  choices_forgot v =
-      ap (choices_of v) kept
-      ∙ ap (λ l. choices_at v e.answer.items e.store l (reverse e.choices.items)) left
-      ∙ choices_same v e.answer.items e.store fs n (reverse e.choices.items) held
-
-  pub node_forgot : list ≤ n → list ≤ length fs → (v : View) → node_of v d list ≡ node_of v e list
-  node_forgot few inside v =
-      ap (λ (x : Search). node_of v x list) kept
-      ∙ ap (λ l. node_at (reads v e.store) (tasks l list) e.answer.items e.store.used) left
-      ∙ ap (λ ts. node_at (reads v e.store) ts e.answer.items e.store.used) (tasks_kept fs n list (omega (arith, few, inside, length-take n fs)))
-
-  pub whole_forgot : IsWhole e → IsWhole d
-  whole_forgot w =
-      let x : Search = record e { frames = d.frames } in
-      subst IsWhole (sym kept)
-      (record {
-        base = subst (IsBase e.answer.items e.store) (sym left) (base_kept e.answer.items e.store fs n w.base);
-        rests = subst (λ l. AreRests e.answer.items e.store l (reverse e.choices.items)) (sym left) (rests_kept e.answer.items e.store fs n (reverse e.choices.items) held w.rests);
-        budget = λ v. ap (λ cs. e.store.budget + collected_cells cs) (sym (ap (choices_of v) kept) ∙ choices_forgot v) ∙ w.budget v;
-        above = w.above;
-        older = w.older;
-      })

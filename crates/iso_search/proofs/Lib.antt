@@ -29,6 +29,7 @@ pub mod Others
 pub mod Over
 pub mod Recoveries
 pub mod Resolved
+pub mod Replacing
 pub mod Resting
 pub mod Resuming
 pub mod Spelt

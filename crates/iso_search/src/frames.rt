@@ -1,5 +1,5 @@
 //! What is still to be done, as lists that share their ends.
-ghost use Rattle.std.specs.Prelude.{◌≡◌, ◌≤◌, ◌<◌, ℕ, ◌∷◌, [], ◌++◌, length, IfOk, OnOk, OnErr, MatchOption};
+ghost use Rattle.std.specs.Prelude.{◌≡◌, ◌≤◌, ◌<◌, ℕ, ◌∷◌, [], ◌++◌, length, take, IfOk, OnOk, OnErr, MatchOption};
 ghost use Rattle.iso_search.specs.Frames.{AreLinked, tasks};
 
 use pl_term::Memory;
@@ -44,6 +44,17 @@ pub fn push_task(frames: &mut Vec<Frame>, task: Task, next: usize) -> Result<usi
         continuation: next,
     })?;
     Ok(frames.len())
+}
+
+/// Puts a frame in the place of all frames from a number on, of which there is one.
+#[inline(always)]
+pub fn put_frame(frames: &mut Vec<Frame>, keep: usize, frame: Frame)
+    requires { keep < length frames.old.items }
+    ensures { frames.new.items ≡ take keep frames.old.items ++ frame ∷ [] }
+{
+    let _count = frames.len();
+    frames[keep] = frame;
+    frames.truncate(keep + 1);
 }
 
 /// The first task of the list, with the list of the others.

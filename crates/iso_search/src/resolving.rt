@@ -48,8 +48,7 @@ impl Search {
         let _next = self.next_variable;
         match self.store.enter(goal, clause, from)? {
             Some(body) => {
-                self.forget_done(rest);
-                let list = self.push(Task::Goal(body, height), rest)?;
+                let list = self.push_over(Task::Goal(body, height), rest)?;
                 Ok(Outcome::Run(list))
             }
             None => Ok(Outcome::Fail),

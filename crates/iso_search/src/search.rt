@@ -9,7 +9,7 @@ ghost use Rattle.iso_search.specs.Reading.{View, reads, pending};
 ghost use Rattle.iso_search.specs.Searching.{IsWhole, node_of, choices_of};
 
 use crate::choices::{Alternative, ChoicePoint, held_cells};
-use crate::frames::{Frame, Task, push_task};
+use crate::frames::{Frame, Task, push_task, put_frame};
 use pl_term::Memory;
 use term_store::{Place, Store};
 
@@ -72,20 +72,49 @@ impl Search {
         Ok(list)
     }
 
-    /// Forgets the tasks that nothing goes on with where only the list and the choice points are left to be done: those of later
-    /// lists. The choice points and the list stay what they are.
+    /// The list with this task in front of the list `next`, where only that list and the choice points are left to be done: the tasks of
+    /// later lists are forgotten. The only error is out of memory.
     #[inline(always)]
-    pub fn forget_done(&mut self, list: usize)
+    pub fn push_over(&mut self, task: Task, next: usize) -> Result<usize, Memory>
         requires whole { IsWhole self.old }
-        requires list { list ≤ length self.old.frames.items }
+        requires task { IsTaskIn self.old.store task }
+        requires next { next ≤ length self.old.frames.items }
+        ensures whole { OnOk result (IsWhole self.new) }
+        ensures node { IfOk result (λ k. (v : View)
+            → node_of v self.new k ≡ before (pending (reads v self.old.store) task ∷ []) (node_of v self.old next)) }
+        ensures choices { OnOk result ((v : View) → choices_of v self.new ≡ choices_of v self.old) }
+        ensures kept { self.new ≡ record self.old { frames = self.new.frames } }
+    {
+        let keep = higher(held_frames(&self.choices), next);
+        if keep < self.frames.len() {
+            Ok(self.put_over(keep, task, next))
+        } else {
+            let list = self.push(task, next)?;
+            Ok(list)
+        }
+    }
+
+    /// The list with this task in front of another one, where the frames from a number on are forgotten, of which there is one. Neither
+    /// that list nor a choice point has one of these.
+    #[inline(always)]
+    fn put_over(&mut self, keep: usize, task: Task, next: usize) -> usize
+        requires whole { IsWhole self.old }
+        requires task { IsTaskIn self.old.store task }
+        requires next { next ≤ keep }
+        requires held { frames_held (reverse self.old.choices.items) ≤ keep }
+        requires within { keep < length self.old.frames.items }
         ensures whole { IsWhole self.new }
-        ensures list { list ≤ length self.new.frames.items }
-        ensures node { (v : View) → node_of v self.new list ≡ node_of v self.old list }
+        ensures node { (v : View)
+            → node_of v self.new result ≡ before (pending (reads v self.old.store) task ∷ []) (node_of v self.old next) }
         ensures choices { (v : View) → choices_of v self.new ≡ choices_of v self.old }
         ensures kept { self.new ≡ record self.old { frames = self.new.frames } }
     {
-        let keep = higher(held_frames(&self.choices), list);
-        self.frames.truncate(keep);
+        let frame = Frame {
+            task,
+            continuation: next,
+        };
+        put_frame(&mut self.frames, keep, frame);
+        self.frames.len()
     }
 
     /// Cuts the choice points away that stand above the height (ISO 7.8.4).

@@ -11,6 +11,7 @@ ghost use Rattle.iso_search.specs.Searching.{IsWhole};
 ghost use Rattle.world_api.specs.Gains.{Gains};
 ghost use Rattle.world_api.specs.declared.reply.Reply.TheVariants.{Clauses};
 ghost use Rattle.iso_engine.specs.ClausesAsked.{IsListAsked, visit_of};
+ghost use Rattle.iso_engine.specs.CalledGoals.{IsRequest};
 ghost use Rattle.iso_engine.specs.Called.{AreLooked, IsCalled, IsTakenBack};
 ghost use Rattle.iso_engine.specs.Purposes.{listed_in};
 ghost use Rattle.iso_engine.specs.Replies.{IsFollowed, IsListOrError};
@@ -18,7 +19,7 @@ ghost use Rattle.iso_engine.specs.Unserved.{OnRefusal, refusals_in};
 
 use crate::call::called::Called;
 use crate::call::clauses::try_first_clause;
-use crate::call::goals::{key_at, predicate_at};
+use crate::call::goals::{Request, request_at};
 use crate::call::retries::listed_at;
 use iso_search::choices::Purpose;
 use iso_search::search::Search;
@@ -35,11 +36,12 @@ pub fn call_clauses<W: World<Term = Stored>>(
     world: &mut W,
     atoms: &mut W::A,
     goal: Place,
+    request: Request,
     rest: usize,
 ) -> Result<Called, Unserved>
     requires whole { IsWhole search.old }
     requires goal { Holds search.old.store goal }
-    requires callable { (i : ℤ) → term_at search.old.store goal ≡ int i → ⊥ }
+    requires request { IsRequest (term_at search.old.store goal) request }
     requires rest { rest ≤ length search.old.frames.items }
     requires held { All (λ a. IsSome (W.A.held atoms.old a)) (atoms_in (term_at search.old.store goal)) }
     requires runs { has_ended (W.told world.old).engine (W.told world.old).history ≡ false }
@@ -57,10 +59,19 @@ pub fn call_clauses<W: World<Term = Stored>>(
     if search.inferences >= most {
         return Ok(Called::Spent);
     }
-    let known = call_known(search, world, atoms, goal, rest)?;
+    let known = call_known(search, world, atoms, goal, request, rest)?;
     match known {
         Some(called) => Ok(called),
-        None => look_through(search, Purpose::Resolving, world, atoms, goal, rest),
+        None => visit_first(
+            search,
+            Purpose::Resolving,
+            world,
+            atoms,
+            goal,
+            rest,
+            goal,
+            request,
+        ),
     }
 }
 
@@ -72,11 +83,12 @@ fn call_known<W: World<Term = Stored>>(
     world: &mut W,
     atoms: &mut W::A,
     goal: Place,
+    request: Request,
     rest: usize,
 ) -> Result<Option<Called>, Memory>
     requires whole { IsWhole search.old }
     requires goal { Holds search.old.store goal }
-    requires callable { (i : ℤ) → term_at search.old.store goal ≡ int i → ⊥ }
+    requires request { IsRequest (term_at search.old.store goal) request }
     requires rest { rest ≤ length search.old.frames.items }
     requires held { All (λ a. IsSome (W.A.held atoms.old a)) (atoms_in (term_at search.old.store goal)) }
     requires runs { has_ended (W.told world.old).engine (W.told world.old).history ≡ false }
@@ -93,11 +105,9 @@ fn call_known<W: World<Term = Stored>>(
 {
     let _most = search.budgets.inferences;
     let _mark = search.store.mark();
-    let procedure = predicate_at(&search.store, goal);
-    let first = key_at(&search.store, goal);
     let asked = Asked {
-        procedure,
-        first,
+        procedure: request.procedure,
+        first: request.first,
         after: None,
     };
     match world.again(&asked, atoms) {
@@ -139,12 +149,45 @@ pub fn look_through<W: World<Term = Stored>>(
     ensures refusals { W.A.refusals atoms.new ≡ W.A.refusals atoms.old ++ refusals_in result }
     ensures asked { Gains (IsListAsked purpose (W.A.held atoms.old) (W.told world.old) search.old goal) (W.A.asked atoms.old) (W.A.asked atoms.new) }
 {
+    let listed = listed_at(&search.store, purpose, goal);
+    let request = request_at(&search.store, listed);
+    visit_first(search, purpose, world, atoms, goal, rest, listed, request)
+}
+
+/// The same by a visit. The clauses are those for the goal at the place `listed`, and are asked for by the request.
+#[inline(never)]
+fn visit_first<W: World<Term = Stored>>(
+    search: &mut Search,
+    purpose: Purpose,
+    world: &mut W,
+    atoms: &mut W::A,
+    goal: Place,
+    rest: usize,
+    listed: Place,
+    request: Request,
+) -> Result<Called, Unserved>
+    requires whole { IsWhole search.old }
+    requires goal { Holds search.old.store goal }
+    requires listed { Holds search.old.store listed }
+    requires stands { term_at search.old.store listed ≡ listed_in purpose (term_at search.old.store goal) }
+    requires request { IsRequest (term_at search.old.store listed) request }
+    requires rest { rest ≤ length search.old.frames.items }
+    requires held { All (λ a. IsSome (W.A.held atoms.old a)) (atoms_in (term_at search.old.store goal)) }
+    requires runs { has_ended (W.told world.old).engine (W.told world.old).history ≡ false }
+    requires count { search.old.inferences < search.old.budgets.inferences }
+    ensures whole { OnOk result (IsWhole search.new) }
+    ensures called { IfOk result (AreLooked purpose (W.A.held atoms.old) (W.told world.old) search.old goal rest
+        (W.A.held atoms.new) (W.told world.new) search.new) }
+    ensures taken_back { OnRefusal result (IsTakenBack (W.told world.old) search.old (W.told world.new) search.new) }
+    ensures budgets { OnOk result (search.new.budgets ≡ search.old.budgets) }
+    ensures runs { has_ended (W.told world.new).engine (W.told world.new).history ≡ false }
+    ensures holds { AreHeld (W.A.held atoms.old) (W.A.held atoms.new) }
+    ensures refusals { W.A.refusals atoms.new ≡ W.A.refusals atoms.old ++ refusals_in result }
+    ensures asked { Gains (IsListAsked purpose (W.A.held atoms.old) (W.told world.old) search.old goal) (W.A.asked atoms.old) (W.A.asked atoms.new) }
+{
     let _most = search.budgets.inferences;
     let _mark = search.store.mark();
-    let listed = listed_at(&search.store, purpose, goal);
-    let procedure = predicate_at(&search.store, listed);
-    let first = key_at(&search.store, listed);
-    let visit = visit_for(purpose, procedure, first);
+    let visit = visit_for(purpose, request.procedure, request.first);
     match world.visit(visit, atoms) {
         Answer::Served { reply, generation } => {
             search.inferences += 1;

@@ -1,25 +1,70 @@
 //! Goals whose names are no fixed atoms: no control construct and no built-in predicate is named so.
-ghost use Rattle.std.specs.Prelude.{◌≡◌, ◌≤◌, None, IfSome};
+ghost use Rattle.std.specs.Prelude.{◌≡◌, ◌<◌, ◌≤◌, [], None, IfSome, slice_index_or};
+ghost use Rattle.pl_term.specs.Tree.{atom};
 ghost use Rattle.builtin_rows.specs.Laws.{TellsRows, TellsShared};
-ghost use Rattle.term_store.specs.Contents.{Holds};
+ghost use Rattle.term_store.specs.declared.argument_key.ArgumentKey.TheVariants.{Any};
+ghost use Rattle.term_store.specs.ArgumentKeys.{argument_key};
+ghost use Rattle.term_store.specs.Contents.{Holds, IsArguments, arguments_at, term_at};
+ghost use Rattle.iso_engine.specs.CalledGoals.{IsRequest};
 ghost use Rattle.iso_engine.specs.Calling.{IsCallAt};
 
+use crate::call::goals::{Request, argument_key_at};
 use atom_api::{Atom, fixed};
 use builtin_rows::predicate_of;
-use term_store::{Place, Store, View as Kind};
+use term_store::{ArgumentKey, Arguments, Place, Store, View as Kind};
 use world_api::Procedure;
 
-/// The predicate of the goal at a place, if its name is no fixed atom: then the goal calls the program's clauses.
+/// By what the clauses for the goal at a place are asked for, if its name is no fixed atom: then the goal calls the program's clauses.
 #[inline(always)]
-pub fn direct_call(store: &Store, goal: Place) -> Option<Procedure>
+pub fn direct_call(store: &Store, goal: Place) -> Option<Request>
     requires { Holds store.now goal }
-    ensures { IfSome result (IsCallAt store.now goal) }
+    ensures calls { IfSome result (λ r. IsCallAt store.now goal r.procedure) }
+    ensures asked { IfSome result (IsRequest (term_at store.now goal)) }
 {
     match store.look(goal) {
         Kind::Variable(_) => None,
         Kind::Integer(_) => None,
-        Kind::Atom(name) => own_predicate(name, 0),
-        Kind::Compound(name, arguments) => own_predicate(name, arguments.len()),
+        Kind::Atom(name) => atom_call(name),
+        Kind::Compound(name, arguments) => compound_call(store, name, arguments),
+    }
+}
+
+/// The same of a goal that is an atom.
+#[inline(always)]
+fn atom_call(name: Atom) -> Option<Request>
+    ensures named { IfSome result (λ r. r.procedure ≡ record { name = name; arity = 0 }) }
+    ensures key { IfSome result (λ r. r.first ≡ Any) }
+    ensures own { IfSome result (λ r. 203 ≤ name) }
+    ensures rows { IfSome result (λ r. TellsRows name 0 None) }
+    ensures shares { IfSome result (λ r. TellsShared name 0 None) }
+{
+    match own_predicate(name, 0) {
+        None => None,
+        Some(procedure) => Some(Request {
+            procedure,
+            first: ArgumentKey::Any,
+        }),
+    }
+}
+
+/// The same of a goal with this name and these arguments.
+#[inline(always)]
+fn compound_call(store: &Store, name: Atom, arguments: Arguments) -> Option<Request>
+    requires arguments { IsArguments store.now arguments }
+    requires some { 0 < arguments.count }
+    ensures named { IfSome result (λ r. r.procedure ≡ record { name = name; arity = arguments.count }) }
+    ensures key { IfSome result (λ r. r.first ≡ argument_key (slice_index_or (arguments_at store.now arguments) 0 (atom []))) }
+    ensures own { IfSome result (λ r. 203 ≤ name) }
+    ensures rows { IfSome result (λ r. TellsRows name arguments.count None) }
+    ensures shares { IfSome result (λ r. TellsShared name arguments.count None) }
+{
+    match own_predicate(name, arguments.len()) {
+        None => None,
+        Some(procedure) => {
+            let argument = store.argument(arguments, 0);
+            let first = argument_key_at(store, argument);
+            Some(Request { procedure, first })
+        }
     }
 }
 

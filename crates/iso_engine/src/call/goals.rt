@@ -4,11 +4,30 @@ ghost use Rattle.pl_term.specs.Tree.{int};
 ghost use Rattle.pl_model.specs.Predicates.{proc_of};
 ghost use Rattle.term_store.specs.ArgumentKeys.{argument_key, clause_key, head_key};
 ghost use Rattle.term_store.specs.Contents.{Holds, term_at};
-ghost use Rattle.iso_engine.specs.CalledGoals.{HasPredicate};
+ghost use Rattle.iso_engine.specs.CalledGoals.{HasPredicate, IsRequest};
 
 use atom_api::fixed;
 use term_store::{ArgumentKey, Place, Store, View as Kind};
 use world_api::Procedure;
+
+/// By what the clauses for a goal are asked for: its predicate, and the key by which they are found.
+#[derive(Clone, Copy, Debug, Drop)]
+pub struct Request {
+    pub procedure: Procedure,
+    pub first: ArgumentKey,
+}
+
+/// By what the clauses for the goal at a place are asked for.
+#[inline(always)]
+pub fn request_at(store: &Store, goal: Place) -> Request
+    requires holds { Holds store.now goal }
+    requires callable { (i : ℤ) → term_at store.now goal ≡ int i → ⊥ }
+    ensures { IsRequest (term_at store.now goal) result }
+{
+    let procedure = predicate_at(store, goal);
+    let first = key_at(store, goal);
+    Request { procedure, first }
+}
 
 /// The predicate of the goal at a place (ISO 7.1.6.6). A variable stands for `call/1` of it. An integer is no goal.
 #[inline(always)]
@@ -64,7 +83,7 @@ fn head_key_at(store: &Store, head: Place) -> ArgumentKey
 
 /// The key of the argument at a place.
 #[inline(always)]
-fn argument_key_at(store: &Store, argument: Place) -> ArgumentKey
+pub fn argument_key_at(store: &Store, argument: Place) -> ArgumentKey
     requires { Holds store.now argument }
     ensures { result ≡ argument_key (term_at store.now argument) }
 {

@@ -10,6 +10,7 @@ ghost use Rattle.iso_search.specs.declared.choices.Alternative.TheVariants.{Clau
 ghost use Rattle.iso_search.specs.Choices.{choice_at, listed_goal, purpose_of};
 ghost use Rattle.iso_search.specs.Reading.{View, reads};
 ghost use Rattle.iso_search.specs.Searching.{IsWhole, choices_of, node_of};
+ghost use Rattle.iso_engine.specs.CalledGoals.{IsRequest};
 ghost use Rattle.iso_engine.specs.ClausesAsked.{IsRetryAsked};
 ghost use Rattle.iso_engine.specs.Purposes.{listed_in};
 ghost use Rattle.iso_engine.specs.Ready.{MayGoOn};
@@ -18,7 +19,7 @@ ghost use Rattle.iso_engine.specs.Unserved.{OnRefusal, UnlessMemory, refusals_in
 ghost use Rattle.iso_engine.specs.Views.{view_of};
 
 use crate::call::clauses::{parts_at, try_next_clause};
-use crate::call::goals::{key_at, predicate_at};
+use crate::call::goals::Request;
 use iso_search::choices::{Alternative, Purpose};
 use iso_search::outcome::Outcome;
 use iso_search::search::Search;
@@ -27,7 +28,8 @@ use term_store::{Place, Store, Stored};
 use world_api::{After, Answer, Asked, Reply, Unserved, Visit, World};
 
 /// Goes on with the clauses for the goal at a place, or for the rule of clause/2 or retract/1, that were not tried (ISO 7.7.8), whose
-/// choice point was taken off: those of the generation after the clause with the place, before the tasks of a list. Asks the shared state for the next of them, and
+/// choice point was taken off: those of the generation after the clause with the place, before the tasks of a list. They are those for the goal at the
+/// place `listed`, by the request. Asks the shared state for the next of them, and
 /// tries it. Where the visit is not served, the choice point is there again. When memory runs out the search is not to be used
 /// any more.
 #[inline(always)]
@@ -40,9 +42,14 @@ pub fn retry_clauses<W: World<Term = Stored>>(
     generation: u64,
     place: u64,
     next: usize,
+    listed: Place,
+    request: Request,
 ) -> Result<Outcome, Unserved>
     requires whole { IsWhole search.old }
     requires goal { Holds search.old.store goal }
+    requires listed { Holds search.old.store listed }
+    requires stands { term_at search.old.store listed ≡ listed_in purpose (term_at search.old.store goal) }
+    requires request { IsRequest (term_at search.old.store listed) request }
     requires next { next ≤ length search.old.frames.items }
     requires held { All (λ a. IsSome (W.A.held atoms.old a)) (atoms_in (term_at search.old.store goal)) }
     requires open { let g = reads (view_of (W.A.held atoms.old) (W.told world.old)) search.old.store goal in
@@ -58,10 +65,14 @@ pub fn retry_clauses<W: World<Term = Stored>>(
     ensures refusals { UnlessMemory result (W.A.refusals atoms.new ≡ W.A.refusals atoms.old ++ refusals_in result) }
     ensures asked { Gains (IsRetryAsked (W.A.held atoms.old) (W.told world.old) search.old purpose goal generation place) (W.A.asked atoms.old) (W.A.asked atoms.new) }
 {
-    let known = retry_known(search, world, atoms, purpose, goal, generation, place, next)?;
+    let known = retry_known(
+        search, world, atoms, purpose, goal, generation, place, next, listed, request,
+    )?;
     match known {
         Some(outcome) => Ok(outcome),
-        None => retry_anew(search, world, atoms, purpose, goal, generation, place, next),
+        None => retry_anew(
+            search, world, atoms, purpose, goal, generation, place, next, listed, request,
+        ),
     }
 }
 
@@ -76,9 +87,14 @@ fn retry_known<W: World<Term = Stored>>(
     generation: u64,
     place: u64,
     next: usize,
+    listed: Place,
+    request: Request,
 ) -> Result<Option<Outcome>, Memory>
     requires whole { IsWhole search.old }
     requires goal { Holds search.old.store goal }
+    requires listed { Holds search.old.store listed }
+    requires stands { term_at search.old.store listed ≡ listed_in purpose (term_at search.old.store goal) }
+    requires request { IsRequest (term_at search.old.store listed) request }
     requires next { next ≤ length search.old.frames.items }
     requires held { All (λ a. IsSome (W.A.held atoms.old a)) (atoms_in (term_at search.old.store goal)) }
     requires open { let g = reads (view_of (W.A.held atoms.old) (W.told world.old)) search.old.store goal in
@@ -95,12 +111,9 @@ fn retry_known<W: World<Term = Stored>>(
     ensures asked { W.A.asked atoms.new ≡ W.A.asked atoms.old }
 {
     let _mark = search.store.mark();
-    let listed = listed_at(&search.store, purpose, goal);
-    let procedure = predicate_at(&search.store, listed);
-    let first = key_at(&search.store, listed);
     let asked = Asked {
-        procedure,
-        first,
+        procedure: request.procedure,
+        first: request.first,
         after: Some(After { generation, place }),
     };
     match world.again(&asked, atoms) {
@@ -124,9 +137,14 @@ fn retry_anew<W: World<Term = Stored>>(
     generation: u64,
     place: u64,
     next: usize,
+    listed: Place,
+    request: Request,
 ) -> Result<Outcome, Unserved>
     requires whole { IsWhole search.old }
     requires goal { Holds search.old.store goal }
+    requires listed { Holds search.old.store listed }
+    requires stands { term_at search.old.store listed ≡ listed_in purpose (term_at search.old.store goal) }
+    requires request { IsRequest (term_at search.old.store listed) request }
     requires next { next ≤ length search.old.frames.items }
     requires held { All (λ a. IsSome (W.A.held atoms.old a)) (atoms_in (term_at search.old.store goal)) }
     requires open { let g = reads (view_of (W.A.held atoms.old) (W.told world.old)) search.old.store goal in
@@ -143,12 +161,9 @@ fn retry_anew<W: World<Term = Stored>>(
     ensures asked { Gains (IsRetryAsked (W.A.held atoms.old) (W.told world.old) search.old purpose goal generation place) (W.A.asked atoms.old) (W.A.asked atoms.new) }
 {
     let _mark = search.store.mark();
-    let listed = listed_at(&search.store, purpose, goal);
-    let procedure = predicate_at(&search.store, listed);
-    let first = key_at(&search.store, listed);
     let visit = Visit::Next {
-        procedure,
-        first,
+        procedure: request.procedure,
+        first: request.first,
         generation,
         place,
     };

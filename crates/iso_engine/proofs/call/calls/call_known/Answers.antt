@@ -25,8 +25,8 @@ returns-in_ok-called-in-Some-clause-called g c =
     let e = c.args.search.now in
     let x : Search = record e { inferences = e.inferences + 1 } in
     let f : Option (Found Tree) = g.W.World.at_hand b in
-    let p = c.predicate_at-procedure.result in
-    let k = c.key_at-first.result in
+    let p = c.args.request.procedure in
+    let k = c.args.request.first in
     let over = goal_over e.store c.mark-mark.result c.args.goal c.mark-mark.ensures.mark c.mark-mark.ensures.here c.requires.goal in
     let v = c.in-Some.ensures.visited in
     looked_is m n t u v.0 e c.follow_found.new.search c.args.goal (g.met.W.A.Atoms.fixed_held a) (g.met.W.A.Atoms.fixed_held b)
@@ -34,7 +34,7 @@ returns-in_ok-called-in-Some-clause-called g c =
     Resolving c.args.goal (listed_reads Resolving e.store c.args.goal c.args.goal over refl)
     c.args.rest c.in-Some.generation c.requires.count (Clauses f) c.in_ok-called-in-Some.called
     (list_served Resolving m n t u v.0 (term_at e.store c.args.goal) p k (Call p k) (Clauses f) c.in-Some.generation
-    refl (g.met.W.A.Atoms.fixed_held a) c.predicate_at-procedure.ensures c.key_at-first.ensures v.1.0 v.1.1)
+    refl (g.met.W.A.Atoms.fixed_held a) c.requires.request.0 c.requires.request.1 v.1.0 v.1.1)
     c.in-Some.ensures.names
     (subst (λ (h : Option (Found Tree)). IsFollowed Resolving x c.args.goal c.args.rest c.in-Some.generation (Clauses h) c.follow_found.new.search c.in_ok-called-in-Some.called)
     c.lent-found.ensures c.in_ok-called-in-Some.ensures.followed)

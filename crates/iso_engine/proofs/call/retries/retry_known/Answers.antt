@@ -16,21 +16,9 @@ use Rattle.iso_engine.specs.Views.{view_of}
 use Rattle.iso_engine.proofs.Asking.{goal_over}
 use Rattle.iso_engine.proofs.FollowedReplies.{next_found, next_run_is}
 use Rattle.iso_engine.proofs.KnownAnswers.{same_held}
-use Rattle.iso_engine.proofs.Purposes.{listed_callable, listed_held, listed_reads}
+use Rattle.iso_engine.proofs.Purposes.{listed_held, listed_reads}
 use Rattle.iso_engine.proofs.Solutions.{view_is}
 use Rattle.iso_engine.proofs.call.retries.retry_known.Goals as goal
-
-pub predicate_at-procedure-requires-clause-callable : goal.predicate_at-procedure-requires-clause-callable
-predicate_at-procedure-requires-clause-callable g c =
-    let a = c.args.atoms.now in
-    let m = g.W.A.Atoms.held a in
-    let t = g.W.World.told c.args.world.now in
-    let e = c.args.search.now in
-    let over = goal_over e.store c.mark-mark.result c.args.goal c.mark-mark.ensures.mark c.mark-mark.ensures.here c.requires.goal in
-    let at = c.listed_at-listed.result in
-    let is = c.listed_at-listed.ensures.stands in
-    listed_callable c.args.purpose e.store c.args.goal at over is (view_of m t) (view_is m t (g.met.W.A.Atoms.fixed_held a) (g.met.W.A.Atoms.unlike a) (g.met.W.A.Atoms.finite a))
-    c.requires.open.callable
 
 one_list : (f h : Option (Found Tree)) → (let l : Reply Tree = Clauses f in let r : Reply Tree = Clauses h in l ≡ r) → h ≡ f
 one_list f h is = cc
@@ -49,14 +37,14 @@ returns-in_ok-outcome-in-Some-clause-retried g c =
     let later = g.met.W.A.Atoms.fixed_held b in
     let grown = same_held m n c.again.ensures.held in
     let over = goal_over e.store c.mark-mark.result c.args.goal c.mark-mark.ensures.mark c.mark-mark.ensures.here c.requires.goal in
-    let at = c.listed_at-listed.result in
-    let is = c.listed_at-listed.ensures.stands in
-    let there = goal_over e.store c.mark-mark.result at c.mark-mark.ensures.mark c.mark-mark.ensures.here c.listed_at-listed.ensures.holds in
+    let at = c.args.listed in
+    let is = c.requires.stands in
+    let there = goal_over e.store c.mark-mark.result at c.mark-mark.ensures.mark c.mark-mark.ensures.here c.requires.listed in
     let held = listed_held c.args.purpose e.store c.args.goal at over is m c.requires.held in
     let v = c.in-Some.ensures.visited in
     let found = next_found m n t u v.0 e e at fixed later grown there held
-    c.predicate_at-procedure.result c.key_at-first.result c.args.generation c.args.place c.in-Some.field-0 (Clauses f)
-    c.predicate_at-procedure.ensures c.key_at-first.ensures v.1.1 in
+    c.args.request.procedure c.args.request.first c.args.generation c.args.place c.in-Some.field-0 (Clauses f)
+    c.requires.request.0 c.requires.request.1 v.1.1 in
     let same : found.0 ≡ f = one_list f found.0 found.1 in
     next_run_is m n t u v.0 e c.try_next_clause.new.search at fixed later grown there held
     c.args.purpose c.args.goal (listed_reads c.args.purpose e.store c.args.goal at over is)

@@ -80,8 +80,8 @@ do_task-requires-clause-viewed g c =
     let t = g.W.World.told c.args.world.now in
     (view_of m t, view_is m t (g.met.W.A.Atoms.fixed_held a) (g.met.W.A.Atoms.unlike a) (g.met.W.A.Atoms.finite a))
 
-pub call-requires-clause-ready : goal.call-requires-clause-ready
-call-requires-clause-ready g c =
+pub call_apart-requires-clause-ready : goal.call_apart-requires-clause-ready
+call_apart-requires-clause-ready g c =
     let e = c.args.self.now in
     let x = c.args.frame in
     let f = c.do_task.new.search in
@@ -129,15 +129,15 @@ returns-in-Call-clause-stepped g c =
     let y : Engine = record e { search = f } in
     let done = subst (IsDone e.search x.task x.continuation f) c.in-Call.is c.in_ok-did.ensures.done in
     let m = g.W.A.Atoms.held c.args.atoms.now in
-    let n = g.W.A.Atoms.held c.call.new.atoms in
+    let n = g.W.A.Atoms.held c.call_apart.new.atoms in
     let t = g.W.World.told c.args.world.now in
-    let u = g.W.World.told c.call.new.world in
-    let after = c.call.new.self in
-    let end = as_stopped c.call.result in
+    let u = g.W.World.told c.call_apart.new.world in
+    let after = c.call_apart.new.self in
+    let end = as_stopped c.call_apart.result in
     let a = c.args.out.now.items in
     IfOk-weaker end (λ o. IsStepped m t y o n u after [])
     (λ o. (more : List Output) × IsStepped m t e o n u after more × (a ≡ a ++ encode_utf8_all (written_text more)))
-    (λ o h. ([], subst (λ (s : Search). let z : Engine = record e { search = s } in IsStepped m t z o n u after []) done.0 h, silent_out a [] refl)) c.call.ensures.stepped
+    (λ o h. ([], subst (λ (s : Search). let z : Engine = record e { search = s } in IsStepped m t z o n u after []) done.0 h, silent_out a [] refl)) c.call_apart.ensures.stepped
 
 pub returns-in-Ask-clause-stepped : goal.returns-in-Ask-clause-stepped
 returns-in-Ask-clause-stepped g c =
@@ -218,7 +218,7 @@ returns-in-Call-clause-asked g c =
     let f = c.do_task.new.search in
     let a = c.args.atoms.now in
     let called = subst (IsDone e.search x.task x.continuation f) c.in-Call.is c.in_ok-did.ensures.done in
-    asked_same (g.W.A.Atoms.held a) (g.W.World.told c.args.world.now) e f (g.W.A.Atoms.asked a) (g.W.A.Atoms.asked c.call.new.atoms) called.0 c.call.ensures.asked
+    asked_same (g.W.A.Atoms.held a) (g.W.World.told c.args.world.now) e f (g.W.A.Atoms.asked a) (g.W.A.Atoms.asked c.call_apart.new.atoms) called.0 c.call_apart.ensures.asked
 
 pub returns-in-Ask-clause-asked : goal.returns-in-Ask-clause-asked
 returns-in-Ask-clause-asked g c =
@@ -242,7 +242,7 @@ returns-in-Row-clause-asked g c =
     (row_asks_for m t (record e { search = f }) (g.W.A.Atoms.asked a) (g.W.A.Atoms.asked c.row.new.atoms) c.row.ensures.asked)
 
 pub returns-in-Call-clause-given : goal.returns-in-Call-clause-given
-returns-in-Call-clause-given g c = none_ok (as_stopped c.call.result) (c.call.new.self.solutions_found ≡ c.args.self.now.solutions_found) c.call.ensures.given
+returns-in-Call-clause-given g c = none_ok (as_stopped c.call_apart.result) (c.call_apart.new.self.solutions_found ≡ c.args.self.now.solutions_found) c.call_apart.ensures.given
 
 pub returns-in-Ask-clause-given : goal.returns-in-Ask-clause-given
 returns-in-Ask-clause-given g c = none_ok (as_stopped c.ask.result) (c.ask.new.self.solutions_found ≡ c.args.self.now.solutions_found) c.ask.ensures.given

@@ -25,87 +25,77 @@ pub loop-preserved : goal.loop-preserved
 loop-preserved g c =
     let m = g.W.A.Atoms.held c.args.atoms.now in
     let n = g.W.A.Atoms.held c.loop.atoms in
-    let r = g.W.A.Atoms.held c.step.new.atoms in
+    let r = g.W.A.Atoms.held c.step-stepped.new.atoms in
     let t = g.W.World.told c.args.world.now in
     let u = g.W.World.told c.loop.world in
-    let w = g.W.World.told c.step.new.world in
+    let w = g.W.World.told c.step-stepped.new.world in
     let walk = c.loop.invariant.2 in
     let low = walk.low in
     let less = c.if-self-start.false in
     let s = c.in_ok-stopped in
-    let told = sym c.stop_of.ensures ∙ s.was in
-    let went = went_on n r u w c.loop.self c.step.new.self c.loop.out.items c.step.new.out.items s.stopped (IfOk-at_ok (λ o. (more : List Output) × IsStepped n u c.loop.self o r w c.step.new.self more × (c.step.new.out.items ≡ c.loop.out.items ++ encode_utf8_all (written_text more))) told c.step.ensures.stepped) c.in_default-stopped.is in (
+    let told = s.ensures.stop in
+    let went = went_on n r u w c.loop.self c.step-stepped.new.self c.loop.out.items c.step-stepped.new.out.items s.stopped (IfOk-at_ok (λ o. (more : List Output) × IsStepped n u c.loop.self o r w c.step-stepped.new.self more × (c.step-stepped.new.out.items ≡ c.loop.out.items ++ encode_utf8_all (written_text more))) told c.step-stepped.ensures.stepped) c.in_default.is in (
       1 + c.loop.invariant.0,
-      (let counted = c.loop.invariant.1 in let one = ap steps_of c.in_default-stopped.is in let made = c.steps_made.ensures in let sum = c.in-Some.ensures.1 in
-          omega (arith, counted, one, made, sum)),
-      walk_on c.args.n c.loop.invariant.0 m n r t u w c.args.self.now c.loop.self c.step.new.self c.args.out.now.items c.loop.out.items c.step.new.out.items went.0 walk went.1 went.2
-          c.step.ensures.runs (IfOk-at_ok (λ o. IsReady r w c.step.new.self) told c.step.ensures.ready) c.step.ensures.holds (IfOk-at_ok (λ o. IsSpent c.loop.self.search.inferences c.step.new.self.search.inferences) told c.step.ensures.spent) (when_none _ _ (IfOk-at_ok (λ o. IfNone o (c.step.new.self.solutions_found ≡ c.loop.self.solutions_found)) told c.step.ensures.given) c.in_default-stopped.is) (omega (arith, low, less)),
-      none_refused (g.W.A.Atoms.refusals c.args.atoms.now) (g.W.A.Atoms.refusals c.loop.atoms) (g.W.A.Atoms.refusals c.step.new.atoms) s.stopped c.loop.invariant.3
-          (IfOk-at_ok (λ o. g.W.A.Atoms.refusals c.step.new.atoms ≡ g.W.A.Atoms.refusals c.loop.atoms ++ stopped_refusals o) told c.step.ensures.refusals) c.in_default-stopped.is,
-      way_gains c.loop.invariant.0 1 m n r t u w c.args.self.now c.loop.self c.step.new.self walk.written went.0 (g.W.A.Atoms.asked c.args.atoms.now)
-          (g.W.A.Atoms.asked c.loop.atoms) (g.W.A.Atoms.asked c.step.new.atoms) walk.advances went.1 c.loop.invariant.4 c.step.ensures.asked,
+      (let counted = c.loop.invariant.1 in let one = ap steps_of c.in_default.is in let sum = s.ensures.count in omega (arith, counted, one, sum)),
+      walk_on c.args.n c.loop.invariant.0 m n r t u w c.args.self.now c.loop.self c.step-stepped.new.self c.args.out.now.items c.loop.out.items c.step-stepped.new.out.items went.0 walk went.1 went.2
+          c.step-stepped.ensures.runs (IfOk-at_ok (λ o. IsReady r w c.step-stepped.new.self) told c.step-stepped.ensures.ready) c.step-stepped.ensures.holds (IfOk-at_ok (λ o. IsSpent c.loop.self.search.inferences c.step-stepped.new.self.search.inferences) told c.step-stepped.ensures.spent) (when_none _ _ (IfOk-at_ok (λ o. IfNone o (c.step-stepped.new.self.solutions_found ≡ c.loop.self.solutions_found)) told c.step-stepped.ensures.given) c.in_default.is) (omega (arith, low, less)),
+      none_refused (g.W.A.Atoms.refusals c.args.atoms.now) (g.W.A.Atoms.refusals c.loop.atoms) (g.W.A.Atoms.refusals c.step-stepped.new.atoms) s.stopped c.loop.invariant.3
+          (IfOk-at_ok (λ o. g.W.A.Atoms.refusals c.step-stepped.new.atoms ≡ g.W.A.Atoms.refusals c.loop.atoms ++ stopped_refusals o) told c.step-stepped.ensures.refusals) c.in_default.is,
+      way_gains c.loop.invariant.0 1 m n r t u w c.args.self.now c.loop.self c.step-stepped.new.self walk.written went.0 (g.W.A.Atoms.asked c.args.atoms.now)
+          (g.W.A.Atoms.asked c.loop.atoms) (g.W.A.Atoms.asked c.step-stepped.new.atoms) walk.advances went.1 c.loop.invariant.4 c.step-stepped.ensures.asked,
     )
 
-pub returns-in-Some-stopped-clause-sliced : goal.returns-in-Some-stopped-clause-sliced
-returns-in-Some-stopped-clause-sliced g c =
+pub returns-in-Some-clause-sliced : goal.returns-in-Some-clause-sliced
+returns-in-Some-clause-sliced g c =
     let m = g.W.A.Atoms.held c.args.atoms.now in
     let n = g.W.A.Atoms.held c.loop.atoms in
-    let r = g.W.A.Atoms.held c.step.new.atoms in
+    let r = g.W.A.Atoms.held c.step-stepped.new.atoms in
     let t = g.W.World.told c.args.world.now in
     let u = g.W.World.told c.loop.world in
-    let w = g.W.World.told c.step.new.world in
+    let w = g.W.World.told c.step-stepped.new.world in
     let walk = c.loop.invariant.2 in
     let low = walk.low in
     let less = c.if-self-start.false in
     let s = c.in_ok-stopped in
-    let told = sym c.stop_of.ensures ∙ s.was in
-    let step = subst (λ (x : Option Slice). (more : List Output) × IsStepped n u c.loop.self x r w c.step.new.self more
-    × (c.step.new.out.items ≡ c.loop.out.items ++ encode_utf8_all (written_text more))) c.in-Some-stopped.is (IfOk-at_ok (λ o. (more : List Output) × IsStepped n u c.loop.self o r w c.step.new.self more × (c.step.new.out.items ≡ c.loop.out.items ++ encode_utf8_all (written_text more))) told c.step.ensures.stepped) in (
-      steps_of (Some c.in-Some-stopped.slice) + c.loop.invariant.0,
-      (let counted = c.loop.invariant.1 in let some = ap steps_of c.in-Some-stopped.is in let made = c.steps_made.ensures in let sum = c.in-Some.ensures.1 in
-          omega (arith, counted, some, made, sum)),
-      slice_ends c.args.n c.loop.invariant.0 m n r t u w c.args.self.now c.loop.self c.step.new.self c.args.out.now.items c.loop.out.items c.step.new.out.items walk (IfOk-at_ok (λ o. IsSpent c.loop.self.search.inferences c.step.new.self.search.inferences) told c.step.ensures.spent)
-          (omega (arith, low, less)) c.in-Some-stopped.slice step,
+    let told = s.ensures.stop in
+    let step = subst (λ (x : Option Slice). (more : List Output) × IsStepped n u c.loop.self x r w c.step-stepped.new.self more
+    × (c.step-stepped.new.out.items ≡ c.loop.out.items ++ encode_utf8_all (written_text more))) c.in-Some.is (IfOk-at_ok (λ o. (more : List Output) × IsStepped n u c.loop.self o r w c.step-stepped.new.self more × (c.step-stepped.new.out.items ≡ c.loop.out.items ++ encode_utf8_all (written_text more))) told c.step-stepped.ensures.stepped) in (
+      steps_of (Some c.in-Some.slice) + c.loop.invariant.0,
+      (let counted = c.loop.invariant.1 in let some = ap steps_of c.in-Some.is in let sum = s.ensures.count in omega (arith, counted, some, sum)),
+      slice_ends c.args.n c.loop.invariant.0 m n r t u w c.args.self.now c.loop.self c.step-stepped.new.self c.args.out.now.items c.loop.out.items c.step-stepped.new.out.items walk (IfOk-at_ok (λ o. IsSpent c.loop.self.search.inferences c.step-stepped.new.self.search.inferences) told c.step-stepped.ensures.spent)
+          (omega (arith, low, less)) c.in-Some.slice step,
     )
 
-pub returns-in-Some-stopped-clause-refusals : goal.returns-in-Some-stopped-clause-refusals
-returns-in-Some-stopped-clause-refusals g c =
+pub returns-in-Some-clause-refusals : goal.returns-in-Some-clause-refusals
+returns-in-Some-clause-refusals g c =
     let s = c.in_ok-stopped in
-    let told = sym c.stop_of.ensures ∙ s.was in
-    some_refused (g.W.A.Atoms.refusals c.args.atoms.now) (g.W.A.Atoms.refusals c.loop.atoms) (g.W.A.Atoms.refusals c.step.new.atoms) s.stopped c.in-Some-stopped.slice c.loop.invariant.3
-    (IfOk-at_ok (λ o. g.W.A.Atoms.refusals c.step.new.atoms ≡ g.W.A.Atoms.refusals c.loop.atoms ++ stopped_refusals o) told c.step.ensures.refusals) c.in-Some-stopped.is
+    let told = s.ensures.stop in
+    some_refused (g.W.A.Atoms.refusals c.args.atoms.now) (g.W.A.Atoms.refusals c.loop.atoms) (g.W.A.Atoms.refusals c.step-stepped.new.atoms) s.stopped c.in-Some.slice c.loop.invariant.3
+    (IfOk-at_ok (λ o. g.W.A.Atoms.refusals c.step-stepped.new.atoms ≡ g.W.A.Atoms.refusals c.loop.atoms ++ stopped_refusals o) told c.step-stepped.ensures.refusals) c.in-Some.is
 
-pub returns-in-Some-stopped-clause-asked : goal.returns-in-Some-stopped-clause-asked
-returns-in-Some-stopped-clause-asked g c =
+pub returns-in-Some-clause-asked : goal.returns-in-Some-clause-asked
+returns-in-Some-clause-asked g c =
     let m = g.W.A.Atoms.held c.args.atoms.now in
     let n = g.W.A.Atoms.held c.loop.atoms in
-    let r = g.W.A.Atoms.held c.step.new.atoms in
+    let r = g.W.A.Atoms.held c.step-stepped.new.atoms in
     let t = g.W.World.told c.args.world.now in
     let u = g.W.World.told c.loop.world in
-    let w = g.W.World.told c.step.new.world in
+    let w = g.W.World.told c.step-stepped.new.world in
     let walk = c.loop.invariant.2 in
     let s = c.in_ok-stopped in
-    let told = sym c.stop_of.ensures ∙ s.was in
-    let stepped = (IfOk-at_ok (λ o. (more : List Output) × IsStepped n u c.loop.self o r w c.step.new.self more × (c.step.new.out.items ≡ c.loop.out.items ++ encode_utf8_all (written_text more))) told c.step.ensures.stepped) in
-    let step = step_advances n r u w c.loop.self c.step.new.self s.stopped stepped.0 stepped.1 in
-    way_gains c.loop.invariant.0 step.0 m n r t u w c.args.self.now c.loop.self c.step.new.self walk.written stepped.0 (g.W.A.Atoms.asked c.args.atoms.now)
-    (g.W.A.Atoms.asked c.loop.atoms) (g.W.A.Atoms.asked c.step.new.atoms) walk.advances step.1 c.loop.invariant.4 c.step.ensures.asked
+    let told = s.ensures.stop in
+    let stepped = (IfOk-at_ok (λ o. (more : List Output) × IsStepped n u c.loop.self o r w c.step-stepped.new.self more × (c.step-stepped.new.out.items ≡ c.loop.out.items ++ encode_utf8_all (written_text more))) told c.step-stepped.ensures.stepped) in
+    let step = step_advances n r u w c.loop.self c.step-stepped.new.self s.stopped stepped.0 stepped.1 in
+    way_gains c.loop.invariant.0 step.0 m n r t u w c.args.self.now c.loop.self c.step-stepped.new.self walk.written stepped.0 (g.W.A.Atoms.asked c.args.atoms.now)
+    (g.W.A.Atoms.asked c.loop.atoms) (g.W.A.Atoms.asked c.step-stepped.new.atoms) walk.advances step.1 c.loop.invariant.4 c.step-stepped.ensures.asked
 
-pub returns-in-Some-stopped-clause-came : goal.returns-in-Some-stopped-clause-came
-returns-in-Some-stopped-clause-came g c =
+pub returns-in-Some-clause-came : goal.returns-in-Some-clause-came
+returns-in-Some-clause-came g c =
     let n = g.W.A.Atoms.held c.loop.atoms in
     let u = g.W.World.told c.loop.world in
     let walk = c.loop.invariant.2 in
     come_gains c.loop.invariant.0 0 (g.W.A.Atoms.held c.args.atoms.now) n n (g.W.World.told c.args.world.now) u u c.args.self.now c.loop.self c.loop.self walk.written []
-    (g.W.A.Atoms.asked c.args.atoms.now) (g.W.A.Atoms.asked c.loop.atoms) (g.W.A.Atoms.asked c.step.new.atoms) walk.advances c.loop.invariant.4 c.step.ensures.asked
-
-pub returns-in_default-clause-came : goal.returns-in_default-clause-came
-returns-in_default-clause-came g c =
-    let n = g.W.A.Atoms.held c.loop.atoms in
-    let u = g.W.World.told c.loop.world in
-    let walk = c.loop.invariant.2 in
-    come_gains c.loop.invariant.0 0 (g.W.A.Atoms.held c.args.atoms.now) n n (g.W.World.told c.args.world.now) u u c.args.self.now c.loop.self c.loop.self walk.written []
-    (g.W.A.Atoms.asked c.args.atoms.now) (g.W.A.Atoms.asked c.loop.atoms) (g.W.A.Atoms.asked c.step.new.atoms) walk.advances c.loop.invariant.4 c.step.ensures.asked
+    (g.W.A.Atoms.asked c.args.atoms.now) (g.W.A.Atoms.asked c.loop.atoms) (g.W.A.Atoms.asked c.step-stepped.new.atoms) walk.advances c.loop.invariant.4 c.step-stepped.ensures.asked
 
 pub returns-in_err-stopped-clause-came : goal.returns-in_err-stopped-clause-came
 returns-in_err-stopped-clause-came g c =
@@ -113,7 +103,7 @@ returns-in_err-stopped-clause-came g c =
     let u = g.W.World.told c.loop.world in
     let walk = c.loop.invariant.2 in
     come_gains c.loop.invariant.0 0 (g.W.A.Atoms.held c.args.atoms.now) n n (g.W.World.told c.args.world.now) u u c.args.self.now c.loop.self c.loop.self walk.written []
-    (g.W.A.Atoms.asked c.args.atoms.now) (g.W.A.Atoms.asked c.loop.atoms) (g.W.A.Atoms.asked c.step.new.atoms) walk.advances c.loop.invariant.4 c.step.ensures.asked
+    (g.W.A.Atoms.asked c.args.atoms.now) (g.W.A.Atoms.asked c.loop.atoms) (g.W.A.Atoms.asked c.step-stepped.new.atoms) walk.advances c.loop.invariant.4 c.step-stepped.ensures.asked
 
 pub returns-clause-came : goal.returns-clause-came
 returns-clause-came g c =
