@@ -6,7 +6,8 @@ ghost use Rattle.pl_term.specs.Tree.{Tree};
 ghost use Rattle.world_api.specs.declared.reply.Found.{Found as FoundValue};
 ghost use Rattle.kept_answers.specs.Answered.{AreSound, IsAnswer, IsGiven, IsKept, IsSound, found_at, found_or};
 
-use crate::asked::{PLACES, is_same, place_of};
+use crate::asked::{MOST_PLACES, PLACES, is_same, place_of};
+use crate::watch::Watch;
 use atom_api::fixed;
 use pl_term::Memory;
 use std::alloc::Global;
@@ -29,10 +30,12 @@ pub struct Space {
     pub kept: Option<Kept>,
 }
 
-/// Answers of the shared state that an engine keeps, each at the place of what was asked.
+/// Answers of the shared state that an engine keeps, each at the place of what was asked. Where requests come again that others
+/// have thrown out meanwhile, as the watch shows, there are to be more places.
 #[derive(Drop)]
 pub struct Answers {
     pub spaces: Vec<Space>,
+    watch: Watch,
 }
 
 // The same term, whose nodes are copied, so that nobody else holds it. The only error is out of memory.
@@ -121,18 +124,18 @@ fn push_free(spaces: &mut Vec<Space>) -> Result<(), Memory>
     Ok(())
 }
 
-// Whether there is memory for all places.
-fn has_memory(spaces: &mut Vec<Space>) -> bool
+// Whether there is memory for so many places.
+fn has_memory(spaces: &mut Vec<Space>, count: usize) -> bool
     ensures { spaces.new.items ≡ spaces.old.items }
 {
-    spaces.reserve(PLACES).is_ok()
+    spaces.reserve(count).is_ok()
 }
 
-// Places at which nothing is kept. The only error is out of memory.
-fn free_spaces(spaces: &mut Vec<Space>) -> Result<(), Memory>
+// So many more places, at which nothing is kept. The only error is out of memory.
+fn free_spaces(spaces: &mut Vec<Space>, count: usize) -> Result<(), Memory>
     ensures sound { (goals : ℕ) (h : History) (n : Names) → AreSound goals h n spaces.old.items → AreSound goals h n spaces.new.items }
 {
-    for _ in 0..PLACES {
+    for _ in 0..count {
         push_free(spaces)?;
     }
     Ok(())
@@ -145,6 +148,7 @@ impl Answers {
     {
         Answers {
             spaces: Vec::new(alloc),
+            watch: Watch::new(),
         }
     }
 
@@ -161,8 +165,9 @@ impl Answers {
         ensures kept { (goals : ℕ) (h : History) (n : Names) → AreSound goals h n self.now.spaces.items → length h ≡ generation
             → IfSome result (λ i. (f : Option (FoundValue Tree)) → IsKept goals h asked.now (found_at self.now.spaces.items i f) n) }
     {
-        let place = place_of(number);
-        if place >= self.spaces.len() {
+        let count = self.spaces.len();
+        let place = place_of(number, count);
+        if place >= count {
             return None;
         }
         if is_answer_in(&self.spaces[place], asked, generation) {
@@ -197,7 +202,51 @@ impl Answers {
             return false;
         }
         let mark = mark_of(number, generation);
-        self.is_marked(place_of(number), mark)
+        let place = place_of(number, self.spaces.len());
+        if self.is_marked(place, mark) {
+            return true;
+        }
+        self.look_for(mark);
+        false
+    }
+
+    // A request with this mark is the last one at its place from now on. Where many such have come again, there are more places.
+    fn look_for(&mut self, mark: u64)
+        ensures sound { (goals : ℕ) (h : History) (n : Names) → AreSound goals h n self.old.spaces.items → AreSound goals h n self.new.spaces.items }
+    {
+        if !self.is_crowded(mark) {
+            return;
+        }
+        self.widen();
+    }
+
+    // The watch sees the mark. Whether there are to be more places.
+    fn is_crowded(&mut self, mark: u64) -> bool
+        ensures { self.new.spaces.items ≡ self.old.spaces.items }
+    {
+        self.watch = self.watch.after(mark);
+        let count = self.spaces.len();
+        count < MOST_PLACES && self.watch.has_seen(count)
+    }
+
+    // Four times as many places, at which nothing is kept.
+    fn widen(&mut self)
+        ensures sound { (goals : ℕ) (h : History) (n : Names) → AreSound goals h n self.new.spaces.items }
+    {
+        let count = self.spaces.len().wrapping_mul(4);
+        self.watch = Watch::new();
+        self.clear();
+        self.fill(count);
+    }
+
+    // So many more places, where there is memory for them. Whether there is.
+    fn fill(&mut self, count: usize) -> bool
+        ensures sound { (goals : ℕ) (h : History) (n : Names) → AreSound goals h n self.old.spaces.items → AreSound goals h n self.new.spaces.items }
+    {
+        if !has_memory(&mut self.spaces, count) {
+            return false;
+        }
+        free_spaces(&mut self.spaces, count).is_ok()
     }
 
     // Whether there are places. The first time they are made.
@@ -207,10 +256,7 @@ impl Answers {
         if !self.spaces.is_empty() {
             return true;
         }
-        if !has_memory(&mut self.spaces) {
-            return false;
-        }
-        free_spaces(&mut self.spaces).is_ok()
+        self.fill(PLACES)
     }
 
     // Whether the place has this mark. From now on it has.
@@ -251,7 +297,8 @@ impl Answers {
             return;
         }
         if let Ok(answer) = answer_of(alloc, asked, found, generation) {
-            self.put(place_of(number), answer);
+            let place = place_of(number, self.spaces.len());
+            self.put(place, answer);
         }
     }
 }

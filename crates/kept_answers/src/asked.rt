@@ -4,8 +4,10 @@ ghost use Rattle.std.specs.Prelude.{◌≡◌, true};
 use term_store::ArgumentKey;
 use world_api::{After, Asked, Procedure};
 
-/// How many places there are for answers.
+/// How many places there are for answers at first, and at most: powers of two.
 pub(crate) const PLACES: usize = 128;
+
+pub(crate) const MOST_PLACES: usize = 2048;
 
 // Odd numbers by which a request's parts are multiplied, so that their lowest bits reach the highest ones.
 const SPREAD: u64 = 0x9E37_79B9_7F4A_7C15;
@@ -91,8 +93,8 @@ pub fn number_of(asked: &Asked<ArgumentKey>) -> u64 {
         .wrapping_add(after_number(&asked.after).wrapping_mul(SPREAD_PLACES))
 }
 
-/// The place of the answer to a request with this number.
+/// The place of the answer to a request with this number, of so many places.
 #[inline]
-pub(crate) fn place_of(number: u64) -> usize {
-    ((number >> 40) % 128) as usize
+pub(crate) fn place_of(number: u64, count: usize) -> usize {
+    (number >> 40) as usize & count.wrapping_sub(1)
 }

@@ -4,6 +4,7 @@
 mod answers;
 mod asked;
 mod laws;
+mod watch;
 
 pub use answers::{Answers, Kept, Space};
 pub use asked::number_of;

@@ -9,7 +9,7 @@ pub returns-then-is_answer_in : goal.returns-then-is_answer_in
 returns-then-is_answer_in c =
     let ss = c.args.self.now.spaces.items in
     let i = c.place_of-place.result in
-    let inside : i < length ss = omega (arith, c.len.ensures, c.if-place-len.false) in
+    let inside : i < length ss = omega (arith, c.len-count.ensures, c.if-place-count.false) in
     let at : slice_index_or ss i free ≡ c.index.result.now = read-at ss i c.index.result.now free inside c.index.ensures in
     record {
       kept = λ goals h n all long f.
