@@ -49,3 +49,13 @@ procedure_by v view (atom a) p is =
 procedure_by v view (comp f t ts) p is =
     ap₂ (λ f k. let q : Proc = record { name = f; arity = k } in q) (ap (text_of v.names) is.0)
     (ap suc (count-spelled (text_of v.names) ts) ∙ sym is.1)
+
+-- A request that is handed on by its parts.
+abbrev pub copied : Request → Request
+copied r = record { procedure = record { name = r.procedure.name; arity = r.procedure.arity }; first = r.first }
+
+pub same_request : (t : Tree) (r : Request) → IsRequest t r → IsRequest t (copied r)
+same_request (var x) r is = is
+same_request (int i) r is = is
+same_request (atom a) r is = is
+same_request (comp f t ts) r is = is

@@ -59,6 +59,13 @@ pub fn call_clauses<W: World<Term = Stored>>(
     if search.inferences >= most {
         return Ok(Called::Spent);
     }
+    let later = Request {
+        procedure: Procedure {
+            name: request.procedure.name,
+            arity: request.procedure.arity,
+        },
+        first: request.first,
+    };
     let known = call_known(search, world, atoms, goal, request, rest)?;
     match known {
         Some(called) => Ok(called),
@@ -70,7 +77,7 @@ pub fn call_clauses<W: World<Term = Stored>>(
             goal,
             rest,
             goal,
-            request,
+            later,
         ),
     }
 }

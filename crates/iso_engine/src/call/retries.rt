@@ -25,7 +25,7 @@ use iso_search::outcome::Outcome;
 use iso_search::search::Search;
 use pl_term::Memory;
 use term_store::{Place, Store, Stored};
-use world_api::{After, Answer, Asked, Reply, Unserved, Visit, World};
+use world_api::{After, Answer, Asked, Procedure, Reply, Unserved, Visit, World};
 
 /// Goes on with the clauses for the goal at a place, or for the rule of clause/2 or retract/1, that were not tried (ISO 7.7.8), whose
 /// choice point was taken off: those of the generation after the clause with the place, before the tasks of a list. They are those for the goal at the
@@ -65,13 +65,20 @@ pub fn retry_clauses<W: World<Term = Stored>>(
     ensures refusals { UnlessMemory result (W.A.refusals atoms.new ≡ W.A.refusals atoms.old ++ refusals_in result) }
     ensures asked { Gains (IsRetryAsked (W.A.held atoms.old) (W.told world.old) search.old purpose goal generation place) (W.A.asked atoms.old) (W.A.asked atoms.new) }
 {
+    let later = Request {
+        procedure: Procedure {
+            name: request.procedure.name,
+            arity: request.procedure.arity,
+        },
+        first: request.first,
+    };
     let known = retry_known(
         search, world, atoms, purpose, goal, generation, place, next, listed, request,
     )?;
     match known {
         Some(outcome) => Ok(outcome),
         None => retry_anew(
-            search, world, atoms, purpose, goal, generation, place, next, listed, request,
+            search, world, atoms, purpose, goal, generation, place, next, listed, later,
         ),
     }
 }
