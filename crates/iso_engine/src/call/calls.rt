@@ -21,6 +21,7 @@ use crate::call::called::Called;
 use crate::call::clauses::try_first_clause;
 use crate::call::goals::{Request, request_at};
 use crate::call::retries::listed_at;
+use atom_api::Atom;
 use iso_search::choices::Purpose;
 use iso_search::search::Search;
 use pl_term::Memory;
@@ -59,14 +60,16 @@ pub fn call_clauses<W: World<Term = Stored>>(
     if search.inferences >= most {
         return Ok(Called::Spent);
     }
-    let later = Request {
-        procedure: Procedure {
-            name: request.procedure.name,
-            arity: request.procedure.arity,
-        },
-        first: request.first,
-    };
-    let known = call_known(search, world, atoms, goal, request, rest)?;
+    let known = call_known(
+        search,
+        world,
+        atoms,
+        goal,
+        request.procedure.name,
+        request.procedure.arity,
+        request.first,
+        rest,
+    )?;
     match known {
         Some(called) => Ok(called),
         None => visit_first(
@@ -77,7 +80,7 @@ pub fn call_clauses<W: World<Term = Stored>>(
             goal,
             rest,
             goal,
-            later,
+            request,
         ),
     }
 }
@@ -90,12 +93,14 @@ fn call_known<W: World<Term = Stored>>(
     world: &mut W,
     atoms: &mut W::A,
     goal: Place,
-    request: Request,
+    name: Atom,
+    arity: u64,
+    first: ArgumentKey,
     rest: usize,
 ) -> Result<Option<Called>, Memory>
     requires whole { IsWhole search.old }
     requires goal { Holds search.old.store goal }
-    requires request { IsRequest (term_at search.old.store goal) request }
+    requires request { IsRequest (term_at search.old.store goal) (record { procedure = record { name = name; arity = arity }; first = first }) }
     requires rest { rest ≤ length search.old.frames.items }
     requires held { All (λ a. IsSome (W.A.held atoms.old a)) (atoms_in (term_at search.old.store goal)) }
     requires runs { has_ended (W.told world.old).engine (W.told world.old).history ≡ false }
@@ -112,9 +117,10 @@ fn call_known<W: World<Term = Stored>>(
 {
     let _most = search.budgets.inferences;
     let _mark = search.store.mark();
+    let procedure = Procedure { name, arity };
     let asked = Asked {
-        procedure: request.procedure,
-        first: request.first,
+        procedure,
+        first,
         after: None,
     };
     match world.again(&asked, atoms) {

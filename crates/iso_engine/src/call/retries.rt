@@ -20,11 +20,12 @@ ghost use Rattle.iso_engine.specs.Views.{view_of};
 
 use crate::call::clauses::{parts_at, try_next_clause};
 use crate::call::goals::Request;
+use atom_api::Atom;
 use iso_search::choices::{Alternative, Purpose};
 use iso_search::outcome::Outcome;
 use iso_search::search::Search;
 use pl_term::Memory;
-use term_store::{Place, Store, Stored};
+use term_store::{ArgumentKey, Place, Store, Stored};
 use world_api::{After, Answer, Asked, Procedure, Reply, Unserved, Visit, World};
 
 /// Goes on with the clauses for the goal at a place, or for the rule of clause/2 or retract/1, that were not tried (ISO 7.7.8), whose
@@ -65,20 +66,24 @@ pub fn retry_clauses<W: World<Term = Stored>>(
     ensures refusals { UnlessMemory result (W.A.refusals atoms.new ≡ W.A.refusals atoms.old ++ refusals_in result) }
     ensures asked { Gains (IsRetryAsked (W.A.held atoms.old) (W.told world.old) search.old purpose goal generation place) (W.A.asked atoms.old) (W.A.asked atoms.new) }
 {
-    let later = Request {
-        procedure: Procedure {
-            name: request.procedure.name,
-            arity: request.procedure.arity,
-        },
-        first: request.first,
-    };
     let known = retry_known(
-        search, world, atoms, purpose, goal, generation, place, next, listed, request,
+        search,
+        world,
+        atoms,
+        purpose,
+        goal,
+        generation,
+        place,
+        next,
+        listed,
+        request.procedure.name,
+        request.procedure.arity,
+        request.first,
     )?;
     match known {
         Some(outcome) => Ok(outcome),
         None => retry_anew(
-            search, world, atoms, purpose, goal, generation, place, next, listed, later,
+            search, world, atoms, purpose, goal, generation, place, next, listed, request,
         ),
     }
 }
@@ -95,13 +100,15 @@ fn retry_known<W: World<Term = Stored>>(
     place: u64,
     next: usize,
     listed: Place,
-    request: Request,
+    name: Atom,
+    arity: u64,
+    first: ArgumentKey,
 ) -> Result<Option<Outcome>, Memory>
     requires whole { IsWhole search.old }
     requires goal { Holds search.old.store goal }
     requires listed { Holds search.old.store listed }
     requires stands { term_at search.old.store listed ≡ listed_in purpose (term_at search.old.store goal) }
-    requires request { IsRequest (term_at search.old.store listed) request }
+    requires request { IsRequest (term_at search.old.store listed) (record { procedure = record { name = name; arity = arity }; first = first }) }
     requires next { next ≤ length search.old.frames.items }
     requires held { All (λ a. IsSome (W.A.held atoms.old a)) (atoms_in (term_at search.old.store goal)) }
     requires open { let g = reads (view_of (W.A.held atoms.old) (W.told world.old)) search.old.store goal in
@@ -118,9 +125,10 @@ fn retry_known<W: World<Term = Stored>>(
     ensures asked { W.A.asked atoms.new ≡ W.A.asked atoms.old }
 {
     let _mark = search.store.mark();
+    let procedure = Procedure { name, arity };
     let asked = Asked {
-        procedure: request.procedure,
-        first: request.first,
+        procedure,
+        first,
         after: Some(After { generation, place }),
     };
     match world.again(&asked, atoms) {

@@ -17,8 +17,11 @@ use Rattle.iso_engine.specs.Called.{AreLooked, IsCalled, IsTakenBack}
 use Rattle.iso_engine.specs.ClausesAsked.{IsListAsked}
 use Rattle.iso_engine.specs.CalledGoals.{IsRequest}
 use Rattle.iso_engine.proofs.FollowedReplies.{looked_called}
-use Rattle.iso_engine.proofs.Requests.{copied, same_request}
+use Rattle.iso_engine.proofs.Requests.{same_request}
 use Rattle.iso_engine.proofs.call.calls.call_clauses.Goals as goal
+
+pub call_known-requires-clause-request : goal.call_known-requires-clause-request
+call_known-requires-clause-request g c = same_request (term_at c.args.search.now.store c.args.goal) c.args.request c.requires.request
 
 pub visit_first-requires-clause-whole : goal.visit_first-requires-clause-whole
 visit_first-requires-clause-whole g c =
@@ -65,8 +68,7 @@ visit_first-requires-clause-request g c =
     let e : Search = c.args.search.now in
     let d : Search = c.call_known.new.search in
     let none = where_none ((u ≡ t) × (d ≡ e)) c.in_ok-known.known c.in-None.is c.in_ok-known.ensures.none in
-    from_there (λ (m : Names) (t : Told) (e : Search). IsRequest (term_at e.store c.args.goal) (copied c.args.request)) k m u t d e (sym c.call_known.ensures.held) (sym none.0) (sym none.1)
-    (same_request (term_at e.store c.args.goal) c.args.request c.requires.request)
+    from_there (λ (m : Names) (t : Told) (e : Search). IsRequest (term_at e.store c.args.goal) c.args.request) k m u t d e (sym c.call_known.ensures.held) (sym none.0) (sym none.1) c.requires.request
 
 pub visit_first-requires-clause-rest : goal.visit_first-requires-clause-rest
 visit_first-requires-clause-rest g c =

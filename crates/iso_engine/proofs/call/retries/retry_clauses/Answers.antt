@@ -11,7 +11,7 @@ use Rattle.world_api.specs.Texts.{Holds as AreHeld}
 use Rattle.world_api.specs.Told.{Told, has_ended}
 use Rattle.world_api.proofs.Gaining.{gains_nothing}
 use Rattle.iso_engine.specs.Unserved.{OnRefusal, UnlessMemory, refusals_in}
-use Rattle.iso_engine.proofs.Requests.{copied, same_request}
+use Rattle.iso_engine.proofs.Requests.{same_request}
 use Rattle.iso_engine.proofs.KnownAnswers.{from_there, same_held, where_none}
 use Rattle.iso_search.specs.Choices.{listed_goal, purpose_of}
 use Rattle.iso_search.specs.Reading.{reads}
@@ -22,6 +22,9 @@ use Rattle.iso_engine.specs.Ready.{MayGoOn}
 use Rattle.iso_engine.specs.Retried.{IsNextRun, IsPutBack}
 use Rattle.iso_engine.specs.Views.{view_of}
 use Rattle.iso_engine.proofs.call.retries.retry_clauses.Goals as goal
+
+pub retry_known-requires-clause-request : goal.retry_known-requires-clause-request
+retry_known-requires-clause-request g c = same_request (term_at c.args.search.now.store c.args.listed) c.args.request c.requires.request
 
 pub retry_anew-requires-clause-whole : goal.retry_anew-requires-clause-whole
 retry_anew-requires-clause-whole g c =
@@ -76,8 +79,7 @@ retry_anew-requires-clause-request g c =
     let e : Search = c.args.search.now in
     let d : Search = c.retry_known.new.search in
     let none = where_none ((u ≡ t) × (d ≡ e)) c.in_ok-known.known c.in-None.is c.in_ok-known.ensures.none in
-    from_there (λ (m : Names) (t : Told) (e : Search). IsRequest (term_at e.store c.args.listed) (copied c.args.request)) k m u t d e (sym c.retry_known.ensures.held) (sym none.0) (sym none.1)
-    (same_request (term_at e.store c.args.listed) c.args.request c.requires.request)
+    from_there (λ (m : Names) (t : Told) (e : Search). IsRequest (term_at e.store c.args.listed) c.args.request) k m u t d e (sym c.retry_known.ensures.held) (sym none.0) (sym none.1) c.requires.request
 
 pub retry_anew-requires-clause-next : goal.retry_anew-requires-clause-next
 retry_anew-requires-clause-next g c =
