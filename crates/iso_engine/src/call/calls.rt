@@ -21,7 +21,6 @@ use crate::call::called::Called;
 use crate::call::clauses::try_first_clause;
 use crate::call::goals::{Request, request_at};
 use crate::call::retries::listed_at;
-use atom_api::Atom;
 use iso_search::choices::Purpose;
 use iso_search::search::Search;
 use pl_term::Memory;
@@ -60,28 +59,10 @@ pub fn call_clauses<W: World<Term = Stored>>(
     if search.inferences >= most {
         return Ok(Called::Spent);
     }
-    let known = call_known(
-        search,
-        world,
-        atoms,
-        goal,
-        request.procedure.name,
-        request.procedure.arity,
-        request.first,
-        rest,
-    )?;
+    let known = call_known(search, world, atoms, goal, request, rest)?;
     match known {
         Some(called) => Ok(called),
-        None => visit_first(
-            search,
-            Purpose::Resolving,
-            world,
-            atoms,
-            goal,
-            rest,
-            goal,
-            request,
-        ),
+        None => look_through(search, Purpose::Resolving, world, atoms, goal, rest),
     }
 }
 
@@ -93,14 +74,12 @@ fn call_known<W: World<Term = Stored>>(
     world: &mut W,
     atoms: &mut W::A,
     goal: Place,
-    name: Atom,
-    arity: u64,
-    first: ArgumentKey,
+    request: Request,
     rest: usize,
 ) -> Result<Option<Called>, Memory>
     requires whole { IsWhole search.old }
     requires goal { Holds search.old.store goal }
-    requires request { IsRequest (term_at search.old.store goal) (record { procedure = record { name = name; arity = arity }; first = first }) }
+    requires request { IsRequest (term_at search.old.store goal) request }
     requires rest { rest ≤ length search.old.frames.items }
     requires held { All (λ a. IsSome (W.A.held atoms.old a)) (atoms_in (term_at search.old.store goal)) }
     requires runs { has_ended (W.told world.old).engine (W.told world.old).history ≡ false }
@@ -117,10 +96,9 @@ fn call_known<W: World<Term = Stored>>(
 {
     let _most = search.budgets.inferences;
     let _mark = search.store.mark();
-    let procedure = Procedure { name, arity };
     let asked = Asked {
-        procedure,
-        first,
+        procedure: request.procedure,
+        first: request.first,
         after: None,
     };
     match world.again(&asked, atoms) {

@@ -1,6 +1,7 @@
 //! Going back to clauses that were not tried.
-ghost use Rattle.std.specs.Prelude.{◌≡◌, ◌≤◌, ◌++◌, ◌∷◌, List, length, false, IfNone, IfOk, IfSome, OnOk, IsSome};
+ghost use Rattle.std.specs.Prelude.{◌≡◌, ◌≤◌, ◌++◌, ◌∷◌, ℤ, List, length, false, IfNone, IfOk, IfSome, OnOk, IsSome};
 ghost use Rattle.std.specs.List.{All};
+ghost use Rattle.pl_term.specs.Tree.{int};
 ghost use Rattle.term_store.specs.Contents.{Holds, term_at};
 ghost use Rattle.term_store.specs.NumberedNames.{atoms_in};
 ghost use Rattle.world_api.specs.Texts.{Holds as AreHeld};
@@ -19,14 +20,13 @@ ghost use Rattle.iso_engine.specs.Unserved.{OnRefusal, UnlessMemory, refusals_in
 ghost use Rattle.iso_engine.specs.Views.{view_of};
 
 use crate::call::clauses::{parts_at, try_next_clause};
-use crate::call::goals::Request;
-use atom_api::Atom;
+use crate::call::goals::{Request, request_at};
 use iso_search::choices::{Alternative, Purpose};
 use iso_search::outcome::Outcome;
 use iso_search::search::Search;
 use pl_term::Memory;
-use term_store::{ArgumentKey, Place, Store, Stored};
-use world_api::{After, Answer, Asked, Procedure, Reply, Unserved, Visit, World};
+use term_store::{Place, Store, Stored};
+use world_api::{After, Answer, Asked, Reply, Unserved, Visit, World};
 
 /// Goes on with the clauses for the goal at a place, or for the rule of clause/2 or retract/1, that were not tried (ISO 7.7.8), whose
 /// choice point was taken off: those of the generation after the clause with the place, before the tasks of a list. They are those for the goal at the
@@ -67,24 +67,11 @@ pub fn retry_clauses<W: World<Term = Stored>>(
     ensures asked { Gains (IsRetryAsked (W.A.held atoms.old) (W.told world.old) search.old purpose goal generation place) (W.A.asked atoms.old) (W.A.asked atoms.new) }
 {
     let known = retry_known(
-        search,
-        world,
-        atoms,
-        purpose,
-        goal,
-        generation,
-        place,
-        next,
-        listed,
-        request.procedure.name,
-        request.procedure.arity,
-        request.first,
+        search, world, atoms, purpose, goal, generation, place, next, listed, request,
     )?;
     match known {
         Some(outcome) => Ok(outcome),
-        None => retry_anew(
-            search, world, atoms, purpose, goal, generation, place, next, listed, request,
-        ),
+        None => retry_anew(search, world, atoms, purpose, goal, generation, place, next),
     }
 }
 
@@ -100,15 +87,13 @@ fn retry_known<W: World<Term = Stored>>(
     place: u64,
     next: usize,
     listed: Place,
-    name: Atom,
-    arity: u64,
-    first: ArgumentKey,
+    request: Request,
 ) -> Result<Option<Outcome>, Memory>
     requires whole { IsWhole search.old }
     requires goal { Holds search.old.store goal }
     requires listed { Holds search.old.store listed }
     requires stands { term_at search.old.store listed ≡ listed_in purpose (term_at search.old.store goal) }
-    requires request { IsRequest (term_at search.old.store listed) (record { procedure = record { name = name; arity = arity }; first = first }) }
+    requires request { IsRequest (term_at search.old.store listed) request }
     requires next { next ≤ length search.old.frames.items }
     requires held { All (λ a. IsSome (W.A.held atoms.old a)) (atoms_in (term_at search.old.store goal)) }
     requires open { let g = reads (view_of (W.A.held atoms.old) (W.told world.old)) search.old.store goal in
@@ -125,10 +110,9 @@ fn retry_known<W: World<Term = Stored>>(
     ensures asked { W.A.asked atoms.new ≡ W.A.asked atoms.old }
 {
     let _mark = search.store.mark();
-    let procedure = Procedure { name, arity };
     let asked = Asked {
-        procedure,
-        first,
+        procedure: request.procedure,
+        first: request.first,
         after: Some(After { generation, place }),
     };
     match world.again(&asked, atoms) {
@@ -152,14 +136,10 @@ fn retry_anew<W: World<Term = Stored>>(
     generation: u64,
     place: u64,
     next: usize,
-    listed: Place,
-    request: Request,
 ) -> Result<Outcome, Unserved>
     requires whole { IsWhole search.old }
     requires goal { Holds search.old.store goal }
-    requires listed { Holds search.old.store listed }
-    requires stands { term_at search.old.store listed ≡ listed_in purpose (term_at search.old.store goal) }
-    requires request { IsRequest (term_at search.old.store listed) request }
+    requires callable { (i : ℤ) → listed_in purpose (term_at search.old.store goal) ≡ int i → ⊥ }
     requires next { next ≤ length search.old.frames.items }
     requires held { All (λ a. IsSome (W.A.held atoms.old a)) (atoms_in (term_at search.old.store goal)) }
     requires open { let g = reads (view_of (W.A.held atoms.old) (W.told world.old)) search.old.store goal in
@@ -176,6 +156,8 @@ fn retry_anew<W: World<Term = Stored>>(
     ensures asked { Gains (IsRetryAsked (W.A.held atoms.old) (W.told world.old) search.old purpose goal generation place) (W.A.asked atoms.old) (W.A.asked atoms.new) }
 {
     let _mark = search.store.mark();
+    let listed = listed_at(&search.store, purpose, goal);
+    let request = request_at(&search.store, listed);
     let visit = Visit::Next {
         procedure: request.procedure,
         first: request.first,

@@ -6,7 +6,6 @@ use Rattle.iso_search.specs.declared.search.Search.{Search}
 use Rattle.term_store.specs.Contents.{term_at}
 use Rattle.world_api.specs.declared.reply.Found.{Found}
 use Rattle.world_api.specs.declared.reply.Reply.TheVariants.{Clauses}
-use Rattle.world_api.specs.declared.visit.Procedure.{Procedure}
 use Rattle.world_api.specs.declared.visit.Visit.TheVariants.{Call}
 use Rattle.iso_engine.specs.Replies.{IsFollowed}
 use Rattle.iso_engine.proofs.Asking.{goal_over, list_served}
@@ -26,8 +25,8 @@ returns-in_ok-called-in-Some-clause-called g c =
     let e = c.args.search.now in
     let x : Search = record e { inferences = e.inferences + 1 } in
     let f : Option (Found Tree) = g.W.World.at_hand b in
-    let p : Procedure = record { name = c.args.name; arity = c.args.arity } in
-    let k = c.args.first in
+    let p = c.args.request.procedure in
+    let k = c.args.request.first in
     let over = goal_over e.store c.mark-mark.result c.args.goal c.mark-mark.ensures.mark c.mark-mark.ensures.here c.requires.goal in
     let v = c.in-Some.ensures.visited in
     looked_is m n t u v.0 e c.follow_found.new.search c.args.goal (g.met.W.A.Atoms.fixed_held a) (g.met.W.A.Atoms.fixed_held b)

@@ -43,7 +43,7 @@ returns-in_ok-outcome-in-Some-clause-retried g c =
     let held = listed_held c.args.purpose e.store c.args.goal at over is m c.requires.held in
     let v = c.in-Some.ensures.visited in
     let found = next_found m n t u v.0 e e at fixed later grown there held
-    (record { name = c.args.name; arity = c.args.arity }) c.args.first c.args.generation c.args.place c.in-Some.field-0 (Clauses f)
+    c.args.request.procedure c.args.request.first c.args.generation c.args.place c.in-Some.field-0 (Clauses f)
     c.requires.request.0 c.requires.request.1 v.1.1 in
     let same : found.0 ≡ f = one_list f found.0 found.1 in
     next_run_is m n t u v.0 e c.try_next_clause.new.search at fixed later grown there held
