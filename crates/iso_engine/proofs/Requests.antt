@@ -1,5 +1,5 @@
 -- By what the clauses for a goal are asked for.
-use Rattle.std.proofs.Common.{◌≡◌, ℕ, suc, ◌<◌, ◌≤◌, ◌==◌, false, List, [], length, get_or, Option, Some, None, IfSome, refl, sym, ap, ap₂, subst, ◌∙◌, arith, codes}
+use Rattle.std.proofs.Common.{◌≡◌, ℕ, ℤ, suc, ◌<◌, ◌≤◌, ◌==◌, false, List, [], length, get_or, Option, Some, None, IfSome, refl, sym, ap, ap₂, subst, ◌∙◌, arith, codes}
 use Rattle.pl_term.specs.Tree.{Tree, var, int, atom, comp, compound}
 use Rattle.pl_model.specs.History.{Proc}
 use Rattle.pl_model.specs.Predicates.{proc_of}
@@ -49,3 +49,7 @@ procedure_by v view (atom a) p is =
 procedure_by v view (comp f t ts) p is =
     ap₂ (λ f k. let q : Proc = record { name = f; arity = k } in q) (ap (text_of v.names) is.0)
     (ap suc (count-spelled (text_of v.names) ts) ∙ sym is.1)
+
+-- An integer is no goal.
+pub no_integer : (t : Tree) (r : Request) → IsRequest t r → (i : ℤ) → t ≡ int i → ⊥
+no_integer t r is i e = subst (λ x. HasPredicate x r.procedure) e is.0

@@ -62,16 +62,7 @@ pub fn call_clauses<W: World<Term = Stored>>(
     let known = call_known(search, world, atoms, goal, request, rest)?;
     match known {
         Some(called) => Ok(called),
-        None => visit_first(
-            search,
-            Purpose::Resolving,
-            world,
-            atoms,
-            goal,
-            rest,
-            goal,
-            request,
-        ),
+        None => look_through(search, Purpose::Resolving, world, atoms, goal, rest),
     }
 }
 

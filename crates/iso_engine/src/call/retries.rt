@@ -1,6 +1,7 @@
 //! Going back to clauses that were not tried.
-ghost use Rattle.std.specs.Prelude.{◌≡◌, ◌≤◌, ◌++◌, ◌∷◌, List, length, false, IfNone, IfOk, IfSome, OnOk, IsSome};
+ghost use Rattle.std.specs.Prelude.{◌≡◌, ◌≤◌, ◌++◌, ◌∷◌, ℤ, List, length, false, IfNone, IfOk, IfSome, OnOk, IsSome};
 ghost use Rattle.std.specs.List.{All};
+ghost use Rattle.pl_term.specs.Tree.{int};
 ghost use Rattle.term_store.specs.Contents.{Holds, term_at};
 ghost use Rattle.term_store.specs.NumberedNames.{atoms_in};
 ghost use Rattle.world_api.specs.Texts.{Holds as AreHeld};
@@ -19,7 +20,7 @@ ghost use Rattle.iso_engine.specs.Unserved.{OnRefusal, UnlessMemory, refusals_in
 ghost use Rattle.iso_engine.specs.Views.{view_of};
 
 use crate::call::clauses::{parts_at, try_next_clause};
-use crate::call::goals::Request;
+use crate::call::goals::{Request, request_at};
 use iso_search::choices::{Alternative, Purpose};
 use iso_search::outcome::Outcome;
 use iso_search::search::Search;
@@ -70,9 +71,7 @@ pub fn retry_clauses<W: World<Term = Stored>>(
     )?;
     match known {
         Some(outcome) => Ok(outcome),
-        None => retry_anew(
-            search, world, atoms, purpose, goal, generation, place, next, listed, request,
-        ),
+        None => retry_anew(search, world, atoms, purpose, goal, generation, place, next),
     }
 }
 
@@ -137,14 +136,10 @@ fn retry_anew<W: World<Term = Stored>>(
     generation: u64,
     place: u64,
     next: usize,
-    listed: Place,
-    request: Request,
 ) -> Result<Outcome, Unserved>
     requires whole { IsWhole search.old }
     requires goal { Holds search.old.store goal }
-    requires listed { Holds search.old.store listed }
-    requires stands { term_at search.old.store listed ≡ listed_in purpose (term_at search.old.store goal) }
-    requires request { IsRequest (term_at search.old.store listed) request }
+    requires callable { (i : ℤ) → listed_in purpose (term_at search.old.store goal) ≡ int i → ⊥ }
     requires next { next ≤ length search.old.frames.items }
     requires held { All (λ a. IsSome (W.A.held atoms.old a)) (atoms_in (term_at search.old.store goal)) }
     requires open { let g = reads (view_of (W.A.held atoms.old) (W.told world.old)) search.old.store goal in
@@ -161,6 +156,8 @@ fn retry_anew<W: World<Term = Stored>>(
     ensures asked { Gains (IsRetryAsked (W.A.held atoms.old) (W.told world.old) search.old purpose goal generation place) (W.A.asked atoms.old) (W.A.asked atoms.new) }
 {
     let _mark = search.store.mark();
+    let listed = listed_at(&search.store, purpose, goal);
+    let request = request_at(&search.store, listed);
     let visit = Visit::Next {
         procedure: request.procedure,
         first: request.first,

@@ -1,4 +1,4 @@
-use Rattle.std.proofs.Common.{◌≡◌, subst, Option}
+use Rattle.std.proofs.Common.{◌≡◌, subst, sym, ◌∙◌, Option}
 use Rattle.pl_term.specs.Tree.{Tree}
 use Rattle.term_store.specs.Contents.{term_at}
 use Rattle.term_store.specs.NumberedNames.{names_of, term_by}
@@ -18,15 +18,18 @@ use Rattle.iso_engine.proofs.Purposes.{listed_held, listed_open, listed_reads}
 use Rattle.iso_engine.proofs.Solutions.{view_is}
 use Rattle.iso_engine.proofs.call.retries.retry_anew.Goals as goal
 
+pub request_at-request-requires-clause-callable : goal.request_at-request-requires-clause-callable
+request_at-request-requires-clause-callable g c i is = c.requires.callable i (sym c.listed_at-listed.ensures.stands ∙ is)
+
 pub visit-requires-clause-held : goal.visit-requires-clause-held
 visit-requires-clause-held g c =
     let m = g.W.A.Atoms.held c.args.atoms.now in
     let e = c.args.search.now in
     let over = goal_over e.store c.mark-mark.result c.args.goal c.mark-mark.ensures.mark c.mark-mark.ensures.here c.requires.goal in
-    let at = c.args.listed in
-    let is = c.requires.stands in
-    visit_held m (term_at e.store at) c.args.request.procedure c.args.request.first
-    (g.met.W.A.Atoms.fixed_held c.args.atoms.now) c.requires.request.0 c.requires.request.1
+    let at = c.listed_at-listed.result in
+    let is = c.listed_at-listed.ensures.stands in
+    visit_held m (term_at e.store at) c.request_at-request.result.procedure c.request_at-request.result.first
+    (g.met.W.A.Atoms.fixed_held c.args.atoms.now) c.request_at-request.ensures.0 c.request_at-request.ensures.1
     (listed_held c.args.purpose e.store c.args.goal at over is m c.requires.held)
 
 pub visit-requires-clause-next : goal.visit-requires-clause-next
@@ -36,13 +39,13 @@ visit-requires-clause-next g c =
     let e = c.args.search.now in
     let t = g.W.World.told c.args.world.now in
     let over = goal_over e.store c.mark-mark.result c.args.goal c.mark-mark.ensures.mark c.mark-mark.ensures.here c.requires.goal in
-    let at = c.args.listed in
-    let is = c.requires.stands in
+    let at = c.listed_at-listed.result in
+    let is = c.listed_at-listed.ensures.stands in
     let view = view_is m t (g.met.W.A.Atoms.fixed_held a) (g.met.W.A.Atoms.unlike a) (g.met.W.A.Atoms.finite a) in
     place_is m m t t t.history e e at (g.met.W.A.Atoms.fixed_held a) (g.met.W.A.Atoms.fixed_held a)
-    (λ a x is. is) (goal_over e.store c.mark-mark.result at c.mark-mark.ensures.mark c.mark-mark.ensures.here c.requires.listed)
+    (λ a x is. is) (goal_over e.store c.mark-mark.result at c.mark-mark.ensures.mark c.mark-mark.ensures.here c.listed_at-listed.ensures.holds)
     (listed_held c.args.purpose e.store c.args.goal at over is m c.requires.held)
-    c.args.request.procedure c.args.request.first c.args.generation c.args.place c.requires.request.0 c.requires.request.1
+    c.request_at-request.result.procedure c.request_at-request.result.first c.args.generation c.args.place c.request_at-request.ensures.0 c.request_at-request.ensures.1
     (listed_open c.args.purpose e.store c.args.goal at over is (view_of m t) view t c.args.generation c.args.place c.requires.open)
 
 pub unreachable-requires : goal.unreachable-requires
@@ -52,15 +55,15 @@ unreachable-requires g c =
     let e = c.args.search.now in
     let t = g.W.World.told c.args.world.now in
     let over = goal_over e.store c.mark-mark.result c.args.goal c.mark-mark.ensures.mark c.mark-mark.ensures.here c.requires.goal in
-    let at = c.args.listed in
-    let is = c.requires.stands in
+    let at = c.listed_at-listed.result in
+    let is = c.listed_at-listed.ensures.stands in
     let v = c.in-Served.ensures.visited in
     let found = next_found m n t (g.W.World.told c.visit.new.self) v.0 e e at (g.met.W.A.Atoms.fixed_held c.args.atoms.now)
     (g.met.W.A.Atoms.fixed_held c.visit.new.atoms) c.in-Served.ensures.holds
-    (goal_over e.store c.mark-mark.result at c.mark-mark.ensures.mark c.mark-mark.ensures.here c.requires.listed)
+    (goal_over e.store c.mark-mark.result at c.mark-mark.ensures.mark c.mark-mark.ensures.here c.listed_at-listed.ensures.holds)
     (listed_held c.args.purpose e.store c.args.goal at over is m c.requires.held)
-    c.args.request.procedure c.args.request.first c.args.generation c.args.place c.in-Served.generation c.in-Served.reply
-    c.requires.request.0 c.requires.request.1 v.1.1 in
+    c.request_at-request.result.procedure c.request_at-request.result.first c.args.generation c.args.place c.in-Served.generation c.in-Served.reply
+    c.request_at-request.ensures.0 c.request_at-request.ensures.1 v.1.1 in
     c.in_default.not-Clauses found.0 found.1
 
 one_list : (f h : Option (Found Tree)) (r : Reply Tree) → r ≡ Clauses f → r ≡ Clauses h → f ≡ h
@@ -76,14 +79,14 @@ returns-in_ok-outcome-in-Served-clause-retried g c =
     let fixed = g.met.W.A.Atoms.fixed_held c.args.atoms.now in
     let later = g.met.W.A.Atoms.fixed_held c.visit.new.atoms in
     let over = goal_over e.store c.mark-mark.result c.args.goal c.mark-mark.ensures.mark c.mark-mark.ensures.here c.requires.goal in
-    let at = c.args.listed in
-    let is = c.requires.stands in
-    let there = goal_over e.store c.mark-mark.result at c.mark-mark.ensures.mark c.mark-mark.ensures.here c.requires.listed in
+    let at = c.listed_at-listed.result in
+    let is = c.listed_at-listed.ensures.stands in
+    let there = goal_over e.store c.mark-mark.result at c.mark-mark.ensures.mark c.mark-mark.ensures.here c.listed_at-listed.ensures.holds in
     let held = listed_held c.args.purpose e.store c.args.goal at over is m c.requires.held in
     let v = c.in-Served.ensures.visited in
     let found = next_found m n t u v.0 e e at fixed later c.in-Served.ensures.holds there held
-    c.args.request.procedure c.args.request.first c.args.generation c.args.place c.in-Served.generation c.in-Served.reply
-    c.requires.request.0 c.requires.request.1 v.1.1 in
+    c.request_at-request.result.procedure c.request_at-request.result.first c.args.generation c.args.place c.in-Served.generation c.in-Served.reply
+    c.request_at-request.ensures.0 c.request_at-request.ensures.1 v.1.1 in
     let same : found.0 ≡ c.in-Clauses.found = one_list found.0 c.in-Clauses.found c.in-Served.reply found.1 c.in-Clauses.is in
     next_run_is m n t u v.0 e c.try_next_clause.new.search at fixed later c.in-Served.ensures.holds there held
     c.args.purpose c.args.goal (listed_reads c.args.purpose e.store c.args.goal at over is)
@@ -101,12 +104,12 @@ returns-in_err-outcome-in-Served-clause-asked g c =
     let t = g.W.World.told c.args.world.now in
     let e = c.args.search.now in
     let over = goal_over e.store c.mark-mark.result c.args.goal c.mark-mark.ensures.mark c.mark-mark.ensures.here c.requires.goal in
-    let at = c.args.listed in
-    let is = c.requires.stands in
+    let at = c.listed_at-listed.result in
+    let is = c.listed_at-listed.ensures.stands in
     let view = view_is m t (g.met.W.A.Atoms.fixed_held a) (g.met.W.A.Atoms.unlike a) (g.met.W.A.Atoms.finite a) in
-    retry_gains m t e at c.args.request.procedure c.args.request.first (g.met.W.A.Atoms.fixed_held a)
-    (goal_over e.store c.mark-mark.result at c.mark-mark.ensures.mark c.mark-mark.ensures.here c.requires.listed)
-    c.requires.request.0 c.requires.request.1 (g.W.A.Atoms.asked a) (g.W.A.Atoms.asked c.visit.new.atoms)
+    retry_gains m t e at c.request_at-request.result.procedure c.request_at-request.result.first (g.met.W.A.Atoms.fixed_held a)
+    (goal_over e.store c.mark-mark.result at c.mark-mark.ensures.mark c.mark-mark.ensures.here c.listed_at-listed.ensures.holds)
+    c.request_at-request.ensures.0 c.request_at-request.ensures.1 (g.W.A.Atoms.asked a) (g.W.A.Atoms.asked c.visit.new.atoms)
     c.args.purpose c.args.goal (listed_reads c.args.purpose e.store c.args.goal at over is (view_of m t) view)
     c.args.generation c.args.place c.requires.open.listed c.visit.ensures.asked
 
@@ -117,12 +120,12 @@ returns-in_err-put_back-in-NeedsAtoms-clause-asked g c =
     let t = g.W.World.told c.args.world.now in
     let e = c.args.search.now in
     let over = goal_over e.store c.mark-mark.result c.args.goal c.mark-mark.ensures.mark c.mark-mark.ensures.here c.requires.goal in
-    let at = c.args.listed in
-    let is = c.requires.stands in
+    let at = c.listed_at-listed.result in
+    let is = c.listed_at-listed.ensures.stands in
     let view = view_is m t (g.met.W.A.Atoms.fixed_held a) (g.met.W.A.Atoms.unlike a) (g.met.W.A.Atoms.finite a) in
-    retry_gains m t e at c.args.request.procedure c.args.request.first (g.met.W.A.Atoms.fixed_held a)
-    (goal_over e.store c.mark-mark.result at c.mark-mark.ensures.mark c.mark-mark.ensures.here c.requires.listed)
-    c.requires.request.0 c.requires.request.1 (g.W.A.Atoms.asked a) (g.W.A.Atoms.asked c.visit.new.atoms)
+    retry_gains m t e at c.request_at-request.result.procedure c.request_at-request.result.first (g.met.W.A.Atoms.fixed_held a)
+    (goal_over e.store c.mark-mark.result at c.mark-mark.ensures.mark c.mark-mark.ensures.here c.listed_at-listed.ensures.holds)
+    c.request_at-request.ensures.0 c.request_at-request.ensures.1 (g.W.A.Atoms.asked a) (g.W.A.Atoms.asked c.visit.new.atoms)
     c.args.purpose c.args.goal (listed_reads c.args.purpose e.store c.args.goal at over is (view_of m t) view)
     c.args.generation c.args.place c.requires.open.listed c.visit.ensures.asked
 
@@ -133,12 +136,12 @@ returns-in_err-put_back-in-Retry-clause-asked g c =
     let t = g.W.World.told c.args.world.now in
     let e = c.args.search.now in
     let over = goal_over e.store c.mark-mark.result c.args.goal c.mark-mark.ensures.mark c.mark-mark.ensures.here c.requires.goal in
-    let at = c.args.listed in
-    let is = c.requires.stands in
+    let at = c.listed_at-listed.result in
+    let is = c.listed_at-listed.ensures.stands in
     let view = view_is m t (g.met.W.A.Atoms.fixed_held a) (g.met.W.A.Atoms.unlike a) (g.met.W.A.Atoms.finite a) in
-    retry_gains m t e at c.args.request.procedure c.args.request.first (g.met.W.A.Atoms.fixed_held a)
-    (goal_over e.store c.mark-mark.result at c.mark-mark.ensures.mark c.mark-mark.ensures.here c.requires.listed)
-    c.requires.request.0 c.requires.request.1 (g.W.A.Atoms.asked a) (g.W.A.Atoms.asked c.visit.new.atoms)
+    retry_gains m t e at c.request_at-request.result.procedure c.request_at-request.result.first (g.met.W.A.Atoms.fixed_held a)
+    (goal_over e.store c.mark-mark.result at c.mark-mark.ensures.mark c.mark-mark.ensures.here c.listed_at-listed.ensures.holds)
+    c.request_at-request.ensures.0 c.request_at-request.ensures.1 (g.W.A.Atoms.asked a) (g.W.A.Atoms.asked c.visit.new.atoms)
     c.args.purpose c.args.goal (listed_reads c.args.purpose e.store c.args.goal at over is (view_of m t) view)
     c.args.generation c.args.place c.requires.open.listed c.visit.ensures.asked
 
@@ -149,12 +152,12 @@ returns-in_err-put_back-in-Worn-clause-asked g c =
     let t = g.W.World.told c.args.world.now in
     let e = c.args.search.now in
     let over = goal_over e.store c.mark-mark.result c.args.goal c.mark-mark.ensures.mark c.mark-mark.ensures.here c.requires.goal in
-    let at = c.args.listed in
-    let is = c.requires.stands in
+    let at = c.listed_at-listed.result in
+    let is = c.listed_at-listed.ensures.stands in
     let view = view_is m t (g.met.W.A.Atoms.fixed_held a) (g.met.W.A.Atoms.unlike a) (g.met.W.A.Atoms.finite a) in
-    retry_gains m t e at c.args.request.procedure c.args.request.first (g.met.W.A.Atoms.fixed_held a)
-    (goal_over e.store c.mark-mark.result at c.mark-mark.ensures.mark c.mark-mark.ensures.here c.requires.listed)
-    c.requires.request.0 c.requires.request.1 (g.W.A.Atoms.asked a) (g.W.A.Atoms.asked c.visit.new.atoms)
+    retry_gains m t e at c.request_at-request.result.procedure c.request_at-request.result.first (g.met.W.A.Atoms.fixed_held a)
+    (goal_over e.store c.mark-mark.result at c.mark-mark.ensures.mark c.mark-mark.ensures.here c.listed_at-listed.ensures.holds)
+    c.request_at-request.ensures.0 c.request_at-request.ensures.1 (g.W.A.Atoms.asked a) (g.W.A.Atoms.asked c.visit.new.atoms)
     c.args.purpose c.args.goal (listed_reads c.args.purpose e.store c.args.goal at over is (view_of m t) view)
     c.args.generation c.args.place c.requires.open.listed c.visit.ensures.asked
 
@@ -165,12 +168,12 @@ returns-in_ok-outcome-in-Served-clause-asked g c =
     let t = g.W.World.told c.args.world.now in
     let e = c.args.search.now in
     let over = goal_over e.store c.mark-mark.result c.args.goal c.mark-mark.ensures.mark c.mark-mark.ensures.here c.requires.goal in
-    let at = c.args.listed in
-    let is = c.requires.stands in
+    let at = c.listed_at-listed.result in
+    let is = c.listed_at-listed.ensures.stands in
     let view = view_is m t (g.met.W.A.Atoms.fixed_held a) (g.met.W.A.Atoms.unlike a) (g.met.W.A.Atoms.finite a) in
-    retry_gains m t e at c.args.request.procedure c.args.request.first (g.met.W.A.Atoms.fixed_held a)
-    (goal_over e.store c.mark-mark.result at c.mark-mark.ensures.mark c.mark-mark.ensures.here c.requires.listed)
-    c.requires.request.0 c.requires.request.1 (g.W.A.Atoms.asked a) (g.W.A.Atoms.asked c.visit.new.atoms)
+    retry_gains m t e at c.request_at-request.result.procedure c.request_at-request.result.first (g.met.W.A.Atoms.fixed_held a)
+    (goal_over e.store c.mark-mark.result at c.mark-mark.ensures.mark c.mark-mark.ensures.here c.listed_at-listed.ensures.holds)
+    c.request_at-request.ensures.0 c.request_at-request.ensures.1 (g.W.A.Atoms.asked a) (g.W.A.Atoms.asked c.visit.new.atoms)
     c.args.purpose c.args.goal (listed_reads c.args.purpose e.store c.args.goal at over is (view_of m t) view)
     c.args.generation c.args.place c.requires.open.listed c.visit.ensures.asked
 
@@ -181,12 +184,12 @@ returns-in_ok-put_back-in-NeedsAtoms-clause-asked g c =
     let t = g.W.World.told c.args.world.now in
     let e = c.args.search.now in
     let over = goal_over e.store c.mark-mark.result c.args.goal c.mark-mark.ensures.mark c.mark-mark.ensures.here c.requires.goal in
-    let at = c.args.listed in
-    let is = c.requires.stands in
+    let at = c.listed_at-listed.result in
+    let is = c.listed_at-listed.ensures.stands in
     let view = view_is m t (g.met.W.A.Atoms.fixed_held a) (g.met.W.A.Atoms.unlike a) (g.met.W.A.Atoms.finite a) in
-    retry_gains m t e at c.args.request.procedure c.args.request.first (g.met.W.A.Atoms.fixed_held a)
-    (goal_over e.store c.mark-mark.result at c.mark-mark.ensures.mark c.mark-mark.ensures.here c.requires.listed)
-    c.requires.request.0 c.requires.request.1 (g.W.A.Atoms.asked a) (g.W.A.Atoms.asked c.visit.new.atoms)
+    retry_gains m t e at c.request_at-request.result.procedure c.request_at-request.result.first (g.met.W.A.Atoms.fixed_held a)
+    (goal_over e.store c.mark-mark.result at c.mark-mark.ensures.mark c.mark-mark.ensures.here c.listed_at-listed.ensures.holds)
+    c.request_at-request.ensures.0 c.request_at-request.ensures.1 (g.W.A.Atoms.asked a) (g.W.A.Atoms.asked c.visit.new.atoms)
     c.args.purpose c.args.goal (listed_reads c.args.purpose e.store c.args.goal at over is (view_of m t) view)
     c.args.generation c.args.place c.requires.open.listed c.visit.ensures.asked
 
@@ -197,12 +200,12 @@ returns-in_ok-put_back-in-Retry-clause-asked g c =
     let t = g.W.World.told c.args.world.now in
     let e = c.args.search.now in
     let over = goal_over e.store c.mark-mark.result c.args.goal c.mark-mark.ensures.mark c.mark-mark.ensures.here c.requires.goal in
-    let at = c.args.listed in
-    let is = c.requires.stands in
+    let at = c.listed_at-listed.result in
+    let is = c.listed_at-listed.ensures.stands in
     let view = view_is m t (g.met.W.A.Atoms.fixed_held a) (g.met.W.A.Atoms.unlike a) (g.met.W.A.Atoms.finite a) in
-    retry_gains m t e at c.args.request.procedure c.args.request.first (g.met.W.A.Atoms.fixed_held a)
-    (goal_over e.store c.mark-mark.result at c.mark-mark.ensures.mark c.mark-mark.ensures.here c.requires.listed)
-    c.requires.request.0 c.requires.request.1 (g.W.A.Atoms.asked a) (g.W.A.Atoms.asked c.visit.new.atoms)
+    retry_gains m t e at c.request_at-request.result.procedure c.request_at-request.result.first (g.met.W.A.Atoms.fixed_held a)
+    (goal_over e.store c.mark-mark.result at c.mark-mark.ensures.mark c.mark-mark.ensures.here c.listed_at-listed.ensures.holds)
+    c.request_at-request.ensures.0 c.request_at-request.ensures.1 (g.W.A.Atoms.asked a) (g.W.A.Atoms.asked c.visit.new.atoms)
     c.args.purpose c.args.goal (listed_reads c.args.purpose e.store c.args.goal at over is (view_of m t) view)
     c.args.generation c.args.place c.requires.open.listed c.visit.ensures.asked
 
@@ -213,12 +216,12 @@ returns-in_ok-put_back-in-Worn-clause-asked g c =
     let t = g.W.World.told c.args.world.now in
     let e = c.args.search.now in
     let over = goal_over e.store c.mark-mark.result c.args.goal c.mark-mark.ensures.mark c.mark-mark.ensures.here c.requires.goal in
-    let at = c.args.listed in
-    let is = c.requires.stands in
+    let at = c.listed_at-listed.result in
+    let is = c.listed_at-listed.ensures.stands in
     let view = view_is m t (g.met.W.A.Atoms.fixed_held a) (g.met.W.A.Atoms.unlike a) (g.met.W.A.Atoms.finite a) in
-    retry_gains m t e at c.args.request.procedure c.args.request.first (g.met.W.A.Atoms.fixed_held a)
-    (goal_over e.store c.mark-mark.result at c.mark-mark.ensures.mark c.mark-mark.ensures.here c.requires.listed)
-    c.requires.request.0 c.requires.request.1 (g.W.A.Atoms.asked a) (g.W.A.Atoms.asked c.visit.new.atoms)
+    retry_gains m t e at c.request_at-request.result.procedure c.request_at-request.result.first (g.met.W.A.Atoms.fixed_held a)
+    (goal_over e.store c.mark-mark.result at c.mark-mark.ensures.mark c.mark-mark.ensures.here c.listed_at-listed.ensures.holds)
+    c.request_at-request.ensures.0 c.request_at-request.ensures.1 (g.W.A.Atoms.asked a) (g.W.A.Atoms.asked c.visit.new.atoms)
     c.args.purpose c.args.goal (listed_reads c.args.purpose e.store c.args.goal at over is (view_of m t) view)
     c.args.generation c.args.place c.requires.open.listed c.visit.ensures.asked
 
@@ -229,11 +232,11 @@ returns-in-Memory-clause-asked g c =
     let t = g.W.World.told c.args.world.now in
     let e = c.args.search.now in
     let over = goal_over e.store c.mark-mark.result c.args.goal c.mark-mark.ensures.mark c.mark-mark.ensures.here c.requires.goal in
-    let at = c.args.listed in
-    let is = c.requires.stands in
+    let at = c.listed_at-listed.result in
+    let is = c.listed_at-listed.ensures.stands in
     let view = view_is m t (g.met.W.A.Atoms.fixed_held a) (g.met.W.A.Atoms.unlike a) (g.met.W.A.Atoms.finite a) in
-    retry_gains m t e at c.args.request.procedure c.args.request.first (g.met.W.A.Atoms.fixed_held a)
-    (goal_over e.store c.mark-mark.result at c.mark-mark.ensures.mark c.mark-mark.ensures.here c.requires.listed)
-    c.requires.request.0 c.requires.request.1 (g.W.A.Atoms.asked a) (g.W.A.Atoms.asked c.visit.new.atoms)
+    retry_gains m t e at c.request_at-request.result.procedure c.request_at-request.result.first (g.met.W.A.Atoms.fixed_held a)
+    (goal_over e.store c.mark-mark.result at c.mark-mark.ensures.mark c.mark-mark.ensures.here c.listed_at-listed.ensures.holds)
+    c.request_at-request.ensures.0 c.request_at-request.ensures.1 (g.W.A.Atoms.asked a) (g.W.A.Atoms.asked c.visit.new.atoms)
     c.args.purpose c.args.goal (listed_reads c.args.purpose e.store c.args.goal at over is (view_of m t) view)
     c.args.generation c.args.place c.requires.open.listed c.visit.ensures.asked

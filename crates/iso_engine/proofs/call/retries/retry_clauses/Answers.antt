@@ -1,6 +1,7 @@
-use Rattle.std.proofs.Common.{◌≡◌, ◌≤◌, ◌++◌, length, sym, subst, ◌∙◌, append-nil}
+use Rattle.std.proofs.Common.{◌≡◌, ◌≤◌, ◌++◌, ℤ, length, sym, subst, ◌∙◌, append-nil}
 use Rattle.std.specs.Prelude.{IfOk, IsSome, false}
 use Rattle.std.specs.List.{All}
+use Rattle.pl_term.specs.Tree.{int}
 use Rattle.atom_api.specs.Names.{Names}
 use Rattle.term_store.specs.Contents.{Holds, term_at}
 use Rattle.term_store.specs.NumberedNames.{atoms_in}
@@ -11,12 +12,12 @@ use Rattle.world_api.specs.Texts.{Holds as AreHeld}
 use Rattle.world_api.specs.Told.{Told, has_ended}
 use Rattle.world_api.proofs.Gaining.{gains_nothing}
 use Rattle.iso_engine.specs.Unserved.{OnRefusal, UnlessMemory, refusals_in}
+use Rattle.iso_engine.specs.Purposes.{listed_in}
+use Rattle.iso_engine.proofs.Requests.{no_integer}
 use Rattle.iso_engine.proofs.KnownAnswers.{from_there, same_held, where_none}
 use Rattle.iso_search.specs.Choices.{listed_goal, purpose_of}
 use Rattle.iso_search.specs.Reading.{reads}
-use Rattle.iso_engine.specs.CalledGoals.{IsRequest}
 use Rattle.iso_engine.specs.ClausesAsked.{IsRetryAsked}
-use Rattle.iso_engine.specs.Purposes.{listed_in}
 use Rattle.iso_engine.specs.Ready.{MayGoOn}
 use Rattle.iso_engine.specs.Retried.{IsNextRun, IsPutBack}
 use Rattle.iso_engine.specs.Views.{view_of}
@@ -44,8 +45,8 @@ retry_anew-requires-clause-goal g c =
     let none = where_none ((u ≡ t) × (d ≡ e)) c.in_ok-known.known c.in-None.is c.in_ok-known.ensures.none in
     from_there (λ (m : Names) (t : Told) (e : Search). Holds e.store c.args.goal) k m u t d e (sym c.retry_known.ensures.held) (sym none.0) (sym none.1) c.requires.goal
 
-pub retry_anew-requires-clause-listed : goal.retry_anew-requires-clause-listed
-retry_anew-requires-clause-listed g c =
+pub retry_anew-requires-clause-callable : goal.retry_anew-requires-clause-callable
+retry_anew-requires-clause-callable g c =
     let m : Names = g.W.A.Atoms.held c.args.atoms.now in
     let k : Names = g.W.A.Atoms.held c.retry_known.new.atoms in
     let t : Told = g.W.World.told c.args.world.now in
@@ -53,29 +54,8 @@ retry_anew-requires-clause-listed g c =
     let e : Search = c.args.search.now in
     let d : Search = c.retry_known.new.search in
     let none = where_none ((u ≡ t) × (d ≡ e)) c.in_ok-known.known c.in-None.is c.in_ok-known.ensures.none in
-    from_there (λ (m : Names) (t : Told) (e : Search). Holds e.store c.args.listed) k m u t d e (sym c.retry_known.ensures.held) (sym none.0) (sym none.1) c.requires.listed
-
-pub retry_anew-requires-clause-stands : goal.retry_anew-requires-clause-stands
-retry_anew-requires-clause-stands g c =
-    let m : Names = g.W.A.Atoms.held c.args.atoms.now in
-    let k : Names = g.W.A.Atoms.held c.retry_known.new.atoms in
-    let t : Told = g.W.World.told c.args.world.now in
-    let u : Told = g.W.World.told c.retry_known.new.world in
-    let e : Search = c.args.search.now in
-    let d : Search = c.retry_known.new.search in
-    let none = where_none ((u ≡ t) × (d ≡ e)) c.in_ok-known.known c.in-None.is c.in_ok-known.ensures.none in
-    from_there (λ (m : Names) (t : Told) (e : Search). term_at e.store c.args.listed ≡ listed_in c.args.purpose (term_at e.store c.args.goal)) k m u t d e (sym c.retry_known.ensures.held) (sym none.0) (sym none.1) c.requires.stands
-
-pub retry_anew-requires-clause-request : goal.retry_anew-requires-clause-request
-retry_anew-requires-clause-request g c =
-    let m : Names = g.W.A.Atoms.held c.args.atoms.now in
-    let k : Names = g.W.A.Atoms.held c.retry_known.new.atoms in
-    let t : Told = g.W.World.told c.args.world.now in
-    let u : Told = g.W.World.told c.retry_known.new.world in
-    let e : Search = c.args.search.now in
-    let d : Search = c.retry_known.new.search in
-    let none = where_none ((u ≡ t) × (d ≡ e)) c.in_ok-known.known c.in-None.is c.in_ok-known.ensures.none in
-    from_there (λ (m : Names) (t : Told) (e : Search). IsRequest (term_at e.store c.args.listed) c.args.request) k m u t d e (sym c.retry_known.ensures.held) (sym none.0) (sym none.1) c.requires.request
+    from_there (λ (m : Names) (t : Told) (e : Search). (i : ℤ) → listed_in c.args.purpose (term_at e.store c.args.goal) ≡ int i → ⊥) k m u t d e (sym c.retry_known.ensures.held) (sym none.0) (sym none.1)
+    (λ i is. no_integer (term_at e.store c.args.listed) c.args.request c.requires.request i (c.requires.stands ∙ is))
 
 pub retry_anew-requires-clause-next : goal.retry_anew-requires-clause-next
 retry_anew-requires-clause-next g c =
