@@ -10,7 +10,7 @@ ghost use Rattle.term_store.specs.ArgumentKeys.{clause_key, key_atoms};
 ghost use Rattle.term_store.specs.NumberedNames.{names_of, term_by};
 ghost use Rattle.world_api.specs.Answers.{CanVisit};
 ghost use Rattle.world_api.specs.Texts.{text_of};
-ghost use Rattle.world_api.specs.Visits.{visit_names};
+ghost use Rattle.world_api.specs.Visits.{visit_for, visit_names};
 ghost use Rattle.counted_terms.specs.CountedTerms.{said};
 ghost use Rattle.hub_threads.specs.Rows.{status_names};
 ghost use Rattle.hub_threads.specs.Serving.{status_as};
@@ -41,7 +41,7 @@ use std::alloc::Global;
 use std::marker::Model;
 use std::sync::Arc;
 use term_store::{ArgumentKey, Stored};
-use world_api::{Answer, Visit};
+use world_api::{Answer, Asked, Visit};
 
 /// How many slots are swept when an engine is to be lent.
 const SLOTS: u32 = 1024;
@@ -216,6 +216,46 @@ impl<'a, E: Writes + Drop, K: Command> Hub<'a, E, K> {
         self.due = due_after(self.due, &visit);
         self.shared
             .session(alloc, history, atoms, front, engine, visit)
+    }
+
+    /// The same for a visit that asks for the clauses of a call.
+    pub fn listed(
+        &mut self,
+        alloc: Global,
+        history: &History,
+        atoms: &mut TableAtoms<'a, K>,
+        front: &mut Front,
+        engine: u64,
+        asked: &Asked<ArgumentKey>,
+    ) -> Answer<Stored>
+        requires history { history.now ≡ K.history }
+        requires front { IsOwn K.history engine front.old }
+        requires held { All (λ a. IsSome (names (seen atoms.old.seat) a)) (visit_names names_of key_atoms (visit_for asked.now)) }
+        requires begun { IsBegun front.old.seen engine }
+        requires next { CanVisit term_by clause_key (text_of (names (seen atoms.old.seat))) (visit_for asked.now) (told_of K.goals front.old) }
+        ensures { IsVisit K.history K.goals engine (seen atoms.old.seat) (seen atoms.new.seat) (visit_for asked.now) result front.old front.new self.old self.new }
+    {
+        match &asked.after {
+            None => self.shared.call_clauses(
+                alloc,
+                history,
+                atoms,
+                front,
+                engine,
+                asked.procedure,
+                asked.first,
+            ),
+            Some(after) => self.shared.next_clause(
+                history,
+                atoms,
+                front,
+                engine,
+                asked.procedure,
+                asked.first,
+                after.generation,
+                after.place,
+            ),
+        }
     }
 
     /// The front's own engine ends.

@@ -202,23 +202,6 @@ impl<'a, 't, E: Writes + Drop, K: Command, R: Wait, G: Gate> World
     }
 }
 
-// The visit by which this is asked for.
-fn visit_of(asked: &Asked<ArgumentKey>) -> Visit<CountedTerm, ArgumentKey>
-    ensures { result ≡ visit_for asked.now }
-{
-    let procedure = asked.procedure;
-    let first = asked.first;
-    match &asked.after {
-        None => Visit::Call { procedure, first },
-        Some(after) => Visit::Next {
-            procedure,
-            first,
-            generation: after.generation,
-            place: after.place,
-        },
-    }
-}
-
 impl<'a, 't, E: Writes + Drop, K: Command, R: Wait, G: Gate> HubWorld<'a, 't, E, K, R, G> {
     // The visit is answered under the lock.
     #[inline(never)]
@@ -239,6 +222,28 @@ impl<'a, 't, E: Writes + Drop, K: Command, R: Wait, G: Gate> HubWorld<'a, 't, E,
             &mut self.front,
             self.engine,
             visit,
+        )
+    }
+
+    // The clause is found under the lock.
+    #[inline(never)]
+    fn listed(
+        &mut self,
+        asked: &Asked<ArgumentKey>,
+        atoms: &mut TableAtoms<'t, K>,
+    ) -> Answer<Stored>
+        requires held { All (λ a. IsSome (names (seen atoms.old.seat) a)) (visit_names names_of key_atoms (visit_for asked.now)) }
+        requires next { CanVisit term_by clause_key (text_of (names (seen atoms.old.seat))) (visit_for asked.now) (told_of K.goals self.old) }
+        ensures { IsAnswered K.goals (seen atoms.old.seat) (seen atoms.new.seat) (visit_for asked.now) result self.old self.new }
+    {
+        let mut hub = self.hub.lock(self.runtime);
+        hub.listed(
+            self.alloc,
+            self.history,
+            atoms,
+            &mut self.front,
+            self.engine,
+            asked,
         )
     }
 
@@ -270,7 +275,7 @@ impl<'a, 't, E: Writes + Drop, K: Command, R: Wait, G: Gate> HubWorld<'a, 't, E,
         if atoms.is_again(number, self.front.generation()) {
             self.kept(asked, number, atoms)
         } else {
-            self.locked(visit_of(asked), &mut atoms.atoms)
+            self.listed(asked, &mut atoms.atoms)
         }
     }
 
@@ -287,7 +292,7 @@ impl<'a, 't, E: Writes + Drop, K: Command, R: Wait, G: Gate> HubWorld<'a, 't, E,
         requires next { CanVisit term_by clause_key (text_of (names (seen atoms.old.atoms.seat))) (visit_for asked.now) (told_of K.goals self.old) }
         ensures { IsAnswered K.goals (seen atoms.old.atoms.seat) (seen atoms.new.atoms.seat) (visit_for asked.now) result self.old self.new }
     {
-        let answer = self.locked(visit_of(asked), &mut atoms.atoms);
+        let answer = self.listed(asked, &mut atoms.atoms);
         if let Some(found) = found_in(&answer) {
             atoms.keep(
                 self.alloc,

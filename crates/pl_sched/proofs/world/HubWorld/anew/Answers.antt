@@ -8,5 +8,5 @@ invariant_of-atoms g c =
     let a = c.is_again.new.self in
     record {
       here = a.here;
-      sound = all_kept_on g.K.Naming.goals a.front.seen (names (seen a.atoms.seat)) (names (seen c.locked.new.atoms.seat)) c.locked.ensures.holds a.answers.spaces.items a.sound;
+      sound = all_kept_on g.K.Naming.goals a.front.seen (names (seen a.atoms.seat)) (names (seen c.listed.new.atoms.seat)) c.listed.ensures.holds a.answers.spaces.items a.sound;
     }
