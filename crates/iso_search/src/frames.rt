@@ -57,7 +57,8 @@ pub fn put_frame(frames: &mut Vec<Frame>, keep: usize, frame: Frame)
     frames.truncate(keep + 1);
 }
 
-/// The first task of the list, with the list of the others.
+/// The first task of the list, with the list of the others. A goal is read by its parts: where a call has just written them, a copy
+/// of the frame as a whole would wait for all of them.
 #[inline(always)]
 pub fn first_task(frames: &[Frame], list: usize) -> Option<Frame>
     requires { AreLinked frames.now }
@@ -69,5 +70,15 @@ pub fn first_task(frames: &[Frame], list: usize) -> Option<Frame>
     if list > frames.len() {
         return None;
     }
-    Some(frames[list - 1])
+    let continuation = frames[list - 1].continuation;
+    match &frames[list - 1].task {
+        Task::Goal(goal, cut) => Some(Frame {
+            task: Task::Goal(*goal, *cut),
+            continuation,
+        }),
+        other => Some(Frame {
+            task: *other,
+            continuation,
+        }),
+    }
 }
