@@ -1,5 +1,5 @@
 //! The threads and queues.
-ghost use Rattle.std.specs.Prelude.{◌≡◌, ◌↔◌, IsTrue, ℕ, false, ◌≤◌, ◌+◌, Ok, Err, Some, None, IfOk, IfSome, IfNone, OnErr, OnOk, find, vec_len, vec_capacity};
+ghost use Rattle.std.specs.Prelude.{◌≡◌, ◌⊎◌, ◌↔◌, IsTrue, ℕ, false, true, ◌≤◌, ◌+◌, Ok, Err, Some, None, IfOk, IfSome, IfNone, OnErr, OnOk, find, vec_len, vec_capacity};
 ghost use Rattle.std.specs.Result.{MatchResult};
 ghost use Rattle.std.specs.Option.{is_some, option_map};
 ghost use Rattle.pl_term.specs.Variables.{is_in};
@@ -180,6 +180,8 @@ impl<M: Drop> Queues<M> {
     pub fn has_within(&self, first: u64, last: u64) -> bool
         ensures begun { result ≡ false → (m : ℕ) → first ≤ m → m ≤ last → has_number m (thread_numbers self.now.state.threads) ≡ false }
         ensures joined { result ≡ false → (m : ℕ) → first ≤ m → m ≤ last → is_in m self.now.state.joined ≡ false }
+        ensures had { result ≡ true → (m : ℕ) × (first ≤ m) × (m ≤ last)
+            × ((has_number m (thread_numbers self.now.state.threads) ≡ true) ⊎ (is_in m self.now.state.joined ≡ true)) }
     {
         if thread_within(self.threads.as_slice(), first, last) {
             return true;

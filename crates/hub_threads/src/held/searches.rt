@@ -1,5 +1,5 @@
 //! Where a number or a name stands, and how many threads run.
-ghost use Rattle.std.specs.Prelude.{◌≡◌, ◌≤◌, ℕ, bytes_eq, false, filter, find, length};
+ghost use Rattle.std.specs.Prelude.{◌≡◌, ◌≤◌, ℕ, bytes_eq, false, true, filter, find, length};
 ghost use Rattle.pl_term.specs.Variables.{is_in};
 ghost use Rattle.pl_model.specs.Threads.{is_queue, is_thread, is_running};
 ghost use Rattle.hub_threads.specs.Distinct.{has_number};
@@ -104,7 +104,8 @@ fn lies_within(n: u64, first: u64, last: u64) -> bool
 
 /// Whether one of the threads has a number from the first one to the last one.
 pub fn thread_within<M: Drop>(threads: &[Thread<M>], first: u64, last: u64) -> bool
-    ensures { result ≡ false → (m : ℕ) → first ≤ m → m ≤ last → has_number m (thread_numbers threads.now) ≡ false }
+    ensures none { result ≡ false → (m : ℕ) → first ≤ m → m ≤ last → has_number m (thread_numbers threads.now) ≡ false }
+    ensures one { result ≡ true → (m : ℕ) × (first ≤ m) × (m ≤ last) × (has_number m (thread_numbers threads.now) ≡ true) }
 {
     for i in 0..threads.len() {
         if lies_within(threads[i].number, first, last) {
@@ -116,7 +117,8 @@ pub fn thread_within<M: Drop>(threads: &[Thread<M>], first: u64, last: u64) -> b
 
 /// Whether one of the numbers lies from the first one to the last one.
 pub fn number_within(numbers: &[u64], first: u64, last: u64) -> bool
-    ensures { result ≡ false → (m : ℕ) → first ≤ m → m ≤ last → is_in m numbers.now ≡ false }
+    ensures none { result ≡ false → (m : ℕ) → first ≤ m → m ≤ last → is_in m numbers.now ≡ false }
+    ensures one { result ≡ true → (m : ℕ) × (first ≤ m) × (m ≤ last) × (is_in m numbers.now ≡ true) }
 {
     for i in 0..numbers.len() {
         if lies_within(numbers[i], first, last) {
