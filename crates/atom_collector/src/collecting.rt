@@ -1,5 +1,5 @@
 //! The collector of the table of atoms, whose work is done in pieces.
-ghost use Rattle.std.specs.Prelude.{◌≡◌, ◌<◌, ℕ, true};
+ghost use Rattle.std.specs.Prelude.{◌≡◌, ◌<◌, ◌↔◌, IsTrue, ℕ, true};
 ghost use Rattle.atom_words.specs.Layout.{phase_of};
 ghost use Rattle.atom_words.specs.Seats.{seen};
 ghost use Rattle.atom_table.specs.Collecting.{TurnsBy};
@@ -68,9 +68,9 @@ impl<'a, K: NamesTable> TableCollector<'a, K> {
         }
     }
 
-    /// Whether a cycle can begin: no change of rows is at work.
+    /// Whether no change of rows is at work, so that a cycle can begin.
     pub fn is_still(&self) -> bool
-        ensures { result ≡ true → self.now.collector.rows.stage ≡ Still }
+        ensures { IsTrue result ↔ (self.now.collector.rows.stage ≡ Still) }
     {
         self.collector.rows.stage == Stage::Still
     }
