@@ -1,5 +1,5 @@
 -- What a bound variable and a free one stand for.
-use Rattle.std.proofs.Common.{◌≡◌, ℕ, zero, suc, ◌<◌, ◌≤◌, Bool, true, false, cond, ◌==◌, List, [], ◌∷◌, length, get_or, Some, None, refl, sym, ap, subst, ◌∙◌, ◌⊎◌, inl, inr, arith}
+use Rattle.std.proofs.Common.{◌≡◌, ◌≢◌, ℕ, zero, suc, ◌<◌, ◌≤◌, Bool, true, false, cond, ◌==◌, List, [], ◌∷◌, length, get_or, Option, Some, None, refl, sym, ap, subst, ◌∙◌, ◌⊎◌, inl, inr, arith}
 use Rattle.std.specs.List.{All}
 use Rattle.std.proofs.lemmas.Bool.{false≢true, cases_lt}
 use Rattle.std.proofs.lemmas.Bool.Decides.{Decides-eqb}
@@ -9,8 +9,13 @@ use Rattle.pl_model.proofs.UnifyReplace.{eqb_other}
 use Rattle.term_store.specs.declared.words.Word.{Word}
 use Rattle.term_store.specs.declared.words.Word.TheVariants.{Var, Int, Atom, Comp}
 use Rattle.term_store.specs.declared.words.Bond.{Bond}
+use Rattle.term_store.specs.declared.shorts.Short.{Short}
+use Rattle.term_store.specs.declared.shorts.Short.TheVariants.{Free, Slot, Number, Name, Term, Wide}
+use Rattle.term_store.specs.declared.shorts.Beyond.{Beyond}
+use Rattle.term_store.specs.Cells.{IsFree}
 use Rattle.term_store.specs.Heap.{Heap, word_tree, compounds, raw, numbered, equations_of, equations, bindings, meaning, find, named}
-use Rattle.term_store.specs.Fit.{IsWord, IsIn, Below, IsBond, Fit}
+use Rattle.term_store.specs.Fit.{IsWord, IsIn, Below, IsBond, IsCache, Fit}
+use Rattle.term_store.specs.Shorts.{long_word}
 use Rattle.term_store.proofs.Equations.{lookup, follows, unnamed, named-solved}
 
 -- A measure for following bound variables: their slots fall.
@@ -115,3 +120,29 @@ found_bond h i w fit f = go (find-All (IsBond (length h.numbers) (length h.heads
   where
     go : (b : Bond) × IsBond (length h.numbers) (length h.heads) b × (b.slot ≡ i) × (b.word ≡ w) → IsIn h w × Below i w
     go (b, bond, s, e) = (subst (IsWord (length h.numbers) (length h.heads)) e bond.word, subst (λ v. Below i v) e (subst (λ j. Below j b.word) s bond.falls))
+
+-- The measure of a word as it is kept.
+pub rank_short : (bs cs : List Beyond) (s : Short) → rank (long_word bs s) ≡ rank (long_word cs s)
+rank_short bs cs Free = refl
+rank_short bs cs (Slot i) = refl
+rank_short bs cs (Number i) = refl
+rank_short bs cs (Name a) = refl
+rank_short bs cs (Term k) = refl
+rank_short bs cs (Wide k) = refl
+
+-- A word that is kept as no variable.
+pub free_word : (h : Heap) (bs : List Beyond) (s : Short) → ((i : ℕ) → s ≢ Slot i) → IsFree h (long_word bs s)
+free_word h bs Free ne = tt
+free_word h bs (Slot i) ne = absurd (ne i refl)
+free_word h bs (Number i) ne = tt
+free_word h bs (Name a) ne = tt
+free_word h bs (Term k) ne = tt
+free_word h bs (Wide k) ne = tt
+
+-- A bound variable, the word that it is bound to, and the measure.
+pub word_followed : (h : Heap) (values : List (Option Word)) (i : ℕ) (w : Word) → Fit h → IsCache values h → i < length h.numbers → Some w ≡ get_or values i None
+    → (meaning h w ≡ meaning h (Var i)) × IsIn h w × (rank w < suc i)
+word_followed h values i w fit cache inside e =
+    let f : find i h.trail ≡ Some w = sym (e ∙ cache.found i (subst (λ n. i < n) (sym cache.long) inside)) in
+    let b = found_bond h i w fit f in
+    (through h i w fit inside f, b.0, rank-below i w b.1)

@@ -3,6 +3,7 @@ pub mod Apartness
 pub mod Binding
 pub mod Bonding
 pub mod Building
+mod Constants
 pub mod Constructing
 pub mod Copying
 pub mod Entering
@@ -35,6 +36,7 @@ pub mod Resting
 pub mod Settling
 pub mod Shorting
 pub mod Sizing
+pub mod Slicing
 pub mod Spelling
 pub mod Stacking
 pub mod Storing

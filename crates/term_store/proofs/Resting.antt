@@ -1,8 +1,11 @@
 -- The stack of arguments that are still to be made the same.
-use Rattle.std.proofs.Common.{◌≡◌, ℕ, suc, ◌+◌, ◌<◌, ◌≤◌, Bool, true, false, List, [], ◌∷◌, ◌++◌, length, get_or, reverse, take, drop, pos, refl, sym, ap, ap₂, subst, ◌∙◌, arith, append-nil, append_assoc, length-append, length-drop}
+use Rattle.std.proofs.Common.{◌≡◌, ◌≢◌, ◌⊎◌, inl, inr, ℕ, zero, suc, ◌+◌, ◌-◌, ◌<◌, ◌≤◌, ◌==◌, Bool, true, false, cond, List, [], ◌∷◌, ◌++◌, length, get_or, reverse, take, drop, pos, Option, Some, None, Result, Ok, Err, IfOk, refl, sym, ap, ap₂, subst, ◌∙◌, arith, append-nil, append_assoc, length-append, length-drop}
 use Rattle.std.specs.List.{All}
+use Rattle.std.proofs.lemmas.Bool.{false≢true}
+use Rattle.std.proofs.lemmas.Bool.Decides.{Decides-eqb}
 use Rattle.std.proofs.lemmas.List.{drop-append-le, drop_more, take-append-le}
-use Rattle.std.proofs.lemmas.List.Elements.{All-nil, All-head, All-tail, All-push, All-append, All-weaker}
+use Rattle.std.proofs.lemmas.List.Elements.{All-nil, All-head, All-tail, All-push, All-weaker}
+use Rattle.pl_term.specs.Tree.{Tree}
 use Rattle.term_store.specs.declared.words.Word.{Word}
 use Rattle.term_store.specs.declared.words.Word.TheVariants.{Int, Comp}
 use Rattle.term_store.specs.declared.words.Head.{Head}
@@ -10,12 +13,13 @@ use Rattle.term_store.specs.declared.words.Pair.{Pair}
 use Rattle.term_store.specs.declared.words.Rest.{Rest}
 use Rattle.term_store.specs.declared.block.Block.{Block}
 use Rattle.term_store.specs.Blocks.{IsBlock}
-use Rattle.term_store.specs.Entering.{Extends, IsFacing, IsKnown, Never, Turned, Turns, entered}
+use Rattle.term_store.specs.Entering.{Extends, IsFacing, IsKnown, Joins, Never, Turned, Turns, entered}
 use Rattle.term_store.specs.Fit.{Fit, no_head}
 use Rattle.term_store.specs.Heap.{Heap, meaning}
-use Rattle.term_store.specs.Rests.{IsRest, Stepped, Steps, pairs_of, rest_pairs}
+use Rattle.term_store.specs.Rests.{AreRests, IsNext, IsRest, Stepped, Steps, no_rest, pair_at, pairs_of, rest_after, rest_pairs, stacked}
 use Rattle.term_store.specs.Unifying.{zip_words}
-use Rattle.term_store.proofs.Heading.{Reached, left_some, left_within, part_opens, reached_more, right_within}
+use Rattle.term_store.proofs.Heading.{Reached, left_within, part_opens, reached_more, right_within, turns_joined, turns_same}
+use Rattle.term_store.proofs.Occurring.{popped}
 use Rattle.term_store.proofs.Pairing.{reverse-cons}
 
 pub pairs_of-append : (args parts : List Word) (rs ss : List Rest) → pairs_of args parts (rs ++ ss) ≡ pairs_of args parts rs ++ pairs_of args parts ss
@@ -47,10 +51,20 @@ rest_grows : (c d : Heap) (b : Block) → Extends c d → (r : Rest) → IsRest 
 rest_grows c d b g r i =
     let left = i.left in
     record {
-      some = i.some;
       left = omega (arith, ap length (args_grow c d g), length-append c.args g.args);
       right = i.right;
     }
+
+pub rests_grow : (c d : Heap) (b : Block) → Extends c d → (rs : List Rest) (r : Rest) → AreRests c b rs r → AreRests d b rs r
+rests_grow c d b g rs r a =
+    record {
+      some = a.some;
+      stack = All-weaker (IsRest c b) (IsRest d b) (rest_grows c d b g) rs a.stack;
+      hand = rest_grows c d b g r a.hand;
+    }
+
+all_rests : (c : Heap) (b : Block) (rs : List Rest) (r : Rest) → AreRests c b rs r → All (IsRest c b) (rs ++ r ∷ [])
+all_rests c b rs r a = All-push (IsRest c b) rs r a.stack a.hand
 
 -- The first pair of a rest.
 first_off : (n l r : ℕ) (args parts : List Word) → l < length args → r < length parts
@@ -62,122 +76,186 @@ first_off n l r args parts left right =
     ∙ reverse-cons (record { left = get_or args l (Int (pos 0)); right = get_or parts r (Int (pos 0)) })
     (zip_words (take n (drop (l + 1) args)) (take n (drop (r + 1) parts)))
 
-abbrev pub first_pair : List Word → List Word → Rest → Pair
-first_pair args parts r = record { left = get_or args r.left (Int (pos 0)); right = get_or parts r.right (Int (pos 0)) }
+-- The arguments in hand without the first ones.
+pub hand_on : (c : Heap) (b : Block) (rs : List Rest) (r : Rest) → 0 < r.count → AreRests c b rs r → AreRests c b rs (rest_after r)
+hand_on c b rs r some a =
+    let left = a.hand.left in
+    let right = a.hand.right in
+    record { some = a.some; stack = a.stack; hand = record { left = omega arith; right = omega arith } }
 
-abbrev pub rest_of : Rest → ℕ → Rest
-rest_of r n = record { left = r.left + 1; right = r.right + 1; count = n }
-
--- The last rest of the stack without its first pair.
-pub pair_off : (c : Heap) (b : Block) (rs ss : List Rest) (r : Rest) (n : ℕ) → r.count ≡ suc n → IsRest c b r → rs ≡ ss ++ r ∷ []
-    → pairs_of c.args b.args.items rs ≡ (pairs_of c.args b.args.items ss ++ rest_pairs c.args b.args.items (rest_of r n)) ++ first_pair c.args b.args.items r ∷ []
-pair_off c b rs ss r n count i split =
+-- Their first pair is the last one.
+pub hand_off : (c : Heap) (b : Block) (rs : List Rest) (r : Rest) → 0 < r.count → AreRests c b rs r
+    → pairs_of c.args b.args.items (rs ++ r ∷ []) ≡ pairs_of c.args b.args.items (rs ++ rest_after r ∷ []) ++ pair_at c.args b.args.items r ∷ []
+hand_off c b rs r some a =
     let args = c.args in
     let parts = b.args.items in
-    let left = i.left in
-    let right = i.right in
-    ap (pairs_of args parts) split ∙ pairs_of-append args parts ss (r ∷ [])
-    ∙ ap (λ ps. pairs_of args parts ss ++ ps)
+    let left = a.hand.left in
+    let right = a.hand.right in
+    let n = r.count - 1 in
+    let count : r.count ≡ suc n = omega arith in
+    let before = pairs_of args parts rs in
+    let last = pair_at args parts r ∷ [] in
+    pairs_of-append args parts rs (r ∷ [])
+    ∙ ap (λ ps. before ++ ps)
     (append-nil (rest_pairs args parts r)
     ∙ ap (λ k. reverse (zip_words (take k (drop r.left args)) (take k (drop r.right parts)))) count
     ∙ first_off n r.left r.right args parts (omega arith) (omega arith))
-    ∙ sym (append_assoc (pairs_of args parts ss) (rest_pairs args parts (rest_of r n)) (first_pair args parts r ∷ []))
+    ∙ sym (append_assoc before (rest_pairs args parts (rest_after r)) last)
+    ∙ ap (λ ps. ps ++ last)
+    (ap (λ ps. before ++ ps) (sym (append-nil (rest_pairs args parts (rest_after r)))) ∙ sym (pairs_of-append args parts rs (rest_after r ∷ [])))
 
-pub last_off : (c : Heap) (b : Block) (rs ss : List Rest) (r : Rest) → r.count ≡ 1 → IsRest c b r → rs ≡ ss ++ r ∷ []
-    → pairs_of c.args b.args.items rs ≡ pairs_of c.args b.args.items ss ++ first_pair c.args b.args.items r ∷ []
-last_off c b rs ss r count i split =
-    pair_off c b rs ss r 0 count i split
-    ∙ ap (λ ps. ps ++ first_pair c.args b.args.items r ∷ []) (append-nil (pairs_of c.args b.args.items ss))
+-- Arguments that are none.
+none_off : (args parts : List Word) (rs : List Rest) (r : Rest) → r.count ≡ zero → pairs_of args parts (rs ++ r ∷ []) ≡ pairs_of args parts rs
+none_off args parts rs r none =
+    pairs_of-append args parts rs (r ∷ [])
+    ∙ ap (λ k. pairs_of args parts rs ++ (reverse (zip_words (take k (drop r.left args)) (take k (drop r.right parts))) ++ [])) none
+    ∙ append-nil (pairs_of args parts rs)
 
-pub more_off : (c : Heap) (b : Block) (rs ss ts : List Rest) (r : Rest) (n : ℕ) → r.count ≡ suc n → IsRest c b r → rs ≡ ss ++ r ∷ []
-    → ts ≡ ss ++ rest_of r n ∷ []
-    → pairs_of c.args b.args.items rs ≡ pairs_of c.args b.args.items ts ++ first_pair c.args b.args.items r ∷ []
-more_off c b rs ss ts r n count i split again =
-    let args = c.args in
-    let parts = b.args.items in
-    pair_off c b rs ss r n count i split
-    ∙ ap (λ ps. ps ++ first_pair args parts r ∷ [])
-    (ap (λ ps. pairs_of args parts ss ++ ps) (sym (append-nil (rest_pairs args parts (rest_of r n))))
-    ∙ sym (pairs_of-append args parts ss (rest_of r n ∷ [])) ∙ ap (pairs_of args parts) (sym again))
+-- What is in hand and on the stack once the next ones were taken.
+pub record Taken (c : Heap) (b : Block) (rs : List Rest) (r : Rest) (ss : List Rest) (n : Rest) : Type 0 where
+  pub some : 0 < n.count
+  pub kept : AreRests c b ss n
+  pub pairs : pairs_of c.args b.args.items (rs ++ r ∷ []) ≡ pairs_of c.args b.args.items (ss ++ n ∷ [])
 
-pub rest_goes_on : (c : Heap) (b : Block) (r : Rest) (n : ℕ) → r.count ≡ suc n → 0 < n → IsRest c b r → IsRest c b (rest_of r n)
-rest_goes_on c b r n count some i =
-    let left = i.left in
-    let right = i.right in
-    record { some = some; left = omega arith; right = omega arith }
-
--- A word and a part that were made the same leave the stack as it is.
-pub steps_joined : (r : Bool) (b : Block) (c : Heap) (from : ℕ) (known : List Word) (w p : Word) (rs : List Rest) (d : Heap) (after : List Word)
-    → Turns r b c from known w p [] d after [] → Steps r b c from known w p rs d after rs
-steps_joined true b c from known w p rs d after t =
-    record { gained = []; pushed = sym (append-nil rs); inside = All-nil (IsRest d b); turned = t }
-steps_joined false b c from known w p rs d after never = never
-
-pub steps_same : (r : Bool) (b : Block) (c : Heap) (from : ℕ) (known : List Word) (v w p q : Word) (rs : List Rest) (d : Heap) (after : List Word) (ss : List Rest)
-    → ((ps : List Pair) → Turned b c from known v p [] d after ps → Turned b c from known w q [] d after ps)
-    → (Never (meaning c v) (entered b c from known p) → Never (meaning c w) (entered b c from known q))
-    → Steps r b c from known v p rs d after ss → Steps r b c from known w q rs d after ss
-steps_same true b c from known v w p q rs d after ss turned never s =
-    record { gained = s.gained; pushed = s.pushed; inside = s.inside; turned = turned (pairs_of d.args b.args.items s.gained) s.turned }
-steps_same false b c from known v w p q rs d after ss turned never s = never s
-
--- Two compound terms of the same name and number of arguments.
-pub part_steps : (b : Block) (block : IsBlock b) (c : Heap) (fit : Fit c) (from : ℕ) (known : List Word) (l k : ℕ) (inside : l < length c.heads)
-    (part : k < length b.heads.items) (left right : Head) (at_left : left ≡ get_or c.heads l no_head) (at_right : right ≡ get_or b.heads.items k no_head)
-    (rs ss : List Rest) → IsKnown c from known → length known ≤ b.variables → left.name ≡ right.name → left.count ≡ right.count
-    → ss ≡ rs ++ record { left = left.start; right = right.start; count = left.count } ∷ []
-    → Stepped b c from known (Comp l) (Comp k) rs c known ss
-part_steps b block c fit from known l k inside part left right at_left at_right rs ss known_is few names counts e =
-    let r : Rest = record { left = left.start; right = right.start; count = left.count } in
-    let one : IsRest c b r =
+pub taken : (c : Heap) (b : Block) (rs : List Rest) (r : Rest) (ss : List Rest) (n : Rest) → AreRests c b rs r → IsNext (Some n) rs r ss → Taken c b rs r ss n
+taken c b rs r ss n a (inl (some, (hand, stack))) =
     record {
-      some = left_some b block c fit from known l k inside part left right at_left at_right;
-      left = left_within b block c fit from known l k inside part left right at_left at_right;
-      right =
-          subst (λ n. right.start + n ≤ length b.args.items) (sym counts)
-          (right_within b block c fit from known l k inside part left right at_left at_right);
-    } in
+      some = subst (λ (q : Rest). 0 < q.count) (sym hand) some;
+      kept = subst (λ (q : Rest). AreRests c b ss q) (sym hand) (subst (λ xs. AreRests c b xs r) (sym stack) a);
+      pairs = ap₂ (λ xs (q : Rest). pairs_of c.args b.args.items (xs ++ q ∷ [])) (sym stack) (sym hand);
+    }
+taken c b rs r ss n a (inr (none, split)) =
+    let each = popped (λ (s : Rest). 0 < s.count) rs ss n split a.some in
+    let all = popped (IsRest c b) rs ss n split a.stack in
     record {
-      gained = r ∷ [];
-      pushed = e;
-      inside = All-push (IsRest c b) [] r (All-nil (IsRest c b)) one;
-      turned =
-          part_opens b block c fit from known l k inside part left right at_left at_right [] (pairs_of c.args b.args.items (r ∷ [])) known_is few names counts
-          (append-nil (rest_pairs c.args b.args.items r));
+      some = each.1;
+      kept = record { some = each.0; stack = all.0; hand = all.1 };
+      pairs = none_off c.args b.args.items rs r none ∙ ap (pairs_of c.args b.args.items) split;
     }
 
+pub none_taken : (c : Heap) (b : Block) (rs : List Rest) (r : Rest) (ss : List Rest) → IsNext None rs r ss → pairs_of c.args b.args.items (rs ++ r ∷ []) ≡ []
+none_taken c b rs r ss (none, empty) = none_off c.args b.args.items rs r none ∙ ap (pairs_of c.args b.args.items) empty
+
 -- The pairs before the one that was met stand in front of those that it leaves.
-turned_behind : (b : Block) (c : Heap) (from : ℕ) (known : List Word) (w p : Word) (ps : List Pair) (d : Heap) (after : List Word) (qs : List Pair)
-    → Turned b c from known w p [] d after qs → Turned b c from known w p ps d after (ps ++ qs)
-turned_behind b c from known w p ps d after qs t =
+turned_behind : (b : Block) (c : Heap) (from : ℕ) (known : List Word) (w p : Word) (ps : List Pair) (d : Heap) (after : List Word) (qs rs : List Pair)
+    → Turned b c from known w p [] d after qs → rs ≡ ps ++ qs → Turned b c from known w p ps d after rs
+turned_behind b c from known w p ps d after qs rs t e =
     record {
       made = t.made;
       meets = t.meets;
       known_after = t.known_after;
       few = t.few;
       gained = t.gained;
-      pushed = ap (λ xs. ps ++ xs) t.pushed;
+      pushed = e ∙ ap (λ xs. ps ++ xs) t.pushed;
       inside = t.inside;
       comes = t.comes;
     }
 
-pub rests_after : (b : Block) (c : Heap) (from : ℕ) (known : List Word) (w p : Word) (rs : List Rest) (d : Heap) (after : List Word) (ss : List Rest)
-    → All (IsRest c b) rs → Extends c d → Stepped b c from known w p rs d after ss → All (IsRest d b) ss
-rests_after b c from known w p rs d after ss all g s =
-    subst (λ xs. All (IsRest d b) xs) (sym s.pushed)
-    (All-append (IsRest d b) rs s.gained (All-weaker (IsRest c b) (IsRest d b) (rest_grows c d b g) rs all) s.inside)
+-- A word and a part that were made the same leave what is left as it is.
+pub steps_joined : (r : Bool) (b : Block) (c : Heap) (from : ℕ) (known : List Word) (w p : Word) (rs : List Rest) (next : Rest) (d : Heap) (after : List Word)
+    → Turns r b c from known w p [] d after [] → Steps (cond r (Some next) None) b c from known w p rs next d after rs
+steps_joined true b c from known w p rs next d after t =
+    let ps = pairs_of d.args b.args.items (rs ++ next ∷ []) in
+    record { kept = λ a. a; turned = turned_behind b c from known w p ps d after [] ps t (sym (append-nil ps)) }
+steps_joined false b c from known w p rs next d after never = never
 
-pub reached_step : (b : Block) (c : Heap) (from : ℕ) (goal head : Word) (d : Heap) (known : List Word) (rs : List Rest) (next : Pair) (e : Heap)
-    (after : List Word) (ss : List Rest) → Reached b c from goal head d known (pairs_of d.args b.args.items rs ++ next ∷ [])
-    → All (IsFacing d b) (pairs_of d.args b.args.items rs) → All (IsRest d b) rs → Extends d e → Stepped b d from known next.left next.right rs e after ss
-    → Reached b c from goal head e after (pairs_of e.args b.args.items ss)
-reached_step b c from goal head d known rs next e after ss r facing all g s =
+-- The same, as a step that answers what is in hand then.
+pub steps_met : (r : Bool) (q : Option Rest) (b : Block) (c : Heap) (from : ℕ) (known : List Word) (w v : Word) (u : Tree) (p : Word) (rs : List Rest) (next : Rest) (d : Heap)
+    (after : List Word) → q ≡ cond r (Some next) None → length after ≤ b.variables → meaning c v ≡ meaning c w → u ≡ entered b c from known p
+    → Joins r c from known v u d after → Steps q b c from known w p rs next d after rs
+steps_met r q b c from known w v u p rs next d after e few left right j =
+    subst (λ x. Steps x b c from known w p rs next d after rs) (sym e)
+    (steps_joined r b c from known w p rs next d after (turns_joined r b c from known w v u p [] d after (λ _. few) left right j))
+
+pub steps_same : (r : Option Rest) (b : Block) (c : Heap) (from : ℕ) (known : List Word) (v w p q : Word) (rs : List Rest) (next : Rest) (d : Heap) (after : List Word)
+    (ss : List Rest) → meaning c v ≡ meaning c w → p ≡ q → Steps r b c from known v p rs next d after ss → Steps r b c from known w q rs next d after ss
+steps_same (Some r) b c from known v w p q rs next d after ss left right s =
+    record {
+      kept = s.kept;
+      turned =
+          turns_same true b c from known v w p q (pairs_of d.args b.args.items (rs ++ next ∷ [])) d after (pairs_of d.args b.args.items (ss ++ r ∷ [])) left right s.turned;
+    }
+steps_same None b c from known v w p q rs next d after ss left right never = turns_same false b c from known v w p q [] d after [] left right never
+
+pub steps_if : {E : Type 0} (res : Result (Option Rest) E) (b : Block) (c : Heap) (from : ℕ) (known : List Word) (v w p q : Word) (rs : List Rest) (next : Rest)
+    (d : Heap) (after : List Word) (ss : List Rest) → meaning c v ≡ meaning c w → p ≡ q → IfOk res (λ r. Steps r b c from known v p rs next d after ss)
+    → IfOk res (λ r. Steps r b c from known w q rs next d after ss)
+steps_if (Ok r) b c from known v w p q rs next d after ss left right s = steps_same r b c from known v w p q rs next d after ss left right s
+steps_if (Err e) b c from known v w p q rs next d after ss left right s = tt
+
+-- The same, of a step that does not look at what stands for the clause's variables.
+pub steps_if_any : {E : Type 0} (res : Result (Option Rest) E) (b : Block) (c : Heap) (from : ℕ) (known : List Word) (v w p q : Word) (rs : List Rest) (next : Rest)
+    (d : Heap) (ss : List Rest) → meaning c v ≡ meaning c w → p ≡ q → IsKnown c from known → length known ≤ b.variables
+    → IfOk res (λ r. (i : ℕ) (ks : List Word) → IsKnown c i ks → length ks ≤ b.variables → Steps r b c i ks v p rs next d ks ss)
+    → IfOk res (λ r. Steps r b c from known w q rs next d known ss)
+steps_if_any (Ok r) b c from known v w p q rs next d ss left right known_is few s =
+    steps_same r b c from known v w p q rs next d known ss left right (s from known known_is few)
+steps_if_any (Err e) b c from known v w p q rs next d ss left right known_is few s = tt
+
+-- The stack with what was in hand.
+stacked_pairs : (args parts : List Word) (rs : List Rest) (r : Rest) → pairs_of args parts (stacked rs r) ≡ pairs_of args parts (rs ++ r ∷ [])
+stacked_pairs args parts rs r = go (r.count == zero) refl
+  where
+    go : (q : Bool) → (r.count == zero) ≡ q → pairs_of args parts (cond q rs (rs ++ r ∷ [])) ≡ pairs_of args parts (rs ++ r ∷ [])
+    go true e = sym (none_off args parts rs r ((Decides-eqb r.count zero).0 e))
+    go false e = refl
+
+stacked_rests : (c : Heap) (b : Block) (rs : List Rest) (next r : Rest) → AreRests c b rs next → IsRest c b r → AreRests c b (stacked rs next) r
+stacked_rests c b rs next r a i = go (next.count == zero) refl
+  where
+    go : (q : Bool) → (next.count == zero) ≡ q → AreRests c b (cond q rs (rs ++ next ∷ [])) r
+    go true e = record { some = a.some; stack = a.stack; hand = i }
+    go false e =
+        let ne : next.count ≢ zero = λ k. false≢true (sym e ∙ (Decides-eqb next.count zero).1 k) in
+        record {
+          some = All-push (λ (s : Rest). 0 < s.count) rs next a.some (omega arith);
+          stack = All-push (IsRest c b) rs next a.stack a.hand;
+          hand = i;
+        }
+
+-- Two compound terms of the same name and number of arguments.
+pub part_steps : (b : Block) (block : IsBlock b) (c : Heap) (fit : Fit c) (from : ℕ) (known : List Word) (l k : ℕ) (inside : l < length c.heads)
+    (part : k < length b.heads.items) (left right : Head) (at_left : left ≡ get_or c.heads l no_head) (at_right : right ≡ get_or b.heads.items k no_head)
+    (rs : List Rest) (next : Rest) (ss : List Rest) → IsKnown c from known → length known ≤ b.variables → left.name ≡ right.name → left.count ≡ right.count
+    → ss ≡ stacked rs next
+    → Stepped b c from known (Comp l) (Comp k) rs next c known ss (record { left = left.start; right = right.start; count = left.count })
+part_steps b block c fit from known l k inside part left right at_left at_right rs next ss known_is few names counts e =
+    let r : Rest = record { left = left.start; right = right.start; count = left.count } in
+    let args = c.args in
     let parts = b.args.items in
-    let before = pairs_of d.args parts rs in
-    let more = pairs_of e.args parts s.gained in
-    let same : before ++ more ≡ pairs_of e.args parts ss =
-    ap (λ ps. ps ++ more) (sym (ap (λ xs. pairs_of xs parts rs) (args_grow d e g) ∙ pairs_stay d b g.args rs all))
-    ∙ sym (pairs_of-append e.args parts rs s.gained) ∙ ap (pairs_of e.args parts) (sym s.pushed) in
-    subst (λ ps. Reached b c from goal head e after ps) same
-    (reached_more b c from goal head d known before (before ++ next ∷ []) next e after (before ++ more) r refl facing
-    (turned_behind b d from known next.left next.right before e after more s.turned))
+    let one : IsRest c b r =
+    record {
+      left = left_within b block c fit from known l k inside part left right at_left at_right;
+      right =
+          subst (λ n. right.start + n ≤ length b.args.items) (sym counts)
+          (right_within b block c fit from known l k inside part left right at_left at_right);
+    } in
+    record {
+      kept = λ a. subst (λ xs. AreRests c b xs r) (sym e) (stacked_rests c b rs next r a one);
+      turned =
+          part_opens b block c fit from known l k inside part left right at_left at_right (pairs_of args parts (rs ++ next ∷ []))
+          (pairs_of args parts (ss ++ r ∷ [])) known_is few names counts
+          (ap (λ xs. pairs_of args parts (xs ++ r ∷ [])) e ∙ pairs_of-append args parts (stacked rs next) (r ∷ [])
+          ∙ ap₂ (λ ps qs. ps ++ qs) (stacked_pairs args parts rs next) (append-nil (rest_pairs args parts r)));
+    }
+
+pub reached_step : (b : Block) (c : Heap) (from : ℕ) (goal head : Word) (d : Heap) (known : List Word) (rs : List Rest) (next : Rest) (p : Pair) (e : Heap)
+    (after : List Word) (ss : List Rest) (r : Rest) → Reached b c from goal head d known (pairs_of d.args b.args.items (rs ++ next ∷ []) ++ p ∷ [])
+    → AreRests d b rs next → Extends d e → Stepped b d from known p.left p.right rs next e after ss r
+    → Reached b c from goal head e after (pairs_of e.args b.args.items (ss ++ r ∷ []))
+reached_step b c from goal head d known rs next p e after ss r reached a g s =
+    let parts = b.args.items in
+    let before = pairs_of d.args parts (rs ++ next ∷ []) in
+    let same : pairs_of e.args parts (rs ++ next ∷ []) ≡ before =
+    ap (λ xs. pairs_of xs parts (rs ++ next ∷ [])) (args_grow d e g) ∙ pairs_stay d b g.args (rs ++ next ∷ []) (all_rests d b rs next a) in
+    let left = pairs_of e.args parts (ss ++ r ∷ []) in
+    reached_more b c from goal head d known before (before ++ p ∷ []) p e after left reached refl (popped (IsFacing d b) (before ++ p ∷ []) before p refl reached.facing).0
+    (subst (λ ps. Turned b d from known p.left p.right ps e after left) same s.turned)
+
+pub rests_after : (b : Block) (c : Heap) (from : ℕ) (known : List Word) (w p : Word) (rs : List Rest) (next : Rest) (d : Heap) (after : List Word) (ss : List Rest) (r : Rest)
+    → AreRests c b rs next → Extends c d → Stepped b c from known w p rs next d after ss r → AreRests d b ss r
+rests_after b c from known w p rs next d after ss r a g s = s.kept (rests_grow c d b g rs next a)
+
+pub no_rests : (c : Heap) (b : Block) → AreRests c b [] no_rest
+no_rests c b =
+    record { some = All-nil (λ (s : Rest). 0 < s.count); stack = All-nil (IsRest c b); hand = record { left = omega arith; right = omega arith } }

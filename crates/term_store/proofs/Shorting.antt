@@ -10,7 +10,7 @@ use Rattle.term_store.specs.declared.words.Word.TheVariants.{Int}
 use Rattle.term_store.specs.declared.shorts.Short.{Short}
 use Rattle.term_store.specs.declared.shorts.Short.TheVariants.{Free, Slot, Number, Name, Term, Wide}
 use Rattle.term_store.specs.declared.shorts.Beyond.{Beyond}
-use Rattle.term_store.specs.Shorts.{AreOwn, IsOwn, Stays, StaysBelow, StaysBut, long_word, no_beyond, value_word}
+use Rattle.term_store.specs.Shorts.{AreOwn, IsOwn, IsPlain, IsShort, Stays, StaysBelow, StaysBut, long_word, no_beyond, value_word}
 
 abbrev no_short : Short
 no_short = Number (pos 0)
@@ -188,3 +188,71 @@ values_taken bs ss n own = (own_taken bs ss n own, sym (take-map (value_word bs)
 
 pub inside_values : (bs : List Beyond) (ss : List Short) (vs : List (Option Word)) (i : ℕ) → map (value_word bs) ss ≡ vs → i < length vs → i < length ss
 inside_values bs ss vs i e lt = subst (λ n. i < n) (ap length (sym e) ∙ length-map ss (value_word bs)) lt
+
+-- A short word that is no integer beyond 32 bits stands for one word whatever integers there are.
+pub plain_own : (bs : List Beyond) (at : ℕ) (s : Short) → IsPlain s → IsOwn bs at s
+plain_own bs at Free plain = tt
+plain_own bs at (Slot i) plain = tt
+plain_own bs at (Number i) plain = tt
+plain_own bs at (Name a) plain = tt
+plain_own bs at (Term k) plain = tt
+plain_own bs at (Wide k) plain = absurd plain
+
+pub plain_same : (bs cs : List Beyond) (s : Short) → IsPlain s → long_word bs s ≡ long_word cs s
+plain_same bs cs Free plain = refl
+plain_same bs cs (Slot i) plain = refl
+plain_same bs cs (Number i) plain = refl
+plain_same bs cs (Name a) plain = refl
+plain_same bs cs (Term k) plain = refl
+plain_same bs cs (Wide k) plain = absurd plain
+
+stays_same : (bs : List Beyond) → Stays bs bs
+stays_same bs k lt = (lt, refl)
+
+-- One more word, which is no integer beyond 32 bits.
+pub plain_pushed : (bs : List Beyond) (ss : List Short) (s : Short) (w : Word) → AreOwn bs ss → IsPlain s → long_word bs s ≡ w
+    → AreOwn bs (ss ++ s ∷ []) × (map (long_word bs) (ss ++ s ∷ []) ≡ map (long_word bs) ss ++ w ∷ [])
+plain_pushed bs ss s w own plain means = words_pushed bs bs ss s w own (stays_same bs) (plain_own bs (length ss) s plain) means
+
+-- The word at a place of a list.
+pub word_of_short : (bs : List Beyond) (ss : List Short) (ws : List Word) (i : ℕ) → map (long_word bs) ss ≡ ws → i < length ws
+    → get_or ws i (Int (pos 0)) ≡ long_word bs (get_or ss i no_short)
+word_of_short bs ss ws i e lt =
+    sym (ap (λ (vs : List Word). get_or vs i (Int (pos 0))) e)
+    ∙ get_or-map (long_word bs) ss i no_short (Int (pos 0)) (subst (λ n. i < n) (ap length (sym e) ∙ length-map ss (long_word bs)) lt)
+
+pub plain_value : (bs cs : List Beyond) (s : Short) → IsPlain s → value_word bs s ≡ value_word cs s
+plain_value bs cs Free plain = refl
+plain_value bs cs (Slot i) plain = refl
+plain_value bs cs (Number i) plain = refl
+plain_value bs cs (Name a) plain = refl
+plain_value bs cs (Term k) plain = refl
+plain_value bs cs (Wide k) plain = absurd plain
+
+pub value_of_short : (bs : List Beyond) (ss : List Short) (vs : List (Option Word)) (i : ℕ) → map (value_word bs) ss ≡ vs → i < length vs
+    → get_or vs i None ≡ value_word bs (get_or ss i no_short)
+value_of_short bs ss vs i e lt =
+    sym (ap (λ (us : List (Option Word)). get_or us i None) e)
+    ∙ get_or-map (value_word bs) ss i no_short None (inside_values bs ss vs i e lt)
+
+-- One place is written with a word that is no integer beyond 32 bits.
+pub values_plain : (bs : List Beyond) (ss : List Short) (i : ℕ) (s : Short) (w : Option Word) → AreOwn bs ss → i < length ss → IsPlain s → value_word bs s ≡ w
+    → AreOwn bs (set ss i s) × (map (value_word bs) (set ss i s) ≡ set (map (value_word bs) ss) i w)
+values_plain bs ss i s w own inside plain means =
+    values_set bs bs ss i s w own inside (λ j ne k lt _. (lt, refl)) (plain_own bs i s plain) means
+
+-- What a short word stands for that is no integer beyond 32 bits.
+pub plain_word : (s : Short) (w : Word) → IsPlain s → IsShort s w → long_word [] s ≡ w
+plain_word s w plain k = plain_same [] k.beyond s plain ∙ k.is
+
+pub word_is : (s t : Short) (w : Word) → IsPlain t → s ≡ t → IsShort s w → w ≡ long_word [] t
+word_is s t w plain e k = sym k.is ∙ ap (long_word k.beyond) e ∙ plain_same k.beyond [] t plain
+
+-- A short word that stands for some word, if it is not the one for none.
+pub some_word : (bs : List Beyond) (s : Short) → s ≢ Free → value_word bs s ≡ Some (long_word bs s)
+some_word bs Free ne = absurd (ne refl)
+some_word bs (Slot i) ne = refl
+some_word bs (Number i) ne = refl
+some_word bs (Name a) ne = refl
+some_word bs (Term k) ne = refl
+some_word bs (Wide k) ne = refl

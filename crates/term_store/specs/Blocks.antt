@@ -59,12 +59,6 @@ pub record IsBlock (b : Block) : Type 0 where
   pub long : length b.ranges.items ≡ length b.heads.items
   pub ranges : AreRanges b.variables b.heads.items b.args.items (length b.heads.items) b.ranges.items
 
--- The block is that of a term with so many variables.
-pub record IsBlockOf (n : ℕ) (t : Tree) (b : Block) : Type 0 where
-  pub is : IsBlock b
-  pub count : b.variables ≡ n
-  pub means : part_of b b.root ≡ t
-
 -- A word of a block as it stands in a store, where words of the store stand for the block's variables, and the block's compound
 -- terms from `low` on stand from `above` on.
 abbrev pub copied : List Word → ℕ → ℕ → Word → Word

@@ -13,7 +13,7 @@ use Rattle.term_store.specs.declared.words.Pair.{Pair}
 use Rattle.term_store.specs.declared.words.Place.{Place}
 use Rattle.term_store.specs.declared.block.Block.{Block}
 use Rattle.term_store.specs.ArgumentKeys.{head_in}
-use Rattle.term_store.specs.Blocks.{block_heap, no_range, part_of}
+use Rattle.term_store.specs.Blocks.{IsBlock, block_heap, no_range, part_of}
 use Rattle.term_store.specs.Contents.{Contents, Holds, term_at}
 use Rattle.term_store.specs.Fit.{IsIn}
 use Rattle.term_store.specs.Heap.{Heap, atom_name, meaning, numbered}
@@ -68,6 +68,13 @@ pub record Joined (c : Heap) (from : ℕ) (known : List Word) (w : Word) (u : Tr
   pub meets : Meets c from known made d after
   pub known_after : IsKnown d from after
   pub comes : (ts us : Trees) → Comes (more (meaning c w) ts) (more u us) made (bound_all made ts) (bound_all made us)
+
+-- The first variable that was not met stands for what a word of the heap stands for.
+pub record MetFirst (c : Heap) (known : List Word) (w : Word) (after : List Word) : Type 0 where
+  pub word : Word
+  pub known_after : after ≡ known ++ word ∷ []
+  pub means : meaning c word ≡ meaning c w
+  pub inside : IsIn c word
 
 abbrev pub Joins : Bool → Heap → ℕ → List Word → Word → Tree → Heap → List Word → Type 0
 Joins true c from known w u d after = Joined c from known w u d after
@@ -145,6 +152,13 @@ pub record IsParts (b : Block) (head body : Word) : Type 0 where
   pub body_in_block : IsIn (block_heap b) body
   pub head_is : part_of b head ≡ head_in (part_of b b.root)
   pub body_is : part_of b body ≡ body_in (part_of b b.root)
+
+-- The block is that of a term with so many variables, and names its head and its body.
+pub record IsBlockOf (n : ℕ) (t : Tree) (b : Block) : Type 0 where
+  pub is : IsBlock b
+  pub parts : IsParts b b.head b.body
+  pub count : b.variables ≡ n
+  pub means : part_of b b.root ≡ t
 
 -- The clause of the block was entered, and its body stands for the word; or nothing unifies its head with the goal.
 pub record BodyEntered (b : Block) (c : Heap) (from : ℕ) (goal : Word) (body : Word) (d : Heap) : Type 0 where

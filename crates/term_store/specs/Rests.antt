@@ -1,7 +1,8 @@
 -- Arguments of two compound terms that are still to be made the same.
-use Rattle.std.specs.Prelude.{◌≡◌, ℕ, ◌+◌, ◌<◌, ◌≤◌, Bool, true, false, List, [], ◌∷◌, ◌++◌, length, reverse, take, drop}
+use Rattle.std.specs.Prelude.{◌≡◌, ◌⊎◌, ℕ, zero, ◌+◌, ◌-◌, ◌<◌, ◌≤◌, ◌==◌, List, [], ◌∷◌, ◌++◌, length, reverse, take, drop, pos, slice_index_or, Option, Some, None, if◌then◌else◌}
 use Rattle.std.specs.List.{All}
 use Rattle.term_store.specs.declared.words.Word.{Word}
+use Rattle.term_store.specs.declared.words.Word.TheVariants.{Int}
 use Rattle.term_store.specs.declared.words.Pair.{Pair}
 use Rattle.term_store.specs.declared.words.Rest.{Rest}
 use Rattle.term_store.specs.declared.block.Block.{Block}
@@ -17,19 +18,48 @@ abbrev pub pairs_of : List Word → List Word → List Rest → List Pair
 pairs_of args parts [] = []
 pairs_of args parts (r ∷ rs) = rest_pairs args parts r ++ pairs_of args parts rs
 
--- There are some, which are arguments of the heap and of the block.
+-- The words where they begin.
+abbrev pub pair_at : List Word → List Word → Rest → Pair
+pair_at args parts r = record { left = slice_index_or args r.left (Int (pos 0)); right = slice_index_or parts r.right (Int (pos 0)) }
+
+-- Those behind the first ones.
+abbrev pub rest_after : Rest → Rest
+rest_after r = record { left = r.left + 1; right = r.right + 1; count = r.count - 1 }
+
+abbrev pub no_rest : Rest
+no_rest = record { left = zero; right = zero; count = zero }
+
+-- They are arguments of the heap and of the block.
 pub record IsRest (c : Heap) (b : Block) (r : Rest) : Type 0 where
-  pub some : 0 < r.count
   pub left : r.left + r.count ≤ length c.args
   pub right : r.right + r.count ≤ length b.args.items
 
--- A word of the heap and one of the block were made the same, or their arguments are still to be, which were put on the stack.
-pub record Stepped (b : Block) (c : Heap) (from : ℕ) (known : List Word) (w p : Word) (rs : List Rest) (d : Heap) (after : List Word) (ss : List Rest) : Type 0 where
-  pub gained : List Rest
-  pub pushed : ss ≡ rs ++ gained
-  pub inside : All (IsRest d b) gained
-  pub turned : Turned b c from known w p [] d after (pairs_of d.args b.args.items gained)
+-- Those on the stack, which are some each, and those in hand.
+pub record AreRests (c : Heap) (b : Block) (rs : List Rest) (r : Rest) : Type 0 where
+  pub some : All (λ s. 0 < s.count) rs
+  pub stack : All (IsRest c b) rs
+  pub hand : IsRest c b r
 
-abbrev pub Steps : Bool → Block → Heap → ℕ → List Word → Word → Word → List Rest → Heap → List Word → List Rest → Type 0
-Steps true b c from known w p rs d after ss = Stepped b c from known w p rs d after ss
-Steps false b c from known w p rs d after ss = Never (meaning c w) (entered b c from known p)
+-- The stack with those that were in hand, if they are some.
+abbrev pub stacked : List Rest → Rest → List Rest
+stacked rs r = if r.count == zero then rs else rs ++ r ∷ []
+
+-- What comes next: those in hand, or the last ones of the stack if those in hand are none; or nothing is left.
+abbrev pub IsNext : Option Rest → List Rest → Rest → List Rest → Type 0
+IsNext (Some n) rs r ss = ((0 < r.count) × ((n ≡ r) × (ss ≡ rs))) ⊎ ((r.count ≡ zero) × (rs ≡ ss ++ n ∷ []))
+IsNext None rs r ss = (r.count ≡ zero) × (rs ≡ [])
+
+-- A word of the heap and one of the block were made the same, or their arguments are still to be, which were taken in hand then, and
+-- what was to come next was put on the stack.
+pub record Stepped (b : Block) (c : Heap) (from : ℕ) (known : List Word) (w p : Word) (rs : List Rest) (next : Rest) (d : Heap) (after : List Word) (ss : List Rest) (r : Rest) : Type 0 where
+  pub kept : AreRests d b rs next → AreRests d b ss r
+  pub turned : Turned b c from known w p (pairs_of d.args b.args.items (rs ++ next ∷ [])) d after (pairs_of d.args b.args.items (ss ++ r ∷ []))
+
+abbrev pub Steps : Option Rest → Block → Heap → ℕ → List Word → Word → Word → List Rest → Rest → Heap → List Word → List Rest → Type 0
+Steps (Some r) b c from known w p rs next d after ss = Stepped b c from known w p rs next d after ss r
+Steps None b c from known w p rs next d after ss = Never (meaning c w) (entered b c from known p)
+
+-- The same of the words where arguments in hand begin.
+abbrev pub StepsAt : Option Rest → Block → Heap → ℕ → List Word → List Rest → Rest → Heap → List Word → List Rest → Type 0
+StepsAt q b c from known rs r d after ss =
+    Steps q b c from known (pair_at c.args b.args.items r).left (pair_at c.args b.args.items r).right rs (rest_after r) d after ss

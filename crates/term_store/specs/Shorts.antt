@@ -33,6 +33,25 @@ value_word bs (Name a) = Some (Atom a)
 value_word bs (Term k) = Some (Comp k)
 value_word bs (Wide k) = Some (Int (slice_index_or bs k no_beyond).value)
 
+-- The short word is no integer beyond 32 bits.
+abbrev pub IsPlain : Short → Type 0
+IsPlain Free = Unit {0}
+IsPlain (Slot i) = Unit {0}
+IsPlain (Number i) = Unit {0}
+IsPlain (Name a) = Unit {0}
+IsPlain (Term k) = Unit {0}
+IsPlain (Wide k) = ⊥
+
+-- The short word stands for the word, with some list of integers beyond 32 bits.
+pub record IsShort (s : Short) (w : Word) : Type 0 where
+  pub beyond : List Beyond
+  pub is : long_word beyond s ≡ w
+
+-- The same of a word that may be none.
+pub record IsShortValue (s : Short) (v : Option Word) : Type 0 where
+  pub beyond : List Beyond
+  pub is : value_word beyond s ≡ v
+
 -- An integer beyond 32 bits belongs to the word at this place.
 abbrev pub IsOwn : List Beyond → ℕ → Short → Type 0
 IsOwn bs at Free = Unit {0}

@@ -3,7 +3,8 @@ ghost use Rattle.std.specs.Prelude.{◌≡◌, ℕ, ◌+◌, ◌<◌, ◌≤◌,
 ghost use Rattle.std.specs.List.{All};
 ghost use Rattle.pl_term.specs.Nodes.{tree};
 ghost use Rattle.pl_term.specs.Variables.{rename_by};
-ghost use Rattle.term_store.specs.Blocks.{AreRanges, IsBlock, IsBlockOf, IsPart, IsRange, Tiles, arguments_of};
+ghost use Rattle.term_store.specs.Blocks.{AreRanges, IsBlock, IsPart, IsRange, Tiles, arguments_of};
+ghost use Rattle.term_store.specs.Entering.{IsBlockOf, IsParts};
 ghost use Rattle.term_store.specs.Fit.{IsHead, IsWord, no_head};
 ghost use Rattle.term_store.specs.Heap.{words_of};
 ghost use Rattle.term_store.specs.Nodes.{IsNodeBelow, IsSpelled, node_views};
@@ -13,6 +14,7 @@ use crate::load::load;
 use crate::nodes::AtomNode;
 use crate::shorts::Words;
 use crate::words::{Head, Word};
+use atom_api::fixed;
 use pl_term::Memory;
 use std::alloc::Global;
 
@@ -23,8 +25,10 @@ use std::alloc::Global;
 pub struct Block {
     pub variables: u64,
     pub heads: Vec<Head>,
-    pub args: Vec<Word>,
+    pub args: Words,
     pub root: Word,
+    pub head: Word,
+    pub body: Word,
     pub ranges: Vec<Range>,
 }
 
@@ -44,41 +48,55 @@ pub fn block_of(alloc: Global, nodes: &[AtomNode], variables: u64) -> Result<Blo
     let mut cells = Cells::new(alloc);
     let mut stack = Vec::new(alloc);
     let root = load(&mut cells, &mut stack, nodes, variables, 0)?;
-    let args = all_words(alloc, &cells.args)?;
-    let ranges = ranges_of(alloc, &cells.heads, &args, variables)?;
+    let ranges = ranges_of(alloc, &cells.heads, &cells.args, variables)?;
     let Cells {
         heads,
-        args: _,
+        args,
         numbers: _,
         bonds: _,
         grounds: _,
         settled: _,
     } = cells;
-    Ok(Block {
+    let mut block = Block {
         variables,
         heads,
         args,
         root,
+        head: root,
+        body: root,
         ranges,
-    })
+    };
+    let parts = parts_of(&block);
+    block.head = parts.0;
+    block.body = parts.1;
+    Ok(block)
 }
 
-/// The words of a list. The only error is out of memory.
-fn all_words(alloc: Global, words: &Words) -> Result<Vec<Word>, Memory>
-    ensures { IfOk result (λ v. v.items ≡ words.now.items) }
+/// The words of the head and of the body of a clause. The body of a fact is `true`.
+fn parts_of(block: &Block) -> (Word, Word)
+    requires { IsBlock block.now }
+    ensures { IsParts block.now result.0 result.1 }
 {
-    let mut all = Vec::new(alloc);
-    for i in 0..words.len() {
-        all.push(words.get(i))?;
+    let fact = (block.root, Word::Atom(fixed::TRUE.slot()));
+    let Word::Comp(k) = block.root else {
+        return fact;
+    };
+    let head = block_head(block, k);
+    if head.name == fixed::NECK.slot() && head.count == 2 {
+        (
+            block_word(block, head.start as usize),
+            block_word(block, head.start as usize + 1),
+        )
+    } else {
+        fact
     }
-    Ok(all)
 }
 
 /// What stands below each compound term of a block with so many variables. The only error is out of memory.
-fn ranges_of(alloc: Global, heads: &[Head], args: &[Word], count: u64) -> Result<Vec<Range>, Memory>
-    requires { (k : ℕ) → k < length heads.now → IsHead count args.now k (slice_index_or heads.now k no_head) }
+fn ranges_of(alloc: Global, heads: &[Head], args: &Words, count: u64) -> Result<Vec<Range>, Memory>
+    requires { (k : ℕ) → k < length heads.now → IsHead count args.now.items k (slice_index_or heads.now k no_head) }
     ensures long { IfOk result (λ rs. length rs.items ≡ length heads.now) }
-    ensures ranges { IfOk result (λ rs. AreRanges count heads.now args.now (length heads.now) rs.items) }
+    ensures ranges { IfOk result (λ rs. AreRanges count heads.now args.now.items (length heads.now) rs.items) }
 {
     let mut all = Vec::new(alloc);
     let mut before = Vec::new(alloc);
@@ -92,15 +110,15 @@ fn ranges_of(alloc: Global, heads: &[Head], args: &[Word], count: u64) -> Result
 
 /// What stands below the compound term at a place, where `before` has ranges for all those before it. The ranges of those that
 /// stand below it are taken off.
-fn range_at(heads: &[Head], args: &[Word], before: &mut Vec<Range>, k: usize, count: u64) -> Range
-    requires heads { (j : ℕ) → j < length heads.now → IsHead count args.now j (slice_index_or heads.now j no_head) }
+fn range_at(heads: &[Head], args: &Words, before: &mut Vec<Range>, k: usize, count: u64) -> Range
+    requires heads { (j : ℕ) → j < length heads.now → IsHead count args.now.items j (slice_index_or heads.now j no_head) }
     requires within { k < length heads.now }
-    requires tiles { Tiles count heads.now args.now 0 before.old.items k }
-    ensures range { IsRange count heads.now args.now k result }
-    ensures tiles { Tiles count heads.now args.now 0 (before.new.items ++ result ∷ []) (k + 1) }
+    requires tiles { Tiles count heads.now args.now.items 0 before.old.items k }
+    ensures range { IsRange count heads.now args.now.items k result }
+    ensures tiles { Tiles count heads.now args.now.items 0 (before.new.items ++ result ∷ []) (k + 1) }
 {
     let head = heads[k];
-    let own = own_range(words_at(args, head), k, count);
+    let own = own_range(args, head, k, count);
     let mut range = Range {
         low: k,
         variables: own.variables,
@@ -112,14 +130,6 @@ fn range_at(heads: &[Head], args: &[Word], before: &mut Vec<Range>, k: usize, co
         range = joined(last, range);
     }
     range
-}
-
-/// The arguments of a compound term.
-fn words_at(args: &[Word], head: Head) -> &[Word]
-    requires { head.start + head.count ≤ length args.now }
-    ensures { result.now ≡ words_of args.now head }
-{
-    &args[head.start as usize..head.start as usize + head.count as usize]
 }
 
 /// The head of a compound term of the block.
@@ -135,16 +145,7 @@ pub fn block_word(block: &Block, at: usize) -> Word
     requires { at < length block.now.args.items }
     ensures { result ≡ slice_index_or block.now.args.items at (Word.Int (pos 0)) }
 {
-    block.args[at]
-}
-
-/// The arguments of a compound term of the block.
-pub fn block_words(block: &Block, k: usize) -> &[Word]
-    requires block { IsBlock block.now }
-    requires inside { k < length block.now.heads.items }
-    ensures { result.now ≡ arguments_of block.now k }
-{
-    words_at(&block.args, block_head(block, k))
+    block.args.get(at)
 }
 
 /// The range of what is in two that stand one after the other.
@@ -165,18 +166,20 @@ fn joined(first: Range, second: Range) -> Range
 }
 
 /// What the arguments of the compound term at a place name.
-fn own_range(words: &[Word], k: usize, count: u64) -> Range
-    requires { All (IsWord count k) words.now }
+fn own_range(args: &Words, head: Head, k: usize, count: u64) -> Range
+    requires within { head.start + head.count ≤ length args.now.items }
+    requires words { All (IsWord count k) (words_of args.now.items head) }
     ensures low { result.low ≤ k }
     ensures few { result.variables ≤ count }
-    ensures parts { All (IsPart result) words.now }
+    ensures parts { All (IsPart result) (words_of args.now.items head) }
 {
     let mut range = Range {
         low: k,
         variables: 0,
     };
-    for word in words {
-        range = with_word(range, *word, k, count);
+    for i in 0..head.count {
+        let word = args.get(head.start as usize + i as usize);
+        range = with_word(range, word, k, count);
     }
     range
 }

@@ -3,9 +3,9 @@ ghost use Rattle.std.specs.Prelude.{◌≡◌, ◌<◌, ◌≤◌, ◌++◌, ◌
 ghost use Rattle.std.specs.List.{All};
 ghost use Rattle.term_store.specs.Fit.{OnceFrom};
 ghost use Rattle.term_store.specs.Heap.{find};
-ghost use Rattle.term_store.specs.Shorts.{last_bond, no_bond};
+ghost use Rattle.term_store.specs.Shorts.{IsPlain, IsShortValue, last_bond, long_word, no_bond, value_word};
 
-use crate::shorts::short_index;
+use crate::shorts::{Short, short_index};
 use crate::values::Values;
 use crate::words::Word;
 use pl_term::Memory;
@@ -91,6 +91,33 @@ impl Bonds {
         self.trail.reserve(1)?;
         self.values.set(slot, word)?;
         self.trail.push_reserved(short);
+        Ok(())
+    }
+
+    /// The word of a slot as it is kept.
+    #[inline(always)]
+    pub fn short(&self, slot: usize) -> Short
+        requires { slot < length self.now.values }
+        ensures { IsShortValue result (slice_index_or self.now.values slot None) }
+    {
+        self.values.short(slot)
+    }
+
+    /// Binds the variable of a slot, which is unbound, to a word as it is kept, which is no integer beyond 32 bits. The only error is
+    /// out of memory.
+    #[inline(always)]
+    pub fn bind_short(&mut self, slot: u32, short: Short) -> Result<(), Memory>
+        requires slot { slot < length self.old.values }
+        requires free { find slot self.old.items ≡ None }
+        requires plain { IsPlain short }
+        requires word { value_word [] short ≡ Some (long_word [] short) }
+        ensures values { OnOk result (self.new.values ≡ set self.old.values slot (Some (long_word [] short))) }
+        ensures items { OnOk result (self.new.items ≡ self.old.items ++ record { slot = slot; word = long_word [] short } ∷ []) }
+        ensures kept { OnErr result (self.new ≡ self.old) }
+    {
+        self.trail.reserve(1)?;
+        self.values.set_short(slot as usize, short);
+        self.trail.push_reserved(slot);
         Ok(())
     }
 

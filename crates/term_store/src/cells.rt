@@ -1,12 +1,12 @@
 //! The vectors of a store, and how its words are read.
-ghost use Rattle.std.specs.Prelude.{◌≡◌, ◌<◌, length, pos, slice_index_or};
-ghost use Rattle.term_store.specs.Cells.{IsFit, IsFree, heap_of};
+ghost use Rattle.std.specs.Prelude.{◌≡◌, ◌<◌, [], length, pos, slice_index_or};
+ghost use Rattle.term_store.specs.Cells.{Followed, IsFit, IsFree, heap_of};
 ghost use Rattle.term_store.specs.Heap.{blank_heap, meaning};
 ghost use Rattle.term_store.specs.Fit.{IsIn, no_head};
 
 use crate::bonds::Bonds;
 use crate::ground_terms::GroundTerms;
-use crate::shorts::Words;
+use crate::shorts::{Short, Words};
 use crate::words::{Head, Word};
 use std::alloc::Global;
 
@@ -56,6 +56,24 @@ pub fn deref(cells: &Cells, word: Word) -> Word
         }
     }
     at
+}
+
+/// The word at a place, as it is kept, once bound variables are followed.
+#[inline(always)]
+pub fn follow(cells: &Cells, at: usize) -> Short
+    requires fit { IsFit cells.now }
+    requires at { at < length cells.now.args.items }
+    requires inside { IsIn (heap_of cells.now) (slice_index_or cells.now.args.items at (Word.Int (pos 0))) }
+    ensures { Followed (heap_of cells.now) result (slice_index_or cells.now.args.items at (Word.Int (pos 0))) }
+{
+    let mut short = cells.args.short(at);
+    while let Short::Slot(slot) = short {
+        match cells.bonds.short(slot as usize) {
+            Short::Free => return short,
+            next => short = next,
+        }
+    }
+    short
 }
 
 /// The head of a compound term.

@@ -8,16 +8,16 @@ ghost use Rattle.term_store.specs.Contents.{Adds, Holds, IsAbove};
 ghost use Rattle.term_store.specs.Entering.{BlockEntered, ClauseEntered, Enters, Extends, IsFacing, IsParts};
 ghost use Rattle.term_store.specs.Fit.{IsIn};
 
-use crate::block::{Block, block_head, block_of, block_word};
+use crate::block::{Block, block_of};
 use crate::cells::Cells;
 use crate::copies::copy_part;
-use crate::heads::{meet_part, next_pair};
+use crate::heads::{meet_at, meet_goal, take_next};
 use crate::known::make_known;
+use crate::shorts::Words;
 use crate::store::Store;
 use crate::stored::Stored;
 use crate::walk::{Pending, Walk};
 use crate::words::{Pair, Place, Rest, Word};
-use atom_api::fixed;
 use pl_term::Memory;
 use std::alloc::Global;
 
@@ -25,7 +25,7 @@ use std::alloc::Global;
 /// the store and of the clause's block that are still to be made the same.
 #[derive(Drop)]
 pub struct Entry {
-    pub known: Vec<Word>,
+    pub known: Words,
     pub rests: Vec<Rest>,
 }
 
@@ -33,7 +33,7 @@ impl Entry {
     /// An empty room.
     pub fn new(alloc: Global) -> Entry {
         Entry {
-            known: Vec::new(alloc),
+            known: Words::new(alloc),
             rests: Vec::new(alloc),
         }
     }
@@ -94,6 +94,7 @@ impl Store {
     fn enter_kept(&mut self, goal: Place, block: &Block, from: u64) -> Result<Option<Place>, Memory>
         requires goal { Holds self.old goal }
         requires block { IsBlock block.now }
+        requires parts { IsParts block.now block.now.head block.now.body }
         requires above { IsAbove from self.old }
         requires room { from + block.now.variables < 2 ^ 64 }
         ensures entered { IfOk result (λ r. ClauseEntered self.old goal from (part_of block.now block.now.root) r self.new) }
@@ -140,6 +141,7 @@ fn enter_block(
 ) -> Result<Option<Word>, Memory>
     requires fit { IsFit cells.old }
     requires block { IsBlock block.now }
+    requires parts { IsParts block.now block.now.head block.now.body }
     requires goal { IsIn (heap_of cells.old) goal }
     requires above { All (λ m. m < from) cells.old.numbers.items }
     requires room { from + block.now.variables < 2 ^ 64 }
@@ -147,7 +149,6 @@ fn enter_block(
     ensures extends { Extends (heap_of cells.old) (heap_of cells.new) }
     ensures entered { IfOk result (λ r. BlockEntered block.now (heap_of cells.old) from goal r (heap_of cells.new)) }
 {
-    let parts = parts_of(block);
     if !meet_head(
         cells,
         entry,
@@ -157,13 +158,13 @@ fn enter_block(
         from,
         Pair {
             left: goal,
-            right: parts.0,
+            right: block.head,
         },
     )? {
         return Ok(None);
     }
     make_known(cells, &mut entry.known, block.variables as usize, from)?;
-    let body = copy_part(cells, block, &entry.known, parts.1)?;
+    let body = copy_part(cells, block, &entry.known, block.body)?;
     Ok(Some(body))
 }
 
@@ -188,9 +189,25 @@ fn meet_head(
 {
     entry.known.clear();
     entry.rests.clear();
-    let mut next = pair;
+    let started = meet_goal(
+        cells,
+        &mut entry.known,
+        &mut entry.rests,
+        pending,
+        walk,
+        block,
+        from,
+        pair,
+    )?;
+    let Some(first) = started else {
+        return Ok(false);
+    };
+    let mut rest = first;
     for _ in 0..u64::MAX {
-        if !meet_part(
+        let Some(now) = take_next(&mut entry.rests, rest) else {
+            return Ok(true);
+        };
+        let met = meet_at(
             cells,
             &mut entry.known,
             &mut entry.rests,
@@ -198,34 +215,12 @@ fn meet_head(
             walk,
             block,
             from,
-            next,
-        )? {
+            now,
+        )?;
+        let Some(after) = met else {
             return Ok(false);
-        }
-        let Some(after) = next_pair(cells, &mut entry.rests, block) else {
-            return Ok(true);
         };
-        next = after;
+        rest = after;
     }
     Err(Memory)
-}
-
-/// The words of the head and of the body of a clause. The body of a fact is `true`.
-fn parts_of(block: &Block) -> (Word, Word)
-    requires { IsBlock block.now }
-    ensures { IsParts block.now result.0 result.1 }
-{
-    let fact = (block.root, Word::Atom(fixed::TRUE.slot()));
-    let Word::Comp(k) = block.root else {
-        return fact;
-    };
-    let head = block_head(block, k);
-    if head.name == fixed::NECK.slot() && head.count == 2 {
-        (
-            block_word(block, head.start as usize),
-            block_word(block, head.start as usize + 1),
-        )
-    } else {
-        fact
-    }
 }

@@ -1,38 +1,37 @@
 //! Words of a store and words of a clause's block, made the same.
-ghost use Rattle.std.specs.Prelude.{◌≡◌, ℕ, ◌+◌, ◌<◌, ◌≤◌, ◌^◌, ◌++◌, ◌∷◌, [], List, length, None, IfOk, MatchOption, OnOk};
-ghost use Rattle.std.specs.List.{All};
+ghost use Rattle.std.specs.Prelude.{◌≡◌, ℕ, ◌+◌, ◌<◌, ◌≤◌, ◌^◌, List, length, pos, slice_index_or, Some, None, if◌then◌else◌, IfOk, OnOk};
 ghost use Rattle.term_store.specs.Blocks.{IsBlock};
 ghost use Rattle.term_store.specs.Cells.{IsFit, heap_of};
-ghost use Rattle.term_store.specs.Entering.{Extends, IsConstant, IsFacing, IsKnown, Joined, Joins, entered, value};
+ghost use Rattle.term_store.specs.Entering.{Extends, IsConstant, IsFacing, IsKnown, Joined, Joins, MetFirst, entered, value};
 ghost use Rattle.term_store.specs.Fit.{IsIn};
 ghost use Rattle.term_store.specs.Heap.{find, meaning};
-ghost use Rattle.term_store.specs.Rests.{IsRest, Steps, pairs_of};
+ghost use Rattle.term_store.specs.Rests.{IsNext, IsRest, Steps, StepsAt, no_rest, pair_at, rest_after, stacked};
 
-use crate::bind::bind;
+use crate::bind::{bind, bind_short};
 use crate::block::{Block, block_head, block_word};
-use crate::cells::{Cells, deref, head_at, word_at};
+use crate::cells::{Cells, deref, follow, head_at, word_at};
 use crate::copies::{copy_compounds, known_at, range_of};
 use crate::holding::is_held;
 use crate::known::make_known;
 use crate::older::Older;
+use crate::shorts::{Short, Words, is_plain, short_index};
 use crate::unify::{compare_words, unify};
 use crate::walk::{Pending, Walk};
 use crate::words::{Pair, Plan, Rest, Word};
 use pl_term::Memory;
 
-/// Makes a word of the store and one of the block the same. Of two compound terms the arguments are put on the stack, and are still
-/// to be made the same. It answers false where nothing makes them the same. The only
-/// error is out of memory, after which, as after false, some bindings may have been made.
-pub fn meet_part(
+/// Begins to make the goal and the head of a clause the same.
+#[inline(always)]
+pub fn meet_goal(
     cells: &mut Cells,
-    known: &mut Vec<Word>,
+    known: &mut Words,
     rests: &mut Vec<Rest>,
     pending: &mut Pending,
     walk: &mut Walk,
     block: &Block,
     from: u64,
     pair: Pair,
-) -> Result<bool, Memory>
+) -> Result<Option<Rest>, Memory>
     requires fit { IsFit cells.old }
     requires block { IsBlock block.now }
     requires known { IsKnown (heap_of cells.old) from known.old.items }
@@ -41,29 +40,296 @@ pub fn meet_part(
     requires facing { IsFacing (heap_of cells.old) block.now pair }
     ensures fit { IsFit cells.new }
     ensures extends { Extends (heap_of cells.old) (heap_of cells.new) }
-    ensures steps { IfOk result (λ r. Steps r block.now (heap_of cells.old) from known.old.items pair.left pair.right rests.old.items
+    ensures steps { IfOk result (λ r. Steps r block.now (heap_of cells.old) from known.old.items pair.left pair.right rests.old.items no_rest
+        (heap_of cells.new) known.new.items rests.new.items) }
+{
+    let none = Rest {
+        left: 0,
+        right: 0,
+        count: 0,
+    };
+    if let Word::Comp(k) = pair.right {
+        if let Word::Comp(l) = pair.left {
+            return open_part(cells, rests, block, l, k, none);
+        }
+    }
+    meet_part(cells, known, rests, pending, walk, block, from, pair, none)
+}
+
+/// Makes a word of the store and one of the block the same. Of two compound terms the arguments are taken in hand, and are still
+/// to be made the same. The answer is what is in hand then, or none where nothing makes them the same. The only error is out of
+/// memory, after which, as after none, some bindings may have been made.
+#[inline(never)]
+fn meet_part(
+    cells: &mut Cells,
+    known: &mut Words,
+    rests: &mut Vec<Rest>,
+    pending: &mut Pending,
+    walk: &mut Walk,
+    block: &Block,
+    from: u64,
+    pair: Pair,
+    next: Rest,
+) -> Result<Option<Rest>, Memory>
+    requires fit { IsFit cells.old }
+    requires block { IsBlock block.now }
+    requires known { IsKnown (heap_of cells.old) from known.old.items }
+    requires few { length known.old.items ≤ block.now.variables }
+    requires room { from + block.now.variables < 2 ^ 64 }
+    requires facing { IsFacing (heap_of cells.old) block.now pair }
+    ensures fit { IsFit cells.new }
+    ensures extends { Extends (heap_of cells.old) (heap_of cells.new) }
+    ensures steps { IfOk result (λ r. Steps r block.now (heap_of cells.old) from known.old.items pair.left pair.right rests.old.items next
         (heap_of cells.new) known.new.items rests.new.items) }
 {
     match pair.right {
-        Word::Var(x) => meet_variable(cells, known, pending, walk, from, x, pair.left),
-        Word::Int(_) => meet_constant(cells, pair.left, pair.right),
-        Word::Atom(_) => meet_constant(cells, pair.left, pair.right),
-        Word::Comp(k) => {
-            let at = deref(cells, pair.left);
-            match at {
-                Word::Var(slot) => write_part(cells, known, walk, block, from, slot, k),
-                Word::Comp(l) => open_part(cells, rests, block, l, k),
-                _ => Ok(false),
-            }
+        Word::Var(x) => {
+            let met = meet_variable(cells, known, pending, walk, from, x, pair.left)?;
+            Ok(if_met(met, next))
         }
+        Word::Int(_) => {
+            let met = meet_constant(cells, pair.left, pair.right)?;
+            Ok(if_met(met, next))
+        }
+        Word::Atom(_) => {
+            let met = meet_constant(cells, pair.left, pair.right)?;
+            Ok(if_met(met, next))
+        }
+        Word::Comp(k) => meet_compound(cells, known, rests, walk, block, from, pair.left, k, next),
+    }
+}
+
+/// Makes a word and a compound term of the block the same.
+fn meet_compound(
+    cells: &mut Cells,
+    known: &mut Words,
+    rests: &mut Vec<Rest>,
+    walk: &mut Walk,
+    block: &Block,
+    from: u64,
+    word: Word,
+    k: usize,
+    next: Rest,
+) -> Result<Option<Rest>, Memory>
+    requires fit { IsFit cells.old }
+    requires block { IsBlock block.now }
+    requires known { IsKnown (heap_of cells.old) from known.old.items }
+    requires few { length known.old.items ≤ block.now.variables }
+    requires room { from + block.now.variables < 2 ^ 64 }
+    requires word { IsIn (heap_of cells.old) word }
+    requires part { k < length block.now.heads.items }
+    ensures fit { IsFit cells.new }
+    ensures extends { Extends (heap_of cells.old) (heap_of cells.new) }
+    ensures steps { IfOk result (λ r. Steps r block.now (heap_of cells.old) from known.old.items word (Word.Comp k) rests.old.items next
+        (heap_of cells.new) known.new.items rests.new.items) }
+{
+    match deref(cells, word) {
+        Word::Var(slot) => {
+            let slot = short_index(slot)?;
+            let met = write_part(cells, known, walk, block, from, slot, k)?;
+            Ok(if_met(met, next))
+        }
+        Word::Comp(l) => open_part(cells, rests, block, l, k, next),
+        _ => Ok(None),
+    }
+}
+
+/// Makes the first of the arguments in hand the same. The answer is what is in hand then, or none where nothing makes them the same.
+#[inline(always)]
+pub fn meet_at(
+    cells: &mut Cells,
+    known: &mut Words,
+    rests: &mut Vec<Rest>,
+    pending: &mut Pending,
+    walk: &mut Walk,
+    block: &Block,
+    from: u64,
+    rest: Rest,
+) -> Result<Option<Rest>, Memory>
+    requires fit { IsFit cells.old }
+    requires block { IsBlock block.now }
+    requires known { IsKnown (heap_of cells.old) from known.old.items }
+    requires few { length known.old.items ≤ block.now.variables }
+    requires room { from + block.now.variables < 2 ^ 64 }
+    requires some { 0 < rest.count }
+    requires rest { IsRest (heap_of cells.old) block.now rest }
+    requires facing { IsFacing (heap_of cells.old) block.now (pair_at cells.old.args.items block.now.args.items rest) }
+    ensures fit { IsFit cells.new }
+    ensures extends { Extends (heap_of cells.old) (heap_of cells.new) }
+    ensures steps { IfOk result (λ r. StepsAt r block.now (heap_of cells.old) from known.old.items rests.old.items rest
+        (heap_of cells.new) known.new.items rests.new.items) }
+{
+    let next = after_first(cells, block, rest);
+    match block.args.short(rest.right) {
+        Short::Slot(x) => {
+            let met = meet_slot(cells, known, pending, walk, from, x as usize, rest.left)?;
+            Ok(if_met(met, next))
+        }
+        Short::Term(k) => meet_term(
+            cells, known, rests, walk, block, from, rest.left, k as usize, next,
+        ),
+        Short::Name(a) => {
+            let met = meet_name(cells, rest.left, a)?;
+            Ok(if_met(met, next))
+        }
+        _ => {
+            let word = word_at(cells, rest.left);
+            let part = block_word(block, rest.right);
+            let met = meet_constant(cells, word, part)?;
+            Ok(if_met(met, next))
+        }
+    }
+}
+
+/// The arguments in hand without the first ones.
+#[inline(always)]
+fn after_first(cells: &Cells, block: &Block, rest: Rest) -> Rest
+    requires some { 0 < rest.count }
+    requires rest { IsRest (heap_of cells.now) block.now rest }
+    ensures { result ≡ rest_after rest }
+{
+    let _words = cells.args.len();
+    let _parts = block.args.len();
+    Rest {
+        left: rest.left + 1,
+        right: rest.right + 1,
+        count: rest.count - 1,
+    }
+}
+
+/// What is in hand once two arguments were made the same, or none where nothing makes them the same.
+#[inline(always)]
+fn if_met(met: bool, next: Rest) -> Option<Rest>
+    ensures { result ≡ (if met then Some next else None) }
+{
+    if met { Some(next) } else { None }
+}
+
+/// Makes the word at a place and what stands for a variable of the clause the same.
+#[inline(always)]
+fn meet_slot(
+    cells: &mut Cells,
+    known: &mut Words,
+    pending: &mut Pending,
+    walk: &mut Walk,
+    from: u64,
+    variable: usize,
+    at: usize,
+) -> Result<bool, Memory>
+    requires fit { IsFit cells.old }
+    requires known { IsKnown (heap_of cells.old) from known.old.items }
+    requires room { from + variable < 2 ^ 64 }
+    requires at { at < length cells.old.args.items }
+    requires word { IsIn (heap_of cells.old) (slice_index_or cells.old.args.items at (Word.Int (pos 0))) }
+    ensures fit { IsFit cells.new }
+    ensures extends { Extends (heap_of cells.old) (heap_of cells.new) }
+    ensures joins { IfOk result (λ r. Joins r (heap_of cells.old) from known.old.items (slice_index_or cells.old.args.items at (Word.Int (pos 0)))
+        (value (heap_of cells.old) from known.old.items variable) (heap_of cells.new) known.new.items) }
+    ensures few { OnOk result ((n : ℕ) → variable < n → length known.old.items ≤ n → length known.new.items ≤ n) }
+{
+    if variable == known.len() {
+        meet_first(cells, known, at)?;
+        Ok(true)
+    } else {
+        let word = word_at(cells, at);
+        meet_variable(cells, known, pending, walk, from, variable, word)
+    }
+}
+
+/// Lets the first variable of the clause that was not met stand for the word at a place. The only error is out of memory.
+#[inline(always)]
+fn meet_first(cells: &Cells, known: &mut Words, at: usize) -> Result<(), Memory>
+    requires fit { IsFit cells.now }
+    requires at { at < length cells.now.args.items }
+    requires word { IsIn (heap_of cells.now) (slice_index_or cells.now.args.items at (Word.Int (pos 0))) }
+    ensures first { OnOk result (MetFirst (heap_of cells.now) known.old.items (slice_index_or cells.now.args.items at (Word.Int (pos 0))) known.new.items) }
+{
+    let short = follow(cells, at);
+    if is_plain(short) {
+        known.reserve(1)?;
+        known.push_short(short);
+        return Ok(());
+    }
+    meet_first_long(cells, known, at)
+}
+
+/// Does what `meet_first` does, also where the word is an integer beyond 32 bits.
+#[inline(never)]
+fn meet_first_long(cells: &Cells, known: &mut Words, at: usize) -> Result<(), Memory>
+    requires fit { IsFit cells.now }
+    requires at { at < length cells.now.args.items }
+    requires word { IsIn (heap_of cells.now) (slice_index_or cells.now.args.items at (Word.Int (pos 0))) }
+    ensures first { OnOk result (MetFirst (heap_of cells.now) known.old.items (slice_index_or cells.now.args.items at (Word.Int (pos 0))) known.new.items) }
+{
+    let first = word_at(cells, at);
+    let word = deref(cells, first);
+    known.push(word)?;
+    Ok(())
+}
+
+/// Makes the word at a place and a compound term of the block the same.
+#[inline(always)]
+fn meet_term(
+    cells: &mut Cells,
+    known: &mut Words,
+    rests: &mut Vec<Rest>,
+    walk: &mut Walk,
+    block: &Block,
+    from: u64,
+    at: usize,
+    k: usize,
+    next: Rest,
+) -> Result<Option<Rest>, Memory>
+    requires fit { IsFit cells.old }
+    requires block { IsBlock block.now }
+    requires known { IsKnown (heap_of cells.old) from known.old.items }
+    requires few { length known.old.items ≤ block.now.variables }
+    requires room { from + block.now.variables < 2 ^ 64 }
+    requires at { at < length cells.old.args.items }
+    requires word { IsIn (heap_of cells.old) (slice_index_or cells.old.args.items at (Word.Int (pos 0))) }
+    requires part { k < length block.now.heads.items }
+    ensures fit { IsFit cells.new }
+    ensures extends { Extends (heap_of cells.old) (heap_of cells.new) }
+    ensures steps { IfOk result (λ r. Steps r block.now (heap_of cells.old) from known.old.items (slice_index_or cells.old.args.items at (Word.Int (pos 0)))
+        (Word.Comp k) rests.old.items next (heap_of cells.new) known.new.items rests.new.items) }
+{
+    match follow(cells, at) {
+        Short::Slot(slot) => {
+            let met = write_part(cells, known, walk, block, from, slot, k)?;
+            Ok(if_met(met, next))
+        }
+        Short::Term(l) => open_part(cells, rests, block, l as usize, k, next),
+        _ => Ok(None),
+    }
+}
+
+/// Makes the word at a place and an atom the same.
+#[inline(always)]
+fn meet_name(cells: &mut Cells, at: usize, atom: u32) -> Result<bool, Memory>
+    requires fit { IsFit cells.old }
+    requires at { at < length cells.old.args.items }
+    requires word { IsIn (heap_of cells.old) (slice_index_or cells.old.args.items at (Word.Int (pos 0))) }
+    ensures fit { IsFit cells.new }
+    ensures extends { Extends (heap_of cells.old) (heap_of cells.new) }
+    ensures joins { IfOk result (λ r. (from : ℕ) (known : List Word) → IsKnown (heap_of cells.old) from known
+        → Joins r (heap_of cells.old) from known (slice_index_or cells.old.args.items at (Word.Int (pos 0))) (meaning (heap_of cells.old) (Word.Atom atom)) (heap_of cells.new) known) }
+{
+    match follow(cells, at) {
+        Short::Slot(slot) => {
+            bind_short(cells, slot, Short::Name(atom))?;
+            Ok(true)
+        }
+        Short::Name(a) => Ok(a == atom),
+        _ => Ok(false),
     }
 }
 
 /// Makes a word and what stands for a variable of the clause the same: a variable that was not met stands for the word from
 /// then on.
+#[inline(never)]
 fn meet_variable(
     cells: &mut Cells,
-    known: &mut Vec<Word>,
+    known: &mut Words,
     pending: &mut Pending,
     walk: &mut Walk,
     from: u64,
@@ -92,7 +358,7 @@ fn meet_variable(
 /// Lets a variable of the clause that was not met stand for a word.
 fn meet_new(
     cells: &mut Cells,
-    known: &mut Vec<Word>,
+    known: &mut Words,
     from: u64,
     variable: usize,
     word: Word,
@@ -140,11 +406,11 @@ fn meet_constant(cells: &mut Cells, word: Word, part: Word) -> Result<bool, Memo
 #[inline(never)]
 fn write_part(
     cells: &mut Cells,
-    known: &mut Vec<Word>,
+    known: &mut Words,
     walk: &mut Walk,
     block: &Block,
     from: u64,
-    slot: usize,
+    slot: u32,
     k: usize,
 ) -> Result<bool, Memory>
     requires fit { IsFit cells.old }
@@ -163,67 +429,77 @@ fn write_part(
     let before = known.len();
     let range = range_of(block, k);
     make_known(cells, known, range.variables, from)?;
-    let word = copy_compounds(cells, block, known, k)?;
-    if is_held(cells, walk, block, known, before, slot, k, word)? {
+    let i = copy_compounds(cells, block, known, k)?;
+    if is_held(
+        cells,
+        walk,
+        block,
+        known,
+        before,
+        slot as usize,
+        k,
+        Word::Comp(i),
+    )? {
         return Ok(false);
     }
-    bind(cells, slot, word)?;
+    let term = short_index(i)?;
+    bind_short(cells, slot, Short::Term(term))?;
     Ok(true)
 }
 
-/// Puts the arguments of a compound term of the store and of one of the block on the stack. It answers false, and puts none, where
-/// they differ in their name or their number of arguments.
+/// Takes the arguments of a compound term of the store and of one of the block in hand, and puts those that were to come next on
+/// the stack. It answers none, and puts none, where they differ in their name or their number of arguments.
+#[inline(always)]
 fn open_part(
     cells: &Cells,
     rests: &mut Vec<Rest>,
     block: &Block,
     l: usize,
     k: usize,
-) -> Result<bool, Memory>
+    next: Rest,
+) -> Result<Option<Rest>, Memory>
     requires fit { IsFit cells.now }
     requires block { IsBlock block.now }
     requires left { l < length cells.now.heads.items }
     requires right { k < length block.now.heads.items }
     ensures { IfOk result (λ r. (from : ℕ) (known : List Word) → IsKnown (heap_of cells.now) from known → length known ≤ block.now.variables
-        → Steps r block.now (heap_of cells.now) from known (Word.Comp l) (Word.Comp k) rests.old.items (heap_of cells.now) known rests.new.items) }
+        → Steps r block.now (heap_of cells.now) from known (Word.Comp l) (Word.Comp k) rests.old.items next (heap_of cells.now) known rests.new.items) }
 {
     let left = head_at(cells, l);
     let right = block_head(block, k);
     if left.name != right.name {
-        return Ok(false);
+        return Ok(None);
     }
     if left.count != right.count {
-        return Ok(false);
+        return Ok(None);
     }
-    rests.push(Rest {
+    put_off(rests, next)?;
+    Ok(Some(Rest {
         left: left.start as usize,
         right: right.start as usize,
         count: left.count as usize,
-    })?;
-    Ok(true)
+    }))
 }
 
-/// Takes the next pair of words off the stack.
-pub fn next_pair(cells: &Cells, rests: &mut Vec<Rest>, block: &Block) -> Option<Pair>
-    requires { All (IsRest (heap_of cells.now) block.now) rests.old.items }
-    ensures rests { All (IsRest (heap_of cells.now) block.now) rests.new.items }
-    ensures split { MatchOption result (pairs_of cells.now.args.items block.now.args.items rests.old.items ≡ [])
-        (λ p. pairs_of cells.now.args.items block.now.args.items rests.old.items
-        ≡ pairs_of cells.now.args.items block.now.args.items rests.new.items ++ p ∷ []) }
+/// Puts arguments on the stack, if they are some. The only error is out of memory.
+#[inline(always)]
+fn put_off(rests: &mut Vec<Rest>, rest: Rest) -> Result<(), Memory>
+    ensures { OnOk result (rests.new.items ≡ stacked rests.old.items rest) }
 {
-    let Some(rest) = rests.pop() else {
-        return None;
-    };
-    let _words = cells.args.len();
-    if rest.count > 1 {
-        rests.push_reserved(Rest {
-            left: rest.left + 1,
-            right: rest.right + 1,
-            count: rest.count - 1,
-        });
+    if rest.count == 0 {
+        return Ok(());
     }
-    Some(Pair {
-        left: word_at(cells, rest.left),
-        right: block_word(block, rest.right),
-    })
+    rests.push(rest)?;
+    Ok(())
+}
+
+/// The arguments that come next: those in hand, or else the last ones of the stack.
+#[inline(always)]
+pub fn take_next(rests: &mut Vec<Rest>, rest: Rest) -> Option<Rest>
+    ensures { IsNext result rests.old.items rest rests.new.items }
+{
+    if rest.count > 0 {
+        return Some(rest);
+    }
+    rests.pop()
 }

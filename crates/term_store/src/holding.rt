@@ -8,13 +8,14 @@ ghost use Rattle.term_store.specs.Entering.{IsConstant, IsHarmless, IsReady, ent
 ghost use Rattle.term_store.specs.Fit.{IsIn};
 ghost use Rattle.term_store.specs.Heap.{find, meaning, numbered};
 
-use crate::block::{Block, block_words};
+use crate::block::{Block, block_head};
 use crate::cells::{Cells, deref};
 use crate::copies::{known_at, range_of};
 use crate::ground_terms::is_known_ground;
 use crate::made_ground::marked_at;
 use crate::occurs::{is_found, occurs};
 use crate::older::Older;
+use crate::shorts::{Short, Words};
 use crate::walk::Walk;
 use crate::words::Word;
 use pl_term::Memory;
@@ -22,11 +23,12 @@ use pl_term::Memory;
 /// Whether the unbound variable of a slot occurs in a compound term of a block that was made at a word. Of the variables of the
 /// block so many were met before, and the others are new, so it occurs in none of these. What those met before stand for is
 /// walked; the term that was made is walked only where the variable was found there. The only error is out of memory.
+#[inline(always)]
 pub fn is_held(
     cells: &mut Cells,
     walk: &mut Walk,
     block: &Block,
-    known: &[Word],
+    known: &Words,
     before: usize,
     slot: usize,
     k: usize,
@@ -37,13 +39,13 @@ pub fn is_held(
     requires slot { slot < length cells.old.numbers.items }
     requires free { find slot cells.old.bonds.items ≡ None }
     requires inside { IsIn (heap_of cells.old) word }
-    requires known { All (IsIn (heap_of cells.old)) known.now }
-    requires before { before ≤ length known.now }
+    requires known { All (IsIn (heap_of cells.old)) known.now.items }
+    requires before { before ≤ length known.now.items }
     requires part { k < length block.now.heads.items }
-    requires ready { IsReady block.now known.now (Word.Comp k) }
-    requires new { (x : ℕ) → before ≤ x → x < length known.now
-        → has (numbered (heap_of cells.old) slot) (meaning (heap_of cells.old) (slice_index_or known.now x (Word.Int (pos 0)))) ≡ false }
-    requires means { (from : ℕ) × (meaning (heap_of cells.old) word ≡ entered block.now (heap_of cells.old) from known.now (Word.Comp k)) }
+    requires ready { IsReady block.now known.now.items (Word.Comp k) }
+    requires new { (x : ℕ) → before ≤ x → x < length known.now.items
+        → has (numbered (heap_of cells.old) slot) (meaning (heap_of cells.old) (slice_index_or known.now.items x (Word.Int (pos 0)))) ≡ false }
+    requires means { (from : ℕ) × (meaning (heap_of cells.old) word ≡ entered block.now (heap_of cells.old) from known.now.items (Word.Comp k)) }
     ensures fit { IsFit cells.new }
     ensures kept { heap_of cells.new ≡ heap_of cells.old }
     ensures held { IfOk result (λ b. b ≡ has (numbered (heap_of cells.old) slot) (meaning (heap_of cells.old) word)) }
@@ -59,11 +61,12 @@ pub fn is_held(
 
 /// Whether the unbound variable of a slot occurs in what a variable of the block stands for that was met before, and that is in a
 /// compound term of the block. The only error is out of memory.
+#[inline(always)]
 fn may_hold(
     cells: &mut Cells,
     walk: &mut Walk,
     block: &Block,
-    known: &[Word],
+    known: &Words,
     before: usize,
     slot: usize,
     k: usize,
@@ -72,18 +75,17 @@ fn may_hold(
     requires block { IsBlock block.now }
     requires slot { slot < length cells.old.numbers.items }
     requires free { find slot cells.old.bonds.items ≡ None }
-    requires known { All (IsIn (heap_of cells.old)) known.now }
-    requires before { before ≤ length known.now }
+    requires known { All (IsIn (heap_of cells.old)) known.now.items }
+    requires before { before ≤ length known.now.items }
     requires part { k < length block.now.heads.items }
     ensures fit { IsFit cells.new }
     ensures kept { heap_of cells.new ≡ heap_of cells.old }
     ensures none { IfOk result (λ b. b ≡ false → (j : ℕ) → (slice_index_or block.now.ranges.items k no_range).low ≤ j → j ≤ k
-        → All (IsHarmless (heap_of cells.old) slot known.now before) (arguments_of block.now j)) }
+        → All (IsHarmless (heap_of cells.old) slot known.now.items before) (arguments_of block.now j)) }
 {
     let range = range_of(block, k);
     for j in range.low..k + 1 {
-        let words = block_words(block, j);
-        let met = has_met(cells, walk, words, known, before, slot)?;
+        let met = has_met(cells, walk, block, j, known, before, slot)?;
         if met {
             return Ok(true);
         }
@@ -91,27 +93,33 @@ fn may_hold(
     Ok(false)
 }
 
-/// Whether the unbound variable of a slot occurs in what one of the words, a variable that was met before, stands for. The only
-/// error is out of memory.
+/// Whether the unbound variable of a slot occurs in what an argument of a compound term of the block, a variable that was met
+/// before, stands for. The only error is out of memory.
+#[inline(always)]
 fn has_met(
     cells: &mut Cells,
     walk: &mut Walk,
-    words: &[Word],
-    known: &[Word],
+    block: &Block,
+    j: usize,
+    known: &Words,
     before: usize,
     slot: usize,
 ) -> Result<bool, Memory>
     requires fit { IsFit cells.old }
     requires slot { slot < length cells.old.numbers.items }
     requires free { find slot cells.old.bonds.items ≡ None }
-    requires known { All (IsIn (heap_of cells.old)) known.now }
-    requires before { before ≤ length known.now }
+    requires known { All (IsIn (heap_of cells.old)) known.now.items }
+    requires before { before ≤ length known.now.items }
+    requires block { IsBlock block.now }
+    requires here { j < length block.now.heads.items }
     ensures fit { IsFit cells.new }
     ensures kept { heap_of cells.new ≡ heap_of cells.old }
-    ensures none { IfOk result (λ b. b ≡ false → All (IsHarmless (heap_of cells.old) slot known.now before) words.now) }
+    ensures none { IfOk result (λ b. b ≡ false → All (IsHarmless (heap_of cells.old) slot known.now.items before) (arguments_of block.now j)) }
 {
-    for word in words {
-        let met = is_met(cells, walk, *word, known, before, slot)?;
+    let head = block_head(block, j);
+    for i in 0..head.count {
+        let at = head.start as usize + i as usize;
+        let met = is_met(cells, walk, block, at, known, before, slot)?;
         if met {
             return Ok(true);
         }
@@ -121,40 +129,46 @@ fn has_met(
 
 /// Whether the word is a variable that was met before, and the unbound variable of a slot occurs in what it stands for. The only
 /// error is out of memory.
+#[inline(always)]
 fn is_met(
     cells: &mut Cells,
     walk: &mut Walk,
-    word: Word,
-    known: &[Word],
+    block: &Block,
+    at: usize,
+    known: &Words,
     before: usize,
     slot: usize,
 ) -> Result<bool, Memory>
     requires fit { IsFit cells.old }
     requires slot { slot < length cells.old.numbers.items }
     requires free { find slot cells.old.bonds.items ≡ None }
-    requires known { All (IsIn (heap_of cells.old)) known.now }
-    requires before { before ≤ length known.now }
+    requires known { All (IsIn (heap_of cells.old)) known.now.items }
+    requires before { before ≤ length known.now.items }
+    requires at { at < length block.now.args.items }
     ensures fit { IsFit cells.new }
     ensures kept { heap_of cells.new ≡ heap_of cells.old }
-    ensures none { IfOk result (λ b. b ≡ false → IsHarmless (heap_of cells.old) slot known.now before word) }
+    ensures none { IfOk result (λ b. b ≡ false → IsHarmless (heap_of cells.old) slot known.now.items before (slice_index_or block.now.args.items at (Word.Int (pos 0)))) }
 {
-    match word {
-        Word::Var(x) => {
-            if x >= before {
-                return Ok(false);
-            }
-            let met = known_at(known, x);
+    let Short::Slot(x) = block.args.short(at) else {
+        return Ok(false);
+    };
+    if x as usize >= before {
+        return Ok(false);
+    }
+    match known.short(x as usize) {
+        Short::Number(_) => Ok(false),
+        Short::Name(_) => Ok(false),
+        _ => {
+            let met = known_at(known, x as usize);
             let held = stands_in(cells, walk, slot, met)?;
             Ok(held)
         }
-        Word::Int(_) => Ok(false),
-        Word::Atom(_) => Ok(false),
-        Word::Comp(_) => Ok(false),
     }
 }
 
 /// Whether the unbound variable of a slot occurs in what a word stands for. A compound term in which no variable occurs is kept as
 /// one. The only error is out of memory.
+#[inline(never)]
 fn stands_in(cells: &mut Cells, walk: &mut Walk, slot: usize, word: Word) -> Result<bool, Memory>
     requires fit { IsFit cells.old }
     requires slot { slot < length cells.old.numbers.items }

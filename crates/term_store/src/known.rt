@@ -6,7 +6,7 @@ ghost use Rattle.term_store.specs.Making.{Longer};
 
 use crate::cells::Cells;
 use crate::make::make_variable;
-use crate::words::Word;
+use crate::shorts::{Short, Words, short_index};
 use pl_term::Memory;
 
 /// Makes new variables for those of the clause that were not met, up to so many. They are numbered from `from` on by their
@@ -14,7 +14,7 @@ use pl_term::Memory;
 #[inline(always)]
 pub fn make_known(
     cells: &mut Cells,
-    known: &mut Vec<Word>,
+    known: &mut Words,
     count: usize,
     from: u64,
 ) -> Result<(), Memory>
@@ -37,12 +37,7 @@ pub fn make_known(
 
 /// Does what `make_known` does, where there are some to be made.
 #[inline(never)]
-fn make_rest(
-    cells: &mut Cells,
-    known: &mut Vec<Word>,
-    count: usize,
-    from: u64,
-) -> Result<(), Memory>
+fn make_rest(cells: &mut Cells, known: &mut Words, count: usize, from: u64) -> Result<(), Memory>
     requires fit { IsFit cells.old }
     requires known { IsKnown (heap_of cells.old) from known.old.items }
     requires room { from + count < 2 ^ 64 }
@@ -63,7 +58,7 @@ fn make_rest(
 /// Makes a new variable for the first one of the clause that was not met. The only error is out of memory, after which it may
 /// be made.
 #[inline(always)]
-fn make_next(cells: &mut Cells, known: &mut Vec<Word>, from: u64) -> Result<(), Memory>
+fn make_next(cells: &mut Cells, known: &mut Words, from: u64) -> Result<(), Memory>
     requires fit { IsFit cells.old }
     requires known { IsKnown (heap_of cells.old) from known.old.items }
     requires room { from + length known.old.items < 2 ^ 64 }
@@ -74,7 +69,9 @@ fn make_next(cells: &mut Cells, known: &mut Vec<Word>, from: u64) -> Result<(), 
     ensures one { OnOk result (length known.new.items ≡ suc (length known.old.items)) }
 {
     let number = from + known.len() as u64;
-    let word = make_variable(cells, number)?;
-    known.push(word)?;
+    let slot = short_index(cells.numbers.len())?;
+    known.reserve(1)?;
+    let _ = make_variable(cells, number)?;
+    known.push_short(Short::Slot(slot));
     Ok(())
 }

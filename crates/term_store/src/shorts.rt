@@ -1,6 +1,6 @@
 //! Words as they are kept: of eight bytes.
-ghost use Rattle.std.specs.Prelude.{◌≡◌, ◌<◌, ◌≤◌, ◌+◌, ◌-◌, ◌++◌, ◌∷◌, [], length, pos, take, slice_index_or, is_ok, if◌then◌else◌, Some, IfOk, OnOk};
-ghost use Rattle.term_store.specs.Shorts.{IsOwn, Stays, StaysBelow, StaysBut, long_word, no_beyond, value_word};
+ghost use Rattle.std.specs.Prelude.{◌≡◌, ◌<◌, ◌≤◌, ◌+◌, ◌-◌, ◌++◌, ◌∷◌, [], length, pos, take, slice_index_or, is_ok, true, if◌then◌else◌, Some, IfOk, OnOk};
+ghost use Rattle.term_store.specs.Shorts.{IsOwn, IsPlain, IsShort, Stays, StaysBelow, StaysBut, long_word, no_beyond, value_word};
 
 use crate::words::Word;
 use pl_term::Memory;
@@ -9,7 +9,7 @@ use std::marker::Model;
 
 /// A word of eight bytes: none, a variable by its slot, an integer of 32 bits, an atom by its slot, a compound term by the number of
 /// its head, or an integer beyond 32 bits by its place among those.
-#[derive(Clone, Copy, Drop)]
+#[derive(Clone, Copy, Debug, Drop)]
 pub enum Short {
     Free,
     Slot(u32),
@@ -20,7 +20,7 @@ pub enum Short {
 }
 
 /// An integer beyond 32 bits, and where the word stands that it belongs to.
-#[derive(Clone, Copy, Drop)]
+#[derive(Clone, Copy, Debug, Drop)]
 pub struct Beyond {
     pub at: usize,
     pub value: i64,
@@ -28,7 +28,7 @@ pub struct Beyond {
 
 /// A list of words, seen by contracts as these, with the number of words for which there is room. Slots, compound terms and
 /// integers beyond 32 bits have to be fewer than 2^32 each: with more there is no memory.
-#[derive(Drop)]
+#[derive(Debug, Drop)]
 pub struct Words {
     shorts: Vec<Short>,
     wides: Vec<Beyond>,
@@ -94,6 +94,33 @@ impl Words {
         Ok(())
     }
 
+    /// The word at a place as it is kept.
+    #[inline(always)]
+    pub fn short(&self, at: usize) -> Short
+        requires { at < length self.now.items }
+        ensures { IsShort result (slice_index_or self.now.items at (Word.Int (pos 0))) }
+    {
+        short_at(&self.shorts, at)
+    }
+
+    /// Puts a word as it is kept, for which there is room, behind the others. It is no integer beyond 32 bits.
+    #[inline(always)]
+    pub fn push_short(&mut self, short: Short)
+        requires space { 0 < self.old.room }
+        requires plain { IsPlain short }
+        ensures items { self.new.items ≡ self.old.items ++ long_word [] short ∷ [] }
+        ensures room { self.old.room ≤ self.new.room + 1 }
+    {
+        self.shorts.push_reserved(short);
+    }
+
+    /// Takes all words off.
+    pub fn clear(&mut self)
+        ensures items { self.new.items ≡ [] }
+    {
+        self.truncate(0);
+    }
+
     /// Puts a word behind the others. The only error is out of memory.
     pub fn push(&mut self, word: Word) -> Result<(), Memory>
         ensures items { self.new.items ≡ (if is_ok result then self.old.items ++ word ∷ [] else self.old.items) }
@@ -117,6 +144,21 @@ pub fn short_at(shorts: &[Short], at: usize) -> Short
     ensures { result ≡ slice_index_or shorts.now at (Short.Number (pos 0)) }
 {
     shorts[at]
+}
+
+/// Whether the short word is no integer beyond 32 bits.
+#[inline(always)]
+pub fn is_plain(short: Short) -> bool
+    ensures { result ≡ true → IsPlain short }
+{
+    match short {
+        Short::Wide(_) => false,
+        Short::Free => true,
+        Short::Slot(_) => true,
+        Short::Number(_) => true,
+        Short::Name(_) => true,
+        Short::Term(_) => true,
+    }
 }
 
 /// The word that a short one stands for.
@@ -177,6 +219,7 @@ pub fn shortened(wides: &mut Vec<Beyond>, at: usize, word: Word) -> Result<Short
 }
 
 /// A number as one of 32 bits. Where it is beyond these, it is out of memory.
+#[inline(always)]
 pub fn short_index(i: usize) -> Result<u32, Memory>
     ensures { IfOk result (λ n. n ≡ i) }
 {

@@ -5,7 +5,7 @@ ghost use Rattle.pl_term.specs.Cells.{cells};
 ghost use Rattle.pl_term.specs.NodeLists.{met_with, node_cells, rename_node};
 ghost use Rattle.pl_term.specs.Nodes.{nodes, tree};
 ghost use Rattle.pl_term.specs.Variables.{place, rename, variables};
-ghost use Rattle.term_store.specs.Blocks.{IsBlockOf};
+ghost use Rattle.term_store.specs.Entering.{IsBlockOf};
 ghost use Rattle.term_store.specs.Nodes.{IsNodeBelow, IsSpelled, node_view, node_views};
 ghost use Rattle.term_store.specs.StoredTerms.{IsStored};
 
@@ -40,7 +40,7 @@ impl Model for Stored {
     ghost use Rattle.pl_term.specs.Nodes.{tree, coded_tree};
     ghost use Rattle.std.specs.Arc.{arc_value};
     ghost use Rattle.std.specs.Prelude.{IfSome};
-    ghost use Rattle.term_store.specs.Blocks.{IsBlockOf};
+    ghost use Rattle.term_store.specs.Entering.{IsBlockOf};
     ghost use Rattle.term_store.specs.Nodes.{node_views};
     ghost use Rattle.term_store.specs.StoredTerms.{IsStored};
 

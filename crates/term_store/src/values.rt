@@ -1,5 +1,6 @@
 //! The words that a store's variables are bound to.
 ghost use Rattle.std.specs.Prelude.{◌≡◌, ◌<◌, ◌++◌, ◌∷◌, [], length, set, take, slice_index_or, is_ok, if◌then◌else◌, Option, Some, None};
+ghost use Rattle.term_store.specs.Shorts.{IsPlain, IsShortValue, value_word};
 
 use crate::shorts::{Beyond, Short, forget_at, short_at, shortened, value_of};
 use crate::words::Word;
@@ -64,6 +65,25 @@ impl Values {
         let short = shortened(&mut self.wides, slot, word)?;
         self.shorts[slot] = short;
         Ok(())
+    }
+
+    /// The word of a slot as it is kept.
+    #[inline(always)]
+    pub fn short(&self, slot: usize) -> Short
+        requires { slot < length self.now }
+        ensures { IsShortValue result (slice_index_or self.now slot None) }
+    {
+        short_at(&self.shorts, slot)
+    }
+
+    /// Binds the variable of a slot to a word as it is kept, which is no integer beyond 32 bits.
+    #[inline(always)]
+    pub fn set_short(&mut self, slot: usize, short: Short)
+        requires slot { slot < length self.old }
+        requires plain { IsPlain short }
+        ensures { self.new ≡ set self.old slot (value_word [] short) }
+    {
+        self.shorts[slot] = short;
     }
 
     /// Makes the variable of a slot unbound.

@@ -1,4 +1,4 @@
-use Rattle.std.proofs.Common.{◌≡◌, ◌++◌, zero, length, ap, ◌∙◌}
+use Rattle.std.proofs.Common.{◌≡◌, ◌++◌, zero, length, refl, ap, ◌∙◌}
 use Rattle.term_store.specs.Cells.{heap_of}
 use Rattle.term_store.specs.Contents.{upwards}
 use Rattle.term_store.proofs.Loading.{length-upwards}
@@ -11,4 +11,4 @@ ranges_of-requires c =
     let n = c.args.variables in
     let long : length h.numbers ≡ n =
     ap length (c.in_ok-root.ensures.numbers ∙ ap (λ g. g.numbers ++ upwards zero n) c.new-cells.ensures.blank) ∙ length-upwards zero n in
-    heads_given h n c.deref.result.now c.deref-2.result.now c.load.ensures.fit.fit long c.deref.ensures.value (c.deref-2.ensures.value ∙ c.in_ok-args.ensures)
+    heads_given h n c.deref.result.now c.load.new.cells.args.items c.load.ensures.fit.fit long c.deref.ensures.value refl

@@ -7,7 +7,7 @@ use Rattle.term_store.proofs.block.range_at.Goals as goal
 pub loop-range-preserved : goal.loop-range-preserved
 loop-range-preserved c =
     let hs = c.args.heads.now in
-    let ws = c.args.args.now in
+    let ws = c.args.args.now.items in
     let n = c.args.count in
     let inv = c.loop-range.invariant in
     let range = c.loop-range.range in
@@ -39,12 +39,12 @@ suc_plus k = omega arith
 pub returns-clause-tiles : goal.returns-clause-tiles
 returns-clause-tiles c =
     let hs = c.args.heads.now in
-    let ws = c.args.args.now in
+    let ws = c.args.args.now.items in
     let n = c.args.count in
     let inv = c.loop-range.invariant in
     let range = c.loop-range.range in
     let below = inv.low in
-    let parts = subst (All (IsPart c.own_range-own.result)) c.words_at.ensures c.own_range-own.ensures.parts in
+    let parts = c.own_range-own.ensures.parts in
     tiles_more hs ws n c.loop-range.before.items range 0 (c.args.k + 1) inv.tiles inv.few (omega arith)
     (subst (λ m. IsClosed hs ws range range.low m) (suc_plus c.args.k)
     (range_closed hs ws n c.own_range-own.result range c.args.k inv.low inv.few c.loop-range-test.false inv.own inv.closed parts).closed)

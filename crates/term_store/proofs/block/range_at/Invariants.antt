@@ -8,8 +8,8 @@ invariant-loop-range l =
       low : l.range.low ≤ l.k;
       few : l.range.variables ≤ l.count;
       own : l.own.variables ≤ l.range.variables;
-      tiles : Tiles l.count l.heads l.args 0 l.before.items l.range.low;
-      closed : IsClosed l.heads l.args l.range l.range.low l.k;
+      tiles : Tiles l.count l.heads l.args.items 0 l.before.items l.range.low;
+      closed : IsClosed l.heads l.args.items l.range l.range.low l.k;
     }
 
 abbrev pub decreases-loop-range : goal.decreases-loop-range

@@ -6,7 +6,7 @@ use Rattle.term_store.proofs.block.ranges_of.Goals as goal
 pub loop-k-preserved : goal.loop-k-preserved
 loop-k-preserved c =
     let hs = c.args.heads.now in
-    let ws = c.args.args.now in
+    let ws = c.args.args.now.items in
     let n = c.args.count in
     let inv = c.loop-k.invariant in
     let range = c.range_at-range.result in

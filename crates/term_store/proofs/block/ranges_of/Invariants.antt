@@ -6,6 +6,6 @@ abbrev pub invariant-loop-k : goal.invariant-loop-k
 invariant-loop-k l =
     record {
       long : length l.all.items ≡ l.k;
-      ranges : AreRanges l.count l.heads l.args l.k l.all.items;
-      tiles : Tiles l.count l.heads l.args 0 l.before.items l.k;
+      ranges : AreRanges l.count l.heads l.args.items l.k l.all.items;
+      tiles : Tiles l.count l.heads l.args.items 0 l.before.items l.k;
     }

@@ -1,15 +1,38 @@
-use Rattle.std.proofs.Common.{◌≡◌, List, drop, take, length, map, sym, ap, subst, ◌∙◌}
+use Rattle.std.proofs.Common.{◌≡◌, ◌+◌, ◌≤◌, List, drop, take, length, map, sym, ap, subst, ◌∙◌}
 use Rattle.std.specs.List.{All}
 use Rattle.std.proofs.Math.Seq.{drop-append_seam}
 use Rattle.std.proofs.lemmas.List.Elements.{All-map}
 use Rattle.term_store.specs.declared.words.Word.{Word}
-use Rattle.term_store.specs.Blocks.{arguments_of, copied}
+use Rattle.term_store.specs.declared.words.Head.{Head}
+use Rattle.term_store.specs.Blocks.{IsPart, arguments_of, copied}
 use Rattle.term_store.specs.Cells.{heap_of}
-use Rattle.term_store.specs.Fit.{IsIn}
+use Rattle.term_store.specs.Fit.{IsIn, IsWord}
 use Rattle.term_store.specs.GroundMarks.{AreMarks}
 use Rattle.term_store.specs.GroundTerms.{AreGroundTerms}
+use Rattle.term_store.specs.Heap.{words_of}
 use Rattle.term_store.specs.Making.{with_args}
+use Rattle.term_store.proofs.Copying.{head_fits}
 use Rattle.term_store.proofs.copies.copy_compound.Goals as goal
+
+pub push_copies-requires-clause-within : goal.push_copies-requires-clause-within
+push_copies-requires-clause-within c =
+    let b = c.args.block.now in
+    subst (λ (g : Head). g.start + g.count ≤ length b.args.items) (sym c.block_head-head.ensures) (head_fits b c.requires.block c.args.j c.requires.here).within
+
+pub push_copies-requires-clause-parts : goal.push_copies-requires-clause-parts
+push_copies-requires-clause-parts c =
+    let b = c.args.block.now in
+    subst (λ (g : Head). All (IsPart (record { low = c.args.low; variables = length c.args.known.now.items })) (words_of b.args.items g)) (sym c.block_head-head.ensures)
+    c.requires.parts
+
+pub push_copies-requires-clause-inside : goal.push_copies-requires-clause-inside
+push_copies-requires-clause-inside c =
+    let b = c.args.block.now in
+    let h = heap_of c.args.cells.now in
+    let moved = λ (w : Word). copied c.args.known.now.items c.args.low c.args.above w in
+    subst (λ n. All (λ w. IsWord n c.len-heads.result (moved w)) (words_of b.args.items c.block_head-head.result)) (sym (c.len-slots.ensures ∙ c.args.cells.now.numbers.ok.0))
+    (subst (λ n. All (λ w. IsWord (length h.numbers) n (moved w)) (words_of b.args.items c.block_head-head.result)) (sym (c.len-heads.ensures ∙ c.args.cells.now.heads.ok.0))
+    (subst (λ (g : Head). All (λ w. IsIn h (moved w)) (words_of b.args.items g)) (sym c.block_head-head.ensures) c.requires.inside))
 
 pub finish_compound-requires-clause-cache : goal.finish_compound-requires-clause-cache
 finish_compound-requires-clause-cache c =
@@ -18,15 +41,16 @@ finish_compound-requires-clause-cache c =
 pub finish_compound-requires-clause-inside : goal.finish_compound-requires-clause-inside
 finish_compound-requires-clause-inside c =
     let h = heap_of c.args.cells.now in
-    let parts = arguments_of c.args.block.now c.args.j in
-    let words : List Word = map (copied c.args.known.now c.args.low c.args.above) parts in
+    let b = c.args.block.now in
+    let parts = arguments_of b c.args.j in
+    let words : List Word = map (copied c.args.known.now.items c.args.low c.args.above) parts in
     let behind : drop c.len-start.result c.push_copies.new.args.items ≡ words =
     ap (λ n. drop n c.push_copies.new.args.items) c.len-start.ensures
     ∙ ap (drop (length h.args)) c.in-Ok.ensures.ok
-    ∙ drop-append_seam h.args (map (copied c.args.known.now c.args.low c.args.above) c.block_words-words.result.now)
-    ∙ ap (map (copied c.args.known.now c.args.low c.args.above)) c.block_words-words.ensures in
+    ∙ drop-append_seam h.args (map (copied c.args.known.now.items c.args.low c.args.above) (words_of b.args.items c.block_head-head.result))
+    ∙ ap (λ g. map (copied c.args.known.now.items c.args.low c.args.above) (words_of b.args.items g)) c.block_head-head.ensures in
     subst (λ ws. All (IsIn h) ws) (sym behind)
-    (All-map (IsIn h) (copied c.args.known.now c.args.low c.args.above) parts c.requires.inside)
+    (All-map (IsIn h) (copied c.args.known.now.items c.args.low c.args.above) parts c.requires.inside)
 
 pub finish_compound-requires-clause-marks : goal.finish_compound-requires-clause-marks
 finish_compound-requires-clause-marks c =

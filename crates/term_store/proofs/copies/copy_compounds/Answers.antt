@@ -21,7 +21,7 @@ loop-j-init c =
       fit = c.requires.fit;
       gains = gains_none h;
       many = omega (arith, c.len-above.ensures, c.args.cells.now.heads.ok.0);
-      copied = λ from. none_copied c.args.block.now c.requires.block h from c.args.known.now c.requires.known low c.len-above.result h;
+      copied = λ from. none_copied c.args.block.now c.requires.block h from c.args.known.now.items c.requires.known low c.len-above.result h;
     }
 
 pub returns-in_err-copy_compound-clause-gains : goal.returns-in_err-copy_compound-clause-gains
@@ -38,16 +38,16 @@ parts_of_next b block known k j r inside e ready lo hi =
 
 pub copy_compound-requires-clause-parts : goal.copy_compound-requires-clause-parts
 copy_compound-requires-clause-parts c =
-    parts_of_next c.args.block.now c.requires.block c.args.known.now c.args.k c.loop-j.j c.range_of-range.result c.requires.inside c.range_of-range.ensures
+    parts_of_next c.args.block.now c.requires.block c.args.known.now.items c.args.k c.loop-j.j c.range_of-range.result c.requires.inside c.range_of-range.ensures
     c.requires.ready c.loop-j.auto.j c.loop-j-test.true
 
 pub copy_compound-requires-clause-inside : goal.copy_compound-requires-clause-inside
 copy_compound-requires-clause-inside c =
     let inside = c.requires.inside in
-    words_inside c.args.block.now c.requires.block (heap_of c.args.cells.now) 0 c.args.known.now c.requires.known c.range_of-range.result.low c.len-above.result
+    words_inside c.args.block.now c.requires.block (heap_of c.args.cells.now) 0 c.args.known.now.items c.requires.known c.range_of-range.result.low c.len-above.result
     c.loop-j.j (heap_of c.loop-j.cells) c.loop-j.invariant.gains.keeps.inside c.loop-j.invariant.many (arguments_of c.args.block.now c.loop-j.j)
     (head_fits c.args.block.now c.requires.block c.loop-j.j (omega (arith, c.loop-j-test.true))).earlier
-    (parts_of_next c.args.block.now c.requires.block c.args.known.now c.args.k c.loop-j.j c.range_of-range.result c.requires.inside c.range_of-range.ensures
+    (parts_of_next c.args.block.now c.requires.block c.args.known.now.items c.args.k c.loop-j.j c.range_of-range.result c.requires.inside c.range_of-range.ensures
     c.requires.ready c.loop-j.auto.j c.loop-j-test.true)
 
 pub loop-j-preserved : goal.loop-j-preserved
@@ -59,7 +59,7 @@ loop-j-preserved c =
     let j = c.loop-j.j in
     let low = c.range_of-range.result.low in
     let above = c.len-above.result in
-    let known = c.args.known.now in
+    let known = c.args.known.now.items in
     let inv = c.loop-j.invariant in
     let inside = c.requires.inside in
     let many = inv.many in

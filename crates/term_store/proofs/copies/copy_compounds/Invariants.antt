@@ -10,5 +10,5 @@ invariant-loop-j l =
       fit : IsFit l.cells;
       gains : Gains (heap_of l.fn.cells) (heap_of l.cells);
       many : length l.cells.heads.items + l.low ≡ l.above + l.j;
-      copied : (from : ℕ) → AreCopied l.block (heap_of l.fn.cells) from l.known l.low l.above l.j (heap_of l.cells);
+      copied : (from : ℕ) → AreCopied l.block (heap_of l.fn.cells) from l.known.items l.low l.above l.j (heap_of l.cells);
     }

@@ -1,10 +1,11 @@
-use Rattle.std.proofs.Common.{◌≡◌, ◌++◌, ◌+◌, ◌≤◌, length, map, take}
+use Rattle.std.proofs.Common.{◌≡◌, ◌++◌, ◌+◌, ◌≤◌, map, take}
 use Rattle.term_store.specs.Blocks.{copied}
+use Rattle.term_store.specs.Heap.{words_of}
 use Rattle.term_store.proofs.copies.push_copies.Given as goal
 
-abbrev pub invariant-loop-word : goal.invariant-loop-word
-invariant-loop-word l =
+abbrev pub invariant-loop-i : goal.invariant-loop-i
+invariant-loop-i l =
     record {
-      copies : l.args.items ≡ l.fn.args.items ++ map (copied l.known l.low l.above) (take l.word-index l.words);
-      room : length l.words ≤ l.args.room + l.word-index;
+      copies : l.args.items ≡ l.fn.args.items ++ map (copied l.known.items l.low l.above) (take l.i (words_of l.parts.items l.head));
+      room : l.head.count ≤ l.args.room + l.i;
     }

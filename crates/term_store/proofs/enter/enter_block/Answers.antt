@@ -1,28 +1,27 @@
-use Rattle.std.proofs.Common.{◌≤◌, sym, subst, arith}
+use Rattle.std.proofs.Common.{◌≤◌, subst, arith}
 use Rattle.term_store.specs.Cells.{heap_of}
-use Rattle.term_store.specs.Entering.{Entered, Enters, IsReady, entered}
-use Rattle.term_store.specs.Nodes.{StandsFor}
+use Rattle.term_store.specs.Entering.{Entered, Enters}
 use Rattle.term_store.proofs.Copying.{all_ready}
 use Rattle.term_store.proofs.Heading.{body_entered}
 use Rattle.term_store.proofs.enter.enter_block.Goals as goal
 
 pub meet_head-requires-clause-facing : goal.meet_head-requires-clause-facing
-meet_head-requires-clause-facing c = (c.requires.goal, c.parts_of-parts.ensures.head_in_block)
+meet_head-requires-clause-facing c = (c.requires.goal, c.requires.parts.head_in_block)
 
 pub make_known-requires-clause-known : goal.make_known-requires-clause-known
 make_known-requires-clause-known c =
+    let b = c.args.block.now in
     let h = heap_of c.args.cells.now in
     let d = heap_of c.meet_head.new.cells in
     let known = c.meet_head.new.entry.known.items in
-    let met : Entered c.args.block.now h c.args.from c.args.goal c.parts_of-parts.result.0 d known =
-    subst (λ r. Enters r c.args.block.now h c.args.from c.args.goal c.parts_of-parts.result.0 d known) c.if-not-branch.false c.in_ok-meet_head.ensures.enters in
+    let met : Entered b h c.args.from c.args.goal b.head d known =
+    subst (λ r. Enters r b h c.args.from c.args.goal b.head d known) c.if-not-branch.false c.in_ok-meet_head.ensures.enters in
     met.known_after
 
 pub copy_part-requires-clause-ready : goal.copy_part-requires-clause-ready
 copy_part-requires-clause-ready c =
-    subst (λ ws. IsReady c.args.block.now ws c.parts_of-parts.result.1) (sym c.deref.ensures.value)
-    (all_ready c.args.block.now c.requires.block c.make_known.new.known.items c.in_ok-make_known.ensures.enough c.parts_of-parts.result.1
-    c.parts_of-parts.ensures.body_in_block)
+    let b = c.args.block.now in
+    all_ready b c.requires.block c.make_known.new.known.items c.in_ok-make_known.ensures.enough b.body c.requires.parts.body_in_block
 
 pub returns-clause-entered : goal.returns-clause-entered
 returns-clause-entered c =
@@ -33,11 +32,9 @@ returns-clause-entered c =
     let f = heap_of c.copy_part.new.cells in
     let known = c.meet_head.new.entry.known.items in
     let after = c.make_known.new.known.items in
-    let head = c.parts_of-parts.result.0 in
-    let body = c.parts_of-parts.result.1 in
-    let met : Entered b h c.args.from c.args.goal head d known =
-    subst (λ r. Enters r b h c.args.from c.args.goal head d known) c.if-not-branch.false c.in_ok-meet_head.ensures.enters in
+    let met : Entered b h c.args.from c.args.goal b.head d known =
+    subst (λ r. Enters r b h c.args.from c.args.goal b.head d known) c.if-not-branch.false c.in_ok-meet_head.ensures.enters in
     let most : b.variables ≤ b.variables = omega arith in
-    body_entered b h c.args.from c.args.goal head body d known e after f c.in_ok-body.body c.parts_of-parts.ensures met c.in_ok-make_known.ensures.meets
+    body_entered b h c.args.from c.args.goal b.head b.body d known e after f c.in_ok-body.body c.requires.parts met c.in_ok-make_known.ensures.meets
     c.make_known.ensures.fit.fit c.in_ok-make_known.ensures.known (c.in_ok-make_known.ensures.few b.variables most met.few) c.copy_part.ensures.gains
-    (subst (λ ws. StandsFor f (entered b e c.args.from ws body) c.in_ok-body.body) c.deref.ensures.value (c.in_ok-body.ensures.copied c.args.from))
+    (c.in_ok-body.ensures.copied c.args.from)

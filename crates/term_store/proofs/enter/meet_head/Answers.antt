@@ -1,95 +1,148 @@
-use Rattle.std.proofs.Common.{◌++◌, ◌∷◌, [], refl, sym, ap, subst}
-use Rattle.std.specs.List.{All}
+use Rattle.std.proofs.Common.{◌≡◌, ◌∷◌, [], ◌++◌, ◌≤◌, length, pos, get_or, Some, None, refl, sym, ap, subst, ◌∙◌, arith}
 use Rattle.std.proofs.lemmas.List.Elements.{All-nil}
+use Rattle.std.specs.List.{All}
+use Rattle.term_store.specs.declared.words.Rest.{Rest}
 use Rattle.term_store.specs.Cells.{heap_of}
-use Rattle.term_store.specs.Entering.{IsFacing}
-use Rattle.term_store.specs.Rests.{IsRest, Steps, pairs_of}
+use Rattle.term_store.specs.Entering.{IsFacing, IsKnown}
+use Rattle.term_store.specs.Rests.{AreRests, IsNext, IsRest, Stepped, Steps, StepsAt, no_rest, pair_at, pairs_of, rest_after}
 use Rattle.term_store.proofs.Extending.{extends_longer, extends_then}
 use Rattle.term_store.proofs.Heading.{Reached, reached_all, reached_never, reached_start}
 use Rattle.term_store.proofs.Knowing.{known_none, longer_same}
 use Rattle.term_store.proofs.Occurring.{popped}
-use Rattle.term_store.proofs.Resting.{reached_step, rests_after}
+use Rattle.term_store.proofs.Resting.{Taken, hand_off, hand_on, no_rests, none_taken, reached_step, rests_after, taken}
 use Rattle.term_store.proofs.enter.meet_head.Goals as goal
 
-pub loop-init : goal.loop-init
-loop-init c =
-    let b = c.args.block.now in
+pub meet_goal-requires-clause-known : goal.meet_goal-requires-clause-known
+meet_goal-requires-clause-known c =
     let h = heap_of c.args.cells.now in
-    record {
-      fit = c.requires.fit;
-      extends = extends_longer h h (longer_same h h refl);
-      rests = subst (λ rs. All (IsRest h b) rs) (sym c.clear-2.ensures.items) (All-nil (IsRest h b));
-      reached =
-          reached_start b h c.args.from c.args.pair c.clear.new.self.items (pairs_of h.args b.args.items c.clear-2.new.self.items ++ c.args.pair ∷ []) c.clear.ensures.items
-          (ap (λ rs. pairs_of h.args b.args.items rs ++ c.args.pair ∷ []) c.clear-2.ensures.items) (known_none h c.args.from [] refl c.requires.above) c.requires.facing;
-    }
+    subst (IsKnown h c.args.from) (sym c.clear.ensures.items) (known_none h c.args.from [] refl c.requires.above)
 
-pub meet_part-requires-clause-facing : goal.meet_part-requires-clause-facing
-meet_part-requires-clause-facing c =
-    let b = c.args.block.now in
-    let d = heap_of c.loop.cells in
-    let before = pairs_of d.args b.args.items c.loop.entry.rests.items in
-    (popped (IsFacing d b) (before ++ c.loop.next ∷ []) before c.loop.next refl c.loop.invariant.reached.facing).1
-
-pub returns-then-not-branch-clause-enters : goal.returns-then-not-branch-clause-enters
-returns-then-not-branch-clause-enters c =
-    let b = c.args.block.now in
-    let d = heap_of c.loop.cells in
-    let known = c.loop.entry.known.items in
-    let next = c.loop.next in
-    let before = pairs_of d.args b.args.items c.loop.entry.rests.items in
-    reached_never b (heap_of c.args.cells.now) c.args.from c.args.pair.left c.args.pair.right d known before (before ++ next ∷ []) next c.loop.invariant.reached refl
-    (subst (λ r. Steps r b d c.args.from known next.left next.right c.loop.entry.rests.items (heap_of c.meet_part.new.cells) c.meet_part.new.known.items c.meet_part.new.rests.items)
-    c.if-not-branch.true c.in_ok-meet_part.ensures.steps)
+pub meet_goal-requires-clause-few : goal.meet_goal-requires-clause-few
+meet_goal-requires-clause-few c = subst (λ ks. length ks ≤ c.args.block.now.variables) (sym c.clear.ensures.items) (omega arith)
 
 pub returns-in_default-clause-enters : goal.returns-in_default-clause-enters
 returns-in_default-clause-enters c =
     let b = c.args.block.now in
     let h = heap_of c.args.cells.now in
-    let d = heap_of c.loop.cells in
-    let e = heap_of c.meet_part.new.cells in
-    let known = c.loop.entry.known.items in
-    let after = c.meet_part.new.known.items in
-    let rests = c.loop.entry.rests.items in
-    let left = c.meet_part.new.rests.items in
-    let next = c.loop.next in
-    let before = pairs_of d.args b.args.items rests in
-    reached_all b h c.args.from c.args.pair.left c.args.pair.right e after (pairs_of e.args b.args.items left)
-    (reached_step b h c.args.from c.args.pair.left c.args.pair.right d known rests next e after left c.loop.invariant.reached
-    (popped (IsFacing d b) (before ++ next ∷ []) before next refl c.loop.invariant.reached.facing).0 c.loop.invariant.rests c.meet_part.ensures.extends
-    (subst (λ r. Steps r b d c.args.from known next.left next.right rests e after left) c.if-not-branch.false c.in_ok-meet_part.ensures.steps))
-    c.in_default.ensures.split
+    let p = c.args.pair in
+    let known = c.clear.new.self.items in
+    let rests = c.clear-2.new.self.items in
+    let before = pairs_of h.args b.args.items (rests ++ no_rest ∷ []) in
+    reached_never b h c.args.from p.left p.right h known before (before ++ p ∷ []) p
+    (reached_start b h c.args.from p known (before ++ p ∷ []) c.clear.ensures.items
+    (ap (λ rs. pairs_of h.args b.args.items (rs ++ no_rest ∷ []) ++ p ∷ []) c.clear-2.ensures.items) (known_none h c.args.from [] refl c.requires.above) c.requires.facing)
+    refl
+    (subst (λ r. Steps r b h c.args.from known p.left p.right rests no_rest (heap_of c.meet_goal.new.cells) c.meet_goal.new.known.items c.meet_goal.new.rests.items)
+    c.in_default.is c.in_ok-started.ensures.steps)
 
-pub next_pair-requires : goal.next_pair-requires
-next_pair-requires c =
+pub loop-init : goal.loop-init
+loop-init c =
+    let b = c.args.block.now in
+    let h = heap_of c.args.cells.now in
+    let e = heap_of c.meet_goal.new.cells in
+    let p = c.args.pair in
+    let from = c.args.from in
+    let known = c.clear.new.self.items in
+    let rests = c.clear-2.new.self.items in
+    let after = c.meet_goal.new.known.items in
+    let left = c.meet_goal.new.rests.items in
+    let first = c.in-Some.first in
+    let before = pairs_of h.args b.args.items (rests ++ no_rest ∷ []) in
+    let start : Reached b h from p.left p.right h known (before ++ p ∷ []) =
+    reached_start b h from p known (before ++ p ∷ []) c.clear.ensures.items
+    (ap (λ rs. pairs_of h.args b.args.items (rs ++ no_rest ∷ []) ++ p ∷ []) c.clear-2.ensures.items) (known_none h from [] refl c.requires.above) c.requires.facing in
+    let none : AreRests h b rests no_rest = subst (λ rs. AreRests h b rs no_rest) (sym c.clear-2.ensures.items) (no_rests h b) in
+    let stepped : Stepped b h from known p.left p.right rests no_rest e after left first =
+    subst (λ r. Steps r b h from known p.left p.right rests no_rest e after left) c.in-Some.is c.in_ok-started.ensures.steps in
+    record {
+      fit = c.meet_goal.ensures.fit;
+      extends = c.meet_goal.ensures.extends;
+      rests = rests_after b h from known p.left p.right rests no_rest e after left first none c.meet_goal.ensures.extends stepped;
+      reached = reached_step b h from p.left p.right h known rests no_rest p e after left first start none c.meet_goal.ensures.extends stepped;
+    }
+
+pub returns-in_default-take_next-clause-enters : goal.returns-in_default-take_next-clause-enters
+returns-in_default-take_next-clause-enters c =
     let b = c.args.block.now in
     let d = heap_of c.loop.cells in
-    let e = heap_of c.meet_part.new.cells in
-    let next = c.loop.next in
-    rests_after b d c.args.from c.loop.entry.known.items next.left next.right c.loop.entry.rests.items e c.meet_part.new.known.items c.meet_part.new.rests.items
-    c.loop.invariant.rests c.meet_part.ensures.extends
-    (subst (λ r. Steps r b d c.args.from c.loop.entry.known.items next.left next.right c.loop.entry.rests.items e c.meet_part.new.known.items c.meet_part.new.rests.items)
-    c.if-not-branch.false c.in_ok-meet_part.ensures.steps)
+    let rests = c.loop.entry.rests.items in
+    reached_all b (heap_of c.args.cells.now) c.args.from c.args.pair.left c.args.pair.right d c.loop.entry.known.items
+    (pairs_of d.args b.args.items (rests ++ c.loop.rest ∷ [])) c.loop.invariant.reached
+    (none_taken d b rests c.loop.rest c.take_next.new.rests.items c.in_default-take_next.ensures)
+
+pub meet_at-requires-clause-some : goal.meet_at-requires-clause-some
+meet_at-requires-clause-some c =
+    (taken (heap_of c.loop.cells) c.args.block.now c.loop.entry.rests.items c.loop.rest c.take_next.new.rests.items c.in-Some-take_next.now c.loop.invariant.rests
+    c.in-Some-take_next.ensures).some
+
+pub meet_at-requires-clause-rest : goal.meet_at-requires-clause-rest
+meet_at-requires-clause-rest c =
+    (taken (heap_of c.loop.cells) c.args.block.now c.loop.entry.rests.items c.loop.rest c.take_next.new.rests.items c.in-Some-take_next.now c.loop.invariant.rests
+    c.in-Some-take_next.ensures).kept.hand
+
+pub meet_at-requires-clause-facing : goal.meet_at-requires-clause-facing
+meet_at-requires-clause-facing c =
+    let b = c.args.block.now in
+    let d = heap_of c.loop.cells in
+    let rests = c.take_next.new.rests.items in
+    let now = c.in-Some-take_next.now in
+    let m = pair_at d.args b.args.items now in
+    let before = pairs_of d.args b.args.items (rests ++ rest_after now ∷ []) in
+    let t = taken d b c.loop.entry.rests.items c.loop.rest rests now c.loop.invariant.rests c.in-Some-take_next.ensures in
+    (popped (IsFacing d b) (before ++ m ∷ []) before m refl
+    (subst (All (IsFacing d b)) (t.pairs ∙ hand_off d b rests now t.some t.kept) c.loop.invariant.reached.facing)).1
+
+pub returns-in_err-met-clause-extends : goal.returns-in_err-met-clause-extends
+returns-in_err-met-clause-extends c =
+    extends_then (heap_of c.args.cells.now) (heap_of c.loop.cells) (heap_of c.meet_at.new.cells) c.loop.invariant.extends c.meet_at.ensures.extends
+
+pub returns-in_default-met-clause-extends : goal.returns-in_default-met-clause-extends
+returns-in_default-met-clause-extends c =
+    extends_then (heap_of c.args.cells.now) (heap_of c.loop.cells) (heap_of c.meet_at.new.cells) c.loop.invariant.extends c.meet_at.ensures.extends
+
+pub returns-in_default-met-clause-enters : goal.returns-in_default-met-clause-enters
+returns-in_default-met-clause-enters c =
+    let b = c.args.block.now in
+    let h = heap_of c.args.cells.now in
+    let d = heap_of c.loop.cells in
+    let from = c.args.from in
+    let known = c.loop.entry.known.items in
+    let rests = c.take_next.new.rests.items in
+    let now = c.in-Some-take_next.now in
+    let m = pair_at d.args b.args.items now in
+    let before = pairs_of d.args b.args.items (rests ++ rest_after now ∷ []) in
+    let t = taken d b c.loop.entry.rests.items c.loop.rest rests now c.loop.invariant.rests c.in-Some-take_next.ensures in
+    let reached : Reached b h from c.args.pair.left c.args.pair.right d known (before ++ m ∷ []) =
+    subst (λ ps. Reached b h from c.args.pair.left c.args.pair.right d known ps) (t.pairs ∙ hand_off d b rests now t.some t.kept) c.loop.invariant.reached in
+    reached_never b h from c.args.pair.left c.args.pair.right d known before (before ++ m ∷ []) m reached refl
+    (subst (λ q. StepsAt q b d from known rests now (heap_of c.meet_at.new.cells) c.meet_at.new.known.items c.meet_at.new.rests.items) c.in_default-met.is
+    c.in_ok-met.ensures.steps)
 
 pub loop-preserved : goal.loop-preserved
 loop-preserved c =
     let b = c.args.block.now in
     let h = heap_of c.args.cells.now in
     let d = heap_of c.loop.cells in
-    let e = heap_of c.meet_part.new.cells in
+    let e = heap_of c.meet_at.new.cells in
+    let from = c.args.from in
     let known = c.loop.entry.known.items in
-    let after = c.meet_part.new.known.items in
-    let rests = c.loop.entry.rests.items in
-    let left = c.meet_part.new.rests.items in
-    let next = c.loop.next in
-    let before = pairs_of d.args b.args.items rests in
+    let after = c.meet_at.new.known.items in
+    let rests = c.take_next.new.rests.items in
+    let left = c.meet_at.new.rests.items in
+    let now = c.in-Some-take_next.now in
+    let rest = c.in-Some-met.after in
+    let m = pair_at d.args b.args.items now in
+    let before = pairs_of d.args b.args.items (rests ++ rest_after now ∷ []) in
+    let t = taken d b c.loop.entry.rests.items c.loop.rest rests now c.loop.invariant.rests c.in-Some-take_next.ensures in
+    let reached : Reached b h from c.args.pair.left c.args.pair.right d known (before ++ m ∷ []) =
+    subst (λ ps. Reached b h from c.args.pair.left c.args.pair.right d known ps) (t.pairs ∙ hand_off d b rests now t.some t.kept) c.loop.invariant.reached in
+    let on : AreRests d b rests (rest_after now) = hand_on d b rests now t.some t.kept in
+    let stepped : Stepped b d from known m.left m.right rests (rest_after now) e after left rest =
+    subst (λ q. StepsAt q b d from known rests now e after left) c.in-Some-met.is c.in_ok-met.ensures.steps in
     record {
-      fit = c.meet_part.ensures.fit;
-      extends = extends_then h d e c.loop.invariant.extends c.meet_part.ensures.extends;
-      rests = c.next_pair.ensures.rests;
+      fit = c.meet_at.ensures.fit;
+      extends = extends_then h d e c.loop.invariant.extends c.meet_at.ensures.extends;
+      rests = rests_after b d from known m.left m.right rests (rest_after now) e after left rest on c.meet_at.ensures.extends stepped;
       reached =
-          subst (λ ps. Reached b h c.args.from c.args.pair.left c.args.pair.right e after ps) c.in-Some.ensures.split
-          (reached_step b h c.args.from c.args.pair.left c.args.pair.right d known rests next e after left c.loop.invariant.reached
-          (popped (IsFacing d b) (before ++ next ∷ []) before next refl c.loop.invariant.reached.facing).0 c.loop.invariant.rests c.meet_part.ensures.extends
-          (subst (λ r. Steps r b d c.args.from known next.left next.right rests e after left) c.if-not-branch.false c.in_ok-meet_part.ensures.steps));
+          reached_step b h from c.args.pair.left c.args.pair.right d known rests (rest_after now) m e after left rest reached on c.meet_at.ensures.extends stepped;
     }

@@ -1,8 +1,7 @@
-use Rattle.std.proofs.Common.{◌++◌, ◌∷◌, []}
-use Rattle.std.specs.List.{All}
+use Rattle.std.proofs.Common.{◌∷◌, [], ◌++◌}
 use Rattle.term_store.specs.Cells.{IsFit, heap_of}
 use Rattle.term_store.specs.Entering.{Extends}
-use Rattle.term_store.specs.Rests.{IsRest, pairs_of}
+use Rattle.term_store.specs.Rests.{AreRests, pairs_of}
 use Rattle.term_store.proofs.Heading.{Reached}
 use Rattle.term_store.proofs.enter.meet_head.Given as goal
 
@@ -11,8 +10,8 @@ invariant-loop l =
     record {
       fit : IsFit l.cells;
       extends : Extends (heap_of l.fn.cells) (heap_of l.cells);
-      rests : All (IsRest (heap_of l.cells) l.block) l.entry.rests.items;
+      rests : AreRests (heap_of l.cells) l.block l.entry.rests.items l.rest;
       reached :
           Reached l.block (heap_of l.fn.cells) l.from l.fn.pair.left l.fn.pair.right (heap_of l.cells) l.entry.known.items
-          (pairs_of l.cells.args.items l.block.args.items l.entry.rests.items ++ l.next ∷ []);
+          (pairs_of l.cells.args.items l.block.args.items (l.entry.rests.items ++ l.rest ∷ []));
     }

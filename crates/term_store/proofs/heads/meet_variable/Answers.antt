@@ -20,9 +20,9 @@ returns-then-variable-len-clause-joins c =
     let h = heap_of c.args.cells.now in
     let d = heap_of c.unify.new.cells in
     let ks = c.args.known.now.items in
-    let lt : c.args.variable < length ks = subst (λ n. c.args.variable < n) (c.len.ensures ∙ c.args.known.now.ok.0) c.if-variable-len.true in
+    let lt : c.args.variable < length ks = subst (λ n. c.args.variable < n) c.len.ensures c.if-variable-len.true in
     IfOk-weaker c.unify.result _ _
     (λ r s. joins_solves r h c.args.from ks c.args.word c.args.variable d c.requires.fit.fit c.requires.known c.requires.word lt
     c.unify.ensures.grown
-    (subst (λ w. Solves r h c.args.word w d) (c.known_at-met.ensures ∙ ap (λ ws. get_or ws c.args.variable (Int (pos 0))) c.deref.ensures.value) s))
+    (subst (λ w. Solves r h c.args.word w d) c.known_at-met.ensures s))
     c.unify.ensures.solves

@@ -16,5 +16,5 @@ returns-then-left-right-2 c from known known_is few =
 pub returns : goal.returns
 returns c from known known_is few =
     part_steps c.args.block.now c.requires.block (heap_of c.args.cells.now) c.requires.fit.fit from known c.args.l c.args.k c.requires.left c.requires.right
-    c.head_at-left.result c.block_head-right.result c.head_at-left.ensures c.block_head-right.ensures c.args.rests.now.items c.push.new.self.items
-    known_is few c.if-left-right.false c.if-left-right-2.false c.in_ok-push.ensures.items
+    c.head_at-left.result c.block_head-right.result c.head_at-left.ensures c.block_head-right.ensures c.args.rests.now.items c.args.next c.put_off.new.rests.items
+    known_is few c.if-left-right.false c.if-left-right-2.false c.in_ok-put_off.ensures

@@ -26,7 +26,7 @@ returns-then-not-may-clause-held c =
     let e = heap_of c.args.cells.now in
     let means = c.requires.means in
     sym (ap (has (numbered e c.args.slot)) means.1
-    ∙ part_absent c.args.block.now c.requires.block e means.0 c.args.known.now c.requires.known c.args.before c.args.slot c.args.k c.requires.part c.requires.ready
+    ∙ part_absent c.args.block.now c.requires.block e means.0 c.args.known.now.items c.requires.known c.args.before c.args.slot c.args.k c.requires.part c.requires.ready
     c.requires.new (c.in_ok-may.ensures.none c.if-not-may.true))
 
 pub returns-clause-held : goal.returns-clause-held

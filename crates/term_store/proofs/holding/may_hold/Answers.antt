@@ -23,13 +23,12 @@ pub has_met-requires-clause-free : goal.has_met-requires-clause-free
 has_met-requires-clause-free c = subst (λ (g : Heap). find c.args.slot g.trail ≡ None) (sym c.loop-j.invariant.kept) c.requires.free
 
 pub has_met-requires-clause-known : goal.has_met-requires-clause-known
-has_met-requires-clause-known c = subst (λ (g : Heap). All (IsIn g) c.args.known.now) (sym c.loop-j.invariant.kept) c.requires.known
+has_met-requires-clause-known c = subst (λ (g : Heap). All (IsIn g) c.args.known.now.items) (sym c.loop-j.invariant.kept) c.requires.known
 
 pub loop-j-preserved : goal.loop-j-preserved
 loop-j-preserved c =
     let inv = c.loop-j.invariant in
-    let g = heap_of c.loop-j.cells in
-    let known = c.args.known.now in
+    let known = c.args.known.now.items in
     record {
       fit = c.has_met.ensures.fit;
       kept = c.has_met.ensures.kept ∙ inv.kept;
@@ -39,7 +38,7 @@ loop-j-preserved c =
             let same : c.loop-j.j ≡ i = omega arith in
             subst (λ j. All (IsHarmless (heap_of c.args.cells.now) c.args.slot known c.args.before) (arguments_of c.args.block.now j)) same
             (subst (λ (h : Heap). All (IsHarmless h c.args.slot known c.args.before) (arguments_of c.args.block.now c.loop-j.j)) inv.kept
-            (subst (All (IsHarmless g c.args.slot known c.args.before)) c.block_words-words.ensures (c.in_ok-met.ensures.none c.if-met.false)))
+            (c.in_ok-met.ensures.none c.if-met.false))
       ];
     }
 

@@ -11,5 +11,5 @@ invariant-loop-j l =
       fit : IsFit l.cells;
       kept : heap_of l.cells ≡ heap_of l.fn.cells;
       harmless : (i : ℕ) → (get_or l.block.ranges.items l.k no_range).low ≤ i → i < l.j
-          → All (IsHarmless (heap_of l.fn.cells) l.slot l.known l.before) (arguments_of l.block i);
+          → All (IsHarmless (heap_of l.fn.cells) l.slot l.known.items l.before) (arguments_of l.block i);
     }

@@ -1,7 +1,7 @@
 use Rattle.std.proofs.Common.{◌+◌, zero, ap, subst, ◌∙◌}
 use Rattle.pl_term.specs.Nodes.{tree}
 use Rattle.pl_term.specs.Variables.{rename_by}
-use Rattle.term_store.specs.Blocks.{IsBlockOf}
+use Rattle.term_store.specs.Entering.{IsBlockOf}
 use Rattle.term_store.specs.Nodes.{node_views}
 use Rattle.term_store.proofs.Renumbering.{raised_numbered}
 use Rattle.term_store.proofs.stored.forms_of.Goals as goal

@@ -2,7 +2,7 @@ use Rattle.std.proofs.Common.{◌≡◌, ◌+◌, get_or, refl, rules, ap, sym, 
 use Rattle.term_store.specs.declared.nodes.AtomNode.TheVariants.{Var}
 use Rattle.pl_term.specs.Nodes.{tree}
 use Rattle.std.specs.Option.{IfSome}
-use Rattle.term_store.specs.Blocks.{IsBlockOf}
+use Rattle.term_store.specs.Entering.{IsBlockOf}
 use Rattle.term_store.specs.Nodes.{node_views}
 use Rattle.term_store.specs.StoredTerms.{IsStored}
 use Rattle.term_store.proofs.Renumbering.{numbered_more, numbered_stored, numbered_tree}

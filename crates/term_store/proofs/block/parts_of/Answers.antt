@@ -1,8 +1,8 @@
 use Rattle.std.proofs.Common.{ap, sym, ◌∙◌}
 use Rattle.term_store.specs.declared.words.Word.TheVariants.{Atom}
 use Rattle.term_store.proofs.Parting.{counted_parts, named_parts, plain_parts, rule_parts}
-use Rattle.term_store.proofs.enter.parts_of.Goals.{else-head-slot-via-then-head-slot+else-head-eq2, else-head-slot-via-else-head-slot}
-use Rattle.term_store.proofs.enter.parts_of.Goals as goal
+use Rattle.term_store.proofs.block.parts_of.Goals.{else-head-slot-via-then-head-slot+else-head-eq2, else-head-slot-via-else-head-slot}
+use Rattle.term_store.proofs.block.parts_of.Goals as goal
 
 pub returns-in_default : goal.returns-in_default
 returns-in_default c = plain_parts c.args.block.now c.requires (Atom c.slot.result) c.in_default.not-Comp (ap Atom c.slot.ensures)

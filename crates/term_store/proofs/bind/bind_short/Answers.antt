@@ -1,0 +1,29 @@
+use Rattle.std.proofs.Common.{◌≡◌, [], set, Some, sym, subst}
+use Rattle.term_store.specs.Heap.{pushed}
+use Rattle.term_store.specs.Fit.{Fit, IsCache}
+use Rattle.term_store.specs.Cells.{heap_of}
+use Rattle.term_store.specs.GroundTerms.{AreGroundTerms}
+use Rattle.term_store.specs.Shorts.{long_word}
+use Rattle.term_store.proofs.Binding.{fit_pushed, cache_pushed}
+use Rattle.term_store.proofs.Settling.{settled_pushed}
+use Rattle.term_store.proofs.bind.bind_short.Goals as goal
+
+pub returns-clause-fit : goal.returns-clause-fit
+returns-clause-fit c =
+    let h = heap_of c.args.cells.now in
+    let old = c.args.cells.now.bonds in
+    let new = c.bind_short.new.self in
+    let word = long_word [] c.args.short in
+    let e : new.items ≡ (pushed h c.args.slot word).trail = c.in_ok-bind_short.ensures.items in
+    let r = c.requires in
+    record {
+      fit = subst (λ t. Fit (record h { trail = t })) (sym e) (fit_pushed h c.args.slot word r.fit.fit r.slot r.free r.below r.inside r.absent);
+      cache =
+          subst (λ vs. IsCache vs (record h { trail = new.items })) (sym c.in_ok-bind_short.ensures.values)
+          (subst (λ t. IsCache (set old.values c.args.slot (Some word)) (record h { trail = t })) (sym e)
+          (cache_pushed old.values h c.args.slot word r.fit.cache r.slot r.free));
+      marks = record { long = r.fit.marks.long; parts = r.fit.marks.parts };
+      settled =
+          subst (λ t. AreGroundTerms c.args.cells.now.settled.list.items (record h { trail = t })) (sym e)
+          (settled_pushed c.args.cells.now.settled.list.items h c.args.slot word r.fit.settled);
+    }
