@@ -9,9 +9,11 @@ deref-word-requires-clause-inside c = subst (IsIn (heap_of c.args.cells.now)) (s
 
 pub returns : goal.returns
 returns c =
-    record { first = record {
-      word = c.deref-word.result;
-      known_after = c.in_ok-push.ensures.items;
-      means = c.deref-word.ensures.means ∙ ap (meaning (heap_of c.args.cells.now)) c.word_at-first.ensures;
-      inside = c.deref-word.ensures.inside;
-    } }
+    record {
+      first = record {
+        word = c.deref-word.result;
+        known_after = c.in_ok-push.ensures.items;
+        means = c.deref-word.ensures.means ∙ ap (meaning (heap_of c.args.cells.now)) c.word_at-first.ensures;
+        inside = c.deref-word.ensures.inside;
+      };
+    }
