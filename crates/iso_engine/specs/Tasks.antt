@@ -1,6 +1,7 @@
 -- Tasks.
 use Rattle.std.specs.Prelude.{◌≡◌, ℕ, ◌∷◌, Some}
 use Rattle.pl_term.specs.Tree.{Chars}
+use Rattle.pl_model.specs.Control.{construct}
 use Rattle.atom_api.specs.Fixed.{fixed}
 use Rattle.iso_search.specs.declared.frames.Task.{Task}
 use Rattle.iso_search.specs.declared.frames.Task.TheVariants.{Goal, Commit, Refute, Leave, Collect}
@@ -9,8 +10,9 @@ use Rattle.term_store.specs.Contents.{Contents}
 use Rattle.iso_search.specs.declared.construct.Construct.{Construct}
 use Rattle.iso_search.specs.declared.construct.Construct.TheVariants.{Exits, Clears, Retracts, Inspects}
 use Rattle.iso_search.specs.declared.search.Search.{Search}
+use Rattle.iso_search.specs.Constructs.{IsConstructIn, construction}
 use Rattle.iso_search.specs.Frames.{tasks}
-use Rattle.iso_search.specs.Reading.{IsView, View}
+use Rattle.iso_search.specs.Reading.{IsView, View, reads}
 use Rattle.iso_engine.specs.declared.doing.Doing.TheVariants.{Running}
 use Rattle.iso_engine.specs.declared.running.Did.{Did}
 use Rattle.iso_engine.specs.declared.running.Did.TheVariants.{Next, Call as CallDid, Row as RowDid, Ask as AskDid, Write as WriteDid, Look as LookDid, Exit as ExitDid, Collect as CollectDid, Clear as ClearDid}
@@ -39,6 +41,14 @@ IsForOthers (Collect w h) = Unit {0}
 -- The task is to run the goal at the place.
 abbrev pub IsGoalAt : Task → Place → Type 0
 IsGoalAt x goal = (cut : ℕ) × (x ≡ Goal goal cut)
+
+-- The goal at the place is of this kind.
+abbrev pub IsKindAt : Contents → Place → Construct → Type 0
+IsKindAt s goal kind = IsConstructIn s kind × ((v : View) → IsView v → construction v s kind ≡ construct (reads v s goal))
+
+-- Where the task is to run a goal, the goal is of this kind.
+abbrev pub IsKindOf : Contents → Task → Construct → Type 0
+IsKindOf s x kind = (goal : Place) (cut : ℕ) → x ≡ Goal goal cut → IsKindAt s goal kind
 
 -- Terms can be read.
 abbrev pub IsViewed : Type 0

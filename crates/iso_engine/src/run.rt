@@ -11,22 +11,22 @@ ghost use Rattle.iso_engine.specs.Asked.{AsksFor};
 ghost use Rattle.iso_engine.specs.Ready.{IsReady};
 ghost use Rattle.iso_engine.specs.Spending.{IsSpent};
 ghost use Rattle.iso_engine.specs.Slices.{IsStepped, written_text};
+ghost use Rattle.iso_engine.specs.Tasks.{IsKindOf};
 ghost use Rattle.iso_engine.specs.Unserved.{as_stopped, stopped_refusals};
 
-use crate::call::direct::direct_call;
 use crate::doing::Doing;
 use crate::engine::Engine;
 use crate::kinds::passes;
 use crate::running::{Did, do_task, pass};
 use crate::slices::Slice;
-use iso_search::construct::construct_at;
+use iso_search::construct::{Construct, construct_at};
 use iso_search::frames::{Frame, Task, first_task};
 use term_store::{Place, Stored};
 use world_api::{Unserved, World};
 
 impl Engine {
     /// Does the first task of a list, or gives a solution where there is none. What the goal writes is put after `out`.
-    #[inline(always)]
+    #[inline(never)]
     pub fn run<W: World<Term = Stored>>(
         &mut self,
         list: usize,
@@ -52,49 +52,16 @@ impl Engine {
             None => self.solve(world, atoms),
             Some(frame) => match frame.task {
                 Task::Goal(goal, cut) => {
-                    self.run_goal(goal, cut, frame.continuation, list, world, atoms, out)
+                    self.run_own(goal, cut, frame.continuation, list, world, atoms, out)
                 }
-                _ => self.run_task(frame, list, world, atoms, out),
+                _ => self.run_task(frame, Construct::Other, list, world, atoms, out),
             },
         }
     }
 
-    /// Does this goal, the first task of a list, before the tasks of another one. What it writes is put after `out`.
+    /// Does this goal, the first task of a list, before the tasks of another one. It is for the goals that are no calls by their names
+    /// alone.
     #[inline(always)]
-    fn run_goal<W: World<Term = Stored>>(
-        &mut self,
-        goal: Place,
-        cut: usize,
-        rest: usize,
-        list: usize,
-        world: &mut W,
-        atoms: &mut W::A,
-        out: &mut Vec<u8>,
-    ) -> Result<Option<Slice>, Unserved>
-        requires runs { has_ended (W.told world.old).engine (W.told world.old).history ≡ false }
-        requires ready { IsReady (W.A.held atoms.old) (W.told world.old) self.old }
-        requires list { self.old.doing ≡ Running list }
-        requires first { tasks self.old.search.frames.items list ≡ Goal goal cut ∷ tasks self.old.search.frames.items rest }
-        requires rest { rest ≤ length self.old.search.frames.items }
-        ensures runs { has_ended (W.told world.new).engine (W.told world.new).history ≡ false }
-        ensures holds { Holds (W.A.held atoms.old) (W.A.held atoms.new) }
-        ensures refusals { IfOk (as_stopped result) (λ o. W.A.refusals atoms.new ≡ W.A.refusals atoms.old ++ stopped_refusals o) }
-        ensures asked { Gains (AsksFor (W.A.held atoms.old) (W.told world.old) self.old) (W.A.asked atoms.old) (W.A.asked atoms.new) }
-        ensures given { IfOk (as_stopped result) (λ o. IfNone o (self.new.solutions_found ≡ self.old.solutions_found)) }
-        ensures spent { OnOk (as_stopped result) (IsSpent self.old.search.inferences self.new.search.inferences) }
-        ensures ready { OnOk (as_stopped result) (IsReady (W.A.held atoms.new) (W.told world.new) self.new) }
-        ensures stepped { IfOk (as_stopped result) (λ o. (more : List Output)
-            × IsStepped (W.A.held atoms.old) (W.told world.old) self.old o (W.A.held atoms.new) (W.told world.new) self.new more
-            × (out.new.items ≡ out.old.items ++ encode_utf8_all (written_text more))) }
-    {
-        if let Some(request) = direct_call(&self.search.store, goal) {
-            return self.call(goal, request.procedure, request, rest, world, atoms);
-        }
-        self.run_own(goal, cut, rest, list, world, atoms, out)
-    }
-
-    /// Does the same. It is for the goals that are no calls by their names alone.
-    #[inline(never)]
     fn run_own<W: World<Term = Stored>>(
         &mut self,
         goal: Place,
@@ -131,14 +98,15 @@ impl Engine {
             task: Task::Goal(goal, cut),
             continuation: rest,
         };
-        self.run_task(frame, list, world, atoms, out)
+        self.run_task(frame, kind, list, world, atoms, out)
     }
 
-    /// Does this first task of a list. What the goal writes is put after `out`.
+    /// Does this first task of a list; where it is to run a goal, the goal is of the kind. What the goal writes is put after `out`.
     #[inline(never)]
     fn run_task<W: World<Term = Stored>>(
         &mut self,
         frame: Frame,
+        kind: Construct,
         list: usize,
         world: &mut W,
         atoms: &mut W::A,
@@ -146,6 +114,7 @@ impl Engine {
     ) -> Result<Option<Slice>, Unserved>
         requires runs { has_ended (W.told world.old).engine (W.told world.old).history ≡ false }
         requires ready { IsReady (W.A.held atoms.old) (W.told world.old) self.old }
+        requires kind { IsKindOf self.old.search.store frame.task kind }
         requires list { self.old.doing ≡ Running list }
         requires first { tasks self.old.search.frames.items list ≡ frame.task ∷ tasks self.old.search.frames.items frame.continuation }
         requires rest { frame.continuation ≤ length self.old.search.frames.items }
@@ -160,7 +129,7 @@ impl Engine {
             × IsStepped (W.A.held atoms.old) (W.told world.old) self.old o (W.A.held atoms.new) (W.told world.new) self.new more
             × (out.new.items ≡ out.old.items ++ encode_utf8_all (written_text more))) }
     {
-        let did = do_task(self.alloc, &mut self.search, frame)?;
+        let did = do_task(self.alloc, &mut self.search, frame, kind)?;
         match did {
             Did::Next(doing) => {
                 self.doing = doing;

@@ -13,7 +13,7 @@ ghost use Rattle.iso_engine.specs.declared.doing.Doing.TheVariants.{Running};
 ghost use Rattle.iso_engine.specs.declared.running.Did.TheVariants.{Next};
 ghost use Rattle.iso_engine.specs.Calling.{is_passing_kind};
 ghost use Rattle.iso_engine.specs.Following.{HasProcedure, IsInteger, StepsTo};
-ghost use Rattle.iso_engine.specs.Tasks.{IsDone, IsForOthers, IsLeftOver, IsOwnDid, IsOwnKind, IsViewed};
+ghost use Rattle.iso_engine.specs.Tasks.{IsDone, IsForOthers, IsKindAt, IsKindOf, IsLeftOver, IsOwnDid, IsOwnKind, IsViewed};
 
 use crate::builtin::{Builtin, RowGoal, builtin_at};
 use crate::doing::Doing;
@@ -24,7 +24,7 @@ use crate::kinds::{is_other, is_write};
 use crate::procedure::procedure_at;
 use crate::state::collecting::Collection;
 use crate::state::looks::{Look, LookGoal};
-use iso_search::construct::{Construct, construct_at};
+use iso_search::construct::Construct;
 use iso_search::frames::{Frame, Task};
 use iso_search::search::Search;
 use pl_term::Memory;
@@ -56,10 +56,16 @@ pub enum Did {
     Clear(Place, Place),
 }
 
-/// Does a task, before those of a list. The only error is out of memory.
-pub fn do_task(alloc: Global, search: &mut Search, frame: Frame) -> Result<Did, Memory>
+/// Does a task, before those of a list; where it is to run a goal, the goal is of the kind. The only error is out of memory.
+pub fn do_task(
+    alloc: Global,
+    search: &mut Search,
+    frame: Frame,
+    kind: Construct,
+) -> Result<Did, Memory>
     requires whole { IsWhole search.old }
     requires task { IsTaskIn search.old.store frame.task }
+    requires kind { IsKindOf search.old.store frame.task kind }
     requires rest { frame.continuation ≤ length search.old.frames.items }
     requires viewed { IsViewed }
     ensures whole { OnOk result (IsWhole search.new) }
@@ -71,7 +77,7 @@ pub fn do_task(alloc: Global, search: &mut Search, frame: Frame) -> Result<Did, 
     }
     match frame.task {
         Task::Goal(goal, cut) => {
-            let did = do_goal(alloc, search, goal, cut, frame.continuation)?;
+            let did = do_goal(alloc, search, goal, kind, cut, frame.continuation)?;
             Ok(did)
         }
         Task::Collect(template, height) => {
@@ -141,17 +147,19 @@ pub fn pass(
     }
 }
 
-/// Takes up a goal, before the tasks of a list. The only error is out of memory. An integer is no goal: no conversion of a term
+/// Takes up a goal of this kind, before the tasks of a list. The only error is out of memory. An integer is no goal: no conversion of a term
 /// to a body leaves one in its place (ISO 7.6.2).
 fn do_goal(
     alloc: Global,
     search: &mut Search,
     goal: Place,
+    kind: Construct,
     cut: usize,
     rest: usize,
 ) -> Result<Did, Memory>
     requires whole { IsWhole search.old }
     requires goal { Holds search.old.store goal }
+    requires kind { IsKindAt search.old.store goal kind }
     requires rest { rest ≤ length search.old.frames.items }
     requires viewed { IsViewed }
     ensures whole { OnOk result (IsWhole search.new) }
@@ -169,7 +177,6 @@ fn do_goal(
         name: procedure.name,
         arity: procedure.arity,
     };
-    let kind = construct_at(&search.store, goal);
     let taken = take_up(alloc, search, goal, kind, procedure, cut, rest)?;
     match taken {
         Some(doing) => Ok(Did::Next(doing)),

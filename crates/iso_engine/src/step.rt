@@ -11,6 +11,7 @@ ghost use Rattle.iso_engine.specs.Slices.{IsStepped, written_text};
 ghost use Rattle.iso_engine.specs.Unserved.{as_stopped, stopped_refusals};
 
 use crate::answering::after_solution;
+use crate::call::direct::first_call;
 use crate::doing::Doing;
 use crate::engine::Engine;
 use crate::slices::Slice;
@@ -23,6 +24,38 @@ impl Engine {
     /// Makes a step, or says why none can be made. What the goal writes is put after `out`.
     #[inline(always)]
     pub fn step<W: World<Term = Stored>>(
+        &mut self,
+        world: &mut W,
+        atoms: &mut W::A,
+        out: &mut Vec<u8>,
+    ) -> Result<Option<Slice>, Unserved>
+        requires runs { has_ended (W.told world.old).engine (W.told world.old).history ≡ false }
+        requires ready { IsReady (W.A.held atoms.old) (W.told world.old) self.old }
+        ensures runs { has_ended (W.told world.new).engine (W.told world.new).history ≡ false }
+        ensures holds { Holds (W.A.held atoms.old) (W.A.held atoms.new) }
+        ensures refusals { IfOk (as_stopped result) (λ o. W.A.refusals atoms.new ≡ W.A.refusals atoms.old ++ stopped_refusals o) }
+        ensures asked { Gains (AsksFor (W.A.held atoms.old) (W.told world.old) self.old) (W.A.asked atoms.old) (W.A.asked atoms.new) }
+        ensures given { IfOk (as_stopped result) (λ o. IfNone o (self.new.solutions_found ≡ self.old.solutions_found)) }
+        ensures spent { OnOk (as_stopped result) (IsSpent self.old.search.inferences self.new.search.inferences) }
+        ensures ready { OnOk (as_stopped result) (IsReady (W.A.held atoms.new) (W.told world.new) self.new) }
+        ensures stepped { IfOk (as_stopped result) (λ o. (more : List Output)
+            × IsStepped (W.A.held atoms.old) (W.told world.old) self.old o (W.A.held atoms.new) (W.told world.new) self.new more
+            × (out.new.items ≡ out.old.items ++ encode_utf8_all (written_text more))) }
+    {
+        if let Doing::Running(list) = &self.doing {
+            if let Some(first) = first_call(&self.search, *list) {
+                let goal = first.goal;
+                let request = first.request;
+                let rest = first.rest;
+                return self.call(goal, request.procedure, request, rest, world, atoms);
+            }
+        }
+        self.step_other(world, atoms, out)
+    }
+
+    /// Does the same, whatever is done next: a call by the name of its goal alone comes first.
+    #[inline(never)]
+    fn step_other<W: World<Term = Stored>>(
         &mut self,
         world: &mut W,
         atoms: &mut W::A,

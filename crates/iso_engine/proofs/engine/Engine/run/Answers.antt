@@ -22,9 +22,12 @@ returns-in-None-clause-stepped g c =
     (λ o. (more : List Output) × IsStepped m t e o n u f more × (a ≡ a ++ encode_utf8_all (written_text more)))
     (λ o h. (h.0, h.1, silent_out a h.0 h.2)) c.solve.ensures.stepped
 
-pub run_goal-requires-clause-first : goal.run_goal-requires-clause-first
-run_goal-requires-clause-first g c =
+pub run_own-requires-clause-first : goal.run_own-requires-clause-first
+run_own-requires-clause-first g c =
     let e = c.args.self.now.search in
     let f = c.in-Some.frame in
     let first = subst (λ l. tasks l c.args.list ≡ f.task ∷ tasks l f.continuation) c.deref.ensures.value c.in-Some.ensures.0 in
     subst (λ (x : Task). tasks e.frames.items c.args.list ≡ x ∷ tasks e.frames.items f.continuation) c.in-Goal.is first
+
+pub run_task-requires-clause-kind : goal.run_task-requires-clause-kind
+run_task-requires-clause-kind g c at cut is = absurd (c.in_default.not-Goal at cut is)

@@ -1,15 +1,11 @@
-use Rattle.std.proofs.Common.{◌≡◌, [], ◌++◌, List, refl}
-use Rattle.std.specs.Prelude.{encode_utf8_all}
-use Rattle.std.proofs.lemmas.Result.{IfOk-weaker}
-use Rattle.pl_model.specs.Resolution.{Output}
+use Rattle.std.proofs.Common.{◌≡◌, ℕ, [], refl, subst}
+use Rattle.term_store.specs.declared.words.Place.{Place}
 use Rattle.iso_search.specs.declared.frames.Task.TheVariants.{Goal}
 use Rattle.iso_search.specs.Frames.{tasks}
 use Rattle.iso_engine.specs.declared.doing.Doing.TheVariants.{Running}
 use Rattle.iso_engine.specs.declared.engine.Engine.{Engine}
 use Rattle.iso_engine.specs.declared.running.Did.TheVariants.{Next}
-use Rattle.iso_engine.specs.Slices.{IsStepped, written_text}
-use Rattle.iso_engine.specs.Unserved.{as_stopped}
-use Rattle.iso_engine.proofs.Refusals.{none_ok}
+use Rattle.iso_engine.specs.Tasks.{IsKindAt}
 use Rattle.iso_engine.proofs.Solutions.{view_is}
 use Rattle.iso_engine.proofs.Stability.{advance_step, spent_by, step_ready}
 use Rattle.iso_engine.proofs.Stepping.{silent_out}
@@ -68,3 +64,11 @@ returns-then-passes-clause-stepped g c =
     let steps = task_steps e.solution_limit e.solutions_found e.search f e.doing d c.args.list (Goal c.args.goal c.args.cut) c.args.rest (Next d) c.requires.list c.requires.first next.ensures.done refl in
     let new : Engine = record e { search = f; doing = d } in
     ([], advance_step m t e new steps next.ensures.budgets refl refl view, silent_out c.args.out.now.items [] refl)
+
+one_place : (w v : Place) (h k : ℕ) → Goal w h ≡ Goal v k → w ≡ v
+one_place w v h k is = cc
+
+pub run_task-requires-clause-kind : goal.run_task-requires-clause-kind
+run_task-requires-clause-kind g c at cut is =
+    let kind = c.construct_at-kind in
+    subst (λ w. IsKindAt c.args.self.now.search.store w kind.result) (one_place c.args.goal at c.args.cut cut is) (kind.ensures.inside, kind.ensures.stands)
