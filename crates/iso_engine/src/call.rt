@@ -23,7 +23,7 @@ pub mod goals;
 pub mod retries;
 
 use crate::call::called::Called;
-use crate::call::calls::call_clauses;
+use crate::call::calls::{call_clauses, call_known};
 use crate::call::goals::{Request, request_at};
 use crate::engine::Engine;
 use crate::slices::Slice;
@@ -61,7 +61,43 @@ impl Engine {
         ensures stepped { IfOk (as_stopped result) (λ o.
             IsStepped (W.A.held atoms.old) (W.told world.old) self.old o (W.A.held atoms.new) (W.told world.new) self.new []) }
     {
-        let called = call_clauses(&mut self.search, world, atoms, goal, request, rest)?;
+        let known = call_known(&mut self.search, world, atoms, goal, request, rest)?;
+        match known {
+            Some(outcome) => {
+                self.go_on(outcome, procedure, rest)?;
+                Ok(None)
+            }
+            None => self.call_anew(goal, procedure, rest, world, atoms),
+        }
+    }
+
+    /// Does the same, where the world does not know the clauses without a look, or no inference can be made.
+    #[inline(never)]
+    fn call_anew<W: World<Term = Stored>>(
+        &mut self,
+        goal: Place,
+        procedure: Procedure,
+        rest: usize,
+        world: &mut W,
+        atoms: &mut W::A,
+    ) -> Result<Option<Slice>, Unserved>
+        requires runs { has_ended (W.told world.old).engine (W.told world.old).history ≡ false }
+        requires ready { IsReady (W.A.held atoms.old) (W.told world.old) self.old }
+        requires list { (list cut : ℕ) × (self.old.doing ≡ Running list)
+            × (tasks self.old.search.frames.items list ≡ Goal goal cut ∷ tasks self.old.search.frames.items rest) }
+        requires rest { rest ≤ length self.old.search.frames.items }
+        requires calls { IsCallAt self.old.search.store goal procedure }
+        ensures runs { has_ended (W.told world.new).engine (W.told world.new).history ≡ false }
+        ensures holds { Holds (W.A.held atoms.old) (W.A.held atoms.new) }
+        ensures refusals { IfOk (as_stopped result) (λ o. W.A.refusals atoms.new ≡ W.A.refusals atoms.old ++ stopped_refusals o) }
+        ensures asked { Gains (AsksFor (W.A.held atoms.old) (W.told world.old) self.old) (W.A.asked atoms.old) (W.A.asked atoms.new) }
+        ensures given { OnOk (as_stopped result) (self.new.solutions_found ≡ self.old.solutions_found) }
+        ensures spent { OnOk (as_stopped result) (IsSpent self.old.search.inferences self.new.search.inferences) }
+        ensures ready { OnOk (as_stopped result) (IsReady (W.A.held atoms.new) (W.told world.new) self.new) }
+        ensures stepped { IfOk (as_stopped result) (λ o.
+            IsStepped (W.A.held atoms.old) (W.told world.old) self.old o (W.A.held atoms.new) (W.told world.new) self.new []) }
+    {
+        let called = call_clauses(&mut self.search, world, atoms, goal, rest)?;
         match called {
             Called::Ran(outcome) => {
                 self.go_on(outcome, procedure, rest)?;
@@ -78,6 +114,7 @@ impl Engine {
             }
         }
     }
+
     /// Does the same. It is for the goals that are no calls by their names alone.
     #[inline(never)]
     pub fn call_apart<W: World<Term = Stored>>(

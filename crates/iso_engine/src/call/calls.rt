@@ -12,7 +12,8 @@ ghost use Rattle.world_api.specs.Gains.{Gains};
 ghost use Rattle.world_api.specs.declared.reply.Reply.TheVariants.{Clauses};
 ghost use Rattle.iso_engine.specs.ClausesAsked.{IsListAsked, visit_of};
 ghost use Rattle.iso_engine.specs.CalledGoals.{IsRequest};
-ghost use Rattle.iso_engine.specs.Called.{AreLooked, IsCalled, IsTakenBack};
+ghost use Rattle.iso_engine.specs.Called.{AreLooked, IsCalled, IsRun, IsTakenBack};
+ghost use Rattle.iso_engine.specs.declared.call.called.Called.TheVariants.{Ran};
 ghost use Rattle.iso_engine.specs.Purposes.{listed_in};
 ghost use Rattle.iso_engine.specs.Replies.{IsFollowed, IsListOrError};
 ghost use Rattle.iso_engine.specs.Unserved.{OnRefusal, refusals_in};
@@ -22,6 +23,7 @@ use crate::call::clauses::try_first_clause;
 use crate::call::goals::{Request, request_at};
 use crate::call::retries::listed_at;
 use iso_search::choices::Purpose;
+use iso_search::outcome::Outcome;
 use iso_search::search::Search;
 use pl_term::Memory;
 use term_store::{ArgumentKey, Place, Stored};
@@ -36,12 +38,11 @@ pub fn call_clauses<W: World<Term = Stored>>(
     world: &mut W,
     atoms: &mut W::A,
     goal: Place,
-    request: Request,
     rest: usize,
 ) -> Result<Called, Unserved>
     requires whole { IsWhole search.old }
     requires goal { Holds search.old.store goal }
-    requires request { IsRequest (term_at search.old.store goal) request }
+    requires callable { (i : ℤ) → term_at search.old.store goal ≡ int i → ⊥ }
     requires rest { rest ≤ length search.old.frames.items }
     requires held { All (λ a. IsSome (W.A.held atoms.old a)) (atoms_in (term_at search.old.store goal)) }
     requires runs { has_ended (W.told world.old).engine (W.told world.old).history ≡ false }
@@ -59,33 +60,28 @@ pub fn call_clauses<W: World<Term = Stored>>(
     if search.inferences >= most {
         return Ok(Called::Spent);
     }
-    let known = call_known(search, world, atoms, goal, request, rest)?;
-    match known {
-        Some(called) => Ok(called),
-        None => look_through(search, Purpose::Resolving, world, atoms, goal, rest),
-    }
+    look_through(search, Purpose::Resolving, world, atoms, goal, rest)
 }
 
-/// Calls the program's clauses for the goal at a place, where an inference can be made and the world knows the first of them:
-/// tries it. None: nothing has changed. The only error is out of memory.
+/// Does the same where an inference can be made and the world knows the first of the clauses. None: nothing has changed. The only
+/// error is out of memory.
 #[inline(always)]
-fn call_known<W: World<Term = Stored>>(
+pub fn call_known<W: World<Term = Stored>>(
     search: &mut Search,
     world: &mut W,
     atoms: &mut W::A,
     goal: Place,
     request: Request,
     rest: usize,
-) -> Result<Option<Called>, Memory>
+) -> Result<Option<Outcome>, Memory>
     requires whole { IsWhole search.old }
     requires goal { Holds search.old.store goal }
     requires request { IsRequest (term_at search.old.store goal) request }
     requires rest { rest ≤ length search.old.frames.items }
     requires held { All (λ a. IsSome (W.A.held atoms.old a)) (atoms_in (term_at search.old.store goal)) }
     requires runs { has_ended (W.told world.old).engine (W.told world.old).history ≡ false }
-    requires count { search.old.inferences < search.old.budgets.inferences }
     ensures whole { OnOk result (IsWhole search.new) }
-    ensures called { IfOk result (λ r. IfSome r (AreLooked Resolving (W.A.held atoms.old) (W.told world.old) search.old goal rest
+    ensures called { IfOk result (λ r. IfSome r (IsRun Resolving (W.A.held atoms.old) (W.told world.old) search.old goal rest
         (W.A.held atoms.new) (W.told world.new) search.new)) }
     ensures none { IfOk result (λ r. IfNone r ((W.told world.new ≡ W.told world.old) × (search.new ≡ search.old))) }
     ensures budgets { OnOk result (search.new.budgets ≡ search.old.budgets) }
@@ -94,8 +90,11 @@ fn call_known<W: World<Term = Stored>>(
     ensures refusals { W.A.refusals atoms.new ≡ W.A.refusals atoms.old }
     ensures asked { W.A.asked atoms.new ≡ W.A.asked atoms.old }
 {
-    let _most = search.budgets.inferences;
+    let budget = search.budgets.inferences;
     let _mark = search.store.mark();
+    if search.inferences >= budget {
+        return Ok(None);
+    }
     let asked = Asked {
         procedure: request.procedure,
         first: request.first,
@@ -106,8 +105,8 @@ fn call_known<W: World<Term = Stored>>(
         Some(generation) => {
             search.inferences += 1;
             let found = W::lent(atoms);
-            let called = follow_found(search, Purpose::Resolving, goal, rest, found, generation)?;
-            Ok(Some(called))
+            let outcome = follow_found(search, Purpose::Resolving, goal, rest, found, generation)?;
+            Ok(Some(outcome))
         }
     }
 }
@@ -229,8 +228,8 @@ pub fn follow_reply(
 {
     match reply {
         Reply::Clauses(found) => {
-            let called = follow_found(search, purpose, goal, rest, &found, generation)?;
-            Ok(called)
+            let outcome = follow_found(search, purpose, goal, rest, &found, generation)?;
+            Ok(Called::Ran(outcome))
         }
         Reply::Refused(error) => Ok(Called::Refused(error)),
         _ => unreachable!(),
@@ -246,14 +245,14 @@ fn follow_found(
     rest: usize,
     found: &Option<Found<Stored>>,
     generation: u64,
-) -> Result<Called, Memory>
+) -> Result<Outcome, Memory>
     requires whole { IsWhole search.old }
     requires goal { Holds search.old.store goal }
     requires rest { rest ≤ length search.old.frames.items }
     ensures whole { OnOk result (IsWhole search.new) }
-    ensures followed { IfOk result (IsFollowed purpose search.old goal rest generation (Clauses found.now) search.new) }
+    ensures followed { IfOk result (λ o. IsFollowed purpose search.old goal rest generation (Clauses found.now) search.new (Ran o)) }
     ensures budgets { OnOk result (search.new.budgets ≡ search.old.budgets) }
 {
     let outcome = try_first_clause(search, purpose, goal, rest, generation, found)?;
-    Ok(Called::Ran(outcome))
+    Ok(outcome)
 }

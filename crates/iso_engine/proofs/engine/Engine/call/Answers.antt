@@ -1,303 +1,238 @@
-use Rattle.std.proofs.Common.{[], inl, refl, sym, ap, subst}
+use Rattle.std.proofs.Common.{◌≡◌, ◌≤◌, ℕ, [], ◌∷◌, ◌++◌, List, length, refl, sym, ap, subst, ◌∙◌, append-nil}
+use Rattle.std.specs.Prelude.{IfNone, IfOk, OnOk, false}
+use Rattle.atom_api.specs.Names.{Names}
+use Rattle.world_api.specs.Gains.{Gains}
+use Rattle.world_api.specs.Texts.{Holds}
+use Rattle.world_api.specs.Told.{Told, has_ended}
+use Rattle.world_api.proofs.Gaining.{gains_nothing}
+use Rattle.iso_search.specs.declared.choices.Purpose.TheVariants.{Resolving}
+use Rattle.iso_search.specs.declared.frames.Task.TheVariants.{Goal}
+use Rattle.iso_search.specs.declared.search.Search.{Search}
+use Rattle.iso_search.specs.Frames.{tasks}
+use Rattle.iso_engine.specs.declared.doing.Doing.TheVariants.{Running}
+use Rattle.iso_engine.specs.declared.engine.Engine.{Engine}
 use Rattle.iso_engine.specs.Advancing.{Advances}
-use Rattle.iso_engine.specs.Called.{IsCalled, IsTakenBack}
+use Rattle.iso_engine.specs.Asked.{AsksFor}
+use Rattle.iso_engine.specs.Called.{IsRun}
+use Rattle.iso_engine.specs.Calling.{IsCallAt}
 use Rattle.iso_engine.specs.Ready.{IsReady}
 use Rattle.iso_engine.specs.Slices.{IsStepped}
 use Rattle.iso_engine.specs.Spending.{IsSpent}
-use Rattle.iso_engine.specs.declared.doing.Doing.TheVariants.{Throwing}
-use Rattle.iso_search.specs.declared.search.Search.{Search}
-use Rattle.iso_engine.specs.declared.engine.Engine.{Engine}
-use Rattle.iso_engine.specs.declared.call.called.Called.{Called}
-use Rattle.iso_engine.proofs.Interning.{call_asks_for}
-use Rattle.iso_engine.proofs.Moved.{ran_moved, refused_moved, spent_moved}
+use Rattle.iso_engine.specs.Unserved.{as_stopped, stopped_refusals}
+use Rattle.iso_engine.proofs.KnownAnswers.{from_engine, same_held, to_engine, where_none, where_some}
+use Rattle.iso_engine.proofs.Moved.{ran_moved}
 use Rattle.iso_engine.proofs.Opening.{goal_held}
-use Rattle.iso_engine.proofs.Refusals.{at_exit, refused_end, refused_list, refused_step, unless_memory}
 use Rattle.iso_engine.proofs.Solutions.{view_is}
-use Rattle.iso_engine.proofs.TakenBack.{called_back}
 use Rattle.iso_engine.proofs.engine.Engine.call.Goals as goal
 
-pub call_clauses-requires-clause-held : goal.call_clauses-requires-clause-held
-call_clauses-requires-clause-held g c =
+pub call_known-requires-clause-held : goal.call_known-requires-clause-held
+call_known-requires-clause-held g c =
     let e = c.args.self.now in
     let a = c.args.atoms.now in
     let l = c.requires.list in
     goal_held (g.W.A.Atoms.held a) (g.W.World.told c.args.world.now) e l.0 l.1 c.args.goal c.args.rest l.2 l.3 c.requires.ready.stable (g.met.W.A.Atoms.fixed_held a)
     (g.met.W.A.Atoms.unlike a) (g.met.W.A.Atoms.finite a)
 
-pub returns-in_ok-go_on_apart-in-Spent-clause-ready : goal.returns-in_ok-go_on_apart-in-Spent-clause-ready
-returns-in_ok-go_on_apart-in-Spent-clause-ready g c =
+pub returns-in_ok-go_on-in-Some-clause-spent : goal.returns-in_ok-go_on-in-Some-clause-spent
+returns-in_ok-go_on-in-Some-clause-spent g c =
     let e = c.args.self.now in
-    let a = c.call_clauses.new.atoms in
+    let a = c.call_known.new.atoms in
     let m = g.W.A.Atoms.held c.args.atoms.now in
     let n = g.W.A.Atoms.held a in
     let t = g.W.World.told c.args.world.now in
-    let u = g.W.World.told c.call_clauses.new.world in
-    let x = c.call_clauses.new.search in
+    let u = g.W.World.told c.call_known.new.world in
+    let x = c.call_known.new.search in
     let view = view_is n u (g.met.W.A.Atoms.fixed_held a) (g.met.W.A.Atoms.unlike a) (g.met.W.A.Atoms.finite a) in
     let l = c.requires.list in
-    let k = c.in_ok-called.ensures in
-    let went = c.in_ok-go_on_apart-in-Spent.ensures in
-    let f : Engine = record e { search = x; doing = c.go_on_apart.new.self.doing } in
-    let spent = subst (IsCalled m t e.search c.args.goal c.args.rest n u x) c.in-Spent.is k.called in
-    let moved = spent_moved m n t u e f c.args.goal c.args.procedure l.0 l.1 c.args.rest l.2 l.3 c.requires.rest c.requires.calls c.call_clauses.ensures.holds view c.requires.ready
-    refl refl k.whole spent.0.1 spent.0.2 spent.1 went.follows in
-    subst (λ (z : Engine). IsReady n u z) (sym went.kept) moved.1
-
-pub returns-in_ok-go_on_apart-in-Spent-clause-stepped : goal.returns-in_ok-go_on_apart-in-Spent-clause-stepped
-returns-in_ok-go_on_apart-in-Spent-clause-stepped g c =
-    let e = c.args.self.now in
-    let a = c.call_clauses.new.atoms in
-    let m = g.W.A.Atoms.held c.args.atoms.now in
-    let n = g.W.A.Atoms.held a in
-    let t = g.W.World.told c.args.world.now in
-    let u = g.W.World.told c.call_clauses.new.world in
-    let x = c.call_clauses.new.search in
-    let view = view_is n u (g.met.W.A.Atoms.fixed_held a) (g.met.W.A.Atoms.unlike a) (g.met.W.A.Atoms.finite a) in
-    let l = c.requires.list in
-    let k = c.in_ok-called.ensures in
-    let went = c.in_ok-go_on_apart-in-Spent.ensures in
-    let f : Engine = record e { search = x; doing = c.go_on_apart.new.self.doing } in
-    let spent = subst (IsCalled m t e.search c.args.goal c.args.rest n u x) c.in-Spent.is k.called in
-    let moved = spent_moved m n t u e f c.args.goal c.args.procedure l.0 l.1 c.args.rest l.2 l.3 c.requires.rest c.requires.calls c.call_clauses.ensures.holds view c.requires.ready
-    refl refl k.whole spent.0.1 spent.0.2 spent.1 went.follows in
-    subst (λ (z : Engine). Advances 1 m t e n u z []) (sym went.kept) moved.0
-
-pub returns-in_ok-go_on_apart-in-Spent-clause-spent : goal.returns-in_ok-go_on_apart-in-Spent-clause-spent
-returns-in_ok-go_on_apart-in-Spent-clause-spent g c =
-    let e = c.args.self.now in
-    let a = c.call_clauses.new.atoms in
-    let m = g.W.A.Atoms.held c.args.atoms.now in
-    let n = g.W.A.Atoms.held a in
-    let t = g.W.World.told c.args.world.now in
-    let u = g.W.World.told c.call_clauses.new.world in
-    let x = c.call_clauses.new.search in
-    let view = view_is n u (g.met.W.A.Atoms.fixed_held a) (g.met.W.A.Atoms.unlike a) (g.met.W.A.Atoms.finite a) in
-    let l = c.requires.list in
-    let k = c.in_ok-called.ensures in
-    let went = c.in_ok-go_on_apart-in-Spent.ensures in
-    let f : Engine = record e { search = x; doing = c.go_on_apart.new.self.doing } in
-    let spent = subst (IsCalled m t e.search c.args.goal c.args.rest n u x) c.in-Spent.is k.called in
-    let moved = spent_moved m n t u e f c.args.goal c.args.procedure l.0 l.1 c.args.rest l.2 l.3 c.requires.rest c.requires.calls c.call_clauses.ensures.holds view c.requires.ready
-    refl refl k.whole spent.0.1 spent.0.2 spent.1 went.follows in
-    subst (λ (z : Engine). IsSpent e.search.inferences z.search.inferences) (sym went.kept) moved.2
-
-pub returns-in_ok-go_on-in-Ran-clause-spent : goal.returns-in_ok-go_on-in-Ran-clause-spent
-returns-in_ok-go_on-in-Ran-clause-spent g c =
-    let e = c.args.self.now in
-    let a = c.call_clauses.new.atoms in
-    let m = g.W.A.Atoms.held c.args.atoms.now in
-    let n = g.W.A.Atoms.held a in
-    let t = g.W.World.told c.args.world.now in
-    let u = g.W.World.told c.call_clauses.new.world in
-    let x = c.call_clauses.new.search in
-    let view = view_is n u (g.met.W.A.Atoms.fixed_held a) (g.met.W.A.Atoms.unlike a) (g.met.W.A.Atoms.finite a) in
-    let l = c.requires.list in
-    let k = c.in_ok-called.ensures in
-    let went = c.in_ok-go_on-in-Ran.ensures in
+    let k = c.in_ok-known.ensures in
+    let went = c.in_ok-go_on-in-Some.ensures in
     let f : Engine = record e { search = x; doing = c.go_on.new.self.doing } in
-    let o = c.in-Ran.outcome in
-    let run = subst (IsCalled m t e.search c.args.goal c.args.rest n u x) c.in-Ran.is k.called in
-    let moved = ran_moved m n t u e f c.args.goal c.args.procedure l.0 l.1 c.args.rest l.2 l.3 c.requires.rest c.requires.calls c.call_clauses.ensures.holds view c.requires.ready
+    let o = c.in-Some.outcome in
+    let run = where_some (IsRun Resolving m t e.search c.args.goal c.args.rest n u x) c.in_ok-known.known o c.in-Some.is k.called in
+    let moved = ran_moved m n t u e f c.args.goal c.args.procedure l.0 l.1 c.args.rest l.2 l.3 c.requires.rest c.requires.calls (same_held m n c.call_known.ensures.held) view c.requires.ready
     refl refl k.whole o run went.follows in
     subst (λ (z : Engine). IsSpent e.search.inferences z.search.inferences) (sym went.kept) moved.2
 
-pub returns-in_ok-go_on-in-Ran-clause-ready : goal.returns-in_ok-go_on-in-Ran-clause-ready
-returns-in_ok-go_on-in-Ran-clause-ready g c =
+pub returns-in_ok-go_on-in-Some-clause-ready : goal.returns-in_ok-go_on-in-Some-clause-ready
+returns-in_ok-go_on-in-Some-clause-ready g c =
     let e = c.args.self.now in
-    let a = c.call_clauses.new.atoms in
+    let a = c.call_known.new.atoms in
     let m = g.W.A.Atoms.held c.args.atoms.now in
     let n = g.W.A.Atoms.held a in
     let t = g.W.World.told c.args.world.now in
-    let u = g.W.World.told c.call_clauses.new.world in
-    let x = c.call_clauses.new.search in
+    let u = g.W.World.told c.call_known.new.world in
+    let x = c.call_known.new.search in
     let view = view_is n u (g.met.W.A.Atoms.fixed_held a) (g.met.W.A.Atoms.unlike a) (g.met.W.A.Atoms.finite a) in
     let l = c.requires.list in
-    let k = c.in_ok-called.ensures in
-    let went = c.in_ok-go_on-in-Ran.ensures in
+    let k = c.in_ok-known.ensures in
+    let went = c.in_ok-go_on-in-Some.ensures in
     let f : Engine = record e { search = x; doing = c.go_on.new.self.doing } in
-    let o = c.in-Ran.outcome in
-    let run = subst (IsCalled m t e.search c.args.goal c.args.rest n u x) c.in-Ran.is k.called in
-    let moved = ran_moved m n t u e f c.args.goal c.args.procedure l.0 l.1 c.args.rest l.2 l.3 c.requires.rest c.requires.calls c.call_clauses.ensures.holds view c.requires.ready
+    let o = c.in-Some.outcome in
+    let run = where_some (IsRun Resolving m t e.search c.args.goal c.args.rest n u x) c.in_ok-known.known o c.in-Some.is k.called in
+    let moved = ran_moved m n t u e f c.args.goal c.args.procedure l.0 l.1 c.args.rest l.2 l.3 c.requires.rest c.requires.calls (same_held m n c.call_known.ensures.held) view c.requires.ready
     refl refl k.whole o run went.follows in
     subst (λ (z : Engine). IsReady n u z) (sym went.kept) moved.1
 
-pub returns-in_ok-go_on-in-Ran-clause-stepped : goal.returns-in_ok-go_on-in-Ran-clause-stepped
-returns-in_ok-go_on-in-Ran-clause-stepped g c =
+pub returns-in_ok-go_on-in-Some-clause-stepped : goal.returns-in_ok-go_on-in-Some-clause-stepped
+returns-in_ok-go_on-in-Some-clause-stepped g c =
     let e = c.args.self.now in
-    let a = c.call_clauses.new.atoms in
+    let a = c.call_known.new.atoms in
     let m = g.W.A.Atoms.held c.args.atoms.now in
     let n = g.W.A.Atoms.held a in
     let t = g.W.World.told c.args.world.now in
-    let u = g.W.World.told c.call_clauses.new.world in
-    let x = c.call_clauses.new.search in
+    let u = g.W.World.told c.call_known.new.world in
+    let x = c.call_known.new.search in
     let view = view_is n u (g.met.W.A.Atoms.fixed_held a) (g.met.W.A.Atoms.unlike a) (g.met.W.A.Atoms.finite a) in
     let l = c.requires.list in
-    let k = c.in_ok-called.ensures in
-    let went = c.in_ok-go_on-in-Ran.ensures in
+    let k = c.in_ok-known.ensures in
+    let went = c.in_ok-go_on-in-Some.ensures in
     let f : Engine = record e { search = x; doing = c.go_on.new.self.doing } in
-    let o = c.in-Ran.outcome in
-    let run = subst (IsCalled m t e.search c.args.goal c.args.rest n u x) c.in-Ran.is k.called in
-    let moved = ran_moved m n t u e f c.args.goal c.args.procedure l.0 l.1 c.args.rest l.2 l.3 c.requires.rest c.requires.calls c.call_clauses.ensures.holds view c.requires.ready
+    let o = c.in-Some.outcome in
+    let run = where_some (IsRun Resolving m t e.search c.args.goal c.args.rest n u x) c.in_ok-known.known o c.in-Some.is k.called in
+    let moved = ran_moved m n t u e f c.args.goal c.args.procedure l.0 l.1 c.args.rest l.2 l.3 c.requires.rest c.requires.calls (same_held m n c.call_known.ensures.held) view c.requires.ready
     refl refl k.whole o run went.follows in
     subst (λ (z : Engine). Advances 1 m t e n u z []) (sym went.kept) moved.0
 
-pub returns-in_ok-raise-in-Refused-clause-ready : goal.returns-in_ok-raise-in-Refused-clause-ready
-returns-in_ok-raise-in-Refused-clause-ready g c =
-    let e = c.args.self.now in
-    let a = c.call_clauses.new.atoms in
-    let m = g.W.A.Atoms.held c.args.atoms.now in
-    let n = g.W.A.Atoms.held a in
-    let t = g.W.World.told c.args.world.now in
-    let u = g.W.World.told c.call_clauses.new.world in
-    let x = c.call_clauses.new.search in
-    let view = view_is n u (g.met.W.A.Atoms.fixed_held a) (g.met.W.A.Atoms.unlike a) (g.met.W.A.Atoms.finite a) in
-    let l = c.requires.list in
-    let k = c.in_ok-called.ensures in
-    let b = c.in_ok-raise-in-Refused.ensures.thrown in
-    let f : Engine = record e { search = x; doing = Throwing b.ball c.args.rest } in
-    let r = subst (IsCalled m t e.search c.args.goal c.args.rest n u x) c.in-Refused.is k.called in
-    let moved = refused_moved m n t u e f c.args.goal c.args.procedure l.0 l.1 c.args.rest l.2 l.3 c.requires.rest c.requires.calls c.call_clauses.ensures.holds view c.requires.ready
-    refl refl k.whole c.in-Refused.error b.ball r b.over b.is refl in
-    subst (λ (z : Engine). IsReady n u z) (sym b.doing) moved.1
+pub call_anew-requires-clause-runs : goal.call_anew-requires-clause-runs
+call_anew-requires-clause-runs g c =
+    let m : Names = g.W.A.Atoms.held c.args.atoms.now in
+    let k : Names = g.W.A.Atoms.held c.call_known.new.atoms in
+    let t : Told = g.W.World.told c.args.world.now in
+    let u : Told = g.W.World.told c.call_known.new.world in
+    let e : Engine = c.args.self.now in
+    let d : Search = c.call_known.new.search in
+    let none = where_none ((u ≡ t) × (d ≡ e.search)) c.in_ok-known.known c.in-None.is c.in_ok-known.ensures.none in
+    to_engine (λ (m : Names) (t : Told) (e : Engine). has_ended t.engine t.history ≡ false) m k t u e d c.call_known.ensures.held none.0 none.1 c.requires.runs
 
-pub returns-in_ok-raise-in-Refused-clause-stepped : goal.returns-in_ok-raise-in-Refused-clause-stepped
-returns-in_ok-raise-in-Refused-clause-stepped g c =
-    let e = c.args.self.now in
-    let a = c.call_clauses.new.atoms in
-    let m = g.W.A.Atoms.held c.args.atoms.now in
-    let n = g.W.A.Atoms.held a in
-    let t = g.W.World.told c.args.world.now in
-    let u = g.W.World.told c.call_clauses.new.world in
-    let x = c.call_clauses.new.search in
-    let view = view_is n u (g.met.W.A.Atoms.fixed_held a) (g.met.W.A.Atoms.unlike a) (g.met.W.A.Atoms.finite a) in
-    let l = c.requires.list in
-    let k = c.in_ok-called.ensures in
-    let b = c.in_ok-raise-in-Refused.ensures.thrown in
-    let f : Engine = record e { search = x; doing = Throwing b.ball c.args.rest } in
-    let r = subst (IsCalled m t e.search c.args.goal c.args.rest n u x) c.in-Refused.is k.called in
-    let moved = refused_moved m n t u e f c.args.goal c.args.procedure l.0 l.1 c.args.rest l.2 l.3 c.requires.rest c.requires.calls c.call_clauses.ensures.holds view c.requires.ready
-    refl refl k.whole c.in-Refused.error b.ball r b.over b.is refl in
-    subst (λ (z : Engine). Advances 1 m t e n u z []) (sym b.doing) moved.0
+pub call_anew-requires-clause-ready : goal.call_anew-requires-clause-ready
+call_anew-requires-clause-ready g c =
+    let m : Names = g.W.A.Atoms.held c.args.atoms.now in
+    let k : Names = g.W.A.Atoms.held c.call_known.new.atoms in
+    let t : Told = g.W.World.told c.args.world.now in
+    let u : Told = g.W.World.told c.call_known.new.world in
+    let e : Engine = c.args.self.now in
+    let d : Search = c.call_known.new.search in
+    let none = where_none ((u ≡ t) × (d ≡ e.search)) c.in_ok-known.known c.in-None.is c.in_ok-known.ensures.none in
+    to_engine (λ (m : Names) (t : Told) (e : Engine). IsReady m t e) m k t u e d c.call_known.ensures.held none.0 none.1 c.requires.ready
 
-pub returns-in_err-called-clause-ready : goal.returns-in_err-called-clause-ready
-returns-in_err-called-clause-ready g c =
-    let e = c.args.self.now in
-    let a = c.call_clauses.new.atoms in
-    let m = g.W.A.Atoms.held c.args.atoms.now in
-    let n = g.W.A.Atoms.held a in
-    let t = g.W.World.told c.args.world.now in
-    let u = g.W.World.told c.call_clauses.new.world in
-    let x = c.call_clauses.new.search in
-    let f : Engine = record e { search = x } in
-    let w = c.in_err-called.field-0.0 in
-    let exit = at_exit c.from_residual.result w c.from_residual.ensures.1 in
-    refused_end Called c.from_residual.result w exit (IsTakenBack t e.search u x) (λ o. IsReady n u f) c.in_err-called.ensures.taken_back
-    (λ s again back. (called_back m n t u e f c.call_clauses.ensures.holds (view_is n u (g.met.W.A.Atoms.fixed_held a) (g.met.W.A.Atoms.unlike a) (g.met.W.A.Atoms.finite a)) c.requires.ready
-    back.0 (ap (λ (y : Search). let z : Engine = record e { search = y } in z) back.1)).1)
+pub call_anew-requires-clause-list : goal.call_anew-requires-clause-list
+call_anew-requires-clause-list g c =
+    let m : Names = g.W.A.Atoms.held c.args.atoms.now in
+    let k : Names = g.W.A.Atoms.held c.call_known.new.atoms in
+    let t : Told = g.W.World.told c.args.world.now in
+    let u : Told = g.W.World.told c.call_known.new.world in
+    let e : Engine = c.args.self.now in
+    let d : Search = c.call_known.new.search in
+    let none = where_none ((u ≡ t) × (d ≡ e.search)) c.in_ok-known.known c.in-None.is c.in_ok-known.ensures.none in
+    to_engine (λ (m : Names) (t : Told) (e : Engine). (list cut : ℕ) × (e.doing ≡ Running list) × (tasks e.search.frames.items list ≡ Goal c.args.goal cut ∷ tasks e.search.frames.items c.args.rest)) m k t u e d c.call_known.ensures.held none.0 none.1 c.requires.list
 
-pub returns-in_err-called-clause-stepped : goal.returns-in_err-called-clause-stepped
-returns-in_err-called-clause-stepped g c =
-    let e = c.args.self.now in
-    let a = c.call_clauses.new.atoms in
-    let m = g.W.A.Atoms.held c.args.atoms.now in
-    let n = g.W.A.Atoms.held a in
-    let t = g.W.World.told c.args.world.now in
-    let u = g.W.World.told c.call_clauses.new.world in
-    let x = c.call_clauses.new.search in
-    let f : Engine = record e { search = x } in
-    let w = c.in_err-called.field-0.0 in
-    let exit = at_exit c.from_residual.result w c.from_residual.ensures.1 in
-    refused_end Called c.from_residual.result w exit (IsTakenBack t e.search u x) (λ o. IsStepped m t e o n u f []) c.in_err-called.ensures.taken_back
-    (λ s again back. refused_step m t e n u f s again (called_back m n t u e f c.call_clauses.ensures.holds (view_is n u (g.met.W.A.Atoms.fixed_held a) (g.met.W.A.Atoms.unlike a) (g.met.W.A.Atoms.finite a)) c.requires.ready
-    back.0 (ap (λ (y : Search). let z : Engine = record e { search = y } in z) back.1)).0)
+pub call_anew-requires-clause-rest : goal.call_anew-requires-clause-rest
+call_anew-requires-clause-rest g c =
+    let m : Names = g.W.A.Atoms.held c.args.atoms.now in
+    let k : Names = g.W.A.Atoms.held c.call_known.new.atoms in
+    let t : Told = g.W.World.told c.args.world.now in
+    let u : Told = g.W.World.told c.call_known.new.world in
+    let e : Engine = c.args.self.now in
+    let d : Search = c.call_known.new.search in
+    let none = where_none ((u ≡ t) × (d ≡ e.search)) c.in_ok-known.known c.in-None.is c.in_ok-known.ensures.none in
+    to_engine (λ (m : Names) (t : Told) (e : Engine). c.args.rest ≤ length e.search.frames.items) m k t u e d c.call_known.ensures.held none.0 none.1 c.requires.rest
 
-pub returns-in_err-called-clause-spent : goal.returns-in_err-called-clause-spent
-returns-in_err-called-clause-spent g c =
-    let e = c.args.self.now in
-    let a = c.call_clauses.new.atoms in
-    let m = g.W.A.Atoms.held c.args.atoms.now in
-    let n = g.W.A.Atoms.held a in
-    let t = g.W.World.told c.args.world.now in
-    let u = g.W.World.told c.call_clauses.new.world in
-    let x = c.call_clauses.new.search in
-    let f : Engine = record e { search = x } in
-    let w = c.in_err-called.field-0.0 in
-    let exit = at_exit c.from_residual.result w c.from_residual.ensures.1 in
-    refused_end Called c.from_residual.result w exit (IsTakenBack t e.search u x) (λ o. IsSpent e.search.inferences x.inferences) c.in_err-called.ensures.taken_back
-    (λ s again back. inl (ap (λ (y : Search). y.inferences) back.1))
+pub call_anew-requires-clause-calls : goal.call_anew-requires-clause-calls
+call_anew-requires-clause-calls g c =
+    let m : Names = g.W.A.Atoms.held c.args.atoms.now in
+    let k : Names = g.W.A.Atoms.held c.call_known.new.atoms in
+    let t : Told = g.W.World.told c.args.world.now in
+    let u : Told = g.W.World.told c.call_known.new.world in
+    let e : Engine = c.args.self.now in
+    let d : Search = c.call_known.new.search in
+    let none = where_none ((u ≡ t) × (d ≡ e.search)) c.in_ok-known.known c.in-None.is c.in_ok-known.ensures.none in
+    to_engine (λ (m : Names) (t : Told) (e : Engine). IsCallAt e.search.store c.args.goal c.args.procedure) m k t u e d c.call_known.ensures.held none.0 none.1 c.requires.calls
 
-pub returns-in_err-called-clause-refusals : goal.returns-in_err-called-clause-refusals
-returns-in_err-called-clause-refusals g c =
-    let w = c.in_err-called.field-0.0 in
-    refused_list Called c.from_residual.result w (at_exit c.from_residual.result w c.from_residual.ensures.1) (g.W.A.Atoms.refusals c.args.atoms.now)
-    (g.W.A.Atoms.refusals c.call_clauses.new.atoms) (unless_memory Called w c.in_err-called.ensures.refusals)
+pub returns-in-None-clause-holds : goal.returns-in-None-clause-holds
+returns-in-None-clause-holds g c =
+    let m : Names = g.W.A.Atoms.held c.args.atoms.now in
+    let k : Names = g.W.A.Atoms.held c.call_known.new.atoms in
+    let t : Told = g.W.World.told c.args.world.now in
+    let u : Told = g.W.World.told c.call_known.new.world in
+    let e : Engine = c.args.self.now in
+    let d : Search = c.call_known.new.search in
+    let none = where_none ((u ≡ t) × (d ≡ e.search)) c.in_ok-known.known c.in-None.is c.in_ok-known.ensures.none in
+    let n : Names = g.W.A.Atoms.held c.call_anew.new.atoms in
+    let x : Told = g.W.World.told c.call_anew.new.world in
+    let f : Engine = c.call_anew.new.self in
+    from_engine (λ (m : Names) (t : Told) (e : Engine). Holds m n) m k t u e d c.call_known.ensures.held none.0 none.1 c.call_anew.ensures.holds
 
-pub returns-in_err-called-clause-asked : goal.returns-in_err-called-clause-asked
-returns-in_err-called-clause-asked g c =
-    let a = c.args.atoms.now in
-    let m = g.W.A.Atoms.held a in
-    let t = g.W.World.told c.args.world.now in
-    let view = view_is m t (g.met.W.A.Atoms.fixed_held a) (g.met.W.A.Atoms.unlike a) (g.met.W.A.Atoms.finite a) in
-    let l = c.requires.list in
-    call_asks_for m t c.args.self.now c.args.goal c.args.procedure l.0 l.1 c.args.rest l.2 l.3 c.requires.rest c.requires.calls view (g.W.A.Atoms.asked a)
-    (g.W.A.Atoms.asked c.call_clauses.new.atoms) c.call_clauses.ensures.asked
+pub returns-in-None-clause-given : goal.returns-in-None-clause-given
+returns-in-None-clause-given g c =
+    let m : Names = g.W.A.Atoms.held c.args.atoms.now in
+    let k : Names = g.W.A.Atoms.held c.call_known.new.atoms in
+    let t : Told = g.W.World.told c.args.world.now in
+    let u : Told = g.W.World.told c.call_known.new.world in
+    let e : Engine = c.args.self.now in
+    let d : Search = c.call_known.new.search in
+    let none = where_none ((u ≡ t) × (d ≡ e.search)) c.in_ok-known.known c.in-None.is c.in_ok-known.ensures.none in
+    let n : Names = g.W.A.Atoms.held c.call_anew.new.atoms in
+    let x : Told = g.W.World.told c.call_anew.new.world in
+    let f : Engine = c.call_anew.new.self in
+    from_engine (λ (m : Names) (t : Told) (e : Engine). OnOk (as_stopped c.call_anew.result) (f.solutions_found ≡ e.solutions_found)) m k t u e d c.call_known.ensures.held none.0 none.1 c.call_anew.ensures.given
 
-pub returns-in_err-go_on_apart-in-Spent-clause-asked : goal.returns-in_err-go_on_apart-in-Spent-clause-asked
-returns-in_err-go_on_apart-in-Spent-clause-asked g c =
-    let a = c.args.atoms.now in
-    let m = g.W.A.Atoms.held a in
-    let t = g.W.World.told c.args.world.now in
-    let view = view_is m t (g.met.W.A.Atoms.fixed_held a) (g.met.W.A.Atoms.unlike a) (g.met.W.A.Atoms.finite a) in
-    let l = c.requires.list in
-    call_asks_for m t c.args.self.now c.args.goal c.args.procedure l.0 l.1 c.args.rest l.2 l.3 c.requires.rest c.requires.calls view (g.W.A.Atoms.asked a)
-    (g.W.A.Atoms.asked c.call_clauses.new.atoms) c.call_clauses.ensures.asked
+pub returns-in-None-clause-spent : goal.returns-in-None-clause-spent
+returns-in-None-clause-spent g c =
+    let m : Names = g.W.A.Atoms.held c.args.atoms.now in
+    let k : Names = g.W.A.Atoms.held c.call_known.new.atoms in
+    let t : Told = g.W.World.told c.args.world.now in
+    let u : Told = g.W.World.told c.call_known.new.world in
+    let e : Engine = c.args.self.now in
+    let d : Search = c.call_known.new.search in
+    let none = where_none ((u ≡ t) × (d ≡ e.search)) c.in_ok-known.known c.in-None.is c.in_ok-known.ensures.none in
+    let n : Names = g.W.A.Atoms.held c.call_anew.new.atoms in
+    let x : Told = g.W.World.told c.call_anew.new.world in
+    let f : Engine = c.call_anew.new.self in
+    from_engine (λ (m : Names) (t : Told) (e : Engine). OnOk (as_stopped c.call_anew.result) (IsSpent e.search.inferences f.search.inferences)) m k t u e d c.call_known.ensures.held none.0 none.1 c.call_anew.ensures.spent
 
-pub returns-in_ok-go_on_apart-in-Spent-clause-asked : goal.returns-in_ok-go_on_apart-in-Spent-clause-asked
-returns-in_ok-go_on_apart-in-Spent-clause-asked g c =
-    let a = c.args.atoms.now in
-    let m = g.W.A.Atoms.held a in
-    let t = g.W.World.told c.args.world.now in
-    let view = view_is m t (g.met.W.A.Atoms.fixed_held a) (g.met.W.A.Atoms.unlike a) (g.met.W.A.Atoms.finite a) in
-    let l = c.requires.list in
-    call_asks_for m t c.args.self.now c.args.goal c.args.procedure l.0 l.1 c.args.rest l.2 l.3 c.requires.rest c.requires.calls view (g.W.A.Atoms.asked a)
-    (g.W.A.Atoms.asked c.call_clauses.new.atoms) c.call_clauses.ensures.asked
+pub returns-in-None-clause-stepped : goal.returns-in-None-clause-stepped
+returns-in-None-clause-stepped g c =
+    let m : Names = g.W.A.Atoms.held c.args.atoms.now in
+    let k : Names = g.W.A.Atoms.held c.call_known.new.atoms in
+    let t : Told = g.W.World.told c.args.world.now in
+    let u : Told = g.W.World.told c.call_known.new.world in
+    let e : Engine = c.args.self.now in
+    let d : Search = c.call_known.new.search in
+    let none = where_none ((u ≡ t) × (d ≡ e.search)) c.in_ok-known.known c.in-None.is c.in_ok-known.ensures.none in
+    let n : Names = g.W.A.Atoms.held c.call_anew.new.atoms in
+    let x : Told = g.W.World.told c.call_anew.new.world in
+    let f : Engine = c.call_anew.new.self in
+    from_engine (λ (m : Names) (t : Told) (e : Engine). IfOk (as_stopped c.call_anew.result) (λ o. IsStepped m t e o n x f [])) m k t u e d c.call_known.ensures.held none.0 none.1 c.call_anew.ensures.stepped
 
-pub returns-in_err-go_on-in-Ran-clause-asked : goal.returns-in_err-go_on-in-Ran-clause-asked
-returns-in_err-go_on-in-Ran-clause-asked g c =
-    let a = c.args.atoms.now in
-    let m = g.W.A.Atoms.held a in
-    let t = g.W.World.told c.args.world.now in
-    let view = view_is m t (g.met.W.A.Atoms.fixed_held a) (g.met.W.A.Atoms.unlike a) (g.met.W.A.Atoms.finite a) in
-    let l = c.requires.list in
-    call_asks_for m t c.args.self.now c.args.goal c.args.procedure l.0 l.1 c.args.rest l.2 l.3 c.requires.rest c.requires.calls view (g.W.A.Atoms.asked a)
-    (g.W.A.Atoms.asked c.call_clauses.new.atoms) c.call_clauses.ensures.asked
+pub returns-in-None-clause-asked : goal.returns-in-None-clause-asked
+returns-in-None-clause-asked g c =
+    let m : Names = g.W.A.Atoms.held c.args.atoms.now in
+    let k : Names = g.W.A.Atoms.held c.call_known.new.atoms in
+    let t : Told = g.W.World.told c.args.world.now in
+    let u : Told = g.W.World.told c.call_known.new.world in
+    let e : Engine = c.args.self.now in
+    let d : Search = c.call_known.new.search in
+    let none = where_none ((u ≡ t) × (d ≡ e.search)) c.in_ok-known.known c.in-None.is c.in_ok-known.ensures.none in
+    let n : Names = g.W.A.Atoms.held c.call_anew.new.atoms in
+    let x : Told = g.W.World.told c.call_anew.new.world in
+    let f : Engine = c.call_anew.new.self in
+    from_engine (λ (m : Names) (t : Told) (e : Engine). Gains (AsksFor m t e) (g.W.A.Atoms.asked c.args.atoms.now) (g.W.A.Atoms.asked c.call_anew.new.atoms)) m k t u e d c.call_known.ensures.held none.0 none.1 (subst (λ a. Gains (AsksFor k u (record e { search = d })) a (g.W.A.Atoms.asked c.call_anew.new.atoms)) c.call_known.ensures.asked c.call_anew.ensures.asked)
 
-pub returns-in_ok-go_on-in-Ran-clause-asked : goal.returns-in_ok-go_on-in-Ran-clause-asked
-returns-in_ok-go_on-in-Ran-clause-asked g c =
-    let a = c.args.atoms.now in
-    let m = g.W.A.Atoms.held a in
-    let t = g.W.World.told c.args.world.now in
-    let view = view_is m t (g.met.W.A.Atoms.fixed_held a) (g.met.W.A.Atoms.unlike a) (g.met.W.A.Atoms.finite a) in
-    let l = c.requires.list in
-    call_asks_for m t c.args.self.now c.args.goal c.args.procedure l.0 l.1 c.args.rest l.2 l.3 c.requires.rest c.requires.calls view (g.W.A.Atoms.asked a)
-    (g.W.A.Atoms.asked c.call_clauses.new.atoms) c.call_clauses.ensures.asked
+pub returns-in-None-clause-refusals : goal.returns-in-None-clause-refusals
+returns-in-None-clause-refusals g c =
+    subst (λ l. IfOk (as_stopped c.call_anew.result) (λ o. g.W.A.Atoms.refusals c.call_anew.new.atoms ≡ l ++ stopped_refusals o)) c.call_known.ensures.refusals c.call_anew.ensures.refusals
 
-pub returns-in_err-raise-in-Refused-clause-asked : goal.returns-in_err-raise-in-Refused-clause-asked
-returns-in_err-raise-in-Refused-clause-asked g c =
-    let a = c.args.atoms.now in
-    let m = g.W.A.Atoms.held a in
-    let t = g.W.World.told c.args.world.now in
-    let view = view_is m t (g.met.W.A.Atoms.fixed_held a) (g.met.W.A.Atoms.unlike a) (g.met.W.A.Atoms.finite a) in
-    let l = c.requires.list in
-    call_asks_for m t c.args.self.now c.args.goal c.args.procedure l.0 l.1 c.args.rest l.2 l.3 c.requires.rest c.requires.calls view (g.W.A.Atoms.asked a)
-    (g.W.A.Atoms.asked c.call_clauses.new.atoms) c.call_clauses.ensures.asked
+pub returns-in_err-known-clause-asked : goal.returns-in_err-known-clause-asked
+returns-in_err-known-clause-asked g c =
+    gains_nothing (AsksFor (g.W.A.Atoms.held c.args.atoms.now) (g.W.World.told c.args.world.now) c.args.self.now) (g.W.A.Atoms.asked c.args.atoms.now)
+    (g.W.A.Atoms.asked c.call_known.new.atoms) c.call_known.ensures.asked
 
-pub returns-in_ok-raise-in-Refused-clause-asked : goal.returns-in_ok-raise-in-Refused-clause-asked
-returns-in_ok-raise-in-Refused-clause-asked g c =
-    let a = c.args.atoms.now in
-    let m = g.W.A.Atoms.held a in
-    let t = g.W.World.told c.args.world.now in
-    let view = view_is m t (g.met.W.A.Atoms.fixed_held a) (g.met.W.A.Atoms.unlike a) (g.met.W.A.Atoms.finite a) in
-    let l = c.requires.list in
-    call_asks_for m t c.args.self.now c.args.goal c.args.procedure l.0 l.1 c.args.rest l.2 l.3 c.requires.rest c.requires.calls view (g.W.A.Atoms.asked a)
-    (g.W.A.Atoms.asked c.call_clauses.new.atoms) c.call_clauses.ensures.asked
+pub returns-in_err-go_on-in-Some-clause-asked : goal.returns-in_err-go_on-in-Some-clause-asked
+returns-in_err-go_on-in-Some-clause-asked g c =
+    gains_nothing (AsksFor (g.W.A.Atoms.held c.args.atoms.now) (g.W.World.told c.args.world.now) c.args.self.now) (g.W.A.Atoms.asked c.args.atoms.now)
+    (g.W.A.Atoms.asked c.call_known.new.atoms) c.call_known.ensures.asked
+
+pub returns-in_ok-go_on-in-Some-clause-asked : goal.returns-in_ok-go_on-in-Some-clause-asked
+returns-in_ok-go_on-in-Some-clause-asked g c =
+    gains_nothing (AsksFor (g.W.A.Atoms.held c.args.atoms.now) (g.W.World.told c.args.world.now) c.args.self.now) (g.W.A.Atoms.asked c.args.atoms.now)
+    (g.W.A.Atoms.asked c.call_known.new.atoms) c.call_known.ensures.asked
