@@ -27,6 +27,7 @@ pub mod Newest
 pub mod OutputGoals
 pub mod Parts
 pub mod Purposes
+pub mod Quick
 pub mod Ready
 pub mod Replies
 pub mod Retried

@@ -10,6 +10,7 @@ ghost use Rattle.iso_engine.specs.declared.doing.Doing.TheVariants.{Running};
 ghost use Rattle.iso_engine.specs.Asked.{AsksFor};
 ghost use Rattle.iso_engine.specs.CalledGoals.{IsRequest};
 ghost use Rattle.iso_engine.specs.Calling.{IsCallAt};
+ghost use Rattle.iso_engine.specs.Quick.{IsQuick};
 ghost use Rattle.iso_engine.specs.Ready.{IsReady};
 ghost use Rattle.iso_engine.specs.Spending.{IsSpent};
 ghost use Rattle.iso_engine.specs.Slices.{IsStepped};
@@ -26,8 +27,10 @@ use crate::call::called::Called;
 use crate::call::calls::{call_clauses, call_known};
 use crate::call::goals::{Request, request_at};
 use crate::engine::Engine;
+use crate::quick::Quick;
 use crate::slices::Slice;
 use iso_search::outcome::{Fault, Outcome};
+use pl_term::Memory;
 use term_store::{Place, Stored};
 use world_api::{Procedure, Unserved, World};
 
@@ -71,9 +74,46 @@ impl Engine {
         }
     }
 
+    /// Makes the call at once, where the world knows the clauses and an inference can be made. The only error is out of memory.
+    #[inline(always)]
+    pub fn call_known<W: World<Term = Stored>>(
+        &mut self,
+        goal: Place,
+        procedure: Procedure,
+        request: Request,
+        rest: usize,
+        world: &mut W,
+        atoms: &mut W::A,
+    ) -> Result<Quick, Memory>
+        requires runs { has_ended (W.told world.old).engine (W.told world.old).history ≡ false }
+        requires ready { IsReady (W.A.held atoms.old) (W.told world.old) self.old }
+        requires list { (list cut : ℕ) × (self.old.doing ≡ Running list)
+            × (tasks self.old.search.frames.items list ≡ Goal goal cut ∷ tasks self.old.search.frames.items rest) }
+        requires rest { rest ≤ length self.old.search.frames.items }
+        requires request { IsRequest (term_at self.old.search.store goal) request }
+        requires calls { IsCallAt self.old.search.store goal procedure }
+        ensures runs { has_ended (W.told world.new).engine (W.told world.new).history ≡ false }
+        ensures held { W.A.held atoms.new ≡ W.A.held atoms.old }
+        ensures refusals { W.A.refusals atoms.new ≡ W.A.refusals atoms.old }
+        ensures asked { W.A.asked atoms.new ≡ W.A.asked atoms.old }
+        ensures given { OnOk result (self.new.solutions_found ≡ self.old.solutions_found) }
+        ensures spent { OnOk result (IsSpent self.old.search.inferences self.new.search.inferences) }
+        ensures ready { OnOk result (IsReady (W.A.held atoms.new) (W.told world.new) self.new) }
+        ensures quick { IfOk result (IsQuick (W.A.held atoms.old) (W.told world.old) self.old (W.A.held atoms.new) (W.told world.new) self.new) }
+    {
+        let known = call_known(&mut self.search, world, atoms, goal, request, rest)?;
+        match known {
+            Some(outcome) => {
+                self.go_on(outcome, procedure, rest)?;
+                Ok(Quick::Went)
+            }
+            None => Ok(Quick::Missed),
+        }
+    }
+
     /// Does the same, where the world does not know the clauses without a look, or no inference can be made.
     #[inline(never)]
-    fn call_anew<W: World<Term = Stored>>(
+    pub fn call_anew<W: World<Term = Stored>>(
         &mut self,
         goal: Place,
         procedure: Procedure,

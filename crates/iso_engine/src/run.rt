@@ -16,8 +16,7 @@ ghost use Rattle.iso_engine.specs.Unserved.{as_stopped, stopped_refusals};
 
 use crate::doing::Doing;
 use crate::engine::Engine;
-use crate::kinds::passes;
-use crate::running::{Did, do_task, pass};
+use crate::running::{Did, do_task};
 use crate::slices::Slice;
 use iso_search::construct::{Construct, construct_at};
 use iso_search::frames::{Frame, Task, first_task};
@@ -89,11 +88,6 @@ impl Engine {
             × (out.new.items ≡ out.old.items ++ encode_utf8_all (written_text more))) }
     {
         let kind = construct_at(&self.search.store, goal);
-        if passes(kind) {
-            let next = pass(&mut self.search, goal, kind, cut, rest)?;
-            self.doing = Doing::Running(next);
-            return Ok(None);
-        }
         let frame = Frame {
             task: Task::Goal(goal, cut),
             continuation: rest,

@@ -9,6 +9,7 @@ ghost use Rattle.iso_engine.specs.Slices.{IsSlice, IsSliced, steps_of};
 ghost use Rattle.iso_engine.specs.Unserved.{IsRefusedBy, as_stopped, refusals_of};
 
 use crate::engine::Engine;
+use crate::quick::Quick;
 use crate::slices::Slice;
 use crate::unserved::stop_of;
 use pl_term::Memory;
@@ -78,7 +79,12 @@ impl Engine {
             if self.search.inferences - start >= n {
                 return Ok(Slice::Yield);
             }
-            let stepped = self.step(world, atoms, out);
+            let quick = self.step_known(world, atoms)?;
+            if let Quick::Went = quick {
+                count_one(moves)?;
+                continue;
+            }
+            let stepped = self.step(quick, world, atoms, out);
             let stopped = counted(moves, stepped)?;
             if let Some(slice) = stopped {
                 return Ok(slice);
@@ -86,6 +92,18 @@ impl Engine {
         }
         Err(Memory)
     }
+}
+
+/// Adds a step. The only error is out of memory, also where the number would pass 64 bits.
+#[inline(always)]
+fn count_one(moves: &mut u64) -> Result<(), Memory>
+    ensures { OnOk result (moves.new ≡ 1 + moves.old) }
+{
+    let Some(count) = moves.checked_add(1) else {
+        return Err(Memory);
+    };
+    *moves = count;
+    Ok(())
 }
 
 /// How many steps were made: none where a step was taken back or the search has ended.
@@ -108,10 +126,7 @@ fn counted(moves: &mut u64, step: Result<Option<Slice>, Unserved>) -> Result<Opt
     ensures count { IfOk result (λ o. moves.new ≡ steps_of o + moves.old) }
 {
     if let Ok(None) = &step {
-        let Some(count) = moves.checked_add(1) else {
-            return Err(Memory);
-        };
-        *moves = count;
+        count_one(moves)?;
         return Ok(None);
     }
     let stopped = stop_of(step)?;
