@@ -9,3 +9,4 @@ pub mod Cells
 pub mod Calls
 pub mod Dropping
 pub mod RunLaws
+pub mod SharedLaws

@@ -1,7 +1,10 @@
 -- Runs of erased clauses: what changes of the clauses leave them, and what they say of a search.
-use Rattle.std.proofs.Common.{◌≡◌, ℕ, ◌<◌, ◌≤◌, Bool, true, false, cond, not, ◌&&◌, ◌==◌, map, Option, Some, None, refl, sym, ap, ap₂, ◌∙◌, subst, arith, inl, inr}
-use Rattle.std.specs.Prelude.{◌⊎◌, nat_lt, nat_le}
+use Rattle.std.proofs.Common.{◌≡◌, ℕ, ◌<◌, ◌≤◌, Bool, true, false, cond, not, ◌&&◌, ◌==◌, map, Option, Some, None, refl, sym, ap, ◌∙◌, subst, arith, inl, inr}
+use Rattle.std.specs.Prelude.{nat_le}
 use Rattle.std.specs.Option.{IfSome, option_map, option_map_or, is_some}
+use Rattle.std.specs.declared.result.Result.{Result}
+use Rattle.std.specs.declared.result.Result.TheVariants.{Ok, Err}
+use Rattle.std.specs.Result.{OnErr, OnOk}
 use Rattle.std.specs.Ordering.{is_eq, nat_cmp}
 use Rattle.std.specs.declared.cmp.Ordering.{Ordering}
 use Rattle.std.specs.Map.{lookup}
@@ -10,17 +13,15 @@ use Rattle.std.specs.BTreeMap.{BTreeMap, is_at}
 use Rattle.std.proofs.lemmas.Bool.{false≢true, ne_eqb}
 use Rattle.std.proofs.lemmas.Map.Made.{lookup-map_values}
 use borrow.Author.Tests.{eqb-true}
-use Rattle.pl_model.specs.FirstArguments.{are_apart}
 use Rattle.gen_core.specs.declared.dated_clause.DatedClause.{DatedClause}
 use Rattle.gen_core.specs.declared.clause_index.Entry.{Entry}
 use Rattle.gen_core.specs.declared.clause_index.ClauseIndex.{ClauseIndex}
 use Rattle.gen_core.specs.declared.runs.Run.{Run}
 use Rattle.gen_core.specs.declared.runs.Runs.{Runs}
-use Rattle.gen_core.specs.Index.{IsNext}
 use Rattle.gen_core.specs.Numbers.{IsNumbered}
 use Rattle.gen_core.specs.Visible.{is_live, is_visible, is_choice, erased_all}
 use Rattle.gen_core.specs.ClauseIndex.{IsSound, holds, dated_at, marked, marked_all}
-use Rattle.gen_core.specs.Runs.{AreGone, AreRuns, IsRun, Leaves, OthersStay, StayGone, is_gone}
+use Rattle.gen_core.specs.Runs.{AreRuns, IsRun, Leaves, OthersStay, StayGone, is_gone}
 use Rattle.gen_core.proofs.Additions.{is_at-number}
 
 -- ---- what changes of the clauses leave
@@ -79,6 +80,11 @@ module _ {C K : Type 0} (old new : BTreeMap ℕ (Entry C K)) where
   pub stay_same : new.entries ≡ old.entries → StayGone old new
   stay_same e k q h = ap (λ es. is_gone k (option_map (λ (x : Entry C K). x.dated) (lookup (is_at (nat_cmp q)) es))) e ∙ h
 
+  -- The same, where an update answers so, and else leaves the clauses.
+  pub gone_by : {T E : Type 0} (r : Result T E) → OnOk r (StayGone old new) → OnErr r (new.entries ≡ old.entries) → StayGone old new
+  gone_by (Ok x) stay same = stay
+  gone_by (Err e) stay same = stay_same same
+
   -- A clause is put on a number.
   pub others_put : (number : ℕ) (x : Entry C K) → ((q : ℕ) → tree.get nat_cmp new q ≡ cond (is_eq (nat_cmp number q)) (Some x) (tree.get nat_cmp old q)) → OthersStay old new number
   others_put number x gets q h =
@@ -93,6 +99,10 @@ module _ {C K : Type 0} (old new : BTreeMap ℕ (Entry C K)) where
       go : (o : Option Run) → IfSome o (IsRun rs old first) → IfSome o (IsRun rs new first)
       go None h = tt
       go (Some r) h = record { low = h.low; high = h.high; gone = λ q l m. stay r.newest q (h.gone q l m) }
+
+  -- No runs.
+  pub runs_none : (rs : Runs) → ((first : ℕ) → tree.get nat_cmp rs.by_first first ≡ None) → AreRuns rs new
+  runs_none rs none first = subst (λ o. IfSome o (IsRun rs new first)) (sym (none first)) tt
 
   -- Runs that have a number no longer, and a clause that is put on it.
   pub runs_beside : (rs now : Runs) (number : ℕ) → AreRuns rs old → Leaves rs now number → OthersStay old new number → AreRuns now new

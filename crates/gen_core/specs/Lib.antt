@@ -4,3 +4,4 @@ pub mod Hits
 pub mod Numbers
 pub mod ClauseIndex
 pub mod Runs
+pub mod Shared

@@ -2,7 +2,7 @@
 ghost use Rattle.std.specs.Prelude.{◌≡◌, ℕ, false, ◌+◌, ◌^◌, ◌<◌, ◌≤◌, ◌&&◌, not, Some, None, IsSome, OnOk, OnErr, MatchOption, IfOk, IfErr, IfSome, [], filter, map, min, ◌-◌, ◌==◌, sum_by, true};
 ghost use Rattle.std.specs.Option.{option_map, option_copied, is_some};
 ghost use Rattle.std.specs.List.{list_any};
-ghost use Rattle.std.specs.Ordering.{nat_cmp};
+ghost use Rattle.std.specs.Ordering.{is_eq, nat_cmp};
 ghost use Rattle.std.specs.BTreeMap as tree;
 ghost use Rattle.std.specs.BTreeSet as set;
 ghost use Rattle.pl_model.specs.FirstArguments.{are_apart};
@@ -12,6 +12,7 @@ ghost use Rattle.gen_core.specs.Hits.{hit_of};
 ghost use Rattle.gen_core.specs.ClauseIndex.{IsSound, IsNumberOf, Added, Lists, ListsSame, Unlists, ErasesAt, Drops, IsFirstErased, Marks, MarksAt, TakesOut, IsAfter, is_erased_at, erased_from, marked_all, pair_order, clauses_of, clauses_from, holds, dated_at};
 ghost use Rattle.gen_core.specs.Numbers.{IsNumbered};
 ghost use Rattle.gen_core.specs.Runs.{AreRuns, OthersStay, StayGone};
+ghost use Rattle.gen_core.specs.Shared.{AreShared, ClausesStay};
 
 use crate::dated_clause::DatedClause;
 use crate::hit::Hit;
@@ -174,6 +175,7 @@ impl<C: Kept> ClauseIndex<C> {
         ensures sound { IsSound C.Key.Ord.cmp C.any C.key_of self.new }
         ensures ok { OnOk result (Added self.old.clauses self.new.clauses number (fresh place clause)) }
         ensures others { OnOk result (OthersStay self.old.clauses self.new.clauses number) }
+        ensures at { OnOk result (dated_at self.new.clauses number ≡ Some (fresh place clause)) }
         ensures err { IfErr result (λ e. (e.0 ≡ clause) × (self.new.clauses.entries ≡ self.old.clauses.entries)) }
     {
         let Ok(key) = clause.key(self.alloc) else {
@@ -259,6 +261,7 @@ impl<C: Kept> ClauseIndex<C> {
         ensures sound { IsSound C.Key.Ord.cmp C.any C.key_of self.new }
         ensures ok { IfOk result (ErasesAt self.old.clauses self.new.clauses clause place) }
         ensures stay { OnOk result (StayGone self.old.clauses self.new.clauses) }
+        ensures kept { OnOk result (ClausesStay self.old.clauses self.new.clauses) }
         ensures err { OnErr result (self.new.clauses.entries ≡ self.old.clauses.entries) }
     {
         match self.number_of(clause) {
@@ -274,6 +277,7 @@ impl<C: Kept> ClauseIndex<C> {
         ensures sound { IsSound C.Key.Ord.cmp C.any C.key_of self.new }
         ensures ok { IfOk result (MarksAt self.old.clauses self.new.clauses number place) }
         ensures stay { OnOk result (StayGone self.old.clauses self.new.clauses) }
+        ensures kept { OnOk result (ClausesStay self.old.clauses self.new.clauses) }
         ensures err { OnErr result (self.new.clauses.entries ≡ self.old.clauses.entries) }
     {
         if self.is_live(number) {
@@ -302,6 +306,7 @@ impl<C: Kept> ClauseIndex<C> {
         ensures sound { IsSound C.Key.Ord.cmp C.any C.key_of self.new }
         ensures ok { OnOk result (clauses_of self.new.clauses ≡ map (erased_all place) (clauses_of self.old.clauses)) }
         ensures stay { OnOk result (StayGone self.old.clauses self.new.clauses) }
+        ensures kept { OnOk result (ClausesStay self.old.clauses self.new.clauses) }
         ensures err { OnErr result (self.new.clauses.entries ≡ self.old.clauses.entries) }
     {
         self.erased = erasures(self.alloc, &self.clauses, place)?;
@@ -339,6 +344,7 @@ impl<C: Kept> ClauseIndex<C> {
         ensures sound { IsSound C.Key.Ord.cmp C.any C.key_of self.new }
         ensures dropped { Drops self.old.clauses self.new.clauses floor result }
         ensures stay { StayGone self.old.clauses self.new.clauses }
+        ensures kept { ClausesStay self.old.clauses self.new.clauses }
     {
         match self.first_erased() {
             Some((place, number)) => {
@@ -359,6 +365,7 @@ impl<C: Kept> ClauseIndex<C> {
         ensures sound { IsSound C.Key.Ord.cmp C.any C.key_of self.new }
         ensures out { TakesOut self.old.clauses self.new.clauses place result }
         ensures stay { StayGone self.old.clauses self.new.clauses }
+        ensures kept { ClausesStay self.old.clauses self.new.clauses }
     {
         self.erased.remove(&(place, number));
         match self.clauses.remove(&number) {
@@ -486,6 +493,65 @@ impl<C: Kept> ClauseIndex<C> {
         }
     }
 
+    /// Whether each clause is listed under a key. `false` says nothing.
+    fn has_keys(&self) -> bool
+        ensures { result ≡ true → (q : ℕ) → set.contains nat_cmp self.now.any q ≡ false }
+    {
+        next_in(&self.any, 0).is_none()
+    }
+
+    /// The clause that was added at a place as the last one, with its number, where it is seen that the goal's first argument
+    /// excludes each other one. `shared` has the numbers of all clauses that have their keys in common with others.
+    fn lone(
+        &self,
+        shared: &BTreeSet<u64>,
+        place: u64,
+        first: &C::Key,
+    ) -> Option<(u64, &DatedClause<C>)>
+        requires sound { IsSound C.Key.Ord.cmp C.any C.key_of self.now }
+        requires shared { AreShared C.Key.Ord.cmp C.any C.key_of shared.now self.now.clauses }
+        requires keyed { C.any first.now ≡ false }
+        ensures lone { IfSome result (λ p. (q : ℕ) → holds self.now.clauses (λ s. not (are_apart C.Key.Ord.cmp C.any first.now (C.key_of s.clause))) q ≡ (q == p.0)) }
+        ensures at { IfSome result (λ p. dated_at self.now.clauses p.0 ≡ Some p.1.now) }
+    {
+        if place >= PLACES || !self.has_keys() {
+            return None;
+        }
+        let number = last_number(place);
+        let Some(entry) = self.clauses.get(&number) else {
+            return None;
+        };
+        if shared.contains(&number) || !is_keyed::<C>(entry, first) {
+            return None;
+        }
+        Some((number, &entry.dated))
+    }
+
+    /// The clause that was added at a place as the last one, where it is seen that a call with this key tries no other and the
+    /// generation `g` sees it.
+    pub fn alone(
+        &self,
+        shared: &BTreeSet<u64>,
+        place: u64,
+        g: u64,
+        first: &C::Key,
+    ) -> Option<Hit<'_, C>>
+        requires sound { IsSound C.Key.Ord.cmp C.any C.key_of self.now }
+        requires shared { AreShared C.Key.Ord.cmp C.any C.key_of shared.now self.now.clauses }
+        ensures { IfSome result (λ _. hit_of result ≡ first_choice (filter (is_choice C.Key.Ord.cmp C.any C.key_of g first.now) (clauses_of self.now.clauses))) }
+    {
+        if C::is_any(first) {
+            return None;
+        }
+        let Some((number, dated)) = self.lone(shared, place, first) else {
+            return None;
+        };
+        if dated.is_visible(g) {
+            return Some(hit(dated, false));
+        }
+        None
+    }
+
     /// The next clause after that which was added at a place, or the first one, of those that a call tries.
     pub fn next_after(
         &self,
@@ -517,6 +583,13 @@ fn is_tried<C: Kept>(entry: &Entry<C, C::Key>, first: &C::Key, g: u64) -> bool
 {
     entry.dated.is_visible(g)
         && (C::is_any(first) || C::is_any(&entry.key) || first.cmp(&entry.key).is_eq())
+}
+
+/// Whether the clause is listed under the goal's key.
+fn is_keyed<C: Kept>(entry: &Entry<C, C::Key>, first: &C::Key) -> bool
+    ensures { result ≡ (not (C.any entry.now.key) && is_eq (C.Key.Ord.cmp first.now entry.now.key)) }
+{
+    !C::is_any(&entry.key) && first.cmp(&entry.key).is_eq()
 }
 
 /// A clause with its place, and whether others follow.

@@ -1,10 +1,13 @@
 //! Dated lists: the clauses of a procedure in database order, with what each generation sees of them.
-ghost use Rattle.std.specs.Prelude.{◌≡◌, ℕ, ◌<◌, ◌≤◌, ◌-◌, ◌^◌, ◌++◌, ◌∷◌, [], ◌&&◌, ◌==◌, false, length, min, All, IfErr, IfOk, IfSome, IfNone, MatchOption, OnErr, OnOk, filter, map, sum_by};
+ghost use Rattle.std.specs.Prelude.{◌≡◌, ℕ, true, ◌<◌, ◌≤◌, ◌-◌, ◌^◌, ◌++◌, ◌∷◌, [], ◌&&◌, ◌==◌, false, length, min, All, IfErr, IfOk, IfSome, IfNone, MatchOption, OnErr, OnOk, filter, map, sum_by};
 ghost use Rattle.std.specs.List.{list_any};
 ghost use Rattle.gen_core.specs.Visible.{is_visible, is_droppable, is_live, fresh, erased_by, erased_all, live_size, is_droppable_at, counted, behind, is_choice, first_choice, DropsOne};
 ghost use Rattle.gen_core.specs.ClauseIndex.{IsSound};
 ghost use Rattle.gen_core.specs.Hits.{hit_of};
 ghost use Rattle.gen_core.specs.Runs.{AreRuns};
+ghost use Rattle.gen_core.specs.Shared.{AreShared, SharesWith};
+ghost use Rattle.std.specs.Ordering.{nat_cmp};
+ghost use Rattle.std.specs.BTreeSet as set;
 
 use crate::clause_index::ClauseIndex;
 use crate::dated_clause::DatedClause;
@@ -14,6 +17,7 @@ use crate::runs::Runs;
 use pl_model::kept::Kept;
 use pl_term::Memory;
 use std::alloc::Global;
+use std::collections::BTreeSet;
 use std::marker::Model;
 
 /// The clauses of a procedure, seen by contracts as the list of them in database order, each with the places of the
@@ -23,6 +27,8 @@ use std::marker::Model;
 pub struct Dated<C: Kept> {
     index: ClauseIndex<C>,
     runs: Runs,
+    // The numbers of the clauses that have their keys in common with others.
+    shared: BTreeSet<u64>,
 }
 
 impl<C: Kept> Model for Dated<C> {
@@ -30,12 +36,14 @@ impl<C: Kept> Model for Dated<C> {
     ghost use Rattle.gen_core.specs.declared.dated_clause.DatedClause.{DatedClause};
     ghost use Rattle.gen_core.specs.ClauseIndex.{IsSound, clauses_of};
     ghost use Rattle.gen_core.specs.Runs.{AreRuns};
+    ghost use Rattle.gen_core.specs.Shared.{AreShared};
 
     ghost Value = { List (DatedClause C) };
 
     ghost view = { λ d. clauses_of d.index.clauses };
 
-    ghost invariant = { λ d. IsSound C.Key.Ord.cmp C.any C.key_of d.index × AreRuns d.runs d.index.clauses };
+    ghost invariant = { λ d. IsSound C.Key.Ord.cmp C.any C.key_of d.index × AreRuns d.runs d.index.clauses
+        × AreShared C.Key.Ord.cmp C.any C.key_of d.shared d.index.clauses };
 }
 
 impl<C: Kept> Dated<C> {
@@ -46,6 +54,7 @@ impl<C: Kept> Dated<C> {
         Dated {
             index: ClauseIndex::new(alloc),
             runs: Runs::new(alloc),
+            shared: BTreeSet::new(alloc),
         }
     }
 
@@ -62,6 +71,14 @@ impl<C: Kept> Dated<C> {
         ensures { hit_of result ≡ first_choice (filter (is_choice C.Key.Ord.cmp C.any C.key_of g first.now) (behind place self.now)) }
     {
         self.index.next_after(&self.runs, place, g, first)
+    }
+
+    /// The clause that was added at `place`, where it is seen that it is the only one that a call at the generation `g` tries whose
+    /// first argument has the key `first`. `None` says nothing. It takes no memory.
+    pub fn alone(&self, place: u64, g: u64, first: &C::Key) -> Option<Hit<'_, C>>
+        ensures { IfSome result (λ _. hit_of result ≡ first_choice (filter (is_choice C.Key.Ord.cmp C.any C.key_of g first.now) self.now)) }
+    {
+        self.index.alone(&self.shared, place, g, first)
     }
 
     /// Whether one of the first `floor` updates erased a clause. It takes no memory.
@@ -88,6 +105,9 @@ impl<C: Kept> Dated<C> {
     {
         let number = first_number(place);
         self.runs.leave(number);
+        if share(&mut self.shared, &self.index, &clause, number).is_err() {
+            return Err((clause, Memory));
+        }
         self.index.add(clause, place, number)
     }
 
@@ -101,6 +121,9 @@ impl<C: Kept> Dated<C> {
     {
         let number = last_number(place);
         self.runs.leave(number);
+        if share(&mut self.shared, &self.index, &clause, number).is_err() {
+            return Err((clause, Memory));
+        }
         self.index.add(clause, place, number)
     }
 
@@ -167,5 +190,32 @@ fn note<C: Kept>(runs: &mut Runs, index: &ClauseIndex<C>, clause: u64)
 {
     if let Some(number) = index.number_of(clause) {
         runs.note(&index.clauses, number);
+    }
+}
+
+/// Notes that a clause that is to stand on the number has its key in common with others, if it has. The only error is out of
+/// memory.
+fn share<C: Kept>(
+    shared: &mut BTreeSet<u64>,
+    index: &ClauseIndex<C>,
+    clause: &C,
+    number: u64,
+) -> Result<(), Memory>
+    requires sound { IsSound C.Key.Ord.cmp C.any C.key_of index.now }
+    requires shared { AreShared C.Key.Ord.cmp C.any C.key_of shared.old index.now.clauses }
+    ensures grows { (n : ℕ) → set.contains nat_cmp shared.old n ≡ true → set.contains nat_cmp shared.new n ≡ true }
+    ensures ok { OnOk result (SharesWith C.Key.Ord.cmp C.any C.key_of shared.new index.now.clauses (C.key_of clause.now) number) }
+{
+    let key = clause.key(index.alloc)?;
+    if C::is_any(&key) {
+        return Ok(());
+    }
+    match index.index.one(&key) {
+        Some(one) => {
+            shared.insert(one)?;
+            shared.insert(number)?;
+            Ok(())
+        }
+        None => Ok(()),
     }
 }

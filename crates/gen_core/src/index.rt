@@ -1,5 +1,5 @@
 //! The places in database order at which clauses stand, by the keys of their first arguments.
-ghost use Rattle.std.specs.Prelude.{◌≡◌, ℕ, ◌+◌, ◌^◌, ◌<◌, ◌&&◌, ◌||◌, ◌==◌, not, Bool, true, false, OnOk, OnErr, Some, None};
+ghost use Rattle.std.specs.Prelude.{◌≡◌, ℕ, ◌+◌, ◌^◌, ◌<◌, ◌&&◌, ◌||◌, ◌==◌, not, Bool, true, false, IfNone, IfSome, OnOk, OnErr, Some, None};
 ghost use Rattle.std.specs.Ordering.{is_eq, nat_cmp};
 ghost use Rattle.std.specs.Option.{option_copied, option_map_or};
 ghost use Rattle.std.specs.BTreeMap as tree;
@@ -15,6 +15,9 @@ use std::collections::{BTreeMap, BTreeSet};
 pub fn next_in(numbers: &BTreeSet<u64>, from: u64) -> Option<u64>
     ensures { IsNext (set.contains nat_cmp numbers.now) from result }
 {
+    if numbers.is_empty() {
+        return None;
+    }
     numbers.range(from..).next().copied()
 }
 
@@ -114,6 +117,17 @@ impl<K: Ord + Drop> Index<K> {
         ensures { option_copied result ≡ tree.get K.cmp self.now.by_key key.now }
     {
         self.by_key.get(key)
+    }
+
+    /// One of the numbers under the key, if there are any.
+    pub fn one(&self, key: &K) -> Option<u64>
+        ensures some { IfSome result (λ n. is_listed K.cmp self.now.by_key key.now n ≡ true) }
+        ensures none { IfNone result ((q : ℕ) → is_listed K.cmp self.now.by_key key.now q ≡ false) }
+    {
+        match self.by_key.get(key) {
+            Some(numbers) => Some(numbers.one),
+            None => None,
+        }
     }
 
     /// Puts a number under a key. The only error is out of memory; after it the index is as it was.

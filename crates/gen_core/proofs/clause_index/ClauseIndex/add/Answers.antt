@@ -1,6 +1,6 @@
 use Rattle.gen_core.proofs.RunLaws.{others_put}
 use Rattle.std.proofs.Common.{ap, ◌∙◌, refl}
-use Rattle.std.specs.Option.{option_map_or}
+use Rattle.std.specs.Option.{option_map, option_map_or}
 use Rattle.std.specs.Ordering.{nat_cmp}
 use Rattle.std.specs.BTreeMap as tree
 use Rattle.std.specs.BTreeSet as set
@@ -47,3 +47,7 @@ pub returns-in-Ok-list-clause-others : goal.returns-in-Ok-list-clause-others
 returns-in-Ok-list-clause-others g c =
     others_put c.args.self.now.clauses c.list.new.self.clauses c.args.number (record { dated = fresh c.args.place c.args.clause; key = c.in-Ok.key })
     (λ q. ap (λ m. tree.get nat_cmp m q) c.list.ensures.others.0 ∙ c.in_default-put.ensures.updates.0 q)
+
+pub returns-in-Ok-list-clause-at : goal.returns-in-Ok-list-clause-at
+returns-in-Ok-list-clause-at g c =
+    ap (option_map (λ x. x.dated)) (ap (tree.get_by (nat_cmp c.args.number)) c.list.ensures.others.0 ∙ c.in_default-put.ensures.updates.1)

@@ -1,4 +1,5 @@
 use Rattle.gen_core.proofs.RunLaws.{stay_all}
+use Rattle.gen_core.proofs.SharedLaws.{kept_all}
 use Rattle.std.proofs.Common.{ap, map, refl, ◌∙◌}
 use Rattle.gen_core.proofs.AllErased.{sound_all, clauses_all}
 use Rattle.gen_core.proofs.clause_index.ClauseIndex.erase_all.Goals as goal
@@ -12,3 +13,6 @@ returns-clause-ok g c = ap (map (λ e. e.1.dated)) c.mark_all.ensures.entries �
 
 pub returns-clause-stay : goal.returns-clause-stay
 returns-clause-stay g c = stay_all c.args.self.now.clauses c.mark_all.new.clauses c.args.place c.mark_all.ensures.entries
+
+pub returns-clause-kept : goal.returns-clause-kept
+returns-clause-kept g c = kept_all c.args.self.now.clauses c.mark_all.new.clauses c.args.place c.mark_all.ensures.entries

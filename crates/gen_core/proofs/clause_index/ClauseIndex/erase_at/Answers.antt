@@ -1,4 +1,5 @@
 use Rattle.gen_core.proofs.RunLaws.{stay_marked}
+use Rattle.gen_core.proofs.SharedLaws.{kept_marked}
 use Rattle.std.proofs.Common.{sym, ap, subst, ◌∙◌, ◌≡◌, ◌+◌, cond, not, refl}
 use Rattle.std.specs.Option.{IfSome}
 use Rattle.std.specs.Ordering.{nat_cmp}
@@ -39,3 +40,6 @@ returns-then-is_live-clause-ok g c =
 pub returns-then-is_live-clause-stay : goal.returns-then-is_live-clause-stay
 returns-then-is_live-clause-stay g c =
     stay_marked c.args.self.now.clauses c.mark.new.clauses c.args.number c.args.place (sym c.if-is_live.ensures) c.mark.ensures.updates
+
+pub returns-then-is_live-clause-kept : goal.returns-then-is_live-clause-kept
+returns-then-is_live-clause-kept g c = kept_marked c.args.self.now.clauses c.mark.new.clauses c.args.number c.args.place c.mark.ensures.updates

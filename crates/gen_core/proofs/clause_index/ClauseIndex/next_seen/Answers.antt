@@ -1,4 +1,4 @@
-use Rattle.std.proofs.Common.{arith, true}
+use Rattle.std.proofs.Common.{true}
 use Rattle.gen_core.proofs.RunLaws.{number_below}
 use Rattle.gen_core.proofs.clause_index.ClauseIndex.next_seen.Goals as goal
 

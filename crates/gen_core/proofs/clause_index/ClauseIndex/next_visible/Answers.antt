@@ -1,4 +1,4 @@
-use Rattle.std.proofs.Common.{sym, arith, true}
+use Rattle.std.proofs.Common.{arith}
 use Rattle.pl_model.specs.FirstArguments.{are_apart}
 use Rattle.std.specs.Prelude.{not}
 use Rattle.gen_core.specs.ClauseIndex.{holds}

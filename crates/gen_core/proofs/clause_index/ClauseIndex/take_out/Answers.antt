@@ -1,4 +1,5 @@
 use Rattle.gen_core.proofs.RunLaws.{stay_out}
+use Rattle.gen_core.proofs.SharedLaws.{kept_out}
 use Rattle.std.proofs.Common.{sym, ap, subst, ◌∙◌, ◌≡◌, Some}
 use Rattle.std.specs.Ordering.{nat_cmp}
 use Rattle.std.specs.BTreeMap as tree
@@ -36,4 +37,9 @@ returns-clause-out g c =
 pub returns-clause-stay : goal.returns-clause-stay
 returns-clause-stay g c =
     stay_out c.args.self.now.clauses c.unlist.new.self.clauses c.args.number
+    (λ q. ap (λ m. tree.get nat_cmp m q) c.unlist.ensures.others.0 ∙ c.in-Some.ensures.updates.0 q)
+
+pub returns-clause-kept : goal.returns-clause-kept
+returns-clause-kept g c =
+    kept_out c.args.self.now.clauses c.unlist.new.self.clauses c.args.number
     (λ q. ap (λ m. tree.get nat_cmp m q) c.unlist.ensures.others.0 ∙ c.in-Some.ensures.updates.0 q)

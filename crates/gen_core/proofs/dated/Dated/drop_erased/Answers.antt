@@ -4,7 +4,18 @@ use Rattle.std.specs.Option.{IfSome, IfNone}
 use Rattle.gen_core.specs.Visible.{is_droppable, DropsOne}
 use Rattle.gen_core.specs.ClauseIndex.{clauses_of}
 use Rattle.gen_core.proofs.Listed.{drops_some, drops_none}
+use Rattle.gen_core.proofs.RunLaws.{runs_stay}
+use Rattle.gen_core.proofs.SharedLaws.{shared_stay}
 use Rattle.gen_core.proofs.dated.Dated.drop_erased.Goals as goal
+
+pub invariant_of-self : goal.invariant_of-self
+invariant_of-self g c =
+    let old = c.self.inside.index.clauses in
+    let new = c.drop_erased.new.self.clauses in (
+      c.drop_erased.ensures.sound,
+      runs_stay old new c.self.inside.runs c.self.invariant.1 c.drop_erased.ensures.stay,
+      shared_stay g.C.Key.Ord.cmp g.C.Kept.any g.C.Kept.key_of old new c.self.inside.shared c.self.invariant.2 c.drop_erased.ensures.kept,
+    )
 
 pub returns-clause-some : goal.returns-clause-some
 returns-clause-some g c =

@@ -3,7 +3,15 @@ use Rattle.std.specs.List.{list_any}
 use Rattle.gen_core.specs.Visible.{is_live, erased_by}
 use Rattle.gen_core.specs.ClauseIndex.{ErasesAt, clauses_of}
 use Rattle.gen_core.proofs.Listed.{at_ok, if_ok, erases_at}
+use Rattle.gen_core.proofs.SharedLaws.{shared_stay}
 use Rattle.gen_core.proofs.dated.Dated.erase.Goals as goal
+
+pub invariant_of-self-2 : goal.invariant_of-self-2
+invariant_of-self-2 g c = (
+  c.erase.ensures.sound,
+  c.note.ensures.runs,
+  shared_stay g.C.Key.Ord.cmp g.C.Kept.any g.C.Kept.key_of c.self.inside.index.clauses c.erase.new.self.clauses c.self.inside.shared c.self.invariant.2 c.in_ok-erased.ensures.kept,
+)
 
 pub returns-clause-was : goal.returns-clause-was
 returns-clause-was g c =
