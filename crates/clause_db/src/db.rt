@@ -304,6 +304,22 @@ impl<C: Kept> Db<C> {
         self.parts[i as usize].clauses.next_after(None, g, goal)
     }
 
+    /// The same, where the clause that was added at `place` is seen to be the only one of the procedure that such a call tries.
+    /// `None` says nothing.
+    pub fn alone_at(&self, i: u64, place: u64, goal: &C::Key, g: u64) -> Option<Hit<'_, C>>
+        requires there { i < length self.now.parts }
+        requires floor { self.now.floor ≤ g }
+        ensures held { IfSome result (λ h. IsHeld h.clause.now self.now) }
+        ensures says { (f : C → entries.Clause) (d : ℕ → Database entries.Clause) (t : entries.Clause → Bool) → SaysFor f self.now d
+            → EachHeld (λ c. are_apart C.Key.Ord.cmp C.any goal.now (C.key_of c) ≡ t (f c)) self.now
+            → IfSome result (λ _. IfSome (slice_get self.now.parts i) (λ x. read_hit f (hit_of result) ≡ first_named (choices t g (proc_of x.name) (d g)))) }
+    {
+        match self.parts[i as usize].clauses.alone(place, g, goal) {
+            Some(hit) => Some(hit),
+            None => None,
+        }
+    }
+
     /// The next clause of a call at the generation `g`, whose first argument has the key `goal`, after the clause that was
     /// added at `place`, which `g` sees.
     pub fn next_at(&self, place: u64, goal: &C::Key, g: u64) -> Option<Hit<'_, C>>
