@@ -100,7 +100,10 @@ pub fn call_clauses<K: NamesTable>(
         → Tells goals e (text_of (names (seen atoms.new.seat))) (requests.call_clauses (said (names (seen atoms.old.seat)) t)) h result }
 {
     match called(db, hints, atoms, keeper, procedure, first, generation) {
-        Some(row) => row,
+        Some(row) => {
+            hints.learn(alloc, procedure, first, &row);
+            row
+        }
         None => call_by_text(
             alloc, db, hints, atoms, keeper, procedure, first, generation,
         ),

@@ -4,8 +4,8 @@ ghost use Rattle.std.specs.Option.{option_map};
 ghost use Rattle.std.specs.List.{All, slice_get};
 ghost use Rattle.pl_term.specs.Tree.{Tree};
 ghost use Rattle.pl_model.specs.Database as database;
-ghost use Rattle.pl_model.specs.Database.{is_system};
-ghost use Rattle.pl_model.specs.FirstArguments.{head_of};
+ghost use Rattle.pl_model.specs.Database.{Database, choices, is_system};
+ghost use Rattle.pl_model.specs.FirstArguments.{are_apart, head_of};
 ghost use Rattle.pl_model.specs.History as entries;
 ghost use Rattle.pl_model.specs.History.{head_part};
 ghost use Rattle.pl_model.specs.Predicates.{proc_of as predicate_of};
@@ -15,9 +15,10 @@ ghost use Rattle.atom_words.specs.Seats.{seen};
 ghost use Rattle.atom_api.specs.Names.{Names};
 ghost use Rattle.atom_table.specs.Naming.{Lawful, names};
 ghost use Rattle.clause_db.specs.Access.{access_of};
-ghost use Rattle.clause_db.specs.Reading.{SaysFor};
-ghost use Rattle.clause_db.specs.Stands.{program_access};
-ghost use Rattle.term_store.specs.ArgumentKeys.{clause_key, key_atoms};
+ghost use Rattle.gen_core.specs.Hits.{hit_of};
+ghost use Rattle.clause_db.specs.Reading.{EachHeld, IsHeld, SaysFor, read_hit};
+ghost use Rattle.clause_db.specs.Stands.{first_named, program_access};
+ghost use Rattle.term_store.specs.ArgumentKeys.{clause_key, is_any, key_atoms, key_order};
 ghost use Rattle.world_api.specs.Texts.{text_of};
 ghost use Rattle.world_api.specs.Visits.{proc_named};
 ghost use Rattle.counted_terms.specs.CountedTerms.{said};
@@ -32,7 +33,7 @@ use crate::calls::{first_clause, hand_out};
 use crate::hints::Hints;
 use crate::naming::{head_procedure, is_spelled, predicate_text, spelled_as};
 use atom_table::{Keeper, NamesTable, TableAtoms};
-use clause_db::{Access, Db};
+use clause_db::{Access, Db, Hit};
 use counted_terms::{CountedTerm, Row, agree};
 use pl_model::shows::Proc;
 use pl_term::Memory;
@@ -132,7 +133,10 @@ fn called_by_number<K: NamesTable>(
         → IfSome result (Tells goals e (text_of (names (seen atoms.new.seat))) (requests.call_clauses (said (names (seen atoms.old.seat)) t)) h) }
 {
     match hints.find(procedure) {
-        Some(i) => called_at(db, atoms, keeper, procedure, i, first, generation),
+        Some(i) => {
+            let guess = hints.clause(procedure, first);
+            called_at(db, guess, atoms, keeper, procedure, i, first, generation)
+        }
         None => None,
     }
 }
@@ -164,7 +168,10 @@ fn opened_by_number<K: NamesTable>(
         → IfSome result (IsOpenFound goals h generation (proc_named (text_of (names (seen atoms.old.seat))) procedure.now) (text_of (names (seen atoms.new.seat))) (head_of (said (names (seen atoms.old.seat)) t))) }
 {
     match hints.find(procedure) {
-        Some(i) => opened_at(db, atoms, keeper, procedure, i, first, generation),
+        Some(i) => {
+            let guess = hints.clause(procedure, first);
+            opened_at(db, guess, atoms, keeper, procedure, i, first, generation)
+        }
         None => None,
     }
 }
@@ -173,6 +180,7 @@ fn opened_by_number<K: NamesTable>(
 // procedure that is called; else nothing is done.
 fn called_at<K: NamesTable>(
     db: &Db<CountedTerm>,
+    guess: Option<u64>,
     atoms: &mut TableAtoms<K>,
     keeper: &mut Option<Keeper>,
     procedure: &Procedure,
@@ -199,12 +207,13 @@ fn called_at<K: NamesTable>(
     if !stands_at(db, i, generation) {
         return None;
     }
-    found_at(db, atoms, keeper, procedure, i, first, generation)
+    found_at(db, guess, atoms, keeper, procedure, i, first, generation)
 }
 
 // The same where the procedure is dynamic.
 fn opened_at<K: NamesTable>(
     db: &Db<CountedTerm>,
+    guess: Option<u64>,
     atoms: &mut TableAtoms<K>,
     keeper: &mut Option<Keeper>,
     procedure: &Procedure,
@@ -231,13 +240,14 @@ fn opened_at<K: NamesTable>(
     if !is_open_at(db, i, generation) {
         return None;
     }
-    found_at(db, atoms, keeper, procedure, i, first, generation)
+    found_at(db, guess, atoms, keeper, procedure, i, first, generation)
 }
 
 // The first of the clauses in the procedure at the index, or that there is none, where that procedure is the goal's, as a
 // clause shows that the generation sees there; else nothing is done.
 fn found_at<K: NamesTable>(
     db: &Db<CountedTerm>,
+    guess: Option<u64>,
     atoms: &mut TableAtoms<K>,
     keeper: &mut Option<Keeper>,
     procedure: &Procedure,
@@ -263,13 +273,37 @@ fn found_at<K: NamesTable>(
         → IfSome result (IsFound goals h db.now i generation (proc_named (text_of (names (seen atoms.old.seat))) procedure.now) (text_of (names (seen atoms.new.seat))) (head_of (said (names (seen atoms.old.seat)) t))) }
 {
     agree(atoms, keeper);
-    let Some(hit) = db.first_at(i, first, generation) else {
+    let Some(hit) = first_hit(db, guess, i, first, generation) else {
         return none_at(db, procedure, i, generation);
     };
     if !is_of(hit.clause, procedure) {
         return None;
     }
     Some(handed(hand_out(atoms, keeper, Some(hit))))
+}
+
+// The first clause of a call in the procedure at the index: the one that was added at the place which is guessed, if that is seen to
+// be the only one, or else the one that is looked for.
+fn first_hit<'d>(
+    db: &'d Db<CountedTerm>,
+    guess: Option<u64>,
+    i: u64,
+    first: &ArgumentKey,
+    g: u64,
+) -> Option<Hit<'d, CountedTerm>>
+    requires there { i < length db.now.parts }
+    requires floor { db.now.floor ≤ g }
+    ensures held { IfSome result (λ h. IsHeld h.clause.now db.now) }
+    ensures says { (f : Tree → entries.Clause) (d : ℕ → Database entries.Clause) (t : entries.Clause → Bool) → SaysFor f db.now d
+        → EachHeld (λ c. are_apart key_order is_any first.now (clause_key c) ≡ t (f c)) db.now
+        → IfSome (slice_get db.now.parts i) (λ x. read_hit f (hit_of result) ≡ first_named (choices t g (proc_of x.name) (d g))) }
+{
+    if let Some(place) = guess {
+        if let Some(hit) = db.alone_at(i, place, first, g) {
+            return Some(hit);
+        }
+    }
+    db.first_at(i, first, g)
 }
 
 // The first of the clauses of a call, where the procedure has the text that is noted for its number; else nothing is done.

@@ -1,9 +1,14 @@
 //! Where the procedures of goals stand, by the atoms of their names: a hint, which is looked at before it is used.
+use crate::guesses::Guesses;
 use crate::predicates::OpenPredicate;
+use counted_terms::Row;
+use pl_model::kept::Kept;
 use pl_model::shows::Proc;
+use pl_term::Memory;
 use std::alloc::Global;
 use std::collections::BTreeMap;
-use world_api::Procedure;
+use term_store::{ArgumentKey, Stored};
+use world_api::{Procedure, Reply};
 
 /// A predicate over atoms, as hints are ordered by.
 #[derive(Clone, Copy, Debug, PartialEq, Eq, PartialOrd, Ord)]
@@ -24,6 +29,7 @@ struct Noted {
 #[derive(Drop)]
 pub struct Hints {
     noted: BTreeMap<Called, Noted>,
+    guesses: Guesses,
 }
 
 impl Hints {
@@ -31,6 +37,7 @@ impl Hints {
     pub fn new(alloc: Global) -> Hints {
         Hints {
             noted: BTreeMap::new(alloc),
+            guesses: Guesses::new(alloc),
         }
     }
 
@@ -47,6 +54,29 @@ impl Hints {
         match self.noted.get(&numbered(p)) {
             Some(noted) => noted.predicate.as_ref(),
             None => None,
+        }
+    }
+
+    /// The place at which a clause was added that was the only one of the procedure for the key.
+    pub(crate) fn clause(&self, p: &Procedure, first: &ArgumentKey) -> Option<u64> {
+        match number_of(p, first) {
+            Some(number) => self.guesses.find(number),
+            None => None,
+        }
+    }
+
+    /// Notes where the clause was added that the row hands out, if that is the only one of the procedure for the key.
+    pub(crate) fn learn(&mut self, alloc: Global, p: &Procedure, first: &ArgumentKey, row: &Row) {
+        let Some(number) = number_of(p, first) else {
+            return;
+        };
+        if let Row::Reads(Reply::Clauses(Some(found))) = row {
+            if found.more || self.guesses.find(number) == Some(found.place) {
+                return;
+            }
+            if has_key(alloc, &found.clause) {
+                self.guesses.note(alloc, number, found.place);
+            }
         }
     }
 
@@ -88,5 +118,27 @@ fn by_itself(noted: Option<OpenPredicate>) -> Option<Proc> {
     match noted {
         Some(noted) => Some(noted.into_predicate()),
         None => None,
+    }
+}
+
+// A number by which a clause of the procedure is guessed whose first argument has the key, where it has one.
+fn number_of(p: &Procedure, first: &ArgumentKey) -> Option<u64> {
+    let key = match first {
+        ArgumentKey::Any => return None,
+        ArgumentKey::Int(i) => *i as u64,
+        ArgumentKey::Atom(a) => *a as u64 | 0x1_0000_0000,
+        ArgumentKey::Compound(f, k) => {
+            *f as u64 | (*k as u64).wrapping_mul(0x4_0000_0000) | 0x2_0000_0000
+        }
+    };
+    let named = (p.name.slot() as u64 ^ p.arity << 32).wrapping_mul(0xff51_afd7_ed55_8ccd);
+    Some((key ^ named).wrapping_mul(0x9e37_79b9_7f4a_7c15))
+}
+
+// Whether the first argument of the clause's head is found by a key.
+fn has_key(alloc: Global, clause: &Stored) -> bool {
+    match <Stored as Kept>::key(clause, alloc) {
+        Ok(key) => !<Stored as Kept>::is_any(&key),
+        Err(Memory) => false,
     }
 }

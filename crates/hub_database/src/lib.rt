@@ -11,6 +11,7 @@ mod calls;
 mod changing;
 mod finding;
 mod flags;
+mod guesses;
 mod hints;
 mod laws;
 mod listing;
