@@ -84,12 +84,10 @@ fn find_in(row: &[Noted; ROW], number: u64) -> Option<u64> {
 
 // At which place of the row something is noted: where the number stands, or nothing does, or else at one of all.
 fn place_in(row: &[Noted; ROW], number: u64) -> usize {
-    let mut at = 0;
-    for noted in row {
+    for (at, noted) in row.iter().enumerate() {
         if noted.number == number || noted.place == u64::MAX {
             return at;
         }
-        at += 1;
     }
     (number >> 32) as usize % ROW
 }
