@@ -1,5 +1,5 @@
 //! Clauses for goals are found by the number of the goal's name, where the procedure was looked for before.
-ghost use Rattle.std.specs.Prelude.{◌≡◌, ◌≤◌, ◌<◌, [], ℕ, IsSome, IfNone, IfOk, IfSome, Some, is_some, length, false, true};
+ghost use Rattle.std.specs.Prelude.{Bool, ◌≡◌, ◌≤◌, ◌<◌, [], ℕ, IsSome, IfNone, IfOk, IfSome, Some, is_some, length, false, true};
 ghost use Rattle.std.specs.Option.{option_map};
 ghost use Rattle.std.specs.List.{All, slice_get};
 ghost use Rattle.pl_term.specs.Tree.{Tree};

@@ -125,7 +125,7 @@ fn by_itself(noted: Option<OpenPredicate>) -> Option<Proc> {
 fn number_of(p: &Procedure, first: &ArgumentKey) -> Option<u64> {
     let key = match first {
         ArgumentKey::Any => return None,
-        ArgumentKey::Int(i) => *i as u64,
+        ArgumentKey::Int(i) => i.cast_unsigned(),
         ArgumentKey::Atom(a) => *a as u64 | 0x1_0000_0000,
         ArgumentKey::Compound(f, k) => {
             *f as u64 | (*k as u64).wrapping_mul(0x4_0000_0000) | 0x2_0000_0000
