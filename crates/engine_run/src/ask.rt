@@ -7,7 +7,7 @@ ghost use Rattle.world_api.specs.Told.{has_ended};
 ghost use Rattle.engine_run.specs.Endings.{IsEndOfTurn};
 ghost use Rattle.engine_run.specs.Items.{IsDirectiveAsked};
 ghost use Rattle.engine_run.specs.Ran.{IsNameHeld};
-ghost use Rattle.engine_run.specs.Runners.{HasAsked, HasBegun, IsBetween, IsStillSearching, ends_by, is_over, stage_at, wanted_in};
+ghost use Rattle.engine_run.specs.Runners.{HasAsked, HasBegun, IsBetween, IsStillSearching, at_stage, ends_by, is_over, stage_at, wanted_in};
 ghost use Rattle.engine_run.specs.Searched.{IsRefusedOnce, UnlessMemory, last_refusals};
 
 use crate::ending::ends_over;
@@ -61,19 +61,19 @@ impl<S: Script<Term = Stored> + Drop> Runner<S> {
                 Ok(Turn::Goes)
             }
             Next::Done { halted } => {
-                self.stage = Stage::Over;
+                self.go_to(Stage::Over);
                 Ok(Turn::Ended(ends_over(halted)))
             }
             Next::NeedsAtoms(pass) => {
-                self.stage = Stage::Asks;
+                self.go_to(Stage::Asks);
                 Err(Unfinished::NeedsAtoms(pass))
             }
             Next::Retry(_cause) => {
-                self.stage = Stage::Asks;
+                self.go_to(Stage::Asks);
                 Ok(Turn::Goes)
             }
             Next::Worn(word) => {
-                self.stage = Stage::Asks;
+                self.go_to(Stage::Asks);
                 Err(Unfinished::Worn(word))
             }
             Next::Memory => Err(Unfinished::Memory),
@@ -89,6 +89,13 @@ impl<S: Script<Term = Stored> + Drop> Runner<S> {
         let engine = Engine::new(self.alloc, goal, self.budgets, wanted, self.stays)?;
         self.stage = stage_at(engine, directive);
         Ok(())
+    }
+
+    /// Goes to another stage.
+    fn go_to(&mut self, stage: Stage)
+        ensures { self.new ≡ at_stage self.old stage }
+    {
+        self.stage = stage;
     }
 
     /// How many solutions are wanted.
