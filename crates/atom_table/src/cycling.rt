@@ -10,8 +10,8 @@ use crate::marking::Marked;
 use crate::opening::Opened;
 use crate::resizing::Stage;
 use crate::seats::Collector;
+use crate::steps::{Step, wrong_by_two};
 use crate::table::AtomTable;
-use crate::tests::take_last;
 use crate::threads::eight;
 use atom_api::{Atoms, Interned};
 use atom_words::AtomSeat;
@@ -62,29 +62,30 @@ pub fn check(table: &AtomTable, collector: &mut Collector) -> Option<Checked>
     }
 }
 
+/// Engine 1 takes part in a cycle, and engine 2 not yet.
+const FIRST: [Step; 6] = [
+    Step::Mark("a", Marked::NoCycle(0)),
+    Step::Begin(Turn::Began(1)),
+    Step::Begin(Turn::Running(5)),
+    Step::Mark("a", Marked::Acked(1)),
+    Step::Mark("a", Marked::NoCycle(5)),
+    Step::Check(Some(Checked::NotYet { engine: 2, seen: 0 })),
+];
+
+/// Engine 2 takes part.
+const SECOND: [Step; 1] = [Step::Mark("a", Marked::Acked(1))];
+
+const THIRD: [Step; 4] = [
+    Step::Check(Some(Checked::All)),
+    Step::Check(None),
+    Step::Begin(Turn::Running(6)),
+    Step::Mark("a", Marked::NoCycle(6)),
+];
+
 #[test]
 fn a_cycle_waits_for_each_engine(rt: HostRuntime) -> Result<(), Fail> {
-    let Opened {
-        table,
-        mut seats,
-        keeper: _,
-        mut collector,
-    } = AtomTable::new(rt.alloc(), 512, 2)?;
-    let mut two = take_last(&table, &mut seats).ok_or("a seat")?;
-    let mut one = take_last(&table, &mut seats).ok_or("a seat")?;
-    let text = Text::from_str(rt.alloc(), "a")?;
-    assert_eq!(rt; mark_one(&table, &mut one, &text), Some(Marked::NoCycle(0)));
-    assert_eq!(rt; begin(&table, &mut collector), Some(Turn::Began(1)));
-    assert_eq!(rt; begin(&table, &mut collector), Some(Turn::Running(5)));
-    assert_eq!(rt; mark_one(&table, &mut one, &text), Some(Marked::Acked(1)));
-    assert_eq!(rt; mark_one(&table, &mut one, &text), Some(Marked::NoCycle(5)));
-    let not_yet = Checked::NotYet { engine: 2, seen: 0 };
-    assert_eq!(rt; check(&table, &mut collector), Some(not_yet));
-    assert_eq!(rt; mark_one(&table, &mut two, &text), Some(Marked::Acked(1)));
-    assert_eq!(rt; check(&table, &mut collector), Some(Checked::All));
-    assert_eq!(rt; check(&table, &mut collector), None);
-    assert_eq!(rt; begin(&table, &mut collector), Some(Turn::Running(6)));
-    assert_eq!(rt; mark_one(&table, &mut one, &text), Some(Marked::NoCycle(6)));
+    let wrong = wrong_by_two(rt.alloc(), &FIRST, &SECOND, &THIRD)?;
+    assert_eq!(rt; wrong, None);
     Ok(())
 }
 

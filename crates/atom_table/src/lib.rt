@@ -22,6 +22,8 @@ mod resizing;
 #[cfg(test)]
 mod reuse;
 mod seats;
+#[cfg(test)]
+mod steps;
 mod sweeping;
 mod table;
 #[cfg(test)]

@@ -10,6 +10,7 @@ ghost use Rattle.atom_table.specs.Opening.{fixed_slots, FreshFrom, IsKeeper};
 use crate::atoms::{NamesTable, TableAtoms};
 use crate::opening::Opened;
 use crate::seats::Keeper;
+use crate::steps::{Step, Wanted, wrong_alone, wrong_by_two};
 use crate::table::AtomTable;
 use atom_api::{Atom, Atoms, Interned, TextBuf, fixed};
 use atom_words::AtomSeat;
@@ -65,122 +66,46 @@ fn intern(
     Ok(table.intern(seat, &text))
 }
 
-// The answer on the letter `a` with a number after it.
-fn intern_numbered(
-    alloc: Global,
-    table: &AtomTable,
-    seat: &mut AtomSeat,
-    number: u32,
-) -> Result<Interned, Memory>
-    requires sits { Sits table.now.words seat.old }
-    requires walking { Walking (seen seat.old) }
-    ensures sits { Sits table.now.words seat.new }
-    ensures walking { Walking (seen seat.new) }
-{
-    let name = format!(in alloc; "a{number}")?;
-    intern(alloc, table, seat, name.as_str())
-}
-
-// How many of the texts from `a1` to `a256` are answered with an atom.
-fn fill(alloc: Global, table: &AtomTable, seat: &mut AtomSeat) -> Result<u32, Memory>
-    requires sits { Sits table.now.words seat.old }
-    requires walking { Walking (seen seat.old) }
-    ensures sits { Sits table.now.words seat.new }
-    ensures walking { Walking (seen seat.new) }
-{
-    let mut made = 0;
-    for i in 0..256u32 {
-        if let Interned::Is(_) = intern_numbered(alloc, table, seat, i + 1)? {
-            made += 1;
-        }
-    }
-    Ok(made)
-}
-
 #[test]
 fn two_seats_have_equal_atoms(rt: HostRuntime) -> Result<(), Fail> {
-    let Opened {
-        table,
-        mut seats,
-        keeper: _,
-        collector: _,
-    } = AtomTable::new(rt.alloc(), 512, 2)?;
-    let mut two = take_last(&table, &mut seats).ok_or("a seat")?;
-    let mut one = take_last(&table, &mut seats).ok_or("a seat")?;
-    let first = intern(rt.alloc(), &table, &mut one, "a")?;
-    let second = intern(rt.alloc(), &table, &mut two, "a")?;
-    assert!(rt; matches!(first, Interned::Is(_)));
-    assert_eq!(rt; first, second);
-    assert_eq!(rt;
-        intern(rt.alloc(), &table, &mut two, "true")?,
-        Interned::Is(fixed::TRUE)
-    );
-    assert_eq!(rt;
-        intern(rt.alloc(), &table, &mut two, "{}")?,
-        Interned::Is(fixed::BRACES)
-    );
+    let first = [Step::Text("a", Wanted::New)];
+    let second = [
+        Step::Text("a", Wanted::Same),
+        Step::Text("true", Wanted::Fixed(fixed::TRUE.slot())),
+        Step::Text("{}", Wanted::Fixed(fixed::BRACES.slot())),
+    ];
+    assert_eq!(rt; wrong_by_two(rt.alloc(), &first, &second, &[])?, None);
     Ok(())
 }
 
+const FULL: [Step; 4] = [
+    Step::Text("a1", Wanted::New),
+    Step::Fill('a', 256),
+    Step::Text("a257", Wanted::Full),
+    Step::Text("a1", Wanted::Same),
+];
+
 #[test]
 fn a_full_table_says_so(rt: HostRuntime) -> Result<(), Fail> {
-    let Opened {
-        table,
-        mut seats,
-        keeper: _,
-        collector: _,
-    } = AtomTable::new(rt.alloc(), 512, 1)?;
-    let mut one = take_last(&table, &mut seats).ok_or("a seat")?;
-    let a1 = intern_numbered(rt.alloc(), &table, &mut one, 1)?;
-    assert!(rt; matches!(a1, Interned::Is(_)));
-    assert_eq!(rt; fill(rt.alloc(), &table, &mut one)?, 256);
-    let Interned::Full(pass) = intern_numbered(rt.alloc(), &table, &mut one, 257)? else {
-        panic!(rt; "the table was not full")
-    };
-    assert_eq!(rt; pass.counted(), 512);
-    assert_eq!(rt; pass.seat(), 1);
-    assert_eq!(rt; intern_numbered(rt.alloc(), &table, &mut one, 1)?, a1);
+    assert_eq!(rt; wrong_alone(rt.alloc(), 512, 0, &FULL)?, None);
     Ok(())
 }
 
 #[test]
 fn a_worn_bucket_takes_no_new_atom(rt: HostRuntime) -> Result<(), Fail> {
-    let start = 4_398_046_511_103;
-    let Opened {
-        table,
-        mut seats,
-        keeper: _,
-        collector: _,
-    } = AtomTable::new_at(rt.alloc(), 512, 1, start)?;
-    let mut one = take_last(&table, &mut seats).ok_or("a seat")?;
-    let Interned::Worn(worn) = intern(rt.alloc(), &table, &mut one, "zz")? else {
-        panic!(rt; "the bucket was not worn")
-    };
-    assert_eq!(rt; worn.start(), start);
-    assert_eq!(rt; worn.word() / 4_194_304, start);
-    assert_eq!(rt; worn.head(), bucket(b"zz", 8) as u64);
-    let fixed = intern(rt.alloc(), &table, &mut one, "yfx")?;
-    assert_eq!(rt; fixed, Interned::Is(fixed::YFX));
+    let version = 4_398_046_511_103;
+    let head = bucket(b"zz", 8) as u64;
+    let steps = [
+        Step::Text("zz", Wanted::Worn(head, version)),
+        Step::Text("yfx", Wanted::Fixed(fixed::YFX.slot())),
+    ];
+    assert_eq!(rt; wrong_alone(rt.alloc(), 512, version, &steps)?, None);
     Ok(())
 }
 
 #[test]
 fn a_text_of_249_bytes_is_too_long(rt: HostRuntime) -> Result<(), Fail> {
-    let Opened {
-        table,
-        mut seats,
-        keeper: _,
-        collector: _,
-    } = AtomTable::new(rt.alloc(), 512, 1)?;
-    let mut one = take_last(&table, &mut seats).ok_or("a seat")?;
-    let mut long = String::new(rt.alloc());
-    for _ in 0..249 {
-        long.push_str("a")?;
-    }
-    assert_eq!(rt;
-        intern(rt.alloc(), &table, &mut one, long.as_str())?,
-        Interned::TooLong { bytes: 249 }
-    );
+    assert_eq!(rt; wrong_alone(rt.alloc(), 512, 0, &[Step::Long(249)])?, None);
     Ok(())
 }
 
