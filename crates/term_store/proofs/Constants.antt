@@ -1,6 +1,10 @@
 -- Words as they are kept against the parts of a clause's block.
-use Rattle.std.proofs.Common.{◌≡◌, ◌≢◌, ℕ, ◌≤◌, ◌<◌, Bool, true, false, cond, ◌==◌, List, [], ◌∷◌, ◌++◌, length, get_or, pos, refl, sym, ap, subst, ◌∙◌, arith, length-append}
-use Rattle.std.proofs.lemmas.Bool.Decides.{Decides-eqb}
+use Rattle.std.proofs.Common.{◌≡◌, ◌≢◌, ℕ, ℤ, ◌≤◌, ◌<◌, Bool, true, false, cond, ◌==◌, List, [], ◌∷◌, ◌++◌, length, get_or, pos, eqb, w32, refl, sym, ap, subst, ◌∙◌, arith, length-append}
+use mir.Val.{SFits, of_z, to_z}
+use Rattle.std.specs.Ordering.{int_eq}
+use Rattle.std.proofs.lemmas.Bool.{false≢true}
+use Rattle.std.proofs.lemmas.Int.{to_z-of_z}
+use Rattle.std.proofs.lemmas.Bool.Decides.{Decides-eqb, Decides-int_eq}
 use Rattle.pl_term.specs.Variables.{has}
 use Rattle.term_store.specs.declared.words.Word.{Word}
 use Rattle.term_store.specs.declared.words.Word.TheVariants.{Var, Int, Atom, Comp}
@@ -12,7 +16,7 @@ use Rattle.term_store.specs.declared.shorts.Beyond.{Beyond}
 use Rattle.term_store.specs.Blocks.{IsBlock}
 use Rattle.term_store.specs.Cells.{Followed}
 use Rattle.term_store.specs.Entering.{IsConstant, IsHarmless, IsKnown, Joined, Joins, MetFirst, Never, entered, value}
-use Rattle.term_store.specs.Fit.{Fit, IsIn}
+use Rattle.term_store.specs.Fit.{Fit}
 use Rattle.term_store.specs.Heap.{Heap, meaning, numbered, pushed}
 use Rattle.term_store.specs.Shorts.{IsShort, long_word}
 use Rattle.term_store.specs.Unifying.{plan_of}
@@ -89,6 +93,42 @@ module _ (c : Heap) (fit : Fit c) (s : Short) (w : Word) (f : Followed c s w) (n
       (joined_pushed c from known f.word (meaning c (Atom n)) slot (Atom n) known_is
       (constant_planned c f.word (Atom n) (plan_of f.word (Atom n)) (Bind slot (Atom n)) fit f.inside f.free tt refl (ap (λ v. plan_of v (Atom n)) word))
       (constant_absent c (numbered c slot) (Atom n) tt))
+
+-- Integers of 32 bits are compared by their bits.
+pub number_test : (x y : ℤ) → SFits w32 x → SFits w32 y → eqb (of_z w32 x) (of_z w32 y) ≡ int_eq x y
+number_test x y fits_x fits_y = go (eqb (of_z w32 x) (of_z w32 y)) (int_eq x y) refl refl
+  where
+    go : (p q : Bool) → eqb (of_z w32 x) (of_z w32 y) ≡ p → int_eq x y ≡ q → p ≡ q
+    go true true e f = refl
+    go false false e f = refl
+    go true false e f =
+        absurd (false≢true (sym f ∙ (Decides-int_eq x y).1 (sym (to_z-of_z w32 x fits_x) ∙ ap (to_z w32) ((Decides-eqb (of_z w32 x) (of_z w32 y)).0 e) ∙ to_z-of_z w32 y fits_y)))
+    go false true e f = absurd (false≢true (sym e ∙ (Decides-eqb (of_z w32 x) (of_z w32 y)).1 (ap (of_z w32) ((Decides-int_eq x y).0 f))))
+
+-- A word that was followed against an integer.
+module _ (c : Heap) (fit : Fit c) (s : Short) (w : Word) (f : Followed c s w) (n : ℤ) (from : ℕ) (known : List Word) where
+  pub integers_joined : (m : ℤ) → s ≡ Number m → IsKnown c from known → Joins (int_eq m n) c from known w (meaning c (Int n)) c known
+  integers_joined m is known_is = go (int_eq m n) refl
+    where
+      word : f.word ≡ Int m
+      word = word_is s (Number m) f.word tt is f.short
+
+      go : (q : Bool) → int_eq m n ≡ q → Joins q c from known w (meaning c (Int n)) c known
+      go true e =
+          joined_same c from known w (meaning c (Int n)) known_is (sym f.means ∙ ap (meaning c) (word ∙ ap Int ((Decides-int_eq m n).0 e)))
+      go false e =
+          never_same (meaning c f.word) (meaning c (Int n)) (meaning c w) (meaning c (Int n)) f.means refl
+          (never_clashes (meaning c f.word) (meaning c (Int n))
+          (constant_planned c f.word (Int n) (plan_of f.word (Int n)) Clash fit f.inside f.free tt refl
+          (ap (λ v. plan_of v (Int n)) word ∙ ap (λ q. cond q Same Clash) e)))
+
+  pub integer_bound : (slot : ℕ) → s ≡ Slot slot → IsKnown c from known → Joined c from known w (meaning c (Int n)) (pushed c slot (Int n)) known
+  integer_bound slot is known_is =
+      let word : f.word ≡ Var slot = word_is s (Slot slot) f.word tt is f.short in
+      prepared c from known w (meaning c (Int n)) c known f.word (meaning c (Int n)) (pushed c slot (Int n)) known (meets_none c from known) f.means refl
+      (joined_pushed c from known f.word (meaning c (Int n)) slot (Int n) known_is
+      (constant_planned c f.word (Int n) (plan_of f.word (Int n)) (Bind slot (Int n)) fit f.inside f.free tt refl (ap (λ v. plan_of v (Int n)) word))
+      (constant_absent c (numbered c slot) (Int n) tt))
 
 -- A word that was followed, which is a constant, against a compound term of the block.
 pub followed_never : (b : Block) → IsBlock b → (c : Heap) (from : ℕ) (known : List Word) (s : Short) (w : Word) (k : ℕ) → k < length b.heads.items → Followed c s w

@@ -1,5 +1,5 @@
 -- Parts of a block, made in a store.
-use Rattle.std.proofs.Common.{◌≡◌, inl, inr, ℕ, zero, ◌+◌, ◌-◌, ◌<◌, ◌≤◌, List, [], ◌∷◌, length, get_or, map, pos, refl, sym, ap, ap₂, subst, ◌∙◌, arith, zero-add}
+use Rattle.std.proofs.Common.{◌≡◌, ◌≢◌, inl, inr, ℕ, zero, ◌+◌, ◌-◌, ◌<◌, ◌≤◌, List, [], ◌∷◌, length, get_or, map, pos, refl, sym, ap, ap₂, subst, ◌∙◌, arith, zero-add}
 use Rattle.std.specs.List.{All}
 use Rattle.std.proofs.lemmas.Bool.{cases_lt}
 use Rattle.std.proofs.lemmas.List.Elements.{All-head, All-tail, All-nil, All-cons}
@@ -15,6 +15,7 @@ use Rattle.term_store.specs.Entering.{AreCopied, IsReady, entered, value}
 use Rattle.term_store.specs.Heap.{Heap, atom_name, words_of, bindings, meaning}
 use Rattle.term_store.specs.Fit.{IsWord, IsIn, IsHead, no_head}
 use Rattle.term_store.specs.Making.{Made}
+use Rattle.term_store.specs.Nodes.{StandsFor}
 use Rattle.term_store.proofs.Equations.{bound-int, bound-atom}
 use Rattle.term_store.proofs.Instances.{instance-compound}
 use Rattle.term_store.proofs.Knowing.{value_known}
@@ -52,6 +53,12 @@ module _ (b : Block) (block : IsBlock b) where
 
     pub part_atom : (a : ℕ) (d : Heap) → meaning d (Atom a) ≡ entered b c from known (Atom a)
     part_atom a d = bound-atom (bindings d) (atom_name a) ∙ sym (ap (instance (value c from known)) (bound-atom (bindings (block_heap b)) (atom_name a)))
+
+    pub part_constant : (w : Word) → ((x : ℕ) → w ≢ Var x) → ((k : ℕ) → w ≢ Comp k) → (d : Heap) → StandsFor d (entered b c from known w) w
+    part_constant (Var x) no_variable no_compound d = absurd (no_variable x refl)
+    part_constant (Int i) no_variable no_compound d = record { inside = tt; means = part_int i d }
+    part_constant (Atom a) no_variable no_compound d = record { inside = tt; means = part_atom a d }
+    part_constant (Comp k) no_variable no_compound d = absurd (no_compound k refl)
 
     module _ (low above : ℕ) where
       pub none_copied : (d : Heap) → AreCopied b c from known low above low d

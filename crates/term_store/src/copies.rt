@@ -33,18 +33,18 @@ pub fn copy_part(
     ensures gains { Gains (heap_of cells.old) (heap_of cells.new) }
     ensures copied { IfOk result (λ w. (from : ℕ) → StandsFor (heap_of cells.new) (entered block.now (heap_of cells.old) from known.now.items part) w) }
 {
-    match part {
-        Word::Var(x) => Ok(known_at(known, x)),
-        Word::Int(_) => Ok(part),
-        Word::Atom(_) => Ok(part),
-        Word::Comp(k) => {
-            let i = copy_compounds(cells, block, known, k)?;
-            Ok(Word::Comp(i))
-        }
+    if let Word::Comp(k) = part {
+        let i = copy_compounds(cells, block, known, k)?;
+        return Ok(Word::Comp(i));
     }
+    if let Word::Var(x) = part {
+        return Ok(known_at(known, x));
+    }
+    Ok(part)
 }
 
 /// Makes a compound term of a block, with all that stands below it.
+#[inline(always)]
 pub fn copy_compounds(
     cells: &mut Cells,
     block: &Block,

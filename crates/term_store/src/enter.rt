@@ -17,7 +17,7 @@ use crate::shorts::Words;
 use crate::store::Store;
 use crate::stored::Stored;
 use crate::walk::{Pending, Walk};
-use crate::words::{Pair, Place, Rest, Word};
+use crate::words::{Place, Rest, Word};
 use pl_term::Memory;
 use std::alloc::Global;
 
@@ -149,18 +149,7 @@ fn enter_block(
     ensures extends { Extends (heap_of cells.old) (heap_of cells.new) }
     ensures entered { IfOk result (λ r. BlockEntered block.now (heap_of cells.old) from goal r (heap_of cells.new)) }
 {
-    if !meet_head(
-        cells,
-        entry,
-        pending,
-        walk,
-        block,
-        from,
-        Pair {
-            left: goal,
-            right: block.head,
-        },
-    )? {
+    if !meet_head(cells, entry, pending, walk, block, from, goal)? {
         return Ok(None);
     }
     make_known(cells, &mut entry.known, block.variables as usize, from)?;
@@ -168,7 +157,7 @@ fn enter_block(
     Ok(Some(body))
 }
 
-/// Unifies the goal that the first word stands for and the head, which is the second one.
+/// Unifies the goal that a word stands for and the head.
 fn meet_head(
     cells: &mut Cells,
     entry: &mut Entry,
@@ -176,16 +165,16 @@ fn meet_head(
     walk: &mut Walk,
     block: &Block,
     from: u64,
-    pair: Pair,
+    goal: Word,
 ) -> Result<bool, Memory>
     requires fit { IsFit cells.old }
     requires block { IsBlock block.now }
-    requires facing { IsFacing (heap_of cells.old) block.now pair }
+    requires facing { IsFacing (heap_of cells.old) block.now (record { left = goal; right = block.now.head }) }
     requires above { All (λ m. m < from) cells.old.numbers.items }
     requires room { from + block.now.variables < 2 ^ 64 }
     ensures fit { IsFit cells.new }
     ensures extends { Extends (heap_of cells.old) (heap_of cells.new) }
-    ensures enters { IfOk result (λ r. Enters r block.now (heap_of cells.old) from pair.left pair.right (heap_of cells.new) entry.new.known.items) }
+    ensures enters { IfOk result (λ r. Enters r block.now (heap_of cells.old) from goal block.now.head (heap_of cells.new) entry.new.known.items) }
 {
     entry.known.clear();
     entry.rests.clear();
@@ -197,7 +186,7 @@ fn meet_head(
         walk,
         block,
         from,
-        pair,
+        goal,
     )?;
     let Some(first) = started else {
         return Ok(false);

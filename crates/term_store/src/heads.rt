@@ -1,11 +1,12 @@
 //! Words of a store and words of a clause's block, made the same.
 ghost use Rattle.std.specs.Prelude.{◌≡◌, ℕ, ◌+◌, ◌<◌, ◌≤◌, ◌^◌, List, length, pos, slice_index_or, Some, None, if◌then◌else◌, IfOk, OnOk};
 ghost use Rattle.term_store.specs.Blocks.{IsBlock};
-ghost use Rattle.term_store.specs.Cells.{IsFit, heap_of};
+ghost use Rattle.term_store.specs.Cells.{Followed, IsFit, heap_of};
 ghost use Rattle.term_store.specs.Entering.{Extends, IsConstant, IsFacing, IsKnown, Joined, Joins, MetFirst, entered, value};
 ghost use Rattle.term_store.specs.Fit.{IsIn};
 ghost use Rattle.term_store.specs.Heap.{find, meaning};
 ghost use Rattle.term_store.specs.Rests.{IsNext, IsRest, Steps, StepsAt, no_rest, pair_at, rest_after, stacked};
+ghost use Rattle.term_store.specs.Shorts.{IsShort};
 
 use crate::bind::{bind, bind_short};
 use crate::block::{Block, block_head, block_word};
@@ -30,36 +31,70 @@ pub fn meet_goal(
     walk: &mut Walk,
     block: &Block,
     from: u64,
-    pair: Pair,
+    goal: Word,
 ) -> Result<Option<Rest>, Memory>
     requires fit { IsFit cells.old }
     requires block { IsBlock block.now }
     requires known { IsKnown (heap_of cells.old) from known.old.items }
     requires few { length known.old.items ≤ block.now.variables }
     requires room { from + block.now.variables < 2 ^ 64 }
-    requires facing { IsFacing (heap_of cells.old) block.now pair }
+    requires facing { IsFacing (heap_of cells.old) block.now (record { left = goal; right = block.now.head }) }
     ensures fit { IsFit cells.new }
     ensures extends { Extends (heap_of cells.old) (heap_of cells.new) }
-    ensures steps { IfOk result (λ r. Steps r block.now (heap_of cells.old) from known.old.items pair.left pair.right rests.old.items no_rest
+    ensures steps { IfOk result (λ r. Steps r block.now (heap_of cells.old) from known.old.items goal block.now.head rests.old.items no_rest
         (heap_of cells.new) known.new.items rests.new.items) }
 {
+    if let Word::Comp(k) = block.head {
+        if let Word::Comp(l) = goal {
+            let none = Rest {
+                left: 0,
+                right: 0,
+                count: 0,
+            };
+            return open_part(cells, rests, block, l, k, none);
+        }
+    }
+    meet_whole(cells, known, rests, pending, walk, block, from, goal)
+}
+
+/// Does what `meet_goal` does, also where the goal or the head is no compound term.
+#[inline(never)]
+fn meet_whole(
+    cells: &mut Cells,
+    known: &mut Words,
+    rests: &mut Vec<Rest>,
+    pending: &mut Pending,
+    walk: &mut Walk,
+    block: &Block,
+    from: u64,
+    goal: Word,
+) -> Result<Option<Rest>, Memory>
+    requires fit { IsFit cells.old }
+    requires block { IsBlock block.now }
+    requires known { IsKnown (heap_of cells.old) from known.old.items }
+    requires few { length known.old.items ≤ block.now.variables }
+    requires room { from + block.now.variables < 2 ^ 64 }
+    requires facing { IsFacing (heap_of cells.old) block.now (record { left = goal; right = block.now.head }) }
+    ensures fit { IsFit cells.new }
+    ensures extends { Extends (heap_of cells.old) (heap_of cells.new) }
+    ensures steps { IfOk result (λ r. Steps r block.now (heap_of cells.old) from known.old.items goal block.now.head rests.old.items no_rest
+        (heap_of cells.new) known.new.items rests.new.items) }
+{
+    let pair = Pair {
+        left: goal,
+        right: block.head,
+    };
     let none = Rest {
         left: 0,
         right: 0,
         count: 0,
     };
-    if let Word::Comp(k) = pair.right {
-        if let Word::Comp(l) = pair.left {
-            return open_part(cells, rests, block, l, k, none);
-        }
-    }
     meet_part(cells, known, rests, pending, walk, block, from, pair, none)
 }
 
 /// Makes a word of the store and one of the block the same. Of two compound terms the arguments are taken in hand, and are still
 /// to be made the same. The answer is what is in hand then, or none where nothing makes them the same. The only error is out of
 /// memory, after which, as after none, some bindings may have been made.
-#[inline(never)]
 fn meet_part(
     cells: &mut Cells,
     known: &mut Words,
@@ -160,7 +195,8 @@ pub fn meet_at(
         (heap_of cells.new) known.new.items rests.new.items) }
 {
     let next = after_first(cells, block, rest);
-    match block.args.short(rest.right) {
+    let part = block.args.short(rest.right);
+    match part {
         Short::Slot(x) => {
             let met = meet_slot(cells, known, pending, walk, from, x as usize, rest.left)?;
             Ok(if_met(met, next))
@@ -168,14 +204,8 @@ pub fn meet_at(
         Short::Term(k) => meet_term(
             cells, known, rests, walk, block, from, rest.left, k as usize, next,
         ),
-        Short::Name(a) => {
-            let met = meet_name(cells, rest.left, a)?;
-            Ok(if_met(met, next))
-        }
         _ => {
-            let word = word_at(cells, rest.left);
-            let part = block_word(block, rest.right);
-            let met = meet_constant(cells, word, part)?;
+            let met = meet_short(cells, block, rest.left, rest.right, part)?;
             Ok(if_met(met, next))
         }
     }
@@ -303,18 +333,46 @@ fn meet_term(
     }
 }
 
-/// Makes the word at a place and an atom the same.
+/// Makes the word at a place and the one at a place of the block the same, which is a constant, and is kept as the short word.
 #[inline(always)]
-fn meet_name(cells: &mut Cells, at: usize, atom: u32) -> Result<bool, Memory>
+fn meet_short(
+    cells: &mut Cells,
+    block: &Block,
+    left: usize,
+    right: usize,
+    part: Short,
+) -> Result<bool, Memory>
     requires fit { IsFit cells.old }
-    requires at { at < length cells.old.args.items }
-    requires word { IsIn (heap_of cells.old) (slice_index_or cells.old.args.items at (Word.Int (pos 0))) }
+    requires left { left < length cells.old.args.items }
+    requires word { IsIn (heap_of cells.old) (slice_index_or cells.old.args.items left (Word.Int (pos 0))) }
+    requires right { right < length block.now.args.items }
+    requires part { IsShort part (slice_index_or block.now.args.items right (Word.Int (pos 0))) }
+    requires constant { IsConstant (slice_index_or block.now.args.items right (Word.Int (pos 0))) }
     ensures fit { IsFit cells.new }
     ensures extends { Extends (heap_of cells.old) (heap_of cells.new) }
     ensures joins { IfOk result (λ r. (from : ℕ) (known : List Word) → IsKnown (heap_of cells.old) from known
-        → Joins r (heap_of cells.old) from known (slice_index_or cells.old.args.items at (Word.Int (pos 0))) (meaning (heap_of cells.old) (Word.Atom atom)) (heap_of cells.new) known) }
+        → Joins r (heap_of cells.old) from known (slice_index_or cells.old.args.items left (Word.Int (pos 0)))
+        (meaning (heap_of cells.old) (slice_index_or block.now.args.items right (Word.Int (pos 0)))) (heap_of cells.new) known) }
 {
-    match follow(cells, at) {
+    let held = follow(cells, left);
+    match part {
+        Short::Name(a) => meet_name(cells, held, a),
+        Short::Number(n) => meet_integer(cells, block, left, right, held, part, n),
+        _ => meet_long(cells, block, left, right),
+    }
+}
+
+/// Makes what a word was followed to and an atom the same.
+#[inline(always)]
+fn meet_name(cells: &mut Cells, held: Short, atom: u32) -> Result<bool, Memory>
+    requires fit { IsFit cells.old }
+    requires held { (w : Word) × Followed (heap_of cells.old) held w }
+    ensures fit { IsFit cells.new }
+    ensures extends { Extends (heap_of cells.old) (heap_of cells.new) }
+    ensures joins { IfOk result (λ r. (w : Word) → Followed (heap_of cells.old) held w → (from : ℕ) (known : List Word) → IsKnown (heap_of cells.old) from known
+        → Joins r (heap_of cells.old) from known w (meaning (heap_of cells.old) (Word.Atom atom)) (heap_of cells.new) known) }
+{
+    match held {
         Short::Slot(slot) => {
             bind_short(cells, slot, Short::Name(atom))?;
             Ok(true)
@@ -322,6 +380,59 @@ fn meet_name(cells: &mut Cells, at: usize, atom: u32) -> Result<bool, Memory>
         Short::Name(a) => Ok(a == atom),
         _ => Ok(false),
     }
+}
+
+/// Makes the word at a place, which was followed, and an integer of 32 bits at a place of the block the same, as it is kept there.
+#[inline(always)]
+fn meet_integer(
+    cells: &mut Cells,
+    block: &Block,
+    left: usize,
+    right: usize,
+    held: Short,
+    part: Short,
+    number: i32,
+) -> Result<bool, Memory>
+    requires fit { IsFit cells.old }
+    requires left { left < length cells.old.args.items }
+    requires word { IsIn (heap_of cells.old) (slice_index_or cells.old.args.items left (Word.Int (pos 0))) }
+    requires held { Followed (heap_of cells.old) held (slice_index_or cells.old.args.items left (Word.Int (pos 0))) }
+    requires right { right < length block.now.args.items }
+    requires kept { part ≡ Short.Number number }
+    requires number { slice_index_or block.now.args.items right (Word.Int (pos 0)) ≡ Word.Int number }
+    ensures fit { IsFit cells.new }
+    ensures extends { Extends (heap_of cells.old) (heap_of cells.new) }
+    ensures joins { IfOk result (λ r. (from : ℕ) (known : List Word) → IsKnown (heap_of cells.old) from known
+        → Joins r (heap_of cells.old) from known (slice_index_or cells.old.args.items left (Word.Int (pos 0)))
+        (meaning (heap_of cells.old) (slice_index_or block.now.args.items right (Word.Int (pos 0)))) (heap_of cells.new) known) }
+{
+    match held {
+        Short::Slot(slot) => {
+            bind_short(cells, slot, part)?;
+            Ok(true)
+        }
+        Short::Number(n) => Ok(n == number),
+        _ => meet_long(cells, block, left, right),
+    }
+}
+
+/// Makes the word at a place and the one at a place of the block the same, which is a constant.
+#[inline(never)]
+fn meet_long(cells: &mut Cells, block: &Block, left: usize, right: usize) -> Result<bool, Memory>
+    requires fit { IsFit cells.old }
+    requires left { left < length cells.old.args.items }
+    requires word { IsIn (heap_of cells.old) (slice_index_or cells.old.args.items left (Word.Int (pos 0))) }
+    requires right { right < length block.now.args.items }
+    requires constant { IsConstant (slice_index_or block.now.args.items right (Word.Int (pos 0))) }
+    ensures fit { IsFit cells.new }
+    ensures extends { Extends (heap_of cells.old) (heap_of cells.new) }
+    ensures joins { IfOk result (λ r. (from : ℕ) (known : List Word) → IsKnown (heap_of cells.old) from known
+        → Joins r (heap_of cells.old) from known (slice_index_or cells.old.args.items left (Word.Int (pos 0)))
+        (meaning (heap_of cells.old) (slice_index_or block.now.args.items right (Word.Int (pos 0)))) (heap_of cells.new) known) }
+{
+    let word = word_at(cells, left);
+    let part = block_word(block, right);
+    meet_constant(cells, word, part)
 }
 
 /// Makes a word and what stands for a variable of the clause the same: a variable that was not met stands for the word from

@@ -30,12 +30,15 @@ pub fn make_known(
     ensures few { OnOk result ((n : ℕ) → count ≤ n → length known.old.items ≤ n → length known.new.items ≤ n) }
 {
     if known.len() < count {
-        make_rest(cells, known, count, from)?;
+        make_next(cells, known, from)?;
+        if known.len() < count {
+            make_rest(cells, known, count, from)?;
+        }
     }
     Ok(())
 }
 
-/// Does what `make_known` does, where there are some to be made.
+/// Does what `make_known` does, where one was made and there are more to be made.
 #[inline(never)]
 fn make_rest(cells: &mut Cells, known: &mut Words, count: usize, from: u64) -> Result<(), Memory>
     requires fit { IsFit cells.old }

@@ -7,7 +7,7 @@ use Rattle.term_store.specs.Entering.{IsReady, entered}
 use Rattle.term_store.specs.Fit.{IsIn}
 use Rattle.term_store.specs.Heap.{meaning}
 use Rattle.term_store.specs.Nodes.{StandsFor}
-use Rattle.term_store.proofs.Copying.{part_atom, part_int, part_known}
+use Rattle.term_store.proofs.Copying.{part_constant, part_known}
 use Rattle.term_store.proofs.Stacking.{gains_none}
 use Rattle.term_store.proofs.copies.copy_part.Goals as goal
 
@@ -29,32 +29,18 @@ returns-in-Var-clause-copied c from =
           ∙ ap (entered b h from known) (sym c.in-Var.is);
     }
 
-pub returns-in-Int-clause-copied : goal.returns-in-Int-clause-copied
-returns-in-Int-clause-copied c from =
-    let b = c.args.block.now in
+pub returns-clause-gains : goal.returns-clause-gains
+returns-clause-gains c = gains_none (heap_of c.args.cells.now)
+
+pub returns-clause-copied : goal.returns-clause-copied
+returns-clause-copied c from =
     let h = heap_of c.args.cells.now in
-    let known = c.args.known.now.items in
-    subst (λ w. StandsFor h (entered b h from known w) w) (sym c.in-Int.is)
-    (record { inside = tt; means = part_int b c.requires.block h from known c.requires.known c.in-Int.field-0 h })
+    part_constant c.args.block.now c.requires.block h from c.args.known.now.items c.requires.known c.args.part c.in_default-part.not-Var c.in_default.not-Comp h
 
-pub returns-in-Atom-clause-copied : goal.returns-in-Atom-clause-copied
-returns-in-Atom-clause-copied c from =
-    let b = c.args.block.now in
-    let h = heap_of c.args.cells.now in
-    let known = c.args.known.now.items in
-    subst (λ w. StandsFor h (entered b h from known w) w) (sym c.in-Atom.is)
-    (record { inside = tt; means = part_atom b c.requires.block h from known c.requires.known c.in-Atom.field-0 h })
-
-pub returns-in-Int-clause-gains : goal.returns-in-Int-clause-gains
-returns-in-Int-clause-gains c = gains_none (heap_of c.args.cells.now)
-
-pub returns-in-Atom-clause-gains : goal.returns-in-Atom-clause-gains
-returns-in-Atom-clause-gains c = gains_none (heap_of c.args.cells.now)
-
-pub returns-in_ok-i-in-Comp-clause-copied : goal.returns-in_ok-i-in-Comp-clause-copied
-returns-in_ok-i-in-Comp-clause-copied c from =
+pub returns-in-Comp-clause-copied : goal.returns-in-Comp-clause-copied
+returns-in-Comp-clause-copied c from =
     let b = c.args.block.now in
     let h = heap_of c.args.cells.now in
     let d = heap_of c.copy_compounds.new.cells in
     let known = c.args.known.now.items in
-    subst (λ p. StandsFor d (entered b h from known p) (Comp c.in_ok-i-in-Comp.i)) (sym c.in-Comp.is) (c.in_ok-i-in-Comp.ensures.copied from)
+    subst (λ p. StandsFor d (entered b h from known p) (Comp c.in_ok-i.i)) (sym c.in-Comp.is) (c.in_ok-i.ensures.copied from)

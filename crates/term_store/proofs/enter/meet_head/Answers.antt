@@ -1,6 +1,7 @@
 use Rattle.std.proofs.Common.{◌≡◌, ◌∷◌, [], ◌++◌, ◌≤◌, length, pos, get_or, Some, None, refl, sym, ap, subst, ◌∙◌, arith}
 use Rattle.std.proofs.lemmas.List.Elements.{All-nil}
 use Rattle.std.specs.List.{All}
+use Rattle.term_store.specs.declared.words.Pair.{Pair}
 use Rattle.term_store.specs.declared.words.Rest.{Rest}
 use Rattle.term_store.specs.Cells.{heap_of}
 use Rattle.term_store.specs.Entering.{IsFacing, IsKnown}
@@ -24,7 +25,7 @@ pub returns-in_default-clause-enters : goal.returns-in_default-clause-enters
 returns-in_default-clause-enters c =
     let b = c.args.block.now in
     let h = heap_of c.args.cells.now in
-    let p = c.args.pair in
+    let p : Pair = record { left = c.args.goal; right = b.head } in
     let known = c.clear.new.self.items in
     let rests = c.clear-2.new.self.items in
     let before = pairs_of h.args b.args.items (rests ++ no_rest ∷ []) in
@@ -40,7 +41,7 @@ loop-init c =
     let b = c.args.block.now in
     let h = heap_of c.args.cells.now in
     let e = heap_of c.meet_goal.new.cells in
-    let p = c.args.pair in
+    let p : Pair = record { left = c.args.goal; right = b.head } in
     let from = c.args.from in
     let known = c.clear.new.self.items in
     let rests = c.clear-2.new.self.items in
@@ -66,7 +67,7 @@ returns-in_default-take_next-clause-enters c =
     let b = c.args.block.now in
     let d = heap_of c.loop.cells in
     let rests = c.loop.entry.rests.items in
-    reached_all b (heap_of c.args.cells.now) c.args.from c.args.pair.left c.args.pair.right d c.loop.entry.known.items
+    reached_all b (heap_of c.args.cells.now) c.args.from c.args.goal b.head d c.loop.entry.known.items
     (pairs_of d.args b.args.items (rests ++ c.loop.rest ∷ [])) c.loop.invariant.reached
     (none_taken d b rests c.loop.rest c.take_next.new.rests.items c.in_default-take_next.ensures)
 
@@ -112,9 +113,9 @@ returns-in_default-met-clause-enters c =
     let m = pair_at d.args b.args.items now in
     let before = pairs_of d.args b.args.items (rests ++ rest_after now ∷ []) in
     let t = taken d b c.loop.entry.rests.items c.loop.rest rests now c.loop.invariant.rests c.in-Some-take_next.ensures in
-    let reached : Reached b h from c.args.pair.left c.args.pair.right d known (before ++ m ∷ []) =
-    subst (λ ps. Reached b h from c.args.pair.left c.args.pair.right d known ps) (t.pairs ∙ hand_off d b rests now t.some t.kept) c.loop.invariant.reached in
-    reached_never b h from c.args.pair.left c.args.pair.right d known before (before ++ m ∷ []) m reached refl
+    let reached : Reached b h from c.args.goal b.head d known (before ++ m ∷ []) =
+    subst (λ ps. Reached b h from c.args.goal b.head d known ps) (t.pairs ∙ hand_off d b rests now t.some t.kept) c.loop.invariant.reached in
+    reached_never b h from c.args.goal b.head d known before (before ++ m ∷ []) m reached refl
     (subst (λ q. StepsAt q b d from known rests now (heap_of c.meet_at.new.cells) c.meet_at.new.known.items c.meet_at.new.rests.items) c.in_default-met.is
     c.in_ok-met.ensures.steps)
 
@@ -134,8 +135,8 @@ loop-preserved c =
     let m = pair_at d.args b.args.items now in
     let before = pairs_of d.args b.args.items (rests ++ rest_after now ∷ []) in
     let t = taken d b c.loop.entry.rests.items c.loop.rest rests now c.loop.invariant.rests c.in-Some-take_next.ensures in
-    let reached : Reached b h from c.args.pair.left c.args.pair.right d known (before ++ m ∷ []) =
-    subst (λ ps. Reached b h from c.args.pair.left c.args.pair.right d known ps) (t.pairs ∙ hand_off d b rests now t.some t.kept) c.loop.invariant.reached in
+    let reached : Reached b h from c.args.goal b.head d known (before ++ m ∷ []) =
+    subst (λ ps. Reached b h from c.args.goal b.head d known ps) (t.pairs ∙ hand_off d b rests now t.some t.kept) c.loop.invariant.reached in
     let on : AreRests d b rests (rest_after now) = hand_on d b rests now t.some t.kept in
     let stepped : Stepped b d from known m.left m.right rests (rest_after now) e after left rest =
     subst (λ q. StepsAt q b d from known rests now e after left) c.in-Some-met.is c.in_ok-met.ensures.steps in
@@ -144,5 +145,5 @@ loop-preserved c =
       extends = extends_then h d e c.loop.invariant.extends c.meet_at.ensures.extends;
       rests = rests_after b d from known m.left m.right rests (rest_after now) e after left rest on c.meet_at.ensures.extends stepped;
       reached =
-          reached_step b h from c.args.pair.left c.args.pair.right d known rests (rest_after now) m e after left rest reached on c.meet_at.ensures.extends stepped;
+          reached_step b h from c.args.goal b.head d known rests (rest_after now) m e after left rest reached on c.meet_at.ensures.extends stepped;
     }

@@ -12,6 +12,6 @@ invariant-loop l =
       extends : Extends (heap_of l.fn.cells) (heap_of l.cells);
       rests : AreRests (heap_of l.cells) l.block l.entry.rests.items l.rest;
       reached :
-          Reached l.block (heap_of l.fn.cells) l.from l.fn.pair.left l.fn.pair.right (heap_of l.cells) l.entry.known.items
+          Reached l.block (heap_of l.fn.cells) l.from l.fn.goal l.block.head (heap_of l.cells) l.entry.known.items
           (pairs_of l.cells.args.items l.block.args.items (l.entry.rests.items ++ l.rest ∷ []));
     }

@@ -1,10 +1,10 @@
-use Rattle.std.proofs.Common.{◌∙◌, refl, sym, ap, subst, get_or, pos, IfOk, arith}
-use Rattle.term_store.specs.declared.words.Word.TheVariants.{Int, Atom, Comp}
+use Rattle.std.proofs.Common.{refl, sym, subst, get_or, pos, IfOk, arith}
+use Rattle.term_store.specs.declared.words.Word.TheVariants.{Int, Comp}
 use Rattle.term_store.specs.declared.words.Rest.{Rest}
-use Rattle.term_store.specs.declared.shorts.Short.TheVariants.{Slot, Name, Term}
+use Rattle.term_store.specs.declared.shorts.Short.TheVariants.{Slot, Term}
 use Rattle.term_store.specs.Blocks.{block_heap}
 use Rattle.term_store.specs.Cells.{heap_of}
-use Rattle.term_store.specs.Entering.{IsConstant, value}
+use Rattle.term_store.specs.Entering.{value}
 use Rattle.term_store.specs.Fit.{IsIn}
 use Rattle.term_store.specs.Heap.{meaning}
 use Rattle.term_store.specs.Rests.{Steps}
@@ -21,7 +21,7 @@ meet_slot-requires-clause-room c =
     let b = c.args.block.now in
     let room = c.requires.room in
     let p = get_or b.args.items c.args.rest.right (Int (pos 0)) in
-    omega (arith, room, part_inside b c.in-Slot.x (subst (IsIn (block_heap b)) (word_is c.short.result (Slot c.in-Slot.x) p tt c.in-Slot.is c.short.ensures) c.requires.facing.1))
+    omega (arith, room, part_inside b c.in-Slot.x (subst (IsIn (block_heap b)) (word_is c.short-part.result (Slot c.in-Slot.x) p tt c.in-Slot.is c.short-part.ensures) c.requires.facing.1))
 
 pub returns-in_ok-met-in-Slot-clause-steps : goal.returns-in_ok-met-in-Slot-clause-steps
 returns-in_ok-met-in-Slot-clause-steps c =
@@ -34,7 +34,7 @@ returns-in_ok-met-in-Slot-clause-steps c =
     let x = c.in-Slot.x in
     let w = get_or h.args c.args.rest.left (Int (pos 0)) in
     let p = get_or b.args.items c.args.rest.right (Int (pos 0)) in
-    let is = word_is c.short.result (Slot x) p tt c.in-Slot.is c.short.ensures in
+    let is = word_is c.short-part.result (Slot x) p tt c.in-Slot.is c.short-part.ensures in
     let within = part_inside b x (subst (IsIn (block_heap b)) is c.requires.facing.1) in
     let after = c.meet_slot.new.known.items in
     subst (λ (n : Rest). Steps c.if_met.result b h from known w p rests n d after rests) c.after_first-next.ensures
@@ -45,7 +45,7 @@ pub meet_term-requires-clause-part : goal.meet_term-requires-clause-part
 meet_term-requires-clause-part c =
     let b = c.args.block.now in
     let p = get_or b.args.items c.args.rest.right (Int (pos 0)) in
-    subst (IsIn (block_heap b)) (word_is c.short.result (Term c.in-Term.k) p tt c.in-Term.is c.short.ensures) c.requires.facing.1
+    subst (IsIn (block_heap b)) (word_is c.short-part.result (Term c.in-Term.k) p tt c.in-Term.is c.short-part.ensures) c.requires.facing.1
 
 pub returns-in-Term-clause-steps : goal.returns-in-Term-clause-steps
 returns-in-Term-clause-steps c =
@@ -59,50 +59,27 @@ returns-in-Term-clause-steps c =
     let left = c.meet_term.new.rests.items in
     let w = get_or h.args c.args.rest.left (Int (pos 0)) in
     let p = get_or b.args.items c.args.rest.right (Int (pos 0)) in
-    let is = word_is c.short.result (Term c.in-Term.k) p tt c.in-Term.is c.short.ensures in
+    let is = word_is c.short-part.result (Term c.in-Term.k) p tt c.in-Term.is c.short-part.ensures in
     steps_if c.meet_term.result b h from known w w (Comp c.in-Term.k) p rests _ d after left refl (sym is)
     (subst (λ (n : Rest). IfOk c.meet_term.result (λ r. Steps r b h from known w (Comp c.in-Term.k) rests n d after left)) c.after_first-next.ensures
     c.meet_term.ensures.steps)
 
-pub returns-in_ok-met-in-Name-clause-steps : goal.returns-in_ok-met-in-Name-clause-steps
-returns-in_ok-met-in-Name-clause-steps c =
-    let b = c.args.block.now in
-    let h = heap_of c.args.cells.now in
-    let d = heap_of c.meet_name.new.cells in
-    let from = c.args.from in
-    let known = c.args.known.now.items in
-    let rests = c.args.rests.now.items in
-    let a = c.in-Name.a in
-    let w = get_or h.args c.args.rest.left (Int (pos 0)) in
-    let p = get_or b.args.items c.args.rest.right (Int (pos 0)) in
-    let is = word_is c.short.result (Name a) p tt c.in-Name.is c.short.ensures in
-    subst (λ (n : Rest). Steps c.if_met-in-Name.result b h from known w p rests n d known rests) c.after_first-next.ensures
-    (steps_met c.in_ok-met-in-Name.met c.if_met-in-Name.result b h from known w w (meaning h (Atom a)) p rests c.after_first-next.result d known c.if_met-in-Name.ensures
-    c.requires.few refl (ap (meaning h) (sym is) ∙ constant_entered b h h from known p (subst IsConstant (sym is) tt))
-    (c.in_ok-met-in-Name.ensures.joins from known c.requires.known))
-
-pub meet_constant-requires-clause-word : goal.meet_constant-requires-clause-word
-meet_constant-requires-clause-word c = subst (IsIn (heap_of c.args.cells.now)) (sym c.word_at-word.ensures) c.requires.facing.0
-
-pub meet_constant-requires-clause-constant : goal.meet_constant-requires-clause-constant
-meet_constant-requires-clause-constant c =
+pub meet_short-requires-clause-constant : goal.meet_short-requires-clause-constant
+meet_short-requires-clause-constant c =
     let p = get_or c.args.block.now.args.items c.args.rest.right (Int (pos 0)) in
-    subst IsConstant (sym c.block_word-part.ensures) (constant_short c.short.result p c.in_default.not-Slot c.in_default.not-Term c.short.ensures)
+    constant_short c.short-part.result p c.in_default.not-Slot c.in_default.not-Term c.short-part.ensures
 
 pub returns-in_ok-met-in_default-clause-steps : goal.returns-in_ok-met-in_default-clause-steps
 returns-in_ok-met-in_default-clause-steps c =
     let b = c.args.block.now in
     let h = heap_of c.args.cells.now in
-    let d = heap_of c.meet_constant.new.cells in
+    let d = heap_of c.meet_short.new.cells in
     let from = c.args.from in
     let known = c.args.known.now.items in
     let rests = c.args.rests.now.items in
     let w = get_or h.args c.args.rest.left (Int (pos 0)) in
     let p = get_or b.args.items c.args.rest.right (Int (pos 0)) in
-    let part = c.block_word-part.result in
-    let is = constant_short c.short.result p c.in_default.not-Slot c.in_default.not-Term c.short.ensures in
+    let is = constant_short c.short-part.result p c.in_default.not-Slot c.in_default.not-Term c.short-part.ensures in
     subst (λ (n : Rest). Steps c.if_met-in_default.result b h from known w p rests n d known rests) c.after_first-next.ensures
-    (steps_met c.in_ok-met-in_default.met c.if_met-in_default.result b h from known w c.word_at-word.result (meaning h part) p rests c.after_first-next.result d known
-    c.if_met-in_default.ensures c.requires.few (ap (meaning h) c.word_at-word.ensures)
-    (ap (meaning h) c.block_word-part.ensures ∙ constant_entered b h h from known p is)
-    (c.in_ok-met-in_default.ensures.joins from known c.requires.known))
+    (steps_met c.in_ok-met-in_default.met c.if_met-in_default.result b h from known w w (meaning h p) p rests c.after_first-next.result d known
+    c.if_met-in_default.ensures c.requires.few refl (constant_entered b h h from known p is) (c.in_ok-met-in_default.ensures.joins from known c.requires.known))

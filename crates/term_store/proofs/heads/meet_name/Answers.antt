@@ -1,5 +1,5 @@
-use Rattle.std.proofs.Common.{◌∙◌, refl, sym, ap, subst, get_or, pos}
-use Rattle.term_store.specs.declared.words.Word.TheVariants.{Int, Var, Atom}
+use Rattle.std.proofs.Common.{◌∙◌, refl, sym, ap, subst}
+use Rattle.term_store.specs.declared.words.Word.TheVariants.{Atom}
 use Rattle.term_store.specs.declared.shorts.Short.TheVariants.{Slot}
 use Rattle.term_store.specs.Cells.{IsFree, heap_of}
 use Rattle.term_store.specs.Entering.{Joined}
@@ -14,13 +14,13 @@ use Rattle.term_store.proofs.heads.meet_name.Goals as goal
 
 pub bind_short-requires-clause-slot : goal.bind_short-requires-clause-slot
 bind_short-requires-clause-slot c =
-    let f = c.follow.ensures in
-    subst (IsIn (heap_of c.args.cells.now)) (word_is c.follow.result (Slot c.in-Slot.slot) f.word tt c.in-Slot.is f.short) f.inside
+    let f = c.requires.held.1 in
+    subst (IsIn (heap_of c.args.cells.now)) (word_is c.args.held (Slot c.in-Slot.slot) f.word tt c.in-Slot.is f.short) f.inside
 
 pub bind_short-requires-clause-free : goal.bind_short-requires-clause-free
 bind_short-requires-clause-free c =
-    let f = c.follow.ensures in
-    subst (IsFree (heap_of c.args.cells.now)) (word_is c.follow.result (Slot c.in-Slot.slot) f.word tt c.in-Slot.is f.short) f.free
+    let f = c.requires.held.1 in
+    subst (IsFree (heap_of c.args.cells.now)) (word_is c.args.held (Slot c.in-Slot.slot) f.word tt c.in-Slot.is f.short) f.free
 
 pub bind_short-requires-clause-absent : goal.bind_short-requires-clause-absent
 bind_short-requires-clause-absent c =
@@ -40,25 +40,24 @@ returns-in_ok-bind_short-in-Slot-clause-extends c =
     extends_grown h d (record { bonds = _; grown = c.in_ok-bind_short-in-Slot.ensures.bound })
 
 pub returns-in_ok-bind_short-in-Slot-clause-joins : goal.returns-in_ok-bind_short-in-Slot-clause-joins
-returns-in_ok-bind_short-in-Slot-clause-joins c from known known_is =
+returns-in_ok-bind_short-in-Slot-clause-joins c w f from known known_is =
     let h = heap_of c.args.cells.now in
-    let w = get_or h.args c.args.at (Int (pos 0)) in
     subst (λ d. Joined h from known w (meaning h (Atom c.args.atom)) d known) (sym c.in_ok-bind_short-in-Slot.ensures.bound)
-    (atom_bound h c.requires.fit.fit c.follow.result w c.follow.ensures c.args.atom from known c.in-Slot.slot c.in-Slot.is known_is)
+    (atom_bound h c.requires.fit.fit c.args.held w f c.args.atom from known c.in-Slot.slot c.in-Slot.is known_is)
 
 pub returns-in-Name-clause-extends : goal.returns-in-Name-clause-extends
 returns-in-Name-clause-extends c = let h = heap_of c.args.cells.now in extends_longer h h (longer_same h h refl)
 
 pub returns-in-Name-clause-joins : goal.returns-in-Name-clause-joins
-returns-in-Name-clause-joins c from known known_is =
+returns-in-Name-clause-joins c w f from known known_is =
     let h = heap_of c.args.cells.now in
-    atoms_joined h c.requires.fit.fit c.follow.result (get_or h.args c.args.at (Int (pos 0))) c.follow.ensures c.args.atom from known c.in-Name.a c.in-Name.is known_is
+    atoms_joined h c.requires.fit.fit c.args.held w f c.args.atom from known c.in-Name.a c.in-Name.is known_is
 
 pub returns-in_default-clause-extends : goal.returns-in_default-clause-extends
 returns-in_default-clause-extends c = let h = heap_of c.args.cells.now in extends_longer h h (longer_same h h refl)
 
 pub returns-in_default-clause-joins : goal.returns-in_default-clause-joins
-returns-in_default-clause-joins c from known known_is =
+returns-in_default-clause-joins c w f from known known_is =
     let h = heap_of c.args.cells.now in
-    other_never h c.requires.fit.fit c.follow.result (get_or h.args c.args.at (Int (pos 0))) c.follow.ensures c.args.atom from known c.in_default.not-Slot
+    other_never h c.requires.fit.fit c.args.held w f c.args.atom from known c.in_default.not-Slot
     c.in_default.not-Name
