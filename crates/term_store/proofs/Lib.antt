@@ -9,6 +9,7 @@ pub mod Copying
 pub mod Entering
 pub mod Equations
 pub mod Extending
+pub mod Finding
 pub mod Following
 pub mod Grounding
 pub mod Gathering

@@ -1,5 +1,5 @@
 -- The stack of arguments that are still to be made the same.
-use Rattle.std.proofs.Common.{◌≡◌, ◌≢◌, ◌⊎◌, inl, inr, ℕ, zero, suc, ◌+◌, ◌-◌, ◌<◌, ◌≤◌, ◌==◌, Bool, true, false, cond, List, [], ◌∷◌, ◌++◌, length, get_or, reverse, take, drop, pos, Option, Some, None, Result, Ok, Err, IfOk, refl, sym, ap, ap₂, subst, ◌∙◌, arith, append-nil, append_assoc, length-append, length-drop}
+use Rattle.std.proofs.Common.{◌≡◌, ◌≢◌, inl, inr, ℕ, zero, suc, ◌+◌, ◌-◌, ◌<◌, ◌≤◌, ◌==◌, Bool, true, false, cond, List, [], ◌∷◌, ◌++◌, length, get_or, reverse, take, drop, pos, Option, Some, None, Result, Ok, Err, IfOk, refl, sym, ap, ap₂, subst, ◌∙◌, arith, append-nil, append_assoc, length-append, length-drop}
 use Rattle.std.specs.List.{All}
 use Rattle.std.proofs.lemmas.Bool.{false≢true}
 use Rattle.std.proofs.lemmas.Bool.Decides.{Decides-eqb}
@@ -13,7 +13,7 @@ use Rattle.term_store.specs.declared.words.Pair.{Pair}
 use Rattle.term_store.specs.declared.words.Rest.{Rest}
 use Rattle.term_store.specs.declared.block.Block.{Block}
 use Rattle.term_store.specs.Blocks.{IsBlock}
-use Rattle.term_store.specs.Entering.{Extends, IsFacing, IsKnown, Joins, Never, Turned, Turns, entered}
+use Rattle.term_store.specs.Entering.{Extends, IsFacing, IsKnown, Joins, Turned, Turns, entered}
 use Rattle.term_store.specs.Fit.{Fit, no_head}
 use Rattle.term_store.specs.Heap.{Heap, meaning}
 use Rattle.term_store.specs.Rests.{AreRests, IsNext, IsRest, Stepped, Steps, no_rest, pair_at, pairs_of, rest_after, rest_pairs, stacked}

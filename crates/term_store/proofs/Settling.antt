@@ -1,5 +1,5 @@
 -- Compound terms that were found to have no variables have none later on.
-use Rattle.std.proofs.Common.{◌≡◌, ◌≢◌, ◌⊎◌, inl, inr, ℕ, zero, suc, ◌+◌, ◌-◌, ◌<◌, ◌≤◌, Bool, true, false, not, ◌&&◌, ◌||◌, ◌==◌, List, [], ◌∷◌, ◌++◌, length, get_or, take, drop, refl, sym, ap, ap₂, subst, ◌∙◌, arith, length-append, length-take}
+use Rattle.std.proofs.Common.{◌≡◌, ◌≢◌, ◌⊎◌, inl, inr, ℕ, zero, suc, ◌-◌, ◌<◌, ◌≤◌, Bool, true, false, not, ◌&&◌, ◌||◌, ◌==◌, List, [], ◌∷◌, ◌++◌, length, get_or, take, drop, refl, sym, ap, ap₂, subst, ◌∙◌, arith, length-append, length-take}
 use Rattle.std.specs.List.{All}
 use Rattle.std.proofs.Math.Seq.{get_or-append_seam, take-length}
 use Rattle.std.proofs.lemmas.Bool.{cases_lt, false≢true}
@@ -7,7 +7,7 @@ use Rattle.std.proofs.lemmas.Bool.Decides.{Decides-eqb}
 use Rattle.std.proofs.lemmas.List.{get_or_append_left, get_or_default, get_or-take, take-append-drop, take-append-le, take-take, take_all}
 use Rattle.std.proofs.lemmas.List.Elements.{All-nil, All-push, All-take, All-weaker}
 use Rattle.pl_term.specs.Tree.{Tree}
-use Rattle.pl_term.specs.Variables.{has, replace}
+use Rattle.pl_term.specs.Variables.{has}
 use Rattle.pl_model.specs.Unify.{Bindings, bound}
 use Rattle.pl_model.proofs.UnifyDifference.{and-true}
 use Rattle.pl_model.proofs.UnifyReplace.{replace-absent}

@@ -95,6 +95,14 @@ IsHarmless h slot known before (Int i) = Unit {0}
 IsHarmless h slot known before (Atom a) = Unit {0}
 IsHarmless h slot known before (Comp k) = Unit {0}
 
+-- A word of the block that is no variable of those met first, up to a number of them, but for one that stands for a term without
+-- variables.
+abbrev pub IsGroundBefore : Heap → List Word → ℕ → Word → Type 0
+IsGroundBefore h known before (Var x) = x < before → (y : ℕ) → has y (meaning h (slice_index_or known x (Int (pos 0)))) ≡ false
+IsGroundBefore h known before (Int i) = Unit {0}
+IsGroundBefore h known before (Atom a) = Unit {0}
+IsGroundBefore h known before (Comp k) = Unit {0}
+
 -- A word of the heap and one of the clause's block.
 abbrev pub IsFacing : Heap → Block → Pair → Type 0
 IsFacing c b p = IsIn c p.left × IsIn (block_heap b) p.right

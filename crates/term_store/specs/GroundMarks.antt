@@ -1,5 +1,5 @@
 -- Compound terms that are marked as ground: they were made of constants and of such terms alone.
-use Rattle.std.specs.Prelude.{◌≡◌, ◌<◌, ◌≤◌, ℕ, suc, Bool, true, false, List, length, slice_index_or}
+use Rattle.std.specs.Prelude.{◌≡◌, ◌<◌, ◌≤◌, ℕ, suc, pos, Bool, true, false, List, length, slice_index_or}
 use Rattle.std.specs.List.{All}
 use Rattle.term_store.specs.declared.words.Word.{Word}
 use Rattle.term_store.specs.declared.words.Word.TheVariants.{Var, Int, Atom, Comp}
@@ -12,6 +12,14 @@ IsMarked gs (Var i) = ⊥
 IsMarked gs (Int i) = Unit {0}
 IsMarked gs (Atom a) = Unit {0}
 IsMarked gs (Comp k) = slice_index_or gs k false ≡ true
+
+-- A word of a block that is no variable of those met first, up to a number of them, but for one that stands for a constant or for a
+-- compound term that is marked.
+abbrev pub IsMarkedBefore : List Bool → List Word → ℕ → Word → Type 0
+IsMarkedBefore gs known before (Var x) = x < before → IsMarked gs (slice_index_or known x (Int (pos 0)))
+IsMarkedBefore gs known before (Int i) = Unit {0}
+IsMarkedBefore gs known before (Atom a) = Unit {0}
+IsMarkedBefore gs known before (Comp k) = Unit {0}
 
 -- The marks reach no further than the compound terms, and the arguments of one that is marked are constants and compound terms
 -- that are marked.

@@ -6,6 +6,7 @@ pub mod Codes
 pub mod Contents
 pub mod Counting
 pub mod Entering
+pub mod Findings
 pub mod Fit
 pub mod GroundMarks
 pub mod GroundTerms

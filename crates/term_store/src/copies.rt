@@ -1,9 +1,10 @@
 //! Parts of a block, made in a store.
-ghost use Rattle.std.specs.Prelude.{◌≡◌, ℕ, ◌+◌, ◌<◌, ◌≤◌, ◌++◌, ◌∷◌, [], length, map, take, pos, slice_index_or, is_ok, if◌then◌else◌, IfOk, OnErr, OnOk};
+ghost use Rattle.std.specs.Prelude.{◌≡◌, ℕ, ◌+◌, ◌<◌, ◌≤◌, ◌++◌, ◌∷◌, [], length, map, take, pos, slice_index_or, is_ok, if◌then◌else◌, false, true, IfOk, OnErr, OnOk};
 ghost use Rattle.std.specs.List.{All};
 ghost use Rattle.term_store.specs.Blocks.{IsBlock, IsPart, arguments_of, block_heap, copied, no_range};
 ghost use Rattle.term_store.specs.Cells.{IsFit, heap_of};
-ghost use Rattle.term_store.specs.Entering.{IsReady, entered};
+ghost use Rattle.term_store.specs.Entering.{IsGroundBefore, IsReady, entered};
+ghost use Rattle.term_store.specs.Findings.{AreFound, IsFound};
 ghost use Rattle.term_store.specs.Fit.{IsIn, IsWord, no_head};
 ghost use Rattle.term_store.specs.Heap.{words_of};
 ghost use Rattle.term_store.specs.Making.{Made};
@@ -11,7 +12,8 @@ ghost use Rattle.term_store.specs.Nodes.{Gains, StandsFor};
 
 use crate::block::{Block, Range, block_head};
 use crate::cells::Cells;
-use crate::make::finish_compound;
+use crate::made_ground::{is_ground_short, marked_at};
+use crate::make::finish_marked;
 use crate::shorts::{Short, Words, is_plain, short_index};
 use crate::words::{Head, Word};
 use pl_term::Memory;
@@ -34,8 +36,8 @@ pub fn copy_part(
     ensures copied { IfOk result (λ w. (from : ℕ) → StandsFor (heap_of cells.new) (entered block.now (heap_of cells.old) from known.now.items part) w) }
 {
     if let Word::Comp(k) = part {
-        let i = copy_compounds(cells, block, known, k)?;
-        return Ok(Word::Comp(i));
+        let made = copy_compounds(cells, block, known, k, 0)?;
+        return Ok(Word::Comp(made.at));
     }
     if let Word::Var(x) = part {
         return Ok(known_at(known, x));
@@ -43,34 +45,60 @@ pub fn copy_part(
     Ok(part)
 }
 
-/// Makes a compound term of a block, with all that stands below it.
+/// Where the copy of a compound term stands, and whether a variable may occur in what a variable of the block stands for that was
+/// met before, and that is in the term.
+#[derive(Clone, Copy, Debug, Drop)]
+pub struct Copied {
+    pub at: usize,
+    pub met: bool,
+}
+
+/// Whether a variable may occur in words that were put behind others, and whether one may occur in what a variable of the block
+/// stands for that was met before.
+#[derive(Clone, Copy, Debug, Drop)]
+pub struct Found {
+    pub any: bool,
+    pub met: bool,
+}
+
+/// Makes a compound term of a block, with all that stands below it. So many variables of the block were met before.
 #[inline(always)]
 pub fn copy_compounds(
     cells: &mut Cells,
     block: &Block,
     known: &Words,
     k: usize,
-) -> Result<usize, Memory>
+    before: usize,
+) -> Result<Copied, Memory>
     requires fit { IsFit cells.old }
     requires block { IsBlock block.now }
     requires known { All (IsIn (heap_of cells.old)) known.now.items }
     requires inside { k < length block.now.heads.items }
     requires ready { IsReady block.now known.now.items (Word.Comp k) }
+    requires few { before ≤ length known.now.items }
     ensures fit { IsFit cells.new }
     ensures gains { Gains (heap_of cells.old) (heap_of cells.new) }
-    ensures copied { IfOk result (λ i. (from : ℕ) → StandsFor (heap_of cells.new) (entered block.now (heap_of cells.old) from known.now.items (Word.Comp k)) (Word.Comp i)) }
+    ensures copied { IfOk result (λ r. (from : ℕ) → StandsFor (heap_of cells.new) (entered block.now (heap_of cells.old) from known.now.items (Word.Comp k)) (Word.Comp r.at)) }
+    ensures ground { IfOk result (λ r. r.met ≡ false → (j : ℕ) → (slice_index_or block.now.ranges.items k no_range).low ≤ j → j ≤ k
+        → All (IsGroundBefore (heap_of cells.old) known.now.items before) (arguments_of block.now j)) }
 {
     let range = range_of(block, k);
     let low = range.low;
     let above = cells.heads.len();
+    let mut met = false;
     for j in low..k + 1 {
-        let _ = copy_compound(cells, block, j, known, low, above)?;
+        let seen = copy_compound(cells, block, j, known, low, above, before, met)?;
+        met = seen;
     }
-    Ok(above + (k - low))
+    Ok(Copied {
+        at: above + (k - low),
+        met,
+    })
 }
 
 /// Makes a compound term of a block once more, where the words stand for the block's variables, and its earlier compound
-/// terms from `low` on are those from `above` on. The only error is out of memory.
+/// terms from `low` on are those from `above` on. The answer is whether a variable may occur in what one of the block's variables
+/// stands for that was met before, and that is in this term, or in those before it. The only error is out of memory.
 #[inline(always)]
 fn copy_compound(
     cells: &mut Cells,
@@ -79,18 +107,21 @@ fn copy_compound(
     known: &Words,
     low: usize,
     above: usize,
-) -> Result<Word, Memory>
+    before: usize,
+    met: bool,
+) -> Result<bool, Memory>
     requires fit { IsFit cells.old }
     requires block { IsBlock block.now }
     requires here { j < length block.now.heads.items }
     requires parts { All (IsPart (record { low = low; variables = length known.now.items })) (arguments_of block.now j) }
     requires inside { All (λ w. IsIn (heap_of cells.old) (copied known.now.items low above w)) (arguments_of block.now j) }
     ensures fit { IsFit cells.new }
-    ensures made { IfOk result (λ w. Made (heap_of cells.old) (slice_index_or block.now.heads.items j no_head).name
-        (map (copied known.now.items low above) (arguments_of block.now j)) (heap_of cells.new) w) }
+    ensures made { OnOk result (Made (heap_of cells.old) (slice_index_or block.now.heads.items j no_head).name
+        (map (copied known.now.items low above) (arguments_of block.now j)) (heap_of cells.new) (Word.Comp (length cells.old.heads.items))) }
     ensures kept { OnErr result (heap_of cells.new ≡ heap_of cells.old) }
-    ensures number { IfOk result (λ w. w ≡ Word.Comp (length cells.old.heads.items)) }
     ensures heads { OnOk result (length cells.new.heads.items ≡ length cells.old.heads.items + 1) }
+    ensures before { IfOk result (λ r. r ≡ false → met ≡ false) }
+    ensures ground { IfOk result (λ r. r ≡ false → All (IsGroundBefore (heap_of cells.old) known.now.items before) (arguments_of block.now j)) }
 {
     let head = block_head(block, j);
     let start = cells.args.len();
@@ -105,8 +136,14 @@ fn copy_compound(
         above,
         slots,
         heads,
+        &cells.grounds,
+        before,
+        met,
     ) {
-        Ok(()) => finish_compound(cells, head.name, start, head.count as usize),
+        Ok(found) => {
+            let _ = finish_marked(cells, head.name, start, head.count as usize, !found.any)?;
+            Ok(found.met)
+        }
         Err(_) => {
             cells.args.truncate(start);
             Err(Memory)
@@ -126,19 +163,28 @@ fn push_copies(
     above: usize,
     slots: usize,
     heads: usize,
-) -> Result<(), Memory>
+    grounds: &[bool],
+    before: usize,
+    met: bool,
+) -> Result<Found, Memory>
     requires within { head.start + head.count ≤ length parts.now.items }
     requires parts { All (IsPart (record { low = low; variables = length known.now.items })) (words_of parts.now.items head) }
     requires inside { All (λ w. IsWord slots heads (copied known.now.items low above w)) (words_of parts.now.items head) }
     ensures ok { OnOk result (args.new.items ≡ args.old.items ++ map (copied known.now.items low above) (words_of parts.now.items head)) }
     ensures kept { take (length args.old.items) args.new.items ≡ args.old.items }
+    ensures found { IfOk result (λ f. AreFound grounds.now known.now.items low above before met f (words_of parts.now.items head)) }
 {
     args.reserve(head.count as usize)?;
+    let mut found = Found { any: false, met };
     for i in 0..head.count {
         let at = head.start as usize + i as usize;
-        push_copy(args, parts, at, known, low, above, slots, heads)?;
+        let next = push_copy(
+            args, parts, at, known, low, above, slots, heads, grounds, before, found,
+        )?;
+
+        found = next;
     }
-    Ok(())
+    Ok(found)
 }
 
 /// Puts the word at a place of a block, for which there is room, behind the others, as it stands in a store with so many slots
@@ -153,7 +199,10 @@ fn push_copy(
     above: usize,
     slots: usize,
     heads: usize,
-) -> Result<(), Memory>
+    grounds: &[bool],
+    before: usize,
+    found: Found,
+) -> Result<Found, Memory>
     requires space { 0 < args.old.room }
     requires inside { at < length parts.now.items }
     requires part { IsPart (record { low = low; variables = length known.now.items }) (slice_index_or parts.now.items at (Word.Int (pos 0))) }
@@ -161,17 +210,37 @@ fn push_copy(
     ensures items { args.new.items ≡ (if is_ok result
         then args.old.items ++ copied known.now.items low above (slice_index_or parts.now.items at (Word.Int (pos 0))) ∷ [] else args.old.items) }
     ensures room { args.old.room ≤ args.new.room + 1 }
+    ensures found { IfOk result (λ f. IsFound grounds.now known.now.items low above before found f (slice_index_or parts.now.items at (Word.Int (pos 0)))) }
 {
     let part = parts.short(at);
     if let Short::Slot(x) = part {
-        return push_word_of(args, known, x as usize);
+        let word = known.short(x as usize);
+        push_word_of(args, known, x as usize)?;
+        return Ok(with_variable(found, is_ground_short(grounds, word), (x as usize) < before));
     }
     if let Short::Term(k) = part {
-        let k = short_index(above + (k as usize - low))?;
-        args.push_short(Short::Term(k));
-        return Ok(());
+        let i = short_index(above + (k as usize - low))?;
+        args.push_short(Short::Term(i));
+        return Ok(with_variable(found, marked_at(grounds, i as usize), false));
     }
-    push_word_of(args, parts, at)
+    push_word_of(args, parts, at)?;
+    Ok(found)
+}
+
+/// What was found with one more word, in which a variable may occur unless it is ground, and which may stand for a variable of the
+/// block that was met before.
+#[inline(always)]
+fn with_variable(found: Found, is_ground: bool, is_met: bool) -> Found
+    ensures any { result.any ≡ (if is_ground then found.any else true) }
+    ensures met { result.met ≡ (if is_ground then found.met else if is_met then true else found.met) }
+{
+    if is_ground {
+        return found;
+    }
+    Found {
+        any: true,
+        met: if is_met { true } else { found.met },
+    }
 }
 
 /// Puts the word at a place of a list, for which there is room, behind the others. The only error is out of memory.

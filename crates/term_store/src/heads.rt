@@ -540,7 +540,7 @@ fn write_part(
     let before = known.len();
     let range = range_of(block, k);
     make_known(cells, known, range.variables, from)?;
-    let i = copy_compounds(cells, block, known, k)?;
+    let made = copy_compounds(cells, block, known, k, before)?;
     if is_held(
         cells,
         walk,
@@ -549,11 +549,12 @@ fn write_part(
         before,
         slot as usize,
         k,
-        Word::Comp(i),
+        Word::Comp(made.at),
+        made.met,
     )? {
         return Ok(false);
     }
-    let term = short_index(i)?;
+    let term = short_index(made.at)?;
     bind_short(cells, slot, Short::Term(term))?;
     Ok(true)
 }

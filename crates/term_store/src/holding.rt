@@ -4,7 +4,7 @@ ghost use Rattle.std.specs.List.{All};
 ghost use Rattle.pl_term.specs.Variables.{has};
 ghost use Rattle.term_store.specs.Blocks.{IsBlock, arguments_of, no_range};
 ghost use Rattle.term_store.specs.Cells.{IsFit, heap_of};
-ghost use Rattle.term_store.specs.Entering.{IsConstant, IsHarmless, IsReady, entered};
+ghost use Rattle.term_store.specs.Entering.{IsConstant, IsGroundBefore, IsHarmless, IsReady, entered};
 ghost use Rattle.term_store.specs.Fit.{IsIn};
 ghost use Rattle.term_store.specs.Heap.{find, meaning, numbered};
 
@@ -21,8 +21,9 @@ use crate::words::Word;
 use pl_term::Memory;
 
 /// Whether the unbound variable of a slot occurs in a compound term of a block that was made at a word. Of the variables of the
-/// block so many were met before, and the others are new, so it occurs in none of these. What those met before stand for is
-/// walked; the term that was made is walked only where the variable was found there. The only error is out of memory.
+/// block so many were met before, and the others are new, so it occurs in none of these. Where a variable may occur in what
+/// those met before stand for, that is walked; the term that was made is walked only where the variable was found there. The only
+/// error is out of memory.
 #[inline(always)]
 pub fn is_held(
     cells: &mut Cells,
@@ -33,6 +34,7 @@ pub fn is_held(
     slot: usize,
     k: usize,
     word: Word,
+    met: bool,
 ) -> Result<bool, Memory>
     requires fit { IsFit cells.old }
     requires block { IsBlock block.now }
@@ -45,11 +47,16 @@ pub fn is_held(
     requires ready { IsReady block.now known.now.items (Word.Comp k) }
     requires new { (x : ℕ) → before ≤ x → x < length known.now.items
         → has (numbered (heap_of cells.old) slot) (meaning (heap_of cells.old) (slice_index_or known.now.items x (Word.Int (pos 0)))) ≡ false }
+    requires ground { met ≡ false → (j : ℕ) → (slice_index_or block.now.ranges.items k no_range).low ≤ j → j ≤ k
+        → All (IsGroundBefore (heap_of cells.old) known.now.items before) (arguments_of block.now j) }
     requires means { (from : ℕ) × (meaning (heap_of cells.old) word ≡ entered block.now (heap_of cells.old) from known.now.items (Word.Comp k)) }
     ensures fit { IsFit cells.new }
     ensures kept { heap_of cells.new ≡ heap_of cells.old }
     ensures held { IfOk result (λ b. b ≡ has (numbered (heap_of cells.old) slot) (meaning (heap_of cells.old) word)) }
 {
+    if !met {
+        return Ok(false);
+    }
     let may = may_hold(cells, walk, block, known, before, slot, k)?;
     if !may {
         return Ok(false);
@@ -61,7 +68,7 @@ pub fn is_held(
 
 /// Whether the unbound variable of a slot occurs in what a variable of the block stands for that was met before, and that is in a
 /// compound term of the block. The only error is out of memory.
-#[inline(always)]
+#[inline(never)]
 fn may_hold(
     cells: &mut Cells,
     walk: &mut Walk,

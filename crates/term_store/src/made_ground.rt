@@ -2,8 +2,9 @@
 ghost use Rattle.std.specs.Prelude.{◌≡◌, ◌≤◌, drop, true, false, length, slice_index_or, OnErr, OnOk};
 ghost use Rattle.std.specs.List.{All};
 ghost use Rattle.term_store.specs.GroundMarks.{IsMarked, IsMarkedToo};
+ghost use Rattle.term_store.specs.Shorts.{IsShort};
 
-use crate::shorts::Words;
+use crate::shorts::{Short, Words};
 use crate::words::Word;
 use pl_term::Memory;
 
@@ -37,6 +38,18 @@ fn is_ground_word(grounds: &[bool], word: Word) -> bool
         Word::Int(_) => true,
         Word::Atom(_) => true,
         Word::Comp(k) => marked_at(grounds, k),
+    }
+}
+
+/// Whether what is kept as the short word is a constant, or a compound term that is marked.
+#[inline(always)]
+pub fn is_ground_short(grounds: &[bool], short: Short) -> bool
+    ensures { result ≡ true → (w : Word) → IsShort short w → IsMarked grounds.now w }
+{
+    match short {
+        Short::Slot(_) => false,
+        Short::Term(k) => marked_at(grounds, k as usize),
+        _ => true,
     }
 }
 

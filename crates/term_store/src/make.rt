@@ -1,9 +1,9 @@
 //! Making variables and compound terms.
-ghost use Rattle.std.specs.Prelude.{◌≡◌, ◌+◌, ◌<◌, ◌≤◌, false, [], ◌∷◌, ◌++◌, length, map, take, drop, IfOk, OnOk, OnErr};
+ghost use Rattle.std.specs.Prelude.{◌≡◌, ◌+◌, ◌<◌, ◌≤◌, false, true, [], ◌∷◌, ◌++◌, length, map, take, drop, IfOk, OnOk, OnErr};
 ghost use Rattle.std.specs.List.{All};
 ghost use Rattle.term_store.specs.Cells.{IsFit, heap_of};
 ghost use Rattle.term_store.specs.Fit.{IsIn, Fit, IsCache};
-ghost use Rattle.term_store.specs.GroundMarks.{AreMarks, IsMarkedToo};
+ghost use Rattle.term_store.specs.GroundMarks.{AreMarks, IsMarked, IsMarkedToo};
 ghost use Rattle.term_store.specs.GroundTerms.{AreGroundTerms};
 ghost use Rattle.term_store.specs.Making.{Made, with_args, with_number};
 
@@ -87,8 +87,36 @@ pub fn finish_compound(
     ensures number { IfOk result (λ w. w ≡ Word.Comp (length cells.old.heads.items)) }
     ensures heads { OnOk result (length cells.new.heads.items ≡ length cells.old.heads.items + 1) }
 {
-    let k = cells.heads.len();
     let marked = are_ground(&cells.grounds, &cells.args, start);
+    finish_marked(cells, name, start, count, marked)
+}
+
+/// Does what `finish_compound` does, where it is told whether the compound term may be marked: all its arguments are constants
+/// and such terms then.
+#[inline(always)]
+pub fn finish_marked(
+    cells: &mut Cells,
+    name: u32,
+    start: usize,
+    count: usize,
+    marked: bool,
+) -> Result<Word, Memory>
+    requires cache { IsCache cells.old.bonds.values (heap_of cells.old) }
+    requires full { 0 < count }
+    requires within { start + count ≡ length cells.old.args.items }
+    requires inside { All (IsIn (heap_of cells.old)) (drop start cells.old.args.items) }
+    requires unused { Fit (with_args (heap_of cells.old) (take start cells.old.args.items)) }
+    requires marks { AreMarks cells.old.grounds.items (with_args (heap_of cells.old) (take start cells.old.args.items)) }
+    requires settled { AreGroundTerms cells.old.settled.list.items (with_args (heap_of cells.old) (take start cells.old.args.items)) }
+    requires ground { marked ≡ true → All (IsMarked cells.old.grounds.items) (drop start cells.old.args.items) }
+    ensures fit { IsFit cells.new }
+    ensures made { IfOk result (λ w. Made (with_args (heap_of cells.old) (take start cells.old.args.items)) name
+        (drop start cells.old.args.items) (heap_of cells.new) w) }
+    ensures kept { OnErr result (heap_of cells.new ≡ with_args (heap_of cells.old) (take start cells.old.args.items)) }
+    ensures number { IfOk result (λ w. w ≡ Word.Comp (length cells.old.heads.items)) }
+    ensures heads { OnOk result (length cells.new.heads.items ≡ length cells.old.heads.items + 1) }
+{
+    let k = cells.heads.len();
     match push_head(
         &mut cells.heads,
         &mut cells.grounds,

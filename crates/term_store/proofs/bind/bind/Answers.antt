@@ -1,4 +1,4 @@
-use Rattle.std.proofs.Common.{◌≡◌, ◌<◌, length, set, Some, sym, ap, subst, ◌∙◌}
+use Rattle.std.proofs.Common.{◌≡◌, ◌<◌, set, Some, sym, subst}
 use Rattle.term_store.specs.Heap.{pushed}
 use Rattle.term_store.specs.Fit.{Fit, IsCache}
 use Rattle.term_store.specs.Cells.{heap_of}

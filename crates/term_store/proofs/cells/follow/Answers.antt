@@ -1,4 +1,4 @@
-use Rattle.std.proofs.Common.{◌≡◌, ℕ, ◌<◌, suc, [], length, refl, sym, ap, subst, ◌∙◌}
+use Rattle.std.proofs.Common.{◌≡◌, ◌<◌, suc, [], length, refl, sym, ap, subst, ◌∙◌}
 use Rattle.term_store.specs.declared.words.Word.TheVariants.{Var}
 use Rattle.term_store.specs.declared.shorts.Short.TheVariants.{Slot}
 use Rattle.term_store.specs.Cells.{heap_of}

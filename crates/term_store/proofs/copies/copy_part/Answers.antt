@@ -1,5 +1,4 @@
 use Rattle.std.proofs.Common.{◌<◌, length, sym, ap, subst, pos, ◌∙◌}
-use Rattle.std.proofs.lemmas.Result.{IfOk-weaker}
 use Rattle.term_store.specs.declared.words.Word.TheVariants.{Var, Int, Comp}
 use Rattle.term_store.specs.Blocks.{block_heap}
 use Rattle.term_store.specs.Cells.{heap_of}
@@ -43,4 +42,4 @@ returns-in-Comp-clause-copied c from =
     let h = heap_of c.args.cells.now in
     let d = heap_of c.copy_compounds.new.cells in
     let known = c.args.known.now.items in
-    subst (λ p. StandsFor d (entered b h from known p) (Comp c.in_ok-i.i)) (sym c.in-Comp.is) (c.in_ok-i.ensures.copied from)
+    subst (λ p. StandsFor d (entered b h from known p) (Comp c.in_ok-made.made.at)) (sym c.in-Comp.is) (c.in_ok-made.ensures.copied from)

@@ -1,16 +1,14 @@
-use Rattle.std.proofs.Common.{◌≡◌, ◌∷◌, [], ◌++◌, ◌≤◌, length, pos, get_or, Some, None, refl, sym, ap, subst, ◌∙◌, arith}
-use Rattle.std.proofs.lemmas.List.Elements.{All-nil}
+use Rattle.std.proofs.Common.{◌∷◌, [], ◌++◌, ◌≤◌, length, refl, sym, ap, subst, ◌∙◌, arith}
 use Rattle.std.specs.List.{All}
 use Rattle.term_store.specs.declared.words.Pair.{Pair}
-use Rattle.term_store.specs.declared.words.Rest.{Rest}
 use Rattle.term_store.specs.Cells.{heap_of}
 use Rattle.term_store.specs.Entering.{IsFacing, IsKnown}
-use Rattle.term_store.specs.Rests.{AreRests, IsNext, IsRest, Stepped, Steps, StepsAt, no_rest, pair_at, pairs_of, rest_after}
-use Rattle.term_store.proofs.Extending.{extends_longer, extends_then}
+use Rattle.term_store.specs.Rests.{AreRests, Stepped, Steps, StepsAt, no_rest, pair_at, pairs_of, rest_after}
+use Rattle.term_store.proofs.Extending.{extends_then}
 use Rattle.term_store.proofs.Heading.{Reached, reached_all, reached_never, reached_start}
-use Rattle.term_store.proofs.Knowing.{known_none, longer_same}
+use Rattle.term_store.proofs.Knowing.{known_none}
 use Rattle.term_store.proofs.Occurring.{popped}
-use Rattle.term_store.proofs.Resting.{Taken, hand_off, hand_on, no_rests, none_taken, reached_step, rests_after, taken}
+use Rattle.term_store.proofs.Resting.{hand_off, hand_on, no_rests, none_taken, reached_step, rests_after, taken}
 use Rattle.term_store.proofs.enter.meet_head.Goals as goal
 
 pub meet_goal-requires-clause-known : goal.meet_goal-requires-clause-known

@@ -1,8 +1,7 @@
-use Rattle.std.proofs.Common.{◌∙◌, refl, sym, ap, subst}
+use Rattle.std.proofs.Common.{◌∙◌, refl, sym, ap}
 use Rattle.term_store.specs.declared.words.Word.TheVariants.{Var, Comp}
-use Rattle.term_store.specs.Cells.{IsFree, heap_of}
+use Rattle.term_store.specs.Cells.{heap_of}
 use Rattle.term_store.specs.Entering.{entered}
-use Rattle.term_store.specs.Fit.{IsIn}
 use Rattle.term_store.specs.Heap.{meaning}
 use Rattle.term_store.proofs.Extending.{extends_longer}
 use Rattle.term_store.proofs.Heading.{constant_never}

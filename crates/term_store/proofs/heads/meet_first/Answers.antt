@@ -1,4 +1,4 @@
-use Rattle.std.proofs.Common.{◌≡◌, ◌∙◌, ◌++◌, ◌∷◌, [], ap, sym}
+use Rattle.std.proofs.Common.{◌∙◌, ◌++◌, ◌∷◌, [], ap}
 use Rattle.term_store.specs.Shorts.{long_word}
 use Rattle.term_store.proofs.Shorting.{plain_word}
 use Rattle.term_store.proofs.heads.meet_first.Goals as goal

@@ -1,8 +1,6 @@
-use Rattle.std.proofs.Common.{refl, sym, ap, subst}
+use Rattle.std.proofs.Common.{refl, sym, ap}
 use Rattle.term_store.specs.declared.words.Word.TheVariants.{Comp}
-use Rattle.term_store.specs.Blocks.{block_heap}
 use Rattle.term_store.specs.Cells.{heap_of}
-use Rattle.term_store.specs.Fit.{IsIn}
 use Rattle.term_store.specs.Heap.{meaning}
 use Rattle.term_store.proofs.Extending.{extends_longer}
 use Rattle.term_store.proofs.Knowing.{longer_same}

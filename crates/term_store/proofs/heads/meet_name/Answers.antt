@@ -1,4 +1,4 @@
-use Rattle.std.proofs.Common.{◌∙◌, refl, sym, ap, subst}
+use Rattle.std.proofs.Common.{refl, sym, subst}
 use Rattle.term_store.specs.declared.words.Word.TheVariants.{Atom}
 use Rattle.term_store.specs.declared.shorts.Short.TheVariants.{Slot}
 use Rattle.term_store.specs.Cells.{IsFree, heap_of}

@@ -5,7 +5,6 @@ use Rattle.term_store.specs.Cells.{heap_of}
 use Rattle.term_store.specs.Entering.{IsConstant, value}
 use Rattle.term_store.specs.Fit.{IsIn}
 use Rattle.term_store.specs.Heap.{meaning}
-use Rattle.term_store.specs.Rests.{Steps}
 use Rattle.term_store.proofs.Copying.{part_inside}
 use Rattle.term_store.proofs.Entering.{constant_entered}
 use Rattle.term_store.proofs.Heading.{variable_value}

@@ -1,4 +1,4 @@
-use Rattle.std.proofs.Common.{◌∙◌, refl, sym, ap, subst, get_or, pos, arith}
+use Rattle.std.proofs.Common.{◌∙◌, refl, sym, subst, get_or, pos}
 use Rattle.std.proofs.lemmas.Result.{IfOk-weaker}
 use Rattle.term_store.specs.declared.words.Word.TheVariants.{Int}
 use Rattle.term_store.specs.Cells.{heap_of}

@@ -1,6 +1,5 @@
-use Rattle.std.proofs.Common.{◌<◌, length, get_or, pos, sym, ap, subst, ◌∙◌}
+use Rattle.std.proofs.Common.{◌<◌, length, sym, subst}
 use Rattle.std.proofs.lemmas.Result.{IfOk-weaker}
-use Rattle.term_store.specs.declared.words.Word.TheVariants.{Int}
 use Rattle.term_store.specs.Apart.{IsApart}
 use Rattle.term_store.specs.Cells.{heap_of}
 use Rattle.term_store.specs.Unifying.{Solves}

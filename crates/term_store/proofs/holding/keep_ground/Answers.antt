@@ -1,6 +1,5 @@
-use Rattle.std.proofs.Common.{◌≡◌, ◌<◌, ℕ, List, [], ◌∷◌, ◌++◌, false, length, sym, ap, ap₂, subst, ◌∙◌}
+use Rattle.std.proofs.Common.{◌≡◌, ◌<◌, ℕ, [], ◌∷◌, ◌++◌, false, length, sym, ap, ap₂, subst, ◌∙◌}
 use Rattle.pl_term.specs.Variables.{has}
-use Rattle.term_store.specs.declared.ground_terms.GroundTerm.{GroundTerm}
 use Rattle.term_store.specs.declared.words.Word.TheVariants.{Comp}
 use Rattle.term_store.specs.Cells.{heap_of}
 use Rattle.term_store.specs.Fit.{IsIn}

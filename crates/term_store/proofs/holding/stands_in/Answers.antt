@@ -1,4 +1,4 @@
-use Rattle.std.proofs.Common.{◌≡◌, zero, sym, ◌∙◌, arith}
+use Rattle.std.proofs.Common.{◌≡◌, zero, sym, arith}
 use Rattle.term_store.specs.Cells.{heap_of}
 use Rattle.term_store.specs.Heap.{numbered}
 use Rattle.term_store.proofs.Entering.{constant_absent}

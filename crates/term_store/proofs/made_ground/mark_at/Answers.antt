@@ -1,4 +1,4 @@
-use Rattle.std.proofs.Common.{◌≡◌, ◌≤◌, ◌∷◌, [], ◌++◌, false, length, get_or, refl, sym, ap, ◌∙◌, arith, length-append, OnErr, Result, Ok, Err}
+use Rattle.std.proofs.Common.{◌≡◌, ◌∷◌, [], false, length, get_or, refl, ap, ◌∙◌, arith, length-append, OnErr, Result, Ok, Err}
 use Rattle.term_store.proofs.Marked.{false_behind, marked_last, marked_same}
 use Rattle.term_store.proofs.made_ground.mark_at.Goals as goal
 
