@@ -1,5 +1,5 @@
 //! The bindings of a store.
-ghost use Rattle.std.specs.Prelude.{◌≡◌, ◌<◌, ◌≤◌, ◌++◌, ◌∷◌, [], length, set, take, slice_index_or, Option, Some, None, OnErr, OnOk};
+ghost use Rattle.std.specs.Prelude.{◌≡◌, ◌<◌, ◌≤◌, ◌++◌, ◌∷◌, [], length, set, take, slice_index_or, Option, Some, None, OnErr, OnOk, vec_capacity, vec_len};
 ghost use Rattle.std.specs.List.{All};
 ghost use Rattle.term_store.specs.Fit.{OnceFrom};
 ghost use Rattle.term_store.specs.Heap.{find};
@@ -115,7 +115,7 @@ impl Bonds {
         ensures items { OnOk result (self.new.items ≡ self.old.items ++ record { slot = slot; word = long_word [] short } ∷ []) }
         ensures kept { OnErr result (self.new ≡ self.old) }
     {
-        self.trail.reserve(1)?;
+        reserve_one(&mut self.trail)?;
         self.values.set_short(slot as usize, short);
         self.trail.push_reserved(slot);
         Ok(())
@@ -142,4 +142,17 @@ impl Bonds {
     {
         self.values.truncate(count);
     }
+}
+
+/// Makes room for one slot more, where there is none. The only error is out of memory.
+#[inline(always)]
+fn reserve_one(trail: &mut Vec<u32>) -> Result<(), Memory>
+    ensures items { trail.new.items ≡ trail.old.items }
+    ensures room { OnOk result (vec_len trail.new < vec_capacity trail.new) }
+{
+    if trail.len() < trail.capacity() {
+        return Ok(());
+    }
+    trail.reserve(1)?;
+    Ok(())
 }

@@ -196,19 +196,17 @@ pub fn meet_at(
 {
     let next = after_first(cells, block, rest);
     let part = block.args.short(rest.right);
-    match part {
-        Short::Slot(x) => {
-            let met = meet_slot(cells, known, pending, walk, from, x as usize, rest.left)?;
-            Ok(if_met(met, next))
-        }
-        Short::Term(k) => meet_term(
-            cells, known, rests, walk, block, from, rest.left, k as usize, next,
-        ),
-        _ => {
-            let met = meet_short(cells, block, rest.left, rest.right, part)?;
-            Ok(if_met(met, next))
-        }
+    if let Short::Slot(x) = part {
+        let met = meet_slot(cells, known, pending, walk, from, x as usize, rest.left)?;
+        return Ok(if_met(met, next));
     }
+    if let Short::Term(k) = part {
+        return meet_term(
+            cells, known, rests, walk, block, from, rest.left, k as usize, next,
+        );
+    }
+    let met = meet_short(cells, block, rest.left, rest.right, part)?;
+    Ok(if_met(met, next))
 }
 
 /// The arguments in hand without the first ones.

@@ -46,11 +46,13 @@ fn is_ground_word(grounds: &[bool], word: Word) -> bool
 pub fn is_ground_short(grounds: &[bool], short: Short) -> bool
     ensures { result ≡ true → (w : Word) → IsShort short w → IsMarked grounds.now w }
 {
-    match short {
-        Short::Slot(_) => false,
-        Short::Term(k) => marked_at(grounds, k as usize),
-        _ => true,
+    if let Short::Slot(_) = short {
+        return false;
     }
+    if let Short::Term(k) = short {
+        return marked_at(grounds, k as usize);
+    }
+    true
 }
 
 /// Whether the words from a place on are constants and compound terms that are marked. The last one is looked at first, since a variable

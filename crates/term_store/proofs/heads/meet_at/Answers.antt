@@ -23,8 +23,8 @@ meet_slot-requires-clause-room c =
     let p = get_or b.args.items c.args.rest.right (Int (pos 0)) in
     omega (arith, room, part_inside b c.in-Slot.x (subst (IsIn (block_heap b)) (word_is c.short-part.result (Slot c.in-Slot.x) p tt c.in-Slot.is c.short-part.ensures) c.requires.facing.1))
 
-pub returns-in_ok-met-in-Slot-clause-steps : goal.returns-in_ok-met-in-Slot-clause-steps
-returns-in_ok-met-in-Slot-clause-steps c =
+pub returns-in-Slot-clause-steps : goal.returns-in-Slot-clause-steps
+returns-in-Slot-clause-steps c =
     let b = c.args.block.now in
     let h = heap_of c.args.cells.now in
     let d = heap_of c.meet_slot.new.cells in
@@ -38,8 +38,8 @@ returns-in_ok-met-in-Slot-clause-steps c =
     let within = part_inside b x (subst (IsIn (block_heap b)) is c.requires.facing.1) in
     let after = c.meet_slot.new.known.items in
     subst (λ (n : Rest). Steps c.if_met.result b h from known w p rests n d after rests) c.after_first-next.ensures
-    (steps_met c.in_ok-met-in-Slot.met c.if_met.result b h from known w w (value h from known x) p rests c.after_first-next.result d after c.if_met.ensures
-    (c.in_ok-met-in-Slot.ensures.few b.variables within c.requires.few) refl (variable_value b h from known x p c.requires.facing.1 is) c.in_ok-met-in-Slot.ensures.joins)
+    (steps_met c.in_ok-met.met c.if_met.result b h from known w w (value h from known x) p rests c.after_first-next.result d after c.if_met.ensures
+    (c.in_ok-met.ensures.few b.variables within c.requires.few) refl (variable_value b h from known x p c.requires.facing.1 is) c.in_ok-met.ensures.joins)
 
 pub meet_term-requires-clause-part : goal.meet_term-requires-clause-part
 meet_term-requires-clause-part c =
@@ -67,10 +67,10 @@ returns-in-Term-clause-steps c =
 pub meet_short-requires-clause-constant : goal.meet_short-requires-clause-constant
 meet_short-requires-clause-constant c =
     let p = get_or c.args.block.now.args.items c.args.rest.right (Int (pos 0)) in
-    constant_short c.short-part.result p c.in_default.not-Slot c.in_default.not-Term c.short-part.ensures
+    constant_short c.short-part.result p c.in_default.not-Slot c.in_default-part.not-Term c.short-part.ensures
 
-pub returns-in_ok-met-in_default-clause-steps : goal.returns-in_ok-met-in_default-clause-steps
-returns-in_ok-met-in_default-clause-steps c =
+pub returns-clause-steps : goal.returns-clause-steps
+returns-clause-steps c =
     let b = c.args.block.now in
     let h = heap_of c.args.cells.now in
     let d = heap_of c.meet_short.new.cells in
@@ -79,7 +79,7 @@ returns-in_ok-met-in_default-clause-steps c =
     let rests = c.args.rests.now.items in
     let w = get_or h.args c.args.rest.left (Int (pos 0)) in
     let p = get_or b.args.items c.args.rest.right (Int (pos 0)) in
-    let is = constant_short c.short-part.result p c.in_default.not-Slot c.in_default.not-Term c.short-part.ensures in
-    subst (λ (n : Rest). Steps c.if_met-in_default.result b h from known w p rests n d known rests) c.after_first-next.ensures
-    (steps_met c.in_ok-met-in_default.met c.if_met-in_default.result b h from known w w (meaning h p) p rests c.after_first-next.result d known
-    c.if_met-in_default.ensures c.requires.few refl (constant_entered b h h from known p is) (c.in_ok-met-in_default.ensures.joins from known c.requires.known))
+    let is = constant_short c.short-part.result p c.in_default.not-Slot c.in_default-part.not-Term c.short-part.ensures in
+    subst (λ (n : Rest). Steps c.if_met-2.result b h from known w p rests n d known rests) c.after_first-next.ensures
+    (steps_met c.in_ok-met-2.met c.if_met-2.result b h from known w w (meaning h p) p rests c.after_first-next.result d known
+    c.if_met-2.ensures c.requires.few refl (constant_entered b h h from known p is) (c.in_ok-met-2.ensures.joins from known c.requires.known))

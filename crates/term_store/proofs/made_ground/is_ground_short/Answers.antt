@@ -10,6 +10,6 @@ pub returns-in-Term : goal.returns-in-Term
 returns-in-Term c e w is =
     subst (IsMarked c.args.grounds.now) (sym (word_is c.args.short (Term c.in-Term.k) w tt c.in-Term.is is)) (sym c.marked_at.ensures ∙ e)
 
-pub returns-in_default : goal.returns-in_default
-returns-in_default c e w is =
-    constant_marked c.args.grounds.now w (constant_short c.args.short w c.in_default.not-Slot c.in_default.not-Term is)
+pub returns : goal.returns
+returns c e w is =
+    constant_marked c.args.grounds.now w (constant_short c.args.short w c.in_default.not-Slot c.in_default-short.not-Term is)

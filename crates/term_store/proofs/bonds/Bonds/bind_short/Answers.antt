@@ -15,7 +15,7 @@ returns-clause-items c =
     let ts = c.self.inside.trail.items in
     let i = c.args.slot in
     let w = long_word [] c.args.short in
-    let pushed : c.push_reserved.new.self.items ≡ ts ++ i ∷ [] = c.push_reserved.ensures.items ∙ ap (λ l. l ++ i ∷ []) c.in_ok-reserve.ensures.items in
+    let pushed : c.push_reserved.new.self.items ≡ ts ++ i ∷ [] = c.push_reserved.ensures.items ∙ ap (λ l. l ++ i ∷ []) c.in_ok-reserve_one.ensures.items in
     ap₂ (λ ws l. map (bond_of ws) l) (c.set_short.ensures ∙ ap (set vs i) c.requires.word) pushed
     ∙ bonds_bound vs i w ts (subst (λ (v : BondList). i < length v.values) (sym c.self.view_is) c.requires.slot)
     (subst (λ (v : BondList). find i v.items ≡ None) (sym c.self.view_is) c.requires.free)
