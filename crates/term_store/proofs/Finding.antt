@@ -1,14 +1,12 @@
 -- What is found in the arguments of a compound term as it is copied.
-use Rattle.std.proofs.Common.{◌≡◌, ℕ, ◌<◌, ◌≤◌, ◌+◌, ◌-◌, Bool, true, false, not, cond, nat_lt, List, length, get_or, take, pos, refl, sym, ap, subst, ◌∙◌, arith}
+use Rattle.std.proofs.Common.{◌≡◌, ℕ, ◌<◌, ◌≤◌, ◌+◌, Bool, true, false, not, List, length, get_or, take, pos, refl, sym, ap, subst, ◌∙◌, arith}
 use Rattle.std.specs.List.{All}
 use Rattle.std.proofs.lemmas.Bool.{false≢true}
-use Rattle.std.proofs.lemmas.Bool.Decides.{Decides-ltb}
 use Rattle.std.proofs.lemmas.List.Elements.{All-nil}
 use Rattle.pl_term.specs.Variables.{has}
 use Rattle.term_store.specs.declared.words.Word.{Word}
 use Rattle.term_store.specs.declared.words.Word.TheVariants.{Var, Int, Atom, Comp}
 use Rattle.term_store.specs.declared.words.Head.{Head}
-use Rattle.term_store.specs.declared.copies.Found.{Found}
 use Rattle.term_store.specs.Blocks.{copied}
 use Rattle.term_store.specs.Entering.{IsConstant, IsGroundBefore, IsHarmless}
 use Rattle.term_store.specs.Findings.{AreFound, IsFound}
@@ -67,55 +65,19 @@ ground_harmless h slot known before (Int i) is = tt
 ground_harmless h slot known before (Atom a) is = tt
 ground_harmless h slot known before (Comp k) is = tt
 
--- A variable of the block.
-module _ (gs : List Bool) (known : List Word) (low above before : ℕ) (was now : Found) where
-  pub variable_found : (x : ℕ) (g m : Bool) → now.any ≡ cond g was.any true → now.met ≡ cond g was.met (cond m true was.met)
-      → (g ≡ true → IsMarked gs (get_or known x (Int (pos 0)))) → m ≡ nat_lt x before → (w : Word) → w ≡ Var x → IsFound gs known low above before was now w
-  variable_found x true m any met ground less w e =
-      subst (IsFound gs known low above before was now) (sym e)
-      (record { any = λ n. (sym any ∙ n, ground refl); met = λ n. (sym met ∙ n, λ _. ground refl) })
-  variable_found x false true any met ground less w e =
-      subst (IsFound gs known low above before was now) (sym e)
-      (record { any = λ n. absurd (false≢true (sym n ∙ any)); met = λ n. absurd (false≢true (sym n ∙ met)) })
-  variable_found x false false any met ground less w e =
-      subst (IsFound gs known low above before was now) (sym e)
-      (record {
-        any = λ n. absurd (false≢true (sym n ∙ any));
-        met = λ n. (sym met ∙ n, λ lt. absurd (false≢true (less ∙ (Decides-ltb x before).1 lt)));
-      })
-
-  -- A compound term of the block.
-  pub compound_found : (k : ℕ) (g : Bool) → now.any ≡ cond g was.any true → now.met ≡ cond g was.met (cond false true was.met)
-      → g ≡ get_or gs (above + (k - low)) false → (w : Word) → w ≡ Comp k → IsFound gs known low above before was now w
-  compound_found k true any met ground w e =
-      subst (IsFound gs known low above before was now) (sym e)
-      (record { any = λ n. (sym any ∙ n, sym ground); met = λ n. (sym met ∙ n, tt) })
-  compound_found k false any met ground w e =
-      subst (IsFound gs known low above before was now) (sym e)
-      (record { any = λ n. absurd (false≢true (sym n ∙ any)); met = λ n. (sym met ∙ n, tt) })
-
-  -- A constant.
-  pub constant_found : now ≡ was → (w : Word) → IsConstant w → IsFound gs known low above before was now w
-  constant_found e (Var x) is = absurd is
-  constant_found e (Int i) is =
-      record { any = λ n. (ap (λ (f : Found). f.any) (sym e) ∙ n, tt); met = λ n. (ap (λ (f : Found). f.met) (sym e) ∙ n, tt) }
-  constant_found e (Atom a) is =
-      record { any = λ n. (ap (λ (f : Found). f.any) (sym e) ∙ n, tt); met = λ n. (ap (λ (f : Found). f.met) (sym e) ∙ n, tt) }
-  constant_found e (Comp k) is = absurd is
-
 -- The first words, and one more.
-module _ (gs : List Bool) (known : List Word) (low above before : ℕ) (met : Bool) where
-  pub none_found : (now : Found) (ws : List Word) → now.met ≡ met → AreFound gs known low above before met now (take 0 ws)
-  none_found now ws e =
+module _ (gs : List Bool) (known : List Word) (low above before : ℕ) (earlier : Bool) where
+  pub none_found : (any : Bool) (ws : List Word) → AreFound gs known low above before earlier any earlier (take 0 ws)
+  none_found any ws =
       record {
         any = λ _. All-nil (λ w. IsMarked gs (copied known low above w));
-        met = λ n. (sym e ∙ n, All-nil (IsMarkedBefore gs known before));
+        met = λ n. (n, All-nil (IsMarkedBefore gs known before));
       }
 
-  pub more_found : (was now : Found) (ws : List Word) (g : Head) (i : ℕ) (w : Word) → g.start + g.count ≤ length ws → i < g.count → w ≡ get_or ws (g.start + i) (Int (pos 0))
-      → AreFound gs known low above before met was (take i (words_of ws g)) → IsFound gs known low above before was now w
-      → AreFound gs known low above before met now (take (i + 1) (words_of ws g))
-  more_found was now ws g i w within lt e all one =
+  pub more_found : (any met any_now met_now : Bool) (ws : List Word) (g : Head) (i : ℕ) (w : Word) → g.start + g.count ≤ length ws → i < g.count → w ≡ get_or ws (g.start + i) (Int (pos 0))
+      → AreFound gs known low above before earlier any met (take i (words_of ws g)) → IsFound gs known low above before any met any_now met_now w
+      → AreFound gs known low above before earlier any_now met_now (take (i + 1) (words_of ws g))
+  more_found any met any_now met_now ws g i w within lt e all one =
       record {
         any = λ n.
             let q = one.any n in
@@ -125,6 +87,6 @@ module _ (gs : List Bool) (known : List Word) (low above before : ℕ) (met : Bo
             let r = all.met q.0 in (r.0, arguments_more (IsMarkedBefore gs known before) ws g i w within lt e r.1 q.1);
       }
 
-  pub all_found : (now : Found) (ws : List Word) (g : Head) (i : ℕ) → g.start + g.count ≤ length ws → g.count ≤ i
-      → AreFound gs known low above before met now (take i (words_of ws g)) → AreFound gs known low above before met now (words_of ws g)
-  all_found now ws g i within past = subst (AreFound gs known low above before met now) (arguments_all ws g i within past)
+  pub all_found : (any met : Bool) (ws : List Word) (g : Head) (i : ℕ) → g.start + g.count ≤ length ws → g.count ≤ i
+      → AreFound gs known low above before earlier any met (take i (words_of ws g)) → AreFound gs known low above before earlier any met (words_of ws g)
+  all_found any met ws g i within past = subst (AreFound gs known low above before earlier any met) (arguments_all ws g i within past)

@@ -53,14 +53,6 @@ pub struct Copied {
     pub met: bool,
 }
 
-/// Whether a variable may occur in words that were put behind others, and whether one may occur in what a variable of the block
-/// stands for that was met before.
-#[derive(Clone, Copy, Debug, Drop)]
-pub struct Found {
-    pub any: bool,
-    pub met: bool,
-}
-
 /// Makes a compound term of a block, with all that stands below it. So many variables of the block were met before.
 #[inline(always)]
 pub fn copy_compounds(
@@ -87,8 +79,7 @@ pub fn copy_compounds(
     let above = cells.heads.len();
     let mut met = false;
     for j in low..k + 1 {
-        let seen = copy_compound(cells, block, j, known, low, above, before, met)?;
-        met = seen;
+        copy_compound(cells, block, j, known, low, above, before, &mut met)?;
     }
     Ok(Copied {
         at: above + (k - low),
@@ -97,8 +88,8 @@ pub fn copy_compounds(
 }
 
 /// Makes a compound term of a block once more, where the words stand for the block's variables, and its earlier compound
-/// terms from `low` on are those from `above` on. The answer is whether a variable may occur in what one of the block's variables
-/// stands for that was met before, and that is in this term, or in those before it. The only error is out of memory.
+/// terms from `low` on are those from `above` on. It is noted whether a variable may occur in what one of the block's variables
+/// stands for that was met before, and that is in the term. The only error is out of memory.
 #[inline(always)]
 fn copy_compound(
     cells: &mut Cells,
@@ -108,8 +99,8 @@ fn copy_compound(
     low: usize,
     above: usize,
     before: usize,
-    met: bool,
-) -> Result<bool, Memory>
+    met: &mut bool,
+) -> Result<(), Memory>
     requires fit { IsFit cells.old }
     requires block { IsBlock block.now }
     requires here { j < length block.now.heads.items }
@@ -120,8 +111,8 @@ fn copy_compound(
         (map (copied known.now.items low above) (arguments_of block.now j)) (heap_of cells.new) (Word.Comp (length cells.old.heads.items))) }
     ensures kept { OnErr result (heap_of cells.new ≡ heap_of cells.old) }
     ensures heads { OnOk result (length cells.new.heads.items ≡ length cells.old.heads.items + 1) }
-    ensures before { IfOk result (λ r. r ≡ false → met ≡ false) }
-    ensures ground { IfOk result (λ r. r ≡ false → All (IsGroundBefore (heap_of cells.old) known.now.items before) (arguments_of block.now j)) }
+    ensures before { OnOk result (met.new ≡ false → met.old ≡ false) }
+    ensures ground { OnOk result (met.new ≡ false → All (IsGroundBefore (heap_of cells.old) known.now.items before) (arguments_of block.now j)) }
 {
     let head = block_head(block, j);
     let start = cells.args.len();
@@ -140,9 +131,9 @@ fn copy_compound(
         before,
         met,
     ) {
-        Ok(found) => {
-            let _ = finish_marked(cells, head.name, start, head.count as usize, !found.any)?;
-            Ok(found.met)
+        Ok(any) => {
+            let _ = finish_marked(cells, head.name, start, head.count as usize, !any)?;
+            Ok(())
         }
         Err(_) => {
             cells.args.truncate(start);
@@ -152,7 +143,8 @@ fn copy_compound(
 }
 
 /// Puts the arguments of a compound term of a block, as they stand in a store with so many slots and compound terms, after the
-/// others. After running out of memory some of them are there.
+/// others. The answer is whether a variable may occur in one of them, and it is noted whether one may occur in what a variable of
+/// the block stands for that was met before. After running out of memory some of them are there.
 #[inline(always)]
 fn push_copies(
     args: &mut Words,
@@ -165,30 +157,29 @@ fn push_copies(
     heads: usize,
     grounds: &[bool],
     before: usize,
-    met: bool,
-) -> Result<Found, Memory>
+    met: &mut bool,
+) -> Result<bool, Memory>
     requires within { head.start + head.count ≤ length parts.now.items }
     requires parts { All (IsPart (record { low = low; variables = length known.now.items })) (words_of parts.now.items head) }
     requires inside { All (λ w. IsWord slots heads (copied known.now.items low above w)) (words_of parts.now.items head) }
     ensures ok { OnOk result (args.new.items ≡ args.old.items ++ map (copied known.now.items low above) (words_of parts.now.items head)) }
     ensures kept { take (length args.old.items) args.new.items ≡ args.old.items }
-    ensures found { IfOk result (λ f. AreFound grounds.now known.now.items low above before met f (words_of parts.now.items head)) }
+    ensures found { IfOk result (λ any. AreFound grounds.now known.now.items low above before met.old any met.new (words_of parts.now.items head)) }
 {
     args.reserve(head.count as usize)?;
-    let mut found = Found { any: false, met };
+    let mut any = false;
     for i in 0..head.count {
         let at = head.start as usize + i as usize;
-        let next = push_copy(
-            args, parts, at, known, low, above, slots, heads, grounds, before, found,
+        push_copy(
+            args, parts, at, known, low, above, slots, heads, grounds, before, &mut any, met,
         )?;
-
-        found = next;
     }
-    Ok(found)
+    Ok(any)
 }
 
 /// Puts the word at a place of a block, for which there is room, behind the others, as it stands in a store with so many slots
-/// and compound terms. The only error is out of memory.
+/// and compound terms. It is noted whether a variable may occur in it, and in what a variable of the block stands for that was met
+/// before. The only error is out of memory.
 #[inline(always)]
 fn push_copy(
     args: &mut Words,
@@ -201,8 +192,9 @@ fn push_copy(
     heads: usize,
     grounds: &[bool],
     before: usize,
-    found: Found,
-) -> Result<Found, Memory>
+    any: &mut bool,
+    met: &mut bool,
+) -> Result<(), Memory>
     requires space { 0 < args.old.room }
     requires inside { at < length parts.now.items }
     requires part { IsPart (record { low = low; variables = length known.now.items }) (slice_index_or parts.now.items at (Word.Int (pos 0))) }
@@ -210,36 +202,42 @@ fn push_copy(
     ensures items { args.new.items ≡ (if is_ok result
         then args.old.items ++ copied known.now.items low above (slice_index_or parts.now.items at (Word.Int (pos 0))) ∷ [] else args.old.items) }
     ensures room { args.old.room ≤ args.new.room + 1 }
-    ensures found { IfOk result (λ f. IsFound grounds.now known.now.items low above before found f (slice_index_or parts.now.items at (Word.Int (pos 0)))) }
+    ensures found { OnOk result (IsFound grounds.now known.now.items low above before any.old met.old any.new met.new (slice_index_or parts.now.items at (Word.Int (pos 0)))) }
 {
     let part = parts.short(at);
     if let Short::Slot(x) = part {
         let word = known.short(x as usize);
         push_word_of(args, known, x as usize)?;
-        return Ok(with_variable(found, is_ground_short(grounds, word), (x as usize) < before));
+        note_word(
+            any,
+            met,
+            is_ground_short(grounds, word),
+            (x as usize) < before,
+        );
+        return Ok(());
     }
     if let Short::Term(k) = part {
         let i = short_index(above + (k as usize - low))?;
         args.push_short(Short::Term(i));
-        return Ok(with_variable(found, marked_at(grounds, i as usize), false));
+        note_word(any, met, marked_at(grounds, i as usize), false);
+        return Ok(());
     }
-    push_word_of(args, parts, at)?;
-    Ok(found)
+    push_word_of(args, parts, at)
 }
 
-/// What was found with one more word, in which a variable may occur unless it is ground, and which may stand for a variable of the
-/// block that was met before.
+/// Notes one more word, in which a variable may occur unless it is ground, and which may stand for a variable of the block that was
+/// met before.
 #[inline(always)]
-fn with_variable(found: Found, is_ground: bool, is_met: bool) -> Found
-    ensures any { result.any ≡ (if is_ground then found.any else true) }
-    ensures met { result.met ≡ (if is_ground then found.met else if is_met then true else found.met) }
+fn note_word(any: &mut bool, met: &mut bool, is_ground: bool, is_met: bool)
+    ensures any { any.new ≡ (if is_ground then any.old else true) }
+    ensures met { met.new ≡ (if is_ground then met.old else if is_met then true else met.old) }
 {
     if is_ground {
-        return found;
+        return;
     }
-    Found {
-        any: true,
-        met: if is_met { true } else { found.met },
+    *any = true;
+    if is_met {
+        *met = true;
     }
 }
 

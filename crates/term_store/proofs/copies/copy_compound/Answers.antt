@@ -81,7 +81,7 @@ finish_marked-requires-clause-ground c e =
     ap (λ n. drop n c.push_copies.new.args.items) c.len-start.ensures ∙ ap (drop (length h.args)) c.in-Ok.ensures.ok ∙ drop-append_seam h.args (map f parts) in
     subst (All (IsMarked gs)) (sym behind)
     (All-map (IsMarked gs) f parts
-    (subst (λ ms. All (λ w. IsMarked ms (f w)) parts) c.deref.ensures.value (c.in-Ok.ensures.found.any (not_true c.in-Ok.found.any e))))
+    (subst (λ ms. All (λ w. IsMarked ms (f w)) parts) c.deref.ensures.value (c.in-Ok.ensures.found.any (not_true c.in-Ok.any e))))
 
 pub returns-in_ok-finish_marked-in-Ok-clause-before : goal.returns-in_ok-finish_marked-in-Ok-clause-before
 returns-in_ok-finish_marked-in-Ok-clause-before c e = (c.in-Ok.ensures.found.met e).0

@@ -30,9 +30,9 @@ loop-j-init c =
       ground = λ _ i lo hi. absurd (omega (arith, lo, hi));
     }
 
-pub returns-in_err-seen-clause-gains : goal.returns-in_err-seen-clause-gains
-returns-in_err-seen-clause-gains c =
-    subst (Gains (heap_of c.args.cells.now)) (sym c.in_err-seen.ensures.kept) c.loop-j.invariant.gains
+pub returns-in_err-copy_compound-clause-gains : goal.returns-in_err-copy_compound-clause-gains
+returns-in_err-copy_compound-clause-gains c =
+    subst (Gains (heap_of c.args.cells.now)) (sym c.in_err-copy_compound.ensures.kept) c.loop-j.invariant.gains
 
 -- The parts of the compound term that is made next.
 parts_of_next : (b : Block) → IsBlock b → (known : List Word) (k j : ℕ) (r : Range) → k < length b.heads.items → r ≡ get_or b.ranges.items k no_range
@@ -83,12 +83,12 @@ loop-j-preserved c =
     let inv = c.loop-j.invariant in
     let inside = c.requires.inside in
     let many = inv.many in
-    let heads = c.in_ok-seen.ensures.heads in
+    let heads = c.in_ok-copy_compound.ensures.heads in
     let parts =
     parts_of_next b c.requires.block known c.args.k j c.range_of-range.result c.requires.inside c.range_of-range.ensures c.requires.ready c.loop-j.auto.j
     c.loop-j-test.true in
     let m : Made before (get_or b.heads.items j no_head).name (map (copied known low above) (arguments_of b j)) after (Comp (length before.heads)) =
-    c.in_ok-seen.ensures.made in
+    c.in_ok-copy_compound.ensures.made in
     record {
       fit = c.copy_compound.ensures.fit;
       gains = gains_twice h before after inv.gains (gains_made before after _ _ _ m);
@@ -98,7 +98,7 @@ loop-j-preserved c =
           (omega (arith, c.loop-j-test.true)) c.loop-j.auto.j refl inv.many (inv.copied from) parts m;
       ground = λ e i lo hi.
           ground_next h before known c.args.before b low i j c.requires.known c.requires.few inv.gains.keeps.means
-          (inv.ground (c.in_ok-seen.ensures.before e)) (c.in_ok-seen.ensures.ground e) lo hi;
+          (inv.ground (c.in_ok-copy_compound.ensures.before e)) (c.in_ok-copy_compound.ensures.ground e) lo hi;
     }
 
 pub returns-clause-ground : goal.returns-clause-ground

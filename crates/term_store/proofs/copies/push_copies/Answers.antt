@@ -31,25 +31,25 @@ loop-i-preserved c =
     let w = f (get_or c.args.parts.now.items (c.args.head.start + c.loop-i.i) (Int (pos 0))) in
     record {
       copies =
-          c.in_ok-next.ensures.items ∙ ap (λ ws. ws ++ w ∷ []) inv.copies ∙ append_assoc c.args.args.now.items before (w ∷ [])
+          c.in_ok-push_copy.ensures.items ∙ ap (λ ws. ws ++ w ∷ []) inv.copies ∙ append_assoc c.args.args.now.items before (w ∷ [])
           ∙ ap (λ ws. c.args.args.now.items ++ ws)
           (sym (arguments_mapped f c.args.parts.now.items c.args.head c.loop-i.i w c.requires.within c.loop-i-test.true refl));
       room = omega (arith, room, left);
       found =
-          more_found c.args.grounds.now c.args.known.now.items c.args.low c.args.above c.args.before c.args.met c.loop-i.found c.in_ok-next.next c.args.parts.now.items
+          more_found c.args.grounds.now c.args.known.now.items c.args.low c.args.above c.args.before c.args.met.now c.loop-i.any c.loop-i.met c.push_copy.new.any c.push_copy.new.met c.args.parts.now.items
           c.args.head c.loop-i.i (get_or c.args.parts.now.items (c.args.head.start + c.loop-i.i) (Int (pos 0))) c.requires.within c.loop-i-test.true refl inv.found
-          c.in_ok-next.ensures.found;
+          c.in_ok-push_copy.ensures.found;
     }
 
-pub returns-in_err-next-clause-kept : goal.returns-in_err-next-clause-kept
-returns-in_err-next-clause-kept c =
-    ap (take (length c.args.args.now.items)) (c.in_err-next.ensures.items ∙ c.loop-i.invariant.copies)
+pub returns-in_err-push_copy-clause-kept : goal.returns-in_err-push_copy-clause-kept
+returns-in_err-push_copy-clause-kept c =
+    ap (take (length c.args.args.now.items)) (c.in_err-push_copy.ensures.items ∙ c.loop-i.invariant.copies)
     ∙ take-append_seam c.args.args.now.items
     (map (copied c.args.known.now.items c.args.low c.args.above) (take c.loop-i.i (words_of c.args.parts.now.items c.args.head)))
 
 pub returns-clause-found : goal.returns-clause-found
 returns-clause-found c =
-    all_found c.args.grounds.now c.args.known.now.items c.args.low c.args.above c.args.before c.args.met c.loop-i.found c.args.parts.now.items c.args.head c.loop-i.i
+    all_found c.args.grounds.now c.args.known.now.items c.args.low c.args.above c.args.before c.args.met.now c.loop-i.any c.loop-i.met c.args.parts.now.items c.args.head c.loop-i.i
     c.requires.within (omega (arith, c.loop-i-test.false)) c.loop-i.invariant.found
 
 pub returns-clause-ok : goal.returns-clause-ok

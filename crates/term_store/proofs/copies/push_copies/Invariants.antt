@@ -9,5 +9,5 @@ invariant-loop-i l =
     record {
       copies : l.args.items ≡ l.fn.args.items ++ map (copied l.known.items l.low l.above) (take l.i (words_of l.parts.items l.head));
       room : l.head.count ≤ l.args.room + l.i;
-      found : AreFound l.grounds l.known.items l.low l.above l.before l.met l.found (take l.i (words_of l.parts.items l.head));
+      found : AreFound l.grounds l.known.items l.low l.above l.before l.fn.met l.any l.met (take l.i (words_of l.parts.items l.head));
     }
