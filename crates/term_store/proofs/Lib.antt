@@ -14,6 +14,7 @@ pub mod Following
 pub mod Grounding
 pub mod Gathering
 pub mod Growing
+pub mod Handing
 pub mod Harmless
 pub mod Heading
 pub mod Instances

@@ -84,13 +84,9 @@ hand_on c b rs r some a =
     record { some = a.some; stack = a.stack; hand = record { left = omega arith; right = omega arith } }
 
 -- Their first pair is the last one.
-pub hand_off : (c : Heap) (b : Block) (rs : List Rest) (r : Rest) → 0 < r.count → AreRests c b rs r
-    → pairs_of c.args b.args.items (rs ++ r ∷ []) ≡ pairs_of c.args b.args.items (rs ++ rest_after r ∷ []) ++ pair_at c.args b.args.items r ∷ []
-hand_off c b rs r some a =
-    let args = c.args in
-    let parts = b.args.items in
-    let left = a.hand.left in
-    let right = a.hand.right in
+pub rest_off : (args parts : List Word) (rs : List Rest) (r : Rest) → 0 < r.count → r.left + r.count ≤ length args → r.right + r.count ≤ length parts
+    → pairs_of args parts (rs ++ r ∷ []) ≡ pairs_of args parts (rs ++ rest_after r ∷ []) ++ pair_at args parts r ∷ []
+rest_off args parts rs r some left right =
     let n = r.count - 1 in
     let count : r.count ≡ suc n = omega arith in
     let before = pairs_of args parts rs in
@@ -104,8 +100,12 @@ hand_off c b rs r some a =
     ∙ ap (λ ps. ps ++ last)
     (ap (λ ps. before ++ ps) (sym (append-nil (rest_pairs args parts (rest_after r)))) ∙ sym (pairs_of-append args parts rs (rest_after r ∷ [])))
 
+pub hand_off : (c : Heap) (b : Block) (rs : List Rest) (r : Rest) → 0 < r.count → AreRests c b rs r
+    → pairs_of c.args b.args.items (rs ++ r ∷ []) ≡ pairs_of c.args b.args.items (rs ++ rest_after r ∷ []) ++ pair_at c.args b.args.items r ∷ []
+hand_off c b rs r some a = rest_off c.args b.args.items rs r some a.hand.left a.hand.right
+
 -- Arguments that are none.
-none_off : (args parts : List Word) (rs : List Rest) (r : Rest) → r.count ≡ zero → pairs_of args parts (rs ++ r ∷ []) ≡ pairs_of args parts rs
+pub none_off : (args parts : List Word) (rs : List Rest) (r : Rest) → r.count ≡ zero → pairs_of args parts (rs ++ r ∷ []) ≡ pairs_of args parts rs
 none_off args parts rs r none =
     pairs_of-append args parts rs (r ∷ [])
     ∙ ap (λ k. pairs_of args parts rs ++ (reverse (zip_words (take k (drop r.left args)) (take k (drop r.right parts))) ++ [])) none
@@ -193,7 +193,7 @@ steps_if_any (Ok r) b c from known v w p q rs next d ss left right known_is few 
 steps_if_any (Err e) b c from known v w p q rs next d ss left right known_is few s = tt
 
 -- The stack with what was in hand.
-stacked_pairs : (args parts : List Word) (rs : List Rest) (r : Rest) → pairs_of args parts (stacked rs r) ≡ pairs_of args parts (rs ++ r ∷ [])
+pub stacked_pairs : (args parts : List Word) (rs : List Rest) (r : Rest) → pairs_of args parts (stacked rs r) ≡ pairs_of args parts (rs ++ r ∷ [])
 stacked_pairs args parts rs r = go (r.count == zero) refl
   where
     go : (q : Bool) → (r.count == zero) ≡ q → pairs_of args parts (cond q rs (rs ++ r ∷ [])) ≡ pairs_of args parts (rs ++ r ∷ [])

@@ -28,3 +28,4 @@ pub mod Sizes
 pub mod StoredTerms
 pub mod Unifying
 pub mod Visits
+pub mod Waiting

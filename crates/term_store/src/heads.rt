@@ -593,7 +593,7 @@ fn open_part(
 
 /// Puts arguments on the stack, if they are some. The only error is out of memory.
 #[inline(always)]
-fn put_off(rests: &mut Vec<Rest>, rest: Rest) -> Result<(), Memory>
+pub fn put_off(rests: &mut Vec<Rest>, rest: Rest) -> Result<(), Memory>
     ensures { OnOk result (rests.new.items ≡ stacked rests.old.items rest) }
 {
     if rest.count == 0 {

@@ -145,7 +145,7 @@ pub fn come_by(cells: &Cells, walk: &mut Walk, k: usize) -> Result<(), Memory>
 }
 
 /// The bound, or one above the slot.
-fn raised(cells: &Cells, top: usize, slot: usize) -> usize
+pub fn raised(cells: &Cells, top: usize, slot: usize) -> usize
     requires { slot < length cells.now.numbers.items }
     ensures raised { top ≤ result }
     ensures above { slot < result }

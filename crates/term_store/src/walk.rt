@@ -2,7 +2,7 @@
 use crate::meetings::Meetings;
 use crate::pace::Pace;
 use crate::seen::Seen;
-use crate::words::{Pair, Word};
+use crate::words::{Rest, Word};
 use std::alloc::Global;
 
 /// The words that are still to be looked at, how many compound terms the walk has come by, and those of them that it came by
@@ -25,11 +25,11 @@ impl Walk {
     }
 }
 
-/// The pairs of words that are still to become equal, how many pairs of compound terms the unification has come by, by the
-/// first and by the second of each, and those of them that it came by once it was long.
+/// The arguments that are still to become equal and not in hand, how many pairs of compound terms the unification has come by, by
+/// the first and by the second of each, and those of them that it came by once it was long.
 #[derive(Drop)]
 pub struct Pending {
-    pub pairs: Vec<Pair>,
+    pub rests: Vec<Rest>,
     pub left: Pace,
     pub right: Pace,
     pub met: Meetings,
@@ -39,7 +39,7 @@ impl Pending {
     /// An empty room.
     pub fn new(alloc: Global) -> Pending {
         Pending {
-            pairs: Vec::new(alloc),
+            rests: Vec::new(alloc),
             left: Pace::new(),
             right: Pace::new(),
             met: Meetings::new(alloc),

@@ -31,8 +31,8 @@ pub struct Pair {
     pub right: Word,
 }
 
-/// The arguments of a compound term of a store, and of one of a clause's block, that are still to become equal: so many from a place
-/// on of either.
+/// The arguments of a compound term of a store, and of one of a clause's block or another of the store, that are still to become
+/// equal: so many from a place on of either.
 #[derive(Clone, Copy, Debug, Drop)]
 pub struct Rest {
     pub left: usize,

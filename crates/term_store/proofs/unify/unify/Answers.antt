@@ -1,10 +1,11 @@
-use Rattle.std.proofs.Common.{◌++◌, sym, ap, subst, ◌∙◌, append_assoc}
+use Rattle.std.proofs.Common.{◌++◌, ap, subst, ◌∙◌, append_assoc}
 use Rattle.term_store.specs.Cells.{heap_of}
 use Rattle.term_store.specs.Heap.{Heap, with_trail}
-use Rattle.term_store.specs.Unifying.{IsPairIn, Grown, Moves}
-use Rattle.term_store.proofs.Occurring.{popped, empty_list}
-use Rattle.term_store.proofs.Joining.{all_followed}
-use Rattle.term_store.proofs.Turning.{goes_on, unifies, never_unifies}
+use Rattle.term_store.specs.Rests.{pair_at, rest_after}
+use Rattle.term_store.specs.Unifying.{Grown}
+use Rattle.term_store.specs.Waiting.{waiting}
+use Rattle.term_store.proofs.Handing.{TakenOn, goes_further, met_taken, moved_never, moved_some, never_further, next_none, next_some, taken_on}
+use Rattle.term_store.proofs.Turning.{unifies}
 use Rattle.term_store.proofs.unify.unify.Goals as goal
 
 grown_twice : (c d e : Heap) → Grown c d → Grown d e → Grown c e
@@ -16,45 +17,77 @@ grown_twice c d e g k =
           ∙ ap (with_trail c) (append_assoc c.trail g.bonds k.bonds);
     }
 
-pub deref-a-requires-clause-inside : goal.deref-a-requires-clause-inside
-deref-a-requires-clause-inside c =
-    (popped (IsPairIn (heap_of c.loop.cells)) c.loop.pending.pairs.items c.pop.new.self.items c.in-Some.pair c.in-Some.ensures.items c.loop.invariant.pairs).1.0
-
-pub deref-b-requires-clause-inside : goal.deref-b-requires-clause-inside
-deref-b-requires-clause-inside c =
-    (popped (IsPairIn (heap_of c.loop.cells)) c.loop.pending.pairs.items c.pop.new.self.items c.in-Some.pair c.in-Some.ensures.items c.loop.invariant.pairs).1.1
-
-pub returns-in_default-clause-solves : goal.returns-in_default-clause-solves
-returns-in_default-clause-solves c =
-    unifies (heap_of c.args.cells.now) (heap_of c.loop.cells) c.args.left c.args.right c.loop.pending.pairs.items c.loop.invariant.goes
-    (empty_list c.loop.pending.pairs.items (sym c.loop.pending.pairs.ok.0 ∙ c.in_default.ensures.cases.0))
-
-pub returns-then-not-branch-clause-solves : goal.returns-then-not-branch-clause-solves
-returns-then-not-branch-clause-solves c =
+pub returns-in_default-take_next-clause-solves : goal.returns-in_default-take_next-clause-solves
+returns-in_default-take_next-clause-solves c =
     let d = heap_of c.loop.cells in
-    let e = heap_of c.make_equal.new.cells in
-    never_unifies (heap_of c.args.cells.now) d e c.args.left c.args.right c.deref-a.result c.deref-b.result c.pop.new.self.items c.loop.pending.pairs.items
-    c.make_equal.new.pending.pairs.items c.in-Some.pair c.loop.invariant.goes c.in-Some.ensures.items c.deref-a.ensures.means c.deref-b.ensures.means
-    (subst (λ b. Moves b d c.pop.new.self.items c.deref-a.result c.deref-b.result e c.make_equal.new.pending.pairs.items) c.if-not-branch.true c.in_ok-make_equal.ensures.moves)
+    let rs = c.loop.pending.rests.items in
+    unifies (heap_of c.args.cells.now) d c.args.left c.args.right (waiting d rs c.loop.hand) c.loop.invariant.goes
+    (next_none d c.take_next.result rs c.loop.hand c.take_next.new.rests.items c.in_default-take_next.not-Some c.take_next.ensures)
+
+pub meet_next-requires-clause-some : goal.meet_next-requires-clause-some
+meet_next-requires-clause-some c =
+    let d = heap_of c.loop.cells in
+    let rs = c.loop.pending.rests.items in
+    let ss = c.take_next.new.rests.items in
+    let rest = c.in-Some-take_next.rest in
+    let t : TakenOn d rs c.loop.hand ss rest =
+    taken_on d rs c.loop.hand ss rest c.loop.invariant.waits (next_some c.take_next.result rest rs c.loop.hand ss c.in-Some-take_next.is c.take_next.ensures) in
+    t.some
+
+pub meet_next-requires-clause-waiting : goal.meet_next-requires-clause-waiting
+meet_next-requires-clause-waiting c =
+    let d = heap_of c.loop.cells in
+    let rs = c.loop.pending.rests.items in
+    let ss = c.take_next.new.rests.items in
+    let rest = c.in-Some-take_next.rest in
+    let t : TakenOn d rs c.loop.hand ss rest =
+    taken_on d rs c.loop.hand ss rest c.loop.invariant.waits (next_some c.take_next.result rest rs c.loop.hand ss c.in-Some-take_next.is c.take_next.ensures) in
+    t.kept
+
+pub meet_next-requires-clause-met : goal.meet_next-requires-clause-met
+meet_next-requires-clause-met c =
+    let d = heap_of c.loop.cells in
+    let rs = c.loop.pending.rests.items in
+    let ss = c.take_next.new.rests.items in
+    let rest = c.in-Some-take_next.rest in
+    let t : TakenOn d rs c.loop.hand ss rest =
+    taken_on d rs c.loop.hand ss rest c.loop.invariant.waits (next_some c.take_next.result rest rs c.loop.hand ss c.in-Some-take_next.is c.take_next.ensures) in
+    met_taken (heap_of c.args.cells.now) d c.args.left c.args.right rs c.loop.hand ss rest c.loop.invariant.goes t c.loop.pending.met.list.items c.loop.invariant.met
+
+pub returns-in_default-2-clause-solves : goal.returns-in_default-2-clause-solves
+returns-in_default-2-clause-solves c =
+    let d = heap_of c.loop.cells in
+    let rs = c.loop.pending.rests.items in
+    let ss = c.take_next.new.rests.items in
+    let rest = c.in-Some-take_next.rest in
+    let t : TakenOn d rs c.loop.hand ss rest =
+    taken_on d rs c.loop.hand ss rest c.loop.invariant.waits (next_some c.take_next.result rest rs c.loop.hand ss c.in-Some-take_next.is c.take_next.ensures) in
+    let e = heap_of c.meet_next.new.cells in
+    never_further (heap_of c.args.cells.now) d c.args.left c.args.right rs c.loop.hand ss rest c.loop.invariant.goes t e
+    (moved_never c.in_ok-next.field-0 d ss (rest_after rest) (pair_at d.args d.args rest) e c.meet_next.new.pending.rests.items
+    c.meet_next.new.pending.met.list.items c.meet_next.new.older c.in_default-2.not-Some c.in_ok-next.ensures.moved)
 
 pub loop-preserved : goal.loop-preserved
 loop-preserved c =
     let d = heap_of c.loop.cells in
-    let e = heap_of c.make_equal.new.cells in
+    let rs = c.loop.pending.rests.items in
+    let ss = c.take_next.new.rests.items in
+    let rest = c.in-Some-take_next.rest in
+    let t : TakenOn d rs c.loop.hand ss rest =
+    taken_on d rs c.loop.hand ss rest c.loop.invariant.waits (next_some c.take_next.result rest rs c.loop.hand ss c.in-Some-take_next.is c.take_next.ensures) in
+    let b = heap_of c.args.cells.now in
+    let e = heap_of c.meet_next.new.cells in
+    let xs = c.meet_next.new.pending.rests.items in
+    let ms = c.meet_next.new.pending.met.list.items in
+    let o = c.meet_next.new.older in
+    let next = c.in-Some-2.next in
+    let m =
+    moved_some c.in_ok-next.field-0 next d ss (rest_after rest) (pair_at d.args d.args rest) e xs ms o c.in-Some-2.is c.in_ok-next.ensures.moved in
     record {
-      fit = c.make_equal.ensures.fit;
-      apart = c.in_ok-make_equal.ensures.apart c.if-not-branch.false;
-      grown = grown_twice (heap_of c.args.cells.now) d e c.loop.invariant.grown c.make_equal.ensures.grown;
-      pairs = c.in_ok-make_equal.ensures.pairs;
-      goes =
-          goes_on (heap_of c.args.cells.now) d e c.args.left c.args.right c.deref-a.result c.deref-b.result c.pop.new.self.items c.loop.pending.pairs.items
-          c.make_equal.new.pending.pairs.items c.in-Some.pair c.loop.invariant.goes c.in-Some.ensures.items c.deref-a.ensures.means c.deref-b.ensures.means
-          (subst (λ b. Moves b d c.pop.new.self.items c.deref-a.result c.deref-b.result e c.make_equal.new.pending.pairs.items) c.if-not-branch.false c.in_ok-make_equal.ensures.moves);
-      met = c.in_ok-make_equal.ensures.met c.if-not-branch.false;
+      fit = c.meet_next.ensures.fit;
+      apart = m.apart;
+      grown = grown_twice b d e c.loop.invariant.grown c.meet_next.ensures.grown;
+      waits = m.waits;
+      goes = goes_further b d c.args.left c.args.right rs c.loop.hand ss rest c.loop.invariant.goes t e xs next ms o m;
+      met = m.met;
     }
-
-pub make_equal-requires-clause-met : goal.make_equal-requires-clause-met
-make_equal-requires-clause-met c =
-    all_followed (heap_of c.loop.cells) c.loop.pending.pairs.items c.pop.new.self.items c.in-Some.pair
-    (record { left = c.deref-a.result; right = c.deref-b.result }) c.loop.pending.met.list.items c.in-Some.ensures.items c.deref-a.ensures.means
-    c.deref-b.ensures.means c.loop.invariant.met

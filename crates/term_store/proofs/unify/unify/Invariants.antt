@@ -3,7 +3,8 @@ use Rattle.std.specs.List.{All}
 use Rattle.term_store.specs.Apart.{IsApart}
 use Rattle.term_store.specs.Cells.{IsFit, heap_of}
 use Rattle.term_store.specs.Meeting.{IsMet}
-use Rattle.term_store.specs.Unifying.{IsPairIn, Grown, Goes}
+use Rattle.term_store.specs.Unifying.{Grown, Goes}
+use Rattle.term_store.specs.Waiting.{AreWaiting, waiting}
 use Rattle.term_store.proofs.unify.unify.Given as goal
 
 abbrev pub invariant-loop : goal.invariant-loop
@@ -12,7 +13,7 @@ invariant-loop l =
       fit : IsFit l.cells;
       apart : IsApart (heap_of l.cells) l.older;
       grown : Grown (heap_of l.fn.cells) (heap_of l.cells);
-      pairs : All (IsPairIn (heap_of l.cells)) l.pending.pairs.items;
-      goes : Goes (heap_of l.fn.cells) [] l.fn.left l.fn.right (heap_of l.cells) l.pending.pairs.items;
-      met : All (IsMet (heap_of l.cells) l.pending.pairs.items) l.pending.met.list.items;
+      waits : AreWaiting (heap_of l.cells) l.pending.rests.items l.hand;
+      goes : Goes (heap_of l.fn.cells) [] l.fn.left l.fn.right (heap_of l.cells) (waiting (heap_of l.cells) l.pending.rests.items l.hand);
+      met : All (IsMet (heap_of l.cells) (waiting (heap_of l.cells) l.pending.rests.items l.hand)) l.pending.met.list.items;
     }
