@@ -418,14 +418,6 @@ module _ (h : Heap) (fit : Fit h) (rs : List Rest) (r : Rest) (some : 0 < r.coun
       moved_if res h rs (rest_after r) (pair_at h.args h.args r) followed h ss ns o f.means g.means
       (opened_if res h k l rs (rest_after r) followed ss ns o (part_is k l e) apart opened)
 
--- What is in hand comes next.
-pub next_some : (q : Option Rest) (n : Rest) (rs : List Rest) (r : Rest) (ss : List Rest) → q ≡ Some n → IsNext q rs r ss → IsNext (Some n) rs r ss
-next_some q n rs r ss e i = subst (λ x. IsNext x rs r ss) e i
-
-pub next_none : (h : Heap) (q : Option Rest) (rs : List Rest) (r : Rest) (ss : List Rest) → ((n : Rest) → q ≢ Some n) → IsNext q rs r ss → waiting h rs r ≡ []
-next_none h (Some n) rs r ss other i = absurd (other n refl)
-next_none h None rs r ss other i = none_on h rs r ss i
-
 -- The first pair of all was made equal.
 module _ (h : Heap) (rs : List Rest) (p : Pair) (a b : Word) (e : rs ≡ []) (left : meaning h p.left ≡ meaning h a) (right : meaning h p.right ≡ meaning h b) where
   nothing_waits : waiting h rs no_rest ≡ []

@@ -1,5 +1,5 @@
 -- Pairs of words of one heap that are still to become equal.
-use Rattle.std.specs.Prelude.{◌≡◌, ℕ, ◌+◌, ◌<◌, ◌≤◌, false, ◌==◌, nat_lt, List, [], ◌∷◌, ◌++◌, length, Option, Some, None, if◌then◌else◌}
+use Rattle.std.specs.Prelude.{◌≡◌, ℕ, ◌+◌, ◌<◌, ◌≤◌, Bool, true, false, ◌==◌, nat_lt, List, [], ◌∷◌, ◌++◌, length, Option, Some, None, if◌then◌else◌}
 use Rattle.std.specs.List.{All}
 use Rattle.std.specs.Ordering.{int_eq}
 use Rattle.term_store.specs.declared.words.Word.{Word}
@@ -15,7 +15,7 @@ use Rattle.term_store.specs.declared.unify.ShortPlan.TheVariants.{Equal, Differ,
 use Rattle.term_store.specs.Apart.{IsApart}
 use Rattle.term_store.specs.Heap.{Heap}
 use Rattle.term_store.specs.Meeting.{IsMet, Parts}
-use Rattle.term_store.specs.Rests.{pairs_of}
+use Rattle.term_store.specs.Rests.{IsNext, pairs_of}
 use Rattle.term_store.specs.Unifying.{IsPairIn, Goes, Moves}
 
 -- What is left to do for two words as they are kept to become equal, of which neither is a bound variable.
@@ -50,6 +50,11 @@ short_plan (Wide k) s = Longer
 -- The pairs of the arguments on the stack and in hand.
 abbrev pub waiting : Heap → List Rest → Rest → List Pair
 waiting h rs r = pairs_of h.args h.args (rs ++ r ∷ [])
+
+-- Whether some arguments are in hand once the last ones of the stack were taken where none were.
+abbrev pub Refilled : Bool → List Rest → Rest → List Rest → Rest → Type 0
+Refilled true rs r ss n = IsNext (Some n) rs r ss
+Refilled false rs r ss n = IsNext None rs r ss
 
 -- They are arguments of the heap on either side.
 pub record IsRestIn (args : List Word) (r : Rest) : Type 0 where

@@ -7,11 +7,11 @@ ghost use Rattle.term_store.specs.Fit.{IsIn};
 ghost use Rattle.term_store.specs.Rests.{pair_at, rest_after};
 ghost use Rattle.term_store.specs.Unifying.{plan_of, Grown, Solves};
 ghost use Rattle.term_store.specs.Meeting.{IsMet};
-ghost use Rattle.term_store.specs.Waiting.{AreWaiting, Moved, Opened, Parted, short_plan, waiting};
+ghost use Rattle.term_store.specs.Waiting.{AreWaiting, Moved, Opened, Parted, Refilled, short_plan, waiting};
 
 use crate::bind::{bind, bind_short};
 use crate::cells::{Cells, deref, follow, head_at, word_at};
-use crate::heads::{put_off, take_next};
+use crate::heads::put_off;
 use crate::occurs::{occurs, raised};
 use crate::older::Older;
 use crate::pace::Pace;
@@ -65,20 +65,68 @@ pub fn unify(
         right: 0,
         count: 0,
     };
-    let Some(begun) = make_equal(cells, pending, walk, &mut older, first, none)? else {
+    let Some(begun) = begin(cells, pending, walk, &mut older, first, none)? else {
         return Ok(false);
     };
     let mut hand = begun;
     for _ in 0..u64::MAX {
-        let Some(rest) = take_next(&mut pending.rests, hand) else {
+        if !refill(&mut pending.rests, &mut hand) {
             return Ok(true);
-        };
-        let Some(next) = meet_next(cells, pending, walk, &mut older, rest)? else {
+        }
+        let Some(next) = meet_next(cells, pending, walk, &mut older, hand)? else {
             return Ok(false);
         };
         hand = next;
     }
     Err(Memory)
+}
+
+/// Takes the last arguments of the stack in hand, if none are. The answer is whether some are in hand then.
+#[inline(always)]
+fn refill(rests: &mut Vec<Rest>, hand: &mut Rest) -> bool
+    ensures { Refilled result rests.old.items hand.old rests.new.items hand.new }
+{
+    if hand.count > 0 {
+        return true;
+    }
+    let Some(rest) = rests.pop() else {
+        return false;
+    };
+    *hand = rest;
+    true
+}
+
+/// Does what `make_equal` does, for two compound terms without a call.
+#[inline(always)]
+fn begin(
+    cells: &mut Cells,
+    pending: &mut Pending,
+    walk: &mut Walk,
+    older: &mut Older,
+    pair: Pair,
+    next: Rest,
+) -> Result<Option<Rest>, Memory>
+    requires fit { IsFit cells.old }
+    requires apart { IsApart (heap_of cells.old) older.old }
+    requires left { IsIn (heap_of cells.old) pair.left }
+    requires right { IsIn (heap_of cells.old) pair.right }
+    requires left_free { IsFree (heap_of cells.old) pair.left }
+    requires right_free { IsFree (heap_of cells.old) pair.right }
+    requires waiting { AreWaiting (heap_of cells.old) pending.old.rests.items next }
+    requires met { All (IsMet (heap_of cells.old) (waiting (heap_of cells.old) pending.old.rests.items next ++ pair ∷ [])) pending.old.met.list.items }
+    ensures fit { IsFit cells.new }
+    ensures grown { Grown (heap_of cells.old) (heap_of cells.new) }
+    ensures moved { IfOk result (λ r. Moved r (heap_of cells.old) pending.old.rests.items next pair (heap_of cells.new) pending.new.rests.items
+        pending.new.met.list.items older.new) }
+{
+    if let Word::Comp(k) = pair.left {
+        if let Word::Comp(l) = pair.right {
+            if k != l {
+                return meet(cells, pending, k, l, next);
+            }
+        }
+    }
+    make_equal(cells, pending, walk, older, pair, next)
 }
 
 /// Makes the first pair of the arguments in hand equal. The answer is what is in hand then, or none where no bindings make them
@@ -116,34 +164,47 @@ fn meet_next(
             bind_short(cells, slot, short)?;
             Ok(Some(next))
         }
-        ShortPlan::Part(k, l) => meet(cells, pending, k as usize, l as usize, next),
-        ShortPlan::Longer => meet_words(cells, pending, walk, older, rest, next),
+        ShortPlan::Part(k, l) => {
+            let later = Rest {
+                left: next.left,
+                right: next.right,
+                count: next.count,
+            };
+            meet(cells, pending, k as usize, l as usize, later)
+        }
+        ShortPlan::Longer => meet_words(
+            cells, pending, walk, older, rest.left, rest.right, rest.count,
+        ),
     }
 }
 
-/// Makes the words with which the arguments in hand begin equal, as `make_equal` does.
+/// Makes the words with which so many arguments from two places on begin equal, as `make_equal` does.
 #[inline(never)]
 fn meet_words(
     cells: &mut Cells,
     pending: &mut Pending,
     walk: &mut Walk,
     older: &mut Older,
-    rest: Rest,
-    next: Rest,
+    left: usize,
+    right: usize,
+    count: usize,
 ) -> Result<Option<Rest>, Memory>
     requires fit { IsFit cells.old }
     requires apart { IsApart (heap_of cells.old) older.old }
-    requires some { 0 < rest.count }
-    requires waiting { AreWaiting (heap_of cells.old) pending.old.rests.items rest }
-    requires met { All (IsMet (heap_of cells.old) (waiting (heap_of cells.old) pending.old.rests.items rest)) pending.old.met.list.items }
-    requires next { next ≡ rest_after rest }
+    requires some { 0 < count }
+    requires waiting { AreWaiting (heap_of cells.old) pending.old.rests.items (record { left = left; right = right; count = count }) }
+    requires met { All (IsMet (heap_of cells.old) (waiting (heap_of cells.old) pending.old.rests.items (record { left = left; right = right; count = count })))
+        pending.old.met.list.items }
     ensures fit { IsFit cells.new }
     ensures grown { Grown (heap_of cells.old) (heap_of cells.new) }
-    ensures moved { IfOk result (λ r. Moved r (heap_of cells.old) pending.old.rests.items (rest_after rest)
-        (pair_at cells.old.args.items cells.old.args.items rest) (heap_of cells.new) pending.new.rests.items pending.new.met.list.items older.new) }
+    ensures moved { IfOk result (λ r. Moved r (heap_of cells.old) pending.old.rests.items (rest_after (record { left = left; right = right; count = count }))
+        (pair_at cells.old.args.items cells.old.args.items (record { left = left; right = right; count = count })) (heap_of cells.new)
+        pending.new.rests.items pending.new.met.list.items older.new) }
 {
-    let first = word_at(cells, rest.left);
-    let second = word_at(cells, rest.right);
+    let rest = Rest { left, right, count };
+    let next = after_first(cells, rest);
+    let first = word_at(cells, left);
+    let second = word_at(cells, right);
     let a = deref(cells, first);
     let b = deref(cells, second);
     let pair = Pair { left: a, right: b };

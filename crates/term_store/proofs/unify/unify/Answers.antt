@@ -3,8 +3,8 @@ use Rattle.term_store.specs.Cells.{heap_of}
 use Rattle.term_store.specs.Heap.{Heap, with_trail}
 use Rattle.term_store.specs.Rests.{pair_at, rest_after}
 use Rattle.term_store.specs.Unifying.{Grown}
-use Rattle.term_store.specs.Waiting.{waiting}
-use Rattle.term_store.proofs.Handing.{TakenOn, goes_further, met_taken, moved_never, moved_some, never_further, next_none, next_some, taken_on}
+use Rattle.term_store.specs.Waiting.{Refilled, waiting}
+use Rattle.term_store.proofs.Handing.{TakenOn, goes_further, met_taken, moved_never, moved_some, never_further, none_on, taken_on}
 use Rattle.term_store.proofs.Turning.{unifies}
 use Rattle.term_store.proofs.unify.unify.Goals as goal
 
@@ -17,51 +17,52 @@ grown_twice c d e g k =
           ∙ ap (with_trail c) (append_assoc c.trail g.bonds k.bonds);
     }
 
-pub returns-in_default-take_next-clause-solves : goal.returns-in_default-take_next-clause-solves
-returns-in_default-take_next-clause-solves c =
+pub returns-then-not-refill-clause-solves : goal.returns-then-not-refill-clause-solves
+returns-then-not-refill-clause-solves c =
     let d = heap_of c.loop.cells in
     let rs = c.loop.pending.rests.items in
     unifies (heap_of c.args.cells.now) d c.args.left c.args.right (waiting d rs c.loop.hand) c.loop.invariant.goes
-    (next_none d c.take_next.result rs c.loop.hand c.take_next.new.rests.items c.in_default-take_next.not-Some c.take_next.ensures)
+    (none_on d rs c.loop.hand c.refill.new.rests.items
+    (subst (λ b. Refilled b rs c.loop.hand c.refill.new.rests.items c.refill.new.hand) c.if-not-refill.true c.refill.ensures))
 
 pub meet_next-requires-clause-some : goal.meet_next-requires-clause-some
 meet_next-requires-clause-some c =
     let d = heap_of c.loop.cells in
     let rs = c.loop.pending.rests.items in
-    let ss = c.take_next.new.rests.items in
-    let rest = c.in-Some-take_next.rest in
+    let ss = c.refill.new.rests.items in
+    let rest = c.refill.new.hand in
     let t : TakenOn d rs c.loop.hand ss rest =
-    taken_on d rs c.loop.hand ss rest c.loop.invariant.waits (next_some c.take_next.result rest rs c.loop.hand ss c.in-Some-take_next.is c.take_next.ensures) in
+    taken_on d rs c.loop.hand ss rest c.loop.invariant.waits (subst (λ b. Refilled b rs c.loop.hand ss rest) c.if-not-refill.false c.refill.ensures) in
     t.some
 
 pub meet_next-requires-clause-waiting : goal.meet_next-requires-clause-waiting
 meet_next-requires-clause-waiting c =
     let d = heap_of c.loop.cells in
     let rs = c.loop.pending.rests.items in
-    let ss = c.take_next.new.rests.items in
-    let rest = c.in-Some-take_next.rest in
+    let ss = c.refill.new.rests.items in
+    let rest = c.refill.new.hand in
     let t : TakenOn d rs c.loop.hand ss rest =
-    taken_on d rs c.loop.hand ss rest c.loop.invariant.waits (next_some c.take_next.result rest rs c.loop.hand ss c.in-Some-take_next.is c.take_next.ensures) in
+    taken_on d rs c.loop.hand ss rest c.loop.invariant.waits (subst (λ b. Refilled b rs c.loop.hand ss rest) c.if-not-refill.false c.refill.ensures) in
     t.kept
 
 pub meet_next-requires-clause-met : goal.meet_next-requires-clause-met
 meet_next-requires-clause-met c =
     let d = heap_of c.loop.cells in
     let rs = c.loop.pending.rests.items in
-    let ss = c.take_next.new.rests.items in
-    let rest = c.in-Some-take_next.rest in
+    let ss = c.refill.new.rests.items in
+    let rest = c.refill.new.hand in
     let t : TakenOn d rs c.loop.hand ss rest =
-    taken_on d rs c.loop.hand ss rest c.loop.invariant.waits (next_some c.take_next.result rest rs c.loop.hand ss c.in-Some-take_next.is c.take_next.ensures) in
+    taken_on d rs c.loop.hand ss rest c.loop.invariant.waits (subst (λ b. Refilled b rs c.loop.hand ss rest) c.if-not-refill.false c.refill.ensures) in
     met_taken (heap_of c.args.cells.now) d c.args.left c.args.right rs c.loop.hand ss rest c.loop.invariant.goes t c.loop.pending.met.list.items c.loop.invariant.met
 
 pub returns-in_default-2-clause-solves : goal.returns-in_default-2-clause-solves
 returns-in_default-2-clause-solves c =
     let d = heap_of c.loop.cells in
     let rs = c.loop.pending.rests.items in
-    let ss = c.take_next.new.rests.items in
-    let rest = c.in-Some-take_next.rest in
+    let ss = c.refill.new.rests.items in
+    let rest = c.refill.new.hand in
     let t : TakenOn d rs c.loop.hand ss rest =
-    taken_on d rs c.loop.hand ss rest c.loop.invariant.waits (next_some c.take_next.result rest rs c.loop.hand ss c.in-Some-take_next.is c.take_next.ensures) in
+    taken_on d rs c.loop.hand ss rest c.loop.invariant.waits (subst (λ b. Refilled b rs c.loop.hand ss rest) c.if-not-refill.false c.refill.ensures) in
     let e = heap_of c.meet_next.new.cells in
     never_further (heap_of c.args.cells.now) d c.args.left c.args.right rs c.loop.hand ss rest c.loop.invariant.goes t e
     (moved_never c.in_ok-next.field-0 d ss (rest_after rest) (pair_at d.args d.args rest) e c.meet_next.new.pending.rests.items
@@ -71,10 +72,10 @@ pub loop-preserved : goal.loop-preserved
 loop-preserved c =
     let d = heap_of c.loop.cells in
     let rs = c.loop.pending.rests.items in
-    let ss = c.take_next.new.rests.items in
-    let rest = c.in-Some-take_next.rest in
+    let ss = c.refill.new.rests.items in
+    let rest = c.refill.new.hand in
     let t : TakenOn d rs c.loop.hand ss rest =
-    taken_on d rs c.loop.hand ss rest c.loop.invariant.waits (next_some c.take_next.result rest rs c.loop.hand ss c.in-Some-take_next.is c.take_next.ensures) in
+    taken_on d rs c.loop.hand ss rest c.loop.invariant.waits (subst (λ b. Refilled b rs c.loop.hand ss rest) c.if-not-refill.false c.refill.ensures) in
     let b = heap_of c.args.cells.now in
     let e = heap_of c.meet_next.new.cells in
     let xs = c.meet_next.new.pending.rests.items in
