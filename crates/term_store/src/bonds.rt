@@ -153,6 +153,16 @@ fn reserve_one(trail: &mut Vec<u32>) -> Result<(), Memory>
     if trail.len() < trail.capacity() {
         return Ok(());
     }
+    grow(trail)
+}
+
+/// Does what `reserve_one` does, where there is no room.
+#[cold]
+#[inline(never)]
+fn grow(trail: &mut Vec<u32>) -> Result<(), Memory>
+    ensures items { trail.new.items ≡ trail.old.items }
+    ensures room { OnOk result (vec_len trail.new < vec_capacity trail.new) }
+{
     trail.reserve(1)?;
     Ok(())
 }

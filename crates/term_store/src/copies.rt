@@ -258,6 +258,7 @@ fn push_word_of(args: &mut Words, words: &Words, at: usize) -> Result<(), Memory
 }
 
 /// Does what `push_word_of` does, also where the word is an integer beyond 32 bits.
+#[cold]
 #[inline(never)]
 fn push_long(args: &mut Words, words: &Words, at: usize) -> Result<(), Memory>
     requires space { 0 < args.old.room }

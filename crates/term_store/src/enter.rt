@@ -69,6 +69,7 @@ impl Store {
     }
 
     /// Does what `enter` does, of a term that is not kept as a block.
+    #[cold]
     #[inline(never)]
     fn enter_anew(
         &mut self,

@@ -58,6 +58,7 @@ pub fn meet_goal(
 }
 
 /// Does what `meet_goal` does, also where the goal or the head is no compound term.
+#[cold]
 #[inline(never)]
 fn meet_whole(
     cells: &mut Cells,
@@ -282,6 +283,7 @@ fn meet_first(cells: &Cells, known: &mut Words, at: usize) -> Result<(), Memory>
 }
 
 /// Does what `meet_first` does, also where the word is an integer beyond 32 bits.
+#[cold]
 #[inline(never)]
 fn meet_first_long(cells: &Cells, known: &mut Words, at: usize) -> Result<(), Memory>
     requires fit { IsFit cells.now }
@@ -415,6 +417,7 @@ fn meet_integer(
 }
 
 /// Makes the word at a place and the one at a place of the block the same, which is a constant.
+#[cold]
 #[inline(never)]
 fn meet_long(cells: &mut Cells, block: &Block, left: usize, right: usize) -> Result<bool, Memory>
     requires fit { IsFit cells.old }

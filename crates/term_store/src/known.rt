@@ -39,7 +39,7 @@ pub fn make_known(
 }
 
 /// Does what `make_known` does, where one was made and there are more to be made.
-#[inline(never)]
+#[inline(always)]
 fn make_rest(cells: &mut Cells, known: &mut Words, count: usize, from: u64) -> Result<(), Memory>
     requires fit { IsFit cells.old }
     requires known { IsKnown (heap_of cells.old) from known.old.items }

@@ -1,5 +1,5 @@
 //! Words as they are kept: of eight bytes.
-ghost use Rattle.std.specs.Prelude.{◌≡◌, ◌<◌, ◌≤◌, ◌+◌, ◌-◌, ◌++◌, ◌∷◌, [], length, pos, take, slice_index_or, is_ok, true, if◌then◌else◌, Some, IfOk, OnOk};
+ghost use Rattle.std.specs.Prelude.{◌≡◌, ◌<◌, ◌≤◌, ◌+◌, ◌-◌, ◌++◌, ◌∷◌, [], length, pos, take, slice_index_or, is_ok, true, if◌then◌else◌, Some, IfOk, OnOk, vec_capacity, vec_len};
 ghost use Rattle.term_store.specs.Shorts.{IsOwn, IsPlain, IsShort, Stays, StaysBelow, StaysBut, long_word, no_beyond, value_word};
 
 use crate::words::Word;
@@ -77,8 +77,10 @@ impl Words {
         ensures items { self.new.items ≡ self.old.items }
         ensures room { OnOk result (count ≤ self.new.room) }
     {
-        self.shorts.reserve(count)?;
-        Ok(())
+        if count <= self.shorts.capacity() - self.shorts.len() {
+            return Ok(());
+        }
+        grow(&mut self.shorts, count)
     }
 
     /// Puts a word, for which there is room, behind the others. The only error is out of memory, which an integer beyond 32 bits
@@ -229,7 +231,20 @@ pub fn short_index(i: usize) -> Result<u32, Memory>
     }
 }
 
+/// Makes room for so many words more, where there is less. The only error is out of memory.
+#[cold]
+#[inline(never)]
+fn grow(shorts: &mut Vec<Short>, count: usize) -> Result<(), Memory>
+    ensures items { shorts.new.items ≡ shorts.old.items }
+    ensures room { OnOk result (count + vec_len shorts.new ≤ vec_capacity shorts.new) }
+{
+    shorts.reserve(count)?;
+    Ok(())
+}
+
 /// The short word for an integer, which is put to those beyond 32 bits. The only error is out of memory.
+#[cold]
+#[inline(never)]
 fn widened(wides: &mut Vec<Beyond>, at: usize, value: i64) -> Result<Short, Memory>
     ensures stays { Stays wides.old.items wides.new.items }
     ensures means { IfOk result (λ s. long_word wides.new.items s ≡ Word.Int value) }
