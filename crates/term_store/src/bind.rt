@@ -12,6 +12,7 @@ use crate::words::Word;
 use pl_term::Memory;
 
 /// Binds the variable of a slot to a word.
+#[inline(always)]
 pub fn bind(cells: &mut Cells, slot: usize, word: Word) -> Result<(), Memory>
     requires fit { IsFit cells.old }
     requires slot { slot < length cells.old.numbers.items }

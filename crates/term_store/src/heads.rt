@@ -15,6 +15,7 @@ use crate::copies::{copy_compounds, known_at, range_of};
 use crate::holding::is_held;
 use crate::known::make_known;
 use crate::older::Older;
+use crate::pushes::push_one;
 use crate::shorts::{Short, Words, is_plain, short_index};
 use crate::unify::{compare_words, unify};
 use crate::walk::{Pending, Walk};
@@ -602,8 +603,7 @@ pub fn put_off(rests: &mut Vec<Rest>, rest: Rest) -> Result<(), Memory>
     if rest.count == 0 {
         return Ok(());
     }
-    rests.push(rest)?;
-    Ok(())
+    push_one(rests, rest)
 }
 
 /// The arguments that come next: those in hand, or else the last ones of the stack.

@@ -33,6 +33,7 @@ mod numbering;
 mod occurs;
 mod older;
 mod pace;
+mod pushes;
 mod reach;
 mod room;
 mod save;

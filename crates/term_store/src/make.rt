@@ -9,6 +9,7 @@ ghost use Rattle.term_store.specs.Making.{Made, with_args, with_number};
 
 use crate::cells::Cells;
 use crate::made_ground::{are_ground, mark_at};
+use crate::pushes::push_one;
 use crate::shorts::{Words, short_index};
 use crate::words::{Head, Place, Word};
 use pl_term::Memory;
@@ -25,7 +26,7 @@ pub fn make_variable(cells: &mut Cells, number: u64) -> Result<Word, Memory>
 {
     let slot = cells.numbers.len();
     cells.bonds.add()?;
-    match cells.numbers.push(number) {
+    match push_one(&mut cells.numbers, number) {
         Ok(()) => Ok(Word::Var(slot)),
         Err(_) => {
             cells.bonds.keep_first(slot);
@@ -159,7 +160,7 @@ fn push_head(
     if marked {
         mark_at(grounds, k)?;
     }
-    match heads.push(head) {
+    match push_one(heads, head) {
         Ok(()) => Ok(()),
         Err(_) => {
             grounds.truncate(k);

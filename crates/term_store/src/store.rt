@@ -140,6 +140,7 @@ impl Store {
 
     /// Undoes the bindings made since the mark, and gives back the cells taken since and all that was made since. The
     /// mark was taken in this store, and no earlier mark was gone back to since. It takes no memory.
+    #[inline(always)]
     pub fn undo_to(&mut self, mark: StoreMark)
         requires { IsMark mark self.old }
         ensures back { self.new ≡ back_to mark self.old }

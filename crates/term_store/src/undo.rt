@@ -13,6 +13,7 @@ use crate::ground_terms::forget_later;
 use crate::words::StoreMark;
 
 /// Gives back what was made and bound since the mark. It takes no memory.
+#[inline(always)]
 pub fn undo_to(cells: &mut Cells, mark: StoreMark)
     requires fit { IsFit cells.old }
     requires within { IsWithin mark (heap_of cells.old) }

@@ -2,6 +2,7 @@
 ghost use Rattle.std.specs.Prelude.{◌≡◌, ◌<◌, ◌++◌, ◌∷◌, [], length, set, take, slice_index_or, is_ok, if◌then◌else◌, Option, Some, None};
 ghost use Rattle.term_store.specs.Shorts.{IsPlain, IsShortValue, value_word};
 
+use crate::pushes::push_one;
 use crate::shorts::{Beyond, Short, forget_at, short_at, shortened, value_of};
 use crate::words::Word;
 use pl_term::Memory;
@@ -49,11 +50,11 @@ impl Values {
     }
 
     /// Adds an unbound variable. The only error is out of memory.
+    #[inline(always)]
     pub fn push_none(&mut self) -> Result<(), Memory>
         ensures { self.new ≡ (if is_ok result then self.old ++ None ∷ [] else self.old) }
     {
-        self.shorts.push(Short::Free)?;
-        Ok(())
+        push_one(&mut self.shorts, Short::Free)
     }
 
     /// Binds the variable of a slot. The only error is out of memory, which an integer beyond 32 bits may run out of, and a

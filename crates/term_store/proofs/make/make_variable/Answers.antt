@@ -36,16 +36,16 @@ returns-in-Ok-clause-fit c =
     let r = c.requires in
     record {
       fit =
-          subst (λ bs. Fit (record h { numbers = c.push.new.self.items; trail = bs })) (sym c.add.ensures.items)
+          subst (λ bs. Fit (record h { numbers = c.push_one.new.list.items; trail = bs })) (sym c.add.ensures.items)
           (subst (λ ns. Fit (record h { numbers = ns })) (sym c.in-Ok.ensures.items) (fit_number h c.args.number r.fit.fit r.above));
       cache =
-          subst (λ bs. IsCache c.add.new.self.values (record h { numbers = c.push.new.self.items; trail = bs })) (sym c.add.ensures.items)
+          subst (λ bs. IsCache c.add.new.self.values (record h { numbers = c.push_one.new.list.items; trail = bs })) (sym c.add.ensures.items)
           (subst (λ ns. IsCache c.add.new.self.values (record h { numbers = ns })) (sym c.in-Ok.ensures.items)
           (subst (λ vs. IsCache vs (record h { numbers = h.numbers ++ c.args.number ∷ [] })) (sym c.in_ok-add.ensures.values)
           (cache_number c.args.cells.now.bonds.values h c.args.number r.fit.cache r.fit.fit)));
       marks = record { long = r.fit.marks.long; parts = r.fit.marks.parts };
       settled =
-          subst (λ bs. AreGroundTerms c.args.cells.now.settled.list.items (record h { numbers = c.push.new.self.items; trail = bs })) (sym c.add.ensures.items)
+          subst (λ bs. AreGroundTerms c.args.cells.now.settled.list.items (record h { numbers = c.push_one.new.list.items; trail = bs })) (sym c.add.ensures.items)
           (subst (λ ns. AreGroundTerms c.args.cells.now.settled.list.items (record h { numbers = ns })) (sym c.in-Ok.ensures.items)
           (settled_longer c.args.cells.now.settled.list.items h (with_number h c.args.number) r.fit.fit
           (longer_numbers h (with_number h c.args.number) (c.args.number ∷ []) refl) r.fit.settled));
