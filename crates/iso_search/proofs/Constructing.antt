@@ -1,5 +1,6 @@
 -- Goals by their names and the number of their arguments, read from a store.
-use Rattle.std.proofs.Common.{◌≡◌, ◌≢◌, ℕ, ℤ, suc, ◌<◌, ◌≤◌, Bool, true, false, cond, not, ◌&&◌, ◌==◌, nat_le, List, [], ◌∷◌, length, get_or, drop, codes, refl, sym, ap, ap₂, subst, ◌∙◌, arith, length-take, length-drop}
+use Rattle.std.proofs.Common.{◌≡◌, ◌≢◌, ℕ, ℤ, Option, Some, None, suc, ◌<◌, ◌≤◌, Bool, true, false, cond, not, ◌&&◌, ◌==◌, nat_le, List, [], ◌∷◌, length, get_or, drop, codes, refl, sym, ap, ap₂, subst, ◌∙◌, arith, length-take, length-drop}
+use Rattle.std.specs.Prelude.{IfSome}
 use Rattle.std.specs.Str.{bytes_eq}
 use Rattle.std.proofs.lemmas.List.{length-map}
 use Rattle.std.proofs.lemmas.Bool.{true≢false}
@@ -236,3 +237,8 @@ was_not false e = refl
 pub was : (b : Bool) → false ≡ not b → b ≡ true
 was true e = refl
 was false e = absurd (true≢false (sym e))
+
+-- What is asked for first, if it is there
+pub if_passing : (P Q : Construct → Type 0) (r : Option Construct) → ((k : Construct) → P k → Q k) → IfSome r P → IfSome r Q
+if_passing P Q (Some k) f h = f k h
+if_passing P Q None f h = tt

@@ -1,9 +1,10 @@
 //! Choice points.
-ghost use Rattle.std.specs.Prelude.{◌≡◌};
+ghost use Rattle.std.specs.Prelude.{◌≡◌, ◌∷◌, [], ◌++◌, OnErr, OnOk};
 ghost use Rattle.iso_search.specs.Collecting.{cells_held};
 
 use crate::copies::Collection;
 use crate::told::Line;
+use pl_term::Memory;
 use term_store::{Place, StoreMark};
 
 /// What clauses are tried for.
@@ -75,4 +76,29 @@ pub fn held_cells(alternative: &Alternative) -> u64
         Alternative::Findall { found, .. } => found.cells,
         _ => 0,
     }
+}
+
+/// Puts a choice point behind the others. The only error is out of memory.
+#[inline(always)]
+pub fn put_choice(choices: &mut Vec<ChoicePoint>, choice: ChoicePoint) -> Result<(), Memory>
+    ensures longer { OnOk result (choices.new.items ≡ choices.old.items ++ choice ∷ []) }
+    ensures kept { OnErr result (choices.new.items ≡ choices.old.items) }
+{
+    if choices.len() < choices.capacity() {
+        choices.push_reserved(choice);
+        Ok(())
+    } else {
+        make_room(choices, choice)
+    }
+}
+
+/// Does the same, where more room is to be made for it.
+#[cold]
+#[inline(never)]
+fn make_room(choices: &mut Vec<ChoicePoint>, choice: ChoicePoint) -> Result<(), Memory>
+    ensures longer { OnOk result (choices.new.items ≡ choices.old.items ++ choice ∷ []) }
+    ensures kept { OnErr result (choices.new.items ≡ choices.old.items) }
+{
+    choices.push(choice)?;
+    Ok(())
 }

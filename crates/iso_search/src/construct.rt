@@ -1,5 +1,5 @@
 //! Goals by their names and the number of their arguments.
-ghost use Rattle.std.specs.Prelude.{◌≡◌, ◌<◌};
+ghost use Rattle.std.specs.Prelude.{◌≡◌, ◌<◌, IfSome};
 ghost use Rattle.pl_term.specs.Tree.{compound};
 ghost use Rattle.pl_model.specs.Control.{construct, construct_of_two, or_else};
 ghost use Rattle.term_store.specs.Heap.{atom_name};
@@ -187,6 +187,7 @@ fn with_condition(
 }
 
 /// What a compound term is as a goal, by the number of its arguments. It is no call of its first argument.
+#[inline(always)]
 fn by_count(store: &Store, name: Atom, arguments: Arguments) -> Construct
     requires arguments { IsArguments store.now arguments }
     requires some { 0 < arguments.count }
@@ -223,7 +224,55 @@ pub fn construct_at(store: &Store, goal: Place) -> Construct
     }
 }
 
+/// What the goal at a place is, where it is `true`, a cut or a conjunction: these are asked for first, since they are the most of a
+/// body beside its calls.
+#[inline(always)]
+pub fn passing_at(store: &Store, goal: Place) -> Option<Construct>
+    requires { Holds store.now goal }
+    ensures inside { IfSome result (IsConstructIn store.now) }
+    ensures stands { IfSome result (λ k. (v : View) → IsView v → construction v store.now k ≡ construct (reads v store.now goal)) }
+{
+    match store.look(goal) {
+        Kind::Variable(_) => None,
+        Kind::Integer(_) => None,
+        Kind::Atom(name) => passing_atom(name),
+        Kind::Compound(name, arguments) => passing_compound(store, name, arguments),
+    }
+}
+
+/// The same of an atom.
+#[inline(always)]
+fn passing_atom(name: Atom) -> Option<Construct>
+    ensures inside { (s : Contents) → IfSome result (IsConstructIn s) }
+    ensures named { IfSome result (λ k. k ≡ atom_construct name) }
+{
+    if name == fixed::TRUE {
+        return Some(Construct::Succeeds);
+    }
+    if name == fixed::CUT {
+        return Some(Construct::Cuts);
+    }
+    None
+}
+
+/// The same of a compound term.
+#[inline(always)]
+fn passing_compound(store: &Store, name: Atom, arguments: Arguments) -> Option<Construct>
+    requires arguments { IsArguments store.now arguments }
+    requires some { 0 < arguments.count }
+    ensures inside { IfSome result (IsConstructIn store.now) }
+    ensures stands { IfSome result (λ k. (v : View) → IsView v → construction v store.now k
+        ≡ construct (spelled (text_of v.names) (compound (atom_name name) (arguments_at store.now arguments)))) }
+{
+    if name != fixed::COMMA {
+        return None;
+    }
+    let kind = of_compound(store, name, arguments);
+    Some(kind)
+}
+
 /// What a compound term is as a goal: `call/1` to `call/8` are calls of their first argument.
+#[inline(always)]
 fn of_compound(store: &Store, name: Atom, arguments: Arguments) -> Construct
     requires arguments { IsArguments store.now arguments }
     requires some { 0 < arguments.count }

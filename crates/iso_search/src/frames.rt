@@ -39,11 +39,39 @@ pub fn push_task(frames: &mut Vec<Frame>, task: Task, next: usize) -> Result<usi
     ensures longer { OnOk result (frames.new.items ≡ frames.old.items ++ record { task = task; continuation = next } ∷ []) }
     ensures kept { OnErr result (frames.new.items ≡ frames.old.items) }
 {
-    frames.push(Frame {
-        task,
-        continuation: next,
-    })?;
+    put_behind(
+        frames,
+        Frame {
+            task,
+            continuation: next,
+        },
+    )?;
     Ok(frames.len())
+}
+
+/// Puts a frame behind the others. The only error is out of memory.
+#[inline(always)]
+fn put_behind(frames: &mut Vec<Frame>, frame: Frame) -> Result<(), Memory>
+    ensures longer { OnOk result (frames.new.items ≡ frames.old.items ++ frame ∷ []) }
+    ensures kept { OnErr result (frames.new.items ≡ frames.old.items) }
+{
+    if frames.len() < frames.capacity() {
+        frames.push_reserved(frame);
+        Ok(())
+    } else {
+        make_room(frames, frame)
+    }
+}
+
+/// Does the same, where more room is to be made for it.
+#[cold]
+#[inline(never)]
+fn make_room(frames: &mut Vec<Frame>, frame: Frame) -> Result<(), Memory>
+    ensures longer { OnOk result (frames.new.items ≡ frames.old.items ++ frame ∷ []) }
+    ensures kept { OnErr result (frames.new.items ≡ frames.old.items) }
+{
+    frames.push(frame)?;
+    Ok(())
 }
 
 /// Puts a frame in the place of all frames from a number on, of which there is one.

@@ -8,7 +8,7 @@ ghost use Rattle.iso_search.specs.Held.{frames_held};
 ghost use Rattle.iso_search.specs.Reading.{View, reads, pending};
 ghost use Rattle.iso_search.specs.Searching.{IsWhole, node_of, choices_of};
 
-use crate::choices::{Alternative, ChoicePoint, held_cells};
+use crate::choices::{Alternative, ChoicePoint, held_cells, put_choice};
 use crate::frames::{Frame, Task, push_task, put_frame};
 use pl_term::Memory;
 use term_store::{Place, Store};
@@ -118,6 +118,7 @@ impl Search {
     }
 
     /// Cuts the choice points away that stand above the height (ISO 7.8.4).
+    #[inline(always)]
     pub fn cut_to(&mut self, height: usize)
         requires { IsWhole self.old }
         ensures whole { IsWhole self.new }
@@ -188,12 +189,12 @@ impl Search {
     {
         let mark = self.store.mark();
         let frames = self.frames.len();
-        self.choices.push(ChoicePoint {
+        let choice = ChoicePoint {
             alternative,
             next,
             frames,
             mark,
-        })?;
-        Ok(())
+        };
+        put_choice(&mut self.choices, choice)
     }
 }
