@@ -8,13 +8,14 @@ use Rattle.std.specs.declared.cmp.Ordering.{Ordering}
 use Rattle.std.specs.declared.cmp.Ordering.TheVariants.{Less, Equal, Greater}
 use Rattle.std.specs.Map.{lookup, remove_entry, values_of, keys_of}
 use Rattle.std.specs.List.Sorted.{IsStrictlySortedBy}
-use Rattle.std.specs.BTreeMap as tree
 use Rattle.std.specs.BTreeSet as set
-use Rattle.std.specs.BTreeMap.{BTreeMap, insert_entry, is_at}
+use Rattle.std.specs.BTreeMap.{insert_entry, is_at}
 use Rattle.std.proofs.lemmas.Bool.{ne_eqb, false≢true}
 use Rattle.std.proofs.lemmas.Bool.Decides.{eqb_tells}
 use Rattle.std.proofs.lemmas.Map.Entries.{sum_by-insert_entry}
 use borrow.Author.Tests.{eqb-true}
+use Rattle.gen_core.specs.NumberMaps.{ByNumber}
+use Rattle.gen_core.specs.NumberMaps as numbers
 use Rattle.gen_core.specs.declared.dated_clause.DatedClause.{DatedClause}
 use Rattle.gen_core.specs.declared.clause_index.Entry.{Entry}
 use Rattle.gen_core.specs.declared.clause_index.ClauseIndex.{ClauseIndex}
@@ -49,9 +50,9 @@ module _ {C K : Type 0} (order : K → K → Ordering) (any : K → Bool) (key_o
     (numbered : IsNumbered number place)
     (free : (p : ℕ) → IsNumbered p place → dated_at old.clauses p ≡ None)
     (keyed : key ≡ key_of clause)
-    (ordered : tree.IsOrdered nat_cmp new.clauses)
+    (ordered : numbers.IsOrdered new.clauses)
     (entries : new.clauses.entries ≡ insert_entry nat_cmp old.clauses.entries number (record { dated = fresh place clause; key = key }))
-    (gets : (q : ℕ) → tree.get nat_cmp new.clauses q ≡ cond (is_eq (nat_cmp number q)) (Some (record { dated = fresh place clause; key = key })) (tree.get nat_cmp old.clauses q))
+    (gets : (q : ℕ) → numbers.get new.clauses q ≡ cond (is_eq (nat_cmp number q)) (Some (record { dated = fresh place clause; key = key })) (numbers.get old.clauses q))
     (lists : Lists order any key number old new)
     (erased : new.erased ≡ old.erased)
   where
@@ -62,31 +63,31 @@ module _ {C K : Type 0} (order : K → K → Ordering) (any : K → Bool) (key_o
     none None e = refl
     none (Some x) e = absurd (cc)
 
-    absent : (p : ℕ) → IsNumbered p place → tree.get nat_cmp old.clauses p ≡ None
-    absent p n = none (tree.get nat_cmp old.clauses p) (free p n)
+    absent : (p : ℕ) → IsNumbered p place → numbers.get old.clauses p ≡ None
+    absent p n = none (numbers.get old.clauses p) (free p n)
 
-    get-new : (q : ℕ) → tree.get nat_cmp new.clauses q ≡ cond (q == number) (Some entry) (tree.get nat_cmp old.clauses q)
-    get-new q = gets q ∙ ap (λ b. cond b (Some entry) (tree.get nat_cmp old.clauses q)) (is_at-number number q)
+    get-new : (q : ℕ) → numbers.get new.clauses q ≡ cond (q == number) (Some entry) (numbers.get old.clauses q)
+    get-new q = gets q ∙ ap (λ b. cond b (Some entry) (numbers.get old.clauses q)) (is_at-number number q)
 
     by_test : (t : DatedClause C → Bool) (q : ℕ) (b : Bool) → (q == number) ≡ b → (a : Bool) → a ≡ ((t (fresh place clause) && b) || holds old.clauses t q) → a ≡ holds new.clauses t q
     by_test t q true h a e =
         let at : q ≡ number = eqb-true q number h in
         let was : holds old.clauses t q ≡ false = ap (λ p. holds old.clauses t p) at ∙ ap (λ o. option_map_or t o false) (free number numbered) in
-        let is : holds new.clauses t q ≡ t (fresh place clause) = ap (λ o. option_map_or t (option_map (λ e. e.dated) o) false) (get-new q ∙ ap (λ b. cond b (Some entry) (tree.get nat_cmp old.clauses q)) h) in
+        let is : holds new.clauses t q ≡ t (fresh place clause) = ap (λ o. option_map_or t (option_map (λ e. e.dated) o) false) (get-new q ∙ ap (λ b. cond b (Some entry) (numbers.get old.clauses q)) h) in
         e ∙ ap (λ b. (t (fresh place clause) && true) || b) was ∙ both (t (fresh place clause)) ∙ sym is
       where
         both : (b : Bool) → ((b && true) || false) ≡ b
         both true = refl
         both false = refl
     by_test t q false h a e =
-        let is : holds new.clauses t q ≡ holds old.clauses t q = ap (λ o. option_map_or t (option_map (λ e. e.dated) o) false) (get-new q ∙ ap (λ b. cond b (Some entry) (tree.get nat_cmp old.clauses q)) h) in
+        let is : holds new.clauses t q ≡ holds old.clauses t q = ap (λ o. option_map_or t (option_map (λ e. e.dated) o) false) (get-new q ∙ ap (λ b. cond b (Some entry) (numbers.get old.clauses q)) h) in
         e ∙ neither (t (fresh place clause)) (holds old.clauses t q) ∙ sym is
       where
         neither : (b c : Bool) → ((b && false) || c) ≡ c
         neither true c = refl
         neither false c = refl
 
-    numbered-new : (q : ℕ) (b : Bool) → (q == number) ≡ b → IfSome (tree.get nat_cmp new.clauses q) (λ e. IsNumbered q e.dated.place × (e.key ≡ key_of e.dated.clause))
+    numbered-new : (q : ℕ) (b : Bool) → (q == number) ≡ b → IfSome (numbers.get new.clauses q) (λ e. IsNumbered q e.dated.place × (e.key ≡ key_of e.dated.clause))
     numbered-new q true h =
         let at : q ≡ number = eqb-true q number h in
         rw (get-new q, h) (subst (λ p. IsNumbered p place) (sym at) numbered, keyed)
@@ -100,10 +101,10 @@ module _ {C K : Type 0} (order : K → K → Ordering) (any : K → Bool) (key_o
     other_last p l n =
         ne_eqb (last_number p) number (λ h. elim numbered.is [ inl e ↦ absurd (omega arith) | inr e ↦ n (omega arith) ])
 
-    as_old : (q : ℕ) → (q == number) ≡ false → tree.get nat_cmp new.clauses q ≡ tree.get nat_cmp old.clauses q
-    as_old q h = get-new q ∙ ap (λ b. cond b (Some entry) (tree.get nat_cmp old.clauses q)) h
+    as_old : (q : ℕ) → (q == number) ≡ false → numbers.get new.clauses q ≡ numbers.get old.clauses q
+    as_old q h = get-new q ∙ ap (λ b. cond b (Some entry) (numbers.get old.clauses q)) h
 
-    once-own : (p : ℕ) (b : Bool) → p ≡ place → p < 562949953421312 → (first_number p == number) ≡ b → IsSome (tree.get nat_cmp new.clauses (first_number p)) → tree.get nat_cmp new.clauses (last_number p) ≡ None
+    once-own : (p : ℕ) (b : Bool) → p ≡ place → p < 562949953421312 → (first_number p == number) ≡ b → IsSome (numbers.get new.clauses (first_number p)) → numbers.get new.clauses (last_number p) ≡ None
     once-own p true e l h some =
         let f : first_number p ≡ number = eqb-true (first_number p) number h in
         let n : (last_number p == number) ≡ false = ne_eqb (last_number p) number (λ x. omega arith) in
@@ -111,17 +112,17 @@ module _ {C K : Type 0} (order : K → K → Ordering) (any : K → Bool) (key_o
     once-own p false e l h some =
         absurd (false≢true (subst IsSome (as_old (first_number p) h ∙ absent (first_number p) (record { below = numbered.below; is = inl (ap first_number e) })) some))
 
-    once-new : (p : ℕ) → p < 562949953421312 → IsSome (tree.get nat_cmp new.clauses (first_number p)) → tree.get nat_cmp new.clauses (last_number p) ≡ None
+    once-new : (p : ℕ) → p < 562949953421312 → IsSome (numbers.get new.clauses (first_number p)) → numbers.get new.clauses (last_number p) ≡ None
     once-new p l some = elim (eqb_tells p place) [
       | inl h ↦ once-own p (first_number p == number) h.1 l refl some
       | inr h ↦ as_old (last_number p) (other_last p l h.1) ∙ sound.once p l (subst IsSome (as_old (first_number p) (other_first p l h.1)) some)
     ]
 
-    gone-new : set.btree_set_len new.erased ≡ sum_by (λ e. counted e.dated) (tree.values new.clauses)
+    gone-new : set.btree_set_len new.erased ≡ sum_by (λ e. counted e.dated) (numbers.values new.clauses)
     gone-new =
         let l = sum_by-insert_entry (λ (e : Entry C K). counted e.dated) nat_cmp_total old.clauses.entries number entry sound.ordered in
-        let a : unwrap_or (option_map (λ (e : Entry C K). counted e.dated) (tree.get nat_cmp old.clauses number)) 0 ≡ 0 = ap (λ o. unwrap_or (option_map (λ (e : Entry C K). counted e.dated) o) 0) (absent number numbered) in
-        let b : sum_by (λ e. counted e.dated) (tree.values new.clauses) ≡ sum_by (λ e. counted e.dated) (values_of (insert_entry nat_cmp old.clauses.entries number entry)) = ap (λ es. sum_by (λ (e : Entry C K). counted e.dated) (values_of es)) entries in
+        let a : unwrap_or (option_map (λ (e : Entry C K). counted e.dated) (numbers.get old.clauses number)) 0 ≡ 0 = ap (λ o. unwrap_or (option_map (λ (e : Entry C K). counted e.dated) o) 0) (absent number numbered) in
+        let b : sum_by (λ e. counted e.dated) (numbers.values new.clauses) ≡ sum_by (λ e. counted e.dated) (values_of (insert_entry nat_cmp old.clauses.entries number entry)) = ap (λ es. sum_by (λ (e : Entry C K). counted e.dated) (values_of es)) entries in
         ap set.btree_set_len erased ∙ sound.gone_is ∙ omega (arith, l, a, b)
 
     pub sound_added : IsSound order any key_of new
@@ -158,9 +159,9 @@ sound_same {C} {K} order any key_of old new sound e lists erased = record {
 pub sound_put : {C K : Type 0} (order : K → K → Ordering) (any : K → Bool) (key_of : C → K) (old mid new : ClauseIndex C K) (number place : ℕ) (clause : C) (key other : K)
     → IsSound order any key_of old → IsNumbered number place → ((p : ℕ) → IsNumbered p place → dated_at old.clauses p ≡ None)
     → key ≡ key_of clause → other ≡ key_of clause
-    → tree.IsOrdered nat_cmp mid.clauses
+    → numbers.IsOrdered mid.clauses
     → mid.clauses.entries ≡ insert_entry nat_cmp old.clauses.entries number (record { dated = fresh place clause; key = key })
-    → tree.Updates nat_cmp old.clauses mid.clauses number (Some (record { dated = fresh place clause; key = key }))
+    → numbers.Updates old.clauses mid.clauses number (Some (record { dated = fresh place clause; key = key }))
     → (mid.index ≡ old.index) × (mid.any ≡ old.any) × (mid.erased ≡ old.erased)
     → (new.clauses ≡ mid.clauses) × (new.erased ≡ mid.erased)
     → Lists order any other number mid new
@@ -168,9 +169,9 @@ pub sound_put : {C K : Type 0} (order : K → K → Ordering) (any : K → Bool)
 sound_put {C} {K} order any key_of old mid new number place clause key other sound numbered free keyed others ordered entries updates put list lists =
     sound_added
     order any key_of old new number place clause key sound numbered free keyed
-    (subst (tree.IsOrdered nat_cmp) (sym list.0) ordered)
+    (subst (numbers.IsOrdered) (sym list.0) ordered)
     (ap (λ m. m.entries) list.0 ∙ entries)
-    (λ q. ap (λ m. tree.get nat_cmp m q) list.0 ∙ updates.0 q)
+    (λ q. ap (λ m. numbers.get m q) list.0 ∙ updates.0 q)
     (record {
       by_key = λ k q. lists.by_key k q ∙ ap₂ (λ x i. ((not (any x) && is_eq (order k x)) && (q == number)) || is_listed order i.by_key k q) (others ∙ sym keyed) put.0;
       by_any = λ q. lists.by_any q ∙ ap₂ (λ x i. (any x && (q == number)) || set.contains nat_cmp i q) (others ∙ sym keyed) put.1;
@@ -178,16 +179,16 @@ sound_put {C} {K} order any key_of old mid new number place clause key other sou
     (list.1 ∙ put.2)
 
 -- A clause put on a number, and taken out since it was not listed.
-pub entries_back : {C K : Type 0} (order : K → K → Ordering) (old mid new : BTreeMap ℕ (Entry C K)) (last : BTreeMap ℕ (Entry C K)) (number : ℕ) (e : Entry C K)
+pub entries_back : {C K : Type 0} (order : K → K → Ordering) (old mid new : ByNumber (Entry C K)) (last : ByNumber (Entry C K)) (number : ℕ) (e : Entry C K)
     → dated_at old number ≡ None
     → mid.entries ≡ insert_entry nat_cmp old.entries number e
     → new ≡ mid
     → last.entries ≡ remove_entry (is_at (nat_cmp number)) new.entries
     → last.entries ≡ old.entries
 entries_back {C} {K} order old mid new last number e free entries same removed =
-    removed ∙ ap (λ (m : BTreeMap ℕ (Entry C K)). remove_entry (is_at (nat_cmp number)) m.entries) same
+    removed ∙ ap (λ (m : ByNumber (Entry C K)). remove_entry (is_at (nat_cmp number)) m.entries) same
     ∙ ap (remove_entry (is_at (nat_cmp number))) entries
-    ∙ remove_entry-insert_entry nat_cmp number (is_at-number number number ∙ eq-eqb number number refl) old.entries e (none_from (tree.get nat_cmp old number) free)
+    ∙ remove_entry-insert_entry nat_cmp number (is_at-number number number ∙ eq-eqb number number refl) old.entries e (none_from (numbers.get old number) free)
   where
     none_from : (o : Option (Entry C K)) → option_map (λ x. x.dated) o ≡ None → o ≡ None
     none_from None x = refl

@@ -8,7 +8,6 @@ use Rattle.std.specs.Ordering.{is_eq, eq_by_cmp, nat_cmp}
 use Rattle.std.specs.Cmp.{IsTotalOrder, eq_by_cmp_equiv, nat_cmp_total, nat_eq_equiv, on_total, then_total}
 use Rattle.std.specs.declared.cmp.Ordering.{Ordering}
 use Rattle.std.specs.Map.{lookup, values_of, keys_of}
-use Rattle.std.specs.BTreeMap as tree
 use Rattle.std.specs.BTreeSet as set
 use Rattle.std.specs.BTreeMap.{is_at}
 use Rattle.std.proofs.lemmas.Bool.{ne_eqb}
@@ -17,6 +16,7 @@ use borrow.Author.Tests.{eqb-true}
 use Rattle.std.proofs.lemmas.Map.Keys.{sorted_tail}
 use Rattle.std.proofs.lemmas.Map.Made.{lookup-map_values, distinct_count-from_IsDistinct}
 use Rattle.std.proofs.lemmas.Map.Views.{btree_set_len-from_list}
+use Rattle.gen_core.specs.NumberMaps as numbers
 use Rattle.gen_core.specs.declared.dated_clause.DatedClause.{DatedClause}
 use Rattle.gen_core.specs.declared.clause_index.Entry.{Entry}
 use Rattle.gen_core.specs.declared.clause_index.ClauseIndex.{ClauseIndex}
@@ -150,13 +150,13 @@ module _ {C K : Type 0} (place : ℕ) where
 
 module _ {C K : Type 0} (order : K → K → Ordering) (any : K → Bool) (key_of : C → K) (old new : ClauseIndex C K) (place : ℕ)
     (sound : IsSound order any key_of old)
-    (ordered : tree.IsOrdered nat_cmp new.clauses)
+    (ordered : numbers.IsOrdered new.clauses)
     (entries : new.clauses.entries ≡ map (λ e. (e.0, marked_all place e.1)) old.clauses.entries)
     (by_key : new.index ≡ old.index)
     (by_any : new.any ≡ old.any)
     (erased : set.IsFromIterResult pair_order (map (erasure place) old.clauses.entries) new.erased)
   where
-    get-all : (q : ℕ) → tree.get nat_cmp new.clauses q ≡ option_map (marked_all place) (tree.get nat_cmp old.clauses q)
+    get-all : (q : ℕ) → numbers.get new.clauses q ≡ option_map (marked_all place) (numbers.get old.clauses q)
     get-all q = ap (lookup (is_at (nat_cmp q))) entries ∙ lookup-map_values (marked_all place) (is_at (nat_cmp q)) old.clauses.entries
 
     abbrev Fits : ℕ → Entry C K → Type 0
@@ -168,7 +168,7 @@ module _ {C K : Type 0} (order : K → K → Ordering) (any : K → Bool) (key_o
 
     -- A test that does not read the erasure answers as before.
     as_before : (t : DatedClause C → Bool) → ((d : DatedClause C) → t (erased_all place d) ≡ t d) → (q : ℕ) → holds old.clauses t q ≡ holds new.clauses t q
-    as_before t same q = go (tree.get nat_cmp old.clauses q) ∙ ap (λ o. option_map_or t (option_map (λ (e : Entry C K). e.dated) o) false) (sym (get-all q))
+    as_before t same q = go (numbers.get old.clauses q) ∙ ap (λ o. option_map_or t (option_map (λ (e : Entry C K). e.dated) o) false) (sym (get-all q))
       where
         go : (o : Option (Entry C K)) → option_map_or t (option_map (λ (e : Entry C K). e.dated) o) false ≡ option_map_or t (option_map (λ (e : Entry C K). e.dated) (option_map (marked_all place) o)) false
         go None = refl
@@ -181,14 +181,14 @@ module _ {C K : Type 0} (order : K → K → Ordering) (any : K → Bool) (key_o
     erased_listed : (k q : ℕ) → set.contains pair_order new.erased (k, q) ≡ holds new.clauses (is_erased_at k) q
     erased_listed k q =
         erased.0 (k, q) ∙ listed_all place k q old.clauses.entries sound.ordered
-        ∙ go (tree.get nat_cmp old.clauses q)
+        ∙ go (numbers.get old.clauses q)
         ∙ ap (λ o. option_map_or (is_erased_at k) (option_map (λ (e : Entry C K). e.dated) o) false) (sym (get-all q))
       where
         go : (o : Option (Entry C K)) → option_map_or (at_all place k) o false ≡ option_map_or (is_erased_at k) (option_map (λ (e : Entry C K). e.dated) (option_map (marked_all place) o)) false
         go None = refl
         go (Some e) = refl
 
-    gone-all : set.btree_set_len new.erased ≡ sum_by (λ e. counted e.dated) (tree.values new.clauses)
+    gone-all : set.btree_set_len new.erased ≡ sum_by (λ e. counted e.dated) (numbers.values new.clauses)
     gone-all =
         btree_set_len-from_list pairs_total (map (erasure place) old.clauses.entries) new.erased erased
         ∙ distinct_count-from_IsDistinct (eq_by_cmp_equiv pairs_total) (map (erasure place) old.clauses.entries) (distinct_all place old.clauses.entries sound.ordered)
@@ -198,8 +198,8 @@ module _ {C K : Type 0} (order : K → K → Ordering) (any : K → Bool) (key_o
     pub sound_all : IsSound order any key_of new
     sound_all = record {
       ordered = ordered;
-      numbered = λ q. subst (λ o. IfSome o (Fits q)) (sym (get-all q)) (fits-all q (tree.get nat_cmp old.clauses q) (sound.numbered q));
-      once = λ p l some. get-all (last_number p) ∙ ap (option_map (marked_all place)) (sound.once p l (some-all (tree.get nat_cmp old.clauses (first_number p)) (subst IsSome (get-all (first_number p)) some)));
+      numbered = λ q. subst (λ o. IfSome o (Fits q)) (sym (get-all q)) (fits-all q (numbers.get old.clauses q) (sound.numbered q));
+      once = λ p l some. get-all (last_number p) ∙ ap (option_map (marked_all place)) (sound.once p l (some-all (numbers.get old.clauses (first_number p)) (subst IsSome (get-all (first_number p)) some)));
       listed = λ k q. ap (λ i. is_listed order i.by_key k q) by_key ∙ sound.listed k q
           ∙ as_before (λ d. not (any (key_of d.clause)) && is_eq (order k (key_of d.clause))) (λ d. ap (λ c. not (any (key_of c)) && is_eq (order k (key_of c))) (clause-all place d)) q;
       listed_any = λ q. ap (λ s. set.contains nat_cmp s q) by_any ∙ sound.listed_any q ∙ as_before (λ d. any (key_of d.clause)) (λ d. ap (λ c. any (key_of c)) (clause-all place d)) q;

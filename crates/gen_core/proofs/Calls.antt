@@ -9,12 +9,12 @@ use Rattle.std.specs.Cmp.{nat_cmp_is}
 use Rattle.std.specs.declared.cmp.Ordering.{Ordering}
 use Rattle.std.specs.declared.cmp.Ordering.TheVariants.{Less, Equal, Greater}
 use Rattle.std.specs.declared.ops.Bound.TheVariants.{Included, Unbounded}
-use Rattle.std.specs.BTreeMap.{BTreeMap}
 use Rattle.std.specs.BTreeMap.Range.{range_contains, entries_between}
 use Rattle.std.proofs.lemmas.Bool.{cases_lt}
 use Rattle.std.proofs.lemmas.List.{map-append}
 use Rattle.std.proofs.lemmas.List.Elements.{filter-append}
 use borrow.Author.Tests.{lt-ltb}
+use Rattle.gen_core.specs.NumberMaps.{ByNumber}
 use Rattle.gen_core.specs.declared.dated_clause.DatedClause.{DatedClause}
 use Rattle.gen_core.specs.declared.clause_index.Entry.{Entry}
 use Rattle.gen_core.specs.Visible.{is_visible, is_choice, first_choice}
@@ -60,7 +60,7 @@ module _ {C : Type 0} where
   pub shown_is : (d : DatedClause C) (p : ℕ) (c : C) (m more : Bool) → (p ≡ d.place) × (c ≡ d.clause) × (m ≡ more) → Some (p, c, m) ≡ shown d more
   shown_is d p c m more e = ap (λ q. Some (q, c, m)) e.0 ∙ ap (λ y. Some (d.place, y, m)) e.1 ∙ ap (λ b. Some (d.place, d.clause, b)) e.2
 
-  pub shown_at : {K : Type 0} (m : BTreeMap ℕ (Entry C K)) (n : ℕ) (d : DatedClause C) (more : Bool) → dated_at m n ≡ Some d → shown d more ≡ option_map (λ d. (d.place, d.clause, more)) (dated_at m n)
+  pub shown_at : {K : Type 0} (m : ByNumber (Entry C K)) (n : ℕ) (d : DatedClause C) (more : Bool) → dated_at m n ≡ Some d → shown d more ≡ option_map (λ d. (d.place, d.clause, more)) (dated_at m n)
   shown_at m n d more at = ap (option_map (λ d. (d.place, d.clause, more))) (sym at)
 
 -- ---- the entries of a range, read from its front
@@ -75,7 +75,7 @@ module _ {X C K : Type 0} (read : X → ℕ × Entry C K) where
   joined (x ∷ xs) es = ap (λ ds. (read x).1.dated ∷ ds) (joined xs es)
 
   -- Some are read, and x is the next one.
-  pub read_more : (n : ℕ) (m : BTreeMap ℕ (Entry C K)) (xs : List X) (s t u : List (ℕ × Entry C K)) (x : X)
+  pub read_more : (n : ℕ) (m : ByNumber (Entry C K)) (xs : List X) (s t u : List (ℕ × Entry C K)) (x : X)
       → s ≡ entries_between nat_cmp (Included n) Unbounded m.entries → s ≡ map read xs ++ t → t ≡ read x ∷ u
       → clauses_from n m ≡ map (λ x. (read x).1.dated) xs ++ (read x).1.dated ∷ map (λ e. e.1.dated) u
   read_more n m xs s t u x start so next =
@@ -83,7 +83,7 @@ module _ {X C K : Type 0} (read : X → ℕ × Entry C K) where
       ∙ joined xs (read x ∷ u)
 
   -- All are read.
-  pub read_all : (n : ℕ) (m : BTreeMap ℕ (Entry C K)) (xs : List X) → map read xs ≡ entries_between nat_cmp (Included n) Unbounded m.entries → clauses_from n m ≡ map (λ x. (read x).1.dated) xs
+  pub read_all : (n : ℕ) (m : ByNumber (Entry C K)) (xs : List X) → map read xs ≡ entries_between nat_cmp (Included n) Unbounded m.entries → clauses_from n m ≡ map (λ x. (read x).1.dated) xs
   read_all n m xs h = ap (map (λ (e : ℕ × Entry C K). e.1.dated)) (sym (range_from n m.entries) ∙ sym h) ∙ mapped xs
 
   all_passing : (P : Entry C K → Type 0) (t : ℕ × Entry C K → Bool) (es : List (ℕ × Entry C K)) → AllByRecursion (λ e. P e.1) es → AllByRecursion (λ e. P e.1) (filter t es)
@@ -99,7 +99,7 @@ module _ {X C K : Type 0} (read : X → ℕ × Entry C K) where
   one_of P (x ∷ xs) y ys all = one_of P xs y ys all.1
 
   -- What holds of all entries holds of the next one that is read.
-  pub read_holds : (P : Entry C K → Type 0) (n : ℕ) (m : BTreeMap ℕ (Entry C K)) (xs : List X) (s t u : List (ℕ × Entry C K)) (x : X)
+  pub read_holds : (P : Entry C K → Type 0) (n : ℕ) (m : ByNumber (Entry C K)) (xs : List X) (s t u : List (ℕ × Entry C K)) (x : X)
       → AllByRecursion (λ e. P e.1) m.entries
       → s ≡ entries_between nat_cmp (Included n) Unbounded m.entries → s ≡ map read xs ++ t → t ≡ read x ∷ u
       → P (read x).1

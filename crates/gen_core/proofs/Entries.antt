@@ -60,7 +60,7 @@ module _ {X D : Type 0} (of : X → D) where
       ∙ ap (λ fs. e ∷ fs) (from_all n m es l h.1)
 
   -- No entry before these has the number.
-  lookup_above : (r m : ℕ) (es : List (ℕ × X)) → r ≤ m → AllByRecursion (λ e. m < e.0) es → lookup (is_at (nat_cmp r)) es ≡ None
+  pub lookup_above : (r m : ℕ) (es : List (ℕ × X)) → r ≤ m → AllByRecursion (λ e. m < e.0) es → lookup (is_at (nat_cmp r)) es ≡ None
   lookup_above r m [] l h = refl
   lookup_above r m (e ∷ es) l h =
       ap (λ o. cond (is_eq o) (Some e.1) (lookup (is_at (nat_cmp r)) es)) (less r e.0 (let p = h.0 in omega arith)) ∙ lookup_above r m es l h.1

@@ -8,13 +8,14 @@ use Rattle.std.specs.Cmp.{nat_cmp_is, unsigned_tied}
 use Rattle.std.specs.declared.cmp.Ordering.{Ordering}
 use Rattle.std.specs.declared.cmp.Ordering.TheVariants.{Less, Equal, Greater}
 use Rattle.std.specs.Map.{remove_entry, set_value, values_of}
-use Rattle.std.specs.BTreeMap as tree
 use Rattle.std.specs.BTreeSet as set
-use Rattle.std.specs.BTreeMap.{BTreeMap, is_at}
+use Rattle.std.specs.BTreeMap.{is_at}
 use Rattle.std.specs.BTreeSet.{BTreeSet}
 use Rattle.std.proofs.lemmas.Bool.{false≢true, cases_lt}
 use Rattle.std.proofs.lemmas.Map.Entries.{sum_by-remove_entry, sum_by-set_value}
 use borrow.Author.Tests.{eqb-true, lt-ltb}
+use Rattle.gen_core.specs.NumberMaps.{ByNumber}
+use Rattle.gen_core.specs.NumberMaps as numbers
 use Rattle.gen_core.specs.declared.dated_clause.DatedClause.{DatedClause}
 use Rattle.gen_core.specs.declared.clause_index.Entry.{Entry}
 use Rattle.gen_core.specs.declared.clause_index.ClauseIndex.{ClauseIndex}
@@ -52,7 +53,7 @@ is_at-pair a b k q = then_both (nat_cmp a k) (nat_cmp b q) ∙ ap₂ ◌&&◌ (u
 -- ---- the clause that was erased first
 
 -- A clause that no erasure below the floor lists is not droppable.
-pub not_droppable : {C K : Type 0} (m : BTreeMap ℕ (Entry C K)) (floor q : ℕ)
+pub not_droppable : {C K : Type 0} (m : ByNumber (Entry C K)) (floor q : ℕ)
     → ((k : ℕ) → holds m (is_erased_at k) q ≡ true → floor ≤ k)
     → holds m (is_droppable floor) q ≡ false
 not_droppable {C} m floor q h = go (dated_at m q) h
@@ -77,7 +78,7 @@ erased_is None k h = absurd (false≢true h)
 erased_is (Some j) k h = ap Some (eqb-true j k h)
 
 -- The place of the erasure of the clause on a number.
-pub erased_at : {C K : Type 0} (m : BTreeMap ℕ (Entry C K)) (k q : ℕ) (e : Entry C K) → tree.get nat_cmp m q ≡ Some e
+pub erased_at : {C K : Type 0} (m : ByNumber (Entry C K)) (k q : ℕ) (e : Entry C K) → numbers.get m q ≡ Some e
     → holds m (is_erased_at k) q ≡ true → e.dated.erased ≡ Some k
 erased_at m k q e at h =
     erased_is e.dated.erased k (ap (λ o. option_map_or (is_erased_at k) (option_map (λ x. x.dated) o) false) (sym at) ∙ h)
@@ -86,10 +87,10 @@ pub droppable_below : {C : Type 0} (d : DatedClause C) (k floor : ℕ) → d.era
 droppable_below d k floor e l = ap (λ o. option_map_or (λ j. nat_lt j floor) o false) e ∙ lt-ltb k floor l
 
 -- A clause on a number that is not erased.
-pub live_entry : {C K : Type 0} (m : BTreeMap ℕ (Entry C K)) (q : ℕ) → holds m is_live q ≡ true → (e : Entry C K) × (tree.get nat_cmp m q ≡ Some e) × (is_live e.dated ≡ true)
-live_entry {C} {K} m q h = go (tree.get nat_cmp m q) refl h
+pub live_entry : {C K : Type 0} (m : ByNumber (Entry C K)) (q : ℕ) → holds m is_live q ≡ true → (e : Entry C K) × (numbers.get m q ≡ Some e) × (is_live e.dated ≡ true)
+live_entry {C} {K} m q h = go (numbers.get m q) refl h
   where
-    go : (o : Option (Entry C K)) → tree.get nat_cmp m q ≡ o → option_map_or is_live (option_map (λ e. e.dated) o) false ≡ true → (e : Entry C K) × (tree.get nat_cmp m q ≡ Some e) × (is_live e.dated ≡ true)
+    go : (o : Option (Entry C K)) → numbers.get m q ≡ o → option_map_or is_live (option_map (λ e. e.dated) o) false ≡ true → (e : Entry C K) × (numbers.get m q ≡ Some e) × (is_live e.dated ≡ true)
     go None at n = absurd (false≢true n)
     go (Some e) at n = (e, at, n)
 
@@ -102,7 +103,7 @@ live_erased None k h = refl
 live_erased (Some j) k h = absurd (false≢true h)
 
 -- A clause that is not erased is erased at no place.
-pub live_unlisted : {C K : Type 0} (m : BTreeMap ℕ (Entry C K)) (k q : ℕ) → holds m is_live q ≡ true → holds m (is_erased_at k) q ≡ false
+pub live_unlisted : {C K : Type 0} (m : ByNumber (Entry C K)) (k q : ℕ) → holds m is_live q ≡ true → holds m (is_erased_at k) q ≡ false
 live_unlisted {C} m k q h = go (dated_at m q) h
   where
     go : (o : Option (DatedClause C)) → option_map_or is_live o false ≡ true → option_map_or (is_erased_at k) o false ≡ false
@@ -110,27 +111,27 @@ live_unlisted {C} m k q h = go (dated_at m q) h
     go (Some d) n = live_erased d.erased k n
 
 module _ {C K : Type 0} (order : K → K → Ordering) (any : K → Bool) (key_of : C → K) (old : ClauseIndex C K) (sound : IsSound order any key_of old) (number place : ℕ) (entry : Entry C K)
-    (was : tree.get nat_cmp old.clauses number ≡ Some entry)
+    (was : numbers.get old.clauses number ≡ Some entry)
   where
     -- What the clause on the number passes.
     holds-here : (t : DatedClause C → Bool) → holds old.clauses t number ≡ t entry.dated
     holds-here t = ap (λ o. option_map_or t (option_map (λ e. e.dated) o) false) was
 
     module _ (new : ClauseIndex C K)
-        (ordered : tree.IsOrdered nat_cmp new.clauses)
-        (gets : (q : ℕ) → tree.get nat_cmp new.clauses q ≡ cond (is_eq (nat_cmp number q)) None (tree.get nat_cmp old.clauses q))
+        (ordered : numbers.IsOrdered new.clauses)
+        (gets : (q : ℕ) → numbers.get new.clauses q ≡ cond (is_eq (nat_cmp number q)) None (numbers.get old.clauses q))
         (entries : new.clauses.entries ≡ remove_entry (is_at (nat_cmp number)) old.clauses.entries)
         (lists : Unlists order any entry.key number old new)
         (at : entry.dated.erased ≡ Some place)
         (erased : (k q : ℕ) → set.contains pair_order new.erased (k, q) ≡ cond (is_eq (pair_order (place, number) (k, q))) false (set.contains pair_order old.erased (k, q)))
         (fewer : set.btree_set_len new.erased + 1 ≡ set.btree_set_len old.erased)
       where
-        get-out : (q : ℕ) → tree.get nat_cmp new.clauses q ≡ cond (q == number) None (tree.get nat_cmp old.clauses q)
-        get-out q = gets q ∙ ap (λ b. cond b None (tree.get nat_cmp old.clauses q)) (is_at-number number q)
+        get-out : (q : ℕ) → numbers.get new.clauses q ≡ cond (q == number) None (numbers.get old.clauses q)
+        get-out q = gets q ∙ ap (λ b. cond b None (numbers.get old.clauses q)) (is_at-number number q)
 
         out : (t : DatedClause C → Bool) (q : ℕ) (b : Bool) → (q == number) ≡ b → holds new.clauses t q ≡ (not b && holds old.clauses t q)
-        out t q true h = ap (λ o. option_map_or t (option_map (λ e. e.dated) o) false) (get-out q ∙ ap (λ b. cond b None (tree.get nat_cmp old.clauses q)) h)
-        out t q false h = ap (λ o. option_map_or t (option_map (λ e. e.dated) o) false) (get-out q ∙ ap (λ b. cond b None (tree.get nat_cmp old.clauses q)) h)
+        out t q true h = ap (λ o. option_map_or t (option_map (λ e. e.dated) o) false) (get-out q ∙ ap (λ b. cond b None (numbers.get old.clauses q)) h)
+        out t q false h = ap (λ o. option_map_or t (option_map (λ e. e.dated) o) false) (get-out q ∙ ap (λ b. cond b None (numbers.get old.clauses q)) h)
 
         by_out : (t : DatedClause C → Bool) (q : ℕ) (b : Bool) → (q == number) ≡ b → (a : Bool) → a ≡ (not (t entry.dated && b) && holds old.clauses t q) → a ≡ holds new.clauses t q
         by_out t q true h a e =
@@ -149,16 +150,16 @@ module _ {C K : Type 0} (order : K → K → Ordering) (any : K → Bool) (key_o
         keyed : entry.key ≡ key_of entry.dated.clause
         keyed = let p : IfSome (Some entry) (λ e. IsNumbered number e.dated.place × (e.key ≡ key_of e.dated.clause)) = subst (λ o. IfSome o (λ e. IsNumbered number e.dated.place × (e.key ≡ key_of e.dated.clause))) was (sound.numbered number) in p.1
 
-        numbered-out : (q : ℕ) (b : Bool) → (q == number) ≡ b → IfSome (tree.get nat_cmp new.clauses q) (λ e. IsNumbered q e.dated.place × (e.key ≡ key_of e.dated.clause))
-        numbered-out q true h = subst (λ o. IfSome o (λ e. IsNumbered q e.dated.place × (e.key ≡ key_of e.dated.clause))) (sym (get-out q ∙ ap (λ b. cond b None (tree.get nat_cmp old.clauses q)) h)) tt
-        numbered-out q false h = subst (λ o. IfSome o (λ e. IsNumbered q e.dated.place × (e.key ≡ key_of e.dated.clause))) (sym (get-out q ∙ ap (λ b. cond b None (tree.get nat_cmp old.clauses q)) h)) (sound.numbered q)
+        numbered-out : (q : ℕ) (b : Bool) → (q == number) ≡ b → IfSome (numbers.get new.clauses q) (λ e. IsNumbered q e.dated.place × (e.key ≡ key_of e.dated.clause))
+        numbered-out q true h = subst (λ o. IfSome o (λ e. IsNumbered q e.dated.place × (e.key ≡ key_of e.dated.clause))) (sym (get-out q ∙ ap (λ b. cond b None (numbers.get old.clauses q)) h)) tt
+        numbered-out q false h = subst (λ o. IfSome o (λ e. IsNumbered q e.dated.place × (e.key ≡ key_of e.dated.clause))) (sym (get-out q ∙ ap (λ b. cond b None (numbers.get old.clauses q)) h)) (sound.numbered q)
 
-        once-at : (p : ℕ) (b c : Bool) → (first_number p == number) ≡ b → (last_number p == number) ≡ c → p < 562949953421312 → IsSome (tree.get nat_cmp new.clauses (first_number p)) → tree.get nat_cmp new.clauses (last_number p) ≡ None
-        once-at p b true h k l some = get-out (last_number p) ∙ ap (λ b. cond b None (tree.get nat_cmp old.clauses (last_number p))) k
-        once-at p true false h k l some = absurd (false≢true (subst IsSome (get-out (first_number p) ∙ ap (λ b. cond b None (tree.get nat_cmp old.clauses (first_number p))) h) some))
+        once-at : (p : ℕ) (b c : Bool) → (first_number p == number) ≡ b → (last_number p == number) ≡ c → p < 562949953421312 → IsSome (numbers.get new.clauses (first_number p)) → numbers.get new.clauses (last_number p) ≡ None
+        once-at p b true h k l some = get-out (last_number p) ∙ ap (λ b. cond b None (numbers.get old.clauses (last_number p))) k
+        once-at p true false h k l some = absurd (false≢true (subst IsSome (get-out (first_number p) ∙ ap (λ b. cond b None (numbers.get old.clauses (first_number p))) h) some))
         once-at p false false h k l some =
-            get-out (last_number p) ∙ ap (λ b. cond b None (tree.get nat_cmp old.clauses (last_number p))) k
-            ∙ sound.once p l (subst IsSome (get-out (first_number p) ∙ ap (λ b. cond b None (tree.get nat_cmp old.clauses (first_number p))) h) some)
+            get-out (last_number p) ∙ ap (λ b. cond b None (numbers.get old.clauses (last_number p))) k
+            ∙ sound.once p l (subst IsSome (get-out (first_number p) ∙ ap (λ b. cond b None (numbers.get old.clauses (first_number p))) h) some)
 
         erased-out : (k q : ℕ) → set.contains pair_order new.erased (k, q) ≡ holds new.clauses (is_erased_at k) q
         erased-out k q =
@@ -172,12 +173,12 @@ module _ {C K : Type 0} (order : K → K → Ordering) (any : K → Bool) (key_o
             outer true false z = refl
             outer false y z = refl
 
-        gone-out : set.btree_set_len new.erased ≡ sum_by (λ e. counted e.dated) (tree.values new.clauses)
+        gone-out : set.btree_set_len new.erased ≡ sum_by (λ e. counted e.dated) (numbers.values new.clauses)
         gone-out =
             let l = sum_by-remove_entry (λ (e : Entry C K). counted e.dated) (is_at (nat_cmp number)) old.clauses.entries in
-            let a : unwrap_or (option_map (λ (e : Entry C K). counted e.dated) (tree.get nat_cmp old.clauses number)) 0 ≡ 1 =
+            let a : unwrap_or (option_map (λ (e : Entry C K). counted e.dated) (numbers.get old.clauses number)) 0 ≡ 1 =
             ap (λ o. unwrap_or (option_map (λ (e : Entry C K). counted e.dated) o) 0) was ∙ ap (λ o. cond (is_some o) 1 0) at in
-            let b : sum_by (λ e. counted e.dated) (tree.values new.clauses) ≡ sum_by (λ e. counted e.dated) (values_of (remove_entry (is_at (nat_cmp number)) old.clauses.entries)) =
+            let b : sum_by (λ e. counted e.dated) (numbers.values new.clauses) ≡ sum_by (λ e. counted e.dated) (values_of (remove_entry (is_at (nat_cmp number)) old.clauses.entries)) =
             ap (λ es. sum_by (λ (e : Entry C K). counted e.dated) (values_of es)) entries in
             let s = sound.gone_is in
             omega (arith, l, a, b, s, fewer)
@@ -197,16 +198,16 @@ module _ {C K : Type 0} (order : K → K → Ordering) (any : K → Bool) (key_o
 
     module _ (new : ClauseIndex C K)
         (live : is_live entry.dated ≡ true)
-        (ordered : tree.IsOrdered nat_cmp new.clauses)
-        (gets : (q : ℕ) → tree.get nat_cmp new.clauses q ≡ cond (q == number) (option_map (marked place) (tree.get nat_cmp old.clauses number)) (tree.get nat_cmp old.clauses q))
+        (ordered : numbers.IsOrdered new.clauses)
+        (gets : (q : ℕ) → numbers.get new.clauses q ≡ cond (q == number) (option_map (marked place) (numbers.get old.clauses number)) (numbers.get old.clauses q))
         (entries : new.clauses.entries ≡ set_value (is_at (nat_cmp number)) old.clauses.entries (marked place entry))
         (by_key : new.index ≡ old.index)
         (by_any : new.any ≡ old.any)
         (erased : (k q : ℕ) → set.contains pair_order new.erased (k, q) ≡ cond (is_eq (pair_order (place, number) (k, q))) true (set.contains pair_order old.erased (k, q)))
         (more : set.btree_set_len new.erased ≡ set.btree_set_len old.erased + 1)
       where
-        get-marked : (q : ℕ) (b : Bool) → (q == number) ≡ b → tree.get nat_cmp new.clauses q ≡ cond b (Some (marked place entry)) (tree.get nat_cmp old.clauses q)
-        get-marked q b h = gets q ∙ ap₂ (λ x o. cond x (option_map (marked place) o) (tree.get nat_cmp old.clauses q)) h was
+        get-marked : (q : ℕ) (b : Bool) → (q == number) ≡ b → numbers.get new.clauses q ≡ cond b (Some (marked place entry)) (numbers.get old.clauses q)
+        get-marked q b h = gets q ∙ ap₂ (λ x o. cond x (option_map (marked place) o) (numbers.get old.clauses q)) h was
 
         -- A test that does not read the erasure answers as before.
         as_before : (t : DatedClause C → Bool) → t (marked place entry).dated ≡ t entry.dated → (q : ℕ) (b : Bool) → (q == number) ≡ b → holds old.clauses t q ≡ holds new.clauses t q
@@ -215,19 +216,19 @@ module _ {C K : Type 0} (order : K → K → Ordering) (any : K → Bool) (key_o
             ∙ sym (ap (λ o. option_map_or t (option_map (λ x. x.dated) o) false) (get-marked q true h))
         as_before t e q false h = sym (ap (λ o. option_map_or t (option_map (λ x. x.dated) o) false) (get-marked q false h))
 
-        numbered-marked : (q : ℕ) (b : Bool) → (q == number) ≡ b → IfSome (tree.get nat_cmp new.clauses q) (λ e. IsNumbered q e.dated.place × (e.key ≡ key_of e.dated.clause))
+        numbered-marked : (q : ℕ) (b : Bool) → (q == number) ≡ b → IfSome (numbers.get new.clauses q) (λ e. IsNumbered q e.dated.place × (e.key ≡ key_of e.dated.clause))
         numbered-marked q true h =
             let p : IfSome (Some entry) (λ e. IsNumbered number e.dated.place × (e.key ≡ key_of e.dated.clause)) = subst (λ o. IfSome o (λ e. IsNumbered number e.dated.place × (e.key ≡ key_of e.dated.clause))) was (sound.numbered number) in
             subst (λ o. IfSome o (λ e. IsNumbered q e.dated.place × (e.key ≡ key_of e.dated.clause))) (sym (get-marked q true h)) (subst (λ n. IsNumbered n entry.dated.place) (sym (eqb-true q number h)) p.0, p.1)
         numbered-marked q false h = subst (λ o. IfSome o (λ e. IsNumbered q e.dated.place × (e.key ≡ key_of e.dated.clause))) (sym (get-marked q false h)) (sound.numbered q)
 
-        some-marked : (q : ℕ) (b : Bool) → (q == number) ≡ b → IsSome (tree.get nat_cmp new.clauses q) → IsSome (tree.get nat_cmp old.clauses q)
-        some-marked q true h some = subst (λ n. IsSome (tree.get nat_cmp old.clauses n)) (sym (eqb-true q number h)) (subst IsSome (sym was) refl)
+        some-marked : (q : ℕ) (b : Bool) → (q == number) ≡ b → IsSome (numbers.get new.clauses q) → IsSome (numbers.get old.clauses q)
+        some-marked q true h some = subst (λ n. IsSome (numbers.get old.clauses n)) (sym (eqb-true q number h)) (subst IsSome (sym was) refl)
         some-marked q false h some = subst IsSome (get-marked q false h) some
 
-        none-marked : (q : ℕ) (b : Bool) → (q == number) ≡ b → tree.get nat_cmp old.clauses q ≡ None → tree.get nat_cmp new.clauses q ≡ None
+        none-marked : (q : ℕ) (b : Bool) → (q == number) ≡ b → numbers.get old.clauses q ≡ None → numbers.get new.clauses q ≡ None
         none-marked q true h none =
-            let e : Some entry ≡ None = sym was ∙ ap (tree.get nat_cmp old.clauses) (sym (eqb-true q number h)) ∙ none in absurd (cc e)
+            let e : Some entry ≡ None = sym was ∙ ap (numbers.get old.clauses) (sym (eqb-true q number h)) ∙ none in absurd (cc e)
         none-marked q false h none = get-marked q false h ∙ none
 
         erased-marked : (k q : ℕ) (b : Bool) → (q == number) ≡ b → set.contains pair_order new.erased (k, q) ≡ holds new.clauses (is_erased_at k) q
@@ -250,12 +251,12 @@ module _ {C K : Type 0} (order : K → K → Ordering) (any : K → Bool) (key_o
             other true y = refl
             other false y = refl
 
-        gone-marked : set.btree_set_len new.erased ≡ sum_by (λ e. counted e.dated) (tree.values new.clauses)
+        gone-marked : set.btree_set_len new.erased ≡ sum_by (λ e. counted e.dated) (numbers.values new.clauses)
         gone-marked =
             let none : entry.dated.erased ≡ None = live_none entry.dated.erased live in
             let l = sum_by-set_value (λ (e : Entry C K). counted e.dated) (is_at (nat_cmp number)) old.clauses.entries entry (marked place entry) was in
             let a : counted entry.dated ≡ 0 = ap (λ o. cond (is_some o) 1 0) none in
-            let b : sum_by (λ e. counted e.dated) (tree.values new.clauses) ≡ sum_by (λ e. counted e.dated) (values_of (set_value (is_at (nat_cmp number)) old.clauses.entries (marked place entry))) =
+            let b : sum_by (λ e. counted e.dated) (numbers.values new.clauses) ≡ sum_by (λ e. counted e.dated) (values_of (set_value (is_at (nat_cmp number)) old.clauses.entries (marked place entry))) =
             ap (λ es. sum_by (λ (e : Entry C K). counted e.dated) (values_of es)) entries in
             let s = sound.gone_is in
             omega (arith, l, a, b, s, more)
@@ -277,7 +278,7 @@ pub length_out : (old mid new : BTreeSet (ℕ × ℕ)) (b : Bool) → set.btree_
 length_out old mid new b e h same = ap₂ (λ s x. set.btree_set_len s + cond x 1 0) same (sym h) ∙ e
 
 -- The clause that was added at a place, erased on its number.
-pub erases_marked : {C K : Type 0} (m new : BTreeMap ℕ (Entry C K)) (clause place number : ℕ) → ((q : ℕ) → holds m (λ d. d.place == clause) q ≡ (q == number))
+pub erases_marked : {C K : Type 0} (m new : ByNumber (Entry C K)) (clause place number : ℕ) → ((q : ℕ) → holds m (λ d. d.place == clause) q ≡ (q == number))
     → (b : Bool) → MarksAt m new number place b → ErasesAt m new clause place b
 erases_marked m new clause place number only true e =
     record { number = number; entry = e.entry; was = e.was; live = e.live; only = only; entries = e.entries }

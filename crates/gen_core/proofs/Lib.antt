@@ -10,3 +10,8 @@ pub mod Calls
 pub mod Dropping
 pub mod RunLaws
 pub mod SharedLaws
+pub mod NumberLaws
+pub mod NumberRows
+pub mod Markings
+pub mod NumberGets
+pub mod RowReads

@@ -9,11 +9,12 @@ use Rattle.std.specs.Result.{OnOk, IfOk}
 use Rattle.std.specs.Ordering.{is_eq, nat_cmp}
 use Rattle.std.specs.declared.cmp.Ordering.{Ordering}
 use Rattle.std.specs.Map.{lookup, values_of}
-use Rattle.std.specs.BTreeMap as tree
-use Rattle.std.specs.BTreeMap.{BTreeMap, insert_entry, is_at}
+use Rattle.std.specs.BTreeMap.{insert_entry, is_at}
 use Rattle.std.proofs.lemmas.Bool.{false≢true, cases_lt}
 use Rattle.std.proofs.lemmas.List.Elements.{All-head, All-tail}
 use borrow.Author.Tests.{eqb-true, lt-ltb}
+use Rattle.gen_core.specs.NumberMaps.{ByNumber}
+use Rattle.gen_core.specs.NumberMaps as numbers
 use Rattle.gen_core.specs.declared.dated_clause.DatedClause.{DatedClause}
 use Rattle.gen_core.specs.declared.clause_index.Entry.{Entry}
 use Rattle.gen_core.specs.declared.clause_index.ClauseIndex.{ClauseIndex}
@@ -62,10 +63,10 @@ module _ {C K : Type 0} where
       go next true q = subst (λ (y : Entry C K). P y.dated) (ap (λ o. option_map_or (λ (y : Entry C K). y) o x) q) (All-head P e.1.dated (values of es) h)
       go next false q = next q
 
-  found_on : (m : BTreeMap ℕ (Entry C K)) (t : DatedClause C → Bool) (q : ℕ) → holds m t q ≡ true → (x : Entry C K) × (tree.get nat_cmp m q ≡ Some x) × (t x.dated ≡ true)
-  found_on m t q h = go (tree.get nat_cmp m q) refl h
+  found_on : (m : ByNumber (Entry C K)) (t : DatedClause C → Bool) (q : ℕ) → holds m t q ≡ true → (x : Entry C K) × (numbers.get m q ≡ Some x) × (t x.dated ≡ true)
+  found_on m t q h = go (numbers.get m q) refl h
     where
-      go : (o : Option (Entry C K)) → tree.get nat_cmp m q ≡ o → option_map_or t (option_map (λ e. e.dated) o) false ≡ true → (x : Entry C K) × (tree.get nat_cmp m q ≡ Some x) × (t x.dated ≡ true)
+      go : (o : Option (Entry C K)) → numbers.get m q ≡ o → option_map_or t (option_map (λ e. e.dated) o) false ≡ true → (x : Entry C K) × (numbers.get m q ≡ Some x) × (t x.dated ≡ true)
       go None at n = absurd (false≢true n)
       go (Some x) at n = (x, at, n)
 
@@ -85,7 +86,7 @@ module _ {C K : Type 0} where
         (each_more (λ e. t e.1.dated ≡ holds s.clauses t e.0) (λ e. from ≤ e.0 → t e.1.dated ≡ false) s.clauses.entries (λ e p l. p ∙ h e.0 l) (each t))
 
     pub first_some : (t : DatedClause C → Bool) (from r : ℕ) → IsNext (holds s.clauses t) from (Some r)
-        → (x : Entry C K) × (tree.get nat_cmp s.clauses r ≡ Some x) × (filter t (values of (from_number of from s.clauses.entries)) ≡ x.dated ∷ filter t (values of (from_number of (r + 1) s.clauses.entries)))
+        → (x : Entry C K) × (numbers.get s.clauses r ≡ Some x) × (filter t (values of (from_number of from s.clauses.entries)) ≡ x.dated ∷ filter t (values of (from_number of (r + 1) s.clauses.entries)))
     first_some t from r h =
         let x = found_on s.clauses t r h.1 in (
           x.0,
@@ -119,10 +120,10 @@ module _ {C K : Type 0} where
 
     -- ---- erasing
 
-    here : (t : DatedClause C → Bool) (q : ℕ) (x : Entry C K) → tree.get nat_cmp s.clauses q ≡ Some x → holds s.clauses t q ≡ t x.dated
+    here : (t : DatedClause C → Bool) (q : ℕ) (x : Entry C K) → numbers.get s.clauses q ≡ Some x → holds s.clauses t q ≡ t x.dated
     here t q x at = ap (λ o. option_map_or t (option_map (λ (e : Entry C K). e.dated) o) false) at
 
-    only_live : (clause n : ℕ) (x : Entry C K) → tree.get nat_cmp s.clauses n ≡ Some x → is_live x.dated ≡ true → ((q : ℕ) → holds s.clauses (λ d. d.place == clause) q ≡ (q == n))
+    only_live : (clause n : ℕ) (x : Entry C K) → numbers.get s.clauses n ≡ Some x → is_live x.dated ≡ true → ((q : ℕ) → holds s.clauses (λ d. d.place == clause) q ≡ (q == n))
         → (q : ℕ) → holds s.clauses (λ d. (d.place == clause) && is_live d) q ≡ (q == n)
     only_live clause n x at live only q = holds-both s.clauses (λ d. d.place == clause) is_live q ∙ ap (λ b. b && holds s.clauses is_live q) (only q) ∙ go (q == n) refl
       where
@@ -130,7 +131,7 @@ module _ {C K : Type 0} where
         go true e = ap (λ p. holds s.clauses is_live p) (eqb-true q n e) ∙ here is_live n x at ∙ live
         go false e = refl
 
-    pub erases : (new : BTreeMap ℕ (Entry C K)) (clause place : ℕ) → Erased s.clauses new clause place
+    pub erases : (new : ByNumber (Entry C K)) (clause place : ℕ) → Erased s.clauses new clause place
         → (list_any (λ d. (d.place == clause) && is_live d) (clauses_of s.clauses) ≡ true) × (clauses_of new ≡ map (erased_by clause place) (clauses_of s.clauses))
     erases new clause place e =
         let one = only_live clause e.number e.entry e.was e.live e.only in (
@@ -141,7 +142,7 @@ module _ {C K : Type 0} where
               (each_is (λ d. (d.place == clause) && is_live d) (λ q. q == e.number) one) e.was,
         )
 
-    pub erases_none : (new : BTreeMap ℕ (Entry C K)) (clause place : ℕ) → ErasesNone s.clauses new clause
+    pub erases_none : (new : ByNumber (Entry C K)) (clause place : ℕ) → ErasesNone s.clauses new clause
         → (list_any (λ d. (d.place == clause) && is_live d) (clauses_of s.clauses) ≡ false) × (clauses_of new ≡ map (erased_by clause place) (clauses_of s.clauses))
     erases_none new clause place e =
         let none = each_is (λ d. (d.place == clause) && is_live d) (λ q. false) e.none in (
@@ -151,7 +152,7 @@ module _ {C K : Type 0} where
 
     -- ---- dropping
 
-    pub drops : (new : BTreeMap ℕ (Entry C K)) (floor : ℕ) (d : DatedClause C) → DropsOne s.clauses new floor d → list.DropsOne floor d (clauses_of s.clauses) (clauses_of new)
+    pub drops : (new : ByNumber (Entry C K)) (floor : ℕ) (d : DatedClause C) → DropsOne s.clauses new floor d → list.DropsOne floor d (clauses_of s.clauses) (clauses_of new)
     drops new floor d e =
         let p = parted of e.number e.entry s.clauses.entries e.was in
         record {
@@ -180,15 +181,15 @@ module _ {C K : Type 0} where
     pub droppable_none : (floor : ℕ) → ((k q : ℕ) → holds s.clauses (is_erased_at k) q ≡ false) → false ≡ list_any (is_droppable floor) (clauses_of s.clauses)
     droppable_none floor h = sym (none_droppable floor (λ q. not_droppable s.clauses floor q (λ k e. absurd (false≢true (sym (h k q) ∙ e)))))
 
-    pub drops_some : (new : BTreeMap ℕ (Entry C K)) (floor : ℕ) (r : Option (DatedClause C)) → Drops s.clauses new floor r → IfSome r (λ d. list.DropsOne floor d (clauses_of s.clauses) (clauses_of new))
+    pub drops_some : (new : ByNumber (Entry C K)) (floor : ℕ) (r : Option (DatedClause C)) → Drops s.clauses new floor r → IfSome r (λ d. list.DropsOne floor d (clauses_of s.clauses) (clauses_of new))
     drops_some new floor None e = tt
     drops_some new floor (Some d) e = drops new floor d e
 
-    pub drops_none : (new : BTreeMap ℕ (Entry C K)) (floor : ℕ) (r : Option (DatedClause C)) → Drops s.clauses new floor r → IfNone r ((list_any (is_droppable floor) (clauses_of s.clauses) ≡ false) × (clauses_of new ≡ clauses_of s.clauses))
+    pub drops_none : (new : ByNumber (Entry C K)) (floor : ℕ) (r : Option (DatedClause C)) → Drops s.clauses new floor r → IfNone r ((list_any (is_droppable floor) (clauses_of s.clauses) ≡ false) × (clauses_of new ≡ clauses_of s.clauses))
     drops_none new floor None d = (none_droppable floor d.none, ap (λ es. values of es) d.same)
     drops_none new floor (Some x) d = tt
 
-    pub erases_at : (new : BTreeMap ℕ (Entry C K)) (clause place : ℕ) (b : Bool) → ErasesAt s.clauses new clause place b
+    pub erases_at : (new : ByNumber (Entry C K)) (clause place : ℕ) (b : Bool) → ErasesAt s.clauses new clause place b
         → (b ≡ list_any (λ d. (d.place == clause) && is_live d) (clauses_of s.clauses)) × (clauses_of new ≡ map (erased_by clause place) (clauses_of s.clauses))
     erases_at new clause place true e = let p = erases new clause place e in (sym p.0, p.1)
     erases_at new clause place false e = let p = erases_none new clause place e in (sym p.0, p.1)
@@ -232,10 +233,10 @@ module _ {C K : Type 0} where
         let p : IfSome (Some x) (λ e. IsNumbered q e.dated.place × (e.key ≡ key_of e.dated.clause)) =
         subst (λ o. IfSome o (λ e. IsNumbered q e.dated.place × (e.key ≡ key_of e.dated.clause))) at (sound.numbered q) in p.1)
 
-    before_on : (place q : ℕ) (x : Entry C K) → All (λ d. d.place < place) (clauses_of s.clauses) → tree.get nat_cmp s.clauses q ≡ Some x → x.dated.place < place
+    before_on : (place q : ℕ) (x : Entry C K) → All (λ d. d.place < place) (clauses_of s.clauses) → numbers.get s.clauses q ≡ Some x → x.dated.place < place
     before_on place q x h at = all_on (λ d. d.place < place) q x s.clauses.entries h at
 
-    numbered_on : (q : ℕ) (x : Entry C K) → tree.get nat_cmp s.clauses q ≡ Some x → IsNumbered q x.dated.place
+    numbered_on : (q : ℕ) (x : Entry C K) → numbers.get s.clauses q ≡ Some x → IsNumbered q x.dated.place
     numbered_on q x at =
         let p : IfSome (Some x) (λ e. IsNumbered q e.dated.place × (e.key ≡ key_of e.dated.clause)) = subst (λ o. IfSome o (λ e. IsNumbered q e.dated.place × (e.key ≡ key_of e.dated.clause))) at (sound.numbered q) in p.0
 
@@ -246,9 +247,9 @@ module _ {C K : Type 0} where
     ]
 
     pub free_on : (place : ℕ) → All (λ d. d.place < place) (clauses_of s.clauses) → (p : ℕ) → IsNumbered p place → dated_at s.clauses p ≡ None
-    free_on place h p n = go (tree.get nat_cmp s.clauses p) refl
+    free_on place h p n = go (numbers.get s.clauses p) refl
       where
-        go : (o : Option (Entry C K)) → tree.get nat_cmp s.clauses p ≡ o → dated_at s.clauses p ≡ None
+        go : (o : Option (Entry C K)) → numbers.get s.clauses p ≡ o → dated_at s.clauses p ≡ None
         go None at = ap (option_map (λ (e : Entry C K). e.dated)) at
         go (Some x) at =
             absurd (let l = before_on place p x h at in let e = same_place p x.dated.place place (numbered_on p x at) n in omega (arith, l, e))
@@ -263,14 +264,14 @@ module _ {C K : Type 0} where
         each_from of (λ q d. first_number place < q) s.clauses.entries s.clauses.entries found
         (λ q x at. (let l = before_on place q x h at in let n = numbered_on q x at in elim n.is [ inl e ↦ omega (arith, l, n.below) | inr e ↦ omega (arith, l, n.below) ]))
 
-    pub adds_last : (new : BTreeMap ℕ (Entry C K)) (place n : ℕ) (clause : C) → n ≡ last_number place → All (λ d. d.place < place) (clauses_of s.clauses) → Added s.clauses new n (fresh place clause)
+    pub adds_last : (new : ByNumber (Entry C K)) (place n : ℕ) (clause : C) → n ≡ last_number place → All (λ d. d.place < place) (clauses_of s.clauses) → Added s.clauses new n (fresh place clause)
         → clauses_of new ≡ clauses_of s.clauses ++ fresh place clause ∷ []
     adds_last new place n clause e h a =
         ap (λ es. values of es) (a.entries ∙ ap (λ p. insert_entry nat_cmp s.clauses.entries p a.entry) e)
         ∙ insert_last of (last_number place) a.entry s.clauses.entries (below_last place h)
         ∙ ap (λ d. clauses_of s.clauses ++ d ∷ []) a.dated
 
-    pub adds_first : (new : BTreeMap ℕ (Entry C K)) (place n : ℕ) (clause : C) → n ≡ first_number place → place < 562949953421312 → All (λ d. d.place < place) (clauses_of s.clauses) → Added s.clauses new n (fresh place clause)
+    pub adds_first : (new : ByNumber (Entry C K)) (place n : ℕ) (clause : C) → n ≡ first_number place → place < 562949953421312 → All (λ d. d.place < place) (clauses_of s.clauses) → Added s.clauses new n (fresh place clause)
         → clauses_of new ≡ fresh place clause ∷ clauses_of s.clauses
     adds_first new place n clause e b h a =
         ap (λ es. values of es) (a.entries ∙ ap (λ p. insert_entry nat_cmp s.clauses.entries p a.entry) e)

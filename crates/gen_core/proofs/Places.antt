@@ -10,12 +10,12 @@ use Rattle.std.specs.declared.cmp.Ordering.{Ordering}
 use Rattle.std.specs.declared.cmp.Ordering.TheVariants.{Less, Equal, Greater}
 use Rattle.std.specs.declared.ops.Bound.TheVariants.{Excluded, Unbounded}
 use Rattle.std.specs.Map.{lookup, keys_of}
-use Rattle.std.specs.BTreeMap as tree
 use Rattle.std.specs.BTreeMap.{is_at}
 use Rattle.std.specs.BTreeMap.Range.{range_contains}
 use Rattle.std.proofs.lemmas.Bool.{false≢true, cases_lt}
 use Rattle.std.proofs.lemmas.Map.Keys.{sorted_tail}
 use borrow.Author.Tests.{eqb-true, ltb-true, lt-ltb}
+use Rattle.gen_core.specs.NumberMaps as numbers
 use Rattle.gen_core.specs.declared.dated_clause.DatedClause.{DatedClause}
 use Rattle.gen_core.specs.declared.clause_index.Entry.{Entry}
 use Rattle.gen_core.specs.declared.clause_index.ClauseIndex.{ClauseIndex}
@@ -148,17 +148,17 @@ module _ {C K : Type 0} (order : K → K → Ordering) (any : K → Bool) (key_o
   found : AllByRecursion (λ e. lookup (is_at (nat_cmp e.0)) s.clauses.entries ≡ Some e.1) s.clauses.entries
   found = each_found (λ (e : Entry C K). e.dated) s.clauses.entries sound.ordered
 
-  numbered-on : (q : ℕ) (x : Entry C K) → tree.get nat_cmp s.clauses q ≡ Some x → IsNumbered q x.dated.place
+  numbered-on : (q : ℕ) (x : Entry C K) → numbers.get s.clauses q ≡ Some x → IsNumbered q x.dated.place
   numbered-on q x at =
       let p : IfSome (Some x) (λ e. IsNumbered q e.dated.place × (e.key ≡ key_of e.dated.clause)) = subst (λ o. IfSome o (λ e. IsNumbered q e.dated.place × (e.key ≡ key_of e.dated.clause))) at (sound.numbered q) in p.0
 
-  here : (t : DatedClause C → Bool) (q : ℕ) (x : Entry C K) → tree.get nat_cmp s.clauses q ≡ Some x → holds s.clauses t q ≡ t x.dated
+  here : (t : DatedClause C → Bool) (q : ℕ) (x : Entry C K) → numbers.get s.clauses q ≡ Some x → holds s.clauses t q ≡ t x.dated
   here t q x at = ap (λ o. option_map_or t (option_map (λ (e : Entry C K). e.dated) o) false) at
 
-  there : (t : DatedClause C → Bool) (q : ℕ) → holds s.clauses t q ≡ true → (x : Entry C K) × (tree.get nat_cmp s.clauses q ≡ Some x)
-  there t q h = go (tree.get nat_cmp s.clauses q) refl h
+  there : (t : DatedClause C → Bool) (q : ℕ) → holds s.clauses t q ≡ true → (x : Entry C K) × (numbers.get s.clauses q ≡ Some x)
+  there t q h = go (numbers.get s.clauses q) refl h
     where
-      go : (o : Option (Entry C K)) → tree.get nat_cmp s.clauses q ≡ o → option_map_or t (option_map (λ (e : Entry C K). e.dated) o) false ≡ true → (x : Entry C K) × (tree.get nat_cmp s.clauses q ≡ Some x)
+      go : (o : Option (Entry C K)) → numbers.get s.clauses q ≡ o → option_map_or t (option_map (λ (e : Entry C K). e.dated) o) false ≡ true → (x : Entry C K) × (numbers.get s.clauses q ≡ Some x)
       go None at n = absurd (false≢true n)
       go (Some x) at n = (x, at)
 
@@ -188,7 +188,7 @@ module _ {C K : Type 0} (order : K → K → Ordering) (any : K → Bool) (key_o
       let m : (e.dated.place == p) ≡ true = and-left (e.dated.place == p) (is_droppable floor e.dated) x.3 in
       go q e x.2 m e.dated.erased refl (and-right (e.dated.place == p) (is_droppable floor e.dated) x.3)
     where
-      go : (q : ℕ) (e : Entry C K) → tree.get nat_cmp s.clauses q ≡ Some e → (e.dated.place == p) ≡ true → (o : Option ℕ) → e.dated.erased ≡ o → option_map_or (λ k. nat_lt k floor) o false ≡ true → list_any (wanted floor p) s.erased.keys ≡ true
+      go : (q : ℕ) (e : Entry C K) → numbers.get s.clauses q ≡ Some e → (e.dated.place == p) ≡ true → (o : Option ℕ) → e.dated.erased ≡ o → option_map_or (λ k. nat_lt k floor) o false ≡ true → list_any (wanted floor p) s.erased.keys ≡ true
       go q e at m None i d = absurd (false≢true d)
       go q e at m (Some k) i d =
           any-pair (wanted floor p) k q s.erased.keys
@@ -202,24 +202,24 @@ module _ {C K : Type 0} (order : K → K → Ordering) (any : K → Bool) (key_o
 
   -- ---- no two clauses have the same place
 
-  only-number : (p : ℕ) → (o : Option (Entry C K)) → tree.get nat_cmp s.clauses (first_number p) ≡ o → (r : ℕ) × ((q : ℕ) (x : Entry C K) → tree.get nat_cmp s.clauses q ≡ Some x → (x.dated.place == p) ≡ true → q ≡ r)
+  only-number : (p : ℕ) → (o : Option (Entry C K)) → numbers.get s.clauses (first_number p) ≡ o → (r : ℕ) × ((q : ℕ) (x : Entry C K) → numbers.get s.clauses q ≡ Some x → (x.dated.place == p) ≡ true → q ≡ r)
   only-number p None none = (last_number p, λ q x at h. is-last q x at (eqb-true x.dated.place p h) (numbered-on q x at))
     where
-      is-last : (q : ℕ) (x : Entry C K) → tree.get nat_cmp s.clauses q ≡ Some x → x.dated.place ≡ p → IsNumbered q x.dated.place → q ≡ last_number p
+      is-last : (q : ℕ) (x : Entry C K) → numbers.get s.clauses q ≡ Some x → x.dated.place ≡ p → IsNumbered q x.dated.place → q ≡ last_number p
       is-last q x at e n = elim n.is [
-        | inl i ↦ absurd (let there : Some x ≡ None = sym at ∙ ap (tree.get nat_cmp s.clauses) (i ∙ ap first_number e) ∙ none in cc there)
+        | inl i ↦ absurd (let there : Some x ≡ None = sym at ∙ ap (numbers.get s.clauses) (i ∙ ap first_number e) ∙ none in cc there)
         | inr i ↦ i ∙ ap last_number e
       ]
   only-number p (Some y) some = (first_number p, λ q x at h. is-first q x at (eqb-true x.dated.place p h) (numbered-on q x at))
     where
-      is-first : (q : ℕ) (x : Entry C K) → tree.get nat_cmp s.clauses q ≡ Some x → x.dated.place ≡ p → IsNumbered q x.dated.place → q ≡ first_number p
+      is-first : (q : ℕ) (x : Entry C K) → numbers.get s.clauses q ≡ Some x → x.dated.place ≡ p → IsNumbered q x.dated.place → q ≡ first_number p
       is-first q x at e n = elim n.is [
         | inl i ↦ i ∙ ap first_number e
-        | inr i ↦ absurd (let none = sound.once p (subst (λ j. j < 562949953421312) e n.below) (subst IsSome (sym some) refl) in let there : Some x ≡ None = sym at ∙ ap (tree.get nat_cmp s.clauses) (i ∙ ap last_number e) ∙ none in cc there)
+        | inr i ↦ absurd (let none = sound.once p (subst (λ j. j < 562949953421312) e n.below) (subst IsSome (sym some) refl) in let there : Some x ≡ None = sym at ∙ ap (numbers.get s.clauses) (i ∙ ap last_number e) ∙ none in cc there)
       ]
 
   pub places-once : (p : ℕ) → length (filter (λ d. d.place == p) (clauses_of s.clauses)) ≤ 1
   places-once p =
-      let r = only-number p (tree.get nat_cmp s.clauses (first_number p)) refl in
+      let r = only-number p (numbers.get s.clauses (first_number p)) refl in
       at-most-one (λ (d : DatedClause C). d.place == p) r.0 s.clauses.entries sound.ordered
       (each_from (λ (e : Entry C K). e.dated) (λ q d. (d.place == p) ≡ true → q ≡ r.0) s.clauses.entries s.clauses.entries found r.1)

@@ -9,10 +9,12 @@ use Rattle.std.specs.Ordering.{is_eq, nat_cmp}
 use Rattle.std.specs.declared.cmp.Ordering.{Ordering}
 use Rattle.std.specs.Map.{lookup}
 use Rattle.std.specs.BTreeMap as tree
-use Rattle.std.specs.BTreeMap.{BTreeMap, is_at}
+use Rattle.std.specs.BTreeMap.{is_at}
 use Rattle.std.proofs.lemmas.Bool.{false≢true, ne_eqb}
 use Rattle.std.proofs.lemmas.Map.Made.{lookup-map_values}
 use borrow.Author.Tests.{eqb-true}
+use Rattle.gen_core.specs.NumberMaps.{ByNumber}
+use Rattle.gen_core.specs.NumberMaps as numbers
 use Rattle.gen_core.specs.declared.dated_clause.DatedClause.{DatedClause}
 use Rattle.gen_core.specs.declared.clause_index.Entry.{Entry}
 use Rattle.gen_core.specs.declared.clause_index.ClauseIndex.{ClauseIndex}
@@ -33,10 +35,10 @@ live_stays {C} k d live = go d.erased live
     go None h = refl
     go (Some j) h = absurd (false≢true h)
 
-module _ {C K : Type 0} (old new : BTreeMap ℕ (Entry C K)) where
+module _ {C K : Type 0} (old new : ByNumber (Entry C K)) where
   -- A clause that was not erased is.
   pub stay_marked : (number place : ℕ) → holds old is_live number ≡ true
-      → ((q : ℕ) → tree.get nat_cmp new q ≡ cond (q == number) (option_map (marked place) (tree.get nat_cmp old number)) (tree.get nat_cmp old q))
+      → ((q : ℕ) → numbers.get new q ≡ cond (q == number) (option_map (marked place) (numbers.get old number)) (numbers.get old q))
       → StayGone old new
   stay_marked number place live gets k q h = go (q == number) refl
     where
@@ -48,22 +50,22 @@ module _ {C K : Type 0} (old new : BTreeMap ℕ (Entry C K)) where
       go true e =
           absurd (false≢true (sym (not_gone (dated_at old number) live) ∙ ap (λ p. is_gone k (dated_at old p)) (sym (eqb-true q number e)) ∙ h))
       go false e =
-          ap (λ o. is_gone k (option_map (λ (x : Entry C K). x.dated) o)) (gets q ∙ ap (λ b. cond b (option_map (marked place) (tree.get nat_cmp old number)) (tree.get nat_cmp old q)) e) ∙ h
+          ap (λ o. is_gone k (option_map (λ (x : Entry C K). x.dated) o)) (gets q ∙ ap (λ b. cond b (option_map (marked place) (numbers.get old number)) (numbers.get old q)) e) ∙ h
 
   -- A clause is taken out.
-  pub stay_out : (number : ℕ) → ((q : ℕ) → tree.get nat_cmp new q ≡ cond (is_eq (nat_cmp number q)) None (tree.get nat_cmp old q)) → StayGone old new
+  pub stay_out : (number : ℕ) → ((q : ℕ) → numbers.get new q ≡ cond (is_eq (nat_cmp number q)) None (numbers.get old q)) → StayGone old new
   stay_out number gets k q h = go (is_eq (nat_cmp number q)) refl
     where
       go : (b : Bool) → is_eq (nat_cmp number q) ≡ b → is_gone k (dated_at new q) ≡ true
-      go true e = ap (λ o. is_gone k (option_map (λ (x : Entry C K). x.dated) o)) (gets q ∙ ap (λ b. cond b None (tree.get nat_cmp old q)) e)
-      go false e = ap (λ o. is_gone k (option_map (λ (x : Entry C K). x.dated) o)) (gets q ∙ ap (λ b. cond b None (tree.get nat_cmp old q)) e) ∙ h
+      go true e = ap (λ o. is_gone k (option_map (λ (x : Entry C K). x.dated) o)) (gets q ∙ ap (λ b. cond b None (numbers.get old q)) e)
+      go false e = ap (λ o. is_gone k (option_map (λ (x : Entry C K). x.dated) o)) (gets q ∙ ap (λ b. cond b None (numbers.get old q)) e) ∙ h
 
   -- All clauses are erased.
   pub stay_all : (place : ℕ) → new.entries ≡ map (λ e. (e.0, marked_all place e.1)) old.entries → StayGone old new
   stay_all place entries k q h =
-      ap (λ o. is_gone k (option_map (λ (x : Entry C K). x.dated) o)) gets ∙ go (tree.get nat_cmp old q) h
+      ap (λ o. is_gone k (option_map (λ (x : Entry C K). x.dated) o)) gets ∙ go (numbers.get old q) h
     where
-      gets : tree.get nat_cmp new q ≡ option_map (marked_all place) (tree.get nat_cmp old q)
+      gets : numbers.get new q ≡ option_map (marked_all place) (numbers.get old q)
       gets = ap (lookup (is_at (nat_cmp q))) entries ∙ lookup-map_values (marked_all place) (is_at (nat_cmp q)) old.entries
 
       at : (d : DatedClause C) (e : Option ℕ) → d.erased ≡ e → option_map_or (λ j. nat_le j k) e false ≡ true → is_gone k (Some (erased_all place d)) ≡ true
@@ -86,10 +88,10 @@ module _ {C K : Type 0} (old new : BTreeMap ℕ (Entry C K)) where
   gone_by (Err e) stay same = stay_same same
 
   -- A clause is put on a number.
-  pub others_put : (number : ℕ) (x : Entry C K) → ((q : ℕ) → tree.get nat_cmp new q ≡ cond (is_eq (nat_cmp number q)) (Some x) (tree.get nat_cmp old q)) → OthersStay old new number
+  pub others_put : (number : ℕ) (x : Entry C K) → ((q : ℕ) → numbers.get new q ≡ cond (is_eq (nat_cmp number q)) (Some x) (numbers.get old q)) → OthersStay old new number
   others_put number x gets q h =
       ap (option_map (λ (x : Entry C K). x.dated))
-      (gets q ∙ ap (λ b. cond b (Some x) (tree.get nat_cmp old q)) (is_at-number number q ∙ h))
+      (gets q ∙ ap (λ b. cond b (Some x) (numbers.get old q)) (is_at-number number q ∙ h))
 
   -- ---- what is left of runs
 
@@ -135,7 +137,7 @@ module _ {C K : Type 0} (old new : BTreeMap ℕ (Entry C K)) where
       go (Some r) at h = kept r at (known r h)
 
 -- Runs of which none has a number any longer.
-pub runs_left : {C K : Type 0} (m : BTreeMap ℕ (Entry C K)) (rs now : Runs) (number : ℕ) → AreRuns rs m → Leaves rs now number → AreRuns now m
+pub runs_left : {C K : Type 0} (m : ByNumber (Entry C K)) (rs now : Runs) (number : ℕ) → AreRuns rs m → Leaves rs now number → AreRuns now m
 runs_left m rs now number are left = runs_beside m m rs now number are left (λ q h. refl)
 
 -- ---- what they say of a search
@@ -143,7 +145,7 @@ runs_left m rs now number are left = runs_beside m m rs now number are left (λ 
 -- The numbers of clauses are below a bound.
 pub number_below : {C K : Type 0} (order : K → K → Ordering) (any : K → Bool) (key_of : C → K) (s : ClauseIndex C K) → IsSound order any key_of s
     → (t : DatedClause C → Bool) (q : ℕ) → holds s.clauses t q ≡ true → q < 1125899906842624
-number_below {C} {K} order any key_of s sound t q h = go (tree.get nat_cmp s.clauses q) (sound.numbered q) h
+number_below {C} {K} order any key_of s sound t q h = go (numbers.get s.clauses q) (sound.numbered q) h
   where
     go : (o : Option (Entry C K)) → IfSome o (λ e. IsNumbered q e.dated.place × (e.key ≡ key_of e.dated.clause))
         → option_map_or t (option_map (λ (e : Entry C K). e.dated) o) false ≡ true → q < 1125899906842624
@@ -151,7 +153,7 @@ number_below {C} {K} order any key_of s sound t q h = go (tree.get nat_cmp s.cla
     go (Some e) n l = let b = n.0.below in elim n.0.is [ inl i ↦ omega (arith, b, i) | inr i ↦ omega (arith, b, i) ]
 
 -- A goal whose first argument may be equal to any tries each clause that is seen.
-pub seen_tried : {C K : Type 0} (order : K → K → Ordering) (any : K → Bool) (key_of : C → K) (m : BTreeMap ℕ (Entry C K)) (g : ℕ) (first : K) → any first ≡ true
+pub seen_tried : {C K : Type 0} (order : K → K → Ordering) (any : K → Bool) (key_of : C → K) (m : ByNumber (Entry C K)) (g : ℕ) (first : K) → any first ≡ true
     → (q : ℕ) → holds m (is_visible g) q ≡ holds m (is_choice order any key_of g first) q
 seen_tried {C} order any key_of m g first h q = go (dated_at m q)
   where

@@ -4,8 +4,8 @@ use Rattle.std.proofs.lemmas.Bool.{cases_lt}
 use Rattle.std.specs.Option.{option_map_or}
 use Rattle.std.specs.Ordering.{is_eq}
 use Rattle.std.specs.declared.cmp.Ordering.{Ordering}
-use Rattle.std.specs.BTreeMap.{BTreeMap}
 use Rattle.pl_model.specs.FirstArguments.{are_apart}
+use Rattle.gen_core.specs.NumberMaps.{ByNumber}
 use Rattle.gen_core.specs.declared.dated_clause.DatedClause.{DatedClause}
 use Rattle.gen_core.specs.declared.clause_index.Entry.{Entry}
 use Rattle.gen_core.specs.Index.{IsNext}
@@ -22,7 +22,7 @@ either false true = refl
 either false false = refl
 
 -- A clause is found under the goal's key, or among those that may be equal to any.
-pub found_under : {C K : Type 0} (order : K → K → Ordering) (any : K → Bool) (key_of : C → K) (m : BTreeMap ℕ (Entry C K)) (first : K) (q : ℕ) (a b : Bool)
+pub found_under : {C K : Type 0} (order : K → K → Ordering) (any : K → Bool) (key_of : C → K) (m : ByNumber (Entry C K)) (first : K) (q : ℕ) (a b : Bool)
     → any first ≡ false
     → a ≡ holds m (λ d. not (any (key_of d.clause)) && is_eq (order first (key_of d.clause))) q
     → b ≡ holds m (λ d. any (key_of d.clause)) q
@@ -38,7 +38,7 @@ found_under {C} order any key_of m first q a b h f k = ap₂ ◌||◌ f k ∙ go
         ∙ ap (λ x. not (not x && (not (any (key_of d.clause)) && not (is_eq (order first (key_of d.clause)))))) (sym h)
 
 -- Whether a clause on a number passes two tests.
-pub holds-both : {C K : Type 0} (m : BTreeMap ℕ (Entry C K)) (a b : DatedClause C → Bool) (q : ℕ) → holds m (λ d. a d && b d) q ≡ (holds m a q && holds m b q)
+pub holds-both : {C K : Type 0} (m : ByNumber (Entry C K)) (a b : DatedClause C → Bool) (q : ℕ) → holds m (λ d. a d && b d) q ≡ (holds m a q && holds m b q)
 holds-both {C} m a b q = go (dated_at m q)
   where
     go : (o : Option (DatedClause C)) → option_map_or (λ d. a d && b d) o false ≡ (option_map_or a o false && option_map_or b o false)

@@ -9,14 +9,15 @@ use Rattle.std.specs.Ordering.{is_eq, nat_cmp}
 use Rattle.std.specs.Cmp.{IsTotalOrder, eq_by_cmp_equiv, nat_eq_equiv}
 use Rattle.std.specs.declared.cmp.Ordering.{Ordering}
 use Rattle.std.specs.Map.{lookup}
-use Rattle.std.specs.BTreeMap as tree
-use Rattle.std.specs.BTreeMap.{BTreeMap, is_at}
+use Rattle.std.specs.BTreeMap.{is_at}
 use Rattle.std.specs.BTreeSet as set
 use Rattle.std.specs.BTreeSet.{BTreeSet}
 use Rattle.std.proofs.lemmas.Bool.{false≢true, ne_eqb}
 use Rattle.std.proofs.lemmas.Map.Made.{lookup-map_values}
 use borrow.Author.Tests.{eqb-true}
 use Rattle.pl_model.specs.FirstArguments.{are_apart}
+use Rattle.gen_core.specs.NumberMaps.{ByNumber}
+use Rattle.gen_core.specs.NumberMaps as numbers
 use Rattle.gen_core.specs.declared.dated_clause.DatedClause.{DatedClause}
 use Rattle.gen_core.specs.declared.clause_index.Entry.{Entry}
 use Rattle.gen_core.specs.declared.clause_index.ClauseIndex.{ClauseIndex}
@@ -54,14 +55,14 @@ both_true x y h k = ap (λ b. b && y) h ∙ k
 
 -- ---- what changes of the clauses leave
 
-module _ {C K : Type 0} (old new : BTreeMap ℕ (Entry C K)) where
+module _ {C K : Type 0} (old new : ByNumber (Entry C K)) where
   -- What the entry of a number passes by its clause.
   abbrev passes : (C → Bool) → Option (Entry C K) → Bool
   passes t o = option_map_or (λ (d : DatedClause C). t d.clause) (option_map (λ (x : Entry C K). x.dated) o) false
 
   -- A clause is erased.
   pub kept_marked : (number place : ℕ)
-      → ((q : ℕ) → tree.get nat_cmp new q ≡ cond (q == number) (option_map (marked place) (tree.get nat_cmp old number)) (tree.get nat_cmp old q))
+      → ((q : ℕ) → numbers.get new q ≡ cond (q == number) (option_map (marked place) (numbers.get old number)) (numbers.get old q))
       → ClausesStay old new
   kept_marked number place gets t q h = go (q == number) refl
     where
@@ -69,19 +70,19 @@ module _ {C K : Type 0} (old new : BTreeMap ℕ (Entry C K)) where
       same None = refl
       same (Some x) = refl
 
-      now : (b : Bool) → (q == number) ≡ b → passes t (cond b (option_map (marked place) (tree.get nat_cmp old number)) (tree.get nat_cmp old q)) ≡ true
-      now b e = sym (ap (passes t) (gets q ∙ ap (λ x. cond x (option_map (marked place) (tree.get nat_cmp old number)) (tree.get nat_cmp old q)) e)) ∙ h
+      now : (b : Bool) → (q == number) ≡ b → passes t (cond b (option_map (marked place) (numbers.get old number)) (numbers.get old q)) ≡ true
+      now b e = sym (ap (passes t) (gets q ∙ ap (λ x. cond x (option_map (marked place) (numbers.get old number)) (numbers.get old q)) e)) ∙ h
 
       go : (b : Bool) → (q == number) ≡ b → holds old (λ d. t d.clause) q ≡ true
-      go true e = ap (λ p. holds old (λ d. t d.clause) p) (eqb-true q number e) ∙ sym (same (tree.get nat_cmp old number)) ∙ now true e
+      go true e = ap (λ p. holds old (λ d. t d.clause) p) (eqb-true q number e) ∙ sym (same (numbers.get old number)) ∙ now true e
       go false e = now false e
 
   -- A clause is taken out.
-  pub kept_out : (number : ℕ) → ((q : ℕ) → tree.get nat_cmp new q ≡ cond (is_eq (nat_cmp number q)) None (tree.get nat_cmp old q)) → ClausesStay old new
+  pub kept_out : (number : ℕ) → ((q : ℕ) → numbers.get new q ≡ cond (is_eq (nat_cmp number q)) None (numbers.get old q)) → ClausesStay old new
   kept_out number gets t q h = go (is_eq (nat_cmp number q)) refl
     where
-      now : (b : Bool) → is_eq (nat_cmp number q) ≡ b → passes t (cond b None (tree.get nat_cmp old q)) ≡ true
-      now b e = sym (ap (passes t) (gets q ∙ ap (λ x. cond x None (tree.get nat_cmp old q)) e)) ∙ h
+      now : (b : Bool) → is_eq (nat_cmp number q) ≡ b → passes t (cond b None (numbers.get old q)) ≡ true
+      now b e = sym (ap (passes t) (gets q ∙ ap (λ x. cond x None (numbers.get old q)) e)) ∙ h
 
       go : (b : Bool) → is_eq (nat_cmp number q) ≡ b → holds old (λ d. t d.clause) q ≡ true
       go true e = absurd (false≢true (now true e))
@@ -89,9 +90,9 @@ module _ {C K : Type 0} (old new : BTreeMap ℕ (Entry C K)) where
 
   -- All clauses are erased.
   pub kept_all : (place : ℕ) → new.entries ≡ map (λ e. (e.0, marked_all place e.1)) old.entries → ClausesStay old new
-  kept_all place entries t q h = sym (same (tree.get nat_cmp old q)) ∙ sym (ap (passes t) gets) ∙ h
+  kept_all place entries t q h = sym (same (numbers.get old q)) ∙ sym (ap (passes t) gets) ∙ h
     where
-      gets : tree.get nat_cmp new q ≡ option_map (marked_all place) (tree.get nat_cmp old q)
+      gets : numbers.get new q ≡ option_map (marked_all place) (numbers.get old q)
       gets = ap (lookup (is_at (nat_cmp q))) entries ∙ lookup-map_values (marked_all place) (is_at (nat_cmp q)) old.entries
 
       same : (o : Option (Entry C K)) → passes t (option_map (marked_all place) o) ≡ passes t o
@@ -119,7 +120,7 @@ noted_more old new k h n e = h n ∙ go (is_eq (nat_cmp k n))
 
 module _ {C K : Type 0} (order : K → K → Ordering) (any : K → Bool) (key_of : C → K) where
   -- Where there are no clauses nothing has to be noted.
-  pub shared_empty : (m : BTreeMap ℕ (Entry C K)) (shared : BTreeSet ℕ) → clauses_of m ≡ [] → AreShared order any key_of shared m
+  pub shared_empty : (m : ByNumber (Entry C K)) (shared : BTreeSet ℕ) → clauses_of m ≡ [] → AreShared order any key_of shared m
   shared_empty m shared none k n q a b e = absurd (false≢true (sym (nothing m.entries none) ∙ a))
     where
       nothing : (es : List (ℕ × Entry C K)) → map (λ (e : ℕ × Entry C K). e.1.dated) es ≡ [] → option_map_or (is_under order any key_of k) (option_map (λ (x : Entry C K). x.dated) (lookup (is_at (nat_cmp n)) es)) false ≡ false
@@ -127,17 +128,17 @@ module _ {C K : Type 0} (order : K → K → Ordering) (any : K → Bool) (key_o
       nothing (x ∷ es) h = absurd (cc)
 
   -- What is noted of clauses is so of what is left of them.
-  pub shared_stay : (old new : BTreeMap ℕ (Entry C K)) (shared : BTreeSet ℕ) → AreShared order any key_of shared old → ClausesStay old new → AreShared order any key_of shared new
+  pub shared_stay : (old new : ByNumber (Entry C K)) (shared : BTreeSet ℕ) → AreShared order any key_of shared old → ClausesStay old new → AreShared order any key_of shared new
   shared_stay old new shared are stay k n q a b e =
       are k n q (stay (λ c. not (any (key_of c)) && is_eq (order k (key_of c))) n a) (stay (λ c. not (any (key_of c)) && is_eq (order k (key_of c))) q b) e
 
   -- More may be noted.
-  pub shared_grown : (m : BTreeMap ℕ (Entry C K)) (shared more : BTreeSet ℕ) → AreShared order any key_of shared m
+  pub shared_grown : (m : ByNumber (Entry C K)) (shared more : BTreeSet ℕ) → AreShared order any key_of shared m
       → ((n : ℕ) → set.contains nat_cmp shared n ≡ true → set.contains nat_cmp more n ≡ true) → AreShared order any key_of more m
   shared_grown m shared more are grows k n q a b e = grows n (are k n q a b e)
 
   -- A clause is put on a number, and what it shares its key with is noted.
-  pub shared_added : (old new : BTreeMap ℕ (Entry C K)) (shared : BTreeSet ℕ) (number : ℕ) (x : DatedClause C) → AreShared order any key_of shared old
+  pub shared_added : (old new : ByNumber (Entry C K)) (shared : BTreeSet ℕ) (number : ℕ) (x : DatedClause C) → AreShared order any key_of shared old
       → SharesWith order any key_of shared old (key_of x.clause) number → OthersStay old new number → dated_at new number ≡ Some x → AreShared order any key_of shared new
   shared_added old new shared number x are shares others at k n q a b e = go (n == number) (q == number) refl refl
     where
@@ -157,21 +158,21 @@ module _ {C K : Type 0} (order : K → K → Ordering) (any : K → Bool) (key_o
       go false false i j = are k n q (there n i a) (there q j b) e
 
   -- The same, after more was noted, and before what is noted stays.
-  pub shared_put : (old new : BTreeMap ℕ (Entry C K)) (was shared now : BTreeSet ℕ) (number : ℕ) (x : DatedClause C) → AreShared order any key_of was old
+  pub shared_put : (old new : ByNumber (Entry C K)) (was shared now : BTreeSet ℕ) (number : ℕ) (x : DatedClause C) → AreShared order any key_of was old
       → ((n : ℕ) → set.contains nat_cmp was n ≡ true → set.contains nat_cmp shared n ≡ true)
       → SharesWith order any key_of shared old (key_of x.clause) number → OthersStay old new number → dated_at new number ≡ Some x → now ≡ shared → AreShared order any key_of now new
   shared_put old new was shared now number x are grows shares others at same =
       subst (λ s. AreShared order any key_of s new) (sym same) (shared_added old new shared number x (shared_grown old was shared are grows) shares others at)
 
   -- More was noted, and the clauses are as they were.
-  pub shared_back : (old new : BTreeMap ℕ (Entry C K)) (was shared : BTreeSet ℕ) → AreShared order any key_of was old
+  pub shared_back : (old new : ByNumber (Entry C K)) (was shared : BTreeSet ℕ) → AreShared order any key_of was old
       → ((n : ℕ) → set.contains nat_cmp was n ≡ true → set.contains nat_cmp shared n ≡ true) → new.entries ≡ old.entries → AreShared order any key_of shared new
   shared_back old new was shared are grows same = shared_stay old new shared (shared_grown old was shared are grows) (kept_same old new same)
 
   module _ (s : ClauseIndex C K) (sound : IsSound order any key_of s) where
     -- A clause that is listed under the goal's key and is not noted is the only one that is not excluded, where each clause has a key.
     pub lone_is : (shared : BTreeSet ℕ) → AreShared order any key_of shared s.clauses → (first : K) → any first ≡ false → ((q : ℕ) → set.contains nat_cmp s.any q ≡ false)
-        → (number : ℕ) (x : Entry C K) → tree.get nat_cmp s.clauses number ≡ Some x → (not (any x.key) && is_eq (order first x.key)) ≡ true
+        → (number : ℕ) (x : Entry C K) → numbers.get s.clauses number ≡ Some x → (not (any x.key) && is_eq (order first x.key)) ≡ true
         → set.contains nat_cmp shared number ≡ false
         → (q : ℕ) → holds s.clauses (λ d. not (are_apart order any first (key_of d.clause))) q ≡ (q == number)
     lone_is shared are first keyed none number x at same alone q =

@@ -2,6 +2,8 @@ pub mod Index
 pub mod Visible
 pub mod Hits
 pub mod Numbers
+pub mod NumberMaps
 pub mod ClauseIndex
 pub mod Runs
 pub mod Shared
+pub mod Marking

@@ -1,9 +1,12 @@
 //! Clauses on their numbers, with what finds them.
-ghost use Rattle.std.specs.Prelude.{◌≡◌, ℕ, false, ◌+◌, ◌^◌, ◌<◌, ◌≤◌, ◌&&◌, not, Some, None, IsSome, OnOk, OnErr, MatchOption, IfOk, IfErr, IfSome, [], filter, map, min, ◌-◌, ◌==◌, sum_by, true};
+ghost use Rattle.std.specs.Prelude.{◌≡◌, ℕ, false, ◌+◌, ◌^◌, ◌<◌, ◌≤◌, ◌&&◌, not, Some, None, IsSome, OnOk, OnErr, MatchOption, IfOk, IfErr, IfSome, [], filter, map, min, ◌-◌, ◌==◌, ◌++◌, sum_by, true};
 ghost use Rattle.std.specs.Option.{option_map, option_copied, is_some};
 ghost use Rattle.std.specs.List.{list_any};
 ghost use Rattle.std.specs.Ordering.{is_eq, nat_cmp};
 ghost use Rattle.std.specs.BTreeMap as tree;
+ghost use Rattle.std.specs.BTreeMap.{insert_entry};
+ghost use Rattle.gen_core.specs.NumberMaps as numbers;
+ghost use Rattle.gen_core.specs.NumberMaps.{flat};
 ghost use Rattle.std.specs.BTreeSet as set;
 ghost use Rattle.pl_model.specs.FirstArguments.{are_apart};
 ghost use Rattle.gen_core.specs.Index.{IsNext};
@@ -17,12 +20,13 @@ ghost use Rattle.gen_core.specs.Shared.{AreShared, ClausesStay};
 use crate::dated_clause::DatedClause;
 use crate::hit::Hit;
 use crate::index::{Index, Numbers, earlier, next_in, next_under};
+use crate::number_map::{Item, NumberMap};
 use crate::numbers::{PLACES, first_number, last_number, place_of};
 use crate::runs::Runs;
 use pl_model::kept::Kept;
 use pl_term::Memory;
 use std::alloc::Global;
-use std::collections::{BTreeMap, BTreeSet};
+use std::collections::BTreeSet;
 
 /// So many clauses are looked at one after the other, which takes less time than to find them by their keys.
 const FEW: usize = 8;
@@ -38,7 +42,7 @@ pub struct Entry<C, K> {
 #[derive(Drop)]
 pub struct ClauseIndex<C: Kept> {
     pub alloc: Global,
-    pub clauses: BTreeMap<u64, Entry<C, C::Key>>,
+    pub clauses: NumberMap<Entry<C, C::Key>>,
     pub index: Index<C::Key>,
     /// The numbers of the clauses whose first argument may be equal to any.
     pub any: BTreeSet<u64>,
@@ -89,8 +93,8 @@ impl<C: Kept> ClauseIndex<C> {
     fn next_number(&self, from: u64) -> Option<u64>
         ensures { IsNext (holds self.now.clauses (λ d. true)) from result }
     {
-        match self.clauses.range(from..).next() {
-            Some((number, _)) => Some(*number),
+        match self.clauses.first_from(from) {
+            Some(item) => Some(item.number),
             None => None,
         }
     }
@@ -134,7 +138,7 @@ impl<C: Kept> ClauseIndex<C> {
         ensures seen { is_some result ≡ holds self.now.clauses (is_visible g) number }
         ensures at { IfSome result (λ d. dated_at self.now.clauses number ≡ Some d.now) }
     {
-        match self.clauses.get(&number) {
+        match self.clauses.get(number) {
             Some(entry) => {
                 if entry.dated.is_visible(g) {
                     Some(&entry.dated)
@@ -156,11 +160,11 @@ impl<C: Kept> ClauseIndex<C> {
             return None;
         }
         let number = last_number(place);
-        if self.clauses.contains_key(&number) {
+        if self.clauses.get(number).is_some() {
             return Some(number);
         }
         let number = first_number(place);
-        if self.clauses.contains_key(&number) {
+        if self.clauses.get(number).is_some() {
             return Some(number);
         }
         None
@@ -189,7 +193,7 @@ impl<C: Kept> ClauseIndex<C> {
         }
         match self.list(other, number) {
             Ok(()) => Ok(()),
-            Err(Memory) => match self.clauses.remove(&number) {
+            Err(Memory) => match self.clauses.remove(number) {
                 Some(entry) => Err((clause_of(entry), Memory)),
                 None => unreachable!(),
             },
@@ -199,9 +203,9 @@ impl<C: Kept> ClauseIndex<C> {
     /// Puts a clause on a number without listing it.
     fn put(&mut self, clause: C, key: C::Key, place: u64, number: u64) -> Result<(), (C, Memory)>
         ensures ok { OnOk result (self.new.clauses.entries
-            ≡ tree.insert_entry nat_cmp self.old.clauses.entries number (record { dated = fresh place clause; key = key })) }
-        ensures updates { OnOk result (tree.Updates nat_cmp self.old.clauses self.new.clauses number (Some (record { dated = fresh place clause; key = key }))) }
-        ensures ordered { tree.IsOrdered nat_cmp self.new.clauses }
+            ≡ insert_entry nat_cmp self.old.clauses.entries number (record { dated = fresh place clause; key = key })) }
+        ensures updates { OnOk result (numbers.Updates self.old.clauses self.new.clauses number (Some (record { dated = fresh place clause; key = key }))) }
+        ensures ordered { numbers.IsOrdered self.new.clauses }
         ensures others { (self.new.index ≡ self.old.index) × (self.new.any ≡ self.old.any) × (self.new.erased ≡ self.old.erased) }
         ensures err { IfErr result (λ e. (e.0 ≡ clause) × (self.new.clauses.entries ≡ self.old.clauses.entries)) }
     {
@@ -210,12 +214,12 @@ impl<C: Kept> ClauseIndex<C> {
             clause,
             erased: None,
         };
-        match self.clauses.insert(number, Entry { dated, key }) {
-            Ok(_) => Ok(()),
-            Err(refused) => {
-                let (_, entry) = refused.value;
-                Err((clause_of(entry), Memory))
-            }
+        match self
+            .clauses
+            .insert(self.alloc, number, Entry { dated, key })
+        {
+            Ok(()) => Ok(()),
+            Err(entry) => Err((clause_of(entry), Memory)),
         }
     }
 
@@ -237,7 +241,7 @@ impl<C: Kept> ClauseIndex<C> {
     fn is_live(&self, number: u64) -> bool
         ensures { result ≡ holds self.now.clauses is_live number }
     {
-        match self.clauses.get(&number) {
+        match self.clauses.get(number) {
             Some(entry) => entry.dated.erased.is_none(),
             None => false,
         }
@@ -282,7 +286,7 @@ impl<C: Kept> ClauseIndex<C> {
     {
         if self.is_live(number) {
             self.erased.insert((place, number))?;
-            mark(&mut self.clauses, number, place);
+            self.clauses.mark(number, place);
             return Ok(true);
         }
         Ok(false)
@@ -310,7 +314,7 @@ impl<C: Kept> ClauseIndex<C> {
         ensures err { OnErr result (self.new.clauses.entries ≡ self.old.clauses.entries) }
     {
         self.erased = erasures(self.alloc, &self.clauses, place)?;
-        mark_all(&mut self.clauses, place);
+        self.clauses.mark_all(place);
         Ok(())
     }
 
@@ -319,8 +323,9 @@ impl<C: Kept> ClauseIndex<C> {
         ensures { result ≡ min (sum_by (live_size C.size) (clauses_of self.now.clauses)) (2 ^ 64 - 1) }
     {
         let mut cells: u64 = 0;
-        for entry in self.clauses.values() {
-            cells = cells.saturating_add(live_cells_of(&entry.dated));
+        let rows = self.clauses.rows();
+        for row in rows {
+            cells = cells.saturating_add(live_cells_in(row.value.as_slice()));
         }
         cells
     }
@@ -368,7 +373,7 @@ impl<C: Kept> ClauseIndex<C> {
         ensures kept { ClausesStay self.old.clauses self.new.clauses }
     {
         self.erased.remove(&(place, number));
-        match self.clauses.remove(&number) {
+        match self.clauses.remove(number) {
             Some(entry) => {
                 self.unlist(&entry.key, number);
                 dated_of(entry)
@@ -395,7 +400,7 @@ impl<C: Kept> ClauseIndex<C> {
     {
         ClauseIndex {
             alloc,
-            clauses: BTreeMap::new(alloc),
+            clauses: NumberMap::new(alloc),
             index: Index::new(alloc),
             any: BTreeSet::new(alloc),
             erased: BTreeSet::new(alloc),
@@ -404,9 +409,15 @@ impl<C: Kept> ClauseIndex<C> {
 
     /// Whether the generation `g` sees a clause.
     pub fn any_visible(&self, g: u64) -> bool
-        ensures { result ≡ list_any (λ e. is_visible g e.dated) (tree.values self.now.clauses) }
+        ensures { result ≡ list_any (λ e. is_visible g e.dated) (numbers.values self.now.clauses) }
     {
-        self.clauses.values().any(|entry| entry.dated.is_visible(g))
+        let rows = self.clauses.rows();
+        for row in rows {
+            if any_visible_in(row.value.as_slice(), g) {
+                return true;
+            }
+        }
+        false
     }
 
     /// Whether one of the first `floor` updates erased a clause.
@@ -478,19 +489,28 @@ impl<C: Kept> ClauseIndex<C> {
         requires { IsSound C.Key.Ord.cmp C.any C.key_of self.now }
         ensures { hit_of result ≡ first_choice (filter (is_choice C.Key.Ord.cmp C.any C.key_of g first.now) (clauses_from from self.now.clauses)) }
     {
-        let mut found: Option<&DatedClause<C>> = None;
-        for (_, entry) in self.clauses.range(from..) {
-            if is_tried::<C>(entry, first, g) {
-                if let Some(dated) = found {
-                    return Some(hit(dated, true));
-                }
-                found = Some(&entry.dated);
+        let Some(item) = self.next_tried(first, g, from) else {
+            return None;
+        };
+        let more = self.next_tried(first, g, item.number + 1).is_some();
+        Some(hit(&item.value.dated, more))
+    }
+
+    /// The first clause from `from` on that a call with this key tries, found by a look at one clause after the other.
+    fn next_tried(&self, first: &C::Key, g: u64, from: u64) -> Option<&Item<Entry<C, C::Key>>>
+        requires { IsSound C.Key.Ord.cmp C.any C.key_of self.now }
+        ensures next { IsNext (holds self.now.clauses (is_choice C.Key.Ord.cmp C.any C.key_of g first.now)) from (option_map (λ x. x.now.number) result) }
+        ensures at { IfSome result (λ x. dated_at self.now.clauses x.now.number ≡ Some x.now.value.dated) }
+        ensures bound { IfSome result (λ x. x.now.number < 2 ^ 50) }
+    {
+        let mut from = from;
+        while let Some(item) = self.clauses.first_from(from) {
+            if is_tried::<C>(&item.value, first, g) {
+                return Some(item);
             }
+            from = item.number + 1;
         }
-        match found {
-            Some(dated) => Some(hit(dated, false)),
-            None => None,
-        }
+        None
     }
 
     /// Whether each clause is listed under a key. `false` says nothing.
@@ -518,7 +538,7 @@ impl<C: Kept> ClauseIndex<C> {
             return None;
         }
         let number = last_number(place);
-        let Some(entry) = self.clauses.get(&number) else {
+        let Some(entry) = self.clauses.get(number) else {
             return None;
         };
         if shared.contains(&number) || !is_keyed::<C>(entry, first) {
@@ -603,42 +623,54 @@ fn hit<C>(dated: &DatedClause<C>, more: bool) -> Hit<'_, C>
     }
 }
 
-/// Writes the place of the erasure of the clause on the number.
-fn mark<C, K>(clauses: &mut BTreeMap<u64, Entry<C, K>>, number: u64, place: u64)
-    ensures { Marks clauses.old clauses.new number place }
+/// Whether the generation `g` sees one of these clauses.
+fn any_visible_in<C, K>(items: &[Item<Entry<C, K>>], g: u64) -> bool
+    ensures { result ≡ list_any (λ x. is_visible g x.value.dated) items.now }
 {
-    if let Some(entry) = clauses.get_mut(&number) {
-        entry.dated.erased = Some(place);
+    items.iter().any(|item| item.value.dated.is_visible(g))
+}
+
+/// The cells of those of these clauses that are not erased.
+fn live_cells_in<C: Kept>(items: &[Item<Entry<C, C::Key>>]) -> u64
+    ensures { result ≡ min (sum_by (λ x. live_size C.size x.value.dated) items.now) (2 ^ 64 - 1) }
+{
+    let mut cells: u64 = 0;
+    for item in items {
+        cells = cells.saturating_add(live_cells_of(&item.value.dated));
     }
+    cells
 }
 
 /// The places of the erasures of all clauses, each with the clause's number, where those that are not erased are erased at
 /// the place. The only error is out of memory.
 fn erasures<C, K>(
     alloc: Global,
-    clauses: &BTreeMap<u64, Entry<C, K>>,
+    clauses: &NumberMap<Entry<C, K>>,
     place: u64,
 ) -> Result<BTreeSet<(u64, u64)>, Memory>
     ensures { IfOk result (set.IsFromIterResult pair_order (map (λ e. (erased_from place e.1.dated, e.0)) clauses.now.entries)) }
 {
-    let all = clauses
-        .iter()
-        .map(|(number, entry)| (entry.dated.erased.unwrap_or(place), *number))
-        .collect(alloc)?;
+    let mut pairs = Vec::new(alloc);
+    let rows = clauses.rows();
+    for row in rows {
+        push_erasures(&mut pairs, row.value.as_slice(), place)?;
+    }
+    let all = pairs.iter().map(|pair| *pair).collect(alloc)?;
     Ok(all)
 }
 
-/// Writes the place of the erasure of each clause that is not erased.
-fn mark_all<C: Drop, K: Drop>(clauses: &mut BTreeMap<u64, Entry<C, K>>, place: u64)
-    ensures entries { clauses.new.entries ≡ map (λ e. (e.0, marked_all place e.1)) clauses.old.entries }
-    ensures ordered { tree.IsOrdered nat_cmp clauses.new }
+/// Lists the places of the erasures of the clauses of a row, each with the clause's number. The only error is out of memory.
+fn push_erasures<C, K>(
+    pairs: &mut Vec<(u64, u64)>,
+    items: &[Item<Entry<C, K>>],
+    place: u64,
+) -> Result<(), Memory>
+    ensures { OnOk result (pairs.new.items ≡ pairs.old.items ++ map (λ x. (erased_from place x.value.dated, x.number)) items.now) }
 {
-    clauses.retain(|_, entry| {
-        if entry.dated.erased.is_none() {
-            entry.dated.erased = Some(place);
-        }
-        true
-    });
+    for item in items {
+        pairs.push((item.value.dated.erased.unwrap_or(place), item.number))?;
+    }
+    Ok(())
 }
 
 /// What a clause costs that is not erased.

@@ -7,6 +7,7 @@ mod dated_clause;
 mod drops;
 mod hit;
 mod index;
+mod number_map;
 mod numbers;
 mod reclaiming;
 mod runs;

@@ -6,6 +6,7 @@ ghost use Rattle.gen_core.specs.ClauseIndex.{dated_at};
 ghost use Rattle.gen_core.specs.Runs.{AreGone, AreRuns, Leaves, is_gone};
 
 use crate::clause_index::Entry;
+use crate::number_map::NumberMap;
 use std::alloc::Global;
 use std::collections::BTreeMap;
 
@@ -71,7 +72,7 @@ impl Runs {
     }
 
     /// Notes that the clause on the number is erased, if it is. Where there is no memory for it nothing is noted.
-    pub fn note<C, K>(&mut self, clauses: &BTreeMap<u64, Entry<C, K>>, number: u64)
+    pub fn note<C, K>(&mut self, clauses: &NumberMap<Entry<C, K>>, number: u64)
         requires bound { number < 2 ^ 50 }
         requires runs { AreRuns self.old clauses.now }
         ensures runs { AreRuns self.new clauses.now }
@@ -88,7 +89,7 @@ impl Runs {
     /// the place.
     fn joined_before<C, K>(
         &self,
-        clauses: &BTreeMap<u64, Entry<C, K>>,
+        clauses: &NumberMap<Entry<C, K>>,
         number: u64,
         place: u64,
     ) -> (u64, u64)
@@ -108,7 +109,7 @@ impl Runs {
     /// The run that ends with the one that follows the number, which is taken out, or before the number.
     fn joined_behind<C, K>(
         &mut self,
-        clauses: &BTreeMap<u64, Entry<C, K>>,
+        clauses: &NumberMap<Entry<C, K>>,
         number: u64,
         place: u64,
     ) -> Run
@@ -134,7 +135,7 @@ impl Runs {
     }
 
     /// Puts a run in the place of the one that begins at the same number.
-    fn put<C, K>(&mut self, clauses: &BTreeMap<u64, Entry<C, K>>, first: u64, run: Run)
+    fn put<C, K>(&mut self, clauses: &NumberMap<Entry<C, K>>, first: u64, run: Run)
         requires runs { AreRuns self.old clauses.now }
         requires gone { AreGone clauses.now first run.until run.newest }
         ensures runs { AreRuns self.new clauses.now }
@@ -149,20 +150,20 @@ impl Runs {
 }
 
 /// Whether no clause stands on a number from one on and below another.
-fn is_free<C, K>(clauses: &BTreeMap<u64, Entry<C, K>>, from: u64, until: u64) -> bool
+fn is_free<C, K>(clauses: &NumberMap<Entry<C, K>>, from: u64, until: u64) -> bool
     ensures { result ≡ true → (q : ℕ) → from ≤ q → q < until → dated_at clauses.now q ≡ None }
 {
-    match clauses.range(from..).next() {
-        Some((number, _)) => until <= *number,
+    match clauses.first_from(from) {
+        Some(item) => until <= item.number,
         None => true,
     }
 }
 
 /// The place of the erasure of the clause on the number, if it is erased.
-fn erasure<C, K>(clauses: &BTreeMap<u64, Entry<C, K>>, number: u64) -> Option<u64>
+fn erasure<C, K>(clauses: &NumberMap<Entry<C, K>>, number: u64) -> Option<u64>
     ensures { IfSome result (λ k. is_gone k (dated_at clauses.now number) ≡ true) }
 {
-    match clauses.get(&number) {
+    match clauses.get(number) {
         Some(entry) => entry.dated.erased,
         None => None,
     }

@@ -1,8 +1,8 @@
+use Rattle.gen_core.specs.NumberMaps as numbers
 use Rattle.gen_core.proofs.RunLaws.{others_put}
 use Rattle.std.proofs.Common.{ap, ◌∙◌, refl}
 use Rattle.std.specs.Option.{option_map, option_map_or}
 use Rattle.std.specs.Ordering.{nat_cmp}
-use Rattle.std.specs.BTreeMap as tree
 use Rattle.std.specs.BTreeSet as set
 use Rattle.gen_core.specs.Index.{is_listed}
 use Rattle.gen_core.specs.Visible.{fresh}
@@ -39,15 +39,15 @@ returns-in-Some-clause-sound g c =
 pub returns-in-Some-clause-err : goal.returns-in-Some-clause-err
 returns-in-Some-clause-err g c = (
   c.clause_of.ensures
-      ∙ ap (λ o. option_map_or (λ x. x.dated.clause) o c.args.clause) (c.in-Some.ensures.value ∙ ap (tree.get_by (nat_cmp c.args.number)) c.list.ensures.others.0 ∙ c.in_default-put.ensures.updates.1),
+      ∙ ap (λ o. option_map_or (λ x. x.dated.clause) o c.args.clause) (c.in-Some.ensures.value ∙ ap (λ m. numbers.get m c.args.number) c.list.ensures.others.0 ∙ c.in_default-put.ensures.updates.1),
   entries_back g.C.Key.Ord.cmp c.args.self.now.clauses c.put.new.self.clauses c.list.new.self.clauses c.remove.new.self c.args.number (record { dated = fresh c.args.place c.args.clause; key = c.in-Ok.key }) (c.requires.free c.args.number c.requires.numbered) c.in_default-put.ensures.ok c.list.ensures.others.0 c.remove.ensures.entries,
 )
 
 pub returns-in-Ok-list-clause-others : goal.returns-in-Ok-list-clause-others
 returns-in-Ok-list-clause-others g c =
     others_put c.args.self.now.clauses c.list.new.self.clauses c.args.number (record { dated = fresh c.args.place c.args.clause; key = c.in-Ok.key })
-    (λ q. ap (λ m. tree.get nat_cmp m q) c.list.ensures.others.0 ∙ c.in_default-put.ensures.updates.0 q)
+    (λ q. ap (λ m. numbers.get m q) c.list.ensures.others.0 ∙ c.in_default-put.ensures.updates.0 q)
 
 pub returns-in-Ok-list-clause-at : goal.returns-in-Ok-list-clause-at
 returns-in-Ok-list-clause-at g c =
-    ap (option_map (λ x. x.dated)) (ap (tree.get_by (nat_cmp c.args.number)) c.list.ensures.others.0 ∙ c.in_default-put.ensures.updates.1)
+    ap (option_map (λ x. x.dated)) (ap (λ m. numbers.get m c.args.number) c.list.ensures.others.0 ∙ c.in_default-put.ensures.updates.1)

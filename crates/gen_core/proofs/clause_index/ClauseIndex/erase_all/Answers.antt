@@ -12,7 +12,7 @@ pub returns-clause-ok : goal.returns-clause-ok
 returns-clause-ok g c = ap (map (λ e. e.1.dated)) c.mark_all.ensures.entries ∙ clauses_all c.args.place c.args.self.now.clauses.entries
 
 pub returns-clause-stay : goal.returns-clause-stay
-returns-clause-stay g c = stay_all c.args.self.now.clauses c.mark_all.new.clauses c.args.place c.mark_all.ensures.entries
+returns-clause-stay g c = stay_all c.args.self.now.clauses c.mark_all.new.self c.args.place c.mark_all.ensures.entries
 
 pub returns-clause-kept : goal.returns-clause-kept
-returns-clause-kept g c = kept_all c.args.self.now.clauses c.mark_all.new.clauses c.args.place c.mark_all.ensures.entries
+returns-clause-kept g c = kept_all c.args.self.now.clauses c.mark_all.new.self c.args.place c.mark_all.ensures.entries

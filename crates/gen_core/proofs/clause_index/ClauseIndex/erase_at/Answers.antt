@@ -19,7 +19,7 @@ returns-then-is_live-clause-sound g c =
     live.2
     c.mark.ensures.ordered
     c.mark.ensures.updates
-    (subst (λ o. IfSome o (λ e. c.mark.new.clauses.entries ≡ set_value (is_at (nat_cmp c.args.number)) c.args.self.now.clauses.entries (marked c.args.place e))) live.1 c.mark.ensures.entries)
+    (subst (λ o. IfSome o (λ e. c.mark.new.self.entries ≡ set_value (is_at (nat_cmp c.args.number)) c.args.self.now.clauses.entries (marked c.args.place e))) live.1 c.mark.ensures.entries)
     refl
     refl
     (λ k q. c.in_ok-insert.ensures.updates.0 (k, q))
@@ -34,12 +34,12 @@ returns-then-is_live-clause-ok g c =
       entry = live.0;
       was = live.1;
       live = live.2;
-      entries = subst (λ o. IfSome o (λ e. c.mark.new.clauses.entries ≡ set_value (is_at (nat_cmp c.args.number)) c.args.self.now.clauses.entries (marked c.args.place e))) live.1 c.mark.ensures.entries;
+      entries = subst (λ o. IfSome o (λ e. c.mark.new.self.entries ≡ set_value (is_at (nat_cmp c.args.number)) c.args.self.now.clauses.entries (marked c.args.place e))) live.1 c.mark.ensures.entries;
     }
 
 pub returns-then-is_live-clause-stay : goal.returns-then-is_live-clause-stay
 returns-then-is_live-clause-stay g c =
-    stay_marked c.args.self.now.clauses c.mark.new.clauses c.args.number c.args.place (sym c.if-is_live.ensures) c.mark.ensures.updates
+    stay_marked c.args.self.now.clauses c.mark.new.self c.args.number c.args.place (sym c.if-is_live.ensures) c.mark.ensures.updates
 
 pub returns-then-is_live-clause-kept : goal.returns-then-is_live-clause-kept
-returns-then-is_live-clause-kept g c = kept_marked c.args.self.now.clauses c.mark.new.clauses c.args.number c.args.place c.mark.ensures.updates
+returns-then-is_live-clause-kept g c = kept_marked c.args.self.now.clauses c.mark.new.self c.args.number c.args.place c.mark.ensures.updates

@@ -1,19 +1,27 @@
-use Rattle.std.proofs.Common.{ap, ◌∙◌}
-use Rattle.std.specs.Prelude.{min}
-use Rattle.std.specs.Map.Iter.{deref}
-use Rattle.std.specs.BTreeMap as tree
-use Rattle.std.proofs.lemmas.Map.Iter.{iter_end}
+use Rattle.std.proofs.Common.{◌≡◌, ℕ, ◌+◌, suc, length, refl, take, ap, subst, ◌∙◌, arith}
+use Rattle.std.proofs.lemmas.Option.{slice_get_read}
+use Rattle.std.proofs.lemmas.List.{take_all}
+use Rattle.std.specs.Prelude.{map, min, sum_by}
+use Rattle.gen_core.specs.declared.clause_index.Entry.{Entry}
+use Rattle.gen_core.specs.NumberMaps.{Row}
 use Rattle.gen_core.specs.Visible.{live_size}
-use Rattle.gen_core.proofs.Cells.{bounded_more, cells_all}
+use Rattle.gen_core.proofs.RowReads.{cells_flat, summed_more}
 use Rattle.gen_core.proofs.clause_index.ClauseIndex.live_cells.Goals as goal
 
-pub loop-entry-preserved : goal.loop-entry-preserved
-loop-entry-preserved g c =
-    bounded_more (λ e. live_size g.C.Kept.size e.now.dated) _ c.loop-entry.yielded c.in-Some.entry c.loop-entry.cells c.live_cells_of.result c.saturating_add-cells.result c.loop-entry.invariant c.live_cells_of.ensures c.saturating_add-cells.ensures
+pub loop-row-preserved : goal.loop-row-preserved
+loop-row-preserved g c =
+    let rows = c.rows-rows.result.now in
+    let row = c.row-item.result in
+    let here = slice_get_read rows (length rows) c.loop-row.row-index row refl (omega (arith, c.loop-row-test.true)) c.row-item.is in
+    let next : suc c.loop-row.row-index ≡ c.loop-row.row-index + 1 = omega arith in
+    let f : Row (Entry g.row.C.Denot g.row.C-Key.Denot) → ℕ = λ r. sum_by (λ x. live_size g.C.Kept.size x.value.dated) r.value.items in
+    let own = c.live_cells_in.ensures ∙ ap (λ xs. min (sum_by (λ x. live_size g.C.Kept.size x.value.dated) xs) 18446744073709551615) c.as_slice.ensures.value in
+    subst (λ n. c.saturating_add-cells.result ≡ min (sum_by f (take n rows)) 18446744073709551615) next
+    (summed_more f 18446744073709551615 rows c.loop-row.row-index row c.loop-row.cells c.live_cells_in.result c.saturating_add-cells.result here c.loop-row.invariant own c.saturating_add-cells.ensures)
 
 pub returns : goal.returns
 returns g c =
-    c.loop-entry.invariant
-    ∙ ap (λ n. min n 18446744073709551615)
-    (cells_all deref g.C.Kept.size c.loop-entry.yielded c.args.self.now.clauses.entries
-    (iter_end deref (tree.values c.args.self.now.clauses) c.loop-entry.yielded c.into_iter-entry-iterator.result c.loop-entry.entry-iterator c.next.new.self c.next.result (c.into_iter-entry-iterator.ensures.into_iter_gives ∙ c.values-entry-items.ensures.rest) c.loop-entry.yielded_by c.in-None.is c.next.ensures.steps).0)
+    let rows = c.rows-rows.result.now in
+    let f : Row (Entry g.row.C.Denot g.row.C-Key.Denot) → ℕ = λ r. sum_by (λ x. live_size g.C.Kept.size x.value.dated) r.value.items in
+    c.loop-row.invariant ∙ ap (λ rs. min (sum_by f rs) 18446744073709551615) (take_all c.loop-row.row-index rows (omega (arith, c.loop-row-test.false)))
+    ∙ ap (λ n. min n 18446744073709551615) (cells_flat g.C.Kept.size rows ∙ ap (λ es. sum_by (live_size g.C.Kept.size) (map (λ e. e.1.dated) es)) c.rows-rows.ensures)

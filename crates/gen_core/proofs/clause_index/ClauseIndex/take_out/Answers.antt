@@ -1,8 +1,7 @@
+use Rattle.gen_core.specs.NumberMaps as numbers
 use Rattle.gen_core.proofs.RunLaws.{stay_out}
 use Rattle.gen_core.proofs.SharedLaws.{kept_out}
 use Rattle.std.proofs.Common.{sym, ap, subst, ◌∙◌, ◌≡◌, Some}
-use Rattle.std.specs.Ordering.{nat_cmp}
-use Rattle.std.specs.BTreeMap as tree
 use Rattle.std.specs.BTreeSet as set
 use Rattle.gen_core.specs.ClauseIndex.{pair_order}
 use Rattle.gen_core.proofs.Erasures.{erased_at, sound_dropped, length_out}
@@ -10,11 +9,11 @@ use Rattle.gen_core.proofs.clause_index.ClauseIndex.take_out.Goals as goal
 
 pub returns-clause-sound : goal.returns-clause-sound
 returns-clause-sound g c =
-    let was : tree.get nat_cmp c.args.self.now.clauses c.args.number ≡ Some c.in-Some.entry = sym c.in-Some.ensures.value in
+    let was : numbers.get c.args.self.now.clauses c.args.number ≡ Some c.in-Some.entry = sym c.in-Some.ensures.value in
     sound_dropped
     g.C.Key.Ord.cmp g.C.Kept.any g.C.Kept.key_of c.args.self.now c.requires.sound c.args.number c.args.place c.in-Some.entry was c.unlist.new.self
-    (subst (tree.IsOrdered nat_cmp) (sym c.unlist.ensures.others.0) c.in-Some.ensures.ordered)
-    (λ q. ap (λ m. tree.get nat_cmp m q) c.unlist.ensures.others.0 ∙ c.in-Some.ensures.updates.0 q)
+    (subst (numbers.IsOrdered) (sym c.unlist.ensures.others.0) c.in-Some.ensures.ordered)
+    (λ q. ap (λ m. numbers.get m q) c.unlist.ensures.others.0 ∙ c.in-Some.ensures.updates.0 q)
     (ap (λ m. m.entries) c.unlist.ensures.others.0 ∙ c.in-Some.ensures.entries)
     (record { by_key = c.unlist.ensures.unlists.by_key; by_any = c.unlist.ensures.unlists.by_any })
     (erased_at c.args.self.now.clauses c.args.place c.args.number c.in-Some.entry was c.requires.erased)
@@ -24,7 +23,7 @@ returns-clause-sound g c =
 
 pub returns-clause-out : goal.returns-clause-out
 returns-clause-out g c =
-    let was : tree.get nat_cmp c.args.self.now.clauses c.args.number ≡ Some c.in-Some.entry = sym c.in-Some.ensures.value in
+    let was : numbers.get c.args.self.now.clauses c.args.number ≡ Some c.in-Some.entry = sym c.in-Some.ensures.value in
     record {
       number = c.args.number;
       entry = c.in-Some.entry;
@@ -37,9 +36,9 @@ returns-clause-out g c =
 pub returns-clause-stay : goal.returns-clause-stay
 returns-clause-stay g c =
     stay_out c.args.self.now.clauses c.unlist.new.self.clauses c.args.number
-    (λ q. ap (λ m. tree.get nat_cmp m q) c.unlist.ensures.others.0 ∙ c.in-Some.ensures.updates.0 q)
+    (λ q. ap (λ m. numbers.get m q) c.unlist.ensures.others.0 ∙ c.in-Some.ensures.updates.0 q)
 
 pub returns-clause-kept : goal.returns-clause-kept
 returns-clause-kept g c =
     kept_out c.args.self.now.clauses c.unlist.new.self.clauses c.args.number
-    (λ q. ap (λ m. tree.get nat_cmp m q) c.unlist.ensures.others.0 ∙ c.in-Some.ensures.updates.0 q)
+    (λ q. ap (λ m. numbers.get m q) c.unlist.ensures.others.0 ∙ c.in-Some.ensures.updates.0 q)
