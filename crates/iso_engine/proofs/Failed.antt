@@ -17,10 +17,13 @@ use Rattle.iso_search.specs.Outcomes.{Setting, limits_in, state_in}
 use Rattle.iso_engine.specs.declared.doing.Doing.{Doing}
 use Rattle.iso_engine.specs.declared.doing.Doing.TheVariants.{Failing}
 use Rattle.iso_engine.specs.declared.engine.Engine.{Engine}
+use Rattle.iso_engine.specs.declared.quick.Quick.{Quick}
+use Rattle.iso_engine.specs.declared.quick.Quick.TheVariants.{Went, Missed, Other}
 use Rattle.iso_engine.specs.declared.slices.Slice.{Slice}
 use Rattle.iso_engine.specs.declared.slices.Slice.TheVariants.{Yield, Solution, NeedsAtoms, Retry, Worn, Waits, Ended, Memory}
 use Rattle.iso_engine.specs.Advancing.{Advances}
 use Rattle.iso_engine.specs.Views.{view_of}
+use Rattle.iso_engine.specs.Quick.{IsGoneAtOnce, IsQuick}
 use Rattle.iso_engine.specs.Slices.{IsStepped}
 use Rattle.iso_engine.specs.Spending.{IsSpent}
 use Rattle.iso_engine.specs.Failing.{FailsTo, StandsForBack}
@@ -124,6 +127,16 @@ module _ (m n : Names) (t u : Told) (e : Engine) (x : Search) (f : Engine) (b : 
   retried_step (Some Ended) gone taken step = absurd gone.0
   retried_step (Some Memory) gone taken step = absurd gone.0
 
+  pub retried_quick : (q : Quick) → IsGoneAtOnce t taken_off b n u f q → IsTaken e.search x b → GoesBack
+      → IsQuick m t e n u f q × IsReady n u f × IsSpent e.search.inferences f.search.inferences × (f.solutions_found ≡ e.solutions_found)
+  retried_quick Went gone taken step = tried_step gone step
+  retried_quick Missed gone taken step =
+      let k = back_again gone taken
+      in ((k.0, ap (λ (y : Search). y.inferences) gone.search ∙ ap (λ (y : Search). y.inferences) kept), k.1, k.2, k.3)
+  retried_quick Other gone taken step =
+      let k = back_again gone taken
+      in ((k.0, ap (λ (y : Search). y.inferences) gone.search ∙ ap (λ (y : Search). y.inferences) kept), k.1, k.2, k.3)
+
 -- A step was made, or none.
 abbrev pub IsStepAfter : Names → Told → Engine → Names → Told → Engine → Option Slice → Type 0
 IsStepAfter m t e n u f o =
@@ -141,6 +154,22 @@ pub retried_end : (m n : Names) (t u : Told) (e : Engine) (x : Search) (f : Engi
 retried_end m n t u e x f b can holds view ready fails kept (Ok o) whole gone taken step =
     retried_step m n t u e x f b can holds view ready fails kept whole o gone taken step
 retried_end m n t u e x f b can holds view ready fails kept (Err d) whole gone taken step = tt
+
+-- The same of a step that is made at once.
+abbrev pub IsQuickAfter : Names → Told → Engine → Names → Told → Engine → Quick → Type 0
+IsQuickAfter m t e n u f q = IsQuick m t e n u f q × IsReady n u f × IsSpent e.search.inferences f.search.inferences × (f.solutions_found ≡ e.solutions_found)
+
+pub quick_end : (m n : Names) (t u : Told) (e : Engine) (x : Search) (f : Engine) (b : Back) (can : CanBePutBack b) (holds : Holds m n) (view : IsView (view_of n u)) (ready : IsReady m t e)
+    (fails : e.doing ≡ Failing) (kept : (let y : Search = record e.search { store = x.store; frames = x.frames; choices = x.choices } in x ≡ y))
+    (r : Result Quick NoMemory)
+    → OnOk r (IsWhole f.search)
+    → (let y : Engine = record e { search = x } in IfOk r (IsGoneAtOnce t y b n u f))
+    → IsTaken e.search x b
+    → ((q : Setting) → q.doing ≡ failing → back_result q x b ≡ gone_back (limits_in q e.search) (state_in q e.search) (choices_of q.view e.search))
+    → IfOk r (IsQuickAfter m t e n u f)
+quick_end m n t u e x f b can holds view ready fails kept (Ok q) whole gone taken step =
+    retried_quick m n t u e x f b can holds view ready fails kept whole q gone taken step
+quick_end m n t u e x f b can holds view ready fails kept (Err d) whole gone taken step = tt
 
 -- It goes on by itself.
 pub failed_after : (m : Names) (t : Told) (e : Engine) (x : Search) (d : Doing) (b : Back) → IsView (view_of m t) → IsReady m t e → e.doing ≡ Failing

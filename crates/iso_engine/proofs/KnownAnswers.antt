@@ -1,25 +1,23 @@
 -- A visit whose answer is known without a look.
-use Rattle.std.proofs.Common.{◌≡◌, inl, List, Option, Some, None, Result, Ok, Err, ap, refl, sym, subst, ◌∙◌}
+use Rattle.std.proofs.Common.{◌≡◌, inl, [], Option, Some, None, Result, Ok, Err, ap, refl, sym, subst, ◌∙◌}
 use Rattle.std.specs.Prelude.{IfNone, IfOk, IfSome, OnOk}
-use Rattle.pl_term.specs.Tree.{Chars}
 use Rattle.pl_term.specs.declared.memory.Memory.{Memory}
 use Rattle.atom_api.specs.Names.{Names}
 use Rattle.iso_search.specs.declared.search.Search.{Search}
 use Rattle.iso_search.specs.Reading.{IsView}
 use Rattle.iso_search.specs.Searching.{IsWhole}
-use Rattle.world_api.specs.Gains.{Gains}
 use Rattle.world_api.specs.Texts.{Holds}
 use Rattle.world_api.specs.Told.{Told}
 use Rattle.iso_engine.specs.declared.engine.Engine.{Engine}
 use Rattle.iso_engine.specs.declared.quick.Quick.{Quick}
 use Rattle.iso_engine.specs.declared.quick.Quick.TheVariants.{Went, Missed, Other}
-use Rattle.iso_engine.specs.Asked.{AsksOnWay}
+use Rattle.iso_engine.specs.Advancing.{Advances}
 use Rattle.iso_engine.specs.Quick.{IsPassed, IsQuick}
 use Rattle.iso_engine.specs.Ready.{IsReady}
 use Rattle.iso_engine.specs.Spending.{IsSpent}
 use Rattle.iso_engine.specs.Standing.{aims_of}
 use Rattle.iso_engine.specs.Views.{view_of}
-use Rattle.iso_engine.proofs.Stability.{advance_step, spent_by, step_ready}
+use Rattle.iso_engine.proofs.Stability.{advance_none, advance_step, spent_by, step_ready}
 
 -- The same atoms are held
 pub same_held : (m n : Names) → n ≡ m → Holds m n
@@ -57,17 +55,17 @@ engine_there P m k t u e d names told engine is =
 pub to_there : (P : Names → Told → Engine → Type 0) (m k : Names) (t u : Told) (e d : Engine) → k ≡ m → u ≡ t → d ≡ e → P m t e → P k u d
 to_there P m k t u e d names told engine is = engine_there P k m u t d e (sym names) (sym told) (sym engine) is
 
--- A step that was not made at once has changed nothing
-pub quick_kept : (m n : Names) (t u : Told) (e f : Engine) (q : Quick) → (q ≡ Went → ⊥) → IsQuick m t e n u f q → (u ≡ t) × (f ≡ e)
-quick_kept m n t u e f Went not h = absurd (not refl)
-quick_kept m n t u e f Missed not h = h
-quick_kept m n t u e f Other not h = h
+-- A step that was not made at once
+pub quick_still : (m n : Names) (t u : Told) (e f : Engine) (q : Quick) → (q ≡ Went → ⊥) → IsQuick m t e n u f q
+    → Advances 0 m t e n u f [] × (f.search.inferences ≡ e.search.inferences)
+quick_still m n t u e f Went not h = absurd (not refl)
+quick_still m n t u e f Missed not h = h
+quick_still m n t u e f Other not h = h
 
--- Where nothing has changed, and nothing was interned, what was interned on the way is what it was
-pub way_kept : (m n r : Names) (t u w : Told) (e f g : Engine) (a b d : Option (List Chars)) → r ≡ n → w ≡ u → g ≡ f → d ≡ b → Gains (AsksOnWay m t e n u f) a b
-    → Gains (AsksOnWay m t e r w g) a d
-way_kept m n r t u w e f g a b d names told engine asked way =
-    subst (λ x. Gains (AsksOnWay m t e r w g) a x) (sym asked) (to_there (λ x y z. Gains (AsksOnWay m t e x y z) a b) n r u w f g names told engine way)
+-- Where nothing has changed the engine stands where it stood
+pub stands_still : (m n : Names) (t u : Told) (e f : Engine) → n ≡ m → u ≡ t → f ≡ e → Advances 0 m t e n u f [] × (f.search.inferences ≡ e.search.inferences)
+stands_still m n t u e f names told engine =
+    to_there (λ (x : Names) (y : Told) (z : Engine). Advances 0 m t e x y z [] × (z.search.inferences ≡ e.search.inferences)) m n t u e f names told engine (advance_none m t e, refl)
 
 -- The engine after a task was passed, or not
 pub passed_ready : (m : Names) (t : Told) (e f : Engine) (q : Quick) → IsPassed e f q → IsWhole f.search → IsView (view_of m t) → IsReady m t e → IsReady m t f
@@ -83,8 +81,8 @@ passed_spent m t e f Other h view = inl (ap (λ (x : Engine). x.search.inference
 pub passed_quick : (m : Names) (t : Told) (e f : Engine) (q : Quick) → IsPassed e f q → f.search.budgets ≡ e.search.budgets → aims_of f ≡ aims_of e
     → f.solutions_found ≡ e.solutions_found → IsView (view_of m t) → IsQuick m t e m t f q
 passed_quick m t e f Went h budgets wanted given view = advance_step m t e f h budgets wanted given view
-passed_quick m t e f Missed h budgets wanted given view = (refl, h)
-passed_quick m t e f Other h budgets wanted given view = (refl, h)
+passed_quick m t e f Missed h budgets wanted given view = stands_still m m t t e f refl refl h
+passed_quick m t e f Other h budgets wanted given view = stands_still m m t t e f refl refl h
 
 pub first_ready : (m : Names) (t : Told) (e f : Engine) (r : Result Quick Memory) → IfOk r (IsPassed e f) → OnOk r (IsWhole f.search) → IsView (view_of m t) → IsReady m t e
     → OnOk r (IsReady m t f)

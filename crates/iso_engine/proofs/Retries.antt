@@ -1,5 +1,5 @@
 -- The next clause of a list was tried, as a step of the definition.
-use Rattle.std.proofs.Common.{◌≡◌, ℕ, ◌≤◌, length, IsSome, refl, sym, ap, subst, ◌∙◌}
+use Rattle.std.proofs.Common.{◌≡◌, ◌∷◌, ℕ, ◌≤◌, length, IsSome, refl, sym, ap, subst, ◌∙◌}
 use Rattle.std.specs.List.{All}
 use Rattle.pl_term.specs.Tree.{Tree}
 use Rattle.pl_model.specs.Control.{tried_by}
@@ -14,11 +14,12 @@ use Rattle.world_api.specs.Told.{Told}
 use Rattle.iso_search.specs.declared.failure.Back.TheVariants.{Retry as RetryBack}
 use Rattle.iso_search.specs.declared.outcome.Outcome.{Outcome}
 use Rattle.iso_search.specs.declared.choices.Purpose.{Purpose}
-use Rattle.iso_search.specs.Choices.{listed_goal, purpose_of}
+use Rattle.iso_search.specs.Choices.{choice_at, listed_goal, purpose_of}
+use Rattle.iso_search.specs.declared.choices.Alternative.TheVariants.{Clauses}
 use Rattle.iso_search.specs.Outcomes.{Setting, doing_by}
-use Rattle.iso_search.specs.Reading.{IsView, reads}
+use Rattle.iso_search.specs.Reading.{IsView, View, reads}
 use Rattle.iso_search.specs.declared.search.Search.{Search}
-use Rattle.iso_search.specs.Searching.{node_of, state_of}
+use Rattle.iso_search.specs.Searching.{choices_of, node_of, state_of}
 use Rattle.iso_search.specs.Spelling.{text_of}
 use Rattle.iso_engine.specs.Lists.{IsListed}
 use Rattle.iso_engine.specs.Retried.{IsNextRun, IsPutBack as IsPutBackAfter}
@@ -87,3 +88,16 @@ module _ (m n : Names) (t u : Told) (e f : Engine) (q : Purpose) (goal : Place) 
 pub put_back : (t u : Told) (e : Engine) (f : Search) (q : Purpose) (goal : Place) (g place next : ℕ) → IsPutBackAfter t e.search q goal g place next u f
     → (let y : Engine = record e { search = f } in IsPutBack t e (RetryBack q goal g place next) u y)
 put_back t u e f q goal g place next put = record { told = put.told; taken = put.choices; search = put.search; rest = refl }
+
+-- The same where the choice point was made anew.
+pub put_again : (t u : Told) (e : Engine) (d f : Search) (q : Purpose) (goal : Place) (g place next : ℕ) → u ≡ t → d ≡ e.search
+    → ((v : View) → choices_of v f ≡ choice_at v (reads v d.store) (node_of v d next) (Clauses q goal g place) ∷ choices_of v d)
+    → (let y : Search = record d { choices = f.choices } in f ≡ y)
+    → (let y : Engine = record e { search = f } in IsPutBack t e (RetryBack q goal g place next) u y)
+put_again t u e d f q goal g place next told search choices kept =
+    put_back t u e f q goal g place next
+    (record {
+      told = told;
+      choices = subst (λ (x : Search). (v : View) → choices_of v f ≡ choice_at v (reads v x.store) (node_of v x next) (Clauses q goal g place) ∷ choices_of v x) search choices;
+      search = subst (λ (x : Search). let y : Search = record x { choices = f.choices } in f ≡ y) search kept;
+    })

@@ -85,6 +85,32 @@ walk_on limit k m n r t u w e f g a b c more walk step out runs ready holds spen
     higher (inl p) lt = omega (arith, p, lt)
     higher (inr p) lt = omega (arith, p, lt)
 
+-- The engine stands where it stood.
+pub walk_stays : (limit k : ℕ) (m n r : Names) (t u w : Told) (e f g : Engine) (a b : List ℕ)
+    → IsWalk limit k m t e n u f a b
+    → Advances 0 n u f r w g []
+    → has_ended w.engine w.history ≡ false
+    → IsReady r w g
+    → Holds n r
+    → g.search.inferences ≡ f.search.inferences
+    → g.solutions_found ≡ f.solutions_found
+    → IsWalk limit k m t e r w g a b
+walk_stays limit k m n r t u w e f g a b walk still runs ready holds count given =
+    record {
+      runs = runs;
+      ready = ready;
+      written = walk.written ++ [];
+      advances = subst (λ (j : ℕ). Advances j m t e r w g (walk.written ++ [])) none (advance_then k 0 m n r t u w e f g walk.written [] walk.advances still);
+      out = bytes-append a b b walk.written [] walk.out (sym (append-nil b));
+      low = (let p = walk.low in omega (arith, p, count));
+      high = (let p = walk.high in omega (arith, p, count));
+      holds = λ i x h. holds i x (walk.holds i x h);
+      given = given ∙ walk.given;
+    }
+  where
+    none : 0 + k ≡ k
+    none = omega arith
+
 -- Nothing ended the slice.
 pub went_on : (n r : Names) (u w : Told) (f g : Engine) (b c : List ℕ) (o : Option Slice)
     → (more : List Output) × IsStepped n u f o r w g more × (c ≡ b ++ encode_utf8_all (written_text more))

@@ -5,6 +5,7 @@ ghost use Rattle.world_api.specs.Texts.{Holds};
 ghost use Rattle.world_api.specs.Told.{has_ended};
 ghost use Rattle.iso_engine.specs.declared.doing.Doing.TheVariants.{Failing};
 ghost use Rattle.iso_engine.specs.Asked.{AsksFor};
+ghost use Rattle.iso_engine.specs.Quick.{IsQuick};
 ghost use Rattle.iso_engine.specs.Ready.{IsReady};
 ghost use Rattle.iso_engine.specs.Spending.{IsSpent};
 ghost use Rattle.iso_engine.specs.Slices.{IsStepped};
@@ -13,9 +14,11 @@ ghost use Rattle.iso_engine.specs.Unserved.{as_stopped, stopped_refusals};
 use crate::doing::{Doing, End};
 use crate::engine::Engine;
 use crate::findall::give_list;
+use crate::quick::Quick;
 use crate::slices::Slice;
 use crate::untried::resume_clauses;
 use iso_search::failure::Back;
+use pl_term::Memory;
 use term_store::Stored;
 use world_api::{Unserved, World};
 
@@ -52,6 +55,40 @@ impl Engine {
             );
         }
         self.fail_apart(world, atoms)
+    }
+
+    /// Goes back at once to the newest choice point, where it has clauses that were not tried and the world knows the next of them. The
+    /// only error is out of memory.
+    #[inline(never)]
+    pub fn fail_known<W: World<Term = Stored>>(
+        &mut self,
+        world: &mut W,
+        atoms: &mut W::A,
+    ) -> Result<Quick, Memory>
+        requires runs { has_ended (W.told world.old).engine (W.told world.old).history ≡ false }
+        requires ready { IsReady (W.A.held atoms.old) (W.told world.old) self.old }
+        requires fails { self.old.doing ≡ Failing }
+        ensures runs { has_ended (W.told world.new).engine (W.told world.new).history ≡ false }
+        ensures held { W.A.held atoms.new ≡ W.A.held atoms.old }
+        ensures refusals { W.A.refusals atoms.new ≡ W.A.refusals atoms.old }
+        ensures asked { W.A.asked atoms.new ≡ W.A.asked atoms.old }
+        ensures given { OnOk result (self.new.solutions_found ≡ self.old.solutions_found) }
+        ensures spent { OnOk result (IsSpent self.old.search.inferences self.new.search.inferences) }
+        ensures ready { OnOk result (IsReady (W.A.held atoms.new) (W.told world.new) self.new) }
+        ensures quick { IfOk result (IsQuick (W.A.held atoms.old) (W.told world.old) self.old (W.A.held atoms.new) (W.told world.new) self.new) }
+    {
+        if let Some(left) = resume_clauses(&mut self.search) {
+            return self.retry_known(
+                left.purpose,
+                left.goal,
+                left.generation,
+                left.place,
+                left.next,
+                world,
+                atoms,
+            );
+        }
+        Ok(Quick::Other)
     }
 
     /// Does the same, whatever was not tried there.

@@ -24,8 +24,8 @@ use term_store::Stored;
 use world_api::{Unserved, World};
 
 impl Engine {
-    /// Makes the step at once, where it is a call by the name of its goal alone and the world knows the clauses, or passes a goal. The
-    /// only error is out of memory.
+    /// Makes the step at once, where it is a call by the name of its goal alone, or goes back to clauses that were not tried, and the world
+    /// knows the clauses; or where it passes a goal. The only error is out of memory.
     #[inline(always)]
     pub fn step_known<W: World<Term = Stored>>(
         &mut self,
@@ -43,17 +43,20 @@ impl Engine {
         ensures ready { OnOk result (IsReady (W.A.held atoms.new) (W.told world.new) self.new) }
         ensures quick { IfOk result (IsQuick (W.A.held atoms.old) (W.told world.old) self.old (W.A.held atoms.new) (W.told world.new) self.new) }
     {
-        if let Doing::Running(list) = &self.doing {
-            let list = *list;
-            if let Some(first) = first_call(&self.search, list) {
-                let goal = first.goal;
-                let request = first.request;
-                let rest = first.rest;
-                return self.call_known(goal, request.procedure, request, rest, world, atoms);
+        match &self.doing {
+            Doing::Running(list) => {
+                let list = *list;
+                if let Some(first) = first_call(&self.search, list) {
+                    let goal = first.goal;
+                    let request = first.request;
+                    let rest = first.rest;
+                    return self.call_known(goal, request.procedure, request, rest, world, atoms);
+                }
+                self.pass_first(list)
             }
-            return self.pass_first(list);
+            Doing::Failing => self.fail_known(world, atoms),
+            _ => Ok(Quick::Other),
         }
-        Ok(Quick::Other)
     }
 
     /// Makes a step that was not made at once, or says why none can be made. What the goal writes is put after `out`.

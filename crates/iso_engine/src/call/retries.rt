@@ -77,7 +77,7 @@ pub fn retry_clauses<W: World<Term = Stored>>(
 
 /// The same, where the world knows the next of the clauses: tries it. None: nothing has changed. The only error is out of memory.
 #[inline(always)]
-fn retry_known<W: World<Term = Stored>>(
+pub fn retry_known<W: World<Term = Stored>>(
     search: &mut Search,
     world: &mut W,
     atoms: &mut W::A,
@@ -191,7 +191,7 @@ fn retry_anew<W: World<Term = Stored>>(
 
 /// Makes a choice point of the clauses that were not tried, before the tasks of a list. The only error is out of memory.
 #[inline(never)]
-fn put_back(
+pub fn put_back(
     search: &mut Search,
     purpose: Purpose,
     goal: Place,

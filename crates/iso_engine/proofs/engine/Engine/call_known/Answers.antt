@@ -19,7 +19,7 @@ use Rattle.iso_engine.specs.Ready.{IsReady}
 use Rattle.iso_engine.specs.Slices.{IsStepped}
 use Rattle.iso_engine.specs.Spending.{IsSpent}
 use Rattle.iso_engine.specs.Unserved.{as_stopped, stopped_refusals}
-use Rattle.iso_engine.proofs.KnownAnswers.{from_engine, same_held, to_engine, where_none, where_some}
+use Rattle.iso_engine.proofs.KnownAnswers.{from_engine, same_held, stands_still, to_engine, where_none, where_some}
 use Rattle.iso_engine.proofs.Moved.{ran_moved}
 use Rattle.iso_engine.proofs.Opening.{goal_held}
 use Rattle.iso_engine.proofs.Solutions.{view_is}
@@ -116,4 +116,6 @@ returns-in-None-clause-quick g c =
     let e : Engine = c.args.self.now in
     let d : Search = c.call_known.new.search in
     let none = where_none ((g.W.World.told c.call_known.new.world ≡ g.W.World.told c.args.world.now) × (d ≡ e.search)) c.in_ok-known.known c.in-None.is c.in_ok-known.ensures.none in
-    (none.0, ap (λ (x : Search). let z : Engine = record e { search = x } in z) none.1)
+    let f : Engine = record e { search = d } in
+    stands_still (g.W.A.Atoms.held c.args.atoms.now) (g.W.A.Atoms.held c.call_known.new.atoms) (g.W.World.told c.args.world.now) (g.W.World.told c.call_known.new.world) e f
+    c.call_known.ensures.held none.0 (ap (λ (x : Search). let z : Engine = record e { search = x } in z) none.1)

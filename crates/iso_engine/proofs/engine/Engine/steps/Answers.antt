@@ -9,14 +9,13 @@ use Rattle.iso_engine.specs.Quick.{IsQuick}
 use Rattle.iso_engine.specs.Slices.{IsStepped, steps_of, written_text}
 use Rattle.iso_engine.specs.Spending.{IsSpent}
 use Rattle.iso_engine.specs.Unserved.{stopped_refusals}
-use Rattle.iso_engine.specs.Walking.{IsWalk}
 use Rattle.world_api.specs.Gains.{Gains}
 use Rattle.world_api.proofs.Gaining.{gains_nothing}
-use Rattle.iso_engine.proofs.KnownAnswers.{quick_kept, same_held, to_there, way_kept}
+use Rattle.iso_engine.proofs.KnownAnswers.{quick_still, same_held}
 use Rattle.iso_engine.proofs.Stepping.{silent_out}
 use Rattle.iso_engine.proofs.Arms.{when_none}
 use Rattle.iso_engine.proofs.Interning.{came, come_gains, nothing_asked, step_advances, way_gains}
-use Rattle.iso_engine.proofs.Walks.{none_refused, slice_ends, some_refused, walk_begins, walk_on, went_on}
+use Rattle.iso_engine.proofs.Walks.{none_refused, slice_ends, some_refused, walk_begins, walk_on, walk_stays, went_on}
 use Rattle.iso_engine.proofs.engine.Engine.steps.Goals as goal
 
 pub loop-init : goal.loop-init
@@ -80,12 +79,12 @@ loop-preserved g c =
     let u = g.W.World.told c.step_known.new.world in
     let w = g.W.World.told c.step-stepped.new.world in
     let d = c.step_known.new.self in
-    let kept = quick_kept before n old u c.loop.self d c.in_ok-quick.quick c.in_default.not-Went c.in_ok-quick.ensures.quick in
-    let walk = to_there (λ x y z. IsWalk c.args.n c.loop.invariant.0 (g.W.A.Atoms.held c.args.atoms.now) (g.W.World.told c.args.world.now) c.args.self.now x y z c.args.out.now.items c.loop.out.items)
-    before n old u c.loop.self d c.step_known.ensures.held kept.0 kept.1 c.loop.invariant.2 in
+    let still = quick_still before n old u c.loop.self d c.in_ok-quick.quick c.in_default.not-Went c.in_ok-quick.ensures.quick in
+    let walk = walk_stays c.args.n c.loop.invariant.0 (g.W.A.Atoms.held c.args.atoms.now) before n (g.W.World.told c.args.world.now) old u c.args.self.now c.loop.self d c.args.out.now.items c.loop.out.items
+    c.loop.invariant.2 still.0 c.step_known.ensures.runs c.in_ok-quick.ensures.ready (same_held before n c.step_known.ensures.held) still.1 c.in_ok-quick.ensures.given in
     let low = walk.low in
     let less = c.if-self-start.false in
-    let count = ap (λ x. x.search.inferences) kept.1 in
+    let count = still.1 in
     let s = c.in_ok-stopped in
     let told = s.ensures.stop in
     let went = went_on n r u w d c.step-stepped.new.self c.loop.out.items c.step-stepped.new.out.items s.stopped (IfOk-at_ok (λ o. (more : List Output) × IsStepped n u d o r w c.step-stepped.new.self more × (c.step-stepped.new.out.items ≡ c.loop.out.items ++ encode_utf8_all (written_text more))) told c.step-stepped.ensures.stepped) c.in_default-stopped.is in (
@@ -96,8 +95,9 @@ loop-preserved g c =
       none_refused (g.W.A.Atoms.refusals c.args.atoms.now) (g.W.A.Atoms.refusals c.step_known.new.atoms) (g.W.A.Atoms.refusals c.step-stepped.new.atoms) s.stopped (c.step_known.ensures.refusals ∙ c.loop.invariant.3)
           (IfOk-at_ok (λ o. g.W.A.Atoms.refusals c.step-stepped.new.atoms ≡ g.W.A.Atoms.refusals c.step_known.new.atoms ++ stopped_refusals o) told c.step-stepped.ensures.refusals) c.in_default-stopped.is,
       way_gains c.loop.invariant.0 1 m n r t u w c.args.self.now d c.step-stepped.new.self walk.written went.0 (g.W.A.Atoms.asked c.args.atoms.now)
-          (g.W.A.Atoms.asked c.step_known.new.atoms) (g.W.A.Atoms.asked c.step-stepped.new.atoms) walk.advances went.1 (way_kept (g.W.A.Atoms.held c.args.atoms.now) before n (g.W.World.told c.args.world.now) old u c.args.self.now c.loop.self d (g.W.A.Atoms.asked c.args.atoms.now)
-          (g.W.A.Atoms.asked c.loop.atoms) (g.W.A.Atoms.asked c.step_known.new.atoms) c.step_known.ensures.held kept.0 kept.1 c.step_known.ensures.asked c.loop.invariant.4) c.step-stepped.ensures.asked,
+          (g.W.A.Atoms.asked c.step_known.new.atoms) (g.W.A.Atoms.asked c.step-stepped.new.atoms) walk.advances went.1 (way_gains c.loop.invariant.0 0 (g.W.A.Atoms.held c.args.atoms.now) before n (g.W.World.told c.args.world.now) old u c.args.self.now c.loop.self d c.loop.invariant.2.written []
+          (g.W.A.Atoms.asked c.args.atoms.now) (g.W.A.Atoms.asked c.loop.atoms) (g.W.A.Atoms.asked c.step_known.new.atoms) c.loop.invariant.2.advances still.0 c.loop.invariant.4
+          (gains_nothing (AsksFor before old c.loop.self) (g.W.A.Atoms.asked c.loop.atoms) (g.W.A.Atoms.asked c.step_known.new.atoms) c.step_known.ensures.asked)) c.step-stepped.ensures.asked,
     )
 
 pub returns-in-Some-clause-sliced : goal.returns-in-Some-clause-sliced
@@ -111,12 +111,12 @@ returns-in-Some-clause-sliced g c =
     let u = g.W.World.told c.step_known.new.world in
     let w = g.W.World.told c.step-stepped.new.world in
     let d = c.step_known.new.self in
-    let kept = quick_kept before n old u c.loop.self d c.in_ok-quick.quick c.in_default.not-Went c.in_ok-quick.ensures.quick in
-    let walk = to_there (λ x y z. IsWalk c.args.n c.loop.invariant.0 (g.W.A.Atoms.held c.args.atoms.now) (g.W.World.told c.args.world.now) c.args.self.now x y z c.args.out.now.items c.loop.out.items)
-    before n old u c.loop.self d c.step_known.ensures.held kept.0 kept.1 c.loop.invariant.2 in
+    let still = quick_still before n old u c.loop.self d c.in_ok-quick.quick c.in_default.not-Went c.in_ok-quick.ensures.quick in
+    let walk = walk_stays c.args.n c.loop.invariant.0 (g.W.A.Atoms.held c.args.atoms.now) before n (g.W.World.told c.args.world.now) old u c.args.self.now c.loop.self d c.args.out.now.items c.loop.out.items
+    c.loop.invariant.2 still.0 c.step_known.ensures.runs c.in_ok-quick.ensures.ready (same_held before n c.step_known.ensures.held) still.1 c.in_ok-quick.ensures.given in
     let low = walk.low in
     let less = c.if-self-start.false in
-    let count = ap (λ x. x.search.inferences) kept.1 in
+    let count = still.1 in
     let s = c.in_ok-stopped in
     let told = s.ensures.stop in
     let step = subst (λ (x : Option Slice). (more : List Output) × IsStepped n u d x r w c.step-stepped.new.self more
@@ -145,16 +145,17 @@ returns-in-Some-clause-asked g c =
     let u = g.W.World.told c.step_known.new.world in
     let w = g.W.World.told c.step-stepped.new.world in
     let d = c.step_known.new.self in
-    let kept = quick_kept before n old u c.loop.self d c.in_ok-quick.quick c.in_default.not-Went c.in_ok-quick.ensures.quick in
-    let walk = to_there (λ x y z. IsWalk c.args.n c.loop.invariant.0 (g.W.A.Atoms.held c.args.atoms.now) (g.W.World.told c.args.world.now) c.args.self.now x y z c.args.out.now.items c.loop.out.items)
-    before n old u c.loop.self d c.step_known.ensures.held kept.0 kept.1 c.loop.invariant.2 in
+    let still = quick_still before n old u c.loop.self d c.in_ok-quick.quick c.in_default.not-Went c.in_ok-quick.ensures.quick in
+    let walk = walk_stays c.args.n c.loop.invariant.0 (g.W.A.Atoms.held c.args.atoms.now) before n (g.W.World.told c.args.world.now) old u c.args.self.now c.loop.self d c.args.out.now.items c.loop.out.items
+    c.loop.invariant.2 still.0 c.step_known.ensures.runs c.in_ok-quick.ensures.ready (same_held before n c.step_known.ensures.held) still.1 c.in_ok-quick.ensures.given in
     let s = c.in_ok-stopped in
     let told = s.ensures.stop in
     let stepped = (IfOk-at_ok (λ o. (more : List Output) × IsStepped n u d o r w c.step-stepped.new.self more × (c.step-stepped.new.out.items ≡ c.loop.out.items ++ encode_utf8_all (written_text more))) told c.step-stepped.ensures.stepped) in
     let step = step_advances n r u w d c.step-stepped.new.self s.stopped stepped.0 stepped.1 in
     way_gains c.loop.invariant.0 step.0 m n r t u w c.args.self.now d c.step-stepped.new.self walk.written stepped.0 (g.W.A.Atoms.asked c.args.atoms.now)
-    (g.W.A.Atoms.asked c.step_known.new.atoms) (g.W.A.Atoms.asked c.step-stepped.new.atoms) walk.advances step.1 (way_kept (g.W.A.Atoms.held c.args.atoms.now) before n (g.W.World.told c.args.world.now) old u c.args.self.now c.loop.self d (g.W.A.Atoms.asked c.args.atoms.now)
-    (g.W.A.Atoms.asked c.loop.atoms) (g.W.A.Atoms.asked c.step_known.new.atoms) c.step_known.ensures.held kept.0 kept.1 c.step_known.ensures.asked c.loop.invariant.4) c.step-stepped.ensures.asked
+    (g.W.A.Atoms.asked c.step_known.new.atoms) (g.W.A.Atoms.asked c.step-stepped.new.atoms) walk.advances step.1 (way_gains c.loop.invariant.0 0 (g.W.A.Atoms.held c.args.atoms.now) before n (g.W.World.told c.args.world.now) old u c.args.self.now c.loop.self d c.loop.invariant.2.written []
+    (g.W.A.Atoms.asked c.args.atoms.now) (g.W.A.Atoms.asked c.loop.atoms) (g.W.A.Atoms.asked c.step_known.new.atoms) c.loop.invariant.2.advances still.0 c.loop.invariant.4
+    (gains_nothing (AsksFor before old c.loop.self) (g.W.A.Atoms.asked c.loop.atoms) (g.W.A.Atoms.asked c.step_known.new.atoms) c.step_known.ensures.asked)) c.step-stepped.ensures.asked
 
 pub returns-in-Some-clause-came : goal.returns-in-Some-clause-came
 returns-in-Some-clause-came g c =
@@ -163,12 +164,13 @@ returns-in-Some-clause-came g c =
     let old = g.W.World.told c.loop.world in
     let u = g.W.World.told c.step_known.new.world in
     let d = c.step_known.new.self in
-    let kept = quick_kept before n old u c.loop.self d c.in_ok-quick.quick c.in_default.not-Went c.in_ok-quick.ensures.quick in
-    let walk = to_there (λ x y z. IsWalk c.args.n c.loop.invariant.0 (g.W.A.Atoms.held c.args.atoms.now) (g.W.World.told c.args.world.now) c.args.self.now x y z c.args.out.now.items c.loop.out.items)
-    before n old u c.loop.self d c.step_known.ensures.held kept.0 kept.1 c.loop.invariant.2 in
+    let still = quick_still before n old u c.loop.self d c.in_ok-quick.quick c.in_default.not-Went c.in_ok-quick.ensures.quick in
+    let walk = walk_stays c.args.n c.loop.invariant.0 (g.W.A.Atoms.held c.args.atoms.now) before n (g.W.World.told c.args.world.now) old u c.args.self.now c.loop.self d c.args.out.now.items c.loop.out.items
+    c.loop.invariant.2 still.0 c.step_known.ensures.runs c.in_ok-quick.ensures.ready (same_held before n c.step_known.ensures.held) still.1 c.in_ok-quick.ensures.given in
     come_gains c.loop.invariant.0 0 (g.W.A.Atoms.held c.args.atoms.now) n n (g.W.World.told c.args.world.now) u u c.args.self.now d d walk.written []
-    (g.W.A.Atoms.asked c.args.atoms.now) (g.W.A.Atoms.asked c.step_known.new.atoms) (g.W.A.Atoms.asked c.step-stepped.new.atoms) walk.advances (way_kept (g.W.A.Atoms.held c.args.atoms.now) before n (g.W.World.told c.args.world.now) old u c.args.self.now c.loop.self d (g.W.A.Atoms.asked c.args.atoms.now)
-    (g.W.A.Atoms.asked c.loop.atoms) (g.W.A.Atoms.asked c.step_known.new.atoms) c.step_known.ensures.held kept.0 kept.1 c.step_known.ensures.asked c.loop.invariant.4) c.step-stepped.ensures.asked
+    (g.W.A.Atoms.asked c.args.atoms.now) (g.W.A.Atoms.asked c.step_known.new.atoms) (g.W.A.Atoms.asked c.step-stepped.new.atoms) walk.advances (way_gains c.loop.invariant.0 0 (g.W.A.Atoms.held c.args.atoms.now) before n (g.W.World.told c.args.world.now) old u c.args.self.now c.loop.self d c.loop.invariant.2.written []
+    (g.W.A.Atoms.asked c.args.atoms.now) (g.W.A.Atoms.asked c.loop.atoms) (g.W.A.Atoms.asked c.step_known.new.atoms) c.loop.invariant.2.advances still.0 c.loop.invariant.4
+    (gains_nothing (AsksFor before old c.loop.self) (g.W.A.Atoms.asked c.loop.atoms) (g.W.A.Atoms.asked c.step_known.new.atoms) c.step_known.ensures.asked)) c.step-stepped.ensures.asked
 
 pub returns-in_err-stopped-clause-came : goal.returns-in_err-stopped-clause-came
 returns-in_err-stopped-clause-came g c =
@@ -177,12 +179,13 @@ returns-in_err-stopped-clause-came g c =
     let old = g.W.World.told c.loop.world in
     let u = g.W.World.told c.step_known.new.world in
     let d = c.step_known.new.self in
-    let kept = quick_kept before n old u c.loop.self d c.in_ok-quick.quick c.in_default.not-Went c.in_ok-quick.ensures.quick in
-    let walk = to_there (λ x y z. IsWalk c.args.n c.loop.invariant.0 (g.W.A.Atoms.held c.args.atoms.now) (g.W.World.told c.args.world.now) c.args.self.now x y z c.args.out.now.items c.loop.out.items)
-    before n old u c.loop.self d c.step_known.ensures.held kept.0 kept.1 c.loop.invariant.2 in
+    let still = quick_still before n old u c.loop.self d c.in_ok-quick.quick c.in_default.not-Went c.in_ok-quick.ensures.quick in
+    let walk = walk_stays c.args.n c.loop.invariant.0 (g.W.A.Atoms.held c.args.atoms.now) before n (g.W.World.told c.args.world.now) old u c.args.self.now c.loop.self d c.args.out.now.items c.loop.out.items
+    c.loop.invariant.2 still.0 c.step_known.ensures.runs c.in_ok-quick.ensures.ready (same_held before n c.step_known.ensures.held) still.1 c.in_ok-quick.ensures.given in
     come_gains c.loop.invariant.0 0 (g.W.A.Atoms.held c.args.atoms.now) n n (g.W.World.told c.args.world.now) u u c.args.self.now d d walk.written []
-    (g.W.A.Atoms.asked c.args.atoms.now) (g.W.A.Atoms.asked c.step_known.new.atoms) (g.W.A.Atoms.asked c.step-stepped.new.atoms) walk.advances (way_kept (g.W.A.Atoms.held c.args.atoms.now) before n (g.W.World.told c.args.world.now) old u c.args.self.now c.loop.self d (g.W.A.Atoms.asked c.args.atoms.now)
-    (g.W.A.Atoms.asked c.loop.atoms) (g.W.A.Atoms.asked c.step_known.new.atoms) c.step_known.ensures.held kept.0 kept.1 c.step_known.ensures.asked c.loop.invariant.4) c.step-stepped.ensures.asked
+    (g.W.A.Atoms.asked c.args.atoms.now) (g.W.A.Atoms.asked c.step_known.new.atoms) (g.W.A.Atoms.asked c.step-stepped.new.atoms) walk.advances (way_gains c.loop.invariant.0 0 (g.W.A.Atoms.held c.args.atoms.now) before n (g.W.World.told c.args.world.now) old u c.args.self.now c.loop.self d c.loop.invariant.2.written []
+    (g.W.A.Atoms.asked c.args.atoms.now) (g.W.A.Atoms.asked c.loop.atoms) (g.W.A.Atoms.asked c.step_known.new.atoms) c.loop.invariant.2.advances still.0 c.loop.invariant.4
+    (gains_nothing (AsksFor before old c.loop.self) (g.W.A.Atoms.asked c.loop.atoms) (g.W.A.Atoms.asked c.step_known.new.atoms) c.step_known.ensures.asked)) c.step-stepped.ensures.asked
 
 pub returns-clause-came : goal.returns-clause-came
 returns-clause-came g c =
