@@ -57,8 +57,8 @@ impl Engine {
         self.fail_apart(world, atoms)
     }
 
-    /// Goes back at once to the newest choice point, where it has clauses that were not tried and the world knows the next of them. The
-    /// only error is out of memory.
+    /// Makes the step at once, where a failure is followed, the newest choice point has clauses that were not tried, and the world knows the
+    /// next of them. The only error is out of memory.
     #[inline(never)]
     pub fn fail_known<W: World<Term = Stored>>(
         &mut self,
@@ -67,7 +67,6 @@ impl Engine {
     ) -> Result<Quick, Memory>
         requires runs { has_ended (W.told world.old).engine (W.told world.old).history ≡ false }
         requires ready { IsReady (W.A.held atoms.old) (W.told world.old) self.old }
-        requires fails { self.old.doing ≡ Failing }
         ensures runs { has_ended (W.told world.new).engine (W.told world.new).history ≡ false }
         ensures held { W.A.held atoms.new ≡ W.A.held atoms.old }
         ensures refusals { W.A.refusals atoms.new ≡ W.A.refusals atoms.old }
@@ -77,6 +76,9 @@ impl Engine {
         ensures ready { OnOk result (IsReady (W.A.held atoms.new) (W.told world.new) self.new) }
         ensures quick { IfOk result (IsQuick (W.A.held atoms.old) (W.told world.old) self.old (W.A.held atoms.new) (W.told world.new) self.new) }
     {
+        let Doing::Failing = &self.doing else {
+            return Ok(Quick::Other);
+        };
         if let Some(left) = resume_clauses(&mut self.search) {
             return self.retry_known(
                 left.purpose,

@@ -6,6 +6,7 @@ ghost use Rattle.iso_search.specs.Outcomes.{Setting, doing_by};
 ghost use Rattle.iso_search.specs.Reading.{IsView};
 ghost use Rattle.iso_search.specs.Searching.{IsWhole, node_of};
 ghost use Rattle.iso_search.specs.Spelling.{text_of};
+ghost use Rattle.iso_engine.specs.declared.doing.Doing.TheVariants.{Failing, Running};
 ghost use Rattle.iso_engine.specs.Following.{IsPlaced};
 ghost use Rattle.iso_engine.specs.Standing.{doing_of};
 ghost use Rattle.iso_engine.specs.Throws.{Throws};
@@ -68,19 +69,43 @@ impl Engine {
     {
         match outcome {
             Outcome::Run(list) => {
-                if let Doing::Running(at) = &mut self.doing {
-                    *at = list;
-                    return Ok(());
-                }
-                self.doing = Doing::Running(list);
+                self.run_next(list);
                 Ok(())
             }
             Outcome::Fail => {
-                self.doing = Doing::Failing;
+                self.fail_next();
                 Ok(())
             }
             _ => self.go_on_apart(outcome, procedure, rest),
         }
+    }
+
+    /// Has the tasks of a list done next. Where tasks were done, or a failure was followed, there is nothing to be dropped.
+    #[inline(always)]
+    pub fn run_next(&mut self, list: usize)
+        ensures { self.new ≡ record self.old { doing = Running list } }
+    {
+        if let Doing::Running(at) = &mut self.doing {
+            *at = list;
+            return;
+        }
+        if let Doing::Failing = &self.doing {
+            self.doing = Doing::Running(list);
+            return;
+        }
+        self.doing = Doing::Running(list);
+    }
+
+    /// Has a failure followed next. Where tasks were done there is nothing to be dropped.
+    #[inline(always)]
+    fn fail_next(&mut self)
+        ensures { self.new ≡ record self.old { doing = Failing } }
+    {
+        if let Doing::Running(_) = &self.doing {
+            self.doing = Doing::Failing;
+            return;
+        }
+        self.doing = Doing::Failing;
     }
 
     /// Does the same. It is for the outcomes that are seldom.

@@ -42,18 +42,6 @@ impl Engine {
         }
         Ok(Quick::Other)
     }
-
-    /// Has the tasks of a list done next.
-    #[inline(always)]
-    fn run_next(&mut self, list: usize)
-        ensures { self.new ≡ record self.old { doing = Running list } }
-    {
-        if let Doing::Running(at) = &mut self.doing {
-            *at = list;
-            return;
-        }
-        self.doing = Doing::Running(list);
-    }
 }
 
 /// Whether it is worth a look what the goal at a place is: of compound terms conjunctions alone.

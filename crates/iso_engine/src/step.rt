@@ -43,20 +43,17 @@ impl Engine {
         ensures ready { OnOk result (IsReady (W.A.held atoms.new) (W.told world.new) self.new) }
         ensures quick { IfOk result (IsQuick (W.A.held atoms.old) (W.told world.old) self.old (W.A.held atoms.new) (W.told world.new) self.new) }
     {
-        match &self.doing {
-            Doing::Running(list) => {
-                let list = *list;
-                if let Some(first) = first_call(&self.search, list) {
-                    let goal = first.goal;
-                    let request = first.request;
-                    let rest = first.rest;
-                    return self.call_known(goal, request.procedure, request, rest, world, atoms);
-                }
-                self.pass_first(list)
-            }
-            Doing::Failing => self.fail_known(world, atoms),
-            _ => Ok(Quick::Other),
+        let Doing::Running(list) = &self.doing else {
+            return self.fail_known(world, atoms);
+        };
+        let list = *list;
+        if let Some(first) = first_call(&self.search, list) {
+            let goal = first.goal;
+            let request = first.request;
+            let rest = first.rest;
+            return self.call_known(goal, request.procedure, request, rest, world, atoms);
         }
+        self.pass_first(list)
     }
 
     /// Makes a step that was not made at once, or says why none can be made. What the goal writes is put after `out`.

@@ -51,7 +51,7 @@ returns-in-Some-clause-given g c =
     let b = Retry r.purpose r.goal r.generation r.place r.next in
     let end = c.retry_known.result in
     let taken = c.in-Some.ensures.taken in
-    let step = quick_end m n t u e x f b tt (same_held m n c.retry_known.ensures.held) view c.requires.ready c.requires.fails c.resume_clauses.ensures.kept end
+    let step = quick_end m n t u e x f b tt (same_held m n c.retry_known.ensures.held) view c.requires.ready c.in-Failing.is c.resume_clauses.ensures.kept end
     c.retry_known.ensures.whole c.retry_known.ensures.gone taken
     c.in-Some.ensures.step in
     IfOk-weaker end (IsQuickAfter m t e n u f) (λ o. f.solutions_found ≡ e.solutions_found) (λ o h. h.3) step
@@ -71,7 +71,7 @@ returns-in-Some-clause-spent g c =
     let b = Retry r.purpose r.goal r.generation r.place r.next in
     let end = c.retry_known.result in
     let taken = c.in-Some.ensures.taken in
-    let step = quick_end m n t u e x f b tt (same_held m n c.retry_known.ensures.held) view c.requires.ready c.requires.fails c.resume_clauses.ensures.kept end
+    let step = quick_end m n t u e x f b tt (same_held m n c.retry_known.ensures.held) view c.requires.ready c.in-Failing.is c.resume_clauses.ensures.kept end
     c.retry_known.ensures.whole c.retry_known.ensures.gone taken
     c.in-Some.ensures.step in
     IfOk-weaker end (IsQuickAfter m t e n u f) (λ o. IsSpent e.search.inferences f.search.inferences) (λ o h. h.2) step
@@ -91,7 +91,7 @@ returns-in-Some-clause-ready g c =
     let b = Retry r.purpose r.goal r.generation r.place r.next in
     let end = c.retry_known.result in
     let taken = c.in-Some.ensures.taken in
-    let step = quick_end m n t u e x f b tt (same_held m n c.retry_known.ensures.held) view c.requires.ready c.requires.fails c.resume_clauses.ensures.kept end
+    let step = quick_end m n t u e x f b tt (same_held m n c.retry_known.ensures.held) view c.requires.ready c.in-Failing.is c.resume_clauses.ensures.kept end
     c.retry_known.ensures.whole c.retry_known.ensures.gone taken
     c.in-Some.ensures.step in
     IfOk-weaker end (IsQuickAfter m t e n u f) (λ o. IsReady n u f) (λ o h. h.1) step
@@ -111,7 +111,7 @@ returns-in-Some-clause-quick g c =
     let b = Retry r.purpose r.goal r.generation r.place r.next in
     let end = c.retry_known.result in
     let taken = c.in-Some.ensures.taken in
-    let step = quick_end m n t u e x f b tt (same_held m n c.retry_known.ensures.held) view c.requires.ready c.requires.fails c.resume_clauses.ensures.kept end
+    let step = quick_end m n t u e x f b tt (same_held m n c.retry_known.ensures.held) view c.requires.ready c.in-Failing.is c.resume_clauses.ensures.kept end
     c.retry_known.ensures.whole c.retry_known.ensures.gone taken
     c.in-Some.ensures.step in
     IfOk-weaker end (IsQuickAfter m t e n u f) (IsQuick m t e n u f) (λ o h. h.0) step
