@@ -17,6 +17,7 @@ use crate::findall::give_list;
 use crate::quick::Quick;
 use crate::slices::Slice;
 use crate::untried::resume_clauses;
+use iso_search::choices::Purpose;
 use iso_search::failure::Back;
 use pl_term::Memory;
 use term_store::Stored;
@@ -80,7 +81,18 @@ impl Engine {
             return Ok(Quick::Other);
         };
         if let Some(left) = resume_clauses(&mut self.search) {
-            return self.retry_known(
+            if let Purpose::Resolving = left.purpose {
+                return self.retry_known(
+                    Purpose::Resolving,
+                    left.goal,
+                    left.generation,
+                    left.place,
+                    left.next,
+                    world,
+                    atoms,
+                );
+            }
+            return self.retry_seldom(
                 left.purpose,
                 left.goal,
                 left.generation,

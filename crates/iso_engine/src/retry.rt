@@ -130,4 +130,33 @@ impl Engine {
             }
         }
     }
+
+    /// Does the same. It is for clause/2 and retract/1.
+    #[inline(never)]
+    pub fn retry_seldom<W: World<Term = Stored>>(
+        &mut self,
+        purpose: Purpose,
+        goal: Place,
+        generation: u64,
+        place: u64,
+        next: usize,
+        world: &mut W,
+        atoms: &mut W::A,
+    ) -> Result<Quick, Memory>
+        requires whole { IsWhole self.old.search }
+        requires goal { HoldsPlace self.old.search.store goal }
+        requires next { next ≤ length self.old.search.frames.items }
+        requires held { All (λ a. IsSome (W.A.held atoms.old a)) (atoms_in (term_at self.old.search.store goal)) }
+        requires open { let g = reads (view_of (W.A.held atoms.old) (W.told world.old)) self.old.search.store goal in
+            MayGoOn (W.told world.old) (listed_goal (purpose_of purpose) g) generation place }
+        requires runs { has_ended (W.told world.old).engine (W.told world.old).history ≡ false }
+        ensures whole { OnOk result (IsWhole self.new.search) }
+        ensures runs { has_ended (W.told world.new).engine (W.told world.new).history ≡ false }
+        ensures held { W.A.held atoms.new ≡ W.A.held atoms.old }
+        ensures refusals { W.A.refusals atoms.new ≡ W.A.refusals atoms.old }
+        ensures asked { W.A.asked atoms.new ≡ W.A.asked atoms.old }
+        ensures gone { IfOk result (IsGoneAtOnce (W.told world.old) self.old (Retry purpose goal generation place next) (W.A.held atoms.new) (W.told world.new) self.new) }
+    {
+        self.retry_known(purpose, goal, generation, place, next, world, atoms)
+    }
 }
