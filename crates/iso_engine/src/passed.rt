@@ -1,6 +1,5 @@
 //! Goals that are passed at once.
 ghost use Rattle.std.specs.Prelude.{◌≡◌, IfOk, OnOk};
-ghost use Rattle.term_store.specs.Contents.{Holds};
 ghost use Rattle.iso_search.specs.Searching.{IsWhole};
 ghost use Rattle.iso_engine.specs.declared.doing.Doing.TheVariants.{Running};
 ghost use Rattle.iso_engine.specs.Quick.{IsPassed};
@@ -10,11 +9,9 @@ use crate::engine::Engine;
 use crate::kinds::passes;
 use crate::quick::Quick;
 use crate::running::pass;
-use atom_api::fixed;
-use iso_search::construct::construct_at;
+use iso_search::construct::passing_at;
 use iso_search::frames::{Task, first_task};
 use pl_term::Memory;
-use term_store::{Place, Store, View as Kind};
 
 impl Engine {
     /// Takes up the first goal of a list at once, where it only has further tasks done, or drops choice points: it is `true`, a cut or a
@@ -30,8 +27,7 @@ impl Engine {
     {
         if let Some(frame) = first_task(&self.search.frames, list) {
             if let Task::Goal(goal, cut) = frame.task {
-                if may_pass(&self.search.store, goal) {
-                    let kind = construct_at(&self.search.store, goal);
+                if let Some(kind) = passing_at(&self.search.store, goal) {
                     if passes(kind) {
                         let next = pass(&mut self.search, goal, kind, cut, frame.continuation)?;
                         self.run_next(next);
@@ -41,18 +37,5 @@ impl Engine {
             }
         }
         Ok(Quick::Other)
-    }
-}
-
-/// Whether it is worth a look what the goal at a place is: of compound terms conjunctions alone.
-#[inline(always)]
-fn may_pass(store: &Store, goal: Place) -> bool
-    requires { Holds store.now goal }
-{
-    match store.look(goal) {
-        Kind::Variable(_) => false,
-        Kind::Integer(_) => false,
-        Kind::Atom(_) => true,
-        Kind::Compound(name, _) => name == fixed::COMMA,
     }
 }

@@ -9,16 +9,8 @@ use Rattle.iso_engine.specs.Ready.{Steps}
 use Rattle.iso_engine.proofs.Tasking.{task_inside, task_steps}
 use Rattle.iso_engine.proofs.engine.Engine.pass_first.Goals as goal
 
-pub may_pass-requires : goal.may_pass-requires
-may_pass-requires c =
-    let e = c.args.self.now.search in
-    let f = c.in-Some.frame in
-    let first = subst (λ l. tasks l c.args.list ≡ f.task ∷ tasks l f.continuation) c.deref.ensures.value c.in-Some.ensures.0 in
-    subst (IsTaskIn e.store) c.in-Goal.is
-    (task_inside e.store e.frames.items c.requires.whole.base.words c.requires.whole.base.linked c.args.list f.task (tasks e.frames.items f.continuation) first)
-
-pub construct_at-kind-requires : goal.construct_at-kind-requires
-construct_at-kind-requires c =
+pub passing_at-requires : goal.passing_at-requires
+passing_at-requires c =
     let e = c.args.self.now.search in
     let f = c.in-Some.frame in
     let first = subst (λ l. tasks l c.args.list ≡ f.task ∷ tasks l f.continuation) c.deref.ensures.value c.in-Some.ensures.0 in
