@@ -97,6 +97,7 @@ fn asked_at(place: Place, name: Atom, arguments: Arguments) -> StateGoal
 }
 
 /// The goal at a place, if it is one of a built-in predicate that is a function of its arguments. No other has a table.
+#[inline(always)]
 pub fn row_goal_at(store: &Store, goal: Place) -> Option<RowGoal>
     requires { Holds store.now goal }
     ensures { MatchOption result ((v : View) → IsView v → lines_of (reads v store.now goal) ≡ []) (λ r. (r.place ≡ goal) × IsRowGoal store.now r) }

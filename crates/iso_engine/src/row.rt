@@ -14,7 +14,6 @@ ghost use Rattle.iso_engine.specs.Unserved.{as_stopped, stopped_refusals};
 
 use crate::builtin::RowGoal;
 use crate::engine::Engine;
-use crate::following::follow;
 use crate::rows::run_row;
 use crate::slices::Slice;
 use atom_api::Atoms;
@@ -23,6 +22,7 @@ use world_api::Unserved;
 impl Engine {
     /// Takes up a goal of a built-in predicate that is a function of its arguments, before the tasks of a list (ISO 8.2 to 8.7,
     /// 8.16), whatever the engine was told.
+    #[inline(never)]
     pub fn row<A: Atoms>(
         &mut self,
         goal: &RowGoal,
@@ -44,7 +44,7 @@ impl Engine {
             → IsStepped (A.held atoms.old) t self.old o (A.held atoms.new) t self.new []) }
     {
         let outcome = run_row(self.alloc, &mut self.search, goal, rest, atoms)?;
-        self.doing = follow(self.alloc, &self.search, outcome, goal.procedure(), rest)?;
+        self.go_on(outcome, goal.procedure(), rest)?;
         Ok(None)
     }
 }

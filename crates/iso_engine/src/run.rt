@@ -1,6 +1,7 @@
 //! The tasks of a list.
-ghost use Rattle.std.specs.Prelude.{◌≡◌, ◌≤◌, ◌∷◌, ◌++◌, length, false, List, IfNone, IfOk, OnOk, encode_utf8_all};
+ghost use Rattle.std.specs.Prelude.{◌≡◌, ◌≤◌, ◌∷◌, ◌++◌, length, false, List, IfNone, IfOk, IfSome, OnOk, encode_utf8_all};
 ghost use Rattle.pl_model.specs.Resolution.{Output};
+ghost use Rattle.term_store.specs.Contents.{Holds as HoldsPlace};
 ghost use Rattle.world_api.specs.Gains.{Gains};
 ghost use Rattle.world_api.specs.Texts.{Holds};
 ghost use Rattle.world_api.specs.Told.{has_ended};
@@ -9,18 +10,21 @@ ghost use Rattle.iso_search.specs.Frames.{tasks};
 ghost use Rattle.iso_engine.specs.declared.doing.Doing.TheVariants.{Running};
 ghost use Rattle.iso_engine.specs.Asked.{AsksFor};
 ghost use Rattle.iso_engine.specs.Ready.{IsReady};
+ghost use Rattle.iso_engine.specs.Rows.{IsRowAt};
 ghost use Rattle.iso_engine.specs.Spending.{IsSpent};
 ghost use Rattle.iso_engine.specs.Slices.{IsStepped, written_text};
-ghost use Rattle.iso_engine.specs.Tasks.{IsKindOf};
+ghost use Rattle.iso_engine.specs.Tasks.{IsKindAt, IsKindOf};
 ghost use Rattle.iso_engine.specs.Unserved.{as_stopped, stopped_refusals};
 
+use crate::builtin::{RowGoal, row_goal_at};
 use crate::doing::Doing;
 use crate::engine::Engine;
 use crate::running::{Did, do_task};
 use crate::slices::Slice;
+use atom_api::fixed;
 use iso_search::construct::{Construct, construct_at};
 use iso_search::frames::{Frame, Task, first_task};
-use term_store::{Place, Stored};
+use term_store::{Place, Store, Stored};
 use world_api::{Unserved, World};
 
 impl Engine {
@@ -88,6 +92,9 @@ impl Engine {
             × (out.new.items ≡ out.old.items ++ encode_utf8_all (written_text more))) }
     {
         let kind = construct_at(&self.search.store, goal);
+        if let Some(found) = plain_row(&self.search.store, goal, kind) {
+            return self.row(&found, rest, atoms);
+        }
         let frame = Frame {
             task: Task::Goal(goal, cut),
             continuation: rest,
@@ -147,4 +154,24 @@ impl Engine {
             }
         }
     }
+}
+
+/// The goal of this kind at a place, if it is one of a built-in predicate that is a function of its arguments, but for `=`: a unification
+/// makes no answer first.
+#[inline(always)]
+fn plain_row(store: &Store, goal: Place, kind: Construct) -> Option<RowGoal>
+    requires goal { HoldsPlace store.now goal }
+    requires kind { IsKindAt store.now goal kind }
+    ensures { IfSome result (λ r. (r.place ≡ goal) × IsRowAt store.now r) }
+{
+    let Construct::Other = kind else {
+        return None;
+    };
+    let Some(found) = row_goal_at(store, goal) else {
+        return None;
+    };
+    if found.name == fixed::EQUAL {
+        return None;
+    }
+    Some(found)
 }

@@ -1,4 +1,4 @@
-use Rattle.std.proofs.Common.{◌≡◌, [], inl, refl, ap, subst}
+use Rattle.std.proofs.Common.{◌≡◌, [], None, inl, refl, sym, ap, subst}
 use Rattle.world_api.specs.declared.visit.Procedure.{Procedure}
 use Rattle.world_api.specs.Told.{Told}
 use Rattle.world_api.proofs.Gaining.{gains_weaker}
@@ -32,8 +32,8 @@ returns-in_err-outcome-clause-asked g c =
     (view_is m t (g.met.A.Atoms.fixed_held a) (g.met.A.Atoms.unlike a) (g.met.A.Atoms.finite a)) x h)
     c.run_row.ensures.asked
 
-pub returns-in_err-self-clause-asked : goal.returns-in_err-self-clause-asked
-returns-in_err-self-clause-asked g c =
+pub returns-in_err-go_on-clause-asked : goal.returns-in_err-go_on-clause-asked
+returns-in_err-go_on-clause-asked g c =
     let e = c.args.self.now in
     let a = c.args.atoms.now in
     let m = g.A.Atoms.held a in
@@ -64,10 +64,11 @@ returns-clause-ready g c t ready =
     let l = c.requires.list in
     let view = view_is n t (g.met.A.Atoms.fixed_held there) (g.met.A.Atoms.unlike there) (g.met.A.Atoms.finite there) in
     let k = c.in_ok-outcome.ensures in
-    let f : Engine = record e { search = c.run_row.new.search; doing = c.in_ok-self.field-0 } in
+    let went = c.in_ok-go_on.ensures in
+    let f : Engine = record e { search = c.run_row.new.search; doing = c.go_on.new.self.doing } in
     let moved = led_moved m n t e f r l.0 l.1 c.args.rest l.2 l.3 c.requires.rest c.requires.row c.run_row.ensures.holds view ready c.in_ok-outcome.outcome k.tried refl refl
-    (subst (λ (p : Procedure). IsFollowedAs f c.args.rest p c.in_ok-outcome.outcome) c.procedure.ensures c.in_ok-self.ensures) in
-    moved.1
+    (subst (λ (p : Procedure). IsFollowedAs f c.args.rest p c.in_ok-outcome.outcome) c.procedure.ensures went.follows) in
+    subst (λ (z : Engine). IsReady n t z) (sym went.kept) moved.1
 
 pub returns-clause-stepped : goal.returns-clause-stepped
 returns-clause-stepped g c t ready =
@@ -79,10 +80,11 @@ returns-clause-stepped g c t ready =
     let l = c.requires.list in
     let view = view_is n t (g.met.A.Atoms.fixed_held there) (g.met.A.Atoms.unlike there) (g.met.A.Atoms.finite there) in
     let k = c.in_ok-outcome.ensures in
-    let f : Engine = record e { search = c.run_row.new.search; doing = c.in_ok-self.field-0 } in
+    let went = c.in_ok-go_on.ensures in
+    let f : Engine = record e { search = c.run_row.new.search; doing = c.go_on.new.self.doing } in
     let moved = led_moved m n t e f r l.0 l.1 c.args.rest l.2 l.3 c.requires.rest c.requires.row c.run_row.ensures.holds view ready c.in_ok-outcome.outcome k.tried refl refl
-    (subst (λ (p : Procedure). IsFollowedAs f c.args.rest p c.in_ok-outcome.outcome) c.procedure.ensures c.in_ok-self.ensures) in
-    moved.0
+    (subst (λ (p : Procedure). IsFollowedAs f c.args.rest p c.in_ok-outcome.outcome) c.procedure.ensures went.follows) in
+    subst (λ (z : Engine). IsStepped m t e None n t z []) (sym went.kept) moved.0
 
 pub returns-clause-spent : goal.returns-clause-spent
 returns-clause-spent g c =
@@ -96,10 +98,11 @@ returns-clause-spent g c =
     let ready = c.requires.ready.1 in
     let view = view_is n t (g.met.A.Atoms.fixed_held there) (g.met.A.Atoms.unlike there) (g.met.A.Atoms.finite there) in
     let k = c.in_ok-outcome.ensures in
-    let f : Engine = record e { search = c.run_row.new.search; doing = c.in_ok-self.field-0 } in
+    let went = c.in_ok-go_on.ensures in
+    let f : Engine = record e { search = c.run_row.new.search; doing = c.go_on.new.self.doing } in
     let moved = led_moved m n t e f r l.0 l.1 c.args.rest l.2 l.3 c.requires.rest c.requires.row c.run_row.ensures.holds view ready c.in_ok-outcome.outcome k.tried refl refl
-    (subst (λ (p : Procedure). IsFollowedAs f c.args.rest p c.in_ok-outcome.outcome) c.procedure.ensures c.in_ok-self.ensures) in
-    moved.2
+    (subst (λ (p : Procedure). IsFollowedAs f c.args.rest p c.in_ok-outcome.outcome) c.procedure.ensures went.follows) in
+    subst (λ (z : Engine). IsSpent e.search.inferences z.search.inferences) (sym went.kept) moved.2
 
 pub returns-in_err-outcome-clause-ready : goal.returns-in_err-outcome-clause-ready
 returns-in_err-outcome-clause-ready g c =
