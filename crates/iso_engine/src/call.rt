@@ -112,6 +112,7 @@ impl Engine {
     }
 
     /// Does the same, where the world does not know the clauses without a look, or no inference can be made.
+    #[cold]
     #[inline(never)]
     pub fn call_anew<W: World<Term = Stored>>(
         &mut self,

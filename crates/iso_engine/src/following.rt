@@ -109,6 +109,7 @@ impl Engine {
     }
 
     /// Does the same. It is for the outcomes that are seldom.
+    #[cold]
     #[inline(never)]
     pub fn go_on_apart(
         &mut self,

@@ -16,7 +16,7 @@ use pl_term::Memory;
 impl Engine {
     /// Takes up the first goal of a list at once, where it only has further tasks done, or drops choice points: it is `true`, a cut or a
     /// conjunction. The only error is out of memory.
-    #[inline(never)]
+    #[inline(always)]
     pub fn pass_first(&mut self, list: usize) -> Result<Quick, Memory>
         requires whole { IsWhole self.old.search }
         requires list { self.old.doing ≡ Running list }

@@ -132,6 +132,7 @@ impl Engine {
     }
 
     /// Does the same. It is for clause/2 and retract/1.
+    #[cold]
     #[inline(never)]
     pub fn retry_seldom<W: World<Term = Stored>>(
         &mut self,

@@ -85,6 +85,7 @@ impl Engine {
     }
 
     /// Does the same, where a call by the name of its goal alone comes first.
+    #[cold]
     #[inline(never)]
     fn step_missed<W: World<Term = Stored>>(
         &mut self,

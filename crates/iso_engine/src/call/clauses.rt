@@ -202,6 +202,7 @@ fn apply_clause(
 }
 
 /// Does the same for clause/2 and retract/1.
+#[cold]
 #[inline(never)]
 fn apply_rule(
     search: &mut Search,

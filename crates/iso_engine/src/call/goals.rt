@@ -70,6 +70,7 @@ pub fn key_at(store: &Store, goal: Place) -> ArgumentKey
 }
 
 /// The key of the first argument of the head at a place.
+#[cold]
 #[inline(never)]
 fn head_key_at(store: &Store, head: Place) -> ArgumentKey
     requires { Holds store.now head }

@@ -126,6 +126,7 @@ pub fn retry_known<W: World<Term = Stored>>(
 }
 
 /// The same by a visit.
+#[cold]
 #[inline(never)]
 fn retry_anew<W: World<Term = Stored>>(
     search: &mut Search,
@@ -190,6 +191,7 @@ fn retry_anew<W: World<Term = Stored>>(
 }
 
 /// Makes a choice point of the clauses that were not tried, before the tasks of a list. The only error is out of memory.
+#[cold]
 #[inline(never)]
 pub fn put_back(
     search: &mut Search,
