@@ -60,7 +60,7 @@ impl Engine {
 
     /// Makes the step at once, where a failure is followed, the newest choice point has clauses that were not tried, and the world knows the
     /// next of them. The only error is out of memory.
-    #[inline(never)]
+    #[inline(always)]
     pub fn fail_known<W: World<Term = Stored>>(
         &mut self,
         world: &mut W,
