@@ -12,6 +12,6 @@ returns c =
       record {
         goal_is = c.in-Some.ensures.1;
         other_is = λ v view. ap (λ w. construct (reads v s w)) at
-        ∙ sym (subst (λ k. construction v s k ≡ construct (reads v s c.args.goal)) c.in-Other.is (c.requires.kind.1 v view));
+            ∙ sym (subst (λ k. construction v s k ≡ construct (reads v s c.args.goal)) c.in-Other.is (c.requires.kind.1 v view));
       },
     )
