@@ -67,9 +67,11 @@ impl Guesses {
     }
 }
 
-// In which of so many rows, a power of two, a number is noted.
+// In which of so many rows, a power of two, a number is noted. Numbers that follow one on the other, 65,536 at a time, come into rows
+// that do, so that none is full before the others are, and what stands above spreads them.
 fn row_of(number: u64, rows: usize) -> usize {
-    (number ^ number >> 32) as usize & rows.wrapping_sub(1)
+    let high = (number >> 16).wrapping_mul(0x9e37_79b9_7f4a_7c15);
+    number.wrapping_add(high ^ high >> 32) as usize & rows.wrapping_sub(1)
 }
 
 // What the row has for the number.

@@ -132,7 +132,7 @@ fn number_of(p: &Procedure, first: &ArgumentKey) -> Option<u64> {
         }
     };
     let named = (p.name.slot() as u64 ^ p.arity << 32).wrapping_mul(0xff51_afd7_ed55_8ccd);
-    Some((key ^ named).wrapping_mul(0x9e37_79b9_7f4a_7c15))
+    Some(key ^ named)
 }
 
 // Whether the first argument of the clause's head is found by a key.
