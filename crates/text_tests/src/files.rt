@@ -54,13 +54,23 @@ pub fn file_replaced(alloc: Global, fields: &mut Fields) -> Result<Vec<u8>> {
     let mut out = Vec::new(alloc);
     put_file_read(alloc, &mut out, &mut files)?;
     for content in fields.next_field()?.split('¬') {
-        let bytes = Bytes::from_vec(bytes_of(alloc, content)?);
-        put_file(alloc, &mut files, "f.pl", bytes)?;
-        out.push(b' ')?;
-        put_file_read(alloc, &mut out, &mut files)?;
+        put_replaced(alloc, &mut out, &mut files, content)?;
     }
     put_faults(alloc, &mut out, &files)?;
     Ok(out)
+}
+
+/// Puts f.pl with a content in the place of the one before, and adds what is read of it, with a blank before.
+fn put_replaced(
+    alloc: Global,
+    out: &mut Vec<u8>,
+    files: &mut MemoryFiles,
+    content: &str,
+) -> Result<()> {
+    let bytes = Bytes::from_vec(bytes_of(alloc, content)?);
+    put_file(alloc, files, "f.pl", bytes)?;
+    out.push(b' ')?;
+    put_file_read(alloc, out, files)
 }
 
 /// Adds what is read of the first 100 bytes of f.pl.
@@ -108,20 +118,32 @@ fn put_piece(out: &mut Vec<u8>, answer: &Result<usize, Failed>, buffer: &[u8]) -
 /// has room for a number of bytes, takes at most a number of them in a call, and the call with a number fails.
 pub fn sink(alloc: Global, fields: &mut Fields) -> Result<Vec<u8>> {
     let pieces = fields.next_field()?;
+    let mut sink = sink_of(alloc, fields)?;
+    let mut out = Vec::new(alloc);
+    put_pieces(alloc, &mut out, &mut sink, pieces)?;
+    out.extend_from_slice(sink.bytes())?;
+    put_numbers(&mut out, &[sink.calls(), sink.faults()])?;
+    Ok(out)
+}
+
+/// The sink that the next three fields tell.
+fn sink_of(alloc: Global, fields: &mut Fields) -> Result<MemorySink> {
     let room = fields.next_field()?.parse::<usize>()?;
     let most = fields.next_field()?.parse::<usize>()?;
     let failing = fields.next_field()?.parse::<u64>()?;
     let mut sink = MemorySink::with_room(alloc, room, vec![in alloc; failing]?)?;
     sink.take_at_most(most);
-    let mut out = Vec::new(alloc);
+    Ok(sink)
+}
+
+/// Writes pieces, which stand with `¬` between, and adds whether each was written.
+fn put_pieces(alloc: Global, out: &mut Vec<u8>, sink: &mut MemorySink, pieces: &str) -> Result<()> {
     for piece in pieces.split('¬') {
-        let answer = write_all(&mut sink, &bytes_of(alloc, piece)?);
+        let answer = write_all(sink, &bytes_of(alloc, piece)?);
         let word = if answer.is_ok() { "done " } else { "failed " };
-        put_text(&mut out, word)?;
+        put_text(out, word)?;
     }
-    out.extend_from_slice(sink.bytes())?;
-    put_numbers(&mut out, &[sink.calls(), sink.faults()])?;
-    Ok(out)
+    Ok(())
 }
 
 /// What is read of a file of the system up to a limit, then of six bytes from a place on, and the count of faults.

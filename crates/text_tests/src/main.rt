@@ -147,7 +147,7 @@ fn show<R: Print>(rt: &R, row: &str, got: &[u8]) -> io::Result<()> {
     io::writer(rt).write_all(b" came\n")
 }
 
-/// What comes of a row of the kind that is set.
+/// What comes of a row of the kind that is set: one that is read, here and below by its subject.
 fn result_of(alloc: Global, settings: &Settings, fields: &mut Fields) -> Result<Vec<u8>> {
     match settings.kind {
         "terms" => terms::term(alloc, settings, fields),
@@ -156,42 +156,77 @@ fn result_of(alloc: Global, settings: &Settings, fields: &mut Fields) -> Result<
         "skips" => terms::place_skipped_to(alloc, fields),
         "lexemes" => lexemes::lexemes(alloc, fields),
         "characters" => characters::name_of_one(alloc, settings, fields),
+        _ => result_of_writing(alloc, settings, fields),
+    }
+}
+
+/// One that is written.
+fn result_of_writing(alloc: Global, settings: &Settings, fields: &mut Fields) -> Result<Vec<u8>> {
+    match settings.kind {
         "written" => written::all_forms(alloc, settings, fields),
         "quoted" => written::quoted_and_bare(alloc, settings, fields),
         "of_texts" => written::of_text(alloc, settings, fields),
         "solutions" => report::solution(alloc, settings, fields),
         "file_lines" => report::file_line(alloc, settings, fields),
         "runs" => runs::run(alloc, fields),
+        _ => result_of_operators(alloc, settings, fields),
+    }
+}
+
+/// One about operators.
+fn result_of_operators(alloc: Global, settings: &Settings, fields: &mut Fields) -> Result<Vec<u8>> {
+    match settings.kind {
         "operators" => operators::of_name(alloc, settings, fields),
         "operator_names" => operators::all_names(alloc, settings, fields),
         "operator_changes" => operators::changes(alloc, settings, fields),
         "many_operators" => operators::many(alloc, settings, fields),
+        _ => result_of_terms(alloc, settings, fields),
+    }
+}
+
+/// One about texts and terms by themselves.
+fn result_of_terms(alloc: Global, settings: &Settings, fields: &mut Fields) -> Result<Vec<u8>> {
+    match settings.kind {
         "ordered_texts" => flat_terms::ordered_texts(alloc, fields),
         "alike_texts" => flat_terms::alike_texts(alloc, fields),
         "ordered_terms" => flat_terms::ordered_terms(alloc, settings, fields),
         "alike_terms" => flat_terms::alike_terms(alloc, settings, fields),
+        "measured" => flat_terms::measured(alloc, settings, fields),
         "values" => arithmetic::value(alloc, settings, fields),
         "atoms" => atoms::numbers(alloc, fields),
-        "measured" => flat_terms::measured(alloc, settings, fields),
         "over_atoms" => interned::over_atoms(alloc, settings, fields),
-        _ => result_of_store(alloc, settings.kind, fields),
+        _ => result_of_unifying(alloc, settings.kind, fields),
     }
 }
 
-/// What comes of a row about a store of terms, a database, or files.
-fn result_of_store(alloc: Global, kind: &str, fields: &mut Fields) -> Result<Vec<u8>> {
+/// One about terms of a store that are unified.
+fn result_of_unifying(alloc: Global, kind: &str, fields: &mut Fields) -> Result<Vec<u8>> {
     match kind {
         "unified" => unification::unified_terms(alloc, fields),
         "unifies" => unification::is_unified(alloc, fields),
         "heads" => unification::heads(alloc, fields),
         "walked" => unification::walked_term(alloc, fields),
         "chains" => unification::chain(alloc, fields),
+        _ => result_of_store(alloc, kind, fields),
+    }
+}
+
+/// One about a store of terms.
+fn result_of_store(alloc: Global, kind: &str, fields: &mut Fields) -> Result<Vec<u8>> {
+    match kind {
         "loads" => store::load(alloc, fields),
         "shares" => store::share(alloc, fields),
         "undone" => store::undone(alloc, fields),
         "seen" => store::seen(alloc, fields),
         "bound" => store::bound(alloc, fields),
         "cells" => store::cells(alloc, fields),
+        _ => result_of_files(alloc, kind, fields),
+    }
+}
+
+/// One about a database, or files.
+fn result_of_files(alloc: Global, kind: &str, fields: &mut Fields) -> Result<Vec<u8>> {
+    match kind {
         "database" => database::answers(alloc, fields),
         "files" => files::file_read(alloc, fields),
         "replaced" => files::file_replaced(alloc, fields),

@@ -33,15 +33,26 @@ pub fn all_names(alloc: Global, settings: &Settings, fields: &mut Fields) -> Res
 pub fn changes(alloc: Global, settings: &Settings, fields: &mut Fields) -> Result<Vec<u8>> {
     let mut ops = settings.ops.copy(alloc)?;
     let mut out = Vec::new(alloc);
-    for text in fields.next_field()?.split('¦') {
-        let fault = change(alloc, &mut ops, text)?;
-        put_answer(alloc, &mut out, fault)?;
-    }
+    put_changes(alloc, &mut out, &mut ops, fields.next_field()?)?;
     let name = Text::from_str(alloc, fields.next_field()?)?;
     put_operators(alloc, &mut out, &ops, &name)?;
-    put_named(&mut out, "; ", ops.operators().len() as u64)?;
-    put_named(&mut out, " of ", settings.ops.operators().len() as u64)?;
+    put_counts(&mut out, &ops, &settings.ops)?;
     Ok(out)
+}
+
+/// Adds what each change answers, which stand with `¦` between.
+fn put_changes(alloc: Global, out: &mut Vec<u8>, ops: &mut OpTable, changes: &str) -> Result<()> {
+    for text in changes.split('¦') {
+        let fault = change(alloc, ops, text)?;
+        put_answer(alloc, out, fault)?;
+    }
+    Ok(())
+}
+
+/// Adds how many operators a table has, and of how many in another.
+fn put_counts(out: &mut Vec<u8>, ops: &OpTable, before: &OpTable) -> Result<()> {
+    put_named(out, "; ", ops.operators().len() as u64)?;
+    put_named(out, " of ", before.operators().len() as u64)
 }
 
 /// How many of so many infix operators are added, how many of them are found, how many operators there are then, and how
@@ -50,14 +61,24 @@ pub fn many(alloc: Global, settings: &Settings, fields: &mut Fields) -> Result<V
     let count = fields.next_field()?.parse::<u32>()?;
     let mut ops = settings.ops.copy(alloc)?;
     let mut out = Vec::new(alloc);
-    put_number(&mut out, added_all(alloc, &mut ops, count)? as u64)?;
-    put_named(&mut out, " ", found_all(alloc, &ops, count)? as u64)?;
-    put_named(&mut out, " ", ops.operators().len() as u64)?;
-    put_text(&mut out, " ")?;
-    let fault = ops.add(0, Kind::Xfx, &numbered(alloc, 1)?).err();
-    put_answer(alloc, &mut out, fault)?;
-    put_number(&mut out, ops.operators().len() as u64)?;
+    put_added(alloc, &mut out, &mut ops, count)?;
+    put_taken_away(alloc, &mut out, &mut ops)?;
     Ok(out)
+}
+
+/// Adds how many of so many operators are added, how many are found, and how many there are then.
+fn put_added(alloc: Global, out: &mut Vec<u8>, ops: &mut OpTable, count: u32) -> Result<()> {
+    put_number(out, added_all(alloc, ops, count)? as u64)?;
+    put_named(out, " ", found_all(alloc, ops, count)? as u64)?;
+    put_named(out, " ", ops.operators().len() as u64)
+}
+
+/// Adds what taking one of them away answers, and how many there are then.
+fn put_taken_away(alloc: Global, out: &mut Vec<u8>, ops: &mut OpTable) -> Result<()> {
+    put_text(out, " ")?;
+    let fault = ops.add(0, Kind::Xfx, &numbered(alloc, 1)?).err();
+    put_answer(alloc, out, fault)?;
+    put_number(out, ops.operators().len() as u64)
 }
 
 /// How many of so many operators are added, each beside others that come before it and after it.

@@ -31,9 +31,22 @@ pub fn run(alloc: Global, fields: &mut Fields) -> Result<Vec<u8>> {
             kinds.push((kind, how))?;
         }
     }
+    told_of(alloc, kinds, &texts)
+}
+
+/// The text of a run with sections of these kinds and texts.
+fn told_of(
+    alloc: Global,
+    mut kinds: Vec<(SectionKind, Option<GoalHow>)>,
+    texts: &[Vec<u8>],
+) -> Result<Vec<u8>> {
     let ops = OpTable::iso(alloc)?;
     let mut sections = Vec::new(alloc);
-    for ((kind, how), text) in kinds.into_iter().zip(texts.iter()) {
+    for text in texts {
+        if kinds.is_empty() {
+            bail!("a kind");
+        }
+        let (kind, how) = kinds.remove(0);
         sections.push(Section {
             kind,
             text: text.as_slice(),

@@ -14,12 +14,24 @@ pub fn all_forms(alloc: Global, settings: &Settings, fields: &mut Fields) -> Res
     let max = fields.next_field()?.parse::<u16>()?;
     let term = term_of(alloc, fields.next_field()?)?;
     let mut out = Vec::new(alloc);
-    writeq(alloc, &term, &settings.ops, max, &mut out)?;
-    out.extend_from_slice("§".as_bytes())?;
-    write(alloc, &term, &settings.ops, max, &mut out)?;
+    put_two_forms(alloc, &mut out, settings, &term, max)?;
     out.extend_from_slice("§".as_bytes())?;
     write_canonical(alloc, &term, &settings.ops, max, &mut out)?;
     Ok(out)
+}
+
+/// Adds the texts by `writeq` and `write` of a term, with `§` between.
+fn put_two_forms(
+    alloc: Global,
+    out: &mut Vec<u8>,
+    settings: &Settings,
+    term: &Flat,
+    max: u16,
+) -> Result<()> {
+    writeq(alloc, term, &settings.ops, max, out)?;
+    out.extend_from_slice("§".as_bytes())?;
+    write(alloc, term, &settings.ops, max, out)?;
+    Ok(())
 }
 
 /// The texts by `writeq` and `write` of an atom, with `§` between.
@@ -27,9 +39,7 @@ pub fn quoted_and_bare(alloc: Global, settings: &Settings, fields: &mut Fields) 
     let name = text_of(alloc, fields.next_field()?)?;
     let term = Flat::atom(alloc, &Text::from_str(alloc, name.as_str())?)?;
     let mut out = Vec::new(alloc);
-    writeq(alloc, &term, &settings.ops, 1200, &mut out)?;
-    out.extend_from_slice("§".as_bytes())?;
-    write(alloc, &term, &settings.ops, 1200, &mut out)?;
+    put_two_forms(alloc, &mut out, settings, &term, 1200)?;
     Ok(out)
 }
 
