@@ -31,11 +31,12 @@ use std::collections::BTreeSet;
 /// So many clauses are looked at one after the other, which takes less time than to find them by their keys.
 const FEW: usize = 8;
 
-/// A clause with the key of its first argument.
+/// A clause with the key of its first argument. The key stands in front of the places, since a call by a key compares it
+/// and then asks for them.
 #[derive(Drop)]
 pub struct Entry<C, K> {
-    pub dated: DatedClause<C>,
     pub key: K,
+    pub dated: DatedClause<C>,
 }
 
 /// Clauses on their numbers, and the numbers by keys and by erasures.
@@ -210,13 +211,13 @@ impl<C: Kept> ClauseIndex<C> {
         ensures err { IfErr result (λ e. (e.0 ≡ clause) × (self.new.clauses.entries ≡ self.old.clauses.entries)) }
     {
         let dated = DatedClause {
+            erased: None,
             place,
             clause,
-            erased: None,
         };
         match self
             .clauses
-            .insert(self.alloc, number, Entry { dated, key })
+            .insert(self.alloc, number, Entry { key, dated })
         {
             Ok(()) => Ok(()),
             Err(entry) => Err((clause_of(entry), Memory)),
