@@ -33,6 +33,7 @@ use Rattle.term_store.proofs.Occurring.{words_inside}
 use Rattle.term_store.proofs.Pairing.{lefts-append, lefts-zip, reverse-cons}
 use Rattle.term_store.proofs.Planning.{IsOpened, is_opened, names-differ}
 use Rattle.term_store.proofs.Turning.{length-words}
+use Rattle.term_store.proofs.Weighing.{parts_lighter}
 
 pub faces-append : (b : Block) (c : Heap) (from : ℕ) (known : List Word) (ps qs : List Pair) (ts : Trees)
     → faces b c from known (ps ++ qs) ts ≡ faces b c from known qs (faces b c from known ps ts)
@@ -90,6 +91,7 @@ turned_joined b c from known w p ps d after few j =
       gained = [];
       pushed = append-none ps;
       inside = All-nil (IsFacing d b);
+      lighter = omega arith;
       comes = j.comes;
     }
   where
@@ -219,6 +221,7 @@ module _ (b : Block) (block : IsBlock b) (c : Heap) (fit : Fit c) (from : ℕ) (
         inside =
             facing-zip c b vs ws (subst (λ xs. All (IsIn c) xs) left_open.words (words_inside c l fit inside))
             (subst (λ xs. All (IsIn (block_heap b)) xs) right_open.words (words_inside (block_heap b) k block.fit part));
+        lighter = parts_lighter b vs k (atom_name right_open.name) right_open.first right_open.others same_length right_open.means;
         comes = λ as₁ bs₁.
             record {
               turns = zero;
@@ -425,6 +428,7 @@ turns_same true b c from known v w p q ps d after qs left right t =
       gained = t.gained;
       pushed = t.pushed;
       inside = t.inside;
+      lighter = t.lighter;
       comes = λ ts us.
           let k = t.comes ts us in
           record { turns = k.turns; same = λ n bs. ap (λ x. solve (k.turns + n) bs (more x ts) (more (entered b c from known p) us)) (sym left) ∙ k.same n bs };

@@ -47,3 +47,4 @@ pub mod Turning
 pub mod Unbinding
 pub mod Visiting
 pub mod Walking
+pub mod Weighing

@@ -13,7 +13,7 @@ use Rattle.term_store.specs.declared.words.Pair.{Pair}
 use Rattle.term_store.specs.declared.words.Rest.{Rest}
 use Rattle.term_store.specs.declared.block.Block.{Block}
 use Rattle.term_store.specs.Blocks.{IsBlock}
-use Rattle.term_store.specs.Entering.{Extends, IsFacing, IsKnown, Joins, Turned, Turns, entered}
+use Rattle.term_store.specs.Entering.{Extends, IsFacing, IsKnown, Joins, Turned, Turns, entered, weight, weights}
 use Rattle.term_store.specs.Fit.{Fit, no_head}
 use Rattle.term_store.specs.Heap.{Heap, meaning}
 use Rattle.term_store.specs.Rests.{AreRests, IsNext, IsRest, Stepped, Steps, no_rest, pair_at, pairs_of, rest_after, rest_pairs, stacked}
@@ -21,6 +21,7 @@ use Rattle.term_store.specs.Unifying.{zip_words}
 use Rattle.term_store.proofs.Heading.{Reached, left_within, part_opens, reached_more, right_within, turns_joined, turns_same}
 use Rattle.term_store.proofs.Occurring.{popped}
 use Rattle.term_store.proofs.Pairing.{reverse-cons}
+use Rattle.term_store.proofs.Weighing.{weights-append}
 
 pub pairs_of-append : (args parts : List Word) (rs ss : List Rest) → pairs_of args parts (rs ++ ss) ≡ pairs_of args parts rs ++ pairs_of args parts ss
 pairs_of-append args parts [] ss = refl
@@ -148,6 +149,7 @@ turned_behind b c from known w p ps d after qs rs t e =
       gained = t.gained;
       pushed = e ∙ ap (λ xs. ps ++ xs) t.pushed;
       inside = t.inside;
+      lighter = t.lighter;
       comes = t.comes;
     }
 
@@ -251,6 +253,20 @@ reached_step b c from goal head d known rs next p e after ss r reached a g s =
     let left = pairs_of e.args parts (ss ++ r ∷ []) in
     reached_more b c from goal head d known before (before ++ p ∷ []) p e after left reached refl (popped (IsFacing d b) (before ++ p ∷ []) before p refl reached.facing).0
     (subst (λ ps. Turned b d from known p.left p.right ps e after left) same s.turned)
+
+-- Each step leaves less to be met.
+pub step_lighter : (b : Block) (d : Heap) (from : ℕ) (known : List Word) (w p : Word) (rs : List Rest) (next : Rest) (e : Heap) (after : List Word) (ss : List Rest) (r : Rest)
+    → AreRests d b rs next → Extends d e → Stepped b d from known w p rs next e after ss r
+    → weights b (pairs_of e.args b.args.items (ss ++ r ∷ [])) < weights b (pairs_of d.args b.args.items (rs ++ next ∷ [])) + weight b p
+step_lighter b d from known w p rs next e after ss r a g s =
+    let parts = b.args.items in
+    let before = pairs_of d.args parts (rs ++ next ∷ []) in
+    let t = s.turned in
+    let same : pairs_of e.args parts (rs ++ next ∷ []) ≡ before =
+    ap (λ xs. pairs_of xs parts (rs ++ next ∷ [])) (args_grow d e g) ∙ pairs_stay d b g.args (rs ++ next ∷ []) (all_rests d b rs next a) in
+    let left : pairs_of e.args parts (ss ++ r ∷ []) ≡ before ++ t.gained = t.pushed ∙ ap (λ ps. ps ++ t.gained) same in
+    let lighter = t.lighter in
+    omega (arith, ap (weights b) left, weights-append b before t.gained, lighter)
 
 pub rests_after : (b : Block) (c : Heap) (from : ℕ) (known : List Word) (w p : Word) (rs : List Rest) (next : Rest) (d : Heap) (after : List Word) (ss : List Rest) (r : Rest)
     → AreRests c b rs next → Extends c d → Stepped b c from known w p rs next d after ss r → AreRests d b ss r

@@ -1,7 +1,8 @@
 -- Clauses whose heads are met in a goal, as turns of unification's definition.
-use Rattle.std.specs.Prelude.{◌≡◌, ℕ, ◌+◌, ◌-◌, ◌<◌, ◌≤◌, Bool, true, false, nat_lt, ◌==◌, List, [], ◌∷◌, ◌++◌, length, slice_index_or, pos, Option, Some, None, if◌then◌else◌}
+use Rattle.std.specs.Prelude.{◌≡◌, ℕ, zero, suc, ◌+◌, ◌-◌, ◌<◌, ◌≤◌, Bool, true, false, nat_lt, ◌==◌, List, [], ◌∷◌, ◌++◌, length, slice_index_or, pos, Option, Some, None, if◌then◌else◌}
 use Rattle.std.specs.List.{All}
 use Rattle.atom_api.specs.FixedNames.{true_name}
+use Rattle.pl_term.specs.Cells.{compound_cells}
 use Rattle.pl_term.specs.Tree.{Tree, Trees, var, atom, comp, none, more}
 use Rattle.pl_term.specs.Variables.{has, rename_by}
 use Rattle.pl_model.specs.Unify.{Bindings, bound, bound_all, solve, unify, instance}
@@ -112,6 +113,14 @@ abbrev pub faces : Block → Heap → ℕ → List Word → List Pair → Trees 
 faces b c from known [] ts = ts
 faces b c from known (p ∷ ps) ts = faces b c from known ps (more (entered b c from known p.right) ts)
 
+-- What there is to be met in a part of a block, which is more than in all its arguments together.
+abbrev pub weight : Block → Word → ℕ
+weight b p = suc (compound_cells (part_of b p))
+
+abbrev pub weights : Block → List Pair → ℕ
+weights b [] = zero
+weights b (p ∷ ps) = weight b p.right + weights b ps
+
 -- A word of the heap and one of the block were made the same, or their arguments are still to be, which were put on the stack.
 pub record Turned (b : Block) (c : Heap) (from : ℕ) (known : List Word) (w p : Word) (ps : List Pair) (d : Heap) (after : List Word) (qs : List Pair) : Type 0 where
   pub made : Bindings
@@ -121,6 +130,7 @@ pub record Turned (b : Block) (c : Heap) (from : ℕ) (known : List Word) (w p :
   pub gained : List Pair
   pub pushed : qs ≡ ps ++ gained
   pub inside : All (IsFacing d b) gained
+  pub lighter : weights b gained < weight b p
   pub comes : (ts us : Trees) → Comes (more (meaning c w) ts) (more (entered b c from known p) us)
       made (lefts d gained (bound_all made ts)) (faces b d from after gained (bound_all made us))
 

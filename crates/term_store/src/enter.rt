@@ -193,10 +193,7 @@ fn meet_head(
         return Ok(false);
     };
     let mut rest = first;
-    for _ in 0..u64::MAX {
-        let Some(now) = take_next(&mut entry.rests, rest) else {
-            return Ok(true);
-        };
+    while let Some(now) = take_next(&mut entry.rests, rest) {
         let met = meet_at(
             cells,
             &mut entry.known,
@@ -212,5 +209,5 @@ fn meet_head(
         };
         rest = after;
     }
-    Err(Memory)
+    Ok(true)
 }
