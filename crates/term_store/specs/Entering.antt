@@ -1,5 +1,5 @@
 -- Clauses whose heads are met in a goal, as turns of unification's definition.
-use Rattle.std.specs.Prelude.{◌≡◌, ℕ, zero, suc, ◌+◌, ◌-◌, ◌<◌, ◌≤◌, Bool, true, false, nat_lt, ◌==◌, List, [], ◌∷◌, ◌++◌, length, slice_index_or, pos, Option, Some, None, if◌then◌else◌}
+use Rattle.std.specs.Prelude.{◌≡◌, ℕ, zero, suc, ◌+◌, ◌-◌, ◌<◌, ◌≤◌, Bool, true, false, not, nat_lt, ◌==◌, List, [], ◌∷◌, ◌++◌, length, slice_index_or, pos, Option, Some, None, if◌then◌else◌}
 use Rattle.std.specs.List.{All}
 use Rattle.atom_api.specs.FixedNames.{true_name}
 use Rattle.pl_term.specs.Cells.{compound_cells}
@@ -18,7 +18,7 @@ use Rattle.term_store.specs.Blocks.{IsBlock, block_heap, no_range, part_of}
 use Rattle.term_store.specs.Contents.{Contents, Holds, term_at}
 use Rattle.term_store.specs.Fit.{IsIn}
 use Rattle.term_store.specs.Heap.{Heap, atom_name, meaning, numbered}
-use Rattle.term_store.specs.NumberedNames.{neck, number_of}
+use Rattle.term_store.specs.NumberedNames.{is_rule_term, neck, number_of}
 use Rattle.term_store.specs.Unifying.{lefts}
 
 -- The body of a clause that is kept as one term: of a rule its second argument, of a fact `true`.
@@ -164,12 +164,23 @@ abbrev pub Enters : Bool → Block → Heap → ℕ → Word → Word → Heap �
 Enters true b c from w p d after = Entered b c from w p d after
 Enters false b c from w p d after = unify (meaning c w) (rename_by (λ x. from + x) (part_of b p)) ≡ None
 
+-- The head of a clause is another word than the clause: that of a rule is, since it is an argument of the rule.
+abbrev pub head_is_apart : Word → Word → Bool
+head_is_apart (Var x) head = false
+head_is_apart (Int i) head = false
+head_is_apart (Atom a) head = false
+head_is_apart (Comp k) (Var x) = true
+head_is_apart (Comp k) (Int i) = true
+head_is_apart (Comp k) (Atom a) = true
+head_is_apart (Comp k) (Comp j) = not (j == k)
+
 -- The words of a clause's block that stand for the clause's head and its body.
 pub record IsParts (b : Block) (head body : Word) : Type 0 where
   pub head_in_block : IsIn (block_heap b) head
   pub body_in_block : IsIn (block_heap b) body
   pub head_is : part_of b head ≡ head_in (part_of b b.root)
   pub body_is : part_of b body ≡ body_in (part_of b b.root)
+  pub rule_is : is_rule_term (part_of b b.root) ≡ head_is_apart b.root head
 
 -- The block is that of a term with so many variables, and names its head and its body.
 pub record IsBlockOf (n : ℕ) (t : Tree) (b : Block) : Type 0 where

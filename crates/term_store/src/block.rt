@@ -4,7 +4,7 @@ ghost use Rattle.std.specs.List.{All};
 ghost use Rattle.pl_term.specs.Nodes.{tree};
 ghost use Rattle.pl_term.specs.Variables.{rename_by};
 ghost use Rattle.term_store.specs.Blocks.{AreRanges, IsBlock, IsPart, IsRange, Tiles, arguments_of};
-ghost use Rattle.term_store.specs.Entering.{IsBlockOf, IsParts};
+ghost use Rattle.term_store.specs.Entering.{IsBlockOf, IsParts, head_is_apart};
 ghost use Rattle.term_store.specs.Fit.{IsHead, IsWord, no_head};
 ghost use Rattle.term_store.specs.Heap.{words_of};
 ghost use Rattle.term_store.specs.Nodes.{IsNodeBelow, IsSpelled, node_views};
@@ -89,6 +89,19 @@ fn parts_of(block: &Block) -> (Word, Word)
         )
     } else {
         fact
+    }
+}
+
+/// Whether the head of a clause is another word than the clause, as that of a rule is.
+pub fn is_apart(root: Word, head: Word) -> bool
+    ensures { result ≡ head_is_apart root head }
+{
+    match root {
+        Word::Comp(k) => match head {
+            Word::Comp(j) => j != k,
+            _ => true,
+        },
+        _ => false,
     }
 }
 

@@ -1,13 +1,12 @@
 //! Stored terms as clauses and messages that are kept.
 ghost use Rattle.std.specs.Prelude.{◌≡◌, ◌<◌, IfOk, length, map};
-ghost use Rattle.term_store.specs.ArgumentKeys.{begins_rule, first_key, head_nodes, node_key};
+ghost use Rattle.term_store.specs.ArgumentKeys.{first_key, head_nodes, node_key};
 ghost use Rattle.term_store.specs.Nodes.{node_view, node_views};
 
 use crate::argument_key::ArgumentKey;
-use crate::nodes::AtomNode;
+use crate::nodes::{AtomNode, is_rule};
 use crate::store::Store;
 use crate::stored::Stored;
-use atom_api::fixed::NECK;
 use pl_model::kept::Kept;
 use pl_term::Memory;
 use std::alloc::Global;
@@ -50,7 +49,7 @@ impl Kept for Stored {
     }
 
     fn cells(&self) -> u64 {
-        if is_rule(&self.nodes()[0]) {
+        if self.is_rule() {
             self.cells() - 3
         } else {
             self.cells()
@@ -69,16 +68,6 @@ impl Kept for Stored {
         let right = store.build(other, count)?;
         let same = store.unify(left, right)?;
         Ok(same)
-    }
-}
-
-/// Whether this is the first node of a rule Head :- Body.
-fn is_rule(node: &AtomNode) -> bool
-    ensures { result ≡ begins_rule (node_view node.now) }
-{
-    match node {
-        AtomNode::Comp(f, k) => *k == 2 && *f == NECK.slot(),
-        _ => false,
     }
 }
 

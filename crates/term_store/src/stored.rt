@@ -6,11 +6,12 @@ ghost use Rattle.pl_term.specs.NodeLists.{met_with, node_cells, rename_node};
 ghost use Rattle.pl_term.specs.Nodes.{nodes, tree};
 ghost use Rattle.pl_term.specs.Variables.{place, rename, variables};
 ghost use Rattle.term_store.specs.Entering.{IsBlockOf};
+ghost use Rattle.term_store.specs.NumberedNames.{is_rule_term};
 ghost use Rattle.term_store.specs.Nodes.{IsNodeBelow, IsSpelled, node_view, node_views};
 ghost use Rattle.term_store.specs.StoredTerms.{IsStored};
 
-use crate::block::{Block, block_of};
-use crate::nodes::AtomNode;
+use crate::block::{Block, block_of, is_apart};
+use crate::nodes::{AtomNode, is_rule};
 use crate::numbering::Numbering;
 use pl_term::Memory;
 use std::alloc::Global;
@@ -125,6 +126,17 @@ impl Stored {
         ensures { IfSome result (λ b. IsBlockOf (length (variables self.now)) self.now b.now) }
     {
         self.forms.block.as_ref()
+    }
+
+    /// Whether the term is a rule Head :- Body. What is kept as a block too is asked of it, which stands with the counts of the
+    /// lists and not behind them.
+    pub(crate) fn is_rule(&self) -> bool
+        ensures { result ≡ is_rule_term self.now }
+    {
+        match self.block() {
+            Some(block) => is_apart(block.root, block.head),
+            None => is_rule(&self.nodes()[0]),
+        }
     }
 
     /// How many variables the term has.
