@@ -16,9 +16,9 @@ use Rattle.term_store.specs.Blocks.{IsBlock}
 use Rattle.term_store.specs.Entering.{Extends, IsFacing, IsKnown, Joins, Turned, Turns, entered, weight, weights}
 use Rattle.term_store.specs.Fit.{Fit, no_head}
 use Rattle.term_store.specs.Heap.{Heap, meaning}
-use Rattle.term_store.specs.Rests.{AreRests, IsNext, IsRest, Stepped, Steps, no_rest, pair_at, pairs_of, rest_after, rest_pairs, stacked}
+use Rattle.term_store.specs.Rests.{AreRests, IsNext, IsRest, Opens, Stepped, Steps, no_rest, pair_at, pairs_of, rest_after, rest_pairs, stacked}
 use Rattle.term_store.specs.Unifying.{zip_words}
-use Rattle.term_store.proofs.Heading.{Reached, left_within, part_opens, reached_more, right_within, turns_joined, turns_same}
+use Rattle.term_store.proofs.Heading.{Reached, counts_never, left_within, names_never, part_opens, reached_more, right_within, turns_joined, turns_same}
 use Rattle.term_store.proofs.Occurring.{popped}
 use Rattle.term_store.proofs.Pairing.{reverse-cons}
 use Rattle.term_store.proofs.Weighing.{weights-append}
@@ -240,6 +240,19 @@ part_steps b block c fit from known l k inside part left right at_left at_right 
           (ap (λ xs. pairs_of args parts (xs ++ r ∷ [])) e ∙ pairs_of-append args parts (stacked rs next) (r ∷ [])
           ∙ ap₂ (λ ps qs. ps ++ qs) (stacked_pairs args parts rs next) (append-nil (rest_pairs args parts r)));
     }
+
+-- What two compound terms are opened to by their heads.
+pub opens_steps : (q : Option Rest) (b : Block) (block : IsBlock b) (c : Heap) (fit : Fit c) (from : ℕ) (known : List Word) (l k : ℕ) (inside : l < length c.heads)
+    (part : k < length b.heads.items) (left right : Head) (at_left : left ≡ get_or c.heads l no_head) (at_right : right ≡ get_or b.heads.items k no_head)
+    (rs : List Rest) (next : Rest) (ss : List Rest) → IsKnown c from known → length known ≤ b.variables → Opens q left right rs next ss
+    → Steps q b c from known (Comp l) (Comp k) rs next c known ss
+opens_steps (Some r) b block c fit from known l k inside part left right at_left at_right rs next ss known_is few ((names, counts), (stack, is)) =
+    subst (λ x. Stepped b c from known (Comp l) (Comp k) rs next c known ss x) (sym is)
+    (part_steps b block c fit from known l k inside part left right at_left at_right rs next ss known_is few names counts stack)
+opens_steps None b block c fit from known l k inside part left right at_left at_right rs next ss known_is few (inl names) =
+    names_never b block c fit from known l k inside part left right at_left at_right names
+opens_steps None b block c fit from known l k inside part left right at_left at_right rs next ss known_is few (inr counts) =
+    counts_never b block c fit from known l k inside part left right at_left at_right counts
 
 pub reached_step : (b : Block) (c : Heap) (from : ℕ) (goal head : Word) (d : Heap) (known : List Word) (rs : List Rest) (next : Rest) (p : Pair) (e : Heap)
     (after : List Word) (ss : List Rest) (r : Rest) → Reached b c from goal head d known (pairs_of d.args b.args.items (rs ++ next ∷ []) ++ p ∷ [])

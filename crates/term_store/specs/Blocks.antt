@@ -59,6 +59,10 @@ pub record IsBlock (b : Block) : Type 0 where
   pub long : length b.ranges.items ≡ length b.heads.items
   pub ranges : AreRanges b.variables b.heads.items b.args.items (length b.heads.items) b.ranges.items
 
+-- The block keeps the head of the compound term that is the head of its clause.
+abbrev pub IsFirst : Block → Type 0
+IsFirst b = (k : ℕ) → b.head ≡ Comp k → b.first ≡ slice_index_or b.heads.items k no_head
+
 -- A word of a block as it stands in a store, where words of the store stand for the block's variables, and the block's compound
 -- terms from `low` on stand from `above` on.
 abbrev pub copied : List Word → ℕ → ℕ → Word → Word

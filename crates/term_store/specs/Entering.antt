@@ -14,7 +14,7 @@ use Rattle.term_store.specs.declared.words.Pair.{Pair}
 use Rattle.term_store.specs.declared.words.Place.{Place}
 use Rattle.term_store.specs.declared.block.Block.{Block}
 use Rattle.term_store.specs.ArgumentKeys.{head_in}
-use Rattle.term_store.specs.Blocks.{IsBlock, block_heap, no_range, part_of}
+use Rattle.term_store.specs.Blocks.{IsBlock, IsFirst, block_heap, no_range, part_of}
 use Rattle.term_store.specs.Contents.{Contents, Holds, term_at}
 use Rattle.term_store.specs.Fit.{IsIn}
 use Rattle.term_store.specs.Heap.{Heap, atom_name, meaning, numbered}
@@ -186,6 +186,7 @@ pub record IsParts (b : Block) (head body : Word) : Type 0 where
 pub record IsBlockOf (n : ℕ) (t : Tree) (b : Block) : Type 0 where
   pub is : IsBlock b
   pub parts : IsParts b b.head b.body
+  pub first : IsFirst b
   pub count : b.variables ≡ n
   pub means : part_of b b.root ≡ t
 

@@ -1,8 +1,9 @@
 -- Arguments of two compound terms that are still to be made the same.
-use Rattle.std.specs.Prelude.{◌≡◌, ◌⊎◌, ℕ, zero, ◌+◌, ◌-◌, ◌<◌, ◌≤◌, ◌==◌, List, [], ◌∷◌, ◌++◌, length, reverse, take, drop, pos, slice_index_or, Option, Some, None, if◌then◌else◌}
+use Rattle.std.specs.Prelude.{◌≡◌, ◌≢◌, ◌⊎◌, ℕ, zero, ◌+◌, ◌-◌, ◌<◌, ◌≤◌, ◌==◌, List, [], ◌∷◌, ◌++◌, length, reverse, take, drop, pos, slice_index_or, Option, Some, None, if◌then◌else◌}
 use Rattle.std.specs.List.{All}
 use Rattle.term_store.specs.declared.words.Word.{Word}
 use Rattle.term_store.specs.declared.words.Word.TheVariants.{Int}
+use Rattle.term_store.specs.declared.words.Head.{Head}
 use Rattle.term_store.specs.declared.words.Pair.{Pair}
 use Rattle.term_store.specs.declared.words.Rest.{Rest}
 use Rattle.term_store.specs.declared.block.Block.{Block}
@@ -63,3 +64,9 @@ Steps None b c from known w p rs next d after ss = Never (meaning c w) (entered 
 abbrev pub StepsAt : Option Rest → Block → Heap → ℕ → List Word → List Rest → Rest → Heap → List Word → List Rest → Type 0
 StepsAt q b c from known rs r d after ss =
     Steps q b c from known (pair_at c.args b.args.items r).left (pair_at c.args b.args.items r).right rs (rest_after r) d after ss
+
+-- Two heads of the same name and number of arguments were opened, and what was to come next was put on the stack; or they differ.
+abbrev pub Opens : Option Rest → Head → Head → List Rest → Rest → List Rest → Type 0
+Opens (Some r) g h rs next ss =
+    ((g.name ≡ h.name) × (g.count ≡ h.count)) × ((ss ≡ stacked rs next) × (r ≡ record { left = g.start; right = h.start; count = g.count }))
+Opens None g h rs next ss = (g.name ≢ h.name) ⊎ (g.count ≢ h.count)

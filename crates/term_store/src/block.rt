@@ -3,9 +3,9 @@ ghost use Rattle.std.specs.Prelude.{◌≡◌, ℕ, ◌+◌, ◌<◌, ◌≤◌,
 ghost use Rattle.std.specs.List.{All};
 ghost use Rattle.pl_term.specs.Nodes.{tree};
 ghost use Rattle.pl_term.specs.Variables.{rename_by};
-ghost use Rattle.term_store.specs.Blocks.{AreRanges, IsBlock, IsPart, IsRange, Tiles, arguments_of};
+ghost use Rattle.term_store.specs.Blocks.{AreRanges, IsBlock, IsPart, IsRange, Tiles, arguments_of, block_heap};
 ghost use Rattle.term_store.specs.Entering.{IsBlockOf, IsParts, head_is_apart};
-ghost use Rattle.term_store.specs.Fit.{IsHead, IsWord, no_head};
+ghost use Rattle.term_store.specs.Fit.{IsHead, IsIn, IsWord, no_head};
 ghost use Rattle.term_store.specs.Heap.{words_of};
 ghost use Rattle.term_store.specs.Nodes.{IsNodeBelow, IsSpelled, node_views};
 
@@ -18,17 +18,19 @@ use atom_api::fixed;
 use pl_term::Memory;
 use std::alloc::Global;
 
-/// A term by itself: how many variables it has, the heads and the arguments of its compound terms as they would stand in a
-/// store without other terms, the word that stands for it, and what stands below each compound term. Its variable number
-/// `x` is the one of the slot `x`.
+/// A term by itself: how many variables it has, the words that stand for it, for its head and its body as a clause, the first of
+/// the heads that are met with a goal (`first`), the arguments and the heads of its compound terms as they would stand in a store
+/// without other terms, and what stands below each compound term. Its variable number `x` is the one of the slot `x`. What is
+/// looked at of each clause that is entered stands in front.
 #[derive(Debug, Drop)]
 pub struct Block {
     pub variables: u64,
-    pub heads: Vec<Head>,
-    pub args: Words,
     pub root: Word,
     pub head: Word,
     pub body: Word,
+    pub first: Head,
+    pub args: Words,
+    pub heads: Vec<Head>,
     pub ranges: Vec<Range>,
 }
 
@@ -59,17 +61,36 @@ pub fn block_of(alloc: Global, nodes: &[AtomNode], variables: u64) -> Result<Blo
     } = cells;
     let mut block = Block {
         variables,
-        heads,
-        args,
         root,
         head: root,
         body: root,
+        first: NO_HEAD,
+        args,
+        heads,
         ranges,
     };
     let parts = parts_of(&block);
     block.head = parts.0;
     block.body = parts.1;
+    block.first = first_of(&block);
     Ok(block)
+}
+
+const NO_HEAD: Head = Head {
+    name: 0,
+    start: 0,
+    count: 0,
+};
+
+/// The head of the compound term that is the head of a clause, if it is one.
+fn first_of(block: &Block) -> Head
+    requires { IsIn (block_heap block.now) block.now.head }
+    ensures { (k : ℕ) → block.now.head ≡ Word.Comp k → result ≡ slice_index_or block.now.heads.items k no_head }
+{
+    match block.head {
+        Word::Comp(k) => block_head(block, k),
+        _ => NO_HEAD,
+    }
 }
 
 /// The words of the head and of the body of a clause. The body of a fact is `true`.

@@ -2,7 +2,7 @@
 ghost use Rattle.std.specs.Prelude.{◌≡◌, ◌+◌, ◌<◌, ◌^◌, length, IfOk, OnOk, OnErr};
 ghost use Rattle.std.specs.List.{All};
 ghost use Rattle.pl_term.specs.Variables.{variables};
-ghost use Rattle.term_store.specs.Blocks.{IsBlock, part_of};
+ghost use Rattle.term_store.specs.Blocks.{IsBlock, IsFirst, part_of};
 ghost use Rattle.term_store.specs.Cells.{IsFit, heap_of};
 ghost use Rattle.term_store.specs.Contents.{Adds, Holds, IsAbove};
 ghost use Rattle.term_store.specs.Entering.{BlockEntered, ClauseEntered, Enters, Extends, IsFacing, IsParts};
@@ -96,6 +96,7 @@ impl Store {
         requires goal { Holds self.old goal }
         requires block { IsBlock block.now }
         requires parts { IsParts block.now block.now.head block.now.body }
+        requires first { IsFirst block.now }
         requires above { IsAbove from self.old }
         requires room { from + block.now.variables < 2 ^ 64 }
         ensures entered { IfOk result (λ r. ClauseEntered self.old goal from (part_of block.now block.now.root) r self.new) }
@@ -143,6 +144,7 @@ fn enter_block(
     requires fit { IsFit cells.old }
     requires block { IsBlock block.now }
     requires parts { IsParts block.now block.now.head block.now.body }
+    requires first { IsFirst block.now }
     requires goal { IsIn (heap_of cells.old) goal }
     requires above { All (λ m. m < from) cells.old.numbers.items }
     requires room { from + block.now.variables < 2 ^ 64 }
@@ -170,6 +172,7 @@ fn meet_head(
 ) -> Result<bool, Memory>
     requires fit { IsFit cells.old }
     requires block { IsBlock block.now }
+    requires first { IsFirst block.now }
     requires facing { IsFacing (heap_of cells.old) block.now (record { left = goal; right = block.now.head }) }
     requires above { All (λ m. m < from) cells.old.numbers.items }
     requires room { from + block.now.variables < 2 ^ 64 }

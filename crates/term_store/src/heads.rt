@@ -1,11 +1,11 @@
 //! Words of a store and words of a clause's block, made the same.
 ghost use Rattle.std.specs.Prelude.{◌≡◌, ℕ, ◌+◌, ◌<◌, ◌≤◌, ◌^◌, List, length, pos, slice_index_or, Some, None, if◌then◌else◌, IfOk, OnOk};
-ghost use Rattle.term_store.specs.Blocks.{IsBlock};
+ghost use Rattle.term_store.specs.Blocks.{IsBlock, IsFirst};
 ghost use Rattle.term_store.specs.Cells.{Followed, IsFit, heap_of};
 ghost use Rattle.term_store.specs.Entering.{Extends, IsConstant, IsFacing, IsKnown, Joined, Joins, MetFirst, entered, value};
 ghost use Rattle.term_store.specs.Fit.{IsIn};
 ghost use Rattle.term_store.specs.Heap.{find, meaning};
-ghost use Rattle.term_store.specs.Rests.{IsNext, IsRest, Steps, StepsAt, no_rest, pair_at, rest_after, stacked};
+ghost use Rattle.term_store.specs.Rests.{IsNext, IsRest, Opens, Steps, StepsAt, no_rest, pair_at, rest_after, stacked};
 ghost use Rattle.term_store.specs.Shorts.{IsShort};
 
 use crate::bind::{bind, bind_short};
@@ -19,7 +19,7 @@ use crate::pushes::push_one;
 use crate::shorts::{Short, Words, is_plain, short_index};
 use crate::unify::{compare_words, unify};
 use crate::walk::{Pending, Walk};
-use crate::words::{Pair, Plan, Rest, Word};
+use crate::words::{Head, Pair, Plan, Rest, Word};
 use pl_term::Memory;
 
 /// Begins to make the goal and the head of a clause the same.
@@ -39,20 +39,22 @@ pub fn meet_goal(
     requires known { IsKnown (heap_of cells.old) from known.old.items }
     requires few { length known.old.items ≤ block.now.variables }
     requires room { from + block.now.variables < 2 ^ 64 }
+    requires first { IsFirst block.now }
     requires facing { IsFacing (heap_of cells.old) block.now (record { left = goal; right = block.now.head }) }
     ensures fit { IsFit cells.new }
     ensures extends { Extends (heap_of cells.old) (heap_of cells.new) }
     ensures steps { IfOk result (λ r. Steps r block.now (heap_of cells.old) from known.old.items goal block.now.head rests.old.items no_rest
         (heap_of cells.new) known.new.items rests.new.items) }
 {
-    if let Word::Comp(k) = block.head {
+    if let Word::Comp(_) = block.head {
         if let Word::Comp(l) = goal {
             let none = Rest {
                 left: 0,
                 right: 0,
                 count: 0,
             };
-            return open_part(cells, rests, block, l, k, none);
+            let left = head_at(cells, l);
+            return open_heads(rests, left, block.first, none);
         }
     }
     meet_whole(cells, known, rests, pending, walk, block, from, goal)
@@ -581,6 +583,20 @@ fn open_part(
 {
     let left = head_at(cells, l);
     let right = block_head(block, k);
+    open_heads(rests, left, right, next)
+}
+
+/// Takes the arguments of two compound terms by their heads in hand, and puts those that were to come next on the stack. It answers
+/// none, and puts none, where these differ in their name or their number of arguments.
+#[inline(always)]
+fn open_heads(
+    rests: &mut Vec<Rest>,
+    left: Head,
+    right: Head,
+    next: Rest,
+) -> Result<Option<Rest>, Memory>
+    ensures { IfOk result (λ r. Opens r left right rests.old.items next rests.new.items) }
+{
     if left.name != right.name {
         return Ok(None);
     }

@@ -29,11 +29,11 @@ pub struct Stored {
     cells: u64,
 }
 
-/// A term as its nodes in prefix order, and maybe as a block.
+/// A term as a block, maybe, and as its nodes in prefix order.
 #[derive(Debug, Drop)]
 pub struct Forms {
-    pub nodes: Vec<AtomNode>,
     pub block: Option<Block>,
+    pub nodes: Vec<AtomNode>,
 }
 
 impl Model for Stored {
