@@ -40,6 +40,10 @@ pub first_view : (ns : List AtomNode) (d : AtomNode) → 0 < length ns → node_
 first_view [] d lt = refl
 first_view (n ∷ ns) d lt = refl
 
+pub first_view_any : (ns : List AtomNode) (n : AtomNode) (d : Node) → 0 < length ns → node_view (get_or ns 0 n) ≡ get_or (node_views ns) 0 d
+first_view_any [] n d lt = absurd (omega (arith, lt))
+first_view_any (m ∷ ns) n d lt = refl
+
 pub rule_begins : (ns : List AtomNode) (d : AtomNode) (t : Tree) → node_views ns ≡ nodes t → begins_rule (node_view (get_or ns 0 d)) ≡ is_rule_term t
 rule_begins ns d t e =
     ap begins_rule (first_view ns d (some_nodes ns t e)) ∙ ap (λ ms. begins_rule (get_or ms 0 (node_view d))) e ∙ begins_is t (node_view d)

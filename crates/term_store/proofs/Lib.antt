@@ -12,6 +12,7 @@ pub mod Extending
 pub mod Finding
 pub mod Following
 pub mod Grounding
+pub mod Fronting
 pub mod Gathering
 pub mod Growing
 pub mod Handing

@@ -1,13 +1,14 @@
 //! Terms by themselves, as they would stand in a store without others.
 ghost use Rattle.std.specs.Prelude.{◌≡◌, ℕ, ◌+◌, ◌<◌, ◌≤◌, ◌++◌, ◌∷◌, [], zero, pos, length, slice_index_or, IfOk};
 ghost use Rattle.std.specs.List.{All};
-ghost use Rattle.pl_term.specs.Nodes.{tree};
+ghost use Rattle.pl_term.specs.Nodes.{nodes, tree};
+ghost use Rattle.pl_term.specs.declared.node.Node.{Node};
 ghost use Rattle.pl_term.specs.Variables.{rename_by};
-ghost use Rattle.term_store.specs.Blocks.{AreRanges, IsBlock, IsPart, IsRange, Tiles, arguments_of, block_heap};
+ghost use Rattle.term_store.specs.Blocks.{AreRanges, IsBlock, IsFirst, IsPart, IsRange, Tiles, arguments_of, block_heap, part_of};
 ghost use Rattle.term_store.specs.Entering.{IsBlockOf, IsParts, head_is_apart};
 ghost use Rattle.term_store.specs.Fit.{IsHead, IsIn, IsWord, no_head};
 ghost use Rattle.term_store.specs.Heap.{words_of};
-ghost use Rattle.term_store.specs.Nodes.{IsNodeBelow, IsSpelled, node_views};
+ghost use Rattle.term_store.specs.Nodes.{IsNodeBelow, IsSpelled, node_view, node_views};
 
 use crate::cells::Cells;
 use crate::load::load;
@@ -110,6 +111,21 @@ fn parts_of(block: &Block) -> (Word, Word)
         )
     } else {
         fact
+    }
+}
+
+/// The first node of the head of the clause that the block is of.
+pub fn head_node(block: &Block) -> AtomNode
+    requires block { IsBlock block.now }
+    requires inside { IsIn (block_heap block.now) block.now.head }
+    requires first { IsFirst block.now }
+    ensures { (d : Node) → node_view result ≡ slice_index_or (nodes (part_of block.now block.now.head)) 0 d }
+{
+    match block.head {
+        Word::Comp(_) => AtomNode::Comp(block.first.name, block.first.count as usize),
+        Word::Atom(a) => AtomNode::Atom(a),
+        Word::Int(i) => AtomNode::Int(i),
+        Word::Var(x) => AtomNode::Var(x as u64),
     }
 }
 

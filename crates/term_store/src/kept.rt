@@ -1,9 +1,12 @@
 //! Stored terms as clauses and messages that are kept.
-ghost use Rattle.std.specs.Prelude.{◌≡◌, ◌<◌, IfOk, length, map};
+ghost use Rattle.std.specs.Prelude.{◌≡◌, ◌<◌, IfOk, length, map, slice_index_or};
+ghost use Rattle.pl_term.specs.Nodes.{nodes};
+ghost use Rattle.pl_term.specs.declared.node.Node.{Node};
 ghost use Rattle.term_store.specs.ArgumentKeys.{first_key, head_nodes, node_key};
 ghost use Rattle.term_store.specs.Nodes.{node_view, node_views};
 
 use crate::argument_key::ArgumentKey;
+use crate::block::head_node;
 use crate::nodes::{AtomNode, is_rule};
 use crate::store::Store;
 use crate::stored::Stored;
@@ -68,6 +71,18 @@ impl Kept for Stored {
         let right = store.build(other, count)?;
         let same = store.unify(left, right)?;
         Ok(same)
+    }
+}
+
+impl Stored {
+    /// The first node of the head of the term as a clause. Of what is kept as a block too the nodes are not read.
+    pub fn head_node(&self) -> AtomNode
+        ensures { (d : Node) → node_view result ≡ slice_index_or (head_nodes (nodes self.now)) 0 d }
+    {
+        match self.block() {
+            Some(block) => head_node(block),
+            None => head(self.nodes())[0],
+        }
     }
 }
 
