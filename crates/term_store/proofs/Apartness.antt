@@ -29,7 +29,7 @@ use Rattle.term_store.proofs.Occurring.{var_found, int_found, atom_found, comp_f
 use Rattle.term_store.proofs.Opening.{raw-opened, weaker_word}
 
 -- A variable is absent where it is neither in the term nor in what is put in.
-absent_replaced : (y x : ℕ) (s t : Tree) → has y s ≡ false → has y t ≡ false → has y (replace x s t) ≡ false
+pub absent_replaced : (y x : ℕ) (s t : Tree) → has y s ≡ false → has y t ≡ false → has y (replace x s t) ≡ false
 absent_replaced y x s t a b = go (has y (replace x s t)) refl
   where
     go : (q : Bool) → has y (replace x s t) ≡ q → q ≡ false
@@ -54,14 +54,14 @@ absent_solved x bs (e ∷ es) all new =
     All-cons (IsAbsent x) (e.0, bound bs e.1) (solved (bs ++ (e.0, bound bs e.1) ∷ []) es) here
     (absent_solved x (bs ++ (e.0, bound bs e.1) ∷ []) es (All-push (IsAbsent x) bs (e.0, bound bs e.1) all here) (All-tail (IsAbsent x) e es new))
 
-absent_words : (x : ℕ) (h : Heap) (n k : ℕ) → ((w : Word) → IsWord n k w → has x (raw h w) ≡ false) → (ws : List Word) → All (IsWord n k) ws
+pub absent_words : (x : ℕ) (h : Heap) (n k : ℕ) → ((w : Word) → IsWord n k w → has x (raw h w) ≡ false) → (ws : List Word) → All (IsWord n k) ws
     → has_all x (trees (map (raw h) ws)) ≡ false
 absent_words x h n k none [] all = refl
 absent_words x h n k none (w ∷ ws) all =
     absent_both x (occurrences (raw h w)) (occurrences_all (trees (map (raw h) ws))) (none w (All-head (IsWord n k) w ws all))
     (absent_words x h n k none ws (All-tail (IsWord n k) w ws all))
 
-absent_compound : (x : ℕ) (f : Chars) (h : Heap) (ws : List Word) → has_all x (trees (map (raw h) ws)) ≡ false → has x (compound f (map (raw h) ws)) ≡ false
+pub absent_compound : (x : ℕ) (f : Chars) (h : Heap) (ws : List Word) → has_all x (trees (map (raw h) ws)) ≡ false → has x (compound f (map (raw h) ws)) ≡ false
 absent_compound x f h [] a = refl
 absent_compound x f h (w ∷ ws) a = a
 

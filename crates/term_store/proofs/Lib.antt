@@ -4,6 +4,7 @@ pub mod Binding
 pub mod Bonding
 pub mod Building
 mod Constants
+pub mod Closing
 pub mod Constructing
 pub mod Copying
 pub mod Entering

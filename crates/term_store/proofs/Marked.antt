@@ -48,7 +48,7 @@ marked_more k gs hs long same (Int i) m = tt
 marked_more k gs hs long same (Atom a) m = tt
 marked_more k gs hs long same (Comp j) m = same j (omega (arith, long, inside_marked gs j m)) ∙ m
 
-words_within : (args : List Word) (n : ℕ) (g : Head) → g.start + g.count ≤ length (take n args) → words_of (take n args) g ≡ words_of args g
+pub words_within : (args : List Word) (n : ℕ) (g : Head) → g.start + g.count ≤ length (take n args) → words_of (take n args) g ≡ words_of args g
 words_within args n g within =
     sym (words_of-longer (take n args) (drop n args) g within) ∙ ap (λ ws. words_of ws g) (take-append-drop n args)
 

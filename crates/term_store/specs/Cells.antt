@@ -6,6 +6,7 @@ use Rattle.term_store.specs.declared.cells.Cells.{Cells}
 use Rattle.term_store.specs.declared.shorts.Short.{Short}
 use Rattle.term_store.specs.Heap.{Heap, find, meaning}
 use Rattle.term_store.specs.Fit.{Fit, IsCache, IsIn}
+use Rattle.term_store.specs.Frontiers.{IsClosed}
 use Rattle.term_store.specs.GroundMarks.{AreMarks}
 use Rattle.term_store.specs.GroundTerms.{AreGroundTerms}
 use Rattle.term_store.specs.Shorts.{IsShort}
@@ -18,6 +19,7 @@ pub record IsFit (c : Cells) : Type 0 where
   pub cache : IsCache c.bonds.values (heap_of c)
   pub marks : AreMarks c.grounds.items (heap_of c)
   pub settled : AreGroundTerms c.settled.list.items (heap_of c)
+  pub closed : IsClosed c.frontier (heap_of c)
 
 -- A word that is not a bound variable.
 abbrev pub IsFree : Heap → Word → Type 0

@@ -8,6 +8,7 @@ pub mod Counting
 pub mod Entering
 pub mod Findings
 pub mod Fit
+pub mod Frontiers
 pub mod GroundMarks
 pub mod GroundTerms
 pub mod Grounds

@@ -24,7 +24,10 @@ pub fn bind(cells: &mut Cells, slot: usize, word: Word) -> Result<(), Memory>
     ensures bound { IfOk result (λ _. heap_of cells.new ≡ pushed (heap_of cells.old) slot word) }
     ensures kept { OnErr result (heap_of cells.new ≡ heap_of cells.old) }
 {
+    let slots = cells.numbers.len();
+    let heads = cells.heads.len();
     cells.bonds.bind(slot, word)?;
+    cells.frontier.pass_word(slot, word, slots, heads);
     Ok(())
 }
 
@@ -43,6 +46,9 @@ pub fn bind_short(cells: &mut Cells, slot: u32, short: Short) -> Result<(), Memo
     ensures bound { IfOk result (λ _. heap_of cells.new ≡ pushed (heap_of cells.old) slot (long_word [] short)) }
     ensures kept { OnErr result (heap_of cells.new ≡ heap_of cells.old) }
 {
+    let slots = cells.numbers.len();
+    let heads = cells.heads.len();
     cells.bonds.bind_short(slot, short)?;
+    cells.frontier.pass(slot as usize, short, slots, heads);
     Ok(())
 }

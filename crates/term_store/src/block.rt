@@ -59,6 +59,7 @@ pub fn block_of(alloc: Global, nodes: &[AtomNode], variables: u64) -> Result<Blo
         bonds: _,
         grounds: _,
         settled: _,
+        frontier: _,
     } = cells;
     let mut block = Block {
         variables,

@@ -5,6 +5,7 @@ ghost use Rattle.term_store.specs.Heap.{blank_heap, meaning};
 ghost use Rattle.term_store.specs.Fit.{IsIn, no_head};
 
 use crate::bonds::Bonds;
+use crate::frontier::Frontier;
 use crate::ground_terms::GroundTerms;
 use crate::shorts::{Short, Words};
 use crate::words::{Head, Word};
@@ -12,7 +13,7 @@ use std::alloc::Global;
 
 /// The compound terms by their heads and arguments, the variables' numbers, which rise with the slots, and what they are bound
 /// to, by slot and in the order in which the bindings were made. `grounds` has for the compound terms up to the last marked one whether they were made of constants and such terms alone, and `settled` those in which a walk found no
-/// variable, under the bindings that there are.
+/// variable, under the bindings that there are. Below `frontier` no newer variable occurs in a term.
 #[derive(Drop)]
 pub struct Cells {
     pub heads: Vec<Head>,
@@ -21,6 +22,7 @@ pub struct Cells {
     pub bonds: Bonds,
     pub grounds: Vec<bool>,
     pub settled: GroundTerms,
+    pub frontier: Frontier,
 }
 
 impl Cells {
@@ -36,6 +38,7 @@ impl Cells {
             bonds: Bonds::new(alloc),
             grounds: Vec::new(alloc),
             settled: GroundTerms::new(alloc),
+            frontier: Frontier::none(),
         }
     }
 }

@@ -12,7 +12,7 @@ use crate::block::{Block, block_of};
 use crate::cells::Cells;
 use crate::copies::copy_part;
 use crate::heads::{meet_at, meet_goal, take_next};
-use crate::known::make_known;
+use crate::known::make_others;
 use crate::shorts::Words;
 use crate::store::Store;
 use crate::stored::Stored;
@@ -155,7 +155,7 @@ fn enter_block(
     if !meet_head(cells, entry, pending, walk, block, from, goal)? {
         return Ok(None);
     }
-    make_known(cells, &mut entry.known, block.variables as usize, from)?;
+    make_others(cells, &mut entry.known, block.variables as usize, from)?;
     let body = copy_part(cells, block, &entry.known, block.body)?;
     Ok(Some(body))
 }

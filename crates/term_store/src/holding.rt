@@ -165,7 +165,10 @@ fn is_met(
     match known.short(x as usize) {
         Short::Number(_) => Ok(false),
         Short::Name(_) => Ok(false),
-        _ => {
+        held => {
+            if cells.frontier.is_newer(slot, held) {
+                return Ok(false);
+            }
             let met = known_at(known, x as usize);
             let held = stands_in(cells, walk, slot, met)?;
             Ok(held)

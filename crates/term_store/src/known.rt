@@ -5,6 +5,7 @@ ghost use Rattle.term_store.specs.Entering.{IsKnown, Meets};
 ghost use Rattle.term_store.specs.Making.{Longer};
 
 use crate::cells::Cells;
+use crate::frontier::move_frontier;
 use crate::make::make_variable;
 use crate::shorts::{Short, Words, short_index};
 use pl_term::Memory;
@@ -36,6 +37,33 @@ pub fn make_known(
         }
     }
     Ok(())
+}
+
+/// Does what `make_known` does, for the variables that no part of the head holds: no newer variable occurs in a term that was there
+/// before them.
+#[inline(always)]
+pub fn make_others(
+    cells: &mut Cells,
+    known: &mut Words,
+    count: usize,
+    from: u64,
+) -> Result<(), Memory>
+    requires fit { IsFit cells.old }
+    requires known { IsKnown (heap_of cells.old) from known.old.items }
+    requires room { from + count < 2 ^ 64 }
+    ensures fit { IsFit cells.new }
+    ensures longer { Longer (heap_of cells.old) (heap_of cells.new) }
+    ensures known { OnOk result (IsKnown (heap_of cells.new) from known.new.items) }
+    ensures meets { OnOk result (Meets (heap_of cells.old) from known.old.items [] (heap_of cells.new) known.new.items) }
+    ensures enough { OnOk result (count ≤ length known.new.items) }
+    ensures more { OnOk result (length known.old.items ≤ length known.new.items) }
+    ensures few { OnOk result ((n : ℕ) → count ≤ n → length known.old.items ≤ n → length known.new.items ≤ n) }
+{
+    if known.len() >= count {
+        return Ok(());
+    }
+    move_frontier(cells);
+    make_known(cells, known, count, from)
 }
 
 /// Does what `make_known` does, where one was made and there are more to be made.

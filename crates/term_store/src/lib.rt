@@ -14,6 +14,7 @@ mod copies;
 mod count;
 mod enter;
 mod faults;
+mod frontier;
 mod ground;
 mod ground_terms;
 mod heads;

@@ -3,6 +3,7 @@ ghost use Rattle.std.specs.Prelude.{◌≡◌, ◌+◌, ◌<◌, ◌≤◌, fals
 ghost use Rattle.std.specs.List.{All};
 ghost use Rattle.term_store.specs.Cells.{IsFit, heap_of};
 ghost use Rattle.term_store.specs.Fit.{IsIn, Fit, IsCache};
+ghost use Rattle.term_store.specs.Frontiers.{IsClosed};
 ghost use Rattle.term_store.specs.GroundMarks.{AreMarks, IsMarked, IsMarkedToo};
 ghost use Rattle.term_store.specs.GroundTerms.{AreGroundTerms};
 ghost use Rattle.term_store.specs.Making.{Made, with_args, with_number};
@@ -81,6 +82,7 @@ pub fn finish_compound(
     requires unused { Fit (with_args (heap_of cells.old) (take start cells.old.args.items)) }
     requires marks { AreMarks cells.old.grounds.items (with_args (heap_of cells.old) (take start cells.old.args.items)) }
     requires settled { AreGroundTerms cells.old.settled.list.items (with_args (heap_of cells.old) (take start cells.old.args.items)) }
+    requires closed { IsClosed cells.old.frontier (with_args (heap_of cells.old) (take start cells.old.args.items)) }
     ensures fit { IsFit cells.new }
     ensures made { IfOk result (λ w. Made (with_args (heap_of cells.old) (take start cells.old.args.items)) name
         (drop start cells.old.args.items) (heap_of cells.new) w) }
@@ -109,6 +111,7 @@ pub fn finish_marked(
     requires unused { Fit (with_args (heap_of cells.old) (take start cells.old.args.items)) }
     requires marks { AreMarks cells.old.grounds.items (with_args (heap_of cells.old) (take start cells.old.args.items)) }
     requires settled { AreGroundTerms cells.old.settled.list.items (with_args (heap_of cells.old) (take start cells.old.args.items)) }
+    requires closed { IsClosed cells.old.frontier (with_args (heap_of cells.old) (take start cells.old.args.items)) }
     requires ground { marked ≡ true → All (IsMarked cells.old.grounds.items) (drop start cells.old.args.items) }
     ensures fit { IsFit cells.new }
     ensures made { IfOk result (λ w. Made (with_args (heap_of cells.old) (take start cells.old.args.items)) name

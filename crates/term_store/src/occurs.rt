@@ -38,6 +38,10 @@ pub fn occurs(
     if is_apart(older, slot, word) {
         return Ok(false);
     }
+    if cells.frontier.is_newer_word(slot, word) {
+        older.top = older.top.max(cells.frontier.slots);
+        return Ok(false);
+    }
     let found = is_found(cells, walk, &mut older.top, slot, word)?;
     Ok(found)
 }

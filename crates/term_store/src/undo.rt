@@ -3,6 +3,7 @@ ghost use Rattle.std.specs.Prelude.{◌≡◌, ◌<◌, ◌≤◌, [], length, t
 ghost use Rattle.std.specs.List.{All};
 ghost use Rattle.term_store.specs.Cells.{IsFit, heap_of};
 ghost use Rattle.term_store.specs.Fit.{Cached, Fit, IsCache, OnceFrom};
+ghost use Rattle.term_store.specs.Frontiers.{IsClosed};
 ghost use Rattle.term_store.specs.GroundMarks.{AreMarks};
 ghost use Rattle.term_store.specs.GroundTerms.{AreGroundTerms};
 ghost use Rattle.term_store.specs.Marks.{IsWithin, cut};
@@ -22,6 +23,7 @@ pub fn undo_to(cells: &mut Cells, mark: StoreMark)
     ensures cache { IsCache cells.new.bonds.values (heap_of cells.new) }
     ensures marks { AreMarks cells.new.grounds.items (heap_of cells.new) }
     ensures settled { AreGroundTerms cells.new.settled.list.items (heap_of cells.new) }
+    ensures closed { IsClosed cells.new.frontier (heap_of cells.new) }
 {
     unbind(&mut cells.bonds, mark.trail);
     cells.heads.truncate(mark.heads);
@@ -30,6 +32,7 @@ pub fn undo_to(cells: &mut Cells, mark: StoreMark)
     cells.bonds.keep_first(mark.numbers);
     cells.grounds.truncate(mark.heads);
     forget_later(&mut cells.settled.list, mark.heads, mark.trail);
+    cells.frontier.cut(mark);
 }
 
 /// Undoes the bindings made since there were `keep` of them.

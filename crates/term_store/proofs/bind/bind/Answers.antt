@@ -1,10 +1,12 @@
-use Rattle.std.proofs.Common.{◌≡◌, ◌<◌, set, Some, sym, subst}
+use Rattle.std.proofs.Common.{◌≡◌, ◌<◌, set, Some, sym, subst, ◌∙◌}
 use Rattle.term_store.specs.Heap.{pushed}
 use Rattle.term_store.specs.Fit.{Fit, IsCache}
 use Rattle.term_store.specs.Cells.{heap_of}
+use Rattle.term_store.specs.Frontiers.{IsClosed}
 use Rattle.term_store.specs.GroundTerms.{AreGroundTerms}
 use Rattle.term_store.specs.Shorts.{BondList}
 use Rattle.term_store.proofs.Binding.{fit_pushed, cache_pushed}
+use Rattle.term_store.proofs.Closing.{closed_passed}
 use Rattle.term_store.proofs.Settling.{settled_pushed}
 use Rattle.term_store.proofs.bind.bind.Goals as goal
 
@@ -21,6 +23,7 @@ returns-in_err-bind-clause-fit c =
       cache = subst (λ (b : BondList). IsCache b.values (record h { trail = b.items })) (sym e) r.fit.cache;
       marks = record { long = r.fit.marks.long; parts = r.fit.marks.parts };
       settled = subst (λ (b : BondList). AreGroundTerms c.args.cells.now.settled.list.items (record h { trail = b.items })) (sym e) r.fit.settled;
+      closed = subst (λ (b : BondList). IsClosed c.args.cells.now.frontier (record h { trail = b.items })) (sym e) r.fit.closed;
     }
 
 pub returns-clause-fit : goal.returns-clause-fit
@@ -40,4 +43,9 @@ returns-clause-fit c =
       settled =
           subst (λ t. AreGroundTerms c.args.cells.now.settled.list.items (record h { trail = t })) (sym e)
           (settled_pushed c.args.cells.now.settled.list.items h c.args.slot c.args.word r.fit.settled);
+      closed =
+          subst (λ t. IsClosed c.pass_word.new.self (record h { trail = t })) (sym e)
+          (closed_passed c.args.cells.now.frontier c.pass_word.new.self h c.args.slot c.args.word c.len-slots.result c.len-heads.result
+          (c.len-slots.ensures ∙ c.args.cells.now.numbers.ok.0) (c.len-heads.ensures ∙ c.args.cells.now.heads.ok.0)
+          (fit_pushed h c.args.slot c.args.word r.fit.fit r.slot r.free r.below r.inside r.absent) c.pass_word.ensures r.fit.closed);
     }

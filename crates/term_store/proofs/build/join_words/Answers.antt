@@ -3,6 +3,7 @@ use Rattle.std.specs.List.{All}
 use Rattle.std.proofs.Math.Seq.{drop-append_seam}
 use Rattle.term_store.specs.Cells.{heap_of}
 use Rattle.term_store.specs.Fit.{IsIn}
+use Rattle.term_store.specs.Frontiers.{IsClosed}
 use Rattle.term_store.specs.GroundMarks.{AreMarks}
 use Rattle.term_store.specs.GroundTerms.{AreGroundTerms}
 use Rattle.term_store.specs.Making.{with_args}
@@ -34,3 +35,11 @@ finish_compound-requires-clause-settled c =
     let before : take c.len-start.result args ≡ h.args =
     ap (λ n. take n args) c.len-start.ensures ∙ c.move_words.ensures.kept in
     subst (λ ws. AreGroundTerms c.args.cells.now.settled.list.items (with_args h ws)) (sym before) c.requires.fit.settled
+
+pub finish_compound-requires-clause-closed : goal.finish_compound-requires-clause-closed
+finish_compound-requires-clause-closed c =
+    let h = heap_of c.args.cells.now in
+    let args = c.move_words.new.args.items in
+    let before : take c.len-start.result args ≡ h.args =
+    ap (λ n. take n args) c.len-start.ensures ∙ c.move_words.ensures.kept in
+    subst (λ ws. IsClosed c.args.cells.now.frontier (with_args h ws)) (sym before) c.requires.fit.closed

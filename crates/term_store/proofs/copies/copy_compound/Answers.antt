@@ -8,6 +8,7 @@ use Rattle.term_store.specs.Blocks.{IsPart, arguments_of, copied}
 use Rattle.term_store.specs.Cells.{heap_of}
 use Rattle.term_store.specs.Entering.{IsGroundBefore}
 use Rattle.term_store.specs.Fit.{IsIn, IsWord}
+use Rattle.term_store.specs.Frontiers.{IsClosed}
 use Rattle.term_store.specs.GroundMarks.{AreMarks, IsMarked, IsMarkedBefore}
 use Rattle.term_store.specs.GroundTerms.{AreGroundTerms}
 use Rattle.term_store.specs.Heap.{words_of}
@@ -69,6 +70,14 @@ finish_marked-requires-clause-settled c =
     let before : take c.len-start.result args ≡ h.args =
     ap (λ n. take n args) c.len-start.ensures ∙ c.push_copies.ensures.kept in
     subst (λ ws. AreGroundTerms c.args.cells.now.settled.list.items (with_args h ws)) (sym before) c.requires.fit.settled
+
+pub finish_marked-requires-clause-closed : goal.finish_marked-requires-clause-closed
+finish_marked-requires-clause-closed c =
+    let h = heap_of c.args.cells.now in
+    let args = c.push_copies.new.args.items in
+    let before : take c.len-start.result args ≡ h.args =
+    ap (λ n. take n args) c.len-start.ensures ∙ c.push_copies.ensures.kept in
+    subst (λ ws. IsClosed c.args.cells.now.frontier (with_args h ws)) (sym before) c.requires.fit.closed
 
 pub finish_marked-requires-clause-ground : goal.finish_marked-requires-clause-ground
 finish_marked-requires-clause-ground c e =

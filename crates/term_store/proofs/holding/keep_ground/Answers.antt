@@ -16,6 +16,7 @@ returns-in_err-add-clause-fit c =
       cache = r.fit.cache;
       marks = r.fit.marks;
       settled = subst (λ gs. AreGroundTerms gs (heap_of c.args.cells.now)) (sym c.in_err-add.ensures.kept) r.fit.settled;
+      closed = r.fit.closed;
     }
 
 pub returns-clause-fit : goal.returns-clause-fit
@@ -30,4 +31,4 @@ returns-clause-fit c =
     let e : c.add.new.self.list.items ≡ gs ++ record { term = k; heads = length h.heads; bindings = length h.trail } ∷ [] =
     c.in_ok-add.ensures.ok
     ∙ ap₂ (λ (m n : ℕ). gs ++ record { term = k; heads = m; bindings = n } ∷ []) (c.len-heads.ensures ∙ c.args.cells.now.heads.ok.0) c.len-bindings.ensures in
-    record { fit = r.fit.fit; cache = r.fit.cache; marks = r.fit.marks; settled = settled_added gs c.add.new.self.list.items h k r.fit.settled e inside absent }
+    record { fit = r.fit.fit; cache = r.fit.cache; marks = r.fit.marks; settled = settled_added gs c.add.new.self.list.items h k r.fit.settled e inside absent; closed = r.fit.closed }

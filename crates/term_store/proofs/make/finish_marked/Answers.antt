@@ -1,6 +1,7 @@
 use Rattle.std.proofs.Common.{length, take, refl, ◌∙◌}
 use Rattle.term_store.specs.Cells.{heap_of}
 use Rattle.term_store.specs.Making.{with_args}
+use Rattle.term_store.proofs.Closing.{closed_longer}
 use Rattle.term_store.proofs.Growing.{finished}
 use Rattle.term_store.proofs.Marked.{marks_made}
 use Rattle.term_store.proofs.Settling.{settled_longer}
@@ -21,6 +22,10 @@ returns-in-Ok-clause-fit c =
           settled_longer c.args.cells.now.settled.list.items (with_args h (take c.args.start h.args)) (record h { heads = c.push_head.new.heads.items }) r.unused
           (finished h c.args.name c.args.start c.args.count (length h.heads) c.push_head.new.heads.items r.unused r.full r.within r.inside c.in-Ok.ensures.heads refl).1.longer
           r.settled;
+      closed =
+          closed_longer c.args.cells.now.frontier (with_args h (take c.args.start h.args)) (record h { heads = c.push_head.new.heads.items }) r.unused
+          (finished h c.args.name c.args.start c.args.count (length h.heads) c.push_head.new.heads.items r.unused r.full r.within r.inside c.in-Ok.ensures.heads refl).1.longer
+          r.closed;
     }
 
 pub returns-in-Ok-clause-made : goal.returns-in-Ok-clause-made

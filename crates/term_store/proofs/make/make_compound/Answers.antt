@@ -5,6 +5,7 @@ use Rattle.std.proofs.lemmas.List.Elements.{All-map}
 use Rattle.term_store.specs.declared.words.Word.{Word}
 use Rattle.term_store.specs.Cells.{heap_of}
 use Rattle.term_store.specs.Fit.{IsIn}
+use Rattle.term_store.specs.Frontiers.{IsClosed}
 use Rattle.term_store.specs.GroundMarks.{AreMarks}
 use Rattle.term_store.specs.GroundTerms.{AreGroundTerms}
 use Rattle.term_store.specs.Making.{with_args}
@@ -38,3 +39,11 @@ finish_compound-requires-clause-settled c =
     let before : take c.len-start.result args ≡ h.args =
     ap (λ n. take n args) c.len-start.ensures ∙ c.push_places.ensures.kept in
     subst (λ ws. AreGroundTerms c.args.cells.now.settled.list.items (with_args h ws)) (sym before) c.requires.fit.settled
+
+pub finish_compound-requires-clause-closed : goal.finish_compound-requires-clause-closed
+finish_compound-requires-clause-closed c =
+    let h = heap_of c.args.cells.now in
+    let args = c.push_places.new.args.items in
+    let before : take c.len-start.result args ≡ h.args =
+    ap (λ n. take n args) c.len-start.ensures ∙ c.push_places.ensures.kept in
+    subst (λ ws. IsClosed c.args.cells.now.frontier (with_args h ws)) (sym before) c.requires.fit.closed

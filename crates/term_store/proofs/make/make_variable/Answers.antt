@@ -3,8 +3,10 @@ use Rattle.std.specs.List.{All}
 use Rattle.std.proofs.lemmas.List.Elements.{All-weaker}
 use Rattle.term_store.specs.Cells.{heap_of}
 use Rattle.term_store.specs.Fit.{Fit, IsBond, IsCache}
+use Rattle.term_store.specs.Frontiers.{IsClosed}
 use Rattle.term_store.specs.GroundTerms.{AreGroundTerms}
 use Rattle.term_store.specs.Making.{with_number}
+use Rattle.term_store.proofs.Closing.{closed_longer}
 use Rattle.term_store.proofs.Growing.{fit_number, cache_number}
 use Rattle.term_store.proofs.Loading.{longer_numbers}
 use Rattle.term_store.proofs.Settling.{settled_longer}
@@ -21,6 +23,7 @@ returns-in_err-add-clause-fit c =
           (subst (λ vs. IsCache vs h) (sym c.in_err-add.ensures.kept) r.fit.cache);
       marks = record { long = r.fit.marks.long; parts = r.fit.marks.parts };
       settled = subst (λ bs. AreGroundTerms c.args.cells.now.settled.list.items (record h { trail = bs })) (sym c.add.ensures.items) r.fit.settled;
+      closed = subst (λ bs. IsClosed c.args.cells.now.frontier (record h { trail = bs })) (sym c.add.ensures.items) r.fit.closed;
     }
 
 pub keep_first-requires : goal.keep_first-requires
@@ -49,4 +52,9 @@ returns-in-Ok-clause-fit c =
           (subst (λ ns. AreGroundTerms c.args.cells.now.settled.list.items (record h { numbers = ns })) (sym c.in-Ok.ensures.items)
           (settled_longer c.args.cells.now.settled.list.items h (with_number h c.args.number) r.fit.fit
           (longer_numbers h (with_number h c.args.number) (c.args.number ∷ []) refl) r.fit.settled));
+      closed =
+          subst (λ bs. IsClosed c.args.cells.now.frontier (record h { numbers = c.push_one.new.list.items; trail = bs })) (sym c.add.ensures.items)
+          (subst (λ ns. IsClosed c.args.cells.now.frontier (record h { numbers = ns })) (sym c.in-Ok.ensures.items)
+          (closed_longer c.args.cells.now.frontier h (with_number h c.args.number) r.fit.fit
+          (longer_numbers h (with_number h c.args.number) (c.args.number ∷ []) refl) r.fit.closed));
     }

@@ -6,10 +6,12 @@ use Rattle.term_store.specs.declared.words.Head.{Head}
 use Rattle.term_store.specs.declared.words.Bond.{Bond}
 use Rattle.term_store.specs.Cells.{heap_of}
 use Rattle.term_store.specs.Fit.{IsBond}
+use Rattle.term_store.specs.Frontiers.{IsClosed}
 use Rattle.term_store.specs.GroundMarks.{AreMarks}
 use Rattle.term_store.specs.GroundTerms.{AreGroundTerms}
 use Rattle.term_store.specs.Heap.{Heap}
 use Rattle.term_store.specs.Marks.{cut}
+use Rattle.term_store.proofs.Closing.{closed_cut}
 use Rattle.term_store.proofs.Marked.{marks_cut}
 use Rattle.term_store.proofs.Settling.{settled_cut, settled_taken}
 use Rattle.term_store.proofs.undo.undo_to.Goals as goal
@@ -53,3 +55,15 @@ returns-clause-marks c =
     ∙ ap₂ (heap (take m.heads h.heads) (take m.args h.args)) c.truncate-3.ensures.items (c.keep_first.ensures.items ∙ c.unbind.ensures.trail) in
     subst (AreMarks c.truncate-4.new.self.items) (sym same)
     (subst (λ gs. AreMarks gs (cut m h)) (sym c.truncate-4.ensures.items) (marks_cut m c.args.cells.now.grounds.items h c.requires.fit.fit c.requires.fit.marks))
+
+pub returns-clause-closed : goal.returns-clause-closed
+returns-clause-closed c =
+    let h = heap_of c.args.cells.now in
+    let m = c.args.mark in
+    let ns = c.truncate-3.new.self.items in
+    let bs = c.keep_first.new.self.items in
+    let same : heap c.truncate.new.self.items c.truncate-2.new.self.items ns bs ≡ cut m h =
+    ap₂ (λ hs ws. heap hs ws ns bs) c.truncate.ensures.items c.truncate-2.ensures.items
+    ∙ ap₂ (heap (take m.heads h.heads) (take m.args h.args)) c.truncate-3.ensures.items (c.keep_first.ensures.items ∙ c.unbind.ensures.trail) in
+    subst (IsClosed c.cut.new.self) (sym same)
+    (closed_cut m c.args.cells.now.frontier c.cut.new.self h c.requires.within c.requires.before c.cut.ensures c.requires.fit.closed)
