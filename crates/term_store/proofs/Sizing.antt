@@ -1,12 +1,12 @@
 -- The cells of compound terms, counted from those of their arguments.
-use Rattle.std.proofs.Common.{◌≡◌, ℕ, zero, suc, ◌+◌, ◌<◌, ◌≤◌, ◌^◌, List, [], ◌∷◌, ◌++◌, length, get_or, map, take, drop, None, pos, refl, sym, ap, subst, ◌∙◌, arith}
+use Rattle.std.proofs.Common.{◌≡◌, ℕ, suc, ◌+◌, ◌<◌, ◌≤◌, ◌^◌, List, [], ◌∷◌, ◌++◌, length, get_or, map, take, drop, None, pos, refl, sym, ap, subst, ◌∙◌, arith}
 use Rattle.std.specs.List.{All}
 use Rattle.std.proofs.lemmas.List.{get_or-drop, get_or-map, get_or-take, map-append, take_all, take_more}
 use Rattle.std.proofs.lemmas.List.Elements.{All-append, All-cons, All-get_or, All-nil, All-push, All-same, All-weaker}
-use Rattle.pl_term.specs.Tree.{Tree, compound}
+use Rattle.pl_term.specs.Tree.{compound}
 use Rattle.pl_term.specs.Cells.{compound_cells}
 use Rattle.term_store.specs.declared.size.Size.{Size}
-use Rattle.term_store.specs.declared.size.Size.TheVariants.{Unknown, Cells, Over}
+use Rattle.term_store.specs.declared.size.Size.TheVariants.{Cells, Over}
 use Rattle.term_store.specs.declared.words.Word.{Word}
 use Rattle.term_store.specs.declared.words.Word.TheVariants.{Var, Int, Atom, Comp}
 use Rattle.term_store.specs.declared.words.Head.{Head}

@@ -1,6 +1,5 @@
 use Rattle.std.proofs.Common.{◌≡◌, ℕ, suc, ◌+◌, sym, subst, arith}
-use Rattle.std.specs.List.{All}
-use Rattle.term_store.specs.Blocks.{IsClosed, IsPart, Tiles}
+use Rattle.term_store.specs.Blocks.{IsClosed, Tiles}
 use Rattle.term_store.proofs.Ranging.{Last, closed_joined, closed_wider, range_closed, tiles_last, tiles_more}
 use Rattle.term_store.proofs.block.range_at.Goals as goal
 

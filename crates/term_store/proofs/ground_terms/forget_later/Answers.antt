@@ -1,5 +1,4 @@
-use Rattle.std.proofs.Common.{◌≡◌, ◌<◌, ◌-◌, length, get_or, sym, subst}
-use Rattle.term_store.specs.declared.ground_terms.GroundTerm.{GroundTerm}
+use Rattle.std.proofs.Common.{◌<◌, ◌-◌, length, get_or, sym, subst}
 use Rattle.term_store.specs.GroundTerms.{IsEarly, Rise, no_ground_term}
 use Rattle.term_store.proofs.Settling.{early_all, rise_taken}
 use Rattle.term_store.proofs.ground_terms.forget_later.Goals as goal

@@ -1,6 +1,6 @@
 use Rattle.std.proofs.Common.{subst}
 use Rattle.term_store.specs.Cells.{IsFree, heap_of}
-use Rattle.term_store.proofs.Sizing.{atom_size, int_size, known_size, var_size}
+use Rattle.term_store.proofs.Sizing.{atom_size, int_size, var_size}
 use Rattle.term_store.proofs.size.size_of.Goals as goal
 
 pub returns-in-Var : goal.returns-in-Var

@@ -1,4 +1,4 @@
-use Rattle.std.proofs.Common.{◌≡◌, suc, ◌+◌, ◌≤◌, get_or, take}
+use Rattle.std.proofs.Common.{suc, ◌+◌, get_or, take}
 use Rattle.term_store.specs.Cells.{heap_of}
 use Rattle.term_store.specs.Counting.{total}
 use Rattle.term_store.specs.Fit.{no_head}

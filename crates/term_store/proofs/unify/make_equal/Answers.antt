@@ -2,7 +2,6 @@ use Rattle.std.proofs.Common.{◌≡◌, [], ap₂, sym, subst, ◌∙◌}
 use Rattle.term_store.specs.declared.words.Plan.{Plan}
 use Rattle.term_store.specs.declared.words.Plan.TheVariants.{Same, Clash, Bind, Open}
 use Rattle.term_store.specs.declared.words.Word.{Word}
-use Rattle.term_store.specs.Apart.{IsApart}
 use Rattle.term_store.specs.Cells.{IsFree, heap_of}
 use Rattle.term_store.specs.Fit.{IsIn, Fit}
 use Rattle.term_store.specs.Heap.{Heap}
