@@ -1,5 +1,5 @@
 -- The predicate of a clause's head, by the number of its name and by its text.
-use Rattle.std.proofs.Common.{◌≡◌, ◌<◌, ℕ, suc, Bool, true, false, cond, ◌&&◌, ◌==◌, List, [], ◌∷◌, ◌++◌, length, get_or, refl, sym, ap, ap₂, ◌∙◌, subst, Option, Some, None, arith, length-append}
+use Rattle.std.proofs.Common.{◌≡◌, ℕ, suc, Bool, true, false, cond, ◌&&◌, ◌==◌, List, [], ◌∷◌, ◌++◌, get_or, refl, sym, ap, ap₂, ◌∙◌, subst, Option, Some, None}
 use Rattle.std.specs.Prelude.{bytes_eq, codes, IsSome, IfSome}
 use Rattle.std.specs.List.{All}
 use Rattle.std.proofs.lemmas.Bool.Decides.{Decides-eqb}
@@ -12,12 +12,11 @@ use Rattle.pl_term.specs.Nodes.{nodes, nodes_all}
 use Rattle.pl_model.specs.History.{head_part}
 use Rattle.pl_model.specs.Predicates.{proc_of}
 use Rattle.pl_model.proofs.KeptKeys.{not_two}
-use Rattle.pl_model.proofs.UnifyNodes.{length-nodes_pos}
 use Rattle.atom_api.specs.Fixed.{fixed, fixed_texts}
 use Rattle.atom_api.specs.Names.{Names}
 use Rattle.atom_table.specs.Naming.{Lawful}
 use Rattle.term_store.specs.ArgumentKeys.{head_in, head_nodes}
-use Rattle.term_store.specs.Nodes.{node_view, node_views}
+use Rattle.term_store.specs.Nodes.{node_view}
 use Rattle.term_store.specs.declared.nodes.AtomNode.{AtomNode}
 use Rattle.term_store.specs.KeptLaws.{head_is}
 use Rattle.term_store.specs.NumberedNames.{atoms_in, atoms_in_all, names_of, neck, number_of, spelled_all, text_by, with_neck}
@@ -36,7 +35,7 @@ first_proc (int i) ns d = refl
 first_proc (atom a) ns d = refl
 first_proc (comp f t ts) ns d = refl
 
-pub head_node : (t : Tree) (d : Node) → node_procedure (get_or (head_nodes (nodes t)) 0 d) ≡ tree_procedure (head_in t)
+head_node : (t : Tree) (d : Node) → node_procedure (get_or (head_nodes (nodes t)) 0 d) ≡ tree_procedure (head_in t)
 head_node (var x) d = refl
 head_node (int i) d = refl
 head_node (atom a) d = refl
@@ -52,23 +51,9 @@ head_node (comp f t (more u (more v ts))) d =
     ap (λ b. node_procedure (get_or (cond (b && (number_of f == neck)) (nodes t ++ (nodes u ++ (nodes v ++ nodes_all ts))) (Comp f (suc (suc (suc (count ts)))) ∷ (nodes t ++ (nodes u ++ (nodes v ++ nodes_all ts))))) 0 d))
     (not_two (count ts))
 
-some_head : (b : Bool) (n : Node) (ns : List Node) → 0 < length ns → 0 < length (cond b ns (n ∷ ns))
-some_head true n ns some_ = some_
-some_head false n ns some_ = omega arith
-
--- there is such a node
-pub head_within : (t : Tree) → 0 < length (head_nodes (nodes t))
-head_within (var x) = omega arith
-head_within (int i) = omega arith
-head_within (atom a) = omega arith
-head_within (comp f t ts) =
-    let some_ : 0 < length (nodes t) = length-nodes_pos t in
-    some_head ((suc (count ts) == 2) && (number_of f == neck)) (Comp f (suc (count ts))) (nodes t ++ nodes_all ts) (omega (arith, some_, length-append (nodes t) (nodes_all ts)))
-
--- the same by the nodes over atoms
-pub head_index : (t : Tree) (ns : List AtomNode) (d : AtomNode) → node_views ns ≡ head_nodes (nodes t) → 0 < length ns → node_procedure (node_view (get_or ns 0 d)) ≡ tree_procedure (head_in t)
-head_index t [] d e low = absurd (omega arith)
-head_index t (n ∷ ns) d e low = ap (λ l. node_procedure (get_or l 0 (node_view n))) e ∙ head_node t (node_view n)
+-- the same of a node over atoms that is said to be the first one
+pub head_first : (t : Tree) (n : AtomNode) → ((d : Node) → node_view n ≡ get_or (head_nodes (nodes t)) 0 d) → node_procedure (node_view n) ≡ tree_procedure (head_in t)
+head_first t n is = ap node_procedure (is (node_view n)) ∙ head_node t (node_view n)
 
 -- BY TEXTS
 call_fixed : fixed 53 ≡ Some (codes "call")

@@ -1,5 +1,5 @@
 //! Predicates over atoms, and what they are in texts.
-ghost use Rattle.std.specs.Prelude.{◌≡◌, ◌<◌, ℕ, IsSome, IfOk, IfSome, Some, length, map, true};
+ghost use Rattle.std.specs.Prelude.{◌≡◌, ℕ, IsSome, IfOk, IfSome, Some, map, true};
 ghost use Rattle.std.specs.List.{All};
 ghost use Rattle.pl_model.specs.History.{head_part};
 ghost use Rattle.pl_model.specs.Predicates.{proc_of as predicate_of};
@@ -7,8 +7,7 @@ ghost use Rattle.pl_model.specs.laws.Shown.{proc_of};
 ghost use Rattle.atom_api.specs.Names.{Names};
 ghost use Rattle.atom_words.specs.Seats.{seen};
 ghost use Rattle.atom_table.specs.Naming.{Lawful, names};
-ghost use Rattle.term_store.specs.ArgumentKeys.{begins_rule, head_nodes};
-ghost use Rattle.term_store.specs.Nodes.{node_view, node_views};
+ghost use Rattle.term_store.specs.Nodes.{node_view};
 ghost use Rattle.term_store.specs.NumberedNames.{names_of};
 ghost use Rattle.world_api.specs.Texts.{text_of};
 ghost use Rattle.world_api.specs.Visits.{proc_named};
@@ -149,30 +148,7 @@ pub(crate) fn head_procedure(clause: &Stored) -> Option<Procedure>
     ensures says { IfSome result (λ p. (m : Names) → Lawful m → proc_named (text_of m) p ≡ predicate_of (head_part (said m clause.now))) }
     ensures named { IfSome result (λ p. (m : Names) → Lawful m → All (λ a. IsSome (m a)) (names_of clause.now) → IsSome (m p.name)) }
 {
-    let nodes = head(clause.nodes());
-    predicate(nodes[0])
-}
-
-// The nodes of a clause from its head's first one on.
-fn head(nodes: &[AtomNode]) -> &[AtomNode]
-    requires { 0 < length nodes.now }
-    ensures { node_views result.now ≡ head_nodes (node_views nodes.now) }
-{
-    if is_rule(nodes[0]) {
-        &nodes[1..]
-    } else {
-        nodes
-    }
-}
-
-// Whether this is the first node of a rule Head :- Body.
-fn is_rule(node: AtomNode) -> bool
-    ensures { result ≡ begins_rule (node_view node) }
-{
-    match node {
-        AtomNode::Comp(f, k) => k == 2 && f == fixed::NECK.slot(),
-        _ => false,
-    }
+    predicate(clause.head_node())
 }
 
 // The predicate of a term that begins with this node. A variable stands for call/1 of it.
