@@ -30,7 +30,7 @@ ghost use Rattle.hub_database.specs.Found.{IsFound, IsHeaded, IsNoneAt, IsOpenFo
 ghost use Rattle.hub_database.specs.Rows.{IsQuiet, IsReply, IsSteady, Tells, handed_row};
 
 use crate::calls::{first_clause, hand_out};
-use crate::hints::Hints;
+use crate::hints::{Hint, Hints};
 use crate::naming::{head_procedure, is_spelled, predicate_text, spelled_as};
 use atom_table::{Keeper, NamesTable, TableAtoms};
 use clause_db::{Access, Db, Hit};
@@ -132,10 +132,11 @@ fn called_by_number<K: NamesTable>(
         → predicate_of (said (names (seen atoms.old.seat)) t) ≡ proc_named (text_of (names (seen atoms.old.seat))) procedure.now → clause_key t ≡ first.now
         → IfSome result (Tells goals e (text_of (names (seen atoms.new.seat))) (requests.call_clauses (said (names (seen atoms.old.seat)) t)) h) }
 {
-    match hints.find(procedure) {
-        Some(i) => {
-            let guess = hints.clause(procedure, first);
-            called_at(db, guess, atoms, keeper, procedure, i, first, generation)
+    match hints.find(procedure, first) {
+        Some(Hint { index, guess }) => {
+            called_at(
+                db, guess, atoms, keeper, procedure, index, first, generation,
+            )
         }
         None => None,
     }
@@ -167,10 +168,11 @@ fn opened_by_number<K: NamesTable>(
         → predicate_of (said (names (seen atoms.old.seat)) t) ≡ proc_named (text_of (names (seen atoms.old.seat))) procedure.now → clause_key t ≡ first.now
         → IfSome result (IsOpenFound goals h generation (proc_named (text_of (names (seen atoms.old.seat))) procedure.now) (text_of (names (seen atoms.new.seat))) (head_of (said (names (seen atoms.old.seat)) t))) }
 {
-    match hints.find(procedure) {
-        Some(i) => {
-            let guess = hints.clause(procedure, first);
-            opened_at(db, guess, atoms, keeper, procedure, i, first, generation)
+    match hints.find(procedure, first) {
+        Some(Hint { index, guess }) => {
+            opened_at(
+                db, guess, atoms, keeper, procedure, index, first, generation,
+            )
         }
         None => None,
     }

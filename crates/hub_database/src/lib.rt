@@ -14,6 +14,7 @@ mod flags;
 mod guesses;
 mod hints;
 mod laws;
+mod line;
 mod listing;
 mod looking;
 mod naming;
