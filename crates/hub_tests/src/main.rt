@@ -11,6 +11,8 @@ ghost use Rattle.counted_terms.specs.CountedTerms.{naming, said};
 #[cfg(test)]
 mod asked;
 #[cfg(test)]
+mod parts;
+#[cfg(test)]
 mod plain_queues;
 #[cfg(test)]
 mod plain_state;

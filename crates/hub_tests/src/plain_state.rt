@@ -82,9 +82,20 @@ impl PlainState {
 
     /// Whether the clause that was added at the place is there.
     pub fn has(&self, place: u64) -> bool {
-        self.clauses
-            .iter()
-            .any(|c| c.place == place && c.erased.is_none())
+        match self.clauses.get(self.index_of(place)) {
+            None => false,
+            Some(c) => c.erased.is_none(),
+        }
+    }
+
+    /// Where the clause stands that was added at the place, or how many clauses there are.
+    fn index_of(&self, place: u64) -> usize {
+        for i in 0..self.clauses.len() {
+            if self.clauses[i].place == place {
+                return i;
+            }
+        }
+        self.clauses.len()
     }
 
     /// Erases the clause that was added at the place, where it is there.
@@ -92,13 +103,11 @@ impl PlainState {
         if !self.has(place) {
             return;
         }
-        let now = self.length;
-        for c in self.clauses.iter_mut() {
-            if c.place == place {
-                c.erased = Some(now);
-            }
+        let i = self.index_of(place);
+        if i < self.clauses.len() {
+            self.clauses[i].erased = Some(self.length);
+            self.update();
         }
-        self.update();
     }
 
     /// The first clause for a goal with the key, of which the list is opened.
@@ -112,10 +121,7 @@ impl PlainState {
     /// The next clause of the list, where it is open.
     pub fn retry(&self, list: &mut List) -> Option<Clause> {
         let place = list.place?;
-        match self.clauses.iter().position(|c| c.place == place) {
-            None => None,
-            Some(i) => self.found(list, i + 1),
-        }
+        self.found(list, self.index_of(place).saturating_add(1))
     }
 
     /// The first clause of the list from an index on.
@@ -165,31 +171,32 @@ impl PlainState {
 
     /// The first message that is the pattern, or of any where there is none.
     pub fn peek(&self, pattern: Option<u64>) -> Option<u64> {
-        match self.place_of(pattern) {
+        match self.messages.get(self.place_of(pattern)) {
+            Some(message) => Some(*message),
             None => None,
-            Some(i) => match self.messages.get(i) {
-                Some(message) => Some(*message),
-                None => None,
-            },
         }
     }
 
     /// That message is taken.
     pub fn get(&mut self, pattern: Option<u64>) {
-        match self.place_of(pattern) {
-            None => {}
-            Some(i) => {
-                if i < self.messages.len() {
-                    self.messages.remove(i);
-                    self.update();
-                }
-            }
+        let i = self.place_of(pattern);
+        if i < self.messages.len() {
+            self.messages.remove(i);
+            self.update();
         }
     }
 
-    fn place_of(&self, pattern: Option<u64>) -> Option<usize> {
-        self.messages
-            .iter()
-            .position(|m| pattern.is_none() || pattern == Some(*m))
+    /// Where that message stands, or how many there are.
+    fn place_of(&self, pattern: Option<u64>) -> usize {
+        for i in 0..self.messages.len() {
+            let fits = match pattern {
+                None => true,
+                Some(message) => self.messages[i] == message,
+            };
+            if fits {
+                return i;
+            }
+        }
+        self.messages.len()
     }
 }

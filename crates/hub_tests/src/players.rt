@@ -3,6 +3,7 @@ ghost use Rattle.std.specs.Prelude.{◌≡◌, ℕ, IfOk, IsSome, IfSome, Some};
 ghost use Rattle.std.specs.List.{All};
 ghost use Rattle.atom_words.specs.Seats.{seen};
 ghost use Rattle.atom_table.specs.Naming.{names};
+ghost use Rattle.atom_table.specs.Opening.{FreshFrom};
 ghost use Rattle.counted_terms.specs.Keeping.{KeepsAt, tally};
 ghost use Rattle.pl_history.specs.Fronts.{new_front, new_hub};
 ghost use Rattle.pl_term.specs.Tree.{Tree};
@@ -11,9 +12,10 @@ ghost use Rattle.world_api.specs.declared.reply.Found.{Found};
 ghost use Rattle.world_api.specs.declared.reply.Reply.TheVariants.{Clauses};
 
 use crate::asked::{Ask, Word, fact, key, visit_of};
+use crate::take_last;
 use crate::told::told;
 use atom_api::{Atom, Atoms, Interned, fixed};
-use atom_table::{Keeper, TableAtoms};
+use atom_table::{AtomSeat, AtomTable, Keeper, TableAtoms};
 use counted_terms::CountedTerm;
 use hub_threads::Status;
 use pl_history::{Front, History, HubFront};
@@ -121,6 +123,67 @@ pub fn take_front(history: &History, fronts: &mut Vec<Front>) -> Option<Front>
 {
     let _ = history;
     fronts.pop()
+}
+
+/// The state at the start, for a command with so many goals, and engine 1, which has the last seat and the last front.
+pub fn first_player<'a, K: Naming>(
+    alloc: Global,
+    table: &'a AtomTable,
+    seats: &mut Vec<AtomSeat>,
+    keeper: Keeper,
+    history: &'a History,
+    hub: HubFront,
+    fronts: &mut Vec<Front>,
+    goals: u32,
+) -> Result<(Shared<K>, Player<'a, K>), Memory>
+    requires named { (table.now.words.table.shared.table_id ≡ K.atoms) × (table.now.words.size ≡ K.size) }
+    requires history { history.now ≡ K.history }
+    requires seats { FreshFrom table.now.words 1 seats.old.items }
+    requires fronts { All (λ f. f ≡ new_front history.now) fronts.old.items }
+    requires hub { hub ≡ new_hub K.history }
+    requires keeper { KeepsAt K.atoms K.size keeper.seat }
+    requires none { (k : ℕ) → tally (seen keeper.seat) k ≡ 0 }
+    requires goals { K.goals ≡ goals }
+    ensures seats { FreshFrom table.now.words 1 seats.new.items }
+    ensures fronts { All (λ f. f ≡ new_front history.now) fronts.new.items }
+{
+    let Some(seat) = take_last(table, seats) else {
+        return Err(Memory);
+    };
+    let Some(front) = take_front(history, fronts) else {
+        return Err(Memory);
+    };
+    let atoms = TableAtoms::<K>::new(table, seat);
+    Player::first(alloc, atoms, keeper, history, hub, front, goals)
+}
+
+/// The next engine that begins, with the last seat and the last front that are there, and the number in its goal.
+pub fn next_player<'a, K: Naming>(
+    alloc: Global,
+    table: &'a AtomTable,
+    seats: &mut Vec<AtomSeat>,
+    history: &'a History,
+    fronts: &mut Vec<Front>,
+    shared: &mut Shared<K>,
+) -> Result<(Player<'a, K>, i64), Memory>
+    requires named { (table.now.words.table.shared.table_id ≡ K.atoms) × (table.now.words.size ≡ K.size) }
+    requires history { history.now ≡ K.history }
+    requires seats { FreshFrom table.now.words 1 seats.old.items }
+    requires fronts { All (λ f. f ≡ new_front history.now) fronts.old.items }
+    ensures seats { FreshFrom table.now.words 1 seats.new.items }
+    ensures fronts { All (λ f. f ≡ new_front history.now) fronts.new.items }
+{
+    let Some(seat) = take_last(table, seats) else {
+        return Err(Memory);
+    };
+    let Some(front) = take_front(history, fronts) else {
+        return Err(Memory);
+    };
+    let atoms = TableAtoms::<K>::new(table, seat);
+    match Player::begun(alloc, atoms, history, shared, front)? {
+        Some(begun) => Ok(begun),
+        None => Err(Memory),
+    }
 }
 
 impl<'a, K: Naming> Player<'a, K> {

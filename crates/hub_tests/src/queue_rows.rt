@@ -1,10 +1,10 @@
 //! The public calls on threads and queues with ample memory, with flat terms as messages: tables of calls with their
 //! answers, and random calls beside a program on plain lists.
 use crate::plain_queues::{Answer, Called, Plain};
+use crate::told::another;
 use hub_threads::{Name, QueueFault, Queues, Status};
 use pl_term::{Flat, Memory, Node, Text};
 use std::alloc::{AllocError, Global};
-use std::process::Abort;
 use std::test::Fail;
 
 /// The spellings of aliases.
@@ -215,18 +215,18 @@ fn answer(
 
 fn plain_answer(plain: &mut Plain, call: Call, place: u64) -> Result<Answer, AllocError> {
     match call {
-        Call::Make(n, alias) if plain.is_new(n) => plain.make_queue(n, alias),
+        Call::Make(n, alias) if plain.is_new(n) => Ok(plain.make_queue(n, alias)),
         Call::Make(_, _) => Ok(Answer::NotNew),
         Call::Discard(q) => plain.drop_queue(q),
         Call::Send(q, i) if plain.is_new_place(place) => plain.send(q, i, place),
         Call::Send(_, _) => Ok(Answer::NotNew),
         Call::Take(q, pattern) => Ok(plain.take(q, pattern)),
         Call::Peek(q, pattern) => Ok(plain.peek(q, pattern)),
-        Call::Start(n, i, alias) if plain.is_new(n) => plain.start(n, i, alias),
+        Call::Start(n, i, alias) if plain.is_new(n) => Ok(plain.start(n, i, alias)),
         Call::Start(_, _, _) => Ok(Answer::NotNew),
         Call::Goal(n) => Ok(plain.take_goal(n)),
-        Call::End(n, how, i) => plain.end(n, (how, i)),
-        Call::Join(t) => plain.join(t),
+        Call::End(n, how, i) => plain.end(n, how, i),
+        Call::Join(t) => Ok(plain.join(t)),
     }
 }
 
@@ -290,69 +290,104 @@ const THREADS: [(Call, &str); 24] = [
     (Call::Join(MAIN), "Nothing"),
 ];
 
-fn answers_as(rt: &impl Abort, alloc: Global, table: &[(Call, &str)]) -> Result<(), Memory> {
-    let mut queues = Queues::new(alloc)?;
-    for i in 0..table.len() {
-        let (call, want) = table[i];
-        let found = format!(in alloc; "{:?}", answer(alloc, &mut queues, call, i as u64)?)?;
-        assert_eq!(rt; found.as_str(), want, "at {i}");
+/// What is said of the first call in the table that is answered otherwise, where one is. Each call has its place as the place of
+/// the update.
+fn wrong_answer(
+    alloc: Global,
+    queues: &mut Queues<Flat>,
+    table: &[(Call, &str)],
+) -> Result<Option<String>, Memory> {
+    let mut place: u64 = 0;
+    for (call, wanted) in table {
+        let came = format!(in alloc; "{:?}", answer(alloc, queues, *call, place)?)?;
+        let wrong = another(alloc, place, came.as_str(), *wanted)?;
+        if wrong.is_some() {
+            return Ok(wrong);
+        }
+        place = place.saturating_add(1);
     }
-    Ok(())
+    Ok(None)
+}
+
+/// The same over a new state.
+fn wrong_of(alloc: Global, table: &[(Call, &str)]) -> Result<Option<String>, Memory> {
+    let mut queues = Queues::new(alloc)?;
+    wrong_answer(alloc, &mut queues, table)
 }
 
 #[test]
 fn calls_answer_as_the_tables_say(rt: HostRuntime) -> Result<(), Fail> {
-    answers_as(&rt, rt.alloc(), &MESSAGES)?;
-    answers_as(&rt, rt.alloc(), &THREADS)?;
+    assert_eq!(rt; wrong_of(rt.alloc(), &MESSAGES)?, None);
+    assert_eq!(rt; wrong_of(rt.alloc(), &THREADS)?, None);
     Ok(())
 }
 
-/// Makes a queue for each alias but the first, so that all are in use.
-fn uses_all(rt: &impl Abort, alloc: Global, queues: &mut Queues<Flat>) -> Result<(), Memory> {
-    for a in 1..6 {
-        let made = answer(alloc, queues, Call::Make(a as u64 + 1, Some(a)), 0)?;
-        assert_eq!(rt; made, Answer::Done);
-    }
-    Ok(())
-}
+/// A queue for each alias but the first, whose updates have no place of their own, so that all are in use.
+const ALL: [(Call, &str); 5] = [
+    (Call::Make(2, Some(1)), "Done"),
+    (Call::Make(3, Some(2)), "Done"),
+    (Call::Make(4, Some(3)), "Done"),
+    (Call::Make(5, Some(4)), "Done"),
+    (Call::Make(6, Some(5)), "Done"),
+];
+
+/// Each alias is refused to a queue and to a thread, until it is given back.
+const TAKEN: [(Call, &str); 14] = [
+    (Call::Make(20, Some(0)), "Refused(AliasTaken)"),
+    (Call::Start(20, 1, Some(0)), "Refused(AliasTaken)"),
+    (Call::Make(20, Some(1)), "Refused(AliasTaken)"),
+    (Call::Start(20, 1, Some(1)), "Refused(AliasTaken)"),
+    (Call::Make(20, Some(2)), "Refused(AliasTaken)"),
+    (Call::Start(20, 1, Some(2)), "Refused(AliasTaken)"),
+    (Call::Make(20, Some(3)), "Refused(AliasTaken)"),
+    (Call::Start(20, 1, Some(3)), "Refused(AliasTaken)"),
+    (Call::Make(20, Some(4)), "Refused(AliasTaken)"),
+    (Call::Start(20, 1, Some(4)), "Refused(AliasTaken)"),
+    (Call::Make(20, Some(5)), "Refused(AliasTaken)"),
+    (Call::Start(20, 1, Some(5)), "Refused(AliasTaken)"),
+    (Call::Discard(Called::Alias(3)), "Left([])"),
+    (Call::Start(20, 1, Some(3)), "Done"),
+];
 
 #[test]
 fn every_alias_is_given_once(rt: HostRuntime) -> Result<(), Fail> {
-    let alloc = rt.alloc();
-    let mut queues = Queues::new(alloc)?;
-    uses_all(&rt, alloc, &mut queues)?;
-    for a in 0..6 {
-        for call in [Call::Make(20, Some(a)), Call::Start(20, 1, Some(a))] {
-            let refused = answer(alloc, &mut queues, call, 0)?;
-            assert_eq!(rt; refused, Answer::Refused(QueueFault::AliasTaken));
-        }
-    }
-    answer(alloc, &mut queues, Call::Discard(Called::Alias(3)), 0)?;
-    let started = answer(alloc, &mut queues, Call::Start(20, 1, Some(3)), 0)?;
-    assert_eq!(rt; started, Answer::Done);
-    assert_eq!(rt; queues.number_of(&name(alloc, Called::Alias(3))?), Some(20));
+    let mut queues = Queues::new(rt.alloc())?;
+    assert_eq!(rt; wrong_answer(rt.alloc(), &mut queues, &ALL)?, None);
+    assert_eq!(rt; wrong_answer(rt.alloc(), &mut queues, &TAKEN)?, None);
+    assert_eq!(rt;
+        queues.number_of(&name(rt.alloc(), Called::Alias(3))?),
+        Some(20)
+    );
     assert!(rt; matches!(queues.alias_of(20), Some(a) if a.is("c") && queues.is_alias(a)));
     Ok(())
 }
 
+/// What is said of the first of the threads 2 to 64 that does not begin, where one does not.
+fn wrong_start(alloc: Global, queues: &mut Queues<Flat>) -> Result<Option<String>, Memory> {
+    for n in 2..65u64 {
+        let came = format!(in alloc; "{:?}", answer(alloc, queues, Call::Start(n, 1, None), 0)?)?;
+        let wrong = another(alloc, n, came.as_str(), "Done")?;
+        if wrong.is_some() {
+            return Ok(wrong);
+        }
+    }
+    Ok(None)
+}
+
+/// Calls where 64 engines run.
+const MANY: [(Call, &str); 5] = [
+    (Call::Start(65, 1, None), "Refused(EnginesFull)"),
+    (Call::Start(65, 1, Some(0)), "Refused(AliasTaken)"),
+    (Call::End(40, "true", 0), "Left([])"),
+    (Call::Start(65, 1, None), "Done"),
+    (Call::Start(66, 1, None), "Refused(EnginesFull)"),
+];
+
 #[test]
 fn sixty_four_engines_run(rt: HostRuntime) -> Result<(), Fail> {
-    let alloc = rt.alloc();
-    let mut queues = Queues::new(alloc)?;
-    for n in 2..65 {
-        let started = answer(alloc, &mut queues, Call::Start(n, 1, None), 0)?;
-        assert_eq!(rt; started, Answer::Done, "at {n}");
-    }
-    for (call, want) in [
-        (Call::Start(65, 1, None), "Refused(EnginesFull)"),
-        (Call::Start(65, 1, Some(0)), "Refused(AliasTaken)"),
-        (Call::End(40, "true", 0), "Left([])"),
-        (Call::Start(65, 1, None), "Done"),
-        (Call::Start(66, 1, None), "Refused(EnginesFull)"),
-    ] {
-        let found = format!(in alloc; "{:?}", answer(alloc, &mut queues, call, 0)?)?;
-        assert_eq!(rt; found.as_str(), want);
-    }
+    let mut queues = Queues::new(rt.alloc())?;
+    assert_eq!(rt; wrong_start(rt.alloc(), &mut queues)?, None);
+    assert_eq!(rt; wrong_answer(rt.alloc(), &mut queues, &MANY)?, None);
     Ok(())
 }
 
@@ -387,19 +422,27 @@ fn random_call(random: u64) -> Call {
     }
 }
 
-#[test]
-fn a_program_on_plain_lists_answers_the_same(rt: HostRuntime) -> Result<(), Fail> {
-    let alloc = rt.alloc();
+/// What is said of the first of so many random calls that the program on plain lists answers otherwise.
+fn other_answer(alloc: Global, calls: u64) -> Result<Option<String>, Memory> {
     let mut queues = Queues::new(alloc)?;
     let mut plain = Plain::new(alloc)?;
-    let mut random = 1;
-    for i in 0..4000u64 {
+    let mut random: u64 = 1;
+    for i in 0..calls {
         random = next_random(random);
-        let call = random_call(random / 65536);
         let place = if i % 8 == 0 { random / 65536 % 4000 } else { i };
-        let found = answer(alloc, &mut queues, call, place)?;
-        let want = plain_answer(&mut plain, call, place)?;
-        assert_eq!(rt; found, want, "at {i}: {call:?}");
+        let call = random_call(random / 65536);
+        let came = answer(alloc, &mut queues, call, place)?;
+        let wanted = plain_answer(&mut plain, call, place)?;
+        if came != wanted {
+            let told = format!(in alloc; "at {i}: {call:?}: {came:?}, not {wanted:?}")?;
+            return Ok(Some(told));
+        }
     }
+    Ok(None)
+}
+
+#[test]
+fn a_program_on_plain_lists_answers_the_same(rt: HostRuntime) -> Result<(), Fail> {
+    assert_eq!(rt; other_answer(rt.alloc(), 4000)?, None);
     Ok(())
 }

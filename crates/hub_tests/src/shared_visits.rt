@@ -1,23 +1,14 @@
 //! Visits of engine 1 to the shared state, with ample memory: every kind of visit, through `Shared::session`. The answers are
 //! those of the standard (ISO 7.5.2, 7.7.7, 7.7.10, 7.11.2, 8.8.1, 8.9, 8.14.3, 8.17) and of SWI-Prolog's manual, section
 //! 'Multithreaded applications'.
-ghost use Rattle.std.specs.Prelude.{◌≡◌, ℕ};
-ghost use Rattle.atom_words.specs.Seats.{seen};
-ghost use Rattle.counted_terms.specs.Keeping.{KeepsAt, tally};
-ghost use Rattle.hub_tests.specs.NewSeats.{IsNewSeat};
-ghost use Rattle.pl_history.specs.Fronts.{new_front, new_hub};
-
 use crate::asked::{Ask, Called, Word};
-use crate::players::{Player, take_front};
-use crate::take_last;
-use atom_table::{AtomSeat, AtomTable, Keeper, Opened, TableAtoms};
-use pl_history::{Front, History, HubFront};
+use crate::parts::{Part, came};
+use crate::players::Player;
+use crate::told::another;
 use pl_hub::{Naming, Shared};
 use pl_model::operators::Kind;
 use pl_term::Memory;
 use std::alloc::Global;
-use std::marker::Brand;
-use std::process::Abort;
 use std::test::Fail;
 
 const OWN: Word = Word::Own;
@@ -280,34 +271,27 @@ fn list_of<K: Naming>(
     Ok(found)
 }
 
-/// What a test does with engine 1 of a new state.
-#[derive(Clone, Copy)]
-enum Part<'a> {
-    /// Visits with their answers.
-    Rows(&'a [(Ask, &'a str)]),
-    /// The lists of clauses.
-    Lists,
-    /// Threads until 64 engines run.
-    Engines,
-}
-
-/// What went otherwise, where something did.
-fn wrong_row<K: Naming>(
+/// What is said of the first visit whose answer is another, where one is.
+pub fn wrong_row<K: Naming>(
     alloc: Global,
     shared: &mut Shared<K>,
     player: &mut Player<K>,
     rows: &[(Ask, &str)],
 ) -> Result<Option<String>, Memory> {
+    let mut place: u64 = 0;
     for (visit, wanted) in rows {
         let came = player.say(alloc, shared, *visit)?;
-        if came.as_str() != *wanted {
-            return Ok(Some(came));
+        let wrong = another(alloc, place, came.as_str(), *wanted)?;
+        if wrong.is_some() {
+            return Ok(wrong);
         }
+        place = place.saturating_add(1);
     }
     Ok(None)
 }
 
-fn wrong_list<K: Naming>(
+/// The first list that is another.
+pub fn wrong_list<K: Naming>(
     alloc: Global,
     shared: &mut Shared<K>,
     player: &mut Player<K>,
@@ -322,7 +306,8 @@ fn wrong_list<K: Naming>(
     Ok(None)
 }
 
-fn wrong_engine<K: Naming>(
+/// The first answer to a thread that begins that is another.
+pub fn wrong_engine<K: Naming>(
     alloc: Global,
     shared: &mut Shared<K>,
     player: &mut Player<K>,
@@ -341,54 +326,15 @@ fn wrong_engine<K: Naming>(
     Ok(None)
 }
 
-fn wrong_in<K: Naming>(
-    alloc: Global,
-    table: &AtomTable,
-    seat: AtomSeat,
-    keeper: Keeper,
-    history: &History,
-    hub: HubFront,
-    front: Front,
-    part: Part,
-) -> Result<Option<String>, Memory>
-    requires named { (table.now.words.table.shared.table_id ≡ K.atoms) × (table.now.words.size ≡ K.size) }
-    requires seat { IsNewSeat table.now.words seat }
-    requires keeper { KeepsAt K.atoms K.size keeper.seat }
-    requires none { (k : ℕ) → tally (seen keeper.seat) k ≡ 0 }
-    requires history { history.now ≡ K.history }
-    requires hub { hub ≡ new_hub K.history }
-    requires front { front ≡ new_front K.history }
-    requires goals { K.goals ≡ 3 }
-{
-    let atoms = TableAtoms::<K>::new(table, seat);
-    let (mut shared, mut player) = Player::first(alloc, atoms, keeper, history, hub, front, 3)?;
-    match part {
-        Part::Rows(rows) => wrong_row(alloc, &mut shared, &mut player, rows),
-        Part::Lists => wrong_list(alloc, &mut shared, &mut player),
-        Part::Engines => wrong_engine(alloc, &mut shared, &mut player),
-    }
-}
-
-/// The same over a new state.
-fn wrong(alloc: Global, part: Part) -> Result<Option<String>, Fail> {
-    let Opened {
-        table,
-        mut seats,
-        keeper,
-        collector: _,
-    } = AtomTable::new(alloc, 512, 1)?;
-    let seat = take_last(&table, &mut seats).ok_or("a seat")?;
-    let (history, hub, mut fronts) = History::new(alloc, 1)?;
-    let front = take_front(&history, &mut fronts).ok_or("a front")?;
-    let wrong = wrong_in::<Brand>(alloc, &table, seat, keeper, &history, hub, front, part)?;
-    Ok(wrong)
-}
-
 #[test]
 fn visits_are_answered(rt: HostRuntime) -> Result<(), Fail> {
-    assert_eq!(rt; wrong(rt.alloc(), Part::Rows(&DATABASE))?, None);
-    assert_eq!(rt; wrong(rt.alloc(), Part::Rows(&THREADS))?, None);
-    assert_eq!(rt; wrong(rt.alloc(), Part::Lists)?, None);
-    assert_eq!(rt; wrong(rt.alloc(), Part::Engines)?, None);
+    for part in [
+        Part::Rows(&DATABASE),
+        Part::Rows(&THREADS),
+        Part::Lists,
+        Part::Engines,
+    ] {
+        assert_eq!(rt; came(&rt, rt.alloc(), 1, 0, 3, part)?, None);
+    }
     Ok(())
 }

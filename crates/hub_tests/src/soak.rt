@@ -1,21 +1,18 @@
 //! Eight threads make visits through one shared state behind a lock, each for an engine of its own. Beside the state lies the
 //! same on plain lists, and each answer is compared with what those answer after all updates so far.
-ghost use Rattle.std.specs.Prelude.{◌≡◌, ℕ, All};
+ghost use Rattle.std.specs.Prelude.{◌≡◌, All};
 ghost use Rattle.atom_table.specs.Opening.{FreshFrom};
-ghost use Rattle.atom_words.specs.Seats.{seen};
-ghost use Rattle.counted_terms.specs.Keeping.{KeepsAt, tally};
-ghost use Rattle.pl_history.specs.Fronts.{new_front, new_hub};
+ghost use Rattle.pl_history.specs.Fronts.{new_front};
 
 use crate::asked::{Ask, Called, Word};
+use crate::parts::{Part, came};
 use crate::plain_state::{List, PlainState};
-use crate::players::{Player, take_front};
-use crate::take_last;
-use atom_table::{AtomSeat, AtomTable, Keeper, Opened, TableAtoms};
-use pl_history::{Front, History, HubFront};
+use crate::players::{Player, next_player};
+use atom_table::{AtomSeat, AtomTable};
+use pl_history::{Front, History};
 use pl_hub::{Naming, Shared};
 use pl_term::Memory;
 use std::alloc::Global;
-use std::marker::Brand;
 use std::process::Abort;
 use std::sync::{Mutex, Wait};
 use std::test::Fail;
@@ -262,19 +259,16 @@ fn begin_all<'a, K: Naming>(
     let mut workers = Vec::new(alloc);
     let mut main = main;
     for i in 1..ENGINES {
-        let Some(seat) = take_last(table, &mut seats) else {
-            return Err(Memory);
-        };
-        let Some(front) = take_front(history, &mut fronts) else {
-            return Err(Memory);
-        };
-        let atoms = TableAtoms::<K>::new(table, seat);
         main.say(alloc, &mut desk.shared, Ask::Create(0, None))?;
         desk.plain.update();
-        let begun = Player::begun(alloc, atoms, history, &mut desk.shared, front)?;
-        let Some((player, _)) = begun else {
-            return Err(Memory);
-        };
+        let (player, _) = next_player(
+            alloc,
+            table,
+            &mut seats,
+            history,
+            &mut fronts,
+            &mut desk.shared,
+        )?;
         workers.push(worker_of(player, seed.wrapping_mul(8).wrapping_add(i as u64)))?;
     }
     workers.push(worker_of(main, seed.wrapping_mul(8)))?;
@@ -337,40 +331,13 @@ fn messages_left<K: Naming>(
     Ok(get(alloc, desk, worker, None)? && same)
 }
 
-fn run_all<K: Naming + Send + Sync, R: Threads + Wait + Abort + Sync>(
+/// All of them work at once.
+fn work_all<'a, K: Naming + Send + Sync, R: Threads + Wait + Abort + Sync>(
     rt: &R,
     alloc: Global,
-    seed: u64,
-    table: &AtomTable,
-    mut seats: Vec<AtomSeat>,
-    keeper: Keeper,
-    history: &History,
-    hub: HubFront,
-    mut fronts: Vec<Front>,
-) -> Result<(), Memory>
-    requires named { (table.now.words.table.shared.table_id ≡ K.atoms) × (table.now.words.size ≡ K.size) }
-    requires seats { FreshFrom table.now.words 1 seats.items }
-    requires keeper { KeepsAt K.atoms K.size keeper.seat }
-    requires none { (k : ℕ) → tally (seen keeper.seat) k ≡ 0 }
-    requires history { history.now ≡ K.history }
-    requires hub { hub ≡ new_hub K.history }
-    requires fronts { All (λ f. f ≡ new_front history.now) fronts.items }
-    requires goals { K.goals ≡ 1 }
-{
-    let Some(seat) = take_last(table, &mut seats) else {
-        return Err(Memory);
-    };
-    let Some(front) = take_front(history, &mut fronts) else {
-        return Err(Memory);
-    };
-    let atoms = TableAtoms::<K>::new(table, seat);
-    let (shared, main) = Player::first(alloc, atoms, keeper, history, hub, front, 1)?;
-    let plain = PlainState::new(alloc);
-    let mut desk = Desk { shared, plain };
-    let mut main = main;
-    main.say(alloc, &mut desk.shared, Ask::Queue(Some(Word::Codes)))?;
-    desk.plain.update();
-    let workers = begin_all(alloc, seed, table, seats, history, fronts, &mut desk, main)?;
+    desk: Desk<K>,
+    workers: Vec<Worker<'a, K>>,
+) -> Result<(), Memory> {
     let lock = Mutex::new(desk);
     let under = &lock;
     let workers = thread::map_vec(
@@ -382,29 +349,37 @@ fn run_all<K: Naming + Send + Sync, R: Threads + Wait + Abort + Sync>(
     settle(rt, alloc, &mut desk, workers)
 }
 
-/// The same over a new table and a new history.
-fn run_seed<R: Threads + Wait + Abort + Sync>(
+/// Seven engines begin, and all eight make visits at once, by that number.
+pub fn soak<'a, K: Naming + Send + Sync, R: Threads + Wait + Abort + Sync>(
     rt: &R,
     alloc: Global,
     seed: u64,
-) -> Result<(), Fail> {
-    let Opened {
-        table,
-        seats,
-        keeper,
-        collector: _,
-    } = AtomTable::new(alloc, 512, ENGINES)?;
-    let (history, hub, fronts) = History::new(alloc, ENGINES)?;
-    run_all::<Brand, R>(
-        rt, alloc, seed, &table, seats, keeper, &history, hub, fronts,
-    )?;
-    Ok(())
+    table: &'a AtomTable,
+    seats: Vec<AtomSeat>,
+    history: &'a History,
+    fronts: Vec<Front>,
+    shared: Shared<K>,
+    mut main: Player<'a, K>,
+) -> Result<Option<String>, Memory>
+    requires named { (table.now.words.table.shared.table_id ≡ K.atoms) × (table.now.words.size ≡ K.size) }
+    requires history { history.now ≡ K.history }
+    requires seats { FreshFrom table.now.words 1 seats.items }
+    requires fronts { All (λ f. f ≡ new_front history.now) fronts.items }
+{
+    let plain = PlainState::new(alloc);
+    let mut desk = Desk { shared, plain };
+    main.say(alloc, &mut desk.shared, Ask::Queue(Some(Word::Codes)))?;
+    desk.plain.update();
+    let workers = begin_all(alloc, seed, table, seats, history, fronts, &mut desk, main)?;
+    work_all(rt, alloc, desk, workers)?;
+    Ok(None)
 }
 
 #[test]
 fn eight_threads_share_a_state(rt: HostRuntime) -> Result<(), Fail> {
     for seed in 0..SEEDS {
-        run_seed(&rt, rt.alloc(), seed)?;
+        let came = came(&rt, rt.alloc(), ENGINES, 0, 1, Part::Soak(seed))?;
+        assert_eq!(rt; came, None);
     }
     Ok(())
 }

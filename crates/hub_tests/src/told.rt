@@ -41,6 +41,19 @@ pub fn told<A: Atoms>(
     }
 }
 
+/// What is said of the call at the place where the answer that came is another than was wanted.
+pub fn another(
+    alloc: Global,
+    place: u64,
+    came: &str,
+    wanted: &str,
+) -> Result<Option<String>, Memory> {
+    if came == wanted {
+        return Ok(None);
+    }
+    Ok(Some(format!(in alloc; "at {place}: {came}, not {wanted}")?))
+}
+
 fn said<A: Atoms>(alloc: Global, atoms: &mut A, reply: &Reply<Stored>) -> Result<String, Memory>
     requires { All (λ a. IsSome (A.held atoms.old a)) (reply_names names_of reply.now) }
     ensures { A.held atoms.new ≡ A.held atoms.old }

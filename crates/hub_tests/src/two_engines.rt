@@ -1,22 +1,20 @@
 //! Two engines over one shared state, each with a seat and a front of its own: messages, joins, and clauses that the one adds
 //! and the other sees at its next call and not before (SWI-Prolog manual, section 'Multithreaded applications'; ISO 7.5.4).
-ghost use Rattle.std.specs.Prelude.{◌≡◌, ℕ};
-ghost use Rattle.atom_words.specs.Seats.{seen};
-ghost use Rattle.counted_terms.specs.Keeping.{KeepsAt, tally};
-ghost use Rattle.hub_tests.specs.NewSeats.{IsNewSeat};
-ghost use Rattle.pl_history.specs.Fronts.{new_front, new_hub};
+ghost use Rattle.std.specs.Prelude.{◌≡◌, All};
+ghost use Rattle.atom_table.specs.Opening.{FreshFrom};
+ghost use Rattle.pl_history.specs.Fronts.{new_front};
 
 use crate::asked::{Ask, Called, Word};
-use crate::players::{Clause, Player, take_front};
-use crate::take_last;
-use atom_table::{AtomSeat, AtomTable, Keeper, Opened, TableAtoms};
-use pl_history::{Front, History, HubFront};
+use crate::parts::{Part, came};
+use crate::players::{Clause, Player, next_player};
+use crate::shared_visits::wrong_row;
+use crate::told::another;
+use atom_table::{AtomSeat, AtomTable};
+use pl_history::{Front, History};
 use pl_hub::{Naming, Shared};
 use pl_model::operators::Kind;
 use pl_term::Memory;
 use std::alloc::Global;
-use std::marker::Brand;
-use std::process::Abort;
 use std::test::Fail;
 
 const OWN: Word = Word::Own;
@@ -25,7 +23,10 @@ const CODES: Called = Called::Alias(Word::Codes);
 
 const MAIN: Called = Called::Alias(Word::Main);
 
-/// Visits of engine 1, and of the other one, whose number is 4.
+/// Engine 1 starts the other one, whose number is 4.
+const CREATES: [(Ask, &str); 1] = [(Ask::Create(8, None), "0: named 4")];
+
+/// Visits of engine 1, and of the other one.
 const VISITS: [(bool, Ask, &str); 30] = [
     (true, Ask::Name, "1: named main"),
     (false, Ask::Name, "1: named 4"),
@@ -98,150 +99,127 @@ const AFTER: [(Ask, &str); 8] = [
     (Ask::Name, "19: named main"),
 ];
 
-/// At which index the first visit stands whose answer is another, with that answer.
-type Wrong = Option<(usize, String)>;
-
+/// What is said of the first visit whose answer is another, where one is.
 fn wrong_visit<K: Naming>(
     alloc: Global,
     shared: &mut Shared<K>,
     main: &mut Player<K>,
     other: &mut Player<K>,
-) -> Result<Wrong, Memory> {
-    for i in 0..VISITS.len() {
-        let (by_main, visit, wanted) = VISITS[i];
-        let came = if by_main {
-            main.say(alloc, shared, visit)?
+) -> Result<Option<String>, Memory> {
+    let mut place: u64 = 0;
+    for (by_main, visit, wanted) in &VISITS {
+        let came = if *by_main {
+            main.say(alloc, shared, *visit)?
         } else {
-            other.say(alloc, shared, visit)?
+            other.say(alloc, shared, *visit)?
         };
-        if came.as_str() != wanted {
-            return Ok(Some((i, came)));
+        let wrong = another(alloc, place, came.as_str(), *wanted)?;
+        if wrong.is_some() {
+            return Ok(wrong);
         }
+        place = place.saturating_add(1);
     }
     Ok(None)
 }
 
-fn wrong_after<K: Naming>(
-    alloc: Global,
-    shared: &mut Shared<K>,
-    main: &mut Player<K>,
-) -> Result<Wrong, Memory> {
-    for i in 0..AFTER.len() {
-        let (visit, wanted) = AFTER[i];
-        let came = main.say(alloc, shared, visit)?;
-        if came.as_str() != wanted {
-            return Ok(Some((i, came)));
+/// The clause as a text.
+fn clause_text(alloc: Global, found: Option<Clause>) -> Result<String, Memory> {
+    match found {
+        None => Ok(String::from_str(alloc, "none")?),
+        Some(c) => {
+            let more = if c.more { ", more" } else { "" };
+            Ok(format!(in alloc; "{} at {}{more}", c.number, c.place)?)
         }
     }
-    Ok(None)
 }
 
-/// The other engine goes through the clauses 2 and 3. Between them engine 1 erases the clause 3 and adds the clause 4: the list
-/// is that of its call, and its next calls find no clause 3, and the clause 4.
-fn sees_its_generation<K: Naming>(
-    rt: &impl Abort,
+/// What is said of the list of the other engine, where it is another. It goes through the clauses 2 and 3. Between them engine 1
+/// erases the clause 3 and adds the clause 4: the list is that of its call, and its next calls find no clause 3, and the clause 4.
+fn wrong_generation<K: Naming>(
     alloc: Global,
     shared: &mut Shared<K>,
     main: &mut Player<K>,
     other: &mut Player<K>,
-) -> Result<(), Memory> {
-    let first = other.call(alloc, shared, None);
-    assert_eq!(rt;
-        first,
-        Some(Clause {
-            number: 2,
-            place: 9,
-            more: true
-        })
-    );
+) -> Result<Option<String>, Memory> {
+    let first = clause_text(alloc, other.call(alloc, shared, None))?;
     main.say(alloc, shared, Ask::Erase(13))?;
     main.say(alloc, shared, Ask::Last(OWN, 4))?;
-    let second = other.retry(shared);
-    assert_eq!(rt;
-        second,
-        Some(Clause {
-            number: 3,
-            place: 13,
-            more: false
-        })
-    );
-    assert_eq!(rt; other.retry(shared), None);
-    assert_eq!(rt; other.call(alloc, shared, Some(3)), None);
-    let added = other.call(alloc, shared, Some(4));
-    assert_eq!(rt;
-        added,
-        Some(Clause {
-            number: 4,
-            place: 15,
-            more: false
-        })
-    );
-    Ok(())
+    let rest = rest_of_list(alloc, shared, other)?;
+    let found = format!(in alloc; "{} | {}", first.as_str(), rest.as_str())?;
+    let wanted = "2 at 9, more | 3 at 13 | none | none | 4 at 15";
+    another(alloc, 30, found.as_str(), wanted)
 }
 
-fn play<K: Naming>(
-    rt: &impl Abort,
+/// The next two clauses of its list, and the first ones for the numbers 3 and 4.
+fn rest_of_list<K: Naming>(
     alloc: Global,
-    table: &AtomTable,
-    seats: (AtomSeat, AtomSeat),
-    keeper: Keeper,
-    history: &History,
-    hub: HubFront,
-    fronts: (Front, Front),
-) -> Result<(), Memory>
+    shared: &mut Shared<K>,
+    other: &mut Player<K>,
+) -> Result<String, Memory> {
+    let second = clause_text(alloc, other.retry(shared))?;
+    let third = clause_text(alloc, other.retry(shared))?;
+    let erased = clause_text(alloc, other.call(alloc, shared, Some(3)))?;
+    let added = clause_text(alloc, other.call(alloc, shared, Some(4)))?;
+    Ok(format!(in alloc;
+        "{} | {} | {} | {}",
+        second.as_str(),
+        third.as_str(),
+        erased.as_str(),
+        added.as_str()
+    )?)
+}
+
+/// What is another, where something is, as both make their visits, and engine 1 alone after the other one has ended.
+fn wrong_of_both<K: Naming>(
+    alloc: Global,
+    shared: &mut Shared<K>,
+    main: &mut Player<K>,
+    mut other: Player<K>,
+) -> Result<Option<String>, Memory> {
+    let wrong = wrong_visit(alloc, shared, main, &mut other)?;
+    if wrong.is_some() {
+        return Ok(wrong);
+    }
+    let wrong = wrong_generation(alloc, shared, main, &mut other)?;
+    if wrong.is_some() {
+        return Ok(wrong);
+    }
+    other.exit(alloc, shared, 6)?;
+    wrong_row(alloc, shared, main, &AFTER)
+}
+
+/// The second engine begins, and both make their visits.
+pub fn two_engines<'a, K: Naming>(
+    alloc: Global,
+    table: &'a AtomTable,
+    mut seats: Vec<AtomSeat>,
+    history: &'a History,
+    mut fronts: Vec<Front>,
+    mut shared: Shared<K>,
+    mut main: Player<'a, K>,
+) -> Result<Option<String>, Memory>
     requires named { (table.now.words.table.shared.table_id ≡ K.atoms) × (table.now.words.size ≡ K.size) }
-    requires seats { IsNewSeat table.now.words seats.0 × IsNewSeat table.now.words seats.1 }
-    requires keeper { KeepsAt K.atoms K.size keeper.seat }
-    requires none { (k : ℕ) → tally (seen keeper.seat) k ≡ 0 }
     requires history { history.now ≡ K.history }
-    requires hub { hub ≡ new_hub K.history }
-    requires fronts { (fronts.0 ≡ new_front K.history) × (fronts.1 ≡ new_front K.history) }
-    requires goals { K.goals ≡ 3 }
+    requires seats { FreshFrom table.now.words 1 seats.items }
+    requires fronts { All (λ f. f ≡ new_front history.now) fronts.items }
 {
-    let (seat, other_seat) = seats;
-    let (front, other_front) = fronts;
-    let atoms = TableAtoms::<K>::new(table, seat);
-    let other_atoms = TableAtoms::<K>::new(table, other_seat);
-    let (mut shared, mut main) = Player::first(alloc, atoms, keeper, history, hub, front, 3)?;
-    let created = main.say(alloc, &mut shared, Ask::Create(8, None))?;
-    assert_eq!(rt; created.as_str(), "0: named 4");
-    let begun = Player::begun(alloc, other_atoms, history, &mut shared, other_front)?;
-    let Some((mut other, goal)) = begun else {
-        return Err(Memory);
-    };
-    assert_eq!(rt; (other.engine(), goal), (4, 8));
-    assert_eq!(rt;
-        wrong_visit(alloc, &mut shared, &mut main, &mut other)?,
-        None
-    );
-    sees_its_generation(rt, alloc, &mut shared, &mut main, &mut other)?;
-    other.exit(alloc, &mut shared, 6)?;
-    assert_eq!(rt; wrong_after(alloc, &mut shared, &mut main)?, None);
-    main.succeed(&mut shared)
+    let wrong = wrong_row(alloc, &mut shared, &mut main, &CREATES)?;
+    if wrong.is_some() {
+        return Ok(wrong);
+    }
+    let (other, goal) = next_player(alloc, table, &mut seats, history, &mut fronts, &mut shared)?;
+    let told = format!(in alloc; "engine {} for {goal}", other.engine())?;
+    let wrong = another(alloc, 1, told.as_str(), "engine 4 for 8")?;
+    if wrong.is_some() {
+        return Ok(wrong);
+    }
+    let wrong = wrong_of_both(alloc, &mut shared, &mut main, other)?;
+    main.succeed(&mut shared)?;
+    Ok(wrong)
 }
 
 #[test]
 fn two_engines_share_a_state(rt: HostRuntime) -> Result<(), Fail> {
-    let Opened {
-        table,
-        mut seats,
-        keeper,
-        collector: _,
-    } = AtomTable::new(rt.alloc(), 512, 2)?;
-    let second = take_last(&table, &mut seats).ok_or("a seat")?;
-    let first = take_last(&table, &mut seats).ok_or("a seat")?;
-    let (history, hub, mut fronts) = History::new(rt.alloc(), 2)?;
-    let one = take_front(&history, &mut fronts).ok_or("a front")?;
-    let two = take_front(&history, &mut fronts).ok_or("a front")?;
-    play::<Brand>(
-        &rt,
-        rt.alloc(),
-        &table,
-        (first, second),
-        keeper,
-        &history,
-        hub,
-        (one, two),
-    )?;
+    assert_eq!(rt; came(&rt, rt.alloc(), 2, 0, 3, Part::Two)?, None);
     Ok(())
 }
